@@ -1,0 +1,4 @@
+pub mod Errno
+pub mod Streams
+pub mod Memory
+pub mod Handed

@@ -1,0 +1,49 @@
+//! Where bytes come from, and where they go.
+ghost use Rattle.std.specs.Prelude.{◌≡◌, ◌<◌, ◌≤◌, List, ℕ, Option, length};
+ghost use Rattle.kc_base.specs.Streams.{IsReadCount, IsWriteCount, Reads, Writes, Rose};
+
+#[derive(Clone, Copy, Debug, PartialEq, Eq)]
+pub enum ReadAnswer {
+    Got(usize),
+    Ended,
+    Failed,
+}
+
+#[derive(Clone, Copy, Debug, PartialEq, Eq)]
+pub enum WriteAnswer {
+    Took(usize),
+    Failed,
+    NoMemory,
+}
+
+pub trait Source {
+    /// The bytes that are left, where they are told.
+    ghost left: { Self → Option (List ℕ) };
+
+    /// How often a read has failed. It never falls, and stands still at 2 ^ 64 - 1.
+    ghost faults: { Self → ℕ };
+
+    /// The next bytes, at the front of `buf`.
+    fn read(&mut self, buf: &mut [u8]) -> ReadAnswer
+        requires { 0 < length buf.old }
+        ensures count { IsReadCount result (length buf.new) }
+        ensures bytes { Reads (left self.old) (left self.new) result buf.new }
+        ensures later { faults self.old ≤ faults self.new }
+        ensures cause { result ≡ ReadAnswer.Failed → Rose (faults self.old) (faults self.new) };
+}
+
+pub trait Sink {
+    /// The bytes that it holds, where they are told.
+    ghost held: { Self → Option (List ℕ) };
+
+    /// How often a write has failed. It never falls, and stands still at 2 ^ 64 - 1.
+    ghost faults: { Self → ℕ };
+
+    /// Takes a front of the piece.
+    fn write(&mut self, piece: &[u8]) -> WriteAnswer
+        requires { 0 < length piece.now }
+        ensures count { IsWriteCount result (length piece.now) }
+        ensures bytes { Writes (held self.old) (held self.new) result piece.now }
+        ensures later { faults self.old ≤ faults self.new }
+        ensures cause { result ≡ WriteAnswer.Failed → Rose (faults self.old) (faults self.new) };
+}

@@ -1,0 +1,9 @@
+pub mod Aes
+pub mod Blocks
+pub mod Gcm
+pub mod GhashField
+pub mod Modes
+pub mod Hmac
+pub mod Authenc
+pub mod Value
+pub mod Rfc4106
