@@ -41,8 +41,8 @@ turn a b c d = xor_comm (bit_xor a b) (bit_xor c d) ∙ cc (xor_comm c d, xor_as
 turned : (p q s t : ℕ) (f : ℕ → ℕ) (r : ℕ) → r < 4
     → bit_xor (bit_xor (mul8 p (f (r % 4))) (mul8 q (f ((r + 1) % 4)))) (bit_xor (mul8 s (f ((r + 2) % 4))) (mul8 t (f ((r + 3) % 4))))
     ≡ bit_xor
-      (bit_xor (mul8 (slice_index (p ∷ q ∷ s ∷ t ∷ []) ((0 + 4 - r) % 4)) (f 0)) (mul8 (slice_index (p ∷ q ∷ s ∷ t ∷ []) ((1 + 4 - r) % 4)) (f 1)))
-      (bit_xor (mul8 (slice_index (p ∷ q ∷ s ∷ t ∷ []) ((2 + 4 - r) % 4)) (f 2)) (mul8 (slice_index (p ∷ q ∷ s ∷ t ∷ []) ((3 + 4 - r) % 4)) (f 3)))
+    (bit_xor (mul8 (slice_index (p ∷ q ∷ s ∷ t ∷ []) ((0 + 4 - r) % 4)) (f 0)) (mul8 (slice_index (p ∷ q ∷ s ∷ t ∷ []) ((1 + 4 - r) % 4)) (f 1)))
+    (bit_xor (mul8 (slice_index (p ∷ q ∷ s ∷ t ∷ []) ((2 + 4 - r) % 4)) (f 2)) (mul8 (slice_index (p ∷ q ∷ s ∷ t ∷ []) ((3 + 4 - r) % 4)) (f 3)))
 turned p q s t f zero h = refl
 turned p q s t f (suc zero) h = turn (mul8 p (f 1)) (mul8 q (f 2)) (mul8 s (f 3)) (mul8 t (f 0))
 turned p q s t f (suc (suc zero)) h = xor_comm (bit_xor (mul8 p (f 2)) (mul8 q (f 3))) (bit_xor (mul8 s (f 0)) (mul8 t (f 1)))

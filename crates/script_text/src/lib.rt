@@ -5,8 +5,8 @@ mod commands;
 mod cutter;
 mod reading;
 mod split;
-
-
+#[cfg(test)]
+mod tests;
 mod tokens;
 
 pub use commands::{Command, Line};
