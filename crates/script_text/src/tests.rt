@@ -113,8 +113,11 @@ fn pieces_make_lines_wherever_they_are_cut(rt: HostRuntime) -> Result<(), Fail> 
         let mut found = Vec::new(rt.alloc());
         for piece in script.chunks(size) {
             cutter.feed(piece)?;
-            while let Some(line) = cutter.next()? {
-                found.push(seen(&line))?;
+            // a piece ends no more lines than it has bytes
+            for _ in piece {
+                if let Some(line) = cutter.next()? {
+                    found.push(seen(&line))?;
+                }
             }
         }
         if let Some(line) = cutter.last()? {
