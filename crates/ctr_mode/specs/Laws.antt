@@ -1,5 +1,5 @@
 -- the laws of key streams
-use Rattle.std.specs.Prelude.{◌≡◌, ◌/◌, ◌%◌, ◌<◌, ◌+◌, ℕ, zero, List, length, Some, slice_index, bit_xor, map}
+use Rattle.std.specs.Prelude.{◌≡◌, ◌/◌, ◌%◌, ◌<◌, ℕ, zero, List, length, Some, slice_index, bit_xor, map}
 use Rattle.std.proofs.Common.{refl, sym, ap, ◌∙◌, get_or, zero-add}
 use Rattle.std.specs.List.{range_with_len}
 use Rattle.std.specs.Int.Bits.{xor_assoc, xor_self, xor_zero_r}

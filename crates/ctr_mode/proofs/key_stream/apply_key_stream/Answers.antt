@@ -1,4 +1,4 @@
-use Rattle.std.proofs.Common.{◌≡◌, ℕ, zero, List, ◌≤◌, ◌<◌, ◌*◌, ◌+◌, ◌/◌, length, ◌∙◌, refl, ap, arith, zero-add, add_assoc}
+use Rattle.std.proofs.Common.{◌≡◌, ℕ, List, ◌≤◌, ◌*◌, ◌+◌, length, ◌∙◌, refl, ap, arith, zero-add}
 use Rattle.ctr_mode.proofs.KeyStream.{key_stream_to_do, key_stream_done, key_stream_all}
 use Rattle.ctr_mode.proofs.key_stream.apply_key_stream.Goals as goal
 
