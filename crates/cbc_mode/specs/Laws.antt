@@ -1,5 +1,5 @@
 -- the law of CBC
-use Rattle.std.specs.Prelude.{◌≡◌, ◌+◌, ◌*◌, ◌/◌, ◌%◌, ◌<◌, ◌≤◌, ◌==◌, ℕ, zero, suc, List, ◌++◌, length, take, drop, All, Option, Some, None, Bool, true, false, if◌then◌else◌, bit_xor, slice_index}
+use Rattle.std.specs.Prelude.{◌≡◌, ◌+◌, ◌*◌, ◌/◌, ◌%◌, ◌<◌, ◌≤◌, ◌==◌, ℕ, zero, suc, List, ◌++◌, length, take, drop, All, Some, None, Bool, true, false, if◌then◌else◌, bit_xor, slice_index}
 use Rattle.std.proofs.Common.{refl, sym, ap, ap₂, ◌∙◌, arith, ⊎_elim, get_or, zero-add, length-append, length-take, length-drop}
 use Rattle.std.specs.Int.Bits.{xor_assoc, xor_self, xor_zero_r}
 use Rattle.std.proofs.Math.Seq.{take-add, drop-append_seam}
@@ -115,7 +115,7 @@ module _ (sealed unsealed : List ℕ → List ℕ) (inverse : AreInverse sealed 
 
   all_back : (n : ℕ) → length text ≡ 16 * n → joined (cbc_plain_block unsealed iv (made n)) n ≡ text
   all_back n long =
-      joined_same (cbc_plain_block unsealed iv (made n)) (text_block text) n (block_back n _ (omega arith))
+      joined_same (cbc_plain_block unsealed iv (made n)) (text_block text) n (λ j below. block_back n j (omega arith) below)
       ∙ joined-text_block text n ∙ take_all (16 * n) text (omega arith)
 
 -- ---- texts of whole blocks alone are taken

@@ -1,4 +1,4 @@
-use Rattle.std.proofs.Common.{◌≡◌, ℕ, suc, List, ◌+◌, ◌*◌, ◌≤◌, length, arith, refl, ap, ap₂, ◌∙◌, add-one}
+use Rattle.std.proofs.Common.{◌≡◌, ℕ, List, ◌+◌, ◌*◌, ◌≤◌, length, arith, refl, ap, ap₂, ◌∙◌, add-one}
 use Rattle.std_defs.specs.Blocks.{xor_blocks, text_block, joined}
 use Rattle.std_defs.specs.Modes.{cbc_before, cbc_plain_block}
 use Rattle.cbc_mode.proofs.InPlace.{next_block, one_more, all_made}
