@@ -44,6 +44,11 @@ impl<W: Write> StdSink<W> {
     pub fn new(inner: W) -> StdSink<W> {
         StdSink { inner, faults: 0 }
     }
+
+    #[cfg(test)]
+    pub fn into_inner(self) -> W {
+        self.inner
+    }
 }
 
 impl<W: Write> Sink for StdSink<W> {

@@ -4,6 +4,8 @@
 mod adapters;
 mod answers;
 mod program;
+#[cfg(test)]
+mod tests;
 
 
 
