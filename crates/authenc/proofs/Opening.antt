@@ -1,5 +1,5 @@
 -- What opening gives, by the test of the tag.
-use Rattle.std.proofs.Common.{◌≡◌, ℕ, List, ap, sym, ◌∙◌, rules, inl, inr, Option, Some, None, Result, Ok, Err, Bool, true, false, cond, take, bytes_eq, refl}
+use Rattle.std.proofs.Common.{◌≡◌, ℕ, List, ap, sym, ◌∙◌, inr, Option, Result, Ok, Err, true, false, cond, take, bytes_eq}
 use Rattle.std.proofs.lemmas.Bool.{cond-true, cond-false}
 use Rattle.std_defs.specs.Value.{Value, or_invalid}
 use Rattle.std_defs.specs.Value.Value.{bad_message}

@@ -1,4 +1,4 @@
-use Rattle.std.proofs.Common.{ap, sym, refl, ◌∙◌, inl, ◌++◌, length, take, bytes_eq}
+use Rattle.std.proofs.Common.{sym, refl, ◌∙◌, inl, ◌++◌, length, take, bytes_eq}
 use Rattle.std.proofs.lemmas.Bool.{not-true, not-false}
 use Rattle.std_defs.specs.Hmac.{hmac_under}
 use Rattle.std_defs.specs.Authenc.{authenc_open}
