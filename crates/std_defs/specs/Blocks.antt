@@ -3,7 +3,7 @@ use Rattle.std.specs.Prelude.{ℕ, zero, suc, ◌*◌, ◌/◌, ◌%◌, List, [
 use Rattle.std.specs.List.{range_with_len}
 use Rattle.std.specs.Int.{w128, from_be_bytes, to_be_bytes}
 
--- the number that a block writes, leftmost bit first (SP 800-38D, 5.2: int)
+-- the number that a block writes, leftmost bit first (SP 800-38D, 4.2.2: int)
 unfoldable pub block_number : List ℕ → ℕ
 block_number bytes = from_be_bytes w128 bytes
 
