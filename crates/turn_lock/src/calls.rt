@@ -2,7 +2,7 @@
 
 ghost use Rattle.std.specs.Prelude.{◌≡◌, ◌+◌, ◌%◌, ◌^◌, ◌<◌, ◌≤◌, [], ◌∷◌, IfOk, Some};
 ghost use Rattle.turn_lock.specs.declared.view.Stage.TheVariants.{Waiting, Holding};
-ghost use Rattle.turn_lock.specs.Passes.{knows, turn_knows, turn_lock, seat_knows, IsPassOf, IsIdle, IsAtTurn, Adds, Added};
+ghost use Rattle.turn_lock.specs.Passes.{knows, turn_knows, turn_value, turn_lock, seat_knows, IsPassOf, IsIdle, IsAtTurn, Adds, Added};
 ghost use Rattle.std.specs.Borrow.{sem};
 ghost use Rattle.turn_lock.specs.Lent.{LendsValue};
 ghost use Rattle.turn_lock.specs.Turns.{StartsWith, newcomer, sees, Shows, giver, receiver, gives_number, gets_number, joined};
@@ -44,8 +44,8 @@ impl<T: Told> TurnLock<T> {
     pub fn take<'a, R: Wait>(&'a self, rt: &R, pass: Pass<T, T::Entry>) -> Turn<'a, T>
         requires { IsPassOf self.now pass }
         ensures lock { turn_lock result ≡ self.now }
-        ensures pass { turn_knows result ≡ sees (knows pass) (T.told result.value) }
-        ensures shows { Shows T.by (knows pass) (T.told result.value) }
+        ensures pass { turn_knows result ≡ sees (knows pass) (T.told (turn_value result)) }
+        ensures shows { Shows T.by (knows pass) (T.told (turn_value result)) }
     {
         let Pass { number, next, seat } = pass;
         let (value, seat) = self.wait(rt, seat);
@@ -172,7 +172,7 @@ impl<'a, T: Told> Turn<'a, T> {
     /// The value, to be read and changed.
     pub fn get(&mut self) -> &mut T
         ensures* writes_back { sem 𝓛 (LendsValue T.row T.Entry.row T.Told self.entry result) }
-        ensures value { result.now ≡ self.old.value }
+        ensures value { result.now ≡ turn_value self.old }
     {
         &mut self.value
     }
@@ -180,9 +180,9 @@ impl<'a, T: Told> Turn<'a, T> {
     /// Puts the value back, and lets the next pass have its turn. `added` says whether the value's list has one further entry
     /// than at the take, of this pass's number. The pass has then seen the whole list.
     pub fn give(self, added: bool) -> Pass<T, T::Entry>
-        requires { Adds T.told T.by (turn_knows self) self.value added }
+        requires { Adds T.told T.by (turn_knows self) (turn_value self) added }
         ensures lock { IsPassOf (turn_lock self.entry) result }
-        ensures view { Added T.told T.by (turn_knows self.entry) self.entry.value added (knows result) }
+        ensures view { Added T.told T.by (turn_knows self.entry) (turn_value self.entry) added (knows result) }
     {
         let Turn {
             lock,

@@ -1,4 +1,6 @@
-//! What each step tells. These types are for the proofs alone.
+//! The steps of passes on the lock's table, each with what it tells. No value of these types is made.
+//! Word 0 of the table is the next ticket, word 1 the ticket that is served, word 2 the length of the history; the one slot
+//! holds the value, or nothing while a turn is held.
 
 ghost use Rattle.std.specs.Prelude.{ℕ};
 ghost use Rattle.turn_lock.specs.Turns.{drew, found, appended, served, giver, receiver, joiner, spent, compared};
@@ -21,12 +23,14 @@ impl<T: Told> TableRule<Option<T>, View<T::Entry>, ()> for Turns<T> {
     ghost first = { λ _. first_view };
 }
 
+/// A ticket is drawn.
 pub struct Draws;
 
 impl<S, E> Play<S, View<E>> for Draws {
     ghost then = { drew };
 }
 
+/// Where the pass's ticket is served, it has seen the whole history and holds the slot.
 pub struct Finds<T> {
     value: PhantomData<T>,
 }
@@ -35,6 +39,7 @@ impl<T: Told> Play<Option<T>, View<T::Entry>> for Finds<T> {
     ghost then = { found T.told T.by };
 }
 
+/// The history has the pass's entry.
 pub struct Appends<T> {
     value: PhantomData<T>,
 }
@@ -43,6 +48,7 @@ impl<T: Told> Play<Option<T>, View<T::Entry>> for Appends<T> {
     ghost then = { appended T.told T.by };
 }
 
+/// The slot is given back, and the next ticket is served.
 pub struct Serves;
 
 impl<S, E> Play<S, View<E>> for Serves {
@@ -58,6 +64,7 @@ impl Number for Brand {
     ghost number = { 0 };
 }
 
+/// A second pass gets the number.
 pub struct Gives<N> {
     number: PhantomData<N>,
 }
@@ -68,6 +75,7 @@ impl<N: Number, E> Split<View<E>> for Gives<N> {
     ghost right = { receiver N.number };
 }
 
+/// The second pass is spent, and what it has seen is noted in the first.
 pub struct Ends;
 
 impl<E> Join<View<E>> for Ends {
@@ -76,6 +84,7 @@ impl<E> Join<View<E>> for Ends {
     ghost spent = { spent };
 }
 
+/// Of what the pass has seen and what is noted in it, the longer is kept.
 pub struct Compares;
 
 impl<S, E> Play<S, View<E>> for Compares {

@@ -1,8 +1,10 @@
 //! Threads that append to one log.
 
-ghost use Rattle.std.specs.Prelude.{◌≡◌, ◌+◌, ◌<◌, ◌^◌, ◌∷◌, ◌++◌, [], MatchResult};
+ghost use Rattle.std.specs.Prelude.{◌≡◌, ◌+◌, ◌<◌, ◌^◌, ◌∷◌, ◌++◌, [], true, IfOk, MatchResult};
 ghost use Rattle.std.specs.Thread.{IsSync};
+ghost use Rattle.turn_lock.specs.declared.tests.Entry.{Entry};
 ghost use Rattle.turn_lock.specs.Passes.{knows, IsPassOf};
+ghost use Rattle.turn_lock.specs.Turns.{of, Appends, Looks};
 
 use crate::{Pass, Told, TurnLock};
 use std::alloc::{AllocError, Global};
@@ -42,6 +44,26 @@ impl Log {
 
 type LogPass = Pass<Log, Entry>;
 
+/// What the pass has seen afterwards is what it had seen, entries of others, and the entry, if there was memory for it.
+fn append<R: Wait>(
+    rt: &R,
+    lock: &TurnLock<Log>,
+    pass: LogPass,
+    place: u32,
+) -> (LogPass, Result<(), AllocError>)
+    requires { IsPassOf lock.now pass }
+    ensures lock { IsPassOf lock.now result.0 }
+    ensures answer { MatchResult result.1
+        (λ _. Appends (λ (e : Entry). e.by) (knows pass) (record { by = (knows pass).number; place = place }) (knows result.0))
+        (λ _. Looks (λ (e : Entry). e.by) (knows pass) (knows result.0)) }
+{
+    let by = pass.number();
+    let mut turn = lock.take(rt, pass);
+    let answer = turn.get().add(by, place);
+    let added = answer.is_ok();
+    (turn.give(added), answer)
+}
+
 /// Takes a turn for each entry.
 fn append_each<R: Wait>(rt: &R, lock: &TurnLock<Log>, pass: LogPass, count: u32) -> LogPass
     requires { IsPassOf lock.now pass }
@@ -49,19 +71,31 @@ fn append_each<R: Wait>(rt: &R, lock: &TurnLock<Log>, pass: LogPass, count: u32)
 {
     let mut mine = pass;
     for place in 0..count {
-        mine = append(rt, lock, mine, place);
+        mine = append(rt, lock, mine, place).0;
     }
     mine
 }
 
-fn append<R: Wait>(rt: &R, lock: &TurnLock<Log>, pass: LogPass, place: u32) -> LogPass
-    requires { IsPassOf lock.now pass }
-    ensures { IsPassOf lock.now result }
+/// Two threads append once each. Where a thread's entry was made, the log has it once under the thread's number, and no other.
+fn two<R: Threads + Wait + Sync>(rt: &R, alloc: Global) -> Result<(Log, bool, bool), AllocError>
+    ensures first { IfOk result (λ r. r.1 ≡ true → of (λ (e : Entry). e.by) 0 r.0.entries.items ≡ record { by = 0; place = 7 } ∷ []) }
+    ensures second { IfOk result (λ r. r.2 ≡ true → of (λ (e : Entry). e.by) 1 r.0.entries.items ≡ record { by = 1; place = 8 } ∷ []) }
 {
-    let by = pass.number();
-    let mut turn = lock.take(rt, pass);
-    let answer = turn.get().add(by, place);
-    turn.give(answer.is_ok())
+    let log = Log {
+        entries: Vec::new(alloc),
+    };
+    let (lock, pass) = TurnLock::new(alloc, log)?;
+    let (pass, other) = lock.split(pass, 1);
+    let shared = &lock;
+    let (a, b) = join(
+        rt,
+        move || append(rt, shared, pass, 7),
+        move || append(rt, shared, other, 8),
+    );
+    let (pass, first) = a;
+    let (other, second) = b;
+    let pass = shared.join(pass, other);
+    Ok((lock.finish(rt, pass), first.is_ok(), second.is_ok()))
 }
 
 /// Gives each thread a pass, beside which the rest is started, and joins what comes back.
@@ -122,6 +156,14 @@ fn is_whole(log: &Log, threads: u32, count: u32) -> bool {
         let own = log.entries.iter().filter(|entry| entry.by == by);
         own.map(|entry| entry.place).eq(0..count)
     })
+}
+
+#[test]
+fn has_what_two_threads_appended(rt: HostRuntime) -> Result<(), Fail> {
+    let (log, first, second) = two(&rt, rt.alloc())?;
+    assert!(rt; first && second);
+    assert_eq!(rt; log.entries.len(), 2);
+    Ok(())
 }
 
 #[test]

@@ -2,13 +2,13 @@
 
 ghost use Rattle.std.specs.Prelude.{ℕ, List};
 
-/// A value that stands for a history.
+/// A value that stands for a history. It has no method: the lock knows the lists alone.
 pub trait Told: Send + Drop {
     type Entry;
 
-    // The list of entries for which the value stands.
+    /// The list of entries for which the value stands.
     ghost told: { Self → List Self.Entry };
 
-    // The number of the caller that made an entry.
+    /// The number of the pass under which an entry was made.
     ghost by: { Self.Entry → ℕ };
 }
