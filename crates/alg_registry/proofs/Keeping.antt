@@ -233,7 +233,6 @@ put-within h rows caller k legal are has = inside (ltb k (length rows)) refl
         let none : count_by (gets k) h ≡ 0 = (fresh-from_legal h legal).gets_none k (omega (arith, ap length are, length-rows_of h)) in
         absurd (omega (arith, none, puts-lt h caller k legal has))
 
-
 pub kept-put : (h log : List RegEntry) (rows rows' : List Row) (larvals : List Larval) (caller k : ℕ) (d : Row)
     → IsKept h rows larvals → is_worker caller ≡ false → HasReference h caller k
     → log ≡ h ++ Put caller k ∷ [] → rows' ≡ standing (set rows k (put_row_of (get_or rows k d)))

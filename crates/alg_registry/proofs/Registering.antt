@@ -93,7 +93,6 @@ kept-refused h log rows larvals caller spec answer kept out below plain is other
 pub claimer-within : (h : List RegEntry) (larvals : List Larval) (caller n : ℕ) → larvals ≡ larvals_of h → claimer h n ≡ Some caller → n < length larvals
 claimer-within h larvals caller n are claimed = larval-within larvals n (λ larval. larval.claimed) caller (ap (λ ls. option_and_then (λ (l : Larval). l.claimed) (slice_get ls n)) are ∙ claimed)
 
-
 -- the larval has its end
 larvals_of-ended : (h : List RegEntry) (caller n : ℕ) (answer : EndAnswer) (larvals : List Larval) (d : Larval) → larvals ≡ larvals_of h → claimer h n ≡ Some caller → ended_as h n ≡ None
     → set larvals n (ended_larval (end_of answer) (get_or larvals n d)) ≡ larvals_of (h ++ End caller n answer ∷ [])

@@ -7,9 +7,7 @@ ghost use Rattle.alg_registry.specs.Answers.{driver_place, look_answer, enlist_a
 ghost use Rattle.alg_registry.specs.Legal.{LegalReg, is_worker, HasReference, claimer, ended_as, MayEnd};
 ghost use Rattle.alg_registry.specs.Calls.{UnlessMemory, OnMemory, UnlessNoMemory, Judges, IsFailure, enlist_result, end_given, unless_memory, unlist_result, get_result, claimed_number, claimed_answer, claim_entries, waited_entries, listing, refs_answer, refs_result, held_spec, listed_row_of};
 
-use crate::entry::{
-    Claimed, EndAnswer, Ended, Enlisted, Looked, RefAnswer, RegEntry, RegErr,
-};
+use crate::entry::{Claimed, EndAnswer, Ended, Enlisted, Looked, RefAnswer, RegEntry, RegErr};
 use crate::history::RegLog;
 use crate::ids::Ids;
 use crate::larvals::{
@@ -19,8 +17,8 @@ use crate::listing::{Listing, listing_of, newest_held};
 use crate::looking::look_up;
 use crate::row::{Larval, Row};
 use crate::rows::{
-    add_row, are_listed, clashes, count_held, is_listed_at, place_of_driver, put_row,
-    reserve_row, take_row, unlist_row,
+    add_row, are_listed, clashes, count_held, is_listed_at, place_of_driver, put_row, reserve_row,
+    take_row, unlist_row,
 };
 use crate::spec::{Kind, Spec, Wrap};
 use kc_base::{Bytes, Errno};

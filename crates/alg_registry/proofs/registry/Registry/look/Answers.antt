@@ -26,10 +26,10 @@ returns c =
     let rows : c.deref.result.now ≡ rows_of c.args.self.now = c.deref.ensures.value ∙ (c.self.invariant.rows_are ∙ ap (λ (h : List RegEntry). rows_of h) c.self.view_is) in
     let larvals : c.deref-2.result.now ≡ larvals_of c.args.self.now = c.deref-2.ensures.value ∙ (c.self.invariant.larvals_are ∙ ap (λ (h : List RegEntry). larvals_of h) c.self.view_is) in
     record {
-  answer = c.look_up-answer.ensures ∙ (λ i. look_answer (rows i) (larvals i) c.args.text.now c.args.plain);
-  history = cc (c.in_ok-record-2.ensures.ok, c.in_ok-copy.ensures.ok, c.self.view_is);
-  memory = tt;
-  unchanged = tt;
-  legal_before = subst LegalReg c.self.view_is c.self.invariant.legal;
-  legal = (invariant_of-self-2 c).legal;
-}
+      answer = c.look_up-answer.ensures ∙ (λ i. look_answer (rows i) (larvals i) c.args.text.now c.args.plain);
+      history = cc (c.in_ok-record-2.ensures.ok, c.in_ok-copy.ensures.ok, c.self.view_is);
+      memory = tt;
+      unchanged = tt;
+      legal_before = subst LegalReg c.self.view_is c.self.invariant.legal;
+      legal = (invariant_of-self-2 c).legal;
+    }

@@ -21,8 +21,8 @@ invariant_of-self-else-is_listed_at c =
     kept-no_get _ _ _ _ c.args.caller c.args.id c.self.invariant c.requires (cc)
     (cc (c.in_ok-record-2.ensures.ok))
 
-pub returns-then-is_listed_at-clause-legal : goal.returns-then-is_listed_at-clause-legal
-returns-then-is_listed_at-clause-legal c = (invariant_of-self-then-is_listed_at c).legal
+pub returns-in_ok-record-clause-legal : goal.returns-in_ok-record-clause-legal
+returns-in_ok-record-clause-legal c = (invariant_of-self-then-is_listed_at c).legal
 
-pub returns-else-is_listed_at-clause-legal : goal.returns-else-is_listed_at-clause-legal
-returns-else-is_listed_at-clause-legal c = (invariant_of-self-else-is_listed_at c).legal
+pub returns-in_ok-record-2-clause-legal : goal.returns-in_ok-record-2-clause-legal
+returns-in_ok-record-2-clause-legal c = (invariant_of-self-else-is_listed_at c).legal

@@ -26,8 +26,8 @@ invariant_of-self-in-None c =
     kept-no_unlist _ _ _ _ c.args.caller c.args.driver.now c.self.invariant c.requires (cc)
     (cc (c.in_ok-record-in-None.ensures.ok, c.in_ok-text.ensures.ok))
 
-pub returns-in-Some-clause-legal : goal.returns-in-Some-clause-legal
-returns-in-Some-clause-legal c = (invariant_of-self-in-Some c).legal
+pub returns-in_ok-record-in-Some-clause-legal : goal.returns-in_ok-record-in-Some-clause-legal
+returns-in_ok-record-in-Some-clause-legal c = (invariant_of-self-in-Some c).legal
 
-pub returns-in-None-clause-legal : goal.returns-in-None-clause-legal
-returns-in-None-clause-legal c = (invariant_of-self-in-None c).legal
+pub returns-in_ok-record-in-None-clause-legal : goal.returns-in_ok-record-in-None-clause-legal
+returns-in_ok-record-in-None-clause-legal c = (invariant_of-self-in-None c).legal
