@@ -1,6 +1,6 @@
 //! Laws of the grammar, for those who reason about names.
-ghost use Rattle.std.specs.Prelude.{◌≡◌, ℕ, ◌++◌, List, Some};
-ghost use Rattle.alg_names.specs.Name.{Tree, IsName, MayFollow, spelling};
+ghost use Rattle.std.specs.Prelude.{◌≡◌, ℕ, ◌++◌, List, Some, All};
+ghost use Rattle.alg_names.specs.Name.{Tree, IsName, MayFollow, spelling, args_of};
 ghost use Rattle.alg_names.specs.Spelled.{tree_of};
 
 /// A text is the name of one tree, and is spelled as this tree says.
@@ -18,4 +18,9 @@ pub fn no_front()
 pub fn computed_tree()
     ensures named { (text : List ℕ) (t : Tree) → IsName text t → tree_of text ≡ Some t }
     ensures computed { (text : List ℕ) (t : Tree) → tree_of text ≡ Some t → IsName text t }
+{}
+
+/// What stands in the parentheses of a name are names.
+pub fn named_arguments()
+    ensures { (text : List ℕ) (t : Tree) → IsName text t → All (λ argument. IsName (spelling argument) argument) (args_of t) }
 {}
