@@ -1,17 +1,15 @@
 -- What the calls say, for the answers of `resolve`.
-use Rattle.std.proofs.Common.{◌≡◌, ℕ, zero, suc, ◌+◌, ◌<◌, ◌≤◌, Bool, true, false, List, [], ◌∷◌, ◌++◌, length, get_or, take, refl, ap, sym, ◌∙◌, subst, arith, Option, Some, None, Result, Ok, Err, is_ok, if◌then◌else◌}
-use Rattle.std.specs.Prelude.{slice_get}
+use Rattle.std.proofs.Common.{◌≡◌, ℕ, ◌+◌, ◌<◌, Bool, List, [], ◌∷◌, ◌++◌, length, get_or, take, refl, ap, sym, ◌∙◌, subst, Some, None, Result, Ok, Err}
 use Rattle.std.specs.List.{filter_map, cons_option}
-use Rattle.std.proofs.lemmas.List.{append-nil, take_more}
+use Rattle.std.proofs.lemmas.List.{take_more}
 use Rattle.std.proofs.lemmas.List.Elements.{filter_map-append}
 use Rattle.alg_registry.specs.declared.spec.Spec.{Spec}
-use Rattle.kc_base.specs.declared.error_numbers.Errno.{Errno}
 use Rattle.kc_base.specs.declared.error_numbers.Errno.TheVariants.{ENOENT}
 use Rattle.alg_registry.specs.declared.entry.Looked.{Looked}
-use Rattle.alg_registry.specs.declared.entry.Looked.TheVariants.{Found, Pending, Began, Absent}
+use Rattle.alg_registry.specs.declared.entry.Looked.TheVariants.{Found, Began, Absent}
 use Rattle.alg_registry.specs.declared.entry.RegEntry.{RegEntry}
-use Rattle.alg_registry.specs.declared.entry.RegEntry.TheVariants.{Look, Claim, End}
-use Rattle.alg_registry.specs.Rows.{texts, rows_of, larvals_of, registered}
+use Rattle.alg_registry.specs.declared.entry.RegEntry.TheVariants.{Look, Claim}
+use Rattle.alg_registry.specs.Rows.{rows_of, larvals_of, registered}
 use Rattle.alg_registry.specs.Answers.{look_answer}
 use Rattle.alg_registry.specs.Calls.{claimed_number}
 use Rattle.alg_registry.specs.Legal.{LegalReg, claimer, ended_as}
@@ -22,9 +20,8 @@ use Rattle.templates.specs.Table.{table, children_of, derived_of, FaultIs}
 use Rattle.templates.specs.Resolving.{weight, AreAbove, Grows, CameTo, IsOpen, LooksCome, Builds, EndsWith, Resolves}
 use Rattle.templates.proofs.Growth.{came_now, grows_none}
 use Rattle.templates.proofs.Looks.{any_answer, claimable, began_new, opened, resolved, grows_look, grows_of_builds}
-use Rattle.templates.proofs.ChildLooks.{get_within, derives, derives_not}
+use Rattle.templates.proofs.ChildLooks.{derives, derives_not}
 use Rattle.templates.specs.declared.build_errors.BuildErr.{BuildErr}
-use Rattle.alg_registry.specs.declared.entry.Ended.{Ended}
 use Rattle.std.specs.Prelude.{IfOk, IfErr}
 
 pub found_came : (caller id : ℕ) (h h1 : List RegEntry) (text : List ℕ) (plain : Bool) (a : Looked) → Made table h → IsMade table h (Look caller text plain Absent) → h1 ≡ h ++ Look caller text plain a ∷ [] → a ≡ Found id → CameTo caller text plain (Ok id) h h1

@@ -1,33 +1,31 @@
 -- Looking for the children of a larval, one after the other.
-use Rattle.std.proofs.Common.{◌≡◌, ◌≢◌, ℕ, zero, suc, ◌+◌, ◌<◌, ◌≤◌, ◌⊎◌, inl, inr, Bool, true, false, not, cond, eqb, ◌&&◌, if◌then◌else◌, List, [], ◌∷◌, ◌++◌, length, get_or, refl, ap, sym, ◌∙◌, subst, arith, Option, Some, None, Result, Ok, Err, IsSome, append_assoc, length-append, map, codes}
-use Rattle.std.specs.Prelude.{slice_get, IsTrue}
+use Rattle.std.proofs.Common.{◌≡◌, ℕ, zero, suc, ◌+◌, ◌<◌, ◌≤◌, ◌⊎◌, inl, inr, Bool, true, eqb, if◌then◌else◌, List, [], ◌∷◌, ◌++◌, length, get_or, refl, ap, sym, ◌∙◌, subst, arith, Option, Some, None, Result, Ok, Err, IsSome, map}
+use Rattle.std.specs.Prelude.{slice_get}
 use Rattle.std.specs.List.{filter_map, cons_option, list_all}
-use Rattle.std.specs.Option.{option_or, option_and_then}
+use Rattle.std.specs.Option.{option_and_then}
 use Rattle.std.proofs.lemmas.List.{append-nil}
 use Rattle.std.proofs.lemmas.List.Elements.{filter_map-append}
 use Rattle.kc_base.specs.declared.error_numbers.Errno.{Errno}
 use Rattle.alg_registry.specs.declared.spec.Spec.{Spec}
 use Rattle.alg_registry.specs.declared.entry.Ended.{Ended}
-use Rattle.alg_registry.specs.declared.entry.Ended.TheVariants as ended
 use Rattle.alg_registry.specs.declared.entry.Looked.{Looked}
 use Rattle.alg_registry.specs.declared.entry.Looked.TheVariants.{Found, Pending, Began, Absent}
 use Rattle.alg_registry.specs.declared.entry.EndAnswer.{EndAnswer}
-use Rattle.alg_registry.specs.declared.entry.EndAnswer.TheVariants.{Built, Joined, Failed, NoMemory}
+use Rattle.alg_registry.specs.declared.entry.EndAnswer.TheVariants.{Failed}
 use Rattle.alg_registry.specs.declared.entry.RegEntry.{RegEntry}
-use Rattle.alg_registry.specs.declared.entry.RegEntry.TheVariants.{Look, Claim, End}
-use Rattle.alg_registry.specs.Rows.{texts, begun_by, registered, rows_of}
-use Rattle.alg_registry.specs.Answers.{built_answer}
-use Rattle.alg_registry.specs.Legal.{ended_as, claimer, LegalReg}
-use Rattle.alg_registry.specs.Made.{Made, IsMade, building, last_of, looks_for, look_for, if_of, outcome, outcomes, outcome_of, all_outcomes, next_child, next_of, made_answer, by_children, by_outcomes, by_spec, with_spec}
+use Rattle.alg_registry.specs.declared.entry.RegEntry.TheVariants.{Look}
+use Rattle.alg_registry.specs.Rows.{texts, begun_by, registered}
+use Rattle.alg_registry.specs.Legal.{ended_as}
+use Rattle.alg_registry.specs.Made.{IsMade, building, last_of, looks_for, if_of, outcome, outcomes, outcome_of, all_outcomes, next_child, next_of, made_answer, by_children, by_outcomes, by_spec, with_spec}
 use Rattle.alg_names.specs.Name.{Tree, spelling}
 use Rattle.templates.specs.Names.{IsKnown}
 use Rattle.templates.specs.declared.build_errors.BuildErr.{BuildErr}
 use Rattle.templates.specs.declared.build_errors.BuildErr.TheVariants.{Fault, Memory}
 use Rattle.templates.specs.Nesting.{is_nested_well}
 use Rattle.templates.specs.Table.{table, children_of, derived_of, spellings, FaultIs}
-use Rattle.templates.specs.Resolving.{weight, weight_of, AreAbove, Grows, CameTo, Within, AllEnded, is_by, is_work, IsOpen, LooksCome, ChildFailed, HasToEnd, Builds, Resolves}
-use Rattle.alg_registry.proofs.Stack.{same, unequal, ended-past}
-use Rattle.templates.proofs.Growth.{texts_grow, grows_none, grows_on, within_none, within_on, split, both_true}
+use Rattle.templates.specs.Resolving.{weight, weight_of, AreAbove, Grows, CameTo, Within, AllEnded, is_work, IsOpen, LooksCome, ChildFailed, Builds, Resolves}
+use Rattle.alg_registry.proofs.Stack.{same, unequal}
+use Rattle.templates.proofs.Growth.{grows_none, grows_on, within_none, within_on, split, both_true}
 use Rattle.templates.proofs.TableLaws.{table-children, table-derived, table-name}
 use Rattle.templates.proofs.Shapes.{lighter, nested_child}
 

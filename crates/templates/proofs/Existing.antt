@@ -1,36 +1,26 @@
 -- What a look comes to exists.
-use Rattle.std.proofs.Common.{◌≡◌, ◌≢◌, ℕ, zero, suc, ◌+◌, ◌<◌, ◌≤◌, ◌⊎◌, inl, inr, Bool, true, false, not, cond, eqb, ◌&&◌, if◌then◌else◌, List, [], ◌∷◌, ◌++◌, length, refl, ap, sym, ◌∙◌, subst, arith, Option, Some, None, Result, Ok, Err, IsSome, append_assoc, length-append}
-use Rattle.std.specs.Prelude.{slice_get, filter, nat_le}
-use Rattle.std.specs.List.{filter_map, cons_option, list_any, list_all}
-use Rattle.std.specs.Option.{option_or, option_and_then}
-use Rattle.kc_base.specs.declared.error_numbers.Errno.{Errno}
-use Rattle.kc_base.specs.declared.error_numbers.Errno.TheVariants.{EAGAIN, EEXIST, ENFILE}
+use Rattle.std.proofs.Common.{◌≡◌, ℕ, zero, suc, ◌<◌, ◌≤◌, ◌⊎◌, inl, inr, Bool, true, false, cond, List, [], ◌∷◌, ◌++◌, length, refl, ap, sym, ◌∙◌, subst, arith, Option, Some, None, Result, Ok, Err, IsSome}
+use Rattle.std.specs.Prelude.{slice_get, filter}
+use Rattle.std.specs.List.{list_all}
 use Rattle.alg_registry.specs.declared.spec.Spec.{Spec}
-use Rattle.alg_registry.specs.declared.row.Row.{Row}
 use Rattle.alg_registry.specs.declared.entry.Ended.{Ended}
-use Rattle.alg_registry.specs.declared.entry.Ended.TheVariants as ended
 use Rattle.alg_registry.specs.declared.entry.Looked.{Looked}
 use Rattle.alg_registry.specs.declared.entry.Looked.TheVariants.{Found, Pending, Began, Absent}
-use Rattle.alg_registry.specs.declared.entry.EndAnswer.{EndAnswer}
-use Rattle.alg_registry.specs.declared.entry.EndAnswer.TheVariants.{Built, Joined, Failed, NoMemory}
 use Rattle.alg_registry.specs.declared.entry.RegEntry.{RegEntry}
 use Rattle.alg_registry.specs.declared.entry.RegEntry.TheVariants.{Enlist, Look, Claim, End, Waited, Unlist, Get, Put, Refs}
 use Rattle.alg_registry.specs.declared.entry.RegEntry.TheVariants as entry
-use Rattle.alg_registry.specs.Rows.{texts, registered, registered_by, rows_of, first_of, ends, end_of, is_listed, listed_at}
-use Rattle.alg_registry.specs.Answers.{built_answer, joined_or_built, driver_place, clashes_with, held_count}
+use Rattle.alg_registry.specs.Rows.{texts, registered, rows_of, is_listed}
 use Rattle.alg_registry.specs.Legal.{LegalReg, IsRight, ended_as}
-use Rattle.alg_registry.specs.Made.{outcome, outcome_of}
+use Rattle.alg_registry.specs.Made.{outcome}
 use Rattle.alg_registry.proofs.Existing.{outcome_exists, registered_grow}
 use Rattle.alg_registry.proofs.Fresh.{length-rows_of, is_listed-within}
 use Rattle.alg_registry.proofs.LifetimeLaws.{right_at, handed_listed}
 use Rattle.templates.specs.declared.build_errors.BuildErr.{BuildErr}
 use Rattle.templates.specs.declared.build_errors.BuildErr.TheVariants as build
-use Rattle.templates.specs.Resolving.{weight_of, AreAbove, AllEnded, Grows, CameTo, Resolves, is_work}
-use Rattle.templates.specs.Looking.{Entry, Fault, entry_found, found_as, found_in, is_asked, LooksFor, Resolved, UnlessMemory, NonePending}
-use Rattle.alg_registry.proofs.Stack.{legal_along, ended-by}
-use Rattle.templates.proofs.Growth.{split, texts_grow, first_true, second_true}
+use Rattle.templates.specs.Resolving.{AreAbove, AllEnded, Grows, CameTo, Resolves, is_work}
+use Rattle.templates.specs.Looking.{entry_found, found_as, is_asked, Resolved, UnlessMemory, NonePending}
+use Rattle.templates.proofs.Growth.{split, first_true, second_true}
 use Rattle.templates.proofs.ChildLooks.{get_within}
-use Rattle.std.proofs.lemmas.List.{append-nil}
 
 pub came_exists : (caller id : ℕ) (text : List ℕ) (plain : Bool) (h h' : List RegEntry) → LegalReg h' → CameTo caller text plain (Ok id) h h' → id < length (registered h')
 came_exists caller id text plain h h' legal came = by_answer came.answer refl came.comes

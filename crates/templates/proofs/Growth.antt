@@ -1,28 +1,27 @@
 -- How building goes on: one look, the work for one larval, and both put together.
-use Rattle.std.proofs.Common.{◌≡◌, ◌≢◌, ℕ, zero, suc, ◌+◌, ◌<◌, ◌≤◌, Bool, true, false, not, cond, eqb, ◌&&◌, ◌⊎◌, inl, inr, if◌then◌else◌, List, [], ◌∷◌, ◌++◌, length, refl, ap, sym, ◌∙◌, subst, arith, Option, Some, None, Result, Ok, Err, IsSome, append_assoc, length-append, map}
-use Rattle.std.specs.Prelude.{slice_get, filter, IsTrue}
-use Rattle.std.specs.List.{filter_map, cons_option, list_all}
-use Rattle.std.specs.Option.{option_or, option_and_then}
+use Rattle.std.proofs.Common.{◌≡◌, ◌≢◌, ℕ, zero, suc, ◌+◌, ◌<◌, ◌≤◌, Bool, true, false, not, eqb, ◌&&◌, ◌⊎◌, inl, inr, if◌then◌else◌, List, [], ◌∷◌, ◌++◌, length, refl, ap, sym, ◌∙◌, subst, arith, Option, Some, None, Result, IsSome, append_assoc, length-append}
+use Rattle.std.specs.Prelude.{filter}
+use Rattle.std.specs.List.{cons_option, list_all}
+use Rattle.std.specs.Option.{option_or}
 use Rattle.std.proofs.lemmas.List.{append-nil}
 use Rattle.std.proofs.lemmas.List.Folds.{list_all-append}
 use Rattle.std.proofs.lemmas.List.Elements.{filter_map-append}
 use Rattle.kc_base.specs.declared.error_numbers.Errno.{Errno}
 use Rattle.alg_registry.specs.declared.entry.Ended.{Ended}
 use Rattle.alg_registry.specs.declared.entry.Looked.{Looked}
-use Rattle.alg_registry.specs.declared.entry.Looked.TheVariants.{Found, Pending, Began, Absent}
+use Rattle.alg_registry.specs.declared.entry.Looked.TheVariants.{Began}
 use Rattle.alg_registry.specs.declared.entry.EndAnswer.{EndAnswer}
-use Rattle.alg_registry.specs.declared.entry.EndAnswer.TheVariants.{Built, Joined, Failed, NoMemory}
 use Rattle.alg_registry.specs.declared.entry.RegEntry.{RegEntry}
 use Rattle.alg_registry.specs.declared.entry.RegEntry.TheVariants.{Enlist, Look, Claim, End, Waited, Unlist, Get, Put, Refs}
 use Rattle.alg_registry.specs.declared.entry.RegEntry.TheVariants as entry
 use Rattle.alg_registry.specs.Rows.{texts, begun_by, ends, claims, end_of}
 use Rattle.alg_registry.specs.Legal.{ended_as, claimer, LegalReg}
-use Rattle.alg_registry.specs.Made.{Made, IsMade, building, building_after, last_of, looks_for, look_for, if_of, outcome, outcomes, outcome_of, all_outcomes}
+use Rattle.alg_registry.specs.Made.{Made, IsMade, building, looks_for, outcome, outcome_of}
 use Rattle.alg_registry.proofs.Making.{Made-push}
 use Rattle.alg_registry.proofs.Steps.{or_none}
 use Rattle.templates.specs.Table.{table}
 use Rattle.templates.specs.Resolving.{Grows, CameTo, Within, AllEnded, is_by, is_work}
-use Rattle.alg_registry.proofs.Stack.{ended-stays, claimed-stays, claimed-there, texts-push, length-texts, building-push, looks-push, ended-push, claimed-push, ended-new, claimed-new, ended-past, stack_below, Below, last_below, last-snoc, filter-snoc, unequal, same, looks-fresh}
+use Rattle.alg_registry.proofs.Stack.{ended-stays, claimed-stays, claimed-there, length-texts, building-push, looks-push, ended-push, claimed-push, ended-new, claimed-new, stack_below, Below, filter-snoc, unequal, same}
 
 pub texts_grow : (caller : ℕ) (h h' : List RegEntry) → Grows caller h h' → length (texts h) ≤ length (texts h')
 texts_grow caller h h' g = omega (arith, ap (λ x. length (texts x)) g.history, ap length (filter_map-append begun_by h g.more), length-append (texts h) (texts g.more))

@@ -1,29 +1,26 @@
 -- What the answers of a look mean where only heavier larvals are pending.
-use Rattle.std.proofs.Common.{◌≡◌, ◌≢◌, ℕ, zero, suc, ◌+◌, ◌<◌, ◌≤◌, ◌⊎◌, inl, inr, Bool, true, false, not, cond, eqb, ◌&&◌, if◌then◌else◌, List, [], ◌∷◌, ◌++◌, length, refl, ap, sym, ◌∙◌, subst, arith, Option, Some, None, Result, Ok, Err, IsSome, append_assoc, length-append}
-use Rattle.std.specs.Prelude.{slice_get, IsTrue, is_none}
-use Rattle.std.specs.List.{filter_map, cons_option, position_from, list_any}
+use Rattle.std.proofs.Common.{◌≡◌, ℕ, zero, suc, ◌+◌, ◌<◌, ◌≤◌, ◌⊎◌, inl, inr, Bool, true, false, cond, eqb, ◌&&◌, if◌then◌else◌, List, [], ◌∷◌, ◌++◌, length, refl, ap, sym, ◌∙◌, subst, arith, Option, Some, None, Result, Ok, Err}
+use Rattle.std.specs.Prelude.{slice_get, is_none}
+use Rattle.std.specs.List.{cons_option, position_from}
 use Rattle.std.specs.Option.{option_or, option_and_then, option_map, option_map_or}
 use Rattle.std.specs.Str.{bytes_eq}
 use Rattle.std.proofs.lemmas.List.{append-nil}
 use Rattle.std.proofs.lemmas.Slice.Eq.{bytes_eq-Decides}
-use Rattle.kc_base.specs.declared.error_numbers.Errno.{Errno}
 use Rattle.alg_registry.specs.declared.spec.Spec.{Spec}
 use Rattle.alg_registry.specs.declared.row.Row.{Row}
 use Rattle.alg_registry.specs.declared.row.Larval.{Larval}
 use Rattle.alg_registry.specs.declared.entry.Ended.{Ended}
 use Rattle.alg_registry.specs.declared.entry.Looked.{Looked}
-use Rattle.alg_registry.specs.declared.entry.Looked.TheVariants.{Found, Pending, Began, Absent}
+use Rattle.alg_registry.specs.declared.entry.Looked.TheVariants.{Pending, Began, Absent}
 use Rattle.alg_registry.specs.declared.entry.EndAnswer.{EndAnswer}
 use Rattle.alg_registry.specs.declared.entry.EndAnswer.TheVariants.{Built, Joined, Failed, NoMemory}
-use Rattle.alg_registry.specs.declared.entry.RegErr.{RegErr}
-use Rattle.alg_registry.specs.declared.entry.RegErr.TheVariants as regerr
 use Rattle.alg_registry.specs.declared.entry.RegEntry.{RegEntry}
 use Rattle.alg_registry.specs.declared.entry.RegEntry.TheVariants.{Look, Claim, End}
-use Rattle.alg_registry.specs.Rows.{texts, begun_by, rows_of, larvals_of, larvals_from, larval_at, first_of, ends, claims}
+use Rattle.alg_registry.specs.Rows.{texts, rows_of, larvals_of, larval_at, first_of, ends, claims}
 use Rattle.alg_registry.specs.Answers.{look_answer, found_driver, found_best, not_found, is_pending, is_template, may_find, best_from, built_answer}
-use Rattle.alg_registry.specs.Calls.{claimed_number, unclaimed_at, is_unclaimed}
-use Rattle.alg_registry.specs.Legal.{ended_as, claimer, LegalReg}
-use Rattle.alg_registry.specs.Made.{Made, IsMade, building, last_of, looks_for, look_for, if_of, made_answer, next_child}
+use Rattle.alg_registry.specs.Calls.{claimed_number, is_unclaimed}
+use Rattle.alg_registry.specs.Legal.{ended_as, LegalReg}
+use Rattle.alg_registry.specs.Made.{Made, IsMade, building, last_of, looks_for, look_for, if_of, made_answer}
 use Rattle.alg_registry.proofs.Fresh.{fresh-from_legal, length-larvals_of}
 use Rattle.alg_registry.proofs.Steps.{first_of-push}
 use Rattle.alg_names.specs.Name.{Tree, spelling}
@@ -31,9 +28,9 @@ use Rattle.templates.specs.Names.{IsKnown}
 use Rattle.templates.specs.declared.build_errors.BuildErr.{BuildErr}
 use Rattle.templates.specs.declared.build_errors.BuildErr.TheVariants.{Fault, Memory}
 use Rattle.templates.specs.Table.{table}
-use Rattle.templates.specs.Resolving.{weight, weight_of, AreAbove, Grows, CameTo, Within, IsOpen, HasToEnd, Builds, Resolves, given_of, result_of, EndsWith}
-use Rattle.alg_registry.proofs.Stack.{ended-stays, claimed-stays, claimed-there, texts-push, length-texts, building-push, looks-push, ended-push, claimed-push, ended-new, claimed-new, last-snoc, same, looks-fresh, larval_get, ended-by, belongs_not, last_below, stack_below}
-use Rattle.templates.proofs.Growth.{texts_grow, grows_none, grows_begun, came_begun, came_now, split, none_after, both_true}
+use Rattle.templates.specs.Resolving.{weight, weight_of, AreAbove, Grows, Within, IsOpen, Builds, Resolves, given_of, result_of, EndsWith}
+use Rattle.alg_registry.proofs.Stack.{ended-stays, claimed-stays, claimed-there, texts-push, length-texts, building-push, looks-push, ended-push, claimed-push, ended-new, claimed-new, last-snoc, same, looks-fresh, larval_get, belongs_not, last_below, stack_below}
+use Rattle.templates.proofs.Growth.{grows_begun, came_begun, split, none_after, both_true}
 use Rattle.templates.proofs.ChildLooks.{get_front, get_within}
 use Rattle.alg_registry.proofs.Making.{Made-push}
 use Rattle.templates.proofs.TableLaws.{weight_of-spelling}

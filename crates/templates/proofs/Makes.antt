@@ -1,5 +1,5 @@
 -- What an entry can be: one of the drivers, or what a template makes of entries.
-use Rattle.std.proofs.Common.{◌≡◌, ℕ, zero, suc, ◌+◌, ◌<◌, ◌≤◌, Bool, true, false, not, ◌&&◌, ◌||◌, if◌then◌else◌, ◌⊎◌, inl, inr, List, [], ◌∷◌, ◌++◌, length, refl, ap, sym, ◌∙◌, subst, arith, append_assoc, Option, Some, None, Result, Ok, Err, codes}
+use Rattle.std.proofs.Common.{◌≡◌, ℕ, zero, suc, Bool, true, false, ◌&&◌, ◌||◌, if◌then◌else◌, ◌⊎◌, inl, inr, List, [], ◌∷◌, ◌++◌, length, refl, ap, sym, ◌∙◌, subst, append_assoc, Option, Some, None, Result, Ok, Err, codes}
 use Rattle.std.specs.List.{AllByRecursion}
 use Rattle.std.specs.Prelude.{slice_get, nat_lt}
 use Rattle.std.specs.Str.{bytes_eq}
@@ -8,11 +8,10 @@ use Rattle.kc_base.specs.declared.error_numbers.Errno.{Errno}
 use Rattle.kc_base.specs.declared.error_numbers.Errno.TheVariants.{EINVAL, ENAMETOOLONG}
 use Rattle.alg_registry.specs.declared.spec.Kind.{Kind}
 use Rattle.alg_registry.specs.declared.spec.Kind.TheVariants.{Cipher, Hash, Ghash, Skcipher, Aead, Mac}
-use Rattle.alg_registry.specs.declared.spec.Wrap.{Wrap}
 use Rattle.alg_registry.specs.declared.spec.Wrap.TheVariants as wrap
 use Rattle.alg_registry.specs.declared.spec.Spec.{Spec}
 use Rattle.alg_registry.specs.Rows.{opening}
-use Rattle.alg_names.specs.Name.{Tree, Args, node, end, arg, word_of, spelling}
+use Rattle.alg_names.specs.Name.{Tree, node, end, arg, word_of, spelling}
 use Rattle.templates.specs.declared.template_words.Template.{Template}
 use Rattle.templates.specs.declared.template_words.Template.TheVariants as template
 use Rattle.templates.specs.declared.driver_plans.AesForm.{AesForm}

@@ -1,7 +1,7 @@
 -- Over a legal history of faithful builds: what each entry is, and that looks for children come to plain entries.
-use Rattle.std.proofs.Common.{◌≡◌, ◌≢◌, ℕ, zero, suc, ◌+◌, ◌<◌, ◌≤◌, ◌⊎◌, inl, inr, Bool, true, false, not, cond, eqb, ◌&&◌, ◌||◌, if◌then◌else◌, List, [], ◌∷◌, ◌++◌, length, get_or, map, refl, ap, sym, ◌∙◌, subst, arith, Option, Some, None, Result, Ok, Err, append_assoc, length-append, codes}
+use Rattle.std.proofs.Common.{◌≡◌, ℕ, zero, suc, ◌<◌, ◌≤◌, ◌⊎◌, inl, inr, Bool, true, false, eqb, ◌&&◌, ◌||◌, if◌then◌else◌, List, [], ◌∷◌, ◌++◌, length, get_or, map, refl, ap, sym, ◌∙◌, subst, arith, Option, Some, None, Result, Ok, Err, append_assoc, codes}
 use Rattle.std.specs.Prelude.{slice_get, nat_le, All, ⊤}
-use Rattle.std.specs.List.{filter_map, cons_option, list_any, list_all, position_from, AllByRecursion}
+use Rattle.std.specs.List.{filter_map, cons_option, list_any, list_all, AllByRecursion}
 use Rattle.std.specs.Option.{option_and_then, option_map, option_map_or, option_or}
 use Rattle.std.specs.Str.{bytes_eq}
 use Rattle.std.proofs.lemmas.List.{append-nil}
@@ -23,7 +23,7 @@ use Rattle.alg_registry.specs.declared.entry.EndAnswer.TheVariants.{Built, Joine
 use Rattle.alg_registry.specs.declared.entry.RegEntry.{RegEntry}
 use Rattle.alg_registry.specs.declared.entry.RegEntry.TheVariants.{Enlist, Look, Claim, End, Waited, Unlist, Get, Put, Refs}
 use Rattle.alg_registry.specs.declared.entry.RegEntry.TheVariants as entry
-use Rattle.alg_registry.specs.Rows.{opening, registered, registered_by, texts, begun_by, ends, end_of, rows_of, larvals_of, listed_at}
+use Rattle.alg_registry.specs.Rows.{registered, registered_by, texts, begun_by, ends, end_of, rows_of, larvals_of, listed_at}
 use Rattle.alg_registry.specs.Answers.{look_answer, built_answer, joined_or_built, driver_place, clashes_with, held_count}
 use Rattle.alg_registry.specs.Legal.{LegalReg, MayFollow, IsRight, ended_as}
 use Rattle.alg_registry.specs.Made.{Made, MadeAfter, IsMade, building, last_of, looks_for, look_for, if_of, outcome, outcomes, outcome_of, all_outcomes, made_answer, by_children, by_outcomes, by_spec, with_spec, next_child, next_of}
@@ -31,22 +31,21 @@ use Rattle.alg_registry.proofs.Steps.{LegalReg-push, registered-push}
 use Rattle.alg_registry.proofs.Fresh.{claim_within, length-rows_of, spec-rows_of}
 use Rattle.alg_registry.proofs.Existing.{if_some}
 use Rattle.alg_registry.proofs.Stack.{texts-push, looks-push, ended-push, ended-new}
-use Rattle.alg_names.specs.Name.{Tree, Args, node, end, arg, IsName, AreNames, IsWord, a_word, a_template, one, word_of, args_of, list_of, spelling}
+use Rattle.alg_names.specs.Name.{Tree, node, end, IsName, a_word, a_template, one, word_of, args_of, list_of, spelling}
 use Rattle.alg_names.specs.Spelled.{tree_of}
 use Rattle.alg_names.specs.Built.{args_from, args_from-list_of}
 use Rattle.templates.specs.declared.driver_plans.AesForm.TheVariants.{AesGeneric}
 use Rattle.templates.specs.declared.driver_plans.GhashForm.TheVariants.{GhashGeneric}
-use Rattle.templates.specs.declared.template_words.Template.{Template}
 use Rattle.templates.specs.declared.template_words.Template.TheVariants.{Gcm}
 use Rattle.templates.specs.Nesting.{is_nested_well, is_wrapper_word, has_wrapper, any_wrapper}
-use Rattle.templates.specs.Table.{table, template_named, children_of, derived_of, spellings, is_allowed, is_built_in, is_bare, begins_with}
+use Rattle.templates.specs.Table.{table, template_named, children_of, derived_of, spellings, is_allowed, is_bare, begins_with}
 use Rattle.templates.proofs.Growth.{split}
 use Rattle.templates.proofs.ChildLooks.{get_within}
-use Rattle.templates.proofs.Looks.{at_last, began_new, position_at}
-use Rattle.templates.proofs.Shapes.{by_shape, not_false, from_false, only_arg}
+use Rattle.templates.proofs.Looks.{began_new, position_at}
+use Rattle.templates.proofs.Shapes.{by_shape, not_false, from_false}
 use Rattle.templates.proofs.Wrappers.{any_at}
 use Rattle.templates.proofs.PlainLooks.{found_bare, pending_text}
-use Rattle.templates.proofs.Makes.{Make, cipher, sha256, ghash, cbc, ctr, rfc3686, gcm, rfc4106, hmac, authenc_cbc, authenc_ctr, authenc_rfc3686, IsPlainAs, IsWrappedAs, Known, IsPlain, ArePlain, IsMadeSo, derived-plain, driver-known, opening-known, tree_of_make, over, left_true, right_true}
+use Rattle.templates.proofs.Makes.{Make, cipher, sha256, ghash, cbc, ctr, rfc3686, gcm, rfc4106, hmac, authenc_cbc, authenc_ctr, authenc_rfc3686, IsPlainAs, IsWrappedAs, Known, IsPlain, ArePlain, IsMadeSo, derived-plain, driver-known, opening-known, tree_of_make, over, right_true}
 
 -- what is known of the grammar
 pub record Grammar : Type 0 where

@@ -1,16 +1,13 @@
 -- What an entry can be has a driver within the limits, and the plan of its kind.
-use Rattle.std.proofs.Common.{◌≡◌, ℕ, ◌+◌, ◌≤◌, Bool, true, false, ◌⊎◌, inl, inr, List, [], ◌∷◌, ◌++◌, length, get_or, refl, ap, sym, ◌∙◌, subst, arith, length-append, lit≤, Option, Some, None, codes}
-use Rattle.std.specs.Prelude.{slice_get}
-use Rattle.alg_registry.specs.declared.spec.Kind.{Kind}
+use Rattle.std.proofs.Common.{◌≡◌, ℕ, ◌≤◌, ◌⊎◌, inl, inr, List, [], ◌∷◌, ◌++◌, length, refl, ap, sym, ◌∙◌, subst, arith, length-append, lit≤, Some, codes}
 use Rattle.alg_registry.specs.declared.spec.Spec.{Spec}
-use Rattle.alg_names.specs.Name.{Tree, node, end, arg, IsName, IsWord, IsAllowed, a_template, one, spelling, depth, width}
+use Rattle.alg_names.specs.Name.{Tree, IsWord, IsAllowed, a_template, one, spelling, depth, width}
 use Rattle.alg_names.specs.Spelled.{tree_of}
 use Rattle.templates.specs.declared.driver_plans.AesForm.TheVariants.{AesGeneric}
 use Rattle.templates.specs.declared.driver_plans.GhashForm.TheVariants.{GhashGeneric}
-use Rattle.templates.specs.declared.driver_plans.Plan.{Plan}
 use Rattle.templates.specs.Table.{template_named}
 use Rattle.templates.specs.Plans.{plan_at, bare_plan}
-use Rattle.templates.specs.Planned.{IsPlanned, Fits, is_basic}
+use Rattle.templates.specs.Planned.{IsPlanned, Fits}
 use Rattle.templates.proofs.PlannedHistories.{Grammar}
 use Rattle.templates.proofs.Makes.{Make, cipher, sha256, ghash, cbc, ctr, rfc3686, gcm, rfc4106, hmac, authenc_cbc, authenc_ctr, authenc_rfc3686, IsPlainAs, IsWrappedAs, Known, tree_of_make, kind_of_make, over}
 

@@ -1,9 +1,8 @@
 -- What a name asks for is lighter than the name, and nested well.
-use Rattle.std.proofs.Common.{◌≡◌, ℕ, zero, suc, ◌+◌, ◌*◌, ◌<◌, ◌≤◌, ◌⊎◌, inl, inr, Bool, true, false, not, ◌||◌, if◌then◌else◌, List, [], ◌∷◌, ◌++◌, length, get_or, refl, ap, sym, ◌∙◌, subst, arith, Option, Some, None, Result, Ok, Err, codes}
+use Rattle.std.proofs.Common.{◌≡◌, ℕ, zero, suc, ◌+◌, ◌*◌, ◌<◌, ◌≤◌, ◌⊎◌, inl, inr, Bool, true, false, not, ◌||◌, if◌then◌else◌, List, [], ◌∷◌, length, get_or, refl, ap, sym, ◌∙◌, subst, arith, Option, Some, None, Ok, codes}
 use Rattle.std.specs.Str.{bytes_eq}
-use Rattle.kc_base.specs.declared.error_numbers.Errno.{Errno}
-use Rattle.alg_names.specs.Name.{Tree, Args, node, end, arg, word_of, args_of, list_of}
-use Rattle.alg_names.specs.Built.{nodes, nodes_in, args_from}
+use Rattle.alg_names.specs.Name.{Tree, Args, node, end, arg, list_of}
+use Rattle.alg_names.specs.Built.{nodes, args_from}
 use Rattle.alg_names.specs.Built.{nodes_at, args_from-list_of}
 use Rattle.templates.specs.declared.template_words.Template.{Template}
 use Rattle.templates.specs.declared.template_words.Template.TheVariants.{Cbc, Ctr, Rfc3686, Gcm, GcmBase, Rfc4106, Hmac, Authenc, Pcrypt, Cryptd}
@@ -11,7 +10,7 @@ use Rattle.templates.specs.Nesting.{has_wrapper, any_wrapper, is_nested_well, is
 use Rattle.templates.specs.Table.{template_named, children_of, asked, asked_by}
 use Rattle.templates.specs.Resolving.{weight}
 use Rattle.templates.proofs.Words.{named_gcm}
-use Rattle.templates.proofs.Wrappers.{any_at, nested_parts}
+use Rattle.templates.proofs.Wrappers.{any_at}
 
 asked_shape : (template : Template) (args names : List Tree) → asked template args ≡ Ok names → (names ≡ args) ⊎ ((template ≡ Gcm) × (x : Tree) × (args ≡ x ∷ []) × (names ≡ node (codes "ctr") (arg x end) ∷ node (codes "ghash") end ∷ []))
 asked_shape Cbc [] names e = absurd cc

@@ -1,22 +1,16 @@
 -- The table at a name's spelling; what children have in common.
-use Rattle.std.proofs.Common.{◌≡◌, ℕ, zero, suc, ◌+◌, ◌*◌, ◌<◌, ◌≤◌, Bool, true, false, not, ◌&&◌, ◌||◌, if◌then◌else◌, List, [], ◌∷◌, ◌++◌, length, get_or, refl, ap, sym, ◌∙◌, subst, arith, Option, Some, None, Result, Ok, Err, codes, map}
+use Rattle.std.proofs.Common.{◌≡◌, ℕ, ◌≤◌, Bool, true, false, not, ◌&&◌, List, length, ap, ◌∙◌, arith, Some, Err}
 use Rattle.std.specs.Prelude.{nat_lt}
 use Rattle.std.specs.Option.{option_map_or}
 use Rattle.std.proofs.lemmas.Bool.Decides.{nat_tests}
-use Rattle.std.specs.Str.{bytes_eq}
-use Rattle.kc_base.specs.declared.error_numbers.Errno.{Errno}
 use Rattle.kc_base.specs.declared.error_numbers.Errno.TheVariants.{ENOENT}
 use Rattle.alg_registry.specs.declared.spec.Spec.{Spec}
-use Rattle.alg_names.specs.Name.{Tree, Args, node, end, arg, word_of, args_of, spelling, IsName, depth, width, list_of}
-use Rattle.alg_names.specs.Built.{nodes, nodes_in, args_from}
-use Rattle.templates.specs.declared.template_words.Template.{Template}
-use Rattle.templates.specs.declared.template_words.Template.TheVariants.{Cbc, Ctr, Rfc3686, Gcm, GcmBase, Rfc4106, Hmac, Authenc, Pcrypt, Cryptd}
+use Rattle.alg_names.specs.Name.{Tree, spelling, depth, width}
 use Rattle.alg_names.specs.Spelled.{tree_of}
 use Rattle.templates.specs.Names.{IsKnown}
-use Rattle.templates.specs.Nesting.{has_wrapper, any_wrapper, is_nested_well, is_wrapper_word}
-use Rattle.templates.specs.Table.{table, template_named, children_of, asked, asked_by, derived_of, spellings, is_allowed}
+use Rattle.templates.specs.Nesting.{is_nested_well}
+use Rattle.templates.specs.Table.{table, children_of, derived_of, spellings, is_allowed}
 use Rattle.templates.specs.Resolving.{weight, weight_of}
-use Rattle.templates.proofs.Words.{named_gcm}
 
 pub tree_of-spelling : (t : Tree) → IsKnown t → tree_of (spelling t) ≡ Some t
 tree_of-spelling t known = known.read

@@ -1,9 +1,8 @@
 -- The trial, by computation.
-use Rattle.std.proofs.Common.{◌≡◌, refl, ap, arith, Option, Some, None, List, ℕ, [], ◌∷◌, Bool, true, false}
+use Rattle.std.proofs.Common.{◌≡◌, refl, ap, arith, Option, Some, List, ℕ, [], ◌∷◌}
 use Rattle.kc_base.specs.declared.error_numbers.Errno.TheVariants.{ENOENT}
-use Rattle.alg_registry.specs.declared.spec.Spec.{Spec}
 use Rattle.alg_registry.specs.declared.entry.EndAnswer.{EndAnswer}
-use Rattle.alg_registry.specs.declared.entry.EndAnswer.TheVariants.{Built, Joined, Failed, NoMemory}
+use Rattle.alg_registry.specs.declared.entry.EndAnswer.TheVariants.{Built, Failed}
 use Rattle.alg_registry.specs.Made.{Made}
 use Rattle.alg_names.specs.Spelled.{tree_of}
 use Rattle.templates.specs.Table.{table, template_named}

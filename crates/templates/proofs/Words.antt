@@ -1,11 +1,8 @@
 -- The words of templates.
-use Rattle.std.proofs.Common.{◌≡◌, ℕ, ◌+◌, ◌<◌, ◌≤◌, Bool, true, false, if◌then◌else◌, List, [], ◌∷◌, ◌++◌, length, refl, ap, sym, ◌∙◌, subst, arith, Option, Some, None, Result, Ok, Err, codes}
+use Rattle.std.proofs.Common.{◌≡◌, ℕ, ◌≤◌, Bool, true, false, if◌then◌else◌, List, [], ◌∷◌, length, refl, ap, sym, ◌∙◌, subst, arith, Option, Some, None, Ok, codes}
 use Rattle.std.specs.Str.{bytes_eq}
 use Rattle.std.proofs.lemmas.Slice.Eq.{bytes_eq-Decides}
-use Rattle.kc_base.specs.declared.error_numbers.Errno.{Errno}
-use Rattle.alg_names.specs.Name.{Tree, Args, node, end, arg, word_of, args_of, with_word_of}
-use Rattle.alg_names.specs.Built.{args_from}
-use Rattle.alg_names.specs.Built.{tree_of_parts}
+use Rattle.alg_names.specs.Name.{Tree, Args, node, end, arg, args_of, with_word_of}
 use Rattle.templates.specs.declared.template_words.Template.{Template}
 use Rattle.templates.specs.declared.template_words.Template.TheVariants.{Cbc, Ctr, Rfc3686, Gcm, GcmBase, Rfc4106, Hmac, Authenc, Pcrypt, Cryptd}
 use Rattle.templates.specs.Table.{template_named, asked}

@@ -1,7 +1,7 @@
 -- `pcrypt` and `cryptd` in a list of names.
-use Rattle.std.proofs.Common.{◌≡◌, ℕ, zero, suc, ◌+◌, ◌<◌, ◌≤◌, Bool, true, false, ◌||◌, not, if◌then◌else◌, List, [], ◌∷◌, ◌++◌, length, get_or, take, refl, ap, sym, ◌∙◌, subst, arith, Result, Ok, Err}
+use Rattle.std.proofs.Common.{◌≡◌, ℕ, zero, suc, ◌+◌, ◌<◌, ◌≤◌, Bool, true, false, ◌||◌, not, if◌then◌else◌, List, [], ◌∷◌, ◌++◌, length, get_or, take, refl, ap, sym, ◌∙◌, arith, Result, Ok, Err}
 use Rattle.std.proofs.lemmas.List.{take_all, take_more}
-use Rattle.alg_names.specs.Name.{Tree, Args, node, end, arg, word_of, args_of}
+use Rattle.alg_names.specs.Name.{Tree, node, word_of, args_of}
 use Rattle.alg_names.specs.Built.{args_from}
 use Rattle.alg_names.specs.Built.{args_from-list_of}
 use Rattle.kc_base.specs.declared.error_numbers.Errno.{Errno}

@@ -1,5 +1,5 @@
 -- What a look comes to in a history.
-use Rattle.std.specs.Prelude.{ℕ, ◌<◌, ◌≡◌, Bool, true, false, ◌==◌, if◌then◌else◌, List, [], ◌∷◌, ◌++◌, length, filter, slice_get, Option, Some, None, IsSome, Result, Ok, Err, ⊤}
+use Rattle.std.specs.Prelude.{ℕ, ◌<◌, ◌≡◌, Bool, false, ◌==◌, if◌then◌else◌, List, [], ◌∷◌, ◌++◌, length, filter, slice_get, Option, Some, None, IsSome, Result, Ok, Err, ⊤}
 use Rattle.kc_base.specs.declared.error_numbers.Errno.{Errno}
 use Rattle.alg_registry.specs.declared.spec.Spec.{Spec}
 use Rattle.alg_registry.specs.declared.entry.Looked.{Looked}
@@ -10,7 +10,6 @@ use Rattle.alg_registry.specs.Legal.{ended_as}
 use Rattle.alg_registry.specs.Made.{outcome}
 use Rattle.templates.specs.declared.build_errors.BuildErr.{BuildErr}
 use Rattle.templates.specs.declared.build_errors.BuildErr.TheVariants as build
-use Rattle.templates.specs.Resolving.{Grows}
 
 -- an entry, or a number
 pub data Found : Type 0 where

@@ -1,12 +1,11 @@
 -- How an instance is looked up and built by one caller, children first.
-use Rattle.std.specs.Prelude.{ℕ, ◌+◌, ◌*◌, ◌<◌, ◌≤◌, ◌≡◌, ◌≢◌, ◌⊎◌, Bool, true, false, ◌==◌, if◌then◌else◌, List, [], ◌∷◌, ◌++◌, length, slice_get, Option, Some, None, IsSome, Result, Ok, Err, codes, IsTrue, ⊤}
+use Rattle.std.specs.Prelude.{ℕ, ◌+◌, ◌*◌, ◌<◌, ◌≤◌, ◌≡◌, ◌≢◌, ◌⊎◌, Bool, true, false, ◌==◌, if◌then◌else◌, List, [], ◌∷◌, ◌++◌, length, slice_get, Some, None, IsSome, Result, Ok, Err, codes}
 use Rattle.std.specs.List.{cons_option, list_all}
 use Rattle.std.specs.Option.{option_map_or}
 use Rattle.std.specs.Str.{bytes_eq}
 use Rattle.kc_base.specs.declared.error_numbers.Errno.{Errno}
 use Rattle.alg_registry.specs.declared.spec.Spec.{Spec}
 use Rattle.alg_registry.specs.declared.entry.Looked.{Looked}
-use Rattle.alg_registry.specs.declared.entry.Looked.TheVariants.{Absent}
 use Rattle.alg_registry.specs.declared.entry.Ended.{Ended}
 use Rattle.alg_registry.specs.declared.entry.EndAnswer.{EndAnswer}
 use Rattle.alg_registry.specs.declared.entry.EndAnswer.TheVariants.{Built, Joined, Failed, NoMemory}
@@ -15,8 +14,8 @@ use Rattle.alg_registry.specs.declared.entry.RegEntry.TheVariants.{Look, Claim, 
 use Rattle.alg_registry.specs.Rows.{texts, caller_of, rows_of}
 use Rattle.alg_registry.specs.Answers.{built_answer}
 use Rattle.alg_registry.specs.Legal.{ended_as, claimer}
-use Rattle.alg_registry.specs.Made.{Made, IsMade, building, last_of, looks_for, look_for, if_of, outcome, outcomes, made_answer}
-use Rattle.alg_names.specs.Name.{Tree, Args, node, end, arg, spelling, IsAllowed}
+use Rattle.alg_registry.specs.Made.{Made, building, last_of, looks_for, look_for, if_of, outcome, outcomes, made_answer}
+use Rattle.alg_names.specs.Name.{Tree, node, spelling}
 use Rattle.alg_names.specs.Built.{nodes}
 use Rattle.templates.specs.declared.build_errors.BuildErr.{BuildErr}
 use Rattle.templates.specs.declared.build_errors.BuildErr.TheVariants.{Fault, Memory}

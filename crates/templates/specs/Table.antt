@@ -1,5 +1,5 @@
 -- The templates: what each asks for, and what it makes of what it gets.
-use Rattle.std.specs.Prelude.{ℕ, ◌+◌, ◌-◌, ◌*◌, ◌/◌, ◌≡◌, Bool, true, false, not, ◌&&◌, ◌||◌, ◌==◌, nat_lt, if◌then◌else◌, List, [], ◌∷◌, ◌++◌, length, take, drop, Option, Some, None, Result, Ok, Err, codes, map, IfOk, ⊤}
+use Rattle.std.specs.Prelude.{ℕ, ◌+◌, ◌-◌, ◌*◌, ◌/◌, ◌≡◌, Bool, true, false, not, ◌&&◌, ◌||◌, nat_lt, if◌then◌else◌, List, [], ◌∷◌, ◌++◌, length, take, drop, Option, Some, None, Result, Ok, Err, codes, map, ⊤}
 use Prim.Native.Nat.{min}
 use Rattle.std.specs.Option.{option_map_or}
 use Rattle.std.specs.Str.{bytes_eq}
@@ -11,7 +11,7 @@ use Rattle.alg_registry.specs.declared.spec.Wrap.{Wrap}
 use Rattle.alg_registry.specs.declared.spec.Wrap.TheVariants as wrap
 use Rattle.alg_registry.specs.declared.spec.Spec.{Spec}
 use Rattle.alg_registry.specs.Made.{Templates}
-use Rattle.alg_names.specs.Name.{Tree, Args, node, end, arg, word_of, args_of, depth, width, spelling}
+use Rattle.alg_names.specs.Name.{Tree, node, end, arg, word_of, args_of, depth, width, spelling}
 use Rattle.templates.specs.declared.template_words.Template.{Template}
 use Rattle.templates.specs.declared.template_words.Template.TheVariants.{Cbc, Ctr, Rfc3686, Gcm, GcmBase, Rfc4106, Hmac, Authenc, Pcrypt, Cryptd}
 use Rattle.templates.specs.declared.build_errors.BuildErr.{BuildErr}

@@ -1,12 +1,10 @@
 -- Runs that come of building by the table, and runs that don't.
-use Rattle.std.specs.Prelude.{ℕ, Bool, true, false, List, [], ◌∷◌, ◌++◌, codes}
-use Rattle.kc_base.specs.declared.error_numbers.Errno.TheVariants.{ENOENT, EINVAL}
+use Rattle.std.specs.Prelude.{true, false, List, [], ◌∷◌, ◌++◌, codes}
 use Rattle.alg_registry.specs.declared.spec.Kind.TheVariants.{Skcipher}
 use Rattle.alg_registry.specs.declared.spec.Wrap.TheVariants.{Plain}
 use Rattle.alg_registry.specs.declared.spec.Spec.{Spec}
-use Rattle.alg_registry.specs.declared.entry.Looked.TheVariants.{Found, Began, Absent}
+use Rattle.alg_registry.specs.declared.entry.Looked.TheVariants.{Found, Began}
 use Rattle.alg_registry.specs.declared.entry.EndAnswer.{EndAnswer}
-use Rattle.alg_registry.specs.declared.entry.EndAnswer.TheVariants.{Built, Failed}
 use Rattle.alg_registry.specs.declared.entry.RegEntry.{RegEntry}
 use Rattle.alg_registry.specs.declared.entry.RegEntry.TheVariants.{Look, Claim, End}
 

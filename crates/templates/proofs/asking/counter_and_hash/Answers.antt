@@ -1,5 +1,5 @@
-use Rattle.std.proofs.Common.{◌≡◌, ◌≤◌, length, codes, List, ◌∷◌, ◌++◌, [], sym, ap, ◌∙◌, subst, arith}
-use Rattle.alg_names.specs.Name.{Tree, node, end, word_of, args_of, with_word_of}
+use Rattle.std.proofs.Common.{◌≡◌, length, codes, List, ◌∷◌, ◌++◌, [], ap, ◌∙◌, arith}
+use Rattle.alg_names.specs.Name.{Tree, node, end, word_of, with_word_of}
 use Rattle.templates.proofs.Words.{gcm_length, asked_gcm}
 use Rattle.templates.proofs.asking.counter_and_hash.Goals as goal
 

@@ -1,4 +1,4 @@
-use Rattle.std.proofs.Common.{◌≡◌, ◌<◌, true, false, refl, arith, sym, ap, ◌∙◌}
+use Rattle.std.proofs.Common.{◌≡◌, ◌<◌, true, false, arith}
 use Rattle.alg_names.specs.Built.{nodes}
 use Rattle.alg_names.specs.Built.{nodes_at}
 use Rattle.templates.specs.Nesting.{has_wrapper}

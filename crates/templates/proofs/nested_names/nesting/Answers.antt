@@ -1,4 +1,4 @@
-use Rattle.std.proofs.Common.{◌≡◌, ◌<◌, true, false, refl, arith, sym, ap, ◌∙◌}
+use Rattle.std.proofs.Common.{◌≡◌, true, false}
 use Rattle.templates.specs.Nesting.{has_wrapper}
 use Rattle.templates.proofs.Wrappers.{any_more, refused, taken}
 use Rattle.templates.proofs.nested_names.nesting.Goals as goal

@@ -1,18 +1,15 @@
-use Rattle.std.proofs.Common.{◌≡◌, ℕ, ◌+◌, ◌*◌, ◌<◌, length, List, Result, Ok, Err, sym, ap, ◌∙◌, subst, arith, refl}
-use Rattle.alg_names.specs.Name.{spelling, IsAllowed}
+use Rattle.std.proofs.Common.{◌≡◌, ℕ, ◌+◌, ◌*◌, ◌<◌, length, List, Ok, sym, ap, ◌∙◌, subst, arith, refl}
+use Rattle.alg_names.specs.Name.{spelling}
 use Rattle.templates.specs.Resolving.{weight, LooksCome}
 use Rattle.templates.proofs.Shapes.{lighter, nested_child}
-use Rattle.templates.proofs.ChildLooks.{no_children, child_failed, derives, derives_not, child_made, child_above, child_entry, stopped}
+use Rattle.templates.proofs.ChildLooks.{no_children, child_failed, child_made, child_above, child_entry, stopped}
 use Rattle.templates.proofs.Growth.{grows_on}
 use Rattle.templates.proofs.Looks.{pending_not}
 use Rattle.templates.proofs.Calls.{found_came, absent_came, claimable_at, opened_at, still_claimed, still_unended, resolved_at, grows_at, grows_same, derives_so}
-use Rattle.alg_names.specs.Name.{Tree}
 use Rattle.std.specs.List.{filter_map}
-use Rattle.alg_registry.specs.Rows.{registered, rows_of, larvals_of}
-use Rattle.alg_registry.specs.Answers.{look_answer}
+use Rattle.alg_registry.specs.Rows.{registered}
 use Rattle.alg_registry.specs.Made.{with_spec}
-use Rattle.std.proofs.Common.{get_or, length-append, ◌++◌, ◌∷◌, []}
-use Rattle.alg_registry.specs.declared.entry.RegEntry.{RegEntry}
+use Rattle.std.proofs.Common.{get_or, length-append, ◌∷◌, []}
 use Rattle.templates.proofs.resolving.+resolve.Goals as goal
 
 pub build-returns-in-Err : goal.build-returns-in-Err

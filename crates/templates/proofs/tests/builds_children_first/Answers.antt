@@ -6,4 +6,4 @@ use Rattle.templates.specs.Looking.{NonePending}
 use Rattle.templates.proofs.tests.builds_children_first.Goals as goal
 
 pub loop-text-init : goal.loop-text-init
-loop-text-init c = subst (λ (h : List RegEntry). Made table h × NonePending h) (sym c.in_ok-registry.ensures) (tt, λ n lt. absurd (omega (arith, lt)))
+loop-text-init g c = subst (λ (h : List RegEntry). Made table h × NonePending h) (sym c.in_ok-registry.ensures) (tt, λ n lt. absurd (omega (arith, lt)))
