@@ -90,13 +90,17 @@ fn is_pending_at(all: &[Larval], number: u64, text: &[u8]) -> bool
 fn first_unclaimed(all: &[Larval], live: &[u64]) -> Option<u64>
     ensures { result ≡ find (passes_at is_unclaimed all.now) live.now }
 {
-    live.iter().copied().find(|number| is_unclaimed_at(all, *number))
+    live.iter()
+        .copied()
+        .find(|number| is_unclaimed_at(all, *number))
 }
 
 fn first_pending(all: &[Larval], live: &[u64], text: &[u8]) -> Option<u64>
     ensures { result ≡ find (passes_at (is_pending text.now) all.now) live.now }
 {
-    live.iter().copied().find(|number| is_pending_at(all, *number, text))
+    live.iter()
+        .copied()
+        .find(|number| is_pending_at(all, *number, text))
 }
 
 /// The entry with which the larval ended.

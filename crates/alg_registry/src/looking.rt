@@ -28,8 +28,7 @@ fn is_among(joined: &[u64], id: u64) -> bool
 fn does_answer_to(joined: &[u64], text: &[u8], plain: bool, id: u64, row: &Row) -> bool
     ensures { result ≡ answers_by joined.now text.now plain id row.now }
 {
-    may_be_found(row, plain)
-        && (is_same(row.spec.name.as_slice(), text) || is_among(joined, id))
+    may_be_found(row, plain) && (is_same(row.spec.name.as_slice(), text) || is_among(joined, id))
 }
 
 fn better_of(id: u64, row: &Row, best: Option<(u64, u32)>) -> Option<(u64, u32)>

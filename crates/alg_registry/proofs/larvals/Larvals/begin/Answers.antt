@@ -12,9 +12,9 @@ invariant_of-self c =
     let number : c.len-number.result ≡ length c.self.inside.all.items = omega (arith, c.len-number.ensures) in
     record {
       live_are = c.push_reserved.ensures.items
-      ∙ (ap (λ (ns : List ℕ). ns ++ c.len-number.result ∷ []) c.self.invariant.live_are
-      ∙ (sym (live-begun 0 c.self.inside.all.items begun c.len-number.result refl (omega (arith, number)))
-      ∙ ap (λ (ls : List Larval). live_from 0 ls) (sym c.push_reserved-2.ensures.items)));
+          ∙ (ap (λ (ns : List ℕ). ns ++ c.len-number.result ∷ []) c.self.invariant.live_are
+          ∙ (sym (live-begun 0 c.self.inside.all.items begun c.len-number.result refl (omega (arith, number)))
+          ∙ ap (λ (ls : List Larval). live_from 0 ls) (sym c.push_reserved-2.ensures.items)));
       fits = omega (arith, c.self.invariant.fits, c.requires, spare, c.push_reserved-2.ensures.len, c.push_reserved-2.ensures.capacity);
       live_fits = omega (arith, c.self.invariant.live_fits, c.requires, spare, c.push_reserved.ensures.len, c.push_reserved.ensures.capacity);
     }

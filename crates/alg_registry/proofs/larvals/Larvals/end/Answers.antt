@@ -33,8 +33,8 @@ invariant_of-self-else-not-ends_live c =
     let ended : Larval = record c.index_mut-larval.result.now { ended = Some c.args.ended } in
     record {
       live_are = c.self.invariant.live_are
-      ∙ sym (live-same 0 c.self.inside.all.items c.args.number ended c.index_mut-larval.result.now
-      (sym c.if-not-ends_live.ensures ∙ sym (pending-is_live c.self.inside.all.items c.args.number c.index_mut-larval.result.now within pending)));
+          ∙ sym (live-same 0 c.self.inside.all.items c.args.number ended c.index_mut-larval.result.now
+          (sym c.if-not-ends_live.ensures ∙ sym (pending-is_live c.self.inside.all.items c.args.number c.index_mut-larval.result.now within pending)));
       fits = omega (arith, c.self.invariant.fits, length-set c.self.inside.all.items c.args.number ended);
       live_fits = c.self.invariant.live_fits;
     }
