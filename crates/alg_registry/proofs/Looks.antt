@@ -4,7 +4,6 @@ use Rattle.std.specs.List.{position_from}
 use Rattle.std.specs.Str.{bytes_eq}
 use Rattle.alg_registry.specs.declared.row.Row.{Row}
 use Rattle.alg_registry.specs.declared.row.Larval.{Larval}
-use Rattle.alg_registry.specs.declared.entry.Looked.{Looked}
 use Rattle.alg_registry.specs.declared.entry.Looked.TheVariants.{Found}
 use Rattle.alg_registry.specs.Answers.{may_find, is_pending, best_from, not_found, found_best, found_driver, look_answer}
 

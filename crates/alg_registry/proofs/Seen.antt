@@ -9,9 +9,9 @@ use Rattle.alg_registry.specs.declared.entry.Ended.{Ended}
 use Rattle.alg_registry.specs.declared.entry.Ended.TheVariants.{Built, Joined, Failed, NoMemory}
 use Rattle.alg_registry.specs.declared.row.Row.{Row}
 use Rattle.alg_registry.specs.declared.row.Larval.{Larval}
-use Rattle.alg_registry.specs.Answers.{is_pending, is_end_at, ended_with, answers_to, may_find, better, best_from}
-use Rattle.alg_registry.specs.Calls.{is_unclaimed, claimed_larval, ended_larval}
-use Rattle.alg_registry.specs.Larvals.{entry_of, is_live_end, is_live, live_from, joined_as, joined_by, joined_at, passes_at, answers_by, best_by}
+use Rattle.alg_registry.specs.Answers.{is_pending, is_end_at, ended_with, may_find, better, best_from}
+use Rattle.alg_registry.specs.Calls.{is_unclaimed}
+use Rattle.alg_registry.specs.Larvals.{entry_of, is_live_end, is_live, live_from, joined_as, joined_by, joined_at, passes_at, best_by}
 
 at_place : (before : List Larval) (larval : Larval) (larvals : List Larval) → slice_get (before ++ larval ∷ larvals) (length before) ≡ Some larval
 at_place [] larval larvals = refl

@@ -1,13 +1,12 @@
 -- One run: an instance under cryptd is looked up and built.
-use Rattle.std.specs.Prelude.{ℕ, ◌≡◌, ◌<◌, Bool, true, false, List, [], ◌∷◌, ◌++◌, Option, Some, None, codes, map, Ok, Err, if◌then◌else◌, slice_set}
+use Rattle.std.specs.Prelude.{ℕ, ◌≡◌, true, false, List, [], ◌∷◌, ◌++◌, Option, Some, codes, map, Ok, Err, if◌then◌else◌, slice_set}
 use Rattle.std.proofs.Common.{refl, ap}
 use Rattle.alg_registry.specs.declared.spec.Kind.TheVariants.{Skcipher}
-use Rattle.alg_registry.specs.declared.spec.Wrap.{Wrap}
 use Rattle.alg_registry.specs.declared.spec.Wrap.TheVariants.{Plain, Cryptd}
 use Rattle.alg_registry.specs.declared.spec.Spec.{Spec}
-use Rattle.alg_registry.specs.declared.entry.Looked.TheVariants.{Found, Began, Absent, Pending}
+use Rattle.alg_registry.specs.declared.entry.Looked.TheVariants.{Found, Began}
 use Rattle.alg_registry.specs.declared.entry.EndAnswer.{EndAnswer}
-use Rattle.alg_registry.specs.declared.entry.EndAnswer.TheVariants.{Built, Joined}
+use Rattle.alg_registry.specs.declared.entry.EndAnswer.TheVariants.{Built}
 use Rattle.alg_registry.specs.declared.entry.RegEntry.{RegEntry}
 use Rattle.alg_registry.specs.declared.entry.RegEntry.TheVariants.{Look, Claim, End, Get, Put, Unlist}
 use Rattle.alg_registry.specs.Rows.{references_of, is_held_at}

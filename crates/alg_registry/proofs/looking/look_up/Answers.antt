@@ -1,7 +1,6 @@
-use Rattle.std.proofs.Common.{◌≡◌, ℕ, List, Bool, ◌&&◌, Option, Some, None, sym, ap, ◌∙◌}
+use Rattle.std.proofs.Common.{◌≡◌, ℕ, List, ◌&&◌, None, sym, ap, ◌∙◌}
 use Rattle.std.specs.List.{position_from}
 use Rattle.std.specs.Str.{bytes_eq}
-use Rattle.alg_registry.specs.declared.entry.Looked.TheVariants.{Found}
 use Rattle.alg_registry.specs.Answers.{may_find, best_from}
 use Rattle.alg_registry.specs.Larvals.{joined_by, best_by}
 use Rattle.alg_registry.proofs.Seen.{best-joined}

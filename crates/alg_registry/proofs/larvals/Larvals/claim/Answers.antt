@@ -1,4 +1,4 @@
-use Rattle.std.proofs.Common.{◌≡◌, Some, sym, ap, ◌∙◌, arith}
+use Rattle.std.proofs.Common.{Some, sym, ap, ◌∙◌, arith}
 use Rattle.alg_registry.specs.declared.row.Larval.{Larval}
 use Rattle.alg_registry.specs.Larvals.{is_live}
 use Rattle.alg_registry.proofs.Seen.{live-same, length-set}

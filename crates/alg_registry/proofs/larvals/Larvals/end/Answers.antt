@@ -1,9 +1,9 @@
-use Rattle.std.proofs.Common.{◌≡◌, ◌<◌, ◌∙◌, ℕ, length, List, set, Option, Some, None, not, eqb, false, true, refl, sym, ap, subst, arith}
+use Rattle.std.proofs.Common.{◌≡◌, ◌<◌, ◌∙◌, ℕ, length, List, set, Some, None, not, eqb, sym, ap, arith}
 use Rattle.std.specs.Prelude.{slice_get}
 use Rattle.std.specs.List.{filter}
 use Rattle.std.specs.Option.{option_and_then}
 use Rattle.alg_registry.specs.declared.row.Larval.{Larval}
-use Rattle.alg_registry.specs.Larvals.{LarvalTable, is_live, is_live_end, live_from}
+use Rattle.alg_registry.specs.Larvals.{LarvalTable, live_from}
 use Rattle.alg_registry.proofs.Seen.{live-same, live-ended, pending-is_live, length-set, length-filter}
 use Rattle.alg_registry.proofs.larvals.Larvals.end.Goals as goal
 

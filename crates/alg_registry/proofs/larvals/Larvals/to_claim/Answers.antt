@@ -1,4 +1,4 @@
-use Rattle.std.proofs.Common.{◌≡◌, ℕ, List, Option, ap, ◌∙◌}
+use Rattle.std.proofs.Common.{◌≡◌, List, ap, ◌∙◌}
 use Rattle.std.specs.List.{find, position_from}
 use Rattle.alg_registry.specs.declared.row.Larval.{Larval}
 use Rattle.alg_registry.specs.Calls.{is_unclaimed}

@@ -1,7 +1,6 @@
-use Rattle.std.proofs.Common.{◌≡◌, List, [], Option, Some, None, sym, ap, ◌∙◌}
+use Rattle.std.proofs.Common.{◌≡◌, List, [], Some, None, sym, ap, ◌∙◌}
 use Rattle.alg_registry.specs.declared.row.Larval.{Larval}
 use Rattle.alg_registry.specs.declared.entry.RegEntry.{RegEntry}
-use Rattle.alg_registry.specs.declared.entry.Claimed.{Claimed}
 use Rattle.alg_registry.specs.Calls.{claimed_number, claimed_answer, text_at}
 use Rattle.alg_registry.specs.Rows.{larvals_of}
 use Rattle.alg_registry.proofs.Keeping.{kept-claim, claim-within, claimed_answer-is, claimed-to_end}
