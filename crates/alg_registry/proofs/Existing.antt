@@ -1,25 +1,21 @@
 -- What a larval ended with exists.
-use Rattle.std.proofs.Common.{◌≡◌, ◌≢◌, ℕ, zero, suc, ◌+◌, ◌<◌, ◌≤◌, ◌⊎◌, inl, inr, Bool, true, false, not, cond, eqb, ◌&&◌, if◌then◌else◌, List, [], ◌∷◌, ◌++◌, length, refl, ap, sym, ◌∙◌, subst, arith, Option, Some, None, Result, Ok, Err, IsSome, append_assoc, length-append}
-use Rattle.std.specs.Prelude.{slice_get, filter, nat_le}
-use Rattle.std.specs.List.{filter_map, cons_option, list_any, list_all}
+use Rattle.std.proofs.Common.{◌≡◌, ℕ, ◌<◌, ◌≤◌, Bool, true, false, eqb, if◌then◌else◌, List, [], ◌∷◌, ◌++◌, length, refl, ap, sym, ◌∙◌, arith, Option, Some, None, Ok, append_assoc, length-append}
+use Rattle.std.specs.Prelude.{slice_get, nat_le}
+use Rattle.std.specs.List.{cons_option, list_any, list_all}
 use Rattle.std.specs.Option.{option_or, option_and_then}
-use Rattle.kc_base.specs.declared.error_numbers.Errno.{Errno}
 use Rattle.kc_base.specs.declared.error_numbers.Errno.TheVariants.{EAGAIN, EEXIST, ENFILE}
 use Rattle.alg_registry.specs.declared.spec.Spec.{Spec}
 use Rattle.alg_registry.specs.declared.row.Row.{Row}
 use Rattle.alg_registry.specs.declared.entry.Ended.{Ended}
 use Rattle.alg_registry.specs.declared.entry.Ended.TheVariants as ended
-use Rattle.alg_registry.specs.declared.entry.Looked.{Looked}
-use Rattle.alg_registry.specs.declared.entry.Looked.TheVariants.{Found, Pending, Began, Absent}
-use Rattle.alg_registry.specs.declared.entry.EndAnswer.{EndAnswer}
 use Rattle.alg_registry.specs.declared.entry.EndAnswer.TheVariants.{Built, Joined, Failed, NoMemory}
 use Rattle.alg_registry.specs.declared.entry.RegEntry.{RegEntry}
 use Rattle.alg_registry.specs.declared.entry.RegEntry.TheVariants.{Enlist, Look, Claim, End, Waited, Unlist, Get, Put, Refs}
 use Rattle.alg_registry.specs.declared.entry.RegEntry.TheVariants as entry
-use Rattle.alg_registry.specs.Rows.{texts, registered, registered_by, rows_of, first_of, ends, end_of, is_listed, listed_at}
+use Rattle.alg_registry.specs.Rows.{texts, registered, registered_by, rows_of, first_of, ends, listed_at}
 use Rattle.alg_registry.specs.Answers.{built_answer, joined_or_built, driver_place, clashes_with, held_count}
 use Rattle.alg_registry.specs.Legal.{LegalReg, IsRight, ended_as}
-use Rattle.alg_registry.specs.Made.{outcome, outcome_of}
+use Rattle.alg_registry.specs.Made.{outcome_of}
 use Rattle.alg_registry.proofs.Steps.{first_of-push, registered-push}
 use Rattle.alg_registry.proofs.Fresh.{length-rows_of, is_listed-within}
 use Rattle.alg_registry.proofs.Stack.{legal_along, ended-by}

@@ -1,5 +1,5 @@
 -- What is kept beside the history stays in step with it, entry by entry.
-use Rattle.std.proofs.Common.{◌≡◌, ◌≢◌, ℕ, zero, suc, ◌+◌, ◌-◌, ◌*◌, ◌<◌, ◌≤◌, ◌^◌, Bool, true, false, cond, ◌||◌, ◌&&◌, not, eqb, ltb, List, [], ◌∷◌, ◌++◌, length, map, get_or, set, Option, Some, None, refl, sym, ap, ◌∙◌, subst, arith, length-append, append_assoc, add-one}
+use Rattle.std.proofs.Common.{◌≡◌, ◌≢◌, ℕ, zero, suc, ◌+◌, ◌-◌, ◌<◌, ◌≤◌, Bool, true, false, cond, ◌||◌, ◌&&◌, not, eqb, ltb, List, [], ◌∷◌, ◌++◌, length, get_or, set, Option, Some, None, refl, sym, ap, ◌∙◌, subst, arith}
 use Rattle.std.specs.Prelude.{count_by, slice_get, is_none}
 use Rattle.std.specs.List.{filter_map, list_any, cons_option, position_from}
 use Rattle.std.specs.Option.{option_or, option_map, option_map_or, option_and_then}
@@ -13,16 +13,16 @@ use Rattle.alg_registry.specs.declared.row.Larval.{Larval}
 use Rattle.alg_registry.specs.declared.entry.Looked.{Looked}
 use Rattle.alg_registry.specs.declared.entry.Looked.TheVariants.{Found, Pending, Began, Absent}
 use Rattle.alg_registry.specs.declared.entry.RegEntry.{RegEntry}
-use Rattle.alg_registry.specs.declared.entry.RegEntry.TheVariants.{Enlist, Look, Claim, End, Waited, Unlist, Get, Put, Refs}
-use Rattle.alg_registry.specs.Rows.{noted_at, noted, registered_by, registered, opening, unlists, gets, puts, taken_of, standing, rows_of, first_of, begun_by, claims, ends, larval_at, larvals_from, larvals_of, is_listed, listed_at}
+use Rattle.alg_registry.specs.declared.entry.RegEntry.TheVariants.{Look, Claim, Unlist, Get, Put}
+use Rattle.alg_registry.specs.Rows.{noted_at, registered_by, unlists, gets, puts, taken_of, standing, rows_of, first_of, begun_by, claims, ends, larval_at, larvals_from, larvals_of, listed_at}
 use Rattle.alg_registry.specs.Answers.{look_answer, driver_place}
-use Rattle.alg_registry.specs.Legal.{IsRight, MayFollow, LegalReg, is_worker, HasReference, claimer, ended_as}
-use Rattle.alg_registry.specs.Calls.{unlisted_row, taken_row, put_row_of, is_unclaimed, unclaimed_at, claimed_number, claimed_answer, text_at, claimed_larval, ended_larval, new_row, end_given, unless_memory}
+use Rattle.alg_registry.specs.Legal.{IsRight, LegalReg, is_worker, HasReference, claimer, ended_as}
+use Rattle.alg_registry.specs.Calls.{unlisted_row, taken_row, put_row_of, is_unclaimed, unclaimed_at, claimed_number, claimed_answer, text_at, claimed_larval}
 use Rattle.alg_registry.specs.Kept.{IsKept}
-use Rattle.alg_registry.proofs.Standing.{bare, bare-rows_of, standing-from_bare}
-use Rattle.alg_registry.proofs.Steps.{LegalReg-push, IsQuiet, rows_of-quiet, rows_of-set, registered-push, registered-same, noted_at-quiet, count_by-push, first_of-push, or_none, bit}
+use Rattle.alg_registry.proofs.Standing.{bare}
+use Rattle.alg_registry.proofs.Steps.{LegalReg-push, IsQuiet, rows_of-quiet, rows_of-set, count_by-push, first_of-push, or_none, bit}
 use Rattle.alg_registry.proofs.Balance.{puts-le, puts-lt}
-use Rattle.alg_registry.proofs.Fresh.{IsFresh, fresh-from_legal, length-rows_of, length-larvals_of, position_from-within, is_listed-within}
+use Rattle.alg_registry.proofs.Fresh.{fresh-from_legal, length-rows_of, position_from-within, is_listed-within}
 
 -- the entry does nothing to the larval
 pub record LeavesLarval (e : RegEntry) (n : ℕ) : Type 0 where

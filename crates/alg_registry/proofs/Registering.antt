@@ -1,10 +1,9 @@
 -- Entries of the history that register, and those that end a larval.
-use Rattle.std.proofs.Common.{◌≡◌, ◌≢◌, ℕ, zero, suc, ◌+◌, ◌-◌, ◌*◌, ◌<◌, ◌≤◌, ◌^◌, Bool, true, false, cond, ◌||◌, ◌&&◌, not, eqb, ltb, leb, List, [], ◌∷◌, ◌++◌, length, map, get_or, set, Option, Some, None, refl, sym, ap, ◌∙◌, subst, arith, length-append, append_assoc, add-one}
-use Rattle.std.specs.Prelude.{count_by, slice_get, is_none, is_some}
-use Rattle.std.specs.List.{filter_map, list_any, list_all, cons_option, position_from}
-use Rattle.std.specs.Option.{option_or, option_map_or, option_and_then}
+use Rattle.std.proofs.Common.{◌≡◌, ◌≢◌, ℕ, suc, ◌+◌, ◌-◌, ◌<◌, ◌≤◌, Bool, true, false, cond, ◌&&◌, eqb, leb, List, [], ◌∷◌, ◌++◌, length, map, get_or, set, Option, Some, None, refl, sym, ap, ◌∙◌, subst, arith}
+use Rattle.std.specs.Prelude.{count_by, slice_get, is_some}
+use Rattle.std.specs.List.{list_any, list_all, cons_option, position_from}
+use Rattle.std.specs.Option.{option_and_then}
 use Rattle.std.specs.Str.{bytes_eq}
-use Rattle.std.proofs.lemmas.List.{append-nil}
 use Rattle.std.proofs.lemmas.Bool.Decides.{nat_tests}
 use Rattle.kc_base.specs.declared.error_numbers.Errno.TheVariants.{EAGAIN, EEXIST, ENFILE}
 use Rattle.alg_registry.specs.declared.spec.Spec.{Spec}
@@ -15,19 +14,19 @@ use Rattle.alg_registry.specs.declared.entry.Ended.{Ended}
 use Rattle.alg_registry.specs.declared.entry.Enlisted.{Enlisted}
 use Rattle.alg_registry.specs.declared.entry.Enlisted.TheVariants as enlisted
 use Rattle.alg_registry.specs.declared.entry.EndAnswer.{EndAnswer}
-use Rattle.alg_registry.specs.declared.entry.EndAnswer.TheVariants.{Built, Joined, Failed, NoMemory}
+use Rattle.alg_registry.specs.declared.entry.EndAnswer.TheVariants.{Built, Joined, Failed}
 use Rattle.alg_registry.specs.declared.entry.RegEntry.{RegEntry}
 use Rattle.alg_registry.specs.declared.entry.RegEntry.TheVariants.{Enlist, End, Waited, Refs}
 use Rattle.alg_registry.specs.declared.entry.RegEntry.TheVariants as entry
-use Rattle.alg_registry.specs.Rows.{noted_at, noted, registered_by, registered, unlists, gets, puts, standing, rows_of, first_of, begun_by, claims, ends, end_of, larval_at, larvals_of, is_listed, listed_at}
+use Rattle.alg_registry.specs.Rows.{noted_at, noted, registered_by, registered, unlists, gets, puts, standing, rows_of, first_of, claims, ends, end_of, larvals_of, listed_at}
 use Rattle.alg_registry.specs.Answers.{driver_place, enlist_answer, clashes_with, held_count, built_answer, joined_or_built}
 use Rattle.alg_registry.specs.Legal.{IsRight, LegalReg, is_worker, claimer, ended_as, MayEnd}
 use Rattle.alg_registry.specs.Calls.{ended_larval, new_row, listed_row_of}
 use Rattle.alg_registry.specs.Kept.{IsKept}
 use Rattle.alg_registry.proofs.Standing.{bare, bare-rows_of, standing-from_bare, standing-push, map-push}
-use Rattle.alg_registry.proofs.Steps.{IsQuiet, rows_of-quiet, registered-push, noted-quiet, count_by-push, first_of-push, or_none, bit}
-use Rattle.alg_registry.proofs.Fresh.{IsFresh, fresh-from_legal, length-rows_of, larval-within}
-use Rattle.alg_registry.proofs.Keeping.{IsAside, LeavesLarval, kept-aside, kept_step, larvals_of-left, larvals_of-set, unequal, and_left}
+use Rattle.alg_registry.proofs.Steps.{IsQuiet, rows_of-quiet, registered-push, noted-quiet, first_of-push, or_none}
+use Rattle.alg_registry.proofs.Fresh.{fresh-from_legal, larval-within}
+use Rattle.alg_registry.proofs.Keeping.{IsAside, kept-aside, kept_step, larvals_of-left, larvals_of-set, unequal, and_left}
 
 noted-push : (h : List RegEntry) (first : ℕ) (specs : List Spec) (spec : Spec) (last : ℕ) → last ≡ first + length specs → noted h first (specs ++ spec ∷ []) ≡ noted h first specs ++ noted_at h last spec ∷ []
 noted-push h first [] spec last e = let e' : first ≡ last = omega arith in ap (λ (k : ℕ). noted_at h k spec ∷ []) e'

@@ -1,7 +1,7 @@
 -- What one more entry does to larvals, to what is being built and to the looks for it.
-use Rattle.std.proofs.Common.{◌≡◌, ◌≢◌, ℕ, zero, suc, ◌+◌, ◌<◌, ◌≤◌, Bool, true, false, not, cond, eqb, if◌then◌else◌, List, [], ◌∷◌, ◌++◌, length, refl, ap, sym, ◌∙◌, subst, arith, Option, Some, None, Result, Ok, Err, append_assoc, length-append}
+use Rattle.std.proofs.Common.{◌≡◌, ◌≢◌, ℕ, zero, suc, ◌+◌, ◌<◌, ◌≤◌, Bool, true, false, not, cond, eqb, if◌then◌else◌, List, [], ◌∷◌, ◌++◌, length, refl, ap, sym, ◌∙◌, subst, arith, Option, Some, None, append_assoc, length-append}
 use Rattle.std.specs.Prelude.{slice_get, filter}
-use Rattle.std.specs.List.{filter_map, cons_option, fold, AllByRecursion}
+use Rattle.std.specs.List.{cons_option, AllByRecursion}
 use Rattle.std.specs.Option.{option_or, option_and_then, option_map, option_map_or}
 use Rattle.std.proofs.lemmas.List.{append-nil}
 use Rattle.std.proofs.lemmas.List.Sums.{fold_push}
@@ -14,10 +14,10 @@ use Rattle.alg_registry.specs.declared.entry.RegEntry.{RegEntry}
 use Rattle.alg_registry.specs.declared.entry.RegEntry.TheVariants.{Enlist, Look, Claim, End, Waited, Unlist, Get, Put, Refs}
 use Rattle.alg_registry.specs.declared.entry.RegEntry.TheVariants as entry
 use Rattle.alg_registry.specs.Rows.{begun_by, texts, first_of, ends, claims, larval_at, larvals_from, larvals_of}
-use Rattle.alg_registry.specs.Legal.{ended_as, claimer, LegalReg, MayFollow, IsRight, IsPending}
+use Rattle.alg_registry.specs.Legal.{ended_as, claimer, LegalReg, MayFollow, IsRight}
 use Rattle.alg_registry.specs.Made.{building, building_after, last_of, looks_for, look_for, if_of}
-use Rattle.alg_registry.proofs.Steps.{first_of-push, or_none}
-use Rattle.alg_registry.proofs.Fresh.{fresh-from_legal, larval-within, length-larvals_of}
+use Rattle.alg_registry.proofs.Steps.{first_of-push}
+use Rattle.alg_registry.proofs.Fresh.{fresh-from_legal, length-larvals_of}
 
 pub texts-push : (h : List RegEntry) (e : RegEntry) → texts (h ++ e ∷ []) ≡ texts h ++ cons_option (begun_by e) []
 texts-push h e = filter_map-append begun_by h (e ∷ [])

@@ -1,5 +1,5 @@
 -- How calls end: want of memory changes nothing, and any other answer is recorded.
-use Rattle.std.specs.Prelude.{ℕ, ◌+◌, ◌-◌, ◌≡◌, Bool, true, false, ◌&&◌, if◌then◌else◌, List, ◌++◌, ◌∷◌, [], Option, Some, None, is_none, slice_get, length, Result, Ok, Err, ⊤}
+use Rattle.std.specs.Prelude.{ℕ, ◌+◌, ◌-◌, ◌≡◌, Bool, true, false, ◌&&◌, if◌then◌else◌, List, ◌∷◌, [], Option, Some, None, is_none, slice_get, length, Result, Ok, Err, ⊤}
 use Rattle.std.specs.List.{position_from, filter_map}
 use Rattle.std.specs.Option.{option_map_or, option_map, option_and_then, option_or}
 use Rattle.std.specs.Str.{bytes_eq}

@@ -1,13 +1,12 @@
 -- One run: an instance under cryptd is looked up and built.
-use Rattle.std.specs.Prelude.{ℕ, ◌≡◌, ◌<◌, Bool, true, false, List, [], ◌∷◌, ◌++◌, Option, Some, None, codes, map, Ok, Err, if◌then◌else◌}
+use Rattle.std.specs.Prelude.{ℕ, ◌≡◌, true, false, List, [], ◌∷◌, ◌++◌, Option, Some, codes, map, Ok, Err, if◌then◌else◌, slice_set}
 use Rattle.std.proofs.Common.{refl, ap}
 use Rattle.alg_registry.specs.declared.spec.Kind.TheVariants.{Skcipher}
-use Rattle.alg_registry.specs.declared.spec.Wrap.{Wrap}
 use Rattle.alg_registry.specs.declared.spec.Wrap.TheVariants.{Plain, Cryptd}
 use Rattle.alg_registry.specs.declared.spec.Spec.{Spec}
-use Rattle.alg_registry.specs.declared.entry.Looked.TheVariants.{Found, Began, Absent, Pending}
+use Rattle.alg_registry.specs.declared.entry.Looked.TheVariants.{Found, Began}
 use Rattle.alg_registry.specs.declared.entry.EndAnswer.{EndAnswer}
-use Rattle.alg_registry.specs.declared.entry.EndAnswer.TheVariants.{Built, Joined}
+use Rattle.alg_registry.specs.declared.entry.EndAnswer.TheVariants.{Built}
 use Rattle.alg_registry.specs.declared.entry.RegEntry.{RegEntry}
 use Rattle.alg_registry.specs.declared.entry.RegEntry.TheVariants.{Look, Claim, End, Get, Put, Unlist}
 use Rattle.alg_registry.specs.Rows.{references_of, is_held_at}
@@ -50,19 +49,65 @@ run_legal = (
   ),
 )
 
--- with its first look by a worker
-abbrev pub by_a_worker : List RegEntry
-by_a_worker = Look 1 (codes "cryptd(cbc(aes))") false (Began 0) ∷ []
+-- the run with another entry in the place of one
+abbrev pub with_entry : ℕ → RegEntry → List RegEntry
+with_entry place entry = slice_set run place entry
 
-pub by_a_worker_illegal : LegalReg by_a_worker → ⊥
-by_a_worker_illegal legal = cc (legal.0.0)
+-- the first look is a worker's, who may look for a child alone
+abbrev pub asked_by_worker : List RegEntry
+asked_by_worker = with_entry 0 (Look 1 (codes "cryptd(cbc(aes))") false (Began 0))
 
--- a look that finds what a larval has to build first
-abbrev pub found_early : List RegEntry
-found_early = Look 0 (codes "cryptd(cbc(aes))") false (Found 3) ∷ []
+pub asked_by_worker_illegal : LegalReg asked_by_worker → ⊥
+asked_by_worker_illegal legal = cc (legal.0.0)
 
-pub found_early_illegal : LegalReg found_early → ⊥
-found_early_illegal legal = cc (legal.0.1)
+-- the first claim is of a larval that hasn't begun
+abbrev pub claimed_early : List RegEntry
+claimed_early = with_entry 1 (Claim 0 1)
+
+pub claimed_early_illegal : LegalReg claimed_early → ⊥
+claimed_early_illegal legal = cc (legal.1.0.0)
+
+-- the second look begins a larval of a number that was used
+abbrev pub began_again : List RegEntry
+began_again = with_entry 2 (Look 0 (codes "cbc(aes)") true (Began 0))
+
+pub began_again_illegal : LegalReg began_again → ⊥
+began_again_illegal legal = cc (legal.1.1.0.1)
+
+-- the second claim is of the larval that was claimed before
+abbrev pub claimed_twice : List RegEntry
+claimed_twice = with_entry 3 (Claim 0 0)
+
+pub claimed_twice_illegal : LegalReg claimed_twice → ⊥
+claimed_twice_illegal legal = cc (legal.1.1.1.0.1)
+
+-- the third look finds another entry than the one of that name
+abbrev pub found_another : List RegEntry
+found_another = with_entry 4 (Look 0 (codes "aes") true (Found 1))
+
+pub found_another_illegal : LegalReg found_another → ⊥
+found_another_illegal legal = cc (legal.1.1.1.1.0.1)
+
+-- the first end is by a caller that didn't claim the larval
+abbrev pub ended_by_another : List RegEntry
+ended_by_another = with_entry 5 (End 1 1 (Built 3 cbc_spec))
+
+pub ended_by_another_illegal : LegalReg ended_by_another → ⊥
+ended_by_another_illegal legal = cc (legal.1.1.1.1.1.0.0)
+
+-- the second end registers its instance under an id that was used
+abbrev pub built_again : List RegEntry
+built_again = with_entry 6 (End 0 0 (Built 3 cryptd_spec))
+
+pub built_again_illegal : LegalReg built_again → ⊥
+built_again_illegal legal = cc (legal.1.1.1.1.1.1.0.2)
+
+-- the reference is refused although the entry is listed
+abbrev pub refused_reference : List RegEntry
+refused_reference = with_entry 7 (Get 0 4 false)
+
+pub refused_reference_illegal : LegalReg refused_reference → ⊥
+refused_reference_illegal legal = cc (legal.1.1.1.1.1.1.1.0.1)
 
 -- an instance whose driver of a child was unlisted is found no more
 abbrev pub after_unlist : List RegEntry
@@ -94,13 +139,6 @@ found_after_unlist = run ++ Unlist 0 (codes "aes-generic") (Some 0) ∷ Look 0 (
 
 pub found_after_unlist_illegal : LegalReg found_after_unlist → ⊥
 found_after_unlist_illegal legal = cc (legal.1.1.1.1.1.1.1.1.1.0.1)
-
--- the same claim twice
-abbrev pub claimed_twice : List RegEntry
-claimed_twice = Look 0 (codes "cbc(aes)") false (Began 0) ∷ Claim 0 0 ∷ Claim 1 0 ∷ []
-
-pub claimed_twice_illegal : LegalReg claimed_twice → ⊥
-claimed_twice_illegal legal = cc (legal.1.1.0.1)
 
 -- the references that callers and held entries have at the end of the run
 pub run_references : map (references_of run) (0 ∷ 1 ∷ 2 ∷ 3 ∷ 4 ∷ 5 ∷ []) ≡ 1 ∷ 0 ∷ 0 ∷ 1 ∷ 1 ∷ 0 ∷ []

@@ -10,12 +10,10 @@ ghost use Rattle.alg_registry.specs.Calls.{UnlessMemory, OnMemory, UnlessNoMemor
 use crate::entry::{Claimed, EndAnswer, Ended, Enlisted, Looked, RefAnswer, RegEntry, RegErr};
 use crate::history::RegLog;
 use crate::ids::Ids;
-use crate::larvals::{
-    claim_larval, copy_larval_text, copy_text, end_at, end_larval, larval_to_claim,
-};
+use crate::larvals::{Larvals, copy_text};
 use crate::listing::{Listing, listing_of, newest_held};
 use crate::looking::look_up;
-use crate::row::{Larval, Row};
+use crate::row::Row;
 use crate::rows::{
     add_row, are_listed, clashes, count_held, is_listed_at, place_of_driver, put_row, reserve_row,
     take_row, unlist_row,
@@ -36,7 +34,7 @@ pub struct Registry {
     /// Every entry that ever was, by id.
     rows: Vec<Row>,
     /// Every larval that ever was, by number.
-    larvals: Vec<Larval>,
+    larvals: Larvals,
 }
 
 impl Model for Registry {
@@ -48,7 +46,7 @@ impl Model for Registry {
 
     ghost view = { λ r. r.log };
 
-    ghost invariant = { λ r. IsKept r.log r.rows.items r.larvals.items };
+    ghost invariant = { λ r. IsKept r.log r.rows.items r.larvals.list };
 }
 
 /// What is to become of an instance that was built.
@@ -155,7 +153,7 @@ impl Registry {
             alloc,
             log: RegLog::empty(alloc),
             rows,
-            larvals: Vec::new(alloc),
+            larvals: Larvals::new(alloc),
         })
     }
 
@@ -216,7 +214,7 @@ impl Registry {
         ensures legal { LegalReg self.new }
     {
         let copy = copy_text(self.alloc, text)?;
-        let answer = look_up(&self.rows, &self.larvals, text, plain);
+        let answer = look_up(self.alloc, &self.rows, &self.larvals, text, plain)?;
         let entry = RegEntry::Look {
             caller,
             text: copy,
@@ -225,15 +223,9 @@ impl Registry {
         };
         if let Looked::Began(_) = answer {
             let begun = copy_text(self.alloc, text)?;
-            if self.larvals.reserve(1).is_err() {
-                return Err(RegErr::Memory);
-            }
+            self.larvals.reserve()?;
             self.log.record(entry)?;
-            self.larvals.push_reserved(Larval {
-                text: begun,
-                claimed: None,
-                ended: None,
-            });
+            self.larvals.begin(begun);
             return Ok(answer);
         }
         self.log.record(entry)?;
@@ -255,14 +247,14 @@ impl Registry {
         ensures unended { IfOk result (λ claimed. IfSome claimed (λ it. ended_as self.new it.larval ≡ None)) }
         ensures legal { LegalReg self.new }
     {
-        match larval_to_claim(&self.larvals, larval) {
+        match self.larvals.to_claim(larval) {
             Some(number) => {
-                let text = copy_larval_text(self.alloc, &self.larvals, number)?;
+                let text = self.larvals.copy_text(self.alloc, number)?;
                 self.log.record(RegEntry::Claim {
                     caller,
                     larval: number,
                 })?;
-                claim_larval(&mut self.larvals, number, caller);
+                self.larvals.claim(number, caller);
                 Ok(Some(Claimed {
                     larval: number,
                     text,
@@ -287,7 +279,7 @@ impl Registry {
             larval,
             answer,
         });
-        end_larval(&mut self.larvals, larval, ended);
+        self.larvals.end(larval, ended);
     }
 
     /// Ends a larval with an instance that nothing stands against, or for want of memory.
@@ -313,7 +305,7 @@ impl Registry {
             larval,
             answer: EndAnswer::Built(id, spec),
         });
-        end_larval(&mut self.larvals, larval, Ended::Built(id));
+        self.larvals.end(larval, Ended::Built(id));
         add_row(&mut self.rows, copy);
         Ended::Built(id)
     }
@@ -368,7 +360,7 @@ impl Registry {
         ensures unchanged { OnErr result (self.new ≡ self.old) }
         ensures legal { LegalReg self.new }
     {
-        match end_at(&self.larvals, larval) {
+        match self.larvals.ended(larval) {
             Some(ended) => {
                 self.log.record(RegEntry::Waited { caller, larval })?;
                 Ok(Some(ended))

@@ -1,6 +1,5 @@
-use Rattle.std.proofs.Common.{◌≡◌, ◌+◌, ◌∙◌, List, Option, ◌++◌, [], sym, ap, get_or, take}
+use Rattle.std.proofs.Common.{◌∙◌, ◌++◌, [], sym, ap, take}
 use Rattle.std.specs.List.{cons_option}
-use Rattle.alg_registry.specs.declared.listing.ListRow.{ListRow}
 use Rattle.alg_registry.specs.declared.row.Row.{Row}
 use Rattle.alg_registry.specs.Calls.{shown, listing}
 use Rattle.alg_registry.proofs.Fresh.{filter_map-more}

@@ -1,4 +1,6 @@
-use Rattle.std.proofs.Common.{◌≡◌, List, [], Some, None, sym, subst}
+use Rattle.std.proofs.Common.{◌≡◌, List, [], Some, None, sym, ap, ◌∙◌, subst}
+use Rattle.std.specs.Prelude.{slice_get}
+use Rattle.std.specs.Option.{option_and_then}
 use Rattle.alg_registry.specs.declared.row.Larval.{Larval}
 use Rattle.alg_registry.specs.declared.entry.RegEntry.{RegEntry}
 use Rattle.alg_registry.specs.Legal.{claimer, ended_as, MayEnd}
@@ -12,10 +14,15 @@ settle-requires-clause-owed c =
     let unended : ended_as c.self.inside.log c.args.larval ≡ None = subst (λ (h : List RegEntry). ended_as h c.args.larval ≡ None) (sym c.self.view_is) c.requires.unended in
     owed-end c.self.inside.log c.args.caller c.args.larval c.self.invariant.legal claimed unended
 
-pub end_larval-requires : goal.end_larval-requires
-end_larval-requires c =
+pub end-requires-clause-within : goal.end-requires-clause-within
+end-requires-clause-within c =
     let claimed : claimer c.self.inside.log c.args.larval ≡ Some c.args.caller = subst (λ (h : List RegEntry). claimer h c.args.larval ≡ Some c.args.caller) (sym c.self.view_is) c.requires.claimed in
     claimer-within c.self.inside.log _ c.args.caller c.args.larval c.self.invariant.larvals_are claimed
+
+pub end-requires-clause-pending : goal.end-requires-clause-pending
+end-requires-clause-pending c =
+    let unended : ended_as c.self.inside.log c.args.larval ≡ None = subst (λ (h : List RegEntry). ended_as h c.args.larval ≡ None) (sym c.self.view_is) c.requires.unended in
+    ap (λ (ls : List Larval). option_and_then (λ (larval : Larval). larval.ended) (slice_get ls c.args.larval)) c.self.invariant.larvals_are ∙ unended
 
 pub invariant_of-self : goal.invariant_of-self
 invariant_of-self c =
@@ -23,7 +30,7 @@ invariant_of-self c =
     let claimed : claimer c.self.inside.log c.args.larval ≡ Some c.args.caller = subst (λ (h : List RegEntry). claimer h c.args.larval ≡ Some c.args.caller) (sym c.self.view_is) c.requires.claimed in
     let unended : ended_as c.self.inside.log c.args.larval ≡ None = subst (λ (h : List RegEntry). ended_as h c.args.larval ≡ None) (sym c.self.view_is) c.requires.unended in
     let may : MayEnd c.self.inside.log c.args.answer = subst (λ (h : List RegEntry). MayEnd h c.args.answer) (sym c.self.view_is) c.requires.may in
-    let change = c.end_larval.ensures none in
+    let change = c.end.ensures none in
     kept-end c.self.inside.log _ _ _ _ c.args.caller c.args.larval c.args.answer none c.self.invariant claimed unended may c.requires.none
     c.settle.ensures.appended (rw (sym c.requires.same) change)
 

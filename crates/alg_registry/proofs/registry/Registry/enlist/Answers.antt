@@ -4,7 +4,7 @@ use Rattle.alg_registry.specs.declared.row.Row.{Row}
 use Rattle.alg_registry.specs.declared.entry.Enlisted.TheVariants as enlisted
 use Rattle.alg_registry.specs.declared.spec.Spec.{Spec}
 use Rattle.alg_registry.specs.Calls.{listed_row_of}
-use Rattle.alg_registry.specs.Answers.{clashes_with, enlist_answer, held_count}
+use Rattle.alg_registry.specs.Answers.{clashes_with, held_count}
 use Rattle.alg_registry.proofs.Registering.{kept-made, kept-refused, enlist-exist, enlist-full, enlist-made}
 use Rattle.alg_registry.proofs.registry.Registry.enlist.Goals as goal
 

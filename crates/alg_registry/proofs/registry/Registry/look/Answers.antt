@@ -1,6 +1,6 @@
-use Rattle.std.proofs.Common.{◌≡◌, ◌≢◌, ◌++◌, ◌∷◌, [], List, sym, ap, ◌∙◌, subst}
+use Rattle.std.proofs.Common.{◌≡◌, List, ap, ◌∙◌, subst}
 use Rattle.alg_registry.specs.declared.entry.RegEntry.{RegEntry}
-use Rattle.alg_registry.specs.declared.entry.RegEntry.TheVariants.{Look}
+use Rattle.alg_registry.specs.declared.row.Row.{Row}
 use Rattle.alg_registry.specs.Rows.{rows_of, larvals_of}
 use Rattle.alg_registry.specs.Answers.{look_answer}
 use Rattle.alg_registry.specs.Legal.{LegalReg}
@@ -10,12 +10,16 @@ use Rattle.alg_registry.proofs.registry.Registry.look.Goals as goal
 -- the larval that begins is the last
 pub invariant_of-self-in-Began : goal.invariant_of-self-in-Began
 invariant_of-self-in-Began c =
-    kept-began _ _ _ _ _ c.args.caller c.args.text.now c.args.plain c.look_up-answer.result c.in-Began.field-0 c.self.invariant c.requires (cc) c.in-Began.is
-    (cc (c.in_ok-record.ensures.ok, c.in_ok-copy.ensures.ok)) (cc (c.reserve.ensures.items, c.push_reserved.ensures.items, c.in_ok-begun.ensures.ok))
+    let is : c.in_ok-answer.answer ≡ look_answer c.self.inside.rows.items c.self.inside.larvals.list c.args.text.now c.args.plain =
+    c.in_ok-answer.ensures.ok ∙ ap (λ (rs : List Row). look_answer rs c.self.inside.larvals.list c.args.text.now c.args.plain) c.deref.ensures.value in
+    kept-began _ _ _ _ _ c.args.caller c.args.text.now c.args.plain c.in_ok-answer.answer c.in-Began.field-0 c.self.invariant c.requires is c.in-Began.is
+    (cc (c.in_ok-record.ensures.ok, c.in_ok-copy.ensures.ok)) (cc (c.reserve.ensures.list, c.begin.ensures, c.in_ok-begun.ensures.ok))
 
 pub invariant_of-self-2 : goal.invariant_of-self-2
 invariant_of-self-2 c =
-    kept-look _ _ _ _ c.args.caller c.args.text.now c.args.plain c.look_up-answer.result c.self.invariant c.requires (cc) c.in_default.not-Began
+    let is : c.in_ok-answer.answer ≡ look_answer c.self.inside.rows.items c.self.inside.larvals.list c.args.text.now c.args.plain =
+    c.in_ok-answer.ensures.ok ∙ ap (λ (rs : List Row). look_answer rs c.self.inside.larvals.list c.args.text.now c.args.plain) c.deref.ensures.value in
+    kept-look _ _ _ _ c.args.caller c.args.text.now c.args.plain c.in_ok-answer.answer c.self.invariant c.requires is c.in_default.not-Began
     (cc (c.in_ok-record-2.ensures.ok, c.in_ok-copy.ensures.ok))
 
 pub returns-in-Began-clause-legal : goal.returns-in-Began-clause-legal
@@ -24,9 +28,9 @@ returns-in-Began-clause-legal c = (invariant_of-self-in-Began c).legal
 pub returns : goal.returns
 returns c =
     let rows : c.deref.result.now ≡ rows_of c.args.self.now = c.deref.ensures.value ∙ (c.self.invariant.rows_are ∙ ap (λ (h : List RegEntry). rows_of h) c.self.view_is) in
-    let larvals : c.deref-2.result.now ≡ larvals_of c.args.self.now = c.deref-2.ensures.value ∙ (c.self.invariant.larvals_are ∙ ap (λ (h : List RegEntry). larvals_of h) c.self.view_is) in
+    let larvals : c.self.inside.larvals.list ≡ larvals_of c.args.self.now = c.self.invariant.larvals_are ∙ ap (λ (h : List RegEntry). larvals_of h) c.self.view_is in
     record {
-      answer = c.look_up-answer.ensures ∙ (λ i. look_answer (rows i) (larvals i) c.args.text.now c.args.plain);
+      answer = c.in_ok-answer.ensures.ok ∙ (λ i. look_answer (rows i) (larvals i) c.args.text.now c.args.plain);
       history = cc (c.in_ok-record-2.ensures.ok, c.in_ok-copy.ensures.ok, c.self.view_is);
       memory = tt;
       unchanged = tt;

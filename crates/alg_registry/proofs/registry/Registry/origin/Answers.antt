@@ -1,4 +1,4 @@
-use Rattle.std.proofs.Common.{◌≡◌, List, Option, Result, Ok, Err, sym, ap, ◌∙◌}
+use Rattle.std.proofs.Common.{◌≡◌, List, Option, Result, Ok, Err, ap, ◌∙◌}
 use Rattle.std.specs.Prelude.{IfOk, slice_get}
 use Rattle.std.specs.Option.{option_map}
 use Rattle.alg_registry.specs.declared.spec.Spec.{Spec}
