@@ -1,0 +1,81 @@
+//! Sealing and opening.
+
+ghost use Rattle.std.specs.Prelude.{◌≡◌, ◌≤◌, length};
+ghost use Rattle.std_defs.specs.Authenc.{authenc_seal, authenc_open};
+ghost use Rattle.aes_block.specs.Opened.{Opens};
+ghost use Rattle.aes_block.specs.Outcome.{Becomes};
+
+use aes_block::Skcipher;
+use hmac_sha::Mac;
+use kc_base::Errno;
+use std::marker::Model;
+
+/// A cipher and a MAC, each under its key, seen as the MAC's key block and the cipher. No call takes memory.
+#[derive(Drop)]
+pub struct Authenc<S: Skcipher + Drop> {
+    mac: Mac,
+    cipher: S,
+}
+
+impl<S: Skcipher + Drop> Model for Authenc<S> {
+    ghost use Rattle.std.specs.Prelude.{ℕ, List};
+
+    ghost Value = { List ℕ × S };
+
+    ghost view = { λ a. (a.mac, a.cipher) };
+}
+
+impl<S: Skcipher + Drop> Authenc<S> {
+    /// authenc over a MAC and a cipher.
+    pub fn new(mac: Mac, cipher: S) -> Authenc<S>
+        ensures { result ≡ (mac, cipher) }
+    {
+        Authenc { mac, cipher }
+    }
+
+    /// The cipher that it was made with.
+    pub fn cipher(&self) -> &S
+        ensures { result.now ≡ self.now.1 }
+    {
+        &self.cipher
+    }
+
+    /// Seals the text `b` in place under an IV of the cipher's length, and writes the whole MAC of the associated bytes
+    /// and the ciphertext into `tag`. `EINVAL` exactly where the cipher doesn't take a text of that length; `b` and
+    /// `tag` are then unchanged.
+    pub fn seal(
+        &self,
+        iv: &[u8],
+        associated: &[u8],
+        b: &mut [u8],
+        tag: &mut [u8; 32],
+    ) -> Result<(), Errno>
+        requires { length iv.now ≡ S.iv_size self.now.1 }
+        ensures { Becomes result (authenc_seal self.now.0 (S.seals self.now.1 iv.now) associated.now b.old) (b.old, tag.old) (b.new, tag.new) }
+    {
+        self.cipher.seal(iv, b)?;
+        *tag = self.mac.mac(associated, b);
+        Ok(())
+    }
+
+    /// Opens the text `b` in place under an IV of the cipher's length and a tag of at most 32 bytes. The tag is compared
+    /// first: `EBADMSG` exactly where it isn't the front of the MAC of the associated bytes and `b`. Then `EINVAL` exactly
+    /// where the cipher doesn't take a text of that length. `b` is unchanged after both.
+    pub fn unseal(
+        &self,
+        iv: &[u8],
+        associated: &[u8],
+        b: &mut [u8],
+        tag: &[u8],
+    ) -> Result<(), Errno>
+        requires iv_fits { length iv.now ≡ S.iv_size self.now.1 }
+        requires tag_fits { length tag.now ≤ 32 }
+        ensures { Opens result (authenc_open self.now.0 (S.unseals self.now.1 iv.now) associated.now b.old tag.now) b.old b.new }
+    {
+        let full = self.mac.mac(associated, b);
+        if &full[..tag.len()] != tag {
+            return Err(Errno::EBADMSG);
+        }
+        self.cipher.unseal(iv, b)
+    }
+}

@@ -1,0 +1,9 @@
+//! CBC (NIST SP 800-38A 6.2) over any cipher of blocks.
+#![tactic(auto)]
+
+mod blocks;
+mod cbc;
+#[cfg(test)]
+mod tests;
+
+pub use cbc::Cbc;

@@ -1,0 +1,154 @@
+//! cryptd: a bounded queue whose jobs are served one at a time, in order, and that can be held.
+#![tactic(auto)]
+
+#[cfg(test)]
+mod tests;
+
+ghost use Rattle.std.specs.Prelude.{◌≡◌, ℕ, ◌+◌, ◌-◌, ◌*◌, ◌^◌, ◌<◌, ◌≤◌, Bool, true, false, ◌||◌, List, [], ◌∷◌, ◌++◌, length, IfOk, OnOk, MatchOption, ◌⊎◌};
+ghost use Rattle.kc_base.specs.declared.callback_list.Callback.TheVariants as Callback;
+ghost use Rattle.request_queue.specs.Line.{accepted, verdict_on, line_after, number_at_bound};
+ghost use Rattle.cryptd.specs.Server.{started_callback, spare_after};
+
+use kc_base::{Callback, Callbacks};
+use request_queue::{Queue, Served, Verdict};
+use std::alloc::{AllocError, Global};
+use std::collections::VecDeque;
+use std::marker::Model;
+
+/// A bounded queue that is served one job after another, and tells of each backlogged job when it has started, and of each
+/// job its outcome.
+#[derive(Drop)]
+pub struct Cryptd<J, F> {
+    queue: Queue<J>,
+    held: bool,
+    busy: bool,
+    pending: VecDeque<Callback<F>>,
+    spare: usize,
+}
+
+impl<J, F> Model for Cryptd<J, F> {
+    ghost use Rattle.std.specs.Prelude.{◌+◌, ◌*◌, ◌≤◌, length, if◌then◌else◌};
+    ghost use Rattle.std.specs.VecDeque.{deque_len, deque_capacity};
+    ghost use Rattle.cryptd.specs.Server.{Server};
+
+    ghost Value = { Server J F };
+
+    ghost view = { λ c. record { line = c.queue; held = c.held; busy = c.busy; pending = c.pending.items; spare = c.spare } };
+
+    ghost invariant = { λ c. (c.spare ≤ c.queue.spare) × (deque_len c.pending + 2 * (length c.queue.waiting + c.spare) + (if c.busy then 1 else 0) ≤ deque_capacity c.pending) };
+}
+
+impl<J: Drop, F: Drop> Cryptd<J, F> {
+    /// An empty queue with room for no job, neither held nor busy.
+    pub fn new(alloc: Global, max: u32) -> Result<Cryptd<J, F>, AllocError>
+        requires { 1 ≤ max }
+        ensures { IfOk result (λ server. server ≡ record { line = record { max = max; served = 0; waiting = []; spare = 0 }; held = false; busy = false; pending = []; spare = 0 }) }
+    {
+        Ok(Cryptd {
+            queue: Queue::new(alloc, max)?,
+            held: false,
+            busy: false,
+            pending: VecDeque::new(alloc),
+            spare: 0,
+        })
+    }
+
+    /// Makes room for `n` more jobs at least, and for what is told of them. Want of memory leaves the rest as it was.
+    pub fn reserve(&mut self, n: usize) -> Result<(), AllocError>
+        ensures same { record self.new { spare = 0; line = record self.new.line { spare = 0 } } ≡ record self.old { spare = 0; line = record self.old.line { spare = 0 } } }
+        ensures room { OnOk result (n ≤ self.new.spare) }
+        ensures kept { self.old.spare ≤ self.new.spare }
+    {
+        if n <= self.spare {
+            return Ok(());
+        }
+        self.queue.reserve(n)?;
+        let Some(jobs) = n.checked_add(self.queue.len()) else {
+            return Err(AllocError);
+        };
+        let Some(twice) = jobs.checked_mul(2) else {
+            return Err(AllocError);
+        };
+        let Some(more) = twice.checked_add(1) else {
+            return Err(AllocError);
+        };
+        self.pending.reserve(more)?;
+        self.spare = n;
+        Ok(())
+    }
+
+    /// Accepts the job where fewer than `max` wait, and past that into the backlog where `backlog` permits it. Otherwise
+    /// hands it back. `number` is how many were accepted before. There must be room for one.
+    pub fn enqueue(&mut self, number: u64, job: J, backlog: bool) -> Verdict<J>
+        requires spare { 1 ≤ self.old.spare }
+        requires number { number ≡ accepted self.old.line }
+        requires small { number < 2 ^ 63 }
+        ensures verdict { result ≡ verdict_on (length self.old.line.waiting) self.old.line.max backlog job }
+        ensures server { self.new ≡ record self.old { line = line_after self.old.line job result; spare = spare_after self.old.spare result } }
+    {
+        let verdict = self.queue.enqueue(number, job, backlog);
+        match &verdict {
+            Verdict::InProgress | Verdict::Busy => self.spare -= 1,
+            Verdict::NoSpace(_) => {}
+        }
+        verdict
+    }
+
+    /// From now on no job is served.
+    pub fn hold(&mut self)
+        ensures { self.new ≡ record self.old { held = true } }
+    {
+        self.held = true;
+    }
+
+    /// Jobs are served again.
+    pub fn go(&mut self)
+        ensures { self.new ≡ record self.old { held = false } }
+    {
+        self.held = false;
+    }
+
+    /// Hands out the first job, or `None` exactly where the queue is held, busy or empty. It is busy from then on.
+    pub fn serve(&mut self) -> Option<Served<J>>
+        ensures { MatchOption result (((self.old.held ≡ true) ⊎ ((self.old.busy ≡ true) ⊎ (self.old.line.waiting ≡ []))) × (self.new ≡ self.old)) (λ s. (self.old.held ≡ false) × (self.old.busy ≡ false) × (s.number ≡ self.old.line.served) × (s.started ≡ number_at_bound self.old.line) × (self.old.line.waiting ≡ s.item ∷ self.new.line.waiting) × (self.new ≡ record self.old { line = record self.old.line { served = self.old.line.served + 1; waiting = self.new.line.waiting }; busy = true; pending = self.old.pending ++ started_callback s.started })) }
+    {
+        if self.held || self.busy {
+            return None;
+        }
+        let served = self.queue.dequeue()?;
+        self.busy = true;
+        if let Some(number) = served.started {
+            let _ = self.pending.push_back(Callback::Started(number));
+        }
+        Some(served)
+    }
+
+    /// Records the outcome of the job that runs, by its number.
+    pub fn done(&mut self, number: u64, out: F)
+        requires runs { self.old.busy ≡ true }
+        requires number { number + 1 ≡ self.old.line.served }
+        ensures { self.new ≡ record self.old { busy = false; pending = self.old.pending ++ Callback.Done number out ∷ [] } }
+    {
+        let _ = self.pending.push_back(Callback::Done(number, out));
+        self.busy = false;
+    }
+
+    /// How many callbacks are not collected yet.
+    pub fn pending(&self) -> usize
+        ensures { result ≡ length self.now.pending }
+    {
+        self.pending.len()
+    }
+
+    /// Hands out all callbacks that are not collected yet.
+    pub fn collect(&mut self, into: &mut Callbacks<F>)
+        requires { length self.old.pending ≤ into.old.spare }
+        ensures handed { into.new.list ≡ into.old.list ++ self.old.pending }
+        ensures spare { into.new.spare + length self.old.pending ≡ into.old.spare }
+        ensures server { self.new ≡ record self.old { pending = [] } }
+    {
+        while let Some(callback) = self.pending.pop_front() {
+            into.push(callback);
+        }
+    }
+}

@@ -1,0 +1,26 @@
+-- What a run does to its source and its sink, where these tell their bytes.
+use Rattle.std.specs.Prelude.{ℕ, ◌^◌, ◌<◌, ◌↔◌, List, length, Option}
+use Rattle.std.specs.Io.KnownBytes.{Consumes, Appends}
+use Rattle.kc_base.specs.declared.transfer.InputError.{InputError}
+use Rattle.kc_base.specs.declared.transfer.InputError.TheVariants as input
+use Rattle.kc_base.specs.declared.transfer.SinkError.{SinkError}
+use Rattle.kc_base.specs.declared.transfer.SinkError.TheVariants as output
+use Rattle.crypto_script.specs.declared.program.RunError.{RunError}
+use Rattle.crypto_script.specs.declared.program.RunError.TheVariants.{ReadFault, WriteFault, NoMemory, TooLong}
+
+abbrev pub of_input : InputError → RunError
+of_input input.Failed = ReadFault
+of_input input.NoMemory = NoMemory
+of_input input.TooLong = TooLong
+
+abbrev pub of_output : SinkError → RunError
+of_output output.Failed = WriteFault
+of_output output.NoMemory = NoMemory
+
+-- Some bytes were read, and there are more than 2 ^ 28 of them exactly where this holds.
+abbrev pub ReadsUpTo : Option (List ℕ) → Option (List ℕ) → Type 0 → Type 0
+ReadsUpTo old new is_too_long = (part : List ℕ) × Consumes old new part × (is_too_long ↔ (2 ^ 28 < length part))
+
+-- the sink has gained bytes of which this holds
+abbrev pub Gains : Option (List ℕ) → Option (List ℕ) → (List ℕ → Type 0) → Type 0
+Gains old new P = (gained : List ℕ) × P gained × Appends old new gained

@@ -1,0 +1,39 @@
+//! A script of the crypto API on standard input, answered line by line on standard output.
+#![tactic(auto)]
+
+mod adapters;
+mod answers;
+mod program;
+#[cfg(test)]
+mod tests;
+
+
+
+use adapters::{StdSink, StdSource};
+use program::{NO_MEMORY, USAGE, run};
+use std::process::ExitCode;
+use std::{env, io};
+
+// The arguments without the program's name.
+fn words(rt: &HostRuntime) -> io::Result<Vec<String>> {
+    let mut words = Vec::new(rt.alloc());
+    for word in env::args(rt)?.skip(1) {
+        words.push(word)?;
+    }
+    Ok(words)
+}
+
+fn main(rt: HostRuntime) -> ExitCode {
+    let words = match words(&rt) {
+        Ok(words) => words,
+        Err(error) if error.kind() == io::ErrorKind::OutOfMemory => {
+            return ExitCode::from(NO_MEMORY);
+        }
+        // a word that isn't UTF-8 is no command
+        Err(_) => return ExitCode::from(USAGE),
+    };
+    let mut source = StdSource::new(rt.reader());
+    let mut sink = StdSink::new(io::writer(&rt));
+    let outcome = run(rt.alloc(), &words, &mut source, &mut sink);
+    ExitCode::from(outcome.status)
+}

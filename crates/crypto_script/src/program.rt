@@ -1,0 +1,201 @@
+//! The whole program, from the bytes read to the bytes written.
+
+ghost use Rattle.std.specs.Prelude.{◌≡◌, ◌+◌, ◌^◌, ◌<◌, ◌≤◌, ◌↔◌, ◌⊎◌, List, ℕ, [], Some, length, MatchResult, IfOk, IfErr, IfSome, IsErrOf, IsTrue, string_bytes, vec_len};
+ghost use Rattle.std.specs.List.{list_any};
+ghost use Rattle.std.specs.Io.KnownBytes.{Consumes, Appends, IsAtEnd};
+ghost use Rattle.kc_base.specs.Streams.{AppendsFront, Rose};
+ghost use Rattle.script_text.specs.Script.{line_of, script_of};
+ghost use Rattle.crypto_script.specs.Text.{line_text, text_from, IsText, IsFrontText, is_malformed};
+ghost use Rattle.crypto_script.specs.declared.program.RunError.TheVariants.{NoMemory};
+ghost use Rattle.crypto_script.specs.Runs.{of_input, of_output, ReadsUpTo, Gains};
+
+use crate::answers::{answer_line, answer_text};
+use kc_base::{InputError, Sink, SinkError, Source, read_input, write_piece};
+use script_text::{Line, first_line, read_line};
+use std::alloc::{AllocError, Global};
+
+/// The most bytes of input.
+pub const MAX_INPUT: usize = 268_435_456;
+
+const BUFFER: usize = 65_536;
+
+/// The status where the words are no command.
+pub const USAGE: u8 = 2;
+
+/// The status where memory is wanting.
+pub const NO_MEMORY: u8 = 5;
+
+/// How a run ended.
+#[derive(Clone, Copy, Debug, PartialEq, Eq)]
+pub struct Outcome {
+    /// The program's exit status.
+    pub status: u8,
+}
+
+// Why a run did not reach the end.
+#[derive(Clone, Copy, Debug, PartialEq, Eq)]
+enum RunError {
+    ReadFault,
+    WriteFault,
+    NoMemory,
+    TooLong,
+}
+
+impl From<AllocError> for RunError {
+    ghost from_gives = { λ _ e. e ≡ NoMemory };
+
+    fn from(_: AllocError) -> Self {
+        RunError::NoMemory
+    }
+}
+
+impl From<InputError> for RunError {
+    ghost from_gives = { λ e r. r ≡ of_input e };
+
+    fn from(error: InputError) -> Self {
+        match error {
+            InputError::Failed => RunError::ReadFault,
+            InputError::NoMemory => RunError::NoMemory,
+            InputError::TooLong => RunError::TooLong,
+        }
+    }
+}
+
+impl From<SinkError> for RunError {
+    ghost from_gives = { λ e r. r ≡ of_output e };
+
+    fn from(error: SinkError) -> Self {
+        match error {
+            SinkError::Failed => RunError::WriteFault,
+            SinkError::NoMemory => RunError::NoMemory,
+        }
+    }
+}
+
+fn is_malformed_line(line: &Line) -> bool
+    ensures { result ≡ is_malformed line.now }
+{
+    matches!(line, Line::Malformed)
+}
+
+// The text of the answer to a line: none, where it has no answer.
+fn text_for(alloc: Global, number: u32, line: Line) -> Result<String, AllocError>
+    ensures { IfOk result (λ text. string_bytes text ≡ line_text number line) }
+{
+    match answer_line(alloc, number, line)? {
+        Some(answer) => answer_text(alloc, &answer),
+        None => Ok(String::new(alloc)),
+    }
+}
+
+// Answers one line in one piece, and says whether it is malformed.
+fn run_line<K: Sink>(
+    alloc: Global,
+    number: u32,
+    line: &[u8],
+    out: &mut K,
+) -> Result<bool, SinkError>
+    ensures bytes { MatchResult result
+        (λ _. Appends (K.held out.old) (K.held out.new) (line_text number (line_of line.now)))
+        (λ _. AppendsFront (K.held out.old) (K.held out.new) (line_text number (line_of line.now))) }
+    ensures malformed { IfOk result (λ bad. bad ≡ is_malformed (line_of line.now)) }
+    ensures later { K.faults out.old ≤ K.faults out.new }
+    ensures cause { IsErrOf result SinkError.Failed → Rose (K.faults out.old) (K.faults out.new) }
+{
+    let said = read_line(alloc, line)?;
+    let malformed = is_malformed_line(&said);
+    let text = text_for(alloc, number, said)?;
+    write_piece(out, text.as_bytes())?;
+    Ok(malformed)
+}
+
+// Answers each line of the input, and says whether one of them is malformed.
+fn run_lines<K: Sink>(alloc: Global, input: &[u8], out: &mut K) -> Result<bool, SinkError>
+    requires { length input.now ≤ 2 ^ 28 }
+    ensures bytes { MatchResult result
+        (λ _. Appends (K.held out.old) (K.held out.new) (text_from 1 (script_of input.now)))
+        (λ _. AppendsFront (K.held out.old) (K.held out.new) (text_from 1 (script_of input.now))) }
+    ensures malformed { IfOk result (λ bad. bad ≡ list_any is_malformed (script_of input.now)) }
+    ensures later { K.faults out.old ≤ K.faults out.new }
+    ensures cause { IsErrOf result SinkError.Failed → Rose (K.faults out.old) (K.faults out.new) }
+{
+    let mut rest = input;
+    let mut number = 1u32;
+    let mut malformed = false;
+    while !rest.is_empty() {
+        let (line, more) = first_line(rest);
+        let bad = run_line(alloc, number, line, out)?;
+        malformed |= bad;
+        rest = more;
+        number += 1;
+    }
+    Ok(malformed)
+}
+
+// A buffer. Its length is a parameter, so that no proof counts it out.
+fn zeros(alloc: Global, count: usize) -> Result<Vec<u8>, AllocError>
+    ensures { IfOk result (λ buffer. vec_len buffer ≡ count) }
+{
+    vec![in alloc; 0u8; count]
+}
+
+// Reads the input whole and answers it. It says whether a line is malformed.
+fn run_script<S: Source, K: Sink>(alloc: Global, src: &mut S, out: &mut K) -> Result<bool, RunError>
+    ensures read { ReadsUpTo (S.left src.old) (S.left src.new) (IsErrOf result RunError.TooLong) }
+    ensures ended { IfOk result (λ _. IfSome (S.left src.old) (λ _. S.left src.new ≡ Some [])) }
+    ensures whole { IfOk result (λ _. IfSome (S.left src.old) (λ script. Gains (K.held out.old) (K.held out.new) (IsText (script_of script)))) }
+    ensures malformed { IfOk result (λ bad. IfSome (S.left src.old) (λ script. bad ≡ list_any is_malformed (script_of script))) }
+    ensures front { IfSome (S.left src.old) (λ script. Gains (K.held out.old) (K.held out.new) (IsFrontText (script_of script))) }
+    ensures read_fault { IsErrOf result RunError.ReadFault → Rose (S.faults src.old) (S.faults src.new) }
+    ensures write_fault { IsErrOf result RunError.WriteFault → Rose (K.faults out.old) (K.faults out.new) }
+{
+    let mut buffer = zeros(alloc, BUFFER)?;
+    let input = read_input(alloc, src, &mut buffer, MAX_INPUT)?;
+    Ok(run_lines(alloc, input.as_slice(), out)?)
+}
+
+/// Does all that the program does: reads a script from the source, and writes the answers of its lines, each in one
+/// piece, to the sink. The words are the program's arguments without its name.
+///
+/// | status | comes |
+/// |---|---|
+/// | 0 | the run reached the end, and no line is malformed |
+/// | 1 | the run reached the end, and a line is malformed |
+/// | 2 | the words are no command: there is none |
+/// | 3, 4 | the source, the sink failed |
+/// | 5 | memory is wanting |
+/// | 6 | the source has more than 2^28 bytes |
+pub fn run<S: Source, K: Sink>(alloc: Global, words: &[String], src: &mut S, out: &mut K) -> Outcome
+    // A run that reaches the end has read the script whole, and written its text.
+    ensures ended { result.status ≤ 1 → IfSome (S.left src.old) (λ _. S.left src.new ≡ Some []) }
+    ensures whole { result.status ≤ 1 → IfSome (S.left src.old) (λ script. Gains (K.held out.old) (K.held out.new) (IsText (script_of script))) }
+    ensures malformed { result.status ≤ 1 → IfSome (S.left src.old) (λ script. (result.status ≡ 1) ↔ IsTrue (list_any is_malformed (script_of script))) }
+
+    // However a run ends, what it has written is a front of the text.
+    ensures front { IfSome (S.left src.old) (λ script. Gains (K.held out.old) (K.held out.new) (IsFrontText (script_of script))) }
+
+    // Each other status has its cause. That of 5 is want of memory.
+    ensures usage { (result.status ≡ 2) ↔ (0 < length words.now) }
+    ensures untouched { result.status ≡ 2 → (src.new ≡ src.old) × (out.new ≡ out.old) }
+    ensures read_fault { result.status ≡ 3 → Rose (S.faults src.old) (S.faults src.new) }
+    ensures write_fault { result.status ≡ 4 → Rose (K.faults out.old) (K.faults out.new) }
+    ensures too_long { ReadsUpTo (S.left src.old) (S.left src.new) (result.status ≡ 6) }
+    ensures known { result.status ≤ 6 }
+
+    // A command over streams that don't fail, and a script within the limit, reaches the end where memory suffices.
+    ensures complete { length words.now ≡ 0 → ¬ (Rose (S.faults src.old) (S.faults src.new)) → ¬ (Rose (K.faults out.old) (K.faults out.new))
+        → IfSome (S.left src.old) (λ script. length script ≤ 2 ^ 28 → (result.status ≤ 1) ⊎ (result.status ≡ 5)) }
+{
+    if !words.is_empty() {
+        return Outcome { status: USAGE };
+    }
+    let status = match run_script(alloc, src, out) {
+        Ok(false) => 0,
+        Ok(true) => 1,
+        Err(RunError::ReadFault) => 3,
+        Err(RunError::WriteFault) => 4,
+        Err(RunError::NoMemory) => NO_MEMORY,
+        Err(RunError::TooLong) => 6,
+    };
+    Outcome { status }
+}

@@ -1,0 +1,13 @@
+//! CTR (NIST SP 800-38A 6.5) over any cipher of blocks, its form of RFC 3686, and the key stream under both.
+#![tactic(auto)]
+
+mod counter;
+mod ctr;
+mod key_stream;
+mod rfc3686;
+#[cfg(test)]
+mod tests;
+
+pub use ctr::Ctr;
+pub use key_stream::{CounterBlocks, apply_key_stream};
+pub use rfc3686::Rfc3686;

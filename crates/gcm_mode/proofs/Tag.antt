@@ -1,0 +1,45 @@
+-- The tag's block: GHASH carried on over the associated bytes, the ciphertext and the lengths.
+use Rattle.std.proofs.Common.{◌≡◌, ℕ, zero, ◌^◌, ◌<◌, sym, ap, ◌∙◌, arith, List, [], ◌∷◌, ◌++◌, length, get_or, bit_xor, All, lit<}
+use Rattle.std.proofs.lemmas.List.Elements.{All-append}
+use Rattle.std_defs.specs.GhashField.{field_product, field_power, ghash}
+use Rattle.std_defs.specs.Gcm.{BlockFunction, hash_subkey, padded_blocks, lengths_block, gcm_hash}
+use Rattle.std_defs.proofs.Horner.{horner, horner-ghash, horner-is_ghash, ghash-append, ghash-push}
+use Rattle.std_defs.proofs.PaddedBlocks.{padded_blocks-fit}
+
+-- what `absorb` ensures of a value y before the blocks
+abbrev pub carried : ℕ → ℕ → List ℕ → ℕ
+carried h y blocks = bit_xor (field_product y (field_power h (length blocks))) (ghash h blocks)
+
+-- the value after the associated bytes is `first`, and after the text `second`
+pub carried-gcm_hash : (cipher : BlockFunction) (h first second : ℕ) (associated text : List ℕ) → h ≡ hash_subkey cipher → h < 2 ^ 128
+    → ((i : ℕ) → get_or associated i zero < 256) → ((i : ℕ) → get_or text i zero < 256)
+    → length associated < 2 ^ 32 → length text < 2 ^ 32
+    → first < 2 ^ 128 → first ≡ carried h 0 (padded_blocks associated) → second ≡ carried h first (padded_blocks text)
+    → field_product (bit_xor second (lengths_block associated text)) h ≡ gcm_hash cipher associated text
+unfolding gcm_hash lengths_block
+carried-gcm_hash cipher h first second associated text is fits small_a small_t short_a short_t range is_first is_second =
+    ap (λ (y : ℕ). field_product (bit_xor y (lengths_block associated text)) h) after_both
+    ∙ ghash-push h (a ++ t) (lengths_block associated text) fits (All-append (λ b. b < 2 ^ 128) a t fit_a fit_t) (omega arith)
+    ∙ ap (λ (k : ℕ). ghash k (a ++ t ++ lengths_block associated text ∷ [])) is
+  where
+    a : List ℕ
+    a = padded_blocks associated
+
+    t : List ℕ
+    t = padded_blocks text
+
+    fit_a : All (λ b. b < 2 ^ 128) a
+    fit_a = padded_blocks-fit associated small_a
+
+    fit_t : All (λ b. b < 2 ^ 128) t
+    fit_t = padded_blocks-fit text small_t
+
+    after_first : first ≡ ghash h a
+    after_first = is_first ∙ sym (horner-ghash h 0 a fits (lit< tt) fit_a) ∙ horner-is_ghash h a fits fit_a
+
+    after_both : second ≡ ghash h (a ++ t)
+    after_both =
+        is_second
+        ∙ sym (horner-ghash h first t fits range fit_t)
+        ∙ ap (λ (y : ℕ). horner h y t) after_first
+        ∙ ghash-append h a t fits fit_a fit_t

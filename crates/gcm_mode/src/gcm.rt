@@ -1,0 +1,111 @@
+//! GCM under a key.
+
+ghost use Rattle.std.specs.Prelude.{◌≡◌, ◌^◌, ◌<◌, ◌≤◌, ℕ, length, take, IsTrue, Some};
+ghost use Rattle.std_defs.specs.Gcm.{hash_subkey, gcm_tag, gcm_seal, gcm_open, gcm_takes_tag};
+ghost use Rattle.std_defs.specs.Value.{or_bad_message};
+ghost use Rattle.aes_block.specs.Opened.{Opens};
+
+use crate::counter::{apply_key_stream, first_counter, pre_counter};
+use aes_block::BlockCipher;
+use ghash_field::{GhashKey, absorb, block_bytes};
+use kc_base::Errno;
+use std::marker::Model;
+
+/// Whether a tag of `len` bytes is taken: 4, 8, or 12 to 16 of them (5.2.1.2).
+pub fn takes_gcm_tag(len: usize) -> bool
+    ensures { result ≡ gcm_takes_tag len }
+{
+    matches!(len, 4 | 8 | 12..=16)
+}
+
+/// A block cipher under a key, and the hash subkey that it gives. Contracts see it as the cipher.
+#[derive(Drop)]
+pub struct Gcm<C: BlockCipher + Drop, H: GhashKey + Drop> {
+    cipher: C,
+    key: H,
+}
+
+impl<C: BlockCipher + Drop, H: GhashKey + Drop> Model for Gcm<C, H> {
+    ghost Value = { C };
+
+    ghost view = { λ gcm. gcm.cipher };
+
+    ghost invariant = { λ gcm. H.block gcm.key ≡ hash_subkey (C.sealed gcm.cipher) };
+}
+
+impl<C: BlockCipher + Drop, H: GhashKey + Drop> Gcm<C, H> {
+    /// Seals the block of zeros for the hash subkey (7.1, step 1).
+    pub fn new(cipher: C) -> Gcm<C, H>
+        ensures { result ≡ cipher }
+    {
+        let mut subkey = [0u8; 16];
+        cipher.seal_block(&mut subkey);
+        let key = H::new(subkey);
+        Gcm { cipher, key }
+    }
+
+    /// The cipher that was given.
+    pub fn cipher(&self) -> &C
+        ensures { result.now ≡ self.now }
+    {
+        &self.cipher
+    }
+
+    /// The bytes of an IV.
+    pub fn iv_len(&self) -> usize
+        ensures { result ≡ 12 }
+    {
+        12
+    }
+
+    /// Makes the ciphertext of `text` in its place, and its full tag (7.1). What is sealed opens again, under each front of
+    /// the tag.
+    pub fn seal(&self, iv: &[u8; 12], associated: &[u8], text: &mut [u8], tag: &mut [u8; 16])
+        requires associated_short { length associated.now < 2 ^ 32 }
+        requires text_short { length text.old < 2 ^ 32 }
+        ensures sealed { (text.new, tag.new) ≡ gcm_seal (C.sealed self.now) iv.now associated.now text.old }
+        ensures opens { (n : ℕ) → n ≤ 16 → gcm_open (C.sealed self.now) iv.now associated.now text.new (take n tag.new) ≡ Some text.old }
+    {
+        apply_key_stream(&self.cipher, first_counter(iv), text);
+        *tag = self.tag(iv, associated, text);
+    }
+
+    /// Makes the plaintext of `text` in its place (7.2). `EBADMSG` exactly where `tag` isn't the front of the full tag: the
+    /// text is then unchanged.
+    pub fn unseal(
+        &self,
+        iv: &[u8; 12],
+        associated: &[u8],
+        text: &mut [u8],
+        tag: &[u8],
+    ) -> Result<(), Errno>
+        requires associated_short { length associated.now < 2 ^ 32 }
+        requires text_short { length text.old < 2 ^ 32 }
+        requires tag_taken { IsTrue (gcm_takes_tag (length tag.now)) }
+        ensures { Opens result (or_bad_message (gcm_open (C.sealed self.now) iv.now associated.now text.old tag.now)) text.old text.new }
+    {
+        let full = self.tag(iv, associated, text);
+        if &full[..tag.len()] != tag {
+            return Err(Errno::EBADMSG);
+        }
+        apply_key_stream(&self.cipher, first_counter(iv), text);
+        Ok(())
+    }
+
+    /// The full tag of a ciphertext: GHASH of the associated bytes, the ciphertext and their lengths in bits, sealed from J0
+    /// (7.1, steps 4 to 6).
+    fn tag(&self, iv: &[u8; 12], associated: &[u8], text: &[u8]) -> [u8; 16]
+        requires associated_short { length associated.now < 2 ^ 32 }
+        requires text_short { length text.now < 2 ^ 32 }
+        ensures { result ≡ gcm_tag (C.sealed self.now) iv.now associated.now text.now }
+    {
+        let after_associated = absorb(&self.key, 0, associated);
+        let after_text = absorb(&self.key, after_associated, text);
+        let lengths = (associated.len() as u128 * 8) * 0x1_0000_0000_0000_0000
+            + text.len() as u128 * 8;
+        let hash = self.key.product(after_text ^ lengths);
+        let mut tag = block_bytes(hash);
+        apply_key_stream(&self.cipher, pre_counter(iv), &mut tag);
+        tag
+    }
+}

@@ -1,0 +1,2 @@
+pub mod ShiftAndFold
+pub mod Halves

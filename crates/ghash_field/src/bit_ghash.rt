@@ -1,0 +1,30 @@
+//! A key that multiplies bit by bit.
+
+ghost use Rattle.std.specs.Prelude.{◌<◌, ◌^◌};
+
+use crate::key::GhashKey;
+use crate::product::multiply;
+
+/// The hash subkey as it is: each product goes over its 128 bits.
+#[derive(Clone, Copy, Debug, Drop)]
+pub struct BitGhash {
+    h: u128,
+    ghost fits: { h < 2 ^ 128 },
+}
+
+impl GhashKey for BitGhash {
+    ghost block = { λ key. key.h };
+
+    ghost fits = { λ key. key.fits };
+
+    #[tactic(auto, unfolding(std_defs::specs::Blocks::block_number))]
+    fn new(h: [u8; 16]) -> BitGhash {
+        BitGhash {
+            h: u128::from_be_bytes(h),
+        }
+    }
+
+    fn product(&self, x: u128) -> u128 {
+        multiply(x, self.h)
+    }
+}

@@ -1,0 +1,43 @@
+//! The product of the field.
+
+ghost use Rattle.std.specs.Prelude.{◌≡◌, ◌<◌, ◌^◌, ℕ, bit_xor};
+ghost use Rattle.std_defs.specs.GhashField.{polynomial_of, product, IsCongruent, field_one, field_product};
+
+/// The digits 11100001 and 120 zeros (6.3: R), by which a 1 that falls out on the right is folded back.
+const FOLD: u128 = 0xe1 << 120;
+
+/// The product of two blocks, given by their numbers (NIST SP 800-38D, 6.3).
+pub fn multiply(x: u128, y: u128) -> u128
+    ensures product { result ≡ field_product x y }
+
+    // It is the product of the polynomials, modulo x^128 + x^7 + x^2 + x + 1.
+    ensures congruent { IsCongruent (product (polynomial_of x) (polynomial_of y)) (polynomial_of result) }
+
+    // The laws of a field's product.
+    ensures commutes { result ≡ field_product y x }
+    ensures associates { (z : ℕ) → z < 2 ^ 128 → field_product result z ≡ field_product x (field_product y z) }
+    ensures distributes { (z : ℕ) → z < 2 ^ 128 → field_product x (bit_xor y z) ≡ bit_xor result (field_product x z) }
+    ensures one { x ≡ field_one → result ≡ y }
+{
+    shift_and_fold(x, y)
+}
+
+/// The product, bit by bit: the sum of `y` times x^i for each bit i of `x`.
+#[tactic(auto, using(crate::proofs::ShiftAndFold::shift_and_fold))]
+fn shift_and_fold(x: u128, y: u128) -> u128
+    ensures { result ≡ field_product x y }
+{
+    let mut z = 0u128;
+    let mut v = y;
+    for i in 0..128u32 {
+        if (x >> (127 - i)) & 1 == 1 {
+            z ^= v;
+        }
+        let falls_out = v & 1 == 1;
+        v >>= 1;
+        if falls_out {
+            v ^= FOLD;
+        }
+    }
+    z
+}

@@ -1,0 +1,9 @@
+//! HMAC (FIPS 198-1) with SHA-256.
+#![tactic(auto)]
+
+mod key_block;
+mod mac;
+#[cfg(test)]
+mod tests;
+
+pub use mac::Mac;

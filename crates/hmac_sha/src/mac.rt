@@ -1,0 +1,78 @@
+//! The MAC under a key.
+
+ghost use Rattle.std.specs.Prelude.{◌≡◌, ◌++◌};
+ghost use Rattle.std_defs.specs.Hmac.{block_key, xor_pad, hmac_under};
+ghost use Rattle.sha2.specs.Hashers.{Holds256};
+
+use crate::key_block::{add_pad, block_of};
+use sha2::{Digest, Sha256};
+use std::marker::Model;
+
+/// The pad of the inner hash.
+const INNER_PAD: u8 = 0x36;
+
+/// The pad of the outer hash.
+const OUTER_PAD: u8 = 0x5c;
+
+/// A hasher that has taken the block with the pad.
+fn hasher_of(block: &[u8; 64], pad: u8) -> Sha256
+    ensures { Holds256 result (xor_pad pad block.now) }
+{
+    let mut padded = *block;
+    add_pad(&mut padded, pad);
+    let mut hasher = Sha256::new();
+    hasher.update(padded.as_slice());
+    hasher
+}
+
+/// A key of HMAC, seen as a block of 64 bytes (K0). Both hashers have taken their padded block already, so a MAC hashes
+/// no block of the key again.
+#[derive(Drop)]
+pub struct Mac {
+    block: [u8; 64],
+    inner: Sha256,
+    outer: Sha256,
+}
+
+impl Model for Mac {
+    ghost use Rattle.std.specs.Prelude.{ℕ, List};
+    ghost use Rattle.sha2.specs.Hashers.{Holds256};
+    ghost use Rattle.std_defs.specs.Hmac.{xor_pad};
+
+    ghost Value = { List ℕ };
+
+    ghost view = { λ mac. mac.block };
+
+    ghost invariant = { λ mac. Holds256 mac.inner (xor_pad 0x36 mac.block) × Holds256 mac.outer (xor_pad 0x5c mac.block) };
+}
+
+impl Mac {
+    /// The MAC under a key of any length.
+    pub fn new(key: &[u8]) -> Mac
+        ensures { result ≡ block_key key.now }
+    {
+        let block = block_of(key);
+        let inner = hasher_of(&block, INNER_PAD);
+        let outer = hasher_of(&block, OUTER_PAD);
+        Mac {
+            block,
+            inner,
+            outer,
+        }
+    }
+
+    /// The whole MAC of the two pieces as one message. It takes no memory.
+    #[tactic(auto, unfolding(std_defs::specs::Hmac::hmac_under))]
+    pub fn mac(&self, first: &[u8], second: &[u8]) -> [u8; 32]
+        ensures { result ≡ hmac_under self.now (first.now ++ second.now) }
+    {
+        // copying a hasher takes no memory, so it is always `Ok`
+        let mut inner = self.inner.clone().unwrap();
+        inner.update(first);
+        inner.update(second);
+        let digest = inner.finalize();
+        let mut outer = self.outer.clone().unwrap();
+        outer.update(digest.as_slice());
+        outer.finalize()
+    }
+}

@@ -1,0 +1,21 @@
+use Rattle.std.proofs.Common.{◌≡◌, ℕ, ◌+◌, ◌-◌, drop, List, [], ◌∷◌, ◌++◌, Option, Some, arith, append_assoc, ◌∙◌, ap, subst}
+use Rattle.std.proofs.lemmas.List.{drop-drop}
+use Rattle.padata_core.specs.Pad.{ready, done_from}
+use Rattle.padata_core.specs.Collecting.{StillCollecting}
+use Rattle.kc_base.specs.Handed.{Handed}
+use Rattle.kc_base.specs.declared.callback_list.Callback.TheVariants.{Done}
+
+pub still-step : {F : Type 0} (from : ℕ) (outcomes : List (Option F)) (before : Handed F) (next : ℕ) (x : F) (rest more : List (Option F)) (into after : Handed F) → StillCollecting from outcomes before next more into → more ≡ Some x ∷ rest → after.list ≡ into.list ++ Done next x ∷ [] → after.spare + 1 ≡ into.spare → StillCollecting from outcomes before (next + 1) rest after
+still-step from outcomes before next x rest more into after s e l r =
+    let s2 = subst (λ m. StillCollecting from outcomes before next m into) e s in
+    record {
+      handed = rw l (append_assoc into.list (Done next x ∷ []) (done_from (next + 1) (ready rest)) ∙ s2.handed);
+      number = (let h = s2.number in omega arith);
+      length = (let h = s2.length in omega arith);
+      after = (let h = s2.after in omega arith);
+      left = (
+          let first : rest ≡ drop 1 (drop (next - from) outcomes) = ap (drop 1) s2.left in
+          let same : next - from + 1 ≡ next + 1 - from = (let h = s2.after in omega arith) in
+          first ∙ (drop-drop 1 (next - from) outcomes ∙ ap (λ n. drop n outcomes) same));
+      room = (let h = s2.room in omega arith);
+    }

@@ -1,0 +1,15 @@
+//! The reading of a script: its lines, their tokens, and the commands that these spell.
+#![tactic(auto)]
+
+mod commands;
+mod cutter;
+mod reading;
+mod split;
+#[cfg(test)]
+mod tests;
+mod tokens;
+
+pub use commands::{Command, Line};
+pub use cutter::LineCutter;
+pub use reading::{MAX_LINE, read_line};
+pub use split::first_line;

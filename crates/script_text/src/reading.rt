@@ -1,0 +1,93 @@
+//! What a line says.
+
+ghost use Rattle.std.specs.Prelude.{◌≡◌, map, IfOk};
+ghost use Rattle.script_text.specs.Script.{aes_row, command_of, command_line, line_of, line_of_tokens, line_of_text, without_return};
+
+use crate::commands::{Command, Line};
+use crate::tokens::{are_visible, begins_comment, hex_bytes, split_tokens};
+use std::alloc::{AllocError, Global};
+
+/// The most bytes that a line may have before its line feed.
+pub const MAX_LINE: usize = 65_536;
+
+fn aes_command(alloc: Global, args: &[&[u8]]) -> Result<Option<Command>, AllocError>
+    ensures { IfOk result (λ command. command ≡ aes_row (map (λ token. token.now) args.now)) }
+{
+    let [key, block] = args else {
+        return Ok(None);
+    };
+    let Some(key) = hex_bytes(alloc, key)? else {
+        return Ok(None);
+    };
+    let Some(block) = hex_bytes(alloc, block)? else {
+        return Ok(None);
+    };
+    Ok(Some(Command::Aes { key, block }))
+}
+
+// The command of a name and its arguments, or none where they spell no command.
+fn read_command(alloc: Global, name: &[u8], args: &[&[u8]]) -> Result<Option<Command>, AllocError>
+    ensures { IfOk result (λ command. command ≡ command_of name.now (map (λ token. token.now) args.now)) }
+{
+    if name == b"aes".as_slice() {
+        return aes_command(alloc, args);
+    }
+    Ok(None)
+}
+
+// What a line says that begins with this token and is no comment.
+fn read_tokens(alloc: Global, name: &[u8], args: &[&[u8]]) -> Result<Line, AllocError>
+    ensures { IfOk result (λ line. line ≡ command_line (command_of name.now (map (λ token. token.now) args.now))) }
+{
+    match read_command(alloc, name, args)? {
+        Some(command) => Ok(Line::Cmd(command)),
+        None => Ok(Line::Malformed),
+    }
+}
+
+fn read_parts(alloc: Global, tokens: &[&[u8]]) -> Result<Line, AllocError>
+    ensures { IfOk result (λ line. line ≡ line_of_tokens (map (λ token. token.now) tokens.now)) }
+{
+    let visible = are_visible(tokens);
+    let Some((name, args)) = tokens.split_first() else {
+        return Ok(Line::Nothing);
+    };
+    if begins_comment(name) {
+        return Ok(Line::Nothing);
+    }
+    if !visible {
+        return Ok(Line::Malformed);
+    }
+    read_tokens(alloc, name, args)
+}
+
+// What stands before the line feed, and before a carriage return there.
+fn text_before_feed(line: &[u8]) -> &[u8]
+    ensures { result.now ≡ without_return line.now }
+{
+    match line {
+        [text @ .., b'\r'] => text,
+        _ => line,
+    }
+}
+
+// What the text of a line says, where the line has so many bytes before its line feed.
+fn read_text(alloc: Global, length: usize, text: &[u8]) -> Result<Line, AllocError>
+    ensures { IfOk result (λ said. said ≡ line_of_text length text.now) }
+{
+    if length > MAX_LINE {
+        return Ok(Line::Malformed);
+    }
+    let tokens = split_tokens(alloc, text)?;
+    read_parts(alloc, &tokens)
+}
+
+/// What a line says. The line is given with the line feed that ends it, where one does.
+pub fn read_line(alloc: Global, line: &[u8]) -> Result<Line, AllocError>
+    ensures { IfOk result (λ said. said ≡ line_of line.now) }
+{
+    match line {
+        [before @ .., b'\n'] => read_text(alloc, before.len(), text_before_feed(before)),
+        _ => read_text(alloc, line.len(), line),
+    }
+}

@@ -1,0 +1,54 @@
+//! The tokens of a line, and what one of them spells.
+
+ghost use Rattle.std.specs.Prelude.{◌≡◌, map, IfOk};
+ghost use Rattle.std.specs.List.{list_all};
+ghost use Rattle.script_text.specs.Script.{is_visible, tokens_of, hex_of, is_comment};
+
+use hex::FromHexError;
+use kc_base::Bytes;
+use std::alloc::{AllocError, Global};
+
+/// What stands between blanks.
+pub fn split_tokens(alloc: Global, line: &[u8]) -> Result<Vec<&[u8]>, AllocError>
+    ensures { IfOk result (λ tokens. map (λ token. token.now) tokens.items ≡ tokens_of line.now) }
+{
+    line.split(|b| *b == b' ' || *b == b'\t')
+        .filter(|part| !part.is_empty())
+        .collect(alloc)
+}
+
+fn is_visible_token(token: &[u8]) -> bool
+    ensures { result ≡ list_all is_visible token.now }
+{
+    token.iter().all(|b| 0x21 <= *b && *b <= 0x7e)
+}
+
+/// Whether the tokens have only printed characters of ASCII.
+pub fn are_visible(tokens: &[&[u8]]) -> bool
+    ensures { result ≡ list_all (list_all is_visible) (map (λ token. token.now) tokens.now) }
+{
+    tokens.iter().all(|token| is_visible_token(token))
+}
+
+pub fn begins_comment(token: &[u8]) -> bool
+    ensures { result ≡ is_comment token.now }
+{
+    match token {
+        [b, ..] => *b == b'#',
+        [] => false,
+    }
+}
+
+/// The bytes that a token spells in hexadecimal digits, or none where it spells no bytes.
+pub fn hex_bytes(alloc: Global, token: &[u8]) -> Result<Option<Bytes>, AllocError>
+    ensures { IfOk result (λ bytes. bytes ≡ hex_of token.now) }
+{
+    if token == b"-".as_slice() {
+        return Ok(Some(Bytes::new(alloc)));
+    }
+    match hex::decode(alloc, token) {
+        Ok(bytes) => Ok(Some(Bytes::from_vec(bytes))),
+        Err(FromHexError::OutOfMemory) => Err(AllocError),
+        Err(_) => Ok(None),
+    }
+}

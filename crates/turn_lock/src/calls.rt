@@ -1,0 +1,221 @@
+//! The calls on a lock, a turn and a pass.
+
+ghost use Rattle.std.specs.Prelude.{◌≡◌, ◌+◌, ◌%◌, ◌^◌, ◌<◌, ◌≤◌, [], ◌∷◌, IfOk, Some};
+ghost use Rattle.turn_lock.specs.declared.view.Stage.TheVariants.{Waiting, Holding};
+ghost use Rattle.turn_lock.specs.Passes.{knows, turn_knows, turn_value, turn_lock, seat_knows, IsPassOf, IsIdle, IsAtTurn, Adds, Added};
+ghost use Rattle.std.specs.Borrow.{sem};
+ghost use Rattle.turn_lock.specs.Lent.{LendsValue};
+ghost use Rattle.turn_lock.specs.Turns.{StartsWith, newcomer, sees, Shows, giver, receiver, gives_number, gets_number, joined};
+
+use crate::lock::{Pass, Turn, TurnLock};
+use crate::plays::{Appends, Compares, Draws, Ends, Finds, Gives, Number, Serves};
+use crate::told::Told;
+use crate::view::View;
+use atomic_table::{Refused, Seat, Table};
+use crossbeam_utils::Backoff;
+use std::alloc::{AllocError, Global};
+use std::marker::Brand;
+use std::sync::Wait;
+
+impl<T: Told> TurnLock<T> {
+    /// A free lock round a value with no entry, and its first pass, which has the number 0 and gives the others from 1 on.
+    /// The error is that memory was refused: the value is then dropped.
+    pub fn new(alloc: Global, value: T) -> Result<(TurnLock<T>, Pass<T, T::Entry>), AllocError>
+        requires { T.told value ≡ [] }
+        ensures { IfOk result (λ r. IsPassOf r.0 r.1 × (knows r.1 ≡ newcomer)) }
+    {
+        let mut slots = Vec::with_capacity(alloc, 1)?;
+        slots.push(Some(value))?;
+        match Table::new(alloc, &[0, 0, 0], slots, &()) {
+            Ok((table, seat)) => Ok((
+                TurnLock { table },
+                Pass {
+                    number: 0,
+                    next: 1,
+                    seat,
+                },
+            )),
+            Err(Refused { slots: _ }) => Err(AllocError),
+        }
+    }
+
+    /// Waits for the pass's turn, in which the value is its own. The value's list then begins with what the pass has seen,
+    /// and has of the pass's number, and of each number that it keeps as ended, just the entries that were made under it.
+    pub fn take<'a, R: Wait>(&'a self, rt: &R, pass: Pass<T, T::Entry>) -> Turn<'a, T>
+        requires { IsPassOf self.now pass }
+        ensures lock { turn_lock result ≡ self.now }
+        ensures pass { turn_knows result ≡ sees (knows pass) (T.told (turn_value result)) }
+        ensures shows { Shows T.by (knows pass) (T.told (turn_value result)) }
+    {
+        let Pass { number, next, seat } = pass;
+        let (value, seat) = self.wait(rt, seat);
+        Turn {
+            lock: self,
+            value,
+            number,
+            next,
+            seat,
+        }
+    }
+
+    /// Two passes of one. The first keeps its number, and `number + 1` is the next that it may give; the second has `number`
+    /// and has seen as much. The numbers between, which nobody gets, are kept as ended without an entry. A pass that was
+    /// itself given has no number to give.
+    pub fn split(
+        &self,
+        pass: Pass<T, T::Entry>,
+        number: u32,
+    ) -> (Pass<T, T::Entry>, Pass<T, T::Entry>)
+        requires lock { IsPassOf self.now pass }
+        requires number { ((knows pass).next ≤ number) × (number + 1 < 2 ^ 32) }
+        ensures lock { IsPassOf self.now result.0 × IsPassOf self.now result.1 }
+        ensures first { knows result.0 ≡ gives_number number (knows pass) }
+        ensures second { knows result.1 ≡ gets_number number (knows pass) }
+    {
+        let Pass {
+            number: own,
+            next: _,
+            mut seat,
+        } = pass;
+        let other = self.cut::<Brand>(&mut seat, number);
+        (
+            Pass {
+                number: own,
+                next: number + 1,
+                seat,
+            },
+            Pass {
+                number,
+                next: u32::MAX,
+                seat: other,
+            },
+        )
+    }
+
+    // The same on a seat, where the number is known to the step's type.
+    fn cut<N: Number>(
+        &self,
+        seat: &mut Seat<Option<T>, View<T::Entry>>,
+        number: u32,
+    ) -> Seat<Option<T>, View<T::Entry>>
+        requires seat { IsIdle self.now seat.old × (seat.old.me.0.next ≤ number) × (number + 1 < 2 ^ 32) }
+        requires number { number ≡ N.number }
+        ensures first { (seat.new.table_id ≡ seat.old.table_id) × (seat.new.me ≡ (giver number seat.old.me.0, [])) }
+        ensures second { (result.table_id ≡ seat.old.table_id) × (result.me ≡ (receiver number seat.old.me.0, [])) }
+    {
+        self.table.shared.split_seat::<Gives<N>>(seat)
+    }
+
+    /// One pass of two, which has seen the longer of what these have seen. It keeps the number of the first, and that of the
+    /// second as ended, with the entries that were made under it.
+    pub fn join(&self, a: Pass<T, T::Entry>, b: Pass<T, T::Entry>) -> Pass<T, T::Entry>
+        requires { IsPassOf self.now a × IsPassOf self.now b }
+        ensures lock { IsPassOf self.now result }
+        ensures joined { knows result ≡ joined (knows a) (knows b) }
+        ensures seen { StartsWith (knows result).seen (knows a).seen × StartsWith (knows result).seen (knows b).seen }
+    {
+        let Pass {
+            number,
+            next,
+            mut seat,
+        } = a;
+        let Pass {
+            number: _,
+            next: _,
+            seat: other,
+        } = b;
+        self.table.shared.join_seat::<Ends>(&mut seat, other);
+        self.table.shared.load::<Compares>(&mut seat, 0);
+        Pass { number, next, seat }
+    }
+
+    /// Waits for the pass's turn, takes the value out and closes the lock. The value's list is as at a `take`.
+    pub fn finish<R: Wait>(self, rt: &R, pass: Pass<T, T::Entry>) -> T
+        requires { IsPassOf self pass }
+        ensures { Shows T.by (knows pass) (T.told result) }
+    {
+        let Pass {
+            number: _,
+            next: _,
+            seat,
+        } = pass;
+        self.wait(rt, seat).0
+    }
+
+    // Draws a ticket, waits until it is served, and takes the value out. A waiter spins for a short while, and then leaves
+    // the processor to others between two looks.
+    fn wait<R: Wait>(
+        &self,
+        rt: &R,
+        mut seat: Seat<Option<T>, View<T::Entry>>,
+    ) -> (T, Seat<Option<T>, View<T::Entry>>)
+        requires { IsIdle self.now seat }
+        ensures seat { IsAtTurn self.now result.1 }
+        ensures pass { seat_knows result.1 ≡ sees (seat_knows seat) (T.told result.0) }
+        ensures shows { Shows T.by (seat_knows seat) (T.told result.0) }
+    {
+        let shared = &self.table.shared;
+        let ticket = shared.fetch_add::<Draws>(&mut seat, 0, 1);
+        let backoff = Backoff::new();
+        for _ in rt.forever() {
+            if shared.load::<Finds<T>>(&mut seat, 1) == ticket {
+                let value = shared.exchange(&mut seat, 0, None).unwrap();
+                return (value, seat);
+            }
+            backoff.snooze();
+        }
+        unreachable!()
+    }
+}
+
+impl<'a, T: Told> Turn<'a, T> {
+    /// The value, to be read and changed.
+    pub fn get(&mut self) -> &mut T
+        ensures* writes_back { sem 𝓛 (LendsValue T.row T.Entry.row T.Told self.entry result) }
+        ensures value { result.now ≡ turn_value self.old }
+    {
+        &mut self.value
+    }
+
+    /// Puts the value back, and lets the next pass have its turn. `added` says whether the value's list has one further entry
+    /// than at the take, of this pass's number. The pass has then seen the whole list.
+    pub fn give(self, added: bool) -> Pass<T, T::Entry>
+        requires { Adds T.told T.by (turn_knows self) (turn_value self) added }
+        ensures lock { IsPassOf (turn_lock self.entry) result }
+        ensures view { Added T.told T.by (turn_knows self.entry) (turn_value self.entry) added (knows result) }
+    {
+        let Turn {
+            lock,
+            value,
+            number,
+            next,
+            mut seat,
+        } = self;
+        let shared = &lock.table.shared;
+        match shared.exchange(&mut seat, 0, Some(value)) {
+            None => {}
+            Some(_) => unreachable!(),
+        }
+        if added {
+            shared.fetch_add::<Appends<T>>(&mut seat, 2, 1);
+        }
+        shared.fetch_add::<Serves>(&mut seat, 1, 1);
+        Pass { number, next, seat }
+    }
+}
+
+impl<T, E> Pass<T, E> {
+    /// The number under which the pass makes entries.
+    pub fn number(&self) -> u32
+        ensures { result ≡ (knows self.now).number }
+    {
+        self.number
+    }
+
+    /// The lowest number that the pass may give. It is `u32::MAX` where it may give none.
+    pub fn next(&self) -> u32
+        ensures { result ≡ (knows self.now).next }
+    {
+        self.next
+    }
+}

@@ -1,0 +1,40 @@
+//! The lock, its passes and its turns.
+
+ghost use Rattle.std.specs.Prelude.{◌≡◌, [], true};
+ghost use Rattle.turn_lock.specs.declared.view.Stage.TheVariants.{Idle};
+ghost use Rattle.turn_lock.specs.Turns.{is_holding, is_out};
+
+use crate::plays::Turns;
+use crate::told::Told;
+use crate::view::View;
+use atomic_table::{Seat, Table};
+use std::alloc::Global;
+
+/// A lock round a value that stands for a history.
+#[derive(Drop)]
+pub struct TurnLock<T: Told> {
+    pub(crate) table: Table<Option<T>, View<T::Entry>, (), Turns<T>, Global>,
+    ghost shape: { (table.shared.table_id.words ≡ 3) × (table.shared.table_id.slots ≡ 1) },
+}
+
+/// What one caller knows of a lock's history, and its right to take a turn.
+#[derive(Drop)]
+pub struct Pass<T, E> {
+    pub(crate) number: u32,
+    pub(crate) next: u32,
+    pub(crate) seat: Seat<Option<T>, View<E>>,
+    ghost numbers: { (seat.me.0.number ≡ number) × (seat.me.0.next ≡ next) },
+    ghost idle: { (seat.me.0.stage ≡ Idle) × (seat.me.1 ≡ []) },
+}
+
+/// A pass's turn, in which the value is its own. It ends by `give`.
+pub struct Turn<'a, T: Told> {
+    pub(crate) lock: &'a TurnLock<T>,
+    pub(crate) value: T,
+    pub(crate) number: u32,
+    pub(crate) next: u32,
+    pub(crate) seat: Seat<Option<T>, View<T::Entry>>,
+    ghost numbers: { (seat.me.0.number ≡ number) × (seat.me.0.next ≡ next) },
+    ghost holding: { (is_holding seat.me.0.stage ≡ true) × (is_out seat.me.1 ≡ true) },
+    ghost own: { seat.table_id ≡ lock.now.table.shared.table_id },
+}
