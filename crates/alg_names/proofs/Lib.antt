@@ -1,0 +1,10 @@
+pub mod Complete
+pub mod Sound
+pub mod Growing
+pub mod Scanned
+pub mod Printed
+pub mod Drafted
+pub mod Building
+pub mod Examples
+pub mod Remade
+pub mod Computed

@@ -1,0 +1,61 @@
+-- The table of larvals, and which of them a look has to see.
+use Rattle.std.specs.Prelude.{ℕ, ◌+◌, Bool, true, false, ◌==◌, ◌&&◌, ◌||◌, if◌then◌else◌, List, [], ◌∷◌, slice_get, Option, Some, None}
+use Rattle.std.specs.List.{filter_map, list_any}
+use Rattle.std.specs.Option.{option_and_then, option_map_or}
+use Rattle.std.specs.Str.{bytes_eq}
+use Rattle.alg_registry.specs.declared.entry.Ended.{Ended}
+use Rattle.alg_registry.specs.declared.entry.Ended.TheVariants.{Built, Joined, Failed, NoMemory}
+use Rattle.alg_registry.specs.declared.row.Row.{Row}
+use Rattle.alg_registry.specs.declared.row.Larval.{Larval}
+use Rattle.alg_registry.specs.Answers.{may_find, better}
+
+-- the larvals by number, and for how many more there is room
+pub record LarvalTable : Type 0 where
+  pub list : List Larval
+  pub spare : ℕ
+
+-- the entry with which a larval ended
+abbrev pub entry_of : Option Ended → Option ℕ
+entry_of (Some (Built id)) = Some id
+entry_of (Some (Joined id)) = Some id
+entry_of _ = None
+
+-- a larval that is pending, or ended with an entry
+abbrev pub is_live_end : Option Ended → Bool
+is_live_end None = true
+is_live_end (Some (Built id)) = true
+is_live_end (Some (Joined id)) = true
+is_live_end (Some (Failed errno)) = false
+is_live_end (Some NoMemory) = false
+
+abbrev pub is_live : Larval → Bool
+is_live larval = is_live_end larval.ended
+
+-- the numbers of these larvals that are live, where the first has this number
+abbrev pub live_from : ℕ → List Larval → List ℕ
+live_from first [] = []
+live_from first (larval ∷ larvals) = if is_live larval then first ∷ live_from (first + 1) larvals else live_from (first + 1) larvals
+
+-- the entry with which a larval of the text ended
+abbrev pub joined_as : List ℕ → Larval → Option ℕ
+joined_as text larval = if bytes_eq larval.text text then entry_of larval.ended else None
+
+abbrev pub joined_by : List ℕ → List Larval → List ℕ
+joined_by text larvals = filter_map (joined_as text) larvals
+
+-- the same, of the larvals of these numbers
+abbrev pub joined_at : List ℕ → List Larval → ℕ → Option ℕ
+joined_at text larvals number = option_and_then (joined_as text) (slice_get larvals number)
+
+-- the larval of the number passes the test
+abbrev pub passes_at : (Larval → Bool) → List Larval → ℕ → Bool
+passes_at test larvals number = option_map_or test (slice_get larvals number) false
+
+-- the entry answers to the text, where larvals of the text ended with the entries of these ids
+abbrev pub answers_by : List ℕ → List ℕ → Bool → ℕ → Row → Bool
+answers_by joined text plain id row = may_find plain row && (bytes_eq row.spec.name text || list_any (λ other. other == id) joined)
+
+-- the best of the entries that do
+abbrev pub best_by : List ℕ → List ℕ → Bool → ℕ → List Row → Option (ℕ × ℕ)
+best_by joined text plain id [] = None
+best_by joined text plain id (row ∷ newer) = if answers_by joined text plain id row then better id row (best_by joined text plain (id + 1) newer) else best_by joined text plain (id + 1) newer

@@ -1,0 +1,11 @@
+pub mod Rows
+pub mod Answers
+pub mod Legal
+pub mod Calls
+pub mod Lifetimes
+pub mod Room
+pub mod Larvals
+pub mod Table
+pub mod Kept
+pub mod Made
+pub mod Trial

@@ -1,0 +1,134 @@
+//! What calls of the registry answer, and what they add to its history.
+
+use crate::ids::Ids;
+use crate::spec::Spec;
+use kc_base::{Bytes, Errno};
+use thiserror::Error;
+
+/// Why a call of the registry was refused.
+#[derive(Clone, Copy, Debug, PartialEq, Eq, Error)]
+pub enum RegErr {
+    /// The driver equals the name or the driver of a listed entry, or the name equals the driver of one.
+    #[error("the name is taken")]
+    Exist,
+    /// No entry has that driver.
+    #[error("no such algorithm")]
+    NoEnt,
+    /// The entry is no longer listed.
+    #[error("the algorithm is no longer listed")]
+    Again,
+    /// The registry holds as many entries as it may.
+    #[error("too many algorithms are held")]
+    NFile,
+    /// Memory ran out. The call recorded nothing.
+    #[error("out of memory")]
+    Memory,
+}
+
+/// The answer of a look.
+#[derive(Clone, Copy, Debug, PartialEq, Eq)]
+pub enum Looked {
+    /// The entry of this id answers to the text.
+    Found(u64),
+    /// The larval of this number is being built for the text.
+    Pending(u64),
+    /// A larval of this number began for the text.
+    Began(u64),
+    /// Nothing answers to the text, and it names no template.
+    Absent,
+}
+
+/// How the building of an instance ended.
+#[derive(Clone, Copy, Debug, PartialEq, Eq)]
+pub enum Ended {
+    /// The instance is the new entry of this id.
+    Built(u64),
+    /// The entry of this id has the instance's driver already.
+    Joined(u64),
+    Failed(Errno),
+    NoMemory,
+}
+
+/// The answer of an enlisting.
+#[derive(Clone, Copy, Debug, PartialEq, Eq)]
+pub enum Enlisted {
+    Made(u64),
+    Exist,
+    NFile,
+}
+
+/// The answer of the end of a larval, with what the history keeps of the instance.
+#[derive(Debug, Drop)]
+pub enum EndAnswer {
+    Built(u64, Spec),
+    /// With the ids on which the instance would have stood.
+    Joined(u64, Ids),
+    Failed(Errno),
+    NoMemory,
+}
+
+/// How many references an entry has, and whether it is listed.
+#[derive(Clone, Copy, Debug, PartialEq, Eq)]
+pub struct RefAnswer {
+    pub count: u64,
+    pub listed: bool,
+}
+
+/// A larval that was claimed, and its text.
+#[derive(Debug, Drop)]
+pub struct Claimed {
+    pub larval: u64,
+    pub text: Bytes,
+}
+
+/// One call of the registry, with its caller and its answer.
+#[derive(Debug, Drop)]
+pub enum RegEntry {
+    Enlist {
+        caller: u32,
+        spec: Spec,
+        answer: Enlisted,
+    },
+    Look {
+        caller: u32,
+        text: Bytes,
+        plain: bool,
+        answer: Looked,
+    },
+    Claim {
+        caller: u32,
+        larval: u64,
+    },
+    End {
+        caller: u32,
+        larval: u64,
+        answer: EndAnswer,
+    },
+    Waited {
+        caller: u32,
+        larval: u64,
+    },
+    /// The id of the entry that was taken off the list, or `None` where no listed entry had the driver.
+    Unlist {
+        caller: u32,
+        driver: Bytes,
+        answer: Option<u64>,
+    },
+    /// `ok` is false where the entry was no longer listed.
+    Get {
+        caller: u32,
+        id: u64,
+        ok: bool,
+    },
+    Put {
+        caller: u32,
+        id: u64,
+    },
+    Refs {
+        caller: u32,
+        driver: Bytes,
+    },
+    List {
+        caller: u32,
+    },
+}

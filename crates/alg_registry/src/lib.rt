@@ -1,0 +1,26 @@
+//! The registry of algorithms: what is listed, looked up, built and referenced.
+//!
+//! Each call appends the one entry to the registry's history that is right for the entries before it.
+#![tactic(auto)]
+
+mod entry;
+mod history;
+mod ids;
+mod larvals;
+mod laws;
+mod listing;
+mod looking;
+mod registry;
+mod row;
+mod rows;
+mod spec;
+#[cfg(test)]
+mod tests;
+
+pub use entry::{Claimed, EndAnswer, Ended, Enlisted, Looked, RefAnswer, RegEntry, RegErr};
+pub use history::RegLog;
+pub use ids::Ids;
+pub use laws::{legal_histories, lifetimes};
+pub use listing::{ListRow, Listing};
+pub use registry::Registry;
+pub use spec::{Kind, Spec, Wrap};

@@ -1,0 +1,14 @@
+pub mod Wrappers
+pub mod Words
+pub mod TableLaws
+pub mod Growth
+pub mod Shapes
+pub mod ChildLooks
+pub mod Looks
+pub mod Calls
+pub mod Existing
+pub mod Trials
+pub mod Makes
+pub mod PlainLooks
+pub mod PlannedHistories
+pub mod PlannedMakes

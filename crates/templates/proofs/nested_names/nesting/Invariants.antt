@@ -1,0 +1,8 @@
+use Rattle.std.proofs.Common.{◌≡◌, take, false}
+use Rattle.alg_names.specs.Built.{args_from}
+use Rattle.templates.specs.Nesting.{any_wrapper}
+use Rattle.templates.proofs.nested_names.nesting.Given as goal
+
+-- the arguments passed so far have none
+abbrev pub invariant-loop-argument : goal.invariant-loop-argument
+invariant-loop-argument l = any_wrapper (args_from (take l.argument-index l.argument-items)) ≡ false

@@ -1,0 +1,48 @@
+//! The words that name templates.
+ghost use Rattle.std.specs.Prelude.{◌≡◌};
+ghost use Rattle.templates.specs.Table.{template_named};
+
+/// A template by its word.
+#[derive(Clone, Copy, Debug, PartialEq, Eq)]
+pub enum Template {
+    Cbc,
+    Ctr,
+    Rfc3686,
+    Gcm,
+    GcmBase,
+    Rfc4106,
+    Hmac,
+    Authenc,
+    Pcrypt,
+    Cryptd,
+}
+
+/// The template of a word.
+#[tactic(auto, unfolding(crate::specs::Table::template_named))]
+pub(crate) fn template_of(word: &[u8]) -> Option<Template>
+    ensures { result ≡ template_named word.now }
+{
+    if word == b"cbc".as_slice() {
+        Some(Template::Cbc)
+    } else if word == b"ctr".as_slice() {
+        Some(Template::Ctr)
+    } else if word == b"rfc3686".as_slice() {
+        Some(Template::Rfc3686)
+    } else if word == b"gcm".as_slice() {
+        Some(Template::Gcm)
+    } else if word == b"gcm_base".as_slice() {
+        Some(Template::GcmBase)
+    } else if word == b"rfc4106".as_slice() {
+        Some(Template::Rfc4106)
+    } else if word == b"hmac".as_slice() {
+        Some(Template::Hmac)
+    } else if word == b"authenc".as_slice() {
+        Some(Template::Authenc)
+    } else if word == b"pcrypt".as_slice() {
+        Some(Template::Pcrypt)
+    } else if word == b"cryptd".as_slice() {
+        Some(Template::Cryptd)
+    } else {
+        None
+    }
+}
