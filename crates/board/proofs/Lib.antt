@@ -1,0 +1,13 @@
+pub mod Worked
+pub mod Transfer
+pub mod PadOrder
+pub mod Kept
+pub mod KeptFinish
+pub mod KeptTake
+pub mod KeptSubmit
+pub mod KeptBorn
+pub mod KeptCollect
+pub mod QueueOrder
+pub mod KeptUsed
+pub mod KeptClose
+pub mod Staying

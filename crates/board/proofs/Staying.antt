@@ -1,0 +1,171 @@
+use Rattle.std.proofs.Common.{◌≡◌, ◌≢◌, ℕ, zero, suc, ◌+◌, ◌<◌, ◌≤◌, Bool, true, false, cond, ◌||◌, List, [], ◌∷◌, ◌++◌, length, map, Option, Some, None, is_some, refl, sym, ◌∙◌, ap, subst, arith, append-nil, append_assoc, ◌⊎◌, inl, inr}
+use Rattle.std.specs.Prelude.{◌==◌, slice_get, Result, Ok, Err, MatchResult, MatchBool}
+use Rattle.std.specs.List.{filter_map, list_any, filter}
+use Rattle.std.proofs.Math.Bool.{or-false}
+use Rattle.std.proofs.lemmas.Bool.{eqb-true, eq-eqb, false_from_ne_true, or_left, or_from}
+use Rattle.std.proofs.lemmas.List.{map-append}
+use Rattle.std.proofs.lemmas.List.Folds.{list_any-append}
+use Rattle.std.proofs.lemmas.List.Elements.{filter_map-append}
+use Rattle.board.specs.declared.entry.Shape.{Shape}
+use Rattle.board.specs.declared.entry.Shape.TheVariants as shape
+use Rattle.board.specs.declared.entry.BoardEntry.{BoardEntry}
+use Rattle.board.specs.declared.entry.BoardEntry.TheVariants.{Born, Submit, Take, Finish, Enq, Deq, Done, Hold, Go, Collect, Close, Share, Shut}
+use Rattle.board.specs.Entries.{is_of, entries_of, birth, pad_born, accepted_in, submissions, taken_in, takings, takers, finished_in, finished, has, is_close, is_closed, is_share, is_shared, meaning_at, caller_of}
+use Rattle.board.specs.Legal.{IsNoWorker, IsMaker, maker_is, IsRight, IsRightFor, AreRightAfter, LegalBoard, IsOpenPad, MaySubmit, MayManage, MayFinish}
+use Rattle.board.specs.Order.{AreRightForAfter, numbers_below}
+use Rattle.board.specs.Staying.{OpensPad, StaysOpen, StaysManaged, StaysSubmitting, SlipStays, IsOpenFor}
+use Rattle.board.proofs.Transfer.{right_for, entries-more, entries-same, each_right}
+use Rattle.board.proofs.PadOrder.{filter_map-none, birth_stays}
+use Rattle.board.proofs.Kept.{takers-same, closed-same, has-more}
+use Rattle.board.proofs.KeptTake.{takers-more}
+use Rattle.board.proofs.QueueOrder.{IsServed, served_run, served_start, taker_among, has_only_below}
+
+-- the last entry of a legal history is right, and what stands before it is legal
+pub before_last : {A : Type 0} (before h : List (BoardEntry A)) (e : BoardEntry A) → AreRightAfter before (h ++ e ∷ []) → AreRightAfter before h
+before_last before [] e r = tt
+before_last before (x ∷ h) e r = (r.0, before_last (before ++ x ∷ []) h e r.1)
+
+pub last_right : {A : Type 0} (before h : List (BoardEntry A)) (e : BoardEntry A) → AreRightAfter before (h ++ e ∷ []) → IsRight (before ++ h) e
+last_right before [] e r = subst (λ es. IsRight es e) (sym (append-nil before)) r.0
+last_right before (x ∷ h) e r = subst (λ es. IsRight es e) (append_assoc before (x ∷ []) h) (last_right (before ++ x ∷ []) h e r.1)
+
+pad_some : (b : Option (ℕ × Shape)) → pad_born b ≡ true → is_some b ≡ true
+pad_some None h = cc
+pad_some (Some x) h = refl
+
+maker_some : (b : Option (ℕ × Shape)) (caller : ℕ) → maker_is b caller → is_some b ≡ true
+maker_some None caller h = absurd h
+maker_some (Some x) caller h = refl
+
+pub opens_pad : {A : Type 0} (h : List (BoardEntry A)) (caller p lists : ℕ) → OpensPad h caller p lists
+opens_pad {A} h caller p lists legal =
+    let e : BoardEntry A = Born caller p (shape.Pad lists) in
+    let r = last_right [] h e legal in
+    let es : entries_of p (h ++ e ∷ []) ≡ e ∷ [] = entries-more h p e (eq-eqb p p refl) ∙ ap (λ xs. xs ++ e ∷ []) r.1.1 in
+    rw es ((refl, refl), (r.1.0, refl))
+
+open_cases : {A : Type 0} (h : List (BoardEntry A)) (e : BoardEntry A) (p : ℕ) (b : Bool) → is_of p e ≡ b → StaysOpen h e p
+open_cases h e p true s o c =
+    rw (entries-more h p e s) (ap pad_born (birth_stays (entries_of p h) e (pad_some _ o.0)) ∙ o.0, closed-same (entries_of p h) e c ∙ o.1)
+open_cases h e p false s o c = rw (entries-same h p e s) o
+
+pub stays_open : {A : Type 0} (h : List (BoardEntry A)) (e : BoardEntry A) (p : ℕ) → StaysOpen h e p
+stays_open h e p = open_cases h e p (is_of p e) refl
+
+maker_more : {A : Type 0} (es : List (BoardEntry A)) (e : BoardEntry A) (caller : ℕ) → IsMaker es caller → IsMaker (es ++ e ∷ []) caller
+maker_more es e caller m = subst (λ b. maker_is b caller) (sym (birth_stays es e (maker_some (birth es) caller m))) m
+
+managed_cases : {A : Type 0} (h : List (BoardEntry A)) (e : BoardEntry A) (p caller : ℕ) (b : Bool) → is_of p e ≡ b → StaysManaged h e p caller
+managed_cases h e p caller true s m = rw (entries-more h p e s) (m.0, maker_more (entries_of p h) e caller m.1)
+managed_cases h e p caller false s m = rw (entries-same h p e s) m
+
+pub stays_managed : {A : Type 0} (h : List (BoardEntry A)) (e : BoardEntry A) (p caller : ℕ) → StaysManaged h e p caller
+stays_managed h e p caller = managed_cases h e p caller (is_of p e) refl
+
+shared_more : {A : Type 0} (es : List (BoardEntry A)) (e : BoardEntry A) (caller : ℕ) → IsMaker es caller ⊎ (is_shared es ≡ true) → IsMaker (es ++ e ∷ []) caller ⊎ (is_shared (es ++ e ∷ []) ≡ true)
+shared_more es e caller (inl m) = inl (maker_more es e caller m)
+shared_more es e caller (inr s) = inr (list_any-append is_share es (e ∷ []) ∙ or_left (is_shared es) _ s)
+
+submitting_cases : {A : Type 0} (h : List (BoardEntry A)) (e : BoardEntry A) (p caller : ℕ) (b : Bool) → is_of p e ≡ b → StaysSubmitting h e p caller
+submitting_cases h e p caller true s m = rw (entries-more h p e s) (m.0, shared_more (entries_of p h) e caller m.1)
+submitting_cases h e p caller false s m = rw (entries-same h p e s) m
+
+pub stays_submitting : {A : Type 0} (h : List (BoardEntry A)) (e : BoardEntry A) (p caller : ℕ) → StaysSubmitting h e p caller
+stays_submitting h e p caller = submitting_cases h e p caller (is_of p e) refl
+
+slice_get-keeps : {X : Type 0} (xs ys : List X) (n : ℕ) (x : X) → slice_get xs n ≡ Some x → slice_get (xs ++ ys) n ≡ Some x
+slice_get-keeps [] ys n x h = cc
+slice_get-keeps (y ∷ xs) ys zero x h = h
+slice_get-keeps (y ∷ xs) ys (suc n) x h = slice_get-keeps xs ys n x h
+
+meaning-keeps : {A O : Type 0} (meaning : A → O) (es : List (BoardEntry A)) (e : BoardEntry A) (n : ℕ) (out : O) → meaning_at meaning (submissions es) n ≡ Some out → meaning_at meaning (submissions (es ++ e ∷ [])) n ≡ Some out
+meaning-keeps meaning es e n out h =
+    ap (λ asks. meaning_at meaning asks n) (filter_map-append accepted_in es (e ∷ []))
+    ∙ (ap (λ outs. slice_get outs n) (map-append meaning (submissions es) (filter_map accepted_in (e ∷ [])))
+    ∙ slice_get-keeps (map meaning (submissions es)) (map meaning (filter_map accepted_in (e ∷ []))) n out h)
+
+-- an entry that takes another number, or none, leaves who took a number
+pub takers-other : {A : Type 0} (es : List (BoardEntry A)) (e : BoardEntry A) (number caller n : ℕ) → taken_in e ≡ Some (number, caller) → number ≢ n → takers n (es ++ e ∷ []) ≡ takers n es
+takers-other es e number caller n t other =
+    let b : (number == n) ≡ false = false_from_ne_true (number == n) (λ h. other (eqb-true number n h)) in
+    takers-more es e number caller n t
+    ∙ (ap (λ c. takers n es ++ map (λ (t : ℕ × ℕ). t.1) (cond c ((number, caller) ∷ []) [])) b ∙ append-nil (takers n es))
+
+slip_quiet : {A O : Type 0} (meaning : A → O) (es : List (BoardEntry A)) (e : BoardEntry A) (caller n : ℕ) (out : O) → taken_in e ≡ None → finished_in e ≡ None → MayFinish meaning es caller n out → MayFinish meaning (es ++ e ∷ []) caller n out
+slip_quiet {A} meaning es e caller n out t f m =
+    let fe : finished (es ++ e ∷ []) ≡ finished es = filter_map-none finished_in es e f in
+    (takers-same es e n t ∙ m.0, rw fe m.1, meaning-keeps meaning es e n out m.2)
+
+slip_taken : {A O : Type 0} (meaning : A → O) (es : List (BoardEntry A)) (e : BoardEntry A) (number by caller n : ℕ) (out : O) → taken_in e ≡ Some (number, by) → finished_in e ≡ None → number ≢ n → MayFinish meaning es caller n out → MayFinish meaning (es ++ e ∷ []) caller n out
+slip_taken {A} meaning es e number by caller n out t f other m =
+    let fe : finished (es ++ e ∷ []) ≡ finished es = filter_map-none finished_in es e f in
+    (takers-other es e number by n t other ∙ m.0, rw fe m.1, meaning-keeps meaning es e n out m.2)
+
+-- who took one number is who took it
+same_taker : (ns : List ℕ) (a b : ℕ) → ns ≡ a ∷ [] → ns ≡ b ∷ [] → a ≡ b
+same_taker ns a b p q = (let e : a ∷ [] ≡ b ∷ [] = sym p ∙ q in cc)
+
+slip_finished : {A O : Type 0} (meaning : A → O) (es : List (BoardEntry A)) (e : BoardEntry A) (number by caller n : ℕ) (out : O) → finished (es ++ e ∷ []) ≡ finished es ++ number ∷ [] → taken_in e ≡ None → takers number es ≡ by ∷ [] → by ≢ caller → MayFinish meaning es caller n out → MayFinish meaning (es ++ e ∷ []) caller n out
+slip_finished {A} meaning es e number by caller n out fe t who other m =
+    let apart : number ≢ n = λ h. other (same_taker (takers number es) by caller who (subst (λ k. takers k es ≡ caller ∷ []) (sym h) m.0)) in
+    let b : (number == n) ≡ false = false_from_ne_true (number == n) (λ h. apart (eqb-true number n h)) in (
+      takers-same es e n t ∙ m.0,
+      rw fe (has-more (finished es) number n ∙ or_from (has n (finished es)) (number == n || false) m.1 (ap (λ c. c || false) b)),
+      meaning-keeps meaning es e n out m.2,
+    )
+
+not_taken : {A : Type 0} (es : List (BoardEntry A)) (number caller n : ℕ) → takers number es ≡ [] → takers n es ≡ caller ∷ [] → number ≢ n
+not_taken es number caller n none some h = (let q : takers n es ≡ [] = subst (λ k. takers k es ≡ []) h none in cc)
+
+-- on a queue the next number is above each that was taken
+next_is_new : {A : Type 0} (es : List (BoardEntry A)) (number caller n : ℕ) → map (λ (t : ℕ × ℕ). t.0) (takings es) ≡ numbers_below (length (takings es)) → number ≡ length (takings es) → takers n es ≡ caller ∷ [] → number ≢ n
+next_is_new es number caller n numbers next some h =
+    let among = taker_among (takings es) n caller some in
+    let l : n < length (takings es) = has_only_below (length (takings es)) n (subst (λ ns. has n ns ≡ true) numbers among) in
+    let same : number ≡ n = h in
+    absurd (omega arith)
+
+slip_step : {A O : Type 0} (meaning : A → O) (es : List (BoardEntry A)) (e : BoardEntry A) (caller n : ℕ) (out : O) → AreRightForAfter [] es → IsRightFor es e → caller_of e ≢ caller → MayFinish meaning es caller n out → MayFinish meaning (es ++ e ∷ []) caller n out
+slip_step meaning es (Born by pipe shape) caller n out rs r other m = slip_quiet meaning es (Born by pipe shape) caller n out refl refl m
+slip_step meaning es (Submit by pipe number ask) caller n out rs r other m = slip_quiet meaning es (Submit by pipe number ask) caller n out refl refl m
+slip_step meaning es (Take by pipe number) caller n out rs r other m = slip_taken meaning es (Take by pipe number) number by caller n out refl refl (not_taken es number caller n r.2 m.0) m
+slip_step meaning es (Finish by pipe number) caller n out rs r other m = slip_finished meaning es (Finish by pipe number) number by caller n out (filter_map-append finished_in es (Finish by pipe number ∷ [])) refl r.1 other m
+slip_step meaning es (Enq by pipe ask backlog answer) caller n out rs r other m = slip_quiet meaning es (Enq by pipe ask backlog answer) caller n out refl refl m
+slip_step meaning es (Deq by pipe number started) caller n out rs r other m =
+    let o = served_run [] es [] served_start rs in
+    slip_taken meaning es (Deq by pipe number started) number by caller n out refl refl (next_is_new es number caller n (o.numbers r.0.0) r.4 m.0) m
+slip_step meaning es (Done by pipe number) caller n out rs r other m = slip_finished meaning es (Done by pipe number) number by caller n out (filter_map-append finished_in es (Done by pipe number ∷ [])) refl r.1 other m
+slip_step meaning es (Hold by pipe) caller n out rs r other m = slip_quiet meaning es (Hold by pipe) caller n out refl refl m
+slip_step meaning es (Go by pipe) caller n out rs r other m = slip_quiet meaning es (Go by pipe) caller n out refl refl m
+slip_step meaning es (Collect by pipe to) caller n out rs r other m = slip_quiet meaning es (Collect by pipe to) caller n out refl refl m
+slip_step meaning es (Close by pipe) caller n out rs r other m = slip_quiet meaning es (Close by pipe) caller n out refl refl m
+slip_step meaning es (Share by pipe) caller n out rs r other m = slip_quiet meaning es (Share by pipe) caller n out refl refl m
+slip_step meaning es (Shut by) caller n out rs r other m = slip_quiet meaning es (Shut by) caller n out refl refl m
+
+slip_cases : {A O : Type 0} (meaning : A → O) (h : List (BoardEntry A)) (e : BoardEntry A) (p caller n : ℕ) (out : O) (b : Bool) → is_of p e ≡ b → SlipStays meaning h e p caller n out
+slip_cases meaning h e p caller n out true s legal other m =
+    rw (entries-more h p e s) (slip_step meaning (entries_of p h) e caller n out (each_right [] h p (before_last [] h e legal)) (right_for h p e s (last_right [] h e legal)) other m)
+slip_cases meaning h e p caller n out false s legal other m = rw (entries-same h p e s) m
+
+pub slip_stays : {A O : Type 0} (meaning : A → O) (h : List (BoardEntry A)) (e : BoardEntry A) (p caller n : ℕ) (out : O) → SlipStays meaning h e p caller n out
+slip_stays meaning h e p caller n out = slip_cases meaning h e p caller n out (is_of p e) refl
+
+pub open_for_more : {A : Type 0} (old new : List (BoardEntry A)) (e : BoardEntry A) (p caller : ℕ) → new ≡ old ++ e ∷ [] → is_close e ≡ false → IsOpenFor old p caller → IsOpenFor new p caller
+open_for_more old new e p caller more c o = rw more (stays_open old e p o.0 c, stays_managed old e p caller o.1)
+
+pub slip_more : {A O : Type 0} (meaning : A → O) (old new : List (BoardEntry A)) (e : BoardEntry A) (p caller n : ℕ) (out : O) → new ≡ old ++ e ∷ [] → LegalBoard new → caller_of e ≢ caller → MayFinish meaning (entries_of p old) caller n out → MayFinish meaning (entries_of p new) caller n out
+slip_more meaning old new e p caller n out more legal other m = rw more (slip_stays meaning old e p caller n out (subst (λ h. LegalBoard h) more legal) other m)
+
+-- a call that appends an entry or nothing
+pub appended_or_same : {X E : Type 0} (old new more : X) (r : Result Bool E) → MatchResult r (λ all. MatchBool all (new ≡ more) (new ≡ old)) (λ _. new ≡ old) → (new ≡ more) ⊎ (new ≡ old)
+appended_or_same old new more (Ok true) h = inl h
+appended_or_same old new more (Ok false) h = inr h
+appended_or_same old new more (Err e) h = inr h
+
+pub open_after : {A : Type 0} (old new : List (BoardEntry A)) (e : BoardEntry A) (p caller : ℕ) → (new ≡ old ++ e ∷ []) ⊎ (new ≡ old) → is_close e ≡ false → IsOpenFor old p caller → IsOpenFor new p caller
+open_after old new e p caller (inl more) c o = open_for_more old new e p caller more c o
+open_after old new e p caller (inr same) c o = rw same o
+
+pub slip_after : {A O : Type 0} (meaning : A → O) (old new : List (BoardEntry A)) (e : BoardEntry A) (p caller n : ℕ) (out : O) → (new ≡ old ++ e ∷ []) ⊎ (new ≡ old) → LegalBoard new → caller_of e ≢ caller → MayFinish meaning (entries_of p old) caller n out → MayFinish meaning (entries_of p new) caller n out
+slip_after meaning old new e p caller n out (inl more) legal other m = slip_more meaning old new e p caller n out more legal other m
+slip_after meaning old new e p caller n out (inr same) legal other m = rw same m

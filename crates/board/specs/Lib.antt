@@ -1,0 +1,7 @@
+pub mod Entries
+pub mod Legal
+pub mod Order
+pub mod Allowance
+pub mod Kept
+pub mod Examples
+pub mod Staying

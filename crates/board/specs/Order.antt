@@ -1,0 +1,68 @@
+use Rattle.std.specs.Prelude.{◌≡◌, ℕ, zero, suc, ◌+◌, ◌<◌, ◌≤◌, Bool, true, false, List, [], ◌∷◌, ◌++◌, length, take, drop, Option, Some, None}
+use Rattle.std.specs.List.{filter_map}
+use Rattle.board.specs.declared.entry.BoardEntry.{BoardEntry}
+use Rattle.board.specs.declared.entry.BoardEntry.TheVariants.{Born, Submit, Take, Finish, Enq, Deq, Done, Hold, Go, Collect, Close, Share, Shut}
+use Rattle.board.specs.Entries.{Notice, Starts, Completes, entries_of, birth, pad_born, queue_born, finished, has, completes_below, front, submissions, told, collected}
+use Rattle.board.specs.Legal.{IsRightFor, LegalBoard}
+
+-- what an entry hands out
+abbrev pub handed_in : {A : Type 0} → List (BoardEntry A) → BoardEntry A → List Notice
+handed_in es (Collect caller pipe to) = drop (collected es) (take to (told es))
+handed_in es _ = []
+
+abbrev pub handed_after : {A : Type 0} → List (BoardEntry A) → List (BoardEntry A) → List Notice
+handed_after before [] = []
+handed_after before (e ∷ es) = handed_in before e ++ handed_after (before ++ e ∷ []) es
+
+-- all that the collects of a pipeline handed out, one after another
+abbrev pub handed_out : {A : Type 0} → List (BoardEntry A) → List Notice
+handed_out es = handed_after [] es
+
+-- the entries of one pipeline are right, each after those before it
+abbrev pub AreRightForAfter : {A : Type 0} → List (BoardEntry A) → List (BoardEntry A) → Type 0
+AreRightForAfter before [] = Unit {0}
+AreRightForAfter before (e ∷ es) = IsRightFor before e × AreRightForAfter (before ++ e ∷ []) es
+
+-- what a pad's collects handed out are the completions of 0, 1, 2 and so on, each once
+abbrev pub PadsKeepOrder : {A : Type 0} → List (BoardEntry A) → ℕ → Type 0
+PadsKeepOrder h p =
+    LegalBoard h → pad_born (birth (entries_of p h)) ≡ true
+    → handed_out (entries_of p h) ≡ completes_below (collected (entries_of p h))
+
+-- and of finished numbers alone, up to the first that is not
+abbrev pub PadsWaitForEach : {A : Type 0} → List (BoardEntry A) → ℕ → Type 0
+PadsWaitForEach h p =
+    LegalBoard h → pad_born (birth (entries_of p h)) ≡ true → collected (entries_of p h) ≤ front (entries_of p h)
+
+abbrev pub AreAllFinished : {A : Type 0} → List (BoardEntry A) → Type 0
+AreAllFinished es = (n : ℕ) → n < length (submissions es) → has n (finished es) ≡ true
+
+-- after a collect before which every number is finished they are the completions of all requests
+abbrev pub PadsHandOutAll : {A : Type 0} → List (BoardEntry A) → ℕ → ℕ → ℕ → Type 0
+PadsHandOutAll h p caller to =
+    LegalBoard (h ++ Collect caller p to ∷ []) → pad_born (birth (entries_of p h)) ≡ true → AreAllFinished (entries_of p h)
+    → handed_out (entries_of p (h ++ Collect caller p to ∷ [])) ≡ completes_below (length (submissions (entries_of p h)))
+
+-- the numbers of the completions among these notices
+abbrev pub completed_in : Notice → Option ℕ
+completed_in (Starts n) = None
+completed_in (Completes n) = Some n
+
+abbrev pub completed : List Notice → List ℕ
+completed notices = filter_map completed_in notices
+
+abbrev pub numbers_below : ℕ → List ℕ
+numbers_below zero = []
+numbers_below (suc n) = numbers_below n ++ n ∷ []
+
+-- what a queue tells are the completions of 0, 1, 2 and so on, each once
+abbrev pub QueuesKeepOrder : {A : Type 0} → List (BoardEntry A) → ℕ → Type 0
+QueuesKeepOrder h q =
+    LegalBoard h → queue_born (birth (entries_of q h)) ≡ true
+    → completed (told (entries_of q h)) ≡ numbers_below (length (finished (entries_of q h)))
+
+-- and a queue's collects handed out a front of what it told
+abbrev pub QueuesHandOutTold : {A : Type 0} → List (BoardEntry A) → ℕ → Type 0
+QueuesHandOutTold h q =
+    LegalBoard h → queue_born (birth (entries_of q h)) ≡ true
+    → handed_out (entries_of q h) ≡ take (collected (entries_of q h)) (told (entries_of q h))

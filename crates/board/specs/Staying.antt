@@ -1,0 +1,31 @@
+use Rattle.std.specs.Prelude.{◌≡◌, ◌≢◌, ℕ, ◌≤◌, Bool, true, false, List, [], ◌∷◌, ◌++◌}
+use Rattle.board.specs.declared.entry.Shape.TheVariants.{Pad}
+use Rattle.board.specs.declared.entry.BoardEntry.{BoardEntry}
+use Rattle.board.specs.declared.entry.BoardEntry.TheVariants.{Born}
+use Rattle.board.specs.Entries.{entries_of, is_close, caller_of}
+use Rattle.board.specs.Legal.{IsOpenPad, MaySubmit, MayManage, MayFinish, LegalBoard}
+
+-- the pad is open, and this caller manages it
+abbrev pub IsOpenFor : {A : Type 0} → List (BoardEntry A) → ℕ → ℕ → Type 0
+IsOpenFor h p caller = IsOpenPad (entries_of p h) × MayManage (entries_of p h) caller
+
+-- a pad that was just made is open, and its maker manages it
+abbrev pub OpensPad : {A : Type 0} → List (BoardEntry A) → ℕ → ℕ → ℕ → Type 0
+OpensPad h caller p lists = LegalBoard (h ++ Born caller p (Pad lists) ∷ []) → IsOpenFor (h ++ Born caller p (Pad lists) ∷ []) p caller
+
+-- an open pad stays open until it is closed
+abbrev pub StaysOpen : {A : Type 0} → List (BoardEntry A) → BoardEntry A → ℕ → Type 0
+StaysOpen h e p = IsOpenPad (entries_of p h) → is_close e ≡ false → IsOpenPad (entries_of p (h ++ e ∷ []))
+
+-- who manages a pipeline, or may submit to it, may do so later
+abbrev pub StaysManaged : {A : Type 0} → List (BoardEntry A) → BoardEntry A → ℕ → ℕ → Type 0
+StaysManaged h e p caller = MayManage (entries_of p h) caller → MayManage (entries_of p (h ++ e ∷ [])) caller
+
+abbrev pub StaysSubmitting : {A : Type 0} → List (BoardEntry A) → BoardEntry A → ℕ → ℕ → Type 0
+StaysSubmitting h e p caller = MaySubmit (entries_of p h) caller → MaySubmit (entries_of p (h ++ e ∷ [])) caller
+
+-- what another caller does leaves a job to who took it, with the same ask
+abbrev pub SlipStays : {A O : Type 0} → (A → O) → List (BoardEntry A) → BoardEntry A → ℕ → ℕ → ℕ → O → Type 0
+SlipStays meaning h e p caller n out =
+    LegalBoard (h ++ e ∷ []) → caller_of e ≢ caller → MayFinish meaning (entries_of p h) caller n out
+    → MayFinish meaning (entries_of p (h ++ e ∷ [])) caller n out

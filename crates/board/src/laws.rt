@@ -1,0 +1,69 @@
+//! What holds of every history that a board can have, and what such histories are.
+
+ghost use Rattle.std.specs.Prelude.{◌≡◌, ℕ, ◌+◌, true, false, List, [], ◌∷◌, ◌++◌, take};
+ghost use Rattle.std.specs.declared.sync.Arc.{Arc};
+ghost use Rattle.std.specs.declared.alloc.Global.{Global};
+ghost use Rattle.std.specs.Arc.{arc_value};
+ghost use Rattle.kc_base.specs.declared.callback_list.Callback.TheVariants as Callback;
+ghost use Rattle.board.specs.declared.entry.Entered.TheVariants.{Busy, NoSpace};
+ghost use Rattle.board.specs.declared.entry.BoardEntry.{BoardEntry};
+ghost use Rattle.board.specs.declared.entry.BoardEntry.TheVariants.{Submit, Finish, Enq, Deq, Go, Collect, Close};
+ghost use Rattle.board.specs.Entries.{Starts, Completes, told, entries_of, delivered};
+ghost use Rattle.board.specs.Legal.{IsRight, LegalBoard};
+ghost use Rattle.board.specs.Order.{PadsKeepOrder, PadsWaitForEach, PadsHandOutAll, QueuesKeepOrder, QueuesHandOutTold};
+ghost use Rattle.board.specs.Staying.{OpensPad, StaysOpen, StaysManaged, StaysSubmitting, SlipStays};
+ghost use Rattle.board.specs.Examples.{held_requests, held_queue, second_first};
+
+/// In every legal history a pad hands out the completions of its requests in their order, each once, however its jobs were
+/// taken and finished; and, where all were finished before its last collect, of all of them.
+pub fn pads_keep_order<A>()
+    ensures in_order { (h : List (BoardEntry A)) (p : ℕ) → PadsKeepOrder h p }
+    ensures waits { (h : List (BoardEntry A)) (p : ℕ) → PadsWaitForEach h p }
+    ensures all { (h : List (BoardEntry A)) (p caller to : ℕ) → PadsHandOutAll h p caller to }
+{}
+
+/// In every legal history a queue completes its requests in their order, each once, and hands out a front of what it told.
+pub fn queues_keep_order<A>()
+    ensures in_order { (h : List (BoardEntry A)) (q : ℕ) → QueuesKeepOrder h q }
+    ensures front_of { (h : List (BoardEntry A)) (q : ℕ) → QueuesHandOutTold h q }
+{}
+
+/// What stays of a pipeline while a history goes on: it is open until it is closed, and who may manage it or submit to it
+/// may do so later.
+pub fn pipelines_stay<A>()
+    ensures born { (h : List (BoardEntry A)) (caller p lists : ℕ) → OpensPad h caller p lists }
+    ensures stays_open { (h : List (BoardEntry A)) (e : BoardEntry A) (p : ℕ) → StaysOpen h e p }
+    ensures managed { (h : List (BoardEntry A)) (e : BoardEntry A) (p caller : ℕ) → StaysManaged h e p caller }
+    ensures submitting { (h : List (BoardEntry A)) (e : BoardEntry A) (p caller : ℕ) → StaysSubmitting h e p caller }
+{}
+
+/// Who took a job may finish it, with the value of the same ask, whatever others do meanwhile.
+pub fn slips_stay<A, O>()
+    ensures { (meaning : A → O) (h : List (BoardEntry A)) (e : BoardEntry A) (p caller n : ℕ) (out : O) → SlipStays meaning h e p caller n out }
+{}
+
+/// A pad whose second job is finished first has a legal history. It hands out nothing past a job that still runs; only who
+/// took a job finishes it, once; no worker submits; and it isn't closed before all is handed out.
+pub fn legal_pads()
+    ensures legal { (a b : Arc ℕ Global) → LegalBoard (second_first a b ++ Collect 0 0 0 ∷ Finish 1 0 0 ∷ Collect 0 0 2 ∷ Close 0 0 ∷ []) }
+    ensures gap { (a b : Arc ℕ Global) → ¬ IsRight (second_first a b) (Collect 0 0 1) }
+    ensures taker { (a b : Arc ℕ Global) → ¬ IsRight (second_first a b) (Finish 2 0 0) }
+    ensures once { (a b : Arc ℕ Global) → ¬ IsRight (second_first a b) (Finish 2 0 1) }
+    ensures worker { (a b : Arc ℕ Global) → ¬ IsRight (second_first a b) (Submit 2 0 2 a) }
+    ensures closing { (a b : Arc ℕ Global) → ¬ IsRight (second_first a b) (Close 0 0) }
+{}
+
+/// A queue that is held while requests come and is then drained has a legal history, and its collects hand out each
+/// callback once. A full queue takes nothing in without leave to wait; a held one serves nobody; the first that waits past
+/// the bound is told that it started; and a collect hands out all that was told.
+pub fn legal_queues()
+    ensures legal { (a b c d : Arc ℕ Global) → LegalBoard (held_queue a b c d) }
+    ensures told { (a b c d : Arc ℕ Global) → told (entries_of 0 (held_queue a b c d)) ≡ Starts 2 ∷ Completes 0 ∷ Completes 1 ∷ Completes 2 ∷ [] }
+    ensures first { (a b c d : Arc ℕ Global) → delivered (λ n. n + 1) (entries_of 0 (take 13 (held_queue a b c d))) 4 ≡ Callback.Started 2 ∷ Callback.Done 0 (arc_value a + 1) ∷ Callback.Done 1 (arc_value b + 1) ∷ Callback.Done 2 (arc_value c + 1) ∷ [] }
+    ensures again { (a b c d : Arc ℕ Global) → delivered (λ n. n + 1) (entries_of 0 (take 14 (held_queue a b c d))) 4 ≡ [] }
+    ensures full { (a b c d : Arc ℕ Global) → ¬ IsRight (held_requests a b c d) (Enq 0 0 d false (Busy 3)) }
+    ensures patient { (a b c d : Arc ℕ Global) → ¬ IsRight (held_requests a b c d) (Enq 0 0 d true NoSpace) }
+    ensures held { (a b c d : Arc ℕ Global) → ¬ IsRight (held_requests a b c d) (Deq 0 0 0 (Some 2)) }
+    ensures newest { (a b c d : Arc ℕ Global) → ¬ IsRight (held_requests a b c d ++ Go 0 0 ∷ Enq 0 0 d true (Busy 3) ∷ []) (Deq 0 0 0 (Some 3)) }
+    ensures early { (a b c d : Arc ℕ Global) → ¬ IsRight (take 13 (held_queue a b c d)) (Collect 0 0 3) }
+{}

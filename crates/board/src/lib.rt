@@ -1,0 +1,22 @@
+//! The board: pipelines whose requests are done by any worker, in any order, and handed out in order.
+//!
+//! Each call appends the one entry to the board's history that is legal after the entries before it, or none.
+#![tactic(auto)]
+
+mod allowance;
+mod board_core;
+mod entry;
+mod laws;
+mod log;
+mod pipeline;
+#[cfg(test)]
+mod tests;
+mod work;
+
+pub use board_core::{BoardCore, BoardErr, Slip, Taken};
+pub use entry::{BoardEntry, Entered, Shape};
+pub use laws::{
+    legal_pads, legal_queues, pads_keep_order, pipelines_stay, queues_keep_order, slips_stay,
+};
+pub use log::BoardLog;
+pub use work::Work;
