@@ -1,31 +1,22 @@
-use Rattle.std.proofs.Common.{◌≡◌, ◌≢◌, ℕ, zero, suc, ◌+◌, ◌-◌, ◌*◌, ◌<◌, ◌≤◌, Bool, true, false, cond, ◌||◌, List, [], ◌∷◌, ◌++◌, length, map, take, drop, Option, Some, None, is_none, is_some, refl, sym, ◌∙◌, ap, subst, subst₂, arith, append-nil, append_assoc, length-append, inl, inr, ◌⊎◌, get_or}
-use Rattle.std.specs.Prelude.{◌==◌, sum_by, count_by, slice_get, slice_index_or, slice_set, if◌then◌else◌}
-use Rattle.std.specs.List.{filter_map, list_any, filter, cons_option}
-use Rattle.std.specs.Arc.{arc_value}
-use Rattle.std.specs.declared.sync.Arc.{Arc}
-use Rattle.std.specs.declared.alloc.Global.{Global}
-use Rattle.std.proofs.Math.Bool.{or-false}
-use Rattle.std.proofs.lemmas.Bool.{eqb-true, false_from_ne_true, or_left, or_from, cases_Bool, cases_eq, cases_lt, eq-eqb, both_ways}
-use Rattle.std.proofs.lemmas.Option.{slice_get-get_or, slice_get-map, slice_get_read}
-use Rattle.std.proofs.lemmas.List.{get_or-set_same, get_or-set_other, length-set, map-append, length-map}
-use Rattle.std.proofs.lemmas.List.Sums.{sum_by-set, sum_by-append}
-use Rattle.std.proofs.lemmas.List.Folds.{list_any-append}
-use Rattle.std.proofs.lemmas.List.Elements.{filter_map-append, filter-append}
+use Rattle.std.proofs.Common.{◌≡◌, ℕ, zero, suc, ◌+◌, ◌-◌, ◌<◌, ◌≤◌, Bool, true, false, cond, List, [], ◌∷◌, ◌++◌, length, map, drop, Option, Some, None, is_none, is_some, refl, sym, ◌∙◌, ap, subst, arith, inl, inr, ◌⊎◌, get_or}
+use Rattle.std.specs.Prelude.{count_by, slice_get, slice_set}
+use Rattle.std.specs.List.{filter_map, cons_option}
+use Rattle.std.proofs.lemmas.Bool.{cases_lt, eq-eqb}
+use Rattle.std.proofs.lemmas.Option.{slice_get_read}
+use Rattle.std.proofs.lemmas.List.{length-map}
+use Rattle.std.proofs.lemmas.List.Sums.{sum_by-set}
 use Rattle.padata_core.specs.Pad.{Pad, taken_of, submitted_of, ready}
-use Rattle.board.specs.declared.entry.Shape.{Shape}
 use Rattle.board.specs.declared.entry.BoardEntry.{BoardEntry}
-use Rattle.board.specs.declared.entry.BoardEntry.TheVariants.{Born, Submit, Take, Finish, Enq, Deq, Done, Hold, Go, Collect, Close, Share, Shut}
+use Rattle.board.specs.declared.entry.BoardEntry.TheVariants.{Collect}
 use Rattle.board.specs.declared.pipeline.Pipeline.{Pipeline}
-use Rattle.board.specs.Entries.{is_of, entries_of, birth_in, birth, pad_born, accepted_in, submissions, taken_in, takings, takers, finished_in, finished, has, is_close, is_closed, is_share, is_shared, meaning_at, collected_in, collected, last_or}
-use Rattle.board.specs.Legal.{IsRight, IsRightFor, AreRightAfter, LegalBoard, pipelines, is_shut_entry, is_shut}
+use Rattle.board.specs.Entries.{entries_of, pad_born, accepted_in, submissions, finished_in, finished, has, is_closed, meaning_at, collected_in, last_or}
+use Rattle.board.specs.Legal.{IsRight}
 use Rattle.board.specs.Kept.{IsKept, IsKeptBoard, outcome_at, owes, owed_by}
-use Rattle.board.proofs.Transfer.{entries-more, entries-same}
 use Rattle.board.proofs.PadOrder.{filter_map-none, filter_map-some, last_or-append, birth_stays}
 use Rattle.std.proofs.Common.{add-zero, add-suc, zero-add}
 use Rattle.std.proofs.lemmas.List.{drop-append-le}
 use Rattle.std.proofs.Math.Seq.{take-length}
 use Rattle.std.proofs.Math.ListN.{drop_of_length-le}
-use Rattle.kc_base.specs.declared.callback_list.Callback.{Callback}
 use Rattle.kc_base.specs.declared.callback_list.Callback.TheVariants as callback
 use Rattle.padata_core.specs.Pad.{done_from}
 use Rattle.board.specs.Entries.{Notice, Completes, unbroken, front, told, completes_below, callback_of, completion, delivered}

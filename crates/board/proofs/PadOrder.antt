@@ -1,16 +1,15 @@
 use Rattle.std.proofs.Common.{◌≡◌, ℕ, zero, suc, ◌+◌, ◌<◌, ◌≤◌, Bool, true, false, cond, ◌||◌, List, [], ◌∷◌, ◌++◌, length, take, drop, Option, Some, None, refl, sym, ◌∙◌, ap, subst, arith, append-nil, append_assoc, add-zero, zero-add, length-append, inl, inr, ◌⊎◌, is_some, subst₂}
-use Rattle.std.proofs.lemmas.Grind.{common_steps}
 use Rattle.std.proofs.lemmas.Bool.{cases_lt}
-use Rattle.std.proofs.lemmas.List.{take-append-drop, drop-append-le}
+use Rattle.std.proofs.lemmas.List.{drop-append-le}
 use Rattle.std.proofs.Math.Seq.{take-length}
 use Rattle.std.proofs.Math.ListN.{drop_of_length-le}
 use Rattle.std.proofs.lemmas.List.Folds.{list_any-append}
 use Rattle.std.proofs.lemmas.List.Elements.{filter_map-append}
-use Rattle.std.specs.List.{filter_map, list_any, cons_option}
+use Rattle.std.specs.List.{filter_map, cons_option}
 use Rattle.board.specs.declared.entry.Shape.{Shape}
 use Rattle.board.specs.declared.entry.BoardEntry.{BoardEntry}
 use Rattle.board.specs.declared.entry.BoardEntry.TheVariants.{Born, Submit, Take, Finish, Enq, Deq, Done, Hold, Go, Collect, Close, Share, Shut}
-use Rattle.board.specs.Entries.{Notice, Starts, Completes, birth_in, birth, first, pad_born, queue_born, accepted_in, submissions, finished_in, finished, has, unbroken, front, completes_below, told, collected_in, collected, last_or, told_in}
+use Rattle.board.specs.Entries.{Notice, Completes, birth_in, birth, first, pad_born, queue_born, accepted_in, submissions, finished_in, finished, has, unbroken, front, completes_below, told, collected_in, collected, last_or, told_in}
 use Rattle.board.specs.Legal.{IsRightFor, maker_is}
 use Rattle.board.specs.Order.{handed_in, handed_after, handed_out, AreRightForAfter, AreAllFinished}
 

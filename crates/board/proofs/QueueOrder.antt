@@ -1,20 +1,20 @@
-use Rattle.std.proofs.Common.{◌≡◌, ◌≢◌, ℕ, zero, suc, ◌+◌, ◌-◌, ◌<◌, ◌≤◌, Bool, true, false, cond, ◌||◌, List, [], ◌∷◌, ◌++◌, length, map, take, drop, Option, Some, None, is_some, refl, sym, ◌∙◌, ap, subst, subst₂, arith, append-nil, append_assoc, length-append, inl, inr, ◌⊎◌}
+use Rattle.std.proofs.Common.{◌≡◌, ℕ, zero, suc, ◌+◌, ◌<◌, ◌≤◌, Bool, true, false, cond, ◌||◌, List, [], ◌∷◌, ◌++◌, length, map, take, drop, Option, Some, None, is_some, refl, sym, ◌∙◌, ap, subst, subst₂, arith, append-nil, append_assoc, length-append, inl, inr, ◌⊎◌}
 use Rattle.std.specs.Prelude.{◌==◌}
-use Rattle.std.specs.List.{filter_map, list_any, filter, cons_option}
+use Rattle.std.specs.List.{filter_map, filter}
 use Rattle.std.proofs.Math.Bool.{or-false}
-use Rattle.std.proofs.lemmas.Bool.{eqb-true, false_from_ne_true, or_left, or_right, or_cases, cases_lt, eq-eqb, both_ways}
-use Rattle.std.proofs.lemmas.List.{take-append-drop, take-append-le, take_all, map-append}
+use Rattle.std.proofs.lemmas.Bool.{eqb-true, or_left, or_right, or_cases, cases_lt, eq-eqb, both_ways}
+use Rattle.std.proofs.lemmas.List.{take-append-drop, take-append-le, map-append}
 use Rattle.std.proofs.Math.Seq.{take-length}
 use Rattle.std.proofs.lemmas.List.Folds.{list_any-append}
-use Rattle.std.proofs.lemmas.List.Elements.{filter_map-append, filter-append}
+use Rattle.std.proofs.lemmas.List.Elements.{filter_map-append}
 use Rattle.board.specs.declared.entry.Shape.{Shape}
 use Rattle.board.specs.declared.entry.Shape.TheVariants.{Pad, Queue}
 use Rattle.board.specs.declared.entry.BoardEntry.{BoardEntry}
 use Rattle.board.specs.declared.entry.BoardEntry.TheVariants.{Born, Submit, Take, Finish, Enq, Deq, Done, Hold, Go, Collect, Close, Share, Shut}
-use Rattle.board.specs.Entries.{Notice, Starts, Completes, birth_in, birth, first, pad_born, queue_born, accepted_in, submissions, taken_in, takings, takers, finished_in, finished, has, front, completes_below, told_in, told, collected_in, collected, last_or}
+use Rattle.board.specs.Entries.{Notice, Completes, birth, pad_born, queue_born, taken_in, takings, finished_in, finished, has, front, completes_below, told_in, told, collected_in, collected, last_or}
 use Rattle.board.specs.Legal.{IsRightFor, maker_is}
 use Rattle.board.specs.Order.{handed_in, handed_after, handed_out, AreRightForAfter, completed_in, completed, numbers_below}
-use Rattle.board.proofs.PadOrder.{filter_map-none, filter_map-some, last_or-append, birth_stays, born_first, collect_only}
+use Rattle.board.proofs.PadOrder.{filter_map-none, filter_map-some, last_or-append, birth_stays}
 
 not_both : (b : Option (ℕ × Shape)) → pad_born b ≡ true → queue_born b ≡ true → ⊥
 not_both None p q = cc

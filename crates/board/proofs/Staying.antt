@@ -1,7 +1,6 @@
-use Rattle.std.proofs.Common.{◌≡◌, ◌≢◌, ℕ, zero, suc, ◌+◌, ◌<◌, ◌≤◌, Bool, true, false, cond, ◌||◌, List, [], ◌∷◌, ◌++◌, length, map, Option, Some, None, is_some, refl, sym, ◌∙◌, ap, subst, arith, append-nil, append_assoc, ◌⊎◌, inl, inr}
+use Rattle.std.proofs.Common.{◌≡◌, ◌≢◌, ℕ, zero, suc, ◌<◌, Bool, true, false, cond, ◌||◌, List, [], ◌∷◌, ◌++◌, length, map, Option, Some, None, is_some, refl, sym, ◌∙◌, ap, subst, arith, append-nil, append_assoc, ◌⊎◌, inl, inr}
 use Rattle.std.specs.Prelude.{◌==◌, slice_get, Result, Ok, Err, MatchResult, MatchBool}
-use Rattle.std.specs.List.{filter_map, list_any, filter}
-use Rattle.std.proofs.Math.Bool.{or-false}
+use Rattle.std.specs.List.{filter_map}
 use Rattle.std.proofs.lemmas.Bool.{eqb-true, eq-eqb, false_from_ne_true, or_left, or_from}
 use Rattle.std.proofs.lemmas.List.{map-append}
 use Rattle.std.proofs.lemmas.List.Folds.{list_any-append}
@@ -10,15 +9,15 @@ use Rattle.board.specs.declared.entry.Shape.{Shape}
 use Rattle.board.specs.declared.entry.Shape.TheVariants as shape
 use Rattle.board.specs.declared.entry.BoardEntry.{BoardEntry}
 use Rattle.board.specs.declared.entry.BoardEntry.TheVariants.{Born, Submit, Take, Finish, Enq, Deq, Done, Hold, Go, Collect, Close, Share, Shut}
-use Rattle.board.specs.Entries.{is_of, entries_of, birth, pad_born, accepted_in, submissions, taken_in, takings, takers, finished_in, finished, has, is_close, is_closed, is_share, is_shared, meaning_at, caller_of}
-use Rattle.board.specs.Legal.{IsNoWorker, IsMaker, maker_is, IsRight, IsRightFor, AreRightAfter, LegalBoard, IsOpenPad, MaySubmit, MayManage, MayFinish}
+use Rattle.board.specs.Entries.{is_of, entries_of, birth, pad_born, accepted_in, submissions, taken_in, takings, takers, finished_in, finished, has, is_close, is_share, is_shared, meaning_at, caller_of}
+use Rattle.board.specs.Legal.{IsMaker, maker_is, IsRight, IsRightFor, AreRightAfter, LegalBoard, MayFinish}
 use Rattle.board.specs.Order.{AreRightForAfter, numbers_below}
 use Rattle.board.specs.Staying.{OpensPad, StaysOpen, StaysManaged, StaysSubmitting, SlipStays, IsOpenFor}
 use Rattle.board.proofs.Transfer.{right_for, entries-more, entries-same, each_right}
 use Rattle.board.proofs.PadOrder.{filter_map-none, birth_stays}
 use Rattle.board.proofs.Kept.{takers-same, closed-same, has-more}
 use Rattle.board.proofs.KeptTake.{takers-more}
-use Rattle.board.proofs.QueueOrder.{IsServed, served_run, served_start, taker_among, has_only_below}
+use Rattle.board.proofs.QueueOrder.{served_run, served_start, taker_among, has_only_below}
 
 -- the last entry of a legal history is right, and what stands before it is legal
 pub before_last : {A : Type 0} (before h : List (BoardEntry A)) (e : BoardEntry A) → AreRightAfter before (h ++ e ∷ []) → AreRightAfter before h

@@ -1,4 +1,4 @@
-use Rattle.std.proofs.Common.{ℕ, [], ◌++◌, ◌∷◌, subst, refl}
+use Rattle.std.proofs.Common.{[], ◌++◌, ◌∷◌, subst, refl}
 use Rattle.std.proofs.lemmas.Bool.{eq-eqb}
 use Rattle.board.specs.declared.entry.BoardEntry.TheVariants.{Collect}
 use Rattle.board.specs.Order.{AreRightForAfter}

@@ -1,4 +1,4 @@
-use Rattle.std.proofs.Common.{arith, ◌≡◌, ℕ, ◌+◌, ◌-◌, ◌≤◌, ◌<◌, List, [], ◌∷◌, ◌++◌, length, ap, sym, ◌∙◌, subst, refl}
+use Rattle.std.proofs.Common.{arith, ◌≡◌, [], ◌∷◌, ◌++◌, length, ap, sym, ◌∙◌, subst, refl}
 use Rattle.board.specs.declared.entry.BoardEntry.TheVariants.{Close}
 use Rattle.board.specs.Entries.{entries_of, submissions, front, told, collected}
 use Rattle.board.specs.Legal.{MayManage, IsOpenPad}

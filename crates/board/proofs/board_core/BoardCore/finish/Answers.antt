@@ -1,13 +1,9 @@
-use Rattle.std.proofs.Common.{arith, ◌≡◌, ◌≢◌, ℕ, ◌+◌, ◌-◌, ◌≤◌, ◌<◌, List, [], ◌∷◌, ◌++◌, length, ap, sym, ◌∙◌, subst, refl, false, Some}
-use Rattle.std.specs.Prelude.{slice_set}
-use Rattle.std.proofs.lemmas.List.{length-set}
-use Rattle.std.proofs.lemmas.List.Sums.{sum_by-set}
+use Rattle.std.proofs.Common.{arith, ◌≡◌, [], ◌∷◌, ◌++◌, ap, sym, ◌∙◌, subst, refl, false, Some}
 use Rattle.board.specs.declared.entry.BoardEntry.TheVariants.{Finish}
 use Rattle.board.specs.Entries.{entries_of, takers, finished, has, meaning_at, submissions}
-use Rattle.board.specs.Kept.{IsKeptBoard, IsKept, owes}
 use Rattle.board.proofs.KeptUsed.{used_same}
-use Rattle.board.proofs.Kept.{board_step, within_board, shut-same, kept_here}
-use Rattle.board.proofs.KeptFinish.{taken_here, finish_low, finish_high, finish_runs, finish_kept, finish_owes, finish_step}
+use Rattle.board.proofs.Kept.{within_board, shut-same, kept_here}
+use Rattle.board.proofs.KeptFinish.{taken_here, finish_low, finish_high, finish_runs, finish_step}
 use Rattle.board.proofs.board_core.BoardCore.finish.Goals as goal
 
 pub index_mut-place-requires : goal.index_mut-place-requires

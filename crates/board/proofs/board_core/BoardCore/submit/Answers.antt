@@ -1,9 +1,9 @@
-use Rattle.std.proofs.Common.{arith, ◌≡◌, ◌≢◌, ℕ, ◌+◌, ◌-◌, ◌≤◌, ◌<◌, List, [], ◌∷◌, ◌++◌, length, ap, sym, ◌∙◌, subst, refl, true}
+use Rattle.std.proofs.Common.{arith, ◌≡◌, length, sym, ◌∙◌, subst, refl}
 use Rattle.board.specs.declared.entry.BoardEntry.TheVariants.{Submit}
-use Rattle.board.specs.Entries.{entries_of, submissions, pad_born, birth}
+use Rattle.board.specs.Entries.{entries_of, submissions}
 use Rattle.board.specs.Legal.{MaySubmit, IsOpenPad}
-use Rattle.board.proofs.KeptUsed.{used_same, used_more}
-use Rattle.board.proofs.Kept.{kept_here, shut-same, within_board}
+use Rattle.board.proofs.KeptUsed.{used_more}
+use Rattle.board.proofs.Kept.{shut-same, within_board}
 use Rattle.board.proofs.KeptSubmit.{submit_step, spare_step, open_here, few_submissions, through_room, room_only, same_submitted, submitted_after}
 use Rattle.board.proofs.board_core.BoardCore.submit.Goals as goal
 

@@ -1,7 +1,6 @@
-use Rattle.std.proofs.Common.{arith, ◌≡◌, ◌≢◌, ℕ, ◌+◌, ◌-◌, ◌≤◌, ◌<◌, List, [], ◌∷◌, ◌++◌, length, ap, sym, ◌∙◌, subst, refl, Some, MatchOption}
-use Rattle.std.specs.Prelude.{slice_get}
+use Rattle.std.proofs.Common.{arith, ◌<◌, [], ◌∷◌, ◌++◌, length, ap, ◌∙◌, subst, refl}
 use Rattle.board.specs.declared.entry.BoardEntry.TheVariants.{Take}
-use Rattle.board.specs.Entries.{entries_of, takers, submissions, NoneWaits}
+use Rattle.board.specs.Entries.{NoneWaits}
 use Rattle.board.specs.Legal.{LegalBoard}
 use Rattle.board.proofs.KeptUsed.{used_same}
 use Rattle.board.proofs.Kept.{kept_here, shut-same}

@@ -1,10 +1,10 @@
-use Rattle.std.proofs.Common.{arith, ◌≡◌, ◌≢◌, ℕ, ◌+◌, ◌-◌, ◌≤◌, ◌<◌, List, [], ◌∷◌, ◌++◌, length, ap, sym, ◌∙◌, subst, refl, true}
+use Rattle.std.proofs.Common.{arith, ◌≡◌, ◌+◌, ◌≤◌, ◌<◌, [], ◌∷◌, ◌++◌, length, ap, sym, ◌∙◌, subst, refl}
 use Rattle.board.specs.declared.entry.BoardEntry.TheVariants.{Collect}
-use Rattle.board.specs.Entries.{entries_of, submissions, pad_born, birth, front, told, delivered}
+use Rattle.board.specs.Entries.{entries_of, submissions, front}
 use Rattle.padata_core.specs.Pad.{ready, submitted_of}
 use Rattle.board.specs.Legal.{MayManage, IsOpenPad}
 use Rattle.board.proofs.KeptUsed.{used_same}
-use Rattle.board.proofs.Kept.{kept_here, shut-same, within_board}
+use Rattle.board.proofs.Kept.{shut-same, within_board}
 use Rattle.board.proofs.KeptSubmit.{open_here}
 use Rattle.board.proofs.KeptCollect.{drain_step, not_drained, same_item, outcomes_only}
 use Rattle.board.specs.Legal.{LegalBoard}
