@@ -9,13 +9,13 @@ use Rattle.board.specs.declared.entry.Shape.{Shape}
 use Rattle.board.specs.declared.entry.Shape.TheVariants as shape
 use Rattle.board.specs.declared.entry.BoardEntry.{BoardEntry}
 use Rattle.board.specs.declared.entry.BoardEntry.TheVariants.{Born, Submit, Take, Finish, Enq, Deq, Done, Hold, Go, Collect, Close, Share, Shut}
-use Rattle.board.specs.Entries.{is_of, entries_of, birth, pad_born, accepted_in, submissions, taken_in, takings, takers, finished_in, finished, has, is_close, is_share, is_shared, meaning_at, caller_of}
+use Rattle.board.specs.Entries.{is_of, entries_of, birth, pad_born, accepted_in, submissions, taken_in, takings, takers, finished_in, finished, has, is_close, is_share, is_shared, meaning_at, caller_of, collected_in, collected, last_or, told, front, completes_below}
 use Rattle.board.specs.Legal.{IsMaker, maker_is, IsRight, IsRightFor, AreRightAfter, LegalBoard, MayFinish}
 use Rattle.board.specs.Order.{AreRightForAfter, numbers_below}
-use Rattle.board.specs.Staying.{OpensPad, StaysOpen, StaysManaged, StaysSubmitting, SlipStays, IsOpenFor}
+use Rattle.board.specs.Staying.{OpensPad, StaysOpen, StaysManaged, StaysSubmitting, SlipStays, IsOpenFor, CollectDrains, is_work, WorkLeaves}
 use Rattle.board.proofs.Transfer.{right_for, entries-more, entries-same, each_right}
-use Rattle.board.proofs.PadOrder.{filter_map-none, birth_stays}
-use Rattle.board.proofs.Kept.{takers-same, closed-same, has-more}
+use Rattle.board.proofs.PadOrder.{filter_map-none, birth_stays, filter_map-some, last_or-append, told_on_pad}
+use Rattle.board.proofs.Kept.{takers-same, closed-same, has-more, collected-same}
 use Rattle.board.proofs.KeptTake.{takers-more}
 use Rattle.board.proofs.QueueOrder.{served_run, served_start, taker_among, has_only_below}
 
@@ -168,3 +168,40 @@ open_after old new e p caller (inr same) c o = rw same o
 pub slip_after : {A O : Type 0} (meaning : A → O) (old new : List (BoardEntry A)) (e : BoardEntry A) (p caller n : ℕ) (out : O) → (new ≡ old ++ e ∷ []) ⊎ (new ≡ old) → LegalBoard new → caller_of e ≢ caller → MayFinish meaning (entries_of p old) caller n out → MayFinish meaning (entries_of p new) caller n out
 slip_after meaning old new e p caller n out (inl more) legal other m = slip_more meaning old new e p caller n out more legal other m
 slip_after meaning old new e p caller n out (inr same) legal other m = rw same m
+
+pub collect_drains : {A : Type 0} (h : List (BoardEntry A)) (caller p to : ℕ) → CollectDrains h caller p to
+collect_drains {A} h caller p to legal opened all =
+    let e : BoardEntry A = Collect caller p to in
+    let es : List (BoardEntry A) = entries_of p h in
+    let more : entries_of p (h ++ e ∷ []) ≡ es ++ e ∷ [] = entries-more h p e (eq-eqb p p refl) in
+    let right = right_for h p e (eq-eqb p p refl) (last_right [] h e legal) in
+    let subs : submissions (es ++ e ∷ []) ≡ submissions es = filter_map-none accepted_in es e refl in
+    let fins : finished (es ++ e ∷ []) ≡ finished es = filter_map-none finished_in es e refl in
+    let f : front (es ++ e ∷ []) ≡ front es = rw (subs, fins) refl in
+    let b = birth_stays es e (pad_some (birth es) opened.0) in
+    let t : told (es ++ e ∷ []) ≡ told es = told_on_pad (es ++ e ∷ []) (ap pad_born b ∙ opened.0) ∙ (ap completes_below f ∙ sym (told_on_pad es opened.0)) in
+    let c : collected (es ++ e ∷ []) ≡ to = ap (last_or 0) (filter_map-some collected_in es e to refl) ∙ last_or-append 0 (filter_map collected_in es) to in
+    rw more (f ∙ (all ∙ ap length (sym subs)), c ∙ (right.2 ∙ ap length (sym t)))
+
+accepts_none : {A : Type 0} (e : BoardEntry A) → is_work e ≡ true → (accepted_in e ≡ None) × (collected_in e ≡ None)
+accepts_none (Born caller pipe shape) w = cc
+accepts_none (Submit caller pipe number ask) w = cc
+accepts_none (Take caller pipe number) w = (refl, refl)
+accepts_none (Finish caller pipe number) w = (refl, refl)
+accepts_none (Enq caller pipe ask backlog answer) w = cc
+accepts_none (Deq caller pipe number started) w = (refl, refl)
+accepts_none (Done caller pipe number) w = (refl, refl)
+accepts_none (Hold caller pipe) w = cc
+accepts_none (Go caller pipe) w = cc
+accepts_none (Collect caller pipe to) w = cc
+accepts_none (Close caller pipe) w = cc
+accepts_none (Share caller pipe) w = cc
+accepts_none (Shut caller) w = cc
+
+work_cases : {A : Type 0} (h : List (BoardEntry A)) (e : BoardEntry A) (p : ℕ) (b : Bool) → is_of p e ≡ b → WorkLeaves h e p
+work_cases h e p true s w =
+    rw (entries-more h p e s) (filter_map-none accepted_in (entries_of p h) e (accepts_none e w).0, collected-same (entries_of p h) e (accepts_none e w).1)
+work_cases h e p false s w = rw (entries-same h p e s) (refl, refl)
+
+pub work_leaves : {A : Type 0} (h : List (BoardEntry A)) (e : BoardEntry A) (p : ℕ) → WorkLeaves h e p
+work_leaves h e p = work_cases h e p (is_of p e) refl

@@ -1,8 +1,8 @@
-use Rattle.std.specs.Prelude.{◌≡◌, ◌≢◌, ℕ, false, List, [], ◌∷◌, ◌++◌}
+use Rattle.std.specs.Prelude.{◌≡◌, ◌≢◌, ℕ, Bool, true, false, List, [], ◌∷◌, ◌++◌, length}
 use Rattle.board.specs.declared.entry.Shape.TheVariants.{Pad}
 use Rattle.board.specs.declared.entry.BoardEntry.{BoardEntry}
-use Rattle.board.specs.declared.entry.BoardEntry.TheVariants.{Born}
-use Rattle.board.specs.Entries.{entries_of, is_close, caller_of}
+use Rattle.board.specs.declared.entry.BoardEntry.TheVariants.{Born, Take, Finish, Deq, Done, Collect}
+use Rattle.board.specs.Entries.{entries_of, submissions, front, told, collected, is_close, caller_of}
 use Rattle.board.specs.Legal.{IsOpenPad, MaySubmit, MayManage, MayFinish, LegalBoard}
 
 -- the pad is open, and this caller manages it
@@ -29,3 +29,28 @@ abbrev pub SlipStays : {A O : Type 0} → (A → O) → List (BoardEntry A) → 
 SlipStays meaning h e p caller n out =
     LegalBoard (h ++ e ∷ []) → caller_of e ≢ caller → MayFinish meaning (entries_of p h) caller n out
     → MayFinish meaning (entries_of p (h ++ e ∷ [])) caller n out
+
+-- each request of the pipeline is finished and handed out: it may be closed
+abbrev pub IsDrained : {A : Type 0} → List (BoardEntry A) → Type 0
+IsDrained es = (front es ≡ length (submissions es)) × (collected es ≡ length (told es))
+
+-- an open pad of which each request is finished is drained by a collect
+abbrev pub CollectDrains : {A : Type 0} → List (BoardEntry A) → ℕ → ℕ → ℕ → Type 0
+CollectDrains h caller p to =
+    LegalBoard (h ++ Collect caller p to ∷ []) → IsOpenPad (entries_of p h)
+    → front (entries_of p h) ≡ length (submissions (entries_of p h)) → IsDrained (entries_of p (h ++ Collect caller p to ∷ []))
+
+-- what workers do
+abbrev pub is_work : {A : Type 0} → BoardEntry A → Bool
+is_work (Take caller pipe number) = true
+is_work (Finish caller pipe number) = true
+is_work (Deq caller pipe number started) = true
+is_work (Done caller pipe number) = true
+is_work _ = false
+
+-- it accepts nothing and hands nothing out
+abbrev pub WorkLeaves : {A : Type 0} → List (BoardEntry A) → BoardEntry A → ℕ → Type 0
+WorkLeaves h e p =
+    is_work e ≡ true
+    → (submissions (entries_of p (h ++ e ∷ [])) ≡ submissions (entries_of p h))
+    × (collected (entries_of p (h ++ e ∷ [])) ≡ collected (entries_of p h))

@@ -1,6 +1,6 @@
 //! A board: its pipelines, and the history of all that happened on it.
 
-ghost use Rattle.std.specs.Prelude.{◌≡◌, ◌≢◌, ℕ, ◌+◌, ◌<◌, ◌≤◌, Bool, true, false, List, [], ◌∷◌, ◌++◌, length, slice_get, Option, Some, None, IfOk, IfErr, IfSome, OnOk, ◌↔◌, MatchResult, MatchOption, MatchBool};
+ghost use Rattle.std.specs.Prelude.{◌≡◌, ◌<◌, ◌≤◌, false, [], ◌∷◌, ◌++◌, length, slice_get, Some, IfOk, IfErr, IfSome, OnOk, ◌↔◌, MatchResult, MatchOption, MatchBool};
 ghost use Rattle.std.specs.Arc.{arc_value};
 ghost use Rattle.std.specs.declared.sync.Arc.{Arc};
 ghost use Rattle.std.specs.declared.alloc.Global.{Global as GlobalMemory};

@@ -11,7 +11,7 @@ ghost use Rattle.board.specs.declared.entry.BoardEntry.TheVariants.{Submit, Fini
 ghost use Rattle.board.specs.Entries.{Starts, Completes, told, entries_of, delivered};
 ghost use Rattle.board.specs.Legal.{IsRight, LegalBoard};
 ghost use Rattle.board.specs.Order.{PadsKeepOrder, PadsWaitForEach, PadsHandOutAll, QueuesKeepOrder, QueuesHandOutTold};
-ghost use Rattle.board.specs.Staying.{OpensPad, StaysOpen, StaysManaged, StaysSubmitting, SlipStays};
+ghost use Rattle.board.specs.Staying.{OpensPad, StaysOpen, StaysManaged, StaysSubmitting, SlipStays, CollectDrains, WorkLeaves};
 ghost use Rattle.board.specs.Examples.{held_requests, held_queue, second_first};
 
 /// In every legal history a pad hands out the completions of its requests in their order, each once, however its jobs were
@@ -28,13 +28,15 @@ pub fn queues_keep_order<A>()
     ensures front_of { (h : List (BoardEntry A)) (q : ℕ) → QueuesHandOutTold h q }
 {}
 
-/// What stays of a pipeline while a history goes on: it is open until it is closed, and who may manage it or submit to it
-/// may do so later.
+/// What stays of a pipeline while a history goes on: it is open until it is closed, who may manage it or submit to it may do
+/// so later, and work accepts nothing and hands nothing out. A pad of which all is finished may be closed after a collect.
 pub fn pipelines_stay<A>()
     ensures born { (h : List (BoardEntry A)) (caller p lists : ℕ) → OpensPad h caller p lists }
     ensures stays_open { (h : List (BoardEntry A)) (e : BoardEntry A) (p : ℕ) → StaysOpen h e p }
     ensures managed { (h : List (BoardEntry A)) (e : BoardEntry A) (p caller : ℕ) → StaysManaged h e p caller }
     ensures submitting { (h : List (BoardEntry A)) (e : BoardEntry A) (p caller : ℕ) → StaysSubmitting h e p caller }
+    ensures work { (h : List (BoardEntry A)) (e : BoardEntry A) (p : ℕ) → WorkLeaves h e p }
+    ensures drained { (h : List (BoardEntry A)) (caller p to : ℕ) → CollectDrains h caller p to }
 {}
 
 /// Who took a job may finish it, with the value of the same ask, whatever others do meanwhile.
