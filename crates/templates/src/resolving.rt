@@ -46,9 +46,7 @@ fn look_for(
     ensures known { IsKnown name.now }
 {
     learn_name(name);
-    let Ok(text) = print_name(alloc, name) else {
-        return Err(BuildErr::Memory);
-    };
+    let text = print_name(alloc, name)?;
     match registry.look(caller, text.as_slice(), plain) {
         Ok(answer) => Ok(answer),
         Err(_) => Err(BuildErr::Memory),
@@ -61,10 +59,10 @@ fn add_origin(registry: &Registry, below: &mut Vec<(u64, Spec)>, id: u64) -> Res
     ensures err { IfErr result (λ e. e ≡ BuildErr.Memory) }
 {
     match registry.origin(id) {
-        Ok(Some(spec)) => match below.push((id, spec)) {
-            Ok(()) => Ok(()),
-            Err(_) => Err(BuildErr::Memory),
-        },
+        Ok(Some(spec)) => {
+            below.push((id, spec))?;
+            Ok(())
+        }
         Ok(None) => Ok(()),
         Err(_) => Err(BuildErr::Memory),
     }
@@ -138,15 +136,8 @@ fn resolve_children(
     let mut ids = Vec::new(alloc);
     for child in asked {
         learn_name(child);
-        match resolve_within(alloc, registry, caller, child, true) {
-            Ok(id) => {
-                match ids.push(id) {
-                    Ok(()) => {}
-                    Err(_) => return Err(BuildErr::Memory),
-                }
-            }
-            Err(failure) => return Err(failure),
-        }
+        let id = resolve_within(alloc, registry, caller, child, true)?;
+        ids.push(id)?;
     }
     Ok(ids)
 }
@@ -165,17 +156,9 @@ fn build(
     requires nested { is_nested_well name.now ≡ true }
     ensures { Builds caller larval registry.old registry.new result }
 {
-    let asked = match children(alloc, name) {
-        Ok(asked) => asked,
-        Err(failure) => return Err(failure),
-    };
-    let ids = match resolve_children(alloc, registry, caller, name, larval, &asked) {
-        Ok(ids) => ids,
-        Err(failure) => return Err(failure),
-    };
-    let Ok(below) = origins(alloc, registry, &ids) else {
-        return Err(BuildErr::Memory);
-    };
+    let asked = children(alloc, name)?;
+    let ids = resolve_children(alloc, registry, caller, name, larval, &asked)?;
+    let below = origins(alloc, registry, &ids)?;
     derive(alloc, name, &below)
 }
 
@@ -195,20 +178,16 @@ fn resolve_within(
     requires nested { is_nested_well name.now ≡ true }
     ensures { Resolves caller (spelling name.now) plain registry.old registry.new result }
 {
-    let Ok(answer) = look_for(alloc, registry, caller, name, plain) else {
-        return Err(BuildErr::Memory);
-    };
+    let answer = look_for(alloc, registry, caller, name, plain)?;
     match answer {
         Looked::Found(id) => Ok(id),
         Looked::Absent => Err(BuildErr::Fault(Errno::ENOENT)),
         Looked::Pending(_) => unreachable!(),
-        Looked::Began(larval) => match claim_begun(registry, caller, larval) {
-            Ok(()) => {
-                let built = build(alloc, registry, caller, name, larval);
-                finish(registry, caller, larval, built)
-            }
-            Err(_) => Err(BuildErr::Memory),
-        },
+        Looked::Began(larval) => {
+            claim_begun(registry, caller, larval)?;
+            let built = build(alloc, registry, caller, name, larval);
+            finish(registry, caller, larval, built)
+        }
     }
 }
 
