@@ -32,8 +32,8 @@ fn learn_name(name: &Name)
 
 /// Looks for the spelling of the name. Want of memory leaves the history as it was.
 fn look_for(
-    registry: &mut Registry,
     alloc: Global,
+    registry: &mut Registry,
     caller: u32,
     name: &Name,
     plain: bool,
@@ -71,7 +71,7 @@ fn add_origin(registry: &Registry, below: &mut Vec<(u64, Spec)>, id: u64) -> Res
 }
 
 /// The entries with these ids, as they came to be.
-fn origins(registry: &Registry, alloc: Global, ids: &[u64]) -> Result<Vec<(u64, Spec)>, BuildErr>
+fn origins(alloc: Global, registry: &Registry, ids: &[u64]) -> Result<Vec<(u64, Spec)>, BuildErr>
     ensures ok { IfOk result (λ below. below.items ≡ filter_map (with_spec (registered registry.now)) ids.now) }
     ensures err { IfErr result (λ e. e ≡ BuildErr.Memory) }
 {
@@ -121,8 +121,8 @@ fn finish(
 /// Looks for each child in turn, until one comes to a failure.
 #[cycle(resolve)]
 fn resolve_children(
-    registry: &mut Registry,
     alloc: Global,
+    registry: &mut Registry,
     caller: u32,
     name: &Name,
     larval: u64,
@@ -138,7 +138,7 @@ fn resolve_children(
     let mut ids = Vec::new(alloc);
     for child in asked {
         learn_name(child);
-        match resolve_within(registry, alloc, caller, child, true) {
+        match resolve_within(alloc, registry, caller, child, true) {
             Ok(id) => {
                 match ids.push(id) {
                     Ok(()) => {}
@@ -154,8 +154,8 @@ fn resolve_children(
 /// Builds the instance of the name for the larval that the caller has claimed.
 #[cycle(resolve)]
 fn build(
-    registry: &mut Registry,
     alloc: Global,
+    registry: &mut Registry,
     caller: u32,
     name: &Name,
     larval: u64,
@@ -169,11 +169,11 @@ fn build(
         Ok(asked) => asked,
         Err(failure) => return Err(failure),
     };
-    let ids = match resolve_children(registry, alloc, caller, name, larval, &asked) {
+    let ids = match resolve_children(alloc, registry, caller, name, larval, &asked) {
         Ok(ids) => ids,
         Err(failure) => return Err(failure),
     };
-    let Ok(below) = origins(registry, alloc, &ids) else {
+    let Ok(below) = origins(alloc, registry, &ids) else {
         return Err(BuildErr::Memory);
     };
     derive(alloc, name, &below)
@@ -182,8 +182,8 @@ fn build(
 /// Looks for the name, and builds it where a larval began.
 #[cycle(resolve)]
 fn resolve_within(
-    registry: &mut Registry,
     alloc: Global,
+    registry: &mut Registry,
     caller: u32,
     name: &Name,
     plain: bool,
@@ -195,7 +195,7 @@ fn resolve_within(
     requires nested { is_nested_well name.now ≡ true }
     ensures { Resolves caller (spelling name.now) plain registry.old registry.new result }
 {
-    let Ok(answer) = look_for(registry, alloc, caller, name, plain) else {
+    let Ok(answer) = look_for(alloc, registry, caller, name, plain) else {
         return Err(BuildErr::Memory);
     };
     match answer {
@@ -204,7 +204,7 @@ fn resolve_within(
         Looked::Pending(_) => unreachable!(),
         Looked::Began(larval) => match claim_begun(registry, caller, larval) {
             Ok(()) => {
-                let built = build(registry, alloc, caller, name, larval);
+                let built = build(alloc, registry, caller, name, larval);
                 finish(registry, caller, larval, built)
             }
             Err(_) => Err(BuildErr::Memory),
@@ -220,8 +220,8 @@ fn resolve_within(
 /// number with which the name's building ended. `Memory` leaves a legal history of faithful builds, and maybe pending
 /// larvals.
 pub fn resolve_alone(
-    registry: &mut Registry,
     alloc: Global,
+    registry: &mut Registry,
     caller: u32,
     name: &Name,
     plain: bool,
@@ -236,7 +236,7 @@ pub fn resolve_alone(
     ensures ended { UnlessMemory result (AllEnded registry.old registry.new) }
     ensures legal { LegalReg registry.new }
 {
-    let found = resolve_within(registry, alloc, caller, name, plain);
+    let found = resolve_within(alloc, registry, caller, name, plain);
     // What the registry says of its history.
     let _ = registry.history();
     found
@@ -245,8 +245,8 @@ pub fn resolve_alone(
 /// The same where nothing is being built, as for a script's line: nothing is pending then afterwards, unless memory ran
 /// out.
 pub fn resolve_outright(
-    registry: &mut Registry,
     alloc: Global,
+    registry: &mut Registry,
     caller: u32,
     name: &Name,
 ) -> Result<u64, BuildErr>
@@ -259,5 +259,5 @@ pub fn resolve_outright(
     ensures none { UnlessMemory result (NonePending registry.new) }
 {
     learn_name(name);
-    resolve_alone(registry, alloc, caller, name, false)
+    resolve_alone(alloc, registry, caller, name, false)
 }
