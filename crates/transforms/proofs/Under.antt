@@ -1,5 +1,5 @@
 -- a mode under its key
-use Rattle.std.proofs.Common.{nat_le, ◌&&◌, ◌≡◌, ◌≢◌, ℕ, ◌+◌, ◌-◌, ◌≤◌, List, ◌++◌, length, take, drop, refl, ap, ap₂, sym, ◌∙◌, true, false, arith, rules, ⊎_elim, Option, Some}
+use Rattle.std.proofs.Common.{nat_le, ◌&&◌, ◌≡◌, ℕ, ◌-◌, ◌≤◌, List, refl, ap, ap₂, sym, true, arith, ⊎_elim, Option, Some}
 use Rattle.std.proofs.lemmas.Bool.Decides.{nat_tests}
 use Rattle.std_defs.specs.Aes.{seal, unseal, IsKeyLength}
 use Rattle.std_defs.specs.Modes.{cbc_seal, cbc_unseal, ctr as ctr_of, rfc3686_counter}

@@ -1,17 +1,12 @@
 -- a mode with a tag under its key
-use Rattle.std.proofs.Common.{◌≡◌, ℕ, List, ◌++◌, length, refl, ap, ap₂, sym, ◌∙◌, true, Some, None, Bool, false, Option}
-use Rattle.std.specs.Option.{option_map}
-use Rattle.std_defs.specs.Aes.{seal}
-use Rattle.std_defs.specs.Gcm.{gcm_seal, gcm_open}
+use Rattle.std.proofs.Common.{◌≡◌, ℕ, List, length, refl, ap, ap₂, sym, ◌∙◌, true, Some, None, Bool, false, Option}
 use Rattle.std_defs.specs.Hmac.{block_key}
-use Rattle.std_defs.specs.Authenc.{authenc_seal, authenc_open, blob}
-use Rattle.std_defs.specs.Value.{Value, or_invalid, or_bad_message}
-use Rattle.std_defs.specs.Value.Value.{bytes, invalid}
+use Rattle.std_defs.specs.Authenc.{blob}
+use Rattle.std_defs.specs.Value.Value.{invalid}
 use Rattle.transforms.specs.Mode.{CipherMode}
 use Rattle.transforms.specs.Mode.AeadMode.{gcm, rfc4106, authenc}
 use Rattle.transforms.specs.Meaning.{cipher_aes_key, front_key, last_four, Seals, Opens, gcm_seals, gcm_opens, rfc4106_seals, rfc4106_opens, authenc_seals, authenc_opens, by_keys, sealed_by, unsealed_by, aead_seal, aead_open}
 use Rattle.transforms.specs.Takes.{takes_key, aead_takes_key}
-use Rattle.transforms.specs.Tagged.{tagged}
 use Rattle.transforms.specs.Forms.{key_of, form_of}
 use Rattle.templates.specs.declared.driver_plans.AesForm.{AesForm}
 use Rattle.transforms.specs.Ciphers as ciphers

@@ -1,11 +1,10 @@
 -- what the inner mode of a keyed plan gives is the value
 use Rattle.std.proofs.Common.{◌≡◌, ℕ, List, ap, ap₂, sym, ◌∙◌, subst, Option}
-use Rattle.std_defs.specs.Hmac.{block_key, hmac_under, hmac}
+use Rattle.std_defs.specs.Hmac.{hmac_under}
 use Rattle.std_defs.specs.Value.{Value}
 use Rattle.std_defs.specs.Value.Value.{bytes}
-use Rattle.transforms.specs.Mode.{Mode, CipherMode, AeadMode}
+use Rattle.transforms.specs.Mode.{Mode}
 use Rattle.transforms.specs.Meaning.{Seals, Opens, cipher_value, aead_value, value}
-use Rattle.transforms.specs.Takes.{fits_tag, tag_size}
 use Rattle.transforms.specs.Keys.{IsKeyed}
 use Rattle.templates.specs.declared.driver_plans.AesForm.{AesForm}
 use Rattle.transforms.specs.Ciphers as ciphers

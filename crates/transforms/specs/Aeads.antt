@@ -1,13 +1,6 @@
 -- what a mode with a tag gives, under the key that it has
-use Rattle.std.specs.Prelude.{◌≡◌, ℕ, Bool, List, Option, Some}
-use Rattle.std.specs.Option.{option_map}
-use Rattle.std_defs.specs.Aes.{seal, unseal}
-use Rattle.std_defs.specs.Gcm.{gcm_seal, gcm_open}
-use Rattle.std_defs.specs.Authenc.{authenc_seal, authenc_open}
-use Rattle.std_defs.specs.Value.{Value, or_invalid, or_bad_message}
-use Rattle.std_defs.specs.Value.Value.{bytes}
+use Rattle.std.specs.Prelude.{◌≡◌, ℕ, Bool, List, Some}
 use Rattle.transforms.specs.Mode.{AeadMode}
-use Rattle.transforms.specs.Tagged.{tagged}
 use Rattle.transforms.specs.Meaning.{aead_aes_key, Seals, Opens, aead_seal, aead_open, gcm_seals, gcm_opens, rfc4106_seals, rfc4106_opens, authenc_seals, authenc_opens}
 use Rattle.transforms.specs.Takes.{aead_iv_size, tag_size, authenc_takes_tag, aead_takes_tag}
 use Rattle.std_defs.specs.Gcm.{gcm_takes_tag}

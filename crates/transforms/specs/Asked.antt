@@ -1,9 +1,8 @@
 -- the requests that are taken, and the bytes that a job needs room for
-use Rattle.std.specs.Prelude.{ℕ, ◌++◌, ◌==◌, ◌&&◌, nat_le, Bool, true, false, List, [], length, replicate}
-use Rattle.transforms.specs.Mode.{CipherMode, AeadMode, Mode}
+use Rattle.std.specs.Prelude.{ℕ, ◌++◌, ◌==◌, ◌&&◌, nat_le, Bool, false, List, [], length, replicate}
+use Rattle.transforms.specs.Mode.{Mode}
 use Rattle.transforms.specs.Mode.Mode.{skcipher, mac, aead}
 use Rattle.transforms.specs.Takes.{iv_size, aead_iv_size}
-use Rattle.transforms.specs.declared.request.Dir.{Dir}
 use Rattle.transforms.specs.declared.request.Dir.TheVariants.{Enc, Dec, Mac}
 use Rattle.transforms.specs.declared.request.Request.{Request}
 

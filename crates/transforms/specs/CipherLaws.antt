@@ -1,5 +1,4 @@
 -- the law of each mode without a tag
-use Rattle.std.specs.Prelude.{ℕ, List}
 use Rattle.std_defs.specs.Aes.{seal, unseal}
 use Rattle.std_defs.specs.Modes.{rfc3686_counter}
 use Rattle.aes_block.specs.Mode.{UndoesSealing}

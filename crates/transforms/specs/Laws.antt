@@ -1,5 +1,4 @@
 -- the laws of AES in each of its forms, and of the modes over it
-use Rattle.std.specs.Prelude.{ℕ, List}
 use Rattle.std_defs.specs.Aes.{seal, unseal}
 use Rattle.aes_block.specs.Cipher.{AreInverse}
 use Rattle.aes_block.specs.Laws.{seals_and_unseals}

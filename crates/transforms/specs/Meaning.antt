@@ -1,5 +1,5 @@
 -- the value of a request, by the mode of its transform
-use Rattle.std.specs.Prelude.{◌≡◌, ℕ, ◌+◌, ◌-◌, ◌++◌, ◌==◌, ◌&&◌, nat_le, nat_lt, Bool, true, false, if◌then◌else◌, Option, Some, None, List, length, take, drop, replicate}
+use Rattle.std.specs.Prelude.{ℕ, ◌-◌, Option, Some, None, List, length, take, drop}
 use Rattle.std.specs.Option.{option_map}
 use Rattle.std_defs.specs.Aes.{seal, unseal}
 use Rattle.std_defs.specs.Modes.{cbc_seal, cbc_unseal, ctr as ctr_of, rfc3686_counter}
@@ -8,13 +8,12 @@ use Rattle.std_defs.specs.Rfc4106.{rfc4106_seal, rfc4106_open}
 use Rattle.std_defs.specs.Hmac.{block_key, hmac}
 use Rattle.std_defs.specs.Authenc.{authenc_seal, authenc_open, blob}
 use Rattle.std_defs.specs.Value.{Value, or_invalid, or_bad_message}
-use Rattle.std_defs.specs.Value.Value.{bytes, bad_message, invalid}
+use Rattle.std_defs.specs.Value.Value.{bytes, invalid}
 use Rattle.transforms.specs.Mode.{Mode, CipherMode, AeadMode}
 use Rattle.transforms.specs.Mode.CipherMode.{cbc, ctr, rfc3686}
 use Rattle.transforms.specs.Mode.AeadMode.{gcm, rfc4106, authenc}
 use Rattle.transforms.specs.Mode.Mode.{skcipher, mac, aead}
 use Rattle.transforms.specs.Tagged.{tagged}
-use Rattle.transforms.specs.declared.request.Dir.{Dir}
 use Rattle.transforms.specs.declared.request.Dir.TheVariants.{Enc, Dec, Mac}
 use Rattle.transforms.specs.declared.request.Request.{Request}
 

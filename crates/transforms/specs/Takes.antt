@@ -1,5 +1,5 @@
 -- what a mode takes
-use Rattle.std.specs.Prelude.{ℕ, ◌+◌, ◌-◌, ◌==◌, ◌&&◌, ◌||◌, nat_le, Bool, true, false, List, length, Some, None}
+use Rattle.std.specs.Prelude.{ℕ, ◌-◌, ◌==◌, ◌&&◌, ◌||◌, nat_le, Bool, true, false, List, length}
 use Rattle.std_defs.specs.Authenc.{blob}
 use Rattle.std_defs.specs.Gcm.{gcm_takes_tag}
 use Rattle.std_defs.specs.Rfc4106.{rfc4106_takes_tag}
