@@ -22,9 +22,11 @@ use Rattle.alg_registry.specs.Rows.{noted_at, noted, registered_by, registered, 
 use Rattle.alg_registry.specs.Answers.{driver_place, enlist_answer, clashes_with, held_count, built_answer, joined_or_built}
 use Rattle.alg_registry.specs.Legal.{IsRight, LegalReg, is_worker, claimer, ended_as, MayEnd}
 use Rattle.alg_registry.specs.Calls.{ended_larval, new_row, listed_row_of}
+use Rattle.alg_registry.specs.Room.{owed}
 use Rattle.alg_registry.specs.Kept.{IsKept}
 use Rattle.alg_registry.proofs.Standing.{bare, bare-rows_of, standing-from_bare, standing-push, map-push}
 use Rattle.alg_registry.proofs.Steps.{IsQuiet, rows_of-quiet, registered-push, noted-quiet, first_of-push, or_none}
+use Rattle.alg_registry.proofs.Balance.{owed-end}
 use Rattle.alg_registry.proofs.Fresh.{fresh-from_legal, larval-within}
 use Rattle.alg_registry.proofs.Keeping.{IsAside, kept-aside, kept_step, larvals_of-left, larvals_of-set, unequal, and_left}
 
@@ -91,6 +93,26 @@ kept-refused h log rows larvals caller spec answer kept out below plain is other
 
 pub claimer-within : (h : List RegEntry) (larvals : List Larval) (caller n : ℕ) → larvals ≡ larvals_of h → claimer h n ≡ Some caller → n < length larvals
 claimer-within h larvals caller n are claimed = larval-within larvals n (λ larval. larval.claimed) caller (ap (λ ls. option_and_then (λ (l : Larval). l.claimed) (slice_get ls n)) are ∙ claimed)
+
+-- the caller may end the larval: room was kept, the larval is there, and it is pending
+pub record IsToEnd (h : List RegEntry) (larvals : List Larval) (caller n : ℕ) : Type 0 where
+  pub claimed : claimer h n ≡ Some caller
+  pub unended : ended_as h n ≡ None
+  pub room : 0 < owed h
+  pub within : n < length larvals
+  pub pending : option_and_then (λ (larval : Larval). larval.ended) (slice_get larvals n) ≡ None
+
+pub to_end : (h h' : List RegEntry) (rows : List Row) (larvals : List Larval) (caller n : ℕ) → IsKept h rows larvals → h ≡ h' → claimer h' n ≡ Some caller → ended_as h' n ≡ None → IsToEnd h larvals caller n
+to_end h h' rows larvals caller n kept same claimed' unended' =
+    let claimed : claimer h n ≡ Some caller = subst (λ (l : List RegEntry). claimer l n ≡ Some caller) (sym same) claimed' in
+    let unended : ended_as h n ≡ None = subst (λ (l : List RegEntry). ended_as l n ≡ None) (sym same) unended' in
+    record {
+      claimed = claimed;
+      unended = unended;
+      room = owed-end h caller n kept.legal claimed unended;
+      within = claimer-within h larvals caller n kept.larvals_are claimed;
+      pending = ap (λ (ls : List Larval). option_and_then (λ (larval : Larval). larval.ended) (slice_get ls n)) kept.larvals_are ∙ unended;
+    }
 
 -- the larval has its end
 larvals_of-ended : (h : List RegEntry) (caller n : ℕ) (answer : EndAnswer) (larvals : List Larval) (d : Larval) → larvals ≡ larvals_of h → claimer h n ≡ Some caller → ended_as h n ≡ None

@@ -1,2 +1,1 @@
-pub mod KeyStream
 pub mod CtrText

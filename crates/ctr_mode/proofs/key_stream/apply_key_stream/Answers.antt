@@ -1,5 +1,5 @@
 use Rattle.std.proofs.Common.{◌≡◌, ℕ, List, ◌≤◌, ◌*◌, ◌+◌, length, ◌∙◌, refl, ap, arith, zero-add}
-use Rattle.ctr_mode.proofs.KeyStream.{key_stream_to_do, key_stream_done, key_stream_all}
+use Rattle.std_defs.proofs.KeyStream.{key_stream_to_do, key_stream_done, key_stream_all}
 use Rattle.ctr_mode.proofs.key_stream.apply_key_stream.Goals as goal
 
 pub loop-i-preserved : goal.loop-i-preserved

@@ -1,34 +1,23 @@
-use Rattle.std.proofs.Common.{◌≡◌, ◌^◌, length, List, [], Some, None, sym, ap, ◌∙◌, subst, arith}
+use Rattle.std.proofs.Common.{◌≡◌, ◌^◌, length, List, [], None, sym, ◌∙◌, subst, arith}
 use Rattle.std.specs.List.{All}
 use Rattle.alg_registry.specs.declared.row.Row.{Row}
-use Rattle.std.specs.Prelude.{slice_get}
-use Rattle.std.specs.Option.{option_and_then}
 use Rattle.alg_registry.specs.declared.row.Larval.{Larval}
 use Rattle.alg_registry.specs.declared.entry.RegEntry.{RegEntry}
 use Rattle.alg_registry.specs.declared.entry.EndAnswer.TheVariants.{Built}
 use Rattle.alg_registry.specs.Rows.{rows_of}
 use Rattle.alg_registry.specs.Answers.{built_answer}
-use Rattle.alg_registry.specs.Legal.{claimer, ended_as}
-use Rattle.alg_registry.proofs.Balance.{owed-end}
 use Rattle.alg_registry.proofs.Fresh.{IsUnder, few-rows_of}
-use Rattle.alg_registry.proofs.Registering.{kept-built, claimer-within}
+use Rattle.alg_registry.proofs.Registering.{kept-built, to_end}
 use Rattle.alg_registry.proofs.registry.Registry.end_built.Goals as goal
 
 pub settle-requires-clause-owed : goal.settle-requires-clause-owed
-settle-requires-clause-owed c =
-    let claimed : claimer c.self.inside.log c.args.larval ≡ Some c.args.caller = subst (λ (h : List RegEntry). claimer h c.args.larval ≡ Some c.args.caller) (sym c.self.view_is) c.requires.claimed in
-    let unended : ended_as c.self.inside.log c.args.larval ≡ None = subst (λ (h : List RegEntry). ended_as h c.args.larval ≡ None) (sym c.self.view_is) c.requires.unended in
-    owed-end c.self.inside.log c.args.caller c.args.larval c.self.invariant.legal claimed unended
+settle-requires-clause-owed c = (to_end _ _ _ _ c.args.caller c.args.larval c.self.invariant c.self.view_is c.requires.claimed c.requires.unended).room
 
 pub end-requires-clause-within : goal.end-requires-clause-within
-end-requires-clause-within c =
-    let claimed : claimer c.self.inside.log c.args.larval ≡ Some c.args.caller = subst (λ (h : List RegEntry). claimer h c.args.larval ≡ Some c.args.caller) (sym c.self.view_is) c.requires.claimed in
-    claimer-within c.self.inside.log _ c.args.caller c.args.larval c.self.invariant.larvals_are claimed
+end-requires-clause-within c = (to_end _ _ _ _ c.args.caller c.args.larval c.self.invariant c.self.view_is c.requires.claimed c.requires.unended).within
 
 pub end-requires-clause-pending : goal.end-requires-clause-pending
-end-requires-clause-pending c =
-    let unended : ended_as c.self.inside.log c.args.larval ≡ None = subst (λ (h : List RegEntry). ended_as h c.args.larval ≡ None) (sym c.self.view_is) c.requires.unended in
-    ap (λ (ls : List Larval). option_and_then (λ (larval : Larval). larval.ended) (slice_get ls c.args.larval)) c.self.invariant.larvals_are ∙ unended
+end-requires-clause-pending c = (to_end _ _ _ _ c.args.caller c.args.larval c.self.invariant c.self.view_is c.requires.claimed c.requires.unended).pending
 
 pub add_row-requires-clause-few : goal.add_row-requires-clause-few
 add_row-requires-clause-few c = subst (λ (rows : List Row). All (IsUnder (2 ^ 61)) rows) (sym c.self.invariant.rows_are ∙ sym c.reserve_row.ensures.items) (few-rows_of (2 ^ 61) c.self.inside.log (omega (arith, c.settle.ensures.short)))
@@ -36,11 +25,10 @@ add_row-requires-clause-few c = subst (λ (rows : List Row). All (IsUnder (2 ^ 6
 pub invariant_of-self-2 : goal.invariant_of-self-2
 invariant_of-self-2 c =
     let none : Larval = record { text = []; claimed = None; ended = None } in
-    let claimed : claimer c.self.inside.log c.args.larval ≡ Some c.args.caller = subst (λ (h : List RegEntry). claimer h c.args.larval ≡ Some c.args.caller) (sym c.self.view_is) c.requires.claimed in
-    let unended : ended_as c.self.inside.log c.args.larval ≡ None = subst (λ (h : List RegEntry). ended_as h c.args.larval ≡ None) (sym c.self.view_is) c.requires.unended in
+    let it = to_end _ _ _ _ c.args.caller c.args.larval c.self.invariant c.self.view_is c.requires.claimed c.requires.unended in
     let builds : built_answer (rows_of c.self.inside.log) c.args.spec ≡ Built (length (rows_of c.self.inside.log)) c.args.spec = subst (λ (h : List RegEntry). built_answer (rows_of h) c.args.spec ≡ Built (length (rows_of h)) c.args.spec) (sym c.self.view_is) c.requires.builds in
     let id : c.len-id.result ≡ length c.self.inside.rows.items = omega (arith, c.len-id.ensures) in
-    kept-built c.self.inside.log _ c.self.inside.rows.items _ _ _ c.args.caller c.args.larval c.len-id.result c.args.spec none c.self.invariant claimed unended builds id
+    kept-built c.self.inside.log _ c.self.inside.rows.items _ _ _ c.args.caller c.args.larval c.len-id.result c.args.spec none c.self.invariant it.claimed it.unended builds id
     c.settle.ensures.appended (cc (c.add_row.ensures, c.reserve_row.ensures.items, c.in-Ok.ensures.ok)) (c.end.ensures none)
 
 pub returns-clause-legal : goal.returns-clause-legal
