@@ -1,9 +1,9 @@
-use Rattle.std.specs.Prelude.{ℕ, ◌+◌, ◌-◌, ◌*◌, Bool, true, false, ◌||◌, nat_lt, if◌then◌else◌, List, [], ◌∷◌, ◌++◌, length, Option, Some, None}
+use Rattle.std.specs.Prelude.{ℕ, ◌-◌, Bool, List, [], ◌∷◌, Option, Some, None}
 use Rattle.kc_base.specs.declared.callback_list.Callback.{Callback}
-use Rattle.kc_base.specs.declared.callback_list.Callback.TheVariants.{Started, Done}
+use Rattle.kc_base.specs.declared.callback_list.Callback.TheVariants.{Started}
 use Rattle.request_queue.specs.declared.Verdict.{Verdict}
 use Rattle.request_queue.specs.declared.Verdict.TheVariants.{InProgress, Busy, NoSpace}
-use Rattle.request_queue.specs.Line.{Line, line_after}
+use Rattle.request_queue.specs.Line.{Line}
 
 -- A queue that is served one job at a time: the line of those that wait, whether it is held, whether a job of it
 -- runs, and the callbacks that are not collected yet.

@@ -7,8 +7,6 @@ mod program;
 #[cfg(test)]
 mod tests;
 
-
-
 use adapters::{StdSink, StdSource};
 use program::{NO_MEMORY, USAGE, run};
 use std::process::ExitCode;

@@ -14,7 +14,8 @@ const LINE: &str = "aes 000102030405060708090a0b0c0d0e0f 00112233445566778899aab
 const ANSWER: &str = "1 ok 69c4e0d86a7b0430d8cdb78070b4c55a\n";
 
 // Three lines, of which the last has no line feed, and their text.
-const SCRIPT: &str = "aes 000102030405060708090a0b0c0d0e0f 00112233445566778899aabbccddeeff\naes 000102030405060708090a0b0c0d0e 00112233445566778899aabbccddeeff\naes 000 00";
+const SCRIPT: &str =
+    "aes 000102030405060708090a0b0c0d0e0f 00112233445566778899aabbccddeeff\naes 000102030405060708090a0b0c0d0e 00112233445566778899aabbccddeeff\naes 000 00";
 
 const TEXT: &str = "1 ok 69c4e0d86a7b0430d8cdb78070b4c55a\n2 EINVAL\n3 malformed\n";
 
@@ -29,7 +30,13 @@ fn status<S: Source, K: Sink>(alloc: Global, src: &mut S, out: &mut K) -> u8 {
 }
 
 // A script over streams that don't fail has this status and this text.
-fn expect(rt: &impl Abort, alloc: Global, script: &str, want: u8, text: &str) -> Result<(), AllocError> {
+fn expect(
+    rt: &impl Abort,
+    alloc: Global,
+    script: &str,
+    want: u8,
+    text: &str,
+) -> Result<(), AllocError> {
     let mut out = SureSink::new(alloc);
     let mut src = SureSource::new(bytes_of(alloc, script)?);
     assert_eq!(rt; status(alloc, &mut src, &mut out), want, "{script}");
@@ -104,10 +111,18 @@ fn fail_read(rt: &impl Abort, alloc: Global, step: usize, number: u64) -> Result
     let mut out = SureSink::new(alloc);
     let reads = SCRIPT.len().div_ceil(step) as u64;
     if number > reads {
-        assert_eq!(rt; status(alloc, &mut src, &mut out), 1, "read {number} of {reads}");
+        assert_eq!(rt;
+            status(alloc, &mut src, &mut out),
+            1,
+            "read {number} of {reads}"
+        );
         assert_eq!(rt; out.bytes(), TEXT.as_bytes());
     } else {
-        assert_eq!(rt; status(alloc, &mut src, &mut out), 3, "read {number} of {reads}");
+        assert_eq!(rt;
+            status(alloc, &mut src, &mut out),
+            3,
+            "read {number} of {reads}"
+        );
         assert!(rt; out.bytes().is_empty());
     }
     Ok(())
@@ -149,7 +164,11 @@ fn the_input_has_a_limit(rt: HostRuntime) {
     for (count, want, text) in table {
         let mut out = SureSink::new(rt.alloc());
         let mut src = RepeatSource::new(b'#', count);
-        assert_eq!(rt; status(rt.alloc(), &mut src, &mut out), want, "{count} bytes");
+        assert_eq!(rt;
+            status(rt.alloc(), &mut src, &mut out),
+            want,
+            "{count} bytes"
+        );
         assert_eq!(rt; out.bytes(), text.as_bytes(), "{count} bytes");
     }
 }

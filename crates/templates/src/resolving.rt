@@ -32,8 +32,8 @@ fn learn_name(name: &Name)
 
 /// Looks for the spelling of the name. Want of memory leaves the history as it was.
 fn look_for(
-    registry: &mut Registry,
     alloc: Global,
+    registry: &mut Registry,
     caller: u32,
     name: &Name,
     plain: bool,
@@ -46,9 +46,7 @@ fn look_for(
     ensures known { IsKnown name.now }
 {
     learn_name(name);
-    let Ok(text) = print_name(alloc, name) else {
-        return Err(BuildErr::Memory);
-    };
+    let text = print_name(alloc, name)?;
     match registry.look(caller, text.as_slice(), plain) {
         Ok(answer) => Ok(answer),
         Err(_) => Err(BuildErr::Memory),
@@ -61,17 +59,17 @@ fn add_origin(registry: &Registry, below: &mut Vec<(u64, Spec)>, id: u64) -> Res
     ensures err { IfErr result (λ e. e ≡ BuildErr.Memory) }
 {
     match registry.origin(id) {
-        Ok(Some(spec)) => match below.push((id, spec)) {
-            Ok(()) => Ok(()),
-            Err(_) => Err(BuildErr::Memory),
-        },
+        Ok(Some(spec)) => {
+            below.push((id, spec))?;
+            Ok(())
+        }
         Ok(None) => Ok(()),
         Err(_) => Err(BuildErr::Memory),
     }
 }
 
 /// The entries with these ids, as they came to be.
-fn origins(registry: &Registry, alloc: Global, ids: &[u64]) -> Result<Vec<(u64, Spec)>, BuildErr>
+fn origins(alloc: Global, registry: &Registry, ids: &[u64]) -> Result<Vec<(u64, Spec)>, BuildErr>
     ensures ok { IfOk result (λ below. below.items ≡ filter_map (with_spec (registered registry.now)) ids.now) }
     ensures err { IfErr result (λ e. e ≡ BuildErr.Memory) }
 {
@@ -121,8 +119,8 @@ fn finish(
 /// Looks for each child in turn, until one comes to a failure.
 #[cycle(resolve)]
 fn resolve_children(
-    registry: &mut Registry,
     alloc: Global,
+    registry: &mut Registry,
     caller: u32,
     name: &Name,
     larval: u64,
@@ -138,15 +136,8 @@ fn resolve_children(
     let mut ids = Vec::new(alloc);
     for child in asked {
         learn_name(child);
-        match resolve_within(registry, alloc, caller, child, true) {
-            Ok(id) => {
-                match ids.push(id) {
-                    Ok(()) => {}
-                    Err(_) => return Err(BuildErr::Memory),
-                }
-            }
-            Err(failure) => return Err(failure),
-        }
+        let id = resolve_within(alloc, registry, caller, child, true)?;
+        ids.push(id)?;
     }
     Ok(ids)
 }
@@ -154,8 +145,8 @@ fn resolve_children(
 /// Builds the instance of the name for the larval that the caller has claimed.
 #[cycle(resolve)]
 fn build(
-    registry: &mut Registry,
     alloc: Global,
+    registry: &mut Registry,
     caller: u32,
     name: &Name,
     larval: u64,
@@ -165,25 +156,17 @@ fn build(
     requires nested { is_nested_well name.now ≡ true }
     ensures { Builds caller larval registry.old registry.new result }
 {
-    let asked = match children(alloc, name) {
-        Ok(asked) => asked,
-        Err(failure) => return Err(failure),
-    };
-    let ids = match resolve_children(registry, alloc, caller, name, larval, &asked) {
-        Ok(ids) => ids,
-        Err(failure) => return Err(failure),
-    };
-    let Ok(below) = origins(registry, alloc, &ids) else {
-        return Err(BuildErr::Memory);
-    };
+    let asked = children(alloc, name)?;
+    let ids = resolve_children(alloc, registry, caller, name, larval, &asked)?;
+    let below = origins(alloc, registry, &ids)?;
     derive(alloc, name, &below)
 }
 
 /// Looks for the name, and builds it where a larval began.
 #[cycle(resolve)]
 fn resolve_within(
-    registry: &mut Registry,
     alloc: Global,
+    registry: &mut Registry,
     caller: u32,
     name: &Name,
     plain: bool,
@@ -195,20 +178,16 @@ fn resolve_within(
     requires nested { is_nested_well name.now ≡ true }
     ensures { Resolves caller (spelling name.now) plain registry.old registry.new result }
 {
-    let Ok(answer) = look_for(registry, alloc, caller, name, plain) else {
-        return Err(BuildErr::Memory);
-    };
+    let answer = look_for(alloc, registry, caller, name, plain)?;
     match answer {
         Looked::Found(id) => Ok(id),
         Looked::Absent => Err(BuildErr::Fault(Errno::ENOENT)),
         Looked::Pending(_) => unreachable!(),
-        Looked::Began(larval) => match claim_begun(registry, caller, larval) {
-            Ok(()) => {
-                let built = build(registry, alloc, caller, name, larval);
-                finish(registry, caller, larval, built)
-            }
-            Err(_) => Err(BuildErr::Memory),
-        },
+        Looked::Began(larval) => {
+            claim_begun(registry, caller, larval)?;
+            let built = build(alloc, registry, caller, name, larval);
+            finish(registry, caller, larval, built)
+        }
     }
 }
 
@@ -220,8 +199,8 @@ fn resolve_within(
 /// number with which the name's building ended. `Memory` leaves a legal history of faithful builds, and maybe pending
 /// larvals.
 pub fn resolve_alone(
-    registry: &mut Registry,
     alloc: Global,
+    registry: &mut Registry,
     caller: u32,
     name: &Name,
     plain: bool,
@@ -236,7 +215,7 @@ pub fn resolve_alone(
     ensures ended { UnlessMemory result (AllEnded registry.old registry.new) }
     ensures legal { LegalReg registry.new }
 {
-    let found = resolve_within(registry, alloc, caller, name, plain);
+    let found = resolve_within(alloc, registry, caller, name, plain);
     // What the registry says of its history.
     let _ = registry.history();
     found
@@ -245,8 +224,8 @@ pub fn resolve_alone(
 /// The same where nothing is being built, as for a script's line: nothing is pending then afterwards, unless memory ran
 /// out.
 pub fn resolve_outright(
-    registry: &mut Registry,
     alloc: Global,
+    registry: &mut Registry,
     caller: u32,
     name: &Name,
 ) -> Result<u64, BuildErr>
@@ -259,5 +238,5 @@ pub fn resolve_outright(
     ensures none { UnlessMemory result (NonePending registry.new) }
 {
     learn_name(name);
-    resolve_alone(registry, alloc, caller, name, false)
+    resolve_alone(alloc, registry, caller, name, false)
 }

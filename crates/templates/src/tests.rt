@@ -441,7 +441,7 @@ fn resolved(
     if let Err(errno) = nesting(&name) {
         return Ok(Err(errno));
     }
-    match resolve_outright(registry, rt.alloc(), 0, &name) {
+    match resolve_outright(rt.alloc(), registry, 0, &name) {
         Ok(id) => Ok(Ok(id)),
         Err(BuildErr::Fault(errno)) => Ok(Err(errno)),
         Err(BuildErr::Memory) => Err(BuildErr::Memory),

@@ -1,0 +1,15 @@
+pub mod Aeads
+pub mod AskValue
+pub mod Asked
+pub mod CipherLaws
+pub mod Ciphers
+pub mod Finish
+pub mod Forms
+pub mod Keys
+pub mod Kinds
+pub mod Laws
+pub mod Meaning
+pub mod Mode
+pub mod Plans
+pub mod Tagged
+pub mod Takes

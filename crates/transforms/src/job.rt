@@ -1,0 +1,50 @@
+//! Jobs: requests with all the memory that they need.
+
+ghost use Rattle.std.specs.Prelude.{◌≡◌, ◌⊎◌, true, false, MatchResult};
+ghost use Rattle.std.specs.Arc.{arc_value};
+ghost use Rattle.transforms.specs.Finish.{finished_value};
+ghost use Rattle.transforms.specs.AskValue.{ask_takes, ask_value, ask_room, IsFit};
+
+use crate::ask::Ask;
+use crate::request::Finished;
+use crate::tfm_err::TfmErr;
+use std::alloc::Global;
+use std::sync::Arc;
+
+/// A request that was taken, and the room for its answer.
+#[derive(Drop)]
+pub struct Job {
+    pub ask: Arc<Ask>,
+    buffer: Vec<u8>,
+    ghost taken: { ask_takes (arc_value ask) ≡ true },
+    ghost fit: { IsFit (arc_value ask) },
+    ghost room: { buffer.items ≡ ask_room (arc_value ask) },
+}
+
+impl Job {
+    /// Gives the value of the ask. No memory is taken.
+    pub fn run(self) -> Finished
+        ensures { finished_value result ≡ ask_value (arc_value self.ask) }
+    {
+        let Job { ask, buffer } = self;
+        ask.keyed.run(ask.authsize as usize, &ask.request, buffer)
+    }
+}
+
+/// Takes a request, and all the memory that its job will ever need. `Inval` exactly where the direction isn't one of the
+/// plan's kind, the IV has a wrong length, associated bytes stand on a plan that has no tag, or a decryption is shorter
+/// than its tag.
+pub fn prepare(alloc: Global, ask: Arc<Ask>) -> Result<Job, TfmErr>
+    requires { IsFit (arc_value ask) }
+    ensures { MatchResult result
+        (λ job. (job.ask ≡ ask) × (ask_takes (arc_value ask) ≡ true))
+        (λ e. (e ≡ TfmErr.Memory) ⊎ ((e ≡ TfmErr.Inval) × (ask_takes (arc_value ask) ≡ false))) }
+{
+    if !ask.keyed.takes(ask.authsize as usize, &ask.request) {
+        return Err(TfmErr::Inval);
+    }
+    match ask.keyed.room(alloc, ask.authsize as usize, &ask.request) {
+        Ok(buffer) => Ok(Job { ask, buffer }),
+        Err(_) => Err(TfmErr::Memory),
+    }
+}

@@ -1,0 +1,27 @@
+//! Transforms: a plan under a key, requests to it, and the jobs that answer them.
+#![tactic(auto)]
+
+mod aead;
+mod any_aead;
+mod any_aes;
+mod any_cipher;
+mod ask;
+mod inner;
+mod job;
+mod keyed;
+mod plan_kinds;
+mod request;
+mod room;
+mod running;
+mod taking;
+#[cfg(test)]
+mod tests;
+mod tfm_err;
+
+pub use any_aes::AnyAes;
+pub use ask::Ask;
+pub use job::{Job, prepare};
+pub use keyed::Keyed;
+pub use plan_kinds::{largest_tag_size, tag_size};
+pub use request::{Dir, Finished, Request};
+pub use tfm_err::TfmErr;

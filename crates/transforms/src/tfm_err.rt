@@ -1,0 +1,35 @@
+//! Why a key or a request isn't taken.
+
+use kc_base::Errno;
+use std::alloc::AllocError;
+
+/// Why a key or a request isn't taken.
+#[derive(Debug, Drop, PartialEq, Eq)]
+pub enum TfmErr {
+    /// The plan doesn't take it.
+    Inval,
+    /// Memory was refused.
+    Memory,
+}
+
+impl From<AllocError> for TfmErr {
+    ghost use Rattle.std.specs.Prelude.{◌≡◌};
+    ghost use Rattle.transforms.specs.declared.tfm_err.TfmErr.{TfmErr};
+
+    ghost from_gives = { λ _ e. e ≡ TfmErr.Memory };
+
+    fn from(_: AllocError) -> TfmErr {
+        TfmErr::Memory
+    }
+}
+
+impl From<Errno> for TfmErr {
+    ghost use Rattle.std.specs.Prelude.{◌≡◌};
+    ghost use Rattle.transforms.specs.declared.tfm_err.TfmErr.{TfmErr};
+
+    ghost from_gives = { λ _ e. e ≡ TfmErr.Inval };
+
+    fn from(_: Errno) -> TfmErr {
+        TfmErr::Inval
+    }
+}
