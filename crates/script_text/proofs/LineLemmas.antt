@@ -7,7 +7,8 @@ use Rattle.std.proofs.Math.Seq.{drop-append_seam}
 use Rattle.std.proofs.lemmas.List.Sums.{prefix_len-le-length, prefix_len_passes, prefix_len_stops}
 use Rattle.std.proofs.lemmas.List.Elements.{All-from_get_or, All-contains, Contains-get_or}
 use Rattle.std.specs.List.{onto_first, position_or_len, All, Contains}
-use Rattle.script_text.specs.Script.{is_feed, lines_of, line_of, script_of, IsFirstLine}
+use Rattle.script_text.specs.Lines.{is_feed, lines_of, IsFirstLine}
+use Rattle.script_text.specs.Script.{line_of, script_of}
 use Rattle.script_text.specs.declared.commands.Line.{Line}
 
 pub found_or : (n len : ℕ) → n ≤ len → unwrap_or (cond (ltb n len) (Some n) None) len ≡ n

@@ -2,11 +2,54 @@
 
 use kc_base::Bytes;
 
-/// A command, with its arguments. Hexadecimal digits are decoded.
+/// A command, with its arguments. Hexadecimal digits are decoded. A label has 1 to 32 letters, digits, `-` or `_`; a
+/// name and a driver are any token; a number has 1 to 9 decimal digits.
 #[derive(Debug, Drop)]
 pub enum Command {
     /// `aes KEY BLOCK`: the block sealed by AES under the key.
     Aes { key: Bytes, block: Bytes },
+    /// `register DRIVER NUM`: the driver enlisted at this priority.
+    Register { driver: Bytes, priority: u32 },
+    /// `unregister DRIVER`
+    Unregister { driver: Bytes },
+    /// `alloc T NAME [NUM]`: a transform of this name, whose queue takes so many requests.
+    Alloc {
+        label: Bytes,
+        name: Bytes,
+        length: Option<u32>,
+    },
+    /// `key T HEX`
+    Key { label: Bytes, key: Bytes },
+    /// `authsize T NUM`: tags of so many bytes.
+    Authsize { label: Bytes, size: u32 },
+    /// `enc T IV AAD TEXT [backlog]`
+    Enc {
+        label: Bytes,
+        iv: Bytes,
+        associated: Bytes,
+        text: Bytes,
+        backlog: bool,
+    },
+    /// `dec T IV AAD TEXT [backlog]`
+    Dec {
+        label: Bytes,
+        iv: Bytes,
+        associated: Bytes,
+        text: Bytes,
+        backlog: bool,
+    },
+    /// `mac T TEXT [backlog]`
+    Mac {
+        label: Bytes,
+        text: Bytes,
+        backlog: bool,
+    },
+    /// `free T`
+    Free { label: Bytes },
+    /// `refs DRIVER`
+    Refs { driver: Bytes },
+    /// `list`
+    List,
 }
 
 /// What a line says.

@@ -2,6 +2,7 @@
 
 ghost use Rattle.std.specs.Prelude.{◌≡◌, ◌<◌, ◌≤◌, ◌∷◌, ◌++◌, List, ℕ, [], drop, length, Contains, MatchOption, IfSome, OnSome, IfOk, OnOk, OnErr};
 ghost use Rattle.script_text.specs.Script.{script_of, BeginsWithLine};
+ghost use Rattle.script_text.specs.Sizes.{IsShortLine};
 
 use crate::commands::Line;
 use crate::reading::read_line;
@@ -54,6 +55,7 @@ impl LineCutter {
         ensures line { IfOk result (λ answer. MatchOption answer
             ((self.new ≡ self.old) × (Contains self.old 10 → ⊥))
             (λ line. Contains self.old 10 × BeginsWithLine self.old line self.new)) }
+        ensures short { IfOk result (λ answer. IfSome answer IsShortLine) }
         ensures shorter { IfOk result (λ answer. OnSome answer (length self.new < length self.old)) }
         ensures err { OnErr result (self.new ≡ self.old) }
     {
@@ -69,6 +71,7 @@ impl LineCutter {
     /// nothing.
     pub fn last(&mut self) -> Result<Option<Line>, AllocError>
         ensures line { IfOk result (λ answer. MatchOption answer (self.old ≡ []) (λ line. (Contains self.old 10 → ⊥) → script_of self.old ≡ line ∷ [])) }
+        ensures short { IfOk result (λ answer. IfSome answer IsShortLine) }
         ensures ok { OnOk result (self.new ≡ []) }
         ensures err { OnErr result (self.new ≡ self.old) }
     {

@@ -1,9 +1,11 @@
 //! The reading of a script: its lines, their tokens, and the commands that these spell.
 #![tactic(auto)]
 
+mod arguments;
 mod commands;
 mod cutter;
 mod reading;
+mod rows;
 mod split;
 #[cfg(test)]
 mod tests;

@@ -1,47 +1,28 @@
 //! What a line says.
 
 ghost use Rattle.std.specs.Prelude.{◌≡◌, map, IfOk};
-ghost use Rattle.script_text.specs.Script.{aes_row, command_of, command_line, line_of, line_of_tokens, line_of_text, without_return};
+ghost use Rattle.script_text.specs.Lines.{without_return};
+ghost use Rattle.script_text.specs.Commands.{command_of};
+ghost use Rattle.script_text.specs.Script.{command_line, line_of, line_of_tokens, line_of_text};
+ghost use Rattle.script_text.specs.Sizes.{IsShortLine};
 
-use crate::commands::{Command, Line};
-use crate::tokens::{are_visible, begins_comment, hex_bytes, split_tokens};
+use crate::arguments::ReadError;
+use crate::commands::Line;
+use crate::rows::read_command;
+use crate::tokens::{are_visible, begins_comment, split_tokens};
 use std::alloc::{AllocError, Global};
 
 /// The most bytes that a line may have before its line feed.
 pub const MAX_LINE: usize = 65_536;
 
-fn aes_command(alloc: Global, args: &[&[u8]]) -> Result<Option<Command>, AllocError>
-    ensures { IfOk result (λ command. command ≡ aes_row (map (λ token. token.now) args.now)) }
-{
-    let [key, block] = args else {
-        return Ok(None);
-    };
-    let Some(key) = hex_bytes(alloc, key)? else {
-        return Ok(None);
-    };
-    let Some(block) = hex_bytes(alloc, block)? else {
-        return Ok(None);
-    };
-    Ok(Some(Command::Aes { key, block }))
-}
-
-// The command of a name and its arguments, or none where they spell no command.
-fn read_command(alloc: Global, name: &[u8], args: &[&[u8]]) -> Result<Option<Command>, AllocError>
-    ensures { IfOk result (λ command. command ≡ command_of name.now (map (λ token. token.now) args.now)) }
-{
-    if name == b"aes".as_slice() {
-        return aes_command(alloc, args);
-    }
-    Ok(None)
-}
-
 // What a line says that begins with this token and is no comment.
 fn read_tokens(alloc: Global, name: &[u8], args: &[&[u8]]) -> Result<Line, AllocError>
     ensures { IfOk result (λ line. line ≡ command_line (command_of name.now (map (λ token. token.now) args.now))) }
 {
-    match read_command(alloc, name, args)? {
-        Some(command) => Ok(Line::Cmd(command)),
-        None => Ok(Line::Malformed),
+    match read_command(alloc, name, args) {
+        Ok(command) => Ok(Line::Cmd(command)),
+        Err(ReadError::Malformed) => Ok(Line::Malformed),
+        Err(ReadError::NoMemory) => Err(AllocError),
     }
 }
 
@@ -84,7 +65,8 @@ fn read_text(alloc: Global, length: usize, text: &[u8]) -> Result<Line, AllocErr
 
 /// What a line says. The line is given with the line feed that ends it, where one does.
 pub fn read_line(alloc: Global, line: &[u8]) -> Result<Line, AllocError>
-    ensures { IfOk result (λ said. said ≡ line_of line.now) }
+    ensures line { IfOk result (λ said. said ≡ line_of line.now) }
+    ensures short { IfOk result IsShortLine }
 {
     match line {
         [before @ .., b'\n'] => read_text(alloc, before.len(), text_before_feed(before)),

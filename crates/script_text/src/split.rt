@@ -2,7 +2,7 @@
 
 ghost use Rattle.std.specs.Prelude.{◌≡◌, ◌∷◌, ◌++◌, ◌<◌, List, ℕ, length, Contains, MatchOption, IfSome};
 ghost use Rattle.std.specs.List.{position_or_len};
-ghost use Rattle.script_text.specs.Script.{is_feed, lines_of, IsFirstLine};
+ghost use Rattle.script_text.specs.Lines.{is_feed, lines_of, IsFirstLine};
 
 // Where the first line feed is, or the length where there is none.
 fn end_of_line(bytes: &[u8]) -> usize

@@ -9,6 +9,7 @@ enum Said {
     Malformed,
     // `aes` with so many bytes of key and of block
     Aes(usize, usize),
+    Other,
 }
 
 fn seen(line: &Line) -> Said {
@@ -16,6 +17,7 @@ fn seen(line: &Line) -> Said {
         Line::Nothing => Said::Nothing,
         Line::Malformed => Said::Malformed,
         Line::Cmd(Command::Aes { key, block }) => Said::Aes(key.len(), block.len()),
+        Line::Cmd(_) => Said::Other,
     }
 }
 

@@ -1,11 +1,9 @@
-//! The tokens of a line, and what one of them spells.
+//! The tokens of a line.
 
 ghost use Rattle.std.specs.Prelude.{◌≡◌, map, IfOk};
 ghost use Rattle.std.specs.List.{list_all};
-ghost use Rattle.script_text.specs.Script.{is_visible, tokens_of, hex_of, is_comment};
+ghost use Rattle.script_text.specs.Tokens.{is_visible, tokens_of, is_comment};
 
-use hex::FromHexError;
-use kc_base::Bytes;
 use std::alloc::{AllocError, Global};
 
 /// What stands between blanks.
@@ -36,19 +34,5 @@ pub fn begins_comment(token: &[u8]) -> bool
     match token {
         [b, ..] => *b == b'#',
         [] => false,
-    }
-}
-
-/// The bytes that a token spells in hexadecimal digits, or none where it spells no bytes.
-pub fn hex_bytes(alloc: Global, token: &[u8]) -> Result<Option<Bytes>, AllocError>
-    ensures { IfOk result (λ bytes. bytes ≡ hex_of token.now) }
-{
-    if token == b"-".as_slice() {
-        return Ok(Some(Bytes::new(alloc)));
-    }
-    match hex::decode(alloc, token) {
-        Ok(bytes) => Ok(Some(Bytes::from_vec(bytes))),
-        Err(FromHexError::OutOfMemory) => Err(AllocError),
-        Err(_) => Ok(None),
     }
 }

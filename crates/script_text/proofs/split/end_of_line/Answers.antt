@@ -2,7 +2,7 @@ use Rattle.std.proofs.Common.{length, unwrap_or, ap, ◌∙◌, rules}
 use Rattle.std.proofs.lemmas.Iterator.{YieldsList-from_slice}
 use Rattle.std.proofs.lemmas.Iterator.Search.{position_from_yields_List}
 use borrow.Author.Tests.{tests}
-use Rattle.script_text.specs.Script.{is_feed}
+use Rattle.script_text.specs.Lines.{is_feed}
 use Rattle.script_text.proofs.LineLemmas.{found_or, place_le}
 use Rattle.script_text.proofs.split.end_of_line.Goals as goal
 

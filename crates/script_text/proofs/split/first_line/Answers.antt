@@ -1,6 +1,6 @@
 use Rattle.std.proofs.Common.{◌∷◌, [], sym, ap, ap₂, ◌∙◌, arith, append-nil}
 use Rattle.std.proofs.lemmas.List.{take_all, drop_all}
-use Rattle.script_text.specs.Script.{lines_of}
+use Rattle.script_text.specs.Lines.{lines_of}
 use Rattle.script_text.proofs.LineLemmas.{line_without_feed}
 use Rattle.script_text.proofs.split.first_line.Goals as goal
 

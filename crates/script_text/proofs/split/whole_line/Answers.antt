@@ -1,6 +1,6 @@
 use Rattle.std.proofs.Common.{◌≡◌, ◌+◌, ◌<◌, ◌∷◌, ◌++◌, length, sym, ap, ap₂, ◌∙◌, arith, take, drop}
 use Rattle.std.specs.List.{position_or_len}
-use Rattle.script_text.specs.Script.{is_feed, lines_of}
+use Rattle.script_text.specs.Lines.{is_feed, lines_of}
 use Rattle.script_text.proofs.LineLemmas.{place_le, has_feed, no_feed, whole_line_stays}
 use Rattle.script_text.proofs.split.whole_line.Goals as goal
 

@@ -4,7 +4,7 @@ use Rattle.std.proofs.lemmas.Iterator.{YieldsList-from_slice}
 use Rattle.std.proofs.lemmas.Iterator.Search.{all_from_yields_List}
 use Rattle.std.proofs.lemmas.List.Folds.{list_all-map}
 use borrow.Author.Tests.{tests}
-use Rattle.script_text.specs.Script.{is_visible}
+use Rattle.script_text.specs.Tokens.{is_visible}
 use Rattle.script_text.proofs.tokens.are_visible.Goals as goal
 
 pub returns : goal.returns

@@ -3,7 +3,7 @@ use Rattle.std.specs.Prelude.{◌==◌}
 use Rattle.std.proofs.lemmas.Iterator.Consumers.{map_from_collect, YieldsList-from_filter, YieldsList-at}
 use Rattle.std.proofs.lemmas.Iterator.Splits.{YieldsList-from_slice_split}
 use borrow.Author.Tests.{tests}
-use Rattle.script_text.specs.Script.{is_blank}
+use Rattle.script_text.specs.Tokens.{is_blank}
 use Rattle.script_text.proofs.tokens.split_tokens.Goals as goal
 
 pub returns : goal.returns

@@ -13,4 +13,4 @@ returns-clause-line c =
     let is : take (length all - at) (drop at all) ≡ bytes = between_to_end all at (length all) (omega arith) ∙ (ap (drop at) c.deref.ensures.value ∙ c.self.view_is) in
     let size = ap length is in
     let some : 0 < length bytes = omega (arith, size, not_empty _ _ c.is_empty.ensures c.if-is_empty.false) in
-    lone_script bytes _ some none (c.in_ok-said.ensures ∙ ap line_of is)
+    lone_script bytes _ some none (c.in_ok-said.ensures.line ∙ ap line_of is)

@@ -1,6 +1,6 @@
 use Rattle.std.proofs.Common.{◌≡◌, ◌-◌, length, take, drop, Contains, sym, ap, subst, ◌∙◌, arith}
 use Rattle.std.proofs.lemmas.Slice.{between_to_end}
-use Rattle.script_text.specs.Script.{IsFirstLine}
+use Rattle.script_text.specs.Lines.{IsFirstLine}
 use Rattle.script_text.proofs.LineLemmas.{line_cut}
 use Rattle.script_text.proofs.cutter.LineCutter.next.Goals as goal
 
@@ -14,5 +14,5 @@ returns-clause-line c =
     let found = c.in-Some.ensures in (
       subst (λ bytes. Contains bytes 10) is found.line.0,
       line_cut c.args.self.now c.self.inside.pending.items line _ at _ pending (sym is ∙ found.parts)
-          (subst (λ bytes. IsFirstLine bytes line c.in-Some.field-0-1.now) is found.line.1) c.in_ok-said.ensures,
+          (subst (λ bytes. IsFirstLine bytes line c.in-Some.field-0-1.now) is found.line.1) c.in_ok-said.ensures.line,
     )

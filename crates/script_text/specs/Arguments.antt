@@ -1,0 +1,56 @@
+-- What the arguments of a command spell, where they spell something.
+use Rattle.std.specs.Prelude.{◌≡◌, ℕ, Bool, true, false, ◌&&◌, ◌||◌, ◌==◌, nat_lt, nat_le, if◌then◌else◌, List, [], ◌∷◌, length, codes, Option, Some, None, Result, MatchResult}
+use Rattle.std.specs.Char.{is_ascii_alphanumeric, is_ascii_digit}
+use Rattle.std.specs.List.{list_all}
+use Rattle.std.specs.Result.{result_ok}
+use Rattle.std.specs.Str.{bytes_eq}
+use Rattle.std.specs.Str.Parse.{digits_value}
+use Rattle.hex.specs.Hex.{decode_of}
+use Rattle.script_text.specs.declared.arguments.ReadError.{ReadError}
+use Rattle.script_text.specs.declared.arguments.ReadError.TheVariants.{Malformed}
+
+-- the ? of the logic: the second step, if the first spells something
+infixl 10 ◌>>=◌
+abbrev pub ◌>>=◌ : {A B : Type 0} → Option A → (A → Option B) → Option B
+Some x >>= f = f x
+None >>= f = None
+
+-- what was read is what is spelled, and it is malformed only where nothing is
+abbrev pub Reads : {A : Type 0} → Result A ReadError → Option A → Type 0
+Reads result spelled = MatchResult result (λ read. spelled ≡ Some read) (λ error. error ≡ Malformed → spelled ≡ None)
+
+-- HEX: bytes in hexadecimal digits, and `-` for no bytes
+abbrev pub hex_of : List ℕ → Option (List ℕ)
+hex_of token = if bytes_eq token (codes "-") then Some [] else result_ok (decode_of token)
+
+-- a letter, a digit, `-` or `_`
+abbrev pub is_label_byte : ℕ → Bool
+is_label_byte b = is_ascii_alphanumeric b || (b == 45) || (b == 95)
+
+abbrev pub is_label : List ℕ → Bool
+is_label token = nat_lt 0 (length token) && nat_le (length token) 32 && list_all is_label_byte token
+
+-- T: the label of a transform
+abbrev pub label_of : List ℕ → Option (List ℕ)
+label_of token = if is_label token then Some token else None
+
+abbrev pub is_number : List ℕ → Bool
+is_number token = nat_lt 0 (length token) && nat_le (length token) 9 && list_all is_ascii_digit token
+
+-- NUM: 1 to 9 decimal digits
+abbrev pub number_of : List ℕ → Option ℕ
+number_of token = if is_number token then Some (digits_value 10 token) else None
+
+-- [NUM]
+abbrev pub length_of : List (List ℕ) → Option (Option ℕ)
+length_of [] = Some None
+length_of (token ∷ []) = do
+  length ← number_of token
+  Some (Some length)
+length_of (token ∷ other ∷ more) = None
+
+-- [backlog]
+abbrev pub backlog_of : List (List ℕ) → Option Bool
+backlog_of [] = Some false
+backlog_of (word ∷ []) = if bytes_eq word (codes "backlog") then Some true else None
+backlog_of (word ∷ other ∷ more) = None

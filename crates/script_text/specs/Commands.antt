@@ -1,0 +1,104 @@
+-- The commands: what the arguments of each spell, a row a command.
+use Rattle.std.specs.Prelude.{ℕ, Bool, if◌then◌else◌, List, [], ◌∷◌, codes, Option, Some, None}
+use Rattle.std.specs.Str.{bytes_eq}
+use Rattle.script_text.specs.Arguments.{◌>>=◌, hex_of, label_of, number_of, length_of, backlog_of}
+use Rattle.script_text.specs.declared.commands.Command.{Command}
+use Rattle.script_text.specs.declared.commands.Command.TheVariants as says
+
+-- `aes KEY BLOCK`
+abbrev pub aes_row : List (List ℕ) → Option Command
+aes_row (key ∷ block ∷ []) = do
+  key ← hex_of key
+  block ← hex_of block
+  Some (says.Aes key block)
+aes_row other = None
+
+-- `register DRIVER NUM`
+abbrev pub register_row : List (List ℕ) → Option Command
+register_row (driver ∷ priority ∷ []) = do
+  priority ← number_of priority
+  Some (says.Register driver priority)
+register_row other = None
+
+-- `unregister DRIVER`
+abbrev pub unregister_row : List (List ℕ) → Option Command
+unregister_row (driver ∷ []) = Some (says.Unregister driver)
+unregister_row other = None
+
+-- `alloc T NAME [NUM]`
+abbrev pub alloc_row : List (List ℕ) → Option Command
+alloc_row (label ∷ name ∷ more) = do
+  label ← label_of label
+  length ← length_of more
+  Some (says.Alloc label name length)
+alloc_row other = None
+
+-- `key T HEX`
+abbrev pub key_row : List (List ℕ) → Option Command
+key_row (label ∷ key ∷ []) = do
+  label ← label_of label
+  key ← hex_of key
+  Some (says.Key label key)
+key_row other = None
+
+-- `authsize T NUM`
+abbrev pub authsize_row : List (List ℕ) → Option Command
+authsize_row (label ∷ size ∷ []) = do
+  label ← label_of label
+  size ← number_of size
+  Some (says.Authsize label size)
+authsize_row other = None
+
+-- `enc T IV AAD TEXT [backlog]` and `dec T IV AAD TEXT [backlog]`
+abbrev pub aead_row : (List ℕ → List ℕ → List ℕ → List ℕ → Bool → Command) → List (List ℕ) → Option Command
+aead_row command (label ∷ iv ∷ associated ∷ text ∷ more) = do
+  label ← label_of label
+  iv ← hex_of iv
+  associated ← hex_of associated
+  text ← hex_of text
+  backlog ← backlog_of more
+  Some (command label iv associated text backlog)
+aead_row command other = None
+
+-- `mac T TEXT [backlog]`
+abbrev pub mac_row : List (List ℕ) → Option Command
+mac_row (label ∷ text ∷ more) = do
+  label ← label_of label
+  text ← hex_of text
+  backlog ← backlog_of more
+  Some (says.Mac label text backlog)
+mac_row other = None
+
+-- `free T`
+abbrev pub free_row : List (List ℕ) → Option Command
+free_row (label ∷ []) = do
+  label ← label_of label
+  Some (says.Free label)
+free_row other = None
+
+-- `refs DRIVER`
+abbrev pub refs_row : List (List ℕ) → Option Command
+refs_row (driver ∷ []) = Some (says.Refs driver)
+refs_row other = None
+
+-- `list`
+abbrev pub list_row : List (List ℕ) → Option Command
+list_row [] = Some says.List
+list_row other = None
+
+-- the command that a name and its arguments spell
+abbrev pub command_of : List ℕ → List (List ℕ) → Option Command
+command_of name args =
+    if bytes_eq name (codes "aes") then aes_row args
+    else if bytes_eq name (codes "register") then register_row args
+    else if bytes_eq name (codes "unregister") then unregister_row args
+    else if bytes_eq name (codes "alloc") then alloc_row args
+    else if bytes_eq name (codes "key") then key_row args
+    else if bytes_eq name (codes "authsize") then authsize_row args
+    else if bytes_eq name (codes "enc") then aead_row says.Enc args
+    else if bytes_eq name (codes "dec") then aead_row says.Dec args
+    else if bytes_eq name (codes "mac") then mac_row args
+    else if bytes_eq name (codes "free") then free_row args
+    else if bytes_eq name (codes "refs") then refs_row args
+    else if bytes_eq name (codes "list") then list_row args
+    else None

@@ -1,0 +1,29 @@
+-- How long the lists of bytes in a line are.
+use Rattle.std.specs.Prelude.{ℕ, ◌^◌, ◌<◌, List, length}
+use Rattle.script_text.specs.declared.commands.Command.{Command}
+use Rattle.script_text.specs.declared.commands.Command.TheVariants as says
+use Rattle.script_text.specs.declared.commands.Line.{Line}
+use Rattle.script_text.specs.declared.commands.Line.TheVariants.{Nothing, Malformed, Cmd}
+
+abbrev pub IsShort : List ℕ → Type 0
+IsShort bytes = length bytes < 2 ^ 32
+
+abbrev pub IsShortCommand : Command → Type 0
+IsShortCommand (says.Aes key block) = IsShort key × IsShort block
+IsShortCommand (says.Register driver priority) = IsShort driver
+IsShortCommand (says.Unregister driver) = IsShort driver
+IsShortCommand (says.Alloc label name length) = IsShort label × IsShort name
+IsShortCommand (says.Key label key) = IsShort label × IsShort key
+IsShortCommand (says.Authsize label size) = IsShort label
+IsShortCommand (says.Enc label iv associated text backlog) = IsShort label × IsShort iv × IsShort associated × IsShort text
+IsShortCommand (says.Dec label iv associated text backlog) = IsShort label × IsShort iv × IsShort associated × IsShort text
+IsShortCommand (says.Mac label text backlog) = IsShort label × IsShort text
+IsShortCommand (says.Free label) = IsShort label
+IsShortCommand (says.Refs driver) = IsShort driver
+IsShortCommand says.List = Unit {0}
+
+-- every list of bytes in the line is shorter than 2^32
+abbrev pub IsShortLine : Line → Type 0
+IsShortLine Nothing = Unit {0}
+IsShortLine Malformed = Unit {0}
+IsShortLine (Cmd command) = IsShortCommand command

@@ -1,0 +1,111 @@
+//! What the arguments of a command spell.
+
+ghost use Rattle.std.specs.Prelude.{◌≡◌, IsTrue, map};
+ghost use Rattle.std.specs.Str.Parse.{digits_value};
+ghost use Rattle.script_text.specs.Arguments.{Reads, hex_of, is_label_byte, is_label, label_of, is_number, number_of, length_of, backlog_of};
+ghost use Rattle.script_text.specs.declared.arguments.ReadError.TheVariants.{NoMemory};
+
+use hex::FromHexError;
+use kc_base::Bytes;
+use std::alloc::{AllocError, Global};
+
+/// Why no command was read.
+#[derive(Clone, Copy, Debug, PartialEq, Eq)]
+pub enum ReadError {
+    Malformed,
+    NoMemory,
+}
+
+impl From<AllocError> for ReadError {
+    ghost from_gives = { λ _ e. e ≡ NoMemory };
+
+    fn from(_: AllocError) -> Self {
+        ReadError::NoMemory
+    }
+}
+
+/// The bytes that a token spells in hexadecimal digits.
+pub fn hex_bytes(alloc: Global, token: &[u8]) -> Result<Bytes, ReadError>
+    ensures { Reads result (hex_of token.now) }
+{
+    if token == b"-".as_slice() {
+        return Ok(Bytes::new(alloc));
+    }
+    match hex::decode(alloc, token) {
+        Ok(bytes) => Ok(Bytes::from_vec(bytes)),
+        Err(FromHexError::OutOfMemory) => Err(ReadError::NoMemory),
+        Err(_) => Err(ReadError::Malformed),
+    }
+}
+
+fn is_label_byte(byte: u8) -> bool
+    ensures { result ≡ is_label_byte byte }
+{
+    byte.is_ascii_alphanumeric() || byte == b'-' || byte == b'_'
+}
+
+fn is_label(token: &[u8]) -> bool
+    ensures { result ≡ is_label token.now }
+{
+    !token.is_empty() && token.len() <= 32 && token.iter().all(|b| is_label_byte(*b))
+}
+
+/// A label.
+pub fn label(alloc: Global, token: &[u8]) -> Result<Bytes, ReadError>
+    ensures { Reads result (label_of token.now) }
+{
+    if !is_label(token) {
+        return Err(ReadError::Malformed);
+    }
+    Ok(Bytes::copy_of(alloc, token)?)
+}
+
+fn is_number(token: &[u8]) -> bool
+    ensures { result ≡ is_number token.now }
+{
+    !token.is_empty() && token.len() <= 9 && token.iter().all(|b| b.is_ascii_digit())
+}
+
+// The number that these digits write.
+fn digits_value(digits: &[u8]) -> u32
+    requires { IsTrue (is_number digits.now) }
+    ensures { result ≡ digits_value 10 digits.now }
+{
+    let mut value = 0u32;
+    for digit in digits {
+        value = value * 10 + u32::from(*digit - b'0');
+    }
+    value
+}
+
+/// A number.
+pub fn number(token: &[u8]) -> Result<u32, ReadError>
+    ensures { Reads result (number_of token.now) }
+{
+    if !is_number(token) {
+        return Err(ReadError::Malformed);
+    }
+    Ok(digits_value(token))
+}
+
+/// A number, or nothing.
+pub fn optional_number(args: &[&[u8]]) -> Result<Option<u32>, ReadError>
+    ensures { Reads result (length_of (map (λ token. token.now) args.now)) }
+{
+    match args {
+        [] => Ok(None),
+        [token] => Ok(Some(number(token)?)),
+        _ => Err(ReadError::Malformed),
+    }
+}
+
+/// Whether the word `backlog` stands there, where nothing else does.
+pub fn backlog(args: &[&[u8]]) -> Result<bool, ReadError>
+    ensures { Reads result (backlog_of (map (λ token. token.now) args.now)) }
+{
+    match args {
+        [] => Ok(false),
+        [word] if *word == b"backlog".as_slice() => Ok(true),
+        _ => Err(ReadError::Malformed),
+    }
+}

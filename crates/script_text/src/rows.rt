@@ -1,0 +1,178 @@
+//! The commands, a function a row.
+
+ghost use Rattle.std.specs.Prelude.{map};
+ghost use Rattle.script_text.specs.Arguments.{Reads};
+ghost use Rattle.script_text.specs.Commands.{aes_row, register_row, unregister_row, alloc_row, key_row, authsize_row, aead_row, mac_row, free_row, refs_row, list_row, command_of};
+ghost use Rattle.script_text.specs.declared.commands.Command.TheVariants as says;
+
+use crate::arguments::{ReadError, backlog, hex_bytes, label, number, optional_number};
+use crate::commands::Command;
+use kc_base::Bytes;
+use std::alloc::Global;
+
+fn aes_command(alloc: Global, args: &[&[u8]]) -> Result<Command, ReadError>
+    ensures { Reads result (aes_row (map (λ token. token.now) args.now)) }
+{
+    let [key, block] = args else {
+        return Err(ReadError::Malformed);
+    };
+    Ok(Command::Aes {
+        key: hex_bytes(alloc, key)?,
+        block: hex_bytes(alloc, block)?,
+    })
+}
+
+fn register_command(alloc: Global, args: &[&[u8]]) -> Result<Command, ReadError>
+    ensures { Reads result (register_row (map (λ token. token.now) args.now)) }
+{
+    let [driver, priority] = args else {
+        return Err(ReadError::Malformed);
+    };
+    Ok(Command::Register {
+        priority: number(priority)?,
+        driver: Bytes::copy_of(alloc, driver)?,
+    })
+}
+
+fn unregister_command(alloc: Global, args: &[&[u8]]) -> Result<Command, ReadError>
+    ensures { Reads result (unregister_row (map (λ token. token.now) args.now)) }
+{
+    let [driver] = args else {
+        return Err(ReadError::Malformed);
+    };
+    Ok(Command::Unregister {
+        driver: Bytes::copy_of(alloc, driver)?,
+    })
+}
+
+fn alloc_command(alloc: Global, args: &[&[u8]]) -> Result<Command, ReadError>
+    ensures { Reads result (alloc_row (map (λ token. token.now) args.now)) }
+{
+    let [transform, name, more @ ..] = args else {
+        return Err(ReadError::Malformed);
+    };
+    Ok(Command::Alloc {
+        label: label(alloc, transform)?,
+        length: optional_number(more)?,
+        name: Bytes::copy_of(alloc, name)?,
+    })
+}
+
+fn key_command(alloc: Global, args: &[&[u8]]) -> Result<Command, ReadError>
+    ensures { Reads result (key_row (map (λ token. token.now) args.now)) }
+{
+    let [transform, key] = args else {
+        return Err(ReadError::Malformed);
+    };
+    Ok(Command::Key {
+        label: label(alloc, transform)?,
+        key: hex_bytes(alloc, key)?,
+    })
+}
+
+fn authsize_command(alloc: Global, args: &[&[u8]]) -> Result<Command, ReadError>
+    ensures { Reads result (authsize_row (map (λ token. token.now) args.now)) }
+{
+    let [transform, size] = args else {
+        return Err(ReadError::Malformed);
+    };
+    Ok(Command::Authsize {
+        label: label(alloc, transform)?,
+        size: number(size)?,
+    })
+}
+
+fn enc_command(alloc: Global, args: &[&[u8]]) -> Result<Command, ReadError>
+    ensures { Reads result (aead_row says.Enc (map (λ token. token.now) args.now)) }
+{
+    let [transform, iv, associated, text, more @ ..] = args else {
+        return Err(ReadError::Malformed);
+    };
+    Ok(Command::Enc {
+        label: label(alloc, transform)?,
+        iv: hex_bytes(alloc, iv)?,
+        associated: hex_bytes(alloc, associated)?,
+        text: hex_bytes(alloc, text)?,
+        backlog: backlog(more)?,
+    })
+}
+
+fn dec_command(alloc: Global, args: &[&[u8]]) -> Result<Command, ReadError>
+    ensures { Reads result (aead_row says.Dec (map (λ token. token.now) args.now)) }
+{
+    let [transform, iv, associated, text, more @ ..] = args else {
+        return Err(ReadError::Malformed);
+    };
+    Ok(Command::Dec {
+        label: label(alloc, transform)?,
+        iv: hex_bytes(alloc, iv)?,
+        associated: hex_bytes(alloc, associated)?,
+        text: hex_bytes(alloc, text)?,
+        backlog: backlog(more)?,
+    })
+}
+
+fn mac_command(alloc: Global, args: &[&[u8]]) -> Result<Command, ReadError>
+    ensures { Reads result (mac_row (map (λ token. token.now) args.now)) }
+{
+    let [transform, text, more @ ..] = args else {
+        return Err(ReadError::Malformed);
+    };
+    Ok(Command::Mac {
+        label: label(alloc, transform)?,
+        text: hex_bytes(alloc, text)?,
+        backlog: backlog(more)?,
+    })
+}
+
+fn free_command(alloc: Global, args: &[&[u8]]) -> Result<Command, ReadError>
+    ensures { Reads result (free_row (map (λ token. token.now) args.now)) }
+{
+    let [transform] = args else {
+        return Err(ReadError::Malformed);
+    };
+    Ok(Command::Free {
+        label: label(alloc, transform)?,
+    })
+}
+
+fn refs_command(alloc: Global, args: &[&[u8]]) -> Result<Command, ReadError>
+    ensures { Reads result (refs_row (map (λ token. token.now) args.now)) }
+{
+    let [driver] = args else {
+        return Err(ReadError::Malformed);
+    };
+    Ok(Command::Refs {
+        driver: Bytes::copy_of(alloc, driver)?,
+    })
+}
+
+fn list_command(args: &[&[u8]]) -> Result<Command, ReadError>
+    ensures { Reads result (list_row (map (λ token. token.now) args.now)) }
+{
+    if !args.is_empty() {
+        return Err(ReadError::Malformed);
+    }
+    Ok(Command::List)
+}
+
+/// The command of a name and its arguments.
+pub fn read_command(alloc: Global, name: &[u8], args: &[&[u8]]) -> Result<Command, ReadError>
+    ensures { Reads result (command_of name.now (map (λ token. token.now) args.now)) }
+{
+    match name {
+        b"aes" => aes_command(alloc, args),
+        b"register" => register_command(alloc, args),
+        b"unregister" => unregister_command(alloc, args),
+        b"alloc" => alloc_command(alloc, args),
+        b"key" => key_command(alloc, args),
+        b"authsize" => authsize_command(alloc, args),
+        b"enc" => enc_command(alloc, args),
+        b"dec" => dec_command(alloc, args),
+        b"mac" => mac_command(alloc, args),
+        b"free" => free_command(alloc, args),
+        b"refs" => refs_command(alloc, args),
+        b"list" => list_command(args),
+        _ => Err(ReadError::Malformed),
+    }
+}
