@@ -1,6 +1,8 @@
 //! What the arguments of a command spell.
 
 ghost use Rattle.std.specs.Prelude.{◌≡◌, IsTrue, map};
+ghost use Rattle.std.specs.Char.{is_ascii_digit};
+ghost use Rattle.std.specs.List.{list_all};
 ghost use Rattle.std.specs.Str.Parse.{digits_value};
 ghost use Rattle.script_text.specs.Arguments.{Reads, hex_of, is_label_byte, is_label, label_of, is_number, number_of, length_of, backlog_of};
 ghost use Rattle.script_text.specs.declared.arguments.ReadError.TheVariants.{NoMemory};
@@ -44,10 +46,16 @@ fn is_label_byte(byte: u8) -> bool
     byte.is_ascii_alphanumeric() || byte == b'-' || byte == b'_'
 }
 
+fn are_label_bytes(token: &[u8]) -> bool
+    ensures { result ≡ list_all is_label_byte token.now }
+{
+    token.iter().all(|b| is_label_byte(*b))
+}
+
 fn is_label(token: &[u8]) -> bool
     ensures { result ≡ is_label token.now }
 {
-    !token.is_empty() && token.len() <= 32 && token.iter().all(|b| is_label_byte(*b))
+    !token.is_empty() && token.len() <= 32 && are_label_bytes(token)
 }
 
 /// A label.
@@ -60,10 +68,16 @@ pub fn label(alloc: Global, token: &[u8]) -> Result<Bytes, ReadError>
     Ok(Bytes::copy_of(alloc, token)?)
 }
 
+fn are_digits(token: &[u8]) -> bool
+    ensures { result ≡ list_all is_ascii_digit token.now }
+{
+    token.iter().all(|b| b.is_ascii_digit())
+}
+
 fn is_number(token: &[u8]) -> bool
     ensures { result ≡ is_number token.now }
 {
-    !token.is_empty() && token.len() <= 9 && token.iter().all(|b| b.is_ascii_digit())
+    !token.is_empty() && token.len() <= 9 && are_digits(token)
 }
 
 // The number that these digits write.

@@ -7,11 +7,19 @@ use kc_base::Bytes;
 #[derive(Debug, Drop)]
 pub enum Command {
     /// `aes KEY BLOCK`: the block sealed by AES under the key.
-    Aes { key: Bytes, block: Bytes },
+    Aes {
+        key: Bytes,
+        block: Bytes,
+    },
     /// `register DRIVER NUM`: the driver enlisted at this priority.
-    Register { driver: Bytes, priority: u32 },
+    Register {
+        driver: Bytes,
+        priority: u32,
+    },
     /// `unregister DRIVER`
-    Unregister { driver: Bytes },
+    Unregister {
+        driver: Bytes,
+    },
     /// `alloc T NAME [NUM]`: a transform of this name, whose queue takes so many requests.
     Alloc {
         label: Bytes,
@@ -19,9 +27,15 @@ pub enum Command {
         length: Option<u32>,
     },
     /// `key T HEX`
-    Key { label: Bytes, key: Bytes },
+    Key {
+        label: Bytes,
+        key: Bytes,
+    },
     /// `authsize T NUM`: tags of so many bytes.
-    Authsize { label: Bytes, size: u32 },
+    Authsize {
+        label: Bytes,
+        size: u32,
+    },
     /// `enc T IV AAD TEXT [backlog]`
     Enc {
         label: Bytes,
@@ -45,9 +59,13 @@ pub enum Command {
         backlog: bool,
     },
     /// `free T`
-    Free { label: Bytes },
+    Free {
+        label: Bytes,
+    },
     /// `refs DRIVER`
-    Refs { driver: Bytes },
+    Refs {
+        driver: Bytes,
+    },
     /// `list`
     List,
 }

@@ -160,19 +160,31 @@ fn list_command(args: &[&[u8]]) -> Result<Command, ReadError>
 pub fn read_command(alloc: Global, name: &[u8], args: &[&[u8]]) -> Result<Command, ReadError>
     ensures { Reads result (command_of name.now (map (λ token. token.now) args.now)) }
 {
-    match name {
-        b"aes" => aes_command(alloc, args),
-        b"register" => register_command(alloc, args),
-        b"unregister" => unregister_command(alloc, args),
-        b"alloc" => alloc_command(alloc, args),
-        b"key" => key_command(alloc, args),
-        b"authsize" => authsize_command(alloc, args),
-        b"enc" => enc_command(alloc, args),
-        b"dec" => dec_command(alloc, args),
-        b"mac" => mac_command(alloc, args),
-        b"free" => free_command(alloc, args),
-        b"refs" => refs_command(alloc, args),
-        b"list" => list_command(args),
-        _ => Err(ReadError::Malformed),
+    if name == b"aes".as_slice() {
+        aes_command(alloc, args)
+    } else if name == b"register".as_slice() {
+        register_command(alloc, args)
+    } else if name == b"unregister".as_slice() {
+        unregister_command(alloc, args)
+    } else if name == b"alloc".as_slice() {
+        alloc_command(alloc, args)
+    } else if name == b"key".as_slice() {
+        key_command(alloc, args)
+    } else if name == b"authsize".as_slice() {
+        authsize_command(alloc, args)
+    } else if name == b"enc".as_slice() {
+        enc_command(alloc, args)
+    } else if name == b"dec".as_slice() {
+        dec_command(alloc, args)
+    } else if name == b"mac".as_slice() {
+        mac_command(alloc, args)
+    } else if name == b"free".as_slice() {
+        free_command(alloc, args)
+    } else if name == b"refs".as_slice() {
+        refs_command(alloc, args)
+    } else if name == b"list".as_slice() {
+        list_command(args)
+    } else {
+        Err(ReadError::Malformed)
     }
 }

@@ -1,4 +1,7 @@
+ghost use Rattle.std.specs.Prelude.{◌<◌};
+
 use crate::{Command, Line, LineCutter, MAX_LINE, first_line, read_line};
+use kc_base::Bytes;
 use std::alloc::{AllocError, Global};
 use std::test::Fail;
 
@@ -9,7 +12,7 @@ enum Said {
     Malformed,
     // `aes` with so many bytes of key and of block
     Aes(usize, usize),
-    Other,
+    Another,
 }
 
 fn seen(line: &Line) -> Said {
@@ -17,8 +20,12 @@ fn seen(line: &Line) -> Said {
         Line::Nothing => Said::Nothing,
         Line::Malformed => Said::Malformed,
         Line::Cmd(Command::Aes { key, block }) => Said::Aes(key.len(), block.len()),
-        Line::Cmd(_) => Said::Other,
+        Line::Cmd(_) => Said::Another,
     }
+}
+
+fn read_said(alloc: Global, line: &[u8]) -> Result<Said, AllocError> {
+    Ok(seen(&read_line(alloc, line)?))
 }
 
 #[test]
@@ -54,7 +61,7 @@ fn lines_say_what_they_say(rt: HostRuntime) -> Result<(), Fail> {
         (b"AES 00 00\n", Said::Malformed),
     ];
     for (line, want) in table {
-        assert_eq!(rt; seen(&read_line(rt.alloc(), line)?), want, "{line:?}");
+        assert_eq!(rt; read_said(rt.alloc(), line)?, want, "{line:?}");
     }
     Ok(())
 }
@@ -80,7 +87,7 @@ fn a_line_has_a_limit(rt: HostRuntime) -> Result<(), Fail> {
     for (count, end, want) in table {
         let line = comment(rt.alloc(), count, end)?;
         assert_eq!(rt;
-            seen(&read_line(rt.alloc(), &line)?),
+            read_said(rt.alloc(), &line)?,
             want,
             "{count} bytes and {end:?}"
         );
@@ -100,6 +107,42 @@ fn the_first_line_has_its_line_feed(rt: HostRuntime) {
     assert!(rt; rest.is_empty());
 }
 
+// What the next line says, and what the last one does.
+fn next_said(cutter: &mut LineCutter) -> Result<Option<Said>, AllocError> {
+    match cutter.next()? {
+        Some(line) => Ok(Some(seen(&line))),
+        None => Ok(None),
+    }
+}
+
+fn last_said(cutter: &mut LineCutter) -> Result<Option<Said>, AllocError> {
+    match cutter.last()? {
+        Some(line) => Ok(Some(seen(&line))),
+        None => Ok(None),
+    }
+}
+
+// What a script says that comes in pieces of so many bytes.
+fn said_in_pieces(alloc: Global, script: &[u8], size: usize) -> Result<Vec<Said>, AllocError>
+    requires { 0 < size }
+{
+    let mut cutter = LineCutter::new(alloc);
+    let mut found = Vec::new(alloc);
+    for piece in script.chunks(size) {
+        cutter.feed(piece)?;
+        // a piece ends no more lines than it has bytes
+        for _ in piece {
+            if let Some(said) = next_said(&mut cutter)? {
+                found.push(said)?;
+            }
+        }
+    }
+    if let Some(said) = last_said(&mut cutter)? {
+        found.push(said)?;
+    }
+    Ok(found)
+}
+
 #[test]
 fn pieces_make_lines_wherever_they_are_cut(rt: HostRuntime) -> Result<(), Fail> {
     let script = b"# note\r\naes 00 0001\nfrob\n\naes 00 -";
@@ -111,22 +154,217 @@ fn pieces_make_lines_wherever_they_are_cut(rt: HostRuntime) -> Result<(), Fail> 
         Said::Aes(1, 0),
     ];
     for size in 1..12usize {
-        let mut cutter = LineCutter::new(rt.alloc());
-        let mut found = Vec::new(rt.alloc());
-        for piece in script.chunks(size) {
-            cutter.feed(piece)?;
-            // a piece ends no more lines than it has bytes
-            for _ in piece {
-                if let Some(line) = cutter.next()? {
-                    found.push(seen(&line))?;
-                }
-            }
-        }
-        if let Some(line) = cutter.last()? {
-            found.push(seen(&line))?;
-        }
+        let found = said_in_pieces(rt.alloc(), script, size)?;
         assert_eq!(rt; found.as_slice(), want.as_slice(), "pieces of {size} bytes");
-        assert!(rt; cutter.last()?.is_none());
     }
+    Ok(())
+}
+
+#[test]
+fn the_last_line_comes_once(rt: HostRuntime) -> Result<(), Fail> {
+    let mut cutter = LineCutter::new(rt.alloc());
+    cutter.feed(b"list")?;
+    assert_eq!(rt; last_said(&mut cutter)?, Some(Said::Another));
+    assert_eq!(rt; last_said(&mut cutter)?, None);
+    Ok(())
+}
+
+// Bytes that are text.
+fn text(bytes: &Bytes) -> &str {
+    str::from_utf8(bytes.as_slice()).unwrap_or("no text")
+}
+
+// The command of a line that serves a request, written out: its label, its lists in hexadecimal digits, and whether it
+// may wait in the backlog.
+fn request_words(
+    alloc: Global,
+    word: &str,
+    label: &Bytes,
+    parts: &[&Bytes],
+    backlog: bool,
+) -> Result<String, AllocError> {
+    let mut words = format!(in alloc; "{word} {}", text(label))?;
+    for part in parts {
+        let digits = hex::encode(alloc, part.as_slice())?;
+        words.push_str(if part.is_empty() { " -" } else { " " })?;
+        words.push_str(digits.as_str())?;
+    }
+    if backlog {
+        words.push_str(" backlog")?;
+    }
+    Ok(words)
+}
+
+// A command, written out with its values.
+fn words(alloc: Global, command: &Command) -> Result<String, AllocError> {
+    match command {
+        Command::Aes { key, block } => format!(in alloc; "aes {} {}", key.len(), block.len()),
+        Command::Register { driver, priority } => {
+            format!(in alloc; "register {} {priority}", text(driver))
+        }
+        Command::Unregister { driver } => format!(in alloc; "unregister {}", text(driver)),
+        Command::Alloc {
+            label,
+            name,
+            length,
+        } => format!(in alloc; "alloc {} {} {length:?}", text(label), text(name)),
+        Command::Key { label, key } => request_words(alloc, "key", label, &[key], false),
+        Command::Authsize { label, size } => format!(in alloc; "authsize {} {size}", text(label)),
+        Command::Enc {
+            label,
+            iv,
+            associated,
+            text,
+            backlog,
+        } => request_words(alloc, "enc", label, &[iv, associated, text], *backlog),
+        Command::Dec {
+            label,
+            iv,
+            associated,
+            text,
+            backlog,
+        } => request_words(alloc, "dec", label, &[iv, associated, text], *backlog),
+        Command::Mac {
+            label,
+            text,
+            backlog,
+        } => request_words(alloc, "mac", label, &[text], *backlog),
+        Command::Free { label } => format!(in alloc; "free {}", text(label)),
+        Command::Refs { driver } => format!(in alloc; "refs {}", text(driver)),
+        Command::List => String::from_str(alloc, "list"),
+    }
+}
+
+// The command of a line, written out.
+fn read_words(alloc: Global, line: &[u8]) -> Result<String, AllocError> {
+    match read_line(alloc, line)? {
+        Line::Cmd(command) => words(alloc, &command),
+        _ => String::from_str(alloc, "no command"),
+    }
+}
+
+// The commands of a script's lines, written out line by line.
+fn script_words(alloc: Global, script: &[u8]) -> Result<String, AllocError> {
+    let mut all = String::new(alloc);
+    for line in script.split(|b| *b == b'\n') {
+        let words = read_words(alloc, line)?;
+        all.push_str(words.as_str())?;
+        all.push_str("\n")?;
+    }
+    Ok(all)
+}
+
+// How many lines of a script say this.
+fn count_saying(alloc: Global, script: &[u8], wanted: Said) -> Result<usize, AllocError> {
+    let mut count = 0;
+    for line in script.split(|b| *b == b'\n') {
+        if read_said(alloc, line)? == wanted {
+            count += 1;
+        }
+    }
+    Ok(count)
+}
+
+#[test]
+fn each_command_has_its_values(rt: HostRuntime) -> Result<(), Fail> {
+    let script = b"aes 0001 02
+register cbc(aes-generic) 0200
+unregister aes-generic
+alloc a authenc(hmac(sha256),cbc(aes))
+alloc a cryptd(gcm(aes)) 010
+key T-0_z aAbB
+key t -
+authsize t 16
+enc t 01 0203 040506
+enc t 01 - 0405 backlog
+dec t 01 0203 040506
+dec t - 02 - backlog
+mac t 0102
+mac t - backlog
+free t
+refs aes-generic
+refs #!
+\tlist ";
+    let want = "aes 2 1
+register cbc(aes-generic) 200
+unregister aes-generic
+alloc a authenc(hmac(sha256),cbc(aes)) None
+alloc a cryptd(gcm(aes)) Some(10)
+key T-0_z aabb
+key t -
+authsize t 16
+enc t 01 0203 040506
+enc t 01 - 0405 backlog
+dec t 01 0203 040506
+dec t - 02 - backlog
+mac t 0102
+mac t - backlog
+free t
+refs aes-generic
+refs #!
+list
+";
+    let found = script_words(rt.alloc(), script)?;
+    assert_eq!(rt; found.as_str(), want);
+    Ok(())
+}
+
+#[test]
+fn arguments_have_their_limits(rt: HostRuntime) -> Result<(), Fail> {
+    // a label of 32 bytes, and numbers of 9 digits
+    let fit = b"free abcdefghijklmnopqrstuvwxyz-_0123
+register a 999999999
+register a 000000000
+alloc t aes 1";
+    assert_eq!(rt; count_saying(rt.alloc(), fit, Said::Another)?, 4);
+    // a label of 33 bytes, bytes that no label has, numbers of 10 digits, no digits, half a byte
+    let unfit = b"free abcdefghijklmnopqrstuvwxyz-_01234
+free a.b
+key a/b 00
+register a 0000000001
+register a 1000000000
+register a +1
+register a -
+authsize t 0x10
+alloc t aes ten
+key t 012
+mac t 0g
+enc t 00 0 00
+dec t 00 00 --";
+    assert_eq!(rt; count_saying(rt.alloc(), unfit, Said::Malformed)?, 13);
+    Ok(())
+}
+
+#[test]
+fn another_number_of_tokens_is_malformed(rt: HostRuntime) -> Result<(), Fail> {
+    let script = b"register
+register a
+register a 1 2
+unregister
+unregister a b
+alloc t
+alloc t aes 1 2
+key t
+key t 00 00
+authsize t
+authsize t 1 1
+enc t 00 00
+enc t 00 00 00 00
+enc t 00 00 00 backlog backlog
+dec t 00 00
+dec t 00 00 00 Backlog
+mac t
+mac t 00 backlo
+mac t 00 backlog 00
+free
+free t u
+refs
+refs a b
+list a
+List
+lists
+encrypt t 00 00 00
+ENC t 00 00 00";
+    assert_eq!(rt; count_saying(rt.alloc(), script, Said::Malformed)?, 28);
     Ok(())
 }
