@@ -1,0 +1,20 @@
+-- A line of words, one word more.
+use Rattle.std.proofs.Common.{◌≡◌, ℕ, ◌+◌, ◌<◌, List, [], ◌∷◌, ◌++◌, length, take, get_or, map, Bor, sym, ap, ◌∙◌, append_assoc}
+use Rattle.std.specs.List.{join_with_byte}
+use Rattle.std.proofs.lemmas.List.{take_more, map_push}
+
+join_more : (c : ℕ) (first : List ℕ) (words : List (List ℕ)) (word : List ℕ) → join_with_byte c (first ∷ (words ++ word ∷ [])) ≡ (join_with_byte c (first ∷ words) ++ c ∷ []) ++ word
+join_more c first [] word = sym (append_assoc first (c ∷ []) word)
+join_more c first (next ∷ words) word = ap (λ text. first ++ (c ∷ text)) (join_more c next words word) ∙ simp append_assoc
+
+pub next_word : (text first : List ℕ) (words : List (Bor (List ℕ))) (i : ℕ) (word : Bor (List ℕ)) → i < length words → word ≡ get_or words i word
+    → text ≡ join_with_byte 32 (first ∷ map (λ w. w.now) (take i words))
+    → (text ++ 32 ∷ []) ++ word.now ≡ join_with_byte 32 (first ∷ map (λ w. w.now) (take (i + 1) words))
+next_word text first words i word lt at is =
+    let now : Bor (List ℕ) → List ℕ = λ w. w.now in
+    let more = map_push now (take i words) (get_or words i word) in
+    ap (λ t. (t ++ 32 ∷ []) ++ word.now) is
+    ∙ (sym (join_more 32 first (map now (take i words)) word.now)
+    ∙ (ap (λ w. join_with_byte 32 (first ∷ (map now (take i words) ++ now w ∷ []))) at
+    ∙ (ap (λ ws. join_with_byte 32 (first ∷ ws)) (sym more)
+    ∙ ap (λ ws. join_with_byte 32 (first ∷ map now ws)) (sym (take_more words i word lt)))))

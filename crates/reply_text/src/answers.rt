@@ -1,0 +1,49 @@
+//! What a line may be answered.
+
+use kc_base::{Bytes, Errno};
+
+/// An answer, by the number of the line that it answers.
+#[derive(Debug, Drop)]
+pub enum Answer {
+    /// All went well.
+    Ok {
+        line: u32,
+    },
+    /// All went well, with these bytes.
+    Value {
+        line: u32,
+        bytes: Bytes,
+    },
+    /// A transform was made, of this driver.
+    Made {
+        line: u32,
+        driver: Bytes,
+    },
+    /// Refused, or a queue's verdict.
+    Refused {
+        line: u32,
+        errno: Errno,
+    },
+    Malformed {
+        line: u32,
+    },
+    /// How many references an entry has, and whether it is listed.
+    Refs {
+        line: u32,
+        count: u64,
+        listed: bool,
+    },
+    /// An entry of the list.
+    Alg {
+        line: u32,
+        name: Bytes,
+        driver: Bytes,
+        priority: u32,
+        refs: u64,
+    },
+    /// The end of the list, of so many entries.
+    Listed {
+        line: u32,
+        count: u64,
+    },
+}
