@@ -7,14 +7,14 @@ join_more : (c : ℕ) (first : List ℕ) (words : List (List ℕ)) (word : List 
 join_more c first [] word = sym (append_assoc first (c ∷ []) word)
 join_more c first (next ∷ words) word = ap (λ text. first ++ (c ∷ text)) (join_more c next words word) ∙ simp append_assoc
 
-pub next_word : (text first : List ℕ) (words : List (Bor (List ℕ))) (i : ℕ) (word : Bor (List ℕ)) → i < length words → word ≡ get_or words i word
+pub next_word : (text pushed appended first : List ℕ) (words : List (Bor (List ℕ))) (i : ℕ) (d : Bor (List ℕ)) → i < length words
     → text ≡ join_with_byte 32 (first ∷ map (λ w. w.now) (take i words))
-    → (text ++ 32 ∷ []) ++ word.now ≡ join_with_byte 32 (first ∷ map (λ w. w.now) (take (i + 1) words))
-next_word text first words i word lt at is =
+    → pushed ≡ text ++ 32 ∷ [] → appended ≡ pushed ++ (get_or words i d).now
+    → appended ≡ join_with_byte 32 (first ∷ map (λ w. w.now) (take (i + 1) words))
+next_word text pushed appended first words i d lt is blank word =
     let now : Bor (List ℕ) → List ℕ = λ w. w.now in
-    let more = map_push now (take i words) (get_or words i word) in
-    ap (λ t. (t ++ 32 ∷ []) ++ word.now) is
-    ∙ (sym (join_more 32 first (map now (take i words)) word.now)
-    ∙ (ap (λ w. join_with_byte 32 (first ∷ (map now (take i words) ++ now w ∷ []))) at
-    ∙ (ap (λ ws. join_with_byte 32 (first ∷ ws)) (sym more)
-    ∙ ap (λ ws. join_with_byte 32 (first ∷ map now ws)) (sym (take_more words i word lt)))))
+    word
+    ∙ (ap (λ t. t ++ now (get_or words i d)) (blank ∙ ap (λ t. t ++ 32 ∷ []) is)
+    ∙ (sym (join_more 32 first (map now (take i words)) (now (get_or words i d)))
+    ∙ (ap (λ ws. join_with_byte 32 (first ∷ ws)) (sym (map_push now (take i words) (get_or words i d)))
+    ∙ ap (λ ws. join_with_byte 32 (first ∷ map now ws)) (sym (take_more words i d lt)))))
