@@ -1,0 +1,479 @@
+-- What the arms of a session do, over plain values.
+use Rattle.std.proofs.Common.{◌≡◌, ℕ, ◌+◌, ◌<◌, ◌≤◌, Bool, true, false, cond, List, [], ◌∷◌, ◌++◌, length, Option, Some, None, Result, Ok, Err, refl, sym, ap, subst, ◌∙◌, arith, IsTrue}
+use Rattle.std.proofs.lemmas.Bool.Decides.{nat_tests}
+use Rattle.std.specs.Prelude.{codes, nat_lt, nat_le, if◌then◌else◌, find, slice_get, map, is_some, MatchResult}
+use Rattle.std.specs.List.{position_from}
+use Rattle.std.specs.Option.{option_map}
+use Rattle.std.specs.Str.{bytes_eq}
+use Rattle.kc_base.specs.declared.error_numbers.Errno.{Errno}
+use Rattle.kc_base.specs.declared.error_numbers.Errno.TheVariants as errno
+use Rattle.alg_names.specs.Name.{Tree, word_of}
+use Rattle.alg_registry.specs.declared.spec.Spec.{Spec}
+use Rattle.alg_registry.specs.declared.spec.Kind.TheVariants.{Cipher, Hash, Ghash}
+use Rattle.alg_registry.specs.declared.spec.Wrap.TheVariants.{Plain}
+use Rattle.alg_registry.specs.declared.entry.Enlisted.{Enlisted}
+use Rattle.alg_registry.specs.declared.entry.Enlisted.TheVariants as enlisted
+use Rattle.alg_registry.specs.declared.entry.RefAnswer.{RefAnswer}
+use Rattle.alg_registry.specs.declared.entry.RegErr.{RegErr}
+use Rattle.alg_registry.specs.declared.entry.RegErr.TheVariants.{Exist, NoEnt, Again, NFile, Memory}
+use Rattle.alg_registry.specs.declared.entry.RegEntry.{RegEntry}
+use Rattle.alg_registry.specs.declared.entry.RegEntry.TheVariants as entry
+use Rattle.alg_registry.specs.declared.listing.ListRow.{ListRow}
+use Rattle.alg_registry.specs.Rows.{rows_of, registered, begun_by, is_listed, opening, opened}
+use Rattle.alg_registry.specs.Answers.{enlist_answer, driver_place}
+use Rattle.alg_registry.specs.Calls.{UnlessMemory, OnMemory, enlist_result, unlist_result, get_result, refs_answer, refs_result, listing}
+use Rattle.alg_registry.specs.Made.{Made, IsMade, outcome}
+use Rattle.reply_text.specs.declared.answers.Answer.{Answer}
+use Rattle.reply_text.specs.declared.answers.Answer.TheVariants as said
+use Rattle.script_text.specs.declared.commands.Command.TheVariants as command
+use Rattle.templates.specs.declared.driver_plans.Plan.{Plan}
+use Rattle.templates.specs.Looking.{Found, Entry, Fault, LooksFor, NonePending, entry_found, found_as}
+use Rattle.templates.specs.Nesting.{is_wrapper_word}
+use Rattle.templates.specs.Table.{table}
+use Rattle.session.specs.Allocating.{alloc_turn, named_turn, rooted_turn, looked_turn, entry_turn, planned_turn, got_turn, plan_for, new_live, and_live, is_queue_length, name_read, free_turn}
+use Rattle.session.specs.Histories.{RegCall, Enlists, Looks, Unlists, Gets, Puts, Counts, Lists, reg_call_of, is_settled}
+use Rattle.session.specs.Lines.{CommandTurn}
+use Rattle.session.specs.Refusing.{errno_of, IsRefusedBy}
+use Rattle.session.specs.Registering.{driver_spec, register_turn, enlist_said, unregister_turn, unlist_said, refs_turn, refs_said, list_turn, row_said}
+use Rattle.session.specs.Requesting.{key_turn, authsize_turn, keyed_said, request_said}
+use Rattle.transforms.specs.declared.request.Request.{Request}
+use Rattle.session.specs.Standing.{Stands, Does, Done, Stops, got, given, uses}
+use Rattle.session.specs.declared.stop.Stop.{Stop}
+use Rattle.session.specs.Turns.{Turn, refused, answered, asking}
+use Rattle.session.specs.Walk.{Walk, Live, is_of, live_of, with_live, without, replaced, removed}
+use Rattle.session.proofs.Asking.{DoneBy, unasked, asked, look-stands, after-look, uses-append}
+use Rattle.session.proofs.Owing.{may-give}
+use Rattle.session.proofs.Placed.{Split, split-at, none-at, split-set, uses-replaced, uses-removed}
+use Rattle.std.proofs.Math.ListN.{set}
+use Rattle.std.proofs.lemmas.Slice.Eq.{bytes_eq-Decides}
+use Rattle.transforms.specs.Plans.{mode_of}
+use Rattle.transforms.specs.Takes.{takes_tag, takes_key_of}
+
+some-is : {A : Type 0} → (x y : A) → Some x ≡ Some y → x ≡ y
+some-is x y e = cc
+
+-- ---- how arms end
+
+pub refusal-done : (IsTurn : Turn → Type 0) (walk : Walk) (r : List RegEntry) (n : ℕ) (errno : Errno) (answer : Answer) → Stands walk r → IsTurn (refused walk n errno) → answer ≡ said.Refused n errno
+    → Done IsTurn r r (answer ∷ []) walk
+refusal-done IsTurn walk r n errno answer stands is says =
+    let done = unasked walk walk r (refused walk n errno) (answer ∷ []) stands refl (ap (λ a. a ∷ []) says) refl (λ id. refl) in
+    (refused walk n errno, is, done.0, done.1, done.2)
+
+-- a call that changes no reference, and leaves the walk as it is
+quiet-done : (IsTurn : Turn → Type 0) (walk : Walk) (r r' : List RegEntry) (next : RegEntry) (call : RegCall) (turn : Turn) (answers : List Answer)
+    → Stands walk r → r' ≡ r ++ next ∷ [] → reg_call_of (r ++ next ∷ []) 0 r next ≡ Some call → is_settled call ≡ true → IsMade table r next → begun_by next ≡ None
+    → turn.registry ≡ call ∷ [] → answers ≡ turn.answers → walk ≡ turn.after
+    → ((id : ℕ) → got id (call ∷ []) + uses id walk.lives ≡ given id (call ∷ []) + uses id walk.lives) → IsTurn turn → Done IsTurn r r' answers walk
+quiet-done IsTurn walk r r' next call turn answers stands grown is settles made begins calls says leaves balanced holds =
+    let done = asked walk walk r r' next call turn answers stands grown is settles made begins calls says leaves balanced in
+    (turn, holds, done.0, done.1, done.2)
+
+pub done-as : (P Q : Turn → Type 0) (r r' : List RegEntry) (answers : List Answer) (walk : Walk) → ((turn : Turn) → P turn → Q turn) → Done P r r' answers walk → Done Q r r' answers walk
+done-as P Q r r' answers walk f done = (done.0, f done.0 done.1, done.2, done.3, done.4)
+
+pub result-as : {A E : Type 0} (result : Result A E) (P Q : A → Type 0) (R : E → Type 0) → ((a : A) → P a → Q a) → MatchResult result P R → MatchResult result Q R
+result-as (Ok a) P Q R f p = f a p
+result-as (Err e) P Q R f p = p
+
+-- ---- refusals of the registry
+
+pub unless : (A : Type 0) (error : RegErr) (e : Errno) (P : Type 0) → errno_of error ≡ Some e → UnlessMemory {A = A} (Err error) P → P
+unless A Exist e P is p = p
+unless A NoEnt e P is p = p
+unless A Again e P is p = p
+unless A NFile e P is p = p
+unless A Memory e P is p = absurd cc
+
+pub on-memory : (A : Type 0) (error : RegErr) (P : Type 0) → errno_of error ≡ None → OnMemory {A = A} (Err error) P → P
+on-memory A Exist P is p = absurd cc
+on-memory A NoEnt P is p = absurd cc
+on-memory A Again P is p = absurd cc
+on-memory A NFile P is p = absurd cc
+on-memory A Memory P is p = p
+
+pub refused-by : (n : ℕ) (error : RegErr) (result : Result Answer Stop) (P : Answer → Type 0) (R : Type 0) → IsRefusedBy n error result
+    → ((e : Errno) → errno_of error ≡ Some e → P (said.Refused n e)) → (errno_of error ≡ None → R) → MatchResult result P (λ _. R)
+refused-by n error (Ok answer) P R by f g = subst P (sym by.2) (f by.0 by.1)
+refused-by n error (Err stop) P R by f g = g by
+
+-- ---- `register`
+
+pub record IsKnownDriver (spec : Spec) (priority : ℕ) : Type 0 where
+  pub priority_is : spec.priority ≡ priority
+  pub alone : spec.below ≡ []
+  pub plain : spec.wrap ≡ Plain
+  pub listed : IsTrue (table.is_driver spec)
+
+with_priority : ℕ → Spec → Spec
+with_priority priority spec = record spec { priority = priority }
+
+known-spec : (priority : ℕ) (known spec : Spec) → Some (record known { priority = priority }) ≡ Some spec → IsKnownDriver (record known { priority = priority }) priority → IsKnownDriver spec priority
+known-spec priority known spec e is = subst (λ (s : Spec). IsKnownDriver s priority) (some-is (record known { priority = priority }) spec e) is
+
+pub known-driver : (driver : List ℕ) (priority : ℕ) (spec : Spec) → driver_spec driver priority ≡ Some spec → IsKnownDriver spec priority
+unfolding table
+known-driver driver priority spec e = by_tests (bytes_eq driver aes.driver) (bytes_eq driver sha256.driver) (bytes_eq driver ghash.driver) e
+  where
+    aes : Spec
+    aes = opened (97 ∷ 101 ∷ 115 ∷ []) (97 ∷ 101 ∷ 115 ∷ 45 ∷ 103 ∷ 101 ∷ 110 ∷ 101 ∷ 114 ∷ 105 ∷ 99 ∷ []) Cipher
+
+    sha256 : Spec
+    sha256 = opened (115 ∷ 104 ∷ 97 ∷ 50 ∷ 53 ∷ 54 ∷ []) (115 ∷ 104 ∷ 97 ∷ 50 ∷ 53 ∷ 54 ∷ 45 ∷ 103 ∷ 101 ∷ 110 ∷ 101 ∷ 114 ∷ 105 ∷ 99 ∷ []) Hash
+
+    ghash : Spec
+    ghash = opened (103 ∷ 104 ∷ 97 ∷ 115 ∷ 104 ∷ []) (103 ∷ 104 ∷ 97 ∷ 115 ∷ 104 ∷ 45 ∷ 103 ∷ 101 ∷ 110 ∷ 101 ∷ 114 ∷ 105 ∷ 99 ∷ []) Ghash
+
+    by_tests : (a b c : Bool) → option_map (λ (s : Spec). record s { priority = priority }) (cond a (Some aes) (cond b (Some sha256) (cond c (Some ghash) None))) ≡ Some spec → IsKnownDriver spec priority
+    by_tests true b c q = known-spec priority aes spec q (record { priority_is = refl; alone = refl; plain = refl; listed = refl })
+    by_tests false true c q = known-spec priority sha256 spec q (record { priority_is = refl; alone = refl; plain = refl; listed = refl })
+    by_tests false false true q = known-spec priority ghash spec q (record { priority_is = refl; alone = refl; plain = refl; listed = refl })
+    by_tests false false false q = absurd cc
+
+-- no driver has another name
+pub no-driver : (name aes sha256 ghash : List ℕ) (priority : ℕ) (a b c : Bool) → a ≡ bytes_eq name aes → b ≡ bytes_eq name sha256 → c ≡ bytes_eq name ghash → a ≡ false → b ≡ false → c ≡ false
+    → aes ≡ 97 ∷ 101 ∷ 115 ∷ 45 ∷ 103 ∷ 101 ∷ 110 ∷ 101 ∷ 114 ∷ 105 ∷ 99 ∷ [] → sha256 ≡ 115 ∷ 104 ∷ 97 ∷ 50 ∷ 53 ∷ 54 ∷ 45 ∷ 103 ∷ 101 ∷ 110 ∷ 101 ∷ 114 ∷ 105 ∷ 99 ∷ []
+    → ghash ≡ 103 ∷ 104 ∷ 97 ∷ 115 ∷ 104 ∷ 45 ∷ 103 ∷ 101 ∷ 110 ∷ 101 ∷ 114 ∷ 105 ∷ 99 ∷ [] → None ≡ driver_spec name priority
+no-driver name aes sha256 ghash priority a b c at_a at_b at_c not_a not_b not_c is_a is_b is_c =
+    sym (ap (λ (t : Bool). chosen t (bytes_eq name (codes "sha256-generic")) (bytes_eq name (codes "ghash-generic"))) (ap (bytes_eq name) (sym is_a) ∙ (sym at_a ∙ not_a))
+      ∙ (ap (λ (t : Bool). chosen false t (bytes_eq name (codes "ghash-generic"))) (ap (bytes_eq name) (sym is_b) ∙ (sym at_b ∙ not_b))
+        ∙ ap (λ (t : Bool). chosen false false t) (ap (bytes_eq name) (sym is_c) ∙ (sym at_c ∙ not_c))))
+  where
+    chosen : Bool → Bool → Bool → Option Spec
+    chosen x y z =
+        option_map (λ (s : Spec). record s { priority = priority })
+          (cond x (Some (opened (codes "aes") (codes "aes-generic") Cipher)) (cond y (Some (opened (codes "sha256") (codes "sha256-generic") Hash)) (cond z (Some (opened (codes "ghash") (codes "ghash-generic") Ghash)) None)))
+
+pub register-unknown : (walk : Walk) (n : ℕ) (name driver : List ℕ) (priority : ℕ) (found : Option Spec) (r : List RegEntry) (answer : Answer)
+    → Stands walk r → name ≡ driver → found ≡ driver_spec name priority → found ≡ None → answer ≡ said.Refused n errno.ENOENT
+    → Done (CommandTurn walk n (command.Register driver priority)) r r (answer ∷ []) walk
+register-unknown walk n name driver priority found r answer stands same found_is none says =
+    let at : None ≡ driver_spec driver priority = sym none ∙ (found_is ∙ ap (λ d. driver_spec d priority) same) in
+    refusal-done (CommandTurn walk n (command.Register driver priority)) walk r n errno.ENOENT answer stands (enlisted.Exist, ap (λ f. register_turn walk n f enlisted.Exist) at) says
+
+enlist_turn : Walk → ℕ → Spec → Enlisted → Bool → Turn
+enlist_turn walk n spec answer high = if high then refused walk n errno.EINVAL else asking (Enlists spec answer) (answered walk (enlist_said n answer))
+
+pub register-high : (walk : Walk) (n : ℕ) (name driver : List ℕ) (priority : ℕ) (found : Option Spec) (spec : Spec) (r : List RegEntry) (answer : Answer)
+    → Stands walk r → name ≡ driver → found ≡ driver_spec name priority → found ≡ Some spec → 100000 < priority → answer ≡ said.Refused n errno.EINVAL
+    → Done (CommandTurn walk n (command.Register driver priority)) r r (answer ∷ []) walk
+unfolding enlist_turn
+register-high walk n name driver priority found spec r answer stands same found_is some high says =
+    let at : driver_spec driver priority ≡ Some spec = sym (ap (λ d. driver_spec d priority) same) ∙ (sym found_is ∙ some) in
+    let known = known-driver driver priority spec at in
+    let is_high : nat_lt 100000 priority ≡ true = grind (arith, nat_tests) in
+    let test : nat_lt 100000 spec.priority ≡ true = ap (nat_lt 100000) known.priority_is ∙ is_high in
+    refusal-done (CommandTurn walk n (command.Register driver priority)) walk r n errno.EINVAL answer stands
+      (enlisted.Exist, sym (ap (λ f. register_turn walk n f enlisted.Exist) at ∙ ap (enlist_turn walk n spec enlisted.Exist) test)) says
+
+pub register-asked : (walk : Walk) (n : ℕ) (name driver : List ℕ) (priority : ℕ) (found : Option Spec) (spec : Spec) (r r' : List RegEntry) (answer : Answer)
+    → Stands walk r → name ≡ driver → found ≡ driver_spec name priority → found ≡ Some spec → priority ≤ 100000
+    → r' ≡ r ++ entry.Enlist 0 spec (enlist_answer (rows_of r) spec) ∷ [] → answer ≡ enlist_said n (enlist_answer (rows_of r) spec)
+    → Done (CommandTurn walk n (command.Register driver priority)) r r' (answer ∷ []) walk
+unfolding enlist_turn
+register-asked walk n name driver priority found spec r r' answer stands same found_is some low grown says =
+    let at : driver_spec driver priority ≡ Some spec = sym (ap (λ d. driver_spec d priority) same) ∙ (sym found_is ∙ some) in
+    let known = known-driver driver priority spec at in
+    let is_low : nat_lt 100000 priority ≡ false = grind (arith, nat_tests) in
+    let test : nat_lt 100000 spec.priority ≡ false = ap (nat_lt 100000) known.priority_is ∙ is_low in
+    let how = enlist_answer (rows_of r) spec in
+    quiet-done (CommandTurn walk n (command.Register driver priority)) walk r r' (entry.Enlist 0 spec how) (Enlists spec how) (asking (Enlists spec how) (answered walk (enlist_said n how))) (answer ∷ [])
+      stands grown refl refl known.listed refl refl (ap (λ a. a ∷ []) says) refl (λ id. refl)
+      (how, sym (ap (λ f. register_turn walk n f how) at ∙ ap (enlist_turn walk n spec how) test))
+
+pub enlist-ok : (n : ℕ) (how : Enlisted) (id : ℕ) → Ok id ≡ enlist_result how → said.Ok n ≡ enlist_said n how
+enlist-ok n (enlisted.Made made) id e = refl
+enlist-ok n enlisted.Exist id e = absurd cc
+enlist-ok n enlisted.NFile id e = absurd cc
+
+-- the answer of a number
+abbrev refused_as : ℕ → Option Errno → Answer
+refused_as n (Some e) = said.Refused n e
+refused_as n None = said.Ok n
+
+by-error : (n : ℕ) (known error : RegErr) (e : Errno) → error ≡ known → errno_of error ≡ Some e → said.Refused n e ≡ refused_as n (errno_of known)
+by-error n known error e same at = ap (refused_as n) (sym at ∙ ap errno_of same)
+
+pub enlist-refused : (n : ℕ) (how : Enlisted) (error : RegErr) (e : Errno) → errno_of error ≡ Some e → Err error ≡ enlist_result how → said.Refused n e ≡ enlist_said n how
+enlist-refused n (enlisted.Made made) error e is q = absurd cc
+enlist-refused n enlisted.Exist error e is q = by-error n Exist error e (cc) is
+enlist-refused n enlisted.NFile error e is q = by-error n NFile error e (cc) is
+
+-- ---- `unregister`, `refs` and `list`
+
+pub unregister-asked : (walk : Walk) (n : ℕ) (name driver : List ℕ) (r r' : List RegEntry) (answer : Answer) → Stands walk r → name ≡ driver
+    → r' ≡ r ++ entry.Unlist 0 name (driver_place (rows_of r) name) ∷ [] → answer ≡ unlist_said n (driver_place (rows_of r) name)
+    → Done (CommandTurn walk n (command.Unregister driver)) r r' (answer ∷ []) walk
+unregister-asked walk n name driver r r' answer stands same grown says =
+    let id = driver_place (rows_of r) name in
+    quiet-done (CommandTurn walk n (command.Unregister driver)) walk r r' (entry.Unlist 0 name id) (Unlists name id) (unregister_turn walk n name id) (answer ∷ [])
+      stands grown refl refl tt refl refl (ap (λ a. a ∷ []) says) refl (λ id. refl) (id, ap (λ d. unregister_turn walk n d id) same)
+
+pub unlist-ok : (n : ℕ) (id : Option ℕ) → Ok tt ≡ unlist_result id → said.Ok n ≡ unlist_said n id
+unlist-ok n (Some id) e = refl
+unlist-ok n None e = absurd cc
+
+pub unlist-refused : (n : ℕ) (id : Option ℕ) (error : RegErr) (e : Errno) → errno_of error ≡ Some e → Err error ≡ unlist_result id → said.Refused n e ≡ unlist_said n id
+unlist-refused n (Some id) error e is q = absurd cc
+unlist-refused n None error e is q = by-error n NoEnt error e (cc) is
+
+pub refs-asked : (walk : Walk) (n : ℕ) (name driver : List ℕ) (r r' : List RegEntry) (answer : Answer) → Stands walk r → name ≡ driver
+    → r' ≡ r ++ entry.Refs 0 name ∷ [] → answer ≡ refs_said n (refs_answer (rows_of r) name)
+    → Done (CommandTurn walk n (command.Refs driver)) r r' (answer ∷ []) walk
+refs-asked walk n name driver r r' answer stands same grown says =
+    let found = refs_answer (rows_of r) name in
+    quiet-done (CommandTurn walk n (command.Refs driver)) walk r r' (entry.Refs 0 name) (Counts name found) (refs_turn walk n name found) (answer ∷ [])
+      stands grown refl refl tt refl refl (ap (λ a. a ∷ []) says) refl (λ id. refl) (found, ap (λ d. refs_turn walk n d found) same)
+
+pub refs-ok : (n : ℕ) (found : Option RefAnswer) (references : RefAnswer) → Ok references ≡ refs_result found → said.Refs n references.count references.listed ≡ refs_said n found
+refs-ok n (Some answer) references e = let same : references ≡ answer = cc in ap (λ (a : RefAnswer). said.Refs n a.count a.listed) same
+refs-ok n None references e = absurd cc
+
+pub refs-refused : (n : ℕ) (found : Option RefAnswer) (error : RegErr) (e : Errno) → errno_of error ≡ Some e → Err error ≡ refs_result found → said.Refused n e ≡ refs_said n found
+refs-refused n (Some answer) error e is q = absurd cc
+refs-refused n None error e is q = by-error n NoEnt error e (cc) is
+
+pub list-asked : (walk : Walk) (n : ℕ) (rows shown : List ListRow) (r r' : List RegEntry) (answers : List Answer) → Stands walk r → rows ≡ listing (rows_of r) → shown ≡ rows
+    → r' ≡ r ++ entry.List 0 ∷ [] → answers ≡ map (row_said n) shown ++ said.Listed n (length shown) ∷ []
+    → Done (CommandTurn walk n command.List) r r' answers walk
+list-asked walk n rows shown r r' answers stands rows_are same grown says =
+    let listed = listing (rows_of r) in
+    quiet-done (CommandTurn walk n command.List) walk r r' (entry.List 0) (Lists listed) (list_turn walk n listed) answers
+      stands grown refl refl tt refl refl (says ∙ ap (λ rs. map (row_said n) rs ++ said.Listed n (length rs) ∷ []) (same ∙ rows_are)) refl (λ id. refl) (listed, refl)
+
+-- ---- the transform of a label
+
+abbrev pub viewed : List Live → Walk
+viewed lives = record { lives = lives }
+
+pub live-at : (walk : Walk) (items lives : List Live) (label name : List ℕ) (place : ℕ) → viewed items ≡ walk → Some place ≡ position_from (is_of name) 0 lives → name ≡ label → lives ≡ items
+    → Split label walk.lives 0 place
+live-at walk items lives label name place view at same are =
+    split-at label walk.lives 0 place (sym (at ∙ (ap (λ l. position_from (is_of l) 0 lives) same ∙ ap (λ ls. position_from (is_of label) 0 ls) (are ∙ ap (λ (w : Walk). w.lives) view))))
+
+pub no-live : (walk : Walk) (items lives : List Live) (label name : List ℕ) → viewed items ≡ walk → None ≡ position_from (is_of name) 0 lives → name ≡ label → lives ≡ items
+    → live_of walk label ≡ None
+no-live walk items lives label name view at same are =
+    none-at label walk.lives 0 (sym (at ∙ (ap (λ l. position_from (is_of l) 0 lives) same ∙ ap (λ ls. position_from (is_of label) 0 ls) (are ∙ ap (λ (w : Walk). w.lives) view))))
+
+-- ---- `free`, `key` and `authsize`
+
+pub free-unknown : (walk : Walk) (n : ℕ) (label : List ℕ) (r : List RegEntry) (answer : Answer) → Stands walk r → live_of walk label ≡ None → answer ≡ said.Refused n errno.ENOENT
+    → Done (CommandTurn walk n (command.Free label)) r r (answer ∷ []) walk
+free-unknown walk n label r answer stands none says =
+    refusal-done (CommandTurn walk n (command.Free label)) walk r n errno.ENOENT answer stands (sym (ap (free_turn walk n label) none)) says
+
+pub free-asked : (walk walk' : Walk) (n : ℕ) (label : List ℕ) (place : ℕ) (r r' : List RegEntry) (s : Split label walk.lives 0 place) → Stands walk r
+    → r' ≡ r ++ entry.Put 0 s.live.id ∷ [] → walk' ≡ without walk label → Done (CommandTurn walk n (command.Free label)) r r' (said.Ok n ∷ []) walk'
+free-asked walk walk' n label place r r' s stands grown leaves =
+    let turn : Turn = asking (Puts s.live.id) (answered (without walk label) (said.Ok n)) in
+    let done = asked walk walk' r r' (entry.Put 0 s.live.id) (Puts s.live.id) turn (said.Ok n ∷ []) stands grown refl refl tt refl refl refl leaves
+      (λ id. let a = uses-removed label walk.lives place id s in let b = ap (λ (w : Walk). uses id w.lives) leaves in omega (arith, a, b)) in
+    (turn, sym (ap (free_turn walk n label) s.found), done.0, done.1, done.2)
+
+-- the answers of what changes a transform and asks nothing
+pub changed-done : (IsTurn : Turn → Type 0) (walk walk' : Walk) (r : List RegEntry) (turn : Turn) (answer : Answer) → Stands walk r → IsTurn turn → answered walk' answer ≡ turn
+    → ((id : ℕ) → uses id walk.lives ≡ uses id walk'.lives) → Done IsTurn r r (answer ∷ []) walk'
+changed-done IsTurn walk walk' r turn answer stands is same kept =
+    let done = unasked walk walk' r (answered walk' answer) (answer ∷ []) stands refl refl refl kept in
+    (answered walk' answer, subst IsTurn (sym same) is, done.0, done.1, done.2)
+
+abbrev pub keyed : Live → List ℕ → Live
+keyed live key = record live { key = Some key }
+
+abbrev pub sized : Live → ℕ → Live
+sized live size = record live { tag_size = size }
+
+-- a place written, in the walk
+written : (walk : Walk) (label : List ℕ) (place : ℕ) (items lives : List Live) (new : Live) (s : Split label walk.lives 0 place) → viewed items ≡ walk → lives ≡ set items place new
+    → lives ≡ s.before ++ new ∷ s.later
+written walk label place items lives new s view are =
+    are ∙ (ap (λ (w : Walk). set w.lives place new) view ∙ split-set label walk.lives place new s)
+
+changed-walk : (walk : Walk) (label : List ℕ) (place : ℕ) (items lives : List Live) (new : Live) (s : Split label walk.lives 0 place) → viewed items ≡ walk → lives ≡ set items place new → new.label ≡ s.live.label
+    → viewed lives ≡ with_live walk new
+changed-walk walk label place items lives new s view are same =
+    ap viewed (written walk label place items lives new s view are ∙ sym (s.replaces new (same ∙ (bytes_eq-Decides s.live.label label).0 s.is_live)))
+
+kept-walk : (walk : Walk) (label : List ℕ) (place : ℕ) (items lives : List Live) (new : Live) (s : Split label walk.lives 0 place) → viewed items ≡ walk → lives ≡ set items place new → new ≡ s.live
+    → viewed lives ≡ walk
+kept-walk walk label place items lives new s view are same =
+    ap viewed (written walk label place items lives new s view are ∙ (ap (λ (l : Live). s.before ++ l ∷ s.later) same ∙ sym s.lives_is))
+
+abbrev pub if_sized : Walk → ℕ → ℕ → Live → Bool → Turn
+if_sized walk n size live taken = if taken then answered (with_live walk (sized live size)) (said.Ok n) else refused walk n errno.EINVAL
+
+pub authsize-set : (walk : Walk) (n size : ℕ) (label : List ℕ) (place : ℕ) (items lives : List Live) (old new : Live) (answer : Answer) (s : Split label walk.lives 0 place)
+    → viewed items ≡ walk → lives ≡ set items place new → old ≡ s.live → takes_tag (mode_of old.plan) size ≡ true → new ≡ sized old size → answer ≡ said.Ok n
+    → answered (viewed lives) answer ≡ authsize_turn walk n size (live_of walk label)
+authsize-set walk n size label place items lives old new answer s view are was taken is says =
+    let now : new ≡ sized s.live size = is ∙ ap (λ (l : Live). sized l size) was in
+    ap (λ (w : Walk). answered w answer) (changed-walk walk label place items lives new s view are (ap (λ (l : Live). l.label) now))
+    ∙ (ap (λ (l : Live). answered (with_live walk l) answer) now
+      ∙ (ap (answered (with_live walk (sized s.live size))) says
+        ∙ sym (ap (authsize_turn walk n size) s.found ∙ ap (if_sized walk n size s.live) (ap (λ (l : Live). takes_tag (mode_of l.plan) size) (sym was) ∙ taken))))
+
+pub authsize-kept : (walk : Walk) (n size : ℕ) (label : List ℕ) (place : ℕ) (items lives : List Live) (old new : Live) (answer : Answer) (s : Split label walk.lives 0 place)
+    → viewed items ≡ walk → lives ≡ set items place new → old ≡ s.live → takes_tag (mode_of old.plan) size ≡ false → new ≡ old → answer ≡ said.Refused n errno.EINVAL
+    → answered (viewed lives) answer ≡ authsize_turn walk n size (live_of walk label)
+authsize-kept walk n size label place items lives old new answer s view are was taken is says =
+    ap (λ (w : Walk). answered w answer) (kept-walk walk label place items lives new s view are (is ∙ was))
+    ∙ (ap (answered walk) says ∙ sym (ap (authsize_turn walk n size) s.found ∙ ap (if_sized walk n size s.live) (ap (λ (l : Live). takes_tag (mode_of l.plan) size) (sym was) ∙ taken)))
+
+abbrev pub if_keyed : Walk → ℕ → List ℕ → Live → Bool → Turn
+if_keyed walk n key live taken = if taken then answered (with_live walk (keyed live key)) (said.Ok n) else refused walk n errno.EINVAL
+
+pub key-set : (walk : Walk) (n : ℕ) (name key label : List ℕ) (place : ℕ) (items lives : List Live) (old new : Live) (answer : Answer) (s : Split label walk.lives 0 place)
+    → viewed items ≡ walk → lives ≡ set items place new → old ≡ s.live → name ≡ key → takes_key_of (mode_of old.plan) name ≡ true → new ≡ keyed old name → answer ≡ said.Ok n
+    → answered (viewed lives) answer ≡ key_turn walk n key (live_of walk label)
+key-set walk n name key label place items lives old new answer s view are was same taken is says =
+    let now : new ≡ keyed s.live key = is ∙ (ap (λ (l : Live). keyed l name) was ∙ ap (keyed s.live) same) in
+    ap (λ (w : Walk). answered w answer) (changed-walk walk label place items lives new s view are (ap (λ (l : Live). l.label) now))
+    ∙ (ap (λ (l : Live). answered (with_live walk l) answer) now
+      ∙ (ap (answered (with_live walk (keyed s.live key))) says
+        ∙ sym (ap (key_turn walk n key) s.found
+          ∙ ap (if_keyed walk n key s.live) (ap (λ (l : Live). takes_key_of (mode_of l.plan) key) (sym was) ∙ (ap (takes_key_of (mode_of old.plan)) (sym same) ∙ taken)))))
+
+pub key-kept : (walk : Walk) (n : ℕ) (name key label : List ℕ) (place : ℕ) (items lives : List Live) (old new : Live) (answer : Answer) (s : Split label walk.lives 0 place)
+    → viewed items ≡ walk → lives ≡ set items place new → old ≡ s.live → name ≡ key → takes_key_of (mode_of old.plan) name ≡ false → new ≡ old → answer ≡ said.Refused n errno.EINVAL
+    → answered (viewed lives) answer ≡ key_turn walk n key (live_of walk label)
+key-kept walk n name key label place items lives old new answer s view are was same taken is says =
+    ap (λ (w : Walk). answered w answer) (kept-walk walk label place items lives new s view are (is ∙ was))
+    ∙ (ap (answered walk) says
+      ∙ sym (ap (key_turn walk n key) s.found
+        ∙ ap (if_keyed walk n key s.live) (ap (λ (l : Live). takes_key_of (mode_of l.plan) key) (sym was) ∙ (ap (takes_key_of (mode_of old.plan)) (sym same) ∙ taken))))
+
+-- ---- `alloc`
+
+pub grown-walk : (walk : Walk) (items more : List Live) (new : Live) → viewed items ≡ walk → more ≡ items ++ new ∷ [] → viewed more ≡ and_live walk new
+grown-walk walk items more new view are = ap viewed (are ∙ ap (λ (w : Walk). w.lives ++ new ∷ []) view)
+
+abbrev pub Binds : Walk → ℕ → List ℕ → Option ℕ → ℕ → List RegEntry → List RegEntry → List Answer → Walk → Type 0
+Binds walk n label len id r r' answers after =
+    (spec : Spec) × (ok : Bool) × (slice_get (registered r) id ≡ Some spec) × Done (λ (turn : Turn). turn ≡ entry_turn walk n label len (Entry id spec) ok) r r' answers after
+
+-- a reference taken, or not
+pub bind-got : (walk after : Walk) (n : ℕ) (label : List ℕ) (len : Option ℕ) (id : ℕ) (spec : Spec) (plan : Plan) (listed : Bool) (r r' : List RegEntry) (answer : Answer)
+    → Stands walk r → Some spec ≡ slice_get (registered r) id → Some plan ≡ plan_for spec len → r' ≡ r ++ entry.Get 0 id listed ∷ [] → listed ≡ true
+    → after ≡ and_live walk (new_live label id plan) → answer ≡ said.Made n spec.driver → Binds walk n label len id r r' (answer ∷ []) after
+bind-got walk after n label len id spec plan listed r r' answer stands at planned grown held leaves says =
+    let turn : Turn = asking (Gets id true) (got_turn walk n label id spec plan true) in
+    let done = asked walk after r r' (entry.Get 0 id true) (Gets id true) turn (answer ∷ []) stands (grown ∙ ap (λ b. r ++ entry.Get 0 id b ∷ []) held) refl refl tt refl refl (ap (λ a. a ∷ []) says) leaves
+      (λ k. let a = uses-append k walk.lives (new_live label id plan) in let b = ap (λ (w : Walk). uses k w.lives) leaves in omega (arith, a, b)) in
+    (spec, true, sym at, (turn, ap (λ p. planned_turn walk n label id spec p true) planned, done.0, done.1, done.2))
+
+pub bind-lost : (walk : Walk) (n : ℕ) (label : List ℕ) (len : Option ℕ) (id : ℕ) (spec : Spec) (plan : Plan) (listed : Bool) (r r' : List RegEntry) (answer : Answer)
+    → Stands walk r → Some spec ≡ slice_get (registered r) id → Some plan ≡ plan_for spec len → r' ≡ r ++ entry.Get 0 id listed ∷ [] → listed ≡ false
+    → answer ≡ said.Refused n errno.EAGAIN → Binds walk n label len id r r' (answer ∷ []) walk
+bind-lost walk n label len id spec plan listed r r' answer stands at planned grown lost says =
+    let turn : Turn = asking (Gets id false) (got_turn walk n label id spec plan false) in
+    let done = asked walk walk r r' (entry.Get 0 id false) (Gets id false) turn (answer ∷ []) stands (grown ∙ ap (λ b. r ++ entry.Get 0 id b ∷ []) lost) refl refl tt refl refl (ap (λ a. a ∷ []) says) refl (λ k. refl) in
+    (spec, false, sym at, (turn, ap (λ p. planned_turn walk n label id spec p false) planned, done.0, done.1, done.2))
+
+pub get-ok : (listed : Bool) → Ok tt ≡ get_result listed → listed ≡ true
+get-ok true e = refl
+get-ok false e = absurd cc
+
+pub get-refused : (n : ℕ) (listed : Bool) (error : RegErr) (e : Errno) → errno_of error ≡ Some e → Err error ≡ get_result listed → (listed ≡ false) × (said.Refused n e ≡ said.Refused n errno.EAGAIN)
+get-refused n true error e is q = absurd cc
+get-refused n false error e is q = (refl, by-error n Again error e (cc) is)
+
+pub request-at : (walk : Walk) (n : ℕ) (label : List ℕ) (place : ℕ) (old : Live) (given request : Request) (answer : Answer) (s : Split label walk.lives 0 place) → old ≡ s.live → given ≡ request
+    → answer ≡ keyed_said n old given old.key → answer ≡ request_said n request (live_of walk label)
+request-at walk n label place old given request answer s was same says =
+    says ∙ (ap (λ (l : Live). keyed_said n l given l.key) was ∙ (ap (λ (q : Request). keyed_said n s.live q s.live.key) same ∙ sym (ap (request_said n request) s.found)))
+
+-- a name looked up, and then its entry taken into use, or its fault answered
+abbrev pub Finds : Walk → ℕ → List ℕ → List ℕ → Option ℕ → List RegEntry → List RegEntry → List Answer → Walk → Type 0
+Finds walk n label name len r r' answers after =
+    (found : Found) × (ok : Bool) × Done (λ (turn : Turn). turn ≡ looked_turn walk n label name len found ok) r r' answers after
+
+pub find-bound : (walk after : Walk) (n : ℕ) (label name : List ℕ) (len : Option ℕ) (id : ℕ) (spec : Spec) (r r1 r2 : List RegEntry) (answers : List Answer)
+    → Stands walk r → LooksFor r r1 0 name false (Entry id spec) → slice_get (registered r1) id ≡ Some spec → Binds walk n label len id r1 r2 answers after
+    → Finds walk n label name len r r2 answers after
+find-bound walk after n label name len id spec r r1 r2 answers stands look at binds =
+    let same : binds.0 ≡ spec = some-is binds.0 spec (sym binds.2 ∙ at) in
+    let turn : Turn = binds.3.0 in
+    let is : turn ≡ entry_turn walk n label len (Entry id spec) binds.1 = binds.3.1 ∙ ap (λ (s : Spec). entry_turn walk n label len (Entry id s) binds.1) same in
+    (Entry id spec, binds.1, (asking (Looks name (Some (Entry id spec))) turn, ap (asking (Looks name (Some (Entry id spec)))) is, after-look r r1 r2 name (Entry id spec) turn after stands.settled look binds.3.2, binds.3.3, binds.3.4))
+
+pub find-fault : (walk : Walk) (n : ℕ) (label name : List ℕ) (len : Option ℕ) (e : Errno) (r r1 : List RegEntry) (answer : Answer)
+    → Stands walk r → LooksFor r r1 0 name false (Fault e) → Made table r1 → NonePending r1 → answer ≡ said.Refused n e → Finds walk n label name len r r1 (answer ∷ []) walk
+find-fault walk n label name len e r r1 answer stands look made none says =
+    let standing = look-stands walk r r1 name (Fault e) stands look made none in
+    let done = unasked walk walk r1 (refused walk n e) (answer ∷ []) standing refl (ap (λ a. a ∷ []) says) refl (λ id. refl) in
+    (Fault e, true, (asking (Looks name (Some (Fault e))) (refused walk n e), refl, after-look r r1 r1 name (Fault e) (refused walk n e) walk stands.settled look done.0, done.1, done.2))
+
+-- the entry that a look came to is one that came to be
+entry-is : (k id : ℕ) (o : Option Spec) (spec : Spec) → entry_found k o ≡ Some (Entry id spec) → (k ≡ id) × (o ≡ Some spec)
+entry-is k id None spec e = absurd cc
+entry-is k id (Some s) spec e = (cc, cc)
+
+outcome-is : (h : List RegEntry) (o : Option (Result ℕ Errno)) (id : ℕ) (spec : Spec) → found_as h o ≡ Some (Entry id spec) → slice_get (registered h) id ≡ Some spec
+outcome-is h None id spec e = absurd cc
+outcome-is h (Some (Err err)) id spec e = absurd cc
+outcome-is h (Some (Ok k)) id spec e =
+    let both = entry-is k id (slice_get (registered h) k) spec e in
+    subst (λ i. slice_get (registered h) i ≡ Some spec) both.0 both.1
+
+pub look-at : (r r1 : List RegEntry) (name : List ℕ) (id : ℕ) (spec : Spec) → LooksFor r r1 0 name false (Entry id spec) → slice_get (registered r1) id ≡ Some spec
+look-at r r1 name id spec look = outcome-is r1 (outcome r1 look.answer) id spec look.found_is
+
+-- ---- the refusals of `alloc`
+
+pub live-there : (walk : Walk) (items lives : List Live) (label name : List ℕ) (o : Option ℕ) → viewed items ≡ walk → o ≡ position_from (is_of name) 0 lives → name ≡ label → lives ≡ items
+    → is_some (live_of walk label) ≡ is_some o
+live-there walk items lives label name (Some place) view at same are = ap is_some (live-at walk items lives label name place view at same are).found
+live-there walk items lives label name None view at same are = ap is_some (no-live walk items lives label name view at same are)
+
+abbrev pub if_live : Walk → ℕ → List ℕ → List ℕ → Option ℕ → Found → Bool → Bool → Bool → Turn
+if_live walk n label name len found ok there full =
+    if there then refused walk n errno.EEXIST else if full then refused walk n errno.EMFILE else named_turn walk n label name len found ok (name_read name)
+
+pub alloc-refused : (walk : Walk) (n : ℕ) (label name : List ℕ) (len : Option ℕ) (e : Errno) (r : List RegEntry) (answer : Answer) → Stands walk r
+    → alloc_turn walk n label name len (Fault errno.ENOENT) true ≡ refused walk n e → answer ≡ said.Refused n e
+    → Done (CommandTurn walk n (command.Alloc label name len)) r r (answer ∷ []) walk
+alloc-refused walk n label name len e r answer stands is says =
+    refusal-done (CommandTurn walk n (command.Alloc label name len)) walk r n e answer stands (Fault errno.ENOENT, true, sym is) says
+
+pub alloc-live : (walk : Walk) (n : ℕ) (label name : List ℕ) (len : Option ℕ) (found : Found) (ok : Bool) → is_some (live_of walk label) ≡ true → alloc_turn walk n label name len found ok ≡ refused walk n errno.EEXIST
+alloc-live walk n label name len found ok there = ap (λ b. if_live walk n label name len found ok b (nat_le 4096 (length walk.lives))) there
+
+pub alloc-full : (walk : Walk) (n : ℕ) (label name : List ℕ) (len : Option ℕ) (found : Found) (ok : Bool) → is_some (live_of walk label) ≡ false → 4096 ≤ length walk.lives
+    → alloc_turn walk n label name len found ok ≡ refused walk n errno.EMFILE
+alloc-full walk n label name len found ok new full =
+    let test : nat_le 4096 (length walk.lives) ≡ true = grind (arith, nat_tests) in
+    ap (λ b. if_live walk n label name len found ok b (nat_le 4096 (length walk.lives))) new ∙ ap (if_live walk n label name len found ok false) test
+
+pub alloc-named : (walk : Walk) (n : ℕ) (label name : List ℕ) (len : Option ℕ) (found : Found) (ok : Bool) (read : Result Tree Errno) → is_some (live_of walk label) ≡ false → length walk.lives < 4096 → name_read name ≡ read
+    → alloc_turn walk n label name len found ok ≡ named_turn walk n label name len found ok read
+alloc-named walk n label name len found ok read new few is =
+    let test : nat_le 4096 (length walk.lives) ≡ false = grind (arith, nat_tests) in
+    ap (λ b. if_live walk n label name len found ok b (nat_le 4096 (length walk.lives))) new ∙ (ap (if_live walk n label name len found ok false) test ∙ ap (named_turn walk n label name len found ok) is)
+
+abbrev pub if_fits : Walk → ℕ → List ℕ → List ℕ → Option ℕ → Found → Bool → Bool → Bool → Turn
+if_fits walk n label name len found ok fits wrapped =
+    if fits then (if wrapped then refused walk n errno.ENOENT else looked_turn walk n label name len found ok) else refused walk n errno.EINVAL
+
+pub named-unfit : (walk : Walk) (n : ℕ) (label name : List ℕ) (len : Option ℕ) (found : Found) (ok : Bool) (tree : Tree) → is_queue_length len ≡ false → named_turn walk n label name len found ok (Ok tree) ≡ refused walk n errno.EINVAL
+named-unfit walk n label name len found ok tree unfit = ap (λ b. if_fits walk n label name len found ok b (is_wrapper_word (word_of tree))) unfit
+
+pub named-wrapped : (walk : Walk) (n : ℕ) (label name : List ℕ) (len : Option ℕ) (found : Found) (ok : Bool) (tree : Tree) → is_queue_length len ≡ true → is_wrapper_word (word_of tree) ≡ true
+    → named_turn walk n label name len found ok (Ok tree) ≡ refused walk n errno.ENOENT
+named-wrapped walk n label name len found ok tree fits wrapped =
+    ap (λ b. if_fits walk n label name len found ok b (is_wrapper_word (word_of tree))) fits ∙ ap (if_fits walk n label name len found ok true) wrapped
+
+pub named-looked : (walk : Walk) (n : ℕ) (label name : List ℕ) (len : Option ℕ) (found : Found) (ok : Bool) (tree : Tree) → is_queue_length len ≡ true → is_wrapper_word (word_of tree) ≡ false
+    → named_turn walk n label name len found ok (Ok tree) ≡ looked_turn walk n label name len found ok
+named-looked walk n label name len found ok tree fits plain =
+    ap (λ b. if_fits walk n label name len found ok b (is_wrapper_word (word_of tree))) fits ∙ ap (if_fits walk n label name len found ok true) plain
+
+pub alloc-found : (walk after : Walk) (n : ℕ) (label name text : List ℕ) (len : Option ℕ) (tree : Tree) (r r' : List RegEntry) (answers : List Answer)
+    → is_some (live_of walk label) ≡ false → length walk.lives < 4096 → name_read name ≡ Ok tree → is_queue_length len ≡ true → is_wrapper_word (word_of tree) ≡ false → text ≡ name
+    → Finds walk n label text len r r' answers after → Done (CommandTurn walk n (command.Alloc label name len)) r r' answers after
+alloc-found walk after n label name text len tree r r' answers new few read fits plain same finds =
+    let found = finds.0 in
+    let ok = finds.1 in
+    let is : finds.2.0 ≡ alloc_turn walk n label name len found ok =
+        finds.2.1 ∙ (ap (λ t. looked_turn walk n label t len found ok) same ∙ sym (alloc-named walk n label name len found ok (Ok tree) new few read ∙ named-looked walk n label name len found ok tree fits plain)) in
+    (finds.2.0, (found, ok, is), finds.2.2, finds.2.3, finds.2.4)

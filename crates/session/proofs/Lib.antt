@@ -1,0 +1,6 @@
+pub mod Growing
+pub mod Asking
+pub mod Placed
+pub mod Owing
+pub mod Arms
+pub mod Single

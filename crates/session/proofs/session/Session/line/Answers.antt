@@ -1,0 +1,5 @@
+use Rattle.session.proofs.Growing.{reg_calls-extends}
+use Rattle.session.proofs.session.Session.line.Goals as goal
+
+pub returns-in_err-answers-clause-asked : goal.returns-in_err-answers-clause-asked
+returns-in_err-answers-clause-asked c = reg_calls-extends 0 c.args.registry.now c.answers.new.registry c.requires.stands.settled c.in_err-answers.ensures.0

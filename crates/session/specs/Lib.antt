@@ -1,0 +1,10 @@
+pub mod Walk
+pub mod Histories
+pub mod Turns
+pub mod Registering
+pub mod Allocating
+pub mod Requesting
+pub mod Lines
+pub mod Standing
+pub mod Keyed
+pub mod Refusing

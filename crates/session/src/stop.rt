@@ -1,0 +1,25 @@
+//! Why a session goes no further.
+
+use std::alloc::{AllocError, AllocFailed};
+
+/// Why a session goes no further. It takes no line after this.
+#[derive(Clone, Copy, Debug, PartialEq, Eq)]
+pub enum Stop {
+    Memory,
+}
+
+impl From<AllocError> for Stop {
+    ghost from_gives = { λ _ _. Unit {0} };
+
+    fn from(_: AllocError) -> Stop {
+        Stop::Memory
+    }
+}
+
+impl<T: Drop> From<AllocFailed<T>> for Stop {
+    ghost from_gives = { λ _ _. Unit {0} };
+
+    fn from(_: AllocFailed<T>) -> Stop {
+        Stop::Memory
+    }
+}
