@@ -1,31 +1,40 @@
--- The text of a script: what is written for its lines, from first to last.
-use Rattle.std.specs.Prelude.{◌≡◌, ℕ, ◌+◌, Bool, true, false, Option, Some, None, List, [], ◌∷◌, ◌++◌}
+-- The text of a script over the history of its registry.
+use Rattle.std.specs.Prelude.{◌≡◌, ℕ, ◌⊎◌, Bool, true, false, List, take}
+use Rattle.alg_registry.specs.declared.entry.RegEntry.{RegEntry}
 use Rattle.kc_base.specs.Streams.{IsPrefix}
 use Rattle.script_text.specs.declared.commands.Line.{Line}
 use Rattle.script_text.specs.declared.commands.Line.TheVariants.{Nothing, Malformed, Cmd}
-use Rattle.crypto_script.specs.declared.answers.Answer.{Answer}
-use Rattle.crypto_script.specs.Answers.{answer_of, text_of}
+use Rattle.session.specs.Histories.{reg_calls, AllSettled}
+use Rattle.session.specs.Lines.{LinesTurn, EndTurn}
+use Rattle.session.specs.Standing.{Extends}
+use Rattle.session.specs.Turns.{Turn, joined, text_in}
+use Rattle.session.specs.Walk.{start}
 
-abbrev pub answer_text_of : Option Answer → List ℕ
-answer_text_of None = []
-answer_text_of (Some answer) = text_of answer
+-- the script's calls in the history are those of the turn, and no more, and each has come to something
+pub record Holds (r : List RegEntry) (turn : Turn) : Type 0 where
+  pub registry : reg_calls 0 r ≡ turn.registry
+  pub settled : AllSettled turn.registry
 
--- what is written for a line
-abbrev pub line_text : ℕ → Line → List ℕ
-line_text number line = answer_text_of (answer_of number line)
+-- the script's calls in the history begin with those of the turn, and each of these has come to something
+pub record HoldsFront (r : List RegEntry) (turn : Turn) : Type 0 where
+  pub registry : Extends turn.registry (reg_calls 0 r)
+  pub settled : AllSettled turn.registry
 
--- what is written for lines that are numbered from here on
-abbrev pub text_from : ℕ → List Line → List ℕ
-text_from number [] = []
-text_from number (line ∷ lines) = line_text number line ++ text_from (number + 1) lines
+-- the turn of a whole script: of its lines, and of the end of input
+abbrev pub ScriptTurn : List Line → Turn → Type 0
+ScriptTurn lines turn = (first : Turn) × (later : Turn) × LinesTurn start 1 lines first × EndTurn first.after later × (turn ≡ joined first later)
 
--- this is the text of the script with these lines
-abbrev pub IsText : List Line → List ℕ → Type 0
-IsText lines text = text ≡ text_from 1 lines
+-- the turn of some first lines, or of all and the end of input
+abbrev pub FrontTurn : List Line → Turn → Type 0
+FrontTurn lines turn = ((count : ℕ) × LinesTurn start 1 (take count lines) turn) ⊎ ScriptTurn lines turn
 
--- this is a front of it
-abbrev pub IsFrontText : List Line → List ℕ → Type 0
-IsFrontText lines text = IsPrefix text (text_from 1 lines)
+-- this is the text of the script over the history, in which its calls are these and no more
+unfoldable pub IsText : List Line → List RegEntry → List ℕ → Type 0
+IsText lines r text = (turn : Turn) × ScriptTurn lines turn × Holds r turn × (text ≡ text_in turn)
+
+-- this is a front of what lines print whose calls are all in the history
+unfoldable pub IsFrontText : List Line → List RegEntry → List ℕ → Type 0
+IsFrontText lines r text = (turn : Turn) × FrontTurn lines turn × HoldsFront r turn × IsPrefix text (text_in turn)
 
 abbrev pub is_malformed : Line → Bool
 is_malformed Nothing = false

@@ -2,7 +2,6 @@
 #![tactic(auto)]
 
 mod adapters;
-mod answers;
 mod program;
 #[cfg(test)]
 mod tests;

@@ -1,17 +1,24 @@
 //! The whole program, from the bytes read to the bytes written.
 
-ghost use Rattle.std.specs.Prelude.{◌≡◌, ◌+◌, ◌^◌, ◌<◌, ◌≤◌, ◌↔◌, ◌⊎◌, List, ℕ, [], Some, length, MatchResult, IfOk, IfErr, IfSome, IsErrOf, IsTrue, string_bytes, vec_len};
+ghost use Rattle.std.specs.Prelude.{OnOk, ◌≡◌, ◌+◌, ◌^◌, ◌<◌, ◌≤◌, ◌↔◌, ◌⊎◌, List, ℕ, [], Some, length, MatchResult, IfOk, IfErr, IfSome, IsErrOf, IsTrue, string_bytes, vec_len};
 ghost use Rattle.std.specs.List.{list_any};
 ghost use Rattle.std.specs.Io.KnownBytes.{Consumes, Appends, IsAtEnd};
 ghost use Rattle.kc_base.specs.Streams.{AppendsFront, Rose};
 ghost use Rattle.script_text.specs.Script.{line_of, script_of};
-ghost use Rattle.crypto_script.specs.Text.{line_text, text_from, IsText, IsFrontText, is_malformed};
+ghost use Rattle.alg_registry.specs.Legal.{LegalReg};
+ghost use Rattle.alg_registry.specs.Made.{Made};
+ghost use Rattle.templates.specs.Table.{table};
+ghost use Rattle.session.specs.Lines.{LineTurn, EndTurn};
+ghost use Rattle.session.specs.Histories.{reg_calls};
+ghost use Rattle.session.specs.Standing.{Stands, Extends};
+ghost use Rattle.crypto_script.specs.Text.{IsText, IsFrontText, is_malformed};
 ghost use Rattle.crypto_script.specs.declared.program.RunError.TheVariants.{NoMemory};
-ghost use Rattle.crypto_script.specs.Runs.{of_input, of_output, ReadsUpTo, Gains};
+ghost use Rattle.crypto_script.specs.Runs.{of_input, of_output, ReadsUpTo, Gains, Replies, Writes, Breaks};
 
-use crate::answers::{answer_line, answer_text};
-use kc_base::{InputError, Sink, SinkError, Source, read_input, write_piece};
+use alg_registry::{RegLog, Registry};
+use kc_base::{Bytes, InputError, Sink, SinkError, Source, read_input, write_piece};
 use script_text::{Line, first_line, read_line};
+use session::{Session, Stop};
 use std::alloc::{AllocError, Global};
 
 /// The most bytes of input.
@@ -26,10 +33,12 @@ pub const USAGE: u8 = 2;
 pub const NO_MEMORY: u8 = 5;
 
 /// How a run ended.
-#[derive(Clone, Copy, Debug, PartialEq, Eq)]
+#[derive(Debug, Drop)]
 pub struct Outcome {
     /// The program's exit status.
     pub status: u8,
+    /// All that happened in the registry.
+    pub registry: RegLog,
 }
 
 // Why a run did not reach the end.
@@ -78,57 +87,118 @@ fn is_malformed_line(line: &Line) -> bool
     matches!(line, Line::Malformed)
 }
 
-// The text of the answer to a line: none, where it has no answer.
-fn text_for(alloc: Global, number: u32, line: Line) -> Result<String, AllocError>
-    ensures { IfOk result (λ text. string_bytes text ≡ line_text number line) }
+// The text of the answers to one line, and whether it is malformed.
+fn reply_to(
+    alloc: Global,
+    session: &mut Session,
+    registry: &mut Registry,
+    number: u32,
+    line: &[u8],
+) -> Result<(Bytes, bool), AllocError>
+    requires { Stands session.old registry.old }
+    ensures turn { MatchResult result
+        (λ reply. Replies (LineTurn session.old number (line_of line.now)) registry.old registry.new session.new reply.0)
+        (λ _. Extends (reg_calls 0 registry.old) (reg_calls 0 registry.new)) }
+    ensures malformed { IfOk result (λ reply. reply.1 ≡ is_malformed (line_of line.now)) }
+    ensures faithful { Made table registry.new }
 {
-    match answer_line(alloc, number, line)? {
-        Some(answer) => answer_text(alloc, &answer),
-        None => Ok(String::new(alloc)),
+    let said = read_line(alloc, line)?;
+    let mut reply = Bytes::new(alloc);
+    match session.line(registry, number, &said, &mut reply) {
+        Ok(()) => Ok((reply, is_malformed_line(&said))),
+        Err(Stop::Memory) => Err(AllocError),
+    }
+}
+
+// The text of the answers to the end of input.
+fn reply_to_end(
+    alloc: Global,
+    session: &mut Session,
+    registry: &mut Registry,
+) -> Result<Bytes, AllocError>
+    requires { Stands session.old registry.old }
+    ensures turn { MatchResult result
+        (λ reply. Replies (EndTurn session.old) registry.old registry.new session.new reply)
+        (λ _. Extends (reg_calls 0 registry.old) (reg_calls 0 registry.new)) }
+    ensures faithful { Made table registry.new }
+{
+    let mut reply = Bytes::new(alloc);
+    match session.end(registry, &mut reply) {
+        Ok(()) => Ok(reply),
+        Err(Stop::Memory) => Err(AllocError),
     }
 }
 
 // Answers one line in one piece, and says whether it is malformed.
 fn run_line<K: Sink>(
     alloc: Global,
+    session: &mut Session,
+    registry: &mut Registry,
     number: u32,
     line: &[u8],
     out: &mut K,
 ) -> Result<bool, SinkError>
-    ensures bytes { MatchResult result
-        (λ _. Appends (K.held out.old) (K.held out.new) (line_text number (line_of line.now)))
-        (λ _. AppendsFront (K.held out.old) (K.held out.new) (line_text number (line_of line.now))) }
+    requires { Stands session.old registry.old }
+    ensures turn { MatchResult result
+        (λ _. Writes (LineTurn session.old number (line_of line.now)) registry.old registry.new session.new (K.held out.old) (K.held out.new))
+        (λ _. Breaks (LineTurn session.old number (line_of line.now)) registry.old registry.new (K.held out.old) (K.held out.new)) }
     ensures malformed { IfOk result (λ bad. bad ≡ is_malformed (line_of line.now)) }
+    ensures faithful { Made table registry.new }
     ensures later { K.faults out.old ≤ K.faults out.new }
     ensures cause { IsErrOf result SinkError.Failed → Rose (K.faults out.old) (K.faults out.new) }
 {
-    let said = read_line(alloc, line)?;
-    let malformed = is_malformed_line(&said);
-    let text = text_for(alloc, number, said)?;
-    write_piece(out, text.as_bytes())?;
+    let (reply, malformed) = reply_to(alloc, session, registry, number, line)?;
+    write_piece(out, reply.as_slice())?;
     Ok(malformed)
 }
 
-// Answers each line of the input, and says whether one of them is malformed.
-fn run_lines<K: Sink>(alloc: Global, input: &[u8], out: &mut K) -> Result<bool, SinkError>
-    requires { length input.now ≤ 2 ^ 28 }
-    ensures bytes { MatchResult result
-        (λ _. Appends (K.held out.old) (K.held out.new) (text_from 1 (script_of input.now)))
-        (λ _. AppendsFront (K.held out.old) (K.held out.new) (text_from 1 (script_of input.now))) }
-    ensures malformed { IfOk result (λ bad. bad ≡ list_any is_malformed (script_of input.now)) }
+// Answers the end of input.
+fn run_end<K: Sink>(
+    alloc: Global,
+    session: &mut Session,
+    registry: &mut Registry,
+    out: &mut K,
+) -> Result<(), SinkError>
+    requires { Stands session.old registry.old }
+    ensures turn { MatchResult result
+        (λ _. Writes (EndTurn session.old) registry.old registry.new session.new (K.held out.old) (K.held out.new))
+        (λ _. Breaks (EndTurn session.old) registry.old registry.new (K.held out.old) (K.held out.new)) }
+    ensures faithful { Made table registry.new }
     ensures later { K.faults out.old ≤ K.faults out.new }
     ensures cause { IsErrOf result SinkError.Failed → Rose (K.faults out.old) (K.faults out.new) }
 {
+    let reply = reply_to_end(alloc, session, registry)?;
+    write_piece(out, reply.as_slice())
+}
+
+// Answers each line of the input and its end, and says whether a line is malformed.
+fn run_lines<K: Sink>(
+    alloc: Global,
+    registry: &mut Registry,
+    input: &[u8],
+    out: &mut K,
+) -> Result<bool, SinkError>
+    requires short { length input.now ≤ 2 ^ 28 }
+    requires fresh { registry.old ≡ [] }
+    ensures whole { OnOk result (Gains (K.held out.old) (K.held out.new) (IsText (script_of input.now) registry.new)) }
+    ensures front { Gains (K.held out.old) (K.held out.new) (IsFrontText (script_of input.now) registry.new) }
+    ensures malformed { IfOk result (λ bad. bad ≡ list_any is_malformed (script_of input.now)) }
+    ensures faithful { Made table registry.new }
+    ensures later { K.faults out.old ≤ K.faults out.new }
+    ensures cause { IsErrOf result SinkError.Failed → Rose (K.faults out.old) (K.faults out.new) }
+{
+    let mut session = Session::new(alloc);
     let mut rest = input;
     let mut number = 1u32;
     let mut malformed = false;
     while !rest.is_empty() {
         let (line, more) = first_line(rest);
-        let bad = run_line(alloc, number, line, out)?;
+        let bad = run_line(alloc, &mut session, registry, number, line, out)?;
         malformed |= bad;
         rest = more;
         number += 1;
     }
+    run_end(alloc, &mut session, registry, out)?;
     Ok(malformed)
 }
 
@@ -140,18 +210,26 @@ fn zeros(alloc: Global, count: usize) -> Result<Vec<u8>, AllocError>
 }
 
 // Reads the input whole and answers it. It says whether a line is malformed.
-fn run_script<S: Source, K: Sink>(alloc: Global, src: &mut S, out: &mut K) -> Result<bool, RunError>
+#[tactic(auto, using(crate::proofs::Going::nothing_fronted))]
+fn run_script<S: Source, K: Sink>(
+    alloc: Global,
+    registry: &mut Registry,
+    src: &mut S,
+    out: &mut K,
+) -> Result<bool, RunError>
+    requires { registry.old ≡ [] }
     ensures read { ReadsUpTo (S.left src.old) (S.left src.new) (IsErrOf result RunError.TooLong) }
     ensures ended { IfOk result (λ _. IfSome (S.left src.old) (λ _. S.left src.new ≡ Some [])) }
-    ensures whole { IfOk result (λ _. IfSome (S.left src.old) (λ script. Gains (K.held out.old) (K.held out.new) (IsText (script_of script)))) }
+    ensures whole { IfOk result (λ _. IfSome (S.left src.old) (λ script. Gains (K.held out.old) (K.held out.new) (IsText (script_of script) registry.new))) }
     ensures malformed { IfOk result (λ bad. IfSome (S.left src.old) (λ script. bad ≡ list_any is_malformed (script_of script))) }
-    ensures front { IfSome (S.left src.old) (λ script. Gains (K.held out.old) (K.held out.new) (IsFrontText (script_of script))) }
+    ensures front { IfSome (S.left src.old) (λ script. Gains (K.held out.old) (K.held out.new) (IsFrontText (script_of script) registry.new)) }
+    ensures faithful { Made table registry.new }
     ensures read_fault { IsErrOf result RunError.ReadFault → Rose (S.faults src.old) (S.faults src.new) }
     ensures write_fault { IsErrOf result RunError.WriteFault → Rose (K.faults out.old) (K.faults out.new) }
 {
     let mut buffer = zeros(alloc, BUFFER)?;
     let input = read_input(alloc, src, &mut buffer, MAX_INPUT)?;
-    Ok(run_lines(alloc, input.as_slice(), out)?)
+    Ok(run_lines(alloc, registry, input.as_slice(), out)?)
 }
 
 /// Does all that the program does: reads a script from the source, and writes the answers of its lines, each in one
@@ -165,18 +243,24 @@ fn run_script<S: Source, K: Sink>(alloc: Global, src: &mut S, out: &mut K) -> Re
 /// | 3, 4 | the source, the sink failed |
 /// | 5 | memory is wanting |
 /// | 6 | the source has more than 2^28 bytes |
+#[tactic(auto, using(crate::proofs::Going::nothing_fronted))]
 pub fn run<S: Source, K: Sink>(alloc: Global, words: &[String], src: &mut S, out: &mut K) -> Outcome
     // A run that reaches the end has read the script whole, and written its text.
     ensures ended { result.status ≤ 1 → IfSome (S.left src.old) (λ _. S.left src.new ≡ Some []) }
-    ensures whole { result.status ≤ 1 → IfSome (S.left src.old) (λ script. Gains (K.held out.old) (K.held out.new) (IsText (script_of script))) }
+    ensures whole { result.status ≤ 1 → IfSome (S.left src.old) (λ script. Gains (K.held out.old) (K.held out.new) (IsText (script_of script) result.registry)) }
     ensures malformed { result.status ≤ 1 → IfSome (S.left src.old) (λ script. (result.status ≡ 1) ↔ IsTrue (list_any is_malformed (script_of script))) }
 
     // However a run ends, what it has written is a front of the text.
-    ensures front { IfSome (S.left src.old) (λ script. Gains (K.held out.old) (K.held out.new) (IsFrontText (script_of script))) }
+    ensures front { IfSome (S.left src.old) (λ script. Gains (K.held out.old) (K.held out.new) (IsFrontText (script_of script) result.registry)) }
+
+    // Whatever ended the run, each entry of the history is right for those before it, and each instance is what its template
+    // makes of its children.
+    ensures legal { LegalReg result.registry }
+    ensures faithful { Made table result.registry }
 
     // Each other status has its cause. That of 5 is want of memory.
     ensures usage { (result.status ≡ 2) ↔ (0 < length words.now) }
-    ensures untouched { result.status ≡ 2 → (src.new ≡ src.old) × (out.new ≡ out.old) }
+    ensures untouched { result.status ≡ 2 → (src.new ≡ src.old) × (out.new ≡ out.old) × (result.registry ≡ []) }
     ensures read_fault { result.status ≡ 3 → Rose (S.faults src.old) (S.faults src.new) }
     ensures write_fault { result.status ≡ 4 → Rose (K.faults out.old) (K.faults out.new) }
     ensures too_long { ReadsUpTo (S.left src.old) (S.left src.new) (result.status ≡ 6) }
@@ -187,9 +271,18 @@ pub fn run<S: Source, K: Sink>(alloc: Global, words: &[String], src: &mut S, out
         → IfSome (S.left src.old) (λ script. length script ≤ 2 ^ 28 → (result.status ≤ 1) ⊎ (result.status ≡ 5)) }
 {
     if !words.is_empty() {
-        return Outcome { status: USAGE };
+        return Outcome {
+            status: USAGE,
+            registry: RegLog::empty(alloc),
+        };
     }
-    let status = match run_script(alloc, src, out) {
+    let Ok(mut registry) = Registry::new(alloc) else {
+        return Outcome {
+            status: NO_MEMORY,
+            registry: RegLog::empty(alloc),
+        };
+    };
+    let status = match run_script(alloc, &mut registry, src, out) {
         Ok(false) => 0,
         Ok(true) => 1,
         Err(RunError::ReadFault) => 3,
@@ -197,5 +290,8 @@ pub fn run<S: Source, K: Sink>(alloc: Global, words: &[String], src: &mut S, out
         Err(RunError::NoMemory) => NO_MEMORY,
         Err(RunError::TooLong) => 6,
     };
-    Outcome { status }
+    Outcome {
+        status,
+        registry: registry.into_history(),
+    }
 }

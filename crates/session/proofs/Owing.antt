@@ -8,7 +8,7 @@ use Rattle.alg_registry.proofs.Steps.{count_by-push}
 use Rattle.alg_registry.proofs.Stack.{same}
 use Rattle.session.specs.Histories.{RegCall, Gets, Puts, Looks, reg_calls, reg_calls_from, reg_call_of, if_own, prepend}
 use Rattle.session.specs.Standing.{Stands, is_get, is_put, got, given, uses}
-use Rattle.session.specs.Walk.{Walk, Live, removed}
+use Rattle.session.specs.Walk.{Walk, Live, removed, start}
 use Rattle.session.proofs.Placed.{Split, uses-removed}
 
 -- a call that is no get, whoever makes it
@@ -98,3 +98,12 @@ may-give walk r label place s stands =
   where
     counted : Bool → ℕ
     counted b = cond b 1 0
+
+-- nothing is owed at the start
+pub stands-at_start : Stands start []
+unfolding reg_calls
+stands-at_start = record { made = tt; none = λ n lt. absurd (omega (arith, lt)); settled = tt; referenced = λ id. refl }
+
+pub none-asked : reg_calls 0 [] ≡ []
+unfolding reg_calls
+none-asked = refl

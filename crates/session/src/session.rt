@@ -102,9 +102,11 @@ fn refuse_by(line: u32, error: RegErr) -> Result<Answer, Stop>
 }
 
 impl Session {
-    /// A script that has made nothing.
+    /// A script that has made nothing, for a registry of which nothing was asked. No memory is taken.
     pub fn new(alloc: Global) -> Session
-        ensures { result ≡ start }
+        ensures start { result ≡ start }
+        ensures stands { Stands start [] }
+        ensures unasked { reg_calls 0 [] ≡ [] }
     {
         Session {
             alloc,
@@ -477,7 +479,8 @@ impl Session {
         Ok(())
     }
 
-    /// Answers the end of input. Nothing is asked or answered there while no transform has a pipeline.
+    /// Answers the end of input, as `line` answers a line. Nothing is asked or answered there while no transform has a
+    /// pipeline.
     pub fn end(&mut self, registry: &mut Registry, reply: &mut Bytes) -> Result<(), Stop>
         requires { Stands self.old registry.old }
         ensures turn { OnOk result ((turn : Turn) × EndTurn self.old turn × Does turn registry.old registry.new self.new × (reply.new ≡ reply.old ++ text_in turn)) }

@@ -1,16 +1,20 @@
-use Rattle.std.proofs.Common.{◌||◌, ap, sym, ◌∙◌, arith}
+use Rattle.std.proofs.lemmas.Bool.Decides.{nat_tests}
+use Rattle.std.specs.Prelude.{◌==◌}
+use Rattle.std.proofs.Common.{true, ℕ, List, ◌≡◌, ◌||◌, ap, sym, subst, ◌∙◌, arith, length}
 use Rattle.std.proofs.lemmas.Result.{err_from_is_err_and}
 use Rattle.std.specs.List.{list_any}
 use Rattle.script_text.specs.Script.{script_of}
 use Rattle.crypto_script.specs.Text.{is_malformed}
-use Rattle.crypto_script.proofs.Answering.{answered_more, answered_front, text_next, malformed_next, or_later}
+use Rattle.crypto_script.proofs.Going.{going-breaks, going-more, going-ends, going-end_breaks, text-is-front, malformed_next, script_next, script_none, or_later}
 use Rattle.crypto_script.proofs.program.run_lines.Goals as goal
 
-pub returns-in_err-bad-clause-bytes : goal.returns-in_err-bad-clause-bytes
-returns-in_err-bad-clause-bytes g c =
+emptied : (rest : List ℕ) → (length rest == 0) ≡ true → length rest ≡ 0
+emptied rest e = grind (arith, nat_tests)
+
+pub returns-in_err-bad-clause-front : goal.returns-in_err-bad-clause-front
+returns-in_err-bad-clause-front g c =
     let p = err_from_is_err_and c.from_residual.result c.from_residual.ensures.1 in
-    let next = text_next c.loop-rest.number c.loop-rest.rest.now c.first_line.result.0.now c.first_line.result.1.now c.first_line.ensures.line in
-    rw (p.1) (answered_front _ _ _ _ _ _ _ c.loop-rest.invariant.answered next c.in_err-bad.ensures.bytes)
+    going-breaks _ _ _ _ _ _ _ _ _ _ _ c.loop-rest.invariant.going (script_next c.loop-rest.rest.now c.first_line.result.0.now c.first_line.result.1.now c.first_line.ensures.line) c.in_err-bad.ensures.turn
 
 pub loop-rest-preserved : goal.loop-rest-preserved
 loop-rest-preserved g c =
@@ -20,7 +24,7 @@ loop-rest-preserved g c =
     let m = c.loop-rest.malformed in
     let later = list_any is_malformed (script_of more) in
     record {
-      answered = answered_more _ _ _ _ _ _ _ c.loop-rest.invariant.answered (text_next c.loop-rest.number rest line more c.first_line.ensures.line) c.in_ok-bad.ensures.bytes;
+      going = going-more _ _ _ _ _ _ _ _ _ _ _ _ c.loop-rest.invariant.going (script_next rest line more c.first_line.ensures.line) c.in_ok-bad.ensures.turn;
       malformed =
           or_later m c.in_ok-bad.bad later
           ∙ (ap (λ b. m || (b || later)) c.in_ok-bad.ensures.malformed
@@ -28,3 +32,15 @@ loop-rest-preserved g c =
       counted = omega arith;
       later = omega arith;
     }
+
+pub returns-in_err-run_end-clause-front : goal.returns-in_err-run_end-clause-front
+returns-in_err-run_end-clause-front g c =
+    going-end_breaks _ _ _ _ _ _ _ _ _ c.loop-rest.invariant.going (script_none c.loop-rest.rest.now (emptied c.loop-rest.rest.now (sym c.is_empty.ensures ∙ c.loop-rest-test.false))) c.in_err-run_end.ensures.turn
+
+pub returns-clause-whole : goal.returns-clause-whole
+returns-clause-whole g c =
+    going-ends _ _ _ _ _ _ _ _ _ _ c.loop-rest.invariant.going (script_none c.loop-rest.rest.now (emptied c.loop-rest.rest.now (sym c.is_empty.ensures ∙ c.loop-rest-test.false))) c.in_ok-run_end.ensures.turn
+
+pub returns-clause-front : goal.returns-clause-front
+returns-clause-front g c =
+    text-is-front _ _ _ _ (going-ends _ _ _ _ _ _ _ _ _ _ c.loop-rest.invariant.going (script_none c.loop-rest.rest.now (emptied c.loop-rest.rest.now (sym c.is_empty.ensures ∙ c.loop-rest-test.false))) c.in_ok-run_end.ensures.turn)

@@ -1,15 +1,15 @@
 use Rattle.std.proofs.Common.{◌≡◌, ◌≤◌, ◌+◌, ◌||◌, length}
 use Rattle.std.specs.List.{list_any}
 use Rattle.script_text.specs.Script.{script_of}
-use Rattle.crypto_script.specs.Text.{text_from, is_malformed}
-use Rattle.crypto_script.proofs.Answering.{Answered}
+use Rattle.crypto_script.specs.Text.{is_malformed}
+use Rattle.crypto_script.proofs.Going.{Going}
 use Rattle.crypto_script.proofs.program.run_lines.Given as goal
 
 abbrev pub invariant-loop-rest : goal.invariant-loop-rest
 invariant-loop-rest g l =
     let held = g.K.Sink.held in
     record {
-      answered : Answered (held l.fn.out) (held l.out) (text_from l.number (script_of l.rest)) (text_from 1 (script_of l.fn.input));
+      going : Going (script_of l.fn.input) (script_of l.rest) l.number l.registry (held l.fn.out) (held l.out) l.session;
       malformed : (l.malformed || list_any is_malformed (script_of l.rest)) ≡ list_any is_malformed (script_of l.fn.input);
       counted : l.number + length l.rest ≤ length l.fn.input + 1;
       later : g.K.Sink.faults l.fn.out ≤ g.K.Sink.faults l.out;

@@ -1,0 +1,8 @@
+use Rattle.session.proofs.Owing.{stands-at_start, none-asked}
+use Rattle.session.proofs.session.Session.new.Goals as goal
+
+pub returns-clause-stands : goal.returns-clause-stands
+returns-clause-stands c = stands-at_start
+
+pub returns-clause-unasked : goal.returns-clause-unasked
+returns-clause-unasked c = none-asked
