@@ -9,3 +9,4 @@ pub mod Table
 pub mod Kept
 pub mod Made
 pub mod Trial
+pub mod Alone

@@ -6,6 +6,7 @@ ghost use Rattle.std.specs.Str.{bytes_eq};
 ghost use Rattle.alg_registry.specs.declared.row.Row.{Row};
 ghost use Rattle.alg_registry.specs.Rows.{listed_at, stays_listed, marked, counted, standing, holders, stands_on, is_held};
 ghost use Rattle.alg_registry.specs.Answers.{clashes_with, held_count, driver_place};
+ghost use Rattle.alg_registry.specs.Alone.{stands_on_nothing, unlists_alone, takes_alone, puts_alone};
 ghost use Rattle.alg_registry.specs.Calls.{unlisted_row, taken_row, put_row_of, new_row};
 
 use crate::entry::RegErr;
@@ -127,34 +128,84 @@ pub fn stand(rows: &mut [Row])
     count(rows);
 }
 
+fn does_stand_on_nothing(row: &Row) -> bool
+    ensures { result ≡ stands_on_nothing row.now }
+{
+    row.spec.below.len() == 0
+}
+
+/// Whether no other entry changes where this one is unlisted.
+fn does_unlist_alone(row: &Row) -> bool
+    ensures { result ≡ unlists_alone row.now }
+{
+    row.references == row.taken && (0 < row.references || does_stand_on_nothing(row))
+}
+
+/// Whether no other entry changes where a reference to this one is taken.
+fn does_take_alone(row: &Row) -> bool
+    ensures { result ≡ takes_alone row.now }
+{
+    row.listed && row.references < u64::MAX
+}
+
+/// Whether no other entry changes where a reference to this one is given back.
+fn does_put_alone(row: &Row) -> bool
+    ensures { result ≡ puts_alone row.now }
+{
+    0 < row.taken
+        && 0 < row.references
+        && (row.listed || 1 < row.references || does_stand_on_nothing(row))
+}
+
 pub fn unlist_row(rows: &mut Vec<Row>, place: usize)
     requires within { place < vec_len rows.old }
     requires few { All (λ row. row.taken < 2 ^ 62) rows.old.items }
+    requires stands { standing rows.old.items ≡ rows.old.items }
     ensures { (d : Row) → rows.new.items ≡ standing (slice_set rows.old.items place (unlisted_row (slice_index_or rows.old.items place d))) }
 {
-    let row = &mut rows[place];
-    row.unlisted = true;
-    stand(rows.as_mut_slice());
+    if does_unlist_alone(&rows[place]) {
+        let row = &mut rows[place];
+        row.unlisted = true;
+        row.listed = false;
+    } else {
+        let row = &mut rows[place];
+        row.unlisted = true;
+        stand(rows.as_mut_slice());
+    }
 }
 
 pub fn take_row(rows: &mut Vec<Row>, place: usize)
     requires within { place < vec_len rows.old }
     requires few { All (λ row. row.taken < 2 ^ 61) rows.old.items }
+    requires stands { standing rows.old.items ≡ rows.old.items }
     ensures { (d : Row) → rows.new.items ≡ standing (slice_set rows.old.items place (taken_row (slice_index_or rows.old.items place d))) }
 {
-    let row = &mut rows[place];
-    row.taken += 1;
-    stand(rows.as_mut_slice());
+    if does_take_alone(&rows[place]) {
+        let row = &mut rows[place];
+        row.taken += 1;
+        row.references += 1;
+    } else {
+        let row = &mut rows[place];
+        row.taken += 1;
+        stand(rows.as_mut_slice());
+    }
 }
 
 pub fn put_row(rows: &mut Vec<Row>, place: usize)
     requires within { place < vec_len rows.old }
     requires few { All (λ row. row.taken < 2 ^ 61) rows.old.items }
+    requires stands { standing rows.old.items ≡ rows.old.items }
     ensures { (d : Row) → rows.new.items ≡ standing (slice_set rows.old.items place (put_row_of (slice_index_or rows.old.items place d))) }
 {
-    let row = &mut rows[place];
-    row.taken = row.taken.saturating_sub(1);
-    stand(rows.as_mut_slice());
+    if does_put_alone(&rows[place]) {
+        let row = &mut rows[place];
+        row.taken -= 1;
+        row.references -= 1;
+    } else {
+        let row = &mut rows[place];
+        row.taken = row.taken.saturating_sub(1);
+        stand(rows.as_mut_slice());
+    }
 }
 
 pub fn add_row(rows: &mut Vec<Row>, spec: Spec)

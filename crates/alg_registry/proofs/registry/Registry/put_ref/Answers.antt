@@ -8,7 +8,11 @@ use Rattle.alg_registry.specs.Legal.{HasReference}
 use Rattle.alg_registry.proofs.Balance.{owed-put}
 use Rattle.alg_registry.proofs.Fresh.{IsUnder, few-rows_of}
 use Rattle.alg_registry.proofs.Keeping.{kept-put, put-within}
+use Rattle.alg_registry.proofs.Restanding.{standing-rows_of}
 use Rattle.alg_registry.proofs.registry.Registry.put_ref.Goals as goal
+
+pub put_row-requires-clause-stands : goal.put_row-requires-clause-stands
+put_row-requires-clause-stands c = standing-rows_of c.self.inside.log c.self.inside.rows.items c.self.invariant.rows_are
 
 pub settle-requires-clause-owed : goal.settle-requires-clause-owed
 settle-requires-clause-owed c =

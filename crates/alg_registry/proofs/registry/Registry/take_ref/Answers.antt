@@ -5,7 +5,11 @@ use Rattle.alg_registry.specs.declared.spec.Kind.TheVariants.{Cipher}
 use Rattle.alg_registry.specs.declared.spec.Wrap.TheVariants.{Plain}
 use Rattle.alg_registry.proofs.Fresh.{IsUnder, few-rows_of}
 use Rattle.alg_registry.proofs.Keeping.{kept-get, kept-no_get}
+use Rattle.alg_registry.proofs.Restanding.{standing-rows_of}
 use Rattle.alg_registry.proofs.registry.Registry.take_ref.Goals as goal
+
+pub take_row-requires-clause-stands : goal.take_row-requires-clause-stands
+take_row-requires-clause-stands c = standing-rows_of c.self.inside.log c.self.inside.rows.items c.self.invariant.rows_are
 
 pub take_row-requires-clause-few : goal.take_row-requires-clause-few
 take_row-requires-clause-few c = subst (λ (rows : List Row). All (IsUnder (2 ^ 61)) rows) (sym c.self.invariant.rows_are) (few-rows_of (2 ^ 61) c.self.inside.log (omega (arith, c.in_ok-record.ensures.short)))

@@ -5,7 +5,11 @@ use Rattle.alg_registry.specs.declared.spec.Kind.TheVariants.{Cipher}
 use Rattle.alg_registry.specs.declared.spec.Wrap.TheVariants.{Plain}
 use Rattle.alg_registry.proofs.Fresh.{IsUnder, few-rows_of}
 use Rattle.alg_registry.proofs.Keeping.{kept-unlist, kept-no_unlist, driver-within}
+use Rattle.alg_registry.proofs.Restanding.{standing-rows_of}
 use Rattle.alg_registry.proofs.registry.Registry.unlist.Goals as goal
+
+pub unlist_row-requires-clause-stands : goal.unlist_row-requires-clause-stands
+unlist_row-requires-clause-stands c = standing-rows_of c.self.inside.log c.self.inside.rows.items c.self.invariant.rows_are
 
 pub unlist_row-requires-clause-within : goal.unlist_row-requires-clause-within
 unlist_row-requires-clause-within c =
