@@ -179,6 +179,10 @@ appended_or_same old new more (Ok true) h = inl h
 appended_or_same old new more (Ok false) h = inr h
 appended_or_same old new more (Err e) h = inr h
 
+pub done_or_same : {X T E : Type 0} (old new more : X) (r : Result T E) → MatchResult r (λ _. new ≡ more) (λ _. new ≡ old) → (new ≡ more) ⊎ (new ≡ old)
+done_or_same old new more (Ok t) h = inl h
+done_or_same old new more (Err e) h = inr h
+
 pub open_after : {A : Type 0} (old new : List (BoardEntry A)) (e : BoardEntry A) (p caller : ℕ) → (new ≡ old ++ e ∷ []) ⊎ (new ≡ old) → is_close e ≡ false → IsOpenFor old p caller → IsOpenFor new p caller
 open_after old new e p caller (inl more) c o = open_for_more old new e p caller more c o
 open_after old new e p caller (inr same) c o = rw same o
