@@ -5,14 +5,13 @@ ghost use Rattle.board.specs.declared.entry.Shape.TheVariants as Shaped;
 ghost use Rattle.board.specs.declared.entry.BoardEntry.TheVariants as Entry;
 ghost use Rattle.board.specs.declared.board_core.BoardErr.TheVariants as BoardErr;
 ghost use Rattle.board.specs.Entries.{entries_of, submissions, front, told, collected};
-ghost use Rattle.board.specs.Legal.{IsNoWorker, MayManage, IsOpen, IsOpenQueue, pipelines, is_shut, LegalBoard};
+ghost use Rattle.board.specs.Legal.{IsNoWorker, MayManage, IsOpen, pipelines, is_shut, LegalBoard};
 
 use crate::allowance::Used;
 use crate::entry::{BoardEntry, Shape};
 use crate::log::BoardLog;
-use crate::pipeline::{PadPipeline, Pipeline, QueuePipeline};
+use crate::pipeline::{PadPipeline, Pipeline};
 use crate::work::Work;
-use cryptd::Cryptd;
 use padata_core::Padata;
 use std::alloc::{AllocError, Global};
 use std::collections::BTreeMap;
@@ -113,76 +112,6 @@ impl<W: Work> BoardCore<W> {
         });
         self.owed += 1;
         Ok(pipe)
-    }
-
-    /// Makes a queue of which so many requests wait before its backlog begins, at least 1, and answers its number. The caller
-    /// is no worker. Only want of memory refuses, and leaves the board as it was.
-    pub fn born_queue(&mut self, caller: u32, max: u32) -> Result<u64, BoardErr>
-        requires caller { IsNoWorker caller }
-        requires max { 1 ≤ max }
-        ensures made { MatchResult result (λ pipe. (pipe ≡ pipelines self.old) × (self.new ≡ self.old ++ Entry.Born caller pipe (Shaped.Queue max) ∷ [])) (λ _. self.new ≡ self.old) }
-        ensures refused { IfErr result (λ e. e ≡ BoardErr.Memory) }
-        ensures legal { LegalBoard self.new }
-    {
-        let queue = Cryptd::new(self.alloc, max)?;
-        let Some(room) = self.owed.checked_add(2) else {
-            return Err(BoardErr::Memory);
-        };
-        self.log.reserve(room)?;
-        self.pipes.reserve(1)?;
-        let pipe = self.pipes.len() as u64;
-        let place = QueuePipeline {
-            maker: caller,
-            closed: false,
-            collected: 0,
-            queue,
-        };
-        self.pipes.push_reserved(Pipeline::Queue(place));
-        self.log.push_reserved(BoardEntry::Born {
-            caller,
-            pipe,
-            shape: Shape::Queue(max),
-        });
-        self.owed += 1;
-        Ok(pipe)
-    }
-
-    /// From now on no request of the queue is run. The caller made the queue, which isn't closed. Only want of memory refuses,
-    /// and leaves the board as it was.
-    pub fn hold(&mut self, caller: u32, pipe: u64) -> Result<(), BoardErr>
-        requires caller { MayManage (entries_of pipe self.old) caller }
-        requires pipe { IsOpenQueue (entries_of pipe self.old) }
-        ensures held { MatchResult result (λ _. self.new ≡ self.old ++ Entry.Hold caller pipe ∷ []) (λ _. self.new ≡ self.old) }
-        ensures refused { IfErr result (λ e. e ≡ BoardErr.Memory) }
-        ensures legal { LegalBoard self.new }
-    {
-        let Some(room) = self.owed.checked_add(1) else {
-            return Err(BoardErr::Memory);
-        };
-        self.log.reserve(room)?;
-        let place = &mut self.pipes[pipe as usize];
-        place.set_held(true);
-        self.log.push_reserved(BoardEntry::Hold { caller, pipe });
-        Ok(())
-    }
-
-    /// The queue's requests are run again. The caller made the queue, which isn't closed. Only want of memory refuses, and
-    /// leaves the board as it was.
-    pub fn go(&mut self, caller: u32, pipe: u64) -> Result<(), BoardErr>
-        requires caller { MayManage (entries_of pipe self.old) caller }
-        requires pipe { IsOpenQueue (entries_of pipe self.old) }
-        ensures going { MatchResult result (λ _. self.new ≡ self.old ++ Entry.Go caller pipe ∷ []) (λ _. self.new ≡ self.old) }
-        ensures refused { IfErr result (λ e. e ≡ BoardErr.Memory) }
-        ensures legal { LegalBoard self.new }
-    {
-        let Some(room) = self.owed.checked_add(1) else {
-            return Err(BoardErr::Memory);
-        };
-        self.log.reserve(room)?;
-        let place = &mut self.pipes[pipe as usize];
-        place.set_held(false);
-        self.log.push_reserved(BoardEntry::Go { caller, pipe });
-        Ok(())
     }
 
     /// Closes a pad or a queue that the caller made, of which all is finished and handed out. No memory is taken.

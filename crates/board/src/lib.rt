@@ -3,7 +3,6 @@
 //! Each call appends the one entry to the board's history that is legal after the entries before it, or none.
 #![tactic(auto)]
 
-mod accepting;
 mod allowance;
 mod board_core;
 mod entry;
@@ -13,6 +12,8 @@ mod log;
 mod pipeline;
 #[cfg(test)]
 mod queue_tests;
+mod queues;
+mod submitting;
 #[cfg(test)]
 mod tests;
 mod work;

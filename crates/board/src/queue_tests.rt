@@ -1,5 +1,6 @@
-ghost use Rattle.std.specs.Prelude.{◌≤◌, IfOk};
-ghost use Rattle.board.specs.Legal.{IsNoWorker};
+ghost use Rattle.std.specs.Prelude.{◌≢◌, ℕ, ◌≤◌, IfOk};
+ghost use Rattle.board.specs.Entries.{entries_of};
+ghost use Rattle.board.specs.Legal.{IsNoWorker, MayFinish};
 ghost use Rattle.board.specs.Staying.{IsOpenQueueFor};
 
 use crate::tests::{Echo, saying};
@@ -48,10 +49,11 @@ fn go<W: Work>(board: &mut BoardCore<W>, pipe: u64) -> Result<(), BoardErr>
     board.go(0, pipe)
 }
 
-/// Takes a job, runs it and finishes it, if one may be taken. No second job of the queue is served while it runs.
+/// Takes a job, runs it and finishes it, if one may be taken. The jobs that others took stay theirs.
 fn serve<W: Work>(board: &mut BoardCore<W>, worker: u32, pipe: u64) -> bool
     requires { IsOpenQueueFor board.old pipe 0 }
-    ensures { IsOpenQueueFor board.new pipe 0 }
+    ensures open { IsOpenQueueFor board.new pipe 0 }
+    ensures others { (other p n : ℕ) (out : W.Out) → worker ≢ other → MayFinish W.meaning (entries_of p board.old) other n out → MayFinish W.meaning (entries_of p board.new) other n out }
 {
     match board.take(worker) {
         Some(Taken { slip, job }) => {
@@ -85,6 +87,58 @@ fn drain<W: Work>(
     ensures { IsOpenQueueFor board.new pipe 0 }
 {
     board.try_drain(0, pipe, into)
+}
+
+/// One worker takes a job, and another looks for one before it is finished. Answers whether the other found one.
+fn serve_twice<W: Work>(board: &mut BoardCore<W>, pipe: u64) -> bool
+    requires { IsOpenQueueFor board.old pipe 0 }
+    ensures { IsOpenQueueFor board.new pipe 0 }
+{
+    let Some(first) = board.take(1) else {
+        return true;
+    };
+    let found = serve(board, 2, pipe);
+    let Taken { slip, job } = first;
+    let out = job.run();
+    board.finish(1, slip, out);
+    found
+}
+
+/// Hands out what the queue told, where all is done, and closes it then.
+fn drain_and_close<W: Work>(
+    board: &mut BoardCore<W>,
+    pipe: u64,
+    into: &mut Callbacks<W::Out>,
+) -> Result<bool, BoardErr>
+    requires { IsOpenQueueFor board.old pipe 0 }
+{
+    let all = board.try_drain(0, pipe, into)?;
+    if all {
+        board.close(0, pipe);
+    }
+    Ok(all)
+}
+
+#[test]
+fn a_queue_serves_one_job_at_a_time(rt: HostRuntime) -> Result<(), Fail> {
+    let alloc = rt.alloc();
+    let mut board: BoardCore<Echo> = BoardCore::new(alloc)?;
+    let mut into = Callbacks::new(alloc);
+    let pipe = make(&mut board, 0, 2)?;
+    offer(&mut board, 0, pipe, saying('a', 1), false)?;
+    offer(&mut board, 0, pipe, saying('b', 1), false)?;
+    assert!(rt; !serve_twice(&mut board, pipe));
+    assert!(rt; !serve_twice(&mut board, pipe));
+    assert!(rt; drain_and_close(&mut board, pipe, &mut into)?);
+    assert!(rt;
+        matches!(
+            into.as_slice(),
+            [Callback::Done(0, 'a'), Callback::Done(1, 'b')]
+        )
+    );
+    let log = board.finish_all();
+    assert_eq!(rt; log.entries().len(), 9);
+    Ok(())
 }
 
 #[test]
