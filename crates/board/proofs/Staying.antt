@@ -10,9 +10,9 @@ use Rattle.board.specs.declared.entry.Shape.TheVariants as shape
 use Rattle.board.specs.declared.entry.BoardEntry.{BoardEntry}
 use Rattle.board.specs.declared.entry.BoardEntry.TheVariants.{Born, Submit, Take, Finish, Enq, Deq, Done, Hold, Go, Collect, Close, Share, Shut}
 use Rattle.board.specs.Entries.{is_of, entries_of, birth, pad_born, queue_born, starts, told_in, accepted_in, submissions, taken_in, takings, takers, finished_in, finished, has, is_close, is_share, is_shared, meaning_at, caller_of, collected_in, collected, last_or, told, front, completes_below}
-use Rattle.board.specs.Legal.{IsMaker, maker_is, IsRight, IsRightFor, AreRightAfter, LegalBoard, MayFinish, IsOpen}
+use Rattle.board.specs.Legal.{IsMaker, maker_is, IsRight, IsRightFor, AreRightAfter, LegalBoard, MayFinish, MayManage, IsOpen}
 use Rattle.board.specs.Order.{AreRightForAfter, numbers_below}
-use Rattle.board.specs.Staying.{OpensPad, OpensQueue, StaysOpen, QueueStaysOpen, StaysManaged, StaysSubmitting, SlipStays, IsOpenFor, IsOpenQueueFor, CollectDrains, is_work, WorkLeaves, IsWorkOf, TakingIsWork, FinishingIsWork}
+use Rattle.board.specs.Staying.{IsDrained, OpensPad, OpensQueue, StaysOpen, QueueStaysOpen, StaysManaged, StaysSubmitting, SlipStays, IsOpenFor, IsOpenQueueFor, CollectDrains, is_work, WorkLeaves, IsWorkOf, TakingIsWork, FinishingIsWork}
 use Rattle.board.proofs.Transfer.{right_for, entries-more, entries-same, each_right}
 use Rattle.board.proofs.PadOrder.{filter_map-none, birth_stays, filter_map-some, last_or-append, told_on_pad}
 use Rattle.board.proofs.Kept.{takers-same, closed-same, has-more, collected-same}
@@ -247,3 +247,11 @@ work_leaves h e p = work_cases h e p (is_of p e) refl
 pub queue_after : {A : Type 0} (old new : List (BoardEntry A)) (e : BoardEntry A) (q caller : ℕ) → (new ≡ old ++ e ∷ []) ⊎ (new ≡ old) → is_close e ≡ false → IsOpenQueueFor old q caller → IsOpenQueueFor new q caller
 queue_after old new e q caller (inl more) c o = queue_for_more old new e q caller more c o
 queue_after old new e q caller (inr same) c o = rw same o
+
+-- a queue that a call drained may be closed
+pub drained_open : {A : Type 0} (old new : List (BoardEntry A)) (p to caller : ℕ) (all : Bool) → all ≡ true → MatchBool all (new ≡ old ++ Collect caller p to ∷ []) (new ≡ old) → MatchBool all (front (entries_of p old) ≡ length (submissions (entries_of p old))) (front (entries_of p old) < length (submissions (entries_of p old))) → LegalBoard new → IsOpenQueueFor old p caller
+    → MayManage (entries_of p new) caller × IsOpen (entries_of p new) × IsDrained (entries_of p new)
+drained_open old new p to caller false t more f legal o = cc
+drained_open {A} old new p to caller true t more f legal o =
+    let e : BoardEntry A = Collect caller p to in
+    rw more (stays_managed old e p caller o.1, inr (queue_stays_open old e p o.0 refl), collect_drains old caller p to (subst (λ h. LegalBoard h) more legal) (inr o.0) f)
