@@ -1,17 +1,16 @@
 use Rattle.std.proofs.Common.{◌≡◌, ℕ, zero, suc, ◌+◌, ◌-◌, ◌<◌, ◌≤◌, Bool, true, false, cond, List, [], ◌∷◌, ◌++◌, length, map, drop, Option, Some, None, is_none, is_some, refl, sym, ◌∙◌, ap, subst, arith, inl, inr, ◌⊎◌, get_or}
-use Rattle.std.specs.Prelude.{count_by, slice_get, slice_set}
+use Rattle.std.specs.Prelude.{count_by, slice_get}
 use Rattle.std.specs.List.{filter_map, cons_option}
-use Rattle.std.proofs.lemmas.Bool.{cases_lt, eq-eqb}
+use Rattle.std.proofs.lemmas.Bool.{cases_lt}
 use Rattle.std.proofs.lemmas.Option.{slice_get_read}
 use Rattle.std.proofs.lemmas.List.{length-map, length-drop, get_or-drop}
-use Rattle.std.proofs.lemmas.List.Sums.{sum_by-set}
-use Rattle.padata_core.specs.Pad.{Pad, taken_of, submitted_of, ready}
+use Rattle.padata_core.specs.Pad.{taken_of, ready}
 use Rattle.board.specs.declared.entry.BoardEntry.{BoardEntry}
 use Rattle.board.specs.declared.entry.BoardEntry.TheVariants.{Collect}
 use Rattle.board.specs.declared.pipeline.PadPipeline.{PadPipeline}
 use Rattle.board.specs.declared.pipeline.Pipeline.TheVariants as pipeline
 use Rattle.board.specs.Pipelines.{emptied}
-use Rattle.board.specs.Entries.{entries_of, pad_born, accepted_in, submissions, finished_in, finished, has, is_closed, meaning_at, collected_in, last_or}
+use Rattle.board.specs.Entries.{pad_born, accepted_in, submissions, finished_in, finished, has, meaning_at, collected_in, last_or}
 use Rattle.board.specs.Kept.{IsKeptPad, outcome_at, owes}
 use Rattle.board.proofs.PadOrder.{filter_map-none, filter_map-some, last_or-append, birth_stays}
 use Rattle.std.proofs.Common.{add-zero, add-suc, zero-add}

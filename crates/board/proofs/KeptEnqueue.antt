@@ -1,4 +1,4 @@
-use Rattle.std.proofs.Common.{◌≡◌, ℕ, ◌+◌, ◌-◌, ◌<◌, ◌≤◌, Bool, true, false, cond, ◌||◌, List, [], ◌∷◌, ◌++◌, length, Some, None, refl, sym, ◌∙◌, ap, subst, arith, get_or}
+use Rattle.std.proofs.Common.{◌≡◌, ℕ, ◌+◌, ◌<◌, ◌≤◌, Bool, true, false, cond, ◌||◌, List, [], ◌∷◌, ◌++◌, length, Some, refl, sym, ◌∙◌, ap, arith, get_or}
 use Rattle.std.specs.Prelude.{◌==◌, nat_lt, slice_set}
 use Rattle.std.specs.Arc.{arc_value}
 use Rattle.std.specs.declared.sync.Arc.{Arc}
@@ -15,8 +15,8 @@ use Rattle.board.specs.declared.entry.BoardEntry.TheVariants.{Enq}
 use Rattle.board.specs.declared.pipeline.QueuePipeline.{QueuePipeline}
 use Rattle.board.specs.declared.pipeline.Pipeline.{Pipeline}
 use Rattle.board.specs.declared.pipeline.Pipeline.TheVariants as pipeline
-use Rattle.board.specs.Pipelines.{is_queue, with_job, without_room, accepts, entered_on, after_entered}
-use Rattle.board.specs.Entries.{Notice, entries_of, birth, max_born, submissions, takings, waiting, verdict, work_of, is_closed}
+use Rattle.board.specs.Pipelines.{is_queue, without_room, accepts, entered_on, after_entered}
+use Rattle.board.specs.Entries.{Notice, entries_of, birth, max_born, submissions, waiting, verdict, work_of, is_closed}
 use Rattle.board.specs.Legal.{IsRight, MaySubmit, IsOpenQueue}
 use Rattle.board.specs.Allowance.{used_at, IsKeptUsed}
 use Rattle.board.specs.Kept.{IsKeptQueue, IsKept, IsKeptBoard, owes, owed_by}

@@ -1,18 +1,16 @@
-use Rattle.std.proofs.Common.{◌≡◌, ℕ, ◌+◌, ◌<◌, ◌≤◌, Bool, true, false, cond, List, [], ◌∷◌, ◌++◌, length, drop, refl, sym, ◌∙◌, ap, subst, arith, inl, inr, ◌⊎◌, get_or}
+use Rattle.std.proofs.Common.{◌≡◌, ℕ, ◌+◌, ◌<◌, ◌≤◌, Bool, true, false, cond, List, [], ◌∷◌, ◌++◌, length, refl, sym, ◌∙◌, ap, subst, arith, inl, inr, ◌⊎◌, get_or}
 use Rattle.std.specs.Prelude.{slice_set}
 use Rattle.std.specs.List.{filter_map}
 use Rattle.std.proofs.lemmas.Bool.{eq-eqb}
 use Rattle.std.proofs.Math.Seq.{take-length}
-use Rattle.padata_core.specs.Pad.{ready}
 use Rattle.board.specs.declared.entry.BoardEntry.{BoardEntry}
 use Rattle.board.specs.declared.entry.BoardEntry.TheVariants.{Collect}
-use Rattle.board.specs.declared.pipeline.QueuePipeline.{QueuePipeline}
 use Rattle.board.specs.declared.pipeline.Pipeline.{Pipeline}
 use Rattle.board.specs.declared.pipeline.Pipeline.TheVariants as pipeline
 use Rattle.board.specs.Pipelines.{told_of, callbacks_of, emptied, IsDone, IsUndone}
-use Rattle.board.specs.Entries.{Notice, is_of, entries_of, pad_born, accepted_in, submissions, finished, front, told, told_in, callback_of, collected, delivered, is_closed}
+use Rattle.board.specs.Entries.{Notice, is_of, entries_of, pad_born, accepted_in, submissions, finished, front, told, told_in, delivered, is_closed}
 use Rattle.board.specs.Legal.{IsRight, MayManage, IsOpen}
-use Rattle.board.specs.Kept.{IsKeptQueue, IsKept, IsKeptBoard, owes, owed_by}
+use Rattle.board.specs.Kept.{IsKept, IsKeptBoard, owes, owed_by}
 use Rattle.board.proofs.PadOrder.{told_on_pad, length-completes}
 use Rattle.board.proofs.QueueOrder.{IsServed, told_on_queue}
 use Rattle.board.proofs.Kept.{kept_here, place_step}

@@ -1,21 +1,17 @@
-use Rattle.std.proofs.Common.{◌≡◌, ◌≢◌, ℕ, zero, suc, ◌+◌, ◌-◌, ◌<◌, ◌≤◌, Bool, true, false, cond, ◌||◌, List, [], ◌∷◌, ◌++◌, length, map, drop, Option, Some, None, refl, sym, ◌∙◌, ap, subst, arith, append-nil, length-append, inl, inr, ◌⊎◌, add-one}
-use Rattle.std.specs.Prelude.{◌==◌, nat_lt, slice_get}
+use Rattle.std.proofs.Common.{◌≡◌, ℕ, zero, suc, ◌+◌, ◌<◌, ◌≤◌, Bool, true, false, cond, ◌||◌, List, [], ◌∷◌, ◌++◌, length, map, drop, Option, Some, None, refl, sym, ◌∙◌, ap, subst, arith, length-append, add-one}
+use Rattle.std.specs.Prelude.{◌==◌}
 use Rattle.std.specs.List.{filter_map, filter, cons_option}
-use Rattle.std.specs.Arc.{arc_value}
 use Rattle.std.proofs.lemmas.Bool.{false_from_ne_true, both_ways, cases_lt, eq-eqb, or_left, or_right}
-use Rattle.std.proofs.lemmas.List.{map-append, drop-append-le, length-drop}
+use Rattle.std.proofs.lemmas.List.{map-append, drop-append-le}
 use Rattle.std.proofs.Math.ListN.{drop_of_length-le}
-use Rattle.std.proofs.lemmas.List.Folds.{list_any-append}
 use Rattle.std.proofs.lemmas.List.Elements.{filter_map-append}
-use Rattle.kc_base.specs.declared.callback_list.Callback.{Callback}
 use Rattle.kc_base.specs.declared.callback_list.Callback.TheVariants as callback
-use Rattle.request_queue.specs.Line.{accepted, number_at_bound}
 use Rattle.cryptd.specs.Server.{started_callback}
 use Rattle.board.specs.declared.entry.BoardEntry.{BoardEntry}
 use Rattle.board.specs.declared.entry.BoardEntry.TheVariants.{Deq, Done, Collect}
 use Rattle.board.specs.declared.pipeline.QueuePipeline.{QueuePipeline}
-use Rattle.board.specs.Entries.{Notice, Starts, Completes, birth, queue_born, accepted_in, submissions, taken_in, takings, takers, finished_in, finished, has, meaning_at, told_in, callback_of, completion, collected_in, collected, last_or, held_in, is_held, is_close, is_closed, is_share, front}
-use Rattle.board.specs.Order.{completed_in, completed, numbers_below}
+use Rattle.board.specs.Entries.{Notice, Starts, Completes, birth, queue_born, accepted_in, submissions, taken_in, takings, takers, finished_in, finished, has, meaning_at, told_in, callback_of, completion, collected_in, last_or, held_in, is_held, is_close, is_closed, is_share, front}
+use Rattle.board.specs.Order.{completed, numbers_below}
 use Rattle.board.specs.Kept.{IsKeptQueue}
 use Rattle.board.proofs.PadOrder.{filter_map-none, filter_map-some, last_or-append, birth_stays}
 use Rattle.board.proofs.QueueOrder.{IsServed, taker_among, has_only_below, has_below, low_number}

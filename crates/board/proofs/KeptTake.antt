@@ -1,26 +1,25 @@
-use Rattle.std.proofs.Common.{◌≡◌, ◌≢◌, ℕ, zero, suc, ◌+◌, ◌<◌, ◌≤◌, false, cond, List, [], ◌∷◌, ◌++◌, length, map, drop, Option, Some, None, is_none, refl, sym, ◌∙◌, ap, subst, arith, append-nil, length-append, inl, inr, ◌⊎◌, get_or}
-use Rattle.std.specs.Prelude.{◌==◌, slice_get, slice_set}
+use Rattle.std.proofs.Common.{◌≡◌, ◌≢◌, ℕ, zero, suc, ◌+◌, ◌<◌, ◌≤◌, false, cond, List, [], ◌∷◌, ◌++◌, length, map, drop, Option, Some, None, is_none, refl, sym, ◌∙◌, ap, arith, append-nil, length-append, inl, inr, ◌⊎◌, get_or}
+use Rattle.std.specs.Prelude.{◌==◌, slice_get}
 use Rattle.std.specs.List.{filter}
 use Rattle.std.proofs.lemmas.Bool.{eqb-true, false_from_ne_true, cases_lt, eq-eqb}
 use Rattle.std.proofs.lemmas.Option.{slice_get-map}
 use Rattle.std.specs.Option.{option_map}
 use Rattle.std.proofs.lemmas.List.{map-append}
-use Rattle.std.proofs.lemmas.List.Sums.{sum_by-set, sum_by-append}
+use Rattle.std.proofs.lemmas.List.Sums.{sum_by-append}
 use Rattle.std.proofs.lemmas.List.Elements.{filter-append}
 use Rattle.padata_core.specs.Pad.{Pad, taken_of}
 use Rattle.board.specs.declared.entry.BoardEntry.{BoardEntry}
 use Rattle.board.specs.declared.entry.BoardEntry.TheVariants.{Take}
 use Rattle.board.specs.declared.pipeline.PadPipeline.{PadPipeline}
 use Rattle.board.specs.declared.pipeline.Pipeline.TheVariants as pipeline
-use Rattle.board.specs.Entries.{entries_of, pad_born, accepted_in, submissions, taken_in, takings, takers, finished_in, finished, has, is_closed, meaning_at}
+use Rattle.board.specs.Entries.{accepted_in, submissions, taken_in, takings, takers, finished_in, finished, has, meaning_at}
 use Rattle.board.specs.Legal.{MayFinish}
 use Rattle.board.specs.Kept.{IsKeptPad, outcome_at, owes}
-use Rattle.board.proofs.Transfer.{entries-more}
 use Rattle.board.proofs.PadOrder.{filter_map-none, filter_map-some, birth_stays}
 use Rattle.std.proofs.lemmas.List.{get_or_append_left}
 use Rattle.std.proofs.Math.Seq.{get_or-append_seam}
 use Rattle.std.proofs.Common.{add-one}
-use Rattle.board.proofs.Kept.{board_step, closed-same, shared-same, collected-same, born_some}
+use Rattle.board.proofs.Kept.{closed-same, shared-same, collected-same, born_some}
 
 -- the head and the rest of what is left of a list
 pub drop_head : {X : Type 0} (xs : List X) (n : ℕ) (x : X) (ys : List X) → drop n xs ≡ x ∷ ys → (slice_get xs n ≡ Some x) × (drop (suc n) xs ≡ ys)

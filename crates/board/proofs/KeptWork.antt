@@ -1,5 +1,5 @@
-use Rattle.std.proofs.Common.{◌≡◌, ◌≢◌, ℕ, zero, suc, ◌+◌, ◌-◌, ◌<◌, ◌≤◌, Bool, true, false, cond, List, [], ◌∷◌, ◌++◌, length, map, drop, Option, Some, None, refl, sym, ◌∙◌, ap, subst, arith, length-append, inl, inr, ◌⊎◌, get_or}
-use Rattle.std.specs.Prelude.{◌==◌, nat_lt, slice_get, slice_set, slice_index_or}
+use Rattle.std.proofs.Common.{◌≡◌, ℕ, ◌+◌, ◌-◌, ◌<◌, ◌≤◌, Bool, true, false, cond, List, [], ◌∷◌, ◌++◌, length, map, Option, Some, None, refl, sym, ◌∙◌, ap, subst, arith, inl, inr, ◌⊎◌, get_or}
+use Rattle.std.specs.Prelude.{nat_lt, slice_get, slice_set}
 use Rattle.std.proofs.lemmas.Bool.{cases_lt, eq-eqb, false_from_ne_true}
 use Rattle.padata_core.specs.Pad.{taken_of}
 use Rattle.request_queue.specs.Line.{number_at_bound}
@@ -10,12 +10,12 @@ use Rattle.board.specs.declared.pipeline.QueuePipeline.{QueuePipeline}
 use Rattle.board.specs.declared.pipeline.Pipeline.{Pipeline}
 use Rattle.board.specs.declared.pipeline.Pipeline.TheVariants as pipeline
 use Rattle.board.specs.Pipelines.{is_pad, waiting_in, next_of, started_by, MayServe, IsQuiet, without_first, MayEnd, ended}
-use Rattle.board.specs.Entries.{Notice, is_of, entries_of, accepted_in, birth_in, birth, pad_born, queue_born, max_born, submissions, takings, takers, finished, has, meaning_at, waiting, starts, is_held, is_closed, take_entry, finish_entry, AllTaken, IsHeldBusyOrEmpty, NoneWaits}
+use Rattle.board.specs.Entries.{Notice, is_of, entries_of, accepted_in, birth_in, birth, pad_born, queue_born, max_born, submissions, takings, takers, finished, has, meaning_at, starts, is_closed, take_entry, finish_entry, AllTaken, IsHeldBusyOrEmpty, NoneWaits}
 use Rattle.board.specs.Legal.{IsRight, IsRightFor, MayFinish, is_shut_entry}
 use Rattle.board.specs.Kept.{IsKeptPad, IsKeptQueue, IsKept, IsKeptBoard, owes, owed_by}
 use Rattle.board.proofs.QueueOrder.{IsServed}
 use Rattle.board.proofs.Transfer.{entries-more}
-use Rattle.board.proofs.Kept.{kept_here, place_step, is_pad_kept}
+use Rattle.board.proofs.Kept.{kept_here, place_step}
 use Rattle.board.proofs.KeptTake.{take_kept, take_owes, drop_head, ready_after}
 use Rattle.board.proofs.KeptFinish.{finish_kept, finish_owes, finish_low, finish_high, finish_runs}
 use Rattle.board.proofs.KeptQueue.{queue_is, deq_kept, done_kept, next_untaken, next_unfinished, queue_ends}

@@ -1,4 +1,4 @@
-use Rattle.std.proofs.Common.{arith, ◌≡◌, length, sym, ◌∙◌, ap, subst, refl}
+use Rattle.std.proofs.Common.{arith, ◌≡◌, sym, ◌∙◌, ap, subst, refl}
 use Rattle.board.specs.declared.entry.BoardEntry.TheVariants.{Enq}
 use Rattle.board.specs.Entries.{entries_of, verdict}
 use Rattle.board.specs.Legal.{MaySubmit, IsOpenQueue}

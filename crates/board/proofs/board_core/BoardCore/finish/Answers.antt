@@ -1,4 +1,4 @@
-use Rattle.std.proofs.Common.{arith, ◌≡◌, [], ◌∷◌, ◌++◌, ap, sym, ◌∙◌, subst, refl, false, Some}
+use Rattle.std.proofs.Common.{arith, ◌≡◌, [], ◌∷◌, sym, ◌∙◌, subst, false, Some}
 use Rattle.board.specs.declared.entry.BoardEntry.{BoardEntry}
 use Rattle.board.specs.Entries.{entries_of, takers, finished, has, meaning_at, submissions}
 use Rattle.board.proofs.KeptUsed.{used_same}

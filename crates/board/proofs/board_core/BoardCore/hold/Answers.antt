@@ -1,4 +1,4 @@
-use Rattle.std.proofs.Common.{arith, ◌≡◌, length, sym, ◌∙◌, subst, refl}
+use Rattle.std.proofs.Common.{arith, sym, ◌∙◌, subst, refl}
 use Rattle.board.specs.declared.entry.BoardEntry.TheVariants.{Hold}
 use Rattle.board.specs.Entries.{entries_of}
 use Rattle.board.specs.Legal.{MayManage, IsOpenQueue}

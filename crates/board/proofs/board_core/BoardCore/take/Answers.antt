@@ -1,7 +1,6 @@
-use Rattle.std.proofs.Common.{arith, ◌≡◌, ◌<◌, [], ◌∷◌, ◌++◌, length, ap, sym, ◌∙◌, subst, refl}
+use Rattle.std.proofs.Common.{arith, ◌<◌, length, ◌∙◌, subst, refl}
 use Rattle.board.specs.declared.entry.BoardEntry.{BoardEntry}
-use Rattle.board.specs.Entries.{entries_of, submissions, NoneWaits}
-use Rattle.board.specs.Legal.{LegalBoard}
+use Rattle.board.specs.Entries.{NoneWaits}
 use Rattle.board.proofs.KeptUsed.{used_same}
 use Rattle.board.proofs.Kept.{kept_here, shut-same}
 use Rattle.board.proofs.KeptWork.{first_taken, first_made, first_quiet, take_step, take_none, take_entry_is}
