@@ -1,13 +1,10 @@
 use Rattle.std.proofs.Common.{◌≡◌, ℕ, ◌+◌, Bool, true, false, cond, List, [], ◌∷◌, ◌++◌, length, Option, Some, None, refl, sym, ◌∙◌, ap, arith, length-append}
 use Rattle.std.specs.Prelude.{◌==◌, sum_by}
-use Rattle.std.specs.Arc.{arc_value}
-use Rattle.std.specs.declared.sync.Arc.{Arc}
 use Rattle.std.specs.declared.collections.BTreeMap.{BTreeMap}
 use Rattle.std.specs.Global.{Global}
 use Rattle.std.proofs.lemmas.Bool.{eqb-true, eq-eqb, false_from_ne_true, both_ways}
 use Rattle.std.proofs.lemmas.List.Sums.{sum_by-append}
 use Rattle.board.specs.declared.entry.BoardEntry.{BoardEntry}
-use Rattle.board.specs.declared.entry.BoardEntry.TheVariants.{Submit}
 use Rattle.board.specs.Entries.{caller_of, accepted_in}
 use Rattle.board.specs.declared.allowance.Used.{Used}
 use Rattle.board.specs.Allowance.{used_at, used_in, accepted_from, accepted_by, IsKeptUsed}
@@ -30,16 +27,16 @@ used_cases weight h e a c true s n =
     rw (f, l, q) refl
 used_cases weight h e a c false s n = rw (filter_map-none (accepted_from c) h e (ap (λ b. cond b (accepted_in e) None) s)) refl
 
-more_cases : {A : Type 0} (weight : A → ℕ) (used : BTreeMap ℕ Used Global) (h : List (BoardEntry A)) (caller pipe number : ℕ) (ask : Arc A Global) (a : A) (size : ℕ) → arc_value ask ≡ a → size ≡ weight a → IsKeptUsed weight used h → (c : ℕ) (b : Bool) → (c == caller) ≡ b
-    → ◌≡◌ {A = Used} (cond {A = Used} b (record { requests = (used_at used caller).requests + 1; bytes = (used_at used caller).bytes + size }) (used_at used c)) (used_in weight (h ++ Submit caller pipe number ask ∷ []) c)
-more_cases weight used h caller pipe number ask a size v z k c true s =
-    let e : c ≡ caller = eqb-true c caller s in
-    rw (e, k caller, z) (used_cases weight h (Submit caller pipe number ask) a caller true (eq-eqb caller caller refl) (ap Some v))
-more_cases weight used h caller pipe number ask a size v z k c false s =
-    rw (k c) (used_cases weight h (Submit caller pipe number ask) a c false (false_from_ne_true (caller == c) (λ g. both_ways (c == caller) s (eq-eqb c caller (sym (eqb-true caller c g))))) (ap Some v))
+more_cases : {A : Type 0} (weight : A → ℕ) (used : BTreeMap ℕ Used Global) (h : List (BoardEntry A)) (e : BoardEntry A) (a : A) (size : ℕ) → accepted_in e ≡ Some a → size ≡ weight a → IsKeptUsed weight used h → (c : ℕ) (b : Bool) → (c == caller_of e) ≡ b
+    → ◌≡◌ {A = Used} (cond {A = Used} b (record { requests = (used_at used (caller_of e)).requests + 1; bytes = (used_at used (caller_of e)).bytes + size }) (used_at used c)) (used_in weight (h ++ e ∷ []) c)
+more_cases weight used h e a size v z k c true s =
+    let q : c ≡ caller_of e = eqb-true c (caller_of e) s in
+    rw (q, k (caller_of e), z) (used_cases weight h e a (caller_of e) true (eq-eqb (caller_of e) (caller_of e) refl) v)
+more_cases weight used h e a size v z k c false s =
+    rw (k c) (used_cases weight h e a c false (false_from_ne_true (caller_of e == c) (λ g. both_ways (c == caller_of e) s (eq-eqb c (caller_of e) (sym (eqb-true (caller_of e) c g))))) v)
 
--- what a submission adds to what its caller has used
-pub used_more : {A : Type 0} (weight : A → ℕ) (used after : BTreeMap ℕ Used Global) (h : List (BoardEntry A)) (caller pipe number : ℕ) (ask : Arc A Global) (a : A) (size : ℕ) → arc_value ask ≡ a → size ≡ weight a → IsKeptUsed weight used h
-    → ((c : ℕ) → used_at after c ≡ cond {A = Used} (c == caller) (record { requests = (used_at used caller).requests + 1; bytes = (used_at used caller).bytes + size }) (used_at used c))
-    → IsKeptUsed weight after (h ++ Submit caller pipe number ask ∷ [])
-used_more {A} weight used after h caller pipe number ask a size v z k s = λ c. s c ∙ more_cases weight used h caller pipe number ask a size v z k c (c == caller) refl
+-- what an accepted request adds to what its caller has used
+pub used_more : {A : Type 0} (weight : A → ℕ) (used after : BTreeMap ℕ Used Global) (h : List (BoardEntry A)) (e : BoardEntry A) (a : A) (size : ℕ) → accepted_in e ≡ Some a → size ≡ weight a → IsKeptUsed weight used h
+    → ((c : ℕ) → used_at after c ≡ cond {A = Used} (c == caller_of e) (record { requests = (used_at used (caller_of e)).requests + 1; bytes = (used_at used (caller_of e)).bytes + size }) (used_at used c))
+    → IsKeptUsed weight after (h ++ e ∷ [])
+used_more weight used after h e a size v z k s = λ c. s c ∙ more_cases weight used h e a size v z k c (c == caller_of e) refl

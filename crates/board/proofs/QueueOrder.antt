@@ -16,25 +16,25 @@ use Rattle.board.specs.Legal.{IsRightFor, maker_is}
 use Rattle.board.specs.Order.{handed_in, handed_after, handed_out, AreRightForAfter, completed_in, completed, numbers_below}
 use Rattle.board.proofs.PadOrder.{filter_map-none, filter_map-some, last_or-append, birth_stays}
 
-not_both : (b : Option (ℕ × Shape)) → pad_born b ≡ true → queue_born b ≡ true → ⊥
+pub not_both : (b : Option (ℕ × Shape)) → pad_born b ≡ true → queue_born b ≡ true → ⊥
 not_both None p q = cc
 not_both (Some (maker, Pad lists)) p q = cc
 not_both (Some (maker, Queue max)) p q = cc
 
-no_pad : (b : Option (ℕ × Shape)) → queue_born b ≡ true → pad_born b ≡ false
+pub no_pad : (b : Option (ℕ × Shape)) → queue_born b ≡ true → pad_born b ≡ false
 no_pad None q = cc
 no_pad (Some (maker, Pad lists)) q = cc
 no_pad (Some (maker, Queue max)) q = refl
 
-queue_is_born : (b : Option (ℕ × Shape)) → queue_born b ≡ true → is_some b ≡ true
+pub queue_is_born : (b : Option (ℕ × Shape)) → queue_born b ≡ true → is_some b ≡ true
 queue_is_born None q = cc
 queue_is_born (Some x) q = refl
 
-pad_is_born : (b : Option (ℕ × Shape)) → pad_born b ≡ true → is_some b ≡ true
+pub pad_is_born : (b : Option (ℕ × Shape)) → pad_born b ≡ true → is_some b ≡ true
 pad_is_born None q = cc
 pad_is_born (Some x) q = refl
 
-told_on_queue : {A : Type 0} (es : List (BoardEntry A)) → queue_born (birth es) ≡ true → told es ≡ filter_map told_in es
+pub told_on_queue : {A : Type 0} (es : List (BoardEntry A)) → queue_born (birth es) ≡ true → told es ≡ filter_map told_in es
 told_on_queue es q = ap (λ b. cond b (completes_below (front es)) (filter_map told_in es)) (no_pad (birth es) q)
 
 length-numbers : (n : ℕ) → length (numbers_below n) ≡ n
@@ -50,7 +50,7 @@ has_cases n k (inl l) h ih = or_left (has k (numbers_below n)) (n == k || false)
 has_cases n k (inr g) h ih = or_right (has k (numbers_below n)) (n == k || false) (or_left (n == k) false (eq-eqb n k (omega arith)))
 
 -- a number below is among them
-has_below : (n k : ℕ) → k < n → has k (numbers_below n) ≡ true
+pub has_below : (n k : ℕ) → k < n → has k (numbers_below n) ≡ true
 has_below zero k l = absurd (omega arith)
 has_below (suc n) k l = list_any-append (λ m. m == k) (numbers_below n) (n ∷ []) ∙ has_cases n k (cases_lt k n) l (has_below n k)
 
@@ -84,7 +84,7 @@ no_completion : (A : Type 0) (caller pipe number : ℕ) (started : Option ℕ) �
 no_completion A caller pipe number None = refl
 no_completion A caller pipe number (Some s) = refl
 
-low_number : (m n : ℕ) → has n (numbers_below m) ≡ false → (n < m) ⊎ (m ≤ n) → m ≤ n
+pub low_number : (m n : ℕ) → has n (numbers_below m) ≡ false → (n < m) ⊎ (m ≤ n) → m ≤ n
 low_number m n h (inl l) = absurd (both_ways (has n (numbers_below m)) h (has_below m n l))
 low_number m n h (inr g) = g
 
@@ -199,12 +199,12 @@ begin_cases es caller pipe shape handed n (inl g) = begin es caller pipe shape h
 begin_cases [] caller pipe shape handed n (inr b) = cc
 begin_cases (x ∷ es) caller pipe shape handed n (inr b) = cc
 
-maker_born : (b : Option (ℕ × Shape)) (caller : ℕ) → maker_is b caller → is_some b ≡ true
+pub maker_born : (b : Option (ℕ × Shape)) (caller : ℕ) → maker_is b caller → is_some b ≡ true
 maker_born None caller h = absurd h
 maker_born (Some x) caller h = refl
 
 -- each right entry keeps a queue in order
-served_step : {A : Type 0} (es : List (BoardEntry A)) (e : BoardEntry A) (handed : List Notice) → IsServed es handed → IsRightFor es e → IsServed (es ++ e ∷ []) (handed ++ handed_in es e)
+pub served_step : {A : Type 0} (es : List (BoardEntry A)) (e : BoardEntry A) (handed : List Notice) → IsServed es handed → IsRightFor es e → IsServed (es ++ e ∷ []) (handed ++ handed_in es e)
 served_step es (Born caller pipe shape) handed o r = begin_cases es caller pipe shape handed r.1 o.begun
 served_step es (Submit caller pipe number ask) handed o r = on_pad es (Submit caller pipe number ask) (handed ++ []) r.1.0
 served_step es (Take caller pipe number) handed o r = on_pad es (Take caller pipe number) (handed ++ []) r.0.0

@@ -9,15 +9,15 @@ use Rattle.board.specs.declared.entry.Shape.{Shape}
 use Rattle.board.specs.declared.entry.Shape.TheVariants as shape
 use Rattle.board.specs.declared.entry.BoardEntry.{BoardEntry}
 use Rattle.board.specs.declared.entry.BoardEntry.TheVariants.{Born, Submit, Take, Finish, Enq, Deq, Done, Hold, Go, Collect, Close, Share, Shut}
-use Rattle.board.specs.Entries.{is_of, entries_of, birth, pad_born, accepted_in, submissions, taken_in, takings, takers, finished_in, finished, has, is_close, is_share, is_shared, meaning_at, caller_of, collected_in, collected, last_or, told, front, completes_below}
-use Rattle.board.specs.Legal.{IsMaker, maker_is, IsRight, IsRightFor, AreRightAfter, LegalBoard, MayFinish}
+use Rattle.board.specs.Entries.{is_of, entries_of, birth, pad_born, queue_born, starts, told_in, accepted_in, submissions, taken_in, takings, takers, finished_in, finished, has, is_close, is_share, is_shared, meaning_at, caller_of, collected_in, collected, last_or, told, front, completes_below}
+use Rattle.board.specs.Legal.{IsMaker, maker_is, IsRight, IsRightFor, AreRightAfter, LegalBoard, MayFinish, MayManage, IsOpen}
 use Rattle.board.specs.Order.{AreRightForAfter, numbers_below}
-use Rattle.board.specs.Staying.{OpensPad, StaysOpen, StaysManaged, StaysSubmitting, SlipStays, IsOpenFor, CollectDrains, is_work, WorkLeaves}
+use Rattle.board.specs.Staying.{IsDrained, OpensPad, OpensQueue, StaysOpen, QueueStaysOpen, StaysManaged, StaysSubmitting, SlipStays, IsOpenFor, IsOpenQueueFor, CollectDrains, is_work, WorkLeaves, IsWorkOf, TakingIsWork, FinishingIsWork}
 use Rattle.board.proofs.Transfer.{right_for, entries-more, entries-same, each_right}
 use Rattle.board.proofs.PadOrder.{filter_map-none, birth_stays, filter_map-some, last_or-append, told_on_pad}
 use Rattle.board.proofs.Kept.{takers-same, closed-same, has-more, collected-same}
 use Rattle.board.proofs.KeptTake.{takers-more}
-use Rattle.board.proofs.QueueOrder.{served_run, served_start, taker_among, has_only_below}
+use Rattle.board.proofs.QueueOrder.{served_run, served_start, taker_among, has_only_below, queue_is_born, told_on_queue}
 
 -- the last entry of a legal history is right, and what stands before it is legal
 pub before_last : {A : Type 0} (before h : List (BoardEntry A)) (e : BoardEntry A) → AreRightAfter before (h ++ e ∷ []) → AreRightAfter before h
@@ -43,6 +43,13 @@ opens_pad {A} h caller p lists legal =
     let es : entries_of p (h ++ e ∷ []) ≡ e ∷ [] = entries-more h p e (eq-eqb p p refl) ∙ ap (λ xs. xs ++ e ∷ []) r.1.1 in
     rw es ((refl, refl), (r.1.0, refl))
 
+pub opens_queue : {A : Type 0} (h : List (BoardEntry A)) (caller q max : ℕ) → OpensQueue h caller q max
+opens_queue {A} h caller q max legal =
+    let e : BoardEntry A = Born caller q (shape.Queue max) in
+    let r = last_right [] h e legal in
+    let es : entries_of q (h ++ e ∷ []) ≡ e ∷ [] = entries-more h q e (eq-eqb q q refl) ∙ ap (λ xs. xs ++ e ∷ []) r.1.1 in
+    rw es ((refl, refl), (r.1.0, refl))
+
 open_cases : {A : Type 0} (h : List (BoardEntry A)) (e : BoardEntry A) (p : ℕ) (b : Bool) → is_of p e ≡ b → StaysOpen h e p
 open_cases h e p true s o c =
     rw (entries-more h p e s) (ap pad_born (birth_stays (entries_of p h) e (pad_some _ o.0)) ∙ o.0, closed-same (entries_of p h) e c ∙ o.1)
@@ -50,6 +57,14 @@ open_cases h e p false s o c = rw (entries-same h p e s) o
 
 pub stays_open : {A : Type 0} (h : List (BoardEntry A)) (e : BoardEntry A) (p : ℕ) → StaysOpen h e p
 stays_open h e p = open_cases h e p (is_of p e) refl
+
+queue_open_cases : {A : Type 0} (h : List (BoardEntry A)) (e : BoardEntry A) (q : ℕ) (b : Bool) → is_of q e ≡ b → QueueStaysOpen h e q
+queue_open_cases h e q true s o c =
+    rw (entries-more h q e s) (ap queue_born (birth_stays (entries_of q h) e (queue_is_born _ o.0)) ∙ o.0, closed-same (entries_of q h) e c ∙ o.1)
+queue_open_cases h e q false s o c = rw (entries-same h q e s) o
+
+pub queue_stays_open : {A : Type 0} (h : List (BoardEntry A)) (e : BoardEntry A) (q : ℕ) → QueueStaysOpen h e q
+queue_stays_open h e q = queue_open_cases h e q (is_of q e) refl
 
 maker_more : {A : Type 0} (es : List (BoardEntry A)) (e : BoardEntry A) (caller : ℕ) → IsMaker es caller → IsMaker (es ++ e ∷ []) caller
 maker_more es e caller m = subst (λ b. maker_is b caller) (sym (birth_stays es e (maker_some (birth es) caller m))) m
@@ -152,6 +167,9 @@ slip_stays meaning h e p caller n out = slip_cases meaning h e p caller n out (i
 pub open_for_more : {A : Type 0} (old new : List (BoardEntry A)) (e : BoardEntry A) (p caller : ℕ) → new ≡ old ++ e ∷ [] → is_close e ≡ false → IsOpenFor old p caller → IsOpenFor new p caller
 open_for_more old new e p caller more c o = rw more (stays_open old e p o.0 c, stays_managed old e p caller o.1)
 
+pub queue_for_more : {A : Type 0} (old new : List (BoardEntry A)) (e : BoardEntry A) (q caller : ℕ) → new ≡ old ++ e ∷ [] → is_close e ≡ false → IsOpenQueueFor old q caller → IsOpenQueueFor new q caller
+queue_for_more old new e q caller more c o = rw more (queue_stays_open old e q o.0 c, stays_managed old e q caller o.1)
+
 pub slip_more : {A O : Type 0} (meaning : A → O) (old new : List (BoardEntry A)) (e : BoardEntry A) (p caller n : ℕ) (out : O) → new ≡ old ++ e ∷ [] → LegalBoard new → caller_of e ≢ caller → MayFinish meaning (entries_of p old) caller n out → MayFinish meaning (entries_of p new) caller n out
 slip_more meaning old new e p caller n out more legal other m = rw more (slip_stays meaning old e p caller n out (subst (λ h. LegalBoard h) more legal) other m)
 
@@ -161,6 +179,10 @@ appended_or_same old new more (Ok true) h = inl h
 appended_or_same old new more (Ok false) h = inr h
 appended_or_same old new more (Err e) h = inr h
 
+pub done_or_same : {X T E : Type 0} (old new more : X) (r : Result T E) → MatchResult r (λ _. new ≡ more) (λ _. new ≡ old) → (new ≡ more) ⊎ (new ≡ old)
+done_or_same old new more (Ok t) h = inl h
+done_or_same old new more (Err e) h = inr h
+
 pub open_after : {A : Type 0} (old new : List (BoardEntry A)) (e : BoardEntry A) (p caller : ℕ) → (new ≡ old ++ e ∷ []) ⊎ (new ≡ old) → is_close e ≡ false → IsOpenFor old p caller → IsOpenFor new p caller
 open_after old new e p caller (inl more) c o = open_for_more old new e p caller more c o
 open_after old new e p caller (inr same) c o = rw same o
@@ -168,6 +190,13 @@ open_after old new e p caller (inr same) c o = rw same o
 pub slip_after : {A O : Type 0} (meaning : A → O) (old new : List (BoardEntry A)) (e : BoardEntry A) (p caller n : ℕ) (out : O) → (new ≡ old ++ e ∷ []) ⊎ (new ≡ old) → LegalBoard new → caller_of e ≢ caller → MayFinish meaning (entries_of p old) caller n out → MayFinish meaning (entries_of p new) caller n out
 slip_after meaning old new e p caller n out (inl more) legal other m = slip_more meaning old new e p caller n out more legal other m
 slip_after meaning old new e p caller n out (inr same) legal other m = rw same m
+
+-- what is told stays where no more is accepted, finished or told
+told_stays : {A : Type 0} (es : List (BoardEntry A)) (e : BoardEntry A) → IsOpen es → front (es ++ e ∷ []) ≡ front es → told_in e ≡ None → told (es ++ e ∷ []) ≡ told es
+told_stays es e (inl o) f t =
+    told_on_pad (es ++ e ∷ []) (ap pad_born (birth_stays es e (pad_some (birth es) o.0)) ∙ o.0) ∙ (ap completes_below f ∙ sym (told_on_pad es o.0))
+told_stays es e (inr o) f t =
+    told_on_queue (es ++ e ∷ []) (ap queue_born (birth_stays es e (queue_is_born (birth es) o.0)) ∙ o.0) ∙ (filter_map-none told_in es e t ∙ sym (told_on_queue es o.0))
 
 pub collect_drains : {A : Type 0} (h : List (BoardEntry A)) (caller p to : ℕ) → CollectDrains h caller p to
 collect_drains {A} h caller p to legal opened all =
@@ -178,10 +207,19 @@ collect_drains {A} h caller p to legal opened all =
     let subs : submissions (es ++ e ∷ []) ≡ submissions es = filter_map-none accepted_in es e refl in
     let fins : finished (es ++ e ∷ []) ≡ finished es = filter_map-none finished_in es e refl in
     let f : front (es ++ e ∷ []) ≡ front es = rw (subs, fins) refl in
-    let b = birth_stays es e (pad_some (birth es) opened.0) in
-    let t : told (es ++ e ∷ []) ≡ told es = told_on_pad (es ++ e ∷ []) (ap pad_born b ∙ opened.0) ∙ (ap completes_below f ∙ sym (told_on_pad es opened.0)) in
+    let t : told (es ++ e ∷ []) ≡ told es = told_stays es e opened f refl in
     let c : collected (es ++ e ∷ []) ≡ to = ap (last_or 0) (filter_map-some collected_in es e to refl) ∙ last_or-append 0 (filter_map collected_in es) to in
     rw more (f ∙ (all ∙ ap length (sym subs)), c ∙ (right.2 ∙ ap length (sym t)))
+
+work_if : {A : Type 0} (b : Bool) (x y : BoardEntry A) (caller : ℕ) → IsWorkOf x caller → IsWorkOf y caller → IsWorkOf (cond b x y) caller
+work_if true x y caller w v = w
+work_if false x y caller w v = v
+
+pub taking_is_work : {A : Type 0} (h : List (BoardEntry A)) (caller p n : ℕ) → TakingIsWork h caller p n
+taking_is_work h caller p n = work_if (pad_born (birth (entries_of p h))) (Take caller p n) (Deq caller p n (starts (entries_of p h) n)) caller (refl, refl, refl) (refl, refl, refl)
+
+pub finishing_is_work : {A : Type 0} (h : List (BoardEntry A)) (caller p n : ℕ) → FinishingIsWork h caller p n
+finishing_is_work h caller p n = work_if (pad_born (birth (entries_of p h))) (Finish caller p n) (Done caller p n) caller (refl, refl, refl) (refl, refl, refl)
 
 accepts_none : {A : Type 0} (e : BoardEntry A) → is_work e ≡ true → (accepted_in e ≡ None) × (collected_in e ≡ None)
 accepts_none (Born caller pipe shape) w = cc
@@ -205,3 +243,15 @@ work_cases h e p false s w = rw (entries-same h p e s) (refl, refl)
 
 pub work_leaves : {A : Type 0} (h : List (BoardEntry A)) (e : BoardEntry A) (p : ℕ) → WorkLeaves h e p
 work_leaves h e p = work_cases h e p (is_of p e) refl
+
+pub queue_after : {A : Type 0} (old new : List (BoardEntry A)) (e : BoardEntry A) (q caller : ℕ) → (new ≡ old ++ e ∷ []) ⊎ (new ≡ old) → is_close e ≡ false → IsOpenQueueFor old q caller → IsOpenQueueFor new q caller
+queue_after old new e q caller (inl more) c o = queue_for_more old new e q caller more c o
+queue_after old new e q caller (inr same) c o = rw same o
+
+-- a queue that a call drained may be closed
+pub drained_open : {A : Type 0} (old new : List (BoardEntry A)) (p to caller : ℕ) (all : Bool) → all ≡ true → MatchBool all (new ≡ old ++ Collect caller p to ∷ []) (new ≡ old) → MatchBool all (front (entries_of p old) ≡ length (submissions (entries_of p old))) (front (entries_of p old) < length (submissions (entries_of p old))) → LegalBoard new → IsOpenQueueFor old p caller
+    → MayManage (entries_of p new) caller × IsOpen (entries_of p new) × IsDrained (entries_of p new)
+drained_open old new p to caller false t more f legal o = cc
+drained_open {A} old new p to caller true t more f legal o =
+    let e : BoardEntry A = Collect caller p to in
+    rw more (stays_managed old e p caller o.1, inr (queue_stays_open old e p o.0 refl), collect_drains old caller p to (subst (λ h. LegalBoard h) more legal) (inr o.0) f)

@@ -1,4 +1,4 @@
-use Rattle.std.specs.Prelude.{◌≢◌, ℕ, zero, suc, ◌+◌, ◌-◌, ◌<◌, Bool, true, false, ◌==◌, nat_lt, if◌then◌else◌, List, [], ◌∷◌, ◌++◌, length, filter, map, take, drop, Option, Some, None, slice_get}
+use Rattle.std.specs.Prelude.{◌≡◌, ◌≢◌, ◌⊎◌, ℕ, zero, suc, ◌+◌, ◌-◌, ◌<◌, Bool, true, false, ◌==◌, nat_lt, if◌then◌else◌, List, [], ◌∷◌, ◌++◌, length, filter, map, take, drop, Option, Some, None, slice_get}
 use Rattle.std.specs.List.{filter_map, list_any}
 use Rattle.std.specs.Arc.{arc_value}
 use Rattle.kc_base.specs.declared.callback_list.Callback.{Callback}
@@ -82,10 +82,6 @@ takings es = filter_map taken_in es
 abbrev pub takers : {A : Type 0} → ℕ → List (BoardEntry A) → List ℕ
 takers n es = map (λ t. t.1) (filter (λ t. t.0 == n) (takings es))
 
--- each request of each pipeline is taken
-abbrev pub NoneWaits : {A : Type 0} → List (BoardEntry A) → Type 0
-NoneWaits h = (p n : ℕ) → n < length (submissions (entries_of p h)) → takers n (entries_of p h) ≢ []
-
 -- the numbers that are finished
 abbrev pub finished_in : {A : Type 0} → BoardEntry A → Option ℕ
 finished_in (Finish caller pipe number) = Some number
@@ -121,6 +117,22 @@ verdict es backlog =
 abbrev pub starts : {A : Type 0} → List (BoardEntry A) → ℕ → Option ℕ
 starts es n =
     if nat_lt (n + max_born (birth es)) (length (submissions es)) then Some (n + max_born (birth es)) else None
+
+-- the entry by which this number is taken: on a pad a Take, on a queue a Deq with what it starts
+abbrev pub take_entry : {A : Type 0} → List (BoardEntry A) → ℕ → ℕ → ℕ → BoardEntry A
+take_entry h caller pipe number =
+    if pad_born (birth (entries_of pipe h)) then Take caller pipe number else Deq caller pipe number (starts (entries_of pipe h) number)
+
+-- the entry by which it is finished: on a pad a Finish, on a queue a Done
+abbrev pub finish_entry : {A : Type 0} → List (BoardEntry A) → ℕ → ℕ → ℕ → BoardEntry A
+finish_entry h caller pipe number =
+    if pad_born (birth (entries_of pipe h)) then Finish caller pipe number else Done caller pipe number
+
+-- how many entries of work follow on a queue's answer
+abbrev pub work_of : Entered → ℕ
+work_of (InProgress number) = 2
+work_of (Busy number) = 2
+work_of NoSpace = 0
 
 -- what a pipeline tells of its requests, by their numbers
 pub data Notice : Type 0 where
@@ -160,6 +172,21 @@ held_in _ = None
 
 abbrev pub is_held : {A : Type 0} → List (BoardEntry A) → Bool
 is_held es = last_or false (filter_map held_in es)
+
+-- each request of the pad is taken
+abbrev pub AllTaken : {A : Type 0} → List (BoardEntry A) → Type 0
+AllTaken es = (n : ℕ) → n < length (submissions es) → takers n es ≢ []
+
+-- the queue may not be served: it is held, or a job of it runs, or none waits
+abbrev pub IsHeldBusyOrEmpty : {A : Type 0} → List (BoardEntry A) → Type 0
+IsHeldBusyOrEmpty es = (is_held es ≡ true) ⊎ ((length (finished es) < length (takings es)) ⊎ (waiting es ≡ 0))
+
+-- no pad has an untaken number, and no queue may be served
+abbrev pub NoneWaits : {A : Type 0} → List (BoardEntry A) → Type 0
+NoneWaits h =
+    (p : ℕ)
+    → (pad_born (birth (entries_of p h)) ≡ true → AllTaken (entries_of p h))
+    × (queue_born (birth (entries_of p h)) ≡ true → IsHeldBusyOrEmpty (entries_of p h))
 
 abbrev pub is_close : {A : Type 0} → BoardEntry A → Bool
 is_close (Close caller pipe) = true

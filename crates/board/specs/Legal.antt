@@ -34,6 +34,10 @@ IsOpenPad es = (pad_born (birth es) ≡ true) × (is_closed es ≡ false)
 abbrev pub IsOpenQueue : {A : Type 0} → List (BoardEntry A) → Type 0
 IsOpenQueue es = (queue_born (birth es) ≡ true) × (is_closed es ≡ false)
 
+-- an open pad or an open queue
+abbrev pub IsOpen : {A : Type 0} → List (BoardEntry A) → Type 0
+IsOpen es = IsOpenPad es ⊎ IsOpenQueue es
+
 -- this caller took the number and hasn't finished it, and this is what the number's ask means
 abbrev pub MayFinish : {A O : Type 0} → (A → O) → List (BoardEntry A) → ℕ → ℕ → O → Type 0
 MayFinish meaning es caller n out =

@@ -1,7 +1,8 @@
-use Rattle.std.specs.Prelude.{◌≡◌, ℕ, zero, suc, ◌<◌, ◌≤◌, true, List, [], ◌∷◌, ◌++◌, length, take, drop, Option, Some, None}
+use Rattle.std.specs.Prelude.{◌≡◌, ℕ, zero, suc, ◌<◌, ◌≤◌, ◌==◌, true, List, [], ◌∷◌, ◌++◌, length, filter, take, drop, Option, Some, None, slice_get}
 use Rattle.std.specs.List.{filter_map}
 use Rattle.board.specs.declared.entry.BoardEntry.{BoardEntry}
-use Rattle.board.specs.declared.entry.BoardEntry.TheVariants.{Collect}
+use Rattle.board.specs.declared.entry.Entered.TheVariants.{Busy}
+use Rattle.board.specs.declared.entry.BoardEntry.TheVariants.{Enq, Collect}
 use Rattle.board.specs.Entries.{Notice, Starts, Completes, entries_of, birth, pad_born, queue_born, finished, has, completes_below, front, submissions, told, collected}
 use Rattle.board.specs.Legal.{IsRightFor, LegalBoard}
 
@@ -66,3 +67,39 @@ abbrev pub QueuesHandOutTold : {A : Type 0} → List (BoardEntry A) → ℕ → 
 QueuesHandOutTold h q =
     LegalBoard h → queue_born (birth (entries_of q h)) ≡ true
     → handed_out (entries_of q h) ≡ take (collected (entries_of q h)) (told (entries_of q h))
+
+-- the numbers that a queue accepted into its backlog
+abbrev pub backlogged_in : {A : Type 0} → BoardEntry A → Option ℕ
+backlogged_in (Enq caller pipe ask backlog (Busy number)) = Some number
+backlogged_in _ = None
+
+abbrev pub backlogged : {A : Type 0} → List (BoardEntry A) → List ℕ
+backlogged es = filter_map backlogged_in es
+
+-- the numbers that are told to have started among these notices
+abbrev pub started_in : Notice → Option ℕ
+started_in (Starts n) = Some n
+started_in (Completes n) = None
+
+abbrev pub started : List Notice → List ℕ
+started notices = filter_map started_in notices
+
+-- how often a number is in a list
+abbrev pub times : ℕ → List ℕ → ℕ
+times n ns = length (filter (λ m. m == n) ns)
+
+-- a queue tells of backlogged requests alone that they have started
+abbrev pub StartsBackloggedAlone : {A : Type 0} → List (BoardEntry A) → ℕ → ℕ → Type 0
+StartsBackloggedAlone h q n =
+    LegalBoard h → queue_born (birth (entries_of q h)) ≡ true
+    → has n (started (told (entries_of q h))) ≡ true → has n (backlogged (entries_of q h)) ≡ true
+
+-- of each at most once
+abbrev pub StartsEachOnce : {A : Type 0} → List (BoardEntry A) → ℕ → ℕ → Type 0
+StartsEachOnce h q n = LegalBoard h → queue_born (birth (entries_of q h)) ≡ true → times n (started (told (entries_of q h))) ≤ 1
+
+-- and before the completion of a backlogged request it has told just once that this request started
+abbrev pub StartsBeforeCompletion : {A : Type 0} → List (BoardEntry A) → ℕ → ℕ → ℕ → Type 0
+StartsBeforeCompletion h q n k =
+    LegalBoard h → queue_born (birth (entries_of q h)) ≡ true → has n (backlogged (entries_of q h)) ≡ true
+    → slice_get (told (entries_of q h)) k ≡ Some (Completes n) → times n (started (take k (told (entries_of q h)))) ≡ 1

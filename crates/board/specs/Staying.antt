@@ -1,21 +1,34 @@
 use Rattle.std.specs.Prelude.{◌≡◌, ◌≢◌, ℕ, Bool, true, false, List, [], ◌∷◌, ◌++◌, length}
-use Rattle.board.specs.declared.entry.Shape.TheVariants.{Pad}
+use Rattle.board.specs.declared.entry.Shape.TheVariants.{Pad, Queue}
 use Rattle.board.specs.declared.entry.BoardEntry.{BoardEntry}
 use Rattle.board.specs.declared.entry.BoardEntry.TheVariants.{Born, Take, Finish, Deq, Done, Collect}
-use Rattle.board.specs.Entries.{entries_of, submissions, front, told, collected, is_close, caller_of}
-use Rattle.board.specs.Legal.{IsOpenPad, MaySubmit, MayManage, MayFinish, LegalBoard}
+use Rattle.board.specs.Entries.{entries_of, submissions, front, told, collected, is_close, caller_of, take_entry, finish_entry}
+use Rattle.board.specs.Legal.{IsOpenPad, IsOpenQueue, IsOpen, MaySubmit, MayManage, MayFinish, LegalBoard}
 
 -- the pad is open, and this caller manages it
 abbrev pub IsOpenFor : {A : Type 0} → List (BoardEntry A) → ℕ → ℕ → Type 0
 IsOpenFor h p caller = IsOpenPad (entries_of p h) × MayManage (entries_of p h) caller
 
+-- the queue is open, and this caller manages it
+abbrev pub IsOpenQueueFor : {A : Type 0} → List (BoardEntry A) → ℕ → ℕ → Type 0
+IsOpenQueueFor h q caller = IsOpenQueue (entries_of q h) × MayManage (entries_of q h) caller
+
 -- a pad that was just made is open, and its maker manages it
 abbrev pub OpensPad : {A : Type 0} → List (BoardEntry A) → ℕ → ℕ → ℕ → Type 0
 OpensPad h caller p lists = LegalBoard (h ++ Born caller p (Pad lists) ∷ []) → IsOpenFor (h ++ Born caller p (Pad lists) ∷ []) p caller
 
+-- and so is a queue
+abbrev pub OpensQueue : {A : Type 0} → List (BoardEntry A) → ℕ → ℕ → ℕ → Type 0
+OpensQueue h caller q max =
+    LegalBoard (h ++ Born caller q (Queue max) ∷ []) → IsOpenQueueFor (h ++ Born caller q (Queue max) ∷ []) q caller
+
 -- an open pad stays open until it is closed
 abbrev pub StaysOpen : {A : Type 0} → List (BoardEntry A) → BoardEntry A → ℕ → Type 0
 StaysOpen h e p = IsOpenPad (entries_of p h) → is_close e ≡ false → IsOpenPad (entries_of p (h ++ e ∷ []))
+
+-- and so does an open queue
+abbrev pub QueueStaysOpen : {A : Type 0} → List (BoardEntry A) → BoardEntry A → ℕ → Type 0
+QueueStaysOpen h e q = IsOpenQueue (entries_of q h) → is_close e ≡ false → IsOpenQueue (entries_of q (h ++ e ∷ []))
 
 -- who manages a pipeline, or may submit to it, may do so later
 abbrev pub StaysManaged : {A : Type 0} → List (BoardEntry A) → BoardEntry A → ℕ → ℕ → Type 0
@@ -34,10 +47,10 @@ SlipStays meaning h e p caller n out =
 abbrev pub IsDrained : {A : Type 0} → List (BoardEntry A) → Type 0
 IsDrained es = (front es ≡ length (submissions es)) × (collected es ≡ length (told es))
 
--- an open pad of which each request is finished is drained by a collect
+-- an open pad or queue of which each request is finished is drained by a collect
 abbrev pub CollectDrains : {A : Type 0} → List (BoardEntry A) → ℕ → ℕ → ℕ → Type 0
 CollectDrains h caller p to =
-    LegalBoard (h ++ Collect caller p to ∷ []) → IsOpenPad (entries_of p h)
+    LegalBoard (h ++ Collect caller p to ∷ []) → IsOpen (entries_of p h)
     → front (entries_of p h) ≡ length (submissions (entries_of p h)) → IsDrained (entries_of p (h ++ Collect caller p to ∷ []))
 
 -- what workers do
@@ -54,3 +67,14 @@ WorkLeaves h e p =
     is_work e ≡ true
     → (submissions (entries_of p (h ++ e ∷ [])) ≡ submissions (entries_of p h))
     × (collected (entries_of p (h ++ e ∷ [])) ≡ collected (entries_of p h))
+
+-- the entry is work of this caller's
+abbrev pub IsWorkOf : {A : Type 0} → BoardEntry A → ℕ → Type 0
+IsWorkOf e caller = (is_work e ≡ true) × (caller_of e ≡ caller) × (is_close e ≡ false)
+
+-- to take a number and to finish it is work
+abbrev pub TakingIsWork : {A : Type 0} → List (BoardEntry A) → ℕ → ℕ → ℕ → Type 0
+TakingIsWork h caller p n = IsWorkOf (take_entry h caller p n) caller
+
+abbrev pub FinishingIsWork : {A : Type 0} → List (BoardEntry A) → ℕ → ℕ → ℕ → Type 0
+FinishingIsWork h caller p n = IsWorkOf (finish_entry h caller p n) caller

@@ -52,6 +52,25 @@ pub(crate) fn spend(
     Ok(())
 }
 
+/// Adds a request of `size` bytes to what the caller has used, where it is accepted. Want of memory changes nothing.
+pub(crate) fn spend_if(
+    accepted: bool,
+    used: &mut BTreeMap<u32, Used>,
+    caller: u32,
+    size: u64,
+) -> Result<(), AllocError>
+    requires requests { (used_at used.old caller).requests < 2 ^ 32 }
+    requires bytes { (used_at used.old caller).bytes + size < 2 ^ 32 }
+    ensures ok { OnOk result ((c : ℕ) → used_at used.new c ≡ (if accepted then (if c == caller then record { requests = (used_at used.old caller).requests + 1; bytes = (used_at used.old caller).bytes + size } else used_at used.old c) else used_at used.old c)) }
+    ensures err { OnErr result ((c : ℕ) → used_at used.new c ≡ used_at used.old c) }
+{
+    if accepted {
+        spend(used, caller, size)
+    } else {
+        Ok(())
+    }
+}
+
 /// Whether the allowance has room for one more request of `size` bytes.
 pub(crate) fn is_allowed(used: Used, size: u64) -> bool
     ensures { IsTrue result ↔ ((used.requests < 2 ^ 20) × (used.bytes + size ≤ 2 ^ 26)) }

@@ -1,5 +1,9 @@
 //! What happens on a board.
 
+ghost use Rattle.std.specs.Prelude.{◌≡◌, if◌then◌else◌};
+ghost use Rattle.board.specs.declared.entry.BoardEntry.TheVariants as Entry;
+ghost use Rattle.board.specs.Entries.{work_of};
+
 use std::alloc::Global;
 use std::sync::Arc;
 
@@ -103,4 +107,59 @@ pub enum BoardEntry<A> {
     Shut {
         caller: u32,
     },
+}
+
+/// The entry by which a pad's or a queue's number is taken.
+pub(crate) fn take_entry<A>(
+    pad: bool,
+    caller: u32,
+    pipe: u64,
+    number: u64,
+    started: Option<u64>,
+) -> BoardEntry<A>
+    ensures { result ≡ (if pad then Entry.Take caller pipe number else Entry.Deq caller pipe number started) }
+{
+    if pad {
+        BoardEntry::Take {
+            caller,
+            pipe,
+            number,
+        }
+    } else {
+        BoardEntry::Deq {
+            caller,
+            pipe,
+            number,
+            started,
+        }
+    }
+}
+
+/// The entry by which a pad's or a queue's number is finished.
+pub(crate) fn finish_entry<A>(pad: bool, caller: u32, pipe: u64, number: u64) -> BoardEntry<A>
+    ensures { result ≡ (if pad then Entry.Finish caller pipe number else Entry.Done caller pipe number) }
+{
+    if pad {
+        BoardEntry::Finish {
+            caller,
+            pipe,
+            number,
+        }
+    } else {
+        BoardEntry::Done {
+            caller,
+            pipe,
+            number,
+        }
+    }
+}
+
+/// How many entries of work follow on a queue's answer: two where it accepts.
+pub(crate) fn work_entries(answer: Entered) -> usize
+    ensures { result ≡ work_of answer }
+{
+    match answer {
+        Entered::InProgress(_) | Entered::Busy(_) => 2,
+        Entered::NoSpace => 0,
+    }
 }

@@ -10,8 +10,8 @@ ghost use Rattle.board.specs.declared.entry.BoardEntry.{BoardEntry};
 ghost use Rattle.board.specs.declared.entry.BoardEntry.TheVariants.{Submit, Finish, Enq, Deq, Go, Collect, Close};
 ghost use Rattle.board.specs.Entries.{Starts, Completes, told, entries_of, delivered};
 ghost use Rattle.board.specs.Legal.{IsRight, LegalBoard};
-ghost use Rattle.board.specs.Order.{PadsKeepOrder, PadsWaitForEach, PadsHandOutAll, QueuesKeepOrder, QueuesHandOutTold};
-ghost use Rattle.board.specs.Staying.{OpensPad, StaysOpen, StaysManaged, StaysSubmitting, SlipStays, CollectDrains, WorkLeaves};
+ghost use Rattle.board.specs.Order.{PadsKeepOrder, PadsWaitForEach, PadsHandOutAll, QueuesKeepOrder, QueuesHandOutTold, StartsBackloggedAlone, StartsEachOnce, StartsBeforeCompletion};
+ghost use Rattle.board.specs.Staying.{OpensPad, OpensQueue, StaysOpen, QueueStaysOpen, StaysManaged, StaysSubmitting, SlipStays, CollectDrains, WorkLeaves, TakingIsWork, FinishingIsWork};
 ghost use Rattle.board.specs.Examples.{held_requests, held_queue, second_first};
 
 /// In every legal history a pad hands out the completions of its requests in their order, each once, however its jobs were
@@ -28,15 +28,28 @@ pub fn queues_keep_order<A>()
     ensures front_of { (h : List (BoardEntry A)) (q : ℕ) → QueuesHandOutTold h q }
 {}
 
+/// In every legal history what a queue tells has `started` of backlogged requests alone, of each at most once, and of each
+/// whose completion it tells exactly once before that.
+pub fn queues_start_backlog<A>()
+    ensures alone { (h : List (BoardEntry A)) (q n : ℕ) → StartsBackloggedAlone h q n }
+    ensures once { (h : List (BoardEntry A)) (q n : ℕ) → StartsEachOnce h q n }
+    ensures before { (h : List (BoardEntry A)) (q n k : ℕ) → StartsBeforeCompletion h q n k }
+{}
+
 /// What stays of a pipeline while a history goes on: it is open until it is closed, who may manage it or submit to it may do
-/// so later, and work accepts nothing and hands nothing out. A pad of which all is finished may be closed after a collect.
+/// so later, and work accepts nothing and hands nothing out. A pad or queue of which all is finished may be closed after a
+/// collect. What `take` and `finish` add is work of their caller's.
 pub fn pipelines_stay<A>()
     ensures born { (h : List (BoardEntry A)) (caller p lists : ℕ) → OpensPad h caller p lists }
+    ensures queue_born { (h : List (BoardEntry A)) (caller q max : ℕ) → OpensQueue h caller q max }
     ensures stays_open { (h : List (BoardEntry A)) (e : BoardEntry A) (p : ℕ) → StaysOpen h e p }
+    ensures queue_stays_open { (h : List (BoardEntry A)) (e : BoardEntry A) (q : ℕ) → QueueStaysOpen h e q }
     ensures managed { (h : List (BoardEntry A)) (e : BoardEntry A) (p caller : ℕ) → StaysManaged h e p caller }
     ensures submitting { (h : List (BoardEntry A)) (e : BoardEntry A) (p caller : ℕ) → StaysSubmitting h e p caller }
     ensures work { (h : List (BoardEntry A)) (e : BoardEntry A) (p : ℕ) → WorkLeaves h e p }
     ensures drained { (h : List (BoardEntry A)) (caller p to : ℕ) → CollectDrains h caller p to }
+    ensures taking { (h : List (BoardEntry A)) (caller p n : ℕ) → TakingIsWork h caller p n }
+    ensures finishing { (h : List (BoardEntry A)) (caller p n : ℕ) → FinishingIsWork h caller p n }
 {}
 
 /// Who took a job may finish it, with the value of the same ask, whatever others do meanwhile.

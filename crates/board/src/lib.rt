@@ -6,17 +6,25 @@
 mod allowance;
 mod board_core;
 mod entry;
+mod handing_out;
 mod laws;
 mod log;
 mod pipeline;
 #[cfg(test)]
+mod queue_tests;
+mod queues;
+mod submitting;
+#[cfg(test)]
 mod tests;
 mod work;
+mod working;
 
-pub use board_core::{BoardCore, BoardErr, Slip, Taken};
+pub use board_core::{BoardCore, BoardErr};
 pub use entry::{BoardEntry, Entered, Shape};
 pub use laws::{
-    legal_pads, legal_queues, pads_keep_order, pipelines_stay, queues_keep_order, slips_stay,
+    legal_pads, legal_queues, pads_keep_order, pipelines_stay, queues_keep_order,
+    queues_start_backlog, slips_stay,
 };
 pub use log::BoardLog;
 pub use work::Work;
+pub use working::{Slip, Taken};

@@ -11,14 +11,14 @@ use std::test::Fail;
 
 /// What is asked: a letter to be said again, for so many bytes of the allowance.
 #[derive(Debug, Drop)]
-struct Letter {
+pub(crate) struct Letter {
     letter: char,
     bytes: u64,
 }
 
 /// A job that says its letter again.
 #[derive(Drop)]
-struct Echo {
+pub(crate) struct Echo {
     letter: char,
     bytes: u64,
 }
@@ -51,7 +51,7 @@ impl Work for Echo {
     }
 }
 
-fn saying(letter: char, bytes: u64) -> Echo {
+pub(crate) fn saying(letter: char, bytes: u64) -> Echo {
     Echo { letter, bytes }
 }
 

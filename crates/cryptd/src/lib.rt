@@ -4,7 +4,7 @@
 #[cfg(test)]
 mod tests;
 
-ghost use Rattle.std.specs.Prelude.{◌≡◌, ℕ, ◌+◌, ◌-◌, ◌*◌, ◌^◌, ◌<◌, ◌≤◌, Bool, true, false, ◌||◌, List, [], ◌∷◌, ◌++◌, length, IfOk, OnOk, MatchOption, ◌⊎◌};
+ghost use Rattle.std.specs.Prelude.{◌≡◌, ℕ, ◌+◌, ◌-◌, ◌*◌, ◌^◌, ◌<◌, ◌≤◌, nat_lt, Bool, true, false, ◌||◌, List, [], ◌∷◌, ◌++◌, length, IfOk, OnOk, MatchBool, MatchOption, ◌⊎◌};
 ghost use Rattle.kc_base.specs.declared.callback_list.Callback.TheVariants as Callback;
 ghost use Rattle.request_queue.specs.Line.{accepted, verdict_on, line_after, number_at_bound};
 ghost use Rattle.cryptd.specs.Server.{started_callback, spare_after};
@@ -51,6 +51,34 @@ impl<J: Drop, F: Drop> Cryptd<J, F> {
             pending: VecDeque::new(alloc),
             spare: 0,
         })
+    }
+
+    /// How many were accepted.
+    pub fn accepted(&self) -> u64
+        ensures { result ≡ accepted self.now.line }
+    {
+        self.queue.accepted()
+    }
+
+    /// Whether a job that came now would be accepted: fewer than `max` wait, or it may wait in the backlog.
+    pub fn accepts(&self, backlog: bool) -> bool
+        ensures { result ≡ (nat_lt (length self.now.line.waiting) self.now.line.max || backlog) }
+    {
+        self.queue.accepts(backlog)
+    }
+
+    /// Whether a job would be served now: some wait, none runs, and the queue isn't held.
+    pub fn may_serve(&self) -> bool
+        ensures { MatchBool result ((self.now.held ≡ false) × (self.now.busy ≡ false) × (0 < length self.now.line.waiting)) ((self.now.held ≡ true) ⊎ ((self.now.busy ≡ true) ⊎ (self.now.line.waiting ≡ []))) }
+    {
+        !self.held && !self.busy && self.queue.len() > 0
+    }
+
+    /// Whether each accepted job is done.
+    pub fn is_idle(&self) -> bool
+        ensures { MatchBool result ((self.now.busy ≡ false) × (length self.now.line.waiting ≡ 0)) ((self.now.busy ≡ true) ⊎ (0 < length self.now.line.waiting)) }
+    {
+        !self.busy && self.queue.len() == 0
     }
 
     /// Makes room for `n` more jobs at least, and for what is told of them. Want of memory leaves the rest as it was.

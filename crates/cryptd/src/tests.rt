@@ -13,7 +13,11 @@ fn a_held_queue_serves_its_backlog_in_order(rt: HostRuntime) -> Result<(), Fail>
     assert!(rt; matches!(queue.enqueue(2, 'c', true), Verdict::Busy));
     assert!(rt; matches!(queue.enqueue(3, 'd', false), Verdict::NoSpace('d')));
     assert!(rt; queue.serve().is_none());
+    assert!(rt; !queue.may_serve() && !queue.is_idle());
+    assert!(rt; queue.accepts(true) && !queue.accepts(false));
+    assert_eq!(rt; queue.accepted(), 3);
     queue.go();
+    assert!(rt; queue.may_serve());
     for _ in 0..3 {
         match queue.serve() {
             Some(served) => {
@@ -25,6 +29,7 @@ fn a_held_queue_serves_its_backlog_in_order(rt: HostRuntime) -> Result<(), Fail>
             None => panic!(rt; "a job waits"),
         }
     }
+    assert!(rt; queue.is_idle() && !queue.may_serve());
     let mut into = Callbacks::new(rt.alloc());
     into.reserve(queue.pending())?;
     queue.collect(&mut into);

@@ -4,7 +4,7 @@
 #[cfg(test)]
 mod tests;
 
-ghost use Rattle.std.specs.Prelude.{◌≡◌, ℕ, ◌+◌, ◌-◌, ◌^◌, ◌<◌, ◌≤◌, List, [], ◌∷◌, ◌++◌, length, IfOk, OnOk, MatchOption};
+ghost use Rattle.std.specs.Prelude.{◌≡◌, ℕ, ◌+◌, ◌-◌, ◌^◌, ◌<◌, ◌≤◌, nat_lt, ◌||◌, List, [], ◌∷◌, ◌++◌, length, IfOk, OnOk, MatchOption};
 ghost use Rattle.request_queue.specs.Line.{accepted, verdict_on, line_after, number_at_bound};
 
 use std::alloc::{AllocError, Global};
@@ -70,6 +70,20 @@ impl<T: Drop> Queue<T> {
         ensures { result ≡ length self.now.waiting }
     {
         self.waiting.len()
+    }
+
+    /// How many were accepted.
+    pub fn accepted(&self) -> u64
+        ensures { result ≡ accepted self.now }
+    {
+        self.served + self.waiting.len() as u64
+    }
+
+    /// Whether an item that came now would be accepted: fewer than `max` wait, or it may wait in the backlog.
+    pub fn accepts(&self, backlog: bool) -> bool
+        ensures { result ≡ (nat_lt (length self.now.waiting) self.now.max || backlog) }
+    {
+        self.waiting.len() < self.max as usize || backlog
     }
 
     /// Makes room for `n` more items at least, which `enqueue` takes without memory. Want of memory leaves the queue as it was.

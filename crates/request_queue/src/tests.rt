@@ -10,6 +10,8 @@ fn a_queue_of_one_takes_one_item(rt: HostRuntime) -> Result<(), Fail> {
     assert!(rt; matches!(queue.enqueue(1, 'c', true), Verdict::Busy));
     assert!(rt; matches!(queue.enqueue(2, 'd', true), Verdict::Busy));
     assert_eq!(rt; queue.len(), 3);
+    assert_eq!(rt; queue.accepted(), 3);
+    assert!(rt; queue.accepts(true) && !queue.accepts(false));
     for (number, item, started) in [(0, 'a', Some(1)), (1, 'c', Some(2)), (2, 'd', None)] {
         match queue.dequeue() {
             Some(served) => {

@@ -1,9 +1,9 @@
-use Rattle.std.proofs.Common.{refl, ap, sym, ◌∙◌, ◌≡◌, Some}
-use Rattle.board.proofs.Staying.{open_for_more}
+use Rattle.std.proofs.Common.{ap, sym, ◌∙◌, ◌≡◌, Some}
+use Rattle.board.proofs.Staying.{open_for_more, taking_is_work, finishing_is_work}
 use Rattle.board.proofs.tests.second_first.Goals as goal
 
 pub work-requires-after_bounds : goal.work-requires-after_bounds
-work-requires-after_bounds g c κs within = open_for_more _ _ _ c.args.pipe 0 c.in-Some.ensures.taken.0 refl c.requires
+work-requires-after_bounds g c κs within = open_for_more _ _ _ c.args.pipe 0 c.in-Some.ensures.taken.0 (taking_is_work c.args.board.now 1 c.in-Some.first.slip.pipe c.in-Some.first.slip.number).2 c.requires
 
 pub finish-requires-clause-took : goal.finish-requires-clause-took
 finish-requires-clause-took g c κs within =
@@ -21,4 +21,4 @@ finish-requires-clause-right g c κs within =
     (c.drain-early.ensures.others 1 c.in-Some.first.slip.pipe c.in-Some.first.slip.number _ (λ (h : 0 ≡ 1). cc) worked).2 ∙ ap Some (sym c.run-out.ensures)
 
 pub returns : goal.returns
-returns g c = open_for_more _ _ _ c.args.pipe 0 c.finish.ensures.finished refl c.drain-early.ensures.open
+returns g c = open_for_more _ _ _ c.args.pipe 0 c.finish.ensures.finished (finishing_is_work c.drain-early.new.board 1 c.in-Some.first.slip.pipe c.in-Some.first.slip.number).2 c.drain-early.ensures.open

@@ -1,10 +1,11 @@
-use Rattle.std.proofs.Common.{arith, ◌≡◌, length, sym, ◌∙◌, subst, refl}
+use Rattle.std.proofs.Common.{arith, ◌≡◌, length, Some, sym, ◌∙◌, ap, subst, refl}
 use Rattle.board.specs.declared.entry.BoardEntry.TheVariants.{Submit}
 use Rattle.board.specs.Entries.{entries_of, submissions}
 use Rattle.board.specs.Legal.{MaySubmit, IsOpenPad}
 use Rattle.board.proofs.KeptUsed.{used_more}
 use Rattle.board.proofs.Kept.{shut-same, within_board}
-use Rattle.board.proofs.KeptSubmit.{submit_step, spare_step, open_here, few_submissions, through_room, room_only, same_submitted, submitted_after}
+use Rattle.board.proofs.KeptRoom.{is_pad_same, accepted_same, job_same}
+use Rattle.board.proofs.KeptSubmit.{submit_step, room_step, open_here, few_submissions, accepted_here, pad_here}
 use Rattle.board.proofs.board_core.BoardCore.submit.Goals as goal
 
 pub index_mut-place-requires : goal.index_mut-place-requires
@@ -18,7 +19,7 @@ pub invariant_of-self-in_err-reserve-2 : goal.invariant_of-self-in_err-reserve-2
 invariant_of-self-in_err-reserve-2 g c =
     let open_ : IsOpenPad (entries_of c.args.pipe c.self.inside.log.items) = subst (λ h. IsOpenPad (entries_of c.args.pipe h)) (sym c.self.view_is) c.requires.pipe in
     let w = within_board g.W.Work.asked g.W.Work.meaning c.self.inside.pipes.items c.self.inside.log.items c.args.pipe c.self.invariant.0 (open_here (entries_of c.args.pipe c.self.inside.log.items) open_.0) in
-    let s = spare_step g.W.Work.asked g.W.Work.meaning c.self.inside.pipes.items c.self.inside.log.items c.args.pipe c.index_mut-place.result.now c.reserve-2.new.self c.self.invariant.0 w c.index_mut-place.ensures.value (room_only c.index_mut-place.result.now.pad c.reserve-2.new.self _ c.in_err-reserve-2.ensures.same) in (
+    let s = room_step g.W.Work.asked g.W.Work.meaning c.self.inside.pipes.items c.self.inside.log.items c.args.pipe c.index_mut-place.result.now c.reserve-2.new.self c.self.invariant.0 w c.index_mut-place.ensures.value c.in_err-reserve-2.ensures.same in (
       rw c.in_ok-reserve.ensures.items s.0,
       rw c.in_ok-reserve.ensures.items c.self.invariant.1,
       omega (arith, c.self.invariant.2, c.in_ok-reserve.ensures.len, c.in_ok-reserve.ensures.capacity),
@@ -30,7 +31,7 @@ pub invariant_of-self-in_err-spend : goal.invariant_of-self-in_err-spend
 invariant_of-self-in_err-spend g c =
     let open_ : IsOpenPad (entries_of c.args.pipe c.self.inside.log.items) = subst (λ h. IsOpenPad (entries_of c.args.pipe h)) (sym c.self.view_is) c.requires.pipe in
     let w = within_board g.W.Work.asked g.W.Work.meaning c.self.inside.pipes.items c.self.inside.log.items c.args.pipe c.self.invariant.0 (open_here (entries_of c.args.pipe c.self.inside.log.items) open_.0) in
-    let s = spare_step g.W.Work.asked g.W.Work.meaning c.self.inside.pipes.items c.self.inside.log.items c.args.pipe c.index_mut-place.result.now c.reserve-2.new.self c.self.invariant.0 w c.index_mut-place.ensures.value (room_only c.index_mut-place.result.now.pad c.reserve-2.new.self _ c.in_ok-reserve-2.ensures.same) in (
+    let s = room_step g.W.Work.asked g.W.Work.meaning c.self.inside.pipes.items c.self.inside.log.items c.args.pipe c.index_mut-place.result.now c.reserve-2.new.self c.self.invariant.0 w c.index_mut-place.ensures.value c.in_ok-reserve-2.ensures.same in (
       rw c.in_ok-reserve.ensures.items s.0,
       rw c.in_ok-reserve.ensures.items c.self.invariant.1,
       omega (arith, c.self.invariant.2, c.in_ok-reserve.ensures.len, c.in_ok-reserve.ensures.capacity),
@@ -38,27 +39,33 @@ invariant_of-self-in_err-spend g c =
       rw c.in_ok-reserve.ensures.items (λ q. c.in_err-spend.ensures.err q ∙ c.self.invariant.4 q),
     )
 
-pub submit-number-requires-clause-number : goal.submit-number-requires-clause-number
-submit-number-requires-clause-number g c =
+pub submit-number-requires-clause-pad : goal.submit-number-requires-clause-pad
+submit-number-requires-clause-pad g c =
     let open_ : IsOpenPad (entries_of c.args.pipe c.self.inside.log.items) = subst (λ h. IsOpenPad (entries_of c.args.pipe h)) (sym c.self.view_is) c.requires.pipe in
     let w = within_board g.W.Work.asked g.W.Work.meaning c.self.inside.pipes.items c.self.inside.log.items c.args.pipe c.self.invariant.0 (open_here (entries_of c.args.pipe c.self.inside.log.items) open_.0) in
-    let s = spare_step g.W.Work.asked g.W.Work.meaning c.self.inside.pipes.items c.self.inside.log.items c.args.pipe c.index_mut-place.result.now c.reserve-2.new.self c.self.invariant.0 w c.index_mut-place.ensures.value (room_only c.index_mut-place.result.now.pad c.reserve-2.new.self _ c.in_ok-reserve-2.ensures.same) in
-    let kp = submitted_after g.W.Work.asked g.W.Work.meaning c.self.inside.pipes.items c.self.inside.log.items c.args.pipe c.index_mut-place.result.now c.reserve-2.new.self c.self.invariant.0 w c.index_mut-place.ensures.value (room_only c.index_mut-place.result.now.pad c.reserve-2.new.self _ c.in_ok-reserve-2.ensures.same) in
-    omega (arith, kp, few_submissions c.args.pipe c.self.inside.log.items, c.self.inside.log.ok.0, c.self.inside.log.ok.1, c.self.inside.log.small)
+    is_pad_same c.reserve-2.new.self c.index_mut-place.result.now c.in_ok-reserve-2.ensures.same
+    ∙ pad_here g.W.Work.asked g.W.Work.meaning c.self.inside.pipes.items c.self.inside.log.items c.args.pipe c.index_mut-place.result.now c.self.invariant.0 w c.index_mut-place.ensures.value open_.0
+
+pub submit-number-requires-clause-few : goal.submit-number-requires-clause-few
+submit-number-requires-clause-few g c =
+    let open_ : IsOpenPad (entries_of c.args.pipe c.self.inside.log.items) = subst (λ h. IsOpenPad (entries_of c.args.pipe h)) (sym c.self.view_is) c.requires.pipe in
+    let w = within_board g.W.Work.asked g.W.Work.meaning c.self.inside.pipes.items c.self.inside.log.items c.args.pipe c.self.invariant.0 (open_here (entries_of c.args.pipe c.self.inside.log.items) open_.0) in
+    let a = accepted_here g.W.Work.asked g.W.Work.meaning c.self.inside.pipes.items c.self.inside.log.items c.args.pipe c.index_mut-place.result.now c.reserve-2.new.self c.self.invariant.0 w c.index_mut-place.ensures.value c.in_ok-reserve-2.ensures.same in
+    omega (arith, a, few_submissions c.args.pipe c.self.inside.log.items, c.self.inside.log.ok.0, c.self.inside.log.ok.1, c.self.inside.log.small)
 
 pub invariant_of-self-2 : goal.invariant_of-self-2
 invariant_of-self-2 g c =
     let open_ : IsOpenPad (entries_of c.args.pipe c.self.inside.log.items) = subst (λ h. IsOpenPad (entries_of c.args.pipe h)) (sym c.self.view_is) c.requires.pipe in
     let may : MaySubmit (entries_of c.args.pipe c.self.inside.log.items) c.args.caller = subst (λ h. MaySubmit (entries_of c.args.pipe h) c.args.caller) (sym c.self.view_is) c.requires.caller in
     let w = within_board g.W.Work.asked g.W.Work.meaning c.self.inside.pipes.items c.self.inside.log.items c.args.pipe c.self.invariant.0 (open_here (entries_of c.args.pipe c.self.inside.log.items) open_.0) in
-    let e = through_room c.index_mut-place.result.now.pad c.reserve-2.new.self c.submit-number.new.self _ _ _ c.in_ok-reserve-2.ensures.same c.submit-number.ensures.submitted in
-    let n = c.submit-number.ensures.number ∙ same_submitted c.index_mut-place.result.now.pad c.reserve-2.new.self _ c.in_ok-reserve-2.ensures.same in
-    let s = submit_step g.W.Work.asked g.W.Work.meaning c.self.inside.pipes.items c.self.inside.log.items c.args.pipe c.submit-number.result c.args.caller c.in_ok-ask.ask c.index_mut-place.result.now _ c.submit-number.new.self c.self.invariant.0 w c.index_mut-place.ensures.value c.in_ok-ask.ensures e may open_ n in (
+    let e = c.submit-number.ensures.submitted ∙ job_same c.reserve-2.new.self c.index_mut-place.result.now c.args.job c.in_ok-reserve-2.ensures.same in
+    let n = c.submit-number.ensures.number ∙ accepted_same c.reserve-2.new.self c.index_mut-place.result.now c.in_ok-reserve-2.ensures.same in
+    let s = submit_step g.W.Work.asked g.W.Work.meaning c.self.inside.pipes.items c.self.inside.log.items c.args.pipe c.submit-number.result c.args.caller c.in_ok-ask.ask c.index_mut-place.result.now c.submit-number.new.self c.args.job c.self.invariant.0 w c.index_mut-place.ensures.value c.in_ok-ask.ensures e may open_ n in (
       rw (c.push_reserved.ensures.items, c.in_ok-reserve.ensures.items) s.0,
       rw (c.push_reserved.ensures.items, c.in_ok-reserve.ensures.items) (shut-same c.self.inside.log.items (Submit c.args.caller c.args.pipe c.submit-number.result c.in_ok-ask.ask) refl ∙ c.self.invariant.1),
       omega (arith, c.push_reserved.ensures.len, c.push_reserved.ensures.capacity, c.in_ok-reserve.ensures.ok, c.in-Some.ensures),
       omega (arith, s.1, c.self.invariant.3),
-      rw (c.push_reserved.ensures.items, c.in_ok-reserve.ensures.items) (used_more g.W.Work.weight c.self.inside.used c.spend.new.used c.self.inside.log.items c.args.caller c.args.pipe c.submit-number.result c.in_ok-ask.ask (g.W.Work.asked c.args.job) c.size-size.result c.in_ok-ask.ensures c.size-size.ensures c.self.invariant.4 c.in_ok-spend.ensures.ok),
+      rw (c.push_reserved.ensures.items, c.in_ok-reserve.ensures.items) (used_more g.W.Work.weight c.self.inside.used c.spend.new.used c.self.inside.log.items (Submit c.args.caller c.args.pipe c.submit-number.result c.in_ok-ask.ask) (g.W.Work.asked c.args.job) c.size-size.result (ap Some c.in_ok-ask.ensures) c.size-size.ensures c.self.invariant.4 c.in_ok-spend.ensures.ok),
     )
 
 pub returns : goal.returns
@@ -66,11 +73,9 @@ returns g c =
     let open_ : IsOpenPad (entries_of c.args.pipe c.self.inside.log.items) = subst (λ h. IsOpenPad (entries_of c.args.pipe h)) (sym c.self.view_is) c.requires.pipe in
     let may : MaySubmit (entries_of c.args.pipe c.self.inside.log.items) c.args.caller = subst (λ h. MaySubmit (entries_of c.args.pipe h) c.args.caller) (sym c.self.view_is) c.requires.caller in
     let w = within_board g.W.Work.asked g.W.Work.meaning c.self.inside.pipes.items c.self.inside.log.items c.args.pipe c.self.invariant.0 (open_here (entries_of c.args.pipe c.self.inside.log.items) open_.0) in
-    let e = through_room c.index_mut-place.result.now.pad c.reserve-2.new.self c.submit-number.new.self _ _ _ c.in_ok-reserve-2.ensures.same c.submit-number.ensures.submitted in
-    let n = c.submit-number.ensures.number ∙ same_submitted c.index_mut-place.result.now.pad c.reserve-2.new.self _ c.in_ok-reserve-2.ensures.same in
-    let s = submit_step g.W.Work.asked g.W.Work.meaning c.self.inside.pipes.items c.self.inside.log.items c.args.pipe c.submit-number.result c.args.caller c.in_ok-ask.ask c.index_mut-place.result.now _ c.submit-number.new.self c.self.invariant.0 w c.index_mut-place.ensures.value c.in_ok-ask.ensures e may open_ n in record {
+    let a = accepted_here g.W.Work.asked g.W.Work.meaning c.self.inside.pipes.items c.self.inside.log.items c.args.pipe c.index_mut-place.result.now c.reserve-2.new.self c.self.invariant.0 w c.index_mut-place.ensures.value c.in_ok-reserve-2.ensures.same in record {
       submitted = (
-        subst (λ h. c.submit-number.result ≡ length (submissions (entries_of c.args.pipe h))) c.self.view_is s.2,
+        subst (λ h. c.submit-number.result ≡ length (submissions (entries_of c.args.pipe h))) c.self.view_is (c.submit-number.ensures.number ∙ a),
         (
           c.in_ok-ask.ask,
           c.in_ok-ask.ensures,

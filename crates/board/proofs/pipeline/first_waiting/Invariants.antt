@@ -1,7 +1,0 @@
-use Rattle.std.proofs.Common.{◌≡◌, ℕ, ◌<◌, length}
-use Rattle.std.specs.Prelude.{slice_index_or}
-use Rattle.board.specs.declared.pipeline.Pipeline.{Pipeline}
-use Rattle.board.proofs.pipeline.first_waiting.Given as goal
-
-abbrev pub invariant-loop-k : goal.invariant-loop-k
-invariant-loop-k g l = (j : ℕ) (d : Pipeline g.row.J.Denot g.row.F.Denot) → j < l.k → length (slice_index_or l.pipes j d).pad.waiting ≡ 0

@@ -1,0 +1,54 @@
+//! How a pad of a board accepts requests.
+
+ghost use Rattle.std.specs.Prelude.{◌≡◌, [], ◌∷◌, ◌++◌, length, IfErr, OnOk, ◌↔◌, MatchResult};
+ghost use Rattle.std.specs.Arc.{arc_value};
+ghost use Rattle.std.specs.declared.sync.Arc.{Arc};
+ghost use Rattle.std.specs.declared.alloc.Global.{Global as GlobalMemory};
+ghost use Rattle.board.specs.declared.entry.BoardEntry.TheVariants as Entry;
+ghost use Rattle.board.specs.declared.board_core.BoardErr.TheVariants as BoardErr;
+ghost use Rattle.board.specs.Entries.{entries_of, submissions};
+ghost use Rattle.board.specs.Allowance.{IsAllowed};
+ghost use Rattle.board.specs.Legal.{MaySubmit, IsOpenPad, LegalBoard};
+
+use crate::allowance::{is_allowed, spend, used_by};
+use crate::board_core::{BoardCore, BoardErr};
+use crate::entry::BoardEntry;
+use crate::work::Work;
+
+impl<W: Work> BoardCore<W> {
+    /// Takes a job into the pad, and answers its number. The caller made the pad, which isn't closed, or the pad is shared,
+    /// and the caller is no worker. `TooBig` where the caller's allowance has no room for the job; want of memory comes
+    /// after that. A refusal drops the job and leaves the board as it was. All memory that the job's `take` and `finish`
+    /// need is taken here.
+    pub fn submit(&mut self, caller: u32, pipe: u64, job: W) -> Result<u64, BoardErr>
+        requires caller { MaySubmit (entries_of pipe self.old) caller }
+        requires pipe { IsOpenPad (entries_of pipe self.old) }
+        ensures submitted { MatchResult result (λ n. (n ≡ length (submissions (entries_of pipe self.old))) × ((ask : Arc W.Ask GlobalMemory) × (arc_value ask ≡ W.asked job) × (self.new ≡ self.old ++ Entry.Submit caller pipe n ask ∷ []))) (λ _. self.new ≡ self.old) }
+        ensures allowed { OnOk result (IsAllowed W.weight self.old caller (W.asked job)) }
+        ensures refused { IfErr result (λ e. (e ≡ BoardErr.TooBig) ↔ (IsAllowed W.weight self.old caller (W.asked job) → ⊥)) }
+        ensures legal { LegalBoard self.new }
+    {
+        let size = job.size();
+        let so_far = used_by(&self.used, caller);
+        if !is_allowed(so_far, size) {
+            return Err(BoardErr::TooBig);
+        }
+        let ask = job.ask(self.alloc)?;
+        let Some(room) = self.owed.checked_add(3) else {
+            return Err(BoardErr::Memory);
+        };
+        self.log.reserve(room)?;
+        let place = &mut self.pipes[pipe as usize];
+        place.reserve()?;
+        spend(&mut self.used, caller, size)?;
+        let number = place.submit(job);
+        self.log.push_reserved(BoardEntry::Submit {
+            caller,
+            pipe,
+            number,
+            ask,
+        });
+        self.owed += 2;
+        Ok(number)
+    }
+}

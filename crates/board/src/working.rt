@@ -1,0 +1,67 @@
+//! How workers take a board's jobs, and finish them.
+
+ghost use Rattle.std.specs.Prelude.{◌≡◌, false, [], ◌∷◌, ◌++◌, slice_get, Some, IfSome, MatchOption};
+ghost use Rattle.board.specs.Entries.{entries_of, submissions, takers, finished, has, meaning_at, take_entry, finish_entry, NoneWaits};
+ghost use Rattle.board.specs.Legal.{MayFinish, LegalBoard};
+
+use crate::board_core::BoardCore;
+use crate::entry::{finish_entry, take_entry};
+use crate::pipeline::first_ready;
+use crate::work::Work;
+use request_queue::Served;
+
+/// The right, and the duty, to finish one job.
+pub struct Slip {
+    pub pipe: u64,
+    pub number: u64,
+}
+
+/// A job to be run, and the slip that is spent on its outcome.
+pub struct Taken<W> {
+    pub slip: Slip,
+    pub job: W,
+}
+
+impl<W: Work> BoardCore<W> {
+    /// Hands out a job of the first pipeline that has one to run: of a pad the first that nobody has taken, of a queue the
+    /// first that waits, where the queue is neither held nor busy. `None` exactly where there is none. No memory is taken.
+    pub fn take(&mut self, caller: u32) -> Option<Taken<W>>
+        ensures taken { MatchOption result ((self.new ≡ self.old) × NoneWaits self.old) (λ t. (self.new ≡ self.old ++ take_entry self.old caller t.slip.pipe t.slip.number ∷ []) × (slice_get (submissions (entries_of t.slip.pipe self.old)) t.slip.number ≡ Some (W.asked t.job))) }
+        ensures ready { IfSome result (λ t. MayFinish W.meaning (entries_of t.slip.pipe self.new) caller t.slip.number (W.meaning (W.asked t.job))) }
+        ensures legal { LegalBoard self.new }
+    {
+        let p = first_ready(&self.pipes)?;
+        let place = &mut self.pipes[p];
+        let pad = place.is_pad();
+        let Served {
+            number,
+            item: job,
+            started,
+        } = place.take()?;
+        let pipe = p as u64;
+        let entry = take_entry(pad, caller, pipe, number, started);
+        self.log.push_reserved(entry);
+        self.owed -= 1;
+        Some(Taken {
+            slip: Slip { pipe, number },
+            job,
+        })
+    }
+
+    /// Records the outcome of a job that this caller took and hasn't finished: what the job's ask means. No memory is taken.
+    pub fn finish(&mut self, caller: u32, slip: Slip, out: W::Out)
+        requires took { takers slip.number (entries_of slip.pipe self.old) ≡ caller ∷ [] }
+        requires once { has slip.number (finished (entries_of slip.pipe self.old)) ≡ false }
+        requires right { meaning_at W.meaning (submissions (entries_of slip.pipe self.old)) slip.number ≡ Some out }
+        ensures finished { self.new ≡ self.old ++ finish_entry self.old caller slip.pipe slip.number ∷ [] }
+        ensures legal { LegalBoard self.new }
+    {
+        let Slip { pipe, number } = slip;
+        let place = &mut self.pipes[pipe as usize];
+        place.finish(number, out);
+        let pad = place.is_pad();
+        let entry = finish_entry(pad, caller, pipe, number);
+        self.log.push_reserved(entry);
+        self.owed -= 1;
+    }
+}
