@@ -1,0 +1,4 @@
+pub mod Done
+pub mod Total
+pub mod Bounds
+pub mod Keeping
