@@ -2,3 +2,4 @@ pub mod Done
 pub mod Total
 pub mod Bounds
 pub mod Keeping
+pub mod Loops

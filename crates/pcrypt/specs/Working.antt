@@ -2,7 +2,9 @@
 use Rattle.std.specs.Prelude.{◌≡◌, ◌≢◌, ℕ, ◌-◌, Bool, true, ◌&&◌, ◌==◌, List, [], ◌∷◌, ◌++◌, length, None}
 use Rattle.std.specs.List.{list_all}
 use Rattle.board.specs.declared.entry.BoardEntry.{BoardEntry}
-use Rattle.board.specs.Entries.{entries_of, submissions, taken_in, takers, finished, has, front, collected, caller_of, NoneWaits}
+use Rattle.board.specs.Entries.{entries_of, submissions, taken_in, takers, finished, has, front, told, collected, delivered, caller_of, NoneWaits}
+use Rattle.board.specs.declared.entry.BoardEntry.TheVariants.{Collect}
+use Rattle.kc_base.specs.declared.callback_list.Callback.{Callback}
 use Rattle.board.specs.Legal.{IsOpenPad, MaySubmit, MayManage, MayFinish, LegalBoard}
 use Rattle.board.specs.Staying.{is_work}
 
@@ -22,6 +24,14 @@ WorksFrom {A} caller before after =
 -- nobody is at a job: each request that was taken is finished
 abbrev pub NoneRuns : {A : Type 0} → List (BoardEntry A) → Type 0
 NoneRuns h = (p n : ℕ) → takers n (entries_of p h) ≢ [] → has n (finished (entries_of p h)) ≡ true
+
+-- the caller works until each request of the pipeline is finished, and hands out the completions that were not yet
+abbrev pub Drains : {A O : Type 0} → (A → O) → ℕ → ℕ → List (BoardEntry A) → List (BoardEntry A) → List (Callback O) → List (Callback O) → Type 0
+Drains {A} meaning caller p before after given more =
+    (h : List (BoardEntry A)) × WorksFrom caller before h
+    × (front (entries_of p h) ≡ length (submissions (entries_of p h)))
+    × (after ≡ h ++ Collect caller p (length (told (entries_of p h))) ∷ [])
+    × (more ≡ given ++ delivered meaning (entries_of p h) (length (told (entries_of p h))))
 
 -- only a taking begins a job
 abbrev pub StaysIdle : {A : Type 0} → List (BoardEntry A) → BoardEntry A → Type 0

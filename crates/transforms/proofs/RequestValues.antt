@@ -1,5 +1,6 @@
 -- The value of a request by the tree of its driver is that by the mode of its plan.
 use Rattle.std.proofs.Common.{◌≡◌, ℕ, Bool, true, false, if◌then◌else◌, List, [], ◌∷◌, ◌++◌, length, refl, ap, sym, ◌∙◌, Option, Some, None}
+use Rattle.std.specs.Arc.{arc_value}
 use Rattle.std.specs.Option.{option_map}
 use Rattle.std_defs.specs.Hmac.{hmac, hmac_under, block_key}
 use Rattle.std_defs.specs.Authenc.{authenc_seal, authenc_open, blob}
@@ -20,6 +21,8 @@ use Rattle.transforms.specs.Mode.AeadMode.{authenc}
 use Rattle.transforms.specs.Mode.Mode.{skcipher, aead}
 use Rattle.transforms.specs.Meaning.{by_keys, sealed_by, unsealed_by, authenc_seals, authenc_opens, aead_seal, aead_open, aead_value, cipher_value, value}
 use Rattle.transforms.specs.Tagged.{tagged}
+use Rattle.transforms.specs.AskValue.{ask_value}
+use Rattle.transforms.specs.declared.ask.Ask.{Ask}
 use Rattle.transforms.specs.Plans.{mode_of}
 use Rattle.transforms.specs.Drivers.{driver_of, unwrapped_over, unwrapped}
 use Rattle.transforms.specs.RequestValue.{Gives, gives_over, request_value, values_of, by_direction, with_mac, under_mac, authenc_gives, cipher_request, ciphertext_in, tag_in, cbc_gives, ctr_gives, rfc3686_gives}
@@ -114,3 +117,7 @@ unwrapped_value (node w ts) = by_shape (template_named w) ts refl
 -- any driver of a plan gives what its own gives
 pub planned_value : (t : Tree) (p : Plan) → plan_at t ≡ Some p → request_value t ≡ request_value (driver_of p)
 planned_value t p e = unwrapped_value t ∙ ap request_value (driver_is t p e)
+
+-- an ask at any driver of its transform's plan
+pub asked_value : (a : Ask) (t : Tree) → plan_at t ≡ Some (arc_value a.keyed).0 → ask_value a ≡ request_value t (arc_value a.keyed).1 a.authsize a.request
+asked_value a t e = ap (λ (g : Gives). g (arc_value a.keyed).1 a.authsize a.request) (sym (planned_value t (arc_value a.keyed).0 e))
