@@ -120,6 +120,7 @@ run before [] k r = rw (append-nil before) k
 run before (e ∷ es) k r = subst IsBounded (append_assoc before (e ∷ []) es) (run (before ++ e ∷ []) es (step before e k r.0) r.1)
 
 nothing : {A : Type 0} → IsBounded {A = A} []
+unfolding IsDistinct
 nothing = record { taken = λ n some. absurd (some refl); done = λ n h. absurd cc; once = tt }
 
 each_bounded : {A : Type 0} (h : List (BoardEntry A)) (p : ℕ) → LegalBoard h → length (finished (entries_of p h)) ≤ length (submissions (entries_of p h))

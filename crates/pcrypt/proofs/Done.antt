@@ -21,9 +21,6 @@ finished_grows es e n h =
     ap (has n) (filter_map-append finished_in es (e ∷ []))
     ∙ (list_any-append (λ m. m == n) (finished es) (filter_map finished_in (e ∷ [])) ∙ or_left (has n (finished es)) _ h)
 
-pub nothing_runs : {A : Type 0} → NoneRuns {A = A} []
-nothing_runs p n some = absurd (some refl)
-
 stays_cases : {A : Type 0} (h : List (BoardEntry A)) (e : BoardEntry A) → NoneRuns h → taken_in e ≡ None → (p n : ℕ) (b : Bool) → is_of p e ≡ b → takers n (entries_of p (h ++ e ∷ [])) ≢ [] → has n (finished (entries_of p (h ++ e ∷ []))) ≡ true
 stays_cases h e idle t p n true s some =
     let more = entries-more h p e s in

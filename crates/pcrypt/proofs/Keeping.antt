@@ -48,14 +48,14 @@ Keeps before after p =
 both : {A : Type 0} (before mid after : List (BoardEntry A)) (p : ℕ) → Keeps before mid p → Keeps mid after p → Keeps before after p
 both before mid after p k l = (l.0 ∙ k.0, l.1 ∙ k.1, λ o. l.2 (k.2 o), λ c s. l.3 c (k.3 c s), λ c m. l.4 c (k.4 c m))
 
-module _ {A : Type 0} (open : (h : List (BoardEntry A)) (e : BoardEntry A) (p : ℕ) → StaysOpen h e p) (managed : (h : List (BoardEntry A)) (e : BoardEntry A) (p caller : ℕ) → StaysManaged h e p caller) (submitting : (h : List (BoardEntry A)) (e : BoardEntry A) (p caller : ℕ) → StaysSubmitting h e p caller) (work : (h : List (BoardEntry A)) (e : BoardEntry A) (p : ℕ) → WorkLeaves h e p) where
+module _ {A : Type 0} (opened : (h : List (BoardEntry A)) (e : BoardEntry A) (p : ℕ) → StaysOpen h e p) (managed : (h : List (BoardEntry A)) (e : BoardEntry A) (p caller : ℕ) → StaysManaged h e p caller) (submitting : (h : List (BoardEntry A)) (e : BoardEntry A) (p caller : ℕ) → StaysSubmitting h e p caller) (work : (h : List (BoardEntry A)) (e : BoardEntry A) (p : ℕ) → WorkLeaves h e p) where
   keeps : (caller : ℕ) (before es : List (BoardEntry A)) (p : ℕ) → list_all (is_work_by caller) es ≡ true → Keeps before (before ++ es) p
   keeps caller before [] p w = rw (append-nil before) (refl, refl, λ o. o, λ c s. s, λ c m. m)
   keeps caller before (e ∷ es) p w =
       let one = left_true (is_work_by caller e) _ w in
       let is : is_work e ≡ true = left_true (is_work e) (caller_of e == caller) one in
       let left = work before e p is in
-      let first : Keeps before (before ++ e ∷ []) p = (left.0, left.1, λ o. open before e p o (no_close e is), λ c s. submitting before e p c s, λ c m. managed before e p c m) in
+      let first : Keeps before (before ++ e ∷ []) p = (left.0, left.1, λ o. opened before e p o (no_close e is), λ c s. submitting before e p c s, λ c m. managed before e p c m) in
       let rest = keeps caller (before ++ e ∷ []) es p (right_true (is_work_by caller e) _ w) in
       subst (λ after. Keeps before after p) (append_assoc before (e ∷ []) es) (both before (before ++ e ∷ []) ((before ++ e ∷ []) ++ es) p first rest)
 

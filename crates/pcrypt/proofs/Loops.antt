@@ -8,7 +8,7 @@ use Rattle.pcrypt.proofs.Done.{all_is_done}
 use Rattle.pcrypt.proofs.Keeping.{works_none}
 
 -- what one step says of its result
-abbrev Step : {A : Type 0} → ℕ → List (BoardEntry A) → List (BoardEntry A) → Bool → Type 0
+abbrev pub Step : {A : Type 0} → ℕ → List (BoardEntry A) → List (BoardEntry A) → Bool → Type 0
 Step caller old new worked = MatchBool worked (WorksFrom caller old new × (unfinished new + 1 ≡ unfinished old)) ((new ≡ old) × NoneWaits old)
 
 pub step_works : {A : Type 0} (caller : ℕ) (old new : List (BoardEntry A)) (worked : Bool) → Step caller old new worked → WorksFrom caller old new
@@ -18,5 +18,5 @@ step_works caller old new false s = subst (λ h. WorksFrom caller old h) (sym s.
 -- where not all of a pipeline is finished, and nobody is at a job, there was a job to do
 pub step_lowers : {A : Type 0} (caller : ℕ) (old new : List (BoardEntry A)) (worked : Bool) (p : ℕ) → Step caller old new worked → NoneRuns old
     → front (entries_of p old) < length (submissions (entries_of p old)) → unfinished new < unfinished old
-step_lowers caller old new true p s idle open = (let q = s.1 in omega (arith, q))
-step_lowers caller old new false p s idle open = (let e = all_is_done old p s.1 idle in absurd (omega (arith, e, open)))
+step_lowers caller old new true p s idle left = (let q = s.1 in omega (arith, q))
+step_lowers caller old new false p s idle left = (let e = all_is_done old p s.1 idle in absurd (omega (arith, e, left)))

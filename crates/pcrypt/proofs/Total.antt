@@ -47,7 +47,7 @@ abbrev below : {A Y : Type 0} → (BoardEntry A → Option Y) → ℕ → List (
 below f zero h = 0
 below f (suc k) h = below f k h + at f k h
 
-cond_none : (b : Bool) → cond b 0 0 ≡ 0
+cond_none : (b : Bool) → ◌≡◌ {A = ℕ} (cond b 0 0) 0
 cond_none true = refl
 cond_none false = refl
 

@@ -7,4 +7,4 @@ mod tests;
 mod working;
 
 pub use laws::{none_runs, work_keeps, work_spares};
-pub use working::{drain_alone, work_alone, work_all};
+pub use working::{drain_alone, work_all, work_alone};

@@ -6,6 +6,7 @@ ghost use Rattle.board.specs.Entries.{entries_of, NoneWaits};
 ghost use Rattle.board.specs.Legal.{MayManage, IsOpenPad, LegalBoard};
 ghost use Rattle.pcrypt.specs.Working.{unfinished, WorksFrom, NoneRuns, Drains};
 
+use crate::laws::work_keeps;
 use board::{BoardCore, BoardErr, Taken, Work};
 use kc_base::Callbacks;
 
@@ -52,6 +53,7 @@ pub fn drain_alone<W: Work>(
     ensures idle { NoneRuns board.new }
     ensures legal { LegalBoard board.new }
 {
+    work_keeps::<W::Ask>();
     while !board.try_drain(caller, pipe, into)? {
         work_alone(board, caller);
     }

@@ -1,8 +1,9 @@
-use Rattle.pcrypt.proofs.Done.{nothing_runs, stays_idle, all_is_done}
+use Rattle.std.proofs.Common.{refl}
+use Rattle.pcrypt.proofs.Done.{stays_idle, all_is_done}
 use Rattle.pcrypt.proofs.laws.none_runs.Goals as goal
 
 pub returns-clause-first : goal.returns-clause-first
-returns-clause-first g c = nothing_runs
+returns-clause-first g c = λ p n some. absurd (some refl)
 
 pub returns-clause-stays : goal.returns-clause-stays
 returns-clause-stays g c = stays_idle
