@@ -98,6 +98,19 @@ fn answer(
     }
 }
 
+/// The same, under a key in hexadecimal.
+fn answer_under(
+    rt: &impl Abort,
+    alloc: Global,
+    plan: Plan,
+    key: &str,
+    wanted: u32,
+    request: Request,
+) -> Result<Result<Finished, TfmErr>, Fail> {
+    let key = hex::decode(alloc, key)?;
+    answer(rt, alloc, plan, &key, wanted, request)
+}
+
 /// A request of so many zeros each.
 fn zeros(
     alloc: Global,
@@ -465,7 +478,7 @@ fn requests_have_their_values(rt: HostRuntime) -> Result<(), Fail> {
             associated: bytes(alloc, associated)?,
             text: bytes(alloc, text)?,
         };
-        let given = answer(&rt, alloc, plan, &hex::decode(alloc, key)?, size, request)?;
+        let given = answer_under(&rt, alloc, plan, key, size, request)?;
         assert!(rt;
             is_wanted(alloc, &given, want)?,
             "{plan:?} {dir:?} {text}: {given:?}"
