@@ -1,15 +1,19 @@
-ghost use Rattle.std.specs.Prelude.{OnOk};
+ghost use Rattle.std.specs.Prelude.{◌≡◌, true, OnOk};
 ghost use Rattle.alg_registry.specs.Made.{Made};
 ghost use Rattle.templates.specs.Table.{table};
 ghost use Rattle.templates.specs.Looking.{NonePending};
+ghost use Rattle.templates.specs.Names.{IsKnown};
+ghost use Rattle.templates.specs.Nesting.{is_nested_well};
 
 use crate::{
     AesForm, BuildErr, GhashForm, Plan, children, derive, nesting, plan_of, resolve_alone,
     resolve_outright,
 };
-use alg_names::{parse_name, print_name};
+use alg_names::laws::computed_tree;
+use alg_names::{Name, parse_name, print_name};
 use alg_registry::{Ids, Kind, Registry, Spec, Wrap};
 use kc_base::{Bytes, Errno};
+use std::alloc::Global;
 use std::test::Fail;
 
 const KINDS: [Kind; 6] = [
@@ -471,5 +475,35 @@ fn builds_children_first(rt: HostRuntime) -> Result<(), Fail> {
         driver,
         Some(b"gcm_base(ctr(aes-generic),ghash-generic)".as_slice())
     );
+    Ok(())
+}
+
+/// What is known of every name.
+fn learn_name(name: &Name)
+    ensures { IsKnown name.now }
+{
+    let _ = name.word();
+    computed_tree();
+}
+
+/// What a caller gets that builds alone.
+fn resolved_alone(alloc: Global, registry: &mut Registry, name: &Name) -> Result<u64, BuildErr>
+    requires made { Made table registry.old }
+    requires none { NonePending registry.old }
+    requires nested { is_nested_well name.now ≡ true }
+{
+    learn_name(name);
+    resolve_alone(alloc, registry, 0, name, false)
+}
+
+#[test]
+fn one_caller_builds_alone(rt: HostRuntime) -> Result<(), Fail> {
+    let mut registry = Registry::new(rt.alloc())?;
+    let name = parse_name(rt.alloc(), b"rfc3686(ctr(aes))")?;
+    let nested = nesting(&name);
+    assert_eq!(rt; nested, Ok(()));
+    if nested.is_ok() {
+        assert_eq!(rt; resolved_alone(rt.alloc(), &mut registry, &name)?, 4);
+    }
     Ok(())
 }

@@ -2,14 +2,20 @@
 use Rattle.std.specs.Prelude.{◌≡◌, ℕ, ◌<◌, ◌+◌, ◌^◌, Bool, true, List, length}
 use Rattle.std.specs.Arc.{arc_value}
 use Rattle.std_defs.specs.Value.{Value}
-use Rattle.transforms.specs.Meaning.{value}
+use Rattle.alg_names.specs.Name.{Tree}
+use Rattle.transforms.specs.Drivers.{driver_of}
+use Rattle.transforms.specs.RequestValue.{request_value}
 use Rattle.transforms.specs.Takes.{fits_tag}
 use Rattle.transforms.specs.Plans.{mode_of}
 use Rattle.transforms.specs.Asked.{takes, room_of}
 use Rattle.transforms.specs.declared.ask.Ask.{Ask}
 
+-- the driver of the ask's transform, without `pcrypt` and `cryptd`
+abbrev pub ask_driver : Ask → Tree
+ask_driver a = driver_of (arc_value a.keyed).0
+
 abbrev pub ask_value : Ask → Value
-ask_value a = value (mode_of (arc_value a.keyed).0) (arc_value a.keyed).1 a.authsize a.request
+ask_value a = request_value (ask_driver a) (arc_value a.keyed).1 a.authsize a.request
 
 abbrev pub ask_takes : Ask → Bool
 ask_takes a = takes (mode_of (arc_value a.keyed).0) a.authsize a.request

@@ -3,6 +3,7 @@ pub mod AskValue
 pub mod Asked
 pub mod CipherLaws
 pub mod Ciphers
+pub mod Drivers
 pub mod Finish
 pub mod Forms
 pub mod Keys
@@ -11,5 +12,6 @@ pub mod Laws
 pub mod Meaning
 pub mod Mode
 pub mod Plans
+pub mod RequestValue
 pub mod Tagged
 pub mod Takes

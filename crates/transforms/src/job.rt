@@ -22,7 +22,7 @@ pub struct Job {
 }
 
 impl Job {
-    /// Gives the value of the ask. No memory is taken.
+    /// Gives the value of the ask: that of its request, by the driver of its transform. No memory is taken.
     pub fn run(self) -> Finished
         ensures { finished_value result ≡ ask_value (arc_value self.ask) }
     {

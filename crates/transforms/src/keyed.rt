@@ -22,7 +22,8 @@ use std::alloc::{AllocError, Global};
 use std::marker::Model;
 use templates::Plan;
 
-/// A plan under a key, seen as the plan and the key's bytes.
+/// A plan under a key, seen as the plan and the key's bytes. A plan stands for its driver, the name of its instance without
+/// `pcrypt` and `cryptd`.
 #[derive(Drop)]
 pub struct Keyed {
     plan: Plan,

@@ -9,6 +9,7 @@ mod ask;
 mod inner;
 mod job;
 mod keyed;
+pub mod laws;
 mod plan_kinds;
 mod request;
 mod room;
@@ -17,6 +18,7 @@ mod taking;
 #[cfg(test)]
 mod tests;
 mod tfm_err;
+mod work;
 
 pub use any_aes::AnyAes;
 pub use ask::Ask;

@@ -4,7 +4,7 @@ ghost use Rattle.std.specs.Prelude.{◌≡◌, true, IfOk};
 ghost use Rattle.transforms.specs.Plans.{mode_of};
 ghost use Rattle.transforms.specs.Takes.{fits_tag};
 
-use crate::{Ask, Dir, Finished, Keyed, Request, TfmErr, largest_tag_size, prepare, tag_size};
+use crate::{Ask, Dir, Finished, Job, Keyed, Request, TfmErr, largest_tag_size, prepare, tag_size};
 use kc_base::{Bytes, Errno};
 use std::alloc::Global;
 use std::process::Abort;
@@ -60,16 +60,16 @@ fn is_wanted(alloc: Global, answer: &Result<Finished, TfmErr>, want: &str) -> Re
     })
 }
 
-/// Prepares a request and runs its job.
-fn answer(
+/// Prepares a request.
+fn prepared(
     rt: &impl Abort,
     alloc: Global,
     plan: Plan,
-    key: &str,
+    key: &[u8],
     wanted: u32,
     request: Request,
-) -> Result<Result<Finished, TfmErr>, Fail> {
-    let keyed = Arc::new(alloc, Keyed::set(alloc, &plan, &hex::decode(alloc, key)?)?)?;
+) -> Result<Result<Job, TfmErr>, Fail> {
+    let keyed = Arc::new(alloc, Keyed::set(alloc, &plan, key)?)?;
     let authsize = size_for(&plan, wanted)?;
     assert!(rt; request.associated.len() < 1000);
     assert!(rt; request.text.len() < 1000);
@@ -80,10 +80,51 @@ fn answer(
         client: 0,
         line: 0,
     };
-    match prepare(alloc, Arc::new(alloc, ask)?) {
+    Ok(prepare(alloc, Arc::new(alloc, ask)?))
+}
+
+/// Prepares a request and runs its job.
+fn answer(
+    rt: &impl Abort,
+    alloc: Global,
+    plan: Plan,
+    key: &[u8],
+    wanted: u32,
+    request: Request,
+) -> Result<Result<Finished, TfmErr>, Fail> {
+    match prepared(rt, alloc, plan, key, wanted, request)? {
         Ok(job) => Ok(Ok(job.run())),
         Err(e) => Ok(Err(e)),
     }
+}
+
+/// The same, under a key in hexadecimal.
+fn answer_under(
+    rt: &impl Abort,
+    alloc: Global,
+    plan: Plan,
+    key: &str,
+    wanted: u32,
+    request: Request,
+) -> Result<Result<Finished, TfmErr>, Fail> {
+    let key = hex::decode(alloc, key)?;
+    answer(rt, alloc, plan, &key, wanted, request)
+}
+
+/// A request of so many zeros each.
+fn zeros(
+    alloc: Global,
+    dir: Dir,
+    iv: usize,
+    associated: usize,
+    text: usize,
+) -> Result<Request, Fail> {
+    Ok(Request {
+        dir,
+        iv: Bytes::from_vec(vec![in alloc; 0u8; iv]?),
+        associated: Bytes::from_vec(vec![in alloc; 0u8; associated]?),
+        text: Bytes::from_vec(vec![in alloc; 0u8; text]?),
+    })
 }
 
 #[test]
@@ -437,7 +478,7 @@ fn requests_have_their_values(rt: HostRuntime) -> Result<(), Fail> {
             associated: bytes(alloc, associated)?,
             text: bytes(alloc, text)?,
         };
-        let given = answer(&rt, alloc, plan, key, size, request)?;
+        let given = answer_under(&rt, alloc, plan, key, size, request)?;
         assert!(rt;
             is_wanted(alloc, &given, want)?,
             "{plan:?} {dir:?} {text}: {given:?}"
@@ -513,4 +554,127 @@ fn tag_sizes(rt: HostRuntime) {
             assert_eq!(rt; tag_size(&plan, n), want, "{plan:?} {n}");
         }
     }
+}
+
+#[test]
+fn a_key_longer_than_a_block_is_hashed(rt: HostRuntime) -> Result<(), Fail> {
+    let alloc = rt.alloc();
+    let key = vec![in alloc; 0xaau8; 131]?;
+    let text = b"Test Using Larger Than Block-Size Key - Hash Key First";
+    let request = Request {
+        dir: Dir::Mac,
+        iv: Bytes::new(alloc),
+        associated: Bytes::new(alloc),
+        text: Bytes::copy_of(alloc, text)?,
+    };
+    let given = answer(&rt, alloc, HMAC, &key, 0, request)?;
+    let want = "60e431591ee0b67f0d8a26aacbf5b77f8e0bc6213728c5140546040f0ee37f54";
+    assert!(rt; is_wanted(alloc, &given, want)?, "{given:?}");
+    Ok(())
+}
+
+#[test]
+fn rfc4106_is_gcm_without_the_packets_iv(rt: HostRuntime) -> Result<(), Fail> {
+    let alloc = rt.alloc();
+    let want = "0388dace60b6a392f328c2b971b2fe7897fe4c23374201e0819f8dc5d741a01b";
+    let request = zeros(alloc, Dir::Enc, 8, 16, 16)?;
+    let packet = answer(&rt, alloc, RFC4106, &[0; 20], 16, request)?;
+    assert!(rt; is_wanted(alloc, &packet, want)?, "{packet:?}");
+    let request = zeros(alloc, Dir::Enc, 12, 8, 16)?;
+    let plain = answer(&rt, alloc, GCM, &[0; 16], 16, request)?;
+    assert!(rt; is_wanted(alloc, &plain, want)?, "{plain:?}");
+    Ok(())
+}
+
+#[test]
+fn jobs_keep_the_key_that_was_set_when_they_were_asked(rt: HostRuntime) -> Result<(), Fail> {
+    let alloc = rt.alloc();
+    let first = Request {
+        dir: Dir::Mac,
+        iv: Bytes::new(alloc),
+        associated: Bytes::new(alloc),
+        text: Bytes::copy_of(alloc, b"Hi There")?,
+    };
+    let second = Request {
+        dir: Dir::Mac,
+        iv: Bytes::new(alloc),
+        associated: Bytes::new(alloc),
+        text: Bytes::copy_of(alloc, b"what do ya want for nothing?")?,
+    };
+    let first = prepared(&rt, alloc, HMAC, &[0x0b; 20], 0, first)??;
+    let second = prepared(&rt, alloc, HMAC, b"Jefe", 0, second)??;
+    let want = "5bdcc146bf60754e6a042426089575c75a003f089d2739839dec58b964ec3843";
+    assert!(rt; is_wanted(alloc, &Ok(second.run()), want)?);
+    let want = "b0344c61d8db38535ca8afceaf0bf12b881dc200c9833da726e9376c2e32cff7";
+    assert!(rt; is_wanted(alloc, &Ok(first.run()), want)?);
+    Ok(())
+}
+
+/// Keys of zeros that the plans take, and the lengths of their IVs.
+const KEYED_PLANS: [(Plan, &str, usize); 8] = [
+    (CBC, "00000000000000000000000000000000", 16),
+    (CTR, "00000000000000000000000000000000", 16),
+    (RFC3686, "0000000000000000000000000000000000000000", 8),
+    (GCM, "00000000000000000000000000000000", 12),
+    (RFC4106, "0000000000000000000000000000000000000000", 8),
+    (
+        AUTHENC_CBC,
+        "080001000000001000000000000000000000000000000000",
+        16,
+    ),
+    (
+        AUTHENC_CTR,
+        "080001000000001000000000000000000000000000000000",
+        16,
+    ),
+    (
+        AUTHENC_RFC3686,
+        "08000100000000140000000000000000000000000000000000000000",
+        8,
+    ),
+];
+
+#[test]
+fn an_iv_has_one_length(rt: HostRuntime) -> Result<(), Fail> {
+    let alloc = rt.alloc();
+    for (plan, key, size) in KEYED_PLANS {
+        let key = hex::decode(alloc, key)?;
+        let whole = largest_tag_size(&plan);
+        for n in 0..20usize {
+            for dir in [Dir::Enc, Dir::Dec] {
+                let request = zeros(alloc, dir, n, 0, 32)?;
+                let taken = prepared(&rt, alloc, plan, &key, whole, request)?.is_ok();
+                assert!(rt; taken == (n == size), "{plan:?} {n}");
+            }
+        }
+    }
+    Ok(())
+}
+
+#[test]
+fn what_is_sealed_opens_under_each_tag_size(rt: HostRuntime) -> Result<(), Fail> {
+    let alloc = rt.alloc();
+    for (plan, key, size) in KEYED_PLANS {
+        let key = hex::decode(alloc, key)?;
+        for tag in 1..33u32 {
+            if tag_size(&plan, tag).is_err() {
+                continue;
+            }
+            let request = zeros(alloc, Dir::Enc, size, 16, 16)?;
+            let Finished::Bytes(sealed) = answer(&rt, alloc, plan, &key, tag, request)?? else {
+                assert!(rt; false, "{plan:?} {tag}");
+                return Ok(());
+            };
+            assert_eq!(rt; sealed.len(), 16 + tag as usize);
+            let mut request = zeros(alloc, Dir::Dec, size, 16, 0)?;
+            request.text = sealed;
+            let opened = answer(&rt, alloc, plan, &key, tag, request)?;
+            let zero = "00000000000000000000000000000000";
+            assert!(rt; is_wanted(alloc, &opened, zero)?, "{plan:?} {tag}");
+            let request = zeros(alloc, Dir::Dec, size, 16, tag as usize - 1)?;
+            let short = answer(&rt, alloc, plan, &key, tag, request)?;
+            assert!(rt; is_wanted(alloc, &short, "not taken")?, "{plan:?} {tag}");
+        }
+    }
+    Ok(())
 }

@@ -1,0 +1,96 @@
+-- What a caller's work keeps, from what each entry keeps.
+use Rattle.std.proofs.Common.{◌≡◌, ◌≢◌, ℕ, Bool, true, false, ◌&&◌, List, [], ◌∷◌, ◌++◌, refl, ap, sym, ◌∙◌, subst, append-nil, append_assoc}
+use Rattle.std.specs.Prelude.{◌==◌}
+use Rattle.std.specs.List.{list_all}
+use Rattle.std.proofs.lemmas.Bool.{eqb-true}
+use Rattle.std.proofs.lemmas.List.Folds.{list_all-append}
+use Rattle.board.specs.declared.entry.BoardEntry.{BoardEntry}
+use Rattle.board.specs.declared.entry.BoardEntry.TheVariants.{Born, Submit, Take, Finish, Enq, Deq, Done, Hold, Go, Collect, Close, Share, Shut}
+use Rattle.board.specs.Entries.{entries_of, submissions, collected, caller_of, is_close}
+use Rattle.board.specs.Legal.{IsOpenPad, MaySubmit, MayManage, MayFinish, AreRightAfter, LegalBoard}
+use Rattle.board.specs.Staying.{is_work, StaysOpen, StaysManaged, StaysSubmitting, WorkLeaves, SlipStays}
+use Rattle.pcrypt.specs.Working.{is_work_by, WorksFrom, WorkKeeps, WorkSpares}
+
+left_true : (a b : Bool) → (a && b) ≡ true → a ≡ true
+left_true true b e = refl
+left_true false b e = absurd cc
+
+right_true : (a b : Bool) → (a && b) ≡ true → b ≡ true
+right_true true b e = e
+right_true false b e = absurd cc
+
+-- work closes nothing
+no_close : {A : Type 0} (e : BoardEntry A) → is_work e ≡ true → is_close e ≡ false
+no_close (Born caller pipe shape) w = refl
+no_close (Submit caller pipe number ask) w = refl
+no_close (Take caller pipe number) w = refl
+no_close (Finish caller pipe number) w = refl
+no_close (Enq caller pipe ask backlog answer) w = refl
+no_close (Deq caller pipe number started) w = refl
+no_close (Done caller pipe number) w = refl
+no_close (Hold caller pipe) w = refl
+no_close (Go caller pipe) w = refl
+no_close (Collect caller pipe to) w = refl
+no_close (Close caller pipe) w = absurd cc
+no_close (Share caller pipe) w = refl
+no_close (Shut caller) w = refl
+
+-- ---- a pipeline
+
+abbrev Keeps : {A : Type 0} → List (BoardEntry A) → List (BoardEntry A) → ℕ → Type 0
+Keeps before after p =
+    (submissions (entries_of p after) ≡ submissions (entries_of p before))
+    × (collected (entries_of p after) ≡ collected (entries_of p before))
+    × (IsOpenPad (entries_of p before) → IsOpenPad (entries_of p after))
+    × ((c : ℕ) → MaySubmit (entries_of p before) c → MaySubmit (entries_of p after) c)
+    × ((c : ℕ) → MayManage (entries_of p before) c → MayManage (entries_of p after) c)
+
+both : {A : Type 0} (before mid after : List (BoardEntry A)) (p : ℕ) → Keeps before mid p → Keeps mid after p → Keeps before after p
+both before mid after p k l = (l.0 ∙ k.0, l.1 ∙ k.1, λ o. l.2 (k.2 o), λ c s. l.3 c (k.3 c s), λ c m. l.4 c (k.4 c m))
+
+module _ {A : Type 0} (opened : (h : List (BoardEntry A)) (e : BoardEntry A) (p : ℕ) → StaysOpen h e p) (managed : (h : List (BoardEntry A)) (e : BoardEntry A) (p caller : ℕ) → StaysManaged h e p caller) (submitting : (h : List (BoardEntry A)) (e : BoardEntry A) (p caller : ℕ) → StaysSubmitting h e p caller) (work : (h : List (BoardEntry A)) (e : BoardEntry A) (p : ℕ) → WorkLeaves h e p) where
+  keeps : (caller : ℕ) (before es : List (BoardEntry A)) (p : ℕ) → list_all (is_work_by caller) es ≡ true → Keeps before (before ++ es) p
+  keeps caller before [] p w = rw (append-nil before) (refl, refl, λ o. o, λ c s. s, λ c m. m)
+  keeps caller before (e ∷ es) p w =
+      let one = left_true (is_work_by caller e) _ w in
+      let is : is_work e ≡ true = left_true (is_work e) (caller_of e == caller) one in
+      let left = work before e p is in
+      let first : Keeps before (before ++ e ∷ []) p = (left.0, left.1, λ o. opened before e p o (no_close e is), λ c s. submitting before e p c s, λ c m. managed before e p c m) in
+      let rest = keeps caller (before ++ e ∷ []) es p (right_true (is_work_by caller e) _ w) in
+      subst (λ after. Keeps before after p) (append_assoc before (e ∷ []) es) (both before (before ++ e ∷ []) ((before ++ e ∷ []) ++ es) p first rest)
+
+  pub work_keeps : (caller : ℕ) (before after : List (BoardEntry A)) (p : ℕ) → WorkKeeps caller before after p
+  work_keeps caller before after p works = subst (λ h. Keeps before h p) (sym works.1) (keeps caller before works.0 p works.2)
+
+-- ---- the jobs of others
+
+front_legal : {A : Type 0} (before h rest : List (BoardEntry A)) → AreRightAfter before (h ++ rest) → AreRightAfter before h
+front_legal before [] rest r = tt
+front_legal before (x ∷ h) rest r = (r.0, front_legal (before ++ x ∷ []) h rest r.1)
+
+module _ {A O : Type 0} (meaning : A → O) (slips : (h : List (BoardEntry A)) (e : BoardEntry A) (p caller n : ℕ) (out : O) → SlipStays meaning h e p caller n out) where
+  spares : (caller : ℕ) (before es : List (BoardEntry A)) (p other n : ℕ) (out : O) → list_all (is_work_by caller) es ≡ true → LegalBoard (before ++ es) → caller ≢ other → MayFinish meaning (entries_of p before) other n out → MayFinish meaning (entries_of p (before ++ es)) other n out
+  spares caller before [] p other n out w legal apart m = rw (append-nil before) m
+  spares caller before (e ∷ es) p other n out w legal apart m =
+      let one = left_true (is_work_by caller e) _ w in
+      let who : caller_of e ≡ caller = eqb-true (caller_of e) caller (right_true (is_work e) (caller_of e == caller) one) in
+      let all : LegalBoard ((before ++ e ∷ []) ++ es) = subst (λ h. LegalBoard h) (sym (append_assoc before (e ∷ []) es)) legal in
+      let now = front_legal [] (before ++ e ∷ []) es all in
+      let first = slips before e p other n out now (λ q. apart (sym who ∙ q)) m in
+      subst (λ h. MayFinish meaning (entries_of p h) other n out) (append_assoc before (e ∷ []) es)
+      (spares caller (before ++ e ∷ []) es p other n out (right_true (is_work_by caller e) _ w) all apart first)
+
+  pub work_spares : (caller : ℕ) (before after : List (BoardEntry A)) (p other n : ℕ) (out : O) → WorkSpares meaning caller before after p other n out
+  work_spares caller before after p other n out works legal apart m =
+      subst (λ h. MayFinish meaning (entries_of p h) other n out) (sym works.1)
+      (spares caller before works.0 p other n out works.2 (subst (λ h. LegalBoard h) works.1 legal) apart m)
+
+-- ---- work after work
+
+pub works_on : {A : Type 0} (caller : ℕ) (before mid after : List (BoardEntry A)) → WorksFrom caller before mid → WorksFrom caller mid after → WorksFrom caller before after
+works_on caller before mid after w v =
+    let all : list_all (is_work_by caller) (w.0 ++ v.0) ≡ true = list_all-append (is_work_by caller) w.0 v.0 ∙ (rw (w.2, v.2) refl) in
+    (w.0 ++ v.0, v.1 ∙ (ap (λ h. h ++ v.0) w.1 ∙ append_assoc before w.0 v.0), all)
+
+pub works_none : {A : Type 0} (caller : ℕ) (h : List (BoardEntry A)) → WorksFrom caller h h
+works_none caller h = ([], sym (append-nil h), refl)

@@ -1,0 +1,5 @@
+pub mod Done
+pub mod Total
+pub mod Bounds
+pub mod Keeping
+pub mod Loops

@@ -1,0 +1,28 @@
+//! What the work of one caller leaves, and what is done at its end.
+
+ghost use Rattle.std.specs.Prelude.{◌≡◌, ℕ, List, []};
+ghost use Rattle.board.specs.declared.entry.BoardEntry.{BoardEntry};
+ghost use Rattle.pcrypt.specs.Working.{NoneRuns, StaysIdle, AllIsDone, WorkKeeps, WorkSpares};
+
+use board::{pipelines_stay, slips_stay};
+
+/// While nobody is at a job that is so until one is taken; and where besides no request waits, all are finished.
+pub fn none_runs<A>()
+    ensures first { NoneRuns {A = A} [] }
+    ensures stays { (h : List (BoardEntry A)) (e : BoardEntry A) → StaysIdle h e }
+    ensures done { (h : List (BoardEntry A)) (p : ℕ) → AllIsDone h p }
+{}
+
+/// Work accepts nothing, hands nothing out and closes nothing.
+pub fn work_keeps<A>()
+    ensures { (caller : ℕ) (before after : List (BoardEntry A)) (p : ℕ) → WorkKeeps caller before after p }
+{
+    pipelines_stay::<A>();
+}
+
+/// Work leaves the jobs that others took to them.
+pub fn work_spares<A, O>()
+    ensures { (meaning : A → O) (caller : ℕ) (before after : List (BoardEntry A)) (p other n : ℕ) (out : O) → WorkSpares meaning caller before after p other n out }
+{
+    slips_stay::<A, O>();
+}
