@@ -1,11 +1,11 @@
 -- What the work of one caller leaves of a board's history.
-use Rattle.std.specs.Prelude.{◌≡◌, ◌≢◌, ℕ, ◌-◌, Bool, true, ◌&&◌, ◌==◌, List, [], ◌∷◌, ◌++◌, length, None}
+use Rattle.std.specs.Prelude.{◌≡◌, ◌≢◌, ◌⊎◌, ℕ, ◌-◌, Bool, true, false, ◌&&◌, ◌==◌, List, [], ◌∷◌, ◌++◌, length, None}
 use Rattle.std.specs.List.{list_all}
 use Rattle.board.specs.declared.entry.BoardEntry.{BoardEntry}
-use Rattle.board.specs.Entries.{entries_of, submissions, taken_in, takers, finished, has, front, told, collected, delivered, caller_of, NoneWaits}
+use Rattle.board.specs.Entries.{entries_of, submissions, taken_in, takers, finished, has, front, told, collected, delivered, caller_of, is_held, NoneWaits}
 use Rattle.board.specs.declared.entry.BoardEntry.TheVariants.{Collect}
 use Rattle.kc_base.specs.declared.callback_list.Callback.{Callback}
-use Rattle.board.specs.Legal.{IsOpenPad, MaySubmit, MayManage, MayFinish, LegalBoard}
+use Rattle.board.specs.Legal.{IsOpenPad, IsOpenQueue, MaySubmit, MayManage, MayFinish, LegalBoard}
 use Rattle.board.specs.Staying.{is_work}
 
 -- how many accepted requests are not finished, over all pipelines
@@ -37,11 +37,18 @@ Drains {A} meaning caller p before after given more =
 abbrev pub StaysIdle : {A : Type 0} → List (BoardEntry A) → BoardEntry A → Type 0
 StaysIdle h e = NoneRuns h → taken_in e ≡ None → NoneRuns (h ++ e ∷ [])
 
--- where nobody waits and nobody is at a job, each accepted request of each pipeline is finished
-abbrev pub AllIsDone : {A : Type 0} → List (BoardEntry A) → ℕ → Type 0
-AllIsDone h p = NoneWaits h → NoneRuns h → front (entries_of p h) ≡ length (submissions (entries_of p h))
+-- the pipeline is an open pad, or an open queue that is not held
+abbrev pub IsServed : {A : Type 0} → List (BoardEntry A) → Type 0
+IsServed es = IsOpenPad es ⊎ (IsOpenQueue es × (is_held es ≡ false))
 
--- of a pipeline work leaves what it accepted and handed out, that it is open, and who may submit to it or manage it
+-- where no job is to be had and nobody is at one, each accepted request of each open pipeline that isn't held is finished
+abbrev pub AllIsDone : {A : Type 0} → List (BoardEntry A) → ℕ → Type 0
+AllIsDone h p =
+    LegalBoard h → NoneWaits h → NoneRuns h → IsServed (entries_of p h)
+    → front (entries_of p h) ≡ length (submissions (entries_of p h))
+
+-- of a pipeline work leaves what it accepted and handed out, whether it is held, that it is open, and who may submit to it
+-- or manage it
 abbrev pub WorkKeeps : {A : Type 0} → ℕ → List (BoardEntry A) → List (BoardEntry A) → ℕ → Type 0
 WorkKeeps caller before after p =
     WorksFrom caller before after
@@ -50,6 +57,8 @@ WorkKeeps caller before after p =
     × (IsOpenPad (entries_of p before) → IsOpenPad (entries_of p after))
     × ((c : ℕ) → MaySubmit (entries_of p before) c → MaySubmit (entries_of p after) c)
     × ((c : ℕ) → MayManage (entries_of p before) c → MayManage (entries_of p after) c)
+    × (is_held (entries_of p after) ≡ is_held (entries_of p before))
+    × (IsOpenQueue (entries_of p before) → IsOpenQueue (entries_of p after))
 
 -- and what others took stays theirs
 abbrev pub WorkSpares : {A O : Type 0} → (A → O) → ℕ → List (BoardEntry A) → List (BoardEntry A) → ℕ → ℕ → ℕ → O → Type 0

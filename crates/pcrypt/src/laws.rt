@@ -6,14 +6,15 @@ ghost use Rattle.pcrypt.specs.Working.{NoneRuns, StaysIdle, AllIsDone, WorkKeeps
 
 use board::{pipelines_stay, slips_stay};
 
-/// While nobody is at a job that is so until one is taken; and where besides no request waits, all are finished.
+/// While nobody is at a job that is so until one is taken; and where besides no job is to be had, all accepted requests are
+/// finished, but for those of a held queue.
 pub fn none_runs<A>()
     ensures first { NoneRuns {A = A} [] }
     ensures stays { (h : List (BoardEntry A)) (e : BoardEntry A) → StaysIdle h e }
     ensures done { (h : List (BoardEntry A)) (p : ℕ) → AllIsDone h p }
 {}
 
-/// Work accepts nothing, hands nothing out and closes nothing.
+/// Work accepts nothing, hands nothing out, holds nothing and closes nothing.
 pub fn work_keeps<A>()
     ensures { (caller : ℕ) (before after : List (BoardEntry A)) (p : ℕ) → WorkKeeps caller before after p }
 {
