@@ -1,17 +1,19 @@
 -- What a caller's work keeps, from what each entry keeps.
-use Rattle.std.proofs.Common.{◌≡◌, ◌≢◌, ◌⊎◌, inl, inr, ℕ, Bool, true, false, ◌&&◌, List, [], ◌∷◌, ◌++◌, None, refl, ap, sym, ◌∙◌, subst, append-nil, append_assoc}
+use Rattle.std.proofs.Common.{◌≡◌, ◌≢◌, ◌⊎◌, inl, inr, ℕ, Bool, true, false, ◌&&◌, List, [], ◌∷◌, ◌++◌, Some, None, refl, ap, sym, ◌∙◌, subst, append-nil, append_assoc}
 use Rattle.std.specs.Prelude.{◌==◌}
-use Rattle.std.specs.List.{list_all}
-use Rattle.std.proofs.lemmas.Bool.{eqb-true}
+use Rattle.std.specs.List.{list_all, filter_map}
+use Rattle.std.proofs.lemmas.Bool.{eqb-true, eq-eqb}
 use Rattle.std.proofs.lemmas.List.Folds.{list_all-append}
 use Rattle.board.specs.declared.entry.BoardEntry.{BoardEntry}
 use Rattle.board.specs.declared.entry.BoardEntry.TheVariants.{Born, Submit, Take, Finish, Enq, Deq, Done, Hold, Go, Collect, Close, Share, Shut}
+use Rattle.board.specs.declared.entry.Shape.TheVariants.{Queue}
 use Rattle.board.specs.Entries.{is_of, entries_of, submissions, collected, caller_of, is_close, held_in, is_held, last_or}
 use Rattle.board.specs.Legal.{IsOpenPad, IsOpenQueue, MaySubmit, MayManage, MayFinish, AreRightAfter, LegalBoard}
 use Rattle.board.specs.Staying.{is_work, StaysOpen, QueueStaysOpen, StaysManaged, StaysSubmitting, WorkLeaves, SlipStays}
 use Rattle.board.proofs.Transfer.{entries-more, entries-same}
-use Rattle.board.proofs.PadOrder.{filter_map-none}
-use Rattle.pcrypt.specs.Working.{is_work_by, WorksFrom, IsServed, WorkKeeps, WorkSpares}
+use Rattle.board.proofs.PadOrder.{filter_map-none, filter_map-some, last_or-append}
+use Rattle.board.proofs.Staying.{last_right}
+use Rattle.pcrypt.specs.Working.{is_work_by, WorksFrom, IsServed, WorkKeeps, WorkSpares, BornServed, Holds, StaysHeld}
 
 left_true : (a b : Bool) → (a && b) ≡ true → a ≡ true
 left_true true b e = refl
@@ -126,3 +128,21 @@ works_none caller h = ([], sym (append-nil h), refl)
 pub served_on : {A : Type 0} (caller : ℕ) (before after : List (BoardEntry A)) (p : ℕ) → WorkKeeps caller before after p → WorksFrom caller before after → IsServed (entries_of p before) → IsServed (entries_of p after)
 served_on caller before after p keeps works (inl pad) = (let k = keeps works in inl (k.2 pad))
 served_on caller before after p keeps works (inr queue) = (let k = keeps works in inr (k.6 queue.0, k.5 ∙ queue.1))
+
+-- ---- holding
+
+pub stays_held : {A : Type 0} (h : List (BoardEntry A)) (e : BoardEntry A) (q : ℕ) → StaysHeld h e q
+stays_held h e q n = held_cases h e q (is_of q e) refl n
+
+held_by : {A : Type 0} (h : List (BoardEntry A)) (e : BoardEntry A) (q : ℕ) (b : Bool) → is_of q e ≡ true → held_in e ≡ Some b → is_held (entries_of q (h ++ e ∷ [])) ≡ b
+held_by h e q b s y =
+    ap is_held (entries-more h q e s) ∙ (ap (last_or false) (filter_map-some held_in (entries_of q h) e b y) ∙ last_or-append false (filter_map held_in (entries_of q h)) b)
+
+pub holds : {A : Type 0} (h : List (BoardEntry A)) (caller q : ℕ) → Holds h caller q
+holds h caller q = (held_by h (Hold caller q) q true (eq-eqb q q refl) refl, held_by h (Go caller q) q false (eq-eqb q q refl) refl)
+
+pub born_served : {A : Type 0} (h : List (BoardEntry A)) (caller q max : ℕ) → BornServed h caller q max
+born_served {A} h caller q max legal =
+    let e : BoardEntry A = Born caller q (Queue max) in
+    let r = last_right [] h e legal in
+    stays_held h e q refl ∙ ap is_held r.1.1

@@ -2,7 +2,7 @@
 
 ghost use Rattle.std.specs.Prelude.{◌≡◌, ℕ, List, []};
 ghost use Rattle.board.specs.declared.entry.BoardEntry.{BoardEntry};
-ghost use Rattle.pcrypt.specs.Working.{NoneRuns, StaysIdle, AllIsDone, WorkKeeps, WorkSpares};
+ghost use Rattle.pcrypt.specs.Working.{NoneRuns, StaysIdle, AllIsDone, WorkKeeps, WorkSpares, BornServed, Holds, StaysHeld};
 
 use board::{pipelines_stay, slips_stay};
 
@@ -27,3 +27,10 @@ pub fn work_spares<A, O>()
 {
     slips_stay::<A, O>();
 }
+
+/// A queue is held from its `hold` to its `go`.
+pub fn queues_hold<A>()
+    ensures born { (h : List (BoardEntry A)) (caller q max : ℕ) → BornServed h caller q max }
+    ensures held { (h : List (BoardEntry A)) (caller q : ℕ) → Holds h caller q }
+    ensures stays { (h : List (BoardEntry A)) (e : BoardEntry A) (q : ℕ) → StaysHeld h e q }
+{}
