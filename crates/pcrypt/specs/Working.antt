@@ -1,11 +1,12 @@
 -- What the work of one caller leaves of a board's history.
-use Rattle.std.specs.Prelude.{◌≡◌, ◌≢◌, ℕ, ◌-◌, Bool, true, ◌&&◌, ◌==◌, List, [], ◌∷◌, ◌++◌, length, None}
+use Rattle.std.specs.Prelude.{◌≡◌, ◌≢◌, ◌⊎◌, ℕ, ◌-◌, Bool, true, false, ◌&&◌, ◌==◌, List, [], ◌∷◌, ◌++◌, length, None}
 use Rattle.std.specs.List.{list_all}
 use Rattle.board.specs.declared.entry.BoardEntry.{BoardEntry}
-use Rattle.board.specs.Entries.{entries_of, submissions, taken_in, takers, finished, has, front, told, collected, delivered, caller_of, NoneWaits}
-use Rattle.board.specs.declared.entry.BoardEntry.TheVariants.{Collect}
+use Rattle.board.specs.Entries.{entries_of, submissions, taken_in, takers, finished, has, front, told, collected, delivered, caller_of, held_in, is_held, NoneWaits}
+use Rattle.board.specs.declared.entry.BoardEntry.TheVariants.{Born, Hold, Go, Collect}
+use Rattle.board.specs.declared.entry.Shape.TheVariants.{Queue}
 use Rattle.kc_base.specs.declared.callback_list.Callback.{Callback}
-use Rattle.board.specs.Legal.{IsOpenPad, MaySubmit, MayManage, MayFinish, LegalBoard}
+use Rattle.board.specs.Legal.{IsOpenPad, IsOpenQueue, MaySubmit, MayManage, MayFinish, LegalBoard}
 use Rattle.board.specs.Staying.{is_work}
 
 -- how many accepted requests are not finished, over all pipelines
@@ -37,11 +38,18 @@ Drains {A} meaning caller p before after given more =
 abbrev pub StaysIdle : {A : Type 0} → List (BoardEntry A) → BoardEntry A → Type 0
 StaysIdle h e = NoneRuns h → taken_in e ≡ None → NoneRuns (h ++ e ∷ [])
 
--- where nobody waits and nobody is at a job, each accepted request of each pipeline is finished
-abbrev pub AllIsDone : {A : Type 0} → List (BoardEntry A) → ℕ → Type 0
-AllIsDone h p = NoneWaits h → NoneRuns h → front (entries_of p h) ≡ length (submissions (entries_of p h))
+-- the pipeline is an open pad, or an open queue that is not held
+abbrev pub IsServed : {A : Type 0} → List (BoardEntry A) → Type 0
+IsServed es = IsOpenPad es ⊎ (IsOpenQueue es × (is_held es ≡ false))
 
--- of a pipeline work leaves what it accepted and handed out, that it is open, and who may submit to it or manage it
+-- where no job is to be had and nobody is at one, each accepted request of each open pipeline that isn't held is finished
+abbrev pub AllIsDone : {A : Type 0} → List (BoardEntry A) → ℕ → Type 0
+AllIsDone h p =
+    LegalBoard h → NoneWaits h → NoneRuns h → IsServed (entries_of p h)
+    → front (entries_of p h) ≡ length (submissions (entries_of p h))
+
+-- of a pipeline work leaves what it accepted and handed out, whether it is held, that it is open, and who may submit to it
+-- or manage it
 abbrev pub WorkKeeps : {A : Type 0} → ℕ → List (BoardEntry A) → List (BoardEntry A) → ℕ → Type 0
 WorkKeeps caller before after p =
     WorksFrom caller before after
@@ -50,9 +58,23 @@ WorkKeeps caller before after p =
     × (IsOpenPad (entries_of p before) → IsOpenPad (entries_of p after))
     × ((c : ℕ) → MaySubmit (entries_of p before) c → MaySubmit (entries_of p after) c)
     × ((c : ℕ) → MayManage (entries_of p before) c → MayManage (entries_of p after) c)
+    × (is_held (entries_of p after) ≡ is_held (entries_of p before))
+    × (IsOpenQueue (entries_of p before) → IsOpenQueue (entries_of p after))
 
 -- and what others took stays theirs
 abbrev pub WorkSpares : {A O : Type 0} → (A → O) → ℕ → List (BoardEntry A) → List (BoardEntry A) → ℕ → ℕ → ℕ → O → Type 0
 WorkSpares meaning caller before after p other n out =
     WorksFrom caller before after → LegalBoard after → caller ≢ other
     → MayFinish meaning (entries_of p before) other n out → MayFinish meaning (entries_of p after) other n out
+
+-- a queue that was just made is not held
+abbrev pub BornServed : {A : Type 0} → List (BoardEntry A) → ℕ → ℕ → ℕ → Type 0
+BornServed h caller q max = LegalBoard (h ++ Born caller q (Queue max) ∷ []) → is_held (entries_of q (h ++ Born caller q (Queue max) ∷ [])) ≡ false
+
+-- it is held after a Hold, not after a Go, and otherwise as before
+abbrev pub Holds : {A : Type 0} → List (BoardEntry A) → ℕ → ℕ → Type 0
+Holds h caller q =
+    (is_held (entries_of q (h ++ Hold caller q ∷ [])) ≡ true) × (is_held (entries_of q (h ++ Go caller q ∷ [])) ≡ false)
+
+abbrev pub StaysHeld : {A : Type 0} → List (BoardEntry A) → BoardEntry A → ℕ → Type 0
+StaysHeld h e q = held_in e ≡ None → is_held (entries_of q (h ++ e ∷ [])) ≡ is_held (entries_of q h)

@@ -2,18 +2,19 @@
 
 ghost use Rattle.std.specs.Prelude.{◌≡◌, ℕ, List, []};
 ghost use Rattle.board.specs.declared.entry.BoardEntry.{BoardEntry};
-ghost use Rattle.pcrypt.specs.Working.{NoneRuns, StaysIdle, AllIsDone, WorkKeeps, WorkSpares};
+ghost use Rattle.pcrypt.specs.Working.{NoneRuns, StaysIdle, AllIsDone, WorkKeeps, WorkSpares, BornServed, Holds, StaysHeld};
 
 use board::{pipelines_stay, slips_stay};
 
-/// While nobody is at a job that is so until one is taken; and where besides no request waits, all are finished.
+/// While nobody is at a job that is so until one is taken; and where besides no job is to be had, all accepted requests are
+/// finished, but for those of a held queue.
 pub fn none_runs<A>()
     ensures first { NoneRuns {A = A} [] }
     ensures stays { (h : List (BoardEntry A)) (e : BoardEntry A) → StaysIdle h e }
     ensures done { (h : List (BoardEntry A)) (p : ℕ) → AllIsDone h p }
 {}
 
-/// Work accepts nothing, hands nothing out and closes nothing.
+/// Work accepts nothing, hands nothing out, holds nothing and closes nothing.
 pub fn work_keeps<A>()
     ensures { (caller : ℕ) (before after : List (BoardEntry A)) (p : ℕ) → WorkKeeps caller before after p }
 {
@@ -26,3 +27,10 @@ pub fn work_spares<A, O>()
 {
     slips_stay::<A, O>();
 }
+
+/// A queue is held from its `hold` to its `go`.
+pub fn queues_hold<A>()
+    ensures born { (h : List (BoardEntry A)) (caller q max : ℕ) → BornServed h caller q max }
+    ensures held { (h : List (BoardEntry A)) (caller q : ℕ) → Holds h caller q }
+    ensures stays { (h : List (BoardEntry A)) (e : BoardEntry A) (q : ℕ) → StaysHeld h e q }
+{}

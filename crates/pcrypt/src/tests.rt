@@ -1,11 +1,12 @@
 //! Jobs on pads that one thread does.
 
-ghost use Rattle.std.specs.Prelude.{◌≡◌, IfOk, OnOk};
-ghost use Rattle.board.specs.Staying.{IsOpenFor};
+ghost use Rattle.std.specs.Prelude.{◌≡◌, false, IfOk, OnOk};
+ghost use Rattle.board.specs.Entries.{entries_of, is_held};
+ghost use Rattle.board.specs.Staying.{IsOpenFor, IsOpenQueueFor};
 ghost use Rattle.pcrypt.specs.Working.{NoneRuns};
 
-use crate::{drain_alone, none_runs, work_all, work_alone, work_keeps};
-use board::{BoardCore, BoardErr, Work, pipelines_stay};
+use crate::{drain_alone, none_runs, queues_hold, work_all, work_alone, work_keeps};
+use board::{BoardCore, BoardErr, Entered, Work, pipelines_stay};
 use kc_base::{Bytes, Callback, Callbacks};
 use std::alloc::Global;
 use std::process::Abort;
@@ -165,5 +166,74 @@ fn a_wrong_tag_fails_its_own_request(rt: HostRuntime) -> Result<(), Fail> {
     let mut into = Callbacks::new(alloc);
     work_and_drain(&mut board, pipe, &mut into)?;
     assert!(rt; are_done(alloc, &into, &[ZEROS, "", ZEROS])?);
+    Ok(())
+}
+
+/// Makes a queue of caller 0, in which two wait before its backlog begins.
+fn make_queue<W: Work>(board: &mut BoardCore<W>) -> Result<u64, BoardErr>
+    requires { NoneRuns board.old }
+    ensures open { IfOk result (λ queue. IsOpenQueueFor board.new queue 0) }
+    ensures free { IfOk result (λ queue. is_held (entries_of queue board.new) ≡ false) }
+    ensures idle { OnOk result (NoneRuns board.new) }
+{
+    pipelines_stay::<W::Ask>();
+    none_runs::<W::Ask>();
+    queues_hold::<W::Ask>();
+    let queue = board.born_queue(0, 2)?;
+    Ok(queue)
+}
+
+/// A board with one queue of caller 0.
+fn board_and_queue(alloc: Global) -> Result<(BoardCore<Job>, u64), Fail>
+    ensures open { IfOk result (λ made. IsOpenQueueFor made.0 made.1 0) }
+    ensures free { IfOk result (λ made. is_held (entries_of made.1 made.0) ≡ false) }
+    ensures idle { IfOk result (λ made. NoneRuns made.0) }
+{
+    none_runs::<Ask>();
+    let mut board = BoardCore::new(alloc)?;
+    let queue = make_queue(&mut board)?;
+    Ok((board, queue))
+}
+
+/// Puts a job into a queue of caller 0, with leave to wait.
+fn enqueue<W: Work>(board: &mut BoardCore<W>, queue: u64, job: W) -> Result<Entered, BoardErr>
+    requires open { IsOpenQueueFor board.old queue 0 }
+    requires free { is_held (entries_of queue board.old) ≡ false }
+    requires idle { NoneRuns board.old }
+    ensures open { IsOpenQueueFor board.new queue 0 }
+    ensures free { is_held (entries_of queue board.new) ≡ false }
+    ensures idle { NoneRuns board.new }
+{
+    pipelines_stay::<W::Ask>();
+    none_runs::<W::Ask>();
+    queues_hold::<W::Ask>();
+    let answer = board.enqueue(0, queue, job, true)?;
+    Ok(answer)
+}
+
+#[test]
+fn a_queue_is_drained_in_order(rt: HostRuntime) -> Result<(), Fail> {
+    let alloc = rt.alloc();
+    let (mut board, queue) = board_and_queue(alloc)?;
+    let first = job(&rt, alloc, Dir::Enc, ZEROS)?;
+    let second = job(&rt, alloc, Dir::Dec, WRONG)?;
+    let third = job(&rt, alloc, Dir::Dec, SEALED)?;
+    assert_eq!(rt; enqueue(&mut board, queue, first)?, Entered::InProgress(0));
+    assert_eq!(rt; enqueue(&mut board, queue, second)?, Entered::InProgress(1));
+    assert_eq!(rt; enqueue(&mut board, queue, third)?, Entered::Busy(2));
+    let mut into = Callbacks::new(alloc);
+    drain_alone(&mut board, 0, queue, &mut into)?;
+    let [
+        Callback::Started(2),
+        Callback::Done(0, Finished::Bytes(sealed)),
+        Callback::Done(1, Finished::BadMsg),
+        Callback::Done(2, Finished::Bytes(opened)),
+    ] = into.as_slice()
+    else {
+        assert!(rt; false);
+        return Ok(());
+    };
+    assert_eq!(rt; hex::encode(alloc, sealed.as_slice())?.as_str(), SEALED);
+    assert_eq!(rt; hex::encode(alloc, opened.as_slice())?.as_str(), ZEROS);
     Ok(())
 }

@@ -3,19 +3,21 @@
 ghost use Rattle.std.specs.Prelude.{◌≡◌, ◌+◌, MatchBool, MatchResult, IfErr};
 ghost use Rattle.board.specs.declared.board_core.BoardErr.TheVariants as BoardErr;
 ghost use Rattle.board.specs.Entries.{entries_of, NoneWaits};
-ghost use Rattle.board.specs.Legal.{MayManage, IsOpenPad, LegalBoard};
-ghost use Rattle.pcrypt.specs.Working.{unfinished, WorksFrom, NoneRuns, Drains};
+ghost use Rattle.board.specs.Legal.{MayManage, LegalBoard};
+ghost use Rattle.pcrypt.specs.Working.{unfinished, WorksFrom, NoneRuns, IsServed, Drains};
 
 use crate::laws::work_keeps;
-use board::{BoardCore, BoardErr, Taken, Work};
+use board::{BoardCore, BoardErr, Taken, Work, pipelines_stay};
 use kc_base::Callbacks;
 
-/// Takes one job, runs it and finishes it. False exactly where no request waits. No memory is taken.
+/// Takes one job, runs it and finishes it. False exactly where there is none to be had: each request of each pad is taken,
+/// and each queue is held, busy or empty. No memory is taken.
 pub fn work_alone<W: Work>(board: &mut BoardCore<W>, caller: u32) -> bool
     ensures worked { MatchBool result (WorksFrom caller board.old board.new × (unfinished board.new + 1 ≡ unfinished board.old)) ((board.new ≡ board.old) × NoneWaits board.old) }
     ensures alone { NoneRuns board.old → NoneRuns board.new }
     ensures legal { LegalBoard board.new }
 {
+    pipelines_stay::<W::Ask>();
     match board.take(caller) {
         Some(Taken { slip, job }) => {
             let out = job.run();
@@ -26,7 +28,7 @@ pub fn work_alone<W: Work>(board: &mut BoardCore<W>, caller: u32) -> bool
     }
 }
 
-/// Does one job after another until no request waits. No memory is taken.
+/// Does one job after another until there is none to be had. No memory is taken.
 pub fn work_all<W: Work>(board: &mut BoardCore<W>, caller: u32)
     ensures worked { WorksFrom caller board.old board.new }
     ensures none_waits { NoneWaits board.new }
@@ -36,9 +38,9 @@ pub fn work_all<W: Work>(board: &mut BoardCore<W>, caller: u32)
     while work_alone(board, caller) {}
 }
 
-/// Does one job after another until all requests of the pad are finished, and hands out the completions that no call
-/// handed out before, in the order of the requests. The caller made the pad, which isn't closed, and nobody is at a job.
-/// Only want of memory refuses, and hands out nothing.
+/// Does one job after another until all requests of the pipeline are finished, and hands out what no call handed out
+/// before. The caller made the pipeline, which is neither closed nor held, and nobody is at a job. Only want of memory
+/// refuses, and hands out nothing.
 pub fn drain_alone<W: Work>(
     board: &mut BoardCore<W>,
     caller: u32,
@@ -46,7 +48,7 @@ pub fn drain_alone<W: Work>(
     into: &mut Callbacks<W::Out>,
 ) -> Result<(), BoardErr>
     requires caller { MayManage (entries_of pipe board.old) caller }
-    requires pipe { IsOpenPad (entries_of pipe board.old) }
+    requires pipe { IsServed (entries_of pipe board.old) }
     requires idle { NoneRuns board.old }
     ensures drained { MatchResult result (λ _. Drains W.meaning caller pipe board.old board.new into.old.list into.new.list) (λ _. WorksFrom caller board.old board.new × (into.new.list ≡ into.old.list)) }
     ensures refused { IfErr result (λ e. e ≡ BoardErr.Memory) }

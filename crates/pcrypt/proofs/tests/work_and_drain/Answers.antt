@@ -1,4 +1,4 @@
-use Rattle.std.proofs.Common.{arith}
+use Rattle.std.proofs.Common.{arith, inl}
 use Rattle.pcrypt.proofs.tests.work_and_drain.Goals as goal
 
 pub try_drain-requires-clause-caller : goal.try_drain-requires-clause-caller
@@ -7,10 +7,11 @@ try_drain-requires-clause-caller g c κs within =
 
 pub try_drain-requires-clause-pipe : goal.try_drain-requires-clause-pipe
 try_drain-requires-clause-pipe g c κs within =
-    (c.work_keeps.ensures 0 c.args.board.now c.work_all.new.board c.args.pipe c.work_all.ensures.worked).2 c.requires.open.0
+    inl ((c.work_keeps.ensures 0 c.args.board.now c.work_all.new.board c.args.pipe c.work_all.ensures.worked).2 c.requires.open.0)
 
 pub unreachable-requires : goal.unreachable-requires
 unreachable-requires g c =
-    let done = c.none_runs.ensures.done c.work_all.new.board c.args.pipe c.work_all.ensures.none_waits (c.work_all.ensures.alone c.requires.idle) in
+    let keeps = c.work_keeps.ensures 0 c.args.board.now c.work_all.new.board c.args.pipe c.work_all.ensures.worked in
+    let done = c.none_runs.ensures.done c.work_all.new.board c.args.pipe c.work_all.ensures.legal c.work_all.ensures.none_waits (c.work_all.ensures.alone c.requires.idle) (inl (keeps.2 c.requires.open.0)) in
     let left = rw c.in-Ok-false.field-0-test at c.in-Ok-false.ensures.drained in
     absurd (omega (arith, done, left))

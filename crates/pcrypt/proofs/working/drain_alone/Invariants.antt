@@ -1,7 +1,7 @@
 use Rattle.std.proofs.Common.{◌≡◌}
 use Rattle.board.specs.Entries.{entries_of}
-use Rattle.board.specs.Legal.{MayManage, IsOpenPad}
-use Rattle.pcrypt.specs.Working.{unfinished, WorksFrom, NoneRuns}
+use Rattle.board.specs.Legal.{MayManage}
+use Rattle.pcrypt.specs.Working.{unfinished, WorksFrom, NoneRuns, IsServed}
 use Rattle.pcrypt.proofs.working.drain_alone.Given as goal
 
 -- so far only work was done, and nothing was handed out
@@ -11,7 +11,7 @@ invariant-loop-board g l =
       worked : WorksFrom l.caller l.initial.board l.board;
       idle : NoneRuns l.board;
       managed : MayManage (entries_of l.pipe l.board) l.caller;
-      opened : IsOpenPad (entries_of l.pipe l.board);
+      served : IsServed (entries_of l.pipe l.board);
       same : l.into.list ≡ l.initial.into.list;
     }
 
