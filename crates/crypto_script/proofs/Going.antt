@@ -25,7 +25,7 @@ same_turn : (a b : Turn) → a.registry ≡ b.registry → a.answers ≡ b.answe
 same_turn a b r t w =
     ap (λ x. let y : Turn = record { registry = x; answers = a.answers; after = a.after } in y) r
     ∙ (ap (λ x. let y : Turn = record { registry = b.registry; answers = x; after = a.after } in y) t
-      ∙ ap (λ x. let y : Turn = record { registry = b.registry; answers = b.answers; after = x } in y) w)
+    ∙ ap (λ x. let y : Turn = record { registry = b.registry; answers = b.answers; after = x } in y) w)
 
 joined-assoc : (a b c : Turn) → joined (joined a b) c ≡ joined a (joined b c)
 joined-assoc a b c = same_turn _ _ (append_assoc a.registry b.registry c.registry) (append_assoc a.answers b.answers c.answers) refl
@@ -37,16 +37,19 @@ joined-silent walk a = same_turn _ _ (sym (append-nil a.registry)) (sym (append-
 lines-more : (walk : Walk) (n m : ℕ) (done : List Line) (line : Line) (t u : Turn) → LinesTurn walk n done t → m ≡ n + length done → LineTurn t.after m line u
     → LinesTurn walk n (done ++ line ∷ []) (joined t u)
 lines-more walk n m [] line t u lines e next = (
-      u, silent u.after,
-      subst (λ k. LineTurn walk k line u) (e ∙ add-zero n) (subst (λ (s : Turn). LineTurn s.after m line u) lines next),
-      refl,
-      ap (λ s. joined s u) lines ∙ joined-silent walk u,
-    )
+  u,
+  silent u.after,
+  subst (λ k. LineTurn walk k line u) (e ∙ add-zero n) (subst (λ (s : Turn). LineTurn s.after m line u) lines next),
+  refl,
+  ap (λ s. joined s u) lines ∙ joined-silent walk u,
+)
 lines-more walk n m (first ∷ done) line t u lines e next = (
-      lines.0, joined lines.1 u, lines.2,
-      lines-more lines.0.after (n + 1) m done line lines.1 u lines.3 (omega (arith, e)) (subst (λ (s : Turn). LineTurn s.after m line u) lines.4 next),
-      ap (λ s. joined s u) lines.4 ∙ joined-assoc lines.0 lines.1 u,
-    )
+  lines.0,
+  joined lines.1 u,
+  lines.2,
+  lines-more lines.0.after (n + 1) m done line lines.1 u lines.3 (omega (arith, e)) (subst (λ (s : Turn). LineTurn s.after m line u) lines.4 next),
+  ap (λ s. joined s u) lines.4 ∙ joined-assoc lines.0 lines.1 u,
+)
 
 texts-joined : (a b : List Answer) → flat_map text_of (a ++ b) ≡ flat_map text_of a ++ flat_map text_of b
 texts-joined [] b = refl
@@ -146,10 +149,10 @@ fronted all r a c turn of holds written = (written.0, (turn, of, holds, written.
 
 front-joined : (a b c : Option (List ℕ)) (t u : Turn) → Appends a b (text_in t) → AppendsFront b c (text_in u) → AppendsFront a c (text_in (joined t u))
 front-joined a b c t u first part = (
-      text_in t ++ part.0,
-      (part.1.0, append_assoc (text_in t) part.0 part.1.0 ∙ (ap (λ x. text_in t ++ x) part.1.1 ∙ sym (text-joined t u))),
-      Appends-trans a b c (text_in t) part.0 first part.2,
-    )
+  text_in t ++ part.0,
+  (part.1.0, append_assoc (text_in t) part.0 part.1.0 ∙ (ap (λ x. text_in t ++ x) part.1.1 ∙ sym (text-joined t u))),
+  Appends-trans a b c (text_in t) part.0 first part.2,
+)
 
 some-front : (all done left : List Line) (t : Turn) → all ≡ done ++ left → LinesTurn start 1 done t → FrontTurn all t
 some-front all done left t cut lines =
@@ -162,8 +165,8 @@ stopped : (all left : List Line) (number : ℕ) (r r' : List RegEntry) (a b c : 
     → Extends (reg_calls 0 r) (reg_calls 0 r') → Keeps b c → Gains a c (IsFrontText all r')
 stopped all left number r r' a b c walk going asked kept =
     fronted all r' a c going.turn (some-front all going.done left going.turn going.cut going.lines)
-      (record { registry = subst (λ calls. Extends calls (reg_calls 0 r')) going.holds.registry asked; settled = going.holds.settled })
-      (text_in going.turn, whole-prefix (text_in going.turn), keeps-text a b c (text_in going.turn) going.written kept)
+    (record { registry = subst (λ calls. Extends calls (reg_calls 0 r')) going.holds.registry asked; settled = going.holds.settled })
+    (text_in going.turn, whole-prefix (text_in going.turn), keeps-text a b c (text_in going.turn) going.written kept)
 
 -- a line that breaks off leaves a front of the text
 pub going-breaks : (all left more : List Line) (number : ℕ) (line : Line) (r r' : List RegEntry) (a b c : Option (List ℕ)) (walk : Walk)
@@ -173,10 +176,10 @@ going-breaks all left more number line r r' a b c walk going first (inr part) =
     let turn = joined going.turn part.0 in
     let holds = holds-more r r' going.turn part.0 part.1 going.holds part.3 in
     fronted all r' a c turn
-      (some-front all (going.done ++ line ∷ []) more turn (going.cut ∙ (ap (λ ls. going.done ++ ls) first ∙ sym (append_assoc going.done (line ∷ []) more)))
-        (lines-more start 1 number going.done line going.turn part.0 going.lines going.counted (subst (λ w. LineTurn w number line part.0) going.walk_is part.2)))
-      (record { registry = extends-by _ _ holds.registry; settled = holds.settled })
-      (front-joined a b c going.turn part.0 going.written part.4)
+    (some-front all (going.done ++ line ∷ []) more turn (going.cut ∙ (ap (λ ls. going.done ++ ls) first ∙ sym (append_assoc going.done (line ∷ []) more)))
+    (lines-more start 1 number going.done line going.turn part.0 going.lines going.counted (subst (λ w. LineTurn w number line part.0) going.walk_is part.2)))
+    (record { registry = extends-by _ _ holds.registry; settled = holds.settled })
+    (front-joined a b c going.turn part.0 going.written part.4)
 
 all-done : (all done left : List Line) → all ≡ done ++ left → left ≡ [] → done ≡ all
 all-done all done left cut none = sym (cut ∙ (ap (λ ls. done ++ ls) none ∙ append-nil done))
@@ -209,7 +212,7 @@ going-end_breaks all left number r r' a b c walk going none (inr part) =
     let turn = joined going.turn part.0 in
     let holds = holds-more r r' going.turn part.0 part.1 going.holds part.3 in
     fronted all r' a c turn (inr (script-turn all left number r a b walk part.0 going none part.2))
-      (record { registry = extends-by _ _ holds.registry; settled = holds.settled }) (front-joined a b c going.turn part.0 going.written part.4)
+    (record { registry = extends-by _ _ holds.registry; settled = holds.settled }) (front-joined a b c going.turn part.0 going.written part.4)
 
 -- ---- a reply, written
 

@@ -43,4 +43,4 @@ Writes IsTurn r r' after held held' = (turn : Turn) × IsTurn turn × Does turn 
 abbrev pub Breaks : (Turn → Type 0) → List RegEntry → List RegEntry → Option (List ℕ) → Option (List ℕ) → Type 0
 Breaks IsTurn r r' held held' =
     (Extends (reg_calls 0 r) (reg_calls 0 r') × Keeps held held')
-      ⊎ ((turn : Turn) × (after : Walk) × IsTurn turn × Does turn r r' after × AppendsFront held held' (text_in turn))
+    ⊎ ((turn : Turn) × (after : Walk) × IsTurn turn × Does turn r r' after × AppendsFront held held' (text_in turn))

@@ -136,13 +136,13 @@ pub no-driver : (name aes sha256 ghash : List ℕ) (priority : ℕ) (a b c : Boo
     → ghash ≡ 103 ∷ 104 ∷ 97 ∷ 115 ∷ 104 ∷ 45 ∷ 103 ∷ 101 ∷ 110 ∷ 101 ∷ 114 ∷ 105 ∷ 99 ∷ [] → None ≡ driver_spec name priority
 no-driver name aes sha256 ghash priority a b c at_a at_b at_c not_a not_b not_c is_a is_b is_c =
     sym (ap (λ (t : Bool). chosen t (bytes_eq name (codes "sha256-generic")) (bytes_eq name (codes "ghash-generic"))) (ap (bytes_eq name) (sym is_a) ∙ (sym at_a ∙ not_a))
-      ∙ (ap (λ (t : Bool). chosen false t (bytes_eq name (codes "ghash-generic"))) (ap (bytes_eq name) (sym is_b) ∙ (sym at_b ∙ not_b))
-        ∙ ap (λ (t : Bool). chosen false false t) (ap (bytes_eq name) (sym is_c) ∙ (sym at_c ∙ not_c))))
+    ∙ (ap (λ (t : Bool). chosen false t (bytes_eq name (codes "ghash-generic"))) (ap (bytes_eq name) (sym is_b) ∙ (sym at_b ∙ not_b))
+    ∙ ap (λ (t : Bool). chosen false false t) (ap (bytes_eq name) (sym is_c) ∙ (sym at_c ∙ not_c))))
   where
     chosen : Bool → Bool → Bool → Option Spec
     chosen x y z =
         option_map (λ (s : Spec). record s { priority = priority })
-          (cond x (Some (opened (codes "aes") (codes "aes-generic") Cipher)) (cond y (Some (opened (codes "sha256") (codes "sha256-generic") Hash)) (cond z (Some (opened (codes "ghash") (codes "ghash-generic") Ghash)) None)))
+        (cond x (Some (opened (codes "aes") (codes "aes-generic") Cipher)) (cond y (Some (opened (codes "sha256") (codes "sha256-generic") Hash)) (cond z (Some (opened (codes "ghash") (codes "ghash-generic") Ghash)) None)))
 
 pub register-unknown : (walk : Walk) (n : ℕ) (name driver : List ℕ) (priority : ℕ) (found : Option Spec) (r : List RegEntry) (answer : Answer)
     → Stands walk r → name ≡ driver → found ≡ driver_spec name priority → found ≡ None → answer ≡ said.Refused n errno.ENOENT
@@ -164,7 +164,7 @@ register-high walk n name driver priority found spec r answer stands same found_
     let is_high : nat_lt 100000 priority ≡ true = grind (arith, nat_tests) in
     let test : nat_lt 100000 spec.priority ≡ true = ap (nat_lt 100000) known.priority_is ∙ is_high in
     refusal-done (CommandTurn walk n (command.Register driver priority)) walk r n errno.EINVAL answer stands
-      (enlisted.Exist, sym (ap (λ f. register_turn walk n f enlisted.Exist) at ∙ ap (enlist_turn walk n spec enlisted.Exist) test)) says
+    (enlisted.Exist, sym (ap (λ f. register_turn walk n f enlisted.Exist) at ∙ ap (enlist_turn walk n spec enlisted.Exist) test)) says
 
 pub register-asked : (walk : Walk) (n : ℕ) (name driver : List ℕ) (priority : ℕ) (found : Option Spec) (spec : Spec) (r r' : List RegEntry) (answer : Answer)
     → Stands walk r → name ≡ driver → found ≡ driver_spec name priority → found ≡ Some spec → priority ≤ 100000
@@ -178,8 +178,8 @@ register-asked walk n name driver priority found spec r r' answer stands same fo
     let test : nat_lt 100000 spec.priority ≡ false = ap (nat_lt 100000) known.priority_is ∙ is_low in
     let how = enlist_answer (rows_of r) spec in
     quiet-done (CommandTurn walk n (command.Register driver priority)) walk r r' (entry.Enlist 0 spec how) (Enlists spec how) (asking (Enlists spec how) (answered walk (enlist_said n how))) (answer ∷ [])
-      stands grown refl refl known.listed refl refl (ap (λ a. a ∷ []) says) refl (λ id. refl)
-      (how, sym (ap (λ f. register_turn walk n f how) at ∙ ap (enlist_turn walk n spec how) test))
+    stands grown refl refl known.listed refl refl (ap (λ a. a ∷ []) says) refl (λ id. refl)
+    (how, sym (ap (λ f. register_turn walk n f how) at ∙ ap (enlist_turn walk n spec how) test))
 
 pub enlist-ok : (n : ℕ) (how : Enlisted) (id : ℕ) → Ok id ≡ enlist_result how → said.Ok n ≡ enlist_said n how
 enlist-ok n (enlisted.Made made) id e = refl
@@ -207,7 +207,7 @@ pub unregister-asked : (walk : Walk) (n : ℕ) (name driver : List ℕ) (r r' : 
 unregister-asked walk n name driver r r' answer stands same grown says =
     let id = driver_place (rows_of r) name in
     quiet-done (CommandTurn walk n (command.Unregister driver)) walk r r' (entry.Unlist 0 name id) (Unlists name id) (unregister_turn walk n name id) (answer ∷ [])
-      stands grown refl refl tt refl refl (ap (λ a. a ∷ []) says) refl (λ id. refl) (id, ap (λ d. unregister_turn walk n d id) same)
+    stands grown refl refl tt refl refl (ap (λ a. a ∷ []) says) refl (λ id. refl) (id, ap (λ d. unregister_turn walk n d id) same)
 
 pub unlist-ok : (n : ℕ) (id : Option ℕ) → Ok tt ≡ unlist_result id → said.Ok n ≡ unlist_said n id
 unlist-ok n (Some id) e = refl
@@ -223,7 +223,7 @@ pub refs-asked : (walk : Walk) (n : ℕ) (name driver : List ℕ) (r r' : List R
 refs-asked walk n name driver r r' answer stands same grown says =
     let found = refs_answer (rows_of r) name in
     quiet-done (CommandTurn walk n (command.Refs driver)) walk r r' (entry.Refs 0 name) (Counts name found) (refs_turn walk n name found) (answer ∷ [])
-      stands grown refl refl tt refl refl (ap (λ a. a ∷ []) says) refl (λ id. refl) (found, ap (λ d. refs_turn walk n d found) same)
+    stands grown refl refl tt refl refl (ap (λ a. a ∷ []) says) refl (λ id. refl) (found, ap (λ d. refs_turn walk n d found) same)
 
 pub refs-ok : (n : ℕ) (found : Option RefAnswer) (references : RefAnswer) → Ok references ≡ refs_result found → said.Refs n references.count references.listed ≡ refs_said n found
 refs-ok n (Some answer) references e = let same : references ≡ answer = cc in ap (λ (a : RefAnswer). said.Refs n a.count a.listed) same
@@ -239,7 +239,7 @@ pub list-asked : (walk : Walk) (n : ℕ) (rows shown : List ListRow) (r r' : Lis
 list-asked walk n rows shown r r' answers stands rows_are same grown says =
     let listed = listing (rows_of r) in
     quiet-done (CommandTurn walk n command.List) walk r r' (entry.List 0) (Lists listed) (list_turn walk n listed) answers
-      stands grown refl refl tt refl refl (says ∙ ap (λ rs. map (row_said n) rs ++ said.Listed n (length rs) ∷ []) (same ∙ rows_are)) refl (λ id. refl) (listed, refl)
+    stands grown refl refl tt refl refl (says ∙ ap (λ rs. map (row_said n) rs ++ said.Listed n (length rs) ∷ []) (same ∙ rows_are)) refl (λ id. refl) (listed, refl)
 
 -- ---- the transform of a label
 
@@ -268,7 +268,7 @@ pub free-asked : (walk walk' : Walk) (n : ℕ) (label : List ℕ) (place : ℕ) 
 free-asked walk walk' n label place r r' s stands grown leaves =
     let turn : Turn = asking (Puts s.live.id) (answered (without walk label) (said.Ok n)) in
     let done = asked walk walk' r r' (entry.Put 0 s.live.id) (Puts s.live.id) turn (said.Ok n ∷ []) stands grown refl refl tt refl refl refl leaves
-      (λ id. let a = uses-removed label walk.lives place id s in let b = ap (λ (w : Walk). uses id w.lives) leaves in omega (arith, a, b)) in
+    (λ id. let a = uses-removed label walk.lives place id s in let b = ap (λ (w : Walk). uses id w.lives) leaves in omega (arith, a, b)) in
     (turn, sym (ap (free_turn walk n label) s.found), done.0, done.1, done.2)
 
 -- the answers of what changes a transform and asks nothing
@@ -310,8 +310,8 @@ authsize-set walk n size label place items lives old new answer s view are was t
     let now : new ≡ sized s.live size = is ∙ ap (λ (l : Live). sized l size) was in
     ap (λ (w : Walk). answered w answer) (changed-walk walk label place items lives new s view are (ap (λ (l : Live). l.label) now))
     ∙ (ap (λ (l : Live). answered (with_live walk l) answer) now
-      ∙ (ap (answered (with_live walk (sized s.live size))) says
-        ∙ sym (ap (authsize_turn walk n size) s.found ∙ ap (if_sized walk n size s.live) (ap (λ (l : Live). takes_tag (mode_of l.plan) size) (sym was) ∙ taken))))
+    ∙ (ap (answered (with_live walk (sized s.live size))) says
+    ∙ sym (ap (authsize_turn walk n size) s.found ∙ ap (if_sized walk n size s.live) (ap (λ (l : Live). takes_tag (mode_of l.plan) size) (sym was) ∙ taken))))
 
 pub authsize-kept : (walk : Walk) (n size : ℕ) (label : List ℕ) (place : ℕ) (items lives : List Live) (old new : Live) (answer : Answer) (s : Split label walk.lives 0 place)
     → viewed items ≡ walk → lives ≡ set items place new → old ≡ s.live → takes_tag (mode_of old.plan) size ≡ false → new ≡ old → answer ≡ said.Refused n errno.EINVAL
@@ -330,9 +330,9 @@ key-set walk n name key label place items lives old new answer s view are was sa
     let now : new ≡ keyed s.live key = is ∙ (ap (λ (l : Live). keyed l name) was ∙ ap (keyed s.live) same) in
     ap (λ (w : Walk). answered w answer) (changed-walk walk label place items lives new s view are (ap (λ (l : Live). l.label) now))
     ∙ (ap (λ (l : Live). answered (with_live walk l) answer) now
-      ∙ (ap (answered (with_live walk (keyed s.live key))) says
-        ∙ sym (ap (key_turn walk n key) s.found
-          ∙ ap (if_keyed walk n key s.live) (ap (λ (l : Live). takes_key_of (mode_of l.plan) key) (sym was) ∙ (ap (takes_key_of (mode_of old.plan)) (sym same) ∙ taken)))))
+    ∙ (ap (answered (with_live walk (keyed s.live key))) says
+    ∙ sym (ap (key_turn walk n key) s.found
+    ∙ ap (if_keyed walk n key s.live) (ap (λ (l : Live). takes_key_of (mode_of l.plan) key) (sym was) ∙ (ap (takes_key_of (mode_of old.plan)) (sym same) ∙ taken)))))
 
 pub key-kept : (walk : Walk) (n : ℕ) (name key label : List ℕ) (place : ℕ) (items lives : List Live) (old new : Live) (answer : Answer) (s : Split label walk.lives 0 place)
     → viewed items ≡ walk → lives ≡ set items place new → old ≡ s.live → name ≡ key → takes_key_of (mode_of old.plan) name ≡ false → new ≡ old → answer ≡ said.Refused n errno.EINVAL
@@ -340,8 +340,8 @@ pub key-kept : (walk : Walk) (n : ℕ) (name key label : List ℕ) (place : ℕ)
 key-kept walk n name key label place items lives old new answer s view are was same taken is says =
     ap (λ (w : Walk). answered w answer) (kept-walk walk label place items lives new s view are (is ∙ was))
     ∙ (ap (answered walk) says
-      ∙ sym (ap (key_turn walk n key) s.found
-        ∙ ap (if_keyed walk n key s.live) (ap (λ (l : Live). takes_key_of (mode_of l.plan) key) (sym was) ∙ (ap (takes_key_of (mode_of old.plan)) (sym same) ∙ taken))))
+    ∙ sym (ap (key_turn walk n key) s.found
+    ∙ ap (if_keyed walk n key s.live) (ap (λ (l : Live). takes_key_of (mode_of l.plan) key) (sym was) ∙ (ap (takes_key_of (mode_of old.plan)) (sym same) ∙ taken))))
 
 -- ---- `alloc`
 
@@ -359,7 +359,7 @@ pub bind-got : (walk after : Walk) (n : ℕ) (label : List ℕ) (len : Option �
 bind-got walk after n label len id spec plan listed r r' answer stands at planned grown held leaves says =
     let turn : Turn = asking (Gets id true) (got_turn walk n label id spec plan true) in
     let done = asked walk after r r' (entry.Get 0 id true) (Gets id true) turn (answer ∷ []) stands (grown ∙ ap (λ b. r ++ entry.Get 0 id b ∷ []) held) refl refl tt refl refl (ap (λ a. a ∷ []) says) leaves
-      (λ k. let a = uses-append k walk.lives (new_live label id plan) in let b = ap (λ (w : Walk). uses k w.lives) leaves in omega (arith, a, b)) in
+    (λ k. let a = uses-append k walk.lives (new_live label id plan) in let b = ap (λ (w : Walk). uses k w.lives) leaves in omega (arith, a, b)) in
     (spec, true, sym at, (turn, ap (λ p. planned_turn walk n label id spec p true) planned, done.0, done.1, done.2))
 
 pub bind-lost : (walk : Walk) (n : ℕ) (label : List ℕ) (len : Option ℕ) (id : ℕ) (spec : Spec) (plan : Plan) (listed : Bool) (r r' : List RegEntry) (answer : Answer)
@@ -475,5 +475,5 @@ alloc-found walk after n label name text len tree r r' answers new few read fits
     let found = finds.0 in
     let ok = finds.1 in
     let is : finds.2.0 ≡ alloc_turn walk n label name len found ok =
-        finds.2.1 ∙ (ap (λ t. looked_turn walk n label t len found ok) same ∙ sym (alloc-named walk n label name len found ok (Ok tree) new few read ∙ named-looked walk n label name len found ok tree fits plain)) in
+    finds.2.1 ∙ (ap (λ t. looked_turn walk n label t len found ok) same ∙ sym (alloc-named walk n label name len found ok (Ok tree) new few read ∙ named-looked walk n label name len found ok tree fits plain)) in
     (finds.2.0, (found, ok, is), finds.2.2, finds.2.3, finds.2.4)

@@ -54,14 +54,14 @@ still-stands walk walk' r r' calls stands same settled made none balanced =
       none = none;
       settled = subst AllSettled (sym same) (AllSettled-append (reg_calls 0 r) calls stands.settled settled);
       referenced = λ id.
-        ap (got id) same
-        ∙ (let a = got-append id (reg_calls 0 r) calls in
-           let b = given-append id (reg_calls 0 r) calls in
-           let c = stands.referenced id in
-           let d = balanced id in
-           let e : got id (reg_calls 0 r ++ calls) ≡ given id (reg_calls 0 r ++ calls) + uses id walk'.lives = omega (arith, a, b, c, d) in
-           e)
-        ∙ ap (λ n. n + uses id walk'.lives) (sym (ap (given id) same));
+          ap (got id) same
+          ∙ (let a = got-append id (reg_calls 0 r) calls in
+          let b = given-append id (reg_calls 0 r) calls in
+          let c = stands.referenced id in
+          let d = balanced id in
+          let e : got id (reg_calls 0 r ++ calls) ≡ given id (reg_calls 0 r ++ calls) + uses id walk'.lives = omega (arith, a, b, c, d) in
+          e)
+          ∙ ap (λ n. n + uses id walk'.lives) (sym (ap (given id) same));
     }
 
 -- ---- one turn
@@ -73,15 +73,15 @@ DoneBy turn r r' answers after = Does turn r r' after × Stands after r' × (ans
 pub unasked : (walk walk' : Walk) (r : List RegEntry) (turn : Turn) (answers : List Answer) → Stands walk r → turn.registry ≡ [] → answers ≡ turn.answers → walk' ≡ turn.after
     → ((id : ℕ) → uses id walk.lives ≡ uses id walk'.lives) → DoneBy turn r r answers walk'
 unasked walk walk' r turn answers stands none says leaves same = (
-      record {
-        goes_on = ([], sym (append-nil r));
-        registry = sym (ap (λ calls. reg_calls 0 r ++ calls) none ∙ append-nil (reg_calls 0 r));
-        settled = subst AllSettled (sym none) tt;
-        after_is = leaves;
-      },
-      record { made = stands.made; none = stands.none; settled = stands.settled; referenced = λ id. stands.referenced id ∙ ap (λ n. given id (reg_calls 0 r) + n) (same id) },
-      says,
-    )
+  record {
+    goes_on = ([], sym (append-nil r));
+    registry = sym (ap (λ calls. reg_calls 0 r ++ calls) none ∙ append-nil (reg_calls 0 r));
+    settled = subst AllSettled (sym none) tt;
+    after_is = leaves;
+  },
+  record { made = stands.made; none = stands.none; settled = stands.settled; referenced = λ id. stands.referenced id ∙ ap (λ n. given id (reg_calls 0 r) + n) (same id) },
+  says,
+)
 
 one-more : (r : List RegEntry) (next : RegEntry) (call : RegCall) → AllSettled (reg_calls 0 r) → reg_call_of (r ++ next ∷ []) 0 r next ≡ Some call
     → reg_calls 0 (r ++ next ∷ []) ≡ reg_calls 0 r ++ call ∷ []
@@ -94,8 +94,7 @@ pub asked : (walk walk' : Walk) (r r' : List RegEntry) (next : RegEntry) (call :
     → turn.registry ≡ call ∷ [] → answers ≡ turn.answers → walk' ≡ turn.after
     → ((id : ℕ) → got id (call ∷ []) + uses id walk.lives ≡ given id (call ∷ []) + uses id walk'.lives) → DoneBy turn r r' answers walk'
 asked walk walk' r r' next call turn answers stands grown is settles made begins calls says leaves balanced =
-    let more : reg_calls 0 r' ≡ reg_calls 0 r ++ call ∷ [] = ap (reg_calls 0) grown ∙ one-more r next call stands.settled is in
-    (
+    let more : reg_calls 0 r' ≡ reg_calls 0 r ++ call ∷ [] = ap (reg_calls 0) grown ∙ one-more r next call stands.settled is in (
       record {
         goes_on = (next ∷ [], grown);
         registry = more ∙ ap (λ cs. reg_calls 0 r ++ cs) (sym calls);
@@ -103,7 +102,7 @@ asked walk walk' r r' next call turn answers stands grown is settles made begins
         after_is = leaves;
       },
       still-stands walk walk' r r' (call ∷ []) stands more (settles, tt) (subst (Made table) (sym grown) (Made-push table r next stands.made made))
-        (subst NonePending (sym grown) (nothing-begins r next stands.none begins)) balanced,
+          (subst NonePending (sym grown) (nothing-begins r next stands.none begins)) balanced,
       says,
     )
 
@@ -145,9 +144,9 @@ look-more r r' text found settled look =
     let next = entry.Look 0 text false look.answer in
     ap (reg_calls 0) look.history
     ∙ (reg_calls-append 0 r (next ∷ look.work) settled
-      ∙ ap (λ calls. reg_calls 0 r ++ calls)
-        (ap (λ f. Looks text f ∷ reg_calls_from (r ++ next ∷ look.work) 0 (r ++ next ∷ []) look.work) (subst (λ h. found_in h look.answer ≡ Some found) look.history look.found_is)
-          ∙ ap (λ calls. Looks text (Some found) ∷ calls) (work-asks_nothing (r ++ next ∷ look.work) 0 (r ++ next ∷ []) look.work look.all_work)))
+    ∙ ap (λ calls. reg_calls 0 r ++ calls)
+    (ap (λ f. Looks text f ∷ reg_calls_from (r ++ next ∷ look.work) 0 (r ++ next ∷ []) look.work) (subst (λ h. found_in h look.answer ≡ Some found) look.history look.found_is)
+    ∙ ap (λ calls. Looks text (Some found) ∷ calls) (work-asks_nothing (r ++ next ∷ look.work) 0 (r ++ next ∷ []) look.work look.all_work)))
 
 pub look-stands : (walk : Walk) (r r' : List RegEntry) (text : List ℕ) (found : Found) → Stands walk r → LooksFor r r' 0 text false found → Made table r' → NonePending r' → Stands walk r'
 look-stands walk r r' text found stands look made none =

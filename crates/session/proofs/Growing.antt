@@ -29,7 +29,7 @@ pub registered-stays : (h more : List RegEntry) (id : ℕ) (spec : Spec) → sli
 registered-stays h [] id spec e = subst (λ g. slice_get (registered g) id ≡ Some spec) (sym (append-nil h)) e
 registered-stays h (x ∷ more) id spec e =
     let next : slice_get (registered (h ++ x ∷ [])) id ≡ Some spec =
-        ap (λ specs. slice_get specs id) (registered-push h x) ∙ get-front (registered h) (cons_option (registered_by x) []) id spec e in
+    ap (λ specs. slice_get specs id) (registered-push h x) ∙ get-front (registered h) (cons_option (registered_by x) []) id spec e in
     subst (λ g. slice_get (registered g) id ≡ Some spec) (append_assoc h (x ∷ []) more) (registered-stays (h ++ x ∷ []) more id spec next)
 
 -- and how a larval ended
@@ -102,7 +102,7 @@ reg_calls_from-append : (h : List RegEntry) (caller : ℕ) (before a b : List Re
 reg_calls_from-append h caller before [] b = ap (λ front. reg_calls_from h caller front b) (sym (append-nil before))
 reg_calls_from-append h caller before (next ∷ a) b =
     ap (prepend (reg_call_of h caller before next)) (reg_calls_from-append h caller (before ++ next ∷ []) a b
-      ∙ ap (λ front. reg_calls_from h caller (before ++ next ∷ []) a ++ reg_calls_from h caller front b) (append_assoc before (next ∷ []) a))
+    ∙ ap (λ front. reg_calls_from h caller (before ++ next ∷ []) a ++ reg_calls_from h caller front b) (append_assoc before (next ∷ []) a))
     ∙ prepend-append (reg_call_of h caller before next) _ _
 
 -- a history that goes on has the script's calls of before, and those of what was appended

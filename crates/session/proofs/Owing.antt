@@ -61,18 +61,18 @@ got-from h caller id before [] = ap (count_by (gets_as caller id)) (append-nil b
 got-from h caller id before (e ∷ es) =
     ap (count_by (gets_as caller id)) (sym (append_assoc before (e ∷ []) es))
     ∙ (got-from h caller id (before ++ e ∷ []) es
-      ∙ (let a = count_by-push (gets_as caller id) before e in
-         let b = got-first h caller id before e (reg_calls_from h caller (before ++ e ∷ []) es) in
-         omega (arith, a, b)))
+    ∙ (let a = count_by-push (gets_as caller id) before e in
+    let b = got-first h caller id before e (reg_calls_from h caller (before ++ e ∷ []) es) in
+    omega (arith, a, b)))
 
 given-from : (h : List RegEntry) (caller id : ℕ) (before entries : List RegEntry) → count_by (puts_as caller id) (before ++ entries) ≡ count_by (puts_as caller id) before + given id (reg_calls_from h caller before entries)
 given-from h caller id before [] = ap (count_by (puts_as caller id)) (append-nil before) ∙ omega arith
 given-from h caller id before (e ∷ es) =
     ap (count_by (puts_as caller id)) (sym (append_assoc before (e ∷ []) es))
     ∙ (given-from h caller id (before ++ e ∷ []) es
-      ∙ (let a = count_by-push (puts_as caller id) before e in
-         let b = given-first h caller id before e (reg_calls_from h caller (before ++ e ∷ []) es) in
-         omega (arith, a, b)))
+    ∙ (let a = count_by-push (puts_as caller id) before e in
+    let b = given-first h caller id before e (reg_calls_from h caller (before ++ e ∷ []) es) in
+    omega (arith, a, b)))
 
 got-all : (caller id : ℕ) (h : List RegEntry) → count_by (gets_as caller id) h ≡ got id (reg_calls caller h)
 unfolding reg_calls

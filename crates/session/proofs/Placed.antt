@@ -79,7 +79,7 @@ pub split-remove : (label : List ℕ) (lives : List Live) (place : ℕ) (s : Spl
 split-remove label lives place s =
     ap (λ ls. remove ls place) s.lives_is
     ∙ (remove-append_right s.before (s.live ∷ s.later) (length s.before) place refl (omega (arith, s.place_is))
-      ∙ (ap (λ k. s.before ++ remove (s.live ∷ s.later) k) (let e : place - length s.before ≡ 0 = omega (arith, s.place_is) in e) ∙ sym s.removes))
+    ∙ (ap (λ k. s.before ++ remove (s.live ∷ s.later) k) (let e : place - length s.before ≡ 0 = omega (arith, s.place_is) in e) ∙ sym s.removes))
 
 -- ---- how many stand on an entry
 
@@ -92,7 +92,7 @@ pub uses-replaced : (label : List ℕ) (lives : List Live) (place id : ℕ) (new
 uses-replaced label lives place id new s l i =
     ap (uses id) s.lives_is
     ∙ (uses-split id s.before s.later s.live
-      ∙ (ap (λ k. cond (k == id) 1 0 + uses id (s.before ++ s.later)) (sym i) ∙ (sym (uses-split id s.before s.later new) ∙ ap (uses id) (sym (s.replaces new l)))))
+    ∙ (ap (λ k. cond (k == id) 1 0 + uses id (s.before ++ s.later)) (sym i) ∙ (sym (uses-split id s.before s.later new) ∙ ap (uses id) (sym (s.replaces new l)))))
 
 pub uses-removed : (label : List ℕ) (lives : List Live) (place id : ℕ) (s : Split label lives 0 place) → uses id lives ≡ cond (s.live.id == id) 1 0 + uses id (removed label lives)
 uses-removed label lives place id s =

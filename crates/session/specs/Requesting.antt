@@ -8,8 +8,9 @@ use Rattle.transforms.specs.declared.request.Dir.{Dir}
 use Rattle.transforms.specs.declared.request.Dir.TheVariants as dir
 use Rattle.transforms.specs.declared.request.Request.{Request}
 use Rattle.transforms.specs.Asked.{takes}
-use Rattle.transforms.specs.Meaning.{value}
+use Rattle.transforms.specs.Drivers.{driver_of}
 use Rattle.transforms.specs.Plans.{mode_of}
+use Rattle.transforms.specs.RequestValue.{request_value}
 use Rattle.transforms.specs.Takes.{takes_key_of, takes_tag}
 use Rattle.reply_text.specs.declared.answers.Answer.{Answer}
 use Rattle.reply_text.specs.declared.answers.Answer.TheVariants as said
@@ -50,11 +51,11 @@ value_said n (bytes made) = said.Value n made
 value_said n bad_message = said.Refused n EBADMSG
 value_said n invalid = said.Refused n EINVAL
 
--- under the key that was set last, and the tag size
+-- the value of the request by the transform's driver, under the key that was set last and the tag size
 abbrev pub keyed_said : ℕ → Live → Request → Option (List ℕ) → Answer
 keyed_said n live request None = said.Refused n ENOKEY
 keyed_said n live request (Some key) =
-    if takes (mode_of live.plan) live.tag_size request then value_said n (value (mode_of live.plan) key live.tag_size request)
+    if takes (mode_of live.plan) live.tag_size request then value_said n (request_value (driver_of live.plan) key live.tag_size request)
     else said.Refused n EINVAL
 
 abbrev pub request_said : ℕ → Request → Option Live → Answer

@@ -72,11 +72,7 @@ fn may_have(wrap: Wrap, length: Option<u32>) -> bool
 }
 
 /// What an entry computes as a transform, if it does and may have the length of a queue that was given.
-pub fn plan_with(
-    alloc: Global,
-    spec: &Spec,
-    length: Option<u32>,
-) -> Result<Option<Plan>, BuildErr>
+pub fn plan_with(alloc: Global, spec: &Spec, length: Option<u32>) -> Result<Option<Plan>, BuildErr>
     ensures ok { IfOk result (λ plan. plan ≡ plan_for spec.now length) }
     ensures err { IfErr result (λ e. e ≡ BuildErr.Memory) }
 {

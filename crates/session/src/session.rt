@@ -158,12 +158,7 @@ impl Session {
     }
 
     // `refs DRIVER`
-    fn refs(
-        &self,
-        registry: &mut Registry,
-        number: u32,
-        driver: &Bytes,
-    ) -> Result<Answer, Stop>
+    fn refs(&self, registry: &mut Registry, number: u32, driver: &Bytes) -> Result<Answer, Stop>
         requires { Stands self.now registry.old }
         ensures { MatchResult result
             (λ answer. Done (CommandTurn self.now number (Command.Refs driver.now)) registry.old registry.new (answer ∷ []) self.now)
@@ -208,7 +203,7 @@ impl Session {
         requires there { (spec : Algorithm) × (slice_get (registered registry.old) id ≡ Some spec) }
         ensures { MatchResult result
             (λ answer. (spec : Algorithm) × (ok : Bool) × (slice_get (registered registry.old) id ≡ Some spec)
-                × Done (λ (turn : Turn). turn ≡ entry_turn self.old number label.now length (Entry id spec) ok) registry.old registry.new (answer ∷ []) self.new)
+            × Done (λ (turn : Turn). turn ≡ entry_turn self.old number label.now length (Entry id spec) ok) registry.old registry.new (answer ∷ []) self.new)
             (λ _. Stops registry.old registry.new) }
     {
         let spec = match registry.origin(id) {
@@ -248,7 +243,7 @@ impl Session {
         requires nested { is_nested_well name.now ≡ true }
         ensures { MatchResult result
             (λ answer. (found : Found) × (ok : Bool)
-                × Done (λ (turn : Turn). turn ≡ looked_turn self.old number label.now (spelling name.now) length found ok) registry.old registry.new (answer ∷ []) self.new)
+            × Done (λ (turn : Turn). turn ≡ looked_turn self.old number label.now (spelling name.now) length found ok) registry.old registry.new (answer ∷ []) self.new)
             (λ _. Stops registry.old registry.new) }
     {
         match resolve_outright(self.alloc, registry, SCRIPT, name) {
@@ -383,7 +378,10 @@ impl Session {
                 length,
             } => one(alloc, self.alloc(registry, number, label, name, *length)),
             Command::Key { label, key } => one(alloc, self.key(number, label, key)),
-            Command::Authsize { label, size } => one(alloc, Ok(self.authsize(number, label, *size))),
+            Command::Authsize { label, size } => one(
+                alloc,
+                Ok(self.authsize(number, label, *size)),
+            ),
             Command::Enc {
                 label,
                 iv,

@@ -16,4 +16,4 @@ pub returns-in-Malformed : goal.returns-in-Malformed
 returns-in-Malformed c =
     let want = answered c.args.self.now (said.Malformed c.args.number) in
     own-done (λ v. v.items) (Ok (said.Malformed c.args.number)) c.one.result (LineTurn c.args.self.now c.args.number c.args.line.now) c.args.self.now c.args.self.now c.args.registry.now want c.requires.stands
-      (subst (λ l. LineTurn c.args.self.now c.args.number l want) (sym c.in-Malformed.is) refl) refl (λ id. refl) c.one.ensures
+    (subst (λ l. LineTurn c.args.self.now c.args.number l want) (sym c.in-Malformed.is) refl) refl (λ id. refl) c.one.ensures

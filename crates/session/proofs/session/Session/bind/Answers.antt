@@ -13,11 +13,11 @@ returns-in_ok-push-in-Ok c =
     let at = rw c.in-Ok-Some.field-0-is at c.in-Ok-Some.ensures in
     let planned = rw c.in-Ok-Some-plan_with.field-0-is at c.in-Ok-Some-plan_with.ensures in
     let new : c.new.result ≡ new_live c.args.label.now c.args.id c.in-Ok-Some-plan_with.plan =
-        c.new.ensures ∙ ap (λ l. new_live l c.args.id c.in-Ok-Some-plan_with.plan) (c.in_ok-label.ensures ∙ c.as_slice.ensures) in
+    c.new.ensures ∙ ap (λ l. new_live l c.args.id c.in-Ok-Some-plan_with.plan) (c.in_ok-label.ensures ∙ c.as_slice.ensures) in
     bind-got c.args.self.now (viewed c.push.new.self.items) c.args.number c.args.label.now c.args.length c.args.id c.in-Ok-Some.spec c.in-Ok-Some-plan_with.plan (is_listed c.args.registry.now c.args.id) c.args.registry.now c.take_ref.new.self _ c.requires.stands
-      at.answer planned.ok c.in-Ok.ensures.history (get-ok (is_listed c.args.registry.now c.args.id) c.in-Ok.ensures.answer)
-      (grown-walk c.args.self.now c.self.inside.lives.items c.push.new.self.items _ c.self.view_is (c.in_ok-push-in-Ok.ensures.items ∙ (ap (λ ls. ls ++ c.new.result ∷ []) c.in_ok-reserve.ensures.items ∙ ap (λ l. c.self.inside.lives.items ++ l ∷ []) new)))
-      refl
+    at.answer planned.ok c.in-Ok.ensures.history (get-ok (is_listed c.args.registry.now c.args.id) c.in-Ok.ensures.answer)
+    (grown-walk c.args.self.now c.self.inside.lives.items c.push.new.self.items _ c.self.view_is (c.in_ok-push-in-Ok.ensures.items ∙ (ap (λ ls. ls ++ c.new.result ∷ []) c.in_ok-reserve.ensures.items ∙ ap (λ l. c.self.inside.lives.items ++ l ∷ []) new)))
+    refl
 
 pub returns-in-Err-take_ref : goal.returns-in-Err-take_ref
 returns-in-Err-take_ref c =
@@ -26,8 +26,8 @@ returns-in-Err-take_ref c =
     let listed = is_listed c.args.registry.now c.args.id in
     let same : viewed c.reserve.new.self.items ≡ c.args.self.now = ap viewed c.in_ok-reserve.ensures.items ∙ c.self.view_is in
     refused-by c.args.number c.in-Err-take_ref.error c.refuse_by.result _ _ c.refuse_by.ensures
-      (λ e is.
-        let lost = get-refused c.args.number listed c.in-Err-take_ref.error e is (unless (Unit {0}) c.in-Err-take_ref.error e _ is c.in-Err-take_ref.ensures.answer) in
-        rw same (bind-lost c.args.self.now c.args.number c.args.label.now c.args.length c.args.id c.in-Ok-Some.spec c.in-Ok-Some-plan_with.plan listed c.args.registry.now c.take_ref.new.self _ c.requires.stands
-          at.answer planned.ok (unless (Unit {0}) c.in-Err-take_ref.error e _ is c.in-Err-take_ref.ensures.history) lost.0 lost.1))
-      (λ is. goes-nowhere c.args.registry.now c.take_ref.new.self c.requires.stands.made (on-memory (Unit {0}) c.in-Err-take_ref.error _ is c.in-Err-take_ref.ensures.memory))
+    (λ e is.
+    let lost = get-refused c.args.number listed c.in-Err-take_ref.error e is (unless (Unit {0}) c.in-Err-take_ref.error e _ is c.in-Err-take_ref.ensures.answer) in
+    rw same (bind-lost c.args.self.now c.args.number c.args.label.now c.args.length c.args.id c.in-Ok-Some.spec c.in-Ok-Some-plan_with.plan listed c.args.registry.now c.take_ref.new.self _ c.requires.stands
+    at.answer planned.ok (unless (Unit {0}) c.in-Err-take_ref.error e _ is c.in-Err-take_ref.ensures.history) lost.0 lost.1))
+    (λ is. goes-nowhere c.args.registry.now c.take_ref.new.self c.requires.stands.made (on-memory (Unit {0}) c.in-Err-take_ref.error _ is c.in-Err-take_ref.ensures.memory))

@@ -20,8 +20,8 @@ returns-in-Ok c =
     let looked = c.in-Ok.ensures.looked in
     let at = look-at c.args.registry.now c.resolve_outright.new.registry (spelling c.args.name.now) c.in-Ok.id looked.0 looked.1 in
     MatchResult-weaker c.bind.result c.bind.ensures
-      (λ answer binds. find-bound c.args.self.now c.bind.new.self c.args.number c.args.label.now (spelling c.args.name.now) c.args.length c.in-Ok.id looked.0 c.args.registry.now c.resolve_outright.new.registry c.bind.new.registry (answer ∷ []) c.requires.stands looked.1 at binds)
-      (λ stop stops. stops-after c.args.registry.now c.resolve_outright.new.registry c.bind.new.registry _ _ looked.1.history stops)
+    (λ answer binds. find-bound c.args.self.now c.bind.new.self c.args.number c.args.label.now (spelling c.args.name.now) c.args.length c.in-Ok.id looked.0 c.args.registry.now c.resolve_outright.new.registry c.bind.new.registry (answer ∷ []) c.requires.stands looked.1 at binds)
+    (λ stop stops. stops-after c.args.registry.now c.resolve_outright.new.registry c.bind.new.registry _ _ looked.1.history stops)
 
 pub returns-in-Err-Fault : goal.returns-in-Err-Fault
 returns-in-Err-Fault c =

@@ -30,5 +30,5 @@ returns c =
     let s = live-at c.args.self.now c.self.inside.lives.items c.deref.result.now c.args.label.now c.as_slice.result.now c.in-Some.place c.self.view_is c.in-Some.ensures c.as_slice.ensures c.deref.ensures.value in
     let was = c.remove-live.ensures.value ∙ (ap (λ (w : Walk). slice_index_or w.lives c.in-Some.place c.remove-live.result) c.self.view_is ∙ split-live c.args.label.now _ c.in-Some.place c.remove-live.result s) in
     free-asked c.args.self.now (viewed c.remove-live.new.self.items) c.args.number c.args.label.now c.in-Some.place c.args.registry.now c.put_ref.new.self s c.requires
-      (c.put_ref.ensures.history ∙ ap (λ i. c.args.registry.now ++ entry.Put 0 i ∷ []) (c.id.ensures ∙ ap (λ (l : Live). l.id) was))
-      (ap viewed (c.remove-live.ensures.items ∙ (ap (λ (w : Walk). remove w.lives c.in-Some.place) c.self.view_is ∙ split-remove c.args.label.now _ c.in-Some.place s)))
+    (c.put_ref.ensures.history ∙ ap (λ i. c.args.registry.now ++ entry.Put 0 i ∷ []) (c.id.ensures ∙ ap (λ (l : Live). l.id) was))
+    (ap viewed (c.remove-live.ensures.items ∙ (ap (λ (w : Walk). remove w.lives c.in-Some.place) c.self.view_is ∙ split-remove c.args.label.now _ c.in-Some.place s)))

@@ -33,7 +33,7 @@ returns c =
     elim c.match-set_key.branch [
       | in-Ok w ↦ rw w.result-is (key-set c.args.self.now c.args.number c.as_slice-2.result.now c.args.key.now c.args.label.now c.in-Some.place c.self.inside.lives.items _ c.index_mut.result.now c.set_key.new.self _ s c.self.view_is refl was c.as_slice-2.ensures (w.in-Ok.ensures).0 (w.in-Ok.ensures).1 refl)
       | in-Err-Inval w ↦
-        let h = rw w.in-Err-Inval.field-0-is at w.in-Err-Inval.ensures in
-        rw w.result-is (key-kept c.args.self.now c.args.number c.as_slice-2.result.now c.args.key.now c.args.label.now c.in-Some.place c.self.inside.lives.items _ c.index_mut.result.now c.set_key.new.self _ s c.self.view_is refl was c.as_slice-2.ensures (inval h.0) h.1 w.refuse-in-Err-Inval.ensures)
+          let h = rw w.in-Err-Inval.field-0-is at w.in-Err-Inval.ensures in
+          rw w.result-is (key-kept c.args.self.now c.args.number c.as_slice-2.result.now c.args.key.now c.args.label.now c.in-Some.place c.self.inside.lives.items _ c.index_mut.result.now c.set_key.new.self _ s c.self.view_is refl was c.as_slice-2.ensures (inval h.0) h.1 w.refuse-in-Err-Inval.ensures)
       | in-Err-Memory w ↦ rw w.result-is tt
     ]

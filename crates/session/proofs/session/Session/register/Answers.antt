@@ -16,13 +16,13 @@ returns-then-priority-gt-MOST_PRIORITY c =
 pub returns-in-Ok : goal.returns-in-Ok
 returns-in-Ok c =
     register-asked c.args.self.now c.args.number c.as_slice.result.now c.args.driver.now c.args.priority c.in_ok-spec.field-0 c.in-Some.spec c.args.registry.now c.enlist.new.self _ c.requires c.as_slice.ensures c.in_ok-spec.ensures c.in-Some.is c.if-priority-gt-MOST_PRIORITY.false c.in-Ok.ensures.history
-      (enlist-ok c.args.number (enlist_answer (rows_of c.args.registry.now) c.in-Some.spec) c.in-Ok.field-0 c.in-Ok.ensures.answer)
+    (enlist-ok c.args.number (enlist_answer (rows_of c.args.registry.now) c.in-Some.spec) c.in-Ok.field-0 c.in-Ok.ensures.answer)
 
 pub returns-in-Err : goal.returns-in-Err
 returns-in-Err c =
     let how = enlist_answer (rows_of c.args.registry.now) c.in-Some.spec in
     refused-by c.args.number c.in-Err.error c.refuse_by.result _ _ c.refuse_by.ensures
-      (λ e is. register-asked c.args.self.now c.args.number c.as_slice.result.now c.args.driver.now c.args.priority c.in_ok-spec.field-0 c.in-Some.spec c.args.registry.now c.enlist.new.self _ c.requires c.as_slice.ensures c.in_ok-spec.ensures c.in-Some.is c.if-priority-gt-MOST_PRIORITY.false
-        (unless ℕ c.in-Err.error e _ is c.in-Err.ensures.history)
-        (enlist-refused c.args.number how c.in-Err.error e is (unless ℕ c.in-Err.error e _ is c.in-Err.ensures.answer)))
-      (λ is. goes-nowhere c.args.registry.now c.enlist.new.self c.requires.made (on-memory ℕ c.in-Err.error _ is c.in-Err.ensures.memory))
+    (λ e is. register-asked c.args.self.now c.args.number c.as_slice.result.now c.args.driver.now c.args.priority c.in_ok-spec.field-0 c.in-Some.spec c.args.registry.now c.enlist.new.self _ c.requires c.as_slice.ensures c.in_ok-spec.ensures c.in-Some.is c.if-priority-gt-MOST_PRIORITY.false
+    (unless ℕ c.in-Err.error e _ is c.in-Err.ensures.history)
+    (enlist-refused c.args.number how c.in-Err.error e is (unless ℕ c.in-Err.error e _ is c.in-Err.ensures.answer)))
+    (λ is. goes-nowhere c.args.registry.now c.enlist.new.self c.requires.made (on-memory ℕ c.in-Err.error _ is c.in-Err.ensures.memory))

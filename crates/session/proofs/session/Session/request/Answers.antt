@@ -22,5 +22,5 @@ returns c =
     let s = live-at c.args.self.now c.self.inside.lives.items c.deref.result.now c.args.label.now c.as_slice.result.now c.in-Some.place c.self.view_is c.in-Some.ensures c.as_slice.ensures c.deref.ensures.value in
     let was = c.index.ensures ∙ (ap (λ (w : Walk). slice_index_or w.lives c.in-Some.place c.index.result.now) c.self.view_is ∙ split-live c.args.label.now _ c.in-Some.place c.index.result.now s) in
     IfOk-weaker c.answer.result _ _
-      (λ answer says. request-at c.args.self.now c.args.number c.args.label.now c.in-Some.place c.index.result.now c.in_ok-request.request (request_of c.args.dir c.args.iv.now c.args.associated.now c.args.text.now) answer s was c.in_ok-request.ensures says)
-      c.answer.ensures
+    (λ answer says. request-at c.args.self.now c.args.number c.args.label.now c.in-Some.place c.index.result.now c.in_ok-request.request (request_of c.args.dir c.args.iv.now c.args.associated.now c.args.text.now) answer s was c.in_ok-request.ensures says)
+    c.answer.ensures
