@@ -18,3 +18,4 @@ pub mod KeptUsed
 pub mod KeptClose
 pub mod Staying
 pub mod StartOrder
+pub mod QueueAll

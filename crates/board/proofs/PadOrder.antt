@@ -195,7 +195,7 @@ unbroken-all ns n (suc many) all =
     let ih = unbroken-all ns (suc n) many (λ i l. (let q : n + suc i ≡ suc n + i = omega arith in subst (λ m. has m ns ≡ true) q (all (suc i) (omega arith)))) in
     ap (λ b. cond b (suc (unbroken ns (suc n) many)) 0) h ∙ ap suc ih
 
-right_last : {A : Type 0} (before h : List (BoardEntry A)) (e : BoardEntry A) → AreRightForAfter before (h ++ e ∷ []) → IsRightFor (before ++ h) e
+pub right_last : {A : Type 0} (before h : List (BoardEntry A)) (e : BoardEntry A) → AreRightForAfter before (h ++ e ∷ []) → IsRightFor (before ++ h) e
 right_last before [] e r = subst (λ es. IsRightFor es e) (sym (append-nil before)) r.0
 right_last before (x ∷ h) e r = subst (λ es. IsRightFor es e) (append_assoc before (x ∷ []) h) (right_last (before ++ x ∷ []) h e r.1)
 

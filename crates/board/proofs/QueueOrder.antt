@@ -37,7 +37,7 @@ pad_is_born (Some x) q = refl
 pub told_on_queue : {A : Type 0} (es : List (BoardEntry A)) → queue_born (birth es) ≡ true → told es ≡ filter_map told_in es
 told_on_queue es q = ap (λ b. cond b (completes_below (front es)) (filter_map told_in es)) (no_pad (birth es) q)
 
-length-numbers : (n : ℕ) → length (numbers_below n) ≡ n
+pub length-numbers : (n : ℕ) → length (numbers_below n) ≡ n
 length-numbers zero = refl
 length-numbers (suc n) = (let h = length-numbers n in let l = length-append (numbers_below n) (n ∷ []) in omega arith)
 

@@ -68,6 +68,18 @@ QueuesHandOutTold h q =
     LegalBoard h → queue_born (birth (entries_of q h)) ≡ true
     → handed_out (entries_of q h) ≡ take (collected (entries_of q h)) (told (entries_of q h))
 
+-- so the completions that they handed out are those of 0, 1, 2 and so on, each once
+abbrev pub QueuesCompleteInOrder : {A : Type 0} → List (BoardEntry A) → ℕ → Type 0
+QueuesCompleteInOrder h q =
+    LegalBoard h → queue_born (birth (entries_of q h)) ≡ true
+    → completed (handed_out (entries_of q h)) ≡ numbers_below (length (completed (handed_out (entries_of q h))))
+
+-- and after a collect before which every number is finished they are the completions of all requests
+abbrev pub QueuesHandOutAll : {A : Type 0} → List (BoardEntry A) → ℕ → ℕ → ℕ → Type 0
+QueuesHandOutAll h q caller to =
+    LegalBoard (h ++ Collect caller q to ∷ []) → queue_born (birth (entries_of q h)) ≡ true → AreAllFinished (entries_of q h)
+    → completed (handed_out (entries_of q (h ++ Collect caller q to ∷ []))) ≡ numbers_below (length (submissions (entries_of q h)))
+
 -- the numbers that a queue accepted into its backlog
 abbrev pub backlogged_in : {A : Type 0} → BoardEntry A → Option ℕ
 backlogged_in (Enq caller pipe ask backlog (Busy number)) = Some number

@@ -10,7 +10,7 @@ ghost use Rattle.board.specs.declared.entry.BoardEntry.{BoardEntry};
 ghost use Rattle.board.specs.declared.entry.BoardEntry.TheVariants.{Submit, Finish, Enq, Deq, Go, Collect, Close};
 ghost use Rattle.board.specs.Entries.{Starts, Completes, told, entries_of, delivered};
 ghost use Rattle.board.specs.Legal.{IsRight, LegalBoard};
-ghost use Rattle.board.specs.Order.{PadsKeepOrder, PadsWaitForEach, PadsHandOutAll, QueuesKeepOrder, QueuesHandOutTold, StartsBackloggedAlone, StartsEachOnce, StartsBeforeCompletion};
+ghost use Rattle.board.specs.Order.{PadsKeepOrder, PadsWaitForEach, PadsHandOutAll, QueuesKeepOrder, QueuesHandOutTold, QueuesCompleteInOrder, QueuesHandOutAll, StartsBackloggedAlone, StartsEachOnce, StartsBeforeCompletion};
 ghost use Rattle.board.specs.Staying.{OpensPad, OpensQueue, StaysOpen, QueueStaysOpen, StaysManaged, StaysSubmitting, SlipStays, CollectDrains, WorkLeaves, TakingIsWork, FinishingIsWork};
 ghost use Rattle.board.specs.Examples.{held_requests, held_queue, second_first};
 
@@ -22,10 +22,13 @@ pub fn pads_keep_order<A>()
     ensures all { (h : List (BoardEntry A)) (p caller to : ℕ) → PadsHandOutAll h p caller to }
 {}
 
-/// In every legal history a queue completes its requests in their order, each once, and hands out a front of what it told.
+/// In every legal history a queue completes its requests in their order, each once, and hands out a front of what it told;
+/// and, where all were finished before its last collect, the completions of all of them.
 pub fn queues_keep_order<A>()
     ensures in_order { (h : List (BoardEntry A)) (q : ℕ) → QueuesKeepOrder h q }
     ensures front_of { (h : List (BoardEntry A)) (q : ℕ) → QueuesHandOutTold h q }
+    ensures handed { (h : List (BoardEntry A)) (q : ℕ) → QueuesCompleteInOrder h q }
+    ensures all { (h : List (BoardEntry A)) (q caller to : ℕ) → QueuesHandOutAll h q caller to }
 {}
 
 /// In every legal history what a queue tells has `started` of backlogged requests alone, of each at most once, and of each

@@ -325,6 +325,25 @@ fn the_allowance_comes_before_the_verdict(rt: HostRuntime) -> Result<(), Fail> {
 }
 
 #[test]
+fn each_caller_has_1048576_requests_on_queues_too(rt: HostRuntime) -> Result<(), Fail> {
+    let mut board: BoardCore<Echo> = BoardCore::new(rt.alloc())?;
+    let pipe = make(&mut board, 0, 4096)?;
+    for number in 0..1_048_576u64 {
+        let answer = if number < 4096 {
+            Entered::InProgress(number)
+        } else {
+            Entered::Busy(number)
+        };
+        assert_eq!(rt; offer(&mut board, 0, pipe, saying('a', 64), true)?, answer);
+    }
+    assert_eq!(rt;
+        offer(&mut board, 0, pipe, saying('a', 0), true),
+        Err(BoardErr::TooBig)
+    );
+    Ok(())
+}
+
+#[test]
 fn a_new_queue_is_closed(rt: HostRuntime) -> Result<(), Fail> {
     let mut board: BoardCore<Echo> = BoardCore::new(rt.alloc())?;
     let pipe = board.born_queue(0, 2)?;
