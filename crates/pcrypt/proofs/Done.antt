@@ -1,13 +1,13 @@
 -- One job that is taken and finished, and what is done where nobody is at a job.
-use Rattle.std.proofs.Common.{◌≡◌, ◌≢◌, ℕ, zero, suc, ◌+◌, ◌-◌, ◌<◌, ◌≤◌, Bool, true, false, cond, ◌||◌, ◌&&◌, List, [], ◌∷◌, ◌++◌, length, Option, Some, None, refl, ap, sym, ◌∙◌, subst, arith, append-nil, append_assoc, add-zero, zero-add, length-append}
+use Rattle.std.proofs.Common.{◌≡◌, ◌≢◌, ℕ, zero, suc, ◌+◌, ◌-◌, ◌<◌, Bool, true, false, cond, ◌||◌, List, [], ◌∷◌, ◌++◌, length, Some, None, refl, ap, sym, ◌∙◌, subst, arith, append_assoc, add-zero, zero-add, length-append}
 use Rattle.std.specs.Prelude.{◌==◌}
 use Rattle.std.specs.List.{filter_map, list_any, list_all}
-use Rattle.std.proofs.lemmas.Bool.{eqb-true, eq-eqb, or_left, or_right}
+use Rattle.std.proofs.lemmas.Bool.{eq-eqb, or_left, or_right}
 use Rattle.std.proofs.lemmas.List.Folds.{list_any-append}
 use Rattle.std.proofs.lemmas.List.Elements.{filter_map-append}
 use Rattle.board.specs.declared.entry.BoardEntry.{BoardEntry}
 use Rattle.board.specs.declared.entry.BoardEntry.TheVariants.{Take, Finish}
-use Rattle.board.specs.Entries.{is_of, entries_of, accepted_in, submissions, taken_in, takers, finished_in, finished, has, unbroken, front, NoneWaits}
+use Rattle.board.specs.Entries.{is_of, entries_of, accepted_in, submissions, taken_in, takers, finished_in, finished, has, unbroken}
 use Rattle.board.specs.Legal.{LegalBoard}
 use Rattle.board.proofs.Transfer.{entries-more, entries-same}
 use Rattle.board.proofs.PadOrder.{filter_map-none, filter_map-some}
