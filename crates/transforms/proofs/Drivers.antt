@@ -1,11 +1,11 @@
 -- A name that has a plan is the plan's driver, bare or in a wrapper.
-use Rattle.std.proofs.Common.{◌≡◌, ℕ, Bool, true, false, if◌then◌else◌, List, [], ◌∷◌, length, refl, ap, ap₂, sym, ◌∙◌, arith, Option, Some, None, codes}
+use Rattle.std.proofs.Common.{◌≡◌, ℕ, Bool, true, false, if◌then◌else◌, List, length, refl, ap, ap₂, ◌∙◌, arith, Option, Some, None, codes}
 use Rattle.std.specs.Prelude.{◌==◌}
 use Rattle.std.specs.Option.{option_map}
 use Rattle.std.specs.Str.{bytes_eq}
 use Rattle.std.proofs.lemmas.Bool.{eqb-true}
 use Rattle.std.proofs.lemmas.Slice.Eq.{bytes_eq-Decides}
-use Rattle.alg_names.specs.Name.{Tree, Args, node, end, arg, word_of, args_of, list_of}
+use Rattle.alg_names.specs.Name.{Tree, Args, node, end, arg, list_of}
 use Rattle.templates.specs.Table.{template_named}
 use Rattle.templates.proofs.Words.{named_word}
 use Rattle.templates.specs.declared.template_words.Template.{Template}
@@ -17,7 +17,7 @@ use Rattle.templates.specs.declared.driver_plans.GhashForm.TheVariants.{GhashGen
 use Rattle.templates.specs.declared.driver_plans.Plan.{Plan}
 use Rattle.templates.specs.declared.driver_plans.Plan.TheVariants.{Cbc, Ctr, Rfc3686, Gcm, Rfc4106, Hmac, AuthencCbc, AuthencCtr, AuthencRfc3686}
 use Rattle.templates.specs.Plans.{is_word, aes_form, ghash_form, ctr_over, ctr_form, gcm_of, gcm_over, gcm_plan, salted, hmac_over, is_hmac, cipher_over, cipher_plan, authentic, bare_over, bare_plan, plan_over, plan_at}
-use Rattle.transforms.specs.Drivers.{over, over_two, aes_driver, ghash_driver, ctr_driver, gcm_driver, hmac_driver, authenc_driver, driver_of, unwrapped_over, unwrapped}
+use Rattle.transforms.specs.Drivers.{over, over_two, aes_driver, ghash_driver, ctr_driver, gcm_driver, hmac_driver, driver_of, unwrapped_over, unwrapped}
 
 first_true : (a b : Bool) → (if a then b else false) ≡ true → a ≡ true
 first_true true b e = refl

@@ -1,5 +1,5 @@
 -- The value of a request by the tree of its driver is that by the mode of its plan.
-use Rattle.std.proofs.Common.{◌≡◌, ℕ, Bool, true, false, if◌then◌else◌, List, [], ◌∷◌, ◌++◌, length, refl, ap, sym, ◌∙◌, Option, Some, None}
+use Rattle.std.proofs.Common.{◌≡◌, ℕ, Bool, true, false, if◌then◌else◌, List, ◌++◌, refl, ap, sym, ◌∙◌, Option, Some, None}
 use Rattle.std.specs.Arc.{arc_value}
 use Rattle.std.specs.Option.{option_map}
 use Rattle.std_defs.specs.Hmac.{hmac, hmac_under, block_key}
@@ -19,7 +19,7 @@ use Rattle.transforms.specs.Mode.{CipherMode}
 use Rattle.transforms.specs.Mode.CipherMode.{cbc, ctr, rfc3686}
 use Rattle.transforms.specs.Mode.AeadMode.{authenc}
 use Rattle.transforms.specs.Mode.Mode.{skcipher, aead}
-use Rattle.transforms.specs.Meaning.{by_keys, sealed_by, unsealed_by, authenc_seals, authenc_opens, aead_seal, aead_open, aead_value, cipher_value, value}
+use Rattle.transforms.specs.Meaning.{by_keys, sealed_by, unsealed_by, authenc_seals, authenc_opens, aead_seal, aead_open, aead_value, value}
 use Rattle.transforms.specs.Tagged.{tagged}
 use Rattle.transforms.specs.AskValue.{ask_value}
 use Rattle.transforms.specs.declared.ask.Ask.{Ask}

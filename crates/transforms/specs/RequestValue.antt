@@ -1,5 +1,5 @@
 -- The value of a request, by recursion on the tree of its driver's name.
-use Rattle.std.specs.Prelude.{ℕ, ◌-◌, Option, Some, None, if◌then◌else◌, List, [], ◌∷◌, ◌++◌, length, take, drop, bytes_eq}
+use Rattle.std.specs.Prelude.{ℕ, ◌-◌, Option, Some, if◌then◌else◌, List, [], ◌∷◌, ◌++◌, length, take, drop, bytes_eq}
 use Rattle.std_defs.specs.Aes.{seal, unseal}
 use Rattle.std_defs.specs.Modes.{cbc_seal, cbc_unseal, ctr as ctr_of, rfc3686_counter}
 use Rattle.std_defs.specs.Gcm.{gcm_seal, gcm_open}

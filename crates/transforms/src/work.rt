@@ -1,7 +1,5 @@
 //! Jobs as a board runs them.
 
-ghost use Rattle.std.specs.Prelude.{◌≡◌, ◌≤◌, length};
-
 use crate::ask::Ask;
 use crate::job::Job;
 use crate::request::Finished;

@@ -1,4 +1,4 @@
-use Rattle.std.proofs.Common.{◌≡◌, false, true, refl, sym, ◌∙◌, ap, subst}
+use Rattle.std.proofs.Common.{◌≡◌, false, true, refl, sym, ◌∙◌, subst}
 use Rattle.board.specs.declared.entry.BoardEntry.TheVariants.{Enq}
 use Rattle.board.specs.Entries.{entries_of, is_held}
 use Rattle.board.specs.Staying.{IsOpenQueueFor}

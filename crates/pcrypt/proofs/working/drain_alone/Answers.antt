@@ -1,8 +1,8 @@
-use Rattle.std.proofs.Common.{◌⊎◌, inl, inr, List, length, refl, sym, ◌∙◌, subst}
+use Rattle.std.proofs.Common.{inl, inr, List, length, refl, sym, ◌∙◌, subst}
 use Rattle.board.specs.declared.entry.BoardEntry.{BoardEntry}
 use Rattle.board.specs.declared.entry.BoardEntry.TheVariants.{Collect}
 use Rattle.board.specs.Entries.{entries_of, told}
-use Rattle.board.specs.Legal.{LegalBoard, IsOpen, IsOpenPad, IsOpenQueue}
+use Rattle.board.specs.Legal.{LegalBoard, IsOpen}
 use Rattle.pcrypt.specs.Working.{NoneRuns, IsServed}
 use Rattle.pcrypt.proofs.Done.{stays_idle}
 use Rattle.pcrypt.proofs.Keeping.{works_on, served_on}
