@@ -1,7 +1,7 @@
 -- What the arms of a session do, over plain values.
 use Rattle.std.proofs.Common.{◌≡◌, ℕ, ◌+◌, ◌<◌, ◌≤◌, Bool, true, false, cond, List, [], ◌∷◌, ◌++◌, length, Option, Some, None, Result, Ok, Err, refl, sym, ap, subst, ◌∙◌, arith, IsTrue}
 use Rattle.std.proofs.lemmas.Bool.Decides.{nat_tests}
-use Rattle.std.specs.Prelude.{codes, nat_lt, nat_le, if◌then◌else◌, find, slice_get, map, is_some, MatchResult}
+use Rattle.std.specs.Prelude.{codes, nat_lt, nat_le, if◌then◌else◌, slice_get, map, is_some, MatchResult}
 use Rattle.std.specs.List.{position_from}
 use Rattle.std.specs.Option.{option_map}
 use Rattle.std.specs.Str.{bytes_eq}
@@ -19,7 +19,7 @@ use Rattle.alg_registry.specs.declared.entry.RegErr.TheVariants.{Exist, NoEnt, A
 use Rattle.alg_registry.specs.declared.entry.RegEntry.{RegEntry}
 use Rattle.alg_registry.specs.declared.entry.RegEntry.TheVariants as entry
 use Rattle.alg_registry.specs.declared.listing.ListRow.{ListRow}
-use Rattle.alg_registry.specs.Rows.{rows_of, registered, begun_by, is_listed, opening, opened}
+use Rattle.alg_registry.specs.Rows.{rows_of, registered, begun_by, opened}
 use Rattle.alg_registry.specs.Answers.{enlist_answer, driver_place}
 use Rattle.alg_registry.specs.Calls.{UnlessMemory, OnMemory, enlist_result, unlist_result, get_result, refs_answer, refs_result, listing}
 use Rattle.alg_registry.specs.Made.{Made, IsMade, outcome}
@@ -30,20 +30,19 @@ use Rattle.templates.specs.declared.driver_plans.Plan.{Plan}
 use Rattle.templates.specs.Looking.{Found, Entry, Fault, LooksFor, NonePending, entry_found, found_as}
 use Rattle.templates.specs.Nesting.{is_wrapper_word}
 use Rattle.templates.specs.Table.{table}
-use Rattle.session.specs.Allocating.{alloc_turn, named_turn, rooted_turn, looked_turn, entry_turn, planned_turn, got_turn, plan_for, new_live, and_live, is_queue_length, name_read, free_turn}
+use Rattle.session.specs.Allocating.{alloc_turn, named_turn, looked_turn, entry_turn, planned_turn, got_turn, plan_for, new_live, and_live, is_queue_length, name_read, free_turn}
 use Rattle.session.specs.Histories.{RegCall, Enlists, Looks, Unlists, Gets, Puts, Counts, Lists, reg_call_of, is_settled}
 use Rattle.session.specs.Lines.{CommandTurn}
 use Rattle.session.specs.Refusing.{errno_of, IsRefusedBy}
 use Rattle.session.specs.Registering.{driver_spec, register_turn, enlist_said, unregister_turn, unlist_said, refs_turn, refs_said, list_turn, row_said}
 use Rattle.session.specs.Requesting.{key_turn, authsize_turn, keyed_said, request_said}
 use Rattle.transforms.specs.declared.request.Request.{Request}
-use Rattle.session.specs.Standing.{Stands, Does, Done, Stops, got, given, uses}
+use Rattle.session.specs.Standing.{Stands, Done, got, given, uses}
 use Rattle.session.specs.declared.stop.Stop.{Stop}
 use Rattle.session.specs.Turns.{Turn, refused, answered, asking}
-use Rattle.session.specs.Walk.{Walk, Live, is_of, live_of, with_live, without, replaced, removed}
-use Rattle.session.proofs.Asking.{DoneBy, unasked, asked, look-stands, after-look, uses-append}
-use Rattle.session.proofs.Owing.{may-give}
-use Rattle.session.proofs.Placed.{Split, split-at, none-at, split-set, uses-replaced, uses-removed}
+use Rattle.session.specs.Walk.{Walk, Live, is_of, live_of, with_live, without}
+use Rattle.session.proofs.Asking.{unasked, asked, look-stands, after-look, uses-append}
+use Rattle.session.proofs.Placed.{Split, split-at, none-at, split-set, uses-removed}
 use Rattle.std.proofs.Math.ListN.{set}
 use Rattle.std.proofs.lemmas.Slice.Eq.{bytes_eq-Decides}
 use Rattle.transforms.specs.Plans.{mode_of}

@@ -1,24 +1,23 @@
 -- What a call of the registry does to a session.
-use Rattle.std.proofs.Common.{◌≡◌, ℕ, ◌+◌, ◌<◌, Bool, true, false, cond, List, [], ◌∷◌, ◌++◌, length, Option, Some, None, Result, Ok, Err, refl, sym, ap, subst, ◌∙◌, append_assoc, append-nil, arith, IsSome, add-zero}
-use Rattle.std.specs.Prelude.{filter, ◌&&◌, ◌==◌, if◌then◌else◌, count_by}
+use Rattle.std.proofs.Common.{◌≡◌, ℕ, ◌+◌, Bool, true, false, cond, List, [], ◌∷◌, ◌++◌, length, Option, Some, None, refl, sym, ap, subst, ◌∙◌, append_assoc, append-nil, arith, IsSome}
+use Rattle.std.specs.Prelude.{filter, ◌==◌, if◌then◌else◌}
 use Rattle.std.specs.List.{cons_option}
 use Rattle.alg_registry.specs.declared.entry.Ended.{Ended}
 use Rattle.alg_registry.specs.declared.entry.RegEntry.{RegEntry}
 use Rattle.alg_registry.specs.declared.entry.RegEntry.TheVariants as entry
-use Rattle.alg_registry.specs.Rows.{texts, begun_by}
-use Rattle.alg_registry.specs.Legal.{ended_as, gets_as, puts_as, HasReference}
+use Rattle.alg_registry.specs.Rows.{begun_by}
+use Rattle.alg_registry.specs.Legal.{ended_as}
 use Rattle.alg_registry.specs.Made.{Made, IsMade}
 use Rattle.alg_registry.proofs.Making.{Made-push}
 use Rattle.alg_registry.proofs.Stack.{length-texts, ended-stays}
-use Rattle.alg_registry.proofs.Steps.{count_by-push}
 use Rattle.reply_text.specs.declared.answers.Answer.{Answer}
 use Rattle.templates.specs.Looking.{Found, LooksFor, NonePending, found_in, is_asked}
 use Rattle.templates.specs.Table.{table}
-use Rattle.session.specs.Histories.{RegCall, Enlists, Looks, Unlists, Gets, Puts, Counts, Lists, reg_calls, reg_calls_from, reg_call_of, if_own, prepend, is_settled, AllSettled}
-use Rattle.session.specs.Standing.{Extends, Stands, Does, Done, Stops, is_get, is_put, got, given, uses}
+use Rattle.session.specs.Histories.{RegCall, Looks, reg_calls, reg_calls_from, reg_call_of, prepend, is_settled, AllSettled}
+use Rattle.session.specs.Standing.{Stands, Does, Stops, got, given, uses}
 use Rattle.session.specs.Turns.{Turn, asking}
 use Rattle.session.specs.Walk.{Walk, Live}
-use Rattle.session.proofs.Growing.{reg_calls-append, found_in-stays}
+use Rattle.session.proofs.Growing.{reg_calls-append}
 
 -- ---- counts
 

@@ -1,18 +1,17 @@
 -- The calls of a script stay as its history grows.
-use Rattle.std.proofs.Common.{◌≡◌, ℕ, zero, suc, ◌+◌, Bool, true, false, List, [], ◌∷◌, ◌++◌, Option, Some, None, Result, Ok, Err, refl, sym, ap, subst, ◌∙◌, append_assoc, append-nil, arith}
+use Rattle.std.proofs.Common.{◌≡◌, ℕ, zero, suc, Bool, true, false, List, [], ◌∷◌, ◌++◌, Option, Some, None, Result, Ok, Err, refl, sym, ap, subst, ◌∙◌, append_assoc, append-nil}
 use Rattle.std.specs.Prelude.{◌==◌, if◌then◌else◌, slice_get}
 use Rattle.std.specs.List.{cons_option}
 use Rattle.kc_base.specs.declared.error_numbers.Errno.{Errno}
 use Rattle.alg_registry.specs.declared.spec.Spec.{Spec}
 use Rattle.alg_registry.specs.declared.entry.Ended.{Ended}
-use Rattle.alg_registry.specs.declared.entry.Ended.TheVariants as ended
 use Rattle.alg_registry.specs.declared.entry.Looked.{Looked}
 use Rattle.alg_registry.specs.declared.entry.Looked.TheVariants as look
 use Rattle.alg_registry.specs.declared.entry.RegEntry.{RegEntry}
 use Rattle.alg_registry.specs.declared.entry.RegEntry.TheVariants as entry
 use Rattle.alg_registry.specs.Rows.{registered, registered_by}
 use Rattle.alg_registry.specs.Legal.{ended_as}
-use Rattle.alg_registry.specs.Made.{outcome, outcome_of}
+use Rattle.alg_registry.specs.Made.{outcome_of}
 use Rattle.alg_registry.proofs.Stack.{ended-stays}
 use Rattle.alg_registry.proofs.Steps.{registered-push}
 use Rattle.templates.specs.Looking.{Found, found_in, found_as, entry_found}

@@ -1,14 +1,14 @@
 -- The references that a script owes, counted over its history and over its calls.
-use Rattle.std.proofs.Common.{◌≡◌, ℕ, ◌+◌, ◌<◌, Bool, true, false, cond, List, [], ◌∷◌, ◌++◌, Option, Some, None, refl, sym, ap, ◌∙◌, subst, append_assoc, append-nil, arith, add-zero}
+use Rattle.std.proofs.Common.{◌≡◌, ℕ, ◌+◌, Bool, true, false, cond, List, [], ◌∷◌, ◌++◌, Some, None, refl, sym, ap, ◌∙◌, append_assoc, append-nil, arith}
 use Rattle.std.specs.Prelude.{◌&&◌, ◌==◌, if◌then◌else◌, count_by}
 use Rattle.alg_registry.specs.declared.entry.RegEntry.{RegEntry}
 use Rattle.alg_registry.specs.declared.entry.RegEntry.TheVariants as entry
 use Rattle.alg_registry.specs.Legal.{gets_as, puts_as, HasReference}
 use Rattle.alg_registry.proofs.Steps.{count_by-push}
 use Rattle.alg_registry.proofs.Stack.{same}
-use Rattle.session.specs.Histories.{RegCall, Gets, Puts, Looks, reg_calls, reg_calls_from, reg_call_of, if_own, prepend}
-use Rattle.session.specs.Standing.{Stands, is_get, is_put, got, given, uses}
-use Rattle.session.specs.Walk.{Walk, Live, removed, start}
+use Rattle.session.specs.Histories.{RegCall, Gets, Puts, reg_calls, reg_calls_from, reg_call_of, prepend}
+use Rattle.session.specs.Standing.{Stands, is_get, is_put, got, given}
+use Rattle.session.specs.Walk.{Walk, start}
 use Rattle.session.proofs.Placed.{Split, uses-removed}
 
 -- a call that is no get, whoever makes it

@@ -1,24 +1,19 @@
 -- Commands that ask nothing, and answers alone.
 use Rattle.std.proofs.Common.{◌≡◌, ℕ, Bool, true, false, cond, List, [], ◌∷◌, ◌++◌, ◌+◌, Option, Some, None, Result, Ok, Err, refl, sym, ap, subst, ◌∙◌, append-nil}
 use Rattle.std.specs.Prelude.{find, if◌then◌else◌, ◌==◌, MatchResult, IfOk, IsOk}
-use Rattle.std.specs.Str.{bytes_eq}
 use Rattle.std.proofs.lemmas.Slice.Eq.{bytes_eq-Decides}
-use Rattle.kc_base.specs.declared.error_numbers.Errno.TheVariants as errno
 use Rattle.alg_registry.specs.declared.entry.RegEntry.{RegEntry}
 use Rattle.alg_registry.specs.Made.{Made, IsMade}
 use Rattle.alg_registry.proofs.Making.{Made-push}
 use Rattle.reply_text.specs.declared.answers.Answer.{Answer}
-use Rattle.reply_text.specs.declared.answers.Answer.TheVariants as said
-use Rattle.script_text.specs.declared.commands.Command.{Command}
 use Rattle.templates.specs.Table.{table}
 use Rattle.transforms.specs.Plans.{mode_of}
 use Rattle.transforms.specs.Takes.{takes_tag, takes_key_of}
 use Rattle.session.specs.declared.stop.Stop.{Stop}
-use Rattle.session.specs.Lines.{CommandTurn}
 use Rattle.session.specs.Requesting.{key_turn, authsize_turn}
-use Rattle.session.specs.Standing.{Stands, Does, Done, Stops, uses}
-use Rattle.session.specs.Turns.{Turn, refused, answered}
-use Rattle.session.specs.Walk.{Walk, Live, is_of, live_of, with_live, replaced}
+use Rattle.session.specs.Standing.{Stands, Done, Stops, uses}
+use Rattle.session.specs.Turns.{Turn, answered}
+use Rattle.session.specs.Walk.{Walk, Live, is_of, live_of, replaced}
 use Rattle.session.proofs.Asking.{unasked}
 use Rattle.session.proofs.Arms.{keyed, sized, if_keyed, if_sized}
 

@@ -1,11 +1,10 @@
 -- The lines that ask no registry: `aes`, `key`, `authsize`, and the requests `enc`, `dec` and `mac`.
-use Rattle.std.specs.Prelude.{ℕ, Bool, ◌&&◌, ◌||◌, ◌==◌, if◌then◌else◌, List, [], length, Option, Some, None}
+use Rattle.std.specs.Prelude.{ℕ, Bool, ◌&&◌, ◌||◌, ◌==◌, if◌then◌else◌, List, length, Option, Some, None}
 use Rattle.kc_base.specs.declared.error_numbers.Errno.TheVariants.{ENOENT, EINVAL, EBADMSG, ENOKEY}
 use Rattle.std_defs.specs.Aes.{seal}
 use Rattle.std_defs.specs.Value.{Value}
 use Rattle.std_defs.specs.Value.Value.{bytes, bad_message, invalid}
 use Rattle.transforms.specs.declared.request.Dir.{Dir}
-use Rattle.transforms.specs.declared.request.Dir.TheVariants as dir
 use Rattle.transforms.specs.declared.request.Request.{Request}
 use Rattle.transforms.specs.Asked.{takes}
 use Rattle.transforms.specs.Drivers.{driver_of}

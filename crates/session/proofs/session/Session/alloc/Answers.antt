@@ -1,4 +1,4 @@
-use Rattle.std.proofs.Common.{◌≡◌, ◌<◌, ◌≤◌, sym, ap, ◌∙◌, ◌∷◌, [], true, false, arith, length, Ok}
+use Rattle.std.proofs.Common.{sym, ap, ◌∙◌, ◌∷◌, [], true, arith, length, Ok}
 use Rattle.std.proofs.lemmas.Result.{MatchResult-weaker}
 use Rattle.kc_base.specs.declared.error_numbers.Errno.TheVariants.{ENOENT}
 use Rattle.alg_names.specs.Name.{spelling}

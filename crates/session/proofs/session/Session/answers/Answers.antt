@@ -1,7 +1,7 @@
-use Rattle.std.proofs.Common.{◌≡◌, refl, sym, subst, Ok}
+use Rattle.std.proofs.Common.{refl, sym, subst, Ok}
 use Rattle.reply_text.specs.declared.answers.Answer.TheVariants as said
 use Rattle.session.specs.Lines.{LineTurn}
-use Rattle.session.specs.Turns.{Turn, silent, answered}
+use Rattle.session.specs.Turns.{silent, answered}
 use Rattle.session.proofs.Asking.{unasked}
 use Rattle.session.proofs.Single.{own-done}
 use Rattle.session.proofs.session.Session.answers.Goals as goal

@@ -1,5 +1,5 @@
-use Rattle.std.proofs.Common.{◌≡◌, sym, ap, ◌∙◌, arith, length, refl, slice_index_or}
-use Rattle.session.specs.Walk.{Walk, Live}
+use Rattle.std.proofs.Common.{sym, ap, ◌∙◌, arith, length, refl, slice_index_or}
+use Rattle.session.specs.Walk.{Walk}
 use Rattle.session.specs.Requesting.{authsize_turn}
 use Rattle.reply_text.specs.declared.answers.Answer.TheVariants.{Refused}
 use Rattle.session.specs.Turns.{answered}

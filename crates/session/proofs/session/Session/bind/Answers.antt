@@ -1,9 +1,6 @@
-use Rattle.std.proofs.Common.{refl, ◌≡◌, sym, ap, ◌∙◌, ◌++◌, ◌∷◌, [], subst, Some}
-use Rattle.std.specs.Prelude.{slice_get}
-use Rattle.alg_registry.specs.declared.spec.Spec.{Spec}
-use Rattle.alg_registry.specs.Rows.{registered, is_listed}
-use Rattle.session.specs.Allocating.{new_live, plan_for}
-use Rattle.session.specs.Walk.{Walk}
+use Rattle.std.proofs.Common.{refl, ◌≡◌, ap, ◌∙◌, ◌++◌, ◌∷◌, []}
+use Rattle.alg_registry.specs.Rows.{is_listed}
+use Rattle.session.specs.Allocating.{new_live}
 use Rattle.session.proofs.Arms.{bind-got, bind-lost, get-ok, get-refused, grown-walk, refused-by, unless, on-memory, viewed}
 use Rattle.session.proofs.Asking.{goes-nowhere}
 use Rattle.session.proofs.session.Session.bind.Goals as goal

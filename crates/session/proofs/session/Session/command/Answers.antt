@@ -1,9 +1,9 @@
-use Rattle.std.proofs.Common.{◌≡◌, refl, sym, ap, subst, ◌∙◌, [], Ok}
+use Rattle.std.proofs.Common.{refl, sym, ap, subst, ◌∙◌, [], Ok}
 use Rattle.std.proofs.lemmas.Result.{IfOk-weaker}
 use Rattle.transforms.specs.declared.request.Dir.TheVariants as dir
 use Rattle.session.specs.Lines.{CommandTurn}
 use Rattle.session.specs.Requesting.{aes_said, key_turn, authsize_turn, request_said, request_of}
-use Rattle.session.specs.Turns.{Turn, answered}
+use Rattle.session.specs.Turns.{answered}
 use Rattle.session.specs.Walk.{live_of}
 use Rattle.session.proofs.Single.{own-done, key-keeps, authsize-keeps}
 use Rattle.session.proofs.session.Session.command.Goals as goal

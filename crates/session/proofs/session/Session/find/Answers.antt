@@ -1,4 +1,4 @@
-use Rattle.std.proofs.Common.{◌≡◌, sym, ap, ◌∙◌, ◌∷◌, []}
+use Rattle.std.proofs.Common.{◌∷◌, []}
 use Rattle.std.proofs.lemmas.Result.{MatchResult-weaker}
 use Rattle.alg_names.specs.Name.{spelling}
 use Rattle.session.proofs.Arms.{find-bound, find-fault, look-at}

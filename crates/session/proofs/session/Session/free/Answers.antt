@@ -1,4 +1,4 @@
-use Rattle.std.proofs.Common.{◌≡◌, sym, ap, subst, ◌∙◌, ◌++◌, ◌∷◌, [], arith, length, slice_index_or}
+use Rattle.std.proofs.Common.{sym, ap, subst, ◌∙◌, ◌++◌, ◌∷◌, [], arith, length, slice_index_or}
 use Rattle.std.specs.List.{remove}
 use Rattle.alg_registry.specs.Legal.{HasReference}
 use Rattle.alg_registry.specs.declared.entry.RegEntry.TheVariants as entry

@@ -1,6 +1,5 @@
 use Rattle.std.proofs.Common.{◌≡◌, sym, ap, ◌∙◌, arith, length, refl, slice_index_or}
-use Rattle.reply_text.specs.declared.answers.Answer.TheVariants.{Refused}
-use Rattle.session.specs.Walk.{Walk, Live}
+use Rattle.session.specs.Walk.{Walk}
 use Rattle.session.specs.Requesting.{key_turn}
 use Rattle.session.specs.Turns.{answered}
 use Rattle.session.proofs.Arms.{live-at, no-live, key-set, key-kept}
@@ -8,7 +7,6 @@ use Rattle.session.proofs.Placed.{split-within, split-live}
 use Rattle.session.proofs.session.Session.key.Goals as goal
 use Rattle.session.proofs.session.Session.key.Goals.{in-Ok, in-Err-Inval, in-Err-Memory}
 use Rattle.std.proofs.Common.{◌⊎◌, inl, inr, Bool, false}
-use Rattle.transforms.specs.declared.tfm_err.TfmErr.{TfmErr}
 use Rattle.transforms.specs.declared.tfm_err.TfmErr.TheVariants.{Inval, Memory}
 
 inval : {b : Bool} → (Inval ≡ Memory) ⊎ ((Inval ≡ Inval) × (b ≡ false)) → b ≡ false

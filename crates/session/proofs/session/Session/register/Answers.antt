@@ -1,7 +1,7 @@
 use Rattle.std.proofs.Common.{ℕ}
 use Rattle.alg_registry.specs.Answers.{enlist_answer}
 use Rattle.alg_registry.specs.Rows.{rows_of}
-use Rattle.session.proofs.Arms.{register-unknown, register-high, register-asked, enlist-ok, enlist-refused, refused-by, unless, on-memory, known-driver}
+use Rattle.session.proofs.Arms.{register-unknown, register-high, register-asked, enlist-ok, enlist-refused, refused-by, unless, on-memory}
 use Rattle.session.proofs.Asking.{goes-nowhere}
 use Rattle.session.proofs.session.Session.register.Goals as goal
 

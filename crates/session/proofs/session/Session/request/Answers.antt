@@ -1,6 +1,6 @@
-use Rattle.std.proofs.Common.{◌≡◌, sym, ap, ◌∙◌, arith, length, slice_index_or}
+use Rattle.std.proofs.Common.{sym, ap, ◌∙◌, arith, length, slice_index_or}
 use Rattle.std.proofs.lemmas.Result.{IfOk-weaker}
-use Rattle.session.specs.Walk.{Walk, Live}
+use Rattle.session.specs.Walk.{Walk}
 use Rattle.session.specs.Requesting.{request_said, request_of}
 use Rattle.session.proofs.Arms.{live-at, no-live, request-at}
 use Rattle.session.proofs.Placed.{split-within, split-live}
