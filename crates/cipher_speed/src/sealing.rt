@@ -1,0 +1,79 @@
+//! The modes, and each of them many times.
+
+use aes_block::{Aes, Skcipher};
+use cbc_mode::Cbc;
+use ctr_mode::Ctr;
+use gcm_mode::Gcm;
+use ghash_field::BitGhash;
+use hmac_sha::Mac;
+
+ghost use Rattle.std.specs.Prelude.{◌≡◌, ◌^◌, ◌<◌, ◌≤◌, length};
+
+/// What is timed.
+#[derive(Clone, Copy, Debug, PartialEq, Eq)]
+pub enum Mode {
+    Ctr,
+    Cbc,
+    Gcm,
+    Hmac,
+}
+
+/// The mode of a word.
+pub fn mode_named(word: &str) -> Option<Mode> {
+    match word {
+        "ctr" => Some(Mode::Ctr),
+        "cbc" => Some(Mode::Cbc),
+        "gcm" => Some(Mode::Gcm),
+        "hmac" => Some(Mode::Hmac),
+        _ => None,
+    }
+}
+
+/// AES under a key of zeros.
+fn cipher() -> Aes {
+    // AES takes 16 bytes
+    Aes::new(&[0; 16]).unwrap()
+}
+
+/// Seals the text in its place, again and again. A mode that doesn't take the text's length leaves it.
+fn seal_by<S: Skcipher>(mode: &S, iv: &[u8], count: u32, text: &mut [u8])
+    requires { length iv.now ≡ S.iv_size mode.now }
+{
+    for _ in 0..count {
+        let _ = mode.seal(iv, text);
+    }
+}
+
+fn seal_by_gcm(count: u32, text: &mut [u8])
+    requires { length text.old < 2 ^ 32 }
+{
+    let mode = Gcm::<Aes, BitGhash>::new(cipher());
+    let mut tag = [0; 16];
+    for _ in 0..count {
+        mode.seal(&[0; 12], &[], text, &mut tag);
+    }
+}
+
+/// Each MAC is written over the front of the text, so that the next is another.
+fn mac_again(count: u32, text: &mut [u8])
+    requires { 32 ≤ length text.old }
+{
+    let mac = Mac::new(&[0; 32]);
+    for _ in 0..count {
+        let made = mac.mac(text, &[]);
+        text[..32].copy_from_slice(&made);
+    }
+}
+
+/// Seals the text in its place, or writes its MAC over its front, `count` times.
+pub fn seal_times(mode: Mode, count: u32, text: &mut [u8])
+    requires long { 32 ≤ length text.old }
+    requires short { length text.old < 2 ^ 32 }
+{
+    match mode {
+        Mode::Ctr => seal_by(&Ctr::new(cipher()), &[0; 16], count, text),
+        Mode::Cbc => seal_by(&Cbc::new(cipher()), &[0; 16], count, text),
+        Mode::Gcm => seal_by_gcm(count, text),
+        Mode::Hmac => mac_again(count, text),
+    }
+}
