@@ -1,4 +1,4 @@
-use Rattle.std.proofs.Common.{◌≡◌, length}
+use Rattle.std.proofs.Common.{length}
 use Rattle.std.proofs.lemmas.List.{length-take-le}
 use Rattle.cipher_speed.proofs.sealing.write_front.Goals as goal
 
