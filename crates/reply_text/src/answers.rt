@@ -2,7 +2,7 @@
 
 use kc_base::{Bytes, Errno};
 
-/// An answer, by the number of the line that it answers.
+/// An answer, by the number of the line that it answers. What comes of a request later has the number of its line.
 #[derive(Debug, Drop)]
 pub enum Answer {
     /// All went well.
@@ -44,6 +44,26 @@ pub enum Answer {
     /// The end of the list, of so many entries.
     Listed {
         line: u32,
+        count: u64,
+    },
+    /// The request of this line is done, with these bytes.
+    Done {
+        line: u32,
+        bytes: Bytes,
+    },
+    /// The request of this line failed.
+    Failed {
+        line: u32,
+        errno: Errno,
+    },
+    /// The end of a drain, after so many answers `Done` and `Failed`.
+    Drained {
+        line: u32,
+        count: u64,
+    },
+    /// At the end of input, the same of the transform of this label. It alone has no line's number.
+    End {
+        label: Bytes,
         count: u64,
     },
 }

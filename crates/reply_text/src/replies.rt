@@ -5,7 +5,7 @@ ghost use Rattle.std.specs.Fmt.{decimal};
 ghost use Rattle.reply_text.specs.Answers.{sentence, listed_word, text_of};
 
 use crate::answers::Answer;
-use crate::sentences::{hex_digits, numbered};
+use crate::sentences::{hex_digits, numbered, sentence_of};
 use kc_base::Bytes;
 use std::alloc::{AllocError, Global};
 
@@ -22,6 +22,13 @@ fn count_text(alloc: Global, line: u32, word: &[u8], count: u64) -> Result<Bytes
 {
     let count = count.to_string(alloc)?;
     numbered(alloc, line, &[word, count.as_bytes()])
+}
+
+fn done_text(alloc: Global, line: u32, bytes: &[u8]) -> Result<Bytes, AllocError>
+    ensures { IfOk result (λ text. text ≡ text_of (Answer.Done line bytes.now)) }
+{
+    let digits = hex_digits(alloc, bytes)?;
+    numbered(alloc, line, &[b"done".as_slice(), digits.as_bytes()])
 }
 
 fn listed_word(listed: bool) -> &'static [u8]
@@ -66,6 +73,13 @@ fn alg_text(
     )
 }
 
+fn end_text(alloc: Global, label: &[u8], count: u64) -> Result<Bytes, AllocError>
+    ensures { IfOk result (λ text. text ≡ text_of (Answer.End label.now count)) }
+{
+    let count = count.to_string(alloc)?;
+    sentence_of(alloc, b"end", &[label, count.as_bytes()])
+}
+
 fn answer_text(alloc: Global, answer: &Answer) -> Result<Bytes, AllocError>
     ensures { IfOk result (λ text. text ≡ text_of answer.now) }
 {
@@ -97,6 +111,12 @@ fn answer_text(alloc: Global, answer: &Answer) -> Result<Bytes, AllocError>
             *refs,
         ),
         Answer::Listed { line, count } => count_text(alloc, *line, b"listed", *count),
+        Answer::Done { line, bytes } => done_text(alloc, *line, bytes.as_slice()),
+        Answer::Failed { line, errno } => {
+            numbered(alloc, *line, &[b"fail".as_slice(), errno.name().as_bytes()])
+        }
+        Answer::Drained { line, count } => count_text(alloc, *line, b"drained", *count),
+        Answer::End { label, count } => end_text(alloc, label.as_slice(), *count),
     }
 }
 

@@ -92,3 +92,71 @@ fn references_say_whether_an_entry_is_listed(rt: HostRuntime) -> Result<(), Fail
     }
     Ok(())
 }
+
+#[test]
+fn callbacks_have_the_line_of_their_request(rt: HostRuntime) -> Result<(), Fail> {
+    let table: [(u32, &[u8], &[u8]); 2] = [
+        (12, b"\x00\xaf\xFE", b"7 ok\n12 done 00affe\n"),
+        (8, b"", b"7 ok\n8 done -\n"),
+    ];
+    for (line, bytes, want) in table {
+        let bytes = bytes_of(rt.alloc(), bytes)?;
+        let reply = put_after(rt.alloc(), b"7 ok\n", &Answer::Done { line, bytes })?;
+        assert_eq!(rt; reply.as_slice(), want);
+    }
+    Ok(())
+}
+
+#[test]
+fn a_failed_request_has_its_error_number(rt: HostRuntime) -> Result<(), Fail> {
+    let table: [(Errno, &[u8]); 13] = [
+        (Errno::ENOENT, b"3 fail ENOENT\n"),
+        (Errno::E2BIG, b"3 fail E2BIG\n"),
+        (Errno::EAGAIN, b"3 fail EAGAIN\n"),
+        (Errno::EBUSY, b"3 fail EBUSY\n"),
+        (Errno::EEXIST, b"3 fail EEXIST\n"),
+        (Errno::EINVAL, b"3 fail EINVAL\n"),
+        (Errno::ENFILE, b"3 fail ENFILE\n"),
+        (Errno::EMFILE, b"3 fail EMFILE\n"),
+        (Errno::ENOSPC, b"3 fail ENOSPC\n"),
+        (Errno::ENAMETOOLONG, b"3 fail ENAMETOOLONG\n"),
+        (Errno::EBADMSG, b"3 fail EBADMSG\n"),
+        (Errno::EINPROGRESS, b"3 fail EINPROGRESS\n"),
+        (Errno::ENOKEY, b"3 fail ENOKEY\n"),
+    ];
+    for (errno, want) in table {
+        let reply = put_after(rt.alloc(), b"", &Answer::Failed { line: 3, errno })?;
+        assert_eq!(rt; reply.as_slice(), want);
+    }
+    Ok(())
+}
+
+#[test]
+fn ends_have_their_counts(rt: HostRuntime) -> Result<(), Fail> {
+    let table: [(Answer, &[u8]); 2] = [
+        (Answer::Drained { line: 6, count: 3 }, b"6 drained 3\n"),
+        (
+            Answer::Drained {
+                line: 1,
+                count: 18_446_744_073_709_551_615,
+            },
+            b"1 drained 18446744073709551615\n",
+        ),
+    ];
+    for (answer, want) in table {
+        let reply = put_after(rt.alloc(), b"", &answer)?;
+        assert_eq!(rt; reply.as_slice(), want);
+    }
+    Ok(())
+}
+
+#[test]
+fn the_end_of_a_transform_has_its_label(rt: HostRuntime) -> Result<(), Fail> {
+    let answer = Answer::End {
+        label: bytes_of(rt.alloc(), b"T-0_z")?,
+        count: 67,
+    };
+    let reply = put_after(rt.alloc(), b"9 ok\n", &answer)?;
+    assert_eq!(rt; reply.as_slice(), b"9 ok\nend T-0_z 67\n".as_slice());
+    Ok(())
+}

@@ -1,5 +1,5 @@
 -- Digits spell no more bytes than they are.
-use Rattle.std.proofs.Common.{ℕ, suc, ◌+◌, ◌≤◌, Bool, true, false, cond, List, [], ◌∷◌, length, Ok, Err, Result, arith}
+use Rattle.std.proofs.Common.{ℕ, suc, ◌+◌, ◌≤◌, true, false, cond, List, [], ◌∷◌, length, Ok, Err, Result, arith}
 use Rattle.std.specs.Prelude.{◌==◌, ◌%◌, IfSome}
 use Rattle.std.specs.Result.{result_ok}
 use Rattle.hex.specs.declared.error.FromHexError.{FromHexError}

@@ -1,10 +1,9 @@
 -- No list of bytes in a line is longer than its text.
-use Rattle.std.proofs.Common.{◌≡◌, ℕ, suc, ◌+◌, ◌-◌, ◌^◌, ◌<◌, ◌≤◌, Bool, true, false, cond, List, [], ◌∷◌, length, take, Option, Some, None, inl, inr, sym, subst, arith, lit<, length-take}
+use Rattle.std.proofs.Common.{◌≡◌, ℕ, ◌+◌, ◌-◌, ◌≤◌, Bool, true, false, cond, List, [], ◌∷◌, length, Option, Some, None, inl, inr, sym, subst, arith, lit<, length-take}
 use Rattle.std.specs.Prelude.{nat_lt, filter, IfSome, IfOk, Result, Ok, Err, codes}
 use Rattle.std.specs.List.{onto_first, slice_split, list_all}
 use Rattle.std.specs.Result.{result_ok}
 use Rattle.std.specs.Str.{bytes_eq}
-use Rattle.std.proofs.lemmas.Bool.Decides.{nat_tests}
 use Rattle.hex.specs.Hex.{decode_of}
 use Rattle.script_text.proofs.HexLemmas.{decoded_up_to}
 use Rattle.script_text.specs.Lines.{ends_with, without_last, without_return}
@@ -14,8 +13,8 @@ use borrow.Author.Tests.{lt-ltb}
 use Rattle.script_text.specs.declared.commands.Line.{Line}
 use Rattle.script_text.specs.declared.commands.Line.TheVariants.{Nothing, Malformed}
 use Rattle.script_text.specs.Tokens.{tokens_of, is_blank, is_visible, is_comment}
-use Rattle.script_text.specs.Arguments.{◌>>=◌, hex_of, label_of, is_label, number_of, length_of, backlog_of}
-use Rattle.script_text.specs.Commands.{aes_row, register_row, unregister_row, alloc_row, key_row, authsize_row, aead_row, mac_row, free_row, refs_row, list_row, command_of}
+use Rattle.script_text.specs.Arguments.{◌>>=◌, hex_of, label_of, lone_label_of, is_label, number_of, length_of, backlog_of}
+use Rattle.script_text.specs.Commands.{aes_row, register_row, unregister_row, alloc_row, key_row, authsize_row, aead_row, mac_row, label_row, refs_row, list_row, command_of}
 use Rattle.script_text.specs.Script.{command_line, line_of_tokens, line_of_text}
 use Rattle.script_text.specs.Sizes.{IsShort, IsShortCommand, IsShortLine}
 use Rattle.script_text.specs.declared.commands.Command.{Command}
@@ -75,6 +74,10 @@ short_from_up_to (xs ∷ xss) h = (omega (arith, h.0), short_from_up_to xss h.1)
 
 label_short : (token : List ℕ) → IsShort token → SpellsShort (label_of token)
 label_short token h = elim (is_label token) as (λ c. SpellsShort (cond c (Some token) None)) [ true ↦ h | false ↦ tt ]
+
+lone_label_short : (args : List (List ℕ)) → AllShort args → SpellsShort (lone_label_of args)
+lone_label_short (token ∷ []) h = label_short token h.0
+lone_label_short other h = tt
 
 hex_short : (token : List ℕ) → IsShort token → SpellsShort (hex_of token)
 hex_short token h =
@@ -139,9 +142,9 @@ mac_short (label ∷ text ∷ more) h =
     after (label_of label) _ (label_short label h.0) (λ l hl. after (hex_of text) _ (hex_short text h.1.0) (λ t ht. after_any (backlog_of more) _ (λ b. (hl, ht))))
 mac_short other h = tt
 
-free_short : (args : List (List ℕ)) → AllShort args → RowIsShort (free_row args)
-free_short (label ∷ []) h = after (label_of label) _ (label_short label h.0) (λ l hl. hl)
-free_short other h = tt
+label_row_short : (command : List ℕ → Command) → ((l : List ℕ) → IsShort l → IsShortCommand (command l))
+    → (args : List (List ℕ)) → AllShort args → RowIsShort (label_row command args)
+label_row_short command put args h = after (lone_label_of args) _ (lone_label_short args h) (λ l hl. put l hl)
 
 refs_short : (args : List (List ℕ)) → AllShort args → RowIsShort (refs_row args)
 refs_short (driver ∷ []) h = h.0
@@ -181,10 +184,11 @@ command_short name args h =
     pick name (codes "enc") (aead_row says.Enc args) (aead_short says.Enc (λ l i a t b hl hi ha ht. (hl, hi, ha, ht)) args h) (
     pick name (codes "dec") (aead_row says.Dec args) (aead_short says.Dec (λ l i a t b hl hi ha ht. (hl, hi, ha, ht)) args h) (
     pick name (codes "mac") (mac_row args) (mac_short args h) (
-    pick name (codes "free") (free_row args) (free_short args h) (
+    pick name (codes "drain") (label_row says.Drain args) (label_row_short says.Drain (λ l hl. hl) args h) (
+    pick name (codes "free") (label_row says.Free args) (label_row_short says.Free (λ l hl. hl) args h) (
     pick name (codes "refs") (refs_row args) (refs_short args h) (
     pick name (codes "list") (list_row args) (list_short args h) (
-    record { row = None; short = tt })))))))))))) in
+    record { row = None; short = tt }))))))))))))) in
     rows.short
 
 command_line_short : (row : Option Command) → RowIsShort row → IsShortLine (command_line row)

@@ -34,6 +34,11 @@ is_label token = nat_lt 0 (length token) && nat_le (length token) 32 && list_all
 abbrev pub label_of : List ℕ → Option (List ℕ)
 label_of token = if is_label token then Some token else None
 
+-- T alone
+abbrev pub lone_label_of : List (List ℕ) → Option (List ℕ)
+lone_label_of (token ∷ []) = label_of token
+lone_label_of other = None
+
 abbrev pub is_number : List ℕ → Bool
 is_number token = nat_lt 0 (length token) && nat_le (length token) 9 && list_all is_ascii_digit token
 

@@ -1,7 +1,7 @@
 -- The commands: what the arguments of each spell, a row a command.
 use Rattle.std.specs.Prelude.{ℕ, Bool, if◌then◌else◌, List, [], ◌∷◌, codes, Option, Some, None}
 use Rattle.std.specs.Str.{bytes_eq}
-use Rattle.script_text.specs.Arguments.{◌>>=◌, hex_of, label_of, number_of, length_of, backlog_of}
+use Rattle.script_text.specs.Arguments.{◌>>=◌, hex_of, label_of, lone_label_of, number_of, length_of, backlog_of}
 use Rattle.script_text.specs.declared.commands.Command.{Command}
 use Rattle.script_text.specs.declared.commands.Command.TheVariants as says
 
@@ -69,12 +69,11 @@ mac_row (label ∷ text ∷ more) = do
   Some (says.Mac label text backlog)
 mac_row other = None
 
--- `free T`
-abbrev pub free_row : List (List ℕ) → Option Command
-free_row (label ∷ []) = do
-  label ← label_of label
-  Some (says.Free label)
-free_row other = None
+-- `drain T` and `free T`
+abbrev pub label_row : (List ℕ → Command) → List (List ℕ) → Option Command
+label_row command args = do
+  label ← lone_label_of args
+  Some (command label)
 
 -- `refs DRIVER`
 abbrev pub refs_row : List (List ℕ) → Option Command
@@ -98,7 +97,8 @@ command_of name args =
     else if bytes_eq name (codes "enc") then aead_row says.Enc args
     else if bytes_eq name (codes "dec") then aead_row says.Dec args
     else if bytes_eq name (codes "mac") then mac_row args
-    else if bytes_eq name (codes "free") then free_row args
+    else if bytes_eq name (codes "drain") then label_row says.Drain args
+    else if bytes_eq name (codes "free") then label_row says.Free args
     else if bytes_eq name (codes "refs") then refs_row args
     else if bytes_eq name (codes "list") then list_row args
     else None

@@ -18,6 +18,7 @@ IsShortCommand (says.Authsize label size) = IsShort label
 IsShortCommand (says.Enc label iv associated text backlog) = IsShort label × IsShort iv × IsShort associated × IsShort text
 IsShortCommand (says.Dec label iv associated text backlog) = IsShort label × IsShort iv × IsShort associated × IsShort text
 IsShortCommand (says.Mac label text backlog) = IsShort label × IsShort text
+IsShortCommand (says.Drain label) = IsShort label
 IsShortCommand (says.Free label) = IsShort label
 IsShortCommand (says.Refs driver) = IsShort driver
 IsShortCommand says.List = Unit {0}

@@ -4,7 +4,7 @@ ghost use Rattle.std.specs.Prelude.{◌≡◌, IsTrue, map};
 ghost use Rattle.std.specs.Char.{is_ascii_digit};
 ghost use Rattle.std.specs.List.{list_all};
 ghost use Rattle.std.specs.Str.Parse.{digits_value};
-ghost use Rattle.script_text.specs.Arguments.{Reads, hex_of, is_label_byte, is_label, label_of, is_number, number_of, length_of, backlog_of};
+ghost use Rattle.script_text.specs.Arguments.{Reads, hex_of, is_label_byte, is_label, label_of, lone_label_of, is_number, number_of, length_of, backlog_of};
 ghost use Rattle.script_text.specs.declared.arguments.ReadError.TheVariants.{NoMemory};
 
 use hex::FromHexError;
@@ -66,6 +66,16 @@ pub fn label(alloc: Global, token: &[u8]) -> Result<Bytes, ReadError>
         return Err(ReadError::Malformed);
     }
     Ok(Bytes::copy_of(alloc, token)?)
+}
+
+/// A label, where nothing else stands there.
+pub fn lone_label(alloc: Global, args: &[&[u8]]) -> Result<Bytes, ReadError>
+    ensures { Reads result (lone_label_of (map (λ token. token.now) args.now)) }
+{
+    let [token] = args else {
+        return Err(ReadError::Malformed);
+    };
+    label(alloc, token)
 }
 
 fn are_digits(token: &[u8]) -> bool

@@ -58,6 +58,10 @@ pub enum Command {
         text: Bytes,
         backlog: bool,
     },
+    /// `drain T`: all callbacks, once every request is done.
+    Drain {
+        label: Bytes,
+    },
     /// `free T`
     Free {
         label: Bytes,

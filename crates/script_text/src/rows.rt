@@ -2,10 +2,10 @@
 
 ghost use Rattle.std.specs.Prelude.{map};
 ghost use Rattle.script_text.specs.Arguments.{Reads};
-ghost use Rattle.script_text.specs.Commands.{aes_row, register_row, unregister_row, alloc_row, key_row, authsize_row, aead_row, mac_row, free_row, refs_row, list_row, command_of};
+ghost use Rattle.script_text.specs.Commands.{aes_row, register_row, unregister_row, alloc_row, key_row, authsize_row, aead_row, mac_row, label_row, refs_row, list_row, command_of};
 ghost use Rattle.script_text.specs.declared.commands.Command.TheVariants as says;
 
-use crate::arguments::{ReadError, backlog, hex_bytes, label, number, optional_number};
+use crate::arguments::{ReadError, backlog, hex_bytes, label, lone_label, number, optional_number};
 use crate::commands::Command;
 use kc_base::Bytes;
 use std::alloc::Global;
@@ -125,14 +125,19 @@ fn mac_command(alloc: Global, args: &[&[u8]]) -> Result<Command, ReadError>
     })
 }
 
-fn free_command(alloc: Global, args: &[&[u8]]) -> Result<Command, ReadError>
-    ensures { Reads result (free_row (map (λ token. token.now) args.now)) }
+fn drain_command(alloc: Global, args: &[&[u8]]) -> Result<Command, ReadError>
+    ensures { Reads result (label_row says.Drain (map (λ token. token.now) args.now)) }
 {
-    let [transform] = args else {
-        return Err(ReadError::Malformed);
-    };
+    Ok(Command::Drain {
+        label: lone_label(alloc, args)?,
+    })
+}
+
+fn free_command(alloc: Global, args: &[&[u8]]) -> Result<Command, ReadError>
+    ensures { Reads result (label_row says.Free (map (λ token. token.now) args.now)) }
+{
     Ok(Command::Free {
-        label: label(alloc, transform)?,
+        label: lone_label(alloc, args)?,
     })
 }
 
@@ -178,6 +183,8 @@ pub fn read_command(alloc: Global, name: &[u8], args: &[&[u8]]) -> Result<Comman
         dec_command(alloc, args)
     } else if name == b"mac".as_slice() {
         mac_command(alloc, args)
+    } else if name == b"drain".as_slice() {
+        drain_command(alloc, args)
     } else if name == b"free".as_slice() {
         free_command(alloc, args)
     } else if name == b"refs".as_slice() {

@@ -229,6 +229,7 @@ fn words(alloc: Global, command: &Command) -> Result<String, AllocError> {
             text,
             backlog,
         } => request_words(alloc, "mac", label, &[text], *backlog),
+        Command::Drain { label } => format!(in alloc; "drain {}", text(label)),
         Command::Free { label } => format!(in alloc; "free {}", text(label)),
         Command::Refs { driver } => format!(in alloc; "refs {}", text(driver)),
         Command::List => String::from_str(alloc, "list"),
@@ -243,17 +244,6 @@ fn read_words(alloc: Global, line: &[u8]) -> Result<String, AllocError> {
     }
 }
 
-// The commands of a script's lines, written out line by line.
-fn script_words(alloc: Global, script: &[u8]) -> Result<String, AllocError> {
-    let mut all = String::new(alloc);
-    for line in script.split(|b| *b == b'\n') {
-        let words = read_words(alloc, line)?;
-        all.push_str(words.as_str())?;
-        all.push_str("\n")?;
-    }
-    Ok(all)
-}
-
 // Whether each line of a script says this.
 fn all_say(alloc: Global, script: &[u8], wanted: Said) -> Result<bool, AllocError> {
     for line in script.split(|b| *b == b'\n') {
@@ -265,13 +255,8 @@ fn all_say(alloc: Global, script: &[u8], wanted: Said) -> Result<bool, AllocErro
 }
 
 #[test]
-fn each_command_has_its_values(rt: HostRuntime) -> Result<(), Fail> {
-    let script = b"aes 0001 02
-register cbc(aes-generic) 0200
-unregister aes-generic
-alloc a authenc(hmac(sha256),cbc(aes))
-alloc a cryptd(gcm(aes)) 010
-key T-0_z aAbB
+fn commands_are_written_out_as_they_were_read(rt: HostRuntime) -> Result<(), Fail> {
+    let script = b"unregister aes-generic
 key t -
 authsize t 16
 enc t 01 0203 040506
@@ -280,31 +265,43 @@ dec t 01 0203 040506
 dec t - 02 - backlog
 mac t 0102
 mac t - backlog
+drain T-0_z
 free t
 refs aes-generic
 refs #!
-\tlist ";
-    let want = "aes 2 1
-register cbc(aes-generic) 200
-unregister aes-generic
-alloc a authenc(hmac(sha256),cbc(aes)) None
-alloc a cryptd(gcm(aes)) Some(10)
-key T-0_z aabb
-key t -
-authsize t 16
-enc t 01 0203 040506
-enc t 01 - 0405 backlog
-dec t 01 0203 040506
-dec t - 02 - backlog
-mac t 0102
-mac t - backlog
-free t
-refs aes-generic
-refs #!
-list
-";
-    let found = script_words(rt.alloc(), script)?;
-    assert_eq!(rt; found.as_str(), want);
+list";
+    for line in script.split(|b| *b == b'\n') {
+        let found = read_words(rt.alloc(), line)?;
+        assert_eq!(rt; found.as_bytes(), line);
+    }
+    Ok(())
+}
+
+#[test]
+fn values_are_read(rt: HostRuntime) -> Result<(), Fail> {
+    let table: [(&[u8], &str); 8] = [
+        (b"aes 0001 02", "aes 2 1"),
+        (
+            b"register cbc(aes-generic) 0200",
+            "register cbc(aes-generic) 200",
+        ),
+        (
+            b"alloc a authenc(hmac(sha256),cbc(aes))",
+            "alloc a authenc(hmac(sha256),cbc(aes)) None",
+        ),
+        (
+            b"alloc a cryptd(gcm(aes)) 010",
+            "alloc a cryptd(gcm(aes)) Some(10)",
+        ),
+        (b"key T-0_z aAbB", "key T-0_z aabb"),
+        (b"\tdrain  - \r\n", "drain -"),
+        (b"\tlist ", "list"),
+        (b"frob x", "no command"),
+    ];
+    for (line, want) in table {
+        let found = read_words(rt.alloc(), line)?;
+        assert_eq!(rt; found.as_str(), want);
+    }
     Ok(())
 }
 
@@ -312,13 +309,16 @@ list
 fn arguments_have_their_limits(rt: HostRuntime) -> Result<(), Fail> {
     // a label of 32 bytes, and numbers of 9 digits
     let fit = b"free abcdefghijklmnopqrstuvwxyz-_0123
+drain abcdefghijklmnopqrstuvwxyz-_0123
 register a 999999999
 register a 000000000
 alloc t aes 1";
     assert!(rt; all_say(rt.alloc(), fit, Said::Another)?);
     // a label of 33 bytes, bytes that no label has, numbers of 10 digits, no digits, half a byte
     let unfit = b"free abcdefghijklmnopqrstuvwxyz-_01234
+drain abcdefghijklmnopqrstuvwxyz-_01234
 free a.b
+drain a/b
 key a/b 00
 register a 0000000001
 register a 1000000000
@@ -355,6 +355,9 @@ dec t 00 00 00 Backlog
 mac t
 mac t 00 backlo
 mac t 00 backlog 00
+drain
+drain t u
+drain t backlog
 free
 free t u
 refs
@@ -362,6 +365,7 @@ refs a b
 list a
 List
 lists
+DRAIN t
 encrypt t 00 00 00
 ENC t 00 00 00";
     assert!(rt; all_say(rt.alloc(), script, Said::Malformed)?);

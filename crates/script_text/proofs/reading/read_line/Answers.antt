@@ -1,4 +1,4 @@
-use Rattle.std.proofs.Common.{◌≤◌, ◌-◌, length, take, ap, arith}
+use Rattle.std.proofs.Common.{◌-◌, length, take, ap, arith}
 use Rattle.script_text.proofs.ShortLemmas.{said_short, without_return_le}
 use Rattle.script_text.proofs.reading.read_line.Goals as goal
 
