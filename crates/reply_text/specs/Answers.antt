@@ -5,7 +5,7 @@ use Rattle.std.specs.List.{join_with_byte}
 use Rattle.hex.specs.Hex.{encode_lower}
 use Rattle.kc_base.specs.Errno.{name_of}
 use Rattle.reply_text.specs.declared.answers.Answer.{Answer}
-use Rattle.reply_text.specs.declared.answers.Answer.TheVariants.{Ok, Value, Made, Refused, Malformed, Refs, Alg, Listed, Done, Failed, Drained, End}
+use Rattle.reply_text.specs.declared.answers.Answer.TheVariants.{Ok, Value, Made, Refused, Malformed, Refs, Alg, Listed, Started, Done, Failed, Polled, Drained, End}
 
 -- bytes in hexadecimal digits of lower case, and `-` for no bytes
 abbrev pub hex_text : List ℕ → List ℕ
@@ -29,7 +29,9 @@ text_of (Malformed line) = sentence (decimal line ∷ codes "malformed" ∷ [])
 text_of (Refs line count listed) = sentence (decimal line ∷ codes "refs" ∷ decimal count ∷ listed_word listed ∷ [])
 text_of (Alg line name driver priority refs) = sentence (decimal line ∷ codes "alg" ∷ name ∷ driver ∷ decimal priority ∷ decimal refs ∷ [])
 text_of (Listed line count) = sentence (decimal line ∷ codes "listed" ∷ decimal count ∷ [])
+text_of (Started line) = sentence (decimal line ∷ codes "started" ∷ [])
 text_of (Done line bytes) = sentence (decimal line ∷ codes "done" ∷ hex_text bytes ∷ [])
 text_of (Failed line errno) = sentence (decimal line ∷ codes "fail" ∷ name_of errno ∷ [])
+text_of (Polled line count) = sentence (decimal line ∷ codes "polled" ∷ decimal count ∷ [])
 text_of (Drained line count) = sentence (decimal line ∷ codes "drained" ∷ decimal count ∷ [])
 text_of (End label count) = sentence (codes "end" ∷ label ∷ decimal count ∷ [])

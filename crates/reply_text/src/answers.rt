@@ -46,6 +46,10 @@ pub enum Answer {
         line: u32,
         count: u64,
     },
+    /// The request of this line left its queue's backlog.
+    Started {
+        line: u32,
+    },
     /// The request of this line is done, with these bytes.
     Done {
         line: u32,
@@ -55,6 +59,11 @@ pub enum Answer {
     Failed {
         line: u32,
         errno: Errno,
+    },
+    /// The end of a poll, after so many answers `Done` and `Failed`.
+    Polled {
+        line: u32,
+        count: u64,
     },
     /// The end of a drain, after so many answers `Done` and `Failed`.
     Drained {

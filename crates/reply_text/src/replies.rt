@@ -111,10 +111,12 @@ fn answer_text(alloc: Global, answer: &Answer) -> Result<Bytes, AllocError>
             *refs,
         ),
         Answer::Listed { line, count } => count_text(alloc, *line, b"listed", *count),
+        Answer::Started { line } => numbered(alloc, *line, &[b"started".as_slice()]),
         Answer::Done { line, bytes } => done_text(alloc, *line, bytes.as_slice()),
         Answer::Failed { line, errno } => {
             numbered(alloc, *line, &[b"fail".as_slice(), errno.name().as_bytes()])
         }
+        Answer::Polled { line, count } => count_text(alloc, *line, b"polled", *count),
         Answer::Drained { line, count } => count_text(alloc, *line, b"drained", *count),
         Answer::End { label, count } => end_text(alloc, label.as_slice(), *count),
     }

@@ -95,13 +95,18 @@ fn references_say_whether_an_entry_is_listed(rt: HostRuntime) -> Result<(), Fail
 
 #[test]
 fn callbacks_have_the_line_of_their_request(rt: HostRuntime) -> Result<(), Fail> {
+    let answer = Answer::Started {
+        line: 4_294_967_295,
+    };
+    let reply = put_after(rt.alloc(), b"", &answer)?;
+    assert_eq!(rt; reply.as_slice(), b"4294967295 started\n".as_slice());
     let table: [(u32, &[u8], &[u8]); 2] = [
-        (12, b"\x00\xaf\xFE", b"7 ok\n12 done 00affe\n"),
-        (8, b"", b"7 ok\n8 done -\n"),
+        (12, b"\x00\xaf\xFE", b"7 started\n12 done 00affe\n"),
+        (8, b"", b"7 started\n8 done -\n"),
     ];
     for (line, bytes, want) in table {
         let bytes = bytes_of(rt.alloc(), bytes)?;
-        let reply = put_after(rt.alloc(), b"7 ok\n", &Answer::Done { line, bytes })?;
+        let reply = put_after(rt.alloc(), b"7 started\n", &Answer::Done { line, bytes })?;
         assert_eq!(rt; reply.as_slice(), want);
     }
     Ok(())
@@ -133,7 +138,8 @@ fn a_failed_request_has_its_error_number(rt: HostRuntime) -> Result<(), Fail> {
 
 #[test]
 fn ends_have_their_counts(rt: HostRuntime) -> Result<(), Fail> {
-    let table: [(Answer, &[u8]); 2] = [
+    let table: [(Answer, &[u8]); 3] = [
+        (Answer::Polled { line: 4, count: 0 }, b"4 polled 0\n"),
         (Answer::Drained { line: 6, count: 3 }, b"6 drained 3\n"),
         (
             Answer::Drained {

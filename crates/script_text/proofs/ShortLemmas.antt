@@ -184,11 +184,14 @@ command_short name args h =
     pick name (codes "enc") (aead_row says.Enc args) (aead_short says.Enc (λ l i a t b hl hi ha ht. (hl, hi, ha, ht)) args h) (
     pick name (codes "dec") (aead_row says.Dec args) (aead_short says.Dec (λ l i a t b hl hi ha ht. (hl, hi, ha, ht)) args h) (
     pick name (codes "mac") (mac_row args) (mac_short args h) (
+    pick name (codes "hold") (label_row says.Hold args) (label_row_short says.Hold (λ l hl. hl) args h) (
+    pick name (codes "go") (label_row says.Go args) (label_row_short says.Go (λ l hl. hl) args h) (
+    pick name (codes "poll") (label_row says.Poll args) (label_row_short says.Poll (λ l hl. hl) args h) (
     pick name (codes "drain") (label_row says.Drain args) (label_row_short says.Drain (λ l hl. hl) args h) (
     pick name (codes "free") (label_row says.Free args) (label_row_short says.Free (λ l hl. hl) args h) (
     pick name (codes "refs") (refs_row args) (refs_short args h) (
     pick name (codes "list") (list_row args) (list_short args h) (
-    record { row = None; short = tt }))))))))))))) in
+    record { row = None; short = tt })))))))))))))))) in
     rows.short
 
 command_line_short : (row : Option Command) → RowIsShort row → IsShortLine (command_line row)

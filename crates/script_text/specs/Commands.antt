@@ -69,7 +69,7 @@ mac_row (label ∷ text ∷ more) = do
   Some (says.Mac label text backlog)
 mac_row other = None
 
--- `drain T` and `free T`
+-- `hold T`, `go T`, `poll T`, `drain T` and `free T`
 abbrev pub label_row : (List ℕ → Command) → List (List ℕ) → Option Command
 label_row command args = do
   label ← lone_label_of args
@@ -97,6 +97,9 @@ command_of name args =
     else if bytes_eq name (codes "enc") then aead_row says.Enc args
     else if bytes_eq name (codes "dec") then aead_row says.Dec args
     else if bytes_eq name (codes "mac") then mac_row args
+    else if bytes_eq name (codes "hold") then label_row says.Hold args
+    else if bytes_eq name (codes "go") then label_row says.Go args
+    else if bytes_eq name (codes "poll") then label_row says.Poll args
     else if bytes_eq name (codes "drain") then label_row says.Drain args
     else if bytes_eq name (codes "free") then label_row says.Free args
     else if bytes_eq name (codes "refs") then refs_row args

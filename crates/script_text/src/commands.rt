@@ -58,6 +58,18 @@ pub enum Command {
         text: Bytes,
         backlog: bool,
     },
+    /// `hold T`: the queue serves no request until `go T`.
+    Hold {
+        label: Bytes,
+    },
+    /// `go T`
+    Go {
+        label: Bytes,
+    },
+    /// `poll T`: the callbacks that have come so far.
+    Poll {
+        label: Bytes,
+    },
     /// `drain T`: all callbacks, once every request is done.
     Drain {
         label: Bytes,

@@ -125,6 +125,30 @@ fn mac_command(alloc: Global, args: &[&[u8]]) -> Result<Command, ReadError>
     })
 }
 
+fn hold_command(alloc: Global, args: &[&[u8]]) -> Result<Command, ReadError>
+    ensures { Reads result (label_row says.Hold (map (λ token. token.now) args.now)) }
+{
+    Ok(Command::Hold {
+        label: lone_label(alloc, args)?,
+    })
+}
+
+fn go_command(alloc: Global, args: &[&[u8]]) -> Result<Command, ReadError>
+    ensures { Reads result (label_row says.Go (map (λ token. token.now) args.now)) }
+{
+    Ok(Command::Go {
+        label: lone_label(alloc, args)?,
+    })
+}
+
+fn poll_command(alloc: Global, args: &[&[u8]]) -> Result<Command, ReadError>
+    ensures { Reads result (label_row says.Poll (map (λ token. token.now) args.now)) }
+{
+    Ok(Command::Poll {
+        label: lone_label(alloc, args)?,
+    })
+}
+
 fn drain_command(alloc: Global, args: &[&[u8]]) -> Result<Command, ReadError>
     ensures { Reads result (label_row says.Drain (map (λ token. token.now) args.now)) }
 {
@@ -183,6 +207,12 @@ pub fn read_command(alloc: Global, name: &[u8], args: &[&[u8]]) -> Result<Comman
         dec_command(alloc, args)
     } else if name == b"mac".as_slice() {
         mac_command(alloc, args)
+    } else if name == b"hold".as_slice() {
+        hold_command(alloc, args)
+    } else if name == b"go".as_slice() {
+        go_command(alloc, args)
+    } else if name == b"poll".as_slice() {
+        poll_command(alloc, args)
     } else if name == b"drain".as_slice() {
         drain_command(alloc, args)
     } else if name == b"free".as_slice() {

@@ -229,6 +229,9 @@ fn words(alloc: Global, command: &Command) -> Result<String, AllocError> {
             text,
             backlog,
         } => request_words(alloc, "mac", label, &[text], *backlog),
+        Command::Hold { label } => format!(in alloc; "hold {}", text(label)),
+        Command::Go { label } => format!(in alloc; "go {}", text(label)),
+        Command::Poll { label } => format!(in alloc; "poll {}", text(label)),
         Command::Drain { label } => format!(in alloc; "drain {}", text(label)),
         Command::Free { label } => format!(in alloc; "free {}", text(label)),
         Command::Refs { driver } => format!(in alloc; "refs {}", text(driver)),
@@ -265,6 +268,9 @@ dec t 01 0203 040506
 dec t - 02 - backlog
 mac t 0102
 mac t - backlog
+hold T-0_z
+go T-0_z
+poll T-0_z
 drain T-0_z
 free t
 refs aes-generic
@@ -309,6 +315,9 @@ fn values_are_read(rt: HostRuntime) -> Result<(), Fail> {
 fn arguments_have_their_limits(rt: HostRuntime) -> Result<(), Fail> {
     // a label of 32 bytes, and numbers of 9 digits
     let fit = b"free abcdefghijklmnopqrstuvwxyz-_0123
+hold abcdefghijklmnopqrstuvwxyz-_0123
+go abcdefghijklmnopqrstuvwxyz-_0123
+poll abcdefghijklmnopqrstuvwxyz-_0123
 drain abcdefghijklmnopqrstuvwxyz-_0123
 register a 999999999
 register a 000000000
@@ -316,8 +325,14 @@ alloc t aes 1";
     assert!(rt; all_say(rt.alloc(), fit, Said::Another)?);
     // a label of 33 bytes, bytes that no label has, numbers of 10 digits, no digits, half a byte
     let unfit = b"free abcdefghijklmnopqrstuvwxyz-_01234
+hold abcdefghijklmnopqrstuvwxyz-_01234
+go abcdefghijklmnopqrstuvwxyz-_01234
+poll abcdefghijklmnopqrstuvwxyz-_01234
 drain abcdefghijklmnopqrstuvwxyz-_01234
 free a.b
+hold a.b
+go a:b
+poll a(b)
 drain a/b
 key a/b 00
 register a 0000000001
@@ -355,6 +370,12 @@ dec t 00 00 00 Backlog
 mac t
 mac t 00 backlo
 mac t 00 backlog 00
+hold
+hold t u
+go
+go t u
+poll
+poll t 1
 drain
 drain t u
 drain t backlog
@@ -365,6 +386,9 @@ refs a b
 list a
 List
 lists
+Hold t
+gone t
+polls t
 DRAIN t
 encrypt t 00 00 00
 ENC t 00 00 00";
