@@ -228,7 +228,7 @@ drained_queue {A} es r queue all =
     let idle : length (finished es) ≡ length (takings es) = omega arith in
     let f : front es ≡ length (submissions es) = unbroken-all (finished es) 0 (length (submissions es)) (λ i l. subst (λ ns. has (0 + i) ns ≡ true) (sym (o.in_order queue)) (has_below (length (finished es)) (0 + i) (omega arith))) in
     let tq = told_on_queue es queue in
-    let ending : EndsDone (told es) = subst EndsDone (sym tq) (ending_run {A} [] es (λ q i. inl refl) r queue idle) in
+    let ending : EndsDone (told es) = subst EndsDone (sym tq) (ending_run {A = A} [] es (λ q i. inl refl) r queue idle) in
     let within : collected es ≤ length (told es) = subst (λ ns. collected es ≤ length ns) (sym tq) (o.within queue) in
     (f, whole (told es) (collected es) ending within (omega arith))
 
