@@ -19,3 +19,4 @@ pub mod KeptClose
 pub mod Staying
 pub mod StartOrder
 pub mod QueueAll
+pub mod Handing

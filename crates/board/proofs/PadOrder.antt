@@ -188,7 +188,7 @@ orderly_run before (e ∷ es) given o r =
     subst₂ IsOrderly (append_assoc before (e ∷ []) es) (append_assoc given (handed_in before e) (handed_after (before ++ e ∷ []) es)) s
 
 -- where all of so many numbers are there, so many come before the first that is not
-unbroken-all : (ns : List ℕ) (n many : ℕ) → ((i : ℕ) → i < many → has (n + i) ns ≡ true) → unbroken ns n many ≡ many
+pub unbroken-all : (ns : List ℕ) (n many : ℕ) → ((i : ℕ) → i < many → has (n + i) ns ≡ true) → unbroken ns n many ≡ many
 unbroken-all ns n zero all = refl
 unbroken-all ns n (suc many) all =
     let h : has n ns ≡ true = subst (λ m. has m ns ≡ true) (add-zero n) (all 0 (omega arith)) in

@@ -6,3 +6,4 @@ pub mod Pipelines
 pub mod Kept
 pub mod Examples
 pub mod Staying
+pub mod Handing

@@ -1,9 +1,22 @@
 use Rattle.std.specs.Prelude.{◌≡◌, ◌≢◌, ℕ, Bool, true, false, List, [], ◌∷◌, ◌++◌, length}
+use Rattle.board.specs.declared.entry.Shape.{Shape}
 use Rattle.board.specs.declared.entry.Shape.TheVariants.{Pad, Queue}
 use Rattle.board.specs.declared.entry.BoardEntry.{BoardEntry}
 use Rattle.board.specs.declared.entry.BoardEntry.TheVariants.{Born, Take, Finish, Deq, Done, Collect}
-use Rattle.board.specs.Entries.{entries_of, submissions, front, told, collected, is_close, caller_of, take_entry, finish_entry}
+use Rattle.board.specs.Entries.{is_of, entries_of, submissions, front, told, collected, is_close, caller_of, take_entry, finish_entry}
 use Rattle.board.specs.Legal.{IsOpenPad, IsOpenQueue, IsOpen, MaySubmit, MayManage, MayFinish, LegalBoard}
+
+-- an entry of the pipeline comes after those before it
+abbrev pub Joins : {A : Type 0} → List (BoardEntry A) → BoardEntry A → ℕ → Type 0
+Joins h e p = is_of p e ≡ true → entries_of p (h ++ e ∷ []) ≡ entries_of p h ++ e ∷ []
+
+-- and leaves the entries of the others
+abbrev pub LeavesOthers : {A : Type 0} → List (BoardEntry A) → BoardEntry A → ℕ → Type 0
+LeavesOthers h e p = is_of p e ≡ false → entries_of p (h ++ e ∷ []) ≡ entries_of p h
+
+-- a pipeline has no entry before its birth
+abbrev pub BeginsAlone : {A : Type 0} → List (BoardEntry A) → ℕ → ℕ → Shape → Type 0
+BeginsAlone h caller p shape = LegalBoard (h ++ Born caller p shape ∷ []) → entries_of p h ≡ []
 
 -- the pad is open, and this caller manages it
 abbrev pub IsOpenFor : {A : Type 0} → List (BoardEntry A) → ℕ → ℕ → Type 0

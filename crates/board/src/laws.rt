@@ -5,13 +5,15 @@ ghost use Rattle.std.specs.declared.sync.Arc.{Arc};
 ghost use Rattle.std.specs.declared.alloc.Global.{Global};
 ghost use Rattle.std.specs.Arc.{arc_value};
 ghost use Rattle.kc_base.specs.declared.callback_list.Callback.TheVariants as Callback;
+ghost use Rattle.board.specs.declared.entry.Shape.{Shape};
 ghost use Rattle.board.specs.declared.entry.Entered.TheVariants.{Busy, NoSpace};
 ghost use Rattle.board.specs.declared.entry.BoardEntry.{BoardEntry};
 ghost use Rattle.board.specs.declared.entry.BoardEntry.TheVariants.{Submit, Finish, Enq, Deq, Go, Collect, Close};
 ghost use Rattle.board.specs.Entries.{Starts, Completes, told, entries_of, delivered};
 ghost use Rattle.board.specs.Legal.{IsRight, LegalBoard};
 ghost use Rattle.board.specs.Order.{PadsKeepOrder, PadsWaitForEach, PadsHandOutAll, QueuesKeepOrder, QueuesHandOutTold, QueuesCompleteInOrder, QueuesHandOutAll, StartsBackloggedAlone, StartsEachOnce, StartsBeforeCompletion};
-ghost use Rattle.board.specs.Staying.{OpensPad, OpensQueue, StaysOpen, QueueStaysOpen, StaysManaged, StaysSubmitting, SlipStays, CollectDrains, WorkLeaves, TakingIsWork, FinishingIsWork};
+ghost use Rattle.board.specs.Staying.{Joins, LeavesOthers, BeginsAlone, OpensPad, OpensQueue, StaysOpen, QueueStaysOpen, StaysManaged, StaysSubmitting, SlipStays, CollectDrains, WorkLeaves, TakingIsWork, FinishingIsWork};
+ghost use Rattle.board.specs.Handing.{HandsNothing, CollectHandsOut, AllHandedOutIsDrained};
 ghost use Rattle.board.specs.Examples.{held_requests, held_queue, second_first};
 
 /// In every legal history a pad hands out the completions of its requests in their order, each once, however its jobs were
@@ -53,6 +55,25 @@ pub fn pipelines_stay<A>()
     ensures drained { (h : List (BoardEntry A)) (caller p to : ℕ) → CollectDrains h caller p to }
     ensures taking { (h : List (BoardEntry A)) (caller p n : ℕ) → TakingIsWork h caller p n }
     ensures finishing { (h : List (BoardEntry A)) (caller p n : ℕ) → FinishingIsWork h caller p n }
+{}
+
+/// Each entry joins the entries of its own pipeline and leaves those of the others; a pipeline's birth comes before them.
+pub fn entries_join<A>()
+    ensures joins { (h : List (BoardEntry A)) (e : BoardEntry A) (p : ℕ) → Joins h e p }
+    ensures leaves { (h : List (BoardEntry A)) (e : BoardEntry A) (p : ℕ) → LeavesOthers h e p }
+    ensures alone { (h : List (BoardEntry A)) (caller p : ℕ) (shape : Shape) → BeginsAlone h caller p shape }
+{}
+
+/// Only a collect hands anything out. A pad or queue that handed out as many completions as it accepted requests may be
+/// closed.
+pub fn only_collects_hand_out<A>()
+    ensures nothing { (h : List (BoardEntry A)) (e : BoardEntry A) (p : ℕ) → HandsNothing h e p }
+    ensures drained { (h : List (BoardEntry A)) (p : ℕ) → AllHandedOutIsDrained h p }
+{}
+
+/// A collect hands out as many completions as are among the callbacks that it delivers.
+pub fn collects_hand_out<A, O>()
+    ensures { (meaning : A → O) (h : List (BoardEntry A)) (caller p to : ℕ) → CollectHandsOut meaning h caller p to }
 {}
 
 /// Who took a job may finish it, with the value of the same ask, whatever others do meanwhile.

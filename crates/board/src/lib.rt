@@ -22,8 +22,8 @@ mod working;
 pub use board_core::{BoardCore, BoardErr};
 pub use entry::{BoardEntry, Entered, Shape};
 pub use laws::{
-    legal_pads, legal_queues, pads_keep_order, pipelines_stay, queues_keep_order,
-    queues_start_backlog, slips_stay,
+    collects_hand_out, entries_join, legal_pads, legal_queues, only_collects_hand_out,
+    pads_keep_order, pipelines_stay, queues_keep_order, queues_start_backlog, slips_stay,
 };
 pub use log::BoardLog;
 pub use work::Work;

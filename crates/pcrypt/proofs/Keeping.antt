@@ -8,12 +8,15 @@ use Rattle.board.specs.declared.entry.BoardEntry.{BoardEntry}
 use Rattle.board.specs.declared.entry.BoardEntry.TheVariants.{Born, Submit, Take, Finish, Enq, Deq, Done, Hold, Go, Collect, Close, Share, Shut}
 use Rattle.board.specs.declared.entry.Shape.TheVariants.{Queue}
 use Rattle.board.specs.Entries.{is_of, entries_of, submissions, collected, caller_of, is_close, held_in, is_held, last_or}
-use Rattle.board.specs.Legal.{IsOpenPad, IsOpenQueue, MaySubmit, MayManage, MayFinish, AreRightAfter, LegalBoard}
+use Rattle.board.specs.Legal.{IsOpenPad, IsOpenQueue, MaySubmit, MayManage, MayFinish, AreRightAfter, is_shut_entry, is_shut, LegalBoard}
+use Rattle.board.specs.Order.{handed_out}
+use Rattle.board.specs.Handing.{is_collect, HandsNothing}
 use Rattle.board.specs.Staying.{is_work, StaysOpen, QueueStaysOpen, StaysManaged, StaysSubmitting, WorkLeaves, SlipStays}
 use Rattle.board.proofs.Transfer.{entries-more, entries-same}
 use Rattle.board.proofs.PadOrder.{filter_map-none, filter_map-some, last_or-append}
+use Rattle.board.proofs.Kept.{shut-same}
 use Rattle.board.proofs.Staying.{last_right}
-use Rattle.pcrypt.specs.Working.{is_work_by, WorksFrom, IsServed, WorkKeeps, WorkSpares, BornServed, Holds, StaysHeld}
+use Rattle.pcrypt.specs.Working.{is_work_by, WorksFrom, IsServed, WorkKeeps, WorkShutsNothing, WorkSpares, BornServed, Holds, StaysHeld}
 
 left_true : (a b : Bool) → (a && b) ≡ true → a ≡ true
 left_true true b e = refl
@@ -38,6 +41,38 @@ no_close (Collect caller pipe to) w = refl
 no_close (Close caller pipe) w = absurd cc
 no_close (Share caller pipe) w = refl
 no_close (Shut caller) w = refl
+
+-- nor does it hand anything out
+no_collect : {A : Type 0} (e : BoardEntry A) → is_work e ≡ true → is_collect e ≡ false
+no_collect (Born caller pipe shape) w = refl
+no_collect (Submit caller pipe number ask) w = refl
+no_collect (Take caller pipe number) w = refl
+no_collect (Finish caller pipe number) w = refl
+no_collect (Enq caller pipe ask backlog answer) w = refl
+no_collect (Deq caller pipe number started) w = refl
+no_collect (Done caller pipe number) w = refl
+no_collect (Hold caller pipe) w = refl
+no_collect (Go caller pipe) w = refl
+no_collect (Collect caller pipe to) w = absurd cc
+no_collect (Close caller pipe) w = refl
+no_collect (Share caller pipe) w = refl
+no_collect (Shut caller) w = refl
+
+-- nor does it shut the board
+no_shut : {A : Type 0} (e : BoardEntry A) → is_work e ≡ true → is_shut_entry e ≡ false
+no_shut (Born caller pipe shape) w = refl
+no_shut (Submit caller pipe number ask) w = refl
+no_shut (Take caller pipe number) w = refl
+no_shut (Finish caller pipe number) w = refl
+no_shut (Enq caller pipe ask backlog answer) w = refl
+no_shut (Deq caller pipe number started) w = refl
+no_shut (Done caller pipe number) w = refl
+no_shut (Hold caller pipe) w = refl
+no_shut (Go caller pipe) w = refl
+no_shut (Collect caller pipe to) w = refl
+no_shut (Close caller pipe) w = refl
+no_shut (Share caller pipe) w = refl
+no_shut (Shut caller) w = absurd cc
 
 -- nor does it hold a queue or let one go
 holds_nothing : {A : Type 0} (e : BoardEntry A) → is_work e ≡ true → held_in e ≡ None
@@ -73,23 +108,36 @@ Keeps before after p =
     × ((c : ℕ) → MayManage (entries_of p before) c → MayManage (entries_of p after) c)
     × (is_held (entries_of p after) ≡ is_held (entries_of p before))
     × (IsOpenQueue (entries_of p before) → IsOpenQueue (entries_of p after))
+    × (handed_out (entries_of p after) ≡ handed_out (entries_of p before))
 
 both : {A : Type 0} (before mid after : List (BoardEntry A)) (p : ℕ) → Keeps before mid p → Keeps mid after p → Keeps before after p
-both before mid after p k l = (l.0 ∙ k.0, l.1 ∙ k.1, λ o. l.2 (k.2 o), λ c s. l.3 c (k.3 c s), λ c m. l.4 c (k.4 c m), l.5 ∙ k.5, λ o. l.6 (k.6 o))
+both before mid after p k l = (l.0 ∙ k.0, l.1 ∙ k.1, λ o. l.2 (k.2 o), λ c s. l.3 c (k.3 c s), λ c m. l.4 c (k.4 c m), l.5 ∙ k.5, λ o. l.6 (k.6 o), l.7 ∙ k.7)
 
-module _ {A : Type 0} (opened : (h : List (BoardEntry A)) (e : BoardEntry A) (p : ℕ) → StaysOpen h e p) (queue_opened : (h : List (BoardEntry A)) (e : BoardEntry A) (p : ℕ) → QueueStaysOpen h e p) (managed : (h : List (BoardEntry A)) (e : BoardEntry A) (p caller : ℕ) → StaysManaged h e p caller) (submitting : (h : List (BoardEntry A)) (e : BoardEntry A) (p caller : ℕ) → StaysSubmitting h e p caller) (work : (h : List (BoardEntry A)) (e : BoardEntry A) (p : ℕ) → WorkLeaves h e p) where
+module _ {A : Type 0} (opened : (h : List (BoardEntry A)) (e : BoardEntry A) (p : ℕ) → StaysOpen h e p) (queue_opened : (h : List (BoardEntry A)) (e : BoardEntry A) (p : ℕ) → QueueStaysOpen h e p) (managed : (h : List (BoardEntry A)) (e : BoardEntry A) (p caller : ℕ) → StaysManaged h e p caller) (submitting : (h : List (BoardEntry A)) (e : BoardEntry A) (p caller : ℕ) → StaysSubmitting h e p caller) (work : (h : List (BoardEntry A)) (e : BoardEntry A) (p : ℕ) → WorkLeaves h e p) (hands : (h : List (BoardEntry A)) (e : BoardEntry A) (p : ℕ) → HandsNothing h e p) where
   keeps : (caller : ℕ) (before es : List (BoardEntry A)) (p : ℕ) → list_all (is_work_by caller) es ≡ true → Keeps before (before ++ es) p
-  keeps caller before [] p w = rw (append-nil before) (refl, refl, λ o. o, λ c s. s, λ c m. m, refl, λ o. o)
+  keeps caller before [] p w = rw (append-nil before) (refl, refl, λ o. o, λ c s. s, λ c m. m, refl, λ o. o, refl)
   keeps caller before (e ∷ es) p w =
       let one = left_true (is_work_by caller e) _ w in
       let is : is_work e ≡ true = left_true (is_work e) (caller_of e == caller) one in
       let left = work before e p is in
-      let first : Keeps before (before ++ e ∷ []) p = (left.0, left.1, λ o. opened before e p o (no_close e is), λ c s. submitting before e p c s, λ c m. managed before e p c m, held_same before e p is, λ o. queue_opened before e p o (no_close e is)) in
+      let first : Keeps before (before ++ e ∷ []) p = (left.0, left.1, λ o. opened before e p o (no_close e is), λ c s. submitting before e p c s, λ c m. managed before e p c m, held_same before e p is, λ o. queue_opened before e p o (no_close e is), hands before e p (no_collect e is)) in
       let rest = keeps caller (before ++ e ∷ []) es p (right_true (is_work_by caller e) _ w) in
       subst (λ after. Keeps before after p) (append_assoc before (e ∷ []) es) (both before (before ++ e ∷ []) ((before ++ e ∷ []) ++ es) p first rest)
 
   pub work_keeps : (caller : ℕ) (before after : List (BoardEntry A)) (p : ℕ) → WorkKeeps caller before after p
   work_keeps caller before after p works = subst (λ h. Keeps before h p) (sym works.1) (keeps caller before works.0 p works.2)
+
+-- ---- the board
+
+shuts_nothing : {A : Type 0} (caller : ℕ) (before es : List (BoardEntry A)) → list_all (is_work_by caller) es ≡ true → is_shut (before ++ es) ≡ is_shut before
+shuts_nothing caller before [] w = ap is_shut (append-nil before)
+shuts_nothing caller before (e ∷ es) w =
+    let is : is_work e ≡ true = left_true (is_work e) (caller_of e == caller) (left_true (is_work_by caller e) _ w) in
+    ap is_shut (sym (append_assoc before (e ∷ []) es))
+    ∙ (shuts_nothing caller (before ++ e ∷ []) es (right_true (is_work_by caller e) _ w) ∙ shut-same before e (no_shut e is))
+
+pub work_shuts_nothing : {A : Type 0} (caller : ℕ) (before after : List (BoardEntry A)) → WorkShutsNothing caller before after
+work_shuts_nothing caller before after works = ap is_shut works.1 ∙ shuts_nothing caller before works.0 works.2
 
 -- ---- the jobs of others
 

@@ -6,7 +6,8 @@ use Rattle.board.specs.Entries.{entries_of, submissions, taken_in, takers, finis
 use Rattle.board.specs.declared.entry.BoardEntry.TheVariants.{Born, Hold, Go, Collect}
 use Rattle.board.specs.declared.entry.Shape.TheVariants.{Queue}
 use Rattle.kc_base.specs.declared.callback_list.Callback.{Callback}
-use Rattle.board.specs.Legal.{IsOpenPad, IsOpenQueue, MaySubmit, MayManage, MayFinish, LegalBoard}
+use Rattle.board.specs.Legal.{IsOpenPad, IsOpenQueue, MaySubmit, MayManage, MayFinish, is_shut, LegalBoard}
+use Rattle.board.specs.Order.{handed_out}
 use Rattle.board.specs.Staying.{is_work}
 
 -- how many accepted requests are not finished, over all pipelines
@@ -60,6 +61,11 @@ WorkKeeps caller before after p =
     × ((c : ℕ) → MayManage (entries_of p before) c → MayManage (entries_of p after) c)
     × (is_held (entries_of p after) ≡ is_held (entries_of p before))
     × (IsOpenQueue (entries_of p before) → IsOpenQueue (entries_of p after))
+    × (handed_out (entries_of p after) ≡ handed_out (entries_of p before))
+
+-- and the board is shut where it was
+abbrev pub WorkShutsNothing : {A : Type 0} → ℕ → List (BoardEntry A) → List (BoardEntry A) → Type 0
+WorkShutsNothing caller before after = WorksFrom caller before after → is_shut after ≡ is_shut before
 
 -- and what others took stays theirs
 abbrev pub WorkSpares : {A O : Type 0} → (A → O) → ℕ → List (BoardEntry A) → List (BoardEntry A) → ℕ → ℕ → ℕ → O → Type 0

@@ -2,9 +2,9 @@
 
 ghost use Rattle.std.specs.Prelude.{◌≡◌, ℕ, List, []};
 ghost use Rattle.board.specs.declared.entry.BoardEntry.{BoardEntry};
-ghost use Rattle.pcrypt.specs.Working.{NoneRuns, StaysIdle, AllIsDone, WorkKeeps, WorkSpares, BornServed, Holds, StaysHeld};
+ghost use Rattle.pcrypt.specs.Working.{NoneRuns, StaysIdle, AllIsDone, WorkKeeps, WorkShutsNothing, WorkSpares, BornServed, Holds, StaysHeld};
 
-use board::{pipelines_stay, slips_stay};
+use board::{only_collects_hand_out, pipelines_stay, slips_stay};
 
 /// While nobody is at a job that is so until one is taken; and where besides no job is to be had, all accepted requests are
 /// finished, but for those of a held queue.
@@ -19,7 +19,13 @@ pub fn work_keeps<A>()
     ensures { (caller : ℕ) (before after : List (BoardEntry A)) (p : ℕ) → WorkKeeps caller before after p }
 {
     pipelines_stay::<A>();
+    only_collects_hand_out::<A>();
 }
+
+/// Work shuts no board.
+pub fn work_shuts_nothing<A>()
+    ensures { (caller : ℕ) (before after : List (BoardEntry A)) → WorkShutsNothing caller before after }
+{}
 
 /// Work leaves the jobs that others took to them.
 pub fn work_spares<A, O>()
