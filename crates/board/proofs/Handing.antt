@@ -12,7 +12,7 @@ use Rattle.board.specs.Entries.{Notice, Starts, Completes, is_of, entries_of, bi
 use Rattle.board.specs.Legal.{IsRightFor, IsOpen, LegalBoard}
 use Rattle.board.specs.Order.{handed_in, handed_after, handed_out, AreRightForAfter, completed_in, completed, numbers_below}
 use Rattle.board.specs.Staying.{Joins, LeavesOthers, BeginsAlone, IsDrained}
-use Rattle.board.specs.Handing.{is_collect, HandsNothing, completions, CollectHandsOut, AllHandedOutIsDrained}
+use Rattle.board.specs.Handing.{is_collect, HandsNothing, HandsOutAtMost, completions, CollectHandsOut, AllHandedOutIsDrained}
 use Rattle.board.proofs.Transfer.{right_for, entries-more, entries-same, each_right}
 use Rattle.board.proofs.PadOrder.{filter_map-none, filter_map-some, birth_stays, told_on_pad, length-completes, orderly_start, orderly_run, unbroken-all}
 use Rattle.board.proofs.QueueOrder.{not_both, queue_is_born, pad_is_born, maker_born, told_on_queue, length-numbers, has_only_below, has_below, queue_served, served_run, served_start}
@@ -238,6 +238,32 @@ drained_cases es r (inr queue) all = drained_queue es r queue.0 all
 
 pub all_handed_out : {A : Type 0} (h : List (BoardEntry A)) (p : ℕ) → AllHandedOutIsDrained h p
 all_handed_out h p legal opened all = drained_cases (entries_of p h) (each_right [] h p legal) opened all
+
+most_pad : {A : Type 0} (es : List (BoardEntry A)) → AreRightForAfter [] es → pad_born (birth es) ≡ true → length (completed (handed_out es)) ≤ length (submissions es)
+most_pad es r pad =
+    let o = orderly_run [] es [] orderly_start r in
+    let n : length (completed (handed_out es)) ≡ collected es = ap (λ ns. length (completed ns)) (o.in_order pad) ∙ (ap length (completed-below (collected es)) ∙ length-numbers (collected es)) in
+    let low = o.bounded pad in
+    let high = unbroken-le (finished es) 0 (length (submissions es)) in
+    omega arith
+
+most_queue : {A : Type 0} (es : List (BoardEntry A)) → AreRightForAfter [] es → queue_born (birth es) ≡ true → length (completed (handed_out es)) ≤ length (submissions es)
+most_queue es r queue =
+    let s = queue_served es r queue in
+    let t = queue_telling es r queue in
+    let few = t.few in
+    let in_line = t.in_line in
+    let said : length (completed (told es)) ≡ length (finished es) = ap length s.0 ∙ length-numbers (length (finished es)) in
+    let handed : length (completed (handed_out es)) ≡ length (completed (take (collected es) (told es))) = ap (λ ns. length (completed ns)) s.1 in
+    let most = completed-take-le (collected es) (told es) in
+    omega arith
+
+most_cases : {A : Type 0} (es : List (BoardEntry A)) → AreRightForAfter [] es → IsOpen es → length (completed (handed_out es)) ≤ length (submissions es)
+most_cases es r (inl pad) = most_pad es r pad.0
+most_cases es r (inr queue) = most_queue es r queue.0
+
+pub most_handed_out : {A : Type 0} (h : List (BoardEntry A)) (p : ℕ) → HandsOutAtMost h p
+most_handed_out h p legal opened = most_cases (entries_of p h) (each_right [] h p legal) opened
 
 -- ---- whose entries one more joins
 

@@ -1,5 +1,5 @@
 -- What one more entry hands out, and when all is handed out.
-use Rattle.std.specs.Prelude.{◌≡◌, ℕ, ◌+◌, Bool, true, false, List, [], ◌∷◌, ◌++◌, length, filter}
+use Rattle.std.specs.Prelude.{◌≡◌, ◌≤◌, ℕ, ◌+◌, Bool, true, false, List, [], ◌∷◌, ◌++◌, length, filter}
 use Rattle.kc_base.specs.declared.callback_list.Callback.{Callback}
 use Rattle.kc_base.specs.declared.callback_list.Callback.TheVariants.{Started, Done}
 use Rattle.board.specs.declared.entry.BoardEntry.{BoardEntry}
@@ -31,6 +31,11 @@ CollectHandsOut meaning h caller p to =
     LegalBoard (h ++ Collect caller p to ∷ [])
     → length (completed (handed_out (entries_of p (h ++ Collect caller p to ∷ []))))
     ≡ length (completed (handed_out (entries_of p h))) + completions (delivered meaning (entries_of p h) to)
+
+-- an open pad or queue hands out no more completions than it accepted requests
+abbrev pub HandsOutAtMost : {A : Type 0} → List (BoardEntry A) → ℕ → Type 0
+HandsOutAtMost h p =
+    LegalBoard h → IsOpen (entries_of p h) → length (completed (handed_out (entries_of p h))) ≤ length (submissions (entries_of p h))
 
 -- an open pad or queue that handed out as many completions as it accepted requests is drained
 abbrev pub AllHandedOutIsDrained : {A : Type 0} → List (BoardEntry A) → ℕ → Type 0

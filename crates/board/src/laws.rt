@@ -13,7 +13,7 @@ ghost use Rattle.board.specs.Entries.{Starts, Completes, told, entries_of, deliv
 ghost use Rattle.board.specs.Legal.{IsRight, LegalBoard};
 ghost use Rattle.board.specs.Order.{PadsKeepOrder, PadsWaitForEach, PadsHandOutAll, QueuesKeepOrder, QueuesHandOutTold, QueuesCompleteInOrder, QueuesHandOutAll, StartsBackloggedAlone, StartsEachOnce, StartsBeforeCompletion};
 ghost use Rattle.board.specs.Staying.{Joins, LeavesOthers, BeginsAlone, OpensPad, OpensQueue, StaysOpen, QueueStaysOpen, StaysManaged, StaysSubmitting, SlipStays, CollectDrains, WorkLeaves, TakingIsWork, FinishingIsWork};
-ghost use Rattle.board.specs.Handing.{HandsNothing, CollectHandsOut, AllHandedOutIsDrained};
+ghost use Rattle.board.specs.Handing.{HandsNothing, HandsOutAtMost, CollectHandsOut, AllHandedOutIsDrained};
 ghost use Rattle.board.specs.Examples.{held_requests, held_queue, second_first};
 
 /// In every legal history a pad hands out the completions of its requests in their order, each once, however its jobs were
@@ -64,10 +64,11 @@ pub fn entries_join<A>()
     ensures alone { (h : List (BoardEntry A)) (caller p : ℕ) (shape : Shape) → BeginsAlone h caller p shape }
 {}
 
-/// Only a collect hands anything out. A pad or queue that handed out as many completions as it accepted requests may be
-/// closed.
+/// Only a collect hands anything out, and no more completions than requests were accepted. A pad or queue that handed out as
+/// many may be closed.
 pub fn only_collects_hand_out<A>()
     ensures nothing { (h : List (BoardEntry A)) (e : BoardEntry A) (p : ℕ) → HandsNothing h e p }
+    ensures most { (h : List (BoardEntry A)) (p : ℕ) → HandsOutAtMost h p }
     ensures drained { (h : List (BoardEntry A)) (p : ℕ) → AllHandedOutIsDrained h p }
 {}
 

@@ -21,7 +21,7 @@ pub data RegCall : Type 0 where
   Counts : (driver : List ℕ) → (answer : Option RefAnswer) → RegCall
   Lists : (rows : List ListRow) → RegCall
 
-abbrev pub if_own : ℕ → ℕ → RegCall → Option RegCall
+abbrev pub if_own : {Call : Type 0} → ℕ → ℕ → Call → Option Call
 if_own caller by call = if by == caller then Some call else None
 
 -- The call of the script that an entry of the history h is, where it is one; `before` stands before the entry. Looks for
@@ -38,7 +38,7 @@ reg_call_of h caller before (entry.Claim by larval) = None
 reg_call_of h caller before (entry.End by larval answer) = None
 reg_call_of h caller before (entry.Waited by larval) = None
 
-abbrev pub prepend : Option RegCall → List RegCall → List RegCall
+abbrev pub prepend : {Call : Type 0} → Option Call → List Call → List Call
 prepend (Some call) calls = call ∷ calls
 prepend None calls = calls
 

@@ -1,10 +1,15 @@
 pub mod Walk
 pub mod Histories
+pub mod BoardHistories
 pub mod Turns
 pub mod Registering
 pub mod Allocating
 pub mod Requesting
+pub mod Piping
 pub mod Lines
 pub mod Standing
 pub mod Keyed
+pub mod Changing
+pub mod Offering
+pub mod Ending
 pub mod Refusing

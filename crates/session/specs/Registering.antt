@@ -51,4 +51,4 @@ abbrev pub row_said : ℕ → ListRow → Answer
 row_said n row = said.Alg n row.name row.driver row.priority row.refs
 
 abbrev pub list_turn : Walk → ℕ → List ListRow → Turn
-list_turn walk n rows = record { registry = Lists rows ∷ []; answers = map (row_said n) rows ++ said.Listed n (length rows) ∷ []; after = walk }
+list_turn walk n rows = record { registry = Lists rows ∷ []; board = []; answers = map (row_said n) rows ++ said.Listed n (length rows) ∷ []; after = walk }

@@ -1,22 +1,27 @@
--- What a script has made so far: its live transforms.
+-- What a script has made so far: its live transforms, and what it has had accepted.
 use Rattle.std.specs.Prelude.{ℕ, Bool, if◌then◌else◌, List, [], ◌∷◌, find, Option}
 use Rattle.std.specs.Str.{bytes_eq}
 use Rattle.templates.specs.declared.driver_plans.Plan.{Plan}
+use Rattle.session.specs.declared.pipe.Pipe.{Pipe}
 
--- a live transform: its label, the entry on which it stands, what it computes, the key that was set last, and its tag size
+-- A live transform: its label, the entry on which it stands, what it computes, the key that was set last, and its tag size.
+-- Under `pcrypt` or `cryptd` it has a pipeline, in which its requests wait; otherwise they are done at their line.
 pub record Live : Type 0 where
   pub label : List ℕ
   pub id : ℕ
   pub plan : Plan
   pub key : Option (List ℕ)
   pub tag_size : ℕ
+  pub pipe : Option Pipe
 
--- the live transforms, in order of allocation
+-- the live transforms, in order of allocation; and of all requests that pipelines accepted, how many and of how many bytes
 pub record Walk : Type 0 where
   pub lives : List Live
+  pub requests : ℕ
+  pub bytes : ℕ
 
 abbrev pub start : Walk
-start = record { lives = [] }
+start = record { lives = []; requests = 0; bytes = 0 }
 
 abbrev pub is_of : List ℕ → Live → Bool
 is_of label live = bytes_eq live.label label

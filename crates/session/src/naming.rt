@@ -1,8 +1,8 @@
 //! The names that a script gives, and what an entry computes.
 
 ghost use Rattle.std.specs.Prelude.{◌≡◌, true, IfOk, IfErr, Ok};
-ghost use Rattle.alg_names.specs.Name.{spelling, word_of};
-ghost use Rattle.templates.specs.Nesting.{is_nested_well, is_wrapper_word};
+ghost use Rattle.alg_names.specs.Name.{spelling};
+ghost use Rattle.templates.specs.Nesting.{is_nested_well};
 ghost use Rattle.templates.specs.Table.{FaultIs};
 ghost use Rattle.session.specs.Allocating.{limited_name, name_read, is_queue_length, takes_length, plan_for};
 
@@ -43,13 +43,6 @@ pub fn read_name(alloc: Global, text: &[u8]) -> Result<Name, BuildErr>
         Ok(()) => Ok(name),
         Err(errno) => Err(BuildErr::Fault(errno)),
     }
-}
-
-/// Whether the root of a name is `pcrypt` or `cryptd`.
-pub fn is_wrapped(name: &Name) -> bool
-    ensures { result ≡ is_wrapper_word (word_of name.now) }
-{
-    name.word() == b"pcrypt".as_slice() || name.word() == b"cryptd".as_slice()
 }
 
 /// Whether a queue may have the length that was given.

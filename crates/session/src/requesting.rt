@@ -39,7 +39,7 @@ pub fn answer_aes(alloc: Global, line: u32, key: &[u8], block: &[u8]) -> Result<
 }
 
 /// A request of its own, with copies of the bytes.
-pub fn request(
+pub fn request_with(
     alloc: Global,
     dir: Dir,
     iv: &[u8],

@@ -1,41 +1,49 @@
-//! One script over a registry.
+//! One script over a registry and a board.
 
+ghost use Rattle.std.specs.Prelude.{IsOk, ◌≡◌, ◌++◌, ◌∷◌, [], ◌<◌, ◌^◌, ℕ, Bool, true, length, Some, IfOk, OnOk, OnErr, MatchResult, slice_get};
 ghost use Rattle.std.specs.List.{flat_map};
-ghost use Rattle.reply_text.specs.Answers.{text_of};
-ghost use Rattle.script_text.specs.Sizes.{IsShortCommand, IsShortLine};
-ghost use Rattle.session.specs.Histories.{reg_calls};
-ghost use Rattle.std.specs.Prelude.{IsOk, ◌≡◌, ◌++◌, ◌∷◌, [], ◌<◌, ◌^◌, Bool, true, length, Some, IfOk, OnOk, OnErr, MatchResult, slice_get};
 ghost use Rattle.alg_names.specs.Name.{spelling};
 ghost use Rattle.alg_registry.specs.declared.spec.Spec.{Spec as Algorithm};
-ghost use Rattle.alg_registry.specs.Rows.{registered};
 ghost use Rattle.alg_registry.specs.Made.{Made};
+ghost use Rattle.alg_registry.specs.Rows.{registered};
+ghost use Rattle.reply_text.specs.Answers.{text_of};
+ghost use Rattle.script_text.specs.Sizes.{IsShortCommand, IsShortLine};
 ghost use Rattle.templates.specs.Looking.{Found, Entry};
 ghost use Rattle.templates.specs.Nesting.{is_nested_well};
 ghost use Rattle.templates.specs.Table.{table};
-ghost use Rattle.session.specs.Allocating.{entry_turn, looked_turn};
-ghost use Rattle.session.specs.Lines.{CommandTurn, LineTurn, EndTurn};
-ghost use Rattle.session.specs.Standing.{Stands, Does, Done, Stops, Extends};
+ghost use Rattle.session.specs.Allocating.{entry_turn, looked_turn, is_queue_length};
+ghost use Rattle.session.specs.BoardHistories.{board_calls};
+ghost use Rattle.session.specs.Ending.{LetsGo, AreServed, DrainsAll, EndsShut};
+ghost use Rattle.session.specs.Histories.{reg_calls};
+ghost use Rattle.session.specs.Lines.{CommandTurn, RequestTurn, LineTurn};
+ghost use Rattle.session.specs.Piping.{hold_turn, EndTurn};
+ghost use Rattle.session.specs.Refusing.{IsRefusedBy};
+ghost use Rattle.session.specs.Requesting.{request_of, key_turn, authsize_turn};
+ghost use Rattle.session.specs.Standing.{Stands, Posted, Does, Posts, Done, DoneInRegistry, DoneOnBoard, Stops, Extends};
 ghost use Rattle.session.specs.Turns.{Turn, text_in, answered};
 ghost use Rattle.session.specs.Walk.{start, live_of};
-ghost use Rattle.session.specs.Refusing.{IsRefusedBy};
-ghost use Rattle.session.specs.Requesting.{request_said, request_of, key_turn, authsize_turn};
 
+use crate::answers::{one, refuse};
 use crate::drivers::driver_of;
 use crate::listing::listed;
 use crate::lives::place_of;
-use crate::naming::{fits_queue, is_wrapped, plan_with, read_name};
-use crate::requesting::{answer_aes, request};
+use crate::naming::{fits_queue, plan_with, read_name};
+use crate::piping::{
+    SCRIPT, born, close, drain_last, drain_live, hold_live, is_owing, poll_live, release, take_job,
+};
+use crate::requesting::{answer_aes, request_with};
 use crate::stop::Stop;
-use crate::transform::Transform;
+use crate::transform::{JobErr, Transform};
 use alg_names::Name;
 use alg_registry::{RegErr, Registry};
+use board::{BoardCore, Work};
 use kc_base::{Bytes, Errno};
 use reply_text::{Answer, put};
 use script_text::{Command, Line};
 use std::alloc::{AllocError, Global};
 use std::marker::Model;
 use templates::{BuildErr, resolve_outright};
-use transforms::{Dir, TfmErr};
+use transforms::{Dir, Job, Request, TfmErr};
 
 /// The most live transforms.
 const MOST_LIVE: usize = 4096;
@@ -43,14 +51,14 @@ const MOST_LIVE: usize = 4096;
 /// The greatest priority of `register`.
 const MOST_PRIORITY: u32 = 100_000;
 
-/// The caller under which a script stands in the registry's history.
-const SCRIPT: u32 = 0;
-
 /// One script, which contracts see as what it has made so far.
 #[derive(Drop)]
 pub struct Session {
     alloc: Global,
     lives: Vec<Transform>,
+    /// How many requests pipelines accepted, and of how many bytes.
+    requests: u64,
+    bytes: u64,
 }
 
 impl Model for Session {
@@ -58,22 +66,7 @@ impl Model for Session {
 
     ghost Value = { Walk };
 
-    ghost view = { λ s. record { lives = s.lives.items } };
-}
-
-fn refuse(line: u32, errno: Errno) -> Answer
-    ensures { result ≡ Answer.Refused line errno }
-{
-    Answer::Refused { line, errno }
-}
-
-// An answer alone.
-fn one(alloc: Global, answer: Result<Answer, Stop>) -> Result<Vec<Answer>, Stop>
-    ensures { IfOk result (λ answers. IfOk answer (λ a. answers.items ≡ a ∷ []) × IsOk answer) }
-{
-    let mut answers = Vec::new(alloc);
-    answers.push(answer?)?;
-    Ok(answers)
+    ghost view = { λ s. record { lives = s.lives.items; requests = s.requests; bytes = s.bytes } };
 }
 
 // Adds the texts of the answers, all or none.
@@ -102,15 +95,19 @@ fn refuse_by(line: u32, error: RegErr) -> Result<Answer, Stop>
 }
 
 impl Session {
-    /// A script that has made nothing, for a registry of which nothing was asked. No memory is taken.
+    /// A script that has made nothing, for a registry and a board of which nothing was asked. No memory is taken.
     pub fn new(alloc: Global) -> Session
         ensures start { result ≡ start }
         ensures stands { Stands start [] }
+        ensures posted { Posted start [] }
         ensures unasked { reg_calls 0 [] ≡ [] }
+        ensures unposted { board_calls 0 [] ≡ [] }
     {
         Session {
             alloc,
             lives: Vec::new(alloc),
+            requests: 0,
+            bytes: 0,
         }
     }
 
@@ -124,7 +121,7 @@ impl Session {
     ) -> Result<Answer, Stop>
         requires { Stands self.now registry.old }
         ensures { MatchResult result
-            (λ answer. Done (CommandTurn self.now number (Command.Register driver.now priority)) registry.old registry.new (answer ∷ []) self.now)
+            (λ answer. DoneInRegistry (CommandTurn self.now number (Command.Register driver.now priority)) registry.old registry.new (answer ∷ []) self.now)
             (λ _. Stops registry.old registry.new) }
     {
         let Some(spec) = driver_of(self.alloc, driver.as_slice(), priority)? else {
@@ -148,7 +145,7 @@ impl Session {
     ) -> Result<Answer, Stop>
         requires { Stands self.now registry.old }
         ensures { MatchResult result
-            (λ answer. Done (CommandTurn self.now number (Command.Unregister driver.now)) registry.old registry.new (answer ∷ []) self.now)
+            (λ answer. DoneInRegistry (CommandTurn self.now number (Command.Unregister driver.now)) registry.old registry.new (answer ∷ []) self.now)
             (λ _. Stops registry.old registry.new) }
     {
         match registry.unlist(SCRIPT, driver.as_slice()) {
@@ -161,7 +158,7 @@ impl Session {
     fn refs(&self, registry: &mut Registry, number: u32, driver: &Bytes) -> Result<Answer, Stop>
         requires { Stands self.now registry.old }
         ensures { MatchResult result
-            (λ answer. Done (CommandTurn self.now number (Command.Refs driver.now)) registry.old registry.new (answer ∷ []) self.now)
+            (λ answer. DoneInRegistry (CommandTurn self.now number (Command.Refs driver.now)) registry.old registry.new (answer ∷ []) self.now)
             (λ _. Stops registry.old registry.new) }
     {
         match registry.refs(SCRIPT, driver.as_slice()) {
@@ -178,7 +175,7 @@ impl Session {
     fn list(&self, registry: &mut Registry, number: u32) -> Result<Vec<Answer>, Stop>
         requires { Stands self.now registry.old }
         ensures { MatchResult result
-            (λ answers. Done (CommandTurn self.now number Command.List) registry.old registry.new answers.items self.now)
+            (λ answers. DoneInRegistry (CommandTurn self.now number Command.List) registry.old registry.new answers.items self.now)
             (λ _. Stops registry.old registry.new) }
     {
         match registry.list(SCRIPT) {
@@ -193,6 +190,7 @@ impl Session {
     // Takes an entry that was found into use.
     fn bind(
         &mut self,
+        board: &mut BoardCore<Job>,
         registry: &mut Registry,
         number: u32,
         label: &Bytes,
@@ -200,11 +198,13 @@ impl Session {
         id: u64,
     ) -> Result<Answer, Stop>
         requires stands { Stands self.old registry.old }
+        requires posted { Posted self.old board.old }
         requires there { (spec : Algorithm) × (slice_get (registered registry.old) id ≡ Some spec) }
+        requires fits { is_queue_length length ≡ true }
         ensures { MatchResult result
-            (λ answer. (spec : Algorithm) × (ok : Bool) × (slice_get (registered registry.old) id ≡ Some spec)
-            × Done (λ (turn : Turn). turn ≡ entry_turn self.old number label.now length (Entry id spec) ok) registry.old registry.new (answer ∷ []) self.new)
-            (λ _. Stops registry.old registry.new) }
+            (λ answer. (spec : Algorithm) × (ok : Bool) × (pipe : ℕ) × (slice_get (registered registry.old) id ≡ Some spec)
+            × Done (λ (turn : Turn). turn ≡ entry_turn self.old number label.now length (Entry id spec) ok pipe) registry.old registry.new board.old board.new (answer ∷ []) self.new)
+            (λ _. Stops registry.old registry.new × Extends board.old board.new) }
     {
         let spec = match registry.origin(id) {
             Ok(Some(spec)) => spec,
@@ -220,7 +220,8 @@ impl Session {
         self.lives.reserve(1)?;
         match registry.take_ref(SCRIPT, id) {
             Ok(()) => {
-                self.lives.push(Transform::new(label, id, plan))?;
+                let pipe = born(self.alloc, board, spec.wrap, length)?;
+                self.lives.push(Transform::new(label, id, plan, pipe))?;
                 Ok(Answer::Made {
                     line: number,
                     driver: spec.driver,
@@ -233,6 +234,7 @@ impl Session {
     // Looks a name up, and takes what is found into use.
     fn find(
         &mut self,
+        board: &mut BoardCore<Job>,
         registry: &mut Registry,
         number: u32,
         label: &Bytes,
@@ -240,14 +242,16 @@ impl Session {
         length: Option<u32>,
     ) -> Result<Answer, Stop>
         requires stands { Stands self.old registry.old }
+        requires posted { Posted self.old board.old }
         requires nested { is_nested_well name.now ≡ true }
+        requires fits { is_queue_length length ≡ true }
         ensures { MatchResult result
-            (λ answer. (found : Found) × (ok : Bool)
-            × Done (λ (turn : Turn). turn ≡ looked_turn self.old number label.now (spelling name.now) length found ok) registry.old registry.new (answer ∷ []) self.new)
-            (λ _. Stops registry.old registry.new) }
+            (λ answer. (found : Found) × (ok : Bool) × (pipe : ℕ)
+            × Done (λ (turn : Turn). turn ≡ looked_turn self.old number label.now (spelling name.now) length found ok pipe) registry.old registry.new board.old board.new (answer ∷ []) self.new)
+            (λ _. Stops registry.old registry.new × Extends board.old board.new) }
     {
         match resolve_outright(self.alloc, registry, SCRIPT, name) {
-            Ok(id) => self.bind(registry, number, label, length, id),
+            Ok(id) => self.bind(board, registry, number, label, length, id),
             Err(BuildErr::Fault(errno)) => Ok(refuse(number, errno)),
             Err(BuildErr::Memory) => Err(Stop::Memory),
         }
@@ -256,16 +260,18 @@ impl Session {
     // `alloc T NAME [NUM]`
     fn alloc(
         &mut self,
+        board: &mut BoardCore<Job>,
         registry: &mut Registry,
         number: u32,
         label: &Bytes,
         name: &Bytes,
         length: Option<u32>,
     ) -> Result<Answer, Stop>
-        requires { Stands self.old registry.old }
+        requires stands { Stands self.old registry.old }
+        requires posted { Posted self.old board.old }
         ensures { MatchResult result
-            (λ answer. Done (CommandTurn self.old number (Command.Alloc label.now name.now length)) registry.old registry.new (answer ∷ []) self.new)
-            (λ _. Stops registry.old registry.new) }
+            (λ answer. Done (CommandTurn self.old number (Command.Alloc label.now name.now length)) registry.old registry.new board.old board.new (answer ∷ []) self.new)
+            (λ _. Stops registry.old registry.new × Extends board.old board.new) }
     {
         if place_of(&self.lives, label.as_slice()).is_some() {
             return Ok(refuse(number, Errno::EEXIST));
@@ -281,21 +287,29 @@ impl Session {
         if !fits_queue(length) {
             return Ok(refuse(number, Errno::EINVAL));
         }
-        if is_wrapped(&name) {
-            return Ok(refuse(number, Errno::ENOENT));
-        }
-        self.find(registry, number, label, &name, length)
+        self.find(board, registry, number, label, &name, length)
     }
 
     // `free T`
-    fn free(&mut self, registry: &mut Registry, number: u32, label: &Bytes) -> Answer
-        requires { Stands self.old registry.old }
-        ensures { Done (CommandTurn self.old number (Command.Free label.now)) registry.old registry.new (result ∷ []) self.new }
+    fn free(
+        &mut self,
+        board: &mut BoardCore<Job>,
+        registry: &mut Registry,
+        number: u32,
+        label: &Bytes,
+    ) -> Answer
+        requires stands { Stands self.old registry.old }
+        requires posted { Posted self.old board.old }
+        ensures { Done (CommandTurn self.old number (Command.Free label.now)) registry.old registry.new board.old board.new (result ∷ []) self.new }
     {
         let Some(place) = place_of(&self.lives, label.as_slice()) else {
             return refuse(number, Errno::ENOENT);
         };
+        if is_owing(&self.lives[place]) {
+            return refuse(number, Errno::EBUSY);
+        }
         let live = self.lives.remove(place);
+        close(board, &live);
         registry.put_ref(SCRIPT, live.id());
         Answer::Ok { line: number }
     }
@@ -327,39 +341,133 @@ impl Session {
         }
     }
 
-    // `enc T IV AAD TEXT`, `dec T IV AAD TEXT` and `mac T TEXT`
+    // `enc T IV AAD TEXT [backlog]`, `dec T IV AAD TEXT [backlog]` and `mac T TEXT [backlog]`
     fn request(
-        &self,
+        &mut self,
+        board: &mut BoardCore<Job>,
+        number: u32,
+        label: &Bytes,
+        request: Request,
+        backlog: bool,
+    ) -> Result<Answer, Stop>
+        requires posted { Posted self.old board.old }
+        requires associated { length request.associated < 2 ^ 32 }
+        requires text { length request.text < 2 ^ 32 }
+        ensures { MatchResult result
+            (λ answer. DoneOnBoard (RequestTurn self.old number label.now request backlog) board.old board.new (answer ∷ []) self.old self.new)
+            (λ _. Extends board.old board.new) }
+    {
+        let Some(place) = place_of(&self.lives, label.as_slice()) else {
+            return Ok(refuse(number, Errno::ENOENT));
+        };
+        let live = &mut self.lives[place];
+        let job = match live.job(self.alloc, number, request) {
+            Ok(job) => job,
+            Err(JobErr::NoKey) => return Ok(refuse(number, Errno::ENOKEY)),
+            Err(JobErr::Inval) => return Ok(refuse(number, Errno::EINVAL)),
+            Err(JobErr::Memory) => return Err(Stop::Memory),
+        };
+        let size = job.size();
+        let taken = take_job(board, number, live, job, backlog)?;
+        if taken.accepted {
+            self.requests += 1;
+            self.bytes += size;
+        }
+        Ok(taken.answer)
+    }
+
+    // `hold T` and `go T`
+    fn hold(
+        &mut self,
+        board: &mut BoardCore<Job>,
+        number: u32,
+        label: &Bytes,
+        held: bool,
+    ) -> Result<Answer, Stop>
+        requires { Posted self.old board.old }
+        ensures { MatchResult result
+            (λ answer. DoneOnBoard (λ turn. turn ≡ hold_turn self.old number held (live_of self.old label.now)) board.old board.new (answer ∷ []) self.old self.new)
+            (λ _. Extends board.old board.new) }
+    {
+        match place_of(&self.lives, label.as_slice()) {
+            Some(place) => hold_live(board, number, &mut self.lives[place], held),
+            None => Ok(refuse(number, Errno::ENOENT)),
+        }
+    }
+
+    // `poll T`
+    fn poll(
+        &mut self,
+        board: &mut BoardCore<Job>,
+        number: u32,
+        label: &Bytes,
+    ) -> Result<Vec<Answer>, Stop>
+        requires { Posted self.old board.old }
+        ensures { MatchResult result
+            (λ answers. DoneOnBoard (CommandTurn self.old number (Command.Poll label.now)) board.old board.new answers.items self.old self.new)
+            (λ _. Extends board.old board.new) }
+    {
+        match place_of(&self.lives, label.as_slice()) {
+            Some(place) => poll_live(self.alloc, board, number, &mut self.lives[place]),
+            None => one(self.alloc, Ok(refuse(number, Errno::ENOENT))),
+        }
+    }
+
+    // `drain T`
+    fn drain(
+        &mut self,
+        board: &mut BoardCore<Job>,
+        number: u32,
+        label: &Bytes,
+    ) -> Result<Vec<Answer>, Stop>
+        requires { Posted self.old board.old }
+        ensures { MatchResult result
+            (λ answers. DoneOnBoard (CommandTurn self.old number (Command.Drain label.now)) board.old board.new answers.items self.old self.new)
+            (λ _. Extends board.old board.new) }
+    {
+        match place_of(&self.lives, label.as_slice()) {
+            Some(place) => drain_live(self.alloc, board, number, &mut self.lives[place]),
+            None => one(self.alloc, Ok(refuse(number, Errno::ENOENT))),
+        }
+    }
+
+    // The answer to a request of which the line gives these bytes.
+    fn submit(
+        &mut self,
+        board: &mut BoardCore<Job>,
         number: u32,
         label: &Bytes,
         dir: Dir,
         iv: &[u8],
         associated: &[u8],
         text: &[u8],
-    ) -> Result<Answer, Stop>
+        backlog: bool,
+    ) -> Result<Vec<Answer>, Stop>
+        requires posted { Posted self.old board.old }
         requires associated { length associated.now < 2 ^ 32 }
         requires text { length text.now < 2 ^ 32 }
-        ensures { IfOk result (λ answer. answer ≡ request_said number (request_of dir iv.now associated.now text.now) (live_of self.now label.now)) }
+        ensures { MatchResult result
+            (λ answers. DoneOnBoard (RequestTurn self.old number label.now (request_of dir iv.now associated.now text.now) backlog) board.old board.new answers.items self.old self.new)
+            (λ _. Extends board.old board.new) }
     {
-        let Some(place) = place_of(&self.lives, label.as_slice()) else {
-            return Ok(refuse(number, Errno::ENOENT));
-        };
-        let request = request(self.alloc, dir, iv, associated, text)?;
-        self.lives[place].answer(self.alloc, number, request)
+        let request = request_with(self.alloc, dir, iv, associated, text)?;
+        one(self.alloc, self.request(board, number, label, request, backlog))
     }
 
     // A command's answers.
     fn command(
         &mut self,
+        board: &mut BoardCore<Job>,
         registry: &mut Registry,
         number: u32,
         command: &Command,
     ) -> Result<Vec<Answer>, Stop>
         requires stands { Stands self.old registry.old }
+        requires posted { Posted self.old board.old }
         requires short { IsShortCommand command.now }
         ensures { MatchResult result
-            (λ answers. Done (CommandTurn self.old number command.now) registry.old registry.new answers.items self.new)
-            (λ _. Stops registry.old registry.new) }
+            (λ answers. Done (CommandTurn self.old number command.now) registry.old registry.new board.old board.new answers.items self.new)
+            (λ _. Stops registry.old registry.new × Extends board.old board.new) }
     {
         let alloc = self.alloc;
         match command {
@@ -376,7 +484,10 @@ impl Session {
                 label,
                 name,
                 length,
-            } => one(alloc, self.alloc(registry, number, label, name, *length)),
+            } => one(
+                alloc,
+                self.alloc(board, registry, number, label, name, *length),
+            ),
             Command::Key { label, key } => one(alloc, self.key(number, label, key)),
             Command::Authsize { label, size } => one(
                 alloc,
@@ -387,44 +498,52 @@ impl Session {
                 iv,
                 associated,
                 text,
-                backlog: _,
-            } => one(
-                alloc,
-                self.request(
-                    number,
-                    label,
-                    Dir::Enc,
-                    iv.as_slice(),
-                    associated.as_slice(),
-                    text.as_slice(),
-                ),
+                backlog,
+            } => self.submit(
+                board,
+                number,
+                label,
+                Dir::Enc,
+                iv.as_slice(),
+                associated.as_slice(),
+                text.as_slice(),
+                *backlog,
             ),
             Command::Dec {
                 label,
                 iv,
                 associated,
                 text,
-                backlog: _,
-            } => one(
-                alloc,
-                self.request(
-                    number,
-                    label,
-                    Dir::Dec,
-                    iv.as_slice(),
-                    associated.as_slice(),
-                    text.as_slice(),
-                ),
+                backlog,
+            } => self.submit(
+                board,
+                number,
+                label,
+                Dir::Dec,
+                iv.as_slice(),
+                associated.as_slice(),
+                text.as_slice(),
+                *backlog,
             ),
             Command::Mac {
                 label,
                 text,
-                backlog: _,
-            } => one(
-                alloc,
-                self.request(number, label, Dir::Mac, &[], &[], text.as_slice()),
+                backlog,
+            } => self.submit(
+                board,
+                number,
+                label,
+                Dir::Mac,
+                &[],
+                &[],
+                text.as_slice(),
+                *backlog,
             ),
-            Command::Free { label } => one(alloc, Ok(self.free(registry, number, label))),
+            Command::Hold { label } => one(alloc, self.hold(board, number, label, true)),
+            Command::Go { label } => one(alloc, self.hold(board, number, label, false)),
+            Command::Poll { label } => self.poll(board, number, label),
+            Command::Drain { label } => self.drain(board, number, label),
+            Command::Free { label } => one(alloc, Ok(self.free(board, registry, number, label))),
             Command::Refs { driver } => one(alloc, self.refs(registry, number, driver)),
             Command::List => self.list(registry, number),
         }
@@ -433,60 +552,101 @@ impl Session {
     // A line's answers.
     fn answers(
         &mut self,
+        board: &mut BoardCore<Job>,
         registry: &mut Registry,
         number: u32,
         line: &Line,
     ) -> Result<Vec<Answer>, Stop>
         requires stands { Stands self.old registry.old }
+        requires posted { Posted self.old board.old }
         requires short { IsShortLine line.now }
         ensures { MatchResult result
-            (λ answers. Done (LineTurn self.old number line.now) registry.old registry.new answers.items self.new)
-            (λ _. Stops registry.old registry.new) }
+            (λ answers. Done (LineTurn self.old number line.now) registry.old registry.new board.old board.new answers.items self.new)
+            (λ _. Stops registry.old registry.new × Extends board.old board.new) }
     {
         match line {
             Line::Nothing => Ok(Vec::new(self.alloc)),
             Line::Malformed => one(self.alloc, Ok(Answer::Malformed { line: number })),
-            Line::Cmd(command) => self.command(registry, number, command),
+            Line::Cmd(command) => self.command(board, registry, number, command),
         }
     }
 
-    /// Answers a line: its answers are added to `reply`, and what it asks of the registry is caller 0's.
+    /// Answers a line: its answers are added to `reply`, and what it asks of the registry and of the board is caller 0's.
     ///
     /// The registry is this session's: faithfully built, with nothing pending, and with the references that its live
-    /// transforms have; and it is so again after `Ok`. `Stop` comes for want of memory alone, with the reply as it was;
-    /// the session takes no line after it.
+    /// transforms have. So is the board: its pipelines are those of the live transforms, and nobody is at a job. Both are so
+    /// again after `Ok`. `Stop` comes for want of memory alone, with the reply as it was; the session takes no line after it.
     pub fn line(
         &mut self,
+        board: &mut BoardCore<Job>,
         registry: &mut Registry,
         number: u32,
         line: &Line,
         reply: &mut Bytes,
     ) -> Result<(), Stop>
         requires stands { Stands self.old registry.old }
+        requires posted { Posted self.old board.old }
         requires short { IsShortLine line.now }
         // On `Ok` the session has done a turn of the line.
-        ensures turn { OnOk result ((turn : Turn) × LineTurn self.old number line.now turn × Does turn registry.old registry.new self.new × (reply.new ≡ reply.old ++ text_in turn)) }
+        ensures turn { OnOk result ((turn : Turn) × LineTurn self.old number line.now turn × Does turn registry.old registry.new self.new × Posts turn board.old board.new × (reply.new ≡ reply.old ++ text_in turn)) }
         ensures stands { OnOk result (Stands self.new registry.new) }
-        // However it ends, the history went on from the script's earlier calls, and is faithfully built.
+        ensures posted { OnOk result (Posted self.new board.new) }
+        // However it ends, the histories went on from the script's earlier calls, and instances are faithfully built.
         ensures asked { Extends (reg_calls 0 registry.old) (reg_calls 0 registry.new) }
+        ensures called { Extends (board_calls 0 board.old) (board_calls 0 board.new) }
         ensures faithful { Made table registry.new }
         ensures unwritten { OnErr result (reply.new ≡ reply.old) }
     {
-        let answers = self.answers(registry, number, line)?;
+        let answers = self.answers(board, registry, number, line)?;
         put_all(self.alloc, reply, &answers)?;
         Ok(())
     }
 
-    /// Answers the end of input, as `line` answers a line. Nothing is asked or answered there while no transform has a
-    /// pipeline.
-    pub fn end(&mut self, registry: &mut Registry, reply: &mut Bytes) -> Result<(), Stop>
-        requires { Stands self.old registry.old }
-        ensures turn { OnOk result ((turn : Turn) × EndTurn self.old turn × Does turn registry.old registry.new self.new × (reply.new ≡ reply.old ++ text_in turn)) }
-        ensures stands { OnOk result (Stands self.new registry.new) }
+    // Lets each held queue go.
+    fn let_go(&self, board: &mut BoardCore<Job>) -> Result<(), Stop>
+        requires { Posted self.now board.old }
+        ensures { MatchResult result (λ _. LetsGo self.now board.old board.new) (λ _. Extends board.old board.new) }
+    {
+        for live in &self.lives {
+            release(board, live)?;
+        }
+        Ok(())
+    }
+
+    // Drains each pipeline, in order of allocation.
+    fn drain_all(&self, board: &mut BoardCore<Job>) -> Result<Vec<Answer>, Stop>
+        requires { AreServed self.now board.old }
+        ensures { MatchResult result (λ answers. DrainsAll self.now board.old board.new answers.items) (λ _. Extends board.old board.new) }
+    {
+        let mut answers = Vec::new(self.alloc);
+        for live in &self.lives {
+            drain_last(self.alloc, board, live, &mut answers)?;
+        }
+        Ok(answers)
+    }
+
+    /// Answers the end of input, as `line` answers a line: held queues are let go, then each live transform is drained in
+    /// order of allocation, and then the board is shut. No line comes after it.
+    pub fn end(
+        &mut self,
+        board: &mut BoardCore<Job>,
+        registry: &mut Registry,
+        reply: &mut Bytes,
+    ) -> Result<(), Stop>
+        requires stands { Stands self.old registry.old }
+        requires posted { Posted self.old board.old }
+        ensures turn { OnOk result ((turn : Turn) × EndTurn self.old turn × Does turn registry.old registry.new self.new × Posts turn board.old board.new × (reply.new ≡ reply.old ++ text_in turn)) }
+        ensures shut { OnOk result (EndsShut board.new) }
+        ensures unasked { registry.new ≡ registry.old }
         ensures asked { Extends (reg_calls 0 registry.old) (reg_calls 0 registry.new) }
+        ensures called { Extends (board_calls 0 board.old) (board_calls 0 board.new) }
         ensures faithful { Made table registry.new }
         ensures unwritten { OnErr result (reply.new ≡ reply.old) }
     {
+        self.let_go(board)?;
+        let answers = self.drain_all(board)?;
+        put_all(self.alloc, reply, &answers)?;
+        board.shut(SCRIPT);
         Ok(())
     }
 }

@@ -1,5 +1,6 @@
 //! Why a session goes no further.
 
+use board::BoardErr;
 use std::alloc::{AllocError, AllocFailed};
 
 /// Why a session goes no further. It takes no line after this.
@@ -12,6 +13,14 @@ impl From<AllocError> for Stop {
     ghost from_gives = { λ _ _. Unit {0} };
 
     fn from(_: AllocError) -> Stop {
+        Stop::Memory
+    }
+}
+
+impl From<BoardErr> for Stop {
+    ghost from_gives = { λ _ _. Unit {0} };
+
+    fn from(_: BoardErr) -> Stop {
         Stop::Memory
     }
 }

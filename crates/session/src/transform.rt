@@ -1,20 +1,22 @@
-//! A live transform: an entry of the registry in use, with its key and its tag size.
+//! A live transform: an entry of the registry in use, with its key and its tag size, and its pipeline where it has one.
 
-ghost use Rattle.std.specs.Prelude.{◌≡◌, ◌⊎◌, true, false, ◌<◌, ◌^◌, length, Some, None, IfOk, MatchResult};
+ghost use Rattle.std.specs.Prelude.{◌≡◌, ◌⊎◌, true, false, ◌<◌, ◌^◌, length, Some, OnOk, OnErr, MatchResult};
+ghost use Rattle.std.specs.Arc.{arc_value};
+ghost use Rattle.std.specs.Option.{option_copied};
 ghost use Rattle.transforms.specs.Plans.{mode_of};
 ghost use Rattle.transforms.specs.Takes.{takes_key_of, takes_tag};
-ghost use Rattle.transforms.specs.Finish.{finished_value};
 ghost use Rattle.session.specs.Allocating.{new_live};
-ghost use Rattle.session.specs.Requesting.{keyed_said, value_said};
+ghost use Rattle.session.specs.BoardHistories.{asked_by};
+ghost use Rattle.session.specs.Changing.{with_line, held_as, delivering, MayDeliver};
+ghost use Rattle.session.specs.Keyed.{IsJob, IsNoJob};
 
-use crate::stop::Stop;
+use crate::pipe::Pipe;
 use kc_base::{Bytes, Errno};
-use reply_text::Answer;
-use std::alloc::Global;
+use std::alloc::{AllocError, AllocFailed, Global};
 use std::marker::Model;
 use std::sync::Arc;
 use templates::Plan;
-use transforms::{Ask, Finished, Keyed, Request, TfmErr, largest_tag_size, prepare, tag_size};
+use transforms::{Ask, Job, Keyed, Request, TfmErr, largest_tag_size, prepare, tag_size};
 
 /// A transform between its allocation and its release. Contracts see it as a row of the walk.
 #[derive(Drop)]
@@ -25,6 +27,8 @@ pub struct Transform {
     plan: Plan,
     keyed: Option<Arc<Keyed>>,
     tag_size: u32,
+    /// Where its requests wait, if they aren't done at their line.
+    pipe: Option<Pipe>,
 }
 
 impl Model for Transform {
@@ -36,35 +40,47 @@ impl Model for Transform {
 
     ghost Value = { Live };
 
-    ghost view = { λ t. record { label = t.label; id = t.id; plan = t.plan; key = key_in t.keyed; tag_size = t.tag_size } };
+    ghost view = { λ t. record { label = t.label; id = t.id; plan = t.plan; key = key_in t.keyed; tag_size = t.tag_size; pipe = t.pipe } };
 
     ghost invariant = { λ t. IsKeyedBy t.plan t.keyed × (fits_tag (mode_of t.plan) t.tag_size ≡ true) };
 }
 
-/// The answer to a request, by what its job gave.
-fn answer_of(number: u32, finished: Finished) -> Answer
-    ensures { result ≡ value_said number (finished_value finished) }
-{
-    match finished {
-        Finished::Bytes(bytes) => Answer::Value {
-            line: number,
-            bytes,
-        },
-        Finished::BadMsg => Answer::Refused {
-            line: number,
-            errno: Errno::EBADMSG,
-        },
-        Finished::Invalid => Answer::Refused {
-            line: number,
-            errno: Errno::EINVAL,
-        },
+/// Why a transform makes no job of a request.
+#[derive(Clone, Copy, Debug, PartialEq, Eq)]
+pub enum JobErr {
+    /// No key was set.
+    NoKey,
+    /// The transform doesn't take the request.
+    Inval,
+    Memory,
+}
+
+impl From<AllocError> for JobErr {
+    ghost use Rattle.std.specs.Prelude.{◌≡◌};
+    ghost use Rattle.session.specs.declared.transform.JobErr.{JobErr};
+
+    ghost from_gives = { λ _ e. e ≡ JobErr.Memory };
+
+    fn from(_: AllocError) -> JobErr {
+        JobErr::Memory
+    }
+}
+
+impl<T: Drop> From<AllocFailed<T>> for JobErr {
+    ghost use Rattle.std.specs.Prelude.{◌≡◌};
+    ghost use Rattle.session.specs.declared.transform.JobErr.{JobErr};
+
+    ghost from_gives = { λ _ e. e ≡ JobErr.Memory };
+
+    fn from(_: AllocFailed<T>) -> JobErr {
+        JobErr::Memory
     }
 }
 
 impl Transform {
     /// A transform with no key, and the greatest tag size of its mode. No memory is taken.
-    pub fn new(label: Bytes, id: u64, plan: Plan) -> Transform
-        ensures { result ≡ new_live label id plan }
+    pub fn new(label: Bytes, id: u64, plan: Plan, pipe: Option<Pipe>) -> Transform
+        ensures { result ≡ new_live label id plan pipe }
     {
         Transform {
             label,
@@ -72,6 +88,7 @@ impl Transform {
             plan,
             keyed: None,
             tag_size: largest_tag_size(&plan),
+            pipe,
         }
     }
 
@@ -114,32 +131,63 @@ impl Transform {
         Ok(())
     }
 
-    /// Answers a request of a line at once, under the key that was set last.
-    pub fn answer(&self, alloc: Global, number: u32, request: Request) -> Result<Answer, Stop>
+    pub fn pipe(&self) -> Option<&Pipe>
+        ensures { option_copied result ≡ self.now.pipe }
+    {
+        self.pipe.as_ref()
+    }
+
+    /// Its pipeline accepted a request of this line. Want of memory leaves all as it was.
+    pub fn accept(&mut self, line: u32) -> Result<(), AllocError>
+        ensures ok { OnOk result (self.new ≡ with_line self.old line) }
+        ensures err { OnErr result (self.new ≡ self.old) }
+    {
+        if let Some(pipe) = &mut self.pipe {
+            pipe.lines.push(line)?;
+        }
+        Ok(())
+    }
+
+    /// Its pipeline is held, or let go.
+    pub fn set_held(&mut self, held: bool)
+        ensures { self.new ≡ held_as self.old held }
+    {
+        if let Some(pipe) = &mut self.pipe {
+            pipe.held = held;
+        }
+    }
+
+    /// Its pipeline handed so many completions out.
+    pub fn deliver(&mut self, count: u64)
+        requires { MayDeliver count self.old.pipe }
+        ensures { self.new ≡ delivering self.old count }
+    {
+        if let Some(pipe) = &mut self.pipe {
+            pipe.delivered += count;
+        }
+    }
+
+    /// The job of a request of a line, under the key that was set last, with all the memory that it needs. `NoKey` exactly
+    /// where none was set; otherwise `Inval` exactly where the mode doesn't take the request.
+    pub fn job(&self, alloc: Global, line: u32, request: Request) -> Result<Job, JobErr>
         requires associated { length request.associated < 2 ^ 32 }
         requires text { length request.text < 2 ^ 32 }
-        ensures { IfOk result (λ answer. answer ≡ keyed_said number self.now request self.now.key) }
+        ensures { MatchResult result (λ job. IsJob line self.now request (asked_by (arc_value job.ask))) (λ e. IsNoJob self.now request e) }
     {
         let Some(keyed) = &self.keyed else {
-            return Ok(Answer::Refused {
-                line: number,
-                errno: Errno::ENOKEY,
-            });
+            return Err(JobErr::NoKey);
         };
         let ask = Ask {
             keyed: keyed.clone()?,
             authsize: self.tag_size,
             request,
             client: 0,
-            line: number,
+            line,
         };
         match prepare(alloc, Arc::new(alloc, ask)?) {
-            Ok(job) => Ok(answer_of(number, job.run())),
-            Err(TfmErr::Inval) => Ok(Answer::Refused {
-                line: number,
-                errno: Errno::EINVAL,
-            }),
-            Err(TfmErr::Memory) => Err(Stop::Memory),
+            Ok(job) => Ok(job),
+            Err(TfmErr::Inval) => Err(JobErr::Inval),
+            Err(TfmErr::Memory) => Err(JobErr::Memory),
         }
     }
 }
