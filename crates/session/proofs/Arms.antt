@@ -37,7 +37,7 @@ use Rattle.session.specs.Refusing.{errno_of, IsRefusedBy}
 use Rattle.session.specs.Registering.{driver_spec, register_turn, enlist_said, unregister_turn, unlist_said, refs_turn, refs_said, list_turn, row_said}
 use Rattle.session.specs.Requesting.{key_turn, authsize_turn, keyed_said, request_said}
 use Rattle.transforms.specs.declared.request.Request.{Request}
-use Rattle.session.specs.Standing.{Stands, Done, got, given, uses}
+use Rattle.session.specs.Standing.{Stands, DoneInRegistry, got, given, uses}
 use Rattle.session.specs.declared.stop.Stop.{Stop}
 use Rattle.session.specs.Turns.{Turn, refused, answered, asking}
 use Rattle.session.specs.Walk.{Walk, Live, is_of, live_of, with_live, without}
@@ -54,7 +54,7 @@ some-is x y e = cc
 -- ---- how arms end
 
 pub refusal-done : (IsTurn : Turn → Type 0) (walk : Walk) (r : List RegEntry) (n : ℕ) (errno : Errno) (answer : Answer) → Stands walk r → IsTurn (refused walk n errno) → answer ≡ said.Refused n errno
-    → Done IsTurn r r (answer ∷ []) walk
+    → DoneInRegistry IsTurn r r (answer ∷ []) walk
 refusal-done IsTurn walk r n errno answer stands is says =
     let done = unasked walk walk r (refused walk n errno) (answer ∷ []) stands refl (ap (λ a. a ∷ []) says) refl (λ id. refl) in
     (refused walk n errno, is, done.0, done.1, done.2)
@@ -63,12 +63,12 @@ refusal-done IsTurn walk r n errno answer stands is says =
 quiet-done : (IsTurn : Turn → Type 0) (walk : Walk) (r r' : List RegEntry) (next : RegEntry) (call : RegCall) (turn : Turn) (answers : List Answer)
     → Stands walk r → r' ≡ r ++ next ∷ [] → reg_call_of (r ++ next ∷ []) 0 r next ≡ Some call → is_settled call ≡ true → IsMade table r next → begun_by next ≡ None
     → turn.registry ≡ call ∷ [] → answers ≡ turn.answers → walk ≡ turn.after
-    → ((id : ℕ) → got id (call ∷ []) + uses id walk.lives ≡ given id (call ∷ []) + uses id walk.lives) → IsTurn turn → Done IsTurn r r' answers walk
+    → ((id : ℕ) → got id (call ∷ []) + uses id walk.lives ≡ given id (call ∷ []) + uses id walk.lives) → IsTurn turn → DoneInRegistry IsTurn r r' answers walk
 quiet-done IsTurn walk r r' next call turn answers stands grown is settles made begins calls says leaves balanced holds =
     let done = asked walk walk r r' next call turn answers stands grown is settles made begins calls says leaves balanced in
     (turn, holds, done.0, done.1, done.2)
 
-pub done-as : (P Q : Turn → Type 0) (r r' : List RegEntry) (answers : List Answer) (walk : Walk) → ((turn : Turn) → P turn → Q turn) → Done P r r' answers walk → Done Q r r' answers walk
+pub done-as : (P Q : Turn → Type 0) (r r' : List RegEntry) (answers : List Answer) (walk : Walk) → ((turn : Turn) → P turn → Q turn) → DoneInRegistry P r r' answers walk → DoneInRegistry Q r r' answers walk
 done-as P Q r r' answers walk f done = (done.0, f done.0 done.1, done.2, done.3, done.4)
 
 pub result-as : {A E : Type 0} (result : Result A E) (P Q : A → Type 0) (R : E → Type 0) → ((a : A) → P a → Q a) → MatchResult result P R → MatchResult result Q R
@@ -145,7 +145,7 @@ no-driver name aes sha256 ghash priority a b c at_a at_b at_c not_a not_b not_c 
 
 pub register-unknown : (walk : Walk) (n : ℕ) (name driver : List ℕ) (priority : ℕ) (found : Option Spec) (r : List RegEntry) (answer : Answer)
     → Stands walk r → name ≡ driver → found ≡ driver_spec name priority → found ≡ None → answer ≡ said.Refused n errno.ENOENT
-    → Done (CommandTurn walk n (command.Register driver priority)) r r (answer ∷ []) walk
+    → DoneInRegistry (CommandTurn walk n (command.Register driver priority)) r r (answer ∷ []) walk
 register-unknown walk n name driver priority found r answer stands same found_is none says =
     let at : None ≡ driver_spec driver priority = sym none ∙ (found_is ∙ ap (λ d. driver_spec d priority) same) in
     refusal-done (CommandTurn walk n (command.Register driver priority)) walk r n errno.ENOENT answer stands (enlisted.Exist, ap (λ f. register_turn walk n f enlisted.Exist) at) says
@@ -155,7 +155,7 @@ enlist_turn walk n spec answer high = if high then refused walk n errno.EINVAL e
 
 pub register-high : (walk : Walk) (n : ℕ) (name driver : List ℕ) (priority : ℕ) (found : Option Spec) (spec : Spec) (r : List RegEntry) (answer : Answer)
     → Stands walk r → name ≡ driver → found ≡ driver_spec name priority → found ≡ Some spec → 100000 < priority → answer ≡ said.Refused n errno.EINVAL
-    → Done (CommandTurn walk n (command.Register driver priority)) r r (answer ∷ []) walk
+    → DoneInRegistry (CommandTurn walk n (command.Register driver priority)) r r (answer ∷ []) walk
 unfolding enlist_turn
 register-high walk n name driver priority found spec r answer stands same found_is some high says =
     let at : driver_spec driver priority ≡ Some spec = sym (ap (λ d. driver_spec d priority) same) ∙ (sym found_is ∙ some) in
@@ -168,7 +168,7 @@ register-high walk n name driver priority found spec r answer stands same found_
 pub register-asked : (walk : Walk) (n : ℕ) (name driver : List ℕ) (priority : ℕ) (found : Option Spec) (spec : Spec) (r r' : List RegEntry) (answer : Answer)
     → Stands walk r → name ≡ driver → found ≡ driver_spec name priority → found ≡ Some spec → priority ≤ 100000
     → r' ≡ r ++ entry.Enlist 0 spec (enlist_answer (rows_of r) spec) ∷ [] → answer ≡ enlist_said n (enlist_answer (rows_of r) spec)
-    → Done (CommandTurn walk n (command.Register driver priority)) r r' (answer ∷ []) walk
+    → DoneInRegistry (CommandTurn walk n (command.Register driver priority)) r r' (answer ∷ []) walk
 unfolding enlist_turn
 register-asked walk n name driver priority found spec r r' answer stands same found_is some low grown says =
     let at : driver_spec driver priority ≡ Some spec = sym (ap (λ d. driver_spec d priority) same) ∙ (sym found_is ∙ some) in
@@ -202,7 +202,7 @@ enlist-refused n enlisted.NFile error e is q = by-error n NFile error e (cc) is
 
 pub unregister-asked : (walk : Walk) (n : ℕ) (name driver : List ℕ) (r r' : List RegEntry) (answer : Answer) → Stands walk r → name ≡ driver
     → r' ≡ r ++ entry.Unlist 0 name (driver_place (rows_of r) name) ∷ [] → answer ≡ unlist_said n (driver_place (rows_of r) name)
-    → Done (CommandTurn walk n (command.Unregister driver)) r r' (answer ∷ []) walk
+    → DoneInRegistry (CommandTurn walk n (command.Unregister driver)) r r' (answer ∷ []) walk
 unregister-asked walk n name driver r r' answer stands same grown says =
     let id = driver_place (rows_of r) name in
     quiet-done (CommandTurn walk n (command.Unregister driver)) walk r r' (entry.Unlist 0 name id) (Unlists name id) (unregister_turn walk n name id) (answer ∷ [])
@@ -218,7 +218,7 @@ unlist-refused n None error e is q = by-error n NoEnt error e (cc) is
 
 pub refs-asked : (walk : Walk) (n : ℕ) (name driver : List ℕ) (r r' : List RegEntry) (answer : Answer) → Stands walk r → name ≡ driver
     → r' ≡ r ++ entry.Refs 0 name ∷ [] → answer ≡ refs_said n (refs_answer (rows_of r) name)
-    → Done (CommandTurn walk n (command.Refs driver)) r r' (answer ∷ []) walk
+    → DoneInRegistry (CommandTurn walk n (command.Refs driver)) r r' (answer ∷ []) walk
 refs-asked walk n name driver r r' answer stands same grown says =
     let found = refs_answer (rows_of r) name in
     quiet-done (CommandTurn walk n (command.Refs driver)) walk r r' (entry.Refs 0 name) (Counts name found) (refs_turn walk n name found) (answer ∷ [])
@@ -234,7 +234,7 @@ refs-refused n None error e is q = by-error n NoEnt error e (cc) is
 
 pub list-asked : (walk : Walk) (n : ℕ) (rows shown : List ListRow) (r r' : List RegEntry) (answers : List Answer) → Stands walk r → rows ≡ listing (rows_of r) → shown ≡ rows
     → r' ≡ r ++ entry.List 0 ∷ [] → answers ≡ map (row_said n) shown ++ said.Listed n (length shown) ∷ []
-    → Done (CommandTurn walk n command.List) r r' answers walk
+    → DoneInRegistry (CommandTurn walk n command.List) r r' answers walk
 list-asked walk n rows shown r r' answers stands rows_are same grown says =
     let listed = listing (rows_of r) in
     quiet-done (CommandTurn walk n command.List) walk r r' (entry.List 0) (Lists listed) (list_turn walk n listed) answers
@@ -242,28 +242,28 @@ list-asked walk n rows shown r r' answers stands rows_are same grown says =
 
 -- ---- the transform of a label
 
-abbrev pub viewed : List Live → Walk
-viewed lives = record { lives = lives }
+abbrev pub viewed : ℕ → ℕ → List Live → Walk
+viewed q v lives = record { lives = lives; requests = q; bytes = v }
 
-pub live-at : (walk : Walk) (items lives : List Live) (label name : List ℕ) (place : ℕ) → viewed items ≡ walk → Some place ≡ position_from (is_of name) 0 lives → name ≡ label → lives ≡ items
+pub live-at : {q v : ℕ} (walk : Walk) (items lives : List Live) (label name : List ℕ) (place : ℕ) → viewed q v items ≡ walk → Some place ≡ position_from (is_of name) 0 lives → name ≡ label → lives ≡ items
     → Split label walk.lives 0 place
-live-at walk items lives label name place view at same are =
+live-at {q} {v} walk items lives label name place view at same are =
     split-at label walk.lives 0 place (sym (at ∙ (ap (λ l. position_from (is_of l) 0 lives) same ∙ ap (λ ls. position_from (is_of label) 0 ls) (are ∙ ap (λ (w : Walk). w.lives) view))))
 
-pub no-live : (walk : Walk) (items lives : List Live) (label name : List ℕ) → viewed items ≡ walk → None ≡ position_from (is_of name) 0 lives → name ≡ label → lives ≡ items
+pub no-live : {q v : ℕ} (walk : Walk) (items lives : List Live) (label name : List ℕ) → viewed q v items ≡ walk → None ≡ position_from (is_of name) 0 lives → name ≡ label → lives ≡ items
     → live_of walk label ≡ None
-no-live walk items lives label name view at same are =
+no-live {q} {v} walk items lives label name view at same are =
     none-at label walk.lives 0 (sym (at ∙ (ap (λ l. position_from (is_of l) 0 lives) same ∙ ap (λ ls. position_from (is_of label) 0 ls) (are ∙ ap (λ (w : Walk). w.lives) view))))
 
 -- ---- `free`, `key` and `authsize`
 
 pub free-unknown : (walk : Walk) (n : ℕ) (label : List ℕ) (r : List RegEntry) (answer : Answer) → Stands walk r → live_of walk label ≡ None → answer ≡ said.Refused n errno.ENOENT
-    → Done (CommandTurn walk n (command.Free label)) r r (answer ∷ []) walk
+    → DoneInRegistry (CommandTurn walk n (command.Free label)) r r (answer ∷ []) walk
 free-unknown walk n label r answer stands none says =
     refusal-done (CommandTurn walk n (command.Free label)) walk r n errno.ENOENT answer stands (sym (ap (free_turn walk n label) none)) says
 
 pub free-asked : (walk walk' : Walk) (n : ℕ) (label : List ℕ) (place : ℕ) (r r' : List RegEntry) (s : Split label walk.lives 0 place) → Stands walk r
-    → r' ≡ r ++ entry.Put 0 s.live.id ∷ [] → walk' ≡ without walk label → Done (CommandTurn walk n (command.Free label)) r r' (said.Ok n ∷ []) walk'
+    → r' ≡ r ++ entry.Put 0 s.live.id ∷ [] → walk' ≡ without walk label → DoneInRegistry (CommandTurn walk n (command.Free label)) r r' (said.Ok n ∷ []) walk'
 free-asked walk walk' n label place r r' s stands grown leaves =
     let turn : Turn = asking (Puts s.live.id) (answered (without walk label) (said.Ok n)) in
     let done = asked walk walk' r r' (entry.Put 0 s.live.id) (Puts s.live.id) turn (said.Ok n ∷ []) stands grown refl refl tt refl refl refl leaves
@@ -272,7 +272,7 @@ free-asked walk walk' n label place r r' s stands grown leaves =
 
 -- the answers of what changes a transform and asks nothing
 pub changed-done : (IsTurn : Turn → Type 0) (walk walk' : Walk) (r : List RegEntry) (turn : Turn) (answer : Answer) → Stands walk r → IsTurn turn → answered walk' answer ≡ turn
-    → ((id : ℕ) → uses id walk.lives ≡ uses id walk'.lives) → Done IsTurn r r (answer ∷ []) walk'
+    → ((id : ℕ) → uses id walk.lives ≡ uses id walk'.lives) → DoneInRegistry IsTurn r r (answer ∷ []) walk'
 changed-done IsTurn walk walk' r turn answer stands is same kept =
     let done = unasked walk walk' r (answered walk' answer) (answer ∷ []) stands refl refl refl kept in
     (answered walk' answer, subst IsTurn (sym same) is, done.0, done.1, done.2)
@@ -284,48 +284,48 @@ abbrev pub sized : Live → ℕ → Live
 sized live size = record live { tag_size = size }
 
 -- a place written, in the walk
-written : (walk : Walk) (label : List ℕ) (place : ℕ) (items lives : List Live) (new : Live) (s : Split label walk.lives 0 place) → viewed items ≡ walk → lives ≡ set items place new
+written : {q v : ℕ} (walk : Walk) (label : List ℕ) (place : ℕ) (items lives : List Live) (new : Live) (s : Split label walk.lives 0 place) → viewed q v items ≡ walk → lives ≡ set items place new
     → lives ≡ s.before ++ new ∷ s.later
-written walk label place items lives new s view are =
+written {q} {v} walk label place items lives new s view are =
     are ∙ (ap (λ (w : Walk). set w.lives place new) view ∙ split-set label walk.lives place new s)
 
-changed-walk : (walk : Walk) (label : List ℕ) (place : ℕ) (items lives : List Live) (new : Live) (s : Split label walk.lives 0 place) → viewed items ≡ walk → lives ≡ set items place new → new.label ≡ s.live.label
-    → viewed lives ≡ with_live walk new
-changed-walk walk label place items lives new s view are same =
-    ap viewed (written walk label place items lives new s view are ∙ sym (s.replaces new (same ∙ (bytes_eq-Decides s.live.label label).0 s.is_live)))
+changed-walk : {q v : ℕ} (walk : Walk) (label : List ℕ) (place : ℕ) (items lives : List Live) (new : Live) (s : Split label walk.lives 0 place) → viewed q v items ≡ walk → lives ≡ set items place new → new.label ≡ s.live.label
+    → viewed q v lives ≡ with_live walk new
+changed-walk {q} {v} walk label place items lives new s view are same =
+    ap (viewed q v) (written walk label place items lives new s view are ∙ sym (s.replaces new (same ∙ (bytes_eq-Decides s.live.label label).0 s.is_live)))
 
-kept-walk : (walk : Walk) (label : List ℕ) (place : ℕ) (items lives : List Live) (new : Live) (s : Split label walk.lives 0 place) → viewed items ≡ walk → lives ≡ set items place new → new ≡ s.live
-    → viewed lives ≡ walk
-kept-walk walk label place items lives new s view are same =
-    ap viewed (written walk label place items lives new s view are ∙ (ap (λ (l : Live). s.before ++ l ∷ s.later) same ∙ sym s.lives_is))
+kept-walk : {q v : ℕ} (walk : Walk) (label : List ℕ) (place : ℕ) (items lives : List Live) (new : Live) (s : Split label walk.lives 0 place) → viewed q v items ≡ walk → lives ≡ set items place new → new ≡ s.live
+    → viewed q v lives ≡ walk
+kept-walk {q} {v} walk label place items lives new s view are same =
+    ap (viewed q v) (written walk label place items lives new s view are ∙ (ap (λ (l : Live). s.before ++ l ∷ s.later) same ∙ sym s.lives_is))
 
 abbrev pub if_sized : Walk → ℕ → ℕ → Live → Bool → Turn
 if_sized walk n size live taken = if taken then answered (with_live walk (sized live size)) (said.Ok n) else refused walk n errno.EINVAL
 
-pub authsize-set : (walk : Walk) (n size : ℕ) (label : List ℕ) (place : ℕ) (items lives : List Live) (old new : Live) (answer : Answer) (s : Split label walk.lives 0 place)
-    → viewed items ≡ walk → lives ≡ set items place new → old ≡ s.live → takes_tag (mode_of old.plan) size ≡ true → new ≡ sized old size → answer ≡ said.Ok n
-    → answered (viewed lives) answer ≡ authsize_turn walk n size (live_of walk label)
-authsize-set walk n size label place items lives old new answer s view are was taken is says =
+pub authsize-set : {q v : ℕ} (walk : Walk) (n size : ℕ) (label : List ℕ) (place : ℕ) (items lives : List Live) (old new : Live) (answer : Answer) (s : Split label walk.lives 0 place)
+    → viewed q v items ≡ walk → lives ≡ set items place new → old ≡ s.live → takes_tag (mode_of old.plan) size ≡ true → new ≡ sized old size → answer ≡ said.Ok n
+    → answered (viewed q v lives) answer ≡ authsize_turn walk n size (live_of walk label)
+authsize-set {q} {v} walk n size label place items lives old new answer s view are was taken is says =
     let now : new ≡ sized s.live size = is ∙ ap (λ (l : Live). sized l size) was in
     ap (λ (w : Walk). answered w answer) (changed-walk walk label place items lives new s view are (ap (λ (l : Live). l.label) now))
     ∙ (ap (λ (l : Live). answered (with_live walk l) answer) now
     ∙ (ap (answered (with_live walk (sized s.live size))) says
     ∙ sym (ap (authsize_turn walk n size) s.found ∙ ap (if_sized walk n size s.live) (ap (λ (l : Live). takes_tag (mode_of l.plan) size) (sym was) ∙ taken))))
 
-pub authsize-kept : (walk : Walk) (n size : ℕ) (label : List ℕ) (place : ℕ) (items lives : List Live) (old new : Live) (answer : Answer) (s : Split label walk.lives 0 place)
-    → viewed items ≡ walk → lives ≡ set items place new → old ≡ s.live → takes_tag (mode_of old.plan) size ≡ false → new ≡ old → answer ≡ said.Refused n errno.EINVAL
-    → answered (viewed lives) answer ≡ authsize_turn walk n size (live_of walk label)
-authsize-kept walk n size label place items lives old new answer s view are was taken is says =
+pub authsize-kept : {q v : ℕ} (walk : Walk) (n size : ℕ) (label : List ℕ) (place : ℕ) (items lives : List Live) (old new : Live) (answer : Answer) (s : Split label walk.lives 0 place)
+    → viewed q v items ≡ walk → lives ≡ set items place new → old ≡ s.live → takes_tag (mode_of old.plan) size ≡ false → new ≡ old → answer ≡ said.Refused n errno.EINVAL
+    → answered (viewed q v lives) answer ≡ authsize_turn walk n size (live_of walk label)
+authsize-kept {q} {v} walk n size label place items lives old new answer s view are was taken is says =
     ap (λ (w : Walk). answered w answer) (kept-walk walk label place items lives new s view are (is ∙ was))
     ∙ (ap (answered walk) says ∙ sym (ap (authsize_turn walk n size) s.found ∙ ap (if_sized walk n size s.live) (ap (λ (l : Live). takes_tag (mode_of l.plan) size) (sym was) ∙ taken)))
 
 abbrev pub if_keyed : Walk → ℕ → List ℕ → Live → Bool → Turn
 if_keyed walk n key live taken = if taken then answered (with_live walk (keyed live key)) (said.Ok n) else refused walk n errno.EINVAL
 
-pub key-set : (walk : Walk) (n : ℕ) (name key label : List ℕ) (place : ℕ) (items lives : List Live) (old new : Live) (answer : Answer) (s : Split label walk.lives 0 place)
-    → viewed items ≡ walk → lives ≡ set items place new → old ≡ s.live → name ≡ key → takes_key_of (mode_of old.plan) name ≡ true → new ≡ keyed old name → answer ≡ said.Ok n
-    → answered (viewed lives) answer ≡ key_turn walk n key (live_of walk label)
-key-set walk n name key label place items lives old new answer s view are was same taken is says =
+pub key-set : {q v : ℕ} (walk : Walk) (n : ℕ) (name key label : List ℕ) (place : ℕ) (items lives : List Live) (old new : Live) (answer : Answer) (s : Split label walk.lives 0 place)
+    → viewed q v items ≡ walk → lives ≡ set items place new → old ≡ s.live → name ≡ key → takes_key_of (mode_of old.plan) name ≡ true → new ≡ keyed old name → answer ≡ said.Ok n
+    → answered (viewed q v lives) answer ≡ key_turn walk n key (live_of walk label)
+key-set {q} {v} walk n name key label place items lives old new answer s view are was same taken is says =
     let now : new ≡ keyed s.live key = is ∙ (ap (λ (l : Live). keyed l name) was ∙ ap (keyed s.live) same) in
     ap (λ (w : Walk). answered w answer) (changed-walk walk label place items lives new s view are (ap (λ (l : Live). l.label) now))
     ∙ (ap (λ (l : Live). answered (with_live walk l) answer) now
@@ -333,10 +333,10 @@ key-set walk n name key label place items lives old new answer s view are was sa
     ∙ sym (ap (key_turn walk n key) s.found
     ∙ ap (if_keyed walk n key s.live) (ap (λ (l : Live). takes_key_of (mode_of l.plan) key) (sym was) ∙ (ap (takes_key_of (mode_of old.plan)) (sym same) ∙ taken)))))
 
-pub key-kept : (walk : Walk) (n : ℕ) (name key label : List ℕ) (place : ℕ) (items lives : List Live) (old new : Live) (answer : Answer) (s : Split label walk.lives 0 place)
-    → viewed items ≡ walk → lives ≡ set items place new → old ≡ s.live → name ≡ key → takes_key_of (mode_of old.plan) name ≡ false → new ≡ old → answer ≡ said.Refused n errno.EINVAL
-    → answered (viewed lives) answer ≡ key_turn walk n key (live_of walk label)
-key-kept walk n name key label place items lives old new answer s view are was same taken is says =
+pub key-kept : {q v : ℕ} (walk : Walk) (n : ℕ) (name key label : List ℕ) (place : ℕ) (items lives : List Live) (old new : Live) (answer : Answer) (s : Split label walk.lives 0 place)
+    → viewed q v items ≡ walk → lives ≡ set items place new → old ≡ s.live → name ≡ key → takes_key_of (mode_of old.plan) name ≡ false → new ≡ old → answer ≡ said.Refused n errno.EINVAL
+    → answered (viewed q v lives) answer ≡ key_turn walk n key (live_of walk label)
+key-kept {q} {v} walk n name key label place items lives old new answer s view are was same taken is says =
     ap (λ (w : Walk). answered w answer) (kept-walk walk label place items lives new s view are (is ∙ was))
     ∙ (ap (answered walk) says
     ∙ sym (ap (key_turn walk n key) s.found
@@ -344,12 +344,12 @@ key-kept walk n name key label place items lives old new answer s view are was s
 
 -- ---- `alloc`
 
-pub grown-walk : (walk : Walk) (items more : List Live) (new : Live) → viewed items ≡ walk → more ≡ items ++ new ∷ [] → viewed more ≡ and_live walk new
-grown-walk walk items more new view are = ap viewed (are ∙ ap (λ (w : Walk). w.lives ++ new ∷ []) view)
+pub grown-walk : {q v : ℕ} (walk : Walk) (items more : List Live) (new : Live) → viewed q v items ≡ walk → more ≡ items ++ new ∷ [] → viewed q v more ≡ and_live walk new
+grown-walk {q} {v} walk items more new view are = ap (viewed q v) (are ∙ ap (λ (w : Walk). w.lives ++ new ∷ []) view)
 
 abbrev pub Binds : Walk → ℕ → List ℕ → Option ℕ → ℕ → List RegEntry → List RegEntry → List Answer → Walk → Type 0
 Binds walk n label len id r r' answers after =
-    (spec : Spec) × (ok : Bool) × (slice_get (registered r) id ≡ Some spec) × Done (λ (turn : Turn). turn ≡ entry_turn walk n label len (Entry id spec) ok) r r' answers after
+    (spec : Spec) × (ok : Bool) × (slice_get (registered r) id ≡ Some spec) × DoneInRegistry (λ (turn : Turn). turn ≡ entry_turn walk n label len (Entry id spec) ok) r r' answers after
 
 -- a reference taken, or not
 pub bind-got : (walk after : Walk) (n : ℕ) (label : List ℕ) (len : Option ℕ) (id : ℕ) (spec : Spec) (plan : Plan) (listed : Bool) (r r' : List RegEntry) (answer : Answer)
@@ -385,7 +385,7 @@ request-at walk n label place old given request answer s was same says =
 -- a name looked up, and then its entry taken into use, or its fault answered
 abbrev pub Finds : Walk → ℕ → List ℕ → List ℕ → Option ℕ → List RegEntry → List RegEntry → List Answer → Walk → Type 0
 Finds walk n label name len r r' answers after =
-    (found : Found) × (ok : Bool) × Done (λ (turn : Turn). turn ≡ looked_turn walk n label name len found ok) r r' answers after
+    (found : Found) × (ok : Bool) × DoneInRegistry (λ (turn : Turn). turn ≡ looked_turn walk n label name len found ok) r r' answers after
 
 pub find-bound : (walk after : Walk) (n : ℕ) (label name : List ℕ) (len : Option ℕ) (id : ℕ) (spec : Spec) (r r1 r2 : List RegEntry) (answers : List Answer)
     → Stands walk r → LooksFor r r1 0 name false (Entry id spec) → slice_get (registered r1) id ≡ Some spec → Binds walk n label len id r1 r2 answers after
@@ -420,10 +420,10 @@ look-at r r1 name id spec look = outcome-is r1 (outcome r1 look.answer) id spec 
 
 -- ---- the refusals of `alloc`
 
-pub live-there : (walk : Walk) (items lives : List Live) (label name : List ℕ) (o : Option ℕ) → viewed items ≡ walk → o ≡ position_from (is_of name) 0 lives → name ≡ label → lives ≡ items
+pub live-there : {q v : ℕ} (walk : Walk) (items lives : List Live) (label name : List ℕ) (o : Option ℕ) → viewed q v items ≡ walk → o ≡ position_from (is_of name) 0 lives → name ≡ label → lives ≡ items
     → is_some (live_of walk label) ≡ is_some o
-live-there walk items lives label name (Some place) view at same are = ap is_some (live-at walk items lives label name place view at same are).found
-live-there walk items lives label name None view at same are = ap is_some (no-live walk items lives label name view at same are)
+live-there {q} {v} walk items lives label name (Some place) view at same are = ap is_some (live-at walk items lives label name place view at same are).found
+live-there {q} {v} walk items lives label name None view at same are = ap is_some (no-live walk items lives label name view at same are)
 
 abbrev pub if_live : Walk → ℕ → List ℕ → List ℕ → Option ℕ → Found → Bool → Bool → Bool → Turn
 if_live walk n label name len found ok there full =
@@ -431,7 +431,7 @@ if_live walk n label name len found ok there full =
 
 pub alloc-refused : (walk : Walk) (n : ℕ) (label name : List ℕ) (len : Option ℕ) (e : Errno) (r : List RegEntry) (answer : Answer) → Stands walk r
     → alloc_turn walk n label name len (Fault errno.ENOENT) true ≡ refused walk n e → answer ≡ said.Refused n e
-    → Done (CommandTurn walk n (command.Alloc label name len)) r r (answer ∷ []) walk
+    → DoneInRegistry (CommandTurn walk n (command.Alloc label name len)) r r (answer ∷ []) walk
 alloc-refused walk n label name len e r answer stands is says =
     refusal-done (CommandTurn walk n (command.Alloc label name len)) walk r n e answer stands (Fault errno.ENOENT, true, sym is) says
 
@@ -469,7 +469,7 @@ named-looked walk n label name len found ok tree fits plain =
 
 pub alloc-found : (walk after : Walk) (n : ℕ) (label name text : List ℕ) (len : Option ℕ) (tree : Tree) (r r' : List RegEntry) (answers : List Answer)
     → is_some (live_of walk label) ≡ false → length walk.lives < 4096 → name_read name ≡ Ok tree → is_queue_length len ≡ true → is_wrapper_word (word_of tree) ≡ false → text ≡ name
-    → Finds walk n label text len r r' answers after → Done (CommandTurn walk n (command.Alloc label name len)) r r' answers after
+    → Finds walk n label text len r r' answers after → DoneInRegistry (CommandTurn walk n (command.Alloc label name len)) r r' answers after
 alloc-found walk after n label name text len tree r r' answers new few read fits plain same finds =
     let found = finds.0 in
     let ok = finds.1 in

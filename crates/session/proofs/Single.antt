@@ -11,7 +11,7 @@ use Rattle.transforms.specs.Plans.{mode_of}
 use Rattle.transforms.specs.Takes.{takes_tag, takes_key_of}
 use Rattle.session.specs.declared.stop.Stop.{Stop}
 use Rattle.session.specs.Requesting.{key_turn, authsize_turn}
-use Rattle.session.specs.Standing.{Stands, Done, Stops, uses}
+use Rattle.session.specs.Standing.{Stands, DoneInRegistry, Stops, uses}
 use Rattle.session.specs.Turns.{Turn, answered}
 use Rattle.session.specs.Walk.{Walk, Live, is_of, live_of, replaced}
 use Rattle.session.proofs.Asking.{unasked}
@@ -20,7 +20,7 @@ use Rattle.session.proofs.Arms.{keyed, sized, if_keyed, if_sized}
 -- an answer that was made alone, for a turn that asks nothing
 pub own-done : {V : Type 0} (items : V → List Answer) (given : Result Answer Stop) (result : Result V Stop) (IsTurn : Turn → Type 0) (walk walk' : Walk) (r : List RegEntry) (want : Turn)
     → Stands walk r → IsTurn want → IfOk given (λ a. answered walk' a ≡ want) → ((id : ℕ) → uses id walk.lives ≡ uses id want.after.lives)
-    → IfOk result (λ v. IfOk given (λ a. items v ≡ a ∷ []) × IsOk given) → MatchResult result (λ v. Done IsTurn r r (items v) walk') (λ _. Stops r r)
+    → IfOk result (λ v. IfOk given (λ a. items v ≡ a ∷ []) × IsOk given) → MatchResult result (λ v. DoneInRegistry IsTurn r r (items v) walk') (λ _. Stops r r)
 own-done items given (Err stop) IsTurn walk walk' r want stands is gives keeps one = (([], sym (append-nil r)), stands.made)
 own-done items (Err stop) (Ok v) IsTurn walk walk' r want stands is gives keeps one = absurd (let e = one.1 in cc)
 own-done items (Ok a) (Ok v) IsTurn walk walk' r want stands is gives keeps one =
