@@ -1,13 +1,13 @@
 -- What the arms of a session do, over plain values.
-use Rattle.std.proofs.Common.{◌≡◌, ℕ, ◌+◌, ◌<◌, ◌≤◌, Bool, true, false, cond, List, [], ◌∷◌, ◌++◌, length, Option, Some, None, Result, Ok, Err, refl, sym, ap, subst, ◌∙◌, arith, IsTrue}
+use Rattle.std.proofs.Common.{append-nil, ◌≡◌, ℕ, ◌+◌, ◌<◌, ◌≤◌, Bool, true, false, cond, List, [], ◌∷◌, ◌++◌, length, Option, Some, None, Result, Ok, Err, refl, sym, ap, subst, ◌∙◌, arith, IsTrue}
 use Rattle.std.proofs.lemmas.Bool.Decides.{nat_tests}
 use Rattle.std.specs.Prelude.{codes, nat_lt, nat_le, if◌then◌else◌, slice_get, map, is_some, MatchResult}
-use Rattle.std.specs.List.{position_from}
+use Rattle.std.specs.List.{position_from, remove}
 use Rattle.std.specs.Option.{option_map}
 use Rattle.std.specs.Str.{bytes_eq}
 use Rattle.kc_base.specs.declared.error_numbers.Errno.{Errno}
 use Rattle.kc_base.specs.declared.error_numbers.Errno.TheVariants as errno
-use Rattle.alg_names.specs.Name.{Tree, word_of}
+use Rattle.alg_names.specs.Name.{Tree}
 use Rattle.alg_registry.specs.declared.spec.Spec.{Spec}
 use Rattle.alg_registry.specs.declared.spec.Kind.TheVariants.{Cipher, Hash, Ghash}
 use Rattle.alg_registry.specs.declared.spec.Wrap.TheVariants.{Plain}
@@ -28,21 +28,27 @@ use Rattle.reply_text.specs.declared.answers.Answer.TheVariants as said
 use Rattle.script_text.specs.declared.commands.Command.TheVariants as command
 use Rattle.templates.specs.declared.driver_plans.Plan.{Plan}
 use Rattle.templates.specs.Looking.{Found, Entry, Fault, LooksFor, NonePending, entry_found, found_as}
-use Rattle.templates.specs.Nesting.{is_wrapper_word}
 use Rattle.templates.specs.Table.{table}
-use Rattle.session.specs.Allocating.{alloc_turn, named_turn, looked_turn, entry_turn, planned_turn, got_turn, plan_for, new_live, and_live, is_queue_length, name_read, free_turn}
+use Rattle.board.specs.declared.entry.BoardEntry.{BoardEntry}
+use Rattle.board.specs.declared.entry.Shape.{Shape}
+use Rattle.board.specs.Legal.{LegalBoard, pipelines}
+use Rattle.transforms.specs.declared.ask.Ask.{Ask}
+use Rattle.session.specs.declared.pipe.Pipe.{Pipe}
+use Rattle.session.specs.Allocating.{alloc_turn, named_turn, looked_turn, entry_turn, planned_turn, got_turn, made_turn, plan_for, shape_for, new_live, and_live, is_queue_length, name_read, free_turn, close_turn, release_turn}
+use Rattle.session.specs.BoardHistories.{Closes, board_calls}
+use Rattle.session.specs.Offering.{Bore, Closed, owes}
 use Rattle.session.specs.Histories.{RegCall, Enlists, Looks, Unlists, Gets, Puts, Counts, Lists, reg_call_of, is_settled}
 use Rattle.session.specs.Lines.{CommandTurn}
 use Rattle.session.specs.Refusing.{errno_of, IsRefusedBy}
 use Rattle.session.specs.Registering.{driver_spec, register_turn, enlist_said, unregister_turn, unlist_said, refs_turn, refs_said, list_turn, row_said}
-use Rattle.session.specs.Requesting.{key_turn, authsize_turn, keyed_said, request_said}
-use Rattle.transforms.specs.declared.request.Request.{Request}
-use Rattle.session.specs.Standing.{Stands, DoneInRegistry, got, given, uses}
+use Rattle.session.specs.Requesting.{key_turn, authsize_turn}
+use Rattle.session.specs.Standing.{Stands, Posted, Posts, Done, DoneInRegistry, got, given, uses}
 use Rattle.session.specs.declared.stop.Stop.{Stop}
-use Rattle.session.specs.Turns.{Turn, refused, answered, asking}
-use Rattle.session.specs.Walk.{Walk, Live, is_of, live_of, with_live, without}
+use Rattle.session.specs.Turns.{Turn, refused, answered, asking, posting}
+use Rattle.session.specs.Walk.{Walk, Live, is_of, live_of, with_live, without, removed, replaced}
 use Rattle.session.proofs.Asking.{unasked, asked, look-stands, after-look, uses-append}
-use Rattle.session.proofs.Placed.{Split, split-at, none-at, split-set, uses-removed}
+use Rattle.session.proofs.Boarding.{bear_calls, bore-posted, bore-calls, bore-extends, close_calls, closed-posted, closed-calls, closed-extends}
+use Rattle.session.proofs.Placed.{Split, split-at, none-at, split-set, split-remove, uses-removed}
 use Rattle.std.proofs.Math.ListN.{set}
 use Rattle.std.proofs.lemmas.Slice.Eq.{bytes_eq-Decides}
 use Rattle.transforms.specs.Plans.{mode_of}
@@ -150,13 +156,12 @@ register-unknown walk n name driver priority found r answer stands same found_is
     let at : None ≡ driver_spec driver priority = sym none ∙ (found_is ∙ ap (λ d. driver_spec d priority) same) in
     refusal-done (CommandTurn walk n (command.Register driver priority)) walk r n errno.ENOENT answer stands (enlisted.Exist, ap (λ f. register_turn walk n f enlisted.Exist) at) says
 
-enlist_turn : Walk → ℕ → Spec → Enlisted → Bool → Turn
+abbrev pub enlist_turn : Walk → ℕ → Spec → Enlisted → Bool → Turn
 enlist_turn walk n spec answer high = if high then refused walk n errno.EINVAL else asking (Enlists spec answer) (answered walk (enlist_said n answer))
 
 pub register-high : (walk : Walk) (n : ℕ) (name driver : List ℕ) (priority : ℕ) (found : Option Spec) (spec : Spec) (r : List RegEntry) (answer : Answer)
     → Stands walk r → name ≡ driver → found ≡ driver_spec name priority → found ≡ Some spec → 100000 < priority → answer ≡ said.Refused n errno.EINVAL
     → DoneInRegistry (CommandTurn walk n (command.Register driver priority)) r r (answer ∷ []) walk
-unfolding enlist_turn
 register-high walk n name driver priority found spec r answer stands same found_is some high says =
     let at : driver_spec driver priority ≡ Some spec = sym (ap (λ d. driver_spec d priority) same) ∙ (sym found_is ∙ some) in
     let known = known-driver driver priority spec at in
@@ -169,7 +174,6 @@ pub register-asked : (walk : Walk) (n : ℕ) (name driver : List ℕ) (priority 
     → Stands walk r → name ≡ driver → found ≡ driver_spec name priority → found ≡ Some spec → priority ≤ 100000
     → r' ≡ r ++ entry.Enlist 0 spec (enlist_answer (rows_of r) spec) ∷ [] → answer ≡ enlist_said n (enlist_answer (rows_of r) spec)
     → DoneInRegistry (CommandTurn walk n (command.Register driver priority)) r r' (answer ∷ []) walk
-unfolding enlist_turn
 register-asked walk n name driver priority found spec r r' answer stands same found_is some low grown says =
     let at : driver_spec driver priority ≡ Some spec = sym (ap (λ d. driver_spec d priority) same) ∙ (sym found_is ∙ some) in
     let known = known-driver driver priority spec at in
@@ -245,6 +249,10 @@ list-asked walk n rows shown r r' answers stands rows_are same grown says =
 abbrev pub viewed : ℕ → ℕ → List Live → Walk
 viewed q v lives = record { lives = lives; requests = q; bytes = v }
 
+-- the walk that is seen, with other transforms
+pub viewed-as : {q v : ℕ} {items : List Live} (walk : Walk) (lives : List Live) → viewed q v items ≡ walk → viewed q v lives ≡ record walk { lives = lives }
+viewed-as {q} {v} walk lives view = ap (λ n. viewed n v lives) (ap (λ (w : Walk). w.requests) view) ∙ ap (λ n. viewed walk.requests n lives) (ap (λ (w : Walk). w.bytes) view)
+
 pub live-at : {q v : ℕ} (walk : Walk) (items lives : List Live) (label name : List ℕ) (place : ℕ) → viewed q v items ≡ walk → Some place ≡ position_from (is_of name) 0 lives → name ≡ label → lives ≡ items
     → Split label walk.lives 0 place
 live-at {q} {v} walk items lives label name place view at same are =
@@ -257,18 +265,75 @@ no-live {q} {v} walk items lives label name view at same are =
 
 -- ---- `free`, `key` and `authsize`
 
-pub free-unknown : (walk : Walk) (n : ℕ) (label : List ℕ) (r : List RegEntry) (answer : Answer) → Stands walk r → live_of walk label ≡ None → answer ≡ said.Refused n errno.ENOENT
-    → DoneInRegistry (CommandTurn walk n (command.Free label)) r r (answer ∷ []) walk
-free-unknown walk n label r answer stands none says =
-    refusal-done (CommandTurn walk n (command.Free label)) walk r n errno.ENOENT answer stands (sym (ap (free_turn walk n label) none)) says
+-- the board is asked nothing
+nothing-posted : (turn : Turn) (b : List (BoardEntry Ask)) → turn.board ≡ [] → Posts turn b b
+nothing-posted turn b none = record { goes_on = ([], sym (append-nil b)); board = sym (ap (λ cs. board_calls 0 b ++ cs) none ∙ append-nil (board_calls 0 b)) }
 
-pub free-asked : (walk walk' : Walk) (n : ℕ) (label : List ℕ) (place : ℕ) (r r' : List RegEntry) (s : Split label walk.lives 0 place) → Stands walk r
-    → r' ≡ r ++ entry.Put 0 s.live.id ∷ [] → walk' ≡ without walk label → DoneInRegistry (CommandTurn walk n (command.Free label)) r r' (said.Ok n ∷ []) walk'
-free-asked walk walk' n label place r r' s stands grown leaves =
-    let turn : Turn = asking (Puts s.live.id) (answered (without walk label) (said.Ok n)) in
-    let done = asked walk walk' r r' (entry.Put 0 s.live.id) (Puts s.live.id) turn (said.Ok n ∷ []) stands grown refl refl tt refl refl refl leaves
-    (λ id. let a = uses-removed label walk.lives place id s in let b = ap (λ (w : Walk). uses id w.lives) leaves in omega (arith, a, b)) in
-    (turn, sym (ap (free_turn walk n label) s.found), done.0, done.1, done.2)
+-- the walk without the transform at a place
+pub without-at : {q v : ℕ} {items : List Live} (walk : Walk) (label : List ℕ) (place : ℕ) (s : Split label walk.lives 0 place) → viewed q v items ≡ walk → viewed q v (remove walk.lives place) ≡ without walk label
+without-at {q} {v} walk label place s view =
+    ap (viewed q v) (split-remove label walk.lives place s) ∙ viewed-as walk (removed label walk.lives) view
+
+-- a turn that asks nothing and refuses
+refused-both : (IsTurn : Turn → Type 0) (walk : Walk) (n : ℕ) (e : Errno) (r : List RegEntry) (b : List (BoardEntry Ask)) (answer : Answer) → Stands walk r → Posted walk b → IsTurn (refused walk n e) → answer ≡ said.Refused n e
+    → Done IsTurn r r b b (answer ∷ []) walk
+refused-both IsTurn walk n e r b answer stands posted is says =
+    let done = unasked walk walk r (refused walk n e) (answer ∷ []) stands refl (ap (λ a. a ∷ []) says) refl (λ id. refl) in
+    (refused walk n e, is, done.0, done.1, nothing-posted (refused walk n e) b refl, posted, done.2)
+
+pub free-unknown : (walk : Walk) (n : ℕ) (label : List ℕ) (r : List RegEntry) (b : List (BoardEntry Ask)) (answer : Answer) → Stands walk r → Posted walk b → live_of walk label ≡ None → answer ≡ said.Refused n errno.ENOENT
+    → Done (CommandTurn walk n (command.Free label)) r r b b (answer ∷ []) walk
+free-unknown walk n label r b answer stands posted none says =
+    refused-both (CommandTurn walk n (command.Free label)) walk n errno.ENOENT r b answer stands posted (sym (ap (free_turn walk n label) none)) says
+
+abbrev if_owing : Walk → ℕ → List ℕ → Live → Pipe → Bool → Turn
+if_owing walk n label live pipe owing = if owing then refused walk n errno.EBUSY else posting (Closes pipe.number) (release_turn walk n label live)
+
+close-owing : (walk : Walk) (n : ℕ) (label : List ℕ) (live : Live) (pipe : Option Pipe) → owes pipe ≡ true → close_turn walk n label live pipe ≡ refused walk n errno.EBUSY
+close-owing walk n label live None owing = absurd cc
+close-owing walk n label live (Some pipe) owing = ap (if_owing walk n label live pipe) owing
+
+pub free-owing : (walk : Walk) (n : ℕ) (label : List ℕ) (place : ℕ) (old : Live) (r : List RegEntry) (b : List (BoardEntry Ask)) (answer : Answer) (s : Split label walk.lives 0 place) → Stands walk r → Posted walk b
+    → old ≡ s.live → owes old.pipe ≡ true → answer ≡ said.Refused n errno.EBUSY → Done (CommandTurn walk n (command.Free label)) r r b b (answer ∷ []) walk
+free-owing walk n label place old r b answer s stands posted was owing says =
+    refused-both (CommandTurn walk n (command.Free label)) walk n errno.EBUSY r b answer stands posted
+    (sym (ap (free_turn walk n label) s.found ∙ close-owing walk n label s.live s.live.pipe (ap (λ (l : Live). owes l.pipe) (sym was) ∙ owing))) says
+
+-- the turn of a release, by the pipeline
+record ReleasedAs (turn : Turn) (walk : Walk) (n : ℕ) (label : List ℕ) (live : Live) (pipe : Option Pipe) : Type 0 where
+  asks : turn.registry ≡ Puts live.id ∷ []
+  calls : turn.board ≡ close_calls pipe
+  says : turn.answers ≡ said.Ok n ∷ []
+  leaves : turn.after ≡ without walk label
+
+released-as : (walk : Walk) (n : ℕ) (label : List ℕ) (live : Live) (pipe : Option Pipe) → owes pipe ≡ false → ReleasedAs (close_turn walk n label live pipe) walk n label live pipe
+released-as walk n label live None paid = record { asks = refl; calls = refl; says = refl; leaves = refl }
+released-as walk n label live (Some pipe) paid =
+    let is : close_turn walk n label live (Some pipe) ≡ posting (Closes pipe.number) (release_turn walk n label live) = ap (if_owing walk n label live pipe) paid in
+    record {
+      asks = ap (λ (t : Turn). t.registry) is;
+      calls = ap (λ (t : Turn). t.board) is;
+      says = ap (λ (t : Turn). t.answers) is;
+      leaves = ap (λ (t : Turn). t.after) is;
+    }
+
+pub free-asked : (walk walk' : Walk) (n : ℕ) (label : List ℕ) (place : ℕ) (r r' : List RegEntry) (b b' : List (BoardEntry Ask)) (s : Split label walk.lives 0 place) → Stands walk r → Posted walk b
+    → owes s.live.pipe ≡ false → Closed s.live.pipe b b' → LegalBoard b'
+    → r' ≡ r ++ entry.Put 0 s.live.id ∷ [] → walk' ≡ without walk label → Done (CommandTurn walk n (command.Free label)) r r' b b' (said.Ok n ∷ []) walk'
+free-asked walk walk' n label place r r' b b' s stands posted paid closed legal grown leaves =
+    let turn : Turn = close_turn walk n label s.live s.live.pipe in
+    let released = released-as walk n label s.live s.live.pipe paid in
+    let done = asked walk walk' r r' (entry.Put 0 s.live.id) (Puts s.live.id) turn (said.Ok n ∷ []) stands grown refl refl tt refl released.asks (sym released.says) (leaves ∙ sym released.leaves)
+    (λ id. let a = uses-removed label walk.lives place id s in let u = ap (λ (w : Walk). uses id w.lives) leaves in omega (arith, a, u)) in
+    (
+      turn,
+      sym (ap (free_turn walk n label) s.found),
+      done.0,
+      done.1,
+      record { goes_on = closed-extends s.live.pipe b b' closed; board = closed-calls s.live.pipe b b' closed ∙ ap (λ cs. board_calls 0 b ++ cs) (sym released.calls) },
+      subst (λ w. Posted w b') (sym leaves) (closed-posted walk label place s b b' posted legal closed),
+      done.2,
+    )
 
 -- the answers of what changes a transform and asks nothing
 pub changed-done : (IsTurn : Turn → Type 0) (walk walk' : Walk) (r : List RegEntry) (turn : Turn) (answer : Answer) → Stands walk r → IsTurn turn → answered walk' answer ≡ turn
@@ -289,15 +354,15 @@ written : {q v : ℕ} (walk : Walk) (label : List ℕ) (place : ℕ) (items live
 written {q} {v} walk label place items lives new s view are =
     are ∙ (ap (λ (w : Walk). set w.lives place new) view ∙ split-set label walk.lives place new s)
 
-changed-walk : {q v : ℕ} (walk : Walk) (label : List ℕ) (place : ℕ) (items lives : List Live) (new : Live) (s : Split label walk.lives 0 place) → viewed q v items ≡ walk → lives ≡ set items place new → new.label ≡ s.live.label
+pub changed-walk : {q v : ℕ} (walk : Walk) (label : List ℕ) (place : ℕ) (items lives : List Live) (new : Live) (s : Split label walk.lives 0 place) → viewed q v items ≡ walk → lives ≡ set items place new → new.label ≡ s.live.label
     → viewed q v lives ≡ with_live walk new
 changed-walk {q} {v} walk label place items lives new s view are same =
-    ap (viewed q v) (written walk label place items lives new s view are ∙ sym (s.replaces new (same ∙ (bytes_eq-Decides s.live.label label).0 s.is_live)))
+    ap (viewed q v) (written walk label place items lives new s view are ∙ sym (s.replaces new (same ∙ (bytes_eq-Decides s.live.label label).0 s.is_live))) ∙ viewed-as walk (replaced new walk.lives) view
 
-kept-walk : {q v : ℕ} (walk : Walk) (label : List ℕ) (place : ℕ) (items lives : List Live) (new : Live) (s : Split label walk.lives 0 place) → viewed q v items ≡ walk → lives ≡ set items place new → new ≡ s.live
+pub kept-walk : {q v : ℕ} (walk : Walk) (label : List ℕ) (place : ℕ) (items lives : List Live) (new : Live) (s : Split label walk.lives 0 place) → viewed q v items ≡ walk → lives ≡ set items place new → new ≡ s.live
     → viewed q v lives ≡ walk
 kept-walk {q} {v} walk label place items lives new s view are same =
-    ap (viewed q v) (written walk label place items lives new s view are ∙ (ap (λ (l : Live). s.before ++ l ∷ s.later) same ∙ sym s.lives_is))
+    ap (viewed q v) (written walk label place items lives new s view are ∙ (ap (λ (l : Live). s.before ++ l ∷ s.later) same ∙ sym s.lives_is)) ∙ viewed-as walk walk.lives view
 
 abbrev pub if_sized : Walk → ℕ → ℕ → Live → Bool → Turn
 if_sized walk n size live taken = if taken then answered (with_live walk (sized live size)) (said.Ok n) else refused walk n errno.EINVAL
@@ -345,29 +410,69 @@ key-kept {q} {v} walk n name key label place items lives old new answer s view a
 -- ---- `alloc`
 
 pub grown-walk : {q v : ℕ} (walk : Walk) (items more : List Live) (new : Live) → viewed q v items ≡ walk → more ≡ items ++ new ∷ [] → viewed q v more ≡ and_live walk new
-grown-walk {q} {v} walk items more new view are = ap (viewed q v) (are ∙ ap (λ (w : Walk). w.lives ++ new ∷ []) view)
+grown-walk {q} {v} walk items more new view are = ap (viewed q v) (are ∙ ap (λ (w : Walk). w.lives ++ new ∷ []) view) ∙ viewed-as walk (walk.lives ++ new ∷ []) view
 
-abbrev pub Binds : Walk → ℕ → List ℕ → Option ℕ → ℕ → List RegEntry → List RegEntry → List Answer → Walk → Type 0
-Binds walk n label len id r r' answers after =
-    (spec : Spec) × (ok : Bool) × (slice_get (registered r) id ≡ Some spec) × DoneInRegistry (λ (turn : Turn). turn ≡ entry_turn walk n label len (Entry id spec) ok) r r' answers after
+abbrev pub Binds : Walk → ℕ → List ℕ → Option ℕ → ℕ → List RegEntry → List RegEntry → List (BoardEntry Ask) → List (BoardEntry Ask) → List Answer → Walk → Type 0
+Binds walk n label len id r r' b b' answers after =
+    (spec : Spec) × (ok : Bool) × (pipe : ℕ) × (slice_get (registered r) id ≡ Some spec) × Done (λ (turn : Turn). turn ≡ entry_turn walk n label len (Entry id spec) ok pipe) r r' b b' answers after
+
+-- the turn in which a pipeline of the shape is made, if there is one
+record MadeAs (turn : Turn) (walk : Walk) (n : ℕ) (label : List ℕ) (id : ℕ) (spec : Spec) (plan : Plan) (shape : Option Shape) (number : ℕ) (pipe : Option Pipe) : Type 0 where
+  asks_none : turn.registry ≡ []
+  calls : turn.board ≡ bear_calls shape number
+  says : turn.answers ≡ said.Made n spec.driver ∷ []
+  leaves : turn.after ≡ and_live walk (new_live label id plan pipe)
+
+made-as : (walk : Walk) (n : ℕ) (label : List ℕ) (id : ℕ) (spec : Spec) (plan : Plan) (shape : Option Shape) (pipe : Option Pipe) (b b' : List (BoardEntry Ask)) → Bore shape pipe b b'
+    → MadeAs (made_turn walk n label id spec plan (pipelines b) shape) walk n label id spec plan shape (pipelines b) pipe
+made-as walk n label id spec plan None pipe b b' bore =
+    record { asks_none = refl; calls = refl; says = refl; leaves = ap (λ p. and_live walk (new_live label id plan p)) (sym bore.0) }
+made-as walk n label id spec plan (Some shape) pipe b b' bore =
+    record { asks_none = refl; calls = refl; says = refl; leaves = ap (λ p. and_live walk (new_live label id plan p)) (sym bore.0) }
 
 -- a reference taken, or not
-pub bind-got : (walk after : Walk) (n : ℕ) (label : List ℕ) (len : Option ℕ) (id : ℕ) (spec : Spec) (plan : Plan) (listed : Bool) (r r' : List RegEntry) (answer : Answer)
-    → Stands walk r → Some spec ≡ slice_get (registered r) id → Some plan ≡ plan_for spec len → r' ≡ r ++ entry.Get 0 id listed ∷ [] → listed ≡ true
-    → after ≡ and_live walk (new_live label id plan) → answer ≡ said.Made n spec.driver → Binds walk n label len id r r' (answer ∷ []) after
-bind-got walk after n label len id spec plan listed r r' answer stands at planned grown held leaves says =
-    let turn : Turn = asking (Gets id true) (got_turn walk n label id spec plan true) in
-    let done = asked walk after r r' (entry.Get 0 id true) (Gets id true) turn (answer ∷ []) stands (grown ∙ ap (λ b. r ++ entry.Get 0 id b ∷ []) held) refl refl tt refl refl (ap (λ a. a ∷ []) says) leaves
-    (λ k. let a = uses-append k walk.lives (new_live label id plan) in let b = ap (λ (w : Walk). uses k w.lives) leaves in omega (arith, a, b)) in
-    (spec, true, sym at, (turn, ap (λ p. planned_turn walk n label id spec p true) planned, done.0, done.1, done.2))
+pub bind-got : (walk after : Walk) (n : ℕ) (label : List ℕ) (len : Option ℕ) (id : ℕ) (spec : Spec) (plan : Plan) (pipe : Option Pipe) (listed : Bool) (r r' : List RegEntry) (b b' : List (BoardEntry Ask)) (answer : Answer)
+    → Stands walk r → Posted walk b → Some spec ≡ slice_get (registered r) id → Some plan ≡ plan_for spec len → r' ≡ r ++ entry.Get 0 id listed ∷ [] → listed ≡ true
+    → Bore (shape_for spec.wrap len) pipe b b' → LegalBoard b'
+    → after ≡ and_live walk (new_live label id plan pipe) → answer ≡ said.Made n spec.driver → Binds walk n label len id r r' b b' (answer ∷ []) after
+bind-got walk after n label len id spec plan pipe listed r r' b b' answer stands posted at planned grown held bore legal leaves says =
+    let shape = shape_for spec.wrap len in
+    let made = made-as walk n label id spec plan shape pipe b b' bore in
+    let turn : Turn = asking (Gets id true) (got_turn walk n label len id spec plan (pipelines b) true) in
+    let done = asked walk after r r' (entry.Get 0 id true) (Gets id true) turn (answer ∷ []) stands (grown ∙ ap (λ t. r ++ entry.Get 0 id t ∷ []) held) refl refl tt refl
+    (ap (λ cs. Gets id true ∷ cs) made.asks_none) (ap (λ a. a ∷ []) says ∙ sym made.says) (leaves ∙ sym made.leaves)
+    (λ k. let a = uses-append k walk.lives (new_live label id plan pipe) in let u = ap (λ (w : Walk). uses k w.lives) leaves in omega (arith, a, u)) in
+    (
+      spec,
+      true,
+      pipelines b,
+      sym at,
+      (
+        turn,
+        ap (λ p. planned_turn walk n label len id spec p true (pipelines b)) planned,
+        done.0,
+        done.1,
+        record { goes_on = bore-extends shape pipe b b' bore; board = bore-calls shape pipe b b' bore ∙ ap (λ cs. board_calls 0 b ++ cs) (sym made.calls) },
+        subst (λ w. Posted w b') (sym leaves) (bore-posted walk label id plan shape pipe b b' posted legal bore),
+        done.2,
+      ),
+    )
 
-pub bind-lost : (walk : Walk) (n : ℕ) (label : List ℕ) (len : Option ℕ) (id : ℕ) (spec : Spec) (plan : Plan) (listed : Bool) (r r' : List RegEntry) (answer : Answer)
-    → Stands walk r → Some spec ≡ slice_get (registered r) id → Some plan ≡ plan_for spec len → r' ≡ r ++ entry.Get 0 id listed ∷ [] → listed ≡ false
-    → answer ≡ said.Refused n errno.EAGAIN → Binds walk n label len id r r' (answer ∷ []) walk
-bind-lost walk n label len id spec plan listed r r' answer stands at planned grown lost says =
-    let turn : Turn = asking (Gets id false) (got_turn walk n label id spec plan false) in
-    let done = asked walk walk r r' (entry.Get 0 id false) (Gets id false) turn (answer ∷ []) stands (grown ∙ ap (λ b. r ++ entry.Get 0 id b ∷ []) lost) refl refl tt refl refl (ap (λ a. a ∷ []) says) refl (λ k. refl) in
-    (spec, false, sym at, (turn, ap (λ p. planned_turn walk n label id spec p false) planned, done.0, done.1, done.2))
+pub bind-lost : (walk : Walk) (n : ℕ) (label : List ℕ) (len : Option ℕ) (id : ℕ) (spec : Spec) (plan : Plan) (listed : Bool) (r r' : List RegEntry) (b : List (BoardEntry Ask)) (answer : Answer)
+    → Stands walk r → Posted walk b → Some spec ≡ slice_get (registered r) id → Some plan ≡ plan_for spec len → r' ≡ r ++ entry.Get 0 id listed ∷ [] → listed ≡ false
+    → answer ≡ said.Refused n errno.EAGAIN → Binds walk n label len id r r' b b (answer ∷ []) walk
+bind-lost walk n label len id spec plan listed r r' b answer stands posted at planned grown lost says =
+    let turn : Turn = asking (Gets id false) (got_turn walk n label len id spec plan 0 false) in
+    let done = asked walk walk r r' (entry.Get 0 id false) (Gets id false) turn (answer ∷ []) stands (grown ∙ ap (λ t. r ++ entry.Get 0 id t ∷ []) lost) refl refl tt refl refl (ap (λ a. a ∷ []) says) refl (λ k. refl) in
+    (spec, false, 0, sym at, (turn, ap (λ p. planned_turn walk n label len id spec p false 0) planned, done.0, done.1, nothing-posted turn b refl, posted, done.2))
+
+-- what was found computes nothing by itself
+pub bind-planless : (walk : Walk) (n : ℕ) (label : List ℕ) (len : Option ℕ) (id : ℕ) (spec : Spec) (r : List RegEntry) (b : List (BoardEntry Ask)) (answer : Answer)
+    → Stands walk r → Posted walk b → Some spec ≡ slice_get (registered r) id → None ≡ plan_for spec len → answer ≡ said.Refused n errno.EINVAL → Binds walk n label len id r r b b (answer ∷ []) walk
+bind-planless walk n label len id spec r b answer stands posted at planless says =
+    let turn : Turn = refused walk n errno.EINVAL in
+    let done = unasked walk walk r turn (answer ∷ []) stands refl (ap (λ a. a ∷ []) says) refl (λ k. refl) in
+    (spec, true, 0, sym at, (turn, ap (λ p. planned_turn walk n label len id spec p true 0) planless, done.0, done.1, nothing-posted turn b refl, posted, done.2))
 
 pub get-ok : (listed : Bool) → Ok tt ≡ get_result listed → listed ≡ true
 get-ok true e = refl
@@ -377,31 +482,41 @@ pub get-refused : (n : ℕ) (listed : Bool) (error : RegErr) (e : Errno) → err
 get-refused n true error e is q = absurd cc
 get-refused n false error e is q = (refl, by-error n Again error e (cc) is)
 
-pub request-at : (walk : Walk) (n : ℕ) (label : List ℕ) (place : ℕ) (old : Live) (given request : Request) (answer : Answer) (s : Split label walk.lives 0 place) → old ≡ s.live → given ≡ request
-    → answer ≡ keyed_said n old given old.key → answer ≡ request_said n request (live_of walk label)
-request-at walk n label place old given request answer s was same says =
-    says ∙ (ap (λ (l : Live). keyed_said n l given l.key) was ∙ (ap (λ (q : Request). keyed_said n s.live q s.live.key) same ∙ sym (ap (request_said n request) s.found)))
-
 -- a name looked up, and then its entry taken into use, or its fault answered
-abbrev pub Finds : Walk → ℕ → List ℕ → List ℕ → Option ℕ → List RegEntry → List RegEntry → List Answer → Walk → Type 0
-Finds walk n label name len r r' answers after =
-    (found : Found) × (ok : Bool) × DoneInRegistry (λ (turn : Turn). turn ≡ looked_turn walk n label name len found ok) r r' answers after
+abbrev pub Finds : Walk → ℕ → List ℕ → List ℕ → Option ℕ → List RegEntry → List RegEntry → List (BoardEntry Ask) → List (BoardEntry Ask) → List Answer → Walk → Type 0
+Finds walk n label name len r r' b b' answers after =
+    (found : Found) × (ok : Bool) × (pipe : ℕ) × Done (λ (turn : Turn). turn ≡ looked_turn walk n label name len found ok pipe) r r' b b' answers after
 
-pub find-bound : (walk after : Walk) (n : ℕ) (label name : List ℕ) (len : Option ℕ) (id : ℕ) (spec : Spec) (r r1 r2 : List RegEntry) (answers : List Answer)
-    → Stands walk r → LooksFor r r1 0 name false (Entry id spec) → slice_get (registered r1) id ≡ Some spec → Binds walk n label len id r1 r2 answers after
-    → Finds walk n label name len r r2 answers after
-find-bound walk after n label name len id spec r r1 r2 answers stands look at binds =
-    let same : binds.0 ≡ spec = some-is binds.0 spec (sym binds.2 ∙ at) in
-    let turn : Turn = binds.3.0 in
-    let is : turn ≡ entry_turn walk n label len (Entry id spec) binds.1 = binds.3.1 ∙ ap (λ (s : Spec). entry_turn walk n label len (Entry id s) binds.1) same in
-    (Entry id spec, binds.1, (asking (Looks name (Some (Entry id spec))) turn, ap (asking (Looks name (Some (Entry id spec)))) is, after-look r r1 r2 name (Entry id spec) turn after stands.settled look binds.3.2, binds.3.3, binds.3.4))
+pub find-bound : (walk after : Walk) (n : ℕ) (label name : List ℕ) (len : Option ℕ) (id : ℕ) (spec : Spec) (r r1 r2 : List RegEntry) (b b' : List (BoardEntry Ask)) (answers : List Answer)
+    → Stands walk r → LooksFor r r1 0 name false (Entry id spec) → slice_get (registered r1) id ≡ Some spec → Binds walk n label len id r1 r2 b b' answers after
+    → Finds walk n label name len r r2 b b' answers after
+find-bound walk after n label name len id spec r r1 r2 b b' answers stands look at binds =
+    let same : binds.0 ≡ spec = some-is binds.0 spec (sym binds.3 ∙ at) in
+    let done = binds.4 in
+    let turn : Turn = done.0 in
+    let is : turn ≡ entry_turn walk n label len (Entry id spec) binds.1 binds.2 = done.1 ∙ ap (λ (s : Spec). entry_turn walk n label len (Entry id s) binds.1 binds.2) same in
+    (
+      Entry id spec,
+      binds.1,
+      binds.2,
+      (
+        asking (Looks name (Some (Entry id spec))) turn,
+        ap (asking (Looks name (Some (Entry id spec)))) is,
+        after-look r r1 r2 name (Entry id spec) turn after stands.settled look done.2,
+        done.3,
+        record { goes_on = done.4.goes_on; board = done.4.board },
+        done.5,
+        done.6,
+      ),
+    )
 
-pub find-fault : (walk : Walk) (n : ℕ) (label name : List ℕ) (len : Option ℕ) (e : Errno) (r r1 : List RegEntry) (answer : Answer)
-    → Stands walk r → LooksFor r r1 0 name false (Fault e) → Made table r1 → NonePending r1 → answer ≡ said.Refused n e → Finds walk n label name len r r1 (answer ∷ []) walk
-find-fault walk n label name len e r r1 answer stands look made none says =
+pub find-fault : (walk : Walk) (n : ℕ) (label name : List ℕ) (len : Option ℕ) (e : Errno) (r r1 : List RegEntry) (b : List (BoardEntry Ask)) (answer : Answer)
+    → Stands walk r → Posted walk b → LooksFor r r1 0 name false (Fault e) → Made table r1 → NonePending r1 → answer ≡ said.Refused n e → Finds walk n label name len r r1 b b (answer ∷ []) walk
+find-fault walk n label name len e r r1 b answer stands posted look made none says =
     let standing = look-stands walk r r1 name (Fault e) stands look made none in
     let done = unasked walk walk r1 (refused walk n e) (answer ∷ []) standing refl (ap (λ a. a ∷ []) says) refl (λ id. refl) in
-    (Fault e, true, (asking (Looks name (Some (Fault e))) (refused walk n e), refl, after-look r r1 r1 name (Fault e) (refused walk n e) walk stands.settled look done.0, done.1, done.2))
+    let turn : Turn = asking (Looks name (Some (Fault e))) (refused walk n e) in
+    (Fault e, true, 0, (turn, refl, after-look r r1 r1 name (Fault e) (refused walk n e) walk stands.settled look done.0, done.1, nothing-posted turn b refl, posted, done.2))
 
 -- the entry that a look came to is one that came to be
 entry-is : (k id : ℕ) (o : Option Spec) (spec : Spec) → entry_found k o ≡ Some (Entry id spec) → (k ≡ id) × (o ≡ Some spec)
@@ -425,54 +540,47 @@ pub live-there : {q v : ℕ} (walk : Walk) (items lives : List Live) (label name
 live-there {q} {v} walk items lives label name (Some place) view at same are = ap is_some (live-at walk items lives label name place view at same are).found
 live-there {q} {v} walk items lives label name None view at same are = ap is_some (no-live walk items lives label name view at same are)
 
-abbrev pub if_live : Walk → ℕ → List ℕ → List ℕ → Option ℕ → Found → Bool → Bool → Bool → Turn
-if_live walk n label name len found ok there full =
-    if there then refused walk n errno.EEXIST else if full then refused walk n errno.EMFILE else named_turn walk n label name len found ok (name_read name)
+abbrev pub if_live : Walk → ℕ → List ℕ → List ℕ → Option ℕ → Found → Bool → ℕ → Bool → Bool → Turn
+if_live walk n label name len found ok pipe there full =
+    if there then refused walk n errno.EEXIST else if full then refused walk n errno.EMFILE else named_turn walk n label name len found ok pipe (name_read name)
 
-pub alloc-refused : (walk : Walk) (n : ℕ) (label name : List ℕ) (len : Option ℕ) (e : Errno) (r : List RegEntry) (answer : Answer) → Stands walk r
-    → alloc_turn walk n label name len (Fault errno.ENOENT) true ≡ refused walk n e → answer ≡ said.Refused n e
-    → DoneInRegistry (CommandTurn walk n (command.Alloc label name len)) r r (answer ∷ []) walk
-alloc-refused walk n label name len e r answer stands is says =
-    refusal-done (CommandTurn walk n (command.Alloc label name len)) walk r n e answer stands (Fault errno.ENOENT, true, sym is) says
+pub alloc-refused : (walk : Walk) (n : ℕ) (label name : List ℕ) (len : Option ℕ) (e : Errno) (r : List RegEntry) (b : List (BoardEntry Ask)) (answer : Answer) → Stands walk r → Posted walk b
+    → alloc_turn walk n label name len (Fault errno.ENOENT) true 0 ≡ refused walk n e → answer ≡ said.Refused n e
+    → Done (CommandTurn walk n (command.Alloc label name len)) r r b b (answer ∷ []) walk
+alloc-refused walk n label name len e r b answer stands posted is says =
+    let done = unasked walk walk r (refused walk n e) (answer ∷ []) stands refl (ap (λ a. a ∷ []) says) refl (λ id. refl) in
+    (refused walk n e, (Fault errno.ENOENT, true, 0, sym is), done.0, done.1, nothing-posted (refused walk n e) b refl, posted, done.2)
 
-pub alloc-live : (walk : Walk) (n : ℕ) (label name : List ℕ) (len : Option ℕ) (found : Found) (ok : Bool) → is_some (live_of walk label) ≡ true → alloc_turn walk n label name len found ok ≡ refused walk n errno.EEXIST
-alloc-live walk n label name len found ok there = ap (λ b. if_live walk n label name len found ok b (nat_le 4096 (length walk.lives))) there
+pub alloc-live : (walk : Walk) (n : ℕ) (label name : List ℕ) (len : Option ℕ) (found : Found) (ok : Bool) (pipe : ℕ) → is_some (live_of walk label) ≡ true → alloc_turn walk n label name len found ok pipe ≡ refused walk n errno.EEXIST
+alloc-live walk n label name len found ok pipe there = ap (λ t. if_live walk n label name len found ok pipe t (nat_le 4096 (length walk.lives))) there
 
-pub alloc-full : (walk : Walk) (n : ℕ) (label name : List ℕ) (len : Option ℕ) (found : Found) (ok : Bool) → is_some (live_of walk label) ≡ false → 4096 ≤ length walk.lives
-    → alloc_turn walk n label name len found ok ≡ refused walk n errno.EMFILE
-alloc-full walk n label name len found ok new full =
+pub alloc-full : (walk : Walk) (n : ℕ) (label name : List ℕ) (len : Option ℕ) (found : Found) (ok : Bool) (pipe : ℕ) → is_some (live_of walk label) ≡ false → 4096 ≤ length walk.lives
+    → alloc_turn walk n label name len found ok pipe ≡ refused walk n errno.EMFILE
+alloc-full walk n label name len found ok pipe new full =
     let test : nat_le 4096 (length walk.lives) ≡ true = grind (arith, nat_tests) in
-    ap (λ b. if_live walk n label name len found ok b (nat_le 4096 (length walk.lives))) new ∙ ap (if_live walk n label name len found ok false) test
+    ap (λ t. if_live walk n label name len found ok pipe t (nat_le 4096 (length walk.lives))) new ∙ ap (if_live walk n label name len found ok pipe false) test
 
-pub alloc-named : (walk : Walk) (n : ℕ) (label name : List ℕ) (len : Option ℕ) (found : Found) (ok : Bool) (read : Result Tree Errno) → is_some (live_of walk label) ≡ false → length walk.lives < 4096 → name_read name ≡ read
-    → alloc_turn walk n label name len found ok ≡ named_turn walk n label name len found ok read
-alloc-named walk n label name len found ok read new few is =
+pub alloc-named : (walk : Walk) (n : ℕ) (label name : List ℕ) (len : Option ℕ) (found : Found) (ok : Bool) (pipe : ℕ) (read : Result Tree Errno) → is_some (live_of walk label) ≡ false → length walk.lives < 4096 → name_read name ≡ read
+    → alloc_turn walk n label name len found ok pipe ≡ named_turn walk n label name len found ok pipe read
+alloc-named walk n label name len found ok pipe read new few is =
     let test : nat_le 4096 (length walk.lives) ≡ false = grind (arith, nat_tests) in
-    ap (λ b. if_live walk n label name len found ok b (nat_le 4096 (length walk.lives))) new ∙ (ap (if_live walk n label name len found ok false) test ∙ ap (named_turn walk n label name len found ok) is)
+    ap (λ t. if_live walk n label name len found ok pipe t (nat_le 4096 (length walk.lives))) new ∙ (ap (if_live walk n label name len found ok pipe false) test ∙ ap (named_turn walk n label name len found ok pipe) is)
 
-abbrev pub if_fits : Walk → ℕ → List ℕ → List ℕ → Option ℕ → Found → Bool → Bool → Bool → Turn
-if_fits walk n label name len found ok fits wrapped =
-    if fits then (if wrapped then refused walk n errno.ENOENT else looked_turn walk n label name len found ok) else refused walk n errno.EINVAL
+abbrev pub if_fits : Walk → ℕ → List ℕ → List ℕ → Option ℕ → Found → Bool → ℕ → Bool → Turn
+if_fits walk n label name len found ok pipe fits =
+    if fits then looked_turn walk n label name len found ok pipe else refused walk n errno.EINVAL
 
-pub named-unfit : (walk : Walk) (n : ℕ) (label name : List ℕ) (len : Option ℕ) (found : Found) (ok : Bool) (tree : Tree) → is_queue_length len ≡ false → named_turn walk n label name len found ok (Ok tree) ≡ refused walk n errno.EINVAL
-named-unfit walk n label name len found ok tree unfit = ap (λ b. if_fits walk n label name len found ok b (is_wrapper_word (word_of tree))) unfit
+pub named-unfit : (walk : Walk) (n : ℕ) (label name : List ℕ) (len : Option ℕ) (found : Found) (ok : Bool) (pipe : ℕ) (tree : Tree) → is_queue_length len ≡ false → named_turn walk n label name len found ok pipe (Ok tree) ≡ refused walk n errno.EINVAL
+named-unfit walk n label name len found ok pipe tree unfit = ap (if_fits walk n label name len found ok pipe) unfit
 
-pub named-wrapped : (walk : Walk) (n : ℕ) (label name : List ℕ) (len : Option ℕ) (found : Found) (ok : Bool) (tree : Tree) → is_queue_length len ≡ true → is_wrapper_word (word_of tree) ≡ true
-    → named_turn walk n label name len found ok (Ok tree) ≡ refused walk n errno.ENOENT
-named-wrapped walk n label name len found ok tree fits wrapped =
-    ap (λ b. if_fits walk n label name len found ok b (is_wrapper_word (word_of tree))) fits ∙ ap (if_fits walk n label name len found ok true) wrapped
-
-pub named-looked : (walk : Walk) (n : ℕ) (label name : List ℕ) (len : Option ℕ) (found : Found) (ok : Bool) (tree : Tree) → is_queue_length len ≡ true → is_wrapper_word (word_of tree) ≡ false
-    → named_turn walk n label name len found ok (Ok tree) ≡ looked_turn walk n label name len found ok
-named-looked walk n label name len found ok tree fits plain =
-    ap (λ b. if_fits walk n label name len found ok b (is_wrapper_word (word_of tree))) fits ∙ ap (if_fits walk n label name len found ok true) plain
-
-pub alloc-found : (walk after : Walk) (n : ℕ) (label name text : List ℕ) (len : Option ℕ) (tree : Tree) (r r' : List RegEntry) (answers : List Answer)
-    → is_some (live_of walk label) ≡ false → length walk.lives < 4096 → name_read name ≡ Ok tree → is_queue_length len ≡ true → is_wrapper_word (word_of tree) ≡ false → text ≡ name
-    → Finds walk n label text len r r' answers after → DoneInRegistry (CommandTurn walk n (command.Alloc label name len)) r r' answers after
-alloc-found walk after n label name text len tree r r' answers new few read fits plain same finds =
+pub alloc-found : (walk after : Walk) (n : ℕ) (label name text : List ℕ) (len : Option ℕ) (tree : Tree) (r r' : List RegEntry) (b b' : List (BoardEntry Ask)) (answers : List Answer)
+    → is_some (live_of walk label) ≡ false → length walk.lives < 4096 → name_read name ≡ Ok tree → is_queue_length len ≡ true → text ≡ name
+    → Finds walk n label text len r r' b b' answers after → Done (CommandTurn walk n (command.Alloc label name len)) r r' b b' answers after
+alloc-found walk after n label name text len tree r r' b b' answers new few read fits same finds =
     let found = finds.0 in
     let ok = finds.1 in
-    let is : finds.2.0 ≡ alloc_turn walk n label name len found ok =
-    finds.2.1 ∙ (ap (λ t. looked_turn walk n label t len found ok) same ∙ sym (alloc-named walk n label name len found ok (Ok tree) new few read ∙ named-looked walk n label name len found ok tree fits plain)) in
-    (finds.2.0, (found, ok, is), finds.2.2, finds.2.3, finds.2.4)
+    let pipe = finds.2 in
+    let done = finds.3 in
+    let is : done.0 ≡ alloc_turn walk n label name len found ok pipe =
+    done.1 ∙ (ap (λ t. looked_turn walk n label t len found ok pipe) same ∙ sym (alloc-named walk n label name len found ok pipe (Ok tree) new few read ∙ ap (if_fits walk n label name len found ok pipe) fits)) in
+    (done.0, (found, ok, pipe, is), done.2, done.3, done.4, done.5, done.6)

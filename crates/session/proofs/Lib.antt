@@ -4,3 +4,7 @@ pub mod Placed
 pub mod Owing
 pub mod Arms
 pub mod Single
+pub mod Posting
+pub mod Boarding
+pub mod Piped
+pub mod Commanding

@@ -1,6 +1,6 @@
 //! One script over a registry and a board.
 
-ghost use Rattle.std.specs.Prelude.{IsOk, ◌≡◌, ◌++◌, ◌∷◌, [], ◌<◌, ◌^◌, ℕ, Bool, true, length, Some, IfOk, OnOk, OnErr, MatchResult, slice_get};
+ghost use Rattle.std.specs.Prelude.{IsTrue, ◌≡◌, ◌+◌, ◌≤◌, if◌then◌else◌, ◌++◌, ◌∷◌, [], ◌<◌, ◌^◌, ℕ, Bool, true, length, Some, IfOk, OnOk, OnErr, MatchResult, slice_get};
 ghost use Rattle.std.specs.List.{flat_map};
 ghost use Rattle.alg_names.specs.Name.{spelling};
 ghost use Rattle.alg_registry.specs.declared.spec.Spec.{Spec as Algorithm};
@@ -220,7 +220,9 @@ impl Session {
         self.lives.reserve(1)?;
         match registry.take_ref(SCRIPT, id) {
             Ok(()) => {
-                let pipe = born(self.alloc, board, spec.wrap, length)?;
+                let Ok(pipe) = born(self.alloc, board, spec.wrap, length) else {
+                    return Err(Stop::Memory);
+                };
                 self.lives.push(Transform::new(label, id, plan, pipe))?;
                 Ok(Answer::Made {
                     line: number,
@@ -341,6 +343,17 @@ impl Session {
         }
     }
 
+    // Counts a request of so many bytes, where a pipeline accepted it.
+    fn count(&mut self, accepted: bool, size: u64)
+        requires { IsTrue accepted → (self.old.requests < 2 ^ 20) × (self.old.bytes + size ≤ 2 ^ 26) }
+        ensures { self.new ≡ (if accepted then record self.old { requests = self.old.requests + 1; bytes = self.old.bytes + size } else self.old) }
+    {
+        if accepted {
+            self.requests += 1;
+            self.bytes += size;
+        }
+    }
+
     // `enc T IV AAD TEXT [backlog]`, `dec T IV AAD TEXT [backlog]` and `mac T TEXT [backlog]`
     fn request(
         &mut self,
@@ -360,19 +373,15 @@ impl Session {
         let Some(place) = place_of(&self.lives, label.as_slice()) else {
             return Ok(refuse(number, Errno::ENOENT));
         };
-        let live = &mut self.lives[place];
-        let job = match live.job(self.alloc, number, request) {
+        let job = match self.lives[place].job(self.alloc, number, request) {
             Ok(job) => job,
             Err(JobErr::NoKey) => return Ok(refuse(number, Errno::ENOKEY)),
             Err(JobErr::Inval) => return Ok(refuse(number, Errno::EINVAL)),
             Err(JobErr::Memory) => return Err(Stop::Memory),
         };
         let size = job.size();
-        let taken = take_job(board, number, live, job, backlog)?;
-        if taken.accepted {
-            self.requests += 1;
-            self.bytes += size;
-        }
+        let taken = take_job(board, number, &mut self.lives[place], job, backlog)?;
+        self.count(taken.accepted, size);
         Ok(taken.answer)
     }
 
