@@ -4,31 +4,37 @@ use Rattle.std.specs.Prelude.{◌==◌, if◌then◌else◌}
 use Rattle.std.specs.List.{filter_map, flat_map, cons_option}
 use Rattle.std.proofs.lemmas.Bool.{eqb-true, eq-eqb}
 use Rattle.std.proofs.lemmas.List.{map-append}
+use Rattle.std.proofs.lemmas.Grind.{flat_map-append}
 use Rattle.std.proofs.lemmas.List.Elements.{filter_map-append, All-nil, All-cons, All-head, All-tail, All-append}
 use Rattle.board.specs.declared.entry.BoardEntry.{BoardEntry}
 use Rattle.board.specs.declared.entry.BoardEntry.TheVariants as event
 use Rattle.board.specs.declared.entry.Shape.{Shape}
 use Rattle.board.specs.declared.entry.Shape.TheVariants.{Pad, Queue}
-use Rattle.board.specs.Entries.{is_of, entries_of, birth, pad_born, queue_born, held_in, is_held, last_or, is_close}
+use Rattle.board.specs.Entries.{is_of, entries_of, submissions, front, told, delivered, birth, pad_born, queue_born, held_in, is_held, last_or, is_close}
 use Rattle.board.specs.Legal.{IsRightFor, IsOpenQueue, MayManage, LegalBoard, is_shut}
 use Rattle.board.specs.Order.{AreRightForAfter}
 use Rattle.board.proofs.PadOrder.{birth_stays}
 use Rattle.board.proofs.QueueOrder.{queue_is_born}
 use Rattle.board.proofs.Transfer.{each_right}
-use Rattle.board.proofs.Handing.{leaves_others}
+use Rattle.board.proofs.Handing.{hands_nothing, leaves_others}
 use Rattle.board.proofs.Kept.{shut-same}
-use Rattle.board.proofs.Staying.{stays_open, queue_stays_open, stays_managed}
-use Rattle.pcrypt.specs.Working.{NoneRuns, IsServed}
+use Rattle.board.proofs.Staying.{stays_open, queue_stays_open, stays_managed, stays_submitting, work_leaves}
+use Rattle.pcrypt.specs.Working.{NoneRuns, IsServed, WorksFrom, WorkKeeps, Drains}
 use Rattle.pcrypt.proofs.Done.{stays_idle}
-use Rattle.pcrypt.proofs.Keeping.{holds, stays_held}
+use Rattle.pcrypt.proofs.Keeping.{holds, stays_held, work_keeps, served_on, work_shuts_nothing}
+use Rattle.kc_base.specs.declared.callback_list.Callback.{Callback}
+use Rattle.reply_text.specs.declared.answers.Answer.{Answer}
 use Rattle.transforms.specs.declared.ask.Ask.{Ask}
+use Rattle.transforms.specs.declared.request.Finished.{Finished}
+use Rattle.session.specs.BoardHistories.{BoardCall, Collects, Goes, Shuts, board_calls, outcome, is_all_done}
 use Rattle.session.specs.declared.pipe.Pipe.{Pipe}
 use Rattle.session.specs.declared.pipe.PipeKind.{PipeKind}
 use Rattle.session.specs.declared.pipe.PipeKind.TheVariants as kind
-use Rattle.session.specs.Ending.{held_among, go_entry, MayDrain, AreServed, LetsGo}
+use Rattle.session.specs.Ending.{held_among, go_entry, MayDrain, AreServed, LetsGo, IsServedOn, DrainsLast, DrainsAll, EndsShut}
 use Rattle.session.specs.Piping as piping
-use Rattle.session.specs.Standing.{IsOpenAs, IsPipeIn, IsPipeOn, Posted, is_at, owners}
+use Rattle.session.specs.Standing.{Extends, IsOpenAs, IsPipeIn, IsPipeOn, Posted, is_at, owners}
 use Rattle.session.specs.Walk.{Walk, Live}
+use Rattle.session.proofs.Posting.{one-posted, worked-calls}
 
 -- ---- a pad is not held
 
@@ -228,3 +234,144 @@ gone-at lives i live b b' b'' within here s grown legal =
     subst (λ n. LetsSomeGo (take n lives) (drop n lives) b b'') (sym on)
     (subst (λ before. LetsSomeGo before (drop (suc i) lives) b b'') (sym done)
     (one-gone live (take i lives) (drop (suc i) lives) b b' b'' (subst (λ later. LetsSomeGo (take i lives) later b b') left s) grown legal))
+
+-- ---- the last drain of a pipeline
+
+work-keeps : (b h : List (BoardEntry Ask)) (p : ℕ) → WorkKeeps 0 b h p
+work-keeps b h p = work_keeps stays_open queue_stays_open stays_managed stays_submitting work_leaves hands_nothing 0 b h p
+
+work-drains : (b h : List (BoardEntry Ask)) (pipe : Option Pipe) → WorksFrom 0 b h → MayDrain b pipe → MayDrain h pipe
+work-drains b h None work may = tt
+work-drains b h (Some pipe) work may =
+    let kept = work-keeps b h pipe.number work in
+    (kept.4 0 may.0, served_on 0 b h pipe.number (work-keeps b h pipe.number) work may.1)
+
+collect-served : (h : List (BoardEntry Ask)) (number to p : ℕ) → IsServed (entries_of p h) → IsServed (entries_of p (h ++ event.Collect 0 number to ∷ []))
+collect-served h number to p (inl pad) = inl (stays_open h (event.Collect 0 number to) p pad refl)
+collect-served h number to p (inr queue) =
+    inr (queue_stays_open h (event.Collect 0 number to) p queue.0 refl, stays_held h (event.Collect 0 number to) p refl ∙ queue.1)
+
+collect-drains : (h : List (BoardEntry Ask)) (number to : ℕ) (pipe : Option Pipe) → MayDrain h pipe → MayDrain (h ++ event.Collect 0 number to ∷ []) pipe
+collect-drains h number to None may = tt
+collect-drains h number to (Some pipe) may =
+    (stays_managed h (event.Collect 0 number to) pipe.number 0 may.0, collect-served h number to pipe.number may.1)
+
+abbrev piped_of : List ℕ → Option Pipe → Option (List ℕ × Pipe)
+piped_of label pipe = elim pipe [ Some pipe ↦ Some (label, pipe) | None ↦ None ]
+
+pub drained-last : (live : Live) (pipe : Pipe) (b b' : List (BoardEntry Ask)) (answers answers' : List Answer) (callbacks : List (Callback Finished))
+    → live.pipe ≡ Some pipe → Drains outcome 0 pipe.number b b' [] callbacks → NoneRuns b' → LegalBoard b'
+    → answers' ≡ answers ++ piping.said_at_end live.label pipe.lines callbacks → DrainsLast live b b' answers answers'
+drained-last live pipe b b' answers answers' callbacks at drains idle legal told_is =
+    let h = drains.0 in
+    let work = drains.1 in
+    let es = entries_of pipe.number h in
+    let to = length (told es) in
+    let e : BoardEntry Ask = event.Collect 0 pipe.number to in
+    let ending : piping.Ending = record { label = live.label; pipe = pipe; callbacks = callbacks } in
+    let call : Collects pipe.number (delivered outcome es to) (is_all_done es) ≡ Collects pipe.number callbacks true =
+        ap (λ cs. Collects pipe.number cs (is_all_done es)) (sym drains.4) ∙ ap (Collects pipe.number callbacks) (eq-eqb (front es) (length (submissions es)) drains.2) in
+    record {
+      endings = ending ∷ [];
+      places = sym (ap (λ (p : Option Pipe). cons_option (piped_of live.label p) []) at);
+      goes_on = (work.0 ++ e ∷ [], drains.3 ∙ (ap (λ k. k ++ e ∷ []) work.1 ∙ append_assoc b work.0 (e ∷ [])));
+      called =
+          ap (board_calls 0) drains.3
+          ∙ (one-posted 0 h e (Collects pipe.number (delivered outcome es to) (is_all_done es)) refl
+          ∙ (ap (λ c. board_calls 0 h ++ c ∷ []) call ∙ ap (λ cs. cs ++ Collects pipe.number callbacks true ∷ []) (worked-calls 0 0 b h work)));
+      said = told_is ∙ ap (λ a. answers ++ a) (sym (append-nil (piping.said_at_end live.label pipe.lines callbacks)));
+      legal = legal;
+      idle = idle;
+      unshut = ap is_shut drains.3 ∙ (shut-same h e refl ∙ work_shuts_nothing 0 b h work);
+      others = λ other may. subst (λ (k : List (BoardEntry Ask)). MayDrain k other) (sym drains.3) (collect-drains h pipe.number to other (work-drains b h other work may));
+    }
+
+-- a transform without a pipeline hands nothing out
+pub drained-none : (live : Live) (b : List (BoardEntry Ask)) (answers : List Answer) → live.pipe ≡ None → LegalBoard b → NoneRuns b → DrainsLast live b b answers answers
+drained-none live b answers at legal idle = record {
+  endings = [];
+  places = sym (ap (λ (p : Option Pipe). cons_option (piped_of live.label p) []) at);
+  goes_on = ([], sym (append-nil b));
+  called = sym (append-nil (board_calls 0 b));
+  said = sym (append-nil answers);
+  legal = legal;
+  idle = idle;
+  unshut = refl;
+  others = λ other may. may;
+}
+
+-- ---- all of them
+
+-- what the transforms before handed out; the others may still be drained
+pub record DrainsSome (lives before : List Live) (b b' : List (BoardEntry Ask)) (answers : List Answer) : Type 0 where
+  pub endings : List piping.Ending
+  pub places : map piping.place_of endings ≡ filter_map piping.piped before
+  pub goes_on : Extends b b'
+  pub called : board_calls 0 b' ≡ board_calls 0 b ++ map piping.collects_at endings
+  pub said : answers ≡ flat_map piping.ending_said endings
+  pub legal : LegalBoard b'
+  pub idle : NoneRuns b'
+  pub unshut : is_shut b' ≡ false
+  pub served : All (λ (live : Live). MayDrain b' live.pipe) lives
+
+pub extends-more : (b b' b'' : List (BoardEntry Ask)) → Extends b b' → Extends b' b'' → Extends b b''
+extends-more b b' b'' first later = (first.0 ++ later.0, later.1 ∙ (ap (λ h. h ++ later.0) first.1 ∙ append_assoc b first.0 later.0))
+
+pub none-drained : (walk : Walk) (b : List (BoardEntry Ask)) → AreServed walk b → DrainsSome walk.lives [] b b []
+none-drained walk b s = record {
+  endings = [];
+  places = refl;
+  goes_on = ([], sym (append-nil b));
+  called = sym (append-nil (board_calls 0 b));
+  said = refl;
+  legal = s.legal;
+  idle = s.idle;
+  unshut = s.unshut;
+  served = s.served;
+}
+
+one-drained : (lives before : List Live) (live : Live) (b b' b'' : List (BoardEntry Ask)) (answers answers' : List Answer) → DrainsSome lives before b b' answers → DrainsLast live b' b'' answers answers'
+    → DrainsSome lives (before ++ live ∷ []) b b'' answers'
+one-drained lives before live b b' b'' answers answers' s d = record {
+  endings = s.endings ++ d.endings;
+  places =
+      map-append piping.place_of s.endings d.endings
+      ∙ (ap (λ ps. ps ++ map piping.place_of d.endings) s.places
+      ∙ (ap (λ ps. filter_map piping.piped before ++ ps) d.places ∙ sym (filter_map-append piping.piped before (live ∷ []))));
+  goes_on = extends-more b b' b'' s.goes_on d.goes_on;
+  called =
+      d.called
+      ∙ (ap (λ cs. cs ++ map piping.collects_at d.endings) s.called
+      ∙ (append_assoc (board_calls 0 b) (map piping.collects_at s.endings) (map piping.collects_at d.endings)
+      ∙ ap (λ cs. board_calls 0 b ++ cs) (sym (map-append piping.collects_at s.endings d.endings))));
+  said =
+      d.said
+      ∙ (ap (λ a. a ++ flat_map piping.ending_said d.endings) s.said ∙ sym (flat_map-append piping.ending_said s.endings d.endings));
+  legal = d.legal;
+  idle = d.idle;
+  unshut = d.unshut ∙ s.unshut;
+  served = λ k other l. d.others _ (s.served k other l);
+}
+
+pub drained-at : (lives : List Live) (i : ℕ) (live : Live) (b b' b'' : List (BoardEntry Ask)) (answers answers' : List Answer) → i < length lives → live ≡ slice_index_or lives i live
+    → DrainsSome lives (take i lives) b b' answers → DrainsLast live b' b'' answers answers' → DrainsSome lives (take (i + 1) lives) b b'' answers'
+drained-at lives i live b b' b'' answers answers' within here s d =
+    let on : i + 1 ≡ suc i = omega arith in
+    let done : take (suc i) lives ≡ take i lives ++ live ∷ [] = take-suc lives i live within ∙ ap (λ x. take i lives ++ x ∷ []) (sym here) in
+    subst (λ n. DrainsSome lives (take n lives) b b'' answers') (sym on)
+    (subst (λ before. DrainsSome lives before b b'' answers') (sym done) (one-drained lives (take i lives) live b b' b'' answers answers' s d))
+
+pub served-at : (lives before : List Live) (i : ℕ) (live : Live) (b b' : List (BoardEntry Ask)) (answers : List Answer) → i < length lives → live ≡ slice_index_or lives i live
+    → DrainsSome lives before b b' answers → IsServedOn b' live
+served-at lives before i live b b' answers within here s =
+    (s.legal, s.idle, subst (λ (l : Live). MayDrain b' l.pipe) (sym here) (s.served i live within))
+
+pub all-drained : (walk : Walk) (b b' : List (BoardEntry Ask)) (answers : List Answer) → DrainsSome walk.lives walk.lives b b' answers → DrainsAll walk b b' answers
+all-drained walk b b' answers s = record {
+  endings = s.endings;
+  places = s.places;
+  goes_on = s.goes_on;
+  called = s.called;
+  said = s.said;
+  unshut = s.unshut;
+}
