@@ -34,6 +34,11 @@ use Rattle.session.specs.Ending.{held_among, go_entry, MayDrain, AreServed, Lets
 use Rattle.session.specs.Piping as piping
 use Rattle.session.specs.Standing.{Extends, IsOpenAs, IsPipeIn, IsPipeOn, Posted, is_at, owners}
 use Rattle.session.specs.Walk.{Walk, Live}
+use Rattle.alg_registry.specs.declared.entry.RegEntry.{RegEntry}
+use Rattle.reply_text.specs.Answers.{text_of}
+use Rattle.session.specs.Histories.{reg_calls}
+use Rattle.session.specs.Standing.{Does, Posts}
+use Rattle.session.specs.Turns.{Turn, text_in}
 use Rattle.session.proofs.Posting.{one-posted, worked-calls}
 
 -- ---- a pad is not held
@@ -375,3 +380,45 @@ all-drained walk b b' answers s = record {
   said = s.said;
   unshut = s.unshut;
 }
+
+-- ---- the end
+
+gos-called : (b : List (BoardEntry Ask)) (numbers : List ℕ) → board_calls 0 (b ++ map go_entry numbers) ≡ board_calls 0 b ++ map piping.goes_for numbers
+gos-called b [] = ap (board_calls 0) (append-nil b) ∙ sym (append-nil (board_calls 0 b))
+gos-called b (number ∷ numbers) =
+    ap (board_calls 0) (sym (append_assoc b (go_entry number ∷ []) (map go_entry numbers)))
+    ∙ (gos-called (b ++ go_entry number ∷ []) numbers
+    ∙ (ap (λ cs. cs ++ map piping.goes_for numbers) (one-posted 0 b (go_entry number) (Goes number) refl)
+    ∙ append_assoc (board_calls 0 b) (Goes number ∷ []) (map piping.goes_for numbers)))
+
+pub gone-extends : (walk : Walk) (b b' : List (BoardEntry Ask)) → LetsGo walk b b' → Extends b b'
+gone-extends walk b b' gone = (map go_entry (held_among walk.lives), gone.0)
+
+module _ (walk : Walk) (b gone drained shut : List (BoardEntry Ask)) (answers : List Answer) (lets : LetsGo walk b gone) (drains : DrainsAll walk gone drained answers) (last : shut ≡ drained ++ event.Shut 0 ∷ []) where
+  gos : List BoardCall
+  gos = map piping.goes_for (held_among walk.lives)
+
+  collects : List BoardCall
+  collects = map piping.collects_at drains.endings
+
+  pub end-extends : Extends b shut
+  end-extends = extends-more b drained shut (extends-more b gone drained (gone-extends walk b gone lets) drains.goes_on) (event.Shut 0 ∷ [], last)
+
+  end-called : board_calls 0 shut ≡ board_calls 0 b ++ ((gos ++ collects) ++ Shuts ∷ [])
+  unfolding gos collects
+  end-called =
+      ap (board_calls 0) last
+      ∙ (one-posted 0 drained (event.Shut 0) Shuts refl
+      ∙ (ap (λ cs. cs ++ Shuts ∷ []) drains.called
+      ∙ (ap (λ cs. (cs ++ collects) ++ Shuts ∷ []) (ap (board_calls 0) lets.0 ∙ gos-called b (held_among walk.lives))
+      ∙ (ap (λ cs. cs ++ Shuts ∷ []) (append_assoc (board_calls 0 b) gos collects) ∙ append_assoc (board_calls 0 b) (gos ++ collects) (Shuts ∷ [])))))
+
+  pub ended : (r : List RegEntry) (reply reply' : List ℕ) → reply' ≡ reply ++ flat_map text_of answers
+      → (turn : Turn) × piping.EndTurn walk turn × Does turn r r walk × Posts turn b shut × (reply' ≡ reply ++ text_in turn)
+  unfolding gos collects
+  ended r reply reply' put =
+      let turn : Turn = record { registry = []; board = gos ++ collects ++ Shuts ∷ []; answers = flat_map piping.ending_said drains.endings; after = walk } in
+      (turn, (drains.endings, drains.places, refl),
+      record { goes_on = ([], sym (append-nil r)); registry = sym (append-nil (reg_calls 0 r)); settled = tt; after_is = refl },
+      record { goes_on = end-extends; board = end-called },
+      put ∙ ap (λ a. reply ++ flat_map text_of a) drains.said)
