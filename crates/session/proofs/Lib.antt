@@ -8,3 +8,4 @@ pub mod Posting
 pub mod Boarding
 pub mod Piped
 pub mod Commanding
+pub mod Draining

@@ -28,7 +28,7 @@ MayDrain b (Some pipe) = MayManage (entries_of pipe.number b) 0 × IsServed (ent
 
 -- the transform's pipeline is held just where the script knows it so
 abbrev pub IsHeldRight : List (BoardEntry Ask) → Live → Type 0
-IsHeldRight b live = IsPipeOn b live.pipe
+IsHeldRight b live = LegalBoard b × IsPipeOn b live.pipe
 
 -- each pipeline may be drained
 pub record AreServed (walk : Walk) (b : List (BoardEntry Ask)) : Type 0 where

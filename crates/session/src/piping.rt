@@ -260,7 +260,7 @@ pub fn close(board: &mut BoardCore<Job>, live: &Transform)
 pub fn release(board: &mut BoardCore<Job>, live: &Transform) -> Result<(), BoardErr>
     requires { IsHeldRight board.old live.now }
     ensures released { MatchResult result (λ _. board.new ≡ board.old ++ map go_entry (held_among (live.now ∷ []))) (λ _. board.new ≡ board.old) }
-    ensures legal { LegalBoard board.old → LegalBoard board.new }
+    ensures legal { LegalBoard board.new }
 {
     match live.pipe() {
         Some(pipe) if pipe.held => board.go(SCRIPT, pipe.number),
