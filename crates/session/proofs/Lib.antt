@@ -4,3 +4,5 @@ pub mod Placed
 pub mod Owing
 pub mod Arms
 pub mod Single
+pub mod Posting
+pub mod Pipelines
