@@ -9,3 +9,4 @@ pub mod Boarding
 pub mod Piped
 pub mod Commanding
 pub mod Draining
+pub mod Pipelines

@@ -1,5 +1,5 @@
 -- What a line does with one transform and its pipeline.
-use Rattle.std.specs.Prelude.{ℕ, ◌+◌, ◌^◌, ◌<◌, ◌≡◌, Bool, true, false, List, [], ◌∷◌, ◌++◌, length, Option, Some, None, ⊤, sum_by}
+use Rattle.std.specs.Prelude.{ℕ, ◌+◌, ◌≤◌, ◌≡◌, Bool, true, false, List, [], ◌∷◌, ◌++◌, length, Option, Some, None, ⊤, sum_by}
 use Rattle.std.specs.Option.{option_map}
 use Rattle.board.specs.declared.entry.BoardEntry.{BoardEntry}
 use Rattle.board.specs.Allowance.{accepted_by}
@@ -70,7 +70,7 @@ held_as live held = on_pipe (λ pipe. record pipe { held = held }) live
 abbrev pub delivering : Live → ℕ → Live
 delivering live count = on_pipe (λ pipe. record pipe { delivered = pipe.delivered + count }) live
 
--- it still counts as many as it will have handed out then
+-- with them it handed out no more than it accepted
 abbrev pub MayDeliver : ℕ → Option Pipe → Type 0
 MayDeliver count None = ⊤
-MayDeliver count (Some pipe) = pipe.delivered + count < 2 ^ 64
+MayDeliver count (Some pipe) = pipe.delivered + count ≤ length pipe.lines

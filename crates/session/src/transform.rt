@@ -163,6 +163,8 @@ impl Transform {
         ensures { self.new ≡ delivering self.old count }
     {
         if let Some(pipe) = &mut self.pipe {
+            // No more than it accepted.
+            prove!(count <= pipe.lines.count() - pipe.delivered);
             pipe.delivered += count;
         }
     }
