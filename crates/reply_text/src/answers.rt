@@ -70,7 +70,8 @@ pub enum Answer {
         line: u32,
         count: u64,
     },
-    /// At the end of input, the same of the transform of this label. It alone has no line's number.
+    /// At the end of input, after so many answers `Done` and `Failed` of the transform of this label. It answers no
+    /// line.
     End {
         label: Bytes,
         count: u64,

@@ -2,18 +2,19 @@
 
 ghost use Rattle.std.specs.Prelude.{◌≡◌, ◌∷◌, ◌++◌, [], codes, IfOk, OnOk, OnErr};
 ghost use Rattle.std.specs.Fmt.{decimal};
-ghost use Rattle.reply_text.specs.Answers.{sentence, listed_word, text_of};
+ghost use Rattle.reply_text.specs.Answers.{hex_text, sentence, listed_word, text_of};
 
 use crate::answers::Answer;
 use crate::sentences::{hex_digits, numbered, sentence_of};
 use kc_base::Bytes;
 use std::alloc::{AllocError, Global};
 
-fn value_text(alloc: Global, line: u32, bytes: &[u8]) -> Result<Bytes, AllocError>
-    ensures { IfOk result (λ text. text ≡ text_of (Answer.Value line bytes.now)) }
+// A line with a word and bytes.
+fn bytes_text(alloc: Global, line: u32, word: &[u8], bytes: &[u8]) -> Result<Bytes, AllocError>
+    ensures { IfOk result (λ text. text ≡ sentence (decimal line ∷ word.now ∷ hex_text bytes.now ∷ [])) }
 {
     let digits = hex_digits(alloc, bytes)?;
-    numbered(alloc, line, &[b"ok".as_slice(), digits.as_bytes()])
+    numbered(alloc, line, &[word, digits.as_bytes()])
 }
 
 // A line with a word and a count.
@@ -22,13 +23,6 @@ fn count_text(alloc: Global, line: u32, word: &[u8], count: u64) -> Result<Bytes
 {
     let count = count.to_string(alloc)?;
     numbered(alloc, line, &[word, count.as_bytes()])
-}
-
-fn done_text(alloc: Global, line: u32, bytes: &[u8]) -> Result<Bytes, AllocError>
-    ensures { IfOk result (λ text. text ≡ text_of (Answer.Done line bytes.now)) }
-{
-    let digits = hex_digits(alloc, bytes)?;
-    numbered(alloc, line, &[b"done".as_slice(), digits.as_bytes()])
 }
 
 fn listed_word(listed: bool) -> &'static [u8]
@@ -85,7 +79,7 @@ fn answer_text(alloc: Global, answer: &Answer) -> Result<Bytes, AllocError>
 {
     match answer {
         Answer::Ok { line } => numbered(alloc, *line, &[b"ok".as_slice()]),
-        Answer::Value { line, bytes } => value_text(alloc, *line, bytes.as_slice()),
+        Answer::Value { line, bytes } => bytes_text(alloc, *line, b"ok", bytes.as_slice()),
         Answer::Made { line, driver } => {
             numbered(alloc, *line, &[b"ok".as_slice(), driver.as_slice()])
         }
@@ -112,7 +106,7 @@ fn answer_text(alloc: Global, answer: &Answer) -> Result<Bytes, AllocError>
         ),
         Answer::Listed { line, count } => count_text(alloc, *line, b"listed", *count),
         Answer::Started { line } => numbered(alloc, *line, &[b"started".as_slice()]),
-        Answer::Done { line, bytes } => done_text(alloc, *line, bytes.as_slice()),
+        Answer::Done { line, bytes } => bytes_text(alloc, *line, b"done", bytes.as_slice()),
         Answer::Failed { line, errno } => {
             numbered(alloc, *line, &[b"fail".as_slice(), errno.name().as_bytes()])
         }
