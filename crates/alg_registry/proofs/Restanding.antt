@@ -105,7 +105,7 @@ standing-bare xs ys same = ap (λ rs. counted 0 rs) (sym (marked-bare [] xs) ∙
 abbrev pub weight : ℕ → Row → ℕ
 weight id row = cond (is_held row && stands_on id row) 1 0
 
-holders-cons : (id : ℕ) (row : Row) (rows : List Row) → holders id (row ∷ rows) ≡ weight id row + holders id rows
+pub holders-cons : (id : ℕ) (row : Row) (rows : List Row) → holders id (row ∷ rows) ≡ weight id row + holders id rows
 holders-cons id row rows = omega (arith, sum_by-append (weight id) (row ∷ []) rows)
 
 holders-set : (id : ℕ) (rows : List Row) (p : ℕ) (row d : Row) → p < length rows → weight id row ≡ weight id (get_or rows p d) → holders id (set rows p row) ≡ holders id rows

@@ -1,5 +1,5 @@
 -- Which entries may change alone: no other entry's mark or references hang on the change.
-use Rattle.std.specs.Prelude.{ℕ, ◌-◌, ◌^◌, Bool, ◌&&◌, ◌||◌, ◌==◌, nat_lt, length}
+use Rattle.std.specs.Prelude.{◌-◌, ◌^◌, Bool, ◌&&◌, ◌||◌, ◌==◌, nat_lt, length}
 use Rattle.alg_registry.specs.declared.row.Row.{Row}
 
 abbrev pub stands_on_nothing : Row → Bool

@@ -10,3 +10,4 @@ pub mod Kept
 pub mod Made
 pub mod Trial
 pub mod Alone
+pub mod Counting

@@ -6,6 +6,7 @@ ghost use Rattle.std.specs.Str.{bytes_eq};
 ghost use Rattle.alg_registry.specs.Answers.{may_find, is_plain, better, is_pending, is_template, not_found, look_answer};
 ghost use Rattle.alg_registry.specs.Larvals.{answers_by, best_by};
 
+use crate::counting::is_among;
 use crate::entry::{Looked, RegErr};
 use crate::larvals::Larvals;
 use crate::row::Row;
@@ -17,12 +18,6 @@ fn may_be_found(row: &Row, plain: bool) -> bool
     ensures { result ≡ may_find plain row.now }
 {
     row.listed && (!plain || row.spec.wrap == Wrap::Plain)
-}
-
-fn is_among(joined: &[u64], id: u64) -> bool
-    ensures { result ≡ list_any (λ other. other == id) joined.now }
-{
-    joined.iter().any(|other| *other == id)
 }
 
 fn does_answer_to(joined: &[u64], text: &[u8], plain: bool, id: u64, row: &Row) -> bool

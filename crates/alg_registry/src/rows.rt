@@ -4,11 +4,12 @@ ghost use Rattle.std.specs.Prelude.{◌≡◌, ℕ, ◌+◌, ◌^◌, ◌<◌, �
 ghost use Rattle.std.specs.List.{list_any, list_all, position_from};
 ghost use Rattle.std.specs.Str.{bytes_eq};
 ghost use Rattle.alg_registry.specs.declared.row.Row.{Row};
-ghost use Rattle.alg_registry.specs.Rows.{listed_at, stays_listed, marked, counted, standing, holders, stands_on, is_held};
+ghost use Rattle.alg_registry.specs.Rows.{listed_at, stays_listed, marked, standing, is_held};
 ghost use Rattle.alg_registry.specs.Answers.{clashes_with, held_count, driver_place};
 ghost use Rattle.alg_registry.specs.Alone.{stands_on_nothing, unlists_alone, takes_alone, puts_alone};
 ghost use Rattle.alg_registry.specs.Calls.{unlisted_row, taken_row, put_row_of, new_row};
 
+use crate::counting::count;
 use crate::entry::RegErr;
 use crate::row::Row;
 use crate::spec::Spec;
@@ -61,21 +62,6 @@ pub fn place_of_driver(rows: &[Row], driver: &[u8]) -> Option<usize>
     rows.iter().position(|row| row.listed && is_same(row.spec.driver.as_slice(), driver))
 }
 
-fn does_stand_on(row: &Row, id: u64) -> bool
-    ensures { result ≡ stands_on id row.now }
-{
-    row.spec.below.as_slice().iter().any(|child| *child == id)
-}
-
-fn count_holders(rows: &[Row], id: u64) -> usize
-    ensures count { result ≡ holders id rows.now }
-    ensures few { result ≤ length rows.now }
-{
-    rows.iter()
-        .filter(|row| (row.listed || 0 < row.references) && does_stand_on(row, id))
-        .count()
-}
-
 /// Whether the entry at `i` stays listed, where the older ones have their marks.
 fn stays(rows: &[Row], i: usize) -> bool
     requires { i < length rows.now }
@@ -83,16 +69,6 @@ fn stays(rows: &[Row], i: usize) -> bool
 {
     let (older, _rest) = rows.split_at(i);
     !rows[i].unlisted && are_listed(older, rows[i].spec.below.as_slice())
-}
-
-/// How many held entries newer than `i` stand on it.
-fn count_newer(rows: &[Row], i: usize) -> usize
-    requires { i < length rows.now }
-    ensures count { result ≡ holders i (drop (i + 1) rows.now) }
-    ensures few { result ≤ length rows.now }
-{
-    let (_older, newer) = rows.split_at(i + 1);
-    count_holders(newer, i as u64)
 }
 
 fn mark(rows: &mut [Row])
@@ -103,19 +79,6 @@ fn mark(rows: &mut [Row])
         let row = &mut rows[i];
         row.listed = listed;
         row.references = 0;
-    }
-}
-
-fn count(rows: &mut [Row])
-    requires { All (λ row. row.taken < 2 ^ 62) rows.old }
-    ensures { rows.new ≡ counted 0 rows.old }
-{
-    let mut i = rows.len();
-    while i > 0 {
-        i -= 1;
-        let holders = count_newer(rows, i);
-        let row = &mut rows[i];
-        row.references = row.taken + holders as u64;
     }
 }
 
