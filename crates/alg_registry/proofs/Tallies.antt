@@ -1,21 +1,18 @@
 -- References that are given on from the newest entry to the oldest are the references that entries have.
 use Rattle.std.proofs.Common.{◌≡◌, ◌≢◌, ℕ, zero, suc, ◌+◌, ◌<◌, ◌≤◌, Bool, true, false, cond, ◌||◌, ◌&&◌, eqb, List, [], ◌∷◌, ◌++◌, length, take, drop, get_or, set, map, refl, sym, ap, ◌∙◌, subst, arith, append_assoc, drop-cons}
 use Rattle.std.specs.List.{All, AllByRecursion, list_any}
-use Rattle.std.proofs.Math.Seq.{take-append_seam, drop-append_seam, take-length, drop-length}
-use Rattle.std.proofs.lemmas.List.{append-nil, take_more, take-append-le, length-map, length-take-le}
+use Rattle.std.proofs.Math.Seq.{take-append_seam, drop-append_seam}
+use Rattle.std.proofs.lemmas.List.{take_more}
 use Rattle.std.proofs.lemmas.List.Elements.{recursion_from_All, All-from_recursion}
-use Rattle.std.proofs.lemmas.List.Edits.{map_over_more}
 use Rattle.std.proofs.lemmas.List.Folds.{list_any-append}
 use Rattle.std.proofs.lemmas.List.Sums.{count_by-le-length}
 use Rattle.std.proofs.lemmas.Bool.Decides.{nat_tests}
 use Rattle.alg_registry.specs.declared.row.Row.{Row}
-use Rattle.alg_registry.specs.declared.spec.Kind.TheVariants.{Cipher}
-use Rattle.alg_registry.specs.declared.spec.Wrap.TheVariants.{Plain}
 use Rattle.alg_registry.specs.Rows.{is_held, stands_on, holders, counted}
-use Rattle.alg_registry.specs.Counting.{uncounted, referred, referred_by, gave}
+use Rattle.alg_registry.specs.Counting.{referred, referred_by, gave, gave_all}
 use Rattle.alg_registry.proofs.Restanding.{weight, holders-cons}
 
-abbrev bit : Bool → ℕ
+abbrev pub bit : Bool → ℕ
 bit b = cond b 1 0
 
 differ : (a b : ℕ) → a ≢ b → eqb a b ≡ false
@@ -28,7 +25,7 @@ or_false : (a b : Bool) → a ≡ false → b ≡ false → (a || b) ≡ false
 or_false a b e f = cc
 
 -- the entry with so many more references
-abbrev more : ℕ → Row → Row
+abbrev pub more : ℕ → Row → Row
 more n row = record row { references = row.references + n }
 
 no_more : (row : Row) (b : Bool) → b ≡ false → more (bit b) row ≡ row
@@ -124,6 +121,10 @@ few_referred n m k ids (row ∷ rows) lt all = (omega (arith, all.0, bit-le (lis
 pub few-referred : (m k : ℕ) (ids : List ℕ) (rows : List Row) → m < k → All (HasFewer m) rows → All (HasFewer k) (referred 0 ids rows)
 few-referred m k ids rows lt all = All-from_recursion (HasFewer k) (referred 0 ids rows) (few_referred 0 m k ids rows lt (recursion_from_All (HasFewer m) rows all))
 
+-- an entry with the references of callers alone
+abbrev pub uncounted : Row → Row
+uncounted row = record row { references = row.taken }
+
 -- ---- the entries from this id on, with the references that these newer ones give
 
 abbrev pub tallied : ℕ → List Row → List Row → List Row
@@ -210,37 +211,44 @@ all_taken P zero rows all = tt
 all_taken P (suc n) [] all = tt
 all_taken P (suc n) (row ∷ rows) all = (all.0, all_taken P n rows all.1)
 
--- ---- the steps of the count
+-- one that isn't held gives nothing
+pub skip-tally : (place : ℕ) (before : List Row) (row : Row) (rest : List Row) → place ≡ length before
+    → is_held (record row { references = row.taken + holders place (counted (place + 1) rest) }) ≡ false → tally (place + 1) (before ++ row ∷ []) rest ≡ tally place before (row ∷ rest)
+skip-tally place before row rest at dead =
+    let newer : List Row = counted (place + 1) rest in
+    let first : Row = record row { references = row.taken + holders place newer } in
+    ap (λ rs. rs ++ newer) (tallied-push 0 place newer before row (omega (arith, at)))
+    ∙ (append_assoc (tallied 0 newer before) (first ∷ []) newer ∙ ap (λ rs. rs ++ first ∷ newer) (tallied_unheld 0 first newer before dead))
 
-pub tally-start : (rows rows' : List Row) → rows' ≡ map uncounted rows → rows' ≡ tally (length rows') (take (length rows') rows) (drop (length rows') rows)
-tally-start rows rows' is =
-    let len : length rows' ≡ length rows = ap length is ∙ length-map rows uncounted in
-    let all : tally (length rows) (take (length rows) rows) (drop (length rows) rows) ≡ tallied 0 [] rows =
-    (λ i. tally (length rows) (take-length rows i) (drop-length rows i)) ∙ append-nil (tallied 0 [] rows) in
-    is ∙ (tallied-none 0 rows ∙ (sym all ∙ sym (ap (λ (n : ℕ). tally n (take n rows) (drop n rows)) len)))
+-- ---- no entry has more references than as many as give
 
-a_row : Row
-a_row = record { spec = record { name = []; driver = []; kind = Cipher; wrap = Plain; priority = 0; below = [] }; unlisted = false; taken = 0; listed = false; references = 0 }
+few_more : (m k : ℕ) (rows : List Row) → m ≤ k → AllByRecursion (HasFewer m) rows → AllByRecursion (HasFewer k) rows
+few_more m k [] le all = tt
+few_more m k (row ∷ rows) le all = (omega (arith, all.0, le), few_more m k rows le all.1)
 
-pub tally-step : (place p : ℕ) (base rows : List Row) → place ≡ p + 1 → p < length base → rows ≡ tally place (take place base) (drop place base) → gave p rows ≡ tally p (take p base) (drop p base)
-tally-step place p base rows next lt is =
-    ap (λ rs. gave p rs) (is ∙ ap (λ (n : ℕ). tally n (take n base) (drop n base)) next) ∙ gave-next p base a_row lt
+all_both : (P : Row → Type 0) (xs ys : List Row) → AllByRecursion P xs → AllByRecursion P ys → AllByRecursion P (xs ++ ys)
+all_both P [] ys a b = b
+all_both P (x ∷ xs) ys a b = (a.0, all_both P xs ys a.1 b)
 
-pub tally-few : (place p m k : ℕ) (base rows : List Row) → place ≡ p + 1 → place ≤ length base → m + length base ≤ k → All (λ (row : Row). row.taken < m) base → rows ≡ tally place (take place base) (drop place base)
-    → All (HasFewer k) (take p rows)
-tally-few place p m k base rows next le fits all is =
-    let newer : List Row = counted place (drop place base) in
-    let before : List Row = tallied 0 newer (take place base) in
-    let front : take p rows ≡ take p before = ap (λ rs. take p rs) is ∙ take-append-le p before newer (omega (arith, length-tallied 0 newer (take place base), length-take-le place base le, next)) in
-    let short : m + length newer ≤ k = omega (arith, length-counted place (drop place base), shorter place base, fits) in
-    let few : AllByRecursion (HasFewer k) before = few_tallied m k 0 newer (take place base) short (all_taken (λ (row : Row). row.taken < m) place base (recursion_from_All (λ (row : Row). row.taken < m) base all)) in
-    subst (λ (rs : List Row). All (HasFewer k) rs) (sym front) (All-from_recursion (HasFewer k) (take p before) (all_taken (HasFewer k) p before few))
+all_dropped : (P : Row → Type 0) (n : ℕ) (rows : List Row) → AllByRecursion P rows → AllByRecursion P (drop n rows)
+all_dropped P zero rows all = all
+all_dropped P (suc n) [] all = tt
+all_dropped P (suc n) (row ∷ rows) all = all_dropped P n rows all.1
+
+few_gave_by : (m : ℕ) (older newer : List Row) → AllByRecursion (HasFewer m) older → AllByRecursion (HasFewer m) newer → AllByRecursion (HasFewer (m + 1)) (referred_by older newer)
+few_gave_by m older [] a b = few_more m (m + 1) older (omega arith) a
+few_gave_by m older (row ∷ newer) a b = all_both (HasFewer (m + 1)) _ (row ∷ newer) (here (is_held row)) (few_more m (m + 1) (row ∷ newer) (omega arith) b)
   where
-    shorter : (n : ℕ) (rs : List Row) → length (drop n rs) ≤ length rs
-    shorter zero rs = omega arith
-    shorter (suc n) [] = omega arith
-    shorter (suc n) (r ∷ rs) = omega (arith, shorter n rs)
+    here : (held : Bool) → AllByRecursion (HasFewer (m + 1)) (cond held (referred 0 row.spec.below older) older)
+    here true = few_referred 0 m (m + 1) row.spec.below older (omega arith) a
+    here false = few_more m (m + 1) older (omega arith) a
 
-pub uncounted-more : (base rows : List Row) (i : ℕ) (x : Row) → i < length base → rows ≡ map uncounted (take i base) ++ drop i base → x ≡ get_or rows i x
-    → set rows i (let r : Row = get_or rows i x in record r { references = r.taken }) ≡ map uncounted (take (i + 1) base) ++ drop (i + 1) base
-uncounted-more base rows i x lt is read = (λ j. set rows i (uncounted (sym read j))) ∙ map_over_more uncounted base rows i x lt is read
+few_gave_all : (m k : ℕ) (ids : List ℕ) (rows : List Row) → m + length ids ≤ k → AllByRecursion (HasFewer m) rows → AllByRecursion (HasFewer k) (gave_all ids rows)
+few_gave_all m k [] rows le all = few_more m k rows (omega (arith, le)) all
+few_gave_all m k (id ∷ ids) rows le all =
+    let rest = few_gave_all m (m + length ids) ids rows (omega arith) all in
+    few_more ((m + length ids) + 1) k (gave id (gave_all ids rows)) (omega (arith, le))
+    (few_gave_by (m + length ids) (take id (gave_all ids rows)) (drop id (gave_all ids rows)) (all_taken (HasFewer (m + length ids)) id (gave_all ids rows) rest) (all_dropped (HasFewer (m + length ids)) id (gave_all ids rows) rest))
+
+pub few-gave_all : (m k : ℕ) (ids : List ℕ) (rows : List Row) → m + length ids ≤ k → All (HasFewer m) rows → All (HasFewer k) (gave_all ids rows)
+few-gave_all m k ids rows le all = All-from_recursion (HasFewer k) (gave_all ids rows) (few_gave_all m k ids rows le (recursion_from_All (HasFewer m) rows all))

@@ -11,3 +11,4 @@ pub mod Made
 pub mod Trial
 pub mod Alone
 pub mod Counting
+pub mod Held

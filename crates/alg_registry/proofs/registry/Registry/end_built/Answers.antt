@@ -19,17 +19,17 @@ end-requires-clause-within c = (to_end _ _ _ _ c.args.caller c.args.larval c.sel
 pub end-requires-clause-pending : goal.end-requires-clause-pending
 end-requires-clause-pending c = (to_end _ _ _ _ c.args.caller c.args.larval c.self.invariant c.self.view_is c.requires.claimed c.requires.unended).pending
 
-pub add_row-requires-clause-few : goal.add_row-requires-clause-few
-add_row-requires-clause-few c = subst (λ (rows : List Row). All (IsUnder (2 ^ 61)) rows) (sym c.self.invariant.rows_are ∙ sym c.reserve_row.ensures.items) (few-rows_of (2 ^ 61) c.self.inside.log (omega (arith, c.settle.ensures.short)))
+pub add-requires-clause-few : goal.add-requires-clause-few
+add-requires-clause-few c = subst (λ (rows : List Row). All (IsUnder (2 ^ 61)) rows) (sym c.self.invariant.rows_are ∙ sym c.reserve.ensures.list) (few-rows_of (2 ^ 61) c.self.inside.log (omega (arith, c.settle.ensures.short)))
 
 pub invariant_of-self-2 : goal.invariant_of-self-2
 invariant_of-self-2 c =
     let none : Larval = record { text = []; claimed = None; ended = None } in
     let it = to_end _ _ _ _ c.args.caller c.args.larval c.self.invariant c.self.view_is c.requires.claimed c.requires.unended in
     let builds : built_answer (rows_of c.self.inside.log) c.args.spec ≡ Built (length (rows_of c.self.inside.log)) c.args.spec = subst (λ (h : List RegEntry). built_answer (rows_of h) c.args.spec ≡ Built (length (rows_of h)) c.args.spec) (sym c.self.view_is) c.requires.builds in
-    let id : c.len-id.result ≡ length c.self.inside.rows.items = omega (arith, c.len-id.ensures) in
-    kept-built c.self.inside.log _ c.self.inside.rows.items _ _ _ c.args.caller c.args.larval c.len-id.result c.args.spec none c.self.invariant it.claimed it.unended builds id
-    c.settle.ensures.appended (cc (c.add_row.ensures, c.reserve_row.ensures.items, c.in-Ok.ensures.ok)) (c.end.ensures none)
+    let id : c.count-id.result ≡ length c.self.inside.rows.list = omega (arith, c.count-id.ensures) in
+    kept-built c.self.inside.log _ c.self.inside.rows.list _ _ _ c.args.caller c.args.larval c.count-id.result c.args.spec none c.self.invariant it.claimed it.unended builds id
+    c.settle.ensures.appended (cc (c.add.ensures, c.reserve.ensures.list, c.in-Ok.ensures.ok)) (c.end.ensures none)
 
 pub returns-clause-legal : goal.returns-clause-legal
 returns-clause-legal c = (invariant_of-self-2 c).legal

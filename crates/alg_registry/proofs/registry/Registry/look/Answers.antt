@@ -1,6 +1,5 @@
 use Rattle.std.proofs.Common.{◌≡◌, List, ap, ◌∙◌, subst}
 use Rattle.alg_registry.specs.declared.entry.RegEntry.{RegEntry}
-use Rattle.alg_registry.specs.declared.row.Row.{Row}
 use Rattle.alg_registry.specs.Rows.{rows_of, larvals_of}
 use Rattle.alg_registry.specs.Answers.{look_answer}
 use Rattle.alg_registry.specs.Legal.{LegalReg}
@@ -10,15 +9,15 @@ use Rattle.alg_registry.proofs.registry.Registry.look.Goals as goal
 -- the larval that begins is the last
 pub invariant_of-self-in-Began : goal.invariant_of-self-in-Began
 invariant_of-self-in-Began c =
-    let is : c.in_ok-answer.answer ≡ look_answer c.self.inside.rows.items c.self.inside.larvals.list c.args.text.now c.args.plain =
-    c.in_ok-answer.ensures.ok ∙ ap (λ (rs : List Row). look_answer rs c.self.inside.larvals.list c.args.text.now c.args.plain) c.deref.ensures.value in
+    let is : c.in_ok-answer.answer ≡ look_answer c.self.inside.rows.list c.self.inside.larvals.list c.args.text.now c.args.plain =
+    c.in_ok-answer.ensures.ok in
     kept-began _ _ _ _ _ c.args.caller c.args.text.now c.args.plain c.in_ok-answer.answer c.in-Began.field-0 c.self.invariant c.requires is c.in-Began.is
     (cc (c.in_ok-record.ensures.ok, c.in_ok-copy.ensures.ok)) (cc (c.reserve.ensures.list, c.begin.ensures, c.in_ok-begun.ensures.ok))
 
 pub invariant_of-self-2 : goal.invariant_of-self-2
 invariant_of-self-2 c =
-    let is : c.in_ok-answer.answer ≡ look_answer c.self.inside.rows.items c.self.inside.larvals.list c.args.text.now c.args.plain =
-    c.in_ok-answer.ensures.ok ∙ ap (λ (rs : List Row). look_answer rs c.self.inside.larvals.list c.args.text.now c.args.plain) c.deref.ensures.value in
+    let is : c.in_ok-answer.answer ≡ look_answer c.self.inside.rows.list c.self.inside.larvals.list c.args.text.now c.args.plain =
+    c.in_ok-answer.ensures.ok in
     kept-look _ _ _ _ c.args.caller c.args.text.now c.args.plain c.in_ok-answer.answer c.self.invariant c.requires is c.in_default.not-Began
     (cc (c.in_ok-record-2.ensures.ok, c.in_ok-copy.ensures.ok))
 
@@ -27,7 +26,7 @@ returns-in-Began-clause-legal c = (invariant_of-self-in-Began c).legal
 
 pub returns : goal.returns
 returns c =
-    let rows : c.deref.result.now ≡ rows_of c.args.self.now = c.deref.ensures.value ∙ (c.self.invariant.rows_are ∙ ap (λ (h : List RegEntry). rows_of h) c.self.view_is) in
+    let rows : c.self.inside.rows.list ≡ rows_of c.args.self.now = (c.self.invariant.rows_are ∙ ap (λ (h : List RegEntry). rows_of h) c.self.view_is) in
     let larvals : c.self.inside.larvals.list ≡ larvals_of c.args.self.now = c.self.invariant.larvals_are ∙ ap (λ (h : List RegEntry). larvals_of h) c.self.view_is in
     record {
       answer = c.in_ok-answer.ensures.ok ∙ (λ i. look_answer (rows i) (larvals i) c.args.text.now c.args.plain);
