@@ -116,12 +116,13 @@ AreKin (old ∷ olds) (row ∷ rows) = (row.spec ≡ old.spec) × (is_held old �
 record IsRemarked (olds old before row : List Row) : Type 0 where
   all : remarked_all (held_from (length before) old) (before ++ row) ≡ before ++ remarks before row
   kin : AreKin old (remarks before row)
+  under : Under old (remarks before row)
 
 remarked-seam : (before : List Row) (row : Row) (rows : List Row) → remarked_at (length before) (before ++ row ∷ rows) ≡ before ++ remarked before row ∷ rows
 remarked-seam before row rows = λ i. remarked_by (take-append_seam before (row ∷ rows) i) (drop-append_seam before (row ∷ rows) i)
 
 remarks-held : (before olds os rows : List Row) → Stands olds os → Under olds before → AreChanged os rows → IsRemarked olds os before rows
-remarks-held before olds [] [] stands under change = record { all = refl; kin = tt }
+remarks-held before olds [] [] stands under change = record { all = refl; kin = tt; under = tt }
 remarks-held before olds [] (row ∷ rows) stands under change = absurd change
 remarks-held before olds (old ∷ os) [] stands under change = absurd change
 remarks-held before olds (old ∷ os) (row ∷ rows) stands under change =
@@ -129,6 +130,7 @@ remarks-held before olds (old ∷ os) (row ∷ rows) stands under change =
     record {
       all = step (is_held old) refl ∙ (ap (λ (n : ℕ). remarked_all (held_from n os) ((before ++ first ∷ []) ++ rows)) next ∙ (rest.all ∙ append_assoc before (first ∷ []) (remarks (before ++ first ∷ []) rows)));
       kin = (change.0.spec, λ e. same e ∙ change.0.dead e, rest.kin);
+      under = (λ e. stands.0 ∙ stays e, rest.under);
     }
   where
     first : Row
@@ -329,3 +331,14 @@ pub held-same : (n : ℕ) (rows : List Row) (p : ℕ) (row d : Row) → is_held 
 held-same n [] p row d same = refl
 held-same n (x ∷ rows) zero row d same = ap (λ b. cond b (n ∷ held_from (n + 1) rows) (held_from (n + 1) rows)) same
 held-same n (x ∷ rows) (suc p) row d same = ap (λ ns. cond (is_held x) (n ∷ ns) ns) (held-same (n + 1) rows p row d same)
+
+listed_counted : (n : ℕ) (rows : List Row) (id : ℕ) → listed_at (counted n rows) id ≡ listed_at rows id
+listed_counted n [] id = refl
+listed_counted n (row ∷ rows) zero = refl
+listed_counted n (row ∷ rows) (suc id) = listed_counted (n + 1) rows id
+
+-- what is listed was
+pub was-listed : (old rows : List Row) → standing old ≡ old → AreChanged old rows → (id : ℕ) → listed_at (standing rows) id ≡ true → listed_at old id ≡ true
+was-listed old rows stands change id listed =
+    let is = remarks-held [] [] old rows (stands-from old stands) tt change in
+    under_listed old (remarks [] rows) id is.under (sym (ap (λ (rs : List Row). listed_at rs id) (standing-remarks rows) ∙ listed_counted 0 (remarks [] rows) id) ∙ listed)

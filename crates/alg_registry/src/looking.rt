@@ -1,11 +1,11 @@
 //! What a look answers.
 
 ghost use Rattle.std.specs.Prelude.{◌≡◌, ℕ, ◌+◌, ◌&&◌, ◌==◌, length, drop, slice_get, IfOk, IfErr};
-ghost use Rattle.std.specs.List.{list_any, find, position_from};
+ghost use Rattle.std.specs.List.{list_any, find};
 ghost use Rattle.std.specs.Option.{option_map_or};
 ghost use Rattle.std.specs.Str.{bytes_eq};
 ghost use Rattle.alg_registry.specs.Answers.{may_find, is_plain, better, is_pending, is_template, not_found, look_answer};
-ghost use Rattle.alg_registry.specs.Larvals.{answers_by};
+ghost use Rattle.alg_registry.specs.Larvals.{answers_by, passes_at, seen_from};
 ghost use Rattle.alg_registry.specs.Held.{passes, better_by, best_among, is_plain_driver};
 
 use crate::counting::is_among;
@@ -110,7 +110,7 @@ fn is_template_text(text: &[u8]) -> bool
 
 /// What a look answers where nothing is found.
 fn answer_unfound(larvals: &Larvals, text: &[u8]) -> Looked
-    ensures { result ≡ not_found larvals.now.list text.now (position_from (is_pending text.now) 0 larvals.now.list) }
+    ensures { result ≡ not_found larvals.now.list text.now (find (passes_at (is_pending text.now) larvals.now.list) larvals.now.seen) }
 {
     match larvals.pending(text) {
         Some(number) => Looked::Pending(number),
@@ -132,6 +132,7 @@ pub fn look_up(
     text: &[u8],
     plain: bool,
 ) -> Result<Looked, RegErr>
+    requires { larvals.now.seen ≡ seen_from rows.now.list 0 larvals.now.list }
     ensures ok { IfOk result (λ answer. answer ≡ look_answer rows.now.list larvals.now.list text.now plain) }
     ensures err { IfErr result (λ e. e ≡ RegErr.Memory) }
 {

@@ -38,13 +38,13 @@ pub struct Registry {
 impl Model for Registry {
     ghost use Rattle.std.specs.Prelude.{List};
     ghost use Rattle.alg_registry.specs.declared.entry.RegEntry.{RegEntry};
-    ghost use Rattle.alg_registry.specs.Kept.{IsKept};
+    ghost use Rattle.alg_registry.specs.Kept.{IsRegistry};
 
     ghost Value = { List RegEntry };
 
     ghost view = { λ r. r.log };
 
-    ghost invariant = { λ r. IsKept r.log r.rows.list r.larvals.list };
+    ghost invariant = { λ r. IsRegistry r.log r.rows.list r.larvals.list r.larvals.seen };
 }
 
 /// What is to become of an instance that was built.
@@ -394,6 +394,7 @@ impl Registry {
                     answer: Some(id),
                 })?;
                 self.rows.unlist(id as usize);
+                self.larvals.forget_unlisted(self.rows.all());
                 Ok(())
             }
             None => {
