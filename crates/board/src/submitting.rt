@@ -13,6 +13,7 @@ ghost use Rattle.board.specs.Legal.{MaySubmit, IsOpenPad, LegalBoard};
 use crate::allowance::{is_allowed, spend, used_by};
 use crate::board_core::{BoardCore, BoardErr};
 use crate::entry::BoardEntry;
+use crate::log::reserve_entries;
 use crate::work::Work;
 
 impl<W: Work> BoardCore<W> {
@@ -34,10 +35,7 @@ impl<W: Work> BoardCore<W> {
             return Err(BoardErr::TooBig);
         }
         let ask = job.ask(self.alloc)?;
-        let Some(room) = self.owed.checked_add(3) else {
-            return Err(BoardErr::Memory);
-        };
-        self.log.reserve(room)?;
+        reserve_entries(&mut self.log, self.owed, 3)?;
         let place = &mut self.pipes[pipe as usize];
         place.reserve()?;
         spend(&mut self.used, caller, size)?;
