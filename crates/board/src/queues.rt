@@ -11,11 +11,12 @@ ghost use Rattle.board.specs.Entries.{entries_of, verdict};
 ghost use Rattle.board.specs.Allowance.{IsAllowed};
 ghost use Rattle.board.specs.Legal.{IsNoWorker, MaySubmit, MayManage, IsOpenQueue, pipelines, LegalBoard};
 
-use crate::allowance::{is_allowed, spend_if, used_by};
+use crate::allowance::spend_if;
 use crate::board_core::{BoardCore, BoardErr};
 use crate::entry::{BoardEntry, Entered, Shape, hold_entry, work_entries};
 use crate::log::reserve_entries;
 use crate::pipeline::{Pipeline, QueuePipeline};
+use crate::submitting::Admitted;
 use crate::work::Work;
 use cryptd::Cryptd;
 
@@ -69,12 +70,7 @@ impl<W: Work> BoardCore<W> {
         ensures refused { IfErr result (λ e. (e ≡ BoardErr.TooBig) ↔ (IsAllowed W.weight self.old caller (W.asked job) → ⊥)) }
         ensures legal { LegalBoard self.new }
     {
-        let size = job.size();
-        let so_far = used_by(&self.used, caller);
-        if !is_allowed(so_far, size) {
-            return Err(BoardErr::TooBig);
-        }
-        let ask = job.ask(self.alloc)?;
+        let Admitted { ask, size } = self.admit(caller, &job)?;
         reserve_entries(&mut self.log, self.owed, 3)?;
         let place = &mut self.pipes[pipe as usize];
         place.reserve()?;

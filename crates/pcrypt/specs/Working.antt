@@ -72,15 +72,3 @@ abbrev pub WorkSpares : {A O : Type 0} → (A → O) → ℕ → List (BoardEntr
 WorkSpares meaning caller before after p other n out =
     WorksFrom caller before after → LegalBoard after → caller ≢ other
     → MayFinish meaning (entries_of p before) other n out → MayFinish meaning (entries_of p after) other n out
-
--- a queue that was just made is not held
-abbrev pub BornServed : {A : Type 0} → List (BoardEntry A) → ℕ → ℕ → ℕ → Type 0
-BornServed h caller q max = LegalBoard (h ++ Born caller q (Queue max) ∷ []) → is_held (entries_of q (h ++ Born caller q (Queue max) ∷ [])) ≡ false
-
--- it is held after a Hold, not after a Go, and otherwise as before
-abbrev pub Holds : {A : Type 0} → List (BoardEntry A) → ℕ → ℕ → Type 0
-Holds h caller q =
-    (is_held (entries_of q (h ++ Hold caller q ∷ [])) ≡ true) × (is_held (entries_of q (h ++ Go caller q ∷ [])) ≡ false)
-
-abbrev pub StaysHeld : {A : Type 0} → List (BoardEntry A) → BoardEntry A → ℕ → Type 0
-StaysHeld h e q = held_in e ≡ None → is_held (entries_of q (h ++ e ∷ [])) ≡ is_held (entries_of q h)

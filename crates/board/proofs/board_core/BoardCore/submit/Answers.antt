@@ -60,33 +60,27 @@ invariant_of-self-2 g c =
     let w = within_board g.W.Work.asked g.W.Work.meaning c.self.inside.pipes.items c.self.inside.log.items c.args.pipe c.self.invariant.0 (open_here (entries_of c.args.pipe c.self.inside.log.items) open_.0) in
     let e = c.submit-number.ensures.submitted ∙ job_same c.reserve.new.self c.index_mut-place.result.now c.args.job c.in_ok-reserve.ensures.same in
     let n = c.submit-number.ensures.number ∙ accepted_same c.reserve.new.self c.index_mut-place.result.now c.in_ok-reserve.ensures.same in
-    let s = submit_step g.W.Work.asked g.W.Work.meaning c.self.inside.pipes.items c.self.inside.log.items c.args.pipe c.submit-number.result c.args.caller c.in_ok-ask.ask c.index_mut-place.result.now c.submit-number.new.self c.args.job c.self.invariant.0 w c.index_mut-place.ensures.value c.in_ok-ask.ensures e may open_ n in (
+    let s = submit_step g.W.Work.asked g.W.Work.meaning c.self.inside.pipes.items c.self.inside.log.items c.args.pipe c.submit-number.result c.args.caller c.in_ok-ask.field-0.ask c.index_mut-place.result.now c.submit-number.new.self c.args.job c.self.invariant.0 w c.index_mut-place.ensures.value c.in_ok-ask.ensures.ask e may open_ n in (
       rw (c.push_reserved.ensures.items, c.in_ok-reserve_entries.ensures.items) s.0,
-      rw (c.push_reserved.ensures.items, c.in_ok-reserve_entries.ensures.items) (shut-same c.self.inside.log.items (Submit c.args.caller c.args.pipe c.submit-number.result c.in_ok-ask.ask) refl ∙ c.self.invariant.1),
+      rw (c.push_reserved.ensures.items, c.in_ok-reserve_entries.ensures.items) (shut-same c.self.inside.log.items (Submit c.args.caller c.args.pipe c.submit-number.result c.in_ok-ask.field-0.ask) refl ∙ c.self.invariant.1),
       omega (arith, c.push_reserved.ensures.len, c.push_reserved.ensures.capacity, c.in_ok-reserve_entries.ensures.ok),
       omega (arith, s.1, c.self.invariant.3),
-      rw (c.push_reserved.ensures.items, c.in_ok-reserve_entries.ensures.items) (used_more g.W.Work.weight c.self.inside.used c.spend.new.used c.self.inside.log.items (Submit c.args.caller c.args.pipe c.submit-number.result c.in_ok-ask.ask) (g.W.Work.asked c.args.job) c.size-size.result (ap Some c.in_ok-ask.ensures) c.size-size.ensures c.self.invariant.4 c.in_ok-spend.ensures.ok),
+      rw (c.push_reserved.ensures.items, c.in_ok-reserve_entries.ensures.items) (used_more g.W.Work.weight c.self.inside.used c.spend.new.used c.self.inside.log.items (Submit c.args.caller c.args.pipe c.submit-number.result c.in_ok-ask.field-0.ask) (g.W.Work.asked c.args.job) c.in_ok-ask.field-0.size (ap Some c.in_ok-ask.ensures.ask) c.in_ok-ask.ensures.size c.self.invariant.4 c.in_ok-spend.ensures.ok),
     )
 
-pub returns : goal.returns
-returns g c =
+pub returns-clause-submitted : goal.returns-clause-submitted
+returns-clause-submitted g c =
     let open_ : IsOpenPad (entries_of c.args.pipe c.self.inside.log.items) = subst (λ h. IsOpenPad (entries_of c.args.pipe h)) (sym c.self.view_is) c.requires.pipe in
     let may : MaySubmit (entries_of c.args.pipe c.self.inside.log.items) c.args.caller = subst (λ h. MaySubmit (entries_of c.args.pipe h) c.args.caller) (sym c.self.view_is) c.requires.caller in
     let w = within_board g.W.Work.asked g.W.Work.meaning c.self.inside.pipes.items c.self.inside.log.items c.args.pipe c.self.invariant.0 (open_here (entries_of c.args.pipe c.self.inside.log.items) open_.0) in
-    let a = accepted_here g.W.Work.asked g.W.Work.meaning c.self.inside.pipes.items c.self.inside.log.items c.args.pipe c.index_mut-place.result.now c.reserve.new.self c.self.invariant.0 w c.index_mut-place.ensures.value c.in_ok-reserve.ensures.same in record {
-      submitted = (
-        subst (λ h. c.submit-number.result ≡ length (submissions (entries_of c.args.pipe h))) c.self.view_is (c.submit-number.ensures.number ∙ a),
-        (
-          c.in_ok-ask.ask,
-          c.in_ok-ask.ensures,
-          rw (c.push_reserved.ensures.items, c.in_ok-reserve_entries.ensures.items, c.self.view_is) refl,
-        ),
-      );
-      allowed =
-          (let u = c.used_by-so_far.ensures ∙ c.self.invariant.4 c.args.caller in
-          let a = c.is_allowed.ensures.0 c.if-not-is_allowed.false in
-          let b = rw (u, c.size-size.ensures) at a in
-          rw (← c.self.view_is) b);
-      refused = tt;
-      legal = (invariant_of-self-2 g c).0.legal;
-    }
+    let a = accepted_here g.W.Work.asked g.W.Work.meaning c.self.inside.pipes.items c.self.inside.log.items c.args.pipe c.index_mut-place.result.now c.reserve.new.self c.self.invariant.0 w c.index_mut-place.ensures.value c.in_ok-reserve.ensures.same in (
+      subst (λ h. c.submit-number.result ≡ length (submissions (entries_of c.args.pipe h))) c.self.view_is (c.submit-number.ensures.number ∙ a),
+      (
+        c.in_ok-ask.field-0.ask,
+        c.in_ok-ask.ensures.ask,
+        rw (c.push_reserved.ensures.items, c.in_ok-reserve_entries.ensures.items, c.self.view_is) refl,
+      ),
+    )
+
+pub returns-clause-legal : goal.returns-clause-legal
+returns-clause-legal g c = (invariant_of-self-2 g c).0.legal
