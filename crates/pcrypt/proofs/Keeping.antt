@@ -1,21 +1,17 @@
 -- What a caller's work keeps, from what each entry keeps.
-use Rattle.std.proofs.Common.{◌≡◌, ◌≢◌, inl, inr, ℕ, Bool, true, false, ◌&&◌, List, [], ◌∷◌, ◌++◌, Some, None, refl, ap, sym, ◌∙◌, subst, append-nil, append_assoc}
+use Rattle.std.proofs.Common.{◌≡◌, ◌≢◌, inl, inr, ℕ, Bool, true, false, ◌&&◌, List, [], ◌∷◌, ◌++◌, None, refl, ap, sym, ◌∙◌, subst, append-nil, append_assoc}
 use Rattle.std.specs.Prelude.{◌==◌}
-use Rattle.std.specs.List.{list_all, filter_map}
-use Rattle.std.proofs.lemmas.Bool.{eqb-true, eq-eqb}
+use Rattle.std.specs.List.{list_all}
+use Rattle.std.proofs.lemmas.Bool.{eqb-true}
 use Rattle.std.proofs.lemmas.List.Folds.{list_all-append}
 use Rattle.board.specs.declared.entry.BoardEntry.{BoardEntry}
 use Rattle.board.specs.declared.entry.BoardEntry.TheVariants.{Born, Submit, Take, Finish, Enq, Deq, Done, Hold, Go, Collect, Close, Share, Shut}
-use Rattle.board.specs.declared.entry.Shape.TheVariants.{Queue}
-use Rattle.board.specs.Entries.{is_of, entries_of, submissions, collected, caller_of, is_close, held_in, is_held, last_or}
+use Rattle.board.specs.Entries.{entries_of, submissions, collected, caller_of, is_close, held_in, is_held}
 use Rattle.board.specs.Legal.{IsOpenPad, IsOpenQueue, MaySubmit, MayManage, MayFinish, AreRightAfter, is_shut_entry, is_shut, LegalBoard}
 use Rattle.board.specs.Order.{handed_out}
 use Rattle.board.specs.Handing.{is_collect, HandsNothing}
 use Rattle.board.specs.Staying.{is_work, StaysOpen, QueueStaysOpen, StaysManaged, StaysSubmitting, WorkLeaves, StaysHeld, SlipStays}
-use Rattle.board.proofs.Transfer.{entries-more, entries-same}
-use Rattle.board.proofs.PadOrder.{filter_map-none, filter_map-some, last_or-append}
 use Rattle.board.proofs.Kept.{shut-same}
-use Rattle.board.proofs.Staying.{last_right}
 use Rattle.pcrypt.specs.Working.{is_work_by, WorksFrom, IsServed, WorkKeeps, WorkShutsNothing, WorkSpares}
 
 left_true : (a b : Bool) → (a && b) ≡ true → a ≡ true

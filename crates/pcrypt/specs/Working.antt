@@ -2,9 +2,8 @@
 use Rattle.std.specs.Prelude.{◌≡◌, ◌≢◌, ◌⊎◌, ℕ, ◌-◌, Bool, true, false, ◌&&◌, ◌==◌, List, [], ◌∷◌, ◌++◌, length, None}
 use Rattle.std.specs.List.{list_all}
 use Rattle.board.specs.declared.entry.BoardEntry.{BoardEntry}
-use Rattle.board.specs.Entries.{entries_of, submissions, taken_in, takers, finished, has, front, told, collected, delivered, caller_of, held_in, is_held, NoneWaits}
-use Rattle.board.specs.declared.entry.BoardEntry.TheVariants.{Born, Hold, Go, Collect}
-use Rattle.board.specs.declared.entry.Shape.TheVariants.{Queue}
+use Rattle.board.specs.Entries.{entries_of, submissions, taken_in, takers, finished, has, front, told, collected, delivered, caller_of, is_held, NoneWaits}
+use Rattle.board.specs.declared.entry.BoardEntry.TheVariants.{Collect}
 use Rattle.kc_base.specs.declared.callback_list.Callback.{Callback}
 use Rattle.board.specs.Legal.{IsOpenPad, IsOpenQueue, MaySubmit, MayManage, MayFinish, is_shut, LegalBoard}
 use Rattle.board.specs.Order.{handed_out}
