@@ -18,10 +18,10 @@ use Rattle.board.proofs.QueueOrder.{queue_is_born}
 use Rattle.board.proofs.Transfer.{each_right}
 use Rattle.board.proofs.Handing.{hands_nothing, leaves_others}
 use Rattle.board.proofs.Kept.{shut-same}
-use Rattle.board.proofs.Staying.{stays_open, queue_stays_open, stays_managed, stays_submitting, work_leaves}
+use Rattle.board.proofs.Staying.{stays_open, queue_stays_open, stays_managed, stays_submitting, work_leaves, stays_held, holds}
 use Rattle.pcrypt.specs.Working.{NoneRuns, IsServed, WorksFrom, WorkKeeps, Drains}
 use Rattle.pcrypt.proofs.Done.{stays_idle}
-use Rattle.pcrypt.proofs.Keeping.{holds, stays_held, work_keeps, served_on, work_shuts_nothing}
+use Rattle.pcrypt.proofs.Keeping.{work_keeps, served_on, work_shuts_nothing}
 use Rattle.kc_base.specs.declared.callback_list.Callback.{Callback}
 use Rattle.reply_text.specs.declared.answers.Answer.{Answer}
 use Rattle.transforms.specs.declared.ask.Ask.{Ask}
@@ -243,7 +243,7 @@ gone-at lives i live b b' b'' within here s grown legal =
 -- ---- the last drain of a pipeline
 
 work-keeps : (b h : List (BoardEntry Ask)) (p : ℕ) → WorkKeeps 0 b h p
-work-keeps b h p = work_keeps stays_open queue_stays_open stays_managed stays_submitting work_leaves hands_nothing 0 b h p
+work-keeps b h p = work_keeps stays_open queue_stays_open stays_managed stays_submitting work_leaves stays_held hands_nothing 0 b h p
 
 work-drains : (b h : List (BoardEntry Ask)) (pipe : Option Pipe) → WorksFrom 0 b h → MayDrain b pipe → MayDrain h pipe
 work-drains b h None work may = tt

@@ -22,10 +22,10 @@ use Rattle.board.specs.Handing.{is_collect, completions}
 use Rattle.board.proofs.Transfer.{entries-more}
 use Rattle.board.proofs.PadOrder.{filter_map-none, filter_map-some}
 use Rattle.board.proofs.Kept.{only_of, not_shut, shut-same}
-use Rattle.board.proofs.Staying.{before_last, stays_open, queue_stays_open, stays_managed, stays_submitting, work_leaves}
+use Rattle.board.proofs.Staying.{before_last, stays_open, queue_stays_open, stays_managed, stays_submitting, work_leaves, stays_held, holds}
 use Rattle.board.proofs.Handing.{hands_nothing, collect_hands_out, most_handed_out, all_handed_out, leaves_others}
 use Rattle.pcrypt.specs.Working.{NoneRuns, IsServed, WorksFrom, WorkKeeps}
-use Rattle.pcrypt.proofs.Keeping.{work_keeps, work_shuts_nothing, works_none, stays_held, holds}
+use Rattle.pcrypt.proofs.Keeping.{work_keeps, work_shuts_nothing, works_none}
 use Rattle.pcrypt.proofs.Done.{stays_idle}
 use Rattle.transforms.specs.declared.ask.Ask.{Ask}
 use Rattle.transforms.specs.AskValue.{ask_size}
@@ -125,7 +125,7 @@ pipe-collected b pipe to legal on =
     }
 
 kept_by_work : (b h : List (BoardEntry Ask)) (p : ℕ) → WorkKeeps 0 b h p
-kept_by_work b h p = work_keeps stays_open queue_stays_open stays_managed stays_submitting work_leaves hands_nothing 0 b h p
+kept_by_work b h p = work_keeps stays_open queue_stays_open stays_managed stays_submitting work_leaves stays_held hands_nothing 0 b h p
 
 opened-worked : (k : PipeKind) (b h : List (BoardEntry Ask)) (p : ℕ) → WorksFrom 0 b h → IsOpenAs k (entries_of p b) → IsOpenAs k (entries_of p h)
 opened-worked kind.Pad b h p w o = (kept_by_work b h p w).2 o
