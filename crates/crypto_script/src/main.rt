@@ -2,6 +2,8 @@
 #![tactic(auto)]
 
 mod adapters;
+#[cfg(test)]
+mod pipeline_tests;
 mod program;
 #[cfg(test)]
 mod tests;

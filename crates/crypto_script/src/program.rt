@@ -7,19 +7,23 @@ ghost use Rattle.kc_base.specs.Streams.{AppendsFront, Rose};
 ghost use Rattle.script_text.specs.Script.{line_of, script_of};
 ghost use Rattle.alg_registry.specs.Legal.{LegalReg};
 ghost use Rattle.alg_registry.specs.Made.{Made};
+ghost use Rattle.board.specs.Legal.{LegalBoard};
 ghost use Rattle.templates.specs.Table.{table};
-ghost use Rattle.session.specs.Lines.{LineTurn, EndTurn};
-ghost use Rattle.session.specs.Histories.{reg_calls};
-ghost use Rattle.session.specs.Standing.{Stands, Extends};
+ghost use Rattle.session.specs.Ending.{EndsShut};
+ghost use Rattle.session.specs.Lines.{LineTurn};
+ghost use Rattle.session.specs.Piping.{EndTurn};
+ghost use Rattle.session.specs.Standing.{Stands, Posted};
 ghost use Rattle.crypto_script.specs.Text.{IsText, IsFrontText, is_malformed};
 ghost use Rattle.crypto_script.specs.declared.program.RunError.TheVariants.{NoMemory};
-ghost use Rattle.crypto_script.specs.Runs.{of_input, of_output, ReadsUpTo, Gains, Replies, Writes, Breaks};
+ghost use Rattle.crypto_script.specs.Runs.{of_input, of_output, ReadsUpTo, Gains, GoesOn, Replies, Writes, Breaks};
 
 use alg_registry::{RegLog, Registry};
+use board::{BoardCore, BoardLog};
 use kc_base::{Bytes, InputError, Sink, SinkError, Source, read_input, write_piece};
 use script_text::{Line, first_line, read_line};
 use session::{Session, Stop};
 use std::alloc::{AllocError, Global};
+use transforms::{Ask, Job};
 
 /// The most bytes of input.
 pub const MAX_INPUT: usize = 268_435_456;
@@ -33,12 +37,14 @@ pub const USAGE: u8 = 2;
 pub const NO_MEMORY: u8 = 5;
 
 /// How a run ended.
-#[derive(Debug, Drop)]
+#[derive(Drop)]
 pub struct Outcome {
     /// The program's exit status.
     pub status: u8,
     /// All that happened in the registry.
     pub registry: RegLog,
+    /// All that happened on the board.
+    pub board: BoardLog<Ask>,
 }
 
 // Why a run did not reach the end.
@@ -91,20 +97,24 @@ fn is_malformed_line(line: &Line) -> bool
 fn reply_to(
     alloc: Global,
     session: &mut Session,
+    board: &mut BoardCore<Job>,
     registry: &mut Registry,
     number: u32,
     line: &[u8],
 ) -> Result<(Bytes, bool), AllocError>
-    requires { Stands session.old registry.old }
+    requires stands { Stands session.old registry.old }
+    requires posted { Posted session.old board.old }
     ensures turn { MatchResult result
-        (λ reply. Replies (LineTurn session.old number (line_of line.now)) registry.old registry.new session.new reply.0)
-        (λ _. Extends (reg_calls 0 registry.old) (reg_calls 0 registry.new)) }
+        (λ reply. Replies (LineTurn session.old number (line_of line.now)) registry.old registry.new board.old board.new session.new reply.0)
+        (λ _. GoesOn registry.old registry.new board.old board.new) }
+    ensures stands { OnOk result (Stands session.new registry.new) }
+    ensures posted { OnOk result (Posted session.new board.new) }
     ensures malformed { IfOk result (λ reply. reply.1 ≡ is_malformed (line_of line.now)) }
     ensures faithful { Made table registry.new }
 {
     let said = read_line(alloc, line)?;
     let mut reply = Bytes::new(alloc);
-    match session.line(registry, number, &said, &mut reply) {
+    match session.line(board, registry, number, &said, &mut reply) {
         Ok(()) => Ok((reply, is_malformed_line(&said))),
         Err(Stop::Memory) => Err(AllocError),
     }
@@ -114,16 +124,19 @@ fn reply_to(
 fn reply_to_end(
     alloc: Global,
     session: &mut Session,
+    board: &mut BoardCore<Job>,
     registry: &mut Registry,
 ) -> Result<Bytes, AllocError>
-    requires { Stands session.old registry.old }
+    requires stands { Stands session.old registry.old }
+    requires posted { Posted session.old board.old }
     ensures turn { MatchResult result
-        (λ reply. Replies (EndTurn session.old) registry.old registry.new session.new reply)
-        (λ _. Extends (reg_calls 0 registry.old) (reg_calls 0 registry.new)) }
+        (λ reply. Replies (EndTurn session.old) registry.old registry.new board.old board.new session.new reply)
+        (λ _. GoesOn registry.old registry.new board.old board.new) }
+    ensures shut { OnOk result (EndsShut board.new) }
     ensures faithful { Made table registry.new }
 {
     let mut reply = Bytes::new(alloc);
-    match session.end(registry, &mut reply) {
+    match session.end(board, registry, &mut reply) {
         Ok(()) => Ok(reply),
         Err(Stop::Memory) => Err(AllocError),
     }
@@ -133,21 +146,25 @@ fn reply_to_end(
 fn run_line<K: Sink>(
     alloc: Global,
     session: &mut Session,
+    board: &mut BoardCore<Job>,
     registry: &mut Registry,
     number: u32,
     line: &[u8],
     out: &mut K,
 ) -> Result<bool, SinkError>
-    requires { Stands session.old registry.old }
+    requires stands { Stands session.old registry.old }
+    requires posted { Posted session.old board.old }
     ensures turn { MatchResult result
-        (λ _. Writes (LineTurn session.old number (line_of line.now)) registry.old registry.new session.new (K.held out.old) (K.held out.new))
-        (λ _. Breaks (LineTurn session.old number (line_of line.now)) registry.old registry.new (K.held out.old) (K.held out.new)) }
+        (λ _. Writes (LineTurn session.old number (line_of line.now)) registry.old registry.new board.old board.new session.new (K.held out.old) (K.held out.new))
+        (λ _. Breaks (LineTurn session.old number (line_of line.now)) registry.old registry.new board.old board.new (K.held out.old) (K.held out.new)) }
+    ensures stands { OnOk result (Stands session.new registry.new) }
+    ensures posted { OnOk result (Posted session.new board.new) }
     ensures malformed { IfOk result (λ bad. bad ≡ is_malformed (line_of line.now)) }
     ensures faithful { Made table registry.new }
     ensures later { K.faults out.old ≤ K.faults out.new }
     ensures cause { IsErrOf result SinkError.Failed → Rose (K.faults out.old) (K.faults out.new) }
 {
-    let (reply, malformed) = reply_to(alloc, session, registry, number, line)?;
+    let (reply, malformed) = reply_to(alloc, session, board, registry, number, line)?;
     write_piece(out, reply.as_slice())?;
     Ok(malformed)
 }
@@ -156,32 +173,38 @@ fn run_line<K: Sink>(
 fn run_end<K: Sink>(
     alloc: Global,
     session: &mut Session,
+    board: &mut BoardCore<Job>,
     registry: &mut Registry,
     out: &mut K,
 ) -> Result<(), SinkError>
-    requires { Stands session.old registry.old }
+    requires stands { Stands session.old registry.old }
+    requires posted { Posted session.old board.old }
     ensures turn { MatchResult result
-        (λ _. Writes (EndTurn session.old) registry.old registry.new session.new (K.held out.old) (K.held out.new))
-        (λ _. Breaks (EndTurn session.old) registry.old registry.new (K.held out.old) (K.held out.new)) }
+        (λ _. Writes (EndTurn session.old) registry.old registry.new board.old board.new session.new (K.held out.old) (K.held out.new))
+        (λ _. Breaks (EndTurn session.old) registry.old registry.new board.old board.new (K.held out.old) (K.held out.new)) }
+    ensures shut { OnOk result (EndsShut board.new) }
     ensures faithful { Made table registry.new }
     ensures later { K.faults out.old ≤ K.faults out.new }
     ensures cause { IsErrOf result SinkError.Failed → Rose (K.faults out.old) (K.faults out.new) }
 {
-    let reply = reply_to_end(alloc, session, registry)?;
+    let reply = reply_to_end(alloc, session, board, registry)?;
     write_piece(out, reply.as_slice())
 }
 
 // Answers each line of the input and its end, and says whether a line is malformed.
 fn run_lines<K: Sink>(
     alloc: Global,
+    board: &mut BoardCore<Job>,
     registry: &mut Registry,
     input: &[u8],
     out: &mut K,
 ) -> Result<bool, SinkError>
     requires short { length input.now ≤ 2 ^ 28 }
     requires fresh { registry.old ≡ [] }
-    ensures whole { OnOk result (Gains (K.held out.old) (K.held out.new) (IsText (script_of input.now) registry.new)) }
-    ensures front { Gains (K.held out.old) (K.held out.new) (IsFrontText (script_of input.now) registry.new) }
+    requires bare { board.old ≡ [] }
+    ensures whole { OnOk result (Gains (K.held out.old) (K.held out.new) (IsText (script_of input.now) registry.new board.new)) }
+    ensures front { Gains (K.held out.old) (K.held out.new) (IsFrontText (script_of input.now) registry.new board.new) }
+    ensures shut { OnOk result (EndsShut board.new) }
     ensures malformed { IfOk result (λ bad. bad ≡ list_any is_malformed (script_of input.now)) }
     ensures faithful { Made table registry.new }
     ensures later { K.faults out.old ≤ K.faults out.new }
@@ -193,12 +216,12 @@ fn run_lines<K: Sink>(
     let mut malformed = false;
     while !rest.is_empty() {
         let (line, more) = first_line(rest);
-        let bad = run_line(alloc, &mut session, registry, number, line, out)?;
+        let bad = run_line(alloc, &mut session, board, registry, number, line, out)?;
         malformed |= bad;
         rest = more;
         number += 1;
     }
-    run_end(alloc, &mut session, registry, out)?;
+    run_end(alloc, &mut session, board, registry, out)?;
     Ok(malformed)
 }
 
@@ -213,23 +236,50 @@ fn zeros(alloc: Global, count: usize) -> Result<Vec<u8>, AllocError>
 #[tactic(auto, using(crate::proofs::Going::nothing_fronted))]
 fn run_script<S: Source, K: Sink>(
     alloc: Global,
+    board: &mut BoardCore<Job>,
     registry: &mut Registry,
     src: &mut S,
     out: &mut K,
 ) -> Result<bool, RunError>
-    requires { registry.old ≡ [] }
+    requires fresh { registry.old ≡ [] }
+    requires bare { board.old ≡ [] }
     ensures read { ReadsUpTo (S.left src.old) (S.left src.new) (IsErrOf result RunError.TooLong) }
     ensures ended { IfOk result (λ _. IfSome (S.left src.old) (λ _. S.left src.new ≡ Some [])) }
-    ensures whole { IfOk result (λ _. IfSome (S.left src.old) (λ script. Gains (K.held out.old) (K.held out.new) (IsText (script_of script) registry.new))) }
+    ensures whole { IfOk result (λ _. IfSome (S.left src.old) (λ script. Gains (K.held out.old) (K.held out.new) (IsText (script_of script) registry.new board.new))) }
     ensures malformed { IfOk result (λ bad. IfSome (S.left src.old) (λ script. bad ≡ list_any is_malformed (script_of script))) }
-    ensures front { IfSome (S.left src.old) (λ script. Gains (K.held out.old) (K.held out.new) (IsFrontText (script_of script) registry.new)) }
+    ensures front { IfSome (S.left src.old) (λ script. Gains (K.held out.old) (K.held out.new) (IsFrontText (script_of script) registry.new board.new)) }
+    ensures shut { OnOk result (EndsShut board.new) }
     ensures faithful { Made table registry.new }
     ensures read_fault { IsErrOf result RunError.ReadFault → Rose (S.faults src.old) (S.faults src.new) }
     ensures write_fault { IsErrOf result RunError.WriteFault → Rose (K.faults out.old) (K.faults out.new) }
 {
     let mut buffer = zeros(alloc, BUFFER)?;
     let input = read_input(alloc, src, &mut buffer, MAX_INPUT)?;
-    Ok(run_lines(alloc, registry, input.as_slice(), out)?)
+    Ok(run_lines(alloc, board, registry, input.as_slice(), out)?)
+}
+
+// The outcome where nothing happened.
+fn nothing_done(alloc: Global, status: u8) -> Outcome
+    ensures status { result.status ≡ status }
+    ensures registry { result.registry ≡ [] }
+    ensures board { result.board ≡ [] }
+{
+    Outcome {
+        status,
+        registry: RegLog::empty(alloc),
+        board: BoardLog::empty(alloc),
+    }
+}
+
+// The board's history at its end.
+fn history_of(board: BoardCore<Job>) -> BoardLog<Ask>
+    ensures entries { result ≡ board }
+    ensures legal { LegalBoard result }
+{
+    let history = board.finish_all();
+    // that the history is legal is said where its entries are handed out
+    let _ = history.entries();
+    history
 }
 
 /// Does all that the program does: reads a script from the source, and writes the answers of its lines, each in one
@@ -245,22 +295,24 @@ fn run_script<S: Source, K: Sink>(
 /// | 6 | the source has more than 2^28 bytes |
 #[tactic(auto, using(crate::proofs::Going::nothing_fronted))]
 pub fn run<S: Source, K: Sink>(alloc: Global, words: &[String], src: &mut S, out: &mut K) -> Outcome
-    // A run that reaches the end has read the script whole, and written its text.
+    // A run that reaches the end has read the script whole, written its text, and shut the board last.
     ensures ended { result.status ≤ 1 → IfSome (S.left src.old) (λ _. S.left src.new ≡ Some []) }
-    ensures whole { result.status ≤ 1 → IfSome (S.left src.old) (λ script. Gains (K.held out.old) (K.held out.new) (IsText (script_of script) result.registry)) }
+    ensures whole { result.status ≤ 1 → IfSome (S.left src.old) (λ script. Gains (K.held out.old) (K.held out.new) (IsText (script_of script) result.registry result.board)) }
+    ensures shut { result.status ≤ 1 → EndsShut result.board }
     ensures malformed { result.status ≤ 1 → IfSome (S.left src.old) (λ script. (result.status ≡ 1) ↔ IsTrue (list_any is_malformed (script_of script))) }
 
     // However a run ends, what it has written is a front of the text.
-    ensures front { IfSome (S.left src.old) (λ script. Gains (K.held out.old) (K.held out.new) (IsFrontText (script_of script) result.registry)) }
+    ensures front { IfSome (S.left src.old) (λ script. Gains (K.held out.old) (K.held out.new) (IsFrontText (script_of script) result.registry result.board)) }
 
-    // Whatever ended the run, each entry of the history is right for those before it, and each instance is what its template
+    // Whatever ended the run, each entry of a history is right for those before it, and each instance is what its template
     // makes of its children.
     ensures legal { LegalReg result.registry }
+    ensures legal_board { LegalBoard result.board }
     ensures faithful { Made table result.registry }
 
     // Each other status has its cause. That of 5 is want of memory.
     ensures usage { (result.status ≡ 2) ↔ (0 < length words.now) }
-    ensures untouched { result.status ≡ 2 → (src.new ≡ src.old) × (out.new ≡ out.old) × (result.registry ≡ []) }
+    ensures untouched { result.status ≡ 2 → (src.new ≡ src.old) × (out.new ≡ out.old) × (result.registry ≡ []) × (result.board ≡ []) }
     ensures read_fault { result.status ≡ 3 → Rose (S.faults src.old) (S.faults src.new) }
     ensures write_fault { result.status ≡ 4 → Rose (K.faults out.old) (K.faults out.new) }
     ensures too_long { ReadsUpTo (S.left src.old) (S.left src.new) (result.status ≡ 6) }
@@ -271,18 +323,15 @@ pub fn run<S: Source, K: Sink>(alloc: Global, words: &[String], src: &mut S, out
         → IfSome (S.left src.old) (λ script. length script ≤ 2 ^ 28 → (result.status ≤ 1) ⊎ (result.status ≡ 5)) }
 {
     if !words.is_empty() {
-        return Outcome {
-            status: USAGE,
-            registry: RegLog::empty(alloc),
-        };
+        return nothing_done(alloc, USAGE);
     }
     let Ok(mut registry) = Registry::new(alloc) else {
-        return Outcome {
-            status: NO_MEMORY,
-            registry: RegLog::empty(alloc),
-        };
+        return nothing_done(alloc, NO_MEMORY);
     };
-    let status = match run_script(alloc, &mut registry, src, out) {
+    let Ok(mut board) = BoardCore::new(alloc) else {
+        return nothing_done(alloc, NO_MEMORY);
+    };
+    let status = match run_script(alloc, &mut board, &mut registry, src, out) {
         Ok(false) => 0,
         Ok(true) => 1,
         Err(RunError::ReadFault) => 3,
@@ -293,5 +342,6 @@ pub fn run<S: Source, K: Sink>(alloc: Global, words: &[String], src: &mut S, out
     Outcome {
         status,
         registry: registry.into_history(),
+        board: history_of(board),
     }
 }

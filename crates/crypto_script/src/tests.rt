@@ -19,7 +19,7 @@ const SCRIPT: &str =
 
 const TEXT: &str = "1 ok 69c4e0d86a7b0430d8cdb78070b4c55a\n2 EINVAL\n3 malformed\n";
 
-fn bytes_of(alloc: Global, text: &str) -> Result<Bytes, AllocError> {
+pub fn bytes_of(alloc: Global, text: &str) -> Result<Bytes, AllocError> {
     Bytes::copy_of(alloc, text.as_bytes())
 }
 
@@ -30,7 +30,7 @@ fn status<S: Source, K: Sink>(alloc: Global, src: &mut S, out: &mut K) -> u8 {
 }
 
 // A script over streams that don't fail has this status and this text.
-fn expect(
+pub fn expect(
     rt: &impl Abort,
     alloc: Global,
     script: &str,
@@ -134,6 +134,11 @@ fn the_registry_answers_in_order(rt: HostRuntime) -> Result<(), Fail> {
             "1 ok gcm_base(ctr(aes-generic),ghash-generic)\n2 ok rfc4106(gcm_base(ctr(aes-generic),ghash-generic))\n3 refs 2 listed\n",
         ),
         (
+            // pcrypt has priority over what it wraps
+            "alloc p pcrypt(gcm(aes))\nalloc g gcm(aes)\nalloc s gcm_base(ctr(aes-generic),ghash-generic)\nalloc r rfc4106(gcm(aes))\nrefs gcm_base(ctr(aes-generic),ghash-generic)\n",
+            "1 ok pcrypt(gcm_base(ctr(aes-generic),ghash-generic))\n2 ok pcrypt(gcm_base(ctr(aes-generic),ghash-generic))\n3 ok gcm_base(ctr(aes-generic),ghash-generic)\n4 ok rfc4106(gcm_base(ctr(aes-generic),ghash-generic))\n5 refs 3 listed\n",
+        ),
+        (
             "register aes-generic 100001\nregister aes-generic 1\nregister aes-table 1\nunregister nosuch\nregister ghash-generic 100000\nunregister ghash-generic\nregister ghash-generic 100000\n",
             "1 EINVAL\n2 EEXIST\n3 ENOENT\n4 ENOENT\n5 EEXIST\n6 ok\n7 ok\n",
         ),
@@ -172,10 +177,11 @@ fn names_are_refused(rt: HostRuntime) -> Result<(), Fail> {
         ("cbc(aes) 0", "EINVAL"),
         ("cbc(aes) 4097", "EINVAL"),
         ("cbc(aes) 4096", "EINVAL"),
-        // no pipelines yet
-        ("pcrypt(gcm(aes))", "ENOENT"),
-        ("cryptd(cbc(aes)) 2", "ENOENT"),
+        ("pcrypt(cbc(aes))", "EINVAL"),
+        ("pcrypt(gcm(aes)) 2", "EINVAL"),
         ("cryptd(cbc(aes)) 0", "EINVAL"),
+        ("cryptd(cbc(aes)) 4097", "EINVAL"),
+        ("cryptd(aes)", "EINVAL"),
     ];
     for (name, errno) in table {
         let script = format!(in rt.alloc(); "alloc a {name}\n")?;

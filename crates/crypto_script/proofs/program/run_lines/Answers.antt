@@ -14,7 +14,7 @@ emptied rest e = grind (arith, nat_tests)
 pub returns-in_err-bad-clause-front : goal.returns-in_err-bad-clause-front
 returns-in_err-bad-clause-front g c =
     let p = err_from_is_err_and c.from_residual.result c.from_residual.ensures.1 in
-    going-breaks _ _ _ _ _ _ _ _ _ _ _ c.loop-rest.invariant.going (script_next c.loop-rest.rest.now c.first_line.result.0.now c.first_line.result.1.now c.first_line.ensures.line) c.in_err-bad.ensures.turn
+    going-breaks _ _ _ _ _ _ _ _ _ _ _ _ _ c.loop-rest.invariant.going (script_next c.loop-rest.rest.now c.first_line.result.0.now c.first_line.result.1.now c.first_line.ensures.line) c.in_err-bad.ensures.turn
 
 pub loop-rest-preserved : goal.loop-rest-preserved
 loop-rest-preserved g c =
@@ -24,7 +24,7 @@ loop-rest-preserved g c =
     let m = c.loop-rest.malformed in
     let later = list_any is_malformed (script_of more) in
     record {
-      going = going-more _ _ _ _ _ _ _ _ _ _ _ _ c.loop-rest.invariant.going (script_next rest line more c.first_line.ensures.line) c.in_ok-bad.ensures.turn;
+      going = going-more _ _ _ _ _ _ _ _ _ _ _ _ _ _ c.loop-rest.invariant.going (script_next rest line more c.first_line.ensures.line) c.in_ok-bad.ensures.turn c.in_ok-bad.ensures.stands c.in_ok-bad.ensures.posted;
       malformed =
           or_later m c.in_ok-bad.bad later
           ∙ (ap (λ b. m || (b || later)) c.in_ok-bad.ensures.malformed
@@ -35,12 +35,12 @@ loop-rest-preserved g c =
 
 pub returns-in_err-run_end-clause-front : goal.returns-in_err-run_end-clause-front
 returns-in_err-run_end-clause-front g c =
-    going-end_breaks _ _ _ _ _ _ _ _ _ c.loop-rest.invariant.going (script_none c.loop-rest.rest.now (emptied c.loop-rest.rest.now (sym c.is_empty.ensures ∙ c.loop-rest-test.false))) c.in_err-run_end.ensures.turn
+    going-end_breaks _ _ _ _ _ _ _ _ _ _ _ c.loop-rest.invariant.going (script_none c.loop-rest.rest.now (emptied c.loop-rest.rest.now (sym c.is_empty.ensures ∙ c.loop-rest-test.false))) c.in_err-run_end.ensures.turn
 
 pub returns-clause-whole : goal.returns-clause-whole
 returns-clause-whole g c =
-    going-ends _ _ _ _ _ _ _ _ _ _ c.loop-rest.invariant.going (script_none c.loop-rest.rest.now (emptied c.loop-rest.rest.now (sym c.is_empty.ensures ∙ c.loop-rest-test.false))) c.in_ok-run_end.ensures.turn
+    going-ends _ _ _ _ _ _ _ _ _ _ _ _ c.loop-rest.invariant.going (script_none c.loop-rest.rest.now (emptied c.loop-rest.rest.now (sym c.is_empty.ensures ∙ c.loop-rest-test.false))) c.in_ok-run_end.ensures.turn
 
 pub returns-clause-front : goal.returns-clause-front
 returns-clause-front g c =
-    text-is-front _ _ _ _ (going-ends _ _ _ _ _ _ _ _ _ _ c.loop-rest.invariant.going (script_none c.loop-rest.rest.now (emptied c.loop-rest.rest.now (sym c.is_empty.ensures ∙ c.loop-rest-test.false))) c.in_ok-run_end.ensures.turn)
+    text-is-front _ _ _ _ _ (going-ends _ _ _ _ _ _ _ _ _ _ _ _ c.loop-rest.invariant.going (script_none c.loop-rest.rest.now (emptied c.loop-rest.rest.now (sym c.is_empty.ensures ∙ c.loop-rest-test.false))) c.in_ok-run_end.ensures.turn)

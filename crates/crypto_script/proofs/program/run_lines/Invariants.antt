@@ -9,7 +9,7 @@ abbrev pub invariant-loop-rest : goal.invariant-loop-rest
 invariant-loop-rest g l =
     let held = g.K.Sink.held in
     record {
-      going : Going (script_of l.fn.input) (script_of l.rest) l.number l.registry (held l.fn.out) (held l.out) l.session;
+      going : Going (script_of l.fn.input) (script_of l.rest) l.number l.registry l.board (held l.fn.out) (held l.out) l.session;
       malformed : (l.malformed || list_any is_malformed (script_of l.rest)) ≡ list_any is_malformed (script_of l.fn.input);
       counted : l.number + length l.rest ≤ length l.fn.input + 1;
       later : g.K.Sink.faults l.fn.out ≤ g.K.Sink.faults l.out;

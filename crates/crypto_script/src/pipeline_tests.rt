@@ -1,0 +1,217 @@
+//! Whole runs whose requests wait in pipelines.
+
+use crate::program::run;
+use crate::tests::{bytes_of, expect};
+use kc_base::{SureSink, SureSource};
+use std::alloc::{AllocError, Global};
+use std::process::Abort;
+use std::test::Fail;
+
+// The key, the text and the nonce of GCM's second test case, and its sealed text.
+const ZEROS: &str = "00000000000000000000000000000000";
+
+const NONCE: &str = "000000000000000000000000";
+
+const SEALED: &str = "0388dace60b6a392f328c2b971b2fe78ab6e47d42cec13bdf53a67b21257bddf";
+
+// SP 800-38A, F.2.1: the key, the IV, and the first block open and sealed.
+const CBC_KEY: &str = "2b7e151628aed2a6abf7158809cf4f3c";
+
+const IV: &str = "000102030405060708090a0b0c0d0e0f";
+
+const BLOCK: &str = "6bc1bee22e409f96e93d7e117393172a";
+
+const SEALED_BLOCK: &str = "7649abac8119b246cee98e9b12e9197d";
+
+// RFC 4231, 1 and 2: the MACs, and of the second the text.
+const FIRST_MAC: &str = "b0344c61d8db38535ca8afceaf0bf12b881dc200c9833da726e9376c2e32cff7";
+
+const SECOND_MAC: &str = "5bdcc146bf60754e6a042426089575c75a003f089d2739839dec58b964ec3843";
+
+const SECOND_TEXT: &str = "7768617420646f2079612077616e7420666f72206e6f7468696e673f";
+
+const GCM_DRIVER: &str = "gcm_base(ctr(aes-generic),ghash-generic)";
+
+// What a script without words prints, over streams that don't fail.
+fn written_by(rt: &impl Abort, alloc: Global, script: &str) -> Result<String, AllocError> {
+    let words = Vec::new(alloc);
+    let mut out = SureSink::new(alloc);
+    let mut src = SureSource::new(bytes_of(alloc, script)?);
+    assert_eq!(rt; run(alloc, &words, &mut src, &mut out).status, 0);
+    String::from_str(alloc, str::from_utf8(out.bytes()).unwrap_or("no text"))
+}
+
+#[test]
+fn a_pad_hands_out_in_order(rt: HostRuntime) -> Result<(), Fail> {
+    let alloc = rt.alloc();
+    let script = format!(in alloc; "alloc p pcrypt(gcm(aes))\nkey p {ZEROS}\nenc p {NONCE} - {ZEROS}\nenc p {NONCE} - {ZEROS}\nenc p {NONCE} - {ZEROS}\ndrain p\n")?;
+    let text = format!(in alloc; "1 ok pcrypt({GCM_DRIVER})\n2 ok\n3 EINPROGRESS\n4 EINPROGRESS\n5 EINPROGRESS\n3 done {SEALED}\n4 done {SEALED}\n5 done {SEALED}\n6 drained 3\n")?;
+    expect(&rt, alloc, script.as_str(), 0, text.as_str())?;
+    Ok(())
+}
+
+#[test]
+fn a_wrong_tag_fails_in_its_place(rt: HostRuntime) -> Result<(), Fail> {
+    let alloc = rt.alloc();
+    let wrong = "0388dace60b6a392f328c2b971b2fe78ab6e47d42cec13bdf53a67b21257bdde";
+    let script = format!(in alloc; "alloc p pcrypt(gcm(aes))\nkey p {ZEROS}\ndec p {NONCE} - {SEALED}\ndec p {NONCE} - {wrong}\ndec p {NONCE} - {SEALED}\ndrain p\n")?;
+    let text = format!(in alloc; "1 ok pcrypt({GCM_DRIVER})\n2 ok\n3 EINPROGRESS\n4 EINPROGRESS\n5 EINPROGRESS\n3 done {ZEROS}\n4 fail EBADMSG\n5 done {ZEROS}\n6 drained 3\n")?;
+    expect(&rt, alloc, script.as_str(), 0, text.as_str())?;
+    Ok(())
+}
+
+#[test]
+fn a_length_that_fails_is_answered_late(rt: HostRuntime) -> Result<(), Fail> {
+    let alloc = rt.alloc();
+    let script = format!(in alloc; "alloc a pcrypt(authenc(hmac(sha256),cbc(aes)))\nkey a 08000100000000104a656665{CBC_KEY}\nenc a {IV} {SECOND_TEXT} -\nenc a {IV} {SECOND_TEXT} 00\ndrain a\n")?;
+    let text = format!(in alloc; "1 ok pcrypt(authenc(hmac(sha256-generic),cbc(aes-generic)))\n2 ok\n3 EINPROGRESS\n4 EINPROGRESS\n3 done {SECOND_MAC}\n4 fail EINVAL\n5 drained 2\n")?;
+    expect(&rt, alloc, script.as_str(), 0, text.as_str())?;
+    Ok(())
+}
+
+#[test]
+fn a_held_queue_takes_in_no_more_than_fits(rt: HostRuntime) -> Result<(), Fail> {
+    let alloc = rt.alloc();
+    let script = format!(in alloc; "alloc q cryptd(cbc(aes)) 2\nkey q {CBC_KEY}\nhold q\nenc q {IV} - {BLOCK}\nenc q {IV} - {BLOCK}\nenc q {IV} - {BLOCK} backlog\nenc q {IV} - {BLOCK}\ndrain q\ngo q\ndrain q\n")?;
+    let text = format!(in alloc; "1 ok cryptd(cbc(aes-generic))\n2 ok\n3 ok\n4 EINPROGRESS\n5 EINPROGRESS\n6 EBUSY\n7 ENOSPC\n8 EINVAL\n9 ok\n6 started\n4 done {SEALED_BLOCK}\n5 done {SEALED_BLOCK}\n6 done {SEALED_BLOCK}\n10 drained 3\n")?;
+    expect(&rt, alloc, script.as_str(), 0, text.as_str())?;
+    Ok(())
+}
+
+#[test]
+fn a_request_keeps_the_key_that_it_came_with(rt: HostRuntime) -> Result<(), Fail> {
+    let alloc = rt.alloc();
+    let script = format!(in alloc; "alloc m cryptd(hmac(sha256))\nkey m 0b0b0b0b0b0b0b0b0b0b0b0b0b0b0b0b0b0b0b0b\nhold m\nmac m 4869205468657265\nkey m 4a656665\nmac m {SECOND_TEXT}\ngo m\ndrain m\n")?;
+    let text = format!(in alloc; "1 ok cryptd(hmac(sha256-generic))\n2 ok\n3 ok\n4 EINPROGRESS\n5 ok\n6 EINPROGRESS\n7 ok\n4 done {FIRST_MAC}\n6 done {SECOND_MAC}\n8 drained 2\n")?;
+    expect(&rt, alloc, script.as_str(), 0, text.as_str())?;
+    Ok(())
+}
+
+#[test]
+fn what_owes_completions_is_not_freed(rt: HostRuntime) -> Result<(), Fail> {
+    let alloc = rt.alloc();
+    let script = format!(in alloc; "alloc p pcrypt(gcm(aes))\nkey p {ZEROS}\nenc p {NONCE} - {ZEROS}\nfree p\ndrain p\nfree p\nenc p {NONCE} - {ZEROS}\n")?;
+    let text = format!(in alloc; "1 ok pcrypt({GCM_DRIVER})\n2 ok\n3 EINPROGRESS\n4 EBUSY\n3 done {SEALED}\n5 drained 1\n6 ok\n7 ENOENT\n")?;
+    expect(&rt, alloc, script.as_str(), 0, text.as_str())?;
+    Ok(())
+}
+
+#[test]
+fn the_end_of_input_drains(rt: HostRuntime) -> Result<(), Fail> {
+    let alloc = rt.alloc();
+    let script = format!(in alloc; "alloc p pcrypt(gcm(aes))\nkey p {ZEROS}\nenc p {NONCE} - {ZEROS}\n")?;
+    let text = format!(in alloc; "1 ok pcrypt({GCM_DRIVER})\n2 ok\n3 EINPROGRESS\n3 done {SEALED}\nend p 1\n")?;
+    expect(&rt, alloc, script.as_str(), 0, text.as_str())?;
+    Ok(())
+}
+
+#[test]
+fn the_end_of_input_lets_a_held_queue_go(rt: HostRuntime) -> Result<(), Fail> {
+    let alloc = rt.alloc();
+    let script = format!(in alloc; "alloc q cryptd(cbc(aes)) 1\nkey q {CBC_KEY}\nhold q\nenc q {IV} - {BLOCK}\nenc q {IV} - {BLOCK} backlog\nalloc p pcrypt(gcm(aes))\n")?;
+    let text = format!(in alloc; "1 ok cryptd(cbc(aes-generic))\n2 ok\n3 ok\n4 EINPROGRESS\n5 EBUSY\n6 ok pcrypt({GCM_DRIVER})\n5 started\n4 done {SEALED_BLOCK}\n5 done {SEALED_BLOCK}\nend q 2\n")?;
+    expect(&rt, alloc, script.as_str(), 0, text.as_str())?;
+    Ok(())
+}
+
+#[test]
+fn only_queues_are_held(rt: HostRuntime) -> Result<(), Fail> {
+    let alloc = rt.alloc();
+    let script = "alloc p pcrypt(gcm(aes))\nalloc c cbc(aes)\nhold p\ngo p\nhold c\ngo c\nhold x\ngo x\npoll x\ndrain x\npoll c\ndrain c\npoll p\ndrain p\n";
+    let text = format!(in alloc; "1 ok pcrypt({GCM_DRIVER})\n2 ok cbc(aes-generic)\n3 EINVAL\n4 EINVAL\n5 EINVAL\n6 EINVAL\n7 ENOENT\n8 ENOENT\n9 ENOENT\n10 ENOENT\n11 polled 0\n12 drained 0\n13 polled 0\n14 drained 0\n")?;
+    expect(&rt, alloc, script, 0, text.as_str())?;
+    Ok(())
+}
+
+#[test]
+fn polls_and_the_drain_hand_out_each_completion_once(rt: HostRuntime) -> Result<(), Fail> {
+    let alloc = rt.alloc();
+    let script = format!(in alloc; "alloc p pcrypt(gcm(aes))\nkey p {ZEROS}\nenc p {NONCE} - {ZEROS}\npoll p\nenc p {NONCE} - {ZEROS}\npoll p\nenc p {NONCE} - {ZEROS}\npoll p\ndrain p\n")?;
+    let written = written_by(&rt, alloc, script.as_str())?;
+    let mut callbacks = String::new(alloc);
+    let mut count = 0u64;
+    for line in written.as_str().lines() {
+        if line.split_once(" done ").is_some() {
+            callbacks.push_str(format!(in alloc; "{line}\n")?.as_str())?;
+        }
+        if let Some((_, told)) = line.split_once(" polled ") {
+            count = count.wrapping_add(told.parse::<u64>().unwrap_or(100));
+        }
+        if let Some((_, told)) = line.split_once(" drained ") {
+            count = count.wrapping_add(told.parse::<u64>().unwrap_or(100));
+        }
+    }
+    let want = format!(in alloc; "3 done {SEALED}\n5 done {SEALED}\n7 done {SEALED}\n")?;
+    assert_eq!(rt; callbacks.as_str(), want.as_str());
+    assert_eq!(rt; count, 3);
+    Ok(())
+}
+
+// One packet of a gateway: its number in the eight bytes of its IV, 16 bytes that are authenticated, and a text of 64 to
+// 1,400 bytes.
+fn push_packet(
+    alloc: Global,
+    script: &mut String,
+    label: &str,
+    number: u32,
+) -> Result<(), AllocError> {
+    let head = format!(in alloc; "enc {label} {number:016x} 00001000{number:08x}{number:016x} ")?;
+    script.push_str(head.as_str())?;
+    let byte = format!(in alloc; "{:02x}", number % 256)?;
+    for _ in 0..64 + number.wrapping_mul(37) % 1337 {
+        script.push_str(byte.as_str())?;
+    }
+    script.push_str("\n")
+}
+
+// A gateway's script: three transforms of this name, each with a key, and 200 packets in turn over them.
+fn gateway(alloc: Global, name: &str) -> Result<String, AllocError> {
+    let labels = ["a", "b", "c"];
+    let mut script = String::new(alloc);
+    for label in labels {
+        script.push_str(format!(in alloc; "alloc {label} {name}\n")?.as_str())?;
+    }
+    for label in labels {
+        // 16 bytes of the key, and 4 of the salt
+        script.push_str(format!(in alloc; "key {label} {CBC_KEY}0{label}0{label}0{label}0{label}\n")?.as_str())?;
+    }
+    for number in 0..200u32 {
+        push_packet(alloc, &mut script, labels[number as usize % 3], number)?;
+    }
+    Ok(script)
+}
+
+// The answers `ok BYTES` of the lines from 7 on that fall to one of three transforms, as completions; and how many.
+fn push_completions(
+    alloc: Global,
+    text: &mut String,
+    answers: &str,
+    place: usize,
+) -> Result<u32, AllocError> {
+    let mut count = 0u32;
+    for line in answers.lines().skip(6).skip(place).step_by(3) {
+        let (number, made) = line.split_once(" ok ").unwrap_or(("no", "answer"));
+        text.push_str(format!(in alloc; "{number} done {made}\n")?.as_str())?;
+        count = count.wrapping_add(1);
+    }
+    Ok(count)
+}
+
+#[test]
+fn a_gateway_seals_its_packets_in_order(rt: HostRuntime) -> Result<(), Fail> {
+    let alloc = rt.alloc();
+    let plain = gateway(alloc, "rfc4106(gcm(aes))")?;
+    let answers = written_by(&rt, alloc, plain.as_str())?;
+    let mut text = format!(in alloc; "1 ok pcrypt(rfc4106({GCM_DRIVER}))\n2 ok pcrypt(rfc4106({GCM_DRIVER}))\n3 ok pcrypt(rfc4106({GCM_DRIVER}))\n4 ok\n5 ok\n6 ok\n")?;
+    for number in 7..207u32 {
+        text.push_str(format!(in alloc; "{number} EINPROGRESS\n")?.as_str())?;
+    }
+    for (label, place, want) in [("a", 0, 67), ("b", 1, 67), ("c", 2, 66)] {
+        let count = push_completions(alloc, &mut text, answers.as_str(), place)?;
+        assert_eq!(rt; count, want);
+        text.push_str(format!(in alloc; "end {label} {count}\n")?.as_str())?;
+    }
+    let script = gateway(alloc, "pcrypt(rfc4106(gcm(aes)))")?;
+    expect(&rt, alloc, script.as_str(), 0, text.as_str())?;
+    Ok(())
+}
