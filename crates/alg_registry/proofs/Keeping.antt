@@ -1,5 +1,5 @@
 -- What is kept beside the history stays in step with it, entry by entry.
-use Rattle.std.proofs.Common.{◌≡◌, ◌≢◌, ℕ, zero, suc, ◌+◌, ◌-◌, ◌<◌, ◌≤◌, Bool, true, false, cond, ◌||◌, ◌&&◌, not, eqb, ltb, List, [], ◌∷◌, ◌++◌, length, get_or, set, Option, Some, None, refl, sym, ap, ◌∙◌, subst, arith}
+use Rattle.std.proofs.Common.{◌≡◌, ◌≢◌, ℕ, zero, suc, ◌+◌, ◌-◌, ◌<◌, ◌≤◌, Bool, true, false, cond, ◌||◌, ◌&&◌, not, eqb, ltb, List, [], ◌∷◌, ◌++◌, length, map, get_or, set, Option, Some, None, refl, sym, ap, ◌∙◌, subst, arith}
 use Rattle.std.specs.Prelude.{count_by, slice_get, is_none}
 use Rattle.std.specs.List.{filter_map, list_any, cons_option, position_from}
 use Rattle.std.specs.Option.{option_or, option_map, option_map_or, option_and_then}
@@ -14,12 +14,12 @@ use Rattle.alg_registry.specs.declared.entry.Looked.{Looked}
 use Rattle.alg_registry.specs.declared.entry.Looked.TheVariants.{Found, Pending, Began, Absent}
 use Rattle.alg_registry.specs.declared.entry.RegEntry.{RegEntry}
 use Rattle.alg_registry.specs.declared.entry.RegEntry.TheVariants.{Look, Claim, Unlist, Get, Put}
-use Rattle.alg_registry.specs.Rows.{noted_at, registered_by, unlists, gets, puts, taken_of, standing, rows_of, first_of, begun_by, claims, ends, larval_at, larvals_from, larvals_of, listed_at}
+use Rattle.alg_registry.specs.Rows.{noted_at, noted, registered, registered_by, unlists, gets, puts, taken_of, standing, rows_of, first_of, begun_by, claims, ends, larval_at, larvals_from, larvals_of, listed_at}
 use Rattle.alg_registry.specs.Answers.{look_answer, driver_place}
 use Rattle.alg_registry.specs.Legal.{IsRight, LegalReg, is_worker, HasReference, claimer, ended_as}
 use Rattle.alg_registry.specs.Calls.{unlisted_row, taken_row, put_row_of, is_unclaimed, unclaimed_at, claimed_number, claimed_answer, text_at, claimed_larval}
 use Rattle.alg_registry.specs.Kept.{IsKept}
-use Rattle.alg_registry.proofs.Standing.{bare}
+use Rattle.alg_registry.proofs.Standing.{bare, bare-rows_of}
 use Rattle.alg_registry.proofs.Steps.{LegalReg-push, IsQuiet, rows_of-quiet, rows_of-set, count_by-push, first_of-push, or_none, bit}
 use Rattle.alg_registry.proofs.Balance.{puts-le, puts-lt}
 use Rattle.alg_registry.proofs.Fresh.{fresh-from_legal, length-rows_of, position_from-within, is_listed-within}
@@ -232,6 +232,24 @@ put-within h rows caller k legal are has = inside (ltb k (length rows)) refl
         let past : length rows ≤ k = grind (arith, nat_tests) in
         let none : count_by (gets k) h ≡ 0 = (fresh-from_legal h legal).gets_none k (omega (arith, ap length are, length-rows_of h)) in
         absurd (omega (arith, none, puts-lt h caller k legal has))
+
+taken_noted : (h : List RegEntry) (first k : ℕ) (rows : List Row) (specs : List Spec) (d : Row) → map bare rows ≡ noted h first specs → k < length rows → (let r : Row = get_or rows k d in r.taken) ≡ taken_of h (first + k)
+taken_noted h first k [] specs d same lt = absurd (omega (arith, lt))
+taken_noted h first k (row ∷ rows) [] d same lt = absurd cc
+taken_noted h first zero (row ∷ rows) (spec ∷ specs) d same lt =
+    let head : bare row ≡ noted_at h first spec = cc in
+    ap (λ (r : Row). r.taken) head ∙ ap (λ (n : ℕ). taken_of h n) (let e : first ≡ first + 0 = omega arith in e)
+taken_noted h first (suc k) (row ∷ rows) (spec ∷ specs) d same lt =
+    let tail : map bare rows ≡ noted h (first + 1) specs = cc in
+    taken_noted h (first + 1) k rows specs d tail (omega (arith, lt)) ∙ ap (λ (n : ℕ). taken_of h n) (let e : (first + 1) + k ≡ first + suc k = omega arith in e)
+
+-- an entry whose reference is given back has one that was taken
+pub put-taken : (h : List RegEntry) (rows : List Row) (caller k : ℕ) (d : Row) → LegalReg h → rows ≡ rows_of h → HasReference h caller k → 0 < (let r : Row = get_or rows k d in r.taken)
+put-taken h rows caller k d legal are has =
+    let z : 0 + k ≡ k = omega arith in
+    let same : map bare rows ≡ noted h 0 (registered h) = ap (λ rs. map bare rs) are ∙ bare-rows_of h in
+    let taken = taken_noted h 0 k rows (registered h) d same (put-within h rows caller k legal are has) ∙ ap (λ (n : ℕ). taken_of h n) z in
+    omega (arith, taken, puts-lt h caller k legal has)
 
 pub kept-put : (h log : List RegEntry) (rows rows' : List Row) (larvals : List Larval) (caller k : ℕ) (d : Row)
     → IsKept h rows larvals → is_worker caller ≡ false → HasReference h caller k

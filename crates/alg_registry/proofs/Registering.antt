@@ -21,10 +21,10 @@ use Rattle.alg_registry.specs.declared.entry.RegEntry.TheVariants as entry
 use Rattle.alg_registry.specs.Rows.{noted_at, noted, registered_by, registered, unlists, gets, puts, standing, rows_of, first_of, claims, ends, end_of, larvals_of, listed_at}
 use Rattle.alg_registry.specs.Answers.{driver_place, enlist_answer, clashes_with, held_count, built_answer, joined_or_built}
 use Rattle.alg_registry.specs.Legal.{IsRight, LegalReg, is_worker, claimer, ended_as, MayEnd}
-use Rattle.alg_registry.specs.Calls.{ended_larval, new_row, listed_row_of}
+use Rattle.alg_registry.specs.Calls.{ended_larval, new_row}
 use Rattle.alg_registry.specs.Room.{owed}
 use Rattle.alg_registry.specs.Kept.{IsKept}
-use Rattle.alg_registry.proofs.Standing.{bare, bare-rows_of, standing-from_bare, standing-push, map-push}
+use Rattle.alg_registry.proofs.Standing.{bare, bare-rows_of, standing-from_bare, map-push}
 use Rattle.alg_registry.proofs.Steps.{IsQuiet, rows_of-quiet, registered-push, noted-quiet, first_of-push, or_none}
 use Rattle.alg_registry.proofs.Balance.{owed-end}
 use Rattle.alg_registry.proofs.Fresh.{fresh-from_legal, larval-within}
@@ -67,14 +67,13 @@ enlist-made rows spec clash lt =
 
 pub kept-made : (h log : List RegEntry) (rows rows' : List Row) (larvals : List Larval) (caller id : ℕ) (spec : Spec)
     → IsKept h rows larvals → is_worker caller ≡ false → spec.below ≡ [] → spec.wrap ≡ Plain → enlist_answer rows spec ≡ enlisted.Made id
-    → log ≡ h ++ Enlist caller spec (enlisted.Made id) ∷ [] → rows' ≡ rows ++ listed_row_of spec ∷ []
+    → log ≡ h ++ Enlist caller spec (enlisted.Made id) ∷ [] → rows' ≡ standing (rows ++ new_row spec ∷ [])
     → IsKept log rows' larvals
 kept-made h log rows rows' larvals caller id spec kept out below plain is grown change =
     let e : RegEntry = Enlist caller spec (enlisted.Made id) in
     let right : IsRight h e = (out, below, plain, sym is ∙ ap (λ rs. enlist_answer rs spec) kept.rows_are) in
-    let same : standing rows ≡ rows = standing-from_bare h rows (ap (λ rs. map bare rs) kept.rows_are ∙ bare-rows_of h) ∙ sym kept.rows_are in
     kept_step h log rows rows' larvals larvals e kept right grown
-    (change ∙ (ap (λ rs. rs ++ listed_row_of spec ∷ []) (sym same) ∙ sym (standing-push rows spec below)) ∙ rows_of-registered h e rows spec kept.legal kept.rows_are refl (λ id. record { unlists_not = refl; gets_not = refl; puts_not = refl }))
+    (change ∙ rows_of-registered h e rows spec kept.legal kept.rows_are refl (λ id. record { unlists_not = refl; gets_not = refl; puts_not = refl }))
     (kept.larvals_are ∙ sym (larvals_of-left h e refl (λ n. record { claims_not = refl; ends_not = refl })))
 
 refused_aside : (caller : ℕ) (spec : Spec) (answer : Enlisted) → ((id : ℕ) → answer ≢ enlisted.Made id) → IsAside (Enlist caller spec answer)
@@ -163,6 +162,13 @@ driver_listed driver first id (row ∷ rows) h = here (row.listed && bytes_eq ro
         → (k : ℕ) × (id ≡ first + k) × (listed_at (row ∷ rows) k ≡ true)
     here true e h rest = let same : first ≡ id = cc in (0, omega arith, and_left row.listed _ e)
     here false e h rest = let r = rest h in (suc r.0, omega (arith, r.1), r.2)
+
+-- the entry of a driver is listed
+pub driver_listed-at : (rows : List Row) (driver : List ℕ) (id : ℕ) → driver_place rows driver ≡ Some id → listed_at rows id ≡ true
+driver_listed-at rows driver id found =
+    let l = driver_listed driver 0 id rows found in
+    let at : l.0 ≡ id = omega (arith, l.1) in
+    subst (λ n. listed_at rows n ≡ true) at l.2
 
 joined_listed : (rows : List Row) (spec : Spec) (id : ℕ) (below : List ℕ) (o : Option ℕ) → driver_place rows spec.driver ≡ o → joined_or_built rows spec o ≡ Joined id below → listed_at rows id ≡ true
 joined_listed rows spec id below (Some k) e h =

@@ -1,11 +1,11 @@
 -- Entries that stand as they should, and what changes where one of them changes alone.
-use Rattle.std.proofs.Common.{◌≡◌, ◌≢◌, ℕ, zero, suc, ◌+◌, ◌-◌, ◌^◌, ◌<◌, Bool, true, false, cond, not, ◌||◌, ◌&&◌, eqb, ltb, List, [], ◌∷◌, ◌++◌, length, take, drop, get_or, set, map, refl, sym, ap, ◌∙◌, subst, arith, append_assoc, length-append, length-set}
+use Rattle.std.proofs.Common.{◌≡◌, ◌≢◌, ℕ, zero, suc, ◌+◌, ◌-◌, ◌<◌, Bool, true, false, cond, not, ◌||◌, ◌&&◌, eqb, ltb, List, [], ◌∷◌, ◌++◌, length, take, drop, get_or, set, map, refl, sym, ap, ◌∙◌, subst, arith, append_assoc, length-append, length-set}
 use Rattle.std.specs.List.{list_any, list_all}
 use Rattle.std.proofs.lemmas.Bool.Decides.{nat_tests}
 use Rattle.std.proofs.lemmas.List.{append-nil, length-map, map_push, map-set, set-append_left, get_or-set_same, get_or-set_other}
 use Rattle.std.proofs.lemmas.List.Sums.{sum_by-append}
 use borrow.Author.Tests.{lt-ltb}
-use Rattle.alg_registry.specs.Alone.{stands_on_nothing, unlists_alone, takes_alone, puts_alone}
+use Rattle.alg_registry.specs.Alone.{stands_on_nothing, unlists_alone, puts_alone}
 use Rattle.alg_registry.specs.Calls.{unlisted_row, taken_row, put_row_of}
 use Rattle.alg_registry.specs.declared.spec.Spec.{Spec}
 use Rattle.alg_registry.specs.declared.row.Row.{Row}
@@ -18,19 +18,19 @@ abbrev pub Stands : List Row → List Row → Type 0
 Stands older [] = Unit {0}
 Stands older (row ∷ rows) = (row.listed ≡ stays_listed older row) × (row.references ≡ row.taken + holders (length older) rows) × Stands (older ++ row ∷ []) rows
 
-abbrev mark : Row → Bool
+abbrev pub mark : Row → Bool
 mark row = row.listed
 
 abbrev unref : Row → Row
 unref row = record row { references = 0 }
 
-listed_at-mark : (rows : List Row) (id : ℕ) → listed_at rows id ≡ get_or (map mark rows) id false
+pub listed_at-mark : (rows : List Row) (id : ℕ) → listed_at rows id ≡ get_or (map mark rows) id false
 listed_at-mark [] id = refl
 listed_at-mark (row ∷ rows) zero = refl
 listed_at-mark (row ∷ rows) (suc id) = listed_at-mark rows id
 
 -- entries with the same marks
-same_stays : (older older' : List Row) (row : Row) → map mark older' ≡ map mark older → stays_listed older' row ≡ stays_listed older row
+pub same_stays : (older older' : List Row) (row : Row) → map mark older' ≡ map mark older → stays_listed older' row ≡ stays_listed older row
 same_stays older older' row same =
     let e : (id : ℕ) → listed_at older' id ≡ listed_at older id = λ id. listed_at-mark older' id ∙ (ap (λ (bs : List Bool). get_or bs id false) same ∙ sym (listed_at-mark older id)) in
     λ i. not row.unlisted && list_all (λ id. e id i) row.spec.below
@@ -38,10 +38,10 @@ same_stays older older' row same =
 mark_push : (older : List Row) (row : Row) → map mark (older ++ row ∷ []) ≡ map mark older ++ row.listed ∷ []
 mark_push older row = map_push mark older row
 
-same_push : (older older' : List Row) (row row' : Row) → map mark older' ≡ map mark older → row'.listed ≡ row.listed → map mark (older' ++ row' ∷ []) ≡ map mark (older ++ row ∷ [])
+pub same_push : (older older' : List Row) (row row' : Row) → map mark older' ≡ map mark older → row'.listed ≡ row.listed → map mark (older' ++ row' ∷ []) ≡ map mark (older ++ row ∷ [])
 same_push older older' row row' same e = mark_push older' row' ∙ ((λ i. same i ++ e i ∷ []) ∙ sym (mark_push older row))
 
-same_length : (older older' : List Row) → map mark older' ≡ map mark older → length older' ≡ length older
+pub same_length : (older older' : List Row) → map mark older' ≡ map mark older → length older' ≡ length older
 same_length older older' same = omega (arith, ap length same, length-map older mark, length-map older' mark)
 
 -- ---- what stands is what standing makes
@@ -62,15 +62,15 @@ counted-stands older (row ∷ rows) n at h =
     let e : row.taken + holders n rows ≡ row.references = ap (λ (k : ℕ). row.taken + holders k rows) at ∙ sym h.1 in
     ap (λ newer. counted_first n (unref row) newer) rest ∙ (λ i. record row { references = e i } ∷ rows)
 
-standing-stands : (rows : List Row) → Stands [] rows → standing rows ≡ rows
+pub standing-stands : (rows : List Row) → Stands [] rows → standing rows ≡ rows
 standing-stands rows h = ap (λ rs. counted 0 rs) (marked-stands [] [] rows refl h) ∙ counted-stands [] rows 0 refl h
 
 -- the marks of the entries
-abbrev marks : List Row → List Row → List Row
+abbrev pub marks : List Row → List Row → List Row
 marks older [] = []
 marks older (row ∷ rows) = record row { listed = stays_listed older row; references = 0 } ∷ marks (older ++ record row { listed = stays_listed older row; references = 0 } ∷ []) rows
 
-marked-marks : (older rows : List Row) → marked older rows ≡ older ++ marks older rows
+pub marked-marks : (older rows : List Row) → marked older rows ≡ older ++ marks older rows
 marked-marks older [] = sym (append-nil older)
 marked-marks older (row ∷ rows) =
     let first : Row = record row { listed = stays_listed older row; references = 0 } in
@@ -87,8 +87,12 @@ stands-counted older older' (row ∷ rows) n at same =
       stands-counted (older ++ first ∷ []) (older' ++ head ∷ []) rows (n + 1) (omega (arith, at, length-append older' (head ∷ []))) (same_push older older' first head same refl),
     )
 
-stands-standing : (rows : List Row) → Stands [] (standing rows)
+pub stands-standing : (rows : List Row) → Stands [] (standing rows)
 stands-standing rows = subst (λ (rs : List Row). Stands [] (counted 0 rs)) (sym (marked-marks [] rows)) (stands-counted [] [] rows 0 refl refl)
+
+-- what stands stands still
+pub standing-twice : (rows : List Row) → standing (standing rows) ≡ standing rows
+standing-twice rows = standing-stands (standing rows) (stands-standing rows)
 
 pub standing-rows_of : (h : List RegEntry) (rows : List Row) → rows ≡ rows_of h → standing rows ≡ rows
 standing-rows_of h rows is = ap standing is ∙ (standing-from_bare h (rows_of h) (bare-rows_of h) ∙ sym is)
@@ -96,7 +100,7 @@ standing-rows_of h rows is = ap standing is ∙ (standing-from_bare h (rows_of h
 pub stands-from : (rows : List Row) → standing rows ≡ rows → Stands [] rows
 stands-from rows e = subst (Stands []) e (stands-standing rows)
 
-standing-bare : (xs ys : List Row) → map bare xs ≡ map bare ys → standing xs ≡ standing ys
+pub standing-bare : (xs ys : List Row) → map bare xs ≡ map bare ys → standing xs ≡ standing ys
 standing-bare xs ys same = ap (λ rs. counted 0 rs) (sym (marked-bare [] xs) ∙ (ap (λ rs. marked [] rs) same ∙ marked-bare [] ys))
 
 -- ---- one entry changes
@@ -105,7 +109,7 @@ standing-bare xs ys same = ap (λ rs. counted 0 rs) (sym (marked-bare [] xs) ∙
 abbrev pub weight : ℕ → Row → ℕ
 weight id row = cond (is_held row && stands_on id row) 1 0
 
-holders-cons : (id : ℕ) (row : Row) (rows : List Row) → holders id (row ∷ rows) ≡ weight id row + holders id rows
+pub holders-cons : (id : ℕ) (row : Row) (rows : List Row) → holders id (row ∷ rows) ≡ weight id row + holders id rows
 holders-cons id row rows = omega (arith, sum_by-append (weight id) (row ∷ []) rows)
 
 holders-set : (id : ℕ) (rows : List Row) (p : ℕ) (row d : Row) → p < length rows → weight id row ≡ weight id (get_or rows p d) → holders id (set rows p row) ≡ holders id rows
@@ -127,7 +131,7 @@ stands-set older (x ∷ rows) (suc p) row d lt h same here = (
       (subst (λ (o : List Row). Stands o (row ∷ drop (suc p) rows)) (sym (append_assoc older (x ∷ []) (take p rows))) here),
 )
 
-stands-at : (older rows : List Row) (p : ℕ) (d : Row) → p < length rows → Stands older rows → Stands (older ++ take p rows) (get_or rows p d ∷ drop (suc p) rows)
+pub stands-at : (older rows : List Row) (p : ℕ) (d : Row) → p < length rows → Stands older rows → Stands (older ++ take p rows) (get_or rows p d ∷ drop (suc p) rows)
 stands-at older [] p d lt h = absurd (omega (arith, lt))
 stands-at older (x ∷ rows) zero d lt h = subst (λ (o : List Row). Stands o (x ∷ rows)) (sym (append-nil older)) h
 stands-at older (x ∷ rows) (suc p) d lt h =
@@ -288,14 +292,14 @@ no_account held id ids none = ap (λ (xs : List ℕ). cond (held && list_any (λ
 alone_weight : (id : ℕ) (row r : Row) → row.spec ≡ r.spec → r.spec.below ≡ [] → weight id row ≡ weight id r
 alone_weight id row r spec none = no_account (is_held row) id row.spec.below (ap (λ (s : Spec). s.below) spec ∙ none) ∙ sym (no_account (is_held r) id r.spec.below none)
 
-held_referenced : (row : Row) → 0 < row.references → is_held row ≡ true
+pub held_referenced : (row : Row) → 0 < row.references → is_held row ≡ true
 held_referenced row some = here row.listed
   where
     here : (b : Bool) → (b || ltb 0 row.references) ≡ true
     here true = refl
     here false = lt-ltb 0 row.references some
 
-held_listed : (row : Row) → row.listed ≡ true → is_held row ≡ true
+pub held_listed : (row : Row) → row.listed ≡ true → is_held row ≡ true
 held_listed row e = ap (λ b. b || ltb 0 row.references) e
 
 -- it stays held, or stands on nothing
@@ -307,7 +311,7 @@ changed-bare : (rows : List Row) (p : ℕ) (row row' : Row) → bare row ≡ bar
 changed-bare rows p row row' same =
     standing-bare (set rows p row) (set rows p row') (map-set bare rows p row ∙ (ap (λ r. set (map bare rows) p r) same ∙ sym (map-set bare rows p row')))
 
-unlist-alone : (rows : List Row) (p : ℕ) (d : Row) → p < length rows → standing rows ≡ rows → unlists_alone (get_or rows p d) ≡ true
+pub unlist-alone : (rows : List Row) (p : ℕ) (d : Row) → p < length rows → standing rows ≡ rows → unlists_alone (get_or rows p d) ≡ true
     → set rows p (let r : Row = get_or rows p d in record r { unlisted = true; listed = false }) ≡ standing (set rows p (unlisted_row (get_or rows p d)))
 unlist-alone rows p d lt stands test =
     let r : Row = get_or rows p d in
@@ -316,12 +320,11 @@ unlist-alone rows p d lt stands test =
     let same = weighs_same row r (ltb 0 r.references) refl (λ e. held_referenced row (less 0 r.references e) ∙ sym (held_referenced r (less 0 r.references e))) parts.1 in
     sym (standing-stands (set rows p row) (unlisted-set rows p d lt (stands-from rows stands) (equal r.references r.taken parts.0) same)) ∙ changed-bare rows p row (unlisted_row r) refl
 
-take-alone : (rows : List Row) (p : ℕ) (d : Row) → p < length rows → standing rows ≡ rows → takes_alone (get_or rows p d) ≡ true
+pub take-alone : (rows : List Row) (p : ℕ) (d : Row) → p < length rows → standing rows ≡ rows → (let r : Row = get_or rows p d in r.listed ≡ true)
     → set rows p (let r : Row = get_or rows p d in record r { taken = r.taken + 1; references = r.references + 1 }) ≡ standing (set rows p (taken_row (get_or rows p d)))
-take-alone rows p d lt stands test =
+take-alone rows p d lt stands listed =
     let r : Row = get_or rows p d in
     let row : Row = record r { taken = r.taken + 1; references = r.references + 1 } in
-    let listed : r.listed ≡ true = (both r.listed (ltb r.references (2 ^ 64 - 1)) test).0 in
     let change : IsCounted r row = record {
       listed = refl;
       unlisted = refl;
@@ -338,7 +341,7 @@ stays_held row r false true listed ea eb e any =
     held_referenced row (omega (arith, e, two)) ∙ sym (held_referenced r (omega (arith, two)))
 stays_held row r false false listed ea eb e any = absurd cc
 
-put-alone : (rows : List Row) (p : ℕ) (d : Row) → p < length rows → standing rows ≡ rows → puts_alone (get_or rows p d) ≡ true
+pub put-alone : (rows : List Row) (p : ℕ) (d : Row) → p < length rows → standing rows ≡ rows → puts_alone (get_or rows p d) ≡ true
     → set rows p (let r : Row = get_or rows p d in record r { taken = r.taken - 1; references = r.references - 1 }) ≡ standing (set rows p (put_row_of (get_or rows p d)))
 put-alone rows p d lt stands test =
     let r : Row = get_or rows p d in
@@ -357,7 +360,12 @@ put-alone rows p d lt stands test =
     } in
     sym (standing-stands (set rows p row) (counted-set rows p row d lt (stands-from rows stands) change)) ∙ changed-bare rows p row (put_row_of r) refl
 
-any_default : (rows : List Row) (p : ℕ) (x d : Row) → p < length rows → get_or rows p x ≡ get_or rows p d
+pub listed_at-get : (rows : List Row) (p : ℕ) (d : Row) → p < length rows → listed_at rows p ≡ (let r : Row = get_or rows p d in r.listed)
+listed_at-get [] p d lt = absurd (omega (arith, lt))
+listed_at-get (row ∷ rows) zero d lt = refl
+listed_at-get (row ∷ rows) (suc p) d lt = listed_at-get rows p d (omega (arith, lt))
+
+pub any_default : (rows : List Row) (p : ℕ) (x d : Row) → p < length rows → get_or rows p x ≡ get_or rows p d
 any_default [] p x d lt = absurd (omega (arith, lt))
 any_default (row ∷ rows) zero x d lt = refl
 any_default (row ∷ rows) (suc p) x d lt = any_default rows p x d (omega (arith, lt))
@@ -370,12 +378,12 @@ unlist-at rows p x r d lt stands ex er test =
     (λ i. set rows p (record (e i) { unlisted = true; listed = false }))
     ∙ unlist-alone rows p d lt stands (subst (λ (t : Row). unlists_alone t ≡ true) (ex ∙ any_default rows p x d lt) test)
 
-pub take-at : (rows : List Row) (p : ℕ) (x r d : Row) → p < length rows → standing rows ≡ rows → x ≡ get_or rows p x → r ≡ get_or rows p r → takes_alone x ≡ true
+pub take-at : (rows : List Row) (p : ℕ) (r d : Row) → p < length rows → standing rows ≡ rows → r ≡ get_or rows p r → listed_at rows p ≡ true
     → set rows p (record r { taken = r.taken + 1; references = r.references + 1 }) ≡ standing (set rows p (taken_row (get_or rows p d)))
-take-at rows p x r d lt stands ex er test =
+take-at rows p r d lt stands er listed =
     let e : r ≡ get_or rows p d = er ∙ any_default rows p r d lt in
     (λ i. set rows p (let t : Row = e i in record t { taken = t.taken + 1; references = t.references + 1 }))
-    ∙ take-alone rows p d lt stands (subst (λ (t : Row). takes_alone t ≡ true) (ex ∙ any_default rows p x d lt) test)
+    ∙ take-alone rows p d lt stands (sym (listed_at-get rows p d lt) ∙ listed)
 
 pub put-at : (rows : List Row) (p : ℕ) (x r d : Row) → p < length rows → standing rows ≡ rows → x ≡ get_or rows p x → r ≡ get_or rows p r → puts_alone x ≡ true
     → set rows p (record r { taken = r.taken - 1; references = r.references - 1 }) ≡ standing (set rows p (put_row_of (get_or rows p d)))

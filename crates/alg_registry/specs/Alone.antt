@@ -1,5 +1,5 @@
 -- Which entries may change alone: no other entry's mark or references hang on the change.
-use Rattle.std.specs.Prelude.{ℕ, ◌-◌, ◌^◌, Bool, ◌&&◌, ◌||◌, ◌==◌, nat_lt, length}
+use Rattle.std.specs.Prelude.{Bool, ◌&&◌, ◌||◌, ◌==◌, nat_lt, length}
 use Rattle.alg_registry.specs.declared.row.Row.{Row}
 
 abbrev pub stands_on_nothing : Row → Bool
@@ -8,10 +8,6 @@ stands_on_nothing row = length row.spec.below == 0
 -- No held entry stands on it, and it stays held, or stands on nothing.
 abbrev pub unlists_alone : Row → Bool
 unlists_alone row = row.references == row.taken && (nat_lt 0 row.references || stands_on_nothing row)
-
--- It is held before and after.
-abbrev pub takes_alone : Row → Bool
-takes_alone row = row.listed && nat_lt row.references (2 ^ 64 - 1)
 
 -- It stays held, or stands on nothing.
 abbrev pub puts_alone : Row → Bool

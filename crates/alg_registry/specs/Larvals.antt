@@ -1,17 +1,20 @@
 -- The table of larvals, and which of them a look has to see.
-use Rattle.std.specs.Prelude.{ℕ, ◌+◌, Bool, true, false, ◌==◌, ◌&&◌, ◌||◌, if◌then◌else◌, List, [], ◌∷◌, slice_get, Option, Some, None}
-use Rattle.std.specs.List.{filter_map, list_any}
+use Rattle.std.specs.Prelude.{ℕ, ◌+◌, Bool, true, false, not, ◌==◌, ◌&&◌, ◌||◌, if◌then◌else◌, List, [], ◌∷◌, slice_get, Option, Some, None}
+use Rattle.std.specs.List.{filter, filter_map, find, list_any}
 use Rattle.std.specs.Option.{option_and_then, option_map_or}
 use Rattle.std.specs.Str.{bytes_eq}
 use Rattle.alg_registry.specs.declared.entry.Ended.{Ended}
 use Rattle.alg_registry.specs.declared.entry.Ended.TheVariants.{Built, Joined, Failed, NoMemory}
 use Rattle.alg_registry.specs.declared.row.Row.{Row}
 use Rattle.alg_registry.specs.declared.row.Larval.{Larval}
+use Rattle.alg_registry.specs.Rows.{listed_at}
 use Rattle.alg_registry.specs.Answers.{may_find, better}
+use Rattle.alg_registry.specs.Calls.{is_unclaimed, unclaimed_at}
 
--- the larvals by number, and for how many more there is room
+-- the larvals by number, the numbers of those that a look goes over, and for how many more there is room
 pub record LarvalTable : Type 0 where
   pub list : List Larval
+  pub seen : List ℕ
   pub spare : ℕ
 
 -- the entry with which a larval ended
@@ -20,21 +23,41 @@ entry_of (Some (Built id)) = Some id
 entry_of (Some (Joined id)) = Some id
 entry_of _ = None
 
--- a larval that is pending, or ended with an entry
-abbrev pub is_live_end : Option Ended → Bool
-is_live_end None = true
-is_live_end (Some (Built id)) = true
-is_live_end (Some (Joined id)) = true
-is_live_end (Some (Failed errno)) = false
-is_live_end (Some NoMemory) = false
+-- a larval that is pending, or ended with a listed entry
+abbrev pub is_seen_end : List Row → Option Ended → Bool
+is_seen_end rows None = true
+is_seen_end rows (Some (Built id)) = listed_at rows id
+is_seen_end rows (Some (Joined id)) = listed_at rows id
+is_seen_end rows (Some (Failed errno)) = false
+is_seen_end rows (Some NoMemory) = false
 
-abbrev pub is_live : Larval → Bool
-is_live larval = is_live_end larval.ended
+abbrev pub is_seen : List Row → Larval → Bool
+is_seen rows larval = is_seen_end rows larval.ended
 
--- the numbers of these larvals that are live, where the first has this number
-abbrev pub live_from : ℕ → List Larval → List ℕ
-live_from first [] = []
-live_from first (larval ∷ larvals) = if is_live larval then first ∷ live_from (first + 1) larvals else live_from (first + 1) larvals
+-- the numbers of these larvals that a look has to see, where the first has this number
+abbrev pub seen_from : List Row → ℕ → List Larval → List ℕ
+seen_from rows first [] = []
+seen_from rows first (larval ∷ larvals) = if is_seen rows larval then first ∷ seen_from rows (first + 1) larvals else seen_from rows (first + 1) larvals
+
+-- the larval of the number passes the test
+abbrev pub passes_at : (Larval → Bool) → List Larval → ℕ → Bool
+passes_at test larvals number = option_map_or test (slice_get larvals number) false
+
+-- a larval ends with an entry
+abbrev pub ends_with_entry : Ended → Bool
+ends_with_entry (Built id) = true
+ends_with_entry (Joined id) = true
+ends_with_entry (Failed errno) = false
+ends_with_entry NoMemory = false
+
+-- those that are left to see, where the larval of the number has ended so
+abbrev pub seen_after : Ended → ℕ → List ℕ → List ℕ
+seen_after ended number seen = if ends_with_entry ended then seen else filter (λ other. not (other == number)) seen
+
+-- the larval that a claim gets: the one that is named, or the oldest of these numbers
+abbrev pub claimable : List Larval → List ℕ → Option ℕ → Option ℕ
+claimable larvals seen (Some number) = unclaimed_at larvals number
+claimable larvals seen None = find (passes_at is_unclaimed larvals) seen
 
 -- the entry with which a larval of the text ended
 abbrev pub joined_as : List ℕ → Larval → Option ℕ
@@ -46,10 +69,6 @@ joined_by text larvals = filter_map (joined_as text) larvals
 -- the same, of the larvals of these numbers
 abbrev pub joined_at : List ℕ → List Larval → ℕ → Option ℕ
 joined_at text larvals number = option_and_then (joined_as text) (slice_get larvals number)
-
--- the larval of the number passes the test
-abbrev pub passes_at : (Larval → Bool) → List Larval → ℕ → Bool
-passes_at test larvals number = option_map_or test (slice_get larvals number) false
 
 -- the entry answers to the text, where larvals of the text ended with the entries of these ids
 abbrev pub answers_by : List ℕ → List ℕ → Bool → ℕ → Row → Bool

@@ -10,3 +10,5 @@ pub mod Kept
 pub mod Made
 pub mod Trial
 pub mod Alone
+pub mod Counting
+pub mod Held

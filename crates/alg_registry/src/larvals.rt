@@ -7,21 +7,23 @@ ghost use Rattle.std.specs.Str.{bytes_eq};
 ghost use Rattle.alg_registry.specs.declared.row.Larval.{Larval};
 ghost use Rattle.alg_registry.specs.Answers.{is_pending};
 ghost use Rattle.alg_registry.specs.Calls.{is_unclaimed, claimed_number, text_at, claimed_larval, ended_larval};
-ghost use Rattle.alg_registry.specs.Larvals.{entry_of, is_live_end, joined_as, joined_at, joined_by, passes_at};
+ghost use Rattle.alg_registry.specs.Larvals.{entry_of, ends_with_entry, is_seen_end, is_seen, seen_after, claimable, joined_as, joined_at, passes_at};
 
+use crate::counting::is_listed_at;
 use crate::entry::{Ended, RegErr};
-use crate::row::Larval;
+use crate::row::{Larval, Row};
 use crate::rows::is_same;
 use kc_base::Bytes;
 use std::alloc::{AllocError, Global};
 use std::marker::Model;
 
-/// The larvals by number. Contracts see the list, and the number `spare` of larvals that begin without memory.
+/// The larvals by number. Contracts see the list, the numbers of those that a look goes over, and the number `spare` of
+/// larvals that begin without memory.
 #[derive(Drop)]
 pub struct Larvals {
     all: Vec<Larval>,
-    /// The numbers of those that are pending or ended with an entry. A look need see no other.
-    live: Vec<u64>,
+    /// The numbers of those that are pending or ended with an entry, until that is unlisted.
+    seen: Vec<u64>,
     spare: usize,
 }
 
@@ -32,9 +34,9 @@ impl Model for Larvals {
 
     ghost Value = { LarvalTable };
 
-    ghost view = { λ l. record { list = l.all.items; spare = l.spare } };
+    ghost view = { λ l. record { list = l.all.items; seen = l.seen.items; spare = l.spare } };
 
-    ghost invariant = { λ l. IsTable l.all.items l.live.items l.spare (vec_capacity l.all) (vec_capacity l.live) };
+    ghost invariant = { λ l. IsTable l.all.items l.seen.items l.spare (vec_capacity l.all) (vec_capacity l.seen) };
 }
 
 pub fn copy_text(alloc: Global, part: &[u8]) -> Result<Bytes, RegErr>
@@ -59,9 +61,9 @@ fn is_larval_pending(larval: &Larval, text: &[u8]) -> bool
     larval.ended.is_none() && is_same(larval.text.as_slice(), text)
 }
 
-/// Whether a larval that ended so stays live.
-fn ends_live(ended: Ended) -> bool
-    ensures { result ≡ is_live_end (Some ended) }
+/// Whether a larval that ended so ended with an entry.
+fn ends_with(ended: Ended) -> bool
+    ensures { result ≡ ends_with_entry ended }
 {
     match ended {
         Ended::Built(_) | Ended::Joined(_) => true,
@@ -87,18 +89,18 @@ fn is_pending_at(all: &[Larval], number: u64, text: &[u8]) -> bool
     }
 }
 
-fn first_unclaimed(all: &[Larval], live: &[u64]) -> Option<u64>
-    ensures { result ≡ find (passes_at is_unclaimed all.now) live.now }
+fn first_unclaimed(all: &[Larval], seen: &[u64]) -> Option<u64>
+    ensures { result ≡ find (passes_at is_unclaimed all.now) seen.now }
 {
-    live.iter()
+    seen.iter()
         .copied()
         .find(|number| is_unclaimed_at(all, *number))
 }
 
-fn first_pending(all: &[Larval], live: &[u64], text: &[u8]) -> Option<u64>
-    ensures { result ≡ find (passes_at (is_pending text.now) all.now) live.now }
+fn first_pending(all: &[Larval], seen: &[u64], text: &[u8]) -> Option<u64>
+    ensures { result ≡ find (passes_at (is_pending text.now) all.now) seen.now }
 {
-    live.iter()
+    seen.iter()
         .copied()
         .find(|number| is_pending_at(all, *number, text))
 }
@@ -145,13 +147,13 @@ fn push_some(ids: &mut Vec<u64>, id: Option<u64>) -> Result<(), AllocError>
 fn entries_of(
     alloc: Global,
     all: &[Larval],
-    live: &[u64],
+    seen: &[u64],
     text: &[u8],
 ) -> Result<Vec<u64>, AllocError>
-    ensures { IfOk result (λ ids. ids.items ≡ filter_map (joined_at text.now all.now) live.now) }
+    ensures { IfOk result (λ ids. ids.items ≡ filter_map (joined_at text.now all.now) seen.now) }
 {
     let mut ids = Vec::new(alloc);
-    for number in live {
+    for number in seen {
         let id = entry_at(all, *number, text);
         push_some(&mut ids, id)?;
     }
@@ -159,21 +161,49 @@ fn entries_of(
 }
 
 /// Takes a number off the list.
-fn forget(live: &mut Vec<u64>, number: u64)
-    ensures items { live.new.items ≡ filter (λ other. not (other == number)) live.old.items }
-    ensures capacity { vec_capacity live.old ≤ vec_capacity live.new }
+fn forget(seen: &mut Vec<u64>, number: u64)
+    ensures items { seen.new.items ≡ filter (λ other. not (other == number)) seen.old.items }
+    ensures capacity { vec_capacity seen.old ≤ vec_capacity seen.new }
 {
-    live.retain(|other| *other != number);
+    seen.retain(|other| *other != number);
+}
+
+/// Whether a look has to see a larval that ended so.
+fn is_end_seen(rows: &[Row], ended: Option<Ended>) -> bool
+    ensures { result ≡ is_seen_end rows.now ended }
+{
+    match ended {
+        None => true,
+        Some(Ended::Built(id)) => is_listed_at(rows, id),
+        Some(Ended::Joined(id)) => is_listed_at(rows, id),
+        Some(_) => false,
+    }
+}
+
+fn is_seen_at(rows: &[Row], all: &[Larval], number: u64) -> bool
+    ensures { result ≡ passes_at (is_seen rows.now) all.now number }
+{
+    match all.get(number as usize) {
+        Some(larval) => is_end_seen(rows, larval.ended),
+        None => false,
+    }
+}
+
+fn keep_seen(seen: &mut Vec<u64>, rows: &[Row], all: &[Larval])
+    ensures items { seen.new.items ≡ filter (passes_at (is_seen rows.now) all.now) seen.old.items }
+    ensures capacity { vec_capacity seen.old ≤ vec_capacity seen.new }
+{
+    seen.retain(|number| is_seen_at(rows, all, *number));
 }
 
 impl Larvals {
     /// No larvals. No memory is taken.
     pub fn new(alloc: Global) -> Larvals
-        ensures { result ≡ record { list = []; spare = 0 } }
+        ensures { result ≡ record { list = []; seen = []; spare = 0 } }
     {
         Larvals {
             all: Vec::new(alloc),
-            live: Vec::new(alloc),
+            seen: Vec::new(alloc),
             spare: 0,
         }
     }
@@ -181,10 +211,11 @@ impl Larvals {
     /// Makes room for one more larval. Want of memory leaves the larvals as they were.
     pub fn reserve(&mut self) -> Result<(), RegErr>
         ensures list { self.new.list ≡ self.old.list }
+        ensures seen { self.new.seen ≡ self.old.seen }
         ensures room { OnOk result (0 < self.new.spare) }
         ensures memory { IfErr result (λ e. e ≡ RegErr.Memory) }
     {
-        if self.all.reserve(1).is_err() || self.live.reserve(1).is_err() {
+        if self.all.reserve(1).is_err() || self.seen.reserve(1).is_err() {
             return Err(RegErr::Memory);
         }
         self.spare = self.spare.max(1);
@@ -194,10 +225,11 @@ impl Larvals {
     /// Begins a larval of the text, where there is room for one. No memory is taken.
     pub fn begin(&mut self, text: Bytes)
         requires { 0 < self.old.spare }
-        ensures { self.new.list ≡ self.old.list ++ record { text = text; claimed = None; ended = None } ∷ [] }
+        ensures list { self.new.list ≡ self.old.list ++ record { text = text; claimed = None; ended = None } ∷ [] }
+        ensures seen { self.new.seen ≡ self.old.seen ++ length self.old.list ∷ [] }
     {
         let number = self.all.len() as u64;
-        self.live.push_reserved(number);
+        self.seen.push_reserved(number);
         self.all.push_reserved(Larval {
             text,
             claimed: None,
@@ -208,7 +240,7 @@ impl Larvals {
 
     /// The larval that a claim gets.
     pub fn to_claim(&self, named: Option<u64>) -> Option<u64>
-        ensures { result ≡ claimed_number self.now.list named }
+        ensures { result ≡ claimable self.now.list self.now.seen named }
     {
         match named {
             Some(number) => {
@@ -218,7 +250,7 @@ impl Larvals {
                     None
                 }
             }
-            None => first_unclaimed(&self.all, &self.live),
+            None => first_unclaimed(&self.all, &self.seen),
         }
     }
 
@@ -234,22 +266,23 @@ impl Larvals {
     /// Marks the larval as the caller's.
     pub fn claim(&mut self, number: u64, caller: u32)
         requires { number < length self.old.list }
-        ensures { (d : Larval) → self.new.list ≡ slice_set self.old.list number (claimed_larval caller (slice_index_or self.old.list number d)) }
+        ensures list { (d : Larval) → self.new.list ≡ slice_set self.old.list number (claimed_larval caller (slice_index_or self.old.list number d)) }
+        ensures seen { self.new.seen ≡ self.old.seen }
     {
         let larval = &mut self.all[number as usize];
         larval.claimed = Some(caller);
     }
 
-    /// Ends the larval, which is pending.
+    /// Ends the larval.
     pub fn end(&mut self, number: u64, ended: Ended)
-        requires within { number < length self.old.list }
-        requires pending { option_and_then (λ larval. larval.ended) (slice_get self.old.list number) ≡ None }
-        ensures { (d : Larval) → self.new.list ≡ slice_set self.old.list number (ended_larval ended (slice_index_or self.old.list number d)) }
+        requires { number < length self.old.list }
+        ensures list { (d : Larval) → self.new.list ≡ slice_set self.old.list number (ended_larval ended (slice_index_or self.old.list number d)) }
+        ensures seen { self.new.seen ≡ seen_after ended number self.old.seen }
     {
         let larval = &mut self.all[number as usize];
         larval.ended = Some(ended);
-        if !ends_live(ended) {
-            forget(&mut self.live, number);
+        if !ends_with(ended) {
+            forget(&mut self.seen, number);
         }
     }
 
@@ -263,22 +296,30 @@ impl Larvals {
         }
     }
 
-    /// The entries with which larvals of the text ended.
+    /// Looks go no more over those that ended with an entry that isn't listed.
+    pub fn forget_unlisted(&mut self, rows: &[Row])
+        ensures list { self.new.list ≡ self.old.list }
+        ensures seen { self.new.seen ≡ filter (passes_at (is_seen rows.now) self.old.list) self.old.seen }
+    {
+        keep_seen(&mut self.seen, rows, &self.all);
+    }
+
+    /// The entries with which larvals of the text ended, of those that a look goes over.
     pub fn joined(&self, alloc: Global, text: &[u8]) -> Result<Vec<u64>, RegErr>
-        ensures ok { IfOk result (λ ids. ids.items ≡ joined_by text.now self.now.list) }
+        ensures ok { IfOk result (λ ids. ids.items ≡ filter_map (joined_at text.now self.now.list) self.now.seen) }
         ensures err { IfErr result (λ e. e ≡ RegErr.Memory) }
     {
-        match entries_of(alloc, &self.all, &self.live, text) {
+        match entries_of(alloc, &self.all, &self.seen, text) {
             Ok(ids) => Ok(ids),
             Err(_) => Err(RegErr::Memory),
         }
     }
 
-    /// The oldest larval of the text that is pending.
+    /// The oldest larval of the text that is pending, of those that a look goes over.
     pub fn pending(&self, text: &[u8]) -> Option<u64>
-        ensures { result ≡ position_from (is_pending text.now) 0 self.now.list }
+        ensures { result ≡ find (passes_at (is_pending text.now) self.now.list) self.now.seen }
     {
-        first_pending(&self.all, &self.live, text)
+        first_pending(&self.all, &self.seen, text)
     }
 
     /// How many larvals began.

@@ -1,12 +1,14 @@
 //! What the registry tells of its entries.
 
-ghost use Rattle.std.specs.Prelude.{◌≡◌, ℕ, ◌<◌, ◌≤◌, ◌++◌, [], length, drop, take, IfOk, OnOk};
-ghost use Rattle.std.specs.List.{cons_option};
+ghost use Rattle.std.specs.Prelude.{◌≡◌, ℕ, ◌<◌, ◌≤◌, ◌++◌, [], length, drop, take, slice_get, IfOk, OnOk};
+ghost use Rattle.std.specs.List.{cons_option, filter_map};
+ghost use Rattle.std.specs.Option.{option_map_or};
 ghost use Rattle.alg_registry.specs.Calls.{own_refs, refs_answer, shown, listing};
+ghost use Rattle.alg_registry.specs.Held.{made_at, refs_by, refs_among};
 
 use crate::entry::RefAnswer;
 use crate::row::Row;
-use crate::rows::is_same;
+use crate::rows::{Rows, is_same};
 use kc_base::Bytes;
 use std::alloc::{AllocError, Global};
 use std::marker::Model;
@@ -58,20 +60,33 @@ fn refs_of(row: &Row, driver: &[u8]) -> Option<RefAnswer>
     }
 }
 
-pub fn newest_held(rows: &[Row], driver: &[u8]) -> Option<RefAnswer>
-    ensures { result ≡ refs_answer rows.now driver.now }
+/// The references of the entry of the id, where it has the driver and no newer one was found.
+fn refs_at(all: &[Row], id: u64, driver: &[u8], found: Option<RefAnswer>) -> Option<RefAnswer>
+    ensures { result ≡ option_map_or (λ row. refs_by driver.now id row found) (slice_get all.now id) found }
+{
+    match all.get(id as usize) {
+        Some(row) => found.or(refs_of(row, driver)),
+        None => found,
+    }
+}
+
+fn newest_among(all: &[Row], held: &[u64], driver: &[u8]) -> Option<RefAnswer>
+    ensures { result ≡ refs_among driver.now all.now held.now }
 {
     let mut found = None;
-    let mut i = rows.len();
+    let mut i = held.len();
     while i > 0 {
         i -= 1;
-        let row = &rows[i];
-        let own = refs_of(row, driver);
-        if found.is_none() {
-            found = own;
-        }
+        found = refs_at(all, held[i], driver, found);
     }
     found
+}
+
+/// The references of the newest held entry of the driver.
+pub fn newest_held(rows: &Rows, driver: &[u8]) -> Option<RefAnswer>
+    ensures { result ≡ refs_answer rows.now.list driver.now }
+{
+    newest_among(rows.all(), rows.held(), driver)
 }
 
 fn shown_of(alloc: Global, row: &Row) -> Result<Option<ListRow>, AllocError>
@@ -99,13 +114,30 @@ fn push_shown(found: &mut Vec<ListRow>, answer: Option<ListRow>) -> Result<(), A
     Ok(())
 }
 
-pub fn listing_of(alloc: Global, rows: &[Row]) -> Result<Listing, AllocError>
-    ensures { IfOk result (λ answer. answer ≡ listing rows.now) }
+fn shown_at(alloc: Global, all: &[Row], id: u64) -> Result<Option<ListRow>, AllocError>
+    ensures { IfOk result (λ answer. answer ≡ made_at shown all.now id) }
+{
+    match all.get(id as usize) {
+        Some(row) => shown_of(alloc, row),
+        None => Ok(None),
+    }
+}
+
+fn shown_among(alloc: Global, all: &[Row], held: &[u64]) -> Result<Vec<ListRow>, AllocError>
+    ensures { IfOk result (λ found. found.items ≡ filter_map (made_at shown all.now) held.now) }
 {
     let mut found = Vec::new(alloc);
-    for row in rows {
-        let answer = shown_of(alloc, row)?;
+    for id in held {
+        let answer = shown_at(alloc, all, *id)?;
         push_shown(&mut found, answer)?;
     }
+    Ok(found)
+}
+
+/// The listed entries, by id.
+pub fn listing_of(alloc: Global, rows: &Rows) -> Result<Listing, AllocError>
+    ensures { IfOk result (λ answer. answer ≡ listing rows.now.list) }
+{
+    let found = shown_among(alloc, rows.all(), rows.held())?;
     Ok(Listing { rows: found })
 }

@@ -1,15 +1,18 @@
 //! What a look answers.
 
-ghost use Rattle.std.specs.Prelude.{◌≡◌, ℕ, ◌+◌, ◌&&◌, ◌==◌, length, drop, IfOk, IfErr};
-ghost use Rattle.std.specs.List.{list_any, position_from};
+ghost use Rattle.std.specs.Prelude.{◌≡◌, ℕ, ◌+◌, ◌&&◌, ◌==◌, length, drop, slice_get, IfOk, IfErr};
+ghost use Rattle.std.specs.List.{list_any, find};
+ghost use Rattle.std.specs.Option.{option_map_or};
 ghost use Rattle.std.specs.Str.{bytes_eq};
 ghost use Rattle.alg_registry.specs.Answers.{may_find, is_plain, better, is_pending, is_template, not_found, look_answer};
-ghost use Rattle.alg_registry.specs.Larvals.{answers_by, best_by};
+ghost use Rattle.alg_registry.specs.Larvals.{answers_by, passes_at, seen_from};
+ghost use Rattle.alg_registry.specs.Held.{passes, better_by, best_among, is_plain_driver};
 
+use crate::counting::is_among;
 use crate::entry::{Looked, RegErr};
 use crate::larvals::Larvals;
 use crate::row::Row;
-use crate::rows::is_same;
+use crate::rows::{Rows, is_same};
 use crate::spec::Wrap;
 use std::alloc::Global;
 
@@ -17,12 +20,6 @@ fn may_be_found(row: &Row, plain: bool) -> bool
     ensures { result ≡ may_find plain row.now }
 {
     row.listed && (!plain || row.spec.wrap == Wrap::Plain)
-}
-
-fn is_among(joined: &[u64], id: u64) -> bool
-    ensures { result ≡ list_any (λ other. other == id) joined.now }
-{
-    joined.iter().any(|other| *other == id)
 }
 
 fn does_answer_to(joined: &[u64], text: &[u8], plain: bool, id: u64, row: &Row) -> bool
@@ -46,27 +43,63 @@ fn better_of(id: u64, row: &Row, best: Option<(u64, u32)>) -> Option<(u64, u32)>
     }
 }
 
-/// The best of the entries that answer to the text, where larvals of it ended with those of the ids.
-fn best_of(rows: &[Row], joined: &[u64], text: &[u8], plain: bool) -> Option<(u64, u32)>
-    ensures { result ≡ best_by joined.now text.now plain 0 rows.now }
+/// Of the entry of the id, where it answers to the text, and the best of newer ones the better.
+fn better_at(
+    all: &[Row],
+    id: u64,
+    joined: &[u64],
+    text: &[u8],
+    plain: bool,
+    best: Option<(u64, u32)>,
+) -> Option<(u64, u32)>
+    ensures { result ≡ option_map_or (λ row. better_by joined.now text.now plain id row best) (slice_get all.now id) best }
+{
+    match all.get(id as usize) {
+        Some(row) => {
+            if does_answer_to(joined, text, plain, id, row) {
+                better_of(id, row, best)
+            } else {
+                best
+            }
+        }
+        None => best,
+    }
+}
+
+/// The best of the held entries that answer to the text, where larvals of it ended with those of the ids.
+fn best_of(
+    all: &[Row],
+    held: &[u64],
+    joined: &[u64],
+    text: &[u8],
+    plain: bool,
+) -> Option<(u64, u32)>
+    ensures { result ≡ best_among joined.now text.now plain all.now held.now }
 {
     let mut best = None;
-    let mut i = rows.len();
+    let mut i = held.len();
     while i > 0 {
         i -= 1;
-        let row = &rows[i];
-        if does_answer_to(joined, text, plain, i as u64, row) {
-            best = better_of(i as u64, row, best);
-        }
+        best = better_at(all, held[i], joined, text, plain, best);
     }
     best
 }
 
-fn find_plain_driver(rows: &[Row], text: &[u8], plain: bool) -> Option<usize>
-    ensures { result ≡ position_from (λ row. may_find plain row && bytes_eq row.spec.driver text.now) 0 rows.now }
+fn is_plain_driver_at(all: &[Row], id: u64, text: &[u8], plain: bool) -> bool
+    ensures { result ≡ passes (is_plain_driver text.now plain) all.now id }
 {
-    rows.iter().position(|row| may_be_found(row, plain)
-        && is_same(row.spec.driver.as_slice(), text))
+    match all.get(id as usize) {
+        Some(row) => may_be_found(row, plain) && is_same(row.spec.driver.as_slice(), text),
+        None => false,
+    }
+}
+
+fn find_plain_driver(all: &[Row], held: &[u64], text: &[u8], plain: bool) -> Option<u64>
+    ensures { result ≡ find (passes (is_plain_driver text.now plain) all.now) held.now }
+{
+    held.iter()
+        .copied()
+        .find(|id| is_plain_driver_at(all, *id, text, plain))
 }
 
 fn is_template_text(text: &[u8]) -> bool
@@ -77,7 +110,7 @@ fn is_template_text(text: &[u8]) -> bool
 
 /// What a look answers where nothing is found.
 fn answer_unfound(larvals: &Larvals, text: &[u8]) -> Looked
-    ensures { result ≡ not_found larvals.now.list text.now (position_from (is_pending text.now) 0 larvals.now.list) }
+    ensures { result ≡ not_found larvals.now.list text.now (find (passes_at (is_pending text.now) larvals.now.list) larvals.now.seen) }
 {
     match larvals.pending(text) {
         Some(number) => Looked::Pending(number),
@@ -94,19 +127,20 @@ fn answer_unfound(larvals: &Larvals, text: &[u8]) -> Looked
 /// What a look answers.
 pub fn look_up(
     alloc: Global,
-    rows: &[Row],
+    rows: &Rows,
     larvals: &Larvals,
     text: &[u8],
     plain: bool,
 ) -> Result<Looked, RegErr>
-    ensures ok { IfOk result (λ answer. answer ≡ look_answer rows.now larvals.now.list text.now plain) }
+    requires { larvals.now.seen ≡ seen_from rows.now.list 0 larvals.now.list }
+    ensures ok { IfOk result (λ answer. answer ≡ look_answer rows.now.list larvals.now.list text.now plain) }
     ensures err { IfErr result (λ e. e ≡ RegErr.Memory) }
 {
-    if let Some(id) = find_plain_driver(rows, text, plain) {
-        return Ok(Looked::Found(id as u64));
+    if let Some(id) = find_plain_driver(rows.all(), rows.held(), text, plain) {
+        return Ok(Looked::Found(id));
     }
     let joined = larvals.joined(alloc, text)?;
-    match best_of(rows, &joined, text, plain) {
+    match best_of(rows.all(), rows.held(), &joined, text, plain) {
         Some((id, _priority)) => Ok(Looked::Found(id)),
         None => Ok(answer_unfound(larvals, text)),
     }

@@ -1,12 +1,13 @@
 //! The registry and its calls.
 
-ghost use Rattle.std.specs.Prelude.{◌≡◌, ℕ, ◌+◌, ◌<◌, ◌++◌, ◌∷◌, [], IfOk, IfErr, IfSome, OnOk, OnErr, IsTrue, IsFalse, ◌||◌, not, length, slice_get, Ok, Some, None, is_some, false};
+ghost use Rattle.std.specs.Prelude.{◌≡◌, ℕ, ◌+◌, ◌^◌, ◌<◌, ◌++◌, All, ◌∷◌, [], IfOk, IfErr, IfSome, OnOk, OnErr, IsTrue, IsFalse, ◌||◌, not, length, slice_get, Ok, Some, None, is_some, false};
 ghost use Rattle.std.specs.Option.{option_copied, option_map_or, option_map};
-ghost use Rattle.alg_registry.specs.Rows.{registered, registered_by, opened, end_of, is_held, is_held_at, rows_of, larvals_of, is_listed};
+ghost use Rattle.alg_registry.specs.Rows.{standing, registered, registered_by, opened, end_of, is_held, is_held_at, rows_of, larvals_of, is_listed};
 ghost use Rattle.alg_registry.specs.Answers.{driver_place, look_answer, enlist_answer, built_answer};
 ghost use Rattle.alg_registry.specs.Legal.{LegalReg, is_worker, HasReference, claimer, ended_as, MayEnd};
-ghost use Rattle.alg_registry.specs.Calls.{UnlessMemory, OnMemory, UnlessNoMemory, Judges, IsFailure, enlist_result, end_given, unless_memory, unlist_result, get_result, claimed_number, claimed_answer, claim_entries, waited_entries, listing, refs_answer, refs_result, held_spec, listed_row_of};
+ghost use Rattle.alg_registry.specs.Calls.{UnlessMemory, OnMemory, UnlessNoMemory, Judges, IsFailure, enlist_result, end_given, unless_memory, unlist_result, get_result, claimed_number, claimed_answer, claim_entries, waited_entries, listing, refs_answer, refs_result, held_spec, new_row};
 
+use crate::counting::{are_listed, is_listed_at};
 use crate::entry::{Claimed, EndAnswer, Ended, Enlisted, Looked, RefAnswer, RegEntry, RegErr};
 use crate::history::RegLog;
 use crate::ids::Ids;
@@ -14,10 +15,7 @@ use crate::larvals::{Larvals, copy_text};
 use crate::listing::{Listing, listing_of, newest_held};
 use crate::looking::look_up;
 use crate::row::Row;
-use crate::rows::{
-    add_row, are_listed, clashes, count_held, is_listed_at, place_of_driver, put_row, reserve_row,
-    take_row, unlist_row,
-};
+use crate::rows::Rows;
 use crate::spec::{Kind, Spec, Wrap};
 use kc_base::{Bytes, Errno};
 use std::alloc::{AllocError, Global};
@@ -32,7 +30,7 @@ pub struct Registry {
     alloc: Global,
     log: RegLog,
     /// Every entry that ever was, by id.
-    rows: Vec<Row>,
+    rows: Rows,
     /// Every larval that ever was, by number.
     larvals: Larvals,
 }
@@ -40,13 +38,13 @@ pub struct Registry {
 impl Model for Registry {
     ghost use Rattle.std.specs.Prelude.{List};
     ghost use Rattle.alg_registry.specs.declared.entry.RegEntry.{RegEntry};
-    ghost use Rattle.alg_registry.specs.Kept.{IsKept};
+    ghost use Rattle.alg_registry.specs.Kept.{IsRegistry};
 
     ghost Value = { List RegEntry };
 
     ghost view = { λ r. r.log };
 
-    ghost invariant = { λ r. IsKept r.log r.rows.items r.larvals.list };
+    ghost invariant = { λ r. IsRegistry r.log r.rows.list r.larvals.list r.larvals.seen };
 }
 
 /// What is to become of an instance that was built.
@@ -84,19 +82,19 @@ fn held_spec_at(rows: &[Row], id: u64) -> Option<&Spec>
 }
 
 /// What is to become of an instance that was built.
-fn judge(rows: &[Row], spec: &Spec) -> Judged
-    ensures { Judges rows.now spec.now result }
+fn judge(rows: &Rows, spec: &Spec) -> Judged
+    ensures { Judges rows.now.list spec.now result }
 {
-    if !are_listed(rows, spec.below.as_slice()) {
+    if !are_listed(rows.all(), spec.below.as_slice()) {
         return Judged::Fails(Errno::EAGAIN);
     }
-    if let Some(place) = place_of_driver(rows, spec.driver.as_slice()) {
-        return Judged::Joins(place as u64);
+    if let Some(id) = rows.place_of_driver(spec.driver.as_slice()) {
+        return Judged::Joins(id);
     }
-    if clashes(rows, spec) {
+    if rows.clashes(spec) {
         return Judged::Fails(Errno::EEXIST);
     }
-    if count_held(rows) >= MOST_HELD {
+    if rows.count_held() >= MOST_HELD {
         return Judged::Fails(Errno::ENFILE);
     }
     Judged::Builds
@@ -112,32 +110,31 @@ fn copy_spec(alloc: Global, spec: &Spec) -> Result<Spec, RegErr>
     }
 }
 
-/// A new entry that stands on no other.
-fn listed_row(spec: Spec) -> Row
-    ensures { result ≡ listed_row_of spec }
+/// An algorithm that is listed from the start.
+fn opened_spec(alloc: Global, name: &[u8], driver: &[u8], kind: Kind) -> Result<Spec, AllocError>
+    ensures { IfOk result (λ spec. spec ≡ opened name.now driver.now kind) }
 {
-    Row {
-        spec,
-        unlisted: false,
-        taken: 0,
-        listed: true,
-        references: 0,
-    }
-}
-
-/// An entry that is listed from the start.
-fn opened_row(alloc: Global, name: &[u8], driver: &[u8], kind: Kind) -> Result<Row, AllocError>
-    ensures { IfOk result (λ row. row ≡ listed_row_of (opened name.now driver.now kind)) }
-{
-    let spec = Spec {
+    Ok(Spec {
         name: Bytes::copy_of(alloc, name)?,
         driver: Bytes::copy_of(alloc, driver)?,
         kind,
         wrap: Wrap::Plain,
         priority: 100,
         below: Ids::new(alloc),
-    };
-    Ok(listed_row(spec))
+    })
+}
+
+/// Lists an algorithm that stands on no other.
+fn open(rows: &mut Rows, spec: Spec) -> Result<(), AllocError>
+    requires alone { spec.below ≡ [] }
+    requires few { All (λ row. row.taken < 2 ^ 61) rows.old.list }
+    ensures { OnOk result (rows.new.list ≡ standing (rows.old.list ++ new_row spec ∷ [])) }
+{
+    if rows.reserve().is_err() {
+        return Err(AllocError);
+    }
+    rows.add(spec);
+    Ok(())
 }
 
 impl Registry {
@@ -145,10 +142,19 @@ impl Registry {
     pub fn new(alloc: Global) -> Result<Registry, AllocError>
         ensures { IfOk result (λ registry. registry ≡ []) }
     {
-        let mut rows = Vec::new(alloc);
-        rows.push(opened_row(alloc, b"aes", b"aes-generic", Kind::Cipher)?)?;
-        rows.push(opened_row(alloc, b"sha256", b"sha256-generic", Kind::Hash)?)?;
-        rows.push(opened_row(alloc, b"ghash", b"ghash-generic", Kind::Ghash)?)?;
+        let mut rows = Rows::new(alloc);
+        open(
+            &mut rows,
+            opened_spec(alloc, b"aes", b"aes-generic", Kind::Cipher)?,
+        )?;
+        open(
+            &mut rows,
+            opened_spec(alloc, b"sha256", b"sha256-generic", Kind::Hash)?,
+        )?;
+        open(
+            &mut rows,
+            opened_spec(alloc, b"ghash", b"ghash-generic", Kind::Ghash)?,
+        )?;
         Ok(Registry {
             alloc,
             log: RegLog::empty(alloc),
@@ -170,7 +176,7 @@ impl Registry {
         ensures memory { OnMemory result (self.new ≡ self.old) }
         ensures legal { LegalReg self.new }
     {
-        if clashes(&self.rows, &spec) {
+        if self.rows.clashes(&spec) {
             self.log.record(RegEntry::Enlist {
                 caller,
                 spec,
@@ -178,7 +184,7 @@ impl Registry {
             })?;
             return Err(RegErr::Exist);
         }
-        if count_held(&self.rows) >= MOST_HELD {
+        if self.rows.count_held() >= MOST_HELD {
             self.log.record(RegEntry::Enlist {
                 caller,
                 spec,
@@ -187,14 +193,14 @@ impl Registry {
             return Err(RegErr::NFile);
         }
         let copy = copy_spec(self.alloc, &spec)?;
-        reserve_row(&mut self.rows)?;
-        let id = self.rows.len() as u64;
+        self.rows.reserve()?;
+        let id = self.rows.count();
         self.log.record(RegEntry::Enlist {
             caller,
             spec,
             answer: Enlisted::Made(id),
         })?;
-        self.rows.push_reserved(listed_row(copy));
+        self.rows.add(copy);
         Ok(id)
     }
 
@@ -291,12 +297,12 @@ impl Registry {
         ensures history { self.new ≡ self.old ++ RegEntry.End caller larval (unless_memory result (built_answer (rows_of self.old) spec)) ∷ [] }
         ensures legal { LegalReg self.new }
     {
-        let id = self.rows.len() as u64;
+        let id = self.rows.count();
         let Ok(copy) = copy_spec(self.alloc, &spec) else {
             self.end_with(caller, larval, EndAnswer::NoMemory, Ended::NoMemory);
             return Ended::NoMemory;
         };
-        if reserve_row(&mut self.rows).is_err() {
+        if self.rows.reserve().is_err() {
             self.end_with(caller, larval, EndAnswer::NoMemory, Ended::NoMemory);
             return Ended::NoMemory;
         }
@@ -306,7 +312,7 @@ impl Registry {
             answer: EndAnswer::Built(id, spec),
         });
         self.larvals.end(larval, Ended::Built(id));
-        add_row(&mut self.rows, copy);
+        self.rows.add(copy);
         Ended::Built(id)
     }
 
@@ -380,14 +386,15 @@ impl Registry {
         ensures legal { LegalReg self.new }
     {
         let text = copy_text(self.alloc, driver)?;
-        match place_of_driver(&self.rows, driver) {
-            Some(place) => {
+        match self.rows.place_of_driver(driver) {
+            Some(id) => {
                 self.log.record(RegEntry::Unlist {
                     caller,
                     driver: text,
-                    answer: Some(place as u64),
+                    answer: Some(id),
                 })?;
-                unlist_row(&mut self.rows, place);
+                self.rows.unlist(id as usize);
+                self.larvals.forget_unlisted(self.rows.all());
                 Ok(())
             }
             None => {
@@ -411,13 +418,13 @@ impl Registry {
         ensures memory { OnMemory result (self.new ≡ self.old) }
         ensures legal { LegalReg self.new }
     {
-        if is_listed_at(&self.rows, id) {
+        if is_listed_at(self.rows.all(), id) {
             self.log.record(RegEntry::Get {
                 caller,
                 id,
                 ok: true,
             })?;
-            take_row(&mut self.rows, id as usize);
+            self.rows.take(id as usize);
             Ok(())
         } else {
             self.log.record(RegEntry::Get {
@@ -437,7 +444,7 @@ impl Registry {
         ensures legal { LegalReg self.new }
     {
         self.log.settle(RegEntry::Put { caller, id });
-        put_row(&mut self.rows, id as usize);
+        self.rows.put(id as usize);
     }
 
     /// The references of the newest held entry of the driver.
@@ -483,7 +490,7 @@ impl Registry {
         ensures held { is_some result ≡ is_held_at self.now id }
         ensures spec { option_copied result ≡ held_spec (rows_of self.now) id }
     {
-        held_spec_at(&self.rows, id)
+        held_spec_at(self.rows.all(), id)
     }
 
     /// A copy of the entry as it came to be, held or not. `None` where no entry ever had the id.
@@ -492,7 +499,7 @@ impl Registry {
         ensures memory { IfErr result (λ e. e ≡ RegErr.Memory) }
         ensures legal { LegalReg self.now }
     {
-        origin_of(self.alloc, &self.rows, id)
+        origin_of(self.alloc, self.rows.all(), id)
     }
 
     /// The history so far.

@@ -1,32 +1,21 @@
-//! The table of entries: scans over it, and what calls change in it.
+//! The table of entries: scans over those that are held, and what calls change in it.
 
-ghost use Rattle.std.specs.Prelude.{◌≡◌, ℕ, ◌+◌, ◌^◌, ◌<◌, ◌≤◌, ◌&&◌, ◌++◌, ◌∷◌, [], length, vec_len, vec_capacity, take, drop, slice_set, slice_index_or, All, OnOk, IfErr};
-ghost use Rattle.std.specs.List.{list_any, list_all, position_from};
+ghost use Rattle.std.specs.Prelude.{◌≡◌, ℕ, ◌+◌, ◌-◌, ◌^◌, ◌<◌, ◌≤◌, ◌&&◌, ◌++◌, ◌∷◌, [], true, length, vec_capacity, slice_set, slice_index_or, All, OnOk, IfErr};
+ghost use Rattle.std.specs.List.{list_any, list_all, find, filter, position_from};
 ghost use Rattle.std.specs.Str.{bytes_eq};
 ghost use Rattle.alg_registry.specs.declared.row.Row.{Row};
-ghost use Rattle.alg_registry.specs.Rows.{listed_at, stays_listed, marked, counted, standing, holders, stands_on, is_held};
+ghost use Rattle.alg_registry.specs.Rows.{listed_at, standing, is_held};
 ghost use Rattle.alg_registry.specs.Answers.{clashes_with, held_count, driver_place};
-ghost use Rattle.alg_registry.specs.Alone.{stands_on_nothing, unlists_alone, takes_alone, puts_alone};
-ghost use Rattle.alg_registry.specs.Calls.{unlisted_row, taken_row, put_row_of, new_row};
+ghost use Rattle.alg_registry.specs.Alone.{stands_on_nothing, unlists_alone, puts_alone};
+ghost use Rattle.alg_registry.specs.Calls.{unlisted_row, taken_row, put_row_of, new_row, listed_row_of};
+ghost use Rattle.alg_registry.specs.Held.{RowTable, held_from, passes, is_listed_driver};
 
+use crate::counting::{add_references, is_row_held, restand};
 use crate::entry::RegErr;
 use crate::row::Row;
 use crate::spec::Spec;
-
-pub fn is_listed_at(rows: &[Row], id: u64) -> bool
-    ensures { result ≡ listed_at rows.now id }
-{
-    match rows.get(id as usize) {
-        Some(row) => row.listed,
-        None => false,
-    }
-}
-
-pub fn are_listed(rows: &[Row], ids: &[u64]) -> bool
-    ensures { result ≡ list_all (listed_at rows.now) ids.now }
-{
-    ids.iter().all(|id| is_listed_at(rows, *id))
-}
+use std::alloc::Global;
+use std::marker::Model;
 
 pub fn is_same(a: &[u8], b: &[u8]) -> bool
     ensures { result ≡ bytes_eq a.now b.now }
@@ -34,98 +23,64 @@ pub fn is_same(a: &[u8], b: &[u8]) -> bool
     a == b
 }
 
-pub fn clashes(rows: &[Row], spec: &Spec) -> bool
-    ensures { result ≡ list_any (clashes_with spec.now) rows.now }
+fn does_clash(row: &Row, spec: &Spec) -> bool
+    ensures { result ≡ clashes_with spec.now row.now }
 {
     let name = spec.name.as_slice();
     let driver = spec.driver.as_slice();
-    rows.iter().any(|row| {
-        row.listed
-            && (is_same(row.spec.name.as_slice(), driver)
-                || is_same(row.spec.driver.as_slice(), driver)
-                || is_same(row.spec.driver.as_slice(), name))
-    })
+    row.listed
+        && (is_same(row.spec.name.as_slice(), driver)
+            || is_same(row.spec.driver.as_slice(), driver)
+            || is_same(row.spec.driver.as_slice(), name))
 }
 
-pub fn count_held(rows: &[Row]) -> usize
-    ensures count { result ≡ held_count rows.now }
+fn does_clash_at(all: &[Row], id: u64, spec: &Spec) -> bool
+    ensures { result ≡ passes (clashes_with spec.now) all.now id }
 {
-    rows.iter()
-        .filter(|row| row.listed || 0 < row.references)
-        .count()
-}
-
-pub fn place_of_driver(rows: &[Row], driver: &[u8]) -> Option<usize>
-    ensures { result ≡ driver_place rows.now driver.now }
-{
-    rows.iter().position(|row| row.listed && is_same(row.spec.driver.as_slice(), driver))
-}
-
-fn does_stand_on(row: &Row, id: u64) -> bool
-    ensures { result ≡ stands_on id row.now }
-{
-    row.spec.below.as_slice().iter().any(|child| *child == id)
-}
-
-fn count_holders(rows: &[Row], id: u64) -> usize
-    ensures count { result ≡ holders id rows.now }
-    ensures few { result ≤ length rows.now }
-{
-    rows.iter()
-        .filter(|row| (row.listed || 0 < row.references) && does_stand_on(row, id))
-        .count()
-}
-
-/// Whether the entry at `i` stays listed, where the older ones have their marks.
-fn stays(rows: &[Row], i: usize) -> bool
-    requires { i < length rows.now }
-    ensures { (d : Row) → result ≡ stays_listed (take i rows.now) (slice_index_or rows.now i d) }
-{
-    let (older, _rest) = rows.split_at(i);
-    !rows[i].unlisted && are_listed(older, rows[i].spec.below.as_slice())
-}
-
-/// How many held entries newer than `i` stand on it.
-fn count_newer(rows: &[Row], i: usize) -> usize
-    requires { i < length rows.now }
-    ensures count { result ≡ holders i (drop (i + 1) rows.now) }
-    ensures few { result ≤ length rows.now }
-{
-    let (_older, newer) = rows.split_at(i + 1);
-    count_holders(newer, i as u64)
-}
-
-fn mark(rows: &mut [Row])
-    ensures { rows.new ≡ marked [] rows.old }
-{
-    for i in 0..rows.len() {
-        let listed = stays(rows, i);
-        let row = &mut rows[i];
-        row.listed = listed;
-        row.references = 0;
+    match all.get(id as usize) {
+        Some(row) => does_clash(row, spec),
+        None => false,
     }
 }
 
-fn count(rows: &mut [Row])
-    requires { All (λ row. row.taken < 2 ^ 62) rows.old }
-    ensures { rows.new ≡ counted 0 rows.old }
+fn do_clash(all: &[Row], held: &[u64], spec: &Spec) -> bool
+    ensures { result ≡ list_any (passes (clashes_with spec.now) all.now) held.now }
 {
-    let mut i = rows.len();
-    while i > 0 {
-        i -= 1;
-        let holders = count_newer(rows, i);
-        let row = &mut rows[i];
-        row.references = row.taken + holders as u64;
+    held.iter().any(|id| does_clash_at(all, *id, spec))
+}
+
+fn is_driver_at(all: &[Row], id: u64, driver: &[u8]) -> bool
+    ensures { result ≡ passes (is_listed_driver driver.now) all.now id }
+{
+    match all.get(id as usize) {
+        Some(row) => row.listed && is_same(row.spec.driver.as_slice(), driver),
+        None => false,
     }
 }
 
-/// Gives each entry its mark and its references.
-pub fn stand(rows: &mut [Row])
-    requires { All (λ row. row.taken < 2 ^ 62) rows.old }
-    ensures { rows.new ≡ standing rows.old }
+fn find_driver(all: &[Row], held: &[u64], driver: &[u8]) -> Option<u64>
+    ensures { result ≡ find (passes (is_listed_driver driver.now) all.now) held.now }
 {
-    mark(rows);
-    count(rows);
+    held.iter()
+        .copied()
+        .find(|id| is_driver_at(all, *id, driver))
+}
+
+fn is_held_at(all: &[Row], id: u64) -> bool
+    ensures { result ≡ passes is_held all.now id }
+{
+    match all.get(id as usize) {
+        Some(row) => is_row_held(row),
+        None => false,
+    }
+}
+
+/// Takes those off the list that are held no more.
+fn let_go(held: &mut Vec<u64>, all: &[Row])
+    ensures items { held.new.items ≡ filter (passes is_held all.now) held.old.items }
+    ensures capacity { vec_capacity held.old ≤ vec_capacity held.new }
+{
+    held.retain(|id| is_held_at(all, *id));
 }
 
 fn does_stand_on_nothing(row: &Row) -> bool
@@ -141,13 +96,6 @@ fn does_unlist_alone(row: &Row) -> bool
     row.references == row.taken && (0 < row.references || does_stand_on_nothing(row))
 }
 
-/// Whether no other entry changes where a reference to this one is taken.
-fn does_take_alone(row: &Row) -> bool
-    ensures { result ≡ takes_alone row.now }
-{
-    row.listed && row.references < u64::MAX
-}
-
 /// Whether no other entry changes where a reference to this one is given back.
 fn does_put_alone(row: &Row) -> bool
     ensures { result ≡ puts_alone row.now }
@@ -157,11 +105,12 @@ fn does_put_alone(row: &Row) -> bool
         && (row.listed || 1 < row.references || does_stand_on_nothing(row))
 }
 
-pub fn unlist_row(rows: &mut Vec<Row>, place: usize)
-    requires within { place < vec_len rows.old }
-    requires few { All (λ row. row.taken < 2 ^ 62) rows.old.items }
-    requires stands { standing rows.old.items ≡ rows.old.items }
-    ensures { (d : Row) → rows.new.items ≡ standing (slice_set rows.old.items place (unlisted_row (slice_index_or rows.old.items place d))) }
+fn unlist_row(rows: &mut [Row], held: &[u64], place: usize)
+    requires listed { listed_at rows.old place ≡ true }
+    requires few { All (λ row. row.taken < 2 ^ 61) rows.old }
+    requires stands { standing rows.old ≡ rows.old }
+    requires held { held.now ≡ held_from 0 rows.old }
+    ensures { (d : Row) → rows.new ≡ standing (slice_set rows.old place (unlisted_row (slice_index_or rows.old place d))) }
 {
     if does_unlist_alone(&rows[place]) {
         let row = &mut rows[place];
@@ -170,32 +119,17 @@ pub fn unlist_row(rows: &mut Vec<Row>, place: usize)
     } else {
         let row = &mut rows[place];
         row.unlisted = true;
-        stand(rows.as_mut_slice());
+        restand(rows, held);
     }
 }
 
-pub fn take_row(rows: &mut Vec<Row>, place: usize)
-    requires within { place < vec_len rows.old }
-    requires few { All (λ row. row.taken < 2 ^ 61) rows.old.items }
-    requires stands { standing rows.old.items ≡ rows.old.items }
-    ensures { (d : Row) → rows.new.items ≡ standing (slice_set rows.old.items place (taken_row (slice_index_or rows.old.items place d))) }
-{
-    if does_take_alone(&rows[place]) {
-        let row = &mut rows[place];
-        row.taken += 1;
-        row.references += 1;
-    } else {
-        let row = &mut rows[place];
-        row.taken += 1;
-        stand(rows.as_mut_slice());
-    }
-}
-
-pub fn put_row(rows: &mut Vec<Row>, place: usize)
-    requires within { place < vec_len rows.old }
-    requires few { All (λ row. row.taken < 2 ^ 61) rows.old.items }
-    requires stands { standing rows.old.items ≡ rows.old.items }
-    ensures { (d : Row) → rows.new.items ≡ standing (slice_set rows.old.items place (put_row_of (slice_index_or rows.old.items place d))) }
+fn put_row(rows: &mut [Row], held: &[u64], place: usize)
+    requires within { place < length rows.old }
+    requires taken { (d : Row) → 0 < (slice_index_or rows.old place d).taken }
+    requires few { All (λ row. row.taken < 2 ^ 61) rows.old }
+    requires stands { standing rows.old ≡ rows.old }
+    requires held { held.now ≡ held_from 0 rows.old }
+    ensures { (d : Row) → rows.new ≡ standing (slice_set rows.old place (put_row_of (slice_index_or rows.old place d))) }
 {
     if does_put_alone(&rows[place]) {
         let row = &mut rows[place];
@@ -203,34 +137,148 @@ pub fn put_row(rows: &mut Vec<Row>, place: usize)
         row.references -= 1;
     } else {
         let row = &mut rows[place];
-        row.taken = row.taken.saturating_sub(1);
-        stand(rows.as_mut_slice());
+        row.taken -= 1;
+        restand(rows, held);
     }
 }
 
-pub fn add_row(rows: &mut Vec<Row>, spec: Spec)
-    requires room { vec_len rows.old < vec_capacity rows.old }
-    requires few { All (λ row. row.taken < 2 ^ 61) rows.old.items }
-    ensures { rows.new.items ≡ standing (rows.old.items ++ new_row spec ∷ []) }
-{
-    rows.push_reserved(Row {
-        spec,
-        unlisted: false,
-        taken: 0,
-        listed: false,
-        references: 0,
-    });
-    stand(rows.as_mut_slice());
+/// The entries by id. Contracts see the list, which stands as it should, and the number `spare` of entries that are
+/// listed without memory.
+#[derive(Drop)]
+pub struct Rows {
+    all: Vec<Row>,
+    /// The ids of those that are held, ascending. No other changes ever again.
+    held: Vec<u64>,
+    spare: usize,
 }
 
-/// Makes room for one more entry.
-pub fn reserve_row(rows: &mut Vec<Row>) -> Result<(), RegErr>
-    ensures items { rows.new.items ≡ rows.old.items }
-    ensures ok { OnOk result (vec_len rows.new < vec_capacity rows.new) }
-    ensures err { IfErr result (λ e. e ≡ RegErr.Memory) }
-{
-    match rows.reserve(1) {
-        Ok(()) => Ok(()),
-        Err(_) => Err(RegErr::Memory),
+impl Model for Rows {
+    ghost use Rattle.std.specs.Prelude.{vec_capacity};
+    ghost use Rattle.alg_registry.specs.Held.{RowTable, IsRowTable};
+
+    ghost Value = { RowTable };
+
+    ghost view = { λ r. record { list = r.all.items; spare = r.spare } };
+
+    ghost invariant = { λ r. IsRowTable r.all.items r.held.items r.spare (vec_capacity r.all) (vec_capacity r.held) };
+}
+
+impl Rows {
+    /// No entries. No memory is taken.
+    pub fn new(alloc: Global) -> Rows
+        ensures { result ≡ record { list = []; spare = 0 } }
+    {
+        Rows {
+            all: Vec::new(alloc),
+            held: Vec::new(alloc),
+            spare: 0,
+        }
+    }
+
+    /// Every entry that ever was, by id.
+    pub fn all(&self) -> &[Row]
+        ensures all { result.now ≡ self.now.list }
+        ensures stands { standing self.now.list ≡ self.now.list }
+    {
+        self.all.as_slice()
+    }
+
+    /// The ids of those that are held, ascending.
+    pub fn held(&self) -> &[u64]
+        ensures { result.now ≡ held_from 0 self.now.list }
+    {
+        self.held.as_slice()
+    }
+
+    /// How many entries there ever were.
+    pub fn count(&self) -> u64
+        ensures { result ≡ length self.now.list }
+    {
+        self.all.len() as u64
+    }
+
+    /// How many are held.
+    pub fn count_held(&self) -> usize
+        ensures { result ≡ held_count self.now.list }
+    {
+        self.held.len()
+    }
+
+    /// Whether the new algorithm would be confused with a listed entry.
+    pub fn clashes(&self, spec: &Spec) -> bool
+        ensures { result ≡ list_any (clashes_with spec.now) self.now.list }
+    {
+        do_clash(&self.all, &self.held, spec)
+    }
+
+    /// The listed entry of the driver.
+    pub fn place_of_driver(&self, driver: &[u8]) -> Option<u64>
+        ensures { result ≡ driver_place self.now.list driver.now }
+    {
+        find_driver(&self.all, &self.held, driver)
+    }
+
+    /// Makes room for one more entry. Want of memory leaves the entries as they were.
+    pub fn reserve(&mut self) -> Result<(), RegErr>
+        ensures list { self.new.list ≡ self.old.list }
+        ensures room { OnOk result (0 < self.new.spare) }
+        ensures memory { IfErr result (λ e. e ≡ RegErr.Memory) }
+    {
+        if self.all.reserve(1).is_err() || self.held.reserve(1).is_err() {
+            return Err(RegErr::Memory);
+        }
+        self.spare = self.spare.max(1);
+        Ok(())
+    }
+
+    /// Lists an entry over listed ones, each of which has one more reference. No memory is taken.
+    pub fn add(&mut self, spec: Spec)
+        requires room { 0 < self.old.spare }
+        requires listed { list_all (listed_at self.old.list) spec.below ≡ true }
+        requires few { All (λ row. row.taken < 2 ^ 61) self.old.list }
+        ensures { self.new.list ≡ standing (self.old.list ++ new_row spec ∷ []) }
+    {
+        add_references(&mut self.all, spec.below.as_slice());
+        self.held.push_reserved(self.all.len() as u64);
+        self.all.push_reserved(Row {
+            spec,
+            unlisted: false,
+            taken: 0,
+            listed: true,
+            references: 0,
+        });
+        self.spare -= 1;
+    }
+
+    /// Takes a listed entry off the list, and with it what stands on it.
+    pub fn unlist(&mut self, place: usize)
+        requires listed { listed_at self.old.list place ≡ true }
+        requires few { All (λ row. row.taken < 2 ^ 61) self.old.list }
+        ensures { (d : Row) → self.new.list ≡ standing (slice_set self.old.list place (unlisted_row (slice_index_or self.old.list place d))) }
+    {
+        unlist_row(&mut self.all, &self.held, place);
+        let_go(&mut self.held, &self.all);
+    }
+
+    /// Takes a reference to a listed entry.
+    pub fn take(&mut self, place: usize)
+        requires listed { listed_at self.old.list place ≡ true }
+        requires few { All (λ row. row.taken < 2 ^ 61) self.old.list }
+        ensures { (d : Row) → self.new.list ≡ standing (slice_set self.old.list place (taken_row (slice_index_or self.old.list place d))) }
+    {
+        let row = &mut self.all[place];
+        row.taken += 1;
+        row.references += 1;
+    }
+
+    /// Gives a reference back that was taken.
+    pub fn put(&mut self, place: usize)
+        requires within { place < length self.old.list }
+        requires taken { (d : Row) → 0 < (slice_index_or self.old.list place d).taken }
+        requires few { All (λ row. row.taken < 2 ^ 61) self.old.list }
+        ensures { (d : Row) → self.new.list ≡ standing (slice_set self.old.list place (put_row_of (slice_index_or self.old.list place d))) }
+    {
+        put_row(&mut self.all, &self.held, place);
+        let_go(&mut self.held, &self.all);
     }
 }

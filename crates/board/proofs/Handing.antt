@@ -8,8 +8,8 @@ use Rattle.board.specs.declared.entry.Shape.{Shape}
 use Rattle.board.specs.declared.entry.Shape.TheVariants.{Pad, Queue}
 use Rattle.board.specs.declared.entry.BoardEntry.{BoardEntry}
 use Rattle.board.specs.declared.entry.BoardEntry.TheVariants.{Born, Submit, Take, Finish, Enq, Deq, Done, Hold, Go, Collect, Close, Share, Shut}
-use Rattle.board.specs.Entries.{Notice, Starts, Completes, is_of, entries_of, birth, pad_born, queue_born, submissions, taken_in, takings, finished_in, finished, has, unbroken, front, completes_below, told_in, told, collected, meaning_at, callback_of, delivered}
-use Rattle.board.specs.Legal.{IsRightFor, IsOpen, LegalBoard}
+use Rattle.board.specs.Entries.{Notice, Starts, Completes, is_of, entries_of, birth, pad_born, queue_born, submissions, taken_in, takings, finished_in, finished, has, unbroken, front, completes_below, told_in, told, collected, callback_of}
+use Rattle.board.specs.Legal.{IsRightFor, IsOpen}
 use Rattle.board.specs.Order.{handed_in, handed_after, handed_out, AreRightForAfter, completed_in, completed, numbers_below}
 use Rattle.board.specs.Staying.{Joins, LeavesOthers, BeginsAlone, IsDrained}
 use Rattle.board.specs.Handing.{is_collect, HandsNothing, HandsOutAtMost, completions, CollectHandsOut, AllHandedOutIsDrained}

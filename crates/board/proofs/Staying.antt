@@ -9,13 +9,13 @@ use Rattle.board.specs.declared.entry.Shape.{Shape}
 use Rattle.board.specs.declared.entry.Shape.TheVariants as shape
 use Rattle.board.specs.declared.entry.BoardEntry.{BoardEntry}
 use Rattle.board.specs.declared.entry.BoardEntry.TheVariants.{Born, Submit, Take, Finish, Enq, Deq, Done, Hold, Go, Collect, Close, Share, Shut}
-use Rattle.board.specs.Entries.{is_of, entries_of, birth, pad_born, queue_born, starts, told_in, accepted_in, submissions, taken_in, takings, takers, finished_in, finished, has, is_close, is_share, is_shared, meaning_at, caller_of, collected_in, collected, last_or, told, front, completes_below}
+use Rattle.board.specs.Entries.{is_of, entries_of, birth, pad_born, queue_born, starts, held_in, is_held, told_in, accepted_in, submissions, taken_in, takings, takers, finished_in, finished, has, is_close, is_share, is_shared, meaning_at, caller_of, collected_in, collected, last_or, told, front, completes_below}
 use Rattle.board.specs.Legal.{IsMaker, maker_is, IsRight, IsRightFor, AreRightAfter, LegalBoard, MayFinish, MayManage, IsOpen}
 use Rattle.board.specs.Order.{AreRightForAfter, numbers_below}
-use Rattle.board.specs.Staying.{IsDrained, OpensPad, OpensQueue, StaysOpen, QueueStaysOpen, StaysManaged, StaysSubmitting, SlipStays, IsOpenFor, IsOpenQueueFor, CollectDrains, is_work, WorkLeaves, IsWorkOf, TakingIsWork, FinishingIsWork}
+use Rattle.board.specs.Staying.{IsDrained, OpensPad, OpensQueue, StaysOpen, QueueStaysOpen, StaysManaged, StaysSubmitting, BornServed, Holds, StaysHeld, SlipStays, IsOpenFor, IsOpenQueueFor, CollectDrains, is_work, WorkLeaves, IsWorkOf, TakingIsWork, FinishingIsWork}
 use Rattle.board.proofs.Transfer.{right_for, entries-more, entries-same, each_right}
 use Rattle.board.proofs.PadOrder.{filter_map-none, birth_stays, filter_map-some, last_or-append, told_on_pad}
-use Rattle.board.proofs.Kept.{takers-same, closed-same, has-more, collected-same}
+use Rattle.board.proofs.Kept.{takers-same, closed-same, held-same, has-more, collected-same}
 use Rattle.board.proofs.KeptTake.{takers-more}
 use Rattle.board.proofs.QueueOrder.{served_run, served_start, taker_among, has_only_below, queue_is_born, told_on_queue}
 
@@ -86,6 +86,27 @@ submitting_cases h e p caller false s m = rw (entries-same h p e s) m
 
 pub stays_submitting : {A : Type 0} (h : List (BoardEntry A)) (e : BoardEntry A) (p caller : ℕ) → StaysSubmitting h e p caller
 stays_submitting h e p caller = submitting_cases h e p caller (is_of p e) refl
+
+-- whether a queue is held
+stays_held_cases : {A : Type 0} (h : List (BoardEntry A)) (e : BoardEntry A) (q : ℕ) (b : Bool) → is_of q e ≡ b → StaysHeld h e q
+stays_held_cases h e q true s n = ap is_held (entries-more h q e s) ∙ held-same (entries_of q h) e n
+stays_held_cases h e q false s n = ap is_held (entries-same h q e s)
+
+pub stays_held : {A : Type 0} (h : List (BoardEntry A)) (e : BoardEntry A) (q : ℕ) → StaysHeld h e q
+stays_held h e q = stays_held_cases h e q (is_of q e) refl
+
+held_by : {A : Type 0} (h : List (BoardEntry A)) (e : BoardEntry A) (q : ℕ) (b : Bool) → is_of q e ≡ true → held_in e ≡ Some b → is_held (entries_of q (h ++ e ∷ [])) ≡ b
+held_by h e q b s y =
+    ap is_held (entries-more h q e s) ∙ (ap (last_or false) (filter_map-some held_in (entries_of q h) e b y) ∙ last_or-append false (filter_map held_in (entries_of q h)) b)
+
+pub holds : {A : Type 0} (h : List (BoardEntry A)) (caller q : ℕ) → Holds h caller q
+holds h caller q = (held_by h (Hold caller q) q true (eq-eqb q q refl) refl, held_by h (Go caller q) q false (eq-eqb q q refl) refl)
+
+pub born_served : {A : Type 0} (h : List (BoardEntry A)) (caller q max : ℕ) → BornServed h caller q max
+born_served {A} h caller q max legal =
+    let e : BoardEntry A = Born caller q (shape.Queue max) in
+    let r = last_right [] h e legal in
+    stays_held h e q refl ∙ ap is_held r.1.1
 
 slice_get-keeps : {X : Type 0} (xs ys : List X) (n : ℕ) (x : X) → slice_get xs n ≡ Some x → slice_get (xs ++ ys) n ≡ Some x
 slice_get-keeps [] ys n x h = cc

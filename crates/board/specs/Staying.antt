@@ -1,9 +1,9 @@
-use Rattle.std.specs.Prelude.{◌≡◌, ◌≢◌, ℕ, Bool, true, false, List, [], ◌∷◌, ◌++◌, length}
+use Rattle.std.specs.Prelude.{◌≡◌, ◌≢◌, ℕ, Bool, true, false, List, [], ◌∷◌, ◌++◌, length, None}
 use Rattle.board.specs.declared.entry.Shape.{Shape}
 use Rattle.board.specs.declared.entry.Shape.TheVariants.{Pad, Queue}
 use Rattle.board.specs.declared.entry.BoardEntry.{BoardEntry}
-use Rattle.board.specs.declared.entry.BoardEntry.TheVariants.{Born, Take, Finish, Deq, Done, Collect}
-use Rattle.board.specs.Entries.{is_of, entries_of, submissions, front, told, collected, is_close, caller_of, take_entry, finish_entry}
+use Rattle.board.specs.declared.entry.BoardEntry.TheVariants.{Born, Take, Finish, Deq, Done, Hold, Go, Collect}
+use Rattle.board.specs.Entries.{is_of, entries_of, submissions, front, told, collected, is_close, held_in, is_held, caller_of, take_entry, finish_entry}
 use Rattle.board.specs.Legal.{IsOpenPad, IsOpenQueue, IsOpen, MaySubmit, MayManage, MayFinish, LegalBoard}
 
 -- an entry of the pipeline comes after those before it
@@ -49,6 +49,18 @@ StaysManaged h e p caller = MayManage (entries_of p h) caller → MayManage (ent
 
 abbrev pub StaysSubmitting : {A : Type 0} → List (BoardEntry A) → BoardEntry A → ℕ → ℕ → Type 0
 StaysSubmitting h e p caller = MaySubmit (entries_of p h) caller → MaySubmit (entries_of p (h ++ e ∷ [])) caller
+
+-- a queue that was just made is not held
+abbrev pub BornServed : {A : Type 0} → List (BoardEntry A) → ℕ → ℕ → ℕ → Type 0
+BornServed h caller q max = LegalBoard (h ++ Born caller q (Queue max) ∷ []) → is_held (entries_of q (h ++ Born caller q (Queue max) ∷ [])) ≡ false
+
+-- it is held after a Hold, not after a Go, and otherwise as before
+abbrev pub Holds : {A : Type 0} → List (BoardEntry A) → ℕ → ℕ → Type 0
+Holds h caller q =
+    (is_held (entries_of q (h ++ Hold caller q ∷ [])) ≡ true) × (is_held (entries_of q (h ++ Go caller q ∷ [])) ≡ false)
+
+abbrev pub StaysHeld : {A : Type 0} → List (BoardEntry A) → BoardEntry A → ℕ → Type 0
+StaysHeld h e q = held_in e ≡ None → is_held (entries_of q (h ++ e ∷ [])) ≡ is_held (entries_of q h)
 
 -- what another caller does leaves a job to who took it, with the same ask
 abbrev pub SlipStays : {A O : Type 0} → (A → O) → List (BoardEntry A) → BoardEntry A → ℕ → ℕ → ℕ → O → Type 0

@@ -9,7 +9,7 @@ ghost use Rattle.board.specs.Legal.{IsNoWorker, MayManage, IsOpen, pipelines, is
 
 use crate::allowance::Used;
 use crate::entry::{BoardEntry, Shape};
-use crate::log::BoardLog;
+use crate::log::{BoardLog, reserve_entries};
 use crate::pipeline::{PadPipeline, Pipeline};
 use crate::work::Work;
 use padata_core::Padata;
@@ -93,10 +93,7 @@ impl<W: Work> BoardCore<W> {
         ensures legal { LegalBoard self.new }
     {
         let pad = Padata::new(self.alloc, lists)?;
-        let Some(room) = self.owed.checked_add(2) else {
-            return Err(BoardErr::Memory);
-        };
-        self.log.reserve(room)?;
+        reserve_entries(&mut self.log, self.owed, 2)?;
         self.pipes.reserve(1)?;
         let pipe = self.pipes.len() as u64;
         let place = PadPipeline {

@@ -154,6 +154,17 @@ pub(crate) fn finish_entry<A>(pad: bool, caller: u32, pipe: u64, number: u64) ->
     }
 }
 
+/// The entry by which a queue is held or let go.
+pub(crate) fn hold_entry<A>(held: bool, caller: u32, pipe: u64) -> BoardEntry<A>
+    ensures { result ≡ (if held then Entry.Hold caller pipe else Entry.Go caller pipe) }
+{
+    if held {
+        BoardEntry::Hold { caller, pipe }
+    } else {
+        BoardEntry::Go { caller, pipe }
+    }
+}
+
 /// How many entries of work follow on a queue's answer: two where it accepts.
 pub(crate) fn work_entries(answer: Entered) -> usize
     ensures { result ≡ work_of answer }

@@ -8,6 +8,7 @@ ghost use Rattle.board.specs.Legal.{MayManage, IsOpen, LegalBoard};
 
 use crate::board_core::{BoardCore, BoardErr};
 use crate::entry::BoardEntry;
+use crate::log::reserve_entries;
 use crate::work::Work;
 use kc_base::Callbacks;
 
@@ -31,10 +32,7 @@ impl<W: Work> BoardCore<W> {
         let place = &self.pipes[pipe as usize];
         let to = place.told();
         into.reserve(place.uncollected())?;
-        let Some(room) = self.owed.checked_add(1) else {
-            return Err(BoardErr::Memory);
-        };
-        self.log.reserve(room)?;
+        reserve_entries(&mut self.log, self.owed, 1)?;
         let place = &mut self.pipes[pipe as usize];
         place.collect(into);
         self.log

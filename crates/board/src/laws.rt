@@ -12,7 +12,7 @@ ghost use Rattle.board.specs.declared.entry.BoardEntry.TheVariants.{Submit, Fini
 ghost use Rattle.board.specs.Entries.{Starts, Completes, told, entries_of, delivered};
 ghost use Rattle.board.specs.Legal.{IsRight, LegalBoard};
 ghost use Rattle.board.specs.Order.{PadsKeepOrder, PadsWaitForEach, PadsHandOutAll, QueuesKeepOrder, QueuesHandOutTold, QueuesCompleteInOrder, QueuesHandOutAll, StartsBackloggedAlone, StartsEachOnce, StartsBeforeCompletion};
-ghost use Rattle.board.specs.Staying.{Joins, LeavesOthers, BeginsAlone, OpensPad, OpensQueue, StaysOpen, QueueStaysOpen, StaysManaged, StaysSubmitting, SlipStays, CollectDrains, WorkLeaves, TakingIsWork, FinishingIsWork};
+ghost use Rattle.board.specs.Staying.{Joins, LeavesOthers, BeginsAlone, OpensPad, OpensQueue, StaysOpen, QueueStaysOpen, StaysManaged, StaysSubmitting, BornServed, Holds, StaysHeld, SlipStays, CollectDrains, WorkLeaves, TakingIsWork, FinishingIsWork};
 ghost use Rattle.board.specs.Handing.{HandsNothing, HandsOutAtMost, CollectHandsOut, AllHandedOutIsDrained};
 ghost use Rattle.board.specs.Examples.{held_requests, held_queue, second_first};
 
@@ -55,6 +55,13 @@ pub fn pipelines_stay<A>()
     ensures drained { (h : List (BoardEntry A)) (caller p to : ℕ) → CollectDrains h caller p to }
     ensures taking { (h : List (BoardEntry A)) (caller p n : ℕ) → TakingIsWork h caller p n }
     ensures finishing { (h : List (BoardEntry A)) (caller p n : ℕ) → FinishingIsWork h caller p n }
+{}
+
+/// A queue is held from its `hold` to its `go`.
+pub fn queues_hold<A>()
+    ensures born { (h : List (BoardEntry A)) (caller q max : ℕ) → BornServed h caller q max }
+    ensures held { (h : List (BoardEntry A)) (caller q : ℕ) → Holds h caller q }
+    ensures stays { (h : List (BoardEntry A)) (e : BoardEntry A) (q : ℕ) → StaysHeld h e q }
 {}
 
 /// Each entry joins the entries of its own pipeline and leaves those of the others; a pipeline's birth comes before them.

@@ -1,8 +1,11 @@
 //! The history of a board.
 
-ghost use Rattle.std.specs.Prelude.{◌≡◌, []};
+ghost use Rattle.std.specs.Prelude.{◌≡◌, ◌+◌, ◌≤◌, [], OnOk, IfErr};
+ghost use Rattle.std.specs.Vec.{vec_len, vec_capacity};
+ghost use Rattle.board.specs.declared.board_core.BoardErr.TheVariants as BoardErr;
 ghost use Rattle.board.specs.Legal.{LegalBoard};
 
+use crate::board_core::BoardErr;
 use crate::entry::BoardEntry;
 use std::alloc::Global;
 use std::marker::Model;
@@ -50,4 +53,23 @@ impl<A> BoardLog<A> {
     {
         BoardLog { entries }
     }
+}
+
+/// Makes room for the entries that are owed and for `more`. Want of memory takes no room away.
+pub(crate) fn reserve_entries<A>(
+    log: &mut Vec<BoardEntry<A>>,
+    owed: usize,
+    more: usize,
+) -> Result<(), BoardErr>
+    ensures items { log.new.items ≡ log.old.items }
+    ensures len { vec_len log.new ≡ vec_len log.old }
+    ensures ok { OnOk result (vec_len log.new + (owed + more) ≤ vec_capacity log.new) }
+    ensures capacity { vec_capacity log.old ≤ vec_capacity log.new }
+    ensures refused { IfErr result (λ e. e ≡ BoardErr.Memory) }
+{
+    let Some(room) = owed.checked_add(more) else {
+        return Err(BoardErr::Memory);
+    };
+    log.reserve(room)?;
+    Ok(())
 }

@@ -1,6 +1,6 @@
 //! What a board does with queues alone: it makes them, offers them requests, holds them and lets them go.
 
-ghost use Rattle.std.specs.Prelude.{◌≡◌, ◌≤◌, [], ◌∷◌, ◌++◌, IfErr, OnOk, ◌↔◌, MatchResult};
+ghost use Rattle.std.specs.Prelude.{◌≡◌, ◌≤◌, if◌then◌else◌, [], ◌∷◌, ◌++◌, IfErr, OnOk, ◌↔◌, MatchResult};
 ghost use Rattle.std.specs.Arc.{arc_value};
 ghost use Rattle.std.specs.declared.sync.Arc.{Arc};
 ghost use Rattle.std.specs.declared.alloc.Global.{Global as GlobalMemory};
@@ -11,10 +11,12 @@ ghost use Rattle.board.specs.Entries.{entries_of, verdict};
 ghost use Rattle.board.specs.Allowance.{IsAllowed};
 ghost use Rattle.board.specs.Legal.{IsNoWorker, MaySubmit, MayManage, IsOpenQueue, pipelines, LegalBoard};
 
-use crate::allowance::{is_allowed, spend_if, used_by};
+use crate::allowance::spend_if;
 use crate::board_core::{BoardCore, BoardErr};
-use crate::entry::{BoardEntry, Entered, Shape, work_entries};
+use crate::entry::{BoardEntry, Entered, Shape, hold_entry, work_entries};
+use crate::log::reserve_entries;
 use crate::pipeline::{Pipeline, QueuePipeline};
+use crate::submitting::Admitted;
 use crate::work::Work;
 use cryptd::Cryptd;
 
@@ -29,10 +31,7 @@ impl<W: Work> BoardCore<W> {
         ensures legal { LegalBoard self.new }
     {
         let queue = Cryptd::new(self.alloc, max)?;
-        let Some(room) = self.owed.checked_add(2) else {
-            return Err(BoardErr::Memory);
-        };
-        self.log.reserve(room)?;
+        reserve_entries(&mut self.log, self.owed, 2)?;
         self.pipes.reserve(1)?;
         let pipe = self.pipes.len() as u64;
         let place = QueuePipeline {
@@ -71,16 +70,8 @@ impl<W: Work> BoardCore<W> {
         ensures refused { IfErr result (λ e. (e ≡ BoardErr.TooBig) ↔ (IsAllowed W.weight self.old caller (W.asked job) → ⊥)) }
         ensures legal { LegalBoard self.new }
     {
-        let size = job.size();
-        let so_far = used_by(&self.used, caller);
-        if !is_allowed(so_far, size) {
-            return Err(BoardErr::TooBig);
-        }
-        let ask = job.ask(self.alloc)?;
-        let Some(room) = self.owed.checked_add(3) else {
-            return Err(BoardErr::Memory);
-        };
-        self.log.reserve(room)?;
+        let Admitted { ask, size } = self.admit(caller, &job)?;
+        reserve_entries(&mut self.log, self.owed, 3)?;
         let place = &mut self.pipes[pipe as usize];
         place.reserve()?;
         let accepted = place.accepts(backlog);
@@ -106,14 +97,7 @@ impl<W: Work> BoardCore<W> {
         ensures refused { IfErr result (λ e. e ≡ BoardErr.Memory) }
         ensures legal { LegalBoard self.new }
     {
-        let Some(room) = self.owed.checked_add(1) else {
-            return Err(BoardErr::Memory);
-        };
-        self.log.reserve(room)?;
-        let place = &mut self.pipes[pipe as usize];
-        place.set_held(true);
-        self.log.push_reserved(BoardEntry::Hold { caller, pipe });
-        Ok(())
+        self.mark_held(caller, pipe, true)
     }
 
     /// The queue's requests are run again. The caller made the queue, which isn't closed. Only want of memory refuses, and
@@ -125,13 +109,22 @@ impl<W: Work> BoardCore<W> {
         ensures refused { IfErr result (λ e. e ≡ BoardErr.Memory) }
         ensures legal { LegalBoard self.new }
     {
-        let Some(room) = self.owed.checked_add(1) else {
-            return Err(BoardErr::Memory);
-        };
-        self.log.reserve(room)?;
+        self.mark_held(caller, pipe, false)
+    }
+
+    /// Holds the queue or lets it go.
+    fn mark_held(&mut self, caller: u32, pipe: u64, held: bool) -> Result<(), BoardErr>
+        requires caller { MayManage (entries_of pipe self.old) caller }
+        requires pipe { IsOpenQueue (entries_of pipe self.old) }
+        ensures marked { MatchResult result (λ _. self.new ≡ self.old ++ (if held then Entry.Hold caller pipe else Entry.Go caller pipe) ∷ []) (λ _. self.new ≡ self.old) }
+        ensures refused { IfErr result (λ e. e ≡ BoardErr.Memory) }
+        ensures legal { LegalBoard self.new }
+    {
+        reserve_entries(&mut self.log, self.owed, 1)?;
         let place = &mut self.pipes[pipe as usize];
-        place.set_held(false);
-        self.log.push_reserved(BoardEntry::Go { caller, pipe });
+        place.set_held(held);
+        let entry = hold_entry(held, caller, pipe);
+        self.log.push_reserved(entry);
         Ok(())
     }
 }

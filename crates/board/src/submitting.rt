@@ -1,6 +1,6 @@
-//! How a pad of a board accepts requests.
+//! How a board admits requests, and a pad of it accepts them.
 
-ghost use Rattle.std.specs.Prelude.{◌≡◌, [], ◌∷◌, ◌++◌, length, IfErr, OnOk, ◌↔◌, MatchResult};
+ghost use Rattle.std.specs.Prelude.{◌≡◌, [], ◌∷◌, ◌++◌, length, IfOk, IfErr, OnOk, ◌↔◌, MatchResult};
 ghost use Rattle.std.specs.Arc.{arc_value};
 ghost use Rattle.std.specs.declared.sync.Arc.{Arc};
 ghost use Rattle.std.specs.declared.alloc.Global.{Global as GlobalMemory};
@@ -13,7 +13,16 @@ ghost use Rattle.board.specs.Legal.{MaySubmit, IsOpenPad, LegalBoard};
 use crate::allowance::{is_allowed, spend, used_by};
 use crate::board_core::{BoardCore, BoardErr};
 use crate::entry::BoardEntry;
+use crate::log::reserve_entries;
 use crate::work::Work;
+use std::alloc::Global;
+use std::sync::Arc;
+
+/// What a job that is accepted is asked, and how many bytes of its caller's allowance it takes.
+pub(crate) struct Admitted<A> {
+    pub(crate) ask: Arc<A, Global>,
+    pub(crate) size: u64,
+}
 
 impl<W: Work> BoardCore<W> {
     /// Takes a job into the pad, and answers its number. The caller made the pad, which isn't closed, or the pad is shared,
@@ -28,16 +37,8 @@ impl<W: Work> BoardCore<W> {
         ensures refused { IfErr result (λ e. (e ≡ BoardErr.TooBig) ↔ (IsAllowed W.weight self.old caller (W.asked job) → ⊥)) }
         ensures legal { LegalBoard self.new }
     {
-        let size = job.size();
-        let so_far = used_by(&self.used, caller);
-        if !is_allowed(so_far, size) {
-            return Err(BoardErr::TooBig);
-        }
-        let ask = job.ask(self.alloc)?;
-        let Some(room) = self.owed.checked_add(3) else {
-            return Err(BoardErr::Memory);
-        };
-        self.log.reserve(room)?;
+        let Admitted { ask, size } = self.admit(caller, &job)?;
+        reserve_entries(&mut self.log, self.owed, 3)?;
         let place = &mut self.pipes[pipe as usize];
         place.reserve()?;
         spend(&mut self.used, caller, size)?;
@@ -50,5 +51,22 @@ impl<W: Work> BoardCore<W> {
         });
         self.owed += 2;
         Ok(number)
+    }
+
+    /// What the job is asked and its size, where the caller's allowance has room for it: otherwise `TooBig`. Want of memory
+    /// comes after that.
+    pub(crate) fn admit(&self, caller: u32, job: &W) -> Result<Admitted<W::Ask>, BoardErr>
+        ensures ask { IfOk result (λ admitted. arc_value admitted.ask ≡ W.asked job.now) }
+        ensures size { IfOk result (λ admitted. admitted.size ≡ W.weight (W.asked job.now)) }
+        ensures allowed { OnOk result (IsAllowed W.weight self.now caller (W.asked job.now)) }
+        ensures refused { IfErr result (λ e. (e ≡ BoardErr.TooBig) ↔ (IsAllowed W.weight self.now caller (W.asked job.now) → ⊥)) }
+    {
+        let size = job.size();
+        let so_far = used_by(&self.used, caller);
+        if !is_allowed(so_far, size) {
+            return Err(BoardErr::TooBig);
+        }
+        let ask = job.ask(self.alloc)?;
+        Ok(Admitted { ask, size })
     }
 }

@@ -223,8 +223,7 @@ pub going-ends : (all left : List Line) (number : ℕ) (r r' : List RegEntry) (b
     → Writes (EndTurn walk) r r' b b' walk' y z → Gains x z (IsText all r' b')
 unfolding IsText
 going-ends all left number r r' b b' x y z walk walk' going none step =
-    let turn = joined going.turn step.0 in
-    (
+    let turn = joined going.turn step.0 in (
       text_in turn,
       (turn, script-turn all left number r b x y walk step.0 going none step.1, holds-more r r' b b' going.turn step.0 walk' going.holds step.2 step.3, refl),
       written-more x y z going.turn step.0 going.written step.4,

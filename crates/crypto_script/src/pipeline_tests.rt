@@ -44,8 +44,12 @@ fn written_by(rt: &impl Abort, alloc: Global, script: &str) -> Result<String, Al
 #[test]
 fn a_pad_hands_out_in_order(rt: HostRuntime) -> Result<(), Fail> {
     let alloc = rt.alloc();
-    let script = format!(in alloc; "alloc p pcrypt(gcm(aes))\nkey p {ZEROS}\nenc p {NONCE} - {ZEROS}\nenc p {NONCE} - {ZEROS}\nenc p {NONCE} - {ZEROS}\ndrain p\n")?;
-    let text = format!(in alloc; "1 ok pcrypt({GCM_DRIVER})\n2 ok\n3 EINPROGRESS\n4 EINPROGRESS\n5 EINPROGRESS\n3 done {SEALED}\n4 done {SEALED}\n5 done {SEALED}\n6 drained 3\n")?;
+    let script = format!(in alloc;
+        "alloc p pcrypt(gcm(aes))\nkey p {ZEROS}\nenc p {NONCE} - {ZEROS}\nenc p {NONCE} - {ZEROS}\nenc p {NONCE} - {ZEROS}\ndrain p\n"
+    )?;
+    let text = format!(in alloc;
+        "1 ok pcrypt({GCM_DRIVER})\n2 ok\n3 EINPROGRESS\n4 EINPROGRESS\n5 EINPROGRESS\n3 done {SEALED}\n4 done {SEALED}\n5 done {SEALED}\n6 drained 3\n"
+    )?;
     expect(&rt, alloc, script.as_str(), 0, text.as_str())?;
     Ok(())
 }
@@ -54,8 +58,12 @@ fn a_pad_hands_out_in_order(rt: HostRuntime) -> Result<(), Fail> {
 fn a_wrong_tag_fails_in_its_place(rt: HostRuntime) -> Result<(), Fail> {
     let alloc = rt.alloc();
     let wrong = "0388dace60b6a392f328c2b971b2fe78ab6e47d42cec13bdf53a67b21257bdde";
-    let script = format!(in alloc; "alloc p pcrypt(gcm(aes))\nkey p {ZEROS}\ndec p {NONCE} - {SEALED}\ndec p {NONCE} - {wrong}\ndec p {NONCE} - {SEALED}\ndrain p\n")?;
-    let text = format!(in alloc; "1 ok pcrypt({GCM_DRIVER})\n2 ok\n3 EINPROGRESS\n4 EINPROGRESS\n5 EINPROGRESS\n3 done {ZEROS}\n4 fail EBADMSG\n5 done {ZEROS}\n6 drained 3\n")?;
+    let script = format!(in alloc;
+        "alloc p pcrypt(gcm(aes))\nkey p {ZEROS}\ndec p {NONCE} - {SEALED}\ndec p {NONCE} - {wrong}\ndec p {NONCE} - {SEALED}\ndrain p\n"
+    )?;
+    let text = format!(in alloc;
+        "1 ok pcrypt({GCM_DRIVER})\n2 ok\n3 EINPROGRESS\n4 EINPROGRESS\n5 EINPROGRESS\n3 done {ZEROS}\n4 fail EBADMSG\n5 done {ZEROS}\n6 drained 3\n"
+    )?;
     expect(&rt, alloc, script.as_str(), 0, text.as_str())?;
     Ok(())
 }
@@ -63,8 +71,12 @@ fn a_wrong_tag_fails_in_its_place(rt: HostRuntime) -> Result<(), Fail> {
 #[test]
 fn a_length_that_fails_is_answered_late(rt: HostRuntime) -> Result<(), Fail> {
     let alloc = rt.alloc();
-    let script = format!(in alloc; "alloc a pcrypt(authenc(hmac(sha256),cbc(aes)))\nkey a 08000100000000104a656665{CBC_KEY}\nenc a {IV} {SECOND_TEXT} -\nenc a {IV} {SECOND_TEXT} 00\ndrain a\n")?;
-    let text = format!(in alloc; "1 ok pcrypt(authenc(hmac(sha256-generic),cbc(aes-generic)))\n2 ok\n3 EINPROGRESS\n4 EINPROGRESS\n3 done {SECOND_MAC}\n4 fail EINVAL\n5 drained 2\n")?;
+    let script = format!(in alloc;
+        "alloc a pcrypt(authenc(hmac(sha256),cbc(aes)))\nkey a 08000100000000104a656665{CBC_KEY}\nenc a {IV} {SECOND_TEXT} -\nenc a {IV} {SECOND_TEXT} 00\ndrain a\n"
+    )?;
+    let text = format!(in alloc;
+        "1 ok pcrypt(authenc(hmac(sha256-generic),cbc(aes-generic)))\n2 ok\n3 EINPROGRESS\n4 EINPROGRESS\n3 done {SECOND_MAC}\n4 fail EINVAL\n5 drained 2\n"
+    )?;
     expect(&rt, alloc, script.as_str(), 0, text.as_str())?;
     Ok(())
 }
@@ -72,8 +84,12 @@ fn a_length_that_fails_is_answered_late(rt: HostRuntime) -> Result<(), Fail> {
 #[test]
 fn a_held_queue_takes_in_no_more_than_fits(rt: HostRuntime) -> Result<(), Fail> {
     let alloc = rt.alloc();
-    let script = format!(in alloc; "alloc q cryptd(cbc(aes)) 2\nkey q {CBC_KEY}\nhold q\nenc q {IV} - {BLOCK}\nenc q {IV} - {BLOCK}\nenc q {IV} - {BLOCK} backlog\nenc q {IV} - {BLOCK}\ndrain q\ngo q\ndrain q\n")?;
-    let text = format!(in alloc; "1 ok cryptd(cbc(aes-generic))\n2 ok\n3 ok\n4 EINPROGRESS\n5 EINPROGRESS\n6 EBUSY\n7 ENOSPC\n8 EINVAL\n9 ok\n6 started\n4 done {SEALED_BLOCK}\n5 done {SEALED_BLOCK}\n6 done {SEALED_BLOCK}\n10 drained 3\n")?;
+    let script = format!(in alloc;
+        "alloc q cryptd(cbc(aes)) 2\nkey q {CBC_KEY}\nhold q\nenc q {IV} - {BLOCK}\nenc q {IV} - {BLOCK}\nenc q {IV} - {BLOCK} backlog\nenc q {IV} - {BLOCK}\ndrain q\ngo q\ndrain q\n"
+    )?;
+    let text = format!(in alloc;
+        "1 ok cryptd(cbc(aes-generic))\n2 ok\n3 ok\n4 EINPROGRESS\n5 EINPROGRESS\n6 EBUSY\n7 ENOSPC\n8 EINVAL\n9 ok\n6 started\n4 done {SEALED_BLOCK}\n5 done {SEALED_BLOCK}\n6 done {SEALED_BLOCK}\n10 drained 3\n"
+    )?;
     expect(&rt, alloc, script.as_str(), 0, text.as_str())?;
     Ok(())
 }
@@ -81,8 +97,12 @@ fn a_held_queue_takes_in_no_more_than_fits(rt: HostRuntime) -> Result<(), Fail> 
 #[test]
 fn a_request_keeps_the_key_that_it_came_with(rt: HostRuntime) -> Result<(), Fail> {
     let alloc = rt.alloc();
-    let script = format!(in alloc; "alloc m cryptd(hmac(sha256))\nkey m 0b0b0b0b0b0b0b0b0b0b0b0b0b0b0b0b0b0b0b0b\nhold m\nmac m 4869205468657265\nkey m 4a656665\nmac m {SECOND_TEXT}\ngo m\ndrain m\n")?;
-    let text = format!(in alloc; "1 ok cryptd(hmac(sha256-generic))\n2 ok\n3 ok\n4 EINPROGRESS\n5 ok\n6 EINPROGRESS\n7 ok\n4 done {FIRST_MAC}\n6 done {SECOND_MAC}\n8 drained 2\n")?;
+    let script = format!(in alloc;
+        "alloc m cryptd(hmac(sha256))\nkey m 0b0b0b0b0b0b0b0b0b0b0b0b0b0b0b0b0b0b0b0b\nhold m\nmac m 4869205468657265\nkey m 4a656665\nmac m {SECOND_TEXT}\ngo m\ndrain m\n"
+    )?;
+    let text = format!(in alloc;
+        "1 ok cryptd(hmac(sha256-generic))\n2 ok\n3 ok\n4 EINPROGRESS\n5 ok\n6 EINPROGRESS\n7 ok\n4 done {FIRST_MAC}\n6 done {SECOND_MAC}\n8 drained 2\n"
+    )?;
     expect(&rt, alloc, script.as_str(), 0, text.as_str())?;
     Ok(())
 }
@@ -90,8 +110,12 @@ fn a_request_keeps_the_key_that_it_came_with(rt: HostRuntime) -> Result<(), Fail
 #[test]
 fn what_owes_completions_is_not_freed(rt: HostRuntime) -> Result<(), Fail> {
     let alloc = rt.alloc();
-    let script = format!(in alloc; "alloc p pcrypt(gcm(aes))\nkey p {ZEROS}\nenc p {NONCE} - {ZEROS}\nfree p\ndrain p\nfree p\nenc p {NONCE} - {ZEROS}\n")?;
-    let text = format!(in alloc; "1 ok pcrypt({GCM_DRIVER})\n2 ok\n3 EINPROGRESS\n4 EBUSY\n3 done {SEALED}\n5 drained 1\n6 ok\n7 ENOENT\n")?;
+    let script = format!(in alloc;
+        "alloc p pcrypt(gcm(aes))\nkey p {ZEROS}\nenc p {NONCE} - {ZEROS}\nfree p\ndrain p\nfree p\nenc p {NONCE} - {ZEROS}\n"
+    )?;
+    let text = format!(in alloc;
+        "1 ok pcrypt({GCM_DRIVER})\n2 ok\n3 EINPROGRESS\n4 EBUSY\n3 done {SEALED}\n5 drained 1\n6 ok\n7 ENOENT\n"
+    )?;
     expect(&rt, alloc, script.as_str(), 0, text.as_str())?;
     Ok(())
 }
@@ -99,8 +123,12 @@ fn what_owes_completions_is_not_freed(rt: HostRuntime) -> Result<(), Fail> {
 #[test]
 fn the_end_of_input_drains(rt: HostRuntime) -> Result<(), Fail> {
     let alloc = rt.alloc();
-    let script = format!(in alloc; "alloc p pcrypt(gcm(aes))\nkey p {ZEROS}\nenc p {NONCE} - {ZEROS}\n")?;
-    let text = format!(in alloc; "1 ok pcrypt({GCM_DRIVER})\n2 ok\n3 EINPROGRESS\n3 done {SEALED}\nend p 1\n")?;
+    let script = format!(in alloc;
+        "alloc p pcrypt(gcm(aes))\nkey p {ZEROS}\nenc p {NONCE} - {ZEROS}\n"
+    )?;
+    let text = format!(in alloc;
+        "1 ok pcrypt({GCM_DRIVER})\n2 ok\n3 EINPROGRESS\n3 done {SEALED}\nend p 1\n"
+    )?;
     expect(&rt, alloc, script.as_str(), 0, text.as_str())?;
     Ok(())
 }
@@ -108,8 +136,12 @@ fn the_end_of_input_drains(rt: HostRuntime) -> Result<(), Fail> {
 #[test]
 fn the_end_of_input_lets_a_held_queue_go(rt: HostRuntime) -> Result<(), Fail> {
     let alloc = rt.alloc();
-    let script = format!(in alloc; "alloc q cryptd(cbc(aes)) 1\nkey q {CBC_KEY}\nhold q\nenc q {IV} - {BLOCK}\nenc q {IV} - {BLOCK} backlog\nalloc p pcrypt(gcm(aes))\n")?;
-    let text = format!(in alloc; "1 ok cryptd(cbc(aes-generic))\n2 ok\n3 ok\n4 EINPROGRESS\n5 EBUSY\n6 ok pcrypt({GCM_DRIVER})\n5 started\n4 done {SEALED_BLOCK}\n5 done {SEALED_BLOCK}\nend q 2\n")?;
+    let script = format!(in alloc;
+        "alloc q cryptd(cbc(aes)) 1\nkey q {CBC_KEY}\nhold q\nenc q {IV} - {BLOCK}\nenc q {IV} - {BLOCK} backlog\nalloc p pcrypt(gcm(aes))\n"
+    )?;
+    let text = format!(in alloc;
+        "1 ok cryptd(cbc(aes-generic))\n2 ok\n3 ok\n4 EINPROGRESS\n5 EBUSY\n6 ok pcrypt({GCM_DRIVER})\n5 started\n4 done {SEALED_BLOCK}\n5 done {SEALED_BLOCK}\nend q 2\n"
+    )?;
     expect(&rt, alloc, script.as_str(), 0, text.as_str())?;
     Ok(())
 }
@@ -117,8 +149,11 @@ fn the_end_of_input_lets_a_held_queue_go(rt: HostRuntime) -> Result<(), Fail> {
 #[test]
 fn only_queues_are_held(rt: HostRuntime) -> Result<(), Fail> {
     let alloc = rt.alloc();
-    let script = "alloc p pcrypt(gcm(aes))\nalloc c cbc(aes)\nhold p\ngo p\nhold c\ngo c\nhold x\ngo x\npoll x\ndrain x\npoll c\ndrain c\npoll p\ndrain p\n";
-    let text = format!(in alloc; "1 ok pcrypt({GCM_DRIVER})\n2 ok cbc(aes-generic)\n3 EINVAL\n4 EINVAL\n5 EINVAL\n6 EINVAL\n7 ENOENT\n8 ENOENT\n9 ENOENT\n10 ENOENT\n11 polled 0\n12 drained 0\n13 polled 0\n14 drained 0\n")?;
+    let script =
+        "alloc p pcrypt(gcm(aes))\nalloc c cbc(aes)\nhold p\ngo p\nhold c\ngo c\nhold x\ngo x\npoll x\ndrain x\npoll c\ndrain c\npoll p\ndrain p\n";
+    let text = format!(in alloc;
+        "1 ok pcrypt({GCM_DRIVER})\n2 ok cbc(aes-generic)\n3 EINVAL\n4 EINVAL\n5 EINVAL\n6 EINVAL\n7 ENOENT\n8 ENOENT\n9 ENOENT\n10 ENOENT\n11 polled 0\n12 drained 0\n13 polled 0\n14 drained 0\n"
+    )?;
     expect(&rt, alloc, script, 0, text.as_str())?;
     Ok(())
 }
@@ -126,7 +161,9 @@ fn only_queues_are_held(rt: HostRuntime) -> Result<(), Fail> {
 #[test]
 fn polls_and_the_drain_hand_out_each_completion_once(rt: HostRuntime) -> Result<(), Fail> {
     let alloc = rt.alloc();
-    let script = format!(in alloc; "alloc p pcrypt(gcm(aes))\nkey p {ZEROS}\nenc p {NONCE} - {ZEROS}\npoll p\nenc p {NONCE} - {ZEROS}\npoll p\nenc p {NONCE} - {ZEROS}\npoll p\ndrain p\n")?;
+    let script = format!(in alloc;
+        "alloc p pcrypt(gcm(aes))\nkey p {ZEROS}\nenc p {NONCE} - {ZEROS}\npoll p\nenc p {NONCE} - {ZEROS}\npoll p\nenc p {NONCE} - {ZEROS}\npoll p\ndrain p\n"
+    )?;
     let written = written_by(&rt, alloc, script.as_str())?;
     let mut callbacks = String::new(alloc);
     let mut count = 0u64;
@@ -173,7 +210,9 @@ fn gateway(alloc: Global, name: &str) -> Result<String, AllocError> {
     }
     for label in labels {
         // 16 bytes of the key, and 4 of the salt
-        script.push_str(format!(in alloc; "key {label} {CBC_KEY}0{label}0{label}0{label}0{label}\n")?.as_str())?;
+        script.push_str(format!(in alloc;
+            "key {label} {CBC_KEY}0{label}0{label}0{label}0{label}\n"
+        )?.as_str())?;
     }
     for number in 0..200u32 {
         push_packet(alloc, &mut script, labels[number as usize % 3], number)?;
@@ -202,7 +241,9 @@ fn a_gateway_seals_its_packets_in_order(rt: HostRuntime) -> Result<(), Fail> {
     let alloc = rt.alloc();
     let plain = gateway(alloc, "rfc4106(gcm(aes))")?;
     let answers = written_by(&rt, alloc, plain.as_str())?;
-    let mut text = format!(in alloc; "1 ok pcrypt(rfc4106({GCM_DRIVER}))\n2 ok pcrypt(rfc4106({GCM_DRIVER}))\n3 ok pcrypt(rfc4106({GCM_DRIVER}))\n4 ok\n5 ok\n6 ok\n")?;
+    let mut text = format!(in alloc;
+        "1 ok pcrypt(rfc4106({GCM_DRIVER}))\n2 ok pcrypt(rfc4106({GCM_DRIVER}))\n3 ok pcrypt(rfc4106({GCM_DRIVER}))\n4 ok\n5 ok\n6 ok\n"
+    )?;
     for number in 7..207u32 {
         text.push_str(format!(in alloc; "{number} EINPROGRESS\n")?.as_str())?;
     }

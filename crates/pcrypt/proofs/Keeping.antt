@@ -1,22 +1,18 @@
 -- What a caller's work keeps, from what each entry keeps.
-use Rattle.std.proofs.Common.{◌≡◌, ◌≢◌, inl, inr, ℕ, Bool, true, false, ◌&&◌, List, [], ◌∷◌, ◌++◌, Some, None, refl, ap, sym, ◌∙◌, subst, append-nil, append_assoc}
+use Rattle.std.proofs.Common.{◌≡◌, ◌≢◌, inl, inr, ℕ, Bool, true, false, ◌&&◌, List, [], ◌∷◌, ◌++◌, None, refl, ap, sym, ◌∙◌, subst, append-nil, append_assoc}
 use Rattle.std.specs.Prelude.{◌==◌}
-use Rattle.std.specs.List.{list_all, filter_map}
-use Rattle.std.proofs.lemmas.Bool.{eqb-true, eq-eqb}
+use Rattle.std.specs.List.{list_all}
+use Rattle.std.proofs.lemmas.Bool.{eqb-true}
 use Rattle.std.proofs.lemmas.List.Folds.{list_all-append}
 use Rattle.board.specs.declared.entry.BoardEntry.{BoardEntry}
 use Rattle.board.specs.declared.entry.BoardEntry.TheVariants.{Born, Submit, Take, Finish, Enq, Deq, Done, Hold, Go, Collect, Close, Share, Shut}
-use Rattle.board.specs.declared.entry.Shape.TheVariants.{Queue}
-use Rattle.board.specs.Entries.{is_of, entries_of, submissions, collected, caller_of, is_close, held_in, is_held, last_or}
+use Rattle.board.specs.Entries.{entries_of, submissions, collected, caller_of, is_close, held_in, is_held}
 use Rattle.board.specs.Legal.{IsOpenPad, IsOpenQueue, MaySubmit, MayManage, MayFinish, AreRightAfter, is_shut_entry, is_shut, LegalBoard}
 use Rattle.board.specs.Order.{handed_out}
 use Rattle.board.specs.Handing.{is_collect, HandsNothing}
-use Rattle.board.specs.Staying.{is_work, StaysOpen, QueueStaysOpen, StaysManaged, StaysSubmitting, WorkLeaves, SlipStays}
-use Rattle.board.proofs.Transfer.{entries-more, entries-same}
-use Rattle.board.proofs.PadOrder.{filter_map-none, filter_map-some, last_or-append}
+use Rattle.board.specs.Staying.{is_work, StaysOpen, QueueStaysOpen, StaysManaged, StaysSubmitting, WorkLeaves, StaysHeld, SlipStays}
 use Rattle.board.proofs.Kept.{shut-same}
-use Rattle.board.proofs.Staying.{last_right}
-use Rattle.pcrypt.specs.Working.{is_work_by, WorksFrom, IsServed, WorkKeeps, WorkShutsNothing, WorkSpares, BornServed, Holds, StaysHeld}
+use Rattle.pcrypt.specs.Working.{is_work_by, WorksFrom, IsServed, WorkKeeps, WorkShutsNothing, WorkSpares}
 
 left_true : (a b : Bool) → (a && b) ≡ true → a ≡ true
 left_true true b e = refl
@@ -90,13 +86,6 @@ holds_nothing (Close caller pipe) w = refl
 holds_nothing (Share caller pipe) w = refl
 holds_nothing (Shut caller) w = refl
 
-held_cases : {A : Type 0} (h : List (BoardEntry A)) (e : BoardEntry A) (p : ℕ) (b : Bool) → is_of p e ≡ b → held_in e ≡ None → is_held (entries_of p (h ++ e ∷ [])) ≡ is_held (entries_of p h)
-held_cases h e p true s n = ap is_held (entries-more h p e s) ∙ ap (last_or false) (filter_map-none held_in (entries_of p h) e n)
-held_cases h e p false s n = ap is_held (entries-same h p e s)
-
-held_same : {A : Type 0} (h : List (BoardEntry A)) (e : BoardEntry A) (p : ℕ) → is_work e ≡ true → is_held (entries_of p (h ++ e ∷ [])) ≡ is_held (entries_of p h)
-held_same h e p w = held_cases h e p (is_of p e) refl (holds_nothing e w)
-
 -- ---- a pipeline
 
 abbrev Keeps : {A : Type 0} → List (BoardEntry A) → List (BoardEntry A) → ℕ → Type 0
@@ -113,14 +102,14 @@ Keeps before after p =
 both : {A : Type 0} (before mid after : List (BoardEntry A)) (p : ℕ) → Keeps before mid p → Keeps mid after p → Keeps before after p
 both before mid after p k l = (l.0 ∙ k.0, l.1 ∙ k.1, λ o. l.2 (k.2 o), λ c s. l.3 c (k.3 c s), λ c m. l.4 c (k.4 c m), l.5 ∙ k.5, λ o. l.6 (k.6 o), l.7 ∙ k.7)
 
-module _ {A : Type 0} (opened : (h : List (BoardEntry A)) (e : BoardEntry A) (p : ℕ) → StaysOpen h e p) (queue_opened : (h : List (BoardEntry A)) (e : BoardEntry A) (p : ℕ) → QueueStaysOpen h e p) (managed : (h : List (BoardEntry A)) (e : BoardEntry A) (p caller : ℕ) → StaysManaged h e p caller) (submitting : (h : List (BoardEntry A)) (e : BoardEntry A) (p caller : ℕ) → StaysSubmitting h e p caller) (work : (h : List (BoardEntry A)) (e : BoardEntry A) (p : ℕ) → WorkLeaves h e p) (hands : (h : List (BoardEntry A)) (e : BoardEntry A) (p : ℕ) → HandsNothing h e p) where
+module _ {A : Type 0} (opened : (h : List (BoardEntry A)) (e : BoardEntry A) (p : ℕ) → StaysOpen h e p) (queue_opened : (h : List (BoardEntry A)) (e : BoardEntry A) (p : ℕ) → QueueStaysOpen h e p) (managed : (h : List (BoardEntry A)) (e : BoardEntry A) (p caller : ℕ) → StaysManaged h e p caller) (submitting : (h : List (BoardEntry A)) (e : BoardEntry A) (p caller : ℕ) → StaysSubmitting h e p caller) (work : (h : List (BoardEntry A)) (e : BoardEntry A) (p : ℕ) → WorkLeaves h e p) (held : (h : List (BoardEntry A)) (e : BoardEntry A) (q : ℕ) → StaysHeld h e q) (hands : (h : List (BoardEntry A)) (e : BoardEntry A) (p : ℕ) → HandsNothing h e p) where
   keeps : (caller : ℕ) (before es : List (BoardEntry A)) (p : ℕ) → list_all (is_work_by caller) es ≡ true → Keeps before (before ++ es) p
   keeps caller before [] p w = rw (append-nil before) (refl, refl, λ o. o, λ c s. s, λ c m. m, refl, λ o. o, refl)
   keeps caller before (e ∷ es) p w =
       let one = left_true (is_work_by caller e) _ w in
       let is : is_work e ≡ true = left_true (is_work e) (caller_of e == caller) one in
       let left = work before e p is in
-      let first : Keeps before (before ++ e ∷ []) p = (left.0, left.1, λ o. opened before e p o (no_close e is), λ c s. submitting before e p c s, λ c m. managed before e p c m, held_same before e p is, λ o. queue_opened before e p o (no_close e is), hands before e p (no_collect e is)) in
+      let first : Keeps before (before ++ e ∷ []) p = (left.0, left.1, λ o. opened before e p o (no_close e is), λ c s. submitting before e p c s, λ c m. managed before e p c m, held before e p (holds_nothing e is), λ o. queue_opened before e p o (no_close e is), hands before e p (no_collect e is)) in
       let rest = keeps caller (before ++ e ∷ []) es p (right_true (is_work_by caller e) _ w) in
       subst (λ after. Keeps before after p) (append_assoc before (e ∷ []) es) (both before (before ++ e ∷ []) ((before ++ e ∷ []) ++ es) p first rest)
 
@@ -176,21 +165,3 @@ works_none caller h = ([], sym (append-nil h), refl)
 pub served_on : {A : Type 0} (caller : ℕ) (before after : List (BoardEntry A)) (p : ℕ) → WorkKeeps caller before after p → WorksFrom caller before after → IsServed (entries_of p before) → IsServed (entries_of p after)
 served_on caller before after p keeps works (inl pad) = (let k = keeps works in inl (k.2 pad))
 served_on caller before after p keeps works (inr queue) = (let k = keeps works in inr (k.6 queue.0, k.5 ∙ queue.1))
-
--- ---- holding
-
-pub stays_held : {A : Type 0} (h : List (BoardEntry A)) (e : BoardEntry A) (q : ℕ) → StaysHeld h e q
-stays_held h e q n = held_cases h e q (is_of q e) refl n
-
-held_by : {A : Type 0} (h : List (BoardEntry A)) (e : BoardEntry A) (q : ℕ) (b : Bool) → is_of q e ≡ true → held_in e ≡ Some b → is_held (entries_of q (h ++ e ∷ [])) ≡ b
-held_by h e q b s y =
-    ap is_held (entries-more h q e s) ∙ (ap (last_or false) (filter_map-some held_in (entries_of q h) e b y) ∙ last_or-append false (filter_map held_in (entries_of q h)) b)
-
-pub holds : {A : Type 0} (h : List (BoardEntry A)) (caller q : ℕ) → Holds h caller q
-holds h caller q = (held_by h (Hold caller q) q true (eq-eqb q q refl) refl, held_by h (Go caller q) q false (eq-eqb q q refl) refl)
-
-pub born_served : {A : Type 0} (h : List (BoardEntry A)) (caller q max : ℕ) → BornServed h caller q max
-born_served {A} h caller q max legal =
-    let e : BoardEntry A = Born caller q (Queue max) in
-    let r = last_right [] h e legal in
-    stays_held h e q refl ∙ ap is_held r.1.1

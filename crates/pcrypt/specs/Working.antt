@@ -2,9 +2,8 @@
 use Rattle.std.specs.Prelude.{◌≡◌, ◌≢◌, ◌⊎◌, ℕ, ◌-◌, Bool, true, false, ◌&&◌, ◌==◌, List, [], ◌∷◌, ◌++◌, length, None}
 use Rattle.std.specs.List.{list_all}
 use Rattle.board.specs.declared.entry.BoardEntry.{BoardEntry}
-use Rattle.board.specs.Entries.{entries_of, submissions, taken_in, takers, finished, has, front, told, collected, delivered, caller_of, held_in, is_held, NoneWaits}
-use Rattle.board.specs.declared.entry.BoardEntry.TheVariants.{Born, Hold, Go, Collect}
-use Rattle.board.specs.declared.entry.Shape.TheVariants.{Queue}
+use Rattle.board.specs.Entries.{entries_of, submissions, taken_in, takers, finished, has, front, told, collected, delivered, caller_of, is_held, NoneWaits}
+use Rattle.board.specs.declared.entry.BoardEntry.TheVariants.{Collect}
 use Rattle.kc_base.specs.declared.callback_list.Callback.{Callback}
 use Rattle.board.specs.Legal.{IsOpenPad, IsOpenQueue, MaySubmit, MayManage, MayFinish, is_shut, LegalBoard}
 use Rattle.board.specs.Order.{handed_out}
@@ -72,15 +71,3 @@ abbrev pub WorkSpares : {A O : Type 0} → (A → O) → ℕ → List (BoardEntr
 WorkSpares meaning caller before after p other n out =
     WorksFrom caller before after → LegalBoard after → caller ≢ other
     → MayFinish meaning (entries_of p before) other n out → MayFinish meaning (entries_of p after) other n out
-
--- a queue that was just made is not held
-abbrev pub BornServed : {A : Type 0} → List (BoardEntry A) → ℕ → ℕ → ℕ → Type 0
-BornServed h caller q max = LegalBoard (h ++ Born caller q (Queue max) ∷ []) → is_held (entries_of q (h ++ Born caller q (Queue max) ∷ [])) ≡ false
-
--- it is held after a Hold, not after a Go, and otherwise as before
-abbrev pub Holds : {A : Type 0} → List (BoardEntry A) → ℕ → ℕ → Type 0
-Holds h caller q =
-    (is_held (entries_of q (h ++ Hold caller q ∷ [])) ≡ true) × (is_held (entries_of q (h ++ Go caller q ∷ [])) ≡ false)
-
-abbrev pub StaysHeld : {A : Type 0} → List (BoardEntry A) → BoardEntry A → ℕ → Type 0
-StaysHeld h e q = held_in e ≡ None → is_held (entries_of q (h ++ e ∷ [])) ≡ is_held (entries_of q h)

@@ -2,9 +2,9 @@
 
 ghost use Rattle.std.specs.Prelude.{◌≡◌, ℕ, List, []};
 ghost use Rattle.board.specs.declared.entry.BoardEntry.{BoardEntry};
-ghost use Rattle.pcrypt.specs.Working.{NoneRuns, StaysIdle, AllIsDone, WorkKeeps, WorkShutsNothing, WorkSpares, BornServed, Holds, StaysHeld};
+ghost use Rattle.pcrypt.specs.Working.{NoneRuns, StaysIdle, AllIsDone, WorkKeeps, WorkShutsNothing, WorkSpares};
 
-use board::{only_collects_hand_out, pipelines_stay, slips_stay};
+use board::{only_collects_hand_out, pipelines_stay, queues_hold, slips_stay};
 
 /// While nobody is at a job that is so until one is taken; and where besides no job is to be had, all accepted requests are
 /// finished, but for those of a held queue.
@@ -19,6 +19,7 @@ pub fn work_keeps<A>()
     ensures { (caller : ℕ) (before after : List (BoardEntry A)) (p : ℕ) → WorkKeeps caller before after p }
 {
     pipelines_stay::<A>();
+    queues_hold::<A>();
     only_collects_hand_out::<A>();
 }
 
@@ -33,10 +34,3 @@ pub fn work_spares<A, O>()
 {
     slips_stay::<A, O>();
 }
-
-/// A queue is held from its `hold` to its `go`.
-pub fn queues_hold<A>()
-    ensures born { (h : List (BoardEntry A)) (caller q max : ℕ) → BornServed h caller q max }
-    ensures held { (h : List (BoardEntry A)) (caller q : ℕ) → Holds h caller q }
-    ensures stays { (h : List (BoardEntry A)) (e : BoardEntry A) (q : ℕ) → StaysHeld h e q }
-{}

@@ -6,5 +6,5 @@ mod laws;
 mod tests;
 mod working;
 
-pub use laws::{none_runs, queues_hold, work_keeps, work_shuts_nothing, work_spares};
+pub use laws::{none_runs, work_keeps, work_shuts_nothing, work_spares};
 pub use working::{drain_alone, work_all, work_alone};

@@ -5,8 +5,8 @@ ghost use Rattle.board.specs.Entries.{entries_of, is_held};
 ghost use Rattle.board.specs.Staying.{IsOpenFor, IsOpenQueueFor};
 ghost use Rattle.pcrypt.specs.Working.{NoneRuns};
 
-use crate::{drain_alone, none_runs, queues_hold, work_all, work_alone, work_keeps};
-use board::{BoardCore, BoardErr, Entered, Work, pipelines_stay};
+use crate::{drain_alone, none_runs, work_all, work_alone, work_keeps};
+use board::{BoardCore, BoardErr, Entered, Work, pipelines_stay, queues_hold};
 use kc_base::{Bytes, Callback, Callbacks};
 use std::alloc::Global;
 use std::process::Abort;

@@ -1,5 +1,5 @@
 -- The end of input: queues that are let go, and what the last drains hand out.
-use Rattle.std.proofs.Common.{◌≡◌, ◌≢◌, inl, inr, ℕ, zero, suc, ◌+◌, ◌≤◌, ◌<◌, Bool, true, false, cond, List, [], ◌∷◌, ◌++◌, length, Option, Some, None, refl, sym, ap, subst, ◌∙◌, append_assoc, append-nil, arith, All, map, is_some, take, drop, take-suc, drop-cons, slice_index_or}
+use Rattle.std.proofs.Common.{◌≡◌, inl, inr, ℕ, suc, ◌+◌, ◌≤◌, ◌<◌, Bool, true, false, cond, List, [], ◌∷◌, ◌++◌, length, Option, Some, None, refl, sym, ap, subst, ◌∙◌, append_assoc, append-nil, arith, All, map, take, drop, take-suc, drop-cons, slice_index_or}
 use Rattle.std.specs.Prelude.{◌==◌, if◌then◌else◌}
 use Rattle.std.specs.List.{filter_map, flat_map, cons_option}
 use Rattle.std.proofs.lemmas.Bool.{eqb-true, eq-eqb}
@@ -10,18 +10,18 @@ use Rattle.board.specs.declared.entry.BoardEntry.{BoardEntry}
 use Rattle.board.specs.declared.entry.BoardEntry.TheVariants as event
 use Rattle.board.specs.declared.entry.Shape.{Shape}
 use Rattle.board.specs.declared.entry.Shape.TheVariants.{Pad, Queue}
-use Rattle.board.specs.Entries.{is_of, entries_of, submissions, front, told, delivered, birth, pad_born, queue_born, held_in, is_held, last_or, is_close}
-use Rattle.board.specs.Legal.{IsRightFor, IsOpenQueue, MayManage, LegalBoard, is_shut}
+use Rattle.board.specs.Entries.{entries_of, submissions, front, told, delivered, birth, pad_born, queue_born, held_in, is_held, last_or}
+use Rattle.board.specs.Legal.{IsRightFor, IsOpenQueue, LegalBoard, is_shut}
 use Rattle.board.specs.Order.{AreRightForAfter}
 use Rattle.board.proofs.PadOrder.{birth_stays}
 use Rattle.board.proofs.QueueOrder.{queue_is_born}
 use Rattle.board.proofs.Transfer.{each_right}
 use Rattle.board.proofs.Handing.{hands_nothing, leaves_others}
 use Rattle.board.proofs.Kept.{shut-same}
-use Rattle.board.proofs.Staying.{stays_open, queue_stays_open, stays_managed, stays_submitting, work_leaves}
+use Rattle.board.proofs.Staying.{stays_open, queue_stays_open, stays_managed, stays_submitting, work_leaves, stays_held, holds}
 use Rattle.pcrypt.specs.Working.{NoneRuns, IsServed, WorksFrom, WorkKeeps, Drains}
 use Rattle.pcrypt.proofs.Done.{stays_idle}
-use Rattle.pcrypt.proofs.Keeping.{holds, stays_held, work_keeps, served_on, work_shuts_nothing}
+use Rattle.pcrypt.proofs.Keeping.{work_keeps, served_on, work_shuts_nothing}
 use Rattle.kc_base.specs.declared.callback_list.Callback.{Callback}
 use Rattle.reply_text.specs.declared.answers.Answer.{Answer}
 use Rattle.transforms.specs.declared.ask.Ask.{Ask}
@@ -30,7 +30,7 @@ use Rattle.session.specs.BoardHistories.{BoardCall, Collects, Goes, Shuts, board
 use Rattle.session.specs.declared.pipe.Pipe.{Pipe}
 use Rattle.session.specs.declared.pipe.PipeKind.{PipeKind}
 use Rattle.session.specs.declared.pipe.PipeKind.TheVariants as kind
-use Rattle.session.specs.Ending.{held_among, go_entry, MayDrain, AreServed, LetsGo, IsServedOn, DrainsLast, DrainsAll, EndsShut}
+use Rattle.session.specs.Ending.{held_among, go_entry, MayDrain, AreServed, LetsGo, IsServedOn, DrainsLast, DrainsAll}
 use Rattle.session.specs.Piping as piping
 use Rattle.session.specs.Standing.{Extends, IsOpenAs, IsPipeIn, IsPipeOn, Posted, is_at, owners}
 use Rattle.session.specs.Walk.{Walk, Live}
@@ -243,7 +243,7 @@ gone-at lives i live b b' b'' within here s grown legal =
 -- ---- the last drain of a pipeline
 
 work-keeps : (b h : List (BoardEntry Ask)) (p : ℕ) → WorkKeeps 0 b h p
-work-keeps b h p = work_keeps stays_open queue_stays_open stays_managed stays_submitting work_leaves hands_nothing 0 b h p
+work-keeps b h p = work_keeps stays_open queue_stays_open stays_managed stays_submitting work_leaves stays_held hands_nothing 0 b h p
 
 work-drains : (b h : List (BoardEntry Ask)) (pipe : Option Pipe) → WorksFrom 0 b h → MayDrain b pipe → MayDrain h pipe
 work-drains b h None work may = tt
@@ -275,7 +275,7 @@ drained-last live pipe b b' answers answers' callbacks at drains idle legal told
     let e : BoardEntry Ask = event.Collect 0 pipe.number to in
     let ending : piping.Ending = record { label = live.label; pipe = pipe; callbacks = callbacks } in
     let call : Collects pipe.number (delivered outcome es to) (is_all_done es) ≡ Collects pipe.number callbacks true =
-        ap (λ cs. Collects pipe.number cs (is_all_done es)) (sym drains.4) ∙ ap (Collects pipe.number callbacks) (eq-eqb (front es) (length (submissions es)) drains.2) in
+    ap (λ cs. Collects pipe.number cs (is_all_done es)) (sym drains.4) ∙ ap (Collects pipe.number callbacks) (eq-eqb (front es) (length (submissions es)) drains.2) in
     record {
       endings = ending ∷ [];
       places = sym (ap (λ (p : Option Pipe). cons_option (piped_of live.label p) []) at);
@@ -290,20 +290,6 @@ drained-last live pipe b b' answers answers' callbacks at drains idle legal told
       unshut = ap is_shut drains.3 ∙ (shut-same h e refl ∙ work_shuts_nothing 0 b h work);
       others = λ other may. subst (λ (k : List (BoardEntry Ask)). MayDrain k other) (sym drains.3) (collect-drains h pipe.number to other (work-drains b h other work may));
     }
-
--- a transform without a pipeline hands nothing out
-pub drained-none : (live : Live) (b : List (BoardEntry Ask)) (answers : List Answer) → live.pipe ≡ None → LegalBoard b → NoneRuns b → DrainsLast live b b answers answers
-drained-none live b answers at legal idle = record {
-  endings = [];
-  places = sym (ap (λ (p : Option Pipe). cons_option (piped_of live.label p) []) at);
-  goes_on = ([], sym (append-nil b));
-  called = sym (append-nil (board_calls 0 b));
-  said = sym (append-nil answers);
-  legal = legal;
-  idle = idle;
-  unshut = refl;
-  others = λ other may. may;
-}
 
 -- ---- all of them
 
@@ -417,8 +403,10 @@ module _ (walk : Walk) (b gone drained shut : List (BoardEntry Ask)) (answers : 
       → (turn : Turn) × piping.EndTurn walk turn × Does turn r r walk × Posts turn b shut × (reply' ≡ reply ++ text_in turn)
   unfolding gos collects
   ended r reply reply' put =
-      let turn : Turn = record { registry = []; board = gos ++ collects ++ Shuts ∷ []; answers = flat_map piping.ending_said drains.endings; after = walk } in
-      (turn, (drains.endings, drains.places, refl),
-      record { goes_on = ([], sym (append-nil r)); registry = sym (append-nil (reg_calls 0 r)); settled = tt; after_is = refl },
-      record { goes_on = end-extends; board = end-called },
-      put ∙ ap (λ a. reply ++ flat_map text_of a) drains.said)
+      let turn : Turn = record { registry = []; board = gos ++ collects ++ Shuts ∷ []; answers = flat_map piping.ending_said drains.endings; after = walk } in (
+        turn,
+        (drains.endings, drains.places, refl),
+        record { goes_on = ([], sym (append-nil r)); registry = sym (append-nil (reg_calls 0 r)); settled = tt; after_is = refl },
+        record { goes_on = end-extends; board = end-called },
+        put ∙ ap (λ a. reply ++ flat_map text_of a) drains.said,
+      )

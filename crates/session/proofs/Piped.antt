@@ -142,8 +142,10 @@ request-done {q} {v} walk after n label place items lives old new request backlo
     (done-with turn_of walk after label place s new b b' (asks_if accepted ask) (answer ∷ []) posted here leaves)
 
 -- the script's allowance has room for what the board allowed
-pub allowed-in : (walk : Walk) (b : List (BoardEntry Ask)) (ask : Ask) (size : ℕ) → Posted walk b → size ≡ ask_size ask → IsAllowed ask_size b 0 ask → (walk.requests < 2 ^ 20) × (walk.bytes + size ≤ 2 ^ 26)
-allowed-in walk b ask size posted is allowed =
-    let q = posted.requests in
-    let v = posted.bytes in
-    (omega (arith, q, allowed.0), omega (arith, v, is, allowed.1))
+pub allowed-in : {q v : ℕ} {items : List Live} (walk : Walk) (b : List (BoardEntry Ask)) (ask : Ask) (size : ℕ) → viewed q v items ≡ walk → Posted walk b → size ≡ ask_size ask → IsAllowed ask_size b 0 ask → (q < 2 ^ 20) × (v + size ≤ 2 ^ 26)
+allowed-in walk b ask size view posted is allowed =
+    let n = posted.requests in
+    let m = posted.bytes in
+    let requests = ap (λ (w : Walk). w.requests) view in
+    let bytes = ap (λ (w : Walk). w.bytes) view in
+    (omega (arith, n, requests, allowed.0), omega (arith, m, bytes, is, allowed.1))

@@ -22,10 +22,10 @@ use Rattle.board.specs.Handing.{is_collect, completions}
 use Rattle.board.proofs.Transfer.{entries-more}
 use Rattle.board.proofs.PadOrder.{filter_map-none, filter_map-some}
 use Rattle.board.proofs.Kept.{only_of, not_shut, shut-same}
-use Rattle.board.proofs.Staying.{before_last, stays_open, queue_stays_open, stays_managed, stays_submitting, work_leaves}
+use Rattle.board.proofs.Staying.{before_last, stays_open, queue_stays_open, stays_managed, stays_submitting, work_leaves, stays_held, holds}
 use Rattle.board.proofs.Handing.{hands_nothing, collect_hands_out, most_handed_out, all_handed_out, leaves_others}
 use Rattle.pcrypt.specs.Working.{NoneRuns, IsServed, WorksFrom, WorkKeeps}
-use Rattle.pcrypt.proofs.Keeping.{work_keeps, work_shuts_nothing, works_none, stays_held, holds}
+use Rattle.pcrypt.proofs.Keeping.{work_keeps, work_shuts_nothing, works_none}
 use Rattle.pcrypt.proofs.Done.{stays_idle}
 use Rattle.transforms.specs.declared.ask.Ask.{Ask}
 use Rattle.transforms.specs.AskValue.{ask_size}
@@ -40,9 +40,10 @@ use Rattle.reply_text.specs.declared.answers.Answer.TheVariants as said
 use Rattle.session.specs.declared.pipe.Pipe.{Pipe}
 use Rattle.session.specs.declared.pipe.PipeKind.{PipeKind}
 use Rattle.session.specs.declared.pipe.PipeKind.TheVariants as kind
+use Rattle.session.specs.declared.piping.Taken.{Taken}
 use Rattle.session.specs.BoardHistories.{BoardCall, Submits, Enters, Collects, asked_by, board_call_of, board_calls, is_all_done, outcome}
 use Rattle.session.specs.Changing.{AreApart, Changes, IsTurnOf, DoneWith, MayDeliver, Rests, counting, delivering, held_as, with_line}
-use Rattle.session.specs.Offering.{OffersTo, Offers, switch_entry}
+use Rattle.session.specs.Offering.{asks_if, OffersTo, Offers, switch_entry}
 use Rattle.session.specs.Piping.{callback_said, hold_call, hold_live_turn, switch_turn, collect_turn, poll_live_turn, drain_live_turn, with_pipe}
 use Rattle.session.specs.Requesting.{accepting, entered_turn, is_too_big, piped_turn, taken_turn, value_said, value_of}
 use Rattle.session.specs.Standing.{Extends, IsOpenAs, IsPipeIn, IsPipeOn, Posted, is_at}
@@ -124,7 +125,7 @@ pipe-collected b pipe to legal on =
     }
 
 kept_by_work : (b h : List (BoardEntry Ask)) (p : ℕ) → WorkKeeps 0 b h p
-kept_by_work b h p = work_keeps stays_open queue_stays_open stays_managed stays_submitting work_leaves hands_nothing 0 b h p
+kept_by_work b h p = work_keeps stays_open queue_stays_open stays_managed stays_submitting work_leaves stays_held hands_nothing 0 b h p
 
 opened-worked : (k : PipeKind) (b h : List (BoardEntry Ask)) (p : ℕ) → WorksFrom 0 b h → IsOpenAs k (entries_of p b) → IsOpenAs k (entries_of p h)
 opened-worked kind.Pad b h p w o = (kept_by_work b h p w).2 o
@@ -610,3 +611,11 @@ pub take-full : (b b' : List (BoardEntry Ask)) (live : Live) (pipe : Pipe) (line
     → Offers pipe asked backlog entered.NoSpace b b' → TakesDone b b' line live live asked backlog [] answer
 take-full b b' live pipe line asked backlog answer rests has allowed legal says offers =
     full-offered b b' live pipe line asked backlog answer offers.0 pipe.kind refl offers.1 rests has allowed legal says offers.2
+
+-- the same as the code has it
+
+pub taken-as : (b b' b'' : List (BoardEntry Ask)) (line : ℕ) (live live' : Live) (asked : Ask) (backlog : Bool) (taken : Taken) (answer : Answer) (accepted : Bool) → taken.answer ≡ answer → taken.accepted ≡ accepted → b'' ≡ b'
+    → TakesDone b b' line live live' asked backlog (asks_if accepted asked) answer → TakesDone b b'' line live live' asked backlog (asks_if taken.accepted asked) taken.answer
+taken-as b b' b'' line live live' asked backlog taken answer accepted says is same done =
+    subst (λ x. TakesDone b x line live live' asked backlog (asks_if taken.accepted asked) taken.answer) (sym same)
+    (subst (λ a. TakesDone b b' line live live' asked backlog (asks_if a asked) taken.answer) (sym is) (subst (λ a. TakesDone b b' line live live' asked backlog (asks_if accepted asked) a) (sym says) done))

@@ -1,16 +1,16 @@
 -- The end of input, step by step.
-use Rattle.std.specs.Prelude.{ℕ, ◌+◌, ◌≡◌, ◌≤◌, Bool, true, false, List, [], ◌∷◌, ◌++◌, map, Option, Some, None, ⊤, All}
+use Rattle.std.specs.Prelude.{ℕ, ◌≡◌, false, List, [], ◌∷◌, ◌++◌, map, Option, Some, None, ⊤, All}
 use Rattle.std.specs.List.{filter_map, flat_map}
 use Rattle.board.specs.declared.entry.BoardEntry.{BoardEntry}
 use Rattle.board.specs.declared.entry.BoardEntry.TheVariants.{Go, Shut}
-use Rattle.board.specs.Entries.{entries_of, is_held}
-use Rattle.board.specs.Legal.{IsOpenPad, IsOpenQueue, MayManage, LegalBoard, is_shut}
+use Rattle.board.specs.Entries.{entries_of}
+use Rattle.board.specs.Legal.{MayManage, LegalBoard, is_shut}
 use Rattle.pcrypt.specs.Working.{NoneRuns, IsServed}
 use Rattle.transforms.specs.declared.ask.Ask.{Ask}
 use Rattle.reply_text.specs.declared.answers.Answer.{Answer}
 use Rattle.session.specs.declared.pipe.Pipe.{Pipe}
 use Rattle.session.specs.BoardHistories.{board_calls}
-use Rattle.session.specs.Piping.{Ending, held_in, piped, place_of, goes_for, collects_at, ending_said}
+use Rattle.session.specs.Piping.{Ending, held_in, piped, place_of, collects_at, ending_said}
 use Rattle.session.specs.Standing.{Extends, IsPipeOn}
 use Rattle.session.specs.Walk.{Walk, Live}
 
@@ -26,7 +26,7 @@ abbrev pub MayDrain : List (BoardEntry Ask) → Option Pipe → Type 0
 MayDrain b None = ⊤
 MayDrain b (Some pipe) = MayManage (entries_of pipe.number b) 0 × IsServed (entries_of pipe.number b)
 
--- the transform's pipeline is held just where the script knows it so
+-- the board is legal, and has the transform's pipeline as the script knows it: held just where it is
 abbrev pub IsHeldRight : List (BoardEntry Ask) → Live → Type 0
 IsHeldRight b live = LegalBoard b × IsPipeOn b live.pipe
 
@@ -41,6 +41,7 @@ pub record AreServed (walk : Walk) (b : List (BoardEntry Ask)) : Type 0 where
 abbrev pub LetsGo : Walk → List (BoardEntry Ask) → List (BoardEntry Ask) → Type 0
 LetsGo walk b b' = (b' ≡ b ++ map go_entry (held_among walk.lives)) × AreServed walk b'
 
+-- the transform's pipeline may be drained, and nobody is at a job
 abbrev pub IsServedOn : List (BoardEntry Ask) → Live → Type 0
 IsServedOn b live = LegalBoard b × NoneRuns b × MayDrain b live.pipe
 

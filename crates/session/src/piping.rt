@@ -173,12 +173,14 @@ pub fn hold_live(
     let Some(pipe) = live.pipe() else {
         return Ok(refuse(line, Errno::EINVAL));
     };
-    if pipe.kind == PipeKind::Pad {
-        return Ok(refuse(line, Errno::EINVAL));
+    match pipe.kind {
+        PipeKind::Pad => Ok(refuse(line, Errno::EINVAL)),
+        PipeKind::Queue => {
+            switch(board, pipe.number, held)?;
+            live.set_held(held);
+            Ok(Answer::Ok { line })
+        }
     }
-    switch(board, pipe.number, held)?;
-    live.set_held(held);
-    Ok(Answer::Ok { line })
 }
 
 /// `poll T` of a transform.

@@ -1,12 +1,9 @@
-use Rattle.std.proofs.Common.{◌∙◌, ◌++◌, [], sym, ap, take}
-use Rattle.std.specs.List.{cons_option}
-use Rattle.alg_registry.specs.declared.row.Row.{Row}
-use Rattle.alg_registry.specs.Calls.{shown, listing}
-use Rattle.alg_registry.proofs.Fresh.{filter_map-more}
+use Rattle.std.proofs.Common.{◌∙◌}
+use Rattle.std.specs.List.{filter_map}
+use Rattle.alg_registry.specs.Calls.{shown}
+use Rattle.alg_registry.specs.Held.{made_at}
+use Rattle.alg_registry.proofs.Scanning.{shown-held}
 use Rattle.alg_registry.proofs.listing.listing_of.Goals as goal
 
-pub loop-row-preserved : goal.loop-row-preserved
-loop-row-preserved c =
-    let more = filter_map-more shown c.args.rows.now c.loop-row.row-index c.row-item.result c.loop-row-test.true in
-    c.in_ok-push_shown.ensures
-    ∙ ((λ i. c.loop-row.invariant i ++ cons_option (c.in_ok-answer.ensures i) []) ∙ (ap (λ (r : Row). listing (take c.loop-row.row-index c.args.rows.now) ++ cons_option (shown r) []) c.row-item.is ∙ sym more))
+pub returns : goal.returns
+returns c = c.in_ok-found.ensures ∙ ((λ i. filter_map (made_at shown (c.all.ensures.all i)) (c.held.ensures i)) ∙ shown-held c.args.rows.now.list)

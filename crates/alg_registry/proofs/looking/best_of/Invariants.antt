@@ -1,12 +1,12 @@
 use Rattle.std.proofs.Common.{◌≡◌, ◌≤◌, length, drop}
-use Rattle.alg_registry.specs.Larvals.{best_by}
+use Rattle.alg_registry.specs.Held.{best_among}
 use Rattle.alg_registry.proofs.looking.best_of.Given as goal
 
--- the best of the entries from i on
+-- the best of the entries whose ids stand from i on
 abbrev pub invariant-loop-i : goal.invariant-loop-i
 invariant-loop-i l = record {
-  within : l.i ≤ length l.rows;
-  best : l.best ≡ best_by l.joined l.text l.plain l.i (drop l.i l.rows);
+  within : l.i ≤ length l.held;
+  best : l.best ≡ best_among l.joined l.text l.plain l.all (drop l.i l.held);
 }
 
 abbrev pub decreases-loop-i : goal.decreases-loop-i

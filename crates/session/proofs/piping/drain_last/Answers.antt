@@ -1,4 +1,4 @@
-use Rattle.std.proofs.Common.{◌≡◌, ◌∙◌, sym, ap, subst, Some, List, [], ◌++◌}
+use Rattle.std.proofs.Common.{◌∙◌, sym, ap, subst, List, ◌++◌}
 use Rattle.std.specs.Option.{option_copied}
 use Rattle.kc_base.specs.declared.callback_list.Callback.{Callback}
 use Rattle.kc_base.specs.Handed.{Handed}
@@ -14,7 +14,7 @@ returns c =
     let is = sym c.pipe.ensures ∙ ap option_copied c.in-Some.is in
     let drains = subst (λ (given : List (Callback Finished)). Drains outcome 0 c.in-Some.pipe.now.number c.args.board.now c.drain_alone.new.board given c.drain_alone.new.into.list) (ap (λ (v : Handed Finished). v.list) c.new-into.ensures) c.in_ok-drain_alone.ensures.drained in
     let said =
-        c.in_ok-tell_ending.ensures
-        ∙ (ap (λ l. c.args.answers.now.items ++ said_at_end l c.in-Some.pipe.now.lines c.as_slice.result.now) c.label.ensures
-        ∙ ap (λ cs. c.args.answers.now.items ++ said_at_end c.args.live.now.label c.in-Some.pipe.now.lines cs) c.as_slice.ensures) in
+    c.in_ok-tell_ending.ensures
+    ∙ (ap (λ l. c.args.answers.now.items ++ said_at_end l c.in-Some.pipe.now.lines c.as_slice.result.now) c.label.ensures
+    ∙ ap (λ cs. c.args.answers.now.items ++ said_at_end c.args.live.now.label c.in-Some.pipe.now.lines cs) c.as_slice.ensures) in
     drained-last c.args.live.now c.in-Some.pipe.now c.args.board.now c.drain_alone.new.board c.args.answers.now.items c.tell_ending.new.answers.items c.drain_alone.new.into.list is drains c.drain_alone.ensures.idle c.drain_alone.ensures.legal said

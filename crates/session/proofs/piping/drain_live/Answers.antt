@@ -1,4 +1,4 @@
-use Rattle.std.proofs.Common.{ap, sym, ◌∙◌}
+use Rattle.std.proofs.Common.{ap, sym, ◌∙◌, ◌∷◌, []}
 use Rattle.board.specs.Handing.{completions}
 use Rattle.session.proofs.Pipelines.{if-ok, extends-same, from-empty, served, drain-none, drain-held, may-deliver, drain-done}
 use Rattle.session.proofs.piping.drain_live.Goals as goal
@@ -7,8 +7,12 @@ pub returns-in_default : goal.returns-in_default
 returns-in_default c =
     if-ok c.one.result _ _ _ c.one.ensures (λ answers s. drain-none c.args.board.now c.args.live.now c.args.line answers.items c.requires c.in_default.ensures s.0) (λ e. extends-same c.args.board.now)
 
+pub returns-then-pipe : goal.returns-then-pipe
+returns-then-pipe c =
+    if-ok c.one-then-pipe.result _ _ _ c.one-then-pipe.ensures (λ answers s. drain-held c.args.board.now c.args.live.now c.in-Some.pipe.now c.args.line answers.items c.requires c.in-Some.ensures c.if-pipe.true (s.0 ∙ ap (λ a. a ∷ []) c.refuse.ensures)) (λ e. extends-same c.args.board.now)
+
 pub drain_alone-requires-clause-pipe : goal.drain_alone-requires-clause-pipe
-drain_alone-requires-clause-pipe c = served c.args.board.now c.args.live.now c.in-Some.pipe.now c.requires c.in-Some.ensures c.if-pipe.false
+drain_alone-requires-clause-pipe c κs = served c.args.board.now c.args.live.now c.in-Some.pipe.now c.requires c.in-Some.ensures c.if-pipe.false
 
 pub deliver-requires : goal.deliver-requires
 deliver-requires c =

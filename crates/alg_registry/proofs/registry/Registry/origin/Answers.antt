@@ -15,7 +15,7 @@ answer_is (Err e) o p same is = tt
 
 pub returns-clause-answer : goal.returns-clause-answer
 returns-clause-answer c =
-    let rows : c.deref.result.now ≡ rows_of c.args.self.now = c.deref.ensures.value ∙ (c.self.invariant.rows_are ∙ ap (λ (h : List RegEntry). rows_of h) c.self.view_is) in
-    answer_is c.origin_of.result (option_map (λ row. row.spec) (slice_get c.deref.result.now c.args.id)) (slice_get (registered c.args.self.now) c.args.id)
+    let rows : c.all.result.now ≡ rows_of c.args.self.now = c.all.ensures.all ∙ (c.self.invariant.kept.rows_are ∙ ap (λ (h : List RegEntry). rows_of h) c.self.view_is) in
+    answer_is c.origin_of.result (option_map (λ row. row.spec) (slice_get c.all.result.now c.args.id)) (slice_get (registered c.args.self.now) c.args.id)
     (ap (λ (rs : List Row). option_map (λ row. row.spec) (slice_get rs c.args.id)) rows ∙ spec-rows_of c.args.self.now c.args.id)
     c.origin_of.ensures.ok

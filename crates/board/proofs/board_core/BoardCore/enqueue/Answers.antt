@@ -15,16 +15,16 @@ index_mut-place-requires g c =
     let o = c.self.inside.pipes.ok.0 in
     omega arith
 
-pub invariant_of-self-in_err-reserve-2 : goal.invariant_of-self-in_err-reserve-2
-invariant_of-self-in_err-reserve-2 g c =
+pub invariant_of-self-in_err-reserve : goal.invariant_of-self-in_err-reserve
+invariant_of-self-in_err-reserve g c =
     let open_ : IsOpenQueue (entries_of c.args.pipe c.self.inside.log.items) = subst (λ h. IsOpenQueue (entries_of c.args.pipe h)) (sym c.self.view_is) c.requires.pipe in
     let w = within_board g.W.Work.asked g.W.Work.meaning c.self.inside.pipes.items c.self.inside.log.items c.args.pipe c.self.invariant.0 (queue_open_here (entries_of c.args.pipe c.self.inside.log.items) open_.0) in
-    let s = room_step g.W.Work.asked g.W.Work.meaning c.self.inside.pipes.items c.self.inside.log.items c.args.pipe c.index_mut-place.result.now c.reserve-2.new.self c.self.invariant.0 w c.index_mut-place.ensures.value c.in_err-reserve-2.ensures.same in (
-      rw c.in_ok-reserve.ensures.items s.0,
-      rw c.in_ok-reserve.ensures.items c.self.invariant.1,
-      omega (arith, c.self.invariant.2, c.in_ok-reserve.ensures.len, c.in_ok-reserve.ensures.capacity),
+    let s = room_step g.W.Work.asked g.W.Work.meaning c.self.inside.pipes.items c.self.inside.log.items c.args.pipe c.index_mut-place.result.now c.reserve.new.self c.self.invariant.0 w c.index_mut-place.ensures.value c.in_err-reserve.ensures.same in (
+      rw c.in_ok-reserve_entries.ensures.items s.0,
+      rw c.in_ok-reserve_entries.ensures.items c.self.invariant.1,
+      omega (arith, c.self.invariant.2, c.in_ok-reserve_entries.ensures.len, c.in_ok-reserve_entries.ensures.capacity),
       omega (arith, s.1, c.self.invariant.3),
-      rw c.in_ok-reserve.ensures.items c.self.invariant.4,
+      rw c.in_ok-reserve_entries.ensures.items c.self.invariant.4,
     )
 
 pub accepts-accepted-requires : goal.accepts-accepted-requires
@@ -32,7 +32,7 @@ accepts-accepted-requires g c =
     let open_ : IsOpenQueue (entries_of c.args.pipe c.self.inside.log.items) = subst (λ h. IsOpenQueue (entries_of c.args.pipe h)) (sym c.self.view_is) c.requires.pipe in
     let w = within_board g.W.Work.asked g.W.Work.meaning c.self.inside.pipes.items c.self.inside.log.items c.args.pipe c.self.invariant.0 (queue_open_here (entries_of c.args.pipe c.self.inside.log.items) open_.0) in
     record {
-      queue = is_queue_same c.reserve-2.new.self c.index_mut-place.result.now c.in_ok-reserve-2.ensures.same
+      queue = is_queue_same c.reserve.new.self c.index_mut-place.result.now c.in_ok-reserve.ensures.same
           ∙ queue_here g.W.Work.asked g.W.Work.meaning c.self.inside.pipes.items c.self.inside.log.items c.args.pipe c.index_mut-place.result.now c.self.invariant.0 w c.index_mut-place.ensures.value open_.0;
     }
 
@@ -40,26 +40,26 @@ pub invariant_of-self-in_err-spend_if : goal.invariant_of-self-in_err-spend_if
 invariant_of-self-in_err-spend_if g c =
     let open_ : IsOpenQueue (entries_of c.args.pipe c.self.inside.log.items) = subst (λ h. IsOpenQueue (entries_of c.args.pipe h)) (sym c.self.view_is) c.requires.pipe in
     let w = within_board g.W.Work.asked g.W.Work.meaning c.self.inside.pipes.items c.self.inside.log.items c.args.pipe c.self.invariant.0 (queue_open_here (entries_of c.args.pipe c.self.inside.log.items) open_.0) in
-    let s = room_step g.W.Work.asked g.W.Work.meaning c.self.inside.pipes.items c.self.inside.log.items c.args.pipe c.index_mut-place.result.now c.reserve-2.new.self c.self.invariant.0 w c.index_mut-place.ensures.value c.in_ok-reserve-2.ensures.same in (
-      rw c.in_ok-reserve.ensures.items s.0,
-      rw c.in_ok-reserve.ensures.items c.self.invariant.1,
-      omega (arith, c.self.invariant.2, c.in_ok-reserve.ensures.len, c.in_ok-reserve.ensures.capacity),
+    let s = room_step g.W.Work.asked g.W.Work.meaning c.self.inside.pipes.items c.self.inside.log.items c.args.pipe c.index_mut-place.result.now c.reserve.new.self c.self.invariant.0 w c.index_mut-place.ensures.value c.in_ok-reserve.ensures.same in (
+      rw c.in_ok-reserve_entries.ensures.items s.0,
+      rw c.in_ok-reserve_entries.ensures.items c.self.invariant.1,
+      omega (arith, c.self.invariant.2, c.in_ok-reserve_entries.ensures.len, c.in_ok-reserve_entries.ensures.capacity),
       omega (arith, s.1, c.self.invariant.3),
-      rw c.in_ok-reserve.ensures.items (λ q. c.in_err-spend_if.ensures.err q ∙ c.self.invariant.4 q),
+      rw c.in_ok-reserve_entries.ensures.items (λ q. c.in_err-spend_if.ensures.err q ∙ c.self.invariant.4 q),
     )
 
 pub enqueue-answer-requires-clause-queue : goal.enqueue-answer-requires-clause-queue
 enqueue-answer-requires-clause-queue g c =
     let open_ : IsOpenQueue (entries_of c.args.pipe c.self.inside.log.items) = subst (λ h. IsOpenQueue (entries_of c.args.pipe h)) (sym c.self.view_is) c.requires.pipe in
     let w = within_board g.W.Work.asked g.W.Work.meaning c.self.inside.pipes.items c.self.inside.log.items c.args.pipe c.self.invariant.0 (queue_open_here (entries_of c.args.pipe c.self.inside.log.items) open_.0) in
-    is_queue_same c.reserve-2.new.self c.index_mut-place.result.now c.in_ok-reserve-2.ensures.same
+    is_queue_same c.reserve.new.self c.index_mut-place.result.now c.in_ok-reserve.ensures.same
     ∙ queue_here g.W.Work.asked g.W.Work.meaning c.self.inside.pipes.items c.self.inside.log.items c.args.pipe c.index_mut-place.result.now c.self.invariant.0 w c.index_mut-place.ensures.value open_.0
 
 pub enqueue-answer-requires-clause-few : goal.enqueue-answer-requires-clause-few
 enqueue-answer-requires-clause-few g c =
     let open_ : IsOpenQueue (entries_of c.args.pipe c.self.inside.log.items) = subst (λ h. IsOpenQueue (entries_of c.args.pipe h)) (sym c.self.view_is) c.requires.pipe in
     let w = within_board g.W.Work.asked g.W.Work.meaning c.self.inside.pipes.items c.self.inside.log.items c.args.pipe c.self.invariant.0 (queue_open_here (entries_of c.args.pipe c.self.inside.log.items) open_.0) in
-    let a = accepted_here g.W.Work.asked g.W.Work.meaning c.self.inside.pipes.items c.self.inside.log.items c.args.pipe c.index_mut-place.result.now c.reserve-2.new.self c.self.invariant.0 w c.index_mut-place.ensures.value c.in_ok-reserve-2.ensures.same in
+    let a = accepted_here g.W.Work.asked g.W.Work.meaning c.self.inside.pipes.items c.self.inside.log.items c.args.pipe c.index_mut-place.result.now c.reserve.new.self c.self.invariant.0 w c.index_mut-place.ensures.value c.in_ok-reserve.ensures.same in
     omega (arith, a, few_submissions c.args.pipe c.self.inside.log.items, c.self.inside.log.ok.0, c.self.inside.log.ok.1, c.self.inside.log.small)
 
 pub invariant_of-self-2 : goal.invariant_of-self-2
@@ -68,40 +68,33 @@ invariant_of-self-2 g c =
     let w = within_board g.W.Work.asked g.W.Work.meaning c.self.inside.pipes.items c.self.inside.log.items c.args.pipe c.self.invariant.0 (queue_open_here (entries_of c.args.pipe c.self.inside.log.items) open_.0) in
     let may : MaySubmit (entries_of c.args.pipe c.self.inside.log.items) c.args.caller = subst (λ h. MaySubmit (entries_of c.args.pipe h) c.args.caller) (sym c.self.view_is) c.requires.caller in
     let answer = c.enqueue-answer.result in
-    let e = c.enqueue-answer.ensures.entered ∙ answer_same c.reserve-2.new.self c.index_mut-place.result.now c.args.job answer c.in_ok-reserve-2.ensures.same in
-    let said = c.enqueue-answer.ensures.answer ∙ entered_same c.reserve-2.new.self c.index_mut-place.result.now c.args.backlog c.in_ok-reserve-2.ensures.same in
-    let s = enqueue_step g.W.Work.asked g.W.Work.meaning c.self.inside.pipes.items c.self.inside.log.items c.args.pipe c.args.caller c.in_ok-ask.ask c.index_mut-place.result.now c.enqueue-answer.new.self c.args.job c.args.backlog answer c.self.invariant.0 w c.index_mut-place.ensures.value c.in_ok-ask.ensures said e may open_ in
-    let spent = c.accepts-accepted.ensures ∙ (accepts_is c.reserve-2.new.self c.args.backlog ∙ ap is_accepted (sym c.enqueue-answer.ensures.answer)) in (
-      rw (c.push_reserved.ensures.items, c.in_ok-reserve.ensures.items) s.0,
-      rw (c.push_reserved.ensures.items, c.in_ok-reserve.ensures.items) (shut-same c.self.inside.log.items (Enq c.args.caller c.args.pipe c.in_ok-ask.ask c.args.backlog answer) refl ∙ c.self.invariant.1),
-      omega (arith, c.work_entries.ensures, few_entries answer, c.push_reserved.ensures.len, c.push_reserved.ensures.capacity, c.in_ok-reserve.ensures.ok, c.in-Some.ensures),
+    let e = c.enqueue-answer.ensures.entered ∙ answer_same c.reserve.new.self c.index_mut-place.result.now c.args.job answer c.in_ok-reserve.ensures.same in
+    let said = c.enqueue-answer.ensures.answer ∙ entered_same c.reserve.new.self c.index_mut-place.result.now c.args.backlog c.in_ok-reserve.ensures.same in
+    let s = enqueue_step g.W.Work.asked g.W.Work.meaning c.self.inside.pipes.items c.self.inside.log.items c.args.pipe c.args.caller c.in_ok-ask.field-0.ask c.index_mut-place.result.now c.enqueue-answer.new.self c.args.job c.args.backlog answer c.self.invariant.0 w c.index_mut-place.ensures.value c.in_ok-ask.ensures.ask said e may open_ in
+    let spent = c.accepts-accepted.ensures ∙ (accepts_is c.reserve.new.self c.args.backlog ∙ ap is_accepted (sym c.enqueue-answer.ensures.answer)) in (
+      rw (c.push_reserved.ensures.items, c.in_ok-reserve_entries.ensures.items) s.0,
+      rw (c.push_reserved.ensures.items, c.in_ok-reserve_entries.ensures.items) (shut-same c.self.inside.log.items (Enq c.args.caller c.args.pipe c.in_ok-ask.field-0.ask c.args.backlog answer) refl ∙ c.self.invariant.1),
+      omega (arith, c.work_entries.ensures, few_entries answer, c.push_reserved.ensures.len, c.push_reserved.ensures.capacity, c.in_ok-reserve_entries.ensures.ok),
       omega (arith, c.work_entries.ensures, s.1, c.self.invariant.3),
-      rw (c.push_reserved.ensures.items, c.in_ok-reserve.ensures.items) (used_answer g.W.Work.weight c.self.inside.used c.spend_if.new.used c.self.inside.log.items c.args.caller c.args.pipe c.in_ok-ask.ask c.args.backlog answer (g.W.Work.asked c.args.job) c.size-size.result c.in_ok-ask.ensures c.size-size.ensures c.self.invariant.4 (rw spent at c.in_ok-spend_if.ensures.ok)),
+      rw (c.push_reserved.ensures.items, c.in_ok-reserve_entries.ensures.items) (used_answer g.W.Work.weight c.self.inside.used c.spend_if.new.used c.self.inside.log.items c.args.caller c.args.pipe c.in_ok-ask.field-0.ask c.args.backlog answer (g.W.Work.asked c.args.job) c.in_ok-ask.field-0.size c.in_ok-ask.ensures.ask c.in_ok-ask.ensures.size c.self.invariant.4 (rw spent at c.in_ok-spend_if.ensures.ok)),
     )
 
-pub returns : goal.returns
-returns g c =
+pub returns-clause-answered : goal.returns-clause-answered
+returns-clause-answered g c =
     let open_ : IsOpenQueue (entries_of c.args.pipe c.self.inside.log.items) = subst (λ h. IsOpenQueue (entries_of c.args.pipe h)) (sym c.self.view_is) c.requires.pipe in
     let w = within_board g.W.Work.asked g.W.Work.meaning c.self.inside.pipes.items c.self.inside.log.items c.args.pipe c.self.invariant.0 (queue_open_here (entries_of c.args.pipe c.self.inside.log.items) open_.0) in
     let may : MaySubmit (entries_of c.args.pipe c.self.inside.log.items) c.args.caller = subst (λ h. MaySubmit (entries_of c.args.pipe h) c.args.caller) (sym c.self.view_is) c.requires.caller in
     let answer = c.enqueue-answer.result in
-    let e = c.enqueue-answer.ensures.entered ∙ answer_same c.reserve-2.new.self c.index_mut-place.result.now c.args.job answer c.in_ok-reserve-2.ensures.same in
-    let said = c.enqueue-answer.ensures.answer ∙ entered_same c.reserve-2.new.self c.index_mut-place.result.now c.args.backlog c.in_ok-reserve-2.ensures.same in
-    let s = enqueue_step g.W.Work.asked g.W.Work.meaning c.self.inside.pipes.items c.self.inside.log.items c.args.pipe c.args.caller c.in_ok-ask.ask c.index_mut-place.result.now c.enqueue-answer.new.self c.args.job c.args.backlog answer c.self.invariant.0 w c.index_mut-place.ensures.value c.in_ok-ask.ensures said e may open_ in
-    record {
-      answered = (
-        subst (λ h. answer ≡ verdict (entries_of c.args.pipe h) c.args.backlog) c.self.view_is s.2,
-        (
-          c.in_ok-ask.ask,
-          c.in_ok-ask.ensures,
-          rw (c.push_reserved.ensures.items, c.in_ok-reserve.ensures.items, c.self.view_is) refl,
-        ),
-      );
-      allowed =
-          (let u = c.used_by-so_far.ensures ∙ c.self.invariant.4 c.args.caller in
-          let a = c.is_allowed.ensures.0 c.if-not-is_allowed.false in
-          let b = rw (u, c.size-size.ensures) at a in
-          rw (← c.self.view_is) b);
-      refused = tt;
-      legal = (invariant_of-self-2 g c).0.legal;
-    }
+    let e = c.enqueue-answer.ensures.entered ∙ answer_same c.reserve.new.self c.index_mut-place.result.now c.args.job answer c.in_ok-reserve.ensures.same in
+    let said = c.enqueue-answer.ensures.answer ∙ entered_same c.reserve.new.self c.index_mut-place.result.now c.args.backlog c.in_ok-reserve.ensures.same in
+    let s = enqueue_step g.W.Work.asked g.W.Work.meaning c.self.inside.pipes.items c.self.inside.log.items c.args.pipe c.args.caller c.in_ok-ask.field-0.ask c.index_mut-place.result.now c.enqueue-answer.new.self c.args.job c.args.backlog answer c.self.invariant.0 w c.index_mut-place.ensures.value c.in_ok-ask.ensures.ask said e may open_ in (
+      subst (λ h. answer ≡ verdict (entries_of c.args.pipe h) c.args.backlog) c.self.view_is s.2,
+      (
+        c.in_ok-ask.field-0.ask,
+        c.in_ok-ask.ensures.ask,
+        rw (c.push_reserved.ensures.items, c.in_ok-reserve_entries.ensures.items, c.self.view_is) refl,
+      ),
+    )
+
+pub returns-clause-legal : goal.returns-clause-legal
+returns-clause-legal g c = (invariant_of-self-2 g c).0.legal

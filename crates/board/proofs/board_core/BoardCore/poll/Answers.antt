@@ -53,11 +53,11 @@ invariant_of-self-2 g c =
     let same = same_item c.self.inside.pipes.items c.args.pipe c.index-place.result.now c.index_mut-place.result.now w c.index-place.ensures c.index_mut-place.ensures.value in
     let at : c.told-to.result ≡ told_of c.index_mut-place.result.now = c.told-to.ensures ∙ ap told_of same in
     let s = poll_step g.W.Work.asked g.W.Work.meaning c.self.inside.pipes.items c.self.inside.log.items c.args.pipe c.told-to.result c.args.caller c.index_mut-place.result.now c.collect.new.self c.self.invariant.0 w c.index_mut-place.ensures.value may open_ at c.collect.ensures.emptied in (
-      rw (c.push_reserved.ensures.items, c.in_ok-reserve-2.ensures.items) s.0,
-      rw (c.push_reserved.ensures.items, c.in_ok-reserve-2.ensures.items) (shut-same c.self.inside.log.items (Collect c.args.caller c.args.pipe c.told-to.result) refl ∙ c.self.invariant.1),
-      omega (arith, c.push_reserved.ensures.len, c.push_reserved.ensures.capacity, c.in_ok-reserve-2.ensures.ok, c.in-Some.ensures),
+      rw (c.push_reserved.ensures.items, c.in_ok-reserve_entries.ensures.items) s.0,
+      rw (c.push_reserved.ensures.items, c.in_ok-reserve_entries.ensures.items) (shut-same c.self.inside.log.items (Collect c.args.caller c.args.pipe c.told-to.result) refl ∙ c.self.invariant.1),
+      omega (arith, c.push_reserved.ensures.len, c.push_reserved.ensures.capacity, c.in_ok-reserve_entries.ensures.ok),
       omega (arith, s.1, c.self.invariant.3),
-      rw (c.push_reserved.ensures.items, c.in_ok-reserve-2.ensures.items) (used_same g.W.Work.weight c.self.inside.used c.self.inside.log.items (Collect c.args.caller c.args.pipe c.told-to.result) refl c.self.invariant.4),
+      rw (c.push_reserved.ensures.items, c.in_ok-reserve_entries.ensures.items) (used_same g.W.Work.weight c.self.inside.used c.self.inside.log.items (Collect c.args.caller c.args.pipe c.told-to.result) refl c.self.invariant.4),
     )
 
 pub returns : goal.returns
@@ -69,7 +69,7 @@ returns g c =
     let at : c.told-to.result ≡ told_of c.index_mut-place.result.now = c.told-to.ensures ∙ ap told_of same in
     let s = poll_step g.W.Work.asked g.W.Work.meaning c.self.inside.pipes.items c.self.inside.log.items c.args.pipe c.told-to.result c.args.caller c.index_mut-place.result.now c.collect.new.self c.self.invariant.0 w c.index_mut-place.ensures.value may open_ at c.collect.ensures.emptied in
     record {
-      board = rw (c.push_reserved.ensures.items, c.in_ok-reserve-2.ensures.items, ← c.self.view_is) (ap (λ n. c.self.inside.log.items ++ Collect c.args.caller c.args.pipe n ∷ []) s.2);
+      board = rw (c.push_reserved.ensures.items, c.in_ok-reserve_entries.ensures.items, ← c.self.view_is) (ap (λ n. c.self.inside.log.items ++ Collect c.args.caller c.args.pipe n ∷ []) s.2);
       handed = rw (c.collect.ensures.handed, c.in_ok-reserve.ensures.list, ← c.self.view_is) (ap (λ xs. c.args.into.now.list ++ xs) (sym s.3));
       refused = tt;
       legal = (invariant_of-self-2 g c).0.legal;

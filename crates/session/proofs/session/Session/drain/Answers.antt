@@ -31,7 +31,7 @@ returns-in-Some c =
     let s = live-at c.args.self.now c.self.inside.lives.items c.deref.result.now c.args.label.now c.as_slice.result.now c.in-Some.place c.self.view_is c.in-Some.ensures c.as_slice.ensures c.deref.ensures.value in
     let was = c.index_mut.ensures.value ∙ (ap (λ (w : Walk). slice_index_or w.lives c.in-Some.place c.index_mut.result.now) c.self.view_is ∙ split-live c.args.label.now _ c.in-Some.place c.index_mut.result.now s) in
     MatchResult-weaker c.drain_live.result c.drain_live.ensures
-    (λ answers done. board-as _ _ _ _ _ _ (viewed c.self.inside.requests c.self.inside.bytes _) (drain-at c.args.self.now c.args.number c.args.label.now c.in-Some.place c.index_mut.result.now done.0 s was) (done-at _ c.args.self.now c.args.label.now c.in-Some.place c.self.inside.lives.items _ c.index_mut.result.now c.drain_live.new.live c.args.board.now c.drain_live.new.board _ s c.self.view_is refl was c.requires done.1))
+    (λ answers done. board-as _ _ _ _ _ c.args.self.now (viewed c.self.inside.requests c.self.inside.bytes _) (drain-at c.args.self.now c.args.number c.args.label.now c.in-Some.place c.index_mut.result.now done.0 s was) (done-at _ c.args.self.now c.args.label.now c.in-Some.place c.self.inside.lives.items _ c.index_mut.result.now c.drain_live.new.live c.args.board.now c.drain_live.new.board _ s c.self.view_is refl was c.requires done.1))
     (λ stop more. more)
 
 pub returns-in-None : goal.returns-in-None

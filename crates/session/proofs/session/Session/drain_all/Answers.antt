@@ -1,4 +1,4 @@
-use Rattle.std.proofs.Common.{◌≡◌, arith}
+use Rattle.std.proofs.Common.{arith}
 use Rattle.session.proofs.Draining.{drained-at}
 use Rattle.session.proofs.session.Session.drain_all.Goals as goal
 

@@ -1,4 +1,4 @@
-use Rattle.std.proofs.Common.{◌≡◌, arith}
+use Rattle.std.proofs.Common.{arith}
 use Rattle.session.proofs.Draining.{gone-at}
 use Rattle.session.proofs.session.Session.let_go.Goals as goal
 

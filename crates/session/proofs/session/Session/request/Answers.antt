@@ -1,6 +1,8 @@
 use Rattle.std.proofs.Common.{sym, ap, subst, ◌∙◌, ◌∷◌, [], arith, length, refl, slice_index_or}
 use Rattle.kc_base.specs.declared.error_numbers.Errno.TheVariants.{ENOENT, ENOKEY, EINVAL}
 use Rattle.board.specs.declared.entry.Entered.TheVariants.{NoSpace}
+use Rattle.std.specs.Arc.{arc_value}
+use Rattle.session.specs.BoardHistories.{asked_by}
 use Rattle.session.specs.Changing.{Rests}
 use Rattle.session.specs.Keyed.{IsJob}
 use Rattle.session.specs.Requesting.{request_turn}
@@ -52,12 +54,12 @@ take_job-requires c =
     subst (Rests c.args.board.now) (sym was) (rests-at c.args.self.now c.args.label.now c.in-Some.place c.args.board.now s c.requires.posted)
 
 pub count-requires : goal.count-requires
-count-requires c = λ accepted. allowed-in c.args.self.now c.args.board.now _ c.size.result c.requires.posted c.size.ensures (c.in_ok-taken.ensures.allowed accepted)
+count-requires c = λ accepted. allowed-in c.args.self.now c.args.board.now (arc_value c.in-Ok.job.ask) c.size-size.result c.self.view_is c.requires.posted c.size-size.ensures (c.in_ok-taken.ensures.allowed accepted)
 
 pub returns : goal.returns
 returns c =
     let s = live-at c.args.self.now c.self.inside.lives.items c.deref.result.now c.args.label.now c.as_slice.result.now c.in-Some.place c.self.view_is c.in-Some.ensures c.as_slice.ensures c.deref.ensures.value in
     let was = c.index_mut.ensures.value ∙ (ap (λ (w : Walk). slice_index_or w.lives c.in-Some.place c.index_mut.result.now) c.self.view_is ∙ split-live c.args.label.now _ c.in-Some.place c.index_mut.result.now s) in
     let before = c.index.ensures ∙ (ap (λ (w : Walk). slice_index_or w.lives c.in-Some.place c.index.result.now) c.self.view_is ∙ split-live c.args.label.now _ c.in-Some.place c.index.result.now s) in
-    request-done c.args.self.now c.count.new.self c.args.number c.args.label.now c.in-Some.place c.self.inside.lives.items _ c.index_mut.result.now c.take_job.new.live c.args.request c.args.backlog c.in_ok-taken.taken.accepted _ c.size.result c.args.board.now c.take_job.new.board c.in_ok-taken.taken.answer s c.self.view_is refl was c.requires.posted
-    (subst (λ (l : Live). IsJob c.args.number l c.args.request _) (before ∙ sym was) c.in-Ok.ensures) c.in_ok-taken.ensures.done c.size.ensures c.count.ensures
+    request-done c.args.self.now c.count.new.self c.args.number c.args.label.now c.in-Some.place c.self.inside.lives.items _ c.index_mut.result.now c.take_job.new.live c.args.request c.args.backlog c.in_ok-taken.taken.accepted (arc_value c.in-Ok.job.ask) c.size-size.result c.args.board.now c.take_job.new.board c.in_ok-taken.taken.answer s c.self.view_is refl was c.requires.posted
+    (subst (λ (l : Live). IsJob c.args.number l c.args.request (asked_by (arc_value c.in-Ok.job.ask))) (before ∙ sym was) c.in-Ok.ensures) c.in_ok-taken.ensures.done c.size-size.ensures c.count.ensures
