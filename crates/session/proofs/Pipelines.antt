@@ -20,11 +20,7 @@ use Rattle.board.specs.Handing.{is_collect, completions}
 use Rattle.board.proofs.Transfer.{entries-more}
 use Rattle.board.proofs.PadOrder.{filter_map-none, filter_map-some}
 use Rattle.board.proofs.Kept.{only_of, not_shut, shut-same}
-<<<<<<< HEAD
-use Rattle.board.proofs.Staying.{before_last, stays_open, queue_stays_open, stays_managed, stays_submitting, work_leaves, stays_held, holds}
-=======
-use Rattle.board.proofs.Staying.{stays_open, queue_stays_open, stays_managed, stays_submitting, work_leaves}
->>>>>>> f95b5349b00863456696cd4dc011cf2b823aa635
+use Rattle.board.proofs.Staying.{stays_open, queue_stays_open, stays_managed, stays_submitting, work_leaves, stays_held, holds}
 use Rattle.board.proofs.Handing.{hands_nothing, collect_hands_out, most_handed_out, all_handed_out, leaves_others}
 use Rattle.pcrypt.specs.Working.{NoneRuns, IsServed, WorksFrom, WorkKeeps}
 use Rattle.pcrypt.proofs.Keeping.{work_keeps, work_shuts_nothing, works_none}
