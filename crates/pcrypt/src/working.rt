@@ -6,7 +6,7 @@ ghost use Rattle.board.specs.Entries.{entries_of, NoneWaits};
 ghost use Rattle.board.specs.Legal.{MayManage, LegalBoard};
 ghost use Rattle.pcrypt.specs.Working.{unfinished, WorksFrom, NoneRuns, IsServed, Drains};
 
-use crate::laws::work_keeps;
+use crate::laws::{none_runs, work_keeps};
 use board::{BoardCore, BoardErr, Taken, Work, pipelines_stay};
 use kc_base::Callbacks;
 
@@ -38,9 +38,9 @@ pub fn work_all<W: Work>(board: &mut BoardCore<W>, caller: u32)
     while work_alone(board, caller) {}
 }
 
-/// Does one job after another until all requests of the pipeline are finished, and hands out what no call handed out
-/// before. The caller made the pipeline, which is neither closed nor held, and nobody is at a job. Only want of memory
-/// refuses, and hands out nothing.
+/// Does one job after another until there is none to be had: then all requests of the pipeline are finished, and what no
+/// call handed out before is handed out. The caller made the pipeline, which is neither closed nor held, and nobody is at a
+/// job. Only want of memory refuses, and hands out nothing.
 pub fn drain_alone<W: Work>(
     board: &mut BoardCore<W>,
     caller: u32,
@@ -56,8 +56,11 @@ pub fn drain_alone<W: Work>(
     ensures legal { LegalBoard board.new }
 {
     work_keeps::<W::Ask>();
-    while !board.try_drain(caller, pipe, into)? {
-        work_alone(board, caller);
+    none_runs::<W::Ask>();
+    work_all(board, caller);
+    match board.try_drain(caller, pipe, into) {
+        Ok(true) => Ok(()),
+        Ok(false) => unreachable!(),
+        Err(e) => Err(e),
     }
-    Ok(())
 }
