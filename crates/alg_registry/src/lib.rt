@@ -3,6 +3,7 @@
 //! Each call appends the one entry to the registry's history that is right for the entries before it.
 #![tactic(auto)]
 
+mod by_definition;
 mod counting;
 mod entry;
 mod history;
