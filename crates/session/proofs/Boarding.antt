@@ -1,12 +1,10 @@
 -- What lines do to a board that is the session's.
-use Rattle.std.proofs.Common.{◌≡◌, ◌≢◌, ℕ, ◌+◌, ◌<◌, ◌≤◌, Bool, true, false, cond, List, [], ◌∷◌, ◌++◌, length, Option, Some, None, Result, Ok, Err, refl, sym, ap, subst, ◌∙◌, append_assoc, append-nil, length-append, arith, inl, inr}
-use Rattle.std.specs.Prelude.{find, ◌==◌, All, ⊤, sum_by, MatchResult, IfOk, IsOk}
-use Rattle.std.specs.Str.{bytes_eq}
+use Rattle.std.proofs.Common.{◌≡◌, ◌≢◌, ℕ, ◌+◌, ◌≤◌, Bool, true, false, cond, List, [], ◌∷◌, ◌++◌, length, Option, Some, None, Result, Ok, Err, refl, sym, ap, subst, ◌∙◌, append-nil, length-append, arith, inl}
+use Rattle.std.specs.Prelude.{find, ◌==◌, All, sum_by, MatchResult, IfOk, IsOk}
 use Rattle.std.proofs.lemmas.Slice.Eq.{bytes_eq-Decides}
 use Rattle.std.proofs.lemmas.List.Elements.{All-nil, All-cons, All-head, All-tail, All-append}
 use Rattle.std.proofs.lemmas.List.Sums.{sum_by-append}
 use Rattle.std.proofs.lemmas.Bool.{eq-eqb, eqb-true}
-use Rattle.kc_base.specs.declared.error_numbers.Errno.{Errno}
 use Rattle.alg_registry.specs.declared.entry.RegEntry.{RegEntry}
 use Rattle.board.specs.declared.entry.BoardEntry.{BoardEntry}
 use Rattle.board.specs.declared.entry.BoardEntry.TheVariants as event
@@ -18,7 +16,7 @@ use Rattle.board.specs.Entries.{is_of as is_entry_of}
 use Rattle.pcrypt.specs.Working.{NoneRuns}
 use Rattle.board.specs.Legal.{LegalBoard, is_shut, pipelines}
 use Rattle.board.proofs.Handing.{begins_alone, leaves_others, joins}
-use Rattle.board.proofs.Kept.{only_of, not_shut, shut-same}
+use Rattle.board.proofs.Kept.{only_of, shut-same}
 use Rattle.pcrypt.proofs.Done.{stays_idle}
 use Rattle.reply_text.specs.declared.answers.Answer.{Answer}
 use Rattle.templates.specs.declared.driver_plans.Plan.{Plan}
@@ -30,10 +28,10 @@ use Rattle.session.specs.declared.pipe.PipeKind.{PipeKind}
 use Rattle.session.specs.declared.pipe.PipeKind.TheVariants as kind
 use Rattle.session.specs.Allocating.{and_live, new_live, new_pipe}
 use Rattle.session.specs.BoardHistories.{BoardCall, Bears, Closes, board_calls}
-use Rattle.session.specs.Changing.{AreApart, Changes, IsTurnOf, DoneWith, counting}
+use Rattle.session.specs.Changing.{AreApart, Changes, DoneWith, counting}
 use Rattle.session.specs.Offering.{Bore, Closed}
-use Rattle.session.specs.Standing.{Extends, IsOpenAs, IsPipeIn, IsPipeOn, Posted, Posts, Stands, Done, DoneInRegistry, DoneOnBoard, is_at, owners, uses}
-use Rattle.session.specs.Turns.{Turn, refused, answered}
+use Rattle.session.specs.Standing.{Extends, IsOpenAs, IsPipeIn, IsPipeOn, Posted, Stands, Done, DoneInRegistry, DoneOnBoard, is_at, owners, uses}
+use Rattle.session.specs.Turns.{Turn, answered}
 use Rattle.session.specs.Walk.{Walk, Live, start, is_of, live_of, with_live, without, replaced}
 use Rattle.session.proofs.Asking.{unasked}
 use Rattle.session.proofs.Placed.{Split, uses-replaced}

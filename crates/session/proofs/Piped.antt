@@ -1,6 +1,6 @@
 -- The arms of a session that ask its board.
-use Rattle.std.proofs.Common.{◌≡◌, ℕ, ◌^◌, ◌+◌, ◌<◌, ◌≤◌, Bool, true, false, cond, List, [], ◌∷◌, ◌++◌, length, Option, Some, None, Result, Ok, Err, refl, sym, ap, subst, ◌∙◌, append-nil, arith, IsTrue}
-use Rattle.std.specs.Prelude.{All, sum_by, MatchResult, IfOk, IsOk, if◌then◌else◌}
+use Rattle.std.proofs.Common.{◌≡◌, ℕ, ◌^◌, ◌+◌, ◌<◌, ◌≤◌, Bool, true, false, List, [], ◌∷◌, Option, Some, None, sym, ap, subst, ◌∙◌, arith}
+use Rattle.std.specs.Prelude.{All, sum_by, if◌then◌else◌}
 use Rattle.std.proofs.Math.ListN.{set}
 use Rattle.std.proofs.lemmas.List.Elements.{All-head}
 use Rattle.kc_base.specs.declared.callback_list.Callback.{Callback}
@@ -9,17 +9,14 @@ use Rattle.kc_base.specs.declared.error_numbers.Errno.TheVariants as errno
 use Rattle.board.specs.declared.entry.BoardEntry.{BoardEntry}
 use Rattle.board.specs.declared.entry.Entered.{Entered}
 use Rattle.board.specs.declared.entry.Entered.TheVariants.{NoSpace}
-use Rattle.board.specs.Allowance.{IsAllowed, accepted_by}
+use Rattle.board.specs.Allowance.{IsAllowed}
 use Rattle.reply_text.specs.declared.answers.Answer.{Answer}
 use Rattle.reply_text.specs.declared.answers.Answer.TheVariants as said
 use Rattle.script_text.specs.declared.commands.Command.TheVariants as command
 use Rattle.transforms.specs.declared.ask.Ask.{Ask}
 use Rattle.transforms.specs.declared.request.Finished.{Finished}
 use Rattle.transforms.specs.declared.request.Request.{Request}
-use Rattle.transforms.specs.Asked.{takes}
 use Rattle.transforms.specs.AskValue.{ask_size}
-use Rattle.transforms.specs.Plans.{mode_of}
-use Rattle.session.specs.declared.stop.Stop.{Stop}
 use Rattle.session.specs.BoardHistories.{Asked, asked_by}
 use Rattle.session.specs.Changing.{Rests, DoneWith, counting}
 use Rattle.session.specs.Keyed.{IsJob, IsJobUnder, IsNotTaken}
@@ -28,7 +25,7 @@ use Rattle.session.specs.Offering.{asks_if}
 use Rattle.session.specs.Piping.{hold_turn, hold_live_turn, poll_turn, poll_live_turn, drain_turn, drain_live_turn}
 use Rattle.session.specs.Requesting.{request_turn, keyed_turn, taken_turn, asked_of}
 use Rattle.session.specs.Standing.{Posted, DoneOnBoard}
-use Rattle.session.specs.Turns.{Turn, refused, answered}
+use Rattle.session.specs.Turns.{Turn, refused}
 use Rattle.session.specs.Walk.{Walk, Live, live_of, with_live}
 use Rattle.session.proofs.Arms.{viewed, changed-walk}
 use Rattle.session.proofs.Boarding.{IsOn, All-right, done-with, said-alone}

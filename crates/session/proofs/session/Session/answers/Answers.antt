@@ -1,8 +1,7 @@
 use Rattle.std.proofs.Common.{refl, sym, subst, Ok}
 use Rattle.reply_text.specs.declared.answers.Answer.TheVariants as said
 use Rattle.session.specs.Lines.{LineTurn}
-use Rattle.session.specs.Standing.{Done, Stops, Extends}
-use Rattle.session.specs.Turns.{Turn, silent, answered}
+use Rattle.session.specs.Turns.{silent, answered}
 use Rattle.session.proofs.Commanding.{own-all, silent-all}
 use Rattle.session.proofs.session.Session.answers.Goals as goal
 

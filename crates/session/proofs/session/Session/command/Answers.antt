@@ -1,4 +1,4 @@
-use Rattle.std.proofs.Common.{◌≡◌, refl, sym, ap, subst, ◌∙◌, ◌∷◌, [], List, Ok, append-nil}
+use Rattle.std.proofs.Common.{refl, sym, ap, subst, ◌∙◌, [], Ok}
 use Rattle.std.specs.Prelude.{MatchResult}
 use Rattle.std.proofs.lemmas.Result.{IfOk-weaker}
 use Rattle.script_text.specs.declared.commands.Command.TheVariants as command

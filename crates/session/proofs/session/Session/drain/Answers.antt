@@ -1,6 +1,6 @@
-use Rattle.std.proofs.Common.{sym, ap, subst, ◌∙◌, ◌∷◌, [], arith, length, refl, slice_index_or, Ok}
+use Rattle.std.proofs.Common.{sym, ap, subst, ◌∙◌, [], arith, length, refl, slice_index_or, Ok}
 use Rattle.std.proofs.lemmas.Result.{MatchResult-weaker}
-use Rattle.session.specs.Walk.{Walk, live_of}
+use Rattle.session.specs.Walk.{Walk}
 use Rattle.session.specs.Changing.{Rests}
 use Rattle.session.specs.Piping.{drain_turn}
 use Rattle.session.specs.Lines.{CommandTurn}

@@ -1,4 +1,4 @@
-use Rattle.std.proofs.Common.{sym, ap, subst, ◌∙◌, ◌∷◌, [], arith, length, refl, slice_index_or}
+use Rattle.std.proofs.Common.{sym, ap, subst, ◌∙◌, arith, length, refl, slice_index_or}
 use Rattle.kc_base.specs.declared.error_numbers.Errno.TheVariants.{ENOENT, ENOKEY, EINVAL}
 use Rattle.board.specs.declared.entry.Entered.TheVariants.{NoSpace}
 use Rattle.std.specs.Arc.{arc_value}
