@@ -1,5 +1,5 @@
 -- A run of a session, one line more.
-use Rattle.std.proofs.Common.{◌≡◌, ℕ, ◌+◌, ◌<◌, ◌≤◌, ◌||◌, Bool, true, false, List, [], ◌∷◌, ◌++◌, length, take, map, Option, Some, None, IfSome, refl, sym, ap, subst, ◌∙◌, append_assoc, append-nil, add-zero, arith, inl, inr, ◌⊎◌, length-append}
+use Rattle.std.proofs.Common.{◌≡◌, ℕ, ◌+◌, ◌||◌, Bool, true, false, List, [], ◌∷◌, ◌++◌, length, take, map, Option, Some, None, IfSome, refl, sym, ap, subst, ◌∙◌, append_assoc, append-nil, add-zero, arith, inl, inr, length-append}
 use Rattle.std.specs.List.{flat_map, list_any}
 use Rattle.std.specs.Io.KnownBytes.{Appends, Keeps}
 use Rattle.std.proofs.KnownBytes.{Appends-trans}
@@ -12,7 +12,7 @@ use Rattle.reply_text.specs.Answers.{text_of}
 use Rattle.script_text.specs.declared.commands.Line.{Line}
 use Rattle.script_text.specs.Script.{line_of, script_of}
 use Rattle.script_text.specs.Lines.{lines_of}
-use Rattle.session.specs.BoardHistories.{BoardCall, board_calls}
+use Rattle.session.specs.BoardHistories.{board_calls}
 use Rattle.session.specs.Histories.{RegCall, reg_calls, AllSettled}
 use Rattle.session.specs.Lines.{LineTurn, LinesTurn}
 use Rattle.session.specs.Piping.{EndTurn}

@@ -324,8 +324,7 @@ free-asked walk walk' n label place r r' b b' s stands posted paid closed legal 
     let turn : Turn = close_turn walk n label s.live s.live.pipe in
     let released = released-as walk n label s.live s.live.pipe paid in
     let done = asked walk walk' r r' (entry.Put 0 s.live.id) (Puts s.live.id) turn (said.Ok n ∷ []) stands grown refl refl tt refl released.asks (sym released.says) (leaves ∙ sym released.leaves)
-    (λ id. let a = uses-removed label walk.lives place id s in let u = ap (λ (w : Walk). uses id w.lives) leaves in omega (arith, a, u)) in
-    (
+    (λ id. let a = uses-removed label walk.lives place id s in let u = ap (λ (w : Walk). uses id w.lives) leaves in omega (arith, a, u)) in (
       turn,
       sym (ap (free_turn walk n label) s.found),
       done.0,
@@ -441,8 +440,7 @@ bind-got walk after n label len id spec plan pipe listed r r' b b' answer stands
     let turn : Turn = asking (Gets id true) (got_turn walk n label len id spec plan (pipelines b) true) in
     let done = asked walk after r r' (entry.Get 0 id true) (Gets id true) turn (answer ∷ []) stands (grown ∙ ap (λ t. r ++ entry.Get 0 id t ∷ []) held) refl refl tt refl
     (ap (λ cs. Gets id true ∷ cs) made.asks_none) (ap (λ a. a ∷ []) says ∙ sym made.says) (leaves ∙ sym made.leaves)
-    (λ k. let a = uses-append k walk.lives (new_live label id plan pipe) in let u = ap (λ (w : Walk). uses k w.lives) leaves in omega (arith, a, u)) in
-    (
+    (λ k. let a = uses-append k walk.lives (new_live label id plan pipe) in let u = ap (λ (w : Walk). uses k w.lives) leaves in omega (arith, a, u)) in (
       spec,
       true,
       pipelines b,
@@ -494,8 +492,7 @@ find-bound walk after n label name len id spec r r1 r2 b b' answers stands look 
     let same : binds.0 ≡ spec = some-is binds.0 spec (sym binds.3 ∙ at) in
     let done = binds.4 in
     let turn : Turn = done.0 in
-    let is : turn ≡ entry_turn walk n label len (Entry id spec) binds.1 binds.2 = done.1 ∙ ap (λ (s : Spec). entry_turn walk n label len (Entry id s) binds.1 binds.2) same in
-    (
+    let is : turn ≡ entry_turn walk n label len (Entry id spec) binds.1 binds.2 = done.1 ∙ ap (λ (s : Spec). entry_turn walk n label len (Entry id s) binds.1 binds.2) same in (
       Entry id spec,
       binds.1,
       binds.2,

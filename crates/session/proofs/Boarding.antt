@@ -152,8 +152,7 @@ pub done-with : (turn_of : Walk → Turn) (walk after : Walk) (label : List ℕ)
     → DoneOnBoard (λ turn. turn ≡ turn_of walk) b b' answers walk after
 done-with turn_of walk after label place s live' b b' asks answers posted done is =
     let changes = done.1 in
-    let turn : Turn = record { registry = []; board = done.0; answers = answers; after = counting (with_live walk live') asks } in
-    (
+    let turn : Turn = record { registry = []; board = done.0; answers = answers; after = counting (with_live walk live') asks } in (
       turn,
       sym (done.2 walk (found-by_own walk label place s) posted),
       refl,
@@ -189,8 +188,7 @@ on-board IsTurn walk after r b b' answers stands done =
 pub in-registry : (IsTurn : Turn → Type 0) (r r' : List RegEntry) (b : List (BoardEntry Ask)) (answers : List Answer) (after : Walk)
     → ((turn : Turn) → IsTurn turn → turn.board ≡ []) → Posted after b → DoneInRegistry IsTurn r r' answers after → Done IsTurn r r' b b answers after
 in-registry IsTurn r r' b answers after quiet posted done =
-    let none = quiet done.0 done.1 in
-    (
+    let none = quiet done.0 done.1 in (
       done.0,
       done.1,
       done.2,
@@ -260,21 +258,21 @@ bore-posted walk label id plan None pipe b b' posted legal bore =
     let live : Live = new_live label id plan pipe in
     let on : IsPipeOn b pipe = subst (IsPipeOn b) (sym bore.0) tt in
     subst (Posted (and_live walk live)) (sym bore.1) (
-      record {
-        legal = posted.legal;
-        pipes = All-append (IsOn b) walk.lives (live ∷ []) posted.pipes (All-one (IsOn b) live on);
-        apart = λ number.
-            (let all = owners-append number walk.lives (live ∷ []) in
-            let counted : Option Pipe → ℕ = λ p. cond (is_at number p) 1 0 in
-            let none : counted pipe ≡ 0 = ap counted bore.0 in
-            let few = posted.apart number in
-            let goal : owners number (walk.lives ++ live ∷ []) ≤ 1 = omega (arith, all, none, few) in
-            goal);
-        idle = posted.idle;
-        requests = posted.requests;
-        bytes = posted.bytes;
-        unshut = posted.unshut;
-      })
+    record {
+      legal = posted.legal;
+      pipes = All-append (IsOn b) walk.lives (live ∷ []) posted.pipes (All-one (IsOn b) live on);
+      apart = λ number.
+          (let all = owners-append number walk.lives (live ∷ []) in
+          let counted : Option Pipe → ℕ = λ p. cond (is_at number p) 1 0 in
+          let none : counted pipe ≡ 0 = ap counted bore.0 in
+          let few = posted.apart number in
+          let goal : owners number (walk.lives ++ live ∷ []) ≤ 1 = omega (arith, all, none, few) in
+          goal);
+      idle = posted.idle;
+      requests = posted.requests;
+      bytes = posted.bytes;
+      unshut = posted.unshut;
+    })
 bore-posted walk label id plan (Some shape) pipe b b' posted legal bore =
     let number = pipelines b in
     let e : BoardEntry Ask = event.Born 0 number shape in
@@ -352,30 +350,30 @@ remains walk label place s b b' pipe at posted closed = by_pipe pipe at closed
     by_pipe : (p : Option Pipe) → s.live.pipe ≡ p → Closed p b b' → Remains walk s.before s.later b'
     by_pipe None is c =
         subst (Remains walk s.before s.later) (sym c) (
-          record {
-            first = All-left (IsOn b) s.before (s.live ∷ s.later) were;
-            second = (All-tail (IsOn b) s.live s.later (All-right (IsOn b) s.before (s.live ∷ s.later) were));
-            free = few;
-            idle = posted.idle;
-            requests = posted.requests;
-            bytes = posted.bytes;
-            unshut = posted.unshut;
-          })
+        record {
+          first = All-left (IsOn b) s.before (s.live ∷ s.later) were;
+          second = (All-tail (IsOn b) s.live s.later (All-right (IsOn b) s.before (s.live ∷ s.later) were));
+          free = few;
+          idle = posted.idle;
+          requests = posted.requests;
+          bytes = posted.bytes;
+          unshut = posted.unshut;
+        })
     by_pipe (Some p) is c =
         let e : BoardEntry Ask = event.Close 0 p.number in
         let own : is_entry_of p.number e ≡ true = eq-eqb p.number p.number refl in
         let at_it : is_at p.number s.live.pipe ≡ true = ap (is_at p.number) is ∙ own in
         let alone = beside p.number s.before s.later s.live (subst (λ ls. owners p.number ls ≤ 1) s.lives_is (posted.apart p.number)) at_it in
         subst (Remains walk s.before s.later) (sym c) (
-          record {
-            first = entry-leaves_all b e p.number s.before own alone.0 (All-left (IsOn b) s.before (s.live ∷ s.later) were);
-            second = entry-leaves_all b e p.number s.later own alone.1 (All-tail (IsOn b) s.live s.later (All-right (IsOn b) s.before (s.live ∷ s.later) were));
-            free = few;
-            idle = stays_idle b e posted.idle refl;
-            requests = ap length (accepted-none b e refl) ∙ posted.requests;
-            bytes = ap (sum_by ask_size) (accepted-none b e refl) ∙ posted.bytes;
-            unshut = shut-same b e refl ∙ posted.unshut;
-          })
+        record {
+          first = entry-leaves_all b e p.number s.before own alone.0 (All-left (IsOn b) s.before (s.live ∷ s.later) were);
+          second = entry-leaves_all b e p.number s.later own alone.1 (All-tail (IsOn b) s.live s.later (All-right (IsOn b) s.before (s.live ∷ s.later) were));
+          free = few;
+          idle = stays_idle b e posted.idle refl;
+          requests = ap length (accepted-none b e refl) ∙ posted.requests;
+          bytes = ap (sum_by ask_size) (accepted-none b e refl) ∙ posted.bytes;
+          unshut = shut-same b e refl ∙ posted.unshut;
+        })
 
 pub closed-posted : (walk : Walk) (label : List ℕ) (place : ℕ) (s : Split label walk.lives 0 place) (b b' : List (BoardEntry Ask)) → Posted walk b → LegalBoard b' → Closed s.live.pipe b b' → Posted (without walk label) b'
 closed-posted walk label place s b b' posted legal closed =

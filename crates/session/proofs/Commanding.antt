@@ -73,8 +73,7 @@ own-all items given (Err stop) IsTurn walk walk' r b want stands posted is gives
 own-all items (Err stop) (Ok v) IsTurn walk walk' r b want stands posted is gives keeps quiet after one = absurd (let e = one.1 in cc)
 own-all items (Ok a) (Ok v) IsTurn walk walk' r b want stands posted is gives keeps quiet after one =
     let kept : (id : ℕ) → uses id walk.lives ≡ uses id walk'.lives = λ id. keeps id ∙ ap (λ (t : Turn). uses id t.after.lives) (sym gives) in
-    let done = unasked walk walk' r (answered walk' a) (items v) stands refl one.0 refl kept in
-    (
+    let done = unasked walk walk' r (answered walk' a) (items v) stands refl one.0 refl kept in (
       answered walk' a,
       subst IsTurn (sym gives) is,
       done.0,

@@ -30,14 +30,13 @@ use Rattle.session.specs.BoardHistories.{BoardCall, Collects, Goes, Shuts, board
 use Rattle.session.specs.declared.pipe.Pipe.{Pipe}
 use Rattle.session.specs.declared.pipe.PipeKind.{PipeKind}
 use Rattle.session.specs.declared.pipe.PipeKind.TheVariants as kind
-use Rattle.session.specs.Ending.{held_among, go_entry, MayDrain, AreServed, LetsGo, IsServedOn, DrainsLast, DrainsAll}
+use Rattle.session.specs.Ending.{held_among, go_entry, MayDrain, LetsGo, DrainsLast, DrainsAll}
 use Rattle.session.specs.Piping as piping
-use Rattle.session.specs.Standing.{Extends, IsOpenAs, IsPipeIn, IsPipeOn, Posted, is_at, owners}
+use Rattle.session.specs.Standing.{Extends, IsOpenAs, IsPipeIn, IsPipeOn, is_at, owners, Does, Posts}
 use Rattle.session.specs.Walk.{Walk, Live}
 use Rattle.alg_registry.specs.declared.entry.RegEntry.{RegEntry}
 use Rattle.reply_text.specs.Answers.{text_of}
 use Rattle.session.specs.Histories.{reg_calls}
-use Rattle.session.specs.Standing.{Does, Posts}
 use Rattle.session.specs.Turns.{Turn, text_in}
 use Rattle.session.proofs.Posting.{one-posted, worked-calls}
 
@@ -126,20 +125,6 @@ pub record LetsSomeGo (before later : List Live) (b b' : List (BoardEntry Ask)) 
   pub served : All (λ (live : Live). MayDrain b' live.pipe) before
   pub still : All (λ (live : Live). IsPipeOn b' live.pipe) later
   pub apart : (number : ℕ) → owners number later ≤ 1
-
-pub none-gone : (walk : Walk) (b : List (BoardEntry Ask)) → Posted walk b → LetsSomeGo [] walk.lives b b
-none-gone walk b posted = record {
-  is = sym (append-nil b);
-  legal = posted.legal;
-  idle = posted.idle;
-  unshut = posted.unshut;
-  served = All-nil (λ (live : Live). MayDrain b live.pipe);
-  still = posted.pipes;
-  apart = posted.apart;
-}
-
-pub all-gone : (walk : Walk) (b b' : List (BoardEntry Ask)) → LetsSomeGo walk.lives [] b b' → LetsGo walk b b'
-all-gone walk b b' s = (s.is, record { legal = s.legal; idle = s.idle; unshut = s.unshut; served = s.served })
 
 abbrev held_of : Option Pipe → Option ℕ
 held_of pipe = elim pipe [ Some pipe ↦ if pipe.held then Some pipe.number else None | None ↦ None ]
@@ -308,19 +293,6 @@ pub record DrainsSome (lives before : List Live) (b b' : List (BoardEntry Ask)) 
 pub extends-more : (b b' b'' : List (BoardEntry Ask)) → Extends b b' → Extends b' b'' → Extends b b''
 extends-more b b' b'' first later = (first.0 ++ later.0, later.1 ∙ (ap (λ h. h ++ later.0) first.1 ∙ append_assoc b first.0 later.0))
 
-pub none-drained : (walk : Walk) (b : List (BoardEntry Ask)) → AreServed walk b → DrainsSome walk.lives [] b b []
-none-drained walk b s = record {
-  endings = [];
-  places = refl;
-  goes_on = ([], sym (append-nil b));
-  called = sym (append-nil (board_calls 0 b));
-  said = refl;
-  legal = s.legal;
-  idle = s.idle;
-  unshut = s.unshut;
-  served = s.served;
-}
-
 one-drained : (lives before : List Live) (live : Live) (b b' b'' : List (BoardEntry Ask)) (answers answers' : List Answer) → DrainsSome lives before b b' answers → DrainsLast live b' b'' answers answers'
     → DrainsSome lives (before ++ live ∷ []) b b'' answers'
 one-drained lives before live b b' b'' answers answers' s d = record {
@@ -351,21 +323,6 @@ drained-at lives i live b b' b'' answers answers' within here s d =
     let done : take (suc i) lives ≡ take i lives ++ live ∷ [] = take-suc lives i live within ∙ ap (λ x. take i lives ++ x ∷ []) (sym here) in
     subst (λ n. DrainsSome lives (take n lives) b b'' answers') (sym on)
     (subst (λ before. DrainsSome lives before b b'' answers') (sym done) (one-drained lives (take i lives) live b b' b'' answers answers' s d))
-
-pub served-at : (lives before : List Live) (i : ℕ) (live : Live) (b b' : List (BoardEntry Ask)) (answers : List Answer) → i < length lives → live ≡ slice_index_or lives i live
-    → DrainsSome lives before b b' answers → IsServedOn b' live
-served-at lives before i live b b' answers within here s =
-    (s.legal, s.idle, subst (λ (l : Live). MayDrain b' l.pipe) (sym here) (s.served i live within))
-
-pub all-drained : (walk : Walk) (b b' : List (BoardEntry Ask)) (answers : List Answer) → DrainsSome walk.lives walk.lives b b' answers → DrainsAll walk b b' answers
-all-drained walk b b' answers s = record {
-  endings = s.endings;
-  places = s.places;
-  goes_on = s.goes_on;
-  called = s.called;
-  said = s.said;
-  unshut = s.unshut;
-}
 
 -- ---- the end
 

@@ -1,14 +1,12 @@
 -- What lines do with the pipeline of one transform, over plain histories.
-use Rattle.std.proofs.Common.{◌≡◌, ◌≢◌, ◌⊎◌, inl, inr, ℕ, ◌+◌, ◌<◌, ◌≤◌, ◌^◌, Bool, true, false, cond, List, [], ◌∷◌, ◌++◌, length, Option, Some, None, Result, Ok, Err, refl, sym, ap, subst, ◌∙◌, append_assoc, append-nil, length-append, add-zero, zero-add, arith}
-use Rattle.std.specs.Prelude.{◌==◌, ◌||◌, if◌then◌else◌, nat_lt, nat_le, sum_by, find, map, IfOk, MatchResult}
-use Rattle.std.specs.List.{filter_map}
+use Rattle.std.proofs.Common.{◌≡◌, ◌≢◌, inl, inr, ℕ, ◌+◌, ◌<◌, ◌≤◌, ◌^◌, Bool, true, false, cond, List, [], ◌∷◌, ◌++◌, length, Option, Some, None, Result, Ok, Err, refl, sym, ap, subst, ◌∙◌, append_assoc, append-nil, length-append, add-zero, zero-add, arith}
+use Rattle.std.specs.Prelude.{◌==◌, ◌||◌, nat_lt, nat_le, find, map, IfOk, MatchResult}
 use Rattle.std.specs.Arc.{arc_value}
 use Rattle.std.specs.declared.sync.Arc.{Arc}
 use Rattle.std.specs.declared.alloc.Global.{Global}
 use Rattle.std.specs.Option.{option_map}
-use Rattle.std.proofs.lemmas.Bool.Decides.{nat_tests}
 use Rattle.std.proofs.lemmas.Bool.{ltb-false, lt-leb, le-ltb, leb-false}
-use Rattle.std.proofs.lemmas.Bool.{eqb-true, eq-eqb}
+use Rattle.std.proofs.lemmas.Bool.{eq-eqb}
 use Rattle.board.specs.declared.entry.BoardEntry.{BoardEntry}
 use Rattle.board.specs.declared.entry.BoardEntry.TheVariants as event
 use Rattle.board.specs.Entries.{is_of, entries_of, accepted_in, taken_in, submissions, front, told, held_in, is_held, is_close, delivered}
@@ -16,13 +14,13 @@ use Rattle.board.specs.declared.entry.Entered.{Entered}
 use Rattle.board.specs.declared.entry.Entered.TheVariants as entered
 use Rattle.board.specs.Allowance.{IsAllowed, accepted_by, accepted_from}
 use Rattle.board.specs.Staying.{IsDrained}
-use Rattle.board.specs.Legal.{IsOpen, IsOpenPad, IsOpenQueue, MayManage, LegalBoard, is_shut_entry, is_shut}
-use Rattle.board.specs.Order.{handed_out, completed}
+use Rattle.board.specs.Legal.{IsOpen, LegalBoard}
+use Rattle.board.specs.Order.{completed}
 use Rattle.board.specs.Handing.{is_collect, completions}
 use Rattle.board.proofs.Transfer.{entries-more}
 use Rattle.board.proofs.PadOrder.{filter_map-none, filter_map-some}
 use Rattle.board.proofs.Kept.{only_of, not_shut, shut-same}
-use Rattle.board.proofs.Staying.{before_last, stays_open, queue_stays_open, stays_managed, stays_submitting, work_leaves, stays_held, holds}
+use Rattle.board.proofs.Staying.{stays_open, queue_stays_open, stays_managed, stays_submitting, work_leaves, stays_held, holds}
 use Rattle.board.proofs.Handing.{hands_nothing, collect_hands_out, most_handed_out, all_handed_out, leaves_others}
 use Rattle.pcrypt.specs.Working.{NoneRuns, IsServed, WorksFrom, WorkKeeps}
 use Rattle.pcrypt.proofs.Keeping.{work_keeps, work_shuts_nothing, works_none}
@@ -34,7 +32,6 @@ use Rattle.kc_base.specs.declared.callback_list.Callback.{Callback as Told}
 use Rattle.kc_base.specs.declared.error_numbers.Errno.{Errno}
 use Rattle.kc_base.specs.declared.error_numbers.Errno.TheVariants.{E2BIG, EBUSY, EINVAL, EINPROGRESS, ENOSPC}
 use Rattle.transforms.specs.declared.request.Finished.{Finished}
-use Rattle.transforms.specs.declared.request.Request.{Request}
 use Rattle.reply_text.specs.declared.answers.Answer.{Answer}
 use Rattle.reply_text.specs.declared.answers.Answer.TheVariants as said
 use Rattle.session.specs.declared.pipe.Pipe.{Pipe}
@@ -42,10 +39,10 @@ use Rattle.session.specs.declared.pipe.PipeKind.{PipeKind}
 use Rattle.session.specs.declared.pipe.PipeKind.TheVariants as kind
 use Rattle.session.specs.declared.piping.Taken.{Taken}
 use Rattle.session.specs.BoardHistories.{BoardCall, Submits, Enters, Collects, asked_by, board_call_of, board_calls, is_all_done, outcome}
-use Rattle.session.specs.Changing.{AreApart, Changes, IsTurnOf, DoneWith, MayDeliver, Rests, counting, delivering, held_as, with_line}
+use Rattle.session.specs.Changing.{Changes, DoneWith, MayDeliver, Rests, counting, delivering, held_as, with_line}
 use Rattle.session.specs.Offering.{asks_if, OffersTo, Offers, switch_entry}
-use Rattle.session.specs.Piping.{callback_said, hold_call, hold_live_turn, switch_turn, collect_turn, poll_live_turn, drain_live_turn, with_pipe}
-use Rattle.session.specs.Requesting.{accepting, entered_turn, is_too_big, piped_turn, taken_turn, value_said, value_of}
+use Rattle.session.specs.Piping.{callback_said, hold_call, hold_live_turn, switch_turn, collect_turn, poll_live_turn, drain_live_turn}
+use Rattle.session.specs.Requesting.{accepting, is_too_big, piped_turn, taken_turn, value_said, value_of}
 use Rattle.session.specs.Standing.{Extends, IsOpenAs, IsPipeIn, IsPipeOn, Posted, is_at}
 use Rattle.session.specs.Turns.{Turn, answered, posting, refused}
 use Rattle.session.specs.Walk.{Walk, Live, is_of as is_labelled, live_of, replaced, with_live}
@@ -233,15 +230,14 @@ collect-plain : (turn_of : Walk → Turn) (b h : List (BoardEntry Ask)) (live : 
     → WorksFrom 0 b h → IsPipeIn (entries_of pipe.number h) pipe → Some pipe ≡ live.pipe → LegalBoard (h ++ event.Collect 0 pipe.number to ∷ []) → NoneRuns (h ++ event.Collect 0 pipe.number to ∷ [])
     → ((walk : Walk) → turn_of walk ≡ collect_turn walk live pipe (delivered outcome (entries_of pipe.number h) to) (is_all_done (entries_of pipe.number h)) end)
     → DoneWith turn_of live (record live { pipe = Some (record pipe { delivered = pipe.delivered + completions (delivered outcome (entries_of pipe.number h) to) }) }) b (h ++ event.Collect 0 pipe.number to ∷ []) []
-      (map (callback_said pipe.lines) (delivered outcome (entries_of pipe.number h) to) ++ end ∷ [])
+    (map (callback_said pipe.lines) (delivered outcome (entries_of pipe.number h) to) ++ end ∷ [])
 collect-plain turn_of b h live pipe to end works on has legal idle is =
     let es : List (BoardEntry Ask) = entries_of pipe.number h in
     let e : BoardEntry Ask = event.Collect 0 pipe.number to in
     let given : List (Told Finished) = delivered outcome es to in
     let pipe' : Pipe = record pipe { delivered = pipe.delivered + completions given } in
     let call : BoardCall = Collects pipe.number given (is_all_done es) in
-    let one = changes-one h e live pipe pipe' call [] (sym has) refl (collect-entry pipe.number to) legal idle refl (accepted-none h e refl ∙ sym (append-nil (accepted_by 0 h))) (pipe-collected h pipe to legal on) in
-    (
+    let one = changes-one h e live pipe pipe' call [] (sym has) refl (collect-entry pipe.number to) legal idle refl (accepted-none h e refl ∙ sym (append-nil (accepted_by 0 h))) (pipe-collected h pipe to legal on) in (
       call ∷ [],
       changes-after-work b h (h ++ e ∷ []) live (record live { pipe = Some pipe' }) (call ∷ []) [] works one,
       λ walk found posted. is walk ∙ ap (turn_with (call ∷ []) (map (callback_said pipe.lines) given ++ end ∷ [])) (sym (counting-none (with_live walk (record live { pipe = Some pipe' })))),
@@ -265,7 +261,7 @@ collect-done turn_of b h b' live live' pipe count end callbacks answers works re
     let live-is : live' ≡ record live { pipe = Some (record pipe { delivered = pipe.delivered + completions given }) } = delivers ∙ (ap (delivering live) many ∙ delivered-live live pipe (completions given) has) in
     let says-is : answers ≡ map (callback_said pipe.lines) given ++ end ∷ [] = says ∙ ap (λ (cs : List (Told Finished)). map (callback_said pipe.lines) cs ++ end ∷ []) handed in
     let plain = collect-plain turn_of b h live pipe to end works (pipe-worked b h pipe works (on-pipe b live pipe rests has)) has (subst LegalBoard grown legal) (subst NoneRuns grown idle)
-        (λ walk. is walk ∙ ap (λ (cs : List (Told Finished)). collect_turn walk live pipe cs (is_all_done (entries_of pipe.number h)) end) handed) in
+    (λ walk. is walk ∙ ap (λ (cs : List (Told Finished)). collect_turn walk live pipe cs (is_all_done (entries_of pipe.number h)) end) handed) in
     subst (λ l. DoneWith turn_of live l b b' [] answers) (sym live-is)
     (subst (λ x. DoneWith turn_of live (record live { pipe = Some (record pipe { delivered = pipe.delivered + completions given }) }) b x [] answers) (sym grown)
     (subst (λ xs. DoneWith turn_of live (record live { pipe = Some (record pipe { delivered = pipe.delivered + completions given }) }) b after [] xs) (sym says-is) plain))
@@ -323,7 +319,7 @@ pub drain-held : (b : List (BoardEntry Ask)) (live : Live) (pipe : Pipe) (line :
 drain-held b live pipe line answers rests has held says = (
   [],
   said-none (λ walk. drain_live_turn walk line [] live live.pipe) live b (said.Refused line EINVAL) answers rests says
-  (λ walk posted. ap (drain_live_turn walk line [] live) (sym has) ∙ ap (λ h. cond h (refused walk line EINVAL) (collect_turn walk live pipe [] true (said.Drained line (completions {O = Finished} [])))) held),
+      (λ walk posted. ap (drain_live_turn walk line [] live) (sym has) ∙ ap (λ h. cond h (refused walk line EINVAL) (collect_turn walk live pipe [] true (said.Drained line (completions {O = Finished} [])))) held),
 )
 
 pub poll-done : (b b' : List (BoardEntry Ask)) (live live' : Live) (pipe : Pipe) (line count : ℕ) (callbacks : List (Told Finished)) (answers : List Answer)
@@ -333,12 +329,11 @@ pub poll-done : (b b' : List (BoardEntry Ask)) (live live' : Live) (pipe : Pipe)
     → (cs : List (Told Finished)) × (all_done : Bool) × DoneWith (λ walk. poll_live_turn walk line cs all_done live live.pipe) live live' b b' [] answers
 poll-done b b' live live' pipe line count callbacks answers rests has grown legal handed counts delivers says =
     let all : Bool = is_all_done (entries_of pipe.number b) in
-    let idle : NoneRuns b' = subst NoneRuns (sym grown) (stays_idle b (event.Collect 0 pipe.number (length (told (entries_of pipe.number b)))) rests.idle refl) in
-    (
+    let idle : NoneRuns b' = subst NoneRuns (sym grown) (stays_idle b (event.Collect 0 pipe.number (length (told (entries_of pipe.number b)))) rests.idle refl) in (
       callbacks,
       all,
       collect-done (λ walk. poll_live_turn walk line callbacks all live live.pipe) b b b' live live' pipe count (said.Polled line count) callbacks answers (works_none 0 b) rests has grown legal idle handed counts delivers says
-      (λ walk. ap (poll_live_turn walk line callbacks all live) (sym has) ∙ ap (λ n. collect_turn walk live pipe callbacks all (said.Polled line n)) (sym counts)),
+          (λ walk. ap (poll_live_turn walk line callbacks all live) (sym has) ∙ ap (λ n. collect_turn walk live pipe callbacks all (said.Polled line n)) (sym counts)),
     )
 
 pub drain-done : (b h b' : List (BoardEntry Ask)) (live live' : Live) (pipe : Pipe) (line count : ℕ) (callbacks : List (Told Finished)) (answers : List Answer)
@@ -348,13 +343,12 @@ pub drain-done : (b h b' : List (BoardEntry Ask)) (live live' : Live) (pipe : Pi
     → answers ≡ map (callback_said pipe.lines) callbacks ++ said.Drained line count ∷ []
     → (cs : List (Told Finished)) × DoneWith (λ walk. drain_live_turn walk line cs live live.pipe) live live' b b' [] answers
 drain-done b h b' live live' pipe line count callbacks answers works all-done free rests has grown legal idle handed counts delivers says =
-    let all : is_all_done (entries_of pipe.number h) ≡ true = eq-eqb (front (entries_of pipe.number h)) (length (submissions (entries_of pipe.number h))) all-done in
-    (
+    let all : is_all_done (entries_of pipe.number h) ≡ true = eq-eqb (front (entries_of pipe.number h)) (length (submissions (entries_of pipe.number h))) all-done in (
       callbacks,
       collect-done (λ walk. drain_live_turn walk line callbacks live live.pipe) b h b' live live' pipe count (said.Drained line count) callbacks answers works rests has grown legal idle handed counts delivers says
-      (λ walk. ap (drain_live_turn walk line callbacks live) (sym has)
-        ∙ (ap (λ held. cond held (refused walk line EINVAL) (collect_turn walk live pipe callbacks true (said.Drained line (completions callbacks)))) free
-        ∙ (ap (λ n. collect_turn walk live pipe callbacks true (said.Drained line n)) (sym counts) ∙ ap (λ done. collect_turn walk live pipe callbacks done (said.Drained line count)) (sym all)))),
+          (λ walk. ap (drain_live_turn walk line callbacks live) (sym has)
+          ∙ (ap (λ held. cond held (refused walk line EINVAL) (collect_turn walk live pipe callbacks true (said.Drained line (completions callbacks)))) free
+          ∙ (ap (λ n. collect_turn walk live pipe callbacks true (said.Drained line n)) (sym counts) ∙ ap (λ done. collect_turn walk live pipe callbacks done (said.Drained line count)) (sym all)))),
     )
 
 -- ---- a queue is held, or let go
@@ -388,13 +382,12 @@ switch-plain b live pipe line held rests has queue legal =
     let pipe' : Pipe = record pipe { held = held } in
     let call : BoardCall = hold_call held pipe.number in
     let none = switch_accepts_nothing held pipe.number in
-    let idle : NoneRuns (b ++ e ∷ []) = stays_idle b e rests.idle is.takes in
-    (
+    let idle : NoneRuns (b ++ e ∷ []) = stays_idle b e rests.idle is.takes in (
       call ∷ [],
       changes-one b e live pipe pipe' call [] (sym has) refl is legal idle (switch_calls held pipe.number b) (accepted-none b e none ∙ sym (append-nil (accepted_by 0 b)))
-      (pipe-switched b e pipe is (on-pipe b live pipe rests has) held none (switch_hands_nothing held pipe.number) (switch_holds held pipe.number b)),
+          (pipe-switched b e pipe is (on-pipe b live pipe rests has) held none (switch_hands_nothing held pipe.number) (switch_holds held pipe.number b)),
       λ walk found posted. ap (hold_live_turn walk line held live) (sym has)
-        ∙ (ap (switch_turn walk line held live pipe) queue ∙ ap (turn_with (call ∷ []) (said.Ok line ∷ [])) (sym (counting-none (with_live walk (record live { pipe = Some pipe' }))))),
+          ∙ (ap (switch_turn walk line held live pipe) queue ∙ ap (turn_with (call ∷ []) (said.Ok line ∷ [])) (sym (counting-none (with_live walk (record live { pipe = Some pipe' }))))),
     )
 
 pub switch-done : (b b' : List (BoardEntry Ask)) (live live' : Live) (pipe : Pipe) (line : ℕ) (held : Bool)
@@ -469,7 +462,7 @@ take-none b live line ask backlog answer rests none says = (
   0,
   entered.NoSpace,
   said-none (take_turn line live ask backlog 0 entered.NoSpace) live b (value_said line (value_of (asked_by ask))) (answer ∷ []) rests (ap (λ x. x ∷ []) says)
-  (λ walk posted. ap (taken_turn walk line live (asked_by ask) backlog 0 entered.NoSpace) (sym none)),
+      (λ walk posted. ap (taken_turn walk line live (asked_by ask) backlog 0 entered.NoSpace) (sym none)),
 )
 
 -- the allowance has no room for it
@@ -479,8 +472,8 @@ take-big b live pipe line ask backlog answer rests has never says = (
   0,
   entered.NoSpace,
   said-none (take_turn line live ask backlog 0 entered.NoSpace) live b (said.Refused line E2BIG) (answer ∷ []) rests (ap (λ x. x ∷ []) says)
-  (λ walk posted. ap (taken_turn walk line live (asked_by ask) backlog 0 entered.NoSpace) (sym has)
-    ∙ ap (λ t. cond t (refused walk line E2BIG) (piped_turn walk line live pipe (asked_by ask) backlog 0 entered.NoSpace pipe.kind)) (big walk b ask posted never)),
+      (λ walk posted. ap (taken_turn walk line live (asked_by ask) backlog 0 entered.NoSpace) (sym has)
+      ∙ ap (λ t. cond t (refused walk line E2BIG) (piped_turn walk line live pipe (asked_by ask) backlog 0 entered.NoSpace pipe.kind)) (big walk b ask posted never)),
 )
 
 -- what the turn is where the allowance has room
@@ -508,8 +501,7 @@ accept-plain : (turn_of : Walk → Turn) (b : List (BoardEntry Ask)) (e : BoardE
     → DoneWith turn_of live (record live { pipe = Some (record pipe { lines = pipe.lines ++ line ∷ [] }) }) b (b ++ e ∷ []) (ask ∷ []) (said.Refused line errno ∷ [])
 accept-plain turn_of b e live pipe ask line call errno rests has a legal calls is =
     let pipe' : Pipe = record pipe { lines = pipe.lines ++ line ∷ [] } in
-    let idle : NoneRuns (b ++ e ∷ []) = stays_idle b e rests.idle a.is.takes in
-    (
+    let idle : NoneRuns (b ++ e ∷ []) = stays_idle b e rests.idle a.is.takes in (
       call ∷ [],
       changes-one b e live pipe pipe' call (ask ∷ []) (sym has) refl a.is legal idle calls (accepted-more b e ask a.from) (pipe-accepts b e pipe a.is (on-pipe b live pipe rests has) ask line a.accepts a.hands a.holds),
       λ walk found posted. is walk posted ∙ ap (turn_with (call ∷ []) (said.Refused line errno ∷ [])) (accepting-counts walk line live pipe ask),
@@ -543,15 +535,15 @@ progress-offered b b' live live' pipe line given asked backlog answer ask kind.P
       number,
       entered.InProgress given,
       accept-done (take_turn line live asked backlog number (entered.InProgress given)) b b' (event.Submit 0 pipe.number number ask) live live' pipe asked line (Submits pipe.number number (asked_by asked)) EINPROGRESS answer
-      rests has (submit-entry pipe.number number ask asked same) legal offered.2 lined says (ap (λ a. Some (Submits pipe.number number (asked_by a))) same)
-      (λ walk posted. roomy b live pipe line asked backlog number (entered.InProgress given) kind.Pad walk has is allowed posted),
+          rests has (submit-entry pipe.number number ask asked same) legal offered.2 lined says (ap (λ a. Some (Submits pipe.number number (asked_by a))) same)
+          (λ walk posted. roomy b live pipe line asked backlog number (entered.InProgress given) kind.Pad walk has is allowed posted),
     )
 progress-offered b b' live live' pipe line given asked backlog answer ask kind.Queue is same rests has allowed legal lined says offered = (
   0,
   entered.InProgress given,
   accept-done (take_turn line live asked backlog 0 (entered.InProgress given)) b b' (event.Enq 0 pipe.number ask backlog (entered.InProgress given)) live live' pipe asked line (Enters pipe.number (asked_by asked) backlog (entered.InProgress given)) EINPROGRESS answer
-  rests has (progress-entry pipe.number given ask asked backlog same) legal offered lined says (ap (λ a. Some (Enters pipe.number (asked_by a) backlog (entered.InProgress given))) same)
-  (λ walk posted. roomy b live pipe line asked backlog 0 (entered.InProgress given) kind.Queue walk has is allowed posted),
+      rests has (progress-entry pipe.number given ask asked backlog same) legal offered lined says (ap (λ a. Some (Enters pipe.number (asked_by a) backlog (entered.InProgress given))) same)
+      (λ walk posted. roomy b live pipe line asked backlog 0 (entered.InProgress given) kind.Queue walk has is allowed posted),
 )
 
 -- a pad or a queue has it in progress
@@ -569,8 +561,8 @@ busy-offered b b' live live' pipe line given asked backlog answer ask kind.Queue
   0,
   entered.Busy given,
   accept-done (take_turn line live asked backlog 0 (entered.Busy given)) b b' (event.Enq 0 pipe.number ask backlog (entered.Busy given)) live live' pipe asked line (Enters pipe.number (asked_by asked) backlog (entered.Busy given)) EBUSY answer
-  rests has (busy-entry pipe.number given ask asked backlog same) legal offered lined says (ap (λ a. Some (Enters pipe.number (asked_by a) backlog (entered.Busy given))) same)
-  (λ walk posted. roomy b live pipe line asked backlog 0 (entered.Busy given) kind.Queue walk has is allowed posted),
+      rests has (busy-entry pipe.number given ask asked backlog same) legal offered lined says (ap (λ a. Some (Enters pipe.number (asked_by a) backlog (entered.Busy given))) same)
+      (λ walk posted. roomy b live pipe line asked backlog 0 (entered.Busy given) kind.Queue walk has is allowed posted),
 )
 
 -- a queue has it in its backlog
@@ -592,14 +584,13 @@ full-offered b b' live pipe line asked backlog answer ask kind.Queue is same res
     let all : LegalBoard (b ++ e ∷ []) = subst LegalBoard offered legal in
     let same-live : record live { pipe = Some pipe } ≡ live = ap (λ o. record live { pipe = o }) has in
     let one : Changes live (record live { pipe = Some pipe }) b (b ++ e ∷ []) (call ∷ []) [] =
-        changes-one b e live pipe pipe call [] (sym has) refl own all (stays_idle b e rests.idle refl) (ap (λ a. Some (Enters pipe.number (asked_by a) backlog entered.NoSpace)) same) (accepted-none b e refl ∙ sym (append-nil (accepted_by 0 b)))
-        (pipe-stays b e pipe own (on-pipe b live pipe rests has) refl refl refl) in
+    changes-one b e live pipe pipe call [] (sym has) refl own all (stays_idle b e rests.idle refl) (ap (λ a. Some (Enters pipe.number (asked_by a) backlog entered.NoSpace)) same) (accepted-none b e refl ∙ sym (append-nil (accepted_by 0 b)))
+    (pipe-stays b e pipe own (on-pipe b live pipe rests has) refl refl refl) in
     let done : DoneWith turn_of live live b (b ++ e ∷ []) [] (said.Refused line ENOSPC ∷ []) = (
       call ∷ [],
       subst (λ l. Changes live l b (b ++ e ∷ []) (call ∷ []) []) same-live one,
       λ walk found posted. roomy b live pipe line asked backlog 0 entered.NoSpace kind.Queue walk has is allowed posted ∙ ap (turn_with (call ∷ []) (said.Refused line ENOSPC ∷ [])) (sym (kept-live walk live found)),
-    ) in
-    (
+    ) in (
       0,
       entered.NoSpace,
       subst (λ x. DoneWith turn_of live live b x [] (answer ∷ [])) (sym offered) (subst (λ x. DoneWith turn_of live live b (b ++ e ∷ []) [] (x ∷ [])) (sym says) done),

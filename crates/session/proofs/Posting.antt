@@ -1,9 +1,8 @@
 -- The calls of a script on a board, as the board's history grows.
-use Rattle.std.proofs.Common.{◌≡◌, ℕ, ◌+◌, Bool, true, false, ◌&&◌, List, [], ◌∷◌, ◌++◌, length, Option, Some, None, refl, sym, ap, subst, ◌∙◌, append_assoc, append-nil, arith}
-use Rattle.std.specs.Prelude.{◌==◌, if◌then◌else◌, sum_by}
+use Rattle.std.proofs.Common.{◌≡◌, ℕ, ◌+◌, Bool, true, false, ◌&&◌, List, [], ◌∷◌, ◌++◌, Option, Some, None, refl, sym, ap, ◌∙◌, append_assoc, append-nil}
+use Rattle.std.specs.Prelude.{◌==◌, if◌then◌else◌}
 use Rattle.std.specs.List.{list_all, filter_map, cons_option}
 use Rattle.std.proofs.lemmas.List.Elements.{filter_map-append}
-use Rattle.std.proofs.lemmas.List.Sums.{sum_by-append}
 use Rattle.board.specs.declared.entry.BoardEntry.{BoardEntry}
 use Rattle.board.specs.declared.entry.BoardEntry.TheVariants as event
 use Rattle.board.specs.Entries.{accepted_in, caller_of}
@@ -11,7 +10,6 @@ use Rattle.board.specs.Allowance.{accepted_from, accepted_by}
 use Rattle.board.specs.Staying.{is_work}
 use Rattle.pcrypt.specs.Working.{is_work_by, WorksFrom}
 use Rattle.transforms.specs.declared.ask.Ask.{Ask}
-use Rattle.transforms.specs.AskValue.{ask_size}
 use Rattle.session.specs.Histories.{prepend}
 use Rattle.session.specs.BoardHistories.{BoardCall, board_call_of, board_calls_from, board_calls}
 use Rattle.session.specs.Standing.{Extends}

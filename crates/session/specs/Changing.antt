@@ -47,7 +47,6 @@ abbrev pub DoneWith : (Walk → Turn) → Live → Live → List (BoardEntry Ask
 DoneWith turn_of live live' b b' asks answers =
     (calls : List BoardCall) × Changes live live' b b' calls asks × IsTurnOf turn_of live live' b calls asks answers
 
-
 -- The board may be asked for the transform's pipeline, and nobody is at a job.
 pub record Rests (b : List (BoardEntry Ask)) (live : Live) : Type 0 where
   pub legal : LegalBoard b

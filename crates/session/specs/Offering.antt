@@ -6,7 +6,7 @@ use Rattle.std.specs.declared.alloc.Global.{Global}
 use Rattle.board.specs.declared.entry.BoardEntry.{BoardEntry}
 use Rattle.board.specs.declared.entry.BoardEntry.TheVariants.{Born, Submit, Enq, Hold, Go, Close}
 use Rattle.board.specs.declared.entry.Entered.{Entered}
-use Rattle.board.specs.declared.entry.Entered.TheVariants.{InProgress, Busy, NoSpace}
+use Rattle.board.specs.declared.entry.Entered.TheVariants.{InProgress}
 use Rattle.board.specs.declared.entry.Shape.{Shape}
 use Rattle.board.specs.Legal.{pipelines}
 use Rattle.transforms.specs.declared.ask.Ask.{Ask}

@@ -120,8 +120,8 @@ abbrev pub EndTurn : Walk → Turn → Type 0
 EndTurn walk turn =
     (endings : List Ending) × (map place_of endings ≡ filter_map piped walk.lives)
     × (turn ≡ record {
-        registry = [];
-        board = map goes_for (filter_map held_in walk.lives) ++ map collects_at endings ++ Shuts ∷ [];
-        answers = flat_map ending_said endings;
-        after = walk;
-      })
+      registry = [];
+      board = map goes_for (filter_map held_in walk.lives) ++ map collects_at endings ++ Shuts ∷ [];
+      answers = flat_map ending_said endings;
+      after = walk;
+    })

@@ -460,7 +460,10 @@ impl Session {
             (λ _. Extends board.old board.new) }
     {
         let request = request_with(self.alloc, dir, iv, associated, text)?;
-        one(self.alloc, self.request(board, number, label, request, backlog))
+        one(
+            self.alloc,
+            self.request(board, number, label, request, backlog),
+        )
     }
 
     // A command's answers.

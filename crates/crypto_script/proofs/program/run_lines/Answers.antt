@@ -1,6 +1,6 @@
 use Rattle.std.proofs.lemmas.Bool.Decides.{nat_tests}
 use Rattle.std.specs.Prelude.{◌==◌}
-use Rattle.std.proofs.Common.{true, ℕ, List, ◌≡◌, ◌||◌, ap, sym, subst, ◌∙◌, arith, length}
+use Rattle.std.proofs.Common.{true, ℕ, List, ◌≡◌, ◌||◌, ap, sym, ◌∙◌, arith, length}
 use Rattle.std.proofs.lemmas.Result.{err_from_is_err_and}
 use Rattle.std.specs.List.{list_any}
 use Rattle.script_text.specs.Script.{script_of}

@@ -72,4 +72,3 @@ returns-in-Poll c = subst (λ cmd. MatchResult c.poll.result (λ v. Done (Comman
 
 pub returns-in-Drain : goal.returns-in-Drain
 returns-in-Drain c = subst (λ cmd. MatchResult c.drain.result (λ v. Done (CommandTurn c.args.self.now c.args.number cmd) c.args.registry.now c.args.registry.now c.args.board.now c.drain.new.board v.items c.drain.new.self) (λ _. Stops c.args.registry.now c.args.registry.now × Extends c.args.board.now c.drain.new.board)) (sym c.in-Drain.is) (board-all (λ v. v.items) c.drain.result (CommandTurn c.args.self.now c.args.number (command.Drain c.in-Drain.label)) c.args.self.now c.drain.new.self c.args.registry.now c.args.board.now c.drain.new.board c.requires.stands c.drain.ensures)
-

@@ -38,4 +38,4 @@ pub returns-in-None : goal.returns-in-None
 returns-in-None c =
     let none = no-live c.args.self.now c.self.inside.lives.items c.deref.result.now c.args.label.now c.as_slice.result.now c.self.view_is c.in-None.ensures c.as_slice.ensures c.deref.ensures.value in
     one-alone (λ v. v.items) (Ok c.refuse.result) c.one.result (CommandTurn c.args.self.now c.args.number (Poll c.args.label.now)) c.args.self.now c.args.board.now (Refused c.args.number ENOENT) c.requires
-    ([], true,  sym (ap (poll_turn c.args.self.now c.args.number [] true) none)) c.refuse.ensures c.one.ensures
+    ([], true, sym (ap (poll_turn c.args.self.now c.args.number [] true) none)) c.refuse.ensures c.one.ensures
