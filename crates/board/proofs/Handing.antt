@@ -1,5 +1,5 @@
-use Rattle.std.proofs.Common.{◌≡◌, ℕ, zero, suc, ◌+◌, ◌<◌, ◌≤◌, Bool, true, false, cond, ◌||◌, List, [], ◌∷◌, ◌++◌, length, map, take, drop, Option, Some, None, is_some, refl, sym, ◌∙◌, ap, subst, arith, append-nil, append_assoc, length-append, inl, inr, ◌⊎◌}
-use Rattle.std.specs.Prelude.{◌==◌, slice_get}
+use Rattle.std.proofs.Common.{zero-add, ◌≡◌, ℕ, zero, suc, ◌+◌, ◌<◌, ◌≤◌, Bool, true, false, cond, ◌||◌, List, [], ◌∷◌, ◌++◌, length, map, take, drop, Option, Some, None, is_some, refl, sym, ◌∙◌, ap, subst, arith, append-nil, append_assoc, length-append, inl, inr, ◌⊎◌}
+use Rattle.std.specs.Prelude.{◌==◌, slice_get, if◌then◌else◌}
 use Rattle.std.specs.List.{filter_map}
 use Rattle.std.proofs.lemmas.Bool.{eq-eqb, or_left, or_right, or_cases, cases_lt}
 use Rattle.std.proofs.lemmas.List.{take-append-le}
@@ -12,7 +12,7 @@ use Rattle.board.specs.Entries.{Notice, Starts, Completes, is_of, entries_of, bi
 use Rattle.board.specs.Legal.{IsRightFor, IsOpen}
 use Rattle.board.specs.Order.{handed_in, handed_after, handed_out, AreRightForAfter, completed_in, completed, numbers_below}
 use Rattle.board.specs.Staying.{Joins, LeavesOthers, BeginsAlone, IsDrained}
-use Rattle.board.specs.Handing.{is_collect, HandsNothing, HandsOutAtMost, completions, CollectHandsOut, AllHandedOutIsDrained}
+use Rattle.board.specs.Handing.{is_collect, HandsNothing, HandsOutAtMost, FrontIsAll, completions, CollectHandsOut, AllHandedOutIsDrained}
 use Rattle.board.proofs.Transfer.{right_for, entries-more, entries-same, each_right}
 use Rattle.board.proofs.PadOrder.{filter_map-none, filter_map-some, birth_stays, told_on_pad, length-completes, orderly_start, orderly_run, unbroken-all}
 use Rattle.board.proofs.QueueOrder.{not_both, queue_is_born, pad_is_born, maker_born, told_on_queue, length-numbers, has_only_below, has_below, queue_served, served_run, served_start}
@@ -275,3 +275,23 @@ leaves_others h e p s = entries-same h p e s
 
 pub begins_alone : {A : Type 0} (h : List (BoardEntry A)) (caller p : ℕ) (shape : Shape) → BeginsAlone h caller p shape
 begins_alone h caller p shape legal = (last_right [] h (Born caller p shape) legal).1.1
+
+-- ---- where the front is at all submissions
+
+step-has : (ns : List ℕ) (n k many : ℕ) (b : Bool) → (if b then suc k else 0) ≡ suc many → (b ≡ true) × (k ≡ many)
+step-has ns n k many true e = (refl, omega (arith, e))
+step-has ns n k many false e = absurd (omega (arith, e))
+
+all-unbroken : (ns : List ℕ) (n many i : ℕ) → unbroken ns n many ≡ many → i < many → has (n + i) ns ≡ true
+all-unbroken ns n zero i e l = absurd (omega (arith, l))
+all-unbroken ns n (suc many) zero e l =
+    let first = step-has ns n (unbroken ns (suc n) many) many (has n ns) e in
+    let same : n + zero ≡ n = omega arith in
+    ap (λ m. has m ns) same ∙ first.0
+all-unbroken ns n (suc many) (suc i) e l =
+    let first = step-has ns n (unbroken ns (suc n) many) many (has n ns) e in
+    let same : n + suc i ≡ suc n + i = omega arith in
+    ap (λ m. has m ns) same ∙ all-unbroken ns (suc n) many i first.1 (omega (arith, l))
+
+pub front_is_all : {A : Type 0} (es : List (BoardEntry A)) → FrontIsAll es
+front_is_all es e n l = subst (λ m. has m (finished es) ≡ true) (zero-add n) (all-unbroken (finished es) 0 (length (submissions es)) n e l)

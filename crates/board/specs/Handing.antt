@@ -4,9 +4,9 @@ use Rattle.kc_base.specs.declared.callback_list.Callback.{Callback}
 use Rattle.kc_base.specs.declared.callback_list.Callback.TheVariants.{Started, Done}
 use Rattle.board.specs.declared.entry.BoardEntry.{BoardEntry}
 use Rattle.board.specs.declared.entry.BoardEntry.TheVariants.{Collect}
-use Rattle.board.specs.Entries.{entries_of, submissions, delivered}
+use Rattle.board.specs.Entries.{entries_of, submissions, front, delivered}
 use Rattle.board.specs.Legal.{IsOpen, LegalBoard}
-use Rattle.board.specs.Order.{handed_out, completed}
+use Rattle.board.specs.Order.{handed_out, completed, AreAllFinished}
 use Rattle.board.specs.Staying.{IsDrained}
 
 abbrev pub is_collect : {A : Type 0} → BoardEntry A → Bool
@@ -42,3 +42,7 @@ abbrev pub AllHandedOutIsDrained : {A : Type 0} → List (BoardEntry A) → ℕ 
 AllHandedOutIsDrained h p =
     LegalBoard h → IsOpen (entries_of p h)
     → length (completed (handed_out (entries_of p h))) ≡ length (submissions (entries_of p h)) → IsDrained (entries_of p h)
+
+-- where the front is at all submissions, each request is finished
+abbrev pub FrontIsAll : {A : Type 0} → List (BoardEntry A) → Type 0
+FrontIsAll es = front es ≡ length (submissions es) → AreAllFinished es

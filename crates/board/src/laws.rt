@@ -13,7 +13,7 @@ ghost use Rattle.board.specs.Entries.{Starts, Completes, told, entries_of, deliv
 ghost use Rattle.board.specs.Legal.{IsRight, LegalBoard};
 ghost use Rattle.board.specs.Order.{PadsKeepOrder, PadsWaitForEach, PadsHandOutAll, QueuesKeepOrder, QueuesHandOutTold, QueuesCompleteInOrder, QueuesHandOutAll, StartsBackloggedAlone, StartsEachOnce, StartsBeforeCompletion};
 ghost use Rattle.board.specs.Staying.{Joins, LeavesOthers, BeginsAlone, OpensPad, OpensQueue, StaysOpen, QueueStaysOpen, StaysManaged, StaysSubmitting, BornServed, Holds, StaysHeld, SlipStays, CollectDrains, WorkLeaves, TakingIsWork, FinishingIsWork};
-ghost use Rattle.board.specs.Handing.{HandsNothing, HandsOutAtMost, CollectHandsOut, AllHandedOutIsDrained};
+ghost use Rattle.board.specs.Handing.{HandsNothing, HandsOutAtMost, FrontIsAll, CollectHandsOut, AllHandedOutIsDrained};
 ghost use Rattle.board.specs.Examples.{held_requests, held_queue, second_first};
 
 /// In every legal history a pad hands out the completions of its requests in their order, each once, however its jobs were
@@ -77,6 +77,12 @@ pub fn only_collects_hand_out<A>()
     ensures nothing { (h : List (BoardEntry A)) (e : BoardEntry A) (p : ℕ) → HandsNothing h e p }
     ensures most { (h : List (BoardEntry A)) (p : ℕ) → HandsOutAtMost h p }
     ensures drained { (h : List (BoardEntry A)) (p : ℕ) → AllHandedOutIsDrained h p }
+{}
+
+/// Where the front of a pipeline is at all of its submissions, as after a drain, each of its requests is finished: what
+/// `pads_keep_order` and `queues_keep_order` ask for, so that a collect hands out all completions.
+pub fn fronts_tell_all<A>()
+    ensures { (es : List (BoardEntry A)) → FrontIsAll es }
 {}
 
 /// A collect hands out as many completions as are among the callbacks that it delivers.
