@@ -15,11 +15,11 @@ use Rattle.alg_registry.specs.Room.{opens, closes, owed}
 use Rattle.alg_registry.proofs.Steps.{count_by-push, bit}
 
 -- a taking, or a giving back, that the test of caller and id passes
-abbrev gets_where : (ℕ → ℕ → Bool) → RegEntry → Bool
+abbrev pub gets_where : (ℕ → ℕ → Bool) → RegEntry → Bool
 gets_where p (Get caller id ok) = ok && p caller id
 gets_where p _ = false
 
-abbrev puts_where : (ℕ → ℕ → Bool) → RegEntry → Bool
+abbrev pub puts_where : (ℕ → ℕ → Bool) → RegEntry → Bool
 puts_where p (Put caller id) = p caller id
 puts_where p _ = false
 
@@ -31,14 +31,14 @@ abbrev ends_where : (ℕ → Bool) → RegEntry → Bool
 ends_where q (End caller larval answer) = q larval
 ends_where q _ = false
 
-count_cons : (p : RegEntry → Bool) (e : RegEntry) (h : List RegEntry) → count_by p (e ∷ h) ≡ bit (p e) + count_by p h
+pub count_cons : (p : RegEntry → Bool) (e : RegEntry) (h : List RegEntry) → count_by p (e ∷ h) ≡ bit (p e) + count_by p h
 count_cons p e h = omega (arith, sum_by-append (λ (x : RegEntry). cond (p x) 1 0) (e ∷ []) h)
 
 count_split : (a b c : RegEntry → Bool) → ((e : RegEntry) → bit (a e) ≡ bit (b e) + bit (c e)) → (h : List RegEntry) → count_by a h ≡ count_by b h + count_by c h
 count_split a b c split [] = refl
 count_split a b c split (e ∷ h) = omega (arith, count_cons a e h, count_cons b e h, count_cons c e h, split e, count_split a b c split h)
 
-count_same : (a b : RegEntry → Bool) → ((e : RegEntry) → a e ≡ b e) → (h : List RegEntry) → count_by a h ≡ count_by b h
+pub count_same : (a b : RegEntry → Bool) → ((e : RegEntry) → a e ≡ b e) → (h : List RegEntry) → count_by a h ≡ count_by b h
 count_same a b same [] = refl
 count_same a b same (e ∷ h) = omega (arith, count_cons a e h, count_cons b e h, ap bit (same e), count_same a b same h)
 

@@ -11,8 +11,8 @@ use Rattle.alg_registry.specs.declared.row.Row.{Row}
 use Rattle.alg_registry.specs.declared.row.Larval.{Larval}
 use Rattle.alg_registry.specs.Rows.{listed_at}
 use Rattle.alg_registry.specs.Answers.{is_pending, is_plain, is_end_at, ended_with, may_find, better, best_from}
-use Rattle.alg_registry.specs.Calls.{is_unclaimed, claimed_number}
-use Rattle.alg_registry.specs.Larvals.{entry_of, is_seen_end, is_seen, seen_from, claimable, joined_as, joined_at, passes_at, best_by}
+use Rattle.alg_registry.specs.Calls.{is_unclaimed}
+use Rattle.alg_registry.specs.Larvals.{entry_of, is_seen_end, is_seen, numbers_of, seen_from, joined_as, joined_at, passes_at, best_by}
 
 at_place : (before : List Larval) (larval : Larval) (larvals : List Larval) → slice_get (before ++ larval ∷ larvals) (length before) ≡ Some larval
 at_place [] larval larvals = refl
@@ -59,33 +59,41 @@ dead_pending rows (Some end) e = refl
 pub pending-seen : (rows : List Row) (text : List ℕ) (larvals : List Larval) → find (passes_at (is_pending text) larvals) (seen_from rows 0 larvals) ≡ position_from (is_pending text) 0 larvals
 pending-seen rows text larvals = first rows (is_pending text) (λ larval e. ap (λ b. b && bytes_eq larval.text text) (dead_pending rows larval.ended e)) [] larvals 0 refl
 
-unclaimed-seen : (rows : List Row) (larvals : List Larval) → find (passes_at is_unclaimed larvals) (seen_from rows 0 larvals) ≡ position_from is_unclaimed 0 larvals
-unclaimed-seen rows larvals = first rows is_unclaimed (λ larval e. ap (λ b. b && is_none larval.claimed) (dead_pending rows larval.ended e)) [] larvals 0 refl
+-- the first of the numbers is the place of the first that passes
+pub first-number : (test : Larval → Bool) (k : ℕ) (larvals : List Larval) → slice_get (numbers_of test k larvals) 0 ≡ position_from test k larvals
+first-number test k [] = refl
+first-number test k (x ∷ larvals) = here (test x) (first-number test (k + 1) larvals)
+  where
+    here : (b : Bool) → slice_get (numbers_of test (k + 1) larvals) 0 ≡ position_from test (k + 1) larvals
+        → slice_get (cond b (k ∷ numbers_of test (k + 1) larvals) (numbers_of test (k + 1) larvals)) 0 ≡ cond b (Some k) (position_from test (k + 1) larvals)
+    here true e = refl
+    here false e = e
 
-claimable_seen : (rows : List Row) (larvals : List Larval) (named : Option ℕ) → claimable larvals (seen_from rows 0 larvals) named ≡ claimed_number larvals named
-claimable_seen rows larvals (Some number) = refl
-claimable_seen rows larvals None = unclaimed-seen rows larvals
+-- a larval that is claimed is no more among those that nobody has claimed
+pub claimed-not : (larval : Larval) (caller : ℕ) → is_unclaimed (record larval { claimed = Some caller }) ≡ false
+claimed-not larval caller = by_end (is_none larval.ended)
+  where
+    by_end : (b : Bool) → (b && false) ≡ false
+    by_end true = refl
+    by_end false = refl
 
-pub claimable-seen : (rows : List Row) (larvals : List Larval) (seen : List ℕ) (named : Option ℕ) → seen ≡ seen_from rows 0 larvals → claimable larvals seen named ≡ claimed_number larvals named
-claimable-seen rows larvals seen named are = ap (λ ns. claimable larvals ns named) are ∙ claimable_seen rows larvals named
-
--- a larval that begins is seen
-pub seen-begun : (rows : List Row) (k : ℕ) (larvals : List Larval) (larval : Larval) (last : ℕ) → is_seen rows larval ≡ true → last ≡ k + length larvals → seen_from rows k (larvals ++ larval ∷ []) ≡ seen_from rows k larvals ++ last ∷ []
-seen-begun rows k [] larval last live at =
+-- a larval that begins and passes is the last
+pub numbers-begun : (test : Larval → Bool) (k : ℕ) (larvals : List Larval) (larval : Larval) (last : ℕ) → test larval ≡ true → last ≡ k + length larvals → numbers_of test k (larvals ++ larval ∷ []) ≡ numbers_of test k larvals ++ last ∷ []
+numbers-begun test k [] larval last live at =
     let e : k ≡ last = omega (arith, at) in
     ap (λ b. cond b (k ∷ []) []) live ∙ ap (λ (n : ℕ). n ∷ []) e
-seen-begun rows k (x ∷ larvals) larval last live at = here (is_seen rows x) (seen-begun rows (k + 1) larvals larval last live (omega (arith, at)))
+numbers-begun test k (x ∷ larvals) larval last live at = here (test x) (numbers-begun test (k + 1) larvals larval last live (omega (arith, at)))
   where
-    here : (b : Bool) → seen_from rows (k + 1) (larvals ++ larval ∷ []) ≡ seen_from rows (k + 1) larvals ++ last ∷ []
-        → cond b (k ∷ seen_from rows (k + 1) (larvals ++ larval ∷ [])) (seen_from rows (k + 1) (larvals ++ larval ∷ [])) ≡ cond b (k ∷ seen_from rows (k + 1) larvals) (seen_from rows (k + 1) larvals) ++ last ∷ []
+    here : (b : Bool) → numbers_of test (k + 1) (larvals ++ larval ∷ []) ≡ numbers_of test (k + 1) larvals ++ last ∷ []
+        → cond b (k ∷ numbers_of test (k + 1) (larvals ++ larval ∷ [])) (numbers_of test (k + 1) (larvals ++ larval ∷ [])) ≡ cond b (k ∷ numbers_of test (k + 1) larvals) (numbers_of test (k + 1) larvals) ++ last ∷ []
     here true e = ap (λ ns. k ∷ ns) e
     here false e = e
 
--- a change of one larval that leaves it as seen as it was
-pub seen-same : (rows : List Row) (k : ℕ) (larvals : List Larval) (j : ℕ) (larval d : Larval) → is_seen rows larval ≡ is_seen rows (get_or larvals j d) → seen_from rows k (set larvals j larval) ≡ seen_from rows k larvals
-seen-same rows k [] j larval d same = refl
-seen-same rows k (x ∷ larvals) zero larval d same = ap (λ b. cond b (k ∷ seen_from rows (k + 1) larvals) (seen_from rows (k + 1) larvals)) same
-seen-same rows k (x ∷ larvals) (suc j) larval d same = ap (λ ns. cond (is_seen rows x) (k ∷ ns) ns) (seen-same rows (k + 1) larvals j larval d same)
+-- a change of one larval that passes as it did
+pub numbers-same : (test : Larval → Bool) (k : ℕ) (larvals : List Larval) (j : ℕ) (larval d : Larval) → test larval ≡ test (get_or larvals j d) → numbers_of test k (set larvals j larval) ≡ numbers_of test k larvals
+numbers-same test k [] j larval d same = refl
+numbers-same test k (x ∷ larvals) zero larval d same = ap (λ b. cond b (k ∷ numbers_of test (k + 1) larvals) (numbers_of test (k + 1) larvals)) same
+numbers-same test k (x ∷ larvals) (suc j) larval d same = ap (λ ns. cond (test x) (k ∷ ns) ns) (numbers-same test (k + 1) larvals j larval d same)
 
 -- a larval with no end is seen
 pub pending-is_seen : (rows : List Row) (larvals : List Larval) (j : ℕ) (d : Larval) → j < length larvals → option_and_then (λ (larval : Larval). larval.ended) (slice_get larvals j) ≡ None → is_seen rows (get_or larvals j d) ≡ true
@@ -99,22 +107,22 @@ differ a b ne = grind (arith, nat_tests)
 equal : (a : ℕ) → eqb a a ≡ true
 equal a = grind (arith, nat_tests)
 
-but_none : (rows : List Row) (n k : ℕ) (larvals : List Larval) → n < k → filter (λ m. not (eqb m n)) (seen_from rows k larvals) ≡ seen_from rows k larvals
-but_none rows n k [] lt = refl
-but_none rows n k (x ∷ larvals) lt = here (is_seen rows x) (but_none rows n (k + 1) larvals (omega (arith, lt)))
+but_none : (test : Larval → Bool) (n k : ℕ) (larvals : List Larval) → n < k → filter (λ m. not (eqb m n)) (numbers_of test k larvals) ≡ numbers_of test k larvals
+but_none test n k [] lt = refl
+but_none test n k (x ∷ larvals) lt = here (test x) (but_none test n (k + 1) larvals (omega (arith, lt)))
   where
     other : eqb k n ≡ false
     other = differ k n (λ e. absurd (omega (arith, lt, e)))
 
-    here : (b : Bool) → filter (λ m. not (eqb m n)) (seen_from rows (k + 1) larvals) ≡ seen_from rows (k + 1) larvals
-        → filter (λ m. not (eqb m n)) (cond b (k ∷ seen_from rows (k + 1) larvals) (seen_from rows (k + 1) larvals)) ≡ cond b (k ∷ seen_from rows (k + 1) larvals) (seen_from rows (k + 1) larvals)
+    here : (b : Bool) → filter (λ m. not (eqb m n)) (numbers_of test (k + 1) larvals) ≡ numbers_of test (k + 1) larvals
+        → filter (λ m. not (eqb m n)) (cond b (k ∷ numbers_of test (k + 1) larvals) (numbers_of test (k + 1) larvals)) ≡ cond b (k ∷ numbers_of test (k + 1) larvals) (numbers_of test (k + 1) larvals)
     here true e = λ i. cond (not (other i)) (k ∷ e i) (e i)
     here false e = e
 
--- a larval that is seen no more goes off the list
-pub seen-ended : (rows : List Row) (n k : ℕ) (larvals : List Larval) (j : ℕ) (larval : Larval) → is_seen rows larval ≡ false → j < length larvals → n ≡ k + j → filter (λ m. not (eqb m n)) (seen_from rows k larvals) ≡ seen_from rows k (set larvals j larval)
-seen-ended rows n k [] j larval dead lt at = absurd (omega (arith, lt))
-seen-ended rows n k (x ∷ larvals) zero larval dead lt at = here (is_seen rows x)
+-- a larval that passes no more goes off the list
+pub numbers-less : (test : Larval → Bool) (n k : ℕ) (larvals : List Larval) (j : ℕ) (larval : Larval) → test larval ≡ false → j < length larvals → n ≡ k + j → filter (λ m. not (eqb m n)) (numbers_of test k larvals) ≡ numbers_of test k (set larvals j larval)
+numbers-less test n k [] j larval dead lt at = absurd (omega (arith, lt))
+numbers-less test n k (x ∷ larvals) zero larval dead lt at = here (test x)
   where
     same : k ≡ n
     same = omega (arith, at)
@@ -122,22 +130,22 @@ seen-ended rows n k (x ∷ larvals) zero larval dead lt at = here (is_seen rows 
     this : eqb k n ≡ true
     this = subst (λ (m : ℕ). eqb k m ≡ true) same (equal k)
 
-    rest : filter (λ m. not (eqb m n)) (seen_from rows (k + 1) larvals) ≡ seen_from rows (k + 1) larvals
-    rest = but_none rows n (k + 1) larvals (omega (arith, at))
+    rest : filter (λ m. not (eqb m n)) (numbers_of test (k + 1) larvals) ≡ numbers_of test (k + 1) larvals
+    rest = but_none test n (k + 1) larvals (omega (arith, at))
 
-    gone : seen_from rows (k + 1) larvals ≡ cond (is_seen rows larval) (k ∷ seen_from rows (k + 1) larvals) (seen_from rows (k + 1) larvals)
-    gone = ap (λ b. cond b (k ∷ seen_from rows (k + 1) larvals) (seen_from rows (k + 1) larvals)) (sym dead)
+    gone : numbers_of test (k + 1) larvals ≡ cond (test larval) (k ∷ numbers_of test (k + 1) larvals) (numbers_of test (k + 1) larvals)
+    gone = ap (λ b. cond b (k ∷ numbers_of test (k + 1) larvals) (numbers_of test (k + 1) larvals)) (sym dead)
 
-    here : (b : Bool) → filter (λ m. not (eqb m n)) (cond b (k ∷ seen_from rows (k + 1) larvals) (seen_from rows (k + 1) larvals)) ≡ cond (is_seen rows larval) (k ∷ seen_from rows (k + 1) larvals) (seen_from rows (k + 1) larvals)
+    here : (b : Bool) → filter (λ m. not (eqb m n)) (cond b (k ∷ numbers_of test (k + 1) larvals) (numbers_of test (k + 1) larvals)) ≡ cond (test larval) (k ∷ numbers_of test (k + 1) larvals) (numbers_of test (k + 1) larvals)
     here true = (λ i. cond (not (this i)) (k ∷ rest i) (rest i)) ∙ gone
     here false = rest ∙ gone
-seen-ended rows n k (x ∷ larvals) (suc j) larval dead lt at = here (is_seen rows x) (seen-ended rows n (k + 1) larvals j larval dead (omega (arith, lt)) (omega (arith, at)))
+numbers-less test n k (x ∷ larvals) (suc j) larval dead lt at = here (test x) (numbers-less test n (k + 1) larvals j larval dead (omega (arith, lt)) (omega (arith, at)))
   where
     other : eqb k n ≡ false
     other = differ k n (λ e. absurd (omega (arith, at, e)))
 
-    here : (b : Bool) → filter (λ m. not (eqb m n)) (seen_from rows (k + 1) larvals) ≡ seen_from rows (k + 1) (set larvals j larval)
-        → filter (λ m. not (eqb m n)) (cond b (k ∷ seen_from rows (k + 1) larvals) (seen_from rows (k + 1) larvals)) ≡ cond b (k ∷ seen_from rows (k + 1) (set larvals j larval)) (seen_from rows (k + 1) (set larvals j larval))
+    here : (b : Bool) → filter (λ m. not (eqb m n)) (numbers_of test (k + 1) larvals) ≡ numbers_of test (k + 1) (set larvals j larval)
+        → filter (λ m. not (eqb m n)) (cond b (k ∷ numbers_of test (k + 1) larvals) (numbers_of test (k + 1) larvals)) ≡ cond b (k ∷ numbers_of test (k + 1) (set larvals j larval)) (numbers_of test (k + 1) (set larvals j larval))
     here true e = λ i. cond (not (other i)) (k ∷ e i) (e i)
     here false e = e
 

@@ -27,7 +27,7 @@ use Rattle.alg_registry.proofs.Restanding.{mark, listed_at-mark, same_stays, sam
 use Rattle.alg_registry.proofs.Restood.{was-listed}
 use Rattle.alg_registry.proofs.Changing.{unlist-changes}
 use Rattle.alg_registry.proofs.Adding.{add-standing}
-use Rattle.alg_registry.proofs.Seen.{seen-begun, seen-same, pending-is_seen, seen-ended, seen-marks, seen-grown, seen-fewer, DoEndWithin}
+use Rattle.alg_registry.proofs.Seen.{numbers-begun, numbers-same, pending-is_seen, numbers-less, seen-marks, seen-grown, seen-fewer, DoEndWithin}
 
 -- ---- marks
 
@@ -149,12 +149,12 @@ pub seen-more : (rows : List Row) (larvals larvals' : List Larval) (seen seen' :
 seen-more rows larvals larvals' seen seen' text more push are =
     push
     ∙ (ap (λ (ns : List ℕ). ns ++ length larvals ∷ []) are
-    ∙ (sym (seen-begun rows 0 larvals (record { text = text; claimed = None; ended = None }) (length larvals) refl (omega arith)) ∙ ap (λ (ls : List Larval). seen_from rows 0 ls) (sym more)))
+    ∙ (sym (numbers-begun (is_seen rows) 0 larvals (record { text = text; claimed = None; ended = None }) (length larvals) refl (omega arith)) ∙ ap (λ (ls : List Larval). seen_from rows 0 ls) (sym more)))
 
 pub seen-claimed : (rows : List Row) (larvals larvals' : List Larval) (seen seen' : List ℕ) (n caller : ℕ) (d : Larval) → larvals' ≡ set larvals n (claimed_larval caller (get_or larvals n d)) → seen' ≡ seen
     → seen ≡ seen_from rows 0 larvals → seen' ≡ seen_from rows 0 larvals'
 seen-claimed rows larvals larvals' seen seen' n caller d is same are =
-    same ∙ (are ∙ (sym (seen-same rows 0 larvals n (claimed_larval caller (get_or larvals n d)) d refl) ∙ ap (λ (ls : List Larval). seen_from rows 0 ls) (sym is)))
+    same ∙ (are ∙ (sym (numbers-same (is_seen rows) 0 larvals n (claimed_larval caller (get_or larvals n d)) d refl) ∙ ap (λ (ls : List Larval). seen_from rows 0 ls) (sym is)))
 
 -- the larval ends with an entry that is listed, or with none
 pub seen-end : (rows : List Row) (larvals larvals' : List Larval) (seen seen' : List ℕ) (n : ℕ) (e : Ended) (d : Larval) → n < length larvals → option_and_then (λ (larval : Larval). larval.ended) (slice_get larvals n) ≡ None
@@ -164,10 +164,10 @@ seen-end rows larvals larvals' seen seen' n e d lt pending listed is after are =
     after ∙ (ap (λ (ns : List ℕ). seen_after e n ns) are ∙ (here e listed ∙ ap (λ (ls : List Larval). seen_from rows 0 ls) (sym is)))
   where
     stays : (e : Ended) → is_seen_end rows (Some e) ≡ true → seen_from rows 0 larvals ≡ seen_from rows 0 (set larvals n (ended_larval e (get_or larvals n d)))
-    stays e f = sym (seen-same rows 0 larvals n (ended_larval e (get_or larvals n d)) d (f ∙ sym (pending-is_seen rows larvals n d lt pending)))
+    stays e f = sym (numbers-same (is_seen rows) 0 larvals n (ended_larval e (get_or larvals n d)) d (f ∙ sym (pending-is_seen rows larvals n d lt pending)))
 
     goes : (e : Ended) → is_seen_end rows (Some e) ≡ false → filter (λ m. not (eqb m n)) (seen_from rows 0 larvals) ≡ seen_from rows 0 (set larvals n (ended_larval e (get_or larvals n d)))
-    goes e f = seen-ended rows n 0 larvals n (ended_larval e (get_or larvals n d)) f lt (omega arith)
+    goes e f = numbers-less (is_seen rows) n 0 larvals n (ended_larval e (get_or larvals n d)) f lt (omega arith)
 
     here : (e : Ended) → (ends_with_entry e ≡ true → is_seen_end rows (Some e) ≡ true) → seen_after e n (seen_from rows 0 larvals) ≡ seen_from rows 0 (set larvals n (ended_larval e (get_or larvals n d)))
     here (Built id) f = stays (Built id) (f refl)

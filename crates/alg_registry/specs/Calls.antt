@@ -86,6 +86,17 @@ abbrev pub UnlessNoMemory : Ended → Type 0 → Type 0
 UnlessNoMemory ended.NoMemory P = ⊤
 UnlessNoMemory result P = P
 
+-- where it did, or the larval was ended for want of it
+abbrev pub OnNoMemory : Ended → Type 0 → Type 0
+OnNoMemory ended.NoMemory P = P
+OnNoMemory result P = ⊤
+
+-- memory may lack for a new entry alone; beside it want of memory is what was handed in
+abbrev pub MayLack : EndAnswer → Type 0
+MayLack (Built id spec) = ⊤
+MayLack NoMemory = ⊤
+MayLack _ = ⊥
+
 -- what the instance is to become is what the entries decide
 abbrev pub Judges : List Row → Spec → Judged → Type 0
 Judges rows spec (Fails errno) = built_answer rows spec ≡ Failed errno

@@ -1,6 +1,6 @@
 -- The table of larvals, and which of them a look has to see.
 use Rattle.std.specs.Prelude.{ℕ, ◌+◌, Bool, true, false, not, ◌==◌, ◌&&◌, ◌||◌, if◌then◌else◌, List, [], ◌∷◌, slice_get, Option, Some, None}
-use Rattle.std.specs.List.{filter, filter_map, find, list_any}
+use Rattle.std.specs.List.{filter, filter_map, list_any}
 use Rattle.std.specs.Option.{option_and_then, option_map_or}
 use Rattle.std.specs.Str.{bytes_eq}
 use Rattle.alg_registry.specs.declared.entry.Ended.{Ended}
@@ -9,7 +9,6 @@ use Rattle.alg_registry.specs.declared.row.Row.{Row}
 use Rattle.alg_registry.specs.declared.row.Larval.{Larval}
 use Rattle.alg_registry.specs.Rows.{listed_at}
 use Rattle.alg_registry.specs.Answers.{may_find, better}
-use Rattle.alg_registry.specs.Calls.{is_unclaimed, unclaimed_at}
 
 -- the larvals by number, the numbers of those that a look goes over, and for how many more there is room
 pub record LarvalTable : Type 0 where
@@ -34,10 +33,14 @@ is_seen_end rows (Some NoMemory) = false
 abbrev pub is_seen : List Row → Larval → Bool
 is_seen rows larval = is_seen_end rows larval.ended
 
--- the numbers of these larvals that a look has to see, where the first has this number
+-- the numbers of these larvals that pass the test, where the first has this number
+abbrev pub numbers_of : (Larval → Bool) → ℕ → List Larval → List ℕ
+numbers_of test first [] = []
+numbers_of test first (larval ∷ larvals) = if test larval then first ∷ numbers_of test (first + 1) larvals else numbers_of test (first + 1) larvals
+
+-- the numbers of those that a look has to see
 abbrev pub seen_from : List Row → ℕ → List Larval → List ℕ
-seen_from rows first [] = []
-seen_from rows first (larval ∷ larvals) = if is_seen rows larval then first ∷ seen_from rows (first + 1) larvals else seen_from rows (first + 1) larvals
+seen_from rows first larvals = numbers_of (is_seen rows) first larvals
 
 -- the larval of the number passes the test
 abbrev pub passes_at : (Larval → Bool) → List Larval → ℕ → Bool
@@ -53,11 +56,6 @@ ends_with_entry NoMemory = false
 -- those that are left to see, where the larval of the number has ended so
 abbrev pub seen_after : Ended → ℕ → List ℕ → List ℕ
 seen_after ended number seen = if ends_with_entry ended then seen else filter (λ other. not (other == number)) seen
-
--- the larval that a claim gets: the one that is named, or the oldest of these numbers
-abbrev pub claimable : List Larval → List ℕ → Option ℕ → Option ℕ
-claimable larvals seen (Some number) = unclaimed_at larvals number
-claimable larvals seen None = find (passes_at is_unclaimed larvals) seen
 
 -- the entry with which a larval of the text ended
 abbrev pub joined_as : List ℕ → Larval → Option ℕ

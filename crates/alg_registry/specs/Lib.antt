@@ -12,3 +12,4 @@ pub mod Trial
 pub mod Alone
 pub mod Counting
 pub mod Held
+pub mod OwnCalls

@@ -1,8 +1,12 @@
 //! What calls of the registry answer, and what they add to its history.
 
+ghost use Rattle.std.specs.Prelude.{◌≡◌};
+ghost use Rattle.alg_registry.specs.declared.entry.RegErr.TheVariants.{Memory};
+
 use crate::ids::Ids;
 use crate::spec::Spec;
 use kc_base::{Bytes, Errno};
+use std::alloc::{AllocError, AllocFailed};
 use thiserror::Error;
 
 /// Why a call of the registry was refused.
@@ -23,6 +27,22 @@ pub enum RegErr {
     /// Memory ran out. The call recorded nothing.
     #[error("out of memory")]
     Memory,
+}
+
+impl From<AllocError> for RegErr {
+    ghost from_gives = { λ _ e. e ≡ Memory };
+
+    fn from(_: AllocError) -> RegErr {
+        RegErr::Memory
+    }
+}
+
+impl<T: Drop> From<AllocFailed<T>> for RegErr {
+    ghost from_gives = { λ _ e. e ≡ Memory };
+
+    fn from(_: AllocFailed<T>) -> RegErr {
+        RegErr::Memory
+    }
 }
 
 /// The answer of a look.

@@ -7,7 +7,7 @@ ghost use Rattle.std.specs.Str.{bytes_eq};
 ghost use Rattle.alg_registry.specs.declared.row.Larval.{Larval};
 ghost use Rattle.alg_registry.specs.Answers.{is_pending};
 ghost use Rattle.alg_registry.specs.Calls.{is_unclaimed, claimed_number, text_at, claimed_larval, ended_larval};
-ghost use Rattle.alg_registry.specs.Larvals.{entry_of, ends_with_entry, is_seen_end, is_seen, seen_after, claimable, joined_as, joined_at, passes_at};
+ghost use Rattle.alg_registry.specs.Larvals.{entry_of, ends_with_entry, is_seen_end, is_seen, seen_after, joined_as, joined_at, passes_at};
 
 use crate::counting::is_listed_at;
 use crate::entry::{Ended, RegErr};
@@ -24,6 +24,8 @@ pub struct Larvals {
     all: Vec<Larval>,
     /// The numbers of those that are pending or ended with an entry, until that is unlisted.
     seen: Vec<u64>,
+    /// The numbers of those that nobody has claimed, the oldest first.
+    unclaimed: Vec<u64>,
     spare: usize,
 }
 
@@ -36,17 +38,7 @@ impl Model for Larvals {
 
     ghost view = { λ l. record { list = l.all.items; seen = l.seen.items; spare = l.spare } };
 
-    ghost invariant = { λ l. IsTable l.all.items l.seen.items l.spare (vec_capacity l.all) (vec_capacity l.seen) };
-}
-
-pub fn copy_text(alloc: Global, part: &[u8]) -> Result<Bytes, RegErr>
-    ensures ok { IfOk result (λ text. text ≡ part.now) }
-    ensures err { IfErr result (λ e. e ≡ RegErr.Memory) }
-{
-    match Bytes::copy_of(alloc, part) {
-        Ok(text) => Ok(text),
-        Err(_) => Err(RegErr::Memory),
-    }
+    ghost invariant = { λ l. IsTable l.all.items l.seen.items l.unclaimed.items l.spare (vec_capacity l.all) (vec_capacity l.seen) (vec_capacity l.unclaimed) };
 }
 
 fn is_larval_unclaimed(larval: &Larval) -> bool
@@ -89,12 +81,11 @@ fn is_pending_at(all: &[Larval], number: u64, text: &[u8]) -> bool
     }
 }
 
-fn first_unclaimed(all: &[Larval], seen: &[u64]) -> Option<u64>
-    ensures { result ≡ find (passes_at is_unclaimed all.now) seen.now }
+/// The first of the numbers.
+fn first_of(numbers: &[u64]) -> Option<u64>
+    ensures { result ≡ slice_get numbers.now 0 }
 {
-    seen.iter()
-        .copied()
-        .find(|number| is_unclaimed_at(all, *number))
+    numbers.first().copied()
 }
 
 fn first_pending(all: &[Larval], seen: &[u64], text: &[u8]) -> Option<u64>
@@ -204,6 +195,7 @@ impl Larvals {
         Larvals {
             all: Vec::new(alloc),
             seen: Vec::new(alloc),
+            unclaimed: Vec::new(alloc),
             spare: 0,
         }
     }
@@ -215,9 +207,9 @@ impl Larvals {
         ensures room { OnOk result (0 < self.new.spare) }
         ensures memory { IfErr result (λ e. e ≡ RegErr.Memory) }
     {
-        if self.all.reserve(1).is_err() || self.seen.reserve(1).is_err() {
-            return Err(RegErr::Memory);
-        }
+        self.all.reserve(1)?;
+        self.seen.reserve(1)?;
+        self.unclaimed.reserve(1)?;
         self.spare = self.spare.max(1);
         Ok(())
     }
@@ -230,6 +222,7 @@ impl Larvals {
     {
         let number = self.all.len() as u64;
         self.seen.push_reserved(number);
+        self.unclaimed.push_reserved(number);
         self.all.push_reserved(Larval {
             text,
             claimed: None,
@@ -240,7 +233,7 @@ impl Larvals {
 
     /// The larval that a claim gets.
     pub fn to_claim(&self, named: Option<u64>) -> Option<u64>
-        ensures { result ≡ claimable self.now.list self.now.seen named }
+        ensures { result ≡ claimed_number self.now.list named }
     {
         match named {
             Some(number) => {
@@ -250,7 +243,7 @@ impl Larvals {
                     None
                 }
             }
-            None => first_unclaimed(&self.all, &self.seen),
+            None => first_of(&self.unclaimed),
         }
     }
 
@@ -260,7 +253,7 @@ impl Larvals {
         ensures ok { IfOk result (λ text. text ≡ text_at self.now.list number) }
         ensures err { IfErr result (λ e. e ≡ RegErr.Memory) }
     {
-        copy_text(alloc, self.all[number as usize].text.as_slice())
+        Ok(Bytes::copy_of(alloc, self.all[number as usize].text.as_slice())?)
     }
 
     /// Marks the larval as the caller's.
@@ -271,6 +264,7 @@ impl Larvals {
     {
         let larval = &mut self.all[number as usize];
         larval.claimed = Some(caller);
+        forget(&mut self.unclaimed, number);
     }
 
     /// Ends the larval.
@@ -281,6 +275,7 @@ impl Larvals {
     {
         let larval = &mut self.all[number as usize];
         larval.ended = Some(ended);
+        forget(&mut self.unclaimed, number);
         if !ends_with(ended) {
             forget(&mut self.seen, number);
         }
@@ -309,10 +304,7 @@ impl Larvals {
         ensures ok { IfOk result (λ ids. ids.items ≡ filter_map (joined_at text.now self.now.list) self.now.seen) }
         ensures err { IfErr result (λ e. e ≡ RegErr.Memory) }
     {
-        match entries_of(alloc, &self.all, &self.seen, text) {
-            Ok(ids) => Ok(ids),
-            Err(_) => Err(RegErr::Memory),
-        }
+        Ok(entries_of(alloc, &self.all, &self.seen, text)?)
     }
 
     /// The oldest larval of the text that is pending, of those that a look goes over.

@@ -1,15 +1,35 @@
 //! What holds of every history that a registry can have, and what such histories are.
 
 ghost use Rattle.alg_registry.specs.Legal.{LegalReg};
-ghost use Rattle.alg_registry.specs.Lifetimes.{NeverHandedOutAgain, HeldWhileReferenced, BestIsGreatest};
+ghost use Rattle.alg_registry.specs.Lifetimes.{NeverHandedOutAgain, HeldWhileReferenced, HeldByCaller, HeldFromGetToPut, ListedIs, BestAnswers, BestIsGreatest};
 ghost use Rattle.alg_registry.specs.Made.{Made};
+ghost use Rattle.alg_registry.specs.OwnCalls.{AllStays, BuildingIsOwn, OpenIsClaimed, LooksAreOwn, ReferencesAreOwn, AllHaveEnded, AllHaveEndedFor};
 ghost use Rattle.alg_registry.specs.Trial.{run, after_unlist, asked_by_worker, claimed_early, began_again, claimed_twice, found_another, ended_by_another, built_again, refused_reference, found_after_unlist, two_templates, wrong_child, too_early};
 
 /// How long an entry is found and held, over every history that a registry can have.
 pub fn lifetimes()
     ensures never_handed_out { NeverHandedOutAgain }
+    ensures listed { ListedIs }
     ensures held { HeldWhileReferenced }
+    ensures held_by_caller { HeldByCaller }
+    ensures held_to_put { HeldFromGetToPut }
+    ensures best_answers { BestAnswers }
     ensures best { BestIsGreatest }
+{}
+
+/// What stays as a history goes on, and what one caller knows by its own calls, whatever others add between them.
+pub fn own_calls()
+    ensures stays { AllStays }
+    ensures building { BuildingIsOwn }
+    ensures claimed { OpenIsClaimed }
+    ensures looks { LooksAreOwn }
+    ensures references { ReferencesAreOwn }
+{}
+
+/// Where each look that was asked for has come to something, nothing is left to build.
+pub fn all_ended()
+    ensures all { AllHaveEnded }
+    ensures one { AllHaveEndedFor }
 {}
 
 /// The building of an instance under cryptd is a legal history, and with another entry in any place it isn't.

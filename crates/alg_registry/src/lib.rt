@@ -3,7 +3,6 @@
 //! Each call appends the one entry to the registry's history that is right for the entries before it.
 #![tactic(auto)]
 
-mod by_definition;
 mod counting;
 mod entry;
 mod history;
@@ -22,7 +21,7 @@ mod tests;
 pub use entry::{Claimed, EndAnswer, Ended, Enlisted, Looked, RefAnswer, RegEntry, RegErr};
 pub use history::RegLog;
 pub use ids::Ids;
-pub use laws::{legal_histories, lifetimes};
+pub use laws::{all_ended, legal_histories, lifetimes, own_calls};
 pub use listing::{ListRow, Listing};
 pub use registry::Registry;
 pub use spec::{Kind, Spec, Wrap};

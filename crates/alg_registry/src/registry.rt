@@ -5,13 +5,13 @@ ghost use Rattle.std.specs.Option.{option_copied, option_map_or, option_map};
 ghost use Rattle.alg_registry.specs.Rows.{standing, registered, registered_by, opened, end_of, is_held, is_held_at, rows_of, larvals_of, is_listed};
 ghost use Rattle.alg_registry.specs.Answers.{driver_place, look_answer, enlist_answer, built_answer};
 ghost use Rattle.alg_registry.specs.Legal.{LegalReg, is_worker, HasReference, claimer, ended_as, MayEnd};
-ghost use Rattle.alg_registry.specs.Calls.{UnlessMemory, OnMemory, UnlessNoMemory, Judges, IsFailure, enlist_result, end_given, unless_memory, unlist_result, get_result, claimed_number, claimed_answer, claim_entries, waited_entries, listing, refs_answer, refs_result, held_spec, new_row};
+ghost use Rattle.alg_registry.specs.Calls.{UnlessMemory, OnMemory, UnlessNoMemory, OnNoMemory, MayLack, Judges, IsFailure, enlist_result, end_given, unless_memory, unlist_result, get_result, claimed_number, claimed_answer, claim_entries, waited_entries, listing, refs_answer, refs_result, held_spec, new_row};
 
 use crate::counting::{are_listed, is_listed_at};
 use crate::entry::{Claimed, EndAnswer, Ended, Enlisted, Looked, RefAnswer, RegEntry, RegErr};
 use crate::history::RegLog;
 use crate::ids::Ids;
-use crate::larvals::{Larvals, copy_text};
+use crate::larvals::Larvals;
 use crate::listing::{Listing, listing_of, newest_held};
 use crate::looking::look_up;
 use crate::row::Row;
@@ -60,7 +60,7 @@ fn origin_of(alloc: Global, rows: &[Row], id: u64) -> Result<Option<Spec>, RegEr
     ensures err { IfErr result (λ e. e ≡ RegErr.Memory) }
 {
     match rows.get(id as usize) {
-        Some(row) => Ok(Some(copy_spec(alloc, &row.spec)?)),
+        Some(row) => Ok(Some(row.spec.copy(alloc)?)),
         None => Ok(None),
     }
 }
@@ -98,16 +98,6 @@ fn judge(rows: &Rows, spec: &Spec) -> Judged
         return Judged::Fails(Errno::ENFILE);
     }
     Judged::Builds
-}
-
-fn copy_spec(alloc: Global, spec: &Spec) -> Result<Spec, RegErr>
-    ensures ok { IfOk result (λ copy. copy ≡ spec.now) }
-    ensures err { IfErr result (λ e. e ≡ RegErr.Memory) }
-{
-    match spec.copy(alloc) {
-        Ok(copy) => Ok(copy),
-        Err(_) => Err(RegErr::Memory),
-    }
 }
 
 /// An algorithm that is listed from the start.
@@ -192,7 +182,7 @@ impl Registry {
             })?;
             return Err(RegErr::NFile);
         }
-        let copy = copy_spec(self.alloc, &spec)?;
+        let copy = spec.copy(self.alloc)?;
         self.rows.reserve()?;
         let id = self.rows.count();
         self.log.record(RegEntry::Enlist {
@@ -219,7 +209,7 @@ impl Registry {
         ensures legal_before { LegalReg self.old }
         ensures legal { LegalReg self.new }
     {
-        let copy = copy_text(self.alloc, text)?;
+        let copy = Bytes::copy_of(self.alloc, text)?;
         let answer = look_up(self.alloc, &self.rows, &self.larvals, text, plain)?;
         let entry = RegEntry::Look {
             caller,
@@ -228,7 +218,7 @@ impl Registry {
             answer,
         };
         if let Looked::Began(_) = answer {
-            let begun = copy_text(self.alloc, text)?;
+            let begun = Bytes::copy_of(self.alloc, text)?;
             self.larvals.reserve()?;
             self.log.record(entry)?;
             self.larvals.begin(begun);
@@ -298,7 +288,7 @@ impl Registry {
         ensures legal { LegalReg self.new }
     {
         let id = self.rows.count();
-        let Ok(copy) = copy_spec(self.alloc, &spec) else {
+        let Ok(copy) = spec.copy(self.alloc) else {
             self.end_with(caller, larval, EndAnswer::NoMemory, Ended::NoMemory);
             return Ended::NoMemory;
         };
@@ -320,13 +310,14 @@ impl Registry {
     ///
     /// Of an instance the answer is `Failed(EAGAIN)` where an entry below it is no longer listed; otherwise `Joined`
     /// where an entry of its driver is listed; then `Failed(EEXIST)` and `Failed(ENFILE)` as in `enlist`; otherwise
-    /// `Built`. `NoMemory` comes for want of memory, or where it was handed in. Each is recorded, and the entry itself
-    /// takes no memory.
+    /// `Built`. `NoMemory` comes where it was handed in, or in place of `Built` for want of memory. Each is recorded, and
+    /// the entry itself takes no memory.
     pub fn end(&mut self, caller: u32, larval: u64, built: Result<Spec, Ended>) -> Ended
         requires claimed { claimer self.old larval ≡ Some caller }
         requires unended { ended_as self.old larval ≡ None }
         requires handed { IfErr built (λ failure. IsFailure failure) }
         ensures answer { UnlessNoMemory result (result ≡ end_of (end_given (rows_of self.old) built)) }
+        ensures memory { OnNoMemory result (MayLack (end_given (rows_of self.old) built)) }
         ensures history { self.new ≡ self.old ++ RegEntry.End caller larval (unless_memory result (end_given (rows_of self.old) built)) ∷ [] }
         ensures legal { LegalReg self.new }
     {
@@ -385,7 +376,7 @@ impl Registry {
         ensures memory { OnMemory result (self.new ≡ self.old) }
         ensures legal { LegalReg self.new }
     {
-        let text = copy_text(self.alloc, driver)?;
+        let text = Bytes::copy_of(self.alloc, driver)?;
         match self.rows.place_of_driver(driver) {
             Some(id) => {
                 self.log.record(RegEntry::Unlist {
@@ -457,7 +448,7 @@ impl Registry {
         ensures memory { OnMemory result (self.new ≡ self.old) }
         ensures legal { LegalReg self.new }
     {
-        let text = copy_text(self.alloc, driver)?;
+        let text = Bytes::copy_of(self.alloc, driver)?;
         let found = newest_held(&self.rows, driver);
         self.log.record(RegEntry::Refs {
             caller,
@@ -478,9 +469,7 @@ impl Registry {
         ensures unchanged { OnErr result (self.new ≡ self.old) }
         ensures legal { LegalReg self.new }
     {
-        let Ok(rows) = listing_of(self.alloc, &self.rows) else {
-            return Err(RegErr::Memory);
-        };
+        let rows = listing_of(self.alloc, &self.rows)?;
         self.log.record(RegEntry::List { caller })?;
         Ok(rows)
     }

@@ -144,3 +144,35 @@ fn over_cbc_the_tag_comes_before_the_length(rt: HostRuntime) -> Result<(), Fail>
     assert!(rt; text.as_slice() == message.as_slice());
     Ok(())
 }
+
+/// The MAC is of the associated bytes and then of the ciphertext: a packet as ESP has it, sealed by Python's libraries.
+#[test]
+fn associated_bytes_come_before_the_ciphertext(rt: HostRuntime) -> Result<(), Fail> {
+    let alloc = rt.alloc();
+    let key = hex::decode(
+        alloc,
+        "0800010000000010202122232425262728292a2b2c2d2e2f303132333435363738393a3b3c3d3e3f06a9214036b8a15b512e03d534120006",
+    )?;
+    let keys = read_blob(&key)?;
+    let mode = Authenc::new(Mac::new(keys.mac), Cbc::new(Aes::new(keys.cipher)?));
+    let iv = hex::decode(alloc, "3dafba429d9eb430b422da802c9fac41")?;
+    let associated = hex::decode(alloc, "00004321000000013dafba429d9eb430b422da802c9fac41")?;
+    let plain = *b"Single block msg and one further";
+    let sealed = hex::decode(
+        alloc,
+        "e353779c1079aeb82708942dbe77181a7c8454a8eab9074138a27a390652fe77",
+    )?;
+    let tag = hex::decode(
+        alloc,
+        "d0383f06920896593a30a45461d5209718dd8b506a6255ee70cfbebc903e2aba",
+    )?;
+    assert_eq!(rt; iv.len(), 16);
+    let mut text = plain;
+    let mut made = [0u8; 32];
+    assert_eq!(rt; mode.seal(&iv, &associated, &mut text, &mut made), Ok(()));
+    assert!(rt; text[..] == sealed[..]);
+    assert!(rt; made[..] == tag[..]);
+    assert_eq!(rt; mode.unseal(&iv, &associated, &mut text, &made), Ok(()));
+    assert!(rt; text == plain);
+    Ok(())
+}

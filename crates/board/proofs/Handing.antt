@@ -12,7 +12,7 @@ use Rattle.board.specs.Entries.{Notice, Starts, Completes, is_of, entries_of, bi
 use Rattle.board.specs.Legal.{IsRightFor, IsOpen}
 use Rattle.board.specs.Order.{handed_in, handed_after, handed_out, AreRightForAfter, completed_in, completed, numbers_below}
 use Rattle.board.specs.Staying.{Joins, LeavesOthers, BeginsAlone, IsDrained}
-use Rattle.board.specs.Handing.{is_collect, HandsNothing, HandsOutAtMost, FrontIsAll, completions, CollectHandsOut, AllHandedOutIsDrained}
+use Rattle.board.specs.Handing.{is_collect, HandsNothing, HandsOutAtMost, FrontIsFinished, FrontIsGreatest, FrontIsAll, completions, CollectHandsOut, AllHandedOutIsDrained}
 use Rattle.board.proofs.Transfer.{right_for, entries-more, entries-same, each_right}
 use Rattle.board.proofs.PadOrder.{filter_map-none, filter_map-some, birth_stays, told_on_pad, length-completes, orderly_start, orderly_run, unbroken-all}
 use Rattle.board.proofs.QueueOrder.{not_both, queue_is_born, pad_is_born, maker_born, told_on_queue, length-numbers, has_only_below, has_below, queue_served, served_run, served_start}
@@ -91,7 +91,7 @@ completions-same meaning asks (Completes m ∷ ns) low =
     rw out.1 (ap suc ih)
 
 -- a pad or queue tells of as many completions as so many first requests have
-completed-below : (n : ℕ) → completed (completes_below n) ≡ numbers_below n
+pub completed-below : (n : ℕ) → completed (completes_below n) ≡ numbers_below n
 completed-below zero = refl
 completed-below (suc n) = filter_map-append completed_in (completes_below n) (Completes n ∷ []) ∙ ap (λ ns. ns ++ n ∷ []) (completed-below n)
 
@@ -295,3 +295,36 @@ all-unbroken ns n (suc many) (suc i) e l =
 
 pub front_is_all : {A : Type 0} (es : List (BoardEntry A)) → FrontIsAll es
 front_is_all es e n l = subst (λ m. has m (finished es) ≡ true) (zero-add n) (all-unbroken (finished es) 0 (length (submissions es)) n e l)
+
+below-cases : (ns : List ℕ) (n many i : ℕ) (c : Bool) → has n ns ≡ c → (i ≡ n) ⊎ (n < i) → i < n + cond c (suc (unbroken ns (suc n) many)) 0
+    → (n < i → i < suc n + unbroken ns (suc n) many → has i ns ≡ true) → has i ns ≡ true
+below-cases ns n many i true h (inl same) l later = ap (λ m. has m ns) same ∙ h
+below-cases ns n many i true h (inr more) l later = later more (omega arith)
+below-cases ns n many i false h (inl same) l later = absurd (omega arith)
+below-cases ns n many i false h (inr more) l later = absurd (omega arith)
+
+below-unbroken : (ns : List ℕ) (n many i : ℕ) → n ≤ i → i < n + unbroken ns n many → has i ns ≡ true
+below-unbroken ns n zero i le l = absurd (omega arith)
+below-unbroken ns n (suc many) i le l = below-cases ns n many i (has n ns) refl (eq-or-lt_of_le' n i le) l (λ m k. below-unbroken ns (suc n) many i (omega arith) k)
+  where
+    eq-or-lt_of_le' : (n i : ℕ) → n ≤ i → (i ≡ n) ⊎ (n < i)
+    eq-or-lt_of_le' n i le = next_or (cases_lt n i)
+      where
+        next_or : (n < i) ⊎ (i ≤ n) → (i ≡ n) ⊎ (n < i)
+        next_or (inl l) = inr l
+        next_or (inr g) = inl (omega arith)
+
+next-cases : (ns : List ℕ) (n many : ℕ) (c : Bool) → has n ns ≡ c → cond c (suc (unbroken ns (suc n) many)) 0 < suc many
+    → (unbroken ns (suc n) many < many → has (suc n + unbroken ns (suc n) many) ns ≡ false) → has (n + cond c (suc (unbroken ns (suc n) many)) 0) ns ≡ false
+next-cases ns n many true h l later = (let s : n + suc (unbroken ns (suc n) many) ≡ suc n + unbroken ns (suc n) many = omega arith in ap (λ m. has m ns) s ∙ later (omega arith))
+next-cases ns n many false h l later = (let s : n + 0 ≡ n = omega arith in ap (λ m. has m ns) s ∙ h)
+
+next-unbroken : (ns : List ℕ) (n many : ℕ) → unbroken ns n many < many → has (n + unbroken ns n many) ns ≡ false
+next-unbroken ns n zero l = absurd (omega arith)
+next-unbroken ns n (suc many) l = next-cases ns n many (has n ns) refl l (λ k. next-unbroken ns (suc n) many k)
+
+pub front_is_finished : {A : Type 0} (es : List (BoardEntry A)) (n : ℕ) → FrontIsFinished es n
+front_is_finished es n l = below-unbroken (finished es) 0 (length (submissions es)) n (omega arith) (let z = zero-add (front es) in omega (arith, l))
+
+pub front_is_greatest : {A : Type 0} (es : List (BoardEntry A)) → FrontIsGreatest es
+front_is_greatest es l = ap (λ m. has m (finished es)) (sym (zero-add (front es))) ∙ next-unbroken (finished es) 0 (length (submissions es)) l

@@ -21,7 +21,7 @@ use Rattle.kc_base.specs.declared.callback_list.Callback.TheVariants as callback
 use Rattle.padata_core.specs.Pad.{done_from}
 use Rattle.board.specs.Entries.{Notice, Completes, unbroken, front, told, completes_below, callback_of, completion, delivered}
 use Rattle.board.proofs.PadOrder.{length-completes, told_on_pad}
-use Rattle.board.proofs.Kept.{takers-same, closed-same, shared-same, born_some}
+use Rattle.board.proofs.Kept.{takers-same, closed-same, born_some}
 
 -- where an unbroken run of numbers ends
 pub unbroken_is : (ns : List ℕ) (n many k : ℕ) → k ≤ many → ((i : ℕ) → i < k → has (n + i) ns ≡ true) → has (n + k) ns ≡ false → unbroken ns n many ≡ k
@@ -154,7 +154,6 @@ pad_emptied_kept {J} {O} {A} asked meaning pipe es p to caller k place =
     record {
       born = birth_stays es e (born_some asked meaning pipe es k) ∙ k.born;
       closing = closed-same es e refl ∙ k.closing;
-      sharing = shared-same es e refl ∙ k.sharing;
       submitted = rw subs (omega arith);
       waiting = rw (subs, t) k.waiting;
       taken = λ m l. rw (takers-same es e m refl) (k.taken m (rw t at l));

@@ -44,13 +44,13 @@ queue_answer_kept : {J O A : Type 0} (asked : J → A) (meaning : A → O) (x : 
     → IsKept asked meaning (after_entered (pipeline.Queue x) job answer) (es ++ Enq caller p ask backlog answer ∷ [])
 queue_answer_kept {J} {O} {A} asked meaning x es given p caller ask job backlog (InProgress n) k v open_ a =
     let e : BoardEntry A = Enq caller p ask backlog (InProgress n) in
-    accept_kept asked meaning x es e job given k v (sym k.closing ∙ open_) (ap Some a) refl refl refl refl refl refl refl
+    accept_kept asked meaning x es e job given k v (sym k.closing ∙ open_) (ap Some a) refl refl refl refl refl refl
 queue_answer_kept {J} {O} {A} asked meaning x es given p caller ask job backlog (Busy n) k v open_ a =
     let e : BoardEntry A = Enq caller p ask backlog (Busy n) in
-    accept_kept asked meaning x es e job given k v (sym k.closing ∙ open_) (ap Some a) refl refl refl refl refl refl refl
+    accept_kept asked meaning x es e job given k v (sym k.closing ∙ open_) (ap Some a) refl refl refl refl refl refl
 queue_answer_kept {J} {O} {A} asked meaning x es given p caller ask job backlog NoSpace k v open_ a =
     let e : BoardEntry A = Enq caller p ask backlog NoSpace in
-    quiet_kept asked meaning x es e x.closed x.queue.held k refl refl refl refl refl refl (closed-same es e refl ∙ k.closing) (held-same es e refl ∙ k.holding) k.idle
+    quiet_kept asked meaning x es e x.closed x.queue.held k refl refl refl refl refl (closed-same es e refl ∙ k.closing) (held-same es e refl ∙ k.holding) k.idle
 
 answer_kept : {J O A : Type 0} (asked : J → A) (meaning : A → O) (pipe : Pipeline J O) (es : List (BoardEntry A)) (given : List Notice) (p caller : ℕ) (ask : Arc A Global) (job : J) (backlog : Bool) (answer : Entered) → IsKept asked meaning pipe es → is_queue pipe ≡ true → IsServed es given → is_closed es ≡ false → arc_value ask ≡ asked job
     → IsKept asked meaning (after_entered pipe job answer) (es ++ Enq caller p ask backlog answer ∷ [])

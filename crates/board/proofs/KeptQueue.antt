@@ -10,12 +10,12 @@ use Rattle.cryptd.specs.Server.{started_callback}
 use Rattle.board.specs.declared.entry.BoardEntry.{BoardEntry}
 use Rattle.board.specs.declared.entry.BoardEntry.TheVariants.{Deq, Done, Collect}
 use Rattle.board.specs.declared.pipeline.QueuePipeline.{QueuePipeline}
-use Rattle.board.specs.Entries.{Notice, Starts, Completes, birth, queue_born, accepted_in, submissions, taken_in, takings, takers, finished_in, finished, has, meaning_at, told_in, callback_of, completion, collected_in, last_or, held_in, is_held, is_close, is_closed, is_share, front}
+use Rattle.board.specs.Entries.{Notice, Starts, Completes, birth, queue_born, accepted_in, submissions, taken_in, takings, takers, finished_in, finished, has, meaning_at, told_in, callback_of, completion, collected_in, last_or, held_in, is_held, is_close, is_closed, front}
 use Rattle.board.specs.Order.{completed, numbers_below}
 use Rattle.board.specs.Kept.{IsKeptQueue}
 use Rattle.board.proofs.PadOrder.{filter_map-none, filter_map-some, last_or-append, birth_stays}
 use Rattle.board.proofs.QueueOrder.{IsServed, taker_among, has_only_below, has_below, low_number}
-use Rattle.board.proofs.Kept.{closed-same, shared-same, collected-same, held-same, queue_some}
+use Rattle.board.proofs.Kept.{closed-same, collected-same, held-same, queue_some}
 use Rattle.board.proofs.KeptSubmit.{meaning-more}
 use Rattle.board.proofs.KeptTake.{drop_head}
 use Rattle.board.proofs.KeptCollect.{unbroken_is}
@@ -28,9 +28,9 @@ queue_is asked meaning x es k = ap queue_born k.born
 
 -- an entry that accepts, takes, finishes, tells and collects nothing
 pub quiet_kept : {J O A : Type 0} (asked : J → A) (meaning : A → O) (x : QueuePipeline J O) (es : List (BoardEntry A)) (e : BoardEntry A) (closed held : Bool) → IsKeptQueue asked meaning x es
-    → accepted_in e ≡ None → taken_in e ≡ None → finished_in e ≡ None → told_in e ≡ None → collected_in e ≡ None → is_share e ≡ false → is_closed (es ++ e ∷ []) ≡ closed → is_held (es ++ e ∷ []) ≡ held → (closed ≡ true → length x.queue.line.waiting ≡ 0)
+    → accepted_in e ≡ None → taken_in e ≡ None → finished_in e ≡ None → told_in e ≡ None → collected_in e ≡ None → is_closed (es ++ e ∷ []) ≡ closed → is_held (es ++ e ∷ []) ≡ held → (closed ≡ true → length x.queue.line.waiting ≡ 0)
     → IsKeptQueue asked meaning (record x { closed = closed; queue = record x.queue { held = held } }) (es ++ e ∷ [])
-quiet_kept {J} {O} {A} asked meaning x es e closed held k a t f o c s cl h idle =
+quiet_kept {J} {O} {A} asked meaning x es e closed held k a t f o c cl h idle =
     let subs : submissions (es ++ e ∷ []) ≡ submissions es = filter_map-none accepted_in es e a in
     let fins : finished (es ++ e ∷ []) ≡ finished es = filter_map-none finished_in es e f in
     let tks : takings (es ++ e ∷ []) ≡ takings es = filter_map-none taken_in es e t in
@@ -38,7 +38,6 @@ quiet_kept {J} {O} {A} asked meaning x es e closed held k a t f o c s cl h idle 
     record {
       born = birth_stays es e (queue_some asked meaning x es k) ∙ k.born;
       closing = cl;
-      sharing = shared-same es e s ∙ k.sharing;
       holding = h;
       submitted = rw subs k.submitted;
       waiting = rw subs k.waiting;
@@ -78,9 +77,9 @@ completed_low asked meaning x es given k o n h =
 
 -- an entry that accepts a request
 pub accept_kept : {J O A : Type 0} (asked : J → A) (meaning : A → O) (x : QueuePipeline J O) (es : List (BoardEntry A)) (e : BoardEntry A) (job : J) (given : List Notice) → IsKeptQueue asked meaning x es → IsServed es given → x.closed ≡ false
-    → accepted_in e ≡ Some (asked job) → taken_in e ≡ None → finished_in e ≡ None → told_in e ≡ None → collected_in e ≡ None → is_share e ≡ false → is_close e ≡ false → held_in e ≡ None
+    → accepted_in e ≡ Some (asked job) → taken_in e ≡ None → finished_in e ≡ None → told_in e ≡ None → collected_in e ≡ None → is_close e ≡ false → held_in e ≡ None
     → IsKeptQueue asked meaning (record x { queue = record x.queue { line = record x.queue.line { waiting = x.queue.line.waiting ++ job ∷ [] } } }) (es ++ e ∷ [])
-accept_kept {J} {O} {A} asked meaning x es e job given k v open_ a t f o c s cl h =
+accept_kept {J} {O} {A} asked meaning x es e job given k v open_ a t f o c cl h =
     let subs : submissions (es ++ e ∷ []) ≡ submissions es ++ asked job ∷ [] = filter_map-some accepted_in es e (asked job) a in
     let fins : finished (es ++ e ∷ []) ≡ finished es = filter_map-none finished_in es e f in
     let tks : takings (es ++ e ∷ []) ≡ takings es = filter_map-none taken_in es e t in
@@ -92,7 +91,6 @@ accept_kept {J} {O} {A} asked meaning x es e job given k v open_ a t f o c s cl 
     record {
       born = birth_stays es e (queue_some asked meaning x es k) ∙ k.born;
       closing = closed-same es e cl ∙ k.closing;
-      sharing = shared-same es e s ∙ k.sharing;
       holding = held-same es e h ∙ k.holding;
       submitted = rw subs (omega arith);
       waiting = rw (subs, drop-append-le x.queue.line.served (submissions es) (asked job ∷ []) le, ← k.waiting) (map-append asked x.queue.line.waiting (job ∷ []));
@@ -133,7 +131,6 @@ deq_kept {J} {O} {A} asked meaning x es p caller o job rest k b w =
     record {
       born = birth_stays es e (queue_some asked meaning x es k) ∙ k.born;
       closing = closed-same es e refl ∙ k.closing;
-      sharing = shared-same es e refl ∙ k.sharing;
       holding = held-same es e refl ∙ k.holding;
       submitted = (let s = k.submitted in rw subs (omega arith));
       waiting = rw (subs, add-one) (sym dh.1);
@@ -165,7 +162,6 @@ done_kept {J} {O} {A} asked meaning x es p caller n out k b m =
     record {
       born = birth_stays es e (queue_some asked meaning x es k) ∙ k.born;
       closing = closed-same es e refl ∙ k.closing;
-      sharing = shared-same es e refl ∙ k.sharing;
       holding = held-same es e refl ∙ k.holding;
       submitted = rw subs k.submitted;
       waiting = rw subs k.waiting;
@@ -194,7 +190,6 @@ queue_emptied_kept {J} {O} {A} asked meaning x es p to caller k place =
     record {
       born = birth_stays es e (queue_some asked meaning x es k) ∙ k.born;
       closing = closed-same es e refl ∙ k.closing;
-      sharing = shared-same es e refl ∙ k.sharing;
       holding = held-same es e refl ∙ k.holding;
       submitted = rw subs k.submitted;
       waiting = rw subs k.waiting;

@@ -11,17 +11,17 @@ use Rattle.board.specs.Kept.{IsKeptPad, IsKeptQueue, IsKept, owes}
 
 -- The room for more requests is no part of what a history says.
 
-pad_room : {J O A : Type 0} (asked : J → A) (meaning : A → O) (x : PadPipeline J O) (es : List (BoardEntry A)) (n : ℕ) → IsKeptPad asked meaning x es → IsKeptPad asked meaning (record x { pad = record x.pad { spare = n } }) es
-pad_room asked meaning x es n k = record { born = k.born; closing = k.closing; sharing = k.sharing; submitted = k.submitted; waiting = k.waiting; taken = k.taken; untaken = k.untaken; outcomes = k.outcomes; passed = k.passed; running = k.running; place = k.place; idle = k.idle }
+pub pad_room : {J O A : Type 0} (asked : J → A) (meaning : A → O) (x : PadPipeline J O) (es : List (BoardEntry A)) (n : ℕ) → IsKeptPad asked meaning x es → IsKeptPad asked meaning (record x { pad = record x.pad { spare = n } }) es
+pad_room asked meaning x es n k = record { born = k.born; closing = k.closing; submitted = k.submitted; waiting = k.waiting; taken = k.taken; untaken = k.untaken; outcomes = k.outcomes; passed = k.passed; running = k.running; place = k.place; idle = k.idle }
 
 pad_room_back : {J O A : Type 0} (asked : J → A) (meaning : A → O) (x : PadPipeline J O) (es : List (BoardEntry A)) (n : ℕ) → IsKeptPad asked meaning (record x { pad = record x.pad { spare = n } }) es → IsKeptPad asked meaning x es
-pad_room_back asked meaning x es n k = record { born = k.born; closing = k.closing; sharing = k.sharing; submitted = k.submitted; waiting = k.waiting; taken = k.taken; untaken = k.untaken; outcomes = k.outcomes; passed = k.passed; running = k.running; place = k.place; idle = k.idle }
+pad_room_back asked meaning x es n k = record { born = k.born; closing = k.closing; submitted = k.submitted; waiting = k.waiting; taken = k.taken; untaken = k.untaken; outcomes = k.outcomes; passed = k.passed; running = k.running; place = k.place; idle = k.idle }
 
-queue_room : {J O A : Type 0} (asked : J → A) (meaning : A → O) (x : QueuePipeline J O) (es : List (BoardEntry A)) (n m : ℕ) → IsKeptQueue asked meaning x es → IsKeptQueue asked meaning (record x { queue = record x.queue { spare = n; line = record x.queue.line { spare = m } } }) es
-queue_room asked meaning x es n m k = record { born = k.born; closing = k.closing; sharing = k.sharing; holding = k.holding; submitted = k.submitted; waiting = k.waiting; taken = k.taken; running = k.running; place = k.place; told = k.told; pending = k.pending; idle = k.idle }
+pub queue_room : {J O A : Type 0} (asked : J → A) (meaning : A → O) (x : QueuePipeline J O) (es : List (BoardEntry A)) (n m : ℕ) → IsKeptQueue asked meaning x es → IsKeptQueue asked meaning (record x { queue = record x.queue { spare = n; line = record x.queue.line { spare = m } } }) es
+queue_room asked meaning x es n m k = record { born = k.born; closing = k.closing; holding = k.holding; submitted = k.submitted; waiting = k.waiting; taken = k.taken; running = k.running; place = k.place; told = k.told; pending = k.pending; idle = k.idle }
 
 queue_room_back : {J O A : Type 0} (asked : J → A) (meaning : A → O) (x : QueuePipeline J O) (es : List (BoardEntry A)) (n m : ℕ) → IsKeptQueue asked meaning (record x { queue = record x.queue { spare = n; line = record x.queue.line { spare = m } } }) es → IsKeptQueue asked meaning x es
-queue_room_back asked meaning x es n m k = record { born = k.born; closing = k.closing; sharing = k.sharing; holding = k.holding; submitted = k.submitted; waiting = k.waiting; taken = k.taken; running = k.running; place = k.place; told = k.told; pending = k.pending; idle = k.idle }
+queue_room_back asked meaning x es n m k = record { born = k.born; closing = k.closing; holding = k.holding; submitted = k.submitted; waiting = k.waiting; taken = k.taken; running = k.running; place = k.place; told = k.told; pending = k.pending; idle = k.idle }
 
 kept_without : {J O A : Type 0} (asked : J → A) (meaning : A → O) (pipe : Pipeline J O) (es : List (BoardEntry A)) → IsKept asked meaning pipe es → IsKept asked meaning (without_room pipe) es
 kept_without asked meaning (pipeline.Pad x) es k = pad_room asked meaning x es 0 k

@@ -19,7 +19,7 @@ use Rattle.board.proofs.PadOrder.{filter_map-none, filter_map-some, birth_stays}
 use Rattle.std.proofs.lemmas.List.{get_or_append_left}
 use Rattle.std.proofs.Math.Seq.{get_or-append_seam}
 use Rattle.std.proofs.Common.{add-one}
-use Rattle.board.proofs.Kept.{closed-same, shared-same, collected-same, born_some}
+use Rattle.board.proofs.Kept.{closed-same, collected-same, born_some}
 
 -- the head and the rest of what is left of a list
 pub drop_head : {X : Type 0} (xs : List X) (n : ℕ) (x : X) (ys : List X) → drop n xs ≡ x ∷ ys → (slice_get xs n ≡ Some x) × (drop (suc n) xs ≡ ys)
@@ -74,7 +74,6 @@ take_kept {J} {O} {A} asked meaning pipe es p caller job rest k w =
     record {
       born = birth_stays es e (born_some asked meaning pipe es k) ∙ k.born;
       closing = closed-same es e refl ∙ k.closing;
-      sharing = shared-same es e refl ∙ k.sharing;
       submitted = (let s = k.submitted in rw subs (omega arith));
       waiting = rw (subs, t1, add-one) (sym dh.1);
       taken = λ m l. taken_after asked meaning pipe es p caller k m (rw t1 at l) (cases_lt m (taken_of pipe.pad));

@@ -10,7 +10,7 @@ use Rattle.board.specs.declared.allowance.Used.{Used}
 use Rattle.board.specs.Allowance.{used_at, used_in, accepted_from, accepted_by, IsKeptUsed}
 use Rattle.board.proofs.PadOrder.{filter_map-none, filter_map-some}
 
-nothing_from : {A : Type 0} (b : Bool) (o : Option A) → o ≡ None → cond b o None ≡ None
+pub nothing_from : {A : Type 0} (b : Bool) (o : Option A) → o ≡ None → cond b o None ≡ None
 nothing_from true o h = h
 nothing_from false o h = refl
 

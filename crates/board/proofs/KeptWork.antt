@@ -229,6 +229,10 @@ finish_step {J} {O} {A} asked meaning pipes log p n caller out pipe after k with
 pub first_made : {J O A : Type 0} (pipe : Pipeline J O) (caller p number : ℕ) (started : Option ℕ) (pad : Bool) → pad ≡ is_pad pipe → number ≡ next_of pipe → started ≡ started_by pipe → cond {A = BoardEntry A} pad (Take caller p number) (Deq caller p number started) ≡ first_taken pipe caller p
 first_made pipe caller p number started pad a b c = rw (a, b, c) refl
 
+pub first_is_pad : {J O : Type 0} (pipe : Pipeline J O) (rest : List J) → is_pad (without_first pipe rest) ≡ is_pad pipe
+first_is_pad (pipeline.Pad x) rest = refl
+first_is_pad (pipeline.Queue x) rest = refl
+
 pub ended_made : {J O A : Type 0} (pipe after : Pipeline J O) (caller p n : ℕ) (out : O) (pad : Bool) → pad ≡ is_pad after → after ≡ ended pipe n out → cond {A = BoardEntry A} pad (Finish caller p n) (Done caller p n) ≡ job_ended pipe caller p n
 ended_made pipe after caller p n out pad a e = rw (a ∙ (ap is_pad e ∙ ended_is_pad pipe n out)) refl
 

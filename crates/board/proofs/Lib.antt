@@ -11,12 +11,15 @@ pub mod KeptCollect
 pub mod KeptQueue
 pub mod KeptServed
 pub mod KeptWork
+pub mod InLine
 pub mod KeptHanding
 pub mod KeptEnqueue
 pub mod QueueOrder
 pub mod KeptUsed
 pub mod KeptClose
+pub mod KeptShare
 pub mod Staying
 pub mod StartOrder
 pub mod QueueAll
 pub mod Handing
+pub mod Others

@@ -15,7 +15,7 @@ use Rattle.board.specs.Order.{AreRightForAfter, numbers_below}
 use Rattle.board.specs.Staying.{IsDrained, OpensPad, OpensQueue, StaysOpen, QueueStaysOpen, StaysManaged, StaysSubmitting, BornServed, Holds, StaysHeld, SlipStays, IsOpenFor, IsOpenQueueFor, CollectDrains, is_work, WorkLeaves, IsWorkOf, TakingIsWork, FinishingIsWork}
 use Rattle.board.proofs.Transfer.{right_for, entries-more, entries-same, each_right}
 use Rattle.board.proofs.PadOrder.{filter_map-none, birth_stays, filter_map-some, last_or-append, told_on_pad}
-use Rattle.board.proofs.Kept.{takers-same, closed-same, held-same, has-more, collected-same}
+use Rattle.board.proofs.Kept.{takers-same, closed-same, held-same, shared-same, has-more, collected-same}
 use Rattle.board.proofs.KeptTake.{takers-more}
 use Rattle.board.proofs.QueueOrder.{served_run, served_start, taker_among, has_only_below, queue_is_born, told_on_queue}
 
@@ -242,14 +242,14 @@ taking_is_work h caller p n = work_if (pad_born (birth (entries_of p h))) (Take 
 pub finishing_is_work : {A : Type 0} (h : List (BoardEntry A)) (caller p n : ℕ) → FinishingIsWork h caller p n
 finishing_is_work h caller p n = work_if (pad_born (birth (entries_of p h))) (Finish caller p n) (Done caller p n) caller (refl, refl, refl) (refl, refl, refl)
 
-accepts_none : {A : Type 0} (e : BoardEntry A) → is_work e ≡ true → (accepted_in e ≡ None) × (collected_in e ≡ None)
+accepts_none : {A : Type 0} (e : BoardEntry A) → is_work e ≡ true → (accepted_in e ≡ None) × (collected_in e ≡ None) × (is_share e ≡ false)
 accepts_none (Born caller pipe shape) w = cc
 accepts_none (Submit caller pipe number ask) w = cc
-accepts_none (Take caller pipe number) w = (refl, refl)
-accepts_none (Finish caller pipe number) w = (refl, refl)
+accepts_none (Take caller pipe number) w = (refl, refl, refl)
+accepts_none (Finish caller pipe number) w = (refl, refl, refl)
 accepts_none (Enq caller pipe ask backlog answer) w = cc
-accepts_none (Deq caller pipe number started) w = (refl, refl)
-accepts_none (Done caller pipe number) w = (refl, refl)
+accepts_none (Deq caller pipe number started) w = (refl, refl, refl)
+accepts_none (Done caller pipe number) w = (refl, refl, refl)
 accepts_none (Hold caller pipe) w = cc
 accepts_none (Go caller pipe) w = cc
 accepts_none (Collect caller pipe to) w = cc
@@ -259,8 +259,8 @@ accepts_none (Shut caller) w = cc
 
 work_cases : {A : Type 0} (h : List (BoardEntry A)) (e : BoardEntry A) (p : ℕ) (b : Bool) → is_of p e ≡ b → WorkLeaves h e p
 work_cases h e p true s w =
-    rw (entries-more h p e s) (filter_map-none accepted_in (entries_of p h) e (accepts_none e w).0, collected-same (entries_of p h) e (accepts_none e w).1)
-work_cases h e p false s w = rw (entries-same h p e s) (refl, refl)
+    rw (entries-more h p e s) (filter_map-none accepted_in (entries_of p h) e (accepts_none e w).0, collected-same (entries_of p h) e (accepts_none e w).1, shared-same (entries_of p h) e (accepts_none e w).2)
+work_cases h e p false s w = rw (entries-same h p e s) (refl, refl, refl)
 
 pub work_leaves : {A : Type 0} (h : List (BoardEntry A)) (e : BoardEntry A) (p : ℕ) → WorkLeaves h e p
 work_leaves h e p = work_cases h e p (is_of p e) refl

@@ -10,21 +10,29 @@ use Rattle.board.specs.declared.entry.Entered.TheVariants.{InProgress, Busy, NoS
 use Rattle.board.specs.declared.entry.BoardEntry.{BoardEntry}
 use Rattle.board.specs.declared.entry.BoardEntry.TheVariants.{Born, Submit, Take, Finish, Enq, Deq, Done, Hold, Go, Collect, Close, Share, Shut}
 
+-- of which pipeline the entry is
+abbrev pub pipe_of : {A : Type 0} → BoardEntry A → Option ℕ
+pipe_of (Born caller pipe shape) = Some pipe
+pipe_of (Submit caller pipe number ask) = Some pipe
+pipe_of (Take caller pipe number) = Some pipe
+pipe_of (Finish caller pipe number) = Some pipe
+pipe_of (Enq caller pipe ask backlog answer) = Some pipe
+pipe_of (Deq caller pipe number started) = Some pipe
+pipe_of (Done caller pipe number) = Some pipe
+pipe_of (Hold caller pipe) = Some pipe
+pipe_of (Go caller pipe) = Some pipe
+pipe_of (Collect caller pipe to) = Some pipe
+pipe_of (Close caller pipe) = Some pipe
+pipe_of (Share caller pipe) = Some pipe
+pipe_of (Shut caller) = None
+
+abbrev pub is_pipe : ℕ → Option ℕ → Bool
+is_pipe p (Some pipe) = pipe == p
+is_pipe p None = false
+
 -- whether the entry is one of the pipeline's
 abbrev pub is_of : {A : Type 0} → ℕ → BoardEntry A → Bool
-is_of p (Born caller pipe shape) = pipe == p
-is_of p (Submit caller pipe number ask) = pipe == p
-is_of p (Take caller pipe number) = pipe == p
-is_of p (Finish caller pipe number) = pipe == p
-is_of p (Enq caller pipe ask backlog answer) = pipe == p
-is_of p (Deq caller pipe number started) = pipe == p
-is_of p (Done caller pipe number) = pipe == p
-is_of p (Hold caller pipe) = pipe == p
-is_of p (Go caller pipe) = pipe == p
-is_of p (Collect caller pipe to) = pipe == p
-is_of p (Close caller pipe) = pipe == p
-is_of p (Share caller pipe) = pipe == p
-is_of p (Shut caller) = false
+is_of p e = is_pipe p (pipe_of e)
 
 -- the entries of one pipeline
 abbrev pub entries_of : {A : Type 0} → ℕ → List (BoardEntry A) → List (BoardEntry A)

@@ -1,10 +1,10 @@
 -- What one more entry hands out, and when all is handed out.
-use Rattle.std.specs.Prelude.{◌≡◌, ◌≤◌, ℕ, ◌+◌, Bool, true, false, List, [], ◌∷◌, ◌++◌, length, filter}
+use Rattle.std.specs.Prelude.{◌≡◌, ◌<◌, ◌≤◌, ℕ, ◌+◌, Bool, true, false, List, [], ◌∷◌, ◌++◌, length, filter}
 use Rattle.kc_base.specs.declared.callback_list.Callback.{Callback}
 use Rattle.kc_base.specs.declared.callback_list.Callback.TheVariants.{Started, Done}
 use Rattle.board.specs.declared.entry.BoardEntry.{BoardEntry}
 use Rattle.board.specs.declared.entry.BoardEntry.TheVariants.{Collect}
-use Rattle.board.specs.Entries.{entries_of, submissions, front, delivered}
+use Rattle.board.specs.Entries.{entries_of, submissions, finished, has, front, delivered}
 use Rattle.board.specs.Legal.{IsOpen, LegalBoard}
 use Rattle.board.specs.Order.{handed_out, completed, AreAllFinished}
 use Rattle.board.specs.Staying.{IsDrained}
@@ -46,3 +46,11 @@ AllHandedOutIsDrained h p =
 -- where the front is at all submissions, each request is finished
 abbrev pub FrontIsAll : {A : Type 0} → List (BoardEntry A) → Type 0
 FrontIsAll es = front es ≡ length (submissions es) → AreAllFinished es
+
+-- every number below the front is finished
+abbrev pub FrontIsFinished : {A : Type 0} → List (BoardEntry A) → ℕ → Type 0
+FrontIsFinished es n = n < front es → has n (finished es) ≡ true
+
+-- and the front itself is not, where it was submitted: it is the greatest such number
+abbrev pub FrontIsGreatest : {A : Type 0} → List (BoardEntry A) → Type 0
+FrontIsGreatest es = front es < length (submissions es) → has (front es) (finished es) ≡ false

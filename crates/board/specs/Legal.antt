@@ -4,7 +4,7 @@ use Rattle.board.specs.declared.entry.Shape.{Shape}
 use Rattle.board.specs.declared.entry.Shape.TheVariants.{Pad, Queue}
 use Rattle.board.specs.declared.entry.BoardEntry.{BoardEntry}
 use Rattle.board.specs.declared.entry.BoardEntry.TheVariants.{Born, Submit, Take, Finish, Enq, Deq, Done, Hold, Go, Collect, Close, Share, Shut}
-use Rattle.board.specs.Entries.{entries_of, birth_in, birth, pad_born, queue_born, submissions, takings, takers, finished, has, meaning_at, front, verdict, waiting, starts, told, collected, is_held, is_closed, is_shared}
+use Rattle.board.specs.Entries.{pipe_of, entries_of, birth_in, birth, pad_born, queue_born, submissions, takings, takers, finished, has, meaning_at, front, verdict, waiting, starts, told, collected, is_held, is_closed, is_shared}
 
 -- callers 1 to 16 are workers
 abbrev pub IsNoWorker : ℕ → Type 0
@@ -73,21 +73,16 @@ is_shut_entry _ = false
 abbrev pub is_shut : {A : Type 0} → List (BoardEntry A) → Bool
 is_shut h = list_any is_shut_entry h
 
+-- an entry of this pipeline may come after its entries
+abbrev pub IsRightOn : {A : Type 0} → Option ℕ → List (BoardEntry A) → BoardEntry A → Type 0
+IsRightOn (Some pipe) h e = IsRightFor (entries_of pipe h) e
+IsRightOn None h e = ⊥
+
 -- the entry may come after these
 abbrev pub IsRight : {A : Type 0} → List (BoardEntry A) → BoardEntry A → Type 0
 IsRight h (Born caller pipe shape) = (pipe ≡ pipelines h) × IsRightFor (entries_of pipe h) (Born caller pipe shape)
-IsRight h (Submit caller pipe number ask) = IsRightFor (entries_of pipe h) (Submit caller pipe number ask)
-IsRight h (Take caller pipe number) = IsRightFor (entries_of pipe h) (Take caller pipe number)
-IsRight h (Finish caller pipe number) = IsRightFor (entries_of pipe h) (Finish caller pipe number)
-IsRight h (Enq caller pipe ask backlog answer) = IsRightFor (entries_of pipe h) (Enq caller pipe ask backlog answer)
-IsRight h (Deq caller pipe number started) = IsRightFor (entries_of pipe h) (Deq caller pipe number started)
-IsRight h (Done caller pipe number) = IsRightFor (entries_of pipe h) (Done caller pipe number)
-IsRight h (Hold caller pipe) = IsRightFor (entries_of pipe h) (Hold caller pipe)
-IsRight h (Go caller pipe) = IsRightFor (entries_of pipe h) (Go caller pipe)
-IsRight h (Collect caller pipe to) = IsRightFor (entries_of pipe h) (Collect caller pipe to)
-IsRight h (Close caller pipe) = IsRightFor (entries_of pipe h) (Close caller pipe)
-IsRight h (Share caller pipe) = IsRightFor (entries_of pipe h) (Share caller pipe)
 IsRight h (Shut caller) = (caller ≡ 0) × (is_shut h ≡ false)
+IsRight h e = IsRightOn (pipe_of e) h e
 
 -- each entry of the list is right after those before it
 abbrev pub AreRightAfter : {A : Type 0} → List (BoardEntry A) → List (BoardEntry A) → Type 0

@@ -3,7 +3,10 @@ pub mod Legal
 pub mod Order
 pub mod Allowance
 pub mod Pipelines
+pub mod Ready
 pub mod Kept
 pub mod Examples
 pub mod Staying
 pub mod Handing
+pub mod Others
+pub mod Slips

@@ -123,9 +123,9 @@ abbrev pub callbacks_of : {J O : Type 0} → Pipeline J O → List (Callback O)
 callbacks_of (Pad place) = done_from place.pad.collected (ready place.pad.outcomes)
 callbacks_of (Queue place) = place.queue.pending
 
--- for how many callbacks a collect needs room
+-- how many these are
 abbrev pub uncollected_of : {J O : Type 0} → Pipeline J O → ℕ
-uncollected_of (Pad place) = length place.pad.outcomes + length place.pad.waiting
+uncollected_of (Pad place) = length (ready place.pad.outcomes)
 uncollected_of (Queue place) = length place.queue.pending
 
 -- after all of them were collected
@@ -139,6 +139,12 @@ emptied (Pad place) =
     })
 emptied (Queue place) = Queue (record place { collected = place.collected + length place.queue.pending; queue = record place.queue { pending = [] } })
 
+-- all is done and collected
+abbrev pub IsSpent : {J O : Type 0} → Pipeline J O → Type 0
+IsSpent (Pad place) = (place.pad.waiting ≡ []) × (place.pad.outcomes ≡ [])
+IsSpent (Queue place) = (place.queue.busy ≡ false) × (place.queue.line.waiting ≡ []) × (place.queue.pending ≡ [])
+
+-- after it was closed: no room is kept
 abbrev pub closed : {J O : Type 0} → Pipeline J O → Pipeline J O
-closed (Pad place) = Pad (record place { closed = true })
-closed (Queue place) = Queue (record place { closed = true })
+closed (Pad place) = Pad (record place { closed = true; pad = record place.pad { spare = 0 } })
+closed (Queue place) = Queue (record place { closed = true; queue = record place.queue { spare = 0; line = record place.queue.line { spare = 0 } } })

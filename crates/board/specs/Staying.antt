@@ -3,7 +3,7 @@ use Rattle.board.specs.declared.entry.Shape.{Shape}
 use Rattle.board.specs.declared.entry.Shape.TheVariants.{Pad, Queue}
 use Rattle.board.specs.declared.entry.BoardEntry.{BoardEntry}
 use Rattle.board.specs.declared.entry.BoardEntry.TheVariants.{Born, Take, Finish, Deq, Done, Hold, Go, Collect}
-use Rattle.board.specs.Entries.{is_of, entries_of, submissions, front, told, collected, is_close, held_in, is_held, caller_of, take_entry, finish_entry}
+use Rattle.board.specs.Entries.{is_of, entries_of, submissions, front, told, collected, is_close, held_in, is_held, is_shared, caller_of, take_entry, finish_entry}
 use Rattle.board.specs.Legal.{IsOpenPad, IsOpenQueue, IsOpen, MaySubmit, MayManage, MayFinish, LegalBoard}
 
 -- an entry of the pipeline comes after those before it
@@ -86,12 +86,13 @@ is_work (Deq caller pipe number started) = true
 is_work (Done caller pipe number) = true
 is_work _ = false
 
--- it accepts nothing and hands nothing out
+-- it accepts nothing, hands nothing out and shares nothing
 abbrev pub WorkLeaves : {A : Type 0} → List (BoardEntry A) → BoardEntry A → ℕ → Type 0
 WorkLeaves h e p =
     is_work e ≡ true
     → (submissions (entries_of p (h ++ e ∷ [])) ≡ submissions (entries_of p h))
     × (collected (entries_of p (h ++ e ∷ [])) ≡ collected (entries_of p h))
+    × (is_shared (entries_of p (h ++ e ∷ [])) ≡ is_shared (entries_of p h))
 
 -- the entry is work of this caller's
 abbrev pub IsWorkOf : {A : Type 0} → BoardEntry A → ℕ → Type 0

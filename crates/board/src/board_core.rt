@@ -4,19 +4,21 @@ ghost use Rattle.std.specs.Prelude.{◌≡◌, ◌≤◌, false, [], ◌∷◌, 
 ghost use Rattle.board.specs.declared.entry.Shape.TheVariants as Shaped;
 ghost use Rattle.board.specs.declared.entry.BoardEntry.TheVariants as Entry;
 ghost use Rattle.board.specs.declared.board_core.BoardErr.TheVariants as BoardErr;
-ghost use Rattle.board.specs.Entries.{entries_of, submissions, front, told, collected};
+ghost use Rattle.board.specs.Entries.{entries_of, is_shared, submissions, front, told, collected};
 ghost use Rattle.board.specs.Legal.{IsNoWorker, MayManage, IsOpen, pipelines, is_shut, LegalBoard};
 
 use crate::allowance::Used;
 use crate::entry::{BoardEntry, Shape};
 use crate::log::{BoardLog, reserve_entries};
 use crate::pipeline::{PadPipeline, Pipeline};
+use crate::ready::Ready;
 use crate::work::Work;
 use padata_core::Padata;
 use std::alloc::{AllocError, Global};
 use std::collections::BTreeMap;
 use std::marker::Model;
 use thiserror::Error;
+use turn_lock::Told;
 
 /// Why a board refuses.
 #[derive(Clone, Copy, Debug, PartialEq, Eq, Error)]
@@ -43,6 +45,8 @@ pub struct BoardCore<W: Work> {
     pub(crate) alloc: Global,
     pub(crate) log: Vec<BoardEntry<W::Ask>>,
     pub(crate) pipes: Vec<Pipeline<W, W::Out>>,
+    /// In line stands each pipeline of which a job may be taken.
+    pub(crate) ready: Ready,
     /// For how many entries room is kept in `log`, since they may not be refused for want of memory.
     pub(crate) owed: usize,
     shut: bool,
@@ -60,10 +64,21 @@ impl<W: Work> Model for BoardCore<W> {
     ghost use Rattle.board.specs.Legal.{is_shut};
     ghost use Rattle.board.specs.Kept.{IsKeptBoard, owed_by};
     ghost use Rattle.board.specs.Allowance.{IsKeptUsed};
+    ghost use Rattle.board.specs.Ready.{IsReadyFor};
 
     ghost view = { λ b. b.log.items };
 
-    ghost invariant = { λ b. IsKeptBoard W.asked W.meaning b.pipes.items b.log.items × (is_shut b.log.items ≡ b.shut) × (vec_len b.log + b.owed ≤ vec_capacity b.log) × (b.owed ≡ owed_by b.pipes.items + (if b.shut then 0 else 1)) × IsKeptUsed W.weight b.used b.log.items };
+    ghost invariant = { λ b. IsKeptBoard W.asked W.meaning b.pipes.items b.log.items × (is_shut b.log.items ≡ b.shut) × (vec_len b.log + b.owed ≤ vec_capacity b.log) × (b.owed ≡ owed_by b.pipes.items + (if b.shut then 0 else 1)) × IsKeptUsed W.weight b.used b.log.items × IsReadyFor b.pipes.items b.ready };
+}
+
+impl<W: Work> Told for BoardCore<W> {
+    type Entry = BoardEntry<W::Ask>;
+
+    ghost use Rattle.board.specs.Entries.{caller_of};
+
+    ghost told = { λ board. board };
+
+    ghost by = { caller_of };
 }
 
 impl<W: Work> BoardCore<W> {
@@ -77,6 +92,7 @@ impl<W: Work> BoardCore<W> {
             alloc,
             log,
             pipes: Vec::new(alloc),
+            ready: Ready::new(alloc),
             owed: 1,
             shut: false,
             used: BTreeMap::new(alloc),
@@ -95,6 +111,7 @@ impl<W: Work> BoardCore<W> {
         let pad = Padata::new(self.alloc, lists)?;
         reserve_entries(&mut self.log, self.owed, 2)?;
         self.pipes.reserve(1)?;
+        self.ready.grow()?;
         let pipe = self.pipes.len() as u64;
         let place = PadPipeline {
             maker: caller,
@@ -111,10 +128,26 @@ impl<W: Work> BoardCore<W> {
         Ok(pipe)
     }
 
-    /// Closes a pad or a queue that the caller made, of which all is finished and handed out. No memory is taken.
+    /// Lets others than the caller submit to a pad or a queue that it made, which isn't closed. Only want of memory refuses,
+    /// and leaves the board as it was.
+    pub fn share(&mut self, caller: u32, pipe: u64) -> Result<(), BoardErr>
+        requires caller { MayManage (entries_of pipe self.old) caller }
+        requires pipe { IsOpen (entries_of pipe self.old) }
+        ensures shared { MatchResult result (λ _. self.new ≡ self.old ++ Entry.Share caller pipe ∷ []) (λ _. self.new ≡ self.old) }
+        ensures refused { IfErr result (λ e. e ≡ BoardErr.Memory) }
+        ensures legal { LegalBoard self.new }
+    {
+        reserve_entries(&mut self.log, self.owed, 1)?;
+        self.log.push_reserved(BoardEntry::Share { caller, pipe });
+        Ok(())
+    }
+
+    /// Closes a pad or a queue that the caller made and shared with nobody, of which all is finished and handed out. No
+    /// memory is taken.
     pub fn close(&mut self, caller: u32, pipe: u64)
         requires caller { MayManage (entries_of pipe self.old) caller }
         requires pipe { IsOpen (entries_of pipe self.old) }
+        requires alone { is_shared (entries_of pipe self.old) ≡ false }
         requires finished { front (entries_of pipe self.old) ≡ length (submissions (entries_of pipe self.old)) }
         requires collected { collected (entries_of pipe self.old) ≡ length (told (entries_of pipe self.old)) }
         ensures closed { self.new ≡ self.old ++ Entry.Close caller pipe ∷ [] }
@@ -146,9 +179,17 @@ impl<W: Work> BoardCore<W> {
         self.shut
     }
 
+    /// Shows that the board's history is legal, as it is at any time. It does nothing.
+    pub fn is_legal(&self)
+        ensures { LegalBoard self.now }
+    {
+        let _log = &self.log;
+    }
+
     /// The history, at the board's end. No memory is taken.
     pub fn finish_all(self) -> BoardLog<W::Ask>
-        ensures { result ≡ self }
+        ensures history { result ≡ self }
+        ensures legal { LegalBoard result }
     {
         BoardLog::of(self.log)
     }

@@ -1,7 +1,6 @@
 //! What happens on a board.
 
-ghost use Rattle.std.specs.Prelude.{◌≡◌, if◌then◌else◌};
-ghost use Rattle.board.specs.declared.entry.BoardEntry.TheVariants as Entry;
+ghost use Rattle.std.specs.Prelude.{◌≡◌};
 ghost use Rattle.board.specs.Entries.{work_of};
 
 use std::alloc::Global;
@@ -107,62 +106,6 @@ pub enum BoardEntry<A> {
     Shut {
         caller: u32,
     },
-}
-
-/// The entry by which a pad's or a queue's number is taken.
-pub(crate) fn take_entry<A>(
-    pad: bool,
-    caller: u32,
-    pipe: u64,
-    number: u64,
-    started: Option<u64>,
-) -> BoardEntry<A>
-    ensures { result ≡ (if pad then Entry.Take caller pipe number else Entry.Deq caller pipe number started) }
-{
-    if pad {
-        BoardEntry::Take {
-            caller,
-            pipe,
-            number,
-        }
-    } else {
-        BoardEntry::Deq {
-            caller,
-            pipe,
-            number,
-            started,
-        }
-    }
-}
-
-/// The entry by which a pad's or a queue's number is finished.
-pub(crate) fn finish_entry<A>(pad: bool, caller: u32, pipe: u64, number: u64) -> BoardEntry<A>
-    ensures { result ≡ (if pad then Entry.Finish caller pipe number else Entry.Done caller pipe number) }
-{
-    if pad {
-        BoardEntry::Finish {
-            caller,
-            pipe,
-            number,
-        }
-    } else {
-        BoardEntry::Done {
-            caller,
-            pipe,
-            number,
-        }
-    }
-}
-
-/// The entry by which a queue is held or let go.
-pub(crate) fn hold_entry<A>(held: bool, caller: u32, pipe: u64) -> BoardEntry<A>
-    ensures { result ≡ (if held then Entry.Hold caller pipe else Entry.Go caller pipe) }
-{
-    if held {
-        BoardEntry::Hold { caller, pipe }
-    } else {
-        BoardEntry::Go { caller, pipe }
-    }
 }
 
 /// How many entries of work follow on a queue's answer: two where it accepts.

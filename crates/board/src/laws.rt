@@ -9,12 +9,13 @@ ghost use Rattle.board.specs.declared.entry.Shape.{Shape};
 ghost use Rattle.board.specs.declared.entry.Entered.TheVariants.{Busy, NoSpace};
 ghost use Rattle.board.specs.declared.entry.BoardEntry.{BoardEntry};
 ghost use Rattle.board.specs.declared.entry.BoardEntry.TheVariants.{Submit, Finish, Enq, Deq, Go, Collect, Close};
-ghost use Rattle.board.specs.Entries.{Starts, Completes, told, entries_of, delivered};
+ghost use Rattle.board.specs.Entries.{Starts, Completes, told, front, entries_of, delivered};
 ghost use Rattle.board.specs.Legal.{IsRight, LegalBoard};
 ghost use Rattle.board.specs.Order.{PadsKeepOrder, PadsWaitForEach, PadsHandOutAll, QueuesKeepOrder, QueuesHandOutTold, QueuesCompleteInOrder, QueuesHandOutAll, StartsBackloggedAlone, StartsEachOnce, StartsBeforeCompletion};
 ghost use Rattle.board.specs.Staying.{Joins, LeavesOthers, BeginsAlone, OpensPad, OpensQueue, StaysOpen, QueueStaysOpen, StaysManaged, StaysSubmitting, BornServed, Holds, StaysHeld, SlipStays, CollectDrains, WorkLeaves, TakingIsWork, FinishingIsWork};
-ghost use Rattle.board.specs.Handing.{HandsNothing, HandsOutAtMost, FrontIsAll, CollectHandsOut, AllHandedOutIsDrained};
-ghost use Rattle.board.specs.Examples.{held_requests, held_queue, second_first};
+ghost use Rattle.board.specs.Handing.{HandsNothing, HandsOutAtMost, FrontIsFinished, FrontIsGreatest, FrontIsAll, CollectHandsOut, AllHandedOutIsDrained};
+ghost use Rattle.board.specs.Others.{OthersAlone, WorkLeavesKnown, WorkLeavesDrained, WorkLeavesOwn, OthersLeaveOpen, OthersLeaveSlips};
+ghost use Rattle.board.specs.Examples.{held_requests, held_queue, second_first, first_alone};
 
 /// In every legal history a pad hands out the completions of its requests in their order, each once, however its jobs were
 /// taken and finished; and, where all were finished before its last collect, of all of them.
@@ -42,7 +43,7 @@ pub fn queues_start_backlog<A>()
 {}
 
 /// What stays of a pipeline while a history goes on: it is open until it is closed, who may manage it or submit to it may do
-/// so later, and work accepts nothing and hands nothing out. A pad or queue of which all is finished may be closed after a
+/// so later, and work accepts nothing, hands nothing out and shares nothing. A pad or queue of which all is finished may be closed after a
 /// collect. What `take` and `finish` add is work of their caller's.
 pub fn pipelines_stay<A>()
     ensures born { (h : List (BoardEntry A)) (caller p lists : ℕ) → OpensPad h caller p lists }
@@ -79,10 +80,13 @@ pub fn only_collects_hand_out<A>()
     ensures drained { (h : List (BoardEntry A)) (p : ℕ) → AllHandedOutIsDrained h p }
 {}
 
-/// Where the front of a pipeline is at all of its submissions, as after a drain, each of its requests is finished: what
-/// `pads_keep_order` and `queues_keep_order` ask for, so that a collect hands out all completions.
+/// The front of a pipeline is the greatest number below which each request is finished. Where it is at all of the pipeline's
+/// submissions, as after a drain, each of its requests is finished: what `pads_keep_order` and `queues_keep_order` ask for, so
+/// that a collect hands out all completions.
 pub fn fronts_tell_all<A>()
-    ensures { (es : List (BoardEntry A)) → FrontIsAll es }
+    ensures below { (es : List (BoardEntry A)) (n : ℕ) → FrontIsFinished es n }
+    ensures greatest { (es : List (BoardEntry A)) → FrontIsGreatest es }
+    ensures all { (es : List (BoardEntry A)) → FrontIsAll es }
 {}
 
 /// A collect hands out as many completions as are among the callbacks that it delivers.
@@ -95,10 +99,26 @@ pub fn slips_stay<A, O>()
     ensures { (meaning : A → O) (h : List (BoardEntry A)) (e : BoardEntry A) (p caller n : ℕ) (out : O) → SlipStays meaning h e p caller n out }
 {}
 
-/// A pad whose second job is finished first has a legal history. It hands out nothing past a job that still runs; only who
+/// Entries of others, and work of a caller's own, leave what it knows: of the pipelines that it made who manages them, whether
+/// they are open, held and shared, what was collected from them and, where they aren't shared, what they accepted and that
+/// they are drained; and what was accepted from it. For caller 0 that the board isn't shut. Entries of others alone leave that
+/// it may submit, and the jobs that it took.
+pub fn others_leave<A, O>()
+    ensures alone { (h es : List (BoardEntry A)) (caller : ℕ) → OthersAlone h es caller }
+    ensures mine { (h es : List (BoardEntry A)) (p caller : ℕ) → WorkLeavesKnown h es p caller }
+    ensures drained { (h es : List (BoardEntry A)) (p caller : ℕ) → WorkLeavesDrained h es p caller }
+    ensures own { (h es : List (BoardEntry A)) (caller : ℕ) → WorkLeavesOwn h es caller }
+    ensures submitting { (h es : List (BoardEntry A)) (p caller : ℕ) → OthersLeaveOpen h es p caller }
+    ensures slips { (meaning : A → O) (h es : List (BoardEntry A)) (p caller n : ℕ) (out : O) → OthersLeaveSlips meaning h es p caller n out }
+{}
+
+/// A pad whose second job is finished first has a legal history. It hands out nothing past a job that still runs, and what
+/// stands before that job, though others run; only who
 /// took a job finishes it, once; no worker submits; and it isn't closed before all is handed out.
 pub fn legal_pads()
     ensures legal { (a b : Arc ℕ Global) → LegalBoard (second_first a b ++ Collect 0 0 0 ∷ Finish 1 0 0 ∷ Collect 0 0 2 ∷ Close 0 0 ∷ []) }
+    ensures front { (a b : Arc ℕ Global) → (front (entries_of 0 (second_first a b)) ≡ 0) × (front (entries_of 0 (first_alone a b)) ≡ 1) }
+    ensures partial { (a b : Arc ℕ Global) → LegalBoard (first_alone a b ++ Collect 0 0 1 ∷ []) }
     ensures gap { (a b : Arc ℕ Global) → ¬ IsRight (second_first a b) (Collect 0 0 1) }
     ensures taker { (a b : Arc ℕ Global) → ¬ IsRight (second_first a b) (Finish 2 0 0) }
     ensures once { (a b : Arc ℕ Global) → ¬ IsRight (second_first a b) (Finish 2 0 1) }

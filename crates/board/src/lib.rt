@@ -13,6 +13,7 @@ mod pipeline;
 #[cfg(test)]
 mod queue_tests;
 mod queues;
+mod ready;
 mod submitting;
 #[cfg(test)]
 mod tests;
@@ -23,8 +24,8 @@ pub use board_core::{BoardCore, BoardErr};
 pub use entry::{BoardEntry, Entered, Shape};
 pub use laws::{
     collects_hand_out, entries_join, fronts_tell_all, legal_pads, legal_queues,
-    only_collects_hand_out, pads_keep_order, pipelines_stay, queues_hold, queues_keep_order,
-    queues_start_backlog, slips_stay,
+    only_collects_hand_out, others_leave, pads_keep_order, pipelines_stay, queues_hold,
+    queues_keep_order, queues_start_backlog, slips_stay,
 };
 pub use log::BoardLog;
 pub use work::Work;

@@ -1,10 +1,13 @@
 //! One pipeline of a board: a pad or a queue.
 
-ghost use Rattle.std.specs.Prelude.{◌≡◌, ℕ, ◌<◌, ◌≤◌, ◌^◌, true, ◌∷◌, ◌++◌, length, slice_index_or, OnOk, MatchBool, MatchOption};
+ghost use Rattle.std.specs.Prelude.{◌≡◌, ℕ, ◌<◌, ◌≤◌, ◌^◌, true, false, if◌then◌else◌, ◌∷◌, ◌++◌, length, slice_index_or, OnOk, MatchBool, MatchOption};
 ghost use Rattle.board.specs.declared.pipeline.Pipeline.{Pipeline};
-ghost use Rattle.board.specs.Pipelines.{is_pad, is_queue, without_room, room_of, waiting_in, accepted_of, next_of, started_by, told_of, callbacks_of, uncollected_of, accepts, entered_on, MayServe, IsQuiet, MayEnd, IsDone, IsUndone, with_job, after_entered, without_first, ended, emptied, closed, holding};
+ghost use Rattle.board.specs.declared.entry.BoardEntry.TheVariants as Entry;
+ghost use Rattle.board.specs.Ready.{IsReadyFor, OthersAreInLine};
+ghost use Rattle.board.specs.Pipelines.{is_pad, without_room, room_of, waiting_in, accepted_of, next_of, started_by, told_of, callbacks_of, uncollected_of, accepts, entered_on, MayServe, IsQuiet, MayEnd, IsDone, IsUndone, with_job, after_entered, without_first, ended, emptied, IsSpent, closed, holding};
 
-use crate::entry::Entered;
+use crate::entry::{BoardEntry, Entered};
+use crate::ready::Ready;
 use cryptd::Cryptd;
 use kc_base::Callbacks;
 use padata_core::Padata;
@@ -36,16 +39,6 @@ pub(crate) enum Pipeline<J, F> {
 }
 
 impl<J: Drop, F: Drop> Pipeline<J, F> {
-    /// Whether it is a pad.
-    pub(crate) fn is_pad(&self) -> bool
-        ensures { result ≡ is_pad self.now }
-    {
-        match self {
-            Pipeline::Pad(_) => true,
-            Pipeline::Queue(_) => false,
-        }
-    }
-
     /// Makes room for one more request, its outcome and its callbacks. Want of memory leaves the rest as it was.
     pub(crate) fn reserve(&mut self) -> Result<(), AllocError>
         ensures same { without_room self.new ≡ without_room self.old }
@@ -57,9 +50,8 @@ impl<J: Drop, F: Drop> Pipeline<J, F> {
         }
     }
 
-    /// Takes a job into a pad that has room for one, and gives it the next number.
+    /// Takes a job in, for which there is room, and gives it the next number.
     pub(crate) fn submit(&mut self, job: J) -> u64
-        requires pad { is_pad self.old ≡ true }
         requires room { 1 ≤ room_of self.old }
         requires few { accepted_of self.old < 2 ^ 63 }
         ensures number { result ≡ accepted_of self.old }
@@ -67,31 +59,33 @@ impl<J: Drop, F: Drop> Pipeline<J, F> {
     {
         match self {
             Pipeline::Pad(place) => place.pad.submit(job),
-            Pipeline::Queue(_) => unreachable!(),
+            Pipeline::Queue(place) => {
+                let number = place.queue.accepted();
+                place.queue.enqueue(number, job, true);
+                number
+            }
         }
     }
 
-    /// Whether a queue would accept a request that came now.
+    /// Whether a queue would accept a request that came now. A pad would not.
     pub(crate) fn accepts(&self, backlog: bool) -> bool
-        requires queue { is_queue self.now ≡ true }
         ensures { result ≡ accepts self.now backlog }
     {
         match self {
-            Pipeline::Pad(_) => unreachable!(),
+            Pipeline::Pad(_) => false,
             Pipeline::Queue(place) => place.queue.accepts(backlog),
         }
     }
 
-    /// A queue that has room for one answers a request, and takes it in where it accepts it.
+    /// A queue that has room for one answers a request, and takes it in where it accepts it. A pad refuses it.
     pub(crate) fn enqueue(&mut self, job: J, backlog: bool) -> Entered
-        requires queue { is_queue self.old ≡ true }
         requires room { 1 ≤ room_of self.old }
         requires few { accepted_of self.old < 2 ^ 63 }
         ensures answer { result ≡ entered_on self.old backlog }
         ensures entered { without_room self.new ≡ without_room (after_entered self.old job result) }
     {
         match self {
-            Pipeline::Pad(_) => unreachable!(),
+            Pipeline::Pad(_) => Entered::NoSpace,
             Pipeline::Queue(place) => {
                 let number = place.queue.accepted();
                 match place.queue.enqueue(number, job, backlog) {
@@ -141,20 +135,66 @@ impl<J: Drop, F: Drop> Pipeline<J, F> {
         }
     }
 
-    /// Holds a queue, or lets it go.
-    pub(crate) fn set_held(&mut self, held: bool)
-        requires { is_queue self.old ≡ true }
-        ensures { self.new ≡ holding self.old held }
+    /// Holds a queue.
+    pub(crate) fn hold(&mut self)
+        ensures { self.new ≡ holding self.old true }
     {
         match self {
-            Pipeline::Pad(_) => unreachable!(),
-            Pipeline::Queue(place) => {
-                if held {
-                    place.queue.hold();
-                } else {
-                    place.queue.go();
-                }
-            }
+            Pipeline::Pad(_) => {}
+            Pipeline::Queue(place) => place.queue.hold(),
+        }
+    }
+
+    /// Lets a queue go.
+    pub(crate) fn go(&mut self)
+        ensures { self.new ≡ holding self.old false }
+    {
+        match self {
+            Pipeline::Pad(_) => {}
+            Pipeline::Queue(place) => place.queue.go(),
+        }
+    }
+
+    /// The entry by which a number is taken: on a pad a `Take`, on a queue a `Deq`.
+    pub(crate) fn take_entry<A>(
+        &self,
+        caller: u32,
+        pipe: u64,
+        number: u64,
+        started: Option<u64>,
+    ) -> BoardEntry<A>
+        ensures { result ≡ (if is_pad self.now then Entry.Take caller pipe number else Entry.Deq caller pipe number started) }
+    {
+        match self {
+            Pipeline::Pad(_) => BoardEntry::Take {
+                caller,
+                pipe,
+                number,
+            },
+            Pipeline::Queue(_) => BoardEntry::Deq {
+                caller,
+                pipe,
+                number,
+                started,
+            },
+        }
+    }
+
+    /// The entry by which a number is finished: on a pad a `Finish`, on a queue a `Done`.
+    pub(crate) fn finish_entry<A>(&self, caller: u32, pipe: u64, number: u64) -> BoardEntry<A>
+        ensures { result ≡ (if is_pad self.now then Entry.Finish caller pipe number else Entry.Done caller pipe number) }
+    {
+        match self {
+            Pipeline::Pad(_) => BoardEntry::Finish {
+                caller,
+                pipe,
+                number,
+            },
+            Pipeline::Queue(_) => BoardEntry::Done {
+                caller,
+                pipe,
+                number,
+            },
         }
     }
 
@@ -163,7 +203,7 @@ impl<J: Drop, F: Drop> Pipeline<J, F> {
         ensures { MatchBool result (IsDone self.now) (IsUndone self.now) }
     {
         match self {
-            Pipeline::Pad(place) => place.pad.submitted() <= place.pad.front(),
+            Pipeline::Pad(place) => place.pad.is_done(),
             Pipeline::Queue(place) => place.queue.is_idle(),
         }
     }
@@ -179,12 +219,12 @@ impl<J: Drop, F: Drop> Pipeline<J, F> {
         }
     }
 
-    /// How many callbacks a collect hands out at most.
+    /// How many callbacks a collect hands out.
     pub(crate) fn uncollected(&self) -> usize
         ensures { result ≡ uncollected_of self.now }
     {
         match self {
-            Pipeline::Pad(place) => place.pad.uncollected(),
+            Pipeline::Pad(place) => place.pad.ready(),
             Pipeline::Queue(place) => place.queue.pending(),
         }
     }
@@ -205,24 +245,35 @@ impl<J: Drop, F: Drop> Pipeline<J, F> {
         }
     }
 
-    /// It is closed from now on.
+    /// It is closed from now on, and keeps no memory. All is done and collected.
     pub(crate) fn close(&mut self)
+        requires { IsSpent self.old }
         ensures { self.new ≡ closed self.old }
     {
         match self {
-            Pipeline::Pad(place) => place.closed = true,
-            Pipeline::Queue(place) => place.closed = true,
+            Pipeline::Pad(place) => {
+                place.closed = true;
+                place.pad.release();
+            }
+            Pipeline::Queue(place) => {
+                place.closed = true;
+                place.queue.release();
+            }
         }
     }
 }
 
-/// The first pipeline of which a job may be taken, by its place.
-pub(crate) fn first_ready<J: Drop, F: Drop>(pipes: &[Pipeline<J, F>]) -> Option<usize>
-    ensures { MatchOption result ((k : ℕ) (d : Pipeline J F) → k < length pipes.now → IsQuiet (slice_index_or pipes.now k d)) (λ k. (k < length pipes.now) × ((d : Pipeline J F) → MayServe (slice_index_or pipes.now k d))) }
+/// Takes pipelines out of the line up to the first of which a job may be taken.
+pub(crate) fn next_ready<J: Drop, F: Drop>(
+    pipes: &[Pipeline<J, F>],
+    ready: &mut Ready,
+) -> Option<usize>
+    requires ready { IsReadyFor pipes.now ready.old }
+    ensures pipes { ready.new.pipes ≡ ready.old.pipes }
+    ensures next { MatchOption result ((k : ℕ) (d : Pipeline J F) → k < length pipes.now → IsQuiet (slice_index_or pipes.now k d)) (λ k. (k < length pipes.now) × ((d : Pipeline J F) → MayServe (slice_index_or pipes.now k d)) × OthersAreInLine k pipes.now ready.new.line) }
 {
-    for k in 0..pipes.len() {
-        let place = &pipes[k];
-        if place.may_serve() {
+    while let Some(k) = ready.next() {
+        if pipes[k].may_serve() {
             return Some(k);
         }
     }

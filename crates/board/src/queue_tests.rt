@@ -104,21 +104,6 @@ fn serve_twice<W: Work>(board: &mut BoardCore<W>, pipe: u64) -> bool
     found
 }
 
-/// Hands out what the queue told, where all is done, and closes it then.
-fn drain_and_close<W: Work>(
-    board: &mut BoardCore<W>,
-    pipe: u64,
-    into: &mut Callbacks<W::Out>,
-) -> Result<bool, BoardErr>
-    requires { IsOpenQueueFor board.old pipe 0 }
-{
-    let all = board.try_drain(0, pipe, into)?;
-    if all {
-        board.close(0, pipe);
-    }
-    Ok(all)
-}
-
 #[test]
 fn a_queue_serves_one_job_at_a_time(rt: HostRuntime) -> Result<(), Fail> {
     let alloc = rt.alloc();
@@ -129,7 +114,7 @@ fn a_queue_serves_one_job_at_a_time(rt: HostRuntime) -> Result<(), Fail> {
     offer(&mut board, 0, pipe, saying('b', 1), false)?;
     assert!(rt; !serve_twice(&mut board, pipe));
     assert!(rt; !serve_twice(&mut board, pipe));
-    assert!(rt; drain_and_close(&mut board, pipe, &mut into)?);
+    assert!(rt; drain(&mut board, pipe, &mut into)?);
     assert!(rt;
         matches!(
             into.as_slice(),
@@ -137,7 +122,7 @@ fn a_queue_serves_one_job_at_a_time(rt: HostRuntime) -> Result<(), Fail> {
         )
     );
     let log = board.finish_all();
-    assert_eq!(rt; log.entries().len(), 9);
+    assert_eq!(rt; log.entries().len(), 8);
     Ok(())
 }
 

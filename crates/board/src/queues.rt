@@ -1,6 +1,6 @@
 //! What a board does with queues alone: it makes them, offers them requests, holds them and lets them go.
 
-ghost use Rattle.std.specs.Prelude.{◌≡◌, ◌≤◌, if◌then◌else◌, [], ◌∷◌, ◌++◌, IfErr, OnOk, ◌↔◌, MatchResult};
+ghost use Rattle.std.specs.Prelude.{◌≡◌, ◌≤◌, [], ◌∷◌, ◌++◌, IfErr, OnOk, ◌↔◌, MatchResult};
 ghost use Rattle.std.specs.Arc.{arc_value};
 ghost use Rattle.std.specs.declared.sync.Arc.{Arc};
 ghost use Rattle.std.specs.declared.alloc.Global.{Global as GlobalMemory};
@@ -13,7 +13,7 @@ ghost use Rattle.board.specs.Legal.{IsNoWorker, MaySubmit, MayManage, IsOpenQueu
 
 use crate::allowance::spend_if;
 use crate::board_core::{BoardCore, BoardErr};
-use crate::entry::{BoardEntry, Entered, Shape, hold_entry, work_entries};
+use crate::entry::{BoardEntry, Entered, Shape, work_entries};
 use crate::log::reserve_entries;
 use crate::pipeline::{Pipeline, QueuePipeline};
 use crate::submitting::Admitted;
@@ -33,6 +33,7 @@ impl<W: Work> BoardCore<W> {
         let queue = Cryptd::new(self.alloc, max)?;
         reserve_entries(&mut self.log, self.owed, 2)?;
         self.pipes.reserve(1)?;
+        self.ready.grow()?;
         let pipe = self.pipes.len() as u64;
         let place = QueuePipeline {
             maker: caller,
@@ -85,6 +86,7 @@ impl<W: Work> BoardCore<W> {
             answer,
         });
         self.owed += work_entries(answer);
+        self.ready.add(pipe as usize);
         Ok(answer)
     }
 
@@ -97,7 +99,11 @@ impl<W: Work> BoardCore<W> {
         ensures refused { IfErr result (λ e. e ≡ BoardErr.Memory) }
         ensures legal { LegalBoard self.new }
     {
-        self.mark_held(caller, pipe, true)
+        reserve_entries(&mut self.log, self.owed, 1)?;
+        let place = &mut self.pipes[pipe as usize];
+        place.hold();
+        self.log.push_reserved(BoardEntry::Hold { caller, pipe });
+        Ok(())
     }
 
     /// The queue's requests are run again. The caller made the queue, which isn't closed. Only want of memory refuses, and
@@ -109,22 +115,11 @@ impl<W: Work> BoardCore<W> {
         ensures refused { IfErr result (λ e. e ≡ BoardErr.Memory) }
         ensures legal { LegalBoard self.new }
     {
-        self.mark_held(caller, pipe, false)
-    }
-
-    /// Holds the queue or lets it go.
-    fn mark_held(&mut self, caller: u32, pipe: u64, held: bool) -> Result<(), BoardErr>
-        requires caller { MayManage (entries_of pipe self.old) caller }
-        requires pipe { IsOpenQueue (entries_of pipe self.old) }
-        ensures marked { MatchResult result (λ _. self.new ≡ self.old ++ (if held then Entry.Hold caller pipe else Entry.Go caller pipe) ∷ []) (λ _. self.new ≡ self.old) }
-        ensures refused { IfErr result (λ e. e ≡ BoardErr.Memory) }
-        ensures legal { LegalBoard self.new }
-    {
         reserve_entries(&mut self.log, self.owed, 1)?;
         let place = &mut self.pipes[pipe as usize];
-        place.set_held(held);
-        let entry = hold_entry(held, caller, pipe);
-        self.log.push_reserved(entry);
+        place.go();
+        self.log.push_reserved(BoardEntry::Go { caller, pipe });
+        self.ready.add(pipe as usize);
         Ok(())
     }
 }

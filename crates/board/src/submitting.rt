@@ -50,6 +50,7 @@ impl<W: Work> BoardCore<W> {
             ask,
         });
         self.owed += 2;
+        self.ready.add(pipe as usize);
         Ok(number)
     }
 

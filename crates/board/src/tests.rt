@@ -107,6 +107,18 @@ fn drain<W: Work>(
     board.try_drain(0, pipe, into)
 }
 
+/// Hands out what is done up to the first request that isn't.
+fn poll<W: Work>(
+    board: &mut BoardCore<W>,
+    pipe: u64,
+    into: &mut Callbacks<W::Out>,
+) -> Result<(), BoardErr>
+    requires { IsOpenFor board.old pipe 0 }
+    ensures { IsOpenFor board.new pipe 0 }
+{
+    board.poll(0, pipe, into)
+}
+
 /// Two workers take a job each, and the second finishes first. Answers whether the pad was drained before the first had
 /// finished.
 fn second_first<W: Work>(
@@ -158,6 +170,29 @@ fn completions_come_in_the_order_of_requests(rt: HostRuntime) -> Result<(), Fail
     assert_eq!(rt; said.as_slice(), [(0, 'a'), (1, 'b'), (2, 'c')].as_slice());
     let log = board.finish_all();
     assert_eq!(rt; log.entries().len(), 12);
+    Ok(())
+}
+
+#[test]
+fn a_poll_hands_out_what_is_ready(rt: HostRuntime) -> Result<(), Fail> {
+    let alloc = rt.alloc();
+    let mut board: BoardCore<Echo> = BoardCore::new(alloc)?;
+    let mut into = Callbacks::new(alloc);
+    let pipe = make(&mut board, 0)?;
+    submit(&mut board, 0, pipe, saying('a', 1))?;
+    submit(&mut board, 0, pipe, saying('b', 1))?;
+    poll(&mut board, pipe, &mut into)?;
+    assert!(rt; into.as_slice().is_empty());
+    assert!(rt; work(&mut board, 1, pipe));
+    poll(&mut board, pipe, &mut into)?;
+    assert_eq!(rt; letters(alloc, &into)?.as_slice(), [(0, 'a')].as_slice());
+    assert!(rt; work(&mut board, 2, pipe) && !work(&mut board, 2, pipe));
+    poll(&mut board, pipe, &mut into)?;
+    poll(&mut board, pipe, &mut into)?;
+    assert_eq!(rt;
+        letters(alloc, &into)?.as_slice(),
+        [(0, 'a'), (1, 'b')].as_slice()
+    );
     Ok(())
 }
 

@@ -5,15 +5,24 @@ ghost use Rattle.board.specs.Entries.{entries_of, submissions, takers, finished,
 ghost use Rattle.board.specs.Legal.{MayFinish, LegalBoard};
 
 use crate::board_core::BoardCore;
-use crate::entry::{finish_entry, take_entry};
-use crate::pipeline::first_ready;
+use crate::pipeline::next_ready;
 use crate::work::Work;
 use request_queue::Served;
+use std::marker::Model;
 
-/// The right, and the duty, to finish one job.
+/// The right, and the duty, to finish one job. It can be given to `finish` alone: a value that is let go, or taken apart, is
+/// refused.
 pub struct Slip {
-    pub pipe: u64,
-    pub number: u64,
+    pipe: u64,
+    number: u64,
+}
+
+impl Model for Slip {
+    ghost use Rattle.board.specs.Slips.{SlipOf};
+
+    ghost Value = { SlipOf };
+
+    ghost view = { λ s. record { pipe = s.pipe; number = s.number } };
 }
 
 /// A job to be run, and the slip that is spent on its outcome.
@@ -23,25 +32,25 @@ pub struct Taken<W> {
 }
 
 impl<W: Work> BoardCore<W> {
-    /// Hands out a job of the first pipeline that has one to run: of a pad the first that nobody has taken, of a queue the
+    /// Hands out a job of a pipeline that has one to run: of a pad the first that nobody has taken, of a queue the
     /// first that waits, where the queue is neither held nor busy. `None` exactly where there is none. No memory is taken.
     pub fn take(&mut self, caller: u32) -> Option<Taken<W>>
         ensures taken { MatchOption result ((self.new ≡ self.old) × NoneWaits self.old) (λ t. (self.new ≡ self.old ++ take_entry self.old caller t.slip.pipe t.slip.number ∷ []) × (slice_get (submissions (entries_of t.slip.pipe self.old)) t.slip.number ≡ Some (W.asked t.job))) }
         ensures ready { IfSome result (λ t. MayFinish W.meaning (entries_of t.slip.pipe self.new) caller t.slip.number (W.meaning (W.asked t.job))) }
         ensures legal { LegalBoard self.new }
     {
-        let p = first_ready(&self.pipes)?;
+        let p = next_ready(&self.pipes, &mut self.ready)?;
         let place = &mut self.pipes[p];
-        let pad = place.is_pad();
         let Served {
             number,
             item: job,
             started,
         } = place.take()?;
         let pipe = p as u64;
-        let entry = take_entry(pad, caller, pipe, number, started);
+        let entry = place.take_entry(caller, pipe, number, started);
         self.log.push_reserved(entry);
         self.owed -= 1;
+        self.ready.add(p);
         Some(Taken {
             slip: Slip { pipe, number },
             job,
@@ -59,9 +68,9 @@ impl<W: Work> BoardCore<W> {
         let Slip { pipe, number } = slip;
         let place = &mut self.pipes[pipe as usize];
         place.finish(number, out);
-        let pad = place.is_pad();
-        let entry = finish_entry(pad, caller, pipe, number);
+        let entry = place.finish_entry(caller, pipe, number);
         self.log.push_reserved(entry);
         self.owed -= 1;
+        self.ready.add(pipe as usize);
     }
 }

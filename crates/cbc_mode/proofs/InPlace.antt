@@ -10,22 +10,22 @@ use Rattle.std_defs.specs.Blocks.{text_block, joined}
 part : (a k : ℕ) (x y z w : List ℕ) → length x ≡ a → length z ≡ k → put_mid a k (x ++ (z ++ w)) y ≡ x ++ y ++ w
 part a k x y z w long_x long_z = grind (arith, common_steps)
 
-module _ (orig text made : List ℕ) (a : ℕ) (is : text ≡ made ++ drop a orig) (long : length text ≡ length orig) (within : a + 16 ≤ length orig) where
+module _ (orig text made : List ℕ) (a n : ℕ) (is : text ≡ made ++ drop a orig) (long : length text ≡ length orig) (within : a + n ≤ length orig) where
   made-length : length made ≡ a
   made-length = omega (arith, ap length is, length-append made (drop a orig), length-drop a orig)
 
-  unread : drop a text ≡ drop a orig
+  pub unread : drop a text ≡ drop a orig
   unread = rw (is, ← made-length) (drop-append_seam made (drop (length made) orig))
 
-  written : (block : List ℕ) (k b : ℕ) → k ≡ 16 → b ≡ a + 16 → put_mid a k text block ≡ (made ++ block) ++ drop b orig
-  written block k b is_16 next = grind (arith, common_steps, made-length, part, is)
+  pub written : (new : List ℕ) (k b : ℕ) → k ≡ n → b ≡ a + n → put_mid a k text new ≡ (made ++ new) ++ drop b orig
+  written new k b is_n next = grind (arith, common_steps, made-length, part, is)
 
 -- i blocks are made
 module _ (orig text : List ℕ) (blocks : ℕ → List ℕ) (i : ℕ) (is : text ≡ joined blocks i ++ drop (16 * i) orig) (long : length text ≡ length orig) where
   -- the next is still the original
   pub next_block : 16 * i + 16 ≤ length orig → text_block text i ≡ text_block orig i
   unfolding text_block
-  next_block within = ap (take 16) (unread orig text (joined blocks i) (16 * i) is long within)
+  next_block within = ap (take 16) (unread orig text (joined blocks i) (16 * i) 16 is long within)
 
   -- and is made
   pub one_more : (block : List ℕ) → block ≡ blocks i → 16 * i + 16 ≤ length orig
@@ -33,7 +33,7 @@ module _ (orig text : List ℕ) (blocks : ℕ → List ℕ) (i : ℕ) (is : text
   unfolding joined
   one_more block made within =
       rw add-one
-      (written orig text (joined blocks i) (16 * i) is long within block (16 * i + 16 - 16 * i) (16 * suc i) (omega arith) (omega arith)
+      (written orig text (joined blocks i) (16 * i) 16 is long within block (16 * i + 16 - 16 * i) (16 * suc i) (omega arith) (omega arith)
       ∙ ap (λ (b : List ℕ). (joined blocks i ++ b) ++ drop (16 * suc i) orig) made)
 
   -- at the end all are made

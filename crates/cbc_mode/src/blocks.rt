@@ -1,8 +1,9 @@
 //! Chains of whole blocks, in place.
 
-ghost use Rattle.std.specs.Prelude.{◌≡◌, suc, ◌+◌, ◌*◌, ◌/◌, ◌%◌, ◌≤◌, length};
+ghost use Rattle.std.specs.Prelude.{◌≡◌, map, suc, ◌+◌, ◌*◌, ◌/◌, ◌%◌, ◌≤◌, length};
+ghost use Rattle.std.specs.List.{range_with_len};
 ghost use Rattle.std_defs.specs.Blocks.{xor_blocks, text_block, joined};
-ghost use Rattle.std_defs.specs.Modes.{cbc_block, cbc_plain_block};
+ghost use Rattle.std_defs.specs.Modes.{cbc_block, cbc_before, cbc_plain_block};
 
 use aes_block::{BlockCipher, xor_block};
 
@@ -41,12 +42,47 @@ pub fn seal_blocks<C: BlockCipher>(cipher: &C, iv: &[u8; 16], text: &mut [u8])
     }
 }
 
-/// Unseals each block of a text of whole blocks.
-pub fn unseal_blocks<C: BlockCipher>(cipher: &C, iv: &[u8; 16], text: &mut [u8])
-    requires { length text.old % 16 ≡ 0 }
-    ensures { text.new ≡ joined (cbc_plain_block (C.unsealed cipher.now) iv.now text.old) (length text.old / 16) }
+/// The first eight blocks of the text.
+fn eight_blocks(text: &[u8]) -> [[u8; 16]; 8]
+    requires { length text.now ≡ 128 }
+    ensures { result ≡ map (text_block text.now) (range_with_len 0 8) }
 {
-    let mut before = *iv;
+    [
+        block_at(text, 0),
+        block_at(text, 1),
+        block_at(text, 2),
+        block_at(text, 3),
+        block_at(text, 4),
+        block_at(text, 5),
+        block_at(text, 6),
+        block_at(text, 7),
+    ]
+}
+
+/// Unseals a text of eight blocks, behind the ciphertext block `before`. Its last ciphertext block.
+fn unseal_eight<C: BlockCipher>(cipher: &C, before: &[u8; 16], text: &mut [u8]) -> [u8; 16]
+    requires { length text.old ≡ 128 }
+    ensures text { text.new ≡ joined (cbc_plain_block (C.unsealed cipher.now) before.now text.old) 8 }
+    ensures last { result ≡ cbc_before before.now text.old 8 }
+{
+    let sealed = eight_blocks(text);
+    let mut blocks = sealed;
+    cipher.unseal_eight(&mut blocks);
+    let mut before = *before;
+    for j in 0..8usize {
+        let plain = sum_of(&blocks[j], &before);
+        text[16 * j..16 * j + 16].copy_from_slice(&plain);
+        before = sealed[j];
+    }
+    before
+}
+
+/// Unseals each block of a text of whole blocks, one after another, behind the ciphertext block `before`.
+fn unseal_each<C: BlockCipher>(cipher: &C, before: &[u8; 16], text: &mut [u8])
+    requires { length text.old % 16 ≡ 0 }
+    ensures { text.new ≡ joined (cbc_plain_block (C.unsealed cipher.now) before.now text.old) (length text.old / 16) }
+{
+    let mut before = *before;
     for i in 0..text.len() / 16 {
         let sealed = block_at(text, i);
         let mut block = sealed;
@@ -56,4 +92,17 @@ pub fn unseal_blocks<C: BlockCipher>(cipher: &C, iv: &[u8; 16], text: &mut [u8])
         // the ciphertext block, which no longer stands in the text
         before = sealed;
     }
+}
+
+/// Unseals each block of a text of whole blocks, eight at a time, and those that are left one after another.
+pub fn unseal_blocks<C: BlockCipher>(cipher: &C, iv: &[u8; 16], text: &mut [u8])
+    requires { length text.old % 16 ≡ 0 }
+    ensures { text.new ≡ joined (cbc_plain_block (C.unsealed cipher.now) iv.now text.old) (length text.old / 16) }
+{
+    let mut before = *iv;
+    let eights = text.len() / 128;
+    for i in 0..eights {
+        before = unseal_eight(cipher, &before, &mut text[128 * i..128 * i + 128]);
+    }
+    unseal_each(cipher, &before, &mut text[128 * eights..]);
 }

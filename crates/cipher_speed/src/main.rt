@@ -1,17 +1,20 @@
-//! Seals 64 KiB again and again, for tools/speed to time: `cipher_speed MODE COUNT` seals COUNT times by `ctr`, `cbc`, `gcm`
-//! or `hmac`, and prints the first bytes of what came of it, so that no seal can be left out. Without words it prints nothing.
+//! Works on 64 KiB again and again, for tools/speed to time: `cipher_speed WORK FORM COUNT` does COUNT times what WORK says
+//! (`ctr`, `cbc`, `cbc-open`, `xts`, `xts-open`, `gcm`, `gcm-open` or `hmac`) with AES in the form FORM (`generic`, `table` or `lanes`), and prints
+//! the first bytes of what came of it, so that no turn can be left out. Without words it prints nothing.
 #![tactic(auto)]
 
 ghost use Rattle.std.specs.Prelude.{◌≡◌, IfOk, vec_len};
 
 mod sealing;
+#[cfg(test)]
+mod tests;
 
-use sealing::{Mode, mode_named, seal_times};
+use sealing::{Form, Work, form_named, repeat, work_named};
 use std::alloc::{AllocError, Global};
 use std::process::ExitCode;
 use std::{env, io};
 
-/// The bytes that are sealed at once.
+/// The bytes that are worked on at once.
 const LENGTH: usize = 65_536;
 
 fn zeros(alloc: Global, length: usize) -> Result<Vec<u8>, AllocError>
@@ -28,12 +31,14 @@ fn words(rt: &HostRuntime) -> io::Result<Vec<String>> {
     Ok(words)
 }
 
-/// A mode and a count, where the words are these.
-fn order_of(words: &[String]) -> Option<(Mode, u32)> {
-    let [mode, count] = words else {
+/// The work, the form and the count, where the words are these.
+fn order_of(words: &[String]) -> Option<(Work, Form, u32)> {
+    let [work, form, count] = words else {
         return None;
     };
-    Some((mode_named(mode.as_str())?, count.parse::<u32>().ok()?))
+    let work = work_named(work.as_str())?;
+    let form = form_named(form.as_str())?;
+    Some((work, form, count.parse::<u32>().ok()?))
 }
 
 fn main(rt: HostRuntime) -> io::Result<ExitCode> {
@@ -41,12 +46,15 @@ fn main(rt: HostRuntime) -> io::Result<ExitCode> {
     if words.is_empty() {
         return Ok(ExitCode::SUCCESS);
     }
-    let Some((mode, count)) = order_of(&words) else {
-        eprintln!(rt; "cipher_speed: the words are a mode (ctr, cbc, gcm or hmac) and a count")?;
+    let Some((work, form, count)) = order_of(&words) else {
+        eprintln!(rt;
+            "cipher_speed: the words are a work (ctr, cbc, cbc-open, xts, xts-open, gcm, gcm-open or hmac), a form of AES (generic, table or lanes) and a count"
+        )?;
         return Ok(ExitCode::from(2));
     };
     let mut text = zeros(rt.alloc(), LENGTH)?;
-    seal_times(mode, count, &mut text);
-    println!(rt; "{:?}", &text[..16])?;
+    let mut copy = zeros(rt.alloc(), LENGTH)?;
+    repeat(work, form, count, &mut text, &mut copy);
+    println!(rt; "{:?} {:?}", &text[..16], &copy[..16])?;
     Ok(ExitCode::SUCCESS)
 }

@@ -19,6 +19,7 @@ use std::marker::Model;
 /// job its outcome.
 #[derive(Drop)]
 pub struct Cryptd<J, F> {
+    alloc: Global,
     queue: Queue<J>,
     held: bool,
     busy: bool,
@@ -45,6 +46,7 @@ impl<J: Drop, F: Drop> Cryptd<J, F> {
         ensures { IfOk result (λ server. server ≡ record { line = record { max = max; served = 0; waiting = []; spare = 0 }; held = false; busy = false; pending = []; spare = 0 }) }
     {
         Ok(Cryptd {
+            alloc,
             queue: Queue::new(alloc, max)?,
             held: false,
             busy: false,
@@ -103,6 +105,18 @@ impl<J: Drop, F: Drop> Cryptd<J, F> {
         self.pending.reserve(more)?;
         self.spare = n;
         Ok(())
+    }
+
+    /// Gives back the memory of a queue of which all is done and collected.
+    pub fn release(&mut self)
+        requires busy { self.old.busy ≡ false }
+        requires waiting { self.old.line.waiting ≡ [] }
+        requires pending { self.old.pending ≡ [] }
+        ensures { self.new ≡ record self.old { spare = 0; line = record self.old.line { spare = 0 } } }
+    {
+        self.queue.release();
+        self.pending = VecDeque::new(self.alloc);
+        self.spare = 0;
     }
 
     /// Accepts the job where fewer than `max` wait, and past that into the backlog where `backlog` permits it. Otherwise

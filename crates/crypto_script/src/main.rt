@@ -3,6 +3,10 @@
 
 mod adapters;
 #[cfg(test)]
+mod history_tests;
+#[cfg(test)]
+mod limit_tests;
+#[cfg(test)]
 mod pipeline_tests;
 mod program;
 #[cfg(test)]

@@ -23,13 +23,6 @@ const BLOCK: &str = "6bc1bee22e409f96e93d7e117393172a";
 
 const SEALED_BLOCK: &str = "7649abac8119b246cee98e9b12e9197d";
 
-// RFC 4231, 1 and 2: the MACs, and of the second the text.
-const FIRST_MAC: &str = "b0344c61d8db38535ca8afceaf0bf12b881dc200c9833da726e9376c2e32cff7";
-
-const SECOND_MAC: &str = "5bdcc146bf60754e6a042426089575c75a003f089d2739839dec58b964ec3843";
-
-const SECOND_TEXT: &str = "7768617420646f2079612077616e7420666f72206e6f7468696e673f";
-
 const GCM_DRIVER: &str = "gcm_base(ctr(aes-generic),ghash-generic)";
 
 // What a script without words prints, over streams that don't fail.
@@ -42,46 +35,6 @@ fn written_by(rt: &impl Abort, alloc: Global, script: &str) -> Result<String, Al
 }
 
 #[test]
-fn a_pad_hands_out_in_order(rt: HostRuntime) -> Result<(), Fail> {
-    let alloc = rt.alloc();
-    let script = format!(in alloc;
-        "alloc p pcrypt(gcm(aes))\nkey p {ZEROS}\nenc p {NONCE} - {ZEROS}\nenc p {NONCE} - {ZEROS}\nenc p {NONCE} - {ZEROS}\ndrain p\n"
-    )?;
-    let text = format!(in alloc;
-        "1 ok pcrypt({GCM_DRIVER})\n2 ok\n3 EINPROGRESS\n4 EINPROGRESS\n5 EINPROGRESS\n3 done {SEALED}\n4 done {SEALED}\n5 done {SEALED}\n6 drained 3\n"
-    )?;
-    expect(&rt, alloc, script.as_str(), 0, text.as_str())?;
-    Ok(())
-}
-
-#[test]
-fn a_wrong_tag_fails_in_its_place(rt: HostRuntime) -> Result<(), Fail> {
-    let alloc = rt.alloc();
-    let wrong = "0388dace60b6a392f328c2b971b2fe78ab6e47d42cec13bdf53a67b21257bdde";
-    let script = format!(in alloc;
-        "alloc p pcrypt(gcm(aes))\nkey p {ZEROS}\ndec p {NONCE} - {SEALED}\ndec p {NONCE} - {wrong}\ndec p {NONCE} - {SEALED}\ndrain p\n"
-    )?;
-    let text = format!(in alloc;
-        "1 ok pcrypt({GCM_DRIVER})\n2 ok\n3 EINPROGRESS\n4 EINPROGRESS\n5 EINPROGRESS\n3 done {ZEROS}\n4 fail EBADMSG\n5 done {ZEROS}\n6 drained 3\n"
-    )?;
-    expect(&rt, alloc, script.as_str(), 0, text.as_str())?;
-    Ok(())
-}
-
-#[test]
-fn a_length_that_fails_is_answered_late(rt: HostRuntime) -> Result<(), Fail> {
-    let alloc = rt.alloc();
-    let script = format!(in alloc;
-        "alloc a pcrypt(authenc(hmac(sha256),cbc(aes)))\nkey a 08000100000000104a656665{CBC_KEY}\nenc a {IV} {SECOND_TEXT} -\nenc a {IV} {SECOND_TEXT} 00\ndrain a\n"
-    )?;
-    let text = format!(in alloc;
-        "1 ok pcrypt(authenc(hmac(sha256-generic),cbc(aes-generic)))\n2 ok\n3 EINPROGRESS\n4 EINPROGRESS\n3 done {SECOND_MAC}\n4 fail EINVAL\n5 drained 2\n"
-    )?;
-    expect(&rt, alloc, script.as_str(), 0, text.as_str())?;
-    Ok(())
-}
-
-#[test]
 fn a_held_queue_takes_in_no_more_than_fits(rt: HostRuntime) -> Result<(), Fail> {
     let alloc = rt.alloc();
     let script = format!(in alloc;
@@ -89,19 +42,6 @@ fn a_held_queue_takes_in_no_more_than_fits(rt: HostRuntime) -> Result<(), Fail> 
     )?;
     let text = format!(in alloc;
         "1 ok cryptd(cbc(aes-generic))\n2 ok\n3 ok\n4 EINPROGRESS\n5 EINPROGRESS\n6 EBUSY\n7 ENOSPC\n8 EINVAL\n9 ok\n6 started\n4 done {SEALED_BLOCK}\n5 done {SEALED_BLOCK}\n6 done {SEALED_BLOCK}\n10 drained 3\n"
-    )?;
-    expect(&rt, alloc, script.as_str(), 0, text.as_str())?;
-    Ok(())
-}
-
-#[test]
-fn a_request_keeps_the_key_that_it_came_with(rt: HostRuntime) -> Result<(), Fail> {
-    let alloc = rt.alloc();
-    let script = format!(in alloc;
-        "alloc m cryptd(hmac(sha256))\nkey m 0b0b0b0b0b0b0b0b0b0b0b0b0b0b0b0b0b0b0b0b\nhold m\nmac m 4869205468657265\nkey m 4a656665\nmac m {SECOND_TEXT}\ngo m\ndrain m\n"
-    )?;
-    let text = format!(in alloc;
-        "1 ok cryptd(hmac(sha256-generic))\n2 ok\n3 ok\n4 EINPROGRESS\n5 ok\n6 EINPROGRESS\n7 ok\n4 done {FIRST_MAC}\n6 done {SECOND_MAC}\n8 drained 2\n"
     )?;
     expect(&rt, alloc, script.as_str(), 0, text.as_str())?;
     Ok(())

@@ -1,1 +1,2 @@
 pub mod CtrText
+pub mod Pieces

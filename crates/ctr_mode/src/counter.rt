@@ -1,9 +1,11 @@
 //! Counters of a whole block.
 
-ghost use Rattle.std.specs.Prelude.{◌≡◌, ◌+◌, ◌%◌, ◌^◌};
-ghost use Rattle.std_defs.specs.Blocks.{block_number, block_bytes};
+ghost use Rattle.std.specs.Prelude.{◌≡◌, ◌+◌, ◌%◌, ◌^◌, map};
+ghost use Rattle.std.specs.List.{range_with_len};
+ghost use Rattle.std_defs.specs.Blocks.{block_number as number_of, block_bytes as bytes_of};
 
 use crate::key_stream::CounterBlocks;
+use std_defs::{block_bytes, block_number};
 
 /// The counter blocks from one on, each one more than the one before as a number of 128 bits.
 #[derive(Drop)]
@@ -13,22 +15,36 @@ pub struct Counter {
 
 impl Counter {
     /// The counter that begins with a block.
-    #[tactic(auto, unfolding(std_defs::specs::Blocks::block_number))]
     pub fn from_block(first: [u8; 16]) -> Counter
-        ensures { result.next ≡ block_number first }
+        ensures { result.next ≡ number_of first }
     {
         Counter {
-            next: u128::from_be_bytes(first),
+            next: block_number(first),
         }
     }
 }
 
 impl CounterBlocks for Counter {
-    ghost block = { λ counter n. block_bytes ((counter.next + n) % 2 ^ 128) };
+    ghost block = { λ counter n. bytes_of ((counter.next + n) % 2 ^ 128) };
 
-    fn next_block(&mut self) -> [u8; 16] {
-        let block = self.next.to_be_bytes();
-        self.next = self.next.wrapping_add(1);
-        block
+    fn first(&self) -> [u8; 16] {
+        block_bytes(self.next)
+    }
+
+    fn first_eight(&self) -> [[u8; 16]; 8] {
+        [
+            block_bytes(self.next),
+            block_bytes(self.next.wrapping_add(1)),
+            block_bytes(self.next.wrapping_add(2)),
+            block_bytes(self.next.wrapping_add(3)),
+            block_bytes(self.next.wrapping_add(4)),
+            block_bytes(self.next.wrapping_add(5)),
+            block_bytes(self.next.wrapping_add(6)),
+            block_bytes(self.next.wrapping_add(7)),
+        ]
+    }
+
+    fn skip(&mut self, count: u64) {
+        self.next = self.next.wrapping_add(u128::from(count));
     }
 }

@@ -1,29 +1,161 @@
-//! Key streams: the ciphers of a row of counter blocks, over a text.
+//! Key streams: the ciphers of a row of counter blocks, over a text or over its pieces.
 
-ghost use Rattle.std.specs.Prelude.{◌≡◌, ◌+◌, ℕ, List};
+ghost use Rattle.std.specs.Prelude.{◌≡◌, ◌+◌, ◌/◌, ◌%◌, ◌<◌, ◌≤◌, ℕ, List, length, map, slice_index, slice_index_or, bit_xor, []};
+ghost use Rattle.std.specs.List.{range_with_len};
 ghost use Rattle.std_defs.specs.Blocks.{with_stream};
+ghost use Rattle.ctr_mode.specs.Streams.{with_bytes, key_byte, IsOn};
 
 use aes_block::{BlockCipher, xor_block};
+use std::marker::Model;
 
 /// A row of counter blocks, which a mode counts in its own way.
 pub trait CounterBlocks: Drop {
     /// The block of that number, from 0.
     ghost block: { Self → ℕ → List ℕ };
 
-    /// The first block. The row then begins with the next.
-    fn next_block(&mut self) -> [u8; 16]
-        ensures first { result ≡ block self.old 0 }
-        ensures rest { (n : ℕ) → block self.new n ≡ block self.old (n + 1) };
+    /// The first block.
+    fn first(&self) -> [u8; 16]
+        ensures { result ≡ block self.now 0 };
+
+    /// The first eight blocks.
+    fn first_eight(&self) -> [[u8; 16]; 8]
+        ensures { result ≡ map (block self.now) (range_with_len 0 8) };
+
+    /// Leaves out `count` blocks at the front.
+    fn skip(&mut self, count: u64)
+        ensures { (n : ℕ) → block self.new n ≡ block self.old (n + count) };
+}
+
+/// A key stream that goes on where it stopped, also within a block. Contracts see its counter blocks and how many bytes of
+/// the first are used.
+#[derive(Drop)]
+pub struct KeyStream<B: CounterBlocks> {
+    counters: B,
+    used: usize,
+}
+
+impl<B: CounterBlocks> Model for KeyStream<B> {
+    ghost Value = { B × ℕ };
+
+    ghost view = { λ stream. (stream.counters, stream.used) };
+
+    ghost invariant = { λ stream. stream.used < 16 };
+}
+
+impl<B: CounterBlocks> KeyStream<B> {
+    /// The stream of a row of counter blocks, from its first byte on.
+    pub fn new(counters: B) -> KeyStream<B>
+        ensures { result ≡ (counters, 0) }
+    {
+        KeyStream { counters, used: 0 }
+    }
+
+    /// The stream of a row of counter blocks, from its byte `place` on.
+    pub fn at(counters: B, place: u64) -> KeyStream<B>
+        ensures { IsOn (B.block counters) 0 place (B.block result.0) result.1 }
+    {
+        let mut counters = counters;
+        counters.skip(place / 16);
+        KeyStream {
+            counters,
+            used: (place % 16) as usize,
+        }
+    }
+
+    /// Xors each byte of the text with the next of the stream.
+    pub fn apply<C: BlockCipher>(&mut self, cipher: &C, text: &mut [u8])
+        ensures text { text.new ≡ with_bytes (key_byte (C.sealed cipher.now) (B.block self.old.0) self.old.1) text.old }
+        ensures on { IsOn (B.block self.old.0) self.old.1 (length text.old) (B.block self.new.0) self.new.1 }
+    {
+        let front = text.len().min((16 - self.used) % 16);
+        self.apply_within(cipher, &mut text[..front]);
+        let eights = (text.len() - front) / 128;
+        for i in 0..eights {
+            let start = front + 128 * i;
+            self.apply_eight(cipher, &mut text[start..start + 128]);
+        }
+        let rest = front + 128 * eights;
+        let blocks = (text.len() - rest) / 16;
+        for i in 0..blocks {
+            let start = rest + 16 * i;
+            self.apply_within(cipher, &mut text[start..start + 16]);
+        }
+        let last = rest + 16 * blocks;
+        self.apply_within(cipher, &mut text[last..]);
+    }
+
+    /// Applies the stream to a piece that ends in the block in which the stream stands.
+    fn apply_within<C: BlockCipher>(&mut self, cipher: &C, piece: &mut [u8])
+        requires { self.old.1 + length piece.old ≤ 16 }
+        ensures text { piece.new ≡ with_bytes (key_byte (C.sealed cipher.now) (B.block self.old.0) self.old.1) piece.old }
+        ensures on { IsOn (B.block self.old.0) self.old.1 (length piece.old) (B.block self.new.0) self.new.1 }
+    {
+        let used = self.used;
+        if piece.is_empty() {
+            return;
+        }
+        let mut block = self.counters.first();
+        cipher.seal_block(&mut block);
+        xor_bytes(piece, &block[used..]);
+        self.used = used + piece.len();
+        if self.used == 16 {
+            self.counters.skip(1);
+            self.used = 0;
+        }
+    }
+
+    /// Applies the stream, which stands between two blocks, to eight blocks.
+    fn apply_eight<C: BlockCipher>(&mut self, cipher: &C, eight: &mut [u8])
+        requires between { self.old.1 ≡ 0 }
+        requires long { length eight.old ≡ 128 }
+        ensures text { eight.new ≡ with_bytes (key_byte (C.sealed cipher.now) (B.block self.old.0) self.old.1) eight.old }
+        ensures on { IsOn (B.block self.old.0) self.old.1 (length eight.old) (B.block self.new.0) self.new.1 }
+    {
+        let mut blocks = self.counters.first_eight();
+        cipher.seal_eight(&mut blocks);
+        xor_eight(eight, &blocks);
+        self.counters.skip(8);
+    }
+}
+
+/// Xors each byte of the text with that of the same place.
+fn xor_bytes(text: &mut [u8], bytes: &[u8])
+    requires { length text.old ≤ length bytes.now }
+    ensures { (k : ℕ) → k < length text.old → slice_index text.new k ≡ bit_xor (slice_index text.old k) (slice_index bytes.now k) }
+{
+    for k in 0..text.len() {
+        text[k] ^= bytes[k];
+    }
+}
+
+/// Xors eight blocks into a text of as many bytes.
+fn xor_eight(text: &mut [u8], blocks: &[[u8; 16]; 8])
+    requires { length text.old ≡ 128 }
+    ensures { (k : ℕ) → k < 128 → slice_index text.new k ≡ bit_xor (slice_index text.old k) (slice_index (slice_index_or blocks.now (k / 16) []) (k % 16)) }
+{
+    for j in 0..8usize {
+        xor_block(&mut text[16 * j..16 * j + 16], &blocks[j]);
+    }
+}
+
+/// Applies a stream to the front of a text, up to `at`, and then to its rest: it is applied to the text.
+pub fn apply_in_two<C: BlockCipher, B: CounterBlocks>(
+    cipher: &C,
+    stream: &mut KeyStream<B>,
+    text: &mut [u8],
+    at: usize,
+)
+    requires { at ≤ length text.old }
+    ensures text { text.new ≡ with_bytes (key_byte (C.sealed cipher.now) (B.block stream.old.0) stream.old.1) text.old }
+    ensures on { IsOn (B.block stream.old.0) stream.old.1 (length text.old) (B.block stream.new.0) stream.new.1 }
+{
+    stream.apply(cipher, &mut text[..at]);
+    stream.apply(cipher, &mut text[at..]);
 }
 
 /// Xors each byte of the text with that of the ciphers of the counter blocks. The text may have any length.
 pub fn apply_key_stream<C: BlockCipher, B: CounterBlocks>(cipher: &C, counters: B, text: &mut [u8])
     ensures { text.new ≡ with_stream (λ n. C.sealed cipher.now (B.block counters n)) text.old }
 {
-    let mut counters = counters;
-    for i in 0..text.len().div_ceil(16) {
-        let mut block = counters.next_block();
-        cipher.seal_block(&mut block);
-        xor_block(&mut text[16 * i..], &block);
-    }
+    KeyStream::new(counters).apply(cipher, text);
 }

@@ -9,5 +9,5 @@ mod rfc3686;
 mod tests;
 
 pub use ctr::Ctr;
-pub use key_stream::{CounterBlocks, apply_key_stream};
+pub use key_stream::{CounterBlocks, KeyStream, apply_in_two, apply_key_stream};
 pub use rfc3686::Rfc3686;

@@ -181,3 +181,30 @@ fn rfc_3686_vectors_both_ways(rt: HostRuntime) -> Result<(), Fail> {
     }
     Ok(())
 }
+
+/// 133 zeros under a counter that carries over 32, 64 and 128 bits within its first eight blocks, as OpenSSL seals them.
+#[test]
+fn carries_within_eight_blocks(rt: HostRuntime) -> Result<(), Fail> {
+    let alloc = rt.alloc();
+    let mode = ctr_under(alloc, "2b7e151628aed2a6abf7158809cf4f3c")?;
+    for (counter, sealed) in [
+        (
+            "000102030405060708090a0bfffffffd",
+            "f6bffda4b75b20a1b5b13678eec9bed908ff81431e8af8811d931e7bef271fc4bdb7c0ef49717942fc68eeb17692fcf4eef89e9494c1082ab27d4d9095feff60e4c55e024df3f265e436ab9720921bb4e342f69282bb2368f9e3a5c366000cbb1dc72f54986e94b9b140d6b291a49969d4c1ccd72188ec57baadc88201c5ded46f6cf87844",
+        ),
+        (
+            "0001020304050607fffffffffffffffb",
+            "9ac9a21bdc9f9584605ed40ceffbf5e94bfcc500bdf5d19be2e2e57adf55c347df6fa6f12aeda9965f57c8087f725506eb18472ff22c12c638c5b2e7282d0d203d88a68db0f3e3c66e7fd8c1b1cb797a2a8891d239949bea3ea4f6c17f7ea9570ad276b9a4cf0b15e9b3a8f57bfabc49d0529436f20db338316ed93dcef1ca20c92b925929",
+        ),
+        (
+            "fffffffffffffffffffffffffffffffe",
+            "d1b714b6fbf5fff1289aee2a4c4eeda38af2860142f786f409307c1a3f7eaaac7df76b0c1ab899b33e42f047b91b546f57127d4034b1bebfaef466b9c7726fc6973f2ef34879e2027f1734303ff21f89469c7fcb75d5d9a1b418cb997b09a1858a7c37ad7c3edf32495ececadec2311cef28d82739fd8c7147323f7e91c0cbfa3066e41e67",
+        ),
+    ] {
+        let counter = hex::decode(alloc, counter)?;
+        let sealed = hex::decode(alloc, sealed)?;
+        let mut text = vec![in alloc; 0u8; 133]?;
+        check(&rt, &mode, &counter, &[0u8; 133], &sealed, &mut text)?;
+    }
+    Ok(())
+}

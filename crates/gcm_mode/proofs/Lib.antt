@@ -1,1 +1,3 @@
 pub mod Tag
+pub mod Counted
+pub mod Whole

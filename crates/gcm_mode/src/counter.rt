@@ -1,10 +1,12 @@
 //! The counter blocks of an IV, and the key stream that their ciphers are.
 
 ghost use Rattle.std.specs.Prelude.{◌≡◌};
-ghost use Rattle.std_defs.specs.Gcm.{pre_counter_block, inc32, gctr};
+ghost use Rattle.std_defs.specs.Blocks.{block_bytes as bytes_of};
+ghost use Rattle.std_defs.specs.Gcm.{pre_counter_block, inc32, counter_block, gctr};
 
-use aes_block::{BlockCipher, xor_block};
-use ghash_field::block_bytes;
+use aes_block::BlockCipher;
+use ctr_mode::CounterBlocks;
+use std_defs::{block_bytes, block_number};
 
 /// The counter block after this one: the rightmost 32 bits count, and nothing is carried beyond them (6.2).
 #[tactic(auto, unfolding(std_defs::specs::Gcm::inc32))]
@@ -15,13 +17,13 @@ fn next_counter(block: u128) -> u128
 }
 
 /// The counter block of an IV from which the tag is sealed (7.1, step 2).
-#[tactic(auto, unfolding(std_defs::specs::Gcm::pre_counter_block, std_defs::specs::Blocks::block_number))]
+#[tactic(auto, unfolding(std_defs::specs::Gcm::pre_counter_block))]
 pub(crate) fn pre_counter(iv: &[u8; 12]) -> u128
     ensures { result ≡ pre_counter_block iv.now }
 {
     let mut block = [0, 0, 0, 0, 0, 0, 0, 0, 0, 0, 0, 0, 0, 0, 0, 1u8];
     block[..12].copy_from_slice(iv);
-    u128::from_be_bytes(block)
+    block_number(block)
 }
 
 /// The counter block of an IV from which the text is sealed (7.1, step 3).
@@ -31,15 +33,50 @@ pub(crate) fn first_counter(iv: &[u8; 12]) -> u128
     next_counter(pre_counter(iv))
 }
 
+/// The counter block `count` after this one.
+#[tactic(auto, using(crate::proofs::Counted::counted))]
+#[inline(always)]
+fn counter_after(block: u128, count: u64) -> u128
+    ensures { result ≡ counter_block block count }
+{
+    block / 0x1_0000_0000 * 0x1_0000_0000
+        + (block % 0x1_0000_0000 + u128::from(count)) % 0x1_0000_0000
+}
+
+/// The counter blocks from one on (6.5).
+#[derive(Drop)]
+struct Counter {
+    next: u128,
+}
+
+impl CounterBlocks for Counter {
+    ghost block = { λ counter n. bytes_of (counter_block counter.next n) };
+
+    fn first(&self) -> [u8; 16] {
+        block_bytes(self.next)
+    }
+
+    fn first_eight(&self) -> [[u8; 16]; 8] {
+        [
+            block_bytes(self.next),
+            block_bytes(counter_after(self.next, 1)),
+            block_bytes(counter_after(self.next, 2)),
+            block_bytes(counter_after(self.next, 3)),
+            block_bytes(counter_after(self.next, 4)),
+            block_bytes(counter_after(self.next, 5)),
+            block_bytes(counter_after(self.next, 6)),
+            block_bytes(counter_after(self.next, 7)),
+        ]
+    }
+
+    fn skip(&mut self, count: u64) {
+        self.next = counter_after(self.next, count);
+    }
+}
+
 /// Xors the text with the ciphers of the counter blocks from `initial` on (6.5).
 pub(crate) fn apply_key_stream<C: BlockCipher>(cipher: &C, initial: u128, text: &mut [u8])
     ensures { text.new ≡ gctr (C.sealed cipher.now) initial text.old }
 {
-    let mut counter = initial;
-    for i in 0..text.len().div_ceil(16) {
-        let mut block = block_bytes(counter);
-        cipher.seal_block(&mut block);
-        xor_block(&mut text[16 * i..], &block);
-        counter = next_counter(counter);
-    }
+    ctr_mode::apply_key_stream(cipher, Counter { next: initial }, text);
 }

@@ -7,9 +7,10 @@ ghost use Rattle.aes_block.specs.Opened.{Opens};
 
 use crate::counter::{apply_key_stream, first_counter, pre_counter};
 use aes_block::BlockCipher;
-use ghash_field::{GhashKey, absorb, block_bytes};
+use ghash_field::{GhashKey, absorb};
 use kc_base::Errno;
 use std::marker::Model;
+use std_defs::block_bytes;
 
 /// Whether a tag of `len` bytes is taken: 4, 8, or 12 to 16 of them (5.2.1.2).
 pub fn takes_gcm_tag(len: usize) -> bool
@@ -58,12 +59,13 @@ impl<C: BlockCipher + Drop, H: GhashKey + Drop> Gcm<C, H> {
         12
     }
 
-    /// Makes the ciphertext of `text` in its place, and its full tag (7.1). What is sealed opens again, under each front of
-    /// the tag.
+    /// Makes the ciphertext of `text` in its place, and its full tag (7.1). What is sealed opens again, under the whole tag and
+    /// under each front of it.
     pub fn seal(&self, iv: &[u8; 12], associated: &[u8], text: &mut [u8], tag: &mut [u8; 16])
         requires associated_short { length associated.now < 2 ^ 32 }
         requires text_short { length text.old < 2 ^ 32 }
         ensures sealed { (text.new, tag.new) ≡ gcm_seal (C.sealed self.now) iv.now associated.now text.old }
+        ensures opens_whole { gcm_open (C.sealed self.now) iv.now associated.now text.new tag.new ≡ Some text.old }
         ensures opens { (n : ℕ) → n ≤ 16 → gcm_open (C.sealed self.now) iv.now associated.now text.new (take n tag.new) ≡ Some text.old }
     {
         apply_key_stream(&self.cipher, first_counter(iv), text);

@@ -67,6 +67,7 @@ impl<C: BlockCipher + Drop, H: GhashKey + Drop> Rfc4106<C, H> {
         requires { length text.old < 2 ^ 32 }
         ensures sealed { let given = rfc4106_seal (C.sealed self.now.0) self.now.1 iv.now associated.now text.old in
             MatchResult result (λ _. given ≡ Some (text.new, tag.new)) (λ e. (e ≡ Errno.EINVAL) × (given ≡ None) × (text.new ≡ text.old) × (tag.new ≡ tag.old)) }
+        ensures opens_whole { OnOk result (rfc4106_open (C.sealed self.now.0) self.now.1 iv.now associated.now text.new tag.new ≡ bytes text.old) }
         ensures opens { OnOk result ((n : ℕ) → n ≤ 16 → rfc4106_open (C.sealed self.now.0) self.now.1 iv.now associated.now text.new (take n tag.new) ≡ bytes text.old) }
     {
         if !is_taken(associated) {

@@ -250,11 +250,15 @@ fn refuses_what_was_changed(rt: HostRuntime) {
     gcm.seal(&iv, &associated, &mut text, &mut tag);
     let sealed = text;
 
-    tag[11] ^= 1;
-    let tag_changed = gcm.unseal(&iv, &associated, &mut text, &tag[..12]);
-    assert_eq!(rt; tag_changed, Err(Errno::EBADMSG));
-    assert_eq!(rt; text, sealed);
-    tag[11] ^= 1;
+    for n in 1..=16usize {
+        if takes_gcm_tag(n) {
+            let mut other = tag;
+            other[n - 1] ^= 1;
+            let refused = gcm.unseal(&iv, &associated, &mut text, &other[..n]);
+            assert_eq!(rt; refused, Err(Errno::EBADMSG), "a tag of {n} bytes");
+            assert_eq!(rt; text, sealed);
+        }
+    }
 
     associated[0] ^= 128;
     let associated_changed = gcm.unseal(&iv, &associated, &mut text, &tag);

@@ -1,2 +1,2 @@
 pub mod ShiftAndFold
-pub mod Halves
+pub mod NibbleTables

@@ -4,6 +4,7 @@ ghost use Rattle.std.specs.Prelude.{◌<◌, ◌^◌};
 
 use crate::key::GhashKey;
 use crate::product::multiply;
+use std_defs::block_number;
 
 /// The hash subkey as it is: each product goes over its 128 bits.
 #[derive(Clone, Copy, Debug, Drop)]
@@ -17,11 +18,8 @@ impl GhashKey for BitGhash {
 
     ghost fits = { λ key. key.fits };
 
-    #[tactic(auto, unfolding(std_defs::specs::Blocks::block_number))]
     fn new(h: [u8; 16]) -> BitGhash {
-        BitGhash {
-            h: u128::from_be_bytes(h),
-        }
+        BitGhash { h: block_number(h) }
     }
 
     fn product(&self, x: u128) -> u128 {

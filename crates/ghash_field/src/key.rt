@@ -1,10 +1,10 @@
 //! What a hash needs of a key.
 
 ghost use Rattle.std.specs.Prelude.{◌≡◌, ◌<◌, ◌^◌, ℕ};
-ghost use Rattle.std_defs.specs.Blocks.{block_number, block_bytes};
+ghost use Rattle.std_defs.specs.Blocks.{block_number as number_of, block_bytes as bytes_of};
 ghost use Rattle.std_defs.specs.GhashField.{field_product};
 
-use crate::block::block_bytes;
+use std_defs::{block_bytes, block_number};
 
 /// The hash subkey H, prepared for products by it (NIST SP 800-38D, 6.4).
 pub trait GhashKey {
@@ -12,19 +12,18 @@ pub trait GhashKey {
     ghost block: { Self → ℕ };
 
     fn new(h: [u8; 16]) -> Self
-        ensures { block result ≡ block_number h };
+        ensures { block result ≡ number_of h };
 
     /// The product of the block whose number is `x` and H.
     fn product(&self, x: u128) -> u128
         ensures { result ≡ field_product x (block self.now) };
 
     /// The product of the block `x` and H.
-    #[tactic(auto, unfolding(std_defs::specs::Blocks::block_number))]
     fn mul(&self, x: [u8; 16]) -> [u8; 16]
-        ensures product { result ≡ block_bytes (field_product (block_number x) (block self.now)) }
+        ensures product { result ≡ bytes_of (field_product (number_of x) (block self.now)) }
         ensures fits { block self.now < 2 ^ 128 }
     {
-        block_bytes(self.product(u128::from_be_bytes(x)))
+        block_bytes(self.product(block_number(x)))
     }
 
     /// H is a block.

@@ -5,12 +5,13 @@ mod bit_ghash;
 mod block;
 mod hash;
 mod key;
+mod nibble_ghash;
 mod product;
 
 pub use bit_ghash::BitGhash;
-pub use block::block_bytes;
 pub use hash::absorb;
 pub use key::GhashKey;
+pub use nibble_ghash::NibbleGhash;
 pub use product::multiply;
 
 #[cfg(test)]

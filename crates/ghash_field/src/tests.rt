@@ -1,7 +1,8 @@
 //! Vectors of the GCM specification's test case 2, and the block of one.
 
-use crate::{BitGhash, GhashKey, absorb, block_bytes, multiply};
+use crate::{BitGhash, GhashKey, absorb, multiply};
 use std::process::Abort;
+use std_defs::block_bytes;
 
 const H: u128 = 0x66e9_4bd4_ef8a_2c3b_884c_fa59_ca34_2b2e;
 

@@ -59,3 +59,29 @@ fn rfc_4231_cases(rt: HostRuntime) -> Result<(), Fail> {
     }
     Ok(())
 }
+
+/// Keys of no byte, of a block and of one byte more: what Python's library gives.
+#[test]
+fn keys_about_a_block(rt: HostRuntime) -> Result<(), Fail> {
+    for (length, tag) in [
+        (
+            0usize,
+            "76d9e7194e7dbc3aa00bbe8ffb9f6fcb5a932170f971f948bb2ab61607d2b9d6",
+        ),
+        (
+            64usize,
+            "9de67dfee410c01e9025b3e3cc32609c5deb7ea8bd7e0b1b07f13aaeb7ebdc45",
+        ),
+        (
+            65usize,
+            "ab660fd06e2616c08d04bda13812a3506236b8b8d950ebb52574c679663f0d28",
+        ),
+    ] {
+        assert!(rt; length <= 65);
+        let mac = Mac::new(&[0xa5u8; 65][..length]);
+        let full = mac.mac(b"what do ya want ".as_slice(), b"for nothing?".as_slice());
+        let tag = hex::decode(rt.alloc(), tag)?;
+        assert!(rt; full[..] == tag[..], "under {length} bytes");
+    }
+    Ok(())
+}

@@ -52,6 +52,14 @@ impl Bytes {
         })
     }
 
+    /// Takes the room for `more` further bytes at once, so that as many can be added without taking memory each time. The bytes
+    /// stay as they were, also where memory is wanting.
+    pub fn reserve(&mut self, more: usize) -> Result<(), AllocError>
+        ensures { self.new ≡ self.old }
+    {
+        self.inner.reserve(more)
+    }
+
     /// Adds the part at the end. Want of memory leaves the bytes as they were.
     pub fn append(&mut self, part: &[u8]) -> Result<(), AllocError>
         ensures ok { OnOk result (self.new ≡ self.old ++ part.now) }

@@ -1,5 +1,7 @@
 //! Sources and sinks in memory.
 ghost use Rattle.std.specs.Prelude.{◌≡◌, ◌<◌, ◌≤◌, List, ℕ, [], Some, min, take, drop, replicate, length, vec_len};
+ghost use Rattle.kc_base.specs.Memory.{read_of, feed_after, IsWriteOf, store_after};
+ghost use Rattle.kc_base.specs.Streams.{IsReadCount, IsWriteCount, Reads, Writes, Rose};
 
 use crate::{Bytes, ReadAnswer, Sink, Source, WriteAnswer};
 use std::alloc::Global;
@@ -140,7 +142,15 @@ impl Source for MemSource {
 
     ghost faults = { λ s. s.faults };
 
-    fn read(&mut self, buf: &mut [u8]) -> ReadAnswer {
+    fn read(&mut self, buf: &mut [u8]) -> ReadAnswer
+        requires { 0 < length buf.old }
+        ensures count { IsReadCount result (length buf.new) }
+        ensures bytes { Reads (Some self.old.left) (Some self.new.left) result buf.new }
+        ensures later { self.old.faults ≤ self.new.faults }
+        ensures cause { result ≡ ReadAnswer.Failed → Rose self.old.faults self.new.faults }
+        ensures answer { result ≡ read_of self.old (length buf.old) }
+        ensures feed { self.new ≡ feed_after self.old (length buf.old) }
+    {
         let call = self.calls;
         self.calls = call.saturating_add(1);
         if self.failing.contains(&call) {
@@ -203,7 +213,15 @@ impl Sink for MemSink {
 
     ghost faults = { λ s. s.faults };
 
-    fn write(&mut self, piece: &[u8]) -> WriteAnswer {
+    fn write(&mut self, piece: &[u8]) -> WriteAnswer
+        requires { 0 < length piece.now }
+        ensures count { IsWriteCount result (length piece.now) }
+        ensures bytes { Writes (Some self.old.held) (Some self.new.held) result piece.now }
+        ensures later { self.old.faults ≤ self.new.faults }
+        ensures cause { result ≡ WriteAnswer.Failed → Rose self.old.faults self.new.faults }
+        ensures answer { IsWriteOf self.old result (length piece.now) }
+        ensures store { self.new ≡ store_after self.old result piece.now }
+    {
         let call = self.calls;
         self.calls = call.saturating_add(1);
         if self.failing.contains(&call) {

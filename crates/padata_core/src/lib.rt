@@ -4,7 +4,7 @@
 #[cfg(test)]
 mod tests;
 
-ghost use Rattle.std.specs.Prelude.{◌≡◌, ℕ, ◌+◌, ◌-◌, ◌^◌, ◌<◌, ◌≤◌, List, [], ◌∷◌, ◌++◌, drop, length, slice_get, slice_set, IfOk, OnOk, IfSome, MatchOption, nat_lt};
+ghost use Rattle.std.specs.Prelude.{◌≡◌, ℕ, ◌+◌, ◌-◌, ◌^◌, ◌<◌, ◌≤◌, List, [], ◌∷◌, ◌++◌, drop, length, slice_get, slice_set, IfOk, OnOk, IfSome, MatchOption, MatchBool, nat_lt};
 ghost use Rattle.std.specs.VecDeque.{deque_len, deque_capacity};
 ghost use Rattle.padata_core.specs.Pad.{taken_of, submitted_of, ready, done_from};
 
@@ -17,23 +17,27 @@ use std::marker::Model;
 /// in order. `lists` is the number of workers for which it was made, at least 1.
 #[derive(Drop)]
 pub struct Padata<J, F> {
+    alloc: Global,
     lists: u32,
     collected: u64,
     outcomes: VecDeque<Option<F>>,
     waiting: VecDeque<J>,
     spare: usize,
+    /// How many jobs were taken and aren't finished.
+    running: usize,
 }
 
 impl<J, F> Model for Padata<J, F> {
-    ghost use Rattle.std.specs.Prelude.{◌+◌, ◌≤◌, ◌^◌};
+    ghost use Rattle.std.specs.Prelude.{◌≡◌, ◌+◌, ◌≤◌, ◌^◌};
     ghost use Rattle.std.specs.VecDeque.{deque_len, deque_capacity};
     ghost use Rattle.padata_core.specs.Pad.{Pad};
+    ghost use Rattle.padata_core.specs.Running.{count_running};
 
     ghost Value = { Pad J F };
 
     ghost view = { λ p. record { lists = p.lists; collected = p.collected; outcomes = p.outcomes.items; waiting = p.waiting.items; spare = p.spare } };
 
-    ghost invariant = { λ p. (1 ≤ p.lists) × (p.collected + deque_len p.outcomes + deque_len p.waiting ≤ 2 ^ 63) × (deque_len p.waiting + p.spare ≤ deque_capacity p.waiting) × (deque_len p.outcomes + deque_len p.waiting + p.spare ≤ deque_capacity p.outcomes) };
+    ghost invariant = { λ p. (1 ≤ p.lists) × (p.collected + deque_len p.outcomes + deque_len p.waiting ≤ 2 ^ 63) × (deque_len p.waiting + p.spare ≤ deque_capacity p.waiting) × (deque_len p.outcomes + deque_len p.waiting + p.spare ≤ deque_capacity p.outcomes) × (p.running ≡ count_running p.outcomes.items) };
 }
 
 impl<J: Drop, F: Drop> Padata<J, F> {
@@ -43,11 +47,13 @@ impl<J: Drop, F: Drop> Padata<J, F> {
         ensures { IfOk result (λ pad. pad ≡ record { lists = lists; collected = 0; outcomes = []; waiting = []; spare = 0 }) }
     {
         Ok(Padata {
+            alloc,
             lists,
             collected: 0,
             outcomes: VecDeque::new(alloc),
             waiting: VecDeque::new(alloc),
             spare: 0,
+            running: 0,
         })
     }
 
@@ -90,6 +96,7 @@ impl<J: Drop, F: Drop> Padata<J, F> {
         let job = self.waiting.pop_front()?;
         let number = self.collected + self.outcomes.len() as u64;
         let _ = self.outcomes.push_back(None);
+        self.running += 1;
         Some((number, job))
     }
 
@@ -102,13 +109,33 @@ impl<J: Drop, F: Drop> Padata<J, F> {
     {
         let place = (number - self.collected) as usize;
         self.outcomes[place] = Some(out);
+        self.running -= 1;
     }
 
-    /// How many were submitted and not collected.
-    pub fn uncollected(&self) -> usize
-        ensures { result ≡ length self.now.outcomes + length self.now.waiting }
+    /// How many outcomes a `collect` hands out: those from the first number that isn't collected up to the first whose job
+    /// isn't done.
+    pub fn ready(&self) -> usize
+        ensures { result ≡ length (ready self.now.outcomes) }
     {
-        self.outcomes.len() + self.waiting.len()
+        ready_len(&self.outcomes)
+    }
+
+    /// Whether each job that was submitted is done.
+    pub fn is_done(&self) -> bool
+        ensures { MatchBool result (submitted_of self.now ≡ self.now.collected + length (ready self.now.outcomes)) (self.now.collected + length (ready self.now.outcomes) < submitted_of self.now) }
+    {
+        self.running == 0 && self.waiting.is_empty()
+    }
+
+    /// Gives back the memory of a pipeline of which all is collected.
+    pub fn release(&mut self)
+        requires taken { self.old.waiting ≡ [] }
+        requires collected { self.old.outcomes ≡ [] }
+        ensures { self.new ≡ record self.old { spare = 0 } }
+    {
+        self.outcomes = VecDeque::new(self.alloc);
+        self.waiting = VecDeque::new(self.alloc);
+        self.spare = 0;
     }
 
     /// Whether a number is still untaken.
@@ -133,9 +160,9 @@ impl<J: Drop, F: Drop> Padata<J, F> {
     }
 
     /// Hands out the outcomes from the first number that isn't collected up to the first whose job isn't done. `into`
-    /// must have room for all that are submitted and not collected.
+    /// must have room for these.
     pub fn collect(&mut self, into: &mut Callbacks<F>)
-        requires { length self.old.outcomes + length self.old.waiting ≤ into.old.spare }
+        requires { length (ready self.old.outcomes) ≤ into.old.spare }
         ensures handed { into.new.list ≡ into.old.list ++ done_from self.old.collected (ready self.old.outcomes) }
         ensures spare { into.new.spare + length (ready self.old.outcomes) ≡ into.old.spare }
         ensures collected { self.new ≡ record self.old { collected = self.old.collected + length (ready self.old.outcomes); outcomes = drop (length (ready self.old.outcomes)) self.old.outcomes } }

@@ -6,7 +6,7 @@ use Rattle.std.proofs.lemmas.Bool.{eqb-true}
 use Rattle.std.proofs.lemmas.List.Folds.{list_all-append}
 use Rattle.board.specs.declared.entry.BoardEntry.{BoardEntry}
 use Rattle.board.specs.declared.entry.BoardEntry.TheVariants.{Born, Submit, Take, Finish, Enq, Deq, Done, Hold, Go, Collect, Close, Share, Shut}
-use Rattle.board.specs.Entries.{entries_of, submissions, collected, caller_of, is_close, held_in, is_held}
+use Rattle.board.specs.Entries.{entries_of, submissions, collected, caller_of, is_close, held_in, is_held, is_shared}
 use Rattle.board.specs.Legal.{IsOpenPad, IsOpenQueue, MaySubmit, MayManage, MayFinish, AreRightAfter, is_shut_entry, is_shut, LegalBoard}
 use Rattle.board.specs.Order.{handed_out}
 use Rattle.board.specs.Handing.{is_collect, HandsNothing}
@@ -98,18 +98,19 @@ Keeps before after p =
     × (is_held (entries_of p after) ≡ is_held (entries_of p before))
     × (IsOpenQueue (entries_of p before) → IsOpenQueue (entries_of p after))
     × (handed_out (entries_of p after) ≡ handed_out (entries_of p before))
+    × (is_shared (entries_of p after) ≡ is_shared (entries_of p before))
 
 both : {A : Type 0} (before mid after : List (BoardEntry A)) (p : ℕ) → Keeps before mid p → Keeps mid after p → Keeps before after p
-both before mid after p k l = (l.0 ∙ k.0, l.1 ∙ k.1, λ o. l.2 (k.2 o), λ c s. l.3 c (k.3 c s), λ c m. l.4 c (k.4 c m), l.5 ∙ k.5, λ o. l.6 (k.6 o), l.7 ∙ k.7)
+both before mid after p k l = (l.0 ∙ k.0, l.1 ∙ k.1, λ o. l.2 (k.2 o), λ c s. l.3 c (k.3 c s), λ c m. l.4 c (k.4 c m), l.5 ∙ k.5, λ o. l.6 (k.6 o), l.7 ∙ k.7, l.8 ∙ k.8)
 
 module _ {A : Type 0} (opened : (h : List (BoardEntry A)) (e : BoardEntry A) (p : ℕ) → StaysOpen h e p) (queue_opened : (h : List (BoardEntry A)) (e : BoardEntry A) (p : ℕ) → QueueStaysOpen h e p) (managed : (h : List (BoardEntry A)) (e : BoardEntry A) (p caller : ℕ) → StaysManaged h e p caller) (submitting : (h : List (BoardEntry A)) (e : BoardEntry A) (p caller : ℕ) → StaysSubmitting h e p caller) (work : (h : List (BoardEntry A)) (e : BoardEntry A) (p : ℕ) → WorkLeaves h e p) (held : (h : List (BoardEntry A)) (e : BoardEntry A) (q : ℕ) → StaysHeld h e q) (hands : (h : List (BoardEntry A)) (e : BoardEntry A) (p : ℕ) → HandsNothing h e p) where
   keeps : (caller : ℕ) (before es : List (BoardEntry A)) (p : ℕ) → list_all (is_work_by caller) es ≡ true → Keeps before (before ++ es) p
-  keeps caller before [] p w = rw (append-nil before) (refl, refl, λ o. o, λ c s. s, λ c m. m, refl, λ o. o, refl)
+  keeps caller before [] p w = rw (append-nil before) (refl, refl, λ o. o, λ c s. s, λ c m. m, refl, λ o. o, refl, refl)
   keeps caller before (e ∷ es) p w =
       let one = left_true (is_work_by caller e) _ w in
       let is : is_work e ≡ true = left_true (is_work e) (caller_of e == caller) one in
       let left = work before e p is in
-      let first : Keeps before (before ++ e ∷ []) p = (left.0, left.1, λ o. opened before e p o (no_close e is), λ c s. submitting before e p c s, λ c m. managed before e p c m, held before e p (holds_nothing e is), λ o. queue_opened before e p o (no_close e is), hands before e p (no_collect e is)) in
+      let first : Keeps before (before ++ e ∷ []) p = (left.0, left.1, λ o. opened before e p o (no_close e is), λ c s. submitting before e p c s, λ c m. managed before e p c m, held before e p (holds_nothing e is), λ o. queue_opened before e p o (no_close e is), hands before e p (no_collect e is), left.2) in
       let rest = keeps caller (before ++ e ∷ []) es p (right_true (is_work_by caller e) _ w) in
       subst (λ after. Keeps before after p) (append_assoc before (e ∷ []) es) (both before (before ++ e ∷ []) ((before ++ e ∷ []) ++ es) p first rest)
 

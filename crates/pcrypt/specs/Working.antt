@@ -2,7 +2,7 @@
 use Rattle.std.specs.Prelude.{◌≡◌, ◌≢◌, ◌⊎◌, ℕ, ◌-◌, Bool, true, false, ◌&&◌, ◌==◌, List, [], ◌∷◌, ◌++◌, length, None}
 use Rattle.std.specs.List.{list_all}
 use Rattle.board.specs.declared.entry.BoardEntry.{BoardEntry}
-use Rattle.board.specs.Entries.{entries_of, submissions, taken_in, takers, finished, has, front, told, collected, delivered, caller_of, is_held, NoneWaits}
+use Rattle.board.specs.Entries.{entries_of, submissions, taken_in, takers, finished, has, front, told, collected, delivered, caller_of, is_held, is_shared, NoneWaits}
 use Rattle.board.specs.declared.entry.BoardEntry.TheVariants.{Collect}
 use Rattle.kc_base.specs.declared.callback_list.Callback.{Callback}
 use Rattle.board.specs.Legal.{IsOpenPad, IsOpenQueue, MaySubmit, MayManage, MayFinish, is_shut, LegalBoard}
@@ -48,8 +48,8 @@ AllIsDone h p =
     LegalBoard h → NoneWaits h → NoneRuns h → IsServed (entries_of p h)
     → front (entries_of p h) ≡ length (submissions (entries_of p h))
 
--- of a pipeline work leaves what it accepted and handed out, whether it is held, that it is open, and who may submit to it
--- or manage it
+-- of a pipeline work leaves what it accepted and handed out, whether it is held and shared, that it is open, and who may
+-- submit to it or manage it
 abbrev pub WorkKeeps : {A : Type 0} → ℕ → List (BoardEntry A) → List (BoardEntry A) → ℕ → Type 0
 WorkKeeps caller before after p =
     WorksFrom caller before after
@@ -61,6 +61,7 @@ WorkKeeps caller before after p =
     × (is_held (entries_of p after) ≡ is_held (entries_of p before))
     × (IsOpenQueue (entries_of p before) → IsOpenQueue (entries_of p after))
     × (handed_out (entries_of p after) ≡ handed_out (entries_of p before))
+    × (is_shared (entries_of p after) ≡ is_shared (entries_of p before))
 
 -- and the board is shut where it was
 abbrev pub WorkShutsNothing : {A : Type 0} → ℕ → List (BoardEntry A) → List (BoardEntry A) → Type 0

@@ -33,6 +33,7 @@ pub struct Served<T> {
 /// Items in the order in which they were accepted, numbered from 0. Up to `max` wait, at least 1, and more in the backlog.
 #[derive(Drop)]
 pub struct Queue<T> {
+    alloc: Global,
     max: u32,
     served: u64,
     waiting: VecDeque<T>,
@@ -58,6 +59,7 @@ impl<T: Drop> Queue<T> {
         ensures { IfOk result (λ line. line ≡ record { max = max; served = 0; waiting = []; spare = 0 }) }
     {
         Ok(Queue {
+            alloc,
             max,
             served: 0,
             waiting: VecDeque::new(alloc),
@@ -98,6 +100,15 @@ impl<T: Drop> Queue<T> {
         self.waiting.reserve(n)?;
         self.spare = n;
         Ok(())
+    }
+
+    /// Gives back the memory of an empty queue.
+    pub fn release(&mut self)
+        requires { self.old.waiting ≡ [] }
+        ensures { self.new ≡ record self.old { spare = 0 } }
+    {
+        self.waiting = VecDeque::new(self.alloc);
+        self.spare = 0;
     }
 
     /// Accepts the item where fewer than `max` wait, and past that into the backlog where `backlog` permits it. Otherwise

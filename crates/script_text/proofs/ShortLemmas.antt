@@ -129,10 +129,10 @@ authsize_short other h = tt
 aead_short : (command : List ℕ → List ℕ → List ℕ → List ℕ → Bool → Command)
     → ((l iv a t : List ℕ) (b : Bool) → IsShort l → IsShort iv → IsShort a → IsShort t → IsShortCommand (command l iv a t b))
     → (args : List (List ℕ)) → AllShort args → RowIsShort (aead_row command args)
-aead_short command put (label ∷ iv ∷ associated ∷ text ∷ more) h =
+aead_short command put (label ∷ iv ∷ aad ∷ text ∷ more) h =
     after (label_of label) _ (label_short label h.0) (λ l hl.
     after (hex_of iv) _ (hex_short iv h.1.0) (λ i hi.
-    after (hex_of associated) _ (hex_short associated h.1.1.0) (λ a ha.
+    after (hex_of aad) _ (hex_short aad h.1.1.0) (λ a ha.
     after (hex_of text) _ (hex_short text h.1.1.1.0) (λ t ht.
     after_any (backlog_of more) _ (λ b. put l i a t b hl hi ha ht)))))
 aead_short command put other h = tt

@@ -51,13 +51,13 @@ authsize_row other = None
 
 -- `enc T IV AAD TEXT [backlog]` and `dec T IV AAD TEXT [backlog]`
 abbrev pub aead_row : (List ℕ → List ℕ → List ℕ → List ℕ → Bool → Command) → List (List ℕ) → Option Command
-aead_row command (label ∷ iv ∷ associated ∷ text ∷ more) = do
+aead_row command (label ∷ iv ∷ aad ∷ text ∷ more) = do
   label ← label_of label
   iv ← hex_of iv
-  associated ← hex_of associated
+  aad ← hex_of aad
   text ← hex_of text
   backlog ← backlog_of more
-  Some (command label iv associated text backlog)
+  Some (command label iv aad text backlog)
 aead_row command other = None
 
 -- `mac T TEXT [backlog]`

@@ -40,7 +40,7 @@ pub enum Command {
     Enc {
         label: Bytes,
         iv: Bytes,
-        associated: Bytes,
+        aad: Bytes,
         text: Bytes,
         backlog: bool,
     },
@@ -48,7 +48,7 @@ pub enum Command {
     Dec {
         label: Bytes,
         iv: Bytes,
-        associated: Bytes,
+        aad: Bytes,
         text: Bytes,
         backlog: bool,
     },

@@ -85,13 +85,13 @@ fn authsize_command(alloc: Global, args: &[&[u8]]) -> Result<Command, ReadError>
 fn enc_command(alloc: Global, args: &[&[u8]]) -> Result<Command, ReadError>
     ensures { Reads result (aead_row says.Enc (map (λ token. token.now) args.now)) }
 {
-    let [transform, iv, associated, text, more @ ..] = args else {
+    let [transform, iv, aad, text, more @ ..] = args else {
         return Err(ReadError::Malformed);
     };
     Ok(Command::Enc {
         label: label(alloc, transform)?,
         iv: hex_bytes(alloc, iv)?,
-        associated: hex_bytes(alloc, associated)?,
+        aad: hex_bytes(alloc, aad)?,
         text: hex_bytes(alloc, text)?,
         backlog: backlog(more)?,
     })
@@ -100,13 +100,13 @@ fn enc_command(alloc: Global, args: &[&[u8]]) -> Result<Command, ReadError>
 fn dec_command(alloc: Global, args: &[&[u8]]) -> Result<Command, ReadError>
     ensures { Reads result (aead_row says.Dec (map (λ token. token.now) args.now)) }
 {
-    let [transform, iv, associated, text, more @ ..] = args else {
+    let [transform, iv, aad, text, more @ ..] = args else {
         return Err(ReadError::Malformed);
     };
     Ok(Command::Dec {
         label: label(alloc, transform)?,
         iv: hex_bytes(alloc, iv)?,
-        associated: hex_bytes(alloc, associated)?,
+        aad: hex_bytes(alloc, aad)?,
         text: hex_bytes(alloc, text)?,
         backlog: backlog(more)?,
     })

@@ -213,17 +213,17 @@ fn words(alloc: Global, command: &Command) -> Result<String, AllocError> {
         Command::Enc {
             label,
             iv,
-            associated,
+            aad,
             text,
             backlog,
-        } => request_words(alloc, "enc", label, &[iv, associated, text], *backlog),
+        } => request_words(alloc, "enc", label, &[iv, aad, text], *backlog),
         Command::Dec {
             label,
             iv,
-            associated,
+            aad,
             text,
             backlog,
-        } => request_words(alloc, "dec", label, &[iv, associated, text], *backlog),
+        } => request_words(alloc, "dec", label, &[iv, aad, text], *backlog),
         Command::Mac {
             label,
             text,

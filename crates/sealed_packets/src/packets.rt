@@ -6,7 +6,6 @@ ghost use Rattle.std_defs.specs.Gcm.{gcm_seal, gcm_open};
 ghost use Rattle.std_defs.specs.Rfc4106.{rfc4106_seal, rfc4106_open};
 ghost use Rattle.std_defs.specs.Hmac.{hmac};
 ghost use Rattle.std_defs.specs.Value.{or_bad_message};
-ghost use Rattle.aes_block.specs.Key.{aes_key};
 ghost use Rattle.aes_block.specs.Opened.{Opens};
 
 use aes_block::Aes;
@@ -17,7 +16,7 @@ use kc_base::Errno;
 
 /// GCM with AES under a key of 128 bits.
 pub fn gcm_under(key: &[u8; 16]) -> Gcm<Aes, BitGhash>
-    ensures { aes_key result ≡ key.now }
+    ensures { result.bytes ≡ key.now }
 {
     // AES takes 16 bytes
     Gcm::new(Aes::new(key).unwrap())
@@ -86,7 +85,7 @@ pub fn seal_esp(
     text: &mut [u8],
 ) -> [u8; 16]
     requires { length text.old < 2 ^ 32 }
-    ensures { rfc4106_seal (seal (aes_key mode.now.0)) mode.now.1 iv.now (header.now ++ iv.now) text.old ≡ Some (text.new, result) }
+    ensures { rfc4106_seal (seal mode.now.0.bytes) mode.now.1 iv.now (header.now ++ iv.now) text.old ≡ Some (text.new, result) }
 {
     let mut tag = [0; 16];
     // 20 associated bytes are always taken
@@ -105,7 +104,7 @@ pub fn open_esp(
     tag: &[u8; 16],
 ) -> Result<(), Errno>
     requires { length text.old < 2 ^ 32 }
-    ensures { Opens result (rfc4106_open (seal (aes_key mode.now.0)) mode.now.1 iv.now (header.now ++ iv.now) text.old tag.now) text.old text.new }
+    ensures { Opens result (rfc4106_open (seal mode.now.0.bytes) mode.now.1 iv.now (header.now ++ iv.now) text.old tag.now) text.old text.new }
 {
     mode.unseal(iv, &associated_of(header, iv), text, tag)
 }

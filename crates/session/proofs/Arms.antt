@@ -51,8 +51,7 @@ use Rattle.session.proofs.Boarding.{bear_calls, bore-posted, bore-calls, bore-ex
 use Rattle.session.proofs.Placed.{Split, split-at, none-at, split-set, split-remove, uses-removed}
 use Rattle.std.proofs.Math.ListN.{set}
 use Rattle.std.proofs.lemmas.Slice.Eq.{bytes_eq-Decides}
-use Rattle.transforms.specs.Plans.{mode_of}
-use Rattle.transforms.specs.Takes.{takes_tag, takes_key_of}
+use Rattle.transforms.specs.Plans.{takes_tag, takes_key}
 
 some-is : {A : Type 0} → (x y : A) → Some x ≡ Some y → x ≡ y
 some-is x y e = cc
@@ -118,36 +117,28 @@ known-spec priority known spec e is = subst (λ (s : Spec). IsKnownDriver s prio
 
 pub known-driver : (driver : List ℕ) (priority : ℕ) (spec : Spec) → driver_spec driver priority ≡ Some spec → IsKnownDriver spec priority
 unfolding table
-known-driver driver priority spec e = by_tests (bytes_eq driver aes.driver) (bytes_eq driver sha256.driver) (bytes_eq driver ghash.driver) e
+known-driver driver priority spec e = by_tests (bytes_eq driver (codes "aes-generic")) (bytes_eq driver (codes "sha256-generic")) (bytes_eq driver (codes "ghash-generic")) (bytes_eq driver (codes "aes-table")) (bytes_eq driver (codes "aes-lanes")) (bytes_eq driver (codes "ghash-table")) e
   where
-    aes : Spec
-    aes = opened (97 ∷ 101 ∷ 115 ∷ []) (97 ∷ 101 ∷ 115 ∷ 45 ∷ 103 ∷ 101 ∷ 110 ∷ 101 ∷ 114 ∷ 105 ∷ 99 ∷ []) Cipher
+    by_tests : (b0 b1 b2 b3 b4 b5 : Bool) → option_map (λ (s : Spec). record s { priority = priority }) (cond b0 (Some (opened (codes "aes") (codes "aes-generic") Cipher)) (cond b1 (Some (opened (codes "sha256") (codes "sha256-generic") Hash)) (cond b2 (Some (opened (codes "ghash") (codes "ghash-generic") Ghash)) (cond b3 (Some (opened (codes "aes") (codes "aes-table") Cipher)) (cond b4 (Some (opened (codes "aes") (codes "aes-lanes") Cipher)) (cond b5 (Some (opened (codes "ghash") (codes "ghash-table") Ghash)) None)))))) ≡ Some spec → IsKnownDriver spec priority
+    by_tests true b1 b2 b3 b4 b5 q = known-spec priority (opened (codes "aes") (codes "aes-generic") Cipher) spec q (record { priority_is = refl; alone = refl; plain = refl; listed = refl })
+    by_tests false true b2 b3 b4 b5 q = known-spec priority (opened (codes "sha256") (codes "sha256-generic") Hash) spec q (record { priority_is = refl; alone = refl; plain = refl; listed = refl })
+    by_tests false false true b3 b4 b5 q = known-spec priority (opened (codes "ghash") (codes "ghash-generic") Ghash) spec q (record { priority_is = refl; alone = refl; plain = refl; listed = refl })
+    by_tests false false false true b4 b5 q = known-spec priority (opened (codes "aes") (codes "aes-table") Cipher) spec q (record { priority_is = refl; alone = refl; plain = refl; listed = refl })
+    by_tests false false false false true b5 q = known-spec priority (opened (codes "aes") (codes "aes-lanes") Cipher) spec q (record { priority_is = refl; alone = refl; plain = refl; listed = refl })
+    by_tests false false false false false true q = known-spec priority (opened (codes "ghash") (codes "ghash-table") Ghash) spec q (record { priority_is = refl; alone = refl; plain = refl; listed = refl })
+    by_tests false false false false false false q = absurd cc
 
-    sha256 : Spec
-    sha256 = opened (115 ∷ 104 ∷ 97 ∷ 50 ∷ 53 ∷ 54 ∷ []) (115 ∷ 104 ∷ 97 ∷ 50 ∷ 53 ∷ 54 ∷ 45 ∷ 103 ∷ 101 ∷ 110 ∷ 101 ∷ 114 ∷ 105 ∷ 99 ∷ []) Hash
-
-    ghash : Spec
-    ghash = opened (103 ∷ 104 ∷ 97 ∷ 115 ∷ 104 ∷ []) (103 ∷ 104 ∷ 97 ∷ 115 ∷ 104 ∷ 45 ∷ 103 ∷ 101 ∷ 110 ∷ 101 ∷ 114 ∷ 105 ∷ 99 ∷ []) Ghash
-
-    by_tests : (a b c : Bool) → option_map (λ (s : Spec). record s { priority = priority }) (cond a (Some aes) (cond b (Some sha256) (cond c (Some ghash) None))) ≡ Some spec → IsKnownDriver spec priority
-    by_tests true b c q = known-spec priority aes spec q (record { priority_is = refl; alone = refl; plain = refl; listed = refl })
-    by_tests false true c q = known-spec priority sha256 spec q (record { priority_is = refl; alone = refl; plain = refl; listed = refl })
-    by_tests false false true q = known-spec priority ghash spec q (record { priority_is = refl; alone = refl; plain = refl; listed = refl })
-    by_tests false false false q = absurd cc
+-- a name is not that word, by the test of a comparison with it
+pub other-word : (name bytes word : List ℕ) (test : Bool) → test ≡ bytes_eq name bytes → test ≡ false → bytes ≡ word → bytes_eq name word ≡ false
+other-word name bytes word test at not is = ap (bytes_eq name) (sym is) ∙ (sym at ∙ not)
 
 -- no driver has another name
-pub no-driver : (name aes sha256 ghash : List ℕ) (priority : ℕ) (a b c : Bool) → a ≡ bytes_eq name aes → b ≡ bytes_eq name sha256 → c ≡ bytes_eq name ghash → a ≡ false → b ≡ false → c ≡ false
-    → aes ≡ 97 ∷ 101 ∷ 115 ∷ 45 ∷ 103 ∷ 101 ∷ 110 ∷ 101 ∷ 114 ∷ 105 ∷ 99 ∷ [] → sha256 ≡ 115 ∷ 104 ∷ 97 ∷ 50 ∷ 53 ∷ 54 ∷ 45 ∷ 103 ∷ 101 ∷ 110 ∷ 101 ∷ 114 ∷ 105 ∷ 99 ∷ []
-    → ghash ≡ 103 ∷ 104 ∷ 97 ∷ 115 ∷ 104 ∷ 45 ∷ 103 ∷ 101 ∷ 110 ∷ 101 ∷ 114 ∷ 105 ∷ 99 ∷ [] → None ≡ driver_spec name priority
-no-driver name aes sha256 ghash priority a b c at_a at_b at_c not_a not_b not_c is_a is_b is_c =
-    sym (ap (λ (t : Bool). chosen t (bytes_eq name (codes "sha256-generic")) (bytes_eq name (codes "ghash-generic"))) (ap (bytes_eq name) (sym is_a) ∙ (sym at_a ∙ not_a))
-    ∙ (ap (λ (t : Bool). chosen false t (bytes_eq name (codes "ghash-generic"))) (ap (bytes_eq name) (sym is_b) ∙ (sym at_b ∙ not_b))
-    ∙ ap (λ (t : Bool). chosen false false t) (ap (bytes_eq name) (sym is_c) ∙ (sym at_c ∙ not_c))))
+pub no-driver : (name : List ℕ) (priority : ℕ) → bytes_eq name (codes "aes-generic") ≡ false → bytes_eq name (codes "sha256-generic") ≡ false → bytes_eq name (codes "ghash-generic") ≡ false → bytes_eq name (codes "aes-table") ≡ false → bytes_eq name (codes "aes-lanes") ≡ false → bytes_eq name (codes "ghash-table") ≡ false → None ≡ driver_spec name priority
+no-driver name priority e0 e1 e2 e3 e4 e5 = sym (by_tests (bytes_eq name (codes "aes-generic")) (bytes_eq name (codes "sha256-generic")) (bytes_eq name (codes "ghash-generic")) (bytes_eq name (codes "aes-table")) (bytes_eq name (codes "aes-lanes")) (bytes_eq name (codes "ghash-table")) e0 e1 e2 e3 e4 e5)
   where
-    chosen : Bool → Bool → Bool → Option Spec
-    chosen x y z =
-        option_map (λ (s : Spec). record s { priority = priority })
-        (cond x (Some (opened (codes "aes") (codes "aes-generic") Cipher)) (cond y (Some (opened (codes "sha256") (codes "sha256-generic") Hash)) (cond z (Some (opened (codes "ghash") (codes "ghash-generic") Ghash)) None)))
+    by_tests : (b0 b1 b2 b3 b4 b5 : Bool) → b0 ≡ false → b1 ≡ false → b2 ≡ false → b3 ≡ false → b4 ≡ false → b5 ≡ false → option_map (λ (s : Spec). record s { priority = priority }) (cond b0 (Some (opened (codes "aes") (codes "aes-generic") Cipher)) (cond b1 (Some (opened (codes "sha256") (codes "sha256-generic") Hash)) (cond b2 (Some (opened (codes "ghash") (codes "ghash-generic") Ghash)) (cond b3 (Some (opened (codes "aes") (codes "aes-table") Cipher)) (cond b4 (Some (opened (codes "aes") (codes "aes-lanes") Cipher)) (cond b5 (Some (opened (codes "ghash") (codes "ghash-table") Ghash)) None)))))) ≡ None
+    by_tests false false false false false false e0 e1 e2 e3 e4 e5 = refl
+    by_tests _ _ _ _ _ _ e0 e1 e2 e3 e4 e5 = absurd cc
 
 pub register-unknown : (walk : Walk) (n : ℕ) (name driver : List ℕ) (priority : ℕ) (found : Option Spec) (r : List RegEntry) (answer : Answer)
     → Stands walk r → name ≡ driver → found ≡ driver_spec name priority → found ≡ None → answer ≡ said.Refused n errno.ENOENT
@@ -367,27 +358,27 @@ abbrev pub if_sized : Walk → ℕ → ℕ → Live → Bool → Turn
 if_sized walk n size live taken = if taken then answered (with_live walk (sized live size)) (said.Ok n) else refused walk n errno.EINVAL
 
 pub authsize-set : {q v : ℕ} (walk : Walk) (n size : ℕ) (label : List ℕ) (place : ℕ) (items lives : List Live) (old new : Live) (answer : Answer) (s : Split label walk.lives 0 place)
-    → viewed q v items ≡ walk → lives ≡ set items place new → old ≡ s.live → takes_tag (mode_of old.plan) size ≡ true → new ≡ sized old size → answer ≡ said.Ok n
+    → viewed q v items ≡ walk → lives ≡ set items place new → old ≡ s.live → takes_tag old.plan size ≡ true → new ≡ sized old size → answer ≡ said.Ok n
     → answered (viewed q v lives) answer ≡ authsize_turn walk n size (live_of walk label)
 authsize-set {q} {v} walk n size label place items lives old new answer s view are was taken is says =
     let now : new ≡ sized s.live size = is ∙ ap (λ (l : Live). sized l size) was in
     ap (λ (w : Walk). answered w answer) (changed-walk walk label place items lives new s view are (ap (λ (l : Live). l.label) now))
     ∙ (ap (λ (l : Live). answered (with_live walk l) answer) now
     ∙ (ap (answered (with_live walk (sized s.live size))) says
-    ∙ sym (ap (authsize_turn walk n size) s.found ∙ ap (if_sized walk n size s.live) (ap (λ (l : Live). takes_tag (mode_of l.plan) size) (sym was) ∙ taken))))
+    ∙ sym (ap (authsize_turn walk n size) s.found ∙ ap (if_sized walk n size s.live) (ap (λ (l : Live). takes_tag l.plan size) (sym was) ∙ taken))))
 
 pub authsize-kept : {q v : ℕ} (walk : Walk) (n size : ℕ) (label : List ℕ) (place : ℕ) (items lives : List Live) (old new : Live) (answer : Answer) (s : Split label walk.lives 0 place)
-    → viewed q v items ≡ walk → lives ≡ set items place new → old ≡ s.live → takes_tag (mode_of old.plan) size ≡ false → new ≡ old → answer ≡ said.Refused n errno.EINVAL
+    → viewed q v items ≡ walk → lives ≡ set items place new → old ≡ s.live → takes_tag old.plan size ≡ false → new ≡ old → answer ≡ said.Refused n errno.EINVAL
     → answered (viewed q v lives) answer ≡ authsize_turn walk n size (live_of walk label)
 authsize-kept {q} {v} walk n size label place items lives old new answer s view are was taken is says =
     ap (λ (w : Walk). answered w answer) (kept-walk walk label place items lives new s view are (is ∙ was))
-    ∙ (ap (answered walk) says ∙ sym (ap (authsize_turn walk n size) s.found ∙ ap (if_sized walk n size s.live) (ap (λ (l : Live). takes_tag (mode_of l.plan) size) (sym was) ∙ taken)))
+    ∙ (ap (answered walk) says ∙ sym (ap (authsize_turn walk n size) s.found ∙ ap (if_sized walk n size s.live) (ap (λ (l : Live). takes_tag l.plan size) (sym was) ∙ taken)))
 
 abbrev pub if_keyed : Walk → ℕ → List ℕ → Live → Bool → Turn
 if_keyed walk n key live taken = if taken then answered (with_live walk (keyed live key)) (said.Ok n) else refused walk n errno.EINVAL
 
 pub key-set : {q v : ℕ} (walk : Walk) (n : ℕ) (name key label : List ℕ) (place : ℕ) (items lives : List Live) (old new : Live) (answer : Answer) (s : Split label walk.lives 0 place)
-    → viewed q v items ≡ walk → lives ≡ set items place new → old ≡ s.live → name ≡ key → takes_key_of (mode_of old.plan) name ≡ true → new ≡ keyed old name → answer ≡ said.Ok n
+    → viewed q v items ≡ walk → lives ≡ set items place new → old ≡ s.live → name ≡ key → takes_key old.plan name ≡ true → new ≡ keyed old name → answer ≡ said.Ok n
     → answered (viewed q v lives) answer ≡ key_turn walk n key (live_of walk label)
 key-set {q} {v} walk n name key label place items lives old new answer s view are was same taken is says =
     let now : new ≡ keyed s.live key = is ∙ (ap (λ (l : Live). keyed l name) was ∙ ap (keyed s.live) same) in
@@ -395,16 +386,16 @@ key-set {q} {v} walk n name key label place items lives old new answer s view ar
     ∙ (ap (λ (l : Live). answered (with_live walk l) answer) now
     ∙ (ap (answered (with_live walk (keyed s.live key))) says
     ∙ sym (ap (key_turn walk n key) s.found
-    ∙ ap (if_keyed walk n key s.live) (ap (λ (l : Live). takes_key_of (mode_of l.plan) key) (sym was) ∙ (ap (takes_key_of (mode_of old.plan)) (sym same) ∙ taken)))))
+    ∙ ap (if_keyed walk n key s.live) (ap (λ (l : Live). takes_key l.plan key) (sym was) ∙ (ap (takes_key old.plan) (sym same) ∙ taken)))))
 
 pub key-kept : {q v : ℕ} (walk : Walk) (n : ℕ) (name key label : List ℕ) (place : ℕ) (items lives : List Live) (old new : Live) (answer : Answer) (s : Split label walk.lives 0 place)
-    → viewed q v items ≡ walk → lives ≡ set items place new → old ≡ s.live → name ≡ key → takes_key_of (mode_of old.plan) name ≡ false → new ≡ old → answer ≡ said.Refused n errno.EINVAL
+    → viewed q v items ≡ walk → lives ≡ set items place new → old ≡ s.live → name ≡ key → takes_key old.plan name ≡ false → new ≡ old → answer ≡ said.Refused n errno.EINVAL
     → answered (viewed q v lives) answer ≡ key_turn walk n key (live_of walk label)
 key-kept {q} {v} walk n name key label place items lives old new answer s view are was same taken is says =
     ap (λ (w : Walk). answered w answer) (kept-walk walk label place items lives new s view are (is ∙ was))
     ∙ (ap (answered walk) says
     ∙ sym (ap (key_turn walk n key) s.found
-    ∙ ap (if_keyed walk n key s.live) (ap (λ (l : Live). takes_key_of (mode_of l.plan) key) (sym was) ∙ (ap (takes_key_of (mode_of old.plan)) (sym same) ∙ taken))))
+    ∙ ap (if_keyed walk n key s.live) (ap (λ (l : Live). takes_key l.plan key) (sym was) ∙ (ap (takes_key old.plan) (sym same) ∙ taken))))
 
 -- ---- `alloc`
 

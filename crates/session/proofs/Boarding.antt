@@ -243,8 +243,8 @@ entry-leaves_all b e number (x ∷ xs) own none all =
     (entry-leaves_all b e number xs own (rest-free (is_at number x.pipe) (owners number xs) none) (All-tail (IsOn b) x xs all))
 
 new-pipe_in : (number : ℕ) (shape : Shape) → IsPipeIn (event.Born 0 number shape ∷ []) (new_pipe number shape)
-new-pipe_in number (Pad lists) = record { opened = (refl, refl); managed = (inl (omega arith), refl); held = refl; accepted = refl; delivered = refl }
-new-pipe_in number (Queue max) = record { opened = (refl, refl); managed = (inl (omega arith), refl); held = refl; accepted = refl; delivered = refl }
+new-pipe_in number (Pad lists) = record { opened = (refl, refl); managed = (inl (omega arith), refl); unshared = refl; held = refl; accepted = refl; delivered = refl }
+new-pipe_in number (Queue max) = record { opened = (refl, refl); managed = (inl (omega arith), refl); unshared = refl; held = refl; accepted = refl; delivered = refl }
 
 own-or-free : (number n : ℕ) (t : Bool) (k : ℕ) → k ≤ 1 → (t ≡ true → k ≡ 0) → k + (cond t 1 0 + 0) ≤ 1
 own-or-free number n true k few free = let z = free refl in omega (arith, z)

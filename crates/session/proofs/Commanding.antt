@@ -10,8 +10,7 @@ use Rattle.board.specs.declared.entry.BoardEntry.{BoardEntry}
 use Rattle.reply_text.specs.declared.answers.Answer.{Answer}
 use Rattle.transforms.specs.declared.ask.Ask.{Ask}
 use Rattle.transforms.specs.declared.request.Request.{Request}
-use Rattle.transforms.specs.Plans.{mode_of}
-use Rattle.transforms.specs.Takes.{takes_tag, takes_key_of}
+use Rattle.transforms.specs.Plans.{takes_tag, takes_key}
 use Rattle.session.specs.declared.stop.Stop.{Stop}
 use Rattle.session.specs.Lines.{RequestTurn}
 use Rattle.session.specs.Registering.{register_turn}
@@ -115,7 +114,7 @@ register-quiet walk n (Some spec) answer = by_test (nat_lt 100000 spec.priority)
 
 pub key-quiet : (walk : Walk) (n : ℕ) (key : List ℕ) (live : Option Live) → (key_turn walk n key live).board ≡ []
 key-quiet walk n key None = refl
-key-quiet walk n key (Some live) = by_test (takes_key_of (mode_of live.plan) key)
+key-quiet walk n key (Some live) = by_test (takes_key live.plan key)
   where
     by_test : (t : Bool) → (if_keyed walk n key live t).board ≡ []
     by_test true = refl
@@ -123,7 +122,7 @@ key-quiet walk n key (Some live) = by_test (takes_key_of (mode_of live.plan) key
 
 pub authsize-quiet : (walk : Walk) (n size : ℕ) (live : Option Live) → (authsize_turn walk n size live).board ≡ []
 authsize-quiet walk n size None = refl
-authsize-quiet walk n size (Some live) = by_test (takes_tag (mode_of live.plan) size)
+authsize-quiet walk n size (Some live) = by_test (takes_tag live.plan size)
   where
     by_test : (t : Bool) → (if_sized walk n size live t).board ≡ []
     by_test true = refl
@@ -184,7 +183,7 @@ key-posted walk n key label b posted = by_live (live_of walk label) refl
 
     by_live : (found : Option Live) → live_of walk label ≡ found → Posted (key_turn walk n key found).after b
     by_live None at = posted
-    by_live (Some live) at = by_test live at (takes_key_of (mode_of live.plan) key)
+    by_live (Some live) at = by_test live at (takes_key live.plan key)
 
 pub authsize-posted : (walk : Walk) (n size : ℕ) (label : List ℕ) (b : List (BoardEntry Ask)) → Posted walk b → Posted (authsize_turn walk n size (live_of walk label)).after b
 authsize-posted walk n size label b posted = by_live (live_of walk label) refl
@@ -195,4 +194,4 @@ authsize-posted walk n size label b posted = by_live (live_of walk label) refl
 
     by_live : (found : Option Live) → live_of walk label ≡ found → Posted (authsize_turn walk n size found).after b
     by_live None at = posted
-    by_live (Some live) at = by_test live at (takes_tag (mode_of live.plan) size)
+    by_live (Some live) at = by_test live at (takes_tag live.plan size)

@@ -9,7 +9,7 @@ use Rattle.std.proofs.lemmas.Bool.{ltb-false, lt-leb, le-ltb, leb-false}
 use Rattle.std.proofs.lemmas.Bool.{eq-eqb}
 use Rattle.board.specs.declared.entry.BoardEntry.{BoardEntry}
 use Rattle.board.specs.declared.entry.BoardEntry.TheVariants as event
-use Rattle.board.specs.Entries.{is_of, entries_of, accepted_in, taken_in, submissions, front, told, held_in, is_held, is_close, delivered}
+use Rattle.board.specs.Entries.{is_of, entries_of, accepted_in, taken_in, submissions, front, told, held_in, is_held, is_close, is_share, is_shared, delivered}
 use Rattle.board.specs.declared.entry.Entered.{Entered}
 use Rattle.board.specs.declared.entry.Entered.TheVariants as entered
 use Rattle.board.specs.Allowance.{IsAllowed, accepted_by, accepted_from}
@@ -19,7 +19,7 @@ use Rattle.board.specs.Order.{completed}
 use Rattle.board.specs.Handing.{is_collect, completions}
 use Rattle.board.proofs.Transfer.{entries-more}
 use Rattle.board.proofs.PadOrder.{filter_map-none, filter_map-some}
-use Rattle.board.proofs.Kept.{only_of, not_shut, shut-same}
+use Rattle.board.proofs.Kept.{only_of, not_shut, shared-same, shut-same}
 use Rattle.board.proofs.Staying.{stays_open, queue_stays_open, stays_managed, stays_submitting, work_leaves, stays_held, holds}
 use Rattle.board.proofs.Handing.{hands_nothing, collect_hands_out, most_handed_out, all_handed_out, leaves_others}
 use Rattle.pcrypt.specs.Working.{NoneRuns, IsServed, WorksFrom, WorkKeeps}
@@ -63,6 +63,7 @@ pub record IsEntryOf (p : ℕ) (e : BoardEntry Ask) : Type 0 where
   pub of : is_of p e ≡ true
   pub closes : is_close e ≡ false
   pub takes : taken_in e ≡ None
+  pub shares : is_share e ≡ false
 
 module _ (b : List (BoardEntry Ask)) (e : BoardEntry Ask) (pipe : Pipe) (is : IsEntryOf pipe.number e) (on : IsPipeIn (entries_of pipe.number b) pipe) where
   abbrev p : ℕ
@@ -76,6 +77,7 @@ module _ (b : List (BoardEntry Ask)) (e : BoardEntry Ask) (pipe : Pipe) (is : Is
   pipe-stays none hands holds = record {
     opened = opened-more pipe.kind b e p is.closes on.opened;
     managed = stays_managed b e p 0 on.managed;
+    unshared = ap (λ es. is_shared es) (entries-more b p e is.of) ∙ (shared-same (entries_of p b) e is.shares ∙ on.unshared);
     held = stays_held b e p holds ∙ on.held;
     accepted = ap (λ es. length (submissions es)) (entries-more b p e is.of) ∙ (ap length (filter_map-none accepted_in (entries_of p b) e none) ∙ on.accepted);
     delivered = ap (λ ns. length (completed ns)) (hands_nothing b e p hands) ∙ on.delivered;
@@ -86,6 +88,7 @@ module _ (b : List (BoardEntry Ask)) (e : BoardEntry Ask) (pipe : Pipe) (is : Is
   pipe-accepts ask line some hands holds = record {
     opened = opened-more pipe.kind b e p is.closes on.opened;
     managed = stays_managed b e p 0 on.managed;
+    unshared = ap (λ es. is_shared es) (entries-more b p e is.of) ∙ (shared-same (entries_of p b) e is.shares ∙ on.unshared);
     held = stays_held b e p holds ∙ on.held;
     accepted =
         ap (λ es. length (submissions es)) (entries-more b p e is.of)
@@ -99,6 +102,7 @@ module _ (b : List (BoardEntry Ask)) (e : BoardEntry Ask) (pipe : Pipe) (is : Is
   pipe-switched held none hands holds = record {
     opened = opened-more pipe.kind b e p is.closes on.opened;
     managed = stays_managed b e p 0 on.managed;
+    unshared = ap (λ es. is_shared es) (entries-more b p e is.of) ∙ (shared-same (entries_of p b) e is.shares ∙ on.unshared);
     held = holds;
     accepted = ap (λ es. length (submissions es)) (entries-more b p e is.of) ∙ (ap length (filter_map-none accepted_in (entries_of p b) e none) ∙ on.accepted);
     delivered = ap (λ ns. length (completed ns)) (hands_nothing b e p hands) ∙ on.delivered;
@@ -106,7 +110,7 @@ module _ (b : List (BoardEntry Ask)) (e : BoardEntry Ask) (pipe : Pipe) (is : Is
 
 -- it hands out what was told
 pub collect-entry : (p to : ℕ) → IsEntryOf p (event.Collect 0 p to)
-collect-entry p to = record { of = eq-eqb p p refl; closes = refl; takes = refl }
+collect-entry p to = record { of = eq-eqb p p refl; closes = refl; takes = refl; shares = refl }
 
 pub pipe-collected : (b : List (BoardEntry Ask)) (pipe : Pipe) (to : ℕ) → LegalBoard (b ++ event.Collect 0 pipe.number to ∷ []) → IsPipeIn (entries_of pipe.number b) pipe
     → IsPipeIn (entries_of pipe.number (b ++ event.Collect 0 pipe.number to ∷ [])) (record pipe { delivered = pipe.delivered + completions (delivered outcome (entries_of pipe.number b) to) })
@@ -116,6 +120,7 @@ pipe-collected b pipe to legal on =
     record {
       opened = opened-more pipe.kind b e p refl on.opened;
       managed = stays_managed b e p 0 on.managed;
+      unshared = ap (λ es. is_shared es) (entries-more b p e (eq-eqb p p refl)) ∙ (shared-same (entries_of p b) e refl ∙ on.unshared);
       held = stays_held b e p refl ∙ on.held;
       accepted = ap (λ es. length (submissions es)) (entries-more b p e (eq-eqb p p refl)) ∙ (ap length (filter_map-none accepted_in (entries_of p b) e refl) ∙ on.accepted);
       delivered = collect_hands_out outcome b 0 p to legal ∙ ap (λ n. n + completions (delivered outcome (entries_of p b) to)) on.delivered;
@@ -134,6 +139,7 @@ pipe-worked b h pipe w on =
     record {
       opened = opened-worked pipe.kind b h pipe.number w on.opened;
       managed = k.4 0 on.managed;
+      unshared = k.8 ∙ on.unshared;
       held = k.5 ∙ on.held;
       accepted = ap length k.0 ∙ on.accepted;
       delivered = ap (λ ns. length (completed ns)) k.7 ∙ on.delivered;
@@ -354,8 +360,8 @@ drain-done b h b' live live' pipe line count callbacks answers works all-done fr
 -- ---- a queue is held, or let go
 
 switched-entry : (held : Bool) (p : ℕ) → IsEntryOf p (switch_entry held p)
-switched-entry true p = record { of = eq-eqb p p refl; closes = refl; takes = refl }
-switched-entry false p = record { of = eq-eqb p p refl; closes = refl; takes = refl }
+switched-entry true p = record { of = eq-eqb p p refl; closes = refl; takes = refl; shares = refl }
+switched-entry false p = record { of = eq-eqb p p refl; closes = refl; takes = refl; shares = refl }
 
 switch_accepts_nothing : (held : Bool) (p : ℕ) → accepted_in (switch_entry held p) ≡ None
 switch_accepts_nothing true p = refl
@@ -519,13 +525,13 @@ accept-done turn_of b b' e live live' pipe ask line call errno answer rests has 
     (subst (λ x. DoneWith turn_of live new b (b ++ e ∷ []) (ask ∷ []) (x ∷ [])) (sym says) (accept-plain turn_of b e live pipe ask line call errno rests has a (subst LegalBoard grown legal) calls is)))
 
 submit-entry : (p number : ℕ) (ask : Arc Ask Global) (asked : Ask) → arc_value ask ≡ asked → Accepts p (event.Submit 0 p number ask) asked
-submit-entry p number ask asked same = record { is = record { of = eq-eqb p p refl; closes = refl; takes = refl }; accepts = ap Some same; from = ap Some same; hands = refl; holds = refl }
+submit-entry p number ask asked same = record { is = record { of = eq-eqb p p refl; closes = refl; takes = refl; shares = refl }; accepts = ap Some same; from = ap Some same; hands = refl; holds = refl }
 
 progress-entry : (p number : ℕ) (ask : Arc Ask Global) (asked : Ask) (backlog : Bool) → arc_value ask ≡ asked → Accepts p (event.Enq 0 p ask backlog (entered.InProgress number)) asked
-progress-entry p number ask asked backlog same = record { is = record { of = eq-eqb p p refl; closes = refl; takes = refl }; accepts = ap Some same; from = ap Some same; hands = refl; holds = refl }
+progress-entry p number ask asked backlog same = record { is = record { of = eq-eqb p p refl; closes = refl; takes = refl; shares = refl }; accepts = ap Some same; from = ap Some same; hands = refl; holds = refl }
 
 busy-entry : (p number : ℕ) (ask : Arc Ask Global) (asked : Ask) (backlog : Bool) → arc_value ask ≡ asked → Accepts p (event.Enq 0 p ask backlog (entered.Busy number)) asked
-busy-entry p number ask asked backlog same = record { is = record { of = eq-eqb p p refl; closes = refl; takes = refl }; accepts = ap Some same; from = ap Some same; hands = refl; holds = refl }
+busy-entry p number ask asked backlog same = record { is = record { of = eq-eqb p p refl; closes = refl; takes = refl; shares = refl }; accepts = ap Some same; from = ap Some same; hands = refl; holds = refl }
 
 progress-offered : (b b' : List (BoardEntry Ask)) (live live' : Live) (pipe : Pipe) (line given : ℕ) (asked : Ask) (backlog : Bool) (answer : Answer) (ask : Arc Ask Global) (k : PipeKind) → pipe.kind ≡ k → arc_value ask ≡ asked
     → Rests b live → Some pipe ≡ live.pipe → IsAllowed ask_size b 0 asked → LegalBoard b' → live' ≡ with_line live line → answer ≡ said.Refused line EINPROGRESS
@@ -579,7 +585,7 @@ full-offered b b' live pipe line asked backlog answer ask kind.Pad is same rests
 full-offered b b' live pipe line asked backlog answer ask kind.Queue is same rests has allowed legal says offered =
     let e : BoardEntry Ask = event.Enq 0 pipe.number ask backlog entered.NoSpace in
     let call : BoardCall = Enters pipe.number (asked_by asked) backlog entered.NoSpace in
-    let own : IsEntryOf pipe.number e = record { of = eq-eqb pipe.number pipe.number refl; closes = refl; takes = refl } in
+    let own : IsEntryOf pipe.number e = record { of = eq-eqb pipe.number pipe.number refl; closes = refl; takes = refl; shares = refl } in
     let turn_of : Walk → Turn = take_turn line live asked backlog 0 entered.NoSpace in
     let all : LegalBoard (b ++ e ∷ []) = subst LegalBoard offered legal in
     let same-live : record live { pipe = Some pipe } ≡ live = ap (λ o. record live { pipe = o }) has in

@@ -7,8 +7,7 @@ use Rattle.alg_registry.specs.Made.{Made, IsMade}
 use Rattle.alg_registry.proofs.Making.{Made-push}
 use Rattle.reply_text.specs.declared.answers.Answer.{Answer}
 use Rattle.templates.specs.Table.{table}
-use Rattle.transforms.specs.Plans.{mode_of}
-use Rattle.transforms.specs.Takes.{takes_tag, takes_key_of}
+use Rattle.transforms.specs.Plans.{takes_tag, takes_key}
 use Rattle.session.specs.declared.stop.Stop.{Stop}
 use Rattle.session.specs.Requesting.{key_turn, authsize_turn}
 use Rattle.session.specs.Standing.{Stands, DoneInRegistry, Stops, uses}
@@ -60,7 +59,7 @@ key-keeps walk n key label id = by_live (live_of walk label) refl
 
     by_live : (found : Option Live) → live_of walk label ≡ found → uses id walk.lives ≡ uses id (key_turn walk n key found).after.lives
     by_live None e = refl
-    by_live (Some live) e = by_test live e (takes_key_of (mode_of live.plan) key)
+    by_live (Some live) e = by_test live e (takes_key live.plan key)
 
 pub authsize-keeps : (walk : Walk) (n size : ℕ) (label : List ℕ) (id : ℕ) → uses id walk.lives ≡ uses id (authsize_turn walk n size (live_of walk label)).after.lives
 authsize-keeps walk n size label id = by_live (live_of walk label) refl
@@ -71,7 +70,7 @@ authsize-keeps walk n size label id = by_live (live_of walk label) refl
 
     by_live : (found : Option Live) → live_of walk label ≡ found → uses id walk.lives ≡ uses id (authsize_turn walk n size found).after.lives
     by_live None e = refl
-    by_live (Some live) e = by_test live e (takes_tag (mode_of live.plan) size)
+    by_live (Some live) e = by_test live e (takes_tag live.plan size)
 
 -- the history went on by one entry, and then memory ran out
 pub stops-one : (walk : Walk) (r r' : List RegEntry) (next : RegEntry) → Stands walk r → r' ≡ r ++ next ∷ [] → IsMade table r next → Stops r r'

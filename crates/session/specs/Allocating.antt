@@ -11,8 +11,7 @@ use Rattle.templates.specs.declared.driver_plans.Plan.{Plan}
 use Rattle.templates.specs.Looking.{Found, Entry, Fault}
 use Rattle.templates.specs.Nesting.{is_nested_well}
 use Rattle.templates.specs.Plans.{plan_at}
-use Rattle.transforms.specs.Plans.{mode_of}
-use Rattle.transforms.specs.Takes.{tag_size_of}
+use Rattle.transforms.specs.Plans.{tag_size_of}
 use Rattle.reply_text.specs.declared.answers.Answer.TheVariants as said
 use Rattle.board.specs.declared.entry.Shape.{Shape}
 use Rattle.board.specs.declared.entry.Shape.TheVariants.{Pad, Queue}
@@ -80,7 +79,7 @@ new_pipe number shape = record { number = number; kind = kind_of shape; held = f
 
 -- with no key yet, and the greatest tag size of its mode
 abbrev pub new_live : List ℕ → ℕ → Plan → Option Pipe → Live
-new_live label id plan pipe = record { label = label; id = id; plan = plan; key = None; tag_size = tag_size_of (mode_of plan); pipe = pipe }
+new_live label id plan pipe = record { label = label; id = id; plan = plan; key = None; tag_size = tag_size_of plan; pipe = pipe }
 
 abbrev pub and_live : Walk → Live → Walk
 and_live walk live = record walk { lives = walk.lives ++ live ∷ [] }

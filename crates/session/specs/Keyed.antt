@@ -5,7 +5,6 @@ use Rattle.std.specs.declared.sync.Arc.{Arc}
 use Rattle.templates.specs.declared.driver_plans.Plan.{Plan}
 use Rattle.transforms.specs.declared.request.Request.{Request}
 use Rattle.transforms.specs.Asked.{takes}
-use Rattle.transforms.specs.Plans.{mode_of}
 use Rattle.session.specs.declared.transform.JobErr.{JobErr}
 use Rattle.session.specs.declared.transform.JobErr.TheVariants.{NoKey, Inval, Memory}
 use Rattle.session.specs.BoardHistories.{Asked}
@@ -26,14 +25,14 @@ module _ {Z : Type 0} where
 -- a request that is taken, and what its job asks under a key
 abbrev pub IsJobUnder : ℕ → Live → Request → Asked → Option (List ℕ) → Type 0
 IsJobUnder n live request asked None = ⊥
-IsJobUnder n live request asked (Some key) = (takes (mode_of live.plan) live.tag_size request ≡ true) × (asked ≡ asked_of n live key request)
+IsJobUnder n live request asked (Some key) = (takes live.plan live.tag_size request ≡ true) × (asked ≡ asked_of n live key request)
 
 abbrev pub IsJob : ℕ → Live → Request → Asked → Type 0
 IsJob n live request asked = IsJobUnder n live request asked live.key
 
 abbrev pub IsNotTaken : Live → Request → Option (List ℕ) → Type 0
 IsNotTaken live request None = ⊥
-IsNotTaken live request (Some key) = takes (mode_of live.plan) live.tag_size request ≡ false
+IsNotTaken live request (Some key) = takes live.plan live.tag_size request ≡ false
 
 -- why there is no job
 abbrev pub IsNoJob : Live → Request → JobErr → Type 0

@@ -35,8 +35,8 @@ CommandTurn walk n (command.Alloc label name length) turn =
     (found : Found) × (ok : Bool) × (pipe : ℕ) × (turn ≡ alloc_turn walk n label name length found ok pipe)
 CommandTurn walk n (command.Key label key) turn = turn ≡ key_turn walk n key (live_of walk label)
 CommandTurn walk n (command.Authsize label size) turn = turn ≡ authsize_turn walk n size (live_of walk label)
-CommandTurn walk n (command.Enc label iv associated text backlog) turn = RequestTurn walk n label (request_of dir.Enc iv associated text) backlog turn
-CommandTurn walk n (command.Dec label iv associated text backlog) turn = RequestTurn walk n label (request_of dir.Dec iv associated text) backlog turn
+CommandTurn walk n (command.Enc label iv aad text backlog) turn = RequestTurn walk n label (request_of dir.Enc iv aad text) backlog turn
+CommandTurn walk n (command.Dec label iv aad text backlog) turn = RequestTurn walk n label (request_of dir.Dec iv aad text) backlog turn
 CommandTurn walk n (command.Mac label text backlog) turn = RequestTurn walk n label (request_of dir.Mac [] [] text) backlog turn
 CommandTurn walk n (command.Hold label) turn = turn ≡ hold_turn walk n true (live_of walk label)
 CommandTurn walk n (command.Go label) turn = turn ≡ hold_turn walk n false (live_of walk label)

@@ -8,16 +8,16 @@ use Rattle.alg_registry.specs.declared.entry.Enlisted.{Enlisted}
 use Rattle.alg_registry.specs.declared.entry.Enlisted.TheVariants.{Made, Exist, NFile}
 use Rattle.alg_registry.specs.declared.entry.RefAnswer.{RefAnswer}
 use Rattle.alg_registry.specs.declared.listing.ListRow.{ListRow}
-use Rattle.alg_registry.specs.Rows.{opening}
+use Rattle.templates.specs.Table.{drivers}
 use Rattle.reply_text.specs.declared.answers.Answer.{Answer}
 use Rattle.reply_text.specs.declared.answers.Answer.TheVariants as said
 use Rattle.session.specs.Histories.{Enlists, Unlists, Counts, Lists}
 use Rattle.session.specs.Turns.{Turn, answered, refused, asking}
 use Rattle.session.specs.Walk.{Walk}
 
--- A driver that a script may register, with a priority: the drivers are those that stand from the start.
+-- A driver that a script may register, with a priority.
 abbrev pub driver_spec : List ℕ → ℕ → Option Spec
-driver_spec driver priority = option_map (λ (spec : Spec). record spec { priority = priority }) (find (λ spec. bytes_eq driver spec.driver) opening)
+driver_spec driver priority = option_map (λ (spec : Spec). record spec { priority = priority }) (find (λ spec. bytes_eq driver spec.driver) drivers)
 
 -- `register DRIVER NUM`
 abbrev pub enlist_said : ℕ → Enlisted → Answer

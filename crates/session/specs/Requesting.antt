@@ -8,9 +8,8 @@ use Rattle.transforms.specs.declared.request.Dir.{Dir}
 use Rattle.transforms.specs.declared.request.Request.{Request}
 use Rattle.transforms.specs.Asked.{takes}
 use Rattle.transforms.specs.Drivers.{driver_of}
-use Rattle.transforms.specs.Plans.{mode_of}
 use Rattle.transforms.specs.RequestValue.{request_value}
-use Rattle.transforms.specs.Takes.{takes_key_of, takes_tag}
+use Rattle.transforms.specs.Plans.{takes_key, takes_tag}
 use Rattle.reply_text.specs.declared.answers.Answer.{Answer}
 use Rattle.reply_text.specs.declared.answers.Answer.TheVariants as said
 use Rattle.board.specs.declared.entry.Entered.{Entered}
@@ -35,7 +34,7 @@ aes_said n key block = if is_key_length (length key) && (length block == 16) the
 abbrev pub key_turn : Walk → ℕ → List ℕ → Option Live → Turn
 key_turn walk n key None = refused walk n ENOENT
 key_turn walk n key (Some live) =
-    if takes_key_of (mode_of live.plan) key then answered (with_live walk (record live { key = Some key })) (said.Ok n)
+    if takes_key live.plan key then answered (with_live walk (record live { key = Some key })) (said.Ok n)
     else refused walk n EINVAL
 
 -- ---- `authsize T NUM`
@@ -43,13 +42,13 @@ key_turn walk n key (Some live) =
 abbrev pub authsize_turn : Walk → ℕ → ℕ → Option Live → Turn
 authsize_turn walk n size None = refused walk n ENOENT
 authsize_turn walk n size (Some live) =
-    if takes_tag (mode_of live.plan) size then answered (with_live walk (record live { tag_size = size })) (said.Ok n)
+    if takes_tag live.plan size then answered (with_live walk (record live { tag_size = size })) (said.Ok n)
     else refused walk n EINVAL
 
 -- ---- `enc T IV AAD TEXT [backlog]`, `dec T IV AAD TEXT [backlog]` and `mac T TEXT [backlog]`
 
 abbrev pub request_of : Dir → List ℕ → List ℕ → List ℕ → Request
-request_of dir iv associated text = record { dir = dir; iv = iv; associated = associated; text = text }
+request_of dir iv aad text = record { dir = dir; iv = iv; aad = aad; text = text }
 
 abbrev pub value_said : ℕ → Value → Answer
 value_said n (bytes made) = said.Value n made
@@ -65,7 +64,7 @@ abbrev pub value_of : Asked → Value
 value_of asked = request_value (driver_of asked.plan) asked.key asked.tag_size asked.request
 
 abbrev pub size_of : Request → ℕ
-size_of request = length request.iv + length request.associated + length request.text
+size_of request = length request.iv + length request.aad + length request.text
 
 -- pipelines accept 2^20 requests of a script, and 2^26 bytes of them
 abbrev pub is_too_big : Walk → Request → Bool
@@ -97,7 +96,7 @@ taken_turn walk n live asked backlog number answer (Some pipe) =
 abbrev pub keyed_turn : Walk → ℕ → Live → Request → Bool → ℕ → Entered → Option (List ℕ) → Turn
 keyed_turn walk n live request backlog number answer None = refused walk n ENOKEY
 keyed_turn walk n live request backlog number answer (Some key) =
-    if takes (mode_of live.plan) live.tag_size request then taken_turn walk n live (asked_of n live key request) backlog number answer live.pipe
+    if takes live.plan live.tag_size request then taken_turn walk n live (asked_of n live key request) backlog number answer live.pipe
     else refused walk n EINVAL
 
 -- the number that a pad gave the request, or what a queue answered

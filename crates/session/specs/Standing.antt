@@ -6,7 +6,7 @@ use Rattle.templates.specs.Looking.{NonePending}
 use Rattle.templates.specs.Table.{table}
 use Rattle.reply_text.specs.declared.answers.Answer.{Answer}
 use Rattle.board.specs.declared.entry.BoardEntry.{BoardEntry}
-use Rattle.board.specs.Entries.{entries_of, submissions, is_held}
+use Rattle.board.specs.Entries.{entries_of, submissions, is_held, is_shared}
 use Rattle.board.specs.Legal.{IsOpenPad, IsOpenQueue, MayManage, LegalBoard, is_shut}
 use Rattle.board.specs.Order.{handed_out, completed}
 use Rattle.board.specs.Allowance.{accepted_by}
@@ -64,6 +64,7 @@ IsOpenAs kind.Queue es = IsOpenQueue es
 pub record IsPipeIn (es : List (BoardEntry Ask)) (pipe : Pipe) : Type 0 where
   pub opened : IsOpenAs pipe.kind es
   pub managed : MayManage es 0
+  pub unshared : is_shared es ≡ false
   pub held : is_held es ≡ pipe.held
   pub accepted : length (submissions es) ≡ length pipe.lines
   pub delivered : length (completed (handed_out es)) ≡ pipe.delivered

@@ -43,15 +43,15 @@ pub fn request_with(
     alloc: Global,
     dir: Dir,
     iv: &[u8],
-    associated: &[u8],
+    aad: &[u8],
     text: &[u8],
 ) -> Result<Request, AllocError>
-    ensures { IfOk result (λ request. request ≡ request_of dir iv.now associated.now text.now) }
+    ensures { IfOk result (λ request. request ≡ request_of dir iv.now aad.now text.now) }
 {
     Ok(Request {
         dir,
         iv: Bytes::copy_of(alloc, iv)?,
-        associated: Bytes::copy_of(alloc, associated)?,
+        aad: Bytes::copy_of(alloc, aad)?,
         text: Bytes::copy_of(alloc, text)?,
     })
 }

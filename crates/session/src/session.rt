@@ -364,7 +364,7 @@ impl Session {
         backlog: bool,
     ) -> Result<Answer, Stop>
         requires posted { Posted self.old board.old }
-        requires associated { length request.associated < 2 ^ 32 }
+        requires aad { length request.aad < 2 ^ 32 }
         requires text { length request.text < 2 ^ 32 }
         ensures { MatchResult result
             (λ answer. DoneOnBoard (RequestTurn self.old number label.now request backlog) board.old board.new (answer ∷ []) self.old self.new)
@@ -448,18 +448,18 @@ impl Session {
         label: &Bytes,
         dir: Dir,
         iv: &[u8],
-        associated: &[u8],
+        aad: &[u8],
         text: &[u8],
         backlog: bool,
     ) -> Result<Vec<Answer>, Stop>
         requires posted { Posted self.old board.old }
-        requires associated { length associated.now < 2 ^ 32 }
+        requires aad { length aad.now < 2 ^ 32 }
         requires text { length text.now < 2 ^ 32 }
         ensures { MatchResult result
-            (λ answers. DoneOnBoard (RequestTurn self.old number label.now (request_of dir iv.now associated.now text.now) backlog) board.old board.new answers.items self.old self.new)
+            (λ answers. DoneOnBoard (RequestTurn self.old number label.now (request_of dir iv.now aad.now text.now) backlog) board.old board.new answers.items self.old self.new)
             (λ _. Extends board.old board.new) }
     {
-        let request = request_with(self.alloc, dir, iv, associated, text)?;
+        let request = request_with(self.alloc, dir, iv, aad, text)?;
         one(
             self.alloc,
             self.request(board, number, label, request, backlog),
@@ -508,7 +508,7 @@ impl Session {
             Command::Enc {
                 label,
                 iv,
-                associated,
+                aad,
                 text,
                 backlog,
             } => self.submit(
@@ -517,14 +517,14 @@ impl Session {
                 label,
                 Dir::Enc,
                 iv.as_slice(),
-                associated.as_slice(),
+                aad.as_slice(),
                 text.as_slice(),
                 *backlog,
             ),
             Command::Dec {
                 label,
                 iv,
-                associated,
+                aad,
                 text,
                 backlog,
             } => self.submit(
@@ -533,7 +533,7 @@ impl Session {
                 label,
                 Dir::Dec,
                 iv.as_slice(),
-                associated.as_slice(),
+                aad.as_slice(),
                 text.as_slice(),
                 *backlog,
             ),

@@ -3,8 +3,7 @@
 ghost use Rattle.std.specs.Prelude.{◌≡◌, ◌⊎◌, true, false, ◌<◌, ◌^◌, length, Some, OnOk, OnErr, MatchResult};
 ghost use Rattle.std.specs.Arc.{arc_value};
 ghost use Rattle.std.specs.Option.{option_copied};
-ghost use Rattle.transforms.specs.Plans.{mode_of};
-ghost use Rattle.transforms.specs.Takes.{takes_key_of, takes_tag};
+ghost use Rattle.transforms.specs.Plans.{takes_key, takes_tag};
 ghost use Rattle.session.specs.Allocating.{new_live};
 ghost use Rattle.session.specs.BoardHistories.{asked_by};
 ghost use Rattle.session.specs.Changing.{with_line, held_as, delivering, MayDeliver};
@@ -33,8 +32,7 @@ pub struct Transform {
 
 impl Model for Transform {
     ghost use Rattle.std.specs.Prelude.{◌≡◌, true};
-    ghost use Rattle.transforms.specs.Plans.{mode_of};
-    ghost use Rattle.transforms.specs.Takes.{fits_tag};
+    ghost use Rattle.transforms.specs.Plans.{fits_tag};
     ghost use Rattle.session.specs.Walk.{Live};
     ghost use Rattle.session.specs.Keyed.{key_in, IsKeyedBy};
 
@@ -42,7 +40,7 @@ impl Model for Transform {
 
     ghost view = { λ t. record { label = t.label; id = t.id; plan = t.plan; key = key_in t.keyed; tag_size = t.tag_size; pipe = t.pipe } };
 
-    ghost invariant = { λ t. IsKeyedBy t.plan t.keyed × (fits_tag (mode_of t.plan) t.tag_size ≡ true) };
+    ghost invariant = { λ t. IsKeyedBy t.plan t.keyed × (fits_tag t.plan t.tag_size ≡ true) };
 }
 
 /// Why a transform makes no job of a request.
@@ -107,8 +105,8 @@ impl Transform {
     /// Sets a key: `Inval` exactly where the mode doesn't take it. A refusal leaves an earlier key.
     pub fn set_key(&mut self, alloc: Global, key: &[u8]) -> Result<(), TfmErr>
         ensures { MatchResult result
-            (λ _. (takes_key_of (mode_of self.old.plan) key.now ≡ true) × (self.new ≡ record self.old { key = Some key.now }))
-            (λ e. ((e ≡ TfmErr.Memory) ⊎ ((e ≡ TfmErr.Inval) × (takes_key_of (mode_of self.old.plan) key.now ≡ false))) × (self.new ≡ self.old)) }
+            (λ _. (takes_key self.old.plan key.now ≡ true) × (self.new ≡ record self.old { key = Some key.now }))
+            (λ e. ((e ≡ TfmErr.Memory) ⊎ ((e ≡ TfmErr.Inval) × (takes_key self.old.plan key.now ≡ false))) × (self.new ≡ self.old)) }
     {
         let keyed = Keyed::set(alloc, &self.plan, key)?;
         match Arc::new(alloc, keyed) {
@@ -123,8 +121,8 @@ impl Transform {
     /// Sets the size of tags: EINVAL exactly where the mode doesn't take it. A refusal leaves the earlier size.
     pub fn set_tag_size(&mut self, size: u32) -> Result<(), Errno>
         ensures { MatchResult result
-            (λ _. (takes_tag (mode_of self.old.plan) size ≡ true) × (self.new ≡ record self.old { tag_size = size }))
-            (λ e. (e ≡ Errno.EINVAL) × (takes_tag (mode_of self.old.plan) size ≡ false) × (self.new ≡ self.old)) }
+            (λ _. (takes_tag self.old.plan size ≡ true) × (self.new ≡ record self.old { tag_size = size }))
+            (λ e. (e ≡ Errno.EINVAL) × (takes_tag self.old.plan size ≡ false) × (self.new ≡ self.old)) }
     {
         tag_size(&self.plan, size)?;
         self.tag_size = size;
@@ -172,7 +170,7 @@ impl Transform {
     /// The job of a request of a line, under the key that was set last, with all the memory that it needs. `NoKey` exactly
     /// where none was set; otherwise `Inval` exactly where the mode doesn't take the request.
     pub fn job(&self, alloc: Global, line: u32, request: Request) -> Result<Job, JobErr>
-        requires associated { length request.associated < 2 ^ 32 }
+        requires aad { length request.aad < 2 ^ 32 }
         requires text { length request.text < 2 ^ 32 }
         ensures { MatchResult result (λ job. IsJob line self.now request (asked_by (arc_value job.ask))) (λ e. IsNoJob self.now request e) }
     {

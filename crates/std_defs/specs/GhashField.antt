@@ -1,6 +1,6 @@
 -- The field of GHASH (NIST SP 800-38D, 6.3) and GHASH itself (6.4).
 -- A block of 128 bits is named by the number that it writes in binary, leftmost bit first.
-use Rattle.std.specs.Prelude.{◌≡◌, ℕ, zero, suc, ◌+◌, ◌-◌, ◌*◌, Bool, true, false, not, ◌&&◌, ◌||◌, ◌==◌, nat_lt, nat_le, if◌then◌else◌, List, [], ◌∷◌, length, bit_xor}
+use Rattle.std.specs.Prelude.{◌≡◌, ℕ, zero, suc, ◌+◌, ◌-◌, ◌*◌, ◌≤◌, Bool, true, false, not, ◌&&◌, ◌||◌, ◌==◌, nat_lt, nat_le, if◌then◌else◌, List, [], ◌∷◌, length, bit_xor}
 use Rattle.std.specs.Int.{bit_at}
 
 -- the sum of two coefficients
@@ -48,9 +48,13 @@ unfoldable pub remainder : ℕ → Polynomial → Polynomial
 remainder zero p = p
 remainder (suc k) p = remainder k (if p (128 + k) then add_shifted p k modulus else p)
 
--- r is p plus a multiple of the modulus
+-- p has a degree below n
+abbrev pub HasDegreeBelow : ℕ → Polynomial → Type 0
+HasDegreeBelow n p = (place : ℕ) → n ≤ place → p place ≡ false
+
+-- r is p plus a multiple of the modulus. For p and r of degrees below 255 and 128 the factor has a degree below 127.
 abbrev pub IsCongruent : Polynomial → Polynomial → Type 0
-IsCongruent p r = (q : Polynomial) × ((n : ℕ) → xor (p n) (product q modulus n) ≡ r n)
+IsCongruent p r = (q : Polynomial) × (HasDegreeBelow 127 q × ((n : ℕ) → xor (p n) (product q modulus n) ≡ r n))
 
 -- the product of two blocks in the field: a product of two polynomials of degree at most 127 has degree at most 254 (6.3)
 unfoldable pub field_product : ℕ → ℕ → ℕ

@@ -7,3 +7,6 @@ pub mod Hmac
 pub mod Authenc
 pub mod Value
 pub mod Rfc4106
+pub mod Xts
+pub mod Cmac
+pub mod Ccm

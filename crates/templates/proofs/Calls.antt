@@ -19,7 +19,8 @@ use Rattle.templates.specs.Names.{IsKnown}
 use Rattle.templates.specs.Table.{table, children_of, derived_of, FaultIs}
 use Rattle.templates.specs.Resolving.{weight, AreAbove, Grows, CameTo, IsOpen, LooksCome, Builds, EndsWith, Resolves}
 use Rattle.templates.proofs.Growth.{came_now, grows_none}
-use Rattle.templates.proofs.Looks.{any_answer, claimable, began_new, opened, resolved, grows_look, grows_of_builds}
+use Rattle.alg_registry.proofs.Looks.{began_new}
+use Rattle.templates.proofs.Looks.{any_answer, claimable, opened, resolved, grows_look, grows_of_builds}
 use Rattle.templates.proofs.ChildLooks.{derives, derives_not}
 use Rattle.templates.specs.declared.build_errors.BuildErr.{BuildErr}
 use Rattle.std.specs.Prelude.{IfOk, IfErr}

@@ -21,7 +21,7 @@ use Rattle.alg_registry.specs.Answers.{look_answer, found_driver, found_best, no
 use Rattle.alg_registry.specs.Calls.{claimed_number, is_unclaimed}
 use Rattle.alg_registry.specs.Legal.{ended_as, LegalReg}
 use Rattle.alg_registry.specs.Made.{Made, IsMade, building, last_of, looks_for, look_for, if_of, made_answer}
-use Rattle.alg_registry.proofs.Fresh.{fresh-from_legal, length-larvals_of}
+use Rattle.alg_registry.proofs.Fresh.{fresh-from_legal}
 use Rattle.alg_registry.proofs.Steps.{first_of-push}
 use Rattle.alg_names.specs.Name.{Tree, spelling}
 use Rattle.templates.specs.Names.{IsKnown}
@@ -60,25 +60,6 @@ pending_best larvals text k None e = pending_answer larvals text k (position_fro
 pub pending_driver : (rows : List Row) (larvals : List Larval) (text : List ℕ) (plain : Bool) (k : ℕ) (o : Option ℕ) → found_driver rows larvals text plain o ≡ Pending k → position_from (is_pending text) 0 larvals ≡ Some k
 pending_driver rows larvals text plain k (Some id) e = absurd cc
 pending_driver rows larvals text plain k None e = pending_best larvals text k (best_from larvals text plain 0 rows) e
-
-began_answer : (larvals : List Larval) (text : List ℕ) (k : ℕ) (o : Option ℕ) → not_found larvals text o ≡ Began k → k ≡ length larvals
-began_answer larvals text k (Some n) e = absurd cc
-began_answer larvals text k None e = yes (is_template text) e
-  where
-    yes : (b : Bool) → (if b then Began (length larvals) else Absent) ≡ Began k → k ≡ length larvals
-    yes true q = let f : length larvals ≡ k = cc in sym f
-    yes false q = absurd cc
-
-began_best : (larvals : List Larval) (text : List ℕ) (k : ℕ) (o : Option (ℕ × ℕ)) → found_best larvals text o ≡ Began k → k ≡ length larvals
-began_best larvals text k (Some best) e = absurd cc
-began_best larvals text k None e = began_answer larvals text k (position_from (is_pending text) 0 larvals) e
-
-began_driver : (rows : List Row) (larvals : List Larval) (text : List ℕ) (plain : Bool) (k : ℕ) (o : Option ℕ) → found_driver rows larvals text plain o ≡ Began k → k ≡ length larvals
-began_driver rows larvals text plain k (Some id) e = absurd cc
-began_driver rows larvals text plain k None e = began_best larvals text k (best_from larvals text plain 0 rows) e
-
-pub began_new : (h : List RegEntry) (text : List ℕ) (plain : Bool) (k : ℕ) → look_answer (rows_of h) (larvals_of h) text plain ≡ Began k → k ≡ length (texts h)
-began_new h text plain k e = began_driver (rows_of h) (larvals_of h) text plain k (position_from (λ row. may_find plain row && bytes_eq row.spec.driver text) 0 (rows_of h)) e ∙ length-larvals_of h
 
 none_of : {A : Type 0} (o : Option A) → is_none o ≡ true → o ≡ None
 none_of None e = refl

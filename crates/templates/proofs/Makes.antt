@@ -1,7 +1,8 @@
 -- What an entry can be: one of the drivers, or what a template makes of entries.
 use Rattle.std.proofs.Common.{◌≡◌, ℕ, zero, suc, Bool, true, false, ◌&&◌, ◌||◌, if◌then◌else◌, ◌⊎◌, inl, inr, List, [], ◌∷◌, ◌++◌, length, refl, ap, sym, ◌∙◌, subst, append_assoc, Option, Some, None, Result, Ok, Err, codes}
 use Rattle.std.specs.List.{AllByRecursion}
-use Rattle.std.specs.Prelude.{slice_get, nat_lt}
+use Rattle.std.specs.Prelude.{slice_get, nat_lt, ⊤}
+use Rattle.std.specs.Option.{option_map_or}
 use Rattle.std.specs.Str.{bytes_eq}
 use Rattle.std.proofs.lemmas.Slice.Eq.{bytes_eq-Decides}
 use Rattle.kc_base.specs.declared.error_numbers.Errno.{Errno}
@@ -15,11 +16,11 @@ use Rattle.alg_names.specs.Name.{Tree, node, end, arg, word_of, spelling}
 use Rattle.templates.specs.declared.template_words.Template.{Template}
 use Rattle.templates.specs.declared.template_words.Template.TheVariants as template
 use Rattle.templates.specs.declared.driver_plans.AesForm.{AesForm}
-use Rattle.templates.specs.declared.driver_plans.AesForm.TheVariants.{AesGeneric}
+use Rattle.templates.specs.declared.driver_plans.AesForm.TheVariants.{AesGeneric, AesTable, AesLanes}
 use Rattle.templates.specs.declared.driver_plans.GhashForm.{GhashForm}
-use Rattle.templates.specs.declared.driver_plans.GhashForm.TheVariants.{GhashGeneric}
+use Rattle.templates.specs.declared.driver_plans.GhashForm.TheVariants.{GhashGeneric, GhashTable}
 use Rattle.templates.specs.Nesting.{is_wrapper_word}
-use Rattle.templates.specs.Table.{template_named, is_cipher, is_hash, is_ghash, is_skcipher, is_aead, is_mac, is_bare, begins_with, admits, admits_two, enclosed, enclosed_two, limited, over_one, over_two, derived_over, derived_by, derived_of, is_driver_of, is_built_in, wrap_of}
+use Rattle.templates.specs.Table.{template_named, is_cipher, is_hash, is_ghash, is_skcipher, is_aead, is_mac, is_bare, begins_with, admits, admits_two, enclosed, enclosed_two, limited, over_one, over_two, derived_over, derived_by, derived_of, drivers, is_same_driver, is_same_kind, is_one_of, is_built_in, wrap_of}
 use Rattle.templates.specs.Planned.{is_basic}
 use Rattle.templates.proofs.Words.{template_word, named_word}
 
@@ -30,18 +31,23 @@ pub data Make : Type 0 where
   cbc : AesForm → Make
   ctr : AesForm → Make
   rfc3686 : AesForm → Make
+  xts : AesForm → Make
   gcm : AesForm → GhashForm → Make
   rfc4106 : AesForm → GhashForm → Make
   hmac : Make
   authenc_cbc : AesForm → Make
   authenc_ctr : AesForm → Make
   authenc_rfc3686 : AesForm → Make
+  authenc_xts : AesForm → Make
 
 abbrev pub aes_word : AesForm → List ℕ
 aes_word AesGeneric = codes "aes-generic"
+aes_word AesTable = codes "aes-table"
+aes_word AesLanes = codes "aes-lanes"
 
 abbrev pub ghash_word : GhashForm → List ℕ
 ghash_word GhashGeneric = codes "ghash-generic"
+ghash_word GhashTable = codes "ghash-table"
 
 -- the names of drivers
 abbrev pub over : List ℕ → Tree → Tree
@@ -65,6 +71,9 @@ cbc_tree a = over (codes "cbc") (cipher_tree a)
 abbrev pub rfc3686_tree : AesForm → Tree
 rfc3686_tree a = over (codes "rfc3686") (ctr_tree a)
 
+abbrev pub xts_tree : AesForm → Tree
+xts_tree a = over (codes "xts") (cipher_tree a)
+
 abbrev pub gcm_tree : AesForm → GhashForm → Tree
 gcm_tree a g = over_both (codes "gcm_base") (ctr_tree a) (ghash_tree g)
 
@@ -78,12 +87,14 @@ tree_of_make (ghash g) = ghash_tree g
 tree_of_make (cbc a) = cbc_tree a
 tree_of_make (ctr a) = ctr_tree a
 tree_of_make (rfc3686 a) = rfc3686_tree a
+tree_of_make (xts a) = xts_tree a
 tree_of_make (gcm a g) = gcm_tree a g
 tree_of_make (rfc4106 a g) = over (codes "rfc4106") (gcm_tree a g)
 tree_of_make hmac = hmac_tree
 tree_of_make (authenc_cbc a) = over_both (codes "authenc") hmac_tree (cbc_tree a)
 tree_of_make (authenc_ctr a) = over_both (codes "authenc") hmac_tree (ctr_tree a)
 tree_of_make (authenc_rfc3686 a) = over_both (codes "authenc") hmac_tree (rfc3686_tree a)
+tree_of_make (authenc_xts a) = over_both (codes "authenc") hmac_tree (xts_tree a)
 
 abbrev pub kind_of_make : Make → Kind
 kind_of_make (cipher a) = Cipher
@@ -92,6 +103,7 @@ kind_of_make (ghash g) = Ghash
 kind_of_make (cbc a) = Skcipher
 kind_of_make (ctr a) = Skcipher
 kind_of_make (rfc3686 a) = Skcipher
+kind_of_make (xts a) = Skcipher
 kind_of_make hmac = Mac
 kind_of_make _ = Aead
 
@@ -115,6 +127,7 @@ pub record IsPlainAs (s : Spec) (m : Make) : Type 0 where
 pub record IsWrappedAs (s : Spec) (m : Make) : Type 0 where
   pub word : List ℕ
   pub word_is : (word ≡ codes "pcrypt") ⊎ (word ≡ codes "cryptd")
+  pub wraps : s.wrap ≡ option_map_or wrap_of (template_named word) wrap.Plain
   pub wrapped : is_bare s.wrap ≡ false
   pub kind : s.kind ≡ kind_of_make m
   pub planned : is_basic (kind_of_make m) ≡ false
@@ -159,6 +172,7 @@ only_gcm _ e = absurd cc
 abbrev with_hmac : Make → Make
 with_hmac (ctr a) = authenc_ctr a
 with_hmac (rfc3686 a) = authenc_rfc3686 a
+with_hmac (xts a) = authenc_xts a
 with_hmac (cbc a) = authenc_cbc a
 with_hmac m = m
 
@@ -172,6 +186,7 @@ authenc_over : (m : Make) → is_skcipher (kind_of_make m) ≡ true → IsAuthen
 authenc_over (cbc a) e = record { tree = refl; kind = refl; no_ctr = refl; no_gcm = refl }
 authenc_over (ctr a) e = record { tree = refl; kind = refl; no_ctr = refl; no_gcm = refl }
 authenc_over (rfc3686 a) e = record { tree = refl; kind = refl; no_ctr = refl; no_gcm = refl }
+authenc_over (xts a) e = record { tree = refl; kind = refl; no_ctr = refl; no_gcm = refl }
 authenc_over _ e = absurd cc
 
 only_aead : (k : Kind) → is_aead k ≡ true → Aead ≡ k
@@ -213,6 +228,14 @@ enclosed_two-tree w d f t u e k =
 
 -- ---- what the templates make
 
+pcrypt_wraps : wrap.Pcrypt ≡ option_map_or wrap_of (template_named (codes "pcrypt")) wrap.Plain
+unfolding template_named
+pcrypt_wraps = refl
+
+cryptd_wraps : wrap.Cryptd ≡ option_map_or wrap_of (template_named (codes "cryptd")) wrap.Plain
+unfolding template_named
+cryptd_wraps = refl
+
 one-known : (t : Template) (id : ℕ) (x : Spec) (m : Make) → IsPlainAs x m → admits t x ≡ true → Known (over_one t (template_word t) id x)
 one-known template.Cbc id x m p e =
     let i = only_cipher m (sym (ap is_cipher p.kind) ∙ e) in
@@ -220,6 +243,9 @@ one-known template.Cbc id x m p e =
 one-known template.Ctr id x m p e =
     let i = only_cipher m (sym (ap is_cipher p.kind) ∙ e) in
     (ctr i.0, inl (record { bare = refl; kind = refl; driver = enclosed-tree (codes "ctr") x.driver (cipher_tree i.0) (p.driver ∙ ap (λ n. spelling (tree_of_make n)) i.1); begins_ctr = refl; begins_gcm = refl }))
+one-known template.Xts id x m p e =
+    let i = only_cipher m (sym (ap is_cipher p.kind) ∙ e) in
+    (xts i.0, inl (record { bare = refl; kind = refl; driver = enclosed-tree (codes "xts") x.driver (cipher_tree i.0) (p.driver ∙ ap (λ n. spelling (tree_of_make n)) i.1); begins_ctr = refl; begins_gcm = refl }))
 one-known template.Rfc3686 id x m p e =
     let i = only_ctr m (sym p.begins_ctr ∙ e) in
     (rfc3686 i.0, inl (record { bare = refl; kind = refl; driver = enclosed-tree (codes "rfc3686") x.driver (ctr_tree i.0) (p.driver ∙ ap (λ n. spelling (tree_of_make n)) i.1); begins_ctr = refl; begins_gcm = refl }))
@@ -231,10 +257,10 @@ one-known template.Hmac id x m p e =
     (hmac, inl (record { bare = refl; kind = refl; driver = enclosed-tree (codes "hmac") x.driver (node (codes "sha256-generic") end) (p.driver ∙ ap (λ n. spelling (tree_of_make n)) i); begins_ctr = refl; begins_gcm = refl }))
 one-known template.Pcrypt id x m p e =
     let k : is_aead (kind_of_make m) ≡ true = sym (ap is_aead p.kind) ∙ e in
-    (m, inr (record { word = codes "pcrypt"; word_is = inl refl; wrapped = refl; kind = only_aead (kind_of_make m) k; planned = aead_planned (kind_of_make m) k; driver = enclosed-tree (codes "pcrypt") x.driver (tree_of_make m) p.driver }))
+    (m, inr (record { word = codes "pcrypt"; word_is = inl refl; wraps = pcrypt_wraps; wrapped = refl; kind = only_aead (kind_of_make m) k; planned = aead_planned (kind_of_make m) k; driver = enclosed-tree (codes "pcrypt") x.driver (tree_of_make m) p.driver }))
 one-known template.Cryptd id x m p e =
     let k : (is_skcipher (kind_of_make m) || is_aead (kind_of_make m) || is_mac (kind_of_make m)) ≡ true = sym (ap (λ k. is_skcipher k || is_aead k || is_mac k) p.kind) ∙ e in
-    (m, inr (record { word = codes "cryptd"; word_is = inr refl; wrapped = refl; kind = p.kind; planned = wrapped_planned (kind_of_make m) k; driver = enclosed-tree (codes "cryptd") x.driver (tree_of_make m) p.driver }))
+    (m, inr (record { word = codes "cryptd"; word_is = inr refl; wraps = cryptd_wraps; wrapped = refl; kind = p.kind; planned = wrapped_planned (kind_of_make m) k; driver = enclosed-tree (codes "cryptd") x.driver (tree_of_make m) p.driver }))
 one-known template.Gcm id x m p e = absurd cc
 one-known template.GcmBase id x m p e = absurd cc
 one-known template.Authenc id x m p e = absurd cc
@@ -332,30 +358,54 @@ only_ghash_kind : (k : Kind) → is_ghash k ≡ true → k ≡ Ghash
 only_ghash_kind Ghash e = refl
 only_ghash_kind _ e = absurd cc
 
-built_in : (name driver : List ℕ) (is_kind : Bool) (spec : Spec) → (is_driver_of name driver spec && is_kind) ≡ true → (spec.name ≡ name) × (spec.driver ≡ driver) × (is_kind ≡ true)
-built_in name driver is_kind spec e =
-    let f = left_true (is_driver_of name driver spec) is_kind e in (
-      (bytes_eq-Decides spec.name name).0 (left_true (bytes_eq spec.name name) (bytes_eq spec.driver driver) f),
-      (bytes_eq-Decides spec.driver driver).0 (right_true (bytes_eq spec.name name) (bytes_eq spec.driver driver) f),
-      right_true (is_driver_of name driver spec) is_kind e,
+-- the spec has the name, the driver and the kind of a driver of the table
+same_driver : (driver spec : Spec) → is_same_driver driver spec ≡ true → (spec.name ≡ driver.name) × (spec.driver ≡ driver.driver) × (is_same_kind driver.kind spec.kind ≡ true)
+same_driver driver spec e =
+    let f = left_true (bytes_eq spec.name driver.name && bytes_eq spec.driver driver.driver) (is_same_kind driver.kind spec.kind) e in (
+      (bytes_eq-Decides spec.name driver.name).0 (left_true (bytes_eq spec.name driver.name) (bytes_eq spec.driver driver.driver) f),
+      (bytes_eq-Decides spec.driver driver.driver).0 (right_true (bytes_eq spec.name driver.name) (bytes_eq spec.driver driver.driver) f),
+      right_true (bytes_eq spec.name driver.name && bytes_eq spec.driver driver.driver) (is_same_kind driver.kind spec.kind) e,
     )
 
-pub driver-known : (spec : Spec) → spec.wrap ≡ wrap.Plain → is_built_in spec ≡ true → Known spec
-driver-known spec plain e = by_driver (either (is_driver_of (codes "aes") (codes "aes-generic") spec && is_cipher spec.kind || is_driver_of (codes "sha256") (codes "sha256-generic") spec && is_hash spec.kind) (is_driver_of (codes "ghash") (codes "ghash-generic") spec && is_ghash spec.kind) e)
+same_kind : (k j : Kind) → is_same_kind k j ≡ true → j ≡ k
+same_kind Cipher j e = only_kind j e
+same_kind Hash j e = only_hash j e
+same_kind Ghash j e = only_ghash_kind j e
+same_kind Skcipher j e = absurd cc
+same_kind Aead j e = absurd cc
+same_kind Mac j e = absurd cc
+
+as_driver : (driver spec : Spec) (m : Make) → IsPlainAs driver m → spec.wrap ≡ wrap.Plain → is_same_driver driver spec ≡ true → Known spec
+as_driver driver spec m p plain e =
+    let i = same_driver driver spec e in (
+      m,
+      inl (record {
+        bare = ap is_bare plain;
+        kind = same_kind driver.kind spec.kind i.2 ∙ p.kind;
+        driver = i.1 ∙ p.driver;
+        begins_ctr = ap (λ n. begins_with n (codes "ctr(")) i.0 ∙ p.begins_ctr;
+        begins_gcm = ap (λ n. begins_with n (codes "gcm(")) i.0 ∙ p.begins_gcm;
+      }),
+    )
+
+-- each driver of a table is what one of these makes is
+abbrev AreAs : List Spec → List Make → Type 0
+AreAs (driver ∷ ds) (m ∷ ms) = IsPlainAs driver m × AreAs ds ms
+AreAs [] [] = ⊤
+AreAs _ _ = ⊥
+
+some_driver : (ds : List Spec) (ms : List Make) (spec : Spec) → AreAs ds ms → spec.wrap ≡ wrap.Plain → is_one_of ds spec ≡ true → Known spec
+some_driver [] ms spec all plain e = absurd cc
+some_driver (driver ∷ ds) [] spec all plain e = absurd all
+some_driver (driver ∷ ds) (m ∷ ms) spec all plain e = by_either (λ f. some_driver ds ms spec all.1 plain f) (either (is_same_driver driver spec) (is_one_of ds spec) e)
   where
-    by_driver : ((is_driver_of (codes "aes") (codes "aes-generic") spec && is_cipher spec.kind || is_driver_of (codes "sha256") (codes "sha256-generic") spec && is_hash spec.kind) ≡ true) ⊎ ((is_driver_of (codes "ghash") (codes "ghash-generic") spec && is_ghash spec.kind) ≡ true) → Known spec
-    by_driver (inl f) = by_first (either (is_driver_of (codes "aes") (codes "aes-generic") spec && is_cipher spec.kind) (is_driver_of (codes "sha256") (codes "sha256-generic") spec && is_hash spec.kind) f)
-      where
-        by_first : ((is_driver_of (codes "aes") (codes "aes-generic") spec && is_cipher spec.kind) ≡ true) ⊎ ((is_driver_of (codes "sha256") (codes "sha256-generic") spec && is_hash spec.kind) ≡ true) → Known spec
-        by_first (inl g) =
-            let i = built_in (codes "aes") (codes "aes-generic") (is_cipher spec.kind) spec g in
-            (cipher AesGeneric, inl (record { bare = ap is_bare plain; kind = only_kind spec.kind i.2; driver = i.1; begins_ctr = ap (λ n. begins_with n (codes "ctr(")) i.0; begins_gcm = ap (λ n. begins_with n (codes "gcm(")) i.0 }))
-        by_first (inr g) =
-            let i = built_in (codes "sha256") (codes "sha256-generic") (is_hash spec.kind) spec g in
-            (sha256, inl (record { bare = ap is_bare plain; kind = only_hash spec.kind i.2; driver = i.1; begins_ctr = ap (λ n. begins_with n (codes "ctr(")) i.0; begins_gcm = ap (λ n. begins_with n (codes "gcm(")) i.0 }))
-    by_driver (inr f) =
-        let i = built_in (codes "ghash") (codes "ghash-generic") (is_ghash spec.kind) spec f in
-        (ghash GhashGeneric, inl (record { bare = ap is_bare plain; kind = only_ghash_kind spec.kind i.2; driver = i.1; begins_ctr = ap (λ n. begins_with n (codes "ctr(")) i.0; begins_gcm = ap (λ n. begins_with n (codes "gcm(")) i.0 }))
+    by_either : (is_one_of ds spec ≡ true → Known spec) → (is_same_driver driver spec ≡ true) ⊎ (is_one_of ds spec ≡ true) → Known spec
+    by_either later (inl f) = as_driver driver spec m all.0 plain f
+    by_either later (inr f) = later f
+
+pub driver-known : (spec : Spec) → spec.wrap ≡ wrap.Plain → is_built_in spec ≡ true → Known spec
+driver-known spec plain_wrap e =
+    some_driver drivers (cipher AesGeneric ∷ sha256 ∷ ghash GhashGeneric ∷ cipher AesTable ∷ cipher AesLanes ∷ ghash GhashTable ∷ []) spec (record { bare = refl; kind = refl; driver = refl; begins_ctr = refl; begins_gcm = refl }, (record { bare = refl; kind = refl; driver = refl; begins_ctr = refl; begins_gcm = refl }, (record { bare = refl; kind = refl; driver = refl; begins_ctr = refl; begins_gcm = refl }, (record { bare = refl; kind = refl; driver = refl; begins_ctr = refl; begins_gcm = refl }, (record { bare = refl; kind = refl; driver = refl; begins_ctr = refl; begins_gcm = refl }, (record { bare = refl; kind = refl; driver = refl; begins_ctr = refl; begins_gcm = refl }, tt)))))) plain_wrap e
 
 spec_at : {s t : Spec} → Some s ≡ Some t → s ≡ t
 spec_at e = cc

@@ -34,18 +34,19 @@ use Rattle.alg_registry.proofs.Stack.{texts-push, looks-push, ended-push, ended-
 use Rattle.alg_names.specs.Name.{Tree, node, end, IsName, a_word, a_template, one, word_of, args_of, list_of, spelling}
 use Rattle.alg_names.specs.Spelled.{tree_of}
 use Rattle.alg_names.specs.Built.{args_from, args_from-list_of}
-use Rattle.templates.specs.declared.driver_plans.AesForm.TheVariants.{AesGeneric}
-use Rattle.templates.specs.declared.driver_plans.GhashForm.TheVariants.{GhashGeneric}
+use Rattle.templates.specs.declared.driver_plans.AesForm.TheVariants.{AesGeneric, AesTable, AesLanes}
+use Rattle.templates.specs.declared.driver_plans.GhashForm.TheVariants.{GhashGeneric, GhashTable}
 use Rattle.templates.specs.declared.template_words.Template.TheVariants.{Gcm}
 use Rattle.templates.specs.Nesting.{is_nested_well, is_wrapper_word, has_wrapper, any_wrapper}
 use Rattle.templates.specs.Table.{table, template_named, children_of, derived_of, spellings, is_allowed, is_bare, begins_with}
 use Rattle.templates.proofs.Growth.{split}
 use Rattle.templates.proofs.ChildLooks.{get_within}
-use Rattle.templates.proofs.Looks.{began_new, position_at}
+use Rattle.alg_registry.proofs.Looks.{began_new}
+use Rattle.templates.proofs.Looks.{position_at}
 use Rattle.templates.proofs.Shapes.{by_shape, not_false, from_false}
 use Rattle.templates.proofs.Wrappers.{any_at}
 use Rattle.templates.proofs.PlainLooks.{found_bare, pending_text}
-use Rattle.templates.proofs.Makes.{Make, cipher, sha256, ghash, cbc, ctr, rfc3686, gcm, rfc4106, hmac, authenc_cbc, authenc_ctr, authenc_rfc3686, IsPlainAs, IsWrappedAs, Known, IsPlain, ArePlain, IsMadeSo, derived-plain, driver-known, opening-known, tree_of_make, over, right_true}
+use Rattle.templates.proofs.Makes.{Make, cipher, sha256, ghash, cbc, ctr, rfc3686, xts, gcm, rfc4106, hmac, authenc_cbc, authenc_ctr, authenc_rfc3686, authenc_xts, IsPlainAs, IsWrappedAs, Known, IsPlain, ArePlain, IsMadeSo, derived-plain, driver-known, opening-known, tree_of_make, over, right_true}
 
 -- what is known of the grammar
 pub record Grammar : Type 0 where
@@ -407,31 +408,93 @@ joined_driver rows spec id below e = by_below (list_all (listed_at rows) spec.be
 
 no_pcrypt : (m : Make) → begins_with (spelling (tree_of_make m)) (codes "pcrypt(") ≡ false
 no_pcrypt (cipher AesGeneric) = refl
+no_pcrypt (cipher AesTable) = refl
+no_pcrypt (cipher AesLanes) = refl
 no_pcrypt sha256 = refl
 no_pcrypt (ghash GhashGeneric) = refl
+no_pcrypt (ghash GhashTable) = refl
 no_pcrypt (cbc AesGeneric) = refl
+no_pcrypt (cbc AesTable) = refl
+no_pcrypt (cbc AesLanes) = refl
 no_pcrypt (ctr AesGeneric) = refl
+no_pcrypt (ctr AesTable) = refl
+no_pcrypt (ctr AesLanes) = refl
 no_pcrypt (rfc3686 AesGeneric) = refl
+no_pcrypt (rfc3686 AesTable) = refl
+no_pcrypt (rfc3686 AesLanes) = refl
+no_pcrypt (xts AesGeneric) = refl
+no_pcrypt (xts AesTable) = refl
+no_pcrypt (xts AesLanes) = refl
 no_pcrypt (gcm AesGeneric GhashGeneric) = refl
+no_pcrypt (gcm AesGeneric GhashTable) = refl
+no_pcrypt (gcm AesTable GhashGeneric) = refl
+no_pcrypt (gcm AesTable GhashTable) = refl
+no_pcrypt (gcm AesLanes GhashGeneric) = refl
+no_pcrypt (gcm AesLanes GhashTable) = refl
 no_pcrypt (rfc4106 AesGeneric GhashGeneric) = refl
+no_pcrypt (rfc4106 AesGeneric GhashTable) = refl
+no_pcrypt (rfc4106 AesTable GhashGeneric) = refl
+no_pcrypt (rfc4106 AesTable GhashTable) = refl
+no_pcrypt (rfc4106 AesLanes GhashGeneric) = refl
+no_pcrypt (rfc4106 AesLanes GhashTable) = refl
 no_pcrypt hmac = refl
 no_pcrypt (authenc_cbc AesGeneric) = refl
+no_pcrypt (authenc_cbc AesTable) = refl
+no_pcrypt (authenc_cbc AesLanes) = refl
 no_pcrypt (authenc_ctr AesGeneric) = refl
+no_pcrypt (authenc_ctr AesTable) = refl
+no_pcrypt (authenc_ctr AesLanes) = refl
 no_pcrypt (authenc_rfc3686 AesGeneric) = refl
+no_pcrypt (authenc_rfc3686 AesTable) = refl
+no_pcrypt (authenc_rfc3686 AesLanes) = refl
+no_pcrypt (authenc_xts AesGeneric) = refl
+no_pcrypt (authenc_xts AesTable) = refl
+no_pcrypt (authenc_xts AesLanes) = refl
 
 no_cryptd : (m : Make) → begins_with (spelling (tree_of_make m)) (codes "cryptd(") ≡ false
 no_cryptd (cipher AesGeneric) = refl
+no_cryptd (cipher AesTable) = refl
+no_cryptd (cipher AesLanes) = refl
 no_cryptd sha256 = refl
 no_cryptd (ghash GhashGeneric) = refl
+no_cryptd (ghash GhashTable) = refl
 no_cryptd (cbc AesGeneric) = refl
+no_cryptd (cbc AesTable) = refl
+no_cryptd (cbc AesLanes) = refl
 no_cryptd (ctr AesGeneric) = refl
+no_cryptd (ctr AesTable) = refl
+no_cryptd (ctr AesLanes) = refl
 no_cryptd (rfc3686 AesGeneric) = refl
+no_cryptd (rfc3686 AesTable) = refl
+no_cryptd (rfc3686 AesLanes) = refl
+no_cryptd (xts AesGeneric) = refl
+no_cryptd (xts AesTable) = refl
+no_cryptd (xts AesLanes) = refl
 no_cryptd (gcm AesGeneric GhashGeneric) = refl
+no_cryptd (gcm AesGeneric GhashTable) = refl
+no_cryptd (gcm AesTable GhashGeneric) = refl
+no_cryptd (gcm AesTable GhashTable) = refl
+no_cryptd (gcm AesLanes GhashGeneric) = refl
+no_cryptd (gcm AesLanes GhashTable) = refl
 no_cryptd (rfc4106 AesGeneric GhashGeneric) = refl
+no_cryptd (rfc4106 AesGeneric GhashTable) = refl
+no_cryptd (rfc4106 AesTable GhashGeneric) = refl
+no_cryptd (rfc4106 AesTable GhashTable) = refl
+no_cryptd (rfc4106 AesLanes GhashGeneric) = refl
+no_cryptd (rfc4106 AesLanes GhashTable) = refl
 no_cryptd hmac = refl
 no_cryptd (authenc_cbc AesGeneric) = refl
+no_cryptd (authenc_cbc AesTable) = refl
+no_cryptd (authenc_cbc AesLanes) = refl
 no_cryptd (authenc_ctr AesGeneric) = refl
+no_cryptd (authenc_ctr AesTable) = refl
+no_cryptd (authenc_ctr AesLanes) = refl
 no_cryptd (authenc_rfc3686 AesGeneric) = refl
+no_cryptd (authenc_rfc3686 AesTable) = refl
+no_cryptd (authenc_rfc3686 AesLanes) = refl
+no_cryptd (authenc_xts AesGeneric) = refl
+no_cryptd (authenc_xts AesTable) = refl
+no_cryptd (authenc_xts AesLanes) = refl
 
 pcrypt_driver : (t : Tree) → begins_with (spelling (over (codes "pcrypt") t)) (codes "pcrypt(") ≡ true
 pcrypt_driver t = refl

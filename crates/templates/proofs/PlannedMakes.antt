@@ -1,15 +1,18 @@
 -- What an entry can be has a driver within the limits, and the plan of its kind.
-use Rattle.std.proofs.Common.{◌≡◌, ℕ, ◌≤◌, ◌⊎◌, inl, inr, List, [], ◌∷◌, ◌++◌, length, refl, ap, sym, ◌∙◌, subst, arith, length-append, lit≤, Some, codes}
+use Rattle.std.proofs.Common.{◌≡◌, ℕ, true, ◌≤◌, ◌⊎◌, inl, inr, List, [], ◌∷◌, ◌++◌, length, refl, ap, sym, ◌∙◌, subst, arith, length-append, lit≤, Some, codes}
 use Rattle.alg_registry.specs.declared.spec.Spec.{Spec}
 use Rattle.alg_names.specs.Name.{Tree, IsWord, IsAllowed, a_template, one, spelling, depth, width}
 use Rattle.alg_names.specs.Spelled.{tree_of}
-use Rattle.templates.specs.declared.driver_plans.AesForm.TheVariants.{AesGeneric}
-use Rattle.templates.specs.declared.driver_plans.GhashForm.TheVariants.{GhashGeneric}
-use Rattle.templates.specs.Table.{template_named}
+use Rattle.templates.specs.declared.driver_plans.AesForm.TheVariants.{AesGeneric, AesTable, AesLanes}
+use Rattle.templates.specs.declared.driver_plans.GhashForm.TheVariants.{GhashGeneric, GhashTable}
+use Rattle.std.specs.Option.{option_map_or}
+use Rattle.alg_registry.specs.declared.spec.Wrap.{Wrap}
+use Rattle.alg_registry.specs.declared.spec.Wrap.TheVariants as wrap
+use Rattle.templates.specs.Table.{template_named, wrap_of, is_bare}
 use Rattle.templates.specs.Plans.{plan_at, bare_plan}
-use Rattle.templates.specs.Planned.{IsPlanned, Fits}
+use Rattle.templates.specs.Planned.{IsPlanned, Fits, root_wrap}
 use Rattle.templates.proofs.PlannedHistories.{Grammar}
-use Rattle.templates.proofs.Makes.{Make, cipher, sha256, ghash, cbc, ctr, rfc3686, gcm, rfc4106, hmac, authenc_cbc, authenc_ctr, authenc_rfc3686, IsPlainAs, IsWrappedAs, Known, tree_of_make, kind_of_make, over}
+use Rattle.templates.proofs.Makes.{Make, cipher, sha256, ghash, cbc, ctr, rfc3686, xts, gcm, rfc4106, hmac, authenc_cbc, authenc_ctr, authenc_rfc3686, authenc_xts, IsPlainAs, IsWrappedAs, Known, tree_of_make, kind_of_make, over}
 
 -- with room for one more template
 record IsSmall (t : Tree) : Type 0 where
@@ -19,64 +22,240 @@ record IsSmall (t : Tree) : Type 0 where
 
 make_small : (m : Make) → IsSmall (tree_of_make m)
 make_small (cipher AesGeneric) = record { short = lit≤ tt; levels = lit≤ tt; arguments = lit≤ tt }
+make_small (cipher AesTable) = record { short = lit≤ tt; levels = lit≤ tt; arguments = lit≤ tt }
+make_small (cipher AesLanes) = record { short = lit≤ tt; levels = lit≤ tt; arguments = lit≤ tt }
 make_small sha256 = record { short = lit≤ tt; levels = lit≤ tt; arguments = lit≤ tt }
 make_small (ghash GhashGeneric) = record { short = lit≤ tt; levels = lit≤ tt; arguments = lit≤ tt }
+make_small (ghash GhashTable) = record { short = lit≤ tt; levels = lit≤ tt; arguments = lit≤ tt }
 make_small (cbc AesGeneric) = record { short = lit≤ tt; levels = lit≤ tt; arguments = lit≤ tt }
+make_small (cbc AesTable) = record { short = lit≤ tt; levels = lit≤ tt; arguments = lit≤ tt }
+make_small (cbc AesLanes) = record { short = lit≤ tt; levels = lit≤ tt; arguments = lit≤ tt }
 make_small (ctr AesGeneric) = record { short = lit≤ tt; levels = lit≤ tt; arguments = lit≤ tt }
+make_small (ctr AesTable) = record { short = lit≤ tt; levels = lit≤ tt; arguments = lit≤ tt }
+make_small (ctr AesLanes) = record { short = lit≤ tt; levels = lit≤ tt; arguments = lit≤ tt }
 make_small (rfc3686 AesGeneric) = record { short = lit≤ tt; levels = lit≤ tt; arguments = lit≤ tt }
+make_small (rfc3686 AesTable) = record { short = lit≤ tt; levels = lit≤ tt; arguments = lit≤ tt }
+make_small (rfc3686 AesLanes) = record { short = lit≤ tt; levels = lit≤ tt; arguments = lit≤ tt }
+make_small (xts AesGeneric) = record { short = lit≤ tt; levels = lit≤ tt; arguments = lit≤ tt }
+make_small (xts AesTable) = record { short = lit≤ tt; levels = lit≤ tt; arguments = lit≤ tt }
+make_small (xts AesLanes) = record { short = lit≤ tt; levels = lit≤ tt; arguments = lit≤ tt }
 make_small (gcm AesGeneric GhashGeneric) = record { short = lit≤ tt; levels = lit≤ tt; arguments = lit≤ tt }
+make_small (gcm AesGeneric GhashTable) = record { short = lit≤ tt; levels = lit≤ tt; arguments = lit≤ tt }
+make_small (gcm AesTable GhashGeneric) = record { short = lit≤ tt; levels = lit≤ tt; arguments = lit≤ tt }
+make_small (gcm AesTable GhashTable) = record { short = lit≤ tt; levels = lit≤ tt; arguments = lit≤ tt }
+make_small (gcm AesLanes GhashGeneric) = record { short = lit≤ tt; levels = lit≤ tt; arguments = lit≤ tt }
+make_small (gcm AesLanes GhashTable) = record { short = lit≤ tt; levels = lit≤ tt; arguments = lit≤ tt }
 make_small (rfc4106 AesGeneric GhashGeneric) = record { short = lit≤ tt; levels = lit≤ tt; arguments = lit≤ tt }
+make_small (rfc4106 AesGeneric GhashTable) = record { short = lit≤ tt; levels = lit≤ tt; arguments = lit≤ tt }
+make_small (rfc4106 AesTable GhashGeneric) = record { short = lit≤ tt; levels = lit≤ tt; arguments = lit≤ tt }
+make_small (rfc4106 AesTable GhashTable) = record { short = lit≤ tt; levels = lit≤ tt; arguments = lit≤ tt }
+make_small (rfc4106 AesLanes GhashGeneric) = record { short = lit≤ tt; levels = lit≤ tt; arguments = lit≤ tt }
+make_small (rfc4106 AesLanes GhashTable) = record { short = lit≤ tt; levels = lit≤ tt; arguments = lit≤ tt }
 make_small hmac = record { short = lit≤ tt; levels = lit≤ tt; arguments = lit≤ tt }
 make_small (authenc_cbc AesGeneric) = record { short = lit≤ tt; levels = lit≤ tt; arguments = lit≤ tt }
+make_small (authenc_cbc AesTable) = record { short = lit≤ tt; levels = lit≤ tt; arguments = lit≤ tt }
+make_small (authenc_cbc AesLanes) = record { short = lit≤ tt; levels = lit≤ tt; arguments = lit≤ tt }
 make_small (authenc_ctr AesGeneric) = record { short = lit≤ tt; levels = lit≤ tt; arguments = lit≤ tt }
+make_small (authenc_ctr AesTable) = record { short = lit≤ tt; levels = lit≤ tt; arguments = lit≤ tt }
+make_small (authenc_ctr AesLanes) = record { short = lit≤ tt; levels = lit≤ tt; arguments = lit≤ tt }
 make_small (authenc_rfc3686 AesGeneric) = record { short = lit≤ tt; levels = lit≤ tt; arguments = lit≤ tt }
+make_small (authenc_rfc3686 AesTable) = record { short = lit≤ tt; levels = lit≤ tt; arguments = lit≤ tt }
+make_small (authenc_rfc3686 AesLanes) = record { short = lit≤ tt; levels = lit≤ tt; arguments = lit≤ tt }
+make_small (authenc_xts AesGeneric) = record { short = lit≤ tt; levels = lit≤ tt; arguments = lit≤ tt }
+make_small (authenc_xts AesTable) = record { short = lit≤ tt; levels = lit≤ tt; arguments = lit≤ tt }
+make_small (authenc_xts AesLanes) = record { short = lit≤ tt; levels = lit≤ tt; arguments = lit≤ tt }
 
 make_read : (m : Make) → tree_of (spelling (tree_of_make m)) ≡ Some (tree_of_make m)
 unfolding tree_of
 make_read (cipher AesGeneric) = refl
+make_read (cipher AesTable) = refl
+make_read (cipher AesLanes) = refl
 make_read sha256 = refl
 make_read (ghash GhashGeneric) = refl
+make_read (ghash GhashTable) = refl
 make_read (cbc AesGeneric) = refl
+make_read (cbc AesTable) = refl
+make_read (cbc AesLanes) = refl
 make_read (ctr AesGeneric) = refl
+make_read (ctr AesTable) = refl
+make_read (ctr AesLanes) = refl
 make_read (rfc3686 AesGeneric) = refl
+make_read (rfc3686 AesTable) = refl
+make_read (rfc3686 AesLanes) = refl
+make_read (xts AesGeneric) = refl
+make_read (xts AesTable) = refl
+make_read (xts AesLanes) = refl
 make_read (gcm AesGeneric GhashGeneric) = refl
+make_read (gcm AesGeneric GhashTable) = refl
+make_read (gcm AesTable GhashGeneric) = refl
+make_read (gcm AesTable GhashTable) = refl
+make_read (gcm AesLanes GhashGeneric) = refl
+make_read (gcm AesLanes GhashTable) = refl
 make_read (rfc4106 AesGeneric GhashGeneric) = refl
+make_read (rfc4106 AesGeneric GhashTable) = refl
+make_read (rfc4106 AesTable GhashGeneric) = refl
+make_read (rfc4106 AesTable GhashTable) = refl
+make_read (rfc4106 AesLanes GhashGeneric) = refl
+make_read (rfc4106 AesLanes GhashTable) = refl
 make_read hmac = refl
 make_read (authenc_cbc AesGeneric) = refl
+make_read (authenc_cbc AesTable) = refl
+make_read (authenc_cbc AesLanes) = refl
 make_read (authenc_ctr AesGeneric) = refl
+make_read (authenc_ctr AesTable) = refl
+make_read (authenc_ctr AesLanes) = refl
 make_read (authenc_rfc3686 AesGeneric) = refl
+make_read (authenc_rfc3686 AesTable) = refl
+make_read (authenc_rfc3686 AesLanes) = refl
+make_read (authenc_xts AesGeneric) = refl
+make_read (authenc_xts AesTable) = refl
+make_read (authenc_xts AesLanes) = refl
 
 -- the plan of the make, and what it is of
 make_fits : (m : Make) → Fits (kind_of_make m) (plan_at (tree_of_make m))
 unfolding template_named
 make_fits (cipher AesGeneric) = refl
+make_fits (cipher AesTable) = refl
+make_fits (cipher AesLanes) = refl
 make_fits sha256 = refl
 make_fits (ghash GhashGeneric) = refl
+make_fits (ghash GhashTable) = refl
 make_fits (cbc AesGeneric) = refl
+make_fits (cbc AesTable) = refl
+make_fits (cbc AesLanes) = refl
 make_fits (ctr AesGeneric) = refl
+make_fits (ctr AesTable) = refl
+make_fits (ctr AesLanes) = refl
 make_fits (rfc3686 AesGeneric) = refl
+make_fits (rfc3686 AesTable) = refl
+make_fits (rfc3686 AesLanes) = refl
+make_fits (xts AesGeneric) = refl
+make_fits (xts AesTable) = refl
+make_fits (xts AesLanes) = refl
 make_fits (gcm AesGeneric GhashGeneric) = refl
+make_fits (gcm AesGeneric GhashTable) = refl
+make_fits (gcm AesTable GhashGeneric) = refl
+make_fits (gcm AesTable GhashTable) = refl
+make_fits (gcm AesLanes GhashGeneric) = refl
+make_fits (gcm AesLanes GhashTable) = refl
 make_fits (rfc4106 AesGeneric GhashGeneric) = refl
+make_fits (rfc4106 AesGeneric GhashTable) = refl
+make_fits (rfc4106 AesTable GhashGeneric) = refl
+make_fits (rfc4106 AesTable GhashTable) = refl
+make_fits (rfc4106 AesLanes GhashGeneric) = refl
+make_fits (rfc4106 AesLanes GhashTable) = refl
 make_fits hmac = refl
 make_fits (authenc_cbc AesGeneric) = refl
+make_fits (authenc_cbc AesTable) = refl
+make_fits (authenc_cbc AesLanes) = refl
 make_fits (authenc_ctr AesGeneric) = refl
+make_fits (authenc_ctr AesTable) = refl
+make_fits (authenc_ctr AesLanes) = refl
 make_fits (authenc_rfc3686 AesGeneric) = refl
+make_fits (authenc_rfc3686 AesTable) = refl
+make_fits (authenc_rfc3686 AesLanes) = refl
+make_fits (authenc_xts AesGeneric) = refl
+make_fits (authenc_xts AesTable) = refl
+make_fits (authenc_xts AesLanes) = refl
+
+-- no make is wrapped
+make_plain : (m : Make) → root_wrap (tree_of_make m) ≡ wrap.Plain
+unfolding template_named
+make_plain (cipher AesGeneric) = refl
+make_plain (cipher AesTable) = refl
+make_plain (cipher AesLanes) = refl
+make_plain sha256 = refl
+make_plain (ghash GhashGeneric) = refl
+make_plain (ghash GhashTable) = refl
+make_plain (cbc AesGeneric) = refl
+make_plain (cbc AesTable) = refl
+make_plain (cbc AesLanes) = refl
+make_plain (ctr AesGeneric) = refl
+make_plain (ctr AesTable) = refl
+make_plain (ctr AesLanes) = refl
+make_plain (rfc3686 AesGeneric) = refl
+make_plain (rfc3686 AesTable) = refl
+make_plain (rfc3686 AesLanes) = refl
+make_plain (xts AesGeneric) = refl
+make_plain (xts AesTable) = refl
+make_plain (xts AesLanes) = refl
+make_plain (gcm AesGeneric GhashGeneric) = refl
+make_plain (gcm AesGeneric GhashTable) = refl
+make_plain (gcm AesTable GhashGeneric) = refl
+make_plain (gcm AesTable GhashTable) = refl
+make_plain (gcm AesLanes GhashGeneric) = refl
+make_plain (gcm AesLanes GhashTable) = refl
+make_plain (rfc4106 AesGeneric GhashGeneric) = refl
+make_plain (rfc4106 AesGeneric GhashTable) = refl
+make_plain (rfc4106 AesTable GhashGeneric) = refl
+make_plain (rfc4106 AesTable GhashTable) = refl
+make_plain (rfc4106 AesLanes GhashGeneric) = refl
+make_plain (rfc4106 AesLanes GhashTable) = refl
+make_plain hmac = refl
+make_plain (authenc_cbc AesGeneric) = refl
+make_plain (authenc_cbc AesTable) = refl
+make_plain (authenc_cbc AesLanes) = refl
+make_plain (authenc_ctr AesGeneric) = refl
+make_plain (authenc_ctr AesTable) = refl
+make_plain (authenc_ctr AesLanes) = refl
+make_plain (authenc_rfc3686 AesGeneric) = refl
+make_plain (authenc_rfc3686 AesTable) = refl
+make_plain (authenc_rfc3686 AesLanes) = refl
+make_plain (authenc_xts AesGeneric) = refl
+make_plain (authenc_xts AesTable) = refl
+make_plain (authenc_xts AesLanes) = refl
+
+only_plain : (w : Wrap) → is_bare w ≡ true → w ≡ wrap.Plain
+only_plain wrap.Plain e = refl
+only_plain wrap.Pcrypt e = absurd cc
+only_plain wrap.Cryptd e = absurd cc
 
 -- a wrapper has the plan of what it wraps
 make_bare : (m : Make) → plan_at (tree_of_make m) ≡ bare_plan (tree_of_make m)
 unfolding template_named
 make_bare (cipher AesGeneric) = refl
+make_bare (cipher AesTable) = refl
+make_bare (cipher AesLanes) = refl
 make_bare sha256 = refl
 make_bare (ghash GhashGeneric) = refl
+make_bare (ghash GhashTable) = refl
 make_bare (cbc AesGeneric) = refl
+make_bare (cbc AesTable) = refl
+make_bare (cbc AesLanes) = refl
 make_bare (ctr AesGeneric) = refl
+make_bare (ctr AesTable) = refl
+make_bare (ctr AesLanes) = refl
 make_bare (rfc3686 AesGeneric) = refl
+make_bare (rfc3686 AesTable) = refl
+make_bare (rfc3686 AesLanes) = refl
+make_bare (xts AesGeneric) = refl
+make_bare (xts AesTable) = refl
+make_bare (xts AesLanes) = refl
 make_bare (gcm AesGeneric GhashGeneric) = refl
+make_bare (gcm AesGeneric GhashTable) = refl
+make_bare (gcm AesTable GhashGeneric) = refl
+make_bare (gcm AesTable GhashTable) = refl
+make_bare (gcm AesLanes GhashGeneric) = refl
+make_bare (gcm AesLanes GhashTable) = refl
 make_bare (rfc4106 AesGeneric GhashGeneric) = refl
+make_bare (rfc4106 AesGeneric GhashTable) = refl
+make_bare (rfc4106 AesTable GhashGeneric) = refl
+make_bare (rfc4106 AesTable GhashTable) = refl
+make_bare (rfc4106 AesLanes GhashGeneric) = refl
+make_bare (rfc4106 AesLanes GhashTable) = refl
 make_bare hmac = refl
 make_bare (authenc_cbc AesGeneric) = refl
+make_bare (authenc_cbc AesTable) = refl
+make_bare (authenc_cbc AesLanes) = refl
 make_bare (authenc_ctr AesGeneric) = refl
+make_bare (authenc_ctr AesTable) = refl
+make_bare (authenc_ctr AesLanes) = refl
 make_bare (authenc_rfc3686 AesGeneric) = refl
+make_bare (authenc_rfc3686 AesTable) = refl
+make_bare (authenc_rfc3686 AesLanes) = refl
+make_bare (authenc_xts AesGeneric) = refl
+make_bare (authenc_xts AesTable) = refl
+make_bare (authenc_xts AesLanes) = refl
 
 pcrypt_plan : (t : Tree) → plan_at (over (codes "pcrypt") t) ≡ bare_plan t
 unfolding template_named
@@ -112,17 +291,19 @@ over_fits w s m kind same = subst (λ o. Fits s.kind o) (make_bare m ∙ sym sam
 pub known-planned : Grammar → (s : Spec) → Known s → IsPlanned s
 known-planned g s known = by_make known.0 known.1
   where
-    by_word : (m : Make) (w : List ℕ) → (w ≡ codes "pcrypt") ⊎ (w ≡ codes "cryptd") → s.driver ≡ spelling (over w (tree_of_make m)) → s.kind ≡ kind_of_make m → IsPlanned s
-    by_word m w (inl e) driver kind = record {
+    by_word : (m : Make) (w : List ℕ) → (w ≡ codes "pcrypt") ⊎ (w ≡ codes "cryptd") → s.driver ≡ spelling (over w (tree_of_make m)) → s.wrap ≡ option_map_or wrap_of (template_named w) wrap.Plain → s.kind ≡ kind_of_make m → IsPlanned s
+    by_word m w (inl e) driver wraps kind = record {
       tree = over (codes "pcrypt") (tree_of_make m);
       spelled = driver ∙ ap (λ v. spelling (over v (tree_of_make m))) e;
       allowed = over_allowed g (codes "pcrypt") m (omega arith, (refl, (refl, (refl, (refl, (refl, (refl, tt))))))) refl;
+      wraps = wraps ∙ ap (λ v. option_map_or wrap_of (template_named v) wrap.Plain) e;
       fits = over_fits (codes "pcrypt") s m kind (pcrypt_plan (tree_of_make m));
     }
-    by_word m w (inr e) driver kind = record {
+    by_word m w (inr e) driver wraps kind = record {
       tree = over (codes "cryptd") (tree_of_make m);
       spelled = driver ∙ ap (λ v. spelling (over v (tree_of_make m))) e;
       allowed = over_allowed g (codes "cryptd") m (omega arith, (refl, (refl, (refl, (refl, (refl, (refl, tt))))))) refl;
+      wraps = wraps ∙ ap (λ v. option_map_or wrap_of (template_named v) wrap.Plain) e;
       fits = over_fits (codes "cryptd") s m kind (cryptd_plan (tree_of_make m));
     }
 
@@ -131,6 +312,7 @@ known-planned g s known = by_make known.0 known.1
       tree = tree_of_make m;
       spelled = p.driver;
       allowed = make_allowed g m;
+      wraps = only_plain s.wrap p.bare ∙ sym (make_plain m);
       fits = subst (λ k. Fits k (plan_at (tree_of_make m))) (sym p.kind) (make_fits m);
     }
-    by_make m (inr p) = by_word m p.word p.word_is p.driver p.kind
+    by_make m (inr p) = by_word m p.word p.word_is p.driver p.wraps p.kind

@@ -5,7 +5,7 @@ use Rattle.alg_names.specs.Name.{Tree, Args, node, end, arg, list_of}
 use Rattle.alg_names.specs.Built.{nodes, args_from}
 use Rattle.alg_names.specs.Built.{nodes_at, args_from-list_of}
 use Rattle.templates.specs.declared.template_words.Template.{Template}
-use Rattle.templates.specs.declared.template_words.Template.TheVariants.{Cbc, Ctr, Rfc3686, Gcm, GcmBase, Rfc4106, Hmac, Authenc, Pcrypt, Cryptd}
+use Rattle.templates.specs.declared.template_words.Template.TheVariants.{Cbc, Ctr, Rfc3686, Xts, Gcm, GcmBase, Rfc4106, Hmac, Authenc, Pcrypt, Cryptd}
 use Rattle.templates.specs.Nesting.{has_wrapper, any_wrapper, is_nested_well, is_wrapper_word}
 use Rattle.templates.specs.Table.{template_named, children_of, asked, asked_by}
 use Rattle.templates.specs.Resolving.{weight}
@@ -22,6 +22,9 @@ asked_shape Ctr (x ∷ y ∷ xs) names e = absurd cc
 asked_shape Rfc3686 [] names e = absurd cc
 asked_shape Rfc3686 (x ∷ []) names e = inl (let f : names ≡ x ∷ [] = cc in f)
 asked_shape Rfc3686 (x ∷ y ∷ xs) names e = absurd cc
+asked_shape Xts [] names e = absurd cc
+asked_shape Xts (x ∷ []) names e = inl (let f : names ≡ x ∷ [] = cc in f)
+asked_shape Xts (x ∷ y ∷ xs) names e = absurd cc
 asked_shape Gcm [] names e = absurd cc
 asked_shape Gcm (x ∷ []) names e = inr (refl, x, refl, let f : names ≡ node (codes "ctr") (arg x end) ∷ node (codes "ghash") end ∷ [] = cc in f)
 asked_shape Gcm (x ∷ y ∷ xs) names e = absurd cc

@@ -8,11 +8,11 @@ use Rattle.alg_names.specs.Name.{Tree, word_of, args_of}
 use Rattle.templates.specs.declared.template_words.Template.{Template}
 use Rattle.templates.specs.declared.template_words.Template.TheVariants as template
 use Rattle.templates.specs.declared.driver_plans.AesForm.{AesForm}
-use Rattle.templates.specs.declared.driver_plans.AesForm.TheVariants.{AesGeneric}
+use Rattle.templates.specs.declared.driver_plans.AesForm.TheVariants.{AesGeneric, AesTable, AesLanes}
 use Rattle.templates.specs.declared.driver_plans.GhashForm.{GhashForm}
-use Rattle.templates.specs.declared.driver_plans.GhashForm.TheVariants.{GhashGeneric}
+use Rattle.templates.specs.declared.driver_plans.GhashForm.TheVariants.{GhashGeneric, GhashTable}
 use Rattle.templates.specs.declared.driver_plans.Plan.{Plan}
-use Rattle.templates.specs.declared.driver_plans.Plan.TheVariants.{Cbc, Ctr, Rfc3686, Gcm, Rfc4106, Hmac, AuthencCbc, AuthencCtr, AuthencRfc3686}
+use Rattle.templates.specs.declared.driver_plans.Plan.TheVariants.{Cbc, Ctr, Rfc3686, Xts, Gcm, Rfc4106, Hmac, AuthencCbc, AuthencCtr, AuthencRfc3686, AuthencXts}
 use Rattle.templates.specs.Table.{template_named}
 
 -- a word alone
@@ -20,10 +20,10 @@ abbrev pub is_word : List ℕ → Tree → Bool
 is_word word t = if bytes_eq (word_of t) word then length (args_of t) == 0 else false
 
 abbrev pub aes_form : Tree → Option AesForm
-aes_form t = if is_word (codes "aes-generic") t then Some AesGeneric else None
+aes_form t = if is_word (codes "aes-generic") t then Some AesGeneric else (if is_word (codes "aes-table") t then Some AesTable else (if is_word (codes "aes-lanes") t then Some AesLanes else None))
 
 abbrev pub ghash_form : Tree → Option GhashForm
-ghash_form t = if is_word (codes "ghash-generic") t then Some GhashGeneric else None
+ghash_form t = if is_word (codes "ghash-generic") t then Some GhashGeneric else (if is_word (codes "ghash-table") t then Some GhashTable else None)
 
 abbrev pub ctr_over : Option Template → List Tree → Option AesForm
 ctr_over (Some template.Ctr) (x ∷ []) = aes_form x
@@ -58,6 +58,7 @@ abbrev pub cipher_over : Option Template → List Tree → Option Plan
 cipher_over (Some template.Cbc) (x ∷ []) = option_map (λ aes. Cbc aes) (aes_form x)
 cipher_over (Some template.Ctr) (x ∷ []) = option_map (λ aes. Ctr aes) (aes_form x)
 cipher_over (Some template.Rfc3686) (x ∷ []) = option_map (λ aes. Rfc3686 aes) (ctr_form x)
+cipher_over (Some template.Xts) (x ∷ []) = option_map (λ aes. Xts aes) (aes_form x)
 cipher_over _ _ = None
 
 abbrev pub cipher_plan : Tree → Option Plan
@@ -67,6 +68,7 @@ abbrev pub authentic : Bool → Option Plan → Option Plan
 authentic true (Some (Cbc aes)) = Some (AuthencCbc aes)
 authentic true (Some (Ctr aes)) = Some (AuthencCtr aes)
 authentic true (Some (Rfc3686 aes)) = Some (AuthencRfc3686 aes)
+authentic true (Some (Xts aes)) = Some (AuthencXts aes)
 authentic _ _ = None
 
 abbrev pub bare_over : Tree → Option Template → List Tree → Option Plan

@@ -11,9 +11,10 @@ use Rattle.alg_registry.specs.declared.spec.Wrap.{Wrap}
 use Rattle.alg_registry.specs.declared.spec.Wrap.TheVariants as wrap
 use Rattle.alg_registry.specs.declared.spec.Spec.{Spec}
 use Rattle.alg_registry.specs.Made.{Templates}
+use Rattle.alg_registry.specs.Rows.{opened, opening}
 use Rattle.alg_names.specs.Name.{Tree, node, end, arg, word_of, args_of, depth, width, spelling}
 use Rattle.templates.specs.declared.template_words.Template.{Template}
-use Rattle.templates.specs.declared.template_words.Template.TheVariants.{Cbc, Ctr, Rfc3686, Gcm, GcmBase, Rfc4106, Hmac, Authenc, Pcrypt, Cryptd}
+use Rattle.templates.specs.declared.template_words.Template.TheVariants.{Cbc, Ctr, Rfc3686, Xts, Gcm, GcmBase, Rfc4106, Hmac, Authenc, Pcrypt, Cryptd}
 use Rattle.templates.specs.declared.build_errors.BuildErr.{BuildErr}
 use Rattle.templates.specs.declared.build_errors.BuildErr.TheVariants.{Fault, Memory}
 use Rattle.alg_names.specs.Spelled.{tree_of}
@@ -25,19 +26,21 @@ template_named word =
     if bytes_eq word (codes "cbc") then Some Cbc else
     (if bytes_eq word (codes "ctr") then Some Ctr else
     (if bytes_eq word (codes "rfc3686") then Some Rfc3686 else
+    (if bytes_eq word (codes "xts") then Some Xts else
     (if bytes_eq word (codes "gcm") then Some Gcm else
     (if bytes_eq word (codes "gcm_base") then Some GcmBase else
     (if bytes_eq word (codes "rfc4106") then Some Rfc4106 else
     (if bytes_eq word (codes "hmac") then Some Hmac else
     (if bytes_eq word (codes "authenc") then Some Authenc else
     (if bytes_eq word (codes "pcrypt") then Some Pcrypt else
-    (if bytes_eq word (codes "cryptd") then Some Cryptd else None)))))))))
+    (if bytes_eq word (codes "cryptd") then Some Cryptd else None))))))))))
 
 -- the names that the template asks for, over its arguments
 abbrev pub asked : Template → List Tree → Result (List Tree) Errno
 asked Cbc (x ∷ []) = Ok (x ∷ [])
 asked Ctr (x ∷ []) = Ok (x ∷ [])
 asked Rfc3686 (x ∷ []) = Ok (x ∷ [])
+asked Xts (x ∷ []) = Ok (x ∷ [])
 asked Gcm (x ∷ []) = Ok (node (codes "ctr") (arg x end) ∷ node (codes "ghash") end ∷ [])
 asked GcmBase (c ∷ g ∷ []) = Ok (c ∷ g ∷ [])
 asked Rfc4106 (x ∷ []) = Ok (x ∷ [])
@@ -91,6 +94,7 @@ abbrev pub admits : Template → Spec → Bool
 admits Cbc x = is_cipher x.kind
 admits Ctr x = is_cipher x.kind
 admits Rfc3686 x = begins_with x.name (codes "ctr(")
+admits Xts x = is_cipher x.kind
 admits Rfc4106 x = begins_with x.name (codes "gcm(") && is_bare x.wrap
 admits Hmac x = is_hash x.kind
 admits Pcrypt x = is_aead x.kind
@@ -194,15 +198,26 @@ abbrev pub FaultIs : {A : Type 0} → BuildErr → Result A Errno → Type 0
 FaultIs (Fault errno) r = r ≡ Err errno
 FaultIs Memory r = ⊤
 
--- a driver that may be listed
-abbrev pub is_driver_of : List ℕ → List ℕ → Spec → Bool
-is_driver_of name driver spec = bytes_eq spec.name name && bytes_eq spec.driver driver
+-- the drivers that stand on no other entry: those of the start, and those that are listed by a call alone
+abbrev pub drivers : List Spec
+drivers = opening ++ opened (codes "aes") (codes "aes-table") Cipher ∷ opened (codes "aes") (codes "aes-lanes") Cipher ∷ opened (codes "ghash") (codes "ghash-table") Ghash ∷ []
+
+abbrev pub is_same_kind : Kind → Kind → Bool
+is_same_kind Cipher = is_cipher
+is_same_kind Hash = is_hash
+is_same_kind Ghash = is_ghash
+is_same_kind _ = λ kind. false
+
+-- the entry is this driver, with some priority
+abbrev pub is_same_driver : Spec → Spec → Bool
+is_same_driver driver spec = bytes_eq spec.name driver.name && bytes_eq spec.driver driver.driver && is_same_kind driver.kind spec.kind
+
+abbrev pub is_one_of : List Spec → Spec → Bool
+is_one_of [] spec = false
+is_one_of (driver ∷ drivers) spec = is_same_driver driver spec || is_one_of drivers spec
 
 abbrev pub is_built_in : Spec → Bool
-is_built_in spec =
-    (is_driver_of (codes "aes") (codes "aes-generic") spec && is_cipher spec.kind)
-    || (is_driver_of (codes "sha256") (codes "sha256-generic") spec && is_hash spec.kind)
-    || (is_driver_of (codes "ghash") (codes "ghash-generic") spec && is_ghash spec.kind)
+is_built_in spec = is_one_of drivers spec
 
 abbrev pub is_allowed : List ℕ → Tree → Bool
 is_allowed text t = not (nat_lt 127 (length text)) && not (nat_lt 8 (depth t)) && not (nat_lt 4 (width t)) && is_nested_well t

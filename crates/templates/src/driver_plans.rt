@@ -10,12 +10,15 @@ use kc_base::Errno;
 #[derive(Clone, Copy, Debug, PartialEq, Eq)]
 pub enum AesForm {
     AesGeneric,
+    AesTable,
+    AesLanes,
 }
 
 /// Which GHASH computes.
 #[derive(Clone, Copy, Debug, PartialEq, Eq)]
 pub enum GhashForm {
     GhashGeneric,
+    GhashTable,
 }
 
 /// What an instance computes.
@@ -24,12 +27,14 @@ pub enum Plan {
     Cbc(AesForm),
     Ctr(AesForm),
     Rfc3686(AesForm),
+    Xts(AesForm),
     Gcm(AesForm, GhashForm),
     Rfc4106(AesForm, GhashForm),
     Hmac,
     AuthencCbc(AesForm),
     AuthencCtr(AesForm),
     AuthencRfc3686(AesForm),
+    AuthencXts(AesForm),
 }
 
 fn is_alone(name: &Name, word: &[u8]) -> bool
@@ -47,6 +52,10 @@ fn aes_of(name: &Name) -> Option<AesForm>
 {
     if is_alone(name, b"aes-generic") {
         Some(AesForm::AesGeneric)
+    } else if is_alone(name, b"aes-table") {
+        Some(AesForm::AesTable)
+    } else if is_alone(name, b"aes-lanes") {
+        Some(AesForm::AesLanes)
     } else {
         None
     }
@@ -57,6 +66,8 @@ fn ghash_of(name: &Name) -> Option<GhashForm>
 {
     if is_alone(name, b"ghash-generic") {
         Some(GhashForm::GhashGeneric)
+    } else if is_alone(name, b"ghash-table") {
+        Some(GhashForm::GhashTable)
     } else {
         None
     }
@@ -119,6 +130,10 @@ fn cipher_of(name: &Name) -> Option<Plan>
             Some(aes) => Some(Plan::Rfc3686(aes)),
             None => None,
         },
+        (Some(Template::Xts), [only]) => match aes_of(only) {
+            Some(aes) => Some(Plan::Xts(aes)),
+            None => None,
+        },
         _ => None,
     }
 }
@@ -133,6 +148,7 @@ fn authenticate(mac: bool, plan: Option<Plan>) -> Option<Plan>
         Some(Plan::Cbc(aes)) => Some(Plan::AuthencCbc(aes)),
         Some(Plan::Ctr(aes)) => Some(Plan::AuthencCtr(aes)),
         Some(Plan::Rfc3686(aes)) => Some(Plan::AuthencRfc3686(aes)),
+        Some(Plan::Xts(aes)) => Some(Plan::AuthencXts(aes)),
         _ => None,
     }
 }

@@ -58,7 +58,7 @@ fn is_admitted(template: Template, child: &Spec) -> bool
     ensures { result ≡ admits template child.now }
 {
     match template {
-        Template::Cbc | Template::Ctr => matches!(child.kind, Kind::Cipher),
+        Template::Cbc | Template::Ctr | Template::Xts => matches!(child.kind, Kind::Cipher),
         Template::Rfc3686 => starts_with(child.name.as_slice(), b"ctr("),
         Template::Rfc4106 => {
             starts_with(child.name.as_slice(), b"gcm(") && matches!(child.wrap, Wrap::Plain)

@@ -19,7 +19,8 @@ pub fn faithful_ends()
     ensures failed { ¬ Made table (cbc_with (EndAnswer.Failed ENOENT)) }
 {}
 
-/// Whatever was listed or built: its driver is a name within the limits, and the plan of that name is one of its kind.
+/// Whatever was listed or built: its driver is a name within the limits, whose root says how it is wrapped, and the plan
+/// of that name is one of its kind.
 pub fn planned_drivers()
     ensures { (h : List RegEntry) → LegalReg h → Made table h → All IsPlanned (registered h) }
 {

@@ -8,6 +8,7 @@ pub enum Template {
     Cbc,
     Ctr,
     Rfc3686,
+    Xts,
     Gcm,
     GcmBase,
     Rfc4106,
@@ -28,6 +29,8 @@ pub(crate) fn template_of(word: &[u8]) -> Option<Template>
         Some(Template::Ctr)
     } else if word == b"rfc3686".as_slice() {
         Some(Template::Rfc3686)
+    } else if word == b"xts".as_slice() {
+        Some(Template::Xts)
     } else if word == b"gcm".as_slice() {
         Some(Template::Gcm)
     } else if word == b"gcm_base".as_slice() {

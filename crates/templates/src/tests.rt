@@ -398,6 +398,7 @@ fn plans_of_drivers(rt: HostRuntime) -> Result<(), Fail> {
             b"rfc3686(ctr(aes-generic))".as_slice(),
             Ok(Plan::Rfc3686(aes)),
         ),
+        (b"cryptd(xts(aes-generic))".as_slice(), Ok(Plan::Xts(aes))),
         (
             b"pcrypt(gcm_base(ctr(aes-generic),ghash-generic))".as_slice(),
             Ok(Plan::Gcm(aes, ghash)),
@@ -418,6 +419,10 @@ fn plans_of_drivers(rt: HostRuntime) -> Result<(), Fail> {
         (
             b"authenc(hmac(sha256-generic),rfc3686(ctr(aes-generic)))".as_slice(),
             Ok(Plan::AuthencRfc3686(aes)),
+        ),
+        (
+            b"authenc(hmac(sha256-generic),xts(aes-generic))".as_slice(),
+            Ok(Plan::AuthencXts(aes)),
         ),
         (b"aes-generic".as_slice(), Err(Errno::EINVAL)),
         (b"ghash-generic".as_slice(), Err(Errno::EINVAL)),
@@ -475,35 +480,5 @@ fn builds_children_first(rt: HostRuntime) -> Result<(), Fail> {
         driver,
         Some(b"gcm_base(ctr(aes-generic),ghash-generic)".as_slice())
     );
-    Ok(())
-}
-
-/// What is known of every name.
-fn learn_name(name: &Name)
-    ensures { IsKnown name.now }
-{
-    let _ = name.word();
-    computed_tree();
-}
-
-/// What a caller gets that builds alone.
-fn resolved_alone(alloc: Global, registry: &mut Registry, name: &Name) -> Result<u64, BuildErr>
-    requires made { Made table registry.old }
-    requires none { NonePending registry.old }
-    requires nested { is_nested_well name.now ≡ true }
-{
-    learn_name(name);
-    resolve_alone(alloc, registry, 0, name, false)
-}
-
-#[test]
-fn one_caller_builds_alone(rt: HostRuntime) -> Result<(), Fail> {
-    let mut registry = Registry::new(rt.alloc())?;
-    let name = parse_name(rt.alloc(), b"rfc3686(ctr(aes))")?;
-    let nested = nesting(&name);
-    assert_eq!(rt; nested, Ok(()));
-    if nested.is_ok() {
-        assert_eq!(rt; resolved_alone(rt.alloc(), &mut registry, &name)?, 4);
-    }
     Ok(())
 }

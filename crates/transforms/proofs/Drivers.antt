@@ -11,11 +11,11 @@ use Rattle.templates.proofs.Words.{named_word}
 use Rattle.templates.specs.declared.template_words.Template.{Template}
 use Rattle.templates.specs.declared.template_words.Template.TheVariants as template
 use Rattle.templates.specs.declared.driver_plans.AesForm.{AesForm}
-use Rattle.templates.specs.declared.driver_plans.AesForm.TheVariants.{AesGeneric}
+use Rattle.templates.specs.declared.driver_plans.AesForm.TheVariants.{AesGeneric, AesTable, AesLanes}
 use Rattle.templates.specs.declared.driver_plans.GhashForm.{GhashForm}
-use Rattle.templates.specs.declared.driver_plans.GhashForm.TheVariants.{GhashGeneric}
+use Rattle.templates.specs.declared.driver_plans.GhashForm.TheVariants.{GhashGeneric, GhashTable}
 use Rattle.templates.specs.declared.driver_plans.Plan.{Plan}
-use Rattle.templates.specs.declared.driver_plans.Plan.TheVariants.{Cbc, Ctr, Rfc3686, Gcm, Rfc4106, Hmac, AuthencCbc, AuthencCtr, AuthencRfc3686}
+use Rattle.templates.specs.declared.driver_plans.Plan.TheVariants.{Cbc, Ctr, Rfc3686, Xts, Gcm, Rfc4106, Hmac, AuthencCbc, AuthencCtr, AuthencRfc3686, AuthencXts}
 use Rattle.templates.specs.Plans.{is_word, aes_form, ghash_form, ctr_over, ctr_form, gcm_of, gcm_over, gcm_plan, salted, hmac_over, is_hmac, cipher_over, cipher_plan, authentic, bare_over, bare_plan, plan_over, plan_at}
 use Rattle.transforms.specs.Drivers.{over, over_two, aes_driver, ghash_driver, ctr_driver, gcm_driver, hmac_driver, driver_of, unwrapped_over, unwrapped}
 
@@ -48,18 +48,21 @@ two_of : (w word : List ℕ) (x y u v : Tree) → w ≡ word → x ≡ u → y �
 two_of w word x y u v e f g = ap₂ node e (ap₂ (λ r s. arg r (arg s end)) f g)
 
 aes_is : (t : Tree) (a : AesForm) → aes_form t ≡ Some a → t ≡ aes_driver a
-aes_is t a e = by_test (is_word (codes "aes-generic") t) refl e
+aes_is t x e = by_tests (is_word (codes "aes-generic") t) (is_word (codes "aes-table") t) (is_word (codes "aes-lanes") t) refl refl refl e
   where
-    by_test : (b : Bool) → is_word (codes "aes-generic") t ≡ b → (if b then Some AesGeneric else None) ≡ Some a → t ≡ aes_driver a
-    by_test true w f = alone (codes "aes-generic") t w ∙ ap aes_driver (same_some f)
-    by_test false w f = absurd cc
+    by_tests : (b0 b1 b2 : Bool) → is_word (codes "aes-generic") t ≡ b0 → is_word (codes "aes-table") t ≡ b1 → is_word (codes "aes-lanes") t ≡ b2 → (if b0 then Some AesGeneric else (if b1 then Some AesTable else (if b2 then Some AesLanes else None))) ≡ Some x → t ≡ aes_driver x
+    by_tests true b1 b2 e0 e1 e2 f = alone (codes "aes-generic") t e0 ∙ ap aes_driver (same_some f)
+    by_tests false true b2 e0 e1 e2 f = alone (codes "aes-table") t e1 ∙ ap aes_driver (same_some f)
+    by_tests false false true e0 e1 e2 f = alone (codes "aes-lanes") t e2 ∙ ap aes_driver (same_some f)
+    by_tests false false false e0 e1 e2 f = absurd cc
 
 ghash_is : (t : Tree) (g : GhashForm) → ghash_form t ≡ Some g → t ≡ ghash_driver g
-ghash_is t g e = by_test (is_word (codes "ghash-generic") t) refl e
+ghash_is t x e = by_tests (is_word (codes "ghash-generic") t) (is_word (codes "ghash-table") t) refl refl e
   where
-    by_test : (b : Bool) → is_word (codes "ghash-generic") t ≡ b → (if b then Some GhashGeneric else None) ≡ Some g → t ≡ ghash_driver g
-    by_test true w f = alone (codes "ghash-generic") t w ∙ ap ghash_driver (same_some f)
-    by_test false w f = absurd cc
+    by_tests : (b0 b1 : Bool) → is_word (codes "ghash-generic") t ≡ b0 → is_word (codes "ghash-table") t ≡ b1 → (if b0 then Some GhashGeneric else (if b1 then Some GhashTable else None)) ≡ Some x → t ≡ ghash_driver x
+    by_tests true b1 e0 e1 f = alone (codes "ghash-generic") t e0 ∙ ap ghash_driver (same_some f)
+    by_tests false true e0 e1 f = alone (codes "ghash-table") t e1 ∙ ap ghash_driver (same_some f)
+    by_tests false false e0 e1 f = absurd cc
 
 ctr_is : (t : Tree) (a : AesForm) → ctr_form t ≡ Some a → t ≡ ctr_driver a
 ctr_is (node w ts) a e = by_shape (template_named w) ts refl e
@@ -101,6 +104,9 @@ cipher_is (node w ts) p e = by_shape (template_named w) ts refl e
     by_shape (Some template.Rfc3686) (arg x end) n f =
         let m = mapped (λ aes. Rfc3686 aes) (ctr_form x) p f in
         one_of w (codes "rfc3686") x (ctr_driver m.0) (named_word w template.Rfc3686 n) (ctr_is x m.0 m.1) ∙ ap driver_of m.2
+    by_shape (Some template.Xts) (arg x end) n f =
+        let m = mapped (λ aes. Xts aes) (aes_form x) p f in
+        one_of w (codes "xts") x (aes_driver m.0) (named_word w template.Xts n) (aes_is x m.0 m.1) ∙ ap driver_of m.2
     by_shape o us n f = absurd cc
 
 -- ---- the whole
@@ -117,6 +123,8 @@ authentic_is a e true (Some (Ctr aes)) p w is m c f =
     two_of w (codes "authenc") a e hmac_driver (driver_of (Ctr aes)) is (hmac_is a m) (cipher_is e (Ctr aes) c) ∙ ap driver_of (same_some f)
 authentic_is a e true (Some (Rfc3686 aes)) p w is m c f =
     two_of w (codes "authenc") a e hmac_driver (driver_of (Rfc3686 aes)) is (hmac_is a m) (cipher_is e (Rfc3686 aes) c) ∙ ap driver_of (same_some f)
+authentic_is a e true (Some (Xts aes)) p w is m c f =
+    two_of w (codes "authenc") a e hmac_driver (driver_of (Xts aes)) is (hmac_is a m) (cipher_is e (Xts aes) c) ∙ ap driver_of (same_some f)
 authentic_is a e b o p w is m c f = absurd cc
 
 hmac_bare : (t : Tree) (b : Bool) (p : Plan) → is_hmac t ≡ b → (if b then Some Hmac else None) ≡ Some p → t ≡ driver_of p
@@ -144,11 +152,39 @@ driver_is (node w ts) p e = by_shape (template_named w) ts e
 pub plan_of_driver : (p : Plan) → plan_at (driver_of p) ≡ Some p
 unfolding template_named
 plan_of_driver (Cbc AesGeneric) = refl
+plan_of_driver (Cbc AesTable) = refl
+plan_of_driver (Cbc AesLanes) = refl
 plan_of_driver (Ctr AesGeneric) = refl
+plan_of_driver (Ctr AesTable) = refl
+plan_of_driver (Ctr AesLanes) = refl
 plan_of_driver (Rfc3686 AesGeneric) = refl
+plan_of_driver (Rfc3686 AesTable) = refl
+plan_of_driver (Rfc3686 AesLanes) = refl
+plan_of_driver (Xts AesGeneric) = refl
+plan_of_driver (Xts AesTable) = refl
+plan_of_driver (Xts AesLanes) = refl
 plan_of_driver (Gcm AesGeneric GhashGeneric) = refl
+plan_of_driver (Gcm AesGeneric GhashTable) = refl
+plan_of_driver (Gcm AesTable GhashGeneric) = refl
+plan_of_driver (Gcm AesTable GhashTable) = refl
+plan_of_driver (Gcm AesLanes GhashGeneric) = refl
+plan_of_driver (Gcm AesLanes GhashTable) = refl
 plan_of_driver (Rfc4106 AesGeneric GhashGeneric) = refl
+plan_of_driver (Rfc4106 AesGeneric GhashTable) = refl
+plan_of_driver (Rfc4106 AesTable GhashGeneric) = refl
+plan_of_driver (Rfc4106 AesTable GhashTable) = refl
+plan_of_driver (Rfc4106 AesLanes GhashGeneric) = refl
+plan_of_driver (Rfc4106 AesLanes GhashTable) = refl
 plan_of_driver Hmac = refl
 plan_of_driver (AuthencCbc AesGeneric) = refl
+plan_of_driver (AuthencCbc AesTable) = refl
+plan_of_driver (AuthencCbc AesLanes) = refl
 plan_of_driver (AuthencCtr AesGeneric) = refl
+plan_of_driver (AuthencCtr AesTable) = refl
+plan_of_driver (AuthencCtr AesLanes) = refl
 plan_of_driver (AuthencRfc3686 AesGeneric) = refl
+plan_of_driver (AuthencRfc3686 AesTable) = refl
+plan_of_driver (AuthencRfc3686 AesLanes) = refl
+plan_of_driver (AuthencXts AesGeneric) = refl
+plan_of_driver (AuthencXts AesTable) = refl
+plan_of_driver (AuthencXts AesLanes) = refl

@@ -1,49 +1,68 @@
--- a mode under its key
-use Rattle.std.proofs.Common.{nat_le, ◌&&◌, ◌≡◌, ℕ, ◌-◌, ◌≤◌, List, refl, ap, ap₂, sym, true, arith, ⊎_elim, Option, Some}
+-- a mode without a tag under its key
+use Rattle.std.proofs.Common.{nat_le, ◌≡◌, ℕ, ◌-◌, ◌≤◌, List, length, refl, ap, ap₂, ◌∙◌, true, arith, ⊎_elim, Option, Some}
 use Rattle.std.proofs.lemmas.Bool.Decides.{nat_tests}
+use Rattle.std.proofs.lemmas.List.{length-take-le}
 use Rattle.std_defs.specs.Aes.{seal, unseal, IsKeyLength}
 use Rattle.std_defs.specs.Modes.{cbc_seal, cbc_unseal, ctr as ctr_of, rfc3686_counter}
-use Rattle.transforms.specs.Mode.CipherMode.{cbc, ctr, rfc3686}
-use Rattle.transforms.specs.Meaning.{sealed_by, unsealed_by, front_key, last_four}
-use Rattle.transforms.specs.Takes.{is_key_length, takes_key}
-use Rattle.transforms.specs.Forms.{key_of, form_of}
+use Rattle.std_defs.specs.Xts.{xts_seal, xts_unseal}
+use Rattle.templates.specs.Table.{template_named}
 use Rattle.templates.specs.declared.driver_plans.AesForm.{AesForm}
-use Rattle.transforms.specs.Ciphers.{IsUnder}
+use Rattle.templates.specs.declared.driver_plans.Plan.TheVariants as plan
+use Rattle.transforms.specs.Plans.{is_key_length, is_salted_length, front_key, last_four, first_half, second_half}
+use Rattle.transforms.specs.Forms.{key_of, form_of}
+use Rattle.transforms.specs.Ciphers.{IsCipher}
+use Rattle.transforms.specs.Modes.{cipher_value}
+use Rattle.transforms.specs.RequestValue.{request_value}
 use Rattle.transforms.specs.declared.any_aes.AnyAes.{AnyAes}
-use Rattle.transforms.specs.declared.any_cipher.AnyCipher.TheVariants.{Cbc, Ctr, Rfc3686}
+use Rattle.transforms.specs.declared.any_cipher.AnyCipher.TheVariants.{Cbc, Ctr, Rfc3686, Xts}
 
 pub is_key_length-true : (n : ℕ) → IsKeyLength n → is_key_length n ≡ true
 is_key_length-true n h = ⊎_elim (λ e. rw e refl) (λ o. ⊎_elim (λ e. rw e refl) (λ e. rw e refl) o) h
 
-pub takes_rfc4106 : (n m : ℕ) → 4 ≤ n → m ≡ n - 4 → IsKeyLength m → (nat_le 4 n && is_key_length (n - 4)) ≡ true
-takes_rfc4106 n m h e k =
-    let t : nat_le 4 n ≡ true = grind (arith, nat_tests) in
-    rw (t, ← e) (is_key_length-true m k)
+pub is_salted_length-true : (key front : List ℕ) → 4 ≤ length key → front ≡ front_key key → IsKeyLength (length front) → is_salted_length (length key) ≡ true
+is_salted_length-true key front h e k =
+    let t : nat_le 4 (length key) ≡ true = grind (arith, nat_tests) in
+    let same : length front ≡ length key - 4 = ap length e ∙ length-take-le (length key - 4) key (omega arith) in
+    rw (t, ← same) (is_key_length-true (length front) k)
 
-pub takes_rfc3686 : (n m : ℕ) → 4 ≤ n → m ≡ n - 4 → IsKeyLength m → takes_key rfc3686 n ≡ true
-takes_rfc3686 n m h e k =
-    let t : nat_le 4 n ≡ true = grind (arith, nat_tests) in
-    rw (t, ← e) (is_key_length-true m k)
+some : List ℕ → Option (List ℕ)
+some x = Some x
 
--- what a mode gives at an IV and a text
-abbrev Gives : Type 0
-Gives = List ℕ → List ℕ → Option (List ℕ)
+some_form : AesForm → Option AesForm
+some_form x = Some x
 
-pub under_cbc : (a : AnyAes) (form : AesForm) (key : List ℕ) → key_of a ≡ key → form_of a ≡ form → IsUnder (Cbc a) cbc form key
-unfolding sealed_by unsealed_by
-under_cbc a form key e f =
-    let sealing : List ℕ → Gives = λ k iv text. cbc_seal (seal k) iv text in
-    let unsealing : List ℕ → Gives = λ k iv text. cbc_unseal (unseal k) iv text in
-    record { form_is = f; key_is = sym e; size = refl; sealing = ap sealing e; unsealing = ap unsealing e }
+pub under_cbc : (a : AnyAes) (form : AesForm) (key : List ℕ) → key_of a ≡ key → form_of a ≡ form → IsCipher (Cbc a) (plan.Cbc form) key
+unfolding some some_form request_value template_named
+under_cbc a form key e f = record {
+  form = ap some_form f;
+  aes_key = ap some e;
+  iv = refl;
+  gives = λ n q. ap (λ k. cipher_value (λ iv text. cbc_seal (seal k) iv text) (λ iv text. cbc_unseal (unseal k) iv text) q) e;
+}
 
-pub under_ctr : (a : AnyAes) (form : AesForm) (key : List ℕ) → key_of a ≡ key → form_of a ≡ form → IsUnder (Ctr a) ctr form key
-unfolding sealed_by unsealed_by
-under_ctr a form key e f =
-    let sealing : List ℕ → Gives = λ k iv text. Some (ctr_of (seal k) iv text) in
-    record { form_is = f; key_is = sym e; size = refl; sealing = ap sealing e; unsealing = ap sealing e }
+pub under_ctr : (a : AnyAes) (form : AesForm) (key : List ℕ) → key_of a ≡ key → form_of a ≡ form → IsCipher (Ctr a) (plan.Ctr form) key
+unfolding some some_form request_value template_named
+under_ctr a form key e f = record {
+  form = ap some_form f;
+  aes_key = ap some e;
+  iv = refl;
+  gives = λ n q. ap (λ k. cipher_value (λ iv text. some (ctr_of (seal k) iv text)) (λ iv text. some (ctr_of (seal k) iv text)) q) e;
+}
 
-pub under_rfc3686 : (a : AnyAes) (form : AesForm) (nonce key : List ℕ) → key_of a ≡ front_key key → form_of a ≡ form → nonce ≡ last_four key → IsUnder (Rfc3686 (a, nonce)) rfc3686 form key
-unfolding sealed_by unsealed_by
-under_rfc3686 a form nonce key e f d =
-    let sealing : List ℕ → List ℕ → Gives = λ k n iv text. Some (ctr_of (seal k) (rfc3686_counter n iv) text) in
-    record { form_is = f; key_is = sym e; size = refl; sealing = ap₂ sealing e d; unsealing = ap₂ sealing e d }
+pub under_rfc3686 : (m : AnyAes × List ℕ) (form : AesForm) (key : List ℕ) → key_of m.0 ≡ front_key key → form_of m.0 ≡ form → m.1 ≡ last_four key → IsCipher (Rfc3686 m) (plan.Rfc3686 form) key
+unfolding some some_form request_value template_named
+under_rfc3686 m form key e f d = record {
+  form = ap some_form f;
+  aes_key = ap some e;
+  iv = refl;
+  gives = λ n q. ap₂ (λ k s. cipher_value (λ iv text. some (ctr_of (seal k) (rfc3686_counter s iv) text)) (λ iv text. some (ctr_of (seal k) (rfc3686_counter s iv) text)) q) e d;
+}
+
+pub under_xts : (m : AnyAes × AnyAes) (form : AesForm) (key : List ℕ) → key_of m.0 ≡ first_half key → key_of m.1 ≡ second_half key → IsCipher (Xts m) (plan.Xts form) key
+unfolding some request_value template_named
+under_xts m form key e f = record {
+  form = refl;
+  aes_key = refl;
+  iv = refl;
+  gives = λ n q. ap₂ (λ k t. cipher_value (λ iv text. xts_seal (seal k) (seal t) iv text) (λ iv text. xts_unseal (unseal k) (seal t) iv text) q) e f;
+}

@@ -1,57 +1,167 @@
 -- a mode with a tag under its key
-use Rattle.std.proofs.Common.{◌≡◌, ℕ, List, length, refl, ap, ap₂, sym, ◌∙◌, true, Some, None, Bool, false, Option}
-use Rattle.std_defs.specs.Hmac.{block_key}
-use Rattle.std_defs.specs.Authenc.{blob}
-use Rattle.std_defs.specs.Value.Value.{invalid}
-use Rattle.transforms.specs.Mode.{CipherMode}
-use Rattle.transforms.specs.Mode.AeadMode.{gcm, rfc4106, authenc}
-use Rattle.transforms.specs.Meaning.{cipher_aes_key, front_key, last_four, Seals, Opens, gcm_seals, gcm_opens, rfc4106_seals, rfc4106_opens, authenc_seals, authenc_opens, by_keys, sealed_by, unsealed_by, aead_seal, aead_open}
-use Rattle.transforms.specs.Takes.{takes_key, aead_takes_key}
-use Rattle.transforms.specs.Forms.{key_of, form_of}
+use Rattle.std.proofs.Common.{◌≡◌, ℕ, Bool, true, false, if◌then◌else◌, List, ◌++◌, refl, ap, ap₂, sym, ◌∙◌, Option, Some, None}
+use Rattle.std.specs.Option.{option_map}
+use Rattle.std_defs.specs.Hmac.{hmac, hmac_under, block_key}
+use Rattle.std_defs.specs.Authenc.{authenc_seal, authenc_open, blob}
+use Rattle.std_defs.specs.Value.{Value, or_invalid}
+use Rattle.std_defs.specs.Value.Value.{bytes, invalid}
+use Rattle.templates.specs.Table.{template_named}
 use Rattle.templates.specs.declared.driver_plans.AesForm.{AesForm}
+use Rattle.templates.specs.declared.driver_plans.GhashForm.{GhashForm}
+use Rattle.templates.specs.declared.driver_plans.Plan.TheVariants as plan
+use Rattle.transforms.specs.Aeads.{IsAead}
 use Rattle.transforms.specs.Ciphers as ciphers
-use Rattle.transforms.specs.Aeads.{IsUnder}
+use Rattle.transforms.specs.Drivers.{driver_of}
+use Rattle.transforms.specs.Forms.{key_of, form_of}
+use Rattle.transforms.specs.Modes.{gcm_seals, gcm_opens, rfc4106_seals, rfc4106_opens, authenc_seals, authenc_opens, cipher_value, aead_value}
+use Rattle.transforms.specs.Plans.{front_key, last_four, by_keys, takes_key, aes_key_in}
+use Rattle.transforms.specs.RequestValue.{Gives, request_value, by_direction, with_mac, under_mac, authenc_gives, cipher_request, ciphertext_in, tag_in}
+use Rattle.transforms.specs.Tagged.{tagged}
+use Rattle.transforms.specs.declared.request.Dir.{Dir}
+use Rattle.transforms.specs.declared.request.Dir.TheVariants.{Enc, Dec, Mac}
+use Rattle.transforms.specs.declared.request.Request.{Request}
 use Rattle.transforms.specs.declared.any_aes.AnyAes.{AnyAes}
 use Rattle.transforms.specs.declared.any_cipher.AnyCipher.{AnyCipher}
-use Rattle.transforms.specs.declared.any_aead.AnyAead.TheVariants.{BitGcm, BitRfc4106, Authenc}
+use Rattle.transforms.specs.declared.any_cipher.CipherMode.{CipherMode}
+use Rattle.transforms.specs.declared.any_cipher.CipherMode.TheVariants as mode
+use Rattle.transforms.specs.declared.any_aead.AnyAead.TheVariants.{BitGcm, NibbleGcm, BitRfc4106, NibbleRfc4106, Authenc}
+use Rattle.transforms.specs.declared.inner.Inner.TheVariants as inner
+use Rattle.transforms.specs.Keys.{IsKeyed}
 
-pub under_bits : (a : AnyAes) (form : AesForm) (key : List ℕ) → key_of a ≡ key → form_of a ≡ form → IsUnder (BitGcm a) gcm form key
-unfolding aead_seal aead_open
-under_bits a form key e f = record { form_is = f; key_is = ap (λ (k : List ℕ). let o : Option (List ℕ) = Some k in o) (sym e); size = refl; tag = refl; takes = λ n. refl; sealing = ap gcm_seals e; opening = ap gcm_opens e }
+some : List ℕ → Option (List ℕ)
+some x = Some x
 
-pub under_bits_salted : (m : AnyAes × List ℕ) (form : AesForm) (key : List ℕ) → key_of m.0 ≡ front_key key → form_of m.0 ≡ form → m.1 ≡ last_four key → IsUnder (BitRfc4106 m) rfc4106 form key
-unfolding aead_seal aead_open
-under_bits_salted m form key e f d = record {
-  form_is = f;
-  key_is = ap (λ (k : List ℕ). let o : Option (List ℕ) = Some k in o) (sym e);
-  size = refl;
-  tag = refl;
-  takes = λ n. refl;
-  sealing = ap₂ rfc4106_seals e d;
-  opening = ap₂ rfc4106_opens e d;
+some_form : AesForm → Option AesForm
+some_form x = Some x
+
+pub under_bits : (a : AnyAes) (form : AesForm) (ghash : GhashForm) (key : List ℕ) → key_of a ≡ key → form_of a ≡ form → IsAead (BitGcm a) (plan.Gcm form ghash) key
+unfolding some some_form request_value template_named
+under_bits a form ghash key e f = record {
+  form = ap some_form f;
+  aes_key = ap some e;
+  iv = refl;
+  tags = λ n. refl;
+  gives = λ n q. ap (λ k. aead_value (gcm_seals k) (gcm_opens k) n q) e;
 }
 
-pub under_authenc : (b mk ck key : List ℕ) (c : AnyCipher) (m : CipherMode) (form : AesForm) → blob key ≡ Some (mk, ck) → b ≡ block_key mk → ciphers.IsUnder c m form ck
-    → IsUnder (Authenc (b, c)) (authenc m) form key
-unfolding aead_seal aead_open
-under_authenc b mk ck key c m form reads is u =
-    let seals : List ℕ → List ℕ → Seals = λ mk' ck'. authenc_seals (block_key mk') (sealed_by m ck') in
-    let no_seals : Seals = λ n iv associated text. invalid in
-    let opens : List ℕ → List ℕ → Opens = λ mk' ck'. authenc_opens (block_key mk') (unsealed_by m ck') in
-    let no_opens : Opens = λ iv associated text tag. invalid in
-    let keys : List ℕ → List ℕ → Option (List ℕ) = λ mk' ck'. Some (cipher_aes_key m ck') in
-    let no_keys : Option (List ℕ) = None in
-    record {
-      form_is = u.form_is;
-      key_is = ap (by_keys keys no_keys) reads ∙ ap (λ (k : List ℕ). let o : Option (List ℕ) = Some k in o) u.key_is;
-      size = u.size;
-      tag = refl;
-      takes = λ n. refl;
-      sealing = ap₂ authenc_seals is u.sealing ∙ sym (ap (by_keys seals no_seals) reads);
-      opening = ap₂ authenc_opens is u.unsealing ∙ sym (ap (by_keys opens no_opens) reads);
-    }
+pub under_nibbles : (a : AnyAes) (form : AesForm) (ghash : GhashForm) (key : List ℕ) → key_of a ≡ key → form_of a ≡ form → IsAead (NibbleGcm a) (plan.Gcm form ghash) key
+unfolding some some_form request_value template_named
+under_nibbles a form ghash key e f = record {
+  form = ap some_form f;
+  aes_key = ap some e;
+  iv = refl;
+  tags = λ n. refl;
+  gives = λ n q. ap (λ k. aead_value (gcm_seals k) (gcm_opens k) n q) e;
+}
 
-pub takes_authenc : (key mk ck : List ℕ) (m : CipherMode) → blob key ≡ Some (mk, ck) → takes_key m (length ck) ≡ true → aead_takes_key (authenc m) key ≡ true
-takes_authenc key mk ck m reads takes =
-    let test : List ℕ → List ℕ → Bool = λ mk' ck'. takes_key m (length ck') in
-    ap (by_keys test false) reads ∙ takes
+-- associated bytes of a wrong length are refused in both directions
+salted : (b : Bool) (d : Dir) (n : ℕ) (s : List ℕ × List ℕ) (o : Value)
+    → elim d [ Enc ↦ or_invalid (option_map (tagged n) (if b then Some s else None)) | Dec ↦ (if b then o else invalid) | Mac ↦ invalid ]
+    ≡ (if b then elim d [ Enc ↦ bytes (tagged n s) | Dec ↦ o | Mac ↦ invalid ] else invalid)
+salted true Enc n s o = refl
+salted true Dec n s o = refl
+salted true Mac n s o = refl
+salted false Enc n s o = refl
+salted false Dec n s o = refl
+salted false Mac n s o = refl
+
+pub under_bits_salted : (m : AnyAes × List ℕ) (form : AesForm) (ghash : GhashForm) (key : List ℕ) → key_of m.0 ≡ front_key key → form_of m.0 ≡ form → m.1 ≡ last_four key → IsAead (BitRfc4106 m) (plan.Rfc4106 form ghash) key
+unfolding some some_form request_value template_named
+under_bits_salted m form ghash key e f d = record {
+  form = ap some_form f;
+  aes_key = ap some e;
+  iv = refl;
+  tags = λ n. refl;
+  gives = λ n q. ap₂ (λ k s. aead_value (rfc4106_seals k s) (rfc4106_opens k s) n q) e d ∙ salted _ q.dir n _ _;
+}
+
+pub under_nibbles_salted : (m : AnyAes × List ℕ) (form : AesForm) (ghash : GhashForm) (key : List ℕ) → key_of m.0 ≡ front_key key → form_of m.0 ≡ form → m.1 ≡ last_four key → IsAead (NibbleRfc4106 m) (plan.Rfc4106 form ghash) key
+unfolding some some_form request_value template_named
+under_nibbles_salted m form ghash key e f d = record {
+  form = ap some_form f;
+  aes_key = ap some e;
+  iv = refl;
+  tags = λ n. refl;
+  gives = λ n q. ap₂ (λ k s. aead_value (rfc4106_seals k s) (rfc4106_opens k s) n q) e d ∙ salted _ q.dir n _ _;
+}
+
+-- what a cipher made, with its MAC behind it
+with_mac_is : (mk aad : List ℕ) (n : ℕ) (made : Option (List ℕ))
+    → or_invalid (option_map (tagged n) (option_map (λ c. (c, hmac_under (block_key mk) (aad ++ c))) made))
+    ≡ with_mac (λ c. hmac mk (aad ++ c)) n (or_invalid made)
+with_mac_is mk aad n (Some c) = refl
+with_mac_is mk aad n None = refl
+
+-- authenc over a cipher that gives what e gives under the cipher's key
+authenc_value : (mk ck key : List ℕ) (seals unseals : List ℕ → List ℕ → Option (List ℕ)) (e : Gives) → blob key ≡ Some (mk, ck)
+    → ((n : ℕ) (q : Request) → cipher_value seals unseals q ≡ e ck n q)
+    → (n : ℕ) (q : Request) → aead_value (authenc_seals (block_key mk) seals) (authenc_opens (block_key mk) unseals) n q ≡ authenc_gives e key n q
+unfolding authenc_seal authenc_open
+authenc_value mk ck key seals unseals e reads is n q = by_direction_of q.dir q.iv q.aad q.text ∙ sym (ap (by_keys (gives q) invalid) reads)
+  where
+    gives : Request → List ℕ → List ℕ → Value
+    gives r mk' ck' =
+        by_direction r
+        (with_mac (λ made. hmac mk' (r.aad ++ made)) n (e ck' 0 (cipher_request r.text r)))
+        (under_mac (hmac mk' (r.aad ++ ciphertext_in n r)) (tag_in n r) (e ck' 0 (cipher_request (ciphertext_in n r) r)))
+
+    at : Dir → List ℕ → List ℕ → List ℕ → Request
+    at d iv aad text = record { dir = d; iv = iv; aad = aad; text = text }
+
+    by_direction_of : (d : Dir) (iv aad text : List ℕ)
+        → aead_value (authenc_seals (block_key mk) seals) (authenc_opens (block_key mk) unseals) n (at d iv aad text) ≡ gives (at d iv aad text) mk ck
+    by_direction_of Enc iv aad text =
+        with_mac_is mk aad n (seals iv text) ∙ ap (with_mac (λ made. hmac mk (aad ++ made)) n) (is 0 (cipher_request text (at Enc iv aad text)))
+    by_direction_of Dec iv aad text =
+        let q' : Request = at Dec iv aad text in
+        ap (under_mac (hmac mk (aad ++ ciphertext_in n q')) (tag_in n q')) (is 0 (cipher_request (ciphertext_in n q') q'))
+    by_direction_of Mac iv aad text = refl
+
+-- the cipher's mode over any form
+pub under_authenc : (mk ck key : List ℕ) (c : AnyCipher) (m : CipherMode) (form : AesForm) → blob key ≡ Some (mk, ck) → ciphers.IsCipher c (ciphers.cipher_plan m form) ck
+    → IsAead (Authenc (block_key mk, c)) (ciphers.authenc_plan m form) key
+unfolding request_value template_named
+under_authenc mk ck key c mode.Cbc form reads u = record {
+  form = u.form;
+  aes_key = u.aes_key ∙ sym (ap (by_keys (λ mk' ck'. aes_key_in (plan.Cbc form) ck') None) reads);
+  iv = u.iv;
+  tags = λ n. refl;
+  gives = authenc_value mk ck key (ciphers.seals_of c) (ciphers.unseals_of c) (request_value (driver_of (plan.Cbc form))) reads u.gives;
+}
+under_authenc mk ck key c mode.Ctr form reads u = record {
+  form = u.form;
+  aes_key = u.aes_key ∙ sym (ap (by_keys (λ mk' ck'. aes_key_in (plan.Ctr form) ck') None) reads);
+  iv = u.iv;
+  tags = λ n. refl;
+  gives = authenc_value mk ck key (ciphers.seals_of c) (ciphers.unseals_of c) (request_value (driver_of (plan.Ctr form))) reads u.gives;
+}
+under_authenc mk ck key c mode.Rfc3686 form reads u = record {
+  form = u.form;
+  aes_key = u.aes_key ∙ sym (ap (by_keys (λ mk' ck'. aes_key_in (plan.Rfc3686 form) ck') None) reads);
+  iv = u.iv;
+  tags = λ n. refl;
+  gives = authenc_value mk ck key (ciphers.seals_of c) (ciphers.unseals_of c) (request_value (driver_of (plan.Rfc3686 form))) reads u.gives;
+}
+under_authenc mk ck key c mode.Xts form reads u = record {
+  form = u.form;
+  aes_key = u.aes_key;
+  iv = u.iv;
+  tags = λ n. refl;
+  gives = authenc_value mk ck key (ciphers.seals_of c) (ciphers.unseals_of c) (request_value (driver_of (plan.Xts form))) reads u.gives;
+}
+
+-- authenc takes the keys whose second part its cipher takes
+takes_authenc : (m : CipherMode) (form : AesForm) (key : List ℕ) → takes_key (ciphers.authenc_plan m form) key ≡ by_keys (λ mk ck. takes_key (ciphers.cipher_plan m form) ck) false (blob key)
+takes_authenc mode.Cbc form key = refl
+takes_authenc mode.Ctr form key = refl
+takes_authenc mode.Rfc3686 form key = refl
+takes_authenc mode.Xts form key = refl
+
+pub takes_by_keys : (m : CipherMode) (form : AesForm) (key mk ck : List ℕ) → blob key ≡ Some (mk, ck) → takes_key (ciphers.cipher_plan m form) ck ≡ true
+    → takes_key (ciphers.authenc_plan m form) key ≡ true
+takes_by_keys m form key mk ck reads takes =
+    takes_authenc m form key ∙ (ap (by_keys (λ mk' ck'. takes_key (ciphers.cipher_plan m form) ck') false) reads ∙ takes)
+
+pub under_hmac : (key : List ℕ) → IsKeyed (inner.Mac (block_key key)) plan.Hmac key
+unfolding request_value template_named
+under_hmac key = record { kind = refl; form = refl; aes_key = refl; iv = refl; tags = λ n. refl; gives = λ n q. refl }

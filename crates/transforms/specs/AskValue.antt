@@ -5,8 +5,7 @@ use Rattle.std_defs.specs.Value.{Value}
 use Rattle.alg_names.specs.Name.{Tree}
 use Rattle.transforms.specs.Drivers.{driver_of}
 use Rattle.transforms.specs.RequestValue.{request_value}
-use Rattle.transforms.specs.Takes.{fits_tag}
-use Rattle.transforms.specs.Plans.{mode_of}
+use Rattle.transforms.specs.Plans.{fits_tag}
 use Rattle.transforms.specs.Asked.{takes, room_of}
 use Rattle.transforms.specs.declared.ask.Ask.{Ask}
 
@@ -18,15 +17,15 @@ abbrev pub ask_value : Ask → Value
 ask_value a = request_value (ask_driver a) (arc_value a.keyed).1 a.authsize a.request
 
 abbrev pub ask_takes : Ask → Bool
-ask_takes a = takes (mode_of (arc_value a.keyed).0) a.authsize a.request
+ask_takes a = takes (arc_value a.keyed).0 a.authsize a.request
 
 abbrev pub ask_room : Ask → List ℕ
-ask_room a = room_of (mode_of (arc_value a.keyed).0) a.authsize a.request
+ask_room a = room_of (arc_value a.keyed).0 a.authsize a.request
 
--- the tag size is one of the transform's mode, and the inputs are short
+-- the tag size is one of the transform's plan, and the inputs are short
 abbrev pub IsFit : Ask → Type 0
-IsFit a = (fits_tag (mode_of (arc_value a.keyed).0) a.authsize ≡ true) × (length a.request.associated < 2 ^ 32) × (length a.request.text < 2 ^ 32)
+IsFit a = (fits_tag (arc_value a.keyed).0 a.authsize ≡ true) × (length a.request.aad < 2 ^ 32) × (length a.request.text < 2 ^ 32)
 
 -- the bytes of IV, associated input and text
 abbrev pub ask_size : Ask → ℕ
-ask_size a = length a.request.iv + length a.request.associated + length a.request.text
+ask_size a = length a.request.iv + length a.request.aad + length a.request.text

@@ -1,14 +1,14 @@
--- the requests that are taken, and the bytes that a job needs room for
+-- The requests that are taken, and the bytes that a job begins with.
 use Rattle.std.specs.Prelude.{ℕ, ◌++◌, ◌==◌, ◌&&◌, nat_le, Bool, false, List, [], length, replicate}
-use Rattle.transforms.specs.Mode.{Mode}
-use Rattle.transforms.specs.Mode.Mode.{skcipher, mac, aead}
-use Rattle.transforms.specs.Takes.{iv_size, aead_iv_size}
+use Rattle.templates.specs.declared.driver_plans.Plan.{Plan}
+use Rattle.transforms.specs.Plans.{PlanKind, kind_of, iv_size}
+use Rattle.transforms.specs.Plans.PlanKind.{skcipher, mac, aead}
 use Rattle.transforms.specs.declared.request.Dir.TheVariants.{Enc, Dec, Mac}
 use Rattle.transforms.specs.declared.request.Request.{Request}
 
 -- an IV of that size, and no associated bytes
 abbrev pub is_plain : ℕ → Request → Bool
-is_plain size q = length q.iv == size && length q.associated == 0
+is_plain size q = length q.iv == size && length q.aad == 0
 
 abbrev pub cipher_takes : ℕ → Request → Bool
 cipher_takes size q = elim q.dir [ Enc ↦ is_plain size q | Dec ↦ is_plain size q | Mac ↦ false ]
@@ -16,7 +16,7 @@ cipher_takes size q = elim q.dir [ Enc ↦ is_plain size q | Dec ↦ is_plain si
 abbrev pub mac_takes : Request → Bool
 mac_takes q = elim q.dir [ Enc ↦ false | Dec ↦ false | Mac ↦ is_plain 0 q ]
 
--- a decryption is at least as long as its tag
+-- a decryption is at least as long as its tag of n bytes
 abbrev pub aead_takes : ℕ → ℕ → Request → Bool
 aead_takes size n q =
     elim q.dir [
@@ -25,17 +25,24 @@ aead_takes size n q =
       | Mac ↦ false
     ]
 
--- a request is taken, for a tag size
-abbrev pub takes : Mode → ℕ → Request → Bool
-takes (skcipher m) n q = cipher_takes (iv_size m) q
-takes mac n q = mac_takes q
-takes (aead m) n q = aead_takes (aead_iv_size m) n q
+-- by the kind of a plan and the size of its IV
+abbrev pub kind_takes : PlanKind → ℕ → ℕ → Request → Bool
+kind_takes skcipher size n q = cipher_takes size q
+kind_takes mac size n q = mac_takes q
+kind_takes aead size n q = aead_takes size n q
 
--- what a job begins with
+-- a request is taken, for a tag size
+abbrev pub takes : Plan → ℕ → Request → Bool
+takes plan n q = kind_takes (kind_of plan) (iv_size plan) n q
+
+-- the text, and behind that of an encryption room for its tag
 abbrev pub aead_room : ℕ → Request → List ℕ
 aead_room n q = elim q.dir [ Enc ↦ q.text ++ replicate n 0 | Dec ↦ q.text | Mac ↦ [] ]
 
-abbrev pub room_of : Mode → ℕ → Request → List ℕ
-room_of (skcipher m) n q = q.text
-room_of mac n q = replicate 32 0
-room_of (aead m) n q = aead_room n q
+abbrev pub kind_room : PlanKind → ℕ → Request → List ℕ
+kind_room skcipher n q = q.text
+kind_room mac n q = replicate 32 0
+kind_room aead n q = aead_room n q
+
+abbrev pub room_of : Plan → ℕ → Request → List ℕ
+room_of plan n q = kind_room (kind_of plan) n q

@@ -5,11 +5,11 @@ use Rattle.templates.specs.Table.{template_named}
 use Rattle.templates.specs.declared.template_words.Template.{Template}
 use Rattle.templates.specs.declared.template_words.Template.TheVariants.{Pcrypt, Cryptd}
 use Rattle.templates.specs.declared.driver_plans.AesForm.{AesForm}
-use Rattle.templates.specs.declared.driver_plans.AesForm.TheVariants.{AesGeneric}
+use Rattle.templates.specs.declared.driver_plans.AesForm.TheVariants.{AesGeneric, AesTable, AesLanes}
 use Rattle.templates.specs.declared.driver_plans.GhashForm.{GhashForm}
-use Rattle.templates.specs.declared.driver_plans.GhashForm.TheVariants.{GhashGeneric}
+use Rattle.templates.specs.declared.driver_plans.GhashForm.TheVariants.{GhashGeneric, GhashTable}
 use Rattle.templates.specs.declared.driver_plans.Plan.{Plan}
-use Rattle.templates.specs.declared.driver_plans.Plan.TheVariants.{Cbc, Ctr, Rfc3686, Gcm, Rfc4106, Hmac, AuthencCbc, AuthencCtr, AuthencRfc3686}
+use Rattle.templates.specs.declared.driver_plans.Plan.TheVariants.{Cbc, Ctr, Rfc3686, Xts, Gcm, Rfc4106, Hmac, AuthencCbc, AuthencCtr, AuthencRfc3686, AuthencXts}
 
 -- `word(x)` and `word(x,y)`
 abbrev pub over : List ℕ → Tree → Tree
@@ -20,9 +20,12 @@ over_two word x y = node word (arg x (arg y end))
 
 abbrev pub aes_driver : AesForm → Tree
 aes_driver AesGeneric = node (codes "aes-generic") end
+aes_driver AesTable = node (codes "aes-table") end
+aes_driver AesLanes = node (codes "aes-lanes") end
 
 abbrev pub ghash_driver : GhashForm → Tree
 ghash_driver GhashGeneric = node (codes "ghash-generic") end
+ghash_driver GhashTable = node (codes "ghash-table") end
 
 abbrev pub ctr_driver : AesForm → Tree
 ctr_driver aes = over (codes "ctr") (aes_driver aes)
@@ -40,12 +43,14 @@ abbrev pub driver_of : Plan → Tree
 driver_of (Cbc aes) = over (codes "cbc") (aes_driver aes)
 driver_of (Ctr aes) = ctr_driver aes
 driver_of (Rfc3686 aes) = over (codes "rfc3686") (ctr_driver aes)
+driver_of (Xts aes) = over (codes "xts") (aes_driver aes)
 driver_of (Gcm aes ghash) = gcm_driver aes ghash
 driver_of (Rfc4106 aes ghash) = over (codes "rfc4106") (gcm_driver aes ghash)
 driver_of Hmac = hmac_driver
 driver_of (AuthencCbc aes) = authenc_driver (over (codes "cbc") (aes_driver aes))
 driver_of (AuthencCtr aes) = authenc_driver (ctr_driver aes)
 driver_of (AuthencRfc3686 aes) = authenc_driver (over (codes "rfc3686") (ctr_driver aes))
+driver_of (AuthencXts aes) = authenc_driver (over (codes "xts") (aes_driver aes))
 
 -- a name without the `pcrypt` or `cryptd` at its root
 abbrev pub unwrapped_over : Tree → Option Template → List Tree → Tree

@@ -7,11 +7,8 @@ pub mod Drivers
 pub mod Finish
 pub mod Forms
 pub mod Keys
-pub mod Kinds
 pub mod Laws
-pub mod Meaning
-pub mod Mode
+pub mod Modes
 pub mod Plans
 pub mod RequestValue
 pub mod Tagged
-pub mod Takes

@@ -2,6 +2,7 @@
 use Rattle.std.specs.Prelude.{ℕ, ◌-◌, Option, Some, if◌then◌else◌, List, [], ◌∷◌, ◌++◌, length, take, drop, bytes_eq}
 use Rattle.std_defs.specs.Aes.{seal, unseal}
 use Rattle.std_defs.specs.Modes.{cbc_seal, cbc_unseal, ctr as ctr_of, rfc3686_counter}
+use Rattle.std_defs.specs.Xts.{xts_seal, xts_unseal}
 use Rattle.std_defs.specs.Gcm.{gcm_seal, gcm_open}
 use Rattle.std_defs.specs.Rfc4106.{rfc4106_takes, rfc4106_iv, rfc4106_associated}
 use Rattle.std_defs.specs.Hmac.{hmac}
@@ -11,8 +12,8 @@ use Rattle.std_defs.specs.Value.Value.{bytes, bad_message, invalid}
 use Rattle.alg_names.specs.Name.{Tree, Args, node, end, arg}
 use Rattle.templates.specs.Table.{template_named}
 use Rattle.templates.specs.declared.template_words.Template.{Template}
-use Rattle.templates.specs.declared.template_words.Template.TheVariants.{Cbc, Ctr, Rfc3686, GcmBase, Rfc4106, Hmac, Authenc, Pcrypt, Cryptd}
-use Rattle.transforms.specs.Meaning.{front_key, last_four, by_keys}
+use Rattle.templates.specs.declared.template_words.Template.TheVariants.{Cbc, Ctr, Rfc3686, Xts, GcmBase, Rfc4106, Hmac, Authenc, Pcrypt, Cryptd}
+use Rattle.transforms.specs.Plans.{front_key, last_four, first_half, second_half, by_keys}
 use Rattle.transforms.specs.Tagged.{tagged}
 use Rattle.transforms.specs.declared.request.Dir.TheVariants.{Enc, Dec, Mac}
 use Rattle.transforms.specs.declared.request.Request.{Request}
@@ -43,21 +44,27 @@ ctr_gives key n q = by_direction q (bytes (ctr_of (seal key) q.iv q.text)) (byte
 abbrev pub rfc3686_gives : Gives → Gives
 rfc3686_gives x key n q = x (front_key key) n (record q { iv = rfc3686_counter (last_four key) q.iv })
 
+-- Key1 and Key2 are the halves of the key, and the IV is the tweak value
+abbrev pub xts_gives : Gives
+xts_gives key n q =
+    by_direction q (or_invalid (xts_seal (seal (first_half key)) (seal (second_half key)) q.iv q.text))
+    (or_invalid (xts_unseal (unseal (first_half key)) (seal (second_half key)) q.iv q.text))
+
 abbrev pub hmac_gives : Gives
 hmac_gives key n q = bytes (hmac key q.text)
 
 -- the ciphertext and the first n bytes of its tag; the plaintext of a ciphertext under such a tag
 abbrev pub gcm_gives : Gives
 gcm_gives key n q =
-    by_direction q (bytes (tagged n (gcm_seal (seal key) q.iv q.associated q.text)))
-    (or_bad_message (gcm_open (seal key) q.iv q.associated (ciphertext_in n q) (tag_in n q)))
+    by_direction q (bytes (tagged n (gcm_seal (seal key) q.iv q.aad q.text)))
+    (or_bad_message (gcm_open (seal key) q.iv q.aad (ciphertext_in n q) (tag_in n q)))
 
 -- x under the key without its last four bytes, at the IV of these and the packet's, and without the packet's IV in the
 -- associated bytes
 abbrev pub rfc4106_gives : Gives → Gives
 rfc4106_gives x key n q =
-    if rfc4106_takes q.associated
-    then x (front_key key) n (record q { iv = rfc4106_iv (last_four key) q.iv; associated = rfc4106_associated q.associated })
+    if rfc4106_takes q.aad
+    then x (front_key key) n (record q { iv = rfc4106_iv (last_four key) q.iv; aad = rfc4106_associated q.aad })
     else invalid
 
 -- bytes, and behind them the first n of their MAC
@@ -72,7 +79,7 @@ under_mac mac tag opened = if bytes_eq (take (length tag) mac) tag then opened e
 
 -- a request to the cipher of an authenc
 abbrev pub cipher_request : List ℕ → Request → Request
-cipher_request text q = record q { associated = []; text = text }
+cipher_request text q = record q { aad = []; text = text }
 
 -- by the two keys of the blob: what e makes of the text, and the MAC of the associated bytes and that; what e makes of a
 -- ciphertext, where its MAC is right
@@ -81,8 +88,8 @@ authenc_gives e key n q =
     by_keys
     (λ mk ck.
     by_direction q
-    (with_mac (λ made. hmac mk (q.associated ++ made)) n (e ck 0 (cipher_request q.text q)))
-    (under_mac (hmac mk (q.associated ++ ciphertext_in n q)) (tag_in n q) (e ck 0 (cipher_request (ciphertext_in n q) q))))
+    (with_mac (λ made. hmac mk (q.aad ++ made)) n (e ck 0 (cipher_request q.text q)))
+    (under_mac (hmac mk (q.aad ++ ciphertext_in n q)) (tag_in n q) (e ck 0 (cipher_request (ciphertext_in n q) q))))
     invalid (blob key)
 
 -- by the word at the root, and what the names in its parentheses give
@@ -92,6 +99,7 @@ gives_over (Some Cryptd) (x ∷ []) = x
 gives_over (Some Cbc) (x ∷ []) = cbc_gives
 gives_over (Some Ctr) (x ∷ []) = ctr_gives
 gives_over (Some Rfc3686) (x ∷ []) = rfc3686_gives x
+gives_over (Some Xts) (x ∷ []) = xts_gives
 gives_over (Some Hmac) (x ∷ []) = hmac_gives
 gives_over (Some GcmBase) (c ∷ g ∷ []) = gcm_gives
 gives_over (Some Rfc4106) (x ∷ []) = rfc4106_gives x

@@ -30,20 +30,20 @@ pub trait Aead {
     fn iv_len(&self) -> usize
         ensures { result ≡ iv_size self.now };
 
-    fn seal(&self, iv: &[u8], associated: &[u8], b: &mut [u8], tag: &mut [u8]) -> Result<(), Errno>
+    fn seal(&self, iv: &[u8], aad: &[u8], b: &mut [u8], tag: &mut [u8]) -> Result<(), Errno>
         requires iv_fits { length iv.now ≡ iv_size self.now }
         requires tag_fits { length tag.old ≤ tag_size self.now }
-        requires associated_short { length associated.now < 2 ^ 32 }
+        requires aad_short { length aad.now < 2 ^ 32 }
         requires text_short { length b.old < 2 ^ 32 }
-        ensures { SealsInto result (seals self.now (length tag.old) iv.now associated.now b.old) b.new tag.new };
+        ensures { SealsInto result (seals self.now (length tag.old) iv.now aad.now b.old) b.new tag.new };
 
-    fn unseal(&self, iv: &[u8], associated: &[u8], b: &mut [u8], tag: &[u8]) -> Result<(), Errno>
+    fn unseal(&self, iv: &[u8], aad: &[u8], b: &mut [u8], tag: &[u8]) -> Result<(), Errno>
         requires iv_fits { length iv.now ≡ iv_size self.now }
         requires tag_fits { length tag.now ≤ tag_size self.now }
         requires tag_taken { IsTrue (takes_tag self.now (length tag.now)) }
-        requires associated_short { length associated.now < 2 ^ 32 }
+        requires aad_short { length aad.now < 2 ^ 32 }
         requires text_short { length b.old < 2 ^ 32 }
-        ensures { Opens result (opens self.now iv.now associated.now b.old tag.now) b.old b.new };
+        ensures { Opens result (opens self.now iv.now aad.now b.old tag.now) b.old b.new };
 }
 
 impl<C: BlockCipher + Drop, H: GhashKey + Drop> Aead for Gcm<C, H> {
@@ -58,33 +58,27 @@ impl<C: BlockCipher + Drop, H: GhashKey + Drop> Aead for Gcm<C, H> {
 
     ghost takes_tag = { λ _ n. gcm_takes_tag n };
 
-    ghost seals = { λ mode n iv associated text. bytes (tagged n (gcm_seal (C.sealed mode) iv associated text)) };
+    ghost seals = { λ mode n iv aad text. bytes (tagged n (gcm_seal (C.sealed mode) iv aad text)) };
 
-    ghost opens = { λ mode iv associated text tag. or_bad_message (gcm_open (C.sealed mode) iv associated text tag) };
+    ghost opens = { λ mode iv aad text tag. or_bad_message (gcm_open (C.sealed mode) iv aad text tag) };
 
     fn iv_len(&self) -> usize {
         12
     }
 
-    fn seal(
-        &self,
-        iv: &[u8],
-        associated: &[u8],
-        b: &mut [u8],
-        tag: &mut [u8],
-    ) -> Result<(), Errno> {
+    fn seal(&self, iv: &[u8], aad: &[u8], b: &mut [u8], tag: &mut [u8]) -> Result<(), Errno> {
         let mut nonce = [0u8; 12];
         nonce.copy_from_slice(iv);
         let mut full = [0u8; 16];
-        Gcm::seal(self, &nonce, associated, b, &mut full);
+        Gcm::seal(self, &nonce, aad, b, &mut full);
         tag.copy_from_slice(&full[..tag.len()]);
         Ok(())
     }
 
-    fn unseal(&self, iv: &[u8], associated: &[u8], b: &mut [u8], tag: &[u8]) -> Result<(), Errno> {
+    fn unseal(&self, iv: &[u8], aad: &[u8], b: &mut [u8], tag: &[u8]) -> Result<(), Errno> {
         let mut nonce = [0u8; 12];
         nonce.copy_from_slice(iv);
-        Gcm::unseal(self, &nonce, associated, b, tag)
+        Gcm::unseal(self, &nonce, aad, b, tag)
     }
 }
 
@@ -100,37 +94,27 @@ impl<C: BlockCipher + Drop, H: GhashKey + Drop> Aead for Rfc4106<C, H> {
 
     ghost takes_tag = { λ _ n. rfc4106_takes_tag n };
 
-    ghost seals = { λ mode n iv associated text. or_invalid (option_map (tagged n) (rfc4106_seal (C.sealed mode.0) mode.1 iv associated text)) };
+    ghost seals = { λ mode n iv aad text. or_invalid (option_map (tagged n) (rfc4106_seal (C.sealed mode.0) mode.1 iv aad text)) };
 
-    ghost opens = { λ mode iv associated text tag. rfc4106_open (C.sealed mode.0) mode.1 iv associated text tag };
+    ghost opens = { λ mode iv aad text tag. rfc4106_open (C.sealed mode.0) mode.1 iv aad text tag };
 
     fn iv_len(&self) -> usize {
         8
     }
 
-    fn seal(
-        &self,
-        iv: &[u8],
-        associated: &[u8],
-        b: &mut [u8],
-        tag: &mut [u8],
-    ) -> Result<(), Errno> {
+    fn seal(&self, iv: &[u8], aad: &[u8], b: &mut [u8], tag: &mut [u8]) -> Result<(), Errno> {
         let mut nonce = [0u8; 8];
         nonce.copy_from_slice(iv);
         let mut full = [0u8; 16];
-        match Rfc4106::seal(self, &nonce, associated, b, &mut full) {
-            Ok(()) => {
-                tag.copy_from_slice(&full[..tag.len()]);
-                Ok(())
-            }
-            Err(e) => Err(e),
-        }
+        Rfc4106::seal(self, &nonce, aad, b, &mut full)?;
+        tag.copy_from_slice(&full[..tag.len()]);
+        Ok(())
     }
 
-    fn unseal(&self, iv: &[u8], associated: &[u8], b: &mut [u8], tag: &[u8]) -> Result<(), Errno> {
+    fn unseal(&self, iv: &[u8], aad: &[u8], b: &mut [u8], tag: &[u8]) -> Result<(), Errno> {
         let mut nonce = [0u8; 8];
         nonce.copy_from_slice(iv);
-        Rfc4106::unseal(self, &nonce, associated, b, tag)
+        Rfc4106::unseal(self, &nonce, aad, b, tag)
     }
 }
 
@@ -139,7 +123,7 @@ impl<S: Skcipher + Drop> Aead for Authenc<S> {
     ghost use Rattle.std_defs.specs.Value.{or_invalid};
     ghost use Rattle.std_defs.specs.Authenc.{authenc_seal, authenc_open};
     ghost use Rattle.transforms.specs.Tagged.{tagged};
-    ghost use Rattle.transforms.specs.Takes.{authenc_takes_tag};
+    ghost use Rattle.transforms.specs.Plans.{authenc_takes_tag};
 
     ghost iv_size = { λ mode. S.iv_size mode.1 };
 
@@ -147,32 +131,22 @@ impl<S: Skcipher + Drop> Aead for Authenc<S> {
 
     ghost takes_tag = { λ _ n. authenc_takes_tag n };
 
-    ghost seals = { λ mode n iv associated text. or_invalid (option_map (tagged n) (authenc_seal mode.0 (S.seals mode.1 iv) associated text)) };
+    ghost seals = { λ mode n iv aad text. or_invalid (option_map (tagged n) (authenc_seal mode.0 (S.seals mode.1 iv) aad text)) };
 
-    ghost opens = { λ mode iv associated text tag. authenc_open mode.0 (S.unseals mode.1 iv) associated text tag };
+    ghost opens = { λ mode iv aad text tag. authenc_open mode.0 (S.unseals mode.1 iv) aad text tag };
 
     fn iv_len(&self) -> usize {
         self.cipher().iv_len()
     }
 
-    fn seal(
-        &self,
-        iv: &[u8],
-        associated: &[u8],
-        b: &mut [u8],
-        tag: &mut [u8],
-    ) -> Result<(), Errno> {
+    fn seal(&self, iv: &[u8], aad: &[u8], b: &mut [u8], tag: &mut [u8]) -> Result<(), Errno> {
         let mut full = [0u8; 32];
-        match Authenc::seal(self, iv, associated, b, &mut full) {
-            Ok(()) => {
-                tag.copy_from_slice(&full[..tag.len()]);
-                Ok(())
-            }
-            Err(e) => Err(e),
-        }
+        Authenc::seal(self, iv, aad, b, &mut full)?;
+        tag.copy_from_slice(&full[..tag.len()]);
+        Ok(())
     }
 
-    fn unseal(&self, iv: &[u8], associated: &[u8], b: &mut [u8], tag: &[u8]) -> Result<(), Errno> {
-        Authenc::unseal(self, iv, associated, b, tag)
+    fn unseal(&self, iv: &[u8], aad: &[u8], b: &mut [u8], tag: &[u8]) -> Result<(), Errno> {
+        Authenc::unseal(self, iv, aad, b, tag)
     }
 }

@@ -1,17 +1,16 @@
 //! The modes with a tag, in each of their forms.
 
-ghost use Rattle.std.specs.Prelude.{◌≡◌, length, true, false, MatchResult};
-ghost use Rattle.transforms.specs.Takes.{aead_takes_key};
-ghost use Rattle.transforms.specs.Kinds.{cipher_mode};
-ghost use Rattle.transforms.specs.Mode.AeadMode.{gcm, rfc4106, authenc};
+ghost use Rattle.std.specs.Prelude.{◌≡◌, true, false, MatchOption, MatchResult, Some, None};
+ghost use Rattle.templates.specs.declared.driver_plans.Plan.TheVariants as plan;
+ghost use Rattle.transforms.specs.Plans.{takes_key};
+ghost use Rattle.transforms.specs.Ciphers.{authenc_plan};
 
 use crate::aead::Aead;
 use crate::any_aes::AnyAes;
-use crate::any_cipher::AnyCipher;
-use crate::plan_kinds::{AeadKind, CipherKind};
+use crate::any_cipher::{AnyCipher, CipherMode, split_salted};
 use authenc::{Authenc, read_blob};
 use gcm_mode::{Gcm, Rfc4106};
-use ghash_field::BitGhash;
+use ghash_field::{BitGhash, NibbleGhash};
 use hmac_sha::Mac;
 use kc_base::Errno;
 use templates::{AesForm, GhashForm};
@@ -20,7 +19,9 @@ use templates::{AesForm, GhashForm};
 #[derive(Drop)]
 pub enum AnyAead {
     BitGcm(Gcm<AnyAes, BitGhash>),
+    NibbleGcm(Gcm<AnyAes, NibbleGhash>),
     BitRfc4106(Rfc4106<AnyAes, BitGhash>),
+    NibbleRfc4106(Rfc4106<AnyAes, NibbleGhash>),
     Authenc(Authenc<AnyCipher>),
 }
 
@@ -40,98 +41,85 @@ impl Aead for AnyAead {
     fn iv_len(&self) -> usize {
         match self {
             AnyAead::BitGcm(mode) => mode.iv_len(),
+            AnyAead::NibbleGcm(mode) => mode.iv_len(),
             AnyAead::BitRfc4106(mode) => mode.iv_len(),
+            AnyAead::NibbleRfc4106(mode) => mode.iv_len(),
             AnyAead::Authenc(mode) => mode.iv_len(),
         }
     }
 
-    fn seal(
-        &self,
-        iv: &[u8],
-        associated: &[u8],
-        b: &mut [u8],
-        tag: &mut [u8],
-    ) -> Result<(), Errno> {
+    fn seal(&self, iv: &[u8], aad: &[u8], b: &mut [u8], tag: &mut [u8]) -> Result<(), Errno> {
         match self {
-            AnyAead::BitGcm(mode) => Aead::seal(mode, iv, associated, b, tag),
-            AnyAead::BitRfc4106(mode) => Aead::seal(mode, iv, associated, b, tag),
-            AnyAead::Authenc(mode) => Aead::seal(mode, iv, associated, b, tag),
+            AnyAead::BitGcm(mode) => Aead::seal(mode, iv, aad, b, tag),
+            AnyAead::NibbleGcm(mode) => Aead::seal(mode, iv, aad, b, tag),
+            AnyAead::BitRfc4106(mode) => Aead::seal(mode, iv, aad, b, tag),
+            AnyAead::NibbleRfc4106(mode) => Aead::seal(mode, iv, aad, b, tag),
+            AnyAead::Authenc(mode) => Aead::seal(mode, iv, aad, b, tag),
         }
     }
 
-    fn unseal(&self, iv: &[u8], associated: &[u8], b: &mut [u8], tag: &[u8]) -> Result<(), Errno> {
+    fn unseal(&self, iv: &[u8], aad: &[u8], b: &mut [u8], tag: &[u8]) -> Result<(), Errno> {
         match self {
-            AnyAead::BitGcm(mode) => Aead::unseal(mode, iv, associated, b, tag),
-            AnyAead::BitRfc4106(mode) => Aead::unseal(mode, iv, associated, b, tag),
-            AnyAead::Authenc(mode) => Aead::unseal(mode, iv, associated, b, tag),
+            AnyAead::BitGcm(mode) => Aead::unseal(mode, iv, aad, b, tag),
+            AnyAead::NibbleGcm(mode) => Aead::unseal(mode, iv, aad, b, tag),
+            AnyAead::BitRfc4106(mode) => Aead::unseal(mode, iv, aad, b, tag),
+            AnyAead::NibbleRfc4106(mode) => Aead::unseal(mode, iv, aad, b, tag),
+            AnyAead::Authenc(mode) => Aead::unseal(mode, iv, aad, b, tag),
         }
     }
 }
 
 impl AnyAead {
-    ghost use Rattle.transforms.specs.Kinds.{aead_mode, aead_form};
-    ghost use Rattle.transforms.specs.Aeads.{IsUnder, aes_of};
+    ghost use Rattle.transforms.specs.Aeads.{IsAead, aes_of};
 
-    /// The cipher under the mode.
-    pub fn aes(&self) -> &AnyAes
-        ensures { result.now ≡ aes_of self.now }
+    /// The cipher under the mode, or none where it has two.
+    pub fn aes(&self) -> Option<&AnyAes>
+        ensures { MatchOption result (aes_of self.now ≡ None) (λ a. aes_of self.now ≡ Some a.now) }
     {
         match self {
-            AnyAead::BitGcm(mode) => mode.cipher(),
-            AnyAead::BitRfc4106(mode) => mode.cipher(),
+            AnyAead::BitGcm(mode) => Some(mode.cipher()),
+            AnyAead::NibbleGcm(mode) => Some(mode.cipher()),
+            AnyAead::BitRfc4106(mode) => Some(mode.cipher()),
+            AnyAead::NibbleRfc4106(mode) => Some(mode.cipher()),
             AnyAead::Authenc(mode) => mode.cipher().aes(),
         }
     }
 
-    /// `EINVAL` exactly where the mode doesn't take the key.
-    pub fn new(kind: AeadKind, key: &[u8]) -> Result<AnyAead, Errno>
-        ensures { MatchResult result (λ a. (aead_takes_key (aead_mode kind) key.now ≡ true) × IsUnder a (aead_mode kind) (aead_form kind) key.now) (λ e. (e ≡ Errno.EINVAL) × (aead_takes_key (aead_mode kind) key.now ≡ false)) }
+    /// GCM under a key. `EINVAL` exactly where the key hasn't 16, 24 or 32 bytes.
+    pub fn gcm(form: AesForm, ghash: GhashForm, key: &[u8]) -> Result<AnyAead, Errno>
+        ensures { MatchResult result
+            (λ a. (takes_key (plan.Gcm form ghash) key.now ≡ true) × IsAead a (plan.Gcm form ghash) key.now)
+            (λ e. (e ≡ Errno.EINVAL) × (takes_key (plan.Gcm form ghash) key.now ≡ false)) }
     {
-        match kind {
-            AeadKind::Gcm(aes, GhashForm::GhashGeneric) => gcm_of(aes, key),
-            AeadKind::Rfc4106(aes, GhashForm::GhashGeneric) => rfc4106_of(aes, key),
-            AeadKind::Authenc(mode, aes) => authenc_of(mode, aes, key),
+        let aes = AnyAes::new(form, key)?;
+        match ghash {
+            GhashForm::GhashGeneric => Ok(AnyAead::BitGcm(Gcm::new(aes))),
+            GhashForm::GhashTable => Ok(AnyAead::NibbleGcm(Gcm::new(aes))),
         }
     }
-}
 
-ghost use Rattle.transforms.specs.Aeads.{IsUnder};
-
-/// GCM under a key.
-fn gcm_of(aes: AesForm, key: &[u8]) -> Result<AnyAead, Errno>
-    ensures { MatchResult result (λ a. (aead_takes_key gcm key.now ≡ true) × IsUnder a gcm aes key.now) (λ e. (e ≡ Errno.EINVAL) × (aead_takes_key gcm key.now ≡ false)) }
-{
-    match AnyAes::new(aes, key) {
-        Ok(cipher) => Ok(AnyAead::BitGcm(Gcm::new(cipher))),
-        Err(e) => Err(e),
+    /// RFC 4106 under a key, whose last four bytes are the salt. `EINVAL` exactly where the rest hasn't 16, 24 or 32 bytes.
+    pub fn rfc4106(form: AesForm, ghash: GhashForm, key: &[u8]) -> Result<AnyAead, Errno>
+        ensures { MatchResult result
+            (λ a. (takes_key (plan.Rfc4106 form ghash) key.now ≡ true) × IsAead a (plan.Rfc4106 form ghash) key.now)
+            (λ e. (e ≡ Errno.EINVAL) × (takes_key (plan.Rfc4106 form ghash) key.now ≡ false)) }
+    {
+        let (front, salt) = split_salted(key)?;
+        let aes = AnyAes::new(form, front)?;
+        match ghash {
+            GhashForm::GhashGeneric => Ok(AnyAead::BitRfc4106(Rfc4106::new(Gcm::new(aes), salt))),
+            GhashForm::GhashTable => Ok(AnyAead::NibbleRfc4106(Rfc4106::new(Gcm::new(aes), salt))),
+        }
     }
-}
 
-/// RFC 4106 under a key, whose last four bytes are the salt.
-fn rfc4106_of(aes: AesForm, key: &[u8]) -> Result<AnyAead, Errno>
-    ensures { MatchResult result (λ a. (aead_takes_key rfc4106 key.now ≡ true) × IsUnder a rfc4106 aes key.now) (λ e. (e ≡ Errno.EINVAL) × (aead_takes_key rfc4106 key.now ≡ false)) }
-{
-    if key.len() < 4 {
-        return Err(Errno::EINVAL);
-    }
-    let (front, last) = key.split_at(key.len() - 4);
-    let mut salt = [0u8; 4];
-    salt.copy_from_slice(last);
-    match AnyAes::new(aes, front) {
-        Ok(cipher) => Ok(AnyAead::BitRfc4106(Rfc4106::new(Gcm::new(cipher), salt))),
-        Err(e) => Err(e),
-    }
-}
-
-/// authenc under a key blob.
-fn authenc_of(mode: CipherKind, aes: AesForm, key: &[u8]) -> Result<AnyAead, Errno>
-    ensures { MatchResult result (λ a. (aead_takes_key (authenc (cipher_mode mode)) key.now ≡ true) × IsUnder a (authenc (cipher_mode mode)) aes key.now) (λ e. (e ≡ Errno.EINVAL) × (aead_takes_key (authenc (cipher_mode mode)) key.now ≡ false)) }
-{
-    match read_blob(key) {
-        Ok(keys) => match AnyCipher::new(mode, aes, keys.cipher) {
-            Ok(cipher) => Ok(AnyAead::Authenc(Authenc::new(Mac::new(keys.mac), cipher))),
-            Err(e) => Err(e),
-        },
-        Err(e) => Err(e),
+    /// authenc under a key blob. `EINVAL` exactly where the blob doesn't read, or the mode doesn't take its cipher's key.
+    pub fn authenc(mode: CipherMode, form: AesForm, key: &[u8]) -> Result<AnyAead, Errno>
+        ensures { MatchResult result
+            (λ a. (takes_key (authenc_plan mode form) key.now ≡ true) × IsAead a (authenc_plan mode form) key.now)
+            (λ e. (e ≡ Errno.EINVAL) × (takes_key (authenc_plan mode form) key.now ≡ false)) }
+    {
+        let keys = read_blob(key)?;
+        let cipher = AnyCipher::new(mode, form, keys.cipher)?;
+        Ok(AnyAead::Authenc(Authenc::new(Mac::new(keys.mac), cipher)))
     }
 }

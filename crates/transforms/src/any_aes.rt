@@ -4,13 +4,17 @@ ghost use Rattle.std.specs.Prelude.{◌≡◌, MatchResult, length};
 ghost use Rattle.std_defs.specs.Aes.{IsKeyLength};
 
 use aes_block::{Aes, BlockCipher};
+use aes_lanes::LaneAes;
+use aes_table::TableAes;
 use kc_base::Errno;
 use templates::AesForm;
 
-/// AES under a key, in the form that a plan names. One form stands.
+/// AES under a key, in the form that a plan names.
 #[derive(Drop)]
-pub struct AnyAes {
-    generic: Aes,
+pub enum AnyAes {
+    Generic(Aes),
+    Table(TableAes),
+    Lanes(LaneAes),
 }
 
 impl AnyAes {
@@ -21,10 +25,9 @@ impl AnyAes {
         ensures { MatchResult result (λ a. IsKeyLength (length key.now) × (key_of a ≡ key.now) × (form_of a ≡ form)) (λ e. (e ≡ Errno.EINVAL) × ¬ (IsKeyLength (length key.now))) }
     {
         match form {
-            AesForm::AesGeneric => match Aes::new(key) {
-                Ok(generic) => Ok(AnyAes { generic }),
-                Err(e) => Err(e),
-            },
+            AesForm::AesGeneric => Ok(AnyAes::Generic(Aes::new(key)?)),
+            AesForm::AesTable => Ok(AnyAes::Table(TableAes::new(key)?)),
+            AesForm::AesLanes => Ok(AnyAes::Lanes(LaneAes::new(key)?)),
         }
     }
 }
@@ -41,14 +44,34 @@ impl BlockCipher for AnyAes {
     ghost inverse = { seals_and_unseals_in };
 
     fn seal_block(&self, b: &mut [u8; 16]) {
-        self.generic.seal_block(b);
+        match self {
+            AnyAes::Generic(aes) => aes.seal_block(b),
+            AnyAes::Table(aes) => aes.seal_block(b),
+            AnyAes::Lanes(aes) => aes.seal_block(b),
+        }
     }
 
     fn unseal_block(&self, b: &mut [u8; 16]) {
-        self.generic.unseal_block(b);
+        match self {
+            AnyAes::Generic(aes) => aes.unseal_block(b),
+            AnyAes::Table(aes) => aes.unseal_block(b),
+            AnyAes::Lanes(aes) => aes.unseal_block(b),
+        }
     }
 
     fn seal_eight(&self, b: &mut [[u8; 16]; 8]) {
-        self.generic.seal_eight(b);
+        match self {
+            AnyAes::Generic(aes) => aes.seal_eight(b),
+            AnyAes::Table(aes) => aes.seal_eight(b),
+            AnyAes::Lanes(aes) => aes.seal_eight(b),
+        }
+    }
+
+    fn unseal_eight(&self, b: &mut [[u8; 16]; 8]) {
+        match self {
+            AnyAes::Generic(aes) => aes.unseal_eight(b),
+            AnyAes::Table(aes) => aes.unseal_eight(b),
+            AnyAes::Lanes(aes) => aes.unseal_eight(b),
+        }
     }
 }

@@ -1,18 +1,24 @@
 //! The modes without a tag.
 
-ghost use Rattle.std.specs.Prelude.{◌≡◌, ◌≤◌, ◌+◌, ◌<◌, ℕ, List, length, take, drop, MatchResult, true, false};
-ghost use Rattle.transforms.specs.Mode.{CipherMode};
-ghost use Rattle.transforms.specs.Meaning.{sealed_by, unsealed_by};
-ghost use Rattle.transforms.specs.Takes.{takes_key};
-ghost use Rattle.transforms.specs.Kinds.{cipher_mode};
+ghost use Rattle.std.specs.Prelude.{◌≡◌, ◌≤◌, ◌<◌, length, MatchOption, MatchResult, Some, None, true, false};
+ghost use Rattle.transforms.specs.Plans.{takes_key, front_key, last_four, is_doubled_length, first_half, second_half};
 
 use crate::any_aes::AnyAes;
-use crate::plan_kinds::CipherKind;
 use aes_block::Skcipher;
 use cbc_mode::Cbc;
 use ctr_mode::{Ctr, Rfc3686};
 use kc_base::Errno;
 use templates::AesForm;
+use xts_mode::Xts;
+
+/// A mode without a tag.
+#[derive(Clone, Copy)]
+pub enum CipherMode {
+    Cbc,
+    Ctr,
+    Rfc3686,
+    Xts,
+}
 
 /// A mode without a tag, under a key.
 #[derive(Drop)]
@@ -20,35 +26,58 @@ pub enum AnyCipher {
     Cbc(Cbc<AnyAes>),
     Ctr(Ctr<AnyAes>),
     Rfc3686(Rfc3686<AnyAes>),
+    Xts(Xts<AnyAes>),
+}
+
+/// A key of AES and the four bytes behind it. `EINVAL` where there are fewer than four bytes.
+pub fn split_salted(key: &[u8]) -> Result<(&[u8], [u8; 4]), Errno>
+    ensures { MatchResult result
+        (λ parts. (4 ≤ length key.now) × (parts.0.now ≡ front_key key.now) × (parts.1 ≡ last_four key.now))
+        (λ e. (e ≡ Errno.EINVAL) × (length key.now < 4)) }
+{
+    if key.len() < 4 {
+        return Err(Errno::EINVAL);
+    }
+    let (front, last) = key.split_at(key.len() - 4);
+    let mut four = [0u8; 4];
+    four.copy_from_slice(last);
+    Ok((front, four))
+}
+
+/// The two keys of AES in a key of XTS. `EINVAL` exactly where it hasn't 32 or 64 bytes.
+fn split_halves(key: &[u8]) -> Result<(&[u8], &[u8]), Errno>
+    ensures { MatchResult result
+        (λ parts. (is_doubled_length (length key.now) ≡ true) × (parts.0.now ≡ first_half key.now) × (parts.1.now ≡ second_half key.now))
+        (λ e. (e ≡ Errno.EINVAL) × (is_doubled_length (length key.now) ≡ false)) }
+{
+    if key.len() == 32 || key.len() == 64 {
+        Ok(key.split_at(key.len() / 2))
+    } else {
+        Err(Errno::EINVAL)
+    }
 }
 
 impl AnyCipher {
-    ghost use Rattle.transforms.specs.Ciphers.{aes_of, IsUnder};
+    ghost use Rattle.transforms.specs.Ciphers.{cipher_plan, IsCipher};
 
     /// `EINVAL` exactly where the mode doesn't take a key of that length.
-    pub fn new(kind: CipherKind, form: AesForm, key: &[u8]) -> Result<AnyCipher, Errno>
-        ensures { MatchResult result (λ c. (takes_key (cipher_mode kind) (length key.now) ≡ true) × IsUnder c (cipher_mode kind) form key.now) (λ e. (e ≡ Errno.EINVAL) × (takes_key (cipher_mode kind) (length key.now) ≡ false)) }
+    pub fn new(mode: CipherMode, form: AesForm, key: &[u8]) -> Result<AnyCipher, Errno>
+        ensures { MatchResult result
+            (λ c. (takes_key (cipher_plan mode form) key.now ≡ true) × IsCipher c (cipher_plan mode form) key.now)
+            (λ e. (e ≡ Errno.EINVAL) × (takes_key (cipher_plan mode form) key.now ≡ false)) }
     {
-        match kind {
-            CipherKind::Cbc => match AnyAes::new(form, key) {
-                Ok(aes) => Ok(AnyCipher::Cbc(Cbc::new(aes))),
-                Err(e) => Err(e),
-            },
-            CipherKind::Ctr => match AnyAes::new(form, key) {
-                Ok(aes) => Ok(AnyCipher::Ctr(Ctr::new(aes))),
-                Err(e) => Err(e),
-            },
-            CipherKind::Rfc3686 => {
-                if key.len() < 4 {
-                    return Err(Errno::EINVAL);
-                }
-                let (front, last) = key.split_at(key.len() - 4);
-                let mut nonce = [0u8; 4];
-                nonce.copy_from_slice(last);
-                match AnyAes::new(form, front) {
-                    Ok(aes) => Ok(AnyCipher::Rfc3686(Rfc3686::new(aes, nonce))),
-                    Err(e) => Err(e),
-                }
+        match mode {
+            CipherMode::Cbc => Ok(AnyCipher::Cbc(Cbc::new(AnyAes::new(form, key)?))),
+            CipherMode::Ctr => Ok(AnyCipher::Ctr(Ctr::new(AnyAes::new(form, key)?))),
+            CipherMode::Rfc3686 => {
+                let (front, nonce) = split_salted(key)?;
+                Ok(AnyCipher::Rfc3686(Rfc3686::new(AnyAes::new(form, front)?, nonce)))
+            }
+            CipherMode::Xts => {
+                let (body, tweak) = split_halves(key)?;
+                let body = AnyAes::new(form, body)?;
+                let tweak = AnyAes::new(form, tweak)?;
+                Ok(AnyCipher::Xts(Xts::new(body, tweak)))
             }
         }
     }
@@ -57,14 +86,15 @@ impl AnyCipher {
 impl AnyCipher {
     ghost use Rattle.transforms.specs.Ciphers.{aes_of};
 
-    /// The cipher under the mode.
-    pub fn aes(&self) -> &AnyAes
-        ensures { result.now ≡ aes_of self.now }
+    /// The cipher under the mode, or none where it has two.
+    pub fn aes(&self) -> Option<&AnyAes>
+        ensures { MatchOption result (aes_of self.now ≡ None) (λ a. aes_of self.now ≡ Some a.now) }
     {
         match self {
-            AnyCipher::Cbc(mode) => mode.cipher(),
-            AnyCipher::Ctr(mode) => mode.cipher(),
-            AnyCipher::Rfc3686(mode) => mode.cipher(),
+            AnyCipher::Cbc(mode) => Some(mode.cipher()),
+            AnyCipher::Ctr(mode) => Some(mode.cipher()),
+            AnyCipher::Rfc3686(mode) => Some(mode.cipher()),
+            AnyCipher::Xts(_) => None,
         }
     }
 }
@@ -86,6 +116,7 @@ impl Skcipher for AnyCipher {
             AnyCipher::Cbc(mode) => mode.iv_len(),
             AnyCipher::Ctr(mode) => mode.iv_len(),
             AnyCipher::Rfc3686(mode) => mode.iv_len(),
+            AnyCipher::Xts(mode) => mode.iv_len(),
         }
     }
 
@@ -94,6 +125,7 @@ impl Skcipher for AnyCipher {
             AnyCipher::Cbc(mode) => mode.seal(iv, b),
             AnyCipher::Ctr(mode) => mode.seal(iv, b),
             AnyCipher::Rfc3686(mode) => mode.seal(iv, b),
+            AnyCipher::Xts(mode) => mode.seal(iv, b),
         }
     }
 
@@ -102,6 +134,7 @@ impl Skcipher for AnyCipher {
             AnyCipher::Cbc(mode) => mode.unseal(iv, b),
             AnyCipher::Ctr(mode) => mode.unseal(iv, b),
             AnyCipher::Rfc3686(mode) => mode.unseal(iv, b),
+            AnyCipher::Xts(mode) => mode.unseal(iv, b),
         }
     }
 }

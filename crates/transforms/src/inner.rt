@@ -1,17 +1,15 @@
-//! A mode under a key.
+//! What is kept of a key.
 
 ghost use Rattle.std.specs.Prelude.{◌≡◌, true, false, MatchResult};
-ghost use Rattle.transforms.specs.Takes.{takes_key_of};
-ghost use Rattle.transforms.specs.Kinds.{kind_mode, kind_form};
-ghost use Rattle.transforms.specs.Keys.{IsKeyed};
+ghost use Rattle.transforms.specs.Plans.{takes_key};
 
 use crate::any_aead::AnyAead;
-use crate::any_cipher::AnyCipher;
-use crate::plan_kinds::PlanKind;
+use crate::any_cipher::{AnyCipher, CipherMode};
 use hmac_sha::Mac;
 use kc_base::Errno;
+use templates::{AesForm, Plan};
 
-/// A mode under a key, whose schedule, hash key and padded blocks are made once.
+/// What is kept of a key: schedules, hash keys and padded blocks, each made once.
 #[derive(Drop)]
 pub enum Inner {
     Skcipher(AnyCipher),
@@ -19,21 +17,44 @@ pub enum Inner {
     Aead(AnyAead),
 }
 
-/// The mode of a kind of plan under a key, `EINVAL` exactly where it doesn't take the key.
-pub fn inner_of(kind: PlanKind, key: &[u8]) -> Result<Inner, Errno>
+ghost use Rattle.transforms.specs.Ciphers.{cipher_plan, authenc_plan};
+ghost use Rattle.transforms.specs.Keys.{IsKeyed};
+
+/// What a mode without a tag keeps of a key.
+fn cipher_of(mode: CipherMode, aes: AesForm, key: &[u8]) -> Result<Inner, Errno>
     ensures { MatchResult result
-        (λ inner. (takes_key_of (kind_mode kind) key.now ≡ true) × IsKeyed inner (kind_mode kind) (kind_form kind) key.now)
-        (λ e. (e ≡ Errno.EINVAL) × (takes_key_of (kind_mode kind) key.now ≡ false)) }
+        (λ inner. (takes_key (cipher_plan mode aes) key.now ≡ true) × IsKeyed inner (cipher_plan mode aes) key.now)
+        (λ e. (e ≡ Errno.EINVAL) × (takes_key (cipher_plan mode aes) key.now ≡ false)) }
 {
-    match kind {
-        PlanKind::Cipher(mode, aes) => match AnyCipher::new(mode, aes, key) {
-            Ok(cipher) => Ok(Inner::Skcipher(cipher)),
-            Err(e) => Err(e),
-        },
-        PlanKind::Mac => Ok(Inner::Mac(Mac::new(key))),
-        PlanKind::Aead(mode) => match AnyAead::new(mode, key) {
-            Ok(aead) => Ok(Inner::Aead(aead)),
-            Err(e) => Err(e),
-        },
+    Ok(Inner::Skcipher(AnyCipher::new(mode, aes, key)?))
+}
+
+/// What authenc over a mode keeps of a key.
+fn authenc_of(mode: CipherMode, aes: AesForm, key: &[u8]) -> Result<Inner, Errno>
+    ensures { MatchResult result
+        (λ inner. (takes_key (authenc_plan mode aes) key.now ≡ true) × IsKeyed inner (authenc_plan mode aes) key.now)
+        (λ e. (e ≡ Errno.EINVAL) × (takes_key (authenc_plan mode aes) key.now ≡ false)) }
+{
+    Ok(Inner::Aead(AnyAead::authenc(mode, aes, key)?))
+}
+
+/// What a plan keeps of a key. `EINVAL` exactly where it doesn't take the key.
+pub fn inner_of(plan: &Plan, key: &[u8]) -> Result<Inner, Errno>
+    ensures { MatchResult result
+        (λ inner. (takes_key plan.now key.now ≡ true) × IsKeyed inner plan.now key.now)
+        (λ e. (e ≡ Errno.EINVAL) × (takes_key plan.now key.now ≡ false)) }
+{
+    match *plan {
+        Plan::Cbc(aes) => cipher_of(CipherMode::Cbc, aes, key),
+        Plan::Ctr(aes) => cipher_of(CipherMode::Ctr, aes, key),
+        Plan::Rfc3686(aes) => cipher_of(CipherMode::Rfc3686, aes, key),
+        Plan::Xts(aes) => cipher_of(CipherMode::Xts, aes, key),
+        Plan::Hmac => Ok(Inner::Mac(Mac::new(key))),
+        Plan::Gcm(aes, ghash) => Ok(Inner::Aead(AnyAead::gcm(aes, ghash, key)?)),
+        Plan::Rfc4106(aes, ghash) => Ok(Inner::Aead(AnyAead::rfc4106(aes, ghash, key)?)),
+        Plan::AuthencCbc(aes) => authenc_of(CipherMode::Cbc, aes, key),
+        Plan::AuthencCtr(aes) => authenc_of(CipherMode::Ctr, aes, key),
+        Plan::AuthencRfc3686(aes) => authenc_of(CipherMode::Rfc3686, aes, key),
+        Plan::AuthencXts(aes) => authenc_of(CipherMode::Xts, aes, key),
     }
 }

@@ -43,8 +43,6 @@ pub fn prepare(alloc: Global, ask: Arc<Ask>) -> Result<Job, TfmErr>
     if !ask.keyed.takes(ask.authsize as usize, &ask.request) {
         return Err(TfmErr::Inval);
     }
-    match ask.keyed.room(alloc, ask.authsize as usize, &ask.request) {
-        Ok(buffer) => Ok(Job { ask, buffer }),
-        Err(_) => Err(TfmErr::Memory),
-    }
+    let buffer = ask.keyed.room(alloc, ask.authsize as usize, &ask.request)?;
+    Ok(Job { ask, buffer })
 }

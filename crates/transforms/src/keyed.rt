@@ -1,16 +1,15 @@
 //! A plan under a key.
 
 ghost use Rattle.std.specs.Prelude.{◌≡◌, ◌⊎◌, ◌<◌, ◌^◌, length, true, false, MatchResult, MatchOption, Some, None, IfOk};
-ghost use Rattle.transforms.specs.Meaning.{value};
-ghost use Rattle.transforms.specs.Takes.{takes_key_of, fits_tag};
-ghost use Rattle.transforms.specs.Plans.{mode_of, form_in};
+ghost use Rattle.transforms.specs.Drivers.{driver_of};
+ghost use Rattle.transforms.specs.Plans.{takes_key, fits_tag, form_in, aes_key_in};
+ghost use Rattle.transforms.specs.RequestValue.{request_value};
 ghost use Rattle.transforms.specs.Asked.{room_of, takes};
 ghost use Rattle.transforms.specs.Finish.{finished_value};
 
 use crate::aead::Aead;
 use crate::any_aes::AnyAes;
 use crate::inner::{Inner, inner_of};
-use crate::plan_kinds::kind_of;
 use crate::request::{Finished, Request};
 use crate::room::{room_with_tag, zeros};
 use crate::running::{run_aead, run_cipher, run_mac};
@@ -34,56 +33,49 @@ pub struct Keyed {
 impl Model for Keyed {
     ghost use Rattle.std.specs.Prelude.{ℕ, List};
     ghost use Rattle.templates.specs.declared.driver_plans.Plan.{Plan};
-    ghost use Rattle.transforms.specs.Plans.{mode_of, form_in};
     ghost use Rattle.transforms.specs.Keys.{IsKeyed};
 
     ghost Value = { Plan × List ℕ };
 
     ghost view = { λ keyed. (keyed.plan, keyed.key) };
 
-    ghost invariant = { λ keyed. IsKeyed keyed.inner (mode_of keyed.plan) (form_in keyed.plan) keyed.key };
+    ghost invariant = { λ keyed. IsKeyed keyed.inner keyed.plan keyed.key };
 }
 
 impl Keyed {
-    ghost use Rattle.transforms.specs.Meaning.{aes_key_in};
     ghost use Rattle.transforms.specs.Forms.{form_of, key_of};
 
     /// Sets a key: `Inval` exactly where the plan doesn't take it.
     pub fn set(alloc: Global, plan: &Plan, key: &[u8]) -> Result<Keyed, TfmErr>
         ensures { MatchResult result
-            (λ keyed. (keyed ≡ (plan.now, key.now)) × (takes_key_of (mode_of plan.now) key.now ≡ true))
-            (λ e. (e ≡ TfmErr.Memory) ⊎ ((e ≡ TfmErr.Inval) × (takes_key_of (mode_of plan.now) key.now ≡ false))) }
+            (λ keyed. (keyed ≡ (plan.now, key.now)) × (takes_key plan.now key.now ≡ true))
+            (λ e. (e ≡ TfmErr.Memory) ⊎ ((e ≡ TfmErr.Inval) × (takes_key plan.now key.now ≡ false))) }
     {
-        let inner = match inner_of(kind_of(plan), key) {
-            Ok(inner) => inner,
-            Err(_) => return Err(TfmErr::Inval),
-        };
-        match Bytes::copy_of(alloc, key) {
-            Ok(key) => Ok(Keyed {
-                plan: *plan,
-                key,
-                inner,
-            }),
-            Err(_) => Err(TfmErr::Memory),
-        }
+        let inner = inner_of(plan, key)?;
+        let key = Bytes::copy_of(alloc, key)?;
+        Ok(Keyed {
+            plan: *plan,
+            key,
+            inner,
+        })
     }
 
-    /// The cipher that the plan's form of AES keeps, or none where there is no AES.
+    /// The cipher that the plan's form of AES keeps, or none where there is no AES, or are two under XTS.
     pub fn cipher(&self) -> Option<&AnyAes>
         ensures { MatchOption result
-            ((form_in self.now.0 ≡ None) × (aes_key_in (mode_of self.now.0) self.now.1 ≡ None))
-            (λ a. (form_in self.now.0 ≡ Some (form_of a.now)) × (aes_key_in (mode_of self.now.0) self.now.1 ≡ Some (key_of a.now))) }
+            ((form_in self.now.0 ≡ None) × (aes_key_in self.now.0 self.now.1 ≡ None))
+            (λ a. (form_in self.now.0 ≡ Some (form_of a.now)) × (aes_key_in self.now.0 self.now.1 ≡ Some (key_of a.now))) }
     {
         match &self.inner {
-            Inner::Skcipher(cipher) => Some(cipher.aes()),
+            Inner::Skcipher(cipher) => cipher.aes(),
             Inner::Mac(_) => None,
-            Inner::Aead(aead) => Some(aead.aes()),
+            Inner::Aead(aead) => aead.aes(),
         }
     }
 
     /// Whether a request is taken, for a tag size.
     pub(crate) fn takes(&self, authsize: usize, request: &Request) -> bool
-        ensures { result ≡ takes (mode_of self.now.0) authsize request.now }
+        ensures { result ≡ takes self.now.0 authsize request.now }
     {
         match &self.inner {
             Inner::Skcipher(cipher) => takes_plain(request, cipher.iv_len()),
@@ -99,10 +91,10 @@ impl Keyed {
         authsize: usize,
         request: &Request,
     ) -> Result<Vec<u8>, AllocError>
-        requires tag_fits { fits_tag (mode_of self.now.0) authsize ≡ true }
+        requires tag_fits { fits_tag self.now.0 authsize ≡ true }
         requires text_short { length request.now.text < 2 ^ 32 }
-        requires taken { takes (mode_of self.now.0) authsize request.now ≡ true }
-        ensures { IfOk result (λ buffer. buffer.items ≡ room_of (mode_of self.now.0) authsize request.now) }
+        requires taken { takes self.now.0 authsize request.now ≡ true }
+        ensures { IfOk result (λ buffer. buffer.items ≡ room_of self.now.0 authsize request.now) }
     {
         match &self.inner {
             Inner::Skcipher(_) => request.text.as_slice().to_vec(alloc),
@@ -113,12 +105,12 @@ impl Keyed {
 
     /// The value of a request.
     pub(crate) fn run(&self, authsize: usize, request: &Request, buffer: Vec<u8>) -> Finished
-        requires taken { takes (mode_of self.now.0) authsize request.now ≡ true }
-        requires tag_fits { fits_tag (mode_of self.now.0) authsize ≡ true }
-        requires associated_short { length request.now.associated < 2 ^ 32 }
+        requires taken { takes self.now.0 authsize request.now ≡ true }
+        requires tag_fits { fits_tag self.now.0 authsize ≡ true }
+        requires aad_short { length request.now.aad < 2 ^ 32 }
         requires text_short { length request.now.text < 2 ^ 32 }
-        requires room { buffer.items ≡ room_of (mode_of self.now.0) authsize request.now }
-        ensures { finished_value result ≡ value (mode_of self.now.0) self.now.1 authsize request.now }
+        requires room { buffer.items ≡ room_of self.now.0 authsize request.now }
+        ensures { finished_value result ≡ request_value (driver_of self.now.0) self.now.1 authsize request.now }
     {
         match &self.inner {
             Inner::Skcipher(cipher) => run_cipher(cipher, request, buffer),

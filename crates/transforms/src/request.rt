@@ -15,7 +15,7 @@ pub enum Dir {
 pub struct Request {
     pub dir: Dir,
     pub iv: Bytes,
-    pub associated: Bytes,
+    pub aad: Bytes,
     pub text: Bytes,
 }
 

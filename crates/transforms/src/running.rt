@@ -4,7 +4,7 @@ ghost use Rattle.std.specs.Prelude.{◌≡◌, ◌≤◌, ◌<◌, ◌^◌, ◌+
 ghost use Rattle.std_defs.specs.Value.Value.{bytes, invalid};
 ghost use Rattle.std_defs.specs.Hmac.{hmac_under};
 ghost use Rattle.aes_block.specs.Opened.{IsRefusal};
-ghost use Rattle.transforms.specs.Meaning.{cipher_value, aead_value};
+ghost use Rattle.transforms.specs.Modes.{cipher_value, aead_value};
 ghost use Rattle.transforms.specs.Asked.{aead_room, aead_takes};
 ghost use Rattle.transforms.specs.Finish.{finished_value};
 
@@ -48,28 +48,28 @@ pub fn run_mac(mac: &Mac, request: &Request, buffer: Vec<u8>) -> Finished
 fn seal_front<A: Aead>(
     aead: &A,
     iv: &[u8],
-    associated: &[u8],
+    aad: &[u8],
     buffer: &mut [u8],
     n: usize,
 ) -> Result<(), Errno>
     requires within { n ≤ length buffer.old }
     requires iv_fits { length iv.now ≡ A.iv_size aead.now }
     requires tag_fits { length buffer.old ≤ n + A.tag_size aead.now }
-    requires associated_short { length associated.now < 2 ^ 32 }
+    requires aad_short { length aad.now < 2 ^ 32 }
     requires text_short { n < 2 ^ 32 }
     ensures { MatchResult result
-        (λ _. A.seals aead.now (length buffer.old - n) iv.now associated.now (take n buffer.old) ≡ bytes buffer.new)
-        (λ e. (e ≡ Errno.EINVAL) × (A.seals aead.now (length buffer.old - n) iv.now associated.now (take n buffer.old) ≡ invalid)) }
+        (λ _. A.seals aead.now (length buffer.old - n) iv.now aad.now (take n buffer.old) ≡ bytes buffer.new)
+        (λ e. (e ≡ Errno.EINVAL) × (A.seals aead.now (length buffer.old - n) iv.now aad.now (take n buffer.old) ≡ invalid)) }
 {
     let (text, tag) = buffer.split_at_mut(n);
-    aead.seal(iv, associated, text, tag)
+    aead.seal(iv, aad, text, tag)
 }
 
 /// Unseals the front of the buffer, under the tag behind it.
 fn unseal_front<A: Aead>(
     aead: &A,
     iv: &[u8],
-    associated: &[u8],
+    aad: &[u8],
     buffer: &mut [u8],
     n: usize,
 ) -> Result<(), Errno>
@@ -77,14 +77,14 @@ fn unseal_front<A: Aead>(
     requires iv_fits { length iv.now ≡ A.iv_size aead.now }
     requires tag_fits { length buffer.old ≤ n + A.tag_size aead.now }
     requires tag_taken { IsTrue (A.takes_tag aead.now (length buffer.old - n)) }
-    requires associated_short { length associated.now < 2 ^ 32 }
+    requires aad_short { length aad.now < 2 ^ 32 }
     requires text_short { n < 2 ^ 32 }
     ensures { MatchResult result
-        (λ _. A.opens aead.now iv.now associated.now (take n buffer.old) (drop n buffer.old) ≡ bytes (take n buffer.new))
-        (λ e. IsRefusal e (A.opens aead.now iv.now associated.now (take n buffer.old) (drop n buffer.old))) }
+        (λ _. A.opens aead.now iv.now aad.now (take n buffer.old) (drop n buffer.old) ≡ bytes (take n buffer.new))
+        (λ e. IsRefusal e (A.opens aead.now iv.now aad.now (take n buffer.old) (drop n buffer.old))) }
 {
     let (text, tag) = buffer.split_at_mut(n);
-    aead.unseal(iv, associated, text, tag)
+    aead.unseal(iv, aad, text, tag)
 }
 
 /// A request to a mode with a tag.
@@ -92,7 +92,7 @@ pub fn run_aead<A: Aead>(aead: &A, authsize: usize, request: &Request, buffer: V
     requires taken { aead_takes (A.iv_size aead.now) authsize request.now ≡ true }
     requires tag_fits { authsize ≤ A.tag_size aead.now }
     requires tag_taken { IsTrue (A.takes_tag aead.now authsize) }
-    requires associated_short { length request.now.associated < 2 ^ 32 }
+    requires aad_short { length request.now.aad < 2 ^ 32 }
     requires text_short { length request.now.text < 2 ^ 32 }
     requires room { buffer.items ≡ aead_room authsize request.now }
     ensures { finished_value result ≡ aead_value (A.seals aead.now) (A.opens aead.now) authsize request.now }
@@ -104,7 +104,7 @@ pub fn run_aead<A: Aead>(aead: &A, authsize: usize, request: &Request, buffer: V
             match seal_front(
                 aead,
                 request.iv.as_slice(),
-                request.associated.as_slice(),
+                request.aad.as_slice(),
                 buffer.as_mut_slice(),
                 n,
             ) {
@@ -117,7 +117,7 @@ pub fn run_aead<A: Aead>(aead: &A, authsize: usize, request: &Request, buffer: V
             match unseal_front(
                 aead,
                 request.iv.as_slice(),
-                request.associated.as_slice(),
+                request.aad.as_slice(),
                 buffer.as_mut_slice(),
                 n,
             ) {

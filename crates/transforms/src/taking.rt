@@ -9,7 +9,7 @@ use crate::request::{Dir, Request};
 fn is_plain(request: &Request, size: usize) -> bool
     ensures { result ≡ is_plain size request.now }
 {
-    request.iv.len() == size && request.associated.len() == 0
+    request.iv.len() == size && request.aad.len() == 0
 }
 
 /// Whether a mode without a tag takes a request.

@@ -1,679 +1,208 @@
 //! Requests with the vectors of the standards, and what is refused.
 
 ghost use Rattle.std.specs.Prelude.{◌≡◌, true, IfOk};
-ghost use Rattle.transforms.specs.Plans.{mode_of};
-ghost use Rattle.transforms.specs.Takes.{fits_tag};
+ghost use Rattle.transforms.specs.Plans.{fits_tag};
 
-use crate::{Ask, Dir, Finished, Job, Keyed, Request, TfmErr, largest_tag_size, prepare, tag_size};
+use crate::{Ask, Dir, Finished, Keyed, Request, TfmErr, largest_tag_size, prepare, tag_size};
+use alg_names::parse_name;
 use kc_base::{Bytes, Errno};
 use std::alloc::Global;
 use std::process::Abort;
 use std::sync::Arc;
 use std::test::Fail;
-use templates::{AesForm, GhashForm, Plan};
+use templates::{Plan, plan_of};
 
-const CBC: Plan = Plan::Cbc(AesForm::AesGeneric);
-
-const CTR: Plan = Plan::Ctr(AesForm::AesGeneric);
-
-const RFC3686: Plan = Plan::Rfc3686(AesForm::AesGeneric);
-
-const GCM: Plan = Plan::Gcm(AesForm::AesGeneric, GhashForm::GhashGeneric);
-
-const RFC4106: Plan = Plan::Rfc4106(AesForm::AesGeneric, GhashForm::GhashGeneric);
-
-const HMAC: Plan = Plan::Hmac;
-
-const AUTHENC_CBC: Plan = Plan::AuthencCbc(AesForm::AesGeneric);
-
-const AUTHENC_CTR: Plan = Plan::AuthencCtr(AesForm::AesGeneric);
-
-const AUTHENC_RFC3686: Plan = Plan::AuthencRfc3686(AesForm::AesGeneric);
+/// In a row stand a driver, a key, a tag size, a direction, an IV, associated bytes, a text, and what comes of these. Bytes
+/// are in hexadecimal, and `-` is none. Values are those of FIPS 197, SP 800-38A, GCM's test cases, RFC 3686, RFC 4231 and IEEE Std
+/// 1619, and else of python's `cryptography`.
+const ROWS: &str = "\
+cbc(aes-generic) 2b7e151628aed2a6abf7158809cf4f3c 0 enc 000102030405060708090a0b0c0d0e0f - 6bc1bee22e409f96e93d7e117393172aae2d8a571e03ac9c9eb76fac45af8e51 7649abac8119b246cee98e9b12e9197d5086cb9b507219ee95db113a917678b2
+cbc(aes-generic) 2b7e151628aed2a6abf7158809cf4f3c 0 enc 000102030405060708090a0b0c0d0e0f - 00112233445566778899aabbccddee invalid
+cbc(aes-generic) 2b7e151628aed2a6abf7158809cf4f3c 0 enc 000102030405060708090a0b0c0d0e0f - - -
+cbc(aes-generic) 2b7e151628aed2a6abf7158809cf4f3c 0 dec 000102030405060708090a0b0c0d0e0f - 7649abac8119b246cee98e9b12e9197d 6bc1bee22e409f96e93d7e117393172a
+cbc(aes-generic) 2b7e151628aed2a6abf7158809cf4f3c 0 enc 0102030405060708090a0b0c0d0e0f - 6bc1bee22e409f96e93d7e117393172a not-taken
+cbc(aes-generic) 2b7e151628aed2a6abf7158809cf4f3c 0 enc 000102030405060708090a0b0c0d0e0f 00 6bc1bee22e409f96e93d7e117393172a not-taken
+cbc(aes-generic) 2b7e151628aed2a6abf7158809cf4f3c 0 mac - - 6bc1bee22e409f96e93d7e117393172a not-taken
+ctr(aes-generic) 2b7e151628aed2a6abf7158809cf4f3c 0 enc f0f1f2f3f4f5f6f7f8f9fafbfcfdfeff - 6bc1bee22e 874d6191b6
+ctr(aes-generic) 00000000000000000000000000000000 0 dec ffffffffffffffffffffffffffffffff - 0000000000000000000000000000000000000000000000000000000000000000 3f5b8cc9ea855a0afa7347d23e8d664e66e94bd4ef8a2c3b884cfa59ca342b2e
+rfc3686(ctr(aes-generic)) ae6852f8121067cc4bf7a5765577f39e00000030 0 enc 0000000000000000 - 53696e676c6520626c6f636b206d7367 e4095d4fb7a7b3792d6175a3261311b8
+hmac(sha256-generic) 0b0b0b0b0b0b0b0b0b0b0b0b0b0b0b0b0b0b0b0b 0 mac - - 4869205468657265 b0344c61d8db38535ca8afceaf0bf12b881dc200c9833da726e9376c2e32cff7
+hmac(sha256-generic) 4a656665 0 mac - - 7768617420646f2079612077616e7420666f72206e6f7468696e673f 5bdcc146bf60754e6a042426089575c75a003f089d2739839dec58b964ec3843
+hmac(sha256-generic) 0b0b0b0b0b0b0b0b0b0b0b0b0b0b0b0b0b0b0b0b 0 enc - - 4869205468657265 not-taken
+hmac(sha256-generic) 0b0b0b0b0b0b0b0b0b0b0b0b0b0b0b0b0b0b0b0b 0 mac 00 - 4869205468657265 not-taken
+gcm_base(ctr(aes-generic),ghash-generic) 00000000000000000000000000000000 16 enc 000000000000000000000000 - - 58e2fccefa7e3061367f1d57a4e7455a
+gcm_base(ctr(aes-generic),ghash-generic) 00000000000000000000000000000000 12 enc 000000000000000000000000 - - 58e2fccefa7e3061367f1d57
+gcm_base(ctr(aes-generic),ghash-generic) 00000000000000000000000000000000 16 enc 000000000000000000000000 - 00000000000000000000000000000000 0388dace60b6a392f328c2b971b2fe78ab6e47d42cec13bdf53a67b21257bddf
+gcm_base(ctr(aes-generic),ghash-generic) 00000000000000000000000000000000 16 dec 000000000000000000000000 - 0388dace60b6a392f328c2b971b2fe78ab6e47d42cec13bdf53a67b21257bddf 00000000000000000000000000000000
+gcm_base(ctr(aes-generic),ghash-generic) 00000000000000000000000000000000 16 dec 000000000000000000000000 - 0388dace60b6a392f328c2b971b2fe78ab6e47d42cec13bdf53a67b21257bdde bad-message
+gcm_base(ctr(aes-generic),ghash-generic) 00000000000000000000000000000000 16 dec 000000000000000000000000 - 000000000000000000000000000000 not-taken
+gcm_base(ctr(aes-generic),ghash-generic) 00000000000000000000000000000000 16 enc 0000000000000000 - - not-taken
+gcm_base(ctr(aes-generic),ghash-generic) 00000000000000000000000000000000 16 mac 000000000000000000000000 - - not-taken
+rfc4106(gcm_base(ctr(aes-generic),ghash-generic)) 0000000000000000000000000000000000000000 16 enc 0000000000000000 000000000000000000000000000000 - invalid
+rfc4106(gcm_base(ctr(aes-generic),ghash-generic)) 0000000000000000000000000000000000000000 16 enc 0000000000000000 00000000000000000000000000000000 00000000000000000000000000000000 0388dace60b6a392f328c2b971b2fe7897fe4c23374201e0819f8dc5d741a01b
+rfc4106(gcm_base(ctr(aes-generic),ghash-generic)) 0000000000000000000000000000000000000000 16 dec 0000000000000000 00000000000000000000000000000000 0388dace60b6a392f328c2b971b2fe7897fe4c23374201e0819f8dc5d741a01b 00000000000000000000000000000000
+rfc4106(gcm_base(ctr(aes-generic),ghash-generic)) 0000000000000000000000000000000000000000 8 dec 0000000000000000 000000000000000000000000000000 0000000000000000 invalid
+rfc4106(gcm_base(ctr(aes-generic),ghash-generic)) 0000000000000000000000000000000000000000 8 dec 0000000000000000 00000000000000000000000000000000 0000000000000000 bad-message
+authenc(hmac(sha256-generic),ctr(aes-generic)) 08000100000000100b0b0b0b0b0b0b0b0b0b0b0b0b0b0b0b0b0b0b0b00000000000000000000000000000000 32 enc 00000000000000000000000000000000 - 2e806b8087ef5e5e 4869205468657265b0344c61d8db38535ca8afceaf0bf12b881dc200c9833da726e9376c2e32cff7
+authenc(hmac(sha256-generic),ctr(aes-generic)) 08000100000000100b0b0b0b0b0b0b0b0b0b0b0b0b0b0b0b0b0b0b0b00000000000000000000000000000000 32 dec 00000000000000000000000000000000 - 4869205468657265b0344c61d8db38535ca8afceaf0bf12b881dc200c9833da726e9376c2e32cff7 2e806b8087ef5e5e
+authenc(hmac(sha256-generic),ctr(aes-generic)) 08000100000000100b0b0b0b0b0b0b0b0b0b0b0b0b0b0b0b0b0b0b0b00000000000000000000000000000000 32 dec 00000000000000000000000000000000 00 4869205468657265b0344c61d8db38535ca8afceaf0bf12b881dc200c9833da726e9376c2e32cff7 bad-message
+authenc(hmac(sha256-generic),cbc(aes-generic)) 08000100000000104a6566652b7e151628aed2a6abf7158809cf4f3c 32 enc 000102030405060708090a0b0c0d0e0f 7768617420646f2079612077616e7420666f72206e6f7468696e673f - 5bdcc146bf60754e6a042426089575c75a003f089d2739839dec58b964ec3843
+authenc(hmac(sha256-generic),cbc(aes-generic)) 08000100000000104a6566652b7e151628aed2a6abf7158809cf4f3c 32 enc 000102030405060708090a0b0c0d0e0f 7768617420646f2079612077616e7420666f72206e6f7468696e673f 00 invalid
+authenc(hmac(sha256-generic),cbc(aes-generic)) 08000100000000104a6566652b7e151628aed2a6abf7158809cf4f3c 32 dec 000102030405060708090a0b0c0d0e0f - 7768617420646f2079612077616e7420666f72206e6f7468696e673f5bdcc146bf60754e6a042426089575c75a003f089d2739839dec58b964ec3843 invalid
+authenc(hmac(sha256-generic),cbc(aes-generic)) 08000100000000104a6566652b7e151628aed2a6abf7158809cf4f3c 1 dec 000102030405060708090a0b0c0d0e0f - 7768617420646f2079612077616e7420666f72206e6f7468696e673f5a bad-message
+gcm_base(ctr(aes-generic),ghash-generic) 3640063ede413817ca1a0a8ed658008a14f4ead0b6e17bc5 4 enc 1e3e1f18354f9cc95c230151 ae4132dea3bf224d624af97421f59e552fc74aad4cb851dfc599f0a07cf2ce6a1d d40958a6c50133 20c2bfef306c1f2c82781b
+gcm_base(ctr(aes-generic),ghash-generic) 3640063ede413817ca1a0a8ed658008a14f4ead0b6e17bc5 4 dec 1e3e1f18354f9cc95c230151 ae4132dea3bf224d624af97421f59e552fc74aad4cb851dfc599f0a07cf2ce6a1d 20c2bfef306c1f2c82781b d40958a6c50133
+authenc(hmac(sha256-generic),ctr(aes-generic)) 0800010000000010a234748589943016b3868699476d74d4bb80ac9060aed220d004160effca8bace2c669b0 20 enc b8682e70058da45ac8df6be170613c56 b0f938b891b118b0e118037a 6ac5d0597c57500e55388545225978ee48b0e93cf28545a13d6ad8ca710e0548fb 958f65d145f638b74f62744eca6461fe5574b3c52c02ccc66d2b5b911b1faf634b3e167c2c16bc6ecd255c3a7b79c685eeb1ce2bd2
+authenc(hmac(sha256-generic),ctr(aes-generic)) 0800010000000010a234748589943016b3868699476d74d4bb80ac9060aed220d004160effca8bace2c669b0 20 dec b8682e70058da45ac8df6be170613c56 b0f938b891b118b0e118037a 958f65d145f638b74f62744eca6461fe5574b3c52c02ccc66d2b5b911b1faf634b3e167c2c16bc6ecd255c3a7b79c685eeb1ce2bd2 6ac5d0597c57500e55388545225978ee48b0e93cf28545a13d6ad8ca710e0548fb
+hmac(sha256-generic) - 0 mac - - b776209b3ec9b6588faedad1b8c354d11e8a06fb8ab1f5e1b4df2226b3da09d1a6345d146676548f86456cf057b91c54e84a ca91b9358172b6592796ad8861424a61768a5f1463cb1899eaed1ec9a240d85b
+hmac(sha256-generic) e9b8a3513e6f89ef9632dbbd0f00a361a641841cbe1777ab133e72e5c091d068dad66e6836b11a8c33fed77fd23cd330067c3232bf2526014fd1cbb2ec95ee50 0 mac - - fc6ee0d3defd9ac7eb140e0e0005e425ce78ce3692ee810d668511766761fa38ddecc0204c39afa476252074c10d56cae1a7 bcfd0bd196ffbc1416188aa3aefeb0022a8787fe1cf080179e0d624f2e9ed546
+hmac(sha256-generic) 2d65bc1fca52d7e7a239e16f73fff78c17525bafda6271e4f62812063cd4abbd8b0fa7dd9f24598754764001a9625f471807bacbeb3d0dc49aec26955e7a35e2af 0 mac - - f394e404e681f4a67dab3fe7170b49387406dd62d3631a34856965eff434c5c9dc3464b7e8a3d0c17de095ef7445b5f40410 3118bbe3c4633ca110f6db4d75ec3a34009316db12d891bf2e76dc213b5e78fb
+xts(aes-generic) 0000000000000000000000000000000000000000000000000000000000000000 0 enc 00000000000000000000000000000000 - 0000000000000000000000000000000000000000000000000000000000000000 917cf69ebd68b2ec9b9fe9a3eadda692cd43d2f59598ed858c02c2652fbf922e
+xts(aes-generic) 0000000000000000000000000000000000000000000000000000000000000000 0 dec 00000000000000000000000000000000 - 917cf69ebd68b2ec9b9fe9a3eadda692cd43d2f59598ed858c02c2652fbf922e 0000000000000000000000000000000000000000000000000000000000000000
+xts(aes-generic) 2718281828459045235360287471352631415926535897932384626433832795 0 enc 01000000000000000000000000000000 - 000102030405060708090a0b0c0d0e0f101112131415161718191a1b1c1d1e c2068d92ab8b05513fa08d47b82b7a63bbf9d6a74a7465fee20f42adf9a623
+xts(aes-generic) 2718281828459045235360287471352631415926535897932384626433832795 0 dec 01000000000000000000000000000000 - c2068d92ab8b05513fa08d47b82b7a63bbf9d6a74a7465fee20f42adf9a623 000102030405060708090a0b0c0d0e0f101112131415161718191a1b1c1d1e
+xts(aes-generic) 27182818284590452353602874713526624977572470936999595749669676273141592653589793238462643383279502884197169399375105820974944592 0 enc ff000000000000000000000000000000 - 000102030405060708090a0b0c0d0e0f101112131415161718191a1b1c1d1e1f202122232425262728292a2b2c2d2e2f303132333435363738393a3b3c3d3e3f404142434445464748494a4b4c4d4e4f 1c3b3a102f770386e4836c99e370cf9bea00803f5e482357a4ae12d414a3e63b5d31e276f8fe4a8d66b317f9ac683f44680a86ac35adfc3345befecb4bb188fd5776926c49a3095eb108fd1098baec70
+xts(aes-generic) 2718281828459045235360287471352631415926535897932384626433832795 0 enc 01000000000000000000000000000000 - 000102030405060708090a0b0c0d0e invalid
+xts(aes-generic) 2718281828459045235360287471352631415926535897932384626433832795 0 dec 01000000000000000000000000000000 - 000102030405060708090a0b0c0d0e invalid
+xts(aes-generic) 2718281828459045235360287471352631415926535897932384626433832795 0 enc 010000000000000000000000000000 - 000102030405060708090a0b0c0d0e0f not-taken
+authenc(hmac(sha256-generic),xts(aes-generic)) 0800010000000020000102030405060708090a0b0c0d0e0f101112132718281828459045235360287471352631415926535897932384626433832795 32 enc 01000000000000000000000000000000 0708090a0b0c0d0e0f10111213 000102030405060708090a0b0c0d0e0f10 c9391fe412bcda11f5bdae9d0b29d171bb837fdda523e418773bfd7f33bdad8a178d801d0837c2c3e52ba907efa54b973d
+authenc(hmac(sha256-generic),xts(aes-generic)) 0800010000000020000102030405060708090a0b0c0d0e0f101112132718281828459045235360287471352631415926535897932384626433832795 32 dec 01000000000000000000000000000000 0708090a0b0c0d0e0f10111213 c9391fe412bcda11f5bdae9d0b29d171bb837fdda523e418773bfd7f33bdad8a178d801d0837c2c3e52ba907efa54b973d 000102030405060708090a0b0c0d0e0f10
+authenc(hmac(sha256-generic),xts(aes-generic)) 0800010000000020000102030405060708090a0b0c0d0e0f101112132718281828459045235360287471352631415926535897932384626433832795 32 enc 01000000000000000000000000000000 - 000102030405060708090a0b0c0d0e invalid
+xts(aes-generic) 00000000000000000000000000000000 0 enc - - - no-key
+xts(aes-generic) 000000000000000000000000000000000000000000000000000000000000000000000000000000000000000000000000 0 enc - - - no-key
+authenc(hmac(sha256-generic),xts(aes-generic)) 080001000000001000000000000000000000000000000000 0 enc - - - no-key
+cbc(aes-generic) 000000000000000000000000000000 0 enc - - - no-key
+ctr(aes-generic) 0000000000000000000000000000000000000000 0 enc - - - no-key
+gcm_base(ctr(aes-generic),ghash-generic) 000000000000000000000000000000000000000000000000000000000000000000 0 enc - - - no-key
+rfc3686(ctr(aes-generic)) 00000000000000000000000000000000 0 enc - - - no-key
+rfc3686(ctr(aes-generic)) 000000 0 enc - - - no-key
+rfc4106(gcm_base(ctr(aes-generic),ghash-generic)) 000000000000000000000000000000000000000000000000 0 enc - - - no-key
+authenc(hmac(sha256-generic),ctr(aes-generic)) 080001000000000f00000000000000000000000000000000 0 enc - - - no-key
+authenc(hmac(sha256-generic),cbc(aes-generic)) 080001000000001100000000000000000000000000000000 0 enc - - - no-key
+authenc(hmac(sha256-generic),rfc3686(ctr(aes-generic))) 080001000000001000000000000000000000000000000000 0 enc - - - no-key
+authenc(hmac(sha256-generic),cbc(aes-generic)) 080101000000001000000000000000000000000000000000 0 enc - - - no-key
+authenc(hmac(sha256-generic),cbc(aes-generic)) 08000100000000 0 enc - - - no-key
+gcm_base(ctr(aes-generic),ghash-generic) 00000000000000000000000000000000 5 enc 000000000000000000000000 - - no-tag-size
+rfc4106(gcm_base(ctr(aes-generic),ghash-generic)) 0000000000000000000000000000000000000000 4 enc 0000000000000000 00000000000000000000000000000000 - no-tag-size
+authenc(hmac(sha256-generic),ctr(aes-generic)) 080001000000001000000000000000000000000000000000 33 enc 00000000000000000000000000000000 - - no-tag-size
+cbc(aes-generic) 00000000000000000000000000000000 16 enc 00000000000000000000000000000000 - - no-tag-size
+";
 
 /// The wanted tag size, or 0 on a plan that has no tag.
 fn size_for(plan: &Plan, wanted: u32) -> Result<u32, Errno>
-    ensures { IfOk result (λ n. fits_tag (mode_of plan.now) n ≡ true) }
+    ensures { IfOk result (λ n. fits_tag plan.now n ≡ true) }
 {
     let largest = largest_tag_size(plan);
     if wanted == largest {
         return Ok(largest);
     }
-    match tag_size(plan, wanted) {
-        Ok(()) => Ok(wanted),
-        Err(e) => Err(e),
-    }
+    tag_size(plan, wanted)?;
+    Ok(wanted)
 }
 
 /// Bytes that are written in hexadecimal.
 fn bytes(alloc: Global, text: &str) -> Result<Bytes, Fail> {
+    if text == "-" {
+        return Ok(Bytes::new(alloc));
+    }
     Ok(Bytes::from_vec(hex::decode(alloc, text)?))
 }
 
-/// Whether an answer is the one that is wanted: bytes in hexadecimal, or a refusal in words.
-fn is_wanted(alloc: Global, answer: &Result<Finished, TfmErr>, want: &str) -> Result<bool, Fail> {
-    Ok(match answer {
-        Ok(Finished::Bytes(made)) => hex::encode(alloc, made.as_slice())?.as_str() == want,
-        Ok(Finished::BadMsg) => want == "bad message",
-        Ok(Finished::Invalid) => want == "invalid",
-        Err(TfmErr::Inval) => want == "not taken",
-        Err(TfmErr::Memory) => false,
+/// A request by its words.
+fn request_of(alloc: Global, dir: &str, iv: &str, aad: &str, text: &str) -> Result<Request, Fail> {
+    let dir = match dir {
+        "enc" => Dir::Enc,
+        "dec" => Dir::Dec,
+        _ => Dir::Mac,
+    };
+    Ok(Request {
+        dir,
+        iv: bytes(alloc, iv)?,
+        aad: bytes(alloc, aad)?,
+        text: bytes(alloc, text)?,
     })
 }
 
-/// Prepares a request.
-fn prepared(
+/// What a job gave, in the words of a row.
+fn word_of(alloc: Global, given: &Finished) -> Result<String, Fail> {
+    match given {
+        Finished::Bytes(made) if made.is_empty() => Ok(String::from_str(alloc, "-")?),
+        Finished::Bytes(made) => Ok(hex::encode(alloc, made.as_slice())?),
+        Finished::BadMsg => Ok(String::from_str(alloc, "bad-message")?),
+        Finished::Invalid => Ok(String::from_str(alloc, "invalid")?),
+    }
+}
+
+/// What comes of a request by the plan of a driver, in the words of a row.
+fn outcome_of(
     rt: &impl Abort,
     alloc: Global,
-    plan: Plan,
-    key: &[u8],
-    wanted: u32,
+    driver: &str,
+    key: &str,
+    size: &str,
     request: Request,
-) -> Result<Result<Job, TfmErr>, Fail> {
-    let keyed = Arc::new(alloc, Keyed::set(alloc, &plan, key)?)?;
-    let authsize = size_for(&plan, wanted)?;
-    assert!(rt; request.associated.len() < 1000);
+) -> Result<String, Fail> {
+    let plan = plan_of(&parse_name(alloc, driver.as_bytes())?)?;
+    let Ok(keyed) = Keyed::set(alloc, &plan, bytes(alloc, key)?.as_slice()) else {
+        return Ok(String::from_str(alloc, "no-key")?);
+    };
+    let Ok(authsize) = size_for(&plan, size.parse::<u32>()?) else {
+        return Ok(String::from_str(alloc, "no-tag-size")?);
+    };
+    assert!(rt; request.aad.len() < 1000);
     assert!(rt; request.text.len() < 1000);
     let ask = Ask {
-        keyed,
+        keyed: Arc::new(alloc, keyed)?,
         authsize,
         request,
         client: 0,
         line: 0,
     };
-    Ok(prepare(alloc, Arc::new(alloc, ask)?))
-}
-
-/// Prepares a request and runs its job.
-fn answer(
-    rt: &impl Abort,
-    alloc: Global,
-    plan: Plan,
-    key: &[u8],
-    wanted: u32,
-    request: Request,
-) -> Result<Result<Finished, TfmErr>, Fail> {
-    match prepared(rt, alloc, plan, key, wanted, request)? {
-        Ok(job) => Ok(Ok(job.run())),
-        Err(e) => Ok(Err(e)),
+    match prepare(alloc, Arc::new(alloc, ask)?) {
+        Ok(job) => word_of(alloc, &job.run()),
+        Err(TfmErr::Inval) => Ok(String::from_str(alloc, "not-taken")?),
+        Err(TfmErr::Memory) => Ok(String::from_str(alloc, "no-memory")?),
     }
 }
 
-/// The same, under a key in hexadecimal.
-fn answer_under(
-    rt: &impl Abort,
-    alloc: Global,
-    plan: Plan,
-    key: &str,
-    wanted: u32,
-    request: Request,
-) -> Result<Result<Finished, TfmErr>, Fail> {
-    let key = hex::decode(alloc, key)?;
-    answer(rt, alloc, plan, &key, wanted, request)
-}
-
-/// A request of so many zeros each.
-fn zeros(
-    alloc: Global,
-    dir: Dir,
-    iv: usize,
-    associated: usize,
-    text: usize,
-) -> Result<Request, Fail> {
-    Ok(Request {
-        dir,
-        iv: Bytes::from_vec(vec![in alloc; 0u8; iv]?),
-        associated: Bytes::from_vec(vec![in alloc; 0u8; associated]?),
-        text: Bytes::from_vec(vec![in alloc; 0u8; text]?),
-    })
+// A driver's name, with other drivers of AES and GHASH in it.
+fn in_form(alloc: Global, driver: &str, aes: &str, ghash: &str) -> Result<String, Fail> {
+    let mut name = String::new(alloc);
+    for (place, part) in driver.split("aes-generic").enumerate() {
+        if place > 0 {
+            name.push_str(aes)?;
+        }
+        for (place, part) in part.split("ghash-generic").enumerate() {
+            if place > 0 {
+                name.push_str(ghash)?;
+            }
+            name.push_str(part)?;
+        }
+    }
+    Ok(name)
 }
 
 #[test]
-fn requests_have_their_values(rt: HostRuntime) -> Result<(), Fail> {
+fn requests_have_their_values_in_each_form(rt: HostRuntime) -> Result<(), Fail> {
     let alloc = rt.alloc();
-    for (plan, key, size, dir, iv, associated, text, want) in [
-        (
-            CBC,
-            "2b7e151628aed2a6abf7158809cf4f3c",
-            0,
-            Dir::Enc,
-            "000102030405060708090a0b0c0d0e0f",
-            "",
-            "6bc1bee22e409f96e93d7e117393172aae2d8a571e03ac9c9eb76fac45af8e51",
-            "7649abac8119b246cee98e9b12e9197d5086cb9b507219ee95db113a917678b2",
-        ),
-        (
-            CBC,
-            "2b7e151628aed2a6abf7158809cf4f3c",
-            0,
-            Dir::Enc,
-            "000102030405060708090a0b0c0d0e0f",
-            "",
-            "00112233445566778899aabbccddee",
-            "invalid",
-        ),
-        (
-            CBC,
-            "2b7e151628aed2a6abf7158809cf4f3c",
-            0,
-            Dir::Enc,
-            "000102030405060708090a0b0c0d0e0f",
-            "",
-            "",
-            "",
-        ),
-        (
-            CBC,
-            "2b7e151628aed2a6abf7158809cf4f3c",
-            0,
-            Dir::Dec,
-            "000102030405060708090a0b0c0d0e0f",
-            "",
-            "7649abac8119b246cee98e9b12e9197d",
-            "6bc1bee22e409f96e93d7e117393172a",
-        ),
-        (
-            CBC,
-            "2b7e151628aed2a6abf7158809cf4f3c",
-            0,
-            Dir::Enc,
-            "0102030405060708090a0b0c0d0e0f",
-            "",
-            "6bc1bee22e409f96e93d7e117393172a",
-            "not taken",
-        ),
-        (
-            CBC,
-            "2b7e151628aed2a6abf7158809cf4f3c",
-            0,
-            Dir::Enc,
-            "000102030405060708090a0b0c0d0e0f",
-            "00",
-            "6bc1bee22e409f96e93d7e117393172a",
-            "not taken",
-        ),
-        (
-            CBC,
-            "2b7e151628aed2a6abf7158809cf4f3c",
-            0,
-            Dir::Mac,
-            "",
-            "",
-            "6bc1bee22e409f96e93d7e117393172a",
-            "not taken",
-        ),
-        (
-            CTR,
-            "2b7e151628aed2a6abf7158809cf4f3c",
-            0,
-            Dir::Enc,
-            "f0f1f2f3f4f5f6f7f8f9fafbfcfdfeff",
-            "",
-            "6bc1bee22e",
-            "874d6191b6",
-        ),
-        (
-            CTR,
-            "00000000000000000000000000000000",
-            0,
-            Dir::Dec,
-            "ffffffffffffffffffffffffffffffff",
-            "",
-            "0000000000000000000000000000000000000000000000000000000000000000",
-            "3f5b8cc9ea855a0afa7347d23e8d664e66e94bd4ef8a2c3b884cfa59ca342b2e",
-        ),
-        (
-            RFC3686,
-            "ae6852f8121067cc4bf7a5765577f39e00000030",
-            0,
-            Dir::Enc,
-            "0000000000000000",
-            "",
-            "53696e676c6520626c6f636b206d7367",
-            "e4095d4fb7a7b3792d6175a3261311b8",
-        ),
-        (
-            HMAC,
-            "0b0b0b0b0b0b0b0b0b0b0b0b0b0b0b0b0b0b0b0b",
-            0,
-            Dir::Mac,
-            "",
-            "",
-            "4869205468657265",
-            "b0344c61d8db38535ca8afceaf0bf12b881dc200c9833da726e9376c2e32cff7",
-        ),
-        (
-            HMAC,
-            "4a656665",
-            0,
-            Dir::Mac,
-            "",
-            "",
-            "7768617420646f2079612077616e7420666f72206e6f7468696e673f",
-            "5bdcc146bf60754e6a042426089575c75a003f089d2739839dec58b964ec3843",
-        ),
-        (
-            HMAC,
-            "0b0b0b0b0b0b0b0b0b0b0b0b0b0b0b0b0b0b0b0b",
-            0,
-            Dir::Enc,
-            "",
-            "",
-            "4869205468657265",
-            "not taken",
-        ),
-        (
-            HMAC,
-            "0b0b0b0b0b0b0b0b0b0b0b0b0b0b0b0b0b0b0b0b",
-            0,
-            Dir::Mac,
-            "00",
-            "",
-            "4869205468657265",
-            "not taken",
-        ),
-        (
-            GCM,
-            "00000000000000000000000000000000",
-            16,
-            Dir::Enc,
-            "000000000000000000000000",
-            "",
-            "",
-            "58e2fccefa7e3061367f1d57a4e7455a",
-        ),
-        (
-            GCM,
-            "00000000000000000000000000000000",
-            12,
-            Dir::Enc,
-            "000000000000000000000000",
-            "",
-            "",
-            "58e2fccefa7e3061367f1d57",
-        ),
-        (
-            GCM,
-            "00000000000000000000000000000000",
-            16,
-            Dir::Enc,
-            "000000000000000000000000",
-            "",
-            "00000000000000000000000000000000",
-            "0388dace60b6a392f328c2b971b2fe78ab6e47d42cec13bdf53a67b21257bddf",
-        ),
-        (
-            GCM,
-            "00000000000000000000000000000000",
-            16,
-            Dir::Dec,
-            "000000000000000000000000",
-            "",
-            "0388dace60b6a392f328c2b971b2fe78ab6e47d42cec13bdf53a67b21257bddf",
-            "00000000000000000000000000000000",
-        ),
-        (
-            GCM,
-            "00000000000000000000000000000000",
-            16,
-            Dir::Dec,
-            "000000000000000000000000",
-            "",
-            "0388dace60b6a392f328c2b971b2fe78ab6e47d42cec13bdf53a67b21257bdde",
-            "bad message",
-        ),
-        (
-            GCM,
-            "00000000000000000000000000000000",
-            16,
-            Dir::Dec,
-            "000000000000000000000000",
-            "",
-            "000000000000000000000000000000",
-            "not taken",
-        ),
-        (
-            GCM,
-            "00000000000000000000000000000000",
-            16,
-            Dir::Enc,
-            "0000000000000000",
-            "",
-            "",
-            "not taken",
-        ),
-        (
-            GCM,
-            "00000000000000000000000000000000",
-            16,
-            Dir::Mac,
-            "000000000000000000000000",
-            "",
-            "",
-            "not taken",
-        ),
-        (
-            RFC4106,
-            "0000000000000000000000000000000000000000",
-            16,
-            Dir::Enc,
-            "0000000000000000",
-            "000000000000000000000000000000",
-            "",
-            "invalid",
-        ),
-        (
-            RFC4106,
-            "0000000000000000000000000000000000000000",
-            16,
-            Dir::Enc,
-            "0000000000000000",
-            "00000000000000000000000000000000",
-            "00000000000000000000000000000000",
-            "0388dace60b6a392f328c2b971b2fe7897fe4c23374201e0819f8dc5d741a01b",
-        ),
-        (
-            RFC4106,
-            "0000000000000000000000000000000000000000",
-            16,
-            Dir::Dec,
-            "0000000000000000",
-            "00000000000000000000000000000000",
-            "0388dace60b6a392f328c2b971b2fe7897fe4c23374201e0819f8dc5d741a01b",
-            "00000000000000000000000000000000",
-        ),
-        (
-            RFC4106,
-            "0000000000000000000000000000000000000000",
-            8,
-            Dir::Dec,
-            "0000000000000000",
-            "000000000000000000000000000000",
-            "0000000000000000",
-            "invalid",
-        ),
-        (
-            RFC4106,
-            "0000000000000000000000000000000000000000",
-            8,
-            Dir::Dec,
-            "0000000000000000",
-            "00000000000000000000000000000000",
-            "0000000000000000",
-            "bad message",
-        ),
-        (
-            AUTHENC_CTR,
-            "08000100000000100b0b0b0b0b0b0b0b0b0b0b0b0b0b0b0b0b0b0b0b00000000000000000000000000000000",
-            32,
-            Dir::Enc,
-            "00000000000000000000000000000000",
-            "",
-            "2e806b8087ef5e5e",
-            "4869205468657265b0344c61d8db38535ca8afceaf0bf12b881dc200c9833da726e9376c2e32cff7",
-        ),
-        (
-            AUTHENC_CTR,
-            "08000100000000100b0b0b0b0b0b0b0b0b0b0b0b0b0b0b0b0b0b0b0b00000000000000000000000000000000",
-            32,
-            Dir::Dec,
-            "00000000000000000000000000000000",
-            "",
-            "4869205468657265b0344c61d8db38535ca8afceaf0bf12b881dc200c9833da726e9376c2e32cff7",
-            "2e806b8087ef5e5e",
-        ),
-        (
-            AUTHENC_CTR,
-            "08000100000000100b0b0b0b0b0b0b0b0b0b0b0b0b0b0b0b0b0b0b0b00000000000000000000000000000000",
-            32,
-            Dir::Dec,
-            "00000000000000000000000000000000",
-            "00",
-            "4869205468657265b0344c61d8db38535ca8afceaf0bf12b881dc200c9833da726e9376c2e32cff7",
-            "bad message",
-        ),
-        (
-            AUTHENC_CBC,
-            "08000100000000104a6566652b7e151628aed2a6abf7158809cf4f3c",
-            32,
-            Dir::Enc,
-            "000102030405060708090a0b0c0d0e0f",
-            "7768617420646f2079612077616e7420666f72206e6f7468696e673f",
-            "",
-            "5bdcc146bf60754e6a042426089575c75a003f089d2739839dec58b964ec3843",
-        ),
-        (
-            AUTHENC_CBC,
-            "08000100000000104a6566652b7e151628aed2a6abf7158809cf4f3c",
-            32,
-            Dir::Enc,
-            "000102030405060708090a0b0c0d0e0f",
-            "7768617420646f2079612077616e7420666f72206e6f7468696e673f",
-            "00",
-            "invalid",
-        ),
-        (
-            AUTHENC_CBC,
-            "08000100000000104a6566652b7e151628aed2a6abf7158809cf4f3c",
-            32,
-            Dir::Dec,
-            "000102030405060708090a0b0c0d0e0f",
-            "",
-            "7768617420646f2079612077616e7420666f72206e6f7468696e673f5bdcc146bf60754e6a042426089575c75a003f089d2739839dec58b964ec3843",
-            "invalid",
-        ),
-        (
-            AUTHENC_CBC,
-            "08000100000000104a6566652b7e151628aed2a6abf7158809cf4f3c",
-            1,
-            Dir::Dec,
-            "000102030405060708090a0b0c0d0e0f",
-            "",
-            "7768617420646f2079612077616e7420666f72206e6f7468696e673f5a",
-            "bad message",
-        ),
-    ] {
-        let request = Request {
-            dir,
-            iv: bytes(alloc, iv)?,
-            associated: bytes(alloc, associated)?,
-            text: bytes(alloc, text)?,
+    for row in ROWS.lines() {
+        let mut words = Vec::new(alloc);
+        for word in row.split(' ') {
+            words.push(word)?;
+        }
+        let [driver, key, size, dir, iv, aad, text, want] = words.as_slice() else {
+            assert!(rt; false, "no row: {row}");
+            return Ok(());
         };
-        let given = answer_under(&rt, alloc, plan, key, size, request)?;
-        assert!(rt;
-            is_wanted(alloc, &given, want)?,
-            "{plan:?} {dir:?} {text}: {given:?}"
-        );
-    }
-    Ok(())
-}
-
-#[test]
-fn keys_are_taken_by_their_length(rt: HostRuntime) -> Result<(), Fail> {
-    let alloc = rt.alloc();
-    for (plan, low) in [
-        (CBC, 16),
-        (CTR, 16),
-        (GCM, 16),
-        (RFC3686, 20),
-        (RFC4106, 20),
-    ] {
-        for n in 0..41usize {
-            let taken = n == low || n == low + 8 || n == low + 16;
-            let key = vec![in alloc; 0u8; n]?;
-            match Keyed::set(alloc, &plan, &key) {
-                Ok(keyed) => assert!(rt; taken && keyed.cipher().is_some(), "{plan:?} {n}"),
-                Err(e) => assert!(rt; !taken && e == TfmErr::Inval, "{plan:?} {n}"),
-            }
-        }
-    }
-    assert!(rt; Keyed::set(alloc, &HMAC, &[0u8; 0])?.cipher().is_none());
-    for (plan, key, taken) in [
-        (
-            AUTHENC_CBC,
-            "080001000000001000000000000000000000000000000000",
-            true,
-        ),
-        (
-            AUTHENC_CTR,
-            "080001000000000f00000000000000000000000000000000",
-            false,
-        ),
-        (
-            AUTHENC_RFC3686,
-            "08000100000000140000000000000000000000000000000000000000",
-            true,
-        ),
-        (
-            AUTHENC_RFC3686,
-            "080001000000001000000000000000000000000000000000",
-            false,
-        ),
-        (
-            AUTHENC_CBC,
-            "080001000000001100000000000000000000000000000000",
-            false,
-        ),
-    ] {
-        let set = Keyed::set(alloc, &plan, &hex::decode(alloc, key)?);
-        assert!(rt; set.is_ok() == taken, "{plan:?} {key}");
-    }
-    Ok(())
-}
-
-#[test]
-fn tag_sizes(rt: HostRuntime) {
-    for n in 0..40u32 {
-        for (plan, taken) in [
-            (CBC, false),
-            (HMAC, false),
-            (GCM, [4, 8, 12, 13, 14, 15, 16].contains(&n)),
-            (RFC4106, [8, 12, 16].contains(&n)),
-            (AUTHENC_CTR, 1 <= n && n <= 32),
+        for (aes, ghash) in [
+            ("aes-generic", "ghash-generic"),
+            ("aes-table", "ghash-table"),
+            ("aes-lanes", "ghash-generic"),
         ] {
-            let want = if taken { Ok(()) } else { Err(Errno::EINVAL) };
-            assert_eq!(rt; tag_size(&plan, n), want, "{plan:?} {n}");
-        }
-    }
-}
-
-#[test]
-fn a_key_longer_than_a_block_is_hashed(rt: HostRuntime) -> Result<(), Fail> {
-    let alloc = rt.alloc();
-    let key = vec![in alloc; 0xaau8; 131]?;
-    let text = b"Test Using Larger Than Block-Size Key - Hash Key First";
-    let request = Request {
-        dir: Dir::Mac,
-        iv: Bytes::new(alloc),
-        associated: Bytes::new(alloc),
-        text: Bytes::copy_of(alloc, text)?,
-    };
-    let given = answer(&rt, alloc, HMAC, &key, 0, request)?;
-    let want = "60e431591ee0b67f0d8a26aacbf5b77f8e0bc6213728c5140546040f0ee37f54";
-    assert!(rt; is_wanted(alloc, &given, want)?, "{given:?}");
-    Ok(())
-}
-
-#[test]
-fn rfc4106_is_gcm_without_the_packets_iv(rt: HostRuntime) -> Result<(), Fail> {
-    let alloc = rt.alloc();
-    let want = "0388dace60b6a392f328c2b971b2fe7897fe4c23374201e0819f8dc5d741a01b";
-    let request = zeros(alloc, Dir::Enc, 8, 16, 16)?;
-    let packet = answer(&rt, alloc, RFC4106, &[0; 20], 16, request)?;
-    assert!(rt; is_wanted(alloc, &packet, want)?, "{packet:?}");
-    let request = zeros(alloc, Dir::Enc, 12, 8, 16)?;
-    let plain = answer(&rt, alloc, GCM, &[0; 16], 16, request)?;
-    assert!(rt; is_wanted(alloc, &plain, want)?, "{plain:?}");
-    Ok(())
-}
-
-#[test]
-fn jobs_keep_the_key_that_was_set_when_they_were_asked(rt: HostRuntime) -> Result<(), Fail> {
-    let alloc = rt.alloc();
-    let first = Request {
-        dir: Dir::Mac,
-        iv: Bytes::new(alloc),
-        associated: Bytes::new(alloc),
-        text: Bytes::copy_of(alloc, b"Hi There")?,
-    };
-    let second = Request {
-        dir: Dir::Mac,
-        iv: Bytes::new(alloc),
-        associated: Bytes::new(alloc),
-        text: Bytes::copy_of(alloc, b"what do ya want for nothing?")?,
-    };
-    let first = prepared(&rt, alloc, HMAC, &[0x0b; 20], 0, first)??;
-    let second = prepared(&rt, alloc, HMAC, b"Jefe", 0, second)??;
-    let want = "5bdcc146bf60754e6a042426089575c75a003f089d2739839dec58b964ec3843";
-    assert!(rt; is_wanted(alloc, &Ok(second.run()), want)?);
-    let want = "b0344c61d8db38535ca8afceaf0bf12b881dc200c9833da726e9376c2e32cff7";
-    assert!(rt; is_wanted(alloc, &Ok(first.run()), want)?);
-    Ok(())
-}
-
-/// Keys of zeros that the plans take, and the lengths of their IVs.
-const KEYED_PLANS: [(Plan, &str, usize); 8] = [
-    (CBC, "00000000000000000000000000000000", 16),
-    (CTR, "00000000000000000000000000000000", 16),
-    (RFC3686, "0000000000000000000000000000000000000000", 8),
-    (GCM, "00000000000000000000000000000000", 12),
-    (RFC4106, "0000000000000000000000000000000000000000", 8),
-    (
-        AUTHENC_CBC,
-        "080001000000001000000000000000000000000000000000",
-        16,
-    ),
-    (
-        AUTHENC_CTR,
-        "080001000000001000000000000000000000000000000000",
-        16,
-    ),
-    (
-        AUTHENC_RFC3686,
-        "08000100000000140000000000000000000000000000000000000000",
-        8,
-    ),
-];
-
-#[test]
-fn an_iv_has_one_length(rt: HostRuntime) -> Result<(), Fail> {
-    let alloc = rt.alloc();
-    for (plan, key, size) in KEYED_PLANS {
-        let key = hex::decode(alloc, key)?;
-        let whole = largest_tag_size(&plan);
-        for n in 0..20usize {
-            for dir in [Dir::Enc, Dir::Dec] {
-                let request = zeros(alloc, dir, n, 0, 32)?;
-                let taken = prepared(&rt, alloc, plan, &key, whole, request)?.is_ok();
-                assert!(rt; taken == (n == size), "{plan:?} {n}");
-            }
-        }
-    }
-    Ok(())
-}
-
-#[test]
-fn what_is_sealed_opens_under_each_tag_size(rt: HostRuntime) -> Result<(), Fail> {
-    let alloc = rt.alloc();
-    for (plan, key, size) in KEYED_PLANS {
-        let key = hex::decode(alloc, key)?;
-        for tag in 1..33u32 {
-            if tag_size(&plan, tag).is_err() {
-                continue;
-            }
-            let request = zeros(alloc, Dir::Enc, size, 16, 16)?;
-            let Finished::Bytes(sealed) = answer(&rt, alloc, plan, &key, tag, request)?? else {
-                assert!(rt; false, "{plan:?} {tag}");
-                return Ok(());
-            };
-            assert_eq!(rt; sealed.len(), 16 + tag as usize);
-            let mut request = zeros(alloc, Dir::Dec, size, 16, 0)?;
-            request.text = sealed;
-            let opened = answer(&rt, alloc, plan, &key, tag, request)?;
-            let zero = "00000000000000000000000000000000";
-            assert!(rt; is_wanted(alloc, &opened, zero)?, "{plan:?} {tag}");
-            let request = zeros(alloc, Dir::Dec, size, 16, tag as usize - 1)?;
-            let short = answer(&rt, alloc, plan, &key, tag, request)?;
-            assert!(rt; is_wanted(alloc, &short, "not taken")?, "{plan:?} {tag}");
+            let driver = in_form(alloc, driver, aes, ghash)?;
+            let request = request_of(alloc, dir, iv, aad, text)?;
+            let given = outcome_of(&rt, alloc, driver.as_str(), key, size, request)?;
+            assert_eq!(rt; given.as_str(), *want, "{row} by {driver}");
         }
     }
     Ok(())

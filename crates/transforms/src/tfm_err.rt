@@ -2,13 +2,16 @@
 
 use kc_base::Errno;
 use std::alloc::AllocError;
+use thiserror::Error;
 
 /// Why a key or a request isn't taken.
-#[derive(Debug, Drop, PartialEq, Eq)]
+#[derive(Clone, Copy, Debug, PartialEq, Eq, Error)]
 pub enum TfmErr {
     /// The plan doesn't take it.
+    #[error("the plan doesn't take it")]
     Inval,
     /// Memory was refused.
+    #[error("out of memory")]
     Memory,
 }
 

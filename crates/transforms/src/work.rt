@@ -28,7 +28,7 @@ impl Work for Job {
 
     fn size(&self) -> u64 {
         let request = &self.ask.request;
-        request.iv.len() as u64 + request.associated.len() as u64 + request.text.len() as u64
+        request.iv.len() as u64 + request.aad.len() as u64 + request.text.len() as u64
     }
 
     fn run(self) -> Finished {

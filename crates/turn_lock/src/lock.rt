@@ -1,13 +1,13 @@
 //! The lock, its passes and its turns.
 
-ghost use Rattle.std.specs.Prelude.{◌≡◌, [], true};
+ghost use Rattle.std.specs.Prelude.{◌≡◌, true, length};
 ghost use Rattle.turn_lock.specs.declared.view.Stage.TheVariants.{Idle};
-ghost use Rattle.turn_lock.specs.Turns.{is_holding, is_out};
+ghost use Rattle.turn_lock.specs.Rule.{is_holding, is_out, viewed};
 
 use crate::plays::Turns;
 use crate::told::Told;
 use crate::view::View;
-use atomic_table::{Seat, Table};
+use atomic_table::{Badge, Seat, Table};
 use std::alloc::Global;
 
 /// A lock round a value that stands for a history.
@@ -19,12 +19,13 @@ pub struct TurnLock<T: Told> {
 
 /// What one caller knows of a lock's history, and its right to take a turn.
 #[derive(Drop)]
-pub struct Pass<T, E> {
+pub struct Pass<E> {
     pub(crate) number: u32,
     pub(crate) next: u32,
-    pub(crate) seat: Seat<Option<T>, View<E>>,
-    ghost numbers: { (seat.me.0.number ≡ number) × (seat.me.0.next ≡ next) },
-    ghost idle: { (seat.me.0.stage ≡ Idle) × (seat.me.1 ≡ []) },
+    pub(crate) badge: Badge<View<E>>,
+    ghost one: { length badge.views ≡ 1 },
+    ghost numbers: { ((viewed badge.views).number ≡ number) × ((viewed badge.views).next ≡ next) },
+    ghost idle: { (viewed badge.views).stage ≡ Idle },
 }
 
 /// A pass's turn, in which the value is its own. It ends by `give`.

@@ -3,7 +3,7 @@
 //! holds the value, or nothing while a turn is held.
 
 ghost use Rattle.std.specs.Prelude.{ℕ};
-ghost use Rattle.turn_lock.specs.Turns.{drew, found, appended, served, giver, receiver, joiner, spent, compared};
+ghost use Rattle.turn_lock.specs.Rule.{drew, found, appended, served, giver, receiver, joiner, spent, compared};
 
 use crate::told::Told;
 use crate::view::View;
@@ -16,7 +16,7 @@ pub struct Turns<T> {
 }
 
 impl<T: Told> TableRule<Option<T>, View<T::Entry>, ()> for Turns<T> {
-    ghost use Rattle.turn_lock.specs.Turns.{Turned, first_view};
+    ghost use Rattle.turn_lock.specs.Rule.{Turned, first_view};
 
     ghost holds = { λ _. Turned T.told T.by };
 

@@ -7,7 +7,7 @@ fn moves<X: Send>(_x: &X) {}
 
 fn is_shared<X: Send + Sync>(_x: &X) {}
 
-pub fn crosses<T: Told>(lock: &TurnLock<T>, pass: &Pass<T, T::Entry>, turn: &Turn<T>) {
+pub fn crosses<T: Told>(lock: &TurnLock<T>, pass: &Pass<T::Entry>, turn: &Turn<T>) {
     is_shared(lock);
     moves(pass);
     moves(turn);

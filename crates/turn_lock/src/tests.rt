@@ -4,7 +4,8 @@ ghost use Rattle.std.specs.Prelude.{◌≡◌, ◌+◌, ◌<◌, ◌^◌, ◌∷
 ghost use Rattle.std.specs.Thread.{IsSync};
 ghost use Rattle.turn_lock.specs.declared.tests.Entry.{Entry};
 ghost use Rattle.turn_lock.specs.Passes.{knows, IsPassOf};
-ghost use Rattle.turn_lock.specs.Turns.{of, Appends, Looks};
+ghost use Rattle.turn_lock.specs.Turns.{of};
+ghost use Rattle.turn_lock.specs.Meeting.{AtTurn, Enters, Leaves};
 
 use crate::{Pass, Told, TurnLock};
 use std::alloc::{AllocError, Global};
@@ -42,9 +43,9 @@ impl Log {
     }
 }
 
-type LogPass = Pass<Log, Entry>;
+type LogPass = Pass<Entry>;
 
-/// What the pass has seen afterwards is what it had seen, entries of others, and the entry, if there was memory for it.
+/// The pass adds the entry at its turn, if there was memory for it.
 fn append<R: Wait>(
     rt: &R,
     lock: &TurnLock<Log>,
@@ -53,9 +54,9 @@ fn append<R: Wait>(
 ) -> (LogPass, Result<(), AllocError>)
     requires { IsPassOf lock.now pass }
     ensures lock { IsPassOf lock.now result.0 }
-    ensures answer { MatchResult result.1
-        (λ _. Appends (λ (e : Entry). e.by) (knows pass) (record { by = (knows pass).number; place = place }) (knows result.0))
-        (λ _. Looks (λ (e : Entry). e.by) (knows pass) (knows result.0)) }
+    ensures turn { AtTurn (λ (e : Entry). e.by) (λ _. Unit {0}) (knows pass) (λ h. MatchResult result.1
+        (λ _. Enters (λ _. Unit {0}) (knows pass) h (record { by = (knows pass).number; place = place }) (knows result.0))
+        (λ _. Leaves (knows pass) h (knows result.0))) }
 {
     let by = pass.number();
     let mut turn = lock.take(rt, pass);

@@ -1,12 +1,15 @@
 use Rattle.std.proofs.Common.{◌∙◌, ℕ, sym, ap, subst, lit<, bit_xor}
 use Rattle.std_defs.specs.GhashField.{polynomial_of, product, IsCongruent, field_one, field_product}
-use Rattle.std_defs.proofs.Field.{field_product-congruent, field_product-comm, field_product-assoc, field_product-xor_right, field_product-one}
+use Rattle.std_defs.proofs.Field.{field_product-congruent, field_product-only, field_product-comm, field_product-assoc, field_product-xor_right, field_product-one}
 use Rattle.ghash_field.proofs.product.multiply.Goals as goal
 
 pub returns-clause-congruent : goal.returns-clause-congruent
 returns-clause-congruent c =
     subst (λ (r : ℕ). IsCongruent (product (polynomial_of c.args.x) (polynomial_of c.args.y)) (polynomial_of r))
     (sym c.shift_and_fold.ensures) (field_product-congruent c.args.x c.args.y)
+
+pub returns-clause-only : goal.returns-clause-only
+returns-clause-only c = λ r fits congruent. field_product-only c.args.x c.args.y r fits congruent ∙ sym c.shift_and_fold.ensures
 
 pub returns-clause-commutes : goal.returns-clause-commutes
 returns-clause-commutes c = c.shift_and_fold.ensures ∙ field_product-comm c.args.x c.args.y c.ranges.x.fits c.ranges.y.fits

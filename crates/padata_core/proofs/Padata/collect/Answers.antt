@@ -1,4 +1,5 @@
-use Rattle.std.proofs.Common.{arith, ◌∙◌}
+use Rattle.std.proofs.Common.{arith, ap, ◌∙◌}
+use Rattle.padata_core.specs.Running.{count_running}
 use Rattle.padata_core.proofs.Step.{still-step}
 use Rattle.padata_core.proofs.Padata.collect.Goals as goal
 
@@ -10,4 +11,5 @@ loop-out-preserved g c = (
   c.loop-out.invariant.3,
   c.loop-out.invariant.4,
   c.loop-out.invariant.5,
+  c.loop-out.invariant.6 ∙ ap count_running c.in-Some.ensures.items,
 )

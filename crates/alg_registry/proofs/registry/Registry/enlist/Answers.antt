@@ -50,11 +50,11 @@ invariant_of-self-2 c = record {
       let id : c.count-id.result ≡ length c.self.inside.rows.list = omega (arith, c.count-id.ensures, ap length c.reserve.ensures.list) in
       kept-made _ _ c.self.inside.rows.list _ _ c.args.caller c.count-id.result c.args.spec c.self.invariant.kept c.requires.outsider c.requires.alone c.requires.plain
       (enlist-made c.self.inside.rows.list c.args.spec free (omega (arith, count)) ∙ ap (λ (n : ℕ). enlisted.Made n) (sym id))
-      (cc (c.in_ok-record-3.ensures.ok)) (c.add.ensures ∙ grown c.reserve.ensures.list c.in_ok-copy.ensures.ok);
+      (cc (c.in_ok-record-3.ensures.ok)) (c.add.ensures ∙ grown c.reserve.ensures.list c.in_ok-copy.ensures);
   seen_are =
       let alone : list_all (listed_at c.self.inside.rows.list) c.args.spec.below ≡ true = ap (λ (ids : List ℕ). list_all (listed_at c.self.inside.rows.list) ids) c.requires.alone in
       seen-added c.self.inside.log c.self.inside.rows.list _ c.self.inside.larvals.list c.self.inside.larvals.seen c.args.spec c.self.invariant.kept
-      (standing-rows_of c.self.inside.log c.self.inside.rows.list c.self.invariant.kept.rows_are) alone (c.add.ensures ∙ grown c.reserve.ensures.list c.in_ok-copy.ensures.ok) c.self.invariant.seen_are;
+      (standing-rows_of c.self.inside.log c.self.inside.rows.list c.self.invariant.kept.rows_are) alone (c.add.ensures ∙ grown c.reserve.ensures.list c.in_ok-copy.ensures) c.self.invariant.seen_are;
 }
 
 pub returns-clause-legal : goal.returns-clause-legal

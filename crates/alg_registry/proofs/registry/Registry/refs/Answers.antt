@@ -4,7 +4,7 @@ use Rattle.alg_registry.proofs.registry.Registry.refs.Goals as goal
 pub invariant_of-self-2 : goal.invariant_of-self-2
 invariant_of-self-2 c = record {
   kept =
-      kept-refs _ _ _ _ c.args.caller c.args.driver.now c.self.invariant.kept c.requires (cc (c.in_ok-record.ensures.ok, c.in_ok-text.ensures.ok));
+      kept-refs _ _ _ _ c.args.caller c.args.driver.now c.self.invariant.kept c.requires (cc (c.in_ok-record.ensures.ok, c.in_ok-text.ensures));
   seen_are = c.self.invariant.seen_are;
 }
 

@@ -27,7 +27,7 @@ invariant_of-self-in-Some c = record {
       let none : Row = record { spec = record { name = []; driver = []; kind = Cipher; wrap = Plain; priority = 0; below = [] }; unlisted = false; taken = 0; listed = false; references = 0 } in
       subst (λ (ls : List Larval). IsKept c.record.new.self c.unlist.new.self.list ls) (sym c.forget_unlisted.ensures.list)
       (kept-unlist _ _ _ _ _ c.args.caller c.in-Some.id c.args.driver.now none c.self.invariant.kept c.requires (cc)
-      (cc (c.in_ok-record-in-Some.ensures.ok, c.in_ok-text.ensures.ok)) (c.unlist.ensures none));
+      (cc (c.in_ok-record-in-Some.ensures.ok, c.in_ok-text.ensures)) (c.unlist.ensures none));
   seen_are = seen-unlisted c.self.inside.rows.list c.unlist.new.self.list c.self.inside.larvals.list c.self.inside.larvals.seen _ c.in-Some.id a_row
       (standing-rows_of c.self.inside.log c.self.inside.rows.list c.self.invariant.kept.rows_are) (driver_listed-at c.self.inside.rows.list c.args.driver.now c.in-Some.id (cc)) (c.unlist.ensures a_row) c.self.invariant.seen_are
       (c.forget_unlisted.ensures.seen ∙ ap (λ (rs : List Row). filter (passes_at (is_seen rs) c.self.inside.larvals.list) c.self.inside.larvals.seen) c.all.ensures.all)
@@ -38,7 +38,7 @@ pub invariant_of-self-in-None : goal.invariant_of-self-in-None
 invariant_of-self-in-None c = record {
   kept =
       kept-no_unlist _ _ _ _ c.args.caller c.args.driver.now c.self.invariant.kept c.requires (cc)
-      (cc (c.in_ok-record-in-None.ensures.ok, c.in_ok-text.ensures.ok));
+      (cc (c.in_ok-record-in-None.ensures.ok, c.in_ok-text.ensures));
   seen_are = c.self.invariant.seen_are;
 }
 

@@ -4,6 +4,7 @@ use Rattle.board.specs.declared.entry.BoardEntry.TheVariants.{Born}
 use Rattle.board.proofs.KeptUsed.{used_same}
 use Rattle.board.proofs.Kept.{shut-same}
 use Rattle.board.proofs.KeptBorn.{new_pad, born_pad_kept, born_step}
+use Rattle.board.proofs.InLine.{ready_born, no_job}
 use Rattle.board.proofs.board_core.BoardCore.born_pad.Goals as goal
 
 pub invariant_of-self-2 : goal.invariant_of-self-2
@@ -17,6 +18,7 @@ invariant_of-self-2 g c =
       omega (arith, c.push_reserved-2.ensures.len, c.push_reserved-2.ensures.capacity, c.in_ok-reserve_entries.ensures.ok),
       rw (c.push_reserved.ensures.items, c.in_ok-reserve.ensures.items, c.in_ok-pad.ensures) (omega (arith, s.1, c.self.invariant.3)),
       rw (c.push_reserved-2.ensures.items, c.in_ok-reserve_entries.ensures.items) (used_same g.W.Work.weight c.self.inside.used c.self.inside.log.items (Born c.args.caller c.len-pipe.result form) refl c.self.invariant.4),
+      rw (c.push_reserved.ensures.items, c.in_ok-reserve.ensures.items, c.in_ok-pad.ensures, c.in_ok-grow.ensures) (ready_born c.self.inside.pipes.items c.self.inside.ready (new_pad c.args.caller c.args.lists) c.self.invariant.5 (λ m. no_job m)),
     )
 
 pub returns-clause-legal : goal.returns-clause-legal

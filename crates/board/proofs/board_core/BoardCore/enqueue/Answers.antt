@@ -6,6 +6,7 @@ use Rattle.board.proofs.Kept.{shut-same, within_board}
 use Rattle.board.proofs.KeptRoom.{is_queue_same, answer_same, entered_same}
 use Rattle.board.proofs.KeptSubmit.{room_step, queue_open_here, few_submissions, accepted_here, queue_here}
 use Rattle.board.proofs.KeptEnqueue.{is_accepted, accepts_is, enqueue_step, few_entries, used_answer}
+use Rattle.board.proofs.InLine.{ready_same, ready_added, all_but, serve_same}
 use Rattle.board.proofs.board_core.BoardCore.enqueue.Goals as goal
 
 pub index_mut-place-requires : goal.index_mut-place-requires
@@ -25,16 +26,8 @@ invariant_of-self-in_err-reserve g c =
       omega (arith, c.self.invariant.2, c.in_ok-reserve_entries.ensures.len, c.in_ok-reserve_entries.ensures.capacity),
       omega (arith, s.1, c.self.invariant.3),
       rw c.in_ok-reserve_entries.ensures.items c.self.invariant.4,
+      ready_same c.self.inside.pipes.items c.self.inside.ready c.args.pipe c.index_mut-place.result.now c.reserve.new.self c.self.invariant.5 w c.index_mut-place.ensures.value (serve_same c.reserve.new.self c.index_mut-place.result.now c.in_err-reserve.ensures.same),
     )
-
-pub accepts-accepted-requires : goal.accepts-accepted-requires
-accepts-accepted-requires g c =
-    let open_ : IsOpenQueue (entries_of c.args.pipe c.self.inside.log.items) = subst (λ h. IsOpenQueue (entries_of c.args.pipe h)) (sym c.self.view_is) c.requires.pipe in
-    let w = within_board g.W.Work.asked g.W.Work.meaning c.self.inside.pipes.items c.self.inside.log.items c.args.pipe c.self.invariant.0 (queue_open_here (entries_of c.args.pipe c.self.inside.log.items) open_.0) in
-    record {
-      queue = is_queue_same c.reserve.new.self c.index_mut-place.result.now c.in_ok-reserve.ensures.same
-          ∙ queue_here g.W.Work.asked g.W.Work.meaning c.self.inside.pipes.items c.self.inside.log.items c.args.pipe c.index_mut-place.result.now c.self.invariant.0 w c.index_mut-place.ensures.value open_.0;
-    }
 
 pub invariant_of-self-in_err-spend_if : goal.invariant_of-self-in_err-spend_if
 invariant_of-self-in_err-spend_if g c =
@@ -46,14 +39,8 @@ invariant_of-self-in_err-spend_if g c =
       omega (arith, c.self.invariant.2, c.in_ok-reserve_entries.ensures.len, c.in_ok-reserve_entries.ensures.capacity),
       omega (arith, s.1, c.self.invariant.3),
       rw c.in_ok-reserve_entries.ensures.items (λ q. c.in_err-spend_if.ensures.err q ∙ c.self.invariant.4 q),
+      ready_same c.self.inside.pipes.items c.self.inside.ready c.args.pipe c.index_mut-place.result.now c.reserve.new.self c.self.invariant.5 w c.index_mut-place.ensures.value (serve_same c.reserve.new.self c.index_mut-place.result.now c.in_ok-reserve.ensures.same),
     )
-
-pub enqueue-answer-requires-clause-queue : goal.enqueue-answer-requires-clause-queue
-enqueue-answer-requires-clause-queue g c =
-    let open_ : IsOpenQueue (entries_of c.args.pipe c.self.inside.log.items) = subst (λ h. IsOpenQueue (entries_of c.args.pipe h)) (sym c.self.view_is) c.requires.pipe in
-    let w = within_board g.W.Work.asked g.W.Work.meaning c.self.inside.pipes.items c.self.inside.log.items c.args.pipe c.self.invariant.0 (queue_open_here (entries_of c.args.pipe c.self.inside.log.items) open_.0) in
-    is_queue_same c.reserve.new.self c.index_mut-place.result.now c.in_ok-reserve.ensures.same
-    ∙ queue_here g.W.Work.asked g.W.Work.meaning c.self.inside.pipes.items c.self.inside.log.items c.args.pipe c.index_mut-place.result.now c.self.invariant.0 w c.index_mut-place.ensures.value open_.0
 
 pub enqueue-answer-requires-clause-few : goal.enqueue-answer-requires-clause-few
 enqueue-answer-requires-clause-few g c =
@@ -61,6 +48,12 @@ enqueue-answer-requires-clause-few g c =
     let w = within_board g.W.Work.asked g.W.Work.meaning c.self.inside.pipes.items c.self.inside.log.items c.args.pipe c.self.invariant.0 (queue_open_here (entries_of c.args.pipe c.self.inside.log.items) open_.0) in
     let a = accepted_here g.W.Work.asked g.W.Work.meaning c.self.inside.pipes.items c.self.inside.log.items c.args.pipe c.index_mut-place.result.now c.reserve.new.self c.self.invariant.0 w c.index_mut-place.ensures.value c.in_ok-reserve.ensures.same in
     omega (arith, a, few_submissions c.args.pipe c.self.inside.log.items, c.self.inside.log.ok.0, c.self.inside.log.ok.1, c.self.inside.log.small)
+
+pub add-requires : goal.add-requires
+add-requires g c =
+    let open_ : IsOpenQueue (entries_of c.args.pipe c.self.inside.log.items) = subst (λ h. IsOpenQueue (entries_of c.args.pipe h)) (sym c.self.view_is) c.requires.pipe in
+    let w = within_board g.W.Work.asked g.W.Work.meaning c.self.inside.pipes.items c.self.inside.log.items c.args.pipe c.self.invariant.0 (queue_open_here (entries_of c.args.pipe c.self.inside.log.items) open_.0) in
+    omega (arith, w, c.self.invariant.5.0)
 
 pub invariant_of-self-2 : goal.invariant_of-self-2
 invariant_of-self-2 g c =
@@ -77,6 +70,7 @@ invariant_of-self-2 g c =
       omega (arith, c.work_entries.ensures, few_entries answer, c.push_reserved.ensures.len, c.push_reserved.ensures.capacity, c.in_ok-reserve_entries.ensures.ok),
       omega (arith, c.work_entries.ensures, s.1, c.self.invariant.3),
       rw (c.push_reserved.ensures.items, c.in_ok-reserve_entries.ensures.items) (used_answer g.W.Work.weight c.self.inside.used c.spend_if.new.used c.self.inside.log.items c.args.caller c.args.pipe c.in_ok-ask.field-0.ask c.args.backlog answer (g.W.Work.asked c.args.job) c.in_ok-ask.field-0.size c.in_ok-ask.ensures.ask c.in_ok-ask.ensures.size c.self.invariant.4 (rw spent at c.in_ok-spend_if.ensures.ok)),
+      ready_added c.self.inside.pipes.items c.self.inside.ready c.add.new.self c.args.pipe c.enqueue-answer.new.self c.self.invariant.5.0 (all_but c.self.inside.pipes.items c.self.inside.ready.line c.args.pipe c.self.invariant.5.1) w c.add.ensures.pipes c.add.ensures.added c.add.ensures.kept,
     )
 
 pub returns-clause-answered : goal.returns-clause-answered

@@ -8,6 +8,7 @@ use Rattle.board.proofs.Kept.{shut-same, within_board}
 use Rattle.board.proofs.KeptSubmit.{any_open_here}
 use Rattle.board.proofs.KeptCollect.{same_item}
 use Rattle.board.proofs.KeptHanding.{poll_step, told_few}
+use Rattle.board.proofs.InLine.{ready_same, emptied_serves}
 use Rattle.board.proofs.board_core.BoardCore.poll.Goals as goal
 
 pub index-place-requires : goal.index-place-requires
@@ -58,6 +59,7 @@ invariant_of-self-2 g c =
       omega (arith, c.push_reserved.ensures.len, c.push_reserved.ensures.capacity, c.in_ok-reserve_entries.ensures.ok),
       omega (arith, s.1, c.self.invariant.3),
       rw (c.push_reserved.ensures.items, c.in_ok-reserve_entries.ensures.items) (used_same g.W.Work.weight c.self.inside.used c.self.inside.log.items (Collect c.args.caller c.args.pipe c.told-to.result) refl c.self.invariant.4),
+      ready_same c.self.inside.pipes.items c.self.inside.ready c.args.pipe c.index_mut-place.result.now c.collect.new.self c.self.invariant.5 w c.index_mut-place.ensures.value (emptied_serves c.index_mut-place.result.now c.collect.new.self c.collect.ensures.emptied),
     )
 
 pub returns : goal.returns

@@ -31,6 +31,7 @@ invariant_of-self g c =
       omega (arith, n, c.self.invariant.2, c.push_reserved.ensures.len, c.push_reserved.ensures.capacity),
       omega (arith, n),
       rw c.push_reserved.ensures.items (used_same g.W.Work.weight c.self.inside.used c.self.inside.log.items (Shut c.args.caller) refl c.self.invariant.4),
+      c.self.invariant.5,
     )
 
 pub returns-clause-legal : goal.returns-clause-legal

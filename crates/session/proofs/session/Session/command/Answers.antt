@@ -53,10 +53,10 @@ pub returns-in-Free : goal.returns-in-Free
 returns-in-Free c = subst (λ cmd. MatchResult c.one-in-Free.result (λ v. Done (CommandTurn c.args.self.now c.args.number cmd) c.args.registry.now c.free.new.registry c.args.board.now c.free.new.board v.items c.free.new.self) (λ _. Stops c.args.registry.now c.free.new.registry × Extends c.args.board.now c.free.new.board)) (sym c.in-Free.is) (done-one (λ v. v.items) (Ok c.free.result) c.one-in-Free.result (CommandTurn c.args.self.now c.args.number (command.Free c.in-Free.label)) c.args.registry.now c.free.new.registry c.args.board.now c.free.new.board c.free.new.self c.free.ensures c.one-in-Free.ensures)
 
 pub returns-in-Enc : goal.returns-in-Enc
-returns-in-Enc c = subst (λ cmd. MatchResult c.submit.result (λ v. Done (CommandTurn c.args.self.now c.args.number cmd) c.args.registry.now c.args.registry.now c.args.board.now c.submit.new.board v.items c.submit.new.self) (λ _. Stops c.args.registry.now c.args.registry.now × Extends c.args.board.now c.submit.new.board)) (sym c.in-Enc.is) (board-all (λ v. v.items) c.submit.result (CommandTurn c.args.self.now c.args.number (command.Enc c.in-Enc.label c.in-Enc.iv c.in-Enc.associated c.in-Enc.text c.in-Enc.backlog)) c.args.self.now c.submit.new.self c.args.registry.now c.args.board.now c.submit.new.board c.requires.stands (request-as (λ v. v.items) c.submit.result c.args.self.now c.submit.new.self c.args.number c.in-Enc.label _ (request_of dir.Enc c.in-Enc.iv c.in-Enc.associated c.in-Enc.text) c.in-Enc.backlog c.args.board.now c.submit.new.board (ap (λ x. request_of dir.Enc x c.as_slice-in-Enc-2.result.now c.as_slice-in-Enc-3.result.now) c.as_slice-in-Enc.ensures ∙ (ap (λ x. request_of dir.Enc c.in-Enc.iv x c.as_slice-in-Enc-3.result.now) c.as_slice-in-Enc-2.ensures ∙ ap (λ x. request_of dir.Enc c.in-Enc.iv c.in-Enc.associated x) c.as_slice-in-Enc-3.ensures)) c.submit.ensures))
+returns-in-Enc c = subst (λ cmd. MatchResult c.submit.result (λ v. Done (CommandTurn c.args.self.now c.args.number cmd) c.args.registry.now c.args.registry.now c.args.board.now c.submit.new.board v.items c.submit.new.self) (λ _. Stops c.args.registry.now c.args.registry.now × Extends c.args.board.now c.submit.new.board)) (sym c.in-Enc.is) (board-all (λ v. v.items) c.submit.result (CommandTurn c.args.self.now c.args.number (command.Enc c.in-Enc.label c.in-Enc.iv c.in-Enc.aad c.in-Enc.text c.in-Enc.backlog)) c.args.self.now c.submit.new.self c.args.registry.now c.args.board.now c.submit.new.board c.requires.stands (request-as (λ v. v.items) c.submit.result c.args.self.now c.submit.new.self c.args.number c.in-Enc.label _ (request_of dir.Enc c.in-Enc.iv c.in-Enc.aad c.in-Enc.text) c.in-Enc.backlog c.args.board.now c.submit.new.board (ap (λ x. request_of dir.Enc x c.as_slice-in-Enc-2.result.now c.as_slice-in-Enc-3.result.now) c.as_slice-in-Enc.ensures ∙ (ap (λ x. request_of dir.Enc c.in-Enc.iv x c.as_slice-in-Enc-3.result.now) c.as_slice-in-Enc-2.ensures ∙ ap (λ x. request_of dir.Enc c.in-Enc.iv c.in-Enc.aad x) c.as_slice-in-Enc-3.ensures)) c.submit.ensures))
 
 pub returns-in-Dec : goal.returns-in-Dec
-returns-in-Dec c = subst (λ cmd. MatchResult c.submit-in-Dec.result (λ v. Done (CommandTurn c.args.self.now c.args.number cmd) c.args.registry.now c.args.registry.now c.args.board.now c.submit-in-Dec.new.board v.items c.submit-in-Dec.new.self) (λ _. Stops c.args.registry.now c.args.registry.now × Extends c.args.board.now c.submit-in-Dec.new.board)) (sym c.in-Dec.is) (board-all (λ v. v.items) c.submit-in-Dec.result (CommandTurn c.args.self.now c.args.number (command.Dec c.in-Dec.label c.in-Dec.iv c.in-Dec.associated c.in-Dec.text c.in-Dec.backlog)) c.args.self.now c.submit-in-Dec.new.self c.args.registry.now c.args.board.now c.submit-in-Dec.new.board c.requires.stands (request-as (λ v. v.items) c.submit-in-Dec.result c.args.self.now c.submit-in-Dec.new.self c.args.number c.in-Dec.label _ (request_of dir.Dec c.in-Dec.iv c.in-Dec.associated c.in-Dec.text) c.in-Dec.backlog c.args.board.now c.submit-in-Dec.new.board (ap (λ x. request_of dir.Dec x c.as_slice-in-Dec-2.result.now c.as_slice-in-Dec-3.result.now) c.as_slice-in-Dec.ensures ∙ (ap (λ x. request_of dir.Dec c.in-Dec.iv x c.as_slice-in-Dec-3.result.now) c.as_slice-in-Dec-2.ensures ∙ ap (λ x. request_of dir.Dec c.in-Dec.iv c.in-Dec.associated x) c.as_slice-in-Dec-3.ensures)) c.submit-in-Dec.ensures))
+returns-in-Dec c = subst (λ cmd. MatchResult c.submit-in-Dec.result (λ v. Done (CommandTurn c.args.self.now c.args.number cmd) c.args.registry.now c.args.registry.now c.args.board.now c.submit-in-Dec.new.board v.items c.submit-in-Dec.new.self) (λ _. Stops c.args.registry.now c.args.registry.now × Extends c.args.board.now c.submit-in-Dec.new.board)) (sym c.in-Dec.is) (board-all (λ v. v.items) c.submit-in-Dec.result (CommandTurn c.args.self.now c.args.number (command.Dec c.in-Dec.label c.in-Dec.iv c.in-Dec.aad c.in-Dec.text c.in-Dec.backlog)) c.args.self.now c.submit-in-Dec.new.self c.args.registry.now c.args.board.now c.submit-in-Dec.new.board c.requires.stands (request-as (λ v. v.items) c.submit-in-Dec.result c.args.self.now c.submit-in-Dec.new.self c.args.number c.in-Dec.label _ (request_of dir.Dec c.in-Dec.iv c.in-Dec.aad c.in-Dec.text) c.in-Dec.backlog c.args.board.now c.submit-in-Dec.new.board (ap (λ x. request_of dir.Dec x c.as_slice-in-Dec-2.result.now c.as_slice-in-Dec-3.result.now) c.as_slice-in-Dec.ensures ∙ (ap (λ x. request_of dir.Dec c.in-Dec.iv x c.as_slice-in-Dec-3.result.now) c.as_slice-in-Dec-2.ensures ∙ ap (λ x. request_of dir.Dec c.in-Dec.iv c.in-Dec.aad x) c.as_slice-in-Dec-3.ensures)) c.submit-in-Dec.ensures))
 
 pub returns-in-Mac : goal.returns-in-Mac
 returns-in-Mac c = subst (λ cmd. MatchResult c.submit-in-Mac.result (λ v. Done (CommandTurn c.args.self.now c.args.number cmd) c.args.registry.now c.args.registry.now c.args.board.now c.submit-in-Mac.new.board v.items c.submit-in-Mac.new.self) (λ _. Stops c.args.registry.now c.args.registry.now × Extends c.args.board.now c.submit-in-Mac.new.board)) (sym c.in-Mac.is) (board-all (λ v. v.items) c.submit-in-Mac.result (CommandTurn c.args.self.now c.args.number (command.Mac c.in-Mac.label c.in-Mac.text c.in-Mac.backlog)) c.args.self.now c.submit-in-Mac.new.self c.args.registry.now c.args.board.now c.submit-in-Mac.new.board c.requires.stands (request-as (λ v. v.items) c.submit-in-Mac.result c.args.self.now c.submit-in-Mac.new.self c.args.number c.in-Mac.label _ (request_of dir.Mac [] [] c.in-Mac.text) c.in-Mac.backlog c.args.board.now c.submit-in-Mac.new.board (ap (λ x. request_of dir.Mac [] [] x) c.as_slice-in-Mac.ensures) c.submit-in-Mac.ensures))

@@ -1,0 +1,5 @@
+pub mod Lookups
+pub mod Halves
+pub mod Mixing
+pub mod Sides
+pub mod KeyVectors

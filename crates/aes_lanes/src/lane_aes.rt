@@ -1,0 +1,73 @@
+//! AES by vectors.
+
+ghost use Rattle.std.specs.Prelude.{◌≡◌, MatchResult, length};
+ghost use Rattle.std_defs.specs.Aes.{IsKeyLength};
+
+use crate::lane_schedule::LaneSchedule;
+use crate::pairs::{first_of, joined, paired, parted};
+use crate::round_keys::round_keys;
+use aes_block::{BlockCipher, expand_key};
+use kc_base::Errno;
+use std::marker::Model;
+
+/// AES under a key, with the key's whole schedule in vectors. Contracts see the key.
+#[derive(Drop)]
+pub struct LaneAes {
+    schedule: LaneSchedule,
+}
+
+impl Model for LaneAes {
+    ghost use Rattle.aes_block.specs.Key.{AesKey, key_code};
+    ghost use Rattle.aes_lanes.specs.Key.{lane_key};
+
+    ghost Value = { AesKey };
+
+    ghost coded = { key_code };
+
+    ghost view = { λ a. record { bytes = lane_key a.schedule; is_key = a.schedule.scheduled.0 } };
+}
+
+impl LaneAes {
+    /// AES under a key of 16, 24 or 32 bytes. `EINVAL` exactly where the key has another length.
+    pub fn new(key: &[u8]) -> Result<LaneAes, Errno>
+        ensures { MatchResult result (λ a. IsKeyLength (length key.now) × (a.bytes ≡ key.now)) (λ e. (e ≡ Errno.EINVAL) × ¬ (IsKeyLength (length key.now))) }
+    {
+        if !matches!(key.len(), 16 | 24 | 32) {
+            return Err(Errno::EINVAL);
+        }
+        let words = expand_key(key);
+        Ok(LaneAes {
+            schedule: LaneSchedule {
+                rounds: key.len() / 4 + 6,
+                keys: round_keys(&words),
+            },
+        })
+    }
+}
+
+impl BlockCipher for LaneAes {
+    ghost use Rattle.std_defs.specs.Aes.{seal, unseal};
+    ghost use Rattle.aes_block.specs.Laws.{seals_and_unseals};
+
+    ghost sealed = { λ a. seal a.bytes };
+
+    ghost unsealed = { λ a. unseal a.bytes };
+
+    ghost inverse = { λ a. seals_and_unseals a.bytes a.is_key };
+
+    fn seal_block(&self, b: &mut [u8; 16]) {
+        *b = first_of(self.schedule.seal_pair(joined(*b, *b)));
+    }
+
+    fn unseal_block(&self, b: &mut [u8; 16]) {
+        *b = first_of(self.schedule.unseal_pair(joined(*b, *b)));
+    }
+
+    fn seal_eight(&self, b: &mut [[u8; 16]; 8]) {
+        *b = parted(self.schedule.seal_four(paired(b)));
+    }
+
+    fn unseal_eight(&self, b: &mut [[u8; 16]; 8]) {
+        *b = parted(self.schedule.unseal_four(paired(b)));
+    }
+}

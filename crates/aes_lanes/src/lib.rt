@@ -1,0 +1,13 @@
+//! AES by vectors of 32 bytes: two blocks side by side in each, and eight blocks in four of them.
+#![tactic(auto)]
+
+mod columns;
+mod lane_aes;
+mod lane_schedule;
+mod lookup;
+mod pairs;
+mod round_keys;
+#[cfg(test)]
+mod tests;
+
+pub use lane_aes::LaneAes;

@@ -1,0 +1,13 @@
+//! AES by look-ups in tables of 32-bit words: four tables for sealing and four for unsealing. Which entries are read depends on the
+//! key and the text, so this form isn't for where others can time the processor's caches.
+#![tactic(auto)]
+
+mod columns;
+mod schedule;
+mod state;
+mod table_aes;
+mod tables;
+#[cfg(test)]
+mod tests;
+
+pub use table_aes::TableAes;

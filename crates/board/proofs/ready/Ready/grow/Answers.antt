@@ -1,0 +1,9 @@
+use Rattle.std.proofs.Common.{arith, rules, ◌≡◌, ◌++◌, ◌∷◌, [], false}
+use Rattle.board.specs.Ready.{IsLine}
+use Rattle.board.proofs.InLine.{line_grown}
+use Rattle.board.proofs.ready.Ready.grow.Goals as goal
+
+pub invariant_of-self-2 : goal.invariant_of-self-2
+invariant_of-self-2 c =
+    let m : c.push.new.self.items ≡ c.self.inside.marks.items ++ false ∷ [] = search rules in
+    (rw (m, c.in_ok-reserve.ensures.items) (line_grown c.self.inside.marks.items c.self.inside.line.items c.self.invariant.0), search rules)

@@ -1,0 +1,5 @@
+pub mod Chains
+pub mod Fields
+pub mod Associated
+pub mod Opened
+pub mod LastBlock

@@ -1,0 +1,14 @@
+-- The command line is one of which `clap` says exactly what it accepts.
+use Rattle.std.proofs.Common.{◌≡◌, ◌∙◌, Bool, Option, true, refl, ap}
+use Rattle.clap.specs.Words.{Text, is_simple, is_simple_and_free}
+use Rattle.command_line.specs.CommandLine.{script_app, mode_by}
+
+pub script_is_free : is_simple_and_free script_app ≡ true
+script_is_free = refl
+
+pub script_is_simple : is_simple script_app ≡ true
+script_is_simple = refl
+
+pub same_mode : {w x l m c d : Option Text} {t u : Bool} → w ≡ x → t ≡ u → l ≡ m → c ≡ d → mode_by w t l c ≡ mode_by x u m d
+same_mode {w} {x} {l} {m} {c} {d} {t} {u} a b e f =
+    ap (λ y. mode_by y t l c) a ∙ (ap (λ y. mode_by x y l c) b ∙ (ap (λ y. mode_by x u y c) e ∙ ap (λ y. mode_by x u m y) f))

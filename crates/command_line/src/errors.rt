@@ -1,0 +1,34 @@
+//! Why words are no command.
+ghost use Rattle.std.specs.Prelude.{◌≡◌};
+ghost use Rattle.command_line.specs.declared.errors.CommandLineError.TheVariants.{NoMemory};
+
+use std::alloc::AllocError;
+use thiserror::Error;
+
+/// Why words are no command. Where several hold, the first in this order is reported.
+#[derive(Clone, Copy, Debug, PartialEq, Eq, Error)]
+pub enum CommandLineError {
+    /// An unknown option or word, an option that stands twice or lacks its value, or a flag with a value.
+    #[error("usage: crypto_script [--workers N] [--trace] [--load SEED] [--count N]")]
+    Syntax,
+    /// `--count` without `--load`.
+    #[error("--count stands only beside --load")]
+    CountWithoutLoad,
+    /// `--load` beside `--trace`.
+    #[error("--load does not stand beside --trace")]
+    LoadWithTrace,
+    /// A value that is no number in decimal digits, that has a sign or a leading zero, or that is above its limit.
+    #[error("--workers is at most 16, --load below 2^64, --count at most 100000, without signs and leading zeros")]
+    InvalidNumber,
+    /// Memory ran out.
+    #[error("out of memory")]
+    NoMemory,
+}
+
+impl From<AllocError> for CommandLineError {
+    ghost from_gives = { λ _ e. e ≡ NoMemory };
+
+    fn from(_: AllocError) -> CommandLineError {
+        CommandLineError::NoMemory
+    }
+}

@@ -1,0 +1,18 @@
+//! The command line of `crypto_script`: `[--workers N] [--trace] [--load SEED] [--count N]`, read by `clap`.
+//!
+//! Without `--load` a script is asked for, which the program reads from its input; `--load` asks for a load of requests that the
+//! program makes by itself from a seed. Reading takes no input and writes nothing.
+#![tactic(auto)]
+
+mod errors;
+mod mode;
+mod number;
+mod options;
+mod parser;
+mod syntax;
+#[cfg(test)]
+mod tests;
+
+pub use errors::CommandLineError;
+pub use mode::{LoadOptions, Mode, ScriptOptions};
+pub use parser::parse_words;

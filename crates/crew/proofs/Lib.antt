@@ -1,0 +1,4 @@
+pub mod Works
+pub mod Crews
+pub mod OnBoth
+pub mod Ends

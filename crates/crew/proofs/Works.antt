@@ -1,0 +1,66 @@
+-- What work leaves of a pass.
+use Rattle.std.proofs.Common.{◌≡◌, ℕ, Bool, true, false, ◌&&◌, List, [], ◌∷◌, ◌++◌, refl, sym, ◌∙◌, ap, subst, ◌⊎◌, inl, inr}
+use Rattle.std.specs.List.{list_all}
+use Rattle.std.proofs.lemmas.List.Folds.{list_all-append}
+use Rattle.turn_lock.specs.Turns.{Known}
+use Rattle.turn_lock.specs.Meeting.{AtTurn, Enters, Leaves}
+use Rattle.turn_lock.proofs.Clients.{stays, goes_left, goes_entered, goes_then}
+use Rattle.board.specs.declared.entry.BoardEntry.{BoardEntry}
+use Rattle.board.specs.Entries.{entries_of, caller_of, take_entry, finish_entry}
+use Rattle.board.specs.Legal.{MayManage, IsOpen, LegalBoard}
+use Rattle.board.specs.Staying.{is_work}
+use Rattle.board.specs.Others.{StaysKnown}
+use Rattle.board.proofs.Others.{work_leaves_known, known_start}
+use Rattle.board.proofs.Staying.{taking_is_work, finishing_is_work}
+use Rattle.crew.specs.Working.{WorksOnce, Worked}
+
+both_true : (a b : Bool) → a ≡ true → b ≡ true → (a && b) ≡ true
+both_true true b h g = g
+both_true false b h g = cc
+
+module _ {A : Type 0} where
+  abbrev Legal : List (BoardEntry A) → Type 0
+  Legal xs = LegalBoard xs
+
+  pub worked_still : (k : Known (BoardEntry A)) → Worked k k
+  worked_still k = record { own = []; goes = stays caller_of Legal k; work = refl }
+
+  pub worked_none : (k l : Known (BoardEntry A)) → AtTurn caller_of Legal k (λ h. Leaves k h l) → Worked k l
+  worked_none k l t = record { own = []; goes = goes_left caller_of Legal k l t; work = refl }
+
+  pub worked_entry : (k l : Known (BoardEntry A)) (f : List (BoardEntry A) → BoardEntry A) → ((h : List (BoardEntry A)) → (is_work (f h) ≡ true) × (caller_of (f h) ≡ k.number)) → AtTurn caller_of Legal k (λ h. Enters Legal k h (f h) l) → Worked k l
+  worked_entry k l f all t = record {
+    own = f t.0 ∷ [];
+    goes = goes_entered caller_of Legal k l f t (all t.0).1;
+    work = both_true (is_work (f t.0)) true (all t.0).0 refl;
+  }
+
+  pub worked_on : (k l m : Known (BoardEntry A)) → Worked k l → Worked l m → Worked k m
+  worked_on k l m a b = record {
+    own = a.own ++ b.own;
+    goes = goes_then caller_of Legal k l m a.own b.own a.goes b.goes;
+    work = list_all-append is_work a.own b.own ∙ both_true (list_all is_work a.own) (list_all is_work b.own) a.work b.work;
+  }
+
+  pub once_worked : (k l : Known (BoardEntry A)) → WorksOnce k l → Worked k l
+  once_worked k l w =
+      worked_on k w.0 l
+      (worked_entry k w.0 (λ h. take_entry h k.number w.1 w.2) (λ h. let t = taking_is_work h k.number w.1 w.2 in (t.0, t.1)) w.3)
+      (worked_entry w.0 l (λ h. finish_entry h w.0.number w.1 w.2) (λ h. let t = finishing_is_work h w.0.number w.1 w.2 in (t.0, t.1)) w.4)
+
+  known_cases : (k l : Known (BoardEntry A)) (p : ℕ) (w : Worked k l) → (l.seen ≡ k.seen) ⊎ LegalBoard l.seen → MayManage (entries_of p k.seen) k.number → StaysKnown k.seen l.seen p k.number
+  known_cases k l p w (inl same) may = subst (λ xs. StaysKnown k.seen xs p k.number) (sym same) (known_start k.seen p k.number may)
+  known_cases k l p w (inr legal) may =
+      subst (λ xs. StaysKnown k.seen xs p k.number) (sym w.goes.seen)
+      (work_leaves_known k.seen w.goes.between p k.number (subst Legal w.goes.seen legal, ap (list_all is_work) w.goes.mine ∙ w.work) may)
+
+  -- what a pass knows of a pipeline that it made stays while it works
+  pub known_worked : (k l : Known (BoardEntry A)) (p : ℕ) → Worked k l → MayManage (entries_of p k.seen) k.number → StaysKnown k.seen l.seen p k.number
+  known_worked k l p w may = known_cases k l p w w.goes.kept may
+
+  pub managed_worked : (k l : Known (BoardEntry A)) (p : ℕ) → Worked k l → MayManage (entries_of p k.seen) k.number → MayManage (entries_of p l.seen) l.number
+  managed_worked k l p w may = subst (λ n. MayManage (entries_of p l.seen) n) (sym w.goes.number) (known_worked k l p w may).managed
+
+  pub open_worked : (k l : Known (BoardEntry A)) (p : ℕ) → Worked k l → MayManage (entries_of p k.seen) k.number → IsOpen (entries_of p k.seen) → IsOpen (entries_of p l.seen)
+  open_worked k l p w may (inl o) = inl ((known_worked k l p w may).pad o)
+  open_worked k l p w may (inr o) = inr ((known_worked k l p w may).queue o)

@@ -1,0 +1,149 @@
+//! What a worker does on a board and a registry.
+
+ghost use Rattle.std.specs.Prelude.{◌≡◌, true};
+ghost use Rattle.turn_lock.specs.Passes.{knows};
+ghost use Rattle.board.specs.Legal.{is_shut};
+ghost use Rattle.shared_registry.specs.Passes.{IsPassOn as IsRegPassOn};
+ghost use Rattle.shared_registry.specs.Building.{Works};
+ghost use Rattle.crew.specs.Both.{ArePassesOn, WorkedOnBoth};
+
+use crate::gate::Gate;
+use crate::passes::Passes;
+use crate::working::work_one;
+use board::Work;
+use shared_board::SharedBoard;
+use shared_registry::{RegPass, SharedRegistry, build_one};
+use std::alloc::Global;
+use std::sync::Wait;
+
+/// Claims and builds one larval, where one may wait. False where none does. Where memory runs out the larval that was claimed
+/// is ended with that.
+fn build_if_any<R: Wait>(
+    rt: &R,
+    alloc: Global,
+    registry: &SharedRegistry,
+    pass: RegPass,
+) -> (RegPass, bool)
+    requires { IsRegPassOn registry.now pass }
+    ensures lock { IsRegPassOn registry.now result.0 }
+    ensures works { Works (knows pass) (knows result.0) }
+{
+    if !registry.may_build() {
+        return (pass, false);
+    }
+    let (pass, built) = build_one(rt, alloc, registry, pass);
+    (pass, built.unwrap_or(true))
+}
+
+/// Does one job where one waits, and otherwise builds one larval where one does. False where neither was found.
+pub fn work_or_build<W: Work, G: Gate, R: Wait>(
+    rt: &R,
+    alloc: Global,
+    board: &SharedBoard<W>,
+    registry: &SharedRegistry,
+    passes: Passes<W::Ask>,
+    gate: &G,
+) -> (Passes<W::Ask>, bool)
+    requires { ArePassesOn board.now registry.now passes }
+    ensures lock { ArePassesOn board.now registry.now result.0 }
+    ensures worked { WorkedOnBoth passes result.0 }
+{
+    let Passes {
+        board: on_board,
+        registry: on_registry,
+    } = passes;
+    let (on_board, worked) = work_one(rt, board, on_board, gate);
+    if worked {
+        let passes = Passes {
+            board: on_board,
+            registry: on_registry,
+        };
+        return (passes, true);
+    }
+    let (on_registry, built) = build_if_any(rt, alloc, registry, on_registry);
+    let passes = Passes {
+        board: on_board,
+        registry: on_registry,
+    };
+    (passes, built)
+}
+
+/// Works until nothing is found or the board may be shut.
+fn work_both_while<W: Work, G: Gate, R: Wait>(
+    rt: &R,
+    alloc: Global,
+    board: &SharedBoard<W>,
+    registry: &SharedRegistry,
+    passes: Passes<W::Ask>,
+    gate: &G,
+) -> Passes<W::Ask>
+    requires { ArePassesOn board.now registry.now passes }
+    ensures lock { ArePassesOn board.now registry.now result }
+    ensures worked { WorkedOnBoth passes result }
+{
+    let mut mine = passes;
+    for _ in rt.forever() {
+        let (worked, found) = work_or_build(rt, alloc, board, registry, mine, gate);
+        if !found || board.may_be_shut() {
+            return worked;
+        }
+        mine = worked;
+    }
+    unreachable!()
+}
+
+/// Whether the board is shut, with both passes kept together.
+fn look_at_end<W: Work, R: Wait>(
+    rt: &R,
+    board: &SharedBoard<W>,
+    registry: &SharedRegistry,
+    passes: Passes<W::Ask>,
+) -> (Passes<W::Ask>, bool)
+    requires { ArePassesOn board.now registry.now passes }
+    ensures lock { ArePassesOn board.now registry.now result.0 }
+    ensures worked { WorkedOnBoth passes result.0 }
+    ensures shut { result.1 ≡ is_shut (knows result.0.board).seen }
+{
+    let Passes {
+        board: on_board,
+        registry: on_registry,
+    } = passes;
+    let (on_board, shut) = board.is_shut(rt, on_board);
+    let passes = Passes {
+        board: on_board,
+        registry: on_registry,
+    };
+    (passes, shut)
+}
+
+/// Works until the board is shut: does a job where one waits, and otherwise builds a larval where one does. A worker that
+/// finds neither sleeps until a job comes or it is called.
+pub fn work_on<W: Work, G: Gate, R: Wait>(
+    rt: &R,
+    alloc: Global,
+    board: &SharedBoard<W>,
+    registry: &SharedRegistry,
+    passes: Passes<W::Ask>,
+    gate: &G,
+) -> Passes<W::Ask>
+    requires { ArePassesOn board.now registry.now passes }
+    ensures lock { ArePassesOn board.now registry.now result }
+    ensures worked { WorkedOnBoth passes result }
+    ensures shut { is_shut (knows result.board).seen ≡ true }
+{
+    let mut mine = passes;
+    for _ in rt.forever() {
+        let worked = work_both_while(rt, alloc, board, registry, mine, gate);
+        let watch = board.watch_jobs();
+        let (looked, shut) = look_at_end(rt, board, registry, worked);
+        if shut {
+            return looked;
+        }
+        let (tried, found) = work_or_build(rt, alloc, board, registry, looked, gate);
+        mine = tried;
+        if !found {
+            watch.wait(rt);
+        }
+    }
+    unreachable!()
+}

@@ -1,0 +1,16 @@
+//! The crew: workers that do a board's jobs, and build what a registry waits for, beside one caller.
+#![tactic(auto)]
+
+mod both;
+mod crew;
+mod gate;
+mod laws;
+mod passes;
+mod working;
+
+pub use both::{work_on, work_or_build};
+pub use crew::run_crew;
+pub use gate::{Gate, NoGate};
+pub use laws::{crews_end, work_ends};
+pub use passes::Passes;
+pub use working::{drain, work_one};

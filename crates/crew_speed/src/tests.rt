@@ -1,0 +1,82 @@
+//! What no clause says of threads: that two are inside jobs at once, and that each crew ends.
+
+use crate::asking::{asked_beside_worker, count_built_by};
+use crate::callers::callers_see_their_own;
+use crate::calls::crew_of;
+use crate::sharing::shared_number;
+use crew::{Gate, NoGate};
+use std::sync::atomic::{AtomicU64, Ordering};
+use std::test::Fail;
+use std::thread;
+
+/// Holds the first that is inside a job until another is inside one too.
+#[derive(Drop)]
+struct Meet {
+    inside: AtomicU64,
+    gave_up: AtomicU64,
+}
+
+impl Gate for Meet {
+    fn inside(&self) {
+        self.inside.fetch_add(1, Ordering::SeqCst);
+        for _ in 0..10_000_000u64 {
+            if self.inside.load(Ordering::SeqCst) >= 2 {
+                return;
+            }
+            thread::yield_now();
+        }
+        self.gave_up.fetch_add(1, Ordering::SeqCst);
+    }
+}
+
+#[test]
+fn two_are_inside_at_once(rt: HostRuntime) -> Result<(), Fail> {
+    let gate = Meet {
+        inside: AtomicU64::new(0),
+        gave_up: AtomicU64::new(0),
+    };
+    assert!(rt; crew_of(&rt, rt.alloc(), 2, 2, 10, &gate).is_some());
+    assert_eq!(rt; gate.gave_up.load(Ordering::SeqCst), 0);
+    assert_eq!(rt; gate.inside.load(Ordering::SeqCst), 2);
+    Ok(())
+}
+
+#[test]
+fn each_crew_ends(rt: HostRuntime) -> Result<(), Fail> {
+    // the last one ends while all but one sleep
+    for (workers, jobs, turns) in [
+        (0u32, 300u32, 10u64),
+        (1, 300, 10),
+        (2, 300, 10),
+        (8, 300, 10),
+        (16, 300, 10),
+        (16, 0, 10),
+        (16, 1, 10_000_000),
+    ] {
+        assert!(rt; crew_of(&rt, rt.alloc(), workers, jobs, turns, &NoGate).is_some());
+    }
+    Ok(())
+}
+
+#[test]
+fn another_submits_to_a_shared_pad(rt: HostRuntime) -> Result<(), Fail> {
+    assert_eq!(rt; shared_number(&rt, rt.alloc()), Some(0));
+    Ok(())
+}
+
+#[test]
+fn eight_callers_see_their_own_order(rt: HostRuntime) -> Result<(), Fail> {
+    assert_eq!(rt; callers_see_their_own(&rt, rt.alloc(), 8, 50), Some(true));
+    Ok(())
+}
+
+#[test]
+fn a_worker_builds_what_another_asks_for(rt: HostRuntime) -> Result<(), Fail> {
+    let asked = asked_beside_worker(&rt, rt.alloc());
+    assert!(rt; asked.is_some());
+    if let Some((claimed, log)) = asked {
+        assert!(rt; claimed);
+        assert_eq!(rt; count_built_by(&log, 1), 1);
+    }
+    Ok(())
+}

@@ -1,0 +1,42 @@
+use Rattle.std.specs.Prelude.{◌+◌, ◌-◌, ◌*◌, ◌/◌, ◌++◌, ℕ, length, drop}
+use Rattle.std.proofs.Common.{arith}
+use Rattle.ctr_mode.specs.Streams.{key_byte}
+use Rattle.ctr_mode.proofs.Pieces.{applied_front, applied_more, xored_all}
+use Rattle.ctr_mode.proofs.key_stream.KeyStream.apply.Goals as goal
+
+pub loop-i-init : goal.loop-i-init
+loop-i-init g c =
+    let row = g.B.CounterBlocks.block in
+    applied_front (g.C.BlockCipher.sealed c.args.cipher.now) (row c.args.self.now.0) (row c.apply_within.new.self.0) c.args.self.now.1 c.apply_within.new.self.1 c.args.text.now c.apply_within.new.piece
+    c.min-front.result (c.min-front.result + 0) (omega arith) (omega arith) c.apply_within.ensures.text c.apply_within.ensures.on
+
+pub loop-i-preserved : goal.loop-i-preserved
+loop-i-preserved g c =
+    let row = g.B.CounterBlocks.block in
+    let a : ℕ = c.min-front.result + 128 * c.loop-i.i in
+    applied_more (g.C.BlockCipher.sealed c.args.cipher.now) (row c.args.self.now.0) (row c.loop-i.self.0) (row c.apply_eight.new.self.0) c.args.self.now.1 c.loop-i.self.1 c.apply_eight.new.self.1
+    c.args.text.now c.loop-i.text c.apply_eight.new.eight a a (a + 128 - a) (c.min-front.result + 128 * (c.loop-i.i + 1)) (omega arith) (omega (arith, c.loop-i.auto.text)) (omega arith)
+    c.apply_eight.ensures.text c.apply_eight.ensures.on c.loop-i.invariant
+
+pub loop-i-2-preserved : goal.loop-i-2-preserved
+loop-i-2-preserved g c =
+    let row = g.B.CounterBlocks.block in
+    let rest : ℕ = c.min-front.result + 128 * ((length (c.apply_within.new.piece ++ drop c.min-front.result c.args.text.now) - c.min-front.result) / 128) in
+    let a : ℕ = rest + 16 * c.loop-i-2.i in
+    applied_more (g.C.BlockCipher.sealed c.args.cipher.now) (row c.args.self.now.0) (row c.loop-i-2.self.0) (row c.apply_within-in-loop-i-2.new.self.0) c.args.self.now.1 c.loop-i-2.self.1 c.apply_within-in-loop-i-2.new.self.1
+    c.args.text.now c.loop-i-2.text c.apply_within-in-loop-i-2.new.piece a a (a + 16 - a) (rest + 16 * (c.loop-i-2.i + 1)) (omega arith) (omega (arith, c.loop-i.auto.text, c.loop-i-2.auto.text)) (omega arith)
+    c.apply_within-in-loop-i-2.ensures.text c.apply_within-in-loop-i-2.ensures.on c.loop-i-2.invariant
+
+pub returns-clause-text : goal.returns-clause-text
+returns-clause-text g c =
+    let row = g.B.CounterBlocks.block in
+    let sealed = g.C.BlockCipher.sealed c.args.cipher.now in
+    let s = c.args.self.now in
+    let rest : ℕ = c.min-front.result + 128 * ((length (c.apply_within.new.piece ++ drop c.min-front.result c.args.text.now) - c.min-front.result) / 128) in
+    let last : ℕ = rest + 16 * ((length c.loop-i.text - rest) / 16) in
+    let from : ℕ = rest + 16 * c.loop-i-2.i in
+    let all = applied_more sealed (row s.0) (row c.loop-i-2.self.0) (row c.apply_within-2.new.self.0) s.1 c.loop-i-2.self.1 c.apply_within-2.new.self.1
+    c.args.text.now c.loop-i-2.text c.apply_within-2.new.piece from last (length c.loop-i-2.text - last) (length c.loop-i-2.text)
+    (omega (arith, c.loop-i.auto.text, c.loop-i-2.auto.text)) (omega (arith, c.loop-i.auto.text, c.loop-i-2.auto.text)) (omega (arith, c.loop-i.auto.text, c.loop-i-2.auto.text))
+    c.apply_within-2.ensures.text c.apply_within-2.ensures.on c.loop-i-2.invariant in
+    xored_all (key_byte sealed (row s.0) s.1) c.args.text.now _ (length c.loop-i-2.text) all.xored (omega (arith, c.loop-i-2.invariant.xored.long))

@@ -1,0 +1,50 @@
+-- One dialogue after another.
+use Rattle.std.proofs.Common.{◌≡◌, List, [], ◌∷◌, ◌++◌, Option, Some, None, sym, ap, ◌∙◌, append_assoc}
+use Rattle.reply_text.specs.declared.answers.Answer.{Answer}
+use Rattle.dialogues.specs.RegistryCalls.{RegCall}
+use Rattle.dialogues.specs.BoardCalls.{BoardCall}
+use Rattle.dialogues.specs.Questions.{RegAnswer, reg_call, reg_answer, BoardAnswer, board_call, board_answer}
+use Rattle.dialogues.specs.Dialogues.{Dialogue, Ends, Says, Asks, Posts, followed}
+use Rattle.dialogues.specs.Turns.{Turn, broken, saying, asking, posting, joined, turn_of}
+use Rattle.dialogues.specs.Walk.{Walk}
+
+-- a turn that took up all these calls, and is done with this walk
+pub record Takes (turn : Turn) (r : List RegCall) (b : List BoardCall) (walk : Walk) : Type 0 where
+  pub registry : turn.registry ≡ r
+  pub board : turn.board ≡ b
+  pub after : turn.after ≡ Some walk
+
+saying-joined : (answers : List Answer) (t u : Turn) → saying answers (joined t u) ≡ joined (saying answers t) u
+saying-joined answers t u =
+    ap (λ all. record { registry = t.registry ++ u.registry; board = t.board ++ u.board; answers = all; after = u.after }) (sym (append_assoc answers t.answers u.answers))
+
+pub goes-on : (d : Dialogue) (later : Walk → Dialogue) (cr : List RegCall) (cb : List BoardCall) (walk : Walk) (r : List RegCall) (b : List BoardCall)
+    → Takes (turn_of d cr cb) cr cb walk → turn_of (followed d later) (cr ++ r) (cb ++ b) ≡ joined (turn_of d cr cb) (turn_of (later walk) r b)
+goes-on (Ends after) later [] [] walk r b takes = let same : after ≡ walk = cc (takes.after) in ap (λ w. turn_of (later w) r b) same
+goes-on (Ends after) later (call ∷ cr) cb walk r b takes = absurd (let e = takes.registry in cc)
+goes-on (Ends after) later [] (call ∷ cb) walk r b takes = absurd (let e = takes.board in cc)
+goes-on (Says answers next) later cr cb walk r b takes =
+    ap (saying answers) (goes-on next later cr cb walk r b (record { registry = takes.registry; board = takes.board; after = takes.after }))
+    ∙ saying-joined answers (turn_of next cr cb) (turn_of (later walk) r b)
+goes-on (Asks question next) later [] cb walk r b takes = absurd (let e = takes.after in cc)
+goes-on (Asks question next) later (call ∷ cr) cb walk r b takes = by_answer (reg_answer question call) takes (λ answer taken. goes-on (next answer) later cr cb walk r b taken)
+  where
+    by_answer : (o : Option (RegAnswer question))
+        → Takes (elim o [ Some answer ↦ asking (reg_call question answer) (turn_of (next answer) cr cb) | None ↦ broken ]) (call ∷ cr) cb walk
+        → ((answer : RegAnswer question) → Takes (turn_of (next answer) cr cb) cr cb walk → turn_of (followed (next answer) later) (cr ++ r) (cb ++ b) ≡ joined (turn_of (next answer) cr cb) (turn_of (later walk) r b))
+        → elim o [ Some answer ↦ asking (reg_call question answer) (turn_of (followed (next answer) later) (cr ++ r) (cb ++ b)) | None ↦ broken ]
+        ≡ joined (elim o [ Some answer ↦ asking (reg_call question answer) (turn_of (next answer) cr cb) | None ↦ broken ]) (turn_of (later walk) r b)
+    by_answer None t go = absurd (let e = t.after in cc)
+    by_answer (Some answer) t go =
+        ap (asking (reg_call question answer)) (go answer (record { registry = let e = t.registry in cc; board = t.board; after = t.after }))
+goes-on (Posts question next) later cr [] walk r b takes = absurd (let e = takes.after in cc)
+goes-on (Posts question next) later cr (call ∷ cb) walk r b takes = by_answer (board_answer question call) takes (λ answer taken. goes-on (next answer) later cr cb walk r b taken)
+  where
+    by_answer : (o : Option (BoardAnswer question))
+        → Takes (elim o [ Some answer ↦ posting (board_call question answer) (turn_of (next answer) cr cb) | None ↦ broken ]) cr (call ∷ cb) walk
+        → ((answer : BoardAnswer question) → Takes (turn_of (next answer) cr cb) cr cb walk → turn_of (followed (next answer) later) (cr ++ r) (cb ++ b) ≡ joined (turn_of (next answer) cr cb) (turn_of (later walk) r b))
+        → elim o [ Some answer ↦ posting (board_call question answer) (turn_of (followed (next answer) later) (cr ++ r) (cb ++ b)) | None ↦ broken ]
+        ≡ joined (elim o [ Some answer ↦ posting (board_call question answer) (turn_of (next answer) cr cb) | None ↦ broken ]) (turn_of (later walk) r b)
+    by_answer None t go = absurd (let e = t.after in cc)
+    by_answer (Some answer) t go =
+        ap (posting (board_call question answer)) (go answer (record { registry = t.registry; board = let e = t.board in cc; after = t.after }))

@@ -1,0 +1,6 @@
+pub mod RegistryGrowing
+pub mod BoardGrowing
+pub mod Taking
+pub mod Following
+pub mod Leading
+pub mod References

@@ -1,0 +1,17 @@
+pub mod Walk
+pub mod RegistryCalls
+pub mod BoardCalls
+pub mod Questions
+pub mod Dialogues
+pub mod Turns
+pub mod Names
+pub mod Registering
+pub mod Allocating
+pub mod Requesting
+pub mod Piping
+pub mod Lines
+pub mod Texts
+pub mod InTurn
+pub mod GoingOn
+pub mod Leading
+pub mod References

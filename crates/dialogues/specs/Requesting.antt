@@ -1,0 +1,102 @@
+-- The lines `aes`, `key` and `authsize`, which ask nothing, and the requests `enc`, `dec` and `mac`.
+use Rattle.std.specs.Prelude.{ℕ, ◌+◌, ◌^◌, ◌==◌, Bool, not, ◌&&◌, ◌||◌, nat_le, nat_lt, if◌then◌else◌, List, [], ◌∷◌, ◌++◌, length, Option, Some, None}
+use Rattle.kc_base.specs.declared.error_numbers.Errno.TheVariants.{E2BIG, EBADMSG, EBUSY, EINVAL, ENOSPC, EINPROGRESS, ENOKEY}
+use Rattle.std_defs.specs.Aes.{seal}
+use Rattle.std_defs.specs.Value.{Value}
+use Rattle.std_defs.specs.Value.Value.{bytes, bad_message, invalid}
+use Rattle.board.specs.declared.entry.Entered.{Entered}
+use Rattle.board.specs.declared.entry.Entered.TheVariants.{InProgress, Busy, NoSpace}
+use Rattle.transforms.specs.declared.request.Dir.{Dir}
+use Rattle.transforms.specs.declared.request.Request.{Request}
+use Rattle.transforms.specs.Asked.{takes}
+use Rattle.transforms.specs.Drivers.{driver_of}
+use Rattle.transforms.specs.Plans.{takes_key, takes_tag}
+use Rattle.transforms.specs.RequestValue.{request_value}
+use Rattle.reply_text.specs.declared.answers.Answer.{Answer}
+use Rattle.reply_text.specs.declared.answers.Answer.TheVariants as said
+use Rattle.dialogues.specs.BoardCalls.{Asked}
+use Rattle.dialogues.specs.Questions.{Submit, Enqueue}
+use Rattle.dialogues.specs.Dialogues.{Dialogue, Posts, says, refuses, unless, with_label}
+use Rattle.dialogues.specs.Walk.{Walk, Live, Pipe, with_live, with_pipe}
+
+-- ---- `aes KEY BLOCK`
+
+abbrev pub is_key_length : ℕ → Bool
+is_key_length n = (n == 16) || (n == 24) || (n == 32)
+
+abbrev pub aes_said : ℕ → List ℕ → List ℕ → Answer
+aes_said n key block = if is_key_length (length key) && (length block == 16) then said.Value n (seal key block) else said.Refused n EINVAL
+
+abbrev pub aes : Walk → ℕ → List ℕ → List ℕ → Dialogue
+aes walk n key block = says walk (aes_said n key block)
+
+-- ---- `key T HEX`
+
+abbrev pub set_key : Walk → ℕ → List ℕ → List ℕ → Dialogue
+set_key walk n label key = with_label walk n label λ live.
+    unless walk n ((not (takes_key live.plan key), EINVAL) ∷ [])
+    (says (with_live walk (record live { key = Some key })) (said.Ok n))
+
+-- ---- `authsize T NUM`
+
+abbrev pub set_tag_size : Walk → ℕ → List ℕ → ℕ → Dialogue
+set_tag_size walk n label size = with_label walk n label λ live.
+    unless walk n ((not (takes_tag live.plan size), EINVAL) ∷ [])
+    (says (with_live walk (record live { tag_size = size })) (said.Ok n))
+
+-- ---- `enc T IV AAD TEXT [backlog]`, `dec T IV AAD TEXT [backlog]` and `mac T TEXT [backlog]`
+
+abbrev pub request_of : Dir → List ℕ → List ℕ → List ℕ → Request
+request_of dir iv aad text = record { dir = dir; iv = iv; aad = aad; text = text }
+
+abbrev pub value_said : ℕ → Value → Answer
+value_said n (bytes made) = said.Value n made
+value_said n bad_message = said.Refused n EBADMSG
+value_said n invalid = said.Refused n EINVAL
+
+-- what a request asks of a transform under a key
+abbrev pub asked_of : Walk → ℕ → Live → List ℕ → Request → Asked
+asked_of walk n live key request = record { plan = live.plan; key = key; tag_size = live.tag_size; request = request; client = walk.client; line = n }
+
+-- the value of the request by the transform's driver
+abbrev pub value_of : Asked → Value
+value_of asked = request_value (driver_of asked.plan) asked.key asked.tag_size asked.request
+
+abbrev pub size_of : Request → ℕ
+size_of request = length request.iv + length request.aad + length request.text
+
+-- pipelines accept 2^20 requests of a script, and 2^26 bytes of them
+abbrev pub is_too_big : Walk → Request → Bool
+is_too_big walk request = nat_le (2 ^ 20) walk.requests || nat_lt (2 ^ 26) (walk.bytes + size_of request)
+
+-- the pipeline has accepted a request
+abbrev pub accepting : Walk → ℕ → Live → Pipe → Request → Walk
+accepting walk n live pipe request =
+    record (with_pipe walk live (record pipe { lines = pipe.lines ++ n ∷ [] })) { requests = walk.requests + 1; bytes = walk.bytes + size_of request }
+
+abbrev pub entered : Walk → ℕ → Live → Pipe → Request → Entered → Dialogue
+entered walk n live pipe request (InProgress number) = refuses (accepting walk n live pipe request) n EINPROGRESS
+entered walk n live pipe request (Busy number) = refuses (accepting walk n live pipe request) n EBUSY
+entered walk n live pipe request NoSpace = refuses walk n ENOSPC
+
+-- to a pad each request, and to a queue what it has room for
+abbrev pub hands_in : Walk → ℕ → Live → Pipe → Asked → Bool → Option ℕ → Dialogue
+hands_in walk n live pipe asked backlog None =
+    Posts (Submit pipe.number asked) λ number. refuses (accepting walk n live pipe asked.request) n EINPROGRESS
+hands_in walk n live pipe asked backlog (Some max) =
+    Posts (Enqueue pipe.number asked backlog) λ answer. entered walk n live pipe asked.request answer
+
+-- a transform without a pipeline answers at once
+abbrev pub requests_in : Walk → ℕ → Live → Asked → Bool → Option Pipe → Dialogue
+requests_in walk n live asked backlog None = says walk (value_said n (value_of asked))
+requests_in walk n live asked backlog (Some pipe) =
+    unless walk n ((is_too_big walk asked.request, E2BIG) ∷ []) (hands_in walk n live pipe asked backlog pipe.bound)
+
+abbrev pub requests_under : Walk → ℕ → Live → Request → Bool → Option (List ℕ) → Dialogue
+requests_under walk n live request backlog None = refuses walk n ENOKEY
+requests_under walk n live request backlog (Some key) =
+    unless walk n ((not (takes live.plan live.tag_size request), EINVAL) ∷ [])
+    (requests_in walk n live (asked_of walk n live key request) backlog live.pipe)
+
+abbrev pub request : Walk → ℕ → List ℕ → Request → Bool → Dialogue
+request walk n label asked backlog = with_label walk n label λ live. requests_under walk n live asked backlog live.key

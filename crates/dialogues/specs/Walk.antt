@@ -1,0 +1,62 @@
+-- What a script has made so far: its live transforms, and what its pipelines have accepted.
+use Rattle.std.specs.Prelude.{ℕ, Bool, if◌then◌else◌, List, [], ◌∷◌, find, Option, Some}
+use Rattle.std.specs.Str.{bytes_eq}
+use Rattle.templates.specs.declared.driver_plans.Plan.{Plan}
+
+-- A pipeline: its number on the board; how many requests may wait in a queue before it is full (none for a pad); whether it is
+-- held; the lines of the requests that it accepted; and how many of their completions it has handed out.
+pub record Pipe : Type 0 where
+  pub number : ℕ
+  pub bound : Option ℕ
+  pub held : Bool
+  pub lines : List ℕ
+  pub delivered : ℕ
+
+-- A live transform: its label, the entry on which it stands, what it computes, the key that was set last, and its tag size.
+-- Under `pcrypt` or `cryptd` it has a pipeline, which takes its requests; otherwise they are done at their line.
+pub record Live : Type 0 where
+  pub label : List ℕ
+  pub id : ℕ
+  pub plan : Plan
+  pub key : Option (List ℕ)
+  pub tag_size : ℕ
+  pub pipe : Option Pipe
+
+-- As which client the script runs; its live transforms, in order of allocation; and of all requests that pipelines accepted, how
+-- many and of how many bytes.
+pub record Walk : Type 0 where
+  pub client : ℕ
+  pub lives : List Live
+  pub requests : ℕ
+  pub bytes : ℕ
+
+-- before the first line
+abbrev pub start : ℕ → Walk
+start client = record { client = client; lives = []; requests = 0; bytes = 0 }
+
+abbrev pub is_of : List ℕ → Live → Bool
+is_of label live = bytes_eq live.label label
+
+-- the live transform of the label
+abbrev pub live_of : Walk → List ℕ → Option Live
+live_of walk label = find (is_of label) walk.lives
+
+-- the transform of the same label is now this one
+abbrev pub replaced : Live → List Live → List Live
+replaced live [] = []
+replaced live (other ∷ others) = if is_of live.label other then live ∷ others else other ∷ replaced live others
+
+abbrev pub with_live : Walk → Live → Walk
+with_live walk live = record walk { lives = replaced live walk.lives }
+
+-- the transform's pipeline is now this one
+abbrev pub with_pipe : Walk → Live → Pipe → Walk
+with_pipe walk live pipe = with_live walk (record live { pipe = Some pipe })
+
+-- the transform of the label is gone
+abbrev pub removed : List ℕ → List Live → List Live
+removed label [] = []
+removed label (other ∷ others) = if is_of label other then others else other ∷ removed label others
+
+abbrev pub without : Walk → List ℕ → Walk
+without walk label = record walk { lives = removed label walk.lives }

@@ -1,0 +1,68 @@
+//! Laws of dialogues and of the texts of scripts.
+
+ghost use Rattle.std.specs.Prelude.{◌≡◌, ◌++◌, ℕ, List, Some};
+ghost use Rattle.alg_registry.specs.declared.entry.RegEntry.{RegEntry};
+ghost use Rattle.board.specs.declared.entry.BoardEntry.{BoardEntry};
+ghost use Rattle.script_text.specs.declared.commands.Line.{Line};
+ghost use Rattle.transforms.specs.declared.ask.Ask.{Ask};
+ghost use Rattle.dialogues.specs.BoardCalls.{BoardCall};
+ghost use Rattle.dialogues.specs.Dialogues.{Dialogue, followed};
+ghost use Rattle.dialogues.specs.GoingOn.{RegisteredStays, FoundStays, RegistryCallsGoOn, RegistryCallsJoin, RegistryUnasked, BoardCallsGoOn, BoardCallsJoin, BoardUncalled, NoCall, OneCall, OneLook, NothingThenCalls, CallsThenCalls, CallsInTurnAre};
+ghost use Rattle.dialogues.specs.Leading.{LeadsNowhere, LeadsOn, LeadsFront, LeadsToEnd};
+ghost use Rattle.dialogues.specs.References.{ReferencesFollow};
+ghost use Rattle.dialogues.specs.RegistryCalls.{RegCall};
+ghost use Rattle.dialogues.specs.Texts.{IsText};
+ghost use Rattle.dialogues.specs.Turns.{Turn, IsTurn, joined, turn_of};
+ghost use Rattle.dialogues.specs.Walk.{Walk};
+
+/// A script has one text over two histories.
+pub fn one_text()
+    ensures { (workers : ℕ) (walk : Walk) (caller : ℕ) (lines : List Line) (r : List RegEntry) (b : List (BoardEntry Ask)) (x y : List ℕ)
+        → IsText workers walk caller lines r b x → IsText workers walk caller lines r b y → x ≡ y }
+{}
+
+/// Where one dialogue follows another, its turn follows the other's.
+pub fn turns_follow()
+    ensures { (first : Dialogue) (later : Walk → Dialogue) (turn : Turn) (walk : Walk) (r : List RegCall) (b : List BoardCall)
+        → IsTurn first turn → turn.after ≡ Some walk
+        → turn_of (followed first later) (turn.registry ++ r) (turn.board ++ b) ≡ joined turn (turn_of (later walk) r b) }
+{}
+
+/// A caller's calls on the registry stay as its history goes on, and only what it asked adds to them.
+pub fn registry_calls_go_on()
+    ensures registered { RegisteredStays }
+    ensures found { FoundStays }
+    ensures goes_on { RegistryCallsGoOn }
+    ensures joins { RegistryCallsJoin }
+    ensures unasked { RegistryUnasked }
+{}
+
+/// A caller's calls on the board stay as its history goes on, and only what it called adds to them.
+pub fn board_calls_go_on()
+    ensures goes_on { BoardCallsGoOn }
+    ensures joins { BoardCallsJoin }
+    ensures uncalled { BoardUncalled }
+{}
+
+/// Calls in turn, one by one; and that they are the caller's further calls.
+pub fn calls_in_turn()
+    ensures none { NoCall }
+    ensures one { OneCall }
+    ensures look { OneLook }
+    ensures first { NothingThenCalls }
+    ensures after { CallsThenCalls }
+    ensures are { CallsInTurnAre }
+{}
+
+/// A script's lines, one by one, and the texts that they come to.
+pub fn lines_lead()
+    ensures nowhere { LeadsNowhere }
+    ensures on { LeadsOn }
+    ensures front { LeadsFront }
+    ensures end { LeadsToEnd }
+{}
+
+/// Who got more references of an entry than it gave back has one to give back, by its own entries alone.
+pub fn references_follow()
+    ensures { ReferencesFollow }
+{}

@@ -1,0 +1,88 @@
+-- Commands, lines, and their text.
+use Rattle.std.proofs.Common.{◌≡◌, ℕ, List, [], ◌++◌, Result, refl, sym, ap, subst, ◌∙◌}
+use Rattle.std.specs.Prelude.{MatchResult}
+use Rattle.std.specs.List.{flat_map}
+use Rattle.transforms.specs.declared.ask.Ask.{Ask}
+use Rattle.transforms.specs.declared.request.Finished.{Finished}
+use Rattle.shared_registry.specs.declared.sharing.SharedRegistry.{SharedRegistry}
+use Rattle.shared_board.specs.declared.shared.SharedBoard.{SharedBoard}
+use Rattle.reply_text.specs.declared.answers.Answer.{Answer}
+use Rattle.reply_text.specs.Answers.{text_of}
+use Rattle.script_text.specs.declared.commands.Command.{Command}
+use Rattle.script_text.specs.declared.commands.Line.{Line}
+use Rattle.dialogues.specs.Dialogues.{Dialogue, Ends}
+use Rattle.dialogues.specs.Lines.{command_dialogue, line_dialogue}
+use Rattle.dialogues.specs.Requesting.{request}
+use Rattle.dialogues.specs.Turns.{ended}
+use Rattle.transforms.specs.declared.request.Request.{Request}
+use Rattle.session_calls.specs.Passes.{known}
+use Rattle.script_session.specs.Holding.{Holds, Stops}
+use Rattle.script_session.specs.Running.{IsReady, Replies}
+use Rattle.script_session.specs.States.{State, Stands, Posted}
+use Rattle.script_session.proofs.Rules.{asked-nothing, called-nothing}
+use Rattle.std.proofs.Common.{append-nil}
+
+pub command-arm : {S A : Type 0} (result : Result A S) (s s' : State) (n : ℕ) (cmd given : Command) (answers answers' : List Answer) → cmd ≡ given
+    → MatchResult result (λ _. Holds (command_dialogue s.workers s.walk n given) s s' answers answers') (λ _. Stops s s')
+    → MatchResult result (λ _. Holds (command_dialogue s.workers s.walk n cmd) s s' answers answers') (λ _. Stops s s')
+command-arm result s s' n cmd given answers answers' is held =
+    subst (λ x. MatchResult result (λ _. Holds (command_dialogue s.workers s.walk n x) s s' answers answers') (λ _. Stops s s')) (sym is) held
+
+pub line-arm : {S A : Type 0} (result : Result A S) (s s' : State) (n : ℕ) (line given : Line) (answers answers' : List Answer) → line ≡ given
+    → MatchResult result (λ _. Holds (line_dialogue s.workers s.walk n given) s s' answers answers') (λ _. Stops s s')
+    → MatchResult result (λ _. Holds (line_dialogue s.workers s.walk n line) s s' answers answers') (λ _. Stops s s')
+line-arm result s s' n line given answers answers' is held =
+    subst (λ x. MatchResult result (λ _. Holds (line_dialogue s.workers s.walk n x) s s' answers answers') (λ _. Stops s s')) (sym is) held
+
+pub line-holds : (s s' : State) (n : ℕ) (line given : Line) (answers answers' : List Answer) → line ≡ given → Holds (line_dialogue s.workers s.walk n given) s s' answers answers' → Holds (line_dialogue s.workers s.walk n line) s s' answers answers'
+line-holds s s' n line given answers answers' is held = subst (λ x. Holds (line_dialogue s.workers s.walk n x) s s' answers answers') (sym is) held
+
+pub request-arm-as : {S A : Type 0} (result : Result A S) (s s' : State) (n : ℕ) (label : List ℕ) (asked given : Request) (backlog : _) (answers answers' : List Answer) → asked ≡ given
+    → MatchResult result (λ _. Holds (request s.walk n label asked backlog) s s' answers answers') (λ _. Stops s s')
+    → MatchResult result (λ _. Holds (request s.walk n label given backlog) s s' answers answers') (λ _. Stops s s')
+request-arm-as result s s' n label asked given backlog answers answers' is held =
+    subst (λ x. MatchResult result (λ _. Holds (request s.walk n label x backlog) s s' answers answers') (λ _. Stops s s')) is held
+
+-- a line with nothing on it
+pub nothing-holds : (s : State) (answers : List Answer) → Stands s.walk.lives (known s.registry) → Posted s.walk (known s.board) → Holds (Ends s.walk) s s answers answers
+nothing-holds s answers stands posted =
+    record {
+      locks = record { registry = refl; board = refl; workers = refl };
+      done = record {
+        turn = ended s.walk;
+        is = refl;
+        asked = asked-nothing (known s.registry) stands.caller;
+        called = called-nothing (known s.board);
+        ends = refl;
+        says = sym (append-nil answers);
+        stands = stands;
+        posted = posted;
+      };
+    }
+
+-- what was held is a stop where its text found no memory
+pub holds-stops : (d : Dialogue) (s s' : State) (answers answers' : List Answer) → Holds d s s' answers answers' → Stops s s'
+holds-stops d s s' answers answers' held =
+    record {
+      locks = held.locks;
+      number = held.done.asked.number;
+      registry = (held.done.asked.are.more, held.done.asked.are.goes_on);
+      same_board = held.done.called.number;
+      board = held.done.called.seen;
+    }
+
+pub replies : (d : Dialogue) (s s' : State) (answers : List Answer) (text text' : List ℕ) → Holds d s s' [] answers → text' ≡ text ++ flat_map text_of answers → Replies d s s' text text'
+replies d s s' answers text text' held e =
+    record {
+      locks = held.locks;
+      turn = held.done.turn;
+      is = held.done.is;
+      asked = held.done.asked;
+      called = held.done.called;
+      ends = held.done.ends;
+      says = e ∙ ap (λ a. text ++ flat_map text_of a) held.done.says;
+    }
+
+pub ready : {W : Type 0} (registry : SharedRegistry) (board : SharedBoard W Ask Finished) (d : Dialogue) (s s' : State) (answers answers' : List Answer) → IsReady registry board s → Holds d s s' answers answers' → IsReady registry board s'
+ready registry board d s s' answers answers' is held =
+    record { calls_registry = held.locks.registry ∙ is.calls_registry; calls_board = held.locks.board ∙ is.calls_board; stands = held.done.stands; posted = held.done.posted }

@@ -1,0 +1,88 @@
+-- A pipeline is made, and with it a transform.
+use Rattle.std.proofs.Common.{◌≡◌, ℕ, ◌+◌, ◌≤◌, Bool, true, false, cond, List, [], ◌∷◌, ◌++◌, length, Option, Some, None, refl, sym, ap, subst, ◌∙◌, append-nil, arith}
+use Rattle.std.specs.Prelude.{◌==◌, All, sum_by}
+use Rattle.std.proofs.lemmas.List.Elements.{All-nil, All-cons, All-head, All-tail, All-append}
+use Rattle.std.proofs.lemmas.Bool.{eqb-true}
+use Rattle.board.specs.declared.entry.BoardEntry.{BoardEntry}
+use Rattle.board.specs.declared.entry.Shape.{Shape}
+use Rattle.board.specs.Allowance.{accepted_by}
+use Rattle.board.specs.Legal.{IsNoWorker}
+use Rattle.templates.specs.declared.driver_plans.Plan.{Plan}
+use Rattle.transforms.specs.declared.ask.Ask.{Ask}
+use Rattle.transforms.specs.AskValue.{ask_size}
+use Rattle.turn_lock.specs.Turns.{Known}
+use Rattle.dialogues.specs.Allocating.{new_pipe, new_live, and_live}
+use Rattle.dialogues.specs.Walk.{Walk, Live, Pipe}
+use Rattle.session_calls.specs.Pipelines.{Opened}
+use Rattle.script_session.specs.Creating.{Created}
+use Rattle.script_session.specs.States.{HasPipe, Posted, is_at, owners}
+use Rattle.script_session.proofs.Changing.{IsOn, owners-append}
+
+module _ (k l : Known (BoardEntry Ask)) (number : ℕ) (shape : Shape) (opened : Opened k l number shape) where
+  stays : (other : Option Pipe) → HasPipe k other → HasPipe l other
+  stays None on = tt
+  stays (Some other) on = opened.changed.others other (opened.fresh other on) on
+
+  all-stay : (lives : List Live) → All (IsOn k) lives → All (IsOn l) lives
+  all-stay [] all = All-nil (IsOn l)
+  all-stay (x ∷ xs) all = All-cons (IsOn l) x xs (stays x.pipe (All-head (IsOn k) x xs all)) (all-stay xs (All-tail (IsOn k) x xs all))
+
+  not-at : (other : Option Pipe) → HasPipe k other → is_at number other ≡ false
+  not-at None on = refl
+  not-at (Some other) on = opened.fresh other on
+
+  none-own : (lives : List Live) → All (IsOn k) lives → owners number lives ≡ 0
+  none-own [] all = refl
+  none-own (x ∷ xs) all =
+      let counted : Bool → ℕ = λ t. cond t 1 0 in
+      let zero : counted (is_at number x.pipe) ≡ 0 = ap counted (not-at x.pipe (All-head (IsOn k) x xs all)) in
+      let rest = none-own xs (All-tail (IsOn k) x xs all) in
+      omega (arith, zero, rest)
+
+own-or-free : (t : Bool) (n : ℕ) → n ≤ 1 → (t ≡ true → n ≡ 0) → n + (cond t 1 0 + 0) ≤ 1
+own-or-free true n few free = let z = free refl in omega (arith, z)
+own-or-free false n few free = omega (arith, few)
+
+-- what is known of the board is that of the walk with the new transform
+pub created-posted : (walk : Walk) (label : List ℕ) (id : ℕ) (plan : Plan) (shape : Option Shape) (pipe : Option Pipe) (k l : Known (BoardEntry Ask)) → Posted walk k → Created shape pipe k l
+    → Posted (and_live walk (new_live label id plan pipe)) l
+created-posted walk label id plan None pipe k l posted created =
+    let live : Live = new_live label id plan pipe in
+    let on : HasPipe k pipe = subst (HasPipe k) (sym created.0) tt in
+    subst (Posted (and_live walk live)) (sym created.1)
+    (record {
+      outsider = posted.outsider;
+      legal = posted.legal;
+      pipes = All-append (IsOn k) walk.lives (live ∷ []) posted.pipes (All-cons (IsOn k) live [] on (All-nil (IsOn k)));
+      apart = λ number.
+          (let all = owners-append number walk.lives (live ∷ []) in
+          let counted : Option Pipe → ℕ = λ p. cond (is_at number p) 1 0 in
+          let none : counted pipe ≡ 0 = ap counted created.0 in
+          let few = posted.apart number in
+          let goal : owners number (walk.lives ++ live ∷ []) ≤ 1 = omega (arith, all, none, few) in
+          goal);
+      requests = posted.requests;
+      bytes = posted.bytes;
+      unshut = posted.unshut;
+    })
+created-posted walk label id plan (Some shape) pipe k l posted created =
+    let number = created.0 in
+    let opened = created.2 in
+    let changed = opened.changed in
+    let live : Live = new_live label id plan (Some (new_pipe number shape)) in
+    let free = none-own k l number shape opened walk.lives posted.pipes in
+    let same : accepted_by l.number l.seen ≡ accepted_by k.number k.seen = changed.accepted ∙ append-nil (accepted_by k.number k.seen) in
+    let there : Posted (and_live walk live) l = record {
+      outsider = subst IsNoWorker (sym changed.called.number) posted.outsider;
+      legal = changed.legal;
+      pipes = All-append (IsOn l) walk.lives (live ∷ []) (all-stay k l number shape opened walk.lives posted.pipes) (All-cons (IsOn l) live [] changed.now (All-nil (IsOn l)));
+      apart = λ n.
+          (let all = owners-append n walk.lives (live ∷ []) in
+          let few = own-or-free (number == n) (owners n walk.lives) (posted.apart n) (λ same_n. ap (λ m. owners m walk.lives) (sym (eqb-true number n same_n)) ∙ free) in
+          let goal : owners n (walk.lives ++ live ∷ []) ≤ 1 = omega (arith, all, few) in
+          goal);
+      requests = ap length same ∙ posted.requests;
+      bytes = ap (sum_by ask_size) same ∙ posted.bytes;
+      unshut = λ zero_is. changed.unshut (sym changed.called.number ∙ zero_is) ∙ posted.unshut (sym changed.called.number ∙ zero_is);
+    } in
+    subst (λ p. Posted (and_live walk (new_live label id plan p)) l) (sym created.1) there

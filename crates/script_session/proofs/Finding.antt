@@ -1,0 +1,248 @@
+-- `alloc` past its own refusals: the name is looked up, and what is found is taken into use.
+use Rattle.std.proofs.Common.{◌≡◌, ℕ, ◌+◌, Bool, true, false, cond, List, [], ◌∷◌, ◌++◌, Option, Some, None, Result, Ok, Err, slice_get, refl, sym, ap, subst, ◌∙◌, arith}
+use Rattle.std.specs.Prelude.{◌==◌, not, unwrap_or, MatchResult}
+use Rattle.kc_base.specs.declared.error_numbers.Errno.{Errno}
+use Rattle.kc_base.specs.declared.error_numbers.Errno.TheVariants.{EAGAIN, EINVAL}
+use Rattle.alg_registry.specs.declared.spec.Spec.{Spec}
+use Rattle.alg_registry.specs.declared.entry.RegEntry.{RegEntry}
+use Rattle.alg_registry.specs.Rows.{registered}
+use Rattle.board.specs.declared.entry.BoardEntry.{BoardEntry}
+use Rattle.board.specs.declared.entry.Shape.{Shape}
+use Rattle.reply_text.specs.declared.answers.Answer.{Answer}
+use Rattle.reply_text.specs.declared.answers.Answer.TheVariants as said
+use Rattle.templates.specs.declared.driver_plans.Plan.{Plan}
+use Rattle.templates.specs.Looking.{Entry, Fault}
+use Rattle.transforms.specs.declared.ask.Ask.{Ask}
+use Rattle.turn_lock.specs.Turns.{Known, StartsWith}
+use Rattle.dialogues.specs.Names.{plan_for}
+use Rattle.dialogues.specs.RegistryCalls.{RegCall, Looks, Gets}
+use Rattle.dialogues.specs.Allocating.{binds, binds_plan, creates, shape_for, new_pipe, new_live, and_live}
+use Rattle.dialogues.specs.Dialogues.{Dialogue, says, unless}
+use Rattle.dialogues.specs.Questions.{Look, Get, Create}
+use Rattle.dialogues.specs.Walk.{Walk, Live, Pipe}
+use Rattle.session_calls.specs.Asking.{Asked, Asks, SeesMore, Finds}
+use Rattle.session_calls.specs.Passes.{RegPass, BoardPass, known, lock_of}
+use Rattle.session_calls.proofs.Boarding.{starts-same, starts-trans}
+use Rattle.script_session.specs.Creating.{Created}
+use Rattle.script_session.specs.Finding.{looks}
+use Rattle.script_session.specs.Holding.{SeesOn, Done, Holds, Stops}
+use Rattle.script_session.specs.States.{State, Stands, Posted, uses}
+use Rattle.script_session.proofs.Arms.{viewed}
+use Rattle.script_session.proofs.Creating.{created-posted}
+use Rattle.script_session.proofs.Rules.{says-done, asks-done, posts-done, asked-more}
+use Rattle.script_session.proofs.Standing.{stands-more}
+
+-- ---- a dialogue that takes an entry into use
+
+uses-more : (id : ℕ) (lives : List Live) (live : Live) → uses id (lives ++ live ∷ []) ≡ uses id lives + cond (live.id == id) 1 0
+uses-more id [] live = omega arith
+uses-more id (x ∷ xs) live = let h = uses-more id xs live in omega (arith, h)
+
+creates-done : (shape : Option Shape) (pipe : Option Pipe) (rest : Option Pipe → Dialogue) (k : Known RegEntry) (b b' : Known (BoardEntry Ask)) (after : Walk) (answers answers' : List Answer) → Created shape pipe b b'
+    → Done (rest pipe) k b' k b' after answers answers' → Done (creates shape rest) k b k b' after answers answers'
+creates-done None pipe rest k b b' after answers answers' created done =
+    subst (λ p. Done (rest p) k b k b' after answers answers') created.0 (subst (λ x. Done (rest pipe) k x k b' after answers answers') created.1 done)
+creates-done (Some shape) pipe rest k b b' after answers answers' created done =
+    posts-done k k b b' b' (Create shape) created.0 (λ m. rest (Some (new_pipe m shape))) after answers answers' created.2.changed.called
+    (subst (λ p. Done (rest p) k b' k b' after answers answers') created.1 done)
+
+asked-none-done : (d : Dialogue) (k k1 k' : Known RegEntry) (b b' : Known (BoardEntry Ask)) (after : Walk) (answers answers' : List Answer) → Asked k k1 [] → Done d k1 b k' b' after answers answers'
+    → Done d k b k' b' after answers answers'
+asked-none-done d k k1 k' b b' after answers answers' first done =
+    record {
+      turn = done.turn;
+      is = done.is;
+      asked = asked-more k k1 k' [] done.turn.registry first done.asked;
+      called = done.called;
+      ends = done.ends;
+      says = done.says;
+      stands = done.stands;
+      posted = done.posted;
+    }
+
+abbrev after-get : ℕ → Walk → ℕ → List ℕ → Option ℕ → ℕ → Spec → Plan → Bool → Dialogue
+after-get workers walk n label len id spec plan ok =
+    unless walk n ((not ok, EAGAIN) ∷ []) (creates (shape_for workers spec.wrap len) (λ pipe. says (and_live walk (new_live label id plan pipe)) (said.Made n spec.driver)))
+
+-- a plan, a reference and a pipeline, where there is one
+bind-done : (workers : ℕ) (walk : Walk) (n : ℕ) (label : List ℕ) (len : Option ℕ) (id : ℕ) (spec : Spec) (plan : Plan) (pipe : Option Pipe) (k k2 : Known RegEntry) (b b' : Known (BoardEntry Ask)) (answers answers' : List Answer)
+    → plan_for spec len ≡ Some plan → Asked k k2 (Gets id true ∷ []) → Created (shape_for workers spec.wrap len) pipe b b' → Stands walk.lives k → Posted walk b → answers' ≡ answers ++ said.Made n spec.driver ∷ []
+    → Done (binds workers walk n label len (Entry id spec)) k b k2 b' (and_live walk (new_live label id plan pipe)) answers answers'
+bind-done workers walk n label len id spec plan pipe k k2 b b' answers answers' plans got created stands posted e =
+    let live : Live = new_live label id plan pipe in
+    let after : Walk = and_live walk live in
+    let stands' : Stands after.lives k2 = stands-more walk.lives after.lives k k2 (Gets id true ∷ []) stands got (λ other. let u = uses-more other walk.lives live in omega (arith, u)) in
+    let posted' : Posted after b' = created-posted walk label id plan (shape_for workers spec.wrap len) pipe b b' posted created in
+    let rest : Option Pipe → Dialogue = λ p. says (and_live walk (new_live label id plan p)) (said.Made n spec.driver) in
+    subst (λ p. Done (binds_plan workers walk n label len id spec p) k b k2 b' after answers answers') (sym plans)
+    (asks-done k k2 k2 b b' (Get id) true (after-get workers walk n label len id spec plan) after answers answers' got
+    (creates-done (shape_for workers spec.wrap len) pipe rest k2 b b' after answers answers' created
+    (says-done k2 b' after (said.Made n spec.driver ∷ []) answers answers' stands' posted' e)))
+
+-- the entry was no more listed
+bind-lost : (workers : ℕ) (walk : Walk) (n : ℕ) (label : List ℕ) (len : Option ℕ) (id : ℕ) (spec : Spec) (plan : Plan) (k k2 : Known RegEntry) (b : Known (BoardEntry Ask)) (answers answers' : List Answer)
+    → plan_for spec len ≡ Some plan → Asked k k2 (Gets id false ∷ []) → Stands walk.lives k → Posted walk b → answers' ≡ answers ++ said.Refused n EAGAIN ∷ []
+    → Done (binds workers walk n label len (Entry id spec)) k b k2 b walk answers answers'
+bind-lost workers walk n label len id spec plan k k2 b answers answers' plans got stands posted e =
+    let stands' : Stands walk.lives k2 = stands-more walk.lives walk.lives k k2 (Gets id false ∷ []) stands got (λ other. refl) in
+    subst (λ p. Done (binds_plan workers walk n label len id spec p) k b k2 b walk answers answers') (sym plans)
+    (asks-done k k2 k2 b b (Get id) false (after-get workers walk n label len id spec plan) walk answers answers' got
+    (says-done k2 b walk (said.Refused n EAGAIN ∷ []) answers answers' stands' posted e))
+
+-- ---- what is seen goes on
+
+pub sees-asked : {r r' : Option RegPass} (calls : List RegCall) → Asks r r' calls → SeesMore r r'
+sees-asked calls asks = record { lock = asks.lock; number = asks.asked.number; seen = (asks.asked.are.more, asks.asked.are.goes_on) }
+
+pub sees-then : {r r1 r2 : Option RegPass} → SeesMore r r1 → SeesMore r1 r2 → SeesMore r r2
+sees-then {r} {r1} {r2} a b = record { lock = b.lock ∙ a.lock; number = b.number ∙ a.number; seen = starts-trans (known r).seen (known r1).seen (known r2).seen a.seen b.seen }
+
+pub sees-same : (k : Known (BoardEntry Ask)) → SeesOn k k
+sees-same k = (refl, starts-same k.seen)
+
+pub created-sees : (shape : Option Shape) (pipe : Option Pipe) (k l : Known (BoardEntry Ask)) → Created shape pipe k l → SeesOn k l
+created-sees None pipe k l created = subst (SeesOn k) (sym created.1) (sees-same k)
+created-sees (Some shape) pipe k l created = (created.2.changed.called.number, created.2.changed.called.seen)
+
+-- a reference was taken, or not
+pub asks-got : {r r' : Option RegPass} (id : ℕ) (ok t : Bool) → ok ≡ t → Asks r r' (Gets id ok ∷ []) → Asks r r' (Gets id t ∷ [])
+asks-got {r} {r'} id ok t is asks = subst (λ x. Asks r r' (Gets id x ∷ [])) is asks
+
+pub finds-as : (r r' : Option RegPass) (text : List ℕ) (a b : Result ℕ Errno) → a ≡ b → Finds r r' text a → Finds r r' text b
+finds-as r r' text a b is found = subst (Finds r r' text) is found
+
+-- ---- arms
+
+-- an entry's dialogue was held, and this is the entry as it came to be
+abbrev pub Bound : State → State → ℕ → List ℕ → Option ℕ → ℕ → List Answer → List Answer → Type 0
+Bound s s' n label len id answers answers' =
+    (spec : Spec) × (slice_get (registered (known s.registry).seen) id ≡ Some spec) × Holds (binds s.workers s.walk n label len (Entry id spec)) s s' answers answers'
+
+some-same : {A : Type 0} (a b : A) (o : Option A) → o ≡ Some a → o ≡ Some b → a ≡ b
+some-same a b o first second = ap (λ x. unwrap_or x a) (sym first ∙ second)
+
+module _ {ws c : ℕ} {lives : List Live} {q v : ℕ} {r : Option RegPass} {b : Option BoardPass} (s : State) (view : viewed ws c lives q v r b ≡ s) where
+  -- memory was wanting
+  pub further : {r' : Option RegPass} {b' : Option BoardPass} (lives' : List Live) → SeesMore r r' → lock_of b' ≡ lock_of b → SeesOn (known b) (known b') → Stops s (viewed ws c lives' q v r' b')
+  further {r'} {b'} lives' more lock on =
+      record {
+        locks = record { registry = more.lock ∙ ap (λ (x : State). lock_of x.registry) view; board = lock ∙ ap (λ (x : State). lock_of x.board) view; workers = ap (λ (x : State). x.workers) view };
+        number = more.number ∙ ap (λ (x : State). (known x.registry).number) view;
+        registry = subst (λ (x : State). StartsWith (known r').seen (known x.registry).seen) view more.seen;
+        same_board = on.0 ∙ ap (λ (x : State). (known x.board).number) view;
+        board = subst (λ (x : State). StartsWith (known b').seen (known x.board).seen) view on.1;
+      }
+
+  -- the same after the registry was asked
+  pub further-still : {r' : Option RegPass} (s' : State) → SeesMore r r' → Stops (viewed ws c lives q v r' b) s' → Stops s s'
+  further-still {r'} s' more stops =
+      record {
+        locks = record { registry = stops.locks.registry ∙ (more.lock ∙ ap (λ (x : State). lock_of x.registry) view); board = stops.locks.board ∙ ap (λ (x : State). lock_of x.board) view; workers = stops.locks.workers ∙ ap (λ (x : State). x.workers) view };
+        number = stops.number ∙ (more.number ∙ ap (λ (x : State). (known x.registry).number) view);
+        registry = subst (λ (x : State). StartsWith (known s'.registry).seen (known x.registry).seen) view (starts-trans (known r).seen (known r').seen (known s'.registry).seen more.seen stops.registry);
+        same_board = stops.same_board ∙ ap (λ (x : State). (known x.board).number) view;
+        board = subst (λ (x : State). StartsWith (known s'.board).seen (known x.board).seen) view stops.board;
+      }
+
+  pub bound-arm : {r' r2 : Option RegPass} {b' : Option BoardPass} {items : List Live} (n : ℕ) (label : List ℕ) (len : Option ℕ) (id : ℕ) (spec : Spec) (plan : Plan) (pipe : Option Pipe) (answers answers' : List Answer)
+      → Asks r r' [] → slice_get (registered (known r).seen) id ≡ Some spec → plan_for spec len ≡ Some plan → Asks r' r2 (Gets id true ∷ []) → lock_of b' ≡ lock_of b → Created (shape_for ws spec.wrap len) pipe (known b) (known b')
+      → items ≡ lives ++ new_live label id plan pipe ∷ [] → Stands s.walk.lives (known s.registry) → Posted s.walk (known s.board) → answers' ≡ answers ++ said.Made n spec.driver ∷ []
+      → Bound s (viewed ws c items q v r2 b') n label len id answers answers'
+  bound-arm {r'} {r2} {b'} {items} n label len id spec plan pipe answers answers' origin there plans got lock created more stands posted e =
+      let from : State = viewed ws c lives q v r b in
+      let to : State = viewed ws c items q v r2 b' in
+      let d : Dialogue = binds ws from.walk n label len (Entry id spec) in
+      subst (λ (x : State). Stands x.walk.lives (known x.registry) → Posted x.walk (known x.board) → Bound x to n label len id answers answers') view
+      (λ stands0 posted0. (
+        spec,
+        there,
+        record {
+          locks = record { registry = got.lock ∙ origin.lock; board = lock; workers = refl };
+          done = subst (λ ls. Done d (known r) (known b) (known r2) (known b') (record { client = c; lives = ls; requests = q; bytes = v }) answers answers') (sym more)
+              (asked-none-done d (known r) (known r') (known r2) (known b) (known b') (and_live from.walk (new_live label id plan pipe)) answers answers' origin.asked
+              (bind-done ws from.walk n label len id spec plan pipe (known r') (known r2) (known b) (known b') answers answers' plans got.asked created
+              (stands-more lives lives (known r) (known r') [] stands0 origin.asked (λ other. refl)) posted0 e));
+        },
+      )) stands posted
+
+  pub lost-arm : {r' r2 : Option RegPass} (n : ℕ) (label : List ℕ) (len : Option ℕ) (id : ℕ) (spec : Spec) (plan : Plan) (answers answers' : List Answer)
+      → Asks r r' [] → slice_get (registered (known r).seen) id ≡ Some spec → plan_for spec len ≡ Some plan → Asks r' r2 (Gets id false ∷ [])
+      → Stands s.walk.lives (known s.registry) → Posted s.walk (known s.board) → answers' ≡ answers ++ said.Refused n EAGAIN ∷ []
+      → Bound s (viewed ws c lives q v r2 b) n label len id answers answers'
+  lost-arm {r'} {r2} n label len id spec plan answers answers' origin there plans got stands posted e =
+      let from : State = viewed ws c lives q v r b in
+      let to : State = viewed ws c lives q v r2 b in
+      let d : Dialogue = binds ws from.walk n label len (Entry id spec) in
+      subst (λ (x : State). Stands x.walk.lives (known x.registry) → Posted x.walk (known x.board) → Bound x to n label len id answers answers') view
+      (λ stands0 posted0. (
+        spec,
+        there,
+        record {
+          locks = record { registry = got.lock ∙ origin.lock; board = refl; workers = refl };
+          done = asked-none-done d (known r) (known r') (known r2) (known b) (known b) from.walk answers answers' origin.asked
+              (bind-lost ws from.walk n label len id spec plan (known r') (known r2) (known b) answers answers' plans got.asked
+              (stands-more lives lives (known r) (known r') [] stands0 origin.asked (λ other. refl)) posted0 e);
+        },
+      )) stands posted
+
+  pub unplanned-arm : {r' : Option RegPass} (n : ℕ) (label : List ℕ) (len : Option ℕ) (id : ℕ) (spec : Spec) (answers answers' : List Answer)
+      → Asks r r' [] → slice_get (registered (known r).seen) id ≡ Some spec → plan_for spec len ≡ None
+      → Stands s.walk.lives (known s.registry) → Posted s.walk (known s.board) → answers' ≡ answers ++ said.Refused n EINVAL ∷ []
+      → Bound s (viewed ws c lives q v r' b) n label len id answers answers'
+  unplanned-arm {r'} n label len id spec answers answers' origin there plans stands posted e =
+      let from : State = viewed ws c lives q v r b in
+      let to : State = viewed ws c lives q v r' b in
+      let d : Dialogue = binds ws from.walk n label len (Entry id spec) in
+      subst (λ (x : State). Stands x.walk.lives (known x.registry) → Posted x.walk (known x.board) → Bound x to n label len id answers answers') view
+      (λ stands0 posted0. (
+        spec,
+        there,
+        record {
+          locks = record { registry = origin.lock; board = refl; workers = refl };
+          done = asked-none-done d (known r) (known r') (known r') (known b) (known b) from.walk answers answers' origin.asked
+              (subst (λ p. Done (binds_plan ws from.walk n label len id spec p) (known r') (known b) (known r') (known b) from.walk answers answers') (sym plans)
+              (says-done (known r') (known b) from.walk (said.Refused n EINVAL ∷ []) answers answers' (stands-more lives lives (known r) (known r') [] stands0 origin.asked (λ other. refl)) posted0 e));
+        },
+      )) stands posted
+
+  -- the look came to an entry
+  pub look-stands : {r' : Option RegPass} (text : List ℕ) (id : ℕ) → Stands s.walk.lives (known s.registry) → Finds r r' text (Ok id) → Stands lives (known r')
+  look-stands {r'} text id stands found =
+      let stands0 : Stands lives (known r) = subst (λ (x : State). Stands x.walk.lives (known x.registry)) (sym view) stands in
+      stands-more lives lives (known r) (known r') (Looks text (Some (Entry id found.0)) ∷ []) stands0 found.1.asked (λ other. refl)
+
+  pub look-there : {r' : Option RegPass} (text : List ℕ) (id : ℕ) → Finds r r' text (Ok id) → (spec : Spec) × (slice_get (registered (known r').seen) id ≡ Some spec)
+  look-there text id found = (found.0, found.2)
+
+  found-holds : {r' : Option RegPass} (s' : State) (n : ℕ) (label text : List ℕ) (len : Option ℕ) (id : ℕ) (answers answers' : List Answer) → Finds r r' text (Ok id)
+      → Bound (viewed ws c lives q v r' b) s' n label len id answers answers' → Holds (looks s.workers s.walk n label text len) s s' answers answers'
+  found-holds {r'} s' n label text len id answers answers' found bound =
+      let from : State = viewed ws c lives q v r b in
+      let spec = found.0 in
+      let same : bound.0 ≡ spec = some-same bound.0 spec (slice_get (registered (known r').seen) id) bound.1 found.2 in
+      let held = bound.2 in
+      subst (λ (x : State). Holds (looks x.workers x.walk n label text len) x s' answers answers') view
+      (record {
+        locks = record { registry = held.locks.registry ∙ found.1.lock; board = held.locks.board; workers = held.locks.workers };
+        done = asks-done (known r) (known r') (known s'.registry) (known b) (known s'.board) (Look text) (Entry id spec) (λ f. binds ws from.walk n label len f) s'.walk answers answers' found.1.asked
+            (subst (λ sp. Done (binds ws from.walk n label len (Entry id sp)) (known r') (known b) (known s'.registry) (known s'.board) s'.walk answers answers') same held.done);
+      })
+
+  pub found-arm : {S A : Type 0} {r' : Option RegPass} (s' : State) (n : ℕ) (label text : List ℕ) (len : Option ℕ) (id : ℕ) (answers answers' : List Answer) (result : Result A S) → Finds r r' text (Ok id)
+      → MatchResult result (λ _. Bound (viewed ws c lives q v r' b) s' n label len id answers answers') (λ _. Stops (viewed ws c lives q v r' b) s')
+      → MatchResult result (λ _. Holds (looks s.workers s.walk n label text len) s s' answers answers') (λ _. Stops s s')
+  found-arm s' n label text len id answers answers' (Ok a) found bound = found-holds s' n label text len id answers answers' found bound
+  found-arm s' n label text len id answers answers' (Err e) found stops = further-still s' (sees-asked (Looks text (Some (Entry id found.0)) ∷ []) found.1) stops
+
+  -- the look came to an error number
+  pub fault-holds : {r' : Option RegPass} (n : ℕ) (label text : List ℕ) (len : Option ℕ) (errno : Errno) (answers answers' : List Answer) → Finds r r' text (Err errno)
+      → Stands s.walk.lives (known s.registry) → Posted s.walk (known s.board) → answers' ≡ answers ++ said.Refused n errno ∷ [] → Holds (looks s.workers s.walk n label text len) s (viewed ws c lives q v r' b) answers answers'
+  fault-holds {r'} n label text len errno answers answers' found stands posted e =
+      let from : State = viewed ws c lives q v r b in
+      let to : State = viewed ws c lives q v r' b in
+      subst (λ (x : State). Stands x.walk.lives (known x.registry) → Posted x.walk (known x.board) → Holds (looks x.workers x.walk n label text len) x to answers answers') view
+      (λ stands0 posted0. record {
+        locks = record { registry = found.lock; board = refl; workers = refl };
+        done = asks-done (known r) (known r') (known r') (known b) (known b) (Look text) (Fault errno) (λ f. binds ws from.walk n label len f) from.walk answers answers' found.asked
+            (says-done (known r') (known b) from.walk (said.Refused n errno ∷ []) answers answers' (stands-more lives lives (known r) (known r') (Looks text (Some (Fault errno)) ∷ []) stands0 found.asked (λ other. refl)) posted0 e);
+      }) stands posted

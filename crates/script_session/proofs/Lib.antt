@@ -1,0 +1,15 @@
+pub mod KnownDrivers
+pub mod Rules
+pub mod Standing
+pub mod Arms
+pub mod Alloc
+pub mod Freeing
+pub mod Changing
+pub mod Piped
+pub mod Placed
+pub mod Living
+pub mod Requests
+pub mod Frees
+pub mod Creating
+pub mod Finding
+pub mod Commands

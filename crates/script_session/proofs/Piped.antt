@@ -1,0 +1,379 @@
+-- What lines do with the pipeline of one transform.
+use Rattle.std.proofs.Common.{◌≡◌, ◌⊎◌, inl, inr, ℕ, suc, ◌+◌, ◌^◌, ◌<◌, ◌≤◌, Bool, true, false, cond, List, [], ◌∷◌, ◌++◌, length, map, Option, Some, None, refl, sym, ap, subst, ◌∙◌, append-nil, add-zero, zero-add, arith}
+use Rattle.std.specs.Prelude.{is_some, find, if◌then◌else◌, ◌||◌, nat_le, nat_lt, not}
+use Rattle.std.specs.Option.{option_map}
+use Rattle.kc_base.specs.Handed.{Handed}
+use Rattle.kc_base.specs.declared.callback_list.Callback.{Callback}
+use Rattle.kc_base.specs.declared.callback_list.Callback.TheVariants as callback
+use Rattle.kc_base.specs.declared.error_numbers.Errno.{Errno}
+use Rattle.kc_base.specs.declared.error_numbers.Errno.TheVariants.{EINVAL, E2BIG, EBUSY, EINPROGRESS, ENOSPC}
+use Rattle.board.specs.declared.entry.BoardEntry.{BoardEntry}
+use Rattle.board.specs.Entries.{entries_of, submissions}
+use Rattle.board.specs.Handing.{completions}
+use Rattle.board.specs.Legal.{LegalBoard}
+use Rattle.board.proofs.Handing.{most_handed_out}
+use Rattle.transforms.specs.declared.ask.Ask.{Ask}
+use Rattle.transforms.specs.declared.request.Finished.{Finished}
+use Rattle.reply_text.specs.declared.answers.Answer.{Answer}
+use Rattle.reply_text.specs.declared.answers.Answer.TheVariants as said
+use Rattle.std.proofs.lemmas.List.{length-map}
+use Rattle.turn_lock.specs.Turns.{Known}
+use Rattle.std.proofs.lemmas.Bool.{ltb-false, lt-leb, le-ltb, leb-false}
+use Rattle.board.specs.Allowance.{IsAllowed}
+use Rattle.board.specs.declared.entry.Entered.{Entered}
+use Rattle.board.specs.declared.entry.Entered.TheVariants.{InProgress, Busy, NoSpace}
+use Rattle.transforms.specs.AskValue.{ask_size}
+use Rattle.dialogues.specs.BoardCalls.{Asked, asked_by, Collects, Submits, Enqueues, BoardCall}
+use Rattle.dialogues.specs.Requesting.{value_said, requests_in, hands_in, is_too_big, accepting, value_of}
+use Rattle.script_session.specs.Keyed.{sizes_live, held_as, keys_live, delivering, with_line, MayDeliver}
+use Rattle.script_session.specs.Offering.{IsAnswerOf, Offered, offer_call, entered_said}
+use Rattle.session_calls.specs.Pipelines.{IsQueue, Polled, entered_pipe, entered_asks, with_ask, line_of, Kept, Changed, notice_by, Drained}
+use Rattle.transforms.specs.Plans.{takes_key, takes_tag}
+use Rattle.transforms.specs.declared.tfm_err.TfmErr.{TfmErr}
+use Rattle.transforms.specs.declared.tfm_err.TfmErr.TheVariants.{Inval, Memory as OfMemory}
+use Rattle.script_session.specs.Telling.{callback_said}
+use Rattle.dialogues.specs.Dialogues.{Dialogue, says, refuses, Posts}
+use Rattle.dialogues.specs.Questions.{Drain}
+use Rattle.dialogues.specs.Piping.{with_queue, if_queue, polls_in, notice_said, tells, drains_in, completions as completed_in}
+use Rattle.dialogues.specs.Turns.{Turn, IsTurn}
+use Rattle.dialogues.specs.Walk.{Walk, Live, Pipe, is_of, live_of, with_live, with_pipe, replaced}
+use Rattle.script_session.specs.States.{HasPipe, Posted, is_at}
+use Rattle.script_session.specs.Changing.{HoldsFor, counting}
+use Rattle.session_calls.proofs.Boarding.{kept-same}
+use Rattle.session_calls.proofs.BoardCalls.{is-open}
+use Rattle.script_session.proofs.Changing.{changes-pipe, changes-kept}
+
+-- ---- the walk with a transform as it was
+
+replaced-first : (live x : Live) (xs : List Live) (b : Bool) → cond b (Some x) (find (is_of live.label) xs) ≡ Some live → (find (is_of live.label) xs ≡ Some live → replaced live xs ≡ xs) → cond b (live ∷ xs) (x ∷ replaced live xs) ≡ x ∷ xs
+replaced-first live x xs true e go = (let same : x ≡ live = cc in ap (λ l. l ∷ xs) (sym same))
+replaced-first live x xs false e go = ap (λ ls. x ∷ ls) (go e)
+
+replaced-same : (live : Live) (lives : List Live) → find (is_of live.label) lives ≡ Some live → replaced live lives ≡ lives
+replaced-same live [] e = refl
+replaced-same live (x ∷ xs) e = replaced-first live x xs (is_of live.label x) e (replaced-same live xs)
+
+pub counting-none : (walk : Walk) → counting walk [] ≡ walk
+counting-none walk = ap (λ n. record walk { requests = n; bytes = walk.bytes + 0 }) (add-zero walk.requests) ∙ ap (λ n. record walk { bytes = n }) (add-zero walk.bytes)
+
+pub kept-live : (walk : Walk) (live : Live) → live_of walk live.label ≡ Some live → counting (with_live walk live) [] ≡ walk
+kept-live walk live found = counting-none (with_live walk live) ∙ ap (λ ls. record walk { lives = ls }) (replaced-same live walk.lives found)
+
+-- ---- nothing is asked
+
+abbrev answered : Walk → Answer → Turn
+answered walk answer = record { registry = []; board = []; answers = answer ∷ []; after = Some walk }
+
+pub says-for : (d : Walk → Dialogue) (live : Live) (k : Known (BoardEntry Ask)) (answer : Answer) (answers answers' : List Answer) → HasPipe k live.pipe → LegalBoard k.seen
+    → ((walk : Walk) → Posted walk k → d walk ≡ says walk answer) → answers' ≡ answers ++ answer ∷ [] → HoldsFor d live live k k [] answers answers'
+says-for d live k answer answers answers' on legal is e =
+    record {
+      calls = [];
+      said = answer ∷ [];
+      changes = changes-kept live k k on (kept-same k legal);
+      is = λ walk found posted.
+          subst (λ w. IsTurn (d walk) (answered w answer)) (sym (kept-live walk live found)) (subst (λ x. IsTurn x (answered walk answer)) (sym (is walk posted)) refl);
+      says = e;
+    }
+
+-- ---- what is told
+
+said-is : (lines : List ℕ) (callbacks : List (Callback Finished)) → map notice_said (map (notice_by lines) callbacks) ≡ map (callback_said lines) callbacks
+said-is lines [] = refl
+said-is lines (callback.Started n ∷ xs) = ap (λ rest. callback_said lines (callback.Started n) ∷ rest) (said-is lines xs)
+said-is lines (callback.Done n f ∷ xs) = ap (λ rest. callback_said lines (callback.Done n f) ∷ rest) (said-is lines xs)
+
+count-is : (lines : List ℕ) (callbacks : List (Callback Finished)) → completed_in (map (notice_by lines) callbacks) ≡ completions callbacks
+count-is lines [] = refl
+count-is lines (callback.Started n ∷ xs) = count-is lines xs
+count-is lines (callback.Done n f ∷ xs) = ap (λ n. suc n) (count-is lines xs)
+
+-- ---- `drain T`
+
+abbrev drain_with : Walk → ℕ → Live → Option Pipe → Dialogue
+drain_with walk n live pipe = drains_in walk n live pipe
+
+pub drain-none : (walk : Walk) (n : ℕ) (live : Live) → live.pipe ≡ None → drains_in walk n live live.pipe ≡ says walk (said.Drained n 0)
+drain-none walk n live none = ap (drains_in walk n live) none
+
+abbrev if_held : Walk → ℕ → Live → Pipe → Bool → Dialogue
+if_held walk n live pipe held = if held then refuses walk n EINVAL else (Posts (Drain pipe.number) λ notices. tells walk live pipe notices (said.Drained n (completed_in notices)))
+
+pub drain-held : (walk : Walk) (n : ℕ) (live : Live) (pipe : Pipe) → live.pipe ≡ Some pipe → pipe.held ≡ true → drains_in walk n live live.pipe ≡ refuses walk n EINVAL
+drain-held walk n live pipe has held = ap (drains_in walk n live) has ∙ ap (if_held walk n live pipe) held
+
+drain-asks : (walk : Walk) (n : ℕ) (live : Live) (pipe : Pipe) → live.pipe ≡ Some pipe → pipe.held ≡ false
+    → drains_in walk n live live.pipe ≡ (Posts (Drain pipe.number) λ notices. tells walk live pipe notices (said.Drained n (completed_in notices)))
+drain-asks walk n live pipe has held = ap (drains_in walk n live) has ∙ ap (if_held walk n live pipe) held
+
+pub drain-holds : (k l : Known (BoardEntry Ask)) (live live' : Live) (pipe : Pipe) (n count : ℕ) (callbacks : List (Callback Finished)) (answers answers' : List Answer)
+    → live.pipe ≡ Some pipe → pipe.held ≡ false → Drained k l pipe callbacks → count ≡ completions callbacks → live' ≡ delivering live count
+    → answers' ≡ answers ++ (map (callback_said pipe.lines) callbacks ++ said.Drained n count ∷ []) → HoldsFor (λ walk. drains_in walk n live live.pipe) live live' k l [] answers answers'
+drain-holds k l live live' pipe n count callbacks answers answers' has free drained counts live_is e =
+    let notices = map (notice_by pipe.lines) callbacks in
+    let pipe' : Pipe = record pipe { delivered = pipe.delivered + completions callbacks } in
+    let new : Live = record live { pipe = Some pipe' } in
+    let call : BoardCall = Collects pipe.number (record { notices = notices; all_done = true }) in
+    let live-is : live' ≡ new =
+    live_is ∙ (ap (λ o. record live { pipe = option_map (λ (p : Pipe). record p { delivered = p.delivered + count }) o }) has ∙ ap (λ c. record live { pipe = Some (record pipe { delivered = pipe.delivered + c }) }) counts) in
+    subst (λ x. HoldsFor (λ walk. drains_in walk n live live.pipe) live x k l [] answers answers') (sym live-is) (record {
+      calls = call ∷ [];
+      said = (map notice_said notices ++ said.Drained n (completed_in notices) ∷ []) ++ [];
+      changes = changes-pipe live k l pipe pipe' (call ∷ []) [] has drained;
+      is = λ walk found posted.
+          subst (λ d. IsTurn d (record { registry = []; board = call ∷ []; answers = (map notice_said notices ++ said.Drained n (completed_in notices) ∷ []) ++ []; after = Some (counting (with_live walk new) []) })) (sym (drain-asks walk n live pipe has free))
+          (subst (λ w. IsTurn (Posts (Drain pipe.number) λ notices. tells walk live pipe notices (said.Drained n (completed_in notices))) (record { registry = []; board = call ∷ []; answers = (map notice_said notices ++ said.Drained n (completed_in notices) ∷ []) ++ []; after = Some w })) (sym (counting-none (with_live walk new)))
+          (ap (λ c. record { registry = []; board = call ∷ []; answers = (map notice_said notices ++ said.Drained n (completed_in notices) ∷ []) ++ []; after = Some (with_pipe walk live (record pipe { delivered = pipe.delivered + c })) }) (count-is pipe.lines callbacks)));
+      says =
+          e ∙ ap (λ x. answers ++ x)
+          (ap (λ x. x ++ said.Drained n count ∷ []) (sym (said-is pipe.lines callbacks))
+          ∙ (ap (λ c. map notice_said notices ++ said.Drained n c ∷ []) (counts ∙ sym (count-is pipe.lines callbacks)) ∙ sym (append-nil (map notice_said notices ++ said.Drained n (completed_in notices) ∷ []))));
+    })
+
+-- it hands out no more than it accepted
+pub may-deliver : (k l : Known (BoardEntry Ask)) (live : Live) (pipe : Pipe) (count : ℕ) (callbacks : List (Callback Finished)) → live.pipe ≡ Some pipe → Drained k l pipe callbacks → count ≡ completions callbacks → MayDeliver count live.pipe
+may-deliver k l live pipe count callbacks has drained counts =
+    let es = entries_of pipe.number l.seen in
+    let most = most_handed_out l.seen pipe.number drained.legal (is-open pipe.bound es drained.now.opened) in
+    let given = drained.now.delivered in
+    let had : length (submissions es) ≡ length pipe.lines = sym (length-map (submissions es) line_of) ∙ ap length drained.now.lines in
+    let le : pipe.delivered + count ≤ length pipe.lines = omega (arith, most, given, had, counts) in
+    subst (MayDeliver count) (sym has) le
+
+-- ---- requests
+
+-- nothing is asked, while others go on
+pub says-kept : (d : Walk → Dialogue) (live : Live) (k l : Known (BoardEntry Ask)) (answer : Answer) (answers answers' : List Answer) → HasPipe k live.pipe → Kept k l
+    → ((walk : Walk) → Posted walk k → d walk ≡ says walk answer) → answers' ≡ answers ++ answer ∷ [] → HoldsFor d live live k l [] answers answers'
+says-kept d live k l answer answers answers' on kept is e =
+    record {
+      calls = [];
+      said = answer ∷ [];
+      changes = changes-kept live k l on kept;
+      is = λ walk found posted.
+          subst (λ w. IsTurn (d walk) (answered w answer)) (sym (kept-live walk live found)) (subst (λ x. IsTurn x (answered walk answer)) (sym (is walk posted)) refl);
+      says = e;
+    }
+
+pub request-plain : (walk : Walk) (n : ℕ) (live : Live) (asked : Asked) (backlog : Bool) → live.pipe ≡ None → requests_in walk n live asked backlog live.pipe ≡ says walk (value_said n (value_of asked))
+request-plain walk n live asked backlog none = ap (requests_in walk n live asked backlog) none
+
+fits : (requests bytes size : ℕ) → requests < 2 ^ 20 → bytes + size ≤ 2 ^ 26 → (nat_le (2 ^ 20) requests || nat_lt (2 ^ 26) (bytes + size)) ≡ false
+fits requests bytes size few short = ap (λ t. t || nat_lt (2 ^ 26) (bytes + size)) (lt-leb (2 ^ 20) requests few) ∙ le-ltb (2 ^ 26) (bytes + size) short
+
+fits_not : (requests bytes size : ℕ) (many long : Bool) → nat_le (2 ^ 20) requests ≡ many → nat_lt (2 ^ 26) (bytes + size) ≡ long → ((requests < 2 ^ 20) × (bytes + size ≤ 2 ^ 26) → ⊥) → (many || long) ≡ true
+fits_not requests bytes size true long m l never = refl
+fits_not requests bytes size false true m l never = refl
+fits_not requests bytes size false false m l never = absurd (never (leb-false (2 ^ 20) requests m, ltb-false (2 ^ 26) (bytes + size) l))
+
+not-big : (walk : Walk) (k : Known (BoardEntry Ask)) (ask : Ask) → Posted walk k → IsAllowed ask_size k.seen k.number ask → is_too_big walk ask.request ≡ false
+not-big walk k ask posted allowed = fits walk.requests walk.bytes (ask_size ask) (subst (λ n. n < 2 ^ 20) posted.requests allowed.0) (subst (λ n. n + ask_size ask ≤ 2 ^ 26) posted.bytes allowed.1)
+
+big : (walk : Walk) (k : Known (BoardEntry Ask)) (ask : Ask) → Posted walk k → (IsAllowed ask_size k.seen k.number ask → ⊥) → is_too_big walk ask.request ≡ true
+big walk k ask posted never =
+    fits_not walk.requests walk.bytes (ask_size ask) (nat_le (2 ^ 20) walk.requests) (nat_lt (2 ^ 26) (walk.bytes + ask_size ask)) refl refl
+    (λ fit. never (subst (λ n. n < 2 ^ 20) (sym posted.requests) fit.0, subst (λ n. n + ask_size ask ≤ 2 ^ 26) (sym posted.bytes) fit.1))
+
+abbrev if_big : Walk → ℕ → Live → Pipe → Asked → Bool → Bool → Dialogue
+if_big walk n live pipe asked backlog test = if test then refuses walk n E2BIG else hands_in walk n live pipe asked backlog pipe.bound
+
+pub request-big : (walk : Walk) (k : Known (BoardEntry Ask)) (n : ℕ) (live : Live) (pipe : Pipe) (ask : Ask) (backlog : Bool) → live.pipe ≡ Some pipe → (IsAllowed ask_size k.seen k.number ask → ⊥) → Posted walk k
+    → requests_in walk n live (asked_by ask) backlog live.pipe ≡ refuses walk n E2BIG
+request-big walk k n live pipe ask backlog has never posted = ap (requests_in walk n live (asked_by ask) backlog) has ∙ ap (if_big walk n live pipe (asked_by ask) backlog) (big walk k ask posted never)
+
+request-enters : (walk : Walk) (k : Known (BoardEntry Ask)) (n : ℕ) (live : Live) (pipe : Pipe) (ask : Ask) (backlog : Bool) → live.pipe ≡ Some pipe → IsAllowed ask_size k.seen k.number ask → Posted walk k
+    → requests_in walk n live (asked_by ask) backlog live.pipe ≡ hands_in walk n live pipe (asked_by ask) backlog pipe.bound
+request-enters walk k n live pipe ask backlog has allowed posted = ap (requests_in walk n live (asked_by ask) backlog) has ∙ ap (if_big walk n live pipe (asked_by ask) backlog) (not-big walk k ask posted allowed)
+
+counting-one : (walk : Walk) (ask : Ask) → record walk { requests = walk.requests + 1; bytes = walk.bytes + ask_size ask } ≡ counting walk (ask ∷ [])
+counting-one walk ask = ap (λ n. record walk { requests = walk.requests + 1; bytes = walk.bytes + n }) (sym (zero-add (ask_size ask)))
+
+abbrev turn_with : BoardCall → Answer → Walk → Turn
+turn_with call answer after = record { registry = []; board = call ∷ []; answers = answer ∷ []; after = Some after }
+
+accepted-is : (walk : Walk) (n : ℕ) (live : Live) (pipe : Pipe) (ask : Ask) → line_of ask ≡ n → (call : BoardCall) (errno : Errno)
+    → turn_with call (said.Refused n errno) (accepting walk n live pipe ask.request) ≡ turn_with call (said.Refused n errno) (counting (with_live walk (record live { pipe = Some (with_ask pipe ask) })) (ask ∷ []))
+accepted-is walk n live pipe ask line call errno =
+    ap (turn_with call (said.Refused n errno))
+    (ap (λ m. let w : Walk = record (with_live walk (record live { pipe = Some (record pipe { lines = pipe.lines ++ m ∷ [] }) })) { requests = walk.requests + 1; bytes = walk.bytes + ask_size ask } in w) (sym line)
+    ∙ counting-one (with_live walk (record live { pipe = Some (with_ask pipe ask) })) ask)
+
+-- the turn of a request that a pipeline answered
+enters-is : (walk : Walk) (n : ℕ) (live : Live) (pipe : Pipe) (ask : Ask) (backlog : Bool) (answer : Entered) (bound : Option ℕ) → IsAnswerOf bound answer → line_of ask ≡ n → live_of walk live.label ≡ Some live → live.pipe ≡ Some pipe
+    → IsTurn (hands_in walk n live pipe (asked_by ask) backlog bound) (turn_with (offer_call pipe ask backlog answer bound) (entered_said n answer) (counting (with_live walk (record live { pipe = Some (entered_pipe pipe ask answer) })) (entered_asks ask answer)))
+enters-is walk n live pipe ask backlog (InProgress number) None ok line found has = accepted-is walk n live pipe ask line (Submits pipe.number number (asked_by ask)) EINPROGRESS
+enters-is walk n live pipe ask backlog (InProgress number) (Some max) ok line found has = accepted-is walk n live pipe ask line (Enqueues pipe.number (asked_by ask) backlog (InProgress number)) EINPROGRESS
+enters-is walk n live pipe ask backlog (Busy number) (Some max) ok line found has = accepted-is walk n live pipe ask line (Enqueues pipe.number (asked_by ask) backlog (Busy number)) EBUSY
+enters-is walk n live pipe ask backlog NoSpace (Some max) ok line found has =
+    ap (λ w. turn_with (Enqueues pipe.number (asked_by ask) backlog NoSpace) (said.Refused n ENOSPC) w) (sym (ap (λ l. counting (with_live walk l) []) (ap (λ o. record live { pipe = o }) (sym has)) ∙ kept-live walk live found))
+enters-is walk n live pipe ask backlog (Busy number) None ok line found has = absurd ok
+enters-is walk n live pipe ask backlog NoSpace None ok line found has = absurd ok
+
+pub request-holds : (k l : Known (BoardEntry Ask)) (live live' : Live) (pipe : Pipe) (n : ℕ) (ask : Ask) (backlog : Bool) (answer : Entered) (answers answers' : List Answer)
+    → live.pipe ≡ Some pipe → Offered k l pipe ask backlog answer → IsAllowed ask_size k.seen k.number ask → line_of ask ≡ n → live' ≡ record live { pipe = Some (entered_pipe pipe ask answer) } → answers' ≡ answers ++ entered_said n answer ∷ []
+    → HoldsFor (λ walk. requests_in walk n live (asked_by ask) backlog live.pipe) live live' k l (entered_asks ask answer) answers answers'
+request-holds k l live live' pipe n ask backlog answer answers answers' has offered allowed line live_is e =
+    let new : Live = record live { pipe = Some (entered_pipe pipe ask answer) } in
+    subst (λ x. HoldsFor (λ walk. requests_in walk n live (asked_by ask) backlog live.pipe) live x k l (entered_asks ask answer) answers answers') (sym live_is) (record {
+      calls = offer_call pipe ask backlog answer pipe.bound ∷ [];
+      said = entered_said n answer ∷ [];
+      changes = changes-pipe live k l pipe (entered_pipe pipe ask answer) (offer_call pipe ask backlog answer pipe.bound ∷ []) (entered_asks ask answer) has offered.1;
+      is = λ walk found posted.
+          subst (λ d. IsTurn d (turn_with (offer_call pipe ask backlog answer pipe.bound) (entered_said n answer) (counting (with_live walk new) (entered_asks ask answer)))) (sym (request-enters walk k n live pipe ask backlog has allowed posted))
+          (enters-is walk n live pipe ask backlog answer pipe.bound offered.0 line found has);
+      says = e;
+    })
+
+pub accepted-live : (live live' : Live) (pipe : Pipe) (ask : Ask) (line : ℕ) → live.pipe ≡ Some pipe → line_of ask ≡ line → live' ≡ with_line live line → live' ≡ record live { pipe = Some (with_ask pipe ask) }
+accepted-live live live' pipe ask line has same is =
+    is
+    ∙ (ap (λ o. record live { pipe = option_map (λ (p : Pipe). record p { lines = p.lines ++ line ∷ [] }) o }) has
+    ∙ ap (λ n. record live { pipe = Some (record pipe { lines = pipe.lines ++ n ∷ [] }) }) (sym same))
+
+-- ---- lines that set what a transform computes with
+
+-- nothing is asked, and the transform changes, but not its pipeline
+pub says-changed : (d : Walk → Dialogue) (live live' : Live) (k : Known (BoardEntry Ask)) (answer : Answer) (answers answers' : List Answer) → HasPipe k live.pipe → LegalBoard k.seen
+    → live'.label ≡ live.label → live'.id ≡ live.id → live'.pipe ≡ live.pipe → ((walk : Walk) → d walk ≡ says (with_live walk live') answer) → answers' ≡ answers ++ answer ∷ []
+    → HoldsFor d live live' k k [] answers answers'
+says-changed d live live' k answer answers answers' on legal label id pipe is e =
+    let none = changes-kept live k k on (kept-same k legal) in
+    record {
+      calls = [];
+      said = answer ∷ [];
+      changes = record {
+        label = label;
+        id = id;
+        same = λ n. ap (is_at n) pipe;
+        called = none.called;
+        legal = none.legal;
+        pipe = subst (HasPipe k) (sym pipe) on;
+        others = none.others;
+        accepted = none.accepted;
+        unshut = none.unshut;
+      };
+      is = λ walk found posted.
+          subst (λ w. IsTurn (d walk) (answered w answer)) (sym (counting-none (with_live walk live'))) (subst (λ x. IsTurn x (answered (with_live walk live') answer)) (sym (is walk)) refl);
+      says = e;
+    }
+
+abbrev if_taken : Walk → ℕ → Live → List ℕ → Bool → Dialogue
+if_taken walk n live key taken = if not taken then refuses walk n EINVAL else says (with_live walk (record live { key = Some key })) (said.Ok n)
+
+pub key-taken : (live live' : Live) (k : Known (BoardEntry Ask)) (n : ℕ) (key : List ℕ) (answers answers' : List Answer) → takes_key live.plan key ≡ true → live' ≡ record live { key = Some key }
+    → answers' ≡ answers ++ said.Ok n ∷ [] → HasPipe k live.pipe → LegalBoard k.seen → HoldsFor (λ walk. keys_live walk n live key) live live' k k [] answers answers'
+key-taken live live' k n key answers answers' taken is e on legal =
+    subst (λ x. HoldsFor (λ walk. keys_live walk n live key) live x k k [] answers answers') (sym is)
+    (says-changed (λ walk. keys_live walk n live key) live (record live { key = Some key }) k (said.Ok n) answers answers' on legal refl refl refl (λ walk. ap (if_taken walk n live key) taken) e)
+
+pub key-refused : (live live' : Live) (k : Known (BoardEntry Ask)) (n : ℕ) (key : List ℕ) (error : TfmErr) (answers answers' : List Answer) → error ≡ Inval
+    → ((error ≡ OfMemory) ⊎ ((error ≡ Inval) × (takes_key live.plan key ≡ false))) × (live' ≡ live)
+    → answers' ≡ answers ++ said.Refused n EINVAL ∷ [] → HasPipe k live.pipe → LegalBoard k.seen → HoldsFor (λ walk. keys_live walk n live key) live live' k k [] answers answers'
+key-refused live live' k n key error answers answers' inval why e on legal =
+    subst (λ x. HoldsFor (λ walk. keys_live walk n live key) live x k k [] answers answers') (sym why.1)
+    (says-for (λ walk. keys_live walk n live key) live k (said.Refused n EINVAL) answers answers' on legal (λ walk posted. ap (if_taken walk n live key) (not_taken why.0)) e)
+  where
+    not_taken : (error ≡ OfMemory) ⊎ ((error ≡ Inval) × (takes_key live.plan key ≡ false)) → takes_key live.plan key ≡ false
+    not_taken (inl memory) = absurd (let bad : Inval ≡ OfMemory = sym inval ∙ memory in cc)
+    not_taken (inr refused) = refused.1
+
+abbrev if_sized : Walk → ℕ → Live → ℕ → Bool → Dialogue
+if_sized walk n live size taken = if not taken then refuses walk n EINVAL else says (with_live walk (record live { tag_size = size })) (said.Ok n)
+
+pub size-taken : (live live' : Live) (k : Known (BoardEntry Ask)) (n size : ℕ) (answers answers' : List Answer) → takes_tag live.plan size ≡ true → live' ≡ record live { tag_size = size }
+    → answers' ≡ answers ++ said.Ok n ∷ [] → HasPipe k live.pipe → LegalBoard k.seen → HoldsFor (λ walk. sizes_live walk n live size) live live' k k [] answers answers'
+size-taken live live' k n size answers answers' taken is e on legal =
+    subst (λ x. HoldsFor (λ walk. sizes_live walk n live size) live x k k [] answers answers') (sym is)
+    (says-changed (λ walk. sizes_live walk n live size) live (record live { tag_size = size }) k (said.Ok n) answers answers' on legal refl refl refl (λ walk. ap (if_sized walk n live size) taken) e)
+
+pub size-refused : (live live' : Live) (k : Known (BoardEntry Ask)) (n size : ℕ) (errno : Errno) (answers answers' : List Answer)
+    → (errno ≡ EINVAL) × (takes_tag live.plan size ≡ false) × (live' ≡ live)
+    → answers' ≡ answers ++ said.Refused n errno ∷ [] → HasPipe k live.pipe → LegalBoard k.seen → HoldsFor (λ walk. sizes_live walk n live size) live live' k k [] answers answers'
+size-refused live live' k n size errno answers answers' why e on legal =
+    subst (λ x. HoldsFor (λ walk. sizes_live walk n live size) live x k k [] answers answers') (sym why.2)
+    (says-for (λ walk. sizes_live walk n live size) live k (said.Refused n EINVAL) answers answers' on legal (λ walk posted. ap (if_sized walk n live size) why.1)
+    (e ∙ ap (λ x. answers ++ said.Refused n x ∷ []) why.0))
+
+-- ---- `hold T` and `go T`
+
+pub none-of : (o : Option ℕ) → is_some o ≡ false → o ≡ None
+none-of None e = refl
+none-of (Some n) e = absurd cc
+
+pub queue-of : (o : Option ℕ) → is_some o ≡ true → IsQueue o
+queue-of None e = absurd cc
+queue-of (Some n) e = tt
+
+-- only a queue is held and let go
+pub queue-none : (walk : Walk) (n : ℕ) (live : Live) (rest : Pipe → Dialogue) → live.pipe ≡ None → with_queue walk n live.pipe rest ≡ refuses walk n EINVAL
+queue-none walk n live rest none = ap (λ o. with_queue walk n o rest) none
+
+pub queue-pad : (walk : Walk) (n : ℕ) (live : Live) (pipe : Pipe) (rest : Pipe → Dialogue) → live.pipe ≡ Some pipe → pipe.bound ≡ None → with_queue walk n live.pipe rest ≡ refuses walk n EINVAL
+queue-pad walk n live pipe rest has none = ap (λ o. with_queue walk n o rest) has ∙ ap (λ o. if_queue walk n o (rest pipe)) none
+
+queue-bound : (walk : Walk) (n : ℕ) (live : Live) (pipe : Pipe) (bound : Option ℕ) (rest : Pipe → Dialogue) → live.pipe ≡ Some pipe → pipe.bound ≡ bound → IsQueue bound → with_queue walk n live.pipe rest ≡ rest pipe
+queue-bound walk n live pipe None rest has is queue = absurd queue
+queue-bound walk n live pipe (Some max) rest has is queue = ap (λ o. with_queue walk n o rest) has ∙ ap (λ o. if_queue walk n o (rest pipe)) is
+
+-- a call on the queue of a transform, and then an answer
+pub switch-holds : (k l : Known (BoardEntry Ask)) (live live' : Live) (pipe pipe' : Pipe) (n : ℕ) (call : BoardCall) (rest : Walk → Pipe → Dialogue) (answers answers' : List Answer)
+    → live.pipe ≡ Some pipe → IsQueue pipe.bound → Changed k l pipe pipe' (call ∷ []) []
+    → ((walk : Walk) → IsTurn (rest walk pipe) (record { registry = []; board = call ∷ []; answers = said.Ok n ∷ []; after = Some (with_pipe walk live pipe') }))
+    → live' ≡ record live { pipe = Some pipe' } → answers' ≡ answers ++ said.Ok n ∷ [] → HoldsFor (λ walk. with_queue walk n live.pipe (rest walk)) live live' k l [] answers answers'
+switch-holds k l live live' pipe pipe' n call rest answers answers' has queue changed turns live_is e =
+    let new : Live = record live { pipe = Some pipe' } in
+    subst (λ x. HoldsFor (λ walk. with_queue walk n live.pipe (rest walk)) live x k l [] answers answers') (sym live_is) (record {
+      calls = call ∷ [];
+      said = said.Ok n ∷ [];
+      changes = changes-pipe live k l pipe pipe' (call ∷ []) [] has changed;
+      is = λ walk found posted.
+          subst (λ d. IsTurn d (record { registry = []; board = call ∷ []; answers = said.Ok n ∷ []; after = Some (counting (with_live walk new) []) })) (sym (queue-bound walk n live pipe pipe.bound (rest walk) has refl queue))
+          (subst (λ w. IsTurn (rest walk pipe) (record { registry = []; board = call ∷ []; answers = said.Ok n ∷ []; after = Some w })) (sym (counting-none (with_live walk new))) (turns walk));
+      says = e;
+    })
+
+pub held-live : (live live' : Live) (pipe : Pipe) (held : Bool) → live.pipe ≡ Some pipe → live' ≡ held_as live held → live' ≡ record live { pipe = Some (record pipe { held = held }) }
+held-live live live' pipe held has is = is ∙ ap (λ o. record live { pipe = option_map (λ (p : Pipe). record p { held = held }) o }) has
+
+-- ---- `poll T`
+
+pub poll-none : (walk : Walk) (n : ℕ) (live : Live) → live.pipe ≡ None → polls_in walk n live live.pipe ≡ says walk (said.Polled n 0)
+poll-none walk n live none = ap (polls_in walk n live) none
+
+pub poll-holds : (k l : Known (BoardEntry Ask)) (live live' : Live) (pipe : Pipe) (n count : ℕ) (callbacks : List (Callback Finished)) (all : Bool) (answers answers' : List Answer)
+    → live.pipe ≡ Some pipe → Polled k l pipe callbacks all → count ≡ completions callbacks → live' ≡ delivering live count
+    → answers' ≡ answers ++ (map (callback_said pipe.lines) callbacks ++ said.Polled n count ∷ []) → HoldsFor (λ walk. polls_in walk n live live.pipe) live live' k l [] answers answers'
+poll-holds k l live live' pipe n count callbacks all answers answers' has polled counts live_is e =
+    let notices = map (notice_by pipe.lines) callbacks in
+    let pipe' : Pipe = record pipe { delivered = pipe.delivered + completions callbacks } in
+    let new : Live = record live { pipe = Some pipe' } in
+    let call : BoardCall = Collects pipe.number (record { notices = notices; all_done = all }) in
+    let live-is : live' ≡ new =
+    live_is ∙ (ap (λ o. record live { pipe = option_map (λ (p : Pipe). record p { delivered = p.delivered + count }) o }) has ∙ ap (λ c. record live { pipe = Some (record pipe { delivered = pipe.delivered + c }) }) counts) in
+    subst (λ x. HoldsFor (λ walk. polls_in walk n live live.pipe) live x k l [] answers answers') (sym live-is) (record {
+      calls = call ∷ [];
+      said = (map notice_said notices ++ said.Polled n (completed_in notices) ∷ []) ++ [];
+      changes = changes-pipe live k l pipe pipe' (call ∷ []) [] has polled;
+      is = λ walk found posted.
+          subst (λ d. IsTurn d (record { registry = []; board = call ∷ []; answers = (map notice_said notices ++ said.Polled n (completed_in notices) ∷ []) ++ []; after = Some (counting (with_live walk new) []) })) (sym (ap (polls_in walk n live) has))
+          (subst (λ w. IsTurn (polls_in walk n live (Some pipe)) (record { registry = []; board = call ∷ []; answers = (map notice_said notices ++ said.Polled n (completed_in notices) ∷ []) ++ []; after = Some w })) (sym (counting-none (with_live walk new)))
+          (ap (λ c. record { registry = []; board = call ∷ []; answers = (map notice_said notices ++ said.Polled n (completed_in notices) ∷ []) ++ []; after = Some (with_pipe walk live (record pipe { delivered = pipe.delivered + c })) }) (count-is pipe.lines callbacks)));
+      says =
+          e ∙ ap (λ x. answers ++ x)
+          (ap (λ x. x ++ said.Polled n count ∷ []) (sym (said-is pipe.lines callbacks))
+          ∙ (ap (λ c. map notice_said notices ++ said.Polled n c ∷ []) (counts ∙ sym (count-is pipe.lines callbacks)) ∙ sym (append-nil (map notice_said notices ++ said.Polled n (completed_in notices) ∷ []))));
+    })
+
+-- it hands out no more than it accepted
+pub may-deliver-polled : (k l : Known (BoardEntry Ask)) (live : Live) (pipe : Pipe) (count : ℕ) (callbacks : List (Callback Finished)) (all : Bool) → live.pipe ≡ Some pipe → Polled k l pipe callbacks all → count ≡ completions callbacks → MayDeliver count live.pipe
+may-deliver-polled k l live pipe count callbacks all has polled counts =
+    let es = entries_of pipe.number l.seen in
+    let most = most_handed_out l.seen pipe.number polled.legal (is-open pipe.bound es polled.now.opened) in
+    let given = polled.now.delivered in
+    let had : length (submissions es) ≡ length pipe.lines = sym (length-map (submissions es) line_of) ∙ ap length polled.now.lines in
+    let le : pipe.delivered + count ≤ length pipe.lines = omega (arith, most, given, had, counts) in
+    subst (MayDeliver count) (sym has) le
+
+-- what is added to nothing is all
+pub from-empty : (into : Handed Finished) (more xs : List (Callback Finished)) → into ≡ record { list = []; spare = 0 } → xs ≡ into.list ++ more → xs ≡ more
+from-empty into more xs new e = e ∙ ap (λ (handed : Handed Finished). handed.list ++ more) new

@@ -1,0 +1,165 @@
+-- Rules by which a dialogue is held, one for each way in which it begins.
+use Rattle.std.proofs.Common.{◌≡◌, ℕ, Bool, true, false, List, [], ◌∷◌, ◌++◌, Some, None, refl, sym, ap, subst, ◌∙◌, append_assoc, append-nil}
+use Rattle.std.specs.Prelude.{if◌then◌else◌}
+use Rattle.kc_base.specs.declared.error_numbers.Errno.{Errno}
+use Rattle.kc_base.specs.declared.error_numbers.Errno.TheVariants.{ENOENT}
+use Rattle.alg_registry.specs.declared.entry.RegEntry.{RegEntry}
+use Rattle.board.specs.declared.entry.BoardEntry.{BoardEntry}
+use Rattle.reply_text.specs.declared.answers.Answer.{Answer}
+use Rattle.reply_text.specs.declared.answers.Answer.TheVariants.{Refused}
+use Rattle.transforms.specs.declared.ask.Ask.{Ask}
+use Rattle.turn_lock.specs.Turns.{Known}
+use Rattle.dialogues.specs.RegistryCalls.{RegCall, reg_calls}
+use Rattle.dialogues.proofs.Taking.{AllSettled-append}
+use Rattle.dialogues.specs.BoardCalls.{board_calls}
+use Rattle.dialogues.specs.Dialogues.{Dialogue, Ends, Says, Asks, Posts, refuses, unless, for_live, with_label}
+use Rattle.dialogues.specs.Questions.{RegQuestion, Enlist, Look, Unlist, Get, Put, Count, ListAll, RegAnswer, reg_call, reg_answer, BoardQuestion, Create, Submit, Enqueue, Hold, Go, Poll, Drain, Close, Share, Shut, BoardAnswer, board_call, board_answer}
+use Rattle.dialogues.specs.Turns.{Turn, ended, broken, saying, asking, posting, turn_of}
+use Rattle.dialogues.specs.Walk.{Walk, Live, live_of}
+use Rattle.dialogues.specs.InTurn.{AreInTurn, AreCalls}
+use Rattle.dialogues.proofs.Taking.{no_call, one_after}
+use Rattle.session_calls.specs.Asking.{IsCaller}
+use Rattle.session_calls.proofs.Boarding.{starts-same, called-more}
+use Rattle.script_session.specs.States.{Stands, Posted}
+use Rattle.session_calls.specs.Asking.{Asked}
+use Rattle.session_calls.specs.Pipelines.{Called}
+use Rattle.script_session.specs.Holding.{Done}
+
+-- ---- what is known goes on
+
+pub asked-nothing : (k : Known RegEntry) → IsCaller k → Asked k k []
+asked-nothing k caller =
+    record {
+      number = refl;
+      in_turn = no_call k.number k.seen;
+      are = record {
+        more = [];
+        goes_on = sym (append-nil k.seen);
+        calls_are = sym (append-nil (reg_calls k.number k.seen));
+        settled = tt;
+        all_settled = caller.settled;
+      };
+      caller = caller;
+    }
+
+pub asked-more : (k l m : Known RegEntry) (a b : List RegCall) → Asked k l a → Asked l m b → Asked k m (a ++ b)
+asked-more k l m a b first later =
+    let n = k.number in
+    let turns : AreInTurn n b l.seen m.seen = subst (λ x. AreInTurn x b l.seen m.seen) first.number later.in_turn in
+    let are : AreCalls n b l.seen m.seen = subst (λ x. AreCalls x b l.seen m.seen) first.number later.are in
+    record {
+      number = later.number ∙ first.number;
+      in_turn = one_after n a b k.seen l.seen m.seen first.in_turn turns;
+      are = record {
+        more = first.are.more ++ are.more;
+        goes_on = are.goes_on ∙ (ap (λ h. h ++ are.more) first.are.goes_on ∙ append_assoc k.seen first.are.more are.more);
+        calls_are = are.calls_are ∙ (ap (λ cs. cs ++ b) first.are.calls_are ∙ append_assoc (reg_calls n k.seen) a b);
+        settled = AllSettled-append a b first.are.settled are.settled;
+        all_settled = are.all_settled;
+      };
+      caller = later.caller;
+    }
+
+pub called-nothing : (k : Known (BoardEntry Ask)) → Called k k []
+called-nothing k = record { number = refl; seen = starts-same k.seen; calls_are = sym (append-nil (board_calls k.number k.seen)) }
+
+-- ---- the call by which a question is answered answers it
+
+pub reg_answer-itself : (question : RegQuestion) (answer : RegAnswer question) → reg_answer question (reg_call question answer) ≡ Some answer
+reg_answer-itself (Enlist spec) answer = refl
+reg_answer-itself (Look text) answer = refl
+reg_answer-itself (Unlist driver) answer = refl
+reg_answer-itself (Get id) answer = refl
+reg_answer-itself (Put id) answer = refl
+reg_answer-itself (Count driver) answer = refl
+reg_answer-itself ListAll answer = refl
+
+pub board_answer-itself : (question : BoardQuestion) (answer : BoardAnswer question) → board_answer question (board_call question answer) ≡ Some answer
+board_answer-itself (Create shape) answer = refl
+board_answer-itself (Submit pipe asked) answer = refl
+board_answer-itself (Enqueue pipe asked backlog) answer = refl
+board_answer-itself (Hold pipe) answer = refl
+board_answer-itself (Go pipe) answer = refl
+board_answer-itself (Poll pipe) answer = refl
+board_answer-itself (Drain pipe) answer = refl
+board_answer-itself (Close pipe) answer = refl
+board_answer-itself (Share pipe) answer = refl
+board_answer-itself Shut answer = refl
+
+-- ---- the rules
+
+module _ {k k' : Known RegEntry} {b b' : Known (BoardEntry Ask)} {after : Walk} {answers answers' : List Answer} where
+  -- it is refused under the first condition, or goes on without it
+  pub unless-not : (walk : Walk) (n : ℕ) (test : Bool) (errno : Errno) (refusals : List (Bool × Errno)) (rest : Dialogue) → test ≡ false → Done (unless walk n refusals rest) k b k' b' after answers answers'
+      → Done (unless walk n ((test, errno) ∷ refusals) rest) k b k' b' after answers answers'
+  unless-not walk n test errno refusals rest e done =
+      subst (λ t. Done (if t then refuses walk n errno else unless walk n refusals rest) k b k' b' after answers answers') (sym e) done
+
+  pub unless-so : (walk : Walk) (n : ℕ) (test : Bool) (errno : Errno) (refusals : List (Bool × Errno)) (rest : Dialogue) → test ≡ true → Done (refuses walk n errno) k b k' b' after answers answers'
+      → Done (unless walk n ((test, errno) ∷ refusals) rest) k b k' b' after answers answers'
+  unless-so walk n test errno refusals rest e done =
+      subst (λ t. Done (if t then refuses walk n errno else unless walk n refusals rest) k b k' b' after answers answers') (sym e) done
+
+  pub label-live : (walk : Walk) (n : ℕ) (label : List ℕ) (rest : Live → Dialogue) (live : Live) → live_of walk label ≡ Some live → Done (rest live) k b k' b' after answers answers'
+      → Done (with_label walk n label rest) k b k' b' after answers answers'
+  label-live walk n label rest live e done = subst (λ o. Done (for_live walk n o rest) k b k' b' after answers answers') (sym e) done
+
+  pub label-free : (walk : Walk) (n : ℕ) (label : List ℕ) (rest : Live → Dialogue) → live_of walk label ≡ None → Done (refuses walk n ENOENT) k b k' b' after answers answers'
+      → Done (with_label walk n label rest) k b k' b' after answers answers'
+  label-free walk n label rest e done = subst (λ o. Done (for_live walk n o rest) k b k' b' after answers answers') (sym e) done
+
+-- it ends with answers
+pub says-done : (k : Known RegEntry) (b : Known (BoardEntry Ask)) (after : Walk) (said answers answers' : List Answer) → Stands after.lives k → Posted after b → answers' ≡ answers ++ said
+    → Done (Says said (Ends after)) k b k b after answers answers'
+says-done k b after said answers answers' stands posted e =
+    record {
+      turn = saying said (ended after);
+      is = refl;
+      asked = asked-nothing k stands.caller;
+      called = called-nothing b;
+      ends = refl;
+      says = e ∙ ap (λ a. answers ++ a) (sym (append-nil said));
+      stands = stands;
+      posted = posted;
+    }
+
+-- it asks the registry, and goes on by the answer
+pub asks-done : (k l k' : Known RegEntry) (b b' : Known (BoardEntry Ask)) (question : RegQuestion) (answer : RegAnswer question) (next : RegAnswer question → Dialogue) (after : Walk) (answers answers' : List Answer)
+    → Asked k l (reg_call question answer ∷ []) → Done (next answer) l b k' b' after answers answers' → Done (Asks question next) k b k' b' after answers answers'
+asks-done k l k' b b' question answer next after answers answers' asked done =
+    let call = reg_call question answer in
+    record {
+      turn = asking call done.turn;
+      is =
+          ap (λ o. elim o as (λ _. Turn) [ Some a ↦ asking (reg_call question a) (turn_of (next a) done.turn.registry done.turn.board) | None ↦ broken ]) (reg_answer-itself question answer)
+          ∙ ap (asking call) done.is;
+      asked = asked-more k l k' (call ∷ []) done.turn.registry asked done.asked;
+      called = done.called;
+      ends = done.ends;
+      says = done.says;
+      stands = done.stands;
+      posted = done.posted;
+    }
+
+-- it asks the board, and goes on by the answer
+pub posts-done : (k k' : Known RegEntry) (b c b' : Known (BoardEntry Ask)) (question : BoardQuestion) (answer : BoardAnswer question) (next : BoardAnswer question → Dialogue) (after : Walk) (answers answers' : List Answer)
+    → Called b c (board_call question answer ∷ []) → Done (next answer) k c k' b' after answers answers' → Done (Posts question next) k b k' b' after answers answers'
+posts-done k k' b c b' question answer next after answers answers' called done =
+    let call = board_call question answer in
+    record {
+      turn = posting call done.turn;
+      is =
+          ap (λ o. elim o as (λ _. Turn) [ Some a ↦ posting (board_call question a) (turn_of (next a) done.turn.registry done.turn.board) | None ↦ broken ]) (board_answer-itself question answer)
+          ∙ ap (posting call) done.is;
+      asked = done.asked;
+      called = called-more b c b' (call ∷ []) done.turn.board called done.called;
+      ends = done.ends;
+      says = done.says;
+      stands = done.stands;
+      posted = done.posted;
+    }
+
+-- a line that is refused, or answered, and nothing more
+pub refuses-done : (k : Known RegEntry) (b : Known (BoardEntry Ask)) (walk : Walk) (n : ℕ) (errno : Errno) (answers answers' : List Answer) → Stands walk.lives k → Posted walk b → answers' ≡ answers ++ Refused n errno ∷ []
+    → Done (refuses walk n errno) k b k b walk answers answers'
+refuses-done k b walk n errno answers answers' stands posted e = says-done k b walk (Refused n errno ∷ []) answers answers' stands posted e

@@ -1,0 +1,20 @@
+use Rattle.std.proofs.Common.{refl, Ok, Err}
+use Rattle.alg_names.specs.Name.{spelling}
+use Rattle.session_calls.specs.Passes.{known}
+use Rattle.script_session.proofs.Arms.{or-stops}
+use Rattle.script_session.proofs.Finding.{sees-asked, sees-same, finds-as, further, look-stands, found-arm, fault-holds}
+use Rattle.script_session.proofs.scripts.Session.find.Goals as goal
+
+pub bind-requires-clause-stands : goal.bind-requires-clause-stands
+bind-requires-clause-stands g c = look-stands c.args.self.now c.self.view_is (spelling c.args.name.now) c.in-Ok.id c.requires.stands (finds-as c.self.inside.registry c.resolve.new.self (spelling c.args.name.now) c.in_ok-id.field-0 (Ok c.in-Ok.id) c.in-Ok.is c.in_ok-id.ensures)
+
+pub returns-in-Ok : goal.returns-in-Ok
+returns-in-Ok g c =
+    found-arm c.args.self.now c.self.view_is _ c.args.number c.args.label.now (spelling c.args.name.now) c.args.length c.in-Ok.id _ _ c.bind.result (finds-as c.self.inside.registry c.resolve.new.self (spelling c.args.name.now) c.in_ok-id.field-0 (Ok c.in-Ok.id) c.in-Ok.is c.in_ok-id.ensures) c.bind.ensures
+
+pub returns-in-Err : goal.returns-in-Err
+returns-in-Err g c =
+    let found = finds-as c.self.inside.registry c.resolve.new.self (spelling c.args.name.now) c.in_ok-id.field-0 (Err c.in-Err.errno) c.in-Err.is c.in_ok-id.ensures in
+    or-stops c.refuse.result c.refuse.ensures
+    (fault-holds c.args.self.now c.self.view_is c.args.number c.args.label.now (spelling c.args.name.now) c.args.length c.in-Err.errno _ _ found c.requires.stands c.requires.posted)
+    (further c.args.self.now c.self.view_is _ (sees-asked _ found) refl (sees-same (known c.self.inside.board)))

@@ -1,0 +1,59 @@
+use Rattle.std.proofs.Common.{ap, sym, ◌∙◌, refl, subst, arith, length}
+use Rattle.dialogues.specs.Allocating.{closes}
+use Rattle.dialogues.specs.Dialogues.{for_live}
+use Rattle.dialogues.specs.Walk.{Live}
+use Rattle.script_session.specs.Changing.{owes}
+use Rattle.script_session.specs.States.{State}
+use Rattle.session_calls.specs.Asking.{HasReferenceOf}
+use Rattle.session_calls.specs.Passes.{known}
+use Rattle.script_session.proofs.Frees.{free-arm}
+use Rattle.script_session.proofs.Standing.{may-give}
+use Rattle.script_session.proofs.Arms.{or-stops, stops-same, answer-holds}
+use Rattle.script_session.proofs.Freeing.{free-owing}
+use Rattle.script_session.proofs.Living.{live-at, no-live, within, is-live}
+use Rattle.script_session.proofs.scripts.Session.free.Goals as goal
+
+pub returns-in_default : goal.returns-in_default
+returns-in_default g c =
+    let s = c.args.self.now in
+    let none = no-live c.args.self.now c.self.view_is c.args.label.now c.as_slice.result.now c.deref.result.now c.as_slice.ensures c.deref.ensures.value c.in_default.ensures in
+    or-stops c.refuse.result c.refuse.ensures
+    (answer-holds _ s s _ _ _ (ap (λ o. for_live s.walk c.args.number o (λ (live : Live). closes s.walk c.args.number live live.pipe)) none) refl refl refl c.requires.stands c.requires.posted)
+    (stops-same s c.requires.stands)
+
+pub index-requires : goal.index-requires
+index-requires g c =
+    let less = within c.args.self.now c.self.view_is c.args.label.now c.as_slice.result.now c.deref.result.now c.as_slice.ensures c.deref.ensures.value c.in-Some.place c.in-Some.ensures in
+    omega (arith, less, c.deref.ensures.len, ap length c.deref.ensures.value)
+
+pub returns-then-is_owing : goal.returns-then-is_owing
+returns-then-is_owing g c =
+    let s = c.args.self.now in
+    let at = live-at c.args.self.now c.self.view_is c.args.label.now c.as_slice.result.now c.deref.result.now c.as_slice.ensures c.deref.ensures.value c.in-Some.place c.in-Some.ensures in
+    let was = is-live c.args.self.now c.self.view_is c.args.label.now c.as_slice.result.now c.deref.result.now c.as_slice.ensures c.deref.ensures.value c.in-Some.place c.in-Some.ensures c.index.result.now c.index.ensures in
+    or-stops c.refuse-then-is_owing.result c.refuse-then-is_owing.ensures
+    (answer-holds _ s s _ _ _ (free-owing s.walk c.args.number c.args.label.now at.live at.found (ap (λ (l : Live). owes l.pipe) (sym was) ∙ (sym c.is_owing.ensures ∙ c.if-is_owing.true))) refl refl refl c.requires.stands c.requires.posted)
+    (stops-same s c.requires.stands)
+
+pub remove-live-requires : goal.remove-live-requires
+remove-live-requires g c =
+    let less = within c.args.self.now c.self.view_is c.args.label.now c.as_slice.result.now c.deref.result.now c.as_slice.ensures c.deref.ensures.value c.in-Some.place c.in-Some.ensures in
+    omega (arith, less)
+
+pub put_ref-requires-clause-has : goal.put_ref-requires-clause-has
+put_ref-requires-clause-has g c =
+    let s = c.args.self.now in
+    let at = live-at c.args.self.now c.self.view_is c.args.label.now c.as_slice.result.now c.deref.result.now c.as_slice.ensures c.deref.ensures.value c.in-Some.place c.in-Some.ensures in
+    let was = is-live c.args.self.now c.self.view_is c.args.label.now c.as_slice.result.now c.deref.result.now c.as_slice.ensures c.deref.ensures.value c.in-Some.place c.in-Some.ensures c.remove-live.result c.remove-live.ensures.value in
+    subst (HasReferenceOf (known c.self.inside.registry)) (sym (c.id.ensures ∙ ap (λ (l : Live). l.id) was))
+    (subst (λ (x : State). HasReferenceOf (known x.registry) at.live.id) (sym c.self.view_is) (may-give c.args.label.now s.walk.lives c.in-Some.place at (known s.registry) c.requires.stands))
+
+pub returns : goal.returns
+returns g c =
+    let s = c.args.self.now in
+    let at = live-at c.args.self.now c.self.view_is c.args.label.now c.as_slice.result.now c.deref.result.now c.as_slice.ensures c.deref.ensures.value c.in-Some.place c.in-Some.ensures in
+    let first = is-live c.args.self.now c.self.view_is c.args.label.now c.as_slice.result.now c.deref.result.now c.as_slice.ensures c.deref.ensures.value c.in-Some.place c.in-Some.ensures c.index.result.now c.index.ensures in
+    let was = is-live c.args.self.now c.self.view_is c.args.label.now c.as_slice.result.now c.deref.result.now c.as_slice.ensures c.deref.ensures.value c.in-Some.place c.in-Some.ensures c.remove-live.result c.remove-live.ensures.value in
+    free-arm s c.self.view_is c.args.label.now c.in-Some.place at c.remove-live.result c.id.result c.args.number c.args.answers.now.items c.say.new.answers.items was c.id.ensures c.remove-live.ensures.items
+    c.close_live.ensures.lock c.close_live.ensures.released c.put_ref.ensures
+    (ap (λ (l : Live). owes l.pipe) (sym first) ∙ (sym c.is_owing.ensures ∙ c.if-is_owing.false)) c.requires.stands c.requires.posted c.in_ok-say.ensures

@@ -1,0 +1,9 @@
+pub mod States
+pub mod Holding
+pub mod Keyed
+pub mod Changing
+pub mod Telling
+pub mod Offering
+pub mod Creating
+pub mod Finding
+pub mod Running

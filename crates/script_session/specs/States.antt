@@ -1,0 +1,66 @@
+-- A session over two locks: what its script has made, and what its passes know.
+use Rattle.std.specs.Prelude.{ℕ, ◌+◌, ◌==◌, if◌then◌else◌, ◌≡◌, ◌≤◌, Bool, false, List, [], ◌∷◌, length, Option, Some, None, ⊤, All, sum_by}
+use Rattle.alg_registry.specs.declared.entry.RegEntry.{RegEntry}
+use Rattle.board.specs.declared.entry.BoardEntry.{BoardEntry}
+use Rattle.board.specs.Allowance.{accepted_by}
+use Rattle.board.specs.Legal.{IsNoWorker, LegalBoard, is_shut}
+use Rattle.transforms.specs.declared.ask.Ask.{Ask}
+use Rattle.transforms.specs.AskValue.{ask_size}
+use Rattle.turn_lock.specs.Turns.{Known}
+use Rattle.dialogues.specs.References.{got, given}
+use Rattle.dialogues.specs.RegistryCalls.{reg_calls}
+use Rattle.dialogues.specs.Walk.{Walk, Live, Pipe}
+use Rattle.session_calls.specs.Asking.{IsCaller}
+use Rattle.session_calls.specs.Passes.{RegPass, BoardPass, lock_of}
+use Rattle.session_calls.specs.Pipelines.{KnowsPipe}
+
+-- how many live transforms stand on the entry
+abbrev pub uses : ℕ → List Live → ℕ
+uses id [] = 0
+uses id (live ∷ lives) = (if live.id == id then 1 else 0) + uses id lives
+
+-- The caller has as many references of each entry as live transforms stand on it.
+pub record Stands (lives : List Live) (k : Known RegEntry) : Type 0 where
+  pub caller : IsCaller k
+  pub referenced : (id : ℕ) → got id (reg_calls k.number k.seen) ≡ given id (reg_calls k.number k.seen) + uses id lives
+
+-- its pipeline is as the caller knows it, if it has one
+abbrev pub HasPipe : Known (BoardEntry Ask) → Option Pipe → Type 0
+HasPipe k None = ⊤
+HasPipe k (Some pipe) = KnowsPipe k pipe
+
+abbrev pub is_at : ℕ → Option Pipe → Bool
+is_at number None = false
+is_at number (Some pipe) = pipe.number == number
+
+-- how many live transforms have the pipeline of this number
+abbrev pub owners : ℕ → List Live → ℕ
+owners number [] = 0
+owners number (live ∷ lives) = (if is_at number live.pipe then 1 else 0) + owners number lives
+
+-- The live transforms' pipelines are as the caller knows them, no two share one, and so many requests and bytes were accepted.
+pub record Posted (walk : Walk) (k : Known (BoardEntry Ask)) : Type 0 where
+  pub outsider : IsNoWorker k.number
+  pub legal : LegalBoard k.seen
+  pub pipes : All (λ (live : Live). HasPipe k live.pipe) walk.lives
+  pub apart : (number : ℕ) → owners number walk.lives ≤ 1
+  pub requests : length (accepted_by k.number k.seen) ≡ walk.requests
+  pub bytes : sum_by ask_size (accepted_by k.number k.seen) ≡ walk.bytes
+  pub unshut : k.number ≡ 0 → is_shut k.seen ≡ false
+
+-- beside how many workers the script runs, what it has made, and its passes
+pub record State : Type 0 where
+  pub workers : ℕ
+  pub walk : Walk
+  pub registry : Option RegPass
+  pub board : Option BoardPass
+
+-- both passes are still of their locks, and as many workers stand beside the script
+pub record SameLocks (s s' : State) : Type 0 where
+  pub registry : lock_of s'.registry ≡ lock_of s.registry
+  pub board : lock_of s'.board ≡ lock_of s.board
+  pub workers : s'.workers ≡ s.workers
+
+-- with one more request of so many bytes, where it was accepted
+abbrev pub counted : State → Bool → ℕ → State
+counted s accepted size = if accepted then record s { walk = record (s.walk) { requests = s.walk.requests + 1; bytes = s.walk.bytes + size } } else s

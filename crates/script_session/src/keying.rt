@@ -1,0 +1,64 @@
+//! The lines that set a transform's key and its tag size.
+
+ghost use Rattle.std.specs.Prelude.{◌≡◌, [], OnOk};
+ghost use Rattle.board.specs.declared.entry.BoardEntry.{BoardEntry};
+ghost use Rattle.board.specs.Legal.{LegalBoard};
+ghost use Rattle.transforms.specs.declared.ask.Ask.{Ask};
+ghost use Rattle.turn_lock.specs.Turns.{Known};
+ghost use Rattle.script_session.specs.Keyed.{keys_live, sizes_live};
+ghost use Rattle.script_session.specs.States.{HasPipe};
+ghost use Rattle.script_session.specs.Changing.{HoldsFor};
+
+use crate::answers::{refuse, say};
+use crate::transform::Transform;
+use kc_base::Errno;
+use reply_text::Answer;
+use session_calls::Stop;
+use std::alloc::Global;
+use transforms::TfmErr;
+
+/// `key T HEX` of a transform.
+pub fn key_live(
+    alloc: Global,
+    line: u32,
+    live: &mut Transform,
+    key: &[u8],
+    answers: &mut Vec<Answer>,
+) -> Result<(), Stop>
+    ensures { OnOk result ((k : Known (BoardEntry Ask)) → HasPipe k live.old.pipe → LegalBoard k.seen
+        → HoldsFor (λ walk. keys_live walk line live.old key.now) live.old live.new k k [] answers.old.items answers.new.items) }
+{
+    match live.set_key(alloc, key) {
+        Ok(()) => {
+            say(answers, Answer::Ok { line })?;
+            Ok(())
+        }
+        Err(TfmErr::Inval) => {
+            refuse(answers, line, Errno::EINVAL)?;
+            Ok(())
+        }
+        Err(TfmErr::Memory) => Err(Stop::Memory),
+    }
+}
+
+/// `authsize T NUM` of a transform.
+pub fn size_live(
+    line: u32,
+    live: &mut Transform,
+    size: u32,
+    answers: &mut Vec<Answer>,
+) -> Result<(), Stop>
+    ensures { OnOk result ((k : Known (BoardEntry Ask)) → HasPipe k live.old.pipe → LegalBoard k.seen
+        → HoldsFor (λ walk. sizes_live walk line live.old size) live.old live.new k k [] answers.old.items answers.new.items) }
+{
+    match live.set_tag_size(size) {
+        Ok(()) => {
+            say(answers, Answer::Ok { line })?;
+            Ok(())
+        }
+        Err(errno) => {
+            refuse(answers, line, errno)?;
+            Ok(())
+        }
+    }
+}

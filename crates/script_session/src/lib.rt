@@ -1,0 +1,16 @@
+//! One script over a registry and a board that others call too.
+#![tactic(auto)]
+
+mod answers;
+mod callbacks;
+mod drivers;
+mod keying;
+mod listing;
+mod lives;
+mod naming;
+mod piping;
+mod requesting;
+mod scripts;
+mod transform;
+
+pub use scripts::Session;

@@ -1,0 +1,322 @@
+//! What lines do with the pipeline of one transform.
+
+ghost use Rattle.std.specs.Prelude.{◌≡◌, ◌↔◌, ◌≤◌, ◌∷◌, [], MatchResult, IfOk, IsTrue, true, false};
+ghost use Rattle.board.specs.declared.board_core.BoardErr.TheVariants as BoardErr;
+ghost use Rattle.script_session.specs.Holding.{SeesOn};
+ghost use Rattle.script_session.specs.Offering.{Offered};
+ghost use Rattle.session_calls.specs.Pipelines.{KnowsPipe, Kept};
+ghost use Rattle.dialogues.specs.Allocating.{lists_beside, shape_for};
+ghost use Rattle.dialogues.specs.Names.{is_queue_length};
+ghost use Rattle.script_session.specs.Creating.{Created, unasked};
+ghost use Rattle.board.specs.Legal.{IsNoWorker};
+ghost use Rattle.board.specs.Legal.{LegalBoard};
+ghost use Rattle.std.specs.Arc.{arc_value};
+ghost use Rattle.dialogues.specs.BoardCalls.{asked_by};
+ghost use Rattle.board.specs.Allowance.{IsAllowed};
+ghost use Rattle.transforms.specs.AskValue.{ask_size};
+ghost use Rattle.dialogues.specs.Piping.{drains_in, polls_in};
+ghost use Rattle.script_session.specs.Keyed.{holds_in, gos_in};
+ghost use Rattle.dialogues.specs.Requesting.{requests_in};
+ghost use Rattle.session_calls.specs.Passes.{known, lock_of, CallsBoard};
+ghost use Rattle.session_calls.specs.Pipelines.{line_of};
+ghost use Rattle.script_session.specs.States.{HasPipe};
+ghost use Rattle.script_session.specs.Changing.{HoldsFor, Released, asks_if, owes};
+
+use crate::answers::{refuse, say, value_answer};
+use crate::callbacks::{count_completions, tell};
+use crate::transform::Transform;
+use alg_registry::Wrap;
+use board::{BoardErr, Entered};
+use crew::Gate;
+use kc_base::{Callbacks, Errno};
+use reply_text::Answer;
+use session_calls::{BoardCaller, Lines, Pipe, Stop};
+use shared_board::SharedBoard;
+use std::alloc::Global;
+use std::sync::Wait;
+use transforms::Job;
+
+/// `drain T` of a transform. It does what jobs there are until those of the pipeline are done.
+pub fn drain_live<R: Wait, G: Gate>(
+    alloc: Global,
+    rt: &R,
+    board: &SharedBoard<Job>,
+    gate: &G,
+    caller: &mut BoardCaller,
+    line: u32,
+    live: &mut Transform,
+    answers: &mut Vec<Answer>,
+) -> Result<(), Stop>
+    requires at { CallsBoard board.now caller.old }
+    requires legal { LegalBoard (known caller.old).seen }
+    requires pipe { HasPipe (known caller.old) live.old.pipe }
+    ensures lock { lock_of caller.new ≡ lock_of caller.old }
+    ensures held { MatchResult result
+        (λ _. HoldsFor (λ walk. drains_in walk line live.old live.old.pipe) live.old live.new (known caller.old) (known caller.new) [] answers.old.items answers.new.items)
+        (λ _. SeesOn (known caller.old) (known caller.new)) }
+{
+    let Some(pipe) = live.pipe() else {
+        return say(answers, Answer::Drained { line, count: 0 });
+    };
+    if pipe.held {
+        return refuse(answers, line, Errno::EINVAL);
+    }
+    let mut into = Callbacks::new(alloc);
+    caller.drain(rt, board, gate, pipe, &mut into)?;
+    let count = count_completions(into.as_slice());
+    tell(alloc, &pipe.lines, into.as_slice(), answers)?;
+    say(answers, Answer::Drained { line, count })?;
+    live.deliver(count);
+    Ok(())
+}
+
+// Hands a job in to a pipeline. A pad takes each that the caller's allowance has room for.
+fn offer<R: Wait>(
+    rt: &R,
+    board: &SharedBoard<Job>,
+    caller: &mut BoardCaller,
+    pipe: &Pipe,
+    job: Job,
+    backlog: bool,
+) -> Result<Entered, BoardErr>
+    requires at { CallsBoard board.now caller.old }
+    requires pipe { KnowsPipe (known caller.old) pipe.now }
+    ensures lock { lock_of caller.new ≡ lock_of caller.old }
+    ensures offered { MatchResult result
+        (λ answer. Offered (known caller.old) (known caller.new) pipe.now (arc_value job.ask) backlog answer)
+        (λ _. Kept (known caller.old) (known caller.new)) }
+    ensures allowed { MatchResult result
+        (λ _. IsAllowed ask_size (known caller.old).seen (known caller.old).number (arc_value job.ask))
+        (λ e. (e ≡ BoardErr.TooBig) ↔ (IsAllowed ask_size (known caller.old).seen (known caller.old).number (arc_value job.ask) → ⊥)) }
+{
+    match pipe.bound {
+        None => match caller.submit(rt, board, pipe, job) {
+            Ok(number) => Ok(Entered::InProgress(number)),
+            Err(error) => Err(error),
+        },
+        Some(_) => caller.enqueue(rt, board, pipe, job, backlog),
+    }
+}
+
+/// Does a job of a line: at once, or in its transform's pipeline. It says whether a pipeline accepted it.
+pub fn take_job<R: Wait>(
+    rt: &R,
+    board: &SharedBoard<Job>,
+    caller: &mut BoardCaller,
+    line: u32,
+    live: &mut Transform,
+    job: Job,
+    backlog: bool,
+    answers: &mut Vec<Answer>,
+) -> Result<bool, Stop>
+    requires at { CallsBoard board.now caller.old }
+    requires legal { LegalBoard (known caller.old).seen }
+    requires pipe { HasPipe (known caller.old) live.old.pipe }
+    requires line { line_of (arc_value job.ask) ≡ line }
+    ensures lock { lock_of caller.new ≡ lock_of caller.old }
+    ensures held { MatchResult result
+        (λ accepted. HoldsFor (λ walk. requests_in walk line live.old (asked_by (arc_value job.ask)) backlog live.old.pipe) live.old live.new (known caller.old) (known caller.new) (asks_if accepted (arc_value job.ask)) answers.old.items answers.new.items)
+        (λ _. SeesOn (known caller.old) (known caller.new)) }
+    ensures allowed { IfOk result (λ accepted. IsTrue accepted → IsAllowed ask_size (known caller.old).seen (known caller.old).number (arc_value job.ask)) }
+{
+    let Some(pipe) = live.pipe() else {
+        say(answers, value_answer(line, job.run()))?;
+        return Ok(false);
+    };
+    match offer(rt, board, caller, pipe, job, backlog) {
+        Ok(Entered::InProgress(_)) => {
+            refuse(answers, line, Errno::EINPROGRESS)?;
+            live.accept(line)?;
+            Ok(true)
+        }
+        Ok(Entered::Busy(_)) => {
+            refuse(answers, line, Errno::EBUSY)?;
+            live.accept(line)?;
+            Ok(true)
+        }
+        Ok(Entered::NoSpace) => {
+            refuse(answers, line, Errno::ENOSPC)?;
+            Ok(false)
+        }
+        Err(BoardErr::TooBig) => {
+            refuse(answers, line, Errno::E2BIG)?;
+            Ok(false)
+        }
+        Err(BoardErr::Memory) => Err(Stop::Memory),
+    }
+}
+
+/// `hold T` of a transform. Only a queue is held.
+pub fn hold_live<R: Wait>(
+    rt: &R,
+    board: &SharedBoard<Job>,
+    caller: &mut BoardCaller,
+    line: u32,
+    live: &mut Transform,
+    answers: &mut Vec<Answer>,
+) -> Result<(), Stop>
+    requires at { CallsBoard board.now caller.old }
+    requires legal { LegalBoard (known caller.old).seen }
+    requires pipe { HasPipe (known caller.old) live.old.pipe }
+    ensures lock { lock_of caller.new ≡ lock_of caller.old }
+    ensures held { MatchResult result
+        (λ _. HoldsFor (λ walk. holds_in walk line live.old) live.old live.new (known caller.old) (known caller.new) [] answers.old.items answers.new.items)
+        (λ _. SeesOn (known caller.old) (known caller.new)) }
+{
+    let Some(pipe) = live.pipe() else {
+        return refuse(answers, line, Errno::EINVAL);
+    };
+    if pipe.bound.is_none() {
+        return refuse(answers, line, Errno::EINVAL);
+    }
+    caller.hold(rt, board, pipe)?;
+    say(answers, Answer::Ok { line })?;
+    live.set_held(true);
+    Ok(())
+}
+
+/// `go T` of a transform. Only a queue is let go.
+pub fn go_live<R: Wait>(
+    rt: &R,
+    board: &SharedBoard<Job>,
+    caller: &mut BoardCaller,
+    line: u32,
+    live: &mut Transform,
+    answers: &mut Vec<Answer>,
+) -> Result<(), Stop>
+    requires at { CallsBoard board.now caller.old }
+    requires legal { LegalBoard (known caller.old).seen }
+    requires pipe { HasPipe (known caller.old) live.old.pipe }
+    ensures lock { lock_of caller.new ≡ lock_of caller.old }
+    ensures held { MatchResult result
+        (λ _. HoldsFor (λ walk. gos_in walk line live.old) live.old live.new (known caller.old) (known caller.new) [] answers.old.items answers.new.items)
+        (λ _. SeesOn (known caller.old) (known caller.new)) }
+{
+    let Some(pipe) = live.pipe() else {
+        return refuse(answers, line, Errno::EINVAL);
+    };
+    if pipe.bound.is_none() {
+        return refuse(answers, line, Errno::EINVAL);
+    }
+    caller.go(rt, board, pipe)?;
+    say(answers, Answer::Ok { line })?;
+    live.set_held(false);
+    Ok(())
+}
+
+/// `poll T` of a transform.
+pub fn poll_live<R: Wait>(
+    alloc: Global,
+    rt: &R,
+    board: &SharedBoard<Job>,
+    caller: &mut BoardCaller,
+    line: u32,
+    live: &mut Transform,
+    answers: &mut Vec<Answer>,
+) -> Result<(), Stop>
+    requires at { CallsBoard board.now caller.old }
+    requires legal { LegalBoard (known caller.old).seen }
+    requires pipe { HasPipe (known caller.old) live.old.pipe }
+    ensures lock { lock_of caller.new ≡ lock_of caller.old }
+    ensures held { MatchResult result
+        (λ _. HoldsFor (λ walk. polls_in walk line live.old live.old.pipe) live.old live.new (known caller.old) (known caller.new) [] answers.old.items answers.new.items)
+        (λ _. SeesOn (known caller.old) (known caller.new)) }
+{
+    let Some(pipe) = live.pipe() else {
+        return say(answers, Answer::Polled { line, count: 0 });
+    };
+    let mut into = Callbacks::new(alloc);
+    caller.poll(rt, board, pipe, &mut into)?;
+    let count = count_completions(into.as_slice());
+    tell(alloc, &pipe.lines, into.as_slice(), answers)?;
+    say(answers, Answer::Polled { line, count })?;
+    live.deliver(count);
+    Ok(())
+}
+
+/// Whether completions of its requests are to come.
+pub fn is_owing(live: &Transform) -> bool
+    ensures { result ≡ owes live.now.pipe }
+{
+    match live.pipe() {
+        Some(pipe) => pipe.delivered < pipe.lines.count(),
+        None => false,
+    }
+}
+
+/// Closes the pipeline of a transform that owes nothing, if it has one. No memory is taken.
+pub fn close_live<R: Wait>(
+    rt: &R,
+    board: &SharedBoard<Job>,
+    caller: &mut BoardCaller,
+    live: &Transform,
+)
+    requires at { CallsBoard board.now caller.old }
+    requires legal { LegalBoard (known caller.old).seen }
+    requires pipe { HasPipe (known caller.old) live.now.pipe }
+    requires paid { owes live.now.pipe ≡ false }
+    ensures lock { lock_of caller.new ≡ lock_of caller.old }
+    ensures released { Released live.now (known caller.old) (known caller.new) }
+{
+    let Some(pipe) = live.pipe() else {
+        return;
+    };
+    caller.close(rt, board, pipe);
+}
+
+/// How many requests wait in a queue before it is full, where its line doesn't say.
+const QUEUE_LENGTH: u32 = 1000;
+
+// How many lists a pad has beside so many workers.
+fn lists_beside_workers(workers: u32) -> u32
+    ensures lists { result ≡ lists_beside workers }
+    ensures some { 1 ≤ result }
+{
+    if workers < 1 { 1 } else { workers }
+}
+
+// A pipeline of which nothing was asked. No memory is taken.
+fn unasked_pipe(alloc: Global, number: u64, bound: Option<u32>) -> Pipe
+    ensures { result ≡ unasked number bound }
+{
+    Pipe {
+        number,
+        bound,
+        held: false,
+        lines: Lines::new(alloc),
+        delivered: 0,
+    }
+}
+
+/// Makes the pipeline of a transform, where its driver's outermost template has one: a pad under `pcrypt`, a queue under
+/// `cryptd`.
+pub fn create_pipe<R: Wait>(
+    alloc: Global,
+    rt: &R,
+    board: &SharedBoard<Job>,
+    caller: &mut BoardCaller,
+    workers: u32,
+    wrap: Wrap,
+    length: Option<u32>,
+) -> Result<Option<Pipe>, Stop>
+    requires at { CallsBoard board.now caller.old }
+    requires caller { IsNoWorker (known caller.old).number }
+    requires fits { is_queue_length length ≡ true }
+    ensures lock { lock_of caller.new ≡ lock_of caller.old }
+    ensures created { MatchResult result
+        (λ pipe. Created (shape_for workers wrap length) pipe (known caller.old) (known caller.new))
+        (λ _. SeesOn (known caller.old) (known caller.new)) }
+{
+    match wrap {
+        Wrap::Plain => Ok(None),
+        Wrap::Pcrypt => {
+            let number = caller.born_pad(rt, board, lists_beside_workers(workers))?;
+            Ok(Some(unasked_pipe(alloc, number, None)))
+        }
+        Wrap::Cryptd => {
+            let max = length.unwrap_or(QUEUE_LENGTH);
+            let number = caller.born_queue(rt, board, max)?;
+            Ok(Some(unasked_pipe(alloc, number, Some(max))))
+        }
+    }
+}

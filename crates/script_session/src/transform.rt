@@ -1,0 +1,198 @@
+//! A live transform: an entry of the registry in use, with its key and its tag size, and its pipeline where it has one.
+
+ghost use Rattle.std.specs.Prelude.{◌≡◌, ◌⊎◌, true, false, ◌<◌, ◌^◌, length, Some, OnOk, OnErr, MatchResult};
+ghost use Rattle.std.specs.Arc.{arc_value};
+ghost use Rattle.std.specs.Option.{option_copied};
+ghost use Rattle.transforms.specs.Plans.{takes_key, takes_tag};
+ghost use Rattle.dialogues.specs.Allocating.{new_live};
+ghost use Rattle.dialogues.specs.BoardCalls.{asked_by};
+ghost use Rattle.script_session.specs.Keyed.{with_line, held_as, delivering, MayDeliver, IsJob, IsNoJob};
+
+use kc_base::{Bytes, Errno};
+use session_calls::Pipe;
+use std::alloc::{AllocError, AllocFailed, Global};
+use std::marker::Model;
+use std::sync::Arc;
+use templates::Plan;
+use transforms::{Ask, Job, Keyed, Request, TfmErr, largest_tag_size, prepare, tag_size};
+
+/// A transform between its allocation and its release. Contracts see it as a row of the walk.
+#[derive(Drop)]
+pub struct Transform {
+    label: Bytes,
+    /// The entry of the registry on which it stands.
+    id: u64,
+    plan: Plan,
+    keyed: Option<Arc<Keyed>>,
+    tag_size: u32,
+    /// Where its requests wait, if they aren't done at their line.
+    pipe: Option<Pipe>,
+}
+
+impl Model for Transform {
+    ghost use Rattle.std.specs.Prelude.{◌≡◌, true};
+    ghost use Rattle.transforms.specs.Plans.{fits_tag};
+    ghost use Rattle.dialogues.specs.Walk.{Live};
+    ghost use Rattle.script_session.specs.Keyed.{key_in, IsKeyedBy};
+
+    ghost Value = { Live };
+
+    ghost view = { λ t. record { label = t.label; id = t.id; plan = t.plan; key = key_in t.keyed; tag_size = t.tag_size; pipe = t.pipe } };
+
+    ghost invariant = { λ t. IsKeyedBy t.plan t.keyed × (fits_tag t.plan t.tag_size ≡ true) };
+}
+
+/// Why a transform makes no job of a request.
+#[derive(Clone, Copy, Debug, PartialEq, Eq)]
+pub enum JobErr {
+    /// No key was set.
+    NoKey,
+    /// The transform doesn't take the request.
+    Inval,
+    Memory,
+}
+
+impl From<AllocError> for JobErr {
+    ghost use Rattle.std.specs.Prelude.{◌≡◌};
+    ghost use Rattle.script_session.specs.declared.transform.JobErr.{JobErr};
+
+    ghost from_gives = { λ _ e. e ≡ JobErr.Memory };
+
+    fn from(_: AllocError) -> JobErr {
+        JobErr::Memory
+    }
+}
+
+impl<T: Drop> From<AllocFailed<T>> for JobErr {
+    ghost use Rattle.std.specs.Prelude.{◌≡◌};
+    ghost use Rattle.script_session.specs.declared.transform.JobErr.{JobErr};
+
+    ghost from_gives = { λ _ e. e ≡ JobErr.Memory };
+
+    fn from(_: AllocFailed<T>) -> JobErr {
+        JobErr::Memory
+    }
+}
+
+impl Transform {
+    /// A transform with no key, and the greatest tag size of its mode. No memory is taken.
+    pub fn new(label: Bytes, id: u64, plan: Plan, pipe: Option<Pipe>) -> Transform
+        ensures { result ≡ new_live label id plan pipe }
+    {
+        Transform {
+            label,
+            id,
+            plan,
+            keyed: None,
+            tag_size: largest_tag_size(&plan),
+            pipe,
+        }
+    }
+
+    pub fn label(&self) -> &[u8]
+        ensures { result.now ≡ self.now.label }
+    {
+        self.label.as_slice()
+    }
+
+    pub fn id(&self) -> u64
+        ensures { result ≡ self.now.id }
+    {
+        self.id
+    }
+
+    /// Sets a key: `Inval` exactly where the mode doesn't take it. A refusal leaves an earlier key.
+    pub fn set_key(&mut self, alloc: Global, key: &[u8]) -> Result<(), TfmErr>
+        ensures { MatchResult result
+            (λ _. (takes_key self.old.plan key.now ≡ true) × (self.new ≡ record self.old { key = Some key.now }))
+            (λ e. ((e ≡ TfmErr.Memory) ⊎ ((e ≡ TfmErr.Inval) × (takes_key self.old.plan key.now ≡ false))) × (self.new ≡ self.old)) }
+    {
+        let keyed = Keyed::set(alloc, &self.plan, key)?;
+        match Arc::new(alloc, keyed) {
+            Ok(keyed) => {
+                self.keyed = Some(keyed);
+                Ok(())
+            }
+            Err(_) => Err(TfmErr::Memory),
+        }
+    }
+
+    /// Sets the size of tags: EINVAL exactly where the mode doesn't take it. A refusal leaves the earlier size.
+    pub fn set_tag_size(&mut self, size: u32) -> Result<(), Errno>
+        ensures { MatchResult result
+            (λ _. (takes_tag self.old.plan size ≡ true) × (self.new ≡ record self.old { tag_size = size }))
+            (λ e. (e ≡ Errno.EINVAL) × (takes_tag self.old.plan size ≡ false) × (self.new ≡ self.old)) }
+    {
+        tag_size(&self.plan, size)?;
+        self.tag_size = size;
+        Ok(())
+    }
+
+    pub fn pipe(&self) -> Option<&Pipe>
+        ensures { option_copied result ≡ self.now.pipe }
+    {
+        self.pipe.as_ref()
+    }
+
+    /// Its pipeline accepted a request of this line. Want of memory leaves all as it was.
+    pub fn accept(&mut self, line: u32) -> Result<(), AllocError>
+        ensures ok { OnOk result (self.new ≡ with_line self.old line) }
+        ensures err { OnErr result (self.new ≡ self.old) }
+    {
+        if let Some(pipe) = &mut self.pipe {
+            pipe.lines.push(line)?;
+        }
+        Ok(())
+    }
+
+    /// Its pipeline is held, or let go.
+    pub fn set_held(&mut self, held: bool)
+        ensures { self.new ≡ held_as self.old held }
+    {
+        if let Some(pipe) = &mut self.pipe {
+            pipe.held = held;
+        }
+    }
+
+    /// Its pipeline handed so many completions out.
+    pub fn deliver(&mut self, count: u64)
+        requires { MayDeliver count self.old.pipe }
+        ensures { self.new ≡ delivering self.old count }
+    {
+        if let Some(pipe) = &mut self.pipe {
+            // No more than it accepted.
+            prove!(count <= pipe.lines.count() - pipe.delivered);
+            pipe.delivered += count;
+        }
+    }
+
+    /// The job of a request of a line, under the key that was set last, with all the memory that it needs. `NoKey` exactly
+    /// where none was set; otherwise `Inval` exactly where the mode doesn't take the request.
+    pub fn job(
+        &self,
+        alloc: Global,
+        client: u32,
+        line: u32,
+        request: Request,
+    ) -> Result<Job, JobErr>
+        requires aad { length request.aad < 2 ^ 32 }
+        requires text { length request.text < 2 ^ 32 }
+        ensures { MatchResult result (λ job. IsJob client line self.now request (asked_by (arc_value job.ask))) (λ e. IsNoJob self.now request e) }
+    {
+        let Some(keyed) = &self.keyed else {
+            return Err(JobErr::NoKey);
+        };
+        let ask = Ask {
+            keyed: keyed.clone()?,
+            authsize: self.tag_size,
+            request,
+            client,
+            line,
+        };
+        match prepare(alloc, Arc::new(alloc, ask)?) {
+            Ok(job) => Ok(job),
+            Err(TfmErr::Inval) => Err(JobErr::Inval),
+            Err(TfmErr::Memory) => Err(JobErr::Memory),
+        }
+    }
+}

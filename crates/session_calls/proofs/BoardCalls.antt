@@ -1,0 +1,341 @@
+-- Calls of the board's caller, by what its lock says of a turn.
+use Rattle.std.proofs.Common.{◌≡◌, ◌≢◌, inl, inr, ℕ, zero, suc, ◌+◌, Bool, true, false, List, [], ◌∷◌, ◌++◌, length, map, Option, Some, None, Result, Ok, Err, refl, sym, ap, subst, ◌∙◌, append-nil, append_assoc}
+use Rattle.std.specs.Prelude.{◌==◌, ◌↔◌, if◌then◌else◌, MatchResult, slice_get, unwrap_or}
+use Rattle.std.specs.Arc.{arc_value}
+use Rattle.std.specs.declared.sync.Arc.{Arc}
+use Rattle.std.specs.declared.alloc.Global.{Global}
+use Rattle.std.proofs.lemmas.Bool.{eq-eqb}
+use Rattle.kc_base.specs.declared.callback_list.Callback.{Callback}
+use Rattle.kc_base.specs.declared.callback_list.Callback.TheVariants as callback
+use Rattle.board.specs.declared.board_core.BoardErr.{BoardErr}
+use Rattle.board.specs.declared.board_core.BoardErr.TheVariants.{TooBig, Memory}
+use Rattle.board.specs.declared.entry.BoardEntry.{BoardEntry}
+use Rattle.board.specs.declared.entry.BoardEntry.TheVariants as event
+use Rattle.board.specs.declared.entry.Shape.{Shape}
+use Rattle.board.specs.declared.entry.Shape.TheVariants.{Pad, Queue}
+use Rattle.board.specs.Entries.{caller_of, is_of, is_close, is_share, is_held, accepted_in, entries_of, submissions, front, told, delivered}
+use Rattle.board.specs.Allowance.{IsAllowed}
+use Rattle.board.specs.Legal.{IsNoWorker, IsOpen, IsOpenPad, IsOpenQueue, LegalBoard, pipelines}
+use Rattle.board.specs.Handing.{is_collect, completions}
+use Rattle.board.proofs.Staying.{stays_managed, holds}
+use Rattle.board.proofs.Transfer.{entries-more}
+use Rattle.board.proofs.PadOrder.{filter_map-none}
+use Rattle.std.proofs.lemmas.Bool.{eqb-true}
+use Rattle.board.proofs.Handing.{all_handed_out, leaves_others, hands_nothing, joins, begins_alone}
+use Rattle.board.proofs.Kept.{only_of, not_shut, shut-same}
+use Rattle.board.specs.Staying.{IsDrained}
+use Rattle.board.specs.Allowance.{accepted_by}
+use Rattle.std.proofs.lemmas.List.{length-map}
+use Rattle.std.specs.Option.{option_map}
+use Rattle.board.specs.Order.{completed}
+use Rattle.transforms.specs.declared.ask.Ask.{Ask}
+use Rattle.transforms.specs.declared.request.Finished.{Finished}
+use Rattle.transforms.specs.AskValue.{ask_size}
+use Rattle.turn_lock.specs.Turns.{Known, sees}
+use Rattle.turn_lock.specs.Meeting.{AtTurn, Enters, Leaves}
+use Rattle.turn_lock.proofs.Clients.{still_kept}
+use Rattle.crew.specs.Working.{Worked, Drained as CrewDrained}
+use Rattle.dialogues.specs.RegistryCalls.{if_own}
+use Rattle.dialogues.specs.BoardCalls.{BoardCall, Creates, Submits, Enqueues, Holds, Goes, Collects, Closes, Shuts, Started, Completed, asked_by, outcome, board_calls, notice_of, line_in, collected_to}
+use Rattle.dialogues.specs.Walk.{Pipe}
+use Rattle.session_calls.specs.Pipelines.{Laws, IsOpenAs, IsPipeIn, line_of, line_at, KnowsPipe, Kept, Changed, Closed, IsPad, IsQueue, entered_pipe, entered_asks, with_ask, notice_by, Called, Drained, Polled, Opened}
+use Rattle.dialogues.specs.Allocating.{new_pipe}
+use Rattle.board.specs.declared.entry.Entered.{Entered}
+use Rattle.board.specs.declared.entry.Entered.TheVariants.{InProgress, Busy, NoSpace}
+use Rattle.session_calls.proofs.Boarding.{Met, goes-kept, opened-more, shared-more, calls-one, meets-kept, leaves-kept, changed-later, accepted-none, accepted-more, pipe-stays, pipe-accepts, pipe-collected, entry-changed}
+
+own : {C : Type 0} (n : ℕ) (call : C) → if_own n n call ≡ Some call
+own {C} n call = ap (λ b. if b then Some call else None) (eq-eqb n n refl)
+
+pub open-pad : (bound : Option ℕ) (es : List (BoardEntry Ask)) → IsPad bound → IsOpenAs bound es → IsOpenPad es
+open-pad None es pad o = o
+open-pad (Some max) es pad o = absurd pad
+
+pub is-open : (bound : Option ℕ) (es : List (BoardEntry Ask)) → IsOpenAs bound es → IsOpen es
+is-open None es o = inl o
+is-open (Some max) es o = inr o
+
+-- ---- `submit`
+
+own_ask : (b : Bool) (ask : Ask) → b ≡ true → (if b then Some ask else None) ≡ Some ask
+own_ask b ask e = ap (λ t. if t then Some ask else None) e
+
+pub submit-changed : Laws → (k l : Known (BoardEntry Ask)) (pipe : Pipe) (asked : Ask) (r : Result ℕ BoardErr) → KnowsPipe k pipe
+    → AtTurn caller_of LegalBoard k (λ h. MatchResult r
+    (λ n. (n ≡ length (submissions (entries_of pipe.number h))) × IsAllowed ask_size h k.number asked
+    × ((ask : Arc Ask Global) × (arc_value ask ≡ asked) × Enters LegalBoard k h (event.Submit k.number pipe.number n ask) l))
+    (λ e. ((e ≡ TooBig) ↔ (IsAllowed ask_size h k.number asked → ⊥)) × Leaves k h l))
+    → MatchResult r (λ number. Changed k l pipe (with_ask pipe asked) (Submits pipe.number number (asked_by asked) ∷ []) (asked ∷ [])) (λ _. Kept k l)
+submit-changed laws k l pipe asked (Err e) on turn = leaves-kept laws k l turn.0 turn.1 turn.2.1
+submit-changed laws k l pipe asked (Ok n) on turn =
+    let h = turn.0 in
+    let done = turn.2.2 in
+    let e : BoardEntry Ask = event.Submit k.number pipe.number n done.0 in
+    let kept = meets-kept laws k h turn.1 in
+    changed-later k (sees k h) l pipe (with_ask pipe asked) (Submits pipe.number n (asked_by asked) ∷ []) (asked ∷ []) kept
+    (entry-changed laws k l h e pipe (with_ask pipe asked) (Submits pipe.number n (asked_by asked)) (asked ∷ []) done.2 (eq-eqb pipe.number pipe.number refl)
+    (own k.number (Submits pipe.number n (asked_by (arc_value done.0))) ∙ ap (λ a. Some (Submits pipe.number n (asked_by a))) done.1)
+    (accepted-more k.number h e asked (own_ask (k.number == k.number) (arc_value done.0) (eq-eqb k.number k.number refl) ∙ ap (λ a. Some a) done.1)) refl
+    (pipe-accepts k.number h e pipe refl refl (kept.pipes pipe on) asked (eq-eqb pipe.number pipe.number refl) (ap (λ a. Some a) done.1) refl refl))
+
+-- ---- `enqueue`
+
+pub open-queue : (bound : Option ℕ) (es : List (BoardEntry Ask)) → IsQueue bound → IsOpenAs bound es → IsOpenQueue es
+open-queue None es queue o = absurd queue
+open-queue (Some max) es queue o = o
+
+pub enqueue-changed : Laws → (k l : Known (BoardEntry Ask)) (pipe : Pipe) (asked : Ask) (backlog : Bool) (V : List (BoardEntry Ask) → Entered → Type 0) (r : Result Entered BoardErr) → KnowsPipe k pipe
+    → AtTurn caller_of LegalBoard k (λ h. MatchResult r
+    (λ answer. V h answer × IsAllowed ask_size h k.number asked
+    × ((ask : Arc Ask Global) × (arc_value ask ≡ asked) × Enters LegalBoard k h (event.Enq k.number pipe.number ask backlog answer) l))
+    (λ e. ((e ≡ TooBig) ↔ (IsAllowed ask_size h k.number asked → ⊥)) × Leaves k h l))
+    → MatchResult r (λ answer. Changed k l pipe (entered_pipe pipe asked answer) (Enqueues pipe.number (asked_by asked) backlog answer ∷ []) (entered_asks asked answer)) (λ _. Kept k l)
+enqueue-changed laws k l pipe asked backlog V (Err e) on turn = leaves-kept laws k l turn.0 turn.1 turn.2.1
+enqueue-changed laws k l pipe asked backlog V (Ok answer) on turn = by_answer answer turn.2.2
+  where
+    h : List (BoardEntry Ask)
+    h = turn.0
+
+    kept : Kept k (sees k h)
+    kept = meets-kept laws k h turn.1
+
+    called : (answer : Entered) (ask : Arc Ask Global) → arc_value ask ≡ asked → if_own k.number k.number (Enqueues pipe.number (asked_by (arc_value ask)) backlog answer) ≡ Some (Enqueues pipe.number (asked_by asked) backlog answer)
+    called answer ask e = own k.number (Enqueues pipe.number (asked_by (arc_value ask)) backlog answer) ∙ ap (λ a. Some (Enqueues pipe.number (asked_by a) backlog answer)) e
+
+    accepts : (answer : Entered) (ask : Arc Ask Global) → arc_value ask ≡ asked → accepted_in (event.Enq k.number pipe.number ask backlog answer) ≡ Some asked → Enters LegalBoard k h (event.Enq k.number pipe.number ask backlog answer) l
+        → Changed k l pipe (with_ask pipe asked) (Enqueues pipe.number (asked_by asked) backlog answer ∷ []) (asked ∷ [])
+    accepts answer ask e some enters =
+        let x : BoardEntry Ask = event.Enq k.number pipe.number ask backlog answer in
+        changed-later k (sees k h) l pipe (with_ask pipe asked) (Enqueues pipe.number (asked_by asked) backlog answer ∷ []) (asked ∷ []) kept
+        (entry-changed laws k l h x pipe (with_ask pipe asked) (Enqueues pipe.number (asked_by asked) backlog answer) (asked ∷ []) enters (eq-eqb pipe.number pipe.number refl) (called answer ask e)
+        (accepted-more k.number h x asked (ap (λ b. if b then accepted_in x else None) (eq-eqb k.number k.number refl) ∙ some)) refl
+        (pipe-accepts k.number h x pipe refl refl (kept.pipes pipe on) asked (eq-eqb pipe.number pipe.number refl) some refl refl))
+
+    by_answer : (answer : Entered) → ((ask : Arc Ask Global) × (arc_value ask ≡ asked) × Enters LegalBoard k h (event.Enq k.number pipe.number ask backlog answer) l)
+        → Changed k l pipe (entered_pipe pipe asked answer) (Enqueues pipe.number (asked_by asked) backlog answer ∷ []) (entered_asks asked answer)
+    by_answer (InProgress n) done = accepts (InProgress n) done.0 done.1 (ap (λ a. Some a) done.1) done.2
+    by_answer (Busy n) done = accepts (Busy n) done.0 done.1 (ap (λ a. Some a) done.1) done.2
+    by_answer NoSpace done =
+        let x : BoardEntry Ask = event.Enq k.number pipe.number done.0 backlog NoSpace in
+        changed-later k (sees k h) l pipe pipe (Enqueues pipe.number (asked_by asked) backlog NoSpace ∷ []) [] kept
+        (entry-changed laws k l h x pipe pipe (Enqueues pipe.number (asked_by asked) backlog NoSpace) [] done.2 (eq-eqb pipe.number pipe.number refl) (called NoSpace done.0 done.1)
+        (accepted-none k.number h x refl) refl (pipe-stays k.number h x pipe refl refl (kept.pipes pipe on) refl refl refl))
+
+-- ---- what is told, by the lines of the requests
+
+line-of-some : (o : Option Ask) → line_in o ≡ unwrap_or (option_map line_of o) 0
+line-of-some (Some ask) = refl
+line-of-some None = refl
+
+get-map : (asks : List Ask) (n : ℕ) → option_map line_of (slice_get asks n) ≡ slice_get (map line_of asks) n
+get-map [] n = refl
+get-map (x ∷ xs) zero = refl
+get-map (x ∷ xs) (suc n) = get-map xs n
+
+line-is : (asks : List Ask) (n : ℕ) → line_in (slice_get asks n) ≡ line_at (map line_of asks) n
+line-is asks n = line-of-some (slice_get asks n) ∙ ap (λ o. unwrap_or o 0) (get-map asks n)
+
+notice-is : (asks : List Ask) (told : Callback Finished) → notice_of asks told ≡ notice_by (map line_of asks) told
+notice-is asks (callback.Started n) = ap Started (line-is asks n)
+notice-is asks (callback.Done n finished) = ap (λ line. Completed line finished) (line-is asks n)
+
+pub notices-are : (asks : List Ask) (lines : List ℕ) (callbacks : List (Callback Finished)) → map line_of asks ≡ lines → map (notice_of asks) callbacks ≡ map (notice_by lines) callbacks
+notices-are asks lines [] e = refl
+notices-are asks lines (x ∷ xs) e =
+    ap (λ first. first ∷ map (notice_of asks) xs) (notice-is asks x ∙ ap (λ ls. notice_by ls x) e) ∙ ap (λ rest. notice_by lines x ∷ rest) (notices-are asks lines xs e)
+
+-- ---- `try_drain`
+
+pub drained-changed : Laws → (k l : Known (BoardEntry Ask)) (pipe : Pipe) (h : List (BoardEntry Ask)) → KnowsPipe k pipe → Met k h → front (entries_of pipe.number h) ≡ length (submissions (entries_of pipe.number h))
+    → Enters LegalBoard k h (event.Collect k.number pipe.number (length (told (entries_of pipe.number h)))) l
+    → Drained k l pipe (delivered outcome (entries_of pipe.number h) (length (told (entries_of pipe.number h))))
+drained-changed laws k l pipe h on meets all enters =
+    let es = entries_of pipe.number h in
+    let to = length (told es) in
+    let callbacks = delivered outcome es to in
+    let kept = meets-kept laws k h meets in
+    let here = kept.pipes pipe on in
+    let pipe' : Pipe = record pipe { delivered = pipe.delivered + completions callbacks } in
+    let call : BoardCall = Collects pipe.number (record { notices = map (notice_by pipe.lines) callbacks; all_done = true }) in
+    changed-later k (sees k h) l pipe pipe' (call ∷ []) [] kept
+    (entry-changed laws k l h (event.Collect k.number pipe.number to) pipe pipe' call [] enters (eq-eqb pipe.number pipe.number refl)
+    (own k.number (Collects pipe.number (collected_to es to))
+    ∙ (ap (λ ns. Some (Collects pipe.number (record { notices = ns; all_done = front es == length (submissions es) }))) (notices-are (submissions es) pipe.lines callbacks here.lines)
+    ∙ ap (λ b. Some (Collects pipe.number (record { notices = map (notice_by pipe.lines) callbacks; all_done = b }))) (eq-eqb (front es) (length (submissions es)) all)))
+    (accepted-none k.number h (event.Collect k.number pipe.number to) refl) refl (pipe-collected k.number h pipe to enters.1 here))
+
+-- ---- `close`
+
+pub all-drained : (k : Known (BoardEntry Ask)) (pipe : Pipe) → LegalBoard k.seen → KnowsPipe k pipe → pipe.delivered ≡ length pipe.lines → IsDrained (entries_of pipe.number k.seen)
+all-drained k pipe legal on paid =
+    let es = entries_of pipe.number k.seen in
+    all_handed_out k.seen pipe.number legal (is-open pipe.bound es on.opened)
+    (on.delivered ∙ (paid ∙ (ap length (sym on.lines) ∙ length-map (submissions es) line_of)))
+
+pub close-closed : Laws → (k l : Known (BoardEntry Ask)) (pipe : Pipe) → AtTurn caller_of LegalBoard k (λ h. Enters LegalBoard k h (event.Close k.number pipe.number) l) → Closed k l pipe
+close-closed laws k l pipe turn =
+    let h = turn.0 in
+    let e : BoardEntry Ask = event.Close k.number pipe.number in
+    let kept = meets-kept laws k h turn.1 in
+    subst (λ x. Closed k x pipe) (sym turn.2.0) (record {
+      called = record {
+        number = refl;
+        seen = (turn.1.others ++ e ∷ [], ap (λ x. x ++ e ∷ []) turn.1.goes_on ∙ append_assoc k.seen turn.1.others (e ∷ []));
+        calls_are = calls-one laws k.number h e (Closes pipe.number) (own k.number (Closes pipe.number)) ∙ ap (λ cs. cs ++ Closes pipe.number ∷ []) (kept.called.calls_are ∙ append-nil (board_calls k.number k.seen));
+      };
+      legal = turn.2.1;
+      others = λ other apart on. subst (λ es. IsPipeIn k.number es other) (sym (leaves_others h e other.number (only_of e pipe.number other.number (eq-eqb pipe.number pipe.number refl) (differs other apart)))) (kept.pipes other on);
+      accepted = accepted-none k.number h e refl ∙ (append-nil (accepted_by k.number h) ∙ kept.accepted);
+      unshut = λ zero_is. shut-same h e (not_shut e pipe.number (eq-eqb pipe.number pipe.number refl)) ∙ kept.unshut zero_is;
+    })
+  where
+    differs : (other : Pipe) → (other.number == pipe.number) ≡ false → other.number ≢ pipe.number
+    differs other apart q = let yes : (other.number == pipe.number) ≡ true = eq-eqb other.number pipe.number q in let bad : true ≡ false = sym yes ∙ apart in cc
+
+-- ---- `hold` and `go`
+
+-- a pipeline is held, or let go
+pipe-switched : (n : ℕ) (h : List (BoardEntry Ask)) (e : BoardEntry Ask) (pipe : Pipe) (held : Bool) → is_close e ≡ false → is_share e ≡ false → is_of pipe.number e ≡ true → accepted_in e ≡ None → is_collect e ≡ false
+    → is_held (entries_of pipe.number (h ++ e ∷ [])) ≡ held → IsPipeIn n (entries_of pipe.number h) pipe → IsPipeIn n (entries_of pipe.number (h ++ e ∷ [])) (record pipe { held = held })
+pipe-switched n h e pipe held closes shares of none hands holds on =
+    record {
+      opened = opened-more pipe.bound h e pipe.number closes on.opened;
+      managed = stays_managed h e pipe.number n on.managed;
+      unshared = shared-more h e pipe.number shares ∙ on.unshared;
+      held = holds;
+      lines = ap (λ es. map line_of (submissions es)) (entries-more h pipe.number e of) ∙ (ap (map line_of) (filter_map-none accepted_in (entries_of pipe.number h) e none) ∙ on.lines);
+      delivered = ap (λ ns. length (completed ns)) (hands_nothing h e pipe.number hands) ∙ on.delivered;
+    }
+
+pub hold-changed : Laws → (k l : Known (BoardEntry Ask)) (pipe : Pipe) (r : Result (Unit {0}) BoardErr) → KnowsPipe k pipe
+    → AtTurn caller_of LegalBoard k (λ h. MatchResult r (λ _. Enters LegalBoard k h (event.Hold k.number pipe.number) l) (λ e. (e ≡ Memory) × Leaves k h l))
+    → MatchResult r (λ _. Changed k l pipe (record pipe { held = true }) (Holds pipe.number ∷ []) []) (λ e. (e ≡ Memory) × Kept k l)
+hold-changed laws k l pipe (Err e) on turn = (turn.2.0, leaves-kept laws k l turn.0 turn.1 turn.2.1)
+hold-changed laws k l pipe (Ok done) on turn =
+    let h = turn.0 in
+    let n = k.number in
+    let e : BoardEntry Ask = event.Hold n pipe.number in
+    let pipe' : Pipe = record pipe { held = true } in
+    let same = eq-eqb pipe.number pipe.number refl in
+    let kept = meets-kept laws k h turn.1 in
+    changed-later k (sees k h) l pipe pipe' (Holds pipe.number ∷ []) [] kept
+    (entry-changed laws k l h e pipe pipe' (Holds pipe.number) [] turn.2 same (own n (Holds pipe.number)) (accepted-none n h e refl) refl
+    (pipe-switched n h e pipe true refl refl same refl refl (holds h n pipe.number).0 (kept.pipes pipe on)))
+
+pub go-changed : Laws → (k l : Known (BoardEntry Ask)) (pipe : Pipe) (r : Result (Unit {0}) BoardErr) → KnowsPipe k pipe
+    → AtTurn caller_of LegalBoard k (λ h. MatchResult r (λ _. Enters LegalBoard k h (event.Go k.number pipe.number) l) (λ e. (e ≡ Memory) × Leaves k h l))
+    → MatchResult r (λ _. Changed k l pipe (record pipe { held = false }) (Goes pipe.number ∷ []) []) (λ e. (e ≡ Memory) × Kept k l)
+go-changed laws k l pipe (Err e) on turn = (turn.2.0, leaves-kept laws k l turn.0 turn.1 turn.2.1)
+go-changed laws k l pipe (Ok done) on turn =
+    let h = turn.0 in
+    let n = k.number in
+    let e : BoardEntry Ask = event.Go n pipe.number in
+    let pipe' : Pipe = record pipe { held = false } in
+    let same = eq-eqb pipe.number pipe.number refl in
+    let kept = meets-kept laws k h turn.1 in
+    changed-later k (sees k h) l pipe pipe' (Goes pipe.number ∷ []) [] kept
+    (entry-changed laws k l h e pipe pipe' (Goes pipe.number) [] turn.2 same (own n (Goes pipe.number)) (accepted-none n h e refl) refl
+    (pipe-switched n h e pipe false refl refl same refl refl (holds h n pipe.number).1 (kept.pipes pipe on)))
+
+-- ---- `poll`
+
+pub poll-changed : Laws → (k l : Known (BoardEntry Ask)) (pipe : Pipe) (into into' : List (Callback Finished)) (r : Result (Unit {0}) BoardErr) → KnowsPipe k pipe
+    → AtTurn caller_of LegalBoard k (λ h. let es = entries_of pipe.number h in MatchResult r
+    (λ _. (into' ≡ into ++ delivered outcome es (length (told es))) × Enters LegalBoard k h (event.Collect k.number pipe.number (length (told es))) l)
+    (λ e. (e ≡ Memory) × (into' ≡ into) × Leaves k h l))
+    → MatchResult r (λ _. (callbacks : List (Callback Finished)) × (all : Bool) × (into' ≡ into ++ callbacks) × Polled k l pipe callbacks all) (λ e. (e ≡ Memory) × Kept k l)
+poll-changed laws k l pipe into into' (Err e) on turn = (turn.2.0, leaves-kept laws k l turn.0 turn.1 turn.2.2)
+poll-changed laws k l pipe into into' (Ok done) on turn =
+    let h = turn.0 in
+    let es = entries_of pipe.number h in
+    let to = length (told es) in
+    let callbacks = delivered outcome es to in
+    let all : Bool = front es == length (submissions es) in
+    let kept = meets-kept laws k h turn.1 in
+    let here = kept.pipes pipe on in
+    let pipe' : Pipe = record pipe { delivered = pipe.delivered + completions callbacks } in
+    let call : BoardCall = Collects pipe.number (record { notices = map (notice_by pipe.lines) callbacks; all_done = all }) in (
+      callbacks,
+      all,
+      turn.2.0,
+      changed-later k (sees k h) l pipe pipe' (call ∷ []) [] kept
+          (entry-changed laws k l h (event.Collect k.number pipe.number to) pipe pipe' call [] turn.2.1 (eq-eqb pipe.number pipe.number refl)
+          (own k.number (Collects pipe.number (collected_to es to))
+          ∙ ap (λ ns. Some (Collects pipe.number (record { notices = ns; all_done = all }))) (notices-are (submissions es) pipe.lines callbacks here.lines))
+          (accepted-none k.number h (event.Collect k.number pipe.number to) refl) refl (pipe-collected k.number h pipe to turn.2.1.1 here)),
+    )
+
+-- ---- a pipeline is made
+
+new-pipe_in : (n number : ℕ) (shape : Shape) → IsNoWorker n → IsPipeIn n (event.Born n number shape ∷ []) (new_pipe number shape)
+new-pipe_in n number (Pad lists) outsider = record { opened = (refl, refl); managed = (outsider, refl); unshared = refl; held = refl; lines = refl; delivered = refl }
+new-pipe_in n number (Queue max) outsider = record { opened = (refl, refl); managed = (outsider, refl); unshared = refl; held = refl; lines = refl; delivered = refl }
+
+-- a pipeline that a caller knows has entries
+not-new : (n : ℕ) (h : List (BoardEntry Ask)) (number : ℕ) (pipe : Pipe) → entries_of number h ≡ [] → IsPipeIn n (entries_of pipe.number h) pipe → (pipe.number == number) ≡ false
+not-new n h number pipe none on = by_test (pipe.number == number) refl
+  where
+    by_bound : (bound : Option ℕ) → IsOpenAs bound [] → false ≡ true
+    by_bound None o = o.0
+    by_bound (Some max) o = o.0
+
+    by_test : (t : Bool) → (pipe.number == number) ≡ t → t ≡ false
+    by_test true e =
+        let same : pipe.number ≡ number = eqb-true pipe.number number e in
+        let empty : entries_of pipe.number h ≡ [] = ap (λ m. entries_of m h) same ∙ none in
+        absurd (let f = by_bound pipe.bound (subst (IsOpenAs pipe.bound) empty on.opened) in cc)
+    by_test false e = refl
+
+pub born-opened : Laws → (k l : Known (BoardEntry Ask)) (shape : Shape) (r : Result ℕ BoardErr) → IsNoWorker k.number
+    → AtTurn caller_of LegalBoard k (λ h. MatchResult r (λ pipe. (pipe ≡ pipelines h) × Enters LegalBoard k h (event.Born k.number pipe shape) l) (λ e. (e ≡ Memory) × Leaves k h l))
+    → MatchResult r (λ pipe. Opened k l pipe shape) (λ e. (e ≡ Memory) × Kept k l)
+born-opened laws k l shape (Err e) outsider turn = (turn.2.0, leaves-kept laws k l turn.0 turn.1 turn.2.1)
+born-opened laws k l shape (Ok p) outsider turn =
+    let h = turn.0 in
+    let n = k.number in
+    let e : BoardEntry Ask = event.Born n p shape in
+    let same = eq-eqb p p refl in
+    let kept = meets-kept laws k h turn.1 in
+    let empty : entries_of p h ≡ [] = begins_alone h n p shape turn.2.1.1 in
+    let begun : entries_of p (h ++ e ∷ []) ≡ e ∷ [] = joins h e p same ∙ ap (λ es. es ++ e ∷ []) empty in
+    let now : IsPipeIn n (entries_of p (h ++ e ∷ [])) (new_pipe p shape) = subst (λ es. IsPipeIn n es (new_pipe p shape)) (sym begun) (new-pipe_in n p shape outsider) in
+    record {
+      changed = changed-later k (sees k h) l (new_pipe p shape) (new_pipe p shape) (Creates p shape ∷ []) [] kept
+          (entry-changed laws k l h e (new_pipe p shape) (new_pipe p shape) (Creates p shape) [] turn.2.1 same (own n (Creates p shape)) (accepted-none n h e refl) refl now);
+      fresh = λ other on. not-new n h p other empty (kept.pipes other on);
+    }
+
+-- ---- `shut`
+
+pub shut-changed : Laws → (k l : Known (BoardEntry Ask)) → AtTurn caller_of LegalBoard k (λ h. Enters LegalBoard k h (event.Shut k.number) l) → Called k l (Shuts ∷ [])
+shut-changed laws k l turn =
+    let h = turn.0 in
+    let n = k.number in
+    let e : BoardEntry Ask = event.Shut n in
+    let kept = meets-kept laws k h turn.1 in
+    subst (λ x. Called k x (Shuts ∷ [])) (sym turn.2.0) (record {
+      number = refl;
+      seen = (turn.1.others ++ e ∷ [], ap (λ x. x ++ e ∷ []) turn.1.goes_on ∙ append_assoc k.seen turn.1.others (e ∷ []));
+      calls_are = calls-one laws n h e Shuts (own n Shuts) ∙ ap (λ cs. cs ++ Shuts ∷ []) (kept.called.calls_are ∙ append-nil (board_calls n k.seen));
+    })
+
+-- ---- `drain`
+
+pub crew-drained : Laws → (k l : Known (BoardEntry Ask)) (pipe : Pipe) (into into' : List (Callback Finished)) (r : Result (Unit {0}) BoardErr) → LegalBoard k.seen → KnowsPipe k pipe
+    → MatchResult r (λ _. CrewDrained outcome pipe.number k l into into') (λ e. (e ≡ Memory) × (into' ≡ into) × Worked k l)
+    → MatchResult r (λ _. (callbacks : List (Callback Finished)) × (into' ≡ into ++ callbacks) × Drained k l pipe callbacks) (λ e. (e ≡ Memory) × Kept k l)
+crew-drained laws k l pipe into into' (Err e) legal on did =
+    let w = did.2 in
+    (did.0, goes-kept laws k l w.own w.goes w.work (still_kept caller_of LegalBoard k l w.own w.goes legal))
+crew-drained laws k l pipe into into' (Ok done) legal on did =
+    let m = did.0 in
+    let w = did.1 in
+    let kept = goes-kept laws k m w.own w.goes w.work (still_kept caller_of LegalBoard k m w.own w.goes legal) in
+    let turn = did.2 in
+    let callbacks = delivered outcome (entries_of pipe.number turn.0) (length (told (entries_of pipe.number turn.0))) in
+    let pipe' : Pipe = record pipe { delivered = pipe.delivered + completions callbacks } in (
+      callbacks,
+      turn.2.1,
+      changed-later k m l pipe pipe' (Collects pipe.number (record { notices = map (notice_by pipe.lines) callbacks; all_done = true }) ∷ []) [] kept
+          (drained-changed laws m l pipe turn.0 (kept.pipes pipe on) turn.1 turn.2.0 turn.2.2),
+    )

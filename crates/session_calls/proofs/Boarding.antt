@@ -1,0 +1,291 @@
+-- What a caller knows of its pipelines goes on, whatever others do.
+use Rattle.std.proofs.Common.{◌≡◌, ◌≢◌, ℕ, ◌+◌, Bool, true, false, List, [], ◌∷◌, ◌++◌, length, map, Option, Some, None, refl, sym, ap, subst, ◌∙◌, append_assoc, append-nil}
+use Rattle.std.specs.Prelude.{◌==◌, ◌&&◌, if◌then◌else◌, filter}
+use Rattle.std.proofs.lemmas.Bool.{eq-eqb}
+use Rattle.std.proofs.lemmas.List.{map-append}
+use Rattle.std.proofs.lemmas.List.Elements.{filter_map-append}
+use Rattle.board.specs.declared.entry.BoardEntry.{BoardEntry}
+use Rattle.board.specs.declared.entry.BoardEntry.TheVariants as event
+use Rattle.board.specs.Entries.{is_of, entries_of, accepted_in, submissions, held_in, is_close, is_share, is_shared, delivered, caller_of}
+use Rattle.board.specs.Allowance.{accepted_by, accepted_from}
+use Rattle.board.specs.Staying.{is_work}
+use Rattle.board.specs.Legal.{IsOpenPad, IsOpenQueue, LegalBoard, is_shut}
+use Rattle.board.specs.Order.{completed}
+use Rattle.board.specs.Handing.{is_collect, completions}
+use Rattle.board.proofs.Transfer.{entries-more}
+use Rattle.board.proofs.PadOrder.{filter_map-none, filter_map-some}
+use Rattle.board.proofs.Kept.{only_of, not_shut, shut-same, shared-same}
+use Rattle.std.specs.List.{cons_option, list_all}
+use Rattle.board.proofs.Staying.{stays_open, queue_stays_open, stays_managed, stays_held}
+use Rattle.board.proofs.Handing.{hands_nothing, collect_hands_out, leaves_others}
+use Rattle.transforms.specs.declared.ask.Ask.{Ask}
+use Rattle.turn_lock.specs.Turns.{Known, StartsWith, sees, adds, of}
+use Rattle.turn_lock.specs.Meeting.{Meets, GoesOn, Enters, Leaves}
+use Rattle.turn_lock.proofs.Clients.{goes_left, goes_entered}
+use Rattle.dialogues.specs.RegistryCalls.{prepend}
+use Rattle.dialogues.specs.BoardCalls.{BoardCall, outcome, is_called, board_call_of, board_calls}
+use Rattle.dialogues.specs.Walk.{Pipe}
+use Rattle.session_calls.specs.Pipelines.{Laws, IsOpenAs, IsPipeIn, Called, line_of, KnowsPipe, Kept, Changed}
+
+-- ---- calls
+
+pub starts-same : {E : Type 0} (xs : List E) → StartsWith xs xs
+starts-same xs = ([], sym (append-nil xs))
+
+pub starts-trans : {E : Type 0} (a b c : List E) → StartsWith b a → StartsWith c b → StartsWith c a
+starts-trans a b c f g = (f.0 ++ g.0, g.1 ∙ (ap (λ x. x ++ g.0) f.1 ∙ append_assoc a f.0 g.0))
+
+pub called-more : (k l m : Known (BoardEntry Ask)) (a b : List BoardCall) → Called k l a → Called l m b → Called k m (a ++ b)
+called-more k l m a b first later =
+    record {
+      number = later.number ∙ first.number;
+      seen = starts-trans k.seen l.seen m.seen first.seen later.seen;
+      calls_are = later.calls_are ∙ (ap (λ cs. cs ++ b) first.calls_are ∙ append_assoc (board_calls k.number k.seen) a b);
+    }
+
+if_none : (b : Bool) (o : Option Ask) → o ≡ None → (if b then o else None) ≡ None
+if_none true o e = e
+if_none false o e = refl
+
+none_from : (caller : ℕ) (e : BoardEntry Ask) → accepted_in e ≡ None → accepted_from caller e ≡ None
+none_from caller e none = if_none (caller_of e == caller) (accepted_in e) none
+
+-- ---- others go on, and the caller works
+
+not-called : (n : ℕ) (e : BoardEntry Ask) → (caller_of e == n) ≡ false → is_called n e ≡ false
+not-called n (event.Born by pipe shape) e = e
+not-called n (event.Submit by pipe number ask) e = e
+not-called n (event.Enq by pipe ask backlog answer) e = e
+not-called n (event.Hold by pipe) e = e
+not-called n (event.Go by pipe) e = e
+not-called n (event.Collect by pipe to) e = e
+not-called n (event.Close by pipe) e = e
+not-called n (event.Share by pipe) e = e
+not-called n (event.Shut by) e = e
+not-called n (event.Take by pipe number) e = refl
+not-called n (event.Finish by pipe number) e = refl
+not-called n (event.Deq by pipe number started) e = refl
+not-called n (event.Done by pipe number) e = refl
+
+work-called : (n : ℕ) (e : BoardEntry Ask) → is_work e ≡ true → is_called n e ≡ false
+work-called n (event.Take by pipe number) w = refl
+work-called n (event.Finish by pipe number) w = refl
+work-called n (event.Deq by pipe number started) w = refl
+work-called n (event.Done by pipe number) w = refl
+work-called n (event.Born by pipe shape) w = absurd cc
+work-called n (event.Submit by pipe number ask) w = absurd cc
+work-called n (event.Enq by pipe ask backlog answer) w = absurd cc
+work-called n (event.Hold by pipe) w = absurd cc
+work-called n (event.Go by pipe) w = absurd cc
+work-called n (event.Collect by pipe to) w = absurd cc
+work-called n (event.Close by pipe) w = absurd cc
+work-called n (event.Share by pipe) w = absurd cc
+work-called n (event.Shut by) w = absurd cc
+
+and-true : (a b : Bool) → (a && b) ≡ true → (a ≡ true) × (b ≡ true)
+and-true true b e = (refl, e)
+and-true false b e = absurd cc
+
+-- where a caller's own entries are work, it called nothing
+pub work-uncalled : (n : ℕ) (xs : List (BoardEntry Ask)) → list_all (λ e. is_work e) (of caller_of n xs) ≡ true → filter (is_called n) xs ≡ []
+work-uncalled n [] all = refl
+work-uncalled n (x ∷ xs) all = by_test (caller_of x == n) refl all (work-uncalled n xs)
+  where
+    by_test : (t : Bool) → (caller_of x == n) ≡ t → list_all (λ e. is_work e) (if t then x ∷ of caller_of n xs else of caller_of n xs) ≡ true
+        → (list_all (λ e. is_work e) (of caller_of n xs) ≡ true → filter (is_called n) xs ≡ []) → filter (is_called n) (x ∷ xs) ≡ []
+    by_test true t q rest =
+        let both = and-true (is_work x) (list_all (λ e. is_work e) (of caller_of n xs)) q in
+        ap (λ b. if b then x ∷ filter (is_called n) xs else filter (is_called n) xs) (work-called n x both.0) ∙ rest both.1
+    by_test false t q rest = ap (λ b. if b then x ∷ filter (is_called n) xs else filter (is_called n) xs) (not-called n x t) ∙ rest q
+
+opened-stays : (bound : Option ℕ) (es es' : List (BoardEntry Ask)) → (IsOpenPad es → IsOpenPad es') → (IsOpenQueue es → IsOpenQueue es') → IsOpenAs bound es → IsOpenAs bound es'
+opened-stays None es es' pad queue o = pad o
+opened-stays (Some max) es es' pad queue o = queue o
+
+-- a pass that went on by entries of others and by its own work keeps what it knows
+pub goes-kept : Laws → (k l : Known (BoardEntry Ask)) (own : List (BoardEntry Ask)) → GoesOn caller_of LegalBoard k l own → list_all (λ e. is_work e) own ≡ true → LegalBoard l.seen → Kept k l
+goes-kept laws k l own goes works legal =
+    let between = goes.between in
+    let all : List (BoardEntry Ask) = k.seen ++ between in
+    let mine : list_all (λ e. is_work e) (of caller_of k.number between) ≡ true = ap (list_all (λ e. is_work e)) goes.mine ∙ works in
+    let come : LegalBoard all × (list_all (λ e. is_work e) (of caller_of k.number between) ≡ true) = (subst LegalBoard goes.seen legal, mine) in
+    let owned = laws.own k.seen between k.number come in
+    record {
+      called = record {
+        number = goes.number;
+        seen = (between, goes.seen);
+        calls_are =
+            (λ i. board_calls (goes.number i) (goes.seen i))
+            ∙ (laws.calls k.number k.seen between ∙ ap (λ cs. board_calls k.number k.seen ++ cs) (laws.uncalled k.number k.seen between (work-uncalled k.number between mine)));
+      };
+      legal = legal;
+      pipes = λ pipe on.
+          let known = laws.mine k.seen between pipe.number k.number come on.managed in
+          let now : IsPipeIn k.number (entries_of pipe.number all) pipe = record {
+            opened = opened-stays pipe.bound (entries_of pipe.number k.seen) (entries_of pipe.number all) known.pad known.queue on.opened;
+            managed = known.managed;
+            unshared = known.shared ∙ on.unshared;
+            held = known.held ∙ on.held;
+            lines = ap (map line_of) (known.accepted on.unshared) ∙ on.lines;
+            delivered = ap (λ x. length (completed x)) known.handed ∙ on.delivered;
+          } in
+          subst (λ n. IsPipeIn n (entries_of pipe.number l.seen) pipe) (sym goes.number) (subst (λ g. IsPipeIn k.number (entries_of pipe.number g) pipe) (sym goes.seen) now);
+      accepted = (λ i. accepted_by (goes.number i) (goes.seen i)) ∙ owned.0;
+      unshut = λ zero_is. ap is_shut goes.seen ∙ owned.1 zero_is;
+    }
+
+abbrev pub Met : Known (BoardEntry Ask) → List (BoardEntry Ask) → Type 0
+Met k h = Meets caller_of LegalBoard k h
+
+pub leaves-kept : Laws → (k l : Known (BoardEntry Ask)) (h : List (BoardEntry Ask)) → Met k h → Leaves k h l → Kept k l
+leaves-kept laws k l h met leaves =
+    goes-kept laws k l [] (goes_left caller_of LegalBoard k l (h, met, leaves)) refl (subst LegalBoard (sym (ap (λ (x : Known (BoardEntry Ask)). x.seen) leaves)) met.kept)
+
+pub meets-kept : Laws → (k : Known (BoardEntry Ask)) (h : List (BoardEntry Ask)) → Met k h → Kept k (sees k h)
+meets-kept laws k h met = leaves-kept laws k (sees k h) h met refl
+
+-- the caller worked
+pub work-kept : Laws → (k l : Known (BoardEntry Ask)) (h : List (BoardEntry Ask)) (e : BoardEntry Ask) → Met k h → Enters LegalBoard k h e l → is_work e ≡ true → caller_of e ≡ k.number → Kept k l
+work-kept laws k l h e met enters works mine =
+    goes-kept laws k l (e ∷ []) (goes_entered caller_of LegalBoard k l (λ x. e) (h, met, enters) mine) (ap (λ b. b && true) works)
+    (subst LegalBoard (sym (ap (λ (x : Known (BoardEntry Ask)). x.seen) enters.0)) enters.1)
+
+pub kept-same : (k : Known (BoardEntry Ask)) → LegalBoard k.seen → Kept k k
+kept-same k legal =
+    record {
+      called = record { number = refl; seen = starts-same k.seen; calls_are = sym (append-nil (board_calls k.number k.seen)) };
+      legal = legal;
+      pipes = λ pipe on. on;
+      accepted = refl;
+      unshut = λ zero_is. refl;
+    }
+
+pub kept-more : (k l m : Known (BoardEntry Ask)) → Kept k l → Kept l m → Kept k m
+kept-more k l m first later =
+    record {
+      called = called-more k l m [] [] first.called later.called;
+      legal = later.legal;
+      pipes = λ pipe on. later.pipes pipe (first.pipes pipe on);
+      accepted = later.accepted ∙ first.accepted;
+      unshut = λ zero_is. later.unshut (first.called.number ∙ zero_is) ∙ first.unshut zero_is;
+    }
+
+pub changed-later : (k l m : Known (BoardEntry Ask)) (pipe pipe' : Pipe) (calls : List BoardCall) (asks : List Ask) → Kept k l → Changed l m pipe pipe' calls asks → Changed k m pipe pipe' calls asks
+changed-later k l m pipe pipe' calls asks first later =
+    record {
+      called = called-more k l m [] calls first.called later.called;
+      legal = later.legal;
+      same = later.same;
+      now = later.now;
+      others = λ other apart on. later.others other apart (first.pipes other on);
+      accepted = later.accepted ∙ ap (λ a. a ++ asks) first.accepted;
+      unshut = λ zero_is. later.unshut (first.called.number ∙ zero_is) ∙ first.unshut zero_is;
+    }
+
+pub kept-changed : (k l : Known (BoardEntry Ask)) (pipe : Pipe) → KnowsPipe k pipe → Kept k l → Changed k l pipe pipe [] []
+kept-changed k l pipe on kept =
+    record {
+      called = kept.called;
+      legal = kept.legal;
+      same = refl;
+      now = kept.pipes pipe on;
+      others = λ other apart was. kept.pipes other was;
+      accepted = kept.accepted ∙ sym (append-nil (accepted_by k.number k.seen));
+      unshut = kept.unshut;
+    }
+
+-- ---- an entry of one's own
+
+pub calls-one : Laws → (n : ℕ) (h : List (BoardEntry Ask)) (e : BoardEntry Ask) (call : BoardCall) → board_call_of n h e ≡ Some call → board_calls n (h ++ e ∷ []) ≡ board_calls n h ++ call ∷ []
+calls-one laws n h e call is = laws.calls n h (e ∷ []) ∙ ap (λ c. board_calls n h ++ prepend c []) is
+
+pub accepted-none : (n : ℕ) (h : List (BoardEntry Ask)) (e : BoardEntry Ask) → accepted_in e ≡ None → accepted_by n (h ++ e ∷ []) ≡ accepted_by n h ++ []
+accepted-none n h e none = filter_map-append (accepted_from n) h (e ∷ []) ∙ ap (λ o. accepted_by n h ++ cons_option o []) (none_from n e none)
+
+pub accepted-more : (n : ℕ) (h : List (BoardEntry Ask)) (e : BoardEntry Ask) (ask : Ask) → accepted_from n e ≡ Some ask → accepted_by n (h ++ e ∷ []) ≡ accepted_by n h ++ ask ∷ []
+accepted-more n h e ask some = filter_map-append (accepted_from n) h (e ∷ []) ∙ ap (λ o. accepted_by n h ++ cons_option o []) some
+
+pub opened-more : (bound : Option ℕ) (h : List (BoardEntry Ask)) (e : BoardEntry Ask) (p : ℕ) → is_close e ≡ false → IsOpenAs bound (entries_of p h) → IsOpenAs bound (entries_of p (h ++ e ∷ []))
+opened-more None h e p c o = stays_open h e p o c
+opened-more (Some max) h e p c o = queue_stays_open h e p o c
+
+pub shared-more : (h : List (BoardEntry Ask)) (e : BoardEntry Ask) (p : ℕ) → is_share e ≡ false → is_shared (entries_of p (h ++ e ∷ [])) ≡ is_shared (entries_of p h)
+shared-more h e p s = by_of (is_of p e) refl
+  where
+    by_of : (b : Bool) → is_of p e ≡ b → is_shared (entries_of p (h ++ e ∷ [])) ≡ is_shared (entries_of p h)
+    by_of true q = ap is_shared (entries-more h p e q) ∙ shared-same (entries_of p h) e s
+    by_of false q = ap is_shared (leaves_others h e p q)
+
+module _ (n : ℕ) (h : List (BoardEntry Ask)) (e : BoardEntry Ask) (pipe : Pipe) (closes : is_close e ≡ false) (shares : is_share e ≡ false) (on : IsPipeIn n (entries_of pipe.number h) pipe) where
+  abbrev p : ℕ
+  p = pipe.number
+
+  abbrev later : List (BoardEntry Ask)
+  later = entries_of p (h ++ e ∷ [])
+
+  -- it accepts nothing, hands nothing out, and holds nothing
+  pub pipe-stays : accepted_in e ≡ None → is_collect e ≡ false → held_in e ≡ None → IsPipeIn n later pipe
+  pipe-stays none hands holds =
+      record {
+        opened = opened-more pipe.bound h e p closes on.opened;
+        managed = stays_managed h e p n on.managed;
+        unshared = shared-more h e p shares ∙ on.unshared;
+        held = stays_held h e p holds ∙ on.held;
+        lines = ap (map line_of) (same_asks (is_of p e) refl) ∙ on.lines;
+        delivered = ap (λ ns. length (completed ns)) (hands_nothing h e p hands) ∙ on.delivered;
+      }
+    where
+      same_asks : (b : Bool) → is_of p e ≡ b → submissions later ≡ submissions (entries_of p h)
+      same_asks true q = ap submissions (entries-more h p e q) ∙ filter_map-none accepted_in (entries_of p h) e none
+      same_asks false q = ap submissions (leaves_others h e p q)
+
+  -- it accepts a request
+  pub pipe-accepts : (ask : Ask) → is_of p e ≡ true → accepted_in e ≡ Some ask → is_collect e ≡ false → held_in e ≡ None → IsPipeIn n later (record pipe { lines = pipe.lines ++ line_of ask ∷ [] })
+  pipe-accepts ask of some hands holds =
+      record {
+        opened = opened-more pipe.bound h e p closes on.opened;
+        managed = stays_managed h e p n on.managed;
+        unshared = shared-more h e p shares ∙ on.unshared;
+        held = stays_held h e p holds ∙ on.held;
+        lines =
+            ap (λ es. map line_of (submissions es)) (entries-more h p e of)
+            ∙ (ap (map line_of) (filter_map-some accepted_in (entries_of p h) e ask some)
+            ∙ (map-append line_of (submissions (entries_of p h)) (ask ∷ []) ∙ ap (λ ls. ls ++ line_of ask ∷ []) on.lines));
+        delivered = ap (λ ns. length (completed ns)) (hands_nothing h e p hands) ∙ on.delivered;
+      }
+
+-- it hands out what was told
+pub pipe-collected : (n : ℕ) (h : List (BoardEntry Ask)) (pipe : Pipe) (to : ℕ) → LegalBoard (h ++ event.Collect n pipe.number to ∷ []) → IsPipeIn n (entries_of pipe.number h) pipe
+    → IsPipeIn n (entries_of pipe.number (h ++ event.Collect n pipe.number to ∷ [])) (record pipe { delivered = pipe.delivered + completions (delivered outcome (entries_of pipe.number h) to) })
+pipe-collected n h pipe to legal on =
+    let p : ℕ = pipe.number in
+    let e : BoardEntry Ask = event.Collect n p to in
+    record {
+      opened = opened-more pipe.bound h e p refl on.opened;
+      managed = stays_managed h e p n on.managed;
+      unshared = shared-more h e p refl ∙ on.unshared;
+      held = stays_held h e p refl ∙ on.held;
+      lines = ap (λ es. map line_of (submissions es)) (entries-more h p e (eq-eqb p p refl)) ∙ (ap (map line_of) (filter_map-none accepted_in (entries_of p h) e refl) ∙ on.lines);
+      delivered = collect_hands_out outcome h n p to legal ∙ ap (λ c. c + completions (delivered outcome (entries_of p h) to)) on.delivered;
+    }
+
+entry-knows : (k l : Known (BoardEntry Ask)) (h : List (BoardEntry Ask)) (e : BoardEntry Ask) → Enters LegalBoard k h e l → (P : Known (BoardEntry Ask) → Type 0) → P (adds (sees k h) e) → P l
+entry-knows k l h e enters P p = subst P (sym enters.0) p
+
+-- the caller made a call on one of its pipelines
+pub entry-changed : Laws → (k l : Known (BoardEntry Ask)) (h : List (BoardEntry Ask)) (e : BoardEntry Ask) (pipe pipe' : Pipe) (call : BoardCall) (asks : List Ask) → Enters LegalBoard k h e l → is_of pipe.number e ≡ true
+    → board_call_of k.number h e ≡ Some call → accepted_by k.number (h ++ e ∷ []) ≡ accepted_by k.number h ++ asks → pipe'.number ≡ pipe.number → IsPipeIn k.number (entries_of pipe'.number (h ++ e ∷ [])) pipe'
+    → Changed (sees k h) l pipe pipe' (call ∷ []) asks
+entry-changed laws k l h e pipe pipe' call asks enters of called accepts same now =
+    entry-knows k l h e enters (λ x. Changed (sees k h) x pipe pipe' (call ∷ []) asks) (record {
+      called = record { number = refl; seen = (e ∷ [], refl); calls_are = calls-one laws k.number h e call called };
+      legal = enters.1;
+      same = same;
+      now = now;
+      others = λ other apart on. subst (λ es. IsPipeIn k.number es other) (sym (leaves_others h e other.number (only_of e pipe.number other.number of (differs other apart)))) on;
+      accepted = accepts;
+      unshut = λ zero_is. shut-same h e (not_shut e pipe.number of);
+    })
+  where
+    differs : (other : Pipe) → (other.number == pipe.number) ≡ false → other.number ≢ pipe.number
+    differs other apart q = let yes : (other.number == pipe.number) ≡ true = eq-eqb other.number pipe.number q in let bad : true ≡ false = sym yes ∙ apart in cc

@@ -1,0 +1,32 @@
+use Rattle.std.proofs.Common.{◌≡◌, Some, sym, ◌∙◌, ◌++◌, List, Bool, subst, MatchResult}
+use Rattle.kc_base.specs.declared.callback_list.Callback.{Callback}
+use Rattle.board.specs.Entries.{entries_of}
+use Rattle.board.specs.declared.board_core.BoardErr.TheVariants.{Memory}
+use Rattle.transforms.specs.declared.request.Finished.{Finished}
+use Rattle.dialogues.specs.Walk.{Pipe}
+use Rattle.session_calls.specs.Passes.{known}
+use Rattle.session_calls.specs.Pipelines.{KnowsPipe, Kept, Polled}
+use Rattle.session_calls.proofs.BoardCalls.{poll-changed, is-open}
+use Rattle.session_calls.proofs.board_caller.BoardCaller.poll.Goals as goal
+
+pub poll-pass-requires-clause-pipe : goal.poll-pass-requires-clause-pipe
+poll-pass-requires-clause-pipe g c κs within =
+    let at_hand : c.args.self.now ≡ Some c.unwrap-pass.result = sym c.self.view_is ∙ (sym c.take.ensures.value ∙ c.unwrap-pass.ensures) in
+    let i = c.pipe.inside in
+    let p : Pipe = record { number = i.number; bound = i.bound; held = i.held; lines = i.lines; delivered = i.delivered } in
+    let on = subst (λ o. KnowsPipe (known o) p) at_hand (subst (KnowsPipe (known c.args.self.now)) (sym c.pipe.view_is) c.requires.pipe) in
+    is-open p.bound (entries_of p.number (known (Some c.unwrap-pass.result)).seen) on.opened
+
+pub returns-clause-polled : goal.returns-clause-polled
+returns-clause-polled g c =
+    let at_hand : c.args.self.now ≡ Some c.unwrap-pass.result = sym c.self.view_is ∙ (sym c.take.ensures.value ∙ c.unwrap-pass.ensures) in
+    let i = c.pipe.inside in
+    let p : Pipe = record { number = i.number; bound = i.bound; held = i.held; lines = i.lines; delivered = i.delivered } in
+    let on = subst (λ o. KnowsPipe (known o) p) at_hand (subst (KnowsPipe (known c.args.self.now)) (sym c.pipe.view_is) c.requires.pipe) in
+    let into = c.args.into.now.list in
+    let into' = c.poll-pass.new.into.list in
+    let before = known (Some c.unwrap-pass.result) in
+    let after = known (Some c.poll-pass.result.0) in
+    subst (λ o. MatchResult c.poll-pass.result.1 (λ _. (callbacks : List (Callback Finished)) × (all : Bool) × (into' ≡ into ++ callbacks) × Polled (known o) after c.args.pipe.now callbacks all) (λ e. (e ≡ Memory) × Kept (known o) after)) (sym at_hand)
+    (subst (λ (p : Pipe). MatchResult c.poll-pass.result.1 (λ _. (callbacks : List (Callback Finished)) × (all : Bool) × (into' ≡ into ++ callbacks) × Polled before after p callbacks all) (λ e. (e ≡ Memory) × Kept before after)) c.pipe.view_is
+    (poll-changed c.board_laws.ensures before after p into into' c.poll-pass.result.1 on c.poll-pass.ensures.turn))

@@ -1,0 +1,29 @@
+use Rattle.std.proofs.Common.{◌≡◌, inl, Some, sym, ◌∙◌, ◌∷◌, [], subst, MatchResult}
+use Rattle.std.specs.Arc.{arc_value}
+use Rattle.dialogues.specs.BoardCalls.{asked_by}
+use Rattle.dialogues.specs.BoardCalls.{Submits}
+use Rattle.dialogues.specs.Walk.{Pipe}
+use Rattle.session_calls.specs.Passes.{known}
+use Rattle.session_calls.specs.Pipelines.{KnowsPipe, Kept, Changed}
+use Rattle.session_calls.specs.Pipelines.{with_ask}
+use Rattle.session_calls.proofs.BoardCalls.{submit-changed}
+use Rattle.session_calls.proofs.board_caller.BoardCaller.submit.Goals as goal
+
+pub submit-pass-requires-clause-caller : goal.submit-pass-requires-clause-caller
+submit-pass-requires-clause-caller g c κs within =
+    let at_hand : c.args.self.now ≡ Some c.unwrap-pass.result = sym c.self.view_is ∙ (sym c.take.ensures.value ∙ c.unwrap-pass.ensures) in
+    let i = c.pipe.inside in
+    let p : Pipe = record { number = i.number; bound = i.bound; held = i.held; lines = i.lines; delivered = i.delivered } in
+    let on = subst (λ o. KnowsPipe (known o) p) at_hand (subst (KnowsPipe (known c.args.self.now)) (sym c.pipe.view_is) c.requires.pipe) in
+    (on.managed.0, inl on.managed.1)
+
+pub returns-clause-submitted : goal.returns-clause-submitted
+returns-clause-submitted g c =
+    let at_hand : c.args.self.now ≡ Some c.unwrap-pass.result = sym c.self.view_is ∙ (sym c.take.ensures.value ∙ c.unwrap-pass.ensures) in
+    let i = c.pipe.inside in
+    let p : Pipe = record { number = i.number; bound = i.bound; held = i.held; lines = i.lines; delivered = i.delivered } in
+    let laws = c.board_laws.ensures in
+    let ask = arc_value c.args.job.ask in
+    subst (λ o. MatchResult c.submit-pass.result.1 (λ number. Changed (known o) (known (Some c.submit-pass.result.0)) c.args.pipe.now (with_ask c.args.pipe.now ask) (Submits c.args.pipe.now.number number (asked_by ask) ∷ []) (ask ∷ [])) (λ _. Kept (known o) (known (Some c.submit-pass.result.0)))) (sym at_hand)
+    (subst (λ (p : Pipe). MatchResult c.submit-pass.result.1 (λ number. Changed (known (Some c.unwrap-pass.result)) (known (Some c.submit-pass.result.0)) p (with_ask p ask) (Submits p.number number (asked_by ask) ∷ []) (ask ∷ [])) (λ _. Kept (known (Some c.unwrap-pass.result)) (known (Some c.submit-pass.result.0)))) c.pipe.view_is
+    (submit-changed laws (known (Some c.unwrap-pass.result)) (known (Some c.submit-pass.result.0)) p ask c.submit-pass.result.1 (subst (λ o. KnowsPipe (known o) p) at_hand (subst (KnowsPipe (known c.args.self.now)) (sym c.pipe.view_is) c.requires.pipe)) c.submit-pass.ensures.turn))

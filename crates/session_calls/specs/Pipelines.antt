@@ -1,0 +1,135 @@
+-- What a caller knows of its pipelines on the board, and how it goes on.
+use Rattle.std.specs.Prelude.{ℕ, ◌+◌, ◌≡◌, Bool, true, false, ◌==◌, List, [], ◌∷◌, ◌++◌, length, map, Option, Some, None, ⊤, slice_get, unwrap_or}
+use Rattle.kc_base.specs.declared.callback_list.Callback.{Callback}
+use Rattle.kc_base.specs.declared.callback_list.Callback.TheVariants as callback
+use Rattle.board.specs.declared.entry.BoardEntry.{BoardEntry}
+use Rattle.board.specs.declared.entry.Entered.{Entered}
+use Rattle.board.specs.declared.entry.Shape.{Shape}
+use Rattle.board.specs.declared.entry.Entered.TheVariants.{InProgress, Busy, NoSpace}
+use Rattle.board.specs.Allowance.{accepted_by}
+use Rattle.board.specs.Entries.{entries_of, submissions, is_held, is_shared}
+use Rattle.board.specs.Handing.{completions}
+use Rattle.board.specs.Legal.{IsOpenPad, IsOpenQueue, MayManage, LegalBoard, is_shut}
+use Rattle.board.specs.Order.{handed_out, completed}
+use Rattle.transforms.specs.declared.ask.Ask.{Ask}
+use Rattle.transforms.specs.declared.request.Finished.{Finished}
+use Rattle.turn_lock.specs.Turns.{Known, StartsWith}
+use Rattle.board.specs.Others.{WorkLeavesKnown, WorkLeavesOwn}
+use Rattle.dialogues.specs.Allocating.{new_pipe}
+use Rattle.dialogues.specs.BoardCalls.{BoardCall, Creates, Collects, Closes, Notice, Started, Completed, board_calls}
+use Rattle.dialogues.specs.GoingOn.{BoardCallsGoOn, BoardUncalled}
+use Rattle.dialogues.specs.Walk.{Pipe}
+
+-- what entries of others, and one's own work, leave as it was
+pub record Laws : Type 0 where
+  pub mine : (h es : List (BoardEntry Ask)) (p caller : ℕ) → WorkLeavesKnown h es p caller
+  pub own : (h es : List (BoardEntry Ask)) (caller : ℕ) → WorkLeavesOwn h es caller
+  pub calls : BoardCallsGoOn
+  pub uncalled : BoardUncalled
+
+-- ---- one pipeline
+
+abbrev pub line_of : Ask → ℕ
+line_of ask = ask.line
+
+-- an open pad, or an open queue: one has a bound
+abbrev pub IsOpenAs : Option ℕ → List (BoardEntry Ask) → Type 0
+IsOpenAs None es = IsOpenPad es
+IsOpenAs (Some max) es = IsOpenQueue es
+
+-- the pipeline of which this caller is the maker, as the entries of its number have it
+pub record IsPipeIn (caller : ℕ) (es : List (BoardEntry Ask)) (pipe : Pipe) : Type 0 where
+  pub opened : IsOpenAs pipe.bound es
+  pub managed : MayManage es caller
+  pub unshared : is_shared es ≡ false
+  pub held : is_held es ≡ pipe.held
+  pub lines : map line_of (submissions es) ≡ pipe.lines
+  pub delivered : length (completed (handed_out es)) ≡ pipe.delivered
+
+abbrev pub KnowsPipe : Known (BoardEntry Ask) → Pipe → Type 0
+KnowsPipe k pipe = IsPipeIn k.number (entries_of pipe.number k.seen) pipe
+
+abbrev pub IsPad : Option ℕ → Type 0
+IsPad None = ⊤
+IsPad (Some max) = ⊥
+
+abbrev pub IsQueue : Option ℕ → Type 0
+IsQueue None = ⊥
+IsQueue (Some max) = ⊤
+
+-- ---- how what is known goes on
+
+-- the caller has seen more, and these are its further calls
+pub record Called (k l : Known (BoardEntry Ask)) (calls : List BoardCall) : Type 0 where
+  pub number : l.number ≡ k.number
+  pub seen : StartsWith l.seen k.seen
+  pub calls_are : board_calls l.number l.seen ≡ board_calls k.number k.seen ++ calls
+
+-- Others went on, and the caller worked: each of its pipelines is as it was.
+pub record Kept (k l : Known (BoardEntry Ask)) : Type 0 where
+  pub called : Called k l []
+  pub legal : LegalBoard l.seen
+  pub pipes : (pipe : Pipe) → KnowsPipe k pipe → KnowsPipe l pipe
+  pub accepted : accepted_by l.number l.seen ≡ accepted_by k.number k.seen
+  pub unshut : k.number ≡ 0 → is_shut l.seen ≡ is_shut k.seen
+
+-- The caller made these calls on one of its pipelines, which accepted these asks; each other pipeline is as it was.
+pub record Changed (k l : Known (BoardEntry Ask)) (pipe pipe' : Pipe) (calls : List BoardCall) (asks : List Ask) : Type 0 where
+  pub called : Called k l calls
+  pub legal : LegalBoard l.seen
+  pub same : pipe'.number ≡ pipe.number
+  pub now : KnowsPipe l pipe'
+  pub others : (other : Pipe) → (other.number == pipe.number) ≡ false → KnowsPipe k other → KnowsPipe l other
+  pub accepted : accepted_by l.number l.seen ≡ accepted_by k.number k.seen ++ asks
+  pub unshut : k.number ≡ 0 → is_shut l.seen ≡ is_shut k.seen
+
+-- The caller closed one of its pipelines; each other is as it was.
+pub record Closed (k l : Known (BoardEntry Ask)) (pipe : Pipe) : Type 0 where
+  pub called : Called k l (Closes pipe.number ∷ [])
+  pub legal : LegalBoard l.seen
+  pub others : (other : Pipe) → (other.number == pipe.number) ≡ false → KnowsPipe k other → KnowsPipe l other
+  pub accepted : accepted_by l.number l.seen ≡ accepted_by k.number k.seen
+  pub unshut : k.number ≡ 0 → is_shut l.seen ≡ is_shut k.seen
+
+-- The caller made a pipeline, whose number no other has; each other is as it was.
+pub record Opened (k l : Known (BoardEntry Ask)) (number : ℕ) (shape : Shape) : Type 0 where
+  pub changed : Changed k l (new_pipe number shape) (new_pipe number shape) (Creates number shape ∷ []) []
+  pub fresh : (other : Pipe) → KnowsPipe k other → (other.number == number) ≡ false
+
+-- ---- what calls make of a pipeline
+
+-- the pipeline has accepted the ask
+abbrev pub with_ask : Pipe → Ask → Pipe
+with_ask pipe ask = record pipe { lines = pipe.lines ++ line_of ask ∷ [] }
+
+-- a queue gave this answer
+abbrev pub entered_pipe : Pipe → Ask → Entered → Pipe
+entered_pipe pipe ask (InProgress number) = with_ask pipe ask
+entered_pipe pipe ask (Busy number) = with_ask pipe ask
+entered_pipe pipe ask NoSpace = pipe
+
+abbrev pub entered_asks : Ask → Entered → List Ask
+entered_asks ask (InProgress number) = ask ∷ []
+entered_asks ask (Busy number) = ask ∷ []
+entered_asks ask NoSpace = []
+
+-- the line of the request of this number
+abbrev pub line_at : List ℕ → ℕ → ℕ
+line_at lines number = unwrap_or (slice_get lines number) 0
+
+-- what a callback tells, by the lines of the requests
+abbrev pub notice_by : List ℕ → Callback Finished → Notice
+notice_by lines (callback.Started number) = Started (line_at lines number)
+notice_by lines (callback.Done number finished) = Completed (line_at lines number) finished
+
+-- the pipeline was drained: it handed these callbacks out
+abbrev pub Drained : Known (BoardEntry Ask) → Known (BoardEntry Ask) → Pipe → List (Callback Finished) → Type 0
+Drained k l pipe callbacks =
+    Changed k l pipe (record pipe { delivered = pipe.delivered + completions callbacks })
+    (Collects pipe.number (record { notices = map (notice_by pipe.lines) callbacks; all_done = true }) ∷ []) []
+
+-- the same of a poll, before which all was done or not
+abbrev pub Polled : Known (BoardEntry Ask) → Known (BoardEntry Ask) → Pipe → List (Callback Finished) → Bool → Type 0
+Polled k l pipe callbacks all =
+    Changed k l pipe (record pipe { delivered = pipe.delivered + completions callbacks })
+    (Collects pipe.number (record { notices = map (notice_by pipe.lines) callbacks; all_done = all }) ∷ []) []

@@ -1,0 +1,274 @@
+//! A script's calls on the board.
+
+ghost use Rattle.std.specs.Prelude.{◌≡◌, ◌↔◌, ◌<◌, ◌≤◌, ◌++◌, ◌∷◌, [], true, false, Bool, List, length, MatchResult};
+ghost use Rattle.std.specs.Arc.{arc_value};
+ghost use Rattle.kc_base.specs.declared.callback_list.Callback.{Callback as Told};
+ghost use Rattle.board.specs.Allowance.{IsAllowed};
+ghost use Rattle.board.specs.Legal.{IsNoWorker, LegalBoard, is_shut};
+ghost use Rattle.board.specs.declared.board_core.BoardErr.TheVariants as BoardErr;
+ghost use Rattle.board.specs.declared.entry.Shape.TheVariants.{Pad as PadOf, Queue as QueueOf};
+ghost use Rattle.transforms.specs.AskValue.{ask_size};
+ghost use Rattle.transforms.specs.declared.request.Finished.{Finished as Outcome};
+ghost use Rattle.dialogues.specs.BoardCalls.{Submits, Enqueues, Holds, Goes, Shuts, asked_by};
+ghost use Rattle.session_calls.specs.Passes.{CallsBoard, known, lock_of};
+ghost use Rattle.session_calls.specs.Pipelines.{Laws, IsPad, IsQueue, KnowsPipe, Kept, Changed, Closed, Called, Opened, with_ask, entered_pipe, entered_asks, Drained, Polled};
+
+use crate::pipe::Pipe;
+use board::{BoardErr, Entered, others_leave};
+use crew::{Gate, drain};
+use dialogues::board_calls_go_on;
+use kc_base::Callbacks;
+use shared_board::{BoardPass, SharedBoard};
+use std::marker::Model;
+use std::sync::Wait;
+use transforms::{Ask, Finished, Job};
+
+/// Who calls the board for a script. Its pass is at hand between two calls; contracts see it.
+#[derive(Drop)]
+pub struct BoardCaller {
+    pass: Option<BoardPass<Job>>,
+}
+
+impl Model for BoardCaller {
+    ghost use Rattle.std.specs.Prelude.{Option};
+    ghost use Rattle.session_calls.specs.Passes.{BoardPass};
+
+    ghost Value = { Option BoardPass };
+
+    ghost view = { λ c. c.pass };
+}
+
+// what others leave of what a caller knows of the board
+fn board_laws()
+    ensures { Laws }
+{
+    others_leave::<Ask, Finished>();
+    board_calls_go_on();
+}
+
+impl BoardCaller {
+    /// A caller with this pass.
+    pub fn new(pass: BoardPass<Job>) -> BoardCaller
+        ensures { result ≡ Some pass }
+    {
+        BoardCaller { pass: Some(pass) }
+    }
+
+    /// Makes a pad of `lists` reorder lists, at least 1, and answers its number. Only want of memory refuses.
+    pub fn born_pad<R: Wait>(
+        &mut self,
+        rt: &R,
+        board: &SharedBoard<Job>,
+        lists: u32,
+    ) -> Result<u64, BoardErr>
+        requires at { CallsBoard board.now self.old }
+        requires caller { IsNoWorker (known self.old).number }
+        requires lists { 1 ≤ lists }
+        ensures lock { lock_of self.new ≡ lock_of self.old }
+        ensures opened { MatchResult result
+            (λ number. Opened (known self.old) (known self.new) number (PadOf lists))
+            (λ e. (e ≡ BoardErr.Memory) × Kept (known self.old) (known self.new)) }
+    {
+        board_laws();
+        let pass = self.pass.take().unwrap();
+        let (pass, answer) = board.born_pad(rt, pass, lists);
+        self.pass = Some(pass);
+        answer
+    }
+
+    /// Makes a queue in which so many requests may wait before it is full, at least 1, and answers its number. Only want of
+    /// memory refuses.
+    pub fn born_queue<R: Wait>(
+        &mut self,
+        rt: &R,
+        board: &SharedBoard<Job>,
+        max: u32,
+    ) -> Result<u64, BoardErr>
+        requires at { CallsBoard board.now self.old }
+        requires caller { IsNoWorker (known self.old).number }
+        requires max { 1 ≤ max }
+        ensures lock { lock_of self.new ≡ lock_of self.old }
+        ensures opened { MatchResult result
+            (λ number. Opened (known self.old) (known self.new) number (QueueOf max))
+            (λ e. (e ≡ BoardErr.Memory) × Kept (known self.old) (known self.new)) }
+    {
+        board_laws();
+        let pass = self.pass.take().unwrap();
+        let (pass, answer) = board.born_queue(rt, pass, max);
+        self.pass = Some(pass);
+        answer
+    }
+
+    /// Hands a job in to a pad of the caller's, and answers its number. `TooBig` exactly where the caller's allowance has no
+    /// room for the job.
+    pub fn submit<R: Wait>(
+        &mut self,
+        rt: &R,
+        board: &SharedBoard<Job>,
+        pipe: &Pipe,
+        job: Job,
+    ) -> Result<u64, BoardErr>
+        requires at { CallsBoard board.now self.old }
+        requires pipe { KnowsPipe (known self.old) pipe.now }
+        requires pad { IsPad pipe.now.bound }
+        ensures lock { lock_of self.new ≡ lock_of self.old }
+        ensures submitted { MatchResult result
+            (λ number. Changed (known self.old) (known self.new) pipe.now (with_ask pipe.now (arc_value job.ask)) (Submits pipe.now.number number (asked_by (arc_value job.ask)) ∷ []) (arc_value job.ask ∷ []))
+            (λ _. Kept (known self.old) (known self.new)) }
+        ensures allowed { MatchResult result
+            (λ _. IsAllowed ask_size (known self.old).seen (known self.old).number (arc_value job.ask))
+            (λ e. (e ≡ BoardErr.TooBig) ↔ (IsAllowed ask_size (known self.old).seen (known self.old).number (arc_value job.ask) → ⊥)) }
+    {
+        board_laws();
+        let pass = self.pass.take().unwrap();
+        let (pass, answer) = board.submit(rt, pass, pipe.number, job);
+        self.pass = Some(pass);
+        answer
+    }
+
+    /// Hands a job in to a queue of the caller's, and answers its verdict. `TooBig` exactly where the caller's allowance has no
+    /// room for the job.
+    pub fn enqueue<R: Wait>(
+        &mut self,
+        rt: &R,
+        board: &SharedBoard<Job>,
+        pipe: &Pipe,
+        job: Job,
+        backlog: bool,
+    ) -> Result<Entered, BoardErr>
+        requires at { CallsBoard board.now self.old }
+        requires pipe { KnowsPipe (known self.old) pipe.now }
+        requires queue { IsQueue pipe.now.bound }
+        ensures lock { lock_of self.new ≡ lock_of self.old }
+        ensures entered { MatchResult result
+            (λ answer. Changed (known self.old) (known self.new) pipe.now (entered_pipe pipe.now (arc_value job.ask) answer) (Enqueues pipe.now.number (asked_by (arc_value job.ask)) backlog answer ∷ []) (entered_asks (arc_value job.ask) answer))
+            (λ _. Kept (known self.old) (known self.new)) }
+        ensures allowed { MatchResult result
+            (λ _. IsAllowed ask_size (known self.old).seen (known self.old).number (arc_value job.ask))
+            (λ e. (e ≡ BoardErr.TooBig) ↔ (IsAllowed ask_size (known self.old).seen (known self.old).number (arc_value job.ask) → ⊥)) }
+    {
+        board_laws();
+        let pass = self.pass.take().unwrap();
+        let (pass, answer) = board.enqueue(rt, pass, pipe.number, job, backlog);
+        self.pass = Some(pass);
+        answer
+    }
+
+    /// Closes a pipeline of the caller's, of which all is handed out. No memory is taken.
+    pub fn close<R: Wait>(&mut self, rt: &R, board: &SharedBoard<Job>, pipe: &Pipe)
+        requires at { CallsBoard board.now self.old }
+        requires legal { LegalBoard (known self.old).seen }
+        requires pipe { KnowsPipe (known self.old) pipe.now }
+        requires done { pipe.now.delivered ≡ length pipe.now.lines }
+        ensures lock { lock_of self.new ≡ lock_of self.old }
+        ensures closed { Closed (known self.old) (known self.new) pipe.now }
+    {
+        board_laws();
+        let pass = self.pass.take().unwrap();
+        self.pass = Some(board.close(rt, pass, pipe.number));
+    }
+
+    /// From now on no request of a queue of the caller's is run. Only want of memory refuses.
+    pub fn hold<R: Wait>(
+        &mut self,
+        rt: &R,
+        board: &SharedBoard<Job>,
+        pipe: &Pipe,
+    ) -> Result<(), BoardErr>
+        requires at { CallsBoard board.now self.old }
+        requires pipe { KnowsPipe (known self.old) pipe.now }
+        requires queue { IsQueue pipe.now.bound }
+        ensures lock { lock_of self.new ≡ lock_of self.old }
+        ensures held { MatchResult result
+            (λ _. Changed (known self.old) (known self.new) pipe.now (record (pipe.now) { held = true }) (Holds pipe.now.number ∷ []) [])
+            (λ e. (e ≡ BoardErr.Memory) × Kept (known self.old) (known self.new)) }
+    {
+        board_laws();
+        let pass = self.pass.take().unwrap();
+        let (pass, answer) = board.hold(rt, pass, pipe.number);
+        self.pass = Some(pass);
+        answer
+    }
+
+    /// The requests of a queue of the caller's are run again. Only want of memory refuses.
+    pub fn go<R: Wait>(
+        &mut self,
+        rt: &R,
+        board: &SharedBoard<Job>,
+        pipe: &Pipe,
+    ) -> Result<(), BoardErr>
+        requires at { CallsBoard board.now self.old }
+        requires pipe { KnowsPipe (known self.old) pipe.now }
+        requires queue { IsQueue pipe.now.bound }
+        ensures lock { lock_of self.new ≡ lock_of self.old }
+        ensures held { MatchResult result
+            (λ _. Changed (known self.old) (known self.new) pipe.now (record (pipe.now) { held = false }) (Goes pipe.now.number ∷ []) [])
+            (λ e. (e ≡ BoardErr.Memory) × Kept (known self.old) (known self.new)) }
+    {
+        board_laws();
+        let pass = self.pass.take().unwrap();
+        let (pass, answer) = board.go(rt, pass, pipe.number);
+        self.pass = Some(pass);
+        answer
+    }
+
+    /// Hands out what a pipeline of the caller's has told and no call handed out before. Only want of memory refuses.
+    pub fn poll<R: Wait>(
+        &mut self,
+        rt: &R,
+        board: &SharedBoard<Job>,
+        pipe: &Pipe,
+        into: &mut Callbacks<Finished>,
+    ) -> Result<(), BoardErr>
+        requires at { CallsBoard board.now self.old }
+        requires pipe { KnowsPipe (known self.old) pipe.now }
+        ensures lock { lock_of self.new ≡ lock_of self.old }
+        ensures polled { MatchResult result
+            (λ _. (callbacks : List (Told Outcome)) × (all : Bool) × (into.new.list ≡ into.old.list ++ callbacks) × Polled (known self.old) (known self.new) pipe.now callbacks all)
+            (λ e. (e ≡ BoardErr.Memory) × Kept (known self.old) (known self.new)) }
+    {
+        board_laws();
+        let pass = self.pass.take().unwrap();
+        let (pass, answer) = board.poll(rt, pass, pipe.number, into);
+        self.pass = Some(pass);
+        answer
+    }
+
+    /// Does what jobs there are until each of a pipeline of the caller's is done, and hands out what no call handed out before.
+    /// Only want of memory refuses.
+    pub fn drain<R: Wait, G: Gate>(
+        &mut self,
+        rt: &R,
+        board: &SharedBoard<Job>,
+        gate: &G,
+        pipe: &Pipe,
+        into: &mut Callbacks<Finished>,
+    ) -> Result<(), BoardErr>
+        requires at { CallsBoard board.now self.old }
+        requires legal { LegalBoard (known self.old).seen }
+        requires pipe { KnowsPipe (known self.old) pipe.now }
+        ensures lock { lock_of self.new ≡ lock_of self.old }
+        ensures drained { MatchResult result
+            (λ _. (callbacks : List (Told Outcome)) × (into.new.list ≡ into.old.list ++ callbacks) × Drained (known self.old) (known self.new) pipe.now callbacks)
+            (λ e. (e ≡ BoardErr.Memory) × Kept (known self.old) (known self.new)) }
+    {
+        board_laws();
+        let pass = self.pass.take().unwrap();
+        let (pass, answer) = drain(rt, board, pass, pipe.number, into, gate);
+        self.pass = Some(pass);
+        answer
+    }
+
+    /// Shuts the board, by the caller with the number 0. No memory is taken.
+    pub fn shut<R: Wait>(&mut self, rt: &R, board: &SharedBoard<Job>)
+        requires at { CallsBoard board.now self.old }
+        requires first { (known self.old).number ≡ 0 }
+        requires once { is_shut (known self.old).seen ≡ false }
+        ensures lock { lock_of self.new ≡ lock_of self.old }
+        ensures shut { Called (known self.old) (known self.new) (Shuts ∷ []) }
+    {
+        board_laws();
+        let pass = self.pass.take().unwrap();
+        self.pass = Some(board.shut(rt, pass));
+    }
+}

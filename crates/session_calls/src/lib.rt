@@ -1,0 +1,12 @@
+//! A script's calls on its registry and its board, which others call too.
+#![tactic(auto)]
+
+mod board_caller;
+mod pipe;
+mod registry_caller;
+mod stop;
+
+pub use board_caller::BoardCaller;
+pub use pipe::{Lines, Pipe};
+pub use registry_caller::RegistryCaller;
+pub use stop::Stop;

@@ -1,0 +1,80 @@
+//! The pipelines of a script, as it knows them.
+
+ghost use Rattle.std.specs.Prelude.{◌≡◌, ◌++◌, ◌∷◌, [], length, OnOk, OnErr};
+ghost use Rattle.session_calls.specs.Pipelines.{line_at};
+
+use std::alloc::{AllocError, Global};
+use std::marker::Model;
+
+/// The lines of the requests that a pipeline accepted, by the requests' numbers. Contracts see them as a list of numbers.
+#[derive(Drop)]
+pub struct Lines {
+    inner: Vec<u32>,
+}
+
+impl Model for Lines {
+    ghost use Rattle.std.specs.Prelude.{List, ℕ};
+
+    ghost Value = { List ℕ };
+
+    ghost view = { λ lines. lines.inner.items };
+}
+
+impl Lines {
+    /// No lines. No memory is taken.
+    pub fn new(alloc: Global) -> Lines
+        ensures { result ≡ [] }
+    {
+        Lines {
+            inner: Vec::new(alloc),
+        }
+    }
+
+    /// Adds the line of the next request. Want of memory leaves the lines as they were.
+    pub fn push(&mut self, line: u32) -> Result<(), AllocError>
+        ensures ok { OnOk result (self.new ≡ self.old ++ line ∷ []) }
+        ensures err { OnErr result (self.new ≡ self.old) }
+    {
+        self.inner.push(line)?;
+        Ok(())
+    }
+
+    /// The line of a request, and 0 where no request has the number.
+    pub fn at(&self, number: u64) -> u32
+        ensures { result ≡ line_at self.now number }
+    {
+        match self.inner.get(number as usize) {
+            Some(line) => *line,
+            None => 0,
+        }
+    }
+
+    /// How many requests there are.
+    pub fn count(&self) -> u64
+        ensures { result ≡ length self.now }
+    {
+        self.inner.len() as u64
+    }
+}
+
+/// A pipeline that its script made.
+#[derive(Drop)]
+pub struct Pipe {
+    /// Its number on the board.
+    pub number: u64,
+    /// How many requests may wait in a queue before it is full; none for a pad.
+    pub bound: Option<u32>,
+    /// Whether it is held.
+    pub held: bool,
+    pub lines: Lines,
+    /// How many completions it handed out.
+    pub delivered: u64,
+}
+
+impl Model for Pipe {
+    ghost use Rattle.dialogues.specs.Walk.{Pipe as Known};
+
+    ghost Value = { Known };
+
+    ghost view = { λ p. record { number = p.number; bound = p.bound; held = p.held; lines = p.lines; delivered = p.delivered } };
+}

@@ -1,0 +1,266 @@
+//! A script's calls on the registry.
+
+ghost use Rattle.std.specs.Prelude.{◌≡◌, ℕ, ◌∷◌, [], true, Option as Perhaps, Ok, Some, None, is_some, slice_get, MatchResult, IfOk, IsSome, IsTrue};
+ghost use Rattle.std.specs.Result.{IsErr};
+ghost use Rattle.alg_registry.specs.declared.spec.Wrap.{Wrap};
+ghost use Rattle.alg_registry.specs.Rows.{registered};
+ghost use Rattle.alg_names.specs.Name.{spelling};
+ghost use Rattle.templates.specs.Nesting.{is_nested_well};
+ghost use Rattle.templates.specs.Table.{table};
+ghost use Rattle.dialogues.specs.RegistryCalls.{Enlists, Unlists, Gets, Puts, Counts, Lists};
+ghost use Rattle.session_calls.specs.Passes.{CallsRegistry, known};
+ghost use Rattle.session_calls.specs.Asking.{IsCaller, HasReferenceOf, Asks, Finds, SeesMore, IsResolved, enlisted_as, unlisted_as, got_as, counted_as, listed_as};
+
+use crate::stop::Stop;
+use alg_names::Name;
+use alg_registry::{Enlisted, Listing, RefAnswer, RegErr, Spec};
+use dialogues::{calls_in_turn, references_follow, registry_calls_go_on};
+use kc_base::Errno;
+use shared_registry::{RegPass, SharedRegistry, resolve};
+use std::alloc::Global;
+use std::marker::Model;
+use std::sync::Wait;
+use templates::BuildErr;
+
+/// Who calls the registry for a script. Its pass is at hand between two calls; contracts see it.
+#[derive(Drop)]
+pub struct RegistryCaller {
+    pass: Option<RegPass>,
+}
+
+impl Model for RegistryCaller {
+    ghost use Rattle.std.specs.Prelude.{Option};
+    ghost use Rattle.session_calls.specs.Passes.{RegPass};
+
+    ghost Value = { Option RegPass };
+
+    ghost view = { λ c. c.pass };
+}
+
+fn enlisted(answer: Result<u64, RegErr>) -> Result<Enlisted, Stop>
+    ensures { MatchResult result (λ how. enlisted_as answer ≡ Some how) (λ _. enlisted_as answer ≡ None) }
+{
+    match answer {
+        Ok(id) => Ok(Enlisted::Made(id)),
+        Err(RegErr::Exist) => Ok(Enlisted::Exist),
+        Err(RegErr::NFile) => Ok(Enlisted::NFile),
+        Err(_) => Err(Stop::Memory),
+    }
+}
+
+fn unlisted(answer: Result<(), RegErr>) -> Result<bool, Stop>
+    ensures { MatchResult result (λ was. unlisted_as answer ≡ Some was) (λ _. unlisted_as answer ≡ None) }
+{
+    match answer {
+        Ok(()) => Ok(true),
+        Err(RegErr::NoEnt) => Ok(false),
+        Err(_) => Err(Stop::Memory),
+    }
+}
+
+fn got(answer: Result<(), RegErr>) -> Result<bool, Stop>
+    ensures { MatchResult result (λ ok. got_as answer ≡ Some ok) (λ _. got_as answer ≡ None) }
+{
+    match answer {
+        Ok(()) => Ok(true),
+        Err(RegErr::Again) => Ok(false),
+        Err(_) => Err(Stop::Memory),
+    }
+}
+
+fn counted(answer: Result<RefAnswer, RegErr>) -> Result<Option<RefAnswer>, Stop>
+    ensures { MatchResult result (λ refs. counted_as answer ≡ Some refs) (λ _. counted_as answer ≡ None) }
+{
+    match answer {
+        Ok(refs) => Ok(Some(refs)),
+        Err(RegErr::NoEnt) => Ok(None),
+        Err(_) => Err(Stop::Memory),
+    }
+}
+
+fn listed(answer: Result<Listing, RegErr>) -> Result<Listing, Stop>
+    ensures { MatchResult result (λ rows. listed_as answer ≡ Some rows) (λ _. listed_as answer ≡ None) }
+{
+    match answer {
+        Ok(rows) => Ok(rows),
+        Err(_) => Err(Stop::Memory),
+    }
+}
+
+fn found(answer: Result<u64, BuildErr>) -> Result<Result<u64, Errno>, Stop>
+    ensures { IsResolved answer result }
+{
+    match answer {
+        Ok(id) => Ok(Ok(id)),
+        Err(BuildErr::Fault(errno)) => Ok(Err(errno)),
+        Err(BuildErr::Memory) => Err(Stop::Memory),
+    }
+}
+
+fn origin_of(answer: Result<Option<Spec>, RegErr>) -> Result<Spec, Stop>
+    requires { IfOk answer (λ origin. IsSome origin) }
+    ensures { MatchResult result (λ spec. answer ≡ Ok (Some spec)) (λ _. IsErr answer) }
+{
+    match answer {
+        Ok(origin) => Ok(origin.unwrap()),
+        Err(_) => Err(Stop::Memory),
+    }
+}
+
+impl RegistryCaller {
+    /// A caller with this pass.
+    pub fn new(pass: RegPass) -> RegistryCaller
+        ensures { result ≡ Some pass }
+    {
+        RegistryCaller { pass: Some(pass) }
+    }
+
+    /// Lists a driver that stands on no other. Only want of memory stops it, and then nothing is recorded.
+    pub fn enlist<R: Wait>(
+        &mut self,
+        rt: &R,
+        registry: &SharedRegistry,
+        spec: Spec,
+    ) -> Result<Enlisted, Stop>
+        requires at { CallsRegistry registry.now self.old }
+        requires caller { IsCaller (known self.old) }
+        requires alone { spec.below ≡ [] }
+        requires plain { spec.wrap ≡ Wrap.Plain }
+        requires driver { IsTrue (table.is_driver spec) }
+        ensures { MatchResult result (λ how. Asks self.old self.new (Enlists spec how ∷ [])) (λ _. Asks self.old self.new []) }
+    {
+        calls_in_turn();
+        let pass = self.pass.take().unwrap();
+        let (pass, answer) = registry.enlist(rt, pass, spec);
+        self.pass = Some(pass);
+        enlisted(answer)
+    }
+
+    /// Takes a driver off the list, and says whether it was there. Only want of memory stops it, and then nothing is
+    /// recorded.
+    pub fn unlist<R: Wait>(
+        &mut self,
+        rt: &R,
+        registry: &SharedRegistry,
+        driver: &[u8],
+    ) -> Result<bool, Stop>
+        requires at { CallsRegistry registry.now self.old }
+        requires caller { IsCaller (known self.old) }
+        ensures { MatchResult result
+            (λ was. (id : Perhaps ℕ) × (is_some id ≡ was) × Asks self.old self.new (Unlists driver.now id ∷ []))
+            (λ _. Asks self.old self.new []) }
+    {
+        calls_in_turn();
+        let pass = self.pass.take().unwrap();
+        let (pass, answer) = registry.unlist(rt, pass, driver);
+        self.pass = Some(pass);
+        unlisted(answer)
+    }
+
+    /// Takes a reference of an entry, and says whether it was still listed. Only want of memory stops it, and then nothing is
+    /// recorded.
+    pub fn take_ref<R: Wait>(
+        &mut self,
+        rt: &R,
+        registry: &SharedRegistry,
+        id: u64,
+    ) -> Result<bool, Stop>
+        requires at { CallsRegistry registry.now self.old }
+        requires caller { IsCaller (known self.old) }
+        ensures { MatchResult result (λ ok. Asks self.old self.new (Gets id ok ∷ [])) (λ _. Asks self.old self.new []) }
+    {
+        calls_in_turn();
+        let pass = self.pass.take().unwrap();
+        let (pass, answer) = registry.take_ref(rt, pass, id);
+        self.pass = Some(pass);
+        got(answer)
+    }
+
+    /// Gives back a reference that the caller has. No memory is taken.
+    pub fn put_ref<R: Wait>(&mut self, rt: &R, registry: &SharedRegistry, id: u64)
+        requires at { CallsRegistry registry.now self.old }
+        requires caller { IsCaller (known self.old) }
+        requires has { HasReferenceOf (known self.old) id }
+        ensures { Asks self.old self.new (Puts id ∷ []) }
+    {
+        references_follow();
+        calls_in_turn();
+        let pass = self.pass.take().unwrap();
+        self.pass = Some(registry.put_ref(rt, pass, id));
+    }
+
+    /// The references of the newest held entry of the driver, if there is one. Only want of memory stops it, and then nothing
+    /// is recorded.
+    pub fn refs<R: Wait>(
+        &mut self,
+        rt: &R,
+        registry: &SharedRegistry,
+        driver: &[u8],
+    ) -> Result<Option<RefAnswer>, Stop>
+        requires at { CallsRegistry registry.now self.old }
+        requires caller { IsCaller (known self.old) }
+        ensures { MatchResult result (λ refs. Asks self.old self.new (Counts driver.now refs ∷ [])) (λ _. Asks self.old self.new []) }
+    {
+        calls_in_turn();
+        let pass = self.pass.take().unwrap();
+        let (pass, answer) = registry.refs(rt, pass, driver);
+        self.pass = Some(pass);
+        counted(answer)
+    }
+
+    /// The listed entries by id. Only want of memory stops it, and then nothing is recorded.
+    pub fn list<R: Wait>(&mut self, rt: &R, registry: &SharedRegistry) -> Result<Listing, Stop>
+        requires at { CallsRegistry registry.now self.old }
+        requires caller { IsCaller (known self.old) }
+        ensures { MatchResult result (λ rows. Asks self.old self.new (Lists rows ∷ [])) (λ _. Asks self.old self.new []) }
+    {
+        calls_in_turn();
+        let pass = self.pass.take().unwrap();
+        let (pass, answer) = registry.list(rt, pass);
+        self.pass = Some(pass);
+        listed(answer)
+    }
+
+    /// Looks a name up, and builds what is missing or waits for who builds it. An errno is what the look comes to where it
+    /// comes to no entry. Only want of memory stops it.
+    pub fn resolve<R: Wait>(
+        &mut self,
+        rt: &R,
+        alloc: Global,
+        registry: &SharedRegistry,
+        name: &Name,
+    ) -> Result<Result<u64, Errno>, Stop>
+        requires at { CallsRegistry registry.now self.old }
+        requires caller { IsCaller (known self.old) }
+        requires nested { is_nested_well name.now ≡ true }
+        ensures { MatchResult result (λ found. Finds self.old self.new (spelling name.now) found) (λ _. SeesMore self.old self.new) }
+    {
+        calls_in_turn();
+        let pass = self.pass.take().unwrap();
+        let (pass, answer) = resolve(rt, alloc, registry, pass, name, false);
+        self.pass = Some(pass);
+        found(answer)
+    }
+
+    /// A copy of an entry that the caller has seen, as it came to be. Nothing is recorded. Only want of memory stops it.
+    pub fn origin<R: Wait>(
+        &mut self,
+        rt: &R,
+        registry: &SharedRegistry,
+        id: u64,
+    ) -> Result<Spec, Stop>
+        requires at { CallsRegistry registry.now self.old }
+        requires caller { IsCaller (known self.old) }
+        requires seen { IsSome (slice_get (registered (known self.old).seen) id) }
+        ensures { MatchResult result
+            (λ spec. Asks self.old self.new [] × (slice_get (registered (known self.old).seen) id ≡ Some spec))
+            (λ _. Asks self.old self.new []) }
+    {
+        registry_calls_go_on();
+        calls_in_turn();
+        let pass = self.pass.take().unwrap();
+        let (pass, answer) = registry.origin(rt, pass, id);
+        self.pass = Some(pass);
+        origin_of(answer)
+    }
+}

@@ -1,0 +1,32 @@
+use Rattle.std.proofs.Common.{◌≡◌, ◌++◌, ◌<◌, length}
+use Rattle.turn_lock.specs.Passes.{knows}
+use Rattle.board.specs.declared.entry.BoardEntry.TheVariants as entry
+use Rattle.board.specs.declared.board_core.BoardErr.TheVariants as error
+use Rattle.board.specs.Entries.{entries_of, submissions, front, told, delivered, caller_of}
+use Rattle.turn_lock.proofs.Clients.{drained_turn}
+use Rattle.board.specs.Legal.{LegalBoard}
+use Rattle.shared_board.proofs.Meeting.{known_here, open_here, itself}
+use Rattle.shared_board.proofs.shared.SharedBoard.try_drain.Goals as goal
+
+pub try_drain-answer-requires-clause-caller : goal.try_drain-answer-requires-clause-caller
+try_drain-answer-requires-clause-caller g c κs within =
+    let k = knows c.args.pass in
+    let s = known_here k _ c.turn-turn.ensures.meets c.args.pipe c.requires.caller in
+    rw (c.number-caller.ensures, c.get.ensures.value) s.managed
+
+pub try_drain-answer-requires-clause-pipe : goal.try_drain-answer-requires-clause-pipe
+try_drain-answer-requires-clause-pipe g c κs within =
+    let k = knows c.args.pass in
+    let s = known_here k _ c.turn-turn.ensures.meets c.args.pipe c.requires.caller in
+    let o = open_here k _ c.turn-turn.ensures.meets c.args.pipe c.requires.caller c.requires.pipe in
+    rw c.get.ensures.value o
+
+pub returns-clause-turn : goal.returns-clause-turn
+returns-clause-turn g c =
+    let t = c.turn-turn.ensures in
+    let a = c.try_drain-answer.ensures in
+    drained_turn caller_of (λ xs. LegalBoard xs) itself (knows c.args.pass) _ (knows c.give.result) _ _ c.try_drain-answer.new.self _ c.number-caller.ensures c.get.ensures.value t.sees t.meets a.legal c.try_drain-answer.result
+    (λ j xs. entry.Collect j c.args.pipe (length (told (entries_of c.args.pipe xs))))
+    (λ xs. front (entries_of c.args.pipe xs) ≡ length (submissions (entries_of c.args.pipe xs))) (λ xs. front (entries_of c.args.pipe xs) < length (submissions (entries_of c.args.pipe xs)))
+    (λ xs. c.try_drain-answer.new.into.list ≡ c.args.into.now.list ++ delivered g.W.Work.meaning (entries_of c.args.pipe xs) (length (told (entries_of c.args.pipe xs))))
+    (c.try_drain-answer.new.into.list ≡ c.args.into.now.list) (λ e. e ≡ error.Memory) _ c.is_true-added.ensures a.drained a.board a.handed a.refused c.give.ensures.view

@@ -1,0 +1,9 @@
+//! The board of many threads: each call is a turn at one lock, so that all they do is one history.
+#![tactic(auto)]
+
+mod bells;
+mod sent;
+mod shared;
+
+pub use bells::Watch;
+pub use shared::{BoardPass, SharedBoard};

@@ -1,0 +1,430 @@
+//! The board of many threads.
+
+ghost use Rattle.std.specs.Prelude.{◌≡◌, ◌+◌, ◌++◌, ◌<◌, ◌≤◌, ◌^◌, false, length, slice_get, Some, IfOk, ◌↔◌, MatchResult, MatchOption, MatchBool};
+ghost use Rattle.std.specs.Arc.{arc_value};
+ghost use Rattle.std.specs.Result.{result_unwrap_or};
+ghost use Rattle.std.specs.declared.sync.Arc.{Arc};
+ghost use Rattle.std.specs.declared.alloc.Global.{Global as GlobalMemory};
+ghost use Rattle.turn_lock.specs.Passes.{knows, turn_lock, turn_knows, turn_value};
+ghost use Rattle.turn_lock.specs.Turns.{newcomer, sees, gives_number, gets_number, joined, StartsWith, Shows};
+ghost use Rattle.board.specs.declared.entry.Shape.TheVariants as Shaped;
+ghost use Rattle.board.specs.declared.entry.BoardEntry.TheVariants as Entry;
+ghost use Rattle.board.specs.declared.board_core.BoardErr.TheVariants as BoardErr;
+ghost use Rattle.board.specs.Entries.{entries_of, submissions, front, told, collected, delivered, verdict, is_shared, take_entry, finish_entry, NoneWaits, caller_of};
+ghost use Rattle.board.specs.Allowance.{IsAllowed};
+ghost use Rattle.board.specs.Legal.{IsNoWorker, MaySubmit, MayManage, MayFinish, IsOpenPad, IsOpenQueue, IsOpen, pipelines, is_shut, LegalBoard};
+ghost use Rattle.board.specs.Staying.{IsDrained};
+ghost use Rattle.turn_lock.specs.Meeting.{Meets, AtTurn, Enters, Leaves};
+ghost use Rattle.shared_board.specs.Passes.{IsPassOn};
+
+use crate::bells::{Bells, Watch};
+use board::{BoardCore, BoardEntry, BoardErr, BoardLog, Entered, Slip, Taken, Work};
+use kc_base::Callbacks;
+use std::alloc::{AllocError, Global};
+use std::sync::Wait;
+use turn_lock::{Pass, Turn, TurnLock};
+
+/// What one caller knows of a board, and its right to take a turn on it.
+pub type BoardPass<W> = Pass<BoardEntry<<W as Work>::Ask>>;
+
+/// A board for many threads, each of which has a pass and takes its turn.
+#[derive(Drop)]
+pub struct SharedBoard<W: Work> {
+    lock: TurnLock<BoardCore<W>>,
+    bells: Bells,
+}
+
+impl<W: Work> SharedBoard<W> {
+    /// A board on which nothing happened, and its first pass, which has the number 0.
+    pub fn new(alloc: Global) -> Result<(SharedBoard<W>, BoardPass<W>), AllocError>
+        ensures { IfOk result (λ r. IsPassOn r.0 r.1 × (knows r.1 ≡ newcomer)) }
+    {
+        let board = BoardCore::new(alloc)?;
+        let (lock, pass) = TurnLock::new(alloc, board)?;
+        let bells = Bells::new();
+        Ok((SharedBoard { lock, bells }, pass))
+    }
+
+    /// Waits for the pass's turn.
+    fn turn<'a, R: Wait>(&'a self, rt: &R, pass: BoardPass<W>) -> Turn<'a, BoardCore<W>>
+        requires { IsPassOn self.now pass }
+        ensures lock { turn_lock result ≡ self.now.lock }
+        ensures sees { turn_knows result ≡ sees (knows pass) (turn_value result) }
+        ensures meets { Meets caller_of LegalBoard (knows pass) (turn_value result) }
+    {
+        let mut turn = self.lock.take(rt, pass);
+        turn.get().is_legal();
+        turn
+    }
+
+    /// Two passes of one. The first keeps its number, and gives numbers above `number` from then on; the second has `number`
+    /// and has seen as much.
+    pub fn split(&self, pass: BoardPass<W>, number: u32) -> (BoardPass<W>, BoardPass<W>)
+        requires lock { IsPassOn self.now pass }
+        requires number { ((knows pass).next ≤ number) × (number + 1 < 2 ^ 32) }
+        ensures lock { IsPassOn self.now result.0 × IsPassOn self.now result.1 }
+        ensures first { knows result.0 ≡ gives_number number (knows pass) }
+        ensures second { knows result.1 ≡ gets_number number (knows pass) }
+    {
+        self.lock.split(pass, number)
+    }
+
+    /// One pass of two, which has seen what both have seen. It has the number of the first, and keeps that of the second as
+    /// ended.
+    pub fn join(&self, a: BoardPass<W>, b: BoardPass<W>) -> BoardPass<W>
+        requires { IsPassOn self.now a × IsPassOn self.now b }
+        ensures lock { IsPassOn self.now result }
+        ensures joined { knows result ≡ joined (knows a) (knows b) }
+        ensures seen { StartsWith (knows result).seen (knows a).seen × StartsWith (knows result).seen (knows b).seen }
+    {
+        self.lock.join(a, b)
+    }
+
+    /// Makes a pad of `lists` reorder lists, at least 1, and answers its number. The caller is no worker. Only want of memory
+    /// refuses.
+    pub fn born_pad<R: Wait>(
+        &self,
+        rt: &R,
+        pass: BoardPass<W>,
+        lists: u32,
+    ) -> (BoardPass<W>, Result<u64, BoardErr>)
+        requires lock { IsPassOn self.now pass }
+        requires caller { IsNoWorker (knows pass).number }
+        requires lists { 1 ≤ lists }
+        ensures lock { IsPassOn self.now result.0 }
+        ensures turn { AtTurn caller_of LegalBoard (knows pass) (λ h. MatchResult result.1
+            (λ pipe. (pipe ≡ pipelines h) × Enters LegalBoard (knows pass) h (Entry.Born (knows pass).number pipe (Shaped.Pad lists)) (knows result.0))
+            (λ e. (e ≡ BoardErr.Memory) × Leaves (knows pass) h (knows result.0))) }
+    {
+        let caller = pass.number();
+        let mut turn = self.turn(rt, pass);
+        let answer = turn.get().born_pad(caller, lists);
+        let added = answer.is_ok();
+        (turn.give(added), answer)
+    }
+
+    /// Makes a queue of which so many requests wait before its backlog begins, at least 1, and answers its number. The caller
+    /// is no worker. Only want of memory refuses.
+    pub fn born_queue<R: Wait>(
+        &self,
+        rt: &R,
+        pass: BoardPass<W>,
+        max: u32,
+    ) -> (BoardPass<W>, Result<u64, BoardErr>)
+        requires lock { IsPassOn self.now pass }
+        requires caller { IsNoWorker (knows pass).number }
+        requires max { 1 ≤ max }
+        ensures lock { IsPassOn self.now result.0 }
+        ensures turn { AtTurn caller_of LegalBoard (knows pass) (λ h. MatchResult result.1
+            (λ pipe. (pipe ≡ pipelines h) × Enters LegalBoard (knows pass) h (Entry.Born (knows pass).number pipe (Shaped.Queue max)) (knows result.0))
+            (λ e. (e ≡ BoardErr.Memory) × Leaves (knows pass) h (knows result.0))) }
+    {
+        let caller = pass.number();
+        let mut turn = self.turn(rt, pass);
+        let answer = turn.get().born_queue(caller, max);
+        let added = answer.is_ok();
+        (turn.give(added), answer)
+    }
+
+    /// Lets others than the caller submit to a pad or a queue that it made, which isn't closed. Only want of memory refuses.
+    pub fn share<R: Wait>(
+        &self,
+        rt: &R,
+        pass: BoardPass<W>,
+        pipe: u64,
+    ) -> (BoardPass<W>, Result<(), BoardErr>)
+        requires lock { IsPassOn self.now pass }
+        requires caller { MayManage (entries_of pipe (knows pass).seen) (knows pass).number }
+        requires pipe { IsOpen (entries_of pipe (knows pass).seen) }
+        ensures lock { IsPassOn self.now result.0 }
+        ensures turn { AtTurn caller_of LegalBoard (knows pass) (λ h. MatchResult result.1
+            (λ _. Enters LegalBoard (knows pass) h (Entry.Share (knows pass).number pipe) (knows result.0))
+            (λ e. (e ≡ BoardErr.Memory) × Leaves (knows pass) h (knows result.0))) }
+    {
+        let caller = pass.number();
+        let mut turn = self.turn(rt, pass);
+        let answer = turn.get().share(caller, pipe);
+        let added = answer.is_ok();
+        (turn.give(added), answer)
+    }
+
+    /// Takes a job into a pad that isn't closed, and answers its number. The caller made the pad, or has seen that it is
+    /// shared, and is no worker. `TooBig` where the caller's allowance has no room for the job; want of memory comes after
+    /// that. A refusal drops the job.
+    pub fn submit<R: Wait>(
+        &self,
+        rt: &R,
+        pass: BoardPass<W>,
+        pipe: u64,
+        job: W,
+    ) -> (BoardPass<W>, Result<u64, BoardErr>)
+        requires lock { IsPassOn self.now pass }
+        requires caller { MaySubmit (entries_of pipe (knows pass).seen) (knows pass).number }
+        requires pipe { IsOpenPad (entries_of pipe (knows pass).seen) }
+        ensures lock { IsPassOn self.now result.0 }
+        ensures turn { AtTurn caller_of LegalBoard (knows pass) (λ h. MatchResult result.1
+            (λ n. (n ≡ length (submissions (entries_of pipe h))) × IsAllowed W.weight h (knows pass).number (W.asked job)
+            × ((ask : Arc W.Ask GlobalMemory) × (arc_value ask ≡ W.asked job) × Enters LegalBoard (knows pass) h (Entry.Submit (knows pass).number pipe n ask) (knows result.0)))
+            (λ e. ((e ≡ BoardErr.TooBig) ↔ (IsAllowed W.weight h (knows pass).number (W.asked job) → ⊥)) × Leaves (knows pass) h (knows result.0))) }
+    {
+        let caller = pass.number();
+        let mut turn = self.turn(rt, pass);
+        let answer = turn.get().submit(caller, pipe, job);
+        let added = answer.is_ok();
+        let pass = turn.give(added);
+        self.bells.ring_job();
+        (pass, answer)
+    }
+
+    /// Offers a job to a queue that isn't closed, and answers its verdict. The caller made the queue, or has seen that it is
+    /// shared, and is no worker. `TooBig` where the caller's allowance has no room for the job; want of memory comes after
+    /// that, and both before the verdict. What isn't accepted is dropped.
+    pub fn enqueue<R: Wait>(
+        &self,
+        rt: &R,
+        pass: BoardPass<W>,
+        pipe: u64,
+        job: W,
+        backlog: bool,
+    ) -> (BoardPass<W>, Result<Entered, BoardErr>)
+        requires lock { IsPassOn self.now pass }
+        requires caller { MaySubmit (entries_of pipe (knows pass).seen) (knows pass).number }
+        requires pipe { IsOpenQueue (entries_of pipe (knows pass).seen) }
+        ensures lock { IsPassOn self.now result.0 }
+        ensures turn { AtTurn caller_of LegalBoard (knows pass) (λ h. MatchResult result.1
+            (λ answer. (answer ≡ verdict (entries_of pipe h) backlog) × IsAllowed W.weight h (knows pass).number (W.asked job)
+            × ((ask : Arc W.Ask GlobalMemory) × (arc_value ask ≡ W.asked job) × Enters LegalBoard (knows pass) h (Entry.Enq (knows pass).number pipe ask backlog answer) (knows result.0)))
+            (λ e. ((e ≡ BoardErr.TooBig) ↔ (IsAllowed W.weight h (knows pass).number (W.asked job) → ⊥)) × Leaves (knows pass) h (knows result.0))) }
+    {
+        let caller = pass.number();
+        let mut turn = self.turn(rt, pass);
+        let answer = turn.get().enqueue(caller, pipe, job, backlog);
+        let added = answer.is_ok();
+        let pass = turn.give(added);
+        self.bells.ring_job();
+        (pass, answer)
+    }
+
+    /// Hands out a job: of a pad one that nobody has taken, of a queue the first that waits, where it is neither held nor busy.
+    /// `None` exactly where there is none. No memory is taken.
+    pub fn take<R: Wait>(&self, rt: &R, pass: BoardPass<W>) -> (BoardPass<W>, Option<Taken<W>>)
+        requires { IsPassOn self.now pass }
+        ensures lock { IsPassOn self.now result.0 }
+        ensures turn { AtTurn caller_of LegalBoard (knows pass) (λ h. MatchOption result.1
+            (NoneWaits h × Leaves (knows pass) h (knows result.0))
+            (λ t. (slice_get (submissions (entries_of t.slip.pipe h)) t.slip.number ≡ Some (W.asked t.job))
+            × Enters LegalBoard (knows pass) h (take_entry h (knows pass).number t.slip.pipe t.slip.number) (knows result.0)
+            × MayFinish W.meaning (entries_of t.slip.pipe (knows result.0).seen) (knows pass).number t.slip.number (W.meaning (W.asked t.job)))) }
+    {
+        let caller = pass.number();
+        let mut turn = self.turn(rt, pass);
+        let answer = turn.get().take(caller);
+        let added = answer.is_some();
+        (turn.give(added), answer)
+    }
+
+    /// Records the outcome of a job that this caller took and hasn't finished: what the job's ask means. No memory is taken.
+    pub fn finish<R: Wait>(
+        &self,
+        rt: &R,
+        pass: BoardPass<W>,
+        slip: Slip,
+        out: W::Out,
+    ) -> BoardPass<W>
+        requires lock { IsPassOn self.now pass }
+        requires took { MayFinish W.meaning (entries_of slip.pipe (knows pass).seen) (knows pass).number slip.number out }
+        ensures lock { IsPassOn self.now result }
+        ensures turn { AtTurn caller_of LegalBoard (knows pass) (λ h. Enters LegalBoard (knows pass) h (finish_entry h (knows pass).number slip.pipe slip.number) (knows result)) }
+    {
+        let caller = pass.number();
+        let mut turn = self.turn(rt, pass);
+        turn.get().finish(caller, slip, out);
+        let pass = turn.give(true);
+        self.bells.ring_end();
+        pass
+    }
+
+    /// From now on no request of the queue is run. The caller made the queue, which isn't closed. Only want of memory refuses.
+    pub fn hold<R: Wait>(
+        &self,
+        rt: &R,
+        pass: BoardPass<W>,
+        pipe: u64,
+    ) -> (BoardPass<W>, Result<(), BoardErr>)
+        requires lock { IsPassOn self.now pass }
+        requires caller { MayManage (entries_of pipe (knows pass).seen) (knows pass).number }
+        requires pipe { IsOpenQueue (entries_of pipe (knows pass).seen) }
+        ensures lock { IsPassOn self.now result.0 }
+        ensures turn { AtTurn caller_of LegalBoard (knows pass) (λ h. MatchResult result.1
+            (λ _. Enters LegalBoard (knows pass) h (Entry.Hold (knows pass).number pipe) (knows result.0))
+            (λ e. (e ≡ BoardErr.Memory) × Leaves (knows pass) h (knows result.0))) }
+    {
+        let caller = pass.number();
+        let mut turn = self.turn(rt, pass);
+        let answer = turn.get().hold(caller, pipe);
+        let added = answer.is_ok();
+        (turn.give(added), answer)
+    }
+
+    /// The queue's requests are run again. The caller made the queue, which isn't closed. Only want of memory refuses.
+    pub fn go<R: Wait>(
+        &self,
+        rt: &R,
+        pass: BoardPass<W>,
+        pipe: u64,
+    ) -> (BoardPass<W>, Result<(), BoardErr>)
+        requires lock { IsPassOn self.now pass }
+        requires caller { MayManage (entries_of pipe (knows pass).seen) (knows pass).number }
+        requires pipe { IsOpenQueue (entries_of pipe (knows pass).seen) }
+        ensures lock { IsPassOn self.now result.0 }
+        ensures turn { AtTurn caller_of LegalBoard (knows pass) (λ h. MatchResult result.1
+            (λ _. Enters LegalBoard (knows pass) h (Entry.Go (knows pass).number pipe) (knows result.0))
+            (λ e. (e ≡ BoardErr.Memory) × Leaves (knows pass) h (knows result.0))) }
+    {
+        let caller = pass.number();
+        let mut turn = self.turn(rt, pass);
+        let answer = turn.get().go(caller, pipe);
+        let added = answer.is_ok();
+        let pass = turn.give(added);
+        self.bells.ring_job();
+        (pass, answer)
+    }
+
+    /// Hands out what a pad or a queue has told and no call handed out before, in the order in which it was told. The caller
+    /// made the pipeline, which isn't closed. Only want of memory refuses, and hands out nothing.
+    pub fn poll<R: Wait>(
+        &self,
+        rt: &R,
+        pass: BoardPass<W>,
+        pipe: u64,
+        into: &mut Callbacks<W::Out>,
+    ) -> (BoardPass<W>, Result<(), BoardErr>)
+        requires lock { IsPassOn self.now pass }
+        requires caller { MayManage (entries_of pipe (knows pass).seen) (knows pass).number }
+        requires pipe { IsOpen (entries_of pipe (knows pass).seen) }
+        ensures lock { IsPassOn self.now result.0 }
+        ensures turn { AtTurn caller_of LegalBoard (knows pass) (λ h. let es = entries_of pipe h in MatchResult result.1
+            (λ _. (into.new.list ≡ into.old.list ++ delivered W.meaning es (length (told es))) × Enters LegalBoard (knows pass) h (Entry.Collect (knows pass).number pipe (length (told es))) (knows result.0))
+            (λ e. (e ≡ BoardErr.Memory) × (into.new.list ≡ into.old.list) × Leaves (knows pass) h (knows result.0))) }
+    {
+        let caller = pass.number();
+        let mut turn = self.turn(rt, pass);
+        let answer = turn.get().poll(caller, pipe, into);
+        let added = answer.is_ok();
+        (turn.give(added), answer)
+    }
+
+    /// Where all requests of the pad or queue are finished, answers true and hands out what no call handed out before, in the
+    /// order in which it was told. Otherwise it answers false and nothing happens. The caller made the pipeline, which isn't
+    /// closed. Only want of memory refuses, and hands out nothing.
+    pub fn try_drain<R: Wait>(
+        &self,
+        rt: &R,
+        pass: BoardPass<W>,
+        pipe: u64,
+        into: &mut Callbacks<W::Out>,
+    ) -> (BoardPass<W>, Result<bool, BoardErr>)
+        requires lock { IsPassOn self.now pass }
+        requires caller { MayManage (entries_of pipe (knows pass).seen) (knows pass).number }
+        requires pipe { IsOpen (entries_of pipe (knows pass).seen) }
+        ensures lock { IsPassOn self.now result.0 }
+        ensures turn { AtTurn caller_of LegalBoard (knows pass) (λ h. let es = entries_of pipe h in MatchResult result.1
+            (λ all. MatchBool all
+            ((front es ≡ length (submissions es)) × (into.new.list ≡ into.old.list ++ delivered W.meaning es (length (told es))) × Enters LegalBoard (knows pass) h (Entry.Collect (knows pass).number pipe (length (told es))) (knows result.0))
+            ((front es < length (submissions es)) × (into.new.list ≡ into.old.list) × Leaves (knows pass) h (knows result.0)))
+            (λ e. (e ≡ BoardErr.Memory) × (into.new.list ≡ into.old.list) × Leaves (knows pass) h (knows result.0))) }
+    {
+        let caller = pass.number();
+        let mut turn = self.turn(rt, pass);
+        let answer = turn.get().try_drain(caller, pipe, into);
+        let added = is_true(&answer);
+        (turn.give(added), answer)
+    }
+
+    /// Closes a pad or a queue that the caller made and shared with nobody, of which all is finished and handed out. No
+    /// memory is taken.
+    pub fn close<R: Wait>(&self, rt: &R, pass: BoardPass<W>, pipe: u64) -> BoardPass<W>
+        requires lock { IsPassOn self.now pass }
+        requires caller { MayManage (entries_of pipe (knows pass).seen) (knows pass).number }
+        requires pipe { IsOpen (entries_of pipe (knows pass).seen) }
+        requires alone { is_shared (entries_of pipe (knows pass).seen) ≡ false }
+        requires drained { IsDrained (entries_of pipe (knows pass).seen) }
+        ensures lock { IsPassOn self.now result }
+        ensures turn { AtTurn caller_of LegalBoard (knows pass) (λ h. Enters LegalBoard (knows pass) h (Entry.Close (knows pass).number pipe) (knows result)) }
+    {
+        let caller = pass.number();
+        let mut turn = self.turn(rt, pass);
+        turn.get().close(caller, pipe);
+        turn.give(true)
+    }
+
+    /// Shuts the board, by the pass with the number 0, once. No memory is taken.
+    pub fn shut<R: Wait>(&self, rt: &R, pass: BoardPass<W>) -> BoardPass<W>
+        requires lock { IsPassOn self.now pass }
+        requires caller { (knows pass).number ≡ 0 }
+        requires once { is_shut (knows pass).seen ≡ false }
+        ensures lock { IsPassOn self.now result }
+        ensures turn { AtTurn caller_of LegalBoard (knows pass) (λ h. Enters LegalBoard (knows pass) h (Entry.Shut (knows pass).number) (knows result)) }
+    {
+        let caller = pass.number();
+        let mut turn = self.turn(rt, pass);
+        turn.get().shut(caller);
+        let pass = turn.give(true);
+        self.bells.ring_over();
+        pass
+    }
+
+    /// Whether the board is shut.
+    pub fn is_shut<R: Wait>(&self, rt: &R, pass: BoardPass<W>) -> (BoardPass<W>, bool)
+        requires { IsPassOn self.now pass }
+        ensures lock { IsPassOn self.now result.0 }
+        ensures shut { result.1 ≡ is_shut (knows result.0).seen }
+        ensures turn { AtTurn caller_of LegalBoard (knows pass) (λ h. Leaves (knows pass) h (knows result.0)) }
+    {
+        let caller = pass.number();
+        let mut turn = self.turn(rt, pass);
+        let answer = turn.get().is_shut(caller);
+        (turn.give(false), answer)
+    }
+
+    /// Announces a wait for a job to be taken, or for the end of the board.
+    pub fn watch_jobs(&self) -> Watch<'_> {
+        self.bells.watch_jobs()
+    }
+
+    /// Announces a wait for a job to be finished, or for the end of the board.
+    pub fn watch_ends(&self) -> Watch<'_> {
+        self.bells.watch_ends()
+    }
+
+    /// Wakes a worker that sleeps, if there is one: something else than a job may be there for it.
+    pub fn call_worker(&self) {
+        self.bells.ring_job();
+    }
+
+    /// Whether the board may be shut: a hint that takes no turn.
+    pub fn may_be_shut(&self) -> bool {
+        self.bells.is_over()
+    }
+
+    /// The history, at the board's end: it begins with all that the pass has seen, and has of the pass's number, and of each
+    /// that it keeps as ended, just the entries made under it. No memory is taken.
+    pub fn finish_all<R: Wait>(self, rt: &R, pass: BoardPass<W>) -> BoardLog<W::Ask>
+        requires { IsPassOn self pass }
+        ensures shows { Shows caller_of (knows pass) result }
+        ensures legal { LegalBoard result }
+    {
+        let SharedBoard { lock, bells: _ } = self;
+        lock.finish(rt, pass).finish_all()
+    }
+}
+
+/// Whether the answer is that all is finished.
+fn is_true(answer: &Result<bool, BoardErr>) -> bool
+    ensures { result ≡ result_unwrap_or answer.now false }
+{
+    match answer {
+        Ok(all) => *all,
+        Err(_) => false,
+    }
+}

@@ -1,0 +1,66 @@
+-- What a look answers, in a history that has it.
+use Rattle.std.proofs.Common.{◌≡◌, ℕ, Bool, true, false, List, [], ◌∷◌, ◌++◌, length, refl, ap, sym, ◌∙◌, subst, Some, Result, Ok, Err, append_assoc}
+use Rattle.std.specs.Prelude.{slice_get, IfOk, IfErr}
+use Rattle.alg_registry.specs.declared.entry.Looked.{Looked}
+use Rattle.alg_registry.specs.declared.entry.Looked.TheVariants.{Found, Pending, Began, Absent}
+use Rattle.alg_registry.specs.declared.entry.RegErr.{RegErr}
+use Rattle.alg_registry.specs.declared.entry.RegErr.TheVariants.{Memory}
+use Rattle.alg_registry.specs.declared.entry.RegEntry.{RegEntry}
+use Rattle.alg_registry.specs.declared.entry.RegEntry.TheVariants.{Look}
+use Rattle.alg_registry.specs.Rows.{texts, rows_of, larvals_of}
+use Rattle.alg_registry.specs.Answers.{look_answer}
+use Rattle.alg_registry.specs.Legal.{LegalReg, IsRight}
+use Rattle.alg_registry.proofs.LifetimeLaws.{right_at}
+use Rattle.alg_registry.proofs.Stack.{texts-push}
+use Rattle.alg_names.specs.Name.{Tree, spelling}
+use Rattle.templates.specs.Names.{IsKnown}
+use Rattle.templates.specs.Nesting.{is_nested_well}
+use Rattle.alg_registry.proofs.Looks.{began_new}
+use Rattle.templates.proofs.Looks.{at_last}
+use Rattle.templates.proofs.PlainLooks.{pending_text}
+use Rattle.templates.proofs.TableLaws.{table-name}
+use Rattle.turn_lock.specs.Turns.{Known}
+use Rattle.shared_registry.specs.Passes.{IsSound}
+use Rattle.shared_registry.proofs.Going.{Meets}
+use Rattle.turn_lock.specs.Meeting.{Enters, Leaves}
+use Rattle.shared_registry.specs.Faithful.{IsFaithful}
+use Rattle.shared_registry.specs.Own.{MayLook}
+use Rattle.shared_registry.specs.Building.{Works, Looks, HasText}
+use Rattle.shared_registry.specs.Within.{MayResolve}
+use Rattle.alg_registry.proofs.Histories.{text_more}
+use Rattle.shared_registry.proofs.Working.{looks_now, works_none}
+use Rattle.shared_registry.proofs.Going.{goes_after, goes_nothing}
+
+pub may_look : (k : Known RegEntry) (t : Tree) (plain : Bool) → IsKnown t → is_nested_well t ≡ true → MayResolve k (spelling t) plain → MayLook k (spelling t) plain
+may_look k t true known nested may = (table-name t known nested, may)
+may_look k t false known nested may = (table-name t known nested, may)
+
+-- the larval that an answer names has the text of the look
+pub answered_text : (before later whole : List RegEntry) (by : ℕ) (text : List ℕ) (plain : Bool) (answer : Looked) → whole ≡ before ++ Look by text plain answer ∷ later → LegalReg whole → HasText whole text answer
+answered_text before later whole by text plain (Found id) is legal = tt
+answered_text before later whole by text plain Absent is legal = tt
+answered_text before later whole by text plain (Pending n) is legal =
+    let right : IsRight before (Look by text plain (Pending n)) = right_at [] before (Look by text plain (Pending n)) later (subst (λ x. LegalReg x) is legal) in
+    ap (λ x. slice_get (texts x) n) is ∙ text_more before (Look by text plain (Pending n) ∷ later) n text (pending_text before text plain n (sym right.1))
+answered_text before later whole by text plain (Began n) is legal =
+    let right : IsRight before (Look by text plain (Began n)) = right_at [] before (Look by text plain (Began n)) later (subst (λ x. LegalReg x) is legal) in
+    let new : n ≡ length (texts before) = began_new before text plain n (sym right.1) in
+    let there : slice_get (texts (before ++ Look by text plain (Began n) ∷ [])) n ≡ Some text = ap (λ ts. slice_get ts n) (texts-push before (Look by text plain (Began n))) ∙ at_last (texts before) n text new in
+    ap (λ x. slice_get (texts x) n) (is ∙ sym (append_assoc before (Look by text plain (Began n) ∷ []) later)) ∙ text_more (before ++ Look by text plain (Began n) ∷ []) later n text there
+
+abbrev pub HasLooked : Known RegEntry → Known RegEntry → List ℕ → Bool → Result Looked RegErr → Type 0
+HasLooked k l text plain r =
+    Meets k (λ h. IfOk r (λ a. (a ≡ look_answer (rows_of h) (larvals_of h) text plain) × Enters IsFaithful k h (Look k.number text plain a) l) × IfErr r (λ e. (e ≡ Memory) × Leaves k h l))
+
+module _ (k l : Known RegEntry) (text : List ℕ) (plain : Bool) (r : Result Looked RegErr) (looked : HasLooked k l text plain r) where
+  pub has_looked : (answer : Looked) → IsSound l → r ≡ Ok answer → Looks k l text plain answer × HasText l.seen text answer
+  has_looked answer sound is =
+      let did = subst (λ x. HasLooked k l text plain x) is looked in (
+        looks_now k l text plain answer (goes_after k l did.0 (Look k.number text plain answer) refl did.1 did.2.0.1) sound,
+        answered_text did.0 [] l.seen k.number text plain answer (ap (λ n. n.seen) did.2.0.1.0) sound.faithful.legal,
+      )
+
+  pub looked_not : (e : RegErr) → r ≡ Err e → Works k l
+  looked_not e is =
+      let did = subst (λ x. HasLooked k l text plain x) is looked in
+      works_none k l (goes_nothing k l did.0 did.1 did.2.1.1)

@@ -1,0 +1,13 @@
+pub mod Keeping
+pub mod Going
+pub mod Turning
+pub mod Asking
+pub mod Working
+pub mod Waiting
+pub mod Answering
+pub mod Claiming
+pub mod Origins
+pub mod Children
+pub mod Outcomes
+pub mod Clients
+pub mod Trials

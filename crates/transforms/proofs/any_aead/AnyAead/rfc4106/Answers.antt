@@ -1,0 +1,24 @@
+use Rattle.std.proofs.Common.{◌∙◌}
+use Rattle.transforms.proofs.Under.{is_salted_length-true}
+use Rattle.transforms.proofs.UnderTag.{under_bits_salted, under_nibbles_salted}
+use Rattle.transforms.proofs.any_aead.AnyAead.rfc4106.Goals as goal
+
+pub returns-in-GhashGeneric : goal.returns-in-GhashGeneric
+returns-in-GhashGeneric c =
+    let h = c.in_ok-aes.ensures in
+    let split = c.in_ok-front.ensures in
+    let key = c.args.key.now in
+    rw (c.in-GhashGeneric.is, c.new-in-GhashGeneric-2.ensures, c.new-in-GhashGeneric.ensures) (
+      is_salted_length-true key c.in_ok-front.front.now split.0 split.1 h.0,
+      under_bits_salted (c.in_ok-aes.aes, c.in_ok-front.salt) c.args.form _ key (h.1 ∙ split.1) h.2 split.2,
+    )
+
+pub returns-in-GhashTable : goal.returns-in-GhashTable
+returns-in-GhashTable c =
+    let h = c.in_ok-aes.ensures in
+    let split = c.in_ok-front.ensures in
+    let key = c.args.key.now in
+    rw (c.in-GhashTable.is, c.new-in-GhashTable-2.ensures, c.new-in-GhashTable.ensures) (
+      is_salted_length-true key c.in_ok-front.front.now split.0 split.1 h.0,
+      under_nibbles_salted (c.in_ok-aes.aes, c.in_ok-front.salt) c.args.form _ key (h.1 ∙ split.1) h.2 split.2,
+    )

@@ -1,0 +1,115 @@
+//! Blocks of a data unit, in place.
+
+ghost use Rattle.std.specs.Prelude.{◌≡◌, ◌+◌, ◌-◌, ◌*◌, ◌/◌, ◌%◌, ◌<◌, ◌≤◌, ◌++◌, [], length, take, drop, map, slice_index_or};
+ghost use Rattle.std.specs.List.{range_with_len};
+ghost use Rattle.std_defs.specs.Blocks.{xor_blocks, text_block, joined};
+ghost use Rattle.std_defs.specs.Xts.{times_alpha_power, xts_block, xts_blocks, with_stealing};
+
+use crate::direction::Direction;
+use crate::tweak::Tweak;
+use aes_block::xor_block;
+
+/// Adds the mask to the block.
+#[inline(always)]
+fn add_mask(block: &mut [u8; 16], mask: &[u8; 16])
+    ensures { block.new ≡ xor_blocks block.old mask.now }
+{
+    xor_block(block, mask);
+}
+
+/// Eight blocks of a text, each with its mask added.
+#[inline(always)]
+#[tactic(auto, unfolding(std_defs::specs::Blocks::text_block))]
+fn eight_masked(text: &[u8], masks: &[[u8; 16]; 8]) -> [[u8; 16]; 8]
+    requires { length text.now ≡ 128 }
+    ensures { result ≡ map (λ j. xor_blocks (text_block text.now j) (slice_index_or masks.now j [])) (range_with_len 0 8) }
+{
+    let mut eight = [[0u8; 16]; 8];
+    for j in 0..8usize {
+        let mut block = [0u8; 16];
+        block.copy_from_slice(&text[16 * j..16 * j + 16]);
+        add_mask(&mut block, &masks[j]);
+        eight[j] = block;
+    }
+    eight
+}
+
+/// Writes eight blocks into a text, each with its mask added.
+#[inline(always)]
+fn write_masked(text: &mut [u8], blocks: &[[u8; 16]; 8], masks: &[[u8; 16]; 8])
+    requires { length text.old ≡ 128 }
+    ensures { text.new ≡ joined (λ j. xor_blocks (slice_index_or blocks.now j []) (slice_index_or masks.now j [])) 8 }
+{
+    for j in 0..8usize {
+        let mut block = blocks[j];
+        add_mask(&mut block, &masks[j]);
+        text[16 * j..16 * j + 16].copy_from_slice(&block);
+    }
+}
+
+/// Turns eight blocks, from the tweak's place on. The tweak becomes that of the place behind them.
+fn turn_eight<D: Direction>(direction: &D, tweak: &mut Tweak, text: &mut [u8])
+    requires { length text.old ≡ 128 }
+    ensures text { text.new ≡ xts_blocks (xts_block (D.turned direction.now) tweak.old) text.old 8 }
+    ensures tweak { tweak.new ≡ times_alpha_power tweak.old 8 }
+{
+    let masks = tweak.take_eight();
+    let mut blocks = eight_masked(text, &masks);
+    direction.turn_eight(&mut blocks);
+    write_masked(text, &blocks, &masks);
+}
+
+/// Turns the block at the tweak's place.
+fn turn_block<D: Direction>(direction: &D, tweak: &Tweak, text: &mut [u8])
+    requires { length text.old ≡ 16 }
+    ensures { text.new ≡ xts_block (D.turned direction.now) tweak.now 0 text.old }
+{
+    let mask = tweak.block();
+    let mut block = [0u8; 16];
+    block.copy_from_slice(text);
+    add_mask(&mut block, &mask);
+    direction.turn_block(&mut block);
+    add_mask(&mut block, &mask);
+    text.copy_from_slice(&block);
+}
+
+/// Turns whole blocks, from the tweak's place on. The tweak becomes that of the place behind them.
+pub(crate) fn turn_blocks<D: Direction>(direction: &D, tweak: &mut Tweak, text: &mut [u8])
+    requires { length text.old % 16 ≡ 0 }
+    ensures text { text.new ≡ xts_blocks (xts_block (D.turned direction.now) tweak.old) text.old (length text.old / 16) }
+    ensures tweak { tweak.new ≡ times_alpha_power tweak.old (length text.old / 16) }
+{
+    let eights = text.len() / 128;
+    for i in 0..eights {
+        turn_eight(direction, tweak, &mut text[128 * i..128 * i + 128]);
+    }
+    for i in 8 * eights..text.len() / 16 {
+        turn_block(direction, tweak, &mut text[16 * i..16 * i + 16]);
+        *tweak = tweak.next();
+    }
+}
+
+/// Exchanges the bytes behind the first block with as many at its front.
+fn exchange(text: &mut [u8])
+    requires block { 16 ≤ length text.old }
+    requires less_than_two { length text.old < 32 }
+    ensures { text.new ≡ (drop 16 text.old ++ drop (length text.old - 16) (take 16 text.old)) ++ take (length text.old - 16) text.old }
+{
+    let stolen = text.len() - 16;
+    let mut block = [0u8; 16];
+    block.copy_from_slice(&text[..16]);
+    text.copy_within(16.., 0);
+    text[16..].copy_from_slice(&block[..stolen]);
+}
+
+/// Turns the last whole block of a data unit, at the place of the first tweak; its front goes behind it, in place of the bytes
+/// there, and what then stands in its place is turned at that of the second tweak.
+pub(crate) fn steal<D: Direction>(direction: &D, first: &Tweak, second: &Tweak, text: &mut [u8])
+    requires block { 16 ≤ length text.old }
+    requires less_than_two { length text.old < 32 }
+    ensures { text.new ≡ with_stealing (xts_block (D.turned direction.now) first.now 0) (xts_block (D.turned direction.now) second.now 0) text.old }
+{
+    turn_block(direction, first, &mut text[..16]);
+    exchange(text);
+    turn_block(direction, second, &mut text[..16]);
+}

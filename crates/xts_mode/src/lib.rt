@@ -1,0 +1,11 @@
+//! XTS (IEEE Std 1619) over any cipher of blocks, with ciphertext stealing.
+#![tactic(auto)]
+
+mod blocks;
+mod direction;
+#[cfg(test)]
+mod tests;
+mod tweak;
+mod xts;
+
+pub use xts::Xts;
