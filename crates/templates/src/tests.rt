@@ -135,6 +135,12 @@ fn each_template_over_each_kind(rt: HostRuntime) -> Result<(), Fail> {
             b"xts(x)".as_slice(),
             b"x".as_slice(),
             Wrap::Plain,
+            [skcipher, no, no, no, no, no],
+        ),
+        (
+            b"lrw(x)".as_slice(),
+            b"x".as_slice(),
+            Wrap::Plain,
             [Err(Errno::ENOENT); 6],
         ),
     ];
@@ -361,7 +367,8 @@ fn asks_for_children(rt: HostRuntime) -> Result<(), Fail> {
         (b"cbc".as_slice(), Errno::EINVAL),
         (b"gcm(a,b)".as_slice(), Errno::EINVAL),
         (b"authenc(a)".as_slice(), Errno::EINVAL),
-        (b"xts(a,b)".as_slice(), Errno::ENOENT),
+        (b"xts(a,b)".as_slice(), Errno::EINVAL),
+        (b"lrw(a,b)".as_slice(), Errno::ENOENT),
         (b"aes".as_slice(), Errno::ENOENT),
     ];
     for (text, errno) in table {
