@@ -18,7 +18,7 @@ use Rattle.dialogues.specs.Turns.{Turn, IsTurn, ended, joined, text_in, turn_of}
 use Rattle.dialogues.specs.Walk.{Walk, start}
 use Rattle.kc_base.specs.Streams.{AppendsFront, IsPrefix}
 use Rattle.reply_text.specs.Answers.{text_of}
-use Rattle.script_session.specs.Ending.{Ends}
+use Rattle.script_session.specs.Ending.{AnswersEnd}
 use Rattle.script_session.specs.Running.{IsReady, Replies}
 use Rattle.script_session.specs.States.{State, SameLocks}
 use Rattle.script_text.specs.declared.commands.Line.{Line}
@@ -32,11 +32,11 @@ use Rattle.shared_registry.specs.declared.sharing.SharedRegistry.{SharedRegistry
 use Rattle.transforms.specs.declared.ask.Ask.{Ask}
 use Rattle.transforms.specs.declared.request.Finished.{Finished}
 use Rattle.turn_lock.specs.Turns.{Known, StartsWith}
-use Rattle.session_calls.proofs.Boarding.{starts-trans}
 use Rattle.crypto_script.specs.Laws.{Laws}
-use Rattle.crypto_script.specs.Runs.{Gains, SeesMore, GoesOn, IsFresh, Writes, Breaks, IsTextAfter, IsFrontAfter, InTurnAfter}
+use Rattle.script_session.specs.Holding.{HasSeenMore, Stops}
+use Rattle.crypto_script.specs.Runs.{Gains, GoesOn, IsFresh, Writes, Breaks, IsTextAfter, IsFrontAfter, InTurnAfter}
 use Rattle.crypto_script.specs.Text.{is_malformed}
-use Rattle.crypto_script.proofs.Following.{sees-same, sees-then, reg_calls-on, board_calls-on, reg_calls-same, board_calls-same, in_turn-on, followed-ends}
+use Rattle.crypto_script.proofs.Following.{starts-trans, sees-same, sees-then, reg_calls-on, board_calls-on, reg_calls-same, board_calls-same, in_turn-on, followed-ends}
 
 -- ---- a session goes on
 
@@ -54,10 +54,10 @@ goes-then s t u a b = record {
   board = sees-then (known s.board) (known t.board) (known u.board) a.board b.board;
 }
 
-asked-more : (k l : Known RegEntry) (calls : List RegCall) → Asked k l calls → SeesMore k l
+asked-more : (k l : Known RegEntry) (calls : List RegCall) → Asked k l calls → HasSeenMore k l
 asked-more k l calls asked = record { number = asked.number; next = asked.next; seen = (asked.are.more, asked.are.goes_on) }
 
-called-more : (k l : Known (BoardEntry Ask)) (calls : List BoardCall) → Called k l calls → SeesMore k l
+called-more : (k l : Known (BoardEntry Ask)) (calls : List BoardCall) → Called k l calls → HasSeenMore k l
 called-more k l calls called = record { number = called.number; next = called.next; seen = called.seen }
 
 pub replied-goes : (d : Dialogue) (s s' : State) (text text' : List ℕ) → Replies d s s' text text' → GoesOn s s'
@@ -67,7 +67,7 @@ replied-goes d s s' text text' r = record {
   board = called-more (known s.board) (known s'.board) r.turn.board r.called;
 }
 
-pub ended-goes : (s s' : State) (text text' : List ℕ) → Ends s s' text text' → GoesOn s s'
+pub ended-goes : (s s' : State) (text text' : List ℕ) → AnswersEnd s s' text text' → GoesOn s s'
 ended-goes s s' text text' r = record {
   locks = r.locks;
   registry = asked-more (known s.registry) (known s'.registry) r.turn.registry r.asked;
@@ -190,7 +190,7 @@ module _ (laws : Laws) (first : State) (lines : List Line) where
 
     -- ---- the end of input
 
-    module _ (s' : State) (reply : List ℕ) (none : left ≡ []) (e : Ends s s' [] reply) where
+    module _ (s' : State) (reply : List ℕ) (none : left ≡ []) (e : AnswersEnd s s' [] reply) where
       abbrev u : Turn
       u = e.turn
 
@@ -247,6 +247,7 @@ module _ (laws : Laws) (first : State) (lines : List Line) where
     At number left held held' s = Going registry board first lines number left held held' s
 
     pub going-begins : (held : Option (List ℕ)) → IsReady registry board first → IsFresh first → At 1 lines held held first
+    unfolding led-begins
     going-begins held ready fresh = record { led = led-begins laws first lines fresh; ready = ready; written = appends-none held }
 
     module _ (number : ℕ) (left : List Line) (x y z : Option (List ℕ)) (s s' : State) (going : At number left x y s) where
@@ -274,7 +275,7 @@ module _ (laws : Laws) (first : State) (lines : List Line) where
           )
 
       -- and so does the end of input
-      pub going-end_breaks : left ≡ [] → Breaks s s' (Ends s s' []) y z → Gains x z (IsFrontAfter first.workers lines (known s'.registry) (known s'.board))
+      pub going-end_breaks : left ≡ [] → Breaks s s' (AnswersEnd s s' []) y z → Gains x z (IsFrontAfter first.workers lines (known s'.registry) (known s'.board))
       going-end_breaks none (inl stop) = stopped stop.0 stop.1
       going-end_breaks none (inr part) =
           let written = part.2 in (
@@ -284,7 +285,7 @@ module _ (laws : Laws) (first : State) (lines : List Line) where
           )
 
       -- with it the whole text is written
-      module _ (none : left ≡ []) (step : Writes (Ends s s' []) y z) where
+      module _ (none : left ≡ []) (step : Writes (AnswersEnd s s' []) y z) where
         pub going-ends : Gains x z (IsTextAfter first.workers lines (known s'.registry) (known s'.board))
         going-ends = (text_in t ++ step.0, end-text number left s going.led s' step.0 none step.1, Appends-trans x y z (text_in t) step.0 going.written step.2)
 
@@ -307,10 +308,10 @@ module _ (laws : Laws) (first : State) (lines : List Line) where
       pub line_broken-goes : (line : Line) → Breaks s s' (Replies (line_dialogue s.workers s.walk number line) s s' []) y z → GoesOn first s'
       line_broken-goes line breaks = broken-goes (Replies (line_dialogue s.workers s.walk number line) s s' []) (λ reply r. replied-goes (line_dialogue s.workers s.walk number line) s s' [] reply r) breaks
 
-      pub end_broken-goes : Breaks s s' (Ends s s' []) y z → GoesOn first s'
-      end_broken-goes breaks = broken-goes (Ends s s' []) (λ reply e. ended-goes s s' [] reply e) breaks
+      pub end_broken-goes : Breaks s s' (AnswersEnd s s' []) y z → GoesOn first s'
+      end_broken-goes breaks = broken-goes (AnswersEnd s s' []) (λ reply e. ended-goes s s' [] reply e) breaks
 
-      pub end-goes : Writes (Ends s s' []) y z → GoesOn first s'
+      pub end-goes : Writes (AnswersEnd s s' []) y z → GoesOn first s'
       end-goes step = goes-then first s s' going.led.goes (ended-goes s s' [] step.0 step.1)
 
 -- ---- lines of bytes

@@ -1,19 +1,21 @@
 -- What a run does to its source and its sink, where these tell their bytes, and to the passes of its script.
-use Rattle.std.specs.Prelude.{◌≡◌, ℕ, ◌^◌, ◌<◌, ◌↔◌, ◌⊎◌, Bool, List, [], ◌∷◌, ◌++◌, length, Option, Result, Ok, Err, IfOk, OnOk}
+use Rattle.std.specs.Prelude.{◌≡◌, ℕ, ◌^◌, ◌<◌, ◌↔◌, ◌⊎◌, Bool, false, List, [], ◌∷◌, ◌++◌, length, Option, Result, IfOk, OnOk}
 use Rattle.std.specs.List.{list_any}
 use Rattle.std.specs.Io.KnownBytes.{Consumes, Appends, Keeps}
 use Rattle.alg_registry.specs.declared.entry.RegEntry.{RegEntry}
 use Rattle.alg_registry.specs.Rows.{caller_of as reg_caller}
 use Rattle.board.specs.declared.entry.BoardEntry.{BoardEntry}
 use Rattle.board.specs.declared.entry.BoardEntry.TheVariants.{Shut}
-use Rattle.board.specs.Entries.{entries_of, submissions, front, caller_of as board_caller}
-use Rattle.board.specs.Legal.{IsMaker}
+use Rattle.board.specs.Entries.{entries_of, is_closed, caller_of as board_caller}
+use Rattle.board.specs.Legal.{MayManage}
+use Rattle.board.specs.Staying.{IsDrained}
 use Rattle.crew.specs.declared.passes.Passes.{Passes}
 use Rattle.dialogues.specs.InTurn.{AreInTurn}
 use Rattle.dialogues.specs.RegistryCalls.{reg_calls}
 use Rattle.dialogues.specs.Texts.{IsText, IsFrontText}
 use Rattle.dialogues.specs.Walk.{start}
 use Rattle.kc_base.specs.Streams.{AppendsFront}
+use Rattle.script_session.specs.Holding.{HasSeenMore}
 use Rattle.script_session.specs.States.{State, SameLocks}
 use Rattle.script_text.specs.declared.commands.Line.{Line}
 use Rattle.session_calls.specs.Passes.{known}
@@ -35,17 +37,11 @@ Gains old new P = (gained : List ℕ) × P gained × Appends old new gained
 
 -- ---- how what passes know goes on
 
--- a pass has seen more
-pub record SeesMore {E : Type 0} (k l : Known E) : Type 0 where
-  pub number : l.number ≡ k.number
-  pub next : l.next ≡ k.next
-  pub seen : StartsWith l.seen k.seen
-
 -- the session's passes are of the same locks, and have seen more
 pub record GoesOn (s s' : State) : Type 0 where
   pub locks : SameLocks s s'
-  pub registry : SeesMore (known s.registry) (known s'.registry)
-  pub board : SeesMore (known s.board) (known s'.board)
+  pub registry : HasSeenMore (known s.registry) (known s'.registry)
+  pub board : HasSeenMore (known s.board) (known s'.board)
 
 -- before its first line, as client 0 and caller 0 of both locks
 pub record IsFresh (s : State) : Type 0 where
@@ -87,11 +83,11 @@ InTurn r = AreInTurn 0 (reg_calls 0 r) [] r
 abbrev pub InTurnAfter : Known RegEntry → Type 0
 InTurnAfter k = (r : List RegEntry) → OthersFollow reg_caller k r → InTurn r
 
--- the board was shut when each request of each pipeline that the script made was finished
+-- the board was shut when each pipeline that the script made and hadn't closed was drained
 pub record IsShutIn (b : List (BoardEntry Ask)) : Type 0 where
   pub before : List (BoardEntry Ask)
   pub shut : StartsWith b (before ++ Shut 0 ∷ [])
-  pub finished : (p : ℕ) → IsMaker (entries_of p before) 0 → front (entries_of p before) ≡ length (submissions (entries_of p before))
+  pub drained : (p : ℕ) → MayManage (entries_of p before) 0 → is_closed (entries_of p before) ≡ false → IsDrained (entries_of p before)
 
 -- ---- a script's part beside workers
 
@@ -109,8 +105,8 @@ pub record Ended (workers : ℕ) (lines : List Line) (p : Passes Ask) (held held
 
 -- What a script has done whose passes were p and are now q, and whether a line was malformed, if it reached its end.
 pub record Answers {F : Type 0} (workers : ℕ) (lines : List Line) (p q : Passes Ask) (result : Result Bool F) (held held' : Option (List ℕ)) : Type 0 where
-  pub registry : SeesMore (knows p.registry) (knows q.registry)
-  pub board : SeesMore (knows p.board) (knows q.board)
+  pub registry : HasSeenMore (knows p.registry) (knows q.registry)
+  pub board : HasSeenMore (knows p.board) (knows q.board)
   pub own : IsOwn board_caller (knows q.board)
   pub front : Gains held held' (IsFrontAfter workers lines (knows q.registry) (knows q.board))
   pub ended : OnOk result (Ended workers lines q held held')

@@ -11,19 +11,20 @@ ghost use Rattle.dialogues.specs.Texts.{IsText, IsFrontText};
 ghost use Rattle.dialogues.specs.Walk.{start};
 ghost use Rattle.kc_base.specs.Streams.{Rose};
 ghost use Rattle.script_text.specs.Script.{script_of};
+ghost use Rattle.script_session.specs.Holding.{HasSeenMore};
 ghost use Rattle.shared_board.specs.Passes.{IsPassOn};
 ghost use Rattle.templates.specs.Table.{table};
 ghost use Rattle.turn_lock.specs.Meeting.{IsOwn};
 ghost use Rattle.turn_lock.specs.Passes.{knows};
 ghost use Rattle.turn_lock.specs.Turns.{newcomer};
 ghost use Rattle.crypto_script.specs.Endings.{AreCallers, EndsShut};
-ghost use Rattle.crypto_script.specs.Runs.{Gains, SeesMore, OthersFollow, InTurn, AreNew, Answers};
+ghost use Rattle.crypto_script.specs.Runs.{Gains, OthersFollow, InTurn, AreNew, Answers};
 ghost use Rattle.crypto_script.specs.Text.{is_malformed};
 
 use crate::errors::RunError;
 use crate::lines::run_lines;
-use alg_registry::RegLog;
-use board::BoardLog;
+use alg_registry::{RegEntry, RegLog};
+use board::{BoardEntry, BoardLog};
 use crew::{Gate, Passes, crews_end, run_crew, work_ends};
 use kc_base::{Sink, SinkError};
 use script_session::Session;
@@ -65,7 +66,7 @@ fn shut_board<R: Wait>(
     requires lock { IsPassOn board.now pass }
     requires first { (knows pass).number ≡ 0 }
     ensures lock { IsPassOn board.now result }
-    ensures more { SeesMore (knows pass) (knows result) }
+    ensures more { HasSeenMore (knows pass) (knows result) }
     ensures own { IsOwn caller_of (knows result) }
     ensures shut { is_shut (knows pass).seen ≡ true → OthersFollow caller_of (knows pass) (knows result).seen }
 {

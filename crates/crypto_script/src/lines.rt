@@ -7,7 +7,7 @@ ghost use Rattle.script_text.specs.Script.{line_of, script_of};
 ghost use Rattle.dialogues.specs.Lines.{line_dialogue};
 ghost use Rattle.session_calls.specs.Passes.{known};
 ghost use Rattle.script_session.specs.Running.{IsReady, Replies};
-ghost use Rattle.script_session.specs.Ending.{Ends, EndsShut};
+ghost use Rattle.script_session.specs.Ending.{AnswersEnd, EndsShut};
 ghost use Rattle.crypto_script.specs.Text.{is_malformed};
 ghost use Rattle.crypto_script.specs.Laws.{Laws};
 ghost use Rattle.crypto_script.specs.Runs.{Gains, GoesOn, Writes, Breaks, IsFresh, IsTextAfter, IsFrontAfter, InTurnAfter};
@@ -79,7 +79,7 @@ fn reply_to_end<G: Gate, R: Wait>(
     requires ready { IsReady registry.now board.now session.old }
     requires first { (known session.old.board).number ≡ 0 }
     ensures done { MatchResult result
-        (λ reply. Ends session.old session.new [] reply)
+        (λ reply. AnswersEnd session.old session.new [] reply)
         (λ _. GoesOn session.old session.new) }
     ensures shut { OnOk result (EndsShut (known session.new.board)) }
 {
@@ -129,8 +129,8 @@ fn run_end<K: Sink, G: Gate, R: Wait>(
     requires ready { IsReady registry.now board.now session.old }
     requires first { (known session.old.board).number ≡ 0 }
     ensures done { MatchResult result
-        (λ _. Writes (Ends session.old session.new []) (K.held out.old) (K.held out.new))
-        (λ _. Breaks session.old session.new (Ends session.old session.new []) (K.held out.old) (K.held out.new)) }
+        (λ _. Writes (AnswersEnd session.old session.new []) (K.held out.old) (K.held out.new))
+        (λ _. Breaks session.old session.new (AnswersEnd session.old session.new []) (K.held out.old) (K.held out.new)) }
     ensures shut { OnOk result (EndsShut (known session.new.board)) }
     ensures later { K.faults out.old ≤ K.faults out.new }
     ensures cause { IsErrOf result SinkError.Failed → Rose (K.faults out.old) (K.faults out.new) }
