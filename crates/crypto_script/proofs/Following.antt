@@ -26,7 +26,7 @@ module _ {E : Type 0} where
   pub starts-trans : (a b c : List E) → StartsWith b a → StartsWith c b → StartsWith c a
   starts-trans a b c f g = (f.0 ++ g.0, g.1 ∙ (ap (λ x. x ++ g.0) f.1 ∙ append_assoc a f.0 g.0))
 
-  none-pass : (t : Bool) (x : E) (xs : List E) → (if t then x ∷ xs else xs) ≡ [] → (t ≡ false) × (xs ≡ [])
+  pub none-pass : (t : Bool) (x : E) (xs : List E) → (if t then x ∷ xs else xs) ≡ [] → (t ≡ false) × (xs ≡ [])
   none-pass true x xs e = absurd cc
   none-pass false x xs e = (refl, e)
 

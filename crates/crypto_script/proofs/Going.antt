@@ -5,6 +5,7 @@ use Rattle.std.specs.Io.KnownBytes.{Appends, Keeps}
 use Rattle.std.proofs.KnownBytes.{Appends-trans}
 use Rattle.std.proofs.lemmas.Grind.{flat_map-append}
 use Rattle.alg_registry.specs.declared.entry.RegEntry.{RegEntry}
+use Rattle.alg_registry.specs.Rows.{caller_of as reg_caller}
 use Rattle.board.specs.declared.entry.BoardEntry.{BoardEntry}
 use Rattle.dialogues.specs.BoardCalls.{BoardCall, board_calls, board_calls_from}
 use Rattle.dialogues.specs.Dialogues.{Dialogue, Ends as Done, followed}
@@ -31,6 +32,7 @@ use Rattle.shared_board.specs.declared.shared.SharedBoard.{SharedBoard}
 use Rattle.shared_registry.specs.declared.sharing.SharedRegistry.{SharedRegistry}
 use Rattle.transforms.specs.declared.ask.Ask.{Ask}
 use Rattle.transforms.specs.declared.request.Finished.{Finished}
+use Rattle.turn_lock.specs.Meeting.{IsOwn}
 use Rattle.turn_lock.specs.Turns.{Known, StartsWith}
 use Rattle.crypto_script.specs.Laws.{Laws}
 use Rattle.script_session.specs.Holding.{HasSeenMore, Stops}
@@ -295,6 +297,9 @@ module _ (laws : Laws) (first : State) (lines : List Line) where
           end-front number left s going.led s' step.0 none step.1 (text_in t ++ step.0) ([], append-nil (text_in t ++ step.0)),
           Appends-trans x y z (text_in t) step.0 going.written step.2,
         )
+
+        pub going-ends_own : IsOwn reg_caller (known s'.registry)
+        going-ends_own = step.1.asked.caller.own
 
         pub going-ends_in_turn : InTurnAfter (known s'.registry)
         going-ends_in_turn = end-in_turn number left s going.led s' step.0 none step.1

@@ -6,9 +6,8 @@ use Rattle.alg_registry.specs.declared.entry.RegEntry.{RegEntry}
 use Rattle.alg_registry.specs.Rows.{caller_of as reg_caller}
 use Rattle.board.specs.declared.entry.BoardEntry.{BoardEntry}
 use Rattle.board.specs.declared.entry.BoardEntry.TheVariants.{Shut}
-use Rattle.board.specs.Entries.{entries_of, is_closed, caller_of as board_caller}
+use Rattle.board.specs.Entries.{entries_of, submissions, front, is_closed, caller_of as board_caller}
 use Rattle.board.specs.Legal.{MayManage}
-use Rattle.board.specs.Staying.{IsDrained}
 use Rattle.crew.specs.declared.passes.Passes.{Passes}
 use Rattle.dialogues.specs.InTurn.{AreInTurn}
 use Rattle.dialogues.specs.RegistryCalls.{reg_calls}
@@ -83,11 +82,13 @@ InTurn r = AreInTurn 0 (reg_calls 0 r) [] r
 abbrev pub InTurnAfter : Known RegEntry → Type 0
 InTurnAfter k = (r : List RegEntry) → OthersFollow reg_caller k r → InTurn r
 
--- the board was shut when each pipeline that the script made and hadn't closed was drained
+-- The board was shut when each request was finished of each pipeline that the script made and hadn't closed. Since then others alone made entries.
 pub record IsShutIn (b : List (BoardEntry Ask)) : Type 0 where
   pub before : List (BoardEntry Ask)
-  pub shut : StartsWith b (before ++ Shut 0 ∷ [])
-  pub drained : (p : ℕ) → MayManage (entries_of p before) 0 → is_closed (entries_of p before) ≡ false → IsDrained (entries_of p before)
+  pub after : List (BoardEntry Ask)
+  pub history : b ≡ before ++ Shut 0 ∷ after
+  pub others : of board_caller 0 after ≡ []
+  pub finished : (p : ℕ) → MayManage (entries_of p before) 0 → is_closed (entries_of p before) ≡ false → front (entries_of p before) ≡ length (submissions (entries_of p before))
 
 -- ---- a script's part beside workers
 

@@ -1,12 +1,12 @@
 //! A whole script beside workers.
 
-ghost use Rattle.std.specs.Prelude.{OnOk, ◌≡◌, ◌+◌, ◌^◌, ◌≤◌, true, length, MatchResult, IfOk, IsErrOf};
+ghost use Rattle.std.specs.Prelude.{OnOk, ◌≡◌, ◌+◌, ◌^◌, ◌≤◌, ◌⊎◌, [], Err, true, length, IfOk, IfErr, IsErrOf};
 ghost use Rattle.std.specs.List.{list_any};
 ghost use Rattle.alg_registry.specs.Legal.{LegalReg};
 ghost use Rattle.alg_registry.specs.Made.{Made};
 ghost use Rattle.board.specs.Entries.{caller_of};
 ghost use Rattle.board.specs.Legal.{LegalBoard, is_shut};
-ghost use Rattle.crew.specs.Both.{ArePassesOn};
+ghost use Rattle.crew.specs.Both.{ArePassesOn, HaveNext, CrewedOnBoth};
 ghost use Rattle.dialogues.specs.Texts.{IsText, IsFrontText};
 ghost use Rattle.dialogues.specs.Walk.{start};
 ghost use Rattle.kc_base.specs.Streams.{Rose};
@@ -18,14 +18,16 @@ ghost use Rattle.turn_lock.specs.Meeting.{IsOwn};
 ghost use Rattle.turn_lock.specs.Passes.{knows};
 ghost use Rattle.turn_lock.specs.Turns.{newcomer};
 ghost use Rattle.crypto_script.specs.Endings.{AreCallers, EndsShut};
+ghost use Rattle.crypto_script.specs.Laws.{CrewLaws};
 ghost use Rattle.crypto_script.specs.Runs.{Gains, OthersFollow, InTurn, AreNew, Answers};
+ghost use Rattle.crypto_script.specs.Statuses.{run_answer};
 ghost use Rattle.crypto_script.specs.Text.{is_malformed};
 
 use crate::errors::RunError;
 use crate::lines::run_lines;
 use alg_registry::{RegEntry, RegLog};
 use board::{BoardEntry, BoardLog};
-use crew::{Gate, Passes, crews_end, run_crew, work_ends};
+use crew::{Gate, Passes, crew_works, crews_end, run_crew, work_ends};
 use kc_base::{Sink, SinkError};
 use script_session::Session;
 use shared_board::{BoardPass, SharedBoard};
@@ -55,6 +57,17 @@ impl Ran {
             board: BoardLog::empty(alloc),
         }
     }
+}
+
+// what a crew leaves
+fn crew_laws()
+    ensures { CrewLaws }
+{
+    crews_end::<RegEntry>();
+    crews_end::<BoardEntry<Ask>>();
+    crew_works::<RegEntry>();
+    crew_works::<BoardEntry<Ask>>();
+    work_ends::<Ask>();
 }
 
 // Shuts the board if it isn't, so that the workers end.
@@ -111,6 +124,43 @@ fn answer_script<K: Sink, G: Gate, R: Wait>(
     (passes, answer)
 }
 
+fn run_answered(answer: Result<bool, SinkError>) -> Result<bool, RunError>
+    ensures { result ≡ run_answer answer }
+{
+    Ok(answer?)
+}
+
+// Runs the script with passes of both locks, beside so many workers.
+fn crew_script<K: Sink, G: Gate + Sync, R: Threads + Wait + Sync>(
+    rt: &R,
+    alloc: Global,
+    workers: u32,
+    board: &SharedBoard<Job>,
+    registry: &SharedRegistry,
+    gate: &G,
+    passes: Passes<Ask>,
+    input: &[u8],
+    out: &mut K,
+) -> (Passes<Ask>, Result<bool, SinkError>)
+    requires few { workers ≤ 16 }
+    requires lock { ArePassesOn board.now registry.now passes }
+    requires first { (knows passes.board ≡ newcomer) × (knows passes.registry ≡ newcomer) }
+    requires short { length input.now ≤ 2 ^ 28 }
+    ensures lock { ArePassesOn board.now registry.now result.0 }
+    ensures crewed { (p q : _) × HaveNext workers passes p × Answers workers (script_of input.now) p q result.1 (K.held out.old) (K.held out.new) × CrewedOnBoth workers passes q result.0 }
+    ensures cause { IsErrOf result.1 SinkError.Failed → Rose (K.faults out.old) (K.faults out.new) }
+{
+    let mut main = |passes: Passes<Ask>| -> (Passes<Ask>, Result<bool, SinkError>)
+        requires lock { ArePassesOn board.now registry.now passes }
+        requires new { AreNew passes }
+        requires short { length input.now ≤ 2 ^ 28 }
+        ensures lock { ArePassesOn board.entry.now registry.entry.now result.0 }
+        ensures answers { Answers workers (script_of input.entry.now) passes result.0 result.1 (K.held out.entry.now) (K.held out.exit.now) }
+        ensures cause { IsErrOf result.1 SinkError.Failed → Rose (K.faults out.entry.now) (K.faults out.exit.now) }
+    { answer_script(rt, alloc, workers, board, registry, gate, passes, input, out) };
+    run_crew(rt, alloc, workers, board, registry, passes, gate, &mut main)
+}
+
 // Runs the script beside so many workers on these locks, with their first passes.
 fn run_beside<K: Sink, G: Gate + Sync, R: Threads + Wait + Sync>(
     rt: &R,
@@ -125,7 +175,7 @@ fn run_beside<K: Sink, G: Gate + Sync, R: Threads + Wait + Sync>(
 ) -> Ran
     requires few { workers ≤ 16 }
     requires lock { ArePassesOn board registry passes }
-    requires first { ((knows passes.board) ≡ newcomer) × ((knows passes.registry) ≡ newcomer) }
+    requires first { (knows passes.board ≡ newcomer) × (knows passes.registry ≡ newcomer) }
     requires short { length input.now ≤ 2 ^ 28 }
     ensures whole { OnOk result.answer (Gains (K.held out.old) (K.held out.new) (IsText workers (start 0) 0 (script_of input.now) result.registry result.board)) }
     ensures in_turn { OnOk result.answer (InTurn result.registry) }
@@ -139,27 +189,15 @@ fn run_beside<K: Sink, G: Gate + Sync, R: Threads + Wait + Sync>(
     ensures write_fault { IsErrOf result.answer RunError.WriteFault → Rose (K.faults out.old) (K.faults out.new) }
     ensures causes { IfErr result.answer (λ e. (e ≡ RunError.WriteFault) ⊎ (e ≡ RunError.NoMemory)) }
 {
-    crews_end::<RegEntry>();
-    crews_end::<BoardEntry<Ask>>();
-    work_ends::<Ask>();
-    let shared = &board;
-    let known = &registry;
-    let mut main = |passes: Passes<Ask>| -> (Passes<Ask>, Result<bool, SinkError>)
-        requires lock { ArePassesOn shared.now known.now passes }
-        requires new { AreNew passes }
-        requires short { length input.now ≤ 2 ^ 28 }
-        ensures lock { ArePassesOn shared.entry.now known.entry.now result.0 }
-        ensures answers { Answers workers (script_of input.entry.now) passes result.0 result.1 (K.held out.entry.now) (K.held out.exit.now) }
-        ensures later { K.faults out.entry.now ≤ K.faults out.exit.now }
-        ensures cause { IsErrOf result.1 SinkError.Failed → Rose (K.faults out.entry.now) (K.faults out.exit.now) }
-    { answer_script(rt, alloc, workers, shared, known, gate, passes, input, out) };
-    let (passes, answer) = run_crew(rt, alloc, workers, shared, known, passes, gate, &mut main);
+    crew_laws();
+    let (passes, answer) =
+        crew_script(rt, alloc, workers, &board, &registry, gate, passes, input, out);
     let Passes {
         board: on_board,
         registry: on_registry,
     } = passes;
     Ran {
-        answer: answer.map_err(RunError::from),
+        answer: run_answered(answer),
         registry: registry.finish_all(rt, on_registry),
         board: board.finish_all(rt, on_board),
     }

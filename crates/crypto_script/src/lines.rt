@@ -2,12 +2,14 @@
 
 ghost use Rattle.std.specs.Prelude.{OnOk, ◌≡◌, ◌+◌, ◌^◌, ◌≤◌, [], length, MatchResult, IfOk, IsErrOf};
 ghost use Rattle.std.specs.List.{list_any};
+ghost use Rattle.alg_registry.specs.Rows.{caller_of};
 ghost use Rattle.kc_base.specs.Streams.{Rose};
 ghost use Rattle.script_text.specs.Script.{line_of, script_of};
 ghost use Rattle.dialogues.specs.Lines.{line_dialogue};
 ghost use Rattle.session_calls.specs.Passes.{known};
 ghost use Rattle.script_session.specs.Running.{IsReady, Replies};
 ghost use Rattle.script_session.specs.Ending.{AnswersEnd, EndsShut};
+ghost use Rattle.turn_lock.specs.Meeting.{IsOwn};
 ghost use Rattle.crypto_script.specs.Text.{is_malformed};
 ghost use Rattle.crypto_script.specs.Laws.{Laws};
 ghost use Rattle.crypto_script.specs.Runs.{Gains, GoesOn, Writes, Breaks, IsFresh, IsTextAfter, IsFrontAfter, InTurnAfter};
@@ -157,6 +159,7 @@ pub fn run_lines<K: Sink, G: Gate, R: Wait>(
     ensures whole { OnOk result (Gains (K.held out.old) (K.held out.new) (IsTextAfter session.old.workers (script_of input.now) (known session.new.registry) (known session.new.board))) }
     ensures front { Gains (K.held out.old) (K.held out.new) (IsFrontAfter session.old.workers (script_of input.now) (known session.new.registry) (known session.new.board)) }
     ensures in_turn { OnOk result (InTurnAfter (known session.new.registry)) }
+    ensures own { OnOk result (IsOwn caller_of (known session.new.registry)) }
     ensures shut { OnOk result (EndsShut (known session.new.board)) }
     ensures goes_on { GoesOn session.old session.new }
     ensures malformed { IfOk result (λ bad. bad ≡ list_any is_malformed (script_of input.now)) }

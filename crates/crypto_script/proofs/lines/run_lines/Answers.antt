@@ -4,7 +4,7 @@ use Rattle.std.proofs.Common.{true, ℕ, List, ◌≡◌, ◌||◌, refl, ap, sy
 use Rattle.std.specs.List.{list_any}
 use Rattle.script_text.specs.Script.{line_of, script_of}
 use Rattle.crypto_script.specs.Text.{is_malformed}
-use Rattle.crypto_script.proofs.Going.{going-begins, going-more, going-breaks, going-end_breaks, going-ends, going-ends_front, going-ends_in_turn, line_broken-goes, end_broken-goes, malformed_next, script_next, script_none, or_later}
+use Rattle.crypto_script.proofs.Going.{going-begins, going-more, going-breaks, going-end_breaks, going-ends, going-ends_front, going-ends_in_turn, going-ends_own, line_broken-goes, end_broken-goes, malformed_next, script_next, script_none, or_later}
 use Rattle.crypto_script.proofs.lines.run_lines.Goals as goal
 
 emptied : (rest : List ℕ) → (length rest == 0) ≡ true → length rest ≡ 0
@@ -76,4 +76,10 @@ pub returns-clause-in_turn : goal.returns-clause-in_turn
 returns-clause-in_turn g c =
     let rest = c.loop-rest.rest.now in
     going-ends_in_turn c.laws.ensures c.args.session.now (script_of c.args.input.now) c.args.registry.now c.args.board.now _ _ _ _ _ _ _ c.loop-rest.invariant.going
+        (script_none rest (emptied rest (sym c.is_empty.ensures ∙ c.loop-rest-test.false))) c.in_ok-run_end.ensures.done
+
+pub returns-clause-own : goal.returns-clause-own
+returns-clause-own g c =
+    let rest = c.loop-rest.rest.now in
+    going-ends_own c.laws.ensures c.args.session.now (script_of c.args.input.now) c.args.registry.now c.args.board.now _ _ _ _ _ _ _ c.loop-rest.invariant.going
         (script_none rest (emptied rest (sym c.is_empty.ensures ∙ c.loop-rest-test.false))) c.in_ok-run_end.ensures.done
