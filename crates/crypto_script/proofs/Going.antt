@@ -1,5 +1,5 @@
 -- A script, line by line, and what it leaves.
-use Rattle.std.proofs.Common.{◌≡◌, ℕ, ◌+◌, ◌||◌, Bool, true, false, List, [], ◌∷◌, ◌++◌, length, map, Option, Some, None, refl, sym, ap, subst, ◌∙◌, append_assoc, append-nil, arith, inl, inr}
+use Rattle.std.proofs.Common.{◌≡◌, ℕ, ◌+◌, ◌||◌, Bool, true, false, List, [], ◌∷◌, ◌++◌, length, map, Option, Some, None, refl, sym, ap, subst, ◌∙◌, append_assoc, append-nil, arith, inl, inr, IfSome}
 use Rattle.std.specs.List.{list_any}
 use Rattle.std.specs.Io.KnownBytes.{Appends, Keeps}
 use Rattle.std.proofs.KnownBytes.{Appends-trans}
@@ -345,3 +345,8 @@ reply-broken s s' IsReply held held' reply piece made same written = inr (reply,
 
 pub reply-stopped : (s s' : State) (IsReply : List ℕ → Type 0) (held : Option (List ℕ)) → GoesOn s s' → Breaks s s' IsReply held held
 reply-stopped s s' IsReply held goes_on = inl (goes_on, keeps-same held)
+
+-- nothing is a front of the text of any script
+pub nothing_fronted : (workers : ℕ) (left held : Option (List ℕ)) (r : List RegEntry) (b : List (BoardEntry Ask)) → IfSome left (λ script. Gains held held (IsFrontText workers (start 0) 0 (script_of script) r b))
+nothing_fronted workers None held r b = tt
+nothing_fronted workers (Some script) held r b = ([], (text_in (turn_in workers (start 0) 0 (script_of script) r b), refl), appends-none held)
