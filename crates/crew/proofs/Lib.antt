@@ -2,3 +2,4 @@ pub mod Works
 pub mod Crews
 pub mod OnBoth
 pub mod Ends
+pub mod Closed
