@@ -17,7 +17,8 @@ use Rattle.board.specs.Entries.{caller_of, is_of, is_close, is_share, is_held, a
 use Rattle.board.specs.Allowance.{IsAllowed}
 use Rattle.board.specs.Legal.{IsNoWorker, IsOpen, IsOpenPad, IsOpenQueue, LegalBoard, pipelines}
 use Rattle.board.specs.Handing.{is_collect, completions}
-use Rattle.board.proofs.Staying.{stays_managed, holds}
+use Rattle.board.proofs.Others.{drained_hands}
+use Rattle.board.proofs.Staying.{stays_managed, holds, collect_drains}
 use Rattle.board.proofs.Transfer.{entries-more}
 use Rattle.board.proofs.PadOrder.{filter_map-none}
 use Rattle.std.proofs.lemmas.Bool.{eqb-true}
@@ -163,6 +164,21 @@ drained-changed laws k l pipe h on meets all enters =
     ∙ (ap (λ ns. Some (Collects pipe.number (record { notices = ns; all_done = front es == length (submissions es) }))) (notices-are (submissions es) pipe.lines callbacks here.lines)
     ∙ ap (λ b. Some (Collects pipe.number (record { notices = map (notice_by pipe.lines) callbacks; all_done = b }))) (eq-eqb (front es) (length (submissions es)) all)))
     (accepted-none k.number h (event.Collect k.number pipe.number to) refl) refl (pipe-collected k.number h pipe to enters.1 here))
+
+-- it has handed all out
+drained-all : Laws → (k : Known (BoardEntry Ask)) (pipe : Pipe) (h : List (BoardEntry Ask)) → KnowsPipe k pipe → Met k h → front (entries_of pipe.number h) ≡ length (submissions (entries_of pipe.number h))
+    → LegalBoard (h ++ event.Collect k.number pipe.number (length (told (entries_of pipe.number h))) ∷ [])
+    → pipe.delivered + completions (delivered outcome (entries_of pipe.number h) (length (told (entries_of pipe.number h)))) ≡ length pipe.lines
+drained-all laws k pipe h on meets all legal =
+    let p = pipe.number in
+    let to = length (told (entries_of p h)) in
+    let after : List (BoardEntry Ask) = h ++ event.Collect k.number p to ∷ [] in
+    let here = (meets-kept laws k h meets).pipes pipe on in
+    let now = pipe-collected k.number h pipe to legal here in
+    let drained = collect_drains h k.number p to legal (is-open pipe.bound (entries_of p h) here.opened) all in
+    sym now.delivered
+    ∙ (drained_hands after p legal (is-open pipe.bound (entries_of p after) now.opened) drained
+    ∙ (sym (length-map (submissions (entries_of p after)) line_of) ∙ ap length now.lines))
 
 -- ---- `close`
 
@@ -323,7 +339,7 @@ shut-changed laws k l turn =
 
 pub crew-drained : Laws → (k l : Known (BoardEntry Ask)) (pipe : Pipe) (into into' : List (Callback Finished)) (r : Result (Unit {0}) BoardErr) → LegalBoard k.seen → KnowsPipe k pipe
     → MatchResult r (λ _. CrewDrained outcome pipe.number k l into into') (λ e. (e ≡ Memory) × (into' ≡ into) × Worked k l)
-    → MatchResult r (λ _. (callbacks : List (Callback Finished)) × (into' ≡ into ++ callbacks) × Drained k l pipe callbacks) (λ e. (e ≡ Memory) × Kept k l)
+    → MatchResult r (λ _. (callbacks : List (Callback Finished)) × (into' ≡ into ++ callbacks) × Drained k l pipe callbacks × (pipe.delivered + completions callbacks ≡ length pipe.lines)) (λ e. (e ≡ Memory) × Kept k l)
 crew-drained laws k l pipe into into' (Err e) legal on did =
     let w = did.2 in
     (did.0, goes-kept laws k l w.own w.goes w.work (still_kept caller_of LegalBoard k l w.own w.goes legal))
@@ -338,4 +354,5 @@ crew-drained laws k l pipe into into' (Ok done) legal on did =
       turn.2.1,
       changed-later k m l pipe pipe' (Collects pipe.number (record { notices = map (notice_by pipe.lines) callbacks; all_done = true }) ∷ []) [] kept
           (drained-changed laws m l pipe turn.0 (kept.pipes pipe on) turn.1 turn.2.0 turn.2.2),
+      drained-all laws m pipe turn.0 (kept.pipes pipe on) turn.1 turn.2.0 turn.2.2.1,
     )
