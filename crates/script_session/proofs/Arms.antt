@@ -11,13 +11,20 @@ use Rattle.dialogues.specs.Names.{driver_spec}
 use Rattle.dialogues.specs.Registering.{enlist_said, register, enlist_spec}
 use Rattle.dialogues.specs.Dialogues.{Dialogue, Ends, Says, Asks as AsksFor, says, refuses, unless}
 use Rattle.dialogues.specs.Questions.{RegQuestion, RegAnswer, Enlist, reg_call, ListAll}
-use Rattle.dialogues.specs.Walk.{Walk, Live}
+use Rattle.dialogues.specs.Walk.{Walk, Live, Pipe}
 use Rattle.alg_registry.specs.declared.listing.ListRow.{ListRow}
 use Rattle.dialogues.specs.RegistryCalls.{RegCall, Lists}
 use Rattle.script_session.specs.States.{State, Stands, Posted}
 use Rattle.session_calls.specs.Passes.{RegPass, BoardPass, known, lock_of}
-use Rattle.session_calls.specs.Asking.{Asks}
-use Rattle.script_session.specs.Holding.{Done, Holds, Stops}
+use Rattle.session_calls.specs.Asking.{Asked, Asks}
+use Rattle.session_calls.specs.Pipelines.{Called, Kept, Changed}
+use Rattle.turn_lock.specs.Turns.{Known}
+use Rattle.alg_registry.specs.declared.entry.RegEntry.{RegEntry}
+use Rattle.board.specs.declared.entry.BoardEntry.{BoardEntry}
+use Rattle.board.specs.Legal.{is_shut}
+use Rattle.transforms.specs.declared.ask.Ask.{Ask}
+use Rattle.dialogues.specs.BoardCalls.{BoardCall}
+use Rattle.script_session.specs.Holding.{HasSeenMore, SeesOn, Done, Holds, Stops}
 use Rattle.script_session.proofs.Standing.{stands-more}
 use Rattle.session_calls.proofs.Boarding.{starts-same}
 use Rattle.script_session.proofs.Rules.{says-done, asks-done}
@@ -39,18 +46,35 @@ pub or-stops : {S A : Type 0} (result : Result A S) {Says Holds Stops : Type 0} 
 or-stops (Ok done) says holds stops = holds says
 or-stops (Err stop) says holds stops = stops
 
+pub sees-same : (k : Known (BoardEntry Ask)) → SeesOn k k
+sees-same k = record { more = record { number = refl; next = refl; seen = starts-same k.seen }; unshut = λ zero_is. refl }
+
+sees-none : (k l : Known (BoardEntry Ask)) → l ≡ k → SeesOn k l
+sees-none k l same = subst (SeesOn k) (sym same) (sees-same k)
+
+-- what was called shut nothing
+pub called-sees : (k l : Known (BoardEntry Ask)) (calls : List BoardCall) → Called k l calls → (k.number ≡ 0 → is_shut l.seen ≡ is_shut k.seen) → SeesOn k l
+called-sees k l calls called unshut = record { more = record { number = called.number; next = called.next; seen = called.seen }; unshut = unshut }
+
+pub kept-sees : (k l : Known (BoardEntry Ask)) → Kept k l → SeesOn k l
+kept-sees k l kept = called-sees k l [] kept.called kept.unshut
+
+pub changed-sees : (k l : Known (BoardEntry Ask)) (pipe pipe' : Pipe) (calls : List BoardCall) (asks : List Ask) → Changed k l pipe pipe' calls asks → SeesOn k l
+changed-sees k l pipe pipe' calls asks changed = called-sees k l calls changed.called changed.unshut
+
+asked-more-seen : (k l : Known RegEntry) (calls : List RegCall) → Asked k l calls → HasSeenMore k l
+asked-more-seen k l calls asked = record { number = asked.number; next = asked.next; seen = (asked.are.more, asked.are.goes_on) }
+
 pub stops-same : (s : State) → Stands s.walk.lives (known s.registry) → Stops s s
 stops-same s stands =
-    record { locks = record { registry = refl; board = refl; workers = refl }; number = refl; registry = starts-same _; same_board = refl; board = starts-same _ }
+    record { locks = record { registry = refl; board = refl; workers = refl }; registry = record { number = refl; next = refl; seen = starts-same _ }; board = sees-none (known s.board) (known s.board) refl }
 
 pub stops-asked : (s s' : State) (calls : _) → Asks s.registry s'.registry calls → s'.board ≡ s.board → s'.workers ≡ s.workers → Stops s s'
 stops-asked s s' calls asks same same_w =
     record {
       locks = record { registry = asks.lock; board = ap lock_of same; workers = same_w };
-      number = asks.asked.number;
-      registry = (asks.asked.are.more, asks.asked.are.goes_on);
-      same_board = ap (λ b. (known b).number) same;
-      board = ([], ap (λ b. (known b).seen) same ∙ sym (append-nil (known s.board).seen));
+      registry = asked-more-seen (known s.registry) (known s'.registry) calls asks.asked;
+      board = sees-none (known s.board) (known s'.board) (ap known same);
     }
 
 -- nothing is asked

@@ -4,7 +4,7 @@ use Rattle.std.specs.Prelude.{find, ◌==◌, All, nat_lt, sum_by}
 use Rattle.std.proofs.lemmas.Slice.Eq.{bytes_eq-Decides}
 use Rattle.std.proofs.lemmas.List.Elements.{All-nil, All-cons, All-head, All-tail, All-append}
 use Rattle.std.proofs.lemmas.List.Sums.{sum_by-append}
-use Rattle.std.proofs.lemmas.Bool.{eq-eqb}
+use Rattle.std.proofs.lemmas.Bool.{eq-eqb, eqb-true}
 use Rattle.alg_registry.specs.declared.entry.RegEntry.{RegEntry}
 use Rattle.board.specs.declared.entry.BoardEntry.{BoardEntry}
 use Rattle.board.specs.Allowance.{accepted_by}
@@ -18,7 +18,7 @@ use Rattle.dialogues.specs.Dialogues.{Dialogue, for_live, with_label}
 use Rattle.dialogues.specs.Turns.{Turn, IsTurn}
 use Rattle.dialogues.specs.Walk.{Walk, Live, Pipe, is_of, live_of, with_live, replaced, without}
 use Rattle.script_session.specs.States.{HasPipe, Posted, Stands, is_at, owners}
-use Rattle.session_calls.specs.Pipelines.{Called, KnowsPipe, Kept, Changed, Closed, line_of}
+use Rattle.session_calls.specs.Pipelines.{Called, Owns, KnowsPipe, Kept, Changed, Closed, line_of}
 use Rattle.script_session.specs.Changing.{AreApart, Changes, HoldsFor, counting, close_calls, owes, Released}
 use Rattle.script_session.specs.Holding.{Done}
 use Rattle.script_session.proofs.Standing.{stands-more}
@@ -108,12 +108,34 @@ changed-posted walk label place s live' k l calls asks posted changes =
           let few = most number in
           let goal : owners number (s.before ++ live' ∷ s.later) ≤ 1 = omega (arith, new, old, one, few) in
           goal);
+      owned = λ number owns. subst (λ ls. 1 ≤ owners number ls) (sym now) (by_place number (is_at number s.live.pipe) refl owns);
       requests = ap length changes.accepted ∙ (length-append (accepted_by k.number k.seen) asks ∙ ap (λ n. n + length asks) posted.requests);
       bytes = ap (sum_by ask_size) changes.accepted ∙ (sum_by-append ask_size (accepted_by k.number k.seen) asks ∙ ap (λ n. n + sum_by ask_size asks) posted.bytes);
       unshut = λ zero_is. changes.unshut (sym changes.called.number ∙ zero_is) ∙ posted.unshut (sym changes.called.number ∙ zero_is);
     }
+  where
+    by_place : (number : ℕ) (t : Bool) → is_at number s.live.pipe ≡ t → Owns l number → 1 ≤ owners number (s.before ++ live' ∷ s.later)
+    by_place number true at owns =
+        let new = owners-append number s.before (live' ∷ s.later) in
+        let counted : Bool → ℕ = λ t. cond t 1 0 in
+        let one : counted (is_at number live'.pipe) ≡ 1 = ap counted (changes.same number ∙ at) in
+        omega (arith, new, one)
+    by_place number false at owns =
+        let new = owners-append number s.before (live' ∷ s.later) in
+        let old = owners-append number s.before (s.live ∷ s.later) in
+        let counted : Bool → ℕ = λ t. cond t 1 0 in
+        let one : counted (is_at number live'.pipe) ≡ counted (is_at number s.live.pipe) = ap counted (changes.same number) in
+        let had : 1 ≤ owners number (s.before ++ s.live ∷ s.later) = subst (λ ls. 1 ≤ owners number ls) s.lives_is (posted.owned number (changes.owned number at owns)) in
+        omega (arith, new, old, one, had)
 
 -- ---- by what the board's caller says of the pipeline
+
+pub eq-swap : (a b : ℕ) → (a == b) ≡ false → (b == a) ≡ false
+eq-swap a b apart = by_test (b == a) refl
+  where
+    by_test : (t : Bool) → (b == a) ≡ t → t ≡ false
+    by_test false same = refl
+    by_test true same = let yes : (a == b) ≡ true = eq-eqb a b (sym (eqb-true b a same)) in sym yes ∙ apart
 
 apart-of : (pipe other : Pipe) → AreApart (Some pipe) (Some other) → (other.number == pipe.number) ≡ false
 apart-of pipe other apart = by_test (other.number == pipe.number) refl
@@ -133,6 +155,7 @@ changes-pipe live k l pipe pipe' calls asks has changed =
       legal = changed.legal;
       pipe = changed.now;
       others = λ other apart on. by_other other (subst (λ o. AreApart o other) has apart) on;
+      owned = λ number at owns. changed.owned number (eq-swap pipe.number number (ap (is_at number) (sym has) ∙ at)) owns;
       accepted = changed.accepted;
       unshut = changed.unshut;
     }
@@ -151,6 +174,7 @@ changes-kept live k l on kept =
       legal = kept.legal;
       pipe = stays live.pipe on;
       others = λ other apart was. stays other was;
+      owned = λ number at owns. kept.owned number owns;
       accepted = kept.accepted ∙ sym (append-nil (accepted_by k.number k.seen));
       unshut = kept.unshut;
     }
@@ -197,6 +221,14 @@ released-posted walk label place s k l posted released =
           let few = most number in
           let goal : owners number (s.before ++ s.later) ≤ 1 = omega (arith, new, old, few) in
           goal);
+      owned = λ number owns. subst (λ ls. 1 ≤ owners number ls) (sym s.removes)
+          (let new = owners-append number s.before s.later in
+          let old = owners-append number s.before (s.live ∷ s.later) in
+          let counted : Bool → ℕ = λ t. cond t 1 0 in
+          let none : counted (is_at number s.live.pipe) ≡ 0 = ap counted (released.owned number owns).1 in
+          let had : 1 ≤ owners number (s.before ++ s.live ∷ s.later) = subst (λ ls. 1 ≤ owners number ls) s.lives_is (posted.owned number (released.owned number owns).0) in
+          let goal : 1 ≤ owners number (s.before ++ s.later) = omega (arith, new, old, none, had) in
+          goal);
       requests = ap length released.accepted ∙ posted.requests;
       bytes = ap (sum_by ask_size) released.accepted ∙ posted.bytes;
       unshut = λ zero_is. released.unshut (sym released.called.number ∙ zero_is) ∙ posted.unshut (sym released.called.number ∙ zero_is);
@@ -209,6 +241,7 @@ released-none live k none legal =
       called = subst (λ p. Called k k (close_calls p)) (sym none) same.called;
       legal = legal;
       others = λ other apart on. on;
+      owned = λ number owns. (owns, ap (is_at number) none);
       accepted = refl;
       unshut = λ zero_is. refl;
     }
@@ -219,6 +252,7 @@ released-closed live pipe k l has closed =
       called = subst (λ p. Called k l (close_calls p)) (sym has) closed.called;
       legal = closed.legal;
       others = λ other apart on. by_other other (subst (λ o. AreApart o other) has apart) on;
+      owned = λ number owns. ((closed.owned number owns).0, ap (is_at number) has ∙ eq-swap number pipe.number (closed.owned number owns).1);
       accepted = closed.accepted;
       unshut = closed.unshut;
     }

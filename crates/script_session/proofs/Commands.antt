@@ -61,14 +61,15 @@ nothing-holds s answers stands posted =
     }
 
 -- what was held is a stop where its text found no memory
-pub holds-stops : (d : Dialogue) (s s' : State) (answers answers' : List Answer) → Holds d s s' answers answers' → Stops s s'
-holds-stops d s s' answers answers' held =
+pub holds-stops : (d : Dialogue) (s s' : State) (answers answers' : List Answer) → Posted s.walk (known s.board) → Holds d s s' answers answers' → Stops s s'
+holds-stops d s s' answers answers' posted held =
     record {
       locks = held.locks;
-      number = held.done.asked.number;
-      registry = (held.done.asked.are.more, held.done.asked.are.goes_on);
-      same_board = held.done.called.number;
-      board = held.done.called.seen;
+      registry = record { number = held.done.asked.number; next = held.done.asked.next; seen = (held.done.asked.are.more, held.done.asked.are.goes_on) };
+      board = record {
+        more = record { number = held.done.called.number; next = held.done.called.next; seen = held.done.called.seen };
+        unshut = λ zero_is. held.done.posted.unshut (held.done.called.number ∙ zero_is) ∙ sym (posted.unshut zero_is);
+      };
     }
 
 pub replies : (d : Dialogue) (s s' : State) (answers : List Answer) (text text' : List ℕ) → Holds d s s' [] answers → text' ≡ text ++ flat_map text_of answers → Replies d s s' text text'

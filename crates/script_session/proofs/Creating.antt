@@ -13,7 +13,7 @@ use Rattle.transforms.specs.AskValue.{ask_size}
 use Rattle.turn_lock.specs.Turns.{Known}
 use Rattle.dialogues.specs.Allocating.{new_pipe, new_live, and_live}
 use Rattle.dialogues.specs.Walk.{Walk, Live, Pipe}
-use Rattle.session_calls.specs.Pipelines.{Opened}
+use Rattle.session_calls.specs.Pipelines.{Opened, Owns}
 use Rattle.script_session.specs.Creating.{Created}
 use Rattle.script_session.specs.States.{HasPipe, Posted, is_at, owners}
 use Rattle.script_session.proofs.Changing.{IsOn, owners-append}
@@ -61,6 +61,11 @@ created-posted walk label id plan None pipe k l posted created =
           let few = posted.apart number in
           let goal : owners number (walk.lives ++ live ∷ []) ≤ 1 = omega (arith, all, none, few) in
           goal);
+      owned = λ number owns.
+          (let all = owners-append number walk.lives (live ∷ []) in
+          let had = posted.owned number owns in
+          let goal : 1 ≤ owners number (walk.lives ++ live ∷ []) = omega (arith, all, had) in
+          goal);
       requests = posted.requests;
       bytes = posted.bytes;
       unshut = posted.unshut;
@@ -81,8 +86,23 @@ created-posted walk label id plan (Some shape) pipe k l posted created =
           let few = own-or-free (number == n) (owners n walk.lives) (posted.apart n) (λ same_n. ap (λ m. owners m walk.lives) (sym (eqb-true number n same_n)) ∙ free) in
           let goal : owners n (walk.lives ++ live ∷ []) ≤ 1 = omega (arith, all, few) in
           goal);
+      owned = λ n owns. by_number n (number == n) refl owns;
       requests = ap length same ∙ posted.requests;
       bytes = ap (sum_by ask_size) same ∙ posted.bytes;
       unshut = λ zero_is. changed.unshut (sym changed.called.number ∙ zero_is) ∙ posted.unshut (sym changed.called.number ∙ zero_is);
     } in
     subst (λ p. Posted (and_live walk (new_live label id plan p)) l) (sym created.1) there
+  where
+    made : Live
+    made = new_live label id plan (Some (new_pipe created.0 shape))
+
+    by_number : (n : ℕ) (t : Bool) → (created.0 == n) ≡ t → Owns l n → 1 ≤ owners n (walk.lives ++ made ∷ [])
+    by_number n true same owns =
+        let all = owners-append n walk.lives (made ∷ []) in
+        let counted : Bool → ℕ = λ t. cond t 1 0 in
+        let one : counted (is_at n made.pipe) ≡ 1 = ap counted same in
+        omega (arith, all, one)
+    by_number n false apart owns =
+        let all = owners-append n walk.lives (made ∷ []) in
+        let had = posted.owned n (created.2.changed.owned n (eq-swap created.0 n apart) owns) in
+        omega (arith, all, had)

@@ -1,16 +1,21 @@
 -- What the end of input makes of one transform, and of a session.
-use Rattle.std.proofs.Common.{◌≡◌, ℕ, ◌+◌, Bool, true, false, List, [], ◌∷◌, ◌++◌, length, map, Option, Some, None, refl, sym, ap, subst, ◌∙◌, append-nil}
+use Rattle.std.proofs.Common.{◌≡◌, ℕ, ◌+◌, ◌≤◌, Bool, true, false, cond, arith, List, [], ◌∷◌, ◌++◌, length, map, Option, Some, None, refl, sym, ap, subst, ◌∙◌, append-nil}
+use Rattle.std.specs.Prelude.{All}
 use Rattle.std.specs.Option.{option_map}
 use Rattle.std.specs.List.{flat_map}
+use Rattle.std.proofs.lemmas.Bool.{eqb-true}
+use Rattle.std.proofs.lemmas.List.Elements.{All-head, All-tail}
 use Rattle.kc_base.specs.declared.callback_list.Callback.{Callback}
 use Rattle.board.specs.declared.entry.BoardEntry.{BoardEntry}
+use Rattle.board.specs.declared.entry.BoardEntry.TheVariants as event
+use Rattle.board.specs.Entries.{entries_of, submissions, front}
 use Rattle.board.specs.Handing.{completions}
-use Rattle.board.specs.Legal.{LegalBoard}
+use Rattle.board.specs.Legal.{MayManage, LegalBoard}
 use Rattle.reply_text.specs.Answers.{text_of}
 use Rattle.reply_text.specs.declared.answers.Answer.{Answer}
 use Rattle.transforms.specs.declared.ask.Ask.{Ask}
 use Rattle.transforms.specs.declared.request.Finished.{Finished}
-use Rattle.turn_lock.specs.Turns.{Known}
+use Rattle.turn_lock.specs.Turns.{Known, sees}
 use Rattle.dialogues.specs.BoardCalls.{BoardCall, Goes, Collects, Shuts}
 use Rattle.dialogues.specs.Dialogues.{Dialogue, Ends, Posts}
 use Rattle.dialogues.specs.Piping.{lets_go, let_all_go, drains_at_end, drain_all, end, said_at_end, notice_said, completions as completed_in}
@@ -19,14 +24,15 @@ use Rattle.dialogues.specs.Turns.{Turn, IsTurn, ended, joined, posting}
 use Rattle.dialogues.specs.Walk.{Walk, Live, Pipe}
 use Rattle.session_calls.specs.Asking.{Asked}
 use Rattle.session_calls.specs.Passes.{known}
-use Rattle.session_calls.specs.Pipelines.{KnowsPipe, Called, Changed, Drained, notice_by}
+use Rattle.session_calls.specs.Pipelines.{KnowsPipe, Called, Changed, Drained, IsShut, notice_by}
+use Rattle.session_calls.proofs.BoardCalls.{all-drained}
 use Rattle.session_calls.proofs.Boarding.{kept-same, called-more}
 use Rattle.script_session.specs.Changing.{Changes}
-use Rattle.script_session.specs.Ending.{LeadsBy, part, Moves, MovesAll, IsPaid, end_said, place_of, AnswersEnd}
+use Rattle.script_session.specs.Ending.{LeadsBy, part, Moves, MovesAll, ArePosted, AreAllPaid, IsPaid, end_said, place_of, AnswersEnd, EndsShut}
 use Rattle.script_session.specs.Keyed.{held_as, delivering}
-use Rattle.script_session.specs.States.{State, SameLocks, Stands, HasPipe}
+use Rattle.script_session.specs.States.{State, SameLocks, Stands, HasPipe, is_at, owners}
 use Rattle.script_session.specs.Telling.{callback_said}
-use Rattle.script_session.proofs.Changing.{changes-pipe, changes-kept}
+use Rattle.script_session.proofs.Changing.{IsOn, changes-pipe, changes-kept}
 use Rattle.script_session.proofs.Leading.{leads-same, goes-held, drains-some, drains-same}
 use Rattle.script_session.proofs.Piped.{held-live, said-is, count-is, delivered-live}
 use Rattle.script_session.proofs.Rules.{asked-nothing}
@@ -119,4 +125,34 @@ end-answers s s' gone lives' k l answers text text' locks same stands lets drain
           put
           ∙ ap (λ xs. text ++ flat_map text_of xs)
           (drains.says ∙ (sym (append-nil drains.said) ∙ ap (λ xs. xs ++ (drains.said ++ [])) lets.says));
+    }
+
+-- ---- each pipeline is finished
+
+-- who owns a pipeline has it among these
+among : (lives : List Live) (p : ℕ) (k : Known (BoardEntry Ask)) → 1 ≤ owners p lives → All (IsOn k) lives → AreAllPaid lives → (pipe : Pipe) × (pipe.number ≡ p) × KnowsPipe k pipe × (pipe.delivered ≡ length pipe.lines)
+among [] p k some on paid = absurd (omega (arith, some))
+among (x ∷ xs) p k some on paid = by_pipe x.pipe (is_at p x.pipe) refl some (All-head (IsOn k) x xs on) (All-head (λ (l : Live). IsPaid l.pipe) x xs paid) (λ rest. among xs p k rest (All-tail (IsOn k) x xs on) (All-tail (λ (l : Live). IsPaid l.pipe) x xs paid))
+  where
+    by_pipe : (pipe : Option Pipe) (t : Bool) → is_at p pipe ≡ t → 1 ≤ cond t 1 0 + owners p xs → HasPipe k pipe → IsPaid pipe → (1 ≤ owners p xs → (pipe : Pipe) × (pipe.number ≡ p) × KnowsPipe k pipe × (pipe.delivered ≡ length pipe.lines))
+        → (pipe : Pipe) × (pipe.number ≡ p) × KnowsPipe k pipe × (pipe.delivered ≡ length pipe.lines)
+    by_pipe None true at some on paid rest = absurd (let e = at in cc)
+    by_pipe (Some pipe) true at some on paid rest = (pipe, eqb-true pipe.number p at, on, paid)
+    by_pipe pipe false at some on paid rest = rest (omega (arith, some))
+
+pub ends-shut : (lives : List Live) (k l : Known (BoardEntry Ask)) → ArePosted lives k → AreAllPaid lives → IsShut k l → EndsShut l
+ends-shut lives k l are paid shut =
+    let before = shut.before in
+    let m : Known (BoardEntry Ask) = sees k before in
+    let same = shut.called.number in
+    record {
+      before = before;
+      shut = shut.last ∙ ap (λ n. before ++ event.Shut n ∷ []) (sym same);
+      finished = λ p may open_ended.
+          let owns = shut.kept.owned p (subst (MayManage (entries_of p before)) same may, open_ended) in
+          let some : 1 ≤ owners p lives = subst (λ ls. 1 ≤ owners p ls) are.1 (are.2.owned p owns) in
+          let one = among lives p k some (subst (All (IsOn k)) are.1 are.2.pipes) paid in
+          let pipe = one.0 in
+          let drained = all-drained m pipe shut.kept.legal (shut.kept.pipes pipe one.2) one.3 in
+          subst (λ n. front (entries_of n before) ≡ length (submissions (entries_of n before))) one.1 drained.0;
     }

@@ -13,7 +13,7 @@ use Rattle.reply_text.specs.declared.answers.Answer.TheVariants as said
 use Rattle.templates.specs.declared.driver_plans.Plan.{Plan}
 use Rattle.templates.specs.Looking.{Entry, Fault}
 use Rattle.transforms.specs.declared.ask.Ask.{Ask}
-use Rattle.turn_lock.specs.Turns.{Known, StartsWith}
+use Rattle.turn_lock.specs.Turns.{Known}
 use Rattle.dialogues.specs.Names.{plan_for}
 use Rattle.dialogues.specs.RegistryCalls.{RegCall, Looks, Gets}
 use Rattle.dialogues.specs.Allocating.{binds, binds_plan, creates, shape_for, new_pipe, new_live, and_live}
@@ -22,12 +22,12 @@ use Rattle.dialogues.specs.Questions.{Look, Get, Create}
 use Rattle.dialogues.specs.Walk.{Walk, Live, Pipe}
 use Rattle.session_calls.specs.Asking.{Asked, Asks, SeesMore, Finds}
 use Rattle.session_calls.specs.Passes.{RegPass, BoardPass, known, lock_of}
-use Rattle.session_calls.proofs.Boarding.{starts-same, starts-trans}
+use Rattle.session_calls.proofs.Boarding.{starts-trans}
 use Rattle.script_session.specs.Creating.{Created}
 use Rattle.script_session.specs.Finding.{looks}
-use Rattle.script_session.specs.Holding.{SeesOn, Done, Holds, Stops}
+use Rattle.script_session.specs.Holding.{HasSeenMore, SeesOn, Done, Holds, Stops}
 use Rattle.script_session.specs.States.{State, Stands, Posted, uses}
-use Rattle.script_session.proofs.Arms.{viewed}
+use Rattle.script_session.proofs.Arms.{viewed, sees-same, called-sees}
 use Rattle.script_session.proofs.Creating.{created-posted}
 use Rattle.script_session.proofs.Rules.{says-done, asks-done, posts-done, asked-more}
 use Rattle.script_session.proofs.Standing.{stands-more}
@@ -92,17 +92,20 @@ bind-lost workers walk n label len id spec plan k k2 b answers answers' plans go
 -- ---- what is seen goes on
 
 pub sees-asked : {r r' : Option RegPass} (calls : List RegCall) → Asks r r' calls → SeesMore r r'
-sees-asked calls asks = record { lock = asks.lock; number = asks.asked.number; seen = (asks.asked.are.more, asks.asked.are.goes_on) }
+sees-asked calls asks = record { lock = asks.lock; number = asks.asked.number; next = asks.asked.next; seen = (asks.asked.are.more, asks.asked.are.goes_on) }
+
+pub has-seen-more : {r r' : Option RegPass} → SeesMore r r' → HasSeenMore (known r) (known r')
+has-seen-more more = record { number = more.number; next = more.next; seen = more.seen }
+
+pub seen-more-then : {E : Type 0} (k l m : Known E) → HasSeenMore k l → HasSeenMore l m → HasSeenMore k m
+seen-more-then k l m a b = record { number = b.number ∙ a.number; next = b.next ∙ a.next; seen = starts-trans k.seen l.seen m.seen a.seen b.seen }
 
 pub sees-then : {r r1 r2 : Option RegPass} → SeesMore r r1 → SeesMore r1 r2 → SeesMore r r2
-sees-then {r} {r1} {r2} a b = record { lock = b.lock ∙ a.lock; number = b.number ∙ a.number; seen = starts-trans (known r).seen (known r1).seen (known r2).seen a.seen b.seen }
-
-pub sees-same : (k : Known (BoardEntry Ask)) → SeesOn k k
-sees-same k = (refl, starts-same k.seen)
+sees-then {r} {r1} {r2} a b = record { lock = b.lock ∙ a.lock; number = b.number ∙ a.number; next = b.next ∙ a.next; seen = starts-trans (known r).seen (known r1).seen (known r2).seen a.seen b.seen }
 
 pub created-sees : (shape : Option Shape) (pipe : Option Pipe) (k l : Known (BoardEntry Ask)) → Created shape pipe k l → SeesOn k l
 created-sees None pipe k l created = subst (SeesOn k) (sym created.1) (sees-same k)
-created-sees (Some shape) pipe k l created = (created.2.changed.called.number, created.2.changed.called.seen)
+created-sees (Some shape) pipe k l created = called-sees k l _ created.2.changed.called created.2.changed.unshut
 
 -- a reference was taken, or not
 pub asks-got : {r r' : Option RegPass} (id : ℕ) (ok t : Bool) → ok ≡ t → Asks r r' (Gets id ok ∷ []) → Asks r r' (Gets id t ∷ [])
@@ -127,10 +130,8 @@ module _ {ws c : ℕ} {lives : List Live} {q v : ℕ} {r : Option RegPass} {b : 
   further {r'} {b'} lives' more lock on =
       record {
         locks = record { registry = more.lock ∙ ap (λ (x : State). lock_of x.registry) view; board = lock ∙ ap (λ (x : State). lock_of x.board) view; workers = ap (λ (x : State). x.workers) view };
-        number = more.number ∙ ap (λ (x : State). (known x.registry).number) view;
-        registry = subst (λ (x : State). StartsWith (known r').seen (known x.registry).seen) view more.seen;
-        same_board = on.0 ∙ ap (λ (x : State). (known x.board).number) view;
-        board = subst (λ (x : State). StartsWith (known b').seen (known x.board).seen) view on.1;
+        registry = subst (λ (x : State). HasSeenMore (known x.registry) (known r')) view (has-seen-more more);
+        board = subst (λ (x : State). SeesOn (known x.board) (known b')) view on;
       }
 
   -- the same after the registry was asked
@@ -138,10 +139,8 @@ module _ {ws c : ℕ} {lives : List Live} {q v : ℕ} {r : Option RegPass} {b : 
   further-still {r'} s' more stops =
       record {
         locks = record { registry = stops.locks.registry ∙ (more.lock ∙ ap (λ (x : State). lock_of x.registry) view); board = stops.locks.board ∙ ap (λ (x : State). lock_of x.board) view; workers = stops.locks.workers ∙ ap (λ (x : State). x.workers) view };
-        number = stops.number ∙ (more.number ∙ ap (λ (x : State). (known x.registry).number) view);
-        registry = subst (λ (x : State). StartsWith (known s'.registry).seen (known x.registry).seen) view (starts-trans (known r).seen (known r').seen (known s'.registry).seen more.seen stops.registry);
-        same_board = stops.same_board ∙ ap (λ (x : State). (known x.board).number) view;
-        board = subst (λ (x : State). StartsWith (known s'.board).seen (known x.board).seen) view stops.board;
+        registry = subst (λ (x : State). HasSeenMore (known x.registry) (known s'.registry)) view (seen-more-then (known r) (known r') (known s'.registry) (has-seen-more more) stops.registry);
+        board = subst (λ (x : State). SeesOn (known x.board) (known s'.board)) view stops.board;
       }
 
   pub bound-arm : {r' r2 : Option RegPass} {b' : Option BoardPass} {items : List Live} (n : ℕ) (label : List ℕ) (len : Option ℕ) (id : ℕ) (spec : Spec) (plan : Plan) (pipe : Option Pipe) (answers answers' : List Answer)

@@ -8,13 +8,13 @@ use Rattle.board.specs.declared.entry.BoardEntry.{BoardEntry}
 use Rattle.reply_text.specs.declared.answers.Answer.{Answer}
 use Rattle.transforms.specs.declared.ask.Ask.{Ask}
 use Rattle.transforms.specs.AskValue.{ask_size}
-use Rattle.turn_lock.specs.Turns.{Known, StartsWith}
+use Rattle.turn_lock.specs.Turns.{Known}
 use Rattle.dialogues.specs.Dialogues.{Dialogue, with_label}
 use Rattle.dialogues.specs.Walk.{Walk, Live, is_of, live_of, with_live, replaced}
 use Rattle.script_session.specs.States.{State, counted, HasPipe, Posted, Stands}
 use Rattle.session_calls.specs.Passes.{RegPass, BoardPass, known, lock_of}
 use Rattle.script_session.specs.Changing.{HoldsFor, counting, asks_if}
-use Rattle.script_session.specs.Holding.{SeesOn, Done, Holds, Stops}
+use Rattle.script_session.specs.Holding.{HasSeenMore, SeesOn, Done, Holds, Stops}
 use Rattle.script_session.proofs.Arms.{viewed}
 use Rattle.script_session.proofs.Changing.{IsOn, All-right, replaced-at, live-done}
 use Rattle.script_session.proofs.Placed.{Split, split-at, none-at, split-set, split-within, split-live}
@@ -73,10 +73,8 @@ module _ {ws c : ℕ} {items : List Live} {q v : ℕ} {r : Option RegPass} {b : 
   live-stops place new q' v' b' lock stands more =
       record {
         locks = record { registry = ap (λ (x : State). lock_of x.registry) view; board = lock ∙ ap (λ (x : State). lock_of x.board) view; workers = ap (λ (x : State). x.workers) view };
-        number = ap (λ (x : State). (known x.registry).number) view;
-        registry = subst (λ (x : State). StartsWith (known r).seen (known x.registry).seen) view (starts-same (known r).seen);
-        same_board = more.0 ∙ ap (λ (x : State). (known x.board).number) view;
-        board = subst (λ (x : State). StartsWith (known b').seen (known x.board).seen) view more.1;
+        registry = subst (λ (x : State). HasSeenMore (known x.registry) (known r)) view (record { number = refl; next = refl; seen = starts-same (known r).seen });
+        board = subst (λ (x : State). SeesOn (known x.board) (known b')) view more;
       }
 
   -- the same of an arm that hands nothing in

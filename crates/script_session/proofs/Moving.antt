@@ -14,6 +14,7 @@ use Rattle.turn_lock.specs.Turns.{Known}
 use Rattle.dialogues.specs.BoardCalls.{BoardCall}
 use Rattle.dialogues.specs.Dialogues.{Dialogue}
 use Rattle.dialogues.specs.Walk.{Walk, Live, Pipe}
+use Rattle.session_calls.specs.Pipelines.{Owns}
 use Rattle.session_calls.proofs.Boarding.{kept-same, called-more}
 use Rattle.script_session.specs.Changing.{Changes}
 use Rattle.script_session.specs.Ending.{LeadsBy, Moves, MovesAll, ArePosted, AreAllPaid, IsPaid, place_of}
@@ -46,10 +47,25 @@ one-posted before later live live' k l calls are changes =
           let few = most number in
           let goal : owners number now ≤ 1 = omega (arith, new, old, one, few) in
           goal);
+      owned = λ number owns. by_place number (is_at number live.pipe) refl owns;
       requests = ap length same ∙ posted.requests;
       bytes = ap (sum_by ask_size) same ∙ posted.bytes;
       unshut = λ zero_is. changes.unshut (sym changes.called.number ∙ zero_is) ∙ posted.unshut (sym changes.called.number ∙ zero_is);
     })
+  where
+    by_place : (number : ℕ) (t : Bool) → is_at number live.pipe ≡ t → Owns l number → 1 ≤ owners number (before ++ live' ∷ later)
+    by_place number true at owns =
+        let new = owners-append number before (live' ∷ later) in
+        let counted : Bool → ℕ = λ t. cond t 1 0 in
+        let one : counted (is_at number live'.pipe) ≡ 1 = ap counted (changes.same number ∙ at) in
+        omega (arith, new, one)
+    by_place number false at owns =
+        let new = owners-append number before (live' ∷ later) in
+        let old = owners-append number before (live ∷ later) in
+        let counted : Bool → ℕ = λ t. cond t 1 0 in
+        let one : counted (is_at number live'.pipe) ≡ counted (is_at number live.pipe) = ap counted (changes.same number) in
+        let had : 1 ≤ owners number (before ++ live ∷ later) = subst (λ ls. 1 ≤ owners number ls) are.1 (are.2.owned number (changes.owned number at owns)) in
+        omega (arith, new, old, one, had)
 
 -- ---- a loop over all of them
 

@@ -254,6 +254,7 @@ says-changed d live live' k answer answers answers' on legal label id pipe is e 
         legal = none.legal;
         pipe = subst (HasPipe k) (sym pipe) on;
         others = none.others;
+        owned = none.owned;
         accepted = none.accepted;
         unshut = none.unshut;
       };

@@ -31,6 +31,7 @@ pub asked-nothing : (k : Known RegEntry) → IsCaller k → Asked k k []
 asked-nothing k caller =
     record {
       number = refl;
+      next = refl;
       in_turn = no_call k.number k.seen;
       are = record {
         more = [];
@@ -49,6 +50,7 @@ asked-more k l m a b first later =
     let are : AreCalls n b l.seen m.seen = subst (λ x. AreCalls x b l.seen m.seen) first.number later.are in
     record {
       number = later.number ∙ first.number;
+      next = later.next ∙ first.next;
       in_turn = one_after n a b k.seen l.seen m.seen first.in_turn turns;
       are = record {
         more = first.are.more ++ are.more;
@@ -61,7 +63,7 @@ asked-more k l m a b first later =
     }
 
 pub called-nothing : (k : Known (BoardEntry Ask)) → Called k k []
-called-nothing k = record { number = refl; seen = starts-same k.seen; calls_are = sym (append-nil (board_calls k.number k.seen)) }
+called-nothing k = record { number = refl; next = refl; seen = starts-same k.seen; calls_are = sym (append-nil (board_calls k.number k.seen)) }
 
 -- ---- the call by which a question is answered answers it
 

@@ -11,7 +11,7 @@ use Rattle.dialogues.specs.BoardCalls.{BoardCall, Closes}
 use Rattle.dialogues.specs.Dialogues.{Dialogue}
 use Rattle.dialogues.specs.Turns.{IsTurn}
 use Rattle.dialogues.specs.Walk.{Walk, Live, Pipe, live_of, with_live}
-use Rattle.session_calls.specs.Pipelines.{Called}
+use Rattle.session_calls.specs.Pipelines.{Called, Owns}
 use Rattle.script_session.specs.States.{HasPipe, Posted, is_at}
 
 -- two pipelines, if there are two, have different numbers
@@ -28,6 +28,7 @@ pub record Changes (live live' : Live) (k l : Known (BoardEntry Ask)) (calls : L
   pub legal : LegalBoard l.seen
   pub pipe : HasPipe l live'.pipe
   pub others : (other : Option Pipe) → AreApart live.pipe other → HasPipe k other → HasPipe l other
+  pub owned : (number : ℕ) → is_at number live.pipe ≡ false → Owns l number → Owns k number
   pub accepted : accepted_by l.number l.seen ≡ accepted_by k.number k.seen ++ asks
   pub unshut : k.number ≡ 0 → is_shut l.seen ≡ is_shut k.seen
 
@@ -66,5 +67,6 @@ pub record Released (live : Live) (k l : Known (BoardEntry Ask)) : Type 0 where
   pub called : Called k l (close_calls live.pipe)
   pub legal : LegalBoard l.seen
   pub others : (other : Option Pipe) → AreApart live.pipe other → HasPipe k other → HasPipe l other
+  pub owned : (number : ℕ) → Owns l number → Owns k number × (is_at number live.pipe ≡ false)
   pub accepted : accepted_by l.number l.seen ≡ accepted_by k.number k.seen
   pub unshut : k.number ≡ 0 → is_shut l.seen ≡ is_shut k.seen

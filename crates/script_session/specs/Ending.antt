@@ -1,7 +1,10 @@
 -- The end of input: held pipelines are let go, each is drained, and then the board is shut.
-use Rattle.std.specs.Prelude.{ℕ, ◌+◌, ◌==◌, if◌then◌else◌, ◌≡◌, List, [], ◌∷◌, ◌++◌, length, map, Option, Some, None, ⊤, All}
+use Rattle.std.specs.Prelude.{ℕ, ◌==◌, if◌then◌else◌, ◌≡◌, false, List, [], ◌∷◌, ◌++◌, length, map, Option, Some, None, ⊤, All}
 use Rattle.std.specs.Option.{option_map}
 use Rattle.board.specs.declared.entry.BoardEntry.{BoardEntry}
+use Rattle.board.specs.declared.entry.BoardEntry.TheVariants.{Shut}
+use Rattle.board.specs.Entries.{entries_of, submissions, front, is_closed}
+use Rattle.board.specs.Legal.{MayManage}
 use Rattle.transforms.specs.declared.ask.Ask.{Ask}
 use Rattle.reply_text.specs.declared.answers.Answer.{Answer}
 use Rattle.reply_text.specs.declared.answers.Answer.TheVariants as said
@@ -85,3 +88,9 @@ pub record AnswersEnd (s s' : State) (text text' : List ℕ) : Type 0 where
   pub called : Called (known s.board) (known s'.board) turn.board
   pub ends : turn.after ≡ Some s.walk
   pub says : text' ≡ text ++ text_in turn
+
+-- The caller shut the board last. Each pipeline that it made and hasn't closed was finished by then: so is each request of it.
+pub record EndsShut (k : Known (BoardEntry Ask)) : Type 0 where
+  pub before : List (BoardEntry Ask)
+  pub shut : k.seen ≡ before ++ Shut k.number ∷ []
+  pub finished : (p : ℕ) → MayManage (entries_of p before) k.number → is_closed (entries_of p before) ≡ false → front (entries_of p before) ≡ length (submissions (entries_of p before))

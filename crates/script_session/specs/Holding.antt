@@ -1,7 +1,8 @@
 -- A dialogue that a session held.
-use Rattle.std.specs.Prelude.{◌≡◌, List, ◌++◌, Some}
+use Rattle.std.specs.Prelude.{◌≡◌, ℕ, List, ◌++◌, Some}
 use Rattle.alg_registry.specs.declared.entry.RegEntry.{RegEntry}
 use Rattle.board.specs.declared.entry.BoardEntry.{BoardEntry}
+use Rattle.board.specs.Legal.{is_shut}
 use Rattle.reply_text.specs.declared.answers.Answer.{Answer}
 use Rattle.transforms.specs.declared.ask.Ask.{Ask}
 use Rattle.turn_lock.specs.Turns.{Known, StartsWith}
@@ -30,14 +31,19 @@ pub record Holds (dialogue : Dialogue) (s s' : State) (answers answers' : List A
   pub locks : SameLocks s s'
   pub done : Done dialogue (known s.registry) (known s.board) (known s'.registry) (known s'.board) s'.walk answers answers'
 
+-- a caller has seen more
+pub record HasSeenMore {E : Type 0} (k l : Known E) : Type 0 where
+  pub number : l.number ≡ k.number
+  pub next : l.next ≡ k.next
+  pub seen : StartsWith l.seen k.seen
+
+-- a caller of the board has seen more, and hasn't shut it
+pub record SeesOn (k l : Known (BoardEntry Ask)) : Type 0 where
+  pub more : HasSeenMore k l
+  pub unshut : k.number ≡ 0 → is_shut l.seen ≡ is_shut k.seen
+
 -- The session goes no further: its passes have seen more.
 pub record Stops (s s' : State) : Type 0 where
   pub locks : SameLocks s s'
-  pub number : (known s'.registry).number ≡ (known s.registry).number
-  pub registry : StartsWith (known s'.registry).seen (known s.registry).seen
-  pub same_board : (known s'.board).number ≡ (known s.board).number
-  pub board : StartsWith (known s'.board).seen (known s.board).seen
-
--- a caller has seen more
-abbrev pub SeesOn : {E : Type 0} → Known E → Known E → Type 0
-SeesOn k l = (l.number ≡ k.number) × StartsWith l.seen k.seen
+  pub registry : HasSeenMore (known s.registry) (known s'.registry)
+  pub board : SeesOn (known s.board) (known s'.board)

@@ -12,7 +12,7 @@ use Rattle.dialogues.specs.RegistryCalls.{reg_calls}
 use Rattle.dialogues.specs.Walk.{Walk, Live, Pipe}
 use Rattle.session_calls.specs.Asking.{IsCaller}
 use Rattle.session_calls.specs.Passes.{RegPass, BoardPass, lock_of}
-use Rattle.session_calls.specs.Pipelines.{KnowsPipe}
+use Rattle.session_calls.specs.Pipelines.{KnowsPipe, Owns}
 
 -- how many live transforms stand on the entry
 abbrev pub uses : ℕ → List Live → ℕ
@@ -38,12 +38,14 @@ abbrev pub owners : ℕ → List Live → ℕ
 owners number [] = 0
 owners number (live ∷ lives) = (if is_at number live.pipe then 1 else 0) + owners number lives
 
--- The live transforms' pipelines are as the caller knows them, no two share one, and so many requests and bytes were accepted.
+-- The live transforms' pipelines are as the caller knows them, no two share one, it has no other that is open, and so many
+-- requests and bytes were accepted.
 pub record Posted (walk : Walk) (k : Known (BoardEntry Ask)) : Type 0 where
   pub outsider : IsNoWorker k.number
   pub legal : LegalBoard k.seen
   pub pipes : All (λ (live : Live). HasPipe k live.pipe) walk.lives
   pub apart : (number : ℕ) → owners number walk.lives ≤ 1
+  pub owned : (number : ℕ) → Owns k number → 1 ≤ owners number walk.lives
   pub requests : length (accepted_by k.number k.seen) ≡ walk.requests
   pub bytes : sum_by ask_size (accepted_by k.number k.seen) ≡ walk.bytes
   pub unshut : k.number ≡ 0 → is_shut k.seen ≡ false

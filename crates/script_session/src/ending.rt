@@ -3,7 +3,7 @@
 ghost use Rattle.std.specs.Prelude.{◌≡◌, ◌++◌, [], OnOk, OnErr, MatchResult};
 ghost use Rattle.board.specs.Legal.{LegalBoard};
 ghost use Rattle.dialogues.specs.Piping.{lets_go, let_all_go, drains_at_end, drain_all};
-ghost use Rattle.script_session.specs.Ending.{Moves, MovesAll, ArePosted, AreAllPaid, IsPaid, end_said, AnswersEnd};
+ghost use Rattle.script_session.specs.Ending.{Moves, MovesAll, ArePosted, AreAllPaid, IsPaid, end_said, AnswersEnd, EndsShut};
 ghost use Rattle.script_session.specs.Holding.{SeesOn, Stops};
 ghost use Rattle.script_session.specs.States.{HasPipe, Stands, Posted};
 ghost use Rattle.session_calls.specs.Passes.{known, lock_of, CallsBoard};
@@ -160,6 +160,7 @@ impl Session {
         ensures done { MatchResult result
             (λ _. AnswersEnd self.old self.new reply.old reply.new)
             (λ _. Stops self.old self.new) }
+        ensures shut { OnOk result (EndsShut (known self.new.board)) }
         ensures unwritten { OnErr result (reply.new ≡ reply.old) }
     {
         let mut answers = Vec::new(self.alloc);

@@ -102,6 +102,14 @@ impl Session {
         }
     }
 
+    /// The passes of the script, which has gone its way. No memory is taken.
+    pub fn into_passes(self) -> (RegPass, BoardPass<Job>)
+        requires { IsSome self.registry × IsSome self.board }
+        ensures { (self.registry ≡ Some result.0) × (self.board ≡ Some result.1) }
+    {
+        (self.registry.into_pass(), self.board.into_pass())
+    }
+
     // `register DRIVER NUM`
     fn register<R: Wait>(
         &mut self,

@@ -66,11 +66,12 @@ abbrev pub Met : Known RegEntry → List RegEntry → Type 0
 Met k h = Meets caller_of IsFaithful k h
 
 -- what its calls are
-asked-by : CallsInTurnAre → (k l : Known RegEntry) (calls : List RegCall) → IsCaller k → l.number ≡ k.number → IsOwn caller_of l → AreInTurn k.number calls k.seen l.seen → Asked k l calls
-asked-by law k l calls caller same is_own turns =
+asked-by : CallsInTurnAre → (k l : Known RegEntry) (calls : List RegCall) → IsCaller k → l.number ≡ k.number → l.next ≡ k.next → IsOwn caller_of l → AreInTurn k.number calls k.seen l.seen → Asked k l calls
+asked-by law k l calls caller same same_next is_own turns =
     let are = law k.number calls k.seen l.seen caller.settled turns in
     record {
       number = same;
+      next = same_next;
       in_turn = turns;
       are = are;
       caller = record {
@@ -83,7 +84,7 @@ asked-by law k l calls caller same is_own turns =
 -- it added nothing
 pub no-call : CallsInTurnAre → (k l : Known RegEntry) (h : List RegEntry) → IsCaller k → Met k h → Leaves k h l → Asked k l []
 no-call law k l h caller met leaves =
-    asked-by law k l [] caller (ap (λ (x : Known RegEntry). x.number) leaves) (own_left caller_of IsFaithful k l (h, met, leaves))
+    asked-by law k l [] caller (ap (λ (x : Known RegEntry). x.number) leaves) (ap (λ (x : Known RegEntry). x.next) leaves) (own_left caller_of IsFaithful k l (h, met, leaves))
     (met.others, ap (λ (x : Known RegEntry). x.seen) leaves ∙ met.goes_on, unasked k.number met.others met.apart)
 
 -- it added an entry of the caller's that is this call
@@ -91,7 +92,7 @@ pub one-call : CallsInTurnAre → (k l : Known RegEntry) (h : List RegEntry) (e 
     → reg_call_of (h ++ e ∷ []) k.number h e ≡ Some call → is_settled call ≡ true → Asked k l (call ∷ [])
 one-call law k l h e call caller met enters mine called settles =
     let now : l.seen ≡ h ++ e ∷ [] = ap (λ (x : Known RegEntry). x.seen) enters.0 in
-    asked-by law k l (call ∷ []) caller (ap (λ (x : Known RegEntry). x.number) enters.0) (own_entered caller_of IsFaithful k l (λ x. e) (h, met, enters) mine) (
+    asked-by law k l (call ∷ []) caller (ap (λ (x : Known RegEntry). x.number) enters.0) (ap (λ (x : Known RegEntry). x.next) enters.0) (own_entered caller_of IsFaithful k l (λ x. e) (h, met, enters) mine) (
       l.seen,
       record {
         before = met.others;
@@ -287,7 +288,7 @@ look-asked law k l text found caller look =
     let goes = look.goes in
     let e : RegEntry = entry.Look n text false look.answer in
     let s = split-first n goes.between e look.work goes.mine in
-    asked-by law k l (Looks text (Some found) ∷ []) caller goes.number (own_goes caller_of IsFaithful k l (e ∷ look.work) caller.own goes) (
+    asked-by law k l (Looks text (Some found) ∷ []) caller goes.number goes.next (own_goes caller_of IsFaithful k l (e ∷ look.work) caller.own goes) (
       l.seen,
       record {
         before = s.0;
@@ -314,11 +315,11 @@ found-registered h (Some (Ok n)) id spec e =
     let is = entry-is id n (slice_get (registered h) n) spec e in
     subst (λ m. slice_get (registered h) m ≡ Some spec) is.0 is.1
 
-goes-more : (k l : Known RegEntry) (own : List RegEntry) → GoesOn caller_of IsFaithful k l own → (l.number ≡ k.number) × StartsWith l.seen k.seen
-goes-more k l own goes = (goes.number, (goes.between, goes.seen))
+goes-more : (k l : Known RegEntry) (own : List RegEntry) → GoesOn caller_of IsFaithful k l own → (l.number ≡ k.number) × (l.next ≡ k.next) × StartsWith l.seen k.seen
+goes-more k l own goes = (goes.number, goes.next, (goes.between, goes.seen))
 
 -- where memory was wanting it had looked, or not yet
-memory-more : (k l : Known RegEntry) (text : List ℕ) → Works k l ⊎ ((answer : Looked) × LooksUp k l text false answer) → (l.number ≡ k.number) × StartsWith l.seen k.seen
+memory-more : (k l : Known RegEntry) (text : List ℕ) → Works k l ⊎ ((answer : Looked) × LooksUp k l text false answer) → (l.number ≡ k.number) × (l.next ≡ k.next) × StartsWith l.seen k.seen
 memory-more k l text (inl works) = goes-more k l works.work works.goes
 memory-more k l text (inr looks) = goes-more k l (entry.Look k.number text false looks.0 ∷ looks.1.work) looks.1.goes
 
@@ -342,7 +343,8 @@ resolved law before pass pass' lock text (Err build.Memory) (Err s) at_hand was 
     record {
       lock = ap (λ t. Some t) now ∙ sym was;
       number = goes.0 ∙ ap (λ (o : Option RegPass). (known o).number) (sym at_hand);
-      seen = subst (λ o. StartsWith (knows pass').seen (known o).seen) (sym at_hand) goes.1;
+      next = goes.1 ∙ ap (λ (o : Option RegPass). (known o).next) (sym at_hand);
+      seen = subst (λ o. StartsWith (knows pass').seen (known o).seen) (sym at_hand) goes.2;
     }
 resolved law before pass pass' lock text (Ok id) (Ok (Err number)) at_hand was now caller did is = absurd is
 resolved law before pass pass' lock text (Ok id) (Err s) at_hand was now caller did is = absurd is

@@ -33,17 +33,17 @@ use Rattle.transforms.specs.declared.ask.Ask.{Ask}
 use Rattle.transforms.specs.declared.request.Finished.{Finished}
 use Rattle.transforms.specs.AskValue.{ask_size}
 use Rattle.turn_lock.specs.Turns.{Known, sees}
-use Rattle.turn_lock.specs.Meeting.{AtTurn, Enters, Leaves}
-use Rattle.turn_lock.proofs.Clients.{still_kept}
+use Rattle.turn_lock.specs.Meeting.{AtTurn, Enters, Leaves, IsOwn}
+use Rattle.turn_lock.proofs.Clients.{still_kept, own_entered}
 use Rattle.crew.specs.Working.{Worked, Drained as CrewDrained}
 use Rattle.dialogues.specs.RegistryCalls.{if_own}
 use Rattle.dialogues.specs.BoardCalls.{BoardCall, Creates, Submits, Enqueues, Holds, Goes, Collects, Closes, Shuts, Started, Completed, asked_by, outcome, board_calls, notice_of, line_in, collected_to}
 use Rattle.dialogues.specs.Walk.{Pipe}
-use Rattle.session_calls.specs.Pipelines.{Laws, IsOpenAs, IsPipeIn, line_of, line_at, KnowsPipe, Kept, Changed, Closed, IsPad, IsQueue, entered_pipe, entered_asks, with_ask, notice_by, Called, Drained, Polled, Opened}
+use Rattle.session_calls.specs.Pipelines.{Laws, IsOpenAs, IsPipeIn, line_of, line_at, KnowsPipe, Kept, Changed, Closed, IsPad, IsQueue, entered_pipe, entered_asks, with_ask, notice_by, Called, IsShut, Owns, Drained, Polled, Opened}
 use Rattle.dialogues.specs.Allocating.{new_pipe}
 use Rattle.board.specs.declared.entry.Entered.{Entered}
 use Rattle.board.specs.declared.entry.Entered.TheVariants.{InProgress, Busy, NoSpace}
-use Rattle.session_calls.proofs.Boarding.{Met, goes-kept, opened-more, shared-more, calls-one, meets-kept, leaves-kept, changed-later, accepted-none, accepted-more, pipe-stays, pipe-accepts, pipe-collected, entry-changed}
+use Rattle.session_calls.proofs.Boarding.{Met, OwnsIn, goes-kept, opened-more, shared-more, calls-one, meets-kept, leaves-kept, changed-later, accepted-none, accepted-more, pipe-stays, pipe-accepts, pipe-collected, entry-changed}
 
 own : {C : Type 0} (n : ℕ) (call : C) → if_own n n call ≡ Some call
 own {C} n call = ap (λ b. if b then Some call else None) (eq-eqb n n refl)
@@ -196,17 +196,30 @@ close-closed laws k l pipe turn =
     subst (λ x. Closed k x pipe) (sym turn.2.0) (record {
       called = record {
         number = refl;
+        next = refl;
         seen = (turn.1.others ++ e ∷ [], ap (λ x. x ++ e ∷ []) turn.1.goes_on ∙ append_assoc k.seen turn.1.others (e ∷ []));
         calls_are = calls-one laws k.number h e (Closes pipe.number) (own k.number (Closes pipe.number)) ∙ ap (λ cs. cs ++ Closes pipe.number ∷ []) (kept.called.calls_are ∙ append-nil (board_calls k.number k.seen));
       };
       legal = turn.2.1;
-      others = λ other apart on. subst (λ es. IsPipeIn k.number es other) (sym (leaves_others h e other.number (only_of e pipe.number other.number (eq-eqb pipe.number pipe.number refl) (differs other apart)))) (kept.pipes other on);
+      others = λ other apart on. subst (λ es. IsPipeIn k.number es other) (sym (leaves_others h e other.number (only_of e pipe.number other.number (eq-eqb pipe.number pipe.number refl) (differs other.number apart)))) (kept.pipes other on);
+      owned = λ p owns. by_number p (p == pipe.number) refl owns;
       accepted = accepted-none k.number h e refl ∙ (append-nil (accepted_by k.number h) ∙ kept.accepted);
       unshut = λ zero_is. shut-same h e (not_shut e pipe.number (eq-eqb pipe.number pipe.number refl)) ∙ kept.unshut zero_is;
     })
   where
-    differs : (other : Pipe) → (other.number == pipe.number) ≡ false → other.number ≢ pipe.number
-    differs other apart q = let yes : (other.number == pipe.number) ≡ true = eq-eqb other.number pipe.number q in let bad : true ≡ false = sym yes ∙ apart in cc
+    h : List (BoardEntry Ask)
+    h = turn.0
+
+    e : BoardEntry Ask
+    e = event.Close k.number pipe.number
+
+    differs : (p : ℕ) → (p == pipe.number) ≡ false → p ≢ pipe.number
+    differs p apart q = let yes : (p == pipe.number) ≡ true = eq-eqb p pipe.number q in let bad : true ≡ false = sym yes ∙ apart in cc
+
+    by_number : (p : ℕ) (b : Bool) → (p == pipe.number) ≡ b → OwnsIn k.number (entries_of p (h ++ e ∷ [])) → Owns k p × ((p == pipe.number) ≡ false)
+    by_number p true is owns = cc
+    by_number p false apart owns =
+        ((meets-kept laws k h turn.1).owned p (subst (λ es. OwnsIn k.number es) (leaves_others h e p (only_of e pipe.number p (eq-eqb pipe.number pipe.number refl) (differs p apart))) owns), apart)
 
 -- ---- `hold` and `go`
 
@@ -323,16 +336,24 @@ born-opened laws k l shape (Ok p) outsider turn =
 
 -- ---- `shut`
 
-pub shut-changed : Laws → (k l : Known (BoardEntry Ask)) → AtTurn caller_of LegalBoard k (λ h. Enters LegalBoard k h (event.Shut k.number) l) → Called k l (Shuts ∷ [])
+pub shut-changed : Laws → (k l : Known (BoardEntry Ask)) → AtTurn caller_of LegalBoard k (λ h. Enters LegalBoard k h (event.Shut k.number) l) → IsShut k l
 shut-changed laws k l turn =
     let h = turn.0 in
     let n = k.number in
     let e : BoardEntry Ask = event.Shut n in
     let kept = meets-kept laws k h turn.1 in
-    subst (λ x. Called k x (Shuts ∷ [])) (sym turn.2.0) (record {
-      number = refl;
-      seen = (turn.1.others ++ e ∷ [], ap (λ x. x ++ e ∷ []) turn.1.goes_on ∙ append_assoc k.seen turn.1.others (e ∷ []));
-      calls_are = calls-one laws n h e Shuts (own n Shuts) ∙ ap (λ cs. cs ++ Shuts ∷ []) (kept.called.calls_are ∙ append-nil (board_calls n k.seen));
+    subst (λ x. IsShut k x) (sym turn.2.0) (record {
+      called = record {
+        number = refl;
+        next = refl;
+        seen = (turn.1.others ++ e ∷ [], ap (λ x. x ++ e ∷ []) turn.1.goes_on ∙ append_assoc k.seen turn.1.others (e ∷ []));
+        calls_are = calls-one laws n h e Shuts (own n Shuts) ∙ ap (λ cs. cs ++ Shuts ∷ []) (kept.called.calls_are ∙ append-nil (board_calls n k.seen));
+      };
+      before = h;
+      kept = kept;
+      last = refl;
+      legal = turn.2.1;
+      own = subst (λ x. IsOwn caller_of x) turn.2.0 (own_entered caller_of LegalBoard k l (λ x. e) (h, turn.1, turn.2) refl);
     })
 
 -- ---- `drain`

@@ -1,21 +1,23 @@
 -- What a caller knows of its pipelines goes on, whatever others do.
 use Rattle.std.proofs.Common.{◌≡◌, ◌≢◌, ℕ, ◌+◌, Bool, true, false, List, [], ◌∷◌, ◌++◌, length, map, Option, Some, None, refl, sym, ap, subst, ◌∙◌, append_assoc, append-nil}
-use Rattle.std.specs.Prelude.{◌==◌, ◌&&◌, if◌then◌else◌, filter}
+use Rattle.std.specs.Prelude.{◌==◌, ◌&&◌, ◌||◌, if◌then◌else◌, filter, unwrap_or}
 use Rattle.std.proofs.lemmas.Bool.{eq-eqb}
 use Rattle.std.proofs.lemmas.List.{map-append}
-use Rattle.std.proofs.lemmas.List.Elements.{filter_map-append}
+use Rattle.std.proofs.lemmas.List.Elements.{filter-append, filter_map-append}
+use Rattle.std.proofs.lemmas.List.Folds.{list_any-append}
 use Rattle.board.specs.declared.entry.BoardEntry.{BoardEntry}
 use Rattle.board.specs.declared.entry.BoardEntry.TheVariants as event
-use Rattle.board.specs.Entries.{is_of, entries_of, accepted_in, submissions, held_in, is_close, is_share, is_shared, delivered, caller_of}
+use Rattle.board.specs.declared.entry.Shape.{Shape}
+use Rattle.board.specs.Entries.{is_of, entries_of, accepted_in, birth_in, birth, first, submissions, held_in, is_close, is_closed, is_share, is_shared, delivered, caller_of}
 use Rattle.board.specs.Allowance.{accepted_by, accepted_from}
 use Rattle.board.specs.Staying.{is_work}
-use Rattle.board.specs.Legal.{IsOpenPad, IsOpenQueue, LegalBoard, is_shut}
+use Rattle.board.specs.Legal.{IsOpenPad, IsOpenQueue, MayManage, LegalBoard, is_shut, maker_is}
 use Rattle.board.specs.Order.{completed}
 use Rattle.board.specs.Handing.{is_collect, completions}
 use Rattle.board.proofs.Transfer.{entries-more}
 use Rattle.board.proofs.PadOrder.{filter_map-none, filter_map-some}
 use Rattle.board.proofs.Kept.{only_of, not_shut, shut-same, shared-same}
-use Rattle.std.specs.List.{cons_option, list_all}
+use Rattle.std.specs.List.{cons_option, filter_map, list_all}
 use Rattle.board.proofs.Staying.{stays_open, queue_stays_open, stays_managed, stays_held}
 use Rattle.board.proofs.Handing.{hands_nothing, collect_hands_out, leaves_others}
 use Rattle.transforms.specs.declared.ask.Ask.{Ask}
@@ -39,6 +41,7 @@ pub called-more : (k l m : Known (BoardEntry Ask)) (a b : List BoardCall) → Ca
 called-more k l m a b first later =
     record {
       number = later.number ∙ first.number;
+      next = later.next ∙ first.next;
       seen = starts-trans k.seen l.seen m.seen first.seen later.seen;
       calls_are = later.calls_are ∙ (ap (λ cs. cs ++ b) first.calls_are ∙ append_assoc (board_calls k.number k.seen) a b);
     }
@@ -98,6 +101,72 @@ work-uncalled n (x ∷ xs) all = by_test (caller_of x == n) refl all (work-uncal
         ap (λ b. if b then x ∷ filter (is_called n) xs else filter (is_called n) xs) (work-called n x both.0) ∙ rest both.1
     by_test false t q rest = ap (λ b. if b then x ∷ filter (is_called n) xs else filter (is_called n) xs) (not-called n x t) ∙ rest q
 
+-- ---- the pipelines of its own
+
+-- this caller made the pipeline with these entries, and hasn't closed it
+abbrev pub OwnsIn : ℕ → List (BoardEntry Ask) → Type 0
+OwnsIn n es = MayManage es n × (is_closed es ≡ false)
+
+-- an entry that makes a pipeline is no work
+born-of : (e : BoardEntry Ask) (born : ℕ × Shape) → birth_in e ≡ Some born → (is_work e ≡ false) × (caller_of e ≡ born.0)
+born-of (event.Born by pipe shape) born is = (refl, ap (λ o. (unwrap_or o (by, shape)).0) is)
+born-of (event.Submit by pipe number ask) born is = absurd cc
+born-of (event.Take by pipe number) born is = absurd cc
+born-of (event.Finish by pipe number) born is = absurd cc
+born-of (event.Enq by pipe ask backlog answer) born is = absurd cc
+born-of (event.Deq by pipe number started) born is = absurd cc
+born-of (event.Done by pipe number) born is = absurd cc
+born-of (event.Hold by pipe) born is = absurd cc
+born-of (event.Go by pipe) born is = absurd cc
+born-of (event.Collect by pipe to) born is = absurd cc
+born-of (event.Close by pipe) born is = absurd cc
+born-of (event.Share by pipe) born is = absurd cc
+born-of (event.Shut by) born is = absurd cc
+
+-- where a caller's own entries are work, it made no pipeline
+no-birth : (n p : ℕ) (es : List (BoardEntry Ask)) → list_all (λ e. is_work e) (of caller_of n es) ≡ true → maker_is (birth (entries_of p es)) n → ⊥
+no-birth n p [] works maker = absurd maker
+no-birth n p (e ∷ es) works maker = by_of (is_of p e) maker
+  where
+    later_works : (t : Bool) → list_all (λ e. is_work e) (if t then e ∷ of caller_of n es else of caller_of n es) ≡ true → list_all (λ e. is_work e) (of caller_of n es) ≡ true
+    later_works true w = (and-true (is_work e) (list_all (λ e. is_work e) (of caller_of n es)) w).1
+    later_works false w = w
+
+    later : maker_is (birth (entries_of p es)) n → ⊥
+    later = no-birth n p es (later_works (caller_of e == n) works)
+
+    own-works : (t : Bool) → t ≡ true → list_all (λ e. is_work e) (if t then e ∷ of caller_of n es else of caller_of n es) ≡ true → is_work e ≡ true
+    own-works true t w = (and-true (is_work e) (list_all (λ e. is_work e) (of caller_of n es)) w).0
+    own-works false t w = absurd cc
+
+    by_birth : (b : Option (ℕ × Shape)) → birth_in e ≡ b → maker_is (first (cons_option b (filter_map birth_in (entries_of p es)))) n → ⊥
+    by_birth None is m = later m
+    by_birth (Some born) is m =
+        let from = born-of e born is in
+        let mine : (caller_of e == n) ≡ true = eq-eqb (caller_of e) n (from.1 ∙ m) in
+        let bad : true ≡ false = sym (own-works (caller_of e == n) mine works) ∙ from.0 in
+        cc
+
+    by_of : (t : Bool) → maker_is (first (filter_map birth_in (if t then e ∷ entries_of p es else entries_of p es))) n → ⊥
+    by_of true m = by_birth (birth_in e) refl m
+    by_of false m = later m
+
+-- a pipeline that it owns after such entries it owned before
+owned-before : (n p : ℕ) (h es : List (BoardEntry Ask)) → list_all (λ e. is_work e) (of caller_of n es) ≡ true → OwnsIn n (entries_of p (h ++ es)) → OwnsIn n (entries_of p h)
+owned-before n p h es works owns =
+    let parts = filter-append (is_of p) h es in
+    let made : maker_is (first (filter_map birth_in (entries_of p h ++ entries_of p es))) n = subst (λ xs. maker_is (birth xs) n) parts owns.0.1 in
+    let shut : (is_closed (entries_of p h) || is_closed (entries_of p es)) ≡ false = sym (list_any-append is_close (entries_of p h) (entries_of p es)) ∙ (sym (ap is_closed parts) ∙ owns.1) in
+    ((owns.0.0, by_first (filter_map birth_in (entries_of p h)) (subst (λ xs. maker_is (first xs) n) (filter_map-append birth_in (entries_of p h) (entries_of p es)) made)), or-left (is_closed (entries_of p h)) (is_closed (entries_of p es)) shut)
+  where
+    by_first : (born : List (ℕ × Shape)) → maker_is (first (born ++ filter_map birth_in (entries_of p es))) n → maker_is (first born) n
+    by_first [] m = absurd (no-birth n p es works m)
+    by_first (x ∷ born) m = m
+
+    or-left : (a b : Bool) → (a || b) ≡ false → a ≡ false
+    or-left false b e = refl
+    or-left true b e = e
+
 opened-stays : (bound : Option ℕ) (es es' : List (BoardEntry Ask)) → (IsOpenPad es → IsOpenPad es') → (IsOpenQueue es → IsOpenQueue es') → IsOpenAs bound es → IsOpenAs bound es'
 opened-stays None es es' pad queue o = pad o
 opened-stays (Some max) es es' pad queue o = queue o
@@ -113,6 +182,7 @@ goes-kept laws k l own goes works legal =
     record {
       called = record {
         number = goes.number;
+        next = goes.next;
         seen = (between, goes.seen);
         calls_are =
             (λ i. board_calls (goes.number i) (goes.seen i))
@@ -130,6 +200,7 @@ goes-kept laws k l own goes works legal =
             delivered = ap (λ x. length (completed x)) known.handed ∙ on.delivered;
           } in
           subst (λ n. IsPipeIn n (entries_of pipe.number l.seen) pipe) (sym goes.number) (subst (λ g. IsPipeIn k.number (entries_of pipe.number g) pipe) (sym goes.seen) now);
+      owned = λ p owns. owned-before k.number p k.seen between mine (subst (λ g. OwnsIn k.number (entries_of p g)) goes.seen (subst (λ n. OwnsIn n (entries_of p l.seen)) goes.number owns));
       accepted = (λ i. accepted_by (goes.number i) (goes.seen i)) ∙ owned.0;
       unshut = λ zero_is. ap is_shut goes.seen ∙ owned.1 zero_is;
     }
@@ -153,9 +224,10 @@ work-kept laws k l h e met enters works mine =
 pub kept-same : (k : Known (BoardEntry Ask)) → LegalBoard k.seen → Kept k k
 kept-same k legal =
     record {
-      called = record { number = refl; seen = starts-same k.seen; calls_are = sym (append-nil (board_calls k.number k.seen)) };
+      called = record { number = refl; next = refl; seen = starts-same k.seen; calls_are = sym (append-nil (board_calls k.number k.seen)) };
       legal = legal;
       pipes = λ pipe on. on;
+      owned = λ p owns. owns;
       accepted = refl;
       unshut = λ zero_is. refl;
     }
@@ -166,6 +238,7 @@ kept-more k l m first later =
       called = called-more k l m [] [] first.called later.called;
       legal = later.legal;
       pipes = λ pipe on. later.pipes pipe (first.pipes pipe on);
+      owned = λ p owns. first.owned p (later.owned p owns);
       accepted = later.accepted ∙ first.accepted;
       unshut = λ zero_is. later.unshut (first.called.number ∙ zero_is) ∙ first.unshut zero_is;
     }
@@ -178,6 +251,7 @@ changed-later k l m pipe pipe' calls asks first later =
       same = later.same;
       now = later.now;
       others = λ other apart on. later.others other apart (first.pipes other on);
+      owned = λ p apart owns. first.owned p (later.owned p apart owns);
       accepted = later.accepted ∙ ap (λ a. a ++ asks) first.accepted;
       unshut = λ zero_is. later.unshut (first.called.number ∙ zero_is) ∙ first.unshut zero_is;
     }
@@ -190,6 +264,7 @@ kept-changed k l pipe on kept =
       same = refl;
       now = kept.pipes pipe on;
       others = λ other apart was. kept.pipes other was;
+      owned = λ p apart owns. kept.owned p owns;
       accepted = kept.accepted ∙ sym (append-nil (accepted_by k.number k.seen));
       unshut = kept.unshut;
     }
@@ -278,14 +353,15 @@ pub entry-changed : Laws → (k l : Known (BoardEntry Ask)) (h : List (BoardEntr
     → Changed (sees k h) l pipe pipe' (call ∷ []) asks
 entry-changed laws k l h e pipe pipe' call asks enters of called accepts same now =
     entry-knows k l h e enters (λ x. Changed (sees k h) x pipe pipe' (call ∷ []) asks) (record {
-      called = record { number = refl; seen = (e ∷ [], refl); calls_are = calls-one laws k.number h e call called };
+      called = record { number = refl; next = refl; seen = (e ∷ [], refl); calls_are = calls-one laws k.number h e call called };
       legal = enters.1;
       same = same;
       now = now;
-      others = λ other apart on. subst (λ es. IsPipeIn k.number es other) (sym (leaves_others h e other.number (only_of e pipe.number other.number of (differs other apart)))) on;
+      others = λ other apart on. subst (λ es. IsPipeIn k.number es other) (sym (leaves_others h e other.number (only_of e pipe.number other.number of (differs other.number apart)))) on;
+      owned = λ p apart owns. subst (λ es. OwnsIn k.number es) (leaves_others h e p (only_of e pipe.number p of (differs p apart))) owns;
       accepted = accepts;
       unshut = λ zero_is. shut-same h e (not_shut e pipe.number of);
     })
   where
-    differs : (other : Pipe) → (other.number == pipe.number) ≡ false → other.number ≢ pipe.number
-    differs other apart q = let yes : (other.number == pipe.number) ≡ true = eq-eqb other.number pipe.number q in let bad : true ≡ false = sym yes ∙ apart in cc
+    differs : (p : ℕ) → (p == pipe.number) ≡ false → p ≢ pipe.number
+    differs p apart q = let yes : (p == pipe.number) ≡ true = eq-eqb p pipe.number q in let bad : true ≡ false = sym yes ∙ apart in cc

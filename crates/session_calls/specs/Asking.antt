@@ -34,6 +34,7 @@ HasReferenceOf k id = given id (reg_calls k.number k.seen) < got id (reg_calls k
 -- The caller has seen more, and made these calls, one after the other.
 pub record Asked (k l : Known RegEntry) (calls : List RegCall) : Type 0 where
   pub number : l.number ≡ k.number
+  pub next : l.next ≡ k.next
   pub in_turn : AreInTurn k.number calls k.seen l.seen
   pub are : AreCalls k.number calls k.seen l.seen
   pub caller : IsCaller l
@@ -47,6 +48,7 @@ pub record Asks (before after : Option RegPass) (calls : List RegCall) : Type 0 
 pub record SeesMore (before after : Option RegPass) : Type 0 where
   pub lock : lock_of after ≡ lock_of before
   pub number : (known after).number ≡ (known before).number
+  pub next : (known after).next ≡ (known before).next
   pub seen : StartsWith (known after).seen (known before).seen
 
 -- ---- what is recorded of an answer; nothing of want of memory

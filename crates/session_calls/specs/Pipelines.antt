@@ -3,20 +3,22 @@ use Rattle.std.specs.Prelude.{ℕ, ◌+◌, ◌≡◌, Bool, true, false, ◌==�
 use Rattle.kc_base.specs.declared.callback_list.Callback.{Callback}
 use Rattle.kc_base.specs.declared.callback_list.Callback.TheVariants as callback
 use Rattle.board.specs.declared.entry.BoardEntry.{BoardEntry}
+use Rattle.board.specs.declared.entry.BoardEntry.TheVariants.{Shut}
 use Rattle.board.specs.declared.entry.Entered.{Entered}
 use Rattle.board.specs.declared.entry.Shape.{Shape}
 use Rattle.board.specs.declared.entry.Entered.TheVariants.{InProgress, Busy, NoSpace}
 use Rattle.board.specs.Allowance.{accepted_by}
-use Rattle.board.specs.Entries.{entries_of, submissions, is_held, is_shared}
+use Rattle.board.specs.Entries.{entries_of, submissions, is_held, is_shared, is_closed, caller_of}
 use Rattle.board.specs.Handing.{completions}
 use Rattle.board.specs.Legal.{IsOpenPad, IsOpenQueue, MayManage, LegalBoard, is_shut}
 use Rattle.board.specs.Order.{handed_out, completed}
 use Rattle.transforms.specs.declared.ask.Ask.{Ask}
 use Rattle.transforms.specs.declared.request.Finished.{Finished}
-use Rattle.turn_lock.specs.Turns.{Known, StartsWith}
+use Rattle.turn_lock.specs.Turns.{Known, StartsWith, sees}
+use Rattle.turn_lock.specs.Meeting.{IsOwn}
 use Rattle.board.specs.Others.{WorkLeavesKnown, WorkLeavesOwn}
 use Rattle.dialogues.specs.Allocating.{new_pipe}
-use Rattle.dialogues.specs.BoardCalls.{BoardCall, Creates, Collects, Closes, Notice, Started, Completed, board_calls}
+use Rattle.dialogues.specs.BoardCalls.{BoardCall, Creates, Collects, Closes, Shuts, Notice, Started, Completed, board_calls}
 use Rattle.dialogues.specs.GoingOn.{BoardCallsGoOn, BoardUncalled}
 use Rattle.dialogues.specs.Walk.{Pipe}
 
@@ -49,6 +51,10 @@ pub record IsPipeIn (caller : ℕ) (es : List (BoardEntry Ask)) (pipe : Pipe) : 
 abbrev pub KnowsPipe : Known (BoardEntry Ask) → Pipe → Type 0
 KnowsPipe k pipe = IsPipeIn k.number (entries_of pipe.number k.seen) pipe
 
+-- the caller made the pipeline of this number, and hasn't closed it
+abbrev pub Owns : Known (BoardEntry Ask) → ℕ → Type 0
+Owns k p = MayManage (entries_of p k.seen) k.number × (is_closed (entries_of p k.seen) ≡ false)
+
 abbrev pub IsPad : Option ℕ → Type 0
 IsPad None = ⊤
 IsPad (Some max) = ⊥
@@ -62,14 +68,16 @@ IsQueue (Some max) = ⊤
 -- the caller has seen more, and these are its further calls
 pub record Called (k l : Known (BoardEntry Ask)) (calls : List BoardCall) : Type 0 where
   pub number : l.number ≡ k.number
+  pub next : l.next ≡ k.next
   pub seen : StartsWith l.seen k.seen
   pub calls_are : board_calls l.number l.seen ≡ board_calls k.number k.seen ++ calls
 
--- Others went on, and the caller worked: each of its pipelines is as it was.
+-- Others went on, and the caller worked: each of its pipelines is as it was, and it has no other.
 pub record Kept (k l : Known (BoardEntry Ask)) : Type 0 where
   pub called : Called k l []
   pub legal : LegalBoard l.seen
   pub pipes : (pipe : Pipe) → KnowsPipe k pipe → KnowsPipe l pipe
+  pub owned : (p : ℕ) → Owns l p → Owns k p
   pub accepted : accepted_by l.number l.seen ≡ accepted_by k.number k.seen
   pub unshut : k.number ≡ 0 → is_shut l.seen ≡ is_shut k.seen
 
@@ -80,6 +88,7 @@ pub record Changed (k l : Known (BoardEntry Ask)) (pipe pipe' : Pipe) (calls : L
   pub same : pipe'.number ≡ pipe.number
   pub now : KnowsPipe l pipe'
   pub others : (other : Pipe) → (other.number == pipe.number) ≡ false → KnowsPipe k other → KnowsPipe l other
+  pub owned : (p : ℕ) → (p == pipe.number) ≡ false → Owns l p → Owns k p
   pub accepted : accepted_by l.number l.seen ≡ accepted_by k.number k.seen ++ asks
   pub unshut : k.number ≡ 0 → is_shut l.seen ≡ is_shut k.seen
 
@@ -88,8 +97,18 @@ pub record Closed (k l : Known (BoardEntry Ask)) (pipe : Pipe) : Type 0 where
   pub called : Called k l (Closes pipe.number ∷ [])
   pub legal : LegalBoard l.seen
   pub others : (other : Pipe) → (other.number == pipe.number) ≡ false → KnowsPipe k other → KnowsPipe l other
+  pub owned : (p : ℕ) → Owns l p → Owns k p × ((p == pipe.number) ≡ false)
   pub accepted : accepted_by l.number l.seen ≡ accepted_by k.number k.seen
   pub unshut : k.number ≡ 0 → is_shut l.seen ≡ is_shut k.seen
+
+-- The caller shut the board. This is the history up to then: others had gone on, and the caller had worked.
+pub record IsShut (k l : Known (BoardEntry Ask)) : Type 0 where
+  pub called : Called k l (Shuts ∷ [])
+  pub before : List (BoardEntry Ask)
+  pub kept : Kept k (sees k before)
+  pub last : l.seen ≡ before ++ Shut k.number ∷ []
+  pub legal : LegalBoard l.seen
+  pub own : IsOwn caller_of l
 
 -- The caller made a pipeline, whose number no other has; each other is as it was.
 pub record Opened (k l : Known (BoardEntry Ask)) (number : ℕ) (shape : Shape) : Type 0 where

@@ -1,6 +1,6 @@
 //! A script's calls on the board.
 
-ghost use Rattle.std.specs.Prelude.{◌≡◌, ◌↔◌, ◌<◌, ◌≤◌, ◌+◌, ◌++◌, ◌∷◌, [], true, false, Bool, List, length, MatchResult};
+ghost use Rattle.std.specs.Prelude.{◌≡◌, ◌↔◌, ◌<◌, ◌≤◌, ◌+◌, ◌++◌, ◌∷◌, [], true, false, Bool, List, length, Some, IsSome, MatchResult};
 ghost use Rattle.std.specs.Arc.{arc_value};
 ghost use Rattle.kc_base.specs.declared.callback_list.Callback.{Callback as Told};
 ghost use Rattle.board.specs.Allowance.{IsAllowed};
@@ -10,9 +10,9 @@ ghost use Rattle.board.specs.declared.board_core.BoardErr.TheVariants as BoardEr
 ghost use Rattle.board.specs.declared.entry.Shape.TheVariants.{Pad as PadOf, Queue as QueueOf};
 ghost use Rattle.transforms.specs.AskValue.{ask_size};
 ghost use Rattle.transforms.specs.declared.request.Finished.{Finished as Outcome};
-ghost use Rattle.dialogues.specs.BoardCalls.{Submits, Enqueues, Holds, Goes, Shuts, asked_by};
+ghost use Rattle.dialogues.specs.BoardCalls.{Submits, Enqueues, Holds, Goes, asked_by};
 ghost use Rattle.session_calls.specs.Passes.{CallsBoard, known, lock_of};
-ghost use Rattle.session_calls.specs.Pipelines.{Laws, IsPad, IsQueue, KnowsPipe, Kept, Changed, Closed, Called, Opened, with_ask, entered_pipe, entered_asks, Drained, Polled};
+ghost use Rattle.session_calls.specs.Pipelines.{Laws, IsPad, IsQueue, KnowsPipe, Kept, Changed, Closed, IsShut, Opened, with_ask, entered_pipe, entered_asks, Drained, Polled};
 
 use crate::pipe::Pipe;
 use board::{BoardErr, Entered, others_leave};
@@ -53,6 +53,14 @@ impl BoardCaller {
         ensures { result ≡ Some pass }
     {
         BoardCaller { pass: Some(pass) }
+    }
+
+    /// The caller's pass.
+    pub fn into_pass(self) -> BoardPass<Job>
+        requires { IsSome self }
+        ensures { self ≡ Some result }
+    {
+        self.pass.unwrap()
     }
 
     /// Makes a pad of `lists` reorder lists, at least 1, and answers its number. Only want of memory refuses.
@@ -266,7 +274,7 @@ impl BoardCaller {
         requires first { (known self.old).number ≡ 0 }
         requires once { is_shut (known self.old).seen ≡ false }
         ensures lock { lock_of self.new ≡ lock_of self.old }
-        ensures shut { Called (known self.old) (known self.new) (Shuts ∷ []) }
+        ensures shut { IsShut (known self.old) (known self.new) }
     {
         board_laws();
         let pass = self.pass.take().unwrap();

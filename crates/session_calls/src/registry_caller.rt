@@ -115,6 +115,14 @@ impl RegistryCaller {
         RegistryCaller { pass: Some(pass) }
     }
 
+    /// The caller's pass.
+    pub fn into_pass(self) -> RegPass
+        requires { IsSome self }
+        ensures { self ≡ Some result }
+    {
+        self.pass.unwrap()
+    }
+
     /// Lists a driver that stands on no other. Only want of memory stops it, and then nothing is recorded.
     pub fn enlist<R: Wait>(
         &mut self,
