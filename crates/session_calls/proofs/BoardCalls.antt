@@ -1,6 +1,6 @@
 -- Calls of the board's caller, by what its lock says of a turn.
 use Rattle.std.proofs.Common.{◌≡◌, ◌≢◌, inl, inr, ℕ, zero, suc, ◌+◌, Bool, true, false, List, [], ◌∷◌, ◌++◌, length, map, Option, Some, None, Result, Ok, Err, refl, sym, ap, subst, ◌∙◌, append-nil, append_assoc}
-use Rattle.std.specs.Prelude.{◌==◌, ◌↔◌, if◌then◌else◌, MatchResult, slice_get, unwrap_or}
+use Rattle.std.specs.Prelude.{◌==◌, ◌||◌, ◌↔◌, if◌then◌else◌, MatchResult, slice_get, unwrap_or}
 use Rattle.std.specs.Arc.{arc_value}
 use Rattle.std.specs.declared.sync.Arc.{Arc}
 use Rattle.std.specs.declared.alloc.Global.{Global}
@@ -13,7 +13,7 @@ use Rattle.board.specs.declared.entry.BoardEntry.{BoardEntry}
 use Rattle.board.specs.declared.entry.BoardEntry.TheVariants as event
 use Rattle.board.specs.declared.entry.Shape.{Shape}
 use Rattle.board.specs.declared.entry.Shape.TheVariants.{Pad, Queue}
-use Rattle.board.specs.Entries.{caller_of, is_of, is_close, is_share, is_held, accepted_in, entries_of, submissions, front, told, delivered}
+use Rattle.board.specs.Entries.{caller_of, is_of, is_close, is_closed, is_share, is_held, accepted_in, entries_of, submissions, front, told, delivered}
 use Rattle.board.specs.Allowance.{IsAllowed}
 use Rattle.board.specs.Legal.{IsNoWorker, IsOpen, IsOpenPad, IsOpenQueue, LegalBoard, pipelines}
 use Rattle.board.specs.Handing.{is_collect, completions}
@@ -22,6 +22,7 @@ use Rattle.board.proofs.Staying.{stays_managed, holds, collect_drains}
 use Rattle.board.proofs.Transfer.{entries-more}
 use Rattle.board.proofs.PadOrder.{filter_map-none}
 use Rattle.std.proofs.lemmas.Bool.{eqb-true}
+use Rattle.std.proofs.lemmas.List.Folds.{list_any-append}
 use Rattle.board.proofs.Handing.{all_handed_out, leaves_others, hands_nothing, joins, begins_alone}
 use Rattle.board.proofs.Kept.{only_of, not_shut, shut-same}
 use Rattle.board.specs.Staying.{IsDrained}
@@ -188,6 +189,10 @@ all-drained k pipe legal on paid =
     all_handed_out k.seen pipe.number legal (is-open pipe.bound es on.opened)
     (on.delivered ∙ (paid ∙ (ap length (sym on.lines) ∙ length-map (submissions es) line_of)))
 
+or-true : (b : Bool) → (b || true) ≡ true
+or-true true = refl
+or-true false = refl
+
 pub close-closed : Laws → (k l : Known (BoardEntry Ask)) (pipe : Pipe) → AtTurn caller_of LegalBoard k (λ h. Enters LegalBoard k h (event.Close k.number pipe.number) l) → Closed k l pipe
 close-closed laws k l pipe turn =
     let h = turn.0 in
@@ -217,7 +222,11 @@ close-closed laws k l pipe turn =
     differs p apart q = let yes : (p == pipe.number) ≡ true = eq-eqb p pipe.number q in let bad : true ≡ false = sym yes ∙ apart in cc
 
     by_number : (p : ℕ) (b : Bool) → (p == pipe.number) ≡ b → OwnsIn k.number (entries_of p (h ++ e ∷ [])) → Owns k p × ((p == pipe.number) ≡ false)
-    by_number p true is owns = cc
+    by_number p true is owns =
+        let open_still : is_closed (entries_of pipe.number (h ++ e ∷ [])) ≡ false = subst (λ q. is_closed (entries_of q (h ++ e ∷ [])) ≡ false) (eqb-true p pipe.number is) owns.1 in
+        let closed : is_closed (entries_of pipe.number (h ++ e ∷ [])) ≡ true = ap is_closed (entries-more h pipe.number e (eq-eqb pipe.number pipe.number refl)) ∙ (list_any-append is_close (entries_of pipe.number h) (e ∷ []) ∙ or-true (is_closed (entries_of pipe.number h))) in
+        let bad : true ≡ false = sym closed ∙ open_still in
+        cc
     by_number p false apart owns =
         ((meets-kept laws k h turn.1).owned p (subst (λ es. OwnsIn k.number es) (leaves_others h e p (only_of e pipe.number p (eq-eqb pipe.number pipe.number refl) (differs p apart))) owns), apart)
 
