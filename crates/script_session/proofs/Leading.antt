@@ -60,11 +60,11 @@ drain-more (x ∷ before) live rest = ap (drains_at_end x.label x.pipe) (drain-m
 
 -- ---- by labels and numbers alone
 
-drains_by : List ℕ → Option ℕ → Dialogue → Dialogue
+abbrev drains_by : List ℕ → Option ℕ → Dialogue → Dialogue
 drains_by label None rest = rest
 drains_by label (Some number) rest = Posts (Drain number) λ notices. Says (said_at_end label notices) rest
 
-drain_places : List (List ℕ × Option ℕ) → Dialogue → Dialogue
+abbrev drain_places : List (List ℕ × Option ℕ) → Dialogue → Dialogue
 drain_places [] rest = rest
 drain_places (place ∷ places) rest = drains_by place.0 place.1 (drain_places places rest)
 

@@ -90,7 +90,7 @@ sets-out all lives k answers nothing are legal =
       left = refl;
     }
 
-rest_of : List Live → List Live
+abbrev rest_of : List Live → List Live
 rest_of [] = []
 rest_of (x ∷ xs) = xs
 
