@@ -4,7 +4,7 @@ use Rattle.std.specs.List.{list_all}
 use Rattle.std.proofs.lemmas.List.Folds.{list_all-append}
 use Rattle.turn_lock.specs.Turns.{Known}
 use Rattle.turn_lock.specs.Meeting.{AtTurn, Enters, Leaves}
-use Rattle.turn_lock.proofs.Clients.{stays, goes_left, goes_entered, goes_then}
+use Rattle.turn_lock.specs.Going.{stays, goes_left, goes_entered, goes_then}
 use Rattle.board.specs.declared.entry.BoardEntry.{BoardEntry}
 use Rattle.board.specs.Entries.{entries_of, caller_of, take_entry, finish_entry}
 use Rattle.board.specs.Legal.{MayManage, IsOpen, LegalBoard}

@@ -2,7 +2,7 @@ use Rattle.std.proofs.Common.{ap}
 use Rattle.turn_lock.specs.Passes.{knows}
 use Rattle.board.specs.Entries.{caller_of}
 use Rattle.board.specs.Legal.{LegalBoard}
-use Rattle.turn_lock.proofs.Clients.{at_some, at_none}
+use Rattle.turn_lock.specs.Going.{at_some, at_none}
 use Rattle.crew.proofs.Works.{once_worked, worked_none}
 use Rattle.crew.proofs.working.work_one.Goals as goal
 

@@ -6,7 +6,7 @@ use Rattle.board.specs.declared.entry.BoardEntry.TheVariants as entry
 use Rattle.board.specs.declared.board_core.BoardErr.TheVariants as error
 use Rattle.board.specs.Entries.{entries_of, verdict, caller_of}
 use Rattle.board.specs.Allowance.{IsAllowed}
-use Rattle.turn_lock.proofs.Clients.{asked_turn}
+use Rattle.turn_lock.specs.Going.{asked_turn}
 use Rattle.board.specs.Legal.{LegalBoard}
 use Rattle.shared_board.proofs.Meeting.{submits_here, queue_here, itself}
 use Rattle.shared_board.proofs.shared.SharedBoard.enqueue.Goals as goal

@@ -1,6 +1,6 @@
 use Rattle.turn_lock.specs.Passes.{knows}
 use Rattle.board.specs.Entries.{finish_entry, caller_of}
-use Rattle.turn_lock.proofs.Clients.{sure_turn}
+use Rattle.turn_lock.specs.Going.{sure_turn}
 use Rattle.board.specs.Legal.{LegalBoard}
 use Rattle.shared_board.proofs.Meeting.{slip_here, itself}
 use Rattle.shared_board.proofs.shared.SharedBoard.finish.Goals as goal

@@ -1,5 +1,5 @@
-use Rattle.crew.proofs.Ends.{no_work_is_right, shut_is_last}
-use Rattle.crew.proofs.laws.work_ends.Goals as goal
+use Rattle.board.proofs.Ends.{no_work_is_right, shut_is_last}
+use Rattle.board.proofs.laws.work_ends.Goals as goal
 
 pub returns-clause-nothing_left : goal.returns-clause-nothing_left
 returns-clause-nothing_left g c = no_work_is_right
