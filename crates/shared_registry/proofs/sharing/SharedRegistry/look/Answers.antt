@@ -16,7 +16,7 @@ look-answer-requires-clause-next g c =
     let kept = subst IsFaithful (sym v) t.faithful in
     let met = meets caller_of IsFaithful (knows c.args.pass) h shows kept in
     let same = t.sees ∙ ap (sees (knows c.args.pass)) (sym v) in
-    look_made (knows c.args.pass) h shows kept.legal _ c.args.text.now c.args.plain c.number-by.ensures c.requires.may
+    look_made t.laws (knows c.args.pass) h shows kept.legal _ c.args.text.now c.args.plain c.number-by.ensures c.requires.may
 
 pub look-answer-requires-clause-caller : goal.look-answer-requires-clause-caller
 look-answer-requires-clause-caller g c = look_caller (knows c.args.pass) _ c.args.text.now c.args.plain c.number-by.ensures c.requires.may
