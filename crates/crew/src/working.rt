@@ -80,10 +80,10 @@ pub fn drain<W: Work, G: Gate, R: Wait>(
     ensures lock { IsPassOn board.now result.0 }
     ensures drained { MatchResult result.1 (λ _. Drained W.meaning pipe (knows pass) (knows result.0) into.old.list into.new.list) (λ e. (e ≡ BoardErr.Memory) × (into.new.list ≡ into.old.list) × Worked (knows pass) (knows result.0)) }
 {
+    others_leave::<W::Ask, W::Out>();
     let mut mine = pass;
     for _ in rt.forever() {
         let worked = work_while(rt, board, mine, gate);
-        others_leave::<W::Ask, W::Out>();
         let watch = board.watch_ends();
         let (drained, answer) = board.try_drain(rt, worked, pipe, into);
         match answer {
