@@ -7,8 +7,8 @@ use Rattle.std.proofs.lemmas.List.{append_assoc, append-nil}
 use Rattle.std.proofs.lemmas.List.Folds.{list_any-append}
 use Rattle.std.proofs.Math.Nat.{eq-or-lt_of_le}
 use Rattle.turn_lock.specs.Turns.{Known, Shows, Each, Has, StartsWith, of, gives_number, gets_number, joined, skipped}
-use Rattle.turn_lock.proofs.Lists.{none_after}
-use Rattle.turn_lock.proofs.Clients.{starts_through}
+use Rattle.turn_lock.specs.Going.{none_after}
+use Rattle.turn_lock.specs.Going.{starts_through}
 use Rattle.board.specs.declared.entry.BoardEntry.{BoardEntry}
 use Rattle.board.specs.Legal.{is_shut, is_shut_entry}
 use Rattle.board.specs.Staying.{is_work}

@@ -35,7 +35,7 @@ use Rattle.transforms.specs.declared.request.Finished.{Finished}
 use Rattle.transforms.specs.AskValue.{ask_size}
 use Rattle.turn_lock.specs.Turns.{Known, sees}
 use Rattle.turn_lock.specs.Meeting.{AtTurn, Enters, Leaves, IsOwn}
-use Rattle.turn_lock.proofs.Clients.{still_kept, own_entered}
+use Rattle.turn_lock.specs.Going.{still_kept, own_entered}
 use Rattle.crew.specs.Working.{Worked, Drained as CrewDrained}
 use Rattle.dialogues.specs.RegistryCalls.{if_own}
 use Rattle.dialogues.specs.BoardCalls.{BoardCall, Creates, Submits, Enqueues, Holds, Goes, Collects, Closes, Shuts, Started, Completed, asked_by, outcome, board_calls, notice_of, line_in, collected_to}

@@ -23,7 +23,7 @@ use Rattle.board.proofs.Handing.{hands_nothing, collect_hands_out, leaves_others
 use Rattle.transforms.specs.declared.ask.Ask.{Ask}
 use Rattle.turn_lock.specs.Turns.{Known, StartsWith, sees, adds, of}
 use Rattle.turn_lock.specs.Meeting.{Meets, GoesOn, Enters, Leaves}
-use Rattle.turn_lock.proofs.Clients.{goes_left, goes_entered}
+use Rattle.turn_lock.specs.Going.{goes_left, goes_entered}
 use Rattle.dialogues.specs.RegistryCalls.{prepend}
 use Rattle.dialogues.specs.BoardCalls.{BoardCall, outcome, is_called, board_call_of, board_calls}
 use Rattle.dialogues.specs.Walk.{Pipe}

@@ -1,4 +1,5 @@
 pub mod Keeping
+pub mod Histories
 pub mod Going
 pub mod Turning
 pub mod Asking

@@ -18,7 +18,7 @@ use Rattle.board.proofs.KeptQueue.{next_untaken}
 use Rattle.board.proofs.QueueOrder.{served_run, served_start}
 use Rattle.board.proofs.Handing.{front_is_all}
 use Rattle.board.proofs.Staying.{takers-other}
-use Rattle.crew.specs.Ends.{IsAllFinished, NoWorkIsRight, ShutIsLast}
+use Rattle.board.specs.Ends.{IsAllFinished, NoWorkIsRight, ShutIsLast}
 
 more_left : {X : Type 0} (xs ys : List X) → xs ≢ [] → xs ++ ys ≢ []
 more_left [] ys h e = h refl

@@ -11,8 +11,8 @@ use Rattle.board.proofs.PadOrder.{filter_map-none}
 use Rattle.board.proofs.Transfer.{each_right}
 use Rattle.board.proofs.Kept.{closed-same}
 use Rattle.turn_lock.specs.Turns.{Each}
-use Rattle.crew.proofs.Ends.{IsRun, run_step, ends_all}
-use Rattle.crew.specs.Ends.{IsAllFinished, AllIsFinished}
+use Rattle.board.proofs.Ends.{IsRun, run_step, ends_all}
+use Rattle.board.specs.Ends.{IsAllFinished, AllIsFinished}
 
 module _ {A : Type 0} where
   abbrev IsEnd : List (BoardEntry A) → Type 0

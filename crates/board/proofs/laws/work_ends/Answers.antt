@@ -1,6 +1,6 @@
-use Rattle.crew.proofs.Closed.{all_finished}
-use Rattle.crew.proofs.Ends.{no_work_is_right, shut_is_last}
-use Rattle.crew.proofs.laws.work_ends.Goals as goal
+use Rattle.board.proofs.Closed.{all_finished}
+use Rattle.board.proofs.Ends.{no_work_is_right, shut_is_last}
+use Rattle.board.proofs.laws.work_ends.Goals as goal
 
 pub returns-clause-all_finished : goal.returns-clause-all_finished
 returns-clause-all_finished g c = all_finished
