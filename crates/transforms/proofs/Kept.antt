@@ -1,5 +1,5 @@
 -- What is kept of a key is the plan's.
-use Rattle.std.proofs.Common.{◌≡◌, ℕ, List, refl, ap, ap₂, sym, ◌∙◌}
+use Rattle.std.proofs.Common.{◌≡◌, ℕ, List, refl, ap, ap₂, ◌∙◌}
 use Rattle.templates.specs.declared.driver_plans.AesForm.{AesForm}
 use Rattle.templates.specs.declared.driver_plans.Plan.{Plan}
 use Rattle.templates.specs.declared.driver_plans.Plan.TheVariants as plan
@@ -19,9 +19,6 @@ use Rattle.transforms.specs.declared.request.Request.{Request}
 
 pub kept_hmac : (m : AnyMac) (key : List ℕ) → IsMac m plan.Hmac key → IsKeyed (Mac m) plan.Hmac key
 kept_hmac m key h = record { kind = refl; form = h.form; aes_key = h.aes_key; iv = refl; tags = λ n. refl; input = refl; mac_size = h.size; gives = h.gives }
-
-pub kept_cmac : (m : AnyMac) (form : AesForm) (key : List ℕ) → IsMac m (plan.Cmac form) key → IsKeyed (Mac m) (plan.Cmac form) key
-kept_cmac m form key h = record { kind = refl; form = h.form; aes_key = h.aes_key; iv = refl; tags = λ n. refl; input = refl; mac_size = h.size; gives = h.gives }
 
 pub kept_cipher : (c : AnyCipher) (m : CipherMode) (form : AesForm) (key : List ℕ) → ciphers.IsCipher c (ciphers.cipher_plan m form) key
     → IsKeyed (Skcipher c) (ciphers.cipher_plan m form) key

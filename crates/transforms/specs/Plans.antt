@@ -124,8 +124,8 @@ iv_size (AuthencCtr aes) = 16
 iv_size (AuthencRfc3686 aes) = 8
 iv_size (AuthencXts aes) = 16
 
--- what CCM takes beside an IV of its size (SP 800-38C, A): byte 0 of the IV is 1 to 7, the associated bytes are so few that
--- their number stands in two bytes, and so are those of the text, whose number stands in q, of which there may be two
+-- CCM takes an IV whose byte 0 is 1 to 7 (SP 800-38C, A.1), fewer than 2^16 - 2^8 associated bytes, whose number then stands in
+-- two bytes (A.2.2), and fewer than 2^16 bytes of text, whose number then stands in q bytes for each q
 abbrev pub ccm_takes_input : List ℕ → ℕ → ℕ → Bool
 ccm_takes_input iv associated text = ccm_takes_iv iv && nat_lt associated 65280 && nat_lt text 65536
 

@@ -1,5 +1,5 @@
 use Rattle.std.proofs.Common.{refl}
-use Rattle.transforms.proofs.Kept.{kept_hmac, kept_cmac}
+use Rattle.transforms.proofs.Kept.{kept_hmac}
 use Rattle.transforms.proofs.inner.inner_of.Goals as goal
 
 pub returns-in-Hmac : goal.returns-in-Hmac
