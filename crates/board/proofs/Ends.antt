@@ -26,9 +26,9 @@ more_left (x ∷ xs) ys h e = cc
 
 module _ {A : Type 0} where
   -- of a pipeline's numbers those that were taken were submitted, and those that are finished were taken
-  record IsRun (es : List (BoardEntry A)) : Type 0 where
-    submitted : (n : ℕ) → takers n es ≢ [] → n < length (submissions es)
-    taken : (n : ℕ) → has n (finished es) ≡ true → takers n es ≢ []
+  pub record IsRun (es : List (BoardEntry A)) : Type 0 where
+    pub submitted : (n : ℕ) → takers n es ≢ [] → n < length (submissions es)
+    pub taken : (n : ℕ) → has n (finished es) ≡ true → takers n es ≢ []
 
   longer : (es : List (BoardEntry A)) (e : BoardEntry A) → length (submissions es) ≤ length (submissions (es ++ e ∷ []))
   longer es e =
@@ -70,7 +70,7 @@ module _ {A : Type 0} where
         (sym (takers-same es e m t) ∙ none);
   }
 
-  run_step : (es : List (BoardEntry A)) (e : BoardEntry A) → IsRun es → IsRightFor es e → IsRun (es ++ e ∷ [])
+  pub run_step : (es : List (BoardEntry A)) (e : BoardEntry A) → IsRun es → IsRightFor es e → IsRun (es ++ e ∷ [])
   run_step es (Born caller pipe shape) run r = quiet es (Born caller pipe shape) run refl refl
   run_step es (Submit caller pipe number ask) run r = quiet es (Submit caller pipe number ask) run refl refl
   run_step es (Take caller pipe number) run r = takes es (Take caller pipe number) number caller run refl refl r.1
@@ -93,7 +93,7 @@ module _ {A : Type 0} where
   runs : (h : List (BoardEntry A)) (p : ℕ) → LegalBoard h → IsRun (entries_of p h)
   runs h p legal = run_on [] (entries_of p h) (record { submitted = λ n x. absurd (x refl); taken = λ n x. cc }) (each_right [] h p legal)
 
-  ends_all : (es : List (BoardEntry A)) (n caller : ℕ) → IsRun es → front es ≡ length (submissions es) → takers n es ≡ caller ∷ [] → has n (finished es) ≡ false → ⊥
+  pub ends_all : (es : List (BoardEntry A)) (n caller : ℕ) → IsRun es → front es ≡ length (submissions es) → takers n es ≡ caller ∷ [] → has n (finished es) ≡ false → ⊥
   ends_all es n caller run all by open_ =
       both_ways (has n (finished es)) open_ (front_is_all es all n (run.submitted n (λ none. (let e : caller ∷ [] ≡ [] = sym by ∙ none in cc))))
 

@@ -24,3 +24,4 @@ pub mod QueueAll
 pub mod Handing
 pub mod Others
 pub mod Ends
+pub mod Closed
