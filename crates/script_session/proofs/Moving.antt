@@ -48,24 +48,27 @@ one-posted before later live live' k l calls are changes =
     let most = λ (number : ℕ). subst (λ ls. owners number ls ≤ 1) are.1 (posted.apart number) in
     let first = others-stay k l live.pipe before changes.others (λ number at. (beside number before later live (most number) at).0) (All-left (IsOn k) before (live ∷ later) were) in
     let rest = others-stay k l live.pipe later changes.others (λ number at. (beside number before later live (most number) at).1) (All-tail (IsOn k) live later (All-right (IsOn k) before (live ∷ later) were)) in
-    let same : accepted_by l.number l.seen ≡ accepted_by k.number k.seen = changes.accepted ∙ append-nil (accepted_by k.number k.seen) in
-    (record walk { lives = now }, refl, record {
-      outsider = subst IsNoWorker (sym changes.called.number) posted.outsider;
-      legal = changes.legal;
-      pipes = All-append (IsOn l) before (live' ∷ later) first (All-cons (IsOn l) live' later changes.pipe rest);
-      apart = λ number.
-          (let new = owners-append number before (live' ∷ later) in
-          let old = owners-append number before (live ∷ later) in
-          let counted : Bool → ℕ = λ t. cond t 1 0 in
-          let one : counted (is_at number live'.pipe) ≡ counted (is_at number live.pipe) = ap counted (changes.same number) in
-          let few = most number in
-          let goal : owners number now ≤ 1 = omega (arith, new, old, one, few) in
-          goal);
-      owned = λ number owns. by_place number (is_at number live.pipe) refl owns;
-      requests = ap length same ∙ posted.requests;
-      bytes = ap (sum_by ask_size) same ∙ posted.bytes;
-      unshut = λ zero_is. changes.unshut (sym changes.called.number ∙ zero_is) ∙ posted.unshut (sym changes.called.number ∙ zero_is);
-    })
+    let same : accepted_by l.number l.seen ≡ accepted_by k.number k.seen = changes.accepted ∙ append-nil (accepted_by k.number k.seen) in (
+      record walk { lives = now },
+      refl,
+      record {
+        outsider = subst IsNoWorker (sym changes.called.number) posted.outsider;
+        legal = changes.legal;
+        pipes = All-append (IsOn l) before (live' ∷ later) first (All-cons (IsOn l) live' later changes.pipe rest);
+        apart = λ number.
+            (let new = owners-append number before (live' ∷ later) in
+            let old = owners-append number before (live ∷ later) in
+            let counted : Bool → ℕ = λ t. cond t 1 0 in
+            let one : counted (is_at number live'.pipe) ≡ counted (is_at number live.pipe) = ap counted (changes.same number) in
+            let few = most number in
+            let goal : owners number now ≤ 1 = omega (arith, new, old, one, few) in
+            goal);
+        owned = λ number owns. by_place number (is_at number live.pipe) refl owns;
+        requests = ap length same ∙ posted.requests;
+        bytes = ap (sum_by ask_size) same ∙ posted.bytes;
+        unshut = λ zero_is. changes.unshut (sym changes.called.number ∙ zero_is) ∙ posted.unshut (sym changes.called.number ∙ zero_is);
+      },
+    )
   where
     by_place : (number : ℕ) (t : Bool) → is_at number live.pipe ≡ t → Owns l number → 1 ≤ owners number (before ++ live' ∷ later)
     by_place number true at owns =
