@@ -18,9 +18,9 @@ use Rattle.transforms.specs.declared.request.Finished.{Finished}
 use Rattle.turn_lock.specs.Turns.{Known, sees}
 use Rattle.dialogues.specs.BoardCalls.{BoardCall, Goes, Collects, Shuts}
 use Rattle.dialogues.specs.Dialogues.{Dialogue, Ends, Posts}
-use Rattle.dialogues.specs.Piping.{lets_go, let_all_go, drains_at_end, drain_all, end, said_at_end, notice_said, completions as completed_in}
+use Rattle.dialogues.specs.Piping.{lets_go, let_all_go, drains_at_end, drain_all, end, said_at_end, notice_said}
 use Rattle.dialogues.specs.Questions.{Shut}
-use Rattle.dialogues.specs.Turns.{Turn, IsTurn, ended, joined, posting}
+use Rattle.dialogues.specs.Turns.{IsTurn, ended, joined, posting}
 use Rattle.dialogues.specs.Walk.{Walk, Live, Pipe}
 use Rattle.session_calls.specs.Asking.{Asked}
 use Rattle.session_calls.specs.Passes.{RegPass, BoardPass, known, lock_of}

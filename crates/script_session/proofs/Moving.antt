@@ -1,9 +1,9 @@
 -- Transforms change one after another, each by its part of the end of input.
-use Rattle.std.proofs.Common.{◌≡◌, ℕ, ◌+◌, ◌<◌, ◌≤◌, Bool, true, false, cond, List, [], ◌∷◌, ◌++◌, length, map, Option, Some, None, Result, Ok, Err, refl, sym, ap, subst, ◌∙◌, append-nil, append_assoc, arith, take, drop, get_or, slice_index_or}
-use Rattle.std.specs.Prelude.{◌==◌, All, MatchResult, sum_by}
+use Rattle.std.proofs.Common.{◌≡◌, ℕ, ◌+◌, ◌<◌, ◌≤◌, Bool, true, false, cond, List, [], ◌∷◌, ◌++◌, length, map, Result, Ok, Err, refl, sym, ap, subst, ◌∙◌, append-nil, append_assoc, arith, take, drop, get_or, slice_index_or}
+use Rattle.std.specs.Prelude.{All, MatchResult, sum_by}
 use Rattle.std.specs.Result.{IsErr}
 use Rattle.std.proofs.Math.ListN.{set}
-use Rattle.std.proofs.lemmas.List.{length-map, map-append, take_more, take_more_set, drop_more, get_or-drop, take-append-drop, take-set, drop-set, drop-set-lt, take_all, length-set}
+use Rattle.std.proofs.lemmas.List.{length-map, map-append, take_more, take_more_set, drop_more, get_or-drop, take-append-drop, take-set, drop-set, drop-set-lt, take_all}
 use Rattle.std.proofs.lemmas.List.Elements.{All-nil, All-cons, All-head, All-tail, All-append}
 use Rattle.board.specs.declared.entry.BoardEntry.{BoardEntry}
 use Rattle.board.specs.Allowance.{accepted_by}
@@ -14,13 +14,13 @@ use Rattle.transforms.specs.AskValue.{ask_size}
 use Rattle.turn_lock.specs.Turns.{Known}
 use Rattle.dialogues.specs.BoardCalls.{BoardCall}
 use Rattle.dialogues.specs.Dialogues.{Dialogue}
-use Rattle.dialogues.specs.Walk.{Walk, Live, Pipe}
+use Rattle.dialogues.specs.Walk.{Live}
 use Rattle.session_calls.specs.Pipelines.{Owns}
 use Rattle.session_calls.proofs.Boarding.{kept-same, called-more, starts-trans}
 use Rattle.script_session.specs.Changing.{Changes}
-use Rattle.script_session.specs.Ending.{LeadsBy, Moves, MovesAll, ArePosted, AreAllPaid, IsPaid, place_of}
+use Rattle.script_session.specs.Ending.{Moves, MovesAll, ArePosted, AreAllPaid, IsPaid, place_of}
 use Rattle.script_session.specs.Holding.{SeesOn}
-use Rattle.script_session.specs.States.{HasPipe, Posted, is_at, owners}
+use Rattle.script_session.specs.States.{HasPipe, is_at, owners}
 use Rattle.script_session.proofs.Arms.{sees-same, called-sees}
 use Rattle.script_session.proofs.Changing.{IsOn, All-left, All-right, owners-append, others-stay, beside}
 use Rattle.script_session.proofs.Leading.{leads-then, leads-same, leads-nothing}

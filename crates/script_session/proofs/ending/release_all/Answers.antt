@@ -1,4 +1,4 @@
-use Rattle.std.proofs.Common.{◌≡◌, ◌∙◌, ◌<◌, ◌≤◌, [], refl, sym, subst}
+use Rattle.std.proofs.Common.{◌∙◌, ◌<◌, ◌≤◌, [], refl, sym, subst}
 use Rattle.dialogues.specs.Piping.{lets_go, let_all_go}
 use Rattle.dialogues.specs.Walk.{Live}
 use Rattle.session_calls.specs.Passes.{known}
