@@ -18,12 +18,12 @@ use Rattle.transforms.specs.declared.request.Finished.{Finished}
 use Rattle.turn_lock.specs.Turns.{Known, sees}
 use Rattle.dialogues.specs.BoardCalls.{BoardCall, Goes, Collects, Shuts}
 use Rattle.dialogues.specs.Dialogues.{Dialogue, Ends, Posts}
-use Rattle.dialogues.specs.Piping.{lets_go, let_all_go, drains_at_end, drain_all, end, said_at_end, notice_said, completions as completed_in}
+use Rattle.dialogues.specs.Piping.{lets_go, let_all_go, drains_at_end, drain_all, end, said_at_end, notice_said}
 use Rattle.dialogues.specs.Questions.{Shut}
-use Rattle.dialogues.specs.Turns.{Turn, IsTurn, ended, joined, posting}
+use Rattle.dialogues.specs.Turns.{IsTurn, ended, joined, posting}
 use Rattle.dialogues.specs.Walk.{Walk, Live, Pipe}
 use Rattle.session_calls.specs.Asking.{Asked}
-use Rattle.session_calls.specs.Passes.{known}
+use Rattle.session_calls.specs.Passes.{RegPass, BoardPass, known, lock_of}
 use Rattle.session_calls.specs.Pipelines.{KnowsPipe, Called, Changed, Drained, IsShut, notice_by}
 use Rattle.session_calls.proofs.BoardCalls.{all-drained}
 use Rattle.session_calls.proofs.Boarding.{kept-same, called-more}
@@ -32,6 +32,7 @@ use Rattle.script_session.specs.Ending.{LeadsBy, part, Moves, MovesAll, ArePoste
 use Rattle.script_session.specs.Keyed.{held_as, delivering}
 use Rattle.script_session.specs.States.{State, SameLocks, Stands, HasPipe, is_at, owners}
 use Rattle.script_session.specs.Telling.{callback_said}
+use Rattle.script_session.proofs.Arms.{viewed}
 use Rattle.script_session.proofs.Changing.{IsOn, changes-pipe, changes-kept}
 use Rattle.script_session.proofs.Leading.{leads-same, goes-held, drains-some, drains-same}
 use Rattle.script_session.proofs.Piped.{held-live, said-is, count-is, delivered-live}
@@ -126,6 +127,21 @@ end-answers s s' gone lives' k l answers text text' locks same stands lets drain
           ∙ ap (λ xs. text ++ flat_map text_of xs)
           (drains.says ∙ (sym (append-nil drains.said) ∙ ap (λ xs. xs ++ (drains.said ++ [])) lets.says));
     }
+
+module _ {ws c : ℕ} {items left : List Live} {q v : ℕ} {r : Option RegPass} {b b' : Option BoardPass} (s : State) (view : viewed ws c items q v r b ≡ s) where
+  -- the lists that the two loops go over are the session's own
+  pub end-arm : (first first' second second' : List Live) (k l : Known (BoardEntry Ask)) (none answers slice : List Answer) (text text' : List ℕ) → first ≡ items → second ≡ first' → none ≡ [] → slice ≡ answers → lock_of b' ≡ lock_of b
+      → Stands s.walk.lives (known s.registry) → MovesAll (let_all_go first) first first' (known b) k [] [] → MovesAll (drain_all second) second second' k l none answers → Called l (known b') (Shuts ∷ [])
+      → text' ≡ text ++ flat_map text_of slice → AnswersEnd s (viewed ws c left q v r b') text text'
+  end-arm first first' second second' k l none answers slice text text' at_first at_second empty same lock stands lets drains shuts put =
+      let lives_are : first ≡ s.walk.lives = at_first ∙ ap (λ (x : State). x.walk.lives) view in
+      let lets' : MovesAll (let_all_go s.walk.lives) s.walk.lives first' (known s.board) k [] [] =
+      subst (λ (x : State). MovesAll (let_all_go s.walk.lives) s.walk.lives first' (known x.board) k [] []) view (subst (λ ls. MovesAll (let_all_go ls) ls first' (known b) k [] []) lives_are lets) in
+      let drains' : MovesAll (drain_all first') first' second' k l [] answers =
+      subst (λ a. MovesAll (drain_all first') first' second' k l a answers) empty (subst (λ ls. MovesAll (drain_all ls) ls second' k l none answers) at_second drains) in
+      end-answers s (viewed ws c left q v r b') first' second' k l answers text text'
+      (record { registry = ap (λ (x : State). lock_of x.registry) view; board = lock ∙ ap (λ (x : State). lock_of x.board) view; workers = ap (λ (x : State). x.workers) view })
+      (ap (λ (x : State). x.registry) view) stands lets' drains' shuts (put ∙ ap (λ a. text ++ flat_map text_of a) same)
 
 -- ---- each pipeline is finished
 

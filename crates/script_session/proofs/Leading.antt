@@ -10,7 +10,6 @@ use Rattle.dialogues.specs.Turns.{joined, turn_of}
 use Rattle.dialogues.specs.Walk.{Live, Pipe}
 use Rattle.dialogues.proofs.Leading.{joined-assoc}
 use Rattle.script_session.specs.Ending.{LeadsBy, part, place_of}
-use Rattle.script_session.specs.States.{is_at, owners}
 
 pub leads-nothing : LeadsBy (λ rest. rest) [] []
 leads-nothing = λ rest r b. refl

@@ -1,8 +1,9 @@
 -- Transforms change one after another, each by its part of the end of input.
-use Rattle.std.proofs.Common.{◌≡◌, ℕ, ◌+◌, ◌<◌, ◌≤◌, Bool, true, false, cond, List, [], ◌∷◌, ◌++◌, length, map, Option, Some, None, refl, sym, ap, subst, ◌∙◌, append-nil, append_assoc, arith, take, drop, get_or, slice_index_or}
-use Rattle.std.specs.Prelude.{◌==◌, All, sum_by}
+use Rattle.std.proofs.Common.{◌≡◌, ℕ, ◌+◌, ◌<◌, ◌≤◌, Bool, true, false, cond, List, [], ◌∷◌, ◌++◌, length, map, Result, Ok, Err, refl, sym, ap, subst, ◌∙◌, append-nil, append_assoc, arith, take, drop, get_or, slice_index_or}
+use Rattle.std.specs.Prelude.{All, MatchResult, sum_by}
+use Rattle.std.specs.Result.{IsErr}
 use Rattle.std.proofs.Math.ListN.{set}
-use Rattle.std.proofs.lemmas.List.{length-map, map-append, take_more, take_more_set, drop_more, get_or-drop, take-append-drop, take-set, drop-set, drop-set-lt, take_all, length-set}
+use Rattle.std.proofs.lemmas.List.{length-map, map-append, take_more, take_more_set, drop_more, get_or-drop, take-append-drop, take-set, drop-set, drop-set-lt, take_all}
 use Rattle.std.proofs.lemmas.List.Elements.{All-nil, All-cons, All-head, All-tail, All-append}
 use Rattle.board.specs.declared.entry.BoardEntry.{BoardEntry}
 use Rattle.board.specs.Allowance.{accepted_by}
@@ -13,14 +14,27 @@ use Rattle.transforms.specs.AskValue.{ask_size}
 use Rattle.turn_lock.specs.Turns.{Known}
 use Rattle.dialogues.specs.BoardCalls.{BoardCall}
 use Rattle.dialogues.specs.Dialogues.{Dialogue}
-use Rattle.dialogues.specs.Walk.{Walk, Live, Pipe}
+use Rattle.dialogues.specs.Walk.{Live}
 use Rattle.session_calls.specs.Pipelines.{Owns}
-use Rattle.session_calls.proofs.Boarding.{kept-same, called-more}
+use Rattle.session_calls.proofs.Boarding.{kept-same, called-more, starts-trans}
 use Rattle.script_session.specs.Changing.{Changes}
-use Rattle.script_session.specs.Ending.{LeadsBy, Moves, MovesAll, ArePosted, AreAllPaid, IsPaid, place_of}
-use Rattle.script_session.specs.States.{HasPipe, Posted, is_at, owners}
+use Rattle.script_session.specs.Ending.{Moves, MovesAll, ArePosted, AreAllPaid, IsPaid, place_of}
+use Rattle.script_session.specs.Holding.{SeesOn}
+use Rattle.script_session.specs.States.{HasPipe, is_at, owners}
+use Rattle.script_session.proofs.Arms.{sees-same, called-sees}
 use Rattle.script_session.proofs.Changing.{IsOn, All-left, All-right, owners-append, others-stay, beside}
 use Rattle.script_session.proofs.Leading.{leads-then, leads-same, leads-nothing}
+
+pub sees-on : (k l m : Known (BoardEntry Ask)) → SeesOn k l → SeesOn l m → SeesOn k m
+sees-on k l m first later =
+    record {
+      more = record {
+        number = later.more.number ∙ first.more.number;
+        next = later.more.next ∙ first.more.next;
+        seen = starts-trans k.seen l.seen m.seen first.more.seen later.more.seen;
+      };
+      unshut = λ zero_is. later.unshut (first.more.number ∙ zero_is) ∙ first.unshut zero_is;
+    }
 
 -- ---- one of them changes
 
@@ -34,24 +48,27 @@ one-posted before later live live' k l calls are changes =
     let most = λ (number : ℕ). subst (λ ls. owners number ls ≤ 1) are.1 (posted.apart number) in
     let first = others-stay k l live.pipe before changes.others (λ number at. (beside number before later live (most number) at).0) (All-left (IsOn k) before (live ∷ later) were) in
     let rest = others-stay k l live.pipe later changes.others (λ number at. (beside number before later live (most number) at).1) (All-tail (IsOn k) live later (All-right (IsOn k) before (live ∷ later) were)) in
-    let same : accepted_by l.number l.seen ≡ accepted_by k.number k.seen = changes.accepted ∙ append-nil (accepted_by k.number k.seen) in
-    (record walk { lives = now }, refl, record {
-      outsider = subst IsNoWorker (sym changes.called.number) posted.outsider;
-      legal = changes.legal;
-      pipes = All-append (IsOn l) before (live' ∷ later) first (All-cons (IsOn l) live' later changes.pipe rest);
-      apart = λ number.
-          (let new = owners-append number before (live' ∷ later) in
-          let old = owners-append number before (live ∷ later) in
-          let counted : Bool → ℕ = λ t. cond t 1 0 in
-          let one : counted (is_at number live'.pipe) ≡ counted (is_at number live.pipe) = ap counted (changes.same number) in
-          let few = most number in
-          let goal : owners number now ≤ 1 = omega (arith, new, old, one, few) in
-          goal);
-      owned = λ number owns. by_place number (is_at number live.pipe) refl owns;
-      requests = ap length same ∙ posted.requests;
-      bytes = ap (sum_by ask_size) same ∙ posted.bytes;
-      unshut = λ zero_is. changes.unshut (sym changes.called.number ∙ zero_is) ∙ posted.unshut (sym changes.called.number ∙ zero_is);
-    })
+    let same : accepted_by l.number l.seen ≡ accepted_by k.number k.seen = changes.accepted ∙ append-nil (accepted_by k.number k.seen) in (
+      record walk { lives = now },
+      refl,
+      record {
+        outsider = subst IsNoWorker (sym changes.called.number) posted.outsider;
+        legal = changes.legal;
+        pipes = All-append (IsOn l) before (live' ∷ later) first (All-cons (IsOn l) live' later changes.pipe rest);
+        apart = λ number.
+            (let new = owners-append number before (live' ∷ later) in
+            let old = owners-append number before (live ∷ later) in
+            let counted : Bool → ℕ = λ t. cond t 1 0 in
+            let one : counted (is_at number live'.pipe) ≡ counted (is_at number live.pipe) = ap counted (changes.same number) in
+            let few = most number in
+            let goal : owners number now ≤ 1 = omega (arith, new, old, one, few) in
+            goal);
+        owned = λ number owns. by_place number (is_at number live.pipe) refl owns;
+        requests = ap length same ∙ posted.requests;
+        bytes = ap (sum_by ask_size) same ∙ posted.bytes;
+        unshut = λ zero_is. changes.unshut (sym changes.called.number ∙ zero_is) ∙ posted.unshut (sym changes.called.number ∙ zero_is);
+      },
+    )
   where
     by_place : (number : ℕ) (t : Bool) → is_at number live.pipe ≡ t → Owns l number → 1 ≤ owners number (before ++ live' ∷ later)
     by_place number true at owns =
@@ -73,6 +90,7 @@ one-posted before later live live' k l calls are changes =
 pub record OnTheWay (all : List Live → Dialogue → Dialogue) (i : ℕ) (lives now : List Live) (k l : Known (BoardEntry Ask)) (answers answers' : List Answer) : Type 0 where
   pub moves : MovesAll (all (take i lives)) lives now k l answers answers'
   pub left : drop i now ≡ drop i lives
+  pub sees : SeesOn k l
 
 pub sets-out : (all : List Live → Dialogue → Dialogue) (lives : List Live) (k : Known (BoardEntry Ask)) (answers : List Answer) → ((rest : Dialogue) → all [] rest ≡ rest) → ArePosted lives k → LegalBoard k.seen
     → OnTheWay all 0 lives lives k k answers answers
@@ -88,6 +106,7 @@ sets-out all lives k answers nothing are legal =
         says = sym (append-nil answers);
       };
       left = refl;
+      sees = sees-same k;
     }
 
 abbrev rest_of : List Live → List Live
@@ -156,6 +175,7 @@ module _ (all : List Live → Dialogue → Dialogue) (one : Live → Dialogue �
             ap (drop (i + 1)) set_to
             ∙ (drop-set-lt (i + 1) now i live' on
             ∙ (sym (drop-rest now i live within) ∙ (ap rest_of way.left ∙ drop-rest lives i live inside)));
+        sees = sees-on k l l' way.sees (called-sees l l' m.calls m.changes.called m.changes.unshut);
       }
 
   -- and those before it have handed all out
@@ -165,9 +185,16 @@ module _ (all : List Live → Dialogue → Dialogue) (one : Live → Dialogue �
       (All-append (λ (x : Live). IsPaid x.pipe) (take i now) (live' ∷ []) before (All-cons (λ (x : Live). IsPaid x.pipe) live' [] this (All-nil (λ (x : Live). IsPaid x.pipe))))
 
 -- at the end all have changed
-pub all-moved : (all : List Live → Dialogue → Dialogue) (i : ℕ) (lives now : List Live) (k l : Known (BoardEntry Ask)) (answers said : List Answer) → OnTheWay all i lives now k l answers said → length lives ≤ i
+pub all-moved : (all : List Live → Dialogue → Dialogue) (i : ℕ) (lives now : List Live) (k l : Known (BoardEntry Ask)) (answers said : List Answer) → OnTheWay all i lives now k l answers said → length now ≤ i
     → MovesAll (all lives) lives now k l answers said
-all-moved all i lives now k l answers said way past = subst (λ ls. MovesAll (all ls) lives now k l answers said) (take_all i lives past) way.moves
+all-moved all i lives now k l answers said way past =
+    let same : length now ≡ length lives = sym (length-map now place_of) ∙ (ap length way.moves.places ∙ length-map lives place_of) in
+    subst (λ ls. MovesAll (all ls) lives now k l answers said) (take_all i lives (subst (λ n. n ≤ i) same past)) way.moves
 
-pub all-paid : (i : ℕ) (lives now : List Live) → AreAllPaid (take i now) → length now ≤ i → AreAllPaid now
-all-paid i lives now paid past = subst AreAllPaid (take_all i now past) paid
+pub all-paid : (i : ℕ) (now : List Live) → AreAllPaid (take i now) → length now ≤ i → AreAllPaid now
+all-paid i now paid past = subst AreAllPaid (take_all i now past) paid
+
+-- memory was wanting
+pub fails : {A S : Type 0} (result : Result A S) (Moved : Type 0) {Stopped : Type 0} → IsErr result → Stopped → MatchResult result (λ _. Moved) (λ _. Stopped)
+fails (Ok done) Moved is stopped = absurd cc
+fails (Err stop) Moved is stopped = stopped

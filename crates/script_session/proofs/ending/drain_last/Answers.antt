@@ -1,12 +1,12 @@
-use Rattle.std.proofs.Common.{◌≡◌, ap, sym, ◌∙◌, ◌++◌, map, append_assoc}
+use Rattle.std.proofs.Common.{ap, sym, ◌∙◌, ◌++◌, map, append_assoc}
 use Rattle.board.specs.Handing.{completions}
 use Rattle.dialogues.specs.Walk.{Pipe}
 use Rattle.session_calls.specs.Passes.{known}
 use Rattle.script_session.specs.Ending.{end_said}
 use Rattle.script_session.specs.Telling.{callback_said}
-use Rattle.script_session.proofs.Ended.{stays-put, drains-last, paid-last}
+use Rattle.script_session.proofs.Ended.{stays-put, drains-last}
 use Rattle.script_session.proofs.Leading.{drains-none}
-use Rattle.script_session.proofs.Piped.{from-empty, may-deliver}
+use Rattle.script_session.proofs.Piped.{from-empty}
 use Rattle.script_session.proofs.ending.drain_last.Goals as goal
 
 pub returns-in_default-clause-moved : goal.returns-in_default-clause-moved

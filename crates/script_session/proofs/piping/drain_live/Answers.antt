@@ -1,4 +1,4 @@
-use Rattle.std.proofs.Common.{refl, ap, sym, ◌∙◌, ◌++◌, ◌∷◌, [], map, append_assoc}
+use Rattle.std.proofs.Common.{ap, sym, ◌∙◌, ◌++◌, ◌∷◌, [], map, append_assoc}
 use Rattle.board.specs.Handing.{completions}
 use Rattle.reply_text.specs.declared.answers.Answer.TheVariants.{Drained as DrainedSaid}
 use Rattle.script_session.specs.Telling.{callback_said}
