@@ -12,3 +12,4 @@ pub mod Children
 pub mod Outcomes
 pub mod Clients
 pub mod Trials
+pub mod Referring
