@@ -1,135 +1,82 @@
--- A run of a session, one line more.
-use Rattle.std.proofs.Common.{◌≡◌, ℕ, ◌+◌, ◌||◌, Bool, true, false, List, [], ◌∷◌, ◌++◌, length, take, map, Option, Some, None, IfSome, refl, sym, ap, subst, ◌∙◌, append_assoc, append-nil, add-zero, arith, inl, inr, length-append}
-use Rattle.std.specs.List.{flat_map, list_any}
+-- A script, line by line, and what it leaves.
+use Rattle.std.proofs.Common.{◌≡◌, ℕ, ◌+◌, ◌||◌, Bool, true, false, List, [], ◌∷◌, ◌++◌, length, map, Option, Some, None, refl, sym, ap, subst, ◌∙◌, append_assoc, append-nil, arith, inl, inr}
+use Rattle.std.specs.List.{list_any}
 use Rattle.std.specs.Io.KnownBytes.{Appends, Keeps}
 use Rattle.std.proofs.KnownBytes.{Appends-trans}
-use Rattle.std.proofs.lemmas.List.{take_all, take-append-le}
+use Rattle.std.proofs.lemmas.Grind.{flat_map-append}
 use Rattle.alg_registry.specs.declared.entry.RegEntry.{RegEntry}
+use Rattle.alg_registry.specs.Rows.{caller_of as reg_caller}
 use Rattle.board.specs.declared.entry.BoardEntry.{BoardEntry}
+use Rattle.dialogues.specs.BoardCalls.{BoardCall, board_calls, board_calls_from}
+use Rattle.dialogues.specs.Dialogues.{Dialogue, Ends as Done, followed}
+use Rattle.dialogues.specs.InTurn.{AreInTurn}
+use Rattle.dialogues.specs.Leading.{Leads}
+use Rattle.dialogues.specs.Lines.{line_dialogue, script}
+use Rattle.dialogues.specs.Piping.{end}
+use Rattle.dialogues.specs.RegistryCalls.{RegCall, reg_calls, reg_calls_from, AllSettled}
+use Rattle.dialogues.specs.Texts.{IsText, IsFrontText, turn_in}
+use Rattle.dialogues.specs.Turns.{Turn, IsTurn, ended, joined, text_in, turn_of}
+use Rattle.dialogues.specs.Walk.{Walk, start}
 use Rattle.kc_base.specs.Streams.{AppendsFront, IsPrefix}
-use Rattle.reply_text.specs.declared.answers.Answer.{Answer}
 use Rattle.reply_text.specs.Answers.{text_of}
+use Rattle.script_session.specs.Ending.{AnswersEnd}
+use Rattle.script_session.specs.Running.{IsReady, Replies}
+use Rattle.script_session.specs.States.{State, SameLocks}
 use Rattle.script_text.specs.declared.commands.Line.{Line}
 use Rattle.script_text.specs.Script.{line_of, script_of}
 use Rattle.script_text.specs.Lines.{lines_of}
-use Rattle.session.specs.BoardHistories.{board_calls}
-use Rattle.session.specs.Histories.{RegCall, reg_calls, AllSettled}
-use Rattle.session.specs.Lines.{LineTurn, LinesTurn}
-use Rattle.session.specs.Piping.{EndTurn}
-use Rattle.session.specs.Standing.{Extends, Does, Posts, Stands, Posted}
-use Rattle.session.specs.Turns.{Turn, silent, joined, text_in}
-use Rattle.session.specs.Walk.{Walk, start}
+use Rattle.session_calls.specs.Asking.{Asked}
+use Rattle.session_calls.specs.Passes.{known}
+use Rattle.session_calls.specs.Pipelines.{Called}
+use Rattle.shared_board.specs.declared.shared.SharedBoard.{SharedBoard}
+use Rattle.shared_registry.specs.declared.sharing.SharedRegistry.{SharedRegistry}
 use Rattle.transforms.specs.declared.ask.Ask.{Ask}
-use Rattle.crypto_script.specs.Runs.{Gains, GoesOn, Replies, Writes, Breaks}
-use Rattle.crypto_script.specs.Text.{Holds, HoldsFront, ScriptTurn, FrontTurn, IsText, IsFrontText, is_malformed}
+use Rattle.transforms.specs.declared.request.Finished.{Finished}
+use Rattle.turn_lock.specs.Meeting.{IsOwn}
+use Rattle.turn_lock.specs.Turns.{Known, StartsWith}
+use Rattle.crypto_script.specs.Laws.{Laws}
+use Rattle.script_session.specs.Holding.{HasSeenMore, Stops}
+use Rattle.crypto_script.specs.Runs.{Gains, GoesOn, IsFresh, Writes, Breaks, IsTextAfter, IsFrontAfter, InTurnAfter}
+use Rattle.crypto_script.specs.Text.{is_malformed}
+use Rattle.crypto_script.proofs.Following.{starts-trans, sees-same, sees-then, reg_calls-on, board_calls-on, reg_calls-same, board_calls-same, in_turn-on, followed-ends}
 
--- ---- turns
+-- ---- a session goes on
 
-same_turn : (a b : Turn) → a.registry ≡ b.registry → a.board ≡ b.board → a.answers ≡ b.answers → a.after ≡ b.after → a ≡ b
-same_turn a b r p t w =
-    ap (λ x. let y : Turn = record { registry = x; board = a.board; answers = a.answers; after = a.after } in y) r
-    ∙ (ap (λ x. let y : Turn = record { registry = b.registry; board = x; answers = a.answers; after = a.after } in y) p
-    ∙ (ap (λ x. let y : Turn = record { registry = b.registry; board = b.board; answers = x; after = a.after } in y) t
-    ∙ ap (λ x. let y : Turn = record { registry = b.registry; board = b.board; answers = b.answers; after = x } in y) w))
+pub goes-same : (s : State) → GoesOn s s
+goes-same s = record {
+  locks = record { registry = refl; board = refl; workers = refl };
+  registry = sees-same (known s.registry);
+  board = sees-same (known s.board);
+}
 
-joined-assoc : (a b c : Turn) → joined (joined a b) c ≡ joined a (joined b c)
-joined-assoc a b c = same_turn _ _ (append_assoc a.registry b.registry c.registry) (append_assoc a.board b.board c.board) (append_assoc a.answers b.answers c.answers) refl
+pub goes-then : (s t u : State) → GoesOn s t → GoesOn t u → GoesOn s u
+goes-then s t u a b = record {
+  locks = record { registry = b.locks.registry ∙ a.locks.registry; board = b.locks.board ∙ a.locks.board; workers = b.locks.workers ∙ a.locks.workers };
+  registry = sees-then (known s.registry) (known t.registry) (known u.registry) a.registry b.registry;
+  board = sees-then (known s.board) (known t.board) (known u.board) a.board b.board;
+}
 
-joined-silent : (walk : Walk) (a : Turn) → joined (silent walk) a ≡ joined a (silent a.after)
-joined-silent walk a = same_turn _ _ (sym (append-nil a.registry)) (sym (append-nil a.board)) (sym (append-nil a.answers)) refl
+asked-more : (k l : Known RegEntry) (calls : List RegCall) → Asked k l calls → HasSeenMore k l
+asked-more k l calls asked = record { number = asked.number; next = asked.next; seen = (asked.are.more, asked.are.goes_on) }
 
--- the turn of lines, and of one more
-lines-more : (walk : Walk) (n m : ℕ) (done : List Line) (line : Line) (t u : Turn) → LinesTurn walk n done t → m ≡ n + length done → LineTurn t.after m line u
-    → LinesTurn walk n (done ++ line ∷ []) (joined t u)
-lines-more walk n m [] line t u lines e next = (
-  u,
-  silent u.after,
-  subst (λ k. LineTurn walk k line u) (e ∙ add-zero n) (subst (λ (s : Turn). LineTurn s.after m line u) lines next),
-  refl,
-  ap (λ s. joined s u) lines ∙ joined-silent walk u,
-)
-lines-more walk n m (first ∷ done) line t u lines e next = (
-  lines.0,
-  joined lines.1 u,
-  lines.2,
-  lines-more lines.0.after (n + 1) m done line lines.1 u lines.3 (omega (arith, e)) (subst (λ (s : Turn). LineTurn s.after m line u) lines.4 next),
-  ap (λ s. joined s u) lines.4 ∙ joined-assoc lines.0 lines.1 u,
-)
+called-more : (k l : Known (BoardEntry Ask)) (calls : List BoardCall) → Called k l calls → HasSeenMore k l
+called-more k l calls called = record { number = called.number; next = called.next; seen = called.seen }
 
-texts-joined : (a b : List Answer) → flat_map text_of (a ++ b) ≡ flat_map text_of a ++ flat_map text_of b
-texts-joined [] b = refl
-texts-joined (x ∷ a) b = ap (λ t. text_of x ++ t) (texts-joined a b) ∙ sym (append_assoc (text_of x) (flat_map text_of a) (flat_map text_of b))
+pub replied-goes : (d : Dialogue) (s s' : State) (text text' : List ℕ) → Replies d s s' text text' → GoesOn s s'
+replied-goes d s s' text text' r = record {
+  locks = r.locks;
+  registry = asked-more (known s.registry) (known s'.registry) r.turn.registry r.asked;
+  board = called-more (known s.board) (known s'.board) r.turn.board r.called;
+}
 
-text-joined : (a b : Turn) → text_in (joined a b) ≡ text_in a ++ text_in b
-text-joined a b = texts-joined a.answers b.answers
+pub ended-goes : (s s' : State) (text text' : List ℕ) → AnswersEnd s s' text text' → GoesOn s s'
+ended-goes s s' text text' r = record {
+  locks = r.locks;
+  registry = asked-more (known s.registry) (known s'.registry) r.turn.registry r.asked;
+  board = called-more (known s.board) (known s'.board) r.turn.board r.called;
+}
 
--- ---- a run
-
--- What a run has done: some first lines, in the histories and in what is written.
-pub record Going (all : List Line) (left : List Line) (number : ℕ) (r : List RegEntry) (b : List (BoardEntry Ask)) (held held' : Option (List ℕ)) (walk : Walk) : Type 0 where
-  pub done : List Line
-  pub cut : all ≡ done ++ left
-  pub counted : number ≡ 1 + length done
-  pub turn : Turn
-  pub lines : LinesTurn start 1 done turn
-  pub holds : Holds r b turn
-  pub written : Appends held held' (text_in turn)
-  pub walk_is : walk ≡ turn.after
-  pub stands : Stands walk r
-  pub posted : Posted walk b
-
-pub going-begins : (all : List Line) (r : List RegEntry) (b : List (BoardEntry Ask)) (held : Option (List ℕ)) (walk : Walk) → Appends held held [] → reg_calls 0 r ≡ [] → board_calls 0 b ≡ []
-    → Stands walk r → Posted walk b → walk ≡ start → Going all all 1 r b held held walk
-going-begins all r b held walk kept none bare stands posted same =
-    record {
-      done = [];
-      cut = refl;
-      counted = refl;
-      turn = silent start;
-      lines = refl;
-      holds = record { registry = none; board = bare; settled = tt };
-      written = kept;
-      walk_is = same;
-      stands = stands;
-      posted = posted;
-    }
-
-AllSettled-append : (a b : List RegCall) → AllSettled a → AllSettled b → AllSettled (a ++ b)
-AllSettled-append [] b s t = t
-AllSettled-append (call ∷ a) b s t = (s.0, AllSettled-append a b s.1 t)
-
-holds-more : (r r' : List RegEntry) (b b' : List (BoardEntry Ask)) (t u : Turn) (after : Walk) → Holds r b t → Does u r r' after → Posts u b b' → Holds r' b' (joined t u)
-holds-more r r' b b' t u after holds does posts =
-    record {
-      registry = does.registry ∙ ap (λ calls. calls ++ u.registry) holds.registry;
-      board = posts.board ∙ ap (λ calls. calls ++ u.board) holds.board;
-      settled = AllSettled-append t.registry u.registry holds.settled does.settled;
-    }
-
-written-more : (a b c : Option (List ℕ)) (t u : Turn) → Appends a b (text_in t) → Appends b c (text_in u) → Appends a c (text_in (joined t u))
-written-more a b c t u first later = subst (Appends a c) (sym (text-joined t u)) (Appends-trans a b c (text_in t) (text_in u) first later)
-
--- the same, one line more
-pub going-more : (all left more : List Line) (number : ℕ) (line : Line) (r r' : List RegEntry) (b b' : List (BoardEntry Ask)) (x y z : Option (List ℕ)) (walk walk' : Walk)
-    → Going all left number r b x y walk → left ≡ line ∷ more → Writes (LineTurn walk number line) r r' b b' walk' y z → Stands walk' r' → Posted walk' b' → Going all more (number + 1) r' b' x z walk'
-going-more all left more number line r r' b b' x y z walk walk' going first step stands posted =
-    record {
-      done = going.done ++ line ∷ [];
-      cut = going.cut ∙ (ap (λ ls. going.done ++ ls) first ∙ sym (append_assoc going.done (line ∷ []) more));
-      counted = let e = going.counted in let l = length-append going.done (line ∷ []) in omega (arith, e, l);
-      turn = joined going.turn step.0;
-      lines = lines-more start 1 number going.done line going.turn step.0 going.lines going.counted (subst (λ w. LineTurn w number line step.0) going.walk_is step.1);
-      holds = holds-more r r' b b' going.turn step.0 walk' going.holds step.2 step.3;
-      written = written-more x y z going.turn step.0 going.written step.4;
-      walk_is = step.2.after_is;
-      stands = stands;
-      posted = posted;
-    }
-
--- ---- how a run ends
-
-extends-by : {A : Type 0} (a b : List A) → a ≡ b → Extends b a
-extends-by {A} a b e = ([], e ∙ sym (append-nil b))
+-- ---- streams
 
 keeps-text : (a b c : Option (List ℕ)) (text : List ℕ) → Appends a b text → Keeps b c → Appends a c text
 keeps-text None b c text grown kept = tt
@@ -144,6 +91,233 @@ keeps-same (Some xs) = refl
 pub appends-none : (held : Option (List ℕ)) → Appends held held []
 appends-none None = tt
 appends-none (Some xs) = sym (append-nil xs)
+
+texts-joined : (t u : Turn) → text_in (joined t u) ≡ text_in t ++ text_in u
+texts-joined t u = flat_map-append text_of t.answers u.answers
+
+-- a front of what comes after is a front with what came before
+front-later : (before text front : List ℕ) → IsPrefix front text → IsPrefix (before ++ front) (before ++ text)
+front-later before text front p = (p.0, append_assoc before front p.0 ∙ ap (λ x. before ++ x) p.1)
+
+-- ---- a run
+
+-- What a script has done: the turn of some first lines.
+pub record Led (first : State) (lines : List Line) (number : ℕ) (left : List Line) (s : State) : Type 0 where
+  pub turn : Turn
+  pub leads : Leads first.workers (start 0) 1 lines turn s.walk number left
+  pub asked : reg_calls 0 (known s.registry).seen ≡ turn.registry
+  pub settled : AllSettled (reg_calls 0 (known s.registry).seen)
+  pub called : board_calls 0 (known s.board).seen ≡ turn.board
+  pub in_turn : AreInTurn 0 turn.registry [] (known s.registry).seen
+  pub caller : (known s.registry).number ≡ 0
+  pub board_caller : (known s.board).number ≡ 0
+  pub goes : GoesOn first s
+
+-- and it is written, and the session ready for more
+pub record Going {W : Type 0} (registry : SharedRegistry) (board : SharedBoard W Ask Finished) (first : State) (lines : List Line) (number : ℕ) (left : List Line) (held held' : Option (List ℕ)) (s : State) : Type 0 where
+  pub led : Led first lines number left s
+  pub ready : IsReady registry board s
+  pub written : Appends held held' (text_in led.turn)
+
+led-begins : Laws → (first : State) (lines : List Line) → IsFresh first → Led first lines 1 lines first
+unfolding reg_calls board_calls
+led-begins laws first lines fresh =
+    record {
+      turn = ended (start 0);
+      leads = subst (λ w. Leads first.workers (start 0) 1 lines (ended (start 0)) w 1 lines) (sym fresh.walk) (laws.nowhere first.workers (start 0) 1 lines);
+      asked = ap (λ h. reg_calls 0 h) fresh.registry.1;
+      settled = subst (λ h. AllSettled (reg_calls 0 h)) (sym fresh.registry.1) tt;
+      called = ap (λ h. board_calls 0 h) fresh.board.1;
+      in_turn = subst (λ h. AreInTurn 0 [] [] h) (sym fresh.registry.1) (laws.no_call 0 []);
+      caller = fresh.registry.0;
+      board_caller = fresh.board.0;
+      goes = goes-same first;
+    }
+
+module _ (laws : Laws) (first : State) (lines : List Line) where
+  -- ---- one turn more
+  module _ (number : ℕ) (left : List Line) (s : State) (led : Led first lines number left s) where
+    abbrev k : Known RegEntry
+    k = known s.registry
+
+    abbrev l : Known (BoardEntry Ask)
+    l = known s.board
+
+    asked-all : (k' : Known RegEntry) (calls : List RegCall) → Asked k k' calls → reg_calls 0 k'.seen ≡ led.turn.registry ++ calls
+    asked-all k' calls asked =
+        ap (λ n. reg_calls n k'.seen) (sym led.caller) ∙ (asked.are.calls_are ∙ (ap (λ n. reg_calls n k.seen ++ calls) led.caller ∙ ap (λ cs. cs ++ calls) led.asked))
+
+    settled-all : (k' : Known RegEntry) (calls : List RegCall) → Asked k k' calls → AllSettled (reg_calls 0 k'.seen)
+    settled-all k' calls asked = subst (λ n. AllSettled (reg_calls n k'.seen)) led.caller asked.are.all_settled
+
+    called-all : (l' : Known (BoardEntry Ask)) (calls : List BoardCall) → Called l l' calls → board_calls 0 l'.seen ≡ led.turn.board ++ calls
+    called-all l' calls called =
+        ap (λ n. board_calls n l'.seen) (sym (called.number ∙ led.board_caller)) ∙ (called.calls_are ∙ (ap (λ n. board_calls n l.seen ++ calls) led.board_caller ∙ ap (λ cs. cs ++ calls) led.called))
+
+    turns-all : (k' : Known RegEntry) (calls : List RegCall) → Asked k k' calls → AreInTurn 0 (led.turn.registry ++ calls) [] k'.seen
+    turns-all k' calls asked = laws.later_calls 0 led.turn.registry calls [] k.seen k'.seen led.in_turn (subst (λ n. AreInTurn n calls k.seen k'.seen) led.caller asked.in_turn)
+
+    led-more : (line : Line) (more : List Line) (s' : State) (reply : List ℕ) → left ≡ line ∷ more → Replies (line_dialogue s.workers s.walk number line) s s' [] reply
+        → (next : Led first lines (number + 1) more s') × (text_in next.turn ≡ text_in led.turn ++ reply)
+    led-more line more s' reply next r =
+        let t = led.turn in
+        let u = r.turn in
+        let is = subst (λ w. IsTurn (line_dialogue w s.walk number line) u) led.goes.locks.workers r.is in
+        let leads = subst (λ ls. Leads first.workers (start 0) 1 lines t s.walk number ls) next led.leads in (
+          record {
+            turn = joined t u;
+            leads = laws.on first.workers (start 0) s.walk s'.walk 1 number lines more line t u leads is r.ends;
+            asked = asked-all (known s'.registry) u.registry r.asked;
+            settled = settled-all (known s'.registry) u.registry r.asked;
+            called = called-all (known s'.board) u.board r.called;
+            in_turn = turns-all (known s'.registry) u.registry r.asked;
+            caller = r.asked.number ∙ led.caller;
+            board_caller = r.called.number ∙ led.board_caller;
+            goes = goes-then first s s' led.goes (replied-goes (line_dialogue s.workers s.walk number line) s s' [] reply r);
+          },
+          texts-joined t u ∙ ap (λ x. text_in t ++ x) (sym r.says),
+        )
+
+    -- however the session goes on, what is written of this is a front of the text
+    led-front : (s' : State) (text : List ℕ) → GoesOn s s' → IsPrefix text (text_in led.turn) → IsFrontAfter first.workers lines (known s'.registry) (known s'.board) text
+    led-front s' text goes front = λ r b from_r from_b.
+        let reg = starts-trans k.seen (known s'.registry).seen r goes.registry.seen from_r in
+        let brd = starts-trans l.seen (known s'.board).seen b goes.board.seen from_b in
+        let more_r = reg_calls_from (k.seen ++ reg.0) 0 k.seen reg.0 in
+        let more_b = board_calls_from 0 l.seen brd.0 in
+        laws.front first.workers (start 0) s.walk 0 number lines left led.turn r b more_r more_b text led.leads
+            (reg_calls-on laws k.seen r led.settled reg ∙ ap (λ cs. cs ++ more_r) led.asked)
+            (board_calls-on laws l.seen b brd ∙ ap (λ cs. cs ++ more_b) led.called)
+            front
+
+    -- ---- the end of input
+
+    module _ (s' : State) (reply : List ℕ) (none : left ≡ []) (e : AnswersEnd s s' [] reply) where
+      abbrev u : Turn
+      u = e.turn
+
+      abbrev k' : Known RegEntry
+      k' = known s'.registry
+
+      abbrev l' : Known (BoardEntry Ask)
+      l' = known s'.board
+
+      leads-end : Leads first.workers (start 0) 1 lines led.turn s.walk number []
+      leads-end = subst (λ ls. Leads first.workers (start 0) 1 lines led.turn s.walk number ls) none led.leads
+
+      reply-is : text_in led.turn ++ reply ≡ text_in led.turn ++ text_in u
+      reply-is = ap (λ x. text_in led.turn ++ x) e.says
+
+      -- what is written is the text
+      end-text : IsTextAfter first.workers lines k' l' (text_in led.turn ++ reply)
+      end-text = λ r b from_r from_b.
+          subst (IsText first.workers (start 0) 0 lines r b) (sym reply-is)
+          (laws.end_ first.workers (start 0) s.walk s.walk 0 number lines led.turn u r b leads-end e.is e.ends
+            (reg_calls-same laws k' r (e.asked.number ∙ led.caller) (settled-all k' u.registry e.asked) from_r ∙ asked-all k' u.registry e.asked)
+            (board_calls-same laws l' b (e.called.number ∙ led.board_caller) from_b ∙ called-all l' u.board e.called))
+
+      end-in_turn : InTurnAfter k'
+      end-in_turn = λ r from_r.
+          let zero = e.asked.number ∙ led.caller in
+          let calls = reg_calls-same laws k' r zero (settled-all k' u.registry e.asked) from_r ∙ asked-all k' u.registry e.asked in
+          subst (λ cs. AreInTurn 0 cs [] r) (sym calls) (in_turn-on laws k' r (led.turn.registry ++ u.registry) zero from_r (turns-all k' u.registry e.asked))
+
+      -- and a front of it is one, whatever comes
+      end-front : (text : List ℕ) → IsPrefix text (text_in led.turn ++ reply) → IsFrontAfter first.workers lines k' l' text
+      end-front text front = λ r b from_r from_b.
+          let more_r = reg_calls_from (k'.seen ++ from_r.0) 0 k'.seen from_r.0 in
+          let more_b = board_calls_from 0 l'.seen from_b.0 in
+          let t = led.turn in
+          let calls_r : reg_calls 0 r ≡ t.registry ++ (u.registry ++ more_r) =
+          reg_calls-on laws k'.seen r (settled-all k' u.registry e.asked) from_r ∙ (ap (λ cs. cs ++ more_r) (asked-all k' u.registry e.asked) ∙ append_assoc t.registry u.registry more_r) in
+          let calls_b : board_calls 0 b ≡ t.board ++ (u.board ++ more_b) =
+          board_calls-on laws l'.seen b from_b ∙ (ap (λ cs. cs ++ more_b) (called-all l' u.board e.called) ∙ append_assoc t.board u.board more_b) in
+          let last : turn_of (end s.walk) (u.registry ++ more_r) (u.board ++ more_b) ≡ joined u (ended s.walk) =
+          ap (λ d. turn_of d (u.registry ++ more_r) (u.board ++ more_b)) (sym (followed-ends (end s.walk))) ∙ laws.follow (end s.walk) Done u s.walk more_r more_b e.is e.ends in
+          let whole : turn_in first.workers (start 0) 0 lines r b ≡ joined t (joined u (ended s.walk)) =
+          ap (λ cs. turn_of (script first.workers (start 0) lines) cs (board_calls 0 b)) calls_r
+          ∙ (ap (λ cs. turn_of (script first.workers (start 0) lines) (t.registry ++ (u.registry ++ more_r)) cs) calls_b
+          ∙ (leads-end end (u.registry ++ more_r) (u.board ++ more_b) ∙ ap (joined t) last)) in
+          let text_is : text_in (turn_in first.workers (start 0) 0 lines r b) ≡ text_in t ++ reply =
+          ap text_in whole ∙ (texts-joined t (joined u (ended s.walk)) ∙ (ap (λ x. text_in t ++ x) (texts-joined u (ended s.walk) ∙ append-nil (text_in u)) ∙ sym reply-is)) in
+          (front.0, front.1 ∙ sym text_is)
+
+  -- ---- the loop
+
+  module _ {W : Type 0} (registry : SharedRegistry) (board : SharedBoard W Ask Finished) where
+    abbrev At : ℕ → List Line → Option (List ℕ) → Option (List ℕ) → State → Type 0
+    At number left held held' s = Going registry board first lines number left held held' s
+
+    pub going-begins : (held : Option (List ℕ)) → IsReady registry board first → IsFresh first → At 1 lines held held first
+    unfolding led-begins
+    going-begins held ready fresh = record { led = led-begins laws first lines fresh; ready = ready; written = appends-none held }
+
+    module _ (number : ℕ) (left : List Line) (x y z : Option (List ℕ)) (s s' : State) (going : At number left x y s) where
+      abbrev t : Turn
+      t = going.led.turn
+
+      pub going-more : (line : Line) (more : List Line) → left ≡ line ∷ more → Writes (Replies (line_dialogue s.workers s.walk number line) s s' []) y z → IsReady registry board s' → At (number + 1) more x z s'
+      going-more line more next step ready =
+          let m = led-more number left s going.led line more s' step.0 next step.1 in
+          record { led = m.0; ready = ready; written = subst (Appends x z) (sym m.1) (Appends-trans x y z (text_in t) step.0 going.written step.2) }
+
+      stopped : GoesOn s s' → Keeps y z → Gains x z (IsFrontAfter first.workers lines (known s'.registry) (known s'.board))
+      stopped goes kept = (text_in t, led-front number left s going.led s' (text_in t) goes ([], append-nil (text_in t)), keeps-text x y z (text_in t) going.written kept)
+
+      -- a line that breaks off leaves a front of the text
+      pub going-breaks : (line : Line) (more : List Line) → left ≡ line ∷ more → Breaks s s' (Replies (line_dialogue s.workers s.walk number line) s s' []) y z
+          → Gains x z (IsFrontAfter first.workers lines (known s'.registry) (known s'.board))
+      going-breaks line more next (inl stop) = stopped stop.0 stop.1
+      going-breaks line more next (inr part) =
+          let m = led-more number left s going.led line more s' part.0 next part.1 in
+          let written = part.2 in (
+            text_in t ++ written.0,
+            led-front (number + 1) more s' m.0 s' (text_in t ++ written.0) (goes-same s') (subst (IsPrefix (text_in t ++ written.0)) (sym m.1) (front-later (text_in t) part.0 written.0 written.1)),
+            Appends-trans x y z (text_in t) written.0 going.written written.2,
+          )
+
+      -- and so does the end of input
+      pub going-end_breaks : left ≡ [] → Breaks s s' (AnswersEnd s s' []) y z → Gains x z (IsFrontAfter first.workers lines (known s'.registry) (known s'.board))
+      going-end_breaks none (inl stop) = stopped stop.0 stop.1
+      going-end_breaks none (inr part) =
+          let written = part.2 in (
+            text_in t ++ written.0,
+            end-front number left s going.led s' part.0 none part.1 (text_in t ++ written.0) (front-later (text_in t) part.0 written.0 written.1),
+            Appends-trans x y z (text_in t) written.0 going.written written.2,
+          )
+
+      -- with it the whole text is written
+      module _ (none : left ≡ []) (step : Writes (AnswersEnd s s' []) y z) where
+        pub going-ends : Gains x z (IsTextAfter first.workers lines (known s'.registry) (known s'.board))
+        going-ends = (text_in t ++ step.0, end-text number left s going.led s' step.0 none step.1, Appends-trans x y z (text_in t) step.0 going.written step.2)
+
+        pub going-ends_front : Gains x z (IsFrontAfter first.workers lines (known s'.registry) (known s'.board))
+        going-ends_front = (
+          text_in t ++ step.0,
+          end-front number left s going.led s' step.0 none step.1 (text_in t ++ step.0) ([], append-nil (text_in t ++ step.0)),
+          Appends-trans x y z (text_in t) step.0 going.written step.2,
+        )
+
+        pub going-ends_own : IsOwn reg_caller (known s'.registry)
+        going-ends_own = step.1.asked.caller.own
+
+        pub going-ends_in_turn : InTurnAfter (known s'.registry)
+        going-ends_in_turn = end-in_turn number left s going.led s' step.0 none step.1
+
+      -- ---- both passes have seen more
+
+      pub broken-goes : (IsReply : List ℕ → Type 0) → ((reply : List ℕ) → IsReply reply → GoesOn s s') → Breaks s s' IsReply y z → GoesOn first s'
+      broken-goes IsReply of (inl stop) = goes-then first s s' going.led.goes stop.0
+      broken-goes IsReply of (inr part) = goes-then first s s' going.led.goes (of part.0 part.1)
+
+      pub line_broken-goes : (line : Line) → Breaks s s' (Replies (line_dialogue s.workers s.walk number line) s s' []) y z → GoesOn first s'
+      line_broken-goes line breaks = broken-goes (Replies (line_dialogue s.workers s.walk number line) s s' []) (λ reply r. replied-goes (line_dialogue s.workers s.walk number line) s s' [] reply r) breaks
+
+      pub end_broken-goes : Breaks s s' (AnswersEnd s s' []) y z → GoesOn first s'
+      end_broken-goes breaks = broken-goes (AnswersEnd s s' []) (λ reply e. ended-goes s s' [] reply e) breaks
+
+      pub end-goes : Writes (AnswersEnd s s' []) y z → GoesOn first s'
+      end-goes step = goes-then first s s' going.led.goes (ended-goes s s' [] step.0 step.1)
 
 -- ---- lines of bytes
 
@@ -161,106 +335,13 @@ pub or_later : (m b t : Bool) → ((m || b) || t) ≡ (m || (b || t))
 or_later true b t = refl
 or_later false b t = refl
 
-pub or-none : (m : Bool) → (m || false) ≡ m
-or-none true = refl
-or-none false = refl
-
--- a front of the text
-fronted : (all : List Line) (r : List RegEntry) (b : List (BoardEntry Ask)) (x z : Option (List ℕ)) (turn : Turn) → FrontTurn all turn → HoldsFront r b turn → AppendsFront x z (text_in turn) → Gains x z (IsFrontText all r b)
-unfolding IsFrontText
-fronted all r b x z turn of holds written = (written.0, (turn, of, holds, written.1), written.2)
-
-holds-front : (r : List RegEntry) (b : List (BoardEntry Ask)) (turn : Turn) → Holds r b turn → HoldsFront r b turn
-holds-front r b turn holds = record { registry = extends-by _ _ holds.registry; board = extends-by _ _ holds.board; settled = holds.settled }
-
-front-joined : (a b c : Option (List ℕ)) (t u : Turn) → Appends a b (text_in t) → AppendsFront b c (text_in u) → AppendsFront a c (text_in (joined t u))
-front-joined a b c t u first part = (
-  text_in t ++ part.0,
-  (part.1.0, append_assoc (text_in t) part.0 part.1.0 ∙ (ap (λ x. text_in t ++ x) part.1.1 ∙ sym (text-joined t u))),
-  Appends-trans a b c (text_in t) part.0 first part.2,
-)
-
-some-front : (all done left : List Line) (t : Turn) → all ≡ done ++ left → LinesTurn start 1 done t → FrontTurn all t
-some-front all done left t cut lines =
-    inl (length done, subst (λ ls. LinesTurn start 1 ls t) (sym (ap (take (length done)) cut ∙ (take-append-le (length done) done left (omega arith) ∙ take_all (length done) done (omega arith)))) lines)
-
-whole-prefix : (text : List ℕ) → IsPrefix text text
-whole-prefix text = ([], append-nil text)
-
-stopped : (all left : List Line) (number : ℕ) (r r' : List RegEntry) (b b' : List (BoardEntry Ask)) (x y z : Option (List ℕ)) (walk : Walk) → Going all left number r b x y walk
-    → GoesOn r r' b b' → Keeps y z → Gains x z (IsFrontText all r' b')
-stopped all left number r r' b b' x y z walk going goes_on kept =
-    fronted all r' b' x z going.turn (some-front all going.done left going.turn going.cut going.lines)
-    (record {
-      registry = subst (λ calls. Extends calls (reg_calls 0 r')) going.holds.registry goes_on.0;
-      board = subst (λ calls. Extends calls (board_calls 0 b')) going.holds.board goes_on.1;
-      settled = going.holds.settled;
-    })
-    (text_in going.turn, whole-prefix (text_in going.turn), keeps-text x y z (text_in going.turn) going.written kept)
-
--- a line that breaks off leaves a front of the text
-pub going-breaks : (all left more : List Line) (number : ℕ) (line : Line) (r r' : List RegEntry) (b b' : List (BoardEntry Ask)) (x y z : Option (List ℕ)) (walk : Walk)
-    → Going all left number r b x y walk → left ≡ line ∷ more → Breaks (LineTurn walk number line) r r' b b' y z → Gains x z (IsFrontText all r' b')
-going-breaks all left more number line r r' b b' x y z walk going first (inl stop) = stopped all left number r r' b b' x y z walk going stop.0 stop.1
-going-breaks all left more number line r r' b b' x y z walk going first (inr part) =
-    let turn = joined going.turn part.0 in
-    fronted all r' b' x z turn
-    (some-front all (going.done ++ line ∷ []) more turn (going.cut ∙ (ap (λ ls. going.done ++ ls) first ∙ sym (append_assoc going.done (line ∷ []) more)))
-    (lines-more start 1 number going.done line going.turn part.0 going.lines going.counted (subst (λ w. LineTurn w number line part.0) going.walk_is part.2)))
-    (holds-front r' b' turn (holds-more r r' b b' going.turn part.0 part.1 going.holds part.3 part.4))
-    (front-joined x y z going.turn part.0 going.written part.5)
-
-all-done : (all done left : List Line) → all ≡ done ++ left → left ≡ [] → done ≡ all
-all-done all done left cut none = sym (cut ∙ (ap (λ ls. done ++ ls) none ∙ append-nil done))
-
-script-turn : (all left : List Line) (number : ℕ) (r : List RegEntry) (b : List (BoardEntry Ask)) (x y : Option (List ℕ)) (walk : Walk) (later : Turn) (going : Going all left number r b x y walk) → left ≡ [] → EndTurn walk later
-    → ScriptTurn all (joined going.turn later)
-script-turn all left number r b x y walk later going none end =
-    (going.turn, later, subst (λ ls. LinesTurn start 1 ls going.turn) (all-done all going.done left going.cut none) going.lines, subst (λ w. EndTurn w later) going.walk_is end, refl)
-
--- a run to the end has written the text
-pub going-ends : (all left : List Line) (number : ℕ) (r r' : List RegEntry) (b b' : List (BoardEntry Ask)) (x y z : Option (List ℕ)) (walk walk' : Walk) → Going all left number r b x y walk → left ≡ []
-    → Writes (EndTurn walk) r r' b b' walk' y z → Gains x z (IsText all r' b')
-unfolding IsText
-going-ends all left number r r' b b' x y z walk walk' going none step =
-    let turn = joined going.turn step.0 in (
-      text_in turn,
-      (turn, script-turn all left number r b x y walk step.0 going none step.1, holds-more r r' b b' going.turn step.0 walk' going.holds step.2 step.3, refl),
-      written-more x y z going.turn step.0 going.written step.4,
-    )
-
--- a text is a front of itself
-pub text-is-front : (all : List Line) (r : List RegEntry) (b : List (BoardEntry Ask)) (x z : Option (List ℕ)) → Gains x z (IsText all r b) → Gains x z (IsFrontText all r b)
-unfolding IsText IsFrontText
-text-is-front all r b x z gains =
-    let t = gains.1.0 in
-    (gains.0, (t, inr gains.1.1, holds-front r b t gains.1.2, subst (λ text. IsPrefix gains.0 text) gains.1.3 (whole-prefix gains.0)), gains.2)
-
--- the end of input that breaks off leaves a front of the text
-pub going-end_breaks : (all left : List Line) (number : ℕ) (r r' : List RegEntry) (b b' : List (BoardEntry Ask)) (x y z : Option (List ℕ)) (walk : Walk) → Going all left number r b x y walk → left ≡ []
-    → Breaks (EndTurn walk) r r' b b' y z → Gains x z (IsFrontText all r' b')
-going-end_breaks all left number r r' b b' x y z walk going none (inl stop) = stopped all left number r r' b b' x y z walk going stop.0 stop.1
-going-end_breaks all left number r r' b b' x y z walk going none (inr part) =
-    let turn = joined going.turn part.0 in
-    fronted all r' b' x z turn (inr (script-turn all left number r b x y walk part.0 going none part.2))
-    (holds-front r' b' turn (holds-more r r' b b' going.turn part.0 part.1 going.holds part.3 part.4)) (front-joined x y z going.turn part.0 going.written part.5)
-
 -- ---- a reply, written
 
-pub reply-written : (IsTurn : Turn → Type 0) (r r' : List RegEntry) (b b' : List (BoardEntry Ask)) (after : Walk) (held held' : Option (List ℕ)) (reply piece : List ℕ) → Replies IsTurn r r' b b' after reply → piece ≡ reply
-    → Appends held held' piece → Writes IsTurn r r' b b' after held held'
-reply-written IsTurn r r' b b' after held held' reply piece made same written = (made.0, made.1, made.2, made.3, subst (Appends held held') (same ∙ made.4) written)
+pub reply-written : (IsReply : List ℕ → Type 0) (held held' : Option (List ℕ)) (reply piece : List ℕ) → IsReply reply → piece ≡ reply → Appends held held' piece → Writes IsReply held held'
+reply-written IsReply held held' reply piece made same written = (reply, made, subst (Appends held held') same written)
 
-pub reply-broken : (IsTurn : Turn → Type 0) (r r' : List RegEntry) (b b' : List (BoardEntry Ask)) (after : Walk) (held held' : Option (List ℕ)) (reply piece : List ℕ) → Replies IsTurn r r' b b' after reply → piece ≡ reply
-    → AppendsFront held held' piece → Breaks IsTurn r r' b b' held held'
-reply-broken IsTurn r r' b b' after held held' reply piece made same written = inr (made.0, after, made.1, made.2, made.3, subst (AppendsFront held held') (same ∙ made.4) written)
+pub reply-broken : (s s' : State) (IsReply : List ℕ → Type 0) (held held' : Option (List ℕ)) (reply piece : List ℕ) → IsReply reply → piece ≡ reply → AppendsFront held held' piece → Breaks s s' IsReply held held'
+reply-broken s s' IsReply held held' reply piece made same written = inr (reply, made, subst (AppendsFront held held') same written)
 
-pub reply-stopped : (IsTurn : Turn → Type 0) (r r' : List RegEntry) (b b' : List (BoardEntry Ask)) (held : Option (List ℕ)) → GoesOn r r' b b' → Breaks IsTurn r r' b b' held held
-reply-stopped IsTurn r r' b b' held goes_on = inl (goes_on, keeps-same held)
-
--- nothing is a front of the text of any script
-pub nothing_fronted : (left held : Option (List ℕ)) (r : List RegEntry) (b : List (BoardEntry Ask)) → IfSome left (λ script. Gains held held (IsFrontText (script_of script) r b))
-unfolding IsFrontText
-nothing_fronted None held r b = tt
-nothing_fronted (Some script) held r b =
-    ([], (silent start, inl (0, refl), record { registry = (reg_calls 0 r, refl); board = (board_calls 0 b, refl); settled = tt }, ([], refl)), appends-none held)
+pub reply-stopped : (s s' : State) (IsReply : List ℕ → Type 0) (held : Option (List ℕ)) → GoesOn s s' → Breaks s s' IsReply held held
+reply-stopped s s' IsReply held goes_on = inl (goes_on, keeps-same held)

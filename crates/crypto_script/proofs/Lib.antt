@@ -1,2 +1,4 @@
+pub mod Following
 pub mod Going
 pub mod Reaching
+pub mod Finishing

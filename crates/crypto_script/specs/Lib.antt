@@ -1,2 +1,5 @@
+pub mod Laws
 pub mod Text
 pub mod Runs
+pub mod Endings
+pub mod Statuses

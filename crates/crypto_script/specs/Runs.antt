@@ -1,30 +1,30 @@
--- What a run does to its source and its sink, where these tell their bytes.
-use Rattle.std.specs.Prelude.{◌≡◌, ℕ, ◌^◌, ◌<◌, ◌↔◌, ◌⊎◌, List, length, Option}
+-- What a run does to its source and its sink, where these tell their bytes, and to the passes of its script.
+use Rattle.std.specs.Prelude.{◌≡◌, ℕ, ◌^◌, ◌<◌, ◌↔◌, ◌⊎◌, Bool, false, List, [], ◌∷◌, ◌++◌, length, Option, Result, IfOk, OnOk}
+use Rattle.std.specs.List.{list_any}
 use Rattle.std.specs.Io.KnownBytes.{Consumes, Appends, Keeps}
 use Rattle.alg_registry.specs.declared.entry.RegEntry.{RegEntry}
+use Rattle.alg_registry.specs.Rows.{caller_of as reg_caller}
 use Rattle.board.specs.declared.entry.BoardEntry.{BoardEntry}
+use Rattle.board.specs.declared.entry.BoardEntry.TheVariants.{Shut}
+use Rattle.board.specs.Entries.{entries_of, submissions, front, is_closed, caller_of as board_caller}
+use Rattle.board.specs.Legal.{MayManage}
+use Rattle.crew.specs.declared.passes.Passes.{Passes}
+use Rattle.dialogues.specs.InTurn.{AreInTurn}
+use Rattle.dialogues.specs.RegistryCalls.{reg_calls}
+use Rattle.dialogues.specs.Texts.{IsText, IsFrontText}
+use Rattle.dialogues.specs.Walk.{start}
 use Rattle.kc_base.specs.Streams.{AppendsFront}
-use Rattle.session.specs.Histories.{reg_calls}
-use Rattle.session.specs.BoardHistories.{board_calls}
-use Rattle.session.specs.Standing.{Extends, Does, Posts}
-use Rattle.session.specs.Turns.{Turn, text_in}
-use Rattle.session.specs.Walk.{Walk}
+use Rattle.script_session.specs.Holding.{HasSeenMore}
+use Rattle.script_session.specs.States.{State, SameLocks}
+use Rattle.script_text.specs.declared.commands.Line.{Line}
+use Rattle.session_calls.specs.Passes.{known}
 use Rattle.transforms.specs.declared.ask.Ask.{Ask}
-use Rattle.kc_base.specs.declared.transfer.InputError.{InputError}
-use Rattle.kc_base.specs.declared.transfer.InputError.TheVariants as input
-use Rattle.kc_base.specs.declared.transfer.SinkError.{SinkError}
-use Rattle.kc_base.specs.declared.transfer.SinkError.TheVariants as output
-use Rattle.crypto_script.specs.declared.program.RunError.{RunError}
-use Rattle.crypto_script.specs.declared.program.RunError.TheVariants.{ReadFault, WriteFault, NoMemory, TooLong}
+use Rattle.turn_lock.specs.Meeting.{IsOwn}
+use Rattle.turn_lock.specs.Passes.{knows}
+use Rattle.turn_lock.specs.Turns.{Known, StartsWith, of}
+use Rattle.crypto_script.specs.Text.{is_malformed}
 
-abbrev pub of_input : InputError → RunError
-of_input input.Failed = ReadFault
-of_input input.NoMemory = NoMemory
-of_input input.TooLong = TooLong
-
-abbrev pub of_output : SinkError → RunError
-of_output output.Failed = WriteFault
-of_output output.NoMemory = NoMemory
+-- ---- streams
 
 -- Some bytes were read, and there are more than 2 ^ 28 of them exactly where this holds.
 abbrev pub ReadsUpTo : Option (List ℕ) → Option (List ℕ) → Type 0 → Type 0
@@ -34,20 +34,81 @@ ReadsUpTo old new is_too_long = (part : List ℕ) × Consumes old new part × (i
 abbrev pub Gains : Option (List ℕ) → Option (List ℕ) → (List ℕ → Type 0) → Type 0
 Gains old new P = (gained : List ℕ) × P gained × Appends old new gained
 
--- the script's calls in the registry and on the board stay
-abbrev pub GoesOn : List RegEntry → List RegEntry → List (BoardEntry Ask) → List (BoardEntry Ask) → Type 0
-GoesOn r r' b b' = Extends (reg_calls 0 r) (reg_calls 0 r') × Extends (board_calls 0 b) (board_calls 0 b')
+-- ---- how what passes know goes on
 
--- A turn of which this holds was done in the registry and on the board, and this is its text.
-abbrev pub Replies : (Turn → Type 0) → List RegEntry → List RegEntry → List (BoardEntry Ask) → List (BoardEntry Ask) → Walk → List ℕ → Type 0
-Replies IsTurn r r' b b' after reply = (turn : Turn) × IsTurn turn × Does turn r r' after × Posts turn b b' × (reply ≡ text_in turn)
+-- the session's passes are of the same locks, and have seen more
+pub record GoesOn (s s' : State) : Type 0 where
+  pub locks : SameLocks s s'
+  pub registry : HasSeenMore (known s.registry) (known s'.registry)
+  pub board : HasSeenMore (known s.board) (known s'.board)
 
--- A turn of which this holds was done and written whole.
-abbrev pub Writes : (Turn → Type 0) → List RegEntry → List RegEntry → List (BoardEntry Ask) → List (BoardEntry Ask) → Walk → Option (List ℕ) → Option (List ℕ) → Type 0
-Writes IsTurn r r' b b' after held held' = (turn : Turn) × IsTurn turn × Does turn r r' after × Posts turn b b' × Appends held held' (text_in turn)
+-- before its first line, as client 0 and caller 0 of both locks
+pub record IsFresh (s : State) : Type 0 where
+  pub walk : s.walk ≡ start 0
+  pub registry : ((known s.registry).number ≡ 0) × ((known s.registry).seen ≡ [])
+  pub board : ((known s.board).number ≡ 0) × ((known s.board).seen ≡ [])
 
--- Nothing more was written, and the script's calls stay; or such a turn was done, and written in part.
-abbrev pub Breaks : (Turn → Type 0) → List RegEntry → List RegEntry → List (BoardEntry Ask) → List (BoardEntry Ask) → Option (List ℕ) → Option (List ℕ) → Type 0
-Breaks IsTurn r r' b b' held held' =
-    (GoesOn r r' b b' × Keeps held held')
-    ⊎ ((turn : Turn) × (after : Walk) × IsTurn turn × Does turn r r' after × Posts turn b b' × AppendsFront held held' (text_in turn))
+-- the history is what the pass has seen, and after it entries of others alone
+abbrev pub OthersFollow : {E : Type 0} → (E → ℕ) → Known E → List E → Type 0
+OthersFollow {E} by k h = (rest : List E) × (h ≡ k.seen ++ rest) × (of by k.number rest ≡ [])
+
+-- ---- what is written
+
+-- such a reply was made, and written whole
+abbrev pub Writes : (List ℕ → Type 0) → Option (List ℕ) → Option (List ℕ) → Type 0
+Writes IsReply held held' = (reply : List ℕ) × IsReply reply × Appends held held' reply
+
+-- the session went on, and nothing was written; or such a reply was made, and written in part
+abbrev pub Breaks : State → State → (List ℕ → Type 0) → Option (List ℕ) → Option (List ℕ) → Type 0
+Breaks s s' IsReply held held' =
+    (GoesOn s s' × Keeps held held') ⊎ ((reply : List ℕ) × IsReply reply × AppendsFront held held' reply)
+
+-- ---- the text, however the histories go on
+
+-- the script's text over all histories in which others alone follow on what the passes have seen; its calls are in turn there
+abbrev pub IsTextAfter : ℕ → List Line → Known RegEntry → Known (BoardEntry Ask) → List ℕ → Type 0
+IsTextAfter workers lines k l text =
+    (r : List RegEntry) (b : List (BoardEntry Ask)) → OthersFollow reg_caller k r → OthersFollow board_caller l b → IsText workers (start 0) 0 lines r b text
+
+-- a front of the text over all histories that begin with what the passes have seen
+abbrev pub IsFrontAfter : ℕ → List Line → Known RegEntry → Known (BoardEntry Ask) → List ℕ → Type 0
+IsFrontAfter workers lines k l text =
+    (r : List RegEntry) (b : List (BoardEntry Ask)) → StartsWith r k.seen → StartsWith b l.seen → IsFrontText workers (start 0) 0 lines r b text
+
+-- the script made its calls of the registry one after the other, each when the one before had come to something
+abbrev pub InTurn : List RegEntry → Type 0
+InTurn r = AreInTurn 0 (reg_calls 0 r) [] r
+
+abbrev pub InTurnAfter : Known RegEntry → Type 0
+InTurnAfter k = (r : List RegEntry) → OthersFollow reg_caller k r → InTurn r
+
+-- The board was shut when each request was finished of each pipeline that the script made and hadn't closed. Since then others alone made entries.
+pub record IsShutIn (b : List (BoardEntry Ask)) : Type 0 where
+  pub before : List (BoardEntry Ask)
+  pub after : List (BoardEntry Ask)
+  pub history : b ≡ before ++ Shut 0 ∷ after
+  pub others : of board_caller 0 after ≡ []
+  pub finished : (p : ℕ) → MayManage (entries_of p before) 0 → is_closed (entries_of p before) ≡ false → front (entries_of p before) ≡ length (submissions (entries_of p before))
+
+-- ---- a script's part beside workers
+
+-- passes that have seen nothing
+pub record AreNew (p : Passes Ask) : Type 0 where
+  pub registry : ((knows p.registry).number ≡ 0) × ((knows p.registry).seen ≡ []) × ((knows p.registry).made ≡ [])
+  pub board : ((knows p.board).number ≡ 0) × ((knows p.board).seen ≡ []) × ((knows p.board).made ≡ [])
+
+-- what a script that reached its end has written
+pub record Ended (workers : ℕ) (lines : List Line) (p : Passes Ask) (held held' : Option (List ℕ)) : Type 0 where
+  pub text : Gains held held' (IsTextAfter workers lines (knows p.registry) (knows p.board))
+  pub in_turn : InTurnAfter (knows p.registry)
+  pub own : IsOwn reg_caller (knows p.registry)
+  pub shut : IsShutIn (knows p.board).seen
+
+-- What a script has done whose passes were p and are now q, and whether a line was malformed, if it reached its end.
+pub record Answers {F : Type 0} (workers : ℕ) (lines : List Line) (p q : Passes Ask) (result : Result Bool F) (held held' : Option (List ℕ)) : Type 0 where
+  pub registry : HasSeenMore (knows p.registry) (knows q.registry)
+  pub board : HasSeenMore (knows p.board) (knows q.board)
+  pub own : IsOwn board_caller (knows q.board)
+  pub front : Gains held held' (IsFrontAfter workers lines (knows q.registry) (knows q.board))
+  pub ended : OnOk result (Ended workers lines q held held')
+  pub malformed : IfOk result (λ bad. bad ≡ list_any is_malformed lines)

@@ -2,18 +2,15 @@
 #![tactic(auto)]
 
 mod adapters;
-#[cfg(test)]
-mod history_tests;
-#[cfg(test)]
-mod limit_tests;
-#[cfg(test)]
-mod pipeline_tests;
+mod beside;
+mod errors;
+mod lines;
 mod program;
-#[cfg(test)]
-mod tests;
 
 use adapters::{StdSink, StdSource};
-use program::{NO_MEMORY, USAGE, run};
+use crew::NoGate;
+use errors::{NO_MEMORY, USAGE};
+use program::run;
 use std::process::ExitCode;
 use std::{env, io};
 
@@ -37,6 +34,6 @@ fn main(rt: HostRuntime) -> ExitCode {
     };
     let mut source = StdSource::new(rt.reader());
     let mut sink = StdSink::new(io::writer(&rt));
-    let outcome = run(rt.alloc(), &words, &mut source, &mut sink);
+    let outcome = run(&rt, rt.alloc(), &words, &NoGate, &mut source, &mut sink);
     ExitCode::from(outcome.status)
 }

@@ -1,0 +1,44 @@
+-- How a run ends.
+use Rattle.std.specs.Prelude.{◌≡◌, ℕ, ◌<◌, ◌≤◌, Bool, true, false, List, [], ◌∷◌, ◌++◌, Option, Some, None, Result, Ok, Err, unwrap_or, All}
+use Rattle.alg_registry.specs.declared.entry.RegEntry.{RegEntry}
+use Rattle.alg_registry.specs.Rows.{caller_of as reg_caller}
+use Rattle.board.specs.declared.entry.BoardEntry.{BoardEntry}
+use Rattle.board.specs.declared.entry.BoardEntry.TheVariants.{Shut}
+use Rattle.board.specs.Entries.{caller_of as board_caller}
+use Rattle.clap.specs.Words.{Text}
+use Rattle.command_line.specs.CommandLine.{mode_of}
+use Rattle.command_line.specs.declared.errors.CommandLineError.{CommandLineError}
+use Rattle.command_line.specs.declared.mode.Mode.{Mode}
+use Rattle.command_line.specs.declared.mode.Mode.TheVariants.{Script, Load}
+use Rattle.command_line.specs.declared.mode.ScriptOptions.{ScriptOptions}
+use Rattle.transforms.specs.declared.ask.Ask.{Ask}
+
+-- ---- words
+
+-- a script is run without a trace
+abbrev pub script_workers : ScriptOptions → Bool → Option ℕ
+script_workers options true = None
+script_workers options false = Some options.workers
+
+abbrev pub workers_of_mode : Result Mode CommandLineError → Option ℕ
+workers_of_mode (Ok (Script options)) = script_workers options options.trace
+workers_of_mode (Ok (Load options)) = None
+workers_of_mode (Err error) = None
+
+-- beside how many workers the words ask for a script to be run, where that is what they ask for
+unfoldable pub workers_asked : List Text → Option ℕ
+workers_asked words = workers_of_mode (mode_of words)
+
+-- and otherwise 0
+abbrev pub workers_in : List Text → ℕ
+workers_in words = unwrap_or (workers_asked words) 0
+
+-- ---- histories
+
+-- each entry is the script's, whose number is 0, or that of one of so many workers
+abbrev pub AreCallers : ℕ → List RegEntry → List (BoardEntry Ask) → Type 0
+AreCallers workers r b = All (λ e. reg_caller e ≤ workers) r × All (λ e. board_caller e ≤ workers) b
+
+-- the board was shut last
+abbrev pub EndsShut : List (BoardEntry Ask) → Type 0
+EndsShut b = (before : List (BoardEntry Ask)) × (b ≡ before ++ Shut 0 ∷ [])

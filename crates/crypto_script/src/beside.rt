@@ -1,0 +1,240 @@
+//! A whole script beside workers.
+
+ghost use Rattle.std.specs.Prelude.{OnOk, ◌≡◌, ◌+◌, ◌^◌, ◌≤◌, ◌⊎◌, [], Err, true, length, IfOk, IfErr, IsErrOf};
+ghost use Rattle.std.specs.List.{list_any};
+ghost use Rattle.alg_registry.specs.Legal.{LegalReg};
+ghost use Rattle.alg_registry.specs.Made.{Made};
+ghost use Rattle.board.specs.Entries.{caller_of};
+ghost use Rattle.board.specs.Legal.{LegalBoard, is_shut};
+ghost use Rattle.crew.specs.Both.{ArePassesOn, HaveNext, CrewedOnBoth};
+ghost use Rattle.dialogues.specs.Texts.{IsText, IsFrontText};
+ghost use Rattle.dialogues.specs.Walk.{start};
+ghost use Rattle.kc_base.specs.Streams.{Rose};
+ghost use Rattle.script_text.specs.Script.{script_of};
+ghost use Rattle.script_session.specs.Holding.{HasSeenMore};
+ghost use Rattle.shared_board.specs.Passes.{IsPassOn};
+ghost use Rattle.templates.specs.Table.{table};
+ghost use Rattle.turn_lock.specs.Meeting.{IsOwn};
+ghost use Rattle.turn_lock.specs.Passes.{knows};
+ghost use Rattle.turn_lock.specs.Turns.{newcomer};
+ghost use Rattle.crypto_script.specs.Endings.{AreCallers, EndsShut};
+ghost use Rattle.crypto_script.specs.Laws.{CrewLaws};
+ghost use Rattle.crypto_script.specs.Runs.{Gains, OthersFollow, InTurn, AreNew, Answers};
+ghost use Rattle.crypto_script.specs.Statuses.{run_answer};
+ghost use Rattle.crypto_script.specs.Text.{is_malformed};
+
+use crate::errors::RunError;
+use crate::lines::run_lines;
+use alg_registry::{RegEntry, RegLog};
+use board::{BoardEntry, BoardLog};
+use crew::{Gate, Passes, crew_works, crews_end, run_crew, work_ends};
+use kc_base::{Sink, SinkError};
+use script_session::Session;
+use shared_board::{BoardPass, SharedBoard};
+use shared_registry::{RegPass, SharedRegistry};
+use std::alloc::Global;
+use std::sync::Wait;
+use std::thread::Threads;
+use transforms::{Ask, Job};
+
+/// What a run came to: whether a line is malformed, where it reached the end, and all that happened in the registry and on the
+/// board.
+#[derive(Drop)]
+pub struct Ran {
+    pub answer: Result<bool, RunError>,
+    pub registry: RegLog,
+    pub board: BoardLog<Ask>,
+}
+
+impl Ran {
+    /// Nothing happened, for this cause.
+    pub fn not_at_all(alloc: Global, error: RunError) -> Ran
+        ensures { (result.answer ≡ Err error) × (result.registry ≡ []) × (result.board ≡ []) }
+    {
+        Ran {
+            answer: Err(error),
+            registry: RegLog::empty(alloc),
+            board: BoardLog::empty(alloc),
+        }
+    }
+}
+
+// what a crew leaves
+fn crew_laws()
+    ensures { CrewLaws }
+{
+    crews_end::<RegEntry>();
+    crews_end::<BoardEntry<Ask>>();
+    crew_works::<RegEntry>();
+    crew_works::<BoardEntry<Ask>>();
+    work_ends::<Ask>();
+}
+
+// Shuts the board if it isn't, so that the workers end.
+fn shut_board<R: Wait>(
+    rt: &R,
+    board: &SharedBoard<Job>,
+    pass: BoardPass<Job>,
+) -> BoardPass<Job>
+    requires lock { IsPassOn board.now pass }
+    requires first { (knows pass).number ≡ 0 }
+    ensures lock { IsPassOn board.now result }
+    ensures more { HasSeenMore (knows pass) (knows result) }
+    ensures own { IsOwn caller_of (knows result) }
+    ensures shut { is_shut (knows pass).seen ≡ true → OthersFollow caller_of (knows pass) (knows result).seen }
+{
+    let (pass, shut) = board.is_shut(rt, pass);
+    if shut {
+        return pass;
+    }
+    board.shut(rt, pass)
+}
+
+// Runs the script with passes of both locks, and shuts the board at its end, however it ends.
+fn answer_script<K: Sink, G: Gate, R: Wait>(
+    rt: &R,
+    alloc: Global,
+    workers: u32,
+    board: &SharedBoard<Job>,
+    registry: &SharedRegistry,
+    gate: &G,
+    passes: Passes<Ask>,
+    input: &[u8],
+    out: &mut K,
+) -> (Passes<Ask>, Result<bool, SinkError>)
+    requires lock { ArePassesOn board.now registry.now passes }
+    requires new { AreNew passes }
+    requires short { length input.now ≤ 2 ^ 28 }
+    ensures lock { ArePassesOn board.now registry.now result.0 }
+    ensures answers { Answers workers (script_of input.now) passes result.0 result.1 (K.held out.old) (K.held out.new) }
+    ensures later { K.faults out.old ≤ K.faults out.new }
+    ensures cause { IsErrOf result.1 SinkError.Failed → Rose (K.faults out.old) (K.faults out.new) }
+{
+    let Passes {
+        board: on_board,
+        registry: on_registry,
+    } = passes;
+    let mut session = Session::new(alloc, workers, 0, on_registry, on_board);
+    let answer = run_lines(rt, alloc, board, registry, gate, &mut session, input, out);
+    let (on_registry, on_board) = session.into_passes();
+    let passes = Passes {
+        board: shut_board(rt, board, on_board),
+        registry: on_registry,
+    };
+    (passes, answer)
+}
+
+fn run_answered(answer: Result<bool, SinkError>) -> Result<bool, RunError>
+    ensures { result ≡ run_answer answer }
+{
+    Ok(answer?)
+}
+
+// Runs the script with passes of both locks, beside so many workers.
+fn crew_script<K: Sink, G: Gate + Sync, R: Threads + Wait + Sync>(
+    rt: &R,
+    alloc: Global,
+    workers: u32,
+    board: &SharedBoard<Job>,
+    registry: &SharedRegistry,
+    gate: &G,
+    passes: Passes<Ask>,
+    input: &[u8],
+    out: &mut K,
+) -> (Passes<Ask>, Result<bool, SinkError>)
+    requires few { workers ≤ 16 }
+    requires lock { ArePassesOn board.now registry.now passes }
+    requires first { (knows passes.board ≡ newcomer) × (knows passes.registry ≡ newcomer) }
+    requires short { length input.now ≤ 2 ^ 28 }
+    ensures lock { ArePassesOn board.now registry.now result.0 }
+    ensures crewed { (p q : _) × HaveNext workers passes p × Answers workers (script_of input.now) p q result.1 (K.held out.old) (K.held out.new) × CrewedOnBoth workers passes q result.0 }
+    ensures cause { IsErrOf result.1 SinkError.Failed → Rose (K.faults out.old) (K.faults out.new) }
+{
+    let mut main = |passes: Passes<Ask>| -> (Passes<Ask>, Result<bool, SinkError>)
+        requires lock { ArePassesOn board.now registry.now passes }
+        requires new { AreNew passes }
+        requires short { length input.now ≤ 2 ^ 28 }
+        ensures lock { ArePassesOn board.entry.now registry.entry.now result.0 }
+        ensures answers { Answers workers (script_of input.entry.now) passes result.0 result.1 (K.held out.entry.now) (K.held out.exit.now) }
+        ensures cause { IsErrOf result.1 SinkError.Failed → Rose (K.faults out.entry.now) (K.faults out.exit.now) }
+    { answer_script(rt, alloc, workers, board, registry, gate, passes, input, out) };
+    run_crew(rt, alloc, workers, board, registry, passes, gate, &mut main)
+}
+
+// Runs the script beside so many workers on these locks, with their first passes.
+fn run_beside<K: Sink, G: Gate + Sync, R: Threads + Wait + Sync>(
+    rt: &R,
+    alloc: Global,
+    workers: u32,
+    board: SharedBoard<Job>,
+    registry: SharedRegistry,
+    gate: &G,
+    passes: Passes<Ask>,
+    input: &[u8],
+    out: &mut K,
+) -> Ran
+    requires few { workers ≤ 16 }
+    requires lock { ArePassesOn board registry passes }
+    requires first { (knows passes.board ≡ newcomer) × (knows passes.registry ≡ newcomer) }
+    requires short { length input.now ≤ 2 ^ 28 }
+    ensures whole { OnOk result.answer (Gains (K.held out.old) (K.held out.new) (IsText workers (start 0) 0 (script_of input.now) result.registry result.board)) }
+    ensures in_turn { OnOk result.answer (InTurn result.registry) }
+    ensures shut { OnOk result.answer (EndsShut result.board) }
+    ensures front { Gains (K.held out.old) (K.held out.new) (IsFrontText workers (start 0) 0 (script_of input.now) result.registry result.board) }
+    ensures callers { AreCallers workers result.registry result.board }
+    ensures legal { LegalReg result.registry }
+    ensures legal_board { LegalBoard result.board }
+    ensures faithful { Made table result.registry }
+    ensures malformed { IfOk result.answer (λ bad. bad ≡ list_any is_malformed (script_of input.now)) }
+    ensures write_fault { IsErrOf result.answer RunError.WriteFault → Rose (K.faults out.old) (K.faults out.new) }
+    ensures causes { IfErr result.answer (λ e. (e ≡ RunError.WriteFault) ⊎ (e ≡ RunError.NoMemory)) }
+{
+    crew_laws();
+    let (passes, answer) =
+        crew_script(rt, alloc, workers, &board, &registry, gate, passes, input, out);
+    let Passes {
+        board: on_board,
+        registry: on_registry,
+    } = passes;
+    Ran {
+        answer: run_answered(answer),
+        registry: registry.finish_all(rt, on_registry),
+        board: board.finish_all(rt, on_board),
+    }
+}
+
+/// Runs the script beside so many workers, on a board and a registry of its own.
+pub fn run_script<K: Sink, G: Gate + Sync, R: Threads + Wait + Sync>(
+    rt: &R,
+    alloc: Global,
+    workers: u32,
+    gate: &G,
+    input: &[u8],
+    out: &mut K,
+) -> Ran
+    requires few { workers ≤ 16 }
+    requires short { length input.now ≤ 2 ^ 28 }
+    ensures whole { OnOk result.answer (Gains (K.held out.old) (K.held out.new) (IsText workers (start 0) 0 (script_of input.now) result.registry result.board)) }
+    ensures in_turn { OnOk result.answer (InTurn result.registry) }
+    ensures shut { OnOk result.answer (EndsShut result.board) }
+    ensures front { Gains (K.held out.old) (K.held out.new) (IsFrontText workers (start 0) 0 (script_of input.now) result.registry result.board) }
+    ensures callers { AreCallers workers result.registry result.board }
+    ensures legal { LegalReg result.registry }
+    ensures legal_board { LegalBoard result.board }
+    ensures faithful { Made table result.registry }
+    ensures malformed { IfOk result.answer (λ bad. bad ≡ list_any is_malformed (script_of input.now)) }
+    ensures write_fault { IsErrOf result.answer RunError.WriteFault → Rose (K.faults out.old) (K.faults out.new) }
+    ensures causes { IfErr result.answer (λ e. (e ≡ RunError.WriteFault) ⊎ (e ≡ RunError.NoMemory)) }
+{
+    let Ok((registry, on_registry)) = SharedRegistry::new(alloc) else {
+        return Ran::not_at_all(alloc, RunError::NoMemory);
+    };
+    let Ok((board, on_board)) = SharedBoard::new(alloc) else {
+        return Ran::not_at_all(alloc, RunError::NoMemory);
+    };
+    let passes = Passes {
+        board: on_board,
+        registry: on_registry,
+    };
+    run_beside(rt, alloc, workers, board, registry, gate, passes, input, out)
+}
