@@ -13,3 +13,4 @@ pub mod Alone
 pub mod Counting
 pub mod Held
 pub mod OwnCalls
+pub mod Naming

@@ -3,6 +3,7 @@
 ghost use Rattle.alg_registry.specs.Legal.{LegalReg};
 ghost use Rattle.alg_registry.specs.Lifetimes.{NeverHandedOutAgain, HeldWhileReferenced, HeldByCaller, HeldFromGetToPut, ListedIs, BestAnswers, BestIsGreatest};
 ghost use Rattle.alg_registry.specs.Made.{Made};
+ghost use Rattle.alg_registry.specs.Naming.{LooksName, EndsName};
 ghost use Rattle.alg_registry.specs.OwnCalls.{AllStays, BuildingIsOwn, OpenIsClaimed, LooksAreOwn, ReferencesAreOwn, AllHaveEnded, AllHaveEndedFor};
 ghost use Rattle.alg_registry.specs.Trial.{run, after_unlist, asked_by_worker, claimed_early, began_again, claimed_twice, found_another, ended_by_another, built_again, refused_reference, found_after_unlist, two_templates, wrong_child, too_early};
 
@@ -24,6 +25,12 @@ pub fn own_calls()
     ensures claimed { OpenIsClaimed }
     ensures looks { LooksAreOwn }
     ensures references { ReferencesAreOwn }
+{}
+
+/// Whatever the answer of a look or the end of a larval names is there: an entry with that id, a larval with the look's text.
+pub fn names_exist()
+    ensures looks { LooksName }
+    ensures ends { EndsName }
 {}
 
 /// Where each look that was asked for has come to something, nothing is left to build.

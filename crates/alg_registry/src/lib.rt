@@ -21,7 +21,7 @@ mod tests;
 pub use entry::{Claimed, EndAnswer, Ended, Enlisted, Looked, RefAnswer, RegEntry, RegErr};
 pub use history::RegLog;
 pub use ids::Ids;
-pub use laws::{all_ended, legal_histories, lifetimes, own_calls};
+pub use laws::{all_ended, legal_histories, lifetimes, names_exist, own_calls};
 pub use listing::{ListRow, Listing};
 pub use registry::Registry;
 pub use spec::{Kind, Spec, Wrap};

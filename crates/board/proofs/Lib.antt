@@ -23,3 +23,5 @@ pub mod StartOrder
 pub mod QueueAll
 pub mod Handing
 pub mod Others
+pub mod Ends
+pub mod Closed

@@ -9,4 +9,5 @@ pub mod Examples
 pub mod Staying
 pub mod Handing
 pub mod Others
+pub mod Ends
 pub mod Slips

@@ -15,6 +15,7 @@ ghost use Rattle.board.specs.Order.{PadsKeepOrder, PadsWaitForEach, PadsHandOutA
 ghost use Rattle.board.specs.Staying.{Joins, LeavesOthers, BeginsAlone, OpensPad, OpensQueue, StaysOpen, QueueStaysOpen, StaysManaged, StaysSubmitting, BornServed, Holds, StaysHeld, SlipStays, CollectDrains, WorkLeaves, TakingIsWork, FinishingIsWork};
 ghost use Rattle.board.specs.Handing.{HandsNothing, HandsOutAtMost, FrontIsFinished, FrontIsGreatest, FrontIsAll, CollectHandsOut, AllHandedOutIsDrained};
 ghost use Rattle.board.specs.Others.{OthersAlone, WorkLeavesKnown, WorkLeavesDrained, WorkLeavesOwn, OthersLeaveOpen, OthersLeaveSlips};
+ghost use Rattle.board.specs.Ends.{AllIsFinished, NoWorkIsRight, ShutIsLast};
 ghost use Rattle.board.specs.Examples.{held_requests, held_queue, second_first, first_alone};
 
 /// In every legal history a pad hands out the completions of its requests in their order, each once, however its jobs were
@@ -110,6 +111,14 @@ pub fn others_leave<A, O>()
     ensures own { (h es : List (BoardEntry A)) (caller : ℕ) → WorkLeavesOwn h es caller }
     ensures submitting { (h es : List (BoardEntry A)) (p caller : ℕ) → OthersLeaveOpen h es p caller }
     ensures slips { (meaning : A → O) (h es : List (BoardEntry A)) (p caller n : ℕ) (out : O) → OthersLeaveSlips meaning h es p caller n out }
+{}
+
+/// Over every legal history: where each request of each pipeline is finished, no take and no finish of a job is right any
+/// more, so that a shut beside workers is the last entry. Where one caller alone made pipelines, closed ones are finished.
+pub fn work_ends<A>()
+    ensures all_finished { (h : List (BoardEntry A)) (caller : ℕ) → AllIsFinished h caller }
+    ensures nothing_left { (h : List (BoardEntry A)) (e : BoardEntry A) → NoWorkIsRight h e }
+    ensures shut_last { (h : List (BoardEntry A)) (caller : ℕ) (es : List (BoardEntry A)) → ShutIsLast h caller es }
 {}
 
 /// A pad whose second job is finished first has a legal history. It hands out nothing past a job that still runs, and what

@@ -25,7 +25,7 @@ pub use entry::{BoardEntry, Entered, Shape};
 pub use laws::{
     collects_hand_out, entries_join, fronts_tell_all, legal_pads, legal_queues,
     only_collects_hand_out, others_leave, pads_keep_order, pipelines_stay, queues_hold,
-    queues_keep_order, queues_start_backlog, slips_stay,
+    queues_keep_order, queues_start_backlog, slips_stay, work_ends,
 };
 pub use log::BoardLog;
 pub use work::Work;

@@ -1,18 +1,19 @@
 -- A crew with one worker more.
-use Rattle.std.proofs.Common.{◌≡◌, ℕ, zero, suc, Bool, true, List, [], ◌∷◌, ◌++◌, sym, refl, ap, ◌∙◌, subst, ◌+◌, ◌-◌, arith, ⊎_elim, inl, inr}
+use Rattle.std.proofs.Common.{◌≡◌, ◌<◌, ◌≤◌, ◌⊎◌, ℕ, zero, false, suc, Bool, true, List, [], ◌∷◌, ◌++◌, sym, refl, ap, ◌∙◌, subst, ◌+◌, ◌-◌, arith, ⊎_elim, inl, inr}
 use Rattle.std.specs.List.{list_all}
-use Rattle.std.proofs.lemmas.Bool.{or_left}
+use Rattle.std.specs.Prelude.{◌==◌, if◌then◌else◌}
+use Rattle.std.proofs.lemmas.Bool.{or_left, and_parts, eq-eqb}
 use Rattle.std.proofs.lemmas.List.{append_assoc, append-nil}
 use Rattle.std.proofs.lemmas.List.Folds.{list_any-append}
 use Rattle.std.proofs.Math.Nat.{eq-or-lt_of_le}
-use Rattle.turn_lock.specs.Turns.{Known, Each, Has, StartsWith, of, gives_number, gets_number, joined, skipped}
-use Rattle.turn_lock.proofs.Lists.{none_after}
-use Rattle.turn_lock.proofs.Clients.{starts_through}
+use Rattle.turn_lock.specs.Turns.{Known, Shows, Each, Has, StartsWith, of, gives_number, gets_number, joined, skipped}
+use Rattle.turn_lock.specs.Going.{none_after}
+use Rattle.turn_lock.specs.Going.{starts_through}
 use Rattle.board.specs.declared.entry.BoardEntry.{BoardEntry}
 use Rattle.board.specs.Legal.{is_shut, is_shut_entry}
 use Rattle.board.specs.Staying.{is_work}
 use Rattle.crew.specs.Working.{Worked}
-use Rattle.crew.specs.Crews.{Crewed, SawEnd, with_next, CrewsEnd}
+use Rattle.crew.specs.Crews.{Crewed, SawEnd, with_next, CrewsEnd, CrewWorks}
 
 module _ {A : Type 0} where
   each_end : (P : A → Type 0) (xs : List A) (x : A) → Each P xs → P x → Each P (xs ++ x ∷ [])
@@ -94,6 +95,43 @@ module _ {E : Type 0} (does : E → Bool) where
       let s = starts_through log l.seen k.seen shows.seen crewed.seen in
       let all : of by k.number log ≡ k.made = subst (λ n. of by n log ≡ l.made) crewed.number shows.made ∙ crewed.made in
       (s.0, s.1, none_after by k.number log k.seen k.made s.0 s.1 all own)
+
+  -- the entries of a number that has ended are work
+  ended_works : (by : E → ℕ) (i : ℕ) (log : List E) (xs : List (ℕ × List E)) → Each (λ x. of by x.0 log ≡ x.1) xs → Each (λ x. list_all does x.1 ≡ true) xs → Has (λ x. x.0 ≡ i) xs → list_all does (of by i log) ≡ true
+  ended_works by i log [] are works has = absurd has
+  ended_works by i log (x ∷ xs) are works (inl same) = ap (λ n. list_all does (of by n log)) (sym same) ∙ (ap (list_all does) are.0 ∙ works.0)
+  ended_works by i log (x ∷ xs) are works (inr has) = ended_works by i log xs are.1 works.1 has
+
+  each_right-part : (P : ℕ × List E → Type 0) (xs ys : List (ℕ × List E)) → Each P (xs ++ ys) → Each P ys
+  each_right-part P [] ys each = each
+  each_right-part P (x ∷ xs) ys each = each_right-part P xs ys each.1
+
+  all_later : (by : E → ℕ) (i : ℕ) (x : E) (xs : List E) (t : Bool) → list_all does (if t then x ∷ of by i xs else of by i xs) ≡ true → list_all does (of by i xs) ≡ true
+  all_later by i x xs true all = (and_parts (does x) (list_all does (of by i xs)) all).1
+  all_later by i x xs false all = all
+
+  all_first : (by : E → ℕ) (i : ℕ) (x : E) (xs : List E) (t : Bool) → t ≡ true → list_all does (if t then x ∷ of by i xs else of by i xs) ≡ true → does x ≡ true
+  all_first by i x xs true t all = (and_parts (does x) (list_all does (of by i xs)) all).0
+  all_first by i x xs false t all = absurd cc
+
+  -- each entry with another number than 0 is work, where each number's entries are
+  each_works : (by : E → ℕ) (workers : ℕ) (xs : List E) → ((i : ℕ) → 1 ≤ i → i ≤ workers → list_all does (of by i xs) ≡ true) → Each (λ e. by e < workers + 1) xs
+      → Each (λ e. (by e ≤ workers) × ((by e ≡ 0) ⊎ (does e ≡ true))) xs
+  each_works by workers [] all below = tt
+  each_works by workers (x ∷ xs) all below =
+      let low : by x ≤ workers = (let b = below.0 in omega arith) in
+      let least : 0 ≤ by x = omega arith in
+      ((low, by_number (eq-or-lt_of_le least) low), each_works by workers xs (λ i one most. all_later by i x xs (by x == i) (all i one most)) below.1)
+    where
+      by_number : (0 ≡ by x) ⊎ (0 < by x) → by x ≤ workers → (by x ≡ 0) ⊎ (does x ≡ true)
+      by_number (inl zero_is) low = inl (sym zero_is)
+      by_number (inr some) low = inr (all_first by (by x) x xs (by x == by x) (eq-eqb (by x) (by x) refl) (all (by x) (omega arith) low))
+
+  pub crew_works : (by : E → ℕ) (workers : ℕ) (k l : Known E) (log : List E) → CrewWorks by does workers k l log
+  crew_works by workers k l log zero_is next crewed shows =
+      let ended : Each (λ x. of by x.0 log ≡ x.1) crewed.more = each_right-part (λ x. of by x.0 log ≡ x.1) k.ended crewed.more (subst (Each (λ x. of by x.0 log ≡ x.1)) crewed.ended shows.ended) in
+      let below : Each (λ e. by e < workers + 1) log = subst (λ n. Each (λ e. by e < n) log) (crewed.next ∙ next) (shows.below (crewed.number ∙ zero_is)) in
+      each_works by workers log (λ i one most. ended_works by i log crewed.more ended crewed.works (crewed.all i one (omega arith))) below
 
 module _ {A : Type 0} where
   -- a board that was shut is shut

@@ -1,4 +1,3 @@
 pub mod Works
 pub mod Crews
 pub mod OnBoth
-pub mod Ends

@@ -7,7 +7,7 @@ use Rattle.board.specs.Staying.{is_work}
 use Rattle.board.specs.Legal.{is_shut}
 use Rattle.alg_registry.specs.declared.entry.RegEntry.{RegEntry}
 use Rattle.shared_registry.specs.Building.{Works, is_building}
-use Rattle.shared_registry.proofs.Working.{works_still, works_on}
+use Rattle.shared_registry.specs.Laws.{WorksStill, WorksOn}
 use Rattle.crew.specs.declared.passes.Passes.{Passes}
 use Rattle.crew.specs.Both.{WorkedOnBoth, AreFirst, HaveRoom, HaveNext, AreSplit, AreJoined, CrewedOnBoth}
 use Rattle.crew.proofs.Works.{worked_still, worked_on}
@@ -20,13 +20,13 @@ gave_none : {E : Type 0} (k own : Known E) → own ≡ gives_number k.next k →
 gave_none k own gave none = ap (λ n. n.ended) gave ∙ ((λ i. none i ++ skipped k.next (k.next - k.next)) ∙ skips_none k.next (k.next - k.next) (omega arith))
 
 module _ {A : Type 0} where
-  pub both_still : (p : Passes A) → WorkedOnBoth p p
-  both_still p = record { board = worked_still (knows p.board); registry = works_still (knows p.registry) }
+  pub both_still : WorksStill → (p : Passes A) → WorkedOnBoth p p
+  both_still still p = record { board = worked_still (knows p.board); registry = still (knows p.registry) }
 
-  pub both_on : (p q r : Passes A) → WorkedOnBoth p q → WorkedOnBoth q r → WorkedOnBoth p r
-  both_on p q r a b = record {
+  pub both_on : WorksOn → (p q r : Passes A) → WorkedOnBoth p q → WorkedOnBoth q r → WorkedOnBoth p r
+  both_on on p q r a b = record {
     board = worked_on (knows p.board) (knows q.board) (knows r.board) a.board b.board;
-    registry = works_on (knows p.registry) (knows q.registry) (knows r.registry) a.registry b.registry;
+    registry = on (knows p.registry) (knows q.registry) (knows r.registry) a.registry b.registry;
   }
 
   pub room_left : (left rest : ℕ) (p own other : Passes A) → left ≡ rest + 1 → HaveRoom left p → AreSplit p own other → HaveRoom rest own

@@ -4,14 +4,12 @@ use Rattle.std.specs.List.{list_all}
 use Rattle.std.proofs.lemmas.List.Folds.{list_all-append}
 use Rattle.turn_lock.specs.Turns.{Known}
 use Rattle.turn_lock.specs.Meeting.{AtTurn, Enters, Leaves}
-use Rattle.turn_lock.proofs.Clients.{stays, goes_left, goes_entered, goes_then}
+use Rattle.turn_lock.specs.Going.{stays, goes_left, goes_entered, goes_then}
 use Rattle.board.specs.declared.entry.BoardEntry.{BoardEntry}
 use Rattle.board.specs.Entries.{entries_of, caller_of, take_entry, finish_entry}
 use Rattle.board.specs.Legal.{MayManage, IsOpen, LegalBoard}
-use Rattle.board.specs.Staying.{is_work}
-use Rattle.board.specs.Others.{StaysKnown}
-use Rattle.board.proofs.Others.{work_leaves_known, known_start}
-use Rattle.board.proofs.Staying.{taking_is_work, finishing_is_work}
+use Rattle.board.specs.Staying.{is_work, TakingIsWork, FinishingIsWork}
+use Rattle.board.specs.Others.{StaysKnown, WorkLeavesKnown}
 use Rattle.crew.specs.Working.{WorksOnce, Worked}
 
 both_true : (a b : Bool) → a ≡ true → b ≡ true → (a && b) ≡ true
@@ -42,17 +40,21 @@ module _ {A : Type 0} where
     work = list_all-append is_work a.own b.own ∙ both_true (list_all is_work a.own) (list_all is_work b.own) a.work b.work;
   }
 
-  pub once_worked : (k l : Known (BoardEntry A)) → WorksOnce k l → Worked k l
-  once_worked k l w =
+  pub once_worked : ((h : List (BoardEntry A)) (caller p n : ℕ) → TakingIsWork h caller p n) → ((h : List (BoardEntry A)) (caller p n : ℕ) → FinishingIsWork h caller p n) → (k l : Known (BoardEntry A)) → WorksOnce k l → Worked k l
+  once_worked taking finishing k l w =
       worked_on k w.0 l
-      (worked_entry k w.0 (λ h. take_entry h k.number w.1 w.2) (λ h. let t = taking_is_work h k.number w.1 w.2 in (t.0, t.1)) w.3)
-      (worked_entry w.0 l (λ h. finish_entry h w.0.number w.1 w.2) (λ h. let t = finishing_is_work h w.0.number w.1 w.2 in (t.0, t.1)) w.4)
+      (worked_entry k w.0 (λ h. take_entry h k.number w.1 w.2) (λ h. let t = taking h k.number w.1 w.2 in (t.0, t.1)) w.3)
+      (worked_entry w.0 l (λ h. finish_entry h w.0.number w.1 w.2) (λ h. let t = finishing h w.0.number w.1 w.2 in (t.0, t.1)) w.4)
+
+module _ {A : Type 0} (leaves : (h es : List (BoardEntry A)) (p caller : ℕ) → WorkLeavesKnown h es p caller) where
+  known_start : (h : List (BoardEntry A)) (p caller : ℕ) → MayManage (entries_of p h) caller → StaysKnown h h p caller
+  known_start h p caller m = record { managed = m; pad = λ o. o; queue = λ o. o; held = refl; shared = refl; collected = refl; handed = refl; accepted = λ a. refl }
 
   known_cases : (k l : Known (BoardEntry A)) (p : ℕ) (w : Worked k l) → (l.seen ≡ k.seen) ⊎ LegalBoard l.seen → MayManage (entries_of p k.seen) k.number → StaysKnown k.seen l.seen p k.number
   known_cases k l p w (inl same) may = subst (λ xs. StaysKnown k.seen xs p k.number) (sym same) (known_start k.seen p k.number may)
   known_cases k l p w (inr legal) may =
       subst (λ xs. StaysKnown k.seen xs p k.number) (sym w.goes.seen)
-      (work_leaves_known k.seen w.goes.between p k.number (subst Legal w.goes.seen legal, ap (list_all is_work) w.goes.mine ∙ w.work) may)
+      (leaves k.seen w.goes.between p k.number (subst (λ xs. LegalBoard xs) w.goes.seen legal, ap (list_all is_work) w.goes.mine ∙ w.work) may)
 
   -- what a pass knows of a pipeline that it made stays while it works
   pub known_worked : (k l : Known (BoardEntry A)) (p : ℕ) → Worked k l → MayManage (entries_of p k.seen) k.number → StaysKnown k.seen l.seen p k.number

@@ -1,5 +1,5 @@
 -- What a crew leaves of a pass.
-use Rattle.std.specs.Prelude.{◌≡◌, ℕ, ◌+◌, ◌<◌, ◌≤◌, Bool, true, List, [], ◌++◌}
+use Rattle.std.specs.Prelude.{◌≡◌, ◌⊎◌, ℕ, ◌+◌, ◌<◌, ◌≤◌, Bool, true, List, [], ◌++◌}
 use Rattle.std.specs.List.{list_all}
 use Rattle.turn_lock.specs.Turns.{Known, StartsWith, Each, Has, Shows, of}
 use Rattle.turn_lock.specs.Meeting.{IsOwn}
@@ -22,6 +22,13 @@ module _ {E : Type 0} where
     pub ended : l.ended ≡ k.ended ++ more
     pub works : Each (λ x. list_all is_work x.1 ≡ true) more
     pub all : (i : ℕ) → from ≤ i → i < from + count → Has (λ x. x.0 ≡ i) more
+
+  -- Beside a crew with the numbers 1 to `workers`, whose first caller has the number 0, each entry of the history is the first
+  -- caller's own, or work of one of the crew.
+  abbrev pub CrewWorks : (E → ℕ) → (E → Bool) → ℕ → Known E → Known E → List E → Type 0
+  CrewWorks by is_work workers k l log =
+      k.number ≡ 0 → k.next ≡ workers + 1 → Crewed is_work 1 workers k l → Shows by l log
+      → Each (λ e. (by e ≤ workers) × ((by e ≡ 0) ⊎ (is_work e ≡ true))) log
 
   -- what the history has beyond what the caller's own pass had seen, before workers were joined into it, are entries of others
   abbrev pub CrewsEnd : (E → ℕ) → (E → Bool) → ℕ → ℕ → Known E → Known E → List E → Type 0

@@ -1,4 +1,3 @@
 pub mod Working
 pub mod Crews
 pub mod Both
-pub mod Ends

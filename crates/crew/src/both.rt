@@ -12,6 +12,7 @@ use crate::passes::Passes;
 use crate::working::work_one;
 use board::Work;
 use shared_board::SharedBoard;
+use shared_registry::laws::building_goes_on;
 use shared_registry::{RegPass, SharedRegistry, build_one};
 use std::alloc::Global;
 use std::sync::Wait;
@@ -48,6 +49,7 @@ pub fn work_or_build<W: Work, G: Gate, R: Wait>(
     ensures lock { ArePassesOn board.now registry.now result.0 }
     ensures worked { WorkedOnBoth passes result.0 }
 {
+    building_goes_on();
     let Passes {
         board: on_board,
         registry: on_registry,
@@ -81,6 +83,7 @@ fn work_both_while<W: Work, G: Gate, R: Wait>(
     ensures lock { ArePassesOn board.now registry.now result }
     ensures worked { WorkedOnBoth passes result }
 {
+    building_goes_on();
     let mut mine = passes;
     for _ in rt.forever() {
         let (worked, found) = work_or_build(rt, alloc, board, registry, mine, gate);
@@ -104,6 +107,7 @@ fn look_at_end<W: Work, R: Wait>(
     ensures worked { WorkedOnBoth passes result.0 }
     ensures shut { result.1 ≡ is_shut (knows result.0.board).seen }
 {
+    building_goes_on();
     let Passes {
         board: on_board,
         registry: on_registry,
@@ -131,6 +135,7 @@ pub fn work_on<W: Work, G: Gate, R: Wait>(
     ensures worked { WorkedOnBoth passes result }
     ensures shut { is_shut (knows result.board).seen ≡ true }
 {
+    building_goes_on();
     let mut mine = passes;
     for _ in rt.forever() {
         let worked = work_both_while(rt, alloc, board, registry, mine, gate);

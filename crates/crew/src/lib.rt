@@ -11,6 +11,6 @@ mod working;
 pub use both::{work_on, work_or_build};
 pub use crew::run_crew;
 pub use gate::{Gate, NoGate};
-pub use laws::{crews_end, work_ends};
+pub use laws::{crew_works, crews_end};
 pub use passes::Passes;
 pub use working::{drain, work_one};

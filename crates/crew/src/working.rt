@@ -12,7 +12,7 @@ ghost use Rattle.shared_board.specs.Passes.{IsPassOn};
 ghost use Rattle.crew.specs.Working.{WorksOnce, Worked, Drained};
 
 use crate::gate::Gate;
-use board::{BoardErr, Taken, Work};
+use board::{BoardErr, Taken, Work, others_leave, pipelines_stay};
 use kc_base::Callbacks;
 use shared_board::{BoardPass, SharedBoard};
 use std::sync::Wait;
@@ -29,6 +29,7 @@ pub fn work_one<W: Work, G: Gate, R: Wait>(
     ensures once { MatchBool result.1 (WorksOnce (knows pass) (knows result.0)) (AtTurn caller_of LegalBoard (knows pass) (λ h. NoneWaits h × Leaves (knows pass) h (knows result.0))) }
     ensures worked { Worked (knows pass) (knows result.0) }
 {
+    pipelines_stay::<W::Ask>();
     let (pass, taken) = board.take(rt, pass);
     match taken {
         Some(Taken { slip, job }) => {
@@ -79,6 +80,7 @@ pub fn drain<W: Work, G: Gate, R: Wait>(
     ensures lock { IsPassOn board.now result.0 }
     ensures drained { MatchResult result.1 (λ _. Drained W.meaning pipe (knows pass) (knows result.0) into.old.list into.new.list) (λ e. (e ≡ BoardErr.Memory) × (into.new.list ≡ into.old.list) × Worked (knows pass) (knows result.0)) }
 {
+    others_leave::<W::Ask, W::Out>();
     let mut mine = pass;
     for _ in rt.forever() {
         let worked = work_while(rt, board, mine, gate);

@@ -1,5 +1,5 @@
 -- What stays of what a caller knows, after each call.
-use Rattle.std.proofs.Common.{◌≡◌, ◌<◌, ℕ, true, false, List, [], ◌∷◌, refl, sym, ◌∙◌, ap, subst, inl, inr, ◌⊎◌, Ok, Err}
+use Rattle.std.proofs.Common.{◌≡◌, ◌<◌, ℕ, Bool, true, false, ◌||◌, List, [], ◌∷◌, ◌++◌, refl, sym, ◌∙◌, ap, subst, inl, inr, ◌⊎◌, Ok, Err}
 use Rattle.std.specs.Prelude.{Result, MatchResult, IfOk}
 use Rattle.std.specs.List.{list_all}
 use Rattle.std.proofs.lemmas.Bool.{eq-eqb, or_right}
@@ -14,14 +14,10 @@ use Rattle.board.specs.declared.entry.BoardEntry.TheVariants.{Born, Share}
 use Rattle.board.specs.Entries.{entries_of, is_close, is_share, is_shared, caller_of}
 use Rattle.board.specs.Legal.{MaySubmit, IsOpenPad, LegalBoard, is_shut, is_shut_entry}
 use Rattle.board.specs.Staying.{IsOpenFor, is_work}
-use Rattle.board.proofs.Transfer.{entries-more}
-use Rattle.board.proofs.Kept.{shut-same}
-use Rattle.board.proofs.Staying.{opens_pad, stays_open, stays_managed}
-use Rattle.board.proofs.Others.{work_leaves_own}
-use Rattle.shared_board.proofs.Meeting.{known_here, unshut_here}
 use Rattle.crew.specs.declared.passes.Passes.{Passes}
 use Rattle.crew.specs.Working.{Worked, Drained}
 use Rattle.crew.specs.Both.{AreFirst}
+use Rattle.crew_speed.specs.Learned.{BoardLaws}
 use Rattle.crew_speed.specs.Ready.{StaysFirst, Ready}
 
 module _ {A : Type 0} where
@@ -31,21 +27,36 @@ module _ {A : Type 0} where
   pub submits : (p : ℕ) (k : Known (BoardEntry A)) → Ready p k → MaySubmit (entries_of p k.seen) k.number
   submits p k r = (r.1.0, inl r.1.1)
 
+  -- a pass with another number, split off after the share
+  pub other_submits : (p n : ℕ) (k o : Known (BoardEntry A)) → 16 < n → o ≡ gets_number n k → is_shared (entries_of p k.seen) ≡ true → MaySubmit (entries_of p o.seen) o.number
+  other_submits p n k o big got open_ = subst (λ (x : Known (BoardEntry A)). MaySubmit (entries_of p x.seen) x.number) (sym got) (inr big, inr open_)
+
+  pub other_open : (p n : ℕ) (k o : Known (BoardEntry A)) → o ≡ gets_number n k → IsOpenPad (entries_of p k.seen) → IsOpenPad (entries_of p o.seen)
+  other_open p n k o got opened = subst (λ (x : Known (BoardEntry A)). IsOpenPad (entries_of p x.seen)) (sym got) opened
+
+  shut-same : (h : List (BoardEntry A)) (e : BoardEntry A) → is_shut_entry e ≡ false → is_shut (h ++ e ∷ []) ≡ is_shut h
+  shut-same h e none = list_any-append is_shut_entry h (e ∷ []) ∙ (ap (λ b. is_shut h || (b || false)) none ∙ neither (is_shut h))
+    where
+      neither : (b : Bool) → (b || false) ≡ b
+      neither true = refl
+      neither false = refl
+
+module _ {A O : Type 0} (meaning : A → O) (laws : BoardLaws meaning) where
   ready_here : (p : ℕ) (k : Known (BoardEntry A)) (h : List (BoardEntry A)) → Ready p k → Meets caller_of Legal k h → IsOpenFor h p k.number
-  ready_here p k h r m = let s = known_here k h m p r.1 in (s.pad r.0, s.managed)
+  ready_here p k h r m = let s = (laws.holds k h m).known p r.1 in (s.pad r.0, s.managed)
 
   ready_leaves : (p : ℕ) (k l : Known (BoardEntry A)) (h : List (BoardEntry A)) → Ready p k → Meets caller_of Legal k h → Leaves k h l → Ready p l
   ready_leaves p k l h r m t = subst (λ (x : Known (BoardEntry A)). Ready p x) (sym t) (ready_here p k h r m)
 
   ready_enters : (p : ℕ) (k l : Known (BoardEntry A)) (e : BoardEntry A) (h : List (BoardEntry A)) → Ready p k → Meets caller_of Legal k h → Enters Legal k h e l → is_close e ≡ false → Ready p l
   ready_enters p k l e h r m t c = let s = ready_here p k h r m in
-      subst (λ (x : Known (BoardEntry A)). Ready p x) (sym t.0) (stays_open h e p s.0 c, stays_managed h e p k.number s.1)
+      subst (λ (x : Known (BoardEntry A)). Ready p x) (sym t.0) (laws.stays_open h e p s.0 c, laws.managed h e p k.number s.1)
 
   first_leaves : (k l : Known (BoardEntry A)) (h : List (BoardEntry A)) → Meets caller_of Legal k h → Leaves k h l → StaysFirst k l
-  first_leaves k l h m t r = (ap (λ n. n.number) t ∙ r.0, subst (λ hs. is_shut hs ≡ false) (sym (ap (λ n. n.seen) t)) (unshut_here k h m r.0 r.1))
+  first_leaves k l h m t r = (ap (λ n. n.number) t ∙ r.0, subst (λ hs. is_shut hs ≡ false) (sym (ap (λ n. n.seen) t)) ((laws.holds k h m).unshut r.0 r.1))
 
   first_enters : (k l : Known (BoardEntry A)) (e : BoardEntry A) (h : List (BoardEntry A)) → Meets caller_of Legal k h → Enters Legal k h e l → is_shut_entry e ≡ false → StaysFirst k l
-  first_enters k l e h m t n r = (ap (λ x. x.number) t.0 ∙ r.0, subst (λ hs. is_shut hs ≡ false) (sym (ap (λ (x : Known (BoardEntry A)). x.seen) t.0)) (shut-same h e n ∙ unshut_here k h m r.0 r.1))
+  first_enters k l e h m t n r = (ap (λ x. x.number) t.0 ∙ r.0, subst (λ hs. is_shut hs ≡ false) (sym (ap (λ (x : Known (BoardEntry A)). x.seen) t.0)) (shut-same h e n ∙ (laws.holds k h m).unshut r.0 r.1))
 
   module _ {X F I : Type 0} (k l : Known (BoardEntry A)) (r : Result X F) (P : List (BoardEntry A) → X → Type 0) (V : I → Type 0) (f : X → I → BoardEntry A) (Q : List (BoardEntry A) → F → Type 0) (R : List (BoardEntry A) → Type 0)
       (quiet : (x : X) (i : I) → (is_close (f x i) ≡ false) × (is_shut_entry (f x i) ≡ false)) where
@@ -71,13 +82,13 @@ module _ {A : Type 0} where
   pub made_ready : {F : Type 0} (lists : ℕ) (k l : Known (BoardEntry A)) (r : Result ℕ F) (P : List (BoardEntry A) → ℕ → Type 0) (Q : List (BoardEntry A) → F → Type 0)
       → AtTurn caller_of Legal k (λ h. MatchResult r (λ pipe. P h pipe × Enters Legal k h (Born k.number pipe (Pad lists)) l) (λ e. Q h e × Leaves k h l)) → IfOk r (λ pipe. Ready pipe l)
   made_ready lists k l (Ok p) P Q t =
-      subst (λ (x : Known (BoardEntry A)). Ready p x) (sym t.2.1.0) (opens_pad t.0 k.number p lists t.2.1.1)
+      subst (λ (x : Known (BoardEntry A)). Ready p x) (sym t.2.1.0) (laws.born t.0 k.number p lists t.2.1.1)
   made_ready lists k l (Err e) P Q t = tt
 
   worked_cases : (k l : Known (BoardEntry A)) (w : Worked k l) → (l.seen ≡ k.seen) ⊎ LegalBoard l.seen → StaysFirst k l
   worked_cases k l w (inl same) first = (w.goes.number ∙ first.0, ap (λ hs. is_shut hs) same ∙ first.1)
   worked_cases k l w (inr legal) first =
-      (w.goes.number ∙ first.0, ap (λ hs. is_shut hs) w.goes.seen ∙ ((work_leaves_own k.seen w.goes.between k.number (subst Legal w.goes.seen legal, ap (list_all is_work) w.goes.mine ∙ w.work)).1 first.0 ∙ first.1))
+      (w.goes.number ∙ first.0, ap (λ hs. is_shut hs) w.goes.seen ∙ ((laws.own k.seen w.goes.between k.number (subst Legal w.goes.seen legal, ap (list_all is_work) w.goes.mine ∙ w.work)).1 first.0 ∙ first.1))
 
   first_worked : (k l : Known (BoardEntry A)) → Worked k l → StaysFirst k l
   first_worked k l w = worked_cases k l w w.goes.kept
@@ -97,15 +108,12 @@ module _ {A : Type 0} where
   done_shared p n k l (Ok u) Q t =
       let e : BoardEntry A = Share n p in
       ap (λ (x : Known (BoardEntry A)). is_shared (entries_of p x.seen)) t.2.0
-      ∙ (ap (λ es. is_shared es) (entries-more t.0 p e (eq-eqb p p refl)) ∙ (list_any-append is_share (entries_of p t.0) (e ∷ []) ∙ or_right (is_shared (entries_of p t.0)) true refl))
+      ∙ (ap (λ es. is_shared es) (laws.joins t.0 e p (eq-eqb p p refl)) ∙ (list_any-append is_share (entries_of p t.0) (e ∷ []) ∙ or_right (is_shared (entries_of p t.0)) true refl))
   done_shared p n k l (Err e) Q t = tt
 
-  -- a pass with another number, split off after the share
-  pub other_submits : (p n : ℕ) (k o : Known (BoardEntry A)) → 16 < n → o ≡ gets_number n k → is_shared (entries_of p k.seen) ≡ true → MaySubmit (entries_of p o.seen) o.number
-  other_submits p n k o big got open_ = subst (λ (x : Known (BoardEntry A)). MaySubmit (entries_of p x.seen) x.number) (sym got) (inr big, inr open_)
-
-  pub other_open : (p n : ℕ) (k o : Known (BoardEntry A)) → o ≡ gets_number n k → IsOpenPad (entries_of p k.seen) → IsOpenPad (entries_of p o.seen)
-  other_open p n k o got opened = subst (λ (x : Known (BoardEntry A)). IsOpenPad (entries_of p x.seen)) (sym got) opened
+-- what a job means, as contracts see it
+abbrev pub nothing : ℕ → Unit {0}
+nothing asked = tt
 
 -- the passes that a board and a registry come with are first
 pub first_passes : {A : Type 0} (p : Passes A) → knows p.board ≡ newcomer → knows p.registry ≡ newcomer → AreFirst p

@@ -6,6 +6,7 @@ ghost use Rattle.board.specs.Legal.{IsNoWorker};
 ghost use Rattle.shared_board.specs.Passes.{IsPassOn};
 ghost use Rattle.crew_speed.specs.Ready.{IsFirst, StaysFirst, Ready};
 
+use crate::laws::board_laws;
 use crate::load::{Load, Spun, folded};
 use board::BoardErr;
 use crew::{Gate, Passes, drain, run_crew};
@@ -28,6 +29,7 @@ pub(crate) fn make<R: Wait>(
     ensures first { StaysFirst (knows pass) (knows result.0) }
     ensures ready { IfOk result.1 (λ pipe. Ready pipe (knows result.0)) }
 {
+    board_laws::<u64, Spun>();
     board.born_pad(rt, pass, 4)
 }
 
@@ -45,6 +47,7 @@ pub(crate) fn submit_one<R: Wait>(
     ensures ready { Ready pipe (knows result.0) }
     ensures first { StaysFirst (knows pass) (knows result.0) }
 {
+    board_laws::<u64, Spun>();
     board.submit(rt, pass, pipe, Load { turns })
 }
 
@@ -84,6 +87,7 @@ pub(crate) fn drain_all<G: Gate, R: Wait>(
     ensures lock { IsPassOn board.now result.0 }
     ensures first { StaysFirst (knows pass) (knows result.0) }
 {
+    board_laws::<u64, Spun>();
     drain(rt, board, pass, pipe, into, gate)
 }
 

@@ -6,6 +6,7 @@ mod asking;
 #[cfg(test)]
 mod callers;
 mod calls;
+mod laws;
 mod load;
 #[cfg(test)]
 mod sharing;

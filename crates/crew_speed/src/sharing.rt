@@ -7,7 +7,8 @@ ghost use Rattle.shared_board.specs.Passes.{IsPassOn};
 ghost use Rattle.crew_speed.specs.Ready.{Ready};
 
 use crate::calls::make;
-use crate::load::Load;
+use crate::laws::board_laws;
+use crate::load::{Load, Spun};
 use board::BoardErr;
 use shared_board::{BoardPass, SharedBoard};
 use std::alloc::Global;
@@ -25,6 +26,7 @@ fn share_one<R: Wait>(
     ensures ready { Ready pipe (knows result.0) }
     ensures shared { IfOk result.1 (λ _. is_shared (entries_of pipe (knows result.0).seen) ≡ true) }
 {
+    board_laws::<u64, Spun>();
     board.share(rt, pass, pipe)
 }
 

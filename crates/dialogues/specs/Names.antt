@@ -9,10 +9,10 @@ use Rattle.alg_names.specs.Spelled.{tree_of}
 use Rattle.alg_registry.specs.declared.spec.Spec.{Spec}
 use Rattle.alg_registry.specs.declared.spec.Wrap.{Wrap}
 use Rattle.alg_registry.specs.declared.spec.Wrap.TheVariants.{Plain, Pcrypt, Cryptd}
-use Rattle.alg_registry.specs.Rows.{opening}
 use Rattle.templates.specs.declared.driver_plans.Plan.{Plan}
 use Rattle.templates.specs.Nesting.{is_nested_well}
 use Rattle.templates.specs.Plans.{plan_at}
+use Rattle.templates.specs.Table.{drivers}
 
 abbrev pub within : Option Tree → Result Tree Errno
 within (Some t) = if nat_le (depth t) 8 && nat_le (width t) 4 then Ok t else Err EINVAL
@@ -50,6 +50,6 @@ plan_named (Err errno) = None
 abbrev pub plan_for : Spec → Option ℕ → Option Plan
 plan_for spec length = if takes_length spec.wrap length then plan_named (limited_name spec.driver) else None
 
--- A driver that a script may register, with a priority: the drivers are those that stand from the start.
+-- A driver that a script may register, with a priority.
 abbrev pub driver_spec : List ℕ → ℕ → Option Spec
-driver_spec driver priority = option_map (λ (spec : Spec). record spec { priority = priority }) (find (λ spec. bytes_eq driver spec.driver) opening)
+driver_spec driver priority = option_map (λ (spec : Spec). record spec { priority = priority }) (find (λ spec. bytes_eq driver spec.driver) drivers)

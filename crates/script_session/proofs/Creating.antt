@@ -16,7 +16,7 @@ use Rattle.dialogues.specs.Walk.{Walk, Live, Pipe}
 use Rattle.session_calls.specs.Pipelines.{Opened, Owns}
 use Rattle.script_session.specs.Creating.{Created}
 use Rattle.script_session.specs.States.{HasPipe, Posted, is_at, owners}
-use Rattle.script_session.proofs.Changing.{IsOn, owners-append}
+use Rattle.script_session.proofs.Changing.{IsOn, eq-swap, owners-append}
 
 module _ (k l : Known (BoardEntry Ask)) (number : ℕ) (shape : Shape) (opened : Opened k l number shape) where
   stays : (other : Option Pipe) → HasPipe k other → HasPipe l other

@@ -24,33 +24,24 @@ known-spec priority known spec e is = subst (λ (s : Spec). IsKnownDriver s prio
 
 pub known-driver : (driver : List ℕ) (priority : ℕ) (spec : Spec) → driver_spec driver priority ≡ Some spec → IsKnownDriver spec priority
 unfolding table
-known-driver driver priority spec e = by_tests (bytes_eq driver aes.driver) (bytes_eq driver sha256.driver) (bytes_eq driver ghash.driver) e
+known-driver driver priority spec e = by_tests (bytes_eq driver (codes "aes-generic")) (bytes_eq driver (codes "sha256-generic")) (bytes_eq driver (codes "ghash-generic")) (bytes_eq driver (codes "aes-table")) (bytes_eq driver (codes "aes-lanes")) (bytes_eq driver (codes "ghash-table")) e
   where
-    aes : Spec
-    aes = opened (97 ∷ 101 ∷ 115 ∷ []) (97 ∷ 101 ∷ 115 ∷ 45 ∷ 103 ∷ 101 ∷ 110 ∷ 101 ∷ 114 ∷ 105 ∷ 99 ∷ []) Cipher
+    by_tests : (b0 b1 b2 b3 b4 b5 : Bool) → option_map (λ (s : Spec). record s { priority = priority }) (cond b0 (Some (opened (codes "aes") (codes "aes-generic") Cipher)) (cond b1 (Some (opened (codes "sha256") (codes "sha256-generic") Hash)) (cond b2 (Some (opened (codes "ghash") (codes "ghash-generic") Ghash)) (cond b3 (Some (opened (codes "aes") (codes "aes-table") Cipher)) (cond b4 (Some (opened (codes "aes") (codes "aes-lanes") Cipher)) (cond b5 (Some (opened (codes "ghash") (codes "ghash-table") Ghash)) None)))))) ≡ Some spec → IsKnownDriver spec priority
+    by_tests true b1 b2 b3 b4 b5 q = known-spec priority (opened (codes "aes") (codes "aes-generic") Cipher) spec q (record { priority_is = refl; alone = refl; plain = refl; listed = refl })
+    by_tests false true b2 b3 b4 b5 q = known-spec priority (opened (codes "sha256") (codes "sha256-generic") Hash) spec q (record { priority_is = refl; alone = refl; plain = refl; listed = refl })
+    by_tests false false true b3 b4 b5 q = known-spec priority (opened (codes "ghash") (codes "ghash-generic") Ghash) spec q (record { priority_is = refl; alone = refl; plain = refl; listed = refl })
+    by_tests false false false true b4 b5 q = known-spec priority (opened (codes "aes") (codes "aes-table") Cipher) spec q (record { priority_is = refl; alone = refl; plain = refl; listed = refl })
+    by_tests false false false false true b5 q = known-spec priority (opened (codes "aes") (codes "aes-lanes") Cipher) spec q (record { priority_is = refl; alone = refl; plain = refl; listed = refl })
+    by_tests false false false false false true q = known-spec priority (opened (codes "ghash") (codes "ghash-table") Ghash) spec q (record { priority_is = refl; alone = refl; plain = refl; listed = refl })
+    by_tests false false false false false false q = absurd cc
 
-    sha256 : Spec
-    sha256 = opened (115 ∷ 104 ∷ 97 ∷ 50 ∷ 53 ∷ 54 ∷ []) (115 ∷ 104 ∷ 97 ∷ 50 ∷ 53 ∷ 54 ∷ 45 ∷ 103 ∷ 101 ∷ 110 ∷ 101 ∷ 114 ∷ 105 ∷ 99 ∷ []) Hash
-
-    ghash : Spec
-    ghash = opened (103 ∷ 104 ∷ 97 ∷ 115 ∷ 104 ∷ []) (103 ∷ 104 ∷ 97 ∷ 115 ∷ 104 ∷ 45 ∷ 103 ∷ 101 ∷ 110 ∷ 101 ∷ 114 ∷ 105 ∷ 99 ∷ []) Ghash
-
-    by_tests : (a b c : Bool) → option_map (λ (s : Spec). record s { priority = priority }) (cond a (Some aes) (cond b (Some sha256) (cond c (Some ghash) None))) ≡ Some spec → IsKnownDriver spec priority
-    by_tests true b c q = known-spec priority aes spec q (record { priority_is = refl; alone = refl; plain = refl; listed = refl })
-    by_tests false true c q = known-spec priority sha256 spec q (record { priority_is = refl; alone = refl; plain = refl; listed = refl })
-    by_tests false false true q = known-spec priority ghash spec q (record { priority_is = refl; alone = refl; plain = refl; listed = refl })
-    by_tests false false false q = absurd cc
+-- a name is not that word, by the test of a comparison with it
+pub other-word : (name bytes word : List ℕ) (test : Bool) → test ≡ bytes_eq name bytes → test ≡ false → bytes ≡ word → bytes_eq name word ≡ false
+other-word name bytes word test at not is = ap (bytes_eq name) (sym is) ∙ (sym at ∙ not)
 
 -- no driver has another name
-pub no-driver : (name aes sha256 ghash : List ℕ) (priority : ℕ) (a b c : Bool) → a ≡ bytes_eq name aes → b ≡ bytes_eq name sha256 → c ≡ bytes_eq name ghash → a ≡ false → b ≡ false → c ≡ false
-    → aes ≡ 97 ∷ 101 ∷ 115 ∷ 45 ∷ 103 ∷ 101 ∷ 110 ∷ 101 ∷ 114 ∷ 105 ∷ 99 ∷ [] → sha256 ≡ 115 ∷ 104 ∷ 97 ∷ 50 ∷ 53 ∷ 54 ∷ 45 ∷ 103 ∷ 101 ∷ 110 ∷ 101 ∷ 114 ∷ 105 ∷ 99 ∷ []
-    → ghash ≡ 103 ∷ 104 ∷ 97 ∷ 115 ∷ 104 ∷ 45 ∷ 103 ∷ 101 ∷ 110 ∷ 101 ∷ 114 ∷ 105 ∷ 99 ∷ [] → None ≡ driver_spec name priority
-no-driver name aes sha256 ghash priority a b c at_a at_b at_c not_a not_b not_c is_a is_b is_c =
-    sym (ap (λ (t : Bool). chosen t (bytes_eq name (codes "sha256-generic")) (bytes_eq name (codes "ghash-generic"))) (ap (bytes_eq name) (sym is_a) ∙ (sym at_a ∙ not_a))
-    ∙ (ap (λ (t : Bool). chosen false t (bytes_eq name (codes "ghash-generic"))) (ap (bytes_eq name) (sym is_b) ∙ (sym at_b ∙ not_b))
-    ∙ ap (λ (t : Bool). chosen false false t) (ap (bytes_eq name) (sym is_c) ∙ (sym at_c ∙ not_c))))
+pub no-driver : (name : List ℕ) (priority : ℕ) → bytes_eq name (codes "aes-generic") ≡ false → bytes_eq name (codes "sha256-generic") ≡ false → bytes_eq name (codes "ghash-generic") ≡ false → bytes_eq name (codes "aes-table") ≡ false → bytes_eq name (codes "aes-lanes") ≡ false → bytes_eq name (codes "ghash-table") ≡ false → None ≡ driver_spec name priority
+no-driver name priority e0 e1 e2 e3 e4 e5 = sym (by_tests (bytes_eq name (codes "aes-generic")) (bytes_eq name (codes "sha256-generic")) (bytes_eq name (codes "ghash-generic")) (bytes_eq name (codes "aes-table")) (bytes_eq name (codes "aes-lanes")) (bytes_eq name (codes "ghash-table")) e0 e1 e2 e3 e4 e5)
   where
-    chosen : Bool → Bool → Bool → Option Spec
-    chosen x y z =
-        option_map (λ (s : Spec). record s { priority = priority })
-        (cond x (Some (opened (codes "aes") (codes "aes-generic") Cipher)) (cond y (Some (opened (codes "sha256") (codes "sha256-generic") Hash)) (cond z (Some (opened (codes "ghash") (codes "ghash-generic") Ghash)) None)))
+    by_tests : (b0 b1 b2 b3 b4 b5 : Bool) → b0 ≡ false → b1 ≡ false → b2 ≡ false → b3 ≡ false → b4 ≡ false → b5 ≡ false → option_map (λ (s : Spec). record s { priority = priority }) (cond b0 (Some (opened (codes "aes") (codes "aes-generic") Cipher)) (cond b1 (Some (opened (codes "sha256") (codes "sha256-generic") Hash)) (cond b2 (Some (opened (codes "ghash") (codes "ghash-generic") Ghash)) (cond b3 (Some (opened (codes "aes") (codes "aes-table") Cipher)) (cond b4 (Some (opened (codes "aes") (codes "aes-lanes") Cipher)) (cond b5 (Some (opened (codes "ghash") (codes "ghash-table") Ghash)) None)))))) ≡ None
+    by_tests false false false false false false e0 e1 e2 e3 e4 e5 = refl

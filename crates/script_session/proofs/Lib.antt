@@ -13,3 +13,7 @@ pub mod Frees
 pub mod Creating
 pub mod Finding
 pub mod Commands
+pub mod Leading
+pub mod Moving
+pub mod Switching
+pub mod Ended

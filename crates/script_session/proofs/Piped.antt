@@ -78,15 +78,21 @@ says-for d live k answer answers answers' on legal is e =
 
 -- ---- what is told
 
-said-is : (lines : List ℕ) (callbacks : List (Callback Finished)) → map notice_said (map (notice_by lines) callbacks) ≡ map (callback_said lines) callbacks
+pub said-is : (lines : List ℕ) (callbacks : List (Callback Finished)) → map notice_said (map (notice_by lines) callbacks) ≡ map (callback_said lines) callbacks
 said-is lines [] = refl
 said-is lines (callback.Started n ∷ xs) = ap (λ rest. callback_said lines (callback.Started n) ∷ rest) (said-is lines xs)
 said-is lines (callback.Done n f ∷ xs) = ap (λ rest. callback_said lines (callback.Done n f) ∷ rest) (said-is lines xs)
 
-count-is : (lines : List ℕ) (callbacks : List (Callback Finished)) → completed_in (map (notice_by lines) callbacks) ≡ completions callbacks
+pub count-is : (lines : List ℕ) (callbacks : List (Callback Finished)) → completed_in (map (notice_by lines) callbacks) ≡ completions callbacks
 count-is lines [] = refl
 count-is lines (callback.Started n ∷ xs) = count-is lines xs
 count-is lines (callback.Done n f ∷ xs) = ap (λ n. suc n) (count-is lines xs)
+
+-- it handed these out
+pub delivered-live : (live live' : Live) (pipe : Pipe) (count : ℕ) (callbacks : List (Callback Finished)) → live.pipe ≡ Some pipe → count ≡ completions callbacks → live' ≡ delivering live count
+    → live' ≡ record live { pipe = Some (record pipe { delivered = pipe.delivered + completions callbacks }) }
+delivered-live live live' pipe count callbacks has counts is =
+    is ∙ (ap (λ o. record live { pipe = option_map (λ (p : Pipe). record p { delivered = p.delivered + count }) o }) has ∙ ap (λ c. record live { pipe = Some (record pipe { delivered = pipe.delivered + c }) }) counts)
 
 -- ---- `drain T`
 
@@ -114,8 +120,7 @@ drain-holds k l live live' pipe n count callbacks answers answers' has free drai
     let pipe' : Pipe = record pipe { delivered = pipe.delivered + completions callbacks } in
     let new : Live = record live { pipe = Some pipe' } in
     let call : BoardCall = Collects pipe.number (record { notices = notices; all_done = true }) in
-    let live-is : live' ≡ new =
-    live_is ∙ (ap (λ o. record live { pipe = option_map (λ (p : Pipe). record p { delivered = p.delivered + count }) o }) has ∙ ap (λ c. record live { pipe = Some (record pipe { delivered = pipe.delivered + c }) }) counts) in
+    let live-is : live' ≡ new = delivered-live live live' pipe count callbacks has counts live_is in
     subst (λ x. HoldsFor (λ walk. drains_in walk n live live.pipe) live x k l [] answers answers') (sym live-is) (record {
       calls = call ∷ [];
       said = (map notice_said notices ++ said.Drained n (completed_in notices) ∷ []) ++ [];
@@ -349,8 +354,7 @@ poll-holds k l live live' pipe n count callbacks all answers answers' has polled
     let pipe' : Pipe = record pipe { delivered = pipe.delivered + completions callbacks } in
     let new : Live = record live { pipe = Some pipe' } in
     let call : BoardCall = Collects pipe.number (record { notices = notices; all_done = all }) in
-    let live-is : live' ≡ new =
-    live_is ∙ (ap (λ o. record live { pipe = option_map (λ (p : Pipe). record p { delivered = p.delivered + count }) o }) has ∙ ap (λ c. record live { pipe = Some (record pipe { delivered = pipe.delivered + c }) }) counts) in
+    let live-is : live' ≡ new = delivered-live live live' pipe count callbacks has counts live_is in
     subst (λ x. HoldsFor (λ walk. polls_in walk n live live.pipe) live x k l [] answers answers') (sym live-is) (record {
       calls = call ∷ [];
       said = (map notice_said notices ++ said.Polled n (completed_in notices) ∷ []) ++ [];

@@ -7,3 +7,4 @@ pub mod Offering
 pub mod Creating
 pub mod Finding
 pub mod Running
+pub mod Ending

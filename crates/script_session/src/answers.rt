@@ -1,14 +1,17 @@
 //! Answers of lines.
 
-ghost use Rattle.std.specs.Prelude.{◌≡◌, ◌++◌, ◌∷◌, [], ℕ, Option as Perhaps, is_some, OnOk};
+ghost use Rattle.std.specs.Prelude.{◌≡◌, ◌++◌, ◌∷◌, [], ℕ, Option as Perhaps, is_some, OnOk, OnErr};
+ghost use Rattle.std.specs.List.{flat_map};
+ghost use Rattle.reply_text.specs.Answers.{text_of};
 ghost use Rattle.dialogues.specs.Registering.{enlist_said, unlist_said, refs_said};
 ghost use Rattle.dialogues.specs.Requesting.{value_said};
 ghost use Rattle.transforms.specs.Finish.{finished_value};
 
 use alg_registry::{Enlisted, RefAnswer};
-use kc_base::Errno;
-use reply_text::Answer;
+use kc_base::{Bytes, Errno};
+use reply_text::{Answer, put};
 use session_calls::Stop;
+use std::alloc::{AllocError, Global};
 use transforms::Finished;
 
 /// Adds an answer.
@@ -89,4 +92,16 @@ pub fn refs_answer(line: u32, references: Option<RefAnswer>) -> Answer
             errno: Errno::ENOENT,
         },
     }
+}
+
+/// Adds the texts of the answers, all or none.
+pub fn put_all(alloc: Global, reply: &mut Bytes, answers: &[Answer]) -> Result<(), AllocError>
+    ensures ok { OnOk result (reply.new ≡ reply.old ++ flat_map text_of answers.now) }
+    ensures err { OnErr result (reply.new ≡ reply.old) }
+{
+    let mut text = Bytes::new(alloc);
+    for answer in answers {
+        put(alloc, &mut text, answer)?;
+    }
+    reply.append(text.as_slice())
 }

@@ -42,5 +42,14 @@ pub fn driver_of(alloc: Global, name: &[u8], priority: u32) -> Result<Option<Spe
     if name == b"ghash-generic".as_slice() {
         return basic(alloc, b"ghash", b"ghash-generic", Kind::Ghash, priority);
     }
+    if name == b"aes-table".as_slice() {
+        return basic(alloc, b"aes", b"aes-table", Kind::Cipher, priority);
+    }
+    if name == b"aes-lanes".as_slice() {
+        return basic(alloc, b"aes", b"aes-lanes", Kind::Cipher, priority);
+    }
+    if name == b"ghash-table".as_slice() {
+        return basic(alloc, b"ghash", b"ghash-table", Kind::Ghash, priority);
+    }
     Ok(None)
 }

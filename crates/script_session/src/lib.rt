@@ -4,6 +4,7 @@
 mod answers;
 mod callbacks;
 mod drivers;
+mod ending;
 mod keying;
 mod listing;
 mod lives;

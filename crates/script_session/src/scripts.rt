@@ -1,8 +1,6 @@
 //! One script over a registry and a board that others call too.
 
 ghost use Rattle.std.specs.Prelude.{◌++◌, OnOk, OnErr, ◌≡◌, ◌+◌, ◌<◌, ◌≤◌, ◌^◌, IsTrue, length, MatchResult, IsSome, Some, true, slice_get};
-ghost use Rattle.std.specs.List.{flat_map};
-ghost use Rattle.reply_text.specs.Answers.{text_of};
 ghost use Rattle.script_text.specs.Sizes.{IsShortCommand, IsShortLine};
 ghost use Rattle.dialogues.specs.Walk.{start};
 ghost use Rattle.dialogues.specs.Lines.{command_dialogue, line_dialogue};
@@ -22,7 +20,7 @@ ghost use Rattle.session_calls.specs.Passes.{CallsRegistry, known, CallsBoard};
 ghost use Rattle.script_session.specs.States.{Stands, Posted, counted};
 ghost use Rattle.script_session.specs.Holding.{Holds, Stops};
 
-use crate::answers::{enlisted_answer, refs_answer, refuse, say, unlisted_answer};
+use crate::answers::{enlisted_answer, put_all, refs_answer, refuse, say, unlisted_answer};
 use crate::drivers::driver_of;
 use crate::keying::{key_live, size_live};
 use crate::listing::list_rows;
@@ -37,12 +35,12 @@ use alg_names::Name;
 use board::Work;
 use crew::Gate;
 use kc_base::{Bytes, Errno};
-use reply_text::{Answer, put};
+use reply_text::Answer;
 use script_text::{Command, Line};
 use session_calls::{BoardCaller, RegistryCaller, Stop};
 use shared_board::{BoardPass, SharedBoard};
 use shared_registry::{RegPass, SharedRegistry};
-use std::alloc::{AllocError, Global};
+use std::alloc::Global;
 use std::marker::Model;
 use std::sync::Wait;
 use templates::BuildErr;
@@ -54,30 +52,18 @@ const MOST_LIVE: usize = 4096;
 /// The greatest priority of `register`.
 const MOST_PRIORITY: u32 = 100_000;
 
-// Adds the texts of the answers, all or none.
-fn put_all(alloc: Global, reply: &mut Bytes, answers: &[Answer]) -> Result<(), AllocError>
-    ensures ok { OnOk result (reply.new ≡ reply.old ++ flat_map text_of answers.now) }
-    ensures err { OnErr result (reply.new ≡ reply.old) }
-{
-    let mut text = Bytes::new(alloc);
-    for answer in answers {
-        put(alloc, &mut text, answer)?;
-    }
-    reply.append(text.as_slice())
-}
-
 /// One script, which contracts see as what it has made so far and what its passes know.
 #[derive(Drop)]
 pub struct Session {
-    alloc: Global,
+    pub(crate) alloc: Global,
     workers: u32,
     client: u32,
-    lives: Vec<Transform>,
+    pub(crate) lives: Vec<Transform>,
     /// How many requests pipelines accepted, and of how many bytes.
     requests: u64,
     bytes: u64,
     registry: RegistryCaller,
-    board: BoardCaller,
+    pub(crate) board: BoardCaller,
 }
 
 impl Model for Session {

@@ -26,7 +26,7 @@ use Rattle.templates.specs.Looking.{Found, Entry, Fault, found_in, found_as, ent
 use Rattle.turn_lock.specs.Meeting.{Meets, AtTurn, GoesOn, Enters, Leaves, IsOwn}
 use Rattle.turn_lock.specs.Passes.{knows}
 use Rattle.turn_lock.specs.Turns.{Known, StartsWith, of}
-use Rattle.turn_lock.proofs.Clients.{own_entered, own_left, own_goes}
+use Rattle.turn_lock.specs.Going.{own_entered, own_left, own_goes}
 use Rattle.shared_registry.specs.Building.{LooksFor, Looks as LooksUp, Works, Resolved, is_building}
 use Rattle.shared_registry.specs.Faithful.{IsFaithful}
 use Rattle.dialogues.specs.GoingOn.{RegisteredStays, CallsInTurnAre}

@@ -1,6 +1,6 @@
 -- Calls of the board's caller, by what its lock says of a turn.
 use Rattle.std.proofs.Common.{◌≡◌, ◌≢◌, inl, inr, ℕ, zero, suc, ◌+◌, Bool, true, false, List, [], ◌∷◌, ◌++◌, length, map, Option, Some, None, Result, Ok, Err, refl, sym, ap, subst, ◌∙◌, append-nil, append_assoc}
-use Rattle.std.specs.Prelude.{◌==◌, ◌↔◌, if◌then◌else◌, MatchResult, slice_get, unwrap_or}
+use Rattle.std.specs.Prelude.{◌==◌, ◌||◌, ◌↔◌, if◌then◌else◌, MatchResult, slice_get, unwrap_or}
 use Rattle.std.specs.Arc.{arc_value}
 use Rattle.std.specs.declared.sync.Arc.{Arc}
 use Rattle.std.specs.declared.alloc.Global.{Global}
@@ -13,14 +13,16 @@ use Rattle.board.specs.declared.entry.BoardEntry.{BoardEntry}
 use Rattle.board.specs.declared.entry.BoardEntry.TheVariants as event
 use Rattle.board.specs.declared.entry.Shape.{Shape}
 use Rattle.board.specs.declared.entry.Shape.TheVariants.{Pad, Queue}
-use Rattle.board.specs.Entries.{caller_of, is_of, is_close, is_share, is_held, accepted_in, entries_of, submissions, front, told, delivered}
+use Rattle.board.specs.Entries.{caller_of, is_of, is_close, is_closed, is_share, is_held, accepted_in, entries_of, submissions, front, told, delivered}
 use Rattle.board.specs.Allowance.{IsAllowed}
 use Rattle.board.specs.Legal.{IsNoWorker, IsOpen, IsOpenPad, IsOpenQueue, LegalBoard, pipelines}
 use Rattle.board.specs.Handing.{is_collect, completions}
-use Rattle.board.proofs.Staying.{stays_managed, holds}
+use Rattle.board.proofs.Others.{drained_hands}
+use Rattle.board.proofs.Staying.{stays_managed, holds, collect_drains}
 use Rattle.board.proofs.Transfer.{entries-more}
 use Rattle.board.proofs.PadOrder.{filter_map-none}
 use Rattle.std.proofs.lemmas.Bool.{eqb-true}
+use Rattle.std.proofs.lemmas.List.Folds.{list_any-append}
 use Rattle.board.proofs.Handing.{all_handed_out, leaves_others, hands_nothing, joins, begins_alone}
 use Rattle.board.proofs.Kept.{only_of, not_shut, shut-same}
 use Rattle.board.specs.Staying.{IsDrained}
@@ -33,12 +35,12 @@ use Rattle.transforms.specs.declared.request.Finished.{Finished}
 use Rattle.transforms.specs.AskValue.{ask_size}
 use Rattle.turn_lock.specs.Turns.{Known, sees}
 use Rattle.turn_lock.specs.Meeting.{AtTurn, Enters, Leaves, IsOwn}
-use Rattle.turn_lock.proofs.Clients.{still_kept, own_entered}
+use Rattle.turn_lock.specs.Going.{still_kept, own_entered}
 use Rattle.crew.specs.Working.{Worked, Drained as CrewDrained}
 use Rattle.dialogues.specs.RegistryCalls.{if_own}
 use Rattle.dialogues.specs.BoardCalls.{BoardCall, Creates, Submits, Enqueues, Holds, Goes, Collects, Closes, Shuts, Started, Completed, asked_by, outcome, board_calls, notice_of, line_in, collected_to}
 use Rattle.dialogues.specs.Walk.{Pipe}
-use Rattle.session_calls.specs.Pipelines.{Laws, IsOpenAs, IsPipeIn, line_of, line_at, KnowsPipe, Kept, Changed, Closed, IsPad, IsQueue, entered_pipe, entered_asks, with_ask, notice_by, Called, IsShut, Owns, Drained, Polled, Opened}
+use Rattle.session_calls.specs.Pipelines.{Laws, IsOpenAs, IsPipeIn, line_of, line_at, KnowsPipe, Kept, Changed, Closed, IsPad, IsQueue, entered_pipe, entered_asks, with_ask, notice_by, IsShut, Owns, Drained, Polled, Opened}
 use Rattle.dialogues.specs.Allocating.{new_pipe}
 use Rattle.board.specs.declared.entry.Entered.{Entered}
 use Rattle.board.specs.declared.entry.Entered.TheVariants.{InProgress, Busy, NoSpace}
@@ -164,6 +166,21 @@ drained-changed laws k l pipe h on meets all enters =
     ∙ ap (λ b. Some (Collects pipe.number (record { notices = map (notice_by pipe.lines) callbacks; all_done = b }))) (eq-eqb (front es) (length (submissions es)) all)))
     (accepted-none k.number h (event.Collect k.number pipe.number to) refl) refl (pipe-collected k.number h pipe to enters.1 here))
 
+-- it has handed all out
+drained-all : Laws → (k : Known (BoardEntry Ask)) (pipe : Pipe) (h : List (BoardEntry Ask)) → KnowsPipe k pipe → Met k h → front (entries_of pipe.number h) ≡ length (submissions (entries_of pipe.number h))
+    → LegalBoard (h ++ event.Collect k.number pipe.number (length (told (entries_of pipe.number h))) ∷ [])
+    → pipe.delivered + completions (delivered outcome (entries_of pipe.number h) (length (told (entries_of pipe.number h)))) ≡ length pipe.lines
+drained-all laws k pipe h on meets all legal =
+    let p = pipe.number in
+    let to = length (told (entries_of p h)) in
+    let after : List (BoardEntry Ask) = h ++ event.Collect k.number p to ∷ [] in
+    let here = (meets-kept laws k h meets).pipes pipe on in
+    let now = pipe-collected k.number h pipe to legal here in
+    let drained = collect_drains h k.number p to legal (is-open pipe.bound (entries_of p h) here.opened) all in
+    sym now.delivered
+    ∙ (drained_hands after p legal (is-open pipe.bound (entries_of p after) now.opened) drained
+    ∙ (sym (length-map (submissions (entries_of p after)) line_of) ∙ ap length now.lines))
+
 -- ---- `close`
 
 pub all-drained : (k : Known (BoardEntry Ask)) (pipe : Pipe) → LegalBoard k.seen → KnowsPipe k pipe → pipe.delivered ≡ length pipe.lines → IsDrained (entries_of pipe.number k.seen)
@@ -171,6 +188,10 @@ all-drained k pipe legal on paid =
     let es = entries_of pipe.number k.seen in
     all_handed_out k.seen pipe.number legal (is-open pipe.bound es on.opened)
     (on.delivered ∙ (paid ∙ (ap length (sym on.lines) ∙ length-map (submissions es) line_of)))
+
+or-true : (b : Bool) → (b || true) ≡ true
+or-true true = refl
+or-true false = refl
 
 pub close-closed : Laws → (k l : Known (BoardEntry Ask)) (pipe : Pipe) → AtTurn caller_of LegalBoard k (λ h. Enters LegalBoard k h (event.Close k.number pipe.number) l) → Closed k l pipe
 close-closed laws k l pipe turn =
@@ -201,7 +222,11 @@ close-closed laws k l pipe turn =
     differs p apart q = let yes : (p == pipe.number) ≡ true = eq-eqb p pipe.number q in let bad : true ≡ false = sym yes ∙ apart in cc
 
     by_number : (p : ℕ) (b : Bool) → (p == pipe.number) ≡ b → OwnsIn k.number (entries_of p (h ++ e ∷ [])) → Owns k p × ((p == pipe.number) ≡ false)
-    by_number p true is owns = cc
+    by_number p true is owns =
+        let open_still : is_closed (entries_of pipe.number (h ++ e ∷ [])) ≡ false = subst (λ q. is_closed (entries_of q (h ++ e ∷ [])) ≡ false) (eqb-true p pipe.number is) owns.1 in
+        let closed : is_closed (entries_of pipe.number (h ++ e ∷ [])) ≡ true = ap is_closed (entries-more h pipe.number e (eq-eqb pipe.number pipe.number refl)) ∙ (list_any-append is_close (entries_of pipe.number h) (e ∷ []) ∙ or-true (is_closed (entries_of pipe.number h))) in
+        let bad : true ≡ false = sym closed ∙ open_still in
+        cc
     by_number p false apart owns =
         ((meets-kept laws k h turn.1).owned p (subst (λ es. OwnsIn k.number es) (leaves_others h e p (only_of e pipe.number p (eq-eqb pipe.number pipe.number refl) (differs p apart))) owns), apart)
 
@@ -344,7 +369,7 @@ shut-changed laws k l turn =
 
 pub crew-drained : Laws → (k l : Known (BoardEntry Ask)) (pipe : Pipe) (into into' : List (Callback Finished)) (r : Result (Unit {0}) BoardErr) → LegalBoard k.seen → KnowsPipe k pipe
     → MatchResult r (λ _. CrewDrained outcome pipe.number k l into into') (λ e. (e ≡ Memory) × (into' ≡ into) × Worked k l)
-    → MatchResult r (λ _. (callbacks : List (Callback Finished)) × (into' ≡ into ++ callbacks) × Drained k l pipe callbacks) (λ e. (e ≡ Memory) × Kept k l)
+    → MatchResult r (λ _. (callbacks : List (Callback Finished)) × (into' ≡ into ++ callbacks) × Drained k l pipe callbacks × (pipe.delivered + completions callbacks ≡ length pipe.lines)) (λ e. (e ≡ Memory) × Kept k l)
 crew-drained laws k l pipe into into' (Err e) legal on did =
     let w = did.2 in
     (did.0, goes-kept laws k l w.own w.goes w.work (still_kept caller_of LegalBoard k l w.own w.goes legal))
@@ -359,4 +384,5 @@ crew-drained laws k l pipe into into' (Ok done) legal on did =
       turn.2.1,
       changed-later k m l pipe pipe' (Collects pipe.number (record { notices = map (notice_by pipe.lines) callbacks; all_done = true }) ∷ []) [] kept
           (drained-changed laws m l pipe turn.0 (kept.pipes pipe on) turn.1 turn.2.0 turn.2.2),
+      drained-all laws m pipe turn.0 (kept.pipes pipe on) turn.1 turn.2.0 turn.2.2.1,
     )

@@ -23,7 +23,7 @@ use Rattle.board.proofs.Handing.{hands_nothing, collect_hands_out, leaves_others
 use Rattle.transforms.specs.declared.ask.Ask.{Ask}
 use Rattle.turn_lock.specs.Turns.{Known, StartsWith, sees, adds, of}
 use Rattle.turn_lock.specs.Meeting.{Meets, GoesOn, Enters, Leaves}
-use Rattle.turn_lock.proofs.Clients.{goes_left, goes_entered}
+use Rattle.turn_lock.specs.Going.{goes_left, goes_entered}
 use Rattle.dialogues.specs.RegistryCalls.{prepend}
 use Rattle.dialogues.specs.BoardCalls.{BoardCall, outcome, is_called, board_call_of, board_calls}
 use Rattle.dialogues.specs.Walk.{Pipe}
@@ -109,7 +109,7 @@ OwnsIn n es = MayManage es n × (is_closed es ≡ false)
 
 -- an entry that makes a pipeline is no work
 born-of : (e : BoardEntry Ask) (born : ℕ × Shape) → birth_in e ≡ Some born → (is_work e ≡ false) × (caller_of e ≡ born.0)
-born-of (event.Born by pipe shape) born is = (refl, ap (λ o. (unwrap_or o (by, shape)).0) is)
+born-of (event.Born by pipe shape) born is = (refl, ap (λ o. (unwrap_or {T = ℕ × Shape} o (by, shape)).0) is)
 born-of (event.Submit by pipe number ask) born is = absurd cc
 born-of (event.Take by pipe number) born is = absurd cc
 born-of (event.Finish by pipe number) born is = absurd cc
@@ -126,30 +126,27 @@ born-of (event.Shut by) born is = absurd cc
 -- where a caller's own entries are work, it made no pipeline
 no-birth : (n p : ℕ) (es : List (BoardEntry Ask)) → list_all (λ e. is_work e) (of caller_of n es) ≡ true → maker_is (birth (entries_of p es)) n → ⊥
 no-birth n p [] works maker = absurd maker
-no-birth n p (e ∷ es) works maker = by_of (is_of p e) maker
+no-birth n p (e ∷ es) works maker = by_of (is_of p e) maker (no-birth n p es (later_works (caller_of e == n) works))
   where
     later_works : (t : Bool) → list_all (λ e. is_work e) (if t then e ∷ of caller_of n es else of caller_of n es) ≡ true → list_all (λ e. is_work e) (of caller_of n es) ≡ true
     later_works true w = (and-true (is_work e) (list_all (λ e. is_work e) (of caller_of n es)) w).1
     later_works false w = w
 
-    later : maker_is (birth (entries_of p es)) n → ⊥
-    later = no-birth n p es (later_works (caller_of e == n) works)
-
     own-works : (t : Bool) → t ≡ true → list_all (λ e. is_work e) (if t then e ∷ of caller_of n es else of caller_of n es) ≡ true → is_work e ≡ true
     own-works true t w = (and-true (is_work e) (list_all (λ e. is_work e) (of caller_of n es)) w).0
     own-works false t w = absurd cc
 
-    by_birth : (b : Option (ℕ × Shape)) → birth_in e ≡ b → maker_is (first (cons_option b (filter_map birth_in (entries_of p es)))) n → ⊥
-    by_birth None is m = later m
-    by_birth (Some born) is m =
+    by_birth : (b : Option (ℕ × Shape)) → birth_in e ≡ b → maker_is (first (cons_option b (filter_map birth_in (entries_of p es)))) n → (maker_is (birth (entries_of p es)) n → ⊥) → ⊥
+    by_birth None is m later = later m
+    by_birth (Some born) is m later =
         let from = born-of e born is in
         let mine : (caller_of e == n) ≡ true = eq-eqb (caller_of e) n (from.1 ∙ m) in
         let bad : true ≡ false = sym (own-works (caller_of e == n) mine works) ∙ from.0 in
         cc
 
-    by_of : (t : Bool) → maker_is (first (filter_map birth_in (if t then e ∷ entries_of p es else entries_of p es))) n → ⊥
-    by_of true m = by_birth (birth_in e) refl m
-    by_of false m = later m
+    by_of : (t : Bool) → maker_is (first (filter_map birth_in (if t then e ∷ entries_of p es else entries_of p es))) n → (maker_is (birth (entries_of p es)) n → ⊥) → ⊥
+    by_of true m later = by_birth (birth_in e) refl m later
+    by_of false m later = later m
 
 -- a pipeline that it owns after such entries it owned before
 owned-before : (n p : ℕ) (h es : List (BoardEntry Ask)) → list_all (λ e. is_work e) (of caller_of n es) ≡ true → OwnsIn n (entries_of p (h ++ es)) → OwnsIn n (entries_of p h)

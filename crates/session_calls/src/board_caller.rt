@@ -1,9 +1,10 @@
 //! A script's calls on the board.
 
-ghost use Rattle.std.specs.Prelude.{◌≡◌, ◌↔◌, ◌<◌, ◌≤◌, ◌++◌, ◌∷◌, [], true, false, Bool, List, length, Some, IsSome, MatchResult};
+ghost use Rattle.std.specs.Prelude.{◌≡◌, ◌↔◌, ◌<◌, ◌≤◌, ◌+◌, ◌++◌, ◌∷◌, [], true, false, Bool, List, length, Some, IsSome, MatchResult};
 ghost use Rattle.std.specs.Arc.{arc_value};
 ghost use Rattle.kc_base.specs.declared.callback_list.Callback.{Callback as Told};
 ghost use Rattle.board.specs.Allowance.{IsAllowed};
+ghost use Rattle.board.specs.Handing.{completions};
 ghost use Rattle.board.specs.Legal.{IsNoWorker, LegalBoard, is_shut};
 ghost use Rattle.board.specs.declared.board_core.BoardErr.TheVariants as BoardErr;
 ghost use Rattle.board.specs.declared.entry.Shape.TheVariants.{Pad as PadOf, Queue as QueueOf};
@@ -242,8 +243,8 @@ impl BoardCaller {
         answer
     }
 
-    /// Does what jobs there are until each of a pipeline of the caller's is done, and hands out what no call handed out before.
-    /// Only want of memory refuses.
+    /// Does what jobs there are until each of a pipeline of the caller's is done, and hands out what no call handed out before:
+    /// with it all is handed out. Only want of memory refuses.
     pub fn drain<R: Wait, G: Gate>(
         &mut self,
         rt: &R,
@@ -257,7 +258,7 @@ impl BoardCaller {
         requires pipe { KnowsPipe (known self.old) pipe.now }
         ensures lock { lock_of self.new ≡ lock_of self.old }
         ensures drained { MatchResult result
-            (λ _. (callbacks : List (Told Outcome)) × (into.new.list ≡ into.old.list ++ callbacks) × Drained (known self.old) (known self.new) pipe.now callbacks)
+            (λ _. (callbacks : List (Told Outcome)) × (into.new.list ≡ into.old.list ++ callbacks) × Drained (known self.old) (known self.new) pipe.now callbacks × (pipe.now.delivered + completions callbacks ≡ length pipe.now.lines))
             (λ e. (e ≡ BoardErr.Memory) × Kept (known self.old) (known self.new)) }
     {
         board_laws();

@@ -2,8 +2,10 @@
 #![tactic(auto)]
 
 mod bells;
+mod laws;
 mod sent;
 mod shared;
 
 pub use bells::Watch;
+pub use laws::known_holds;
 pub use shared::{BoardPass, SharedBoard};

@@ -16,8 +16,10 @@ ghost use Rattle.board.specs.Legal.{IsNoWorker, MaySubmit, MayManage, MayFinish,
 ghost use Rattle.board.specs.Staying.{IsDrained};
 ghost use Rattle.turn_lock.specs.Meeting.{Meets, AtTurn, Enters, Leaves};
 ghost use Rattle.shared_board.specs.Passes.{IsPassOn};
+ghost use Rattle.shared_board.specs.Meeting.{HoldsAt};
 
 use crate::bells::{Bells, Watch};
+use crate::laws::known_holds;
 use board::{BoardCore, BoardEntry, BoardErr, BoardLog, Entered, Slip, Taken, Work};
 use kc_base::Callbacks;
 use std::alloc::{AllocError, Global};
@@ -51,7 +53,9 @@ impl<W: Work> SharedBoard<W> {
         ensures lock { turn_lock result ≡ self.now.lock }
         ensures sees { turn_knows result ≡ sees (knows pass) (turn_value result) }
         ensures meets { Meets caller_of LegalBoard (knows pass) (turn_value result) }
+        ensures holds { HoldsAt W.meaning (knows pass) (turn_value result) }
     {
+        known_holds::<W::Ask, W::Out>();
         let mut turn = self.lock.take(rt, pass);
         turn.get().is_legal();
         turn

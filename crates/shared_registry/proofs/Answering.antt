@@ -10,15 +10,8 @@ use Rattle.alg_registry.specs.declared.entry.RegEntry.TheVariants.{Look}
 use Rattle.alg_registry.specs.Rows.{texts, rows_of, larvals_of}
 use Rattle.alg_registry.specs.Answers.{look_answer}
 use Rattle.alg_registry.specs.Legal.{LegalReg, IsRight}
-use Rattle.alg_registry.proofs.LifetimeLaws.{right_at}
-use Rattle.alg_registry.proofs.Stack.{texts-push}
 use Rattle.alg_names.specs.Name.{Tree, spelling}
-use Rattle.templates.specs.Names.{IsKnown}
 use Rattle.templates.specs.Nesting.{is_nested_well}
-use Rattle.alg_registry.proofs.Looks.{began_new}
-use Rattle.templates.proofs.Looks.{at_last}
-use Rattle.templates.proofs.PlainLooks.{pending_text}
-use Rattle.templates.proofs.TableLaws.{table-name}
 use Rattle.turn_lock.specs.Turns.{Known}
 use Rattle.shared_registry.specs.Passes.{IsSound}
 use Rattle.shared_registry.proofs.Going.{Meets}
@@ -27,37 +20,36 @@ use Rattle.shared_registry.specs.Faithful.{IsFaithful}
 use Rattle.shared_registry.specs.Own.{MayLook}
 use Rattle.shared_registry.specs.Building.{Works, Looks, HasText}
 use Rattle.shared_registry.specs.Within.{MayResolve}
-use Rattle.alg_registry.proofs.Histories.{text_more}
 use Rattle.shared_registry.proofs.Working.{looks_now, works_none}
 use Rattle.shared_registry.proofs.Going.{goes_after, goes_nothing}
+use Rattle.alg_registry.specs.Naming.{IsNamed, LooksName}
+use Rattle.shared_registry.specs.Learned.{IsLearned}
 
-pub may_look : (k : Known RegEntry) (t : Tree) (plain : Bool) → IsKnown t → is_nested_well t ≡ true → MayResolve k (spelling t) plain → MayLook k (spelling t) plain
-may_look k t true known nested may = (table-name t known nested, may)
-may_look k t false known nested may = (table-name t known nested, may)
+pub may_look : (k : Known RegEntry) (t : Tree) (plain : Bool) → IsLearned t → is_nested_well t ≡ true → MayResolve k (spelling t) plain → MayLook k (spelling t) plain
+may_look k t true learned nested may = (learned.table.is_name nested, may)
+may_look k t false learned nested may = (learned.table.is_name nested, may)
 
 -- the larval that an answer names has the text of the look
-pub answered_text : (before later whole : List RegEntry) (by : ℕ) (text : List ℕ) (plain : Bool) (answer : Looked) → whole ≡ before ++ Look by text plain answer ∷ later → LegalReg whole → HasText whole text answer
-answered_text before later whole by text plain (Found id) is legal = tt
-answered_text before later whole by text plain Absent is legal = tt
-answered_text before later whole by text plain (Pending n) is legal =
-    let right : IsRight before (Look by text plain (Pending n)) = right_at [] before (Look by text plain (Pending n)) later (subst (λ x. LegalReg x) is legal) in
-    ap (λ x. slice_get (texts x) n) is ∙ text_more before (Look by text plain (Pending n) ∷ later) n text (pending_text before text plain n (sym right.1))
-answered_text before later whole by text plain (Began n) is legal =
-    let right : IsRight before (Look by text plain (Began n)) = right_at [] before (Look by text plain (Began n)) later (subst (λ x. LegalReg x) is legal) in
-    let new : n ≡ length (texts before) = began_new before text plain n (sym right.1) in
-    let there : slice_get (texts (before ++ Look by text plain (Began n) ∷ [])) n ≡ Some text = ap (λ ts. slice_get ts n) (texts-push before (Look by text plain (Began n))) ∙ at_last (texts before) n text new in
-    ap (λ x. slice_get (texts x) n) (is ∙ sym (append_assoc before (Look by text plain (Began n) ∷ []) later)) ∙ text_more (before ++ Look by text plain (Began n) ∷ []) later n text there
+named_text : (h : List RegEntry) (text : List ℕ) (answer : Looked) → IsNamed h text answer → HasText h text answer
+named_text h text (Found id) named = tt
+named_text h text Absent named = tt
+named_text h text (Pending n) named = named
+named_text h text (Began n) named = named
+
+pub answered_text : LooksName → (before later whole : List RegEntry) (by : ℕ) (text : List ℕ) (plain : Bool) (answer : Looked) → whole ≡ before ++ Look by text plain answer ∷ later → LegalReg whole → HasText whole text answer
+answered_text names before later whole by text plain answer is legal =
+    named_text whole text answer (subst (λ x. IsNamed x text answer) (sym is) (names before later by text plain answer (subst (λ x. LegalReg x) is legal)))
 
 abbrev pub HasLooked : Known RegEntry → Known RegEntry → List ℕ → Bool → Result Looked RegErr → Type 0
 HasLooked k l text plain r =
     Meets k (λ h. IfOk r (λ a. (a ≡ look_answer (rows_of h) (larvals_of h) text plain) × Enters IsFaithful k h (Look k.number text plain a) l) × IfErr r (λ e. (e ≡ Memory) × Leaves k h l))
 
 module _ (k l : Known RegEntry) (text : List ℕ) (plain : Bool) (r : Result Looked RegErr) (looked : HasLooked k l text plain r) where
-  pub has_looked : (answer : Looked) → IsSound l → r ≡ Ok answer → Looks k l text plain answer × HasText l.seen text answer
-  has_looked answer sound is =
+  pub has_looked : LooksName → (answer : Looked) → IsSound l → r ≡ Ok answer → Looks k l text plain answer × HasText l.seen text answer
+  has_looked names answer sound is =
       let did = subst (λ x. HasLooked k l text plain x) is looked in (
         looks_now k l text plain answer (goes_after k l did.0 (Look k.number text plain answer) refl did.1 did.2.0.1) sound,
-        answered_text did.0 [] l.seen k.number text plain answer (ap (λ n. n.seen) did.2.0.1.0) sound.faithful.legal,
+        answered_text names did.0 [] l.seen k.number text plain answer (ap (λ n. n.seen) did.2.0.1.0) sound.faithful.legal,
       )
 
   pub looked_not : (e : RegErr) → r ≡ Err e → Works k l

@@ -21,9 +21,6 @@ use Rattle.alg_registry.specs.Rows.{caller_of, texts, larvals_of, rows_of, first
 use Rattle.alg_registry.specs.Calls.{claimed_number, claimed_answer, text_at, UnlessNoMemory, OnNoMemory, MayLack, unless_memory, end_given, unclaimed_at, is_unclaimed}
 use Rattle.alg_registry.specs.Legal.{LegalReg, IsRight, ended_as}
 use Rattle.alg_registry.specs.Made.{building, last_of, looks_for, look_for, if_of, outcome_of}
-use Rattle.alg_registry.proofs.Fresh.{length-larvals_of}
-use Rattle.alg_registry.proofs.LifetimeLaws.{right_at}
-use Rattle.alg_registry.proofs.Stack.{last-snoc, claimed-within, claimed-there, ended-push}
 use Rattle.templates.specs.declared.build_errors.BuildErr.{BuildErr}
 use Rattle.templates.specs.declared.build_errors.BuildErr.TheVariants.{Fault, Memory}
 use Rattle.templates.specs.Resolving.{result_of}
@@ -36,8 +33,8 @@ use Rattle.shared_registry.specs.Faithful.{IsFaithful}
 use Rattle.shared_registry.specs.Own.{open_of, IsOpen, own_looks, IsOwn, MayHand}
 use Rattle.shared_registry.specs.Building.{Works, Ends}
 use Rattle.shared_registry.specs.Within.{Within, Closes, BeginsText, Builds, EndsAs, ended_result, given_result}
-use Rattle.alg_registry.proofs.Histories.{text_more}
-use Rattle.alg_registry.proofs.OwnCalls.{last_any}
+use Rattle.shared_registry.specs.Learned.{RegistryLaws}
+use Rattle.shared_registry.proofs.Histories.{right_at, text_more, length-larvals_of, claimed-within, claimed-there, ended-push, last-snoc, last_any}
 use Rattle.shared_registry.proofs.Asking.{open_at}
 use Rattle.shared_registry.proofs.Working.{own_on, open_push, looks_push, all_both, claimed_or, first_last}
 use Rattle.shared_registry.proofs.Going.{goes_on, goes_after, goes_nothing}
@@ -189,12 +186,12 @@ module _ (k l : Known RegEntry) (m : ℕ) (r : Result ℕ BuildErr) (did : EndsA
   pub end_goes : Goes k l (End k.number m did.2.0 ∷ [])
   end_goes = goes_after k l did.0 (End k.number m did.2.0) refl did.1 did.2.1
 
-  pub end_comes : IsOpen k m → Ends l m r
-  end_comes is =
+  pub end_comes : RegistryLaws → IsOpen k m → Ends l m r
+  end_comes laws is =
       let e : RegEntry = End k.number m did.2.0 in
       let grown : l.seen ≡ did.0 ++ e ∷ [] = ap (λ n. n.seen) did.2.1.0 in
       let legal : LegalReg did.0 = did.1.kept.legal in
-      let open_there = open_at k did.0 did.1.shows legal m is in
+      let open_there = open_at laws k did.0 did.1.shows legal m is in
       let now : ended_as l.seen m ≡ Some (end_of did.2.0) =
       ap (λ x. ended_as x m) grown ∙ (ended-push did.0 e m (claimed-there did.0 m k.number open_there.0)
       ∙ (ap (λ o. option_or o (ends m e)) open_there.1 ∙ ap (λ b. if b then Some (end_of did.2.0) else None) (eq-eqb m m refl))) in

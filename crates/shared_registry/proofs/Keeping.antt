@@ -1,30 +1,43 @@
 -- A call of the registry leaves its history faithful.
-use Rattle.std.proofs.Common.{◌≡◌, ℕ, Bool, List, [], ◌∷◌, ◌++◌, Option, Some, None, Result, Ok, Err, sym, ◌∙◌, subst}
+use Rattle.std.proofs.Common.{◌≡◌, ℕ, Bool, true, false, List, [], ◌∷◌, ◌++◌, Option, Some, None, Result, Ok, Err, sym, ◌∙◌, subst, append_assoc}
 use Rattle.std.specs.Prelude.{IfOk, OnOk, OnErr}
 use Rattle.std.proofs.lemmas.List.{append-nil}
 use Rattle.alg_registry.specs.declared.entry.Ended.{Ended}
 use Rattle.alg_registry.specs.declared.entry.Looked.{Looked}
 use Rattle.alg_registry.specs.declared.entry.Looked.TheVariants.{Absent}
 use Rattle.alg_registry.specs.declared.entry.RegErr.{RegErr}
+use Rattle.alg_registry.specs.declared.entry.RegErr.TheVariants.{Exist, NoEnt, Again, NFile, Memory}
 use Rattle.alg_registry.specs.declared.entry.RegEntry.{RegEntry}
 use Rattle.alg_registry.specs.declared.entry.RegEntry.TheVariants.{Look, Claim, Waited}
 use Rattle.alg_registry.specs.Calls.{UnlessMemory, OnMemory, claim_entries, waited_entries}
 use Rattle.alg_registry.specs.Legal.{LegalReg}
-use Rattle.alg_registry.specs.Made.{Made, IsMade}
-use Rattle.alg_registry.proofs.Making.{Made-push, made-call}
-use Rattle.templates.proofs.Looks.{any_answer}
+use Rattle.alg_registry.specs.Made.{Made, MadeAfter, IsMade}
 use Rattle.templates.specs.Table.{table}
 use Rattle.shared_registry.specs.Faithful.{IsFaithful}
 
+made_after : (before h : List RegEntry) (e : RegEntry) → MadeAfter table before h → IsMade table (before ++ h) e → MadeAfter table before (h ++ e ∷ [])
+made_after before [] e made next = (subst (λ (past : List RegEntry). IsMade table past e) (append-nil before) next, tt)
+made_after before (x ∷ h) e made next = (made.0, made_after (before ++ x ∷ []) h e made.1 (subst (λ (past : List RegEntry). IsMade table past e) (sym (append_assoc before (x ∷ []) h)) next))
+
+-- whether a look may be made hangs on no answer
+any_answer : (h : List RegEntry) (caller : ℕ) (text : List ℕ) (plain : Bool) (a b : Looked) → IsMade table h (Look caller text plain a) → IsMade table h (Look caller text plain b)
+any_answer h caller text true a b m = m
+any_answer h caller text false a b m = m
+
 module _ (old new : List RegEntry) (legal : LegalReg new) (before : IsFaithful old) where
   pub with_entry : (e : RegEntry) → new ≡ old ++ e ∷ [] → IsMade table old e → IsFaithful new
-  with_entry e grown next = record { legal = legal; made = subst (λ (h : List RegEntry). Made table h) (sym grown) (Made-push table old e before.made next) }
+  with_entry e grown next = record { legal = legal; made = subst (λ (h : List RegEntry). Made table h) (sym grown) (made_after [] old e before.made next) }
 
   pub as_before : new ≡ old → IsFaithful new
   as_before same = record { legal = legal; made = subst (λ (h : List RegEntry). Made table h) (sym same) before.made }
 
   pub unless_memory_entry : {X : Type 0} (r : Result X RegErr) (e : RegEntry) → UnlessMemory r (new ≡ old ++ e ∷ []) → OnMemory r (new ≡ old) → IsMade table old e → IsFaithful new
-  unless_memory_entry r e grown same next = record { legal = legal; made = made-call table r old new e grown same before.made next }
+  unless_memory_entry (Ok x) e grown same next = with_entry e grown next
+  unless_memory_entry (Err Memory) e grown same next = as_before same
+  unless_memory_entry (Err Exist) e grown same next = with_entry e grown next
+  unless_memory_entry (Err NoEnt) e grown same next = with_entry e grown next
+  unless_memory_entry (Err Again) e grown same next = with_entry e grown next
+  unless_memory_entry (Err NFile) e grown same next = with_entry e grown next
 
   pub ok_entry : {X F : Type 0} (r : Result X F) (e : RegEntry) → OnOk r (new ≡ old ++ e ∷ []) → OnErr r (new ≡ old) → IsMade table old e → IsFaithful new
   ok_entry (Ok x) e grown same next = with_entry e grown next

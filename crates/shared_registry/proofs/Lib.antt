@@ -1,4 +1,5 @@
 pub mod Keeping
+pub mod Histories
 pub mod Going
 pub mod Turning
 pub mod Asking
@@ -11,3 +12,4 @@ pub mod Children
 pub mod Outcomes
 pub mod Clients
 pub mod Trials
+pub mod Referring

@@ -16,11 +16,7 @@ use Rattle.alg_registry.specs.declared.entry.Looked.TheVariants.{Found, Pending,
 use Rattle.alg_registry.specs.Rows.{caller_of, texts, registered, larvals_of, larval_at}
 use Rattle.alg_registry.specs.Calls.{text_at}
 use Rattle.alg_registry.specs.Legal.{LegalReg, IsRight, ended_as}
-use Rattle.alg_registry.proofs.Fresh.{length-larvals_of}
-use Rattle.alg_registry.proofs.LifetimeLaws.{right_at}
 use Rattle.alg_registry.specs.Made.{Made, MadeAfter, IsMade, outcome, outcome_of}
-use Rattle.alg_registry.proofs.Existing.{registered_grow}
-use Rattle.alg_registry.proofs.Stack.{larval_get}
 use Rattle.alg_names.specs.Name.{Tree, depth, width}
 use Rattle.alg_names.specs.Spelled.{tree_of}
 use Rattle.templates.specs.Nesting.{is_nested_well}
@@ -33,10 +29,11 @@ use Rattle.shared_registry.specs.Passes.{IsSound}
 use Rattle.shared_registry.proofs.Going.{Goes}
 use Rattle.shared_registry.specs.Building.{Works, Looks, Comes, Resolves, Ends, Resolved, Settled, IsLook, WasAnswered, HasText, BuiltOne}
 use Rattle.shared_registry.specs.Within.{Closes, BeginsText, HasCome}
+use Rattle.shared_registry.proofs.Histories.{right_at, text_more, registered_grow, larval_get, length-larvals_of}
 use Rattle.shared_registry.proofs.Asking.{FoundExists, found_there, outcome_there}
 use Rattle.shared_registry.proofs.Answering.{answered_text}
 use Rattle.shared_registry.proofs.Claiming.{HasClaimed, claimed_some, begins, closed, took_oldest}
-use Rattle.alg_registry.proofs.Histories.{text_more}
+use Rattle.shared_registry.specs.Learned.{RegistryLaws}
 
 get_some : (xs : List Spec) (n : ℕ) → n < length xs → (x : Spec) × (slice_get xs n ≡ Some x)
 get_some [] n lt = absurd (omega (arith, lt))
@@ -69,56 +66,8 @@ has_middle : (P : RegEntry → Type 0) (xs ys : List RegEntry) (e : RegEntry) �
 has_middle P [] ys e p = inl p
 has_middle P (x ∷ xs) ys e p = inr (has_middle P xs ys e p)
 
-look_known : (c : ℕ) (before later whole : List RegEntry) (text : List ℕ) (answer : Looked) (e : RegEntry) → IsLook c text answer e → whole ≡ before ++ e ∷ later → LegalReg whole → HasText whole text answer × FoundExists whole answer
-look_known c before later whole text answer (Look by other plain a) is w legal = (
-  subst (λ t. HasText whole t answer) is.1 (subst (HasText whole other) is.2 (answered_text before later whole by other plain a w legal)),
-  subst (FoundExists whole) is.2 (found_there before later whole by other plain a w legal),
-)
-look_known c before later whole text answer (Claim by larval) is w legal = absurd is
-look_known c before later whole text answer (End by larval a) is w legal = absurd is
-look_known c before later whole text answer (Enlist by spec a) is w legal = absurd is
-look_known c before later whole text answer (Waited by larval) is w legal = absurd is
-look_known c before later whole text answer (Unlist by driver a) is w legal = absurd is
-look_known c before later whole text answer (Get by id ok) is w legal = absurd is
-look_known c before later whole text answer (Put by id) is w legal = absurd is
-look_known c before later whole text answer (Refs by driver) is w legal = absurd is
-look_known c before later whole text answer (entry.List by) is w legal = absurd is
-
--- what a look of the pass answered stands in what it has seen
-pub answered : (k : Known RegEntry) (text : List ℕ) (answer : Looked) → IsSound k → WasAnswered k text answer → HasText k.seen text answer × FoundExists k.seen answer
-answered k text answer sound was =
-    let s = somewhere (IsLook k.number text answer) k.seen (has_own (IsLook k.number text answer) k.number k.seen (subst (Has (IsLook k.number text answer)) (sym sound.own) was)) in
-    look_known k.number s.before s.later k.seen text answer s.at s.holds s.is sound.faithful.legal
-
-found_entry : (h : List RegEntry) (answer : Looked) (id : ℕ) → LegalReg h → FoundExists h answer → outcome h answer ≡ Some (Ok id) → (spec : Spec) × (found_in h answer ≡ Some (Entry id spec))
-found_entry h answer id legal exists come =
-    let s = get_some (registered h) id (outcome_there h answer id legal exists come) in
-    (s.0, ap (λ o. found_as h o) come ∙ ap (λ o. entry_found id o) s.1)
-
-pub settled : (l : Known RegEntry) (answer : Looked) (r : Result ℕ BuildErr) → LegalReg l.seen → FoundExists l.seen answer → Comes l answer r → Settled l answer r
-settled l answer (Ok id) legal exists come = found_entry l.seen answer id legal exists come
-settled l answer (Err (build.Fault errno)) legal exists come = ap (λ o. found_as l.seen o) come
-settled l answer (Err build.Memory) legal exists come = tt
-
 pub exists_on : (k l : Known RegEntry) (a : List RegEntry) (answer : Looked) → Goes k l a → FoundExists k.seen answer → FoundExists l.seen answer
 exists_on k l a answer g exists = λ id is. let lt : id < length (registered k.seen) = exists id is in omega (arith, lt, registered_grow k.seen g.between, ap (λ x. length (registered x)) g.seen)
-
-looks_exists : (k l : Known RegEntry) (text : List ℕ) (plain : Bool) (answer : Looked) → Looks k l text plain answer → FoundExists l.seen answer
-looks_exists k l text plain answer w =
-    (answered l text answer w.sound
-    (subst (Has (IsLook l.number text answer)) (sym w.goes.made) (has_middle (IsLook l.number text answer) k.made w.work (Look k.number text plain answer) (sym w.goes.number, refl, refl)))).1
-
-pub resolved : (k l : Known RegEntry) (text : List ℕ) (plain : Bool) (r : Result ℕ BuildErr) → Resolves k l text plain r → Resolved k l text plain r
-resolved k l text plain (Ok id) (inl none) = absurd (let f : Ok id ≡ Err build.Memory = none.1 in cc)
-resolved k l text plain (Err (build.Fault errno)) (inl none) = absurd (let f : Err (build.Fault errno) ≡ Err build.Memory = none.1 in cc)
-resolved k l text plain (Err build.Memory) (inl none) = inl none.0
-resolved k l text plain (Ok id) (inr came) =
-    let w = came.1 in
-    let f = found_entry l.seen came.0 id w.sound.faithful.legal (looks_exists k l text plain came.0 w) came.2 in
-    (f.0, record { answer = came.0; work = w.work; goes = w.goes; all_work = w.all_work; found_is = f.1 })
-resolved k l text plain (Err (build.Fault errno)) (inr came) =
-    let w = came.1 in record { answer = came.0; work = w.work; goes = w.goes; all_work = w.all_work; found_is = ap (λ o. found_as l.seen o) came.2 }
-resolved k l text plain (Err build.Memory) (inr came) = inr (came.0, came.1)
 
 -- the text of each larval is a name
 named_after : (before h : List RegEntry) (n : ℕ) (text : List ℕ) → MadeAfter table before h → slice_get (texts h) n ≡ Some text → table.is_name text ≡ true
@@ -220,3 +169,52 @@ module _ (k l : Known RegEntry) (r : Result (Option Claimed) RegErr) (x : Claime
   built_oldest p came (Ok true) c ends ok =
       let t = took_oldest k l r x did is in
       (t.h, t.met, (x.larval, t.oldest, (c.goes.between, c.goes.seen ∙ ap (λ y. y ++ c.goes.between) t.seen), come_some p x.larval came ends ok.1))
+
+module _ (laws : RegistryLaws) where
+  look_known : (c : ℕ) (before later whole : List RegEntry) (text : List ℕ) (answer : Looked) (e : RegEntry) → IsLook c text answer e → whole ≡ before ++ e ∷ later → LegalReg whole → HasText whole text answer × FoundExists whole answer
+  look_known c before later whole text answer (Look by other plain a) is w legal = (
+    subst (λ t. HasText whole t answer) is.1 (subst (HasText whole other) is.2 (answered_text laws.named before later whole by other plain a w legal)),
+    subst (FoundExists whole) is.2 (found_there laws before later whole by other plain a w legal),
+  )
+  look_known c before later whole text answer (Claim by larval) is w legal = absurd is
+  look_known c before later whole text answer (End by larval a) is w legal = absurd is
+  look_known c before later whole text answer (Enlist by spec a) is w legal = absurd is
+  look_known c before later whole text answer (Waited by larval) is w legal = absurd is
+  look_known c before later whole text answer (Unlist by driver a) is w legal = absurd is
+  look_known c before later whole text answer (Get by id ok) is w legal = absurd is
+  look_known c before later whole text answer (Put by id) is w legal = absurd is
+  look_known c before later whole text answer (Refs by driver) is w legal = absurd is
+  look_known c before later whole text answer (entry.List by) is w legal = absurd is
+
+  -- what a look of the pass answered stands in what it has seen
+  pub answered : (k : Known RegEntry) (text : List ℕ) (answer : Looked) → IsSound k → WasAnswered k text answer → HasText k.seen text answer × FoundExists k.seen answer
+  answered k text answer sound was =
+      let s = somewhere (IsLook k.number text answer) k.seen (has_own (IsLook k.number text answer) k.number k.seen (subst (Has (IsLook k.number text answer)) (sym sound.own) was)) in
+      look_known k.number s.before s.later k.seen text answer s.at s.holds s.is sound.faithful.legal
+
+  found_entry : (h : List RegEntry) (answer : Looked) (id : ℕ) → LegalReg h → FoundExists h answer → outcome h answer ≡ Some (Ok id) → (spec : Spec) × (found_in h answer ≡ Some (Entry id spec))
+  found_entry h answer id legal exists come =
+      let s = get_some (registered h) id (outcome_there laws h answer id legal exists come) in
+      (s.0, ap (λ o. found_as h o) come ∙ ap (λ o. entry_found id o) s.1)
+
+  pub settled : (l : Known RegEntry) (answer : Looked) (r : Result ℕ BuildErr) → LegalReg l.seen → FoundExists l.seen answer → Comes l answer r → Settled l answer r
+  settled l answer (Ok id) legal exists come = found_entry l.seen answer id legal exists come
+  settled l answer (Err (build.Fault errno)) legal exists come = ap (λ o. found_as l.seen o) come
+  settled l answer (Err build.Memory) legal exists come = tt
+
+  looks_exists : (k l : Known RegEntry) (text : List ℕ) (plain : Bool) (answer : Looked) → Looks k l text plain answer → FoundExists l.seen answer
+  looks_exists k l text plain answer w =
+      (answered l text answer w.sound
+      (subst (Has (IsLook l.number text answer)) (sym w.goes.made) (has_middle (IsLook l.number text answer) k.made w.work (Look k.number text plain answer) (sym w.goes.number, refl, refl)))).1
+
+  pub resolved : (k l : Known RegEntry) (text : List ℕ) (plain : Bool) (r : Result ℕ BuildErr) → Resolves k l text plain r → Resolved k l text plain r
+  resolved k l text plain (Ok id) (inl none) = absurd (let f : Ok id ≡ Err build.Memory = none.1 in cc)
+  resolved k l text plain (Err (build.Fault errno)) (inl none) = absurd (let f : Err (build.Fault errno) ≡ Err build.Memory = none.1 in cc)
+  resolved k l text plain (Err build.Memory) (inl none) = inl none.0
+  resolved k l text plain (Ok id) (inr came) =
+      let w = came.1 in
+      let f = found_entry l.seen came.0 id w.sound.faithful.legal (looks_exists k l text plain came.0 w) came.2 in
+      (f.0, record { answer = came.0; work = w.work; goes = w.goes; all_work = w.all_work; found_is = f.1 })
+  resolved k l text plain (Err (build.Fault errno)) (inr came) =
+      let w = came.1 in record { answer = came.0; work = w.work; goes = w.goes; all_work = w.all_work; found_is = ap (λ o. found_as l.seen o) came.2 }
+  resolved k l text plain (Err build.Memory) (inr came) = inr (came.0, came.1)

@@ -19,7 +19,7 @@ use Rattle.turn_lock.specs.Turns.{Known, sees}
 use Rattle.turn_lock.specs.Passes.{Added}
 use Rattle.turn_lock.specs.Meeting.{Enters, Leaves}
 use Rattle.turn_lock.specs.Meeting.{Meets as Met}
-use Rattle.turn_lock.proofs.Clients.{enters, leaves, own_entered, own_left}
+use Rattle.turn_lock.specs.Going.{enters, leaves, own_entered, own_left}
 use Rattle.shared_registry.specs.Faithful.{IsFaithful}
 use Rattle.shared_registry.specs.Passes.{IsSound, EntersIf, recorded, given}
 

@@ -19,7 +19,7 @@ use Rattle.turn_lock.specs.Meeting.{Enters, Leaves}
 use Rattle.shared_registry.specs.Faithful.{IsFaithful}
 use Rattle.shared_registry.specs.Building.{Works, Ends}
 use Rattle.shared_registry.specs.Within.{Idles, ended_result}
-use Rattle.alg_registry.proofs.Histories.{ended_more}
+use Rattle.shared_registry.specs.Learned.{RegistryLaws}
 use Rattle.shared_registry.proofs.Working.{works_none, works_waited, works_on}
 use Rattle.shared_registry.proofs.Going.{goes_on, goes_after, goes_still, goes_nothing}
 
@@ -68,8 +68,8 @@ module _ (k l m : Known RegEntry) (larval : ℕ) (r : Result (Option Ended) RegE
       let did = subst (λ x. HasWaited l m larval x) is waited in
       works_on k l m (idles_works k l idles) (works_waited l m l.number larval (goes_after l m did.0 (Waited l.number larval) refl did.1 (enters_some l m did.0 larval (ended_as did.0 larval) e did.2.0.0 did.2.0.1)))
 
-  pub has_ended : (e : Ended) → r ≡ Ok (Some e) → Ends m larval (ended_result e)
-  has_ended e is =
+  pub has_ended : RegistryLaws → (e : Ended) → r ≡ Ok (Some e) → Ends m larval (ended_result e)
+  has_ended laws e is =
       let did = subst (λ x. HasWaited l m larval x) is waited in
       let entered = enters_some l m did.0 larval (ended_as did.0 larval) e did.2.0.0 did.2.0.1 in
-      ends_as m larval e (ap (λ n. ended_as n.seen larval) entered.0 ∙ ended_more did.0 (Waited l.number larval ∷ []) larval e (sym did.2.0.0))
+      ends_as m larval e (ap (λ n. ended_as n.seen larval) entered.0 ∙ (laws.stays did.0 (Waited l.number larval ∷ [])).ended larval e (sym did.2.0.0))

@@ -7,8 +7,9 @@ use Rattle.alg_registry.specs.Legal.{ended_as}
 use Rattle.alg_registry.specs.Made.{outcome_of}
 use Rattle.alg_registry.specs.OwnCalls.{HasCome}
 use Rattle.templates.specs.Looking.{Found, found_in}
-use Rattle.turn_lock.specs.Turns.{of, Each}
+use Rattle.turn_lock.specs.Turns.{Known, of, Each}
 use Rattle.shared_registry.specs.Faithful.{IsFaithful}
+use Rattle.shared_registry.specs.Building.{Works}
 
 -- what a look came to, it keeps
 abbrev pub FoundStays : Type 0
@@ -20,3 +21,10 @@ abbrev pub NothingIsLeft : Type 0
 NothingIsLeft =
     (h : List RegEntry) → IsFaithful h → Each (λ e. caller_of e < 17) h → Each (HasCome h) (of caller_of 0 h)
     → (n : ℕ) → n < length (texts h) → IsSome (outcome_of (ended_as h n))
+
+-- a pass that does nothing builds nothing, and building and then building is building
+abbrev pub WorksStill : Type 0
+WorksStill = (k : Known RegEntry) → Works k k
+
+abbrev pub WorksOn : Type 0
+WorksOn = (k l m : Known RegEntry) → Works k l → Works l m → Works k m

@@ -4,4 +4,5 @@ pub mod Own
 pub mod Building
 pub mod Within
 pub mod Laws
+pub mod Learned
 pub mod Trial

@@ -7,15 +7,16 @@ ghost use Rattle.alg_registry.specs.declared.entry.RegEntry.{RegEntry};
 ghost use Rattle.alg_registry.specs.Rows.{registered, texts};
 ghost use Rattle.alg_registry.specs.Made.{with_spec};
 ghost use Rattle.alg_registry.specs.Legal.{ended_as};
-ghost use Rattle.templates.specs.Names.{IsKnown};
 ghost use Rattle.templates.specs.Nesting.{is_nested_well};
 ghost use Rattle.templates.specs.Table.{table, children_of};
 ghost use Rattle.turn_lock.specs.Passes.{knows};
 ghost use Rattle.shared_registry.specs.Passes.{IsSound, IsPassOn};
+ghost use Rattle.shared_registry.specs.Learned.{IsLearned, RegistryLaws};
 ghost use Rattle.shared_registry.specs.Own.{IsOpen, MayLook};
 ghost use Rattle.shared_registry.specs.Building.{Works, Looks, Comes, Resolves, Ends, Resolved, Settled, WasAnswered, HasText, BuiltOne};
 ghost use Rattle.shared_registry.specs.Within.{MayResolve, Idles, Within, Begins, ChildrenCome, Builds, EndsAs, ended_result, given_result, HasCome, Closes, BeginsText};
 
+use crate::laws::registry_laws;
 use crate::sharing::{RegPass, SharedRegistry};
 use alg_names::laws::{computed_tree, one_name};
 use alg_names::{Name, parse_name, print_name};
@@ -23,14 +24,17 @@ use alg_registry::{Claimed, Ended, Looked, Spec};
 use kc_base::Errno;
 use std::alloc::{AllocError, Global};
 use std::sync::Wait;
+use templates::laws::names_in_the_table;
 use templates::{BuildErr, children, derive};
 
-/// What is known of every name.
+/// What is known of every name, and of every history.
 fn learn_name(name: &Name)
-    ensures { IsKnown name.now }
+    ensures { IsLearned name.now }
 {
     let _ = name.word();
     computed_tree();
+    names_in_the_table();
+    registry_laws();
 }
 
 /// What a larval that ended so came to.
@@ -81,7 +85,7 @@ pub(crate) fn look_for<R: Wait>(
     ensures sound { IsSound (knows pass) → IsSound (knows result.0) }
     ensures ok { IfOk result.1 (λ looked. Looks (knows pass) (knows result.0) (spelling name.now) plain looked × HasText (knows result.0).seen (spelling name.now) looked) }
     ensures err { IfErr result.1 (λ e. (e ≡ BuildErr.Memory) × Works (knows pass) (knows result.0)) }
-    ensures known { IsKnown name.now }
+    ensures known { IsLearned name.now }
 {
     learn_name(name);
     match print_name(alloc, name) {
@@ -106,6 +110,7 @@ fn wait_for<R: Wait>(
     requires lock { IsPassOn registry.now pass }
     requires sound { IsSound (knows pass) }
     requires began { larval < length (texts (knows pass).seen) }
+    requires laws { RegistryLaws }
     ensures lock { IsPassOn registry.now result.0 }
     ensures sound { IsSound (knows result.0) }
     ensures works { Works (knows pass) (knows result.0) }
@@ -216,7 +221,7 @@ fn resolve_children<R: Wait>(
     asked: &[Name],
 ) -> (RegPass, Result<Vec<u64>, BuildErr>)
     requires lock { IsPassOn registry.now pass }
-    requires known { IsKnown name.now }
+    requires known { IsLearned name.now }
     requires begins { Begins larval name.now (knows pass) }
     requires asked { children_of name.now ≡ Ok asked.now }
     requires nested { is_nested_well name.now ≡ true }
@@ -255,7 +260,7 @@ pub(crate) fn build<R: Wait>(
     larval: u64,
 ) -> (RegPass, Result<Spec, BuildErr>)
     requires lock { IsPassOn registry.now pass }
-    requires known { IsKnown name.now }
+    requires known { IsLearned name.now }
     requires begins { Begins larval name.now (knows pass) }
     requires nested { is_nested_well name.now ≡ true }
     ensures lock { IsPassOn registry.now result.0 }
@@ -290,7 +295,7 @@ fn build_claimed<R: Wait>(
     larval: u64,
 ) -> (RegPass, Result<u64, BuildErr>)
     requires lock { IsPassOn registry.now pass }
-    requires known { IsKnown name.now }
+    requires known { IsLearned name.now }
     requires begins { Begins larval name.now (knows pass) }
     requires nested { is_nested_well name.now ≡ true }
     ensures lock { IsPassOn registry.now result.0 }
@@ -313,7 +318,7 @@ fn settle_larval<R: Wait>(
     larval: u64,
 ) -> (RegPass, Result<u64, BuildErr>)
     requires lock { IsPassOn registry.now pass }
-    requires known { IsKnown name.now }
+    requires known { IsLearned name.now }
     requires sound { IsSound (knows pass) }
     requires begun { slice_get (texts (knows pass).seen) larval ≡ Some (spelling name.now) }
     requires nested { is_nested_well name.now ≡ true }
@@ -345,7 +350,7 @@ fn settle_within<R: Wait>(
     looked: Looked,
 ) -> (RegPass, Result<u64, BuildErr>)
     requires lock { IsPassOn registry.now pass }
-    requires known { IsKnown name.now }
+    requires known { IsLearned name.now }
     requires sound { IsSound (knows pass) }
     requires text { HasText (knows pass).seen (spelling name.now) looked }
     requires nested { is_nested_well name.now ≡ true }
@@ -406,6 +411,7 @@ pub fn resolve<R: Wait>(
     ensures sound { IsSound (knows pass) → IsSound (knows result.0) }
     ensures looked { Resolved (knows pass) (knows result.0) (spelling name.now) plain result.1 }
 {
+    learn_name(name);
     resolve_within(rt, alloc, registry, pass, name, plain)
 }
 
@@ -449,6 +455,7 @@ fn build_text<R: Wait>(
 {
     one_name();
     computed_tree();
+    registry_laws();
     let name = match parse_name(alloc, text) {
         Ok(name) => name,
         // The text of a larval is a name within the limits, so memory ran out.

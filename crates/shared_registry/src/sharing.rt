@@ -13,10 +13,12 @@ ghost use Rattle.turn_lock.specs.Meeting.{AtTurn, Enters, Leaves};
 ghost use Rattle.turn_lock.specs.Turns.{newcomer, sees, Shows, StartsWith, gives_number, gets_number, joined};
 ghost use Rattle.shared_registry.specs.Faithful.{IsFaithful};
 ghost use Rattle.shared_registry.specs.Passes.{IsSound, EntersIf, recorded, given};
+ghost use Rattle.shared_registry.specs.Learned.{RegistryLaws};
 ghost use Rattle.shared_registry.specs.Own.{IsOpen, MayHand, MayLook};
 
 use crate::bells::{Bells, Watch};
 use crate::faithful_registry::FaithfulRegistry;
+use crate::laws::registry_laws;
 use alg_registry::{
     Claimed, Ended, Listing, Looked, RefAnswer, RegEntry, RegErr, RegLog, Spec, Wrap,
 };
@@ -92,7 +94,9 @@ impl SharedRegistry {
         ensures sees { turn_knows result ≡ sees (knows pass) (turn_value result) }
         ensures shows { Shows caller_of (knows pass) (turn_value result) }
         ensures faithful { IsFaithful (turn_value result) }
+        ensures laws { RegistryLaws }
     {
+        registry_laws();
         let mut turn = self.lock.take(rt, pass);
         turn.get().learn();
         turn

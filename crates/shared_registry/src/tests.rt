@@ -1,19 +1,20 @@
 //! A registry that callers share.
 
-ghost use Rattle.std.specs.Prelude.{◌≡◌, ◌<◌, true, length, IfOk, IsFalse};
+ghost use Rattle.std.specs.Prelude.{◌≡◌, ◌<◌, [], true, length, IfOk, IsFalse, IsTrue};
 ghost use Rattle.alg_names.specs.Name.{spelling};
 ghost use Rattle.alg_registry.specs.Legal.{is_worker};
 ghost use Rattle.alg_registry.specs.Rows.{texts};
 ghost use Rattle.templates.specs.Nesting.{is_nested_well};
+ghost use Rattle.templates.specs.Table.{table};
 ghost use Rattle.turn_lock.specs.Passes.{knows};
 ghost use Rattle.shared_registry.specs.Passes.{IsSound, IsPassOn};
 
 use crate::building::{build, given_of, look_for};
 use crate::{RegPass, SharedRegistry, build_one, resolve, settle};
 use alg_names::{Name, parse_name};
-use alg_registry::{EndAnswer, Ended, Looked, RegEntry, RegLog};
-use kc_base::Errno;
-use std::alloc::Global;
+use alg_registry::{EndAnswer, Ended, Ids, Kind, Looked, RegEntry, RegErr, RegLog, Spec, Wrap};
+use kc_base::{Bytes, Errno};
+use std::alloc::{AllocError, Global};
 use std::sync::Wait;
 use std::test::Fail;
 use std::thread::{Threads, join, yield_now};
@@ -252,6 +253,45 @@ fn ended_after_unlisting<R: Wait>(
     Ok(Some(ended))
 }
 
+/// A further driver of AES.
+fn table_driver(alloc: Global) -> Result<Spec, AllocError>
+    ensures alone { IfOk result (λ spec. spec.below ≡ []) }
+    ensures plain { IfOk result (λ spec. spec.wrap ≡ Wrap.Plain) }
+    ensures driver { IfOk result (λ spec. IsTrue (table.is_driver spec)) }
+{
+    Ok(Spec {
+        name: Bytes::copy_of(alloc, b"aes")?,
+        driver: Bytes::copy_of(alloc, b"aes-table")?,
+        kind: Kind::Cipher,
+        wrap: Wrap::Plain,
+        priority: 150,
+        below: Ids::new(alloc),
+    })
+}
+
+/// Takes a reference to the entry, counts those of its driver and gives it back: the count.
+fn hold_and_count<R: Wait>(
+    rt: &R,
+    registry: &SharedRegistry,
+    pass: RegPass,
+    id: u64,
+    driver: &[u8],
+) -> (RegPass, Option<u64>)
+    requires lock { IsPassOn registry.now pass }
+    requires outsider { IsFalse (is_worker (knows pass).number) }
+    requires fresh { (knows pass).made ≡ [] }
+    ensures { IsPassOn registry.now result.0 }
+{
+    let (pass, got) = registry.take_ref(rt, pass, id);
+    match got {
+        Ok(()) => {}
+        Err(_) => return (pass, None),
+    }
+    let (pass, refs) = registry.refs(rt, pass, driver);
+    let pass = registry.put_ref(rt, pass, id);
+    (pass, refs.ok().map(|refs| refs.count))
+}
+
 fn is_built(entry: &RegEntry, driver: &[u8]) -> bool {
     match entry {
         RegEntry::End { answer, .. } => match answer {
@@ -326,6 +366,31 @@ fn two_callers_of_one_name_build_once(rt: HostRuntime) -> Result<(), Fail> {
         assert!(rt; two == Ok(3));
         assert_eq!(rt; count_built(&log, b"cbc(aes-generic)"), 1);
     }
+    Ok(())
+}
+
+#[test]
+fn callers_enlist_and_hold_through_the_lock(rt: HostRuntime) -> Result<(), Fail> {
+    let (registry, pass) = SharedRegistry::new(rt.alloc())?;
+    let (pass, holder) = registry.split(pass, 17);
+    let (pass, first) = registry.split(pass, 18);
+    let (pass, second) = registry.split(pass, 19);
+    let (pass, third) = registry.split(pass, 20);
+    let (pass, reader) = registry.split(pass, 21);
+    let (_, held) = hold_and_count(&rt, &registry, holder, 0, b"aes-generic");
+    let (_, enlisted) = registry.enlist(&rt, first, table_driver(rt.alloc())?);
+    let (_, again) = registry.enlist(&rt, second, table_driver(rt.alloc())?);
+    let (_, missing) = registry.take_ref(&rt, third, 4);
+    let (_, listing) = registry.list(&rt, reader);
+    assert_eq!(rt; held, Some(1));
+    assert_eq!(rt; enlisted, Ok(3));
+    assert_eq!(rt; again, Err(RegErr::Exist));
+    assert_eq!(rt; missing, Err(RegErr::Again));
+    let listing = listing?;
+    let refs = listing.rows().iter().map(|row| row.refs);
+    assert!(rt; refs.eq([0, 0, 0, 0]));
+    let log = registry.finish_all(&rt, pass);
+    assert_eq!(rt; log.entries().len(), 7);
     Ok(())
 }
 

@@ -34,7 +34,9 @@ pub data Make : Type 0 where
   xts : AesForm → Make
   gcm : AesForm → GhashForm → Make
   rfc4106 : AesForm → GhashForm → Make
+  ccm : AesForm → Make
   hmac : Make
+  cmac : AesForm → Make
   authenc_cbc : AesForm → Make
   authenc_ctr : AesForm → Make
   authenc_rfc3686 : AesForm → Make
@@ -80,6 +82,12 @@ gcm_tree a g = over_both (codes "gcm_base") (ctr_tree a) (ghash_tree g)
 abbrev pub hmac_tree : Tree
 hmac_tree = over (codes "hmac") (node (codes "sha256-generic") end)
 
+abbrev pub ccm_tree : AesForm → Tree
+ccm_tree a = over (codes "ccm") (cipher_tree a)
+
+abbrev pub cmac_tree : AesForm → Tree
+cmac_tree a = over (codes "cmac") (cipher_tree a)
+
 abbrev pub tree_of_make : Make → Tree
 tree_of_make (cipher a) = cipher_tree a
 tree_of_make sha256 = node (codes "sha256-generic") end
@@ -90,7 +98,9 @@ tree_of_make (rfc3686 a) = rfc3686_tree a
 tree_of_make (xts a) = xts_tree a
 tree_of_make (gcm a g) = gcm_tree a g
 tree_of_make (rfc4106 a g) = over (codes "rfc4106") (gcm_tree a g)
+tree_of_make (ccm a) = ccm_tree a
 tree_of_make hmac = hmac_tree
+tree_of_make (cmac a) = cmac_tree a
 tree_of_make (authenc_cbc a) = over_both (codes "authenc") hmac_tree (cbc_tree a)
 tree_of_make (authenc_ctr a) = over_both (codes "authenc") hmac_tree (ctr_tree a)
 tree_of_make (authenc_rfc3686 a) = over_both (codes "authenc") hmac_tree (rfc3686_tree a)
@@ -105,6 +115,7 @@ kind_of_make (ctr a) = Skcipher
 kind_of_make (rfc3686 a) = Skcipher
 kind_of_make (xts a) = Skcipher
 kind_of_make hmac = Mac
+kind_of_make (cmac a) = Mac
 kind_of_make _ = Aead
 
 abbrev pub is_ctr : Make → Bool
@@ -115,6 +126,10 @@ abbrev pub is_gcm : Make → Bool
 is_gcm (gcm a g) = true
 is_gcm _ = false
 
+abbrev pub is_hmac : Make → Bool
+is_hmac hmac = true
+is_hmac _ = false
+
 -- the entry is what the drivers or the templates make, under no wrapper
 pub record IsPlainAs (s : Spec) (m : Make) : Type 0 where
   pub bare : is_bare s.wrap ≡ true
@@ -122,6 +137,7 @@ pub record IsPlainAs (s : Spec) (m : Make) : Type 0 where
   pub driver : s.driver ≡ spelling (tree_of_make m)
   pub begins_ctr : begins_with s.name (codes "ctr(") ≡ is_ctr m
   pub begins_gcm : begins_with s.name (codes "gcm(") ≡ is_gcm m
+  pub begins_hmac : begins_with s.name (codes "hmac(") ≡ is_hmac m
 
 -- it is that under `pcrypt` or `cryptd`
 pub record IsWrappedAs (s : Spec) (m : Make) : Type 0 where
@@ -156,7 +172,7 @@ only_ghash : (m : Make) → is_ghash (kind_of_make m) ≡ true → (g : GhashFor
 only_ghash (ghash g) e = (g, refl)
 only_ghash _ e = absurd cc
 
-only_hmac : (m : Make) → is_mac (kind_of_make m) ≡ true → m ≡ hmac
+only_hmac : (m : Make) → is_hmac m ≡ true → m ≡ hmac
 only_hmac hmac e = refl
 only_hmac _ e = absurd cc
 
@@ -181,12 +197,13 @@ record IsAuthenc (m n : Make) : Type 0 where
   kind : Aead ≡ kind_of_make n
   no_ctr : false ≡ is_ctr n
   no_gcm : false ≡ is_gcm n
+  no_hmac : false ≡ is_hmac n
 
 authenc_over : (m : Make) → is_skcipher (kind_of_make m) ≡ true → IsAuthenc m (with_hmac m)
-authenc_over (cbc a) e = record { tree = refl; kind = refl; no_ctr = refl; no_gcm = refl }
-authenc_over (ctr a) e = record { tree = refl; kind = refl; no_ctr = refl; no_gcm = refl }
-authenc_over (rfc3686 a) e = record { tree = refl; kind = refl; no_ctr = refl; no_gcm = refl }
-authenc_over (xts a) e = record { tree = refl; kind = refl; no_ctr = refl; no_gcm = refl }
+authenc_over (cbc a) e = record { tree = refl; kind = refl; no_ctr = refl; no_gcm = refl; no_hmac = refl }
+authenc_over (ctr a) e = record { tree = refl; kind = refl; no_ctr = refl; no_gcm = refl; no_hmac = refl }
+authenc_over (rfc3686 a) e = record { tree = refl; kind = refl; no_ctr = refl; no_gcm = refl; no_hmac = refl }
+authenc_over (xts a) e = record { tree = refl; kind = refl; no_ctr = refl; no_gcm = refl; no_hmac = refl }
 authenc_over _ e = absurd cc
 
 only_aead : (k : Kind) → is_aead k ≡ true → Aead ≡ k
@@ -239,22 +256,28 @@ cryptd_wraps = refl
 one-known : (t : Template) (id : ℕ) (x : Spec) (m : Make) → IsPlainAs x m → admits t x ≡ true → Known (over_one t (template_word t) id x)
 one-known template.Cbc id x m p e =
     let i = only_cipher m (sym (ap is_cipher p.kind) ∙ e) in
-    (cbc i.0, inl (record { bare = refl; kind = refl; driver = enclosed-tree (codes "cbc") x.driver (cipher_tree i.0) (p.driver ∙ ap (λ n. spelling (tree_of_make n)) i.1); begins_ctr = refl; begins_gcm = refl }))
+    (cbc i.0, inl (record { bare = refl; kind = refl; driver = enclosed-tree (codes "cbc") x.driver (cipher_tree i.0) (p.driver ∙ ap (λ n. spelling (tree_of_make n)) i.1); begins_ctr = refl; begins_gcm = refl; begins_hmac = refl }))
 one-known template.Ctr id x m p e =
     let i = only_cipher m (sym (ap is_cipher p.kind) ∙ e) in
-    (ctr i.0, inl (record { bare = refl; kind = refl; driver = enclosed-tree (codes "ctr") x.driver (cipher_tree i.0) (p.driver ∙ ap (λ n. spelling (tree_of_make n)) i.1); begins_ctr = refl; begins_gcm = refl }))
+    (ctr i.0, inl (record { bare = refl; kind = refl; driver = enclosed-tree (codes "ctr") x.driver (cipher_tree i.0) (p.driver ∙ ap (λ n. spelling (tree_of_make n)) i.1); begins_ctr = refl; begins_gcm = refl; begins_hmac = refl }))
 one-known template.Xts id x m p e =
     let i = only_cipher m (sym (ap is_cipher p.kind) ∙ e) in
-    (xts i.0, inl (record { bare = refl; kind = refl; driver = enclosed-tree (codes "xts") x.driver (cipher_tree i.0) (p.driver ∙ ap (λ n. spelling (tree_of_make n)) i.1); begins_ctr = refl; begins_gcm = refl }))
+    (xts i.0, inl (record { bare = refl; kind = refl; driver = enclosed-tree (codes "xts") x.driver (cipher_tree i.0) (p.driver ∙ ap (λ n. spelling (tree_of_make n)) i.1); begins_ctr = refl; begins_gcm = refl; begins_hmac = refl }))
 one-known template.Rfc3686 id x m p e =
     let i = only_ctr m (sym p.begins_ctr ∙ e) in
-    (rfc3686 i.0, inl (record { bare = refl; kind = refl; driver = enclosed-tree (codes "rfc3686") x.driver (ctr_tree i.0) (p.driver ∙ ap (λ n. spelling (tree_of_make n)) i.1); begins_ctr = refl; begins_gcm = refl }))
+    (rfc3686 i.0, inl (record { bare = refl; kind = refl; driver = enclosed-tree (codes "rfc3686") x.driver (ctr_tree i.0) (p.driver ∙ ap (λ n. spelling (tree_of_make n)) i.1); begins_ctr = refl; begins_gcm = refl; begins_hmac = refl }))
 one-known template.Rfc4106 id x m p e =
     let i = only_gcm m (sym p.begins_gcm ∙ left_true (begins_with x.name (codes "gcm(")) (is_bare x.wrap) e) in
-    (rfc4106 i.0 i.1, inl (record { bare = refl; kind = refl; driver = enclosed-tree (codes "rfc4106") x.driver (gcm_tree i.0 i.1) (p.driver ∙ ap (λ n. spelling (tree_of_make n)) i.2); begins_ctr = refl; begins_gcm = refl }))
+    (rfc4106 i.0 i.1, inl (record { bare = refl; kind = refl; driver = enclosed-tree (codes "rfc4106") x.driver (gcm_tree i.0 i.1) (p.driver ∙ ap (λ n. spelling (tree_of_make n)) i.2); begins_ctr = refl; begins_gcm = refl; begins_hmac = refl }))
+one-known template.Ccm id x m p e =
+    let i = only_cipher m (sym (ap is_cipher p.kind) ∙ e) in
+    (ccm i.0, inl (record { bare = refl; kind = refl; driver = enclosed-tree (codes "ccm") x.driver (cipher_tree i.0) (p.driver ∙ ap (λ n. spelling (tree_of_make n)) i.1); begins_ctr = refl; begins_gcm = refl; begins_hmac = refl }))
 one-known template.Hmac id x m p e =
     let i = only_sha256 m (sym (ap is_hash p.kind) ∙ e) in
-    (hmac, inl (record { bare = refl; kind = refl; driver = enclosed-tree (codes "hmac") x.driver (node (codes "sha256-generic") end) (p.driver ∙ ap (λ n. spelling (tree_of_make n)) i); begins_ctr = refl; begins_gcm = refl }))
+    (hmac, inl (record { bare = refl; kind = refl; driver = enclosed-tree (codes "hmac") x.driver (node (codes "sha256-generic") end) (p.driver ∙ ap (λ n. spelling (tree_of_make n)) i); begins_ctr = refl; begins_gcm = refl; begins_hmac = refl }))
+one-known template.Cmac id x m p e =
+    let i = only_cipher m (sym (ap is_cipher p.kind) ∙ e) in
+    (cmac i.0, inl (record { bare = refl; kind = refl; driver = enclosed-tree (codes "cmac") x.driver (cipher_tree i.0) (p.driver ∙ ap (λ n. spelling (tree_of_make n)) i.1); begins_ctr = refl; begins_gcm = refl; begins_hmac = refl }))
 one-known template.Pcrypt id x m p e =
     let k : is_aead (kind_of_make m) ≡ true = sym (ap is_aead p.kind) ∙ e in
     (m, inr (record { word = codes "pcrypt"; word_is = inl refl; wraps = pcrypt_wraps; wrapped = refl; kind = only_aead (kind_of_make m) k; planned = aead_planned (kind_of_make m) k; driver = enclosed-tree (codes "pcrypt") x.driver (tree_of_make m) p.driver }))
@@ -275,13 +298,14 @@ galois x y m n p q e =
 two-known : (t : Template) (x y : ℕ × Spec) (m n : Make) → IsPlainAs x.1 m → IsPlainAs y.1 n → admits_two t x.1 y.1 ≡ true → Known (over_two t (template_word t) x y)
 two-known template.Gcm x y m n p q e =
     let i = galois x y m n p q e in
-    (gcm i.0 i.1, inl (record { bare = refl; kind = refl; driver = i.2; begins_ctr = refl; begins_gcm = refl }))
+    (gcm i.0 i.1, inl (record { bare = refl; kind = refl; driver = i.2; begins_ctr = refl; begins_gcm = refl; begins_hmac = refl }))
 two-known template.GcmBase x y m n p q e =
     let i = galois x y m n p q e in
-    (gcm i.0 i.1, inl (record { bare = refl; kind = refl; driver = i.2; begins_ctr = refl; begins_gcm = refl }))
+    (gcm i.0 i.1, inl (record { bare = refl; kind = refl; driver = i.2; begins_ctr = refl; begins_gcm = refl; begins_hmac = refl }))
 two-known template.Authenc x y m n p q e =
-    let i = only_hmac m (sym (ap is_mac p.kind) ∙ left_true (is_mac x.1.kind) (is_skcipher y.1.kind) e) in
-    let j = authenc_over n (sym (ap is_skcipher q.kind) ∙ right_true (is_mac x.1.kind) (is_skcipher y.1.kind) e) in (
+    let has_hmac : Bool = is_mac x.1.kind && begins_with x.1.name (codes "hmac(") in
+    let i = only_hmac m (sym p.begins_hmac ∙ right_true (is_mac x.1.kind) (begins_with x.1.name (codes "hmac(")) (left_true has_hmac (is_skcipher y.1.kind) e)) in
+    let j = authenc_over n (sym (ap is_skcipher q.kind) ∙ right_true has_hmac (is_skcipher y.1.kind) e) in (
       with_hmac n,
       inl (record {
         bare = refl;
@@ -289,6 +313,7 @@ two-known template.Authenc x y m n p q e =
         driver = enclosed_two-tree (codes "authenc") x.1.driver y.1.driver hmac_tree (tree_of_make n) (p.driver ∙ ap (λ k. spelling (tree_of_make k)) i) q.driver ∙ ap spelling (sym j.tree);
         begins_ctr = j.no_ctr;
         begins_gcm = j.no_gcm;
+        begins_hmac = j.no_hmac;
       }),
     )
 two-known _ x y m n p q e = absurd cc
@@ -385,6 +410,7 @@ as_driver driver spec m p plain e =
         driver = i.1 ∙ p.driver;
         begins_ctr = ap (λ n. begins_with n (codes "ctr(")) i.0 ∙ p.begins_ctr;
         begins_gcm = ap (λ n. begins_with n (codes "gcm(")) i.0 ∙ p.begins_gcm;
+        begins_hmac = ap (λ n. begins_with n (codes "hmac(")) i.0 ∙ p.begins_hmac;
       }),
     )
 
@@ -405,14 +431,14 @@ some_driver (driver ∷ ds) (m ∷ ms) spec all plain e = by_either (λ f. some_
 
 pub driver-known : (spec : Spec) → spec.wrap ≡ wrap.Plain → is_built_in spec ≡ true → Known spec
 driver-known spec plain_wrap e =
-    some_driver drivers (cipher AesGeneric ∷ sha256 ∷ ghash GhashGeneric ∷ cipher AesTable ∷ cipher AesLanes ∷ ghash GhashTable ∷ []) spec (record { bare = refl; kind = refl; driver = refl; begins_ctr = refl; begins_gcm = refl }, (record { bare = refl; kind = refl; driver = refl; begins_ctr = refl; begins_gcm = refl }, (record { bare = refl; kind = refl; driver = refl; begins_ctr = refl; begins_gcm = refl }, (record { bare = refl; kind = refl; driver = refl; begins_ctr = refl; begins_gcm = refl }, (record { bare = refl; kind = refl; driver = refl; begins_ctr = refl; begins_gcm = refl }, (record { bare = refl; kind = refl; driver = refl; begins_ctr = refl; begins_gcm = refl }, tt)))))) plain_wrap e
+    some_driver drivers (cipher AesGeneric ∷ sha256 ∷ ghash GhashGeneric ∷ cipher AesTable ∷ cipher AesLanes ∷ ghash GhashTable ∷ []) spec (record { bare = refl; kind = refl; driver = refl; begins_ctr = refl; begins_gcm = refl; begins_hmac = refl }, (record { bare = refl; kind = refl; driver = refl; begins_ctr = refl; begins_gcm = refl; begins_hmac = refl }, (record { bare = refl; kind = refl; driver = refl; begins_ctr = refl; begins_gcm = refl; begins_hmac = refl }, (record { bare = refl; kind = refl; driver = refl; begins_ctr = refl; begins_gcm = refl; begins_hmac = refl }, (record { bare = refl; kind = refl; driver = refl; begins_ctr = refl; begins_gcm = refl; begins_hmac = refl }, (record { bare = refl; kind = refl; driver = refl; begins_ctr = refl; begins_gcm = refl; begins_hmac = refl }, tt)))))) plain_wrap e
 
 spec_at : {s t : Spec} → Some s ≡ Some t → s ≡ t
 spec_at e = cc
 
 -- the entries that stand from the start
 pub opening-known : (id : ℕ) (spec : Spec) → slice_get opening id ≡ Some spec → Known spec
-opening-known zero spec e = let f = spec_at e in subst Known f (cipher AesGeneric, inl (record { bare = refl; kind = refl; driver = refl; begins_ctr = refl; begins_gcm = refl }))
-opening-known (suc zero) spec e = let f = spec_at e in subst Known f (sha256, inl (record { bare = refl; kind = refl; driver = refl; begins_ctr = refl; begins_gcm = refl }))
-opening-known (suc (suc zero)) spec e = let f = spec_at e in subst Known f (ghash GhashGeneric, inl (record { bare = refl; kind = refl; driver = refl; begins_ctr = refl; begins_gcm = refl }))
+opening-known zero spec e = let f = spec_at e in subst Known f (cipher AesGeneric, inl (record { bare = refl; kind = refl; driver = refl; begins_ctr = refl; begins_gcm = refl; begins_hmac = refl }))
+opening-known (suc zero) spec e = let f = spec_at e in subst Known f (sha256, inl (record { bare = refl; kind = refl; driver = refl; begins_ctr = refl; begins_gcm = refl; begins_hmac = refl }))
+opening-known (suc (suc zero)) spec e = let f = spec_at e in subst Known f (ghash GhashGeneric, inl (record { bare = refl; kind = refl; driver = refl; begins_ctr = refl; begins_gcm = refl; begins_hmac = refl }))
 opening-known (suc (suc (suc id))) spec e = absurd cc

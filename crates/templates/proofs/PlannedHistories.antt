@@ -46,7 +46,7 @@ use Rattle.templates.proofs.Looks.{position_at}
 use Rattle.templates.proofs.Shapes.{by_shape, not_false, from_false}
 use Rattle.templates.proofs.Wrappers.{any_at}
 use Rattle.templates.proofs.PlainLooks.{found_bare, pending_text}
-use Rattle.templates.proofs.Makes.{Make, cipher, sha256, ghash, cbc, ctr, rfc3686, xts, gcm, rfc4106, hmac, authenc_cbc, authenc_ctr, authenc_rfc3686, authenc_xts, IsPlainAs, IsWrappedAs, Known, IsPlain, ArePlain, IsMadeSo, derived-plain, driver-known, opening-known, tree_of_make, over, right_true}
+use Rattle.templates.proofs.Makes.{Make, cipher, sha256, ghash, cbc, ctr, rfc3686, xts, gcm, rfc4106, ccm, hmac, cmac, authenc_cbc, authenc_ctr, authenc_rfc3686, authenc_xts, IsPlainAs, IsWrappedAs, Known, IsPlain, ArePlain, IsMadeSo, derived-plain, driver-known, opening-known, tree_of_make, over, right_true}
 
 -- what is known of the grammar
 pub record Grammar : Type 0 where
@@ -437,7 +437,13 @@ no_pcrypt (rfc4106 AesTable GhashGeneric) = refl
 no_pcrypt (rfc4106 AesTable GhashTable) = refl
 no_pcrypt (rfc4106 AesLanes GhashGeneric) = refl
 no_pcrypt (rfc4106 AesLanes GhashTable) = refl
+no_pcrypt (ccm AesGeneric) = refl
+no_pcrypt (ccm AesTable) = refl
+no_pcrypt (ccm AesLanes) = refl
 no_pcrypt hmac = refl
+no_pcrypt (cmac AesGeneric) = refl
+no_pcrypt (cmac AesTable) = refl
+no_pcrypt (cmac AesLanes) = refl
 no_pcrypt (authenc_cbc AesGeneric) = refl
 no_pcrypt (authenc_cbc AesTable) = refl
 no_pcrypt (authenc_cbc AesLanes) = refl
@@ -482,7 +488,13 @@ no_cryptd (rfc4106 AesTable GhashGeneric) = refl
 no_cryptd (rfc4106 AesTable GhashTable) = refl
 no_cryptd (rfc4106 AesLanes GhashGeneric) = refl
 no_cryptd (rfc4106 AesLanes GhashTable) = refl
+no_cryptd (ccm AesGeneric) = refl
+no_cryptd (ccm AesTable) = refl
+no_cryptd (ccm AesLanes) = refl
 no_cryptd hmac = refl
+no_cryptd (cmac AesGeneric) = refl
+no_cryptd (cmac AesTable) = refl
+no_cryptd (cmac AesLanes) = refl
 no_cryptd (authenc_cbc AesGeneric) = refl
 no_cryptd (authenc_cbc AesTable) = refl
 no_cryptd (authenc_cbc AesLanes) = refl

@@ -12,7 +12,7 @@ use Rattle.templates.specs.Table.{template_named, wrap_of, is_bare}
 use Rattle.templates.specs.Plans.{plan_at, bare_plan}
 use Rattle.templates.specs.Planned.{IsPlanned, Fits, root_wrap}
 use Rattle.templates.proofs.PlannedHistories.{Grammar}
-use Rattle.templates.proofs.Makes.{Make, cipher, sha256, ghash, cbc, ctr, rfc3686, xts, gcm, rfc4106, hmac, authenc_cbc, authenc_ctr, authenc_rfc3686, authenc_xts, IsPlainAs, IsWrappedAs, Known, tree_of_make, kind_of_make, over}
+use Rattle.templates.proofs.Makes.{Make, cipher, sha256, ghash, cbc, ctr, rfc3686, xts, gcm, rfc4106, ccm, hmac, cmac, authenc_cbc, authenc_ctr, authenc_rfc3686, authenc_xts, IsPlainAs, IsWrappedAs, Known, tree_of_make, kind_of_make, over}
 
 -- with room for one more template
 record IsSmall (t : Tree) : Type 0 where
@@ -51,7 +51,13 @@ make_small (rfc4106 AesTable GhashGeneric) = record { short = lit≤ tt; levels 
 make_small (rfc4106 AesTable GhashTable) = record { short = lit≤ tt; levels = lit≤ tt; arguments = lit≤ tt }
 make_small (rfc4106 AesLanes GhashGeneric) = record { short = lit≤ tt; levels = lit≤ tt; arguments = lit≤ tt }
 make_small (rfc4106 AesLanes GhashTable) = record { short = lit≤ tt; levels = lit≤ tt; arguments = lit≤ tt }
+make_small (ccm AesGeneric) = record { short = lit≤ tt; levels = lit≤ tt; arguments = lit≤ tt }
+make_small (ccm AesTable) = record { short = lit≤ tt; levels = lit≤ tt; arguments = lit≤ tt }
+make_small (ccm AesLanes) = record { short = lit≤ tt; levels = lit≤ tt; arguments = lit≤ tt }
 make_small hmac = record { short = lit≤ tt; levels = lit≤ tt; arguments = lit≤ tt }
+make_small (cmac AesGeneric) = record { short = lit≤ tt; levels = lit≤ tt; arguments = lit≤ tt }
+make_small (cmac AesTable) = record { short = lit≤ tt; levels = lit≤ tt; arguments = lit≤ tt }
+make_small (cmac AesLanes) = record { short = lit≤ tt; levels = lit≤ tt; arguments = lit≤ tt }
 make_small (authenc_cbc AesGeneric) = record { short = lit≤ tt; levels = lit≤ tt; arguments = lit≤ tt }
 make_small (authenc_cbc AesTable) = record { short = lit≤ tt; levels = lit≤ tt; arguments = lit≤ tt }
 make_small (authenc_cbc AesLanes) = record { short = lit≤ tt; levels = lit≤ tt; arguments = lit≤ tt }
@@ -97,7 +103,13 @@ make_read (rfc4106 AesTable GhashGeneric) = refl
 make_read (rfc4106 AesTable GhashTable) = refl
 make_read (rfc4106 AesLanes GhashGeneric) = refl
 make_read (rfc4106 AesLanes GhashTable) = refl
+make_read (ccm AesGeneric) = refl
+make_read (ccm AesTable) = refl
+make_read (ccm AesLanes) = refl
 make_read hmac = refl
+make_read (cmac AesGeneric) = refl
+make_read (cmac AesTable) = refl
+make_read (cmac AesLanes) = refl
 make_read (authenc_cbc AesGeneric) = refl
 make_read (authenc_cbc AesTable) = refl
 make_read (authenc_cbc AesLanes) = refl
@@ -144,7 +156,13 @@ make_fits (rfc4106 AesTable GhashGeneric) = refl
 make_fits (rfc4106 AesTable GhashTable) = refl
 make_fits (rfc4106 AesLanes GhashGeneric) = refl
 make_fits (rfc4106 AesLanes GhashTable) = refl
+make_fits (ccm AesGeneric) = refl
+make_fits (ccm AesTable) = refl
+make_fits (ccm AesLanes) = refl
 make_fits hmac = refl
+make_fits (cmac AesGeneric) = refl
+make_fits (cmac AesTable) = refl
+make_fits (cmac AesLanes) = refl
 make_fits (authenc_cbc AesGeneric) = refl
 make_fits (authenc_cbc AesTable) = refl
 make_fits (authenc_cbc AesLanes) = refl
@@ -191,7 +209,13 @@ make_plain (rfc4106 AesTable GhashGeneric) = refl
 make_plain (rfc4106 AesTable GhashTable) = refl
 make_plain (rfc4106 AesLanes GhashGeneric) = refl
 make_plain (rfc4106 AesLanes GhashTable) = refl
+make_plain (ccm AesGeneric) = refl
+make_plain (ccm AesTable) = refl
+make_plain (ccm AesLanes) = refl
 make_plain hmac = refl
+make_plain (cmac AesGeneric) = refl
+make_plain (cmac AesTable) = refl
+make_plain (cmac AesLanes) = refl
 make_plain (authenc_cbc AesGeneric) = refl
 make_plain (authenc_cbc AesTable) = refl
 make_plain (authenc_cbc AesLanes) = refl
@@ -243,7 +267,13 @@ make_bare (rfc4106 AesTable GhashGeneric) = refl
 make_bare (rfc4106 AesTable GhashTable) = refl
 make_bare (rfc4106 AesLanes GhashGeneric) = refl
 make_bare (rfc4106 AesLanes GhashTable) = refl
+make_bare (ccm AesGeneric) = refl
+make_bare (ccm AesTable) = refl
+make_bare (ccm AesLanes) = refl
 make_bare hmac = refl
+make_bare (cmac AesGeneric) = refl
+make_bare (cmac AesTable) = refl
+make_bare (cmac AesLanes) = refl
 make_bare (authenc_cbc AesGeneric) = refl
 make_bare (authenc_cbc AesTable) = refl
 make_bare (authenc_cbc AesLanes) = refl

@@ -5,7 +5,7 @@ use Rattle.alg_names.specs.Name.{Tree, Args, node, end, arg, list_of}
 use Rattle.alg_names.specs.Built.{nodes, args_from}
 use Rattle.alg_names.specs.Built.{nodes_at, args_from-list_of}
 use Rattle.templates.specs.declared.template_words.Template.{Template}
-use Rattle.templates.specs.declared.template_words.Template.TheVariants.{Cbc, Ctr, Rfc3686, Xts, Gcm, GcmBase, Rfc4106, Hmac, Authenc, Pcrypt, Cryptd}
+use Rattle.templates.specs.declared.template_words.Template.TheVariants.{Cbc, Ctr, Rfc3686, Xts, Gcm, GcmBase, Rfc4106, Ccm, Hmac, Cmac, Authenc, Pcrypt, Cryptd}
 use Rattle.templates.specs.Nesting.{has_wrapper, any_wrapper, is_nested_well, is_wrapper_word}
 use Rattle.templates.specs.Table.{template_named, children_of, asked, asked_by}
 use Rattle.templates.specs.Resolving.{weight}
@@ -35,9 +35,15 @@ asked_shape GcmBase (x ∷ y ∷ z ∷ xs) names e = absurd cc
 asked_shape Rfc4106 [] names e = absurd cc
 asked_shape Rfc4106 (x ∷ []) names e = inl (let f : names ≡ x ∷ [] = cc in f)
 asked_shape Rfc4106 (x ∷ y ∷ xs) names e = absurd cc
+asked_shape Ccm [] names e = absurd cc
+asked_shape Ccm (x ∷ []) names e = inl (let f : names ≡ x ∷ [] = cc in f)
+asked_shape Ccm (x ∷ y ∷ xs) names e = absurd cc
 asked_shape Hmac [] names e = absurd cc
 asked_shape Hmac (x ∷ []) names e = inl (let f : names ≡ x ∷ [] = cc in f)
 asked_shape Hmac (x ∷ y ∷ xs) names e = absurd cc
+asked_shape Cmac [] names e = absurd cc
+asked_shape Cmac (x ∷ []) names e = inl (let f : names ≡ x ∷ [] = cc in f)
+asked_shape Cmac (x ∷ y ∷ xs) names e = absurd cc
 asked_shape Authenc [] names e = absurd cc
 asked_shape Authenc (x ∷ []) names e = absurd cc
 asked_shape Authenc (x ∷ y ∷ []) names e = inl (let f : names ≡ x ∷ y ∷ [] = cc in f)

@@ -4,7 +4,7 @@ use Rattle.std.specs.Str.{bytes_eq}
 use Rattle.std.proofs.lemmas.Slice.Eq.{bytes_eq-Decides}
 use Rattle.alg_names.specs.Name.{Tree, Args, node, end, arg, args_of, with_word_of}
 use Rattle.templates.specs.declared.template_words.Template.{Template}
-use Rattle.templates.specs.declared.template_words.Template.TheVariants.{Cbc, Ctr, Rfc3686, Xts, Gcm, GcmBase, Rfc4106, Hmac, Authenc, Pcrypt, Cryptd}
+use Rattle.templates.specs.declared.template_words.Template.TheVariants.{Cbc, Ctr, Rfc3686, Xts, Gcm, GcmBase, Rfc4106, Ccm, Hmac, Cmac, Authenc, Pcrypt, Cryptd}
 use Rattle.templates.specs.Table.{template_named, asked}
 
 -- the word of a template
@@ -16,52 +16,58 @@ template_word Xts = codes "xts"
 template_word Gcm = codes "gcm"
 template_word GcmBase = codes "gcm_base"
 template_word Rfc4106 = codes "rfc4106"
+template_word Ccm = codes "ccm"
 template_word Hmac = codes "hmac"
+template_word Cmac = codes "cmac"
 template_word Authenc = codes "authenc"
 template_word Pcrypt = codes "pcrypt"
 template_word Cryptd = codes "cryptd"
 
 -- the first word that a word equals names its template
-abbrev first_named : (a b c d e f g h i j k : Bool) → Option Template
-first_named a b c d e f g h i j k =
-    if a then Some Cbc else (if b then Some Ctr else (if c then Some Rfc3686 else (if d then Some Xts else (if e then Some Gcm else (if f then Some GcmBase else (if g then Some Rfc4106 else (if h then Some Hmac else (if i then Some Authenc else (if j then Some Pcrypt else (if k then Some Cryptd else None))))))))))
+abbrev first_named : (a b c d e f g h i j k l m : Bool) → Option Template
+first_named a b c d e f g h i j k l m =
+    if a then Some Cbc else (if b then Some Ctr else (if c then Some Rfc3686 else (if d then Some Xts else (if e then Some Gcm else (if f then Some GcmBase else (if g then Some Rfc4106 else (if h then Some Ccm else (if i then Some Hmac else (if j then Some Cmac else (if k then Some Authenc else (if l then Some Pcrypt else (if m then Some Cryptd else None))))))))))))
 
-abbrev test_of : Template → (a b c d e f g h i j k : Bool) → Bool
-test_of Cbc a b c d e f g h i j k = a
-test_of Ctr a b c d e f g h i j k = b
-test_of Rfc3686 a b c d e f g h i j k = c
-test_of Xts a b c d e f g h i j k = d
-test_of Gcm a b c d e f g h i j k = e
-test_of GcmBase a b c d e f g h i j k = f
-test_of Rfc4106 a b c d e f g h i j k = g
-test_of Hmac a b c d e f g h i j k = h
-test_of Authenc a b c d e f g h i j k = i
-test_of Pcrypt a b c d e f g h i j k = j
-test_of Cryptd a b c d e f g h i j k = k
+abbrev test_of : Template → (a b c d e f g h i j k l m : Bool) → Bool
+test_of Cbc a b c d e f g h i j k l m = a
+test_of Ctr a b c d e f g h i j k l m = b
+test_of Rfc3686 a b c d e f g h i j k l m = c
+test_of Xts a b c d e f g h i j k l m = d
+test_of Gcm a b c d e f g h i j k l m = e
+test_of GcmBase a b c d e f g h i j k l m = f
+test_of Rfc4106 a b c d e f g h i j k l m = g
+test_of Ccm a b c d e f g h i j k l m = h
+test_of Hmac a b c d e f g h i j k l m = i
+test_of Cmac a b c d e f g h i j k l m = j
+test_of Authenc a b c d e f g h i j k l m = k
+test_of Pcrypt a b c d e f g h i j k l m = l
+test_of Cryptd a b c d e f g h i j k l m = m
 
 same_template : {t u : Template} → Some t ≡ Some u → t ≡ u
 same_template e = cc
 
-test_passed : (a b c d e f g h i j k : Bool) (t : Template) → first_named a b c d e f g h i j k ≡ Some t → test_of t a b c d e f g h i j k ≡ true
-test_passed true b c d e f g h i j k t q = subst (λ u. test_of u true b c d e f g h i j k ≡ true) (same_template q) refl
-test_passed false true c d e f g h i j k t q = subst (λ u. test_of u false true c d e f g h i j k ≡ true) (same_template q) refl
-test_passed false false true d e f g h i j k t q = subst (λ u. test_of u false false true d e f g h i j k ≡ true) (same_template q) refl
-test_passed false false false true e f g h i j k t q = subst (λ u. test_of u false false false true e f g h i j k ≡ true) (same_template q) refl
-test_passed false false false false true f g h i j k t q = subst (λ u. test_of u false false false false true f g h i j k ≡ true) (same_template q) refl
-test_passed false false false false false true g h i j k t q = subst (λ u. test_of u false false false false false true g h i j k ≡ true) (same_template q) refl
-test_passed false false false false false false true h i j k t q = subst (λ u. test_of u false false false false false false true h i j k ≡ true) (same_template q) refl
-test_passed false false false false false false false true i j k t q = subst (λ u. test_of u false false false false false false false true i j k ≡ true) (same_template q) refl
-test_passed false false false false false false false false true j k t q = subst (λ u. test_of u false false false false false false false false true j k ≡ true) (same_template q) refl
-test_passed false false false false false false false false false true k t q = subst (λ u. test_of u false false false false false false false false false true k ≡ true) (same_template q) refl
-test_passed false false false false false false false false false false true t q = subst (λ u. test_of u false false false false false false false false false false true ≡ true) (same_template q) refl
-test_passed false false false false false false false false false false false t q = absurd cc
+test_passed : (a b c d e f g h i j k l m : Bool) (t : Template) → first_named a b c d e f g h i j k l m ≡ Some t → test_of t a b c d e f g h i j k l m ≡ true
+test_passed true b c d e f g h i j k l m t q = subst (λ u. test_of u true b c d e f g h i j k l m ≡ true) (same_template q) refl
+test_passed false true c d e f g h i j k l m t q = subst (λ u. test_of u false true c d e f g h i j k l m ≡ true) (same_template q) refl
+test_passed false false true d e f g h i j k l m t q = subst (λ u. test_of u false false true d e f g h i j k l m ≡ true) (same_template q) refl
+test_passed false false false true e f g h i j k l m t q = subst (λ u. test_of u false false false true e f g h i j k l m ≡ true) (same_template q) refl
+test_passed false false false false true f g h i j k l m t q = subst (λ u. test_of u false false false false true f g h i j k l m ≡ true) (same_template q) refl
+test_passed false false false false false true g h i j k l m t q = subst (λ u. test_of u false false false false false true g h i j k l m ≡ true) (same_template q) refl
+test_passed false false false false false false true h i j k l m t q = subst (λ u. test_of u false false false false false false true h i j k l m ≡ true) (same_template q) refl
+test_passed false false false false false false false true i j k l m t q = subst (λ u. test_of u false false false false false false false true i j k l m ≡ true) (same_template q) refl
+test_passed false false false false false false false false true j k l m t q = subst (λ u. test_of u false false false false false false false false true j k l m ≡ true) (same_template q) refl
+test_passed false false false false false false false false false true k l m t q = subst (λ u. test_of u false false false false false false false false false true k l m ≡ true) (same_template q) refl
+test_passed false false false false false false false false false false true l m t q = subst (λ u. test_of u false false false false false false false false false false true l m ≡ true) (same_template q) refl
+test_passed false false false false false false false false false false false true m t q = subst (λ u. test_of u false false false false false false false false false false false true m ≡ true) (same_template q) refl
+test_passed false false false false false false false false false false false false true t q = subst (λ u. test_of u false false false false false false false false false false false false true ≡ true) (same_template q) refl
+test_passed false false false false false false false false false false false false false t q = absurd cc
 
 -- a word that names a template is its word
 pub named_word : (w : List ℕ) (t : Template) → template_named w ≡ Some t → w ≡ template_word t
 unfolding template_named
-named_word w t q = (bytes_eq-Decides w (template_word t)).0 (by_template t (test_passed _ _ _ _ _ _ _ _ _ _ _ t q))
+named_word w t q = (bytes_eq-Decides w (template_word t)).0 (by_template t (test_passed _ _ _ _ _ _ _ _ _ _ _ _ _ t q))
   where
-    by_template : (u : Template) → test_of u (bytes_eq w (codes "cbc")) (bytes_eq w (codes "ctr")) (bytes_eq w (codes "rfc3686")) (bytes_eq w (codes "xts")) (bytes_eq w (codes "gcm")) (bytes_eq w (codes "gcm_base")) (bytes_eq w (codes "rfc4106")) (bytes_eq w (codes "hmac")) (bytes_eq w (codes "authenc")) (bytes_eq w (codes "pcrypt")) (bytes_eq w (codes "cryptd")) ≡ true → bytes_eq w (template_word u) ≡ true
+    by_template : (u : Template) → test_of u (bytes_eq w (codes "cbc")) (bytes_eq w (codes "ctr")) (bytes_eq w (codes "rfc3686")) (bytes_eq w (codes "xts")) (bytes_eq w (codes "gcm")) (bytes_eq w (codes "gcm_base")) (bytes_eq w (codes "rfc4106")) (bytes_eq w (codes "ccm")) (bytes_eq w (codes "hmac")) (bytes_eq w (codes "cmac")) (bytes_eq w (codes "authenc")) (bytes_eq w (codes "pcrypt")) (bytes_eq w (codes "cryptd")) ≡ true → bytes_eq w (template_word u) ≡ true
     by_template Cbc e = e
     by_template Ctr e = e
     by_template Rfc3686 e = e
@@ -69,7 +75,9 @@ named_word w t q = (bytes_eq-Decides w (template_word t)).0 (by_template t (test
     by_template Gcm e = e
     by_template GcmBase e = e
     by_template Rfc4106 e = e
+    by_template Ccm e = e
     by_template Hmac e = e
+    by_template Cmac e = e
     by_template Authenc e = e
     by_template Pcrypt e = e
     by_template Cryptd e = e

@@ -2,6 +2,7 @@ pub mod Names
 pub mod Table
 pub mod Nesting
 pub mod Resolving
+pub mod Asking
 pub mod Looking
 pub mod Plans
 pub mod Trial

@@ -12,7 +12,7 @@ use Rattle.templates.specs.declared.driver_plans.AesForm.TheVariants.{AesGeneric
 use Rattle.templates.specs.declared.driver_plans.GhashForm.{GhashForm}
 use Rattle.templates.specs.declared.driver_plans.GhashForm.TheVariants.{GhashGeneric, GhashTable}
 use Rattle.templates.specs.declared.driver_plans.Plan.{Plan}
-use Rattle.templates.specs.declared.driver_plans.Plan.TheVariants.{Cbc, Ctr, Rfc3686, Xts, Gcm, Rfc4106, Hmac, AuthencCbc, AuthencCtr, AuthencRfc3686, AuthencXts}
+use Rattle.templates.specs.declared.driver_plans.Plan.TheVariants.{Cbc, Ctr, Rfc3686, Xts, Gcm, Rfc4106, Ccm, Hmac, Cmac, AuthencCbc, AuthencCtr, AuthencRfc3686, AuthencXts}
 use Rattle.templates.specs.Table.{template_named}
 
 -- a word alone
@@ -74,7 +74,9 @@ authentic _ _ = None
 abbrev pub bare_over : Tree → Option Template → List Tree → Option Plan
 bare_over t (Some template.GcmBase) args = gcm_plan t
 bare_over t (Some template.Rfc4106) (x ∷ []) = salted (gcm_plan x)
+bare_over t (Some template.Ccm) (x ∷ []) = option_map (λ aes. Ccm aes) (aes_form x)
 bare_over t (Some template.Hmac) args = if is_hmac t then Some Hmac else None
+bare_over t (Some template.Cmac) (x ∷ []) = option_map (λ aes. Cmac aes) (aes_form x)
 bare_over t (Some template.Authenc) (a ∷ e ∷ []) = authentic (is_hmac a) (cipher_plan e)
 bare_over t _ args = cipher_plan t
 

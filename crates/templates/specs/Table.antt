@@ -14,7 +14,7 @@ use Rattle.alg_registry.specs.Made.{Templates}
 use Rattle.alg_registry.specs.Rows.{opened, opening}
 use Rattle.alg_names.specs.Name.{Tree, node, end, arg, word_of, args_of, depth, width, spelling}
 use Rattle.templates.specs.declared.template_words.Template.{Template}
-use Rattle.templates.specs.declared.template_words.Template.TheVariants.{Cbc, Ctr, Rfc3686, Xts, Gcm, GcmBase, Rfc4106, Hmac, Authenc, Pcrypt, Cryptd}
+use Rattle.templates.specs.declared.template_words.Template.TheVariants.{Cbc, Ctr, Rfc3686, Xts, Gcm, GcmBase, Rfc4106, Ccm, Hmac, Cmac, Authenc, Pcrypt, Cryptd}
 use Rattle.templates.specs.declared.build_errors.BuildErr.{BuildErr}
 use Rattle.templates.specs.declared.build_errors.BuildErr.TheVariants.{Fault, Memory}
 use Rattle.alg_names.specs.Spelled.{tree_of}
@@ -30,10 +30,12 @@ template_named word =
     (if bytes_eq word (codes "gcm") then Some Gcm else
     (if bytes_eq word (codes "gcm_base") then Some GcmBase else
     (if bytes_eq word (codes "rfc4106") then Some Rfc4106 else
+    (if bytes_eq word (codes "ccm") then Some Ccm else
     (if bytes_eq word (codes "hmac") then Some Hmac else
+    (if bytes_eq word (codes "cmac") then Some Cmac else
     (if bytes_eq word (codes "authenc") then Some Authenc else
     (if bytes_eq word (codes "pcrypt") then Some Pcrypt else
-    (if bytes_eq word (codes "cryptd") then Some Cryptd else None))))))))))
+    (if bytes_eq word (codes "cryptd") then Some Cryptd else None))))))))))))
 
 -- the names that the template asks for, over its arguments
 abbrev pub asked : Template → List Tree → Result (List Tree) Errno
@@ -44,7 +46,9 @@ asked Xts (x ∷ []) = Ok (x ∷ [])
 asked Gcm (x ∷ []) = Ok (node (codes "ctr") (arg x end) ∷ node (codes "ghash") end ∷ [])
 asked GcmBase (c ∷ g ∷ []) = Ok (c ∷ g ∷ [])
 asked Rfc4106 (x ∷ []) = Ok (x ∷ [])
+asked Ccm (x ∷ []) = Ok (x ∷ [])
 asked Hmac (x ∷ []) = Ok (x ∷ [])
+asked Cmac (x ∷ []) = Ok (x ∷ [])
 asked Authenc (a ∷ e ∷ []) = Ok (a ∷ e ∷ [])
 asked Pcrypt (x ∷ []) = Ok (x ∷ [])
 asked Cryptd (x ∷ []) = Ok (x ∷ [])
@@ -89,14 +93,16 @@ is_bare _ = false
 abbrev pub begins_with : List ℕ → List ℕ → Bool
 begins_with text front = bytes_eq (take (length front) text) front
 
--- a template takes only a child of the right kind
+-- a template takes only a child of the right kind, and authenc of the MACs HMAC alone
 abbrev pub admits : Template → Spec → Bool
 admits Cbc x = is_cipher x.kind
 admits Ctr x = is_cipher x.kind
 admits Rfc3686 x = begins_with x.name (codes "ctr(")
 admits Xts x = is_cipher x.kind
 admits Rfc4106 x = begins_with x.name (codes "gcm(") && is_bare x.wrap
+admits Ccm x = is_cipher x.kind
 admits Hmac x = is_hash x.kind
+admits Cmac x = is_cipher x.kind
 admits Pcrypt x = is_aead x.kind
 admits Cryptd x = is_skcipher x.kind || is_aead x.kind || is_mac x.kind
 admits _ x = false
@@ -104,7 +110,7 @@ admits _ x = false
 abbrev pub admits_two : Template → Spec → Spec → Bool
 admits_two Gcm c g = begins_with c.name (codes "ctr(") && is_ghash g.kind
 admits_two GcmBase c g = begins_with c.name (codes "ctr(") && is_ghash g.kind
-admits_two Authenc a e = is_mac a.kind && is_skcipher e.kind
+admits_two Authenc a e = is_mac a.kind && begins_with a.name (codes "hmac(") && is_skcipher e.kind
 admits_two _ x y = false
 
 -- `word(inner)`
@@ -129,7 +135,9 @@ name_over _ word name = enclosed word name
 
 abbrev pub kind_over : Template → Kind → Kind
 kind_over Rfc4106 kind = Aead
+kind_over Ccm kind = Aead
 kind_over Hmac kind = Mac
+kind_over Cmac kind = Mac
 kind_over Pcrypt kind = Aead
 kind_over Cryptd kind = kind
 kind_over _ kind = Skcipher

@@ -30,7 +30,9 @@ pub enum Plan {
     Xts(AesForm),
     Gcm(AesForm, GhashForm),
     Rfc4106(AesForm, GhashForm),
+    Ccm(AesForm),
     Hmac,
+    Cmac(AesForm),
     AuthencCbc(AesForm),
     AuthencCtr(AesForm),
     AuthencRfc3686(AesForm),
@@ -159,6 +161,10 @@ fn bare(name: &Name) -> Option<Plan>
     match (template_of(name.word()), name.args()) {
         (Some(Template::GcmBase), _) => gcm_of_name(name),
         (Some(Template::Rfc4106), [only]) => salt(gcm_of_name(only)),
+        (Some(Template::Ccm), [only]) => match aes_of(only) {
+            Some(aes) => Some(Plan::Ccm(aes)),
+            None => None,
+        },
         (Some(Template::Hmac), _) => {
             if is_hmac_name(name) {
                 Some(Plan::Hmac)
@@ -166,6 +172,10 @@ fn bare(name: &Name) -> Option<Plan>
                 None
             }
         }
+        (Some(Template::Cmac), [only]) => match aes_of(only) {
+            Some(aes) => Some(Plan::Cmac(aes)),
+            None => None,
+        },
         (Some(Template::Authenc), [mac, cipher]) => {
             authenticate(is_hmac_name(mac), cipher_of(cipher))
         }

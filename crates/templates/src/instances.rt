@@ -58,7 +58,9 @@ fn is_admitted(template: Template, child: &Spec) -> bool
     ensures { result ≡ admits template child.now }
 {
     match template {
-        Template::Cbc | Template::Ctr | Template::Xts => matches!(child.kind, Kind::Cipher),
+        Template::Cbc | Template::Ctr | Template::Xts | Template::Ccm | Template::Cmac => {
+            matches!(child.kind, Kind::Cipher)
+        }
         Template::Rfc3686 => starts_with(child.name.as_slice(), b"ctr("),
         Template::Rfc4106 => {
             starts_with(child.name.as_slice(), b"gcm(") && matches!(child.wrap, Wrap::Plain)
@@ -78,7 +80,9 @@ fn are_admitted(template: Template, first: &Spec, second: &Spec) -> bool
             starts_with(first.name.as_slice(), b"ctr(") && matches!(second.kind, Kind::Ghash)
         }
         Template::Authenc => {
-            matches!(first.kind, Kind::Mac) && matches!(second.kind, Kind::Skcipher)
+            matches!(first.kind, Kind::Mac)
+                && starts_with(first.name.as_slice(), b"hmac(")
+                && matches!(second.kind, Kind::Skcipher)
         }
         _ => false,
     }
@@ -103,8 +107,8 @@ fn kind_over_child(template: Template, kind: Kind) -> Kind
     ensures { result ≡ kind_over template kind }
 {
     match template {
-        Template::Rfc4106 | Template::Pcrypt => Kind::Aead,
-        Template::Hmac => Kind::Mac,
+        Template::Rfc4106 | Template::Ccm | Template::Pcrypt => Kind::Aead,
+        Template::Hmac | Template::Cmac => Kind::Mac,
         Template::Cryptd => kind,
         _ => Kind::Skcipher,
     }

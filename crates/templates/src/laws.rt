@@ -6,6 +6,9 @@ ghost use Rattle.alg_registry.specs.declared.entry.RegEntry.{RegEntry};
 ghost use Rattle.alg_registry.specs.Legal.{LegalReg};
 ghost use Rattle.alg_registry.specs.Made.{Made};
 ghost use Rattle.alg_registry.specs.Rows.{registered};
+ghost use Rattle.alg_names.specs.Name.{Tree};
+ghost use Rattle.templates.specs.Asking.{IsTableAt, AsksForLess};
+ghost use Rattle.templates.specs.Names.{IsKnown};
 ghost use Rattle.templates.specs.Table.{table};
 ghost use Rattle.templates.specs.Planned.{IsPlanned};
 ghost use Rattle.templates.specs.Trial.{cbc_with, cbc_spec, ctr_spec};
@@ -17,6 +20,12 @@ pub fn faithful_ends()
     ensures built { Made table (cbc_with (EndAnswer.Built 3 cbc_spec)) }
     ensures other { ¬ Made table (cbc_with (EndAnswer.Built 3 ctr_spec)) }
     ensures failed { ¬ Made table (cbc_with (EndAnswer.Failed ENOENT)) }
+{}
+
+/// What the table says of a name is what the definitions say of its tree, and what a name asks for is less than the name.
+pub fn names_in_the_table()
+    ensures table { (name : Tree) → IsKnown name → IsTableAt name }
+    ensures less { (name : Tree) → AsksForLess name }
 {}
 
 /// Whatever was listed or built: its driver is a name within the limits, whose root says how it is wrapped, and the plan

@@ -12,7 +12,9 @@ pub enum Template {
     Gcm,
     GcmBase,
     Rfc4106,
+    Ccm,
     Hmac,
+    Cmac,
     Authenc,
     Pcrypt,
     Cryptd,
@@ -37,8 +39,12 @@ pub(crate) fn template_of(word: &[u8]) -> Option<Template>
         Some(Template::GcmBase)
     } else if word == b"rfc4106".as_slice() {
         Some(Template::Rfc4106)
+    } else if word == b"ccm".as_slice() {
+        Some(Template::Ccm)
     } else if word == b"hmac".as_slice() {
         Some(Template::Hmac)
+    } else if word == b"cmac".as_slice() {
+        Some(Template::Cmac)
     } else if word == b"authenc".as_slice() {
         Some(Template::Authenc)
     } else if word == b"pcrypt".as_slice() {

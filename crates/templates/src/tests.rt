@@ -138,6 +138,18 @@ fn each_template_over_each_kind(rt: HostRuntime) -> Result<(), Fail> {
             [skcipher, no, no, no, no, no],
         ),
         (
+            b"ccm(x)".as_slice(),
+            b"x".as_slice(),
+            Wrap::Plain,
+            [aead, no, no, no, no, no],
+        ),
+        (
+            b"cmac(x)".as_slice(),
+            b"x".as_slice(),
+            Wrap::Plain,
+            [mac, no, no, no, no, no],
+        ),
+        (
             b"lrw(x)".as_slice(),
             b"x".as_slice(),
             Wrap::Plain,
@@ -155,23 +167,35 @@ fn each_template_over_each_kind(rt: HostRuntime) -> Result<(), Fail> {
 
 #[test]
 fn each_template_over_two_kinds(rt: HostRuntime) -> Result<(), Fail> {
-    for first in KINDS {
-        for second in KINDS {
-            let below = [
-                (7, entry(&rt, b"ctr(x)", b"x", first, Wrap::Plain, 1)?),
-                (8, entry(&rt, b"y", b"y", second, Wrap::Plain, 1)?),
-            ];
-            let is_counter_mode = matches!(second, Kind::Ghash);
-            let is_authenc = matches!((first, second), (Kind::Mac, Kind::Skcipher));
-            assert_eq!(rt; kind_over(&rt, b"gcm(x)", &below)?.is_ok(), is_counter_mode);
-            assert_eq!(rt;
-                kind_over(&rt, b"gcm_base(x,y)", &below)?.is_ok(),
-                is_counter_mode
-            );
-            assert_eq!(rt;
-                kind_over(&rt, b"authenc(x,y)", &below)?.is_ok(),
-                is_authenc
-            );
+    let table = [
+        (b"gcm(x)".as_slice(), b"ctr(x)".as_slice()),
+        (b"gcm_base(x,y)".as_slice(), b"ctr(x)".as_slice()),
+        (b"gcm(x)".as_slice(), b"hmac(x)".as_slice()),
+        (b"authenc(x,y)".as_slice(), b"hmac(x)".as_slice()),
+        (b"authenc(x,y)".as_slice(), b"cmac(x)".as_slice()),
+        (b"authenc(x,y)".as_slice(), b"hmac".as_slice()),
+    ];
+    for (text, name) in table {
+        for first in KINDS {
+            for second in KINDS {
+                let below = [
+                    (7, entry(&rt, name, b"x", first, Wrap::Plain, 1)?),
+                    (8, entry(&rt, b"y", b"y", second, Wrap::Plain, 1)?),
+                ];
+                let is_made = if name == b"ctr(x)".as_slice() {
+                    matches!(second, Kind::Ghash)
+                } else {
+                    text == b"authenc(x,y)".as_slice()
+                        && name == b"hmac(x)".as_slice()
+                        && matches!((first, second), (Kind::Mac, Kind::Skcipher))
+                };
+                let want = if is_made {
+                    Ok(Kind::Aead)
+                } else {
+                    Err(Errno::EINVAL)
+                };
+                assert_eq!(rt; kind_over(&rt, text, &below)?, want);
+            }
         }
     }
     Ok(())
@@ -220,6 +244,24 @@ fn instances_over_one(rt: HostRuntime) -> Result<(), Fail> {
             100,
             b"hmac(sha256)".as_slice(),
             b"hmac(d)".as_slice(),
+            100,
+        ),
+        (
+            b"ccm(aes)".as_slice(),
+            Kind::Cipher,
+            b"aes".as_slice(),
+            100,
+            b"ccm(aes)".as_slice(),
+            b"ccm(d)".as_slice(),
+            100,
+        ),
+        (
+            b"cmac(z)".as_slice(),
+            Kind::Cipher,
+            b"aes".as_slice(),
+            100,
+            b"cmac(aes)".as_slice(),
+            b"cmac(d)".as_slice(),
             100,
         ),
         (
@@ -368,6 +410,8 @@ fn asks_for_children(rt: HostRuntime) -> Result<(), Fail> {
         (b"gcm(a,b)".as_slice(), Errno::EINVAL),
         (b"authenc(a)".as_slice(), Errno::EINVAL),
         (b"xts(a,b)".as_slice(), Errno::EINVAL),
+        (b"ccm(a,b)".as_slice(), Errno::EINVAL),
+        (b"cmac".as_slice(), Errno::EINVAL),
         (b"lrw(a,b)".as_slice(), Errno::ENOENT),
         (b"aes".as_slice(), Errno::ENOENT),
     ];
@@ -414,7 +458,11 @@ fn plans_of_drivers(rt: HostRuntime) -> Result<(), Fail> {
             b"rfc4106(gcm_base(ctr(aes-generic),ghash-generic))".as_slice(),
             Ok(Plan::Rfc4106(aes, ghash)),
         ),
+        (b"pcrypt(ccm(aes-generic))".as_slice(), Ok(Plan::Ccm(aes))),
+        (b"ccm(ctr(aes-generic))".as_slice(), Err(Errno::EINVAL)),
         (b"hmac(sha256-generic)".as_slice(), Ok(Plan::Hmac)),
+        (b"cryptd(cmac(aes-generic))".as_slice(), Ok(Plan::Cmac(aes))),
+        (b"cmac(sha256-generic)".as_slice(), Err(Errno::EINVAL)),
         (
             b"authenc(hmac(sha256-generic),cbc(aes-generic))".as_slice(),
             Ok(Plan::AuthencCbc(aes)),
@@ -430,6 +478,10 @@ fn plans_of_drivers(rt: HostRuntime) -> Result<(), Fail> {
         (
             b"authenc(hmac(sha256-generic),xts(aes-generic))".as_slice(),
             Ok(Plan::AuthencXts(aes)),
+        ),
+        (
+            b"authenc(cmac(aes-generic),cbc(aes-generic))".as_slice(),
+            Err(Errno::EINVAL),
         ),
         (b"aes-generic".as_slice(), Err(Errno::EINVAL)),
         (b"ghash-generic".as_slice(), Err(Errno::EINVAL)),
@@ -477,6 +529,12 @@ fn builds_children_first(rt: HostRuntime) -> Result<(), Fail> {
         (b"cbc(sha256)".as_slice(), Err(Errno::EINVAL)),
         (b"cbc(nothing)".as_slice(), Err(Errno::ENOENT)),
         (b"rfc4106(gcm(aes))".as_slice(), Ok(9)),
+        (
+            b"authenc(cmac(aes),cbc(aes))".as_slice(),
+            Err(Errno::EINVAL),
+        ),
+        (b"cmac(aes)".as_slice(), Ok(10)),
+        (b"pcrypt(ccm(aes))".as_slice(), Ok(12)),
     ];
     for (text, answer) in table {
         assert_eq!(rt; resolved(&rt, &mut registry, text)?, answer);

@@ -15,7 +15,7 @@ use Rattle.templates.specs.declared.driver_plans.AesForm.TheVariants.{AesGeneric
 use Rattle.templates.specs.declared.driver_plans.GhashForm.{GhashForm}
 use Rattle.templates.specs.declared.driver_plans.GhashForm.TheVariants.{GhashGeneric, GhashTable}
 use Rattle.templates.specs.declared.driver_plans.Plan.{Plan}
-use Rattle.templates.specs.declared.driver_plans.Plan.TheVariants.{Cbc, Ctr, Rfc3686, Xts, Gcm, Rfc4106, Hmac, AuthencCbc, AuthencCtr, AuthencRfc3686, AuthencXts}
+use Rattle.templates.specs.declared.driver_plans.Plan.TheVariants.{Cbc, Ctr, Rfc3686, Xts, Gcm, Rfc4106, Ccm, Hmac, Cmac, AuthencCbc, AuthencCtr, AuthencRfc3686, AuthencXts}
 use Rattle.templates.specs.Plans.{is_word, aes_form, ghash_form, ctr_over, ctr_form, gcm_of, gcm_over, gcm_plan, salted, hmac_over, is_hmac, cipher_over, cipher_plan, authentic, bare_over, bare_plan, plan_over, plan_at}
 use Rattle.transforms.specs.Drivers.{over, over_two, aes_driver, ghash_driver, ctr_driver, gcm_driver, hmac_driver, driver_of, unwrapped_over, unwrapped}
 
@@ -138,6 +138,12 @@ bare_is (node w ts) p e = by_shape (template_named w) ts refl e
     by_shape (Some template.GcmBase) us n f = gcm_is (node w us) p f
     by_shape (Some template.Rfc4106) (arg x end) n f = salted_is x (gcm_plan x) p w (named_word w template.Rfc4106 n) refl f
     by_shape (Some template.Hmac) us n f = hmac_bare (node w us) (is_hmac (node w us)) p refl f
+    by_shape (Some template.Ccm) (arg x end) n f =
+        let m = mapped (λ aes. Ccm aes) (aes_form x) p f in
+        one_of w (codes "ccm") x (aes_driver m.0) (named_word w template.Ccm n) (aes_is x m.0 m.1) ∙ ap driver_of m.2
+    by_shape (Some template.Cmac) (arg x end) n f =
+        let m = mapped (λ aes. Cmac aes) (aes_form x) p f in
+        one_of w (codes "cmac") x (aes_driver m.0) (named_word w template.Cmac n) (aes_is x m.0 m.1) ∙ ap driver_of m.2
     by_shape (Some template.Authenc) (arg a (arg e end)) n f = authentic_is a e (is_hmac a) (cipher_plan e) p w (named_word w template.Authenc n) refl refl f
     by_shape o us n f = cipher_is (node w us) p f
 
@@ -175,7 +181,13 @@ plan_of_driver (Rfc4106 AesTable GhashGeneric) = refl
 plan_of_driver (Rfc4106 AesTable GhashTable) = refl
 plan_of_driver (Rfc4106 AesLanes GhashGeneric) = refl
 plan_of_driver (Rfc4106 AesLanes GhashTable) = refl
+plan_of_driver (Ccm AesGeneric) = refl
+plan_of_driver (Ccm AesTable) = refl
+plan_of_driver (Ccm AesLanes) = refl
 plan_of_driver Hmac = refl
+plan_of_driver (Cmac AesGeneric) = refl
+plan_of_driver (Cmac AesTable) = refl
+plan_of_driver (Cmac AesLanes) = refl
 plan_of_driver (AuthencCbc AesGeneric) = refl
 plan_of_driver (AuthencCbc AesTable) = refl
 plan_of_driver (AuthencCbc AesLanes) = refl

@@ -13,7 +13,7 @@ use Rattle.transforms.specs.Aeads.{IsAead}
 use Rattle.transforms.specs.Ciphers as ciphers
 use Rattle.transforms.specs.Drivers.{driver_of}
 use Rattle.transforms.specs.Forms.{key_of, form_of}
-use Rattle.transforms.specs.Modes.{gcm_seals, gcm_opens, rfc4106_seals, rfc4106_opens, authenc_seals, authenc_opens, cipher_value, aead_value}
+use Rattle.transforms.specs.Modes.{gcm_seals, gcm_opens, rfc4106_seals, rfc4106_opens, ccm_seals, ccm_opens, authenc_seals, authenc_opens, cipher_value, aead_value}
 use Rattle.transforms.specs.Plans.{front_key, last_four, by_keys, takes_key, aes_key_in}
 use Rattle.transforms.specs.RequestValue.{Gives, request_value, by_direction, with_mac, under_mac, authenc_gives, cipher_request, ciphertext_in, tag_in}
 use Rattle.transforms.specs.Tagged.{tagged}
@@ -24,9 +24,7 @@ use Rattle.transforms.specs.declared.any_aes.AnyAes.{AnyAes}
 use Rattle.transforms.specs.declared.any_cipher.AnyCipher.{AnyCipher}
 use Rattle.transforms.specs.declared.any_cipher.CipherMode.{CipherMode}
 use Rattle.transforms.specs.declared.any_cipher.CipherMode.TheVariants as mode
-use Rattle.transforms.specs.declared.any_aead.AnyAead.TheVariants.{BitGcm, NibbleGcm, BitRfc4106, NibbleRfc4106, Authenc}
-use Rattle.transforms.specs.declared.inner.Inner.TheVariants as inner
-use Rattle.transforms.specs.Keys.{IsKeyed}
+use Rattle.transforms.specs.declared.any_aead.AnyAead.TheVariants.{BitGcm, NibbleGcm, BitRfc4106, NibbleRfc4106, Ccm, Authenc}
 
 some : List ℕ → Option (List ℕ)
 some x = Some x
@@ -41,6 +39,7 @@ under_bits a form ghash key e f = record {
   aes_key = ap some e;
   iv = refl;
   tags = λ n. refl;
+  input = refl;
   gives = λ n q. ap (λ k. aead_value (gcm_seals k) (gcm_opens k) n q) e;
 }
 
@@ -51,6 +50,7 @@ under_nibbles a form ghash key e f = record {
   aes_key = ap some e;
   iv = refl;
   tags = λ n. refl;
+  input = refl;
   gives = λ n q. ap (λ k. aead_value (gcm_seals k) (gcm_opens k) n q) e;
 }
 
@@ -72,6 +72,7 @@ under_bits_salted m form ghash key e f d = record {
   aes_key = ap some e;
   iv = refl;
   tags = λ n. refl;
+  input = refl;
   gives = λ n q. ap₂ (λ k s. aead_value (rfc4106_seals k s) (rfc4106_opens k s) n q) e d ∙ salted _ q.dir n _ _;
 }
 
@@ -82,6 +83,7 @@ under_nibbles_salted m form ghash key e f d = record {
   aes_key = ap some e;
   iv = refl;
   tags = λ n. refl;
+  input = refl;
   gives = λ n q. ap₂ (λ k s. aead_value (rfc4106_seals k s) (rfc4106_opens k s) n q) e d ∙ salted _ q.dir n _ _;
 }
 
@@ -126,6 +128,7 @@ under_authenc mk ck key c mode.Cbc form reads u = record {
   aes_key = u.aes_key ∙ sym (ap (by_keys (λ mk' ck'. aes_key_in (plan.Cbc form) ck') None) reads);
   iv = u.iv;
   tags = λ n. refl;
+  input = refl;
   gives = authenc_value mk ck key (ciphers.seals_of c) (ciphers.unseals_of c) (request_value (driver_of (plan.Cbc form))) reads u.gives;
 }
 under_authenc mk ck key c mode.Ctr form reads u = record {
@@ -133,6 +136,7 @@ under_authenc mk ck key c mode.Ctr form reads u = record {
   aes_key = u.aes_key ∙ sym (ap (by_keys (λ mk' ck'. aes_key_in (plan.Ctr form) ck') None) reads);
   iv = u.iv;
   tags = λ n. refl;
+  input = refl;
   gives = authenc_value mk ck key (ciphers.seals_of c) (ciphers.unseals_of c) (request_value (driver_of (plan.Ctr form))) reads u.gives;
 }
 under_authenc mk ck key c mode.Rfc3686 form reads u = record {
@@ -140,6 +144,7 @@ under_authenc mk ck key c mode.Rfc3686 form reads u = record {
   aes_key = u.aes_key ∙ sym (ap (by_keys (λ mk' ck'. aes_key_in (plan.Rfc3686 form) ck') None) reads);
   iv = u.iv;
   tags = λ n. refl;
+  input = refl;
   gives = authenc_value mk ck key (ciphers.seals_of c) (ciphers.unseals_of c) (request_value (driver_of (plan.Rfc3686 form))) reads u.gives;
 }
 under_authenc mk ck key c mode.Xts form reads u = record {
@@ -147,6 +152,7 @@ under_authenc mk ck key c mode.Xts form reads u = record {
   aes_key = u.aes_key;
   iv = u.iv;
   tags = λ n. refl;
+  input = refl;
   gives = authenc_value mk ck key (ciphers.seals_of c) (ciphers.unseals_of c) (request_value (driver_of (plan.Xts form))) reads u.gives;
 }
 
@@ -162,6 +168,13 @@ pub takes_by_keys : (m : CipherMode) (form : AesForm) (key mk ck : List ℕ) →
 takes_by_keys m form key mk ck reads takes =
     takes_authenc m form key ∙ (ap (by_keys (λ mk' ck'. takes_key (ciphers.cipher_plan m form) ck') false) reads ∙ takes)
 
-pub under_hmac : (key : List ℕ) → IsKeyed (inner.Mac (block_key key)) plan.Hmac key
-unfolding request_value template_named
-under_hmac key = record { kind = refl; form = refl; aes_key = refl; iv = refl; tags = λ n. refl; gives = λ n q. refl }
+pub under_ccm : (a : AnyAes) (form : AesForm) (key : List ℕ) → key_of a ≡ key → form_of a ≡ form → IsAead (Ccm a) (plan.Ccm form) key
+unfolding some some_form request_value template_named
+under_ccm a form key e f = record {
+  form = ap some_form f;
+  aes_key = ap some e;
+  iv = refl;
+  tags = λ n. refl;
+  input = refl;
+  gives = λ n q. ap (λ k. aead_value (ccm_seals k) (ccm_opens k) n q) e;
+}

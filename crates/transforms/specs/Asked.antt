@@ -1,7 +1,7 @@
 -- The requests that are taken, and the bytes that a job begins with.
-use Rattle.std.specs.Prelude.{ℕ, ◌++◌, ◌==◌, ◌&&◌, nat_le, Bool, false, List, [], length, replicate}
+use Rattle.std.specs.Prelude.{ℕ, ◌++◌, ◌-◌, ◌==◌, ◌&&◌, nat_le, Bool, false, List, [], length, replicate}
 use Rattle.templates.specs.declared.driver_plans.Plan.{Plan}
-use Rattle.transforms.specs.Plans.{PlanKind, kind_of, iv_size}
+use Rattle.transforms.specs.Plans.{PlanKind, kind_of, iv_size, takes_input, mac_size_of}
 use Rattle.transforms.specs.Plans.PlanKind.{skcipher, mac, aead}
 use Rattle.transforms.specs.declared.request.Dir.TheVariants.{Enc, Dec, Mac}
 use Rattle.transforms.specs.declared.request.Request.{Request}
@@ -16,33 +16,38 @@ cipher_takes size q = elim q.dir [ Enc ↦ is_plain size q | Dec ↦ is_plain si
 abbrev pub mac_takes : Request → Bool
 mac_takes q = elim q.dir [ Enc ↦ false | Dec ↦ false | Mac ↦ is_plain 0 q ]
 
--- a decryption is at least as long as its tag of n bytes
-abbrev pub aead_takes : ℕ → ℕ → Request → Bool
-aead_takes size n q =
+-- what a plan says of an IV of its size, and of the numbers of associated bytes and of bytes of text
+abbrev pub TakesInput : Type 0
+TakesInput = List ℕ → ℕ → ℕ → Bool
+
+-- a decryption is at least as long as its tag of n bytes, which isn't text
+abbrev pub aead_takes : TakesInput → ℕ → ℕ → Request → Bool
+aead_takes input size n q =
     elim q.dir [
-      | Enc ↦ length q.iv == size
-      | Dec ↦ length q.iv == size && nat_le n (length q.text)
+      | Enc ↦ length q.iv == size && input q.iv (length q.aad) (length q.text)
+      | Dec ↦ length q.iv == size && nat_le n (length q.text) && input q.iv (length q.aad) (length q.text - n)
       | Mac ↦ false
     ]
 
--- by the kind of a plan and the size of its IV
-abbrev pub kind_takes : PlanKind → ℕ → ℕ → Request → Bool
-kind_takes skcipher size n q = cipher_takes size q
-kind_takes mac size n q = mac_takes q
-kind_takes aead size n q = aead_takes size n q
+-- by the kind of a plan, its inputs and the size of its IV
+abbrev pub kind_takes : PlanKind → TakesInput → ℕ → ℕ → Request → Bool
+kind_takes skcipher input size n q = cipher_takes size q
+kind_takes mac input size n q = mac_takes q
+kind_takes aead input size n q = aead_takes input size n q
 
 -- a request is taken, for a tag size
 abbrev pub takes : Plan → ℕ → Request → Bool
-takes plan n q = kind_takes (kind_of plan) (iv_size plan) n q
+takes plan n q = kind_takes (kind_of plan) (takes_input plan) (iv_size plan) n q
 
 -- the text, and behind that of an encryption room for its tag
 abbrev pub aead_room : ℕ → Request → List ℕ
 aead_room n q = elim q.dir [ Enc ↦ q.text ++ replicate n 0 | Dec ↦ q.text | Mac ↦ [] ]
 
-abbrev pub kind_room : PlanKind → ℕ → Request → List ℕ
-kind_room skcipher n q = q.text
-kind_room mac n q = replicate 32 0
-kind_room aead n q = aead_room n q
+-- by the kind of a plan, and the bytes of its MAC
+abbrev pub kind_room : PlanKind → ℕ → ℕ → Request → List ℕ
+kind_room skcipher size n q = q.text
+kind_room mac size n q = replicate size 0
+kind_room aead size n q = aead_room n q
 
 abbrev pub room_of : Plan → ℕ → Request → List ℕ
-room_of plan n q = kind_room (kind_of plan) n q
+room_of plan n q = kind_room (kind_of plan) (mac_size_of plan) n q

@@ -9,7 +9,7 @@ use Rattle.templates.specs.declared.driver_plans.AesForm.TheVariants.{AesGeneric
 use Rattle.templates.specs.declared.driver_plans.GhashForm.{GhashForm}
 use Rattle.templates.specs.declared.driver_plans.GhashForm.TheVariants.{GhashGeneric, GhashTable}
 use Rattle.templates.specs.declared.driver_plans.Plan.{Plan}
-use Rattle.templates.specs.declared.driver_plans.Plan.TheVariants.{Cbc, Ctr, Rfc3686, Xts, Gcm, Rfc4106, Hmac, AuthencCbc, AuthencCtr, AuthencRfc3686, AuthencXts}
+use Rattle.templates.specs.declared.driver_plans.Plan.TheVariants.{Cbc, Ctr, Rfc3686, Xts, Gcm, Rfc4106, Ccm, Hmac, Cmac, AuthencCbc, AuthencCtr, AuthencRfc3686, AuthencXts}
 
 -- `word(x)` and `word(x,y)`
 abbrev pub over : List ℕ → Tree → Tree
@@ -46,7 +46,9 @@ driver_of (Rfc3686 aes) = over (codes "rfc3686") (ctr_driver aes)
 driver_of (Xts aes) = over (codes "xts") (aes_driver aes)
 driver_of (Gcm aes ghash) = gcm_driver aes ghash
 driver_of (Rfc4106 aes ghash) = over (codes "rfc4106") (gcm_driver aes ghash)
+driver_of (Ccm aes) = over (codes "ccm") (aes_driver aes)
 driver_of Hmac = hmac_driver
+driver_of (Cmac aes) = over (codes "cmac") (aes_driver aes)
 driver_of (AuthencCbc aes) = authenc_driver (over (codes "cbc") (aes_driver aes))
 driver_of (AuthencCtr aes) = authenc_driver (ctr_driver aes)
 driver_of (AuthencRfc3686 aes) = authenc_driver (over (codes "rfc3686") (ctr_driver aes))

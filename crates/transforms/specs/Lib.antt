@@ -8,6 +8,7 @@ pub mod Finish
 pub mod Forms
 pub mod Keys
 pub mod Laws
+pub mod Macs
 pub mod Modes
 pub mod Plans
 pub mod RequestValue

@@ -3,12 +3,13 @@ use Rattle.std.specs.Prelude.{ℕ, Option, List}
 use Rattle.std.specs.Option.{option_map}
 use Rattle.std_defs.specs.Aes.{seal}
 use Rattle.std_defs.specs.Gcm.{gcm_seal, gcm_open}
+use Rattle.std_defs.specs.Ccm.{ccm_seal, ccm_open}
 use Rattle.std_defs.specs.Rfc4106.{rfc4106_seal, rfc4106_open}
 use Rattle.std_defs.specs.Authenc.{authenc_seal, authenc_open}
 use Rattle.std_defs.specs.Value.{Value, or_invalid, or_bad_message}
 use Rattle.std_defs.specs.Value.Value.{bytes}
 use Rattle.transforms.specs.RequestValue.{by_direction, ciphertext_in, tag_in}
-use Rattle.transforms.specs.Tagged.{tagged}
+use Rattle.transforms.specs.Tagged.{tagged, joined}
 use Rattle.transforms.specs.declared.request.Request.{Request}
 
 -- for a tag size, an IV, associated bytes and a text
@@ -31,6 +32,12 @@ rfc4106_seals key salt n iv aad text = or_invalid (option_map (tagged n) (rfc410
 
 abbrev pub rfc4106_opens : List ℕ → List ℕ → Opens
 rfc4106_opens key salt iv aad text tag = rfc4106_open (seal key) salt iv aad text tag
+
+abbrev pub ccm_seals : List ℕ → Seals
+ccm_seals key n iv aad text = or_invalid (option_map joined (ccm_seal (seal key) n iv aad text))
+
+abbrev pub ccm_opens : List ℕ → Opens
+ccm_opens key iv aad text tag = ccm_open (seal key) iv aad text tag
 
 -- authenc over the block of its MAC's key, and what its cipher gives at an IV and a text
 abbrev pub authenc_seals : List ℕ → (List ℕ → List ℕ → Option (List ℕ)) → Seals

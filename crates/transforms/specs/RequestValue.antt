@@ -1,20 +1,23 @@
 -- The value of a request, by recursion on the tree of its driver's name.
 use Rattle.std.specs.Prelude.{ℕ, ◌-◌, Option, Some, if◌then◌else◌, List, [], ◌∷◌, ◌++◌, length, take, drop, bytes_eq}
+use Rattle.std.specs.Option.{option_map}
 use Rattle.std_defs.specs.Aes.{seal, unseal}
 use Rattle.std_defs.specs.Modes.{cbc_seal, cbc_unseal, ctr as ctr_of, rfc3686_counter}
 use Rattle.std_defs.specs.Xts.{xts_seal, xts_unseal}
 use Rattle.std_defs.specs.Gcm.{gcm_seal, gcm_open}
 use Rattle.std_defs.specs.Rfc4106.{rfc4106_takes, rfc4106_iv, rfc4106_associated}
+use Rattle.std_defs.specs.Ccm.{ccm_seal, ccm_open}
 use Rattle.std_defs.specs.Hmac.{hmac}
+use Rattle.std_defs.specs.Cmac.{cmac}
 use Rattle.std_defs.specs.Authenc.{blob}
 use Rattle.std_defs.specs.Value.{Value, or_invalid, or_bad_message}
 use Rattle.std_defs.specs.Value.Value.{bytes, bad_message, invalid}
 use Rattle.alg_names.specs.Name.{Tree, Args, node, end, arg}
 use Rattle.templates.specs.Table.{template_named}
 use Rattle.templates.specs.declared.template_words.Template.{Template}
-use Rattle.templates.specs.declared.template_words.Template.TheVariants.{Cbc, Ctr, Rfc3686, Xts, GcmBase, Rfc4106, Hmac, Authenc, Pcrypt, Cryptd}
+use Rattle.templates.specs.declared.template_words.Template.TheVariants.{Cbc, Ctr, Rfc3686, Xts, GcmBase, Rfc4106, Ccm, Hmac, Cmac, Authenc, Pcrypt, Cryptd}
 use Rattle.transforms.specs.Plans.{front_key, last_four, first_half, second_half, by_keys}
-use Rattle.transforms.specs.Tagged.{tagged}
+use Rattle.transforms.specs.Tagged.{tagged, joined}
 use Rattle.transforms.specs.declared.request.Dir.TheVariants.{Enc, Dec, Mac}
 use Rattle.transforms.specs.declared.request.Request.{Request}
 
@@ -53,6 +56,9 @@ xts_gives key n q =
 abbrev pub hmac_gives : Gives
 hmac_gives key n q = bytes (hmac key q.text)
 
+abbrev pub cmac_gives : Gives
+cmac_gives key n q = bytes (cmac (seal key) q.text)
+
 -- the ciphertext and the first n bytes of its tag; the plaintext of a ciphertext under such a tag
 abbrev pub gcm_gives : Gives
 gcm_gives key n q =
@@ -66,6 +72,12 @@ rfc4106_gives x key n q =
     if rfc4106_takes q.aad
     then x (front_key key) n (record q { iv = rfc4106_iv (last_four key) q.iv; aad = rfc4106_associated q.aad })
     else invalid
+
+-- the ciphertext and its tag of n bytes; the plaintext of a ciphertext under such a tag
+abbrev pub ccm_gives : Gives
+ccm_gives key n q =
+    by_direction q (or_invalid (option_map joined (ccm_seal (seal key) n q.iv q.aad q.text)))
+    (ccm_open (seal key) q.iv q.aad (ciphertext_in n q) (tag_in n q))
 
 -- bytes, and behind them the first n of their MAC
 abbrev pub with_mac : (List ℕ → List ℕ) → ℕ → Value → Value
@@ -101,8 +113,10 @@ gives_over (Some Ctr) (x ∷ []) = ctr_gives
 gives_over (Some Rfc3686) (x ∷ []) = rfc3686_gives x
 gives_over (Some Xts) (x ∷ []) = xts_gives
 gives_over (Some Hmac) (x ∷ []) = hmac_gives
+gives_over (Some Cmac) (x ∷ []) = cmac_gives
 gives_over (Some GcmBase) (c ∷ g ∷ []) = gcm_gives
 gives_over (Some Rfc4106) (x ∷ []) = rfc4106_gives x
+gives_over (Some Ccm) (x ∷ []) = ccm_gives
 gives_over (Some Authenc) (m ∷ e ∷ []) = authenc_gives e
 gives_over _ _ = λ key n q. invalid
 

@@ -9,6 +9,10 @@ use Rattle.kc_base.specs.declared.error_numbers.Errno.TheVariants.{EINVAL}
 abbrev pub tagged : ℕ → List ℕ × List ℕ → List ℕ
 tagged n sealed = sealed.0 ++ take n sealed.1
 
+-- a text and its tag
+abbrev pub joined : List ℕ × List ℕ → List ℕ
+joined sealed = sealed.0 ++ sealed.1
+
 -- the text and the tag become the value's bytes, or the value is a refusal
 abbrev pub SealsInto : Result (Unit {0}) Errno → Value → List ℕ → List ℕ → Type 0
 SealsInto result value text tag = MatchResult result (λ _. value ≡ bytes (text ++ tag)) (λ e. (e ≡ EINVAL) × (value ≡ invalid))

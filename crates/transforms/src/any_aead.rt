@@ -9,6 +9,7 @@ use crate::aead::Aead;
 use crate::any_aes::AnyAes;
 use crate::any_cipher::{AnyCipher, CipherMode, split_salted};
 use authenc::{Authenc, read_blob};
+use cmac_ccm::Ccm;
 use gcm_mode::{Gcm, Rfc4106};
 use ghash_field::{BitGhash, NibbleGhash};
 use hmac_sha::Mac;
@@ -22,17 +23,20 @@ pub enum AnyAead {
     NibbleGcm(Gcm<AnyAes, NibbleGhash>),
     BitRfc4106(Rfc4106<AnyAes, BitGhash>),
     NibbleRfc4106(Rfc4106<AnyAes, NibbleGhash>),
+    Ccm(Ccm<AnyAes>),
     Authenc(Authenc<AnyCipher>),
 }
 
 impl Aead for AnyAead {
-    ghost use Rattle.transforms.specs.Aeads.{iv_size_of, tag_size_of, takes_tag_of, seals_of, opens_of};
+    ghost use Rattle.transforms.specs.Aeads.{iv_size_of, tag_size_of, takes_tag_of, takes_input_of, seals_of, opens_of};
 
     ghost iv_size = { iv_size_of };
 
     ghost tag_size = { tag_size_of };
 
     ghost takes_tag = { takes_tag_of };
+
+    ghost takes_input = { takes_input_of };
 
     ghost seals = { seals_of };
 
@@ -44,7 +48,19 @@ impl Aead for AnyAead {
             AnyAead::NibbleGcm(mode) => mode.iv_len(),
             AnyAead::BitRfc4106(mode) => mode.iv_len(),
             AnyAead::NibbleRfc4106(mode) => mode.iv_len(),
+            AnyAead::Ccm(mode) => mode.iv_len(),
             AnyAead::Authenc(mode) => mode.iv_len(),
+        }
+    }
+
+    fn takes(&self, iv: &[u8], aad: usize, text: usize) -> bool {
+        match self {
+            AnyAead::BitGcm(mode) => mode.takes(iv, aad, text),
+            AnyAead::NibbleGcm(mode) => mode.takes(iv, aad, text),
+            AnyAead::BitRfc4106(mode) => mode.takes(iv, aad, text),
+            AnyAead::NibbleRfc4106(mode) => mode.takes(iv, aad, text),
+            AnyAead::Ccm(mode) => mode.takes(iv, aad, text),
+            AnyAead::Authenc(mode) => mode.takes(iv, aad, text),
         }
     }
 
@@ -54,6 +70,7 @@ impl Aead for AnyAead {
             AnyAead::NibbleGcm(mode) => Aead::seal(mode, iv, aad, b, tag),
             AnyAead::BitRfc4106(mode) => Aead::seal(mode, iv, aad, b, tag),
             AnyAead::NibbleRfc4106(mode) => Aead::seal(mode, iv, aad, b, tag),
+            AnyAead::Ccm(mode) => Aead::seal(mode, iv, aad, b, tag),
             AnyAead::Authenc(mode) => Aead::seal(mode, iv, aad, b, tag),
         }
     }
@@ -64,6 +81,7 @@ impl Aead for AnyAead {
             AnyAead::NibbleGcm(mode) => Aead::unseal(mode, iv, aad, b, tag),
             AnyAead::BitRfc4106(mode) => Aead::unseal(mode, iv, aad, b, tag),
             AnyAead::NibbleRfc4106(mode) => Aead::unseal(mode, iv, aad, b, tag),
+            AnyAead::Ccm(mode) => Aead::unseal(mode, iv, aad, b, tag),
             AnyAead::Authenc(mode) => Aead::unseal(mode, iv, aad, b, tag),
         }
     }
@@ -81,6 +99,7 @@ impl AnyAead {
             AnyAead::NibbleGcm(mode) => Some(mode.cipher()),
             AnyAead::BitRfc4106(mode) => Some(mode.cipher()),
             AnyAead::NibbleRfc4106(mode) => Some(mode.cipher()),
+            AnyAead::Ccm(mode) => Some(mode.cipher()),
             AnyAead::Authenc(mode) => mode.cipher().aes(),
         }
     }
@@ -110,6 +129,15 @@ impl AnyAead {
             GhashForm::GhashGeneric => Ok(AnyAead::BitRfc4106(Rfc4106::new(Gcm::new(aes), salt))),
             GhashForm::GhashTable => Ok(AnyAead::NibbleRfc4106(Rfc4106::new(Gcm::new(aes), salt))),
         }
+    }
+
+    /// CCM under a key. `EINVAL` exactly where the key hasn't 16, 24 or 32 bytes.
+    pub fn ccm(form: AesForm, key: &[u8]) -> Result<AnyAead, Errno>
+        ensures { MatchResult result
+            (λ a. (takes_key (plan.Ccm form) key.now ≡ true) × IsAead a (plan.Ccm form) key.now)
+            (λ e. (e ≡ Errno.EINVAL) × (takes_key (plan.Ccm form) key.now ≡ false)) }
+    {
+        Ok(AnyAead::Ccm(Ccm::new(AnyAes::new(form, key)?)))
     }
 
     /// authenc under a key blob. `EINVAL` exactly where the blob doesn't read, or the mode doesn't take its cipher's key.

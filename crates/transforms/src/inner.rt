@@ -5,7 +5,7 @@ ghost use Rattle.transforms.specs.Plans.{takes_key};
 
 use crate::any_aead::AnyAead;
 use crate::any_cipher::{AnyCipher, CipherMode};
-use hmac_sha::Mac;
+use crate::any_mac::AnyMac;
 use kc_base::Errno;
 use templates::{AesForm, Plan};
 
@@ -13,7 +13,7 @@ use templates::{AesForm, Plan};
 #[derive(Drop)]
 pub enum Inner {
     Skcipher(AnyCipher),
-    Mac(Mac),
+    Mac(AnyMac),
     Aead(AnyAead),
 }
 
@@ -49,9 +49,11 @@ pub fn inner_of(plan: &Plan, key: &[u8]) -> Result<Inner, Errno>
         Plan::Ctr(aes) => cipher_of(CipherMode::Ctr, aes, key),
         Plan::Rfc3686(aes) => cipher_of(CipherMode::Rfc3686, aes, key),
         Plan::Xts(aes) => cipher_of(CipherMode::Xts, aes, key),
-        Plan::Hmac => Ok(Inner::Mac(Mac::new(key))),
+        Plan::Hmac => Ok(Inner::Mac(AnyMac::hmac(key))),
+        Plan::Cmac(aes) => Ok(Inner::Mac(AnyMac::cmac(aes, key)?)),
         Plan::Gcm(aes, ghash) => Ok(Inner::Aead(AnyAead::gcm(aes, ghash, key)?)),
         Plan::Rfc4106(aes, ghash) => Ok(Inner::Aead(AnyAead::rfc4106(aes, ghash, key)?)),
+        Plan::Ccm(aes) => Ok(Inner::Aead(AnyAead::ccm(aes, key)?)),
         Plan::AuthencCbc(aes) => authenc_of(CipherMode::Cbc, aes, key),
         Plan::AuthencCtr(aes) => authenc_of(CipherMode::Ctr, aes, key),
         Plan::AuthencRfc3686(aes) => authenc_of(CipherMode::Rfc3686, aes, key),

@@ -68,7 +68,7 @@ impl Keyed {
     {
         match &self.inner {
             Inner::Skcipher(cipher) => cipher.aes(),
-            Inner::Mac(_) => None,
+            Inner::Mac(mac) => mac.aes(),
             Inner::Aead(aead) => aead.aes(),
         }
     }
@@ -80,7 +80,7 @@ impl Keyed {
         match &self.inner {
             Inner::Skcipher(cipher) => takes_plain(request, cipher.iv_len()),
             Inner::Mac(_) => takes_mac(request),
-            Inner::Aead(aead) => takes_aead(request, aead.iv_len(), authsize),
+            Inner::Aead(aead) => takes_aead(aead, request, authsize),
         }
     }
 
@@ -93,12 +93,11 @@ impl Keyed {
     ) -> Result<Vec<u8>, AllocError>
         requires tag_fits { fits_tag self.now.0 authsize ≡ true }
         requires text_short { length request.now.text < 2 ^ 32 }
-        requires taken { takes self.now.0 authsize request.now ≡ true }
         ensures { IfOk result (λ buffer. buffer.items ≡ room_of self.now.0 authsize request.now) }
     {
         match &self.inner {
             Inner::Skcipher(_) => request.text.as_slice().to_vec(alloc),
-            Inner::Mac(_) => zeros(alloc, 32),
+            Inner::Mac(mac) => zeros(alloc, mac.size()),
             Inner::Aead(_) => room_with_tag(alloc, authsize, request),
         }
     }

@@ -5,6 +5,7 @@ mod aead;
 mod any_aead;
 mod any_aes;
 mod any_cipher;
+mod any_mac;
 mod ask;
 mod inner;
 mod job;

@@ -1,7 +1,7 @@
 //! The memory of a job.
 
-ghost use Rattle.std.specs.Prelude.{◌≡◌, ◌≤◌, ◌<◌, ◌^◌, ℕ, length, true, IfOk, replicate};
-ghost use Rattle.transforms.specs.Asked.{aead_room, aead_takes};
+ghost use Rattle.std.specs.Prelude.{◌≡◌, ◌≤◌, ◌<◌, ◌^◌, length, IfOk, replicate};
+ghost use Rattle.transforms.specs.Asked.{aead_room};
 
 use crate::request::{Dir, Request};
 use std::alloc::{AllocError, Global};
@@ -21,7 +21,6 @@ pub fn room_with_tag(
 ) -> Result<Vec<u8>, AllocError>
     requires tag_fits { authsize ≤ 32 }
     requires text_short { length request.now.text < 2 ^ 32 }
-    requires taken { ((size : ℕ) × (aead_takes size authsize request.now ≡ true)) }
     ensures { IfOk result (λ buffer. buffer.items ≡ aead_room authsize request.now) }
 {
     match request.dir {

@@ -2,16 +2,16 @@
 
 ghost use Rattle.std.specs.Prelude.{◌≡◌, ◌≤◌, ◌<◌, ◌^◌, ◌+◌, ◌-◌, length, true, take, drop, IsTrue, MatchResult};
 ghost use Rattle.std_defs.specs.Value.Value.{bytes, invalid};
-ghost use Rattle.std_defs.specs.Hmac.{hmac_under};
+ghost use Rattle.transforms.specs.Macs.{size_of, makes_of};
 ghost use Rattle.aes_block.specs.Opened.{IsRefusal};
 ghost use Rattle.transforms.specs.Modes.{cipher_value, aead_value};
 ghost use Rattle.transforms.specs.Asked.{aead_room, aead_takes};
 ghost use Rattle.transforms.specs.Finish.{finished_value};
 
 use crate::aead::Aead;
+use crate::any_mac::AnyMac;
 use crate::request::{Dir, Finished, Request};
 use aes_block::Skcipher;
-use hmac_sha::Mac;
 use kc_base::{Bytes, Errno};
 
 /// A request to a cipher.
@@ -33,14 +33,12 @@ pub fn run_cipher<S: Skcipher>(cipher: &S, request: &Request, buffer: Vec<u8>) -
 }
 
 /// A request to a MAC.
-pub fn run_mac(mac: &Mac, request: &Request, buffer: Vec<u8>) -> Finished
-    requires { length buffer.items ≡ 32 }
-    ensures { finished_value result ≡ bytes (hmac_under mac.now request.now.text) }
+pub fn run_mac(mac: &AnyMac, request: &Request, buffer: Vec<u8>) -> Finished
+    requires { length buffer.items ≡ size_of mac.now }
+    ensures { finished_value result ≡ bytes (makes_of mac.now request.now.text) }
 {
     let mut buffer = buffer;
-    buffer
-        .as_mut_slice()
-        .copy_from_slice(&mac.mac(request.text.as_slice(), &[]));
+    mac.write(request.text.as_slice(), buffer.as_mut_slice());
     Finished::Bytes(Bytes::from_vec(buffer))
 }
 
@@ -55,6 +53,8 @@ fn seal_front<A: Aead>(
     requires within { n ≤ length buffer.old }
     requires iv_fits { length iv.now ≡ A.iv_size aead.now }
     requires tag_fits { length buffer.old ≤ n + A.tag_size aead.now }
+    requires tag_taken { IsTrue (A.takes_tag aead.now (length buffer.old - n)) }
+    requires input_taken { IsTrue (A.takes_input aead.now iv.now (length aad.now) n) }
     requires aad_short { length aad.now < 2 ^ 32 }
     requires text_short { n < 2 ^ 32 }
     ensures { MatchResult result
@@ -77,6 +77,7 @@ fn unseal_front<A: Aead>(
     requires iv_fits { length iv.now ≡ A.iv_size aead.now }
     requires tag_fits { length buffer.old ≤ n + A.tag_size aead.now }
     requires tag_taken { IsTrue (A.takes_tag aead.now (length buffer.old - n)) }
+    requires input_taken { IsTrue (A.takes_input aead.now iv.now (length aad.now) n) }
     requires aad_short { length aad.now < 2 ^ 32 }
     requires text_short { n < 2 ^ 32 }
     ensures { MatchResult result
@@ -89,7 +90,7 @@ fn unseal_front<A: Aead>(
 
 /// A request to a mode with a tag.
 pub fn run_aead<A: Aead>(aead: &A, authsize: usize, request: &Request, buffer: Vec<u8>) -> Finished
-    requires taken { aead_takes (A.iv_size aead.now) authsize request.now ≡ true }
+    requires taken { aead_takes (A.takes_input aead.now) (A.iv_size aead.now) authsize request.now ≡ true }
     requires tag_fits { authsize ≤ A.tag_size aead.now }
     requires tag_taken { IsTrue (A.takes_tag aead.now authsize) }
     requires aad_short { length request.now.aad < 2 ^ 32 }

@@ -3,6 +3,7 @@
 ghost use Rattle.std.specs.Prelude.{◌≡◌, true, false, MatchResult, OnOk};
 ghost use Rattle.transforms.specs.Plans.{takes_tag, tag_size_of, fits_tag};
 
+use cmac_ccm::takes_ccm_tag;
 use gcm_mode::{takes_gcm_tag, takes_rfc4106_tag};
 use kc_base::Errno;
 use templates::Plan;
@@ -13,9 +14,11 @@ pub fn tag_size(plan: &Plan, n: u32) -> Result<(), Errno>
     ensures fits { OnOk result (fits_tag plan.now n ≡ true) }
 {
     let taken = match *plan {
-        Plan::Cbc(_) | Plan::Ctr(_) | Plan::Rfc3686(_) | Plan::Xts(_) | Plan::Hmac => false,
+        Plan::Cbc(_) | Plan::Ctr(_) | Plan::Rfc3686(_) | Plan::Xts(_) => false,
+        Plan::Hmac | Plan::Cmac(_) => false,
         Plan::Gcm(..) => takes_gcm_tag(n as usize),
         Plan::Rfc4106(..) => takes_rfc4106_tag(n as usize),
+        Plan::Ccm(_) => takes_ccm_tag(n as usize),
         Plan::AuthencCbc(_) | Plan::AuthencCtr(_) | Plan::AuthencRfc3686(_) | Plan::AuthencXts(_) =>
             { 1 <= n && n <= 32 }
     };
@@ -28,8 +31,9 @@ pub fn largest_tag_size(plan: &Plan) -> u32
     ensures fits { fits_tag plan.now result ≡ true }
 {
     match *plan {
-        Plan::Cbc(_) | Plan::Ctr(_) | Plan::Rfc3686(_) | Plan::Xts(_) | Plan::Hmac => 0,
-        Plan::Gcm(..) | Plan::Rfc4106(..) => 16,
+        Plan::Cbc(_) | Plan::Ctr(_) | Plan::Rfc3686(_) | Plan::Xts(_) => 0,
+        Plan::Hmac | Plan::Cmac(_) => 0,
+        Plan::Gcm(..) | Plan::Rfc4106(..) | Plan::Ccm(_) => 16,
         Plan::AuthencCbc(_) | Plan::AuthencCtr(_) | Plan::AuthencRfc3686(_) | Plan::AuthencXts(_) =>
             32,
     }

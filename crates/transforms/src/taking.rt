@@ -1,8 +1,9 @@
 //! The requests that are taken.
 
-ghost use Rattle.std.specs.Prelude.{◌≡◌};
+ghost use Rattle.std.specs.Prelude.{◌≡◌, ◌==◌, ◌&&◌, length};
 ghost use Rattle.transforms.specs.Asked.{aead_takes, cipher_takes, mac_takes, is_plain};
 
+use crate::aead::Aead;
 use crate::request::{Dir, Request};
 
 /// An IV of that size and no associated bytes.
@@ -34,13 +35,28 @@ pub fn takes_mac(request: &Request) -> bool
     }
 }
 
-/// Whether a mode with a tag takes a request: a decryption is no shorter than its tag.
-pub fn takes_aead(request: &Request, size: usize, authsize: usize) -> bool
-    ensures { result ≡ aead_takes size authsize request.now }
+/// Whether a mode with a tag takes an IV of any size, with so many associated bytes and so many bytes of text.
+fn takes_input<A: Aead>(aead: &A, iv: &[u8], aad: usize, text: usize) -> bool
+    ensures { result ≡ (length iv.now == A.iv_size aead.now && A.takes_input aead.now iv.now aad text) }
 {
+    if iv.len() == aead.iv_len() {
+        aead.takes(iv, aad, text)
+    } else {
+        false
+    }
+}
+
+/// Whether a mode with a tag takes a request: a decryption is no shorter than its tag.
+pub fn takes_aead<A: Aead>(aead: &A, request: &Request, authsize: usize) -> bool
+    ensures { result ≡ aead_takes (A.takes_input aead.now) (A.iv_size aead.now) authsize request.now }
+{
+    let text = request.text.len();
+    let aad = request.aad.len();
     match request.dir {
-        Dir::Enc => request.iv.len() == size,
-        Dir::Dec => request.iv.len() == size && authsize <= request.text.len(),
+        Dir::Enc => takes_input(aead, request.iv.as_slice(), aad, text),
+        Dir::Dec => {
+            authsize <= text && takes_input(aead, request.iv.as_slice(), aad, text - authsize)
+        }
         Dir::Mac => false,
     }
 }

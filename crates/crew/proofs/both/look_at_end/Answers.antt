@@ -1,10 +1,9 @@
 use Rattle.turn_lock.specs.Passes.{knows}
-use Rattle.shared_registry.proofs.Working.{works_still}
 use Rattle.crew.proofs.Works.{worked_none}
 use Rattle.crew.proofs.both.look_at_end.Goals as goal
 
 pub returns-clause-worked : goal.returns-clause-worked
 returns-clause-worked g c = record {
   board = worked_none (knows c.args.passes.board) (knows c.is_shut-on_board.result.0) c.is_shut-on_board.ensures.turn;
-  registry = works_still (knows c.args.passes.registry);
+  registry = c.building_goes_on.ensures.still (knows c.args.passes.registry);
 }

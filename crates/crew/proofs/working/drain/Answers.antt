@@ -2,7 +2,7 @@ use Rattle.std.proofs.Common.{refl, ◌∙◌, ap, ◌++◌, true, false, Ok, le
 use Rattle.board.specs.Entries.{entries_of, told, delivered, caller_of}
 use Rattle.turn_lock.specs.Passes.{knows}
 use Rattle.board.specs.Legal.{LegalBoard}
-use Rattle.turn_lock.proofs.Clients.{at_ok, at_err}
+use Rattle.turn_lock.specs.Going.{at_ok, at_err}
 use Rattle.crew.proofs.Works.{worked_still, worked_on, worked_none, managed_worked, open_worked}
 use Rattle.crew.proofs.working.drain.Goals as goal
 
@@ -11,11 +11,11 @@ loop-init g c = (tt, tt, c.requires.lock, worked_still (knows c.args.pass), refl
 
 pub try_drain-drained-requires-clause-caller : goal.try_drain-drained-requires-clause-caller
 try_drain-drained-requires-clause-caller g c κs within =
-    managed_worked _ _ c.args.pipe (worked_on _ _ _ c.loop.invariant.3 c.work_while-worked.ensures.worked) c.requires.caller
+    managed_worked c.others_leave.ensures.mine _ _ c.args.pipe (worked_on _ _ _ c.loop.invariant.3 c.work_while-worked.ensures.worked) c.requires.caller
 
 pub try_drain-drained-requires-clause-pipe : goal.try_drain-drained-requires-clause-pipe
 try_drain-drained-requires-clause-pipe g c κs within =
-    open_worked _ _ c.args.pipe (worked_on _ _ _ c.loop.invariant.3 c.work_while-worked.ensures.worked) c.requires.caller c.requires.pipe
+    open_worked c.others_leave.ensures.mine _ _ c.args.pipe (worked_on _ _ _ c.loop.invariant.3 c.work_while-worked.ensures.worked) c.requires.caller c.requires.pipe
 
 pub returns-in-Ok-true-clause-drained : goal.returns-in-Ok-true-clause-drained
 returns-in-Ok-true-clause-drained g c =

@@ -2,7 +2,7 @@ use Rattle.std.proofs.Common.{ap}
 use Rattle.turn_lock.specs.Passes.{knows}
 use Rattle.board.specs.Entries.{caller_of}
 use Rattle.board.specs.Legal.{LegalBoard}
-use Rattle.turn_lock.proofs.Clients.{at_some, at_none}
+use Rattle.turn_lock.specs.Going.{at_some, at_none}
 use Rattle.crew.proofs.Works.{once_worked, worked_none}
 use Rattle.crew.proofs.working.work_one.Goals as goal
 
@@ -17,7 +17,7 @@ returns-in-Some-clause-once g c =
     (knows c.take-pass.result.0, c.in-Some.field-0.slip.pipe, c.in-Some.field-0.slip.number, (t.0, t.1, t.2.1), c.finish.ensures.turn)
 
 pub returns-in-Some-clause-worked : goal.returns-in-Some-clause-worked
-returns-in-Some-clause-worked g c = once_worked _ _ (returns-in-Some-clause-once g c)
+returns-in-Some-clause-worked g c = once_worked c.pipelines_stay.ensures.taking c.pipelines_stay.ensures.finishing _ _ (returns-in-Some-clause-once g c)
 
 pub returns-in-None-clause-once : goal.returns-in-None-clause-once
 returns-in-None-clause-once g c = at_none caller_of (λ xs. LegalBoard xs) (knows c.args.pass) c.take-pass.result.1 _ _ c.in-None.is c.take-pass.ensures.turn

@@ -1,7 +1,7 @@
 use Rattle.std.proofs.Common.{refl}
 use Rattle.turn_lock.specs.Passes.{knows}
 use Rattle.board.specs.declared.entry.BoardEntry.TheVariants.{Submit}
-use Rattle.crew_speed.proofs.Readiness.{submits, submitted}
+use Rattle.crew_speed.proofs.Readiness.{nothing, submits, submitted}
 use Rattle.crew_speed.proofs.calls.submit_one.Goals as goal
 
 pub submit-requires-clause-caller : goal.submit-requires-clause-caller
@@ -9,8 +9,8 @@ submit-requires-clause-caller g c κs within = submits c.args.pipe (knows c.args
 
 pub returns-clause-ready : goal.returns-clause-ready
 returns-clause-ready g c =
-    (submitted (knows c.args.pass) (knows c.submit.result.0) c.submit.result.1 _ _ (λ n ask. Submit (knows c.args.pass).number c.args.pipe n ask) _ _ (λ x i. (refl, refl)) c.args.pipe c.requires.ready c.submit.ensures.turn).0
+    (submitted nothing (c.board_laws.ensures nothing) (knows c.args.pass) (knows c.submit.result.0) c.submit.result.1 _ _ (λ n ask. Submit (knows c.args.pass).number c.args.pipe n ask) _ _ (λ x i. (refl, refl)) c.args.pipe c.requires.ready c.submit.ensures.turn).0
 
 pub returns-clause-first : goal.returns-clause-first
 returns-clause-first g c =
-    (submitted (knows c.args.pass) (knows c.submit.result.0) c.submit.result.1 _ _ (λ n ask. Submit (knows c.args.pass).number c.args.pipe n ask) _ _ (λ x i. (refl, refl)) c.args.pipe c.requires.ready c.submit.ensures.turn).1
+    (submitted nothing (c.board_laws.ensures nothing) (knows c.args.pass) (knows c.submit.result.0) c.submit.result.1 _ _ (λ n ask. Submit (knows c.args.pass).number c.args.pipe n ask) _ _ (λ x i. (refl, refl)) c.args.pipe c.requires.ready c.submit.ensures.turn).1

@@ -1,4 +1,4 @@
-use Rattle.std.proofs.Common.{refl, ap, sym, ◌∙◌, ◌++◌, ◌∷◌, [], map, append_assoc}
+use Rattle.std.proofs.Common.{ap, sym, ◌∙◌, ◌++◌, ◌∷◌, [], map, append_assoc}
 use Rattle.board.specs.Handing.{completions}
 use Rattle.reply_text.specs.declared.answers.Answer.TheVariants.{Drained as DrainedSaid}
 use Rattle.script_session.specs.Telling.{callback_said}
@@ -6,7 +6,6 @@ use Rattle.dialogues.specs.Walk.{Pipe}
 use Rattle.session_calls.specs.Passes.{known}
 use Rattle.script_session.proofs.Piped.{from-empty}
 use Rattle.script_session.proofs.Arms.{or-stops, sees-same}
-
 use Rattle.script_session.proofs.Piped.{says-for, drain-none, drain-held, drain-holds, may-deliver}
 use Rattle.script_session.proofs.piping.drain_live.Goals as goal
 
@@ -14,14 +13,14 @@ pub returns-in_default-clause-held : goal.returns-in_default-clause-held
 returns-in_default-clause-held g c =
     or-stops c.say.result c.say.ensures
     (says-for _ c.args.live.now (known c.args.caller.now) _ _ _ c.requires.pipe c.requires.legal (λ walk posted. drain-none walk c.args.line c.args.live.now (sym c.in_default.ensures)))
-    sees-same _
+    (sees-same _)
 
 pub returns-then-pipe-clause-held : goal.returns-then-pipe-clause-held
 returns-then-pipe-clause-held g c =
     or-stops c.refuse.result c.refuse.ensures
     (says-for _ c.args.live.now (known c.args.caller.now) _ _ _ c.requires.pipe c.requires.legal
     (λ walk posted. drain-held walk c.args.line c.args.live.now c.in-Some.pipe.now (sym c.in-Some.ensures) (sym (ap (λ (p : Pipe). p.held) c.pipe-2.view_is) ∙ c.if-pipe.true)))
-    sees-same _
+    (sees-same _)
 
 pub deliver-requires : goal.deliver-requires
 deliver-requires g c =

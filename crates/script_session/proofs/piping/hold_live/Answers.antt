@@ -6,7 +6,6 @@ use Rattle.dialogues.specs.Questions.{Hold}
 use Rattle.dialogues.specs.Walk.{Pipe, with_pipe}
 use Rattle.reply_text.specs.declared.answers.Answer.TheVariants as said
 use Rattle.session_calls.specs.Passes.{known}
-
 use Rattle.script_session.proofs.Arms.{or-stops, sees-same}
 use Rattle.script_session.proofs.Piped.{says-for, queue-none, queue-pad, none-of, queue-of, switch-holds, held-live}
 use Rattle.script_session.proofs.piping.hold_live.Goals as goal
@@ -15,7 +14,7 @@ pub returns-in_default-clause-held : goal.returns-in_default-clause-held
 returns-in_default-clause-held g c =
     or-stops c.refuse.result c.refuse.ensures
     (says-for _ c.args.live.now (known c.args.caller.now) _ _ _ c.requires.pipe c.requires.legal (λ walk posted. queue-none walk c.args.line c.args.live.now _ (sym c.in_default.ensures)))
-    sees-same _
+    (sees-same _)
 
 pub returns-then-is_none-clause-held : goal.returns-then-is_none-clause-held
 returns-then-is_none-clause-held g c =
@@ -24,7 +23,7 @@ returns-then-is_none-clause-held g c =
     (says-for _ c.args.live.now (known c.args.caller.now) _ _ _ c.requires.pipe c.requires.legal
     (λ walk posted. queue-pad walk c.args.line c.args.live.now pipe _ (sym c.in-Some.ensures)
     (sym (ap (λ (p : Pipe). p.bound) c.pipe-2.view_is) ∙ none-of c.pipe-2.inside.bound (c.is_none.ensures ∙ ap not c.if-is_none.true))))
-    sees-same _
+    (sees-same _)
 
 pub returns-clause-held : goal.returns-clause-held
 returns-clause-held g c =

@@ -1,4 +1,4 @@
-use Rattle.std.proofs.Common.{refl, ap, sym, ◌∙◌, ◌++◌, ◌∷◌, [], map, append_assoc}
+use Rattle.std.proofs.Common.{ap, sym, ◌∙◌, ◌++◌, ◌∷◌, [], map, append_assoc}
 use Rattle.board.specs.Handing.{completions}
 use Rattle.reply_text.specs.declared.answers.Answer.TheVariants.{Polled as PolledSaid}
 use Rattle.script_session.specs.Telling.{callback_said}
@@ -6,7 +6,6 @@ use Rattle.dialogues.specs.Walk.{Pipe}
 use Rattle.session_calls.specs.Passes.{known}
 use Rattle.script_session.proofs.Piped.{from-empty}
 use Rattle.script_session.proofs.Arms.{or-stops, sees-same}
-
 use Rattle.script_session.proofs.Piped.{says-for, poll-none, poll-holds, may-deliver-polled}
 use Rattle.script_session.proofs.piping.poll_live.Goals as goal
 
@@ -14,7 +13,7 @@ pub returns-in_default-clause-held : goal.returns-in_default-clause-held
 returns-in_default-clause-held g c =
     or-stops c.say.result c.say.ensures
     (says-for _ c.args.live.now (known c.args.caller.now) _ _ _ c.requires.pipe c.requires.legal (λ walk posted. poll-none walk c.args.line c.args.live.now (sym c.in_default.ensures)))
-    sees-same _
+    (sees-same _)
 
 pub deliver-requires : goal.deliver-requires
 deliver-requires g c =

@@ -4,11 +4,10 @@ use Rattle.std.specs.List.{filter_map}
 use Rattle.alg_registry.specs.Rows.{registered}
 use Rattle.alg_registry.specs.Made.{with_spec}
 use Rattle.shared_registry.proofs.Asking.{Exist}
+use Rattle.shared_registry.proofs.Histories.{get_within}
 use Rattle.alg_names.specs.Name.{spelling}
 use Rattle.alg_registry.specs.Rows.{texts}
 use Rattle.templates.specs.Resolving.{weight}
-use Rattle.templates.proofs.Shapes.{lighter, nested_child}
-use Rattle.templates.proofs.ChildLooks.{get_within}
 use Rattle.turn_lock.specs.Passes.{knows}
 use Rattle.shared_registry.specs.Building.{Looks, HasText}
 use Rattle.shared_registry.specs.Within.{ChildrenCome}
@@ -38,7 +37,7 @@ build-origins-pass-requires-clause-exist g t c =
     let k = knows c.args.pass in let l = knows c.resolve_children-pass.result.0 in
     let come : ChildrenCome l c.args.larval (length c.deref.result.now) (Ok c.in-Ok-ids.ids.items) =
     subst (λ r. IfOk r (λ ids. ChildrenCome l c.args.larval (length c.deref.result.now) (Ok ids.items))) c.in-Ok-ids.is c.resolve_children-pass.ensures.ok in
-    subst (Exist l.seen) (sym c.deref-2.ensures.value) (children_exist c.args.larval c.args.name.now k l c.requires.begins c.in-Ok-ids.ids.items c.resolve_children-pass.ensures.sound c.resolve_children-pass.ensures.within come.0)
+    subst (Exist l.seen) (sym c.deref-2.ensures.value) (children_exist c.args.larval c.args.name.now k l c.requires.begins c.requires.known.laws c.in-Ok-ids.ids.items c.resolve_children-pass.ensures.sound c.resolve_children-pass.ensures.within come.0)
 
 pub build-returns-in-Ok-below-clause-within : goal.build-returns-in-Ok-below-clause-within
 build-returns-in-Ok-below-clause-within g t c =
@@ -58,7 +57,7 @@ build-returns-in-Ok-below-clause-builds g t c =
     builds_derived c.args.larval c.args.name.now k m c.requires.begins c.in-Ok-ids.ids.items c.deref.result.now c.deref-in-Ok-below.result.now c.derive.result c.requires.known
     (c.in-Ok.ensures.ok ∙ ap (λ names. Ok names) (sym c.deref.ensures.value))
     (within_idle c.args.larval k l m c.resolve_children-pass.ensures.within c.origins-pass.ensures.idles)
-    (come_idle c.args.larval (length c.deref.result.now) l m c.in-Ok-ids.ids.items c.origins-pass.ensures.idles (own_within c.args.larval c.args.name.now k l c.requires.begins c.resolve_children-pass.ensures.within) come)
+    (come_idle c.requires.known.laws c.args.larval (length c.deref.result.now) l m c.in-Ok-ids.ids.items c.origins-pass.ensures.idles (own_within c.args.larval c.args.name.now k l c.requires.begins c.resolve_children-pass.ensures.within) come)
     (c.deref-in-Ok-below.ensures.value ∙ (below ∙ ap (λ ids. filter_map (with_spec (registered m.seen)) ids) c.deref-2.ensures.value)) c.derive.ensures.ok c.derive.ensures.err
 
 pub build_claimed-finish-requires-clause-open : goal.build_claimed-finish-requires-clause-open
@@ -71,7 +70,7 @@ build_claimed-returns-clause-closes g t c =
 
 pub build_claimed-returns-clause-ends : goal.build_claimed-returns-clause-ends
 build_claimed-returns-clause-ends g t c =
-    end_comes (knows c.build-pass.result.0) (knows c.finish.result.0) c.args.larval c.finish.result.1 c.finish.ensures.ended
+    end_comes (knows c.build-pass.result.0) (knows c.finish.result.0) c.args.larval c.finish.result.1 c.finish.ensures.ended c.requires.known.laws
     (still_open c.args.larval c.args.name.now (knows c.args.pass) (knows c.build-pass.result.0) c.requires.begins c.build-pass.ensures.within)
 
 pub resolve_children-loop-child-init : goal.resolve_children-loop-child-init
@@ -86,7 +85,7 @@ resolve_children-resolve_within-back-requires g t c = λ κs b.
     let n : length c.loop-child.ids.items ≡ c.loop-child.child-index = c.loop-child.invariant.2 in
     let lt : length c.loop-child.ids.items < length c.args.asked.now = omega (arith, n, c.loop-child-test.true) in
     let is : c.child-item.result ≡ get_or c.args.asked.now (length c.loop-child.ids.items) c.child-item.result = subst (λ (i : ℕ). c.child-item.result ≡ get_or c.args.asked.now i c.child-item.result) (sym n) c.child-item.is in
-    let f : 6 * weight c.child-item.result + 5 < t = omega (arith, c.decreases, lighter c.args.name.now c.args.asked.now (length c.loop-child.ids.items) c.child-item.result c.requires.asked lt is) in (
+    let f : 6 * weight c.child-item.result + 5 < t = omega (arith, c.decreases, c.requires.known.less.lighter c.args.asked.now (length c.loop-child.ids.items) c.child-item.result c.requires.asked lt is) in (
       f,
       (
         b,
@@ -94,7 +93,7 @@ resolve_children-resolve_within-back-requires g t c = λ κs b.
           c.loop-child.invariant.0,
           (
             next_child c.args.larval c.args.name.now (knows c.args.pass) (knows c.loop-child.mine) c.requires.begins c.loop-child.ids.items c.args.asked.now c.child-item.result c.requires.known c.requires.asked c.loop-child.invariant.1 lt is,
-            nested_child c.args.name.now c.args.asked.now (length c.loop-child.ids.items) c.child-item.result c.requires.asked lt is c.requires.nested,
+            c.requires.known.less.nested c.args.asked.now (length c.loop-child.ids.items) c.child-item.result c.requires.asked lt is c.requires.nested,
           ),
         ),
       ),
@@ -110,11 +109,11 @@ resolve_children-returns-in-Err-push-clause-within g t c =
 
 pub resolve_children-returns-in-Err-clause-err : goal.resolve_children-returns-in-Err-clause-err
 resolve_children-returns-in-Err-clause-err g t c =
-    child_failed c.args.larval c.args.name.now (knows c.args.pass) (knows c.loop-child.mine) c.requires.begins (knows c.resolve_within-back.result.0) c.loop-child.ids.items (spelling c.child-item.result) (length c.args.asked.now) c.in-Err.e c.resolve_within-back.result.1 c.in-Err.is c.loop-child.invariant.1 c.resolve_within-back.ensures.resolves
+    child_failed c.args.larval c.args.name.now (knows c.args.pass) (knows c.loop-child.mine) c.requires.begins c.requires.known.laws (knows c.resolve_within-back.result.0) c.loop-child.ids.items (spelling c.child-item.result) (length c.args.asked.now) c.in-Err.e c.resolve_within-back.result.1 c.in-Err.is c.loop-child.invariant.1 c.resolve_within-back.ensures.resolves
 
 pub resolve_children-loop-child-preserved : goal.resolve_children-loop-child-preserved
 resolve_children-loop-child-preserved g t c =
-    let step = asks_more c.args.larval c.args.name.now (knows c.args.pass) (knows c.loop-child.mine) c.requires.begins (knows c.resolve_within-back.result.0) c.loop-child.ids.items (spelling c.child-item.result) c.in-Ok.id c.resolve_within-back.result.1 c.in-Ok.is c.loop-child.invariant.1 c.resolve_within-back.ensures.resolves in
+    let step = asks_more c.args.larval c.args.name.now (knows c.args.pass) (knows c.loop-child.mine) c.requires.begins c.requires.known.laws (knows c.resolve_within-back.result.0) c.loop-child.ids.items (spelling c.child-item.result) c.in-Ok.id c.resolve_within-back.result.1 c.in-Ok.is c.loop-child.invariant.1 c.resolve_within-back.ensures.resolves in
     let n : length c.push.new.self.items ≡ c.loop-child.child-index + 1 = omega (arith, ap length c.in-Ok-push.ensures.items, length-append c.loop-child.ids.items (c.in-Ok.id ∷ []), c.loop-child.invariant.2) in
     (c.resolve_within-back.ensures.lock, subst (λ (xs : List ℕ). Asks c.args.larval c.args.name.now (knows c.args.pass) (knows c.resolve_within-back.result.0) xs) (sym c.in-Ok-push.ensures.items) step, n)
 

@@ -13,7 +13,7 @@ look-pass-requires-clause-may g c =
 pub returns-in-Ok-looked-clause-ok : goal.returns-in-Ok-looked-clause-ok
 returns-in-Ok-looked-clause-ok g c =
     subst (λ text. Looks (knows c.args.pass) (knows c.look-pass.result.0) text c.args.plain c.in-Ok-looked.looked × HasText (knows c.look-pass.result.0).seen text c.in-Ok-looked.looked) (c.as_slice.ensures ∙ c.in-Ok.ensures)
-    (has_looked (knows c.args.pass) (knows c.look-pass.result.0) c.as_slice.result.now c.args.plain c.look-pass.result.1 c.look-pass.ensures.turn c.in-Ok-looked.looked c.look-pass.ensures.sound c.in-Ok-looked.is)
+    (has_looked (knows c.args.pass) (knows c.look-pass.result.0) c.as_slice.result.now c.args.plain c.look-pass.result.1 c.look-pass.ensures.turn c.learn_name.ensures.laws.named c.in-Ok-looked.looked c.look-pass.ensures.sound c.in-Ok-looked.is)
 
 pub returns-in-Ok-clause-err : goal.returns-in-Ok-clause-err
 returns-in-Ok-clause-err g c = (

@@ -24,7 +24,7 @@ returns-in-Some-answer-clause-works g c =
 pub returns-in-Some-answer-clause-ends : goal.returns-in-Some-answer-clause-ends
 returns-in-Some-answer-clause-ends g c =
     subst (Ends (knows c.waited-back.result.0) c.args.larval) (sym c.came_of.ensures)
-    (has_ended (knows c.args.pass) (knows c.loop.mine) (knows c.waited-back.result.0) c.args.larval c.waited-back.result.1 c.loop.invariant.1 c.waited-back.ensures.turn c.waited-back.ensures.sound c.in-Some-answer.ended
+    (has_ended (knows c.args.pass) (knows c.loop.mine) (knows c.waited-back.result.0) c.args.larval c.waited-back.result.1 c.loop.invariant.1 c.waited-back.ensures.turn c.waited-back.ensures.sound c.requires.laws c.in-Some-answer.ended
     (c.in-Ok.is ∙ ap Ok c.in-Some-answer.is))
 
 pub returns-in-Err-clause-works : goal.returns-in-Err-clause-works

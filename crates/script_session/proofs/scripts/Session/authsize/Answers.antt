@@ -5,8 +5,7 @@ use Rattle.dialogues.specs.Walk.{Live}
 use Rattle.script_session.specs.Keyed.{sizes_live}
 use Rattle.script_session.specs.States.{State, HasPipe}
 use Rattle.session_calls.specs.Passes.{known}
-use Rattle.session_calls.proofs.Boarding.{starts-same}
-use Rattle.script_session.proofs.Arms.{or-stops, stops-same, answer-holds}
+use Rattle.script_session.proofs.Arms.{or-stops, stops-same, answer-holds, sees-same}
 use Rattle.script_session.proofs.Living.{live-at, no-live, within, is-live, rests-at, live-arm}
 use Rattle.script_session.proofs.scripts.Session.authsize.Goals as goal
 
@@ -35,4 +34,4 @@ returns c =
     let legal : LegalBoard b.seen = subst (λ (x : State). LegalBoard (known x.board).seen) (sym c.self.view_is) c.requires.posted.legal in
     live-arm c.args.self.now c.self.view_is c.args.label.now c.as_slice.result.now c.deref.result.now c.as_slice.ensures c.deref.ensures.value c.args.number c.in-Some.place c.in-Some.ensures old c.size_live.new.live
     (λ walk live. sizes_live walk c.args.number live c.args.size) c.self.inside.board _ _ c.size_live.result c.index_mut.ensures.value refl c.requires.stands c.requires.posted
-    (or-stops c.size_live.result c.size_live.ensures (λ f. f b on legal) (refl, starts-same b.seen))
+    (or-stops c.size_live.result c.size_live.ensures (λ f. f b on legal) (sees-same b))

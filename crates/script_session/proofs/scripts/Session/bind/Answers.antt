@@ -3,8 +3,8 @@ use Rattle.std.proofs.lemmas.Result.{err_from_is_err_and}
 use Rattle.dialogues.specs.Allocating.{new_live, shape_for}
 use Rattle.dialogues.specs.RegistryCalls.{Gets}
 use Rattle.session_calls.specs.Passes.{known}
-use Rattle.script_session.proofs.Arms.{or-stops}
-use Rattle.script_session.proofs.Finding.{sees-asked, sees-then, sees-same, asks-got, created-sees, further, bound-arm, lost-arm, unplanned-arm}
+use Rattle.script_session.proofs.Arms.{or-stops, sees-same}
+use Rattle.script_session.proofs.Finding.{sees-asked, sees-then, asks-got, created-sees, further, bound-arm, lost-arm, unplanned-arm}
 use Rattle.script_session.proofs.scripts.Session.bind.Goals as goal
 
 pub returns-in_default-planned : goal.returns-in_default-planned

@@ -1,8 +1,8 @@
 use Rattle.std.proofs.Common.{refl, Ok, Err}
 use Rattle.alg_names.specs.Name.{spelling}
 use Rattle.session_calls.specs.Passes.{known}
-use Rattle.script_session.proofs.Arms.{or-stops}
-use Rattle.script_session.proofs.Finding.{sees-asked, sees-same, finds-as, further, look-stands, found-arm, fault-holds}
+use Rattle.script_session.proofs.Arms.{or-stops, sees-same}
+use Rattle.script_session.proofs.Finding.{sees-asked, finds-as, further, look-stands, found-arm, fault-holds}
 use Rattle.script_session.proofs.scripts.Session.find.Goals as goal
 
 pub bind-requires-clause-stands : goal.bind-requires-clause-stands

@@ -9,8 +9,7 @@ use Rattle.script_session.specs.Changing.{HoldsFor}
 use Rattle.script_session.specs.Keyed.{keys_live}
 use Rattle.script_session.specs.States.{State, HasPipe}
 use Rattle.session_calls.specs.Passes.{known}
-use Rattle.session_calls.proofs.Boarding.{starts-same}
-use Rattle.script_session.proofs.Arms.{or-stops, stops-same, answer-holds}
+use Rattle.script_session.proofs.Arms.{or-stops, stops-same, answer-holds, sees-same}
 use Rattle.script_session.proofs.Living.{live-at, no-live, within, is-live, rests-at, live-arm}
 use Rattle.script_session.proofs.scripts.Session.key.Goals as goal
 
@@ -39,4 +38,4 @@ returns c =
     let legal : LegalBoard b.seen = subst (λ (x : State). LegalBoard (known x.board).seen) (sym c.self.view_is) c.requires.posted.legal in
     live-arm c.args.self.now c.self.view_is c.args.label.now c.as_slice.result.now c.deref.result.now c.as_slice.ensures c.deref.ensures.value c.args.number c.in-Some.place c.in-Some.ensures old c.key_live.new.live
     (λ walk live. keys_live walk c.args.number live c.args.key.now) c.self.inside.board _ _ c.key_live.result c.index_mut.ensures.value refl c.requires.stands c.requires.posted
-    (or-stops c.key_live.result (subst (λ x. OnOk c.key_live.result ((k : Known (BoardEntry Ask)) → HasPipe k old.pipe → LegalBoard k.seen → HoldsFor (λ walk. keys_live walk c.args.number old x) old c.key_live.new.live k k [] c.args.answers.now.items c.key_live.new.answers.items)) c.as_slice-2.ensures c.key_live.ensures) (λ f. f b on legal) (refl, starts-same b.seen))
+    (or-stops c.key_live.result (subst (λ x. OnOk c.key_live.result ((k : Known (BoardEntry Ask)) → HasPipe k old.pipe → LegalBoard k.seen → HoldsFor (λ walk. keys_live walk c.args.number old x) old c.key_live.new.live k k [] c.args.answers.now.items c.key_live.new.answers.items)) c.as_slice-2.ensures c.key_live.ensures) (λ f. f b on legal) (sees-same b))

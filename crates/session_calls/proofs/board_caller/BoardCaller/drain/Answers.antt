@@ -1,6 +1,7 @@
-use Rattle.std.proofs.Common.{◌≡◌, Some, sym, ◌∙◌, ◌++◌, List, subst, MatchResult}
+use Rattle.std.proofs.Common.{◌≡◌, ◌+◌, length, Some, sym, ◌∙◌, ◌++◌, List, subst, MatchResult}
 use Rattle.kc_base.specs.declared.callback_list.Callback.{Callback}
 use Rattle.board.specs.Entries.{entries_of}
+use Rattle.board.specs.Handing.{completions}
 use Rattle.board.specs.Legal.{LegalBoard}
 use Rattle.board.specs.declared.board_core.BoardErr.TheVariants.{Memory}
 use Rattle.transforms.specs.declared.request.Finished.{Finished}
@@ -28,6 +29,6 @@ returns-clause-drained g c =
     let into' = c.drain-pass.new.into.list in
     let before = known (Some c.unwrap-pass.result) in
     let after = known (Some c.drain-pass.result.0) in
-    subst (λ o. MatchResult c.drain-pass.result.1 (λ _. (callbacks : List (Callback Finished)) × (into' ≡ into ++ callbacks) × Drained (known o) after c.args.pipe.now callbacks) (λ e. (e ≡ Memory) × Kept (known o) after)) (sym at_hand)
-    (subst (λ (p : Pipe). MatchResult c.drain-pass.result.1 (λ _. (callbacks : List (Callback Finished)) × (into' ≡ into ++ callbacks) × Drained before after p callbacks) (λ e. (e ≡ Memory) × Kept before after)) c.pipe.view_is
+    subst (λ o. MatchResult c.drain-pass.result.1 (λ _. (callbacks : List (Callback Finished)) × (into' ≡ into ++ callbacks) × Drained (known o) after c.args.pipe.now callbacks × (c.args.pipe.now.delivered + completions callbacks ≡ length c.args.pipe.now.lines)) (λ e. (e ≡ Memory) × Kept (known o) after)) (sym at_hand)
+    (subst (λ (p : Pipe). MatchResult c.drain-pass.result.1 (λ _. (callbacks : List (Callback Finished)) × (into' ≡ into ++ callbacks) × Drained before after p callbacks × (p.delivered + completions callbacks ≡ length p.lines)) (λ e. (e ≡ Memory) × Kept before after)) c.pipe.view_is
     (crew-drained c.board_laws.ensures before after p into into' c.drain-pass.result.1 (subst (λ o. LegalBoard (known o).seen) at_hand c.requires.legal) on c.drain-pass.ensures.drained))

@@ -1,40 +1,35 @@
 use Rattle.std.proofs.Common.{◌∙◌}
 use Rattle.turn_lock.specs.Passes.{knows}
 use Rattle.board.specs.declared.entry.BoardEntry.TheVariants as entry
-use Rattle.turn_lock.proofs.Clients.{sure_turn}
+use Rattle.turn_lock.specs.Going.{sure_turn}
 use Rattle.board.specs.Entries.{caller_of}
 use Rattle.board.specs.Legal.{LegalBoard}
-use Rattle.shared_board.proofs.Meeting.{known_here, open_here, drained_here, itself}
+use Rattle.shared_board.proofs.Knowing.{itself}
 use Rattle.shared_board.proofs.shared.SharedBoard.close.Goals as goal
 
 pub close-requires-clause-caller : goal.close-requires-clause-caller
 close-requires-clause-caller g c κs within =
-    let k = knows c.args.pass in
-    let s = known_here k _ c.turn-turn.ensures.meets c.args.pipe c.requires.caller in
+    let s = c.turn-turn.ensures.holds.known c.args.pipe c.requires.caller in
     rw (c.number-caller.ensures, c.get.ensures.value) s.managed
 
 pub close-requires-clause-pipe : goal.close-requires-clause-pipe
 close-requires-clause-pipe g c κs within =
-    let k = knows c.args.pass in
-    let o = open_here k _ c.turn-turn.ensures.meets c.args.pipe c.requires.caller c.requires.pipe in
+    let o = c.turn-turn.ensures.holds.open_ c.args.pipe c.requires.caller c.requires.pipe in
     rw c.get.ensures.value o
 
 pub close-requires-clause-alone : goal.close-requires-clause-alone
 close-requires-clause-alone g c κs within =
-    let k = knows c.args.pass in
-    let s = known_here k _ c.turn-turn.ensures.meets c.args.pipe c.requires.caller in
+    let s = c.turn-turn.ensures.holds.known c.args.pipe c.requires.caller in
     rw c.get.ensures.value (s.shared ∙ c.requires.alone)
 
 pub close-requires-clause-finished : goal.close-requires-clause-finished
 close-requires-clause-finished g c κs within =
-    let k = knows c.args.pass in
-    let d = drained_here k _ c.turn-turn.ensures.meets c.args.pipe c.requires.caller c.requires.pipe c.requires.alone c.requires.drained in
+    let d = c.turn-turn.ensures.holds.drained c.args.pipe c.requires.caller c.requires.pipe c.requires.alone c.requires.drained in
     rw c.get.ensures.value d.0
 
 pub close-requires-clause-collected : goal.close-requires-clause-collected
 close-requires-clause-collected g c κs within =
-    let k = knows c.args.pass in
-    let d = drained_here k _ c.turn-turn.ensures.meets c.args.pipe c.requires.caller c.requires.pipe c.requires.alone c.requires.drained in
+    let d = c.turn-turn.ensures.holds.drained c.args.pipe c.requires.caller c.requires.pipe c.requires.alone c.requires.drained in
     rw c.get.ensures.value d.1
 
 pub returns-clause-turn : goal.returns-clause-turn

@@ -6,21 +6,19 @@ use Rattle.board.specs.declared.entry.BoardEntry.TheVariants as entry
 use Rattle.board.specs.declared.board_core.BoardErr.TheVariants as error
 use Rattle.board.specs.Entries.{entries_of, verdict, caller_of}
 use Rattle.board.specs.Allowance.{IsAllowed}
-use Rattle.turn_lock.proofs.Clients.{asked_turn}
+use Rattle.turn_lock.specs.Going.{asked_turn}
 use Rattle.board.specs.Legal.{LegalBoard}
-use Rattle.shared_board.proofs.Meeting.{submits_here, queue_here, itself}
+use Rattle.shared_board.proofs.Knowing.{itself}
 use Rattle.shared_board.proofs.shared.SharedBoard.enqueue.Goals as goal
 
 pub enqueue-answer-requires-clause-caller : goal.enqueue-answer-requires-clause-caller
 enqueue-answer-requires-clause-caller g c κs within =
-    let k = knows c.args.pass in
-    let may = submits_here k _ c.turn-turn.ensures.meets c.args.pipe c.requires.caller in
+    let may = c.turn-turn.ensures.holds.submits c.args.pipe c.requires.caller in
     rw (c.number-caller.ensures, c.get.ensures.value) may
 
 pub enqueue-answer-requires-clause-pipe : goal.enqueue-answer-requires-clause-pipe
 enqueue-answer-requires-clause-pipe g c κs within =
-    let k = knows c.args.pass in
-    let o = queue_here k _ c.turn-turn.ensures.meets c.args.pipe c.requires.caller c.requires.pipe in
+    let o = c.turn-turn.ensures.holds.queue c.args.pipe c.requires.caller c.requires.pipe in
     rw c.get.ensures.value o
 
 pub returns-clause-turn : goal.returns-clause-turn

@@ -1,26 +1,23 @@
 use Rattle.turn_lock.specs.Passes.{knows}
 use Rattle.board.specs.Entries.{finish_entry, caller_of}
-use Rattle.turn_lock.proofs.Clients.{sure_turn}
+use Rattle.turn_lock.specs.Going.{sure_turn}
 use Rattle.board.specs.Legal.{LegalBoard}
-use Rattle.shared_board.proofs.Meeting.{slip_here, itself}
+use Rattle.shared_board.proofs.Knowing.{itself}
 use Rattle.shared_board.proofs.shared.SharedBoard.finish.Goals as goal
 
 pub finish-requires-clause-took : goal.finish-requires-clause-took
 finish-requires-clause-took g c κs within =
-    let k = knows c.args.pass in
-    let s = slip_here k _ c.turn-turn.ensures.meets c.args.slip.pipe g.W.Work.meaning c.args.slip.number c.args.out c.requires.took in
+    let s = c.turn-turn.ensures.holds.slip c.args.slip.pipe c.args.slip.number c.args.out c.requires.took in
     rw (c.number-caller.ensures, c.get.ensures.value) s.0
 
 pub finish-requires-clause-once : goal.finish-requires-clause-once
 finish-requires-clause-once g c κs within =
-    let k = knows c.args.pass in
-    let s = slip_here k _ c.turn-turn.ensures.meets c.args.slip.pipe g.W.Work.meaning c.args.slip.number c.args.out c.requires.took in
+    let s = c.turn-turn.ensures.holds.slip c.args.slip.pipe c.args.slip.number c.args.out c.requires.took in
     rw c.get.ensures.value s.1
 
 pub finish-requires-clause-right : goal.finish-requires-clause-right
 finish-requires-clause-right g c κs within =
-    let k = knows c.args.pass in
-    let s = slip_here k _ c.turn-turn.ensures.meets c.args.slip.pipe g.W.Work.meaning c.args.slip.number c.args.out c.requires.took in
+    let s = c.turn-turn.ensures.holds.slip c.args.slip.pipe c.args.slip.number c.args.out c.requires.took in
     rw c.get.ensures.value s.2
 
 pub returns-clause-turn : goal.returns-clause-turn

@@ -2,22 +2,20 @@ use Rattle.std.proofs.Common.{◌≡◌}
 use Rattle.turn_lock.specs.Passes.{knows}
 use Rattle.board.specs.declared.entry.BoardEntry.TheVariants as entry
 use Rattle.board.specs.declared.board_core.BoardErr.TheVariants as error
-use Rattle.turn_lock.proofs.Clients.{done_turn}
+use Rattle.turn_lock.specs.Going.{done_turn}
 use Rattle.board.specs.Entries.{caller_of}
 use Rattle.board.specs.Legal.{LegalBoard}
-use Rattle.shared_board.proofs.Meeting.{known_here, itself}
+use Rattle.shared_board.proofs.Knowing.{itself}
 use Rattle.shared_board.proofs.shared.SharedBoard.hold.Goals as goal
 
 pub hold-answer-requires-clause-caller : goal.hold-answer-requires-clause-caller
 hold-answer-requires-clause-caller g c κs within =
-    let k = knows c.args.pass in
-    let s = known_here k _ c.turn-turn.ensures.meets c.args.pipe c.requires.caller in
+    let s = c.turn-turn.ensures.holds.known c.args.pipe c.requires.caller in
     rw (c.number-caller.ensures, c.get.ensures.value) s.managed
 
 pub hold-answer-requires-clause-pipe : goal.hold-answer-requires-clause-pipe
 hold-answer-requires-clause-pipe g c κs within =
-    let k = knows c.args.pass in
-    let s = known_here k _ c.turn-turn.ensures.meets c.args.pipe c.requires.caller in
+    let s = c.turn-turn.ensures.holds.known c.args.pipe c.requires.caller in
     let o = s.queue c.requires.pipe in
     rw c.get.ensures.value o
 

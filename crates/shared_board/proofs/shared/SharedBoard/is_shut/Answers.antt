@@ -1,9 +1,9 @@
 use Rattle.std.proofs.Common.{refl, false}
 use Rattle.turn_lock.specs.Passes.{knows}
-use Rattle.turn_lock.proofs.Clients.{leaves}
+use Rattle.turn_lock.specs.Going.{leaves}
 use Rattle.board.specs.Entries.{caller_of}
 use Rattle.board.specs.Legal.{LegalBoard}
-use Rattle.shared_board.proofs.Meeting.{itself}
+use Rattle.shared_board.proofs.Knowing.{itself}
 use Rattle.shared_board.proofs.shared.SharedBoard.is_shut.Goals as goal
 
 pub returns-clause-turn : goal.returns-clause-turn

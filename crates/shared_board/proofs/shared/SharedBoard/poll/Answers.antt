@@ -3,22 +3,20 @@ use Rattle.turn_lock.specs.Passes.{knows}
 use Rattle.board.specs.declared.entry.BoardEntry.TheVariants as entry
 use Rattle.board.specs.declared.board_core.BoardErr.TheVariants as error
 use Rattle.board.specs.Entries.{entries_of, told, delivered, caller_of}
-use Rattle.turn_lock.proofs.Clients.{handed_turn}
+use Rattle.turn_lock.specs.Going.{handed_turn}
 use Rattle.board.specs.Legal.{LegalBoard}
-use Rattle.shared_board.proofs.Meeting.{known_here, open_here, itself}
+use Rattle.shared_board.proofs.Knowing.{itself}
 use Rattle.shared_board.proofs.shared.SharedBoard.poll.Goals as goal
 
 pub poll-answer-requires-clause-caller : goal.poll-answer-requires-clause-caller
 poll-answer-requires-clause-caller g c κs within =
-    let k = knows c.args.pass in
-    let s = known_here k _ c.turn-turn.ensures.meets c.args.pipe c.requires.caller in
+    let s = c.turn-turn.ensures.holds.known c.args.pipe c.requires.caller in
     rw (c.number-caller.ensures, c.get.ensures.value) s.managed
 
 pub poll-answer-requires-clause-pipe : goal.poll-answer-requires-clause-pipe
 poll-answer-requires-clause-pipe g c κs within =
-    let k = knows c.args.pass in
-    let s = known_here k _ c.turn-turn.ensures.meets c.args.pipe c.requires.caller in
-    let o = open_here k _ c.turn-turn.ensures.meets c.args.pipe c.requires.caller c.requires.pipe in
+    let s = c.turn-turn.ensures.holds.known c.args.pipe c.requires.caller in
+    let o = c.turn-turn.ensures.holds.open_ c.args.pipe c.requires.caller c.requires.pipe in
     rw c.get.ensures.value o
 
 pub returns-clause-turn : goal.returns-clause-turn

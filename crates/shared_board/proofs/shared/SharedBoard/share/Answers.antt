@@ -2,23 +2,21 @@ use Rattle.std.proofs.Common.{◌≡◌}
 use Rattle.turn_lock.specs.Passes.{knows}
 use Rattle.board.specs.declared.entry.BoardEntry.TheVariants as entry
 use Rattle.board.specs.declared.board_core.BoardErr.TheVariants as error
-use Rattle.turn_lock.proofs.Clients.{done_turn}
+use Rattle.turn_lock.specs.Going.{done_turn}
 use Rattle.board.specs.Entries.{caller_of}
 use Rattle.board.specs.Legal.{LegalBoard}
-use Rattle.shared_board.proofs.Meeting.{known_here, open_here, itself}
+use Rattle.shared_board.proofs.Knowing.{itself}
 use Rattle.shared_board.proofs.shared.SharedBoard.share.Goals as goal
 
 pub share-answer-requires-clause-caller : goal.share-answer-requires-clause-caller
 share-answer-requires-clause-caller g c κs within =
-    let k = knows c.args.pass in
-    let s = known_here k _ c.turn-turn.ensures.meets c.args.pipe c.requires.caller in
+    let s = c.turn-turn.ensures.holds.known c.args.pipe c.requires.caller in
     rw (c.number-caller.ensures, c.get.ensures.value) s.managed
 
 pub share-answer-requires-clause-pipe : goal.share-answer-requires-clause-pipe
 share-answer-requires-clause-pipe g c κs within =
-    let k = knows c.args.pass in
-    let s = known_here k _ c.turn-turn.ensures.meets c.args.pipe c.requires.caller in
-    let o = open_here k _ c.turn-turn.ensures.meets c.args.pipe c.requires.caller c.requires.pipe in
+    let s = c.turn-turn.ensures.holds.known c.args.pipe c.requires.caller in
+    let o = c.turn-turn.ensures.holds.open_ c.args.pipe c.requires.caller c.requires.pipe in
     rw c.get.ensures.value o
 
 pub returns-clause-turn : goal.returns-clause-turn

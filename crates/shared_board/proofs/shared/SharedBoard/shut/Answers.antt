@@ -1,15 +1,14 @@
 use Rattle.turn_lock.specs.Passes.{knows}
 use Rattle.board.specs.declared.entry.BoardEntry.TheVariants as entry
-use Rattle.turn_lock.proofs.Clients.{sure_turn}
+use Rattle.turn_lock.specs.Going.{sure_turn}
 use Rattle.board.specs.Entries.{caller_of}
 use Rattle.board.specs.Legal.{LegalBoard}
-use Rattle.shared_board.proofs.Meeting.{unshut_here, itself}
+use Rattle.shared_board.proofs.Knowing.{itself}
 use Rattle.shared_board.proofs.shared.SharedBoard.shut.Goals as goal
 
 pub shut-requires-clause-once : goal.shut-requires-clause-once
 shut-requires-clause-once g c κs within =
-    let k = knows c.args.pass in
-    let o = unshut_here k _ c.turn-turn.ensures.meets c.requires.caller c.requires.once in
+    let o = c.turn-turn.ensures.holds.unshut c.requires.caller c.requires.once in
     rw c.get.ensures.value o
 
 pub returns-clause-turn : goal.returns-clause-turn

@@ -2,8 +2,8 @@ use Rattle.std.proofs.Common.{◌≡◌, slice_get, Some}
 use Rattle.turn_lock.specs.Passes.{knows}
 use Rattle.board.specs.Entries.{entries_of, submissions, take_entry, NoneWaits, caller_of}
 use Rattle.board.specs.Legal.{MayFinish, LegalBoard}
-use Rattle.turn_lock.proofs.Clients.{found_turn}
-use Rattle.shared_board.proofs.Meeting.{itself}
+use Rattle.turn_lock.specs.Going.{found_turn}
+use Rattle.shared_board.proofs.Knowing.{itself}
 use Rattle.shared_board.proofs.shared.SharedBoard.take.Goals as goal
 
 pub returns-clause-turn : goal.returns-clause-turn

@@ -2,7 +2,7 @@ use Rattle.std.proofs.Common.{refl, sym, ap, ◌∙◌, subst, Some}
 use Rattle.alg_registry.specs.Rows.{caller_of, rows_of}
 use Rattle.turn_lock.specs.Passes.{knows}
 use Rattle.turn_lock.specs.Turns.{Shows, sees}
-use Rattle.turn_lock.proofs.Clients.{meets}
+use Rattle.turn_lock.specs.Going.{meets}
 use Rattle.shared_registry.specs.Faithful.{IsFaithful}
 use Rattle.alg_registry.specs.declared.entry.RegEntry.TheVariants.{End}
 use Rattle.alg_registry.specs.Calls.{end_given, unless_memory}
@@ -17,7 +17,7 @@ end-answer-requires-clause-claimed g c =
     let kept = subst IsFaithful (sym v) t.faithful in
     let met = meets caller_of IsFaithful (knows c.args.pass) h shows kept in
     let same = t.sees ∙ ap (sees (knows c.args.pass)) (sym v) in
-    (open_at (knows c.args.pass) h shows kept.legal c.args.larval c.requires.open).0 ∙ ap (λ n. Some n) (sym c.number-by.ensures)
+    (open_at t.laws (knows c.args.pass) h shows kept.legal c.args.larval c.requires.open).0 ∙ ap (λ n. Some n) (sym c.number-by.ensures)
 
 pub end-answer-requires-clause-unended : goal.end-answer-requires-clause-unended
 end-answer-requires-clause-unended g c =
@@ -26,7 +26,7 @@ end-answer-requires-clause-unended g c =
     let kept = subst IsFaithful (sym v) t.faithful in
     let met = meets caller_of IsFaithful (knows c.args.pass) h shows kept in
     let same = t.sees ∙ ap (sees (knows c.args.pass)) (sym v) in
-    (open_at (knows c.args.pass) h shows kept.legal c.args.larval c.requires.open).1
+    (open_at t.laws (knows c.args.pass) h shows kept.legal c.args.larval c.requires.open).1
 
 pub end-answer-requires-clause-handed : goal.end-answer-requires-clause-handed
 end-answer-requires-clause-handed g c = is_failure (knows c.args.pass) c.args.larval c.args.built c.requires.handed
@@ -38,7 +38,7 @@ end-answer-requires-clause-made g c =
     let kept = subst IsFaithful (sym v) t.faithful in
     let met = meets caller_of IsFaithful (knows c.args.pass) h shows kept in
     let same = t.sees ∙ ap (sees (knows c.args.pass)) (sym v) in
-    end_made (knows c.args.pass) h shows kept.legal c.number-by.result c.args.larval c.args.built c.requires.open c.requires.handed
+    end_made t.laws (knows c.args.pass) h shows kept.legal c.number-by.result c.args.larval c.args.built c.requires.open c.requires.handed
 
 pub returns-clause-turn : goal.returns-clause-turn
 returns-clause-turn g c =

@@ -2,7 +2,7 @@ use Rattle.std.proofs.Common.{refl, sym, ap, ◌∙◌, subst}
 use Rattle.alg_registry.specs.Rows.{caller_of}
 use Rattle.turn_lock.specs.Passes.{knows}
 use Rattle.turn_lock.specs.Turns.{Shows, sees}
-use Rattle.turn_lock.proofs.Clients.{meets}
+use Rattle.turn_lock.specs.Going.{meets}
 use Rattle.shared_registry.specs.Faithful.{IsFaithful}
 use Rattle.alg_registry.specs.declared.entry.RegEntry.TheVariants.{Look}
 use Rattle.shared_registry.proofs.Asking.{look_made, look_caller}
@@ -16,7 +16,7 @@ look-answer-requires-clause-next g c =
     let kept = subst IsFaithful (sym v) t.faithful in
     let met = meets caller_of IsFaithful (knows c.args.pass) h shows kept in
     let same = t.sees ∙ ap (sees (knows c.args.pass)) (sym v) in
-    look_made (knows c.args.pass) h shows kept.legal _ c.args.text.now c.args.plain c.number-by.ensures c.requires.may
+    look_made t.laws (knows c.args.pass) h shows kept.legal _ c.args.text.now c.args.plain c.number-by.ensures c.requires.may
 
 pub look-answer-requires-clause-caller : goal.look-answer-requires-clause-caller
 look-answer-requires-clause-caller g c = look_caller (knows c.args.pass) _ c.args.text.now c.args.plain c.number-by.ensures c.requires.may

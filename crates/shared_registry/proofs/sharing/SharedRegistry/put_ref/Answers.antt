@@ -2,11 +2,10 @@ use Rattle.std.proofs.Common.{refl, sym, ap, ◌∙◌, subst}
 use Rattle.alg_registry.specs.Rows.{caller_of}
 use Rattle.turn_lock.specs.Passes.{knows}
 use Rattle.turn_lock.specs.Turns.{Shows, sees}
-use Rattle.turn_lock.proofs.Clients.{meets}
+use Rattle.turn_lock.specs.Going.{meets}
 use Rattle.shared_registry.specs.Faithful.{IsFaithful}
 use Rattle.alg_registry.specs.declared.entry.RegEntry.TheVariants.{Put}
 use Rattle.alg_registry.specs.Legal.{HasReference}
-use Rattle.alg_registry.proofs.OwnCalls.{reference_own}
 use Rattle.shared_registry.proofs.Turning.{end_gave, sound_entered}
 use Rattle.shared_registry.proofs.sharing.SharedRegistry.put_ref.Goals as goal
 
@@ -17,7 +16,7 @@ put_ref-requires-clause-has g c =
     let kept = subst IsFaithful (sym v) t.faithful in
     let met = meets caller_of IsFaithful (knows c.args.pass) h shows kept in
     let same = t.sees ∙ ap (sees (knows c.args.pass)) (sym v) in
-    subst (λ n. HasReference h n c.args.id) (sym c.number-by.ensures) (reference_own (knows c.args.pass).number c.args.id h (subst (λ es. HasReference es (knows c.args.pass).number c.args.id) (sym shows.made) c.requires.has))
+    subst (λ n. HasReference h n c.args.id) (sym c.number-by.ensures) (t.laws.references h (knows c.args.pass).number c.args.id (subst (λ es. HasReference es (knows c.args.pass).number c.args.id) (sym shows.made) c.requires.has))
 
 pub returns-clause-turn : goal.returns-clause-turn
 returns-clause-turn g c =

@@ -1,8 +1,0 @@
-use Rattle.crew.proofs.Ends.{no_work_is_right, shut_is_last}
-use Rattle.crew.proofs.laws.work_ends.Goals as goal
-
-pub returns-clause-nothing_left : goal.returns-clause-nothing_left
-returns-clause-nothing_left g c = no_work_is_right
-
-pub returns-clause-shut_last : goal.returns-clause-shut_last
-returns-clause-shut_last g c = shut_is_last

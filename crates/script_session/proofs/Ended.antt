@@ -1,0 +1,174 @@
+-- What the end of input makes of one transform, and of a session.
+use Rattle.std.proofs.Common.{◌≡◌, ℕ, ◌+◌, ◌≤◌, Bool, true, false, cond, arith, List, [], ◌∷◌, ◌++◌, length, map, Option, Some, None, refl, sym, ap, subst, ◌∙◌, append-nil}
+use Rattle.std.specs.Prelude.{All}
+use Rattle.std.specs.Option.{option_map}
+use Rattle.std.specs.List.{flat_map}
+use Rattle.std.proofs.lemmas.Bool.{eqb-true}
+use Rattle.std.proofs.lemmas.List.Elements.{All-head, All-tail}
+use Rattle.kc_base.specs.declared.callback_list.Callback.{Callback}
+use Rattle.board.specs.declared.entry.BoardEntry.{BoardEntry}
+use Rattle.board.specs.declared.entry.BoardEntry.TheVariants as event
+use Rattle.board.specs.Entries.{entries_of, submissions, front}
+use Rattle.board.specs.Handing.{completions}
+use Rattle.board.specs.Legal.{MayManage, LegalBoard}
+use Rattle.reply_text.specs.Answers.{text_of}
+use Rattle.reply_text.specs.declared.answers.Answer.{Answer}
+use Rattle.transforms.specs.declared.ask.Ask.{Ask}
+use Rattle.transforms.specs.declared.request.Finished.{Finished}
+use Rattle.turn_lock.specs.Turns.{Known, sees}
+use Rattle.dialogues.specs.BoardCalls.{BoardCall, Goes, Collects, Shuts}
+use Rattle.dialogues.specs.Dialogues.{Dialogue, Ends, Posts}
+use Rattle.dialogues.specs.Piping.{lets_go, let_all_go, drains_at_end, drain_all, end, said_at_end, notice_said}
+use Rattle.dialogues.specs.Questions.{Shut}
+use Rattle.dialogues.specs.Turns.{IsTurn, ended, joined, posting}
+use Rattle.dialogues.specs.Walk.{Walk, Live, Pipe}
+use Rattle.session_calls.specs.Asking.{Asked}
+use Rattle.session_calls.specs.Passes.{RegPass, BoardPass, known, lock_of}
+use Rattle.session_calls.specs.Pipelines.{KnowsPipe, Called, Changed, Drained, IsShut, notice_by}
+use Rattle.session_calls.proofs.BoardCalls.{all-drained}
+use Rattle.session_calls.proofs.Boarding.{kept-same, called-more}
+use Rattle.script_session.specs.Changing.{Changes}
+use Rattle.script_session.specs.Ending.{LeadsBy, part, Moves, MovesAll, ArePosted, AreAllPaid, IsPaid, end_said, place_of, AnswersEnd, EndsShut}
+use Rattle.script_session.specs.Keyed.{held_as, delivering}
+use Rattle.script_session.specs.States.{State, SameLocks, Stands, HasPipe, is_at, owners}
+use Rattle.script_session.specs.Telling.{callback_said}
+use Rattle.script_session.proofs.Arms.{viewed}
+use Rattle.script_session.proofs.Changing.{IsOn, changes-pipe, changes-kept}
+use Rattle.script_session.proofs.Leading.{leads-same, goes-held, drains-some, drains-same}
+use Rattle.script_session.proofs.Piped.{held-live, said-is, count-is, delivered-live}
+use Rattle.script_session.proofs.Rules.{asked-nothing}
+
+-- ---- a transform that stays as it is
+
+pub stays-put : (dialogue : Dialogue → Dialogue) (live : Live) (k : Known (BoardEntry Ask)) (answers : List Answer) → HasPipe k live.pipe → LegalBoard k.seen → LeadsBy dialogue [] [] → Moves dialogue live live k k answers answers
+stays-put dialogue live k answers on legal leads =
+    record {
+      calls = [];
+      said = [];
+      changes = changes-kept live k k on (kept-same k legal);
+      place = refl;
+      leads = leads;
+      says = sym (append-nil answers);
+    }
+
+-- ---- a held queue that is let go
+
+place-kept : (live live' : Live) (pipe pipe' : Pipe) → live.pipe ≡ Some pipe → live' ≡ record live { pipe = Some pipe' } → pipe'.number ≡ pipe.number → place_of live' ≡ place_of live
+place-kept live live' pipe pipe' has is same =
+    ap place_of is ∙ (ap (λ n. (live.label, Some n)) same ∙ sym (ap (λ o. (live.label, option_map (λ (p : Pipe). p.number) o)) has))
+
+pub goes-free_now : (k l : Known (BoardEntry Ask)) (live live' : Live) (pipe : Pipe) → live.pipe ≡ Some pipe → pipe.held ≡ true → Changed k l pipe (record pipe { held = false }) (Goes pipe.number ∷ []) [] → live' ≡ held_as live false
+    → Moves (lets_go live.pipe) live live' k l [] []
+goes-free_now k l live live' pipe has held changed is =
+    let pipe' : Pipe = record pipe { held = false } in
+    let now : live' ≡ record live { pipe = Some pipe' } = held-live live live' pipe false has is in
+    record {
+      calls = Goes pipe.number ∷ [];
+      said = [];
+      changes = subst (λ x. Changes live x k l (Goes pipe.number ∷ []) []) (sym now) (changes-pipe live k l pipe pipe' (Goes pipe.number ∷ []) [] has changed);
+      place = place-kept live live' pipe pipe' has now refl;
+      leads = goes-held live.pipe pipe has held;
+      says = refl;
+    }
+
+-- ---- the last drain
+
+pub drains-last : (k l : Known (BoardEntry Ask)) (live live' : Live) (pipe : Pipe) (count : ℕ) (callbacks : List (Callback Finished)) (answers answers' : List Answer) → live.pipe ≡ Some pipe → Drained k l pipe callbacks → count ≡ completions callbacks
+    → live' ≡ delivering live count → answers' ≡ answers ++ (map (callback_said pipe.lines) callbacks ++ end_said live.label count) → Moves (drains_at_end live.label live.pipe) live live' k l answers answers'
+drains-last k l live live' pipe count callbacks answers answers' has drained counts is e =
+    let notices = map (notice_by pipe.lines) callbacks in
+    let pipe' : Pipe = record pipe { delivered = pipe.delivered + completions callbacks } in
+    let call : BoardCall = Collects pipe.number (record { notices = notices; all_done = true }) in
+    let now : live' ≡ record live { pipe = Some pipe' } = delivered-live live live' pipe count callbacks has counts is in
+    record {
+      calls = call ∷ [];
+      said = said_at_end live.label notices;
+      changes = subst (λ x. Changes live x k l (call ∷ []) []) (sym now) (changes-pipe live k l pipe pipe' (call ∷ []) [] has drained);
+      place = place-kept live live' pipe pipe' has now refl;
+      leads = drains-some live.label live.pipe pipe notices has;
+      says =
+          e ∙ ap (λ x. answers ++ x)
+          (ap (λ x. x ++ end_said live.label count) (sym (said-is pipe.lines callbacks))
+          ∙ ap (λ c. map notice_said notices ++ end_said live.label c) (counts ∙ sym (count-is pipe.lines callbacks)));
+    }
+
+-- it has handed all out
+pub paid-last : (live live' : Live) (pipe : Pipe) (count : ℕ) (callbacks : List (Callback Finished)) → live.pipe ≡ Some pipe → count ≡ completions callbacks → live' ≡ delivering live count
+    → pipe.delivered + completions callbacks ≡ length pipe.lines → IsPaid live'.pipe
+paid-last live live' pipe count callbacks has counts is all =
+    subst (λ (x : Live). IsPaid x.pipe) (sym (delivered-live live live' pipe count callbacks has counts is)) all
+
+-- ---- the whole end
+
+leads-end : (walk : Walk) (a c : List BoardCall) (x y : List Answer) → LeadsBy (let_all_go walk.lives) a x → LeadsBy (drain_all walk.lives) c y
+    → IsTurn (end walk) (joined (part a x) (joined (part c y) (posting Shuts (ended walk))))
+leads-end walk a c x y lets drains =
+    let rest : Dialogue = Posts Shut λ done. Ends walk in
+    lets (drain_all walk.lives rest) [] (c ++ Shuts ∷ []) ∙ ap (joined (part a x)) (drains rest [] (Shuts ∷ []))
+
+pub end-answers : (s s' : State) (gone lives' : List Live) (k l : Known (BoardEntry Ask)) (answers : List Answer) (text text' : List ℕ) → SameLocks s s' → s'.registry ≡ s.registry → Stands s.walk.lives (known s.registry)
+    → MovesAll (let_all_go s.walk.lives) s.walk.lives gone (known s.board) k [] [] → MovesAll (drain_all gone) gone lives' k l [] answers → Called l (known s'.board) (Shuts ∷ [])
+    → text' ≡ text ++ flat_map text_of answers → AnswersEnd s s' text text'
+end-answers s s' gone lives' k l answers text text' locks same stands lets drains shuts put =
+    let walk = s.walk in
+    let a = lets.calls in
+    let c = drains.calls in
+    let drains_here : LeadsBy (drain_all walk.lives) c drains.said =
+    leads-same (drain_all gone) (drain_all walk.lives) c drains.said (λ rest. sym (drains-same walk.lives gone rest lets.places)) drains.leads in
+    record {
+      locks = locks;
+      turn = joined (part a lets.said) (joined (part c drains.said) (posting Shuts (ended walk)));
+      is = leads-end walk a c lets.said drains.said lets.leads drains_here;
+      asked = subst (λ r. Asked (known s.registry) (known r) []) (sym same) (asked-nothing (known s.registry) stands.caller);
+      called = called-more (known s.board) k (known s'.board) a (c ++ Shuts ∷ []) lets.called (called-more k l (known s'.board) c (Shuts ∷ []) drains.called shuts);
+      ends = refl;
+      says =
+          put
+          ∙ ap (λ xs. text ++ flat_map text_of xs)
+          (drains.says ∙ (sym (append-nil drains.said) ∙ ap (λ xs. xs ++ (drains.said ++ [])) lets.says));
+    }
+
+module _ {ws c : ℕ} {items left : List Live} {q v : ℕ} {r : Option RegPass} {b b' : Option BoardPass} (s : State) (view : viewed ws c items q v r b ≡ s) where
+  -- the lists that the two loops go over are the session's own
+  pub end-arm : (first first' second second' : List Live) (k l : Known (BoardEntry Ask)) (none answers slice : List Answer) (text text' : List ℕ) → first ≡ items → second ≡ first' → none ≡ [] → slice ≡ answers → lock_of b' ≡ lock_of b
+      → Stands s.walk.lives (known s.registry) → MovesAll (let_all_go first) first first' (known b) k [] [] → MovesAll (drain_all second) second second' k l none answers → Called l (known b') (Shuts ∷ [])
+      → text' ≡ text ++ flat_map text_of slice → AnswersEnd s (viewed ws c left q v r b') text text'
+  end-arm first first' second second' k l none answers slice text text' at_first at_second empty same lock stands lets drains shuts put =
+      let lives_are : first ≡ s.walk.lives = at_first ∙ ap (λ (x : State). x.walk.lives) view in
+      let lets' : MovesAll (let_all_go s.walk.lives) s.walk.lives first' (known s.board) k [] [] =
+      subst (λ (x : State). MovesAll (let_all_go s.walk.lives) s.walk.lives first' (known x.board) k [] []) view (subst (λ ls. MovesAll (let_all_go ls) ls first' (known b) k [] []) lives_are lets) in
+      let drains' : MovesAll (drain_all first') first' second' k l [] answers =
+      subst (λ a. MovesAll (drain_all first') first' second' k l a answers) empty (subst (λ ls. MovesAll (drain_all ls) ls second' k l none answers) at_second drains) in
+      end-answers s (viewed ws c left q v r b') first' second' k l answers text text'
+      (record { registry = ap (λ (x : State). lock_of x.registry) view; board = lock ∙ ap (λ (x : State). lock_of x.board) view; workers = ap (λ (x : State). x.workers) view })
+      (ap (λ (x : State). x.registry) view) stands lets' drains' shuts (put ∙ ap (λ a. text ++ flat_map text_of a) same)
+
+-- ---- each pipeline is finished
+
+-- who owns a pipeline has it among these
+among : (lives : List Live) (p : ℕ) (k : Known (BoardEntry Ask)) → 1 ≤ owners p lives → All (IsOn k) lives → AreAllPaid lives → (pipe : Pipe) × (pipe.number ≡ p) × KnowsPipe k pipe × (pipe.delivered ≡ length pipe.lines)
+among [] p k some on paid = absurd (omega (arith, some))
+among (x ∷ xs) p k some on paid = by_pipe x.pipe (is_at p x.pipe) refl some (All-head (IsOn k) x xs on) (All-head (λ (l : Live). IsPaid l.pipe) x xs paid) (λ rest. among xs p k rest (All-tail (IsOn k) x xs on) (All-tail (λ (l : Live). IsPaid l.pipe) x xs paid))
+  where
+    by_pipe : (pipe : Option Pipe) (t : Bool) → is_at p pipe ≡ t → 1 ≤ cond t 1 0 + owners p xs → HasPipe k pipe → IsPaid pipe → (1 ≤ owners p xs → (pipe : Pipe) × (pipe.number ≡ p) × KnowsPipe k pipe × (pipe.delivered ≡ length pipe.lines))
+        → (pipe : Pipe) × (pipe.number ≡ p) × KnowsPipe k pipe × (pipe.delivered ≡ length pipe.lines)
+    by_pipe None true at some on paid rest = absurd (let e = at in cc)
+    by_pipe (Some pipe) true at some on paid rest = (pipe, eqb-true pipe.number p at, on, paid)
+    by_pipe pipe false at some on paid rest = rest (omega (arith, some))
+
+pub ends-shut : (lives : List Live) (k l : Known (BoardEntry Ask)) → ArePosted lives k → AreAllPaid lives → IsShut k l → EndsShut l
+ends-shut lives k l are paid shut =
+    let before = shut.before in
+    let m : Known (BoardEntry Ask) = sees k before in
+    let same = shut.called.number in
+    record {
+      before = before;
+      shut = shut.last ∙ ap (λ n. before ++ event.Shut n ∷ []) (sym same);
+      finished = λ p may open_ended.
+          let owns = shut.kept.owned p (subst (MayManage (entries_of p before)) same may, open_ended) in
+          let some : 1 ≤ owners p lives = subst (λ ls. 1 ≤ owners p ls) are.1 (are.2.owned p owns) in
+          let one = among lives p k some (subst (All (IsOn k)) are.1 are.2.pipes) paid in
+          let pipe = one.0 in
+          let drained = all-drained m pipe shut.kept.legal (shut.kept.pipes pipe one.2) one.3 in
+          subst (λ n. front (entries_of n before) ≡ length (submissions (entries_of n before))) one.1 drained.0;
+    }

@@ -1,0 +1,200 @@
+-- Transforms change one after another, each by its part of the end of input.
+use Rattle.std.proofs.Common.{◌≡◌, ℕ, ◌+◌, ◌<◌, ◌≤◌, Bool, true, false, cond, List, [], ◌∷◌, ◌++◌, length, map, Result, Ok, Err, refl, sym, ap, subst, ◌∙◌, append-nil, append_assoc, arith, take, drop, get_or, slice_index_or}
+use Rattle.std.specs.Prelude.{All, MatchResult, sum_by}
+use Rattle.std.specs.Result.{IsErr}
+use Rattle.std.proofs.Math.ListN.{set}
+use Rattle.std.proofs.lemmas.List.{length-map, map-append, take_more, take_more_set, drop_more, get_or-drop, take-append-drop, take-set, drop-set, drop-set-lt, take_all}
+use Rattle.std.proofs.lemmas.List.Elements.{All-nil, All-cons, All-head, All-tail, All-append}
+use Rattle.board.specs.declared.entry.BoardEntry.{BoardEntry}
+use Rattle.board.specs.Allowance.{accepted_by}
+use Rattle.board.specs.Legal.{IsNoWorker, LegalBoard}
+use Rattle.reply_text.specs.declared.answers.Answer.{Answer}
+use Rattle.transforms.specs.declared.ask.Ask.{Ask}
+use Rattle.transforms.specs.AskValue.{ask_size}
+use Rattle.turn_lock.specs.Turns.{Known}
+use Rattle.dialogues.specs.BoardCalls.{BoardCall}
+use Rattle.dialogues.specs.Dialogues.{Dialogue}
+use Rattle.dialogues.specs.Walk.{Live}
+use Rattle.session_calls.specs.Pipelines.{Owns}
+use Rattle.session_calls.proofs.Boarding.{kept-same, called-more, starts-trans}
+use Rattle.script_session.specs.Changing.{Changes}
+use Rattle.script_session.specs.Ending.{Moves, MovesAll, ArePosted, AreAllPaid, IsPaid, place_of}
+use Rattle.script_session.specs.Holding.{SeesOn}
+use Rattle.script_session.specs.States.{HasPipe, is_at, owners}
+use Rattle.script_session.proofs.Arms.{sees-same, called-sees}
+use Rattle.script_session.proofs.Changing.{IsOn, All-left, All-right, owners-append, others-stay, beside}
+use Rattle.script_session.proofs.Leading.{leads-then, leads-same, leads-nothing}
+
+pub sees-on : (k l m : Known (BoardEntry Ask)) → SeesOn k l → SeesOn l m → SeesOn k m
+sees-on k l m first later =
+    record {
+      more = record {
+        number = later.more.number ∙ first.more.number;
+        next = later.more.next ∙ first.more.next;
+        seen = starts-trans k.seen l.seen m.seen first.more.seen later.more.seen;
+      };
+      unshut = λ zero_is. later.unshut (first.more.number ∙ zero_is) ∙ first.unshut zero_is;
+    }
+
+-- ---- one of them changes
+
+-- They are posted again, with the one that changed.
+pub one-posted : (before later : List Live) (live live' : Live) (k l : Known (BoardEntry Ask)) (calls : List BoardCall) → ArePosted (before ++ live ∷ later) k → Changes live live' k l calls [] → ArePosted (before ++ live' ∷ later) l
+one-posted before later live live' k l calls are changes =
+    let walk = are.0 in
+    let posted = are.2 in
+    let now : List Live = before ++ live' ∷ later in
+    let were : All (IsOn k) (before ++ live ∷ later) = subst (All (IsOn k)) are.1 posted.pipes in
+    let most = λ (number : ℕ). subst (λ ls. owners number ls ≤ 1) are.1 (posted.apart number) in
+    let first = others-stay k l live.pipe before changes.others (λ number at. (beside number before later live (most number) at).0) (All-left (IsOn k) before (live ∷ later) were) in
+    let rest = others-stay k l live.pipe later changes.others (λ number at. (beside number before later live (most number) at).1) (All-tail (IsOn k) live later (All-right (IsOn k) before (live ∷ later) were)) in
+    let same : accepted_by l.number l.seen ≡ accepted_by k.number k.seen = changes.accepted ∙ append-nil (accepted_by k.number k.seen) in (
+      record walk { lives = now },
+      refl,
+      record {
+        outsider = subst IsNoWorker (sym changes.called.number) posted.outsider;
+        legal = changes.legal;
+        pipes = All-append (IsOn l) before (live' ∷ later) first (All-cons (IsOn l) live' later changes.pipe rest);
+        apart = λ number.
+            (let new = owners-append number before (live' ∷ later) in
+            let old = owners-append number before (live ∷ later) in
+            let counted : Bool → ℕ = λ t. cond t 1 0 in
+            let one : counted (is_at number live'.pipe) ≡ counted (is_at number live.pipe) = ap counted (changes.same number) in
+            let few = most number in
+            let goal : owners number now ≤ 1 = omega (arith, new, old, one, few) in
+            goal);
+        owned = λ number owns. by_place number (is_at number live.pipe) refl owns;
+        requests = ap length same ∙ posted.requests;
+        bytes = ap (sum_by ask_size) same ∙ posted.bytes;
+        unshut = λ zero_is. changes.unshut (sym changes.called.number ∙ zero_is) ∙ posted.unshut (sym changes.called.number ∙ zero_is);
+      },
+    )
+  where
+    by_place : (number : ℕ) (t : Bool) → is_at number live.pipe ≡ t → Owns l number → 1 ≤ owners number (before ++ live' ∷ later)
+    by_place number true at owns =
+        let new = owners-append number before (live' ∷ later) in
+        let counted : Bool → ℕ = λ t. cond t 1 0 in
+        let one : counted (is_at number live'.pipe) ≡ 1 = ap counted (changes.same number ∙ at) in
+        omega (arith, new, one)
+    by_place number false at owns =
+        let new = owners-append number before (live' ∷ later) in
+        let old = owners-append number before (live ∷ later) in
+        let counted : Bool → ℕ = λ t. cond t 1 0 in
+        let one : counted (is_at number live'.pipe) ≡ counted (is_at number live.pipe) = ap counted (changes.same number) in
+        let had : 1 ≤ owners number (before ++ live ∷ later) = subst (λ ls. 1 ≤ owners number ls) are.1 (are.2.owned number (changes.owned number at owns)) in
+        omega (arith, new, old, one, had)
+
+-- ---- a loop over all of them
+
+-- The first so many have changed, and the others are as they were.
+pub record OnTheWay (all : List Live → Dialogue → Dialogue) (i : ℕ) (lives now : List Live) (k l : Known (BoardEntry Ask)) (answers answers' : List Answer) : Type 0 where
+  pub moves : MovesAll (all (take i lives)) lives now k l answers answers'
+  pub left : drop i now ≡ drop i lives
+  pub sees : SeesOn k l
+
+pub sets-out : (all : List Live → Dialogue → Dialogue) (lives : List Live) (k : Known (BoardEntry Ask)) (answers : List Answer) → ((rest : Dialogue) → all [] rest ≡ rest) → ArePosted lives k → LegalBoard k.seen
+    → OnTheWay all 0 lives lives k k answers answers
+sets-out all lives k answers nothing are legal =
+    record {
+      moves = record {
+        calls = [];
+        said = [];
+        called = (kept-same k legal).called;
+        places = refl;
+        posted = are;
+        leads = leads-same (λ rest. rest) (all []) [] [] nothing leads-nothing;
+        says = sym (append-nil answers);
+      };
+      left = refl;
+      sees = sees-same k;
+    }
+
+abbrev rest_of : List Live → List Live
+rest_of [] = []
+rest_of (x ∷ xs) = xs
+
+drop-rest : (lives : List Live) (i : ℕ) (d : Live) → i < length lives → rest_of (drop i lives) ≡ drop (i + 1) lives
+drop-rest lives i d within = ap rest_of (drop_more lives i d within)
+
+-- what is left begins with the same transform
+same-at : (lives now : List Live) (i : ℕ) (d : Live) → drop i now ≡ drop i lives → get_or lives i d ≡ get_or now i d
+same-at lives now i d left =
+    let place : i + 0 ≡ i = omega arith in
+    ap (λ n. get_or lives n d) (sym place)
+    ∙ (sym (get_or-drop i lives 0 d) ∙ (ap (λ ls. get_or ls 0 d) (sym left) ∙ (get_or-drop i now 0 d ∙ ap (λ n. get_or now n d) place)))
+
+module _ (all : List Live → Dialogue → Dialogue) (one : Live → Dialogue → Dialogue) (more : (before : List Live) (live : Live) (rest : Dialogue) → all (before ++ live ∷ []) rest ≡ all before (one live rest))
+    (lives now : List Live) (i : ℕ) (live live' : Live) (k l l' : Known (BoardEntry Ask)) (answers said said' : List Answer)
+    (way : OnTheWay all i lives now k l answers said) (within : i < length now) (here : live ≡ slice_index_or now i live) where
+  same_length : length now ≡ length lives
+  same_length = sym (length-map now place_of) ∙ (ap length way.moves.places ∙ length-map lives place_of)
+
+  split : now ≡ take i now ++ live ∷ drop (i + 1) now
+  split = sym (take-append-drop i now) ∙ ap (λ x. take i now ++ x) (drop_more now i live within ∙ ap (λ x. x ∷ drop (i + 1) now) (sym here))
+
+  pub now_posted : ArePosted (take i now ++ live ∷ drop (i + 1) now) l
+  now_posted = subst (λ ls. ArePosted ls l) split way.moves.posted
+
+  -- its pipeline is as the caller knows it
+  pub on-board : HasPipe l live.pipe
+  on-board =
+      let are = now_posted in
+      All-head (IsOn l) live (drop (i + 1) now) (All-right (IsOn l) (take i now) (live ∷ drop (i + 1) now) (subst (All (IsOn l)) are.1 are.2.pipes))
+
+  set_is : set now i live' ≡ take i now ++ live' ∷ drop (i + 1) now
+  set_is = sym (take-append-drop i (set now i live')) ∙ (ap (λ x. x ++ drop i (set now i live')) (take-set now i live') ∙ ap (λ x. take i now ++ x) (drop-set now i live' within))
+
+  fewer : take (i + 1) lives ≡ take i lives ++ live ∷ []
+  fewer =
+      let inside : i < length lives = subst (λ n. i < n) same_length within in
+      take_more lives i live inside ∙ ap (λ x. take i lives ++ x ∷ []) (same-at lives now i live way.left ∙ sym here)
+
+  pub goes-further : (now' : List Live) → now' ≡ set now i live' → Moves (one live) live live' l l' said said' → OnTheWay all (i + 1) lives now' k l' answers said'
+  goes-further now' set_to m =
+      let is : now' ≡ take i now ++ live' ∷ drop (i + 1) now = set_to ∙ set_is in
+      let places : map place_of now' ≡ map place_of now =
+      ap (map place_of) is
+      ∙ (map-append place_of (take i now) (live' ∷ drop (i + 1) now)
+      ∙ (ap (λ p. map place_of (take i now) ++ p ∷ map place_of (drop (i + 1) now)) m.place
+      ∙ (sym (map-append place_of (take i now) (live ∷ drop (i + 1) now)) ∙ ap (map place_of) (sym split)))) in
+      let inside : i < length lives = subst (λ n. i < n) same_length within in
+      let on : i < i + 1 = omega arith in
+      record {
+        moves = record {
+          calls = way.moves.calls ++ m.calls;
+          said = way.moves.said ++ m.said;
+          called = called-more k l l' way.moves.calls m.calls way.moves.called m.changes.called;
+          places = places ∙ way.moves.places;
+          posted = subst (λ ls. ArePosted ls l') (sym is) (one-posted (take i now) (drop (i + 1) now) live live' l l' m.calls now_posted m.changes);
+          leads = leads-same (λ rest. all (take i lives) (one live rest)) (all (take (i + 1) lives)) (way.moves.calls ++ m.calls) (way.moves.said ++ m.said)
+              (λ rest. ap (λ ls. all ls rest) fewer ∙ more (take i lives) live rest)
+              (leads-then (all (take i lives)) (one live) way.moves.calls m.calls way.moves.said m.said way.moves.leads m.leads);
+          says = m.says ∙ (ap (λ a. a ++ m.said) way.moves.says ∙ append_assoc answers way.moves.said m.said);
+        };
+        left =
+            ap (drop (i + 1)) set_to
+            ∙ (drop-set-lt (i + 1) now i live' on
+            ∙ (sym (drop-rest now i live within) ∙ (ap rest_of way.left ∙ drop-rest lives i live inside)));
+        sees = sees-on k l l' way.sees (called-sees l l' m.calls m.changes.called m.changes.unshut);
+      }
+
+  -- and those before it have handed all out
+  pub paid-further : (now' : List Live) → now' ≡ set now i live' → AreAllPaid (take i now) → IsPaid live'.pipe → AreAllPaid (take (i + 1) now')
+  paid-further now' set_to before this =
+      subst AreAllPaid (sym (ap (take (i + 1)) set_to ∙ take_more_set now i live' within))
+      (All-append (λ (x : Live). IsPaid x.pipe) (take i now) (live' ∷ []) before (All-cons (λ (x : Live). IsPaid x.pipe) live' [] this (All-nil (λ (x : Live). IsPaid x.pipe))))
+
+-- at the end all have changed
+pub all-moved : (all : List Live → Dialogue → Dialogue) (i : ℕ) (lives now : List Live) (k l : Known (BoardEntry Ask)) (answers said : List Answer) → OnTheWay all i lives now k l answers said → length now ≤ i
+    → MovesAll (all lives) lives now k l answers said
+all-moved all i lives now k l answers said way past =
+    let same : length now ≡ length lives = sym (length-map now place_of) ∙ (ap length way.moves.places ∙ length-map lives place_of) in
+    subst (λ ls. MovesAll (all ls) lives now k l answers said) (take_all i lives (subst (λ n. n ≤ i) same past)) way.moves
+
+pub all-paid : (i : ℕ) (now : List Live) → AreAllPaid (take i now) → length now ≤ i → AreAllPaid now
+all-paid i now paid past = subst AreAllPaid (take_all i now past) paid
+
+-- memory was wanting
+pub fails : {A S : Type 0} (result : Result A S) (Moved : Type 0) {Stopped : Type 0} → IsErr result → Stopped → MatchResult result (λ _. Moved) (λ _. Stopped)
+fails (Ok done) Moved is stopped = absurd cc
+fails (Err stop) Moved is stopped = stopped

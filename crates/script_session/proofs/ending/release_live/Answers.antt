@@ -1,0 +1,26 @@
+use Rattle.std.proofs.Common.{ap, sym, subst, ◌∙◌}
+use Rattle.dialogues.specs.Walk.{Pipe}
+use Rattle.session_calls.specs.Passes.{known}
+use Rattle.script_session.specs.States.{HasPipe}
+use Rattle.script_session.proofs.Ended.{stays-put, goes-free_now}
+use Rattle.script_session.proofs.Leading.{goes-none, goes-free}
+use Rattle.script_session.proofs.Switching.{held-queue}
+use Rattle.script_session.proofs.ending.release_live.Goals as goal
+
+pub returns-in_default-clause-moved : goal.returns-in_default-clause-moved
+returns-in_default-clause-moved g c = stays-put _ c.args.live.now (known c.args.caller.now) _ c.requires.pipe c.requires.legal (goes-none c.args.live.now.pipe (sym c.in_default.ensures))
+
+pub returns-then-not-pipe-clause-moved : goal.returns-then-not-pipe-clause-moved
+returns-then-not-pipe-clause-moved g c =
+    stays-put _ c.args.live.now (known c.args.caller.now) _ c.requires.pipe c.requires.legal
+    (goes-free c.args.live.now.pipe c.in-Some.pipe.now (sym c.in-Some.ensures) (sym (ap (λ (p : Pipe). p.held) c.pipe-2.view_is) ∙ c.if-not-pipe.true))
+
+pub go-requires-clause-queue : goal.go-requires-clause-queue
+go-requires-clause-queue g c =
+    let k = known c.args.caller.now in
+    held-queue k c.in-Some.pipe.now c.requires.legal (subst (HasPipe k) (sym c.in-Some.ensures) c.requires.pipe) (sym (ap (λ (p : Pipe). p.held) c.pipe-2.view_is) ∙ c.if-not-pipe.false)
+
+pub returns-clause-moved : goal.returns-clause-moved
+returns-clause-moved g c =
+    goes-free_now (known c.args.caller.now) (known c.go.new.self) c.args.live.now c.set_held.new.self c.in-Some.pipe.now (sym c.in-Some.ensures) (sym (ap (λ (p : Pipe). p.held) c.pipe-2.view_is) ∙ c.if-not-pipe.false)
+    c.in_ok-go.ensures.held c.set_held.ensures

@@ -1,0 +1,96 @@
+-- The end of input: held pipelines are let go, each is drained, and then the board is shut.
+use Rattle.std.specs.Prelude.{ℕ, ◌==◌, if◌then◌else◌, ◌≡◌, false, List, [], ◌∷◌, ◌++◌, length, map, Option, Some, None, ⊤, All}
+use Rattle.std.specs.Option.{option_map}
+use Rattle.board.specs.declared.entry.BoardEntry.{BoardEntry}
+use Rattle.board.specs.declared.entry.BoardEntry.TheVariants.{Shut}
+use Rattle.board.specs.Entries.{entries_of, submissions, front, is_closed}
+use Rattle.board.specs.Legal.{MayManage}
+use Rattle.transforms.specs.declared.ask.Ask.{Ask}
+use Rattle.reply_text.specs.declared.answers.Answer.{Answer}
+use Rattle.reply_text.specs.declared.answers.Answer.TheVariants as said
+use Rattle.turn_lock.specs.Turns.{Known}
+use Rattle.dialogues.specs.BoardCalls.{BoardCall}
+use Rattle.dialogues.specs.Dialogues.{Dialogue}
+use Rattle.dialogues.specs.RegistryCalls.{RegCall}
+use Rattle.dialogues.specs.Piping.{end}
+use Rattle.dialogues.specs.Turns.{Turn, IsTurn, joined, turn_of, text_in}
+use Rattle.dialogues.specs.Walk.{Walk, Live, Pipe}
+use Rattle.session_calls.specs.Asking.{Asked}
+use Rattle.session_calls.specs.Passes.{known}
+use Rattle.session_calls.specs.Pipelines.{Called}
+use Rattle.script_session.specs.Changing.{Changes}
+use Rattle.script_session.specs.States.{State, SameLocks, Posted}
+
+-- ---- a part of a dialogue
+
+-- these calls and answers, and nothing else
+abbrev pub part : List BoardCall → List Answer → Turn
+part calls said = record { registry = []; board = calls; answers = said; after = None }
+
+-- by these calls and answers the dialogue comes to what is left of it, whatever that is
+abbrev pub LeadsBy : (Dialogue → Dialogue) → List BoardCall → List Answer → Type 0
+LeadsBy dialogue calls said =
+    (rest : Dialogue) (r : List RegCall) (b : List BoardCall) → turn_of (dialogue rest) r (calls ++ b) ≡ joined (part calls said) (turn_of rest r b)
+
+-- ---- one transform
+
+-- by which the end of input knows a transform: its label, and its pipeline's number
+abbrev pub place_of : Live → List ℕ × Option ℕ
+place_of live = (live.label, option_map (λ (pipe : Pipe). pipe.number) live.pipe)
+
+-- the part of the dialogue was held with this transform
+pub record Moves (dialogue : Dialogue → Dialogue) (live live' : Live) (k l : Known (BoardEntry Ask)) (answers answers' : List Answer) : Type 0 where
+  pub calls : List BoardCall
+  pub said : List Answer
+  pub changes : Changes live live' k l calls []
+  pub place : place_of live' ≡ place_of live
+  pub leads : LeadsBy dialogue calls said
+  pub says : answers' ≡ answers ++ said
+
+-- its pipeline, if it has one, has handed out as many completions as it accepted requests
+abbrev pub IsPaid : Option Pipe → Type 0
+IsPaid None = ⊤
+IsPaid (Some pipe) = pipe.delivered ≡ length pipe.lines
+
+-- how many completions a transform's last callbacks have, where there is one
+abbrev pub end_said : List ℕ → ℕ → List Answer
+end_said label count = if count == 0 then [] else said.End label count ∷ []
+
+-- ---- all of them
+
+-- they are the live transforms of a walk, of which the caller knows the board
+abbrev pub ArePosted : List Live → Known (BoardEntry Ask) → Type 0
+ArePosted lives k = (walk : Walk) × (walk.lives ≡ lives) × Posted walk k
+
+-- the part of the dialogue was held with all these transforms
+pub record MovesAll (dialogue : Dialogue → Dialogue) (lives lives' : List Live) (k l : Known (BoardEntry Ask)) (answers answers' : List Answer) : Type 0 where
+  pub calls : List BoardCall
+  pub said : List Answer
+  pub called : Called k l calls
+  pub places : map place_of lives' ≡ map place_of lives
+  pub posted : ArePosted lives' l
+  pub leads : LeadsBy dialogue calls said
+  pub says : answers' ≡ answers ++ said
+
+-- each has handed all out
+abbrev pub AreAllPaid : List Live → Type 0
+AreAllPaid lives = All (λ (live : Live). IsPaid live.pipe) lives
+
+-- ---- the end
+
+-- A turn of the end's dialogue was done, and its text was added. The dialogue leaves the walk as it was; the session knows of its
+-- own pipelines that they are drained.
+pub record AnswersEnd (s s' : State) (text text' : List ℕ) : Type 0 where
+  pub locks : SameLocks s s'
+  pub turn : Turn
+  pub is : IsTurn (end s.walk) turn
+  pub asked : Asked (known s.registry) (known s'.registry) turn.registry
+  pub called : Called (known s.board) (known s'.board) turn.board
+  pub ends : turn.after ≡ Some s.walk
+  pub says : text' ≡ text ++ text_in turn
+
+-- The caller shut the board last. Each pipeline that it made and hasn't closed was finished by then: so is each request of it.
+pub record EndsShut (k : Known (BoardEntry Ask)) : Type 0 where
+  pub before : List (BoardEntry Ask)
+  pub shut : k.seen ≡ before ++ Shut k.number ∷ []
+  pub finished : (p : ℕ) → MayManage (entries_of p before) k.number → is_closed (entries_of p before) ≡ false → front (entries_of p before) ≡ length (submissions (entries_of p before))

@@ -1,0 +1,181 @@
+//! The end of input: pipelines are let go, and then drained.
+
+ghost use Rattle.std.specs.Prelude.{◌≡◌, ◌++◌, [], OnOk, OnErr, MatchResult};
+ghost use Rattle.board.specs.Legal.{LegalBoard};
+ghost use Rattle.dialogues.specs.Piping.{lets_go, let_all_go, drains_at_end, drain_all};
+ghost use Rattle.script_session.specs.Ending.{Moves, MovesAll, ArePosted, AreAllPaid, IsPaid, end_said, AnswersEnd, EndsShut};
+ghost use Rattle.script_session.specs.Holding.{SeesOn, Stops};
+ghost use Rattle.script_session.specs.States.{HasPipe, Stands, Posted};
+ghost use Rattle.session_calls.specs.Passes.{known, lock_of, CallsBoard};
+
+use crate::answers::put_all;
+use crate::callbacks::{count_completions, tell};
+use crate::scripts::Session;
+use crate::transform::Transform;
+use crew::Gate;
+use kc_base::{Bytes, Callbacks};
+use reply_text::Answer;
+use session_calls::{BoardCaller, Stop};
+use shared_board::SharedBoard;
+use std::alloc::{AllocError, Global};
+use std::sync::Wait;
+use transforms::Job;
+
+// Lets the pipeline of a transform go, if it is held.
+fn release_live<R: Wait>(
+    rt: &R,
+    board: &SharedBoard<Job>,
+    caller: &mut BoardCaller,
+    live: &mut Transform,
+) -> Result<(), Stop>
+    requires at { CallsBoard board.now caller.old }
+    requires legal { LegalBoard (known caller.old).seen }
+    requires pipe { HasPipe (known caller.old) live.old.pipe }
+    ensures lock { lock_of caller.new ≡ lock_of caller.old }
+    ensures moved { MatchResult result
+        (λ _. Moves (lets_go live.old.pipe) live.old live.new (known caller.old) (known caller.new) [] [])
+        (λ _. SeesOn (known caller.old) (known caller.new)) }
+{
+    let Some(pipe) = live.pipe() else {
+        return Ok(());
+    };
+    if !pipe.held {
+        return Ok(());
+    }
+    caller.go(rt, board, pipe)?;
+    live.set_held(false);
+    Ok(())
+}
+
+// Adds how many completions a transform's last callbacks have, where there is one.
+fn say_end(
+    alloc: Global,
+    label: &[u8],
+    count: u64,
+    answers: &mut Vec<Answer>,
+) -> Result<(), AllocError>
+    ensures { OnOk result (answers.new.items ≡ answers.old.items ++ end_said label.now count) }
+{
+    if count == 0 {
+        return Ok(());
+    }
+    let label = Bytes::copy_of(alloc, label)?;
+    answers.push(Answer::End { label, count })?;
+    Ok(())
+}
+
+// Does what jobs there are until those of a transform's pipeline are done, if it has one, and adds what it hands out.
+fn drain_last<R: Wait, G: Gate>(
+    alloc: Global,
+    rt: &R,
+    board: &SharedBoard<Job>,
+    gate: &G,
+    caller: &mut BoardCaller,
+    live: &mut Transform,
+    answers: &mut Vec<Answer>,
+) -> Result<(), Stop>
+    requires at { CallsBoard board.now caller.old }
+    requires legal { LegalBoard (known caller.old).seen }
+    requires pipe { HasPipe (known caller.old) live.old.pipe }
+    ensures lock { lock_of caller.new ≡ lock_of caller.old }
+    ensures moved { MatchResult result
+        (λ _. Moves (drains_at_end live.old.label live.old.pipe) live.old live.new (known caller.old) (known caller.new) answers.old.items answers.new.items)
+        (λ _. SeesOn (known caller.old) (known caller.new)) }
+    ensures paid { OnOk result (IsPaid live.new.pipe) }
+{
+    let Some(pipe) = live.pipe() else {
+        return Ok(());
+    };
+    let mut into = Callbacks::new(alloc);
+    caller.drain(rt, board, gate, pipe, &mut into)?;
+    let count = count_completions(into.as_slice());
+    tell(alloc, &pipe.lines, into.as_slice(), answers)?;
+    say_end(alloc, live.label(), count, answers)?;
+    live.deliver(count);
+    Ok(())
+}
+
+// Lets each held pipeline go, in order of allocation.
+fn release_all<R: Wait>(
+    rt: &R,
+    board: &SharedBoard<Job>,
+    caller: &mut BoardCaller,
+    lives: &mut [Transform],
+) -> Result<(), Stop>
+    requires at { CallsBoard board.now caller.old }
+    requires posted { ArePosted lives.old (known caller.old) }
+    ensures lock { lock_of caller.new ≡ lock_of caller.old }
+    ensures moved { MatchResult result
+        (λ _. MovesAll (let_all_go lives.old) lives.old lives.new (known caller.old) (known caller.new) [] [])
+        (λ _. SeesOn (known caller.old) (known caller.new)) }
+{
+    for live in lives.iter_mut() {
+        release_live(rt, board, caller, live)?;
+    }
+    Ok(())
+}
+
+// Drains each pipeline, in order of allocation, and adds what they hand out.
+fn drain_last_all<R: Wait, G: Gate>(
+    alloc: Global,
+    rt: &R,
+    board: &SharedBoard<Job>,
+    gate: &G,
+    caller: &mut BoardCaller,
+    lives: &mut [Transform],
+    answers: &mut Vec<Answer>,
+) -> Result<(), Stop>
+    requires at { CallsBoard board.now caller.old }
+    requires posted { ArePosted lives.old (known caller.old) }
+    ensures lock { lock_of caller.new ≡ lock_of caller.old }
+    ensures moved { MatchResult result
+        (λ _. MovesAll (drain_all lives.old) lives.old lives.new (known caller.old) (known caller.new) answers.old.items answers.new.items)
+        (λ _. SeesOn (known caller.old) (known caller.new)) }
+    ensures paid { OnOk result (AreAllPaid lives.new) }
+{
+    for live in lives.iter_mut() {
+        drain_last(alloc, rt, board, gate, caller, live, answers)?;
+    }
+    Ok(())
+}
+
+impl Session {
+    /// Answers the end of input, as `line` answers a line: held queues are let go, then each live transform is drained, both
+    /// in order of allocation, and then the board is shut. No line comes after it. The session's is the board's first pass,
+    /// with the number 0.
+    ///
+    /// It does what jobs there are while it waits. `Stop` comes for want of memory alone, with the reply as it was; then the
+    /// board isn't shut.
+    pub fn end<R: Wait, G: Gate>(
+        &mut self,
+        rt: &R,
+        board: &SharedBoard<Job>,
+        gate: &G,
+        reply: &mut Bytes,
+    ) -> Result<(), Stop>
+        requires at { CallsBoard board.now self.old.board }
+        requires stands { Stands self.old.walk.lives (known self.old.registry) }
+        requires posted { Posted self.old.walk (known self.old.board) }
+        requires first { (known self.old.board).number ≡ 0 }
+        ensures done { MatchResult result
+            (λ _. AnswersEnd self.old self.new reply.old reply.new)
+            (λ _. Stops self.old self.new) }
+        ensures shut { OnOk result (EndsShut (known self.new.board)) }
+        ensures unwritten { OnErr result (reply.new ≡ reply.old) }
+    {
+        let mut answers = Vec::new(self.alloc);
+        release_all(rt, board, &mut self.board, &mut self.lives)?;
+        drain_last_all(
+            self.alloc,
+            rt,
+            board,
+            gate,
+            &mut self.board,
+            &mut self.lives,
+            &mut answers,
+        )?;
+        put_all(self.alloc, reply, &answers)?;
+        self.board.shut(rt, board);
+        Ok(())
+    }
+}
