@@ -1,6 +1,5 @@
 -- What words ask for.
 use Rattle.std.proofs.Common.{◌≡◌, ◌≢◌, ℕ, Bool, true, false, List, Option, Some, None, Ok, Err, refl, ap, ◌∙◌, inl, inr, ◌⊎◌}
-use Rattle.clap.specs.Words.{Text}
 use Rattle.command_line.specs.CommandLine.{mode_of}
 use Rattle.command_line.specs.declared.errors.CommandLineError.{CommandLineError}
 use Rattle.command_line.specs.declared.errors.CommandLineError.TheVariants as command
@@ -12,7 +11,7 @@ use Rattle.crypto_script.specs.declared.errors.RunError.TheVariants as run
 use Rattle.crypto_script.specs.Endings.{workers_asked, script_workers, workers_of_mode}
 use Rattle.crypto_script.specs.Statuses.{of_words}
 
-module _ (words : List Text) where
+module _ (words : List (List ℕ)) where
   pub asks-script : (options : ScriptOptions) → mode_of words ≡ Ok (Script options) → options.trace ≡ false → workers_asked words ≡ Some options.workers
   unfolding workers_asked
   asks-script options is trace = ap workers_of_mode is ∙ ap (script_workers options) trace
