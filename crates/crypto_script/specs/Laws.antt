@@ -5,7 +5,7 @@ use Rattle.alg_registry.specs.Rows.{caller_of as reg_caller}
 use Rattle.board.specs.declared.entry.BoardEntry.{BoardEntry}
 use Rattle.board.specs.Entries.{caller_of as board_caller}
 use Rattle.crew.specs.Crews.{CrewsEnd, CrewWorks}
-use Rattle.crew.specs.Ends.{AllIsFinished, ShutIsLast}
+use Rattle.board.specs.Ends.{AllIsFinished, ShutIsLast}
 use Rattle.dialogues.specs.BoardCalls.{BoardCall}
 use Rattle.dialogues.specs.Dialogues.{Dialogue, followed}
 use Rattle.dialogues.specs.GoingOn.{RegistryCallsGoOn, RegistryUnasked, BoardCallsGoOn, BoardUncalled, NoCall, CallsThenCalls}
