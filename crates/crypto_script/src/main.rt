@@ -4,8 +4,16 @@
 mod adapters;
 mod beside;
 mod errors;
+#[cfg(test)]
+mod history_tests;
+#[cfg(test)]
+mod limit_tests;
 mod lines;
+#[cfg(test)]
+mod pipeline_tests;
 mod program;
+#[cfg(test)]
+mod tests;
 
 use adapters::{StdSink, StdSource};
 use crew::NoGate;

@@ -58,7 +58,7 @@ abbrev pub IsOn : Known (BoardEntry Ask) → Live → Type 0
 IsOn k live = HasPipe k live.pipe
 
 -- the pipelines of transforms that have others stay
-pub others-stay : (k l : Known (BoardEntry Ask)) (pipe : Option Pipe) (lives : List Live)
+others-stay : (k l : Known (BoardEntry Ask)) (pipe : Option Pipe) (lives : List Live)
     → ((other : Option Pipe) → AreApart pipe other → HasPipe k other → HasPipe l other)
     → ((number : ℕ) → is_at number pipe ≡ true → owners number lives ≡ 0) → All (IsOn k) lives → All (IsOn l) lives
 others-stay k l pipe [] stay free all = All-nil (IsOn l)
@@ -68,7 +68,7 @@ others-stay k l pipe (x ∷ xs) stay free all =
     (others-stay k l pipe xs stay (λ number at. rest-free (is_at number x.pipe) (owners number xs) (free number at)) (All-tail (IsOn k) x xs all))
 
 -- beside the one transform nobody has its pipeline
-pub beside : (number : ℕ) (before later : List Live) (live : Live) → owners number (before ++ live ∷ later) ≤ 1 → is_at number live.pipe ≡ true
+beside : (number : ℕ) (before later : List Live) (live : Live) → owners number (before ++ live ∷ later) ≤ 1 → is_at number live.pipe ≡ true
     → (owners number before ≡ 0) × (owners number later ≡ 0)
 beside number before later live most at =
     let split = owners-append number before (live ∷ later) in
@@ -87,46 +87,51 @@ found-by_own walk label place s = ap (λ l. find (is_of l) walk.lives) (label-of
 pub replaced-at : (walk : Walk) (label : List ℕ) (place : ℕ) (new : Live) (s : Split label walk.lives 0 place) → new.label ≡ s.live.label → replaced new walk.lives ≡ s.before ++ new ∷ s.later
 replaced-at walk label place new s same = s.replaces new (same ∙ label-of label walk.lives place s)
 
-pub changed-posted : (walk : Walk) (label : List ℕ) (place : ℕ) (s : Split label walk.lives 0 place) (live' : Live) (k l : Known (BoardEntry Ask)) (calls : List BoardCall) (asks : List Ask)
-    → Posted walk k → Changes s.live live' k l calls asks → Posted (counting (with_live walk live') asks) l
-changed-posted walk label place s live' k l calls asks posted changes =
-    let same : live'.label ≡ s.live.label = changes.label in
-    let now = replaced-at walk label place live' s same in
-    let were : All (IsOn k) (s.before ++ s.live ∷ s.later) = subst (All (IsOn k)) s.lives_is posted.pipes in
-    let most = λ (number : ℕ). subst (λ ls. owners number ls ≤ 1) s.lives_is (posted.apart number) in
-    let first = others-stay k l s.live.pipe s.before changes.others (λ number at. (beside number s.before s.later s.live (most number) at).0) (All-left (IsOn k) s.before (s.live ∷ s.later) were) in
-    let later = others-stay k l s.live.pipe s.later changes.others (λ number at. (beside number s.before s.later s.live (most number) at).1) (All-tail (IsOn k) s.live s.later (All-right (IsOn k) s.before (s.live ∷ s.later) were)) in
+-- what is known of the board is that of the walk with the one that changed
+pub list-posted : (walk : Walk) (before later : List Live) (live live' : Live) (k l : Known (BoardEntry Ask)) (calls : List BoardCall) (asks : List Ask) → walk.lives ≡ before ++ live ∷ later
+    → Posted walk k → Changes live live' k l calls asks → Posted (counting (record walk { lives = before ++ live' ∷ later }) asks) l
+list-posted walk before later live live' k l calls asks lives_is posted changes =
+    let were : All (IsOn k) (before ++ live ∷ later) = subst (All (IsOn k)) lives_is posted.pipes in
+    let most = λ (number : ℕ). subst (λ ls. owners number ls ≤ 1) lives_is (posted.apart number) in
+    let first = others-stay k l live.pipe before changes.others (λ number at. (beside number before later live (most number) at).0) (All-left (IsOn k) before (live ∷ later) were) in
+    let rest = others-stay k l live.pipe later changes.others (λ number at. (beside number before later live (most number) at).1) (All-tail (IsOn k) live later (All-right (IsOn k) before (live ∷ later) were)) in
     record {
       outsider = subst IsNoWorker (sym changes.called.number) posted.outsider;
       legal = changes.legal;
-      pipes = subst (All (IsOn l)) (sym now) (All-append (IsOn l) s.before (live' ∷ s.later) first (All-cons (IsOn l) live' s.later changes.pipe later));
-      apart = λ number. subst (λ ls. owners number ls ≤ 1) (sym now)
-          (let new = owners-append number s.before (live' ∷ s.later) in
-          let old = owners-append number s.before (s.live ∷ s.later) in
+      pipes = All-append (IsOn l) before (live' ∷ later) first (All-cons (IsOn l) live' later changes.pipe rest);
+      apart = λ number.
+          (let new = owners-append number before (live' ∷ later) in
+          let old = owners-append number before (live ∷ later) in
           let counted : Bool → ℕ = λ t. cond t 1 0 in
-          let one : counted (is_at number live'.pipe) ≡ counted (is_at number s.live.pipe) = ap counted (changes.same number) in
+          let one : counted (is_at number live'.pipe) ≡ counted (is_at number live.pipe) = ap counted (changes.same number) in
           let few = most number in
-          let goal : owners number (s.before ++ live' ∷ s.later) ≤ 1 = omega (arith, new, old, one, few) in
+          let goal : owners number (before ++ live' ∷ later) ≤ 1 = omega (arith, new, old, one, few) in
           goal);
-      owned = λ number owns. subst (λ ls. 1 ≤ owners number ls) (sym now) (by_place number (is_at number s.live.pipe) refl owns);
+      owned = λ number owns. by_place number (is_at number live.pipe) refl owns;
       requests = ap length changes.accepted ∙ (length-append (accepted_by k.number k.seen) asks ∙ ap (λ n. n + length asks) posted.requests);
       bytes = ap (sum_by ask_size) changes.accepted ∙ (sum_by-append ask_size (accepted_by k.number k.seen) asks ∙ ap (λ n. n + sum_by ask_size asks) posted.bytes);
       unshut = λ zero_is. changes.unshut (sym changes.called.number ∙ zero_is) ∙ posted.unshut (sym changes.called.number ∙ zero_is);
     }
   where
-    by_place : (number : ℕ) (t : Bool) → is_at number s.live.pipe ≡ t → Owns l number → 1 ≤ owners number (s.before ++ live' ∷ s.later)
+    by_place : (number : ℕ) (t : Bool) → is_at number live.pipe ≡ t → Owns l number → 1 ≤ owners number (before ++ live' ∷ later)
     by_place number true at owns =
-        let new = owners-append number s.before (live' ∷ s.later) in
+        let new = owners-append number before (live' ∷ later) in
         let counted : Bool → ℕ = λ t. cond t 1 0 in
         let one : counted (is_at number live'.pipe) ≡ 1 = ap counted (changes.same number ∙ at) in
         omega (arith, new, one)
     by_place number false at owns =
-        let new = owners-append number s.before (live' ∷ s.later) in
-        let old = owners-append number s.before (s.live ∷ s.later) in
+        let new = owners-append number before (live' ∷ later) in
+        let old = owners-append number before (live ∷ later) in
         let counted : Bool → ℕ = λ t. cond t 1 0 in
-        let one : counted (is_at number live'.pipe) ≡ counted (is_at number s.live.pipe) = ap counted (changes.same number) in
-        let had : 1 ≤ owners number (s.before ++ s.live ∷ s.later) = subst (λ ls. 1 ≤ owners number ls) s.lives_is (posted.owned number (changes.owned number at owns)) in
+        let one : counted (is_at number live'.pipe) ≡ counted (is_at number live.pipe) = ap counted (changes.same number) in
+        let had : 1 ≤ owners number (before ++ live ∷ later) = subst (λ ls. 1 ≤ owners number ls) lives_is (posted.owned number (changes.owned number at owns)) in
         omega (arith, new, old, one, had)
+
+pub changed-posted : (walk : Walk) (label : List ℕ) (place : ℕ) (s : Split label walk.lives 0 place) (live' : Live) (k l : Known (BoardEntry Ask)) (calls : List BoardCall) (asks : List Ask)
+    → Posted walk k → Changes s.live live' k l calls asks → Posted (counting (with_live walk live') asks) l
+changed-posted walk label place s live' k l calls asks posted changes =
+    subst (λ ls. Posted (counting (record walk { lives = ls }) asks) l) (sym (replaced-at walk label place live' s changes.label))
+    (list-posted walk s.before s.later s.live live' k l calls asks s.lives_is posted changes)
 
 -- ---- by what the board's caller says of the pipeline
 

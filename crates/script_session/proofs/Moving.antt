@@ -1,28 +1,25 @@
 -- Transforms change one after another, each by its part of the end of input.
-use Rattle.std.proofs.Common.{◌≡◌, ℕ, ◌+◌, ◌<◌, ◌≤◌, Bool, true, false, cond, List, [], ◌∷◌, ◌++◌, length, map, Result, Ok, Err, refl, sym, ap, subst, ◌∙◌, append-nil, append_assoc, arith, take, drop, get_or, slice_index_or}
-use Rattle.std.specs.Prelude.{All, MatchResult, sum_by}
+use Rattle.std.proofs.Common.{◌≡◌, ℕ, ◌+◌, ◌<◌, ◌≤◌, List, [], ◌∷◌, ◌++◌, length, map, Result, Ok, Err, refl, sym, ap, subst, ◌∙◌, append-nil, append_assoc, arith, take, drop, get_or, slice_index_or}
+use Rattle.std.specs.Prelude.{All, MatchResult}
 use Rattle.std.specs.Result.{IsErr}
 use Rattle.std.proofs.Math.ListN.{set}
 use Rattle.std.proofs.lemmas.List.{length-map, map-append, take_more, take_more_set, drop_more, get_or-drop, take-append-drop, take-set, drop-set, drop-set-lt, take_all}
-use Rattle.std.proofs.lemmas.List.Elements.{All-nil, All-cons, All-head, All-tail, All-append}
+use Rattle.std.proofs.lemmas.List.Elements.{All-nil, All-cons, All-head, All-append}
 use Rattle.board.specs.declared.entry.BoardEntry.{BoardEntry}
-use Rattle.board.specs.Allowance.{accepted_by}
-use Rattle.board.specs.Legal.{IsNoWorker, LegalBoard}
+use Rattle.board.specs.Legal.{LegalBoard}
 use Rattle.reply_text.specs.declared.answers.Answer.{Answer}
 use Rattle.transforms.specs.declared.ask.Ask.{Ask}
-use Rattle.transforms.specs.AskValue.{ask_size}
 use Rattle.turn_lock.specs.Turns.{Known}
 use Rattle.dialogues.specs.BoardCalls.{BoardCall}
 use Rattle.dialogues.specs.Dialogues.{Dialogue}
 use Rattle.dialogues.specs.Walk.{Live}
-use Rattle.session_calls.specs.Pipelines.{Owns}
 use Rattle.session_calls.proofs.Boarding.{kept-same, called-more, starts-trans}
-use Rattle.script_session.specs.Changing.{Changes}
+use Rattle.script_session.specs.Changing.{Changes, counting}
 use Rattle.script_session.specs.Ending.{Moves, MovesAll, ArePosted, AreAllPaid, IsPaid, place_of}
 use Rattle.script_session.specs.Holding.{SeesOn}
-use Rattle.script_session.specs.States.{HasPipe, is_at, owners}
+use Rattle.script_session.specs.States.{HasPipe}
 use Rattle.script_session.proofs.Arms.{sees-same, called-sees}
-use Rattle.script_session.proofs.Changing.{IsOn, All-left, All-right, owners-append, others-stay, beside}
+use Rattle.script_session.proofs.Changing.{IsOn, All-right, list-posted}
 use Rattle.script_session.proofs.Leading.{leads-then, leads-same, leads-nothing}
 
 pub sees-on : (k l m : Known (BoardEntry Ask)) → SeesOn k l → SeesOn l m → SeesOn k m
@@ -39,50 +36,9 @@ sees-on k l m first later =
 -- ---- one of them changes
 
 -- They are posted again, with the one that changed.
-pub one-posted : (before later : List Live) (live live' : Live) (k l : Known (BoardEntry Ask)) (calls : List BoardCall) → ArePosted (before ++ live ∷ later) k → Changes live live' k l calls [] → ArePosted (before ++ live' ∷ later) l
+one-posted : (before later : List Live) (live live' : Live) (k l : Known (BoardEntry Ask)) (calls : List BoardCall) → ArePosted (before ++ live ∷ later) k → Changes live live' k l calls [] → ArePosted (before ++ live' ∷ later) l
 one-posted before later live live' k l calls are changes =
-    let walk = are.0 in
-    let posted = are.2 in
-    let now : List Live = before ++ live' ∷ later in
-    let were : All (IsOn k) (before ++ live ∷ later) = subst (All (IsOn k)) are.1 posted.pipes in
-    let most = λ (number : ℕ). subst (λ ls. owners number ls ≤ 1) are.1 (posted.apart number) in
-    let first = others-stay k l live.pipe before changes.others (λ number at. (beside number before later live (most number) at).0) (All-left (IsOn k) before (live ∷ later) were) in
-    let rest = others-stay k l live.pipe later changes.others (λ number at. (beside number before later live (most number) at).1) (All-tail (IsOn k) live later (All-right (IsOn k) before (live ∷ later) were)) in
-    let same : accepted_by l.number l.seen ≡ accepted_by k.number k.seen = changes.accepted ∙ append-nil (accepted_by k.number k.seen) in (
-      record walk { lives = now },
-      refl,
-      record {
-        outsider = subst IsNoWorker (sym changes.called.number) posted.outsider;
-        legal = changes.legal;
-        pipes = All-append (IsOn l) before (live' ∷ later) first (All-cons (IsOn l) live' later changes.pipe rest);
-        apart = λ number.
-            (let new = owners-append number before (live' ∷ later) in
-            let old = owners-append number before (live ∷ later) in
-            let counted : Bool → ℕ = λ t. cond t 1 0 in
-            let one : counted (is_at number live'.pipe) ≡ counted (is_at number live.pipe) = ap counted (changes.same number) in
-            let few = most number in
-            let goal : owners number now ≤ 1 = omega (arith, new, old, one, few) in
-            goal);
-        owned = λ number owns. by_place number (is_at number live.pipe) refl owns;
-        requests = ap length same ∙ posted.requests;
-        bytes = ap (sum_by ask_size) same ∙ posted.bytes;
-        unshut = λ zero_is. changes.unshut (sym changes.called.number ∙ zero_is) ∙ posted.unshut (sym changes.called.number ∙ zero_is);
-      },
-    )
-  where
-    by_place : (number : ℕ) (t : Bool) → is_at number live.pipe ≡ t → Owns l number → 1 ≤ owners number (before ++ live' ∷ later)
-    by_place number true at owns =
-        let new = owners-append number before (live' ∷ later) in
-        let counted : Bool → ℕ = λ t. cond t 1 0 in
-        let one : counted (is_at number live'.pipe) ≡ 1 = ap counted (changes.same number ∙ at) in
-        omega (arith, new, one)
-    by_place number false at owns =
-        let new = owners-append number before (live' ∷ later) in
-        let old = owners-append number before (live ∷ later) in
-        let counted : Bool → ℕ = λ t. cond t 1 0 in
-        let one : counted (is_at number live'.pipe) ≡ counted (is_at number live.pipe) = ap counted (changes.same number) in
-        let had : 1 ≤ owners number (before ++ live ∷ later) = subst (λ ls. 1 ≤ owners number ls) are.1 (are.2.owned number (changes.owned number at owns)) in
-        omega (arith, new, old, one, had)
+    (counting (record (are.0) { lives = before ++ live' ∷ later }) [], refl, list-posted are.0 before later live live' k l calls [] are.1 are.2 changes)
 
 -- ---- a loop over all of them
 

@@ -1,0 +1,214 @@
+//! Whole runs whose requests wait in pipelines.
+
+use crate::program::run;
+use crate::tests::{CREWS, bytes_of, expect, words_for};
+use crew::NoGate;
+use kc_base::{SureSink, SureSource};
+use std::alloc::{AllocError, Global};
+use std::process::Abort;
+use std::sync::Wait;
+use std::test::Fail;
+use std::thread::Threads;
+
+// The key, the text and the nonce of GCM's second test case, and its sealed text.
+const ZEROS: &str = "00000000000000000000000000000000";
+
+const NONCE: &str = "000000000000000000000000";
+
+const SEALED: &str = "0388dace60b6a392f328c2b971b2fe78ab6e47d42cec13bdf53a67b21257bddf";
+
+// SP 800-38A, F.2.1: the key, the IV, and the first block open and sealed.
+const CBC_KEY: &str = "2b7e151628aed2a6abf7158809cf4f3c";
+
+const IV: &str = "000102030405060708090a0b0c0d0e0f";
+
+const BLOCK: &str = "6bc1bee22e409f96e93d7e117393172a";
+
+const SEALED_BLOCK: &str = "7649abac8119b246cee98e9b12e9197d";
+
+const GCM_DRIVER: &str = "gcm_base(ctr(aes-generic),ghash-generic)";
+
+// What a script prints beside so many workers, over streams that don't fail.
+fn written_by<R: Abort + Threads + Wait + Sync>(
+    rt: &R,
+    alloc: Global,
+    workers: u32,
+    script: &str,
+) -> Result<String, AllocError> {
+    let words = words_for(alloc, workers)?;
+    let mut out = SureSink::new(alloc);
+    let mut src = SureSource::new(bytes_of(alloc, script)?);
+    let outcome = run(rt, alloc, &words, &NoGate, &mut src, &mut out);
+    assert_eq!(rt; outcome.status, 0);
+    String::from_str(alloc, str::from_utf8(out.bytes()).unwrap_or("no text"))
+}
+
+#[test]
+fn a_held_queue_takes_in_no_more_than_fits(rt: HostRuntime) -> Result<(), Fail> {
+    let alloc = rt.alloc();
+    let script = format!(in alloc;
+        "alloc q cryptd(cbc(aes)) 2\nkey q {CBC_KEY}\nhold q\nenc q {IV} - {BLOCK}\nenc q {IV} - {BLOCK}\nenc q {IV} - {BLOCK} backlog\nenc q {IV} - {BLOCK}\ndrain q\ngo q\ndrain q\n"
+    )?;
+    let text = format!(in alloc;
+        "1 ok cryptd(cbc(aes-generic))\n2 ok\n3 ok\n4 EINPROGRESS\n5 EINPROGRESS\n6 EBUSY\n7 ENOSPC\n8 EINVAL\n9 ok\n6 started\n4 done {SEALED_BLOCK}\n5 done {SEALED_BLOCK}\n6 done {SEALED_BLOCK}\n10 drained 3\n"
+    )?;
+    expect(&rt, alloc, script.as_str(), 0, text.as_str())?;
+    Ok(())
+}
+
+#[test]
+fn what_owes_completions_is_not_freed(rt: HostRuntime) -> Result<(), Fail> {
+    let alloc = rt.alloc();
+    let script = format!(in alloc;
+        "alloc p pcrypt(gcm(aes))\nkey p {ZEROS}\nenc p {NONCE} - {ZEROS}\nfree p\ndrain p\nfree p\nenc p {NONCE} - {ZEROS}\n"
+    )?;
+    let text = format!(in alloc;
+        "1 ok pcrypt({GCM_DRIVER})\n2 ok\n3 EINPROGRESS\n4 EBUSY\n3 done {SEALED}\n5 drained 1\n6 ok\n7 ENOENT\n"
+    )?;
+    expect(&rt, alloc, script.as_str(), 0, text.as_str())?;
+    Ok(())
+}
+
+#[test]
+fn the_end_of_input_drains(rt: HostRuntime) -> Result<(), Fail> {
+    let alloc = rt.alloc();
+    let script = format!(in alloc;
+        "alloc p pcrypt(gcm(aes))\nkey p {ZEROS}\nenc p {NONCE} - {ZEROS}\n"
+    )?;
+    let text = format!(in alloc;
+        "1 ok pcrypt({GCM_DRIVER})\n2 ok\n3 EINPROGRESS\n3 done {SEALED}\nend p 1\n"
+    )?;
+    expect(&rt, alloc, script.as_str(), 0, text.as_str())?;
+    Ok(())
+}
+
+#[test]
+fn the_end_of_input_lets_a_held_queue_go(rt: HostRuntime) -> Result<(), Fail> {
+    let alloc = rt.alloc();
+    let script = format!(in alloc;
+        "alloc q cryptd(cbc(aes)) 1\nkey q {CBC_KEY}\nhold q\nenc q {IV} - {BLOCK}\nenc q {IV} - {BLOCK} backlog\nalloc p pcrypt(gcm(aes))\n"
+    )?;
+    let text = format!(in alloc;
+        "1 ok cryptd(cbc(aes-generic))\n2 ok\n3 ok\n4 EINPROGRESS\n5 EBUSY\n6 ok pcrypt({GCM_DRIVER})\n5 started\n4 done {SEALED_BLOCK}\n5 done {SEALED_BLOCK}\nend q 2\n"
+    )?;
+    expect(&rt, alloc, script.as_str(), 0, text.as_str())?;
+    Ok(())
+}
+
+#[test]
+fn only_queues_are_held(rt: HostRuntime) -> Result<(), Fail> {
+    let alloc = rt.alloc();
+    let script =
+        "alloc p pcrypt(gcm(aes))\nalloc c cbc(aes)\nhold p\ngo p\nhold c\ngo c\nhold x\ngo x\npoll x\ndrain x\npoll c\ndrain c\npoll p\ndrain p\n";
+    let text = format!(in alloc;
+        "1 ok pcrypt({GCM_DRIVER})\n2 ok cbc(aes-generic)\n3 EINVAL\n4 EINVAL\n5 EINVAL\n6 EINVAL\n7 ENOENT\n8 ENOENT\n9 ENOENT\n10 ENOENT\n11 polled 0\n12 drained 0\n13 polled 0\n14 drained 0\n"
+    )?;
+    expect(&rt, alloc, script, 0, text.as_str())?;
+    Ok(())
+}
+
+// The completions of a script's text, and how many its polls and drains say that they handed out.
+fn handed_out(alloc: Global, written: &str) -> Result<(String, u64), AllocError> {
+    let mut completions = String::new(alloc);
+    let mut count = 0u64;
+    for line in written.lines() {
+        if line.split_once(" done ").is_some() {
+            completions.push_str(format!(in alloc; "{line}\n")?.as_str())?;
+        }
+        for end in [" polled ", " drained "] {
+            if let Some((_, told)) = line.split_once(end) {
+                count = count.wrapping_add(told.parse::<u64>().unwrap_or(100));
+            }
+        }
+    }
+    Ok((completions, count))
+}
+
+#[test]
+fn polls_and_the_drain_hand_out_each_completion_once(rt: HostRuntime) -> Result<(), Fail> {
+    let alloc = rt.alloc();
+    let script = format!(in alloc;
+        "alloc p pcrypt(gcm(aes))\nkey p {ZEROS}\nenc p {NONCE} - {ZEROS}\npoll p\nenc p {NONCE} - {ZEROS}\npoll p\nenc p {NONCE} - {ZEROS}\npoll p\ndrain p\n"
+    )?;
+    let want = format!(in alloc; "3 done {SEALED}\n5 done {SEALED}\n7 done {SEALED}\n")?;
+    for workers in CREWS {
+        let written = written_by(&rt, alloc, workers, script.as_str())?;
+        let (completions, count) = handed_out(alloc, written.as_str())?;
+        assert_eq!(rt; completions.as_str(), want.as_str(), "{workers} workers");
+        assert_eq!(rt; count, 3, "{workers} workers");
+    }
+    Ok(())
+}
+
+// One packet of a gateway: its number in the eight bytes of its IV, 16 bytes that are authenticated, and a text of 64 to
+// 1,400 bytes.
+fn push_packet(
+    alloc: Global,
+    script: &mut String,
+    label: &str,
+    number: u32,
+) -> Result<(), AllocError> {
+    let head = format!(in alloc; "enc {label} {number:016x} 00001000{number:08x}{number:016x} ")?;
+    script.push_str(head.as_str())?;
+    let byte = format!(in alloc; "{:02x}", number % 256)?;
+    for _ in 0..64 + number.wrapping_mul(37) % 1337 {
+        script.push_str(byte.as_str())?;
+    }
+    script.push_str("\n")
+}
+
+// A gateway's script: three transforms of this name, each with a key, and 200 packets in turn over them.
+fn gateway(alloc: Global, name: &str) -> Result<String, AllocError> {
+    let labels = ["a", "b", "c"];
+    let mut script = String::new(alloc);
+    for label in labels {
+        script.push_str(format!(in alloc; "alloc {label} {name}\n")?.as_str())?;
+    }
+    for label in labels {
+        // 16 bytes of the key, and 4 of the salt
+        script.push_str(format!(in alloc;
+            "key {label} {CBC_KEY}0{label}0{label}0{label}0{label}\n"
+        )?.as_str())?;
+    }
+    for number in 0..200u32 {
+        push_packet(alloc, &mut script, labels[number as usize % 3], number)?;
+    }
+    Ok(script)
+}
+
+// The answers `ok BYTES` of the lines from 7 on that fall to one of three transforms, as completions; and how many.
+fn push_completions(
+    alloc: Global,
+    text: &mut String,
+    answers: &str,
+    place: usize,
+) -> Result<u32, AllocError> {
+    let mut count = 0u32;
+    for line in answers.lines().skip(6).skip(place).step_by(3) {
+        let (number, made) = line.split_once(" ok ").unwrap_or(("no", "answer"));
+        text.push_str(format!(in alloc; "{number} done {made}\n")?.as_str())?;
+        count = count.wrapping_add(1);
+    }
+    Ok(count)
+}
+
+#[test]
+fn a_gateway_seals_its_packets_in_order(rt: HostRuntime) -> Result<(), Fail> {
+    let alloc = rt.alloc();
+    let plain = gateway(alloc, "rfc4106(gcm(aes))")?;
+    let answers = written_by(&rt, alloc, 0, plain.as_str())?;
+    let mut text = format!(in alloc;
+        "1 ok pcrypt(rfc4106({GCM_DRIVER}))\n2 ok pcrypt(rfc4106({GCM_DRIVER}))\n3 ok pcrypt(rfc4106({GCM_DRIVER}))\n4 ok\n5 ok\n6 ok\n"
+    )?;
+    for number in 7..207u32 {
+        text.push_str(format!(in alloc; "{number} EINPROGRESS\n")?.as_str())?;
+    }
+    for (label, place, want) in [("a", 0, 67), ("b", 1, 67), ("c", 2, 66)] {
+        let count = push_completions(alloc, &mut text, answers.as_str(), place)?;
+        assert_eq!(rt; count, want);
+        text.push_str(format!(in alloc; "end {label} {count}\n")?.as_str())?;
+    }
+    let script = gateway(alloc, "pcrypt(rfc4106(gcm(aes)))")?;
+    expect(&rt, alloc, script.as_str(), 0, text.as_str())?;
+    Ok(())
+}

@@ -1,6 +1,0 @@
-use Rattle.std.proofs.Common.{◌≡◌, ◌++◌, map, take}
-use Rattle.session.specs.Piping.{callback_said}
-use Rattle.session.proofs.callbacks.tell.Given as goal
-
-abbrev pub invariant-loop-callback : goal.invariant-loop-callback
-invariant-loop-callback l = l.answers.items ≡ l.initial.answers.items ++ map (callback_said l.lines) (take l.callback-index l.callbacks)
