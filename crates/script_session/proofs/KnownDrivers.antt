@@ -45,3 +45,4 @@ no-driver name priority e0 e1 e2 e3 e4 e5 = sym (by_tests (bytes_eq name (codes 
   where
     by_tests : (b0 b1 b2 b3 b4 b5 : Bool) → b0 ≡ false → b1 ≡ false → b2 ≡ false → b3 ≡ false → b4 ≡ false → b5 ≡ false → option_map (λ (s : Spec). record s { priority = priority }) (cond b0 (Some (opened (codes "aes") (codes "aes-generic") Cipher)) (cond b1 (Some (opened (codes "sha256") (codes "sha256-generic") Hash)) (cond b2 (Some (opened (codes "ghash") (codes "ghash-generic") Ghash)) (cond b3 (Some (opened (codes "aes") (codes "aes-table") Cipher)) (cond b4 (Some (opened (codes "aes") (codes "aes-lanes") Cipher)) (cond b5 (Some (opened (codes "ghash") (codes "ghash-table") Ghash)) None)))))) ≡ None
     by_tests false false false false false false e0 e1 e2 e3 e4 e5 = refl
+    by_tests _ _ _ _ _ _ e0 e1 e2 e3 e4 e5 = absurd cc
