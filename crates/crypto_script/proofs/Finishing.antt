@@ -88,6 +88,9 @@ module _ (k l : Known (BoardEntry Ask)) where
       (filter-append (λ e. board_caller e == k.number) t.0 (Shut k.number ∷ [])
       ∙ (λ i. t.1.shows.made i ++ (if eq-eqb k.number k.number refl i then Shut k.number ∷ [] else [])))
 
+  pub shut-closed : AtTurn board_caller LegalBoard k (λ h. Enters LegalBoard k h (Shut k.number) l) → is_shut l.seen ≡ true
+  shut-closed t = ap (λ x. is_shut x.seen) t.2.0 ∙ (list_any-append is_shut_entry t.0 (Shut k.number ∷ []) ∙ or_right (is_shut t.0) true refl)
+
   -- what was shut stays shut
   pub shut-stays : AtTurn board_caller LegalBoard k (λ h. Leaves k h l) → is_shut k.seen ≡ true → is_shut l.seen ≡ false → ⊥
   shut-stays t shut not =
@@ -158,12 +161,13 @@ module _ (workers : ℕ) (lines : List Line) (p : Passes Ask) (qr : RegPass) (qb
   ended-ok (Err e) g in_turn own ends = tt
 
   pub answered : {F : Type 0} (r : Result Bool F) → OnOk r (Gains held held' (IsTextAfter s.workers lines (known s'.registry) (known s'.board))) → Gains held held' (IsFrontAfter s.workers lines (known s'.registry) (known s'.board))
-      → OnOk r (InTurnAfter (known s'.registry)) → OnOk r (IsOwn reg_caller (known s'.registry)) → OnOk r (EndsShut (known s'.board)) → IfOk r (λ bad. bad ≡ list_any is_malformed lines) → IsOwn board_caller (knows qb')
+      → OnOk r (InTurnAfter (known s'.registry)) → OnOk r (IsOwn reg_caller (known s'.registry)) → OnOk r (EndsShut (known s'.board)) → IfOk r (λ bad. bad ≡ list_any is_malformed lines) → IsOwn board_caller (knows qb') → is_shut (knows qb').seen ≡ true
       → Answers workers lines p (record { registry = qr; board = qb' }) r held held'
-  answered r whole front in_turn own ends malformed own_board = record {
+  answered r whole front in_turn own ends malformed own_board closed = record {
     registry = goes-registry;
     board = sees-then (knows p.board) (knows qb) (knows qb') goes-board more;
     own = own_board;
+    shut = closed;
     front = front-on front;
     ended = ended-ok r whole in_turn own ends;
     malformed = malformed;
@@ -237,6 +241,10 @@ module _ (laws : CrewLaws) (workers : ℕ) (lines : List Line) (first p q l : Pa
 
   follow-board : OthersFollow board_caller (knows q.board) b
   follow-board = laws.board_ends is_work (knows first.board).next workers (knows q.board) (knows l.board) b answers.own crewed.board shows_b
+
+  -- however the script's part ended, it shut the board
+  pub whole-closed : is_shut b ≡ true
+  whole-closed = ap (λ h. is_shut h) follow-board.1 ∙ (list_any-append is_shut_entry (knows q.board).seen follow-board.0 ∙ or_left (is_shut (knows q.board).seen) (is_shut follow-board.0) answers.shut)
 
   -- each entry of the histories is the script's or a worker's
   zero-registry : (knows q.registry).number ≡ 0

@@ -1,5 +1,5 @@
 -- What a run does to its source and its sink, where these tell their bytes, and to the passes of its script.
-use Rattle.std.specs.Prelude.{◌≡◌, ℕ, ◌^◌, ◌<◌, ◌↔◌, ◌⊎◌, Bool, false, List, [], ◌∷◌, ◌++◌, length, Option, Result, IfOk, OnOk}
+use Rattle.std.specs.Prelude.{◌≡◌, ℕ, ◌^◌, ◌<◌, ◌↔◌, ◌⊎◌, Bool, true, false, List, [], ◌∷◌, ◌++◌, length, Option, Result, IfOk, OnOk}
 use Rattle.std.specs.List.{list_any}
 use Rattle.std.specs.Io.KnownBytes.{Consumes, Appends, Keeps}
 use Rattle.alg_registry.specs.declared.entry.RegEntry.{RegEntry}
@@ -7,7 +7,7 @@ use Rattle.alg_registry.specs.Rows.{caller_of as reg_caller}
 use Rattle.board.specs.declared.entry.BoardEntry.{BoardEntry}
 use Rattle.board.specs.declared.entry.BoardEntry.TheVariants.{Shut}
 use Rattle.board.specs.Entries.{entries_of, submissions, front, is_closed, caller_of as board_caller}
-use Rattle.board.specs.Legal.{MayManage}
+use Rattle.board.specs.Legal.{MayManage, is_shut}
 use Rattle.crew.specs.declared.passes.Passes.{Passes}
 use Rattle.dialogues.specs.InTurn.{AreInTurn}
 use Rattle.dialogues.specs.RegistryCalls.{reg_calls}
@@ -109,6 +109,7 @@ pub record Answers {F : Type 0} (workers : ℕ) (lines : List Line) (p q : Passe
   pub registry : HasSeenMore (knows p.registry) (knows q.registry)
   pub board : HasSeenMore (knows p.board) (knows q.board)
   pub own : IsOwn board_caller (knows q.board)
+  pub shut : is_shut (knows q.board).seen ≡ true
   pub front : Gains held held' (IsFrontAfter workers lines (knows q.registry) (knows q.board))
   pub ended : OnOk result (Ended workers lines q held held')
   pub malformed : IfOk result (λ bad. bad ≡ list_any is_malformed lines)

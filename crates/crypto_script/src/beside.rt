@@ -77,6 +77,7 @@ fn shut_board<R: Wait>(rt: &R, board: &SharedBoard<Job>, pass: BoardPass<Job>) -
     ensures lock { IsPassOn board.now result }
     ensures more { HasSeenMore (knows pass) (knows result) }
     ensures own { IsOwn caller_of (knows result) }
+    ensures closed { is_shut (knows result).seen ≡ true }
     ensures shut { is_shut (knows pass).seen ≡ true → OthersFollow caller_of (knows pass) (knows result).seen }
 {
     let (pass, shut) = board.is_shut(rt, pass);
@@ -181,6 +182,7 @@ fn run_beside<K: Sink, G: Gate + Sync, R: Threads + Wait + Sync>(
     ensures in_turn { OnOk result.answer (InTurn result.registry) }
     ensures shut { OnOk result.answer (EndsShut result.board) }
     ensures front { Gains (K.held out.old) (K.held out.new) (IsFrontText workers (start 0) 0 (script_of input.now) result.registry result.board) }
+    ensures closed { is_shut result.board ≡ true }
     ensures callers { AreCallers workers result.registry result.board }
     ensures legal { LegalReg result.registry }
     ensures legal_board { LegalBoard result.board }
@@ -219,6 +221,7 @@ pub fn run_script<K: Sink, G: Gate + Sync, R: Threads + Wait + Sync>(
     ensures in_turn { OnOk result.answer (InTurn result.registry) }
     ensures shut { OnOk result.answer (EndsShut result.board) }
     ensures front { Gains (K.held out.old) (K.held out.new) (IsFrontText workers (start 0) 0 (script_of input.now) result.registry result.board) }
+    ensures closed { (result.board ≡ []) ⊎ (is_shut result.board ≡ true) }
     ensures callers { AreCallers workers result.registry result.board }
     ensures legal { LegalReg result.registry }
     ensures legal_board { LegalBoard result.board }

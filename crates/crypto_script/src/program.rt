@@ -1,13 +1,13 @@
 //! The whole program, from the words and the bytes read to the bytes written.
 
-ghost use Rattle.std.specs.Prelude.{OnOk, ◌≡◌, ◌+◌, ◌^◌, ◌<◌, ◌≤◌, ◌↔◌, ◌⊎◌, List, ℕ, [], Some, None, length, map, MatchResult, IfOk, IfErr, IfSome, IsErrOf, IsSome, IsTrue, string_bytes, vec_len};
+ghost use Rattle.std.specs.Prelude.{OnOk, ◌≡◌, ◌+◌, ◌^◌, ◌<◌, ◌≤◌, ◌↔◌, ◌⊎◌, List, ℕ, [], Some, None, length, map, MatchResult, IfOk, IfErr, IfSome, IsErrOf, IsSome, IsTrue, string_bytes, true, vec_len};
 ghost use Rattle.std.specs.List.{list_any};
 ghost use Rattle.std.specs.Io.KnownBytes.{Consumes, IsAtEnd};
 ghost use Rattle.kc_base.specs.Streams.{Rose};
 ghost use Rattle.script_text.specs.Script.{script_of};
 ghost use Rattle.alg_registry.specs.Legal.{LegalReg};
 ghost use Rattle.alg_registry.specs.Made.{Made};
-ghost use Rattle.board.specs.Legal.{LegalBoard};
+ghost use Rattle.board.specs.Legal.{LegalBoard, is_shut};
 ghost use Rattle.dialogues.specs.Texts.{IsText, IsFrontText};
 ghost use Rattle.dialogues.specs.Walk.{start};
 ghost use Rattle.templates.specs.Table.{table};
@@ -133,6 +133,9 @@ pub fn run<S: Source, K: Sink, G: Gate + Sync, R: Threads + Wait + Sync>(
     ensures legal_board { LegalBoard result.board }
     ensures faithful { Made table result.registry }
     ensures callers { AreCallers (workers_in (map string_bytes words.now)) result.registry result.board }
+
+    // Once anything was recorded on the board, it was shut, so that the workers ended.
+    ensures closed { (result.board ≡ []) ⊎ (is_shut result.board ≡ true) }
 
     // Each other status has its cause. That of 5 is want of memory.
     ensures usage { result.status ≡ 2 → workers_asked (map string_bytes words.now) ≡ None }

@@ -1,5 +1,5 @@
 use Rattle.script_text.specs.Script.{script_of}
-use Rattle.crypto_script.proofs.Finishing.{front-whole, whole-text, whole-in_turn, whole-shut, few-callers, whole-malformed}
+use Rattle.crypto_script.proofs.Finishing.{front-whole, whole-text, whole-in_turn, whole-shut, whole-closed, few-callers, whole-malformed}
 use Rattle.crypto_script.proofs.beside.run_beside.Goals as goal
 
 pub returns-clause-whole : goal.returns-clause-whole
@@ -31,6 +31,13 @@ returns-clause-front g c =
     let m = c.crew_script-passes.ensures.crewed in
     let held = g.K.Sink.held in
     front-whole c.crew_laws.ensures c.args.workers (script_of c.args.input.now) c.args.passes m.0 m.1 c.crew_script-passes.result.0 c.crew_script-passes.result.1 (held c.args.out.now) (held c.crew_script-passes.new.out) c.finish_all.result c.finish_all-2.result
+    c.requires.first m.2 m.3 m.4 c.finish_all.ensures.shows c.finish_all-2.ensures.shows
+
+pub returns-clause-closed : goal.returns-clause-closed
+returns-clause-closed g c =
+    let m = c.crew_script-passes.ensures.crewed in
+    let held = g.K.Sink.held in
+    whole-closed c.crew_laws.ensures c.args.workers (script_of c.args.input.now) c.args.passes m.0 m.1 c.crew_script-passes.result.0 c.crew_script-passes.result.1 (held c.args.out.now) (held c.crew_script-passes.new.out) c.finish_all.result c.finish_all-2.result
     c.requires.first m.2 m.3 m.4 c.finish_all.ensures.shows c.finish_all-2.ensures.shows
 
 pub returns-clause-callers : goal.returns-clause-callers

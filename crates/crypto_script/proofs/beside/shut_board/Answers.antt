@@ -1,10 +1,13 @@
 use Rattle.std.proofs.Common.{sym, ◌∙◌}
 use Rattle.turn_lock.specs.Passes.{knows}
-use Rattle.crypto_script.proofs.Finishing.{shut-own, shut-stays}
+use Rattle.crypto_script.proofs.Finishing.{shut-own, shut-closed, shut-stays}
 use Rattle.crypto_script.proofs.beside.shut_board.Goals as goal
 
 pub returns-clause-own : goal.returns-clause-own
 returns-clause-own g c = shut-own (knows c.is_shut-pass.result.0) (knows c.shut.result) c.shut.ensures.turn
+
+pub returns-clause-closed : goal.returns-clause-closed
+returns-clause-closed g c = shut-closed (knows c.is_shut-pass.result.0) (knows c.shut.result) c.shut.ensures.turn
 
 pub returns-clause-shut : goal.returns-clause-shut
 returns-clause-shut g c shut =
