@@ -1,5 +1,5 @@
 -- What the caller asks for, and that what began stays begun.
-use Rattle.std.proofs.Common.{◌≡◌, ℕ, zero, suc, ◌<◌, Bool, true, List, [], ◌∷◌, ◌++◌, length, refl, ap, sym, ◌∙◌, subst, arith, Option, Some, None, Result, Ok, Err, length-append}
+use Rattle.std.proofs.Common.{◌≡◌, ℕ, zero, suc, ◌<◌, Bool, true, List, [], ◌∷◌, ◌++◌, length, refl, ap, sym, subst, arith, Option, Some, None, Result, Ok, Err, length-append}
 use Rattle.std.specs.Prelude.{slice_get, IfOk, IfErr}
 use Rattle.std.specs.Option.{option_map}
 use Rattle.std.proofs.lemmas.List.Elements.{filter_map-append}
@@ -12,7 +12,7 @@ use Rattle.alg_registry.specs.declared.entry.RegEntry.{RegEntry}
 use Rattle.alg_registry.specs.declared.entry.RegEntry.TheVariants.{Look, Waited}
 use Rattle.alg_registry.specs.Rows.{caller_of, texts, begun_by, rows_of, larvals_of}
 use Rattle.alg_registry.specs.Answers.{look_answer}
-use Rattle.alg_registry.specs.Legal.{LegalReg, ended_as}
+use Rattle.alg_registry.specs.Legal.{ended_as}
 use Rattle.alg_registry.specs.Naming.{LooksName}
 use Rattle.turn_lock.specs.Turns.{Known}
 use Rattle.turn_lock.specs.Meeting.{AtTurn, Enters, Leaves}
