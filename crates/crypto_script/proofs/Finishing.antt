@@ -258,8 +258,8 @@ module _ (laws : CrewLaws) (workers : ℕ) (lines : List Line) (first p q l : Pa
   pub few-callers : AreCallers workers r b
   few-callers = (
     all_each _ (λ e. reg_caller e ≤ workers) (λ e x. x.0) r
-    (laws.registry_works is_building workers (knows q.registry) (knows l.registry) r zero-registry next-registry
-      (subst (λ n. Crewed is_building n workers (knows q.registry) (knows l.registry)) (ap (λ x. x.next) new.1) crewed.registry) shows_r),
+        (laws.registry_works is_building workers (knows q.registry) (knows l.registry) r zero-registry next-registry
+        (subst (λ n. Crewed is_building n workers (knows q.registry) (knows l.registry)) (ap (λ x. x.next) new.1) crewed.registry) shows_r),
     all_each (IsEither workers) (λ e. board_caller e ≤ workers) (λ e x. x.0) b either-board,
   )
 
@@ -275,8 +275,8 @@ module _ (laws : CrewLaws) (workers : ℕ) (lines : List Line) (first p q l : Pa
       let works = others-work workers later (each_right (IsEither workers) s.before (Shut 0 ∷ later) all).1 none in
       let finished =
       laws.all_finished s.before 0 (legal-front [] s.before (Shut 0 ∷ later) right)
-          (each_each (IsEither workers) (λ e. (board_caller e ≡ 0) ⊎ (is_work e ≡ true)) (λ e x. x.1) s.before (each_left (IsEither workers) s.before (Shut 0 ∷ later) all))
-          s.finished in
+      (each_each (IsEither workers) (λ e. (board_caller e ≡ 0) ⊎ (is_work e ≡ true)) (λ e x. x.1) s.before (each_left (IsEither workers) s.before (Shut 0 ∷ later) all))
+      s.finished in
       (s.before, history ∙ ap (λ es. s.before ++ Shut 0 ∷ es) (laws.shut_last s.before 0 later right finished works))
 
   whole-on : Ended workers lines q held held' → LegalBoard b → Gains held held' (IsText workers (start 0) 0 lines r b) × InTurn r × ShutLast b

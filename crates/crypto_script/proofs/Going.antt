@@ -1,5 +1,5 @@
 -- A script, line by line, and what it leaves.
-use Rattle.std.proofs.Common.{◌≡◌, ℕ, ◌+◌, ◌||◌, Bool, true, false, List, [], ◌∷◌, ◌++◌, length, map, Option, Some, None, refl, sym, ap, subst, ◌∙◌, append_assoc, append-nil, arith, inl, inr}
+use Rattle.std.proofs.Common.{◌≡◌, ℕ, ◌+◌, ◌||◌, Bool, true, false, List, [], ◌∷◌, ◌++◌, length, map, Option, Some, None, refl, sym, ap, subst, ◌∙◌, append_assoc, append-nil, arith, inl, inr, IfSome}
 use Rattle.std.specs.List.{list_any}
 use Rattle.std.specs.Io.KnownBytes.{Appends, Keeps}
 use Rattle.std.proofs.KnownBytes.{Appends-trans}
@@ -186,9 +186,9 @@ module _ (laws : Laws) (first : State) (lines : List Line) where
         let more_r = reg_calls_from (k.seen ++ reg.0) 0 k.seen reg.0 in
         let more_b = board_calls_from 0 l.seen brd.0 in
         laws.front first.workers (start 0) s.walk 0 number lines left led.turn r b more_r more_b text led.leads
-            (reg_calls-on laws k.seen r led.settled reg ∙ ap (λ cs. cs ++ more_r) led.asked)
-            (board_calls-on laws l.seen b brd ∙ ap (λ cs. cs ++ more_b) led.called)
-            front
+        (reg_calls-on laws k.seen r led.settled reg ∙ ap (λ cs. cs ++ more_r) led.asked)
+        (board_calls-on laws l.seen b brd ∙ ap (λ cs. cs ++ more_b) led.called)
+        front
 
     -- ---- the end of input
 
@@ -213,8 +213,8 @@ module _ (laws : Laws) (first : State) (lines : List Line) where
       end-text = λ r b from_r from_b.
           subst (IsText first.workers (start 0) 0 lines r b) (sym reply-is)
           (laws.end_ first.workers (start 0) s.walk s.walk 0 number lines led.turn u r b leads-end e.is e.ends
-            (reg_calls-same laws k' r (e.asked.number ∙ led.caller) (settled-all k' u.registry e.asked) from_r ∙ asked-all k' u.registry e.asked)
-            (board_calls-same laws l' b (e.called.number ∙ led.board_caller) from_b ∙ called-all l' u.board e.called))
+          (reg_calls-same laws k' r (e.asked.number ∙ led.caller) (settled-all k' u.registry e.asked) from_r ∙ asked-all k' u.registry e.asked)
+          (board_calls-same laws l' b (e.called.number ∙ led.board_caller) from_b ∙ called-all l' u.board e.called))
 
       end-in_turn : InTurnAfter k'
       end-in_turn = λ r from_r.
@@ -345,3 +345,8 @@ reply-broken s s' IsReply held held' reply piece made same written = inr (reply,
 
 pub reply-stopped : (s s' : State) (IsReply : List ℕ → Type 0) (held : Option (List ℕ)) → GoesOn s s' → Breaks s s' IsReply held held
 reply-stopped s s' IsReply held goes_on = inl (goes_on, keeps-same held)
+
+-- nothing is a front of the text of any script
+pub nothing_fronted : (workers : ℕ) (left held : Option (List ℕ)) (r : List RegEntry) (b : List (BoardEntry Ask)) → IfSome left (λ script. Gains held held (IsFrontText workers (start 0) 0 (script_of script) r b))
+nothing_fronted workers None held r b = tt
+nothing_fronted workers (Some script) held r b = ([], (text_in (turn_in workers (start 0) 0 (script_of script) r b), refl), appends-none held)

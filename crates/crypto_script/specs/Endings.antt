@@ -5,7 +5,6 @@ use Rattle.alg_registry.specs.Rows.{caller_of as reg_caller}
 use Rattle.board.specs.declared.entry.BoardEntry.{BoardEntry}
 use Rattle.board.specs.declared.entry.BoardEntry.TheVariants.{Shut}
 use Rattle.board.specs.Entries.{caller_of as board_caller}
-use Rattle.clap.specs.Words.{Text}
 use Rattle.command_line.specs.CommandLine.{mode_of}
 use Rattle.command_line.specs.declared.errors.CommandLineError.{CommandLineError}
 use Rattle.command_line.specs.declared.mode.Mode.{Mode}
@@ -26,11 +25,11 @@ workers_of_mode (Ok (Load options)) = None
 workers_of_mode (Err error) = None
 
 -- beside how many workers the words ask for a script to be run, where that is what they ask for
-unfoldable pub workers_asked : List Text → Option ℕ
+unfoldable pub workers_asked : List (List ℕ) → Option ℕ
 workers_asked words = workers_of_mode (mode_of words)
 
 -- and otherwise 0
-abbrev pub workers_in : List Text → ℕ
+abbrev pub workers_in : List (List ℕ) → ℕ
 workers_in words = unwrap_or (workers_asked words) 0
 
 -- ---- histories

@@ -71,11 +71,7 @@ fn crew_laws()
 }
 
 // Shuts the board if it isn't, so that the workers end.
-fn shut_board<R: Wait>(
-    rt: &R,
-    board: &SharedBoard<Job>,
-    pass: BoardPass<Job>,
-) -> BoardPass<Job>
+fn shut_board<R: Wait>(rt: &R, board: &SharedBoard<Job>, pass: BoardPass<Job>) -> BoardPass<Job>
     requires lock { IsPassOn board.now pass }
     requires first { (knows pass).number ≡ 0 }
     ensures lock { IsPassOn board.now result }
@@ -157,7 +153,11 @@ fn crew_script<K: Sink, G: Gate + Sync, R: Threads + Wait + Sync>(
         ensures lock { ArePassesOn board.entry.now registry.entry.now result.0 }
         ensures answers { Answers workers (script_of input.entry.now) passes result.0 result.1 (K.held out.entry.now) (K.held out.exit.now) }
         ensures cause { IsErrOf result.1 SinkError.Failed → Rose (K.faults out.entry.now) (K.faults out.exit.now) }
-    { answer_script(rt, alloc, workers, board, registry, gate, passes, input, out) };
+    {
+        answer_script(
+            rt, alloc, workers, board, registry, gate, passes, input, out,
+        )
+    };
     run_crew(rt, alloc, workers, board, registry, passes, gate, &mut main)
 }
 
@@ -190,8 +190,9 @@ fn run_beside<K: Sink, G: Gate + Sync, R: Threads + Wait + Sync>(
     ensures causes { IfErr result.answer (λ e. (e ≡ RunError.WriteFault) ⊎ (e ≡ RunError.NoMemory)) }
 {
     crew_laws();
-    let (passes, answer) =
-        crew_script(rt, alloc, workers, &board, &registry, gate, passes, input, out);
+    let (passes, answer) = crew_script(
+        rt, alloc, workers, &board, &registry, gate, passes, input, out,
+    );
     let Passes {
         board: on_board,
         registry: on_registry,
@@ -236,5 +237,7 @@ pub fn run_script<K: Sink, G: Gate + Sync, R: Threads + Wait + Sync>(
         board: on_board,
         registry: on_registry,
     };
-    run_beside(rt, alloc, workers, board, registry, gate, passes, input, out)
+    run_beside(
+        rt, alloc, workers, board, registry, gate, passes, input, out,
+    )
 }

@@ -20,7 +20,7 @@ use crate::beside::{Ran, run_script};
 use crate::errors::{RunError, status_by};
 use alg_registry::RegLog;
 use board::BoardLog;
-use command_line::{Mode, ScriptOptions, parse_words};
+use command_line::{Mode, parse_words};
 use crew::Gate;
 use kc_base::{Bytes, Sink, Source, read_input};
 use std::alloc::{AllocError, Global};
@@ -50,13 +50,13 @@ fn workers_for(alloc: Global, words: &[String]) -> Result<u32, RunError>
     ensures few { IfOk result (λ workers. workers ≤ 16) }
     ensures refused { IfErr result (λ e. (e ≡ RunError.NoMemory) ⊎ ((e ≡ RunError.Usage) × (workers_asked (map string_bytes words.now) ≡ None))) }
 {
-    match parse_words(alloc, words)? {
-        Mode::Script(ScriptOptions {
-            workers,
-            trace: false,
-        }) => Ok(workers),
-        _ => Err(RunError::Usage),
+    let Mode::Script(options) = parse_words(alloc, words)? else {
+        return Err(RunError::Usage);
+    };
+    if options.trace {
+        return Err(RunError::Usage);
     }
+    Ok(options.workers)
 }
 
 // A buffer. Its length is a parameter, so that no proof counts it out.
@@ -107,6 +107,7 @@ fn outcome_of(ran: Ran) -> Outcome
 /// | 3, 4 | the source, the sink failed |
 /// | 5 | memory is wanting |
 /// | 6 | the source has more than 2^28 bytes |
+#[tactic(auto, using(crate::proofs::Going::nothing_fronted))]
 pub fn run<S: Source, K: Sink, G: Gate + Sync, R: Threads + Wait + Sync>(
     rt: &R,
     alloc: Global,

@@ -42,7 +42,7 @@ pub fn bytes_of(alloc: Global, text: &str) -> Result<Bytes, AllocError> {
 pub fn words_for(alloc: Global, workers: u32) -> Result<Vec<String>, AllocError> {
     Ok(vec![in alloc;
         String::from_str(alloc, "--workers")?,
-        format!(in alloc; "{workers}")?
+        format!(in alloc; "{workers}")?,
     ]?)
 }
 

@@ -12,5 +12,5 @@ returns-clause-answers g c =
     let run = c.run_lines-answer.ensures in
     let held = g.K.Sink.held in
     answered c.args.workers (script_of c.args.input.now) c.args.passes c.into_passes-on_registry.result.0 c.into_passes-on_registry.result.1 c.shut_board.result c.new-session.result c.run_lines-answer.new.session (held c.args.out.now) (held c.run_lines-answer.new.out)
-        c.new-session.ensures c.into_passes-on_registry.ensures run.goes_on c.requires.new c.shut_board.ensures.more c.shut_board.ensures.shut
-        c.run_lines-answer.result run.whole run.front run.in_turn run.own run.shut run.malformed c.shut_board.ensures.own
+    c.new-session.ensures c.into_passes-on_registry.ensures run.goes_on c.requires.new c.shut_board.ensures.more c.shut_board.ensures.shut
+    c.run_lines-answer.result run.whole run.front run.in_turn run.own run.shut run.malformed c.shut_board.ensures.own

@@ -7,24 +7,24 @@ returns-clause-whole g c =
     let m = c.crew_script-passes.ensures.crewed in
     let held = g.K.Sink.held in
     rw c.run_answered.ensures
-        (whole-text c.crew_laws.ensures c.args.workers (script_of c.args.input.now) c.args.passes m.0 m.1 c.crew_script-passes.result.0 c.crew_script-passes.result.1 (held c.args.out.now) (held c.crew_script-passes.new.out) c.finish_all.result c.finish_all-2.result
-        c.requires.first m.2 m.3 m.4 c.finish_all.ensures.shows c.finish_all-2.ensures.shows c.finish_all-2.ensures.legal)
+    (whole-text c.crew_laws.ensures c.args.workers (script_of c.args.input.now) c.args.passes m.0 m.1 c.crew_script-passes.result.0 c.crew_script-passes.result.1 (held c.args.out.now) (held c.crew_script-passes.new.out) c.finish_all.result c.finish_all-2.result
+    c.requires.first m.2 m.3 m.4 c.finish_all.ensures.shows c.finish_all-2.ensures.shows c.finish_all-2.ensures.legal)
 
 pub returns-clause-in_turn : goal.returns-clause-in_turn
 returns-clause-in_turn g c =
     let m = c.crew_script-passes.ensures.crewed in
     let held = g.K.Sink.held in
     rw c.run_answered.ensures
-        (whole-in_turn c.crew_laws.ensures c.args.workers (script_of c.args.input.now) c.args.passes m.0 m.1 c.crew_script-passes.result.0 c.crew_script-passes.result.1 (held c.args.out.now) (held c.crew_script-passes.new.out) c.finish_all.result c.finish_all-2.result
-        c.requires.first m.2 m.3 m.4 c.finish_all.ensures.shows c.finish_all-2.ensures.shows c.finish_all-2.ensures.legal)
+    (whole-in_turn c.crew_laws.ensures c.args.workers (script_of c.args.input.now) c.args.passes m.0 m.1 c.crew_script-passes.result.0 c.crew_script-passes.result.1 (held c.args.out.now) (held c.crew_script-passes.new.out) c.finish_all.result c.finish_all-2.result
+    c.requires.first m.2 m.3 m.4 c.finish_all.ensures.shows c.finish_all-2.ensures.shows c.finish_all-2.ensures.legal)
 
 pub returns-clause-shut : goal.returns-clause-shut
 returns-clause-shut g c =
     let m = c.crew_script-passes.ensures.crewed in
     let held = g.K.Sink.held in
     rw c.run_answered.ensures
-        (whole-shut c.crew_laws.ensures c.args.workers (script_of c.args.input.now) c.args.passes m.0 m.1 c.crew_script-passes.result.0 c.crew_script-passes.result.1 (held c.args.out.now) (held c.crew_script-passes.new.out) c.finish_all.result c.finish_all-2.result
-        c.requires.first m.2 m.3 m.4 c.finish_all.ensures.shows c.finish_all-2.ensures.shows c.finish_all-2.ensures.legal)
+    (whole-shut c.crew_laws.ensures c.args.workers (script_of c.args.input.now) c.args.passes m.0 m.1 c.crew_script-passes.result.0 c.crew_script-passes.result.1 (held c.args.out.now) (held c.crew_script-passes.new.out) c.finish_all.result c.finish_all-2.result
+    c.requires.first m.2 m.3 m.4 c.finish_all.ensures.shows c.finish_all-2.ensures.shows c.finish_all-2.ensures.legal)
 
 pub returns-clause-front : goal.returns-clause-front
 returns-clause-front g c =

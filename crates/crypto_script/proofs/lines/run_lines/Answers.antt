@@ -25,7 +25,7 @@ returns-in_err-bad-clause-front g c =
     let line = c.first_line.result.0.now in
     let more = c.first_line.result.1.now in
     going-breaks c.laws.ensures c.args.session.now (script_of c.args.input.now) c.args.registry.now c.args.board.now _ _ _ _ _ _ _ c.loop-rest.invariant.going (line_of line) (script_of more)
-        (script_next c.loop-rest.rest.now line more c.first_line.ensures.line) c.in_err-bad.ensures.done
+    (script_next c.loop-rest.rest.now line more c.first_line.ensures.line) c.in_err-bad.ensures.done
 
 pub returns-in_err-bad-clause-goes_on : goal.returns-in_err-bad-clause-goes_on
 returns-in_err-bad-clause-goes_on g c =
@@ -54,7 +54,7 @@ pub returns-in_err-run_end-clause-front : goal.returns-in_err-run_end-clause-fro
 returns-in_err-run_end-clause-front g c =
     let rest = c.loop-rest.rest.now in
     going-end_breaks c.laws.ensures c.args.session.now (script_of c.args.input.now) c.args.registry.now c.args.board.now _ _ _ _ _ _ _ c.loop-rest.invariant.going
-        (script_none rest (emptied rest (sym c.is_empty.ensures ∙ c.loop-rest-test.false))) c.in_err-run_end.ensures.done
+    (script_none rest (emptied rest (sym c.is_empty.ensures ∙ c.loop-rest-test.false))) c.in_err-run_end.ensures.done
 
 pub returns-in_err-run_end-clause-goes_on : goal.returns-in_err-run_end-clause-goes_on
 returns-in_err-run_end-clause-goes_on g c =
@@ -64,22 +64,22 @@ pub returns-clause-whole : goal.returns-clause-whole
 returns-clause-whole g c =
     let rest = c.loop-rest.rest.now in
     going-ends c.laws.ensures c.args.session.now (script_of c.args.input.now) c.args.registry.now c.args.board.now _ _ _ _ _ _ _ c.loop-rest.invariant.going
-        (script_none rest (emptied rest (sym c.is_empty.ensures ∙ c.loop-rest-test.false))) c.in_ok-run_end.ensures.done
+    (script_none rest (emptied rest (sym c.is_empty.ensures ∙ c.loop-rest-test.false))) c.in_ok-run_end.ensures.done
 
 pub returns-clause-front : goal.returns-clause-front
 returns-clause-front g c =
     let rest = c.loop-rest.rest.now in
     going-ends_front c.laws.ensures c.args.session.now (script_of c.args.input.now) c.args.registry.now c.args.board.now _ _ _ _ _ _ _ c.loop-rest.invariant.going
-        (script_none rest (emptied rest (sym c.is_empty.ensures ∙ c.loop-rest-test.false))) c.in_ok-run_end.ensures.done
+    (script_none rest (emptied rest (sym c.is_empty.ensures ∙ c.loop-rest-test.false))) c.in_ok-run_end.ensures.done
 
 pub returns-clause-in_turn : goal.returns-clause-in_turn
 returns-clause-in_turn g c =
     let rest = c.loop-rest.rest.now in
     going-ends_in_turn c.laws.ensures c.args.session.now (script_of c.args.input.now) c.args.registry.now c.args.board.now _ _ _ _ _ _ _ c.loop-rest.invariant.going
-        (script_none rest (emptied rest (sym c.is_empty.ensures ∙ c.loop-rest-test.false))) c.in_ok-run_end.ensures.done
+    (script_none rest (emptied rest (sym c.is_empty.ensures ∙ c.loop-rest-test.false))) c.in_ok-run_end.ensures.done
 
 pub returns-clause-own : goal.returns-clause-own
 returns-clause-own g c =
     let rest = c.loop-rest.rest.now in
     going-ends_own c.laws.ensures c.args.session.now (script_of c.args.input.now) c.args.registry.now c.args.board.now _ _ _ _ _ _ _ c.loop-rest.invariant.going
-        (script_none rest (emptied rest (sym c.is_empty.ensures ∙ c.loop-rest-test.false))) c.in_ok-run_end.ensures.done
+    (script_none rest (emptied rest (sym c.is_empty.ensures ∙ c.loop-rest-test.false))) c.in_ok-run_end.ensures.done
