@@ -6,7 +6,7 @@ use Rattle.std.proofs.lemmas.Bool.{or_left, and_parts, eq-eqb}
 use Rattle.std.proofs.lemmas.List.{append_assoc, append-nil}
 use Rattle.std.proofs.lemmas.List.Folds.{list_any-append}
 use Rattle.std.proofs.Math.Nat.{eq-or-lt_of_le}
-use Rattle.turn_lock.specs.Turns.{Known, Shows, Each, Has, StartsWith, of, gives_number, gets_number, joined, skipped}
+use Rattle.turn_lock.specs.Turns.{Known, Each, Has, StartsWith, of, gives_number, gets_number, joined, skipped}
 use Rattle.turn_lock.specs.Going.{none_after}
 use Rattle.turn_lock.specs.Going.{starts_through}
 use Rattle.board.specs.declared.entry.BoardEntry.{BoardEntry}

@@ -4,6 +4,7 @@ use crate::asking::{asked_beside_worker, count_built_by};
 use crate::callers::callers_see_their_own;
 use crate::calls::crew_of;
 use crate::sharing::shared_number;
+use alg_registry::Ended;
 use crew::{Gate, NoGate};
 use std::sync::atomic::{AtomicU64, Ordering};
 use std::test::Fail;
@@ -74,8 +75,8 @@ fn eight_callers_see_their_own_order(rt: HostRuntime) -> Result<(), Fail> {
 fn a_worker_builds_what_another_asks_for(rt: HostRuntime) -> Result<(), Fail> {
     let asked = asked_beside_worker(&rt, rt.alloc());
     assert!(rt; asked.is_some());
-    if let Some((claimed, log)) = asked {
-        assert!(rt; claimed);
+    if let Some((ended, log)) = asked {
+        assert!(rt; ended == Some(Ended::Built(3)));
         assert_eq!(rt; count_built_by(&log, 1), 1);
     }
     Ok(())

@@ -117,7 +117,7 @@ fn scripts_have_their_text(rt: HostRuntime) -> Result<(), Fail> {
 }
 
 // Worked scripts: for each its text. Bytes are those of the standards' test vectors, where nothing else is said.
-const WORKED: [(&str, &str); 13] = [
+const WORKED: [(&str, &str); 16] = [
     (
         // SP 800-38A, F.2.1
         "alloc c cbc(aes)\nkey c 2b7e151628aed2a6abf7158809cf4f3c\nenc c 000102030405060708090a0b0c0d0e0f - 6bc1bee22e409f96e93d7e117393172aae2d8a571e03ac9c9eb76fac45af8e51\nenc c 000102030405060708090a0b0c0d0e0f - 00112233445566778899aabbccddee\nenc c 000102030405060708090a0b0c0d0e0f - -\ndec c 000102030405060708090a0b0c0d0e0f - 7649abac8119b246cee98e9b12e9197d\n",
@@ -179,6 +179,21 @@ const WORKED: [(&str, &str); 13] = [
         // a request keeps the tag size too; the second bytes are of python's `cryptography`
         "alloc p pcrypt(gcm(aes))\nkey p 00000000000000000000000000000000\nenc p 000000000000000000000000 - 00000000000000000000000000000000\nkey p 2b7e151628aed2a6abf7158809cf4f3c\nauthsize p 12\nenc p 000000000000000000000000 - 00000000000000000000000000000000\ndrain p\n",
         "1 ok pcrypt(gcm_base(ctr(aes-generic),ghash-generic))\n2 ok\n3 EINPROGRESS\n4 ok\n5 ok\n6 EINPROGRESS\n3 done 0388dace60b6a392f328c2b971b2fe78ab6e47d42cec13bdf53a67b21257bddf\n6 done 973f2ef34879e2027f1734303ff21f894ffe0a3c3617e6c15db0bc07\n7 drained 2\n",
+    ),
+    (
+        // RFC 4493, examples 1 and 2
+        "alloc m cmac(aes)\nkey m 2b7e151628aed2a6abf7158809cf4f3c\nmac m -\nmac m 6bc1bee22e409f96e93d7e117393172a\nalloc a authenc(cmac(aes),cbc(aes))\n",
+        "1 ok cmac(aes-generic)\n2 ok\n3 ok bb1d6929e95937287fa37d129b756746\n4 ok 070a16b46b4d4144f79bdd9dd04a287c\n5 EINVAL\n",
+    ),
+    (
+        // SP 800-38C, example 1
+        "alloc c ccm(aes)\nkey c 404142434445464748494a4b4c4d4e4f\nauthsize c 4\nenc c 07101112131415160000000000000000 0001020304050607 20212223\nenc c 00101112131415160000000000000000 0001020304050607 20212223\nauthsize c 5\n",
+        "1 ok ccm(aes-generic)\n2 ok\n3 ok\n4 ok 7162015b4dac255d\n5 EINVAL\n6 EINVAL\n",
+    ),
+    (
+        // the same, with a wrong tag between right ones
+        "alloc p pcrypt(ccm(aes))\nkey p 404142434445464748494a4b4c4d4e4f\nauthsize p 4\ndec p 07101112131415160000000000000000 0001020304050607 7162015b4dac255d\ndec p 07101112131415160000000000000000 0001020304050607 7162015b4dac255c\ndec p 07101112131415160000000000000000 0001020304050607 7162015b4dac255d\ndrain p\n",
+        "1 ok pcrypt(ccm(aes-generic))\n2 ok\n3 ok\n4 EINPROGRESS\n5 EINPROGRESS\n6 EINPROGRESS\n4 done 20212223\n5 fail EBADMSG\n6 done 20212223\n7 drained 3\n",
     ),
 ];
 

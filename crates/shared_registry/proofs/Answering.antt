@@ -1,15 +1,15 @@
 -- What a look answers, in a history that has it.
-use Rattle.std.proofs.Common.{◌≡◌, ℕ, Bool, true, false, List, [], ◌∷◌, ◌++◌, length, refl, ap, sym, ◌∙◌, subst, Some, Result, Ok, Err, append_assoc}
-use Rattle.std.specs.Prelude.{slice_get, IfOk, IfErr}
+use Rattle.std.proofs.Common.{◌≡◌, ℕ, Bool, true, false, List, [], ◌∷◌, ◌++◌, refl, ap, sym, subst, Result, Ok, Err}
+use Rattle.std.specs.Prelude.{IfOk, IfErr}
 use Rattle.alg_registry.specs.declared.entry.Looked.{Looked}
 use Rattle.alg_registry.specs.declared.entry.Looked.TheVariants.{Found, Pending, Began, Absent}
 use Rattle.alg_registry.specs.declared.entry.RegErr.{RegErr}
 use Rattle.alg_registry.specs.declared.entry.RegErr.TheVariants.{Memory}
 use Rattle.alg_registry.specs.declared.entry.RegEntry.{RegEntry}
 use Rattle.alg_registry.specs.declared.entry.RegEntry.TheVariants.{Look}
-use Rattle.alg_registry.specs.Rows.{texts, rows_of, larvals_of}
+use Rattle.alg_registry.specs.Rows.{rows_of, larvals_of}
 use Rattle.alg_registry.specs.Answers.{look_answer}
-use Rattle.alg_registry.specs.Legal.{LegalReg, IsRight}
+use Rattle.alg_registry.specs.Legal.{LegalReg}
 use Rattle.alg_names.specs.Name.{Tree, spelling}
 use Rattle.templates.specs.Nesting.{is_nested_well}
 use Rattle.turn_lock.specs.Turns.{Known}

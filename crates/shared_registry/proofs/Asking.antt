@@ -18,8 +18,8 @@ use Rattle.alg_registry.specs.Calls.{end_given, IsFailure}
 use Rattle.alg_registry.specs.declared.entry.RegEntry.{RegEntry}
 use Rattle.alg_registry.specs.declared.entry.RegEntry.TheVariants.{Enlist, Look, Claim, End, Waited, Unlist, Get, Put, Refs}
 use Rattle.alg_registry.specs.declared.entry.RegEntry.TheVariants as entry
-use Rattle.alg_registry.specs.Rows.{caller_of, texts, registered, rows_of, larvals_of, is_listed, begun_by}
-use Rattle.alg_registry.specs.Legal.{LegalReg, IsRight, is_worker, ended_as, claimer}
+use Rattle.alg_registry.specs.Rows.{caller_of, texts, registered, rows_of, larvals_of, begun_by}
+use Rattle.alg_registry.specs.Legal.{LegalReg, is_worker, ended_as, claimer}
 use Rattle.alg_registry.specs.Made.{building, last_of, looks_for, look_for, if_of, outcome, outcomes, all_outcomes, next_of, next_child, with_spec, by_spec, by_children, by_outcomes, made_answer, IsMade}
 use Rattle.templates.specs.Table.{table}
 use Rattle.turn_lock.specs.Turns.{Known, Shows}

@@ -1,24 +1,20 @@
 -- For a crate above: what a caller of these calls knows further.
-use Rattle.std.proofs.Common.{◌≡◌, ℕ, ◌<◌, inl, inr, Bool, true, false, ◌&&◌, List, [], ◌∷◌, ◌++◌, length, refl, ap, sym, ◌∙◌, subst, Option, Some, Result, Ok}
-use Rattle.std.specs.Prelude.{slice_get, filter}
-use Rattle.std.specs.List.{list_all}
+use Rattle.std.proofs.Common.{◌≡◌, ℕ, inl, inr, Bool, List, [], ◌∷◌, ◌++◌, refl, ap, sym, ◌∙◌, subst, Option, Some, Result, Ok}
+use Rattle.std.specs.Prelude.{slice_get}
 use Rattle.kc_base.specs.declared.error_numbers.Errno.{Errno}
 use Rattle.std.proofs.Common.{None, Err}
 use Rattle.alg_registry.specs.declared.spec.Spec.{Spec}
 use Rattle.alg_registry.specs.declared.entry.Looked.{Looked}
-use Rattle.alg_registry.specs.declared.entry.Looked.TheVariants.{Began}
 use Rattle.alg_registry.specs.declared.entry.RegEntry.{RegEntry}
-use Rattle.alg_registry.specs.declared.entry.RegEntry.TheVariants.{Enlist, Look, Claim, End, Waited, Unlist, Get, Put, Refs}
-use Rattle.alg_registry.specs.declared.entry.RegEntry.TheVariants as entry
-use Rattle.alg_registry.specs.Rows.{caller_of, texts, registered}
+use Rattle.alg_registry.specs.declared.entry.RegEntry.TheVariants.{Look}
+use Rattle.alg_registry.specs.Rows.{registered}
 use Rattle.alg_registry.specs.Made.{outcome}
-use Rattle.templates.specs.Looking.{is_asked, found_in, found_as, entry_found, Entry}
+use Rattle.templates.specs.Looking.{found_in, found_as, entry_found}
 use Rattle.templates.specs.Looking.{Found as WasFound}
 use Rattle.std.specs.List.{AllByRecursion}
-use Rattle.turn_lock.specs.Turns.{Known, Has, Shows, Each, newcomer, gives_number}
-use Rattle.shared_registry.specs.Passes.{IsSound}
+use Rattle.turn_lock.specs.Turns.{Known, Has, Each}
 use Rattle.shared_registry.proofs.Going.{Goes}
-use Rattle.shared_registry.specs.Building.{is_building, Looks, IsLook, WasAnswered, HasText}
+use Rattle.shared_registry.specs.Building.{Looks, IsLook, WasAnswered}
 use Rattle.shared_registry.specs.Learned.{RegistryLaws}
 
 has_more : (P : RegEntry → Type 0) (xs ys : List RegEntry) → Has P xs → Has P (xs ++ ys)
