@@ -396,23 +396,23 @@ fn fail_read<R: Abort + Threads + Wait + Sync>(
     rt: &R,
     alloc: Global,
     step: usize,
-    number: u64,
+    number: u32,
 ) -> Result<(), AllocError>
     requires { 0 < step }
 {
     let mut src = MemSource::new(
         bytes_of(alloc, MIXED_SCRIPT)?,
         step,
-        vec![in alloc; number]?,
+        vec![in alloc; u64::from(number)]?,
     );
     let mut out = SureSink::new(alloc);
     let reads = MIXED_SCRIPT.len().div_ceil(step) as u64;
-    let (want, text) = if number > reads {
+    let (want, text) = if u64::from(number) > reads {
         (1, MIXED_TEXT)
     } else {
         (3, "")
     };
-    let status = status(rt, alloc, number as u32 % 4, &mut src, &mut out)?;
+    let status = status(rt, alloc, number % 4, &mut src, &mut out)?;
     assert_eq!(rt; status, want, "read {number} of {reads}");
     assert_eq!(rt; out.bytes(), text.as_bytes(), "read {number} of {reads}");
     Ok(())
@@ -423,13 +423,13 @@ fn fail_write<R: Abort + Threads + Wait + Sync>(
     rt: &R,
     alloc: Global,
     step: usize,
-    number: u64,
+    number: u32,
 ) -> Result<(), AllocError>
     requires { 0 < step }
 {
     let mut src = SureSource::new(bytes_of(alloc, MIXED_SCRIPT)?);
-    let mut out = MemSink::new(alloc, step, vec![in alloc; number]?);
-    let status = status(rt, alloc, number as u32 % 4, &mut src, &mut out)?;
+    let mut out = MemSink::new(alloc, step, vec![in alloc; u64::from(number)]?);
+    let status = status(rt, alloc, number % 4, &mut src, &mut out)?;
     let written = out.bytes();
     assert!(rt;
         MIXED_TEXT.as_bytes().starts_with(written),
@@ -442,7 +442,7 @@ fn fail_write<R: Abort + Threads + Wait + Sync>(
 
 #[test]
 fn each_read_and_each_write_fails_in_turn(rt: HostRuntime) -> Result<(), Fail> {
-    for number in 0..110u64 {
+    for number in 0..110u32 {
         fail_read(&rt, rt.alloc(), 16, number)?;
         fail_write(&rt, rt.alloc(), 16, number)?;
         fail_write(&rt, rt.alloc(), 1000, number)?;
