@@ -1,14 +1,17 @@
 //! Works on 64 KiB again and again, for tools/speed to time: `cipher_speed WORK FORM COUNT` does COUNT times what WORK says
 //! (`ctr`, `cbc`, `cbc-open`, `xts`, `xts-open`, `gcm`, `gcm-open` or `hmac`) with AES in the form FORM (`generic`, `table` or `lanes`), and prints
-//! the first bytes of what came of it, so that no turn can be left out. Without words it prints nothing.
+//! the first bytes of what came of it, so that no turn can be left out. `cipher_speed chunks FORM COUNT THREADS` does the same with
+//! CTR of 16 MiB, in chunks for so many threads. Without words it prints nothing.
 #![tactic(auto)]
 
-ghost use Rattle.std.specs.Prelude.{◌≡◌, IfOk, vec_len};
+ghost use Rattle.std.specs.Prelude.{◌≡◌, ◌<◌, IfOk, vec_len};
 
+mod chunked;
 mod sealing;
 #[cfg(test)]
 mod tests;
 
+use chunked::repeat_chunked;
 use sealing::{Form, Work, form_named, repeat, work_named};
 use std::alloc::{AllocError, Global};
 use std::process::ExitCode;
@@ -16,6 +19,15 @@ use std::{env, io};
 
 /// The bytes that are worked on at once.
 const LENGTH: usize = 65_536;
+
+/// The bytes that are worked on at once in chunks.
+const LONG: usize = 16_777_216;
+
+/// What the words ask for.
+enum Order {
+    Whole(Work, Form, u32),
+    Chunked(Form, u32, u32),
+}
 
 fn zeros(alloc: Global, length: usize) -> Result<Vec<u8>, AllocError>
     ensures { IfOk result (λ bytes. vec_len bytes ≡ length) }
@@ -31,14 +43,21 @@ fn words(rt: &HostRuntime) -> io::Result<Vec<String>> {
     Ok(words)
 }
 
-/// The work, the form and the count, where the words are these.
-fn order_of(words: &[String]) -> Option<(Work, Form, u32)> {
-    let [work, form, count] = words else {
-        return None;
-    };
-    let work = work_named(work.as_str())?;
-    let form = form_named(form.as_str())?;
-    Some((work, form, count.parse::<u32>().ok()?))
+/// The work, the form and the count, where the words are these, or the form, the count and the threads.
+fn order_of(words: &[String]) -> Option<Order> {
+    match words {
+        [work, form, count] => {
+            let work = work_named(work.as_str())?;
+            let form = form_named(form.as_str())?;
+            Some(Order::Whole(work, form, count.parse::<u32>().ok()?))
+        }
+        [work, form, count, threads] if work.as_str() == "chunks" => {
+            let form = form_named(form.as_str())?;
+            let count = count.parse::<u32>().ok()?;
+            Some(Order::Chunked(form, count, threads.parse::<u32>().ok()?))
+        }
+        _ => None,
+    }
 }
 
 fn main(rt: HostRuntime) -> io::Result<ExitCode> {
@@ -46,15 +65,25 @@ fn main(rt: HostRuntime) -> io::Result<ExitCode> {
     if words.is_empty() {
         return Ok(ExitCode::SUCCESS);
     }
-    let Some((work, form, count)) = order_of(&words) else {
-        eprintln!(rt;
-            "cipher_speed: the words are a work (ctr, cbc, cbc-open, xts, xts-open, gcm, gcm-open or hmac), a form of AES (generic, table or lanes) and a count"
-        )?;
-        return Ok(ExitCode::from(2));
-    };
-    let mut text = zeros(rt.alloc(), LENGTH)?;
-    let mut copy = zeros(rt.alloc(), LENGTH)?;
-    repeat(work, form, count, &mut text, &mut copy);
-    println!(rt; "{:?} {:?}", &text[..16], &copy[..16])?;
-    Ok(ExitCode::SUCCESS)
+    match order_of(&words) {
+        Some(Order::Whole(work, form, count)) => {
+            let mut text = zeros(rt.alloc(), LENGTH)?;
+            let mut copy = zeros(rt.alloc(), LENGTH)?;
+            repeat(work, form, count, &mut text, &mut copy);
+            println!(rt; "{:?} {:?}", &text[..16], &copy[..16])?;
+            Ok(ExitCode::SUCCESS)
+        }
+        Some(Order::Chunked(form, count, threads)) => {
+            let mut text = zeros(rt.alloc(), LONG)?;
+            repeat_chunked(&rt, form, threads, count, &mut text);
+            println!(rt; "{:?}", &text[..16])?;
+            Ok(ExitCode::SUCCESS)
+        }
+        None => {
+            eprintln!(rt;
+                "cipher_speed: the words are a work (ctr, cbc, cbc-open, xts, xts-open, gcm, gcm-open or hmac), a form of AES (generic, table or lanes) and a count, or chunks, a form, a count and a number of threads"
+            )?;
+            Ok(ExitCode::from(2))
+        }
+    }
 }
