@@ -1,0 +1,4 @@
+pub mod Plain
+pub mod Workers
+pub mod Printing
+pub mod Trials
