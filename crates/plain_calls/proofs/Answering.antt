@@ -25,10 +25,8 @@ use Rattle.alg_registry.proofs.Steps.{IsQuiet, LegalReg-push}
 use Rattle.templates.specs.Looking.{Found, NonePending, found_in}
 use Rattle.templates.specs.Table.{table}
 use Rattle.templates.specs.Resolving.{weight_of}
-use Rattle.templates.proofs.PlannedHistories.{Grammar}
 use Rattle.dialogues.specs.RegistryCalls.{RegCall, Enlists, Looks, Unlists, Gets, Puts, Counts, Lists, reg_call_of, is_settled}
-use Rattle.plain_calls.specs.Registry.{PlainRegistry, first_registry}
-use Rattle.plain_calls.specs.Registry.{registry_after, with_rows, changed, changed_by}
+use Rattle.plain_calls.specs.Registry.{PlainRegistry, first_registry, registry_after, with_rows, changed, changed_by}
 use Rattle.plain_calls.proofs.Agreeing.{IsRegistryOf, is_building}
 use Rattle.plain_calls.specs.Laws.{IsAnsweredBy, AnswersArePlain}
 use Rattle.plain_calls.proofs.Asking.{Asks, AsksInTurn, AnswersAsPlain}
@@ -37,8 +35,8 @@ use Rattle.plain_calls.proofs.Crew.{crew_builds}
 use Rattle.plain_calls.proofs.Determined.{phase_run, phase_ends}
 use Rattle.plain_calls.proofs.Going.{no_end, no_more}
 use Rattle.plain_calls.proofs.Knowing.{known_quiet, built_stays}
-use Rattle.plain_calls.proofs.Lightness.{table_lighter, look_as_plain, legal_front, made_front}
-use Rattle.plain_calls.proofs.Phases.{Ends}
+use Rattle.plain_calls.proofs.Lightness.{look_as_plain, legal_front, made_front}
+use Rattle.plain_calls.proofs.Phases.{AreLighter, Ends}
 
 -- ---- where nothing is pending
 
@@ -46,10 +44,10 @@ none_left : (h : List RegEntry) → NonePending h → (n : ℕ) → n < length (
 none_left h none n lt undone = absurd (let s : IsSome {T = Ended} None = subst (λ (o : Option Ended). IsSome o) undone (none n lt) in cc)
 
 -- building does nothing where nothing is pending
-pub rests : Grammar → (h more : List RegEntry) (registry : PlainRegistry) → LegalReg h → NonePending h → IsRegistryOf registry h → MayFollow h more → MadeAfter table h more → list_all is_building more ≡ true → IsRegistryOf registry (h ++ more) × NonePending (h ++ more)
-rests g h more registry legal none is follows made all =
+pub rests : AreLighter table weight_of → (h more : List RegEntry) (registry : PlainRegistry) → LegalReg h → NonePending h → IsRegistryOf registry h → MayFollow h more → MadeAfter table h more → list_all is_building more ≡ true → IsRegistryOf registry (h ++ more) × NonePending (h ++ more)
+rests lighter h more registry legal none is follows made all =
     let d = phase_ends table weight_of (h ++ more) registry Absent (registry, Err ENOENT) (Err ENOENT) refl
-    (phase_run table weight_of h more Absent (registry, Err ENOENT) (table_lighter g) legal follows made all
+    (phase_run table weight_of h more Absent (registry, Err ENOENT) lighter legal follows made all
     (Ends (record { registry = registry; is = is; result = Err ENOENT; same = refl; comes = refl; none = none_left h none }))) in
     (d.is, d.none)
 
@@ -123,14 +121,14 @@ both true b e = (refl, e)
 both false b e = absurd cc
 
 -- the call's entry, and building after it
-one_call : Grammar → (h work : List RegEntry) (registry : PlainRegistry) (e : RegEntry) (call : RegCall) → LegalReg h → IsRight h e → MayFollow (h ++ e ∷ []) work → IsMade table h e → MadeAfter table (h ++ e ∷ []) work → Made table h → NonePending h → IsRegistryOf registry h
+one_call : AreLighter table weight_of → (h work : List RegEntry) (registry : PlainRegistry) (e : RegEntry) (call : RegCall) → LegalReg h → IsRight h e → MayFollow (h ++ e ∷ []) work → IsMade table h e → MadeAfter table (h ++ e ∷ []) work → Made table h → NonePending h → IsRegistryOf registry h
     → list_all is_building work ≡ true → reg_call_of ((h ++ e ∷ []) ++ work) 0 h e ≡ Some call → is_settled call ≡ true → Leaves registry call ((h ++ e ∷ []) ++ work)
-one_call g h work registry e call legal right follows made made_after whole none is all call_is settled = by_entry e right made follows made_after call_is settled
+one_call lighter h work registry e call legal right follows made made_after whole none is all call_is settled = by_entry e right made follows made_after call_is settled
   where
     -- an entry by which no larval begins
     after_entry : (x : RegEntry) (c : RegCall) → IsRight h x → MayFollow (h ++ x ∷ []) work → MadeAfter table (h ++ x ∷ []) work → begun_by x ≡ None → IsRegistryOf (registry_after registry c) (h ++ x ∷ []) → IsAnsweredBy registry c → Leaves registry c ((h ++ x ∷ []) ++ work)
     after_entry x c right' follows' made' unbegun now answered =
-        let r = rests g (h ++ x ∷ []) work (registry_after registry c) (LegalReg-push h x legal right') (none_pending h x unbegun none) now follows' made' all in
+        let r = rests lighter (h ++ x ∷ []) work (registry_after registry c) (LegalReg-push h x legal right') (none_pending h x unbegun none) now follows' made' all in
         record { is = r.0; none = r.1; answered = answered }
 
     became : (x : RegEntry) (c : RegCall) → c ≡ call → Leaves registry c ((h ++ x ∷ []) ++ work) → Leaves registry call ((h ++ x ∷ []) ++ work)
@@ -157,7 +155,7 @@ one_call g h work registry e call legal right follows made made_after whole none
     by_entry (Look by text false a) r m f n q s =
         let k = own (eqb by 0) (Looks text (found_in ((h ++ Look by text false a ∷ []) ++ work) a)) call q in
         let there' = found_there (found_in ((h ++ Look by text false a ∷ []) ++ work) a) text (ap is_settled k ∙ s) in
-        let p = look_as_plain g h work registry by text a there'.0 legal r f m n none is all there'.1 in
+        let p = look_as_plain lighter h work registry by text a there'.0 legal r f m n none is all there'.1 in
         became (Look by text false a) (Looks text (found_in ((h ++ Look by text false a ∷ []) ++ work) a)) k (record { is = p.0; none = p.1; answered = there'.1 ∙ ap (λ (x : Found). Some x) (sym p.2) })
     by_entry (Unlist by driver a) r m f n q s =
         let k = own (eqb by 0) (Unlists driver a) call q in
@@ -180,8 +178,8 @@ one_call g h work registry e call legal right follows made made_after whole none
 
 -- ---- calls in turn
 
-asks_call : Grammar → (call : RegCall) (r r' : List RegEntry) (registry : PlainRegistry) → LegalReg r' → Made table r' → NonePending r → IsRegistryOf registry r → Asks call r r' → Leaves registry call r'
-asks_call g call r r' registry legal' made' none is asks =
+asks_call : AreLighter table weight_of → (call : RegCall) (r r' : List RegEntry) (registry : PlainRegistry) → LegalReg r' → Made table r' → NonePending r → IsRegistryOf registry r → Asks call r r' → Leaves registry call r'
+asks_call lighter call r r' registry legal' made' none is asks =
     let h : List RegEntry = r ++ asks.before in
     let h1 : List RegEntry = h ++ asks.entry ∷ [] in
     let legal : LegalReg (h1 ++ asks.after) = subst LegalReg asks.history legal' in
@@ -192,9 +190,9 @@ asks_call g call r r' registry legal' made' none is asks =
     let outer_made = made_front h1 asks.after made in
     let inner_made = made_front h (asks.entry ∷ []) outer_made.0 in
     let first_made = made_front r asks.before inner_made.0 in
-    let ready = rests g r asks.before registry first.0 none is first.1 first_made.1 asks.builds_before in
+    let ready = rests lighter r asks.before registry first.0 none is first.1 first_made.1 asks.builds_before in
     subst (λ x. Leaves registry call x) (sym asks.history)
-    (one_call g h asks.after registry asks.entry call inner.0 inner.1.0 outer.1 inner_made.1.0 outer_made.1 inner_made.0 ready.1 ready.0 asks.builds_after (ap (λ x. reg_call_of x 0 h asks.entry) (sym asks.history) ∙ asks.call_is) asks.settled)
+    (one_call lighter h asks.after registry asks.entry call inner.0 inner.1.0 outer.1 inner_made.1.0 outer_made.1 inner_made.0 ready.1 ready.0 asks.builds_after (ap (λ x. reg_call_of x 0 h asks.entry) (sym asks.history) ∙ asks.call_is) asks.settled)
 
 -- the history goes on through calls in turn
 goes_on : (calls : List RegCall) (r r' : List RegEntry) → AsksInTurn calls r r' → (more : List RegEntry) × (r' ≡ r ++ more)
@@ -210,18 +208,18 @@ goes_on (call ∷ calls) r r' turn =
           ∙ (ap (λ x. x ++ (a.after ++ later.0)) (append_assoc r a.before (a.entry ∷ [])) ∙ append_assoc r (a.before ++ a.entry ∷ []) (a.after ++ later.0)))),
     )
 
-pub answers_as_plain : Grammar → AnswersAsPlain
-answers_as_plain g [] r r' registry legal made none is turn =
+pub answers_as_plain : AreLighter table weight_of → AnswersAsPlain
+answers_as_plain lighter [] r r' registry legal made none is turn =
     let l = legal_front r turn.0 (subst LegalReg turn.1 legal) in
     let m = made_front r turn.0 (subst (λ x. Made table x) turn.1 made) in
-    let p = rests g r turn.0 registry l.0 none is l.1 m.1 turn.2 in
+    let p = rests lighter r turn.0 registry l.0 none is l.1 m.1 turn.2 in
     (subst (λ x. IsRegistryOf registry x) (sym turn.1) p.0, subst (λ x. NonePending x) (sym turn.1) p.1, tt)
-answers_as_plain g (call ∷ calls) r r' registry legal made none is turn =
+answers_as_plain lighter (call ∷ calls) r r' registry legal made none is turn =
     let on = goes_on calls turn.0 r' turn.2 in
     let l = legal_front turn.0 on.0 (subst LegalReg on.1 legal) in
     let m = made_front turn.0 on.0 (subst (λ x. Made table x) on.1 made) in
-    let p = asks_call g call r turn.0 registry l.0 m.0 none is turn.1 in
-    let q = answers_as_plain g calls turn.0 r' (registry_after registry call) legal made p.none p.is turn.2 in
+    let p = asks_call lighter call r turn.0 registry l.0 m.0 none is turn.1 in
+    let q = answers_as_plain lighter calls turn.0 r' (registry_after registry call) legal made p.none p.is turn.2 in
     (q.0, q.1, (p.answered, q.2))
 
 -- ---- from the start
@@ -232,6 +230,6 @@ first_known = record { rows = refl; built = λ text id. refl }
 first_none : NonePending []
 first_none n lt = absurd (omega (arith, lt))
 
-pub answers_are_plain : Grammar → AnswersArePlain
-answers_are_plain g calls r legal made crew turn =
-    (answers_as_plain g calls [] r first_registry legal made first_none first_known (crew_builds calls [] r legal (recursion_from_All (λ (e : RegEntry). caller_of e ≤ 16) r crew) turn)).2
+pub answers_are_plain : AreLighter table weight_of → AnswersArePlain
+answers_are_plain lighter calls r legal made crew turn =
+    (answers_as_plain lighter calls [] r first_registry legal made first_none first_known (crew_builds calls [] r legal (recursion_from_All (λ (e : RegEntry). caller_of e ≤ 16) r crew) turn)).2

@@ -25,12 +25,11 @@ use Rattle.alg_registry.proofs.Steps.{LegalReg-push}
 use Rattle.alg_registry.proofs.Stack.{texts-push, length-texts, ended-push, ended-new, claimed-there, looks-push, looks-fresh, larval_get, same}
 use Rattle.templates.specs.Looking.{NonePending}
 use Rattle.alg_registry.proofs.Looks.{began_new}
-use Rattle.templates.proofs.Looks.{position_at, pending_driver, at_last}
 use Rattle.plain_calls.specs.Registry.{PlainRegistry, LookedUp, looked}
 use Rattle.plain_calls.proofs.Agreeing.{IsRegistryOf, is_building}
 use Rattle.plain_calls.proofs.Building.{last_built}
 use Rattle.plain_calls.proofs.Chains.{Frame, Chained, Among, AreHeavier, Wanting, get_within, chain_unasked, chain_unmade, chain_open, never_none}
-use Rattle.plain_calls.proofs.Finding.{found_by, began_by, absent_by}
+use Rattle.plain_calls.proofs.Finding.{position_at, pending_driver, at_last, found_by, began_by, absent_by}
 use Rattle.plain_calls.proofs.Knowing.{known_quiet}
 use Rattle.plain_calls.proofs.Lookups.{looked_found, looked_absent, looked_built}
 use Rattle.plain_calls.proofs.Phases.{AreLighter, Going, Phase, Goes, Ends, Fails, never_step, never_up, never_among}

@@ -17,7 +17,7 @@ use Rattle.alg_registry.specs.Legal.{ended_as, LegalReg, IsRight}
 use Rattle.alg_registry.specs.Made.{Templates, IsMade, building, last_of, looks_for, look_for, if_of, outcome, outcomes, outcome_of, next_child, next_of, made_answer}
 use Rattle.alg_registry.proofs.Steps.{IsQuiet}
 use Rattle.alg_registry.proofs.Stack.{texts-push, length-texts, ended-push, ended-stays, ended-new, claimed-there, looks-push, looks-fresh, same, unequal}
-use Rattle.templates.proofs.Looks.{at_last}
+use Rattle.plain_calls.proofs.Finding.{at_last}
 use Rattle.plain_calls.specs.Registry.{PlainRegistry, LookedUp, looked, ended as ended_by}
 use Rattle.plain_calls.proofs.Agreeing.{is_building}
 use Rattle.plain_calls.proofs.Building.{last_built, pending_open}

@@ -10,6 +10,7 @@ pub mod Phases
 pub mod Going
 pub mod Lookups
 pub mod Determined
+pub mod Naming
 pub mod Lightness
 pub mod Answering
 pub mod Notices

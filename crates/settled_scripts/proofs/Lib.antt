@@ -1,4 +1,3 @@
 pub mod Plain
 pub mod Workers
 pub mod Printing
-pub mod Trials

@@ -3,4 +3,4 @@
 
 mod laws;
 
-pub use laws::settled_scripts_print_plain;
+pub use laws::{settled_scripts_print_plain, worked_scripts};
