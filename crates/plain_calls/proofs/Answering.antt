@@ -199,8 +199,7 @@ goes_on : (calls : List RegCall) (r r' : List RegEntry) → AsksInTurn calls r r
 goes_on [] r r' turn = (turn.0, turn.1)
 goes_on (call ∷ calls) r r' turn =
     let a = turn.1 in
-    let later = goes_on calls turn.0 r' turn.2 in
-    (
+    let later = goes_on calls turn.0 r' turn.2 in (
       (a.before ++ a.entry ∷ []) ++ (a.after ++ later.0),
       later.1
           ∙ (ap (λ x. x ++ later.0) a.history

@@ -96,7 +96,7 @@ built_step h e all right caller = subst (λ ns. AllByRecursion (λ m. IsBuilt (h
         (λ m b g. stays h x caller m b (ap (λ b'. cond b' (Some (end_of answer)) None) (unequal larval m (λ q. absurd (let k : eqb m larval ≡ true = ap (λ c. eqb m c) q ∙ same m in cc))))) (building h caller) (all caller))
         (λ f. all_map (λ m. IsBuilt h caller m) (λ m. IsBuilt (h ++ x ∷ []) caller m)
         (λ m b. stays h x caller m b (ap (λ b'. cond b' (Some (end_of answer)) None) (unequal larval m (λ q.
-            absurd (let k : Some by ≡ Some caller = sym r.0 ∙ (ap (λ n. claimer h n) q ∙ b.claimed) in let l : by ≡ caller = cc in differ by caller f l))))) (building h caller) (all caller))
+        absurd (let k : Some by ≡ Some caller = sym r.0 ∙ (ap (λ n. claimer h n) q ∙ b.claimed) in let l : by ≡ caller = cc in differ by caller f l))))) (building h caller) (all caller))
     by_entry (Enlist by spec answer) r = left (Enlist by spec answer) (λ m. refl)
     by_entry (Look by text plain answer) r = left (Look by text plain answer) (λ m. refl)
     by_entry (Waited by larval) r = left (Waited by larval) (λ m. refl)

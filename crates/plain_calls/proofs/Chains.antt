@@ -140,10 +140,11 @@ pub chained_stays : (t : Templates) (weigh : List ℕ → ℕ) (g : List RegEntr
     → ((n : ℕ) → n < child → ends n e ≡ None) → ((n : ℕ) → n < child → if_of n (look_for g e) ≡ None) → Chained t weigh (g ++ e ∷ []) first child fs
 chained_stays t weigh g e first child [] chain none unlooked = chain
 chained_stays t weigh g e first child (f ∷ fs) chain none unlooked =
-    let w = chain.0 in
-    (waits_stay t weigh g e child f w (none f.larval w.older) (unlooked f.larval w.older),
-    chain.1,
-    chained_stays t weigh g e first f.larval fs chain.2 (λ n lt. none n (omega (arith, lt, w.older))) (λ n lt. unlooked n (omega (arith, lt, w.older))))
+    let w = chain.0 in (
+      waits_stay t weigh g e child f w (none f.larval w.older) (unlooked f.larval w.older),
+      chain.1,
+      chained_stays t weigh g e first f.larval fs chain.2 (λ n lt. none n (omega (arith, lt, w.older))) (λ n lt. unlooked n (omega (arith, lt, w.older))),
+    )
 
 -- ---- who waits does nothing
 

@@ -16,7 +16,7 @@ use Rattle.board.specs.Legal.{IsRight as IsRightOn}
 use Rattle.templates.specs.Looking.{is_asked}
 use Rattle.transforms.specs.declared.ask.Ask.{Ask}
 use Rattle.dialogues.specs.RegistryCalls.{RegCall}
-use Rattle.dialogues.specs.InTurn.{IsMade, AsksNothing, AreInTurn}
+use Rattle.dialogues.specs.InTurn.{IsMade, AreInTurn}
 use Rattle.plain_calls.proofs.Agreeing.{is_building}
 use Rattle.plain_calls.proofs.Asking.{Asks, AsksInTurn}
 use Rattle.plain_calls.proofs.Standing.{is_ours}
@@ -76,8 +76,7 @@ pub goes_on : (calls : List RegCall) (r r' : List RegEntry) → AreInTurn 0 call
 goes_on [] r r' takes = (takes.0, takes.1)
 goes_on (call ∷ calls) r r' takes =
     let t = takes.1 in
-    let later = goes_on calls takes.0 r' takes.2 in
-    (
+    let later = goes_on calls takes.0 r' takes.2 in (
       ((t.before ++ t.entry ∷ []) ++ t.after) ++ later.0,
       later.1 ∙ (ap (λ h. h ++ later.0) (t.history ∙ (ap (λ h. h ++ t.after) (append_assoc r t.before (t.entry ∷ [])) ∙ append_assoc r (t.before ++ t.entry ∷ []) t.after)) ∙ append_assoc r ((t.before ++ t.entry ∷ []) ++ t.after) later.0),
     )
@@ -100,8 +99,7 @@ asks call r r' legal crew t =
 pub crew_builds : (calls : List RegCall) (r r' : List RegEntry) → LegalReg r' → IsByCrew r' → AreInTurn 0 calls r r' → AsksInTurn calls r r'
 crew_builds [] r r' legal crew takes = (takes.0, takes.1, rest_builds r takes.0 (subst LegalReg takes.1 legal) (subst IsByCrew takes.1 crew) takes.2)
 crew_builds (call ∷ calls) r r' legal crew takes =
-    let later = goes_on calls takes.0 r' takes.2 in
-    (
+    let later = goes_on calls takes.0 r' takes.2 in (
       takes.0,
       asks call r takes.0 (legal_front takes.0 later.0 (subst LegalReg later.1 legal)).0 (crew_split takes.0 later.0 (subst IsByCrew later.1 crew)).0 takes.1,
       crew_builds calls takes.0 r' legal crew takes.2,

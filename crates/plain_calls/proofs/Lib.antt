@@ -19,4 +19,3 @@ pub mod Posting
 pub mod Lines
 pub mod Crew
 pub mod Telling
-pub mod Trials

@@ -1,7 +1,7 @@
 -- A board's history goes on by the script's calls and by work, and the plain pipelines with it.
-use Rattle.std.proofs.Common.{◌≡◌, ◌≢◌, ℕ, zero, suc, ◌+◌, ◌<◌, ◌≤◌, ◌⊎◌, inl, inr, Bool, true, false, cond, ◌||◌, ◌&&◌, List, [], ◌∷◌, ◌++◌, length, set, refl, ap, sym, ◌∙◌, subst, arith, Option, Some, None, is_some, append-nil, append_assoc, length-append}
+use Rattle.std.proofs.Common.{◌≡◌, ◌≢◌, ℕ, zero, suc, ◌+◌, ◌<◌, ◌≤◌, ◌⊎◌, inl, inr, Bool, true, false, ◌||◌, ◌&&◌, List, [], ◌∷◌, ◌++◌, length, set, refl, ap, sym, ◌∙◌, subst, arith, Option, Some, None, is_some, append-nil, append_assoc, length-append}
 use Rattle.std.specs.Prelude.{slice_get, ◌==◌}
-use Rattle.std.specs.List.{filter_map, fold, list_all}
+use Rattle.std.specs.List.{filter_map}
 use Rattle.std.specs.Option.{option_map_or}
 use Rattle.std.specs.Arc.{arc_value}
 use Rattle.std.specs.declared.sync.Arc.{Arc}
@@ -30,7 +30,7 @@ use Rattle.plain_calls.proofs.Callbacks.{drained_from}
 use Rattle.dialogues.specs.Allocating.{bound_of}
 use Rattle.plain_calls.specs.Pipelines.{has_room}
 use Rattle.plain_calls.specs.Laws.{ThereIs, IsTimelessCall, IsToldBy}
-use Rattle.plain_calls.proofs.Standing.{is_all_done, IsPipelineOf, ArePipelinesOf, is_ours}
+use Rattle.plain_calls.proofs.Standing.{is_all_done, IsPipelineOf, ArePipelinesOf}
 use Rattle.plain_calls.proofs.Pipelines.{owed_count, on_pad, submitted, entered, dequeued, done_one, held_now, let_go_now, left_alone, delivers, collected_now, born_now, waits_as}
 
 -- ---- lists of pipelines
@@ -188,8 +188,7 @@ roomy_there pipelines p pipeline some e = sym (ap (λ o. option_map_or has_room 
 pub moves_born : (pipelines : List Pipeline) (b : List (BoardEntry Ask)) (by p : ℕ) (shape : Shape) → LegalBoard b → IsRight b (Born by p shape) → ArePipelinesOf pipelines b → Moves pipelines b (Born by p shape) (Some (Creates p shape))
 moves_born pipelines b by p shape legal r are still =
     let e : BoardEntry Ask = Born by p shape in
-    let at : p ≡ length pipelines = r.0 ∙ sym are.count in
-    (
+    let at : p ≡ length pipelines = r.0 ∙ sym are.count in (
       record {
         count = length-append pipelines (_ ∷ []) ∙ (ap (λ n. n + 1) are.count ∙ sym (ap length (filter_map-some birth_in b e (by, shape) refl) ∙ length-append (filter_map birth_in b) ((by, shape) ∷ [])));
         each = λ q pipeline found. each q pipeline at (get_last pipelines q (record { bound = bound_of shape; delivered = 0; undelivered = []; held_throughout = false }) pipeline found);
@@ -214,8 +213,7 @@ at_pipe_of b e p here unborn r = record { here = here; unborn = unborn; right = 
 
 pub moves_submit : (pipelines : List Pipeline) (b : List (BoardEntry Ask)) (by p n : ℕ) (ask : Arc Ask Global) → LegalBoard b → IsRight b (Submit by p n ask) → ArePipelinesOf pipelines b → Moves pipelines b (Submit by p n ask) (Some (Submits p n (asked_by (arc_value ask))))
 moves_submit pipelines b by p n ask legal r are still =
-    let e : BoardEntry Ask = Submit by p n ask in
-    (
+    let e : BoardEntry Ask = Submit by p n ask in (
       pipes_at pipelines b e p (asked_more (asked_by (arc_value ask))) (at_pipe_of b e p (own_pipe p) refl r) are
           (λ pipeline some o. submitted (entries_of p b) e (arc_value ask) pipeline r.1.0 (handed_still b e p (own_pipe p) refl) refl o),
       if_there pipelines b p (λ (pipeline : Pipeline). n ≡ next_number pipeline) are (pad_is_born (birth (entries_of p b)) r.1.0) (λ pipeline some. r.2 ∙ sym (owed_count pipeline (entries_of p b) (are.each p pipeline some))),
@@ -243,8 +241,7 @@ moves_enter pipelines b by p ask backlog a legal r are still = (
 
 pub moves_hold : (pipelines : List Pipeline) (b : List (BoardEntry Ask)) (by p : ℕ) → LegalBoard b → IsRight b (Hold by p) → ArePipelinesOf pipelines b → Moves pipelines b (Hold by p) (Some (Holds p))
 moves_hold pipelines b by p legal r are still =
-    let e : BoardEntry Ask = Hold by p in
-    (
+    let e : BoardEntry Ask = Hold by p in (
       pipes_at pipelines b e p now_held (at_pipe_of b e p (own_pipe p) refl r) are
           (λ pipeline some o. held_now (entries_of p b) by p pipeline (rights b p legal) r.1.0 (handed_still b e p (own_pipe p) refl) (ap is_held (sym (entries-more b p e (own_pipe p))) ∙ (holds b by p).0) o),
       tt,
@@ -252,8 +249,7 @@ moves_hold pipelines b by p legal r are still =
 
 pub moves_go : (pipelines : List Pipeline) (b : List (BoardEntry Ask)) (by p : ℕ) → LegalBoard b → IsRight b (Go by p) → ArePipelinesOf pipelines b → Moves pipelines b (Go by p) (Some (Goes p))
 moves_go pipelines b by p legal r are still =
-    let e : BoardEntry Ask = Go by p in
-    (
+    let e : BoardEntry Ask = Go by p in (
       pipes_at pipelines b e p let_go (at_pipe_of b e p (own_pipe p) refl r) are
           (λ pipeline some o. let_go_now (entries_of p b) by p pipeline (queue_is_born (birth (entries_of p b)) r.1.0) (handed_still b e p (own_pipe p) refl) o),
       tt,
@@ -264,8 +260,7 @@ pub moves_collect : (pipelines : List Pipeline) (b : List (BoardEntry Ask)) (by 
     → ArePipelinesOf (at_pipe all_delivered p pipelines) (b ++ Collect by p to ∷ []) × ThereIs (slice_get pipelines p) (λ (pipeline : Pipeline). delivered outcome (entries_of p b) to ≡ drained_from pipeline)
 moves_collect pipelines b by p to legal r done are =
     let e : BoardEntry Ask = Collect by p to in
-    let born : is_some (birth (entries_of p b)) ≡ true = maker_born (birth (entries_of p b)) by r.0.1 in
-    (
+    let born : is_some (birth (entries_of p b)) ≡ true = maker_born (birth (entries_of p b)) by r.0.1 in (
       pipes_at pipelines b e p all_delivered (at_pipe_of b e p (own_pipe p) refl r) are
           (λ pipeline some o. collected_now (entries_of p b) by p to pipeline (subst (λ es. AreRightForAfter [] es) (entries-more b p e (own_pipe p)) (rights (b ++ e ∷ []) p (legal_more b e legal r))) (rights b p legal) born r.2 done (held-same (entries_of p b) e refl) o),
       if_there pipelines b p (λ (pipeline : Pipeline). delivered outcome (entries_of p b) to ≡ drained_from pipeline) are born (λ pipeline some. delivers (entries_of p b) pipeline to (rights b p legal) born r.2 done (are.each p pipeline some)),
@@ -273,8 +268,7 @@ moves_collect pipelines b by p to legal r done are =
 
 pub moves_close : (pipelines : List Pipeline) (b : List (BoardEntry Ask)) (by p : ℕ) → LegalBoard b → IsRight b (Close by p) → ArePipelinesOf pipelines b → Moves pipelines b (Close by p) (Some (Closes p))
 moves_close pipelines b by p legal r are still =
-    let e : BoardEntry Ask = Close by p in
-    (
+    let e : BoardEntry Ask = Close by p in (
       pipes_same pipelines b e p (at_pipe_of b e p (own_pipe p) refl r) are
           (λ pipeline o. left_alone (entries_of p b) e pipeline (maker_born (birth (entries_of p b)) by r.0.1) (handed_still b e p (own_pipe p) refl) refl refl refl refl refl (held-same (entries_of p b) e refl) o),
       tt,

@@ -1,6 +1,6 @@
 -- A board's history goes on by the script's calls and by work: what the calls came to.
-use Rattle.std.proofs.Common.{◌≡◌, ℕ, Bool, true, cond, List, [], ◌∷◌, ◌++◌, map, drop, refl, ap, sym, ◌∙◌, subst, Option, Some, None, append_assoc}
-use Rattle.std.specs.Prelude.{slice_get, ◌==◌, All, ◌≤◌}
+use Rattle.std.proofs.Common.{◌≡◌, ℕ, Bool, true, cond, List, [], ◌∷◌, ◌++◌, map, drop, refl, ap, sym, ◌∙◌, subst, Option, Some, None}
+use Rattle.std.specs.Prelude.{slice_get, ◌==◌, ◌≤◌}
 use Rattle.std.specs.List.{list_all}
 use Rattle.std.specs.Arc.{arc_value}
 use Rattle.std.proofs.lemmas.List.Elements.{recursion_from_All}
@@ -14,7 +14,7 @@ use Rattle.transforms.specs.declared.ask.Ask.{Ask}
 use Rattle.transforms.specs.declared.request.Finished.{Finished}
 use Rattle.dialogues.specs.BoardCalls.{BoardCall, Creates, Submits, Enqueues, Holds, Goes, Collects, Closes, Shares, Shuts, asked_by, outcome, collected_to, notice_of, board_call_of, board_calls_from, board_calls}
 use Rattle.dialogues.specs.RegistryCalls.{prepend}
-use Rattle.plain_calls.specs.Laws.{ThereIs, IsToldBy, AreToldBy, RepliesArePlain}
+use Rattle.plain_calls.specs.Laws.{ThereIs, AreToldBy, RepliesArePlain}
 use Rattle.plain_calls.specs.Pipelines.{Pipeline, drained, drained_from, pipelines_after}
 use Rattle.plain_calls.proofs.Callbacks.{drained_from as drained_by_number}
 use Rattle.plain_calls.proofs.Crew.{crew_works}

@@ -1,5 +1,5 @@
 -- What the calls of a script come to beside workers: what they come to where it is alone.
-use Rattle.std.specs.Prelude.{ℕ, ◌≡◌, ◌≤◌, true, List, [], ◌∷◌, length, slice_get, Option, Some, None, ⊤, All}
+use Rattle.std.specs.Prelude.{◌≡◌, ◌≤◌, true, List, [], ◌∷◌, length, slice_get, Option, Some, None, ⊤, All}
 use Rattle.std.specs.Option.{option_map_or}
 use Rattle.alg_registry.specs.declared.entry.RegEntry.{RegEntry}
 use Rattle.alg_registry.specs.Answers.{enlist_answer, driver_place}

@@ -1,9 +1,8 @@
 -- A settled script prints what is plain.
-use Rattle.std.proofs.Common.{◌≡◌, ℕ, ◌+◌, Bool, true, false, ◌&&◌, List, [], ◌∷◌, ◌++◌, ap, sym, ◌∙◌, subst, refl, Option, Some, None, IsSome, append_assoc}
+use Rattle.std.proofs.Common.{◌≡◌, ℕ, ◌+◌, Bool, true, false, ◌&&◌, List, [], ◌∷◌, ap, sym, ◌∙◌, subst, refl, Option, Some, None, IsSome, append_assoc}
 use Rattle.std.specs.List.{flat_map}
 use Rattle.script_text.specs.declared.commands.Line.{Line}
 use Rattle.reply_text.specs.Answers.{text_of}
-use Rattle.dialogues.specs.BoardCalls.{board_calls}
 use Rattle.dialogues.specs.Dialogues.{Dialogue, Ends, Says, Asks, Posts, followed}
 use Rattle.dialogues.specs.InTurn.{AreInTurn}
 use Rattle.dialogues.specs.Lines.{line_dialogue, lines_dialogue, script}

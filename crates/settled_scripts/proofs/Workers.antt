@@ -56,9 +56,9 @@ command_same workers walk n (command.Alloc label name len) registry pipelines =
     let found : Found = look_found (look_up registry name) in
     let asks : ℕ → Dialogue = λ beside. Asks (Look name) λ found. binds beside walk n label len found in
     unless_same walk n
-      ((is_some (live_of walk label), EEXIST) ∷ (nat_le 4096 (length walk.lives), EMFILE) ∷ fault_of (name_read name) ++ (not (is_queue_length len), EINVAL) ∷ [])
-      (asks workers) (asks 0) registry pipelines
-      (binds_same workers walk n label len found (registry_after registry (Looks name (Some found))) pipelines)
+    ((is_some (live_of walk label), EEXIST) ∷ (nat_le 4096 (length walk.lives), EMFILE) ∷ fault_of (name_read name) ++ (not (is_queue_length len), EINVAL) ∷ [])
+    (asks workers) (asks 0) registry pipelines
+    (binds_same workers walk n label len found (registry_after registry (Looks name (Some found))) pipelines)
 command_same workers walk n c registry pipelines = refl
 
 pub line_same : (workers : ℕ) (walk : Walk) (n : ℕ) (next : Line) (registry : PlainRegistry) (pipelines : List Pipeline) → pass (line_dialogue workers walk n next) registry pipelines ≡ pass (line_dialogue 0 walk n next) registry pipelines

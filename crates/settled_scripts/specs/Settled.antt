@@ -45,13 +45,12 @@ passed lines = pass (script 0 (start 0) lines) first_registry []
 unfoldable pub plain_text : List Line → List ℕ
 plain_text lines = flat_map text_of (passed lines).answers
 
--- no `poll`
+-- it is no `poll`
 abbrev pub is_settled_line : Line → Bool
 is_settled_line (line.Cmd (command.Poll label)) = false
 is_settled_line _ = true
 
--- It has no line whose answer may depend on time, and no queue that it asks to take a request could be full or not by what was
--- done meanwhile.
+-- No line polls, and no answer depends on which jobs were done by then: a request finds its queue full, or not, whoever works.
 pub record IsSettled (lines : List Line) : Type 0 where
   pub lines_settled : list_all is_settled_line lines ≡ true
   pub timeless : (passed lines).timeless ≡ true
