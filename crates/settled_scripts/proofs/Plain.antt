@@ -1,0 +1,134 @@
+-- A turn whose calls came to what is plain says what the plain pass says.
+use Rattle.std.proofs.Common.{◌≡◌, Bool, true, false, ◌&&◌, List, [], ◌∷◌, ◌++◌, refl, ap, sym, ◌∙◌, subst, Option, Some, None}
+use Rattle.std.specs.Prelude.{slice_get}
+use Rattle.std.specs.Option.{option_map_or}
+use Rattle.board.specs.declared.entry.Entered.TheVariants.{NoSpace}
+use Rattle.templates.specs.Looking.{Found}
+use Rattle.reply_text.specs.declared.answers.Answer.{Answer}
+use Rattle.dialogues.specs.RegistryCalls.{RegCall}
+use Rattle.dialogues.specs.BoardCalls.{BoardCall}
+use Rattle.dialogues.specs.Questions.{RegQuestion, RegAnswer, Enlist, Look, Unlist, Get, Put, Count, ListAll, reg_call, reg_answer, BoardQuestion, BoardAnswer, Create, Submit, Enqueue, Hold, Go, Poll, Drain, Close, Share, Shut, board_call, board_answer}
+use Rattle.dialogues.specs.Dialogues.{Dialogue, Ends, Says, Asks, Posts}
+use Rattle.dialogues.specs.Turns.{Turn, turn_of, asking, posting, broken}
+use Rattle.dialogues.specs.Walk.{Walk}
+use Rattle.plain_calls.specs.Laws.{IsAnsweredBy, AreAnsweredBy, ThereIs, IsTimelessCall, IsToldBy, AreToldBy}
+use Rattle.plain_calls.specs.Pipelines.{Pipeline, next_number, verdict_of, drained_from, reply_in, is_timeless, pipelines_after}
+use Rattle.plain_calls.specs.Registry.{PlainRegistry, answer_in, registry_after}
+use Rattle.settled_scripts.specs.Settled.{Passed, pass}
+
+-- ---- answers
+
+found_same : {x y : Found} → Some x ≡ Some y → x ≡ y
+found_same e = cc
+
+-- an answer that a call came to is the plain one
+answer_same : (registry : PlainRegistry) (q : RegQuestion) (a : RegAnswer q) → IsAnsweredBy registry (reg_call q a) → a ≡ answer_in registry q
+answer_same registry (Enlist spec) a is = is
+answer_same registry (Look text) a is = found_same is
+answer_same registry (Unlist driver) a is = is
+answer_same registry (Get id) a is = is
+answer_same registry (Put id) a is = refl
+answer_same registry (Count driver) a is = is
+answer_same registry ListAll a is = is
+
+there_is : {B : Type 0} (f : Pipeline → B) (d b : B) (o : Option Pipeline) → ThereIs o (λ pipeline. b ≡ f pipeline) → b ≡ option_map_or f o d
+there_is f d b None t = absurd t
+there_is f d b (Some pipeline) t = t
+
+reply_same : (pipelines : List Pipeline) (q : BoardQuestion) (a : BoardAnswer q) → is_timeless pipelines q ≡ true → IsToldBy pipelines (board_call q a) → a ≡ reply_in pipelines q
+reply_same pipelines (Create shape) a timeless is = is
+reply_same pipelines (Submit pipe asked) a timeless is = there_is next_number 0 a (slice_get pipelines pipe) is
+reply_same pipelines (Enqueue pipe asked backlog) a timeless is = there_is (verdict_of backlog) NoSpace a (slice_get pipelines pipe) is
+reply_same pipelines (Hold pipe) a timeless is = refl
+reply_same pipelines (Go pipe) a timeless is = refl
+reply_same pipelines (Poll pipe) a timeless is = absurd cc
+reply_same pipelines (Drain pipe) a timeless is = there_is drained_from [] a (slice_get pipelines pipe) is
+reply_same pipelines (Close pipe) a timeless is = refl
+reply_same pipelines (Share pipe) a timeless is = absurd cc
+reply_same pipelines Shut a timeless is = refl
+
+-- a call that answers a timeless question is still
+timeless_call : (pipelines : List Pipeline) (q : BoardQuestion) (a : BoardAnswer q) → is_timeless pipelines q ≡ true → IsTimelessCall pipelines (board_call q a)
+timeless_call pipelines (Create shape) a timeless = tt
+timeless_call pipelines (Submit pipe asked) a timeless = tt
+timeless_call pipelines (Enqueue pipe asked backlog) a timeless = timeless
+timeless_call pipelines (Hold pipe) a timeless = tt
+timeless_call pipelines (Go pipe) a timeless = tt
+timeless_call pipelines (Poll pipe) a timeless = absurd cc
+timeless_call pipelines (Drain pipe) a timeless = refl
+timeless_call pipelines (Close pipe) a timeless = tt
+timeless_call pipelines (Share pipe) a timeless = absurd cc
+timeless_call pipelines Shut a timeless = tt
+
+both : (a b : Bool) → (a && b) ≡ true → (a ≡ true) × (b ≡ true)
+both true b e = (refl, e)
+both false b e = absurd cc
+
+-- ---- turns
+
+abbrev answers_in : Turn → List Answer
+answers_in turn = turn.answers
+
+abbrev said_by : Passed → List Answer
+said_by passed = passed.answers
+
+abbrev timeless_in : Passed → Bool
+timeless_in passed = passed.timeless
+
+-- it took up these calls, and ended
+record IsWhole (turn : Turn) (cr : List RegCall) (cb : List BoardCall) (walk : Walk) : Type 0 where
+  registry : turn.registry ≡ cr
+  board : turn.board ≡ cb
+  after : turn.after ≡ Some walk
+
+follows : (d : Dialogue) (cr : List RegCall) (cb : List BoardCall) (walk : Walk) (registry : PlainRegistry) (pipelines : List Pipeline) → IsWhole (turn_of d cr cb) cr cb walk → AreAnsweredBy registry cr → AreToldBy pipelines cb → timeless_in (pass d registry pipelines) ≡ true
+    → answers_in (turn_of d cr cb) ≡ said_by (pass d registry pipelines)
+follows (Ends after) cr cb walk registry pipelines whole answered told timeless = refl
+follows (Says answers next) cr cb walk registry pipelines whole answered told timeless =
+    ap (λ xs. answers ++ xs) (follows next cr cb walk registry pipelines (record { registry = whole.registry; board = whole.board; after = whole.after }) answered told timeless)
+follows (Asks q next) [] cb walk registry pipelines whole answered told timeless = absurd (let e = whole.after in cc)
+follows (Asks q next) (call ∷ cr) cb walk registry pipelines whole answered told timeless =
+    by (reg_answer q call) whole (λ a k w an t. follows (next a) cr cb walk k pipelines w an told t)
+  where
+    by : (o : Option (RegAnswer q)) → IsWhole (elim o [ Some answer ↦ asking (reg_call q answer) (turn_of (next answer) cr cb) | None ↦ broken ]) (call ∷ cr) cb walk
+        → ((a : RegAnswer q) (k : PlainRegistry) → IsWhole (turn_of (next a) cr cb) cr cb walk → AreAnsweredBy k cr → timeless_in (pass (next a) k pipelines) ≡ true → answers_in (turn_of (next a) cr cb) ≡ said_by (pass (next a) k pipelines))
+        → answers_in (elim o [ Some answer ↦ asking (reg_call q answer) (turn_of (next answer) cr cb) | None ↦ broken ]) ≡ said_by (pass (next (answer_in registry q)) (registry_after registry (reg_call q (answer_in registry q))) pipelines)
+    by None w go = absurd (let e = w.after in cc)
+    by (Some answer) w go =
+        let head : reg_call q answer ≡ call = (let e = w.registry in cc) in
+        let tail : (let u : Turn = turn_of (next answer) cr cb in u.registry) ≡ cr = (let e = w.registry in cc) in
+        let same : answer ≡ answer_in registry q = answer_same registry q answer (subst (λ c. IsAnsweredBy registry c) (sym head) answered.0) in
+        let call_is : reg_call q (answer_in registry q) ≡ call = ap (λ x. reg_call q x) (sym same) ∙ head in
+        let then_registry : PlainRegistry = registry_after registry (reg_call q (answer_in registry q)) in
+        go answer then_registry (record { registry = tail; board = w.board; after = w.after })
+        (subst (λ c. AreAnsweredBy (registry_after registry c) cr) (sym call_is) answered.1)
+        (subst (λ x. timeless_in (pass (next x) then_registry pipelines) ≡ true) (sym same) timeless)
+        ∙ ap (λ x. said_by (pass (next x) then_registry pipelines)) same
+follows (Posts q next) cr [] walk registry pipelines whole answered told timeless = absurd (let e = whole.after in cc)
+follows (Posts q next) cr (call ∷ cb) walk registry pipelines whole answered told timeless =
+    by (board_answer q call) whole (λ a ps w tl t. follows (next a) cr cb walk registry ps w answered tl t)
+  where
+    by : (o : Option (BoardAnswer q)) → IsWhole (elim o [ Some answer ↦ posting (board_call q answer) (turn_of (next answer) cr cb) | None ↦ broken ]) cr (call ∷ cb) walk
+        → ((a : BoardAnswer q) (ps : List Pipeline) → IsWhole (turn_of (next a) cr cb) cr cb walk → AreToldBy ps cb → timeless_in (pass (next a) registry ps) ≡ true → answers_in (turn_of (next a) cr cb) ≡ said_by (pass (next a) registry ps))
+        → answers_in (elim o [ Some answer ↦ posting (board_call q answer) (turn_of (next answer) cr cb) | None ↦ broken ]) ≡ said_by (pass (Posts q next) registry pipelines)
+    by None w go = absurd (let e = w.after in cc)
+    by (Some answer) w go =
+        let then_pipelines : List Pipeline = pipelines_after pipelines (board_call q (reply_in pipelines q)) in
+        let t = both (is_timeless pipelines q) (timeless_in (pass (next (reply_in pipelines q)) registry then_pipelines)) timeless in
+        let head : board_call q answer ≡ call = (let e = w.board in cc) in
+        let tail : (let u : Turn = turn_of (next answer) cr cb in u.board) ≡ cb = (let e = w.board in cc) in
+        let tells = told (subst (λ c. IsTimelessCall pipelines c) head (timeless_call pipelines q answer t.0)) in
+        let same : answer ≡ reply_in pipelines q = reply_same pipelines q answer t.0 (subst (λ c. IsToldBy pipelines c) (sym head) tells.0) in
+        let call_is : board_call q (reply_in pipelines q) ≡ call = ap (λ x. board_call q x) (sym same) ∙ head in
+        go answer then_pipelines (record { registry = w.registry; board = tail; after = w.after })
+        (subst (λ c. AreToldBy (pipelines_after pipelines c) cb) (sym call_is) tells.1)
+        (subst (λ x. timeless_in (pass (next x) registry then_pipelines) ≡ true) (sym same) t.1)
+        ∙ ap (λ x. said_by (pass (next x) registry then_pipelines)) same
+
+-- of a whole turn
+pub turn_plain : (d : Dialogue) (turn : Turn) (walk : Walk) (registry : PlainRegistry) (pipelines : List Pipeline) → turn_of d turn.registry turn.board ≡ turn → turn.after ≡ Some walk → AreAnsweredBy registry turn.registry → AreToldBy pipelines turn.board
+    → timeless_in (pass d registry pipelines) ≡ true → turn.answers ≡ said_by (pass d registry pipelines)
+turn_plain d turn walk registry pipelines is after answered told timeless =
+    let whole : IsWhole (turn_of d turn.registry turn.board) turn.registry turn.board walk =
+    record { registry = ap (λ (t : Turn). t.registry) is; board = ap (λ (t : Turn). t.board) is; after = ap (λ (t : Turn). t.after) is ∙ after } in
+    sym (ap (λ (t : Turn). t.answers) is) ∙ follows d turn.registry turn.board walk registry pipelines whole answered told timeless

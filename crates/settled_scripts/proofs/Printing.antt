@@ -1,0 +1,76 @@
+-- A settled script prints what is plain.
+use Rattle.std.proofs.Common.{◌≡◌, ℕ, ◌+◌, Bool, true, false, ◌&&◌, List, [], ◌∷◌, ap, sym, ◌∙◌, subst, refl, Option, Some, None, IsSome, append_assoc}
+use Rattle.std.specs.List.{flat_map}
+use Rattle.script_text.specs.declared.commands.Line.{Line}
+use Rattle.reply_text.specs.Answers.{text_of}
+use Rattle.dialogues.specs.Dialogues.{Dialogue, Ends, Says, Asks, Posts, followed}
+use Rattle.dialogues.specs.InTurn.{AreInTurn}
+use Rattle.dialogues.specs.Lines.{line_dialogue, lines_dialogue, script}
+use Rattle.dialogues.specs.Piping.{end}
+use Rattle.dialogues.specs.Questions.{reg_call, board_call}
+use Rattle.dialogues.specs.RegistryCalls.{reg_calls}
+use Rattle.dialogues.specs.Texts.{turn_in}
+use Rattle.dialogues.specs.Turns.{Turn, turn_of, IsTurn}
+use Rattle.dialogues.specs.Walk.{Walk, start}
+use Rattle.plain_calls.specs.Laws.{AnswersArePlain, AreAnsweredBy, RepliesArePlain, AreToldBy}
+use Rattle.plain_calls.specs.Pipelines.{Pipeline, reply_in, is_timeless, pipelines_after}
+use Rattle.plain_calls.specs.Registry.{PlainRegistry, first_registry, answer_in, registry_after}
+use Rattle.settled_scripts.specs.Printing.{PrintsPlain}
+use Rattle.settled_scripts.specs.Settled.{Passed, saying, if_timeless, pass, passed, plain_text}
+use Rattle.settled_scripts.proofs.Plain.{turn_plain}
+use Rattle.settled_scripts.proofs.Workers.{line_same}
+
+-- ---- one dialogue after another
+
+abbrev then_pass : Passed → (Walk → Dialogue) → Passed
+then_pass p later = saying p.answers (if_timeless p.timeless (pass (later p.after) p.registry p.pipelines))
+
+and_assoc : (a b c : Bool) → (a && (b && c)) ≡ ((a && b) && c)
+and_assoc true b c = refl
+and_assoc false b c = refl
+
+passed_same : (p q : Passed) → p.answers ≡ q.answers → p.after ≡ q.after → p.registry ≡ q.registry → p.pipelines ≡ q.pipelines → p.timeless ≡ q.timeless → p ≡ q
+passed_same p q a w k o s = λ i. record { answers = a i; after = w i; registry = k i; pipelines = o i; timeless = s i }
+
+pass-followed : (d : Dialogue) (later : Walk → Dialogue) (registry : PlainRegistry) (pipelines : List Pipeline) → pass (followed d later) registry pipelines ≡ then_pass (pass d registry pipelines) later
+pass-followed (Ends after) later registry pipelines = refl
+pass-followed (Says answers next) later registry pipelines =
+    ap (saying answers) (pass-followed next later registry pipelines)
+    ∙ passed_same _ _ (sym (append_assoc answers (pass next registry pipelines).answers _)) refl refl refl refl
+pass-followed (Asks q next) later registry pipelines = pass-followed (next (answer_in registry q)) later (registry_after registry (reg_call q (answer_in registry q))) pipelines
+pass-followed (Posts q next) later registry pipelines =
+    let now : List Pipeline = pipelines_after pipelines (board_call q (reply_in pipelines q)) in
+    ap (if_timeless (is_timeless pipelines q)) (pass-followed (next (reply_in pipelines q)) later registry now)
+    ∙ passed_same _ _ refl refl refl refl (and_assoc (is_timeless pipelines q) (pass (next (reply_in pipelines q)) registry now).timeless _)
+
+-- ---- lines
+
+-- the plain pass of lines is the same for every number of workers
+lines_same : (workers : ℕ) (walk : Walk) (n : ℕ) (lines : List Line) (registry : PlainRegistry) (pipelines : List Pipeline) → pass (lines_dialogue workers walk n lines end) registry pipelines ≡ pass (lines_dialogue 0 walk n lines end) registry pipelines
+lines_same workers walk n [] registry pipelines = refl
+lines_same workers walk n (next ∷ lines) registry pipelines =
+    let later : ℕ → Walk → Dialogue = λ beside after. lines_dialogue beside after (n + 1) lines end in
+    let p : Passed = pass (line_dialogue 0 walk n next) registry pipelines in
+    pass-followed (line_dialogue workers walk n next) (later workers) registry pipelines
+    ∙ (ap (λ (q : Passed). then_pass q (later workers)) (line_same workers walk n next registry pipelines)
+    ∙ (ap (λ (q : Passed). saying p.answers (if_timeless p.timeless q)) (lines_same workers p.after (n + 1) lines p.registry p.pipelines)
+    ∙ sym (pass-followed (line_dialogue 0 walk n next) (later 0) registry pipelines)))
+
+its_walk : (o : Option Walk) → IsSome o → (after : Walk) × (o ≡ Some after)
+its_walk None s = absurd cc
+its_walk (Some after) s = (after, refl)
+
+-- ---- the law
+
+pub prints_plain : AnswersArePlain → RepliesArePlain → PrintsPlain
+unfolding plain_text
+prints_plain answers replies workers lines r b text settled legal made callers legal_board board_callers in_turn is =
+    let turn : Turn = turn_in workers (start 0) 0 lines r b in
+    let same : pass (script workers (start 0) lines) first_registry [] ≡ passed lines = lines_same workers (start 0) 1 lines first_registry [] in
+    let after = its_walk turn.after is.ended in
+    let its : IsTurn (script workers (start 0) lines) turn =
+    ap (λ calls. turn_of (script workers (start 0) lines) calls turn.board) is.registry ∙ ap (λ calls. turn_of (script workers (start 0) lines) (reg_calls 0 r) calls) is.board in
+    let answered : AreAnsweredBy first_registry turn.registry = answers turn.registry r legal made callers (subst (λ calls. AreInTurn 0 calls [] r) (sym is.registry) in_turn) in
+    let told : AreToldBy [] turn.board = subst (λ calls. AreToldBy [] calls) (sym is.board) (replies b legal_board board_callers) in
+    let said = turn_plain (script workers (start 0) lines) turn after.0 first_registry [] its after.1 answered told (ap (λ (p : Passed). p.timeless) same ∙ settled.timeless) in
+    is.text_is ∙ ap (λ answers. flat_map text_of answers) (said ∙ ap (λ (p : Passed). p.answers) same)

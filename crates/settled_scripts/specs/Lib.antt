@@ -1,0 +1,3 @@
+pub mod Settled
+pub mod Printing
+pub mod Examples

@@ -1,0 +1,29 @@
+//! The law of settled scripts, and worked ones.
+
+ghost use Rattle.std.specs.Prelude.{◌≡◌};
+ghost use Rattle.settled_scripts.specs.Examples.{answers_of, kinds_of, sharing, sharing_answers, unregistering, unregistering_answers, held_first, held_first_kinds, two_at_a_time, three_at_once, held_late, polling};
+ghost use Rattle.settled_scripts.specs.Printing.{PrintsPlain};
+ghost use Rattle.settled_scripts.specs.Settled.{IsSettled};
+
+use plain_calls::{answers_are_plain, replies_are_plain};
+
+/// A settled script prints its plain text, beside any number of workers and whatever they do.
+pub fn settled_scripts_print_plain()
+    ensures { PrintsPlain }
+{
+    answers_are_plain();
+    replies_are_plain();
+}
+
+/// What worked scripts are answered, by the definition itself. A queue that is held before its first request may be filled; one
+/// that isn't held may take what it has room for whatever was done.
+pub fn worked_scripts()
+    ensures sharing { answers_of sharing ≡ sharing_answers }
+    ensures unregistering { answers_of unregistering ≡ unregistering_answers }
+    ensures held_first { IsSettled held_first }
+    ensures held_first_answers { kinds_of held_first ≡ held_first_kinds }
+    ensures two_at_a_time { IsSettled two_at_a_time }
+    ensures three_at_once { ¬ IsSettled three_at_once }
+    ensures held_late { ¬ IsSettled held_late }
+    ensures polling { ¬ IsSettled polling }
+{}
