@@ -121,11 +121,12 @@ filter-past n e more not = ap (λ b. if b then e ∷ filter (is_asked n) more el
 
 all-unasked : (h : List RegEntry) (n : ℕ) (before more : List RegEntry) → reg_calls_from h n before more ≡ [] → filter (is_asked n) more ≡ []
 all-unasked h n before [] none = refl
-all-unasked h n before (e ∷ more) none = by_call (reg_call_of h n before e) refl none
+all-unasked h n before (e ∷ more) none = by_call (reg_call_of h n before e) refl none (all-unasked h n (before ++ e ∷ []) more)
   where
-    by_call : (o : Option RegCall) → reg_call_of h n before e ≡ o → prepend o (reg_calls_from h n (before ++ e ∷ []) more) ≡ [] → filter (is_asked n) (e ∷ more) ≡ []
-    by_call (Some call) is none = absurd cc
-    by_call None is none = filter-past n e more (unasked h n before e is) ∙ all-unasked h n (before ++ e ∷ []) more none
+    by_call : (o : Option RegCall) → reg_call_of h n before e ≡ o → prepend o (reg_calls_from h n (before ++ e ∷ []) more) ≡ []
+        → (reg_calls_from h n (before ++ e ∷ []) more ≡ [] → filter (is_asked n) more ≡ []) → filter (is_asked n) (e ∷ more) ≡ []
+    by_call (Some call) is none rest = absurd cc
+    by_call None is none rest = filter-past n e more (unasked h n before e is) ∙ rest none
 
 -- the entry of a lone call, and what stands on either side of it
 abbrev Parts : List RegEntry → ℕ → List RegEntry → List RegEntry → RegCall → Type 0
@@ -135,15 +136,16 @@ Parts h n before more call =
 
 lone-parts : (h : List RegEntry) (n : ℕ) (before more : List RegEntry) (call : RegCall) → reg_calls_from h n before more ≡ call ∷ [] → Parts h n before more call
 lone-parts h n before [] call is = absurd cc
-lone-parts h n before (e ∷ more) call is = by_call (reg_call_of h n before e) refl is
+lone-parts h n before (e ∷ more) call is = by_call (reg_call_of h n before e) refl is (lone-parts h n (before ++ e ∷ []) more call)
   where
-    by_call : (o : Option RegCall) → reg_call_of h n before e ≡ o → prepend o (reg_calls_from h n (before ++ e ∷ []) more) ≡ call ∷ [] → Parts h n before (e ∷ more) call
-    by_call (Some c) at both =
+    by_call : (o : Option RegCall) → reg_call_of h n before e ≡ o → prepend o (reg_calls_from h n (before ++ e ∷ []) more) ≡ call ∷ []
+        → (reg_calls_from h n (before ++ e ∷ []) more ≡ call ∷ [] → Parts h n (before ++ e ∷ []) more call) → Parts h n before (e ∷ more) call
+    by_call (Some c) at both later =
         let same : c ≡ call = cc in
         let none : reg_calls_from h n (before ++ e ∷ []) more ≡ [] = cc in
         ([], e, more, refl, ap (λ x. reg_call_of h n x e) (append-nil before) ∙ (at ∙ ap (λ x. Some x) same), refl, all-unasked h n (before ++ e ∷ []) more none)
-    by_call None at rest =
-        let p = lone-parts h n (before ++ e ∷ []) more call rest in (
+    by_call None at rest later =
+        let p = later rest in (
           e ∷ p.0,
           p.1,
           p.2,
