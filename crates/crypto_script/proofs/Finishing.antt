@@ -3,9 +3,11 @@ use Rattle.std.proofs.Common.{◌≡◌, ℕ, zero, ◌+◌, ◌<◌, ◌≤◌,
 use Rattle.std.specs.Prelude.{◌==◌, if◌then◌else◌, filter, Result, Ok, Err, Option, OnOk, IfOk, All}
 use Rattle.std.specs.List.{list_all, list_any}
 use Rattle.std.proofs.lemmas.Bool.{eq-eqb, or_left, or_right, and_parts}
-use Rattle.std.proofs.lemmas.List.Elements.{filter-append, All-nil, All-cons}
+use Rattle.std.proofs.lemmas.List.Elements.{filter-append, All-nil, All-cons, All-weaker}
 use Rattle.std.proofs.lemmas.List.Folds.{list_any-append}
 use Rattle.alg_registry.specs.declared.entry.RegEntry.{RegEntry}
+use Rattle.alg_registry.specs.Legal.{LegalReg}
+use Rattle.alg_registry.specs.Made.{Made}
 use Rattle.alg_registry.specs.Rows.{caller_of as reg_caller}
 use Rattle.board.specs.declared.entry.BoardEntry.{BoardEntry}
 use Rattle.board.specs.declared.entry.BoardEntry.TheVariants.{Shut}
@@ -24,6 +26,9 @@ use Rattle.script_session.specs.Holding.{HasSeenMore}
 use Rattle.script_session.specs.Running.{IsReady}
 use Rattle.script_session.specs.States.{State, Stands, Posted}
 use Rattle.script_text.specs.declared.commands.Line.{Line}
+use Rattle.settled_scripts.specs.Printing.{PrintsPlain}
+use Rattle.settled_scripts.specs.Settled.{IsSettled, plain_text}
+use Rattle.templates.specs.Table.{table}
 use Rattle.session_calls.specs.Passes.{known, RegPass, BoardPass}
 use Rattle.shared_board.specs.declared.shared.SharedBoard.{SharedBoard}
 use Rattle.shared_board.specs.Passes.{IsPassOn}
@@ -137,7 +142,7 @@ module _ (workers : ℕ) (lines : List Line) (p : Passes Ask) (qr : RegPass) (qb
     g.2,
   )
 
-  ended-on : Gains held held' (IsTextAfter s.workers lines (known s'.registry) (known s'.board)) → InTurnAfter (known s'.registry) → IsOwn reg_caller (known s'.registry) → EndsShut (known s'.board)
+  ended-on : Gains held held' (IsTextAfter s.workers lines (known s'.registry) (known s'.board)) → InTurnAfter lines (known s'.registry) → IsOwn reg_caller (known s'.registry) → EndsShut (known s'.board)
       → Ended workers lines (record { registry = qr; board = qb' }) held held'
   ended-on g in_turn own ends =
       let ends' : EndsShut (knows qb) = subst EndsShut at_board ends in
@@ -150,18 +155,18 @@ module _ (workers : ℕ) (lines : List Line) (p : Passes Ask) (qr : RegPass) (qb
               (g.1 r b (subst (λ x. OthersFollow reg_caller x r) (sym at_registry) from_r) (subst (λ x. OthersFollow board_caller x b) (sym at_board) (others-then board_caller (knows qb) (knows qb') b more.number follow from_b))),
           g.2,
         );
-        in_turn = subst InTurnAfter at_registry in_turn;
+        in_turn = subst (InTurnAfter lines) at_registry in_turn;
         own = subst (λ x. IsOwn reg_caller x) at_registry own;
         shut = shut-in (knows qb) (knows qb') (goes-board.number ∙ new.board.0) ends' follow;
       }
 
-  ended-ok : {F : Type 0} (r : Result Bool F) → OnOk r (Gains held held' (IsTextAfter s.workers lines (known s'.registry) (known s'.board))) → OnOk r (InTurnAfter (known s'.registry)) → OnOk r (IsOwn reg_caller (known s'.registry)) → OnOk r (EndsShut (known s'.board))
+  ended-ok : {F : Type 0} (r : Result Bool F) → OnOk r (Gains held held' (IsTextAfter s.workers lines (known s'.registry) (known s'.board))) → OnOk r (InTurnAfter lines (known s'.registry)) → OnOk r (IsOwn reg_caller (known s'.registry)) → OnOk r (EndsShut (known s'.board))
       → OnOk r (Ended workers lines (record { registry = qr; board = qb' }) held held')
   ended-ok (Ok bad) g in_turn own ends = ended-on g in_turn own ends
   ended-ok (Err e) g in_turn own ends = tt
 
   pub answered : {F : Type 0} (r : Result Bool F) → OnOk r (Gains held held' (IsTextAfter s.workers lines (known s'.registry) (known s'.board))) → Gains held held' (IsFrontAfter s.workers lines (known s'.registry) (known s'.board))
-      → OnOk r (InTurnAfter (known s'.registry)) → OnOk r (IsOwn reg_caller (known s'.registry)) → OnOk r (EndsShut (known s'.board)) → IfOk r (λ bad. bad ≡ list_any is_malformed lines) → IsOwn board_caller (knows qb') → is_shut (knows qb').seen ≡ true
+      → OnOk r (InTurnAfter lines (known s'.registry)) → OnOk r (IsOwn reg_caller (known s'.registry)) → OnOk r (EndsShut (known s'.board)) → IfOk r (λ bad. bad ≡ list_any is_malformed lines) → IsOwn board_caller (knows qb') → is_shut (knows qb').seen ≡ true
       → Answers workers lines p (record { registry = qr; board = qb' }) r held held'
   answered r whole front in_turn own ends malformed own_board closed = record {
     registry = goes-registry;
@@ -287,7 +292,7 @@ module _ (laws : CrewLaws) (workers : ℕ) (lines : List Line) (first p q l : Pa
       s.finished in
       (s.before, history ∙ ap (λ es. s.before ++ Shut 0 ∷ es) (laws.shut_last s.before 0 later right finished works))
 
-  whole-on : Ended workers lines q held held' → LegalBoard b → Gains held held' (IsText workers (start 0) 0 lines r b) × InTurn r × ShutLast b
+  whole-on : Ended workers lines q held held' → LegalBoard b → Gains held held' (IsText workers (start 0) 0 lines r b) × InTurn lines r × ShutLast b
   whole-on ended legal =
       let follow-registry = laws.registry_ends is_building (knows first.registry).next workers (knows q.registry) (knows l.registry) r ended.own crewed.registry shows_r in
       ((ended.text.0, ended.text.1 r b follow-registry follow-board, ended.text.2), ended.in_turn r follow-registry, shut-ends legal ended.shut)
@@ -299,8 +304,25 @@ module _ (laws : CrewLaws) (workers : ℕ) (lines : List Line) (first p q l : Pa
   pub whole-text : LegalBoard b → OnOk (run_answer result) (Gains held held' (IsText workers (start 0) 0 lines r b))
   whole-text legal = on-ok _ result (λ e. (whole-on e legal).0) answers.ended
 
-  pub whole-in_turn : LegalBoard b → OnOk (run_answer result) (InTurn r)
+  pub whole-in_turn : LegalBoard b → OnOk (run_answer result) (InTurn lines r)
   whole-in_turn legal = on-ok _ result (λ e. (whole-on e legal).1) answers.ended
+
+  few-enough : workers ≤ 16 → All (λ e. reg_caller e ≤ 16) r × All (λ e. board_caller e ≤ 16) b
+  few-enough few = (
+    All-weaker (λ e. reg_caller e ≤ workers) (λ e. reg_caller e ≤ 16) (λ e le. omega arith) r few-callers.0,
+    All-weaker (λ e. board_caller e ≤ workers) (λ e. board_caller e ≤ 16) (λ e le. omega arith) b few-callers.1,
+  )
+
+  -- what a settled script writes is plain
+  pub whole-settled : PrintsPlain → workers ≤ 16 → LegalReg r → Made table r → LegalBoard b
+      → OnOk (run_answer result) (IsSettled lines → Gains held held' (λ text. text ≡ plain_text lines))
+  whole-settled plain few legal_r made legal =
+      let callers = few-enough few in
+      on-ok _ result
+      (λ e settled.
+        let whole = whole-on e legal in
+        (whole.0.0, plain workers lines r b whole.0.0 settled legal_r made callers.0 legal callers.1 whole.1 whole.0.1, whole.0.2))
+      answers.ended
 
   pub whole-shut : LegalBoard b → OnOk (run_answer result) (ShutLast b)
   whole-shut legal = on-ok _ result (λ e. (whole-on e legal).2) answers.ended

@@ -10,7 +10,7 @@ use Rattle.board.specs.declared.entry.BoardEntry.TheVariants as event
 use Rattle.board.specs.Entries.{caller_of as board_caller}
 use Rattle.dialogues.specs.BoardCalls.{board_calls, board_calls_from, is_called}
 use Rattle.dialogues.specs.Dialogues.{Dialogue, Ends, Says, Asks, Posts, followed}
-use Rattle.dialogues.specs.InTurn.{AreInTurn}
+use Rattle.dialogues.specs.InTurn.{AreInTurnBy}
 use Rattle.dialogues.specs.RegistryCalls.{RegCall, reg_calls, reg_calls_from, AllSettled}
 use Rattle.templates.specs.Looking.{is_asked}
 use Rattle.transforms.specs.declared.ask.Ask.{Ask}
@@ -108,10 +108,10 @@ board_calls-same laws k h zero others =
     ∙ append-nil (board_calls 0 k.seen))
 
 -- calls in turn stay so where others alone follow
-pub in_turn-on : Laws → (k : Known RegEntry) (h : List RegEntry) (calls : List RegCall) → k.number ≡ 0 → OthersFollow reg_caller k h → AreInTurn 0 calls [] k.seen → AreInTurn 0 calls [] h
-in_turn-on laws k h calls zero others turns =
-    subst (λ cs. AreInTurn 0 cs [] h) (append-nil calls)
-    (laws.later_calls 0 calls [] [] k.seen h turns (others.0, others.1, unasked k others.0 zero others.2))
+pub in_turn-on : Laws → (width : ℕ) (k : Known RegEntry) (h : List RegEntry) (calls : List RegCall) → k.number ≡ 0 → OthersFollow reg_caller k h → AreInTurnBy width 0 calls [] k.seen → AreInTurnBy width 0 calls [] h
+in_turn-on laws width k h calls zero others turns =
+    subst (λ cs. AreInTurnBy width 0 cs [] h) (append-nil calls)
+    (laws.later_calls width 0 calls [] [] k.seen h turns (laws.any_width width 0 [] k.seen h (others.0, others.1, unasked k others.0 zero others.2)))
 
 -- ---- a dialogue that nothing follows
 

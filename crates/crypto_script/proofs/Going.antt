@@ -1,5 +1,5 @@
 -- A script, line by line, and what it leaves.
-use Rattle.std.proofs.Common.{◌≡◌, ℕ, ◌+◌, ◌||◌, Bool, true, false, List, [], ◌∷◌, ◌++◌, length, map, Option, Some, None, refl, sym, ap, subst, ◌∙◌, append_assoc, append-nil, arith, inl, inr, IfSome}
+use Rattle.std.proofs.Common.{◌≡◌, ℕ, ◌+◌, ◌||◌, Bool, true, false, List, [], ◌∷◌, ◌++◌, length, map, Option, Some, None, refl, sym, ap, subst, ◌∙◌, append_assoc, append-nil, arith, inl, inr, IfSome, ◌≤◌, max}
 use Rattle.std.specs.List.{list_any}
 use Rattle.std.specs.Io.KnownBytes.{Appends, Keeps}
 use Rattle.std.proofs.KnownBytes.{Appends-trans}
@@ -9,7 +9,7 @@ use Rattle.alg_registry.specs.Rows.{caller_of as reg_caller}
 use Rattle.board.specs.declared.entry.BoardEntry.{BoardEntry}
 use Rattle.dialogues.specs.BoardCalls.{BoardCall, board_calls, board_calls_from}
 use Rattle.dialogues.specs.Dialogues.{Dialogue, Ends as Done, followed}
-use Rattle.dialogues.specs.InTurn.{AreInTurn}
+use Rattle.dialogues.specs.InTurn.{AreInTurnBy}
 use Rattle.dialogues.specs.Leading.{Leads}
 use Rattle.dialogues.specs.Lines.{line_dialogue, script}
 use Rattle.dialogues.specs.Piping.{end}
@@ -17,6 +17,7 @@ use Rattle.dialogues.specs.RegistryCalls.{RegCall, reg_calls, reg_calls_from, Al
 use Rattle.dialogues.specs.Texts.{IsText, IsFrontText, turn_in}
 use Rattle.dialogues.specs.Turns.{Turn, IsTurn, ended, joined, text_in, turn_of}
 use Rattle.dialogues.specs.Walk.{Walk, start}
+use Rattle.dialogues.specs.Widths.{width_of, widest}
 use Rattle.kc_base.specs.Streams.{AppendsFront, IsPrefix}
 use Rattle.reply_text.specs.Answers.{text_of}
 use Rattle.script_session.specs.Ending.{AnswersEnd}
@@ -25,7 +26,7 @@ use Rattle.script_session.specs.States.{State, SameLocks}
 use Rattle.script_text.specs.declared.commands.Line.{Line}
 use Rattle.script_text.specs.Script.{line_of, script_of}
 use Rattle.script_text.specs.Lines.{lines_of}
-use Rattle.session_calls.specs.Asking.{Asked}
+use Rattle.session_calls.specs.Asking.{AskedBy}
 use Rattle.session_calls.specs.Passes.{known}
 use Rattle.session_calls.specs.Pipelines.{Called}
 use Rattle.shared_board.specs.declared.shared.SharedBoard.{SharedBoard}
@@ -56,23 +57,23 @@ goes-then s t u a b = record {
   board = sees-then (known s.board) (known t.board) (known u.board) a.board b.board;
 }
 
-asked-more : (k l : Known RegEntry) (calls : List RegCall) → Asked k l calls → HasSeenMore k l
-asked-more k l calls asked = record { number = asked.number; next = asked.next; seen = (asked.are.more, asked.are.goes_on) }
+asked-more : (width : ℕ) (k l : Known RegEntry) (calls : List RegCall) → AskedBy width k l calls → HasSeenMore k l
+asked-more width k l calls asked = record { number = asked.number; next = asked.next; seen = (asked.are.more, asked.are.goes_on) }
 
 called-more : (k l : Known (BoardEntry Ask)) (calls : List BoardCall) → Called k l calls → HasSeenMore k l
 called-more k l calls called = record { number = called.number; next = called.next; seen = called.seen }
 
-pub replied-goes : (d : Dialogue) (s s' : State) (text text' : List ℕ) → Replies d s s' text text' → GoesOn s s'
-replied-goes d s s' text text' r = record {
+pub replied-goes : (width : ℕ) (d : Dialogue) (s s' : State) (text text' : List ℕ) → Replies width d s s' text text' → GoesOn s s'
+replied-goes width d s s' text text' r = record {
   locks = r.locks;
-  registry = asked-more (known s.registry) (known s'.registry) r.turn.registry r.asked;
+  registry = asked-more width (known s.registry) (known s'.registry) r.turn.registry r.asked;
   board = called-more (known s.board) (known s'.board) r.turn.board r.called;
 }
 
 pub ended-goes : (s s' : State) (text text' : List ℕ) → AnswersEnd s s' text text' → GoesOn s s'
 ended-goes s s' text text' r = record {
   locks = r.locks;
-  registry = asked-more (known s.registry) (known s'.registry) r.turn.registry r.asked;
+  registry = asked-more 1 (known s.registry) (known s'.registry) r.turn.registry r.asked;
   board = called-more (known s.board) (known s'.board) r.turn.board r.called;
 }
 
@@ -101,6 +102,11 @@ front-later before text front p = (p.0, append_assoc before front p.0 ∙ ap (λ
 
 -- ---- a run
 
+-- each script makes at least one look at once
+widest-some : (lines : List Line) → 1 ≤ widest lines
+widest-some [] = omega arith
+widest-some (line ∷ lines) = let later = widest-some lines in omega arith
+
 -- What a script has done: the turn of some first lines.
 pub record Led (first : State) (lines : List Line) (number : ℕ) (left : List Line) (s : State) : Type 0 where
   pub turn : Turn
@@ -108,7 +114,8 @@ pub record Led (first : State) (lines : List Line) (number : ℕ) (left : List L
   pub asked : reg_calls 0 (known s.registry).seen ≡ turn.registry
   pub settled : AllSettled (reg_calls 0 (known s.registry).seen)
   pub called : board_calls 0 (known s.board).seen ≡ turn.board
-  pub in_turn : AreInTurn 0 turn.registry [] (known s.registry).seen
+  pub in_turn : AreInTurnBy (widest lines) 0 turn.registry [] (known s.registry).seen
+  pub narrower : widest left ≤ widest lines
   pub caller : (known s.registry).number ≡ 0
   pub board_caller : (known s.board).number ≡ 0
   pub goes : GoesOn first s
@@ -128,7 +135,8 @@ led-begins laws first lines fresh =
       asked = ap (λ h. reg_calls 0 h) fresh.registry.1;
       settled = subst (λ h. AllSettled (reg_calls 0 h)) (sym fresh.registry.1) tt;
       called = ap (λ h. board_calls 0 h) fresh.board.1;
-      in_turn = subst (λ h. AreInTurn 0 [] [] h) (sym fresh.registry.1) (laws.no_call 0 []);
+      in_turn = subst (λ h. AreInTurnBy (widest lines) 0 [] [] h) (sym fresh.registry.1) (laws.any_width (widest lines) 0 [] [] [] (laws.no_call 0 []));
+      narrower = omega arith;
       caller = fresh.registry.0;
       board_caller = fresh.board.0;
       goes = goes-same first;
@@ -143,37 +151,41 @@ module _ (laws : Laws) (first : State) (lines : List Line) where
     abbrev l : Known (BoardEntry Ask)
     l = known s.board
 
-    asked-all : (k' : Known RegEntry) (calls : List RegCall) → Asked k k' calls → reg_calls 0 k'.seen ≡ led.turn.registry ++ calls
-    asked-all k' calls asked =
+    asked-all : (width : ℕ) (k' : Known RegEntry) (calls : List RegCall) → AskedBy width k k' calls → reg_calls 0 k'.seen ≡ led.turn.registry ++ calls
+    asked-all width k' calls asked =
         ap (λ n. reg_calls n k'.seen) (sym led.caller) ∙ (asked.are.calls_are ∙ (ap (λ n. reg_calls n k.seen ++ calls) led.caller ∙ ap (λ cs. cs ++ calls) led.asked))
 
-    settled-all : (k' : Known RegEntry) (calls : List RegCall) → Asked k k' calls → AllSettled (reg_calls 0 k'.seen)
-    settled-all k' calls asked = subst (λ n. AllSettled (reg_calls n k'.seen)) led.caller asked.are.all_settled
+    settled-all : (width : ℕ) (k' : Known RegEntry) (calls : List RegCall) → AskedBy width k k' calls → AllSettled (reg_calls 0 k'.seen)
+    settled-all width k' calls asked = subst (λ n. AllSettled (reg_calls n k'.seen)) led.caller asked.are.all_settled
 
     called-all : (l' : Known (BoardEntry Ask)) (calls : List BoardCall) → Called l l' calls → board_calls 0 l'.seen ≡ led.turn.board ++ calls
     called-all l' calls called =
         ap (λ n. board_calls n l'.seen) (sym (called.number ∙ led.board_caller)) ∙ (called.calls_are ∙ (ap (λ n. board_calls n l.seen ++ calls) led.board_caller ∙ ap (λ cs. cs ++ calls) led.called))
 
-    turns-all : (k' : Known RegEntry) (calls : List RegCall) → Asked k k' calls → AreInTurn 0 (led.turn.registry ++ calls) [] k'.seen
-    turns-all k' calls asked = laws.later_calls 0 led.turn.registry calls [] k.seen k'.seen led.in_turn (subst (λ n. AreInTurn n calls k.seen k'.seen) led.caller asked.in_turn)
+    turns-all : (width : ℕ) (k' : Known RegEntry) (calls : List RegCall) → width ≤ widest lines → AskedBy width k k' calls → AreInTurnBy (widest lines) 0 (led.turn.registry ++ calls) [] k'.seen
+    turns-all width k' calls le asked =
+        laws.later_calls (widest lines) 0 led.turn.registry calls [] k.seen k'.seen led.in_turn
+        (laws.wider width (widest lines) 0 calls k.seen k'.seen le (subst (λ n. AreInTurnBy width n calls k.seen k'.seen) led.caller asked.in_turn))
 
-    led-more : (line : Line) (more : List Line) (s' : State) (reply : List ℕ) → left ≡ line ∷ more → Replies (line_dialogue s.workers s.walk number line) s s' [] reply
+    led-more : (line : Line) (more : List Line) (s' : State) (reply : List ℕ) → left ≡ line ∷ more → Replies (width_of line) (line_dialogue s.workers s.walk number line) s s' [] reply
         → (next : Led first lines (number + 1) more s') × (text_in next.turn ≡ text_in led.turn ++ reply)
     led-more line more s' reply next r =
         let t = led.turn in
         let u = r.turn in
         let is = subst (λ w. IsTurn (line_dialogue w s.walk number line) u) led.goes.locks.workers r.is in
+        let wide : max (width_of line) (widest more) ≤ widest lines = subst (λ ls. widest ls ≤ widest lines) next led.narrower in
         let leads = subst (λ ls. Leads first.workers (start 0) 1 lines t s.walk number ls) next led.leads in (
           record {
             turn = joined t u;
             leads = laws.on first.workers (start 0) s.walk s'.walk 1 number lines more line t u leads is r.ends;
-            asked = asked-all (known s'.registry) u.registry r.asked;
-            settled = settled-all (known s'.registry) u.registry r.asked;
+            asked = asked-all (width_of line) (known s'.registry) u.registry r.asked;
+            settled = settled-all (width_of line) (known s'.registry) u.registry r.asked;
             called = called-all (known s'.board) u.board r.called;
-            in_turn = turns-all (known s'.registry) u.registry r.asked;
+            in_turn = turns-all (width_of line) (known s'.registry) u.registry (let w = wide in omega arith) r.asked;
+            narrower = let w = wide in omega arith;
             caller = r.asked.number ∙ led.caller;
             board_caller = r.called.number ∙ led.board_caller;
-            goes = goes-then first s s' led.goes (replied-goes (line_dialogue s.workers s.walk number line) s s' [] reply r);
+            goes = goes-then first s s' led.goes (replied-goes (width_of line) (line_dialogue s.workers s.walk number line) s s' [] reply r);
           },
           texts-joined t u ∙ ap (λ x. text_in t ++ x) (sym r.says),
         )
@@ -213,14 +225,14 @@ module _ (laws : Laws) (first : State) (lines : List Line) where
       end-text = λ r b from_r from_b.
           subst (IsText first.workers (start 0) 0 lines r b) (sym reply-is)
           (laws.end_ first.workers (start 0) s.walk s.walk 0 number lines led.turn u r b leads-end e.is e.ends
-          (reg_calls-same laws k' r (e.asked.number ∙ led.caller) (settled-all k' u.registry e.asked) from_r ∙ asked-all k' u.registry e.asked)
+          (reg_calls-same laws k' r (e.asked.number ∙ led.caller) (settled-all 1 k' u.registry e.asked) from_r ∙ asked-all 1 k' u.registry e.asked)
           (board_calls-same laws l' b (e.called.number ∙ led.board_caller) from_b ∙ called-all l' u.board e.called))
 
-      end-in_turn : InTurnAfter k'
+      end-in_turn : InTurnAfter lines k'
       end-in_turn = λ r from_r.
           let zero = e.asked.number ∙ led.caller in
-          let calls = reg_calls-same laws k' r zero (settled-all k' u.registry e.asked) from_r ∙ asked-all k' u.registry e.asked in
-          subst (λ cs. AreInTurn 0 cs [] r) (sym calls) (in_turn-on laws k' r (led.turn.registry ++ u.registry) zero from_r (turns-all k' u.registry e.asked))
+          let calls = reg_calls-same laws k' r zero (settled-all 1 k' u.registry e.asked) from_r ∙ asked-all 1 k' u.registry e.asked in
+          subst (λ cs. AreInTurnBy (widest lines) 0 cs [] r) (sym calls) (in_turn-on laws (widest lines) k' r (led.turn.registry ++ u.registry) zero from_r (turns-all 1 k' u.registry (widest-some lines) e.asked))
 
       -- and a front of it is one, whatever comes
       end-front : (text : List ℕ) → IsPrefix text (text_in led.turn ++ reply) → IsFrontAfter first.workers lines k' l' text
@@ -229,7 +241,7 @@ module _ (laws : Laws) (first : State) (lines : List Line) where
           let more_b = board_calls_from 0 l'.seen from_b.0 in
           let t = led.turn in
           let calls_r : reg_calls 0 r ≡ t.registry ++ (u.registry ++ more_r) =
-          reg_calls-on laws k'.seen r (settled-all k' u.registry e.asked) from_r ∙ (ap (λ cs. cs ++ more_r) (asked-all k' u.registry e.asked) ∙ append_assoc t.registry u.registry more_r) in
+          reg_calls-on laws k'.seen r (settled-all 1 k' u.registry e.asked) from_r ∙ (ap (λ cs. cs ++ more_r) (asked-all 1 k' u.registry e.asked) ∙ append_assoc t.registry u.registry more_r) in
           let calls_b : board_calls 0 b ≡ t.board ++ (u.board ++ more_b) =
           board_calls-on laws l'.seen b from_b ∙ (ap (λ cs. cs ++ more_b) (called-all l' u.board e.called) ∙ append_assoc t.board u.board more_b) in
           let last : turn_of (end s.walk) (u.registry ++ more_r) (u.board ++ more_b) ≡ joined u (ended s.walk) =
@@ -256,7 +268,7 @@ module _ (laws : Laws) (first : State) (lines : List Line) where
       abbrev t : Turn
       t = going.led.turn
 
-      pub going-more : (line : Line) (more : List Line) → left ≡ line ∷ more → Writes (Replies (line_dialogue s.workers s.walk number line) s s' []) y z → IsReady registry board s' → At (number + 1) more x z s'
+      pub going-more : (line : Line) (more : List Line) → left ≡ line ∷ more → Writes (Replies (width_of line) (line_dialogue s.workers s.walk number line) s s' []) y z → IsReady registry board s' → At (number + 1) more x z s'
       going-more line more next step ready =
           let m = led-more number left s going.led line more s' step.0 next step.1 in
           record { led = m.0; ready = ready; written = subst (Appends x z) (sym m.1) (Appends-trans x y z (text_in t) step.0 going.written step.2) }
@@ -265,7 +277,7 @@ module _ (laws : Laws) (first : State) (lines : List Line) where
       stopped goes kept = (text_in t, led-front number left s going.led s' (text_in t) goes ([], append-nil (text_in t)), keeps-text x y z (text_in t) going.written kept)
 
       -- a line that breaks off leaves a front of the text
-      pub going-breaks : (line : Line) (more : List Line) → left ≡ line ∷ more → Breaks s s' (Replies (line_dialogue s.workers s.walk number line) s s' []) y z
+      pub going-breaks : (line : Line) (more : List Line) → left ≡ line ∷ more → Breaks s s' (Replies (width_of line) (line_dialogue s.workers s.walk number line) s s' []) y z
           → Gains x z (IsFrontAfter first.workers lines (known s'.registry) (known s'.board))
       going-breaks line more next (inl stop) = stopped stop.0 stop.1
       going-breaks line more next (inr part) =
@@ -301,7 +313,7 @@ module _ (laws : Laws) (first : State) (lines : List Line) where
         pub going-ends_own : IsOwn reg_caller (known s'.registry)
         going-ends_own = step.1.asked.caller.own
 
-        pub going-ends_in_turn : InTurnAfter (known s'.registry)
+        pub going-ends_in_turn : InTurnAfter lines (known s'.registry)
         going-ends_in_turn = end-in_turn number left s going.led s' step.0 none step.1
 
       -- ---- both passes have seen more
@@ -310,8 +322,8 @@ module _ (laws : Laws) (first : State) (lines : List Line) where
       broken-goes IsReply of (inl stop) = goes-then first s s' going.led.goes stop.0
       broken-goes IsReply of (inr part) = goes-then first s s' going.led.goes (of part.0 part.1)
 
-      pub line_broken-goes : (line : Line) → Breaks s s' (Replies (line_dialogue s.workers s.walk number line) s s' []) y z → GoesOn first s'
-      line_broken-goes line breaks = broken-goes (Replies (line_dialogue s.workers s.walk number line) s s' []) (λ reply r. replied-goes (line_dialogue s.workers s.walk number line) s s' [] reply r) breaks
+      pub line_broken-goes : (line : Line) → Breaks s s' (Replies (width_of line) (line_dialogue s.workers s.walk number line) s s' []) y z → GoesOn first s'
+      line_broken-goes line breaks = broken-goes (Replies (width_of line) (line_dialogue s.workers s.walk number line) s s' []) (λ reply r. replied-goes (width_of line) (line_dialogue s.workers s.walk number line) s s' [] reply r) breaks
 
       pub end_broken-goes : Breaks s s' (AnswersEnd s s' []) y z → GoesOn first s'
       end_broken-goes breaks = broken-goes (AnswersEnd s s' []) (λ reply e. ended-goes s s' [] reply e) breaks

@@ -8,7 +8,7 @@ use Rattle.crew.specs.Crews.{CrewsEnd, CrewWorks}
 use Rattle.board.specs.Ends.{AllIsFinished, ShutIsLast}
 use Rattle.dialogues.specs.BoardCalls.{BoardCall}
 use Rattle.dialogues.specs.Dialogues.{Dialogue, followed}
-use Rattle.dialogues.specs.GoingOn.{RegistryCallsGoOn, RegistryUnasked, BoardCallsGoOn, BoardUncalled, NoCall, CallsThenCalls}
+use Rattle.dialogues.specs.GoingOn.{RegistryCallsGoOn, RegistryUnasked, BoardCallsGoOn, BoardUncalled, NoCall, InTurnByAny, InTurnByMore, CallsThenCallsBy}
 use Rattle.dialogues.specs.Leading.{LeadsNowhere, LeadsOn, LeadsFront, LeadsToEnd}
 use Rattle.dialogues.specs.RegistryCalls.{RegCall}
 use Rattle.dialogues.specs.Turns.{Turn, IsTurn, joined, turn_of}
@@ -26,7 +26,9 @@ pub record Laws : Type 0 where
   pub board_calls : BoardCallsGoOn
   pub uncalled : BoardUncalled
   pub no_call : NoCall
-  pub later_calls : CallsThenCalls
+  pub any_width : InTurnByAny
+  pub wider : InTurnByMore
+  pub later_calls : CallsThenCallsBy
   pub follow : (first : Dialogue) (later : Walk → Dialogue) (turn : Turn) (walk : Walk) (r : List RegCall) (b : List BoardCall)
       → IsTurn first turn → turn.after ≡ Some walk
       → turn_of (followed first later) (turn.registry ++ r) (turn.board ++ b) ≡ joined turn (turn_of (later walk) r b)

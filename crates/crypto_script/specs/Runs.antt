@@ -9,10 +9,11 @@ use Rattle.board.specs.declared.entry.BoardEntry.TheVariants.{Shut}
 use Rattle.board.specs.Entries.{entries_of, submissions, front, is_closed, caller_of as board_caller}
 use Rattle.board.specs.Legal.{MayManage, is_shut}
 use Rattle.crew.specs.declared.passes.Passes.{Passes}
-use Rattle.dialogues.specs.InTurn.{AreInTurn}
+use Rattle.dialogues.specs.InTurn.{AreInTurnBy}
 use Rattle.dialogues.specs.RegistryCalls.{reg_calls}
 use Rattle.dialogues.specs.Texts.{IsText, IsFrontText}
 use Rattle.dialogues.specs.Walk.{start}
+use Rattle.dialogues.specs.Widths.{widest}
 use Rattle.kc_base.specs.Streams.{AppendsFront}
 use Rattle.script_session.specs.Holding.{HasSeenMore}
 use Rattle.script_session.specs.States.{State, SameLocks}
@@ -75,12 +76,13 @@ abbrev pub IsFrontAfter : ℕ → List Line → Known RegEntry → Known (BoardE
 IsFrontAfter workers lines k l text =
     (r : List RegEntry) (b : List (BoardEntry Ask)) → StartsWith r k.seen → StartsWith b l.seen → IsFrontText workers (start 0) 0 lines r b text
 
--- the script made its calls of the registry one after the other, each when the one before had come to something
-abbrev pub InTurn : List RegEntry → Type 0
-InTurn r = AreInTurn 0 (reg_calls 0 r) [] r
+-- The script made its calls of the registry one after the other, each when the one before had come to something; with as many
+-- looks at once as one of its probes has names.
+abbrev pub InTurn : List Line → List RegEntry → Type 0
+InTurn lines r = AreInTurnBy (widest lines) 0 (reg_calls 0 r) [] r
 
-abbrev pub InTurnAfter : Known RegEntry → Type 0
-InTurnAfter k = (r : List RegEntry) → OthersFollow reg_caller k r → InTurn r
+abbrev pub InTurnAfter : List Line → Known RegEntry → Type 0
+InTurnAfter lines k = (r : List RegEntry) → OthersFollow reg_caller k r → InTurn lines r
 
 -- The board was shut when each request was finished of each pipeline that the script made and hadn't closed. Since then others alone made entries.
 pub record IsShutIn (b : List (BoardEntry Ask)) : Type 0 where
@@ -100,7 +102,7 @@ pub record AreNew (p : Passes Ask) : Type 0 where
 -- what a script that reached its end has written
 pub record Ended (workers : ℕ) (lines : List Line) (p : Passes Ask) (held held' : Option (List ℕ)) : Type 0 where
   pub text : Gains held held' (IsTextAfter workers lines (knows p.registry) (knows p.board))
-  pub in_turn : InTurnAfter (knows p.registry)
+  pub in_turn : InTurnAfter lines (knows p.registry)
   pub own : IsOwn reg_caller (knows p.registry)
   pub shut : IsShutIn (knows p.board).seen
 

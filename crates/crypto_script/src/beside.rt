@@ -11,6 +11,7 @@ ghost use Rattle.dialogues.specs.Texts.{IsText, IsFrontText};
 ghost use Rattle.dialogues.specs.Walk.{start};
 ghost use Rattle.kc_base.specs.Streams.{Rose};
 ghost use Rattle.script_text.specs.Script.{script_of};
+ghost use Rattle.settled_scripts.specs.Settled.{IsSettled, plain_text};
 ghost use Rattle.script_session.specs.Holding.{HasSeenMore};
 ghost use Rattle.shared_board.specs.Passes.{IsPassOn};
 ghost use Rattle.templates.specs.Table.{table};
@@ -30,6 +31,7 @@ use board::{BoardEntry, BoardLog, work_ends};
 use crew::{Gate, Passes, crew_works, crews_end, run_crew};
 use kc_base::{Sink, SinkError};
 use script_session::Session;
+use settled_scripts::settled_scripts_print_plain;
 use shared_board::{BoardPass, SharedBoard};
 use shared_registry::{RegPass, SharedRegistry};
 use std::alloc::Global;
@@ -179,7 +181,8 @@ fn run_beside<K: Sink, G: Gate + Sync, R: Threads + Wait + Sync>(
     requires first { (knows passes.board ≡ newcomer) × (knows passes.registry ≡ newcomer) }
     requires short { length input.now ≤ 2 ^ 28 }
     ensures whole { OnOk result.answer (Gains (K.held out.old) (K.held out.new) (IsText workers (start 0) 0 (script_of input.now) result.registry result.board)) }
-    ensures in_turn { OnOk result.answer (InTurn result.registry) }
+    ensures in_turn { OnOk result.answer (InTurn (script_of input.now) result.registry) }
+    ensures settled { OnOk result.answer (IsSettled (script_of input.now) → Gains (K.held out.old) (K.held out.new) (λ text. text ≡ plain_text (script_of input.now))) }
     ensures shut { OnOk result.answer (EndsShut result.board) }
     ensures front { Gains (K.held out.old) (K.held out.new) (IsFrontText workers (start 0) 0 (script_of input.now) result.registry result.board) }
     ensures closed { is_shut result.board ≡ true }
@@ -192,6 +195,7 @@ fn run_beside<K: Sink, G: Gate + Sync, R: Threads + Wait + Sync>(
     ensures causes { IfErr result.answer (λ e. (e ≡ RunError.WriteFault) ⊎ (e ≡ RunError.NoMemory)) }
 {
     crew_laws();
+    settled_scripts_print_plain();
     let (passes, answer) = crew_script(
         rt, alloc, workers, &board, &registry, gate, passes, input, out,
     );
@@ -218,7 +222,8 @@ pub fn run_script<K: Sink, G: Gate + Sync, R: Threads + Wait + Sync>(
     requires few { workers ≤ 16 }
     requires short { length input.now ≤ 2 ^ 28 }
     ensures whole { OnOk result.answer (Gains (K.held out.old) (K.held out.new) (IsText workers (start 0) 0 (script_of input.now) result.registry result.board)) }
-    ensures in_turn { OnOk result.answer (InTurn result.registry) }
+    ensures in_turn { OnOk result.answer (InTurn (script_of input.now) result.registry) }
+    ensures settled { OnOk result.answer (IsSettled (script_of input.now) → Gains (K.held out.old) (K.held out.new) (λ text. text ≡ plain_text (script_of input.now))) }
     ensures shut { OnOk result.answer (EndsShut result.board) }
     ensures front { Gains (K.held out.old) (K.held out.new) (IsFrontText workers (start 0) 0 (script_of input.now) result.registry result.board) }
     ensures closed { (result.board ≡ []) ⊎ (is_shut result.board ≡ true) }

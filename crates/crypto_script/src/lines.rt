@@ -6,6 +6,7 @@ ghost use Rattle.alg_registry.specs.Rows.{caller_of};
 ghost use Rattle.kc_base.specs.Streams.{Rose};
 ghost use Rattle.script_text.specs.Script.{line_of, script_of};
 ghost use Rattle.dialogues.specs.Lines.{line_dialogue};
+ghost use Rattle.dialogues.specs.Widths.{width_of};
 ghost use Rattle.session_calls.specs.Passes.{known};
 ghost use Rattle.script_session.specs.Running.{IsReady, Replies};
 ghost use Rattle.script_session.specs.Ending.{AnswersEnd, EndsShut};
@@ -15,7 +16,9 @@ ghost use Rattle.crypto_script.specs.Laws.{Laws};
 ghost use Rattle.crypto_script.specs.Runs.{Gains, GoesOn, Writes, Breaks, IsFresh, IsTextAfter, IsFrontAfter, InTurnAfter};
 
 use crew::Gate;
-use dialogues::{board_calls_go_on, calls_in_turn, lines_lead, registry_calls_go_on, turns_follow};
+use dialogues::{
+    board_calls_go_on, calls_at_once, calls_in_turn, lines_lead, registry_calls_go_on, turns_follow,
+};
 use kc_base::{Bytes, Sink, SinkError, write_piece};
 use script_session::Session;
 use script_text::{Line, first_line, read_line};
@@ -35,6 +38,7 @@ fn laws()
     registry_calls_go_on();
     board_calls_go_on();
     calls_in_turn();
+    calls_at_once();
 }
 
 fn is_malformed_line(line: &Line) -> bool
@@ -56,7 +60,7 @@ fn reply_to<G: Gate, R: Wait>(
 ) -> Result<(Bytes, bool), AllocError>
     requires { IsReady registry.now board.now session.old }
     ensures done { MatchResult result
-        (λ reply. Replies (line_dialogue session.old.workers session.old.walk number (line_of line.now)) session.old session.new [] reply.0)
+        (λ reply. Replies (width_of (line_of line.now)) (line_dialogue session.old.workers session.old.walk number (line_of line.now)) session.old session.new [] reply.0)
         (λ _. GoesOn session.old session.new) }
     ensures ready { OnOk result (IsReady registry.now board.now session.new) }
     ensures malformed { IfOk result (λ reply. reply.1 ≡ is_malformed (line_of line.now)) }
@@ -106,8 +110,8 @@ fn run_line<K: Sink, G: Gate, R: Wait>(
 ) -> Result<bool, SinkError>
     requires { IsReady registry.now board.now session.old }
     ensures done { MatchResult result
-        (λ _. Writes (Replies (line_dialogue session.old.workers session.old.walk number (line_of line.now)) session.old session.new []) (K.held out.old) (K.held out.new))
-        (λ _. Breaks session.old session.new (Replies (line_dialogue session.old.workers session.old.walk number (line_of line.now)) session.old session.new []) (K.held out.old) (K.held out.new)) }
+        (λ _. Writes (Replies (width_of (line_of line.now)) (line_dialogue session.old.workers session.old.walk number (line_of line.now)) session.old session.new []) (K.held out.old) (K.held out.new))
+        (λ _. Breaks session.old session.new (Replies (width_of (line_of line.now)) (line_dialogue session.old.workers session.old.walk number (line_of line.now)) session.old session.new []) (K.held out.old) (K.held out.new)) }
     ensures ready { OnOk result (IsReady registry.now board.now session.new) }
     ensures malformed { IfOk result (λ bad. bad ≡ is_malformed (line_of line.now)) }
     ensures later { K.faults out.old ≤ K.faults out.new }
@@ -158,7 +162,7 @@ pub fn run_lines<K: Sink, G: Gate, R: Wait>(
     requires fresh { IsFresh session.old }
     ensures whole { OnOk result (Gains (K.held out.old) (K.held out.new) (IsTextAfter session.old.workers (script_of input.now) (known session.new.registry) (known session.new.board))) }
     ensures front { Gains (K.held out.old) (K.held out.new) (IsFrontAfter session.old.workers (script_of input.now) (known session.new.registry) (known session.new.board)) }
-    ensures in_turn { OnOk result (InTurnAfter (known session.new.registry)) }
+    ensures in_turn { OnOk result (InTurnAfter (script_of input.now) (known session.new.registry)) }
     ensures own { OnOk result (IsOwn caller_of (known session.new.registry)) }
     ensures shut { OnOk result (EndsShut (known session.new.board)) }
     ensures goes_on { GoesOn session.old session.new }

@@ -5,6 +5,7 @@ ghost use Rattle.std.specs.List.{list_any};
 ghost use Rattle.std.specs.Io.KnownBytes.{Consumes, IsAtEnd};
 ghost use Rattle.kc_base.specs.Streams.{Rose};
 ghost use Rattle.script_text.specs.Script.{script_of};
+ghost use Rattle.settled_scripts.specs.Settled.{IsSettled, plain_text};
 ghost use Rattle.alg_registry.specs.Legal.{LegalReg};
 ghost use Rattle.alg_registry.specs.Made.{Made};
 ghost use Rattle.board.specs.Legal.{LegalBoard, is_shut};
@@ -117,12 +118,15 @@ pub fn run<S: Source, K: Sink, G: Gate + Sync, R: Threads + Wait + Sync>(
     out: &mut K,
 ) -> Outcome
     // A run that reaches the end has read the script whole, written its text, and shut the board last. The script has called the
-    // registry in turn.
+    // registry in turn, with as many looks at once as a probe has names.
     ensures ended { result.status ≤ 1 → IfSome (S.left src.old) (λ _. S.left src.new ≡ Some []) }
     ensures whole { result.status ≤ 1 → IfSome (S.left src.old) (λ script. Gains (K.held out.old) (K.held out.new) (IsText (workers_in (map string_bytes words.now)) (start 0) 0 (script_of script) result.registry result.board)) }
     ensures shut { result.status ≤ 1 → EndsShut result.board }
-    ensures in_turn { result.status ≤ 1 → InTurn result.registry }
+    ensures in_turn { result.status ≤ 1 → IfSome (S.left src.old) (λ script. InTurn (script_of script) result.registry) }
     ensures malformed { result.status ≤ 1 → IfSome (S.left src.old) (λ script. (result.status ≡ 1) ↔ IsTrue (list_any is_malformed (script_of script))) }
+
+    // What a settled script writes is a function of its lines alone: the same beside every number of workers.
+    ensures settled { result.status ≤ 1 → IfSome (S.left src.old) (λ script. IsSettled (script_of script) → Gains (K.held out.old) (K.held out.new) (λ text. text ≡ plain_text (script_of script))) }
 
     // However a run ends, what it has written is a front of the text.
     ensures front { IfSome (S.left src.old) (λ script. Gains (K.held out.old) (K.held out.new) (IsFrontText (workers_in (map string_bytes words.now)) (start 0) 0 (script_of script) result.registry result.board)) }

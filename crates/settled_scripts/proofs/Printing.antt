@@ -1,9 +1,16 @@
 -- A settled script prints what is plain.
 use Rattle.std.proofs.Common.{◌≡◌, ℕ, ◌+◌, Bool, true, false, ◌&&◌, List, [], ◌∷◌, ap, sym, ◌∙◌, subst, refl, Option, Some, None, IsSome, append_assoc}
-use Rattle.std.specs.List.{flat_map}
+use Rattle.std.proofs.Common.{◌≤◌, arith}
+use Rattle.std.proofs.lemmas.Bool.{and_parts}
+use Rattle.std.proofs.lemmas.Bool.Decides.{nat_tests}
+use Rattle.std.specs.List.{flat_map, list_all}
+use Rattle.script_text.specs.declared.commands.Command.{Command}
+use Rattle.script_text.specs.declared.commands.Command.TheVariants as command
+use Rattle.script_text.specs.declared.commands.Line.TheVariants as line
 use Rattle.script_text.specs.declared.commands.Line.{Line}
 use Rattle.reply_text.specs.Answers.{text_of}
 use Rattle.dialogues.specs.Dialogues.{Dialogue, Ends, Says, Asks, Posts, followed}
+use Rattle.dialogues.specs.GoingOn.{InTurnByOne}
 use Rattle.dialogues.specs.InTurn.{AreInTurn}
 use Rattle.dialogues.specs.Lines.{line_dialogue, lines_dialogue, script}
 use Rattle.dialogues.specs.Piping.{end}
@@ -12,11 +19,12 @@ use Rattle.dialogues.specs.RegistryCalls.{reg_calls}
 use Rattle.dialogues.specs.Texts.{turn_in}
 use Rattle.dialogues.specs.Turns.{Turn, turn_of, IsTurn}
 use Rattle.dialogues.specs.Walk.{Walk, start}
+use Rattle.dialogues.specs.Widths.{command_width, width_of, widest}
 use Rattle.plain_calls.specs.Laws.{AnswersArePlain, AreAnsweredBy, RepliesArePlain, AreToldBy}
 use Rattle.plain_calls.specs.Pipelines.{Pipeline, reply_in, is_timeless, pipelines_after}
 use Rattle.plain_calls.specs.Registry.{PlainRegistry, first_registry, answer_in, registry_after}
 use Rattle.settled_scripts.specs.Printing.{PrintsPlain}
-use Rattle.settled_scripts.specs.Settled.{Passed, saying, if_timeless, pass, passed, plain_text}
+use Rattle.settled_scripts.specs.Settled.{Passed, saying, if_timeless, is_settled_line, pass, passed, plain_text}
 use Rattle.settled_scripts.proofs.Plain.{turn_plain}
 use Rattle.settled_scripts.proofs.Workers.{line_same}
 
@@ -60,17 +68,37 @@ its_walk : (o : Option Walk) → IsSome o → (after : Walk) × (o ≡ Some afte
 its_walk None s = absurd cc
 its_walk (Some after) s = (after, refl)
 
+-- ---- a settled script has one look at once
+
+width_settled : (next : Line) → is_settled_line next ≡ true → width_of next ≤ 1
+width_settled line.Nothing is = omega arith
+width_settled line.Malformed is = omega arith
+width_settled (line.Cmd c) is = by c is
+  where
+    by : (c : Command) → is_settled_line (line.Cmd c) ≡ true → command_width c ≤ 1
+    by (command.Probe names) settled = grind (settled, arith, nat_tests)
+    by c settled = omega arith
+
+widest_settled : (lines : List Line) → list_all is_settled_line lines ≡ true → widest lines ≤ 1
+widest_settled [] all = omega arith
+widest_settled (next ∷ lines) all =
+    let both = and_parts (is_settled_line next) (list_all is_settled_line lines) all in
+    let first = width_settled next both.0 in
+    let later = widest_settled lines both.1 in
+    omega arith
+
 -- ---- the law
 
-pub prints_plain : AnswersArePlain → RepliesArePlain → PrintsPlain
+pub prints_plain : AnswersArePlain → RepliesArePlain → InTurnByOne → PrintsPlain
 unfolding plain_text
-prints_plain answers replies workers lines r b text settled legal made callers legal_board board_callers in_turn is =
+prints_plain answers replies narrow workers lines r b text settled legal made callers legal_board board_callers in_turn is =
     let turn : Turn = turn_in workers (start 0) 0 lines r b in
     let same : pass (script workers (start 0) lines) first_registry [] ≡ passed lines = lines_same workers (start 0) 1 lines first_registry [] in
     let after = its_walk turn.after is.ended in
     let its : IsTurn (script workers (start 0) lines) turn =
     ap (λ calls. turn_of (script workers (start 0) lines) calls turn.board) is.registry ∙ ap (λ calls. turn_of (script workers (start 0) lines) (reg_calls 0 r) calls) is.board in
-    let answered : AreAnsweredBy first_registry turn.registry = answers turn.registry r legal made callers (subst (λ calls. AreInTurn 0 calls [] r) (sym is.registry) in_turn) in
+    let strictly = narrow (widest lines) 0 (reg_calls 0 r) [] r (widest_settled lines settled.lines_settled) in_turn in
+    let answered : AreAnsweredBy first_registry turn.registry = answers turn.registry r legal made callers (subst (λ calls. AreInTurn 0 calls [] r) (sym is.registry) strictly) in
     let told : AreToldBy [] turn.board = subst (λ calls. AreToldBy [] calls) (sym is.board) (replies b legal_board board_callers) in
     let said = turn_plain (script workers (start 0) lines) turn after.0 first_registry [] its after.1 answered told (ap (λ (p : Passed). p.timeless) same ∙ settled.timeless) in
     is.text_is ∙ ap (λ answers. flat_map text_of answers) (said ∙ ap (λ (p : Passed). p.answers) same)

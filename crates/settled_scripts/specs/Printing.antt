@@ -10,14 +10,15 @@ use Rattle.board.specs.Legal.{LegalBoard}
 use Rattle.script_text.specs.declared.commands.Line.{Line}
 use Rattle.templates.specs.Table.{table}
 use Rattle.transforms.specs.declared.ask.Ask.{Ask}
-use Rattle.dialogues.specs.InTurn.{AreInTurn}
+use Rattle.dialogues.specs.InTurn.{AreInTurnBy}
 use Rattle.dialogues.specs.RegistryCalls.{reg_calls}
 use Rattle.dialogues.specs.Texts.{IsText}
 use Rattle.dialogues.specs.Walk.{start}
+use Rattle.dialogues.specs.Widths.{widest}
 use Rattle.settled_scripts.specs.Settled.{IsSettled, plain_text}
 
--- Over legal and faithful histories whose callers are the script and at most 16 workers, in which the script made each call of
--- the registry when the one before had come to something, the text of a settled script is the plain one, beside any number of
+-- Over legal and faithful histories whose callers are the script and at most 16 workers, in which the script called the registry
+-- in turn, with as many looks at once as a probe has names, the text of a settled script is the plain one, beside any number of
 -- workers.
 abbrev pub PrintsPlain : Type 0
 PrintsPlain =
@@ -25,5 +26,5 @@ PrintsPlain =
     → IsSettled lines
     → LegalReg r → Made table r → All (λ e. caller_of e ≤ 16) r
     → LegalBoard b → All (λ e. board_caller e ≤ 16) b
-    → AreInTurn 0 (reg_calls 0 r) [] r
+    → AreInTurnBy (widest lines) 0 (reg_calls 0 r) [] r
     → IsText workers (start 0) 0 lines r b text → text ≡ plain_text lines

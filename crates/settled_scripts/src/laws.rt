@@ -5,6 +5,7 @@ ghost use Rattle.settled_scripts.specs.Examples.{answers_of, kinds_of, sharing, 
 ghost use Rattle.settled_scripts.specs.Printing.{PrintsPlain};
 ghost use Rattle.settled_scripts.specs.Settled.{IsSettled};
 
+use dialogues::calls_at_once;
 use plain_calls::{answers_are_plain, replies_are_plain};
 
 /// A settled script prints its plain text, beside any number of workers and whatever they do.
@@ -13,6 +14,7 @@ pub fn settled_scripts_print_plain()
 {
     answers_are_plain();
     replies_are_plain();
+    calls_at_once();
 }
 
 /// What worked scripts are answered, by the definition itself. A queue that is held before its first request may be filled; one

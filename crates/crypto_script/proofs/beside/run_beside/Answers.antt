@@ -1,5 +1,5 @@
 use Rattle.script_text.specs.Script.{script_of}
-use Rattle.crypto_script.proofs.Finishing.{front-whole, whole-text, whole-in_turn, whole-shut, whole-closed, few-callers, whole-malformed}
+use Rattle.crypto_script.proofs.Finishing.{front-whole, whole-text, whole-in_turn, whole-shut, whole-closed, few-callers, whole-malformed, whole-settled}
 use Rattle.crypto_script.proofs.beside.run_beside.Goals as goal
 
 pub returns-clause-whole : goal.returns-clause-whole
@@ -51,3 +51,11 @@ pub returns-clause-malformed : goal.returns-clause-malformed
 returns-clause-malformed g c =
     let m = c.crew_script-passes.ensures.crewed in
     rw c.run_answered.ensures (whole-malformed c.crew_script-passes.result.1 (script_of c.args.input.now) m.3.malformed)
+
+pub returns-clause-settled : goal.returns-clause-settled
+returns-clause-settled g c =
+    let m = c.crew_script-passes.ensures.crewed in
+    let held = g.K.Sink.held in
+    rw c.run_answered.ensures
+    (whole-settled c.crew_laws.ensures c.args.workers (script_of c.args.input.now) c.args.passes m.0 m.1 c.crew_script-passes.result.0 c.crew_script-passes.result.1 (held c.args.out.now) (held c.crew_script-passes.new.out) c.finish_all.result c.finish_all-2.result
+    c.requires.first m.2 m.3 m.4 c.finish_all.ensures.shows c.finish_all-2.ensures.shows c.settled_scripts_print_plain.ensures c.requires.few c.finish_all.ensures.legal c.finish_all.ensures.faithful c.finish_all-2.ensures.legal)
