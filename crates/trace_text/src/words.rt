@@ -1,0 +1,88 @@
+//! The words of events.
+
+ghost use Rattle.std.specs.Prelude.{◌≡◌, ◌∷◌, map, IfOk};
+ghost use Rattle.trace_text.specs.Text.{sentence, kind_word, wrap_word, ids_word, plain_word, get_word, backlog_word};
+
+use alg_registry::{Kind, Wrap};
+use kc_base::Bytes;
+use std::alloc::{AllocError, Global};
+
+/// A line of these words.
+pub(crate) fn sentence_of(
+    alloc: Global,
+    first: &[u8],
+    others: &[&[u8]],
+) -> Result<Bytes, AllocError>
+    ensures { IfOk result (λ text. text ≡ sentence (first.now ∷ map (λ word. word.now) others.now)) }
+{
+    let mut text = Bytes::copy_of(alloc, first)?;
+    for word in others {
+        text.push(b' ')?;
+        text.append(word)?;
+    }
+    text.push(b'\n')?;
+    Ok(text)
+}
+
+pub(crate) fn kind_word(kind: Kind) -> &'static [u8]
+    ensures { result.now ≡ kind_word kind }
+{
+    match kind {
+        Kind::Cipher => b"cipher",
+        Kind::Hash => b"hash",
+        Kind::Ghash => b"ghash",
+        Kind::Skcipher => b"skcipher",
+        Kind::Aead => b"aead",
+        Kind::Mac => b"mac",
+    }
+}
+
+pub(crate) fn wrap_word(wrap: Wrap) -> &'static [u8]
+    ensures { result.now ≡ wrap_word wrap }
+{
+    match wrap {
+        Wrap::Plain => b"plain",
+        Wrap::Pcrypt => b"pcrypt",
+        Wrap::Cryptd => b"cryptd",
+    }
+}
+
+pub(crate) fn plain_word(plain: bool) -> &'static [u8]
+    ensures { result.now ≡ plain_word plain }
+{
+    if plain { b"plain" } else { b"any" }
+}
+
+pub(crate) fn get_word(ok: bool) -> &'static [u8]
+    ensures { result.now ≡ get_word ok }
+{
+    if ok { b"ok" } else { b"EAGAIN" }
+}
+
+pub(crate) fn backlog_word(backlog: bool) -> &'static [u8]
+    ensures { result.now ≡ backlog_word backlog }
+{
+    if backlog { b"backlog" } else { b"plain" }
+}
+
+// Numbers behind a first one, with a comma before each.
+fn more_ids(alloc: Global, first: u64, others: &[u64]) -> Result<Bytes, AllocError>
+    ensures { IfOk result (λ text. text ≡ ids_word (first ∷ others.now)) }
+{
+    let mut text = Bytes::copy_of(alloc, first.to_string(alloc)?.as_bytes())?;
+    for id in others {
+        text.push(b',')?;
+        text.append(id.to_string(alloc)?.as_bytes())?;
+    }
+    Ok(text)
+}
+
+/// Ids as one word.
+pub(crate) fn ids_word(alloc: Global, ids: &[u64]) -> Result<Bytes, AllocError>
+    ensures { IfOk result (λ text. text ≡ ids_word ids.now) }
+{
+    match ids {
+        [] => Bytes::copy_of(alloc, b"-"),
+        [first, others @ ..] => more_ids(alloc, *first, others),
+    }
+}

@@ -1,0 +1,58 @@
+//! The trace of a run.
+
+ghost use Rattle.std.specs.Prelude.{◌≡◌, ◌++◌, IfOk, OnOk};
+ghost use Rattle.std.specs.List.{flat_map};
+ghost use Rattle.trace_text.specs.Text.{sentence, reg_words, board_words};
+ghost use Rattle.trace_text.specs.Trace.{trace_of};
+
+use crate::board_text::{Lined, board_line};
+use crate::registry_text::registry_line;
+use alg_registry::{RegEntry, RegLog};
+use board::{BoardEntry, BoardLog};
+use kc_base::Bytes;
+use std::alloc::{AllocError, Global};
+use transforms::Ask;
+
+impl Lined for Ask {
+    ghost line = { λ ask. ask.line };
+
+    fn line(&self) -> u32 {
+        self.line
+    }
+}
+
+fn put_registry(alloc: Global, text: &mut Bytes, events: &[RegEntry]) -> Result<(), AllocError>
+    ensures { OnOk result (text.new ≡ text.old ++ flat_map (λ e. sentence (reg_words e)) events.now) }
+{
+    for event in events {
+        text.append(registry_line(alloc, event)?.as_slice())?;
+    }
+    Ok(())
+}
+
+fn put_board<A: Lined>(
+    alloc: Global,
+    text: &mut Bytes,
+    events: &[BoardEntry<A>],
+) -> Result<(), AllocError>
+    ensures { OnOk result (text.new ≡ text.old ++ flat_map (λ e. sentence (board_words A.line e)) events.now) }
+{
+    for event in events {
+        text.append(board_line(alloc, event)?.as_slice())?;
+    }
+    Ok(())
+}
+
+/// The trace of what a registry and a board recorded: an event a line, all of the registry's first. docs/TRACE.md has the format.
+pub fn write_trace(
+    alloc: Global,
+    registry: &RegLog,
+    board: &BoardLog<Ask>,
+) -> Result<Bytes, AllocError>
+    ensures { IfOk result (λ text. text ≡ trace_of (λ ask. ask.line) registry.now board.now) }
+{
+    let mut text = Bytes::new(alloc);
+    put_registry(alloc, &mut text, registry.entries())?;
+    put_board(alloc, &mut text, board.entries())?;
+    Ok(text)
+}
