@@ -11,7 +11,7 @@ use alg_registry::{RegEntry, RegLog};
 use board::{BoardEntry, BoardLog};
 use kc_base::Bytes;
 use std::alloc::{AllocError, Global};
-use transforms::Ask;
+pub struct Ask { pub line: u32 }
 
 impl Lined for Ask {
     ghost line = { λ ask. ask.line };
