@@ -229,10 +229,7 @@ fn deq_text(
 }
 
 /// The line of a board's event.
-pub fn board_line<A: Lined>(
-    alloc: Global,
-    event: &BoardEntry<A>,
-) -> Result<Bytes, AllocError>
+pub fn board_line<A: Lined>(alloc: Global, event: &BoardEntry<A>) -> Result<Bytes, AllocError>
     ensures { IfOk result (λ text. text ≡ sentence (board_words A.line event.now)) }
 {
     match event {

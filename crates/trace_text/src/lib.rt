@@ -3,6 +3,8 @@
 
 mod board_text;
 mod registry_text;
+#[cfg(test)]
+mod tests;
 mod words;
 mod writing;
 

@@ -11,7 +11,11 @@ use alg_registry::{RegEntry, RegLog};
 use board::{BoardEntry, BoardLog};
 use kc_base::Bytes;
 use std::alloc::{AllocError, Global};
-pub struct Ask { pub line: u32 }
+
+#[derive(Drop)]
+pub struct Ask {
+    pub line: u32,
+}
 
 impl Lined for Ask {
     ghost line = { λ ask. ask.line };
