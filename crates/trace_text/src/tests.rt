@@ -11,7 +11,7 @@ use std::test::Fail;
 struct Line(u32);
 
 impl Lined for Line {
-    ghost line = { λ ask. ask.field-0 };
+    ghost line = { λ ask. ask.0 };
 
     fn line(&self) -> u32 {
         self.0

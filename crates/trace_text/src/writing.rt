@@ -11,11 +11,7 @@ use alg_registry::{RegEntry, RegLog};
 use board::{BoardEntry, BoardLog};
 use kc_base::Bytes;
 use std::alloc::{AllocError, Global};
-
-#[derive(Drop)]
-pub struct Ask {
-    pub line: u32,
-}
+use transforms::Ask;
 
 impl Lined for Ask {
     ghost line = { λ ask. ask.line };
