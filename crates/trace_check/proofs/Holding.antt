@@ -125,9 +125,9 @@ goes_on_held entries used used' count place e b within here is held m s =
       len = m.len ∙ s.len;
       few = (let f = s.few in omega arith);
       counts =
-        (let c = s.counts in let t = count_step true x (newer entries (place + 1)) h in
-        let z : count + 1 ≡ 1 + held_count (newer entries (place + 1)) = omega arith in
-        z ∙ (sym t ∙ ap held_count (sym n)));
+          (let c = s.counts in let t = count_step true x (newer entries (place + 1)) h in
+          let z : count + 1 ≡ 1 + held_count (newer entries (place + 1)) = omega arith in
+          z ∙ (sym t ∙ ap held_count (sym n)));
       marks = λ id d in'.
           m.each id d (let l = m.len in omega arith)
           ∙ (or_comm (get_or used id d) (list_any (λ child. child == id) e.spec.below)

@@ -63,7 +63,8 @@ pub(crate) fn advance_entries(
             ..
         } => add_entry(alloc, entries, spec)?,
         RegEntry::Unlist {
-            answer: Some(id), ..
+            answer: Some(id),
+            ..
         } => {
             unlist_entry(entries, *id);
             mark_all(entries);

@@ -81,7 +81,10 @@ fn has_number(entries: &[Entry], full: bool, larvals: &[Larva], event: &RegEntry
     ensures { result ≡ has_number (map row_of entries.now) (map larval_of larvals.now) event.now }
 {
     match event {
-        RegEntry::Enlist { spec, answer, .. } => same_made(*answer, enlisted_by(entries, full, spec)),
+        RegEntry::Enlist { spec, answer, .. } => same_made(
+            *answer,
+            enlisted_by(entries, full, spec),
+        ),
         RegEntry::Look {
             text,
             plain,
@@ -112,7 +115,10 @@ fn has_answer(entries: &[Entry], full: bool, larvals: &[Larva], event: &RegEntry
     ensures { result ≡ has_answer (map row_of entries.now) (map larval_of larvals.now) event.now }
 {
     match event {
-        RegEntry::Enlist { spec, answer, .. } => alike_made(*answer, enlisted_by(entries, full, spec)),
+        RegEntry::Enlist { spec, answer, .. } => alike_made(
+            *answer,
+            enlisted_by(entries, full, spec),
+        ),
         RegEntry::Look {
             text,
             plain,

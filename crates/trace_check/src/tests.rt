@@ -1,4 +1,4 @@
-use crate::{Reading, Reason, first_wrong_event, read_trace};
+use crate::{Reason, TraceVerdict, check_trace};
 use std::alloc::{AllocError, Global};
 use std::test::Fail;
 
@@ -46,34 +46,30 @@ fn joined(alloc: Global, parts: &[&[u8]]) -> Result<Vec<u8>, AllocError> {
     Ok(text)
 }
 
-// How many events of the registry a text has, and the board's first wrong one; or its first bad line.
-fn verdict(alloc: Global, parts: &[&[u8]]) -> Result<(u64, Option<(u64, Reason)>), AllocError> {
+fn verdict(alloc: Global, parts: &[&[u8]]) -> Result<TraceVerdict, AllocError> {
     let text = joined(alloc, parts)?;
-    match read_trace(alloc, &text)? {
-        Reading::Trace(events) => {
-            let found = first_wrong_event(alloc, &events.board)?;
-            Ok((events.registry.len() as u64, found))
-        }
-        Reading::Bad(line) => Ok((1000 + line, None)),
-    }
+    check_trace(alloc, &text)
 }
 
 #[test]
-fn the_board_of_a_held_queue_is_judged(rt: HostRuntime) -> Result<(), Fail> {
+fn the_trace_of_a_held_queue_is_judged(rt: HostRuntime) -> Result<(), Fail> {
     let alloc = rt.alloc();
     let right = verdict(alloc, &[REGISTRY, BORN, WORK, FOUR, FOUR, SHUT])?;
-    assert!(rt; right == (8, None));
+    assert!(rt; right == TraceVerdict::Legal);
     let unborn = verdict(alloc, &[REGISTRY, WORK, FOUR, FOUR, SHUT])?;
-    assert!(rt; unborn == (8, Some((0, Reason::State))));
+    assert!(rt; unborn == TraceVerdict::Illegal(8, Reason::State));
     let early = verdict(alloc, &[REGISTRY, BORN, WORK, THREE, FOUR, SHUT])?;
-    assert!(rt; early == (8, Some((13, Reason::Number))));
+    assert!(rt; early == TraceVerdict::Illegal(21, Reason::Number));
+    let twice = verdict(alloc, &[REGISTRY, BORN, WORK, FOUR, FOUR, SHUT, SHUT])?;
+    assert!(rt; twice == TraceVerdict::Illegal(24, Reason::State));
     Ok(())
 }
 
 #[test]
 fn the_first_bad_line_is_named(rt: HostRuntime) -> Result<(), Fail> {
     let alloc = rt.alloc();
-    let table: [(&[u8], u64); 9] = [
+    let table: [(&[u8], u64); 10] = [
+        (b"x", 1),
         (b"b 0 shut", 1),
         (b"b 0 shut\nr 0 list\n", 2),
         (b"r 0 list\nr 00 list\n", 2),
@@ -85,42 +81,123 @@ fn the_first_bad_line_is_named(rt: HostRuntime) -> Result<(), Fail> {
         (b"b 0 deq 0 0 -\nb 0 deq 0 0 + 1\n", 2),
     ];
     for (text, line) in table {
-        let found = verdict(alloc, &[text])?;
-        assert!(rt; found == (1000 + line, None));
+        let found = check_trace(alloc, text)?;
+        assert!(rt; found == TraceVerdict::NoTrace(line));
     }
     Ok(())
 }
 
-// Lines of a pad whose requests are all submitted, taken and finished backwards, and collected.
-fn long_run(alloc: Global, requests: u64) -> Result<Vec<u8>, AllocError> {
-    let mut text = Vec::new(alloc);
-    text.extend_from_slice(b"b 0 born 0 pad 4\n")?;
-    for number in 0..requests {
-        text.extend_from_slice(b"b 0 submit 0 ")?;
-        text.extend_from_slice(number.to_string(alloc)?.as_bytes())?;
-        text.extend_from_slice(b" 7\n")?;
-    }
-    for number in 0..requests {
-        text.extend_from_slice(b"b 2 take 0 ")?;
-        text.extend_from_slice(number.to_string(alloc)?.as_bytes())?;
-        text.extend_from_slice(b"\nb 2 finish 0 ")?;
-        text.extend_from_slice(number.to_string(alloc)?.as_bytes())?;
-        text.extend_from_slice(b"\n")?;
-    }
-    text.extend_from_slice(b"b 0 collect 0 ")?;
-    text.extend_from_slice(requests.to_string(alloc)?.as_bytes())?;
-    text.extend_from_slice(b"\nb 0 close 0\nb 0 shut\n")?;
-    Ok(text)
-}
+// A text, how many events of it are right, and the letter of the reason why the next isn't.
+const REGISTRY_CASES: [(&[u8], u64, Reason); 20] = [
+    (b"r 1 enlist x y cipher 1 made 3\n", 0, Reason::Caller),
+    (b"r 0 enlist x y cipher 1 made 4\n", 0, Reason::Number),
+    (
+        b"r 0 enlist x aes-generic cipher 1 made 3\n",
+        0,
+        Reason::Answer,
+    ),
+    (b"r 1 look aes any found 0\n", 0, Reason::Caller),
+    (b"r 0 look aes any found 1\n", 0, Reason::Number),
+    (b"r 0 look aes any absent\n", 0, Reason::Answer),
+    (b"r 0 claim 0\n", 0, Reason::State),
+    (b"r 0 end 0 nomemory\n", 0, Reason::State),
+    (
+        b"r 0 look cbc(aes) any began 0\nr 0 claim 0\nr 1 end 0 nomemory\n",
+        2,
+        Reason::Caller,
+    ),
+    (
+        b"r 0 look cbc(aes) any began 0\nr 0 claim 0\nr 0 end 0 joined 3 0\n",
+        2,
+        Reason::Number,
+    ),
+    (
+        b"r 0 look cbc(aes) any began 0\nr 0 claim 0\nr 0 end 0 joined 0 3\n",
+        2,
+        Reason::Answer,
+    ),
+    (
+        b"r 0 look cbc(aes) any began 0\nr 0 waited 0\n",
+        1,
+        Reason::State,
+    ),
+    (b"r 16 unlist aes-generic ok 0\n", 0, Reason::Caller),
+    (b"r 0 unlist aes-generic ok 1\n", 0, Reason::Number),
+    (b"r 0 unlist aes-generic ENOENT\n", 0, Reason::Answer),
+    (b"r 1 get 0 ok\n", 0, Reason::Caller),
+    (b"r 0 get 3 ok\n", 0, Reason::Answer),
+    (b"r 0 put 0\n", 0, Reason::State),
+    (b"r 0 get 0 ok\nr 17 put 0\n", 1, Reason::Caller),
+    (b"r 1 list\n", 0, Reason::Caller),
+];
 
 #[test]
-fn a_long_run_is_judged(rt: HostRuntime) -> Result<(), Fail> {
+fn each_reason_of_the_registry_is_found(rt: HostRuntime) -> Result<(), Fail> {
     let alloc = rt.alloc();
-    let text = long_run(alloc, 2_000)?;
-    let Reading::Trace(events) = read_trace(alloc, &text)? else {
-        return Err(Fail::from("no trace"));
-    };
-    let found = first_wrong_event(alloc, &events.board)?;
-    assert!(rt; found == None);
+    for (text, place, reason) in REGISTRY_CASES {
+        let found = check_trace(alloc, text)?;
+        assert!(rt; found == TraceVerdict::Illegal(place, reason));
+    }
+    Ok(())
+}
+
+const BOARD_CASES: [(&[u8], u64, Reason); 20] = [
+    (b"b 1 born 0 pad 1\n", 0, Reason::Caller),
+    (b"b 0 born 1 pad 1\n", 0, Reason::Number),
+    (b"b 0 born 0 queue 0\n", 0, Reason::Number),
+    (b"b 0 submit 0 0 7\n", 0, Reason::State),
+    (b"b 0 born 0 pad 1\nb 17 submit 0 0 7\n", 1, Reason::Caller),
+    (b"b 0 born 0 pad 1\nb 0 submit 0 1 7\n", 1, Reason::Number),
+    (b"b 0 born 0 pad 1\nb 1 take 0 0\n", 1, Reason::State),
+    (
+        b"b 0 born 0 pad 1\nb 0 submit 0 0 7\nb 1 finish 0 0\n",
+        2,
+        Reason::State,
+    ),
+    (
+        b"b 0 born 0 pad 1\nb 0 submit 0 0 7\nb 1 take 0 0\nb 2 finish 0 0\n",
+        3,
+        Reason::Caller,
+    ),
+    (
+        b"b 0 born 0 pad 1\nb 0 enq 0 7 plain EINPROGRESS 0\n",
+        1,
+        Reason::State,
+    ),
+    (
+        b"b 0 born 0 queue 1\nb 0 enq 0 7 plain EINPROGRESS 1\n",
+        1,
+        Reason::Number,
+    ),
+    (
+        b"b 0 born 0 queue 1\nb 0 enq 0 7 plain ENOSPC\n",
+        1,
+        Reason::Answer,
+    ),
+    (b"b 0 born 0 queue 1\nb 1 deq 0 0 -\n", 1, Reason::State),
+    (
+        b"b 0 born 0 queue 1\nb 0 enq 0 7 plain EINPROGRESS 0\nb 1 deq 0 0 started 1\n",
+        2,
+        Reason::Number,
+    ),
+    (b"b 0 born 0 queue 1\nb 17 go 0\n", 1, Reason::Caller),
+    (b"b 0 born 0 pad 1\nb 17 collect 0 0\n", 1, Reason::Caller),
+    (b"b 0 born 0 pad 1\nb 0 collect 0 1\n", 1, Reason::Number),
+    (
+        b"b 0 born 0 pad 1\nb 0 submit 0 0 7\nb 0 close 0\n",
+        2,
+        Reason::State,
+    ),
+    (b"b 0 shut\nb 0 shut\n", 1, Reason::State),
+    (b"b 1 shut\n", 0, Reason::Caller),
+];
+
+#[test]
+fn each_reason_of_the_board_is_found(rt: HostRuntime) -> Result<(), Fail> {
+    let alloc = rt.alloc();
+    for (text, place, reason) in BOARD_CASES {
+        let found = check_trace(alloc, text)?;
+        assert!(rt; found == TraceVerdict::Illegal(place, reason));
+    }
     Ok(())
 }
