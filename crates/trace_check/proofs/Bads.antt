@@ -89,7 +89,7 @@ one_less text n r (x ∷ xs) rest c h = (let e = ends_of x xs in cut_board text 
 one_less text n [] [] rest c h = absurd (omega arith)
 one_less text n (x ∷ xs) [] rest c h = (let e = ends_of x xs in cut_registry text n (x ∷ xs) e.front e.last rest (omega arith) e.is h)
 
-begins_less : (text : List ℕ) (k n : ℕ) → BeginsWith text (k + n) → BeginsWith text n
+pub begins_less : (text : List ℕ) (k n : ℕ) → BeginsWith text (k + n) → BeginsWith text n
 begins_less text zero n b = (let z : 0 + n ≡ n = omega arith in subst (BeginsWith text) z b)
 begins_less text (suc k) n (r, b, rest, c, h) = (let s : suc k + n ≡ suc (k + n) = omega arith in begins_less text k n (one_less text (k + n) r b rest (c ∙ s) h))
 

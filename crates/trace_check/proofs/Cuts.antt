@@ -56,7 +56,7 @@ same_cut (c ∷ a) (d ∷ b) x y p q e =
     let l = r.line in
     record { line = (let g : c ∷ a ≡ d ∷ b = cc in g); rest = r.rest }
 
-feed_then : (line more : List ℕ) → fed line ++ more ≡ line ++ 10 ∷ more
+pub feed_then : (line more : List ℕ) → fed line ++ more ≡ line ++ 10 ∷ more
 feed_then line more = append_assoc line (10 ∷ []) more
 
 -- a text that begins with these lines and also with one more of those: they are the same, and then comes that line
@@ -78,7 +78,7 @@ next_line (l ∷ ls) (m ∷ ms) line x y p q n e =
     let a = c.line in let b = r.lines in
     record { lines = (let g : l ∷ ls ≡ m ∷ ms = cc in g); rest = r.rest }
 
-some_fed : (line more : List ℕ) → fed line ++ more ≡ [] → ⊥
+pub some_fed : (line more : List ℕ) → fed line ++ more ≡ [] → ⊥
 some_fed [] more e = cc
 some_fed (c ∷ line) more e = cc
 

@@ -19,7 +19,7 @@ use Rattle.trace_check.proofs.Parts.{judged_right, judged_wrong, wrong_not_right
 use Rattle.trace_check.proofs.Boarding.{board_step, board_empty}
 
 -- the checker finds nothing wrong
-abbrev Passes : {A : Type 0} → List PipeState → Bool → List (BoardEntry A) → Type 0
+abbrev pub Passes : {A : Type 0} → List PipeState → Bool → List (BoardEntry A) → Type 0
 Passes ps shut [] = ⊤
 Passes ps shut (e ∷ h) = (judged ps shut e ≡ None) × Passes (pipes_after ps e) (is_shut_by shut e) h
 
@@ -29,11 +29,11 @@ passes_right ps shut before (e ∷ h) k p =
     let r = judged_right ps shut before e k p.0 in
     (r, passes_right (pipes_after ps e) (is_shut_by shut e) (before ++ e ∷ []) h (board_step ps shut before e r k) p.1)
 
-none_judged : {A : Type 0} (ps : List PipeState) (shut : Bool) (before : List (BoardEntry A)) (e : BoardEntry A) (o : Option Reason) → judged ps shut e ≡ o → IsBoard ps shut before → IsRight before e → judged ps shut e ≡ None
+pub none_judged : {A : Type 0} (ps : List PipeState) (shut : Bool) (before : List (BoardEntry A)) (e : BoardEntry A) (o : Option Reason) → judged ps shut e ≡ o → IsBoard ps shut before → IsRight before e → judged ps shut e ≡ None
 none_judged ps shut before e None j k r = j
 none_judged ps shut before e (Some reason) j k r = absurd (wrong_not_right before e reason (judged_wrong ps shut before e reason k j) r)
 
-right_passes : {A : Type 0} (ps : List PipeState) (shut : Bool) (before h : List (BoardEntry A)) → IsBoard ps shut before → AreRightAfter before h → Passes ps shut h
+pub right_passes : {A : Type 0} (ps : List PipeState) (shut : Bool) (before h : List (BoardEntry A)) → IsBoard ps shut before → AreRightAfter before h → Passes ps shut h
 right_passes ps shut before [] k r = tt
 right_passes ps shut before (e ∷ h) k r = (
   none_judged ps shut before e (judged ps shut e) refl k r.0,

@@ -24,3 +24,4 @@ pub mod Few
 pub mod RegLoop
 pub mod Holding
 pub mod Changes
+pub mod OneVerdict

@@ -270,12 +270,12 @@ some_plain (says.Close caller pipe) = omega arith
 some_plain (says.Share caller pipe) = omega arith
 some_plain (says.Shut caller) = omega arith
 
-registry_guessed : (body : List ℕ) (last : ℕ) (e : RegEntry) → is_event e ≡ true → body ++ last ∷ [] ≡ sentence (reg_words e) → guess_of (slice_split (λ b. b == 32) body) ≡ Some (guess.Registry e)
+pub registry_guessed : (body : List ℕ) (last : ℕ) (e : RegEntry) → is_event e ≡ true → body ++ last ∷ [] ≡ sentence (reg_words e) → guess_of (slice_split (λ b. b == 32) body) ≡ Some (guess.Registry e)
 registry_guessed body last e k line =
     let p = and_parts (has_text e) (fits e) k in
     ap guess_of (split_first body last (reg_words e) (registry_visible e p.0 p.1) line (some_registry e)) ∙ registry_again e p.0 p.1
 
-plain_guessed : (body : List ℕ) (last : ℕ) (p : PlainEvent) → plain_fits p ≡ true → body ++ last ∷ [] ≡ sentence (plain_words p) → guess_of (slice_split (λ b. b == 32) body) ≡ Some (guess.Board p)
+pub plain_guessed : (body : List ℕ) (last : ℕ) (p : PlainEvent) → plain_fits p ≡ true → body ++ last ∷ [] ≡ sentence (plain_words p) → guess_of (slice_split (λ b. b == 32) body) ≡ Some (guess.Board p)
 plain_guessed body last p f line = ap guess_of (split_first body last (plain_words p) (plain_visible p f) line (some_plain p)) ∙ plain_event_again p f
 
 -- the guess at an event's own line is that event

@@ -9,7 +9,8 @@ ghost use Rattle.board.specs.Legal.{LegalBoard};
 ghost use Rattle.board.specs.Legal as board;
 ghost use Rattle.trace_text.specs.Trace.{trace_of, has_text, AreEvents};
 ghost use Rattle.trace_check.specs.Known.{with_lines};
-ghost use Rattle.trace_check.specs.Verdicts.{IsLegalTrace};
+ghost use Rattle.trace_check.specs.declared.verdict.TraceVerdict.{TraceVerdict};
+ghost use Rattle.trace_check.specs.Verdicts.{IsLegalTrace, IsVerdict};
 ghost use Rattle.trace_check.specs.RegReasons as reg;
 ghost use Rattle.trace_check.specs.BoardReasons as brd;
 
@@ -20,6 +21,11 @@ use trace_text::Lined;
 pub fn asks_are_lines<A: Lined>()
     ensures legal { (h : List (BoardEntry A)) → LegalBoard h ↔ LegalBoard (with_lines A.line h) }
     ensures traced { (r : List RegEntry) (h : List (BoardEntry A)) → AreEvents A.line r h → LegalReg r → LegalBoard h → IsLegalTrace (trace_of A.line r h) }
+{}
+
+/// A text has one verdict.
+pub fn one_verdict()
+    ensures { (text : List ℕ) (v w : TraceVerdict) → IsVerdict text v → IsVerdict text w → v ≡ w }
 {}
 
 /// An event of a registry is right exactly where none of its four parts is missing.

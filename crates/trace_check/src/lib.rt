@@ -17,7 +17,7 @@ mod table;
 mod tests;
 mod verdict;
 
-pub use laws::{asks_are_lines, board_reasons, registry_reasons};
+pub use laws::{asks_are_lines, board_reasons, one_verdict, registry_reasons};
 pub use lines::{Event, Known};
 pub use reading::{Events, Reading, read_trace};
 pub use reason::Reason;
