@@ -1,28 +1,22 @@
 -- The first line that no trace can have.
-use Rattle.std.proofs.Common.{◌≡◌, ◌≢◌, ℕ, zero, suc, ◌+◌, ◌-◌, ◌<◌, ◌≤◌, Bool, true, false, not, cond, ◌&&◌, List, [], ◌∷◌, ◌++◌, length, take, drop, map, get_or, Option, Some, None, refl, sym, ◌∙◌, ap, subst, arith, inl, inr, ◌⊎◌, append-nil, append_assoc, Bor, length-append}
-use Rattle.std.specs.Prelude.{◌==◌, codes}
-use Rattle.std.specs.Fmt.{decimal}
-use Rattle.std.specs.List.{list_all, flat_map, join_with_byte}
+use Rattle.std.proofs.Common.{◌≡◌, ℕ, zero, suc, ◌+◌, ◌-◌, ◌<◌, ◌≤◌, Bool, true, false, not, List, [], ◌∷◌, ◌++◌, length, map, Some, None, refl, sym, ◌∙◌, ap, subst, arith, inl, inr, ◌⊎◌, append-nil, append_assoc, Bor}
+use Rattle.std.specs.Prelude.{◌==◌}
+use Rattle.std.specs.List.{list_all}
 use Rattle.std.proofs.lemmas.Bool.{and_parts, and_from, cases_lt, eqb-true}
-use Rattle.std.proofs.lemmas.List.{length_push, length-map, map-append}
+use Rattle.std.proofs.lemmas.List.{length_push}
 use Rattle.alg_registry.specs.declared.entry.RegEntry.{RegEntry}
 use Rattle.alg_registry.specs.declared.entry.RegEntry.TheVariants.{Enlist, Look, Claim, End, Waited, Unlist, Get, Put, Refs}
 use Rattle.alg_registry.specs.declared.entry.RegEntry.TheVariants as reg
 use Rattle.board.specs.declared.entry.BoardEntry.{BoardEntry}
 use Rattle.board.specs.declared.entry.BoardEntry.TheVariants.{Born, Submit, Take, Finish, Enq, Deq, Done, Hold, Go, Collect, Close, Share, Shut}
 use Rattle.trace_check.specs.declared.lines.Known.{Known}
-use Rattle.trace_check.specs.declared.lines.Event.{Event}
 use Rattle.trace_check.specs.declared.lines.Event.TheVariants as event
-use Rattle.trace_text.specs.Text.{sentence, reg_words, board_words}
-use Rattle.trace_text.specs.Trace.{trace_of, has_text, fits, board_fits, is_event, is_visible, AreEvents}
+use Rattle.trace_text.specs.Trace.{trace_of, board_fits, is_event, AreEvents}
 use Rattle.trace_check.specs.Lines.{line_of, IsLineOf, IsReadAs}
-use Rattle.trace_check.specs.Verdicts.{IsTraceOf, IsTrace, HasFront, BeginsWith, IsFirstBad}
+use Rattle.trace_check.specs.Verdicts.{IsTraceOf, HasFront, BeginsWith, IsFirstBad}
 use Rattle.trace_check.specs.Reading.{IsOneLine, IsCut}
-use Rattle.trace_check.proofs.Numerals.{words_unlike, is_not}
-use Rattle.trace_check.proofs.LineWords.{AreVisible, registry_visible, plain_visible}
-use Rattle.trace_check.proofs.Guesses.{plain_of, plain_is}
-use Rattle.trace_check.proofs.Cuts.{fed, text_of, AreLines, SameCut, same_cut, NextLine, next_line, none_behind}
-use Rattle.trace_check.proofs.Traces.{IsSoFar, reg_line, board_line, lines, trace_lines, are_lines, count_lines, Ends, ends_of, all_front, board_more, reg_more, one_reg, one_board}
+use Rattle.trace_check.proofs.Cuts.{fed, text_of, same_cut, NextLine, next_line, none_behind}
+use Rattle.trace_check.proofs.Traces.{IsSoFar, reg_line, board_line, lines, trace_lines, are_lines, count_lines, ends_of, all_front, board_more, reg_more, one_reg, one_board}
 
 -- what comes next in a trace that goes on: an event of the board, or one of the registry where only such came before
 pub record NextBoard (rest : List ℕ) : Type 0 where

@@ -1,43 +1,28 @@
 -- What the checker keeps of a board goes on with a right event.
-use Rattle.std.proofs.Common.{◌≡◌, ◌≢◌, ℕ, zero, suc, ◌+◌, ◌-◌, ◌<◌, ◌≤◌, ◌^◌, Bool, true, false, not, cond, ◌&&◌, ◌||◌, List, [], ◌∷◌, ◌++◌, length, map, take, Option, Some, None, is_some, refl, sym, ◌∙◌, ap, subst, arith, inl, inr, ◌⊎◌, get_or, append-nil, append_assoc}
-use Rattle.std.specs.Prelude.{◌==◌, nat_lt, nat_le, slice_get, slice_set, MatchOption, ⊤}
-use Rattle.std.specs.Bool.{Decides}
+use Rattle.std.proofs.Common.{◌≡◌, ℕ, suc, ◌+◌, ◌<◌, ◌≤◌, ◌^◌, Bool, true, false, ◌||◌, List, [], ◌∷◌, ◌++◌, length, take, Option, Some, None, refl, sym, ◌∙◌, ap, subst, arith, inl, inr, ◌⊎◌, get_or}
+use Rattle.std.specs.Prelude.{◌==◌, slice_get, slice_set, MatchOption}
 use Rattle.std.specs.List.{filter, filter_map}
-use Rattle.std.specs.Option.{option_map, option_map_or}
-use Rattle.std.proofs.lemmas.Bool.{cases_eq, eq-eqb, ne_eqb, eqb-true, and_parts}
-use Rattle.std.proofs.lemmas.Bool.Decides.{Decides-eqb, Decides-ltb, Decides-and, Decides-not, Decides-like}
-use Rattle.std.proofs.lemmas.List.{map-set, length-set, length_push, take_more, take_all, length-take}
+use Rattle.std.proofs.lemmas.Bool.{cases_eq, eq-eqb}
+use Rattle.std.proofs.lemmas.List.{length-set, length_push, take_more, take_all, length-take}
 use Rattle.std.proofs.lemmas.List.Folds.{list_any-append}
-use Rattle.std.proofs.lemmas.Option.{slice_get-get_or, slice_get-map, slice_get_past, slice_get_within}
+use Rattle.std.proofs.lemmas.Option.{slice_get-get_or}
 use Rattle.board.specs.declared.entry.Shape.{Shape}
-use Rattle.board.specs.declared.entry.Shape.TheVariants.{Pad, Queue}
-use Rattle.board.specs.declared.entry.Entered.{Entered}
-use Rattle.board.specs.declared.entry.Entered.TheVariants.{InProgress, Busy, NoSpace}
 use Rattle.board.specs.declared.entry.BoardEntry.{BoardEntry}
 use Rattle.board.specs.declared.entry.BoardEntry.TheVariants.{Born, Submit, Take, Finish, Enq, Deq, Done, Hold, Go, Collect, Close, Share, Shut}
-use Rattle.board.specs.Entries.{is_of, entries_of, birth_in, birth, pad_born, queue_born, submissions, takings, takers, finished, has, front, told_in, told, verdict, collected, is_held, is_closed, is_shared}
-use Rattle.board.specs.Legal.{IsNoWorker, IsMaker, maker_is, MaySubmit, MayManage, IsOpenPad, IsOpenQueue, IsOpen, pipelines, is_shut_entry, is_shut, IsRight, IsRightFor, AreRightAfter, LegalBoard}
-use Rattle.board.specs.Legal as legal
+use Rattle.board.specs.Entries.{is_of, entries_of, birth_in, told_in}
+use Rattle.board.specs.Legal.{is_shut_entry, is_shut, IsRight, LegalBoard}
 use Rattle.board.proofs.Transfer.{entries-more, entries-same}
-use Rattle.board.proofs.PadOrder.{filter_map-none, filter_map-some, last_or-append}
-use Rattle.board.proofs.Kept.{legal_more, only_of, not_shut, shut-same}
+use Rattle.board.proofs.PadOrder.{filter_map-none, filter_map-some}
+use Rattle.board.proofs.Kept.{legal_more, only_of, shut-same}
 use Rattle.board.proofs.KeptSubmit.{filter_map-at_most}
-use Rattle.trace_check.specs.declared.pipe.Progress.{Progress}
-use Rattle.trace_check.specs.declared.pipe.Progress.TheVariants.{Waits, Runs, Ended}
-use Rattle.trace_check.specs.declared.pipe.Pipe.{Pipe}
 use Rattle.trace_check.specs.declared.reason.Reason.{Reason}
-use Rattle.trace_check.specs.declared.reason.Reason.TheVariants.{State, Caller, Number, Answer}
-use Rattle.trace_check.specs.Reasons.{IsFirstMissing}
-use Rattle.trace_check.specs.BoardReasons.{HasState, HasCaller, HasNumber, HasAnswer, IsNumbered, verdict_word, IsWrong, IsFirstWrong}
-use Rattle.trace_check.specs.Pipes.{PipeState, state_of, new_pipe, is_pad, size_of, is_worker, passes, waits, runs, ended_run, has_state, has_caller, has_number, has_answer, reason_of, judged_on, judged_at, pipe_of, judged, with_request, with_entered, with_taken, with_ended, front_moved, CanCount, AllCanCount, after, is_shut_by, after_at, pipes_after}
-use Rattle.trace_check.proofs.Places.{get-set_same, get-set_other, get-push_same, get-push_other, run-push, run-taken, run-ended, run_within}
-use Rattle.trace_check.proofs.Standing.{IsAt, AreRequests, IsMarked, IsPipe, requests_stay, marks_stay}
-use Rattle.trace_check.proofs.Requests.{requests_accepted, requests_taken, requests_ended}
-use Rattle.trace_check.proofs.Deciding.{decides_true, decides_false, dec_pad, dec_queue, dec_open_pad, dec_open_queue, dec_open, dec_untaken, dec_running, dec_taker, dec_may_serve, dec_may_close, dec_no_worker, dec_may_manage, dec_may_submit, dec_next, dec_numbered, dec_dequeued, dec_collected, dec_answered}
-use Rattle.std.proofs.lemmas.List.Sums.{length-filter}
+use Rattle.trace_check.specs.BoardReasons.{IsWrong, IsFirstWrong}
+use Rattle.trace_check.specs.Pipes.{PipeState, new_pipe, pipe_of, judged, CanCount, AllCanCount, after, is_shut_by, after_at, pipes_after}
+use Rattle.trace_check.proofs.Places.{get-set_same, get-set_other, get-push_same, get-push_other, run_within}
+use Rattle.trace_check.proofs.Standing.{IsPipe}
 use Rattle.std.proofs.lemmas.Bool.{cond_both}
-use Rattle.board.specs.Entries.{accepted_in, taken_in, finished_in}
-use Rattle.trace_check.proofs.Judging.{IsBoard, IsPlace, HasAll, IsJudged, is_inner, no_state, dec_state, dec_number, judged_is}
+use Rattle.board.specs.Entries.{taken_in, finished_in}
+use Rattle.trace_check.proofs.Judging.{IsBoard, IsPlace, is_inner, no_state, dec_state, dec_number}
 use Rattle.trace_check.proofs.Parts.{right_has_all, judged_right, judged_wrong}
 use Rattle.trace_check.proofs.Stepping.{pipe_step}
 

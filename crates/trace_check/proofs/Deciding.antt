@@ -1,25 +1,25 @@
 -- The checker's tests on a pipeline decide what its entries say.
-use Rattle.std.proofs.Common.{◌≡◌, ◌≢◌, ℕ, zero, suc, ◌+◌, ◌-◌, ◌<◌, ◌≤◌, Bool, true, false, not, cond, ◌&&◌, ◌||◌, List, [], ◌∷◌, ◌++◌, length, Option, Some, None, refl, sym, ◌∙◌, ap, subst, arith, inl, inr, ◌⊎◌}
-use Rattle.std.specs.Prelude.{◌==◌, nat_lt, nat_le, slice_get, ⊤}
+use Rattle.std.proofs.Common.{◌≡◌, ℕ, zero, suc, ◌+◌, ◌-◌, ◌<◌, ◌≤◌, Bool, true, false, not, cond, ◌&&◌, List, [], ◌∷◌, length, Option, Some, None, refl, sym, ◌∙◌, ap, subst, arith, inl, inr, ◌⊎◌}
+use Rattle.std.specs.Prelude.{◌==◌, nat_lt, nat_le, slice_get}
 use Rattle.std.specs.Bool.{Decides}
 use Rattle.std.specs.List.{filter_map}
 use Rattle.std.specs.Option.{option_map_or}
-use Rattle.std.proofs.lemmas.Bool.{cases_lt, lt-ltb, le-ltb, le-leb, lt-leb, ltb-true, leb-true, leb-false}
-use Rattle.std.proofs.lemmas.Bool.Decides.{Decides-eqb, Decides-ltb, Decides-and, Decides-or, Decides-not, Decides-like}
-use Rattle.std.proofs.lemmas.Option.{slice_get_cases, slice_get_within}
+use Rattle.std.proofs.lemmas.Bool.{cases_lt, le-leb, lt-leb}
+use Rattle.std.proofs.lemmas.Bool.Decides.{Decides-eqb, Decides-ltb, Decides-and, Decides-or, Decides-like}
+use Rattle.std.proofs.lemmas.Option.{slice_get_within}
 use Rattle.board.specs.declared.entry.Shape.{Shape}
 use Rattle.board.specs.declared.entry.Shape.TheVariants.{Pad, Queue}
 use Rattle.board.specs.declared.entry.Entered.{Entered}
 use Rattle.board.specs.declared.entry.Entered.TheVariants.{InProgress, Busy, NoSpace}
 use Rattle.board.specs.declared.entry.BoardEntry.{BoardEntry}
-use Rattle.board.specs.Entries.{birth, pad_born, queue_born, max_born, submissions, takings, takers, finished, has, front, completes_below, told_in, told, verdict, waiting, starts, collected, is_held, is_closed, is_shared}
+use Rattle.board.specs.Entries.{birth, pad_born, queue_born, max_born, submissions, takings, takers, front, completes_below, told_in, told, verdict, waiting, starts, is_held, is_closed, is_shared}
 use Rattle.board.specs.Legal.{IsNoWorker, IsMaker, maker_is, MaySubmit, MayManage, IsOpenPad, IsOpenQueue, IsOpen}
 use Rattle.board.proofs.PadOrder.{length-completes}
 use Rattle.trace_check.specs.declared.pipe.Progress.{Progress}
 use Rattle.trace_check.specs.declared.pipe.Progress.TheVariants.{Waits, Runs, Ended}
 use Rattle.trace_check.specs.BoardReasons.{IsUntaken, IsRunning, MayServe, MayClose, IsNumbered, verdict_word}
-use Rattle.trace_check.specs.Pipes.{PipeState, is_pad, bound_of, is_open_pad, is_open_queue, waits, runs, runs_by, passes, backlog_of, told_by, starts_by, may_serve, may_close, is_worker, may_manage, may_submit, same_number, is_numbered, is_answered, ended_run}
-use Rattle.trace_check.proofs.Standing.{IsAt, AreRequests, IsMarked, IsPipe}
+use Rattle.trace_check.specs.Pipes.{PipeState, is_pad, bound_of, is_open_pad, is_open_queue, waits, runs, runs_by, passes, backlog_of, told_by, starts_by, may_serve, may_close, is_worker, may_manage, may_submit, same_number, is_numbered, is_answered}
+use Rattle.trace_check.proofs.Standing.{IsAt, IsPipe}
 use Rattle.trace_check.proofs.Requests.{front_is}
 
 pub decides_true : {P : Type 0} → P → Decides true P

@@ -1,12 +1,12 @@
 -- An event's own words are read as that event.
-use Rattle.std.proofs.Common.{◌≡◌, ℕ, ◌+◌, ◌^◌, ◌<◌, ◌≤◌, Bool, true, false, not, cond, ◌&&◌, List, [], ◌∷◌, ◌++◌, length, map, Option, Some, None, refl, sym, ◌∙◌, ap, subst, arith}
-use Rattle.std.specs.Prelude.{◌==◌, nat_lt, codes}
+use Rattle.std.proofs.Common.{◌≡◌, ℕ, Bool, true, false, ◌&&◌, List, [], ◌∷◌, length, Option, Some, None, refl, sym, ◌∙◌, ap, arith}
+use Rattle.std.specs.Prelude.{◌==◌, codes}
 use Rattle.std.specs.Fmt.{decimal}
-use Rattle.std.specs.List.{list_all, join_with_byte, slice_split}
+use Rattle.std.specs.List.{list_all}
 use Rattle.std.specs.Option.{option_map}
 use Rattle.std.specs.Str.{bytes_eq}
 use Rattle.std.specs.Arc.{arc_value}
-use Rattle.std.proofs.lemmas.Bool.{and_parts, and_from, eqb-true}
+use Rattle.std.proofs.lemmas.Bool.{and_parts, eqb-true}
 use Rattle.kc_base.specs.Errno.{name_of}
 use Rattle.kc_base.specs.declared.error_numbers.Errno.{Errno}
 use Rattle.kc_base.specs.declared.error_numbers.Errno.TheVariants.{ENOENT, E2BIG, EAGAIN, EBUSY, EEXIST, EINVAL, ENFILE, EMFILE, ENOSPC, ENAMETOOLONG, EBADMSG, EINPROGRESS, ENOKEY}
@@ -32,14 +32,13 @@ use Rattle.board.specs.declared.entry.BoardEntry.{BoardEntry}
 use Rattle.board.specs.declared.entry.BoardEntry.TheVariants.{Born, Submit, Take, Finish, Enq, Deq, Done, Hold, Go, Collect, Close, Share, Shut}
 use Rattle.trace_check.specs.declared.guessing.Plain.{Plain as PlainEvent}
 use Rattle.trace_check.specs.declared.guessing.Plain.TheVariants as says
-use Rattle.trace_check.specs.declared.lines.Guess.{Guess}
 use Rattle.trace_check.specs.declared.lines.Guess.TheVariants as guess
 use Rattle.trace_check.specs.declared.lines.Known.{Known}
-use Rattle.trace_text.specs.Text.{sentence, kind_word, wrap_word, ids_word, plain_word, get_word, enlisted_words, looked_words, end_words, unlisted_words, reg_words, shape_words, backlog_word, entered_words, started_words, board_words}
-use Rattle.trace_text.specs.Trace.{is_visible, is_word, has_words, is_unwrapped, end_has_text, has_text, is_u32, is_u64, spec_fits, enlisted_fits, looked_fits, end_fits, option_fits, fits, shape_fits, entered_fits, board_fits, is_event}
-use Rattle.trace_check.specs.Guessing.{number_of, small_of, ids_of, kind_of, wrap_of, errno_of, enlisted_of, looked_of, ending_of, registry_of, shape_of, entered_of, started_of, board_of, plain_words}
-use Rattle.trace_check.specs.Lines.{line_of, guess_of, guess_words, plain_fits}
-use Rattle.trace_check.proofs.Numerals.{number_again, small_again, ids_again, visible_decimal, visible_small, visible_ids}
+use Rattle.trace_text.specs.Text.{kind_word, wrap_word, ids_word, plain_word, get_word, enlisted_words, looked_words, reg_words, shape_words, backlog_word, entered_words, started_words, board_words}
+use Rattle.trace_text.specs.Trace.{has_words, is_unwrapped, has_text, is_u32, is_u64, spec_fits, enlisted_fits, looked_fits, end_fits, option_fits, fits, shape_fits, entered_fits, board_fits}
+use Rattle.trace_check.specs.Guessing.{number_of, small_of, ids_of, kind_of, wrap_of, errno_of, enlisted_of, looked_of, entered_of, started_of, board_of, plain_words}
+use Rattle.trace_check.specs.Lines.{line_of, guess_of, plain_fits}
+use Rattle.trace_check.proofs.Numerals.{number_again, small_again, ids_again}
 
 kind_again : (kind : Kind) → kind_of (kind_word kind) ≡ kind
 kind_again Cipher = refl

@@ -1,12 +1,9 @@
 -- An event's words are printed, and its line is cut into them again.
-use Rattle.std.proofs.Common.{◌≡◌, ℕ, ◌+◌, ◌^◌, ◌<◌, ◌≤◌, Bool, true, false, not, cond, ◌&&◌, List, [], ◌∷◌, ◌++◌, length, map, Option, Some, None, refl, sym, ◌∙◌, ap, subst, arith}
+use Rattle.std.proofs.Common.{◌≡◌, ℕ, ◌<◌, Bool, true, false, ◌&&◌, List, [], ◌∷◌, ◌++◌, length, Option, Some, None, refl, sym, ◌∙◌, ap, subst, arith}
 use Rattle.std.specs.Prelude.{◌==◌, nat_lt, codes}
 use Rattle.std.specs.Fmt.{decimal}
 use Rattle.std.specs.List.{list_all, join_with_byte, slice_split}
-use Rattle.std.specs.Option.{option_map}
-use Rattle.std.specs.Str.{bytes_eq}
-use Rattle.std.specs.Arc.{arc_value}
-use Rattle.std.proofs.lemmas.Bool.{and_parts, and_from, eqb-true}
+use Rattle.std.proofs.lemmas.Bool.{and_parts, and_from}
 use Rattle.kc_base.specs.Errno.{name_of}
 use Rattle.kc_base.specs.declared.error_numbers.Errno.{Errno}
 use Rattle.kc_base.specs.declared.error_numbers.Errno.TheVariants.{ENOENT, E2BIG, EAGAIN, EBUSY, EEXIST, EINVAL, ENFILE, EMFILE, ENOSPC, ENAMETOOLONG, EBADMSG, EINPROGRESS, ENOKEY}
@@ -14,7 +11,6 @@ use Rattle.alg_registry.specs.declared.spec.Kind.{Kind}
 use Rattle.alg_registry.specs.declared.spec.Kind.TheVariants.{Cipher, Hash, Ghash, Skcipher, Aead, Mac}
 use Rattle.alg_registry.specs.declared.spec.Wrap.{Wrap}
 use Rattle.alg_registry.specs.declared.spec.Wrap.TheVariants.{Plain, Pcrypt, Cryptd}
-use Rattle.alg_registry.specs.declared.spec.Spec.{Spec}
 use Rattle.alg_registry.specs.declared.entry.Looked.{Looked}
 use Rattle.alg_registry.specs.declared.entry.Looked.TheVariants.{Found, Pending, Began, Absent}
 use Rattle.alg_registry.specs.declared.entry.Enlisted.{Enlisted}
@@ -28,23 +24,20 @@ use Rattle.board.specs.declared.entry.Shape.{Shape}
 use Rattle.board.specs.declared.entry.Shape.TheVariants.{Pad, Queue}
 use Rattle.board.specs.declared.entry.Entered.{Entered}
 use Rattle.board.specs.declared.entry.Entered.TheVariants.{InProgress, Busy, NoSpace}
-use Rattle.board.specs.declared.entry.BoardEntry.{BoardEntry}
-use Rattle.board.specs.declared.entry.BoardEntry.TheVariants.{Born, Submit, Take, Finish, Enq, Deq, Done, Hold, Go, Collect, Close, Share, Shut}
 use Rattle.trace_check.specs.declared.guessing.Plain.{Plain as PlainEvent}
 use Rattle.trace_check.specs.declared.guessing.Plain.TheVariants as says
 use Rattle.trace_check.specs.declared.lines.Guess.{Guess}
 use Rattle.trace_check.specs.declared.lines.Guess.TheVariants as guess
-use Rattle.trace_check.specs.declared.lines.Known.{Known}
-use Rattle.trace_text.specs.Text.{sentence, kind_word, wrap_word, ids_word, plain_word, get_word, enlisted_words, looked_words, end_words, unlisted_words, reg_words, shape_words, backlog_word, entered_words, started_words, board_words}
-use Rattle.trace_text.specs.Trace.{is_visible, is_word, has_words, is_unwrapped, end_has_text, has_text, is_u32, is_u64, spec_fits, enlisted_fits, looked_fits, end_fits, option_fits, fits, shape_fits, entered_fits, board_fits, is_event}
-use Rattle.trace_check.specs.Guessing.{number_of, small_of, ids_of, kind_of, wrap_of, errno_of, enlisted_of, looked_of, ending_of, registry_of, shape_of, entered_of, started_of, board_of, plain_words}
-use Rattle.trace_check.specs.Lines.{line_of, guess_of, guess_words, plain_fits}
-use Rattle.trace_check.proofs.Numerals.{number_again, small_again, ids_again, visible_decimal, visible_small, visible_ids}
+use Rattle.trace_text.specs.Text.{sentence, kind_word, wrap_word, ids_word, plain_word, get_word, enlisted_words, looked_words, end_words, unlisted_words, reg_words, shape_words, backlog_word, entered_words, started_words}
+use Rattle.trace_text.specs.Trace.{is_visible, is_word, has_words, is_unwrapped, end_has_text, has_text, is_u32, is_u64, spec_fits, enlisted_fits, looked_fits, end_fits, option_fits, fits, shape_fits, entered_fits, is_event}
+use Rattle.trace_check.specs.Guessing.{plain_words}
+use Rattle.trace_check.specs.Lines.{guess_of, guess_words, plain_fits}
+use Rattle.trace_check.proofs.Numerals.{visible_decimal, visible_small, visible_ids}
 use Rattle.std.proofs.lemmas.List.{length_push}
 use Rattle.trace_check.specs.declared.lines.Event.{Event}
 use Rattle.trace_check.specs.declared.lines.Event.TheVariants as event
 use Rattle.trace_check.specs.Lines.{guess_fits, IsLineOf, IsReadAs}
-use Rattle.trace_check.proofs.Numerals.{is_not, cut_joined, words_unlike}
+use Rattle.trace_check.proofs.Numerals.{cut_joined, words_unlike}
 use Rattle.trace_check.proofs.Guesses.{registry_again, plain_event_again, plain_of, plain_is}
 
 abbrev Visible : List ℕ → Type 0

@@ -1,6 +1,6 @@
 -- A text has one verdict.
-use Rattle.std.proofs.Common.{◌≡◌, ℕ, zero, suc, ◌+◌, ◌-◌, ◌<◌, ◌≤◌, ◌⊎◌, inl, inr, Bool, true, false, not, ◌&&◌, List, [], ◌∷◌, ◌++◌, length, map, take, Option, Some, None, refl, sym, ◌∙◌, ap, subst, arith, append-nil, append_assoc}
-use Rattle.std.specs.Prelude.{⊤, ◌==◌, slice_get, MatchOption}
+use Rattle.std.proofs.Common.{◌≡◌, ℕ, zero, suc, ◌+◌, ◌-◌, ◌<◌, ◌≤◌, ◌⊎◌, inl, inr, Bool, true, false, not, List, [], ◌∷◌, ◌++◌, length, map, take, Option, Some, None, refl, sym, ◌∙◌, ap, subst, arith, append-nil, append_assoc}
+use Rattle.std.specs.Prelude.{◌==◌, slice_get, MatchOption}
 use Rattle.std.specs.List.{list_all, slice_split, filter_map}
 use Rattle.std.proofs.lemmas.Bool.{and_parts}
 use Rattle.std.proofs.lemmas.List.{map-append}
@@ -11,9 +11,9 @@ use Rattle.alg_registry.specs.declared.entry.RegEntry.{RegEntry}
 use Rattle.alg_registry.specs.Legal as registry
 use Rattle.board.specs.declared.entry.BoardEntry.{BoardEntry}
 use Rattle.board.specs.declared.entry.BoardEntry.TheVariants.{Born, Submit, Take, Finish, Enq, Deq, Done, Hold, Go, Collect, Close, Share, Shut}
-use Rattle.board.specs.Legal.{IsRight, AreRightAfter, LegalBoard}
-use Rattle.trace_text.specs.Text.{sentence, reg_words, board_words}
-use Rattle.trace_text.specs.Trace.{trace_of, is_event, board_fits, AreEvents}
+use Rattle.board.specs.Legal.{AreRightAfter}
+use Rattle.trace_text.specs.Text.{sentence}
+use Rattle.trace_text.specs.Trace.{is_event, board_fits, AreEvents}
 use Rattle.trace_check.specs.declared.reason.Reason.{Reason}
 use Rattle.trace_check.specs.declared.reason.Reason.TheVariants.{State, Caller, Number, Answer}
 use Rattle.trace_check.specs.declared.lines.Known.{Known}
@@ -28,12 +28,12 @@ use Rattle.trace_check.specs.RegReasons as reg
 use Rattle.trace_check.specs.BoardReasons as brd
 use Rattle.trace_check.specs.Pipes.{PipeState, judged_on, judged_at, judged, pipes_after, is_shut_by}
 use Rattle.trace_check.specs.Lines.{line_of, guess_of}
-use Rattle.trace_check.specs.Verdicts.{IsTraceOf, IsTrace, BeginsWith, IsFirstBad, IsWrongIn, IsVerdict, AreJudged}
+use Rattle.trace_check.specs.Verdicts.{IsTraceOf, BeginsWith, IsFirstBad, IsVerdict, AreJudged}
 use Rattle.trace_check.proofs.Judging.{IsBoard}
 use Rattle.trace_check.proofs.Parts.{judged_right, judged_wrong, wrong_not_right}
 use Rattle.trace_check.proofs.RegParts as reg_parts
 use Rattle.trace_check.proofs.Boarding.{board_step, board_empty}
-use Rattle.trace_check.proofs.Cuts.{fed, text_of, AreLines, same_cut, feed_then, some_fed}
+use Rattle.trace_check.proofs.Cuts.{text_of, AreLines, same_cut, feed_then, some_fed}
 use Rattle.trace_check.proofs.Traces.{reg_line, board_line, lines, trace_lines, are_lines}
 use Rattle.trace_check.proofs.Guesses.{plain_of, plain_is}
 use Rattle.trace_check.proofs.LineWords.{registry_guessed, plain_guessed}

@@ -1,10 +1,10 @@
 -- The tests on the checker's table of a registry decide the four parts.
-use Rattle.std.proofs.Common.{◌≡◌, ◌≢◌, ℕ, zero, suc, ◌+◌, ◌-◌, ◌<◌, ◌≤◌, Bool, true, false, not, cond, ◌&&◌, ◌||◌, List, [], ◌∷◌, ◌++◌, length, map, Option, Some, None, is_some, is_none, refl, sym, ◌∙◌, ap, subst, arith, inl, inr, ◌⊎◌}
-use Rattle.std.specs.Prelude.{◌==◌, nat_lt, nat_le, slice_get, ⊤, count_by, codes, IsTrue, IsFalse, IsSome}
+use Rattle.std.proofs.Common.{◌≡◌, ℕ, ◌+◌, ◌<◌, Bool, true, false, not, cond, ◌&&◌, ◌||◌, List, [], ◌∷◌, length, map, Option, Some, None, is_some, is_none, refl, sym, ◌∙◌, ap, subst, arith}
+use Rattle.std.specs.Prelude.{◌==◌, nat_le, slice_get, count_by, IsTrue, IsSome}
 use Rattle.std.specs.Bool.{Decides}
 use Rattle.std.specs.List.{list_any, list_all}
 use Rattle.std.specs.Option.{option_map_or, option_and_then}
-use Rattle.std.proofs.lemmas.Bool.{and_parts, and_from, not-true, not-false, eq-eqb, or_right}
+use Rattle.std.proofs.lemmas.Bool.{eq-eqb, or_right}
 use Rattle.std.proofs.lemmas.Bool.Decides.{Decides-eqb, Decides-and, Decides-like}
 use Rattle.alg_registry.specs.declared.spec.Spec.{Spec}
 use Rattle.alg_registry.specs.declared.row.Row.{Row}
@@ -19,21 +19,20 @@ use Rattle.alg_registry.specs.declared.entry.EndAnswer.TheVariants.{Built, Joine
 use Rattle.alg_registry.specs.declared.entry.RegEntry.{RegEntry}
 use Rattle.alg_registry.specs.declared.entry.RegEntry.TheVariants.{Enlist, Look, Claim, End, Waited, Unlist, Get, Put, Refs}
 use Rattle.alg_registry.specs.declared.entry.RegEntry.TheVariants as reg
-use Rattle.alg_registry.specs.Rows.{rows_of, larvals_of, is_listed, listed_at, counted}
+use Rattle.alg_registry.specs.Rows.{rows_of, larvals_of, listed_at}
 use Rattle.alg_registry.specs.Answers.{look_answer, enlist_answer, built_answer, joined_or_built, driver_place, clashes_with, held_count}
 use Rattle.alg_registry.specs.Legal as legal
 use Rattle.alg_registry.specs.Legal.{IsPending, claimer, ended_as, gets_as, puts_as, HasReference}
-use Rattle.alg_registry.specs.Kept.{IsKept}
 use Rattle.trace_check.specs.declared.reason.Reason.{Reason}
 use Rattle.trace_check.specs.declared.register.Reference.{Reference}
 use Rattle.trace_check.specs.RegReasons.{IsReferenced, HasState, HasCaller, SameFound, SameMade, SameUnlisted, IsEndNumbered, HasNumber, made_word, found_word, builds, IsEndAnswered, HasAnswer, IsWrong}
 use Rattle.trace_check.specs.Pipes.{is_worker, same_number}
 use Rattle.trace_check.specs.Registers.{unreferred, is_free, is_being_built, has_ended, is_claimed_by, passes, is_to, is_of, is_full, enlisted_by, builds_by, same_made, alike_made, same_found, alike_found, same_place, alike_place, same_flag, has_state, has_caller, end_numbered, has_number, end_answered, has_answer, judged}
 use Rattle.trace_check.proofs.Deciding.{decides_true, decides_false}
-use Rattle.trace_check.proofs.RegTable.{IsMarkTable, look-table, clash-table, driver-table, listed-table, length-table, held-table}
+use Rattle.trace_check.proofs.RegTable.{look-table, clash-table, driver-table, listed-table, length-table, held-table}
 use Rattle.kc_base.specs.declared.error_numbers.Errno.TheVariants.{EAGAIN, EEXIST, ENFILE}
 use Rattle.trace_check.proofs.Judging.{first_missing, none_missing}
-use Rattle.trace_check.proofs.RegParts.{second, apart_at}
+use Rattle.trace_check.proofs.RegParts.{apart_at}
 
 -- Larvals.
 dec_free_at : (o : Option Larval) → Decides (option_map_or is_free o false) (IsTrue (option_map_or (λ larval. is_none larval.ended) o false) × (option_and_then (λ larval. larval.claimed) o ≡ None))

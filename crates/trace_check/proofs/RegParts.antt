@@ -1,6 +1,6 @@
 -- A registry's event is right where none of its four parts is missing.
-use Rattle.std.proofs.Common.{◌≡◌, ℕ, ◌+◌, ◌*◌, ◌<◌, ◌≤◌, Bool, true, false, not, cond, ◌&&◌, ◌||◌, List, [], ◌∷◌, ◌++◌, length, Option, Some, None, is_some, refl, sym, ◌∙◌, ap, subst, arith}
-use Rattle.std.specs.Prelude.{◌==◌, nat_le, codes, IsTrue, IsFalse, IsSome, ⊤}
+use Rattle.std.proofs.Common.{◌≡◌, ℕ, ◌+◌, ◌*◌, Bool, true, false, cond, ◌&&◌, List, [], ◌∷◌, length, Option, Some, None, is_some, refl, sym, ◌∙◌, ap, subst, arith}
+use Rattle.std.specs.Prelude.{◌==◌, nat_le, IsSome}
 use Rattle.std.specs.List.{list_all, list_any}
 use Rattle.std.proofs.lemmas.Bool.{and_parts, eqb-true, eq-eqb}
 use Rattle.kc_base.specs.declared.error_numbers.Errno.TheVariants.{EAGAIN, EEXIST, ENFILE}
@@ -17,14 +17,14 @@ use Rattle.alg_registry.specs.declared.entry.EndAnswer.TheVariants.{Built, Joine
 use Rattle.alg_registry.specs.declared.entry.RegEntry.{RegEntry}
 use Rattle.alg_registry.specs.declared.entry.RegEntry.TheVariants.{Enlist, Look, Claim, End, Waited, Unlist, Get, Put, Refs}
 use Rattle.alg_registry.specs.declared.entry.RegEntry.TheVariants as reg
-use Rattle.alg_registry.specs.Rows.{rows_of, larvals_of, is_listed, listed_at}
+use Rattle.alg_registry.specs.Rows.{rows_of, larvals_of, listed_at}
 use Rattle.alg_registry.specs.Answers.{look_answer, enlist_answer, built_answer, joined_or_built, driver_place, clashes_with, held_count}
-use Rattle.alg_registry.specs.Legal.{is_worker, IsPending, claimer, ended_as, HasReference, MayEnd, IsRight, LegalReg}
+use Rattle.alg_registry.specs.Legal.{claimer, MayEnd, IsRight}
 use Rattle.alg_registry.proofs.Existing.{built_id}
 use Rattle.trace_check.specs.declared.reason.Reason.{Reason}
 use Rattle.trace_check.specs.declared.reason.Reason.TheVariants.{State, Caller, Number, Answer}
 use Rattle.trace_text.specs.Trace.{has_text, is_unwrapped, has_words}
-use Rattle.trace_check.specs.RegReasons.{IsReferenced, HasState, HasCaller, SameFound, SameMade, SameUnlisted, IsEndNumbered, HasNumber, made_word, found_word, builds, IsEndAnswered, HasAnswer, IsWrong}
+use Rattle.trace_check.specs.RegReasons.{HasState, HasCaller, SameFound, SameMade, SameUnlisted, IsEndNumbered, HasNumber, made_word, found_word, builds, IsEndAnswered, HasAnswer, IsWrong}
 
 abbrev pub HasAll : List RegEntry → RegEntry → Type 0
 HasAll h e = HasState h e × HasCaller h e × HasNumber h e × HasAnswer h e

@@ -1,44 +1,31 @@
 -- The checker's table of a registry goes on with a right event.
-use Rattle.std.proofs.Common.{◌≡◌, ◌≢◌, ℕ, zero, suc, ◌+◌, ◌-◌, ◌<◌, ◌≤◌, Bool, true, false, not, cond, ◌&&◌, ◌||◌, List, [], ◌∷◌, ◌++◌, length, map, Option, Some, None, is_some, is_none, refl, sym, ◌∙◌, ap, subst, arith, inl, inr, ◌⊎◌}
-use Rattle.std.specs.Prelude.{◌==◌, nat_lt, nat_le, slice_get, ⊤, count_by, codes, IsTrue, IsFalse, IsSome}
-use Rattle.std.specs.Bool.{Decides}
-use Rattle.std.specs.List.{list_any, list_all}
+use Rattle.std.proofs.Common.{◌≡◌, ℕ, zero, suc, ◌+◌, Bool, true, false, not, cond, ◌&&◌, ◌||◌, List, [], ◌∷◌, ◌++◌, length, map, Option, Some, None, is_none, refl, sym, ◌∙◌, ap, subst, arith}
+use Rattle.std.specs.Prelude.{◌==◌, slice_get, IsTrue, IsFalse, IsSome}
+use Rattle.std.specs.List.{list_any}
 use Rattle.std.specs.Option.{option_map_or, option_and_then}
-use Rattle.std.proofs.lemmas.Bool.{and_parts, and_from, not-true, not-false, eq-eqb, or_right, eqb-true}
-use Rattle.std.proofs.lemmas.Bool.Decides.{Decides-eqb, Decides-and, Decides-like}
-use Rattle.alg_registry.specs.declared.spec.Spec.{Spec}
+use Rattle.std.proofs.lemmas.Bool.{and_parts, eqb-true}
 use Rattle.alg_registry.specs.declared.row.Row.{Row}
 use Rattle.alg_registry.specs.declared.row.Larval.{Larval}
 use Rattle.alg_registry.specs.declared.entry.Ended.{Ended}
-use Rattle.alg_registry.specs.declared.entry.Looked.{Looked}
 use Rattle.alg_registry.specs.declared.entry.Looked.TheVariants.{Found, Pending, Began, Absent}
-use Rattle.alg_registry.specs.declared.entry.Enlisted.{Enlisted}
 use Rattle.alg_registry.specs.declared.entry.Enlisted.TheVariants.{Made, Exist, NFile}
-use Rattle.alg_registry.specs.declared.entry.EndAnswer.{EndAnswer}
 use Rattle.alg_registry.specs.declared.entry.EndAnswer.TheVariants.{Built, Joined, Failed, NoMemory}
 use Rattle.alg_registry.specs.declared.entry.RegEntry.{RegEntry}
 use Rattle.alg_registry.specs.declared.entry.RegEntry.TheVariants.{Enlist, Look, Claim, End, Waited, Unlist, Get, Put, Refs}
 use Rattle.alg_registry.specs.declared.entry.RegEntry.TheVariants as reg
-use Rattle.alg_registry.specs.Rows.{rows_of, larvals_of, is_listed, listed_at, counted}
-use Rattle.alg_registry.specs.Answers.{look_answer, enlist_answer, built_answer, joined_or_built, driver_place, clashes_with, held_count}
+use Rattle.alg_registry.specs.Rows.{rows_of, larvals_of}
+use Rattle.alg_registry.specs.Answers.{look_answer, built_answer}
 use Rattle.alg_registry.specs.Legal as legal
 use Rattle.alg_registry.specs.Legal.{IsPending, claimer, ended_as, gets_as, puts_as, HasReference}
 use Rattle.alg_registry.specs.Kept.{IsKept}
-use Rattle.trace_check.specs.declared.reason.Reason.{Reason}
 use Rattle.trace_check.specs.declared.register.Reference.{Reference}
-use Rattle.trace_check.specs.RegReasons.{IsReferenced, HasState, HasCaller, SameFound, SameMade, SameUnlisted, IsEndNumbered, HasNumber, made_word, found_word, builds, IsEndAnswered, HasAnswer, IsWrong}
-use Rattle.trace_check.specs.Pipes.{is_worker, same_number}
-use Rattle.trace_check.specs.Registers.{unreferred, is_free, is_being_built, has_ended, is_claimed_by, passes, is_to, is_of, is_full, enlisted_by, builds_by, same_made, alike_made, same_found, alike_found, same_place, alike_place, same_flag, has_state, has_caller, end_numbered, has_number, end_answered, has_answer, judged}
-use Rattle.trace_check.proofs.Deciding.{decides_true, decides_false}
-use Rattle.trace_check.proofs.RegTable.{IsMarkTable, look-table, clash-table, driver-table, listed-table, length-table, held-table}
-use Rattle.kc_base.specs.declared.error_numbers.Errno.TheVariants.{EAGAIN, EEXIST, ENFILE}
-use Rattle.trace_check.proofs.Judging.{first_missing, none_missing}
-use Rattle.trace_check.proofs.RegParts.{second, apart_at}
+use Rattle.trace_check.specs.RegReasons.{builds}
+use Rattle.trace_check.specs.Pipes.{is_worker}
+use Rattle.trace_check.specs.Registers.{unreferred, is_of, has_state, has_caller}
 use Rattle.std.proofs.Common.{get_or, set}
-use Rattle.std.proofs.lemmas.List.{length_push, get_or_past}
-use Rattle.alg_registry.specs.Rows.{marked, standing, registered_by, end_of, unlists, gets, puts}
-use Rattle.alg_registry.specs.Calls.{new_row, unlisted_row, taken_row, put_row_of, claimed_larval, ended_larval, claimed_number, is_unclaimed, unclaimed_at}
-use Rattle.alg_registry.proofs.Steps.{count_by-push, LegalReg-push}
+use Rattle.alg_registry.specs.Rows.{marked, standing, end_of}
+use Rattle.alg_registry.specs.Calls.{new_row, unlisted_row, taken_row, put_row_of, claimed_larval, ended_larval, claimed_number, is_unclaimed}
+use Rattle.alg_registry.proofs.Steps.{count_by-push}
 use Rattle.alg_registry.proofs.Keeping.{kept-look, kept-began, kept-unlist, kept-no_unlist, kept-get, kept-no_get, kept-put, kept-claim}
 use Rattle.alg_registry.proofs.Registering.{kept-made, kept-refused, kept-end, kept-built, kept-waited, kept-refs, kept-list}
 use Rattle.alg_registry.proofs.Changing.{a_row}

@@ -1,7 +1,7 @@
 -- A light table of a registry: its entries with their marks, and without their references.
-use Rattle.std.proofs.Common.{◌≡◌, ◌≢◌, ℕ, zero, suc, ◌+◌, ◌-◌, ◌<◌, ◌≤◌, Bool, true, false, not, cond, ◌&&◌, ◌||◌, List, [], ◌∷◌, ◌++◌, length, map, Option, Some, None, get_or, refl, sym, ◌∙◌, ap, subst, arith, append_assoc}
-use Rattle.std.specs.Prelude.{◌==◌, nat_lt, nat_le, slice_get, slice_set, count_by}
-use Rattle.std.specs.List.{list_any, list_all, position_from}
+use Rattle.std.proofs.Common.{◌≡◌, ℕ, ◌+◌, Bool, false, cond, ◌&&◌, ◌||◌, List, [], ◌∷◌, ◌++◌, length, map, Option, Some, None, get_or, refl, sym, ◌∙◌, ap}
+use Rattle.std.specs.Prelude.{slice_get, slice_set}
+use Rattle.std.specs.List.{list_any, position_from}
 use Rattle.std.specs.Option.{option_map, option_map_or}
 use Rattle.std.specs.Str.{bytes_eq}
 use Rattle.std.proofs.lemmas.List.{map-set, map-append, length-map}
@@ -10,7 +10,7 @@ use Rattle.alg_registry.specs.declared.spec.Spec.{Spec}
 use Rattle.alg_registry.specs.declared.row.Row.{Row}
 use Rattle.alg_registry.specs.declared.row.Larval.{Larval}
 use Rattle.alg_registry.specs.declared.entry.RegEntry.{RegEntry}
-use Rattle.alg_registry.specs.Rows.{stays_listed, marked, counted, standing, listed_at, is_held, rows_of}
+use Rattle.alg_registry.specs.Rows.{stays_listed, marked, counted, standing, listed_at, rows_of}
 use Rattle.alg_registry.specs.Answers.{may_find, answers_to, better, best_from, found_best, found_driver, look_answer, clashes_with, driver_place, held_count}
 use Rattle.alg_registry.specs.Calls.{new_row, put_row_of, unlisted_row, taken_row}
 use Rattle.alg_registry.specs.Kept.{IsKept}

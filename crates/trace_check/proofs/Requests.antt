@@ -1,5 +1,5 @@
 -- What one more entry makes of a pipeline's requests.
-use Rattle.std.proofs.Common.{◌≡◌, ◌≢◌, ℕ, zero, suc, ◌+◌, ◌<◌, ◌≤◌, Bool, true, false, cond, ◌||◌, List, [], ◌∷◌, ◌++◌, length, map, Option, Some, None, is_some, refl, sym, ◌∙◌, ap, subst, arith, inl, inr, ◌⊎◌, length-append, append-nil}
+use Rattle.std.proofs.Common.{◌≡◌, ◌≢◌, ℕ, suc, ◌+◌, Bool, true, false, cond, ◌||◌, List, [], ◌∷◌, ◌++◌, length, map, Option, Some, None, refl, sym, ◌∙◌, ap, subst, arith, inl, inr, ◌⊎◌, length-append, append-nil}
 use Rattle.std.specs.Prelude.{◌==◌, slice_get, slice_set}
 use Rattle.std.specs.List.{filter, filter_map, cons_option}
 use Rattle.std.proofs.Math.Bool.{or-false}

@@ -1,20 +1,15 @@
 -- What the checker keeps of a pipeline stands for its entries.
-use Rattle.std.proofs.Common.{◌≡◌, ◌≢◌, ℕ, zero, suc, ◌+◌, ◌<◌, ◌≤◌, Bool, true, false, cond, ◌||◌, List, [], ◌∷◌, ◌++◌, length, map, Option, Some, None, is_some, refl, sym, ◌∙◌, ap, subst, arith, inl, inr, ◌⊎◌, length-append}
-use Rattle.std.specs.Prelude.{◌==◌, slice_get, slice_set}
-use Rattle.std.specs.List.{filter, filter_map, cons_option}
-use Rattle.std.proofs.lemmas.Bool.{eqb-true, eqb-false, eq-eqb, cases_eq}
-use Rattle.std.proofs.lemmas.List.{length-set, length_push}
-use Rattle.std.proofs.lemmas.List.Folds.{list_any-append}
-use Rattle.std.proofs.lemmas.List.Elements.{filter_map-append, filter-append}
+use Rattle.std.proofs.Common.{◌≡◌, ◌≢◌, ℕ, ◌<◌, ◌≤◌, Bool, true, false, List, [], ◌∷◌, ◌++◌, length, Option, Some, None, is_some, sym, ◌∙◌, ap}
+use Rattle.std.specs.Prelude.{slice_get}
+use Rattle.std.specs.List.{filter_map}
 use Rattle.board.specs.declared.entry.Shape.{Shape}
 use Rattle.board.specs.declared.entry.BoardEntry.{BoardEntry}
-use Rattle.board.specs.Entries.{birth_in, birth, accepted_in, submissions, taken_in, takings, takers, finished_in, finished, has, unbroken, front, told_in, collected_in, collected, last_or, held_in, is_held, is_close, is_closed, is_share, is_shared}
-use Rattle.board.proofs.PadOrder.{filter_map-none, filter_map-some, last_or-append, birth_stays}
-use Rattle.board.proofs.Kept.{takers-same, closed-same, shared-same, collected-same, has-more, held-same}
+use Rattle.board.specs.Entries.{birth, accepted_in, submissions, taken_in, takings, takers, finished_in, finished, has, told_in, collected_in, collected, held_in, is_held, is_close, is_closed, is_share, is_shared}
+use Rattle.board.proofs.PadOrder.{filter_map-none, birth_stays}
+use Rattle.board.proofs.Kept.{takers-same, closed-same, shared-same, collected-same, held-same}
 use Rattle.trace_check.specs.declared.pipe.Progress.{Progress}
 use Rattle.trace_check.specs.declared.pipe.Progress.TheVariants.{Waits, Runs, Ended}
-use Rattle.trace_check.specs.Pipes.{PipeState, is_pad, has_ended, ended_run, notices_in}
-use Rattle.trace_check.proofs.Places.{get-set_same, get-set_other, get-push_same, get-push_other}
+use Rattle.trace_check.specs.Pipes.{PipeState, is_pad, ended_run}
 
 -- how far the request of a number is
 abbrev pub IsAt : {A : Type 0} → List (BoardEntry A) → ℕ → Option Progress → Type 0

@@ -1,27 +1,22 @@
 -- A trace that is read so far.
-use Rattle.std.proofs.Common.{◌≡◌, ◌≢◌, ℕ, zero, suc, ◌+◌, ◌-◌, ◌<◌, ◌≤◌, Bool, true, false, not, cond, ◌&&◌, List, [], ◌∷◌, ◌++◌, length, take, drop, map, get_or, Option, Some, None, refl, sym, ◌∙◌, ap, subst, arith, inl, inr, ◌⊎◌, append-nil, append_assoc, Bor, length-append}
-use Rattle.std.specs.Prelude.{◌==◌, codes}
-use Rattle.std.specs.Fmt.{decimal}
+use Rattle.std.proofs.Common.{◌≡◌, ℕ, ◌+◌, ◌≤◌, Bool, true, not, List, [], ◌∷◌, ◌++◌, length, map, Some, refl, sym, ◌∙◌, ap, subst, arith, append-nil, append_assoc, Bor, length-append}
+use Rattle.std.specs.Prelude.{◌==◌}
 use Rattle.std.specs.List.{list_all, flat_map, join_with_byte}
-use Rattle.std.proofs.lemmas.Bool.{and_parts, and_from, cases_lt}
-use Rattle.std.proofs.lemmas.List.{length_push, length-map, map-append}
+use Rattle.std.proofs.lemmas.Bool.{and_parts, and_from}
+use Rattle.std.proofs.lemmas.List.{length_push, length-map}
 use Rattle.alg_registry.specs.declared.entry.RegEntry.{RegEntry}
-use Rattle.alg_registry.specs.declared.entry.RegEntry.TheVariants.{Enlist, Look, Claim, End, Waited, Unlist, Get, Put, Refs}
-use Rattle.alg_registry.specs.declared.entry.RegEntry.TheVariants as reg
 use Rattle.board.specs.declared.entry.BoardEntry.{BoardEntry}
-use Rattle.board.specs.declared.entry.BoardEntry.TheVariants.{Born, Submit, Take, Finish, Enq, Deq, Done, Hold, Go, Collect, Close, Share, Shut}
 use Rattle.trace_check.specs.declared.lines.Known.{Known}
-use Rattle.trace_check.specs.declared.lines.Event.{Event}
 use Rattle.trace_check.specs.declared.lines.Event.TheVariants as event
 use Rattle.trace_text.specs.Text.{sentence, reg_words, board_words}
 use Rattle.trace_text.specs.Trace.{trace_of, has_text, fits, board_fits, is_event, is_visible, AreEvents}
-use Rattle.trace_check.specs.Lines.{line_of, IsLineOf, IsReadAs}
-use Rattle.trace_check.specs.Verdicts.{IsTraceOf, IsTrace, HasFront, BeginsWith, IsFirstBad}
+use Rattle.trace_check.specs.Lines.{line_of, IsLineOf}
+use Rattle.trace_check.specs.Verdicts.{IsTraceOf, HasFront}
 use Rattle.trace_check.specs.Reading.{IsOneLine, IsCut}
 use Rattle.trace_check.proofs.Numerals.{words_unlike, is_not}
-use Rattle.trace_check.proofs.LineWords.{AreVisible, registry_visible, plain_visible}
+use Rattle.trace_check.proofs.LineWords.{registry_visible, plain_visible}
 use Rattle.trace_check.proofs.Guesses.{plain_of, plain_is}
-use Rattle.trace_check.proofs.Cuts.{fed, text_of, AreLines, SameCut, same_cut, NextLine, next_line, none_behind}
+use Rattle.trace_check.proofs.Cuts.{fed, text_of, AreLines}
 
 pub record IsSoFar (text : List ℕ) (registry : List RegEntry) (board : List (BoardEntry Known)) (rest : List ℕ) (count : ℕ) : Type 0 where
   pub front : HasFront text registry board rest

@@ -4,7 +4,7 @@ use Rattle.board.specs.declared.entry.Entered.{Entered}
 use Rattle.board.specs.declared.entry.Entered.TheVariants.{InProgress, Busy, NoSpace}
 use Rattle.board.specs.declared.entry.BoardEntry.{BoardEntry}
 use Rattle.board.specs.declared.entry.BoardEntry.TheVariants.{Born, Submit, Take, Finish, Enq, Deq, Done, Hold, Go, Collect, Close, Share, Shut}
-use Rattle.board.specs.Entries.{entries_of, birth, pad_born, queue_born, submissions, takings, takers, finished, has, front, verdict, waiting, starts, told, collected, is_held, is_closed, is_shared}
+use Rattle.board.specs.Entries.{entries_of, birth, pad_born, queue_born, submissions, takings, takers, finished, has, front, verdict, waiting, starts, told, collected, is_held, is_shared}
 use Rattle.board.specs.Legal.{IsNoWorker, size_of, MaySubmit, MayManage, IsOpenPad, IsOpenQueue, IsOpen, pipelines, is_shut, LegalBoard}
 use Rattle.trace_check.specs.declared.reason.Reason.{Reason}
 use Rattle.trace_check.specs.Reasons.{IsFirstMissing}

@@ -1,9 +1,7 @@
 -- What a line is read as.
-use Rattle.std.specs.Prelude.{◌≡◌, ℕ, Bool, true, ◌&&◌, List, [], ◌∷◌, codes, if◌then◌else◌, Option, Some, None}
+use Rattle.std.specs.Prelude.{◌≡◌, ℕ, Bool, true, ◌&&◌, List, ◌∷◌, codes, if◌then◌else◌, Option, Some, None}
 use Rattle.std.specs.Option.{option_map}
 use Rattle.std.specs.Str.{bytes_eq}
-use Rattle.alg_registry.specs.declared.entry.RegEntry.{RegEntry}
-use Rattle.board.specs.declared.entry.BoardEntry.{BoardEntry}
 use Rattle.trace_check.specs.declared.guessing.Plain.{Plain}
 use Rattle.trace_check.specs.declared.guessing.Plain.TheVariants as says
 use Rattle.trace_check.specs.declared.lines.Guess.{Guess}

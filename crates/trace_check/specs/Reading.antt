@@ -1,11 +1,7 @@
 -- A text is read line by line.
-use Rattle.std.specs.Prelude.{◌≡◌, ◌<◌, ◌≤◌, ◌+◌, ℕ, not, ◌==◌, true, List, [], ◌∷◌, ◌++◌, length, Option, Some, None}
+use Rattle.std.specs.Prelude.{◌≡◌, ℕ, not, ◌==◌, true, List, [], ◌∷◌, ◌++◌, Option, Some, None}
 use Rattle.std.specs.List.{list_all}
-use Rattle.std.specs.declared.alloc.Global.{Global}
 use denote.Ref.{Bor}
-use Rattle.alg_registry.specs.declared.entry.RegEntry.{RegEntry}
-use Rattle.board.specs.declared.entry.BoardEntry.{BoardEntry}
-use Rattle.trace_check.specs.declared.lines.Known.{Known}
 use Rattle.trace_check.specs.declared.reading.Reading.{Reading as Outcome}
 use Rattle.trace_check.specs.declared.reading.Reading.TheVariants as outcome
 use Rattle.trace_check.specs.Verdicts.{IsTraceOf, IsFirstBad}

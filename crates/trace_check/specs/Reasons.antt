@@ -1,5 +1,4 @@
 -- Why an event isn't right.
-use Rattle.std.specs.Prelude.{◌≡◌}
 use Rattle.trace_check.specs.declared.reason.Reason.{Reason}
 use Rattle.trace_check.specs.declared.reason.Reason.TheVariants.{State, Caller, Number, Answer}
 

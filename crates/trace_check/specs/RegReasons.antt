@@ -1,7 +1,6 @@
 -- What a registry's event needs, in the same four parts.
-use Rattle.std.specs.Prelude.{◌≡◌, ℕ, ◌<◌, Bool, true, false, not, ◌||◌, List, take, length, slice_get, codes, Option, Some, None, is_none, is_some, IsTrue, IsFalse, IsSome, MatchOption, ⊤}
+use Rattle.std.specs.Prelude.{◌≡◌, ℕ, Bool, true, false, not, ◌||◌, List, take, length, slice_get, codes, Option, Some, None, is_some, IsTrue, IsFalse, IsSome, MatchOption, ⊤}
 use Rattle.std.specs.List.{list_all}
-use Rattle.alg_registry.specs.declared.spec.Spec.{Spec}
 use Rattle.alg_registry.specs.declared.entry.Looked.{Looked}
 use Rattle.alg_registry.specs.declared.entry.Looked.TheVariants.{Found, Pending, Began, Absent}
 use Rattle.alg_registry.specs.declared.entry.Enlisted.{Enlisted}
@@ -16,7 +15,6 @@ use Rattle.alg_registry.specs.Answers.{look_answer, enlist_answer, built_answer,
 use Rattle.alg_registry.specs.Legal.{is_worker, IsPending, claimer, ended_as, HasReference, LegalReg}
 use Rattle.trace_check.specs.declared.reason.Reason.{Reason}
 use Rattle.trace_check.specs.Reasons.{IsFirstMissing}
-use Rattle.trace_text.specs.Text.{enlisted_words}
 
 -- somebody has a reference of the entry to give back
 abbrev pub IsReferenced : List RegEntry → ℕ → Type 0

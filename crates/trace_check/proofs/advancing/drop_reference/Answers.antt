@@ -1,4 +1,4 @@
-use Rattle.std.proofs.Common.{◌≡◌, arith, ◌∙◌}
+use Rattle.std.proofs.Common.{arith, ◌∙◌}
 use Rattle.trace_check.specs.Registers.{is_of}
 use Rattle.trace_check.proofs.Changes.{found_within, without_found, without_none}
 use Rattle.trace_check.proofs.Boarding.{none_left}

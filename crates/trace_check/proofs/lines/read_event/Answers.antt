@@ -1,4 +1,4 @@
-use Rattle.std.proofs.Common.{◌≡◌, ℕ, ◌-◌, length, List, Bor, map, arith, sym, ◌∙◌, ap}
+use Rattle.std.proofs.Common.{ℕ, ◌-◌, length, List, Bor, map, arith, ◌∙◌, ap}
 use Rattle.trace_check.proofs.ReadLemmas.{read_none, read_other}
 use Rattle.trace_check.proofs.lines.read_event.Goals as goal
 

@@ -1,5 +1,4 @@
-use Rattle.std.proofs.Common.{◌≡◌, Option, None, Some, arith, sym, ◌∙◌, ap, subst}
-use Rattle.trace_check.specs.declared.lines.Event.{Event}
+use Rattle.std.proofs.Common.{Some, arith, subst}
 use Rattle.trace_check.specs.Lines.{IsReadAs, IsLineOf}
 use Rattle.trace_check.proofs.Bads.{bad_uncut, bad_line, bad_order, some_left, some_boards}
 use Rattle.trace_check.proofs.reading.read_trace.Goals as goal

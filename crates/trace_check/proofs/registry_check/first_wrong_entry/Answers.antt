@@ -1,4 +1,4 @@
-use Rattle.std.proofs.Common.{◌≡◌, map, arith}
+use Rattle.std.proofs.Common.{map, arith}
 use Rattle.trace_check.specs.Registers.{row_of, larval_of}
 use Rattle.trace_check.proofs.Boarding.{none_left}
 use Rattle.trace_check.proofs.RegLoop.{register_goes_on, wrong_entry_at, few_taken}

@@ -1,4 +1,4 @@
-use Rattle.std.proofs.Common.{rules, ◌≡◌, map, arith, sym, ◌∙◌}
+use Rattle.std.proofs.Common.{arith}
 use Rattle.trace_check.proofs.Boards.{pipe_there, pipe_advanced}
 use Rattle.trace_check.proofs.table.advance_at.Goals as goal
 

@@ -1,5 +1,5 @@
-use Rattle.std.proofs.Common.{rules, ◌≡◌, map, arith, sym, ◌∙◌, ap}
-use Rattle.trace_check.specs.Pipes.{state_of, judged}
+use Rattle.std.proofs.Common.{map, arith}
+use Rattle.trace_check.specs.Pipes.{state_of}
 use Rattle.trace_check.proofs.Boarding.{board_goes_on, first_wrong_at, none_left, counts_at}
 use Rattle.trace_check.proofs.table.first_wrong_event.Goals as goal
 
