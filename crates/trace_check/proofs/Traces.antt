@@ -1,0 +1,173 @@
+-- A trace that is read so far.
+use Rattle.std.proofs.Common.{◌≡◌, ℕ, ◌+◌, ◌≤◌, Bool, true, not, List, [], ◌∷◌, ◌++◌, length, map, Some, refl, sym, ◌∙◌, ap, subst, arith, append-nil, append_assoc, Bor, length-append}
+use Rattle.std.specs.Prelude.{◌==◌}
+use Rattle.std.specs.List.{list_all, flat_map, join_with_byte}
+use Rattle.std.proofs.lemmas.Bool.{and_parts, and_from}
+use Rattle.std.proofs.lemmas.List.{length_push, length-map}
+use Rattle.alg_registry.specs.declared.entry.RegEntry.{RegEntry}
+use Rattle.board.specs.declared.entry.BoardEntry.{BoardEntry}
+use Rattle.trace_check.specs.declared.lines.Known.{Known}
+use Rattle.trace_check.specs.declared.lines.Event.TheVariants as event
+use Rattle.trace_text.specs.Text.{sentence, reg_words, board_words}
+use Rattle.trace_text.specs.Trace.{trace_of, has_text, fits, board_fits, is_event, is_visible, AreEvents}
+use Rattle.trace_check.specs.Lines.{line_of, IsLineOf}
+use Rattle.trace_check.specs.Verdicts.{IsTraceOf, HasFront}
+use Rattle.trace_check.specs.Reading.{IsOneLine, IsCut}
+use Rattle.trace_check.proofs.Numerals.{words_unlike, is_not}
+use Rattle.trace_check.proofs.LineWords.{registry_visible, plain_visible}
+use Rattle.trace_check.proofs.Guesses.{plain_of, plain_is}
+use Rattle.trace_check.proofs.Cuts.{fed, text_of, AreLines}
+
+pub record IsSoFar (text : List ℕ) (registry : List RegEntry) (board : List (BoardEntry Known)) (rest : List ℕ) (count : ℕ) : Type 0 where
+  pub front : HasFront text registry board rest
+  pub counted : length registry + length board ≡ count
+  pub short : count + length rest ≤ length text
+
+-- The lines of events, without their line feeds.
+abbrev pub reg_line : RegEntry → List ℕ
+reg_line e = join_with_byte 32 (reg_words e)
+
+abbrev pub board_line : BoardEntry Known → List ℕ
+board_line e = join_with_byte 32 (board_words line_of e)
+
+abbrev pub lines : List RegEntry → List (BoardEntry Known) → List (List ℕ)
+lines r b = map reg_line r ++ map board_line b
+
+text_append : (xs ys : List (List ℕ)) → text_of (xs ++ ys) ≡ text_of xs ++ text_of ys
+text_append [] ys = refl
+text_append (x ∷ xs) ys = ap (λ t. fed x ++ t) (text_append xs ys) ∙ sym (append_assoc (fed x) (text_of xs) (text_of ys))
+
+reg_text : (r : List RegEntry) → flat_map (λ e. sentence (reg_words e)) r ≡ text_of (map reg_line r)
+reg_text [] = refl
+reg_text (e ∷ r) = ap (λ t. sentence (reg_words e) ++ t) (reg_text r)
+
+board_text : (b : List (BoardEntry Known)) → flat_map (λ e. sentence (board_words line_of e)) b ≡ text_of (map board_line b)
+board_text [] = refl
+board_text (e ∷ b) = ap (λ t. sentence (board_words line_of e) ++ t) (board_text b)
+
+pub trace_lines : (r : List RegEntry) (b : List (BoardEntry Known)) → trace_of line_of r b ≡ text_of (lines r b)
+trace_lines r b =
+    ap (λ t. t ++ flat_map (λ e. sentence (board_words line_of e)) b) (reg_text r)
+    ∙ (ap (λ t. text_of (map reg_line r) ++ t) (board_text b) ∙ sym (text_append (map reg_line r) (map board_line b)))
+
+-- no line of events has a line feed
+joined_all : (p : ℕ → Bool) (words : List (List ℕ)) → p 32 ≡ true → list_all (list_all p) words ≡ true → list_all p (join_with_byte 32 words) ≡ true
+joined_all p [] s h = refl
+joined_all p (word ∷ []) s h = (and_parts (list_all p word) true h).0
+joined_all p (word ∷ next ∷ words) s h =
+    let k = and_parts (list_all p word) (list_all (list_all p) (next ∷ words)) h in
+    all_append p word (32 ∷ join_with_byte 32 (next ∷ words)) k.0 (and_from (p 32) (list_all p (join_with_byte 32 (next ∷ words))) s (joined_all p (next ∷ words) s k.1))
+  where
+    all_append : (p : ℕ → Bool) (xs ys : List ℕ) → list_all p xs ≡ true → list_all p ys ≡ true → list_all p (xs ++ ys) ≡ true
+    all_append p [] ys a b = b
+    all_append p (x ∷ xs) ys a b = (let k = and_parts (p x) (list_all p xs) a in and_from (p x) (list_all p (xs ++ ys)) k.0 (all_append p xs ys k.1 b))
+
+pub one_reg : (e : RegEntry) → is_event e ≡ true → IsOneLine (reg_line e)
+one_reg e k =
+    let p = and_parts (has_text e) (fits e) k in
+    joined_all (is_not 10) (reg_words e) refl (words_unlike 10 (reg_words e) (omega arith) (let v = registry_visible e p.0 p.1 in v.all))
+
+pub one_board : (e : BoardEntry Known) → board_fits line_of e ≡ true → IsOneLine (board_line e)
+one_board e k =
+    let i = plain_is e in
+    let v = plain_visible (plain_of e) (i.1 ∙ k) in
+    joined_all (is_not 10) (board_words line_of e) refl (words_unlike 10 (board_words line_of e) (omega arith) (subst (λ ws. list_all (list_all is_visible) ws ≡ true) i.0 v.all))
+
+all_lists : (p : List ℕ → Bool) (xs ys : List (List ℕ)) → list_all p xs ≡ true → list_all p ys ≡ true → list_all p (xs ++ ys) ≡ true
+all_lists p [] ys a b = b
+all_lists p (x ∷ xs) ys a b = (let k = and_parts (p x) (list_all p xs) a in and_from (p x) (list_all p (xs ++ ys)) k.0 (all_lists p xs ys k.1 b))
+
+reg_lines : (r : List RegEntry) → list_all is_event r ≡ true → AreLines (map reg_line r)
+reg_lines [] h = refl
+reg_lines (e ∷ r) h = (let k = and_parts (is_event e) (list_all is_event r) h in and_from (list_all (λ b. not (b == 10)) (reg_line e)) (list_all (list_all (λ b. not (b == 10))) (map reg_line r)) (one_reg e k.0) (reg_lines r k.1))
+
+board_lines : (b : List (BoardEntry Known)) → list_all (board_fits line_of) b ≡ true → AreLines (map board_line b)
+board_lines [] h = refl
+board_lines (e ∷ b) h = (let k = and_parts (board_fits line_of e) (list_all (board_fits line_of) b) h in and_from (list_all (λ b. not (b == 10)) (board_line e)) (list_all (list_all (λ b. not (b == 10))) (map board_line b)) (one_board e k.0) (board_lines b k.1))
+
+pub are_lines : (r : List RegEntry) (b : List (BoardEntry Known)) → AreEvents line_of r b → AreLines (lines r b)
+are_lines r b k = all_lists (list_all (λ c. not (c == 10))) (map reg_line r) (map board_line b) (reg_lines r k.0) (board_lines b k.1)
+
+pub count_lines : (r : List RegEntry) (b : List (BoardEntry Known)) → length (lines r b) ≡ length r + length b
+count_lines r b = (let a = length-append (map reg_line r) (map board_line b) in let c = length-map r reg_line in let d = length-map b board_line in omega arith)
+
+-- Lists by their last elements.
+pub record Ends {X : Type 0} (xs : List X) : Type 0 where
+  pub front : List X
+  pub last : X
+  pub is : xs ≡ front ++ last ∷ []
+
+pub ends_of : {X : Type 0} (x : X) (xs : List X) → Ends (x ∷ xs)
+ends_of x [] = record { front = []; last = x; is = refl }
+ends_of x (y ∷ xs) = (let e = ends_of y xs in let i = e.is in record { front = x ∷ e.front; last = e.last; is = ap (λ ys. x ∷ ys) i })
+
+pub all_front : {X : Type 0} (p : X → Bool) (xs : List X) (x : X) → list_all p (xs ++ x ∷ []) ≡ true → (list_all p xs ≡ true) × (p x ≡ true)
+all_front p [] x h = (refl, (and_parts (p x) true h).0)
+all_front p (y ∷ xs) x h =
+    let k = and_parts (p y) (list_all p (xs ++ x ∷ [])) h in
+    let r = all_front p xs x k.1 in
+    (and_from (p y) (list_all p xs) k.0 r.0, r.1)
+
+all_more : {X : Type 0} (p : X → Bool) (xs : List X) (x : X) → list_all p xs ≡ true → p x ≡ true → list_all p (xs ++ x ∷ []) ≡ true
+all_more p [] x h e = and_from (p x) true e refl
+all_more p (y ∷ xs) x h e = (let k = and_parts (p y) (list_all p xs) h in and_from (p y) (list_all p (xs ++ x ∷ [])) k.0 (all_more p xs x k.1 e))
+
+flat_more : {X : Type 0} (f : X → List ℕ) (xs : List X) (x : X) → flat_map f (xs ++ x ∷ []) ≡ flat_map f xs ++ f x
+flat_more f [] x = append-nil (f x)
+flat_more f (y ∷ xs) x = ap (λ t. f y ++ t) (flat_more f xs x) ∙ sym (append_assoc (f y) (flat_map f xs) (f x))
+
+pub board_more : (r : List RegEntry) (b : List (BoardEntry Known)) (e : BoardEntry Known) → trace_of line_of r (b ++ e ∷ []) ≡ trace_of line_of r b ++ sentence (board_words line_of e)
+board_more r b e =
+    ap (λ t. flat_map (λ x. sentence (reg_words x)) r ++ t) (flat_more (λ x. sentence (board_words line_of x)) b e)
+    ∙ sym (append_assoc (flat_map (λ x. sentence (reg_words x)) r) (flat_map (λ x. sentence (board_words line_of x)) b) (sentence (board_words line_of e)))
+
+pub reg_more : (r : List RegEntry) (e : RegEntry) → trace_of line_of (r ++ e ∷ []) [] ≡ trace_of line_of r [] ++ sentence (reg_words e)
+reg_more r e =
+    append-nil (flat_map (λ x. sentence (reg_words x)) (r ++ e ∷ []))
+    ∙ (flat_more (λ x. sentence (reg_words x)) r e ∙ ap (λ t. t ++ sentence (reg_words e)) (sym (append-nil (flat_map (λ x. sentence (reg_words x)) r))))
+
+-- What comes next.
+none_yet : (b : List (BoardEntry Known)) → length b ≡ 0 → b ≡ []
+none_yet [] h = refl
+none_yet (e ∷ b) h = absurd (omega arith)
+
+pub so_far_start : (text : List ℕ) → IsSoFar text [] [] text 0
+so_far_start text = record { front = record { events = (refl, refl); front = refl }; counted = refl; short = omega arith }
+
+shorter : (text rest line more body : List ℕ) (count : ℕ) → count + length rest ≤ length text → line ≡ body ++ 10 ∷ [] → rest ≡ line ++ more → (count + 1) + length more ≤ length text
+shorter text rest line more body count h l r =
+    (let a = ap length r in let b = length-append line more in let c = ap length l in let d = length_push body 10 in omega arith)
+
+pub so_far_registry : (text : List ℕ) (r : List RegEntry) (b : List (BoardEntry Known)) (rest : List ℕ) (count : ℕ) (line more : Bor (List ℕ)) (e : RegEntry) → length b ≡ 0 → IsSoFar text r b rest count → IsCut rest (Some (line, more)) → IsLineOf line.now (event.Registry e) → IsSoFar text (r ++ e ∷ []) b more.now (count + 1)
+so_far_registry text r b rest count line more e none k cut is =
+    let n = none_yet b none in
+    let f = k.front in
+    let same : text ≡ trace_of line_of r b ++ rest = f.front in
+    let at : text ≡ trace_of line_of (r ++ e ∷ []) [] ++ more.now =
+    same ∙ (ap (λ c. trace_of line_of r c ++ rest) n ∙ (ap (λ t. trace_of line_of r [] ++ t) (cut.3 ∙ ap (λ t. t ++ more.now) is.1)
+    ∙ (sym (append_assoc (trace_of line_of r []) (sentence (reg_words e)) more.now) ∙ ap (λ t. t ++ more.now) (sym (reg_more r e))))) in
+    record {
+      front = record {
+        events = (let v = f.events in (all_more is_event r e v.0 is.0, v.1));
+        front = subst (λ c. text ≡ trace_of line_of (r ++ e ∷ []) c ++ more.now) (sym n) at;
+      };
+      counted = (let p = length_push r e in let q = k.counted in omega arith);
+      short = shorter text rest line.now more.now cut.0 count k.short cut.2 cut.3;
+    }
+
+pub so_far_board : (text : List ℕ) (r : List RegEntry) (b : List (BoardEntry Known)) (rest : List ℕ) (count : ℕ) (line more : Bor (List ℕ)) (e : BoardEntry Known) → IsSoFar text r b rest count → IsCut rest (Some (line, more)) → IsLineOf line.now (event.Board e) → IsSoFar text r (b ++ e ∷ []) more.now (count + 1)
+so_far_board text r b rest count line more e k cut is =
+    let f = k.front in
+    record {
+      front = record {
+        events = (let v = f.events in (v.0, all_more (board_fits line_of) b e v.1 is.0));
+        front =
+            f.front ∙ (ap (λ t. trace_of line_of r b ++ t) (cut.3 ∙ ap (λ t. t ++ more.now) is.1)
+            ∙ (sym (append_assoc (trace_of line_of r b) (sentence (board_words line_of e)) more.now) ∙ ap (λ t. t ++ more.now) (sym (board_more r b e))));
+      };
+      counted = (let p = length_push b e in let q = k.counted in omega arith);
+      short = shorter text rest line.now more.now cut.0 count k.short cut.2 cut.3;
+    }
+
+pub so_far_done : (text : List ℕ) (r : List RegEntry) (b : List (BoardEntry Known)) (rest : List ℕ) (count : ℕ) → rest ≡ [] → IsSoFar text r b rest count → IsTraceOf text r b
+so_far_done text r b rest count none k = (let f = k.front in (f.events, f.front ∙ (ap (λ t. trace_of line_of r b ++ t) none ∙ append-nil (trace_of line_of r b))))

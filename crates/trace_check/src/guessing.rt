@@ -1,0 +1,659 @@
+//! A loose reading of a line's words.
+
+ghost use Rattle.std.specs.Prelude.{◌≡◌, ◌==◌, map, IfOk};
+ghost use Rattle.std.specs.List.{slice_split};
+ghost use Rattle.std.specs.Str.{bytes_eq};
+ghost use Rattle.alg_registry.specs.declared.entry.RegEntry.TheVariants as Entry;
+ghost use Rattle.trace_check.specs.Guessing.{digit_after, number_from, number_of, small_of, ids_of, kind_of, wrap_of, errno_of, enlisted_of, enlist_of, looked_of, look_of, spec_of, built_of, joined_of, failed_of, ending_of, end_of, unlist_of, get_of, refs_of, numbered_of, registry_of, shape_of, born_of, submit_of, entered_of, enq_of, started_of, deq_of, pipe_in, pair_in, counted_of, piped_of, short_of, board_of};
+
+use alg_registry::{EndAnswer, Enlisted, Ids, Kind, Looked, RegEntry, Spec, Wrap};
+use board::{Entered, Shape};
+use kc_base::{Bytes, Errno};
+use std::alloc::{AllocError, Global};
+
+/// A board's event as a trace has it, with the line of an ask in its place.
+#[derive(Clone, Copy)]
+pub(crate) enum Plain {
+    Born {
+        caller: u32,
+        pipe: u64,
+        shape: Shape,
+    },
+    Submit {
+        caller: u32,
+        pipe: u64,
+        number: u64,
+        line: u32,
+    },
+    Take {
+        caller: u32,
+        pipe: u64,
+        number: u64,
+    },
+    Finish {
+        caller: u32,
+        pipe: u64,
+        number: u64,
+    },
+    Enq {
+        caller: u32,
+        pipe: u64,
+        line: u32,
+        backlog: bool,
+        answer: Entered,
+    },
+    Deq {
+        caller: u32,
+        pipe: u64,
+        number: u64,
+        started: Option<u64>,
+    },
+    Done {
+        caller: u32,
+        pipe: u64,
+        number: u64,
+    },
+    Hold {
+        caller: u32,
+        pipe: u64,
+    },
+    Go {
+        caller: u32,
+        pipe: u64,
+    },
+    Collect {
+        caller: u32,
+        pipe: u64,
+        to: u64,
+    },
+    Close {
+        caller: u32,
+        pipe: u64,
+    },
+    Share {
+        caller: u32,
+        pipe: u64,
+    },
+    Shut {
+        caller: u32,
+    },
+}
+
+pub(crate) fn is_word(word: &[u8], name: &[u8]) -> bool
+    ensures { result ≡ bytes_eq word.now name.now }
+{
+    word == name
+}
+
+// One digit more, where the number stays below 2^64.
+fn with_digit(value: u64, digit: u8) -> Option<u64>
+    ensures { result ≡ digit_after value digit }
+{
+    if digit < b'0' {
+        return None;
+    }
+    value.checked_mul(10)?.checked_add(u64::from(digit - b'0'))
+}
+
+// The number that a word writes.
+fn number_in(word: &[u8]) -> Option<u64>
+    ensures { result ≡ number_from 0 word.now }
+{
+    let mut value = 0u64;
+    for digit in word {
+        value = with_digit(value, *digit)?;
+    }
+    Some(value)
+}
+
+fn number_of(word: &[u8]) -> u64
+    ensures { result ≡ number_of word.now }
+{
+    number_in(word).unwrap_or(0)
+}
+
+pub(crate) fn small_of(word: &[u8]) -> u32
+    ensures { result ≡ small_of word.now }
+{
+    let number = number_of(word);
+    if number < 4_294_967_296 {
+        number as u32
+    } else {
+        0
+    }
+}
+
+/// What stands between bytes of this value.
+pub(crate) fn parts_of(alloc: Global, text: &[u8], byte: u8) -> Result<Vec<&[u8]>, AllocError>
+    ensures { IfOk result (λ parts. map (λ part. part.now) parts.items ≡ slice_split (λ b. b == byte) text.now) }
+{
+    text.split(|b| *b == byte).collect(alloc)
+}
+
+fn numbers_of(alloc: Global, words: &[&[u8]]) -> Result<Ids, AllocError>
+    ensures { IfOk result (λ ids. ids ≡ map number_of (map (λ word. word.now) words.now)) }
+{
+    let mut ids = Ids::new(alloc);
+    for word in words {
+        ids.push(number_of(word))?;
+    }
+    Ok(ids)
+}
+
+fn ids_of(alloc: Global, word: &[u8]) -> Result<Ids, AllocError>
+    ensures { IfOk result (λ ids. ids ≡ ids_of word.now) }
+{
+    if is_word(word, b"-") {
+        return Ok(Ids::new(alloc));
+    }
+    let parts = parts_of(alloc, word, b',')?;
+    numbers_of(alloc, &parts)
+}
+
+fn kind_of(word: &[u8]) -> Kind
+    ensures { result ≡ kind_of word.now }
+{
+    if is_word(word, b"cipher") {
+        Kind::Cipher
+    } else if is_word(word, b"hash") {
+        Kind::Hash
+    } else if is_word(word, b"ghash") {
+        Kind::Ghash
+    } else if is_word(word, b"skcipher") {
+        Kind::Skcipher
+    } else if is_word(word, b"aead") {
+        Kind::Aead
+    } else {
+        Kind::Mac
+    }
+}
+
+fn wrap_of(word: &[u8]) -> Wrap
+    ensures { result ≡ wrap_of word.now }
+{
+    if is_word(word, b"plain") {
+        Wrap::Plain
+    } else if is_word(word, b"pcrypt") {
+        Wrap::Pcrypt
+    } else {
+        Wrap::Cryptd
+    }
+}
+
+fn errno_of(word: &[u8]) -> Errno
+    ensures { result ≡ errno_of word.now }
+{
+    if is_word(word, b"ENOENT") {
+        Errno::ENOENT
+    } else if is_word(word, b"E2BIG") {
+        Errno::E2BIG
+    } else if is_word(word, b"EAGAIN") {
+        Errno::EAGAIN
+    } else if is_word(word, b"EBUSY") {
+        Errno::EBUSY
+    } else if is_word(word, b"EEXIST") {
+        Errno::EEXIST
+    } else if is_word(word, b"EINVAL") {
+        Errno::EINVAL
+    } else if is_word(word, b"ENFILE") {
+        Errno::ENFILE
+    } else if is_word(word, b"EMFILE") {
+        Errno::EMFILE
+    } else if is_word(word, b"ENOSPC") {
+        Errno::ENOSPC
+    } else if is_word(word, b"ENAMETOOLONG") {
+        Errno::ENAMETOOLONG
+    } else if is_word(word, b"EBADMSG") {
+        Errno::EBADMSG
+    } else if is_word(word, b"EINPROGRESS") {
+        Errno::EINPROGRESS
+    } else {
+        Errno::ENOKEY
+    }
+}
+
+fn enlisted_of(words: &[&[u8]]) -> Enlisted
+    ensures { result ≡ enlisted_of (map (λ word. word.now) words.now) }
+{
+    match words {
+        [_word, id] => Enlisted::Made(number_of(id)),
+        [word] if is_word(word, b"EEXIST") => Enlisted::Exist,
+        _ => Enlisted::NFile,
+    }
+}
+
+fn enlist_of(alloc: Global, caller: u32, words: &[&[u8]]) -> Result<Option<RegEntry>, AllocError>
+    ensures { IfOk result (λ event. event ≡ enlist_of caller (map (λ word. word.now) words.now)) }
+{
+    let [name, driver, kind, priority, answer @ ..] = words else {
+        return Ok(None);
+    };
+    let name = Bytes::copy_of(alloc, name)?;
+    let driver = Bytes::copy_of(alloc, driver)?;
+    let spec = Spec {
+        name,
+        driver,
+        kind: kind_of(kind),
+        wrap: Wrap::Plain,
+        priority: small_of(priority),
+        below: Ids::new(alloc),
+    };
+    Ok(Some(RegEntry::Enlist {
+        caller,
+        spec,
+        answer: enlisted_of(answer),
+    }))
+}
+
+fn looked_of(words: &[&[u8]]) -> Looked
+    ensures { result ≡ looked_of (map (λ word. word.now) words.now) }
+{
+    match words {
+        [word, number] if is_word(word, b"found") => Looked::Found(number_of(number)),
+        [word, number] if is_word(word, b"pending") => Looked::Pending(number_of(number)),
+        [_word, number] => Looked::Began(number_of(number)),
+        _ => Looked::Absent,
+    }
+}
+
+fn look_of(alloc: Global, caller: u32, words: &[&[u8]]) -> Result<Option<RegEntry>, AllocError>
+    ensures { IfOk result (λ event. event ≡ look_of caller (map (λ word. word.now) words.now)) }
+{
+    let [text, sight, answer @ ..] = words else {
+        return Ok(None);
+    };
+    let text = Bytes::copy_of(alloc, text)?;
+    Ok(Some(RegEntry::Look {
+        caller,
+        text,
+        plain: is_word(sight, b"plain"),
+        answer: looked_of(answer),
+    }))
+}
+
+fn spec_of(
+    alloc: Global,
+    name: &[u8],
+    driver: &[u8],
+    words: &[&[u8]],
+) -> Result<Option<Spec>, AllocError>
+    ensures { IfOk result (λ spec. spec ≡ spec_of name.now driver.now (map (λ word. word.now) words.now)) }
+{
+    let [kind, wrap, priority, below] = words else {
+        return Ok(None);
+    };
+    let name = Bytes::copy_of(alloc, name)?;
+    let driver = Bytes::copy_of(alloc, driver)?;
+    let below = ids_of(alloc, below)?;
+    Ok(Some(Spec {
+        name,
+        driver,
+        kind: kind_of(kind),
+        wrap: wrap_of(wrap),
+        priority: small_of(priority),
+        below,
+    }))
+}
+
+fn built_of(alloc: Global, words: &[&[u8]]) -> Result<EndAnswer, AllocError>
+    ensures { IfOk result (λ answer. answer ≡ built_of (map (λ word. word.now) words.now)) }
+{
+    let [id, name, driver, more @ ..] = words else {
+        return Ok(EndAnswer::NoMemory);
+    };
+    match spec_of(alloc, name, driver, more)? {
+        Some(spec) => Ok(EndAnswer::Built(number_of(id), spec)),
+        None => Ok(EndAnswer::NoMemory),
+    }
+}
+
+fn joined_of(alloc: Global, words: &[&[u8]]) -> Result<EndAnswer, AllocError>
+    ensures { IfOk result (λ answer. answer ≡ joined_of (map (λ word. word.now) words.now)) }
+{
+    let [id, below] = words else {
+        return Ok(EndAnswer::NoMemory);
+    };
+    let below = ids_of(alloc, below)?;
+    Ok(EndAnswer::Joined(number_of(id), below))
+}
+
+fn failed_of(words: &[&[u8]]) -> EndAnswer
+    ensures { result ≡ failed_of (map (λ word. word.now) words.now) }
+{
+    match words {
+        [errno] => EndAnswer::Failed(errno_of(errno)),
+        _ => EndAnswer::NoMemory,
+    }
+}
+
+fn ending_of(alloc: Global, word: &[u8], words: &[&[u8]]) -> Result<EndAnswer, AllocError>
+    ensures { IfOk result (λ answer. answer ≡ ending_of word.now (map (λ word. word.now) words.now)) }
+{
+    if is_word(word, b"built") {
+        built_of(alloc, words)
+    } else if is_word(word, b"joined") {
+        joined_of(alloc, words)
+    } else if is_word(word, b"failed") {
+        Ok(failed_of(words))
+    } else {
+        Ok(EndAnswer::NoMemory)
+    }
+}
+
+fn end_of(alloc: Global, caller: u32, words: &[&[u8]]) -> Result<Option<RegEntry>, AllocError>
+    ensures { IfOk result (λ event. event ≡ end_of caller (map (λ word. word.now) words.now)) }
+{
+    let [larval, word, more @ ..] = words else {
+        return Ok(None);
+    };
+    let answer = ending_of(alloc, word, more)?;
+    Ok(Some(RegEntry::End {
+        caller,
+        larval: number_of(larval),
+        answer,
+    }))
+}
+
+fn unlist_of(alloc: Global, caller: u32, words: &[&[u8]]) -> Result<Option<RegEntry>, AllocError>
+    ensures { IfOk result (λ event. event ≡ unlist_of caller (map (λ word. word.now) words.now)) }
+{
+    match words {
+        [driver, _word, id] => {
+            let driver = Bytes::copy_of(alloc, driver)?;
+            Ok(Some(RegEntry::Unlist {
+                caller,
+                driver,
+                answer: Some(number_of(id)),
+            }))
+        }
+        [driver, _word] => {
+            let driver = Bytes::copy_of(alloc, driver)?;
+            Ok(Some(RegEntry::Unlist {
+                caller,
+                driver,
+                answer: None,
+            }))
+        }
+        _ => Ok(None),
+    }
+}
+
+fn get_of(caller: u32, words: &[&[u8]]) -> Option<RegEntry>
+    ensures { result ≡ get_of caller (map (λ word. word.now) words.now) }
+{
+    match words {
+        [id, word] => Some(RegEntry::Get {
+            caller,
+            id: number_of(id),
+            ok: is_word(word, b"ok"),
+        }),
+        _ => None,
+    }
+}
+
+fn refs_of(alloc: Global, caller: u32, words: &[&[u8]]) -> Result<Option<RegEntry>, AllocError>
+    ensures { IfOk result (λ event. event ≡ refs_of caller (map (λ word. word.now) words.now)) }
+{
+    match words {
+        [driver] => {
+            let driver = Bytes::copy_of(alloc, driver)?;
+            Ok(Some(RegEntry::Refs { caller, driver }))
+        }
+        _ => Ok(None),
+    }
+}
+
+fn claim_of(caller: u32, words: &[&[u8]]) -> Option<RegEntry>
+    ensures { result ≡ numbered_of (Entry.Claim caller) (map (λ word. word.now) words.now) }
+{
+    match words {
+        [larval] => Some(RegEntry::Claim {
+            caller,
+            larval: number_of(larval),
+        }),
+        _ => None,
+    }
+}
+
+fn waited_of(caller: u32, words: &[&[u8]]) -> Option<RegEntry>
+    ensures { result ≡ numbered_of (Entry.Waited caller) (map (λ word. word.now) words.now) }
+{
+    match words {
+        [larval] => Some(RegEntry::Waited {
+            caller,
+            larval: number_of(larval),
+        }),
+        _ => None,
+    }
+}
+
+fn put_of(caller: u32, words: &[&[u8]]) -> Option<RegEntry>
+    ensures { result ≡ numbered_of (Entry.Put caller) (map (λ word. word.now) words.now) }
+{
+    match words {
+        [id] => Some(RegEntry::Put {
+            caller,
+            id: number_of(id),
+        }),
+        _ => None,
+    }
+}
+
+/// The registry's event of this name, with these words.
+pub(crate) fn registry_of(
+    alloc: Global,
+    caller: u32,
+    name: &[u8],
+    words: &[&[u8]],
+) -> Result<Option<RegEntry>, AllocError>
+    ensures { IfOk result (λ event. event ≡ registry_of caller name.now (map (λ word. word.now) words.now)) }
+{
+    if is_word(name, b"enlist") {
+        enlist_of(alloc, caller, words)
+    } else if is_word(name, b"look") {
+        look_of(alloc, caller, words)
+    } else if is_word(name, b"claim") {
+        Ok(claim_of(caller, words))
+    } else if is_word(name, b"end") {
+        end_of(alloc, caller, words)
+    } else if is_word(name, b"waited") {
+        Ok(waited_of(caller, words))
+    } else if is_word(name, b"unlist") {
+        unlist_of(alloc, caller, words)
+    } else if is_word(name, b"get") {
+        Ok(get_of(caller, words))
+    } else if is_word(name, b"put") {
+        Ok(put_of(caller, words))
+    } else if is_word(name, b"refs") {
+        refs_of(alloc, caller, words)
+    } else if is_word(name, b"list") {
+        Ok(Some(RegEntry::List { caller }))
+    } else {
+        Ok(None)
+    }
+}
+
+fn shape_of(word: &[u8], size: u32) -> Shape
+    ensures { result ≡ shape_of word.now size }
+{
+    if is_word(word, b"pad") {
+        Shape::Pad(size)
+    } else {
+        Shape::Queue(size)
+    }
+}
+
+fn born_of(caller: u32, words: &[&[u8]]) -> Option<Plain>
+    ensures { result ≡ born_of caller (map (λ word. word.now) words.now) }
+{
+    match words {
+        [pipe, word, size] => Some(Plain::Born {
+            caller,
+            pipe: number_of(pipe),
+            shape: shape_of(word, small_of(size)),
+        }),
+        _ => None,
+    }
+}
+
+fn submit_of(caller: u32, words: &[&[u8]]) -> Option<Plain>
+    ensures { result ≡ submit_of caller (map (λ word. word.now) words.now) }
+{
+    match words {
+        [pipe, number, line] => Some(Plain::Submit {
+            caller,
+            pipe: number_of(pipe),
+            number: number_of(number),
+            line: small_of(line),
+        }),
+        _ => None,
+    }
+}
+
+fn entered_of(words: &[&[u8]]) -> Entered
+    ensures { result ≡ entered_of (map (λ word. word.now) words.now) }
+{
+    match words {
+        [word, number] if is_word(word, b"EBUSY") => Entered::Busy(number_of(number)),
+        [_word, number] => Entered::InProgress(number_of(number)),
+        _ => Entered::NoSpace,
+    }
+}
+
+fn enq_of(caller: u32, words: &[&[u8]]) -> Option<Plain>
+    ensures { result ≡ enq_of caller (map (λ word. word.now) words.now) }
+{
+    match words {
+        [pipe, line, backlog, answer @ ..] => Some(Plain::Enq {
+            caller,
+            pipe: number_of(pipe),
+            line: small_of(line),
+            backlog: is_word(backlog, b"backlog"),
+            answer: entered_of(answer),
+        }),
+        _ => None,
+    }
+}
+
+fn started_of(words: &[&[u8]]) -> Option<u64>
+    ensures { result ≡ started_of (map (λ word. word.now) words.now) }
+{
+    match words {
+        [_word, number] => Some(number_of(number)),
+        _ => None,
+    }
+}
+
+fn deq_of(caller: u32, words: &[&[u8]]) -> Option<Plain>
+    ensures { result ≡ deq_of caller (map (λ word. word.now) words.now) }
+{
+    match words {
+        [pipe, number, answer @ ..] => Some(Plain::Deq {
+            caller,
+            pipe: number_of(pipe),
+            number: number_of(number),
+            started: started_of(answer),
+        }),
+        _ => None,
+    }
+}
+
+// The words of an event of a pipeline.
+fn pipe_in(words: &[&[u8]]) -> Option<u64>
+    ensures { result ≡ pipe_in (map (λ word. word.now) words.now) }
+{
+    match words {
+        [pipe] => Some(number_of(pipe)),
+        _ => None,
+    }
+}
+
+// And of one with a number.
+fn pair_in(words: &[&[u8]]) -> Option<(u64, u64)>
+    ensures { result ≡ pair_in (map (λ word. word.now) words.now) }
+{
+    match words {
+        [pipe, number] => Some((number_of(pipe), number_of(number))),
+        _ => None,
+    }
+}
+
+fn counted_of(caller: u32, name: &[u8], pipe: u64, number: u64) -> Option<Plain>
+    ensures { result ≡ counted_of caller name.now pipe number }
+{
+    if is_word(name, b"take") {
+        Some(Plain::Take {
+            caller,
+            pipe,
+            number,
+        })
+    } else if is_word(name, b"finish") {
+        Some(Plain::Finish {
+            caller,
+            pipe,
+            number,
+        })
+    } else if is_word(name, b"done") {
+        Some(Plain::Done {
+            caller,
+            pipe,
+            number,
+        })
+    } else if is_word(name, b"collect") {
+        Some(Plain::Collect {
+            caller,
+            pipe,
+            to: number,
+        })
+    } else {
+        None
+    }
+}
+
+fn piped_of(caller: u32, name: &[u8], pipe: u64) -> Option<Plain>
+    ensures { result ≡ piped_of caller name.now pipe }
+{
+    if is_word(name, b"hold") {
+        Some(Plain::Hold { caller, pipe })
+    } else if is_word(name, b"go") {
+        Some(Plain::Go { caller, pipe })
+    } else if is_word(name, b"close") {
+        Some(Plain::Close { caller, pipe })
+    } else if is_word(name, b"share") {
+        Some(Plain::Share { caller, pipe })
+    } else {
+        None
+    }
+}
+
+// An event of a pipeline alone, or of a pipeline and a number.
+fn short_of(caller: u32, name: &[u8], words: &[&[u8]]) -> Option<Plain>
+    ensures { result ≡ short_of caller name.now (map (λ word. word.now) words.now) }
+{
+    match pipe_in(words) {
+        Some(pipe) => piped_of(caller, name, pipe),
+        None => match pair_in(words) {
+            Some((pipe, number)) => counted_of(caller, name, pipe, number),
+            None => None,
+        },
+    }
+}
+
+/// The board's event of this name, with these words.
+pub(crate) fn board_of(caller: u32, name: &[u8], words: &[&[u8]]) -> Option<Plain>
+    ensures { result ≡ board_of caller name.now (map (λ word. word.now) words.now) }
+{
+    if is_word(name, b"born") {
+        born_of(caller, words)
+    } else if is_word(name, b"submit") {
+        submit_of(caller, words)
+    } else if is_word(name, b"enq") {
+        enq_of(caller, words)
+    } else if is_word(name, b"deq") {
+        deq_of(caller, words)
+    } else if is_word(name, b"shut") {
+        Some(Plain::Shut { caller })
+    } else {
+        short_of(caller, name, words)
+    }
+}

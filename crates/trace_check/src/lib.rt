@@ -1,0 +1,26 @@
+//! A checker of the trace of a run.
+#![tactic(auto)]
+
+mod advancing;
+mod guessing;
+mod held;
+mod laws;
+mod lines;
+mod pipe;
+mod reading;
+mod reason;
+mod register;
+mod registering;
+mod registry_check;
+mod table;
+#[cfg(test)]
+mod tests;
+mod verdict;
+
+pub use laws::{asks_are_lines, board_reasons, one_verdict, registry_reasons};
+pub use lines::{Event, Known};
+pub use reading::{Events, Reading, read_trace};
+pub use reason::Reason;
+pub use registry_check::first_wrong_entry;
+pub use table::first_wrong_event;
+pub use verdict::{TraceVerdict, check_trace};

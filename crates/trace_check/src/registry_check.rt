@@ -1,0 +1,67 @@
+//! A registry's events checked in order.
+
+ghost use Rattle.std.specs.Prelude.{◌≡◌, IfOk, true, map};
+ghost use Rattle.std.specs.List.{list_all};
+ghost use Rattle.alg_registry.specs.Rows.{opened, rows_of};
+ghost use Rattle.trace_text.specs.Trace.{has_text};
+ghost use Rattle.trace_check.specs.RegReasons.{IsFirstWrong};
+ghost use Rattle.trace_check.specs.Registers.{row_of, opening_table};
+
+use crate::advancing::{advance_entries, advance_larvals, advance_references};
+use crate::reason::Reason;
+use crate::register::{Entry, add_entry};
+use crate::registering::judge_registry;
+use alg_registry::{Ids, Kind, RegEntry, Spec, Wrap};
+use kc_base::Bytes;
+use std::alloc::{AllocError, Global};
+
+// A driver that is listed from the start.
+fn opened(alloc: Global, name: &[u8], driver: &[u8], kind: Kind) -> Result<Spec, AllocError>
+    ensures { IfOk result (λ spec. spec ≡ opened name.now driver.now kind) }
+{
+    Ok(Spec {
+        name: Bytes::copy_of(alloc, name)?,
+        driver: Bytes::copy_of(alloc, driver)?,
+        kind,
+        wrap: Wrap::Plain,
+        priority: 100,
+        below: Ids::new(alloc),
+    })
+}
+
+// The entries before the first event.
+fn opening_entries(alloc: Global) -> Result<Vec<Entry>, AllocError>
+    ensures { IfOk result (λ entries. map row_of entries.items ≡ opening_table) }
+{
+    let mut entries = Vec::new(alloc);
+    let aes = opened(alloc, b"aes", b"aes-generic", Kind::Cipher)?;
+    add_entry(alloc, &mut entries, &aes)?;
+    let sha = opened(alloc, b"sha256", b"sha256-generic", Kind::Hash)?;
+    add_entry(alloc, &mut entries, &sha)?;
+    let ghash = opened(alloc, b"ghash", b"ghash-generic", Kind::Ghash)?;
+    add_entry(alloc, &mut entries, &ghash)?;
+    Ok(entries)
+}
+
+/// The place and the reason of the first event that isn't right after those before it.
+pub fn first_wrong_entry(
+    alloc: Global,
+    events: &[RegEntry],
+) -> Result<Option<(u64, Reason)>, AllocError>
+    requires { list_all has_text events.now ≡ true }
+    ensures { IfOk result (λ found. IsFirstWrong events.now found) }
+{
+    let mut entries = opening_entries(alloc)?;
+    let mut larvals = Vec::new(alloc);
+    let mut references = Vec::new(alloc);
+    for place in 0..events.len() {
+        let event = &events[place];
+        if let Some(reason) = judge_registry(alloc, &entries, &larvals, &references, event)? {
+            return Ok(Some((place as u64, reason)));
+        }
+        advance_entries(alloc, &mut entries, event)?;
+        advance_larvals(alloc, &mut larvals, event)?;
+        advance_references(&mut references, event)?;
+    }
+    Ok(None)
+}
