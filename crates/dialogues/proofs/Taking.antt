@@ -6,7 +6,7 @@ use Rattle.alg_registry.specs.declared.entry.RegEntry.{RegEntry}
 use Rattle.alg_registry.specs.declared.entry.RegEntry.TheVariants.{Look}
 use Rattle.templates.specs.Looking.{LooksFor, Found, found_in, is_asked}
 use Rattle.dialogues.specs.RegistryCalls.{RegCall, Looks, reg_call_of, reg_calls, reg_calls_from, prepend, is_settled, AllSettled}
-use Rattle.dialogues.specs.InTurn.{IsMade, AsksNothing, AreInTurn, AreCalls}
+use Rattle.dialogues.specs.InTurn.{IsMade, AsksNothing, AreInTurn, AreMade, AreCalls}
 use Rattle.dialogues.proofs.RegistryGrowing.{reg_calls-append, reg_calls_from-append, none-asked}
 
 pub no_call : (caller : ℕ) (r : List RegEntry) → AreInTurn caller [] r r
@@ -80,7 +80,7 @@ pub AllSettled-append : (a b : List RegCall) → AllSettled a → AllSettled b �
 AllSettled-append [] b x y = y
 AllSettled-append (call ∷ a) b x y = (x.0, AllSettled-append a b x.1 y)
 
-nothing-are : (n : ℕ) (r r' : List RegEntry) → AllSettled (reg_calls n r) → AsksNothing n r r' → AreCalls n [] r r'
+pub nothing-are : (n : ℕ) (r r' : List RegEntry) → AllSettled (reg_calls n r) → AsksNothing n r r' → AreCalls n [] r r'
 nothing-are n r r' settled none =
     let same : reg_calls n r' ≡ reg_calls n r ++ [] =
     ap (reg_calls n) none.1
@@ -93,38 +93,49 @@ nothing-are n r r' settled none =
       all_settled = subst AllSettled (sym same) (AllSettled-append (reg_calls n r) [] settled tt);
     }
 
-one-is : (n : ℕ) (call : RegCall) (r r' : List RegEntry) → AllSettled (reg_calls n r) → IsMade n call r r' → AreCalls n (call ∷ []) r r'
-one-is n call r r' settled made =
+-- one call is made as several are
+pub made-alone : (n : ℕ) (call : RegCall) (r r' : List RegEntry) → IsMade n call r r' → AreMade n (call ∷ []) r r'
+made-alone n call r r' made =
     let b = made.before in
     let e = made.entry in
     let a = made.after in
-    let whole : r' ≡ r ++ (b ++ e ∷ a) = made.history ∙ (append_assoc (r ++ b) (e ∷ []) a ∙ append_assoc r b (e ∷ a)) in
-    let are : reg_calls n r' ≡ reg_calls n r ++ call ∷ [] =
-    ap (reg_calls n) whole
-    ∙ (reg_calls-append n r (b ++ e ∷ a) settled
-    ∙ ap (λ cs. reg_calls n r ++ cs)
-    (ap (λ h. reg_calls_from h n r (b ++ e ∷ a)) (sym whole)
-    ∙ (reg_calls_from-append r' n r b (e ∷ a)
-    ∙ (ap (λ cs. cs ++ reg_calls_from r' n (r ++ b) (e ∷ a)) (none-asked r' n r b made.none_before)
-    ∙ (ap (λ c. prepend c (reg_calls_from r' n ((r ++ b) ++ e ∷ []) a)) made.call_is
-    ∙ ap (λ cs. call ∷ cs) (none-asked r' n ((r ++ b) ++ e ∷ []) a made.none_after)))))) in
     record {
       more = b ++ e ∷ a;
-      goes_on = whole;
-      calls_are = are;
+      history = made.history ∙ (append_assoc (r ++ b) (e ∷ []) a ∙ append_assoc r b (e ∷ a));
+      calls_are =
+          reg_calls_from-append r' n r b (e ∷ a)
+          ∙ (ap (λ cs. cs ++ reg_calls_from r' n (r ++ b) (e ∷ a)) (none-asked r' n r b made.none_before)
+          ∙ (ap (λ c. prepend c (reg_calls_from r' n ((r ++ b) ++ e ∷ []) a)) made.call_is
+          ∙ ap (λ cs. call ∷ cs) (none-asked r' n ((r ++ b) ++ e ∷ []) a made.none_after)));
       settled = (made.settled, tt);
-      all_settled = subst AllSettled (sym are) (AllSettled-append (reg_calls n r) (call ∷ []) settled (made.settled, tt));
     }
+
+pub made-are : (n : ℕ) (calls : List RegCall) (r r' : List RegEntry) → AllSettled (reg_calls n r) → AreMade n calls r r' → AreCalls n calls r r'
+made-are n calls r r' settled made =
+    let are : reg_calls n r' ≡ reg_calls n r ++ calls =
+    ap (reg_calls n) made.history
+    ∙ (reg_calls-append n r made.more settled
+    ∙ ap (λ cs. reg_calls n r ++ cs) (ap (λ h. reg_calls_from h n r made.more) (sym made.history) ∙ made.calls_are)) in
+    record {
+      more = made.more;
+      goes_on = made.history;
+      calls_are = are;
+      settled = made.settled;
+      all_settled = subst AllSettled (sym are) (AllSettled-append (reg_calls n r) calls settled made.settled);
+    }
+
+-- calls, and then further calls
+pub are-then : (n : ℕ) (a b : List RegCall) (r m r' : List RegEntry) → AreCalls n a r m → AreCalls n b m r' → AreCalls n (a ++ b) r r'
+are-then n a b r m r' first rest = record {
+  more = first.more ++ rest.more;
+  goes_on = rest.goes_on ∙ (ap (λ h. h ++ rest.more) first.goes_on ∙ append_assoc r first.more rest.more);
+  calls_are = rest.calls_are ∙ (ap (λ cs. cs ++ b) first.calls_are ∙ append_assoc (reg_calls n r) a b);
+  settled = AllSettled-append a b first.settled rest.settled;
+  all_settled = rest.all_settled;
+}
 
 pub calls-are : (n : ℕ) (calls : List RegCall) (r r' : List RegEntry) → AllSettled (reg_calls n r) → AreInTurn n calls r r' → AreCalls n calls r r'
 calls-are n [] r r' settled takes = nothing-are n r r' settled takes
 calls-are n (call ∷ calls) r r' settled takes =
-    let first = one-is n call r takes.0 settled takes.1 in
-    let rest = calls-are n calls takes.0 r' first.all_settled takes.2 in
-    record {
-      more = first.more ++ rest.more;
-      goes_on = rest.goes_on ∙ (ap (λ h. h ++ rest.more) first.goes_on ∙ append_assoc r first.more rest.more);
-      calls_are = rest.calls_are ∙ (ap (λ cs. cs ++ calls) first.calls_are ∙ append_assoc (reg_calls n r) (call ∷ []) calls);
-      settled = (takes.1.settled, rest.settled);
-      all_settled = rest.all_settled;
-    }
+    let first = made-are n (call ∷ []) r takes.0 settled (made-alone n call r takes.0 takes.1) in
+    are-then n (call ∷ []) calls r takes.0 r' first (calls-are n calls takes.0 r' first.all_settled takes.2)

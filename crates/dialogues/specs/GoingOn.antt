@@ -1,5 +1,6 @@
 -- Laws: what stays of a caller's calls as the histories go on.
-use Rattle.std.specs.Prelude.{ℕ, ◌≡◌, true, false, List, [], ◌∷◌, ◌++◌, filter, Some, slice_get}
+use Rattle.std.specs.Prelude.{ℕ, ◌≤◌, ◌≡◌, true, false, List, [], ◌∷◌, ◌++◌, length, filter, Some, slice_get}
+use Rattle.std.specs.List.{list_all}
 use Rattle.alg_registry.specs.declared.entry.RegEntry.{RegEntry}
 use Rattle.board.specs.declared.entry.BoardEntry.{BoardEntry}
 use Rattle.templates.specs.Looking.{Found, found_in, LooksFor, is_asked}
@@ -8,7 +9,7 @@ use Rattle.alg_registry.specs.declared.spec.Spec.{Spec}
 use Rattle.alg_registry.specs.Rows.{registered}
 use Rattle.transforms.specs.declared.ask.Ask.{Ask}
 use Rattle.dialogues.specs.BoardCalls.{board_calls, board_calls_from, is_called}
-use Rattle.dialogues.specs.InTurn.{AsksNothing, AreInTurn, AreCalls}
+use Rattle.dialogues.specs.InTurn.{AsksNothing, AreInTurn, AreMade, AreInTurnBy, is_look, AreCalls}
 use Rattle.dialogues.specs.RegistryCalls.{RegCall, Looks, reg_call_of, reg_calls, reg_calls_from, is_settled, AllSettled}
 
 -- ---- of the registry
@@ -80,3 +81,40 @@ CallsThenCalls =
 abbrev pub CallsInTurnAre : Type 0
 CallsInTurnAre =
     (caller : ℕ) (calls : List RegCall) (r r' : List RegEntry) → AllSettled (reg_calls caller r) → AreInTurn caller calls r r' → AreCalls caller calls r r'
+
+-- ---- calls with several looks at once
+
+-- calls in turn are so with any number of looks at once
+abbrev pub InTurnByAny : Type 0
+InTurnByAny = (width caller : ℕ) (calls : List RegCall) (r r' : List RegEntry) → AreInTurn caller calls r r' → AreInTurnBy width caller calls r r'
+
+-- and with at most one look at once they are in turn
+abbrev pub InTurnByOne : Type 0
+InTurnByOne = (width caller : ℕ) (calls : List RegCall) (r r' : List RegEntry) → width ≤ 1 → AreInTurnBy width caller calls r r' → AreInTurn caller calls r r'
+
+-- a greater number allows more
+abbrev pub InTurnByMore : Type 0
+InTurnByMore =
+    (width wider caller : ℕ) (calls : List RegCall) (r r' : List RegEntry) → width ≤ wider → AreInTurnBy width caller calls r r'
+    → AreInTurnBy wider caller calls r r'
+
+-- looks at once
+abbrev pub LooksAtOnce : Type 0
+LooksAtOnce =
+    (width caller : ℕ) (calls : List RegCall) (r r' : List RegEntry) → list_all is_look calls ≡ true → length calls ≤ width → AreMade caller calls r r'
+    → AreInTurnBy width caller calls r r'
+
+abbrev pub NothingThenCallsBy : Type 0
+NothingThenCallsBy =
+    (width caller : ℕ) (calls : List RegCall) (r m r' : List RegEntry) → AsksNothing caller r m → AreInTurnBy width caller calls m r'
+    → AreInTurnBy width caller calls r r'
+
+abbrev pub CallsThenCallsBy : Type 0
+CallsThenCallsBy =
+    (width caller : ℕ) (calls later : List RegCall) (r m r' : List RegEntry) → AreInTurnBy width caller calls r m → AreInTurnBy width caller later m r'
+    → AreInTurnBy width caller (calls ++ later) r r'
+
+abbrev pub CallsByAre : Type 0
+CallsByAre =
+    (width caller : ℕ) (calls : List RegCall) (r r' : List RegEntry) → AllSettled (reg_calls caller r) → AreInTurnBy width caller calls r r'
+    → AreCalls caller calls r r'

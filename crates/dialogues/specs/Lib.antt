@@ -9,9 +9,11 @@ pub mod Registering
 pub mod Allocating
 pub mod Requesting
 pub mod Piping
+pub mod Probing
 pub mod Lines
 pub mod Texts
 pub mod InTurn
+pub mod Widths
 pub mod GoingOn
 pub mod Leading
 pub mod References

@@ -9,6 +9,7 @@ use Rattle.reply_text.specs.declared.answers.Answer.TheVariants as said
 use Rattle.dialogues.specs.Allocating.{alloc, free}
 use Rattle.dialogues.specs.Dialogues.{Dialogue, Ends, followed, says}
 use Rattle.dialogues.specs.Piping.{hold, go, poll, drain, end}
+use Rattle.dialogues.specs.Probing.{probe}
 use Rattle.dialogues.specs.Registering.{register, unregister, refs, listed}
 use Rattle.dialogues.specs.Requesting.{aes, set_key, set_tag_size, request, request_of}
 use Rattle.dialogues.specs.Walk.{Walk}
@@ -18,6 +19,7 @@ abbrev pub command_dialogue : ℕ → Walk → ℕ → Command → Dialogue
 command_dialogue workers walk n (command.Aes key block) = aes walk n key block
 command_dialogue workers walk n (command.Register driver priority) = register walk n driver priority
 command_dialogue workers walk n (command.Unregister driver) = unregister walk n driver
+command_dialogue workers walk n (command.Probe names) = probe walk n names
 command_dialogue workers walk n (command.Alloc label name length) = alloc workers walk n label name length
 command_dialogue workers walk n (command.Key label key) = set_key walk n label key
 command_dialogue workers walk n (command.Authsize label size) = set_tag_size walk n label size

@@ -7,7 +7,7 @@ ghost use Rattle.script_text.specs.declared.commands.Line.{Line};
 ghost use Rattle.transforms.specs.declared.ask.Ask.{Ask};
 ghost use Rattle.dialogues.specs.BoardCalls.{BoardCall};
 ghost use Rattle.dialogues.specs.Dialogues.{Dialogue, followed};
-ghost use Rattle.dialogues.specs.GoingOn.{RegisteredStays, FoundStays, RegistryCallsGoOn, RegistryCallsJoin, RegistryUnasked, BoardCallsGoOn, BoardCallsJoin, BoardUncalled, NoCall, OneCall, OneLook, NothingThenCalls, CallsThenCalls, CallsInTurnAre};
+ghost use Rattle.dialogues.specs.GoingOn.{RegisteredStays, FoundStays, RegistryCallsGoOn, RegistryCallsJoin, RegistryUnasked, BoardCallsGoOn, BoardCallsJoin, BoardUncalled, NoCall, OneCall, OneLook, NothingThenCalls, CallsThenCalls, CallsInTurnAre, InTurnByAny, InTurnByOne, InTurnByMore, LooksAtOnce, NothingThenCallsBy, CallsThenCallsBy, CallsByAre};
 ghost use Rattle.dialogues.specs.Leading.{LeadsNowhere, LeadsOn, LeadsFront, LeadsToEnd};
 ghost use Rattle.dialogues.specs.References.{ReferencesFollow};
 ghost use Rattle.dialogues.specs.RegistryCalls.{RegCall};
@@ -52,6 +52,17 @@ pub fn calls_in_turn()
     ensures first { NothingThenCalls }
     ensures after { CallsThenCalls }
     ensures are { CallsInTurnAre }
+{}
+
+/// Calls with several looks at once: calls in turn are such, and with at most one look at once they are in turn.
+pub fn calls_at_once()
+    ensures any { InTurnByAny }
+    ensures one { InTurnByOne }
+    ensures more { InTurnByMore }
+    ensures looks { LooksAtOnce }
+    ensures first { NothingThenCallsBy }
+    ensures after { CallsThenCallsBy }
+    ensures are { CallsByAre }
 {}
 
 /// A script's lines, one by one, and the texts that they come to.

@@ -5,7 +5,7 @@ use Rattle.std.specs.List.{join_with_byte}
 use Rattle.hex.specs.Hex.{encode_lower}
 use Rattle.kc_base.specs.Errno.{name_of}
 use Rattle.reply_text.specs.declared.answers.Answer.{Answer}
-use Rattle.reply_text.specs.declared.answers.Answer.TheVariants.{Ok, Value, Made, Refused, Malformed, Refs, Alg, Listed, Started, Done, Failed, Polled, Drained, End}
+use Rattle.reply_text.specs.declared.answers.Answer.TheVariants.{Ok, Value, Made, Refused, Malformed, Probed, Unprobed, Refs, Alg, Listed, Started, Done, Failed, Polled, Drained, End}
 
 -- bytes in hexadecimal digits of lower case, and `-` for no bytes
 abbrev pub hex_text : List ℕ → List ℕ
@@ -26,6 +26,8 @@ text_of (Value line bytes) = sentence (decimal line ∷ codes "ok" ∷ hex_text 
 text_of (Made line driver) = sentence (decimal line ∷ codes "ok" ∷ driver ∷ [])
 text_of (Refused line errno) = sentence (decimal line ∷ name_of errno ∷ [])
 text_of (Malformed line) = sentence (decimal line ∷ codes "malformed" ∷ [])
+text_of (Probed line name driver) = sentence (decimal line ∷ codes "probed" ∷ name ∷ driver ∷ [])
+text_of (Unprobed line name errno) = sentence (decimal line ∷ codes "unprobed" ∷ name ∷ name_of errno ∷ [])
 text_of (Refs line count listed) = sentence (decimal line ∷ codes "refs" ∷ decimal count ∷ listed_word listed ∷ [])
 text_of (Alg line name driver priority refs) = sentence (decimal line ∷ codes "alg" ∷ name ∷ driver ∷ decimal priority ∷ decimal refs ∷ [])
 text_of (Listed line count) = sentence (decimal line ∷ codes "listed" ∷ decimal count ∷ [])

@@ -27,6 +27,18 @@ pub enum Answer {
     Malformed {
         line: u32,
     },
+    /// The name came to an entry of this driver.
+    Probed {
+        line: u32,
+        name: Bytes,
+        driver: Bytes,
+    },
+    /// The name came to no entry.
+    Unprobed {
+        line: u32,
+        name: Bytes,
+        errno: Errno,
+    },
     /// How many references an entry has, and whether it is listed.
     Refs {
         line: u32,

@@ -42,6 +42,19 @@ fn refs_text(alloc: Global, line: u32, count: u64, listed: bool) -> Result<Bytes
     )
 }
 
+// A line with a word, a name and what the name came to.
+fn name_text(
+    alloc: Global,
+    line: u32,
+    word: &[u8],
+    name: &[u8],
+    found: &[u8],
+) -> Result<Bytes, AllocError>
+    ensures { IfOk result (λ text. text ≡ sentence (decimal line ∷ word.now ∷ name.now ∷ found.now ∷ [])) }
+{
+    numbered(alloc, line, &[word, name, found])
+}
+
 fn alg_text(
     alloc: Global,
     line: u32,
@@ -85,6 +98,13 @@ fn answer_text(alloc: Global, answer: &Answer) -> Result<Bytes, AllocError>
         }
         Answer::Refused { line, errno } => numbered(alloc, *line, &[errno.name().as_bytes()]),
         Answer::Malformed { line } => numbered(alloc, *line, &[b"malformed".as_slice()]),
+        Answer::Probed { line, name, driver } => {
+            name_text(alloc, *line, b"probed", name.as_slice(), driver.as_slice())
+        }
+        Answer::Unprobed { line, name, errno } => {
+            let errno = errno.name().as_bytes();
+            name_text(alloc, *line, b"unprobed", name.as_slice(), errno)
+        }
         Answer::Refs {
             line,
             count,

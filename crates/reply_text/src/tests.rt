@@ -60,6 +60,23 @@ fn names_and_drivers_are_printed_as_they_are(rt: HostRuntime) -> Result<(), Fail
     };
     let reply = put_after(rt.alloc(), b"", &answer)?;
     assert_eq!(rt; reply.as_slice(), b"2 ok cbc(aes-generic)\n".as_slice());
+    let answer = Answer::Probed {
+        line: 5,
+        name: bytes_of(rt.alloc(), b"cbc(aes)")?,
+        driver: bytes_of(rt.alloc(), b"cbc(aes-generic)")?,
+    };
+    let reply = put_after(rt.alloc(), b"", &answer)?;
+    assert_eq!(rt;
+        reply.as_slice(),
+        b"5 probed cbc(aes) cbc(aes-generic)\n".as_slice()
+    );
+    let answer = Answer::Unprobed {
+        line: 5,
+        name: bytes_of(rt.alloc(), b"des")?,
+        errno: Errno::ENOENT,
+    };
+    let reply = put_after(rt.alloc(), b"", &answer)?;
+    assert_eq!(rt; reply.as_slice(), b"5 unprobed des ENOENT\n".as_slice());
     let answer = Answer::Alg {
         line: 9,
         name: bytes_of(rt.alloc(), b"cbc(aes)")?,

@@ -14,28 +14,29 @@ use Rattle.dialogues.specs.Dialogues.{Dialogue, Ends}
 use Rattle.dialogues.specs.Lines.{command_dialogue, line_dialogue}
 use Rattle.dialogues.specs.Requesting.{request}
 use Rattle.dialogues.specs.Turns.{ended}
+use Rattle.dialogues.specs.Widths.{command_width, width_of}
 use Rattle.transforms.specs.declared.request.Request.{Request}
 use Rattle.session_calls.specs.Passes.{known}
-use Rattle.script_session.specs.Holding.{Holds, Stops}
+use Rattle.script_session.specs.Holding.{HoldsBy, Holds, Stops}
 use Rattle.script_session.specs.Running.{IsReady, Replies}
 use Rattle.script_session.specs.States.{State, Stands, Posted}
 use Rattle.script_session.proofs.Rules.{asked-nothing, called-nothing}
 use Rattle.std.proofs.Common.{append-nil}
 
 pub command-arm : {S A : Type 0} (result : Result A S) (s s' : State) (n : ℕ) (cmd given : Command) (answers answers' : List Answer) → cmd ≡ given
-    → MatchResult result (λ _. Holds (command_dialogue s.workers s.walk n given) s s' answers answers') (λ _. Stops s s')
-    → MatchResult result (λ _. Holds (command_dialogue s.workers s.walk n cmd) s s' answers answers') (λ _. Stops s s')
+    → MatchResult result (λ _. HoldsBy (command_width given) (command_dialogue s.workers s.walk n given) s s' answers answers') (λ _. Stops s s')
+    → MatchResult result (λ _. HoldsBy (command_width cmd) (command_dialogue s.workers s.walk n cmd) s s' answers answers') (λ _. Stops s s')
 command-arm result s s' n cmd given answers answers' is held =
-    subst (λ x. MatchResult result (λ _. Holds (command_dialogue s.workers s.walk n x) s s' answers answers') (λ _. Stops s s')) (sym is) held
+    subst (λ x. MatchResult result (λ _. HoldsBy (command_width x) (command_dialogue s.workers s.walk n x) s s' answers answers') (λ _. Stops s s')) (sym is) held
 
 pub line-arm : {S A : Type 0} (result : Result A S) (s s' : State) (n : ℕ) (line given : Line) (answers answers' : List Answer) → line ≡ given
-    → MatchResult result (λ _. Holds (line_dialogue s.workers s.walk n given) s s' answers answers') (λ _. Stops s s')
-    → MatchResult result (λ _. Holds (line_dialogue s.workers s.walk n line) s s' answers answers') (λ _. Stops s s')
+    → MatchResult result (λ _. HoldsBy (width_of given) (line_dialogue s.workers s.walk n given) s s' answers answers') (λ _. Stops s s')
+    → MatchResult result (λ _. HoldsBy (width_of line) (line_dialogue s.workers s.walk n line) s s' answers answers') (λ _. Stops s s')
 line-arm result s s' n line given answers answers' is held =
-    subst (λ x. MatchResult result (λ _. Holds (line_dialogue s.workers s.walk n x) s s' answers answers') (λ _. Stops s s')) (sym is) held
+    subst (λ x. MatchResult result (λ _. HoldsBy (width_of x) (line_dialogue s.workers s.walk n x) s s' answers answers') (λ _. Stops s s')) (sym is) held
 
-pub line-holds : (s s' : State) (n : ℕ) (line given : Line) (answers answers' : List Answer) → line ≡ given → Holds (line_dialogue s.workers s.walk n given) s s' answers answers' → Holds (line_dialogue s.workers s.walk n line) s s' answers answers'
-line-holds s s' n line given answers answers' is held = subst (λ x. Holds (line_dialogue s.workers s.walk n x) s s' answers answers') (sym is) held
+pub line-holds : (s s' : State) (n : ℕ) (line given : Line) (answers answers' : List Answer) → line ≡ given → HoldsBy (width_of given) (line_dialogue s.workers s.walk n given) s s' answers answers' → HoldsBy (width_of line) (line_dialogue s.workers s.walk n line) s s' answers answers'
+line-holds s s' n line given answers answers' is held = subst (λ x. HoldsBy (width_of x) (line_dialogue s.workers s.walk n x) s s' answers answers') (sym is) held
 
 pub request-arm-as : {S A : Type 0} (result : Result A S) (s s' : State) (n : ℕ) (label : List ℕ) (asked given : Request) (backlog : _) (answers answers' : List Answer) → asked ≡ given
     → MatchResult result (λ _. Holds (request s.walk n label asked backlog) s s' answers answers') (λ _. Stops s s')
@@ -61,8 +62,8 @@ nothing-holds s answers stands posted =
     }
 
 -- what was held is a stop where its text found no memory
-pub holds-stops : (d : Dialogue) (s s' : State) (answers answers' : List Answer) → Posted s.walk (known s.board) → Holds d s s' answers answers' → Stops s s'
-holds-stops d s s' answers answers' posted held =
+pub holds-stops : {width : ℕ} → (d : Dialogue) (s s' : State) (answers answers' : List Answer) → Posted s.walk (known s.board) → HoldsBy width d s s' answers answers' → Stops s s'
+holds-stops {width} d s s' answers answers' posted held =
     record {
       locks = held.locks;
       registry = record { number = held.done.asked.number; next = held.done.asked.next; seen = (held.done.asked.are.more, held.done.asked.are.goes_on) };
@@ -72,8 +73,8 @@ holds-stops d s s' answers answers' posted held =
       };
     }
 
-pub replies : (d : Dialogue) (s s' : State) (answers : List Answer) (text text' : List ℕ) → Holds d s s' [] answers → text' ≡ text ++ flat_map text_of answers → Replies d s s' text text'
-replies d s s' answers text text' held e =
+pub replies : {width : ℕ} → (d : Dialogue) (s s' : State) (answers : List Answer) (text text' : List ℕ) → HoldsBy width d s s' [] answers → text' ≡ text ++ flat_map text_of answers → Replies width d s s' text text'
+replies {width} d s s' answers text text' held e =
     record {
       locks = held.locks;
       turn = held.done.turn;
@@ -84,6 +85,6 @@ replies d s s' answers text text' held e =
       says = e ∙ ap (λ a. text ++ flat_map text_of a) held.done.says;
     }
 
-pub ready : {W : Type 0} (registry : SharedRegistry) (board : SharedBoard W Ask Finished) (d : Dialogue) (s s' : State) (answers answers' : List Answer) → IsReady registry board s → Holds d s s' answers answers' → IsReady registry board s'
-ready registry board d s s' answers answers' is held =
+pub ready : {W : Type 0} {width : ℕ} (registry : SharedRegistry) (board : SharedBoard W Ask Finished) (d : Dialogue) (s s' : State) (answers answers' : List Answer) → IsReady registry board s → HoldsBy width d s s' answers answers' → IsReady registry board s'
+ready {W} {width} registry board d s s' answers answers' is held =
     record { calls_registry = held.locks.registry ∙ is.calls_registry; calls_board = held.locks.board ∙ is.calls_board; stands = held.done.stands; posted = held.done.posted }

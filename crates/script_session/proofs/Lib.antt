@@ -12,6 +12,8 @@ pub mod Requests
 pub mod Frees
 pub mod Creating
 pub mod Finding
+pub mod Searches
+pub mod Probing
 pub mod Commands
 pub mod Leading
 pub mod Moving

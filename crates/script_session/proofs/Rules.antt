@@ -16,8 +16,9 @@ use Rattle.dialogues.specs.Dialogues.{Dialogue, Ends, Says, Asks, Posts, refuses
 use Rattle.dialogues.specs.Questions.{RegQuestion, Enlist, Look, Unlist, Get, Put, Count, ListAll, RegAnswer, reg_call, reg_answer, BoardQuestion, Create, Submit, Enqueue, Hold, Go, Poll, Drain, Close, Share, Shut, BoardAnswer, board_call, board_answer}
 use Rattle.dialogues.specs.Turns.{Turn, ended, broken, saying, asking, posting, turn_of}
 use Rattle.dialogues.specs.Walk.{Walk, Live, live_of}
-use Rattle.dialogues.specs.InTurn.{AreInTurn, AreCalls}
-use Rattle.dialogues.proofs.Taking.{no_call, one_after}
+use Rattle.dialogues.specs.InTurn.{AreInTurnBy, AreCalls}
+use Rattle.dialogues.proofs.Taking.{no_call}
+use Rattle.dialogues.proofs.Grouping.{in_turn-by, by-after}
 use Rattle.session_calls.specs.Asking.{IsCaller}
 use Rattle.session_calls.proofs.Boarding.{starts-same, called-more}
 use Rattle.script_session.specs.States.{Stands, Posted}
@@ -32,7 +33,7 @@ asked-nothing k caller =
     record {
       number = refl;
       next = refl;
-      in_turn = no_call k.number k.seen;
+      in_turn = in_turn-by 1 k.number [] k.seen k.seen (no_call k.number k.seen);
       are = record {
         more = [];
         goes_on = sym (append-nil k.seen);
@@ -46,12 +47,12 @@ asked-nothing k caller =
 pub asked-more : (k l m : Known RegEntry) (a b : List RegCall) → Asked k l a → Asked l m b → Asked k m (a ++ b)
 asked-more k l m a b first later =
     let n = k.number in
-    let turns : AreInTurn n b l.seen m.seen = subst (λ x. AreInTurn x b l.seen m.seen) first.number later.in_turn in
+    let turns : AreInTurnBy 1 n b l.seen m.seen = subst (λ x. AreInTurnBy 1 x b l.seen m.seen) first.number later.in_turn in
     let are : AreCalls n b l.seen m.seen = subst (λ x. AreCalls x b l.seen m.seen) first.number later.are in
     record {
       number = later.number ∙ first.number;
       next = later.next ∙ first.next;
-      in_turn = one_after n a b k.seen l.seen m.seen first.in_turn turns;
+      in_turn = by-after 1 n a b k.seen l.seen m.seen first.in_turn turns;
       are = record {
         more = first.are.more ++ are.more;
         goes_on = are.goes_on ∙ (ap (λ h. h ++ are.more) first.are.goes_on ∙ append_assoc k.seen first.are.more are.more);

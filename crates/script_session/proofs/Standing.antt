@@ -5,7 +5,7 @@ use Rattle.turn_lock.specs.Turns.{Known}
 use Rattle.dialogues.specs.References.{got, given}
 use Rattle.dialogues.specs.RegistryCalls.{RegCall, reg_calls}
 use Rattle.dialogues.specs.Walk.{Live}
-use Rattle.session_calls.specs.Asking.{Asked, HasReferenceOf}
+use Rattle.session_calls.specs.Asking.{AskedBy, HasReferenceOf}
 use Rattle.script_session.specs.States.{Stands, uses}
 use Rattle.script_session.proofs.Placed.{Split, uses-removed}
 
@@ -18,9 +18,9 @@ given-append id [] b = omega arith
 given-append id (call ∷ a) b = let h = given-append id a b in omega (arith, h)
 
 -- it is so again after calls by which references and live transforms change alike
-pub stands-more : (lives lives' : List Live) (k l : Known RegEntry) (calls : List RegCall) → Stands lives k → Asked k l calls
+pub stands-more : {width : ℕ} → (lives lives' : List Live) (k l : Known RegEntry) (calls : List RegCall) → Stands lives k → AskedBy width k l calls
     → ((id : ℕ) → got id calls + uses id lives ≡ given id calls + uses id lives') → Stands lives' l
-stands-more lives lives' k l calls stands asked balanced =
+stands-more {width} lives lives' k l calls stands asked balanced =
     let before = reg_calls k.number k.seen in
     let are : reg_calls l.number l.seen ≡ before ++ calls = ap (λ n. reg_calls n l.seen) asked.number ∙ asked.are.calls_are in
     record {

@@ -1,5 +1,5 @@
 -- A dialogue that a session held.
-use Rattle.std.specs.Prelude.{◌≡◌, List, ◌++◌, Some}
+use Rattle.std.specs.Prelude.{ℕ, ◌≡◌, List, ◌++◌, Some}
 use Rattle.alg_registry.specs.declared.entry.RegEntry.{RegEntry}
 use Rattle.board.specs.declared.entry.BoardEntry.{BoardEntry}
 use Rattle.board.specs.Legal.{is_shut}
@@ -11,25 +11,31 @@ use Rattle.dialogues.specs.Turns.{Turn, IsTurn}
 use Rattle.dialogues.specs.Walk.{Walk}
 use Rattle.script_session.specs.States.{State, SameLocks, Stands, Posted}
 use Rattle.session_calls.specs.Passes.{known}
-use Rattle.session_calls.specs.Asking.{Asked}
+use Rattle.session_calls.specs.Asking.{AskedBy}
 use Rattle.session_calls.specs.Pipelines.{Called}
 
--- Between what was known before and after, the dialogue's turn was done and these answers were added; what is known of registry
--- and board is the walk's again.
-pub record Done (dialogue : Dialogue) (k : Known RegEntry) (b : Known (BoardEntry Ask)) (k' : Known RegEntry) (b' : Known (BoardEntry Ask)) (after : Walk) (answers answers' : List Answer) : Type 0 where
+-- Between what was known before and after, the dialogue's turn was done, with at most so many looks at once, and these answers
+-- were added; what is known of registry and board is the walk's again.
+pub record DoneBy (width : ℕ) (dialogue : Dialogue) (k : Known RegEntry) (b : Known (BoardEntry Ask)) (k' : Known RegEntry) (b' : Known (BoardEntry Ask)) (after : Walk) (answers answers' : List Answer) : Type 0 where
   pub turn : Turn
   pub is : IsTurn dialogue turn
-  pub asked : Asked k k' turn.registry
+  pub asked : AskedBy width k k' turn.registry
   pub called : Called b b' turn.board
   pub ends : turn.after ≡ Some after
   pub says : answers' ≡ answers ++ turn.answers
   pub stands : Stands after.lives k'
   pub posted : Posted after b'
 
+abbrev pub Done : Dialogue → Known RegEntry → Known (BoardEntry Ask) → Known RegEntry → Known (BoardEntry Ask) → Walk → List Answer → List Answer → Type 0
+Done dialogue k b k' b' after answers answers' = DoneBy 1 dialogue k b k' b' after answers answers'
+
 -- the same of a session's states
-pub record Holds (dialogue : Dialogue) (s s' : State) (answers answers' : List Answer) : Type 0 where
+pub record HoldsBy (width : ℕ) (dialogue : Dialogue) (s s' : State) (answers answers' : List Answer) : Type 0 where
   pub locks : SameLocks s s'
-  pub done : Done dialogue (known s.registry) (known s.board) (known s'.registry) (known s'.board) s'.walk answers answers'
+  pub done : DoneBy width dialogue (known s.registry) (known s.board) (known s'.registry) (known s'.board) s'.walk answers answers'
+
+abbrev pub Holds : Dialogue → State → State → List Answer → List Answer → Type 0
+Holds dialogue s s' answers answers' = HoldsBy 1 dialogue s s' answers answers'
 
 -- a caller has seen more
 pub record HasSeenMore {E : Type 0} (k l : Known E) : Type 0 where

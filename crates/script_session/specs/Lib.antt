@@ -6,5 +6,6 @@ pub mod Telling
 pub mod Offering
 pub mod Creating
 pub mod Finding
+pub mod Probing
 pub mod Running
 pub mod Ending

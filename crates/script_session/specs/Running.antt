@@ -6,7 +6,7 @@ use Rattle.shared_registry.specs.declared.sharing.SharedRegistry.{SharedRegistry
 use Rattle.shared_board.specs.declared.shared.SharedBoard.{SharedBoard}
 use Rattle.dialogues.specs.Dialogues.{Dialogue}
 use Rattle.dialogues.specs.Turns.{Turn, IsTurn, text_in}
-use Rattle.session_calls.specs.Asking.{Asked}
+use Rattle.session_calls.specs.Asking.{AskedBy}
 use Rattle.session_calls.specs.Passes.{known, CallsRegistry, CallsBoard}
 use Rattle.session_calls.specs.Pipelines.{Called}
 use Rattle.script_session.specs.States.{State, SameLocks, Stands, Posted}
@@ -18,12 +18,12 @@ pub record IsReady {W : Type 0} (registry : SharedRegistry) (board : SharedBoard
   pub stands : Stands s.walk.lives (known s.registry)
   pub posted : Posted s.walk (known s.board)
 
--- A turn of the dialogue was done, and its text was added.
-pub record Replies (dialogue : Dialogue) (s s' : State) (text text' : List ℕ) : Type 0 where
+-- A turn of the dialogue was done, with at most so many looks at once, and its text was added.
+pub record Replies (width : ℕ) (dialogue : Dialogue) (s s' : State) (text text' : List ℕ) : Type 0 where
   pub locks : SameLocks s s'
   pub turn : Turn
   pub is : IsTurn dialogue turn
-  pub asked : Asked (known s.registry) (known s'.registry) turn.registry
+  pub asked : AskedBy width (known s.registry) (known s'.registry) turn.registry
   pub called : Called (known s.board) (known s'.board) turn.board
   pub ends : turn.after ≡ Some s'.walk
   pub says : text' ≡ text ++ text_in turn

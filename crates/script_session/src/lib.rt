@@ -10,6 +10,7 @@ mod listing;
 mod lives;
 mod naming;
 mod piping;
+mod probing;
 mod requesting;
 mod scripts;
 mod transform;

@@ -4,6 +4,7 @@ ghost use Rattle.std.specs.Prelude.{◌++◌, OnOk, OnErr, ◌≡◌, ◌+◌, �
 ghost use Rattle.script_text.specs.Sizes.{IsShortCommand, IsShortLine};
 ghost use Rattle.dialogues.specs.Walk.{start};
 ghost use Rattle.dialogues.specs.Lines.{command_dialogue, line_dialogue};
+ghost use Rattle.dialogues.specs.Widths.{command_width, width_of};
 ghost use Rattle.script_session.specs.Running.{IsReady, Replies};
 ghost use Rattle.alg_names.specs.Name.{spelling};
 ghost use Rattle.alg_registry.specs.declared.spec.Spec.{Spec as Algorithm};
@@ -18,7 +19,7 @@ ghost use Rattle.dialogues.specs.Registering.{register, unregister, refs, listed
 ghost use Rattle.dialogues.specs.Requesting.{aes, set_key, set_tag_size, request, request_of};
 ghost use Rattle.session_calls.specs.Passes.{CallsRegistry, known, CallsBoard};
 ghost use Rattle.script_session.specs.States.{Stands, Posted, counted};
-ghost use Rattle.script_session.specs.Holding.{Holds, Stops};
+ghost use Rattle.script_session.specs.Holding.{HoldsBy, Holds, Stops};
 
 use crate::answers::{enlisted_answer, put_all, refs_answer, refuse, say, unlisted_answer};
 use crate::drivers::driver_of;
@@ -62,7 +63,7 @@ pub struct Session {
     /// How many requests pipelines accepted, and of how many bytes.
     requests: u64,
     bytes: u64,
-    registry: RegistryCaller,
+    pub(crate) registry: RegistryCaller,
     pub(crate) board: BoardCaller,
 }
 
@@ -634,7 +635,7 @@ impl Session {
         requires posted { Posted self.old.walk (known self.old.board) }
         requires short { IsShortCommand command.now }
         ensures { MatchResult result
-            (λ _. Holds (command_dialogue self.old.workers self.old.walk number command.now) self.old self.new answers.old.items answers.new.items)
+            (λ _. HoldsBy (command_width command.now) (command_dialogue self.old.workers self.old.walk number command.now) self.old self.new answers.old.items answers.new.items)
             (λ _. Stops self.old self.new) }
     {
         match command {
@@ -645,6 +646,7 @@ impl Session {
             Command::Unregister { driver } => {
                 self.unregister(rt, registry, number, driver, answers)
             }
+            Command::Probe { names } => self.probe(rt, registry, number, names, answers),
             Command::Alloc {
                 label,
                 name,
@@ -731,7 +733,7 @@ impl Session {
         requires posted { Posted self.old.walk (known self.old.board) }
         requires short { IsShortLine line.now }
         ensures { MatchResult result
-            (λ _. Holds (line_dialogue self.old.workers self.old.walk number line.now) self.old self.new answers.old.items answers.new.items)
+            (λ _. HoldsBy (width_of line.now) (line_dialogue self.old.workers self.old.walk number line.now) self.old self.new answers.old.items answers.new.items)
             (λ _. Stops self.old self.new) }
     {
         match line {
@@ -744,7 +746,7 @@ impl Session {
     /// Answers a line: it holds the line's dialogue with the registry and the board, and adds the text of what was answered to
     /// `reply`. Entries of others may lie between its calls.
     ///
-    /// `drain` does what jobs there are while it waits. `Stop` comes for want of memory alone, with the reply as it was; the
+    /// `drain` does what jobs there are while it waits, and `probe` builds. `Stop` comes for want of memory alone, with the reply as it was; the
     /// session takes no line after it.
     pub fn line<R: Wait, G: Gate>(
         &mut self,
@@ -759,7 +761,7 @@ impl Session {
         requires ready { IsReady registry.now board.now self.old }
         requires short { IsShortLine line.now }
         ensures done { MatchResult result
-            (λ _. Replies (line_dialogue self.old.workers self.old.walk number line.now) self.old self.new reply.old reply.new)
+            (λ _. Replies (width_of line.now) (line_dialogue self.old.workers self.old.walk number line.now) self.old self.new reply.old reply.new)
             (λ _. Stops self.old self.new) }
         // It is ready for the next line.
         ensures ready { OnOk result (IsReady registry.now board.now self.new) }

@@ -1,6 +1,6 @@
 -- No list of bytes in a line is longer than its text.
 use Rattle.std.proofs.Common.{◌≡◌, ℕ, ◌+◌, ◌-◌, ◌≤◌, Bool, true, false, cond, List, [], ◌∷◌, length, Option, Some, None, inl, inr, sym, subst, arith, lit<, length-take}
-use Rattle.std.specs.Prelude.{nat_lt, filter, IfSome, IfOk, Result, Ok, Err, codes}
+use Rattle.std.specs.Prelude.{nat_lt, filter, IfSome, IfOk, All, nat_le, ◌&&◌, Result, Ok, Err, codes}
 use Rattle.std.specs.List.{onto_first, slice_split, list_all}
 use Rattle.std.specs.Result.{result_ok}
 use Rattle.std.specs.Str.{bytes_eq}
@@ -8,13 +8,14 @@ use Rattle.hex.specs.Hex.{decode_of}
 use Rattle.script_text.proofs.HexLemmas.{decoded_up_to}
 use Rattle.script_text.specs.Lines.{ends_with, without_last, without_return}
 use Rattle.std.proofs.lemmas.Option.{IfSome_then}
+use Rattle.std.proofs.lemmas.List.Elements.{All-nil, All-cons}
 use Rattle.std.proofs.lemmas.Bool.{cases_lt}
 use borrow.Author.Tests.{lt-ltb}
 use Rattle.script_text.specs.declared.commands.Line.{Line}
 use Rattle.script_text.specs.declared.commands.Line.TheVariants.{Nothing, Malformed}
 use Rattle.script_text.specs.Tokens.{tokens_of, is_blank, is_visible, is_comment}
-use Rattle.script_text.specs.Arguments.{◌>>=◌, hex_of, label_of, lone_label_of, is_label, number_of, length_of, backlog_of}
-use Rattle.script_text.specs.Commands.{aes_row, register_row, unregister_row, alloc_row, key_row, authsize_row, aead_row, mac_row, label_row, refs_row, list_row, command_of}
+use Rattle.script_text.specs.Arguments.{◌>>=◌, hex_of, label_of, lone_label_of, is_label, number_of, length_of, names_of, backlog_of}
+use Rattle.script_text.specs.Commands.{aes_row, register_row, unregister_row, probe_row, alloc_row, key_row, authsize_row, aead_row, mac_row, label_row, refs_row, list_row, command_of}
 use Rattle.script_text.specs.Script.{command_line, line_of_tokens, line_of_text}
 use Rattle.script_text.specs.Sizes.{IsShort, IsShortCommand, IsShortLine}
 use Rattle.script_text.specs.declared.commands.Command.{Command}
@@ -72,6 +73,10 @@ short_from_up_to : (xss : List (List ℕ)) → AllUpTo 65536 xss → AllShort xs
 short_from_up_to [] h = tt
 short_from_up_to (xs ∷ xss) h = (omega (arith, h.0), short_from_up_to xss h.1)
 
+all_from : (xss : List (List ℕ)) → AllShort xss → All IsShort xss
+all_from [] h = All-nil IsShort
+all_from (xs ∷ xss) h = All-cons IsShort xs xss h.0 (all_from xss h.1)
+
 label_short : (token : List ℕ) → IsShort token → SpellsShort (label_of token)
 label_short token h = elim (is_label token) as (λ c. SpellsShort (cond c (Some token) None)) [ true ↦ h | false ↦ tt ]
 
@@ -113,6 +118,16 @@ register_short other h = tt
 unregister_short : (args : List (List ℕ)) → AllShort args → RowIsShort (unregister_row args)
 unregister_short (driver ∷ []) h = h.0
 unregister_short other h = tt
+
+names_short : (args : List (List ℕ)) → AllShort args → IfSome (names_of args) (λ names. All IsShort names)
+names_short args h = elim (nat_lt 0 (length args) && nat_le (length args) 16) as (λ c. IfSome (cond c (Some args) None) (λ names. All IsShort names)) [ true ↦ all_from args h | false ↦ tt ]
+
+probe_of : (names : Option (List (List ℕ))) → IfSome names (λ names. All IsShort names) → RowIsShort (names >>= (λ names. Some (says.Probe names)))
+probe_of (Some names) h = h
+probe_of None h = tt
+
+probe_short : (args : List (List ℕ)) → AllShort args → RowIsShort (probe_row args)
+probe_short args h = probe_of (names_of args) (names_short args h)
 
 alloc_short : (args : List (List ℕ)) → AllShort args → RowIsShort (alloc_row args)
 alloc_short (label ∷ name ∷ more) h = after (label_of label) _ (label_short label h.0) (λ l hl. after_any (length_of more) _ (λ n. (hl, h.1.0)))
@@ -178,6 +193,7 @@ command_short name args h =
     pick name (codes "aes") (aes_row args) (aes_short args h) (
     pick name (codes "register") (register_row args) (register_short args h) (
     pick name (codes "unregister") (unregister_row args) (unregister_short args h) (
+    pick name (codes "probe") (probe_row args) (probe_short args h) (
     pick name (codes "alloc") (alloc_row args) (alloc_short args h) (
     pick name (codes "key") (key_row args) (key_short args h) (
     pick name (codes "authsize") (authsize_row args) (authsize_short args h) (
@@ -191,7 +207,7 @@ command_short name args h =
     pick name (codes "free") (label_row says.Free args) (label_row_short says.Free (λ l hl. hl) args h) (
     pick name (codes "refs") (refs_row args) (refs_short args h) (
     pick name (codes "list") (list_row args) (list_short args h) (
-    record { row = None; short = tt })))))))))))))))) in
+    record { row = None; short = tt }))))))))))))))))) in
     rows.short
 
 command_line_short : (row : Option Command) → RowIsShort row → IsShortLine (command_line row)

@@ -54,6 +54,10 @@ length_of (token ∷ []) = do
   Some (Some length)
 length_of (token ∷ other ∷ more) = None
 
+-- NAME ..: 1 to 16 of them
+abbrev pub names_of : List (List ℕ) → Option (List (List ℕ))
+names_of names = if nat_lt 0 (length names) && nat_le (length names) 16 then Some names else None
+
 -- [backlog]
 abbrev pub backlog_of : List (List ℕ) → Option Bool
 backlog_of [] = Some false

@@ -1,7 +1,7 @@
 -- The commands: what the arguments of each spell, a row a command.
 use Rattle.std.specs.Prelude.{ℕ, Bool, if◌then◌else◌, List, [], ◌∷◌, codes, Option, Some, None}
 use Rattle.std.specs.Str.{bytes_eq}
-use Rattle.script_text.specs.Arguments.{◌>>=◌, hex_of, label_of, lone_label_of, number_of, length_of, backlog_of}
+use Rattle.script_text.specs.Arguments.{◌>>=◌, hex_of, label_of, lone_label_of, number_of, length_of, names_of, backlog_of}
 use Rattle.script_text.specs.declared.commands.Command.{Command}
 use Rattle.script_text.specs.declared.commands.Command.TheVariants as says
 
@@ -24,6 +24,12 @@ register_row other = None
 abbrev pub unregister_row : List (List ℕ) → Option Command
 unregister_row (driver ∷ []) = Some (says.Unregister driver)
 unregister_row other = None
+
+-- `probe NAME ..`
+abbrev pub probe_row : List (List ℕ) → Option Command
+probe_row args = do
+  names ← names_of args
+  Some (says.Probe names)
 
 -- `alloc T NAME [NUM]`
 abbrev pub alloc_row : List (List ℕ) → Option Command
@@ -91,6 +97,7 @@ command_of name args =
     if bytes_eq name (codes "aes") then aes_row args
     else if bytes_eq name (codes "register") then register_row args
     else if bytes_eq name (codes "unregister") then unregister_row args
+    else if bytes_eq name (codes "probe") then probe_row args
     else if bytes_eq name (codes "alloc") then alloc_row args
     else if bytes_eq name (codes "key") then key_row args
     else if bytes_eq name (codes "authsize") then authsize_row args

@@ -1,5 +1,5 @@
 -- How long the lists of bytes in a line are.
-use Rattle.std.specs.Prelude.{ℕ, ◌^◌, ◌<◌, List, length}
+use Rattle.std.specs.Prelude.{ℕ, ◌^◌, ◌<◌, List, length, All}
 use Rattle.script_text.specs.declared.commands.Command.{Command}
 use Rattle.script_text.specs.declared.commands.Command.TheVariants as says
 use Rattle.script_text.specs.declared.commands.Line.{Line}
@@ -12,6 +12,7 @@ abbrev pub IsShortCommand : Command → Type 0
 IsShortCommand (says.Aes key block) = IsShort key × IsShort block
 IsShortCommand (says.Register driver priority) = IsShort driver
 IsShortCommand (says.Unregister driver) = IsShort driver
+IsShortCommand (says.Probe names) = All IsShort names
 IsShortCommand (says.Alloc label name length) = IsShort label × IsShort name
 IsShortCommand (says.Key label key) = IsShort label × IsShort key
 IsShortCommand (says.Authsize label size) = IsShort label

@@ -1,12 +1,13 @@
 //! What the arguments of a command spell.
 
-ghost use Rattle.std.specs.Prelude.{◌≡◌, IsTrue, map};
+ghost use Rattle.std.specs.Prelude.{◌≡◌, IsTrue, map, IfOk};
 ghost use Rattle.std.specs.Char.{is_ascii_digit};
 ghost use Rattle.std.specs.List.{list_all};
 ghost use Rattle.std.specs.Str.Parse.{digits_value};
-ghost use Rattle.script_text.specs.Arguments.{Reads, hex_of, is_label_byte, is_label, label_of, lone_label_of, is_number, number_of, length_of, backlog_of};
+ghost use Rattle.script_text.specs.Arguments.{Reads, hex_of, is_label_byte, is_label, label_of, lone_label_of, is_number, number_of, length_of, names_of, backlog_of};
 ghost use Rattle.script_text.specs.declared.arguments.ReadError.TheVariants.{NoMemory};
 
+use crate::texts::Texts;
 use hex::FromHexError;
 use kc_base::Bytes;
 use std::alloc::{AllocError, Global};
@@ -121,6 +122,27 @@ pub fn optional_number(args: &[&[u8]]) -> Result<Option<u32>, ReadError>
         [token] => Ok(Some(number(token)?)),
         _ => Err(ReadError::Malformed),
     }
+}
+
+// Copies of these texts.
+fn copies(alloc: Global, texts: &[&[u8]]) -> Result<Texts, AllocError>
+    ensures { IfOk result (λ copies. copies ≡ map (λ text. text.now) texts.now) }
+{
+    let mut copies = Texts::new(alloc);
+    for text in texts {
+        copies.push(Bytes::copy_of(alloc, text)?)?;
+    }
+    Ok(copies)
+}
+
+/// 1 to 16 names, where nothing else stands there.
+pub fn names(alloc: Global, args: &[&[u8]]) -> Result<Texts, ReadError>
+    ensures { Reads result (names_of (map (λ token. token.now) args.now)) }
+{
+    if args.is_empty() || args.len() > 16 {
+        return Err(ReadError::Malformed);
+    }
+    Ok(copies(alloc, args)?)
 }
 
 /// Whether the word `backlog` stands there, where nothing else does.

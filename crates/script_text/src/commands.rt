@@ -1,5 +1,6 @@
 //! What a line may say.
 
+use crate::texts::Texts;
 use kc_base::Bytes;
 
 /// A command, with its arguments. Hexadecimal digits are decoded. A label has 1 to 32 letters, digits, `-` or `_`; a
@@ -19,6 +20,10 @@ pub enum Command {
     /// `unregister DRIVER`
     Unregister {
         driver: Bytes,
+    },
+    /// `probe NAME ..`: 1 to 16 names, looked up and built.
+    Probe {
+        names: Texts,
     },
     /// `alloc T NAME [NUM]`: a transform of this name, whose queue takes so many requests.
     Alloc {

@@ -9,9 +9,11 @@ mod rows;
 mod split;
 #[cfg(test)]
 mod tests;
+mod texts;
 mod tokens;
 
 pub use commands::{Command, Line};
 pub use cutter::LineCutter;
 pub use reading::{MAX_LINE, read_line};
 pub use split::first_line;
+pub use texts::Texts;

@@ -2,10 +2,12 @@
 
 ghost use Rattle.std.specs.Prelude.{map};
 ghost use Rattle.script_text.specs.Arguments.{Reads};
-ghost use Rattle.script_text.specs.Commands.{aes_row, register_row, unregister_row, alloc_row, key_row, authsize_row, aead_row, mac_row, label_row, refs_row, list_row, command_of};
+ghost use Rattle.script_text.specs.Commands.{aes_row, register_row, unregister_row, probe_row, alloc_row, key_row, authsize_row, aead_row, mac_row, label_row, refs_row, list_row, command_of};
 ghost use Rattle.script_text.specs.declared.commands.Command.TheVariants as says;
 
-use crate::arguments::{ReadError, backlog, hex_bytes, label, lone_label, number, optional_number};
+use crate::arguments::{
+    ReadError, backlog, hex_bytes, label, lone_label, names, number, optional_number,
+};
 use crate::commands::Command;
 use kc_base::Bytes;
 use std::alloc::Global;
@@ -42,6 +44,14 @@ fn unregister_command(alloc: Global, args: &[&[u8]]) -> Result<Command, ReadErro
     };
     Ok(Command::Unregister {
         driver: Bytes::copy_of(alloc, driver)?,
+    })
+}
+
+fn probe_command(alloc: Global, args: &[&[u8]]) -> Result<Command, ReadError>
+    ensures { Reads result (probe_row (map (λ token. token.now) args.now)) }
+{
+    Ok(Command::Probe {
+        names: names(alloc, args)?,
     })
 }
 
@@ -195,6 +205,8 @@ pub fn read_command(alloc: Global, name: &[u8], args: &[&[u8]]) -> Result<Comman
         register_command(alloc, args)
     } else if name == b"unregister".as_slice() {
         unregister_command(alloc, args)
+    } else if name == b"probe".as_slice() {
+        probe_command(alloc, args)
     } else if name == b"alloc".as_slice() {
         alloc_command(alloc, args)
     } else if name == b"key".as_slice() {

@@ -1,6 +1,6 @@
 ghost use Rattle.std.specs.Prelude.{◌<◌};
 
-use crate::{Command, Line, LineCutter, MAX_LINE, first_line, read_line};
+use crate::{Command, Line, LineCutter, MAX_LINE, Texts, first_line, read_line};
 use kc_base::Bytes;
 use std::alloc::{AllocError, Global};
 use std::test::Fail;
@@ -195,6 +195,16 @@ fn request_words(
     Ok(words)
 }
 
+// A command with texts, written out.
+fn texts_words(alloc: Global, word: &str, texts: &Texts) -> Result<String, AllocError> {
+    let mut words = String::from_str(alloc, word)?;
+    for each in texts.as_slice() {
+        words.push_str(" ")?;
+        words.push_str(text(each))?;
+    }
+    Ok(words)
+}
+
 // A command, written out with its values.
 fn words(alloc: Global, command: &Command) -> Result<String, AllocError> {
     match command {
@@ -203,6 +213,7 @@ fn words(alloc: Global, command: &Command) -> Result<String, AllocError> {
             format!(in alloc; "register {} {priority}", text(driver))
         }
         Command::Unregister { driver } => format!(in alloc; "unregister {}", text(driver)),
+        Command::Probe { names } => texts_words(alloc, "probe", names),
         Command::Alloc {
             label,
             name,
@@ -260,6 +271,8 @@ fn all_say(alloc: Global, script: &[u8], wanted: Said) -> Result<bool, AllocErro
 #[test]
 fn commands_are_written_out_as_they_were_read(rt: HostRuntime) -> Result<(), Fail> {
     let script = b"unregister aes-generic
+probe pcrypt(gcm(aes))
+probe a b c d e f g h i j k l m n o cbc(aes
 key t -
 authsize t 16
 enc t 01 0203 040506
@@ -356,6 +369,9 @@ register a
 register a 1 2
 unregister
 unregister a b
+probe
+probe a b c d e f g h i j k l m n o p q
+probes a
 alloc t
 alloc t aes 1 2
 key t

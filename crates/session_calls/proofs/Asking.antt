@@ -29,11 +29,11 @@ use Rattle.turn_lock.specs.Turns.{Known, StartsWith, of}
 use Rattle.turn_lock.specs.Going.{own_entered, own_left, own_goes}
 use Rattle.shared_registry.specs.Building.{LooksFor, Looks as LooksUp, Works, Resolved, is_building}
 use Rattle.shared_registry.specs.Faithful.{IsFaithful}
-use Rattle.dialogues.specs.GoingOn.{RegisteredStays, CallsInTurnAre}
+use Rattle.dialogues.specs.GoingOn.{RegisteredStays}
 use Rattle.dialogues.specs.InTurn.{AreInTurn}
 use Rattle.dialogues.specs.RegistryCalls.{RegCall, Enlists, Looks, Unlists, Gets, Puts, Counts, Lists, reg_call_of, reg_calls, is_settled, if_own, AllSettled}
 use Rattle.session_calls.specs.Passes.{RegPass, known, lock_of}
-use Rattle.session_calls.specs.Asking.{IsCaller, Asked, Asks, Finds, SeesMore, IsResolved, enlisted_as, unlisted_as, got_as, counted_as, listed_as}
+use Rattle.session_calls.specs.Asking.{CallLaws, IsCaller, Asked, Asks, Finds, SeesMore, IsResolved, enlisted_as, unlisted_as, got_as, counted_as, listed_as}
 
 -- ---- entries of others are no calls
 
@@ -66,13 +66,13 @@ abbrev pub Met : Known RegEntry → List RegEntry → Type 0
 Met k h = Meets caller_of IsFaithful k h
 
 -- what its calls are
-asked-by : CallsInTurnAre → (k l : Known RegEntry) (calls : List RegCall) → IsCaller k → l.number ≡ k.number → l.next ≡ k.next → IsOwn caller_of l → AreInTurn k.number calls k.seen l.seen → Asked k l calls
+asked-by : CallLaws → (k l : Known RegEntry) (calls : List RegCall) → IsCaller k → l.number ≡ k.number → l.next ≡ k.next → IsOwn caller_of l → AreInTurn k.number calls k.seen l.seen → Asked k l calls
 asked-by law k l calls caller same same_next is_own turns =
-    let are = law k.number calls k.seen l.seen caller.settled turns in
+    let are = law.are k.number calls k.seen l.seen caller.settled turns in
     record {
       number = same;
       next = same_next;
-      in_turn = turns;
+      in_turn = law.any 1 k.number calls k.seen l.seen turns;
       are = are;
       caller = record {
         outsider = subst (λ n. IsFalse (is_worker n)) (sym same) caller.outsider;
@@ -82,13 +82,13 @@ asked-by law k l calls caller same same_next is_own turns =
     }
 
 -- it added nothing
-pub no-call : CallsInTurnAre → (k l : Known RegEntry) (h : List RegEntry) → IsCaller k → Met k h → Leaves k h l → Asked k l []
+pub no-call : CallLaws → (k l : Known RegEntry) (h : List RegEntry) → IsCaller k → Met k h → Leaves k h l → Asked k l []
 no-call law k l h caller met leaves =
     asked-by law k l [] caller (ap (λ (x : Known RegEntry). x.number) leaves) (ap (λ (x : Known RegEntry). x.next) leaves) (own_left caller_of IsFaithful k l (h, met, leaves))
     (met.others, ap (λ (x : Known RegEntry). x.seen) leaves ∙ met.goes_on, unasked k.number met.others met.apart)
 
 -- it added an entry of the caller's that is this call
-pub one-call : CallsInTurnAre → (k l : Known RegEntry) (h : List RegEntry) (e : RegEntry) (call : RegCall) → IsCaller k → Met k h → Enters IsFaithful k h e l → caller_of e ≡ k.number
+pub one-call : CallLaws → (k l : Known RegEntry) (h : List RegEntry) (e : RegEntry) (call : RegCall) → IsCaller k → Met k h → Enters IsFaithful k h e l → caller_of e ≡ k.number
     → reg_call_of (h ++ e ∷ []) k.number h e ≡ Some call → is_settled call ≡ true → Asked k l (call ∷ [])
 one-call law k l h e call caller met enters mine called settles =
     let now : l.seen ≡ h ++ e ∷ [] = ap (λ (x : Known RegEntry). x.seen) enters.0 in
@@ -117,7 +117,7 @@ own {C} n call = ap (λ b. if b then Some call else None) (eq-eqb n n refl)
 abbrev pub AskedIf : {A : Type 0} → Known RegEntry → Known RegEntry → (A → List RegCall → Type 0) → Option A → Type 0
 AskedIf k l S o = MatchOption o (Asked k l []) (λ a. (calls : List RegCall) × S a calls × Asked k l calls)
 
-pub recorded : {X A B : Type 0} → CallsInTurnAre → (k l : Known RegEntry) (r : Result X RegErr) (seen_as : Result X RegErr → Option A) (make : B → Result X RegErr) (view : B → A) (answer : List RegEntry → B) (e : List RegEntry → RegEntry) (call : B → RegCall)
+pub recorded : {X A B : Type 0} → CallLaws → (k l : Known RegEntry) (r : Result X RegErr) (seen_as : Result X RegErr → Option A) (make : B → Result X RegErr) (view : B → A) (answer : List RegEntry → B) (e : List RegEntry → RegEntry) (call : B → RegCall)
     → IsCaller k → ((b : B) → seen_as (make b) ≡ Some (view b)) → seen_as (Err Memory) ≡ None
     → ((h : List RegEntry) → caller_of (e h) ≡ k.number) → ((h : List RegEntry) → reg_call_of (h ++ e h ∷ []) k.number h (e h) ≡ Some (call (answer h))) → ((b : B) → is_settled (call b) ≡ true)
     → AtTurn caller_of IsFaithful k (λ h. UnlessMemory r ((r ≡ make (answer h)) × Enters IsFaithful k h (e h) l) × OnMemory r (Leaves k h l))
@@ -181,7 +181,7 @@ enlisted-made (enlisted.Made id) = refl
 enlisted-made enlisted.Exist = refl
 enlisted-made enlisted.NFile = refl
 
-pub enlist-asked : CallsInTurnAre → (k l : Known RegEntry) (spec : Spec) (r : Result ℕ RegErr)
+pub enlist-asked : CallLaws → (k l : Known RegEntry) (spec : Spec) (r : Result ℕ RegErr)
     → IsCaller k → AtTurn caller_of IsFaithful k (λ h. UnlessMemory r ((r ≡ enlist_result (enlist_answer (rows_of h) spec)) × Enters IsFaithful k h (entry.Enlist k.number spec (enlist_answer (rows_of h) spec)) l) × OnMemory r (Leaves k h l))
     → MatchOption (enlisted_as r) (Asked k l []) (λ a. (b : Enlisted) × (b ≡ a) × Asked k l (Enlists spec b ∷ []))
 enlist-asked law k l spec r caller turn =
@@ -192,7 +192,7 @@ unlisted-made : (id : Option ℕ) → unlisted_as (unlist_result id) ≡ Some (i
 unlisted-made (Some id) = refl
 unlisted-made None = refl
 
-pub unlist-asked : CallsInTurnAre → (k l : Known RegEntry) (driver : List ℕ) (r : Result (Unit {0}) RegErr)
+pub unlist-asked : CallLaws → (k l : Known RegEntry) (driver : List ℕ) (r : Result (Unit {0}) RegErr)
     → IsCaller k → AtTurn caller_of IsFaithful k (λ h. UnlessMemory r ((r ≡ unlist_result (driver_place (rows_of h) driver)) × Enters IsFaithful k h (entry.Unlist k.number driver (driver_place (rows_of h) driver)) l) × OnMemory r (Leaves k h l))
     → MatchOption (unlisted_as r) (Asked k l []) (λ a. (b : Option ℕ) × (is_some b ≡ a) × Asked k l (Unlists driver b ∷ []))
 unlist-asked law k l driver r caller turn =
@@ -203,7 +203,7 @@ got-made : (ok : Bool) → got_as (get_result ok) ≡ Some ok
 got-made true = refl
 got-made false = refl
 
-pub get-asked : CallsInTurnAre → (k l : Known RegEntry) (id : ℕ) (r : Result (Unit {0}) RegErr)
+pub get-asked : CallLaws → (k l : Known RegEntry) (id : ℕ) (r : Result (Unit {0}) RegErr)
     → IsCaller k → AtTurn caller_of IsFaithful k (λ h. UnlessMemory r ((r ≡ get_result (is_listed h id)) × Enters IsFaithful k h (entry.Get k.number id (is_listed h id)) l) × OnMemory r (Leaves k h l))
     → MatchOption (got_as r) (Asked k l []) (λ a. (b : Bool) × (b ≡ a) × Asked k l (Gets id b ∷ []))
 get-asked law k l id r caller turn =
@@ -214,17 +214,17 @@ counted-made : (answer : Option RefAnswer) → counted_as (refs_result answer) �
 counted-made (Some answer) = refl
 counted-made None = refl
 
-pub refs-asked : CallsInTurnAre → (k l : Known RegEntry) (driver : List ℕ) (r : Result RefAnswer RegErr)
+pub refs-asked : CallLaws → (k l : Known RegEntry) (driver : List ℕ) (r : Result RefAnswer RegErr)
     → IsCaller k → AtTurn caller_of IsFaithful k (λ h. UnlessMemory r ((r ≡ refs_result (refs_answer (rows_of h) driver)) × Enters IsFaithful k h (entry.Refs k.number driver) l) × OnMemory r (Leaves k h l))
     → MatchOption (counted_as r) (Asked k l []) (λ a. (b : Option RefAnswer) × (b ≡ a) × Asked k l (Counts driver b ∷ []))
 refs-asked law k l driver r caller turn =
     recorded law k l r counted_as refs_result (λ answer. answer) (λ h. refs_answer (rows_of h) driver) (λ h. entry.Refs k.number driver) (Counts driver)
     caller counted-made refl (λ h. refl) (λ h. own k.number (Counts driver (refs_answer (rows_of h) driver))) (λ b. refl) turn
 
-pub put-asked : CallsInTurnAre → (k l : Known RegEntry) (id : ℕ) → IsCaller k → AtTurn caller_of IsFaithful k (λ h. Enters IsFaithful k h (entry.Put k.number id) l) → Asked k l (Puts id ∷ [])
+pub put-asked : CallLaws → (k l : Known RegEntry) (id : ℕ) → IsCaller k → AtTurn caller_of IsFaithful k (λ h. Enters IsFaithful k h (entry.Put k.number id) l) → Asked k l (Puts id ∷ [])
 put-asked law k l id caller turn = one-call law k l turn.0 (entry.Put k.number id) (Puts id) caller turn.1 turn.2 refl (own k.number (Puts id)) refl
 
-pub list-asked : CallsInTurnAre → (k l : Known RegEntry) (r : Result (List ListRow) RegErr)
+pub list-asked : CallLaws → (k l : Known RegEntry) (r : Result (List ListRow) RegErr)
     → IsCaller k → AtTurn caller_of IsFaithful k (λ h. IfOk r (λ rows. (rows ≡ listing (rows_of h)) × Enters IsFaithful k h (entry.List k.number) l) × IfErr r (λ e. (e ≡ Memory) × Leaves k h l))
     → MatchOption (listed_as r) (Asked k l []) (λ a. (b : List ListRow) × (b ≡ a) × Asked k l (Lists b ∷ []))
 list-asked law k l (Ok rows) caller turn =
@@ -282,7 +282,7 @@ work-unasked n (x ∷ xs) all = by_test (caller_of x == n) refl all (work-unaske
         ap (λ b. if b then x ∷ filter (is_asked n) xs else filter (is_asked n) xs) (building-unasked n x both.0) ∙ rest both.1
     by_test false t q rest = ap (λ b. if b then x ∷ filter (is_asked n) xs else filter (is_asked n) xs) (not-asked n x t) ∙ rest q
 
-pub look-asked : CallsInTurnAre → (k l : Known RegEntry) (text : List ℕ) (found : Found) → IsCaller k → LooksFor k l text false found → Asked k l (Looks text (Some found) ∷ [])
+pub look-asked : CallLaws → (k l : Known RegEntry) (text : List ℕ) (found : Found) → IsCaller k → LooksFor k l text false found → Asked k l (Looks text (Some found) ∷ [])
 look-asked law k l text found caller look =
     let n = k.number in
     let goes = look.goes in
@@ -308,7 +308,7 @@ entry-is id id' (Some s) spec e = let a : id' ≡ id = cc in let b : s ≡ spec 
 entry-is id id' None spec e = absurd cc
 
 -- the entry that a look came to is the registered one
-found-registered : (h : List RegEntry) (o : Option (Result ℕ Errno)) (id : ℕ) (spec : Spec) → found_as h o ≡ Some (Entry id spec) → slice_get (registered h) id ≡ Some spec
+pub found-registered : (h : List RegEntry) (o : Option (Result ℕ Errno)) (id : ℕ) (spec : Spec) → found_as h o ≡ Some (Entry id spec) → slice_get (registered h) id ≡ Some spec
 found-registered h None id spec e = absurd cc
 found-registered h (Some (Err errno)) id spec e = absurd cc
 found-registered h (Some (Ok n)) id spec e =
@@ -323,7 +323,7 @@ memory-more : (k l : Known RegEntry) (text : List ℕ) → Works k l ⊎ ((answe
 memory-more k l text (inl works) = goes-more k l works.work works.goes
 memory-more k l text (inr looks) = goes-more k l (entry.Look k.number text false looks.0 ∷ looks.1.work) looks.1.goes
 
-pub resolved : {S : Type 0} → CallsInTurnAre → (before : Option RegPass) (pass pass' : RegPass) (lock : TableId) (text : List ℕ) (r : Result ℕ BuildErr) (result : Result (Result ℕ Errno) S)
+pub resolved : {S : Type 0} → CallLaws → (before : Option RegPass) (pass pass' : RegPass) (lock : TableId) (text : List ℕ) (r : Result ℕ BuildErr) (result : Result (Result ℕ Errno) S)
     → before ≡ Some pass → lock_of before ≡ Some lock → pass'.badge.table_id ≡ lock → IsCaller (known before) → Resolved (knows pass) (knows pass') text false r → IsResolved r result
     → MatchResult result (λ found. Finds before (Some pass') text found) (λ _. SeesMore before (Some pass'))
 resolved law before pass pass' lock text (Ok id) (Ok (Ok n)) at_hand was now caller did is =

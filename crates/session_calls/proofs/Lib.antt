@@ -1,3 +1,4 @@
 pub mod Asking
+pub mod Looking
 pub mod Boarding
 pub mod BoardCalls

@@ -16,10 +16,16 @@ use Rattle.templates.specs.declared.build_errors.BuildErr.TheVariants as build
 use Rattle.templates.specs.Looking.{Entry, Fault}
 use Rattle.turn_lock.specs.Meeting.{IsOwn}
 use Rattle.turn_lock.specs.Turns.{Known, StartsWith}
-use Rattle.dialogues.specs.InTurn.{AreInTurn, AreCalls}
+use Rattle.dialogues.specs.GoingOn.{CallsInTurnAre, InTurnByAny}
+use Rattle.dialogues.specs.InTurn.{AreInTurnBy, AreCalls}
 use Rattle.dialogues.specs.RegistryCalls.{RegCall, Looks, reg_calls, AllSettled}
 use Rattle.dialogues.specs.References.{got, given}
 use Rattle.session_calls.specs.Passes.{RegPass, known, lock_of}
+
+-- calls in turn are the caller's further calls, and are so with any number of looks at once
+pub record CallLaws : Type 0 where
+  pub are : CallsInTurnAre
+  pub any : InTurnByAny
 
 -- The caller is no worker, has seen what it did, and what it looked for has come to something.
 pub record IsCaller (k : Known RegEntry) : Type 0 where
@@ -31,13 +37,17 @@ pub record IsCaller (k : Known RegEntry) : Type 0 where
 abbrev pub HasReferenceOf : Known RegEntry → ℕ → Type 0
 HasReferenceOf k id = given id (reg_calls k.number k.seen) < got id (reg_calls k.number k.seen)
 
--- The caller has seen more, and made these calls, one after the other.
-pub record Asked (k l : Known RegEntry) (calls : List RegCall) : Type 0 where
+-- The caller has seen more, and made these calls in turn, with at most so many looks at once.
+pub record AskedBy (width : ℕ) (k l : Known RegEntry) (calls : List RegCall) : Type 0 where
   pub number : l.number ≡ k.number
   pub next : l.next ≡ k.next
-  pub in_turn : AreInTurn k.number calls k.seen l.seen
+  pub in_turn : AreInTurnBy width k.number calls k.seen l.seen
   pub are : AreCalls k.number calls k.seen l.seen
   pub caller : IsCaller l
+
+-- one after the other
+abbrev pub Asked : Known RegEntry → Known RegEntry → List RegCall → Type 0
+Asked k l calls = AskedBy 1 k l calls
 
 -- so did the caller whose pass was this, on the same lock
 pub record Asks (before after : Option RegPass) (calls : List RegCall) : Type 0 where

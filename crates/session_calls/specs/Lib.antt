@@ -1,3 +1,4 @@
 pub mod Passes
 pub mod Asking
+pub mod Looking
 pub mod Pipelines

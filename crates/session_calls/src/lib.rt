@@ -2,11 +2,13 @@
 #![tactic(auto)]
 
 mod board_caller;
+mod look;
 mod pipe;
 mod registry_caller;
 mod stop;
 
 pub use board_caller::BoardCaller;
+pub use look::Look;
 pub use pipe::{Lines, Pipe};
 pub use registry_caller::RegistryCaller;
 pub use stop::Stop;

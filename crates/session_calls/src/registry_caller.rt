@@ -1,6 +1,6 @@
 //! A script's calls on the registry.
 
-ghost use Rattle.std.specs.Prelude.{◌≡◌, ℕ, ◌∷◌, [], true, Option as Perhaps, Ok, Some, None, is_some, slice_get, MatchResult, IfOk, IsSome, IsTrue};
+ghost use Rattle.std.specs.Prelude.{◌≡◌, ℕ, ◌∷◌, [], true, Option as Perhaps, Ok, Some, None, is_some, slice_get, MatchResult, IfOk, OnOk, IsSome, IsTrue, IsFalse};
 ghost use Rattle.std.specs.Result.{IsErr};
 ghost use Rattle.alg_registry.specs.declared.spec.Wrap.{Wrap};
 ghost use Rattle.alg_registry.specs.Rows.{registered};
@@ -9,18 +9,26 @@ ghost use Rattle.templates.specs.Nesting.{is_nested_well};
 ghost use Rattle.templates.specs.Table.{table};
 ghost use Rattle.dialogues.specs.RegistryCalls.{Enlists, Unlists, Gets, Puts, Counts, Lists};
 ghost use Rattle.session_calls.specs.Passes.{CallsRegistry, known};
-ghost use Rattle.session_calls.specs.Asking.{IsCaller, HasReferenceOf, Asks, Finds, SeesMore, IsResolved, enlisted_as, unlisted_as, got_as, counted_as, listed_as};
+ghost use Rattle.session_calls.specs.Asking.{CallLaws, IsCaller, HasReferenceOf, Asks, Finds, SeesMore, IsResolved, enlisted_as, unlisted_as, got_as, counted_as, listed_as};
 
+ghost use Rattle.alg_registry.specs.Legal.{is_worker};
+ghost use Rattle.session_calls.specs.Looking.{Goes, look_entry, Settles};
+ghost use Rattle.shared_registry.specs.Building.{WasAnswered};
+ghost use Rattle.shared_registry.specs.Passes.{IsSound};
+
+use crate::look::Look;
 use crate::stop::Stop;
-use alg_names::Name;
-use alg_registry::{Enlisted, Listing, RefAnswer, RegErr, Spec};
-use dialogues::{calls_in_turn, references_follow, registry_calls_go_on};
+use alg_names::laws::computed_tree;
+use alg_names::{Name, print_name};
+use alg_registry::{Enlisted, Listing, Looked, RefAnswer, RegErr, Spec};
+use dialogues::{calls_at_once, calls_in_turn, references_follow, registry_calls_go_on};
 use kc_base::Errno;
-use shared_registry::{RegPass, SharedRegistry, resolve};
+use shared_registry::{RegPass, SharedRegistry, resolve, settle};
 use std::alloc::Global;
 use std::marker::Model;
 use std::sync::Wait;
 use templates::BuildErr;
+use templates::laws::names_in_the_table;
 
 /// Who calls the registry for a script. Its pass is at hand between two calls; contracts see it.
 #[derive(Drop)]
@@ -35,6 +43,14 @@ impl Model for RegistryCaller {
     ghost Value = { Option RegPass };
 
     ghost view = { λ c. c.pass };
+}
+
+// what the calls of a caller are
+fn call_laws()
+    ensures { CallLaws }
+{
+    calls_in_turn();
+    calls_at_once();
 }
 
 fn enlisted(answer: Result<u64, RegErr>) -> Result<Enlisted, Stop>
@@ -107,6 +123,25 @@ fn origin_of(answer: Result<Option<Spec>, RegErr>) -> Result<Spec, Stop>
     }
 }
 
+fn looked(answer: Result<Looked, RegErr>) -> Result<Looked, Stop>
+    ensures { MatchResult result (λ looked. answer ≡ Ok looked) (λ _. IsErr answer) }
+{
+    match answer {
+        Ok(looked) => Ok(looked),
+        Err(_) => Err(Stop::Memory),
+    }
+}
+
+// The table has each name whose wraps stand at the root alone.
+fn learn_name(name: &Name)
+    requires { is_nested_well name.now ≡ true }
+    ensures { table.is_name (spelling name.now) ≡ true }
+{
+    let _ = name.word();
+    computed_tree();
+    names_in_the_table();
+}
+
 impl RegistryCaller {
     /// A caller with this pass.
     pub fn new(pass: RegPass) -> RegistryCaller
@@ -137,7 +172,7 @@ impl RegistryCaller {
         requires driver { IsTrue (table.is_driver spec) }
         ensures { MatchResult result (λ how. Asks self.old self.new (Enlists spec how ∷ [])) (λ _. Asks self.old self.new []) }
     {
-        calls_in_turn();
+        call_laws();
         let pass = self.pass.take().unwrap();
         let (pass, answer) = registry.enlist(rt, pass, spec);
         self.pass = Some(pass);
@@ -158,7 +193,7 @@ impl RegistryCaller {
             (λ was. (id : Perhaps ℕ) × (is_some id ≡ was) × Asks self.old self.new (Unlists driver.now id ∷ []))
             (λ _. Asks self.old self.new []) }
     {
-        calls_in_turn();
+        call_laws();
         let pass = self.pass.take().unwrap();
         let (pass, answer) = registry.unlist(rt, pass, driver);
         self.pass = Some(pass);
@@ -177,7 +212,7 @@ impl RegistryCaller {
         requires caller { IsCaller (known self.old) }
         ensures { MatchResult result (λ ok. Asks self.old self.new (Gets id ok ∷ [])) (λ _. Asks self.old self.new []) }
     {
-        calls_in_turn();
+        call_laws();
         let pass = self.pass.take().unwrap();
         let (pass, answer) = registry.take_ref(rt, pass, id);
         self.pass = Some(pass);
@@ -192,7 +227,7 @@ impl RegistryCaller {
         ensures { Asks self.old self.new (Puts id ∷ []) }
     {
         references_follow();
-        calls_in_turn();
+        call_laws();
         let pass = self.pass.take().unwrap();
         self.pass = Some(registry.put_ref(rt, pass, id));
     }
@@ -209,7 +244,7 @@ impl RegistryCaller {
         requires caller { IsCaller (known self.old) }
         ensures { MatchResult result (λ refs. Asks self.old self.new (Counts driver.now refs ∷ [])) (λ _. Asks self.old self.new []) }
     {
-        calls_in_turn();
+        call_laws();
         let pass = self.pass.take().unwrap();
         let (pass, answer) = registry.refs(rt, pass, driver);
         self.pass = Some(pass);
@@ -222,7 +257,7 @@ impl RegistryCaller {
         requires caller { IsCaller (known self.old) }
         ensures { MatchResult result (λ rows. Asks self.old self.new (Lists rows ∷ [])) (λ _. Asks self.old self.new []) }
     {
-        calls_in_turn();
+        call_laws();
         let pass = self.pass.take().unwrap();
         let (pass, answer) = registry.list(rt, pass);
         self.pass = Some(pass);
@@ -243,7 +278,7 @@ impl RegistryCaller {
         requires nested { is_nested_well name.now ≡ true }
         ensures { MatchResult result (λ found. Finds self.old self.new (spelling name.now) found) (λ _. SeesMore self.old self.new) }
     {
-        calls_in_turn();
+        call_laws();
         let pass = self.pass.take().unwrap();
         let (pass, answer) = resolve(rt, alloc, registry, pass, name, false);
         self.pass = Some(pass);
@@ -265,10 +300,74 @@ impl RegistryCaller {
             (λ _. Asks self.old self.new []) }
     {
         registry_calls_go_on();
-        calls_in_turn();
+        call_laws();
         let pass = self.pass.take().unwrap();
         let (pass, answer) = registry.origin(rt, pass, id);
         self.pass = Some(pass);
         origin_of(answer)
+    }
+
+    /// Looks a name up, and leaves what it comes to for `settle`. Only want of memory stops it.
+    pub fn look<R: Wait>(
+        &mut self,
+        rt: &R,
+        alloc: Global,
+        registry: &SharedRegistry,
+        name: Name,
+    ) -> Result<Look, Stop>
+        requires at { CallsRegistry registry.now self.old }
+        requires outsider { IsFalse (is_worker (known self.old).number) }
+        requires nested { is_nested_well name ≡ true }
+        ensures looks { MatchResult result
+            (λ look. (look.name ≡ name) × Goes self.old self.new (look_entry (known self.old).number look ∷ []))
+            (λ _. SeesMore self.old self.new) }
+        ensures sound { OnOk result (IsSound (known self.new)) }
+    {
+        learn_name(&name);
+        let text = print_name(alloc, &name)?;
+        let pass = self.pass.take().unwrap();
+        let (pass, answer) = registry.look(rt, pass, text.as_slice(), false);
+        self.pass = Some(pass);
+        let looked = looked(answer)?;
+        Ok(Look { name, looked })
+    }
+
+    // A copy of an entry that the pass has seen, as it came to be.
+    fn entry<R: Wait>(&mut self, rt: &R, registry: &SharedRegistry, id: u64) -> Result<Spec, Stop>
+        requires at { CallsRegistry registry.now self.old }
+        requires seen { IsSome (slice_get (registered (known self.old).seen) id) }
+        ensures { MatchResult result
+            (λ spec. Goes self.old self.new [] × (slice_get (registered (known self.old).seen) id ≡ Some spec))
+            (λ _. SeesMore self.old self.new) }
+    {
+        registry_calls_go_on();
+        let pass = self.pass.take().unwrap();
+        let (pass, answer) = registry.origin(rt, pass, id);
+        self.pass = Some(pass);
+        origin_of(answer)
+    }
+
+    /// What a look of the caller's comes to: a copy of the entry as it came to be, or an errno. What is missing is built, or
+    /// waited for where others build it. Only want of memory stops it.
+    pub fn settle<R: Wait>(
+        &mut self,
+        rt: &R,
+        alloc: Global,
+        registry: &SharedRegistry,
+        look: &Look,
+    ) -> Result<Result<Spec, Errno>, Stop>
+        requires at { CallsRegistry registry.now self.old }
+        requires sound { IsSound (known self.old) }
+        requires answered { WasAnswered (known self.old) (spelling look.now.name) look.now.looked }
+        ensures { MatchResult result (λ found. Settles self.old self.new look.now.looked found) (λ _. SeesMore self.old self.new) }
+    {
+        registry_calls_go_on();
+        let pass = self.pass.take().unwrap();
+        let (pass, answer) = settle(rt, alloc, registry, pass, &look.name, look.looked);
+        self.pass = Some(pass);
+        match found(answer)? {
+            Ok(id) => Ok(Ok(self.entry(rt, registry, id)?)),
+            Err(errno) => Ok(Err(errno)),
+        }
     }
 }

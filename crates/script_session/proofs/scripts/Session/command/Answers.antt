@@ -14,6 +14,9 @@ returns-in-Register g c = command-arm c.register.result c.args.self.now _ c.args
 pub returns-in-Unregister : goal.returns-in-Unregister
 returns-in-Unregister g c = command-arm c.unregister.result c.args.self.now _ c.args.number c.args.command.now (command.Unregister c.in-Unregister.driver) _ _ c.in-Unregister.is c.unregister.ensures
 
+pub returns-in-Probe : goal.returns-in-Probe
+returns-in-Probe g c = command-arm c.probe.result c.args.self.now _ c.args.number c.args.command.now (command.Probe c.in-Probe.names) _ _ c.in-Probe.is c.probe.ensures
+
 pub returns-in-Alloc : goal.returns-in-Alloc
 returns-in-Alloc g c = command-arm c.alloc.result c.args.self.now _ c.args.number c.args.command.now (command.Alloc c.in-Alloc.label c.in-Alloc.name c.in-Alloc.length) _ _ c.in-Alloc.is c.alloc.ensures
 

@@ -22,6 +22,6 @@ returns g c =
     let there = subst (λ o. IsSome (slice_get (registered (known o).seen) c.args.id)) at_hand c.requires.seen in
     let turn = c.origin-pass.ensures.turn in
     let is = origin-some k l c.args.id c.origin-pass.result.1 c.registry_calls_go_on.ensures.registered there turn in
-    let asks = asks-at c.args.self.now c.unwrap-pass.result c.origin-pass.result.0 _ [] at_hand c.requires.at c.origin-pass.ensures.lock (no-call c.calls_in_turn.ensures.are k l turn.0 (subst (λ o. IsCaller (known o)) at_hand c.requires.caller) turn.1 turn.2.2) in
+    let asks = asks-at c.args.self.now c.unwrap-pass.result c.origin-pass.result.0 _ [] at_hand c.requires.at c.origin-pass.ensures.lock (no-call c.call_laws.ensures k l turn.0 (subst (λ o. IsCaller (known o)) at_hand c.requires.caller) turn.1 turn.2.2) in
     origin-got c.origin_of.result c.origin-pass.result.1 (slice_get (registered (known c.args.self.now).seen) c.args.id) (Asks c.args.self.now (Some c.origin-pass.result.0) [])
     (subst (λ o. IfOk c.origin-pass.result.1 (λ x. x ≡ slice_get (registered (known o).seen) c.args.id)) (sym at_hand) is) asks c.origin_of.ensures

@@ -17,4 +17,4 @@ put_ref-requires-clause-has g c =
 pub returns : goal.returns
 returns g c =
     let at_hand : c.args.self.now ≡ Some c.unwrap-pass.result = sym c.self.view_is ∙ (sym c.take.ensures.value ∙ c.unwrap-pass.ensures) in
-    asks-at c.args.self.now c.unwrap-pass.result c.put_ref.result _ (Puts c.args.id ∷ []) at_hand c.requires.at c.put_ref.ensures.lock (put-asked c.calls_in_turn.ensures.are _ _ c.args.id (subst (λ o. IsCaller (known o)) at_hand c.requires.caller) c.put_ref.ensures.turn)
+    asks-at c.args.self.now c.unwrap-pass.result c.put_ref.result _ (Puts c.args.id ∷ []) at_hand c.requires.at c.put_ref.ensures.lock (put-asked c.call_laws.ensures _ _ c.args.id (subst (λ o. IsCaller (known o)) at_hand c.requires.caller) c.put_ref.ensures.turn)

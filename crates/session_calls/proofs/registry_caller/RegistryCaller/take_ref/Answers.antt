@@ -10,4 +10,4 @@ returns g c =
     let at_hand : c.args.self.now ≡ Some c.unwrap-pass.result = sym c.self.view_is ∙ (sym c.take.ensures.value ∙ c.unwrap-pass.ensures) in
     asks-just c.got.result c.args.self.now (Some c.take_ref-pass.result.0) (Gets c.args.id)
     (asks-if c.got.result _ c.args.self.now c.unwrap-pass.result c.take_ref-pass.result.0 _ (λ a. a) (Gets c.args.id) at_hand c.requires.at c.take_ref-pass.ensures.lock
-    (get-asked c.calls_in_turn.ensures.are _ _ c.args.id c.take_ref-pass.result.1 (subst (λ o. IsCaller (known o)) at_hand c.requires.caller) c.take_ref-pass.ensures.turn) c.got.ensures)
+    (get-asked c.call_laws.ensures _ _ c.args.id c.take_ref-pass.result.1 (subst (λ o. IsCaller (known o)) at_hand c.requires.caller) c.take_ref-pass.ensures.turn) c.got.ensures)

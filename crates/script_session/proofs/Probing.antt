@@ -1,0 +1,313 @@
+-- `probe`: all looks are made first, and then each is waited for.
+use Rattle.std.proofs.Common.{◌≡◌, ℕ, ◌<◌, Bool, true, false, ◌&&◌, List, [], ◌∷◌, ◌++◌, length, Option, Some, None, Result, Ok, Err, refl, sym, ap, subst, ◌∙◌, append_assoc, append-nil, inl, inr}
+use Rattle.std.specs.Prelude.{All, MatchResult, IsFalse, ◌+◌}
+use Rattle.std.specs.List.{list_all, flat_map}
+use Rattle.std.proofs.lemmas.List.Concat.{flat_map-append}
+use Rattle.std.proofs.lemmas.List.Elements.{All-nil, All-cons, All-append}
+use Rattle.kc_base.specs.declared.error_numbers.Errno.{Errno}
+use Rattle.alg_names.specs.Name.{Tree, spelling}
+use Rattle.alg_registry.specs.declared.entry.Looked.{Looked}
+use Rattle.alg_registry.specs.declared.entry.RegEntry.{RegEntry}
+use Rattle.alg_registry.specs.Legal.{is_worker}
+use Rattle.alg_registry.specs.Rows.{caller_of}
+use Rattle.board.specs.declared.entry.BoardEntry.{BoardEntry}
+use Rattle.reply_text.specs.declared.answers.Answer.{Answer}
+use Rattle.shared_registry.specs.Building.{IsLook, WasAnswered, is_building}
+use Rattle.shared_registry.specs.Faithful.{IsFaithful}
+use Rattle.shared_registry.specs.Passes.{IsSound}
+use Rattle.templates.specs.Looking.{Found, Fault, found_in}
+use Rattle.transforms.specs.declared.ask.Ask.{Ask}
+use Rattle.turn_lock.specs.Going.{stays, still_kept, own_goes}
+use Rattle.turn_lock.specs.Meeting.{GoesOn}
+use Rattle.turn_lock.specs.Turns.{Known, Has}
+use Rattle.dialogues.specs.Dialogues.{Dialogue, Ends, Says, Asks}
+use Rattle.dialogues.specs.GoingOn.{FoundStays, LooksAtOnce, CallsByAre}
+use Rattle.dialogues.specs.InTurn.{AreMade}
+use Rattle.dialogues.specs.Names.{name_read}
+use Rattle.dialogues.specs.Probing.{found_said, looks_up, looks_all, probe}
+use Rattle.dialogues.specs.Questions.{Look}
+use Rattle.dialogues.specs.RegistryCalls.{RegCall, Looks, reg_calls, AllSettled}
+use Rattle.dialogues.specs.Turns.{Turn, broken, asking, turn_of}
+use Rattle.dialogues.specs.Walk.{Walk}
+use Rattle.session_calls.specs.Asking.{AskedBy, SeesMore, IsCaller}
+use Rattle.session_calls.specs.Looking.{Sought, Goes, look_entry, found_result, Settles}
+use Rattle.session_calls.specs.Passes.{RegPass, BoardPass, known, lock_of}
+use Rattle.session_calls.proofs.Looking.{goes-further, goes-more}
+use Rattle.script_session.specs.Holding.{DoneBy, HoldsBy, Stops}
+use Rattle.script_session.specs.Probing.{Search, IsRead, AreRead, entry_of, look_entries, MaySettle, LooksFirst, comes_to, IsSaid, AreSaid, SettlesThen}
+use Rattle.script_session.specs.States.{State, Stands, Posted, uses}
+use Rattle.script_session.proofs.Rules.{called-nothing}
+use Rattle.script_session.proofs.Searches.{call_of, calls_of, all-looks, no-more-calls, no-references, all-settled, calls-are-looks}
+use Rattle.script_session.proofs.Standing.{stands-more}
+
+abbrev Went : Known RegEntry → Known RegEntry → List RegEntry → Type 0
+Went k l own = GoesOn caller_of IsFaithful k l own
+
+-- ---- what a caller may wait for stays so
+
+sound-on : (k l : Known RegEntry) (own : List RegEntry) → Went k l own → IsSound k → IsSound l
+sound-on k l own goes sound = record {
+  faithful = still_kept caller_of IsFaithful k l own goes sound.faithful;
+  own = own_goes caller_of IsFaithful k l own sound.own goes;
+}
+
+has-left : {E : Type 0} → (P : E → Type 0) (xs ys : List E) → Has P xs → Has P (xs ++ ys)
+has-left P [] ys has = absurd has
+has-left P (x ∷ xs) ys (inl here) = inl here
+has-left P (x ∷ xs) ys (inr later) = inr (has-left P xs ys later)
+
+has-last : {E : Type 0} → (P : E → Type 0) (xs : List E) (x : E) → P x → Has P (xs ++ x ∷ [])
+has-last P [] x is = inl is
+has-last P (y ∷ xs) x is = inr (has-last P xs x is)
+
+settle-on : (k l : Known RegEntry) (own : List RegEntry) (look : Result Sought Errno) → Went k l own → MaySettle k look → MaySettle l look
+settle-on k l own (Ok look) goes may = (
+  sound-on k l own goes may.0,
+  subst (λ n. Has (IsLook n (spelling look.name) look.looked) l.made) (sym goes.number)
+      (subst (Has (IsLook k.number (spelling look.name) look.looked)) (sym goes.made) (has-left (IsLook k.number (spelling look.name) look.looked) k.made own may.1)),
+)
+settle-on k l own (Err errno) goes may = tt
+
+-- ---- one look
+
+goes-nowhere : (r : Option RegPass) → Goes r r []
+goes-nowhere r = record { lock = refl; goes = stays caller_of IsFaithful (known r) }
+
+pub more-nowhere : (r : Option RegPass) → SeesMore r r
+more-nowhere r = goes-more [] (goes-nowhere r)
+
+-- what is said of a look that was made, or not
+abbrev pub LooksFor : Option RegPass → Option RegPass → List ℕ → Result Sought Errno → Type 0
+LooksFor before after text look = IsRead text look × Goes before after (entry_of (known before).number look) × MaySettle (known after) look
+
+pub look-made : {before after : Option RegPass} → (text : List ℕ) (name : Tree) (look : Sought) → name_read text ≡ Ok name → spelling name ≡ text → look.name ≡ name
+    → Goes before after (look_entry (known before).number look ∷ []) → IsSound (known after) → LooksFor before after text (Ok look)
+look-made {before} {after} text name look read spelled same goes sound = (
+  (read ∙ ap (λ t. Ok t) (sym same), ap spelling same ∙ spelled),
+  goes,
+  (
+    sound,
+    subst (Has (IsLook (known after).number (spelling look.name) look.looked)) (sym goes.goes.made)
+        (has-last (IsLook (known after).number (spelling look.name) look.looked) (known before).made (look_entry (known before).number look) (sym goes.goes.number, refl, refl)),
+  ),
+)
+
+pub look-refused : (r : Option RegPass) (text : List ℕ) (errno : Errno) → name_read text ≡ Err errno → LooksFor r r text (Err errno)
+look-refused r text errno read = (read, goes-nowhere r, tt)
+
+-- ---- one look after the other
+
+read-more : (texts : List (List ℕ)) (searches : List Search) (text : List ℕ) (search : Search) → AreRead texts searches → search.text ≡ text → IsRead text search.look → AreRead (texts ++ text ∷ []) (searches ++ search ∷ [])
+read-more [] [] text search read same is = (same, subst (λ t. IsRead t search.look) (sym same) is, tt)
+read-more (x ∷ texts) (y ∷ searches) text search read same is = (read.0, read.1, read-more texts searches text search read.2 same is)
+read-more [] (y ∷ searches) text search read same is = absurd read
+read-more (x ∷ texts) [] text search read same is = absurd read
+
+all-on : (k l : Known RegEntry) (own : List RegEntry) (searches : List Search) → Went k l own → All (λ (search : Search). MaySettle k search.look) searches → All (λ (search : Search). MaySettle l search.look) searches
+all-on k l own searches goes all = λ i d below. settle-on k l own _ goes (all i d below)
+
+entries-more : (n : ℕ) (searches : List Search) (search : Search) → look_entries n (searches ++ search ∷ []) ≡ look_entries n searches ++ entry_of n search.look
+entries-more n searches search =
+    flat_map-append (λ (s : Search). entry_of n s.look) searches (search ∷ []) ∙ ap (λ es. look_entries n searches ++ es) (append-nil (entry_of n search.look))
+
+pub looks-begin : (r : Option RegPass) → LooksFirst r r [] []
+looks-begin r = record { read = tt; goes = goes-nowhere r; ready = All-nil (λ (search : Search). MaySettle (known r) search.look) }
+
+pub looks-more : {before middle after : Option RegPass} → (texts : List (List ℕ)) (searches : List Search) (text : List ℕ) (search : Search) → LooksFirst before middle texts searches → search.text ≡ text
+    → LooksFor middle after text search.look → LooksFirst before after (texts ++ text ∷ []) (searches ++ search ∷ [])
+looks-more {before} {middle} {after} texts searches text search first same one =
+    let n = (known before).number in
+    let l = known middle in
+    let m = known after in
+    let entry = entry_of l.number search.look in
+    let entries : look_entries n searches ++ entry ≡ look_entries n (searches ++ search ∷ []) =
+    ap (λ i. look_entries n searches ++ entry_of i search.look) first.goes.goes.number ∙ sym (entries-more n searches search) in
+    record {
+      read = read-more texts searches text search first.read same one.0;
+      goes = subst (Goes before after) entries (goes-further (look_entries n searches) entry first.goes one.1);
+      ready =
+          All-append (λ (s : Search). MaySettle m s.look) searches (search ∷ []) (all-on l m entry searches one.1.goes first.ready)
+          (All-cons (λ (s : Search). MaySettle m s.look) search [] one.2 (All-nil (λ (s : Search). MaySettle m s.look)));
+    }
+
+pub looks-seen : {before after : Option RegPass} → (texts : List (List ℕ)) (searches : List Search) → LooksFirst before after texts searches → SeesMore before after
+looks-seen {before} texts searches first = goes-more (look_entries (known before).number searches) first.goes
+
+pub seen-then : {before middle after : Option RegPass} → SeesMore before middle → SeesMore middle after → SeesMore before after
+seen-then {before} {middle} {after} a b = record {
+  lock = b.lock ∙ a.lock;
+  number = b.number ∙ a.number;
+  next = b.next ∙ a.next;
+  seen = (a.seen.0 ++ b.seen.0, b.seen.1 ∙ (ap (λ xs. xs ++ b.seen.0) a.seen.1 ∙ append_assoc (known before).seen a.seen.0 b.seen.0));
+}
+
+-- ---- what one comes to
+
+pub settles-found : {before after : Option RegPass} → (n : ℕ) (search : Search) (look : Sought) (result : Result _ Errno) (name : List ℕ) (answer : Answer) → search.look ≡ Ok look → Settles before after look.looked result → name ≡ search.text
+    → ((came : Found) → result ≡ found_result came → answer ≡ found_said n name came) → SettlesThen before after n (search ∷ []) (answer ∷ [])
+settles-found {before} {after} n search look result name answer is settles named said = record {
+  work = settles.work;
+  goes = settles.goes;
+  all_work = settles.all_work;
+  said_are = (
+    (
+      settles.found,
+      ap (comes_to (known after).seen) is ∙ settles.found_is,
+      said settles.found settles.result_is ∙ ap (λ t. found_said n t settles.found) named,
+    ),
+    tt,
+  );
+}
+
+pub settles-refused : (r : Option RegPass) (n : ℕ) (search : Search) (errno : Errno) (result : Result _ Errno) (name : List ℕ) (answer : Answer) → search.look ≡ Err errno → result ≡ Err errno → name ≡ search.text
+    → ((came : Found) → result ≡ found_result came → answer ≡ found_said n name came) → SettlesThen r r n (search ∷ []) (answer ∷ [])
+settles-refused r n search errno result name answer is none named said = record {
+  work = [];
+  goes = goes-nowhere r;
+  all_work = refl;
+  said_are = ((Fault errno, ap (comes_to (known r).seen) is, said (Fault errno) none ∙ ap (λ t. found_said n t (Fault errno)) named), tt);
+}
+
+-- ---- one after the other
+
+comes-on : FoundStays → (h more : List RegEntry) (look : Result Sought Errno) (found : Found) → comes_to h look ≡ Some found → comes_to (h ++ more) look ≡ Some found
+comes-on stay h more (Ok look) found is = stay h more look.looked found is
+comes-on stay h more (Err errno) found is = is
+
+said-on : FoundStays → (h more : List RegEntry) (n : ℕ) (searches : List Search) (answers : List Answer) → AreSaid h n searches answers → AreSaid (h ++ more) n searches answers
+said-on stay h more n [] [] said = tt
+said-on stay h more n (search ∷ searches) (answer ∷ answers) said =
+    ((said.0.0, comes-on stay h more search.look said.0.0 said.0.1, said.0.2), said-on stay h more n searches answers said.1)
+said-on stay h more n [] (answer ∷ answers) said = absurd said
+said-on stay h more n (search ∷ searches) [] said = absurd said
+
+said-more : (h : List RegEntry) (n : ℕ) (searches later : List Search) (answers more : List Answer) → AreSaid h n searches answers → AreSaid h n later more → AreSaid h n (searches ++ later) (answers ++ more)
+said-more h n [] later [] more said rest = rest
+said-more h n (search ∷ searches) later (answer ∷ answers) more said rest = (said.0, said-more h n searches later answers more said.1 rest)
+said-more h n [] later (answer ∷ answers) more said rest = absurd said
+said-more h n (search ∷ searches) later [] more said rest = absurd said
+
+and-true : (a b : Bool) → (a && b) ≡ true → (a ≡ true) × (b ≡ true)
+and-true true b e = (refl, e)
+and-true false b e = absurd cc
+
+all-work : (xs ys : List RegEntry) → list_all is_building xs ≡ true → list_all is_building ys ≡ true → list_all is_building (xs ++ ys) ≡ true
+all-work [] ys a b = b
+all-work (x ∷ xs) ys a b =
+    let both = and-true (is_building x) (list_all is_building xs) a in
+    ap (λ c. c && list_all is_building (xs ++ ys)) both.0 ∙ all-work xs ys both.1 b
+
+pub settles-begin : (r : Option RegPass) (n : ℕ) → SettlesThen r r n [] []
+settles-begin r n = record { work = []; goes = goes-nowhere r; all_work = refl; said_are = tt }
+
+pub settles-more : {before middle after : Option RegPass} → FoundStays → (n : ℕ) (searches later : List Search) (said more : List Answer) → SettlesThen before middle n searches said → SettlesThen middle after n later more
+    → SettlesThen before after n (searches ++ later) (said ++ more)
+settles-more {before} {middle} {after} stay n searches later said more first rest = record {
+  work = first.work ++ rest.work;
+  goes = goes-further first.work rest.work first.goes rest.goes;
+  all_work = all-work first.work rest.work first.all_work rest.all_work;
+  said_are =
+      said-more (known after).seen n searches later said more
+      (subst (λ h. AreSaid h n searches said) (sym rest.goes.goes.seen) (said-on stay (known middle).seen rest.goes.goes.between n searches said first.said_are)) rest.said_are;
+}
+
+pub settles-seen : {before after : Option RegPass} → (n : ℕ) (searches : List Search) (said : List Answer) → SettlesThen before after n searches said → SeesMore before after
+settles-seen n searches said then = goes-more then.work then.goes
+
+-- the next one may still be waited for
+pub may-still : {before middle : Option RegPass} → (n : ℕ) (searches all : List Search) (said : List Answer) → SettlesThen before middle n searches said → All (λ (search : Search). MaySettle (known before) search.look) all
+    → All (λ (search : Search). MaySettle (known middle) search.look) all
+may-still {before} {middle} n searches all said then may = all-on (known before) (known middle) then.work all then.goes.goes may
+
+-- ---- the dialogue
+
+abbrev with_calls : List RegCall → Turn → Turn
+with_calls calls turn = record turn { registry = calls ++ turn.registry }
+
+asked-up : (text : List ℕ) (o : Option Found) (found : Found) (next : Found → Dialogue) (r : List RegCall) → o ≡ Some found
+    → turn_of (Asks (Look text) next) (Looks text o ∷ r) [] ≡ with_calls (Looks text o ∷ []) (turn_of (next found) r [])
+asked-up text o found next r is = subst (λ x. turn_of (Asks (Look text) next) (Looks text x ∷ r) [] ≡ with_calls (Looks text x ∷ []) (turn_of (next found) r [])) (sym is) refl
+
+looked-up : (h : List RegEntry) (text : List ℕ) (look : Result Sought Errno) (found : Found) (next : Found → Dialogue) (r : List RegCall) → IsRead text look → comes_to h look ≡ Some found
+    → turn_of (looks_up text (name_read text) next) (call_of h text look ++ r) [] ≡ with_calls (call_of h text look) (turn_of (next found) r [])
+looked-up h text (Ok look) found next r read is =
+    subst (λ reading. turn_of (looks_up text reading next) (Looks text (found_in h look.looked) ∷ r) [] ≡ with_calls (Looks text (found_in h look.looked) ∷ []) (turn_of (next found) r [])) (sym read.0)
+    (asked-up text (found_in h look.looked) found next r is)
+looked-up h text (Err errno) found next r read is =
+    let same : Fault errno ≡ found = cc in
+    subst (λ reading. turn_of (looks_up text reading next) r [] ≡ turn_of (next found) r []) (sym read) (ap (λ f. turn_of (next f) r []) same)
+
+with_calls-join : (a b : List RegCall) (turn : Turn) → with_calls a (with_calls b turn) ≡ with_calls (a ++ b) turn
+with_calls-join a b turn = ap (λ cs. record turn { registry = cs }) (sym (append_assoc a b turn.registry))
+
+all-looked-up : (h : List RegEntry) (n : ℕ) (texts : List (List ℕ)) (searches : List Search) (said : List Answer) (rest : List Answer → Dialogue) (r : List RegCall) → AreRead texts searches → AreSaid h n searches said
+    → turn_of (looks_all n texts rest) (calls_of h searches ++ r) [] ≡ with_calls (calls_of h searches) (turn_of (rest said) r [])
+all-looked-up h n [] [] [] rest r read said = refl
+all-looked-up h n (text ∷ texts) (search ∷ searches) (answer ∷ answers) rest r read said =
+    let calls = call_of h search.text search.look in
+    let later = calls_of h searches in
+    let found = said.0.0 in
+    let next : Found → Dialogue = λ f. looks_all n texts (λ as. rest (found_said n search.text f ∷ as)) in
+    subst (λ t. turn_of (looks_all n (t ∷ texts) rest) ((calls ++ later) ++ r) [] ≡ with_calls (calls ++ later) (turn_of (rest (answer ∷ answers)) r [])) read.0
+    (ap (λ cs. turn_of (looks_up search.text (name_read search.text) next) cs []) (append_assoc calls later r)
+    ∙ (looked-up h search.text search.look found next (later ++ r) read.1 said.0.1
+    ∙ (ap (with_calls calls) (all-looked-up h n texts searches answers (λ as. rest (found_said n search.text found ∷ as)) r read.2 said.1)
+    ∙ (with_calls-join calls later (turn_of (rest (found_said n search.text found ∷ answers)) r [])
+    ∙ ap (λ a. with_calls (calls ++ later) (turn_of (rest (a ∷ answers)) r [])) (sym said.0.2)))))
+all-looked-up h n [] (search ∷ searches) said rest r read is = absurd read
+all-looked-up h n (text ∷ texts) [] said rest r read is = absurd read
+all-looked-up h n [] [] (answer ∷ answers) rest r read is = absurd is
+all-looked-up h n (text ∷ texts) (search ∷ searches) [] rest r read is = absurd is
+
+-- ---- the calls
+
+module _ (looks_law : LooksAtOnce) (are_law : CallsByAre) where
+  asked-all : {before middle after : Option RegPass} → (n : ℕ) (texts : List (List ℕ)) (searches : List Search) (said : List Answer) → IsCaller (known before) → LooksFirst before middle texts searches
+      → SettlesThen middle after n searches said → AskedBy (length texts) (known before) (known after) (calls_of (known after).seen searches)
+  asked-all {before} {middle} {after} n texts searches said caller first then =
+      let k = known before in
+      let l = known after in
+      let own = look_entries k.number searches ++ then.work in
+      let whole : Goes before after own = goes-further (look_entries k.number searches) then.work first.goes then.goes in
+      let goes = whole.goes in
+      let calls = calls_of l.seen searches in
+      let made : AreMade k.number calls k.seen l.seen = record {
+        more = goes.between;
+        history = goes.seen;
+        calls_are = calls-are-looks l.seen k.number k.seen goes.between then.work texts searches first.read goes.mine then.all_work;
+        settled = all-settled l.seen n searches said then.said_are;
+      } in
+      let turns = looks_law (length texts) k.number calls k.seen l.seen (all-looks l.seen searches) (no-more-calls l.seen texts searches first.read) made in
+      let are = are_law (length texts) k.number calls k.seen l.seen caller.settled turns in
+      record {
+        number = goes.number;
+        next = goes.next;
+        in_turn = turns;
+        are = are;
+        caller = record {
+          outsider = subst (λ i. IsFalse (is_worker i)) (sym goes.number) caller.outsider;
+          own = own_goes caller_of IsFaithful k l own caller.own goes;
+          settled = subst (λ i. AllSettled (reg_calls i l.seen)) (sym goes.number) are.all_settled;
+        };
+      }
+
+  probe-done : {before middle after : Option RegPass} → (walk : Walk) (b : Known (BoardEntry Ask)) (n : ℕ) (texts : List (List ℕ)) (searches : List Search) (said answers answers' : List Answer) → Stands walk.lives (known before) → Posted walk b
+      → LooksFirst before middle texts searches → SettlesThen middle after n searches said → answers' ≡ answers ++ said → DoneBy (length texts) (probe walk n texts) (known before) b (known after) b walk answers answers'
+  probe-done {before} {middle} {after} walk b n texts searches said answers answers' stands posted first then e =
+      let h = (known after).seen in
+      let calls = calls_of h searches in
+      let asked = asked-all n texts searches said stands.caller first then in
+      let turn : Turn = record { registry = calls; board = []; answers = said; after = Some walk } in
+      record {
+        turn = turn;
+        is =
+            ap (λ cs. turn_of (probe walk n texts) cs []) (sym (append-nil calls))
+            ∙ (all-looked-up h n texts searches said (λ as. Says as (Ends walk)) [] first.read then.said_are
+            ∙ (λ i. record { registry = append-nil calls i; board = []; answers = append-nil said i; after = Some walk }));
+        asked = asked;
+        called = called-nothing b;
+        ends = refl;
+        says = e;
+        stands = stands-more walk.lives walk.lives (known before) (known after) calls stands asked (λ id. ap (λ c. c + uses id walk.lives) (no-references id h searches));
+        posted = posted;
+      }

@@ -1,0 +1,4 @@
+use Rattle.session_calls.proofs.registry_caller.call_laws.Goals as goal
+
+pub returns : goal.returns
+returns c = record { are = c.calls_in_turn.ensures.are; any = c.calls_at_once.ensures.any }
