@@ -63,8 +63,8 @@ has-last P (y ∷ xs) x is = inr (has-last P xs x is)
 settle-on : (k l : Known RegEntry) (own : List RegEntry) (look : Result Sought Errno) → Went k l own → MaySettle k look → MaySettle l look
 settle-on k l own (Ok look) goes may = (
   sound-on k l own goes may.0,
-  subst (λ n. Has (IsLook n (spelling look.name) look.looked) l.made) (sym goes.number)
-      (subst (Has (IsLook k.number (spelling look.name) look.looked)) (sym goes.made) (has-left (IsLook k.number (spelling look.name) look.looked) k.made own may.1)),
+  subst (λ n. Has (IsLook n look.text look.looked) l.made) (sym goes.number)
+      (subst (Has (IsLook k.number look.text look.looked)) (sym goes.made) (has-left (IsLook k.number look.text look.looked) k.made own may.1)),
 )
 settle-on k l own (Err errno) goes may = tt
 
@@ -80,15 +80,15 @@ more-nowhere r = goes-more [] (goes-nowhere r)
 abbrev pub LooksFor : Option RegPass → Option RegPass → List ℕ → Result Sought Errno → Type 0
 LooksFor before after text look = IsRead text look × Goes before after (entry_of (known before).number look) × MaySettle (known after) look
 
-pub look-made : {before after : Option RegPass} → (text : List ℕ) (name : Tree) (look : Sought) → name_read text ≡ Ok name → spelling name ≡ text → look.name ≡ name
+pub look-made : {before after : Option RegPass} → (text : List ℕ) (name : Tree) (look : Sought) → name_read text ≡ Ok name → spelling name ≡ text → look.text ≡ spelling name
     → Goes before after (look_entry (known before).number look ∷ []) → IsSound (known after) → LooksFor before after text (Ok look)
 look-made {before} {after} text name look read spelled same goes sound = (
-  (read ∙ ap (λ t. Ok t) (sym same), ap spelling same ∙ spelled),
+  (name, read, same ∙ spelled),
   goes,
   (
     sound,
-    subst (Has (IsLook (known after).number (spelling look.name) look.looked)) (sym goes.goes.made)
-        (has-last (IsLook (known after).number (spelling look.name) look.looked) (known before).made (look_entry (known before).number look) (sym goes.goes.number, refl, refl)),
+    subst (Has (IsLook (known after).number look.text look.looked)) (sym goes.goes.made)
+        (has-last (IsLook (known after).number look.text look.looked) (known before).made (look_entry (known before).number look) (sym goes.goes.number, refl, refl)),
   ),
 )
 
@@ -231,7 +231,7 @@ asked-up text o found next r is = subst (λ x. turn_of (Asks (Look text) next) (
 looked-up : (h : List RegEntry) (text : List ℕ) (look : Result Sought Errno) (found : Found) (next : Found → Dialogue) (r : List RegCall) → IsRead text look → comes_to h look ≡ Some found
     → turn_of (looks_up text (name_read text) next) (call_of h text look ++ r) [] ≡ with_calls (call_of h text look) (turn_of (next found) r [])
 looked-up h text (Ok look) found next r read is =
-    subst (λ reading. turn_of (looks_up text reading next) (Looks text (found_in h look.looked) ∷ r) [] ≡ with_calls (Looks text (found_in h look.looked) ∷ []) (turn_of (next found) r [])) (sym read.0)
+    subst (λ reading. turn_of (looks_up text reading next) (Looks text (found_in h look.looked) ∷ r) [] ≡ with_calls (Looks text (found_in h look.looked) ∷ []) (turn_of (next found) r [])) (sym read.1)
     (asked-up text (found_in h look.looked) found next r is)
 looked-up h text (Err errno) found next r read is =
     let same : Fault errno ≡ found = cc in

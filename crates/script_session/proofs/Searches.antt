@@ -3,7 +3,6 @@ use Rattle.std.proofs.Common.{◌≡◌, ℕ, suc, ◌≤◌, Bool, true, false,
 use Rattle.std.specs.Prelude.{◌==◌, if◌then◌else◌}
 use Rattle.std.specs.List.{list_all, flat_map}
 use Rattle.kc_base.specs.declared.error_numbers.Errno.{Errno}
-use Rattle.alg_names.specs.Name.{spelling}
 use Rattle.alg_registry.specs.declared.entry.RegEntry.{RegEntry}
 use Rattle.alg_registry.specs.declared.entry.RegEntry.TheVariants as entry
 use Rattle.alg_registry.specs.Rows.{caller_of}
@@ -163,7 +162,7 @@ work-no_calls h n (e ∷ work) all =
 
 look-call : (h : List RegEntry) (n : ℕ) (text : List ℕ) (look : Result Sought Errno) (rest : List RegEntry) → IsRead text look → own_calls h n (entry_of n look ++ rest) ≡ call_of h text look ++ own_calls h n rest
 look-call h n text (Ok look) rest read =
-    ap (λ c. prepend c (own_calls h n rest)) (own n (Looks (spelling look.name) (found_in h look.looked)) ∙ ap (λ t. Some (Looks t (found_in h look.looked))) read.1)
+    ap (λ c. prepend c (own_calls h n rest)) (own n (Looks look.text (found_in h look.looked)) ∙ ap (λ t. Some (Looks t (found_in h look.looked))) read.2)
 look-call h n text (Err errno) rest read = refl
 
 look-calls : (h : List RegEntry) (n : ℕ) (texts : List (List ℕ)) (searches : List Search) → AreRead texts searches → own_calls h n (look_entries n searches) ≡ calls_of h searches

@@ -2,7 +2,7 @@
 use Rattle.std.specs.Prelude.{◌≡◌, ℕ, Bool, true, List, [], ◌∷◌, ◌++◌, Option, Some, Result, Ok, Err, All, ⊤}
 use Rattle.std.specs.List.{list_all, flat_map}
 use Rattle.kc_base.specs.declared.error_numbers.Errno.{Errno}
-use Rattle.alg_names.specs.Name.{spelling}
+use Rattle.alg_names.specs.Name.{Tree}
 use Rattle.alg_registry.specs.declared.entry.RegEntry.{RegEntry}
 use Rattle.reply_text.specs.declared.answers.Answer.{Answer}
 use Rattle.shared_registry.specs.Building.{WasAnswered, is_building}
@@ -19,9 +19,9 @@ pub record Search : Type 0 where
   pub text : List ℕ
   pub look : Result Sought Errno
 
--- the look is for the name that the text is, and without one this is why it is none
+-- the look is for the text, which is a name; without a look this is why it is none
 abbrev pub IsRead : List ℕ → Result Sought Errno → Type 0
-IsRead text (Ok look) = (name_read text ≡ Ok look.name) × (spelling look.name ≡ text)
+IsRead text (Ok look) = (name : Tree) × (name_read text ≡ Ok name) × (look.text ≡ text)
 IsRead text (Err errno) = name_read text ≡ Err errno
 
 -- the searches of these texts
@@ -40,7 +40,7 @@ look_entries caller searches = flat_map (λ (search : Search). entry_of caller s
 
 -- the caller made the look, if there is one, and may wait for what it comes to
 abbrev pub MaySettle : Known RegEntry → Result Sought Errno → Type 0
-MaySettle k (Ok look) = IsSound k × WasAnswered k (spelling look.name) look.looked
+MaySettle k (Ok look) = IsSound k × WasAnswered k look.text look.looked
 MaySettle k (Err errno) = ⊤
 
 -- the names were looked for in order, and the caller made no other entry

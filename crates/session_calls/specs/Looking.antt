@@ -1,8 +1,7 @@
 -- Looks that are made first, and what they come to later.
-use Rattle.std.specs.Prelude.{◌≡◌, true, ℕ, List, [], ◌∷◌, Option, Some, Result, Ok, Err}
+use Rattle.std.specs.Prelude.{◌≡◌, true, false, ℕ, List, Option, Some, Result, Ok, Err}
 use Rattle.std.specs.List.{list_all}
 use Rattle.kc_base.specs.declared.error_numbers.Errno.{Errno}
-use Rattle.alg_names.specs.Name.{Tree, spelling}
 use Rattle.alg_registry.specs.declared.entry.Looked.{Looked}
 use Rattle.alg_registry.specs.declared.entry.RegEntry.{RegEntry}
 use Rattle.alg_registry.specs.declared.entry.RegEntry.TheVariants as entry
@@ -14,9 +13,9 @@ use Rattle.templates.specs.Looking.{Found, Entry, Fault, found_in}
 use Rattle.turn_lock.specs.Meeting.{GoesOn}
 use Rattle.session_calls.specs.Passes.{RegPass, known, lock_of}
 
--- a name that was looked for, and what was answered
+-- a text that was looked for, and what was answered
 pub record Sought : Type 0 where
-  pub name : Tree
+  pub text : List ℕ
   pub looked : Looked
 
 -- the caller has seen more, on the same lock, and of its own it made these entries
@@ -26,7 +25,7 @@ pub record Goes (before after : Option RegPass) (own : List RegEntry) : Type 0 w
 
 -- the entry of a caller's look
 abbrev pub look_entry : ℕ → Sought → RegEntry
-look_entry caller look = entry.Look caller (spelling look.name) false look.looked
+look_entry caller look = entry.Look caller look.text false look.looked
 
 -- the entry that was found, as it came to be, or the number
 abbrev pub found_result : Found → Result Spec Errno

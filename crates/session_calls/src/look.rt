@@ -13,12 +13,13 @@ pub struct Look {
 
 impl Model for Look {
     ghost use Rattle.std.specs.Prelude.{◌≡◌, true};
+    ghost use Rattle.alg_names.specs.Name.{spelling};
     ghost use Rattle.templates.specs.Nesting.{is_nested_well};
     ghost use Rattle.session_calls.specs.Looking.{Sought};
 
     ghost Value = { Sought };
 
-    ghost view = { λ look. record { name = look.name; looked = look.looked } };
+    ghost view = { λ look. record { text = spelling look.name; looked = look.looked } };
 
     ghost invariant = { λ look. is_nested_well look.name ≡ true };
 }

@@ -3,18 +3,17 @@
 ghost use Rattle.std.specs.Prelude.{◌≡◌, ℕ, ◌∷◌, [], true, Option as Perhaps, Ok, Some, None, is_some, slice_get, MatchResult, IfOk, OnOk, IsSome, IsTrue, IsFalse};
 ghost use Rattle.std.specs.Result.{IsErr};
 ghost use Rattle.alg_registry.specs.declared.spec.Wrap.{Wrap};
+ghost use Rattle.alg_registry.specs.Legal.{is_worker};
 ghost use Rattle.alg_registry.specs.Rows.{registered};
 ghost use Rattle.alg_names.specs.Name.{spelling};
 ghost use Rattle.templates.specs.Nesting.{is_nested_well};
 ghost use Rattle.templates.specs.Table.{table};
+ghost use Rattle.shared_registry.specs.Building.{WasAnswered};
+ghost use Rattle.shared_registry.specs.Passes.{IsSound};
 ghost use Rattle.dialogues.specs.RegistryCalls.{Enlists, Unlists, Gets, Puts, Counts, Lists};
 ghost use Rattle.session_calls.specs.Passes.{CallsRegistry, known};
 ghost use Rattle.session_calls.specs.Asking.{CallLaws, IsCaller, HasReferenceOf, Asks, Finds, SeesMore, IsResolved, enlisted_as, unlisted_as, got_as, counted_as, listed_as};
-
-ghost use Rattle.alg_registry.specs.Legal.{is_worker};
 ghost use Rattle.session_calls.specs.Looking.{Goes, look_entry, Settles};
-ghost use Rattle.shared_registry.specs.Building.{WasAnswered};
-ghost use Rattle.shared_registry.specs.Passes.{IsSound};
 
 use crate::look::Look;
 use crate::stop::Stop;
@@ -319,7 +318,7 @@ impl RegistryCaller {
         requires outsider { IsFalse (is_worker (known self.old).number) }
         requires nested { is_nested_well name ≡ true }
         ensures looks { MatchResult result
-            (λ look. (look.name ≡ name) × Goes self.old self.new (look_entry (known self.old).number look ∷ []))
+            (λ look. (look.text ≡ spelling name) × Goes self.old self.new (look_entry (known self.old).number look ∷ []))
             (λ _. SeesMore self.old self.new) }
         ensures sound { OnOk result (IsSound (known self.new)) }
     {
@@ -358,7 +357,7 @@ impl RegistryCaller {
     ) -> Result<Result<Spec, Errno>, Stop>
         requires at { CallsRegistry registry.now self.old }
         requires sound { IsSound (known self.old) }
-        requires answered { WasAnswered (known self.old) (spelling look.now.name) look.now.looked }
+        requires answered { WasAnswered (known self.old) look.now.text look.now.looked }
         ensures { MatchResult result (λ found. Settles self.old self.new look.now.looked found) (λ _. SeesMore self.old self.new) }
     {
         registry_calls_go_on();
