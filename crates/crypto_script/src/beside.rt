@@ -90,7 +90,7 @@ fn shut_board<R: Wait>(rt: &R, board: &SharedBoard<Job>, pass: BoardPass<Job>) -
 }
 
 // Runs the script with passes of both locks, and shuts the board at its end, however it ends.
-fn answer_script<K: Sink, G: Gate, R: Wait>(
+fn answer_script<K: Sink, G: Gate, R: Threads + Wait + Sync>(
     rt: &R,
     alloc: Global,
     workers: u32,

@@ -27,6 +27,7 @@ use shared_board::SharedBoard;
 use shared_registry::SharedRegistry;
 use std::alloc::{AllocError, Global};
 use std::sync::Wait;
+use std::thread::Threads;
 use transforms::Job;
 
 // what texts and calls are as histories go on
@@ -48,7 +49,7 @@ fn is_malformed_line(line: &Line) -> bool
 }
 
 // The text of the answers to one line, and whether it is malformed.
-fn reply_to<G: Gate, R: Wait>(
+fn reply_to<G: Gate, R: Threads + Wait + Sync>(
     rt: &R,
     alloc: Global,
     board: &SharedBoard<Job>,
@@ -97,7 +98,7 @@ fn reply_to_end<G: Gate, R: Wait>(
 }
 
 // Answers one line in one piece, and says whether it is malformed.
-fn run_line<K: Sink, G: Gate, R: Wait>(
+fn run_line<K: Sink, G: Gate, R: Threads + Wait + Sync>(
     rt: &R,
     alloc: Global,
     board: &SharedBoard<Job>,
@@ -147,7 +148,7 @@ fn run_end<K: Sink, G: Gate, R: Wait>(
 
 /// Answers each line of the input and its end, each in one piece, and says whether a line is malformed. Only a failed write and
 /// want of memory stop it.
-pub fn run_lines<K: Sink, G: Gate, R: Wait>(
+pub fn run_lines<K: Sink, G: Gate, R: Threads + Wait + Sync>(
     rt: &R,
     alloc: Global,
     board: &SharedBoard<Job>,

@@ -10,6 +10,7 @@ pub mod Allocating
 pub mod Requesting
 pub mod Piping
 pub mod Probing
+pub mod Bulk
 pub mod Lines
 pub mod Texts
 pub mod InTurn

@@ -7,6 +7,7 @@ use Rattle.script_text.specs.declared.commands.Line.TheVariants as line
 use Rattle.transforms.specs.declared.request.Dir.TheVariants as dir
 use Rattle.reply_text.specs.declared.answers.Answer.TheVariants as said
 use Rattle.dialogues.specs.Allocating.{alloc, free}
+use Rattle.dialogues.specs.Bulk.{bulk}
 use Rattle.dialogues.specs.Dialogues.{Dialogue, Ends, followed, says}
 use Rattle.dialogues.specs.Piping.{hold, go, poll, drain, end}
 use Rattle.dialogues.specs.Probing.{probe}
@@ -26,6 +27,7 @@ command_dialogue workers walk n (command.Authsize label size) = set_tag_size wal
 command_dialogue workers walk n (command.Enc label iv aad text backlog) = request walk n label (request_of dir.Enc iv aad text) backlog
 command_dialogue workers walk n (command.Dec label iv aad text backlog) = request walk n label (request_of dir.Dec iv aad text) backlog
 command_dialogue workers walk n (command.Mac label text backlog) = request walk n label (request_of dir.Mac [] [] text) backlog
+command_dialogue workers walk n (command.Bulk label size seed) = bulk walk n label size seed
 command_dialogue workers walk n (command.Hold label) = hold walk n label
 command_dialogue workers walk n (command.Go label) = go walk n label
 command_dialogue workers walk n (command.Poll label) = poll walk n label

@@ -13,7 +13,7 @@ pub mod Frees
 pub mod Creating
 pub mod Finding
 pub mod Searches
-pub mod Probing
+pub mod Probed
 pub mod Commands
 pub mod Leading
 pub mod Moving

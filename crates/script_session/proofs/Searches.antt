@@ -1,5 +1,5 @@
 -- Looks for several names, and the calls that they are.
-use Rattle.std.proofs.Common.{◌≡◌, ℕ, suc, ◌≤◌, Bool, true, false, ◌&&◌, List, [], ◌∷◌, ◌++◌, length, Option, Some, None, Result, Ok, Err, refl, sym, ap, subst, ◌∙◌, arith, append_assoc, append-nil}
+use Rattle.std.proofs.Common.{◌≡◌, ℕ, suc, ◌+◌, ◌≤◌, Bool, true, false, ◌&&◌, List, [], ◌∷◌, ◌++◌, length, Option, Some, None, Result, Ok, Err, refl, sym, ap, subst, ◌∙◌, arith, append_assoc, append-nil}
 use Rattle.std.specs.Prelude.{◌==◌, if◌then◌else◌}
 use Rattle.std.specs.List.{list_all, flat_map}
 use Rattle.kc_base.specs.declared.error_numbers.Errno.{Errno}
@@ -15,7 +15,7 @@ use Rattle.dialogues.specs.References.{got, given}
 use Rattle.dialogues.specs.RegistryCalls.{RegCall, Looks, reg_call_of, reg_calls_from, prepend, AllSettled}
 use Rattle.session_calls.specs.Looking.{Sought, look_entry}
 use Rattle.session_calls.proofs.Asking.{own}
-use Rattle.script_session.specs.Probing.{Search, IsRead, AreRead, entry_of, look_entries, comes_to, IsSaid, AreSaid}
+use Rattle.script_session.specs.Probing.{Searched, IsRead, AreRead, entry_of, look_entries, comes_to, IsSaid, AreSaid}
 
 -- ---- the calls that searches are
 
@@ -24,14 +24,14 @@ abbrev pub call_of : List RegEntry → List ℕ → Result Sought Errno → List
 call_of h text (Ok look) = Looks text (found_in h look.looked) ∷ []
 call_of h text (Err errno) = []
 
-abbrev pub calls_of : List RegEntry → List Search → List RegCall
-calls_of h searches = flat_map (λ (search : Search). call_of h search.text search.look) searches
+abbrev pub calls_of : List RegEntry → List Searched → List RegCall
+calls_of h searches = flat_map (λ (search : Searched). call_of h search.text search.look) searches
 
 looks-and : (h : List RegEntry) (text : List ℕ) (look : Result Sought Errno) (calls : List RegCall) → list_all is_look calls ≡ true → list_all is_look (call_of h text look ++ calls) ≡ true
 looks-and h text (Ok look) calls all = all
 looks-and h text (Err errno) calls all = all
 
-pub all-looks : (h : List RegEntry) (searches : List Search) → list_all is_look (calls_of h searches) ≡ true
+pub all-looks : (h : List RegEntry) (searches : List Searched) → list_all is_look (calls_of h searches) ≡ true
 all-looks h [] = refl
 all-looks h (search ∷ searches) = looks-and h search.text search.look (calls_of h searches) (all-looks h searches)
 
@@ -40,18 +40,18 @@ one-at-most h text (Ok look) calls n le = omega (arith, le)
 one-at-most h text (Err errno) calls n le = omega (arith, le)
 
 -- there are no more than there are texts
-pub no-more-calls : (h : List RegEntry) (texts : List (List ℕ)) (searches : List Search) → AreRead texts searches → length (calls_of h searches) ≤ length texts
+pub no-more-calls : (h : List RegEntry) (texts : List (List ℕ)) (searches : List Searched) → AreRead texts searches → length (calls_of h searches) ≤ length texts
 no-more-calls h [] [] read = omega arith
 no-more-calls h (text ∷ texts) (search ∷ searches) read = one-at-most h search.text search.look (calls_of h searches) (length texts) (no-more-calls h texts searches read.2)
 no-more-calls h [] (search ∷ searches) read = absurd read
 no-more-calls h (text ∷ texts) [] read = absurd read
 
 no-reference : (id : ℕ) (h : List RegEntry) (text : List ℕ) (look : Result Sought Errno) (calls : List RegCall) → got id calls ≡ given id calls → got id (call_of h text look ++ calls) ≡ given id (call_of h text look ++ calls)
-no-reference id h text (Ok look) calls same = same
+no-reference id h text (Ok look) calls same = ap (λ n. 0 + n) same
 no-reference id h text (Err errno) calls same = same
 
 -- they take no reference and give none back
-pub no-references : (id : ℕ) (h : List RegEntry) (searches : List Search) → got id (calls_of h searches) ≡ given id (calls_of h searches)
+pub no-references : (id : ℕ) (h : List RegEntry) (searches : List Searched) → got id (calls_of h searches) ≡ given id (calls_of h searches)
 no-references id h [] = refl
 no-references id h (search ∷ searches) = no-reference id h search.text search.look (calls_of h searches) (no-references id h searches)
 
@@ -60,7 +60,7 @@ settled-one h text (Ok look) found calls is all = subst (λ o. AllSettled (Looks
 settled-one h text (Err errno) found calls is all = all
 
 -- where something is said of each, each has come to something
-pub all-settled : (h : List RegEntry) (n : ℕ) (searches : List Search) (answers : List Answer) → AreSaid h n searches answers → AllSettled (calls_of h searches)
+pub all-settled : (h : List RegEntry) (n : ℕ) (searches : List Searched) (answers : List Answer) → AreSaid h n searches answers → AllSettled (calls_of h searches)
 all-settled h n [] [] said = tt
 all-settled h n (search ∷ searches) (answer ∷ answers) said =
     settled-one h search.text search.look said.0.0 (calls_of h searches) said.0.1 (all-settled h n searches answers said.1)
@@ -165,7 +165,7 @@ look-call h n text (Ok look) rest read =
     ap (λ c. prepend c (own_calls h n rest)) (own n (Looks look.text (found_in h look.looked)) ∙ ap (λ t. Some (Looks t (found_in h look.looked))) read.2)
 look-call h n text (Err errno) rest read = refl
 
-look-calls : (h : List RegEntry) (n : ℕ) (texts : List (List ℕ)) (searches : List Search) → AreRead texts searches → own_calls h n (look_entries n searches) ≡ calls_of h searches
+look-calls : (h : List RegEntry) (n : ℕ) (texts : List (List ℕ)) (searches : List Searched) → AreRead texts searches → own_calls h n (look_entries n searches) ≡ calls_of h searches
 look-calls h n [] [] read = refl
 look-calls h n (text ∷ texts) (search ∷ searches) read =
     look-call h n search.text search.look (look_entries n searches) read.1 ∙ ap (λ cs. call_of h search.text search.look ++ cs) (look-calls h n texts searches read.2)
@@ -176,13 +176,13 @@ look-searches : (n : ℕ) (look : Result Sought Errno) (rest : List RegEntry) �
 look-searches n (Ok look) rest all = all
 look-searches n (Err errno) rest all = all
 
-all-search : (n : ℕ) (searches : List Search) (rest : List RegEntry) → list_all is_search rest ≡ true → list_all is_search (look_entries n searches ++ rest) ≡ true
+all-search : (n : ℕ) (searches : List Searched) (rest : List RegEntry) → list_all is_search rest ≡ true → list_all is_search (look_entries n searches ++ rest) ≡ true
 all-search n [] rest all = all
 all-search n (search ∷ searches) rest all =
     subst (λ es. list_all is_search es ≡ true) (sym (append_assoc (entry_of n search.look) (look_entries n searches) rest)) (look-searches n search.look (look_entries n searches ++ rest) (all-search n searches rest all))
 
 -- where the caller's own entries are these looks and then work, the looks are its calls
-pub calls-are-looks : (h : List RegEntry) (n : ℕ) (before xs work : List RegEntry) (texts : List (List ℕ)) (searches : List Search) → AreRead texts searches
+pub calls-are-looks : (h : List RegEntry) (n : ℕ) (before xs work : List RegEntry) (texts : List (List ℕ)) (searches : List Searched) → AreRead texts searches
     → of caller_of n xs ≡ look_entries n searches ++ work → list_all is_building work ≡ true → reg_calls_from h n before xs ≡ calls_of h searches
 calls-are-looks h n before xs work texts searches read mine all_work =
     let none = work-no_calls h n work all_work in

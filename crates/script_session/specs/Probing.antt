@@ -15,7 +15,7 @@ use Rattle.session_calls.specs.Looking.{Sought, Goes, look_entry}
 use Rattle.session_calls.specs.Passes.{RegPass, known}
 
 -- a name of a probe, with the look that was made for it, or why it is no name
-pub record Search : Type 0 where
+pub record Searched : Type 0 where
   pub text : List ℕ
   pub look : Result Sought Errno
 
@@ -25,7 +25,7 @@ IsRead text (Ok look) = (name : Tree) × (name_read text ≡ Ok name) × (look.t
 IsRead text (Err errno) = name_read text ≡ Err errno
 
 -- the searches of these texts
-abbrev pub AreRead : List (List ℕ) → List Search → Type 0
+abbrev pub AreRead : List (List ℕ) → List Searched → Type 0
 AreRead [] [] = ⊤
 AreRead (text ∷ texts) (search ∷ searches) = (search.text ≡ text) × IsRead search.text search.look × AreRead texts searches
 AreRead _ _ = ⊥
@@ -35,8 +35,8 @@ abbrev pub entry_of : ℕ → Result Sought Errno → List RegEntry
 entry_of caller (Ok look) = look_entry caller look ∷ []
 entry_of caller (Err errno) = []
 
-abbrev pub look_entries : ℕ → List Search → List RegEntry
-look_entries caller searches = flat_map (λ (search : Search). entry_of caller search.look) searches
+abbrev pub look_entries : ℕ → List Searched → List RegEntry
+look_entries caller searches = flat_map (λ (search : Searched). entry_of caller search.look) searches
 
 -- the caller made the look, if there is one, and may wait for what it comes to
 abbrev pub MaySettle : Known RegEntry → Result Sought Errno → Type 0
@@ -44,10 +44,10 @@ MaySettle k (Ok look) = IsSound k × WasAnswered k look.text look.looked
 MaySettle k (Err errno) = ⊤
 
 -- the names were looked for in order, and the caller made no other entry
-pub record LooksFirst (before after : Option RegPass) (texts : List (List ℕ)) (searches : List Search) : Type 0 where
+pub record LooksFirst (before after : Option RegPass) (texts : List (List ℕ)) (searches : List Searched) : Type 0 where
   pub read : AreRead texts searches
   pub goes : Goes before after (look_entries (known before).number searches)
-  pub ready : All (λ (search : Search). MaySettle (known after) search.look) searches
+  pub ready : All (λ (search : Searched). MaySettle (known after) search.look) searches
 
 -- what a search has come to in a history
 abbrev pub comes_to : List RegEntry → Result Sought Errno → Option Found
@@ -55,16 +55,16 @@ comes_to h (Ok look) = found_in h look.looked
 comes_to h (Err errno) = Some (Fault errno)
 
 -- what is said of a search by what it has come to
-abbrev pub IsSaid : List RegEntry → ℕ → Search → Answer → Type 0
+abbrev pub IsSaid : List RegEntry → ℕ → Searched → Answer → Type 0
 IsSaid h n search answer = (found : Found) × (comes_to h search.look ≡ Some found) × (answer ≡ found_said n search.text found)
 
-abbrev pub AreSaid : List RegEntry → ℕ → List Search → List Answer → Type 0
+abbrev pub AreSaid : List RegEntry → ℕ → List Searched → List Answer → Type 0
 AreSaid h n [] [] = ⊤
 AreSaid h n (search ∷ searches) (answer ∷ answers) = IsSaid h n search answer × AreSaid h n searches answers
 AreSaid h n _ _ = ⊥
 
 -- the caller built and waited, and this is said of what the searches came to
-pub record SettlesThen (before after : Option RegPass) (n : ℕ) (searches : List Search) (said : List Answer) : Type 0 where
+pub record SettlesThen (before after : Option RegPass) (n : ℕ) (searches : List Searched) (said : List Answer) : Type 0 where
   pub work : List RegEntry
   pub goes : Goes before after work
   pub all_work : list_all is_building work ≡ true

@@ -2,6 +2,7 @@
 #![tactic(auto)]
 
 mod answers;
+mod bulk;
 mod callbacks;
 mod drivers;
 mod ending;

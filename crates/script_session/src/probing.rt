@@ -8,7 +8,7 @@ ghost use Rattle.session_calls.specs.Asking.{SeesMore};
 ghost use Rattle.session_calls.specs.Looking.{Goes, found_result};
 ghost use Rattle.session_calls.specs.Passes.{CallsRegistry, known};
 ghost use Rattle.script_session.specs.Holding.{HoldsBy, Stops};
-ghost use Rattle.script_session.specs.Probing.{Search as Sought, IsRead, entry_of, MaySettle, LooksFirst, IsSaid, SettlesThen};
+ghost use Rattle.script_session.specs.Probing.{Searched, IsRead, entry_of, MaySettle, LooksFirst, IsSaid, SettlesThen};
 ghost use Rattle.script_session.specs.States.{Stands, Posted};
 ghost use Rattle.templates.specs.Looking.{Found};
 
@@ -34,9 +34,9 @@ struct Search {
 }
 
 impl Model for Search {
-    ghost use Rattle.script_session.specs.Probing.{Search as Value};
+    ghost use Rattle.script_session.specs.Probing.{Searched};
 
-    ghost Value = { Value };
+    ghost Value = { Searched };
 
     ghost view = { λ s. record { text = s.text; look = s.look } };
 }
@@ -79,8 +79,8 @@ fn look_for_all<R: Wait>(
     let mut searches = Vec::new(alloc);
     for text in texts {
         let look = look_for(rt, alloc, registry, caller, text.as_slice())?;
-        let text = Bytes::copy_of(alloc, text.as_slice())?;
-        searches.push(Search { text, look })?;
+        let copy = Bytes::copy_of(alloc, text.as_slice())?;
+        searches.push(Search { text: copy, look })?;
     }
     Ok(searches)
 }
@@ -134,7 +134,7 @@ fn settle_all<R: Wait>(
     answers: &mut Vec<Answer>,
 ) -> Result<(), Stop>
     requires at { CallsRegistry registry.now caller.old }
-    requires may { All (λ (search : Sought). MaySettle (known caller.old) search.look) searches.now }
+    requires may { All (λ (search : Searched). MaySettle (known caller.old) search.look) searches.now }
     ensures { MatchResult result
         (λ _. (said : List Said) × (answers.new.items ≡ answers.old.items ++ said) × SettlesThen caller.old caller.new line searches.now said)
         (λ _. SeesMore caller.old caller.new) }

@@ -44,6 +44,7 @@ use shared_registry::{RegPass, SharedRegistry};
 use std::alloc::Global;
 use std::marker::Model;
 use std::sync::Wait;
+use std::thread::Threads;
 use templates::BuildErr;
 use transforms::{Dir, Job, Request};
 
@@ -57,7 +58,7 @@ const MOST_PRIORITY: u32 = 100_000;
 #[derive(Drop)]
 pub struct Session {
     pub(crate) alloc: Global,
-    workers: u32,
+    pub(crate) workers: u32,
     client: u32,
     pub(crate) lives: Vec<Transform>,
     /// How many requests pipelines accepted, and of how many bytes.
@@ -619,7 +620,7 @@ impl Session {
     }
 
     // A command's answers.
-    fn command<R: Wait, G: Gate>(
+    fn command<R: Threads + Wait + Sync, G: Gate>(
         &mut self,
         rt: &R,
         board: &SharedBoard<Job>,
@@ -706,6 +707,9 @@ impl Session {
                 *backlog,
                 answers,
             ),
+            Command::Bulk { label, size, seed } => {
+                self.bulk(rt, number, label, *size, *seed, answers)
+            }
             Command::Hold { label } => self.hold(rt, board, number, label, answers),
             Command::Go { label } => self.go(rt, board, number, label, answers),
             Command::Poll { label } => self.poll(rt, board, number, label, answers),
@@ -717,7 +721,7 @@ impl Session {
     }
 
     // A line's answers.
-    fn answer<R: Wait, G: Gate>(
+    fn answer<R: Threads + Wait + Sync, G: Gate>(
         &mut self,
         rt: &R,
         board: &SharedBoard<Job>,
@@ -746,9 +750,9 @@ impl Session {
     /// Answers a line: it holds the line's dialogue with the registry and the board, and adds the text of what was answered to
     /// `reply`. Entries of others may lie between its calls.
     ///
-    /// `drain` does what jobs there are while it waits, and `probe` builds. `Stop` comes for want of memory alone, with the reply as it was; the
+    /// `drain` does what jobs there are while it waits, `probe` builds, and `bulk` starts threads, which end in this call. `Stop` comes for want of memory alone, with the reply as it was; the
     /// session takes no line after it.
-    pub fn line<R: Wait, G: Gate>(
+    pub fn line<R: Threads + Wait + Sync, G: Gate>(
         &mut self,
         rt: &R,
         board: &SharedBoard<Job>,

@@ -1,6 +1,6 @@
 //! A live transform: an entry of the registry in use, with its key and its tag size, and its pipeline where it has one.
 
-ghost use Rattle.std.specs.Prelude.{◌≡◌, ◌⊎◌, true, false, ◌<◌, ◌^◌, length, Some, OnOk, OnErr, MatchResult};
+ghost use Rattle.std.specs.Prelude.{◌≡◌, ◌⊎◌, true, false, ◌<◌, ◌^◌, length, Some, None, MatchOption, OnOk, OnErr, MatchResult};
 ghost use Rattle.std.specs.Arc.{arc_value};
 ghost use Rattle.std.specs.Option.{option_copied};
 ghost use Rattle.transforms.specs.Plans.{takes_key, takes_tag};
@@ -99,6 +99,23 @@ impl Transform {
         ensures { result ≡ self.now.id }
     {
         self.id
+    }
+
+    /// What it computes.
+    pub fn plan(&self) -> &Plan
+        ensures { result.now ≡ self.now.plan }
+    {
+        &self.plan
+    }
+
+    /// What it computes, under the key that was set last.
+    pub fn keyed(&self) -> Option<&Keyed>
+        ensures { MatchOption result (self.now.key ≡ None) (λ keyed. (keyed.now.0 ≡ self.now.plan) × (self.now.key ≡ Some keyed.now.1)) }
+    {
+        match &self.keyed {
+            Some(keyed) => Some(keyed),
+            None => None,
+        }
     }
 
     /// Sets a key: `Inval` exactly where the mode doesn't take it. A refusal leaves an earlier key.

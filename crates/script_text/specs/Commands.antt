@@ -75,6 +75,15 @@ mac_row (label ∷ text ∷ more) = do
   Some (says.Mac label text backlog)
 mac_row other = None
 
+-- `bulk T SIZE SEED`
+abbrev pub bulk_row : List (List ℕ) → Option Command
+bulk_row (label ∷ size ∷ seed ∷ []) = do
+  label ← label_of label
+  size ← number_of size
+  seed ← number_of seed
+  Some (says.Bulk label size seed)
+bulk_row other = None
+
 -- `hold T`, `go T`, `poll T`, `drain T` and `free T`
 abbrev pub label_row : (List ℕ → Command) → List (List ℕ) → Option Command
 label_row command args = do
@@ -104,6 +113,7 @@ command_of name args =
     else if bytes_eq name (codes "enc") then aead_row says.Enc args
     else if bytes_eq name (codes "dec") then aead_row says.Dec args
     else if bytes_eq name (codes "mac") then mac_row args
+    else if bytes_eq name (codes "bulk") then bulk_row args
     else if bytes_eq name (codes "hold") then label_row says.Hold args
     else if bytes_eq name (codes "go") then label_row says.Go args
     else if bytes_eq name (codes "poll") then label_row says.Poll args

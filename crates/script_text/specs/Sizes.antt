@@ -19,6 +19,7 @@ IsShortCommand (says.Authsize label size) = IsShort label
 IsShortCommand (says.Enc label iv aad text backlog) = IsShort label × IsShort iv × IsShort aad × IsShort text
 IsShortCommand (says.Dec label iv aad text backlog) = IsShort label × IsShort iv × IsShort aad × IsShort text
 IsShortCommand (says.Mac label text backlog) = IsShort label × IsShort text
+IsShortCommand (says.Bulk label size seed) = IsShort label
 IsShortCommand (says.Hold label) = IsShort label
 IsShortCommand (says.Go label) = IsShort label
 IsShortCommand (says.Poll label) = IsShort label

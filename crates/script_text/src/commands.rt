@@ -63,6 +63,12 @@ pub enum Command {
         text: Bytes,
         backlog: bool,
     },
+    /// `bulk T SIZE SEED`: so many bytes drawn from the seed, sealed in chunks.
+    Bulk {
+        label: Bytes,
+        size: u32,
+        seed: u32,
+    },
     /// `hold T`: the queue serves no request until `go T`.
     Hold {
         label: Bytes,

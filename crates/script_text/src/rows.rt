@@ -2,7 +2,7 @@
 
 ghost use Rattle.std.specs.Prelude.{map};
 ghost use Rattle.script_text.specs.Arguments.{Reads};
-ghost use Rattle.script_text.specs.Commands.{aes_row, register_row, unregister_row, probe_row, alloc_row, key_row, authsize_row, aead_row, mac_row, label_row, refs_row, list_row, command_of};
+ghost use Rattle.script_text.specs.Commands.{aes_row, register_row, unregister_row, probe_row, alloc_row, key_row, authsize_row, aead_row, mac_row, bulk_row, label_row, refs_row, list_row, command_of};
 ghost use Rattle.script_text.specs.declared.commands.Command.TheVariants as says;
 
 use crate::arguments::{
@@ -135,6 +135,19 @@ fn mac_command(alloc: Global, args: &[&[u8]]) -> Result<Command, ReadError>
     })
 }
 
+fn bulk_command(alloc: Global, args: &[&[u8]]) -> Result<Command, ReadError>
+    ensures { Reads result (bulk_row (map (λ token. token.now) args.now)) }
+{
+    let [transform, size, seed] = args else {
+        return Err(ReadError::Malformed);
+    };
+    Ok(Command::Bulk {
+        label: label(alloc, transform)?,
+        size: number(size)?,
+        seed: number(seed)?,
+    })
+}
+
 fn hold_command(alloc: Global, args: &[&[u8]]) -> Result<Command, ReadError>
     ensures { Reads result (label_row says.Hold (map (λ token. token.now) args.now)) }
 {
@@ -219,6 +232,8 @@ pub fn read_command(alloc: Global, name: &[u8], args: &[&[u8]]) -> Result<Comman
         dec_command(alloc, args)
     } else if name == b"mac".as_slice() {
         mac_command(alloc, args)
+    } else if name == b"bulk".as_slice() {
+        bulk_command(alloc, args)
     } else if name == b"hold".as_slice() {
         hold_command(alloc, args)
     } else if name == b"go".as_slice() {

@@ -240,6 +240,9 @@ fn words(alloc: Global, command: &Command) -> Result<String, AllocError> {
             text,
             backlog,
         } => request_words(alloc, "mac", label, &[text], *backlog),
+        Command::Bulk { label, size, seed } => {
+            format!(in alloc; "bulk {} {size} {seed}", text(label))
+        }
         Command::Hold { label } => format!(in alloc; "hold {}", text(label)),
         Command::Go { label } => format!(in alloc; "go {}", text(label)),
         Command::Poll { label } => format!(in alloc; "poll {}", text(label)),
@@ -281,6 +284,7 @@ dec t 01 0203 040506
 dec t - 02 - backlog
 mac t 0102
 mac t - backlog
+bulk t 16777216 0
 hold T-0_z
 go T-0_z
 poll T-0_z
@@ -356,6 +360,7 @@ authsize t 0x10
 alloc t aes ten
 key t 012
 mac t 0g
+bulk t 1 -
 enc t 00 0 00
 dec t 00 00 --";
     assert!(rt; all_say(rt.alloc(), unfit, Said::Malformed)?);
@@ -386,6 +391,8 @@ dec t 00 00 00 Backlog
 mac t
 mac t 00 backlo
 mac t 00 backlog 00
+bulk t 1
+bulk t 1 2 backlog
 hold
 hold t u
 go

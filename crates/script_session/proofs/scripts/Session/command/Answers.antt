@@ -26,6 +26,9 @@ returns-in-Key g c = command-arm c.key.result c.args.self.now _ c.args.number c.
 pub returns-in-Authsize : goal.returns-in-Authsize
 returns-in-Authsize g c = command-arm c.authsize.result c.args.self.now _ c.args.number c.args.command.now (command.Authsize c.in-Authsize.label c.in-Authsize.size) _ _ c.in-Authsize.is c.authsize.ensures
 
+pub returns-in-Bulk : goal.returns-in-Bulk
+returns-in-Bulk g c = command-arm c.bulk.result c.args.self.now _ c.args.number c.args.command.now (command.Bulk c.in-Bulk.label c.in-Bulk.size c.in-Bulk.seed) _ _ c.in-Bulk.is c.bulk.ensures
+
 pub returns-in-Hold : goal.returns-in-Hold
 returns-in-Hold g c = command-arm c.hold.result c.args.self.now _ c.args.number c.args.command.now (command.Hold c.in-Hold.label) _ _ c.in-Hold.is c.hold.ensures
 

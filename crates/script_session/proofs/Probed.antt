@@ -1,14 +1,16 @@
 -- `probe`: all looks are made first, and then each is waited for.
-use Rattle.std.proofs.Common.{◌≡◌, ℕ, ◌<◌, Bool, true, false, ◌&&◌, List, [], ◌∷◌, ◌++◌, length, Option, Some, None, Result, Ok, Err, refl, sym, ap, subst, ◌∙◌, append_assoc, append-nil, inl, inr}
-use Rattle.std.specs.Prelude.{All, MatchResult, IsFalse, ◌+◌}
+use Rattle.std.proofs.Common.{◌≡◌, ℕ, suc, ◌<◌, take, get_or, arith, Bool, true, false, ◌&&◌, List, [], ◌∷◌, ◌++◌, length, Option, Some, None, Result, Ok, Err, refl, sym, ap, subst, ◌∙◌, append_assoc, append-nil, inl, inr}
+use Rattle.std.specs.Prelude.{All, MatchResult, IsFalse, IsErr, ◌+◌}
 use Rattle.std.specs.List.{list_all, flat_map}
 use Rattle.std.proofs.lemmas.List.Concat.{flat_map-append}
+use Rattle.std.proofs.Math.Seq.{take-suc}
 use Rattle.std.proofs.lemmas.List.Elements.{All-nil, All-cons, All-append}
 use Rattle.kc_base.specs.declared.error_numbers.Errno.{Errno}
 use Rattle.alg_names.specs.Name.{Tree, spelling}
 use Rattle.alg_registry.specs.declared.entry.Looked.{Looked}
 use Rattle.alg_registry.specs.declared.entry.RegEntry.{RegEntry}
 use Rattle.alg_registry.specs.Legal.{is_worker}
+use Rattle.alg_registry.specs.declared.spec.Spec.{Spec}
 use Rattle.alg_registry.specs.Rows.{caller_of}
 use Rattle.board.specs.declared.entry.BoardEntry.{BoardEntry}
 use Rattle.reply_text.specs.declared.answers.Answer.{Answer}
@@ -28,14 +30,16 @@ use Rattle.dialogues.specs.Probing.{found_said, looks_up, looks_all, probe}
 use Rattle.dialogues.specs.Questions.{Look}
 use Rattle.dialogues.specs.RegistryCalls.{RegCall, Looks, reg_calls, AllSettled}
 use Rattle.dialogues.specs.Turns.{Turn, broken, asking, turn_of}
-use Rattle.dialogues.specs.Walk.{Walk}
+use Rattle.dialogues.specs.Walk.{Walk, Live}
 use Rattle.session_calls.specs.Asking.{AskedBy, SeesMore, IsCaller}
 use Rattle.session_calls.specs.Looking.{Sought, Goes, look_entry, found_result, Settles}
 use Rattle.session_calls.specs.Passes.{RegPass, BoardPass, known, lock_of}
 use Rattle.session_calls.proofs.Looking.{goes-further, goes-more}
 use Rattle.script_session.specs.Holding.{DoneBy, HoldsBy, Stops}
-use Rattle.script_session.specs.Probing.{Search, IsRead, AreRead, entry_of, look_entries, MaySettle, LooksFirst, comes_to, IsSaid, AreSaid, SettlesThen}
+use Rattle.script_session.specs.Probing.{Searched, IsRead, AreRead, entry_of, look_entries, MaySettle, LooksFirst, comes_to, IsSaid, AreSaid, SettlesThen}
 use Rattle.script_session.specs.States.{State, Stands, Posted, uses}
+use Rattle.script_session.proofs.Arms.{viewed, sees-same}
+use Rattle.script_session.proofs.Finding.{has-seen-more}
 use Rattle.script_session.proofs.Rules.{called-nothing}
 use Rattle.script_session.proofs.Searches.{call_of, calls_of, all-looks, no-more-calls, no-references, all-settled, calls-are-looks}
 use Rattle.script_session.proofs.Standing.{stands-more}
@@ -95,25 +99,37 @@ look-made {before} {after} text name look read spelled same goes sound = (
 pub look-refused : (r : Option RegPass) (text : List ℕ) (errno : Errno) → name_read text ≡ Err errno → LooksFor r r text (Err errno)
 look-refused r text errno read = (read, goes-nowhere r, tt)
 
+pub look-seen : {before after : Option RegPass} → (text : List ℕ) (look : Result Sought Errno) → LooksFor before after text look → SeesMore before after
+look-seen {before} text look one = goes-more (entry_of (known before).number look) one.1
+
 -- ---- one look after the other
 
-read-more : (texts : List (List ℕ)) (searches : List Search) (text : List ℕ) (search : Search) → AreRead texts searches → search.text ≡ text → IsRead text search.look → AreRead (texts ++ text ∷ []) (searches ++ search ∷ [])
+pub stopped : {A S : Type 0} (result : Result A S) {Done : A → Type 0} {Stopped : Type 0} → IsErr result → Stopped → MatchResult result Done (λ _. Stopped)
+stopped (Ok done) is stop = absurd cc
+stopped (Err error) is stop = stop
+
+pub take-more : {A : Type 0} → (xs : List A) (i : ℕ) (x : A) → i < length xs → x ≡ get_or xs i x → take i xs ++ x ∷ [] ≡ take (i + 1) xs
+take-more xs i x below is =
+    let next : suc i ≡ i + 1 = omega arith in
+    ap (λ y. take i xs ++ y ∷ []) is ∙ (sym (take-suc xs i x below) ∙ ap (λ n. take n xs) next)
+
+read-more : (texts : List (List ℕ)) (searches : List Searched) (text : List ℕ) (search : Searched) → AreRead texts searches → search.text ≡ text → IsRead text search.look → AreRead (texts ++ text ∷ []) (searches ++ search ∷ [])
 read-more [] [] text search read same is = (same, subst (λ t. IsRead t search.look) (sym same) is, tt)
 read-more (x ∷ texts) (y ∷ searches) text search read same is = (read.0, read.1, read-more texts searches text search read.2 same is)
 read-more [] (y ∷ searches) text search read same is = absurd read
 read-more (x ∷ texts) [] text search read same is = absurd read
 
-all-on : (k l : Known RegEntry) (own : List RegEntry) (searches : List Search) → Went k l own → All (λ (search : Search). MaySettle k search.look) searches → All (λ (search : Search). MaySettle l search.look) searches
+all-on : (k l : Known RegEntry) (own : List RegEntry) (searches : List Searched) → Went k l own → All (λ (search : Searched). MaySettle k search.look) searches → All (λ (search : Searched). MaySettle l search.look) searches
 all-on k l own searches goes all = λ i d below. settle-on k l own _ goes (all i d below)
 
-entries-more : (n : ℕ) (searches : List Search) (search : Search) → look_entries n (searches ++ search ∷ []) ≡ look_entries n searches ++ entry_of n search.look
+entries-more : (n : ℕ) (searches : List Searched) (search : Searched) → look_entries n (searches ++ search ∷ []) ≡ look_entries n searches ++ entry_of n search.look
 entries-more n searches search =
-    flat_map-append (λ (s : Search). entry_of n s.look) searches (search ∷ []) ∙ ap (λ es. look_entries n searches ++ es) (append-nil (entry_of n search.look))
+    flat_map-append (λ (s : Searched). entry_of n s.look) searches (search ∷ []) ∙ ap (λ es. look_entries n searches ++ es) (append-nil (entry_of n search.look))
 
 pub looks-begin : (r : Option RegPass) → LooksFirst r r [] []
-looks-begin r = record { read = tt; goes = goes-nowhere r; ready = All-nil (λ (search : Search). MaySettle (known r) search.look) }
+looks-begin r = record { read = tt; goes = goes-nowhere r; ready = All-nil (λ (search : Searched). MaySettle (known r) search.look) }
 
-pub looks-more : {before middle after : Option RegPass} → (texts : List (List ℕ)) (searches : List Search) (text : List ℕ) (search : Search) → LooksFirst before middle texts searches → search.text ≡ text
+pub looks-more : {before middle after : Option RegPass} → (texts : List (List ℕ)) (searches : List Searched) (text : List ℕ) (search : Searched) → LooksFirst before middle texts searches → search.text ≡ text
     → LooksFor middle after text search.look → LooksFirst before after (texts ++ text ∷ []) (searches ++ search ∷ [])
 looks-more {before} {middle} {after} texts searches text search first same one =
     let n = (known before).number in
@@ -126,11 +142,11 @@ looks-more {before} {middle} {after} texts searches text search first same one =
       read = read-more texts searches text search first.read same one.0;
       goes = subst (Goes before after) entries (goes-further (look_entries n searches) entry first.goes one.1);
       ready =
-          All-append (λ (s : Search). MaySettle m s.look) searches (search ∷ []) (all-on l m entry searches one.1.goes first.ready)
-          (All-cons (λ (s : Search). MaySettle m s.look) search [] one.2 (All-nil (λ (s : Search). MaySettle m s.look)));
+          All-append (λ (s : Searched). MaySettle m s.look) searches (search ∷ []) (all-on l m entry searches one.1.goes first.ready)
+          (All-cons (λ (s : Searched). MaySettle m s.look) search [] one.2 (All-nil (λ (s : Searched). MaySettle m s.look)));
     }
 
-pub looks-seen : {before after : Option RegPass} → (texts : List (List ℕ)) (searches : List Search) → LooksFirst before after texts searches → SeesMore before after
+pub looks-seen : {before after : Option RegPass} → (texts : List (List ℕ)) (searches : List Searched) → LooksFirst before after texts searches → SeesMore before after
 looks-seen {before} texts searches first = goes-more (look_entries (known before).number searches) first.goes
 
 pub seen-then : {before middle after : Option RegPass} → SeesMore before middle → SeesMore middle after → SeesMore before after
@@ -143,7 +159,7 @@ seen-then {before} {middle} {after} a b = record {
 
 -- ---- what one comes to
 
-pub settles-found : {before after : Option RegPass} → (n : ℕ) (search : Search) (look : Sought) (result : Result _ Errno) (name : List ℕ) (answer : Answer) → search.look ≡ Ok look → Settles before after look.looked result → name ≡ search.text
+pub settles-found : {before after : Option RegPass} → (n : ℕ) (search : Searched) (look : Sought) (result : Result Spec Errno) (name : List ℕ) (answer : Answer) → search.look ≡ Ok look → Settles before after look.looked result → name ≡ search.text
     → ((came : Found) → result ≡ found_result came → answer ≡ found_said n name came) → SettlesThen before after n (search ∷ []) (answer ∷ [])
 settles-found {before} {after} n search look result name answer is settles named said = record {
   work = settles.work;
@@ -159,7 +175,7 @@ settles-found {before} {after} n search look result name answer is settles named
   );
 }
 
-pub settles-refused : (r : Option RegPass) (n : ℕ) (search : Search) (errno : Errno) (result : Result _ Errno) (name : List ℕ) (answer : Answer) → search.look ≡ Err errno → result ≡ Err errno → name ≡ search.text
+pub settles-refused : (r : Option RegPass) (n : ℕ) (search : Searched) (errno : Errno) (result : Result Spec Errno) (name : List ℕ) (answer : Answer) → search.look ≡ Err errno → result ≡ Err errno → name ≡ search.text
     → ((came : Found) → result ≡ found_result came → answer ≡ found_said n name came) → SettlesThen r r n (search ∷ []) (answer ∷ [])
 settles-refused r n search errno result name answer is none named said = record {
   work = [];
@@ -174,14 +190,14 @@ comes-on : FoundStays → (h more : List RegEntry) (look : Result Sought Errno) 
 comes-on stay h more (Ok look) found is = stay h more look.looked found is
 comes-on stay h more (Err errno) found is = is
 
-said-on : FoundStays → (h more : List RegEntry) (n : ℕ) (searches : List Search) (answers : List Answer) → AreSaid h n searches answers → AreSaid (h ++ more) n searches answers
+said-on : FoundStays → (h more : List RegEntry) (n : ℕ) (searches : List Searched) (answers : List Answer) → AreSaid h n searches answers → AreSaid (h ++ more) n searches answers
 said-on stay h more n [] [] said = tt
 said-on stay h more n (search ∷ searches) (answer ∷ answers) said =
     ((said.0.0, comes-on stay h more search.look said.0.0 said.0.1, said.0.2), said-on stay h more n searches answers said.1)
 said-on stay h more n [] (answer ∷ answers) said = absurd said
 said-on stay h more n (search ∷ searches) [] said = absurd said
 
-said-more : (h : List RegEntry) (n : ℕ) (searches later : List Search) (answers more : List Answer) → AreSaid h n searches answers → AreSaid h n later more → AreSaid h n (searches ++ later) (answers ++ more)
+said-more : (h : List RegEntry) (n : ℕ) (searches later : List Searched) (answers more : List Answer) → AreSaid h n searches answers → AreSaid h n later more → AreSaid h n (searches ++ later) (answers ++ more)
 said-more h n [] later [] more said rest = rest
 said-more h n (search ∷ searches) later (answer ∷ answers) more said rest = (said.0, said-more h n searches later answers more said.1 rest)
 said-more h n [] later (answer ∷ answers) more said rest = absurd said
@@ -200,7 +216,7 @@ all-work (x ∷ xs) ys a b =
 pub settles-begin : (r : Option RegPass) (n : ℕ) → SettlesThen r r n [] []
 settles-begin r n = record { work = []; goes = goes-nowhere r; all_work = refl; said_are = tt }
 
-pub settles-more : {before middle after : Option RegPass} → FoundStays → (n : ℕ) (searches later : List Search) (said more : List Answer) → SettlesThen before middle n searches said → SettlesThen middle after n later more
+pub settles-more : {before middle after : Option RegPass} → FoundStays → (n : ℕ) (searches later : List Searched) (said more : List Answer) → SettlesThen before middle n searches said → SettlesThen middle after n later more
     → SettlesThen before after n (searches ++ later) (said ++ more)
 settles-more {before} {middle} {after} stay n searches later said more first rest = record {
   work = first.work ++ rest.work;
@@ -211,12 +227,12 @@ settles-more {before} {middle} {after} stay n searches later said more first res
       (subst (λ h. AreSaid h n searches said) (sym rest.goes.goes.seen) (said-on stay (known middle).seen rest.goes.goes.between n searches said first.said_are)) rest.said_are;
 }
 
-pub settles-seen : {before after : Option RegPass} → (n : ℕ) (searches : List Search) (said : List Answer) → SettlesThen before after n searches said → SeesMore before after
+pub settles-seen : {before after : Option RegPass} → (n : ℕ) (searches : List Searched) (said : List Answer) → SettlesThen before after n searches said → SeesMore before after
 settles-seen n searches said then = goes-more then.work then.goes
 
 -- the next one may still be waited for
-pub may-still : {before middle : Option RegPass} → (n : ℕ) (searches all : List Search) (said : List Answer) → SettlesThen before middle n searches said → All (λ (search : Search). MaySettle (known before) search.look) all
-    → All (λ (search : Search). MaySettle (known middle) search.look) all
+pub may-still : {before middle : Option RegPass} → (n : ℕ) (searches all : List Searched) (said : List Answer) → SettlesThen before middle n searches said → All (λ (search : Searched). MaySettle (known before) search.look) all
+    → All (λ (search : Searched). MaySettle (known middle) search.look) all
 may-still {before} {middle} n searches all said then may = all-on (known before) (known middle) then.work all then.goes.goes may
 
 -- ---- the dialogue
@@ -240,18 +256,18 @@ looked-up h text (Err errno) found next r read is =
 with_calls-join : (a b : List RegCall) (turn : Turn) → with_calls a (with_calls b turn) ≡ with_calls (a ++ b) turn
 with_calls-join a b turn = ap (λ cs. record turn { registry = cs }) (sym (append_assoc a b turn.registry))
 
-all-looked-up : (h : List RegEntry) (n : ℕ) (texts : List (List ℕ)) (searches : List Search) (said : List Answer) (rest : List Answer → Dialogue) (r : List RegCall) → AreRead texts searches → AreSaid h n searches said
+all-looked-up : (h : List RegEntry) (n : ℕ) (texts : List (List ℕ)) (searches : List Searched) (said : List Answer) (rest : List Answer → Dialogue) (r : List RegCall) → AreRead texts searches → AreSaid h n searches said
     → turn_of (looks_all n texts rest) (calls_of h searches ++ r) [] ≡ with_calls (calls_of h searches) (turn_of (rest said) r [])
 all-looked-up h n [] [] [] rest r read said = refl
 all-looked-up h n (text ∷ texts) (search ∷ searches) (answer ∷ answers) rest r read said =
     let calls = call_of h search.text search.look in
     let later = calls_of h searches in
     let found = said.0.0 in
-    let next : Found → Dialogue = λ f. looks_all n texts (λ as. rest (found_said n search.text f ∷ as)) in
+    let next : Found → Dialogue = λ f. looks_all n texts (λ more. rest (found_said n search.text f ∷ more)) in
     subst (λ t. turn_of (looks_all n (t ∷ texts) rest) ((calls ++ later) ++ r) [] ≡ with_calls (calls ++ later) (turn_of (rest (answer ∷ answers)) r [])) read.0
     (ap (λ cs. turn_of (looks_up search.text (name_read search.text) next) cs []) (append_assoc calls later r)
     ∙ (looked-up h search.text search.look found next (later ++ r) read.1 said.0.1
-    ∙ (ap (with_calls calls) (all-looked-up h n texts searches answers (λ as. rest (found_said n search.text found ∷ as)) r read.2 said.1)
+    ∙ (ap (with_calls calls) (all-looked-up h n texts searches answers (λ more. rest (found_said n search.text found ∷ more)) r read.2 said.1)
     ∙ (with_calls-join calls later (turn_of (rest (found_said n search.text found ∷ answers)) r [])
     ∙ ap (λ a. with_calls (calls ++ later) (turn_of (rest (a ∷ answers)) r [])) (sym said.0.2)))))
 all-looked-up h n [] (search ∷ searches) said rest r read is = absurd read
@@ -262,7 +278,7 @@ all-looked-up h n (text ∷ texts) (search ∷ searches) [] rest r read is = abs
 -- ---- the calls
 
 module _ (looks_law : LooksAtOnce) (are_law : CallsByAre) where
-  asked-all : {before middle after : Option RegPass} → (n : ℕ) (texts : List (List ℕ)) (searches : List Search) (said : List Answer) → IsCaller (known before) → LooksFirst before middle texts searches
+  asked-all : {before middle after : Option RegPass} → (n : ℕ) (texts : List (List ℕ)) (searches : List Searched) (said : List Answer) → IsCaller (known before) → LooksFirst before middle texts searches
       → SettlesThen middle after n searches said → AskedBy (length texts) (known before) (known after) (calls_of (known after).seen searches)
   asked-all {before} {middle} {after} n texts searches said caller first then =
       let k = known before in
@@ -291,7 +307,7 @@ module _ (looks_law : LooksAtOnce) (are_law : CallsByAre) where
         };
       }
 
-  probe-done : {before middle after : Option RegPass} → (walk : Walk) (b : Known (BoardEntry Ask)) (n : ℕ) (texts : List (List ℕ)) (searches : List Search) (said answers answers' : List Answer) → Stands walk.lives (known before) → Posted walk b
+  probe-done : {before middle after : Option RegPass} → (walk : Walk) (b : Known (BoardEntry Ask)) (n : ℕ) (texts : List (List ℕ)) (searches : List Searched) (said answers answers' : List Answer) → Stands walk.lives (known before) → Posted walk b
       → LooksFirst before middle texts searches → SettlesThen middle after n searches said → answers' ≡ answers ++ said → DoneBy (length texts) (probe walk n texts) (known before) b (known after) b walk answers answers'
   probe-done {before} {middle} {after} walk b n texts searches said answers answers' stands posted first then e =
       let h = (known after).seen in
@@ -302,7 +318,7 @@ module _ (looks_law : LooksAtOnce) (are_law : CallsByAre) where
         turn = turn;
         is =
             ap (λ cs. turn_of (probe walk n texts) cs []) (sym (append-nil calls))
-            ∙ (all-looked-up h n texts searches said (λ as. Says as (Ends walk)) [] first.read then.said_are
+            ∙ (all-looked-up h n texts searches said (λ more. Says more (Ends walk)) [] first.read then.said_are
             ∙ (λ i. record { registry = append-nil calls i; board = []; answers = append-nil said i; after = Some walk }));
         asked = asked;
         called = called-nothing b;
@@ -311,3 +327,25 @@ module _ (looks_law : LooksAtOnce) (are_law : CallsByAre) where
         stands = stands-more walk.lives walk.lives (known before) (known after) calls stands asked (λ id. ap (λ c. c + uses id walk.lives) (no-references id h searches));
         posted = posted;
       }
+
+  -- ---- the arm of a session
+
+  probe-at : {S : Type 0} → (r r1 r2 : Option RegPass) (ws : ℕ) (walk : Walk) (b : Option BoardPass) (result : Result (Unit {0}) S) (n : ℕ) (texts : List (List ℕ)) (searches : List Searched) (answers answers' : List Answer) → Stands walk.lives (known r)
+      → Posted walk (known b) → LooksFirst r r1 texts searches → MatchResult result (λ _. (said : List Answer) × (answers' ≡ answers ++ said) × SettlesThen r1 r2 n searches said) (λ _. SeesMore r1 r2)
+      → MatchResult result (λ _. HoldsBy (length texts) (probe walk n texts) (record { workers = ws; walk = walk; registry = r; board = b }) (record { workers = ws; walk = walk; registry = r2; board = b }) answers answers')
+      (λ _. Stops (record { workers = ws; walk = walk; registry = r; board = b }) (record { workers = ws; walk = walk; registry = r2; board = b }))
+  probe-at r r1 r2 ws walk b (Ok done) n texts searches answers answers' stands posted first then = record {
+    locks = record { registry = then.2.goes.lock ∙ first.goes.lock; board = refl; workers = refl };
+    done = probe-done walk (known b) n texts searches then.0 answers answers' stands posted first then.2 then.1;
+  }
+  probe-at r r1 r2 ws walk b (Err stop) n texts searches answers answers' stands posted first more =
+      let all = seen-then (looks-seen texts searches first) more in
+      record { locks = record { registry = all.lock; board = refl; workers = refl }; registry = has-seen-more all; board = sees-same (known b) }
+
+  pub probe-arm : {S : Type 0} {ws c : ℕ} {lives : List Live} {q v : ℕ} {r : Option RegPass} {b : Option BoardPass} → (s : State) (view : viewed ws c lives q v r b ≡ s) (r1 r2 : Option RegPass) (result : Result (Unit {0}) S) (n : ℕ) (texts : List (List ℕ)) (searches : List Searched) (answers answers' : List Answer)
+      → Stands s.walk.lives (known s.registry) → Posted s.walk (known s.board) → LooksFirst r r1 texts searches → MatchResult result (λ _. (said : List Answer) × (answers' ≡ answers ++ said) × SettlesThen r1 r2 n searches said) (λ _. SeesMore r1 r2)
+      → MatchResult result (λ _. HoldsBy (length texts) (probe s.walk n texts) s (viewed ws c lives q v r2 b) answers answers') (λ _. Stops s (viewed ws c lives q v r2 b))
+  probe-arm {S} {ws} {c} {lives} {q} {v} {r} {b} s view r1 r2 result n texts searches answers answers' stands posted first then =
+      subst (λ (x : State). Stands x.walk.lives (known x.registry) → Posted x.walk (known x.board)
+      → MatchResult result (λ _. HoldsBy (length texts) (probe x.walk n texts) x (viewed ws c lives q v r2 b) answers answers') (λ _. Stops x (viewed ws c lives q v r2 b))) view
+      (λ st po. probe-at r r1 r2 ws (record { client = c; lives = lives; requests = q; bytes = v }) b result n texts searches answers answers' st po first then) stands posted

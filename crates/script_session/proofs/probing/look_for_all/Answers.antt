@@ -1,0 +1,35 @@
+use Rattle.std.proofs.Common.{◌≡◌, ◌∙◌, ◌+◌, sym, ap, subst, take, List, ℕ, [], ◌∷◌, ◌++◌}
+use Rattle.std.specs.Prelude.{IsFalse}
+use Rattle.alg_registry.specs.Legal.{is_worker}
+use Rattle.script_session.specs.Probing.{Searched, LooksFirst}
+use Rattle.script_session.proofs.Probed.{LooksFor, stopped, take-more, seen-then, looks-begin, looks-more, looks-seen, look-seen}
+use Rattle.script_session.proofs.probing.look_for_all.Goals as goal
+
+pub loop-text-init : goal.loop-text-init
+loop-text-init g c = subst (λ (xs : List Searched). LooksFirst c.args.caller.now c.args.caller.now [] xs) (sym c.new-searches.ensures.items) (looks-begin c.args.caller.now)
+
+pub returns-in_err-look : goal.returns-in_err-look
+returns-in_err-look g c =
+    stopped c.from_residual.result c.from_residual.ensures.0
+    (seen-then (looks-seen (take c.loop-text.text-index c.args.texts.now) c.loop-text.searches.items c.loop-text.invariant) c.in_err-look.ensures)
+
+pub returns-in_err-copy : goal.returns-in_err-copy
+returns-in_err-copy g c =
+    stopped c.from_residual-in_err-copy.result c.from_residual-in_err-copy.ensures.0
+    (seen-then (looks-seen (take c.loop-text.text-index c.args.texts.now) c.loop-text.searches.items c.loop-text.invariant) (look-seen c.as_slice.result.now c.in_ok-look.look c.in_ok-look.ensures))
+
+pub returns-in_err-push : goal.returns-in_err-push
+returns-in_err-push g c =
+    stopped c.from_residual-in_err-push.result c.from_residual-in_err-push.ensures.0
+    (seen-then (looks-seen (take c.loop-text.text-index c.args.texts.now) c.loop-text.searches.items c.loop-text.invariant) (look-seen c.as_slice.result.now c.in_ok-look.look c.in_ok-look.ensures))
+
+pub loop-text-preserved : goal.loop-text-preserved
+loop-text-preserved g c =
+    let i = c.loop-text.text-index in
+    let texts = take i c.args.texts.now in
+    let searches = c.loop-text.searches.items in
+    let search : Searched = record { text = c.in_ok-copy.copy; look = c.in_ok-look.look } in
+    subst (λ (xs : List Searched). LooksFirst c.args.caller.now c.look_for.new.caller (take (i + 1) c.args.texts.now) xs) (sym c.in_ok-push.ensures.items)
+    (subst (λ (ts : List (List ℕ)). LooksFirst c.args.caller.now c.look_for.new.caller ts (searches ++ search ∷ [])) (take-more c.args.texts.now i c.text-item.result c.loop-text-test.true c.text-item.is)
+    (looks-more texts searches c.text-item.result search c.loop-text.invariant (c.in_ok-copy.ensures ∙ c.as_slice-in-loop-text.ensures)
+    (subst (λ t. LooksFor c.loop-text.caller c.look_for.new.caller t c.in_ok-look.look) c.as_slice.ensures c.in_ok-look.ensures)))
