@@ -104,9 +104,9 @@ look-seen {before} text look one = goes-more (entry_of (known before).number loo
 
 -- ---- one look after the other
 
-pub stopped : {A S : Type 0} (result : Result A S) {Done : A → Type 0} {Stopped : Type 0} → IsErr result → Stopped → MatchResult result Done (λ _. Stopped)
-stopped (Ok done) is stop = absurd cc
-stopped (Err error) is stop = stop
+pub stopped : {A S : Type 0} (result : Result A S) (Done : A → Type 0) {Stopped : Type 0} → IsErr result → Stopped → MatchResult result Done (λ _. Stopped)
+stopped (Ok done) Done is stop = absurd cc
+stopped (Err error) Done is stop = stop
 
 pub take-more : {A : Type 0} → (xs : List A) (i : ℕ) (x : A) → i < length xs → x ≡ get_or xs i x → take i xs ++ x ∷ [] ≡ take (i + 1) xs
 take-more xs i x below is =

@@ -10,17 +10,17 @@ loop-text-init g c = subst (λ (xs : List Searched). LooksFirst c.args.caller.no
 
 pub returns-in_err-look : goal.returns-in_err-look
 returns-in_err-look g c =
-    stopped c.from_residual.result c.from_residual.ensures.0
+    stopped c.from_residual.result _ c.from_residual.ensures.0
     (seen-then (looks-seen (take c.loop-text.text-index c.args.texts.now) c.loop-text.searches.items c.loop-text.invariant) c.in_err-look.ensures)
 
 pub returns-in_err-copy : goal.returns-in_err-copy
 returns-in_err-copy g c =
-    stopped c.from_residual-in_err-copy.result c.from_residual-in_err-copy.ensures.0
+    stopped c.from_residual-in_err-copy.result _ c.from_residual-in_err-copy.ensures.0
     (seen-then (looks-seen (take c.loop-text.text-index c.args.texts.now) c.loop-text.searches.items c.loop-text.invariant) (look-seen c.as_slice.result.now c.in_ok-look.look c.in_ok-look.ensures))
 
 pub returns-in_err-push : goal.returns-in_err-push
 returns-in_err-push g c =
-    stopped c.from_residual-in_err-push.result c.from_residual-in_err-push.ensures.0
+    stopped c.from_residual-in_err-push.result _ c.from_residual-in_err-push.ensures.0
     (seen-then (looks-seen (take c.loop-text.text-index c.args.texts.now) c.loop-text.searches.items c.loop-text.invariant) (look-seen c.as_slice.result.now c.in_ok-look.look c.in_ok-look.ensures))
 
 pub loop-text-preserved : goal.loop-text-preserved

@@ -17,13 +17,13 @@ settle-requires-clause-may g c =
 pub returns-in_err-answer : goal.returns-in_err-answer
 returns-in_err-answer g c =
     let inv = c.loop-search.invariant in
-    stopped c.from_residual.result c.from_residual.ensures.0
+    stopped c.from_residual.result _ c.from_residual.ensures.0
     (seen-then (settles-seen c.args.line (take c.loop-search.search-index c.args.searches.now) inv.0 inv.2) c.in_err-answer.ensures)
 
 pub returns-in_err-push : goal.returns-in_err-push
 returns-in_err-push g c =
     let inv = c.loop-search.invariant in
-    stopped c.from_residual-in_err-push.result c.from_residual-in_err-push.ensures.0
+    stopped c.from_residual-in_err-push.result _ c.from_residual-in_err-push.ensures.0
     (seen-then (settles-seen c.args.line (take c.loop-search.search-index c.args.searches.now) inv.0 inv.2)
     (settles-seen c.args.line (c.search-item.result ∷ []) (c.in_ok-answer.answer ∷ []) c.in_ok-answer.ensures))
 
