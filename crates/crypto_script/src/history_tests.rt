@@ -284,5 +284,38 @@ fn histories_hold_each_call_in_order(rt: HostRuntime) -> Result<(), Fail> {
         "0 look cbc(aes) any began 0\n0 claim 0\n0 look aes plain found 0\n0 end 0 built 3 cbc(aes) cbc(aes-generic) skcipher plain 100 0\n0 get 3 ok\n0 unlist aes-generic ok 0\n0 look cbc(aes) any began 1\n0 claim 1\n0 look aes plain absent\n0 end 1 failed ENOENT\n0 refs aes-generic\n0 put 3\n0 refs aes-generic\n0 enlist aes aes-generic cipher 300 made 4\n0 enlist aes aes-generic cipher 300 EEXIST\n0 list\n",
         "0 shut\n",
     )?;
+    // a probe makes all its looks first
+    expect_histories(
+        &rt,
+        rt.alloc(),
+        "probe pcrypt(gcm(aes)) cryptd(gcm(aes))\n",
+        "0 look pcrypt(gcm(aes)) any began 0\n0 look cryptd(gcm(aes)) any began 1\n0 claim 0\n0 look gcm(aes) plain began 2\n0 claim 2\n0 look ctr(aes) plain began 3\n0 claim 3\n0 look aes plain found 0\n0 end 3 built 3 ctr(aes) ctr(aes-generic) skcipher plain 100 0\n0 look ghash plain found 2\n0 end 2 built 4 gcm(aes) gcm_base(ctr(aes-generic),ghash-generic) aead plain 100 3,2\n0 end 0 built 5 gcm(aes) pcrypt(gcm_base(ctr(aes-generic),ghash-generic)) aead pcrypt 200 4\n0 claim 1\n0 look gcm(aes) plain found 4\n0 end 1 built 6 gcm(aes) cryptd(gcm_base(ctr(aes-generic),ghash-generic)) aead cryptd 150 4\n",
+        "0 shut\n",
+    )?;
+    Ok(())
+}
+
+// A worker's entry is one of building, and what is looked up for building is what the names ask for.
+fn expect_building<R: Abort>(rt: &R, line: &str) {
+    let (caller, entry) = line.split_once(' ').unwrap_or(("", line));
+    let builds = [" plain ", "claim ", "end ", "waited "];
+    assert!(rt; caller == "0" || builds.iter().any(|word| entry.contains(*word)), "{line}");
+    let asked = ["look aes ", "look ghash ", "look ctr(aes) ", "look gcm(aes) "];
+    assert!(rt; !entry.contains(" plain ") || asked.iter().any(|name| entry.starts_with(*name)), "{line}");
+}
+
+#[test]
+fn workers_build_what_was_asked_for_and_nothing_else(rt: HostRuntime) -> Result<(), Fail> {
+    let alloc = rt.alloc();
+    for workers in [0u32, 1, 8] {
+        let words = words_for(alloc, workers)?;
+        let mut out = SureSink::new(alloc);
+        let script = "alloc c cbc(aes)\nprobe pcrypt(gcm(aes)) cryptd(gcm(aes))\nunregister ghash-generic\n";
+        let mut src = SureSource::new(bytes_of(alloc, script)?);
+        let outcome = run(&rt, alloc, &words, &NoGate, &mut src, &mut out);
+        for entry in outcome.registry.entries() {
+            expect_building(&rt, reg_line(alloc, entry)?.as_str().trim_end());
+        }
+    }
     Ok(())
 }
