@@ -301,7 +301,7 @@ fn expect_building<R: Abort>(rt: &R, line: &str) {
     let builds = [" plain ", "claim ", "end ", "waited "];
     assert!(rt; caller == "0" || builds.iter().any(|word| entry.contains(*word)), "{line}");
     let asked = ["look aes ", "look ghash ", "look ctr(aes) ", "look gcm(aes) "];
-    assert!(rt; !entry.contains(" plain ") || asked.iter().any(|name| entry.starts_with(*name)), "{line}");
+    assert!(rt; !entry.starts_with("look ") || caller == "0" && !entry.contains(" plain ") || asked.iter().any(|name| entry.starts_with(*name)), "{line}");
 }
 
 #[test]

@@ -58,4 +58,4 @@ returns-clause-settled g c =
     let held = g.K.Sink.held in
     rw c.run_answered.ensures
     (whole-settled c.crew_laws.ensures c.args.workers (script_of c.args.input.now) c.args.passes m.0 m.1 c.crew_script-passes.result.0 c.crew_script-passes.result.1 (held c.args.out.now) (held c.crew_script-passes.new.out) c.finish_all.result c.finish_all-2.result
-    c.requires.first m.2 m.3 m.4 c.finish_all.ensures.shows c.finish_all-2.ensures.shows c.settled_scripts_print_plain.ensures c.requires.few c.finish_all.ensures.legal c.finish_all.ensures.faithful c.finish_all-2.ensures.legal)
+    c.requires.first m.2 m.3 m.4 c.finish_all.ensures.shows c.finish_all-2.ensures.shows c.settled_scripts_print_plain.ensures c.requires.few c.finish_all.ensures.faithful.legal c.finish_all.ensures.faithful.made c.finish_all-2.ensures.legal)
