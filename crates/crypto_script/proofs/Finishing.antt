@@ -320,8 +320,8 @@ module _ (laws : CrewLaws) (workers : ℕ) (lines : List Line) (first p q l : Pa
       let callers = few-enough few in
       on-ok _ result
       (λ e settled.
-        let whole = whole-on e legal in
-        (whole.0.0, plain workers lines r b whole.0.0 settled legal_r made callers.0 legal callers.1 whole.1 whole.0.1, whole.0.2))
+      let whole = whole-on e legal in
+      (whole.0.0, plain workers lines r b whole.0.0 settled legal_r made callers.0 legal callers.1 whole.1 whole.0.1, whole.0.2))
       answers.ended
 
   pub whole-shut : LegalBoard b → OnOk (run_answer result) (ShutLast b)

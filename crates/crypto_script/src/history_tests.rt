@@ -299,9 +299,22 @@ fn histories_hold_each_call_in_order(rt: HostRuntime) -> Result<(), Fail> {
 fn expect_building<R: Abort>(rt: &R, line: &str) {
     let (caller, entry) = line.split_once(' ').unwrap_or(("", line));
     let builds = [" plain ", "claim ", "end ", "waited "];
-    assert!(rt; caller == "0" || builds.iter().any(|word| entry.contains(*word)), "{line}");
-    let asked = ["look aes ", "look ghash ", "look ctr(aes) ", "look gcm(aes) "];
-    assert!(rt; !entry.starts_with("look ") || caller == "0" && !entry.contains(" plain ") || asked.iter().any(|name| entry.starts_with(*name)), "{line}");
+    assert!(rt;
+        caller == "0" || builds.iter().any(|word| entry.contains(*word)),
+        "{line}"
+    );
+    let asked = [
+        "look aes ",
+        "look ghash ",
+        "look ctr(aes) ",
+        "look gcm(aes) ",
+    ];
+    assert!(rt;
+        !entry.starts_with("look ")
+            || caller == "0" && !entry.contains(" plain ")
+            || asked.iter().any(|name| entry.starts_with(*name)),
+        "{line}"
+    );
 }
 
 #[test]
@@ -310,7 +323,8 @@ fn workers_build_what_was_asked_for_and_nothing_else(rt: HostRuntime) -> Result<
     for workers in [0u32, 1, 8] {
         let words = words_for(alloc, workers)?;
         let mut out = SureSink::new(alloc);
-        let script = "alloc c cbc(aes)\nprobe pcrypt(gcm(aes)) cryptd(gcm(aes))\nunregister ghash-generic\n";
+        let script =
+            "alloc c cbc(aes)\nprobe pcrypt(gcm(aes)) cryptd(gcm(aes))\nunregister ghash-generic\n";
         let mut src = SureSource::new(bytes_of(alloc, script)?);
         let outcome = run(&rt, alloc, &words, &NoGate, &mut src, &mut out);
         for entry in outcome.registry.entries() {

@@ -298,8 +298,10 @@ fn the_registry_answers_in_order(rt: HostRuntime) -> Result<(), Fail> {
 // Values by another library, of the texts that SplitMix64 draws.
 #[test]
 fn long_texts_are_sealed_in_chunks(rt: HostRuntime) -> Result<(), Fail> {
-    let script = "alloc c ctr(aes)\nbulk c 1 0\nkey c 2b7e151628aed2a6abf7158809cf4f3c\nbulk c 16 0\nenc c e220a8397b1dcdaf6e789e6aa1b965f4 - 06c45d188009454ff88bb8a8724c81ec\nbulk c 17 999999999\nbulk c 1000000 7\nbulk c 0 1\nbulk c 16777217 1\nbulk d 1 0\nalloc d rfc3686(ctr(aes))\nkey d 2b7e151628aed2a6abf7158809cf4f3c00000030\nbulk d 1 0\n";
-    let text = "1 ok ctr(aes-generic)\n2 ENOKEY\n3 ok\n4 ok 5da613b1cdf3fb3fdb32a52c776f17db51bf88c9d67ea981e1e19e764ce50283\n5 ok 3c895ffd93583b74604f93534c46542b\n6 ok c2c3863290e9fc43f6ebe5a14a8239bbd30d6160c83a1b985591dadf273ded9b\n7 ok 2f805dd73829288ad6ca372288e288a5f54a29e3f8cf6e615406e4a1e79a0024\n8 EINVAL\n9 EINVAL\n10 ENOENT\n11 ok rfc3686(ctr(aes-generic))\n12 ok\n13 EINVAL\n";
+    let script =
+        "alloc c ctr(aes)\nbulk c 1 0\nkey c 2b7e151628aed2a6abf7158809cf4f3c\nbulk c 16 0\nenc c e220a8397b1dcdaf6e789e6aa1b965f4 - 06c45d188009454ff88bb8a8724c81ec\nbulk c 17 999999999\nbulk c 1000000 7\nbulk c 0 1\nbulk c 16777217 1\nbulk d 1 0\nalloc d rfc3686(ctr(aes))\nkey d 2b7e151628aed2a6abf7158809cf4f3c00000030\nbulk d 1 0\n";
+    let text =
+        "1 ok ctr(aes-generic)\n2 ENOKEY\n3 ok\n4 ok 5da613b1cdf3fb3fdb32a52c776f17db51bf88c9d67ea981e1e19e764ce50283\n5 ok 3c895ffd93583b74604f93534c46542b\n6 ok c2c3863290e9fc43f6ebe5a14a8239bbd30d6160c83a1b985591dadf273ded9b\n7 ok 2f805dd73829288ad6ca372288e288a5f54a29e3f8cf6e615406e4a1e79a0024\n8 EINVAL\n9 EINVAL\n10 ENOENT\n11 ok rfc3686(ctr(aes-generic))\n12 ok\n13 EINVAL\n";
     for workers in [0u32, 1, 8] {
         expect_beside(&rt, rt.alloc(), workers, script, 0, text)?;
     }
