@@ -60,23 +60,6 @@ fn names_and_drivers_are_printed_as_they_are(rt: HostRuntime) -> Result<(), Fail
     };
     let reply = put_after(rt.alloc(), b"", &answer)?;
     assert_eq!(rt; reply.as_slice(), b"2 ok cbc(aes-generic)\n".as_slice());
-    let answer = Answer::Probed {
-        line: 5,
-        name: bytes_of(rt.alloc(), b"cbc(aes)")?,
-        driver: bytes_of(rt.alloc(), b"cbc(aes-generic)")?,
-    };
-    let reply = put_after(rt.alloc(), b"", &answer)?;
-    assert_eq!(rt;
-        reply.as_slice(),
-        b"5 probed cbc(aes) cbc(aes-generic)\n".as_slice()
-    );
-    let answer = Answer::Unprobed {
-        line: 5,
-        name: bytes_of(rt.alloc(), b"des")?,
-        errno: Errno::ENOENT,
-    };
-    let reply = put_after(rt.alloc(), b"", &answer)?;
-    assert_eq!(rt; reply.as_slice(), b"5 unprobed des ENOENT\n".as_slice());
     let answer = Answer::Alg {
         line: 9,
         name: bytes_of(rt.alloc(), b"cbc(aes)")?,
@@ -181,5 +164,32 @@ fn the_end_of_a_transform_has_its_label(rt: HostRuntime) -> Result<(), Fail> {
     };
     let reply = put_after(rt.alloc(), b"9 ok\n", &answer)?;
     assert_eq!(rt; reply.as_slice(), b"9 ok\nend T-0_z 67\n".as_slice());
+    Ok(())
+}
+
+#[test]
+fn a_probed_name_has_its_driver(rt: HostRuntime) -> Result<(), Fail> {
+    let answer = Answer::Probed {
+        line: 5,
+        name: bytes_of(rt.alloc(), b"cbc(aes)")?,
+        driver: bytes_of(rt.alloc(), b"cbc(aes-generic)")?,
+    };
+    let reply = put_after(rt.alloc(), b"", &answer)?;
+    assert_eq!(rt;
+        reply.as_slice(),
+        b"5 probed cbc(aes) cbc(aes-generic)\n".as_slice()
+    );
+    Ok(())
+}
+
+#[test]
+fn an_unprobed_name_has_its_error(rt: HostRuntime) -> Result<(), Fail> {
+    let answer = Answer::Unprobed {
+        line: 5,
+        name: bytes_of(rt.alloc(), b"des")?,
+        errno: Errno::ENOENT,
+    };
+    let reply = put_after(rt.alloc(), b"", &answer)?;
+    assert_eq!(rt; reply.as_slice(), b"5 unprobed des ENOENT\n".as_slice());
     Ok(())
 }
