@@ -30,11 +30,10 @@ impl<W: Work> BoardCore<W> {
         ensures legal { LegalBoard self.new }
     {
         let place = &self.pipes[pipe as usize];
-        let to = place.told();
         into.reserve(place.uncollected())?;
         reserve_entries(&mut self.log, self.owed, 1)?;
         let place = &mut self.pipes[pipe as usize];
-        place.collect(into);
+        let to = place.collect(into);
         self.log
             .push_reserved(BoardEntry::Collect { caller, pipe, to });
         Ok(())

@@ -208,39 +208,34 @@ impl<J: Drop, F: Drop> Pipeline<J, F> {
         }
     }
 
-    /// How many callbacks it has told since it was made: of a pad the completions up to its front.
-    pub(crate) fn told(&self) -> u64
-        requires { told_of self.now < 2 ^ 64 }
-        ensures { result ≡ told_of self.now }
-    {
-        match self {
-            Pipeline::Pad(place) => place.pad.front(),
-            Pipeline::Queue(place) => place.collected + place.queue.pending() as u64,
-        }
-    }
-
-    /// How many callbacks a collect hands out.
+    /// How many callbacks a collect hands out at most: of a pad as many as are finished and not collected.
     pub(crate) fn uncollected(&self) -> usize
-        ensures { result ≡ uncollected_of self.now }
+        ensures { uncollected_of self.now ≤ result }
     {
         match self {
-            Pipeline::Pad(place) => place.pad.ready(),
+            Pipeline::Pad(place) => place.pad.finished(),
             Pipeline::Queue(place) => place.queue.pending(),
         }
     }
 
-    /// Hands out the callbacks that were told and not collected, into a list that has room for them.
-    pub(crate) fn collect(&mut self, into: &mut Callbacks<F>)
+    /// Hands out the callbacks that were told and not collected, into a list that has room for them, and says how many it has
+    /// told since it was made.
+    pub(crate) fn collect(&mut self, into: &mut Callbacks<F>) -> u64
         requires room { uncollected_of self.old ≤ into.old.spare }
         requires few { told_of self.old < 2 ^ 64 }
+        ensures told { result ≡ told_of self.old }
         ensures handed { into.new.list ≡ into.old.list ++ callbacks_of self.old }
         ensures emptied { self.new ≡ emptied self.old }
     {
         match self {
-            Pipeline::Pad(place) => place.pad.collect(into),
+            Pipeline::Pad(place) => {
+                place.pad.collect(into);
+                place.pad.collected()
+            }
             Pipeline::Queue(place) => {
                 place.collected += place.queue.pending() as u64;
                 place.queue.collect(into);
+                place.collected
             }
         }
     }

@@ -1,6 +1,6 @@
 use Rattle.std.proofs.Common.{◌≡◌, ℕ, ◌+◌, ◌-◌, drop, List, [], ◌∷◌, ◌++◌, Option, Some, arith, append_assoc, ◌∙◌, ap, subst}
 use Rattle.std.proofs.lemmas.List.{drop-drop}
-use Rattle.padata_core.specs.Pad.{ready, done_from}
+use Rattle.padata_core.specs.Pad.{Pad, ready, done_from}
 use Rattle.padata_core.specs.Collecting.{StillCollecting}
 use Rattle.kc_base.specs.Handed.{Handed}
 use Rattle.kc_base.specs.declared.callback_list.Callback.TheVariants.{Done}
@@ -19,3 +19,8 @@ still-step from outcomes before next x rest more into after s e l r =
           first ∙ (drop-drop 1 (next - from) outcomes ∙ ap (λ n. drop n outcomes) same));
       room = (let h = s2.room in omega arith);
     }
+
+pub release_step : {J F : Type 0} (old new : Pad J F) (from number : ℕ) (out : F) (outcomes : List (Option F)) (before into after : Handed F) → StillCollecting from outcomes before old.collected old.outcomes into → number ≡ old.collected → old.outcomes ≡ Some out ∷ new.outcomes → new ≡ record old { collected = old.collected + 1; outcomes = new.outcomes } → after.list ≡ into.list ++ Done number out ∷ [] → after.spare + 1 ≡ into.spare → StillCollecting from outcomes before new.collected new.outcomes after
+release_step old new from number out outcomes before into after s n o e l r =
+    let c : new.collected ≡ old.collected + 1 = ap (λ (p : Pad _ _). p.collected) e in
+    rw c (still-step from outcomes before old.collected out new.outcomes old.outcomes into after s o (l ∙ ap (λ m. into.list ++ Done m out ∷ []) n) r)

@@ -1,43 +1,48 @@
 //! padata: jobs that run in any order, and whose outcomes come in the order in which the jobs were submitted.
 #![tactic(auto)]
 
+pub mod laws;
+mod row;
+mod rows;
 #[cfg(test)]
 mod tests;
 
-ghost use Rattle.std.specs.Prelude.{◌≡◌, ℕ, ◌+◌, ◌-◌, ◌^◌, ◌<◌, ◌≤◌, List, [], ◌∷◌, ◌++◌, drop, length, slice_get, slice_set, IfOk, OnOk, IfSome, MatchOption, MatchBool, nat_lt};
+ghost use Rattle.std.specs.Prelude.{◌≡◌, ℕ, ◌+◌, ◌-◌, ◌^◌, ◌<◌, ◌≤◌, List, [], ◌∷◌, ◌++◌, drop, length, slice_get, slice_set, Some, None, IfOk, OnOk, OnErr, IfSome, MatchOption, MatchBool, nat_lt};
 ghost use Rattle.std.specs.VecDeque.{deque_len, deque_capacity};
-ghost use Rattle.padata_core.specs.Pad.{taken_of, submitted_of, ready, done_from};
+ghost use Rattle.padata_core.specs.Pad.{taken_of, submitted_of, ready, done_from, running_of};
 
+use crate::row::Row;
+use crate::rows::{clear_rows, empty_rows, move_rows, reserve_rows};
 use kc_base::{Callback, Callbacks};
 use std::alloc::{AllocError, Global};
 use std::collections::VecDeque;
 use std::marker::Model;
 
 /// A pipeline. Its jobs are numbered from 0 as they are submitted, taken one by one, finished in any order, and collected
-/// in order. `lists` is the number of workers for which it was made, at least 1.
+/// in order. The outcome of number n waits on the list n mod lists, and each list is sorted.
 #[derive(Drop)]
 pub struct Padata<J, F> {
     alloc: Global,
     lists: u32,
     collected: u64,
-    outcomes: VecDeque<Option<F>>,
+    taken: u64,
+    running: usize,
+    rows: Vec<Row<F>>,
+    room: usize,
     waiting: VecDeque<J>,
     spare: usize,
-    /// How many jobs were taken and aren't finished.
-    running: usize,
 }
 
 impl<J, F> Model for Padata<J, F> {
-    ghost use Rattle.std.specs.Prelude.{◌≡◌, ◌+◌, ◌≤◌, ◌^◌};
+    ghost use Rattle.std.specs.Prelude.{◌≡◌, ◌+◌, ◌-◌, ◌*◌, ◌≤◌, ◌^◌};
     ghost use Rattle.std.specs.VecDeque.{deque_len, deque_capacity};
-    ghost use Rattle.padata_core.specs.Pad.{Pad};
-    ghost use Rattle.padata_core.specs.Running.{count_running};
+    ghost use Rattle.padata_core.specs.Pad.{Pad, AreRows, kept_at, outcomes_from, running_of};
 
     ghost Value = { Pad J F };
 
-    ghost view = { λ p. record { lists = p.lists; collected = p.collected; outcomes = p.outcomes.items; waiting = p.waiting.items; spare = p.spare } };
+    ghost view = { λ p. record { lists = p.lists; collected = p.collected; outcomes = outcomes_from (kept_at p.rows.items p.lists) p.collected (p.taken - p.collected); waiting = p.waiting.items; spare = p.spare } };
 
-    ghost invariant = { λ p. (1 ≤ p.lists) × (p.collected + deque_len p.outcomes + deque_len p.waiting ≤ 2 ^ 63) × (deque_len p.waiting + p.spare ≤ deque_capacity p.waiting) × (deque_len p.outcomes + deque_len p.waiting + p.spare ≤ deque_capacity p.outcomes) × (p.running ≡ count_running p.outcomes.items) };
+    ghost invariant = { λ p. AreRows p.rows.items p.lists p.collected p.taken p.room × (p.collected ≤ p.taken) × (p.running ≡ running_of (outcomes_from (kept_at p.rows.items p.lists) p.collected (p.taken - p.collected))) × (p.taken + deque_len p.waiting ≤ 2 ^ 63) × (deque_len p.waiting + p.spare ≤ deque_capacity p.waiting) × ((p.taken - p.collected) + deque_len p.waiting + p.spare ≤ p.room * p.lists) };
 }
 
 impl<J: Drop, F: Drop> Padata<J, F> {
@@ -46,19 +51,22 @@ impl<J: Drop, F: Drop> Padata<J, F> {
         requires { 1 ≤ lists }
         ensures { IfOk result (λ pad. pad ≡ record { lists = lists; collected = 0; outcomes = []; waiting = []; spare = 0 }) }
     {
+        let rows = empty_rows(alloc, lists)?;
         Ok(Padata {
             alloc,
             lists,
             collected: 0,
-            outcomes: VecDeque::new(alloc),
+            taken: 0,
+            running: 0,
+            rows,
+            room: 0,
             waiting: VecDeque::new(alloc),
             spare: 0,
-            running: 0,
         })
     }
 
-    /// Makes room for `n` more jobs at least: `submit`, `take`, `finish` and `collect` of these take no memory. Want of
-    /// memory leaves the pipeline as it was.
+    /// Makes room for `n` more jobs at least, on each list for its share of them: `submit`, `take`, `finish` and `collect`
+    /// of these take no memory. Want of memory leaves the pipeline as it was.
     pub fn reserve(&mut self, n: usize) -> Result<(), AllocError>
         ensures same { self.old ≡ record self.new { spare = self.old.spare } }
         ensures room { OnOk result (n ≤ self.new.spare) }
@@ -68,10 +76,14 @@ impl<J: Drop, F: Drop> Padata<J, F> {
             return Ok(());
         }
         self.waiting.reserve(n)?;
-        let Some(more) = n.checked_add(self.waiting.len()) else {
+        let Some(total) = n.checked_add(self.uncollected()) else {
             return Err(AllocError);
         };
-        self.outcomes.reserve(more)?;
+        let Some(share) = (total / self.lists as usize).checked_add(1) else {
+            return Err(AllocError);
+        };
+        reserve_rows(&mut self.rows, share)?;
+        self.room = share;
         self.spare = n;
         Ok(())
     }
@@ -83,7 +95,7 @@ impl<J: Drop, F: Drop> Padata<J, F> {
         ensures number { result ≡ submitted_of self.old }
         ensures submitted { self.new ≡ record self.old { waiting = self.old.waiting ++ job ∷ []; spare = self.old.spare - 1 } }
     {
-        let number = self.collected + self.outcomes.len() as u64 + self.waiting.len() as u64;
+        let number = self.taken + self.waiting.len() as u64;
         let _ = self.waiting.push_back(job);
         self.spare -= 1;
         number
@@ -94,30 +106,44 @@ impl<J: Drop, F: Drop> Padata<J, F> {
         ensures { MatchOption result ((self.old.waiting ≡ []) × (self.new ≡ self.old)) (λ taken. (taken.0 ≡ taken_of self.old) × (self.old.waiting ≡ taken.1 ∷ self.new.waiting) × (self.new ≡ record self.old { outcomes = self.old.outcomes ++ None ∷ []; waiting = self.new.waiting })) }
     {
         let job = self.waiting.pop_front()?;
-        let number = self.collected + self.outcomes.len() as u64;
-        let _ = self.outcomes.push_back(None);
+        let number = self.taken;
+        self.taken += 1;
         self.running += 1;
         Some((number, job))
     }
 
-    /// Records the outcome of a job that runs: its number is taken, and not finished.
+    /// Records the outcome of a job that runs, on the list of its number: the number is taken, and not finished.
     pub fn finish(&mut self, number: u64, out: F)
         requires low { self.old.collected ≤ number }
         requires high { number < taken_of self.old }
         requires runs { slice_get self.old.outcomes (number - self.old.collected) ≡ Some None }
         ensures { self.new ≡ record self.old { outcomes = slice_set self.old.outcomes (number - self.old.collected) (Some out) } }
     {
-        let place = (number - self.collected) as usize;
-        self.outcomes[place] = Some(out);
+        let list = (number % self.lists as u64) as usize;
+        let row = &mut self.rows[list];
+        row.put(number, out);
         self.running -= 1;
     }
 
-    /// How many outcomes a `collect` hands out: those from the first number that isn't collected up to the first whose job
-    /// isn't done.
-    pub fn ready(&self) -> usize
-        ensures { result ≡ length (ready self.now.outcomes) }
+    /// How many were submitted and not collected.
+    pub fn uncollected(&self) -> usize
+        ensures { result ≡ length self.now.outcomes + length self.now.waiting }
     {
-        ready_len(&self.outcomes)
+        (self.taken - self.collected) as usize + self.waiting.len()
+    }
+
+    /// How many were submitted and are not finished.
+    pub fn unfinished(&self) -> usize
+        ensures { result ≡ running_of self.now.outcomes + length self.now.waiting }
+    {
+        self.running + self.waiting.len()
+    }
+
+    /// How many are finished and not collected: as many as a collect hands out, at most.
+    pub fn finished(&self) -> usize
+        ensures { length (ready self.now.outcomes) ≤ result }
+    {
+        (self.taken - self.collected) as usize - self.running
     }
 
     /// Whether each job that was submitted is done.
@@ -133,8 +159,9 @@ impl<J: Drop, F: Drop> Padata<J, F> {
         requires collected { self.old.outcomes ≡ [] }
         ensures { self.new ≡ record self.old { spare = 0 } }
     {
-        self.outcomes = VecDeque::new(self.alloc);
+        clear_rows(self.alloc, &mut self.rows);
         self.waiting = VecDeque::new(self.alloc);
+        self.room = 0;
         self.spare = 0;
     }
 
@@ -149,18 +176,30 @@ impl<J: Drop, F: Drop> Padata<J, F> {
     pub fn submitted(&self) -> u64
         ensures { result ≡ submitted_of self.now }
     {
-        self.collected + self.outcomes.len() as u64 + self.waiting.len() as u64
+        self.taken + self.waiting.len() as u64
     }
 
-    /// The first number whose job is not done, or the next number.
-    pub fn front(&self) -> u64
-        ensures { result ≡ self.now.collected + length (ready self.now.outcomes) }
+    /// How many were collected: the number that is handed out next.
+    pub fn collected(&self) -> u64
+        ensures { result ≡ self.now.collected }
     {
-        self.collected + ready_len(&self.outcomes) as u64
+        self.collected
+    }
+
+    /// Hands out the outcome of the first number that isn't collected, where its job is done.
+    pub fn collect_next(&mut self) -> Option<(u64, F)>
+        ensures { MatchOption result ((ready self.old.outcomes ≡ []) × (self.new ≡ self.old)) (λ r. (r.0 ≡ self.old.collected) × (self.old.outcomes ≡ Some r.1 ∷ self.new.outcomes) × (self.new ≡ record self.old { collected = self.old.collected + 1; outcomes = self.new.outcomes })) }
+    {
+        let list = (self.collected % self.lists as u64) as usize;
+        let row = &mut self.rows[list];
+        let out = row.take_first(self.collected)?;
+        let number = self.collected;
+        self.collected += 1;
+        Some((number, out))
     }
 
     /// Hands out the outcomes from the first number that isn't collected up to the first whose job isn't done. `into`
-    /// must have room for these.
+    /// must have room for them.
     pub fn collect(&mut self, into: &mut Callbacks<F>)
         requires { length (ready self.old.outcomes) ≤ into.old.spare }
         ensures handed { into.new.list ≡ into.old.list ++ done_from self.old.collected (ready self.old.outcomes) }
@@ -169,36 +208,39 @@ impl<J: Drop, F: Drop> Padata<J, F> {
         ensures rest { length (ready self.old.outcomes) + length self.new.outcomes ≡ length self.old.outcomes }
         ensures front { ready self.new.outcomes ≡ [] }
     {
-        while let Some(out) = pop_ready(&mut self.outcomes) {
-            into.push(Callback::Done(self.collected, out));
-            self.collected += 1;
+        while let Some((number, out)) = self.collect_next() {
+            into.push(Callback::Done(number, out));
         }
     }
-}
 
-/// Takes the first outcome out, where its job is done.
-fn pop_ready<F>(outcomes: &mut VecDeque<Option<F>>) -> Option<F>
-    ensures items { MatchOption result ((ready outcomes.old.items ≡ []) × (outcomes.new ≡ outcomes.old)) (λ out. outcomes.old.items ≡ Some out ∷ outcomes.new.items) }
-    ensures len { IfSome result (λ _. deque_len outcomes.new + 1 ≡ deque_len outcomes.old) }
-    ensures room { deque_capacity outcomes.new ≡ deque_capacity outcomes.old }
-{
-    let Some(Some(_)) = outcomes.front() else {
-        return None;
-    };
-    outcomes.pop_front()?
-}
-
-/// How many outcomes stand before the first job that still runs.
-fn ready_len<F>(outcomes: &VecDeque<Option<F>>) -> usize
-    ensures same { result ≡ length (ready outcomes.now.items) }
-    ensures bounded { result ≤ deque_len outcomes.now }
-{
-    let mut n = 0;
-    while n < outcomes.len() {
-        if outcomes[n].is_none() {
-            return n;
-        }
-        n += 1;
+    /// From now on the outcome of number n waits on the list n mod `lists`, and the finished ones move there. There is room
+    /// for what is not collected and for as many further jobs as before. Want of memory changes nothing.
+    pub fn remask(&mut self, lists: u32) -> Result<(), AllocError>
+        requires { 1 ≤ lists }
+        ensures ok { OnOk result (self.new ≡ record self.old { lists = lists }) }
+        ensures err { OnErr result (self.new ≡ self.old) }
+    {
+        let mut rows = empty_rows(self.alloc, lists)?;
+        let Some(total) = self.uncollected().checked_add(self.spare) else {
+            return Err(AllocError);
+        };
+        let Some(share) = (total / lists as usize).checked_add(1) else {
+            return Err(AllocError);
+        };
+        reserve_rows(&mut rows, share)?;
+        move_rows(
+            &mut self.rows,
+            &mut rows,
+            self.lists,
+            lists,
+            self.collected,
+            self.taken,
+            self.room,
+            share,
+        );
+        self.rows = rows;
+        self.lists = lists;
+        self.room = share;
+        Ok(())
     }
-    n
 }

@@ -31,12 +31,62 @@ fn outcomes_come_in_the_order_of_submission(rt: HostRuntime) -> Result<(), Fail>
     pad.finish(2, 'z');
     pad.collect(&mut into);
     pad.finish(0, 'x');
-    assert_eq!(rt; pad.front(), 1);
     pad.collect(&mut into);
-    assert!(rt; pad.ready() == 0 && !pad.is_done());
+    assert_eq!(rt; pad.uncollected(), 2);
     pad.finish(1, 'y');
     pad.collect(&mut into);
     let want = [(0, 'x'), (1, 'y'), (2, 'z')];
+    assert_eq!(rt; completions(rt.alloc(), &into)?.as_slice(), want.as_slice());
+    Ok(())
+}
+
+// Five jobs that were all taken.
+fn five_taken(alloc: Global) -> Result<Padata<char, char>, Fail> {
+    let mut pad = Padata::new(alloc, 3)?;
+    pad.reserve(5)?;
+    for job in ['a', 'b', 'c', 'd', 'e'] {
+        pad.submit(job);
+        let _ = pad.take();
+    }
+    Ok(pad)
+}
+
+#[test]
+fn each_collect_hands_out_what_is_ready(rt: HostRuntime) -> Result<(), Fail> {
+    let mut pad = five_taken(rt.alloc())?;
+    let mut into = Callbacks::new(rt.alloc());
+    into.reserve(5)?;
+    pad.finish(4, 'v');
+    pad.collect(&mut into);
+    pad.finish(1, 'w');
+    pad.collect(&mut into);
+    pad.finish(3, 'x');
+    pad.collect(&mut into);
+    assert!(rt; into.as_slice().is_empty());
+    pad.finish(0, 'y');
+    pad.collect(&mut into);
+    assert_eq!(rt; into.as_slice().len(), 2);
+    assert_eq!(rt; pad.unfinished(), 1);
+    pad.finish(2, 'z');
+    pad.collect(&mut into);
+    let want = [(0, 'y'), (1, 'w'), (2, 'z'), (3, 'x'), (4, 'v')];
+    assert_eq!(rt; completions(rt.alloc(), &into)?.as_slice(), want.as_slice());
+    Ok(())
+}
+
+#[test]
+fn outcomes_move_to_other_lists(rt: HostRuntime) -> Result<(), Fail> {
+    let mut pad = five_taken(rt.alloc())?;
+    let mut into = Callbacks::new(rt.alloc());
+    into.reserve(5)?;
+    pad.finish(1, 'b');
+    pad.finish(3, 'd');
+    pad.finish(4, 'e');
+    pad.remask(2)?;
+    pad.finish(0, 'a');
+    pad.finish(2, 'c');
+    pad.collect(&mut into);
+    let want = [(0, 'a'), (1, 'b'), (2, 'c'), (3, 'd'), (4, 'e')];
     assert_eq!(rt; completions(rt.alloc(), &into)?.as_slice(), want.as_slice());
     Ok(())
 }

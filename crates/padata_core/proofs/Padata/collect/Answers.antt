@@ -1,15 +1,15 @@
-use Rattle.std.proofs.Common.{arith, ap, ◌∙◌}
-use Rattle.padata_core.specs.Running.{count_running}
-use Rattle.padata_core.proofs.Step.{still-step}
+use Rattle.std.proofs.Common.{arith, ap, sym, ◌∙◌, ◌+◌, ◌++◌, ◌∷◌, []}
+use Rattle.padata_core.specs.Pad.{Pad}
+use Rattle.padata_core.proofs.Step.{release_step}
 use Rattle.padata_core.proofs.Padata.collect.Goals as goal
 
-pub loop-out-preserved : goal.loop-out-preserved
-loop-out-preserved g c = (
-  still-step _ _ _ _ _ _ _ _ _ c.loop-out.invariant.0 c.in-Some.ensures.items c.push.ensures.list c.push.ensures.spare,
-  omega (arith, c.in-Some.ensures.len),
-  c.in-Some.ensures.room ∙ c.loop-out.invariant.2,
-  c.loop-out.invariant.3,
-  c.loop-out.invariant.4,
-  c.loop-out.invariant.5,
-  c.loop-out.invariant.6 ∙ ap count_running c.in-Some.ensures.items,
-)
+pub loop-number-preserved : goal.loop-number-preserved
+loop-number-preserved g c =
+    (let e = c.in-Some.ensures in
+    let i = c.loop-number.invariant in
+    let p = c.push.ensures in (
+      release_step c.loop-number.self c.collect_next.new.self _ c.in-Some.number c.in-Some.out _ _ c.loop-number.into c.push.new.self i.0 e.0 e.1 e.2 p.list p.spare,
+      ap (λ (p : Pad _ _). p.lists) e.2 ∙ i.1,
+      ap (λ (p : Pad _ _). p.waiting) e.2 ∙ i.2,
+      ap (λ (p : Pad _ _). p.spare) e.2 ∙ i.3,
+    ))

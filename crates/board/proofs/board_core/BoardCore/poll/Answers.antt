@@ -18,13 +18,6 @@ index-place-requires g c =
     let o = c.self.inside.pipes.ok.0 in
     omega arith
 
-pub told-to-requires : goal.told-to-requires
-told-to-requires g c =
-    let open_ : IsOpen (entries_of c.args.pipe c.self.inside.log.items) = subst (λ h. IsOpen (entries_of c.args.pipe h)) (sym c.self.view_is) c.requires.pipe in
-    let w = within_board g.W.Work.asked g.W.Work.meaning c.self.inside.pipes.items c.self.inside.log.items c.args.pipe c.self.invariant.0 (any_open_here (entries_of c.args.pipe c.self.inside.log.items) open_) in
-    let f = told_few g.W.Work.asked g.W.Work.meaning c.self.inside.pipes.items c.self.inside.log.items c.args.pipe c.index-place.result.now c.self.invariant.0 w c.index-place.ensures in
-    omega (arith, f, c.self.inside.log.ok.0, c.self.inside.log.ok.1, c.self.inside.log.small)
-
 pub index_mut-place-requires : goal.index_mut-place-requires
 index_mut-place-requires g c =
     let open_ : IsOpen (entries_of c.args.pipe c.self.inside.log.items) = subst (λ h. IsOpen (entries_of c.args.pipe h)) (sym c.self.view_is) c.requires.pipe in
@@ -32,15 +25,15 @@ index_mut-place-requires g c =
     let o = c.self.inside.pipes.ok.0 in
     omega arith
 
-pub collect-requires-clause-room : goal.collect-requires-clause-room
-collect-requires-clause-room g c =
+pub collect-to-requires-clause-room : goal.collect-to-requires-clause-room
+collect-to-requires-clause-room g c =
     let open_ : IsOpen (entries_of c.args.pipe c.self.inside.log.items) = subst (λ h. IsOpen (entries_of c.args.pipe h)) (sym c.self.view_is) c.requires.pipe in
     let w = within_board g.W.Work.asked g.W.Work.meaning c.self.inside.pipes.items c.self.inside.log.items c.args.pipe c.self.invariant.0 (any_open_here (entries_of c.args.pipe c.self.inside.log.items) open_) in
     let same = same_item c.self.inside.pipes.items c.args.pipe c.index-place.result.now c.index_mut-place.result.now w c.index-place.ensures c.index_mut-place.ensures.value in
     rw (← same) (omega (arith, c.uncollected.ensures, c.in_ok-reserve.ensures.room))
 
-pub collect-requires-clause-few : goal.collect-requires-clause-few
-collect-requires-clause-few g c =
+pub collect-to-requires-clause-few : goal.collect-to-requires-clause-few
+collect-to-requires-clause-few g c =
     let open_ : IsOpen (entries_of c.args.pipe c.self.inside.log.items) = subst (λ h. IsOpen (entries_of c.args.pipe h)) (sym c.self.view_is) c.requires.pipe in
     let w = within_board g.W.Work.asked g.W.Work.meaning c.self.inside.pipes.items c.self.inside.log.items c.args.pipe c.self.invariant.0 (any_open_here (entries_of c.args.pipe c.self.inside.log.items) open_) in
     let f = told_few g.W.Work.asked g.W.Work.meaning c.self.inside.pipes.items c.self.inside.log.items c.args.pipe c.index_mut-place.result.now c.self.invariant.0 w c.index_mut-place.ensures.value in
@@ -51,15 +44,14 @@ invariant_of-self-2 g c =
     let open_ : IsOpen (entries_of c.args.pipe c.self.inside.log.items) = subst (λ h. IsOpen (entries_of c.args.pipe h)) (sym c.self.view_is) c.requires.pipe in
     let w = within_board g.W.Work.asked g.W.Work.meaning c.self.inside.pipes.items c.self.inside.log.items c.args.pipe c.self.invariant.0 (any_open_here (entries_of c.args.pipe c.self.inside.log.items) open_) in
     let may : MayManage (entries_of c.args.pipe c.self.inside.log.items) c.args.caller = subst (λ h. MayManage (entries_of c.args.pipe h) c.args.caller) (sym c.self.view_is) c.requires.caller in
-    let same = same_item c.self.inside.pipes.items c.args.pipe c.index-place.result.now c.index_mut-place.result.now w c.index-place.ensures c.index_mut-place.ensures.value in
-    let at : c.told-to.result ≡ told_of c.index_mut-place.result.now = c.told-to.ensures ∙ ap told_of same in
-    let s = poll_step g.W.Work.asked g.W.Work.meaning c.self.inside.pipes.items c.self.inside.log.items c.args.pipe c.told-to.result c.args.caller c.index_mut-place.result.now c.collect.new.self c.self.invariant.0 w c.index_mut-place.ensures.value may open_ at c.collect.ensures.emptied in (
+    let at : c.collect-to.result ≡ told_of c.index_mut-place.result.now = c.collect-to.ensures.told in
+    let s = poll_step g.W.Work.asked g.W.Work.meaning c.self.inside.pipes.items c.self.inside.log.items c.args.pipe c.collect-to.result c.args.caller c.index_mut-place.result.now c.collect-to.new.self c.self.invariant.0 w c.index_mut-place.ensures.value may open_ at c.collect-to.ensures.emptied in (
       rw (c.push_reserved.ensures.items, c.in_ok-reserve_entries.ensures.items) s.0,
-      rw (c.push_reserved.ensures.items, c.in_ok-reserve_entries.ensures.items) (shut-same c.self.inside.log.items (Collect c.args.caller c.args.pipe c.told-to.result) refl ∙ c.self.invariant.1),
+      rw (c.push_reserved.ensures.items, c.in_ok-reserve_entries.ensures.items) (shut-same c.self.inside.log.items (Collect c.args.caller c.args.pipe c.collect-to.result) refl ∙ c.self.invariant.1),
       omega (arith, c.push_reserved.ensures.len, c.push_reserved.ensures.capacity, c.in_ok-reserve_entries.ensures.ok),
       omega (arith, s.1, c.self.invariant.3),
-      rw (c.push_reserved.ensures.items, c.in_ok-reserve_entries.ensures.items) (used_same g.W.Work.weight c.self.inside.used c.self.inside.log.items (Collect c.args.caller c.args.pipe c.told-to.result) refl c.self.invariant.4),
-      ready_same c.self.inside.pipes.items c.self.inside.ready c.args.pipe c.index_mut-place.result.now c.collect.new.self c.self.invariant.5 w c.index_mut-place.ensures.value (emptied_serves c.index_mut-place.result.now c.collect.new.self c.collect.ensures.emptied),
+      rw (c.push_reserved.ensures.items, c.in_ok-reserve_entries.ensures.items) (used_same g.W.Work.weight c.self.inside.used c.self.inside.log.items (Collect c.args.caller c.args.pipe c.collect-to.result) refl c.self.invariant.4),
+      ready_same c.self.inside.pipes.items c.self.inside.ready c.args.pipe c.index_mut-place.result.now c.collect-to.new.self c.self.invariant.5 w c.index_mut-place.ensures.value (emptied_serves c.index_mut-place.result.now c.collect-to.new.self c.collect-to.ensures.emptied),
     )
 
 pub returns : goal.returns
@@ -67,12 +59,11 @@ returns g c =
     let open_ : IsOpen (entries_of c.args.pipe c.self.inside.log.items) = subst (λ h. IsOpen (entries_of c.args.pipe h)) (sym c.self.view_is) c.requires.pipe in
     let w = within_board g.W.Work.asked g.W.Work.meaning c.self.inside.pipes.items c.self.inside.log.items c.args.pipe c.self.invariant.0 (any_open_here (entries_of c.args.pipe c.self.inside.log.items) open_) in
     let may : MayManage (entries_of c.args.pipe c.self.inside.log.items) c.args.caller = subst (λ h. MayManage (entries_of c.args.pipe h) c.args.caller) (sym c.self.view_is) c.requires.caller in
-    let same = same_item c.self.inside.pipes.items c.args.pipe c.index-place.result.now c.index_mut-place.result.now w c.index-place.ensures c.index_mut-place.ensures.value in
-    let at : c.told-to.result ≡ told_of c.index_mut-place.result.now = c.told-to.ensures ∙ ap told_of same in
-    let s = poll_step g.W.Work.asked g.W.Work.meaning c.self.inside.pipes.items c.self.inside.log.items c.args.pipe c.told-to.result c.args.caller c.index_mut-place.result.now c.collect.new.self c.self.invariant.0 w c.index_mut-place.ensures.value may open_ at c.collect.ensures.emptied in
+    let at : c.collect-to.result ≡ told_of c.index_mut-place.result.now = c.collect-to.ensures.told in
+    let s = poll_step g.W.Work.asked g.W.Work.meaning c.self.inside.pipes.items c.self.inside.log.items c.args.pipe c.collect-to.result c.args.caller c.index_mut-place.result.now c.collect-to.new.self c.self.invariant.0 w c.index_mut-place.ensures.value may open_ at c.collect-to.ensures.emptied in
     record {
       board = rw (c.push_reserved.ensures.items, c.in_ok-reserve_entries.ensures.items, ← c.self.view_is) (ap (λ n. c.self.inside.log.items ++ Collect c.args.caller c.args.pipe n ∷ []) s.2);
-      handed = rw (c.collect.ensures.handed, c.in_ok-reserve.ensures.list, ← c.self.view_is) (ap (λ xs. c.args.into.now.list ++ xs) (sym s.3));
+      handed = rw (c.collect-to.ensures.handed, c.in_ok-reserve.ensures.list, ← c.self.view_is) (ap (λ xs. c.args.into.now.list ++ xs) (sym s.3));
       refused = tt;
       legal = (invariant_of-self-2 g c).0.legal;
     }
