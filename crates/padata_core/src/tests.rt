@@ -1,3 +1,5 @@
+ghost use Rattle.std.specs.Prelude.{◌≡◌, [], ◌∷◌, None, length, IfOk};
+
 use crate::Padata;
 use kc_base::{Callback, Callbacks};
 use std::alloc::Global;
@@ -41,14 +43,26 @@ fn outcomes_come_in_the_order_of_submission(rt: HostRuntime) -> Result<(), Fail>
 }
 
 // Five jobs that were all taken.
-fn five_taken(alloc: Global) -> Result<Padata<char, char>, Fail> {
+fn five_taken(alloc: Global) -> Result<Padata<char, char>, Fail>
+    ensures { IfOk result (λ pad. (pad.collected ≡ 0) × (pad.outcomes ≡ None ∷ None ∷ None ∷ None ∷ None ∷ [])) }
+{
     let mut pad = Padata::new(alloc, 3)?;
     pad.reserve(5)?;
-    for job in ['a', 'b', 'c', 'd', 'e'] {
-        pad.submit(job);
-        let _ = pad.take();
-    }
+    pad.submit('a');
+    pad.submit('b');
+    pad.submit('c');
+    pad.submit('d');
+    pad.submit('e');
+    take_five(&mut pad);
     Ok(pad)
+}
+
+// Takes each of five.
+fn take_five(pad: &mut Padata<char, char>)
+    requires { (pad.old.collected ≡ 0) × (pad.old.outcomes ≡ []) × (length pad.old.waiting ≡ 5) }
+    ensures { (pad.new.collected ≡ 0) × (pad.new.outcomes ≡ None ∷ None ∷ None ∷ None ∷ None ∷ []) }
+{
+    let _ = (pad.take(), pad.take(), pad.take(), pad.take(), pad.take());
 }
 
 #[test]
