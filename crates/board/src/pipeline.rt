@@ -248,11 +248,11 @@ impl<J: Drop, F: Drop> Pipeline<J, F> {
         match self {
             Pipeline::Pad(place) => {
                 place.closed = true;
-                place.pad.release();
+                place.pad.free_room();
             }
             Pipeline::Queue(place) => {
                 place.closed = true;
-                place.queue.release();
+                place.queue.free_room();
             }
         }
     }

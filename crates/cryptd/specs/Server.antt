@@ -6,11 +6,12 @@ use Rattle.request_queue.specs.declared.Verdict.TheVariants.{InProgress, Busy, N
 use Rattle.request_queue.specs.Line.{Line}
 
 -- A queue that is served one job at a time: the line of those that wait, whether it is held, whether a job of it
--- runs, and the callbacks that are not collected yet.
+-- runs, how many were passed on and aren't released, and the callbacks that are not collected yet.
 pub record Server (J F : Type 0) : Type 0 where
   pub line : Line J
   pub held : Bool
   pub busy : Bool
+  pub passed : ℕ
   pub pending : List (Callback F)
   pub spare : ℕ
 

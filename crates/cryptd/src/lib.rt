@@ -7,6 +7,7 @@ mod tests;
 ghost use Rattle.std.specs.Prelude.{◌≡◌, ℕ, ◌+◌, ◌-◌, ◌*◌, ◌^◌, ◌<◌, ◌≤◌, nat_lt, Bool, true, false, ◌||◌, List, [], ◌∷◌, ◌++◌, length, IfOk, OnOk, MatchBool, MatchOption, ◌⊎◌};
 ghost use Rattle.kc_base.specs.declared.callback_list.Callback.TheVariants as Callback;
 ghost use Rattle.request_queue.specs.Line.{accepted, verdict_on, line_after, number_at_bound};
+ghost use Rattle.std.specs.VecDeque.{deque_len, deque_capacity};
 ghost use Rattle.cryptd.specs.Server.{started_callback, spare_after};
 
 use kc_base::{Callback, Callbacks};
@@ -23,6 +24,8 @@ pub struct Cryptd<J, F> {
     queue: Queue<J>,
     held: bool,
     busy: bool,
+    /// How many were passed on, and aren't released.
+    passed: usize,
     pending: VecDeque<Callback<F>>,
     spare: usize,
 }
@@ -34,22 +37,23 @@ impl<J, F> Model for Cryptd<J, F> {
 
     ghost Value = { Server J F };
 
-    ghost view = { λ c. record { line = c.queue; held = c.held; busy = c.busy; pending = c.pending.items; spare = c.spare } };
+    ghost view = { λ c. record { line = c.queue; held = c.held; busy = c.busy; passed = c.passed; pending = c.pending.items; spare = c.spare } };
 
-    ghost invariant = { λ c. (c.spare ≤ c.queue.spare) × (deque_len c.pending + 2 * (length c.queue.waiting + c.spare) + (if c.busy then 1 else 0) ≤ deque_capacity c.pending) };
+    ghost invariant = { λ c. (c.spare ≤ c.queue.spare) × (deque_len c.pending + 2 * (length c.queue.waiting + c.spare) + (if c.busy then 1 else 0) + c.passed ≤ deque_capacity c.pending) };
 }
 
 impl<J: Drop, F: Drop> Cryptd<J, F> {
     /// An empty queue with room for no job, neither held nor busy.
     pub fn new(alloc: Global, max: u32) -> Result<Cryptd<J, F>, AllocError>
         requires { 1 ≤ max }
-        ensures { IfOk result (λ server. server ≡ record { line = record { max = max; served = 0; waiting = []; spare = 0 }; held = false; busy = false; pending = []; spare = 0 }) }
+        ensures { IfOk result (λ server. server ≡ record { line = record { max = max; served = 0; waiting = []; spare = 0 }; held = false; busy = false; passed = 0; pending = []; spare = 0 }) }
     {
         Ok(Cryptd {
             alloc,
             queue: Queue::new(alloc, max)?,
             held: false,
             busy: false,
+            passed: 0,
             pending: VecDeque::new(alloc),
             spare: 0,
         })
@@ -102,20 +106,25 @@ impl<J: Drop, F: Drop> Cryptd<J, F> {
         let Some(more) = twice.checked_add(1) else {
             return Err(AllocError);
         };
+        let Some(more) = more.checked_add(self.passed) else {
+            return Err(AllocError);
+        };
         self.pending.reserve(more)?;
         self.spare = n;
         Ok(())
     }
 
-    /// Gives back the memory of a queue of which all is done and collected.
-    pub fn release(&mut self)
+    /// Gives back the memory of a queue of which all is done and collected, but for the callbacks of what was passed on.
+    pub fn free_room(&mut self)
         requires busy { self.old.busy ≡ false }
         requires waiting { self.old.line.waiting ≡ [] }
         requires pending { self.old.pending ≡ [] }
         ensures { self.new ≡ record self.old { spare = 0; line = record self.old.line { spare = 0 } } }
     {
-        self.queue.release();
-        self.pending = VecDeque::new(self.alloc);
+        self.queue.free_room();
+        if self.passed == 0 {
+            self.pending = VecDeque::new(self.alloc);
+        }
         self.spare = 0;
     }
 
@@ -159,9 +168,7 @@ impl<J: Drop, F: Drop> Cryptd<J, F> {
         }
         let served = self.queue.dequeue()?;
         self.busy = true;
-        if let Some(number) = served.started {
-            let _ = self.pending.push_back(Callback::Started(number));
-        }
+        tell_started(&mut self.pending, served.started);
         Some(served)
     }
 
@@ -173,6 +180,44 @@ impl<J: Drop, F: Drop> Cryptd<J, F> {
     {
         let _ = self.pending.push_back(Callback::Done(number, out));
         self.busy = false;
+    }
+
+    /// Passes the first job on, or `None` exactly where the queue is held or empty. Others run it; its outcome comes back by
+    /// `release`, in its turn among those that were passed on.
+    pub fn pass_on(&mut self) -> Option<Served<J>>
+        ensures { MatchOption result (((self.old.held ≡ true) ⊎ (self.old.line.waiting ≡ [])) × (self.new ≡ self.old)) (λ s. (self.old.held ≡ false) × (s.number ≡ self.old.line.served) × (s.started ≡ number_at_bound self.old.line) × (self.old.line.waiting ≡ s.item ∷ self.new.line.waiting) × (self.new ≡ record self.old { line = record self.old.line { served = self.old.line.served + 1; waiting = self.new.line.waiting }; passed = self.old.passed + 1; pending = self.old.pending ++ started_callback s.started })) }
+    {
+        if self.held {
+            return None;
+        }
+        let served = self.queue.dequeue()?;
+        self.passed += 1;
+        tell_started(&mut self.pending, served.started);
+        Some(served)
+    }
+
+    /// Tells the outcome of the first job of those that were passed on and aren't released.
+    pub fn release(&mut self, number: u64, out: F)
+        requires passed { 1 ≤ self.old.passed }
+        requires number { number + self.old.passed ≡ self.old.line.served }
+        ensures { self.new ≡ record self.old { passed = self.old.passed - 1; pending = self.old.pending ++ Callback.Done number out ∷ [] } }
+    {
+        let _ = self.pending.push_back(Callback::Done(number, out));
+        self.passed -= 1;
+    }
+
+    /// How many jobs wait.
+    pub fn waiting(&self) -> usize
+        ensures { result ≡ length self.now.line.waiting }
+    {
+        self.queue.len()
+    }
+
+    /// How many jobs wait, or were passed on and aren't released.
+    pub fn unreleased(&self) -> usize
+        ensures { result ≡ length self.now.line.waiting + self.now.passed }
+    {
+        self.queue.len() + self.passed
     }
 
     /// How many callbacks are not collected yet.
@@ -192,5 +237,17 @@ impl<J: Drop, F: Drop> Cryptd<J, F> {
         while let Some(callback) = self.pending.pop_front() {
             into.push(callback);
         }
+    }
+}
+
+// Tells of the request that moves up, where there is one. There is room for it.
+fn tell_started<F: Drop>(pending: &mut VecDeque<Callback<F>>, started: Option<u64>)
+    requires { deque_len pending.old < deque_capacity pending.old }
+    ensures items { pending.new.items ≡ pending.old.items ++ started_callback started }
+    ensures len { deque_len pending.new ≤ deque_len pending.old + 1 }
+    ensures room { deque_capacity pending.new ≡ deque_capacity pending.old }
+{
+    if let Some(number) = started {
+        let _ = pending.push_back(Callback::Started(number));
     }
 }

@@ -43,3 +43,26 @@ fn a_held_queue_serves_its_backlog_in_order(rt: HostRuntime) -> Result<(), Fail>
         _ => panic!(rt; "other callbacks"),
     }
 }
+
+#[test]
+fn what_is_passed_on_is_told_in_order(rt: HostRuntime) -> Result<(), Fail> {
+    let mut queue = Cryptd::new(rt.alloc(), 1)?;
+    queue.reserve(2)?;
+    assert!(rt; matches!(queue.enqueue(0, 'a', false), Verdict::InProgress));
+    assert!(rt; matches!(queue.enqueue(1, 'b', true), Verdict::Busy));
+    assert!(rt; queue.pass_on().is_some() && queue.pass_on().is_some());
+    assert!(rt; queue.waiting() == 0 && queue.unreleased() == 2);
+    queue.release(0, 'A');
+    queue.release(1, 'B');
+    let mut into = Callbacks::new(rt.alloc());
+    into.reserve(queue.pending())?;
+    queue.collect(&mut into);
+    match into.as_slice() {
+        [
+            Callback::Started(1),
+            Callback::Done(0, 'A'),
+            Callback::Done(1, 'B'),
+        ] => Ok(()),
+        _ => panic!(rt; "other callbacks"),
+    }
+}

@@ -154,7 +154,7 @@ impl<J: Drop, F: Drop> Padata<J, F> {
     }
 
     /// Gives back the memory of a pipeline of which all is collected.
-    pub fn release(&mut self)
+    pub fn free_room(&mut self)
         requires taken { self.old.waiting ≡ [] }
         requires collected { self.old.outcomes ≡ [] }
         ensures { self.new ≡ record self.old { spare = 0 } }

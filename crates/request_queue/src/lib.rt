@@ -103,7 +103,7 @@ impl<T: Drop> Queue<T> {
     }
 
     /// Gives back the memory of an empty queue.
-    pub fn release(&mut self)
+    pub fn free_room(&mut self)
         requires { self.old.waiting ≡ [] }
         ensures { self.new ≡ record self.old { spare = 0 } }
     {

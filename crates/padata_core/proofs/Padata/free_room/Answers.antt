@@ -3,7 +3,7 @@ use Rattle.padata_core.specs.Rows.{Held}
 use Rattle.padata_core.specs.Pad.{Pad, kept_at, outcomes_from, running_of}
 use Rattle.padata_core.proofs.Making.{empty_are}
 use Rattle.padata_core.proofs.Tables.{length-outcomes}
-use Rattle.padata_core.proofs.Padata.release.Goals as goal
+use Rattle.padata_core.proofs.Padata.free_room.Goals as goal
 
 -- no number is taken and not collected
 none_taken : {F : Type 0} (at : ℕ → Option F) (n many : ℕ) → outcomes_from at n many ≡ [] → many ≡ 0
