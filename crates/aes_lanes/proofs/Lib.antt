@@ -3,3 +3,8 @@ pub mod Halves
 pub mod Mixing
 pub mod Sides
 pub mod KeyVectors
+mod Terms
+mod Transposed
+mod RowsMixed
+mod RowKeyVectors
+mod RowsUnsealed

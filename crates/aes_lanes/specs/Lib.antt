@@ -3,3 +3,7 @@ pub mod Pairs
 pub mod KeyBlock
 pub mod RoundKeys
 pub mod Key
+pub mod Tower
+pub mod Places
+pub mod Rows
+pub mod RowKeys

@@ -6,6 +6,7 @@ ghost use Rattle.std_defs.specs.Aes.{IsKeyLength};
 use crate::lane_schedule::LaneSchedule;
 use crate::pairs::{first_of, joined, paired, parted};
 use crate::round_keys::round_keys;
+use crate::row_keys::row_keys;
 use aes_block::{BlockCipher, expand_key};
 use kc_base::Errno;
 use std::marker::Model;
@@ -35,11 +36,12 @@ impl LaneAes {
         if !matches!(key.len(), 16 | 24 | 32) {
             return Err(Errno::EINVAL);
         }
-        let words = expand_key(key);
+        let keys = round_keys(&expand_key(key));
         Ok(LaneAes {
             schedule: LaneSchedule {
                 rounds: key.len() / 4 + 6,
-                keys: round_keys(&words),
+                keys,
+                row_keys: row_keys(&keys),
             },
         })
     }

@@ -6,19 +6,23 @@ ghost use Rattle.std_defs.specs.Aes.{seal, unseal, add_round_key, sub_bytes, shi
 ghost use Rattle.aes_block.specs.Schedule.{IsSchedule, is_schedule-prop};
 ghost use Rattle.aes_lanes.specs.Pairs.{each_half};
 ghost use Rattle.aes_lanes.specs.RoundKeys.{schedule_of, AreTwice};
+ghost use Rattle.aes_lanes.specs.RowKeys.{AreRowKeys};
 
 use crate::columns::{mixed, mixed_back, shifted, shifted_back};
 use crate::lookup::{inverse_substituted, substituted, sum};
 use crate::round_keys::RoundKey;
+use crate::row_keys::RowKey;
 use std::simd::prelude::*;
 
-/// The key schedule of a key, with each round key twice in a vector.
+/// The key schedule of a key, with each round key twice in a vector, and as unsealing adds it to rows.
 #[derive(Drop)]
 pub(crate) struct LaneSchedule {
     pub(crate) rounds: usize,
     pub(crate) keys: [RoundKey; 15],
+    pub(crate) row_keys: [RowKey; 15],
     ghost scheduled: { IsSchedule rounds (schedule_of keys) } by { is_schedule-prop rounds (schedule_of keys) },
     ghost twice: { AreTwice keys },
+    ghost rows: { AreRowKeys keys row_keys },
 }
 
 /// A round of two blocks.
@@ -111,25 +115,5 @@ impl LaneSchedule {
             sealed_last(c, key),
             sealed_last(d, key),
         ]
-    }
-
-    /// Unseals eight blocks, two and two.
-    #[inline(always)]
-    pub(crate) fn unseal_four(&self, x: [u8x32; 4]) -> [u8x32; 4]
-        ensures { result ≡ map (each_half (unseal (lane_key self.now))) x }
-    {
-        let mut a = self.begun_back(x[0]);
-        let mut b = self.begun_back(x[1]);
-        let mut c = self.begun_back(x[2]);
-        let mut d = self.begun_back(x[3]);
-        for round in (1..self.rounds).rev() {
-            let key = self.keys[round].twice;
-            a = unsealed_round(a, key);
-            b = unsealed_round(b, key);
-            c = unsealed_round(c, key);
-            d = unsealed_round(d, key);
-        }
-        let key = self.keys[0].twice;
-        [sum(a, key), sum(b, key), sum(c, key), sum(d, key)]
     }
 }

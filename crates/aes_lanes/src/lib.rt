@@ -7,7 +7,11 @@ mod lane_schedule;
 mod lookup;
 mod pairs;
 mod round_keys;
+mod row_keys;
+mod rows;
 #[cfg(test)]
 mod tests;
+mod tower;
+mod unsealing;
 
 pub use lane_aes::LaneAes;

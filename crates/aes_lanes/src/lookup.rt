@@ -18,11 +18,11 @@ const HIGH_TO_TOWER: [u8; 16] = [
 ];
 
 /// The same, of a byte whose S-box is undone.
-const INVERSE_LOW_TO_TOWER: [u8; 16] = [
+pub(crate) const INVERSE_LOW_TO_TOWER: [u8; 16] = [
     0xe8, 0xb7, 0xbc, 0xe3, 0xec, 0xb3, 0xb8, 0xe7, 0xf2, 0xad, 0xa6, 0xf9, 0xf6, 0xa9, 0xa2, 0xfd,
 ];
 
-const INVERSE_HIGH_TO_TOWER: [u8; 16] = [
+pub(crate) const INVERSE_HIGH_TO_TOWER: [u8; 16] = [
     0x00, 0x65, 0x05, 0x60, 0xe6, 0x83, 0xe3, 0x86, 0x94, 0xf1, 0x91, 0xf4, 0x72, 0x17, 0x77, 0x12,
 ];
 
@@ -45,11 +45,11 @@ const SECOND_FROM_TOWER: [u8; 16] = [
 ];
 
 /// The byte from both parts of an inverse.
-const INVERSE_FIRST_FROM_TOWER: [u8; 16] = [
+pub(crate) const INVERSE_FIRST_FROM_TOWER: [u8; 16] = [
     0x00, 0x40, 0xf9, 0x7e, 0x53, 0xea, 0x87, 0x13, 0x2d, 0x3e, 0x94, 0xd4, 0xb9, 0x6d, 0xaa, 0xc7,
 ];
 
-const INVERSE_SECOND_FROM_TOWER: [u8; 16] = [
+pub(crate) const INVERSE_SECOND_FROM_TOWER: [u8; 16] = [
     0x00, 0x1d, 0x44, 0x93, 0x0f, 0x56, 0xd7, 0x12, 0x9c, 0x8e, 0xc5, 0xd8, 0x59, 0x81, 0x4b, 0xca,
 ];
 
@@ -61,7 +61,7 @@ const TWICE: [usize; 32] = [
 
 /// Each lane's entry of the table.
 #[inline(always)]
-fn looked_up(table: [u8; 16], index: u8x32) -> u8x32
+pub(crate) fn looked_up(table: [u8; 16], index: u8x32) -> u8x32
     requires long { length table ≡ 16 }
     requires places { AreIndices index }
     ensures { result ≡ map (look table) index }
@@ -72,14 +72,14 @@ fn looked_up(table: [u8; 16], index: u8x32) -> u8x32
 }
 
 #[inline(always)]
-fn low_half(x: u8x32) -> u8x32
+pub(crate) fn low_half(x: u8x32) -> u8x32
     ensures { result ≡ map low x }
 {
     x & u8x32::splat(15)
 }
 
 #[inline(always)]
-fn high_half(x: u8x32) -> u8x32
+pub(crate) fn high_half(x: u8x32) -> u8x32
     ensures { result ≡ map high x }
 {
     x >> u8x32::splat(4)
@@ -95,7 +95,7 @@ pub(crate) fn sum(x: u8x32, y: u8x32) -> u8x32
 
 /// Both parts of the inverse of each element of the tower.
 #[inline(always)]
-fn inverted(y: u8x32) -> (u8x32, u8x32)
+pub(crate) fn inverted(y: u8x32) -> (u8x32, u8x32)
     ensures first { result.0 ≡ map first_part y }
     ensures second { result.1 ≡ map second_part y }
 {
