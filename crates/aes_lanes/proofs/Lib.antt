@@ -8,3 +8,5 @@ mod Transposed
 mod RowsMixed
 mod RowKeyVectors
 mod RowsUnsealed
+mod SealingTerms
+mod RowsSealed

@@ -6,7 +6,6 @@ use Rattle.std.proofs.lemmas.Simd.{map-map}
 use lib.Lanes.{zip2, Each1}
 use Rattle.std_defs.specs.Aes.{mul8, mixed_byte, mix_columns, inverse_mix_columns}
 use Rattle.aes_block.proofs.Mixing.{four, column_mixed, column_mixed_back}
-use Rattle.aes_lanes.specs.Places.{lanes}
 use Rattle.aes_lanes.specs.Tower.{term_byte}
 use Rattle.aes_lanes.specs.Rows.{eight_blocks}
 use Rattle.aes_lanes.proofs.Terms.{term_byte-lt}

@@ -1,6 +1,5 @@
 -- rounds of eight blocks by rows, undone
 use Rattle.std.specs.Prelude.{◌≡◌, ℕ, suc, ◌+◌, ◌-◌, ◌*◌, ◌/◌, ◌%◌, ◌<◌, List, [], ◌∷◌, ◌++◌, map, length, take, drop, slice_index, slice_index_or, bit_xor, refl}
-use Rattle.std.specs.List.{range_with_len}
 use Rattle.std.proofs.Common.{sym, ◌∙◌, ap, ap₂, arith, subst, get_or}
 use Rattle.std.proofs.lemmas.List.{take-map, drop-map, map-append}
 use Rattle.std.proofs.lemmas.Simd.{map-map, pick_l_whole}
@@ -11,7 +10,6 @@ use Rattle.aes_block.specs.Schedule.{IsSchedule, key_of}
 use Rattle.aes_block.proofs.Rounds.{unsealing_none, unsealing_more, round_key_is}
 use Rattle.aes_lanes.specs.KeyBlock.{key_block}
 use Rattle.aes_lanes.specs.Pairs.{each_half, blocks_of}
-use Rattle.aes_lanes.specs.Places.{lanes}
 use Rattle.aes_lanes.specs.Rows.{eight_blocks, with_key}
 use Rattle.aes_lanes.specs.RowKeys.{row_of, four_rows}
 use Rattle.aes_lanes.proofs.Halves.{of_places, front}
@@ -26,7 +24,7 @@ each_same f g e xs = λ j. map (λ a. e a j) xs
 
 -- ---- a key by rows
 
-rows_keyed : (m : List ℕ) → length m ≡ 16 → (a b c d : List ℕ) → length a ≡ 32 → length b ≡ 32 → length c ≡ 32 → length d ≡ 32
+pub rows_keyed : (m : List ℕ) → length m ≡ 16 → (a b c d : List ℕ) → length a ≡ 32 → length b ≡ 32 → length c ≡ 32 → length d ≡ 32
     → eight_blocks (zip2 bit_xor a (row_of 0 m ++ row_of 0 m) ∷ zip2 bit_xor b (row_of 1 m ++ row_of 1 m) ∷ zip2 bit_xor c (row_of 2 m ++ row_of 2 m) ∷ zip2 bit_xor d (row_of 3 m ++ row_of 3 m) ∷ [])
     ≡ map (λ s. zip2 bit_xor s m) (eight_blocks (a ∷ b ∷ c ∷ d ∷ []))
 unfolding eight_blocks
@@ -37,14 +35,14 @@ rows_keyed = of_places 16 (λ m. (a b c d : List ℕ) → length a ≡ 32 → le
     ≡ map (λ s. zip2 bit_xor s (map k places)) (eight_blocks (a ∷ b ∷ c ∷ d ∷ []))) (λ w x y z. refl))
 
 -- rows are read from the front alone
-front_rows : (l m : List ℕ) → length m ≡ 16 → four_rows (m ++ l) ≡ four_rows m
+pub front_rows : (l m : List ℕ) → length m ≡ 16 → four_rows (m ++ l) ≡ four_rows m
 front_rows l = of_places 16 (λ m. four_rows (m ++ l) ≡ four_rows m) (λ z. refl)
 
 pub back_long : (s : List ℕ) → length (inverse_mix_columns s) ≡ 16
 unfolding inverse_mix_columns
 back_long s = refl
 
-block_long : (ws : List (List ℕ)) (r : ℕ) → length (key_block ws r) ≡ 16
+pub block_long : (ws : List (List ℕ)) (r : ℕ) → length (key_block ws r) ≡ 16
 unfolding key_block
 block_long ws r = refl
 
@@ -73,10 +71,10 @@ rows_with_key m long f g h i e a b c d ha hb hc hd =
 
 -- ---- InvMixColumns of a sum
 
-abbrev row : ℕ → ℕ → ℕ → ℕ → ℕ → ℕ → ℕ → ℕ → ℕ
+abbrev pub row : ℕ → ℕ → ℕ → ℕ → ℕ → ℕ → ℕ → ℕ → ℕ
 row p q s t a b c d = bit_xor (bit_xor (mul8 p a) (mul8 q b)) (bit_xor (mul8 s c) (mul8 t d))
 
-row-xor : (p q s t a b c d e f g h : ℕ) → bit_xor (row p q s t a b c d) (row p q s t e f g h) ≡ row p q s t (bit_xor a e) (bit_xor b f) (bit_xor c g) (bit_xor d h)
+pub row-xor : (p q s t a b c d e f g h : ℕ) → bit_xor (row p q s t a b c d) (row p q s t e f g h) ≡ row p q s t (bit_xor a e) (bit_xor b f) (bit_xor c g) (bit_xor d h)
 row-xor p q s t a b c d e f g h =
     sym (ap₂ bit_xor
     (ap₂ bit_xor (mul8-xor p a e) (mul8-xor q b f) ∙ xor_swap (mul8 p a) (mul8 p e) (mul8 q b) (mul8 q f))
@@ -129,11 +127,11 @@ round_of_all ws r blocks =
 abbrev pub unrounded : ℕ → List (List ℕ) → ℕ → List (List ℕ) → List (List ℕ)
 unrounded r ws n blocks = map (λ b. before_rounds (key_schedule (key_of r ws)) (inverse_sub_bytes (inverse_shift_rows b)) n) blocks
 
-blocks_mapped : (f : ℕ → ℕ) (xs : List (List ℕ)) → blocks_of (map (map f) xs) ≡ map (map f) (blocks_of xs)
+pub blocks_mapped : (f : ℕ → ℕ) (xs : List (List ℕ)) → blocks_of (map (map f) xs) ≡ map (map f) (blocks_of xs)
 blocks_mapped f [] = refl
 blocks_mapped f (x ∷ xs) = λ j. take-map f 16 x j ∷ drop-map f 16 x j ∷ blocks_mapped f xs j
 
-key_long : (ws : List (List ℕ)) (r : ℕ) (s : List ℕ) → length (add_round_key ws r s) ≡ 16
+pub key_long : (ws : List (List ℕ)) (r : ℕ) (s : List ℕ) → length (add_round_key ws r s) ≡ 16
 unfolding add_round_key
 key_long ws r s = refl
 

@@ -1,6 +1,5 @@
 -- elements of the tower and the bytes for which they stand
 use Rattle.std.specs.Prelude.{◌≡◌, ℕ, ◌%◌, ◌<◌, List, [], ◌∷◌, map, slice_index, bit_xor, refl}
-use Rattle.std.specs.List.{range_with_len}
 use Rattle.std.proofs.Common.{sym, ◌∙◌, ap, arith, w8, Fits}
 use Rattle.std.specs.Int.Bits.{xor_assoc}
 use Rattle.std.proofs.lemmas.Nat.{xor_lt}
@@ -71,7 +70,7 @@ entered_byte x h = same_below (λ x. state_byte (halves_in INVERSE_LOW_TO_TOWER 
 
 -- ---- of each lane
 
-unmapped : (v : List ℕ) → map (λ x. x) v ≡ v
+pub unmapped : (v : List ℕ) → map (λ x. x) v ≡ v
 unmapped [] = refl
 unmapped (x ∷ v) = ap (λ t. x ∷ t) (unmapped v)
 

@@ -1,10 +1,9 @@
 -- eight blocks by rows and in pairs
-use Rattle.std.specs.Prelude.{◌≡◌, ℕ, List, [], ◌∷◌, ◌++◌, map, length, slice_index, refl}
-use Rattle.std.specs.List.{range_with_len}
+use Rattle.std.specs.Prelude.{◌≡◌, ℕ, List, [], ◌∷◌, map, length, refl}
 use Rattle.std_defs.specs.Aes.{inverse_shift_rows}
 use Rattle.aes_lanes.specs.Pairs.{blocks_of}
 use Rattle.aes_lanes.specs.Places.{lanes, by_rows, low_words, high_words, low_quads, high_quads, columns_on}
-use Rattle.aes_lanes.specs.Rows.{block_from, eight_blocks}
+use Rattle.aes_lanes.specs.Rows.{eight_blocks}
 use Rattle.aes_lanes.proofs.Halves.{of_places}
 
 -- what holds of all rows that are read place by place
@@ -12,7 +11,6 @@ pub of_four : (P : List ℕ → List ℕ → List ℕ → List ℕ → Type 0) �
     → (a b c d : List ℕ) → length a ≡ 32 → length b ≡ 32 → length c ≡ 32 → length d ≡ 32 → P a b c d
 of_four P h a b c d ha hb hc hd =
     of_places 32 (λ a. P a b c d) (λ w. of_places 32 (λ b. P (map w lanes) b c d) (λ x. of_places 32 (λ c. P (map w lanes) (map x lanes) c d) (λ y. of_places 32 (P (map w lanes) (map x lanes) (map y lanes)) (λ z. h w x y z) d hd) c hc) b hb) a ha
-
 
 abbrev pub crossed : List ℕ → List ℕ → List ℕ → List ℕ → List (List ℕ)
 crossed a b c d =

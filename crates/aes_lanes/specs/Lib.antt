@@ -7,3 +7,4 @@ pub mod Tower
 pub mod Places
 pub mod Rows
 pub mod RowKeys
+pub mod SealingTower

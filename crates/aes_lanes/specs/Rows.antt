@@ -3,6 +3,7 @@ use Rattle.std.specs.Prelude.{ℕ, ◌+◌, ◌*◌, ◌/◌, ◌%◌, List, [],
 use Rattle.std.specs.List.{range_with_len}
 use Rattle.std.specs.Simd.Lanes.{zip2}
 use Rattle.std_defs.specs.Aes.{places}
+use Rattle.aes_lanes.specs.SealingTower.{tower_byte}
 use Rattle.aes_lanes.specs.Tower.{state_byte, term_byte}
 use Rattle.aes_lanes.specs.declared.rows.Rows.{Rows}
 
@@ -26,3 +27,10 @@ term_blocks s = map (map term_byte) (blocks_in s)
 -- a row of terms, to whose bytes those of a row of a key are added, which lies in both halves
 abbrev pub with_key : List ℕ → List ℕ → List ℕ
 with_key row key = zip2 bit_xor (map term_byte row) (map state_byte (key ++ key))
+
+-- the same of elements of sealing
+abbrev pub tower_blocks : Rows → List (List ℕ)
+tower_blocks s = map (map tower_byte) (blocks_in s)
+
+abbrev pub with_sealing_key : List ℕ → List ℕ → List ℕ
+with_sealing_key row key = zip2 bit_xor (map tower_byte row) (map tower_byte (key ++ key))

@@ -1,5 +1,5 @@
 -- the bytes for which elements of the tower stand while blocks are unsealed
-use Rattle.std.specs.Prelude.{ℕ, List, [], ◌∷◌, bit_xor}
+use Rattle.std.specs.Prelude.{ℕ, [], ◌∷◌, bit_xor}
 use Rattle.aes_lanes.specs.Lookup.{look, low, high}
 
 -- the byte of a term: a sum of terms is one of the sum of their bytes

@@ -6,7 +6,7 @@ ghost use Rattle.std_defs.specs.Aes.{IsKeyLength};
 use crate::lane_schedule::LaneSchedule;
 use crate::pairs::{first_of, joined, paired, parted};
 use crate::round_keys::round_keys;
-use crate::row_keys::row_keys;
+use crate::row_keys::{sealing_keys, unsealing_keys};
 use aes_block::{BlockCipher, expand_key};
 use kc_base::Errno;
 use std::marker::Model;
@@ -41,7 +41,8 @@ impl LaneAes {
             schedule: LaneSchedule {
                 rounds: key.len() / 4 + 6,
                 keys,
-                row_keys: row_keys(&keys),
+                sealing_keys: sealing_keys(&keys),
+                unsealing_keys: unsealing_keys(&keys),
             },
         })
     }

@@ -6,7 +6,7 @@ ghost use Rattle.std_defs.specs.Aes.{seal, unseal, add_round_key, sub_bytes, shi
 ghost use Rattle.aes_block.specs.Schedule.{IsSchedule, is_schedule-prop};
 ghost use Rattle.aes_lanes.specs.Pairs.{each_half};
 ghost use Rattle.aes_lanes.specs.RoundKeys.{schedule_of, AreTwice};
-ghost use Rattle.aes_lanes.specs.RowKeys.{AreRowKeys};
+ghost use Rattle.aes_lanes.specs.RowKeys.{AreSealingKeys, AreUnsealingKeys};
 
 use crate::columns::{mixed, mixed_back, shifted, shifted_back};
 use crate::lookup::{inverse_substituted, substituted, sum};
@@ -14,15 +14,17 @@ use crate::round_keys::RoundKey;
 use crate::row_keys::RowKey;
 use std::simd::prelude::*;
 
-/// The key schedule of a key, with each round key twice in a vector, and as unsealing adds it to rows.
+/// The key schedule of a key, with each round key twice in a vector, and as it is added to rows.
 #[derive(Drop)]
 pub(crate) struct LaneSchedule {
     pub(crate) rounds: usize,
     pub(crate) keys: [RoundKey; 15],
-    pub(crate) row_keys: [RowKey; 15],
+    pub(crate) sealing_keys: [RowKey; 15],
+    pub(crate) unsealing_keys: [RowKey; 15],
     ghost scheduled: { IsSchedule rounds (schedule_of keys) } by { is_schedule-prop rounds (schedule_of keys) },
     ghost twice: { AreTwice keys },
-    ghost rows: { AreRowKeys keys row_keys },
+    ghost sealing: { AreSealingKeys keys sealing_keys },
+    ghost unsealing: { AreUnsealingKeys keys unsealing_keys },
 }
 
 /// A round of two blocks.
@@ -90,30 +92,5 @@ impl LaneSchedule {
             state = unsealed_round(state, self.keys[round].twice);
         }
         sum(state, self.keys[0].twice)
-    }
-
-    /// Seals eight blocks, two and two.
-    #[inline(always)]
-    pub(crate) fn seal_four(&self, x: [u8x32; 4]) -> [u8x32; 4]
-        ensures { result ≡ map (each_half (seal (lane_key self.now))) x }
-    {
-        let mut a = self.begun(x[0]);
-        let mut b = self.begun(x[1]);
-        let mut c = self.begun(x[2]);
-        let mut d = self.begun(x[3]);
-        for round in 1..self.rounds {
-            let key = self.keys[round].twice;
-            a = sealed_round(a, key);
-            b = sealed_round(b, key);
-            c = sealed_round(c, key);
-            d = sealed_round(d, key);
-        }
-        let key = self.keys[self.rounds].twice;
-        [
-            sealed_last(a, key),
-            sealed_last(b, key),
-            sealed_last(c, key),
-            sealed_last(d, key),
-        ]
     }
 }

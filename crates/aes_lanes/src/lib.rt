@@ -9,6 +9,9 @@ mod pairs;
 mod round_keys;
 mod row_keys;
 mod rows;
+mod sealing;
+mod sealing_rows;
+mod sealing_tower;
 #[cfg(test)]
 mod tests;
 mod tower;

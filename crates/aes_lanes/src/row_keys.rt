@@ -1,17 +1,19 @@
-//! Round keys as unsealing adds them to rows.
+//! Round keys as they are added to rows.
 
 ghost use Rattle.std.specs.Prelude.{◌≡◌, map};
 ghost use Rattle.std_defs.specs.Aes.{inverse_mix_columns};
 ghost use Rattle.aes_lanes.specs.Pairs.{each_half};
+ghost use Rattle.aes_lanes.specs.SealingTower.{tower_byte};
 ghost use Rattle.aes_lanes.specs.Tower.{state_byte};
-ghost use Rattle.aes_lanes.specs.RowKeys.{row_of, AreRowKeys};
+ghost use Rattle.aes_lanes.specs.RowKeys.{row_of, four_rows, bytes_by, less_constant, AreSealingKeys, AreUnsealingKeys};
 
 use crate::columns::mixed_back;
 use crate::round_keys::RoundKey;
+use crate::sealing_tower::in_sealing_tower;
 use crate::tower::in_tower;
 use std::simd::prelude::*;
 
-/// A round key after InvMixColumns, in the tower: each row of it, four times.
+/// A round key in the tower: each row of it, four times.
 #[derive(Clone, Copy)]
 pub(crate) struct RowKey {
     pub(crate) first: u8x16,
@@ -56,34 +58,64 @@ fn fourth_row(x: u8x32) -> u8x16
     x.swizzle(FOURTH)
 }
 
-/// The rows of a key that lies twice in a vector.
-pub(crate) fn row_key(key: u8x32) -> RowKey
-    ensures first { map state_byte result.first ≡ row_of 0 (each_half inverse_mix_columns key) }
-    ensures second { map state_byte result.second ≡ row_of 1 (each_half inverse_mix_columns key) }
-    ensures third { map state_byte result.third ≡ row_of 2 (each_half inverse_mix_columns key) }
-    ensures fourth { map state_byte result.fourth ≡ row_of 3 (each_half inverse_mix_columns key) }
+/// The rows of what lies at the front of a vector.
+#[inline(always)]
+fn rows_of_key(x: u8x32) -> RowKey
+    ensures first { result.first ≡ row_of 0 x }
+    ensures second { result.second ≡ row_of 1 x }
+    ensures third { result.third ≡ row_of 2 x }
+    ensures fourth { result.fourth ≡ row_of 3 x }
 {
-    let back = in_tower(mixed_back(key));
     RowKey {
-        first: first_row(back),
-        second: second_row(back),
-        third: third_row(back),
-        fourth: fourth_row(back),
+        first: first_row(x),
+        second: second_row(x),
+        third: third_row(x),
+        fourth: fourth_row(x),
     }
 }
 
-/// The rows of all round keys.
-pub(crate) fn row_keys(keys: &[RoundKey; 15]) -> [RowKey; 15]
-    ensures { AreRowKeys keys.now result }
+/// A key that lies twice in a vector, with the constant that the S-box adds.
+fn sealing_key(key: u8x32) -> RowKey
+    ensures { bytes_by tower_byte result ≡ four_rows (map less_constant key) }
 {
-    let mut rows = [RowKey {
-        first: u8x16::splat(0),
-        second: u8x16::splat(0),
-        third: u8x16::splat(0),
-        fourth: u8x16::splat(0),
-    }; 15];
+    rows_of_key(in_sealing_tower(key ^ u8x32::splat(0x63)))
+}
+
+/// A key that lies twice in a vector, after InvMixColumns.
+fn unsealing_key(key: u8x32) -> RowKey
+    ensures { bytes_by state_byte result ≡ four_rows (each_half inverse_mix_columns key) }
+{
+    rows_of_key(in_tower(mixed_back(key)))
+}
+
+fn no_keys() -> [RowKey; 15] {
+    let none = u8x16::splat(0);
+    [RowKey {
+        first: none,
+        second: none,
+        third: none,
+        fourth: none,
+    }; 15]
+}
+
+/// All round keys for sealing.
+pub(crate) fn sealing_keys(keys: &[RoundKey; 15]) -> [RowKey; 15]
+    ensures { AreSealingKeys keys.now result }
+{
+    let mut rows = no_keys();
     for round in 0..15usize {
-        rows[round] = row_key(keys[round].twice);
+        rows[round] = sealing_key(keys[round].twice);
+    }
+    rows
+}
+
+/// All round keys for unsealing.
+pub(crate) fn unsealing_keys(keys: &[RoundKey; 15]) -> [RowKey; 15]
+    ensures { AreUnsealingKeys keys.now result }
+{
+    let mut rows = no_keys();
+    for round in 0..15usize {
+        rows[round] = unsealing_key(keys[round].twice);
     }
     rows
 }

@@ -22,23 +22,50 @@ pub(crate) struct Rows {
 }
 
 /// The places of a block by rows, where it lies by columns.
-const GROUPED: [usize; 32] = [0, 4, 8, 12, 1, 5, 9, 13, 2, 6, 10, 14, 3, 7, 11, 15, 16, 20, 24, 28, 17, 21, 25, 29, 18, 22, 26, 30, 19, 23, 27, 31];
+const GROUPED: [usize; 32] = [
+    0, 4, 8, 12, 1, 5, 9, 13, 2, 6, 10, 14, 3, 7, 11, 15, 16, 20, 24, 28, 17, 21, 25, 29, 18, 22,
+    26, 30, 19, 23, 27, 31,
+];
 
-const LOW_WORDS: [usize; 32] = [0, 1, 2, 3, 32, 33, 34, 35, 4, 5, 6, 7, 36, 37, 38, 39, 16, 17, 18, 19, 48, 49, 50, 51, 20, 21, 22, 23, 52, 53, 54, 55];
+const LOW_WORDS: [usize; 32] = [
+    0, 1, 2, 3, 32, 33, 34, 35, 4, 5, 6, 7, 36, 37, 38, 39, 16, 17, 18, 19, 48, 49, 50, 51, 20, 21,
+    22, 23, 52, 53, 54, 55,
+];
 
-const HIGH_WORDS: [usize; 32] = [8, 9, 10, 11, 40, 41, 42, 43, 12, 13, 14, 15, 44, 45, 46, 47, 24, 25, 26, 27, 56, 57, 58, 59, 28, 29, 30, 31, 60, 61, 62, 63];
+const HIGH_WORDS: [usize; 32] = [
+    8, 9, 10, 11, 40, 41, 42, 43, 12, 13, 14, 15, 44, 45, 46, 47, 24, 25, 26, 27, 56, 57, 58, 59,
+    28, 29, 30, 31, 60, 61, 62, 63,
+];
 
-const LOW_QUADS: [usize; 32] = [0, 1, 2, 3, 4, 5, 6, 7, 32, 33, 34, 35, 36, 37, 38, 39, 16, 17, 18, 19, 20, 21, 22, 23, 48, 49, 50, 51, 52, 53, 54, 55];
+const LOW_QUADS: [usize; 32] = [
+    0, 1, 2, 3, 4, 5, 6, 7, 32, 33, 34, 35, 36, 37, 38, 39, 16, 17, 18, 19, 20, 21, 22, 23, 48, 49,
+    50, 51, 52, 53, 54, 55,
+];
 
-const HIGH_QUADS: [usize; 32] = [8, 9, 10, 11, 12, 13, 14, 15, 40, 41, 42, 43, 44, 45, 46, 47, 24, 25, 26, 27, 28, 29, 30, 31, 56, 57, 58, 59, 60, 61, 62, 63];
+const HIGH_QUADS: [usize; 32] = [
+    8, 9, 10, 11, 12, 13, 14, 15, 40, 41, 42, 43, 44, 45, 46, 47, 24, 25, 26, 27, 28, 29, 30, 31,
+    56, 57, 58, 59, 60, 61, 62, 63,
+];
 
-const ONE_COLUMN: [usize; 32] = [1, 2, 3, 0, 5, 6, 7, 4, 9, 10, 11, 8, 13, 14, 15, 12, 17, 18, 19, 16, 21, 22, 23, 20, 25, 26, 27, 24, 29, 30, 31, 28];
+const ONE_COLUMN: [usize; 32] = [
+    1, 2, 3, 0, 5, 6, 7, 4, 9, 10, 11, 8, 13, 14, 15, 12, 17, 18, 19, 16, 21, 22, 23, 20, 25, 26,
+    27, 24, 29, 30, 31, 28,
+];
 
-const TWO_COLUMNS: [usize; 32] = [2, 3, 0, 1, 6, 7, 4, 5, 10, 11, 8, 9, 14, 15, 12, 13, 18, 19, 16, 17, 22, 23, 20, 21, 26, 27, 24, 25, 30, 31, 28, 29];
+const TWO_COLUMNS: [usize; 32] = [
+    2, 3, 0, 1, 6, 7, 4, 5, 10, 11, 8, 9, 14, 15, 12, 13, 18, 19, 16, 17, 22, 23, 20, 21, 26, 27,
+    24, 25, 30, 31, 28, 29,
+];
 
-const THREE_COLUMNS: [usize; 32] = [3, 0, 1, 2, 7, 4, 5, 6, 11, 8, 9, 10, 15, 12, 13, 14, 19, 16, 17, 18, 23, 20, 21, 22, 27, 24, 25, 26, 31, 28, 29, 30];
+const THREE_COLUMNS: [usize; 32] = [
+    3, 0, 1, 2, 7, 4, 5, 6, 11, 8, 9, 10, 15, 12, 13, 14, 19, 16, 17, 18, 23, 20, 21, 22, 27, 24,
+    25, 26, 31, 28, 29, 30,
+];
 
-const BOTH_HALVES: [usize; 32] = [0, 1, 2, 3, 4, 5, 6, 7, 8, 9, 10, 11, 12, 13, 14, 15, 0, 1, 2, 3, 4, 5, 6, 7, 8, 9, 10, 11, 12, 13, 14, 15];
+const BOTH_HALVES: [usize; 32] = [
+    0, 1, 2, 3, 4, 5, 6, 7, 8, 9, 10, 11, 12, 13, 14, 15, 0, 1, 2, 3, 4, 5, 6, 7, 8, 9, 10, 11, 12,
+    13, 14, 15,
+];
 
 /// Both blocks by rows, where they lie by columns; or by columns, where they lie by rows.
 #[inline(always)]
@@ -125,21 +152,21 @@ pub(crate) fn pairs_of(s: Rows) -> [u8x32; 4]
 }
 
 #[inline(always)]
-fn one_column_on(x: u8x32) -> u8x32
+pub(crate) fn one_column_on(x: u8x32) -> u8x32
     ensures { result ≡ columns_on 1 x }
 {
     x.swizzle(ONE_COLUMN)
 }
 
 #[inline(always)]
-fn two_columns_on(x: u8x32) -> u8x32
+pub(crate) fn two_columns_on(x: u8x32) -> u8x32
     ensures { result ≡ columns_on 2 x }
 {
     x.swizzle(TWO_COLUMNS)
 }
 
 #[inline(always)]
-fn three_columns_on(x: u8x32) -> u8x32
+pub(crate) fn three_columns_on(x: u8x32) -> u8x32
     ensures { result ≡ columns_on 3 x }
 {
     x.swizzle(THREE_COLUMNS)
@@ -205,7 +232,7 @@ pub(crate) fn mixed_back(a: u8x32, b: u8x32, c: u8x32, d: u8x32) -> Rows
 
 /// A row of a key in both halves.
 #[inline(always)]
-fn in_both(x: u8x16) -> u8x32
+pub(crate) fn in_both(x: u8x16) -> u8x32
     ensures { result ≡ x ++ x }
 {
     x.swizzle(BOTH_HALVES)

@@ -42,7 +42,7 @@ const HIGH_FOUR_TIMES: [u8; 16] = [
 
 /// The sum of the entries for both halves of each lane.
 #[inline(always)]
-fn by_halves(lows: [u8; 16], highs: [u8; 16], x: u8x32) -> u8x32
+pub(crate) fn by_halves(lows: [u8; 16], highs: [u8; 16], x: u8x32) -> u8x32
     requires low { length lows ≡ 16 }
     requires high { length highs ≡ 16 }
     ensures { result ≡ map (λ x. bit_xor (look lows (low x)) (look highs (high x))) x }
@@ -54,7 +54,7 @@ fn by_halves(lows: [u8; 16], highs: [u8; 16], x: u8x32) -> u8x32
 
 /// The sum of the entries for both parts of each lane's inverse.
 #[inline(always)]
-fn by_parts(firsts: [u8; 16], seconds: [u8; 16], y: u8x32) -> u8x32
+pub(crate) fn by_parts(firsts: [u8; 16], seconds: [u8; 16], y: u8x32) -> u8x32
     requires first { length firsts ≡ 16 }
     requires second { length seconds ≡ 16 }
     ensures { result ≡ map (λ y. bit_xor (look firsts (first_part y)) (look seconds (second_part y))) y }

@@ -32,7 +32,7 @@ impl LaneSchedule {
     {
         let t = all_undone(shifted_back(s));
         let u = mixed_back(t.first, t.second, t.third, t.fourth);
-        key_added(u, self.row_keys[round])
+        key_added(u, self.unsealing_keys[round])
     }
 
     /// Two blocks after the inverse S-box, and the first round key added.

@@ -1,4 +1,4 @@
-use Rattle.std.specs.Prelude.{◌≡◌, [], ◌∷◌, map}
+use Rattle.std.specs.Prelude.{[], ◌∷◌}
 use Rattle.std.proofs.Common.{◌∙◌, sym, arith}
 use Rattle.std_defs.specs.Aes.{inverse_sbox}
 use Rattle.aes_lanes.specs.Tower.{state_byte, term_byte}

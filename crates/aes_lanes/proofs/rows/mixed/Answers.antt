@@ -1,7 +1,6 @@
-use Rattle.std.specs.Prelude.{◌≡◌, [], ◌∷◌, ℕ, List, map, bit_xor}
-use Rattle.std.proofs.Common.{◌∙◌, sym, ap, ap₂, arith}
-use lib.Lanes.{zip2}
-use Rattle.std_defs.specs.Aes.{mul8, mix_columns}
+use Rattle.std.specs.Prelude.{◌≡◌, [], ◌∷◌, ℕ, List, map}
+use Rattle.std.proofs.Common.{◌∙◌, sym, ap, arith}
+use Rattle.std_defs.specs.Aes.{mix_columns}
 use Rattle.aes_lanes.specs.Tower.{term_byte}
 use Rattle.aes_lanes.specs.Rows.{eight_blocks}
 use Rattle.aes_lanes.proofs.Transposed.{mapped_blocks}

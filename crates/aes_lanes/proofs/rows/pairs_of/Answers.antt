@@ -1,4 +1,4 @@
-use Rattle.std.specs.Prelude.{◌≡◌, [], ◌∷◌, map}
+use Rattle.std.specs.Prelude.{[], ◌∷◌, map}
 use Rattle.std.proofs.Common.{◌∙◌, arith}
 use Rattle.aes_lanes.specs.Pairs.{blocks_of}
 use Rattle.aes_lanes.specs.Places.{by_rows}

@@ -1,6 +1,5 @@
-use Rattle.std.specs.Prelude.{◌≡◌, [], ◌∷◌, ◌++◌}
+use Rattle.std.specs.Prelude.{[], ◌∷◌}
 use Rattle.std.proofs.Common.{◌∙◌}
-use Rattle.aes_lanes.specs.Places.{low_words, high_words, low_quads, high_quads}
 use Rattle.aes_lanes.specs.Rows.{eight_blocks}
 use Rattle.aes_lanes.proofs.Transposed.{crossed, rows_of_pairs}
 use Rattle.aes_lanes.proofs.rows.rows_of.Goals as goal

@@ -1,4 +1,4 @@
-use Rattle.std.specs.Prelude.{◌≡◌, [], ◌∷◌, map}
+use Rattle.std.specs.Prelude.{[], ◌∷◌, map}
 use Rattle.std.proofs.Common.{arith, ◌∙◌}
 use Rattle.aes_lanes.specs.Tower.{state_byte}
 use Rattle.aes_lanes.specs.Rows.{eight_blocks}

@@ -1,5 +1,5 @@
 use Rattle.std.specs.Prelude.{[]}
-use Rattle.std.proofs.Common.{arith, ap, ◌∙◌}
+use Rattle.std.proofs.Common.{arith, ◌∙◌}
 use Rattle.aes_lanes.specs.RoundKeys.{schedule_of}
 use Rattle.aes_block.proofs.Rounds.{at_most_fourteen}
 use Rattle.aes_lanes.proofs.KeyVectors.{vector_at}
