@@ -5,8 +5,9 @@ ghost use Rattle.std.specs.Prelude.{◌≡◌};
 ghost use Rattle.std_defs.specs.Aes.{sbox, inverse_sbox};
 ghost use Rattle.aes_table.specs.Words.{bytes_of, times};
 
-/// The S-box of the byte in row 0, times its column of MixColumns.
-static FIRST: [u32; 256] = [
+/// The S-box of a byte, times its column of MixColumns: the byte in row 0, then in rows 1, 2 and 3, with 256 entries each. One table
+/// leaves the processor's registers to the columns.
+static SEALING: [u32; 1024] = [
     0xa56363c6, 0x847c7cf8, 0x997777ee, 0x8d7b7bf6, 0x0df2f2ff, 0xbd6b6bd6, 0xb16f6fde, 0x54c5c591,
     0x50303060, 0x03010102, 0xa96767ce, 0x7d2b2b56, 0x19fefee7, 0x62d7d7b5, 0xe6abab4d, 0x9a7676ec,
     0x45caca8f, 0x9d82821f, 0x40c9c989, 0x877d7dfa, 0x15fafaef, 0xeb5959b2, 0xc947478e, 0x0bf0f0fb,
@@ -39,10 +40,6 @@ static FIRST: [u32; 256] = [
     0xb69b9b2d, 0x221e1e3c, 0x92878715, 0x20e9e9c9, 0x49cece87, 0xff5555aa, 0x78282850, 0x7adfdfa5,
     0x8f8c8c03, 0xf8a1a159, 0x80898909, 0x170d0d1a, 0xdabfbf65, 0x31e6e6d7, 0xc6424284, 0xb86868d0,
     0xc3414182, 0xb0999929, 0x772d2d5a, 0x110f0f1e, 0xcbb0b07b, 0xfc5454a8, 0xd6bbbb6d, 0x3a16162c,
-];
-
-/// The S-box of the byte in row 1, times its column of MixColumns.
-static SECOND: [u32; 256] = [
     0x6363c6a5, 0x7c7cf884, 0x7777ee99, 0x7b7bf68d, 0xf2f2ff0d, 0x6b6bd6bd, 0x6f6fdeb1, 0xc5c59154,
     0x30306050, 0x01010203, 0x6767cea9, 0x2b2b567d, 0xfefee719, 0xd7d7b562, 0xabab4de6, 0x7676ec9a,
     0xcaca8f45, 0x82821f9d, 0xc9c98940, 0x7d7dfa87, 0xfafaef15, 0x5959b2eb, 0x47478ec9, 0xf0f0fb0b,
@@ -75,10 +72,6 @@ static SECOND: [u32; 256] = [
     0x9b9b2db6, 0x1e1e3c22, 0x87871592, 0xe9e9c920, 0xcece8749, 0x5555aaff, 0x28285078, 0xdfdfa57a,
     0x8c8c038f, 0xa1a159f8, 0x89890980, 0x0d0d1a17, 0xbfbf65da, 0xe6e6d731, 0x424284c6, 0x6868d0b8,
     0x414182c3, 0x999929b0, 0x2d2d5a77, 0x0f0f1e11, 0xb0b07bcb, 0x5454a8fc, 0xbbbb6dd6, 0x16162c3a,
-];
-
-/// The S-box of the byte in row 2, times its column of MixColumns.
-static THIRD: [u32; 256] = [
     0x63c6a563, 0x7cf8847c, 0x77ee9977, 0x7bf68d7b, 0xf2ff0df2, 0x6bd6bd6b, 0x6fdeb16f, 0xc59154c5,
     0x30605030, 0x01020301, 0x67cea967, 0x2b567d2b, 0xfee719fe, 0xd7b562d7, 0xab4de6ab, 0x76ec9a76,
     0xca8f45ca, 0x821f9d82, 0xc98940c9, 0x7dfa877d, 0xfaef15fa, 0x59b2eb59, 0x478ec947, 0xf0fb0bf0,
@@ -111,10 +104,6 @@ static THIRD: [u32; 256] = [
     0x9b2db69b, 0x1e3c221e, 0x87159287, 0xe9c920e9, 0xce8749ce, 0x55aaff55, 0x28507828, 0xdfa57adf,
     0x8c038f8c, 0xa159f8a1, 0x89098089, 0x0d1a170d, 0xbf65dabf, 0xe6d731e6, 0x4284c642, 0x68d0b868,
     0x4182c341, 0x9929b099, 0x2d5a772d, 0x0f1e110f, 0xb07bcbb0, 0x54a8fc54, 0xbb6dd6bb, 0x162c3a16,
-];
-
-/// The S-box of the byte in row 3, times its column of MixColumns.
-static FOURTH: [u32; 256] = [
     0xc6a56363, 0xf8847c7c, 0xee997777, 0xf68d7b7b, 0xff0df2f2, 0xd6bd6b6b, 0xdeb16f6f, 0x9154c5c5,
     0x60503030, 0x02030101, 0xcea96767, 0x567d2b2b, 0xe719fefe, 0xb562d7d7, 0x4de6abab, 0xec9a7676,
     0x8f45caca, 0x1f9d8282, 0x8940c9c9, 0xfa877d7d, 0xef15fafa, 0xb2eb5959, 0x8ec94747, 0xfb0bf0f0,
@@ -149,8 +138,8 @@ static FOURTH: [u32; 256] = [
     0x82c34141, 0x29b09999, 0x5a772d2d, 0x1e110f0f, 0x7bcbb0b0, 0xa8fc5454, 0x6dd6bbbb, 0x2c3a1616,
 ];
 
-/// The inverse S-box of the byte in row 0, times its column of InvMixColumns.
-static BACK_FIRST: [u32; 256] = [
+/// The inverse S-box of a byte, times its column of InvMixColumns, in the same order.
+static UNSEALING: [u32; 1024] = [
     0x50a7f451, 0x5365417e, 0xc3a4171a, 0x965e273a, 0xcb6bab3b, 0xf1459d1f, 0xab58faac, 0x9303e34b,
     0x55fa3020, 0xf66d76ad, 0x9176cc88, 0x254c02f5, 0xfcd7e54f, 0xd7cb2ac5, 0x80443526, 0x8fa362b5,
     0x495ab1de, 0x671bba25, 0x980eea45, 0xe1c0fe5d, 0x02752fc3, 0x12f04c81, 0xa397468d, 0xc6f9d36b,
@@ -183,10 +172,6 @@ static BACK_FIRST: [u32; 256] = [
     0x59dfd29c, 0x3f73f255, 0x79ce1418, 0xbf37c773, 0xeacdf753, 0x5baafd5f, 0x146f3ddf, 0x86db4478,
     0x81f3afca, 0x3ec468b9, 0x2c342438, 0x5f40a3c2, 0x72c31d16, 0x0c25e2bc, 0x8b493c28, 0x41950dff,
     0x7101a839, 0xdeb30c08, 0x9ce4b4d8, 0x90c15664, 0x6184cb7b, 0x70b632d5, 0x745c6c48, 0x4257b8d0,
-];
-
-/// The inverse S-box of the byte in row 1, times its column of InvMixColumns.
-static BACK_SECOND: [u32; 256] = [
     0xa7f45150, 0x65417e53, 0xa4171ac3, 0x5e273a96, 0x6bab3bcb, 0x459d1ff1, 0x58faacab, 0x03e34b93,
     0xfa302055, 0x6d76adf6, 0x76cc8891, 0x4c02f525, 0xd7e54ffc, 0xcb2ac5d7, 0x44352680, 0xa362b58f,
     0x5ab1de49, 0x1bba2567, 0x0eea4598, 0xc0fe5de1, 0x752fc302, 0xf04c8112, 0x97468da3, 0xf9d36bc6,
@@ -219,10 +204,6 @@ static BACK_SECOND: [u32; 256] = [
     0xdfd29c59, 0x73f2553f, 0xce141879, 0x37c773bf, 0xcdf753ea, 0xaafd5f5b, 0x6f3ddf14, 0xdb447886,
     0xf3afca81, 0xc468b93e, 0x3424382c, 0x40a3c25f, 0xc31d1672, 0x25e2bc0c, 0x493c288b, 0x950dff41,
     0x01a83971, 0xb30c08de, 0xe4b4d89c, 0xc1566490, 0x84cb7b61, 0xb632d570, 0x5c6c4874, 0x57b8d042,
-];
-
-/// The inverse S-box of the byte in row 2, times its column of InvMixColumns.
-static BACK_THIRD: [u32; 256] = [
     0xf45150a7, 0x417e5365, 0x171ac3a4, 0x273a965e, 0xab3bcb6b, 0x9d1ff145, 0xfaacab58, 0xe34b9303,
     0x302055fa, 0x76adf66d, 0xcc889176, 0x02f5254c, 0xe54ffcd7, 0x2ac5d7cb, 0x35268044, 0x62b58fa3,
     0xb1de495a, 0xba25671b, 0xea45980e, 0xfe5de1c0, 0x2fc30275, 0x4c8112f0, 0x468da397, 0xd36bc6f9,
@@ -255,10 +236,6 @@ static BACK_THIRD: [u32; 256] = [
     0xd29c59df, 0xf2553f73, 0x141879ce, 0xc773bf37, 0xf753eacd, 0xfd5f5baa, 0x3ddf146f, 0x447886db,
     0xafca81f3, 0x68b93ec4, 0x24382c34, 0xa3c25f40, 0x1d1672c3, 0xe2bc0c25, 0x3c288b49, 0x0dff4195,
     0xa8397101, 0x0c08deb3, 0xb4d89ce4, 0x566490c1, 0xcb7b6184, 0x32d570b6, 0x6c48745c, 0xb8d04257,
-];
-
-/// The inverse S-box of the byte in row 3, times its column of InvMixColumns.
-static BACK_FOURTH: [u32; 256] = [
     0x5150a7f4, 0x7e536541, 0x1ac3a417, 0x3a965e27, 0x3bcb6bab, 0x1ff1459d, 0xacab58fa, 0x4b9303e3,
     0x2055fa30, 0xadf66d76, 0x889176cc, 0xf5254c02, 0x4ffcd7e5, 0xc5d7cb2a, 0x26804435, 0xb58fa362,
     0xde495ab1, 0x25671bba, 0x45980eea, 0x5de1c0fe, 0xc302752f, 0x8112f04c, 0x8da39746, 0x6bc6f9d3,
@@ -298,7 +275,7 @@ static BACK_FOURTH: [u32; 256] = [
 pub(crate) fn first(byte: u8) -> u32
     ensures { bytes_of result ≡ times 2 1 1 3 (sbox byte) }
 {
-    FIRST[byte as usize]
+    SEALING[byte as usize]
 }
 
 /// The column that the S-box of a byte in row 1 adds.
@@ -306,7 +283,7 @@ pub(crate) fn first(byte: u8) -> u32
 pub(crate) fn second(byte: u8) -> u32
     ensures { bytes_of result ≡ times 3 2 1 1 (sbox byte) }
 {
-    SECOND[byte as usize]
+    SEALING[256 + byte as usize]
 }
 
 /// The column that the S-box of a byte in row 2 adds.
@@ -314,7 +291,7 @@ pub(crate) fn second(byte: u8) -> u32
 pub(crate) fn third(byte: u8) -> u32
     ensures { bytes_of result ≡ times 1 3 2 1 (sbox byte) }
 {
-    THIRD[byte as usize]
+    SEALING[512 + byte as usize]
 }
 
 /// The column that the S-box of a byte in row 3 adds.
@@ -322,7 +299,7 @@ pub(crate) fn third(byte: u8) -> u32
 pub(crate) fn fourth(byte: u8) -> u32
     ensures { bytes_of result ≡ times 1 1 3 2 (sbox byte) }
 {
-    FOURTH[byte as usize]
+    SEALING[768 + byte as usize]
 }
 
 /// The column that the inverse S-box of a byte in row 0 adds.
@@ -330,7 +307,7 @@ pub(crate) fn fourth(byte: u8) -> u32
 pub(crate) fn back_first(byte: u8) -> u32
     ensures { bytes_of result ≡ times 14 9 13 11 (inverse_sbox byte) }
 {
-    BACK_FIRST[byte as usize]
+    UNSEALING[byte as usize]
 }
 
 /// The column that the inverse S-box of a byte in row 1 adds.
@@ -338,7 +315,7 @@ pub(crate) fn back_first(byte: u8) -> u32
 pub(crate) fn back_second(byte: u8) -> u32
     ensures { bytes_of result ≡ times 11 14 9 13 (inverse_sbox byte) }
 {
-    BACK_SECOND[byte as usize]
+    UNSEALING[256 + byte as usize]
 }
 
 /// The column that the inverse S-box of a byte in row 2 adds.
@@ -346,7 +323,7 @@ pub(crate) fn back_second(byte: u8) -> u32
 pub(crate) fn back_third(byte: u8) -> u32
     ensures { bytes_of result ≡ times 13 11 14 9 (inverse_sbox byte) }
 {
-    BACK_THIRD[byte as usize]
+    UNSEALING[512 + byte as usize]
 }
 
 /// The column that the inverse S-box of a byte in row 3 adds.
@@ -354,5 +331,5 @@ pub(crate) fn back_third(byte: u8) -> u32
 pub(crate) fn back_fourth(byte: u8) -> u32
     ensures { bytes_of result ≡ times 9 13 11 14 (inverse_sbox byte) }
 {
-    BACK_FOURTH[byte as usize]
+    UNSEALING[768 + byte as usize]
 }
