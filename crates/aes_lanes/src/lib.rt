@@ -1,4 +1,4 @@
-//! AES by vectors of 32 bytes: two blocks side by side in each, and eight blocks in four of them.
+//! AES by vectors of 32 bytes: eight blocks by their rows in four of them, or one block, twice, in one.
 #![tactic(auto)]
 
 mod columns;
