@@ -8,7 +8,7 @@ use Rattle.std_defs.specs.Aes.{product, remainder, mul8, sbox, inverse_sbox, xor
 use Rattle.std_defs.proofs.Enumerate.{same_below}
 use Rattle.std_defs.proofs.Tables.{sbox_table, inverse_sbox_table, sbox_at, inverse_sbox_at}
 use Rattle.aes_table.specs.Words.{bytes_of, times}
-use Rattle.aes_table.specs.declared.tables.TheConstants.{SEALING, UNSEALING}
+use Rattle.aes_table.specs.declared.tables.TheConstants.{SEALING, BACK_FIRST, BACK_SECOND, BACK_THIRD, BACK_FOURTH}
 
 byte_of_sum : (a b k : ℕ) → bit_xor a b / 2 ^ k % 2 ^ 8 ≡ bit_xor (a / 2 ^ k % 2 ^ 8) (b / 2 ^ k % 2 ^ 8)
 byte_of_sum a b k = ap (λ (t : ℕ). t % 2 ^ 8) (xor_shr a b k) ∙ xor_mod (a / 2 ^ k) (b / 2 ^ k) 8
@@ -68,28 +68,28 @@ fourth_entry x h =
     same_below (λ x. bytes_of (slice_index SEALING (768 + x))) (λ x. times 1 1 3 2 (slice_index sbox_table x)) 256 refl x h
     ∙ ap (times 1 1 3 2) (sym (sbox_at x h))
 
-pub back_first_entry : (x : ℕ) → x < 256 → bytes_of (slice_index UNSEALING x) ≡ times 14 9 13 11 (inverse_sbox x)
+pub back_first_entry : (x : ℕ) → x < 256 → bytes_of (slice_index BACK_FIRST x) ≡ times 14 9 13 11 (inverse_sbox x)
 unfolding product remainder mul8 inverse_sbox_table
 back_first_entry x h =
-    same_below (λ x. bytes_of (slice_index UNSEALING x)) (λ x. times 14 9 13 11 (slice_index inverse_sbox_table x)) 256 refl x h
+    same_below (λ x. bytes_of (slice_index BACK_FIRST x)) (λ x. times 14 9 13 11 (slice_index inverse_sbox_table x)) 256 refl x h
     ∙ ap (times 14 9 13 11) (sym (inverse_sbox_at x h))
 
-pub back_second_entry : (x : ℕ) → x < 256 → bytes_of (slice_index UNSEALING (256 + x)) ≡ times 11 14 9 13 (inverse_sbox x)
+pub back_second_entry : (x : ℕ) → x < 256 → bytes_of (slice_index BACK_SECOND x) ≡ times 11 14 9 13 (inverse_sbox x)
 unfolding product remainder mul8 inverse_sbox_table
 back_second_entry x h =
-    same_below (λ x. bytes_of (slice_index UNSEALING (256 + x))) (λ x. times 11 14 9 13 (slice_index inverse_sbox_table x)) 256 refl x h
+    same_below (λ x. bytes_of (slice_index BACK_SECOND x)) (λ x. times 11 14 9 13 (slice_index inverse_sbox_table x)) 256 refl x h
     ∙ ap (times 11 14 9 13) (sym (inverse_sbox_at x h))
 
-pub back_third_entry : (x : ℕ) → x < 256 → bytes_of (slice_index UNSEALING (512 + x)) ≡ times 13 11 14 9 (inverse_sbox x)
+pub back_third_entry : (x : ℕ) → x < 256 → bytes_of (slice_index BACK_THIRD x) ≡ times 13 11 14 9 (inverse_sbox x)
 unfolding product remainder mul8 inverse_sbox_table
 back_third_entry x h =
-    same_below (λ x. bytes_of (slice_index UNSEALING (512 + x))) (λ x. times 13 11 14 9 (slice_index inverse_sbox_table x)) 256 refl x h
+    same_below (λ x. bytes_of (slice_index BACK_THIRD x)) (λ x. times 13 11 14 9 (slice_index inverse_sbox_table x)) 256 refl x h
     ∙ ap (times 13 11 14 9) (sym (inverse_sbox_at x h))
 
-pub back_fourth_entry : (x : ℕ) → x < 256 → bytes_of (slice_index UNSEALING (768 + x)) ≡ times 9 13 11 14 (inverse_sbox x)
+pub back_fourth_entry : (x : ℕ) → x < 256 → bytes_of (slice_index BACK_FOURTH x) ≡ times 9 13 11 14 (inverse_sbox x)
 unfolding product remainder mul8 inverse_sbox_table
 back_fourth_entry x h =
-    same_below (λ x. bytes_of (slice_index UNSEALING (768 + x))) (λ x. times 9 13 11 14 (slice_index inverse_sbox_table x)) 256 refl x h
+    same_below (λ x. bytes_of (slice_index BACK_FOURTH x)) (λ x. times 9 13 11 14 (slice_index inverse_sbox_table x)) 256 refl x h
     ∙ ap (times 9 13 11 14) (sym (inverse_sbox_at x h))
 
 pub times_one : (x : ℕ) → x < 256 → mul8 1 x ≡ x

@@ -138,8 +138,8 @@ static SEALING: [u32; 1024] = [
     0x82c34141, 0x29b09999, 0x5a772d2d, 0x1e110f0f, 0x7bcbb0b0, 0xa8fc5454, 0x6dd6bbbb, 0x2c3a1616,
 ];
 
-/// The inverse S-box of a byte, times its column of InvMixColumns, in the same order.
-static UNSEALING: [u32; 1024] = [
+/// The inverse S-box of the byte in row 0, times its column of InvMixColumns.
+static BACK_FIRST: [u32; 256] = [
     0x50a7f451, 0x5365417e, 0xc3a4171a, 0x965e273a, 0xcb6bab3b, 0xf1459d1f, 0xab58faac, 0x9303e34b,
     0x55fa3020, 0xf66d76ad, 0x9176cc88, 0x254c02f5, 0xfcd7e54f, 0xd7cb2ac5, 0x80443526, 0x8fa362b5,
     0x495ab1de, 0x671bba25, 0x980eea45, 0xe1c0fe5d, 0x02752fc3, 0x12f04c81, 0xa397468d, 0xc6f9d36b,
@@ -172,6 +172,10 @@ static UNSEALING: [u32; 1024] = [
     0x59dfd29c, 0x3f73f255, 0x79ce1418, 0xbf37c773, 0xeacdf753, 0x5baafd5f, 0x146f3ddf, 0x86db4478,
     0x81f3afca, 0x3ec468b9, 0x2c342438, 0x5f40a3c2, 0x72c31d16, 0x0c25e2bc, 0x8b493c28, 0x41950dff,
     0x7101a839, 0xdeb30c08, 0x9ce4b4d8, 0x90c15664, 0x6184cb7b, 0x70b632d5, 0x745c6c48, 0x4257b8d0,
+];
+
+/// The inverse S-box of the byte in row 1, times its column of InvMixColumns.
+static BACK_SECOND: [u32; 256] = [
     0xa7f45150, 0x65417e53, 0xa4171ac3, 0x5e273a96, 0x6bab3bcb, 0x459d1ff1, 0x58faacab, 0x03e34b93,
     0xfa302055, 0x6d76adf6, 0x76cc8891, 0x4c02f525, 0xd7e54ffc, 0xcb2ac5d7, 0x44352680, 0xa362b58f,
     0x5ab1de49, 0x1bba2567, 0x0eea4598, 0xc0fe5de1, 0x752fc302, 0xf04c8112, 0x97468da3, 0xf9d36bc6,
@@ -204,6 +208,10 @@ static UNSEALING: [u32; 1024] = [
     0xdfd29c59, 0x73f2553f, 0xce141879, 0x37c773bf, 0xcdf753ea, 0xaafd5f5b, 0x6f3ddf14, 0xdb447886,
     0xf3afca81, 0xc468b93e, 0x3424382c, 0x40a3c25f, 0xc31d1672, 0x25e2bc0c, 0x493c288b, 0x950dff41,
     0x01a83971, 0xb30c08de, 0xe4b4d89c, 0xc1566490, 0x84cb7b61, 0xb632d570, 0x5c6c4874, 0x57b8d042,
+];
+
+/// The inverse S-box of the byte in row 2, times its column of InvMixColumns.
+static BACK_THIRD: [u32; 256] = [
     0xf45150a7, 0x417e5365, 0x171ac3a4, 0x273a965e, 0xab3bcb6b, 0x9d1ff145, 0xfaacab58, 0xe34b9303,
     0x302055fa, 0x76adf66d, 0xcc889176, 0x02f5254c, 0xe54ffcd7, 0x2ac5d7cb, 0x35268044, 0x62b58fa3,
     0xb1de495a, 0xba25671b, 0xea45980e, 0xfe5de1c0, 0x2fc30275, 0x4c8112f0, 0x468da397, 0xd36bc6f9,
@@ -236,6 +244,10 @@ static UNSEALING: [u32; 1024] = [
     0xd29c59df, 0xf2553f73, 0x141879ce, 0xc773bf37, 0xf753eacd, 0xfd5f5baa, 0x3ddf146f, 0x447886db,
     0xafca81f3, 0x68b93ec4, 0x24382c34, 0xa3c25f40, 0x1d1672c3, 0xe2bc0c25, 0x3c288b49, 0x0dff4195,
     0xa8397101, 0x0c08deb3, 0xb4d89ce4, 0x566490c1, 0xcb7b6184, 0x32d570b6, 0x6c48745c, 0xb8d04257,
+];
+
+/// The inverse S-box of the byte in row 3, times its column of InvMixColumns.
+static BACK_FOURTH: [u32; 256] = [
     0x5150a7f4, 0x7e536541, 0x1ac3a417, 0x3a965e27, 0x3bcb6bab, 0x1ff1459d, 0xacab58fa, 0x4b9303e3,
     0x2055fa30, 0xadf66d76, 0x889176cc, 0xf5254c02, 0x4ffcd7e5, 0xc5d7cb2a, 0x26804435, 0xb58fa362,
     0xde495ab1, 0x25671bba, 0x45980eea, 0x5de1c0fe, 0xc302752f, 0x8112f04c, 0x8da39746, 0x6bc6f9d3,
@@ -307,7 +319,7 @@ pub(crate) fn fourth(byte: u8) -> u32
 pub(crate) fn back_first(byte: u8) -> u32
     ensures { bytes_of result ≡ times 14 9 13 11 (inverse_sbox byte) }
 {
-    UNSEALING[byte as usize]
+    BACK_FIRST[byte as usize]
 }
 
 /// The column that the inverse S-box of a byte in row 1 adds.
@@ -315,7 +327,7 @@ pub(crate) fn back_first(byte: u8) -> u32
 pub(crate) fn back_second(byte: u8) -> u32
     ensures { bytes_of result ≡ times 11 14 9 13 (inverse_sbox byte) }
 {
-    UNSEALING[256 + byte as usize]
+    BACK_SECOND[byte as usize]
 }
 
 /// The column that the inverse S-box of a byte in row 2 adds.
@@ -323,7 +335,7 @@ pub(crate) fn back_second(byte: u8) -> u32
 pub(crate) fn back_third(byte: u8) -> u32
     ensures { bytes_of result ≡ times 13 11 14 9 (inverse_sbox byte) }
 {
-    UNSEALING[512 + byte as usize]
+    BACK_THIRD[byte as usize]
 }
 
 /// The column that the inverse S-box of a byte in row 3 adds.
@@ -331,5 +343,5 @@ pub(crate) fn back_third(byte: u8) -> u32
 pub(crate) fn back_fourth(byte: u8) -> u32
     ensures { bytes_of result ≡ times 9 13 11 14 (inverse_sbox byte) }
 {
-    UNSEALING[768 + byte as usize]
+    BACK_FOURTH[byte as usize]
 }
