@@ -10,3 +10,4 @@ mod RowKeyVectors
 mod RowsUnsealed
 mod SealingTerms
 mod RowsSealed
+mod OneSealed

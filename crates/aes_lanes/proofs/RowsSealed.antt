@@ -41,7 +41,7 @@ made_row y = map (λ y. less_sbox (tower_byte y)) y
 pub made_long : (y : List ℕ) → length y ≡ 32 → length (made_row y) ≡ 32
 made_long y long = length-map y (λ y. less_sbox (tower_byte y)) ∙ long
 
-less_sbox-lt : (x : ℕ) → x < 256 → less_sbox x < 256
+pub less_sbox-lt : (x : ℕ) → x < 256 → less_sbox x < 256
 unfolding less_sbox
 less_sbox-lt x h = xor_lt 8 (sbox x) 0x63 (sbox-lt x h) (omega arith)
 
@@ -50,7 +50,7 @@ made_bytes [] h i = omega arith
 made_bytes (x ∷ xs) h zero = less_sbox-lt (tower_byte x) (tower_byte-lt x h.0.fits)
 made_bytes (x ∷ xs) h (suc i) = made_bytes xs h.1 i
 
-twice_sum : (a b : List ℕ) → zip2 bit_xor (map (mul8 2) a) (map (mul8 2) b) ≡ map (mul8 2) (zip2 bit_xor a b)
+pub twice_sum : (a b : List ℕ) → zip2 bit_xor (map (mul8 2) a) (map (mul8 2) b) ≡ map (mul8 2) (zip2 bit_xor a b)
 twice_sum [] b = refl
 twice_sum (x ∷ xs) [] = refl
 twice_sum (x ∷ xs) (y ∷ ys) = λ j. sym (mul8-xor 2 x y) j ∷ twice_sum xs ys j
@@ -93,7 +93,7 @@ keyed_byte p q s t a b c d k e =
     ∙ xor_swap (row p q s t a b c d) 0x63 k 0x63 ∙ xor_zero_r (bit_xor (row p q s t a b c d) k)
 
 -- a key with the constant is added to a state without it as the key to the state
-keyed_block : (ws : List (List ℕ)) (r : ℕ) (z : ℕ → ℕ)
+pub keyed_block : (ws : List (List ℕ)) (r : ℕ) (z : ℕ → ℕ)
     → zip2 bit_xor (mix_columns (shift_rows (map less_sbox (map z places)))) (map less_constant (key_block ws r)) ≡ add_round_key ws r (mix_columns (shift_rows (sub_bytes (map z places))))
 unfolding less_sbox mixed_byte mix_columns shift_rows add_round_key key_block
 keyed_block ws r z =

@@ -1,15 +1,15 @@
-//! A key schedule in vectors, and the cipher under it on two and on eight blocks.
+//! A key schedule in vectors, and two blocks unsealed under it.
 
-ghost use Rattle.std.specs.Prelude.{◌≡◌, map, bit_xor};
+ghost use Rattle.std.specs.Prelude.{◌≡◌, bit_xor};
 ghost use Rattle.std.specs.Simd.Lanes.{zip2};
-ghost use Rattle.std_defs.specs.Aes.{seal, unseal, add_round_key, sub_bytes, shift_rows, mix_columns, inverse_sub_bytes, inverse_shift_rows, inverse_mix_columns};
+ghost use Rattle.std_defs.specs.Aes.{unseal, add_round_key, inverse_sub_bytes, inverse_shift_rows, inverse_mix_columns};
 ghost use Rattle.aes_block.specs.Schedule.{IsSchedule, is_schedule-prop};
 ghost use Rattle.aes_lanes.specs.Pairs.{each_half};
 ghost use Rattle.aes_lanes.specs.RoundKeys.{schedule_of, AreTwice};
 ghost use Rattle.aes_lanes.specs.RowKeys.{AreSealingKeys, AreUnsealingKeys};
 
-use crate::columns::{mixed, mixed_back, shifted, shifted_back};
-use crate::lookup::{inverse_substituted, substituted, sum};
+use crate::columns::{mixed_back, shifted_back};
+use crate::lookup::{inverse_substituted, sum};
 use crate::round_keys::RoundKey;
 use crate::row_keys::RowKey;
 use std::simd::prelude::*;
@@ -27,22 +27,6 @@ pub(crate) struct LaneSchedule {
     ghost unsealing: { AreUnsealingKeys keys unsealing_keys },
 }
 
-/// A round of two blocks.
-#[inline(always)]
-fn sealed_round(x: u8x32, key: u8x32) -> u8x32
-    ensures { result ≡ zip2 bit_xor (each_half (λ s. mix_columns (shift_rows (sub_bytes s))) x) key }
-{
-    sum(mixed(shifted(substituted(x))), key)
-}
-
-/// The last round of two blocks.
-#[inline(always)]
-fn sealed_last(x: u8x32, key: u8x32) -> u8x32
-    ensures { result ≡ zip2 bit_xor (each_half (λ s. shift_rows (sub_bytes s)) x) key }
-{
-    sum(shifted(substituted(x)), key)
-}
-
 /// A round of two blocks, undone.
 #[inline(always)]
 fn unsealed_round(x: u8x32, key: u8x32) -> u8x32
@@ -54,32 +38,12 @@ fn unsealed_round(x: u8x32, key: u8x32) -> u8x32
 impl LaneSchedule {
     ghost use Rattle.aes_lanes.specs.Key.{lane_key};
 
-    /// Two blocks before the first round.
-    #[inline(always)]
-    fn begun(&self, x: u8x32) -> u8x32
-        ensures { result ≡ each_half (add_round_key (schedule_of self.now.keys) 0) x }
-    {
-        sum(x, self.keys[0].twice)
-    }
-
     /// Two sealed blocks before their last round.
     #[inline(always)]
     fn begun_back(&self, x: u8x32) -> u8x32
         ensures { result ≡ each_half (λ s. inverse_sub_bytes (inverse_shift_rows (add_round_key (schedule_of self.now.keys) self.now.rounds s))) x }
     {
         inverse_substituted(shifted_back(sum(x, self.keys[self.rounds].twice)))
-    }
-
-    /// Seals two blocks.
-    #[inline(always)]
-    pub(crate) fn seal_pair(&self, x: u8x32) -> u8x32
-        ensures { result ≡ each_half (seal (lane_key self.now)) x }
-    {
-        let mut state = self.begun(x);
-        for round in 1..self.rounds {
-            state = sealed_round(state, self.keys[round].twice);
-        }
-        sealed_last(state, self.keys[self.rounds].twice)
     }
 
     /// Unseals two blocks.

@@ -1,10 +1,11 @@
-//! AES by vectors of 32 bytes: eight blocks by their rows in four of them, or one block, twice, in one.
+//! AES by vectors: eight blocks by their rows in four vectors of 32 bytes, or one block in one of 16.
 #![tactic(auto)]
 
 mod columns;
 mod lane_aes;
 mod lane_schedule;
 mod lookup;
+mod one_block;
 mod pairs;
 mod round_keys;
 mod row_keys;

@@ -1,9 +1,9 @@
-//! The S-box and its inverse by look-ups of half bytes. A byte becomes an element of the field over sixteen, whose inverse
+//! The inverse S-box by look-ups of half bytes, and the tables of both directions. A byte becomes an element of the field over sixteen, whose inverse
 //! takes look-ups in tables of sixteen alone.
 
 ghost use Rattle.std.specs.Prelude.{◌≡◌, length, map, bit_xor};
 ghost use Rattle.std.specs.Simd.Lanes.{zip2};
-ghost use Rattle.std_defs.specs.Aes.{sbox, inverse_sbox};
+ghost use Rattle.std_defs.specs.Aes.{inverse_sbox};
 ghost use Rattle.aes_lanes.specs.Lookup.{look, AreIndices, low, high, first_part, second_part};
 
 use std::simd::prelude::*;
@@ -27,11 +27,11 @@ pub(crate) const INVERSE_HIGH_TO_TOWER: [u8; 16] = [
 ];
 
 /// Inverses in the field of sixteen. That of 0 is beyond all tables, which give 0 there.
-const INVERSE: [u8; 16] = [
+pub(crate) const INVERSE: [u8; 16] = [
     0x80, 0x01, 0x08, 0x0d, 0x0f, 0x06, 0x05, 0x0e, 0x02, 0x0c, 0x0b, 0x0a, 0x09, 0x03, 0x07, 0x04,
 ];
 
-const RATIO: [u8; 16] = [
+pub(crate) const RATIO: [u8; 16] = [
     0x80, 0x07, 0x0b, 0x0f, 0x06, 0x0a, 0x04, 0x01, 0x09, 0x08, 0x05, 0x02, 0x0c, 0x0e, 0x0d, 0x03,
 ];
 
@@ -106,21 +106,6 @@ pub(crate) fn inverted(y: u8x32) -> (u8x32, u8x32)
     let p = sum(looked_up(INVERSE, i), ratio);
     let q = sum(looked_up(INVERSE, j), ratio);
     (sum(looked_up(INVERSE, p), j), sum(looked_up(INVERSE, q), i))
-}
-
-/// The S-box of each byte.
-#[inline(always)]
-pub(crate) fn substituted(x: u8x32) -> u8x32
-    ensures { result ≡ map sbox x }
-{
-    let left = looked_up(LOW_TO_TOWER, low_half(x));
-    let right = looked_up(HIGH_TO_TOWER, high_half(x));
-    let (first, second) = inverted(sum(left, right));
-    let less = sum(
-        looked_up(FIRST_FROM_TOWER, first),
-        looked_up(SECOND_FROM_TOWER, second),
-    );
-    less ^ u8x32::splat(0x63)
 }
 
 /// The byte whose S-box each byte is.

@@ -10,6 +10,7 @@ ghost use Rattle.aes_lanes.specs.SealingTower.{tower_byte};
 
 use crate::lane_schedule::LaneSchedule;
 use crate::lookup::sum;
+use crate::one_block::{self, front_of, one_in_tower, one_made_last, one_round, one_shifted};
 use crate::rows::{Rows, pairs_of, rows_of};
 use crate::sealing_rows::{made_and_mixed, sealing_key_added, shifted_rows};
 use crate::sealing_tower::{in_sealing_tower, made_last};
@@ -64,5 +65,18 @@ impl LaneSchedule {
             self.sealing_left(y[2]),
             self.sealing_left(y[3]),
         ]
+    }
+
+    /// Seals one block.
+    #[inline(always)]
+    pub(crate) fn seal_one(&self, b: u8x16) -> u8x16
+        ensures { result ≡ seal (lane_key self.now) b }
+    {
+        let mut state = one_in_tower(one_block::sum(b, front_of(self.keys[0].twice)));
+        for round in 1..self.rounds {
+            state = one_round(state, front_of(self.keys[round].twice));
+        }
+        let last = front_of(self.keys[self.rounds].twice);
+        one_block::sum(one_made_last(one_shifted(state)), last)
     }
 }
