@@ -3,3 +3,11 @@ pub mod Halves
 pub mod Mixing
 pub mod Sides
 pub mod KeyVectors
+mod Terms
+mod Transposed
+mod RowsMixed
+mod RowKeyVectors
+mod RowsUnsealed
+mod SealingTerms
+mod RowsSealed
+mod OneSealed

@@ -1,17 +1,17 @@
 -- look-ups, lane by lane
 use Rattle.std.specs.Prelude.{◌≡◌, ℕ, ◌+◌, ◌*◌, ◌/◌, ◌<◌, ◌||◌, Bool, true, false, nat_lt, nat_le, List, [], ◌∷◌, ◌++◌, map, length, slice_index, bit_xor, IsTrue, refl}
 use Rattle.std.specs.List.{range_with_len, list_all}
-use Rattle.std.proofs.Common.{sym, ◌∙◌, ap, arith, get_or, cond, T, ltb, leb, ltb-true, zero-add, w8, Fits, replicate}
+use Rattle.std.proofs.Common.{sym, ◌∙◌, ap, arith, get_or, cond, T, ltb, leb, ltb-true, zero-add, w8, Fits}
 use Rattle.std.proofs.lemmas.Bool.{false≢true}
 use Rattle.std.proofs.lemmas.List.{get_or-map, get_or_append_left, length-map, ext_get_or}
 use Rattle.std.proofs.lemmas.List.Elements.{All-from_get_or}
-use Rattle.std.proofs.lemmas.Simd.{Each1-from_get_or, Each1-get_or, SwzOk, SwzOk-from_Each1, swz_l, length-swz_l, get_or-swz_l, zip2_splat, zip2_of_maps, map-map}
+use Rattle.std.proofs.lemmas.Simd.{Each1-from_get_or, Each1-get_or, SwzOk, SwzOk-from_Each1, swz_l, length-swz_l, get_or-swz_l, zip2_of_maps, map-map}
 use lib.Lanes.{zip2, Each1, pick_l}
 use mir.Val.{zeroes}
-use Rattle.std_defs.specs.Aes.{sbox, inverse_sbox}
-use Rattle.std_defs.proofs.Tables.{sbox_table, inverse_sbox_table, sbox_at, inverse_sbox_at}
+use Rattle.std_defs.specs.Aes.{inverse_sbox}
+use Rattle.std_defs.proofs.Tables.{inverse_sbox_table, inverse_sbox_at}
 use Rattle.std_defs.proofs.Enumerate.{true_below, same_below, same_below₂}
-use Rattle.aes_lanes.specs.Lookup.{is_index, AreIndices, look, low, high, to_tower, from_tower, inverse_to_tower, inverse_from_tower, both, p_of, q_of, first_part, second_part}
+use Rattle.aes_lanes.specs.Lookup.{is_index, AreIndices, look, low, high, inverse_to_tower, inverse_from_tower, both, p_of, q_of, first_part, second_part}
 
 abbrev pub IsVector : ℕ → List ℕ → Type 0
 IsVector n v = (length v ≡ n) × Each1 (Fits w8) v
@@ -32,12 +32,15 @@ indices_ok b n js e long h =
     (Each1-from_get_or (λ j. T (zeroes 16 w8 j || ltb j 16)) js 0 (λ i l. or_swap (nat_lt (get_or js i 0) 16) (nat_le 128 (get_or js i 0)) (h i 0 l)))
 
 -- each lane of a map over bytes is an index, where that was computed for each byte
-pub indices_of_map : (g : ℕ → ℕ) (v js : List ℕ) → IsVector 32 v → js ≡ map g v → list_all (λ x. is_index (g x)) (range_with_len 0 256) ≡ true → AreIndices js
-indices_of_map g v js fits e t =
+pub indices_of : (n : ℕ) (g : ℕ → ℕ) (v js : List ℕ) → IsVector n v → js ≡ map g v → list_all (λ x. is_index (g x)) (range_with_len 0 256) ≡ true → AreIndices js
+indices_of n g v js fits e t =
     All-from_get_or (λ j. IsTrue (is_index j)) js 0 (λ i l.
     let within : i < length v = omega (arith, ap length e, length-map v g) in
     let is : get_or js i 0 ≡ g (get_or v i 0) = ap (λ xs. get_or xs i 0) e ∙ get_or-map g v i 0 0 within in
-    ap is_index is ∙ true_below (λ x. is_index (g x)) 256 t (get_or v i 0) (lane_below 32 v i fits (omega (arith, fits.0))))
+    ap is_index is ∙ true_below (λ x. is_index (g x)) 256 t (get_or v i 0) (lane_below n v i fits (omega (arith, fits.0))))
+
+pub indices_of_map : (g : ℕ → ℕ) (v js : List ℕ) → IsVector 32 v → js ≡ map g v → list_all (λ x. is_index (g x)) (range_with_len 0 256) ≡ true → AreIndices js
+indices_of_map = indices_of 32
 
 -- a table t of copies of s
 pub looked_up : (n : ℕ) (t s js : List ℕ) → length js ≡ n → AreIndices js → ((i j : ℕ) → i < n → j < 16 → get_or t (16 * (i / 16) + j) 0 ≡ get_or s j 0)
@@ -103,23 +106,11 @@ p_passes = refl
 pub q_passes : Passes q_of
 q_passes = refl
 
-abbrev pub first_of_byte : ℕ → ℕ
-first_of_byte x = first_part (to_tower x)
-
-abbrev pub second_of_byte : ℕ → ℕ
-second_of_byte x = second_part (to_tower x)
-
 abbrev pub inverse_first_of_byte : ℕ → ℕ
 inverse_first_of_byte x = first_part (inverse_to_tower x)
 
 abbrev pub inverse_second_of_byte : ℕ → ℕ
 inverse_second_of_byte x = second_part (inverse_to_tower x)
-
-pub first_passes : Passes first_of_byte
-first_passes = refl
-
-pub second_passes : Passes second_of_byte
-second_passes = refl
 
 pub inverse_first_passes : Passes inverse_first_of_byte
 inverse_first_passes = refl
@@ -127,28 +118,14 @@ inverse_first_passes = refl
 pub inverse_second_passes : Passes inverse_second_of_byte
 inverse_second_passes = refl
 
--- ---- the S-box
-
-abbrev pub less_substituted : ℕ → ℕ
-less_substituted x = from_tower (first_of_byte x) (second_of_byte x)
+-- ---- the inverse S-box
 
 abbrev pub inverse_substituted : ℕ → ℕ
 inverse_substituted x = inverse_from_tower (inverse_first_of_byte x) (inverse_second_of_byte x)
 
-substituted_is : (x : ℕ) → x < 256 → bit_xor (less_substituted x) 0x63 ≡ sbox x
-unfolding sbox_table
-substituted_is x h = same_below (λ x. bit_xor (less_substituted x) 0x63) (slice_index sbox_table) 256 refl x h ∙ sym (sbox_at x h)
-
 inverse_substituted_is : (x : ℕ) → x < 256 → inverse_substituted x ≡ inverse_sbox x
 unfolding inverse_sbox_table
 inverse_substituted_is x h = same_below inverse_substituted (slice_index inverse_sbox_table) 256 refl x h ∙ sym (inverse_sbox_at x h)
-
-pub substituted : (v xs : List ℕ) → IsVector 32 v → xs ≡ map less_substituted v → zip2 bit_xor xs (replicate 32 0x63) ≡ map sbox v
-substituted v xs fits e =
-    ap (λ ys. zip2 bit_xor ys (replicate 32 0x63)) e
-    ∙ zip2_splat bit_xor (map less_substituted v) 32 0x63 (length-map v less_substituted ∙ fits.0)
-    ∙ map-map (λ x. bit_xor x 0x63) less_substituted v
-    ∙ map-lanes (λ x. bit_xor (less_substituted x) 0x63) sbox substituted_is v fits.1
 
 pub inverse_substituted_all : (v xs : List ℕ) → IsVector 32 v → xs ≡ map inverse_substituted v → xs ≡ map inverse_sbox v
 inverse_substituted_all v xs fits e = e ∙ map-lanes inverse_substituted inverse_sbox inverse_substituted_is v fits.1

@@ -45,13 +45,13 @@ byte_at (x ∷ xs) zero h = h.0.fits
 byte_at (x ∷ xs) (suc i) h = byte_at xs i h.1
 
 -- what the function `mixed` computes of one block
-mixed_lanes : List ℕ → List ℕ
+unfoldable pub mixed_lanes : List ℕ → List ℕ
 mixed_lanes s =
     let next : List ℕ = turned 1 s in
     let pair : List ℕ = zip2 bit_xor s next in
     zip2 bit_xor (zip2 bit_xor (map (mul8 2) pair) next) (turned 2 pair)
 
-mixed_block : (y : ℕ → ℕ) → ((i : ℕ) → y i < 256) → mixed_lanes (map y places) ≡ mix_columns (map y places)
+pub mixed_block : (y : ℕ → ℕ) → ((i : ℕ) → y i < 256) → mixed_lanes (map y places) ≡ mix_columns (map y places)
 unfolding mixed_lanes mix_columns
 mixed_block y at =
     let s : List ℕ = map y places in

@@ -1,12 +1,12 @@
 -- steps of a cipher on two blocks side by side
-use Rattle.std.specs.Prelude.{◌≡◌, ℕ, zero, suc, ◌+◌, ◌-◌, ◌<◌, ◌≤◌, List, [], ◌∷◌, ◌++◌, map, take, drop, length, bit_xor, refl}
+use Rattle.std.specs.Prelude.{◌≡◌, ℕ, zero, suc, ◌-◌, ◌<◌, List, [], ◌∷◌, ◌++◌, map, take, drop, length, bit_xor, refl}
 use Rattle.std.specs.List.{range_with_len}
 use Rattle.std.proofs.Common.{◌∙◌, ap, ap₂, subst, arith}
 use Rattle.std.proofs.lemmas.List.{take-map, drop-map, map-append, length-append, length-map}
 use lib.Lanes.{zip2}
-use Rattle.std_defs.specs.Aes.{add_round_key, sub_bytes, shift_rows, mix_columns, inverse_sub_bytes, inverse_shift_rows, inverse_mix_columns, after_rounds, before_rounds, key_schedule, seal, unseal, cipher, inverse_cipher, rounds, sbox, inverse_sbox}
+use Rattle.std_defs.specs.Aes.{add_round_key, sub_bytes, shift_rows, mix_columns, inverse_sub_bytes, inverse_shift_rows, inverse_mix_columns, after_rounds, before_rounds, key_schedule, seal, unseal, cipher, inverse_cipher, rounds, inverse_sbox}
 use Rattle.aes_block.specs.Schedule.{IsSchedule, key_of}
-use Rattle.aes_block.proofs.Rounds.{round_key_is, sealing_more, sealed_all, unsealing_none, unsealing_more}
+use Rattle.aes_block.proofs.Rounds.{round_key_is, unsealing_none, unsealing_more}
 use Rattle.aes_lanes.specs.Pairs.{each_half, blocks_of}
 use Rattle.aes_lanes.specs.KeyBlock.{key_block}
 use Rattle.aes_lanes.proofs.Halves.{of_places, front, back}
@@ -53,7 +53,7 @@ key_long : (ws : List (List ℕ)) (r : ℕ) (s : List ℕ) → length (add_round
 unfolding add_round_key
 key_long ws r s = refl
 
-rounds_long : (ws : List (List ℕ)) (n : ℕ) (b : List ℕ) → length (after_rounds ws b n) ≡ 16
+pub rounds_long : (ws : List (List ℕ)) (n : ℕ) (b : List ℕ) → length (after_rounds ws b n) ≡ 16
 unfolding after_rounds
 rounds_long ws zero b = key_long ws 0 b
 rounds_long ws (suc n) b = key_long ws (suc n) (mix_columns (shift_rows (sub_bytes (after_rounds ws b n))))
@@ -62,18 +62,6 @@ both_long : (f : List ℕ → List ℕ) → ((s : List ℕ) → length (f s) ≡
 both_long f long x = omega (arith, length-append (f (take 16 x)) (f (drop 16 x)), long (take 16 x), long (drop 16 x))
 
 -- ---- rounds of both blocks
-
-pub sealed_round_is : (x y z w r key : List ℕ) → y ≡ map sbox x → z ≡ each_half shift_rows y → w ≡ each_half mix_columns z → r ≡ zip2 bit_xor w key
-    → r ≡ zip2 bit_xor (each_half (λ s. mix_columns (shift_rows (sub_bytes s))) x) key
-sealed_round_is x y z w r key a b c d =
-    d ∙ ap (λ (v : List ℕ). zip2 bit_xor v key)
-    (c ∙ ap (each_half mix_columns) (b ∙ ap (each_half shift_rows) a) ∙ each_half_then shift_rows mix_columns shift_long (map sbox x)
-    ∙ each_half_of_map sbox (λ s. mix_columns (shift_rows s)) x)
-
-pub sealed_last_is : (x y z r key : List ℕ) → y ≡ map sbox x → z ≡ each_half shift_rows y → r ≡ zip2 bit_xor z key
-    → r ≡ zip2 bit_xor (each_half (λ s. shift_rows (sub_bytes s)) x) key
-sealed_last_is x y z r key a b d =
-    d ∙ ap (λ (v : List ℕ). zip2 bit_xor v key) (b ∙ ap (each_half shift_rows) a ∙ each_half_of_map sbox shift_rows x)
 
 pub unsealed_last_is : (y z r : List ℕ) → z ≡ each_half inverse_shift_rows y → r ≡ map inverse_sbox z → r ≡ each_half (λ s. inverse_sub_bytes (inverse_shift_rows s)) y
 unsealed_last_is y z r a b = b ∙ ap (map inverse_sbox) a ∙ map_of_each_half inverse_sbox inverse_shift_rows y
@@ -94,45 +82,6 @@ key_places ws r z = refl
 pub key_added : (ws : List (List ℕ)) (r : ℕ) (x key : List ℕ) → length x ≡ 32 → key ≡ key_block ws r ++ key_block ws r → zip2 bit_xor x key ≡ each_half (add_round_key ws r) x
 key_added ws r x key long e =
     ap (zip2 bit_xor x) e ∙ of_places 32 (λ y. zip2 bit_xor y (key_block ws r ++ key_block ws r) ≡ each_half (add_round_key ws r) y) (key_places ws r) x long
-
--- ---- sealing
-
-abbrev one_round : List ℕ → List ℕ
-one_round s = mix_columns (shift_rows (sub_bytes s))
-
-abbrev last_round : List ℕ → List ℕ
-last_round s = shift_rows (sub_bytes s)
-
--- both blocks of x after n rounds with MixColumns
-abbrev pub rounds_of : ℕ → List (List ℕ) → ℕ → List ℕ → List ℕ
-rounds_of r ws n x = each_half (λ s. after_rounds (key_schedule (key_of r ws)) s n) x
-
-pub seal_start : (r : ℕ) (ws : List (List ℕ)) (x y : List ℕ) → IsSchedule r ws → y ≡ each_half (add_round_key ws 0) x → y ≡ rounds_of r ws 0 x
-unfolding after_rounds
-seal_start r ws x y h d =
-    d ∙ each_half_same (add_round_key ws 0) (add_round_key (key_schedule (key_of r ws)) 0) (λ s. round_key_is r ws 0 s h (omega arith)) x
-
-pub seal_more : (r : ℕ) (ws : List (List ℕ)) (i : ℕ) (x key y z : List ℕ) → IsSchedule r ws → 1 ≤ i → i < r → key ≡ key_block ws i ++ key_block ws i
-    → y ≡ rounds_of r ws (i - 1) x → z ≡ zip2 bit_xor (each_half (λ s. mix_columns (shift_rows (sub_bytes s))) y) key → z ≡ rounds_of r ws (i + 1 - 1) x
-seal_more r ws i x key y z h from below e before d =
-    let k : List (List ℕ) = key_schedule (key_of r ws) in
-    d ∙ key_added ws i (each_half one_round y) key (both_long one_round (λ s. mix_long (shift_rows (sub_bytes s))) y) e
-    ∙ each_half_then one_round (add_round_key ws i) (λ s. mix_long (shift_rows (sub_bytes s))) y
-    ∙ ap (each_half (λ s. add_round_key ws i (one_round s))) before
-    ∙ each_half_then (λ s. after_rounds k s (i - 1)) (λ s. add_round_key ws i (one_round s)) (λ s. rounds_long k (i - 1) s) x
-    ∙ each_half_same (λ s. add_round_key ws i (one_round (after_rounds k s (i - 1)))) (λ s. after_rounds k s (i + 1 - 1))
-    (λ s. sealing_more r ws s (after_rounds k s (i - 1)) i h from below refl) x
-
-pub seal_end : (r : ℕ) (ws : List (List ℕ)) (i : ℕ) (x key y z : List ℕ) → IsSchedule r ws → i ≡ r → key ≡ key_block ws r ++ key_block ws r
-    → y ≡ rounds_of r ws (i - 1) x → z ≡ zip2 bit_xor (each_half (λ s. shift_rows (sub_bytes s)) y) key → z ≡ each_half (seal (key_of r ws)) x
-seal_end r ws i x key y z h at e before d =
-    let k : List (List ℕ) = key_schedule (key_of r ws) in
-    d ∙ key_added ws r (each_half last_round y) key (both_long last_round (λ s. shift_long (sub_bytes s)) y) e
-    ∙ each_half_then last_round (add_round_key ws r) (λ s. shift_long (sub_bytes s)) y
-    ∙ ap (each_half (λ s. add_round_key ws r (last_round s))) (before ∙ ap (λ (n : ℕ). rounds_of r ws (n - 1) x) at)
-    ∙ each_half_then (λ s. after_rounds k s (r - 1)) (λ s. add_round_key ws r (last_round s)) (λ s. rounds_long k (r - 1) s) x
-    ∙ each_half_same (λ s. add_round_key ws r (last_round (after_rounds k s (r - 1)))) (seal (key_of r ws))
-    (λ s. sealed_all r ws s (after_rounds k s (r - 1)) h refl) x
 
 -- ---- unsealing
 

@@ -3,3 +3,8 @@ pub mod Pairs
 pub mod KeyBlock
 pub mod RoundKeys
 pub mod Key
+pub mod Tower
+pub mod Places
+pub mod Rows
+pub mod RowKeys
+pub mod SealingTower

@@ -1,16 +1,11 @@
-//! ShiftRows, MixColumns and their inverses on two blocks side by side.
+//! InvShiftRows, MixColumns and its inverse on two blocks side by side.
 
 ghost use Rattle.std.specs.Prelude.{◌≡◌, map};
-ghost use Rattle.std_defs.specs.Aes.{mul8, shift_rows, inverse_shift_rows, mix_columns, inverse_mix_columns};
+ghost use Rattle.std_defs.specs.Aes.{mul8, inverse_shift_rows, mix_columns, inverse_mix_columns};
 ghost use Rattle.aes_lanes.specs.Pairs.{each_half, turned};
 
 use crate::lookup::sum;
 use std::simd::prelude::*;
-
-const SHIFTED: [usize; 32] = [
-    0, 5, 10, 15, 4, 9, 14, 3, 8, 13, 2, 7, 12, 1, 6, 11, 16, 21, 26, 31, 20, 25, 30, 19, 24, 29,
-    18, 23, 28, 17, 22, 27,
-];
 
 const SHIFTED_BACK: [usize; 32] = [
     0, 13, 10, 7, 4, 1, 14, 11, 8, 5, 2, 15, 12, 9, 6, 3, 16, 29, 26, 23, 20, 17, 30, 27, 24, 21,
@@ -26,14 +21,6 @@ const TWO_ON: [usize; 32] = [
     2, 3, 0, 1, 6, 7, 4, 5, 10, 11, 8, 9, 14, 15, 12, 13, 18, 19, 16, 17, 22, 23, 20, 21, 26, 27,
     24, 25, 30, 31, 28, 29,
 ];
-
-/// ShiftRows of both blocks.
-#[inline(always)]
-pub(crate) fn shifted(x: u8x32) -> u8x32
-    ensures { result ≡ each_half shift_rows x }
-{
-    x.swizzle(SHIFTED)
-}
 
 /// InvShiftRows of both blocks.
 #[inline(always)]
@@ -70,7 +57,7 @@ fn doubled(x: u8x32) -> u8x32
 
 /// MixColumns of both blocks.
 #[inline(always)]
-pub(crate) fn mixed(x: u8x32) -> u8x32
+fn mixed(x: u8x32) -> u8x32
     ensures { result ≡ each_half mix_columns x }
 {
     let next = one_on(x);

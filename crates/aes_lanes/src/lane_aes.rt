@@ -6,9 +6,11 @@ ghost use Rattle.std_defs.specs.Aes.{IsKeyLength};
 use crate::lane_schedule::LaneSchedule;
 use crate::pairs::{first_of, joined, paired, parted};
 use crate::round_keys::round_keys;
+use crate::row_keys::{sealing_keys, unsealing_keys};
 use aes_block::{BlockCipher, expand_key};
 use kc_base::Errno;
 use std::marker::Model;
+use std::simd::prelude::*;
 
 /// AES under a key, with the key's whole schedule in vectors. Contracts see the key.
 #[derive(Drop)]
@@ -35,11 +37,13 @@ impl LaneAes {
         if !matches!(key.len(), 16 | 24 | 32) {
             return Err(Errno::EINVAL);
         }
-        let words = expand_key(key);
+        let keys = round_keys(&expand_key(key));
         Ok(LaneAes {
             schedule: LaneSchedule {
                 rounds: key.len() / 4 + 6,
-                keys: round_keys(&words),
+                keys,
+                sealing_keys: sealing_keys(&keys),
+                unsealing_keys: unsealing_keys(&keys),
             },
         })
     }
@@ -56,7 +60,7 @@ impl BlockCipher for LaneAes {
     ghost inverse = { λ a. seals_and_unseals a.bytes a.is_key };
 
     fn seal_block(&self, b: &mut [u8; 16]) {
-        *b = first_of(self.schedule.seal_pair(joined(*b, *b)));
+        *b = self.schedule.seal_one(u8x16::from_array(*b)).to_array();
     }
 
     fn unseal_block(&self, b: &mut [u8; 16]) {

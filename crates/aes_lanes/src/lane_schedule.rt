@@ -1,40 +1,30 @@
-//! A key schedule in vectors, and the cipher under it on two and on eight blocks.
+//! A key schedule in vectors, and two blocks unsealed under it.
 
-ghost use Rattle.std.specs.Prelude.{◌≡◌, map, bit_xor};
+ghost use Rattle.std.specs.Prelude.{◌≡◌, bit_xor};
 ghost use Rattle.std.specs.Simd.Lanes.{zip2};
-ghost use Rattle.std_defs.specs.Aes.{seal, unseal, add_round_key, sub_bytes, shift_rows, mix_columns, inverse_sub_bytes, inverse_shift_rows, inverse_mix_columns};
+ghost use Rattle.std_defs.specs.Aes.{unseal, add_round_key, inverse_sub_bytes, inverse_shift_rows, inverse_mix_columns};
 ghost use Rattle.aes_block.specs.Schedule.{IsSchedule, is_schedule-prop};
 ghost use Rattle.aes_lanes.specs.Pairs.{each_half};
 ghost use Rattle.aes_lanes.specs.RoundKeys.{schedule_of, AreTwice};
+ghost use Rattle.aes_lanes.specs.RowKeys.{AreSealingKeys, AreUnsealingKeys};
 
-use crate::columns::{mixed, mixed_back, shifted, shifted_back};
-use crate::lookup::{inverse_substituted, substituted, sum};
+use crate::columns::{mixed_back, shifted_back};
+use crate::lookup::{inverse_substituted, sum};
 use crate::round_keys::RoundKey;
+use crate::row_keys::RowKey;
 use std::simd::prelude::*;
 
-/// The key schedule of a key, with each round key twice in a vector.
+/// The key schedule of a key, with each round key twice in a vector, and as it is added to rows.
 #[derive(Drop)]
 pub(crate) struct LaneSchedule {
     pub(crate) rounds: usize,
     pub(crate) keys: [RoundKey; 15],
+    pub(crate) sealing_keys: [RowKey; 15],
+    pub(crate) unsealing_keys: [RowKey; 15],
     ghost scheduled: { IsSchedule rounds (schedule_of keys) } by { is_schedule-prop rounds (schedule_of keys) },
     ghost twice: { AreTwice keys },
-}
-
-/// A round of two blocks.
-#[inline(always)]
-fn sealed_round(x: u8x32, key: u8x32) -> u8x32
-    ensures { result ≡ zip2 bit_xor (each_half (λ s. mix_columns (shift_rows (sub_bytes s))) x) key }
-{
-    sum(mixed(shifted(substituted(x))), key)
-}
-
-/// The last round of two blocks.
-#[inline(always)]
-fn sealed_last(x: u8x32, key: u8x32) -> u8x32
-    ensures { result ≡ zip2 bit_xor (each_half (λ s. shift_rows (sub_bytes s)) x) key }
-{
-    sum(shifted(substituted(x)), key)
+    ghost sealing: { AreSealingKeys keys sealing_keys },
+    ghost unsealing: { AreUnsealingKeys keys unsealing_keys },
 }
 
 /// A round of two blocks, undone.
@@ -48,32 +38,12 @@ fn unsealed_round(x: u8x32, key: u8x32) -> u8x32
 impl LaneSchedule {
     ghost use Rattle.aes_lanes.specs.Key.{lane_key};
 
-    /// Two blocks before the first round.
-    #[inline(always)]
-    fn begun(&self, x: u8x32) -> u8x32
-        ensures { result ≡ each_half (add_round_key (schedule_of self.now.keys) 0) x }
-    {
-        sum(x, self.keys[0].twice)
-    }
-
     /// Two sealed blocks before their last round.
     #[inline(always)]
     fn begun_back(&self, x: u8x32) -> u8x32
         ensures { result ≡ each_half (λ s. inverse_sub_bytes (inverse_shift_rows (add_round_key (schedule_of self.now.keys) self.now.rounds s))) x }
     {
         inverse_substituted(shifted_back(sum(x, self.keys[self.rounds].twice)))
-    }
-
-    /// Seals two blocks.
-    #[inline(always)]
-    pub(crate) fn seal_pair(&self, x: u8x32) -> u8x32
-        ensures { result ≡ each_half (seal (lane_key self.now)) x }
-    {
-        let mut state = self.begun(x);
-        for round in 1..self.rounds {
-            state = sealed_round(state, self.keys[round].twice);
-        }
-        sealed_last(state, self.keys[self.rounds].twice)
     }
 
     /// Unseals two blocks.
@@ -86,50 +56,5 @@ impl LaneSchedule {
             state = unsealed_round(state, self.keys[round].twice);
         }
         sum(state, self.keys[0].twice)
-    }
-
-    /// Seals eight blocks, two and two.
-    #[inline(always)]
-    pub(crate) fn seal_four(&self, x: [u8x32; 4]) -> [u8x32; 4]
-        ensures { result ≡ map (each_half (seal (lane_key self.now))) x }
-    {
-        let mut a = self.begun(x[0]);
-        let mut b = self.begun(x[1]);
-        let mut c = self.begun(x[2]);
-        let mut d = self.begun(x[3]);
-        for round in 1..self.rounds {
-            let key = self.keys[round].twice;
-            a = sealed_round(a, key);
-            b = sealed_round(b, key);
-            c = sealed_round(c, key);
-            d = sealed_round(d, key);
-        }
-        let key = self.keys[self.rounds].twice;
-        [
-            sealed_last(a, key),
-            sealed_last(b, key),
-            sealed_last(c, key),
-            sealed_last(d, key),
-        ]
-    }
-
-    /// Unseals eight blocks, two and two.
-    #[inline(always)]
-    pub(crate) fn unseal_four(&self, x: [u8x32; 4]) -> [u8x32; 4]
-        ensures { result ≡ map (each_half (unseal (lane_key self.now))) x }
-    {
-        let mut a = self.begun_back(x[0]);
-        let mut b = self.begun_back(x[1]);
-        let mut c = self.begun_back(x[2]);
-        let mut d = self.begun_back(x[3]);
-        for round in (1..self.rounds).rev() {
-            let key = self.keys[round].twice;
-            a = unsealed_round(a, key);
-            b = unsealed_round(b, key);
-            c = unsealed_round(c, key);
-            d = unsealed_round(d, key);
-        }
-        let key = self.keys[0].twice;
-        [sum(a, key), sum(b, key), sum(c, key), sum(d, key)]
     }
 }

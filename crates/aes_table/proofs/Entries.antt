@@ -1,5 +1,5 @@
 -- the entries of the tables, and sums of words byte by byte
-use Rattle.std.specs.Prelude.{◌≡◌, ℕ, zero, suc, ◌/◌, ◌%◌, ◌^◌, ◌<◌, List, [], ◌∷◌, slice_index, bit_xor, refl}
+use Rattle.std.specs.Prelude.{◌≡◌, ℕ, zero, suc, ◌+◌, ◌/◌, ◌%◌, ◌^◌, ◌<◌, List, [], ◌∷◌, slice_index, bit_xor, refl}
 use Rattle.std.specs.Int.{from_le_bytes, w32}
 use Rattle.std.specs.Int.Bits.{xor_zero_r}
 use Rattle.std.proofs.Common.{sym, ◌∙◌, ap, ap₂, arith}
@@ -8,7 +8,7 @@ use Rattle.std_defs.specs.Aes.{product, remainder, mul8, sbox, inverse_sbox, xor
 use Rattle.std_defs.proofs.Enumerate.{same_below}
 use Rattle.std_defs.proofs.Tables.{sbox_table, inverse_sbox_table, sbox_at, inverse_sbox_at}
 use Rattle.aes_table.specs.Words.{bytes_of, times}
-use Rattle.aes_table.specs.declared.tables.TheConstants.{FIRST, SECOND, THIRD, FOURTH, BACK_FIRST, BACK_SECOND, BACK_THIRD, BACK_FOURTH}
+use Rattle.aes_table.specs.declared.tables.TheConstants.{SEALING, BACK_FIRST, BACK_SECOND, BACK_THIRD, BACK_FOURTH}
 
 byte_of_sum : (a b k : ℕ) → bit_xor a b / 2 ^ k % 2 ^ 8 ≡ bit_xor (a / 2 ^ k % 2 ^ 8) (b / 2 ^ k % 2 ^ 8)
 byte_of_sum a b k = ap (λ (t : ℕ). t % 2 ^ 8) (xor_shr a b k) ∙ xor_mod (a / 2 ^ k) (b / 2 ^ k) 8
@@ -44,28 +44,28 @@ pub four_bytes_of : (n a b c d p q r s : ℕ) → n ≡ from_le_bytes w32 (a ∷
 four_bytes_of n a b c d p q r s e ep eq er es ha hb hc hd =
     word_of_bytes n a b c d e ha hb hc hd ∙ (λ j. ep j ∷ eq j ∷ er j ∷ es j ∷ [])
 
-pub first_entry : (x : ℕ) → x < 256 → bytes_of (slice_index FIRST x) ≡ times 2 1 1 3 (sbox x)
+pub first_entry : (x : ℕ) → x < 256 → bytes_of (slice_index SEALING x) ≡ times 2 1 1 3 (sbox x)
 unfolding product remainder mul8 sbox_table
 first_entry x h =
-    same_below (λ x. bytes_of (slice_index FIRST x)) (λ x. times 2 1 1 3 (slice_index sbox_table x)) 256 refl x h
+    same_below (λ x. bytes_of (slice_index SEALING x)) (λ x. times 2 1 1 3 (slice_index sbox_table x)) 256 refl x h
     ∙ ap (times 2 1 1 3) (sym (sbox_at x h))
 
-pub second_entry : (x : ℕ) → x < 256 → bytes_of (slice_index SECOND x) ≡ times 3 2 1 1 (sbox x)
+pub second_entry : (x : ℕ) → x < 256 → bytes_of (slice_index SEALING (256 + x)) ≡ times 3 2 1 1 (sbox x)
 unfolding product remainder mul8 sbox_table
 second_entry x h =
-    same_below (λ x. bytes_of (slice_index SECOND x)) (λ x. times 3 2 1 1 (slice_index sbox_table x)) 256 refl x h
+    same_below (λ x. bytes_of (slice_index SEALING (256 + x))) (λ x. times 3 2 1 1 (slice_index sbox_table x)) 256 refl x h
     ∙ ap (times 3 2 1 1) (sym (sbox_at x h))
 
-pub third_entry : (x : ℕ) → x < 256 → bytes_of (slice_index THIRD x) ≡ times 1 3 2 1 (sbox x)
+pub third_entry : (x : ℕ) → x < 256 → bytes_of (slice_index SEALING (512 + x)) ≡ times 1 3 2 1 (sbox x)
 unfolding product remainder mul8 sbox_table
 third_entry x h =
-    same_below (λ x. bytes_of (slice_index THIRD x)) (λ x. times 1 3 2 1 (slice_index sbox_table x)) 256 refl x h
+    same_below (λ x. bytes_of (slice_index SEALING (512 + x))) (λ x. times 1 3 2 1 (slice_index sbox_table x)) 256 refl x h
     ∙ ap (times 1 3 2 1) (sym (sbox_at x h))
 
-pub fourth_entry : (x : ℕ) → x < 256 → bytes_of (slice_index FOURTH x) ≡ times 1 1 3 2 (sbox x)
+pub fourth_entry : (x : ℕ) → x < 256 → bytes_of (slice_index SEALING (768 + x)) ≡ times 1 1 3 2 (sbox x)
 unfolding product remainder mul8 sbox_table
 fourth_entry x h =
-    same_below (λ x. bytes_of (slice_index FOURTH x)) (λ x. times 1 1 3 2 (slice_index sbox_table x)) 256 refl x h
+    same_below (λ x. bytes_of (slice_index SEALING (768 + x))) (λ x. times 1 1 3 2 (slice_index sbox_table x)) 256 refl x h
     ∙ ap (times 1 1 3 2) (sym (sbox_at x h))
 
 pub back_first_entry : (x : ℕ) → x < 256 → bytes_of (slice_index BACK_FIRST x) ≡ times 14 9 13 11 (inverse_sbox x)

@@ -5,8 +5,9 @@ ghost use Rattle.std.specs.Prelude.{◌≡◌};
 ghost use Rattle.std_defs.specs.Aes.{sbox, inverse_sbox};
 ghost use Rattle.aes_table.specs.Words.{bytes_of, times};
 
-/// The S-box of the byte in row 0, times its column of MixColumns.
-static FIRST: [u32; 256] = [
+/// The S-box of a byte, times its column of MixColumns: the byte in row 0, then in rows 1, 2 and 3, with 256 entries each. One table
+/// leaves the processor's registers to the columns.
+static SEALING: [u32; 1024] = [
     0xa56363c6, 0x847c7cf8, 0x997777ee, 0x8d7b7bf6, 0x0df2f2ff, 0xbd6b6bd6, 0xb16f6fde, 0x54c5c591,
     0x50303060, 0x03010102, 0xa96767ce, 0x7d2b2b56, 0x19fefee7, 0x62d7d7b5, 0xe6abab4d, 0x9a7676ec,
     0x45caca8f, 0x9d82821f, 0x40c9c989, 0x877d7dfa, 0x15fafaef, 0xeb5959b2, 0xc947478e, 0x0bf0f0fb,
@@ -39,10 +40,6 @@ static FIRST: [u32; 256] = [
     0xb69b9b2d, 0x221e1e3c, 0x92878715, 0x20e9e9c9, 0x49cece87, 0xff5555aa, 0x78282850, 0x7adfdfa5,
     0x8f8c8c03, 0xf8a1a159, 0x80898909, 0x170d0d1a, 0xdabfbf65, 0x31e6e6d7, 0xc6424284, 0xb86868d0,
     0xc3414182, 0xb0999929, 0x772d2d5a, 0x110f0f1e, 0xcbb0b07b, 0xfc5454a8, 0xd6bbbb6d, 0x3a16162c,
-];
-
-/// The S-box of the byte in row 1, times its column of MixColumns.
-static SECOND: [u32; 256] = [
     0x6363c6a5, 0x7c7cf884, 0x7777ee99, 0x7b7bf68d, 0xf2f2ff0d, 0x6b6bd6bd, 0x6f6fdeb1, 0xc5c59154,
     0x30306050, 0x01010203, 0x6767cea9, 0x2b2b567d, 0xfefee719, 0xd7d7b562, 0xabab4de6, 0x7676ec9a,
     0xcaca8f45, 0x82821f9d, 0xc9c98940, 0x7d7dfa87, 0xfafaef15, 0x5959b2eb, 0x47478ec9, 0xf0f0fb0b,
@@ -75,10 +72,6 @@ static SECOND: [u32; 256] = [
     0x9b9b2db6, 0x1e1e3c22, 0x87871592, 0xe9e9c920, 0xcece8749, 0x5555aaff, 0x28285078, 0xdfdfa57a,
     0x8c8c038f, 0xa1a159f8, 0x89890980, 0x0d0d1a17, 0xbfbf65da, 0xe6e6d731, 0x424284c6, 0x6868d0b8,
     0x414182c3, 0x999929b0, 0x2d2d5a77, 0x0f0f1e11, 0xb0b07bcb, 0x5454a8fc, 0xbbbb6dd6, 0x16162c3a,
-];
-
-/// The S-box of the byte in row 2, times its column of MixColumns.
-static THIRD: [u32; 256] = [
     0x63c6a563, 0x7cf8847c, 0x77ee9977, 0x7bf68d7b, 0xf2ff0df2, 0x6bd6bd6b, 0x6fdeb16f, 0xc59154c5,
     0x30605030, 0x01020301, 0x67cea967, 0x2b567d2b, 0xfee719fe, 0xd7b562d7, 0xab4de6ab, 0x76ec9a76,
     0xca8f45ca, 0x821f9d82, 0xc98940c9, 0x7dfa877d, 0xfaef15fa, 0x59b2eb59, 0x478ec947, 0xf0fb0bf0,
@@ -111,10 +104,6 @@ static THIRD: [u32; 256] = [
     0x9b2db69b, 0x1e3c221e, 0x87159287, 0xe9c920e9, 0xce8749ce, 0x55aaff55, 0x28507828, 0xdfa57adf,
     0x8c038f8c, 0xa159f8a1, 0x89098089, 0x0d1a170d, 0xbf65dabf, 0xe6d731e6, 0x4284c642, 0x68d0b868,
     0x4182c341, 0x9929b099, 0x2d5a772d, 0x0f1e110f, 0xb07bcbb0, 0x54a8fc54, 0xbb6dd6bb, 0x162c3a16,
-];
-
-/// The S-box of the byte in row 3, times its column of MixColumns.
-static FOURTH: [u32; 256] = [
     0xc6a56363, 0xf8847c7c, 0xee997777, 0xf68d7b7b, 0xff0df2f2, 0xd6bd6b6b, 0xdeb16f6f, 0x9154c5c5,
     0x60503030, 0x02030101, 0xcea96767, 0x567d2b2b, 0xe719fefe, 0xb562d7d7, 0x4de6abab, 0xec9a7676,
     0x8f45caca, 0x1f9d8282, 0x8940c9c9, 0xfa877d7d, 0xef15fafa, 0xb2eb5959, 0x8ec94747, 0xfb0bf0f0,
@@ -298,7 +287,7 @@ static BACK_FOURTH: [u32; 256] = [
 pub(crate) fn first(byte: u8) -> u32
     ensures { bytes_of result ≡ times 2 1 1 3 (sbox byte) }
 {
-    FIRST[byte as usize]
+    SEALING[byte as usize]
 }
 
 /// The column that the S-box of a byte in row 1 adds.
@@ -306,7 +295,7 @@ pub(crate) fn first(byte: u8) -> u32
 pub(crate) fn second(byte: u8) -> u32
     ensures { bytes_of result ≡ times 3 2 1 1 (sbox byte) }
 {
-    SECOND[byte as usize]
+    SEALING[256 + byte as usize]
 }
 
 /// The column that the S-box of a byte in row 2 adds.
@@ -314,7 +303,7 @@ pub(crate) fn second(byte: u8) -> u32
 pub(crate) fn third(byte: u8) -> u32
     ensures { bytes_of result ≡ times 1 3 2 1 (sbox byte) }
 {
-    THIRD[byte as usize]
+    SEALING[512 + byte as usize]
 }
 
 /// The column that the S-box of a byte in row 3 adds.
@@ -322,7 +311,7 @@ pub(crate) fn third(byte: u8) -> u32
 pub(crate) fn fourth(byte: u8) -> u32
     ensures { bytes_of result ≡ times 1 1 3 2 (sbox byte) }
 {
-    FOURTH[byte as usize]
+    SEALING[768 + byte as usize]
 }
 
 /// The column that the inverse S-box of a byte in row 0 adds.

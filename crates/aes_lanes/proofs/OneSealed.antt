@@ -1,0 +1,91 @@
+-- one block sealed in the tower
+use Rattle.std.specs.Prelude.{◌≡◌, ℕ, ◌+◌, ◌-◌, ◌<◌, ◌≤◌, List, ◌++◌, map, length, take, slice_index, bit_xor, refl}
+use Rattle.std.proofs.Common.{sym, ◌∙◌, ap, ap₂, arith, subst}
+use Rattle.std.proofs.lemmas.List.{length-map}
+use Rattle.std.proofs.lemmas.Simd.{map-map, pick_l_whole}
+use lib.Lanes.{zip2}
+use Rattle.std_defs.specs.Aes.{mul8, places, sbox, add_round_key, sub_bytes, shift_rows, mix_columns, after_rounds, key_schedule, seal}
+use Rattle.aes_block.specs.Schedule.{IsSchedule, key_of}
+use Rattle.aes_block.proofs.Rounds.{sealing_more, sealed_all, round_key_is}
+use Rattle.aes_lanes.specs.KeyBlock.{key_block}
+use Rattle.aes_lanes.specs.Pairs.{turned}
+use Rattle.aes_lanes.specs.RowKeys.{less_constant}
+use Rattle.aes_lanes.specs.SealingTower.{tower_byte, less_sbox}
+use Rattle.aes_lanes.proofs.Halves.{of_places, front}
+use Rattle.aes_lanes.proofs.Lookups.{IsVector}
+use Rattle.aes_lanes.proofs.Mixing.{mixed_lanes, mixed_block}
+use Rattle.aes_lanes.proofs.RowsMixed.{AreBytes}
+use Rattle.aes_lanes.proofs.RowsSealed.{made_row, made_bytes, keyed_block, twice_sum}
+use Rattle.aes_lanes.proofs.RowsUnsealed.{block_long}
+
+-- ---- MixColumns
+
+turned_map : (f : ℕ → ℕ) (x : List ℕ) → length x ≡ 16 → turned 1 (map f x) ≡ map f (turned 1 x)
+turned_map f = of_places 16 (λ x. turned 1 (map f x) ≡ map f (turned 1 x)) (λ z. refl)
+
+block_mixed : (s : List ℕ) → length s ≡ 16 → AreBytes s → mixed_lanes s ≡ mix_columns s
+block_mixed = of_places 16 (λ s. AreBytes s → mixed_lanes s ≡ mix_columns s) (λ z h. subst (λ (v : List ℕ). mixed_lanes v ≡ mix_columns v) (pick_l_whole 0 (map z places) 16 refl) (mixed_block (slice_index (map z places)) h))
+
+pub one_mixed_is : (y once twice next pair turn both most last r : List ℕ) → IsVector 16 y
+    → map tower_byte once ≡ map (λ y. less_sbox (tower_byte y)) y → map tower_byte twice ≡ map (λ y. mul8 2 (less_sbox (tower_byte y))) y
+    → map tower_byte next ≡ turned 1 (map tower_byte once) → map tower_byte pair ≡ zip2 bit_xor (map tower_byte once) (map tower_byte next)
+    → map tower_byte turn ≡ turned 1 (map tower_byte twice) → map tower_byte both ≡ zip2 bit_xor (map tower_byte twice) (map tower_byte turn)
+    → map tower_byte most ≡ zip2 bit_xor (map tower_byte both) (map tower_byte next) → map tower_byte last ≡ turned 2 (map tower_byte pair)
+    → map tower_byte r ≡ zip2 bit_xor (map tower_byte most) (map tower_byte last) → map tower_byte r ≡ mix_columns (map (λ y. less_sbox (tower_byte y)) y)
+unfolding mixed_lanes
+one_mixed_is y once twice next pair turn both most last r fits e1 e2 e3 e4 e5 e6 e7 e8 e9 =
+    let a : List ℕ = made_row y in
+    let long : length (made_row y) ≡ 16 = length-map y (λ y. less_sbox (tower_byte y)) ∙ fits.0 in
+    let two : map tower_byte twice ≡ map (mul8 2) a = e2 ∙ sym (map-map (mul8 2) (λ y. less_sbox (tower_byte y)) y) in
+    let n : map tower_byte next ≡ turned 1 a = e3 ∙ ap (turned 1) e1 in
+    let p : map tower_byte pair ≡ zip2 bit_xor a (turned 1 a) = e4 ∙ ap₂ (zip2 bit_xor) e1 n in
+    let b : map tower_byte both ≡ map (mul8 2) (zip2 bit_xor a (turned 1 a)) =
+    e6 ∙ ap₂ (zip2 bit_xor) two (e5 ∙ ap (turned 1) two ∙ turned_map (mul8 2) a long) ∙ twice_sum a (turned 1 a) in
+    e9 ∙ ap₂ (zip2 bit_xor) (e7 ∙ ap₂ (zip2 bit_xor) b n) (e8 ∙ ap (turned 2) p) ∙ block_mixed a long (made_bytes y fits.1)
+
+-- ---- a round
+
+shift_map : (f : ℕ → ℕ) (x : List ℕ) → length x ≡ 16 → map f (shift_rows x) ≡ shift_rows (map f x)
+unfolding shift_rows
+shift_map f = of_places 16 (λ x. map f (shift_rows x) ≡ shift_rows (map f x)) (λ z. refl)
+
+keyed_state : (ws : List (List ℕ)) (r : ℕ) (s : List ℕ) → length s ≡ 16
+    → zip2 bit_xor (mix_columns (shift_rows (map less_sbox s))) (map less_constant (key_block ws r)) ≡ add_round_key ws r (mix_columns (shift_rows (sub_bytes s)))
+keyed_state ws r = of_places 16 (λ s. zip2 bit_xor (mix_columns (shift_rows (map less_sbox s))) (map less_constant (key_block ws r)) ≡ add_round_key ws r (mix_columns (shift_rows (sub_bytes s)))) (keyed_block ws r)
+
+pub front_key : (ws : List (List ℕ)) (r : ℕ) (x key : List ℕ) → key ≡ take 16 x → x ≡ key_block ws r ++ key_block ws r → key ≡ key_block ws r
+front_key ws r x key e h = e ∙ ap (take 16) h ∙ front (key_block ws r) (key_block ws r) (block_long ws r)
+
+plain_key : (ws : List (List ℕ)) (r : ℕ) (x : List ℕ) → length x ≡ 16 → zip2 bit_xor x (key_block ws r) ≡ add_round_key ws r x
+unfolding add_round_key key_block
+plain_key ws r = of_places 16 (λ x. zip2 bit_xor x (key_block ws r) ≡ add_round_key ws r x) (λ z. refl)
+
+first_key : (r : ℕ) (ws : List (List ℕ)) (s : List ℕ) → IsSchedule r ws → add_round_key ws 0 s ≡ after_rounds (key_schedule (key_of r ws)) s 0
+unfolding after_rounds
+first_key r ws s h = round_key_is r ws 0 s h (omega arith)
+
+pub one_begun : (r : ℕ) (ws : List (List ℕ)) (b key sum y : List ℕ) → IsSchedule r ws → length b ≡ 16 → key ≡ key_block ws 0 → sum ≡ zip2 bit_xor b key → map tower_byte y ≡ sum
+    → map tower_byte y ≡ after_rounds (key_schedule (key_of r ws)) b 0
+one_begun r ws b key sum y h long k e f = f ∙ e ∙ ap (zip2 bit_xor b) k ∙ plain_key ws 0 b long ∙ first_key r ws b h
+
+pub one_more : (r : ℕ) (ws : List (List ℕ)) (i : ℕ) (b y key z : List ℕ) → IsSchedule r ws → 1 ≤ i → i < r → length y ≡ 16 → key ≡ key_block ws i
+    → map tower_byte y ≡ after_rounds (key_schedule (key_of r ws)) b (i - 1)
+    → map tower_byte z ≡ zip2 bit_xor (mix_columns (map (λ y. less_sbox (tower_byte y)) (shift_rows y))) (map less_constant key)
+    → map tower_byte z ≡ after_rounds (key_schedule (key_of r ws)) b (i + 1 - 1)
+one_more r ws i b y key z h from below long k before e =
+    let tl : length (map tower_byte y) ≡ 16 = length-map y tower_byte ∙ long in
+    e ∙ ap₂ (λ (s t : List ℕ). zip2 bit_xor (mix_columns s) (map less_constant t))
+    (sym (map-map less_sbox tower_byte (shift_rows y)) ∙ ap (map less_sbox) (shift_map tower_byte y long) ∙ shift_map less_sbox (map tower_byte y) tl) k
+    ∙ keyed_state ws i (map tower_byte y) tl
+    ∙ sealing_more r ws b (map tower_byte y) i h from below before
+
+pub one_end : (r : ℕ) (ws : List (List ℕ)) (i : ℕ) (b y shifted made key z : List ℕ) → IsSchedule r ws → i ≡ r → length y ≡ 16 → key ≡ key_block ws r
+    → map tower_byte y ≡ after_rounds (key_schedule (key_of r ws)) b (i - 1) → shifted ≡ shift_rows y → made ≡ map (λ y. sbox (tower_byte y)) shifted → z ≡ zip2 bit_xor made key
+    → z ≡ seal (key_of r ws) b
+unfolding shift_rows
+one_end r ws i b y shifted made key z h at long k before es em e =
+    let tl : length (map tower_byte y) ≡ 16 = length-map y tower_byte ∙ long in
+    let m : made ≡ shift_rows (sub_bytes (map tower_byte y)) =
+    em ∙ ap (map (λ y. sbox (tower_byte y))) es ∙ sym (map-map sbox tower_byte (shift_rows y)) ∙ ap (map sbox) (shift_map tower_byte y long) ∙ shift_map sbox (map tower_byte y) tl in
+    e ∙ ap₂ (zip2 bit_xor) m k ∙ plain_key ws r (shift_rows (sub_bytes (map tower_byte y))) refl
+    ∙ sealed_all r ws b (map tower_byte y) h (before ∙ ap (λ (n : ℕ). after_rounds (key_schedule (key_of r ws)) b (n - 1)) at)

@@ -1,0 +1,9 @@
+use Rattle.std.specs.Prelude.{◌≡◌, ◌++◌, refl}
+use lib.Lanes.{pick_l}
+use Rattle.aes_lanes.specs.RowKeys.{row_of}
+use Rattle.aes_lanes.specs.declared.row_keys.TheConstants.{THIRD}
+use Rattle.aes_lanes.proofs.Halves.{of_places}
+use Rattle.aes_lanes.proofs.row_keys.third_row.Goals as goal
+
+pub returns : goal.returns
+returns c = of_places 32 (λ x. pick_l 0 (x ++ x) THIRD ≡ row_of 2 x) (λ z. refl) c.args.x c.fits-x.0

@@ -1,0 +1,38 @@
+-- round keys by rows
+use Rattle.std.specs.Prelude.{◌≡◌, ℕ, ◌+◌, ◌*◌, ◌%◌, ◌<◌, List, [], ◌∷◌, map, slice_index, slice_index_or, bit_xor}
+use Rattle.std_defs.specs.Aes.{places, inverse_mix_columns}
+use Rattle.aes_lanes.specs.SealingTower.{tower_byte}
+use Rattle.aes_lanes.specs.Tower.{state_byte}
+use Rattle.aes_lanes.specs.Pairs.{each_half}
+use Rattle.aes_lanes.specs.RoundKeys.{vectors_of}
+use Rattle.aes_lanes.specs.declared.round_keys.RoundKey.{RoundKey}
+use Rattle.aes_lanes.specs.declared.row_keys.RowKey.{RowKey}
+
+-- row n of the block at the front of x, four times
+abbrev pub row_of : ℕ → List ℕ → List ℕ
+row_of n x = map (λ i. slice_index x (4 * (i % 4) + n)) places
+
+abbrev pub lists_of : RowKey → List (List ℕ)
+lists_of key = key.first ∷ key.second ∷ key.third ∷ key.fourth ∷ []
+
+-- the bytes for which they stand by f
+abbrev pub bytes_by : (ℕ → ℕ) → RowKey → List (List ℕ)
+bytes_by f key = map (map f) (lists_of key)
+
+-- the rows of the block at the front of x
+abbrev pub four_rows : List ℕ → List (List ℕ)
+four_rows x = row_of 0 x ∷ row_of 1 x ∷ row_of 2 x ∷ row_of 3 x ∷ []
+
+-- each key by rows stands for g of the vector of its round
+abbrev pub StandFor : (ℕ → ℕ) → (List ℕ → List ℕ) → List RoundKey → List RowKey → Type 0
+StandFor f g keys rows = (r : ℕ) → r < 15 → slice_index_or (map (bytes_by f) rows) r [] ≡ four_rows (g (slice_index_or (vectors_of keys) r []))
+
+-- the constant that the S-box adds, left out where it was added, or the other way round
+abbrev pub less_constant : ℕ → ℕ
+less_constant x = bit_xor x 0x63
+
+abbrev pub AreSealingKeys : List RoundKey → List RowKey → Type 0
+AreSealingKeys keys rows = StandFor tower_byte (map less_constant) keys rows
+
+abbrev pub AreUnsealingKeys : List RoundKey → List RowKey → Type 0
+AreUnsealingKeys keys rows = StandFor state_byte (each_half inverse_mix_columns) keys rows

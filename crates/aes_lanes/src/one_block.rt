@@ -1,0 +1,179 @@
+//! The look-ups and steps of sealing on one block, in a vector of 16 bytes.
+
+ghost use Rattle.std.specs.Prelude.{◌≡◌, length, map, take, bit_xor};
+ghost use Rattle.std.specs.Simd.Lanes.{zip2};
+ghost use Rattle.std_defs.specs.Aes.{mul8, sbox, shift_rows, mix_columns};
+ghost use Rattle.aes_lanes.specs.Lookup.{look, AreIndices, low, high, first_part, second_part};
+ghost use Rattle.aes_lanes.specs.Pairs.{turned};
+ghost use Rattle.aes_lanes.specs.RowKeys.{less_constant};
+ghost use Rattle.aes_lanes.specs.SealingTower.{tower_byte, less_sbox};
+
+use crate::lookup::{
+    FIRST_FROM_TOWER, HIGH_TO_TOWER, INVERSE, LOW_TO_TOWER, RATIO, SECOND_FROM_TOWER,
+};
+use crate::sealing_tower::{FIRST_IN_TOWER, FIRST_TWICE, SECOND_IN_TOWER, SECOND_TWICE};
+use std::simd::prelude::*;
+
+const FRONT: [usize; 16] = [0, 1, 2, 3, 4, 5, 6, 7, 8, 9, 10, 11, 12, 13, 14, 15];
+
+const SHIFTED: [usize; 16] = [0, 5, 10, 15, 4, 9, 14, 3, 8, 13, 2, 7, 12, 1, 6, 11];
+
+const ONE_ON: [usize; 16] = [1, 2, 3, 0, 5, 6, 7, 4, 9, 10, 11, 8, 13, 14, 15, 12];
+
+const TWO_ON: [usize; 16] = [2, 3, 0, 1, 6, 7, 4, 5, 10, 11, 8, 9, 14, 15, 12, 13];
+
+/// The first of two blocks.
+#[inline(always)]
+pub(crate) fn front_of(x: u8x32) -> u8x16
+    ensures { result ≡ take 16 x }
+{
+    x.swizzle(FRONT)
+}
+
+/// Each lane's entry of the table.
+#[inline(always)]
+fn looked_up(table: [u8; 16], index: u8x16) -> u8x16
+    requires long { length table ≡ 16 }
+    requires places { AreIndices index }
+    ensures { result ≡ map (look table) index }
+{
+    u8x16::from_array(table).swizzle_dyn_within::<16>(index)
+}
+
+#[inline(always)]
+fn low_half(x: u8x16) -> u8x16
+    ensures { result ≡ map low x }
+{
+    x & u8x16::splat(15)
+}
+
+#[inline(always)]
+fn high_half(x: u8x16) -> u8x16
+    ensures { result ≡ map high x }
+{
+    x >> u8x16::splat(4)
+}
+
+#[inline(always)]
+pub(crate) fn sum(x: u8x16, y: u8x16) -> u8x16
+    ensures { result ≡ zip2 bit_xor x y }
+{
+    x ^ y
+}
+
+/// Both parts of the inverse of each element of the tower.
+#[inline(always)]
+fn inverted(y: u8x16) -> (u8x16, u8x16)
+    ensures first { result.0 ≡ map first_part y }
+    ensures second { result.1 ≡ map second_part y }
+{
+    let k = low_half(y);
+    let i = high_half(y);
+    let j = sum(i, k);
+    let ratio = looked_up(RATIO, k);
+    let p = sum(looked_up(INVERSE, i), ratio);
+    let q = sum(looked_up(INVERSE, j), ratio);
+    (sum(looked_up(INVERSE, p), j), sum(looked_up(INVERSE, q), i))
+}
+
+/// Bytes of a state, in the tower.
+#[inline(always)]
+pub(crate) fn one_in_tower(x: u8x16) -> u8x16
+    ensures { map tower_byte result ≡ x }
+{
+    let left = looked_up(LOW_TO_TOWER, low_half(x));
+    let right = looked_up(HIGH_TO_TOWER, high_half(x));
+    sum(left, right)
+}
+
+/// The sum of the entries for both parts of each lane's inverse.
+#[inline(always)]
+fn by_both(firsts: [u8; 16], seconds: [u8; 16], first: u8x16, second: u8x16) -> u8x16
+    requires first { length firsts ≡ 16 }
+    requires second { length seconds ≡ 16 }
+    requires first_places { AreIndices first }
+    requires second_places { AreIndices second }
+    ensures { result ≡ zip2 bit_xor (map (look firsts) first) (map (look seconds) second) }
+{
+    sum(looked_up(firsts, first), looked_up(seconds, second))
+}
+
+/// The S-box less its constant, and twice that.
+#[inline(always)]
+fn one_made(y: u8x16) -> (u8x16, u8x16)
+    ensures once { map tower_byte result.0 ≡ map (λ y. less_sbox (tower_byte y)) y }
+    ensures twice { map tower_byte result.1 ≡ map (λ y. mul8 2 (less_sbox (tower_byte y))) y }
+{
+    let (first, second) = inverted(y);
+    let once = by_both(FIRST_IN_TOWER, SECOND_IN_TOWER, first, second);
+    let twice = by_both(FIRST_TWICE, SECOND_TWICE, first, second);
+    (once, twice)
+}
+
+/// The S-box, as the bytes themselves.
+#[inline(always)]
+pub(crate) fn one_made_last(y: u8x16) -> u8x16
+    ensures { result ≡ map (λ y. sbox (tower_byte y)) y }
+{
+    let (first, second) = inverted(y);
+    let less = by_both(FIRST_FROM_TOWER, SECOND_FROM_TOWER, first, second);
+    less ^ u8x16::splat(0x63)
+}
+
+/// Sums of elements.
+#[inline(always)]
+fn one_added(x: u8x16, y: u8x16) -> u8x16
+    ensures { map tower_byte result ≡ zip2 bit_xor (map tower_byte x) (map tower_byte y) }
+{
+    x ^ y
+}
+
+/// ShiftRows.
+#[inline(always)]
+pub(crate) fn one_shifted(x: u8x16) -> u8x16
+    ensures { result ≡ shift_rows x }
+{
+    x.swizzle(SHIFTED)
+}
+
+#[inline(always)]
+fn one_on(x: u8x16) -> u8x16
+    ensures { map tower_byte result ≡ turned 1 (map tower_byte x) }
+{
+    x.swizzle(ONE_ON)
+}
+
+#[inline(always)]
+fn two_on(x: u8x16) -> u8x16
+    ensures { map tower_byte result ≡ turned 2 (map tower_byte x) }
+{
+    x.swizzle(TWO_ON)
+}
+
+/// SubBytes less its constant, and MixColumns.
+#[inline(always)]
+fn one_mixed(y: u8x16) -> u8x16
+    ensures { map tower_byte result ≡ mix_columns (map (λ y. less_sbox (tower_byte y)) y) }
+{
+    let (once, twice) = one_made(y);
+    let next = one_on(once);
+    let pair = one_added(once, next);
+    let both = one_added(twice, one_on(twice));
+    one_added(one_added(both, next), two_on(pair))
+}
+
+/// A round key with the constant that the S-box adds, in the tower.
+#[inline(always)]
+fn one_key(key: u8x16) -> u8x16
+    ensures { map tower_byte result ≡ map less_constant key }
+{
+    one_in_tower(key ^ u8x16::splat(0x63))
+}
+
+/// A round of one block.
+#[inline(always)]
+pub(crate) fn one_round(y: u8x16, key: u8x16) -> u8x16
+    ensures { map tower_byte result ≡ zip2 bit_xor (mix_columns (map (λ y. less_sbox (tower_byte y)) (shift_rows y))) (map less_constant key) }
+{
+    one_added(one_mixed(one_shifted(y)), one_key(key))
+}
