@@ -3,8 +3,6 @@
 
 mod blob;
 mod sealed;
-#[cfg(test)]
-mod tests;
 
 pub use blob::{Blob, read_blob};
 pub use sealed::Authenc;
