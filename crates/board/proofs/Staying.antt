@@ -1,5 +1,5 @@
 use Rattle.std.proofs.Common.{◌≡◌, ◌≢◌, ℕ, zero, suc, ◌<◌, Bool, true, false, cond, ◌||◌, List, [], ◌∷◌, ◌++◌, length, map, Option, Some, None, is_some, refl, sym, ◌∙◌, ap, subst, arith, append-nil, append_assoc, ◌⊎◌, inl, inr}
-use Rattle.std.specs.Prelude.{◌==◌, slice_get, Result, Ok, Err, MatchResult, MatchBool}
+use Rattle.std.specs.Prelude.{◌==◌, slice_get}
 use Rattle.std.specs.List.{filter_map}
 use Rattle.std.proofs.lemmas.Bool.{eqb-true, eq-eqb, false_from_ne_true, or_left, or_from}
 use Rattle.std.proofs.lemmas.List.{map-append}
@@ -9,10 +9,10 @@ use Rattle.board.specs.declared.entry.Shape.{Shape}
 use Rattle.board.specs.declared.entry.Shape.TheVariants as shape
 use Rattle.board.specs.declared.entry.BoardEntry.{BoardEntry}
 use Rattle.board.specs.declared.entry.BoardEntry.TheVariants.{Born, Submit, Take, Finish, Enq, Deq, Done, Hold, Go, Collect, Close, Share, Shut}
-use Rattle.board.specs.Entries.{is_of, entries_of, birth, pad_born, queue_born, starts, held_in, is_held, told_in, accepted_in, submissions, taken_in, takings, takers, finished_in, finished, has, is_close, is_share, is_shared, meaning_at, caller_of, collected_in, collected, last_or, told, front, completes_below}
-use Rattle.board.specs.Legal.{IsMaker, maker_is, IsRight, IsRightFor, AreRightAfter, LegalBoard, MayFinish, MayManage, IsOpen}
+use Rattle.board.specs.Entries.{is_of, entries_of, birth, pad_born, queue_born, starts, held_in, is_held, told_in, accepted_in, submissions, taken_in, takings, takers, finished_in, finished, has, is_share, is_shared, meaning_at, caller_of, collected_in, collected, last_or, told, front, completes_below}
+use Rattle.board.specs.Legal.{IsMaker, maker_is, IsRight, IsRightFor, AreRightAfter, MayFinish, IsOpen}
 use Rattle.board.specs.Order.{AreRightForAfter, numbers_below}
-use Rattle.board.specs.Staying.{IsDrained, OpensPad, OpensQueue, StaysOpen, QueueStaysOpen, StaysManaged, StaysSubmitting, BornServed, Holds, StaysHeld, SlipStays, IsOpenFor, IsOpenQueueFor, CollectDrains, is_work, WorkLeaves, IsWorkOf, TakingIsWork, FinishingIsWork}
+use Rattle.board.specs.Staying.{OpensPad, OpensQueue, StaysOpen, QueueStaysOpen, StaysManaged, StaysSubmitting, BornServed, Holds, StaysHeld, SlipStays, CollectDrains, is_work, WorkLeaves, IsWorkOf, TakingIsWork, FinishingIsWork}
 use Rattle.board.proofs.Transfer.{right_for, entries-more, entries-same, each_right}
 use Rattle.board.proofs.PadOrder.{filter_map-none, birth_stays, filter_map-some, last_or-append, told_on_pad}
 use Rattle.board.proofs.Kept.{takers-same, closed-same, held-same, shared-same, has-more, collected-same}
