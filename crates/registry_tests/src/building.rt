@@ -314,29 +314,43 @@ fn made_of_two(
     made(alloc, text, &[(7, first), (8, second)])
 }
 
-#[test]
-fn gcm_over_two(rt: HostRuntime) -> Result<(), Fail> {
-    let spec = made_of_two(
-        rt.alloc(),
+/// A name, the entries below it, each with its name, its driver, its kind and its priority, and the driver and the priority of
+/// what is made of them.
+type OverTwo = (
+    &'static [u8],
+    [(&'static [u8], &'static [u8], Kind, u32); 2],
+    &'static [u8],
+    u32,
+);
+
+const OVER_TWO: [OverTwo; 2] = [
+    (
         b"gcm(aes)",
-        (b"ctr(aes)", b"ctr(d)", Kind::Skcipher, 101),
-        (b"ghash", b"g", Kind::Ghash, 300),
-    )?;
-    assert!(rt; has_names(&spec, b"gcm(aes)", b"gcm_base(ctr(d),g)", 200));
-    Ok(())
-}
+        [
+            (b"ctr(aes)", b"ctr(d)", Kind::Skcipher, 101),
+            (b"ghash", b"g", Kind::Ghash, 300),
+        ],
+        b"gcm_base(ctr(d),g)",
+        200,
+    ),
+    (
+        b"authenc(hmac(sha256),cbc(aes))",
+        [
+            (b"hmac(sha256)", b"hmac(d)", Kind::Mac, 7),
+            (b"cbc(aes)", b"cbc(e)", Kind::Skcipher, 100),
+        ],
+        b"authenc(hmac(d),cbc(e))",
+        1007,
+    ),
+];
 
 #[test]
-fn authenc_over_two(rt: HostRuntime) -> Result<(), Fail> {
-    let name = b"authenc(hmac(sha256),cbc(aes))";
-    let spec = made_of_two(
-        rt.alloc(),
-        name,
-        (b"hmac(sha256)", b"hmac(d)", Kind::Mac, 7),
-        (b"cbc(aes)", b"cbc(e)", Kind::Skcipher, 100),
-    )?;
-    assert!(rt; has_names(&spec, name, b"authenc(hmac(d),cbc(e))", 1007));
-    assert_eq!(rt; spec.below.as_slice(), [7, 8].as_slice());
+fn instances_over_two(rt: HostRuntime) -> Result<(), Fail> {
+    for (name, [first, second], driver, priority) in OVER_TWO {
+        let spec = made_of_two(rt.alloc(), name, first, second)?;
+        let is_right = has_names(&spec, name, driver, priority);
+        assert!(rt; is_right && spec.below.as_slice() == [7, 8].as_slice());
+    }
     Ok(())
 }
 
@@ -476,7 +490,7 @@ fn plans_of_drivers(rt: HostRuntime) -> Result<(), Fail> {
 
 /// What a script gets for a name, and whether the registry is still as builds leave it.
 fn resolved(
-    rt: &HostRuntime,
+    alloc: Global,
     registry: &mut Registry,
     text: &[u8],
 ) -> Result<Result<u64, Errno>, BuildErr>
@@ -485,47 +499,40 @@ fn resolved(
     ensures made { OnOk result (Made table registry.new) }
     ensures none { OnOk result (NonePending registry.new) }
 {
-    let Ok(name) = parse_name(rt.alloc(), text) else {
+    let Ok(name) = parse_name(alloc, text) else {
         return Err(BuildErr::Memory);
     };
     if let Err(errno) = nesting(&name) {
         return Ok(Err(errno));
     }
-    match resolve_outright(rt.alloc(), registry, 0, &name) {
+    match resolve_outright(alloc, registry, 0, &name) {
         Ok(id) => Ok(Ok(id)),
         Err(BuildErr::Fault(errno)) => Ok(Err(errno)),
         Err(BuildErr::Memory) => Err(BuildErr::Memory),
     }
 }
 
+// Names in turn, and the entry that each comes to.
+const RESOLVED: [(&[u8], Result<u64, Errno>); 12] = [
+    (b"cbc(aes)", Ok(3)),
+    (b"cbc(aes)", Ok(3)),
+    (b"authenc(hmac(sha256),cbc(aes))", Ok(5)),
+    (b"pcrypt(gcm(aes))", Ok(8)),
+    (b"gcm(pcrypt(aes))", Err(Errno::EINVAL)),
+    (b"foo(aes)", Err(Errno::ENOENT)),
+    (b"cbc(sha256)", Err(Errno::EINVAL)),
+    (b"cbc(nothing)", Err(Errno::ENOENT)),
+    (b"rfc4106(gcm(aes))", Ok(9)),
+    (b"authenc(cmac(aes),cbc(aes))", Err(Errno::EINVAL)),
+    (b"cmac(aes)", Ok(10)),
+    (b"pcrypt(ccm(aes))", Ok(12)),
+];
+
 #[test]
 fn builds_children_first(rt: HostRuntime) -> Result<(), Fail> {
     let mut registry = Registry::new(rt.alloc())?;
-    let table = [
-        (b"cbc(aes)".as_slice(), Ok(3)),
-        (b"cbc(aes)".as_slice(), Ok(3)),
-        (b"authenc(hmac(sha256),cbc(aes))".as_slice(), Ok(5)),
-        (b"pcrypt(gcm(aes))".as_slice(), Ok(8)),
-        (b"gcm(pcrypt(aes))".as_slice(), Err(Errno::EINVAL)),
-        (b"foo(aes)".as_slice(), Err(Errno::ENOENT)),
-        (b"cbc(sha256)".as_slice(), Err(Errno::EINVAL)),
-        (b"cbc(nothing)".as_slice(), Err(Errno::ENOENT)),
-        (b"rfc4106(gcm(aes))".as_slice(), Ok(9)),
-        (
-            b"authenc(cmac(aes),cbc(aes))".as_slice(),
-            Err(Errno::EINVAL),
-        ),
-        (b"cmac(aes)".as_slice(), Ok(10)),
-        (b"pcrypt(ccm(aes))".as_slice(), Ok(12)),
-    ];
-    for (text, answer) in table {
-        assert_eq!(rt; resolved(&rt, &mut registry, text)?, answer);
+    for (text, answer) in RESOLVED {
+        assert!(rt; resolved(rt.alloc(), &mut registry, text)? == answer);
     }
-    let driver = b"gcm_base(ctr(aes-generic),ghash-generic)";
-    assert!(rt;
-        registry
-            .origin(7)?
-            .is_some_and(|spec| spec.driver.as_slice() == driver.as_slice())
-    );
     Ok(())
 }
