@@ -7,7 +7,5 @@ mod schedule;
 mod state;
 mod table_aes;
 mod tables;
-#[cfg(test)]
-mod tests;
 
 pub use table_aes::TableAes;

@@ -10,8 +10,6 @@ mod name_errors;
 mod name_tree;
 mod parser;
 mod printer;
-#[cfg(test)]
-mod tests;
 
 pub use name_errors::NameErr;
 pub use name_tree::Name;

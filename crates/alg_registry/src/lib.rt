@@ -15,8 +15,6 @@ mod registry;
 mod row;
 mod rows;
 mod spec;
-#[cfg(test)]
-mod tests;
 
 pub use entry::{Claimed, EndAnswer, Ended, Enlisted, Looked, RefAnswer, RegEntry, RegErr};
 pub use history::RegLog;

@@ -1,35 +1,13 @@
 -- the law of authenc
-use Rattle.std.specs.Prelude.{◌≡◌, ◌≤◌, ◌<◌, ◌++◌, ℕ, List, length, take, All, Option, Some, None, bytes_eq}
-use Rattle.std.specs.Option.{option_map}
-use Rattle.std.proofs.Common.{sym, ap, ◌∙◌, arith, length-take}
-use Rattle.std.proofs.lemmas.Bool.{cond-true}
-use Rattle.std.proofs.lemmas.Slice.Eq.{bytes_eq-Decides}
-use Rattle.std_defs.specs.Hmac.{hmac_under}
+use Rattle.std.specs.Prelude.{◌≡◌, ◌≤◌, ◌<◌, ℕ, List, length, take, All, Option, Some}
 use Rattle.std_defs.specs.Authenc.{authenc_seal, authenc_open}
-use Rattle.std_defs.specs.Value.{or_invalid}
-use Rattle.std_defs.specs.Value.Value.{bytes, bad_message}
+use Rattle.std_defs.specs.Value.Value.{bytes}
 use Rattle.aes_block.specs.Mode.{UndoesSealing}
 
--- a text and what is made of it
-parts : (sealed : Option (List ℕ)) (mac : List ℕ → List ℕ) (made tag : List ℕ) → option_map {U = List ℕ × List ℕ} (λ c. (c, mac c)) sealed ≡ Some (made, tag)
-    → (sealed ≡ Some made) × (tag ≡ mac made)
-parts None mac made tag is = absurd (cc)
-parts (Some c) mac made tag is =
-    let both : (c, mac c) ≡ (made, tag) = cc in
-    let text : c ≡ made = ap (λ (p : List ℕ × List ℕ). p.0) both in
-    (ap Some text, sym (ap (λ (p : List ℕ × List ℕ). p.1) both) ∙ ap mac text)
-
 -- what authenc sealed opens to the text again, under each front of the whole tag
-pub opens_what_it_sealed : (block : List ℕ) (iv_size : ℕ) (seals unseals : List ℕ → List ℕ → Option (List ℕ)) → UndoesSealing iv_size seals unseals
+abbrev pub OpensWhatItSealed : Type 0
+OpensWhatItSealed =
+    (block : List ℕ) (iv_size : ℕ) (seals unseals : List ℕ → List ℕ → Option (List ℕ)) → UndoesSealing iv_size seals unseals
     → (iv associated text made tag : List ℕ) (n : ℕ) → length iv ≡ iv_size → All (λ x. x < 256) iv → All (λ x. x < 256) text → n ≤ length tag
     → authenc_seal block (seals iv) associated text ≡ Some (made, tag)
     → authenc_open block (unseals iv) associated made (take n tag) ≡ bytes text
-unfolding authenc_seal authenc_open
-opens_what_it_sealed block iv_size seals unseals undoes iv associated text made tag n is_size iv_bytes text_bytes short is =
-    let mac : List ℕ → List ℕ = λ c. hmac_under block (associated ++ c) in
-    let sealed : (seals iv text ≡ Some made) × (tag ≡ mac made) = parts (seals iv text) mac made tag is in
-    let long : length (take n tag) ≡ n = omega (arith, length-take n tag) in
-    let front : take (length (take n tag)) (mac made) ≡ take n tag = ap (λ (k : ℕ). take k (mac made)) long ∙ ap (take n) (sym sealed.1) in
-    cond-true (bytes_eq (take (length (take n tag)) (mac made)) (take n tag)) (or_invalid (unseals iv made)) bad_message
-    ((bytes_eq-Decides (take (length (take n tag)) (mac made)) (take n tag)).1 front)
-    ∙ ap or_invalid (undoes.unseals_sealed iv text made is_size iv_bytes text_bytes sealed.0)

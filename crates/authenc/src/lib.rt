@@ -2,9 +2,9 @@
 #![tactic(auto)]
 
 mod blob;
+mod laws;
 mod sealed;
-#[cfg(test)]
-mod tests;
 
 pub use blob::{Blob, read_blob};
+pub use laws::authenc_opens_what_it_sealed;
 pub use sealed::Authenc;

@@ -4,7 +4,7 @@ use Rattle.std.specs.Prelude.{if◌then◌else◌}
 use Rattle.board.specs.declared.entry.BoardEntry.{BoardEntry}
 use Rattle.board.specs.declared.entry.BoardEntry.TheVariants.{Born, Submit, Take, Finish, Enq, Deq, Done, Hold, Go, Collect, Close, Share, Shut}
 use Rattle.board.specs.Entries.{is_of, entries_of, accepted_in, submissions, finished_in, unbroken, front, is_closed, caller_of}
-use Rattle.board.specs.Legal.{IsNoWorker, IsRightFor, LegalBoard, MayManage}
+use Rattle.board.specs.Legal.{IsNoWorker, IsRightFor, MayManage}
 use Rattle.board.specs.Order.{AreRightForAfter}
 use Rattle.board.specs.Staying.{is_work}
 use Rattle.board.proofs.PadOrder.{filter_map-none}
@@ -12,7 +12,7 @@ use Rattle.board.proofs.Transfer.{each_right}
 use Rattle.board.proofs.Kept.{closed-same}
 use Rattle.turn_lock.specs.Turns.{Each}
 use Rattle.board.proofs.Ends.{IsRun, run_step, ends_all}
-use Rattle.board.specs.Ends.{IsAllFinished, AllIsFinished}
+use Rattle.board.specs.Ends.{AllIsFinished}
 
 module _ {A : Type 0} where
   abbrev IsEnd : List (BoardEntry A) → Type 0

@@ -1,5 +1,5 @@
 use Rattle.std.proofs.Common.{◌≡◌, ◌≢◌, ℕ, zero, suc, ◌<◌, Bool, true, false, cond, ◌||◌, List, [], ◌∷◌, ◌++◌, length, map, Option, Some, None, is_some, refl, sym, ◌∙◌, ap, subst, arith, append-nil, append_assoc, ◌⊎◌, inl, inr}
-use Rattle.std.specs.Prelude.{◌==◌, slice_get, Result, Ok, Err, MatchResult, MatchBool}
+use Rattle.std.specs.Prelude.{◌==◌, slice_get}
 use Rattle.std.specs.List.{filter_map}
 use Rattle.std.proofs.lemmas.Bool.{eqb-true, eq-eqb, false_from_ne_true, or_left, or_from}
 use Rattle.std.proofs.lemmas.List.{map-append}
@@ -9,10 +9,10 @@ use Rattle.board.specs.declared.entry.Shape.{Shape}
 use Rattle.board.specs.declared.entry.Shape.TheVariants as shape
 use Rattle.board.specs.declared.entry.BoardEntry.{BoardEntry}
 use Rattle.board.specs.declared.entry.BoardEntry.TheVariants.{Born, Submit, Take, Finish, Enq, Deq, Done, Hold, Go, Collect, Close, Share, Shut}
-use Rattle.board.specs.Entries.{is_of, entries_of, birth, pad_born, queue_born, starts, held_in, is_held, told_in, accepted_in, submissions, taken_in, takings, takers, finished_in, finished, has, is_close, is_share, is_shared, meaning_at, caller_of, collected_in, collected, last_or, told, front, completes_below}
-use Rattle.board.specs.Legal.{IsMaker, maker_is, IsRight, IsRightFor, AreRightAfter, LegalBoard, MayFinish, MayManage, IsOpen}
+use Rattle.board.specs.Entries.{is_of, entries_of, birth, pad_born, queue_born, starts, held_in, is_held, told_in, accepted_in, submissions, taken_in, takings, takers, finished_in, finished, has, is_share, is_shared, meaning_at, caller_of, collected_in, collected, last_or, told, front, completes_below}
+use Rattle.board.specs.Legal.{IsMaker, maker_is, IsRight, IsRightFor, AreRightAfter, MayFinish, IsOpen}
 use Rattle.board.specs.Order.{AreRightForAfter, numbers_below}
-use Rattle.board.specs.Staying.{IsDrained, OpensPad, OpensQueue, StaysOpen, QueueStaysOpen, StaysManaged, StaysSubmitting, BornServed, Holds, StaysHeld, SlipStays, IsOpenFor, IsOpenQueueFor, CollectDrains, is_work, WorkLeaves, IsWorkOf, TakingIsWork, FinishingIsWork}
+use Rattle.board.specs.Staying.{OpensPad, OpensQueue, StaysOpen, QueueStaysOpen, StaysManaged, StaysSubmitting, BornServed, Holds, StaysHeld, SlipStays, CollectDrains, is_work, WorkLeaves, IsWorkOf, TakingIsWork, FinishingIsWork}
 use Rattle.board.proofs.Transfer.{right_for, entries-more, entries-same, each_right}
 use Rattle.board.proofs.PadOrder.{filter_map-none, birth_stays, filter_map-some, last_or-append, told_on_pad}
 use Rattle.board.proofs.Kept.{takers-same, closed-same, held-same, shared-same, has-more, collected-same}
@@ -185,33 +185,6 @@ slip_cases meaning h e p caller n out false s legal other m = rw (entries-same h
 pub slip_stays : {A O : Type 0} (meaning : A → O) (h : List (BoardEntry A)) (e : BoardEntry A) (p caller n : ℕ) (out : O) → SlipStays meaning h e p caller n out
 slip_stays meaning h e p caller n out = slip_cases meaning h e p caller n out (is_of p e) refl
 
-pub open_for_more : {A : Type 0} (old new : List (BoardEntry A)) (e : BoardEntry A) (p caller : ℕ) → new ≡ old ++ e ∷ [] → is_close e ≡ false → IsOpenFor old p caller → IsOpenFor new p caller
-open_for_more old new e p caller more c o = rw more (stays_open old e p o.0 c, stays_managed old e p caller o.1)
-
-pub queue_for_more : {A : Type 0} (old new : List (BoardEntry A)) (e : BoardEntry A) (q caller : ℕ) → new ≡ old ++ e ∷ [] → is_close e ≡ false → IsOpenQueueFor old q caller → IsOpenQueueFor new q caller
-queue_for_more old new e q caller more c o = rw more (queue_stays_open old e q o.0 c, stays_managed old e q caller o.1)
-
-pub slip_more : {A O : Type 0} (meaning : A → O) (old new : List (BoardEntry A)) (e : BoardEntry A) (p caller n : ℕ) (out : O) → new ≡ old ++ e ∷ [] → LegalBoard new → caller_of e ≢ caller → MayFinish meaning (entries_of p old) caller n out → MayFinish meaning (entries_of p new) caller n out
-slip_more meaning old new e p caller n out more legal other m = rw more (slip_stays meaning old e p caller n out (subst (λ h. LegalBoard h) more legal) other m)
-
--- a call that appends an entry or nothing
-pub appended_or_same : {X E : Type 0} (old new more : X) (r : Result Bool E) → MatchResult r (λ all. MatchBool all (new ≡ more) (new ≡ old)) (λ _. new ≡ old) → (new ≡ more) ⊎ (new ≡ old)
-appended_or_same old new more (Ok true) h = inl h
-appended_or_same old new more (Ok false) h = inr h
-appended_or_same old new more (Err e) h = inr h
-
-pub done_or_same : {X T E : Type 0} (old new more : X) (r : Result T E) → MatchResult r (λ _. new ≡ more) (λ _. new ≡ old) → (new ≡ more) ⊎ (new ≡ old)
-done_or_same old new more (Ok t) h = inl h
-done_or_same old new more (Err e) h = inr h
-
-pub open_after : {A : Type 0} (old new : List (BoardEntry A)) (e : BoardEntry A) (p caller : ℕ) → (new ≡ old ++ e ∷ []) ⊎ (new ≡ old) → is_close e ≡ false → IsOpenFor old p caller → IsOpenFor new p caller
-open_after old new e p caller (inl more) c o = open_for_more old new e p caller more c o
-open_after old new e p caller (inr same) c o = rw same o
-
-pub slip_after : {A O : Type 0} (meaning : A → O) (old new : List (BoardEntry A)) (e : BoardEntry A) (p caller n : ℕ) (out : O) → (new ≡ old ++ e ∷ []) ⊎ (new ≡ old) → LegalBoard new → caller_of e ≢ caller → MayFinish meaning (entries_of p old) caller n out → MayFinish meaning (entries_of p new) caller n out
-slip_after meaning old new e p caller n out (inl more) legal other m = slip_more meaning old new e p caller n out more legal other m
-slip_after meaning old new e p caller n out (inr same) legal other m = rw same m
-
 -- what is told stays where no more is accepted, finished or told
 told_stays : {A : Type 0} (es : List (BoardEntry A)) (e : BoardEntry A) → IsOpen es → front (es ++ e ∷ []) ≡ front es → told_in e ≡ None → told (es ++ e ∷ []) ≡ told es
 told_stays es e (inl o) f t =
@@ -264,15 +237,3 @@ work_cases h e p false s w = rw (entries-same h p e s) (refl, refl, refl)
 
 pub work_leaves : {A : Type 0} (h : List (BoardEntry A)) (e : BoardEntry A) (p : ℕ) → WorkLeaves h e p
 work_leaves h e p = work_cases h e p (is_of p e) refl
-
-pub queue_after : {A : Type 0} (old new : List (BoardEntry A)) (e : BoardEntry A) (q caller : ℕ) → (new ≡ old ++ e ∷ []) ⊎ (new ≡ old) → is_close e ≡ false → IsOpenQueueFor old q caller → IsOpenQueueFor new q caller
-queue_after old new e q caller (inl more) c o = queue_for_more old new e q caller more c o
-queue_after old new e q caller (inr same) c o = rw same o
-
--- a queue that a call drained may be closed
-pub drained_open : {A : Type 0} (old new : List (BoardEntry A)) (p to caller : ℕ) (all : Bool) → all ≡ true → MatchBool all (new ≡ old ++ Collect caller p to ∷ []) (new ≡ old) → MatchBool all (front (entries_of p old) ≡ length (submissions (entries_of p old))) (front (entries_of p old) < length (submissions (entries_of p old))) → LegalBoard new → IsOpenQueueFor old p caller
-    → MayManage (entries_of p new) caller × IsOpen (entries_of p new) × IsDrained (entries_of p new)
-drained_open old new p to caller false t more f legal o = cc
-drained_open {A} old new p to caller true t more f legal o =
-    let e : BoardEntry A = Collect caller p to in
-    rw more (stays_managed old e p caller o.1, inr (queue_stays_open old e p o.0 refl), collect_drains old caller p to (subst (λ h. LegalBoard h) more legal) (inr o.0) f)

@@ -10,13 +10,9 @@ mod handing_out;
 mod laws;
 mod log;
 mod pipeline;
-#[cfg(test)]
-mod queue_tests;
 mod queues;
 mod ready;
 mod submitting;
-#[cfg(test)]
-mod tests;
 mod work;
 mod working;
 

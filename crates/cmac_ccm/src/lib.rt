@@ -6,8 +6,6 @@ mod chain;
 mod cmac;
 mod formatting;
 pub mod laws;
-#[cfg(test)]
-mod tests;
 
 pub use ccm::{Ccm, takes_ccm_tag};
 pub use cmac::Cmac;

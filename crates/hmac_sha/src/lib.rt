@@ -3,7 +3,5 @@
 
 mod key_block;
 mod mac;
-#[cfg(test)]
-mod tests;
 
 pub use mac::Mac;

@@ -6,8 +6,6 @@ mod callback_list;
 mod error_numbers;
 mod in_memory;
 mod streams;
-#[cfg(test)]
-mod tests;
 mod transfer;
 
 pub use byte_list::Bytes;

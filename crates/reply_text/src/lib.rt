@@ -4,8 +4,6 @@
 mod answers;
 mod replies;
 mod sentences;
-#[cfg(test)]
-mod tests;
 
 pub use answers::Answer;
 pub use replies::put;

@@ -9,8 +9,6 @@ pub mod laws;
 mod nested_names;
 mod resolving;
 mod template_words;
-#[cfg(test)]
-mod tests;
 
 pub use asking::children;
 pub use build_errors::BuildErr;

@@ -13,8 +13,6 @@ mod register;
 mod registering;
 mod registry_check;
 mod table;
-#[cfg(test)]
-mod tests;
 mod verdict;
 
 pub use laws::{asks_are_lines, board_reasons, one_verdict, registry_reasons};

@@ -3,8 +3,6 @@
 
 mod board_text;
 mod registry_text;
-#[cfg(test)]
-mod tests;
 mod words;
 mod writing;
 

@@ -16,8 +16,6 @@ mod room;
 mod running;
 mod tags;
 mod taking;
-#[cfg(test)]
-mod tests;
 mod tfm_err;
 mod work;
 

@@ -3,8 +3,8 @@ use Rattle.board.specs.declared.entry.BoardEntry.TheVariants.{Enq}
 use Rattle.board.specs.Entries.{entries_of, verdict}
 use Rattle.board.specs.Legal.{MaySubmit, IsOpenQueue}
 use Rattle.board.proofs.Kept.{shut-same, within_board}
-use Rattle.board.proofs.KeptRoom.{is_queue_same, answer_same, entered_same}
-use Rattle.board.proofs.KeptSubmit.{room_step, queue_open_here, few_submissions, accepted_here, queue_here}
+use Rattle.board.proofs.KeptRoom.{answer_same, entered_same}
+use Rattle.board.proofs.KeptSubmit.{room_step, queue_open_here, few_submissions, accepted_here}
 use Rattle.board.proofs.KeptEnqueue.{is_accepted, accepts_is, enqueue_step, few_entries, used_answer}
 use Rattle.board.proofs.InLine.{ready_same, ready_added, all_but, serve_same}
 use Rattle.board.proofs.board_core.BoardCore.enqueue.Goals as goal

@@ -4,8 +4,8 @@ use Rattle.board.specs.Entries.{entries_of, submissions}
 use Rattle.board.specs.Legal.{MaySubmit, IsOpenPad}
 use Rattle.board.proofs.KeptUsed.{used_more}
 use Rattle.board.proofs.Kept.{shut-same, within_board}
-use Rattle.board.proofs.KeptRoom.{is_pad_same, accepted_same, job_same}
-use Rattle.board.proofs.KeptSubmit.{submit_step, room_step, open_here, few_submissions, accepted_here, pad_here}
+use Rattle.board.proofs.KeptRoom.{accepted_same, job_same}
+use Rattle.board.proofs.KeptSubmit.{submit_step, room_step, open_here, few_submissions, accepted_here}
 use Rattle.board.proofs.InLine.{ready_same, ready_added, all_but, serve_same}
 use Rattle.board.proofs.board_core.BoardCore.submit.Goals as goal
 

@@ -1,4 +1,4 @@
-use Rattle.std.proofs.Common.{arith, ◌<◌, length, sym, ◌∙◌, ap, subst, refl}
+use Rattle.std.proofs.Common.{arith, ◌<◌, length, sym, ◌∙◌, ap, subst}
 use Rattle.board.specs.declared.entry.BoardEntry.{BoardEntry}
 use Rattle.board.specs.Entries.{NoneWaits}
 use Rattle.board.proofs.KeptUsed.{used_same}

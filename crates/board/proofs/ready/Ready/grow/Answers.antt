@@ -1,5 +1,4 @@
-use Rattle.std.proofs.Common.{arith, rules, ◌≡◌, ◌++◌, ◌∷◌, [], false}
-use Rattle.board.specs.Ready.{IsLine}
+use Rattle.std.proofs.Common.{rules, ◌≡◌, ◌++◌, ◌∷◌, [], false}
 use Rattle.board.proofs.InLine.{line_grown}
 use Rattle.board.proofs.ready.Ready.grow.Goals as goal
 

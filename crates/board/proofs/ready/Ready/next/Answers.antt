@@ -1,4 +1,4 @@
-use Rattle.std.proofs.Common.{arith, rules, ◌≡◌, ◌<◌, ◌∷◌, ◌∙◌, length, ap, sym, subst}
+use Rattle.std.proofs.Common.{arith, rules, ◌<◌, ◌∙◌, ap, sym, subst}
 use Rattle.board.specs.Ready.{IsLine}
 use Rattle.board.proofs.InLine.{line_next, first_within}
 use Rattle.board.proofs.ready.Ready.next.Goals as goal

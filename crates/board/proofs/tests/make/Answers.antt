@@ -1,9 +1,0 @@
-use Rattle.std.proofs.Common.{subst}
-use Rattle.board.specs.Legal.{LegalBoard}
-use Rattle.board.proofs.Staying.{opens_pad}
-use Rattle.board.proofs.tests.make.Goals as goal
-
-pub returns : goal.returns
-returns g c =
-    let made = c.in_ok-pipe.ensures.made.1 in
-    rw made (opens_pad _ c.args.caller c.in_ok-pipe.pipe 2 (subst (λ h. LegalBoard h) made c.in_ok-pipe.ensures.legal))

@@ -1,0 +1,6 @@
+use Rattle.board.specs.Staying.{IsOpenFor}
+use Rattle.board_tests.proofs.pads.are_limited.Given as goal
+
+-- the pad stays open to the caller
+abbrev pub invariant-loop-bytes : goal.invariant-loop-bytes
+invariant-loop-bytes l = IsOpenFor l.board l.pipe l.caller

@@ -1,0 +1,8 @@
+use Rattle.alg_registry.specs.Made.{Made}
+use Rattle.templates.specs.Table.{table}
+use Rattle.templates.specs.Looking.{NonePending}
+use Rattle.registry_tests.proofs.building.builds_children_first.Given as goal
+
+-- between builds the history is one of faithful builds, and no larval is pending
+abbrev pub invariant-loop-text : goal.invariant-loop-text
+invariant-loop-text g l = Made table l.registry × NonePending l.registry
