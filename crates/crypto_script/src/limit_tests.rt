@@ -1,11 +1,13 @@
 //! Scripts that meet a limit.
 
+ghost use Rattle.std.specs.Prelude.{◌<◌};
+
 use crate::tests::expect_beside;
 use std::alloc::{AllocError, Global};
 use std::test::Fail;
 
-// The driver of GCM in ESP over the first drivers, as an answer names it.
-const ESP_DRIVER: &str = " rfc4106(gcm_base(ctr(aes-generic),ghash-generic))";
+// The driver of GCM in ESP over the first drivers.
+const ESP_DRIVER: &str = "rfc4106(gcm_base(ctr(aes-generic),ghash-generic))";
 
 // 16,384 zeros under a key of no bytes, by python's `hmac`.
 const MAC: &str = "75651b5b8dbc225aed4f7504e49b143e60506d006611885b5ef247bdf6ceae3b";
@@ -18,8 +20,10 @@ fn push_times(text: &mut String, line: &str, count: u32) -> Result<(), AllocErro
     Ok(())
 }
 
-// 2^12 requests of 2^14 bytes, as many as the queue takes in, to a held queue; and two more.
-fn many_bytes(alloc: Global) -> Result<String, AllocError> {
+#[test]
+fn pipelines_accept_two_to_the_26_bytes(rt: HostRuntime) -> Result<(), Fail> {
+    let alloc = rt.alloc();
+    // 2^14 bytes a request, and 2^12 requests, as many as the queue takes in
     let mut request = String::from_str(alloc, "mac m ")?;
     push_times(&mut request, "00", 16_384)?;
     request.push_str("\n")?;
@@ -28,12 +32,8 @@ fn many_bytes(alloc: Global) -> Result<String, AllocError> {
         "alloc m cryptd(hmac(sha256)) 4096\nkey m -\nhold m\n",
     )?;
     push_times(&mut script, request.as_str(), 4096)?;
+    // a byte too many comes before the queue's verdict
     script.push_str("mac m 00\nmac m -\n")?;
-    Ok(script)
-}
-
-// Its text: a byte too many comes before the queue's verdict.
-fn many_bytes_taken(alloc: Global) -> Result<String, AllocError> {
     let mut text = String::from_str(alloc, "1 ok cryptd(hmac(sha256-generic))\n2 ok\n3 ok\n")?;
     for line in 4..4100u32 {
         text.push_str(format!(in alloc; "{line} EINPROGRESS\n")?.as_str())?;
@@ -43,48 +43,46 @@ fn many_bytes_taken(alloc: Global) -> Result<String, AllocError> {
         text.push_str(format!(in alloc; "{line} done {MAC}\n")?.as_str())?;
     }
     text.push_str("end m 4096\n")?;
-    Ok(text)
-}
-
-#[test]
-fn pipelines_accept_two_to_the_26_bytes(rt: HostRuntime) -> Result<(), Fail> {
-    let script = many_bytes(rt.alloc())?;
-    let text = many_bytes_taken(rt.alloc())?;
-    expect_beside(&rt, rt.alloc(), 2, script.as_str(), 0, text.as_str())?;
+    expect_beside(&rt, alloc, 2, script.as_str(), 0, text.as_str())?;
     Ok(())
 }
 
-// Transforms of which each holds three instances over an AES of its own, which is unlisted then, and another AES. Of the 3 entries
-// at first and 4 for each of these, one stays for cbc(aes).
-fn many_held(alloc: Global) -> Result<String, AllocError> {
-    let mut script = String::new(alloc);
-    for number in 0..1023u32 {
-        script.push_str(format!(in alloc;
-            "alloc t{number} rfc4106(gcm(aes))\nunregister aes-generic\nregister aes-generic 100\n"
-        )?.as_str())?;
-    }
-    script.push_str(
-        "alloc c cbc(aes)\nalloc d ctr(aes)\nunregister aes-generic\nregister aes-generic 100\nfree c\nregister aes-generic 100\n",
-    )?;
-    Ok(script)
-}
-
-fn many_held_text(alloc: Global) -> Result<String, AllocError> {
-    let mut text = String::new(alloc);
-    for line in 1..3070u32 {
-        let driver = if line % 3 == 1 { ESP_DRIVER } else { "" };
-        text.push_str(format!(in alloc; "{line} ok{driver}\n")?.as_str())?;
-    }
-    text.push_str(
-        "3070 ok cbc(aes-generic)\n3071 ENFILE\n3072 ok\n3073 ENFILE\n3074 ok\n3075 ok\n",
-    )?;
-    Ok(text)
+// A transform that holds three instances over an AES of its own, which is unlisted then, and another AES.
+fn push_held(
+    alloc: Global,
+    script: &mut String,
+    text: &mut String,
+    at: u32,
+) -> Result<(), AllocError>
+    requires { at < 10000 }
+{
+    script.push_str(format!(in alloc;
+        "alloc t{at} rfc4106(gcm(aes))\nunregister aes-generic\nregister aes-generic 100\n"
+    )?.as_str())?;
+    let line = 3 * at + 1;
+    text.push_str(format!(in alloc;
+        "{line} ok {ESP_DRIVER}\n{} ok\n{} ok\n",
+        line + 1,
+        line + 2
+    )?
+    .as_str())
 }
 
 #[test]
 fn the_registry_holds_4096_entries(rt: HostRuntime) -> Result<(), Fail> {
-    let script = many_held(rt.alloc())?;
-    let text = many_held_text(rt.alloc())?;
-    expect_beside(&rt, rt.alloc(), 1, script.as_str(), 0, text.as_str())?;
+    let alloc = rt.alloc();
+    let mut script = String::new(alloc);
+    let mut text = String::new(alloc);
+    // of the 3 at first and 4 for each of these, one stays for cbc(aes)
+    for at in 0..1023u32 {
+        push_held(alloc, &mut script, &mut text, at)?;
+    }
+    script.push_str(
+        "alloc c cbc(aes)\nalloc d ctr(aes)\nunregister aes-generic\nregister aes-generic 100\nfree c\nregister aes-generic 100\n",
+    )?;
+    text.push_str(
+        "3070 ok cbc(aes-generic)\n3071 ENFILE\n3072 ok\n3073 ENFILE\n3074 ok\n3075 ok\n",
+    )?;
+    expect_beside(&rt, alloc, 1, script.as_str(), 0, text.as_str())?;
     Ok(())
 }

@@ -1,66 +1,110 @@
 //! Whole runs whose requests wait in pipelines.
 
-use crate::tests::{CREWS, expect, written_beside};
+use crate::program::run;
+use crate::tests::{CREWS, bytes_of, expect, words_for};
+use crew::NoGate;
+use kc_base::{SureSink, SureSource};
 use std::alloc::{AllocError, Global};
+use std::process::Abort;
 use std::sync::Wait;
 use std::test::Fail;
 use std::thread::Threads;
 
-// The key of SP 800-38A, F.2.1.
+// The key, the text and the nonce of GCM's second test case, and its sealed text.
+const ZEROS: &str = "00000000000000000000000000000000";
+
+const NONCE: &str = "000000000000000000000000";
+
+const SEALED: &str = "0388dace60b6a392f328c2b971b2fe78ab6e47d42cec13bdf53a67b21257bddf";
+
+// SP 800-38A, F.2.1: the key, the IV, and the first block open and sealed.
 const CBC_KEY: &str = "2b7e151628aed2a6abf7158809cf4f3c";
+
+const IV: &str = "000102030405060708090a0b0c0d0e0f";
+
+const BLOCK: &str = "6bc1bee22e409f96e93d7e117393172a";
+
+const SEALED_BLOCK: &str = "7649abac8119b246cee98e9b12e9197d";
 
 const GCM_DRIVER: &str = "gcm_base(ctr(aes-generic),ghash-generic)";
 
-// Scripts whose requests wait in pipelines: for each its text. The bytes are those of GCM's second test case, and of SP 800-38A,
-// F.2.1.
-const PIPED: [(&str, &str); 5] = [
-    (
-        // a held queue takes in no more than fits
-        "alloc q cryptd(cbc(aes)) 2\nkey q 2b7e151628aed2a6abf7158809cf4f3c\nhold q\nenc q 000102030405060708090a0b0c0d0e0f - 6bc1bee22e409f96e93d7e117393172a\nenc q 000102030405060708090a0b0c0d0e0f - 6bc1bee22e409f96e93d7e117393172a\nenc q 000102030405060708090a0b0c0d0e0f - 6bc1bee22e409f96e93d7e117393172a backlog\nenc q 000102030405060708090a0b0c0d0e0f - 6bc1bee22e409f96e93d7e117393172a\ndrain q\ngo q\ndrain q\n",
-        "1 ok cryptd(cbc(aes-generic))\n2 ok\n3 ok\n4 EINPROGRESS\n5 EINPROGRESS\n6 EBUSY\n7 ENOSPC\n8 EINVAL\n9 ok\n6 started\n4 done 7649abac8119b246cee98e9b12e9197d\n5 done 7649abac8119b246cee98e9b12e9197d\n6 done 7649abac8119b246cee98e9b12e9197d\n10 drained 3\n",
-    ),
-    (
-        // what owes completions is not freed
-        "alloc p pcrypt(gcm(aes))\nkey p 00000000000000000000000000000000\nenc p 000000000000000000000000 - 00000000000000000000000000000000\nfree p\ndrain p\nfree p\nenc p 000000000000000000000000 - 00000000000000000000000000000000\n",
-        "1 ok pcrypt(gcm_base(ctr(aes-generic),ghash-generic))\n2 ok\n3 EINPROGRESS\n4 EBUSY\n3 done 0388dace60b6a392f328c2b971b2fe78ab6e47d42cec13bdf53a67b21257bddf\n5 drained 1\n6 ok\n7 ENOENT\n",
-    ),
-    (
-        // the end of input drains
-        "alloc p pcrypt(gcm(aes))\nkey p 00000000000000000000000000000000\nenc p 000000000000000000000000 - 00000000000000000000000000000000\n",
-        "1 ok pcrypt(gcm_base(ctr(aes-generic),ghash-generic))\n2 ok\n3 EINPROGRESS\n3 done 0388dace60b6a392f328c2b971b2fe78ab6e47d42cec13bdf53a67b21257bddf\nend p 1\n",
-    ),
-    (
-        // the end of input lets a held queue go
-        "alloc q cryptd(cbc(aes)) 1\nkey q 2b7e151628aed2a6abf7158809cf4f3c\nhold q\nenc q 000102030405060708090a0b0c0d0e0f - 6bc1bee22e409f96e93d7e117393172a\nenc q 000102030405060708090a0b0c0d0e0f - 6bc1bee22e409f96e93d7e117393172a backlog\nalloc p pcrypt(gcm(aes))\n",
-        "1 ok cryptd(cbc(aes-generic))\n2 ok\n3 ok\n4 EINPROGRESS\n5 EBUSY\n6 ok pcrypt(gcm_base(ctr(aes-generic),ghash-generic))\n5 started\n4 done 7649abac8119b246cee98e9b12e9197d\n5 done 7649abac8119b246cee98e9b12e9197d\nend q 2\n",
-    ),
-    (
-        // only queues are held
-        "alloc p pcrypt(gcm(aes))\nalloc c cbc(aes)\nhold p\ngo p\nhold c\ngo c\nhold x\ngo x\npoll x\ndrain x\npoll c\ndrain c\npoll p\ndrain p\n",
-        "1 ok pcrypt(gcm_base(ctr(aes-generic),ghash-generic))\n2 ok cbc(aes-generic)\n3 EINVAL\n4 EINVAL\n5 EINVAL\n6 EINVAL\n7 ENOENT\n8 ENOENT\n9 ENOENT\n10 ENOENT\n11 polled 0\n12 drained 0\n13 polled 0\n14 drained 0\n",
-    ),
-];
-
-#[test]
-fn requests_wait_in_pipelines(rt: HostRuntime) -> Result<(), Fail> {
-    for (script, text) in PIPED {
-        expect(&rt, rt.alloc(), script, 0, text)?;
-    }
-    Ok(())
-}
-
 // What a script prints beside so many workers, over streams that don't fail.
-fn written_by<R: Threads + Wait + Sync>(
+fn written_by<R: Abort + Threads + Wait + Sync>(
     rt: &R,
     alloc: Global,
     workers: u32,
     script: &str,
 ) -> Result<String, AllocError> {
-    let (_, written) = written_beside(rt, alloc, workers, script)?;
-    String::from_str(
-        alloc,
-        str::from_utf8(written.as_slice()).unwrap_or("no text"),
-    )
+    let words = words_for(alloc, workers)?;
+    let mut out = SureSink::new(alloc);
+    let mut src = SureSource::new(bytes_of(alloc, script)?);
+    let outcome = run(rt, alloc, &words, &NoGate, &mut src, &mut out);
+    assert_eq!(rt; outcome.status, 0);
+    String::from_str(alloc, str::from_utf8(out.bytes()).unwrap_or("no text"))
+}
+
+#[test]
+fn a_held_queue_takes_in_no_more_than_fits(rt: HostRuntime) -> Result<(), Fail> {
+    let alloc = rt.alloc();
+    let script = format!(in alloc;
+        "alloc q cryptd(cbc(aes)) 2\nkey q {CBC_KEY}\nhold q\nenc q {IV} - {BLOCK}\nenc q {IV} - {BLOCK}\nenc q {IV} - {BLOCK} backlog\nenc q {IV} - {BLOCK}\ndrain q\ngo q\ndrain q\n"
+    )?;
+    let text = format!(in alloc;
+        "1 ok cryptd(cbc(aes-generic))\n2 ok\n3 ok\n4 EINPROGRESS\n5 EINPROGRESS\n6 EBUSY\n7 ENOSPC\n8 EINVAL\n9 ok\n6 started\n4 done {SEALED_BLOCK}\n5 done {SEALED_BLOCK}\n6 done {SEALED_BLOCK}\n10 drained 3\n"
+    )?;
+    expect(&rt, alloc, script.as_str(), 0, text.as_str())?;
+    Ok(())
+}
+
+#[test]
+fn what_owes_completions_is_not_freed(rt: HostRuntime) -> Result<(), Fail> {
+    let alloc = rt.alloc();
+    let script = format!(in alloc;
+        "alloc p pcrypt(gcm(aes))\nkey p {ZEROS}\nenc p {NONCE} - {ZEROS}\nfree p\ndrain p\nfree p\nenc p {NONCE} - {ZEROS}\n"
+    )?;
+    let text = format!(in alloc;
+        "1 ok pcrypt({GCM_DRIVER})\n2 ok\n3 EINPROGRESS\n4 EBUSY\n3 done {SEALED}\n5 drained 1\n6 ok\n7 ENOENT\n"
+    )?;
+    expect(&rt, alloc, script.as_str(), 0, text.as_str())?;
+    Ok(())
+}
+
+#[test]
+fn the_end_of_input_drains(rt: HostRuntime) -> Result<(), Fail> {
+    let alloc = rt.alloc();
+    let script = format!(in alloc;
+        "alloc p pcrypt(gcm(aes))\nkey p {ZEROS}\nenc p {NONCE} - {ZEROS}\n"
+    )?;
+    let text = format!(in alloc;
+        "1 ok pcrypt({GCM_DRIVER})\n2 ok\n3 EINPROGRESS\n3 done {SEALED}\nend p 1\n"
+    )?;
+    expect(&rt, alloc, script.as_str(), 0, text.as_str())?;
+    Ok(())
+}
+
+#[test]
+fn the_end_of_input_lets_a_held_queue_go(rt: HostRuntime) -> Result<(), Fail> {
+    let alloc = rt.alloc();
+    let script = format!(in alloc;
+        "alloc q cryptd(cbc(aes)) 1\nkey q {CBC_KEY}\nhold q\nenc q {IV} - {BLOCK}\nenc q {IV} - {BLOCK} backlog\nalloc p pcrypt(gcm(aes))\n"
+    )?;
+    let text = format!(in alloc;
+        "1 ok cryptd(cbc(aes-generic))\n2 ok\n3 ok\n4 EINPROGRESS\n5 EBUSY\n6 ok pcrypt({GCM_DRIVER})\n5 started\n4 done {SEALED_BLOCK}\n5 done {SEALED_BLOCK}\nend q 2\n"
+    )?;
+    expect(&rt, alloc, script.as_str(), 0, text.as_str())?;
+    Ok(())
+}
+
+#[test]
+fn only_queues_are_held(rt: HostRuntime) -> Result<(), Fail> {
+    let alloc = rt.alloc();
+    let script =
+        "alloc p pcrypt(gcm(aes))\nalloc c cbc(aes)\nhold p\ngo p\nhold c\ngo c\nhold x\ngo x\npoll x\ndrain x\npoll c\ndrain c\npoll p\ndrain p\n";
+    let text = format!(in alloc;
+        "1 ok pcrypt({GCM_DRIVER})\n2 ok cbc(aes-generic)\n3 EINVAL\n4 EINVAL\n5 EINVAL\n6 EINVAL\n7 ENOENT\n8 ENOENT\n9 ENOENT\n10 ENOENT\n11 polled 0\n12 drained 0\n13 polled 0\n14 drained 0\n"
+    )?;
+    expect(&rt, alloc, script, 0, text.as_str())?;
+    Ok(())
 }
 
 // The completions of a script's text, and how many its polls and drains say that they handed out.
@@ -80,20 +124,18 @@ fn handed_out(alloc: Global, written: &str) -> Result<(String, u64), AllocError>
     Ok((completions, count))
 }
 
-// Three requests, each with a poll behind it, and their completions.
-const POLLED: &str =
-    "alloc p pcrypt(gcm(aes))\nkey p 00000000000000000000000000000000\nenc p 000000000000000000000000 - 00000000000000000000000000000000\npoll p\nenc p 000000000000000000000000 - 00000000000000000000000000000000\npoll p\nenc p 000000000000000000000000 - 00000000000000000000000000000000\npoll p\ndrain p\n";
-
-const POLLED_COMPLETIONS: &str =
-    "3 done 0388dace60b6a392f328c2b971b2fe78ab6e47d42cec13bdf53a67b21257bddf\n5 done 0388dace60b6a392f328c2b971b2fe78ab6e47d42cec13bdf53a67b21257bddf\n7 done 0388dace60b6a392f328c2b971b2fe78ab6e47d42cec13bdf53a67b21257bddf\n";
-
 #[test]
 fn polls_and_the_drain_hand_out_each_completion_once(rt: HostRuntime) -> Result<(), Fail> {
+    let alloc = rt.alloc();
+    let script = format!(in alloc;
+        "alloc p pcrypt(gcm(aes))\nkey p {ZEROS}\nenc p {NONCE} - {ZEROS}\npoll p\nenc p {NONCE} - {ZEROS}\npoll p\nenc p {NONCE} - {ZEROS}\npoll p\ndrain p\n"
+    )?;
+    let want = format!(in alloc; "3 done {SEALED}\n5 done {SEALED}\n7 done {SEALED}\n")?;
     for workers in CREWS {
-        let written = written_by(&rt, rt.alloc(), workers, POLLED)?;
-        let (completions, count) = handed_out(rt.alloc(), written.as_str())?;
-        let same = completions.as_str() == POLLED_COMPLETIONS && count == 3;
-        assert!(rt; same, "{workers} workers");
+        let written = written_by(&rt, alloc, workers, script.as_str())?;
+        let (completions, count) = handed_out(alloc, written.as_str())?;
+        assert_eq!(rt; completions.as_str(), want.as_str(), "{workers} workers");
+        assert_eq!(rt; count, 3, "{workers} workers");
     }
     Ok(())
 }
@@ -150,30 +192,23 @@ fn push_completions(
     Ok(count)
 }
 
-// What a gateway's script prints under pcrypt, by the answers of the same packets without it.
-fn gateway_text(alloc: Global, answers: &str) -> Result<String, AllocError> {
-    let mut text = String::new(alloc);
-    for line in 1..4u32 {
-        text.push_str(format!(in alloc; "{line} ok pcrypt(rfc4106({GCM_DRIVER}))\n")?.as_str())?;
-    }
-    text.push_str("4 ok\n5 ok\n6 ok\n")?;
-    for line in 7..207u32 {
-        text.push_str(format!(in alloc; "{line} EINPROGRESS\n")?.as_str())?;
-    }
-    for (place, label) in ["a", "b", "c"].iter().enumerate() {
-        let count = push_completions(alloc, &mut text, answers, place)?;
-        text.push_str(format!(in alloc; "end {label} {count}\n")?.as_str())?;
-    }
-    Ok(text)
-}
-
 #[test]
 fn a_gateway_seals_its_packets_in_order(rt: HostRuntime) -> Result<(), Fail> {
-    let plain = gateway(rt.alloc(), "rfc4106(gcm(aes))")?;
-    let answers = written_by(&rt, rt.alloc(), 0, plain.as_str())?;
-    let text = gateway_text(rt.alloc(), answers.as_str())?;
-    assert!(rt; text.ends_with("end c 66\n"));
-    let script = gateway(rt.alloc(), "pcrypt(rfc4106(gcm(aes)))")?;
-    expect(&rt, rt.alloc(), script.as_str(), 0, text.as_str())?;
+    let alloc = rt.alloc();
+    let plain = gateway(alloc, "rfc4106(gcm(aes))")?;
+    let answers = written_by(&rt, alloc, 0, plain.as_str())?;
+    let mut text = format!(in alloc;
+        "1 ok pcrypt(rfc4106({GCM_DRIVER}))\n2 ok pcrypt(rfc4106({GCM_DRIVER}))\n3 ok pcrypt(rfc4106({GCM_DRIVER}))\n4 ok\n5 ok\n6 ok\n"
+    )?;
+    for number in 7..207u32 {
+        text.push_str(format!(in alloc; "{number} EINPROGRESS\n")?.as_str())?;
+    }
+    for (label, place, want) in [("a", 0, 67), ("b", 1, 67), ("c", 2, 66)] {
+        let count = push_completions(alloc, &mut text, answers.as_str(), place)?;
+        assert_eq!(rt; count, want);
+        text.push_str(format!(in alloc; "end {label} {count}\n")?.as_str())?;
+    }
+    let script = gateway(alloc, "pcrypt(rfc4106(gcm(aes)))")?;
+    expect(&rt, alloc, script.as_str(), 0, text.as_str())?;
     Ok(())
 }

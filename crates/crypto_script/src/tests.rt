@@ -46,18 +46,6 @@ pub fn words_for(alloc: Global, workers: u32) -> Result<Vec<String>, AllocError>
     ]?)
 }
 
-// The status of a run. The one call of `run` in these tests: its contract is long, and no test needs it.
-fn came_to<S: Source, K: Sink, G: Gate + Sync, R: Threads + Wait + Sync>(
-    rt: &R,
-    alloc: Global,
-    words: &[String],
-    gate: &G,
-    src: &mut S,
-    out: &mut K,
-) -> u8 {
-    run(rt, alloc, words, gate, src, out).status
-}
-
 // The status of a run beside so many workers.
 fn status<S: Source, K: Sink, R: Threads + Wait + Sync>(
     rt: &R,
@@ -67,20 +55,7 @@ fn status<S: Source, K: Sink, R: Threads + Wait + Sync>(
     out: &mut K,
 ) -> Result<u8, AllocError> {
     let words = words_for(alloc, workers)?;
-    Ok(came_to(rt, alloc, &words, &NoGate, src, out))
-}
-
-/// The status and the text of a script beside so many workers, over streams that don't fail.
-pub fn written_beside<R: Threads + Wait + Sync>(
-    rt: &R,
-    alloc: Global,
-    workers: u32,
-    script: &str,
-) -> Result<(u8, Bytes), AllocError> {
-    let mut out = SureSink::new(alloc);
-    let mut src = SureSource::new(bytes_of(alloc, script)?);
-    let status = status(rt, alloc, workers, &mut src, &mut out)?;
-    Ok((status, Bytes::copy_of(alloc, out.bytes())?))
+    Ok(run(rt, alloc, &words, &NoGate, src, out).status)
 }
 
 /// A script over streams that don't fail has this status and this text beside so many workers.
@@ -92,9 +67,11 @@ pub fn expect_beside<R: Abort + Threads + Wait + Sync>(
     want: u8,
     text: &str,
 ) -> Result<(), AllocError> {
-    let (status, written) = written_beside(rt, alloc, workers, script)?;
-    let same = status == want && written.as_slice() == text.as_bytes();
-    assert!(rt; same, "{workers} workers: {script}");
+    let mut out = SureSink::new(alloc);
+    let mut src = SureSource::new(bytes_of(alloc, script)?);
+    let status = status(rt, alloc, workers, &mut src, &mut out)?;
+    assert_eq!(rt; status, want, "{workers} workers: {script}");
+    assert_eq!(rt; out.bytes(), text.as_bytes(), "{workers} workers: {script}");
     Ok(())
 }
 
@@ -246,29 +223,19 @@ fn moved(alloc: Global, text: &str, driver: &str, form: &str) -> Result<String, 
     Ok(moved)
 }
 
-// A worked script in which another driver computes answers the same.
-fn expect_moved<R: Abort + Threads + Wait + Sync>(
-    rt: &R,
-    alloc: Global,
-    worked: (&str, &str),
-    driver: &str,
-    form: &str,
-) -> Result<(), AllocError> {
-    let script = format!(in alloc; "register {form} 200\n{}", worked.0)?;
-    let rest = moved(alloc, worked.1, driver, form)?;
-    let text = format!(in alloc; "1 ok\n{rest}")?;
-    expect_beside(rt, alloc, 2, script.as_str(), 0, text.as_str())
-}
-
 #[test]
 fn each_form_answers_the_same(rt: HostRuntime) -> Result<(), Fail> {
+    let alloc = rt.alloc();
     for (driver, form) in [
         ("aes-generic", "aes-table"),
         ("aes-generic", "aes-lanes"),
         ("ghash-generic", "ghash-table"),
     ] {
-        for worked in WORKED {
-            expect_moved(&rt, rt.alloc(), worked, driver, form)?;
+        for (script, text) in WORKED {
+            let script = format!(in alloc; "register {form} 200\n{script}")?;
+            let rest = moved(alloc, text, driver, form)?;
+            let text = format!(in alloc; "1 ok\n{rest}")?;
+            expect_beside(&rt, alloc, 2, script.as_str(), 0, text.as_str())?;
         }
     }
     Ok(())
@@ -341,18 +308,6 @@ fn long_texts_are_sealed_in_chunks(rt: HostRuntime) -> Result<(), Fail> {
     Ok(())
 }
 
-// A name has no transform, for this reason.
-fn expect_refused<R: Abort + Threads + Wait + Sync>(
-    rt: &R,
-    alloc: Global,
-    name: &str,
-    errno: &str,
-) -> Result<(), AllocError> {
-    let script = format!(in alloc; "alloc a {name}\n")?;
-    let text = format!(in alloc; "1 {errno}\n")?;
-    expect_beside(rt, alloc, 1, script.as_str(), 0, text.as_str())
-}
-
 #[test]
 fn names_are_refused(rt: HostRuntime) -> Result<(), Fail> {
     let table = [
@@ -379,55 +334,37 @@ fn names_are_refused(rt: HostRuntime) -> Result<(), Fail> {
         ("cryptd(aes)", "EINVAL"),
     ];
     for (name, errno) in table {
-        expect_refused(&rt, rt.alloc(), name, errno)?;
+        let script = format!(in rt.alloc(); "alloc a {name}\n")?;
+        let text = format!(in rt.alloc(); "1 {errno}\n")?;
+        expect_beside(&rt, rt.alloc(), 1, script.as_str(), 0, text.as_str())?;
     }
     Ok(())
-}
-
-// A line for each transform that may live, and one more.
-fn many_allocs(alloc: Global) -> Result<String, AllocError> {
-    let mut script = String::new(alloc);
-    for number in 0..4097u32 {
-        script.push_str(format!(in alloc; "alloc t{number} cbc(aes)\n")?.as_str())?;
-    }
-    Ok(script)
-}
-
-fn many_allocated(alloc: Global) -> Result<String, AllocError> {
-    let mut text = String::new(alloc);
-    for line in 1..4097u32 {
-        text.push_str(format!(in alloc; "{line} ok cbc(aes-generic)\n")?.as_str())?;
-    }
-    text.push_str("4097 EMFILE\n")?;
-    Ok(text)
 }
 
 #[test]
 fn at_most_4096_transforms_live(rt: HostRuntime) -> Result<(), Fail> {
-    let script = many_allocs(rt.alloc())?;
-    let text = many_allocated(rt.alloc())?;
+    let mut script = String::new(rt.alloc());
+    let mut text = String::new(rt.alloc());
+    for i in 0..4096u32 {
+        script.push_str(format!(in rt.alloc(); "alloc t{i} cbc(aes)\n")?.as_str())?;
+        text.push_str(format!(in rt.alloc(); "{} ok cbc(aes-generic)\n", i + 1)?.as_str())?;
+    }
+    script.push_str("alloc t4096 cbc(aes)\n")?;
+    text.push_str("4097 EMFILE\n")?;
     expect_beside(&rt, rt.alloc(), 1, script.as_str(), 0, text.as_str())?;
     Ok(())
 }
 
-// The status of a script of one line under one word, and how much it wrote.
-fn refused_word<R: Threads + Wait + Sync>(
-    rt: &R,
-    alloc: Global,
-    word: &str,
-) -> Result<(u8, usize), AllocError> {
-    let words = vec![in alloc; String::from_str(alloc, word)?]?;
-    let mut out = SureSink::new(alloc);
-    let mut src = SureSource::new(bytes_of(alloc, LINE)?);
-    let status = came_to(rt, alloc, &words, &NoGate, &mut src, &mut out);
-    Ok((status, out.bytes().len()))
-}
-
 #[test]
 fn words_are_refused(rt: HostRuntime) -> Result<(), Fail> {
+    let alloc = rt.alloc();
     for word in ["x", "--workers", "--workers=17", "--trace", "--load=1"] {
-        let found = refused_word(&rt, rt.alloc(), word)?;
-        assert!(rt; found == (2, 0), "{word}");
+        let words = vec![in alloc; String::from_str(alloc, word)?]?;
+        let mut out = SureSink::new(alloc);
+        let mut src = SureSource::new(bytes_of(alloc, LINE)?);
+        let outcome = run(&rt, alloc, &words, &NoGate, &mut src, &mut out);
+        assert_eq!(rt; outcome.status, 2, "{word}");
+        assert!(rt; out.bytes().is_empty(), "{word}");
     }
     Ok(())
 }
@@ -452,24 +389,21 @@ impl Gate for Meet {
     }
 }
 
-const TWO_JOBS: &str =
-    "alloc p pcrypt(gcm(aes))\nkey p 00000000000000000000000000000000\nenc p 000000000000000000000000 - -\nenc p 000000000000000000000000 - -\ndrain p\n";
-
-// The status of a script of two jobs beside two workers that pass a gate.
-fn met_at<R: Threads + Wait + Sync>(rt: &R, alloc: Global, gate: &Meet) -> Result<u8, AllocError> {
-    let mut out = SureSink::new(alloc);
-    let mut src = SureSource::new(bytes_of(alloc, TWO_JOBS)?);
-    let words = words_for(alloc, 2)?;
-    Ok(came_to(rt, alloc, &words, gate, &mut src, &mut out))
-}
-
 #[test]
 fn two_are_inside_jobs_at_once(rt: HostRuntime) -> Result<(), Fail> {
+    let alloc = rt.alloc();
     let gate = Meet {
         inside: AtomicU64::new(0),
         gave_up: AtomicU64::new(0),
     };
-    assert_eq!(rt; met_at(&rt, rt.alloc(), &gate)?, 0);
+    let mut out = SureSink::new(alloc);
+    let mut src = SureSource::new(bytes_of(
+        alloc,
+        "alloc p pcrypt(gcm(aes))\nkey p 00000000000000000000000000000000\nenc p 000000000000000000000000 - -\nenc p 000000000000000000000000 - -\ndrain p\n",
+    )?);
+    let words = words_for(alloc, 2)?;
+    let outcome = run(&rt, alloc, &words, &gate, &mut src, &mut out);
+    assert_eq!(rt; outcome.status, 0);
     assert_eq!(rt; gate.gave_up.load(Ordering::SeqCst), 0);
     assert_eq!(rt; gate.inside.load(Ordering::SeqCst), 2);
     Ok(())
@@ -497,8 +431,8 @@ fn fail_read<R: Abort + Threads + Wait + Sync>(
         (3, "")
     };
     let status = status(rt, alloc, number % 4, &mut src, &mut out)?;
-    let same = status == want && out.bytes() == text.as_bytes();
-    assert!(rt; same, "read {number} of {reads}");
+    assert_eq!(rt; status, want, "read {number} of {reads}");
+    assert_eq!(rt; out.bytes(), text.as_bytes(), "read {number} of {reads}");
     Ok(())
 }
 
@@ -515,9 +449,12 @@ fn fail_write<R: Abort + Threads + Wait + Sync>(
     let mut out = MemSink::new(alloc, step, vec![in alloc; u64::from(number)]?);
     let status = status(rt, alloc, number % 4, &mut src, &mut out)?;
     let written = out.bytes();
+    assert!(rt;
+        MIXED_TEXT.as_bytes().starts_with(written),
+        "write {number}"
+    );
     let whole = written.len() == MIXED_TEXT.len();
-    let same = MIXED_TEXT.as_bytes().starts_with(written) && status == if whole { 1 } else { 4 };
-    assert!(rt; same, "write {number}");
+    assert_eq!(rt; status, if whole { 1 } else { 4 }, "write {number}");
     Ok(())
 }
 
@@ -531,18 +468,6 @@ fn each_read_and_each_write_fails_in_turn(rt: HostRuntime) -> Result<(), Fail> {
     Ok(())
 }
 
-// The status and the text of a comment of so many bytes.
-fn comes_to<R: Threads + Wait + Sync>(
-    rt: &R,
-    alloc: Global,
-    count: u64,
-) -> Result<(u8, Bytes), AllocError> {
-    let mut out = SureSink::new(alloc);
-    let mut src = RepeatSource::new(b'#', count);
-    let status = status(rt, alloc, 1, &mut src, &mut out)?;
-    Ok((status, Bytes::copy_of(alloc, out.bytes())?))
-}
-
 #[test]
 fn the_input_has_a_limit(rt: HostRuntime) -> Result<(), Fail> {
     let table: [(u64, u8, &str); 4] = [
@@ -552,11 +477,11 @@ fn the_input_has_a_limit(rt: HostRuntime) -> Result<(), Fail> {
         (268_435_457, 6, ""),
     ];
     for (count, want, text) in table {
-        let found = comes_to(&rt, rt.alloc(), count)?;
-        assert!(rt;
-            found.0 == want && found.1.as_slice() == text.as_bytes(),
-            "{count} bytes"
-        );
+        let mut out = SureSink::new(rt.alloc());
+        let mut src = RepeatSource::new(b'#', count);
+        let status = status(&rt, rt.alloc(), 1, &mut src, &mut out)?;
+        assert_eq!(rt; status, want, "{count} bytes");
+        assert_eq!(rt; out.bytes(), text.as_bytes(), "{count} bytes");
     }
     Ok(())
 }
@@ -567,10 +492,8 @@ fn std_streams_are_a_source_and_a_sink(rt: HostRuntime) -> Result<(), Fail> {
     let mut out = StdSink::new(Vec::new(rt.alloc()));
     let words = Vec::new(rt.alloc());
     // four workers, where no word says how many
-    assert_eq!(rt;
-        came_to(&rt, rt.alloc(), &words, &NoGate, &mut src, &mut out),
-        0
-    );
+    let outcome = run(&rt, rt.alloc(), &words, &NoGate, &mut src, &mut out);
+    assert_eq!(rt; outcome.status, 0);
     assert_eq!(rt; out.into_inner().as_slice(), ANSWER.as_bytes());
     Ok(())
 }
