@@ -62,7 +62,7 @@ lone_line (b ∷ c ∷ cs) some le =
           lines_at_other b (c ∷ cs) miss ∙ ap (onto_first b) (lone_line (c ∷ cs) (omega arith) (omega (arith, at, le))))
     ]
 
-not_is : (b : Bool) → not b ≡ true → b ≡ false
+pub not_is : (b : Bool) → not b ≡ true → b ≡ false
 not_is true e = sym e
 not_is false e = refl
 
@@ -70,7 +70,7 @@ none_passes : (bytes : List ℕ) → length bytes ≤ position_or_len is_feed by
 none_passes bytes le =
     All-from_get_or (λ b. is_feed b ≡ false) bytes 0 (λ k below. not_is _ (prefix_len_passes (λ b. not (is_feed b)) bytes k 0 (omega arith)))
 
-is_ten : (x : ℕ) → not (is_feed x) ≡ false → x ≡ 10
+pub is_ten : (x : ℕ) → not (is_feed x) ≡ false → x ≡ 10
 is_ten x e = grind (arith, nat_tests)
 
 -- a line feed that was found

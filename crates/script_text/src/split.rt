@@ -3,6 +3,8 @@
 ghost use Rattle.std.specs.Prelude.{◌≡◌, ◌∷◌, ◌++◌, ◌<◌, List, ℕ, length, Contains, MatchOption, IfSome};
 ghost use Rattle.std.specs.List.{position_or_len};
 ghost use Rattle.script_text.specs.Lines.{is_feed, lines_of, IsFirstLine};
+ghost use Rattle.script_text.specs.Pending.{IsFirstFeed};
+ghost use Rattle.script_text.specs.Whole.{WholeLinesStay, NoWholeLine};
 
 // Where the first line feed is, or the length where there is none.
 fn end_of_line(bytes: &[u8]) -> usize
@@ -12,6 +14,17 @@ fn end_of_line(bytes: &[u8]) -> usize
         .iter()
         .position(|b| *b == b'\n')
         .unwrap_or(bytes.len())
+}
+
+/// Where the first line feed stands, or `None` where there is none.
+pub fn feed_place(bytes: &[u8]) -> Option<usize>
+    ensures { MatchOption result (Contains bytes.now 10 → ⊥) (IsFirstFeed bytes.now) }
+{
+    let place = end_of_line(bytes);
+    if place == bytes.len() {
+        return None;
+    }
+    Some(place)
 }
 
 /// The first line with the line feed that ends it, and what follows, or `None` where no line feed stands.
@@ -39,3 +52,9 @@ pub fn first_line(bytes: &[u8]) -> (&[u8], &[u8])
         None => bytes.split_at(bytes.len()),
     }
 }
+
+/// A law of the lines that a line feed ends: those of a front are the first of all.
+pub fn whole_lines_stay()
+    ensures stay { WholeLinesStay }
+    ensures none { NoWholeLine }
+{}
