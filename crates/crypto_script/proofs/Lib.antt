@@ -1,4 +1,5 @@
 pub mod Following
+pub mod Fronts
 pub mod Going
 pub mod Reaching
 pub mod Asking

@@ -53,14 +53,14 @@ pub record Searched (pending : List ℕ) (old now : Place) (left left' : Option 
   pub reads : ReadsOn pending left left'
   pub room : now.room + length (reads.before ++ reads.piece) ≡ old.room
   pub stands : StandsAt (pending ++ (reads.before ++ reads.piece)) now left'
-  pub ended : old.ended ≡ true → now.ended ≡ true
+  pub still : old.ended ≡ true → (reads.before ++ reads.piece ≡ []) × (now.ended ≡ true)
 
 pub search_begins : (pending : List ℕ) (old : Place) (left : Option (List ℕ)) → StandsAt pending old left → Searched pending old old left left
 search_begins pending old left stands = record {
   reads = record { before = []; piece = []; read = Consumes-nil left; one_piece = omega arith; needed = inl refl };
   room = omega arith;
   stands = subst (λ xs. StandsAt xs old left) (sym (append-nil pending)) stands;
-  ended = λ e. e;
+  still = λ e. (refl, e);
 }
 
 module _ (pending : List ℕ) (old now : Place) (left left' : Option (List ℕ)) (s : Searched pending old now left left') where
@@ -84,6 +84,7 @@ module _ (pending : List ℕ) (old now : Place) (left left' : Option (List ℕ))
       let no : new.ended ≡ true → ⊥ = λ e. (let bad : true ≡ false = sym e ∙ (ended ∙ still) in cc) in
       record {
         reads = s.reads;
+        still = λ f. ((s.still f).0, ended ∙ (s.still f).1);
         room = ap (λ n. n + length taken) room ∙ s.room;
         line = (found.0, next_whole bytes found.0 new.ended said found.1, record { pending_is = found.2; no_feed = λ e. absurd (no e); at_end = λ e. absurd (no e) });
         failed = λ e. absurd cc;
@@ -92,9 +93,10 @@ module _ (pending : List ℕ) (old now : Place) (left left' : Option (List ℕ))
       }
 
   -- memory is wanting
-  pub search_stops : (new : Place) (e : InputError) → e ≡ NoMemory → FindsNext pending old new left left' (Err e)
-  search_stops new e is = record {
+  pub search_stops : (new : Place) (e : InputError) → e ≡ NoMemory → new.ended ≡ now.ended → FindsNext pending old new left left' (Err e)
+  search_stops new e is ended = record {
     reads = s.reads;
+    still = λ f. ((s.still f).0, ended ∙ (s.still f).1);
     room = tt;
     line = tt;
     failed = λ f. absurd cc;
@@ -108,11 +110,12 @@ module _ (pending : List ℕ) (old now : Place) (left left' : Option (List ℕ))
 
   pub search_ends : (new : Place) (r : Result (Option Line) InputError) → IfOk r (CutsLast now.kept new.kept) → IfErr r (λ e. e ≡ NoMemory) → new.room ≡ now.room → new.ended ≡ now.ended → now.ended ≡ true
       → FindsNext pending old new left left' r
-  search_ends new (Err e) cuts memory room ended at_end = search_stops new e memory
+  search_ends new (Err e) cuts memory room ended at_end = search_stops new e memory ended
   search_ends new (Ok None) cuts memory room ended at_end =
       let c = cuts bytes s.stands.pending_is (s.stands.no_feed at_end) in
       record {
         reads = s.reads;
+        still = λ f. ((s.still f).0, ended ∙ (s.still f).1);
         room = ap (λ n. n + length taken) room ∙ s.room;
         line = (c.1, ended ∙ at_end, last_stands new c.0 at_end);
         failed = λ f. absurd cc;
@@ -124,6 +127,7 @@ module _ (pending : List ℕ) (old now : Place) (left left' : Option (List ℕ))
       let c = cuts bytes s.stands.pending_is none in
       record {
         reads = s.reads;
+        still = λ f. ((s.still f).0, ended ∙ (s.still f).1);
         room = ap (λ n. n + length taken) room ∙ s.room;
         line = ([], next_last bytes new.ended said (ended ∙ at_end) none c.1.0 c.1.1, last_stands new c.0 at_end);
         failed = λ f. absurd cc;
@@ -136,7 +140,7 @@ module _ (pending : List ℕ) (old now : Place) (left left' : Option (List ℕ))
     none_left = (cuts bytes s.stands.pending_is).0
 
     not_ended : old.ended ≡ true → ⊥
-    not_ended e = let bad : true ≡ false = sym (s.ended e) ∙ still in cc
+    not_ended e = let bad : true ≡ false = sym (s.still e).1 ∙ still in cc
 
     open_ : old.ended ≡ false
     open_ = elim (cases_Bool old.ended) [ inl e ↦ absurd (not_ended e) | inr e ↦ e ]
@@ -159,7 +163,7 @@ module _ (pending : List ℕ) (old now : Place) (left left' : Option (List ℕ))
             no_feed = λ e. subst (λ xs. Contains xs 10 → ⊥) (sym (append-nil bytes) ∙ ap (λ p. bytes ++ p) (sym (r.at_end e).0)) none_left;
             at_end = λ e. (r.at_end e).1;
           });
-          ended = λ e. absurd (not_ended e);
+          still = λ e. absurd (not_ended e);
         }
 
     pub search_fails : (e : InputError) → ReadsPiece mid new left' left'' (Err e) → FindsNext pending old new left left'' (Err e)
@@ -168,6 +172,7 @@ module _ (pending : List ℕ) (old now : Place) (left left' : Option (List ℕ))
         let size = s.room in
         record {
           reads = reads_on r.piece r.read r.one_piece;
+          still = λ f. absurd (not_ended f);
           room = tt;
           line = tt;
           failed = λ f.

@@ -12,7 +12,7 @@ returns-in_err-line-clause-line g c = λ pending stands.
     let p = err_from_is_err_and c.from_residual.result c.from_residual.ensures.1 in
     rw (p.1, p.2)
     (search_stops pending c.args.self.now c.loop-self.self (g.S.Source.left c.args.src.now) (g.S.Source.left c.loop-self.src) (c.loop-self.invariant.searched pending stands)
-    c.cut_next.new.self c.in_err-line.field-0.0 c.in_err-line.ensures.memory)
+    c.cut_next.new.self c.in_err-line.field-0.0 c.in_err-line.ensures.memory c.in_err-line.ensures.ended)
 
 pub returns-in-Some-clause-line : goal.returns-in-Some-clause-line
 returns-in-Some-clause-line g c = λ pending stands.
