@@ -1,6 +1,7 @@
 pub mod Following
 pub mod Fronts
 pub mod Going
+pub mod Readings
 pub mod Reaching
 pub mod Asking
 pub mod Finishing

@@ -53,14 +53,14 @@ pub record Searched (pending : List ℕ) (old now : Place) (left left' : Option 
   pub reads : ReadsOn pending left left'
   pub room : now.room + length (reads.before ++ reads.piece) ≡ old.room
   pub stands : StandsAt (pending ++ (reads.before ++ reads.piece)) now left'
-  pub still : old.ended ≡ true → (reads.before ++ reads.piece ≡ []) × (now.ended ≡ true)
+  pub still : old.ended ≡ true → (reads.before ++ reads.piece ≡ []) × (now.ended ≡ true) × (left' ≡ left)
 
 pub search_begins : (pending : List ℕ) (old : Place) (left : Option (List ℕ)) → StandsAt pending old left → Searched pending old old left left
 search_begins pending old left stands = record {
   reads = record { before = []; piece = []; read = Consumes-nil left; one_piece = omega arith; needed = inl refl };
   room = omega arith;
   stands = subst (λ xs. StandsAt xs old left) (sym (append-nil pending)) stands;
-  still = λ e. (refl, e);
+  still = λ e. (refl, e, refl);
 }
 
 module _ (pending : List ℕ) (old now : Place) (left left' : Option (List ℕ)) (s : Searched pending old now left left') where
@@ -84,7 +84,7 @@ module _ (pending : List ℕ) (old now : Place) (left left' : Option (List ℕ))
       let no : new.ended ≡ true → ⊥ = λ e. (let bad : true ≡ false = sym e ∙ (ended ∙ still) in cc) in
       record {
         reads = s.reads;
-        still = λ f. ((s.still f).0, ended ∙ (s.still f).1);
+        still = λ f. ((s.still f).0, ended ∙ (s.still f).1, (s.still f).2);
         room = ap (λ n. n + length taken) room ∙ s.room;
         line = (found.0, next_whole bytes found.0 new.ended said found.1, record { pending_is = found.2; no_feed = λ e. absurd (no e); at_end = λ e. absurd (no e) });
         failed = λ e. absurd cc;
@@ -96,7 +96,7 @@ module _ (pending : List ℕ) (old now : Place) (left left' : Option (List ℕ))
   pub search_stops : (new : Place) (e : InputError) → e ≡ NoMemory → new.ended ≡ now.ended → FindsNext pending old new left left' (Err e)
   search_stops new e is ended = record {
     reads = s.reads;
-    still = λ f. ((s.still f).0, ended ∙ (s.still f).1);
+    still = λ f. ((s.still f).0, ended ∙ (s.still f).1, (s.still f).2);
     room = tt;
     line = tt;
     failed = λ f. absurd cc;
@@ -115,7 +115,7 @@ module _ (pending : List ℕ) (old now : Place) (left left' : Option (List ℕ))
       let c = cuts bytes s.stands.pending_is (s.stands.no_feed at_end) in
       record {
         reads = s.reads;
-        still = λ f. ((s.still f).0, ended ∙ (s.still f).1);
+        still = λ f. ((s.still f).0, ended ∙ (s.still f).1, (s.still f).2);
         room = ap (λ n. n + length taken) room ∙ s.room;
         line = (c.1, ended ∙ at_end, last_stands new c.0 at_end);
         failed = λ f. absurd cc;
@@ -127,7 +127,7 @@ module _ (pending : List ℕ) (old now : Place) (left left' : Option (List ℕ))
       let c = cuts bytes s.stands.pending_is none in
       record {
         reads = s.reads;
-        still = λ f. ((s.still f).0, ended ∙ (s.still f).1);
+        still = λ f. ((s.still f).0, ended ∙ (s.still f).1, (s.still f).2);
         room = ap (λ n. n + length taken) room ∙ s.room;
         line = ([], next_last bytes new.ended said (ended ∙ at_end) none c.1.0 c.1.1, last_stands new c.0 at_end);
         failed = λ f. absurd cc;

@@ -54,7 +54,7 @@ pub record FindsNext (pending : List ℕ) (old new : Place) (left left' : Option
       ((pending ++ (reads.before ++ reads.piece) ≡ []) × (new.ended ≡ true) × StandsAt [] new left')
       (λ said. (rest : List ℕ) × IsNext (pending ++ (reads.before ++ reads.piece)) new.ended said rest × StandsAt rest new left'))
   -- once the source has ended nothing is read
-  pub still : old.ended ≡ true → (reads.before ++ reads.piece ≡ []) × (new.ended ≡ true)
+  pub still : old.ended ≡ true → (reads.before ++ reads.piece ≡ []) × (new.ended ≡ true) × (left' ≡ left)
   -- where the source failed each whole line was made before
   pub failed : IsErrOf result Failed → (old.ended ≡ false) × (Contains (pending ++ (reads.before ++ reads.piece)) 10 → ⊥)
   -- the last piece was too much

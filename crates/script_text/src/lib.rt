@@ -17,5 +17,5 @@ pub use commands::{Command, Line};
 pub use cutter::LineCutter;
 pub use line_reader::{LineReader, MAX_PIECE};
 pub use reading::{MAX_LINE, read_line};
-pub use split::{first_line, whole_lines_stay};
+pub use split::whole_lines_stay;
 pub use texts::Texts;

@@ -1,6 +1,6 @@
 ghost use Rattle.std.specs.Prelude.{◌<◌};
 
-use crate::{Command, Line, LineCutter, LineReader, MAX_LINE, Texts, first_line, read_line};
+use crate::{Command, Line, LineCutter, LineReader, MAX_LINE, Texts, read_line};
 use kc_base::{Bytes, MemSource};
 use std::alloc::{AllocError, Global};
 use std::test::Fail;
@@ -93,18 +93,6 @@ fn a_line_has_a_limit(rt: HostRuntime) -> Result<(), Fail> {
         );
     }
     Ok(())
-}
-
-#[test]
-fn the_first_line_has_its_line_feed(rt: HostRuntime) {
-    let (line, rest) = first_line(b"a\r\n\nb");
-    assert_eq!(rt; line, b"a\r\n".as_slice());
-    assert_eq!(rt; rest, b"\nb".as_slice());
-    let (line, rest) = first_line(rest);
-    assert_eq!(rt; line, b"\n".as_slice());
-    let (line, rest) = first_line(rest);
-    assert_eq!(rt; line, b"b".as_slice());
-    assert!(rt; rest.is_empty());
 }
 
 // What the next line says, and what the last one does.
