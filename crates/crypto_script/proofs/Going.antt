@@ -218,7 +218,7 @@ module _ (laws : Laws) (first : State) where
     alone-text = texts-joined led.turn (ended s.walk) ∙ append-nil (text_in led.turn)
 
     -- where others alone follow, and the board is shut, they are answered whole
-    led-answered : AreAnsweredAfter first.workers done k l (text_in led.turn)
+    pub led-answered : AreAnsweredAfter first.workers done k l (text_in led.turn)
     led-answered = λ r b more from_r calls_b shut.
         let t = led.turn in
         let same = reg_calls-same laws k r led.caller led.settled from_r in
@@ -337,7 +337,7 @@ module _ (laws : Laws) (first : State) where
           let m = led-more done number s going.led line s' step.0 step.1 in
           record { led = m.0; ready = ready; written = subst (Appends x z) (sym m.1) (Appends-trans x y z (text_in t) step.0 going.written step.2) }
 
-      stopped : (left : List Line) → GoesOn s s' → Keeps y z → Broken (done ++ left)
+      pub stopped : (left : List Line) → GoesOn s s' → Keeps y z → Broken (done ++ left)
       stopped left goes kept = (text_in t, led-front done number s going.led left s' (text_in t) goes ([], append-nil (text_in t)), keeps-text x y z (text_in t) going.written kept)
 
       -- a line that breaks off leaves a front of the text

@@ -5,6 +5,7 @@ use Rattle.std.specs.Io.KnownBytes.{Consumes, IsAtEnd}
 use Rattle.alg_registry.specs.declared.entry.RegEntry.{RegEntry}
 use Rattle.alg_registry.specs.Rows.{caller_of as reg_caller}
 use Rattle.board.specs.declared.entry.BoardEntry.{BoardEntry}
+use Rattle.board.specs.declared.entry.BoardEntry.TheVariants.{Shut}
 use Rattle.board.specs.Entries.{caller_of as board_caller}
 use Rattle.crew.specs.declared.passes.Passes.{Passes}
 use Rattle.dialogues.specs.BoardCalls.{BoardCall, Shuts, board_calls}
@@ -76,6 +77,11 @@ BeginsWithTextAfter workers lines k l text =
 abbrev pub AreAnsweredOn : ℕ → List Line → Known RegEntry → Known (BoardEntry Ask) → List ℕ → Type 0
 AreAnsweredOn workers lines k l text =
     (r : List RegEntry) (b : List (BoardEntry Ask)) → OthersFollow reg_caller k r → OthersFollow board_caller l b → AreAnswered workers lines r b text
+
+-- a pass has seen entries of others, and then maybe the shut of the board, its own
+abbrev pub ShutsAlone : (BoardEntry Ask → ℕ) → Known (BoardEntry Ask) → Known (BoardEntry Ask) → Type 0
+ShutsAlone by k l =
+    (others : List (BoardEntry Ask)) × (of by k.number others ≡ []) × ((l.seen ≡ k.seen ++ others) ⊎ (l.seen ≡ (k.seen ++ others) ++ Shut k.number ∷ []))
 
 -- ---- what a source gave
 

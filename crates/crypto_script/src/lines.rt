@@ -32,8 +32,8 @@ use transforms::Job;
 /// The most bytes of input.
 pub const MAX_INPUT: usize = 268_435_456;
 
-// what texts and calls are as histories go on
-fn laws()
+/// What texts and calls are as histories go on.
+pub fn laws()
     ensures { Laws }
 {
     lines_lead();
