@@ -125,10 +125,10 @@ shuts-alone k m l t u =
 
 -- the script's calls are those of before, and maybe the shut
 calls-shut : Laws → (k l : Known (BoardEntry Ask)) → k.number ≡ 0 → ShutsAlone board_caller k l → (more : List BoardCall) × IsShutAlone more × (board_calls 0 l.seen ≡ board_calls 0 k.seen ++ more)
-calls-shut laws k l zero alone = by-shut alone.2
+calls-shut laws k l first alone = by-shut alone.2
   where
     before : board_calls 0 (k.seen ++ alone.0) ≡ board_calls 0 k.seen
-    before = board_calls-same laws k (k.seen ++ alone.0) zero (alone.0, refl, alone.1)
+    before = board_calls-same laws k (k.seen ++ alone.0) first (alone.0, refl, alone.1)
 
     shut-call : (h : List (BoardEntry Ask)) (n : ℕ) → n ≡ 0 → board_calls_from 0 h (Shut n ∷ []) ≡ Shuts ∷ []
     shut-call h n is = subst (λ m. board_calls_from 0 h (Shut m ∷ []) ≡ Shuts ∷ []) (sym is) refl
@@ -140,7 +140,7 @@ calls-shut laws k l zero alone = by-shut alone.2
       inr refl,
       ap (λ h. board_calls 0 h) shut
       ∙ (laws.board_calls 0 (k.seen ++ alone.0) (Shut k.number ∷ [])
-      ∙ (λ i. before i ++ shut-call (k.seen ++ alone.0) k.number zero i)),
+      ∙ (λ i. before i ++ shut-call (k.seen ++ alone.0) k.number first i)),
     )
 
 -- ---- what a script's part leaves

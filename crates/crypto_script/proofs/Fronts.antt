@@ -39,6 +39,9 @@ lines-after workers n walk (line ∷ first) later rest =
 
 -- ---- turns
 
+abbrev IsDone : Turn → Type 0
+IsDone t = IsSome t.after
+
 -- the first turn is done where the second is, and prints a front of it
 pub record IsFrontTurn (t u : Turn) : Type 0 where
   pub ended : IsSome t.after
@@ -64,7 +67,7 @@ front-turn (Asks question next) later [] b some = absurd cc
 front-turn (Asks question next) later (call ∷ r) b some = by_answer (reg_answer question call) some (λ answer done. front-turn (next answer) later r b done)
   where
     by_answer : (o : Option (RegAnswer question))
-        → IsSome (elim o [ Some answer ↦ asking (reg_call question answer) (turn_of (followed (next answer) later) r b) | None ↦ broken ]).after
+        → IsDone (elim o [ Some answer ↦ asking (reg_call question answer) (turn_of (followed (next answer) later) r b) | None ↦ broken ])
         → ((answer : RegAnswer question) → IsSome (turn_of (followed (next answer) later) r b).after → IsFrontTurn (turn_of (next answer) r b) (turn_of (followed (next answer) later) r b))
         → IsFrontTurn (elim o [ Some answer ↦ asking (reg_call question answer) (turn_of (next answer) r b) | None ↦ broken ])
             (elim o [ Some answer ↦ asking (reg_call question answer) (turn_of (followed (next answer) later) r b) | None ↦ broken ])
@@ -74,7 +77,7 @@ front-turn (Posts question next) later r [] some = absurd cc
 front-turn (Posts question next) later r (call ∷ b) some = by_answer (board_answer question call) some (λ answer done. front-turn (next answer) later r b done)
   where
     by_answer : (o : Option (BoardAnswer question))
-        → IsSome (elim o [ Some answer ↦ posting (board_call question answer) (turn_of (followed (next answer) later) r b) | None ↦ broken ]).after
+        → IsDone (elim o [ Some answer ↦ posting (board_call question answer) (turn_of (followed (next answer) later) r b) | None ↦ broken ])
         → ((answer : BoardAnswer question) → IsSome (turn_of (followed (next answer) later) r b).after → IsFrontTurn (turn_of (next answer) r b) (turn_of (followed (next answer) later) r b))
         → IsFrontTurn (elim o [ Some answer ↦ posting (board_call question answer) (turn_of (next answer) r b) | None ↦ broken ])
             (elim o [ Some answer ↦ posting (board_call question answer) (turn_of (followed (next answer) later) r b) | None ↦ broken ])
