@@ -139,8 +139,8 @@ calls-shut laws k l first alone = by-shut alone.2
       Shuts ∷ [],
       inr refl,
       ap (λ h. board_calls 0 h) shut
-      ∙ (laws.board_calls 0 (k.seen ++ alone.0) (Shut k.number ∷ [])
-      ∙ (λ i. before i ++ shut-call (k.seen ++ alone.0) k.number first i)),
+          ∙ (laws.board_calls 0 (k.seen ++ alone.0) (Shut k.number ∷ [])
+          ∙ (λ i. before i ++ shut-call (k.seen ++ alone.0) k.number first i)),
     )
 
 -- ---- what a script's part leaves

@@ -59,8 +59,8 @@ front-turn (Says answers next) later r b some =
       front = (
         on.front.0,
         ap (λ x. x ++ on.front.0) (flat_map-append text_of answers t.answers)
-        ∙ (append_assoc (flat_map text_of answers) (text_in t) on.front.0
-        ∙ (ap (λ x. flat_map text_of answers ++ x) on.front.1 ∙ sym (flat_map-append text_of answers u.answers))),
+            ∙ (append_assoc (flat_map text_of answers) (text_in t) on.front.0
+            ∙ (ap (λ x. flat_map text_of answers ++ x) on.front.1 ∙ sym (flat_map-append text_of answers u.answers))),
       );
     }
 front-turn (Asks question next) later [] b some = absurd cc
@@ -70,7 +70,7 @@ front-turn (Asks question next) later (call ∷ r) b some = by_answer (reg_answe
         → IsDone (elim o [ Some answer ↦ asking (reg_call question answer) (turn_of (followed (next answer) later) r b) | None ↦ broken ])
         → ((answer : RegAnswer question) → IsSome (turn_of (followed (next answer) later) r b).after → IsFrontTurn (turn_of (next answer) r b) (turn_of (followed (next answer) later) r b))
         → IsFrontTurn (elim o [ Some answer ↦ asking (reg_call question answer) (turn_of (next answer) r b) | None ↦ broken ])
-            (elim o [ Some answer ↦ asking (reg_call question answer) (turn_of (followed (next answer) later) r b) | None ↦ broken ])
+        (elim o [ Some answer ↦ asking (reg_call question answer) (turn_of (followed (next answer) later) r b) | None ↦ broken ])
     by_answer None done go = absurd cc
     by_answer (Some answer) done go = let on = go answer done in record { ended = on.ended; front = on.front }
 front-turn (Posts question next) later r [] some = absurd cc
@@ -80,7 +80,7 @@ front-turn (Posts question next) later r (call ∷ b) some = by_answer (board_an
         → IsDone (elim o [ Some answer ↦ posting (board_call question answer) (turn_of (followed (next answer) later) r b) | None ↦ broken ])
         → ((answer : BoardAnswer question) → IsSome (turn_of (followed (next answer) later) r b).after → IsFrontTurn (turn_of (next answer) r b) (turn_of (followed (next answer) later) r b))
         → IsFrontTurn (elim o [ Some answer ↦ posting (board_call question answer) (turn_of (next answer) r b) | None ↦ broken ])
-            (elim o [ Some answer ↦ posting (board_call question answer) (turn_of (followed (next answer) later) r b) | None ↦ broken ])
+        (elim o [ Some answer ↦ posting (board_call question answer) (turn_of (followed (next answer) later) r b) | None ↦ broken ])
     by_answer None done go = absurd cc
     by_answer (Some answer) done go = let on = go answer done in record { ended = on.ended; front = on.front }
 

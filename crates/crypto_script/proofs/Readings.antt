@@ -135,18 +135,18 @@ module _ (stay : WholeLinesStay) (none : NoWholeLine) (place place' : Place) (le
       elim (cases_Bool place.ended) [
         | inl e ↦ same (found.still e).0
         | inr e ↦ elim found.reads.needed [
-            | inl nothing ↦ same nothing
-            | inr free ↦ (
-                let size = ap length all-are in
-                let sum = length-append front found.reads.piece in
-                let one = found.reads.one_piece in
-                let n = length all - 65536 in
-                let is : take n all ≡ take n front = ap (take n) all-are ∙ take-append-le n front found.reads.piece (omega arith) in
-                let first = stay front n in (
-                  first.0,
-                  sym (front-whole e free) ∙ (first.1 ∙ ap (λ xs. whole_script xs ++ first.0) (sym is)),
-                ))
-          ]
+          | inl nothing ↦ same nothing
+          | inr free ↦ (
+              let size = ap length all-are in
+              let sum = length-append front found.reads.piece in
+              let one = found.reads.one_piece in
+              let n = length all - 65536 in
+              let is : take n all ≡ take n front = ap (take n) all-are ∙ take-append-le n front found.reads.piece (omega arith) in
+              let first = stay front n in (
+                first.0,
+                sym (front-whole e free) ∙ (first.1 ∙ ap (λ xs. whole_script xs ++ first.0) (sym is)),
+              ))
+        ]
       ]
     where
       same : taken ≡ [] → AreFirst (whole_script (take (length all - 65536) all)) done

@@ -154,11 +154,7 @@ fn crew_script<S: Source, K: Sink, G: Gate + Sync, R: Threads + Wait + Sync>(
         ensures read_fault { IsErrOf result.1 RunError.ReadFault → Rose (S.faults src.entry.now) (S.faults src.exit.now) }
         ensures write_fault { IsErrOf result.1 RunError.WriteFault → Rose (K.faults out.entry.now) (K.faults out.exit.now) }
         ensures usage { IsErrOf result.1 RunError.Usage → ⊥ }
-    {
-        answer_script(
-            rt, alloc, workers, board, registry, gate, passes, src, out,
-        )
-    };
+    { answer_script(rt, alloc, workers, board, registry, gate, passes, src, out) };
     run_crew(rt, alloc, workers, board, registry, passes, gate, &mut main)
 }
 
@@ -248,7 +244,5 @@ pub fn run_script<S: Source, K: Sink, G: Gate + Sync, R: Threads + Wait + Sync>(
         board: on_board,
         registry: on_registry,
     };
-    run_beside(
-        rt, alloc, workers, board, registry, gate, passes, src, out,
-    )
+    run_beside(rt, alloc, workers, board, registry, gate, passes, src, out)
 }

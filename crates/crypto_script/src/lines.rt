@@ -50,7 +50,7 @@ fn is_malformed_line(line: &Line) -> bool
     matches!(line, Line::Malformed)
 }
 
-// The text of the answers to one line.
+// The text of the answers to one line, and whether it is malformed.
 fn reply_to<G: Gate, R: Threads + Wait + Sync>(
     rt: &R,
     alloc: Global,
@@ -59,18 +59,19 @@ fn reply_to<G: Gate, R: Threads + Wait + Sync>(
     gate: &G,
     session: &mut Session,
     number: u32,
-    line: &Line,
-) -> Result<Bytes, AllocError>
+    line: Line,
+) -> Result<(Bytes, bool), AllocError>
     requires ready { IsReady registry.now board.now session.old }
-    requires short { IsShortLine line.now }
+    requires short { IsShortLine line }
     ensures done { MatchResult result
-        (λ reply. Replies (width_of line.now) (line_dialogue session.old.workers session.old.walk number line.now) session.old session.new [] reply)
+        (λ reply. Replies (width_of line) (line_dialogue session.old.workers session.old.walk number line) session.old session.new [] reply.0)
         (λ _. GoesOn session.old session.new) }
     ensures ready { OnOk result (IsReady registry.now board.now session.new) }
+    ensures malformed { IfOk result (λ reply. reply.1 ≡ is_malformed line) }
 {
     let mut reply = Bytes::new(alloc);
-    match session.line(rt, board, registry, gate, number, line, &mut reply) {
-        Ok(()) => Ok(reply),
+    match session.line(rt, board, registry, gate, number, &line, &mut reply) {
+        Ok(()) => Ok((reply, is_malformed_line(&line))),
         Err(Stop::Memory) => Err(AllocError),
     }
 }
@@ -98,7 +99,7 @@ fn reply_to_end<G: Gate, R: Wait>(
     }
 }
 
-// Answers one line in one piece.
+// Answers one line in one piece, and says whether it is malformed.
 fn run_line<K: Sink, G: Gate, R: Threads + Wait + Sync>(
     rt: &R,
     alloc: Global,
@@ -107,20 +108,22 @@ fn run_line<K: Sink, G: Gate, R: Threads + Wait + Sync>(
     gate: &G,
     session: &mut Session,
     number: u32,
-    line: &Line,
+    line: Line,
     out: &mut K,
-) -> Result<(), SinkError>
+) -> Result<bool, SinkError>
     requires ready { IsReady registry.now board.now session.old }
-    requires short { IsShortLine line.now }
+    requires short { IsShortLine line }
     ensures done { MatchResult result
-        (λ _. Writes (Replies (width_of line.now) (line_dialogue session.old.workers session.old.walk number line.now) session.old session.new []) (K.held out.old) (K.held out.new))
-        (λ _. Breaks session.old session.new (Replies (width_of line.now) (line_dialogue session.old.workers session.old.walk number line.now) session.old session.new []) (K.held out.old) (K.held out.new)) }
+        (λ _. Writes (Replies (width_of line) (line_dialogue session.old.workers session.old.walk number line) session.old session.new []) (K.held out.old) (K.held out.new))
+        (λ _. Breaks session.old session.new (Replies (width_of line) (line_dialogue session.old.workers session.old.walk number line) session.old session.new []) (K.held out.old) (K.held out.new)) }
     ensures ready { OnOk result (IsReady registry.now board.now session.new) }
+    ensures malformed { IfOk result (λ bad. bad ≡ is_malformed line) }
     ensures later { K.faults out.old ≤ K.faults out.new }
     ensures cause { IsErrOf result SinkError.Failed → Rose (K.faults out.old) (K.faults out.new) }
 {
-    let reply = reply_to(rt, alloc, board, registry, gate, session, number, line)?;
-    write_piece(out, reply.as_slice())
+    let (reply, malformed) = reply_to(rt, alloc, board, registry, gate, session, number, line)?;
+    write_piece(out, reply.as_slice())?;
+    Ok(malformed)
 }
 
 // Answers the end of input.
@@ -172,8 +175,8 @@ pub fn run_lines<S: Source, K: Sink, G: Gate, R: Threads + Wait + Sync>(
     let mut number = 1u32;
     let mut malformed = false;
     while let Some(line) = reader.next(src)? {
-        run_line(rt, alloc, board, registry, gate, session, number, &line, out)?;
-        malformed |= is_malformed_line(&line);
+        let bad = run_line(rt, alloc, board, registry, gate, session, number, line, out)?;
+        malformed |= bad;
         number += 1;
     }
     run_end(rt, alloc, board, registry, gate, session, out)?;

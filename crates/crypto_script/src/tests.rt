@@ -458,7 +458,11 @@ fn fail_read<R: Abort + Threads + Wait + Sync>(
     };
     let status = status(rt, alloc, number % 4, &mut src, &mut out)?;
     assert_eq!(rt; status, want, "read {number} in steps of {step}");
-    assert_eq!(rt; out.bytes(), text.as_bytes(), "read {number} in steps of {step}");
+    assert_eq!(rt;
+        out.bytes(),
+        text.as_bytes(),
+        "read {number} in steps of {step}"
+    );
     Ok(())
 }
 

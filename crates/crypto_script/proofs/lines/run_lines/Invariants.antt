@@ -2,8 +2,8 @@ use Rattle.std.proofs.Common.{◌≡◌, ◌≤◌, ◌-◌, ◌^◌}
 use Rattle.crypto_script.proofs.Exits.{Running}
 use Rattle.crypto_script.proofs.lines.run_lines.Given as goal
 
-abbrev pub invariant-loop-line : goal.invariant-loop-line
-invariant-loop-line g l =
+abbrev pub invariant-loop-reader : goal.invariant-loop-reader
+invariant-loop-reader g l =
     let held = g.K.Sink.held in
     let left = g.S.Source.left in
     record {
@@ -12,5 +12,5 @@ invariant-loop-line g l =
       written_later : g.K.Sink.faults l.fn.out ≤ g.K.Sink.faults l.out;
     }
 
-abbrev pub decreases-loop-line : goal.decreases-loop-line
-decreases-loop-line g l = 2 ^ 32 - l.number
+abbrev pub decreases-loop-reader : goal.decreases-loop-reader
+decreases-loop-reader g l = 2 ^ 32 - l.number
