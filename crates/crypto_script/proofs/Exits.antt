@@ -1,8 +1,8 @@
 -- Each way in which a session leaves the lines of a source.
-use Rattle.std.proofs.Common.{◌≡◌, ℕ, ◌+◌, ◌-◌, ◌^◌, ◌<◌, ◌≤◌, ◌⊎◌, ◌||◌, Bool, true, false, List, [], ◌∷◌, ◌++◌, length, take, Option, Some, None, Result, Ok, Err, inl, inr, refl, sym, ap, subst, ◌∙◌, append-nil, arith}
-use Rattle.std.specs.Prelude.{IsErrOf, ◌↔◌}
+use Rattle.std.proofs.Common.{◌≡◌, ℕ, ◌+◌, ◌-◌, ◌^◌, ◌<◌, ◌||◌, Bool, true, false, List, [], ◌∷◌, ◌++◌, length, take, Option, Some, None, Ok, Err, inl, inr, refl, sym, ap, subst, ◌∙◌, arith}
+use Rattle.std.specs.Prelude.{IsErrOf}
 use Rattle.std.specs.List.{list_any}
-use Rattle.std.specs.Io.KnownBytes.{Consumes, IsAtEnd, Appends}
+use Rattle.std.specs.Io.KnownBytes.{IsAtEnd}
 use Rattle.std.proofs.KnownBytes.{Consumes-nil}
 use Rattle.std.proofs.lemmas.List.Folds.{list_any-append}
 use Rattle.dialogues.specs.Lines.{line_dialogue}
@@ -15,9 +15,9 @@ use Rattle.kc_base.specs.declared.transfer.SinkError.TheVariants as output
 use Rattle.script_session.specs.Ending.{AnswersEnd, EndsShut}
 use Rattle.script_session.specs.Running.{IsReady, Replies}
 use Rattle.script_session.specs.States.{State}
-use Rattle.script_text.specs.NextLine.{Place, StandsAt, FindsNext, IsNext}
+use Rattle.script_text.specs.NextLine.{Place, FindsNext}
 use Rattle.script_text.specs.Script.{script_of}
-use Rattle.script_text.specs.Whole.{whole_script, AreFirst, WholeLinesStay, NoWholeLine}
+use Rattle.script_text.specs.Whole.{whole_script, WholeLinesStay, NoWholeLine}
 use Rattle.script_text.specs.declared.commands.Line.{Line}
 use Rattle.session_calls.specs.Passes.{known}
 use Rattle.shared_board.specs.declared.shared.SharedBoard.{SharedBoard}
@@ -26,13 +26,13 @@ use Rattle.transforms.specs.declared.ask.Ask.{Ask}
 use Rattle.transforms.specs.declared.request.Finished.{Finished}
 use Rattle.crypto_script.specs.declared.errors.RunError.{RunError}
 use Rattle.crypto_script.specs.declared.errors.RunError.TheVariants.{ReadFault, WriteFault, TooLong, NoMemory}
-use Rattle.crypto_script.specs.Answered.{AreAnsweredAfter, BeginsWithTextAfter, AnswersFirst, HasRead, RunsLines, RunsSource, script_in}
+use Rattle.crypto_script.specs.Answered.{AreAnsweredAfter, BeginsWithTextAfter, AnswersFirst, RunsSource, script_in}
 use Rattle.crypto_script.specs.Laws.{Laws}
-use Rattle.crypto_script.specs.Runs.{Gains, GoesOn, IsFresh, Writes, Breaks, IsFrontAfter}
+use Rattle.crypto_script.specs.Runs.{Gains, IsFresh, Writes, Breaks, IsFrontAfter}
 use Rattle.crypto_script.specs.Statuses.{of_input, of_output}
 use Rattle.crypto_script.specs.Text.{is_malformed}
 use Rattle.crypto_script.proofs.Going.{Going, goes-same, keeps-same, going-begins, going-more, going-breaks, going-end_breaks, going-begun, going-end_begun, going-ends, going-ends_front, going-ends_in_turn, going-ends_own, line_broken-goes, end_broken-goes, end-goes, stopped, led-answered}
-use Rattle.crypto_script.proofs.Readings.{Cut, Reading, cut-told, told-whole, cut-all, after-read, after-behind, after-short, failed-whole, too_long-is, too_long-whole, reading-begins, reading-line, reading-end}
+use Rattle.crypto_script.proofs.Readings.{Reading, cut-told, told-whole, cut-all, after-read, after-behind, after-short, failed-whole, too_long-is, too_long-whole, reading-begins, reading-line, reading-end}
 
 -- ---- causes
 

@@ -1,5 +1,5 @@
 -- The first lines of more lines: their dialogue, and its turn.
-use Rattle.std.proofs.Common.{◌≡◌, ℕ, ◌+◌, ◌≤◌, true, false, List, [], ◌∷◌, ◌++◌, length, max, Option, Some, None, refl, sym, ap, subst, ◌∙◌, append_assoc, arith}
+use Rattle.std.proofs.Common.{◌≡◌, ℕ, ◌+◌, ◌≤◌, List, [], ◌∷◌, ◌++◌, length, Option, Some, None, refl, sym, ap, subst, ◌∙◌, append_assoc, arith}
 use Rattle.std.specs.Prelude.{IsSome}
 use Rattle.std.specs.List.{flat_map}
 use Rattle.std.proofs.lemmas.Grind.{flat_map-append}
@@ -8,7 +8,7 @@ use Rattle.dialogues.specs.Dialogues.{Dialogue, Ends, Says, Asks, Posts, followe
 use Rattle.dialogues.specs.Lines.{line_dialogue, lines_dialogue}
 use Rattle.dialogues.specs.Questions.{RegAnswer, reg_call, reg_answer, BoardAnswer, board_call, board_answer}
 use Rattle.dialogues.specs.RegistryCalls.{RegCall}
-use Rattle.dialogues.specs.Turns.{Turn, broken, saying, asking, posting, turn_of, text_in}
+use Rattle.dialogues.specs.Turns.{Turn, broken, asking, posting, turn_of, text_in}
 use Rattle.dialogues.specs.Walk.{Walk}
 use Rattle.dialogues.specs.Widths.{width_of, widest}
 use Rattle.kc_base.specs.Streams.{IsPrefix}

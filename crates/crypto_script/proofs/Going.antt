@@ -1,6 +1,5 @@
 -- A script, line by line, and what it leaves.
-use Rattle.std.proofs.Common.{◌≡◌, ℕ, ◌+◌, ◌||◌, Bool, true, false, List, [], ◌∷◌, ◌++◌, length, map, Option, Some, None, refl, sym, ap, subst, ◌∙◌, append_assoc, append-nil, arith, inl, inr, IfSome, ◌≤◌, max}
-use Rattle.std.specs.List.{list_any}
+use Rattle.std.proofs.Common.{◌≡◌, ℕ, ◌+◌, ◌||◌, Bool, true, false, List, [], ◌∷◌, ◌++◌, Option, Some, None, refl, sym, ap, subst, ◌∙◌, append_assoc, append-nil, arith, inl, inr, IfSome, ◌≤◌}
 use Rattle.std.specs.Prelude.{is_some}
 use Rattle.std.specs.Io.KnownBytes.{Appends, Keeps}
 use Rattle.std.proofs.KnownBytes.{Appends-trans}
@@ -9,7 +8,7 @@ use Rattle.alg_registry.specs.declared.entry.RegEntry.{RegEntry}
 use Rattle.alg_registry.specs.Rows.{caller_of as reg_caller}
 use Rattle.board.specs.declared.entry.BoardEntry.{BoardEntry}
 use Rattle.dialogues.specs.BoardCalls.{BoardCall, board_calls, board_calls_from}
-use Rattle.dialogues.specs.Dialogues.{Dialogue, Ends as Done, followed}
+use Rattle.dialogues.specs.Dialogues.{Dialogue, Ends as Done}
 use Rattle.dialogues.specs.InTurn.{AreInTurnBy}
 use Rattle.dialogues.specs.Leading.{Leads}
 use Rattle.dialogues.specs.Lines.{line_dialogue, lines_dialogue, script}
@@ -17,13 +16,13 @@ use Rattle.dialogues.specs.Piping.{end}
 use Rattle.dialogues.specs.RegistryCalls.{RegCall, reg_calls, reg_calls_from, AllSettled}
 use Rattle.dialogues.specs.Texts.{IsText, IsFrontText, turn_in}
 use Rattle.dialogues.specs.Turns.{Turn, IsTurn, ended, joined, text_in, turn_of}
-use Rattle.dialogues.specs.Walk.{Walk, start}
+use Rattle.dialogues.specs.Walk.{start}
 use Rattle.dialogues.specs.Widths.{width_of, widest}
 use Rattle.kc_base.specs.Streams.{AppendsFront, IsPrefix}
 use Rattle.reply_text.specs.Answers.{text_of}
 use Rattle.script_session.specs.Ending.{AnswersEnd}
 use Rattle.script_session.specs.Running.{IsReady, Replies}
-use Rattle.script_session.specs.States.{State, SameLocks}
+use Rattle.script_session.specs.States.{State}
 use Rattle.script_text.specs.declared.commands.Line.{Line}
 use Rattle.script_text.specs.Script.{script_of}
 use Rattle.script_text.specs.Whole.{AreFirst}
@@ -35,12 +34,11 @@ use Rattle.shared_registry.specs.declared.sharing.SharedRegistry.{SharedRegistry
 use Rattle.transforms.specs.declared.ask.Ask.{Ask}
 use Rattle.transforms.specs.declared.request.Finished.{Finished}
 use Rattle.turn_lock.specs.Meeting.{IsOwn}
-use Rattle.turn_lock.specs.Turns.{Known, StartsWith}
+use Rattle.turn_lock.specs.Turns.{Known}
 use Rattle.crypto_script.specs.Answered.{AreAnsweredAfter, BeginsWithTextAfter, lines_turn}
 use Rattle.crypto_script.specs.Laws.{Laws}
-use Rattle.script_session.specs.Holding.{HasSeenMore, Stops}
+use Rattle.script_session.specs.Holding.{HasSeenMore}
 use Rattle.crypto_script.specs.Runs.{Gains, GoesOn, IsFresh, Writes, Breaks, IsTextAfter, IsFrontAfter, InTurnAfter}
-use Rattle.crypto_script.specs.Text.{is_malformed}
 use Rattle.crypto_script.proofs.Fronts.{front-lines, widest-front, widest-last}
 use Rattle.crypto_script.proofs.Following.{starts-trans, sees-same, sees-then, reg_calls-on, board_calls-on, reg_calls-same, board_calls-same, in_turn-on, followed-ends}
 

@@ -1,5 +1,5 @@
 -- What a source gave, and the lines that were made of it.
-use Rattle.std.proofs.Common.{◌≡◌, ℕ, ◌+◌, ◌-◌, ◌^◌, ◌<◌, ◌≤◌, ◌⊎◌, Bool, true, false, List, [], ◌∷◌, ◌++◌, length, take, map, Option, Some, None, Result, Ok, Err, inl, inr, refl, sym, ap, ap₂, subst, ◌∙◌, append_assoc, append-nil, arith, length-append}
+use Rattle.std.proofs.Common.{◌≡◌, ℕ, ◌+◌, ◌-◌, ◌^◌, ◌<◌, ◌≤◌, ◌⊎◌, Bool, true, false, List, [], ◌∷◌, ◌++◌, length, take, Option, Some, None, Result, inl, inr, refl, sym, ap, subst, ◌∙◌, append_assoc, append-nil, arith, length-append}
 use Rattle.std.specs.Prelude.{Contains, IsErrOf, ◌↔◌}
 use Rattle.std.specs.Io.KnownBytes.{Consumes, IsAtEnd}
 use Rattle.std.proofs.KnownBytes.{Consumes-nil, Consumes-trans}
@@ -7,8 +7,7 @@ use Rattle.std.proofs.lemmas.Bool.{cases_Bool, false≢true}
 use Rattle.std.proofs.lemmas.List.{take-append-le, take_at}
 use Rattle.kc_base.specs.declared.transfer.InputError.{InputError}
 use Rattle.kc_base.specs.declared.transfer.InputError.TheVariants.{Failed, TooLong}
-use Rattle.script_text.specs.NextLine.{Place, StandsAt, ReadsOn, IsNext, FindsNext}
-use Rattle.script_text.specs.Pending.{IsPending}
+use Rattle.script_text.specs.NextLine.{Place, StandsAt, IsNext, FindsNext}
 use Rattle.script_text.specs.Script.{script_of}
 use Rattle.script_text.specs.Whole.{whole_script, AreFirst, WholeLinesStay, NoWholeLine}
 use Rattle.script_text.specs.declared.commands.Line.{Line}

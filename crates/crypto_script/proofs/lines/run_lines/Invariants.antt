@@ -1,4 +1,4 @@
-use Rattle.std.proofs.Common.{◌≡◌, ◌≤◌, ◌-◌, ◌^◌}
+use Rattle.std.proofs.Common.{◌≤◌, ◌-◌, ◌^◌}
 use Rattle.crypto_script.proofs.Exits.{Running}
 use Rattle.crypto_script.proofs.lines.run_lines.Given as goal
 
