@@ -451,7 +451,7 @@ fn fail_read<R: Abort + Threads + Wait + Sync>(
     let mut out = SureSink::new(alloc);
     let given = step.saturating_mul(number as usize);
     let feeds = SCRIPT.bytes().take(given).filter(|b| *b == b'\n').count();
-    let (want, text) = if given >= SCRIPT.len() + step {
+    let (want, text) = if given.saturating_sub(step) >= SCRIPT.len() {
         (1, first_lines(alloc, TEXT, 3)?)
     } else {
         (3, first_lines(alloc, TEXT, feeds)?)
