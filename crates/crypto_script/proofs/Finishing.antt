@@ -1,8 +1,10 @@
 -- How a script's part begins and ends beside workers.
-use Rattle.std.proofs.Common.{◌≡◌, ℕ, zero, ◌+◌, ◌<◌, ◌≤◌, ◌⊎◌, Bool, true, false, ◌||◌, ◌&&◌, List, [], ◌∷◌, ◌++◌, Some, refl, sym, ap, subst, ◌∙◌, append-nil, append_assoc, arith, inl, inr}
-use Rattle.std.specs.Prelude.{◌==◌, if◌then◌else◌, filter, Result, Ok, Err, Option, OnOk, IfOk, All}
+use Rattle.std.proofs.Common.{◌≡◌, ℕ, ◌+◌, ◌≤◌, ◌⊎◌, Bool, true, false, ◌&&◌, List, [], ◌∷◌, ◌++◌, Some, refl, sym, ap, subst, ◌∙◌, append-nil, append_assoc, arith, inl, inr}
+use Rattle.std.specs.Prelude.{◌==◌, if◌then◌else◌, Result, Ok, Err, Option, None, OnOk, IfOk, IfSome, All, length, take, ◌-◌}
 use Rattle.std.specs.List.{list_all, list_any}
-use Rattle.std.proofs.lemmas.Bool.{eq-eqb, or_left, or_right, and_parts}
+use Rattle.std.specs.Io.KnownBytes.{Consumes, IsAtEnd}
+use Rattle.std.proofs.KnownBytes.{Consumes-nil}
+use Rattle.std.proofs.lemmas.Bool.{eq-eqb, or_left, or_right}
 use Rattle.std.proofs.lemmas.List.Elements.{filter-append, All-nil, All-cons, All-weaker}
 use Rattle.std.proofs.lemmas.List.Folds.{list_any-append}
 use Rattle.alg_registry.specs.declared.entry.RegEntry.{RegEntry}
@@ -11,41 +13,43 @@ use Rattle.alg_registry.specs.Made.{Made}
 use Rattle.alg_registry.specs.Rows.{caller_of as reg_caller}
 use Rattle.board.specs.declared.entry.BoardEntry.{BoardEntry}
 use Rattle.board.specs.declared.entry.BoardEntry.TheVariants.{Shut}
-use Rattle.board.specs.Entries.{entries_of, is_closed, caller_of as board_caller}
+use Rattle.board.specs.Entries.{entries_of, caller_of as board_caller}
 use Rattle.board.specs.Legal.{MayManage, AreRightAfter, LegalBoard, is_shut, is_shut_entry}
 use Rattle.board.specs.Staying.{is_work}
 use Rattle.crew.specs.declared.passes.Passes.{Passes}
 use Rattle.crew.specs.Both.{ArePassesOn, HaveNext, CrewedOnBoth}
 use Rattle.crew.specs.Crews.{Crewed, with_next}
+use Rattle.dialogues.specs.BoardCalls.{BoardCall, Shuts, board_calls, board_calls_from}
 use Rattle.dialogues.specs.RegistryCalls.{reg_calls}
 use Rattle.dialogues.specs.Texts.{IsText, IsFrontText}
-use Rattle.dialogues.specs.Walk.{Walk, start}
-use Rattle.kc_base.specs.declared.transfer.SinkError.{SinkError}
+use Rattle.dialogues.specs.Walk.{start}
 use Rattle.script_session.specs.Ending.{EndsShut}
 use Rattle.script_session.specs.Holding.{HasSeenMore}
 use Rattle.script_session.specs.Running.{IsReady}
 use Rattle.script_session.specs.States.{State, Stands, Posted}
 use Rattle.script_text.specs.declared.commands.Line.{Line}
+use Rattle.script_text.specs.Script.{script_of}
+use Rattle.script_text.specs.Whole.{whole_script}
 use Rattle.settled_scripts.specs.Printing.{PrintsPlain}
 use Rattle.settled_scripts.specs.Settled.{IsSettled, plain_text}
 use Rattle.templates.specs.Table.{table}
 use Rattle.session_calls.specs.Passes.{known, RegPass, BoardPass}
 use Rattle.shared_board.specs.declared.shared.SharedBoard.{SharedBoard}
-use Rattle.shared_board.specs.Passes.{IsPassOn}
 use Rattle.shared_registry.specs.declared.sharing.SharedRegistry.{SharedRegistry}
-use Rattle.shared_registry.specs.Passes.{IsPassOn as IsRegPassOn}
 use Rattle.transforms.specs.declared.ask.Ask.{Ask}
 use Rattle.transforms.specs.declared.request.Finished.{Finished}
 use Rattle.turn_lock.specs.Meeting.{AtTurn, Enters, Leaves, IsOwn}
 use Rattle.turn_lock.specs.Passes.{knows}
 use Rattle.turn_lock.specs.Turns.{Known, StartsWith, Each, Shows, of, newcomer}
-use Rattle.crypto_script.specs.Laws.{CrewLaws}
+use Rattle.crypto_script.specs.declared.errors.RunError.{RunError}
+use Rattle.crypto_script.specs.declared.errors.RunError.TheVariants.{NoMemory}
+use Rattle.crypto_script.specs.Answered.{AreAnswered, BeginsWithText, AreAnsweredAfter, AreAnsweredOn, BeginsWithTextAfter, IsShutAlone, ShutsAlone, RunsSource, AnswersSource, RanSource, script_in}
+use Rattle.crypto_script.specs.Laws.{Laws, CrewLaws}
 use Rattle.crypto_script.specs.Endings.{AreCallers, EndsShut as ShutLast}
 use Rattle.crypto_script.specs.Runs.{Gains, GoesOn, OthersFollow, IsTextAfter, IsFrontAfter, InTurn, InTurnAfter, IsShutIn, AreNew, Ended, Answers}
-use Rattle.crypto_script.specs.Statuses.{run_answer}
 use Rattle.crypto_script.specs.Text.{is_malformed}
 use Rattle.shared_registry.specs.Building.{is_building}
-use Rattle.crypto_script.proofs.Following.{none-pass, starts-trans, sees-then, others-then}
+use Rattle.crypto_script.proofs.Following.{none-pass, starts-trans, sees-then, others-then, board_calls-same}
 
 -- ---- before the first line
 
@@ -102,6 +106,40 @@ module _ (k l : Known (BoardEntry Ask)) where
       let still : is_shut l.seen ≡ true = ap (λ x. is_shut x.seen) t.2 ∙ (ap (λ h. is_shut h) t.1.goes_on ∙ (list_any-append is_shut_entry k.seen t.1.others ∙ or_left (is_shut k.seen) (is_shut t.1.others) shut)) in
       let bad : true ≡ false = sym still ∙ not in
       cc
+
+-- what was seen since is others', and then the shut
+pub leaves-alone : (k l : Known (BoardEntry Ask)) → AtTurn board_caller LegalBoard k (λ h. Leaves k h l) → ShutsAlone board_caller k l
+leaves-alone k l t = (t.1.others, t.1.apart, inl (ap (λ x. x.seen) t.2 ∙ t.1.goes_on))
+
+pub shuts-alone : (k m l : Known (BoardEntry Ask)) → AtTurn board_caller LegalBoard k (λ h. Leaves k h m) → AtTurn board_caller LegalBoard m (λ h. Enters LegalBoard m h (Shut m.number) l) → ShutsAlone board_caller k l
+shuts-alone k m l t u =
+    let number : m.number ≡ k.number = ap (λ x. x.number) t.2 in
+    let apart : of board_caller k.number u.1.others ≡ [] = subst (λ n. of board_caller n u.1.others ≡ []) number u.1.apart in
+    let before : u.0 ≡ k.seen ++ (t.1.others ++ u.1.others) = u.1.goes_on ∙ (ap (λ h. h ++ u.1.others) (ap (λ x. x.seen) t.2 ∙ t.1.goes_on) ∙ append_assoc k.seen t.1.others u.1.others) in (
+      t.1.others ++ u.1.others,
+      filter-append (λ e. board_caller e == k.number) t.1.others u.1.others ∙ (λ i. t.1.apart i ++ apart i),
+      inr (ap (λ x. x.seen) u.2.0 ∙ (λ i. before i ++ Shut (number i) ∷ [])),
+    )
+
+-- the script's calls are those of before, and maybe the shut
+calls-shut : Laws → (k l : Known (BoardEntry Ask)) → k.number ≡ 0 → ShutsAlone board_caller k l → (more : List BoardCall) × IsShutAlone more × (board_calls 0 l.seen ≡ board_calls 0 k.seen ++ more)
+calls-shut laws k l first alone = by-shut alone.2
+  where
+    before : board_calls 0 (k.seen ++ alone.0) ≡ board_calls 0 k.seen
+    before = board_calls-same laws k (k.seen ++ alone.0) first (alone.0, refl, alone.1)
+
+    shut-call : (h : List (BoardEntry Ask)) (n : ℕ) → n ≡ 0 → board_calls_from 0 h (Shut n ∷ []) ≡ Shuts ∷ []
+    shut-call h n is = subst (λ m. board_calls_from 0 h (Shut m ∷ []) ≡ Shuts ∷ []) (sym is) refl
+
+    by-shut : (l.seen ≡ k.seen ++ alone.0) ⊎ (l.seen ≡ (k.seen ++ alone.0) ++ Shut k.number ∷ []) → (more : List BoardCall) × IsShutAlone more × (board_calls 0 l.seen ≡ board_calls 0 k.seen ++ more)
+    by-shut (inl same) = ([], inl refl, ap (λ h. board_calls 0 h) same ∙ (before ∙ sym (append-nil (board_calls 0 k.seen))))
+    by-shut (inr shut) = (
+      Shuts ∷ [],
+      inr refl,
+      ap (λ h. board_calls 0 h) shut
+          ∙ (laws.board_calls 0 (k.seen ++ alone.0) (Shut k.number ∷ [])
+          ∙ (λ i. before i ++ shut-call (k.seen ++ alone.0) k.number first i)),
+    )
 
 -- ---- what a script's part leaves
 
@@ -178,6 +216,48 @@ module _ (workers : ℕ) (lines : List Line) (p : Passes Ask) (qr : RegPass) (qb
     malformed = malformed;
   }
 
+-- ---- a script out of a source
+
+module _ (laws : Laws) (workers : ℕ) (left left' : Option (List ℕ)) (p : Passes Ask) (qr : RegPass) (qb qb' : BoardPass) (s s' : State) (result : Result Bool RunError) (held held' : Option (List ℕ))
+    (was : s ≡ record { workers = workers; walk = start 0; registry = Some p.registry; board = Some p.board }) (now : (s'.registry ≡ Some qr) × (s'.board ≡ Some qb)) (new : AreNew p)
+    (more : HasSeenMore (knows qb) (knows qb')) (shut : is_shut (knows qb).seen ≡ true → OthersFollow board_caller (knows qb) (knows qb').seen) (alone : ShutsAlone board_caller (knows qb) (knows qb'))
+    (run : RunsSource left left' s s' result held held') where
+  same-workers : s.workers ≡ workers
+  same-workers = ap (λ (x : State). x.workers) was
+
+  zero-then : (knows qb).number ≡ 0
+  zero-then = (goes-board workers [] p qr qb qb' s s' held held' was now run.lines.goes_on new more shut).number ∙ new.board.0
+
+  answered-on : (lines : List Line) (text : List ℕ) → AreAnsweredAfter s.workers lines (known s'.registry) (known s'.board) text → AreAnsweredOn workers lines (knows qr) (knows qb') text
+  answered-on lines text after = λ r b from_r from_b.
+      let calls = calls-shut laws (knows qb) (knows qb') zero-then alone in
+      let on_b : board_calls 0 b ≡ board_calls 0 (known s'.board).seen ++ calls.0 =
+      board_calls-same laws (knows qb') b (more.number ∙ zero-then) from_b ∙ (calls.2 ∙ ap (λ (o : Option BoardPass). board_calls 0 (known o).seen ++ calls.0) (sym now.1)) in
+      subst (λ w. AreAnswered w lines r b text) same-workers
+      (after r b calls.0 (subst (λ (o : Option RegPass). OthersFollow reg_caller (known o) r) (sym now.0) from_r) on_b calls.1)
+
+  begins-on : (lines : List Line) (text : List ℕ) → BeginsWithTextAfter s.workers lines (known s'.registry) (known s'.board) text → BeginsWithTextAfter workers lines (knows qr) (knows qb') text
+  begins-on lines text after = λ r b from_r from_b.
+      subst (λ w. BeginsWithText w lines r b text) same-workers
+      (after r b (subst (λ (o : Option RegPass). StartsWith r (known o).seen) (sym now.0) from_r)
+      (subst (λ (o : Option BoardPass). StartsWith b (known o).seen) (sym now.1) (starts-trans (knows qb).seen (knows qb').seen b more.seen from_b)))
+
+  pub answered-source : IsOwn board_caller (knows qb') → is_shut (knows qb').seen ≡ true → AnswersSource workers left left' p (record { registry = qr; board = qb' }) result held held'
+  answered-source own closed = record {
+    given = run.given;
+    reads = run.reads;
+    answers =
+        answered workers (script_of (script_in left run.given)) p qr qb qb' s s' held held' was now run.lines.goes_on new more shut
+        result run.lines.whole run.lines.front run.lines.in_turn run.lines.own run.lines.shut run.lines.malformed own closed;
+    first = record {
+      failed = λ is. let g = run.lines.first.failed is in (g.0, answered-on (whole_script run.given) g.0 g.1, g.2);
+      too_long = run.lines.first.too_long;
+      up_to = λ is. let u = run.lines.first.up_to is in let g = u.3 in (u.0, u.1, u.2, (g.0, answered-on (whole_script (take u.0 run.given)) g.0 g.1, g.2));
+      written = λ is. let g = run.lines.first.written is in (g.0, begins-on (whole_script (take (length run.given - 65536) run.given)) g.0 g.1, g.2);
+    };
+    own_reads = λ is. subst (λ (o : Option RegPass). IsOwn reg_caller (known o)) now.0 (run.lines.own_reads is);
+  }
+
 -- ---- what a crew leaves
 
 -- the passes that the script gets
@@ -234,15 +314,43 @@ others-work workers (e ∷ es) each none =
     work not (inl zero_is) = let bad : true ≡ false = sym (eq-eqb (board_caller e) 0 zero_is) ∙ not in cc
     work not (inr works) = works
 
-module _ (laws : CrewLaws) (workers : ℕ) (lines : List Line) (first p q l : Passes Ask) (result : Result Bool SinkError) (held held' : Option (List ℕ)) (r : List RegEntry) (b : List (BoardEntry Ask))
-    (new : (knows first.board ≡ newcomer) × (knows first.registry ≡ newcomer)) (next : HaveNext workers first p) (answers : Answers workers lines p q result held held') (crewed : CrewedOnBoth workers first q l)
+-- what holds of the script that the source tells, or else of what it gave
+if_told : (P : List ℕ → Type 0) (left : Option (List ℕ)) (given : List ℕ) → P (script_in left given) → IfSome left P
+if_told P None given holds = tt
+if_told P (Some script) given holds = holds
+
+told_end : (left left' : Option (List ℕ)) (given : List ℕ) → Consumes left left' given → IsAtEnd left' → IfSome left (λ _. left' ≡ Some [])
+told_end None left' given read at_end = tt
+told_end (Some script) None given read at_end = absurd read
+told_end (Some script) (Some rest) given read at_end = ap (λ xs. Some xs) at_end
+
+-- nothing was read or written
+pub nothing_ran : (workers : ℕ) (left held : Option (List ℕ)) (r : List RegEntry) (b : List (BoardEntry Ask)) → RanSource workers left left r b (Err NoMemory) held held
+nothing_ran workers left held r b = record {
+  given = [];
+  reads = record { read = Consumes-nil left; at_end = tt };
+  first = record { failed = λ e. absurd cc; too_long = (λ e. absurd cc, λ lt. absurd (omega arith)); up_to = λ e. absurd cc; written = λ e. absurd cc };
+}
+
+module _ (laws : CrewLaws) (workers : ℕ) (left left' : Option (List ℕ)) (first p q l : Passes Ask) (result : Result Bool RunError) (held held' : Option (List ℕ)) (r : List RegEntry) (b : List (BoardEntry Ask))
+    (new : (knows first.board ≡ newcomer) × (knows first.registry ≡ newcomer)) (next : HaveNext workers first p) (source : AnswersSource workers left left' p q result held held') (crewed : CrewedOnBoth workers first q l)
     (shows_r : Shows reg_caller (knows l.registry) r) (shows_b : Shows board_caller (knows l.board) b) where
-  pub front-whole : Gains held held' (IsFrontText workers (start 0) 0 lines r b)
-  front-whole = (
-    answers.front.0,
-    answers.front.1 r b (starts-trans (knows q.registry).seen (knows l.registry).seen r crewed.registry.seen shows_r.seen) (starts-trans (knows q.board).seen (knows l.board).seen b crewed.board.seen shows_b.seen),
-    answers.front.2,
-  )
+  abbrev lines : List Line
+  lines = script_of (script_in left source.given)
+
+  abbrev answers : Answers workers lines p q result held held'
+  answers = source.answers
+
+  starts-registry : StartsWith r (knows q.registry).seen
+  starts-registry = starts-trans (knows q.registry).seen (knows l.registry).seen r crewed.registry.seen shows_r.seen
+
+  starts-board : StartsWith b (knows q.board).seen
+  starts-board = starts-trans (knows q.board).seen (knows l.board).seen b crewed.board.seen shows_b.seen
+
+  pub front-whole : IfSome left (λ script. Gains held held' (IsFrontText workers (start 0) 0 (script_of script) r b))
+  front-whole =
+      if_told (λ script. Gains held held' (IsFrontText workers (start 0) 0 (script_of script) r b)) left source.given
+      (answers.front.0, answers.front.1 r b starts-registry starts-board, answers.front.2)
 
   follow-board : OthersFollow board_caller (knows q.board) b
   follow-board = laws.board_ends is_work (knows first.board).next workers (knows q.board) (knows l.board) b answers.own crewed.board shows_b
@@ -292,20 +400,36 @@ module _ (laws : CrewLaws) (workers : ℕ) (lines : List Line) (first p q l : Pa
       s.finished in
       (s.before, history ∙ ap (λ es. s.before ++ Shut 0 ∷ es) (laws.shut_last s.before 0 later right finished works))
 
+  follow-registry : IsOwn reg_caller (knows q.registry) → OthersFollow reg_caller (knows q.registry) r
+  follow-registry own = laws.registry_ends is_building (knows first.registry).next workers (knows q.registry) (knows l.registry) r own crewed.registry shows_r
+
+  -- what was answered where the source or the sink failed, or too much came
+  pub ran : RanSource workers left left' r b result held held'
+  ran = record {
+    given = source.given;
+    reads = source.reads;
+    first = record {
+      failed = λ is. let g = source.first.failed is in (g.0, g.1 r b (follow-registry (source.own_reads (inl is))) follow-board, g.2);
+      too_long = source.first.too_long;
+      up_to = λ is. let u = source.first.up_to is in let g = u.3 in (u.0, u.1, u.2, (g.0, g.1 r b (follow-registry (source.own_reads (inr is))) follow-board, g.2));
+      written = λ is. let g = source.first.written is in (g.0, g.1 r b starts-registry starts-board, g.2);
+    };
+  }
+
   whole-on : Ended workers lines q held held' → LegalBoard b → Gains held held' (IsText workers (start 0) 0 lines r b) × InTurn lines r × ShutLast b
   whole-on ended legal =
-      let follow-registry = laws.registry_ends is_building (knows first.registry).next workers (knows q.registry) (knows l.registry) r ended.own crewed.registry shows_r in
-      ((ended.text.0, ended.text.1 r b follow-registry follow-board, ended.text.2), ended.in_turn r follow-registry, shut-ends legal ended.shut)
+      let follow = follow-registry ended.own in
+      ((ended.text.0, ended.text.1 r b follow follow-board, ended.text.2), ended.in_turn r follow, shut-ends legal ended.shut)
 
-  on-ok : (A : Type 0) (a : Result Bool SinkError) → (Ended workers lines q held held' → A) → OnOk a (Ended workers lines q held held') → OnOk (run_answer a) A
+  on-ok : (A : Type 0) (a : Result Bool RunError) → (Ended workers lines q held held' → A) → OnOk a (Ended workers lines q held held') → OnOk a A
   on-ok A (Ok bad) f ended = f ended
   on-ok A (Err e) f ended = tt
 
-  pub whole-text : LegalBoard b → OnOk (run_answer result) (Gains held held' (IsText workers (start 0) 0 lines r b))
-  whole-text legal = on-ok _ result (λ e. (whole-on e legal).0) answers.ended
+  pub whole-text : LegalBoard b → OnOk result (IfSome left (λ script. Gains held held' (IsText workers (start 0) 0 (script_of script) r b)))
+  whole-text legal = on-ok _ result (λ e. if_told (λ script. Gains held held' (IsText workers (start 0) 0 (script_of script) r b)) left source.given (whole-on e legal).0) answers.ended
 
-  pub whole-in_turn : LegalBoard b → OnOk (run_answer result) (InTurn lines r)
-  whole-in_turn legal = on-ok _ result (λ e. (whole-on e legal).1) answers.ended
+  pub whole-in_turn : LegalBoard b → OnOk result (IfSome left (λ script. InTurn (script_of script) r))
+  whole-in_turn legal = on-ok _ result (λ e. if_told (λ script. InTurn (script_of script) r) left source.given (whole-on e legal).1) answers.ended
 
   few-enough : workers ≤ 16 → All (λ e. reg_caller e ≤ 16) r × All (λ e. board_caller e ≤ 16) b
   few-enough few = (
@@ -315,18 +439,31 @@ module _ (laws : CrewLaws) (workers : ℕ) (lines : List Line) (first p q l : Pa
 
   -- what a settled script writes is plain
   pub whole-settled : PrintsPlain → workers ≤ 16 → LegalReg r → Made table r → LegalBoard b
-      → OnOk (run_answer result) (IsSettled lines → Gains held held' (λ text. text ≡ plain_text lines))
+      → OnOk result (IfSome left (λ script. IsSettled (script_of script) → Gains held held' (λ text. text ≡ plain_text (script_of script))))
   whole-settled plain few legal_r made legal =
       let callers = few-enough few in
       on-ok _ result
-      (λ e settled.
+      (λ e. if_told (λ script. IsSettled (script_of script) → Gains held held' (λ text. text ≡ plain_text (script_of script))) left source.given
+      (λ settled.
       let whole = whole-on e legal in
-      (whole.0.0, plain workers lines r b whole.0.0 settled legal_r made callers.0 legal callers.1 whole.1 whole.0.1, whole.0.2))
+      (whole.0.0, plain workers lines r b whole.0.0 settled legal_r made callers.0 legal callers.1 whole.1 whole.0.1, whole.0.2)))
       answers.ended
 
-  pub whole-shut : LegalBoard b → OnOk (run_answer result) (ShutLast b)
+  pub whole-shut : LegalBoard b → OnOk result (ShutLast b)
   whole-shut legal = on-ok _ result (λ e. (whole-on e legal).2) answers.ended
 
-pub whole-malformed : (result : Result Bool SinkError) (lines : List Line) → IfOk result (λ bad. bad ≡ list_any is_malformed lines) → IfOk (run_answer result) (λ bad. bad ≡ list_any is_malformed lines)
-whole-malformed (Ok bad) lines is = is
-whole-malformed (Err e) lines is = tt
+  if-ok : (Q R : Bool → Type 0) (a : Result Bool RunError) → ((bad : Bool) → Q bad → R bad) → IfOk a Q → IfOk a R
+  if-ok Q R (Ok bad) f holds = f bad holds
+  if-ok Q R (Err e) f holds = tt
+
+  pub whole-malformed : IfOk result (λ bad. IfSome left (λ script. bad ≡ list_any is_malformed (script_of script)))
+  whole-malformed =
+      if-ok (λ bad. bad ≡ list_any is_malformed lines) (λ bad. IfSome left (λ script. bad ≡ list_any is_malformed (script_of script))) result
+      (λ bad is. if_told (λ script. bad ≡ list_any is_malformed (script_of script)) left source.given is) answers.malformed
+
+  then-end : (a : Result Bool RunError) → OnOk a (IsAtEnd left') → OnOk a (IfSome left (λ _. left' ≡ Some []))
+  then-end (Ok bad) at_end = told_end left left' source.given source.reads.read at_end
+  then-end (Err e) at_end = tt
+
+  pub whole-ended : OnOk result (IfSome left (λ _. left' ≡ Some []))
+  whole-ended = then-end result source.reads.at_end

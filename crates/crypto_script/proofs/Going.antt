@@ -1,6 +1,6 @@
 -- A script, line by line, and what it leaves.
-use Rattle.std.proofs.Common.{◌≡◌, ℕ, ◌+◌, ◌||◌, Bool, true, false, List, [], ◌∷◌, ◌++◌, length, map, Option, Some, None, refl, sym, ap, subst, ◌∙◌, append_assoc, append-nil, arith, inl, inr, IfSome, ◌≤◌, max}
-use Rattle.std.specs.List.{list_any}
+use Rattle.std.proofs.Common.{◌≡◌, ℕ, ◌+◌, ◌||◌, Bool, true, false, List, [], ◌∷◌, ◌++◌, Option, Some, None, refl, sym, ap, subst, ◌∙◌, append_assoc, append-nil, arith, inl, inr, IfSome, ◌≤◌}
+use Rattle.std.specs.Prelude.{is_some}
 use Rattle.std.specs.Io.KnownBytes.{Appends, Keeps}
 use Rattle.std.proofs.KnownBytes.{Appends-trans}
 use Rattle.std.proofs.lemmas.Grind.{flat_map-append}
@@ -8,24 +8,24 @@ use Rattle.alg_registry.specs.declared.entry.RegEntry.{RegEntry}
 use Rattle.alg_registry.specs.Rows.{caller_of as reg_caller}
 use Rattle.board.specs.declared.entry.BoardEntry.{BoardEntry}
 use Rattle.dialogues.specs.BoardCalls.{BoardCall, board_calls, board_calls_from}
-use Rattle.dialogues.specs.Dialogues.{Dialogue, Ends as Done, followed}
+use Rattle.dialogues.specs.Dialogues.{Dialogue, Ends as Done}
 use Rattle.dialogues.specs.InTurn.{AreInTurnBy}
 use Rattle.dialogues.specs.Leading.{Leads}
-use Rattle.dialogues.specs.Lines.{line_dialogue, script}
+use Rattle.dialogues.specs.Lines.{line_dialogue, lines_dialogue, script}
 use Rattle.dialogues.specs.Piping.{end}
 use Rattle.dialogues.specs.RegistryCalls.{RegCall, reg_calls, reg_calls_from, AllSettled}
 use Rattle.dialogues.specs.Texts.{IsText, IsFrontText, turn_in}
 use Rattle.dialogues.specs.Turns.{Turn, IsTurn, ended, joined, text_in, turn_of}
-use Rattle.dialogues.specs.Walk.{Walk, start}
+use Rattle.dialogues.specs.Walk.{start}
 use Rattle.dialogues.specs.Widths.{width_of, widest}
 use Rattle.kc_base.specs.Streams.{AppendsFront, IsPrefix}
 use Rattle.reply_text.specs.Answers.{text_of}
 use Rattle.script_session.specs.Ending.{AnswersEnd}
 use Rattle.script_session.specs.Running.{IsReady, Replies}
-use Rattle.script_session.specs.States.{State, SameLocks}
+use Rattle.script_session.specs.States.{State}
 use Rattle.script_text.specs.declared.commands.Line.{Line}
-use Rattle.script_text.specs.Script.{line_of, script_of}
-use Rattle.script_text.specs.Lines.{lines_of}
+use Rattle.script_text.specs.Script.{script_of}
+use Rattle.script_text.specs.Whole.{AreFirst}
 use Rattle.session_calls.specs.Asking.{AskedBy}
 use Rattle.session_calls.specs.Passes.{known}
 use Rattle.session_calls.specs.Pipelines.{Called}
@@ -34,11 +34,12 @@ use Rattle.shared_registry.specs.declared.sharing.SharedRegistry.{SharedRegistry
 use Rattle.transforms.specs.declared.ask.Ask.{Ask}
 use Rattle.transforms.specs.declared.request.Finished.{Finished}
 use Rattle.turn_lock.specs.Meeting.{IsOwn}
-use Rattle.turn_lock.specs.Turns.{Known, StartsWith}
+use Rattle.turn_lock.specs.Turns.{Known}
+use Rattle.crypto_script.specs.Answered.{AreAnsweredAfter, BeginsWithTextAfter, lines_turn}
 use Rattle.crypto_script.specs.Laws.{Laws}
-use Rattle.script_session.specs.Holding.{HasSeenMore, Stops}
+use Rattle.script_session.specs.Holding.{HasSeenMore}
 use Rattle.crypto_script.specs.Runs.{Gains, GoesOn, IsFresh, Writes, Breaks, IsTextAfter, IsFrontAfter, InTurnAfter}
-use Rattle.crypto_script.specs.Text.{is_malformed}
+use Rattle.crypto_script.proofs.Fronts.{front-lines, widest-front, widest-last}
 use Rattle.crypto_script.proofs.Following.{starts-trans, sees-same, sees-then, reg_calls-on, board_calls-on, reg_calls-same, board_calls-same, in_turn-on, followed-ends}
 
 -- ---- a session goes on
@@ -102,49 +103,50 @@ front-later before text front p = (p.0, append_assoc before front p.0 ∙ ap (λ
 
 -- ---- a run
 
+same-widest : (lines done : List Line) → lines ≡ done → widest done ≤ widest lines
+same-widest lines done same = subst (λ ls. widest done ≤ widest ls) (sym same) (omega arith)
+
 -- each script makes at least one look at once
 widest-some : (lines : List Line) → 1 ≤ widest lines
 widest-some [] = omega arith
 widest-some (line ∷ lines) = let later = widest-some lines in omega arith
 
--- What a script has done: the turn of some first lines.
-pub record Led (first : State) (lines : List Line) (number : ℕ) (left : List Line) (s : State) : Type 0 where
+-- What a script has done: the turn of its first lines, whatever comes after them.
+pub record Led (first : State) (done : List Line) (number : ℕ) (s : State) : Type 0 where
   pub turn : Turn
-  pub leads : Leads first.workers (start 0) 1 lines turn s.walk number left
+  pub leads : (left : List Line) → Leads first.workers (start 0) 1 (done ++ left) turn s.walk number left
   pub asked : reg_calls 0 (known s.registry).seen ≡ turn.registry
   pub settled : AllSettled (reg_calls 0 (known s.registry).seen)
   pub called : board_calls 0 (known s.board).seen ≡ turn.board
-  pub in_turn : AreInTurnBy (widest lines) 0 turn.registry [] (known s.registry).seen
-  pub narrower : widest left ≤ widest lines
+  pub in_turn : AreInTurnBy (widest done) 0 turn.registry [] (known s.registry).seen
   pub caller : (known s.registry).number ≡ 0
   pub board_caller : (known s.board).number ≡ 0
   pub goes : GoesOn first s
 
 -- and it is written, and the session ready for more
-pub record Going {W : Type 0} (registry : SharedRegistry) (board : SharedBoard W Ask Finished) (first : State) (lines : List Line) (number : ℕ) (left : List Line) (held held' : Option (List ℕ)) (s : State) : Type 0 where
-  pub led : Led first lines number left s
+pub record Going {W : Type 0} (registry : SharedRegistry) (board : SharedBoard W Ask Finished) (first : State) (done : List Line) (number : ℕ) (held held' : Option (List ℕ)) (s : State) : Type 0 where
+  pub led : Led first done number s
   pub ready : IsReady registry board s
   pub written : Appends held held' (text_in led.turn)
 
-led-begins : Laws → (first : State) (lines : List Line) → IsFresh first → Led first lines 1 lines first
+led-begins : Laws → (first : State) → IsFresh first → Led first [] 1 first
 unfolding reg_calls board_calls
-led-begins laws first lines fresh =
+led-begins laws first fresh =
     record {
       turn = ended (start 0);
-      leads = subst (λ w. Leads first.workers (start 0) 1 lines (ended (start 0)) w 1 lines) (sym fresh.walk) (laws.nowhere first.workers (start 0) 1 lines);
+      leads = λ left. subst (λ w. Leads first.workers (start 0) 1 left (ended (start 0)) w 1 left) (sym fresh.walk) (laws.nowhere first.workers (start 0) 1 left);
       asked = ap (λ h. reg_calls 0 h) fresh.registry.1;
       settled = subst (λ h. AllSettled (reg_calls 0 h)) (sym fresh.registry.1) tt;
       called = ap (λ h. board_calls 0 h) fresh.board.1;
-      in_turn = subst (λ h. AreInTurnBy (widest lines) 0 [] [] h) (sym fresh.registry.1) (laws.any_width (widest lines) 0 [] [] [] (laws.no_call 0 []));
-      narrower = omega arith;
+      in_turn = subst (λ h. AreInTurnBy 1 0 [] [] h) (sym fresh.registry.1) (laws.any_width 1 0 [] [] [] (laws.no_call 0 []));
       caller = fresh.registry.0;
       board_caller = fresh.board.0;
       goes = goes-same first;
     }
 
-module _ (laws : Laws) (first : State) (lines : List Line) where
+module _ (laws : Laws) (first : State) where
   -- ---- one turn more
-  module _ (number : ℕ) (left : List Line) (s : State) (led : Led first lines number left s) where
+  module _ (done : List Line) (number : ℕ) (s : State) (led : Led first done number s) where
     abbrev k : Known RegEntry
     k = known s.registry
 
@@ -162,27 +164,28 @@ module _ (laws : Laws) (first : State) (lines : List Line) where
     called-all l' calls called =
         ap (λ n. board_calls n l'.seen) (sym (called.number ∙ led.board_caller)) ∙ (called.calls_are ∙ (ap (λ n. board_calls n l.seen ++ calls) led.board_caller ∙ ap (λ cs. cs ++ calls) led.called))
 
-    turns-all : (width : ℕ) (k' : Known RegEntry) (calls : List RegCall) → width ≤ widest lines → AskedBy width k k' calls → AreInTurnBy (widest lines) 0 (led.turn.registry ++ calls) [] k'.seen
-    turns-all width k' calls le asked =
-        laws.later_calls (widest lines) 0 led.turn.registry calls [] k.seen k'.seen led.in_turn
+    -- with as many looks at once as these lines, of which those are the first, and more
+    turns-all : (lines : List Line) (width : ℕ) (k' : Known RegEntry) (calls : List RegCall) → widest done ≤ widest lines → width ≤ widest lines → AskedBy width k k' calls
+        → AreInTurnBy (widest lines) 0 (led.turn.registry ++ calls) [] k'.seen
+    turns-all lines width k' calls before le asked =
+        laws.later_calls (widest lines) 0 led.turn.registry calls [] k.seen k'.seen (laws.wider (widest done) (widest lines) 0 led.turn.registry [] k.seen before led.in_turn)
         (laws.wider width (widest lines) 0 calls k.seen k'.seen le (subst (λ n. AreInTurnBy width n calls k.seen k'.seen) led.caller asked.in_turn))
 
-    led-more : (line : Line) (more : List Line) (s' : State) (reply : List ℕ) → left ≡ line ∷ more → Replies (width_of line) (line_dialogue s.workers s.walk number line) s s' [] reply
-        → (next : Led first lines (number + 1) more s') × (text_in next.turn ≡ text_in led.turn ++ reply)
-    led-more line more s' reply next r =
+    led-more : (line : Line) (s' : State) (reply : List ℕ) → Replies (width_of line) (line_dialogue s.workers s.walk number line) s s' [] reply
+        → (next : Led first (done ++ line ∷ []) (number + 1) s') × (text_in next.turn ≡ text_in led.turn ++ reply)
+    led-more line s' reply r =
         let t = led.turn in
         let u = r.turn in
         let is = subst (λ w. IsTurn (line_dialogue w s.walk number line) u) led.goes.locks.workers r.is in
-        let wide : max (width_of line) (widest more) ≤ widest lines = subst (λ ls. widest ls ≤ widest lines) next led.narrower in
-        let leads = subst (λ ls. Leads first.workers (start 0) 1 lines t s.walk number ls) next led.leads in (
+        let leads : (left : List Line) → Leads first.workers (start 0) 1 ((done ++ line ∷ []) ++ left) t s.walk number (line ∷ left) =
+        λ left. subst (λ ls. Leads first.workers (start 0) 1 ls t s.walk number (line ∷ left)) (sym (append_assoc done (line ∷ []) left)) (led.leads (line ∷ left)) in (
           record {
             turn = joined t u;
-            leads = laws.on first.workers (start 0) s.walk s'.walk 1 number lines more line t u leads is r.ends;
+            leads = λ left. laws.on first.workers (start 0) s.walk s'.walk 1 number ((done ++ line ∷ []) ++ left) left line t u (leads left) is r.ends;
             asked = asked-all (width_of line) (known s'.registry) u.registry r.asked;
             settled = settled-all (width_of line) (known s'.registry) u.registry r.asked;
             called = called-all (known s'.board) u.board r.called;
-            in_turn = turns-all (width_of line) (known s'.registry) u.registry (let w = wide in omega arith) r.asked;
-            narrower = let w = wide in omega arith;
+            in_turn = turns-all (done ++ line ∷ []) (width_of line) (known s'.registry) u.registry (widest-front done (line ∷ [])) (widest-last done line) r.asked;
             caller = r.asked.number ∙ led.caller;
             board_caller = r.called.number ∙ led.board_caller;
             goes = goes-then first s s' led.goes (replied-goes (width_of line) (line_dialogue s.workers s.walk number line) s s' [] reply r);
@@ -190,21 +193,74 @@ module _ (laws : Laws) (first : State) (lines : List Line) where
           texts-joined t u ∙ ap (λ x. text_in t ++ x) (sym r.says),
         )
 
-    -- however the session goes on, what is written of this is a front of the text
-    led-front : (s' : State) (text : List ℕ) → GoesOn s s' → IsPrefix text (text_in led.turn) → IsFrontAfter first.workers lines (known s'.registry) (known s'.board) text
-    led-front s' text goes front = λ r b from_r from_b.
+    -- however the session goes on, what is written of this is a front of the text of all lines that begin with these
+    led-front : (left : List Line) (s' : State) (text : List ℕ) → GoesOn s s' → IsPrefix text (text_in led.turn) → IsFrontAfter first.workers (done ++ left) (known s'.registry) (known s'.board) text
+    led-front left s' text goes front = λ r b from_r from_b.
         let reg = starts-trans k.seen (known s'.registry).seen r goes.registry.seen from_r in
         let brd = starts-trans l.seen (known s'.board).seen b goes.board.seen from_b in
         let more_r = reg_calls_from (k.seen ++ reg.0) 0 k.seen reg.0 in
         let more_b = board_calls_from 0 l.seen brd.0 in
-        laws.front first.workers (start 0) s.walk 0 number lines left led.turn r b more_r more_b text led.leads
+        laws.front first.workers (start 0) s.walk 0 number (done ++ left) left led.turn r b more_r more_b text (led.leads left)
         (reg_calls-on laws k.seen r led.settled reg ∙ ap (λ cs. cs ++ more_r) led.asked)
         (board_calls-on laws l.seen b brd ∙ ap (λ cs. cs ++ more_b) led.called)
         front
 
+    -- ---- these lines alone
+
+    leads-alone : (r : List RegCall) (b : List BoardCall) → turn_of (lines_dialogue first.workers (start 0) 1 done Done) (led.turn.registry ++ r) (led.turn.board ++ b) ≡ joined led.turn (ended s.walk)
+    leads-alone r b =
+        ap (λ ls. turn_of (lines_dialogue first.workers (start 0) 1 ls Done) (led.turn.registry ++ r) (led.turn.board ++ b)) (sym (append-nil done))
+        ∙ led.leads [] Done r b
+
+    alone-text : text_in (joined led.turn (ended s.walk)) ≡ text_in led.turn
+    alone-text = texts-joined led.turn (ended s.walk) ∙ append-nil (text_in led.turn)
+
+    -- where others alone follow, and the board is shut, they are answered whole
+    pub led-answered : AreAnsweredAfter first.workers done k l (text_in led.turn)
+    led-answered = λ r b more from_r calls_b shut.
+        let t = led.turn in
+        let same = reg_calls-same laws k r led.caller led.settled from_r in
+        let calls_r : reg_calls 0 r ≡ t.registry ++ [] = same ∙ (led.asked ∙ sym (append-nil t.registry)) in
+        let on_b : board_calls 0 b ≡ t.board ++ more = calls_b ∙ ap (λ cs. cs ++ more) led.called in
+        let is : lines_turn first.workers done r b ≡ joined t (ended s.walk) =
+        ap (λ cs. turn_of (lines_dialogue first.workers (start 0) 1 done Done) cs (board_calls 0 b)) calls_r
+        ∙ (ap (turn_of (lines_dialogue first.workers (start 0) 1 done Done) (t.registry ++ [])) on_b ∙ leads-alone [] more) in
+        record {
+          registry = ap (λ (u : Turn). u.registry) is ∙ sym calls_r;
+          settled = subst AllSettled (sym same) led.settled;
+          board = (more, ap (λ (u : Turn). u.board ++ more) is ∙ (ap (λ cs. cs ++ more) (append-nil t.board) ∙ sym on_b), shut);
+          ended = ap (λ (u : Turn). is_some u.after) is;
+          text_is = sym (ap text_in is ∙ alone-text);
+        }
+
+    -- however the session goes on, what is written begins with the text of the first of them
+    led-begins_with : (ones : List Line) (s' : State) (text : List ℕ) → AreFirst ones done → GoesOn s s' → IsPrefix (text_in led.turn) text → BeginsWithTextAfter first.workers ones (known s'.registry) (known s'.board) text
+    led-begins_with ones s' text are goes front = λ r b from_r from_b.
+        let t = led.turn in
+        let reg = starts-trans k.seen (known s'.registry).seen r goes.registry.seen from_r in
+        let brd = starts-trans l.seen (known s'.board).seen b goes.board.seen from_b in
+        let more_r = reg_calls_from (k.seen ++ reg.0) 0 k.seen reg.0 in
+        let more_b = board_calls_from 0 l.seen brd.0 in
+        let calls_r : reg_calls 0 r ≡ t.registry ++ more_r = reg_calls-on laws k.seen r led.settled reg ∙ ap (λ cs. cs ++ more_r) led.asked in
+        let calls_b : board_calls 0 b ≡ t.board ++ more_b = board_calls-on laws l.seen b brd ∙ ap (λ cs. cs ++ more_b) led.called in
+        let is : turn_of (lines_dialogue first.workers (start 0) 1 (ones ++ are.0) Done) (reg_calls 0 r) (board_calls 0 b) ≡ joined t (ended s.walk) =
+        ap (λ ls. turn_of (lines_dialogue first.workers (start 0) 1 ls Done) (reg_calls 0 r) (board_calls 0 b)) (sym are.1)
+        ∙ (ap (λ cs. turn_of (lines_dialogue first.workers (start 0) 1 done Done) cs (board_calls 0 b)) calls_r
+        ∙ (ap (turn_of (lines_dialogue first.workers (start 0) 1 done Done) (t.registry ++ more_r)) calls_b ∙ leads-alone more_r more_b)) in
+        let ones_are = front-lines first.workers 1 (start 0) ones are.0 (reg_calls 0 r) (board_calls 0 b) (ap (λ (u : Turn). is_some u.after) is) in
+        let whole : text_in (turn_of (lines_dialogue first.workers (start 0) 1 (ones ++ are.0) Done) (reg_calls 0 r) (board_calls 0 b)) ≡ text_in t = ap text_in is ∙ alone-text in
+        let text_is : text_in (lines_turn first.workers ones r b) ++ ones_are.front.0 ≡ text_in t = ones_are.front.1 ∙ whole in
+        record {
+          ended = ones_are.ended;
+          front = (
+            ones_are.front.0 ++ front.0,
+            sym (append_assoc (text_in (lines_turn first.workers ones r b)) ones_are.front.0 front.0) ∙ (ap (λ x. x ++ front.0) text_is ∙ front.1),
+          );
+        }
+
     -- ---- the end of input
 
-    module _ (s' : State) (reply : List ℕ) (none : left ≡ []) (e : AnswersEnd s s' [] reply) where
+    module _ (lines : List Line) (s' : State) (reply : List ℕ) (none : lines ≡ done) (e : AnswersEnd s s' [] reply) where
       abbrev u : Turn
       u = e.turn
 
@@ -215,7 +271,7 @@ module _ (laws : Laws) (first : State) (lines : List Line) where
       l' = known s'.board
 
       leads-end : Leads first.workers (start 0) 1 lines led.turn s.walk number []
-      leads-end = subst (λ ls. Leads first.workers (start 0) 1 lines led.turn s.walk number ls) none led.leads
+      leads-end = subst (λ ls. Leads first.workers (start 0) 1 ls led.turn s.walk number []) (append-nil done ∙ sym none) (led.leads [])
 
       reply-is : text_in led.turn ++ reply ≡ text_in led.turn ++ text_in u
       reply-is = ap (λ x. text_in led.turn ++ x) e.says
@@ -232,7 +288,7 @@ module _ (laws : Laws) (first : State) (lines : List Line) where
       end-in_turn = λ r from_r.
           let zero = e.asked.number ∙ led.caller in
           let calls = reg_calls-same laws k' r zero (settled-all 1 k' u.registry e.asked) from_r ∙ asked-all 1 k' u.registry e.asked in
-          subst (λ cs. AreInTurnBy (widest lines) 0 cs [] r) (sym calls) (in_turn-on laws (widest lines) k' r (led.turn.registry ++ u.registry) zero from_r (turns-all 1 k' u.registry (widest-some lines) e.asked))
+          subst (λ cs. AreInTurnBy (widest lines) 0 cs [] r) (sym calls) (in_turn-on laws (widest lines) k' r (led.turn.registry ++ u.registry) zero from_r (turns-all lines 1 k' u.registry (same-widest lines done none) (widest-some lines) e.asked))
 
       -- and a front of it is one, whatever comes
       end-front : (text : List ℕ) → IsPrefix text (text_in led.turn ++ reply) → IsFrontAfter first.workers lines k' l' text
@@ -257,56 +313,78 @@ module _ (laws : Laws) (first : State) (lines : List Line) where
   -- ---- the loop
 
   module _ {W : Type 0} (registry : SharedRegistry) (board : SharedBoard W Ask Finished) where
-    abbrev At : ℕ → List Line → Option (List ℕ) → Option (List ℕ) → State → Type 0
-    At number left held held' s = Going registry board first lines number left held held' s
+    abbrev At : List Line → ℕ → Option (List ℕ) → Option (List ℕ) → State → Type 0
+    At done number held held' s = Going registry board first done number held held' s
 
-    pub going-begins : (held : Option (List ℕ)) → IsReady registry board first → IsFresh first → At 1 lines held held first
+    pub going-begins : (held : Option (List ℕ)) → IsReady registry board first → IsFresh first → At [] 1 held held first
     unfolding led-begins
-    going-begins held ready fresh = record { led = led-begins laws first lines fresh; ready = ready; written = appends-none held }
+    going-begins held ready fresh = record { led = led-begins laws first fresh; ready = ready; written = appends-none held }
 
-    module _ (number : ℕ) (left : List Line) (x y z : Option (List ℕ)) (s s' : State) (going : At number left x y s) where
+    module _ (done : List Line) (number : ℕ) (x y z : Option (List ℕ)) (s s' : State) (going : At done number x y s) where
       abbrev t : Turn
       t = going.led.turn
 
-      pub going-more : (line : Line) (more : List Line) → left ≡ line ∷ more → Writes (Replies (width_of line) (line_dialogue s.workers s.walk number line) s s' []) y z → IsReady registry board s' → At (number + 1) more x z s'
-      going-more line more next step ready =
-          let m = led-more number left s going.led line more s' step.0 next step.1 in
+      abbrev Broken : List Line → Type 0
+      Broken lines = Gains x z (IsFrontAfter first.workers lines (known s'.registry) (known s'.board))
+
+      abbrev Begun : List Line → Type 0
+      Begun ones = Gains x z (BeginsWithTextAfter first.workers ones (known s'.registry) (known s'.board))
+
+      pub going-more : (line : Line) → Writes (Replies (width_of line) (line_dialogue s.workers s.walk number line) s s' []) y z → IsReady registry board s' → At (done ++ line ∷ []) (number + 1) x z s'
+      going-more line step ready =
+          let m = led-more done number s going.led line s' step.0 step.1 in
           record { led = m.0; ready = ready; written = subst (Appends x z) (sym m.1) (Appends-trans x y z (text_in t) step.0 going.written step.2) }
 
-      stopped : GoesOn s s' → Keeps y z → Gains x z (IsFrontAfter first.workers lines (known s'.registry) (known s'.board))
-      stopped goes kept = (text_in t, led-front number left s going.led s' (text_in t) goes ([], append-nil (text_in t)), keeps-text x y z (text_in t) going.written kept)
+      pub stopped : (left : List Line) → GoesOn s s' → Keeps y z → Broken (done ++ left)
+      stopped left goes kept = (text_in t, led-front done number s going.led left s' (text_in t) goes ([], append-nil (text_in t)), keeps-text x y z (text_in t) going.written kept)
 
       -- a line that breaks off leaves a front of the text
-      pub going-breaks : (line : Line) (more : List Line) → left ≡ line ∷ more → Breaks s s' (Replies (width_of line) (line_dialogue s.workers s.walk number line) s s' []) y z
-          → Gains x z (IsFrontAfter first.workers lines (known s'.registry) (known s'.board))
-      going-breaks line more next (inl stop) = stopped stop.0 stop.1
-      going-breaks line more next (inr part) =
-          let m = led-more number left s going.led line more s' part.0 next part.1 in
+      pub going-breaks : (line : Line) (left : List Line) → Breaks s s' (Replies (width_of line) (line_dialogue s.workers s.walk number line) s s' []) y z → Broken ((done ++ line ∷ []) ++ left)
+      going-breaks line left (inl stop) = subst Broken (sym (append_assoc done (line ∷ []) left)) (stopped (line ∷ left) stop.0 stop.1)
+      going-breaks line left (inr part) =
+          let m = led-more done number s going.led line s' part.0 part.1 in
           let written = part.2 in (
             text_in t ++ written.0,
-            led-front (number + 1) more s' m.0 s' (text_in t ++ written.0) (goes-same s') (subst (IsPrefix (text_in t ++ written.0)) (sym m.1) (front-later (text_in t) part.0 written.0 written.1)),
+            led-front (done ++ line ∷ []) (number + 1) s' m.0 left s' (text_in t ++ written.0) (goes-same s') (subst (IsPrefix (text_in t ++ written.0)) (sym m.1) (front-later (text_in t) part.0 written.0 written.1)),
             Appends-trans x y z (text_in t) written.0 going.written written.2,
           )
 
       -- and so does the end of input
-      pub going-end_breaks : left ≡ [] → Breaks s s' (AnswersEnd s s' []) y z → Gains x z (IsFrontAfter first.workers lines (known s'.registry) (known s'.board))
-      going-end_breaks none (inl stop) = stopped stop.0 stop.1
-      going-end_breaks none (inr part) =
+      pub going-end_breaks : (lines : List Line) → lines ≡ done → Breaks s s' (AnswersEnd s s' []) y z → Broken lines
+      going-end_breaks lines none (inl stop) = subst Broken (append-nil done ∙ sym none) (stopped [] stop.0 stop.1)
+      going-end_breaks lines none (inr part) =
           let written = part.2 in (
             text_in t ++ written.0,
-            end-front number left s going.led s' part.0 none part.1 (text_in t ++ written.0) (front-later (text_in t) part.0 written.0 written.1),
+            end-front done number s going.led lines s' part.0 none part.1 (text_in t ++ written.0) (front-later (text_in t) part.0 written.0 written.1),
             Appends-trans x y z (text_in t) written.0 going.written written.2,
           )
 
-      -- with it the whole text is written
-      module _ (none : left ≡ []) (step : Writes (AnswersEnd s s' []) y z) where
-        pub going-ends : Gains x z (IsTextAfter first.workers lines (known s'.registry) (known s'.board))
-        going-ends = (text_in t ++ step.0, end-text number left s going.led s' step.0 none step.1, Appends-trans x y z (text_in t) step.0 going.written step.2)
+      -- the first lines of what was answered before are written
+      module _ (ones : List Line) (are : AreFirst ones done) where
+        begun-by : (IsReply : List ℕ → Type 0) → ((reply : List ℕ) → IsReply reply → GoesOn s s') → Breaks s s' IsReply y z → Begun ones
+        begun-by IsReply goes (inl stop) = (text_in t, led-begins_with done number s going.led ones s' (text_in t) are stop.0 ([], append-nil (text_in t)), keeps-text x y z (text_in t) going.written stop.1)
+        begun-by IsReply goes (inr part) =
+            let written = part.2 in (
+              text_in t ++ written.0,
+              led-begins_with done number s going.led ones s' (text_in t ++ written.0) are (goes part.0 part.1) (written.0, refl),
+              Appends-trans x y z (text_in t) written.0 going.written written.2,
+            )
 
-        pub going-ends_front : Gains x z (IsFrontAfter first.workers lines (known s'.registry) (known s'.board))
+        pub going-begun : (line : Line) → Breaks s s' (Replies (width_of line) (line_dialogue s.workers s.walk number line) s s' []) y z → Begun ones
+        going-begun line breaks = begun-by (Replies (width_of line) (line_dialogue s.workers s.walk number line) s s' []) (λ reply r. replied-goes (width_of line) (line_dialogue s.workers s.walk number line) s s' [] reply r) breaks
+
+        pub going-end_begun : Breaks s s' (AnswersEnd s s' []) y z → Begun ones
+        going-end_begun breaks = begun-by (AnswersEnd s s' []) (λ reply e. ended-goes s s' [] reply e) breaks
+
+      -- with it the whole text is written
+      module _ (lines : List Line) (none : lines ≡ done) (step : Writes (AnswersEnd s s' []) y z) where
+        pub going-ends : Gains x z (IsTextAfter first.workers lines (known s'.registry) (known s'.board))
+        going-ends = (text_in t ++ step.0, end-text done number s going.led lines s' step.0 none step.1, Appends-trans x y z (text_in t) step.0 going.written step.2)
+
+        pub going-ends_front : Broken lines
         going-ends_front = (
           text_in t ++ step.0,
-          end-front number left s going.led s' step.0 none step.1 (text_in t ++ step.0) ([], append-nil (text_in t ++ step.0)),
+          end-front done number s going.led lines s' step.0 none step.1 (text_in t ++ step.0) ([], append-nil (text_in t ++ step.0)),
           Appends-trans x y z (text_in t) step.0 going.written step.2,
         )
 
@@ -314,7 +392,7 @@ module _ (laws : Laws) (first : State) (lines : List Line) where
         going-ends_own = step.1.asked.caller.own
 
         pub going-ends_in_turn : InTurnAfter lines (known s'.registry)
-        going-ends_in_turn = end-in_turn number left s going.led s' step.0 none step.1
+        going-ends_in_turn = end-in_turn done number s going.led lines s' step.0 none step.1
 
       -- ---- both passes have seen more
 
@@ -331,17 +409,7 @@ module _ (laws : Laws) (first : State) (lines : List Line) where
       pub end-goes : Writes (AnswersEnd s s' []) y z → GoesOn first s'
       end-goes step = goes-then first s s' going.led.goes (ended-goes s s' [] step.0 step.1)
 
--- ---- lines of bytes
-
-pub malformed_next : (rest line more : List ℕ) → lines_of rest ≡ line ∷ lines_of more → list_any is_malformed (script_of rest) ≡ (is_malformed (line_of line) || list_any is_malformed (script_of more))
-malformed_next rest line more e = ap (λ ls. list_any is_malformed (map line_of ls)) e
-
-pub script_next : (rest line more : List ℕ) → lines_of rest ≡ line ∷ lines_of more → script_of rest ≡ line_of line ∷ script_of more
-script_next rest line more e = ap (map line_of) e
-
-pub script_none : (rest : List ℕ) → length rest ≡ 0 → script_of rest ≡ []
-script_none [] e = refl
-script_none (b ∷ rest) e = absurd (omega (arith, e))
+-- ---- malformed lines
 
 pub or_later : (m b t : Bool) → ((m || b) || t) ≡ (m || (b || t))
 or_later true b t = refl

@@ -22,11 +22,6 @@ abbrev pub of_output : SinkError → RunError
 of_output output.Failed = WriteFault
 of_output output.NoMemory = NoMemory
 
--- whether a line is malformed, or why the script stopped
-abbrev pub run_answer : Result Bool SinkError → Result Bool RunError
-run_answer (Ok bad) = Ok bad
-run_answer (Err e) = Err (of_output e)
-
 -- the status of a run that found a malformed line or none, or didn't reach the end
 abbrev pub status_of : Result Bool RunError → ℕ
 status_of (Ok false) = 0

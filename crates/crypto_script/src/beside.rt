@@ -1,6 +1,6 @@
 //! A whole script beside workers.
 
-ghost use Rattle.std.specs.Prelude.{OnOk, ◌≡◌, ◌+◌, ◌^◌, ◌≤◌, ◌⊎◌, [], Err, true, length, IfOk, IfErr, IsErrOf};
+ghost use Rattle.std.specs.Prelude.{OnOk, ◌≡◌, ◌+◌, ◌≤◌, ◌⊎◌, [], Err, Some, true, IfOk, IfSome, IsErrOf};
 ghost use Rattle.std.specs.List.{list_any};
 ghost use Rattle.alg_registry.specs.Legal.{LegalReg};
 ghost use Rattle.alg_registry.specs.Made.{Made};
@@ -18,18 +18,18 @@ ghost use Rattle.templates.specs.Table.{table};
 ghost use Rattle.turn_lock.specs.Meeting.{IsOwn};
 ghost use Rattle.turn_lock.specs.Passes.{knows};
 ghost use Rattle.turn_lock.specs.Turns.{newcomer};
+ghost use Rattle.crypto_script.specs.Answered.{AnswersSource, RanSource, ShutsAlone};
 ghost use Rattle.crypto_script.specs.Endings.{AreCallers, EndsShut};
 ghost use Rattle.crypto_script.specs.Laws.{CrewLaws};
-ghost use Rattle.crypto_script.specs.Runs.{Gains, OthersFollow, InTurn, AreNew, Answers};
-ghost use Rattle.crypto_script.specs.Statuses.{run_answer};
+ghost use Rattle.crypto_script.specs.Runs.{Gains, OthersFollow, InTurn, AreNew};
 ghost use Rattle.crypto_script.specs.Text.{is_malformed};
 
 use crate::errors::RunError;
-use crate::lines::run_lines;
+use crate::lines::{laws, run_lines};
 use alg_registry::{RegEntry, RegLog};
 use board::{BoardEntry, BoardLog, work_ends};
 use crew::{Gate, Passes, crew_works, crews_end, run_crew};
-use kc_base::{Sink, SinkError};
+use kc_base::{Sink, Source};
 use script_session::Session;
 use settled_scripts::settled_scripts_print_plain;
 use shared_board::{BoardPass, SharedBoard};
@@ -81,6 +81,7 @@ fn shut_board<R: Wait>(rt: &R, board: &SharedBoard<Job>, pass: BoardPass<Job>) -
     ensures own { IsOwn caller_of (knows result) }
     ensures closed { is_shut (knows result).seen ≡ true }
     ensures shut { is_shut (knows pass).seen ≡ true → OthersFollow caller_of (knows pass) (knows result).seen }
+    ensures alone { ShutsAlone caller_of (knows pass) (knows result) }
 {
     let (pass, shut) = board.is_shut(rt, pass);
     if shut {
@@ -89,8 +90,8 @@ fn shut_board<R: Wait>(rt: &R, board: &SharedBoard<Job>, pass: BoardPass<Job>) -
     board.shut(rt, pass)
 }
 
-// Runs the script with passes of both locks, and shuts the board at its end, however it ends.
-fn answer_script<K: Sink, G: Gate, R: Threads + Wait + Sync>(
+// Runs the script out of the source with passes of both locks, and shuts the board at its end, however it ends.
+fn answer_script<S: Source, K: Sink, G: Gate, R: Threads + Wait + Sync>(
     rt: &R,
     alloc: Global,
     workers: u32,
@@ -98,23 +99,24 @@ fn answer_script<K: Sink, G: Gate, R: Threads + Wait + Sync>(
     registry: &SharedRegistry,
     gate: &G,
     passes: Passes<Ask>,
-    input: &[u8],
+    src: &mut S,
     out: &mut K,
-) -> (Passes<Ask>, Result<bool, SinkError>)
+) -> (Passes<Ask>, Result<bool, RunError>)
     requires lock { ArePassesOn board.now registry.now passes }
     requires new { AreNew passes }
-    requires short { length input.now ≤ 2 ^ 28 }
     ensures lock { ArePassesOn board.now registry.now result.0 }
-    ensures answers { Answers workers (script_of input.now) passes result.0 result.1 (K.held out.old) (K.held out.new) }
-    ensures later { K.faults out.old ≤ K.faults out.new }
-    ensures cause { IsErrOf result.1 SinkError.Failed → Rose (K.faults out.old) (K.faults out.new) }
+    ensures answers { AnswersSource workers (S.left src.old) (S.left src.new) passes result.0 result.1 (K.held out.old) (K.held out.new) }
+    ensures read_fault { IsErrOf result.1 RunError.ReadFault → Rose (S.faults src.old) (S.faults src.new) }
+    ensures write_fault { IsErrOf result.1 RunError.WriteFault → Rose (K.faults out.old) (K.faults out.new) }
+    ensures usage { IsErrOf result.1 RunError.Usage → ⊥ }
 {
+    laws();
     let Passes {
         board: on_board,
         registry: on_registry,
     } = passes;
     let mut session = Session::new(alloc, workers, 0, on_registry, on_board);
-    let answer = run_lines(rt, alloc, board, registry, gate, &mut session, input, out);
+    let answer = run_lines(rt, alloc, board, registry, gate, &mut session, src, out);
     let (on_registry, on_board) = session.into_passes();
     let passes = Passes {
         board: shut_board(rt, board, on_board),
@@ -123,14 +125,8 @@ fn answer_script<K: Sink, G: Gate, R: Threads + Wait + Sync>(
     (passes, answer)
 }
 
-fn run_answered(answer: Result<bool, SinkError>) -> Result<bool, RunError>
-    ensures { result ≡ run_answer answer }
-{
-    Ok(answer?)
-}
-
-// Runs the script with passes of both locks, beside so many workers.
-fn crew_script<K: Sink, G: Gate + Sync, R: Threads + Wait + Sync>(
+// Runs the script out of the source with passes of both locks, beside so many workers.
+fn crew_script<S: Source, K: Sink, G: Gate + Sync, R: Threads + Wait + Sync>(
     rt: &R,
     alloc: Global,
     workers: u32,
@@ -138,34 +134,32 @@ fn crew_script<K: Sink, G: Gate + Sync, R: Threads + Wait + Sync>(
     registry: &SharedRegistry,
     gate: &G,
     passes: Passes<Ask>,
-    input: &[u8],
+    src: &mut S,
     out: &mut K,
-) -> (Passes<Ask>, Result<bool, SinkError>)
+) -> (Passes<Ask>, Result<bool, RunError>)
     requires few { workers ≤ 16 }
     requires lock { ArePassesOn board.now registry.now passes }
     requires first { (knows passes.board ≡ newcomer) × (knows passes.registry ≡ newcomer) }
-    requires short { length input.now ≤ 2 ^ 28 }
     ensures lock { ArePassesOn board.now registry.now result.0 }
-    ensures crewed { (p q : _) × HaveNext workers passes p × Answers workers (script_of input.now) p q result.1 (K.held out.old) (K.held out.new) × CrewedOnBoth workers passes q result.0 }
-    ensures cause { IsErrOf result.1 SinkError.Failed → Rose (K.faults out.old) (K.faults out.new) }
+    ensures crewed { (p q : _) × HaveNext workers passes p × AnswersSource workers (S.left src.old) (S.left src.new) p q result.1 (K.held out.old) (K.held out.new) × CrewedOnBoth workers passes q result.0 }
+    ensures read_fault { IsErrOf result.1 RunError.ReadFault → Rose (S.faults src.old) (S.faults src.new) }
+    ensures write_fault { IsErrOf result.1 RunError.WriteFault → Rose (K.faults out.old) (K.faults out.new) }
+    ensures usage { IsErrOf result.1 RunError.Usage → ⊥ }
 {
-    let mut main = |passes: Passes<Ask>| -> (Passes<Ask>, Result<bool, SinkError>)
+    let mut main = |passes: Passes<Ask>| -> (Passes<Ask>, Result<bool, RunError>)
         requires lock { ArePassesOn board.now registry.now passes }
         requires new { AreNew passes }
-        requires short { length input.now ≤ 2 ^ 28 }
         ensures lock { ArePassesOn board.entry.now registry.entry.now result.0 }
-        ensures answers { Answers workers (script_of input.entry.now) passes result.0 result.1 (K.held out.entry.now) (K.held out.exit.now) }
-        ensures cause { IsErrOf result.1 SinkError.Failed → Rose (K.faults out.entry.now) (K.faults out.exit.now) }
-    {
-        answer_script(
-            rt, alloc, workers, board, registry, gate, passes, input, out,
-        )
-    };
+        ensures answers { AnswersSource workers (S.left src.entry.now) (S.left src.exit.now) passes result.0 result.1 (K.held out.entry.now) (K.held out.exit.now) }
+        ensures read_fault { IsErrOf result.1 RunError.ReadFault → Rose (S.faults src.entry.now) (S.faults src.exit.now) }
+        ensures write_fault { IsErrOf result.1 RunError.WriteFault → Rose (K.faults out.entry.now) (K.faults out.exit.now) }
+        ensures usage { IsErrOf result.1 RunError.Usage → ⊥ }
+    { answer_script(rt, alloc, workers, board, registry, gate, passes, src, out) };
     run_crew(rt, alloc, workers, board, registry, passes, gate, &mut main)
 }
 
-// Runs the script beside so many workers on these locks, with their first passes.
-fn run_beside<K: Sink, G: Gate + Sync, R: Threads + Wait + Sync>(
+// Runs the script out of the source beside so many workers on these locks, with their first passes.
+fn run_beside<S: Source, K: Sink, G: Gate + Sync, R: Threads + Wait + Sync>(
     rt: &R,
     alloc: Global,
     workers: u32,
@@ -173,67 +167,72 @@ fn run_beside<K: Sink, G: Gate + Sync, R: Threads + Wait + Sync>(
     registry: SharedRegistry,
     gate: &G,
     passes: Passes<Ask>,
-    input: &[u8],
+    src: &mut S,
     out: &mut K,
 ) -> Ran
     requires few { workers ≤ 16 }
     requires lock { ArePassesOn board registry passes }
     requires first { (knows passes.board ≡ newcomer) × (knows passes.registry ≡ newcomer) }
-    requires short { length input.now ≤ 2 ^ 28 }
-    ensures whole { OnOk result.answer (Gains (K.held out.old) (K.held out.new) (IsText workers (start 0) 0 (script_of input.now) result.registry result.board)) }
-    ensures in_turn { OnOk result.answer (InTurn (script_of input.now) result.registry) }
-    ensures settled { OnOk result.answer (IsSettled (script_of input.now) → Gains (K.held out.old) (K.held out.new) (λ text. text ≡ plain_text (script_of input.now))) }
+    ensures ended { OnOk result.answer (IfSome (S.left src.old) (λ _. S.left src.new ≡ Some [])) }
+    ensures whole { OnOk result.answer (IfSome (S.left src.old) (λ script. Gains (K.held out.old) (K.held out.new) (IsText workers (start 0) 0 (script_of script) result.registry result.board))) }
+    ensures in_turn { OnOk result.answer (IfSome (S.left src.old) (λ script. InTurn (script_of script) result.registry)) }
+    ensures settled { OnOk result.answer (IfSome (S.left src.old) (λ script. IsSettled (script_of script) → Gains (K.held out.old) (K.held out.new) (λ text. text ≡ plain_text (script_of script)))) }
     ensures shut { OnOk result.answer (EndsShut result.board) }
-    ensures front { Gains (K.held out.old) (K.held out.new) (IsFrontText workers (start 0) 0 (script_of input.now) result.registry result.board) }
+    ensures front { IfSome (S.left src.old) (λ script. Gains (K.held out.old) (K.held out.new) (IsFrontText workers (start 0) 0 (script_of script) result.registry result.board)) }
+    ensures first { RanSource workers (S.left src.old) (S.left src.new) result.registry result.board result.answer (K.held out.old) (K.held out.new) }
     ensures closed { is_shut result.board ≡ true }
     ensures callers { AreCallers workers result.registry result.board }
     ensures legal { LegalReg result.registry }
     ensures legal_board { LegalBoard result.board }
     ensures faithful { Made table result.registry }
-    ensures malformed { IfOk result.answer (λ bad. bad ≡ list_any is_malformed (script_of input.now)) }
+    ensures malformed { IfOk result.answer (λ bad. IfSome (S.left src.old) (λ script. bad ≡ list_any is_malformed (script_of script))) }
+    ensures read_fault { IsErrOf result.answer RunError.ReadFault → Rose (S.faults src.old) (S.faults src.new) }
     ensures write_fault { IsErrOf result.answer RunError.WriteFault → Rose (K.faults out.old) (K.faults out.new) }
-    ensures causes { IfErr result.answer (λ e. (e ≡ RunError.WriteFault) ⊎ (e ≡ RunError.NoMemory)) }
+    ensures usage { IsErrOf result.answer RunError.Usage → ⊥ }
 {
     crew_laws();
     settled_scripts_print_plain();
     let (passes, answer) = crew_script(
-        rt, alloc, workers, &board, &registry, gate, passes, input, out,
+        rt, alloc, workers, &board, &registry, gate, passes, src, out,
     );
     let Passes {
         board: on_board,
         registry: on_registry,
     } = passes;
     Ran {
-        answer: run_answered(answer),
+        answer,
         registry: registry.finish_all(rt, on_registry),
         board: board.finish_all(rt, on_board),
     }
 }
 
-/// Runs the script beside so many workers, on a board and a registry of its own.
-pub fn run_script<K: Sink, G: Gate + Sync, R: Threads + Wait + Sync>(
+/// Runs the script out of the source beside so many workers, on a board and a registry of its own.
+#[tactic(auto, using(crate::proofs::Going::nothing_fronted, crate::proofs::Finishing::nothing_ran))]
+pub fn run_script<S: Source, K: Sink, G: Gate + Sync, R: Threads + Wait + Sync>(
     rt: &R,
     alloc: Global,
     workers: u32,
     gate: &G,
-    input: &[u8],
+    src: &mut S,
     out: &mut K,
 ) -> Ran
     requires few { workers ≤ 16 }
-    requires short { length input.now ≤ 2 ^ 28 }
-    ensures whole { OnOk result.answer (Gains (K.held out.old) (K.held out.new) (IsText workers (start 0) 0 (script_of input.now) result.registry result.board)) }
-    ensures in_turn { OnOk result.answer (InTurn (script_of input.now) result.registry) }
-    ensures settled { OnOk result.answer (IsSettled (script_of input.now) → Gains (K.held out.old) (K.held out.new) (λ text. text ≡ plain_text (script_of input.now))) }
+    ensures ended { OnOk result.answer (IfSome (S.left src.old) (λ _. S.left src.new ≡ Some [])) }
+    ensures whole { OnOk result.answer (IfSome (S.left src.old) (λ script. Gains (K.held out.old) (K.held out.new) (IsText workers (start 0) 0 (script_of script) result.registry result.board))) }
+    ensures in_turn { OnOk result.answer (IfSome (S.left src.old) (λ script. InTurn (script_of script) result.registry)) }
+    ensures settled { OnOk result.answer (IfSome (S.left src.old) (λ script. IsSettled (script_of script) → Gains (K.held out.old) (K.held out.new) (λ text. text ≡ plain_text (script_of script)))) }
     ensures shut { OnOk result.answer (EndsShut result.board) }
-    ensures front { Gains (K.held out.old) (K.held out.new) (IsFrontText workers (start 0) 0 (script_of input.now) result.registry result.board) }
+    ensures front { IfSome (S.left src.old) (λ script. Gains (K.held out.old) (K.held out.new) (IsFrontText workers (start 0) 0 (script_of script) result.registry result.board)) }
+    ensures first { RanSource workers (S.left src.old) (S.left src.new) result.registry result.board result.answer (K.held out.old) (K.held out.new) }
     ensures closed { (result.board ≡ []) ⊎ (is_shut result.board ≡ true) }
     ensures callers { AreCallers workers result.registry result.board }
     ensures legal { LegalReg result.registry }
     ensures legal_board { LegalBoard result.board }
     ensures faithful { Made table result.registry }
-    ensures malformed { IfOk result.answer (λ bad. bad ≡ list_any is_malformed (script_of input.now)) }
+    ensures malformed { IfOk result.answer (λ bad. IfSome (S.left src.old) (λ script. bad ≡ list_any is_malformed (script_of script))) }
+    ensures read_fault { IsErrOf result.answer RunError.ReadFault → Rose (S.faults src.old) (S.faults src.new) }
     ensures write_fault { IsErrOf result.answer RunError.WriteFault → Rose (K.faults out.old) (K.faults out.new) }
-    ensures causes { IfErr result.answer (λ e. (e ≡ RunError.WriteFault) ⊎ (e ≡ RunError.NoMemory)) }
+    ensures usage { IsErrOf result.answer RunError.Usage → ⊥ }
 {
     let Ok((registry, on_registry)) = SharedRegistry::new(alloc) else {
         return Ran::not_at_all(alloc, RunError::NoMemory);
@@ -245,7 +244,5 @@ pub fn run_script<K: Sink, G: Gate + Sync, R: Threads + Wait + Sync>(
         board: on_board,
         registry: on_registry,
     };
-    run_beside(
-        rt, alloc, workers, board, registry, gate, passes, input, out,
-    )
+    run_beside(rt, alloc, workers, board, registry, gate, passes, src, out)
 }

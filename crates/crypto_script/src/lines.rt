@@ -1,27 +1,26 @@
 //! A script's lines, answered by its session and written one by one.
 
 ghost use Rattle.std.specs.Prelude.{OnOk, ◌≡◌, ◌+◌, ◌^◌, ◌≤◌, [], length, MatchResult, IfOk, IsErrOf};
-ghost use Rattle.std.specs.List.{list_any};
-ghost use Rattle.alg_registry.specs.Rows.{caller_of};
 ghost use Rattle.kc_base.specs.Streams.{Rose};
-ghost use Rattle.script_text.specs.Script.{line_of, script_of};
+ghost use Rattle.script_text.specs.Sizes.{IsShortLine};
 ghost use Rattle.dialogues.specs.Lines.{line_dialogue};
 ghost use Rattle.dialogues.specs.Widths.{width_of};
 ghost use Rattle.session_calls.specs.Passes.{known};
 ghost use Rattle.script_session.specs.Running.{IsReady, Replies};
 ghost use Rattle.script_session.specs.Ending.{AnswersEnd, EndsShut};
-ghost use Rattle.turn_lock.specs.Meeting.{IsOwn};
 ghost use Rattle.crypto_script.specs.Text.{is_malformed};
 ghost use Rattle.crypto_script.specs.Laws.{Laws};
-ghost use Rattle.crypto_script.specs.Runs.{Gains, GoesOn, Writes, Breaks, IsFresh, IsTextAfter, IsFrontAfter, InTurnAfter};
+ghost use Rattle.crypto_script.specs.Answered.{RunsSource};
+ghost use Rattle.crypto_script.specs.Runs.{GoesOn, Writes, Breaks, IsFresh};
 
+use crate::errors::RunError;
 use crew::Gate;
 use dialogues::{
     board_calls_go_on, calls_at_once, calls_in_turn, lines_lead, registry_calls_go_on, turns_follow,
 };
-use kc_base::{Bytes, Sink, SinkError, write_piece};
+use kc_base::{Bytes, Sink, SinkError, Source, write_piece};
 use script_session::Session;
-use script_text::{Line, first_line, read_line};
+use script_text::{Line, LineReader, whole_lines_stay};
 use session_calls::Stop;
 use shared_board::SharedBoard;
 use shared_registry::SharedRegistry;
@@ -30,8 +29,11 @@ use std::sync::Wait;
 use std::thread::Threads;
 use transforms::Job;
 
-// what texts and calls are as histories go on
-fn laws()
+/// The most bytes of input.
+pub const MAX_INPUT: usize = 268_435_456;
+
+/// What texts and calls are as histories go on.
+pub fn laws()
     ensures { Laws }
 {
     lines_lead();
@@ -57,19 +59,19 @@ fn reply_to<G: Gate, R: Threads + Wait + Sync>(
     gate: &G,
     session: &mut Session,
     number: u32,
-    line: &[u8],
+    line: Line,
 ) -> Result<(Bytes, bool), AllocError>
-    requires { IsReady registry.now board.now session.old }
+    requires ready { IsReady registry.now board.now session.old }
+    requires short { IsShortLine line }
     ensures done { MatchResult result
-        (λ reply. Replies (width_of (line_of line.now)) (line_dialogue session.old.workers session.old.walk number (line_of line.now)) session.old session.new [] reply.0)
+        (λ reply. Replies (width_of line) (line_dialogue session.old.workers session.old.walk number line) session.old session.new [] reply.0)
         (λ _. GoesOn session.old session.new) }
     ensures ready { OnOk result (IsReady registry.now board.now session.new) }
-    ensures malformed { IfOk result (λ reply. reply.1 ≡ is_malformed (line_of line.now)) }
+    ensures malformed { IfOk result (λ reply. reply.1 ≡ is_malformed line) }
 {
-    let said = read_line(alloc, line)?;
     let mut reply = Bytes::new(alloc);
-    match session.line(rt, board, registry, gate, number, &said, &mut reply) {
-        Ok(()) => Ok((reply, is_malformed_line(&said))),
+    match session.line(rt, board, registry, gate, number, &line, &mut reply) {
+        Ok(()) => Ok((reply, is_malformed_line(&line))),
         Err(Stop::Memory) => Err(AllocError),
     }
 }
@@ -106,15 +108,16 @@ fn run_line<K: Sink, G: Gate, R: Threads + Wait + Sync>(
     gate: &G,
     session: &mut Session,
     number: u32,
-    line: &[u8],
+    line: Line,
     out: &mut K,
 ) -> Result<bool, SinkError>
-    requires { IsReady registry.now board.now session.old }
+    requires ready { IsReady registry.now board.now session.old }
+    requires short { IsShortLine line }
     ensures done { MatchResult result
-        (λ _. Writes (Replies (width_of (line_of line.now)) (line_dialogue session.old.workers session.old.walk number (line_of line.now)) session.old session.new []) (K.held out.old) (K.held out.new))
-        (λ _. Breaks session.old session.new (Replies (width_of (line_of line.now)) (line_dialogue session.old.workers session.old.walk number (line_of line.now)) session.old session.new []) (K.held out.old) (K.held out.new)) }
+        (λ _. Writes (Replies (width_of line) (line_dialogue session.old.workers session.old.walk number line) session.old session.new []) (K.held out.old) (K.held out.new))
+        (λ _. Breaks session.old session.new (Replies (width_of line) (line_dialogue session.old.workers session.old.walk number line) session.old session.new []) (K.held out.old) (K.held out.new)) }
     ensures ready { OnOk result (IsReady registry.now board.now session.new) }
-    ensures malformed { IfOk result (λ bad. bad ≡ is_malformed (line_of line.now)) }
+    ensures malformed { IfOk result (λ bad. bad ≡ is_malformed line) }
     ensures later { K.faults out.old ≤ K.faults out.new }
     ensures cause { IsErrOf result SinkError.Failed → Rose (K.faults out.old) (K.faults out.new) }
 {
@@ -146,40 +149,34 @@ fn run_end<K: Sink, G: Gate, R: Wait>(
     write_piece(out, reply.as_slice())
 }
 
-/// Answers each line of the input and its end, each in one piece, and says whether a line is malformed. Only a failed write and
-/// want of memory stop it.
-pub fn run_lines<K: Sink, G: Gate, R: Threads + Wait + Sync>(
+/// Answers each line out of the source and its end, each in one piece, and says whether a line is malformed. It reads on only
+/// where each whole line of what was read is answered. A failed read, more bytes than `MAX_INPUT`, a failed write and want of
+/// memory stop it.
+pub fn run_lines<S: Source, K: Sink, G: Gate, R: Threads + Wait + Sync>(
     rt: &R,
     alloc: Global,
     board: &SharedBoard<Job>,
     registry: &SharedRegistry,
     gate: &G,
     session: &mut Session,
-    input: &[u8],
+    src: &mut S,
     out: &mut K,
-) -> Result<bool, SinkError>
-    requires short { length input.now ≤ 2 ^ 28 }
+) -> Result<bool, RunError>
     requires ready { IsReady registry.now board.now session.old }
     requires fresh { IsFresh session.old }
-    ensures whole { OnOk result (Gains (K.held out.old) (K.held out.new) (IsTextAfter session.old.workers (script_of input.now) (known session.new.registry) (known session.new.board))) }
-    ensures front { Gains (K.held out.old) (K.held out.new) (IsFrontAfter session.old.workers (script_of input.now) (known session.new.registry) (known session.new.board)) }
-    ensures in_turn { OnOk result (InTurnAfter (script_of input.now) (known session.new.registry)) }
-    ensures own { OnOk result (IsOwn caller_of (known session.new.registry)) }
-    ensures shut { OnOk result (EndsShut (known session.new.board)) }
-    ensures goes_on { GoesOn session.old session.new }
-    ensures malformed { IfOk result (λ bad. bad ≡ list_any is_malformed (script_of input.now)) }
-    ensures later { K.faults out.old ≤ K.faults out.new }
-    ensures cause { IsErrOf result SinkError.Failed → Rose (K.faults out.old) (K.faults out.new) }
+    ensures run { RunsSource (S.left src.old) (S.left src.new) session.old session.new result (K.held out.old) (K.held out.new) }
+    ensures read_fault { IsErrOf result RunError.ReadFault → Rose (S.faults src.old) (S.faults src.new) }
+    ensures write_fault { IsErrOf result RunError.WriteFault → Rose (K.faults out.old) (K.faults out.new) }
+    ensures usage { IsErrOf result RunError.Usage → ⊥ }
 {
     laws();
-    let mut rest = input;
+    whole_lines_stay();
+    let mut reader = LineReader::new(alloc, MAX_INPUT)?;
     let mut number = 1u32;
     let mut malformed = false;
-    while !rest.is_empty() {
-        let (line, more) = first_line(rest);
+    while let Some(line) = reader.next(src)? {
         let bad = run_line(rt, alloc, board, registry, gate, session, number, line, out)?;
         malformed |= bad;
-        rest = more;
         number += 1;
     }
     run_end(rt, alloc, board, registry, gate, session, out)?;

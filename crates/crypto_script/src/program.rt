@@ -1,10 +1,10 @@
 //! The whole program, from the words and the bytes read to the bytes written.
 
-ghost use Rattle.std.specs.Prelude.{OnOk, ◌≡◌, ◌+◌, ◌^◌, ◌<◌, ◌≤◌, ◌↔◌, ◌⊎◌, List, ℕ, [], Some, None, length, map, MatchResult, IfOk, IfErr, IfSome, IsErrOf, IsSome, IsTrue, string_bytes, true, vec_len};
+ghost use Rattle.std.specs.Prelude.{OnOk, ◌≡◌, ◌+◌, ◌-◌, ◌^◌, ◌<◌, ◌≤◌, ◌↔◌, ◌⊎◌, List, ℕ, [], Some, None, length, take, map, IfOk, IfErr, IfSome, IsErrOf, IsSome, IsTrue, string_bytes, true};
 ghost use Rattle.std.specs.List.{list_any};
-ghost use Rattle.std.specs.Io.KnownBytes.{Consumes, IsAtEnd};
 ghost use Rattle.kc_base.specs.Streams.{Rose};
 ghost use Rattle.script_text.specs.Script.{script_of};
+ghost use Rattle.script_text.specs.Whole.{whole_script};
 ghost use Rattle.settled_scripts.specs.Settled.{IsSettled, plain_text};
 ghost use Rattle.alg_registry.specs.Legal.{LegalReg};
 ghost use Rattle.alg_registry.specs.Made.{Made};
@@ -12,6 +12,7 @@ ghost use Rattle.board.specs.Legal.{LegalBoard, is_shut};
 ghost use Rattle.dialogues.specs.Texts.{IsText, IsFrontText};
 ghost use Rattle.dialogues.specs.Walk.{start};
 ghost use Rattle.templates.specs.Table.{table};
+ghost use Rattle.crypto_script.specs.Answered.{Gives, AreAnswered, BeginsWithText};
 ghost use Rattle.crypto_script.specs.Endings.{workers_asked, workers_in, AreCallers, EndsShut};
 ghost use Rattle.crypto_script.specs.Runs.{ReadsUpTo, Gains, InTurn};
 ghost use Rattle.crypto_script.specs.Statuses.{status_of};
@@ -23,16 +24,11 @@ use alg_registry::RegLog;
 use board::BoardLog;
 use command_line::{Mode, parse_words};
 use crew::Gate;
-use kc_base::{Bytes, Sink, Source, read_input};
-use std::alloc::{AllocError, Global};
+use kc_base::{Sink, Source};
+use std::alloc::Global;
 use std::sync::Wait;
 use std::thread::Threads;
 use transforms::Ask;
-
-/// The most bytes of input.
-pub const MAX_INPUT: usize = 268_435_456;
-
-const BUFFER: usize = 65_536;
 
 /// How a run ended.
 #[derive(Drop)]
@@ -60,24 +56,6 @@ fn workers_for(alloc: Global, words: &[String]) -> Result<u32, RunError>
     Ok(options.workers)
 }
 
-// A buffer. Its length is a parameter, so that no proof counts it out.
-fn zeros(alloc: Global, count: usize) -> Result<Vec<u8>, AllocError>
-    ensures { IfOk result (λ buffer. vec_len buffer ≡ count) }
-{
-    vec![in alloc; 0u8; count]
-}
-
-// Reads the input whole.
-fn read_script<S: Source>(alloc: Global, src: &mut S) -> Result<Bytes, RunError>
-    ensures read { ReadsUpTo (S.left src.old) (S.left src.new) (IsErrOf result RunError.TooLong) }
-    ensures whole { IfOk result (λ input. Consumes (S.left src.old) (S.left src.new) input × IsAtEnd (S.left src.new) × (length input ≤ 2 ^ 28)) }
-    ensures read_fault { IsErrOf result RunError.ReadFault → Rose (S.faults src.old) (S.faults src.new) }
-    ensures causes { IfErr result (λ e. (e ≡ RunError.ReadFault) ⊎ (e ≡ RunError.NoMemory) ⊎ (e ≡ RunError.TooLong)) }
-{
-    let mut buffer = zeros(alloc, BUFFER)?;
-    Ok(read_input(alloc, src, &mut buffer, MAX_INPUT)?)
-}
-
 // The outcome of what was run.
 fn outcome_of(ran: Ran) -> Outcome
     ensures status { result.status ≡ status_of ran.answer }
@@ -97,7 +75,7 @@ fn outcome_of(ran: Ran) -> Outcome
 }
 
 /// Does all that the program does: reads a script from the source, and writes the answers of its lines, each in one
-/// piece, to the sink. The words are the program's arguments without its name. Beside the script stand as many workers as the
+/// piece, to the sink. It reads at most 65,536 bytes at once, and only where each whole line of what it has is answered. The words are the program's arguments without its name. Beside the script stand as many workers as the
 /// words ask for, which do its jobs and build its instances; they pass the gate with each job.
 ///
 /// | status | comes |
@@ -131,6 +109,16 @@ pub fn run<S: Source, K: Sink, G: Gate + Sync, R: Threads + Wait + Sync>(
     // However a run ends, what it has written is a front of the text.
     ensures front { IfSome (S.left src.old) (λ script. Gains (K.held out.old) (K.held out.new) (IsFrontText (workers_in (map string_bytes words.now)) (start 0) 0 (script_of script) result.registry result.board)) }
 
+    // Where the source fails, the lines whose line feed stood in what it gave are answered whole, and nothing else is written.
+    // Where it gives too much, so are those of a front that is at most a read shorter than the limit. Where the sink fails, it has
+    // gained the text of those that stood before the last 65,536 bytes, or more.
+    ensures answered { result.status ≡ 3 → Gives (S.left src.old) (S.left src.new) (λ given. Gains (K.held out.old) (K.held out.new)
+        (AreAnswered (workers_in (map string_bytes words.now)) (whole_script given) result.registry result.board)) }
+    ensures answered_up_to { result.status ≡ 6 → Gives (S.left src.old) (S.left src.new) (λ given. (m : ℕ) × (2 ^ 28 - 65535 ≤ m) × (m ≤ 2 ^ 28) × Gains (K.held out.old) (K.held out.new)
+        (AreAnswered (workers_in (map string_bytes words.now)) (whole_script (take m given)) result.registry result.board)) }
+    ensures answered_front { IsSome (workers_asked (map string_bytes words.now)) → result.status ≡ 4 → Gives (S.left src.old) (S.left src.new) (λ given. Gains (K.held out.old) (K.held out.new)
+        (BeginsWithText (workers_in (map string_bytes words.now)) (whole_script (take (length given - 65536) given)) result.registry result.board)) }
+
     // Whatever ended the run, each entry of a history is right for those before it, each instance is what its template makes of
     // its children, and only the script and the workers made entries.
     ensures legal { LegalReg result.registry }
@@ -158,9 +146,5 @@ pub fn run<S: Source, K: Sink, G: Gate + Sync, R: Threads + Wait + Sync>(
         Ok(workers) => workers,
         Err(error) => return outcome_of(Ran::not_at_all(alloc, error)),
     };
-    let script = match read_script(alloc, src) {
-        Ok(script) => script,
-        Err(error) => return outcome_of(Ran::not_at_all(alloc, error)),
-    };
-    outcome_of(run_script(rt, alloc, workers, gate, script.as_slice(), out))
+    outcome_of(run_script(rt, alloc, workers, gate, src, out))
 }

@@ -205,6 +205,21 @@ fn transforms_answer_by_the_standards(rt: HostRuntime) -> Result<(), Fail> {
     Ok(())
 }
 
+#[test]
+fn pieces_change_no_text(rt: HostRuntime) -> Result<(), Fail> {
+    let alloc = rt.alloc();
+    for step in [1usize, 2, 7, 65_536] {
+        for (script, text) in WORKED {
+            let mut src = MemSource::new(bytes_of(alloc, script)?, step, Vec::new(alloc));
+            let mut out = SureSink::new(alloc);
+            let status = status(&rt, alloc, 2, &mut src, &mut out)?;
+            assert_eq!(rt; status, 0, "steps of {step}: {script}");
+            assert_eq!(rt; out.bytes(), text.as_bytes(), "steps of {step}: {script}");
+        }
+    }
+    Ok(())
+}
+
 // A text whose lines come one line later, and in which another driver computes.
 fn moved(alloc: Global, text: &str, driver: &str, form: &str) -> Result<String, AllocError> {
     let mut moved = String::new(alloc);
@@ -409,7 +424,17 @@ fn two_are_inside_jobs_at_once(rt: HostRuntime) -> Result<(), Fail> {
     Ok(())
 }
 
-// The script's run where one read fails.
+// The first lines of a text.
+fn first_lines(alloc: Global, text: &str, count: usize) -> Result<String, AllocError> {
+    let mut first = String::new(alloc);
+    for line in text.lines().take(count) {
+        first.push_str(line)?;
+        first.push('\n')?;
+    }
+    Ok(first)
+}
+
+// The script's run where one read fails: the lines whose line feed came before it are answered.
 fn fail_read<R: Abort + Threads + Wait + Sync>(
     rt: &R,
     alloc: Global,
@@ -419,20 +444,25 @@ fn fail_read<R: Abort + Threads + Wait + Sync>(
     requires { 0 < step }
 {
     let mut src = MemSource::new(
-        bytes_of(alloc, MIXED_SCRIPT)?,
+        bytes_of(alloc, SCRIPT)?,
         step,
         vec![in alloc; u64::from(number)]?,
     );
     let mut out = SureSink::new(alloc);
-    let reads = MIXED_SCRIPT.len().div_ceil(step) as u64;
-    let (want, text) = if u64::from(number) > reads {
-        (1, MIXED_TEXT)
+    let given = step.saturating_mul(number as usize);
+    let feeds = SCRIPT.bytes().take(given).filter(|b| *b == b'\n').count();
+    let (want, text) = if given.saturating_sub(step) >= SCRIPT.len() {
+        (1, first_lines(alloc, TEXT, 3)?)
     } else {
-        (3, "")
+        (3, first_lines(alloc, TEXT, feeds)?)
     };
     let status = status(rt, alloc, number % 4, &mut src, &mut out)?;
-    assert_eq!(rt; status, want, "read {number} of {reads}");
-    assert_eq!(rt; out.bytes(), text.as_bytes(), "read {number} of {reads}");
+    assert_eq!(rt; status, want, "read {number} in steps of {step}");
+    assert_eq!(rt;
+        out.bytes(),
+        text.as_bytes(),
+        "read {number} in steps of {step}"
+    );
     Ok(())
 }
 
@@ -459,9 +489,23 @@ fn fail_write<R: Abort + Threads + Wait + Sync>(
 }
 
 #[test]
+fn a_line_is_answered_before_more_is_read(rt: HostRuntime) -> Result<(), Fail> {
+    let alloc = rt.alloc();
+    let script = format!(in alloc; "{LINE}{LINE}")?;
+    let fails = vec![in alloc; LINE.len() as u64]?;
+    let mut src = MemSource::new(bytes_of(alloc, script.as_str())?, 1, fails);
+    let mut out = SureSink::new(alloc);
+    let status = status(&rt, alloc, 1, &mut src, &mut out)?;
+    assert_eq!(rt; status, 3);
+    assert_eq!(rt; out.bytes(), ANSWER.as_bytes());
+    Ok(())
+}
+
+#[test]
 fn each_read_and_each_write_fails_in_turn(rt: HostRuntime) -> Result<(), Fail> {
     for number in 0..110u32 {
-        fail_read(&rt, rt.alloc(), 16, number)?;
+        fail_read(&rt, rt.alloc(), 1, number)?;
+        fail_read(&rt, rt.alloc(), 7, number)?;
         fail_write(&rt, rt.alloc(), 16, number)?;
         fail_write(&rt, rt.alloc(), 1000, number)?;
     }

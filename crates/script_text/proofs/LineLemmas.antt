@@ -1,13 +1,11 @@
 -- The first line of a script, and what follows it.
-use Rattle.std.proofs.Common.{◌≡◌, ℕ, suc, ◌+◌, ◌<◌, ◌≤◌, Bool, true, false, not, cond, eqb, ltb, List, [], ◌∷◌, length, take, drop, get_or, Some, None, unwrap_or, inl, inr, refl, sym, ap, ap₂, ◌∙◌, arith, ◌++◌, map, subst}
+use Rattle.std.proofs.Common.{◌≡◌, ℕ, ◌+◌, ◌<◌, ◌≤◌, Bool, true, false, not, cond, ltb, List, [], ◌∷◌, length, get_or, Some, None, unwrap_or, inl, inr, refl, sym, ap, ◌∙◌, arith, map, subst}
 use Rattle.std.proofs.lemmas.Bool.Decides.{nat_tests}
 use Rattle.std.proofs.lemmas.Bool.{cases_Bool, cases_lt, false≢true}
-use Rattle.std.proofs.lemmas.List.{drop-drop}
-use Rattle.std.proofs.Math.Seq.{drop-append_seam}
 use Rattle.std.proofs.lemmas.List.Sums.{prefix_len-le-length, prefix_len_passes, prefix_len_stops}
 use Rattle.std.proofs.lemmas.List.Elements.{All-from_get_or, All-contains, Contains-get_or}
 use Rattle.std.specs.List.{onto_first, position_or_len, All, Contains}
-use Rattle.script_text.specs.Lines.{is_feed, lines_of, IsFirstLine}
+use Rattle.script_text.specs.Lines.{is_feed, lines_of}
 use Rattle.script_text.specs.Script.{line_of, script_of}
 use Rattle.script_text.specs.declared.commands.Line.{Line}
 
@@ -29,23 +27,6 @@ place_at_feed b bs hit = ap (λ c. cond (not c) (1 + position_or_len is_feed bs)
 place_at_other : (b : ℕ) (bs : List ℕ) → is_feed b ≡ false → position_or_len is_feed (b ∷ bs) ≡ 1 + position_or_len is_feed bs
 place_at_other b bs miss = ap (λ c. cond (not c) (1 + position_or_len is_feed bs) 0) miss
 
--- a line that ends with a line feed stays the first, whatever comes later
-pub whole_line_stays : (bytes more : List ℕ) → position_or_len is_feed bytes < length bytes
-    → lines_of (bytes ++ more) ≡ take (position_or_len is_feed bytes + 1) bytes ∷ lines_of (drop (position_or_len is_feed bytes + 1) bytes ++ more)
-whole_line_stays [] more lt = absurd (omega (arith, lt))
-whole_line_stays (b ∷ bs) more lt =
-    elim (cases_Bool (is_feed b)) [
-      | inl hit ↦ lines_at_feed b (bs ++ more) hit ∙ ap (λ n. take (n + 1) (b ∷ bs) ∷ lines_of (drop (n + 1) (b ∷ bs) ++ more)) (sym (place_at_feed b bs hit))
-      | inr miss ↦ (
-          let p : ℕ = position_or_len is_feed bs in
-          let at : position_or_len is_feed (b ∷ bs) ≡ 1 + p = place_at_other b bs miss in
-          let below : p < length bs = omega (arith, at, lt) in
-          let e : position_or_len is_feed (b ∷ bs) + 1 ≡ suc (p + 1) = omega (arith, at) in
-          lines_at_other b (bs ++ more) miss
-          ∙ (ap (onto_first b) (whole_line_stays bs more below)
-          ∙ ap (λ n. take n (b ∷ bs) ∷ lines_of (drop n (b ∷ bs) ++ more)) (sym e)))
-    ]
-
 -- without a line feed there is one line
 pub lone_line : (bytes : List ℕ) → 0 < length bytes → length bytes ≤ position_or_len is_feed bytes → lines_of bytes ≡ bytes ∷ []
 lone_line [] some le = absurd (omega (arith, some))
@@ -62,7 +43,7 @@ lone_line (b ∷ c ∷ cs) some le =
           lines_at_other b (c ∷ cs) miss ∙ ap (onto_first b) (lone_line (c ∷ cs) (omega arith) (omega (arith, at, le))))
     ]
 
-not_is : (b : Bool) → not b ≡ true → b ≡ false
+pub not_is : (b : Bool) → not b ≡ true → b ≡ false
 not_is true e = sym e
 not_is false e = refl
 
@@ -70,7 +51,7 @@ none_passes : (bytes : List ℕ) → length bytes ≤ position_or_len is_feed by
 none_passes bytes le =
     All-from_get_or (λ b. is_feed b ≡ false) bytes 0 (λ k below. not_is _ (prefix_len_passes (λ b. not (is_feed b)) bytes k 0 (omega arith)))
 
-is_ten : (x : ℕ) → not (is_feed x) ≡ false → x ≡ 10
+pub is_ten : (x : ℕ) → not (is_feed x) ≡ false → x ≡ 10
 is_ten x e = grind (arith, nat_tests)
 
 -- a line feed that was found
@@ -92,13 +73,3 @@ line_without_feed bytes some none =
 
 pub lone_script : (bytes : List ℕ) (said : Line) → 0 < length bytes → (Contains bytes 10 → ⊥) → said ≡ line_of bytes → script_of bytes ≡ said ∷ []
 lone_script bytes said some none said_is = ap (map line_of) (line_without_feed bytes some none) ∙ ap (λ x. x ∷ []) (sym said_is)
-
-pub not_empty : (n : ℕ) (b : Bool) → b ≡ eqb n 0 → b ≡ false → 0 < n
-not_empty n b is e = grind (arith, nat_tests)
-
--- the first line is cut off what is pending
-pub line_cut : (bytes all line rest : List ℕ) (at : ℕ) (said : Line) → drop at all ≡ bytes → bytes ≡ line ++ rest → IsFirstLine bytes line rest → said ≡ line_of line
-    → (more : List ℕ) → script_of (bytes ++ more) ≡ said ∷ script_of (drop (at + length line) all ++ more)
-line_cut bytes all line rest at said is parts first said_is more =
-    let left : drop (at + length line) all ≡ rest = sym (drop-drop (length line) at all) ∙ (ap (drop (length line)) (is ∙ parts) ∙ drop-append_seam line rest) in
-    ap (map line_of) (first more) ∙ ap₂ (λ x xs. x ∷ script_of (xs ++ more)) (sym said_is) (sym left)

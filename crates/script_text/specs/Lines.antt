@@ -1,5 +1,5 @@
 -- The lines of a script.
-use Rattle.std.specs.Prelude.{◌≡◌, ◌++◌, ℕ, ◌-◌, Bool, ◌&&◌, ◌==◌, nat_lt, if◌then◌else◌, List, [], ◌∷◌, length, take, slice_index}
+use Rattle.std.specs.Prelude.{ℕ, ◌-◌, Bool, ◌&&◌, ◌==◌, nat_lt, if◌then◌else◌, List, [], ◌∷◌, length, take, slice_index}
 use Rattle.std.specs.List.{onto_first}
 
 abbrev pub is_feed : ℕ → Bool
@@ -9,10 +9,6 @@ is_feed b = b == 10
 abbrev pub lines_of : List ℕ → List (List ℕ)
 lines_of [] = []
 lines_of (b ∷ bs) = if is_feed b then (b ∷ []) ∷ lines_of bs else onto_first b (lines_of bs)
-
--- Whatever comes after these bytes, this is their first line, and the rest follows it.
-abbrev pub IsFirstLine : List ℕ → List ℕ → List ℕ → Type 0
-IsFirstLine bytes line rest = (more : List ℕ) → lines_of (bytes ++ more) ≡ line ∷ lines_of (rest ++ more)
 
 abbrev pub ends_with : ℕ → List ℕ → Bool
 ends_with byte line = nat_lt 0 (length line) && (slice_index line (length line - 1) == byte)

@@ -1,5 +1,5 @@
 -- What a script says, line by line.
-use Rattle.std.specs.Prelude.{◌≡◌, ◌++◌, ℕ, ◌-◌, nat_lt, if◌then◌else◌, List, [], ◌∷◌, length, map, Option, Some, None}
+use Rattle.std.specs.Prelude.{ℕ, ◌-◌, nat_lt, if◌then◌else◌, List, [], ◌∷◌, length, map, Option, Some, None}
 use Rattle.std.specs.List.{list_all}
 use Rattle.script_text.specs.Lines.{lines_of, ends_with, without_last, without_return}
 use Rattle.script_text.specs.Tokens.{tokens_of, is_visible, is_comment}
@@ -31,7 +31,3 @@ line_of line =
 
 abbrev pub script_of : List ℕ → List Line
 script_of bytes = map line_of (lines_of bytes)
-
--- Whatever comes after these bytes, their first line says this, and the rest follows it.
-abbrev pub BeginsWithLine : List ℕ → Line → List ℕ → Type 0
-BeginsWithLine bytes line rest = (more : List ℕ) → script_of (bytes ++ more) ≡ line ∷ script_of (rest ++ more)

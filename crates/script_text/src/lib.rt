@@ -4,6 +4,7 @@
 mod arguments;
 mod commands;
 mod cutter;
+mod line_reader;
 mod reading;
 mod rows;
 mod split;
@@ -14,6 +15,7 @@ mod tokens;
 
 pub use commands::{Command, Line};
 pub use cutter::LineCutter;
+pub use line_reader::{LineReader, MAX_PIECE};
 pub use reading::{MAX_LINE, read_line};
-pub use split::first_line;
+pub use split::whole_lines_stay;
 pub use texts::Texts;

@@ -1,7 +1,7 @@
 ghost use Rattle.std.specs.Prelude.{◌<◌};
 
-use crate::{Command, Line, LineCutter, MAX_LINE, Texts, first_line, read_line};
-use kc_base::Bytes;
+use crate::{Command, Line, LineCutter, LineReader, MAX_LINE, Texts, read_line};
+use kc_base::{Bytes, MemSource};
 use std::alloc::{AllocError, Global};
 use std::test::Fail;
 
@@ -95,18 +95,6 @@ fn a_line_has_a_limit(rt: HostRuntime) -> Result<(), Fail> {
     Ok(())
 }
 
-#[test]
-fn the_first_line_has_its_line_feed(rt: HostRuntime) {
-    let (line, rest) = first_line(b"a\r\n\nb");
-    assert_eq!(rt; line, b"a\r\n".as_slice());
-    assert_eq!(rt; rest, b"\nb".as_slice());
-    let (line, rest) = first_line(rest);
-    assert_eq!(rt; line, b"\n".as_slice());
-    let (line, rest) = first_line(rest);
-    assert_eq!(rt; line, b"b".as_slice());
-    assert!(rt; rest.is_empty());
-}
-
 // What the next line says, and what the last one does.
 fn next_said(cutter: &mut LineCutter) -> Result<Option<Said>, AllocError> {
     match cutter.next()? {
@@ -156,6 +144,34 @@ fn pieces_make_lines_wherever_they_are_cut(rt: HostRuntime) -> Result<(), Fail> 
     for size in 1..12usize {
         let found = said_in_pieces(rt.alloc(), script, size)?;
         assert_eq!(rt; found.as_slice(), want.as_slice(), "pieces of {size} bytes");
+    }
+    Ok(())
+}
+
+// What a script says that is read from a source, so many bytes at once.
+fn said_by_reader(alloc: Global, script: &[u8], step: usize) -> Result<Vec<Said>, AllocError>
+    requires { 0 < step }
+{
+    let bytes = Bytes::copy_of(alloc, script)?;
+    let mut source = MemSource::new(bytes, step, Vec::new(alloc));
+    let mut reader = LineReader::new(alloc, script.len())?;
+    let mut found = Vec::new(alloc);
+    // a script has no more lines than bytes
+    for _ in script {
+        if let Ok(Some(line)) = reader.next(&mut source) {
+            found.push(seen(&line))?;
+        }
+    }
+    Ok(found)
+}
+
+#[test]
+fn a_reader_gives_the_same_lines(rt: HostRuntime) -> Result<(), Fail> {
+    let script = b"# note\r\naes 00 0001\nfrob\n\naes 00 -";
+    for step in [1usize, 2, 7, 65_536] {
+        let found = said_by_reader(rt.alloc(), script, step)?;
+        let want = said_in_pieces(rt.alloc(), script, step)?;
+        assert_eq!(rt; found.as_slice(), want.as_slice(), "steps of {step} bytes");
     }
     Ok(())
 }

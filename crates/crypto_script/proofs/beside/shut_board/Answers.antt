@@ -1,6 +1,6 @@
 use Rattle.std.proofs.Common.{sym, ◌∙◌}
 use Rattle.turn_lock.specs.Passes.{knows}
-use Rattle.crypto_script.proofs.Finishing.{shut-own, shut-closed, shut-stays}
+use Rattle.crypto_script.proofs.Finishing.{shut-own, shut-closed, shut-stays, leaves-alone, shuts-alone}
 use Rattle.crypto_script.proofs.beside.shut_board.Goals as goal
 
 pub returns-clause-own : goal.returns-clause-own
@@ -12,3 +12,9 @@ returns-clause-closed g c = shut-closed (knows c.is_shut-pass.result.0) (knows c
 pub returns-clause-shut : goal.returns-clause-shut
 returns-clause-shut g c shut =
     absurd (shut-stays (knows c.args.pass) (knows c.is_shut-pass.result.0) c.is_shut-pass.ensures.turn shut (sym c.is_shut-pass.ensures.shut ∙ c.if-shut.false))
+
+pub returns-then-shut-clause-alone : goal.returns-then-shut-clause-alone
+returns-then-shut-clause-alone g c = leaves-alone (knows c.args.pass) (knows c.is_shut-pass.result.0) c.is_shut-pass.ensures.turn
+
+pub returns-clause-alone : goal.returns-clause-alone
+returns-clause-alone g c = shuts-alone (knows c.args.pass) (knows c.is_shut-pass.result.0) (knows c.shut.result) c.is_shut-pass.ensures.turn c.shut.ensures.turn

@@ -1,85 +1,77 @@
-use Rattle.std.proofs.lemmas.Bool.Decides.{nat_tests}
-use Rattle.std.specs.Prelude.{◌==◌}
-use Rattle.std.proofs.Common.{true, ℕ, List, ◌≡◌, ◌||◌, refl, ap, sym, ◌∙◌, arith, length}
-use Rattle.std.specs.List.{list_any}
-use Rattle.script_text.specs.Script.{line_of, script_of}
-use Rattle.crypto_script.specs.Text.{is_malformed}
-use Rattle.crypto_script.proofs.Going.{going-begins, going-more, going-breaks, going-end_breaks, going-ends, going-ends_front, going-ends_in_turn, going-ends_own, line_broken-goes, end_broken-goes, malformed_next, script_next, script_none, or_later}
+use Rattle.std.proofs.Common.{Ok, ap, subst, arith}
+use Rattle.std.proofs.lemmas.Result.{err_from_is_err_and}
+use Rattle.script_text.specs.NextLine.{FindsNext}
+use Rattle.crypto_script.proofs.Exits.{running-begins, running-more, runs-nothing, runs-unread, runs-broken, runs-end_broken, runs-whole}
 use Rattle.crypto_script.proofs.lines.run_lines.Goals as goal
 
-emptied : (rest : List ℕ) → (length rest == 0) ≡ true → length rest ≡ 0
-emptied rest e = grind (arith, nat_tests)
+pub returns-in_err-reader-clause-run : goal.returns-in_err-reader-clause-run
+returns-in_err-reader-clause-run g c =
+    let held = g.K.Sink.held in
+    let left = g.S.Source.left in
+    let p = err_from_is_err_and c.from_residual.result c.from_residual.ensures.1 in
+    rw (p.1, p.2) (runs-nothing c.laws.ensures c.whole_lines_stay.ensures.stay c.whole_lines_stay.ensures.none c.args.session.now c.args.registry.now c.args.board.now (left c.args.src.now) (held c.args.out.now) c.requires.ready c.requires.fresh)
 
-pub loop-rest-init : goal.loop-rest-init
-loop-rest-init g c =
-    let held = g.K.Sink.held c.args.out.now in
+pub loop-reader-init : goal.loop-reader-init
+loop-reader-init g c =
+    let held = g.K.Sink.held in
+    let left = g.S.Source.left in
     record {
-      going = going-begins c.laws.ensures c.args.session.now (script_of c.args.input.now) c.args.registry.now c.args.board.now held c.requires.ready c.requires.fresh;
-      malformed = refl;
-      counted = omega arith;
-      later = omega arith;
+      at = running-begins c.laws.ensures c.whole_lines_stay.ensures.stay c.whole_lines_stay.ensures.none c.args.session.now c.args.registry.now c.args.board.now c.in_ok-reader.reader (left c.args.src.now) (held c.args.out.now) c.in_ok-reader.ensures c.requires.ready c.requires.fresh;
+      read_later = omega arith;
+      written_later = omega arith;
     }
 
-pub returns-in_err-bad-clause-front : goal.returns-in_err-bad-clause-front
-returns-in_err-bad-clause-front g c =
-    let line = c.first_line.result.0.now in
-    let more = c.first_line.result.1.now in
-    going-breaks c.laws.ensures c.args.session.now (script_of c.args.input.now) c.args.registry.now c.args.board.now _ _ _ _ _ _ _ c.loop-rest.invariant.going (line_of line) (script_of more)
-    (script_next c.loop-rest.rest.now line more c.first_line.ensures.line) c.in_err-bad.ensures.done
+pub returns-in_err-line-clause-run : goal.returns-in_err-line-clause-run
+returns-in_err-line-clause-run g c =
+    let held = g.K.Sink.held in
+    let left = g.S.Source.left in
+    let at = c.loop-reader.invariant.at in
+    let p = err_from_is_err_and c.from_residual-in_err-line.result c.from_residual-in_err-line.ensures.1 in
+    rw (p.1, p.2)
+    (runs-unread c.laws.ensures c.whole_lines_stay.ensures.stay c.whole_lines_stay.ensures.none c.args.session.now c.args.registry.now c.args.board.now
+    c.loop-reader.number c.loop-reader.reader c.next.new.self (left c.args.src.now) (left c.loop-reader.src) (left c.next.new.src) (held c.args.out.now) (held c.loop-reader.out) c.loop-reader.malformed c.loop-reader.session at c.in_err-line.field-0.0 (c.in_err-line.ensures.line at.pending at.reading.stands))
 
-pub returns-in_err-bad-clause-goes_on : goal.returns-in_err-bad-clause-goes_on
-returns-in_err-bad-clause-goes_on g c =
-    line_broken-goes c.laws.ensures c.args.session.now (script_of c.args.input.now) c.args.registry.now c.args.board.now _ _ _ _ _ _ _ c.loop-rest.invariant.going (line_of c.first_line.result.0.now) c.in_err-bad.ensures.done
+pub returns-in_err-bad-clause-run : goal.returns-in_err-bad-clause-run
+returns-in_err-bad-clause-run g c =
+    let held = g.K.Sink.held in
+    let left = g.S.Source.left in
+    let at = c.loop-reader.invariant.at in
+    let found = subst (FindsNext at.pending c.loop-reader.reader c.next.new.self (left c.loop-reader.src) (left c.next.new.src)) (ap (λ o. Ok o) c.in-Some.is) (c.in_ok-line.ensures.line at.pending at.reading.stands) in
+    let p = err_from_is_err_and c.from_residual-in_err-bad.result c.from_residual-in_err-bad.ensures.1 in
+    rw (p.1, p.2)
+    (runs-broken c.laws.ensures c.whole_lines_stay.ensures.stay c.whole_lines_stay.ensures.none c.args.session.now c.args.registry.now c.args.board.now
+    c.loop-reader.number c.loop-reader.reader c.next.new.self (left c.args.src.now) (left c.loop-reader.src) (left c.next.new.src) (held c.args.out.now) (held c.loop-reader.out) c.loop-reader.malformed c.loop-reader.session at c.in-Some.line found (held c.run_line.new.out) c.run_line.new.session c.in_err-bad.field-0.0 c.in_err-bad.ensures.done)
 
-pub loop-rest-preserved : goal.loop-rest-preserved
-loop-rest-preserved g c =
-    let rest = c.loop-rest.rest.now in
-    let line = c.first_line.result.0.now in
-    let more = c.first_line.result.1.now in
-    let m = c.loop-rest.malformed in
-    let later = list_any is_malformed (script_of more) in
+pub loop-reader-preserved : goal.loop-reader-preserved
+loop-reader-preserved g c =
+    let held = g.K.Sink.held in
+    let left = g.S.Source.left in
+    let at = c.loop-reader.invariant.at in
+    let found = subst (FindsNext at.pending c.loop-reader.reader c.next.new.self (left c.loop-reader.src) (left c.next.new.src)) (ap (λ o. Ok o) c.in-Some.is) (c.in_ok-line.ensures.line at.pending at.reading.stands) in
     record {
-      going =
-          going-more c.laws.ensures c.args.session.now (script_of c.args.input.now) c.args.registry.now c.args.board.now _ _ _ _ _ _ _ c.loop-rest.invariant.going (line_of line) (script_of more)
-          (script_next rest line more c.first_line.ensures.line) c.in_ok-bad.ensures.done c.in_ok-bad.ensures.ready;
-      malformed =
-          or_later m c.in_ok-bad.bad later
-          ∙ (ap (λ b. m || (b || later)) c.in_ok-bad.ensures.malformed
-          ∙ (ap (λ b. m || b) (sym (malformed_next rest line more c.first_line.ensures.line)) ∙ c.loop-rest.invariant.malformed));
-      counted = omega arith;
-      later = omega arith;
+      at =
+          running-more c.laws.ensures c.whole_lines_stay.ensures.stay c.whole_lines_stay.ensures.none c.args.session.now c.args.registry.now c.args.board.now
+          c.loop-reader.number c.loop-reader.reader c.next.new.self (left c.args.src.now) (left c.loop-reader.src) (left c.next.new.src) (held c.args.out.now) (held c.loop-reader.out) c.loop-reader.malformed c.loop-reader.session at c.in-Some.line found (held c.run_line.new.out) c.run_line.new.session c.in_ok-bad.bad c.in_ok-bad.ensures.malformed c.in_ok-bad.ensures.done c.in_ok-bad.ensures.ready;
+      read_later = omega arith;
+      written_later = omega arith;
     }
 
-pub returns-in_err-run_end-clause-front : goal.returns-in_err-run_end-clause-front
-returns-in_err-run_end-clause-front g c =
-    let rest = c.loop-rest.rest.now in
-    going-end_breaks c.laws.ensures c.args.session.now (script_of c.args.input.now) c.args.registry.now c.args.board.now _ _ _ _ _ _ _ c.loop-rest.invariant.going
-    (script_none rest (emptied rest (sym c.is_empty.ensures ∙ c.loop-rest-test.false))) c.in_err-run_end.ensures.done
+pub returns-in_err-run_end-clause-run : goal.returns-in_err-run_end-clause-run
+returns-in_err-run_end-clause-run g c =
+    let held = g.K.Sink.held in
+    let left = g.S.Source.left in
+    let at = c.loop-reader.invariant.at in
+    let found = subst (FindsNext at.pending c.loop-reader.reader c.next.new.self (left c.loop-reader.src) (left c.next.new.src)) (ap (λ o. Ok o) c.in_default.is) (c.in_ok-line.ensures.line at.pending at.reading.stands) in
+    let p = err_from_is_err_and c.from_residual-in_err-run_end.result c.from_residual-in_err-run_end.ensures.1 in
+    rw (p.1, p.2)
+    (runs-end_broken c.laws.ensures c.whole_lines_stay.ensures.stay c.whole_lines_stay.ensures.none c.args.session.now c.args.registry.now c.args.board.now
+    c.loop-reader.number c.loop-reader.reader c.next.new.self (left c.args.src.now) (left c.loop-reader.src) (left c.next.new.src) (held c.args.out.now) (held c.loop-reader.out) c.loop-reader.malformed c.loop-reader.session at found (held c.run_end.new.out) c.run_end.new.session c.in_err-run_end.field-0.0 c.in_err-run_end.ensures.done)
 
-pub returns-in_err-run_end-clause-goes_on : goal.returns-in_err-run_end-clause-goes_on
-returns-in_err-run_end-clause-goes_on g c =
-    end_broken-goes c.laws.ensures c.args.session.now (script_of c.args.input.now) c.args.registry.now c.args.board.now _ _ _ _ _ _ _ c.loop-rest.invariant.going c.in_err-run_end.ensures.done
-
-pub returns-clause-whole : goal.returns-clause-whole
-returns-clause-whole g c =
-    let rest = c.loop-rest.rest.now in
-    going-ends c.laws.ensures c.args.session.now (script_of c.args.input.now) c.args.registry.now c.args.board.now _ _ _ _ _ _ _ c.loop-rest.invariant.going
-    (script_none rest (emptied rest (sym c.is_empty.ensures ∙ c.loop-rest-test.false))) c.in_ok-run_end.ensures.done
-
-pub returns-clause-front : goal.returns-clause-front
-returns-clause-front g c =
-    let rest = c.loop-rest.rest.now in
-    going-ends_front c.laws.ensures c.args.session.now (script_of c.args.input.now) c.args.registry.now c.args.board.now _ _ _ _ _ _ _ c.loop-rest.invariant.going
-    (script_none rest (emptied rest (sym c.is_empty.ensures ∙ c.loop-rest-test.false))) c.in_ok-run_end.ensures.done
-
-pub returns-clause-in_turn : goal.returns-clause-in_turn
-returns-clause-in_turn g c =
-    let rest = c.loop-rest.rest.now in
-    going-ends_in_turn c.laws.ensures c.args.session.now (script_of c.args.input.now) c.args.registry.now c.args.board.now _ _ _ _ _ _ _ c.loop-rest.invariant.going
-    (script_none rest (emptied rest (sym c.is_empty.ensures ∙ c.loop-rest-test.false))) c.in_ok-run_end.ensures.done
-
-pub returns-clause-own : goal.returns-clause-own
-returns-clause-own g c =
-    let rest = c.loop-rest.rest.now in
-    going-ends_own c.laws.ensures c.args.session.now (script_of c.args.input.now) c.args.registry.now c.args.board.now _ _ _ _ _ _ _ c.loop-rest.invariant.going
-    (script_none rest (emptied rest (sym c.is_empty.ensures ∙ c.loop-rest-test.false))) c.in_ok-run_end.ensures.done
+pub returns-clause-run : goal.returns-clause-run
+returns-clause-run g c =
+    let held = g.K.Sink.held in
+    let left = g.S.Source.left in
+    let at = c.loop-reader.invariant.at in
+    let found = subst (FindsNext at.pending c.loop-reader.reader c.next.new.self (left c.loop-reader.src) (left c.next.new.src)) (ap (λ o. Ok o) c.in_default.is) (c.in_ok-line.ensures.line at.pending at.reading.stands) in
+    runs-whole c.laws.ensures c.whole_lines_stay.ensures.stay c.whole_lines_stay.ensures.none c.args.session.now c.args.registry.now c.args.board.now
+    c.loop-reader.number c.loop-reader.reader c.next.new.self (left c.args.src.now) (left c.loop-reader.src) (left c.next.new.src) (held c.args.out.now) (held c.loop-reader.out) c.loop-reader.malformed c.loop-reader.session at found (held c.run_end.new.out) c.run_end.new.session c.in_ok-run_end.ensures.done c.in_ok-run_end.ensures.shut

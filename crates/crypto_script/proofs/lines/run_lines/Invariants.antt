@@ -1,19 +1,16 @@
-use Rattle.std.proofs.Common.{◌≡◌, ◌≤◌, ◌+◌, ◌||◌, length}
-use Rattle.std.specs.List.{list_any}
-use Rattle.script_text.specs.Script.{script_of}
-use Rattle.crypto_script.specs.Text.{is_malformed}
-use Rattle.crypto_script.proofs.Going.{Going}
+use Rattle.std.proofs.Common.{◌≤◌, ◌-◌, ◌^◌}
+use Rattle.crypto_script.proofs.Exits.{Running}
 use Rattle.crypto_script.proofs.lines.run_lines.Given as goal
 
-abbrev pub invariant-loop-rest : goal.invariant-loop-rest
-invariant-loop-rest g l =
+abbrev pub invariant-loop-reader : goal.invariant-loop-reader
+invariant-loop-reader g l =
     let held = g.K.Sink.held in
+    let left = g.S.Source.left in
     record {
-      going : Going l.registry l.board l.fn.session (script_of l.fn.input) l.number (script_of l.rest) (held l.fn.out) (held l.out) l.session;
-      malformed : (l.malformed || list_any is_malformed (script_of l.rest)) ≡ list_any is_malformed (script_of l.fn.input);
-      counted : l.number + length l.rest ≤ length l.fn.input + 1;
-      later : g.K.Sink.faults l.fn.out ≤ g.K.Sink.faults l.out;
+      at : Running l.registry l.board l.fn.session l.number l.reader (left l.fn.src) (left l.src) (held l.fn.out) (held l.out) l.malformed l.session;
+      read_later : g.S.Source.faults l.fn.src ≤ g.S.Source.faults l.src;
+      written_later : g.K.Sink.faults l.fn.out ≤ g.K.Sink.faults l.out;
     }
 
-abbrev pub decreases-loop-rest : goal.decreases-loop-rest
-decreases-loop-rest g l = length l.rest
+abbrev pub decreases-loop-reader : goal.decreases-loop-reader
+decreases-loop-reader g l = 2 ^ 32 - l.number

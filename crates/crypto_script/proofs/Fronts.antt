@@ -1,0 +1,107 @@
+-- The first lines of more lines: their dialogue, and its turn.
+use Rattle.std.proofs.Common.{◌≡◌, ℕ, ◌+◌, ◌≤◌, List, [], ◌∷◌, ◌++◌, length, Option, Some, None, refl, sym, ap, subst, ◌∙◌, append_assoc, arith}
+use Rattle.std.specs.Prelude.{IsSome}
+use Rattle.std.specs.List.{flat_map}
+use Rattle.std.proofs.lemmas.Grind.{flat_map-append}
+use Rattle.dialogues.specs.BoardCalls.{BoardCall}
+use Rattle.dialogues.specs.Dialogues.{Dialogue, Ends, Says, Asks, Posts, followed}
+use Rattle.dialogues.specs.Lines.{line_dialogue, lines_dialogue}
+use Rattle.dialogues.specs.Questions.{RegAnswer, reg_call, reg_answer, BoardAnswer, board_call, board_answer}
+use Rattle.dialogues.specs.RegistryCalls.{RegCall}
+use Rattle.dialogues.specs.Turns.{Turn, broken, asking, posting, turn_of, text_in}
+use Rattle.dialogues.specs.Walk.{Walk}
+use Rattle.dialogues.specs.Widths.{width_of, widest}
+use Rattle.kc_base.specs.Streams.{IsPrefix}
+use Rattle.reply_text.specs.Answers.{text_of}
+use Rattle.script_text.specs.declared.commands.Line.{Line}
+
+-- ---- dialogues
+
+followed-assoc : (d : Dialogue) (f g : Walk → Dialogue) → followed (followed d f) g ≡ followed d (λ a. followed (f a) g)
+followed-assoc (Ends after) f g = refl
+followed-assoc (Says answers next) f g = ap (Says answers) (followed-assoc next f g)
+followed-assoc (Asks question next) f g = λ i. Asks question (λ answer. followed-assoc (next answer) f g i)
+followed-assoc (Posts question next) f g = λ i. Posts question (λ answer. followed-assoc (next answer) f g i)
+
+-- what follows the first lines
+abbrev rest_from : ℕ → ℕ → List Line → (Walk → Dialogue) → Walk → Dialogue
+rest_from workers n later rest = λ walk. lines_dialogue workers walk n later rest
+
+lines-after : (workers n : ℕ) (walk : Walk) (first later : List Line) (rest : Walk → Dialogue)
+    → lines_dialogue workers walk n (first ++ later) rest ≡ followed (lines_dialogue workers walk n first Ends) (rest_from workers (n + length first) later rest)
+lines-after workers n walk [] later rest = ap (λ m. lines_dialogue workers walk m later rest) (let e : n ≡ n + 0 = omega arith in e)
+lines-after workers n walk (line ∷ first) later rest =
+    let at : n + 1 + length first ≡ n + length (line ∷ first) = omega arith in
+    let on : (after : Walk) → lines_dialogue workers after (n + 1) (first ++ later) rest ≡ followed (lines_dialogue workers after (n + 1) first Ends) (rest_from workers (n + length (line ∷ first)) later rest) =
+    λ after. lines-after workers (n + 1) after first later rest ∙ ap (λ m. followed (lines_dialogue workers after (n + 1) first Ends) (rest_from workers m later rest)) at in
+    (λ i. followed (line_dialogue workers walk n line) (λ after. on after i))
+    ∙ sym (followed-assoc (line_dialogue workers walk n line) (λ after. lines_dialogue workers after (n + 1) first Ends) (rest_from workers (n + length (line ∷ first)) later rest))
+
+-- ---- turns
+
+abbrev IsDone : Turn → Type 0
+IsDone t = IsSome t.after
+
+-- the first turn is done where the second is, and prints a front of it
+pub record IsFrontTurn (t u : Turn) : Type 0 where
+  pub ended : IsSome t.after
+  pub front : IsPrefix (text_in t) (text_in u)
+
+front-turn : (d : Dialogue) (later : Walk → Dialogue) (r : List RegCall) (b : List BoardCall) → IsSome (turn_of (followed d later) r b).after
+    → IsFrontTurn (turn_of d r b) (turn_of (followed d later) r b)
+front-turn (Ends after) later r b some = record { ended = refl; front = (text_in (turn_of (later after) r b), refl) }
+front-turn (Says answers next) later r b some =
+    let t = turn_of next r b in
+    let u = turn_of (followed next later) r b in
+    let on = front-turn next later r b some in
+    record {
+      ended = on.ended;
+      front = (
+        on.front.0,
+        ap (λ x. x ++ on.front.0) (flat_map-append text_of answers t.answers)
+            ∙ (append_assoc (flat_map text_of answers) (text_in t) on.front.0
+            ∙ (ap (λ x. flat_map text_of answers ++ x) on.front.1 ∙ sym (flat_map-append text_of answers u.answers))),
+      );
+    }
+front-turn (Asks question next) later [] b some = absurd cc
+front-turn (Asks question next) later (call ∷ r) b some = by_answer (reg_answer question call) some (λ answer done. front-turn (next answer) later r b done)
+  where
+    by_answer : (o : Option (RegAnswer question))
+        → IsDone (elim o [ Some answer ↦ asking (reg_call question answer) (turn_of (followed (next answer) later) r b) | None ↦ broken ])
+        → ((answer : RegAnswer question) → IsSome (turn_of (followed (next answer) later) r b).after → IsFrontTurn (turn_of (next answer) r b) (turn_of (followed (next answer) later) r b))
+        → IsFrontTurn (elim o [ Some answer ↦ asking (reg_call question answer) (turn_of (next answer) r b) | None ↦ broken ])
+        (elim o [ Some answer ↦ asking (reg_call question answer) (turn_of (followed (next answer) later) r b) | None ↦ broken ])
+    by_answer None done go = absurd cc
+    by_answer (Some answer) done go = let on = go answer done in record { ended = on.ended; front = on.front }
+front-turn (Posts question next) later r [] some = absurd cc
+front-turn (Posts question next) later r (call ∷ b) some = by_answer (board_answer question call) some (λ answer done. front-turn (next answer) later r b done)
+  where
+    by_answer : (o : Option (BoardAnswer question))
+        → IsDone (elim o [ Some answer ↦ posting (board_call question answer) (turn_of (followed (next answer) later) r b) | None ↦ broken ])
+        → ((answer : BoardAnswer question) → IsSome (turn_of (followed (next answer) later) r b).after → IsFrontTurn (turn_of (next answer) r b) (turn_of (followed (next answer) later) r b))
+        → IsFrontTurn (elim o [ Some answer ↦ posting (board_call question answer) (turn_of (next answer) r b) | None ↦ broken ])
+        (elim o [ Some answer ↦ posting (board_call question answer) (turn_of (followed (next answer) later) r b) | None ↦ broken ])
+    by_answer None done go = absurd cc
+    by_answer (Some answer) done go = let on = go answer done in record { ended = on.ended; front = on.front }
+
+pub front-lines : (workers n : ℕ) (walk : Walk) (first later : List Line) (r : List RegCall) (b : List BoardCall) → IsSome (turn_of (lines_dialogue workers walk n (first ++ later) Ends) r b).after
+    → IsFrontTurn (turn_of (lines_dialogue workers walk n first Ends) r b) (turn_of (lines_dialogue workers walk n (first ++ later) Ends) r b)
+front-lines workers n walk first later r b some =
+    let is = lines-after workers n walk first later Ends in
+    let d = lines_dialogue workers walk n first Ends in
+    let rest = rest_from workers (n + length first) later Ends in
+    subst (λ x. IsFrontTurn (turn_of d r b) (turn_of x r b)) (sym is) (front-turn d rest r b (subst (λ x. IsSome (turn_of x r b).after) is some))
+
+-- ---- how many looks at once
+
+pub widest-front : (first later : List Line) → widest first ≤ widest (first ++ later)
+widest-front [] later = widest-some later
+  where
+    widest-some : (lines : List Line) → 1 ≤ widest lines
+    widest-some [] = omega arith
+    widest-some (line ∷ lines) = let on = widest-some lines in omega arith
+widest-front (line ∷ first) later = let on = widest-front first later in omega arith
+
+pub widest-last : (first : List Line) (line : Line) → width_of line ≤ widest (first ++ line ∷ [])
+widest-last [] line = omega arith
+widest-last (other ∷ first) line = let on = widest-last first line in omega arith
