@@ -1,5 +1,6 @@
 pub mod Laws
 pub mod Text
 pub mod Runs
+pub mod Loads
 pub mod Endings
 pub mod Statuses

@@ -24,14 +24,12 @@ use Rattle.plain_calls.specs.Laws.{AnswersArePlain, AreAnsweredBy, RepliesArePla
 use Rattle.plain_calls.specs.Pipelines.{Pipeline, reply_in, is_timeless, pipelines_after}
 use Rattle.plain_calls.specs.Registry.{PlainRegistry, first_registry, answer_in, registry_after}
 use Rattle.settled_scripts.specs.Printing.{PrintsPlain}
+use Rattle.settled_scripts.specs.Passing.{passed_then, PassesFollow, PostsFollow, TurnsArePlain}
 use Rattle.settled_scripts.specs.Settled.{Passed, saying, if_timeless, is_settled_line, pass, passed, plain_text}
 use Rattle.settled_scripts.proofs.Plain.{turn_plain}
 use Rattle.settled_scripts.proofs.Workers.{line_same}
 
 -- ---- one dialogue after another
-
-abbrev then_pass : Passed → (Walk → Dialogue) → Passed
-then_pass p later = saying p.answers (if_timeless p.timeless (pass (later p.after) p.registry p.pipelines))
 
 and_assoc : (a b c : Bool) → (a && (b && c)) ≡ ((a && b) && c)
 and_assoc true b c = refl
@@ -40,16 +38,24 @@ and_assoc false b c = refl
 passed_same : (p q : Passed) → p.answers ≡ q.answers → p.after ≡ q.after → p.registry ≡ q.registry → p.pipelines ≡ q.pipelines → p.timeless ≡ q.timeless → p ≡ q
 passed_same p q a w k o s = λ i. record { answers = a i; after = w i; registry = k i; pipelines = o i; timeless = s i }
 
-pass-followed : (d : Dialogue) (later : Walk → Dialogue) (registry : PlainRegistry) (pipelines : List Pipeline) → pass (followed d later) registry pipelines ≡ then_pass (pass d registry pipelines) later
-pass-followed (Ends after) later registry pipelines = refl
-pass-followed (Says answers next) later registry pipelines =
-    ap (saying answers) (pass-followed next later registry pipelines)
+pub passes_follow : PassesFollow
+passes_follow (Ends after) later registry pipelines = refl
+passes_follow (Says answers next) later registry pipelines =
+    ap (saying answers) (passes_follow next later registry pipelines)
     ∙ passed_same _ _ (sym (append_assoc answers (pass next registry pipelines).answers _)) refl refl refl refl
-pass-followed (Asks q next) later registry pipelines = pass-followed (next (answer_in registry q)) later (registry_after registry (reg_call q (answer_in registry q))) pipelines
-pass-followed (Posts q next) later registry pipelines =
+passes_follow (Asks q next) later registry pipelines = passes_follow (next (answer_in registry q)) later (registry_after registry (reg_call q (answer_in registry q))) pipelines
+passes_follow (Posts q next) later registry pipelines =
     let now : List Pipeline = pipelines_after pipelines (board_call q (reply_in pipelines q)) in
-    ap (if_timeless (is_timeless pipelines q)) (pass-followed (next (reply_in pipelines q)) later registry now)
+    ap (if_timeless (is_timeless pipelines q)) (passes_follow (next (reply_in pipelines q)) later registry now)
     ∙ passed_same _ _ refl refl refl refl (and_assoc (is_timeless pipelines q) (pass (next (reply_in pipelines q)) registry now).timeless _)
+
+pub posts_follow : PostsFollow
+posts_follow (Ends after) later registry pipelines = refl
+posts_follow (Says answers next) later registry pipelines = posts_follow next later registry pipelines
+posts_follow (Asks q next) later registry pipelines = posts_follow (next (answer_in registry q)) later (registry_after registry (reg_call q (answer_in registry q))) pipelines
+posts_follow (Posts q next) later registry pipelines =
+    let call = board_call q (reply_in pipelines q) in
+    ap (λ calls. call ∷ calls) (posts_follow (next (reply_in pipelines q)) later registry (pipelines_after pipelines call))
 
 -- ---- lines
 
@@ -59,10 +65,10 @@ lines_same workers walk n [] registry pipelines = refl
 lines_same workers walk n (next ∷ lines) registry pipelines =
     let later : ℕ → Walk → Dialogue = λ beside after. lines_dialogue beside after (n + 1) lines end in
     let p : Passed = pass (line_dialogue 0 walk n next) registry pipelines in
-    pass-followed (line_dialogue workers walk n next) (later workers) registry pipelines
-    ∙ (ap (λ (q : Passed). then_pass q (later workers)) (line_same workers walk n next registry pipelines)
+    passes_follow (line_dialogue workers walk n next) (later workers) registry pipelines
+    ∙ (ap (λ (q : Passed). passed_then q (later workers)) (line_same workers walk n next registry pipelines)
     ∙ (ap (λ (q : Passed). saying p.answers (if_timeless p.timeless q)) (lines_same workers p.after (n + 1) lines p.registry p.pipelines)
-    ∙ sym (pass-followed (line_dialogue 0 walk n next) (later 0) registry pipelines)))
+    ∙ sym (passes_follow (line_dialogue 0 walk n next) (later 0) registry pipelines)))
 
 its_walk : (o : Option Walk) → IsSome o → (after : Walk) × (o ≡ Some after)
 its_walk None s = absurd cc
@@ -101,4 +107,12 @@ prints_plain answers replies narrow workers lines r b text settled legal made ca
     let answered : AreAnsweredBy first_registry turn.registry = answers turn.registry r legal made callers (subst (λ calls. AreInTurn 0 calls [] r) (sym is.registry) strictly) in
     let told : AreToldBy [] turn.board = subst (λ calls. AreToldBy [] calls) (sym is.board) (replies b legal_board board_callers) in
     let said = turn_plain (script workers (start 0) lines) turn after.0 first_registry [] its after.1 answered told (ap (λ (p : Passed). p.timeless) same ∙ settled.timeless) in
-    is.text_is ∙ ap (λ answers. flat_map text_of answers) (said ∙ ap (λ (p : Passed). p.answers) same)
+    is.text_is ∙ ap (λ answers. flat_map text_of answers) (said.answers ∙ ap (λ (p : Passed). p.answers) same)
+
+pub turns_are_plain : AnswersArePlain → RepliesArePlain → InTurnByOne → TurnsArePlain
+turns_are_plain answers replies narrow d turn r b legal made callers legal_board board_callers in_turn is ended registry board timeless =
+    let after = its_walk turn.after ended in
+    let strictly = narrow 1 0 (reg_calls 0 r) [] r (omega arith) in_turn in
+    let answered : AreAnsweredBy first_registry turn.registry = answers turn.registry r legal made callers (subst (λ calls. AreInTurn 0 calls [] r) (sym registry) strictly) in
+    let told : AreToldBy [] turn.board = subst (λ calls. AreToldBy [] calls) (sym board) (replies b legal_board board_callers) in
+    turn_plain d turn after.0 first_registry [] is after.1 answered told timeless

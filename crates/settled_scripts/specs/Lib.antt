@@ -1,3 +1,4 @@
 pub mod Settled
+pub mod Passing
 pub mod Printing
 pub mod Examples

@@ -2,6 +2,7 @@
 
 ghost use Rattle.std.specs.Prelude.{◌≡◌};
 ghost use Rattle.settled_scripts.specs.Examples.{answers_of, kinds_of, sharing, sharing_answers, unregistering, unregistering_answers, held_first, held_first_kinds, two_at_a_time, three_at_once, held_late, polling};
+ghost use Rattle.settled_scripts.specs.Passing.{PassesFollow, PostsFollow, TurnsArePlain};
 ghost use Rattle.settled_scripts.specs.Printing.{PrintsPlain};
 ghost use Rattle.settled_scripts.specs.Settled.{IsSettled};
 
@@ -16,6 +17,21 @@ pub fn settled_scripts_print_plain()
     replies_are_plain();
     calls_at_once();
 }
+
+/// A whole turn whose answers don't depend on time says, and asks of the board, what passes where the script is alone.
+pub fn turns_are_plain()
+    ensures { TurnsArePlain }
+{
+    answers_are_plain();
+    replies_are_plain();
+    calls_at_once();
+}
+
+/// Where one dialogue follows another, what passes follows too, and so does what is asked of the board.
+pub fn passes_follow()
+    ensures passes { PassesFollow }
+    ensures posts { PostsFollow }
+{}
 
 /// What worked scripts are answered, by the definition itself. A queue that is held before its first request may be filled; one
 /// that isn't held may take what it has room for whatever was done.

@@ -3,4 +3,4 @@
 
 mod laws;
 
-pub use laws::{settled_scripts_print_plain, worked_scripts};
+pub use laws::{passes_follow, settled_scripts_print_plain, turns_are_plain, worked_scripts};

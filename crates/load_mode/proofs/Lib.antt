@@ -1,0 +1,4 @@
+pub mod Summing
+pub mod Passing
+pub mod Values
+pub mod Loads

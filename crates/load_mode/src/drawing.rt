@@ -1,0 +1,121 @@
+//! The lines of a load.
+
+ghost use Rattle.std.specs.Prelude.{◌≡◌, ◌+◌, ◌*◌, ◌%◌, ◌≤◌, ◌∷◌, [], None, false, IfOk, OnOk};
+ghost use Rattle.script_text.specs.Sizes.{IsShortLine};
+ghost use Rattle.script_text.specs.declared.commands.Command.TheVariants.{Alloc, Enc, Key};
+ghost use Rattle.script_text.specs.declared.commands.Line.TheVariants.{Cmd};
+ghost use Rattle.load_mode.specs.Requests.{asked_for, drawn_request};
+ghost use Rattle.load_mode.specs.Lines.{opening, request_line};
+
+use generator::Generator;
+use kc_base::Bytes;
+use script_text::{Command, Line};
+use std::alloc::{AllocError, Global};
+
+/// The label of the transform that has the requests of even numbers.
+const A: &[u8] = b"a";
+
+/// The label of the other.
+const G: &[u8] = b"g";
+
+/// The key of both ciphers.
+const CIPHER_KEY: [u8; 16] = [0; 16];
+
+/// The header, HMAC's key and the cipher's key.
+const KEY_OF_A: [u8; 44] = [
+    8, 0, 1, 0, 0, 0, 0, 16, 11, 11, 11, 11, 11, 11, 11, 11, 11, 11, 11, 11, 11, 11, 11, 11, 11,
+    11, 11, 11, 0, 0, 0, 0, 0, 0, 0, 0, 0, 0, 0, 0, 0, 0, 0, 0,
+];
+
+// `alloc T NAME`
+fn alloc_line(alloc: Global, label: &[u8], name: &[u8]) -> Result<Line, AllocError>
+    ensures { IfOk result (λ line. line ≡ Cmd (Alloc label.now name.now None)) }
+{
+    Ok(Line::Cmd(Command::Alloc {
+        label: Bytes::copy_of(alloc, label)?,
+        name: Bytes::copy_of(alloc, name)?,
+        length: None,
+    }))
+}
+
+// `key T HEX`
+fn key_line(alloc: Global, label: &[u8], key: &[u8]) -> Result<Line, AllocError>
+    ensures { IfOk result (λ line. line ≡ Cmd (Key label.now key.now)) }
+{
+    Ok(Line::Cmd(Command::Key {
+        label: Bytes::copy_of(alloc, label)?,
+        key: Bytes::copy_of(alloc, key)?,
+    }))
+}
+
+/// The lines that make both transforms, in this order.
+#[derive(Debug, Drop)]
+pub struct Opening {
+    pub make_a: Line,
+    pub key_a: Line,
+    pub make_g: Line,
+    pub key_g: Line,
+}
+
+/// The lines that make both transforms.
+pub fn opening_lines(alloc: Global) -> Result<Opening, AllocError>
+    ensures { IfOk result (λ lines. lines.make_a ∷ lines.key_a ∷ lines.make_g ∷ lines.key_g ∷ [] ≡ opening) }
+{
+    Ok(Opening {
+        make_a: alloc_line(alloc, A, b"pcrypt(authenc(hmac(sha256),cbc(aes)))")?,
+        key_a: key_line(alloc, A, &KEY_OF_A)?,
+        make_g: alloc_line(alloc, G, b"pcrypt(gcm(aes))")?,
+        key_g: key_line(alloc, G, &CIPHER_KEY)?,
+    })
+}
+
+// How many bytes of text a request has, by its first draw.
+fn text_length(draw: u64) -> usize
+    ensures length { result ≡ 16 * (1 + draw % 16) }
+    ensures most { result ≤ 256 }
+{
+    16 * (1 + (draw % 16) as usize)
+}
+
+// `enc T IV AAD TEXT`
+fn enc_line(
+    alloc: Global,
+    label: &[u8],
+    iv: &[u8],
+    associated: &[u8],
+    text: Vec<u8>,
+) -> Result<Line, AllocError>
+    ensures { IfOk result (λ line. line ≡ Cmd (Enc label.now iv.now associated.now text.items false)) }
+{
+    Ok(Line::Cmd(Command::Enc {
+        label: Bytes::copy_of(alloc, label)?,
+        iv: Bytes::copy_of(alloc, iv)?,
+        aad: Bytes::copy_of(alloc, associated)?,
+        text: Bytes::from_vec(text),
+        backlog: false,
+    }))
+}
+
+/// Draws the request of this number, and gives its line.
+pub fn draw_request(
+    alloc: Global,
+    generator: &mut Generator,
+    number: u32,
+) -> Result<Line, AllocError>
+    ensures line { IfOk result (λ line. line ≡ request_line (asked_for number (drawn_request generator.old))) }
+    ensures short { IfOk result IsShortLine }
+    ensures drawn { OnOk result (generator.new ≡ (drawn_request generator.old).after) }
+{
+    let length = text_length(generator.next_u64());
+    let mut iv = [0u8; 16];
+    generator.fill(&mut iv);
+    let mut associated = [0u8; 8];
+    generator.fill(&mut associated);
+    let mut text = vec![in alloc; 0u8; length]?;
+    generator.fill(&mut text);
+    if number % 2 == 0 {
+        enc_line(alloc, A, &iv, &associated, text)
+    } else {
+        enc_line(alloc, G, &iv[..12], &associated, text)
+    }
+}

@@ -1,0 +1,16 @@
+//! The law of loads.
+
+ghost use Rattle.load_mode.specs.Turns.{LoadsComeTo};
+
+use board::pads_keep_order;
+use settled_scripts::turns_are_plain;
+use transforms::Ask;
+
+/// A load comes to the hash of its requests' values, and loads both pads with them, beside any number of workers and whatever they
+/// do.
+pub fn loads_come_to()
+    ensures { LoadsComeTo }
+{
+    turns_are_plain();
+    pads_keep_order::<Ask>();
+}

@@ -1,0 +1,45 @@
+//! Lines whose answers are handed out as they are, and not as text.
+
+ghost use Rattle.std.specs.Prelude.{OnOk, MatchResult};
+ghost use Rattle.script_text.specs.Sizes.{IsShortLine};
+ghost use Rattle.dialogues.specs.Lines.{line_dialogue};
+ghost use Rattle.dialogues.specs.Widths.{width_of};
+ghost use Rattle.script_session.specs.Holding.{HoldsBy, Stops};
+ghost use Rattle.script_session.specs.Running.{IsReady};
+
+use crate::scripts::Session;
+use crew::Gate;
+use reply_text::Answer;
+use script_text::Line;
+use session_calls::Stop;
+use shared_board::SharedBoard;
+use shared_registry::SharedRegistry;
+use std::sync::Wait;
+use std::thread::Threads;
+use transforms::Job;
+
+impl Session {
+    /// Answers a line as `line` does, and adds its answers, not their text, to those that are there. `Stop` comes for want of memory
+    /// alone; the session takes no line after it.
+    pub fn answer_line<R: Threads + Wait + Sync, G: Gate>(
+        &mut self,
+        rt: &R,
+        board: &SharedBoard<Job>,
+        registry: &SharedRegistry,
+        gate: &G,
+        number: u32,
+        line: &Line,
+        answers: &mut Vec<Answer>,
+    ) -> Result<(), Stop>
+        requires ready { IsReady registry.now board.now self.old }
+        requires short { IsShortLine line.now }
+        ensures done { MatchResult result
+            (λ _. HoldsBy (width_of line.now) (line_dialogue self.old.workers self.old.walk number line.now) self.old self.new answers.old.items answers.new.items)
+            (λ _. Stops self.old self.new) }
+        // It is ready for the next line.
+        ensures ready { OnOk result (IsReady registry.now board.now self.new) }
+    {
+        self.answer(rt, board, registry, gate, number, line, answers)?;
+        Ok(())
+    }
+}
