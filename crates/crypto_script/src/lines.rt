@@ -31,7 +31,7 @@ use std::thread::Threads;
 use transforms::Job;
 
 // what texts and calls are as histories go on
-fn laws()
+pub fn laws()
     ensures { Laws }
 {
     lines_lead();

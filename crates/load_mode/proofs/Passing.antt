@@ -163,45 +163,50 @@ module _ (registry : PlainRegistry) where
     abbrev left_at : List ℕ → List ℕ → ℕ → ℕ → ℕ → List Asked → Dialogue
     left_at la lg q v n asks = lines_dialogue workers (walk_at i j la lg q v) n (map request_line asks) end
 
+    -- a request and what follows on it
+    module _ (d : Drawn) (ds : List Drawn) (n q v : ℕ) (la lg : List ℕ) (xs ys : List Asked) (first : IsSized d) (few : q + suc (length ds) ≤ 100000) (small : v + 280 * suc (length ds) ≤ 28000000) where
+      abbrev later : Walk → Dialogue
+      later after = lines_dialogue workers after (n + 1) (map request_line (asked_from (n + 1) ds)) end
+
+      abbrev rest : List Asked
+      rest = asked_from (n + 1) ds
+
+      abbrev here : Walk
+      here = walk_at i j la lg q v
+
+      abbrev CameOut : Asked → Type 0
+      CameOut asked = Comes (followed (line_dialogue workers here n (request_line asked)) later) xs ys (of_a (asked ∷ rest)) (of_g (asked ∷ rest))
+
+      abbrev Later : Type 0
+      Later = (q' v' : ℕ) (la' lg' : List ℕ) (xs' ys' : List Asked) → q' + length ds ≤ 100000 → v' + 280 * length ds ≤ 28000000 → Comes (left_at la' lg' q' v' (n + 1) rest) xs' ys' (of_a rest) (of_g rest)
+
+      came-a : Later → is_on_a n ≡ true → CameOut (asked_on_a n d)
+      came-a go is =
+          let asked = asked_on_a n d in
+          let v' = v + (length d.iv + length d.associated + length d.text) in
+          let more = go (q + 1) v' (la ++ n ∷ []) lg (xs ++ asked ∷ []) ys (omega arith) (omega (arith, first.iv, first.associated, first.text)) in
+          subst (λ t. Comes (followed (line_dialogue workers here n (Cmd (command.Enc (if t then label_of_a else label_of_g) d.iv d.associated d.text false))) later) xs ys (if t then asked ∷ of_a rest else of_a rest) (if not t then asked ∷ of_g rest else of_g rest)) (sym is)
+          (subst (λ D. Comes (followed D later) xs ys (asked ∷ of_a rest) (of_g rest)) (sym (dialogue-a workers i j la lg q v n d.iv d.associated d.text (omega arith) (omega (arith, first.iv, first.associated, first.text)) first.iv))
+          (asks-a n (later (walk_at i j (la ++ n ∷ []) lg (q + 1) v')) asked xs ys (of_a rest) (of_g rest) more))
+
+      came-g : Later → is_on_a n ≡ false → CameOut (asked_on_g n d)
+      came-g go is =
+          let asked = asked_on_g n d in
+          let iv = take 12 d.iv in
+          let v' = v + (length iv + length d.associated + length d.text) in
+          let more = go (q + 1) v' la (lg ++ n ∷ []) xs (ys ++ asked ∷ []) (omega arith) (omega (arith, first.iv_of_g, first.associated, first.text)) in
+          subst (λ t. Comes (followed (line_dialogue workers here n (Cmd (command.Enc (if t then label_of_a else label_of_g) iv d.associated d.text false))) later) xs ys (if t then asked ∷ of_a rest else of_a rest) (if not t then asked ∷ of_g rest else of_g rest)) (sym is)
+          (subst (λ D. Comes (followed D later) xs ys (of_a rest) (asked ∷ of_g rest)) (sym (dialogue-g workers i j la lg q v n iv d.associated d.text (omega arith) (omega (arith, first.iv_of_g, first.associated, first.text)) first.iv_of_g))
+          (asks-g n (later (walk_at i j la (lg ++ n ∷ []) (q + 1) v')) asked xs ys (of_a rest) (of_g rest) more))
+
+      came : Later → (t : Bool) → is_on_a n ≡ t → CameOut (asked_for n d)
+      came go true is = subst (λ t. CameOut (if t then asked_on_a n d else asked_on_g n d)) (sym is) (came-a go is)
+      came go false is = subst (λ t. CameOut (if t then asked_on_a n d else asked_on_g n d)) (sym is) (came-g go is)
+
     pub come : (ds : List Drawn) (n q v : ℕ) (la lg : List ℕ) (xs ys : List Asked) → All IsSized ds → q + length ds ≤ 100000 → v + 280 * length ds ≤ 28000000
         → Comes (left_at la lg q v n (asked_from n ds)) xs ys (of_a (asked_from n ds)) (of_g (asked_from n ds))
     come [] n q v la lg xs ys sized few small = ends i j la lg q v xs ys
-    come (d ∷ ds) n q v la lg xs ys sized few small = by_place (is_on_a n) refl
-      where
-        abbrev first : IsSized d
-        first = All-head IsSized d ds sized
-
-        abbrev later : Walk → Dialogue
-        later after = lines_dialogue workers after (n + 1) (map request_line (asked_from (n + 1) ds)) end
-
-        abbrev rest : List Asked
-        rest = asked_from (n + 1) ds
-
-        abbrev here : Walk
-        here = walk_at i j la lg q v
-
-        abbrev CameOut : Asked → Type 0
-        CameOut asked = Comes (followed (line_dialogue workers here n (request_line asked)) later) xs ys (of_a (asked ∷ rest)) (of_g (asked ∷ rest))
-
-        on_a : is_on_a n ≡ true → CameOut (asked_on_a n d)
-        on_a is =
-            let asked = asked_on_a n d in
-            let v' = v + (length d.iv + length d.associated + length d.text) in
-            let more = come ds (n + 1) (q + 1) v' (la ++ n ∷ []) lg (xs ++ asked ∷ []) ys (All-tail IsSized d ds sized) (omega arith) (omega (arith, first.iv, first.associated, first.text)) in
-            subst (λ t. Comes (followed (line_dialogue workers here n (Cmd (command.Enc (if t then label_of_a else label_of_g) d.iv d.associated d.text false))) later) xs ys (if t then asked ∷ of_a rest else of_a rest) (if not t then asked ∷ of_g rest else of_g rest)) (sym is)
-            (subst (λ D. Comes (followed D later) xs ys (asked ∷ of_a rest) (of_g rest)) (sym (dialogue-a workers i j la lg q v n d.iv d.associated d.text (omega arith) (omega (arith, first.iv, first.associated, first.text)) first.iv))
-            (asks-a n (later (walk_at i j (la ++ n ∷ []) lg (q + 1) v')) asked xs ys (of_a rest) (of_g rest) more))
-
-        on_g : is_on_a n ≡ false → CameOut (asked_on_g n d)
-        on_g is =
-            let asked = asked_on_g n d in
-            let iv = take 12 d.iv in
-            let v' = v + (length iv + length d.associated + length d.text) in
-            let more = come ds (n + 1) (q + 1) v' la (lg ++ n ∷ []) xs (ys ++ asked ∷ []) (All-tail IsSized d ds sized) (omega arith) (omega (arith, first.iv_of_g, first.associated, first.text)) in
-            subst (λ t. Comes (followed (line_dialogue workers here n (Cmd (command.Enc (if t then label_of_a else label_of_g) iv d.associated d.text false))) later) xs ys (if t then asked ∷ of_a rest else of_a rest) (if not t then asked ∷ of_g rest else of_g rest)) (sym is)
-            (subst (λ D. Comes (followed D later) xs ys (of_a rest) (asked ∷ of_g rest)) (sym (dialogue-g workers i j la lg q v n iv d.associated d.text (omega arith) (omega (arith, first.iv_of_g, first.associated, first.text)) first.iv_of_g))
-            (asks-g n (later (walk_at i j la (lg ++ n ∷ []) (q + 1) v')) asked xs ys (of_a rest) (of_g rest) more))
-
-        by_place : (t : Bool) → is_on_a n ≡ t → CameOut (asked_for n d)
-        by_place true is = subst (λ t. CameOut (if t then asked_on_a n d else asked_on_g n d)) (sym is) (on_a is)
-        by_place false is = subst (λ t. CameOut (if t then asked_on_a n d else asked_on_g n d)) (sym is) (on_g is)
+    come (d ∷ ds) n q v la lg xs ys sized few small =
+        came d ds n q v la lg xs ys (All-head IsSized d ds sized) few small
+        (λ q' v' la' lg' xs' ys' few' small'. come ds (n + 1) q' v' la' lg' xs' ys' (All-tail IsSized d ds sized) few' small')
+        (is_on_a n) refl

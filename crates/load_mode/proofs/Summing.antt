@@ -107,7 +107,7 @@ asks-more es e s ask is_ask sums = record {
 -- and one that collects
 collects : (es : List (BoardEntry Ask)) (by pipe to : ℕ) (s : Summary) → to ≡ length (told es) → Sums es s → Sums (es ++ event.Collect by pipe to ∷ []) (record s { all = front es == length (submissions es) })
 collects es by pipe to s place sums =
-    let e = event.Collect {A = Ask} by pipe to in
+    let e : BoardEntry Ask = event.Collect by pipe to in
     record {
       pad = λ is. pad-stays es (e ∷ []) (sums.pad is);
       asks = ap (map asked_by) (grows-not accepted_in es e refl) ∙ sums.asks;

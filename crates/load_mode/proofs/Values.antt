@@ -1,5 +1,5 @@
 -- What the completions of a load tell, in the standards' terms; and how long a drawn request's lists are.
-use Rattle.std.proofs.Common.{◌≡◌, ℕ, zero, suc, ◌+◌, ◌*◌, ◌%◌, ◌≤◌, ◌<◌, Bool, true, false, not, List, [], ◌∷◌, ◌++◌, length, refl, ap, sym, ◌∙◌, subst, arith, Option, Some, None, length-append, length-take}
+use Rattle.std.proofs.Common.{◌≡◌, ℕ, zero, suc, ◌+◌, ◌*◌, ◌/◌, ◌%◌, ◌≤◌, ◌<◌, Bool, true, false, not, List, [], ◌∷◌, ◌++◌, length, refl, ap, sym, ◌∙◌, subst, arith, Option, Some, None, length-append, length-take}
 use Rattle.std.specs.Prelude.{if◌then◌else◌, filter, take, All}
 use Rattle.std.specs.List.{flat_map}
 use Rattle.std.specs.Int.{w64, to_be_bytes}
@@ -50,7 +50,7 @@ pub values_of_a : (n : ℕ) (ds : List Drawn) → flat_map told_of (of_a (asked_
 values_of_a n [] = refl
 values_of_a n (d ∷ ds) = by (is_on_a n) refl (values_of_a (n + 1) ds)
   where
-    abbrev Same : List Asked → Type 0
+    Same : List Asked → Type 0
     Same asks = flat_map told_of (of_a asks) ≡ flat_map sealed_a (of_a asks)
 
     by : (t : Bool) → is_on_a n ≡ t → Same (asked_from (n + 1) ds) → Same (asked_for n d ∷ asked_from (n + 1) ds)
@@ -67,7 +67,7 @@ pub values_of_g : (n : ℕ) (ds : List Drawn) → flat_map told_of (of_g (asked_
 values_of_g n [] = refl
 values_of_g n (d ∷ ds) = by (is_on_a n) refl (values_of_g (n + 1) ds)
   where
-    abbrev Same : List Asked → Type 0
+    Same : List Asked → Type 0
     Same asks = flat_map told_of (of_g asks) ≡ flat_map sealed_g (of_g asks)
 
     by : (t : Bool) → is_on_a n ≡ t → Same (asked_from (n + 1) ds) → Same (asked_for n d ∷ asked_from (n + 1) ds)
@@ -83,7 +83,7 @@ values_of_g n (d ∷ ds) = by (is_on_a n) refl (values_of_g (n + 1) ds)
 -- ---- lengths
 
 at-most : (n state : ℕ) → length (drawn state n).0 ≤ n
-at-most n state = omega (arith, length-take n _)
+at-most n state = omega (arith, length-take n (word_bytes (to_be_bytes w64) mix_u64 ((n + 7) / 8) state).0)
 
 iv-sized : (state : ℕ) → length (drawn state 16).0 ≡ 16
 unfolding word_bytes

@@ -3,7 +3,7 @@
 ghost use Rattle.load_mode.specs.Turns.{LoadsComeTo};
 
 use board::pads_keep_order;
-use settled_scripts::turns_are_plain;
+use settled_scripts::{passes_follow, turns_are_plain};
 use transforms::Ask;
 
 /// A load comes to the hash of its requests' values, and loads both pads with them, beside any number of workers and whatever they
@@ -12,5 +12,6 @@ pub fn loads_come_to()
     ensures { LoadsComeTo }
 {
     turns_are_plain();
+    passes_follow();
     pads_keep_order::<Ask>();
 }
