@@ -1,6 +1,5 @@
 -- What a load comes to over two histories.
-use Rattle.std.proofs.Common.{◌≡◌, ℕ, zero, suc, ◌+◌, ◌*◌, ◌≤◌, Bool, true, false, ◌&&◌, List, [], ◌∷◌, ◌++◌, length, map, refl, ap, sym, ◌∙◌, subst, arith, Some, None}
-use Rattle.std.specs.Prelude.{All}
+use Rattle.std.proofs.Common.{◌≡◌, ℕ, suc, ◌+◌, ◌≤◌, true, ◌&&◌, List, [], ◌∷◌, ◌++◌, length, map, refl, ap, sym, ◌∙◌, subst, arith}
 use Rattle.std.specs.List.{flat_map}
 use Rattle.std.proofs.lemmas.Grind.{flat_map-append}
 use Rattle.sha2.specs.Sha256.{sha256}
@@ -8,15 +7,15 @@ use Rattle.std_defs.specs.Authenc.{blob, is_blob, blob_keys, cipher_key_length, 
 use Rattle.alg_names.specs.Spelled.{tree_of}
 use Rattle.board.specs.declared.entry.BoardEntry.{BoardEntry}
 use Rattle.board.specs.declared.entry.Shape.TheVariants.{Pad}
-use Rattle.board.specs.Entries.{entries_of, submissions, completes_below, collected, caller_of}
+use Rattle.board.specs.Entries.{entries_of, submissions, completes_below}
 use Rattle.board.specs.Legal.{LegalBoard}
-use Rattle.board.specs.Order.{handed_out, PadsKeepOrder}
+use Rattle.board.specs.Order.{PadsKeepOrder}
 use Rattle.templates.specs.Table.{table, template_named}
 use Rattle.templates.specs.Resolving.{weight}
 use Rattle.transforms.specs.declared.ask.Ask.{Ask}
 use Rattle.script_text.specs.declared.commands.Line.{Line}
 use Rattle.dialogues.specs.Allocating.{lists_beside}
-use Rattle.dialogues.specs.BoardCalls.{Asked, asked_by, BoardCall, Creates, board_calls}
+use Rattle.dialogues.specs.BoardCalls.{Asked, asked_by, Creates, board_calls}
 use Rattle.dialogues.specs.Dialogues.{Dialogue, Ends, Says, Asks, Posts, followed}
 use Rattle.dialogues.specs.Lines.{line_dialogue, lines_dialogue}
 use Rattle.dialogues.specs.Piping.{end}
@@ -24,7 +23,7 @@ use Rattle.dialogues.specs.Walk.{Walk, start}
 use Rattle.plain_calls.specs.Registry.{PlainRegistry, first_registry}
 use Rattle.settled_scripts.specs.Passing.{posted, PassesFollow, PostsFollow, TurnsArePlain}
 use Rattle.settled_scripts.specs.Settled.{Passed, pass, saying, if_timeless}
-use Rattle.load_mode.specs.Requests.{drawn_requests, load_requests, of_a, of_g, asked_from, digest_of}
+use Rattle.load_mode.specs.Requests.{drawn_requests, load_requests, of_a, of_g, digest_of}
 use Rattle.load_mode.specs.Lines.{opening, request_lines, load_dialogue}
 use Rattle.load_mode.specs.Turns.{bytes_told, IsLoadedWith, LoadsComeTo}
 use Rattle.load_mode.proofs.Passing.{walk_at, pads, Comes, come, told_of}

@@ -1,6 +1,6 @@
 -- A load as it passes where it is alone.
-use Rattle.std.proofs.Common.{◌≡◌, ℕ, zero, suc, ◌+◌, ◌*◌, ◌^◌, ◌<◌, ◌≤◌, Bool, true, false, ◌||◌, ◌&&◌, not, List, [], ◌∷◌, ◌++◌, length, map, refl, ap, sym, ◌∙◌, subst, arith, Option, Some, None, append-nil, append_assoc}
-use Rattle.std.specs.Prelude.{◌==◌, if◌then◌else◌, filter, nat_le, nat_lt, All, take}
+use Rattle.std.proofs.Common.{◌≡◌, ℕ, suc, ◌+◌, ◌*◌, ◌^◌, ◌<◌, ◌≤◌, Bool, true, false, ◌||◌, ◌&&◌, not, List, [], ◌∷◌, ◌++◌, length, map, refl, ap, sym, ◌∙◌, subst, arith, Some, None, append-nil, append_assoc}
+use Rattle.std.specs.Prelude.{◌==◌, if◌then◌else◌, nat_le, nat_lt, All, take}
 use Rattle.std.specs.List.{flat_map}
 use Rattle.std.proofs.lemmas.Bool.{eq-eqb}
 use Rattle.std.proofs.lemmas.Bool.Decides.{nat_tests}
@@ -8,20 +8,17 @@ use Rattle.std.proofs.lemmas.Grind.{flat_map-append}
 use Rattle.std.proofs.lemmas.List.Elements.{All-head, All-tail}
 use Rattle.kc_base.specs.declared.error_numbers.Errno.{Errno}
 use Rattle.kc_base.specs.declared.error_numbers.Errno.TheVariants.{EINPROGRESS, EINVAL, E2BIG}
-use Rattle.board.specs.declared.entry.Shape.TheVariants.{Pad}
 use Rattle.script_text.specs.declared.commands.Command.TheVariants as command
 use Rattle.script_text.specs.declared.commands.Line.TheVariants.{Cmd}
 use Rattle.templates.specs.declared.driver_plans.AesForm.TheVariants.{AesGeneric}
 use Rattle.templates.specs.declared.driver_plans.GhashForm.TheVariants.{GhashGeneric}
-use Rattle.templates.specs.declared.driver_plans.Plan.{Plan}
 use Rattle.templates.specs.declared.driver_plans.Plan.TheVariants.{AuthencCbc, Gcm}
 use Rattle.transforms.specs.declared.request.Dir.TheVariants.{Enc}
 use Rattle.transforms.specs.declared.request.Request.{Request}
 use Rattle.transforms.specs.Asked.{takes}
 use Rattle.transforms.specs.Finish.{finished_of}
-use Rattle.reply_text.specs.declared.answers.Answer.{Answer}
 use Rattle.reply_text.specs.declared.answers.Answer.TheVariants as said
-use Rattle.dialogues.specs.BoardCalls.{Asked, Notice, Completed, BoardCall, Creates}
+use Rattle.dialogues.specs.BoardCalls.{Asked}
 use Rattle.dialogues.specs.Dialogues.{Dialogue, Says, Posts, followed, refuses, unless}
 use Rattle.dialogues.specs.Lines.{line_dialogue, lines_dialogue}
 use Rattle.dialogues.specs.Piping.{end, completion_said, notice_said, completions, said_at_end}
@@ -31,9 +28,9 @@ use Rattle.dialogues.specs.Walk.{Walk, Live, Pipe}
 use Rattle.plain_calls.specs.Pipelines.{Pipeline, drained}
 use Rattle.plain_calls.specs.Registry.{PlainRegistry}
 use Rattle.settled_scripts.specs.Passing.{posted}
-use Rattle.settled_scripts.specs.Settled.{Passed, pass}
+use Rattle.settled_scripts.specs.Settled.{pass}
 use Rattle.load_mode.specs.Requests.{Drawn, cipher_key, key_of_a, is_on_a, asked_on_a, asked_on_g, asked_for, asked_from, of_a, of_g}
-use Rattle.load_mode.specs.Lines.{label_of_a, label_of_g, label_for, request_line}
+use Rattle.load_mode.specs.Lines.{label_of_a, label_of_g, request_line}
 use Rattle.load_mode.specs.Turns.{bytes_told}
 use Rattle.load_mode.proofs.Summing.{Summary, asked_more, summary}
 

@@ -1,9 +1,9 @@
 -- What a caller's calls say of one pad: what it has accepted, and whether its last collect handed all of that out.
-use Rattle.std.proofs.Common.{◌≡◌, ℕ, zero, suc, ◌+◌, ◌<◌, ◌≤◌, ◌⊎◌, inl, inr, Bool, true, false, List, [], ◌∷◌, ◌++◌, length, map, refl, ap, sym, ◌∙◌, subst, arith, Option, Some, None, append-nil, append_assoc, length-append}
-use Rattle.std.specs.Prelude.{◌==◌, if◌then◌else◌, filter, All}
+use Rattle.std.proofs.Common.{◌≡◌, ℕ, zero, suc, ◌≤◌, inl, inr, Bool, true, false, List, [], ◌∷◌, ◌++◌, length, map, refl, ap, sym, ◌∙◌, subst, arith, Option, Some, None, append-nil, append_assoc, length-append}
+use Rattle.std.specs.Prelude.{◌==◌, if◌then◌else◌, All}
 use Rattle.std.specs.List.{filter_map, cons_option}
 use Rattle.std.specs.Arc.{arc_value}
-use Rattle.std.proofs.lemmas.Bool.{eq-eqb, eqb-true}
+use Rattle.std.proofs.lemmas.Bool.{eqb-true}
 use Rattle.std.proofs.lemmas.List.Elements.{filter-append, filter_map-append, All-head, All-tail}
 use Rattle.board.specs.declared.entry.Shape.{Shape}
 use Rattle.board.specs.declared.entry.Shape.TheVariants.{Pad, Queue}
@@ -11,10 +11,10 @@ use Rattle.board.specs.declared.entry.Entered.{Entered}
 use Rattle.board.specs.declared.entry.Entered.TheVariants.{InProgress, Busy, NoSpace}
 use Rattle.board.specs.declared.entry.BoardEntry.{BoardEntry}
 use Rattle.board.specs.declared.entry.BoardEntry.TheVariants as event
-use Rattle.board.specs.Entries.{is_of, is_pipe, pipe_of, entries_of, birth_in, birth, first, pad_born, accepted_in, submissions, collected_in, collected, last_or, front, told, told_in, completes_below, Completes, caller_of}
-use Rattle.board.specs.Legal.{IsNoWorker, IsRight, IsRightFor, AreRightAfter, LegalBoard}
+use Rattle.board.specs.Entries.{is_of, entries_of, birth_in, birth, first, pad_born, accepted_in, submissions, collected_in, collected, last_or, front, told, told_in, completes_below, Completes, caller_of}
+use Rattle.board.specs.Legal.{IsNoWorker, IsRight, AreRightAfter, LegalBoard}
 use Rattle.transforms.specs.declared.ask.Ask.{Ask}
-use Rattle.dialogues.specs.BoardCalls.{Asked, asked_by, BoardCall, Creates, Submits, Enqueues, Holds, Goes, Collects, Collected, Closes, Shares, Shuts, board_call_of, board_calls_from, board_calls}
+use Rattle.dialogues.specs.BoardCalls.{Asked, asked_by, BoardCall, Creates, Submits, Enqueues, Holds, Goes, Collects, Closes, Shares, Shuts, board_call_of, board_calls_from, board_calls}
 use Rattle.dialogues.specs.RegistryCalls.{if_own, prepend}
 
 -- it is a pad; its requests; and whether the last collect came when all of them were finished

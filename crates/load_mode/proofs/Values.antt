@@ -1,6 +1,6 @@
 -- What the completions of a load tell, in the standards' terms; and how long a drawn request's lists are.
-use Rattle.std.proofs.Common.{◌≡◌, ℕ, zero, suc, ◌+◌, ◌*◌, ◌/◌, ◌%◌, ◌≤◌, ◌<◌, Bool, true, false, not, List, [], ◌∷◌, ◌++◌, length, refl, ap, sym, ◌∙◌, subst, arith, Option, Some, None, length-append, length-take}
-use Rattle.std.specs.Prelude.{if◌then◌else◌, filter, take, All}
+use Rattle.std.proofs.Common.{◌≡◌, ℕ, zero, suc, ◌+◌, ◌*◌, ◌/◌, ◌%◌, ◌≤◌, Bool, true, false, not, List, [], ◌∷◌, ◌++◌, length, refl, ap, sym, subst, arith, Option, Some, None, length-take}
+use Rattle.std.specs.Prelude.{if◌then◌else◌, take, All}
 use Rattle.std.specs.List.{flat_map}
 use Rattle.std.specs.Int.{w64, to_be_bytes}
 use Rattle.std.specs.Option.{option_map_or}
@@ -11,7 +11,6 @@ use Rattle.std_defs.specs.Aes.{seal}
 use Rattle.std_defs.specs.Authenc.{blob, is_blob, blob_keys, cipher_key_length, mac_key_length}
 use Rattle.std_defs.specs.Modes.{cbc_seal}
 use Rattle.std_defs.specs.Value.{or_invalid}
-use Rattle.std_defs.specs.Value.Value.{bytes}
 use Rattle.generator.specs.Draws.{drawn}
 use Rattle.templates.specs.Table.{template_named}
 use Rattle.transforms.specs.Finish.{finished_of}
@@ -19,7 +18,6 @@ use Rattle.transforms.specs.RequestValue.{request_value, with_mac}
 use Rattle.std_defs.specs.Hmac.{hmac}
 use Rattle.dialogues.specs.BoardCalls.{Asked}
 use Rattle.dialogues.specs.Piping.{completion_said}
-use Rattle.dialogues.specs.Requesting.{value_of}
 use Rattle.load_mode.specs.Requests.{Drawn, drawn_request, drawn_requests, mac_key, cipher_key, is_on_a, asked_on_a, asked_on_g, asked_for, asked_from, of_a, of_g, with_hmac, sealed_on_a, sealed_on_g}
 use Rattle.load_mode.specs.Turns.{bytes_told}
 use Rattle.load_mode.proofs.Passing.{told_of, IsSized}

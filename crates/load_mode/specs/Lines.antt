@@ -7,7 +7,7 @@ use Rattle.dialogues.specs.BoardCalls.{Asked}
 use Rattle.dialogues.specs.Dialogues.{Dialogue}
 use Rattle.dialogues.specs.Lines.{lines_dialogue}
 use Rattle.dialogues.specs.Piping.{end}
-use Rattle.dialogues.specs.Walk.{Walk, start}
+use Rattle.dialogues.specs.Walk.{start}
 use Rattle.load_mode.specs.Requests.{key_of_a, cipher_key, is_on_a, load_requests}
 
 abbrev pub label_of_a : List ℕ
