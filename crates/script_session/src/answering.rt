@@ -1,12 +1,16 @@
-//! Lines whose answers are handed out as they are, and not as text.
+//! Lines, and their end, whose answers are handed out as they are, and not as text.
 
-ghost use Rattle.std.specs.Prelude.{OnOk, MatchResult};
+ghost use Rattle.std.specs.Prelude.{◌≡◌, OnOk, MatchResult};
 ghost use Rattle.script_text.specs.Sizes.{IsShortLine};
 ghost use Rattle.dialogues.specs.Lines.{line_dialogue};
 ghost use Rattle.dialogues.specs.Widths.{width_of};
+ghost use Rattle.script_session.specs.Ending.{EndsWith, EndsShut};
 ghost use Rattle.script_session.specs.Holding.{HoldsBy, Stops};
 ghost use Rattle.script_session.specs.Running.{IsReady};
+ghost use Rattle.script_session.specs.States.{Stands, Posted};
+ghost use Rattle.session_calls.specs.Passes.{known, CallsBoard};
 
+use crate::ending::{drain_last_all, release_all};
 use crate::scripts::Session;
 use crew::Gate;
 use reply_text::Answer;
@@ -40,6 +44,38 @@ impl Session {
         ensures ready { OnOk result (IsReady registry.now board.now self.new) }
     {
         self.answer(rt, board, registry, gate, number, line, answers)?;
+        Ok(())
+    }
+
+    /// Does what `end` does, and adds its answers, not their text, to those that are there. `Stop` comes for want of memory alone;
+    /// then the board isn't shut.
+    pub fn answer_end<R: Wait, G: Gate>(
+        &mut self,
+        rt: &R,
+        board: &SharedBoard<Job>,
+        gate: &G,
+        answers: &mut Vec<Answer>,
+    ) -> Result<(), Stop>
+        requires at { CallsBoard board.now self.old.board }
+        requires stands { Stands self.old.walk.lives (known self.old.registry) }
+        requires posted { Posted self.old.walk (known self.old.board) }
+        requires first { (known self.old.board).number ≡ 0 }
+        ensures done { MatchResult result
+            (λ _. EndsWith self.old self.new answers.old.items answers.new.items)
+            (λ _. Stops self.old self.new) }
+        ensures shut { OnOk result (EndsShut (known self.new.board)) }
+    {
+        release_all(rt, board, &mut self.board, &mut self.lives)?;
+        drain_last_all(
+            self.alloc,
+            rt,
+            board,
+            gate,
+            &mut self.board,
+            &mut self.lives,
+            answers,
+        )?;
+        self.board.shut(rt, board);
         Ok(())
     }
 }

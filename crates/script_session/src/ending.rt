@@ -3,7 +3,7 @@
 ghost use Rattle.std.specs.Prelude.{◌≡◌, ◌++◌, [], OnOk, OnErr, MatchResult};
 ghost use Rattle.board.specs.Legal.{LegalBoard};
 ghost use Rattle.dialogues.specs.Piping.{lets_go, let_all_go, drains_at_end, drain_all};
-ghost use Rattle.script_session.specs.Ending.{Moves, MovesAll, ArePosted, AreAllPaid, IsPaid, end_said, EndsWith, AnswersEnd, EndsShut};
+ghost use Rattle.script_session.specs.Ending.{Moves, MovesAll, ArePosted, AreAllPaid, IsPaid, end_said, AnswersEnd, EndsShut};
 ghost use Rattle.script_session.specs.Holding.{SeesOn, Stops};
 ghost use Rattle.script_session.specs.States.{HasPipe, Stands, Posted};
 ghost use Rattle.session_calls.specs.Passes.{known, lock_of, CallsBoard};
@@ -95,8 +95,8 @@ fn drain_last<R: Wait, G: Gate>(
     Ok(())
 }
 
-// Lets each held pipeline go, in order of allocation.
-fn release_all<R: Wait>(
+/// Lets each held pipeline go, in order of allocation.
+pub fn release_all<R: Wait>(
     rt: &R,
     board: &SharedBoard<Job>,
     caller: &mut BoardCaller,
@@ -115,8 +115,8 @@ fn release_all<R: Wait>(
     Ok(())
 }
 
-// Drains each pipeline, in order of allocation, and adds what they hand out.
-fn drain_last_all<R: Wait, G: Gate>(
+/// Drains each pipeline, in order of allocation, and adds what they hand out.
+pub fn drain_last_all<R: Wait, G: Gate>(
     alloc: Global,
     rt: &R,
     board: &SharedBoard<Job>,
@@ -175,37 +175,6 @@ impl Session {
             &mut answers,
         )?;
         put_all(self.alloc, reply, &answers)?;
-        self.board.shut(rt, board);
-        Ok(())
-    }
-    /// Does what `end` does, and adds its answers, not their text, to those that are there. `Stop` comes for want of memory alone;
-    /// then the board isn't shut.
-    pub fn answer_end<R: Wait, G: Gate>(
-        &mut self,
-        rt: &R,
-        board: &SharedBoard<Job>,
-        gate: &G,
-        answers: &mut Vec<Answer>,
-    ) -> Result<(), Stop>
-        requires at { CallsBoard board.now self.old.board }
-        requires stands { Stands self.old.walk.lives (known self.old.registry) }
-        requires posted { Posted self.old.walk (known self.old.board) }
-        requires first { (known self.old.board).number ≡ 0 }
-        ensures done { MatchResult result
-            (λ _. EndsWith self.old self.new answers.old.items answers.new.items)
-            (λ _. Stops self.old self.new) }
-        ensures shut { OnOk result (EndsShut (known self.new.board)) }
-    {
-        release_all(rt, board, &mut self.board, &mut self.lives)?;
-        drain_last_all(
-            self.alloc,
-            rt,
-            board,
-            gate,
-            &mut self.board,
-            &mut self.lives,
-            answers,
-        )?;
         self.board.shut(rt, board);
         Ok(())
     }
