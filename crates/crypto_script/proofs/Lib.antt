@@ -3,5 +3,5 @@ pub mod Going
 pub mod Reaching
 pub mod Asking
 pub mod Finishing
-pub mod Loading
+pub mod LoadLines
 pub mod Loaded

@@ -1,6 +1,6 @@
 -- What a load's part leaves beside workers.
-use Rattle.std.proofs.Common.{◌≡◌, ℕ, ◌≤◌, Bool, true, List, [], ◌++◌, refl, sym, ap, subst, ◌∙◌, arith, Option, Some, None, Result, Ok, Err, IfOk}
-use Rattle.std.specs.Prelude.{OnOk, All}
+use Rattle.std.proofs.Common.{◌≡◌, ℕ, ◌≤◌, Bool, true, List, [], ◌++◌, refl, sym, ap, subst, ◌∙◌, arith, Some, None}
+use Rattle.std.specs.Prelude.{OnOk, IfOk, All, Result, Ok, Err}
 use Rattle.alg_registry.specs.declared.entry.RegEntry.{RegEntry}
 use Rattle.alg_registry.specs.Legal.{LegalReg}
 use Rattle.alg_registry.specs.Made.{Made}
@@ -79,8 +79,11 @@ module _ (workers seed count : ℕ) (p : Passes Ask) (qr : RegPass) (qb qb' : Bo
 
 -- ---- beside workers
 
+abbrev stopped : Result Bool SinkError
+stopped = Err NoMemory
+
 -- what its passes went through is that of a script that wrote nothing, wherever it stopped
-as_script : {F : Type 0} (workers seed count : ℕ) (p q : Passes Ask) (result : Result (List ℕ) F) → Loads workers seed count p q result → Answers workers [] p q (Err {Bool} {SinkError} NoMemory) None None
+as_script : {F : Type 0} (workers seed count : ℕ) (p q : Passes Ask) (result : Result (List ℕ) F) → Loads workers seed count p q result → Answers workers [] p q stopped None None
 as_script workers seed count p q result loads = record {
   registry = loads.registry;
   board = loads.board;
@@ -94,28 +97,28 @@ as_script workers seed count p q result loads = record {
 module _ (crew : CrewLaws) {F : Type 0} (workers seed count : ℕ) (first p q l : Passes Ask) (result : Result (List ℕ) F) (r : List RegEntry) (b : List (BoardEntry Ask))
     (new : (knows first.board ≡ newcomer) × (knows first.registry ≡ newcomer)) (next : HaveNext workers first p) (loads : Loads workers seed count p q result) (crewed : CrewedOnBoth workers first q l)
     (shows_r : Shows reg_caller (knows l.registry) r) (shows_b : Shows board_caller (knows l.board) b) where
-  abbrev part : Answers workers [] p q (Err {Bool} {SinkError} NoMemory) None None
+  abbrev part : Answers workers [] p q stopped None None
   part = as_script workers seed count p q result loads
 
   pub loaded-closed : is_shut b ≡ true
-  loaded-closed = whole-closed crew workers [] first p q l (Err NoMemory) None None r b new next part crewed shows_r shows_b
+  loaded-closed = whole-closed crew workers [] first p q l stopped None None r b new next part crewed shows_r shows_b
 
   pub loaded-callers : All (λ e. reg_caller e ≤ workers) r × All (λ e. board_caller e ≤ workers) b
-  loaded-callers = few-callers crew workers [] first p q l (Err NoMemory) None None r b new next part crewed shows_r shows_b
+  loaded-callers = few-callers crew workers [] first p q l stopped None None r b new next part crewed shows_r shows_b
 
   loaded-turn : (digest : List ℕ) → LoadEnds workers seed count q digest → IsLoadTurn workers seed count r b digest
   loaded-turn digest ends =
       ends.turn r b
       (crew.registry_ends is_building (knows first.registry).next workers (knows q.registry) (knows l.registry) r ends.own crewed.registry shows_r)
-      (follow-board crew workers [] first p q l (Err NoMemory) None None r b new next part crewed shows_r shows_b)
+      (follow-board crew workers [] first p q l stopped None None r b new next part crewed shows_r shows_b)
 
   loaded-last : LegalBoard b → (digest : List ℕ) → LoadEnds workers seed count q digest → ShutLast b
-  loaded-last legal digest ends = shut-ends crew workers [] first p q l (Err NoMemory) None None r b new next part crewed shows_r shows_b legal ends.shut
+  loaded-last legal digest ends = shut-ends crew workers [] first p q l stopped None None r b new next part crewed shows_r shows_b legal ends.shut
 
   module _ (law : LoadsComeTo) (few : workers ≤ 16) (short : count ≤ 100000) (legal : LegalReg r) (made : Made table r) (legal_board : LegalBoard b) where
     comes : (digest : List ℕ) → LoadEnds workers seed count q digest → (digest ≡ digest_of (load_requests seed count)) × AreLoaded seed count b
     comes digest ends =
-        let callers = few-enough crew workers [] first p q l (Err NoMemory) None None r b new next part crewed shows_r shows_b few in
+        let callers = few-enough crew workers [] first p q l stopped None None r b new next part crewed shows_r shows_b few in
         law workers seed count r b digest short legal made callers.0 legal_board callers.1 (loaded-turn digest ends)
 
     pub loaded-digest : IfOk result (λ digest. digest ≡ digest_of (load_requests seed count))

@@ -1,7 +1,6 @@
 -- A load, line by line, and what it leaves.
-use Rattle.std.proofs.Common.{◌≡◌, ℕ, suc, ◌+◌, ◌-◌, ◌<◌, ◌≤◌, Bool, true, false, List, [], ◌∷◌, ◌++◌, length, map, Option, Some, None, refl, sym, ap, subst, ◌∙◌, append_assoc, append-nil, arith, Result, Ok, Err, IfOk}
+use Rattle.std.proofs.Common.{◌≡◌, ℕ, suc, ◌+◌, ◌-◌, ◌<◌, ◌≤◌, List, [], ◌∷◌, ◌++◌, map, Option, Some, None, refl, sym, ap, subst, ◌∙◌, append_assoc, append-nil, arith}
 use Rattle.std.specs.List.{flat_map}
-use Rattle.std.specs.Prelude.{OnOk}
 use Rattle.std.proofs.lemmas.Grind.{flat_map-append}
 use Rattle.sha2.specs.Sha256.{sha256}
 use Rattle.sha2.specs.Hashers.{Holds256}
@@ -146,6 +145,55 @@ lines-next count number state below =
 
 pub lines-none : (count number state : ℕ) → number ≡ count → lines_from number state (count - number) ≡ []
 lines-none count number state all = let none : count - number ≡ 0 = omega arith in ap (λ n. lines_from number state n) none
+
+-- ---- lines, one after another
+
+abbrev LineOn : ℕ → ℕ → Line → State → State → Sha256 → Sha256 → Type 0
+LineOn workers n line s s' x y = (later : Walk → Dialogue) → HoldsOn (followed (line_dialogue workers s.walk n line) later) later s s' x y
+
+-- beside as many workers as before
+line-with : (workers n : ℕ) (line : Line) (s s' : State) (x y : Sha256) → s.workers ≡ workers → LineOn s.workers n line s s' x y → LineOn workers n line s s' x y
+line-with workers n line s s' x y same on = subst (λ w. LineOn w n line s s' x y) same on
+
+pub opening-on : (a b c d : Line) (s s1 s2 s3 s4 : State) (x x1 x2 x3 x4 : Sha256) → a ∷ b ∷ c ∷ d ∷ [] ≡ opening → GoesOn s s1 → GoesOn s1 s2 → GoesOn s2 s3
+    → LineOn s.workers 0 a s s1 x x1 → LineOn s1.workers 1 b s1 s2 x1 x2 → LineOn s2.workers 2 c s2 s3 x2 x3 → LineOn s3.workers 3 d s3 s4 x3 x4
+    → (later : Walk → Dialogue) → HoldsOn (lines_dialogue s.workers s.walk 0 opening later) later s s4 x x4
+opening-on a b c d s s1 s2 s3 s4 x x1 x2 x3 x4 same g1 g2 g3 on1 on2 on3 on4 later =
+    let w = s.workers in
+    let w1 = g1.locks.workers in
+    let w2 = g2.locks.workers ∙ w1 in
+    let w3 = g3.locks.workers ∙ w2 in
+    let last : Walk → Dialogue = λ walk. followed (line_dialogue w walk 3 d) later in
+    let third : Walk → Dialogue = λ walk. followed (line_dialogue w walk 2 c) last in
+    let second : Walk → Dialogue = λ walk. followed (line_dialogue w walk 1 b) third in
+    subst (λ lines. HoldsOn (lines_dialogue w s.walk 0 lines later) later s s4 x x4) same
+    (λ whole held.
+    line-with w 3 d s3 s4 x3 x4 w3 on4 later whole
+    (line-with w 2 c s2 s3 x2 x3 w2 on3 last whole
+    (line-with w 1 b s1 s2 x1 x2 w1 on2 third whole
+    (on1 second whole held))))
+
+abbrev pub LeftAt : ℕ → ℕ → ℕ → ℕ → Walk → Dialogue
+LeftAt workers count number state walk = lines_dialogue workers walk number (lines_from number state (count - number)) end
+
+pub requests-begin : (workers seed count state : ℕ) (s : State) (x : Sha256) → s.workers ≡ workers → state ≡ seed → HoldsOn (lines_dialogue workers s.walk 0 (request_lines seed count) end) (LeftAt workers count 0 state) s s x x
+requests-begin workers seed count state s x same seeded = λ whole held.
+    let all : count - 0 ≡ count = omega arith in
+    subst (λ lines. IsHeld whole (lines_dialogue workers s.walk 0 lines end) s x) (λ i. lines_from 0 (sym seeded i) (sym all i)) held
+
+pub requests-more : (workers count n state state' : ℕ) (first : Dialogue) (s s1 s2 : State) (x x1 x2 : Sha256) (line : Line) → n < count → s1.workers ≡ workers → line ≡ request_line (asked_for n (drawn_request state)) → state' ≡ (drawn_request state).after
+    → HoldsOn first (LeftAt workers count n state) s s1 x x1 → LineOn s1.workers n line s1 s2 x1 x2 → HoldsOn first (LeftAt workers count (n + 1) state') s s2 x x2
+requests-more workers count n state state' first s s1 s2 x x1 x2 line below same is after before on = λ whole held.
+    let rest : List Line = lines_from (n + 1) (drawn_request state).after (count - (n + 1)) in
+    let lines : lines_from n state (count - n) ≡ line ∷ rest = lines-next count n state below ∙ ap (λ l. l ∷ rest) (sym is) in
+    let now : IsHeld whole (followed (line_dialogue workers s1.walk n line) (λ walk. lines_dialogue workers walk (n + 1) rest end)) s1 x1 =
+    subst (λ ls. IsHeld whole (lines_dialogue workers s1.walk n ls end) s1 x1) lines (before whole held) in
+    subst (λ g. IsHeld whole (LeftAt workers count (n + 1) g s2.walk) s2 x2) (sym after)
+    (line-with workers n line s1 s2 x1 x2 same on (λ walk. lines_dialogue workers walk (n + 1) rest end) whole now)
+
+pub requests-end : (workers count n state : ℕ) (first : Dialogue) (s s1 : State) (x x1 : Sha256) → n ≡ count → HoldsOn first (LeftAt workers count n state) s s1 x x1 → HoldsOn first end s s1 x x1
+requests-end workers count n state first s s1 x x1 all before = λ whole held.
+    subst (λ ls. IsHeld whole (lines_dialogue workers s1.walk n ls end) s1 x1) (lines-none count n state all) (before whole held)
 
 -- ---- what it leaves
 
