@@ -212,3 +212,20 @@ done-load laws workers seed count walk s hasher digest held hashes = λ r b from
       in_turn = subst (λ cs. AreInTurnBy 1 0 cs [] r) (sym calls) (in_turn-on laws 1 k r t.registry held.caller from_r held.in_turn);
       digest_is = hashes (flat_map bytes_told t.answers) held.hashed ∙ ap (λ xs. sha256 (flat_map bytes_told xs)) (sym (append-nil t.answers));
     }
+
+-- the whole load, from a session that has seen nothing
+pub load-done : Laws → (seed count : ℕ) (s s1 s2 s3 : State) (x x1 x2 x3 : Sha256) (digest : List ℕ) → IsFresh s → Holds256 x [] → GoesOn s s1
+    → ((later : Walk → Dialogue) → HoldsOn (lines_dialogue s.workers s.walk 0 opening later) later s s1 x x1)
+    → HoldsOn (lines_dialogue s1.workers s1.walk 0 (request_lines seed count) end) end s1 s2 x1 x2
+    → ((whole : Dialogue) → IsHeld whole (end s2.walk) s2 x2 → IsHeld whole (Ends s2.walk) s3 x3)
+    → ((m : List ℕ) → Holds256 x3 m → digest ≡ sha256 m)
+    → IsLoadTurnAfter s.workers seed count (known s3.registry) (known s3.board) digest
+load-done laws seed count s s1 s2 s3 x x1 x2 x3 digest fresh empty goes opens requests ends hashes =
+    let rest : Walk → Dialogue = λ walk. lines_dialogue s.workers walk 0 (request_lines seed count) end in
+    let whole : Dialogue = load_dialogue s.workers seed count in
+    let first : IsHeld whole (lines_dialogue s.workers s.walk 0 opening rest) s x =
+    subst (λ walk. IsHeld whole (lines_dialogue s.workers walk 0 opening rest) s x) (sym fresh.walk) (begins laws whole s x fresh empty) in
+    let second : IsHeld whole (rest s1.walk) s1 x1 = opens rest whole first in
+    let third : IsHeld whole (end s2.walk) s2 x2 =
+    requests whole (subst (λ w. IsHeld whole (lines_dialogue w s1.walk 0 (request_lines seed count) end) s1 x1) (sym goes.locks.workers) second) in
+    done-load laws s.workers seed count s2.walk s3 x3 digest (ends whole third) hashes

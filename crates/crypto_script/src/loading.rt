@@ -1,6 +1,6 @@
 //! A load, held by a session.
 
-ghost use Rattle.std.specs.Prelude.{OnOk, ◌≡◌, IfOk};
+ghost use Rattle.std.specs.Prelude.{OnOk, ◌≡◌, ◌∷◌, [], IfOk};
 ghost use Rattle.alg_registry.specs.Rows.{caller_of};
 ghost use Rattle.dialogues.specs.Dialogues.{followed};
 ghost use Rattle.dialogues.specs.Lines.{line_dialogue, lines_dialogue};
@@ -8,7 +8,8 @@ ghost use Rattle.dialogues.specs.Piping.{end};
 ghost use Rattle.dialogues.specs.Walk.{Walk as Made};
 ghost use Rattle.dialogues.specs.Dialogues.{Dialogue, Ends};
 ghost use Rattle.dialogues.specs.Widths.{width_of};
-ghost use Rattle.load_mode.specs.Lines.{opening, request_lines};
+ghost use Rattle.load_mode.specs.Lines.{opening, request_line, request_lines};
+ghost use Rattle.load_mode.specs.Requests.{asked_for, drawn_request};
 ghost use Rattle.script_text.specs.Sizes.{IsShortLine};
 ghost use Rattle.script_session.specs.Ending.{EndsShut};
 ghost use Rattle.script_session.specs.Running.{IsReady};
@@ -21,7 +22,7 @@ ghost use Rattle.crypto_script.specs.Runs.{GoesOn, IsFresh};
 use crate::lines::laws;
 use crew::Gate;
 use generator::Generator;
-use load_mode::{draw_request, hash_completions, opening_lines};
+use load_mode::{Opening, draw_request, hash_completions, opening_lines};
 use script_session::Session;
 use script_text::Line;
 use session_calls::Stop;
@@ -63,6 +64,30 @@ fn hold_line<G: Gate, R: Threads + Wait + Sync>(
     }
 }
 
+// Answers the lines that make both transforms.
+fn hold_opened<G: Gate, R: Threads + Wait + Sync>(
+    rt: &R,
+    alloc: Global,
+    board: &SharedBoard<Job>,
+    registry: &SharedRegistry,
+    gate: &G,
+    session: &mut Session,
+    hasher: &mut Sha256,
+    lines: &Opening,
+) -> Result<(), AllocError>
+    requires ready { IsReady registry.now board.now session.old }
+    requires lines { lines.now.make_a ∷ lines.now.key_a ∷ lines.now.make_g ∷ lines.now.key_g ∷ [] ≡ opening }
+    ensures on { OnOk result ((later : Made → Dialogue) → HoldsOn (lines_dialogue session.old.workers session.old.walk 0 opening later) later session.old session.new hasher.old hasher.new) }
+    ensures ready { OnOk result (IsReady registry.now board.now session.new) }
+    ensures goes_on { GoesOn session.old session.new }
+{
+    hold_line(rt, alloc, board, registry, gate, session, hasher, 0, &lines.make_a)?;
+    hold_line(rt, alloc, board, registry, gate, session, hasher, 1, &lines.key_a)?;
+    hold_line(rt, alloc, board, registry, gate, session, hasher, 2, &lines.make_g)?;
+    hold_line(rt, alloc, board, registry, gate, session, hasher, 3, &lines.key_g)?;
+    Ok(())
+}
+
 // Makes both transforms.
 fn hold_opening<G: Gate, R: Threads + Wait + Sync>(
     rt: &R,
@@ -79,11 +104,29 @@ fn hold_opening<G: Gate, R: Threads + Wait + Sync>(
     ensures goes_on { GoesOn session.old session.new }
 {
     let lines = opening_lines(alloc)?;
-    hold_line(rt, alloc, board, registry, gate, session, hasher, 0, &lines.make_a)?;
-    hold_line(rt, alloc, board, registry, gate, session, hasher, 1, &lines.key_a)?;
-    hold_line(rt, alloc, board, registry, gate, session, hasher, 2, &lines.make_g)?;
-    hold_line(rt, alloc, board, registry, gate, session, hasher, 3, &lines.key_g)?;
-    Ok(())
+    hold_opened(rt, alloc, board, registry, gate, session, hasher, &lines)
+}
+
+// Draws a request and hands it in.
+fn hold_request<G: Gate, R: Threads + Wait + Sync>(
+    rt: &R,
+    alloc: Global,
+    board: &SharedBoard<Job>,
+    registry: &SharedRegistry,
+    gate: &G,
+    session: &mut Session,
+    hasher: &mut Sha256,
+    generator: &mut Generator,
+    number: u32,
+) -> Result<(), AllocError>
+    requires ready { IsReady registry.now board.now session.old }
+    ensures on { OnOk result ((later : Made → Dialogue) → HoldsOn (followed (line_dialogue session.old.workers session.old.walk number (request_line (asked_for number (drawn_request generator.old)))) later) later session.old session.new hasher.old hasher.new) }
+    ensures drawn { OnOk result (generator.new ≡ (drawn_request generator.old).after) }
+    ensures ready { OnOk result (IsReady registry.now board.now session.new) }
+    ensures goes_on { GoesOn session.old session.new }
+{
+    let line = draw_request(alloc, generator, number)?;
+    hold_line(rt, alloc, board, registry, gate, session, hasher, number, &line)
 }
 
 // Hands the requests in.
@@ -105,8 +148,9 @@ fn hold_requests<G: Gate, R: Threads + Wait + Sync>(
 {
     let mut generator = Generator::new(seed);
     for number in 0..count {
-        let line = draw_request(alloc, &mut generator, number)?;
-        hold_line(rt, alloc, board, registry, gate, session, hasher, number, &line)?;
+        hold_request(
+            rt, alloc, board, registry, gate, session, hasher, &mut generator, number,
+        )?;
     }
     Ok(())
 }

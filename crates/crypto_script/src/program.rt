@@ -13,6 +13,7 @@ ghost use Rattle.dialogues.specs.Texts.{IsText, IsFrontText};
 ghost use Rattle.dialogues.specs.Walk.{start};
 ghost use Rattle.templates.specs.Table.{table};
 ghost use Rattle.crypto_script.specs.Endings.{workers_asked, workers_in, AreCallers, EndsShut};
+ghost use Rattle.crypto_script.specs.Loads.{load_asked};
 ghost use Rattle.crypto_script.specs.Runs.{ReadsUpTo, Gains, InTurn};
 ghost use Rattle.crypto_script.specs.Statuses.{status_of};
 ghost use Rattle.crypto_script.specs.Text.{is_malformed};
@@ -21,7 +22,8 @@ use crate::beside::{Ran, run_script};
 use crate::errors::{RunError, status_by};
 use alg_registry::RegLog;
 use board::BoardLog;
-use command_line::{Mode, parse_words};
+use crate::load::run_load;
+use command_line::{LoadOptions, Mode, parse_words};
 use crew::Gate;
 use kc_base::{Bytes, Sink, Source, read_input};
 use std::alloc::{AllocError, Global};
@@ -58,6 +60,18 @@ fn workers_for(alloc: Global, words: &[String]) -> Result<u32, RunError>
         return Err(RunError::Usage);
     }
     Ok(options.workers)
+}
+
+// The load that the words ask for, where that is what they ask for.
+fn load_for(alloc: Global, words: &[String]) -> Result<Option<LoadOptions>, RunError>
+    ensures asked { IfOk result (λ load. load_asked (map string_bytes words.now) ≡ load) }
+    ensures bounds { IfOk result (λ load. IfSome load (λ options. (options.workers ≤ 16) × (options.count ≤ 100000))) }
+    ensures refused { IfErr result (λ e. (e ≡ RunError.NoMemory) ⊎ ((e ≡ RunError.Usage) × (load_asked (map string_bytes words.now) ≡ None) × (workers_asked (map string_bytes words.now) ≡ None))) }
+{
+    match parse_words(alloc, words)? {
+        Mode::Load(options) => Ok(Some(options)),
+        Mode::Script(_) => Ok(None),
+    }
 }
 
 // A buffer. Its length is a parameter, so that no proof counts it out.
@@ -154,6 +168,11 @@ pub fn run<S: Source, K: Sink, G: Gate + Sync, R: Threads + Wait + Sync>(
     ensures complete { IsSome (workers_asked (map string_bytes words.now)) → ¬ (Rose (S.faults src.old) (S.faults src.new)) → ¬ (Rose (K.faults out.old) (K.faults out.new))
         → IfSome (S.left src.old) (λ script. length script ≤ 2 ^ 28 → (result.status ≤ 1) ⊎ (result.status ≡ 5)) }
 {
+    match load_for(alloc, words) {
+        Ok(Some(options)) => return outcome_of(run_load(rt, alloc, &options, gate, out)),
+        Ok(None) => {}
+        Err(error) => return outcome_of(Ran::not_at_all(alloc, error)),
+    }
     let workers = match workers_for(alloc, words) {
         Ok(workers) => workers,
         Err(error) => return outcome_of(Ran::not_at_all(alloc, error)),
