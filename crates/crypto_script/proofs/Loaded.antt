@@ -15,7 +15,7 @@ use Rattle.dialogues.specs.Turns.{text_in}
 use Rattle.dialogues.specs.Walk.{start}
 use Rattle.kc_base.specs.declared.transfer.SinkError.{SinkError}
 use Rattle.kc_base.specs.declared.transfer.SinkError.TheVariants.{NoMemory}
-use Rattle.load_mode.specs.Requests.{digest_of, load_requests}
+use Rattle.load_mode.specs.Requests.{digest_of, line_of, load_line, load_requests}
 use Rattle.load_mode.specs.Turns.{IsLoadTurn, AreLoaded, LoadsComeTo}
 use Rattle.script_session.specs.Ending.{EndsShut}
 use Rattle.script_session.specs.Holding.{HasSeenMore}
@@ -141,3 +141,9 @@ module _ (crew : CrewLaws) {F : Type 0} (workers seed count : ℕ) (first p q l 
         by : (o : Result (List ℕ) F) → IfOk o (LoadEnds workers seed count q) → OnOk o (ShutLast b)
         by (Ok digest) ends = loaded-last legal_board digest ends
         by (Err e) ends = tt
+
+-- ---- its line
+
+pub line-text : {F : Type 0} (seed count : ℕ) (digest : Result (List ℕ) F) (text : List ℕ) → IfOk digest (λ d. d ≡ digest_of (load_requests seed count)) → (d : List ℕ) × (digest ≡ Ok d) × (text ≡ line_of count d) → text ≡ load_line seed count
+unfolding load_line
+line-text seed count digest text right made = made.2 ∙ ap (line_of count) (subst (λ r. IfOk r (λ d. d ≡ digest_of (load_requests seed count))) made.1 right)

@@ -8,11 +8,6 @@ use Rattle.alg_registry.specs.Rows.{caller_of as reg_caller}
 use Rattle.board.specs.declared.entry.BoardEntry.{BoardEntry}
 use Rattle.board.specs.Entries.{caller_of as board_caller}
 use Rattle.board.specs.Legal.{is_shut}
-use Rattle.command_line.specs.CommandLine.{mode_of}
-use Rattle.command_line.specs.declared.errors.CommandLineError.{CommandLineError}
-use Rattle.command_line.specs.declared.mode.LoadOptions.{LoadOptions}
-use Rattle.command_line.specs.declared.mode.Mode.{Mode}
-use Rattle.command_line.specs.declared.mode.Mode.TheVariants.{Script, Load}
 use Rattle.crew.specs.declared.passes.Passes.{Passes}
 use Rattle.dialogues.specs.BoardCalls.{BoardCall, board_calls}
 use Rattle.dialogues.specs.Dialogues.{Dialogue, followed}
@@ -29,17 +24,6 @@ use Rattle.turn_lock.specs.Meeting.{IsOwn}
 use Rattle.turn_lock.specs.Passes.{knows}
 use Rattle.turn_lock.specs.Turns.{Known}
 use Rattle.crypto_script.specs.Runs.{OthersFollow, IsShutIn}
-
--- ---- words
-
-abbrev pub load_of_mode : Result Mode CommandLineError → Option LoadOptions
-load_of_mode (Ok (Script options)) = None
-load_of_mode (Ok (Load options)) = Some options
-load_of_mode (Err error) = None
-
--- the load that the words ask for, where that is what they ask for
-unfoldable pub load_asked : List (List ℕ) → Option LoadOptions
-load_asked words = load_of_mode (mode_of words)
 
 -- ---- a session that holds it
 
