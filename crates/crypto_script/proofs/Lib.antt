@@ -5,3 +5,4 @@ pub mod Asking
 pub mod Finishing
 pub mod LoadLines
 pub mod Loaded
+pub mod Stopping

@@ -1,9 +1,9 @@
 //! Whole loads. Each line is that of tools/load-line, which takes nothing of the program.
 
 use crate::program::run;
+use crate::tests::bytes_of;
 use crew::NoGate;
 use kc_base::{MemSink, SureSink, SureSource};
-use crate::tests::bytes_of;
 use std::alloc::{AllocError, Global};
 use std::process::Abort;
 use std::sync::Wait;

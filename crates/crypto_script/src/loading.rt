@@ -81,10 +81,50 @@ fn hold_opened<G: Gate, R: Threads + Wait + Sync>(
     ensures ready { OnOk result (IsReady registry.now board.now session.new) }
     ensures goes_on { GoesOn session.old session.new }
 {
-    hold_line(rt, alloc, board, registry, gate, session, hasher, 0, &lines.make_a)?;
-    hold_line(rt, alloc, board, registry, gate, session, hasher, 1, &lines.key_a)?;
-    hold_line(rt, alloc, board, registry, gate, session, hasher, 2, &lines.make_g)?;
-    hold_line(rt, alloc, board, registry, gate, session, hasher, 3, &lines.key_g)?;
+    hold_line(
+        rt,
+        alloc,
+        board,
+        registry,
+        gate,
+        session,
+        hasher,
+        0,
+        &lines.make_a,
+    )?;
+    hold_line(
+        rt,
+        alloc,
+        board,
+        registry,
+        gate,
+        session,
+        hasher,
+        1,
+        &lines.key_a,
+    )?;
+    hold_line(
+        rt,
+        alloc,
+        board,
+        registry,
+        gate,
+        session,
+        hasher,
+        2,
+        &lines.make_g,
+    )?;
+    hold_line(
+        rt,
+        alloc,
+        board,
+        registry,
+        gate,
+        session,
+        hasher,
+        3,
+        &lines.key_g,
+    )?;
     Ok(())
 }
 
@@ -126,7 +166,9 @@ fn hold_request<G: Gate, R: Threads + Wait + Sync>(
     ensures goes_on { GoesOn session.old session.new }
 {
     let line = draw_request(alloc, generator, number)?;
-    hold_line(rt, alloc, board, registry, gate, session, hasher, number, &line)
+    hold_line(
+        rt, alloc, board, registry, gate, session, hasher, number, &line,
+    )
 }
 
 // Hands the requests in.
@@ -149,7 +191,15 @@ fn hold_requests<G: Gate, R: Threads + Wait + Sync>(
     let mut generator = Generator::new(seed);
     for number in 0..count {
         hold_request(
-            rt, alloc, board, registry, gate, session, hasher, &mut generator, number,
+            rt,
+            alloc,
+            board,
+            registry,
+            gate,
+            session,
+            hasher,
+            &mut generator,
+            number,
         )?;
     }
     Ok(())
@@ -205,7 +255,17 @@ pub fn hold_load<G: Gate, R: Threads + Wait + Sync>(
     laws();
     let mut hasher = Sha256::new();
     hold_opening(rt, alloc, board, registry, gate, session, &mut hasher)?;
-    hold_requests(rt, alloc, board, registry, gate, session, &mut hasher, seed, count)?;
+    hold_requests(
+        rt,
+        alloc,
+        board,
+        registry,
+        gate,
+        session,
+        &mut hasher,
+        seed,
+        count,
+    )?;
     hold_end(rt, alloc, board, registry, gate, session, &mut hasher)?;
     Ok(hasher.finalize())
 }

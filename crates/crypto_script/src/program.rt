@@ -21,9 +21,9 @@ ghost use Rattle.crypto_script.specs.Text.{is_malformed};
 
 use crate::beside::{Ran, run_script};
 use crate::errors::{RunError, status_by};
+use crate::load::run_load;
 use alg_registry::RegLog;
 use board::BoardLog;
-use crate::load::run_load;
 use command_line::{LoadOptions, Mode, parse_words};
 use crew::Gate;
 use kc_base::{Bytes, Sink, Source, read_input};

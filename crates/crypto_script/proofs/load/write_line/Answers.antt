@@ -20,8 +20,7 @@ returns-clause-line g c =
 pub returns-clause-front : goal.returns-clause-front
 returns-clause-front g c =
     let held = g.K.Sink.held in
-    let o = c.args.options.now in
-    (
+    let o = c.args.options.now in (
       load_line o.seed o.count,
       ([], append-nil (load_line o.seed o.count)),
       subst (Appends (held c.args.out.now) (held c.write_piece.new.out)) (c.as_slice.ensures ∙ line-text o.seed o.count c.args.digest c.in_ok-text.text c.requires c.in_ok-text.ensures) c.in_ok-write_piece.ensures.bytes,
