@@ -1,30 +1,27 @@
 -- A load, line by line, and what it leaves.
-use Rattle.std.proofs.Common.{◌≡◌, ℕ, suc, ◌+◌, ◌-◌, ◌<◌, ◌≤◌, List, [], ◌∷◌, ◌++◌, map, Option, Some, None, refl, sym, ap, subst, ◌∙◌, append_assoc, append-nil, arith}
+use Rattle.std.proofs.Common.{◌≡◌, ℕ, suc, ◌+◌, ◌-◌, ◌<◌, List, [], ◌∷◌, ◌++◌, map, Some, None, refl, sym, ap, subst, ◌∙◌, append_assoc, append-nil, arith}
 use Rattle.std.specs.List.{flat_map}
 use Rattle.std.proofs.lemmas.Grind.{flat_map-append}
 use Rattle.sha2.specs.Sha256.{sha256}
 use Rattle.sha2.specs.Hashers.{Holds256}
 use Rattle.sha2.specs.declared.Sha256.{Sha256}
 use Rattle.alg_registry.specs.declared.entry.RegEntry.{RegEntry}
-use Rattle.alg_registry.specs.Rows.{caller_of as reg_caller}
 use Rattle.board.specs.declared.entry.BoardEntry.{BoardEntry}
-use Rattle.board.specs.Entries.{caller_of as board_caller}
-use Rattle.dialogues.specs.BoardCalls.{BoardCall, board_calls}
+use Rattle.dialogues.specs.BoardCalls.{board_calls}
 use Rattle.dialogues.specs.Dialogues.{Dialogue, Ends, followed}
 use Rattle.dialogues.specs.InTurn.{AreInTurnBy}
 use Rattle.dialogues.specs.Lines.{line_dialogue, lines_dialogue}
 use Rattle.dialogues.specs.Piping.{end}
-use Rattle.dialogues.specs.RegistryCalls.{RegCall, reg_calls, AllSettled}
+use Rattle.dialogues.specs.RegistryCalls.{reg_calls, AllSettled}
 use Rattle.dialogues.specs.Turns.{Turn, IsTurn, ended, joined, turn_of}
-use Rattle.dialogues.specs.Walk.{Walk, start}
-use Rattle.dialogues.specs.Widths.{width_of}
+use Rattle.dialogues.specs.Walk.{Walk}
 use Rattle.load_mode.specs.Requests.{drawn_request, drawn_requests, asked_for, asked_from}
 use Rattle.load_mode.specs.Lines.{opening, request_line, request_lines, load_dialogue}
-use Rattle.load_mode.specs.Turns.{bytes_told, IsLoadTurn}
+use Rattle.load_mode.specs.Turns.{bytes_told}
 use Rattle.reply_text.specs.declared.answers.Answer.{Answer}
 use Rattle.script_session.specs.Ending.{EndsWith}
-use Rattle.script_session.specs.Holding.{HoldsBy, Stops, SeesOn}
-use Rattle.script_session.specs.States.{State, SameLocks}
+use Rattle.script_session.specs.Holding.{HoldsBy, Stops}
+use Rattle.script_session.specs.States.{State}
 use Rattle.script_text.specs.declared.commands.Line.{Line}
 use Rattle.session_calls.specs.Asking.{AskedBy}
 use Rattle.session_calls.specs.Passes.{known}
@@ -33,7 +30,7 @@ use Rattle.transforms.specs.declared.ask.Ask.{Ask}
 use Rattle.turn_lock.specs.Turns.{Known}
 use Rattle.crypto_script.specs.Laws.{Laws}
 use Rattle.crypto_script.specs.Loads.{IsHeld, HoldsOn, IsLoadTurnAfter}
-use Rattle.crypto_script.specs.Runs.{GoesOn, IsFresh, OthersFollow}
+use Rattle.crypto_script.specs.Runs.{GoesOn, IsFresh}
 use Rattle.crypto_script.proofs.Following.{reg_calls-same, board_calls-same, in_turn-on, followed-ends}
 
 -- ---- a session goes on

@@ -1,5 +1,5 @@
 -- What a load's part leaves beside workers.
-use Rattle.std.proofs.Common.{◌≡◌, ℕ, ◌≤◌, Bool, true, List, [], ◌++◌, refl, sym, ap, subst, ◌∙◌, arith, Some, None}
+use Rattle.std.proofs.Common.{◌≡◌, ℕ, ◌≤◌, Bool, true, List, [], refl, sym, ap, subst, ◌∙◌, Some, None}
 use Rattle.std.specs.Prelude.{OnOk, IfOk, All, Result, Ok, Err}
 use Rattle.alg_registry.specs.declared.entry.RegEntry.{RegEntry}
 use Rattle.alg_registry.specs.Legal.{LegalReg}
@@ -26,7 +26,7 @@ use Rattle.templates.specs.Table.{table}
 use Rattle.transforms.specs.declared.ask.Ask.{Ask}
 use Rattle.turn_lock.specs.Meeting.{IsOwn}
 use Rattle.turn_lock.specs.Passes.{knows}
-use Rattle.turn_lock.specs.Turns.{Known, Shows, newcomer}
+use Rattle.turn_lock.specs.Turns.{Shows, newcomer}
 use Rattle.crypto_script.specs.Endings.{EndsShut as ShutLast}
 use Rattle.crypto_script.specs.Laws.{CrewLaws}
 use Rattle.crypto_script.specs.Loads.{Loads, LoadEnds, IsLoadTurnAfter}

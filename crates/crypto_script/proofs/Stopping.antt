@@ -1,5 +1,5 @@
 -- Runs that stop before their end.
-use Rattle.std.proofs.Common.{◌≡◌, ℕ, ◌^◌, ◌<◌, ◌≤◌, ◌⊎◌, inl, inr, Bool, true, false, List, [], ◌++◌, length, Option, Some, None, refl, ap, ◌∙◌, arith, IfSome, length-append}
+use Rattle.std.proofs.Common.{◌≡◌, ℕ, ◌^◌, ◌<◌, ◌≤◌, ◌⊎◌, inl, inr, Bool, true, false, List, [], length, Option, Some, None, refl, ap, ◌∙◌, arith, IfSome, length-append}
 use Rattle.std.specs.Prelude.{Result, Ok, Err, IfErr, IsErrOf}
 use Rattle.std.specs.Io.KnownBytes.{Consumes}
 use Rattle.crypto_script.specs.declared.errors.RunError.{RunError}

@@ -1,5 +1,5 @@
 -- A load as it is held by a session, line by line, and what its part leaves.
-use Rattle.std.specs.Prelude.{◌≡◌, ℕ, Bool, true, List, [], ◌++◌, length, Option, Some, None, Result, Ok, Err, IfOk}
+use Rattle.std.specs.Prelude.{◌≡◌, ℕ, true, List, [], ◌++◌, Result, IfOk}
 use Rattle.std.specs.List.{flat_map}
 use Rattle.sha2.specs.declared.Sha256.{Sha256}
 use Rattle.sha2.specs.Hashers.{Holds256}
@@ -10,7 +10,7 @@ use Rattle.board.specs.Entries.{caller_of as board_caller}
 use Rattle.board.specs.Legal.{is_shut}
 use Rattle.crew.specs.declared.passes.Passes.{Passes}
 use Rattle.dialogues.specs.BoardCalls.{BoardCall, board_calls}
-use Rattle.dialogues.specs.Dialogues.{Dialogue, followed}
+use Rattle.dialogues.specs.Dialogues.{Dialogue}
 use Rattle.dialogues.specs.InTurn.{AreInTurnBy}
 use Rattle.dialogues.specs.RegistryCalls.{RegCall, reg_calls, AllSettled}
 use Rattle.dialogues.specs.Turns.{Turn, turn_of, joined}
