@@ -1,8 +1,8 @@
 -- How a script's part begins and ends beside workers.
-use Rattle.std.proofs.Common.{◌≡◌, ℕ, ◌+◌, ◌≤◌, ◌⊎◌, Bool, true, false, ◌&&◌, List, [], ◌∷◌, ◌++◌, Some, refl, sym, ap, subst, ◌∙◌, append_assoc, arith, inl, inr}
-use Rattle.std.specs.Prelude.{◌==◌, if◌then◌else◌, Result, Ok, Err, Option, OnOk, IfOk, All}
+use Rattle.std.proofs.Common.{◌≡◌, ℕ, zero, ◌+◌, ◌<◌, ◌≤◌, ◌⊎◌, Bool, true, false, ◌||◌, ◌&&◌, List, [], ◌∷◌, ◌++◌, Some, refl, sym, ap, subst, ◌∙◌, append-nil, append_assoc, arith, inl, inr}
+use Rattle.std.specs.Prelude.{◌==◌, if◌then◌else◌, filter, Result, Ok, Err, Option, OnOk, IfOk, All}
 use Rattle.std.specs.List.{list_all, list_any}
-use Rattle.std.proofs.lemmas.Bool.{eq-eqb, or_left, or_right}
+use Rattle.std.proofs.lemmas.Bool.{eq-eqb, or_left, or_right, and_parts}
 use Rattle.std.proofs.lemmas.List.Elements.{filter-append, All-nil, All-cons, All-weaker}
 use Rattle.std.proofs.lemmas.List.Folds.{list_any-append}
 use Rattle.alg_registry.specs.declared.entry.RegEntry.{RegEntry}
@@ -11,7 +11,7 @@ use Rattle.alg_registry.specs.Made.{Made}
 use Rattle.alg_registry.specs.Rows.{caller_of as reg_caller}
 use Rattle.board.specs.declared.entry.BoardEntry.{BoardEntry}
 use Rattle.board.specs.declared.entry.BoardEntry.TheVariants.{Shut}
-use Rattle.board.specs.Entries.{entries_of, caller_of as board_caller}
+use Rattle.board.specs.Entries.{entries_of, is_closed, caller_of as board_caller}
 use Rattle.board.specs.Legal.{MayManage, AreRightAfter, LegalBoard, is_shut, is_shut_entry}
 use Rattle.board.specs.Staying.{is_work}
 use Rattle.crew.specs.declared.passes.Passes.{Passes}
@@ -19,7 +19,7 @@ use Rattle.crew.specs.Both.{ArePassesOn, HaveNext, CrewedOnBoth}
 use Rattle.crew.specs.Crews.{Crewed, with_next}
 use Rattle.dialogues.specs.RegistryCalls.{reg_calls}
 use Rattle.dialogues.specs.Texts.{IsText, IsFrontText}
-use Rattle.dialogues.specs.Walk.{start}
+use Rattle.dialogues.specs.Walk.{Walk, start}
 use Rattle.kc_base.specs.declared.transfer.SinkError.{SinkError}
 use Rattle.script_session.specs.Ending.{EndsShut}
 use Rattle.script_session.specs.Holding.{HasSeenMore}
@@ -31,7 +31,9 @@ use Rattle.settled_scripts.specs.Settled.{IsSettled, plain_text}
 use Rattle.templates.specs.Table.{table}
 use Rattle.session_calls.specs.Passes.{known, RegPass, BoardPass}
 use Rattle.shared_board.specs.declared.shared.SharedBoard.{SharedBoard}
+use Rattle.shared_board.specs.Passes.{IsPassOn}
 use Rattle.shared_registry.specs.declared.sharing.SharedRegistry.{SharedRegistry}
+use Rattle.shared_registry.specs.Passes.{IsPassOn as IsRegPassOn}
 use Rattle.transforms.specs.declared.ask.Ask.{Ask}
 use Rattle.transforms.specs.declared.request.Finished.{Finished}
 use Rattle.turn_lock.specs.Meeting.{AtTurn, Enters, Leaves, IsOwn}

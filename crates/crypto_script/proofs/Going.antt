@@ -8,7 +8,7 @@ use Rattle.alg_registry.specs.declared.entry.RegEntry.{RegEntry}
 use Rattle.alg_registry.specs.Rows.{caller_of as reg_caller}
 use Rattle.board.specs.declared.entry.BoardEntry.{BoardEntry}
 use Rattle.dialogues.specs.BoardCalls.{BoardCall, board_calls, board_calls_from}
-use Rattle.dialogues.specs.Dialogues.{Dialogue, Ends as Done}
+use Rattle.dialogues.specs.Dialogues.{Dialogue, Ends as Done, followed}
 use Rattle.dialogues.specs.InTurn.{AreInTurnBy}
 use Rattle.dialogues.specs.Leading.{Leads}
 use Rattle.dialogues.specs.Lines.{line_dialogue, script}
@@ -16,13 +16,13 @@ use Rattle.dialogues.specs.Piping.{end}
 use Rattle.dialogues.specs.RegistryCalls.{RegCall, reg_calls, reg_calls_from, AllSettled}
 use Rattle.dialogues.specs.Texts.{IsText, IsFrontText, turn_in}
 use Rattle.dialogues.specs.Turns.{Turn, IsTurn, ended, joined, text_in, turn_of}
-use Rattle.dialogues.specs.Walk.{start}
+use Rattle.dialogues.specs.Walk.{Walk, start}
 use Rattle.dialogues.specs.Widths.{width_of, widest}
 use Rattle.kc_base.specs.Streams.{AppendsFront, IsPrefix}
 use Rattle.reply_text.specs.Answers.{text_of}
 use Rattle.script_session.specs.Ending.{AnswersEnd}
 use Rattle.script_session.specs.Running.{IsReady, Replies}
-use Rattle.script_session.specs.States.{State}
+use Rattle.script_session.specs.States.{State, SameLocks}
 use Rattle.script_text.specs.declared.commands.Line.{Line}
 use Rattle.script_text.specs.Script.{line_of, script_of}
 use Rattle.script_text.specs.Lines.{lines_of}
@@ -34,9 +34,9 @@ use Rattle.shared_registry.specs.declared.sharing.SharedRegistry.{SharedRegistry
 use Rattle.transforms.specs.declared.ask.Ask.{Ask}
 use Rattle.transforms.specs.declared.request.Finished.{Finished}
 use Rattle.turn_lock.specs.Meeting.{IsOwn}
-use Rattle.turn_lock.specs.Turns.{Known}
+use Rattle.turn_lock.specs.Turns.{Known, StartsWith}
 use Rattle.crypto_script.specs.Laws.{Laws}
-use Rattle.script_session.specs.Holding.{HasSeenMore}
+use Rattle.script_session.specs.Holding.{HasSeenMore, Stops}
 use Rattle.crypto_script.specs.Runs.{Gains, GoesOn, IsFresh, Writes, Breaks, IsTextAfter, IsFrontAfter, InTurnAfter}
 use Rattle.crypto_script.specs.Text.{is_malformed}
 use Rattle.crypto_script.proofs.Following.{starts-trans, sees-same, sees-then, reg_calls-on, board_calls-on, reg_calls-same, board_calls-same, in_turn-on, followed-ends}

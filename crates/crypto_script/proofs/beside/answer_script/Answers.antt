@@ -1,3 +1,4 @@
+use Rattle.std.proofs.Common.{sym, ◌∙◌}
 use Rattle.script_text.specs.Script.{script_of}
 use Rattle.crypto_script.proofs.Finishing.{new-ready, answered}
 use Rattle.crypto_script.proofs.beside.answer_script.Goals as goal
