@@ -143,11 +143,11 @@ calls-shut laws k l first alone = by-shut alone.2
 
 -- ---- what a script's part leaves
 
-ends-shut : (k : Known (BoardEntry Ask)) → EndsShut k → is_shut k.seen ≡ true
+pub ends-shut : (k : Known (BoardEntry Ask)) → EndsShut k → is_shut k.seen ≡ true
 ends-shut k e = ap (λ h. is_shut h) e.shut ∙ (list_any-append is_shut_entry e.before (Shut k.number ∷ []) ∙ or_right (is_shut e.before) true refl)
 
 -- what others add leaves the shut where it is
-shut-in : (k l : Known (BoardEntry Ask)) → k.number ≡ 0 → EndsShut k → OthersFollow board_caller k l.seen → IsShutIn l.seen
+pub shut-in : (k l : Known (BoardEntry Ask)) → k.number ≡ 0 → EndsShut k → OthersFollow board_caller k l.seen → IsShutIn l.seen
 shut-in k l first e others = record {
   before = e.before;
   after = others.0;
@@ -352,7 +352,7 @@ module _ (laws : CrewLaws) (workers : ℕ) (left left' : Option (List ℕ)) (fir
       if_told (λ script. Gains held held' (IsFrontText workers (start 0) 0 (script_of script) r b)) left source.given
       (answers.front.0, answers.front.1 r b starts-registry starts-board, answers.front.2)
 
-  follow-board : OthersFollow board_caller (knows q.board) b
+  pub follow-board : OthersFollow board_caller (knows q.board) b
   follow-board = laws.board_ends is_work (knows first.board).next workers (knows q.board) (knows l.board) b answers.own crewed.board shows_b
 
   -- however the script's part ended, it shut the board
@@ -385,7 +385,7 @@ module _ (laws : CrewLaws) (workers : ℕ) (left left' : Option (List ℕ)) (fir
   )
 
   -- the shut is last
-  shut-ends : LegalBoard b → IsShutIn (knows q.board).seen → ShutLast b
+  pub shut-ends : LegalBoard b → IsShutIn (knows q.board).seen → ShutLast b
   shut-ends legal s =
       let later = s.after ++ follow-board.0 in
       let history : b ≡ s.before ++ Shut 0 ∷ later = follow-board.1 ∙ (ap (λ h. h ++ follow-board.0) s.history ∙ append_assoc s.before (Shut 0 ∷ s.after) follow-board.0) in
@@ -431,7 +431,7 @@ module _ (laws : CrewLaws) (workers : ℕ) (left left' : Option (List ℕ)) (fir
   pub whole-in_turn : LegalBoard b → OnOk result (IfSome left (λ script. InTurn (script_of script) r))
   whole-in_turn legal = on-ok _ result (λ e. if_told (λ script. InTurn (script_of script) r) left source.given (whole-on e legal).1) answers.ended
 
-  few-enough : workers ≤ 16 → All (λ e. reg_caller e ≤ 16) r × All (λ e. board_caller e ≤ 16) b
+  pub few-enough : workers ≤ 16 → All (λ e. reg_caller e ≤ 16) r × All (λ e. board_caller e ≤ 16) b
   few-enough few = (
     All-weaker (λ e. reg_caller e ≤ workers) (λ e. reg_caller e ≤ 16) (λ e le. omega arith) r few-callers.0,
     All-weaker (λ e. board_caller e ≤ workers) (λ e. board_caller e ≤ 16) (λ e le. omega arith) b few-callers.1,

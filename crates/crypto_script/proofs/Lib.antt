@@ -6,3 +6,6 @@ pub mod Exits
 pub mod Reaching
 pub mod Asking
 pub mod Finishing
+pub mod LoadLines
+pub mod Loaded
+pub mod Stopping

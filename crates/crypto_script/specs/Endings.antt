@@ -7,6 +7,7 @@ use Rattle.board.specs.declared.entry.BoardEntry.TheVariants.{Shut}
 use Rattle.board.specs.Entries.{caller_of as board_caller}
 use Rattle.command_line.specs.CommandLine.{mode_of}
 use Rattle.command_line.specs.declared.errors.CommandLineError.{CommandLineError}
+use Rattle.command_line.specs.declared.mode.LoadOptions.{LoadOptions}
 use Rattle.command_line.specs.declared.mode.Mode.{Mode}
 use Rattle.command_line.specs.declared.mode.Mode.TheVariants.{Script, Load}
 use Rattle.command_line.specs.declared.mode.ScriptOptions.{ScriptOptions}
@@ -28,9 +29,22 @@ workers_of_mode (Err error) = None
 unfoldable pub workers_asked : List (List ℕ) → Option ℕ
 workers_asked words = workers_of_mode (mode_of words)
 
--- and otherwise 0
+abbrev pub load_of_mode : Result Mode CommandLineError → Option LoadOptions
+load_of_mode (Ok (Script options)) = None
+load_of_mode (Ok (Load options)) = Some options
+load_of_mode (Err error) = None
+
+-- the load that the words ask for, where that is what they ask for
+unfoldable pub load_asked : List (List ℕ) → Option LoadOptions
+load_asked words = load_of_mode (mode_of words)
+
+abbrev pub workers_of_load : Option LoadOptions → ℕ
+workers_of_load (Some options) = options.workers
+workers_of_load None = 0
+
+-- beside how many workers the words ask for a script or a load: 0 where they ask for neither
 abbrev pub workers_in : List (List ℕ) → ℕ
-workers_in words = unwrap_or (workers_asked words) 0
+workers_in words = unwrap_or (workers_asked words) (workers_of_load (load_asked words))
 
 -- ---- histories
 

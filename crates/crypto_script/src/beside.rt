@@ -62,7 +62,7 @@ impl Ran {
 }
 
 // what a crew leaves
-fn crew_laws()
+pub fn crew_laws()
     ensures { CrewLaws }
 {
     crews_end::<RegEntry>();
@@ -73,7 +73,7 @@ fn crew_laws()
 }
 
 // Shuts the board if it isn't, so that the workers end.
-fn shut_board<R: Wait>(rt: &R, board: &SharedBoard<Job>, pass: BoardPass<Job>) -> BoardPass<Job>
+pub fn shut_board<R: Wait>(rt: &R, board: &SharedBoard<Job>, pass: BoardPass<Job>) -> BoardPass<Job>
     requires lock { IsPassOn board.now pass }
     requires first { (knows pass).number ≡ 0 }
     ensures lock { IsPassOn board.now result }

@@ -9,6 +9,10 @@ mod history_tests;
 #[cfg(test)]
 mod limit_tests;
 mod lines;
+mod load;
+#[cfg(test)]
+mod load_tests;
+mod loading;
 #[cfg(test)]
 mod pipeline_tests;
 mod program;

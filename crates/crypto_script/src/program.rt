@@ -2,7 +2,10 @@
 
 ghost use Rattle.std.specs.Prelude.{OnOk, ◌≡◌, ◌+◌, ◌-◌, ◌^◌, ◌<◌, ◌≤◌, ◌↔◌, ◌⊎◌, List, ℕ, [], Some, None, length, take, map, IfOk, IfErr, IfSome, IsErrOf, IsSome, IsTrue, string_bytes, true};
 ghost use Rattle.std.specs.List.{list_any};
-ghost use Rattle.kc_base.specs.Streams.{Rose};
+ghost use Rattle.std.specs.Io.KnownBytes.{Appends};
+ghost use Rattle.kc_base.specs.Streams.{AppendsFront, Rose};
+ghost use Rattle.load_mode.specs.Requests.{load_line};
+ghost use Rattle.load_mode.specs.Turns.{AreLoaded};
 ghost use Rattle.script_text.specs.Script.{script_of};
 ghost use Rattle.script_text.specs.Whole.{whole_script};
 ghost use Rattle.settled_scripts.specs.Settled.{IsSettled, plain_text};
@@ -13,16 +16,17 @@ ghost use Rattle.dialogues.specs.Texts.{IsText, IsFrontText};
 ghost use Rattle.dialogues.specs.Walk.{start};
 ghost use Rattle.templates.specs.Table.{table};
 ghost use Rattle.crypto_script.specs.Answered.{Gives, AreAnswered, BeginsWithText};
-ghost use Rattle.crypto_script.specs.Endings.{workers_asked, workers_in, AreCallers, EndsShut};
+ghost use Rattle.crypto_script.specs.Endings.{workers_asked, load_asked, workers_in, AreCallers, EndsShut};
 ghost use Rattle.crypto_script.specs.Runs.{ReadsUpTo, Gains, InTurn};
 ghost use Rattle.crypto_script.specs.Statuses.{status_of};
 ghost use Rattle.crypto_script.specs.Text.{is_malformed};
 
 use crate::beside::{Ran, run_script};
 use crate::errors::{RunError, status_by};
+use crate::load::run_load;
 use alg_registry::RegLog;
 use board::BoardLog;
-use command_line::{Mode, parse_words};
+use command_line::{LoadOptions, Mode, parse_words};
 use crew::Gate;
 use kc_base::{Sink, Source};
 use std::alloc::Global;
@@ -41,7 +45,7 @@ pub struct Outcome {
     pub board: BoardLog<Ask>,
 }
 
-// Beside how many workers the words ask for a script to be run. A trace and a load are not answered yet.
+// Beside how many workers the words ask for a script to be run. A trace is not answered yet.
 fn workers_for(alloc: Global, words: &[String]) -> Result<u32, RunError>
     ensures asked { IfOk result (λ workers. workers_asked (map string_bytes words.now) ≡ Some workers) }
     ensures few { IfOk result (λ workers. workers ≤ 16) }
@@ -54,6 +58,20 @@ fn workers_for(alloc: Global, words: &[String]) -> Result<u32, RunError>
         return Err(RunError::Usage);
     }
     Ok(options.workers)
+}
+
+// The load that the words ask for, where that is what they ask for.
+fn load_for(alloc: Global, words: &[String]) -> Result<Option<LoadOptions>, RunError>
+    ensures asked { IfOk result (λ load. load_asked (map string_bytes words.now) ≡ load) }
+    ensures no_script { IfOk result (λ load. IsSome load → workers_asked (map string_bytes words.now) ≡ None) }
+    ensures few { IfOk result (λ load. IfSome load (λ options. options.workers ≤ 16)) }
+    ensures count { IfOk result (λ load. IfSome load (λ options. options.count ≤ 100000)) }
+    ensures refused { IfErr result (λ e. (e ≡ RunError.NoMemory) ⊎ ((e ≡ RunError.Usage) × (workers_asked (map string_bytes words.now) ≡ None) × (load_asked (map string_bytes words.now) ≡ None))) }
+{
+    match parse_words(alloc, words)? {
+        Mode::Load(options) => Ok(Some(options)),
+        Mode::Script(_) => Ok(None),
+    }
 }
 
 // The outcome of what was run.
@@ -75,14 +93,15 @@ fn outcome_of(ran: Ran) -> Outcome
 }
 
 /// Does all that the program does: reads a script from the source, and writes the answers of its lines, each in one
-/// piece, to the sink. It reads at most 65,536 bytes at once, and only where each whole line of what it has is answered. The words are the program's arguments without its name. Beside the script stand as many workers as the
+/// piece, to the sink; or makes the requests of a load, and writes its line. It reads at most 65,536 bytes at once, and only where each
+/// whole line of what it has is answered. The words are the program's arguments without its name. Beside the script stand as many workers as the
 /// words ask for, which do its jobs and build its instances; they pass the gate with each job.
 ///
 /// | status | comes |
 /// |---|---|
-/// | 0 | the run reached the end, and no line is malformed |
+/// | 0 | the run reached the end, and no line is malformed; or the load's line is written |
 /// | 1 | the run reached the end, and a line is malformed |
-/// | 2 | the words are no command, or ask for what isn't there yet: a trace, or a load |
+/// | 2 | the words are no command, or ask for a trace, which isn't there yet |
 /// | 3, 4 | the source, the sink failed |
 /// | 5 | memory is wanting |
 /// | 6 | the source has more than 2^28 bytes |
@@ -97,17 +116,26 @@ pub fn run<S: Source, K: Sink, G: Gate + Sync, R: Threads + Wait + Sync>(
 ) -> Outcome
     // A run that reaches the end has read the script whole, written its text, and shut the board last. The script has called the
     // registry in turn, with as many looks at once as a probe has names.
-    ensures ended { result.status ≤ 1 → IfSome (S.left src.old) (λ _. S.left src.new ≡ Some []) }
-    ensures whole { result.status ≤ 1 → IfSome (S.left src.old) (λ script. Gains (K.held out.old) (K.held out.new) (IsText (workers_in (map string_bytes words.now)) (start 0) 0 (script_of script) result.registry result.board)) }
-    ensures shut { result.status ≤ 1 → EndsShut result.board }
-    ensures in_turn { result.status ≤ 1 → IfSome (S.left src.old) (λ script. InTurn (script_of script) result.registry) }
-    ensures malformed { result.status ≤ 1 → IfSome (S.left src.old) (λ script. (result.status ≡ 1) ↔ IsTrue (list_any is_malformed (script_of script))) }
+    ensures ended { IsSome (workers_asked (map string_bytes words.now)) → result.status ≤ 1 → IfSome (S.left src.old) (λ _. S.left src.new ≡ Some []) }
+    ensures whole { IsSome (workers_asked (map string_bytes words.now)) → result.status ≤ 1 → IfSome (S.left src.old) (λ script. Gains (K.held out.old) (K.held out.new) (IsText (workers_in (map string_bytes words.now)) (start 0) 0 (script_of script) result.registry result.board)) }
+    ensures shut { IsSome (workers_asked (map string_bytes words.now)) → result.status ≤ 1 → EndsShut result.board }
+    ensures in_turn { IsSome (workers_asked (map string_bytes words.now)) → result.status ≤ 1 → IfSome (S.left src.old) (λ script. InTurn (script_of script) result.registry) }
+    ensures malformed { IsSome (workers_asked (map string_bytes words.now)) → result.status ≤ 1 → IfSome (S.left src.old) (λ script. (result.status ≡ 1) ↔ IsTrue (list_any is_malformed (script_of script))) }
 
     // What a settled script writes is a function of its lines alone: the same beside every number of workers.
-    ensures settled { result.status ≤ 1 → IfSome (S.left src.old) (λ script. IsSettled (script_of script) → Gains (K.held out.old) (K.held out.new) (λ text. text ≡ plain_text (script_of script))) }
+    ensures settled { IsSome (workers_asked (map string_bytes words.now)) → result.status ≤ 1 → IfSome (S.left src.old) (λ script. IsSettled (script_of script) → Gains (K.held out.old) (K.held out.new) (λ text. text ≡ plain_text (script_of script))) }
 
     // However a run ends, what it has written is a front of the text.
-    ensures front { IfSome (S.left src.old) (λ script. Gains (K.held out.old) (K.held out.new) (IsFrontText (workers_in (map string_bytes words.now)) (start 0) 0 (script_of script) result.registry result.board)) }
+    ensures front { IsSome (workers_asked (map string_bytes words.now)) → IfSome (S.left src.old) (λ script. Gains (K.held out.old) (K.held out.new) (IsFrontText (workers_in (map string_bytes words.now)) (start 0) 0 (script_of script) result.registry result.board)) }
+
+    // A load that reaches the end has written its line, pads 0 and 1 have accepted its requests and handed each out, and the board
+    // was shut last. It reads nothing, and what it has written is a front of its line however it ends.
+    ensures load_line { IfSome (load_asked (map string_bytes words.now)) (λ load. result.status ≡ 0 → Appends (K.held out.old) (K.held out.new) (load_line load.seed load.count)) }
+    ensures loaded { IfSome (load_asked (map string_bytes words.now)) (λ load. result.status ≡ 0 → AreLoaded load.seed load.count result.board) }
+    ensures load_shut { IsSome (load_asked (map string_bytes words.now)) → result.status ≡ 0 → EndsShut result.board }
+    ensures load_front { IfSome (load_asked (map string_bytes words.now)) (λ load. AppendsFront (K.held out.old) (K.held out.new) (load_line load.seed load.count)) }
+    ensures load_source { IsSome (load_asked (map string_bytes words.now)) → src.new ≡ src.old }
+    ensures load_status { IsSome (load_asked (map string_bytes words.now)) → (result.status ≡ 0) ⊎ (result.status ≡ 4) ⊎ (result.status ≡ 5) }
 
     // Where the source fails, the lines whose line feed stood in what it gave are answered whole, and nothing else is written.
     // Where it gives too much, so are those of a front that is at most a read shorter than the limit. Where the sink fails, it has
@@ -120,7 +148,7 @@ pub fn run<S: Source, K: Sink, G: Gate + Sync, R: Threads + Wait + Sync>(
         (BeginsWithText (workers_in (map string_bytes words.now)) (whole_script (take (length given - 65536) given)) result.registry result.board)) }
 
     // Whatever ended the run, each entry of a history is right for those before it, each instance is what its template makes of
-    // its children, and only the script and the workers made entries.
+    // its children, and only the script, or the load, and the workers made entries.
     ensures legal { LegalReg result.registry }
     ensures legal_board { LegalBoard result.board }
     ensures faithful { Made table result.registry }
@@ -130,9 +158,9 @@ pub fn run<S: Source, K: Sink, G: Gate + Sync, R: Threads + Wait + Sync>(
     ensures closed { (result.board ≡ []) ⊎ (is_shut result.board ≡ true) }
 
     // Each other status has its cause. That of 5 is want of memory.
-    ensures usage { result.status ≡ 2 → workers_asked (map string_bytes words.now) ≡ None }
-    ensures refused { workers_asked (map string_bytes words.now) ≡ None → (result.status ≡ 2) ⊎ (result.status ≡ 5) }
-    ensures untouched { workers_asked (map string_bytes words.now) ≡ None → (src.new ≡ src.old) × (out.new ≡ out.old) × (result.registry ≡ []) × (result.board ≡ []) }
+    ensures usage { result.status ≡ 2 → (workers_asked (map string_bytes words.now) ≡ None) × (load_asked (map string_bytes words.now) ≡ None) }
+    ensures refused { workers_asked (map string_bytes words.now) ≡ None → load_asked (map string_bytes words.now) ≡ None → (result.status ≡ 2) ⊎ (result.status ≡ 5) }
+    ensures untouched { workers_asked (map string_bytes words.now) ≡ None → load_asked (map string_bytes words.now) ≡ None → (src.new ≡ src.old) × (out.new ≡ out.old) × (result.registry ≡ []) × (result.board ≡ []) }
     ensures read_fault { result.status ≡ 3 → Rose (S.faults src.old) (S.faults src.new) }
     ensures write_fault { result.status ≡ 4 → Rose (K.faults out.old) (K.faults out.new) }
     ensures too_long { ReadsUpTo (S.left src.old) (S.left src.new) (result.status ≡ 6) }
@@ -142,6 +170,11 @@ pub fn run<S: Source, K: Sink, G: Gate + Sync, R: Threads + Wait + Sync>(
     ensures complete { IsSome (workers_asked (map string_bytes words.now)) → ¬ (Rose (S.faults src.old) (S.faults src.new)) → ¬ (Rose (K.faults out.old) (K.faults out.new))
         → IfSome (S.left src.old) (λ script. length script ≤ 2 ^ 28 → (result.status ≤ 1) ⊎ (result.status ≡ 5)) }
 {
+    match load_for(alloc, words) {
+        Ok(Some(options)) => return outcome_of(run_load(rt, alloc, &options, gate, out)),
+        Ok(None) => {}
+        Err(error) => return outcome_of(Ran::not_at_all(alloc, error)),
+    }
     let workers = match workers_for(alloc, words) {
         Ok(workers) => workers,
         Err(error) => return outcome_of(Ran::not_at_all(alloc, error)),

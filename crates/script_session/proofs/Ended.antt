@@ -28,7 +28,7 @@ use Rattle.session_calls.specs.Pipelines.{KnowsPipe, Called, Changed, Drained, I
 use Rattle.session_calls.proofs.BoardCalls.{all-drained}
 use Rattle.session_calls.proofs.Boarding.{kept-same, called-more}
 use Rattle.script_session.specs.Changing.{Changes}
-use Rattle.script_session.specs.Ending.{LeadsBy, part, Moves, MovesAll, ArePosted, AreAllPaid, IsPaid, end_said, place_of, AnswersEnd, EndsShut}
+use Rattle.script_session.specs.Ending.{LeadsBy, part, Moves, MovesAll, ArePosted, AreAllPaid, IsPaid, end_said, place_of, EndsWith, AnswersEnd, EndsShut}
 use Rattle.script_session.specs.Keyed.{held_as, delivering}
 use Rattle.script_session.specs.States.{State, SameLocks, Stands, HasPipe, is_at, owners}
 use Rattle.script_session.specs.Telling.{callback_said}
@@ -106,10 +106,9 @@ leads-end walk a c x y lets drains =
     let rest : Dialogue = Posts Shut λ done. Ends walk in
     lets (drain_all walk.lives rest) [] (c ++ Shuts ∷ []) ∙ ap (joined (part a x)) (drains rest [] (Shuts ∷ []))
 
-pub end-answers : (s s' : State) (gone lives' : List Live) (k l : Known (BoardEntry Ask)) (answers : List Answer) (text text' : List ℕ) → SameLocks s s' → s'.registry ≡ s.registry → Stands s.walk.lives (known s.registry)
-    → MovesAll (let_all_go s.walk.lives) s.walk.lives gone (known s.board) k [] [] → MovesAll (drain_all gone) gone lives' k l [] answers → Called l (known s'.board) (Shuts ∷ [])
-    → text' ≡ text ++ flat_map text_of answers → AnswersEnd s s' text text'
-end-answers s s' gone lives' k l answers text text' locks same stands lets drains shuts put =
+pub end-with : (s s' : State) (gone lives' : List Live) (k l : Known (BoardEntry Ask)) (answers answers' : List Answer) → SameLocks s s' → s'.registry ≡ s.registry → Stands s.walk.lives (known s.registry)
+    → MovesAll (let_all_go s.walk.lives) s.walk.lives gone (known s.board) k [] [] → MovesAll (drain_all gone) gone lives' k l answers answers' → Called l (known s'.board) (Shuts ∷ []) → EndsWith s s' answers answers'
+end-with s s' gone lives' k l answers answers' locks same stands lets drains shuts =
     let walk = s.walk in
     let a = lets.calls in
     let c = drains.calls in
@@ -122,14 +121,30 @@ end-answers s s' gone lives' k l answers text text' locks same stands lets drain
       asked = subst (λ r. Asked (known s.registry) (known r) []) (sym same) (asked-nothing (known s.registry) stands.caller);
       called = called-more (known s.board) k (known s'.board) a (c ++ Shuts ∷ []) lets.called (called-more k l (known s'.board) c (Shuts ∷ []) drains.called shuts);
       ends = refl;
-      says =
-          put
-          ∙ ap (λ xs. text ++ flat_map text_of xs)
-          (drains.says ∙ (sym (append-nil drains.said) ∙ ap (λ xs. xs ++ (drains.said ++ [])) lets.says));
+      says = drains.says ∙ ap (λ xs. answers ++ xs) (sym (append-nil drains.said) ∙ ap (λ xs. xs ++ (drains.said ++ [])) lets.says);
     }
+
+pub end-answers : (s s' : State) (gone lives' : List Live) (k l : Known (BoardEntry Ask)) (answers : List Answer) (text text' : List ℕ) → SameLocks s s' → s'.registry ≡ s.registry → Stands s.walk.lives (known s.registry)
+    → MovesAll (let_all_go s.walk.lives) s.walk.lives gone (known s.board) k [] [] → MovesAll (drain_all gone) gone lives' k l [] answers → Called l (known s'.board) (Shuts ∷ [])
+    → text' ≡ text ++ flat_map text_of answers → AnswersEnd s s' text text'
+end-answers s s' gone lives' k l answers text text' locks same stands lets drains shuts put =
+    let e = end-with s s' gone lives' k l [] answers locks same stands lets drains shuts in
+    record { locks = e.locks; turn = e.turn; is = e.is; asked = e.asked; called = e.called; ends = e.ends; says = put ∙ ap (λ xs. text ++ flat_map text_of xs) e.says }
 
 module _ {ws c : ℕ} {items left : List Live} {q v : ℕ} {r : Option RegPass} {b b' : Option BoardPass} (s : State) (view : viewed ws c items q v r b ≡ s) where
   -- the lists that the two loops go over are the session's own
+  pub end_with-arm : (first first' second second' : List Live) (k l : Known (BoardEntry Ask)) (answers answers' : List Answer) → first ≡ items → second ≡ first' → lock_of b' ≡ lock_of b
+      → Stands s.walk.lives (known s.registry) → MovesAll (let_all_go first) first first' (known b) k [] [] → MovesAll (drain_all second) second second' k l answers answers' → Called l (known b') (Shuts ∷ [])
+      → EndsWith s (viewed ws c left q v r b') answers answers'
+  end_with-arm first first' second second' k l answers answers' at_first at_second lock stands lets drains shuts =
+      let lives_are : first ≡ s.walk.lives = at_first ∙ ap (λ (x : State). x.walk.lives) view in
+      let lets' : MovesAll (let_all_go s.walk.lives) s.walk.lives first' (known s.board) k [] [] =
+      subst (λ (x : State). MovesAll (let_all_go s.walk.lives) s.walk.lives first' (known x.board) k [] []) view (subst (λ ls. MovesAll (let_all_go ls) ls first' (known b) k [] []) lives_are lets) in
+      let drains' : MovesAll (drain_all first') first' second' k l answers answers' = subst (λ ls. MovesAll (drain_all ls) ls second' k l answers answers') at_second drains in
+      end-with s (viewed ws c left q v r b') first' second' k l answers answers'
+      (record { registry = ap (λ (x : State). lock_of x.registry) view; board = lock ∙ ap (λ (x : State). lock_of x.board) view; workers = ap (λ (x : State). x.workers) view })
+      (ap (λ (x : State). x.registry) view) stands lets' drains' shuts
+
   pub end-arm : (first first' second second' : List Live) (k l : Known (BoardEntry Ask)) (none answers slice : List Answer) (text text' : List ℕ) → first ≡ items → second ≡ first' → none ≡ [] → slice ≡ answers → lock_of b' ≡ lock_of b
       → Stands s.walk.lives (known s.registry) → MovesAll (let_all_go first) first first' (known b) k [] [] → MovesAll (drain_all second) second second' k l none answers → Called l (known b') (Shuts ∷ [])
       → text' ≡ text ++ flat_map text_of slice → AnswersEnd s (viewed ws c left q v r b') text text'

@@ -78,8 +78,18 @@ AreAllPaid lives = All (λ (live : Live). IsPaid live.pipe) lives
 
 -- ---- the end
 
--- A turn of the end's dialogue was done, and its text was added. The dialogue leaves the walk as it was; the session knows of its
+-- A turn of the end's dialogue was done, and its answers were added. The dialogue leaves the walk as it was; the session knows of its
 -- own pipelines that they are drained.
+pub record EndsWith (s s' : State) (answers answers' : List Answer) : Type 0 where
+  pub locks : SameLocks s s'
+  pub turn : Turn
+  pub is : IsTurn (end s.walk) turn
+  pub asked : Asked (known s.registry) (known s'.registry) turn.registry
+  pub called : Called (known s.board) (known s'.board) turn.board
+  pub ends : turn.after ≡ Some s.walk
+  pub says : answers' ≡ answers ++ turn.answers
+
+-- the same, where the text of its answers was added
 pub record AnswersEnd (s s' : State) (text text' : List ℕ) : Type 0 where
   pub locks : SameLocks s s'
   pub turn : Turn

@@ -95,8 +95,8 @@ fn drain_last<R: Wait, G: Gate>(
     Ok(())
 }
 
-// Lets each held pipeline go, in order of allocation.
-fn release_all<R: Wait>(
+/// Lets each held pipeline go, in order of allocation.
+pub fn release_all<R: Wait>(
     rt: &R,
     board: &SharedBoard<Job>,
     caller: &mut BoardCaller,
@@ -115,8 +115,8 @@ fn release_all<R: Wait>(
     Ok(())
 }
 
-// Drains each pipeline, in order of allocation, and adds what they hand out.
-fn drain_last_all<R: Wait, G: Gate>(
+/// Drains each pipeline, in order of allocation, and adds what they hand out.
+pub fn drain_last_all<R: Wait, G: Gate>(
     alloc: Global,
     rt: &R,
     board: &SharedBoard<Job>,

@@ -1,6 +1,7 @@
 //! One script over a registry and a board that others call too.
 #![tactic(auto)]
 
+mod answering;
 mod answers;
 mod bulk;
 mod callbacks;

@@ -721,7 +721,7 @@ impl Session {
     }
 
     // A line's answers.
-    fn answer<R: Threads + Wait + Sync, G: Gate>(
+    pub(crate) fn answer<R: Threads + Wait + Sync, G: Gate>(
         &mut self,
         rt: &R,
         board: &SharedBoard<Job>,

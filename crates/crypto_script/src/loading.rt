@@ -1,0 +1,271 @@
+//! A load, held by a session.
+
+ghost use Rattle.std.specs.Prelude.{OnOk, ◌≡◌, ◌∷◌, [], IfOk};
+ghost use Rattle.alg_registry.specs.Rows.{caller_of};
+ghost use Rattle.dialogues.specs.Dialogues.{followed};
+ghost use Rattle.dialogues.specs.Lines.{line_dialogue, lines_dialogue};
+ghost use Rattle.dialogues.specs.Piping.{end};
+ghost use Rattle.dialogues.specs.Walk.{Walk as Made};
+ghost use Rattle.dialogues.specs.Dialogues.{Dialogue, Ends};
+ghost use Rattle.dialogues.specs.Widths.{width_of};
+ghost use Rattle.load_mode.specs.Lines.{opening, request_line, request_lines};
+ghost use Rattle.load_mode.specs.Requests.{asked_for, drawn_request};
+ghost use Rattle.script_text.specs.Sizes.{IsShortLine};
+ghost use Rattle.script_session.specs.Ending.{EndsShut};
+ghost use Rattle.script_session.specs.Running.{IsReady};
+ghost use Rattle.session_calls.specs.Passes.{known};
+ghost use Rattle.turn_lock.specs.Meeting.{IsOwn};
+ghost use Rattle.crypto_script.specs.Laws.{Laws};
+ghost use Rattle.crypto_script.specs.Loads.{IsHeld, HoldsOn, IsLoadTurnAfter};
+ghost use Rattle.crypto_script.specs.Runs.{GoesOn, IsFresh};
+
+use crate::lines::laws;
+use crew::Gate;
+use generator::Generator;
+use load_mode::{Opening, draw_request, hash_completions, opening_lines};
+use script_session::Session;
+use script_text::Line;
+use session_calls::Stop;
+use sha2::{Digest, Sha256};
+use shared_board::SharedBoard;
+use shared_registry::SharedRegistry;
+use std::alloc::{AllocError, Global};
+use std::sync::Wait;
+use std::thread::Threads;
+use transforms::Job;
+
+// Answers one line, which makes at most one look at once.
+fn hold_line<G: Gate, R: Threads + Wait + Sync>(
+    rt: &R,
+    alloc: Global,
+    board: &SharedBoard<Job>,
+    registry: &SharedRegistry,
+    gate: &G,
+    session: &mut Session,
+    hasher: &mut Sha256,
+    number: u32,
+    line: &Line,
+) -> Result<(), AllocError>
+    requires ready { IsReady registry.now board.now session.old }
+    requires short { IsShortLine line.now }
+    requires narrow { width_of line.now ≡ 1 }
+    ensures on { OnOk result ((later : Made → Dialogue) → HoldsOn (followed (line_dialogue session.old.workers session.old.walk number line.now) later) later session.old session.new hasher.old hasher.new) }
+    ensures ready { OnOk result (IsReady registry.now board.now session.new) }
+    ensures goes_on { GoesOn session.old session.new }
+{
+    laws();
+    let mut answers = Vec::new(alloc);
+    match session.answer_line(rt, board, registry, gate, number, line, &mut answers) {
+        Ok(()) => {
+            hash_completions(hasher, &answers);
+            Ok(())
+        }
+        Err(Stop::Memory) => Err(AllocError),
+    }
+}
+
+// Answers the lines that make both transforms.
+fn hold_opened<G: Gate, R: Threads + Wait + Sync>(
+    rt: &R,
+    alloc: Global,
+    board: &SharedBoard<Job>,
+    registry: &SharedRegistry,
+    gate: &G,
+    session: &mut Session,
+    hasher: &mut Sha256,
+    lines: &Opening,
+) -> Result<(), AllocError>
+    requires ready { IsReady registry.now board.now session.old }
+    requires lines { lines.now.make_a ∷ lines.now.key_a ∷ lines.now.make_g ∷ lines.now.key_g ∷ [] ≡ opening }
+    ensures on { OnOk result ((later : Made → Dialogue) → HoldsOn (lines_dialogue session.old.workers session.old.walk 0 opening later) later session.old session.new hasher.old hasher.new) }
+    ensures ready { OnOk result (IsReady registry.now board.now session.new) }
+    ensures goes_on { GoesOn session.old session.new }
+{
+    hold_line(
+        rt,
+        alloc,
+        board,
+        registry,
+        gate,
+        session,
+        hasher,
+        0,
+        &lines.make_a,
+    )?;
+    hold_line(
+        rt,
+        alloc,
+        board,
+        registry,
+        gate,
+        session,
+        hasher,
+        1,
+        &lines.key_a,
+    )?;
+    hold_line(
+        rt,
+        alloc,
+        board,
+        registry,
+        gate,
+        session,
+        hasher,
+        2,
+        &lines.make_g,
+    )?;
+    hold_line(
+        rt,
+        alloc,
+        board,
+        registry,
+        gate,
+        session,
+        hasher,
+        3,
+        &lines.key_g,
+    )?;
+    Ok(())
+}
+
+// Makes both transforms.
+fn hold_opening<G: Gate, R: Threads + Wait + Sync>(
+    rt: &R,
+    alloc: Global,
+    board: &SharedBoard<Job>,
+    registry: &SharedRegistry,
+    gate: &G,
+    session: &mut Session,
+    hasher: &mut Sha256,
+) -> Result<(), AllocError>
+    requires ready { IsReady registry.now board.now session.old }
+    ensures on { OnOk result ((later : Made → Dialogue) → HoldsOn (lines_dialogue session.old.workers session.old.walk 0 opening later) later session.old session.new hasher.old hasher.new) }
+    ensures ready { OnOk result (IsReady registry.now board.now session.new) }
+    ensures goes_on { GoesOn session.old session.new }
+{
+    let lines = opening_lines(alloc)?;
+    hold_opened(rt, alloc, board, registry, gate, session, hasher, &lines)
+}
+
+// Draws a request and hands it in.
+fn hold_request<G: Gate, R: Threads + Wait + Sync>(
+    rt: &R,
+    alloc: Global,
+    board: &SharedBoard<Job>,
+    registry: &SharedRegistry,
+    gate: &G,
+    session: &mut Session,
+    hasher: &mut Sha256,
+    generator: &mut Generator,
+    number: u32,
+) -> Result<(), AllocError>
+    requires ready { IsReady registry.now board.now session.old }
+    ensures on { OnOk result ((later : Made → Dialogue) → HoldsOn (followed (line_dialogue session.old.workers session.old.walk number (request_line (asked_for number (drawn_request generator.old)))) later) later session.old session.new hasher.old hasher.new) }
+    ensures drawn { OnOk result (generator.new ≡ (drawn_request generator.old).after) }
+    ensures ready { OnOk result (IsReady registry.now board.now session.new) }
+    ensures goes_on { GoesOn session.old session.new }
+{
+    let line = draw_request(alloc, generator, number)?;
+    hold_line(
+        rt, alloc, board, registry, gate, session, hasher, number, &line,
+    )
+}
+
+// Hands the requests in.
+fn hold_requests<G: Gate, R: Threads + Wait + Sync>(
+    rt: &R,
+    alloc: Global,
+    board: &SharedBoard<Job>,
+    registry: &SharedRegistry,
+    gate: &G,
+    session: &mut Session,
+    hasher: &mut Sha256,
+    seed: u64,
+    count: u32,
+) -> Result<(), AllocError>
+    requires ready { IsReady registry.now board.now session.old }
+    ensures on { OnOk result (HoldsOn (lines_dialogue session.old.workers session.old.walk 0 (request_lines seed count) end) end session.old session.new hasher.old hasher.new) }
+    ensures ready { OnOk result (IsReady registry.now board.now session.new) }
+    ensures goes_on { GoesOn session.old session.new }
+{
+    let mut generator = Generator::new(seed);
+    for number in 0..count {
+        hold_request(
+            rt,
+            alloc,
+            board,
+            registry,
+            gate,
+            session,
+            hasher,
+            &mut generator,
+            number,
+        )?;
+    }
+    Ok(())
+}
+
+// Drains both transforms and shuts the board.
+fn hold_end<G: Gate, R: Wait>(
+    rt: &R,
+    alloc: Global,
+    board: &SharedBoard<Job>,
+    registry: &SharedRegistry,
+    gate: &G,
+    session: &mut Session,
+    hasher: &mut Sha256,
+) -> Result<(), AllocError>
+    requires ready { IsReady registry.now board.now session.old }
+    requires first { (known session.old.board).number ≡ 0 }
+    ensures on { OnOk result ((whole : Dialogue) → IsHeld whole (end session.old.walk) session.old hasher.old → IsHeld whole (Ends session.old.walk) session.new hasher.new) }
+    ensures own { OnOk result (IsOwn caller_of (known session.new.registry)) }
+    ensures shut { OnOk result (EndsShut (known session.new.board)) }
+    ensures goes_on { GoesOn session.old session.new }
+{
+    laws();
+    let mut answers = Vec::new(alloc);
+    match session.answer_end(rt, board, gate, &mut answers) {
+        Ok(()) => {
+            hash_completions(hasher, &answers);
+            Ok(())
+        }
+        Err(Stop::Memory) => Err(AllocError),
+    }
+}
+
+/// Makes so many requests from the seed, and gives the hash of their values: first of those of even numbers, then of the others. Only
+/// want of memory stops it.
+pub fn hold_load<G: Gate, R: Threads + Wait + Sync>(
+    rt: &R,
+    alloc: Global,
+    board: &SharedBoard<Job>,
+    registry: &SharedRegistry,
+    gate: &G,
+    session: &mut Session,
+    seed: u64,
+    count: u32,
+) -> Result<[u8; 32], AllocError>
+    requires ready { IsReady registry.now board.now session.old }
+    requires fresh { IsFresh session.old }
+    ensures loaded { IfOk result (IsLoadTurnAfter session.old.workers seed count (known session.new.registry) (known session.new.board)) }
+    ensures own { OnOk result (IsOwn caller_of (known session.new.registry)) }
+    ensures shut { OnOk result (EndsShut (known session.new.board)) }
+    ensures goes_on { GoesOn session.old session.new }
+{
+    laws();
+    let mut hasher = Sha256::new();
+    hold_opening(rt, alloc, board, registry, gate, session, &mut hasher)?;
+    hold_requests(
+        rt,
+        alloc,
+        board,
+        registry,
+        gate,
+        session,
+        &mut hasher,
+        seed,
+        count,
+    )?;
+    hold_end(rt, alloc, board, registry, gate, session, &mut hasher)?;
+    Ok(hasher.finalize())
+}

@@ -1,0 +1,81 @@
+//! Lines, and their end, whose answers are handed out as they are, and not as text.
+
+ghost use Rattle.std.specs.Prelude.{◌≡◌, OnOk, MatchResult};
+ghost use Rattle.script_text.specs.Sizes.{IsShortLine};
+ghost use Rattle.dialogues.specs.Lines.{line_dialogue};
+ghost use Rattle.dialogues.specs.Widths.{width_of};
+ghost use Rattle.script_session.specs.Ending.{EndsWith, EndsShut};
+ghost use Rattle.script_session.specs.Holding.{HoldsBy, Stops};
+ghost use Rattle.script_session.specs.Running.{IsReady};
+ghost use Rattle.script_session.specs.States.{Stands, Posted};
+ghost use Rattle.session_calls.specs.Passes.{known, CallsBoard};
+
+use crate::ending::{drain_last_all, release_all};
+use crate::scripts::Session;
+use crew::Gate;
+use reply_text::Answer;
+use script_text::Line;
+use session_calls::Stop;
+use shared_board::SharedBoard;
+use shared_registry::SharedRegistry;
+use std::sync::Wait;
+use std::thread::Threads;
+use transforms::Job;
+
+impl Session {
+    /// Answers a line as `line` does, and adds its answers, not their text, to those that are there. `Stop` comes for want of memory
+    /// alone; the session takes no line after it.
+    pub fn answer_line<R: Threads + Wait + Sync, G: Gate>(
+        &mut self,
+        rt: &R,
+        board: &SharedBoard<Job>,
+        registry: &SharedRegistry,
+        gate: &G,
+        number: u32,
+        line: &Line,
+        answers: &mut Vec<Answer>,
+    ) -> Result<(), Stop>
+        requires ready { IsReady registry.now board.now self.old }
+        requires short { IsShortLine line.now }
+        ensures done { MatchResult result
+            (λ _. HoldsBy (width_of line.now) (line_dialogue self.old.workers self.old.walk number line.now) self.old self.new answers.old.items answers.new.items)
+            (λ _. Stops self.old self.new) }
+        // It is ready for the next line.
+        ensures ready { OnOk result (IsReady registry.now board.now self.new) }
+    {
+        self.answer(rt, board, registry, gate, number, line, answers)?;
+        Ok(())
+    }
+
+    /// Does what `end` does, and adds its answers, not their text, to those that are there. `Stop` comes for want of memory alone;
+    /// then the board isn't shut.
+    pub fn answer_end<R: Wait, G: Gate>(
+        &mut self,
+        rt: &R,
+        board: &SharedBoard<Job>,
+        gate: &G,
+        answers: &mut Vec<Answer>,
+    ) -> Result<(), Stop>
+        requires at { CallsBoard board.now self.old.board }
+        requires stands { Stands self.old.walk.lives (known self.old.registry) }
+        requires posted { Posted self.old.walk (known self.old.board) }
+        requires first { (known self.old.board).number ≡ 0 }
+        ensures done { MatchResult result
+            (λ _. EndsWith self.old self.new answers.old.items answers.new.items)
+            (λ _. Stops self.old self.new) }
+        ensures shut { OnOk result (EndsShut (known self.new.board)) }
+    {
+        release_all(rt, board, &mut self.board, &mut self.lives)?;
+        drain_last_all(
+            self.alloc,
+            rt,
+            board,
+            gate,
+            &mut self.board,
+            &mut self.lives,
+            answers,
+        )?;
+        self.board.shut(rt, board);
+        Ok(())
+    }
+}
