@@ -1,5 +1,5 @@
 -- What a load's part leaves beside workers.
-use Rattle.std.proofs.Common.{◌≡◌, ℕ, ◌≤◌, Bool, true, List, [], refl, sym, ap, subst, ◌∙◌, Some, None, arith, ◌⊎◌, inl, inr}
+use Rattle.std.proofs.Common.{◌≡◌, ◌⊎◌, inl, inr, ℕ, ◌≤◌, Bool, true, List, [], refl, sym, ap, subst, ◌∙◌, arith, Some, None}
 use Rattle.std.specs.Prelude.{OnOk, IfOk, All, Result, Ok, Err}
 use Rattle.alg_registry.specs.declared.entry.RegEntry.{RegEntry}
 use Rattle.alg_registry.specs.Legal.{LegalReg}
@@ -13,8 +13,11 @@ use Rattle.crew.specs.Both.{HaveNext, CrewedOnBoth}
 use Rattle.dialogues.specs.Texts.{turn_in}
 use Rattle.dialogues.specs.Turns.{text_in}
 use Rattle.dialogues.specs.Walk.{start}
+use Rattle.crypto_script.specs.declared.errors.RunError.{RunError}
+use Rattle.crypto_script.specs.declared.errors.RunError.TheVariants.{ReadFault, WriteFault, TooLong, NoMemory}
 use Rattle.load_mode.specs.Requests.{digest_of, line_of, load_line, load_requests}
 use Rattle.load_mode.specs.Turns.{IsLoadTurn, AreLoaded, LoadsComeTo}
+use Rattle.script_text.specs.Script.{script_of}
 use Rattle.script_session.specs.Ending.{EndsShut}
 use Rattle.script_session.specs.Holding.{HasSeenMore}
 use Rattle.script_session.specs.States.{State}
@@ -25,15 +28,11 @@ use Rattle.transforms.specs.declared.ask.Ask.{Ask}
 use Rattle.turn_lock.specs.Meeting.{IsOwn}
 use Rattle.turn_lock.specs.Passes.{knows}
 use Rattle.turn_lock.specs.Turns.{Shows, newcomer}
-use Rattle.script_text.specs.Script.{script_of}
-use Rattle.crypto_script.specs.Answered.{AnswersSource}
-use Rattle.crypto_script.specs.declared.errors.RunError.{RunError}
-use Rattle.crypto_script.specs.declared.errors.RunError.TheVariants.{NoMemory, ReadFault, WriteFault, TooLong}
 use Rattle.crypto_script.specs.Endings.{EndsShut as ShutLast}
 use Rattle.crypto_script.specs.Laws.{CrewLaws}
 use Rattle.crypto_script.specs.Loads.{Loads, LoadEnds, IsLoadTurnAfter}
+use Rattle.crypto_script.specs.Answered.{AnswersSource, script_in}
 use Rattle.crypto_script.specs.Runs.{GoesOn, OthersFollow, AreNew}
-use Rattle.crypto_script.specs.Statuses.{status_of}
 use Rattle.crypto_script.proofs.Following.{others-then, sees-then}
 use Rattle.crypto_script.proofs.Finishing.{ends-shut, shut-in, follow-board, whole-closed, few-callers, few-enough, shut-ends}
 
@@ -85,15 +84,18 @@ module _ (workers seed count : ℕ) (p : Passes Ask) (qr : RegPass) (qb qb' : Bo
 abbrev stopped : Result Bool RunError
 stopped = Err NoMemory
 
--- it was stopped by want of memory alone
-no-fault : stopped ≡ Err ReadFault → ⊥
-no-fault is = let bad : status_of stopped ≡ 3 = ap (λ r. status_of r) is in omega arith
+not-read : {A : Type 0} → stopped ≡ Err ReadFault → A
+not-read e = absurd cc
 
-not-written : stopped ≡ Err WriteFault → ⊥
-not-written is = let bad : status_of stopped ≡ 4 = ap (λ r. status_of r) is in omega arith
+not-long : {A : Type 0} → stopped ≡ Err TooLong → A
+not-long e = absurd cc
 
-not-long : stopped ≡ Err TooLong → ⊥
-not-long is = let bad : status_of stopped ≡ 6 = ap (λ r. status_of r) is in omega arith
+not-written : {A : Type 0} → stopped ≡ Err WriteFault → A
+not-written e = absurd cc
+
+neither : {A : Type 0} → (stopped ≡ Err ReadFault) ⊎ (stopped ≡ Err TooLong) → A
+neither (inl e) = not-read e
+neither (inr e) = not-long e
 
 -- what its passes went through is that of a script that read and wrote nothing, wherever it stopped
 as_script : {F : Type 0} (workers seed count : ℕ) (p q : Passes Ask) (result : Result (List ℕ) F) → Loads workers seed count p q result → AnswersSource workers None None p q stopped None None
@@ -105,22 +107,18 @@ as_script workers seed count p q result loads = record {
     board = loads.board;
     own = loads.own;
     shut = loads.shut;
-    front = ([], (λ r b from_r from_b. (text_in (turn_in workers (start 0) 0 (script_of []) r b), refl)), tt);
+    front = ([], (λ r b from_r from_b. (text_in (turn_in workers (start 0) 0 (script_of (script_in None [])) r b), refl)), tt);
     ended = tt;
     malformed = tt;
   };
   first = record {
-    failed = λ is. absurd (no-fault is);
-    too_long = ((λ is. absurd (not-long is)), (λ long. absurd (omega (arith, long))));
-    up_to = λ is. absurd (not-long is);
-    written = λ is. absurd (not-written is);
+    failed = λ e. not-read e;
+    too_long = ((λ e. not-long e), (λ long. absurd (omega (arith, long))));
+    up_to = λ e. not-long e;
+    written = λ e. not-written e;
   };
-  own_reads = λ either. absurd (never either);
+  own_reads = λ e. neither e;
 }
-  where
-    never : (stopped ≡ Err ReadFault) ⊎ (stopped ≡ Err TooLong) → ⊥
-    never (inl is) = no-fault is
-    never (inr is) = not-long is
 
 module _ (crew : CrewLaws) {F : Type 0} (workers seed count : ℕ) (first p q l : Passes Ask) (result : Result (List ℕ) F) (r : List RegEntry) (b : List (BoardEntry Ask))
     (new : (knows first.board ≡ newcomer) × (knows first.registry ≡ newcomer)) (next : HaveNext workers first p) (loads : Loads workers seed count p q result) (crewed : CrewedOnBoth workers first q l)

@@ -1,4 +1,4 @@
--- A load reads nothing.
+-- A load, which reads nothing.
 use Rattle.std.proofs.Common.{◌≡◌, ℕ, ◌^◌, ◌<◌, ◌≤◌, ◌⊎◌, inl, inr, Bool, true, false, List, [], length, Option, Some, None, refl, ap, ◌∙◌, arith, IfSome, length-append}
 use Rattle.std.specs.Prelude.{Result, Ok, Err, IfErr, IsErrOf}
 use Rattle.std.specs.Io.KnownBytes.{Consumes}

@@ -92,10 +92,10 @@ fn outcome_of(ran: Ran) -> Outcome
     }
 }
 
-/// Does all that the program does: reads a script from the source, and writes the answers of its lines, each in one
-/// piece, to the sink; or makes the requests of a load, and writes its line. It reads at most 65,536 bytes at once, and only where each
-/// whole line of what it has is answered. The words are the program's arguments without its name. Beside the script stand as many workers as the
-/// words ask for, which do its jobs and build its instances; they pass the gate with each job.
+/// Does all that the program does: reads a script from the source, and writes the answers of its lines, each in one piece, to the
+/// sink; or makes the requests of a load, and writes its line. It reads at most 65,536 bytes at once, and only where each whole line
+/// of what it has is answered. The words are the program's arguments without its name. Beside the script, or the load, stand as many
+/// workers as the words ask for, which do its jobs and build its instances; they pass the gate with each job.
 ///
 /// | status | comes |
 /// |---|---|
@@ -140,9 +140,9 @@ pub fn run<S: Source, K: Sink, G: Gate + Sync, R: Threads + Wait + Sync>(
     // Where the source fails, the lines whose line feed stood in what it gave are answered whole, and nothing else is written.
     // Where it gives too much, so are those of a front that is at most a read shorter than the limit. Where the sink fails, it has
     // gained the text of those that stood before the last 65,536 bytes, or more.
-    ensures answered { result.status ≡ 3 → Gives (S.left src.old) (S.left src.new) (λ given. Gains (K.held out.old) (K.held out.new)
+    ensures answered { IsSome (workers_asked (map string_bytes words.now)) → result.status ≡ 3 → Gives (S.left src.old) (S.left src.new) (λ given. Gains (K.held out.old) (K.held out.new)
         (AreAnswered (workers_in (map string_bytes words.now)) (whole_script given) result.registry result.board)) }
-    ensures answered_up_to { result.status ≡ 6 → Gives (S.left src.old) (S.left src.new) (λ given. (m : ℕ) × (2 ^ 28 - 65535 ≤ m) × (m ≤ 2 ^ 28) × Gains (K.held out.old) (K.held out.new)
+    ensures answered_up_to { IsSome (workers_asked (map string_bytes words.now)) → result.status ≡ 6 → Gives (S.left src.old) (S.left src.new) (λ given. (m : ℕ) × (2 ^ 28 - 65535 ≤ m) × (m ≤ 2 ^ 28) × Gains (K.held out.old) (K.held out.new)
         (AreAnswered (workers_in (map string_bytes words.now)) (whole_script (take m given)) result.registry result.board)) }
     ensures answered_front { IsSome (workers_asked (map string_bytes words.now)) → result.status ≡ 4 → Gives (S.left src.old) (S.left src.new) (λ given. Gains (K.held out.old) (K.held out.new)
         (BeginsWithText (workers_in (map string_bytes words.now)) (whole_script (take (length given - 65536) given)) result.registry result.board)) }
