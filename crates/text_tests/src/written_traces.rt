@@ -2,7 +2,6 @@
 
 use alg_registry::{RegErr, Registry};
 use board::{BoardEntry, BoardLog, Entered, Shape};
-use kc_base::Bytes;
 use std::alloc::{AllocError, Global};
 use std::sync::Arc;
 use std::test::Fail;
@@ -81,11 +80,7 @@ fn looked(alloc: Global) -> Result<Registry, RegErr> {
 #[test]
 fn a_look_is_written(rt: HostRuntime) -> Result<(), Fail> {
     let registry = looked(rt.alloc())?;
-    let text = write_trace(
-        rt.alloc(),
-        registry.history(),
-        &BoardLog::<Line>::empty(rt.alloc()),
-    )?;
+    let text = write_trace(rt.alloc(), registry.history(), &BoardLog::empty(rt.alloc()))?;
     let expected =
         b"r 0 look cbc(aes) any began 0\nr 0 claim 0\nr 0 look aes plain found 0\nr 0 unlist aes-none ENOENT\n";
     assert!(rt; text.as_slice() == expected.as_slice());
