@@ -1,0 +1,125 @@
+//! A text in segments.
+
+ghost use Rattle.std.specs.Prelude.{◌≡◌, ◌+◌, ◌^◌, ◌<◌, ◌≤◌, [], length, take, drop, IsTrue, ◌↔◌, IfOk};
+ghost use Rattle.std.specs.List.{concat};
+ghost use Rattle.sg_walk.specs.Segments.{segmented, written, cut_sizes};
+
+use crate::copying::{gather, scatter};
+use crate::parts::{copies, cut_to, joined, total_len};
+use crate::walker::Walker;
+use crate::walking::walk_parts;
+use kc_base::Bytes;
+use std::alloc::{AllocError, Global};
+use std::marker::Model;
+
+/// A text that lies in segments, as a scatterlist has it. Contracts see the text, which is the segments one after another, and
+/// how many bytes each segment has. A segment may be empty. Only `join` and `copy` take memory.
+#[derive(Debug, Drop)]
+pub struct Segs {
+    parts: Vec<Bytes>,
+    len: usize,
+}
+
+impl Model for Segs {
+    ghost use Rattle.std.specs.Prelude.{◌≡◌, length};
+    ghost use Rattle.std.specs.List.{concat};
+    ghost use Rattle.sg_walk.specs.Segments.{Segmented, segmented};
+
+    ghost Value = { Segmented };
+
+    ghost view = { λ segs. segmented segs.parts.items };
+
+    ghost invariant = { λ segs. segs.len ≡ length (concat segs.parts.items) };
+}
+
+impl Segs {
+    /// The text of these segments.
+    pub fn from_parts(parts: Vec<Bytes>) -> Segs
+        requires { length (concat parts.items) < 2 ^ 63 }
+        ensures { result ≡ segmented parts.items }
+    {
+        let len = total_len(&parts);
+        Segs { parts, len }
+    }
+
+    /// How many bytes the text has.
+    pub fn len(&self) -> usize
+        ensures { result ≡ length self.now.text }
+    {
+        self.len
+    }
+
+    pub fn is_empty(&self) -> bool
+        ensures { IsTrue result ↔ (self.now.text ≡ []) }
+    {
+        self.len == 0
+    }
+
+    /// The segments in their order.
+    pub fn parts(&self) -> &[Bytes]
+        ensures { segmented result.now ≡ self.now }
+    {
+        &self.parts
+    }
+
+    /// Copies the bytes of the text from `at` on, as many as `into` has room for.
+    pub fn copy_out(&self, at: usize, into: &mut [u8])
+        requires { at + length into.old ≤ length self.now.text }
+        ensures { into.new ≡ take (length into.old) (drop at self.now.text) }
+    {
+        gather(&self.parts, 0, at, into);
+    }
+
+    /// Writes the piece over the bytes of the text from `at` on. Each segment keeps its length.
+    pub fn copy_in(&mut self, at: usize, piece: &[u8])
+        requires { at + length piece.now ≤ length self.old.text }
+        ensures text { self.new.text ≡ written at piece.now self.old.text }
+        ensures sizes { self.new.sizes ≡ self.old.sizes }
+    {
+        let alloc = *self.parts.allocator();
+        scatter(alloc, &mut self.parts, 0, at, piece);
+    }
+
+    /// The text in one piece. A single segment is handed over as it is.
+    pub fn join(self, alloc: Global) -> Result<Bytes, AllocError>
+        ensures { IfOk result (λ bytes. bytes ≡ self.text) }
+    {
+        let Segs { mut parts, len } = self;
+        if parts.len() == 1 {
+            return Ok(parts.remove(0));
+        }
+        joined(alloc, &parts, len)
+    }
+
+    /// A copy, in as many segments of the same lengths.
+    pub fn copy(&self, alloc: Global) -> Result<Segs, AllocError>
+        ensures { IfOk result (λ copy. copy ≡ self.now) }
+    {
+        let parts = copies(alloc, &self.parts)?;
+        Ok(Segs {
+            parts,
+            len: self.len,
+        })
+    }
+
+    /// Keeps the first `len` bytes of the text: each segment keeps its front, and those behind are empty then.
+    pub fn cut(&mut self, len: usize)
+        requires { len ≤ length self.old.text }
+        ensures text { self.new.text ≡ take len self.old.text }
+        ensures sizes { self.new.sizes ≡ cut_sizes len self.old.sizes }
+    {
+        let alloc = *self.parts.allocator();
+        cut_to(alloc, &mut self.parts, len);
+        self.len = len;
+    }
+
+    /// Has the walker go over the text from its front: over the whole blocks of 16 bytes that lie in one segment where they
+    /// are, and over a block that lies in several as one piece too. Each segment keeps its length.
+    pub fn walk<W: Walker>(&mut self, walker: &mut W)
+        ensures text { W.makes walker.old self.old.text self.new.text walker.new }
+        ensures sizes { self.new.sizes ≡ self.old.sizes }
+    {
+        let alloc = *self.parts.allocator();
+        walk_parts(alloc, &mut self.parts, walker);
+    }
+}
