@@ -4,7 +4,7 @@ use Rattle.std.specs.List.{concat}
 use Rattle.std.proofs.Math.Seq.{take-add}
 use Rattle.std.proofs.lemmas.List.{take_all, take-take, drop-drop, drop-take}
 use Rattle.sg_walk.specs.Segments.{written}
-use Rattle.sg_walk.proofs.Parts.{same_total}
+use Rattle.sg_walk.proofs.Joined.{same_total}
 
 -- n bytes of the text that the segments make, from byte `at` on, were gone over, and the rest is as it was
 pub record Stepped {W : Type 0} (makes : W → List ℕ → List ℕ → W → Type 0) (before : W) (old new : List (List ℕ)) (after : W) (at n : ℕ) : Type 0 where

@@ -1,0 +1,2 @@
+pub mod Ctr
+pub mod Cbc

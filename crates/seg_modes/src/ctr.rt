@@ -1,0 +1,59 @@
+//! CTR over segments.
+
+ghost use Rattle.seg_modes.specs.Ctr.{Counts, counts_none, counts_on};
+
+use aes_block::{BlockCipher, Skcipher};
+use ctr_mode::Ctr;
+use kc_base::Errno;
+use sg_walk::{Segs, Walker};
+use std::marker::Model;
+use std_defs::{block_bytes, block_number};
+
+use crate::seg_cipher::SegCipher;
+
+/// CTR on its way over a text: contracts see the cipher and the counter block of what comes next.
+#[derive(Drop)]
+struct Counting<'a, C: BlockCipher + Drop> {
+    mode: &'a Ctr<C>,
+    counter: [u8; 16],
+}
+
+impl<'a, C: BlockCipher + Drop> Model for Counting<'a, C> {
+    ghost use Rattle.std.specs.Prelude.{ℕ, List};
+
+    ghost Value = { C × List ℕ };
+
+    ghost view = { λ at. (at.mode.now, at.counter) };
+}
+
+impl<'a, C: BlockCipher + Drop> Walker for Counting<'a, C> {
+    ghost makes = { λ u text made v. Counts C.sealed u text made v };
+
+    ghost stays = { λ walker. counts_none C.sealed walker };
+
+    ghost joins = { λ u v w a b made_a made_b whole first second. counts_on C.sealed u v w a b made_a made_b whole first second };
+
+    fn step(&mut self, piece: &mut [u8]) {
+        // a text of any length is taken
+        let _ = self.mode.seal(&self.counter, piece);
+        let blocks = (piece.len() / 16) as u128;
+        self.counter = block_bytes(block_number(self.counter).wrapping_add(blocks));
+    }
+}
+
+impl<C: BlockCipher + Drop> SegCipher for Ctr<C> {
+    fn seal_segs(&self, iv: &[u8], b: &mut Segs) -> Result<(), Errno> {
+        let mut counter = [0u8; 16];
+        counter.copy_from_slice(iv);
+        let mut counting = Counting {
+            mode: self,
+            counter,
+        };
+        b.walk(&mut counting);
+        Ok(())
+    }
+
+    fn unseal_segs(&self, iv: &[u8], b: &mut Segs) -> Result<(), Errno> {
+        self.seal_segs(iv, b)
+    }
+}

@@ -1,0 +1,8 @@
+//! CBC and CTR over a text that lies in segments.
+#![tactic(auto)]
+
+mod cbc;
+mod ctr;
+mod seg_cipher;
+
+pub use seg_cipher::SegCipher;
