@@ -3,7 +3,9 @@ use Rattle.std.proofs.Common.{◌≡◌, ℕ, zero, suc, ◌+◌, ◌-◌, ◌<�
 use Rattle.std.specs.List.{concat}
 use Rattle.std.proofs.Math.Seq.{take-append-add, drop-append-add, take-append-le, drop-append-le, take-append_seam, drop-append_seam, take-add}
 use Rattle.std.proofs.lemmas.Bool.{cases_lt}
-use Rattle.std.proofs.lemmas.List.{drop_more, take_more, take_all, drop_all, take-take, drop-drop, take_more_set, take-set, drop-set-lt, drop-set, map-set, set-get_or, get_or-map, length-set}
+use Rattle.std.proofs.lemmas.List.{drop_more, take_more, take_all, drop_all, take-take, drop-drop, take_more_set, take-set, drop-set-lt, drop-set, nil_from_length, get_or-map}
+use Rattle.std.proofs.lemmas.Slice.{take-put_mid, drop-put_mid}
+use borrow.Rule.Slice.PartMut.{put_mid}
 use Rattle.sg_walk.specs.Segments.{written, cut_sizes}
 
 -- ---- segments in a row
@@ -56,6 +58,18 @@ same_before (x ∷ xs) (y ∷ ys) (suc i) e =
     let here : length x ≡ length y = cc in
     let behind : map length xs ≡ map length ys = cc in
     length-append x (concat (take i xs)) ∙ ap₂ (λ (m n : ℕ). m + n) here (same_before xs ys i behind) ∙ sym (length-append y (concat (take i ys)))
+
+pub same_behind : (xs ys : List (List ℕ)) (i : ℕ) → map length xs ≡ map length ys → length (concat (drop i xs)) ≡ length (concat (drop i ys))
+same_behind xs ys i e =
+    omega (
+      arith,
+      same_total xs ys e,
+      same_before xs ys i e,
+      ap length (concat_at xs i),
+      ap length (concat_at ys i),
+      length-append (concat (take i xs)) (concat (drop i xs)),
+      length-append (concat (take i ys)) (concat (drop i ys)),
+    )
 
 pub same_at : (xs ys : List (List ℕ)) (i : ℕ) → map length xs ≡ map length ys → length (get_or xs i []) ≡ length (get_or ys i [])
 same_at [] [] i e = refl
@@ -187,9 +201,114 @@ written_part parts i at piece h inside =
     ∙ sym (written_behind (concat (take i parts)) at piece (get_or parts i [] ++ concat (drop (i + 1) parts)))
     ∙ ap (written (length (concat (take i parts)) + at) piece) (sym (concat_round parts i h))
 
+-- ---- a loop over the segments
+
+pub same_rest : (x y : List ℕ) (a m : ℕ) → drop a x ≡ drop a y → drop (a + m) x ≡ drop (a + m) y
+same_rest x y a m same = sym (drop-drop m a x) ∙ ap (drop m) same ∙ drop-drop m a y
+
+pub length_from : (parts : List (List ℕ)) (i : ℕ) → i < length parts → length (concat (drop i parts)) ≡ length (get_or parts i []) + length (concat (drop (i + 1) parts))
+length_from parts i h = ap length (concat_from parts i h) ∙ length-append (get_or parts i []) (concat (drop (i + 1) parts))
+
+-- a step that copies out of segment i: into has `done` bytes, and `count` more
+module _ (parts : List (List ℕ)) (i skip done begin count n : ℕ) (into piece part : List ℕ) (h : i < length parts) (is : part ≡ get_or parts i [])
+    (from : begin ≡ min skip (length part)) (many : count ≡ min (length part - begin) (n - done)) (room : done + count ≤ length into)
+    (copied : piece ≡ take (begin + count - begin) (drop begin part)) where
+  first_bytes : take (begin + count - begin) (drop begin part) ≡ take count (drop begin part)
+  first_bytes = let e : begin + count - begin ≡ count = omega arith in ap (λ (k : ℕ). take k (drop begin part)) e
+
+  piece_length : length piece ≡ count
+  piece_length = omega (arith, ap length (copied ∙ first_bytes), length-take count (drop begin part), length-drop begin part)
+
+  pub copied_front : take (done + count) (put_mid done (done + count - done) into piece) ≡ take done into ++ piece
+  copied_front = take-put_mid done (done + count - done) into piece (done + count) (omega (arith, piece_length)) (omega arith)
+
+  pub copied_rest : drop (done + count) (put_mid done (done + count - done) into piece) ≡ drop (done + count) into
+  copied_rest = drop-put_mid done (done + count - done) into piece (done + count) (omega arith) (omega arith) (omega (arith, piece_length))
+
+  pub copied_more : take (done + count) (put_mid done (done + count - done) into piece) ++ take (n - (done + count)) (drop (skip - begin) (concat (drop (i + 1) parts)))
+      ≡ take done into ++ take (n - done) (drop skip (concat (drop i parts)))
+  copied_more =
+      let left : n - done - count ≡ n - (done + count) = omega arith in
+      ap (λ (t : List ℕ). t ++ take (n - (done + count)) (drop (skip - begin) (concat (drop (i + 1) parts)))) copied_front
+      ∙ append_assoc (take done into) piece (take (n - (done + count)) (drop (skip - begin) (concat (drop (i + 1) parts))))
+      ∙ ap (λ (t : List ℕ). take done into ++ t)
+      (ap₂ (λ (x y : List ℕ). x ++ y) (copied ∙ first_bytes) (ap (λ (k : ℕ). take k (drop (skip - begin) (concat (drop (i + 1) parts)))) (sym left))
+      ∙ sym (piece_first part (concat (drop (i + 1) parts)) skip begin (n - done) count from many)
+      ∙ ap (λ (t : List ℕ). take (n - done) (drop skip t)) (ap (λ (t : List ℕ). t ++ concat (drop (i + 1) parts)) is ∙ sym (concat_from parts i h)))
+
+-- a step that writes into segment i: `done` bytes of the piece are written, and `count` more
+module _ (parts : List (List ℕ)) (i skip done begin count : ℕ) (piece part new : List ℕ) (h : i < length parts) (is : part ≡ get_or parts i [])
+    (from : begin ≡ min skip (length part)) (many : count ≡ min (length part - begin) (length piece - done))
+    (made : new ≡ written begin (take (done + count - done) (drop done piece)) part) where
+  next_bytes : take (done + count - done) (drop done piece) ≡ take count (drop done piece)
+  next_bytes = let e : done + count - done ≡ count = omega arith in ap (λ (k : ℕ). take k (drop done piece)) e
+
+  new_length : length new ≡ length part
+  new_length =
+      ap length made
+      ∙ length-written begin (take (done + count - done) (drop done piece)) part (omega (arith, ap length next_bytes, length-take count (drop done piece)))
+
+  pub written_sizes : map length (set parts i new) ≡ map length parts
+  written_sizes = same_sizes parts i new (new_length ∙ ap length is) h
+
+  pub behind_same : drop (i + 1) (set parts i new) ≡ drop (i + 1) parts
+  behind_same = drop-set-lt (i + 1) parts i new (omega arith)
+
+  pub written_more : concat (take (i + 1) (set parts i new)) ++ written (skip - begin) (drop (done + count) piece) (concat (drop (i + 1) (set parts i new)))
+      ≡ concat (take i parts) ++ written skip (drop done piece) (concat (drop i parts))
+  written_more =
+      let long : length piece - done ≡ length (drop done piece) = sym (length-drop done piece) in
+      ap₂ (λ (x y : List (List ℕ)). concat x ++ written (skip - begin) (drop (done + count) piece) (concat y)) (take_more_set parts i new h) behind_same
+      ∙ ap (λ (t : List ℕ). t ++ written (skip - begin) (drop (done + count) piece) (concat (drop (i + 1) parts)))
+      (concat-append (take i parts) (new ∷ []) ∙ ap (λ (t : List ℕ). concat (take i parts) ++ t) (append-nil new))
+      ∙ append_assoc (concat (take i parts)) new (written (skip - begin) (drop (done + count) piece) (concat (drop (i + 1) parts)))
+      ∙ ap (λ (t : List ℕ). concat (take i parts) ++ t)
+      (ap₂ (λ (x y : List ℕ). x ++ y) (made ∙ ap (λ (f : List ℕ). written begin f part) next_bytes)
+      (ap (λ (f : List ℕ). written (skip - begin) f (concat (drop (i + 1) parts))) (sym (drop-drop count done piece)))
+      ∙ sym (written_first part (concat (drop (i + 1) parts)) (drop done piece) skip begin count from (many ∙ ap (min (length part - begin)) long))
+      ∙ ap (written skip (drop done piece)) (ap (λ (t : List ℕ). t ++ concat (drop (i + 1) parts)) is ∙ sym (concat_from parts i h)))
+
+-- the segments and a piece of which nothing is left
+pub written_end : (parts : List (List ℕ)) (i skip : ℕ) (rest : List ℕ) → length rest ≡ 0 → concat (take i parts) ++ written skip rest (concat (drop i parts)) ≡ concat parts
+written_end parts i skip rest none =
+    ap (λ (f : List ℕ). concat (take i parts) ++ written skip f (concat (drop i parts))) (nil_from_length rest none)
+    ∙ ap (λ (t : List ℕ). concat (take i parts) ++ t) (written_none skip (concat (drop i parts)))
+    ∙ sym (concat_at parts i)
+
 -- ---- the first bytes
 
 -- each segment's front, n bytes together
-pub fronts : ℕ → List (List ℕ) → List (List ℕ)
+abbrev pub fronts : ℕ → List (List ℕ) → List (List ℕ)
 fronts n [] = []
 fronts n (part ∷ parts) = take (min (length part) n) part ∷ fronts (n - min (length part) n) parts
+
+pub concat-fronts : (n : ℕ) (parts : List (List ℕ)) → concat (fronts n parts) ≡ take n (concat parts)
+concat-fronts n [] = sym (take_all n [] (omega arith))
+concat-fronts n (part ∷ parts) =
+    let none : 0 ≡ min 0 (length part) = omega arith in
+    let all : min (length part) n ≡ min (length part - 0) n = omega arith in
+    ap (λ (t : List ℕ). take (min (length part) n) part ++ t) (concat-fronts (n - min (length part) n) parts)
+    ∙ sym (piece_first part (concat parts) 0 0 n (min (length part) n) none all)
+
+pub sizes-fronts : (n : ℕ) (parts : List (List ℕ)) → map length (fronts n parts) ≡ cut_sizes n (map length parts)
+sizes-fronts n [] = refl
+sizes-fronts n (part ∷ parts) =
+    let long : length (take (min (length part) n) part) ≡ min n (length part) = omega (arith, length-take (min (length part) n) part) in
+    let rest : n - min (length part) n ≡ n - length part = omega arith in
+    ap₂ (λ (size : ℕ) (sizes : List ℕ). size ∷ sizes) long (sizes-fronts (n - min (length part) n) parts ∙ ap (λ (k : ℕ). cut_sizes k (map length parts)) rest)
+
+-- one more segment is cut
+pub fronts_more : (parts : List (List ℕ)) (i rest keep : ℕ) (part new : List ℕ) → i < length parts → part ≡ get_or parts i [] → keep ≡ min (length part) rest → new ≡ take keep part
+    → take (i + 1) (set parts i new) ++ fronts (rest - keep) (drop (i + 1) (set parts i new)) ≡ take i parts ++ fronts rest (drop i parts)
+fronts_more parts i rest keep part new h is kept made =
+    ap₂ (λ (x y : List (List ℕ)). x ++ fronts (rest - keep) y) (take_more_set parts i new h) (drop-set-lt (i + 1) parts i new (omega arith))
+    ∙ append_assoc (take i parts) (new ∷ []) (fronts (rest - keep) (drop (i + 1) parts))
+    ∙ ap (λ (t : List (List ℕ)). take i parts ++ t)
+    (ap (λ (t : List ℕ). t ∷ fronts (rest - keep) (drop (i + 1) parts)) made
+    ∙ ap (λ (k : ℕ). take k part ∷ fronts (rest - k) (drop (i + 1) parts)) kept
+    ∙ sym (ap (fronts rest) (drop_more parts i [] h ∙ ap (λ (t : List ℕ). t ∷ drop (i + 1) parts) (sym is))))
+
+-- all are cut
+pub fronts_all : (parts : List (List ℕ)) (i rest : ℕ) → length parts ≤ i → take i parts ++ fronts rest (drop i parts) ≡ parts
+fronts_all parts i rest h =
+    ap₂ (λ (x y : List (List ℕ)). x ++ fronts rest y) (take_all i parts h) (drop_all i parts h) ∙ append-nil parts

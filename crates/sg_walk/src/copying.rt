@@ -39,15 +39,16 @@ pub fn scatter(alloc: Global, parts: &mut [Bytes], first: usize, at: usize, piec
     ensures sizes { map length parts.new ≡ map length parts.old }
 {
     let mut skip = at;
-    let mut rest = piece;
+    let mut done = 0;
     for i in first..parts.len() {
-        if rest.is_empty() {
+        if done == piece.len() {
             return;
         }
-        let begin = skip.min(parts[i].len());
-        let count = (parts[i].len() - begin).min(rest.len());
-        overwrite(alloc, &mut parts[i], begin, &rest[..count]);
+        let len = parts[i].len();
+        let begin = skip.min(len);
+        let count = (len - begin).min(piece.len() - done);
+        overwrite(alloc, &mut parts[i], begin, &piece[done..done + count]);
         skip -= begin;
-        rest = &rest[count..];
+        done += count;
     }
 }

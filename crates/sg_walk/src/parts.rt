@@ -44,6 +44,7 @@ pub fn copies(alloc: Global, parts: &[Bytes]) -> Result<Vec<Bytes>, AllocError>
 }
 
 /// Writes the piece over the bytes of the segment from `at` on.
+#[tactic(auto, unfolding(crate::specs::Segments::written))]
 pub fn overwrite(alloc: Global, part: &mut Bytes, at: usize, piece: &[u8])
     requires { at + length piece.now ≤ length part.old }
     ensures { part.new ≡ written at piece.now part.old }

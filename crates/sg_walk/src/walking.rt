@@ -3,7 +3,7 @@
 ghost use Rattle.std.specs.Prelude.{◌≡◌, ◌+◌, ◌-◌, ◌%◌, ◌<◌, ◌≤◌, min, [], length, map, take, drop, slice_index_or};
 ghost use Rattle.std.specs.List.{concat};
 ghost use Rattle.sg_walk.specs.Segments.{written};
-ghost use Rattle.sg_walk.proofs.Stepped.{Stepped};
+ghost use Rattle.sg_walk.specs.Stepped.{Stepped};
 
 use crate::copying::{gather, scatter};
 use crate::walker::Walker;
@@ -12,6 +12,7 @@ use std::alloc::Global;
 use std::mem;
 
 /// Goes over `count` bytes of the segment, from `at` on.
+#[tactic(auto, unfolding(crate::specs::Segments::written))]
 fn step_within<W: Walker>(alloc: Global, part: &mut Bytes, at: usize, count: usize, walker: &mut W)
     requires { at + count ≤ length part.old }
     ensures made { W.makes walker.old (take count (drop at part.old)) (take count (drop at part.new)) walker.new }
@@ -54,7 +55,7 @@ fn walk_part<W: Walker>(alloc: Global, parts: &mut [Bytes], i: usize, skip: usiz
         return 0;
     }
     let count = step_across(alloc, parts, i, at, walker);
-    at + count - len
+    count - (len - at)
 }
 
 /// Goes over all segments.

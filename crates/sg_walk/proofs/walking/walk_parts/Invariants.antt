@@ -1,6 +1,6 @@
 use Rattle.std.proofs.Common.{◌≡◌, ◌+◌, ◌%◌, ◌<◌, length, take}
 use Rattle.std.specs.List.{concat}
-use Rattle.sg_walk.proofs.Stepped.{Stepped}
+use Rattle.sg_walk.specs.Stepped.{Stepped}
 use Rattle.sg_walk.proofs.walking.walk_parts.Given as goal
 
 -- the segments before this one and `skip` more bytes were gone over
