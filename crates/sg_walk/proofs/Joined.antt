@@ -3,7 +3,7 @@ use Rattle.std.proofs.Common.{◌≡◌, ℕ, zero, suc, ◌+◌, ◌-◌, ◌<�
 use Rattle.std.specs.List.{concat}
 use Rattle.std.proofs.Math.Seq.{take-append-add, drop-append-add, take-append-le, drop-append-le, take-append_seam, drop-append_seam, take-add}
 use Rattle.std.proofs.lemmas.Bool.{cases_lt}
-use Rattle.std.proofs.lemmas.List.{drop_more, take_more, take_all, drop_all, take-take, drop-drop, take_more_set, take-set, drop-set-lt, drop-set, nil_from_length, get_or-map}
+use Rattle.std.proofs.lemmas.List.{length-map, drop_more, take_more, take_all, drop_all, take-take, drop-drop, take_more_set, take-set, drop-set-lt, drop-set, nil_from_length, get_or-map}
 use Rattle.std.proofs.lemmas.Slice.{take-put_mid, drop-put_mid}
 use borrow.Rule.Slice.PartMut.{put_mid}
 use Rattle.sg_walk.specs.Segments.{written, cut_sizes}
@@ -70,6 +70,9 @@ same_behind xs ys i e =
       length-append (concat (take i xs)) (concat (drop i xs)),
       length-append (concat (take i ys)) (concat (drop i ys)),
     )
+
+pub same_count : (xs ys : List (List ℕ)) → map length xs ≡ map length ys → length xs ≡ length ys
+same_count xs ys e = omega (arith, ap length e, length-map xs length, length-map ys length)
 
 pub same_at : (xs ys : List (List ℕ)) (i : ℕ) → map length xs ≡ map length ys → length (get_or xs i []) ≡ length (get_or ys i [])
 same_at [] [] i e = refl

@@ -5,7 +5,7 @@ use Rattle.std.proofs.Math.Seq.{take-add, drop-append-add, drop-append-le, take-
 use Rattle.std.proofs.lemmas.List.{take_all, take-take, drop-drop, drop-take, take_min}
 use Rattle.sg_walk.specs.Segments.{written}
 use Rattle.sg_walk.specs.Stepped.{Stepped}
-use Rattle.sg_walk.proofs.Joined.{concat_at, concat_round, same_total, same_before, same_rest, same_sizes, length_from, length-written, written_part}
+use Rattle.sg_walk.proofs.Joined.{concat_at, concat_more, concat_round, same_at, same_count, same_total, same_before, same_rest, same_sizes, length_from, length-written, written_part}
 
 -- the law of a walker
 abbrev pub Joins : {W : Type 0} → (W → List ℕ → List ℕ → W → Type 0) → Type 0
@@ -155,3 +155,57 @@ module _ {W : Type 0} (makes : W → List ℕ → List ℕ → W → Type 0) (u 
       let next : length (concat (take i ys)) + (skip + k) ≡ length (concat (take i xs)) + skip + k = omega (arith, same_before ys xs i first.sizes) in
       stepped_on makes u v w xs ys zs (length (concat (take i xs)) + skip) k count joins whole first
       (stepped_same makes v w ys zs (length (concat (take i ys)) + (skip + k)) (length (concat (take i xs)) + skip + k) count count next refl second)
+
+-- the segments before segment i and `skip` more bytes were gone over
+pub record Walked {W : Type 0} (makes : W → List ℕ → List ℕ → W → Type 0) (u : W) (xs ys : List (List ℕ)) (w : W) (i skip : ℕ) : Type 0 where
+  pub stepped : Stepped makes u xs ys w 0 (length (concat (take i xs)) + skip)
+  pub whole : length (concat (take i xs)) + skip < length (concat xs) → (length (concat (take i xs)) + skip) % 16 ≡ 0
+
+length_more : (parts : List (List ℕ)) (i : ℕ) → i < length parts → length (concat (take (i + 1) parts)) ≡ length (concat (take i parts)) + length (get_or parts i [])
+length_more parts i h = ap length (concat_more parts i h) ∙ length-append (concat (take i parts)) (get_or parts i [])
+
+pub walked_none : {W : Type 0} (makes : W → List ℕ → List ℕ → W → Type 0) (w : W) (xs : List (List ℕ)) → makes w [] [] w → Walked makes w xs xs w 0 0
+walked_none makes w xs stays = record { stepped = stepped_none makes w xs stays; whole = λ _. refl }
+
+module _ {W : Type 0} (makes : W → List ℕ → List ℕ → W → Type 0) (u v : W) (xs ys : List (List ℕ)) (i skip len : ℕ) (h : i < length xs) (is : len ≡ length (get_or ys i [])) (before : Walked makes u xs ys v i skip) where
+  next : length (concat (take (i + 1) xs)) ≡ length (concat (take i xs)) + len
+  next = omega (arith, length_more xs i h, same_at ys xs i before.stepped.sizes)
+
+  -- segment i was gone over already
+  pub walked_past : (zs : List (List ℕ)) (w : W) (skip' : ℕ) → len ≤ skip → zs ≡ ys → w ≡ v → skip' ≡ skip - len → Walked makes u xs zs w (i + 1) skip'
+  walked_past zs w skip' past e f left =
+      let same : length (concat (take i xs)) + skip ≡ length (concat (take (i + 1) xs)) + skip' = omega (arith, next) in
+      record {
+        stepped = subst (λ (z : List (List ℕ)). Stepped makes u xs z w 0 (length (concat (take (i + 1) xs)) + skip')) (sym e)
+            (subst (λ (t : W). Stepped makes u xs ys t 0 (length (concat (take (i + 1) xs)) + skip')) (sym f)
+            (stepped_same makes u v xs ys 0 0 (length (concat (take i xs)) + skip) (length (concat (take (i + 1) xs)) + skip') refl same before.stepped));
+        whole = subst (λ (n : ℕ). n < length (concat xs) → n % 16 ≡ 0) same before.whole;
+      }
+
+  -- the rest of segment i is gone over, and `skip'` bytes of those behind it
+  pub walked_on : (zs : List (List ℕ)) (w : W) (skip' : ℕ) → Joins makes → skip < len → Stepped makes v ys zs w (length (concat (take i ys)) + skip) (length (get_or ys i []) + skip' - skip)
+      → (length (get_or ys i []) + skip' < length (concat (drop i ys)) → (length (get_or ys i []) + skip' - skip) % 16 ≡ 0) → Walked makes u xs zs w (i + 1) skip'
+  walked_on zs w skip' joins inside s whole =
+      let m : ℕ = length (get_or ys i []) + skip' - skip in
+      let at : length (concat (take i ys)) + skip ≡ 0 + (length (concat (take i xs)) + skip) = omega (arith, same_before ys xs i before.stepped.sizes) in
+      let total : length (concat (take i ys)) + length (concat (drop i ys)) ≡ length (concat xs) =
+      omega (arith, ap length (concat_at ys i), length-append (concat (take i ys)) (concat (drop i ys)), same_total ys xs before.stepped.sizes) in
+      let blocks : (length (concat (take i xs)) + skip) % 16 ≡ 0 = before.whole (omega (arith, total, same_before ys xs i before.stepped.sizes, length_from ys i (omega (arith, h, same_count ys xs before.stepped.sizes)))) in
+      let all : length (concat (take i xs)) + skip + m ≡ length (concat (take (i + 1) xs)) + skip' = omega (arith, next) in
+      record {
+        stepped = stepped_same makes u w xs zs 0 0 (length (concat (take i xs)) + skip + m) (length (concat (take (i + 1) xs)) + skip') refl all
+            (stepped_on makes u v w xs ys zs 0 (length (concat (take i xs)) + skip) m joins blocks before.stepped
+            (stepped_same makes v w ys zs (length (concat (take i ys)) + skip) (0 + (length (concat (take i xs)) + skip)) m m at refl s));
+        whole = λ more. omega (arith, next, blocks, total, same_before ys xs i before.stepped.sizes, whole (omega (arith, next, total, same_before ys xs i before.stepped.sizes)));
+      }
+
+pub walked_same : {W : Type 0} (makes : W → List ℕ → List ℕ → W → Type 0) (u v w : W) (xs ys zs : List (List ℕ)) (i skip skip' : ℕ) → zs ≡ ys → w ≡ v → skip' ≡ skip
+    → Walked makes u xs ys v i skip → Walked makes u xs zs w i skip'
+walked_same {W} makes u v w xs ys zs i skip skip' e f g s =
+    subst (λ (z : List (List ℕ)). Walked makes u xs z w i skip') (sym e)
+    (subst (λ (t : W). Walked makes u xs ys t i skip') (sym f) (subst (λ (n : ℕ). Walked makes u xs ys v i n) (sym g) s))
+
+-- all segments were gone over
+pub walked_all : {W : Type 0} (makes : W → List ℕ → List ℕ → W → Type 0) (u w : W) (xs ys : List (List ℕ)) (i skip : ℕ) → length xs ≤ i → Walked makes u xs ys w i skip → makes u (concat xs) (concat ys) w
+walked_all makes u w xs ys i skip h s =
+    stepped_all makes u w xs ys (length (concat (take i xs)) + skip) (omega (arith, ap (λ (ps : List (List ℕ)). length (concat ps)) (take_all i xs h))) s.stepped
