@@ -1,9 +1,9 @@
 -- Segments, and the text that they make.
 use Rattle.std.proofs.Common.{◌≡◌, ℕ, zero, suc, ◌+◌, ◌-◌, ◌<◌, ◌≤◌, min, List, [], ◌∷◌, ◌++◌, length, map, take, drop, get_or, set, sym, ap, ap₂, ◌∙◌, refl, arith, zero-add, append_assoc, append-nil, length-append, length-take, length-drop, take-append-drop, ⊎_elim}
 use Rattle.std.specs.List.{concat}
-use Rattle.std.proofs.Math.Seq.{take-append-add, drop-append-add, take-append-le, drop-append-le, take-append_seam, drop-append_seam, take-add}
+use Rattle.std.proofs.Math.Seq.{take-append-add, drop-append-add, take-append-le, drop-append-le}
 use Rattle.std.proofs.lemmas.Bool.{cases_lt}
-use Rattle.std.proofs.lemmas.List.{length-map, drop_more, take_more, take_all, drop_all, take-take, drop-drop, take_more_set, take-set, drop-set-lt, drop-set, nil_from_length, get_or-map}
+use Rattle.std.proofs.lemmas.List.{length-map, drop_more, take_more, take_all, drop_all, drop-drop, take_more_set, take-set, drop-set-lt, drop-set, nil_from_length}
 use Rattle.std.proofs.lemmas.Slice.{take-put_mid, drop-put_mid}
 use borrow.Rule.Slice.PartMut.{put_mid}
 use Rattle.sg_walk.specs.Segments.{written, cut_sizes}

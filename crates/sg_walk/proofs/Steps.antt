@@ -1,5 +1,5 @@
 -- What a walk over a part of a text does.
-use Rattle.std.proofs.Common.{◌≡◌, ℕ, ◌+◌, ◌-◌, ◌%◌, ◌<◌, ◌≤◌, min, List, [], ◌++◌, length, map, take, drop, get_or, set, sym, ap, ap₂, ◌∙◌, refl, arith, subst, append_assoc, length-append, length-take, length-drop, take_at, drop_at}
+use Rattle.std.proofs.Common.{◌≡◌, ℕ, ◌+◌, ◌-◌, ◌%◌, ◌<◌, ◌≤◌, min, List, [], ◌++◌, length, map, take, drop, get_or, set, sym, ap, ◌∙◌, refl, arith, subst, append_assoc, length-append, length-take, length-drop, take_at, drop_at}
 use Rattle.std.specs.List.{concat}
 use Rattle.std.proofs.Math.Seq.{take-add, drop-append-add, drop-append-le, take-append-le}
 use Rattle.std.proofs.lemmas.List.{take_all, take-take, drop-drop, drop-take, take_min}

@@ -26,7 +26,13 @@ fn step_within<W: Walker>(alloc: Global, part: &mut Bytes, at: usize, count: usi
 
 /// Goes over a block that begins at the byte `at` of the segment `i`, and may go on in those behind it; the last one may be
 /// shorter than 16 bytes. How many it has.
-fn step_across<W: Walker>(alloc: Global, parts: &mut [Bytes], i: usize, at: usize, walker: &mut W) -> usize
+fn step_across<W: Walker>(
+    alloc: Global,
+    parts: &mut [Bytes],
+    i: usize,
+    at: usize,
+    walker: &mut W,
+) -> usize
     requires within { i < length parts.old }
     requires inside { at ≤ length (concat (drop i parts.old)) }
     ensures count { result ≡ min 16 (length (concat (drop i parts.old)) - at) }
@@ -41,7 +47,13 @@ fn step_across<W: Walker>(alloc: Global, parts: &mut [Bytes], i: usize, at: usiz
 
 /// Goes over the segment `i` from its byte `skip` on, with the whole block that ends behind it. How many bytes of those behind
 /// it were gone over.
-fn walk_part<W: Walker>(alloc: Global, parts: &mut [Bytes], i: usize, skip: usize, walker: &mut W) -> usize
+fn walk_part<W: Walker>(
+    alloc: Global,
+    parts: &mut [Bytes],
+    i: usize,
+    skip: usize,
+    walker: &mut W,
+) -> usize
     requires within { i < length parts.old }
     requires inside { skip < length (slice_index_or parts.old i []) }
     ensures stepped { Stepped W.makes walker.old parts.old parts.new walker.new (length (concat (take i parts.old)) + skip) (length (slice_index_or parts.old i []) + result - skip) }

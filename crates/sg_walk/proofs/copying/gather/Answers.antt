@@ -1,4 +1,4 @@
-use Rattle.std.proofs.Common.{◌≡◌, ◌+◌, ◌-◌, ◌<◌, ◌≤◌, ℕ, List, [], refl, sym, ap, ◌∙◌, arith, rules, length, take, drop, get_or, min, length-take, length-drop, length-append}
+use Rattle.std.proofs.Common.{◌≡◌, ◌+◌, ◌-◌, ◌≤◌, ℕ, List, [], ap, ◌∙◌, arith, rules, length, take, drop, get_or, min, length-take, length-drop, length-append}
 use Rattle.std.proofs.lemmas.List.{drop_all, get_or_default}
 use Rattle.std.specs.List.{concat}
 use Rattle.sg_walk.proofs.Joined.{copied_more, copied_rest, same_rest}

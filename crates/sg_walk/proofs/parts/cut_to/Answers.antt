@@ -1,7 +1,7 @@
-use Rattle.std.proofs.Common.{◌≡◌, ◌∙◌, ◌<◌, ◌≤◌, ℕ, List, [], sym, ap, arith, rules, length, get_or, map, min}
+use Rattle.std.proofs.Common.{◌≡◌, ◌∙◌, ◌<◌, ℕ, [], sym, ap, arith, rules, length, get_or, map, min}
 use Rattle.std.proofs.lemmas.List.{get_or_default}
 use Rattle.std.specs.List.{concat}
-use Rattle.sg_walk.proofs.Joined.{fronts, concat-fronts, sizes-fronts, fronts_more, fronts_all}
+use Rattle.sg_walk.proofs.Joined.{concat-fronts, sizes-fronts, fronts_more, fronts_all}
 use Rattle.sg_walk.proofs.parts.cut_to.Goals as goal
 
 pub loop-part-preserved : goal.loop-part-preserved

@@ -1,4 +1,4 @@
-use Rattle.std.proofs.Common.{◌≡◌, ◌+◌, ◌-◌, ◌≤◌, ◌++◌, ℕ, List, sym, ap, ◌∙◌, arith, length, take, drop, min, subst, length-take, take_at}
+use Rattle.std.proofs.Common.{◌≡◌, ◌+◌, ℕ, List, sym, ap, ◌∙◌, arith, length, take, drop, subst, length-take, take_at}
 use Rattle.std.specs.List.{concat}
 use Rattle.sg_walk.specs.Segments.{written}
 use Rattle.sg_walk.proofs.Steps.{piece_at, piece_within, stepped_over}

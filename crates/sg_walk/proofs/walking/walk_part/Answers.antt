@@ -1,7 +1,6 @@
-use Rattle.std.proofs.Common.{◌≡◌, ◌+◌, ◌-◌, ◌*◌, ◌/◌, ◌%◌, ◌<◌, ◌≤◌, ℕ, List, [], refl, sym, ap, ◌∙◌, arith, length, map, take, drop, get_or, set, min}
+use Rattle.std.proofs.Common.{◌≡◌, ◌+◌, ◌-◌, ◌*◌, ◌/◌, ℕ, List, [], refl, ap, ◌∙◌, arith, length, map, drop, get_or, set}
 use Rattle.std.proofs.lemmas.List.{get_or_default}
 use Rattle.std.specs.List.{concat}
-use Rattle.sg_walk.specs.Stepped.{Stepped}
 use Rattle.sg_walk.proofs.Joined.{same_behind}
 use Rattle.sg_walk.proofs.Steps.{stepped_same, stepped_within, same_parts, behind_within, stepped_both}
 use Rattle.sg_walk.proofs.walking.walk_part.Goals as goal

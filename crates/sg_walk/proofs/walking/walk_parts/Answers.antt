@@ -1,4 +1,4 @@
-use Rattle.std.proofs.Common.{◌≡◌, ◌∙◌, ◌+◌, ◌-◌, ◌<◌, ◌≤◌, ℕ, List, [], sym, ap, arith, length, get_or}
+use Rattle.std.proofs.Common.{◌≡◌, ◌∙◌, ◌+◌, ◌<◌, [], ap, arith, length, get_or}
 use Rattle.std.proofs.lemmas.List.{get_or_default}
 use Rattle.sg_walk.proofs.Steps.{walked_none, walked_past, walked_on, walked_same, walked_all}
 use Rattle.sg_walk.proofs.walking.walk_parts.Goals as goal
@@ -16,7 +16,7 @@ loop-i-preserved g c =
     elim c.if-len-skip.branch [
       | then-len-skip w ↦
           walked_past makes c.args.walker.now at.walker c.args.parts.now at.parts at.i at.skip c.len-len.result c.loop-i-test.true len at.invariant c.if-len-skip.parts c.if-len-skip.walker c.if-len-skip.skip
-              w.if-len-skip.true w.parts-is w.walker-is w.skip-is
+          w.if-len-skip.true w.parts-is w.walker-is w.skip-is
       | else-len-skip w ↦
           let walked = w.walk_part-skip in
           walked_same makes c.args.walker.now walked.new.walker c.if-len-skip.walker c.args.parts.now walked.new.parts c.if-len-skip.parts (at.i + 1) walked.result c.if-len-skip.skip w.parts-is w.walker-is w.skip-is
