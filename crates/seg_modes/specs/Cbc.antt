@@ -1,6 +1,6 @@
 -- CBC on its way over a text
 use Rattle.std.specs.Prelude.{◌≡◌, ℕ, zero, suc, ◌+◌, ◌*◌, ◌/◌, ◌%◌, ◌<◌, ◌≤◌, List, [], ◌++◌, length, take, drop}
-use Rattle.std.proofs.Common.{refl, sym, ap, ap₂, ◌∙◌, arith, subst, add-zero, add-suc, length-append, length-drop}
+use Rattle.std.proofs.Common.{refl, sym, ap, ap₂, ◌∙◌, arith, add-zero, add-suc, length-append, length-drop}
 use Rattle.std.proofs.Math.Seq.{drop-append-add, drop-append-le, take-append-le}
 use Rattle.std_defs.specs.Blocks.{xor_blocks, text_block, joined}
 use Rattle.std_defs.specs.Modes.{cbc_block, cbc_before, cbc_plain_block}

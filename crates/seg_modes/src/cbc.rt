@@ -1,15 +1,19 @@
 //! CBC over segments.
 
-ghost use Rattle.std.specs.Prelude.{◌≡◌, ◌-◌, nat_lt, if◌then◌else◌, length, drop};
+ghost use Rattle.std.specs.Prelude.{◌≡◌, ◌-◌, ◌<◌, All, nat_lt, if◌then◌else◌, length, drop};
 ghost use Rattle.seg_modes.specs.Cbc.{Seals, seals_none, seals_on, Unseals, unseals_none, unseals_on};
 
+use crate::seg_cipher::SegCipher;
 use aes_block::{BlockCipher, Skcipher};
 use cbc_mode::Cbc;
 use kc_base::Errno;
 use sg_walk::{Segs, Walker};
 use std::marker::Model;
 
-use crate::seg_cipher::SegCipher;
+/// What the type of a text says: each of its elements is a byte.
+fn are_bytes(text: &[u8])
+    ensures { All (λ x. x < 256) text.now }
+{}
 
 /// The last block of a text of whole blocks, or `before` where it has none.
 fn last_block(before: [u8; 16], text: &[u8]) -> [u8; 16]
@@ -61,6 +65,8 @@ impl<'a, C: BlockCipher + Drop> Walker for Sealing<'a, C> {
     ghost joins = { λ u v w a b made_a made_b whole first second. seals_on C.sealed u v w a b made_a made_b whole first second };
 
     fn step(&mut self, piece: &mut [u8]) {
+        are_bytes(&self.before);
+        are_bytes(piece);
         // a piece of whole blocks is taken
         let _ = self.mode.seal(&self.before, piece);
         self.before = last_block(self.before, piece);

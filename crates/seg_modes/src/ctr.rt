@@ -2,14 +2,13 @@
 
 ghost use Rattle.seg_modes.specs.Ctr.{Counts, counts_none, counts_on};
 
+use crate::seg_cipher::SegCipher;
 use aes_block::{BlockCipher, Skcipher};
 use ctr_mode::Ctr;
 use kc_base::Errno;
 use sg_walk::{Segs, Walker};
 use std::marker::Model;
 use std_defs::{block_bytes, block_number};
-
-use crate::seg_cipher::SegCipher;
 
 /// CTR on its way over a text: contracts see the cipher and the counter block of what comes next.
 #[derive(Drop)]
