@@ -8,4 +8,6 @@ mod aes_tables;
 #[cfg(test)]
 mod blobs;
 #[cfg(test)]
+mod segments;
+#[cfg(test)]
 mod vectors;

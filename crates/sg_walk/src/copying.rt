@@ -37,6 +37,7 @@ pub fn scatter(alloc: Global, parts: &mut [Bytes], first: usize, at: usize, piec
     requires within { at + length piece.now ≤ length (concat (drop first parts.old)) }
     ensures text { concat parts.new ≡ written (length (concat (take first parts.old)) + at) piece.now (concat parts.old) }
     ensures sizes { map length parts.new ≡ map length parts.old }
+    ensures len { length (concat parts.new) ≡ length (concat parts.old) }
 {
     let mut skip = at;
     let mut done = 0;

@@ -75,6 +75,7 @@ impl Segs {
         requires { at + length piece.now ≤ length self.old.text }
         ensures text { self.new.text ≡ written at piece.now self.old.text }
         ensures sizes { self.new.sizes ≡ self.old.sizes }
+        ensures len { length self.new.text ≡ length self.old.text }
     {
         let alloc = *self.parts.allocator();
         scatter(alloc, &mut self.parts, 0, at, piece);
@@ -118,6 +119,7 @@ impl Segs {
     pub fn walk<W: Walker>(&mut self, walker: &mut W)
         ensures text { W.makes walker.old self.old.text self.new.text walker.new }
         ensures sizes { self.new.sizes ≡ self.old.sizes }
+        ensures len { length self.new.text ≡ length self.old.text }
     {
         let alloc = *self.parts.allocator();
         walk_parts(alloc, &mut self.parts, walker);

@@ -74,6 +74,7 @@ fn walk_part<W: Walker>(
 pub fn walk_parts<W: Walker>(alloc: Global, parts: &mut [Bytes], walker: &mut W)
     ensures text { W.makes walker.old (concat parts.old) (concat parts.new) walker.new }
     ensures sizes { map length parts.new ≡ map length parts.old }
+    ensures len { length (concat parts.new) ≡ length (concat parts.old) }
 {
     let mut skip = 0;
     for i in 0..parts.len() {

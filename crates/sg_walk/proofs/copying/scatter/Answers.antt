@@ -2,7 +2,7 @@ use Rattle.std.proofs.Common.{◌≡◌, ◌+◌, ◌-◌, ◌<◌, ◌≤◌, �
 use Rattle.std.proofs.lemmas.List.{drop_all, get_or_default}
 use Rattle.std.specs.List.{concat}
 use Rattle.sg_walk.specs.Segments.{written}
-use Rattle.sg_walk.proofs.Joined.{concat_at, written_behind, length_from, written_sizes, behind_same, written_more, written_end}
+use Rattle.sg_walk.proofs.Joined.{concat_at, written_behind, length_from, written_sizes, behind_same, written_more, written_end, same_total}
 use Rattle.sg_walk.proofs.copying.scatter.Goals as goal
 
 pub loop-i-init : goal.loop-i-init
@@ -48,3 +48,9 @@ returns-clause-text c =
     let none : length (concat (drop c.loop-i.i c.loop-i.parts)) ≡ 0 = ap (λ (ps : List (List ℕ)). length (concat ps)) (drop_all c.loop-i.i c.loop-i.parts past) in
     sym (written_end c.loop-i.parts c.loop-i.i c.loop-i.skip (drop c.loop-i.done c.args.piece.now) (omega (arith, length-drop c.loop-i.done c.args.piece.now, c.loop-i.invariant.within)))
     ∙ c.loop-i.invariant.text
+
+pub returns-then-done-piece-clause-len : goal.returns-then-done-piece-clause-len
+returns-then-done-piece-clause-len c = same_total c.loop-i.parts c.args.parts.now c.loop-i.invariant.sizes
+
+pub returns-clause-len : goal.returns-clause-len
+returns-clause-len c = same_total c.loop-i.parts c.args.parts.now c.loop-i.invariant.sizes

@@ -1,5 +1,6 @@
 use Rattle.std.proofs.Common.{◌≡◌, ◌∙◌, ◌+◌, ◌<◌, [], ap, arith, length, get_or}
 use Rattle.std.proofs.lemmas.List.{get_or_default}
+use Rattle.sg_walk.proofs.Joined.{same_total}
 use Rattle.sg_walk.proofs.Steps.{walked_none, walked_past, walked_on, walked_same, walked_all}
 use Rattle.sg_walk.proofs.walking.walk_parts.Goals as goal
 use Rattle.sg_walk.proofs.walking.walk_parts.Goals.{then-len-skip, else-len-skip}
@@ -30,3 +31,6 @@ returns-clause-text g c =
 
 pub returns-clause-sizes : goal.returns-clause-sizes
 returns-clause-sizes g c = c.loop-i.invariant.stepped.sizes
+
+pub returns-clause-len : goal.returns-clause-len
+returns-clause-len g c = same_total c.loop-i.parts c.args.parts.now c.loop-i.invariant.stepped.sizes
