@@ -4,8 +4,7 @@ ghost use Rattle.std.specs.Prelude.{◌≡◌, Some, length};
 ghost use Rattle.std_defs.specs.Modes.{ctr, rfc3686_counter};
 ghost use Rattle.ctr_mode.specs.Laws.{ctr_undoes_itself};
 
-use crate::counter::Counter;
-use crate::key_stream::apply_key_stream;
+use crate::ctr::Ctr;
 use aes_block::{BlockCipher, Skcipher};
 use kc_base::Errno;
 use std::marker::Model;
@@ -14,7 +13,7 @@ use std::marker::Model;
 /// block cipher and the nonce. A text of any length is taken.
 #[derive(Drop)]
 pub struct Rfc3686<C: BlockCipher + Drop> {
-    cipher: C,
+    ctr: Ctr<C>,
     nonce: [u8; 4],
 }
 
@@ -23,7 +22,7 @@ impl<C: BlockCipher + Drop> Model for Rfc3686<C> {
 
     ghost Value = { C × List ℕ };
 
-    ghost view = { λ mode. (mode.cipher, mode.nonce) };
+    ghost view = { λ mode. (mode.ctr, mode.nonce) };
 }
 
 impl<C: BlockCipher + Drop> Rfc3686<C> {
@@ -31,19 +30,37 @@ impl<C: BlockCipher + Drop> Rfc3686<C> {
     pub fn new(cipher: C, nonce: [u8; 4]) -> Rfc3686<C>
         ensures { result ≡ (cipher, nonce) }
     {
-        Rfc3686 { cipher, nonce }
+        Rfc3686 {
+            ctr: Ctr::new(cipher),
+            nonce,
+        }
+    }
+
+    /// CTR over its cipher.
+    pub fn ctr(&self) -> &Ctr<C>
+        ensures { result.now ≡ self.now.0 }
+    {
+        &self.ctr
+    }
+
+    /// The first counter block of a text, under an IV of 8 bytes.
+    pub fn first_counter(&self, iv: &[u8]) -> [u8; 16]
+        requires { length iv.now ≡ 8 }
+        ensures { result ≡ rfc3686_counter self.now.1 iv.now }
+    {
+        counter_of(&self.nonce, iv)
     }
 
     /// The cipher that it was made with.
     pub fn cipher(&self) -> &C
         ensures { result.now ≡ self.now.0 }
     {
-        &self.cipher
+        self.ctr.cipher()
     }
 }
 
 /// The first counter block.
-fn first_counter(nonce: &[u8; 4], iv: &[u8]) -> [u8; 16]
+fn counter_of(nonce: &[u8; 4], iv: &[u8]) -> [u8; 16]
     requires { length iv.now ≡ 8 }
     ensures { result ≡ rfc3686_counter nonce.now iv.now }
 {
@@ -67,9 +84,7 @@ impl<C: BlockCipher + Drop> Skcipher for Rfc3686<C> {
     }
 
     fn seal(&self, iv: &[u8], b: &mut [u8]) -> Result<(), Errno> {
-        let first = first_counter(&self.nonce, iv);
-        apply_key_stream(&self.cipher, Counter::from_block(first), b);
-        Ok(())
+        self.ctr.seal(&counter_of(&self.nonce, iv), b)
     }
 
     fn unseal(&self, iv: &[u8], b: &mut [u8]) -> Result<(), Errno> {

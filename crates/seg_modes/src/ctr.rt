@@ -1,10 +1,12 @@
-//! CTR over segments.
+//! CTR over segments, and its form of RFC 3686.
 
+ghost use Rattle.std.specs.Prelude.{◌≡◌, length};
+ghost use Rattle.std_defs.specs.Modes.{ctr};
 ghost use Rattle.seg_modes.specs.Ctr.{Counts, counts_none, counts_on};
 
 use crate::seg_cipher::SegCipher;
 use aes_block::{BlockCipher, Skcipher};
-use ctr_mode::Ctr;
+use ctr_mode::{Ctr, Rfc3686};
 use kc_base::Errno;
 use sg_walk::{Segs, Walker};
 use std::marker::Model;
@@ -40,15 +42,32 @@ impl<'a, C: BlockCipher + Drop> Walker for Counting<'a, C> {
     }
 }
 
+/// Goes over the text by CTR, from a counter block on.
+fn count_over<C: BlockCipher + Drop>(mode: &Ctr<C>, counter: [u8; 16], b: &mut Segs)
+    ensures text { b.new.text ≡ ctr (C.sealed mode.now) counter b.old.text }
+    ensures sizes { b.new.sizes ≡ b.old.sizes }
+    ensures len { length b.new.text ≡ length b.old.text }
+{
+    let mut counting = Counting { mode, counter };
+    b.walk(&mut counting);
+}
+
 impl<C: BlockCipher + Drop> SegCipher for Ctr<C> {
     fn seal_segs(&self, iv: &[u8], b: &mut Segs) -> Result<(), Errno> {
         let mut counter = [0u8; 16];
         counter.copy_from_slice(iv);
-        let mut counting = Counting {
-            mode: self,
-            counter,
-        };
-        b.walk(&mut counting);
+        count_over(self, counter, b);
+        Ok(())
+    }
+
+    fn unseal_segs(&self, iv: &[u8], b: &mut Segs) -> Result<(), Errno> {
+        self.seal_segs(iv, b)
+    }
+}
+
+impl<C: BlockCipher + Drop> SegCipher for Rfc3686<C> {
+    fn seal_segs(&self, iv: &[u8], b: &mut Segs) -> Result<(), Errno> {
+        count_over(self.ctr(), self.first_counter(iv), b);
         Ok(())
     }
 

@@ -1,7 +1,7 @@
 use Rattle.std.proofs.Common.{◌≡◌, ℕ, List, [], ◌∷◌, ◌++◌, length, arith, ◌∙◌, refl}
 use Rattle.std.proofs.lemmas.Grind.{common_steps}
 use borrow.Rule.Slice.PartMut.{put_mid}
-use Rattle.ctr_mode.proofs.rfc3686.first_counter.Goals as goal
+use Rattle.ctr_mode.proofs.rfc3686.counter_of.Goals as goal
 
 -- the part from place a, of k elements, is written
 joined : (a k : ℕ) (x y z w : List ℕ) → length x ≡ a → length z ≡ k → put_mid a k (x ++ (z ++ w)) y ≡ x ++ y ++ w
