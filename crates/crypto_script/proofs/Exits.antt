@@ -1,5 +1,5 @@
 -- Each way in which a session leaves the lines of a source.
-use Rattle.std.proofs.Common.{◌≡◌, ℕ, ◌+◌, ◌-◌, ◌^◌, ◌<◌, ◌||◌, Bool, true, false, List, [], ◌∷◌, ◌++◌, length, take, Option, Some, None, Ok, Err, inl, inr, refl, sym, ap, subst, ◌∙◌, arith}
+use Rattle.std.proofs.Common.{◌≡◌, ℕ, ◌+◌, ◌-◌, ◌^◌, ◌<◌, ◌||◌, Bool, true, false, List, [], ◌∷◌, ◌++◌, length, take, Option, Some, None, Ok, Err, inl, inr, refl, sym, ap, subst, ◌∙◌, append-nil, arith}
 use Rattle.std.specs.Prelude.{IsErrOf}
 use Rattle.std.specs.List.{list_any}
 use Rattle.std.specs.Io.KnownBytes.{IsAtEnd}
@@ -102,7 +102,7 @@ module _ (laws : Laws) (stay : WholeLinesStay) (none : NoWholeLine) (first : Sta
           own = tt;
           shut = tt;
           malformed = tt;
-          first = record { failed = λ e. absurd cc; too_long = (λ e. absurd cc, λ lt. absurd (omega arith)); up_to = λ e. absurd cc; written = λ e. absurd cc };
+          first = record { failed = λ e. absurd cc; too_long = (λ e. absurd cc, λ lt. absurd (omega arith)); up_to = λ e. absurd cc; written = λ e. absurd cc; whole = tt };
           own_reads = λ e. elim e [ inl is ↦ absurd cc | inr is ↦ absurd cc ];
         };
       }
@@ -133,6 +133,7 @@ module _ (laws : Laws) (stay : WholeLinesStay) (none : NoWholeLine) (first : Sta
             let m = too_long-whole stay none place place' left left' left'' at.given at.done at.pending number (Err e) at.reading found (ap (λ z. Err z) (read_too_long e (error-is (of_input e) TooLong is))) in
             (m.0, m.1, m.2, answered-at (whole_script (take m.0 stopped_at)) m.3);
         written = λ is. absurd (read_wrote e (error-is (of_input e) WriteFault is));
+        whole = tt;
       }
 
       pub runs-unread : RunsSource left left'' first s (Err (of_input e)) x y
@@ -209,6 +210,7 @@ module _ (laws : Laws) (stay : WholeLinesStay) (none : NoWholeLine) (first : Sta
                 written = λ is.
                     going-begun laws first registry board at.done number x y z s s' at.going (whole_script (take (length all_at - 65536) all_at))
                     (after-behind stay none place place' left left' left'' at.given at.done at.pending number (Ok (Some said)) at.reading found) said breaks;
+                whole = tt;
               };
               own_reads = λ is. elim is [
                 | inl read ↦ absurd (wrote_read e (error-is (of_output e) ReadFault read))
@@ -256,6 +258,7 @@ module _ (laws : Laws) (stay : WholeLinesStay) (none : NoWholeLine) (first : Sta
             up_to = λ is. absurd (wrote_too_long e (error-is (of_output e) TooLong is));
             written = λ is.
                 going-end_begun laws first registry board at.done number x y z s s' at.going (whole_script (take (length end_at - 65536) end_at)) end-reading.behind breaks;
+            whole = tt;
           };
           own_reads = λ is. elim is [
             | inl read ↦ absurd (wrote_read e (error-is (of_output e) ReadFault read))
@@ -278,7 +281,15 @@ module _ (laws : Laws) (stay : WholeLinesStay) (none : NoWholeLine) (first : Sta
               own = going-ends_own laws first registry board at.done number x y z s s' at.going lines all-lines step;
               shut = shut;
               malformed = at.malformed_is ∙ ap (list_any is_malformed) (sym all-lines);
-              first = record { failed = λ e. absurd cc; too_long = (λ e. absurd cc, λ lt. absurd (short-end lt)); up_to = λ e. absurd cc; written = λ e. absurd cc };
+              first = record {
+                failed = λ e. absurd cc;
+                too_long = (λ e. absurd cc, λ lt. absurd (short-end lt));
+                up_to = λ e. absurd cc;
+                written = λ e. absurd cc;
+                whole =
+                    going-end_begun laws first registry board at.done number x y z s s' at.going (whole_script (take (length end_at - 65536) end_at)) end-reading.behind
+                    (inr (step.0, step.1, (step.0, ([], append-nil step.0), step.2)));
+              };
               own_reads = λ e. elim e [ inl is ↦ absurd cc | inr is ↦ absurd cc ];
             };
           }

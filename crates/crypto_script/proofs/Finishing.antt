@@ -51,6 +51,10 @@ use Rattle.crypto_script.specs.Text.{is_malformed}
 use Rattle.shared_registry.specs.Building.{is_building}
 use Rattle.crypto_script.proofs.Following.{none-pass, starts-trans, sees-then, others-then, board_calls-same}
 
+map_ok : {A B : Type 0} (result : Result Bool RunError) → (A → B) → OnOk result A → OnOk result B
+map_ok (Ok bad) f holds = f holds
+map_ok (Err e) f holds = tt
+
 -- ---- before the first line
 
 -- a pass that has seen nothing
@@ -254,6 +258,7 @@ module _ (laws : Laws) (workers : ℕ) (left left' : Option (List ℕ)) (p : Pas
       too_long = run.lines.first.too_long;
       up_to = λ is. let u = run.lines.first.up_to is in let g = u.3 in (u.0, u.1, u.2, (g.0, answered-on (whole_script (take u.0 run.given)) g.0 g.1, g.2));
       written = λ is. let g = run.lines.first.written is in (g.0, begins-on (whole_script (take (length run.given - 65536) run.given)) g.0 g.1, g.2);
+      whole = map_ok result (λ g. (g.0, begins-on (whole_script (take (length run.given - 65536) run.given)) g.0 g.1, g.2)) run.lines.first.whole;
     };
     own_reads = λ is. subst (λ (o : Option RegPass). IsOwn reg_caller (known o)) now.0 (run.lines.own_reads is);
   }
@@ -329,7 +334,7 @@ pub nothing_ran : (workers : ℕ) (left held : Option (List ℕ)) (r : List RegE
 nothing_ran workers left held r b = record {
   given = [];
   reads = record { read = Consumes-nil left; at_end = tt };
-  first = record { failed = λ e. absurd cc; too_long = (λ e. absurd cc, λ lt. absurd (omega arith)); up_to = λ e. absurd cc; written = λ e. absurd cc };
+  first = record { failed = λ e. absurd cc; too_long = (λ e. absurd cc, λ lt. absurd (omega arith)); up_to = λ e. absurd cc; written = λ e. absurd cc; whole = tt };
 }
 
 module _ (laws : CrewLaws) (workers : ℕ) (left left' : Option (List ℕ)) (first p q l : Passes Ask) (result : Result Bool RunError) (held held' : Option (List ℕ)) (r : List RegEntry) (b : List (BoardEntry Ask))
@@ -413,6 +418,7 @@ module _ (laws : CrewLaws) (workers : ℕ) (left left' : Option (List ℕ)) (fir
       too_long = source.first.too_long;
       up_to = λ is. let u = source.first.up_to is in let g = u.3 in (u.0, u.1, u.2, (g.0, g.1 r b (follow-registry (source.own_reads (inr is))) follow-board, g.2));
       written = λ is. let g = source.first.written is in (g.0, g.1 r b starts-registry starts-board, g.2);
+      whole = map_ok result (λ g. (g.0, g.1 r b starts-registry starts-board, g.2)) source.first.whole;
     };
   }
 

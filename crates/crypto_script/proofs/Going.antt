@@ -80,7 +80,7 @@ ended-goes s s' text text' r = record {
 
 -- ---- streams
 
-keeps-text : (a b c : Option (List ℕ)) (text : List ℕ) → Appends a b text → Keeps b c → Appends a c text
+pub keeps-text : (a b c : Option (List ℕ)) (text : List ℕ) → Appends a b text → Keeps b c → Appends a c text
 keeps-text None b c text grown kept = tt
 keeps-text (Some xs) None c text grown kept = absurd grown
 keeps-text (Some xs) (Some ys) None text grown kept = absurd kept

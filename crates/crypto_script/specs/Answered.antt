@@ -86,12 +86,13 @@ ShutsAlone by k l =
 -- ---- what a source gave
 
 -- What was written of the lines in these bytes where the source failed, gave too much, or the sink failed: the text of such as
--- were answered, or one that begins with theirs.
+-- were answered, or one that begins with theirs. So it does where all is written.
 pub record AnswersFirst (AreAll : List Line → List ℕ → Type 0) (BeginsWith : List Line → List ℕ → Type 0) (given : List ℕ) (result : Result Bool RunError) (held held' : Option (List ℕ)) : Type 0 where
   pub failed : IsErrOf result ReadFault → Gains held held' (AreAll (whole_script given))
   pub too_long : IsErrOf result TooLong ↔ (2 ^ 28 < length given)
   pub up_to : IsErrOf result TooLong → (m : ℕ) × (2 ^ 28 - 65535 ≤ m) × (m ≤ 2 ^ 28) × Gains held held' (AreAll (whole_script (take m given)))
   pub written : IsErrOf result WriteFault → Gains held held' (BeginsWith (whole_script (take (length given - 65536) given)))
+  pub whole : OnOk result (Gains held held' (BeginsWith (whole_script (take (length given - 65536) given))))
 
 -- what was read
 pub record HasRead (left left' : Option (List ℕ)) (given : List ℕ) (result : Result Bool RunError) : Type 0 where

@@ -1,5 +1,5 @@
 -- How a run ends.
-use Rattle.std.specs.Prelude.{◌≡◌, ℕ, ◌≤◌, Bool, true, false, List, [], ◌∷◌, ◌++◌, Option, Some, None, Result, Ok, Err, unwrap_or, All}
+use Rattle.std.specs.Prelude.{◌≡◌, ℕ, ◌≤◌, Bool, true, false, List, [], ◌∷◌, ◌++◌, Option, Some, None, Result, Ok, Err, All}
 use Rattle.alg_registry.specs.declared.entry.RegEntry.{RegEntry}
 use Rattle.alg_registry.specs.Rows.{caller_of as reg_caller}
 use Rattle.board.specs.declared.entry.BoardEntry.{BoardEntry}
@@ -11,40 +11,52 @@ use Rattle.command_line.specs.declared.mode.LoadOptions.{LoadOptions}
 use Rattle.command_line.specs.declared.mode.Mode.{Mode}
 use Rattle.command_line.specs.declared.mode.Mode.TheVariants.{Script, Load}
 use Rattle.command_line.specs.declared.mode.ScriptOptions.{ScriptOptions}
+use Rattle.trace_text.specs.Trace.{trace_of}
 use Rattle.transforms.specs.declared.ask.Ask.{Ask}
 
 -- ---- words
 
--- a script is run without a trace
-abbrev pub script_workers : ScriptOptions → Bool → Option ℕ
-script_workers options true = None
-script_workers options false = Some options.workers
+abbrev pub script_in_mode : Result Mode CommandLineError → Option ScriptOptions
+script_in_mode (Ok (Script options)) = Some options
+script_in_mode (Ok (Load options)) = None
+script_in_mode (Err error) = None
 
-abbrev pub workers_of_mode : Result Mode CommandLineError → Option ℕ
-workers_of_mode (Ok (Script options)) = script_workers options options.trace
-workers_of_mode (Ok (Load options)) = None
-workers_of_mode (Err error) = None
+-- how the words ask for a script to be run, where that is what they ask for
+unfoldable pub script_asked : List (List ℕ) → Option ScriptOptions
+script_asked words = script_in_mode (mode_of words)
 
--- beside how many workers the words ask for a script to be run, where that is what they ask for
-unfoldable pub workers_asked : List (List ℕ) → Option ℕ
-workers_asked words = workers_of_mode (mode_of words)
-
-abbrev pub load_of_mode : Result Mode CommandLineError → Option LoadOptions
-load_of_mode (Ok (Script options)) = None
-load_of_mode (Ok (Load options)) = Some options
-load_of_mode (Err error) = None
+abbrev pub load_in_mode : Result Mode CommandLineError → Option LoadOptions
+load_in_mode (Ok (Script options)) = None
+load_in_mode (Ok (Load options)) = Some options
+load_in_mode (Err error) = None
 
 -- the load that the words ask for, where that is what they ask for
 unfoldable pub load_asked : List (List ℕ) → Option LoadOptions
-load_asked words = load_of_mode (mode_of words)
+load_asked words = load_in_mode (mode_of words)
 
-abbrev pub workers_of_load : Option LoadOptions → ℕ
-workers_of_load (Some options) = options.workers
-workers_of_load None = 0
+abbrev pub workers_by : Option ScriptOptions → Option LoadOptions → ℕ
+workers_by (Some script) load = script.workers
+workers_by None (Some load) = load.workers
+workers_by None None = 0
 
 -- beside how many workers the words ask for a script or a load: 0 where they ask for neither
 abbrev pub workers_in : List (List ℕ) → ℕ
-workers_in words = unwrap_or (workers_asked words) (workers_of_load (load_asked words))
+workers_in words = workers_by (script_asked words) (load_asked words)
+
+abbrev pub traces_by : Option ScriptOptions → Bool
+traces_by (Some script) = script.trace
+traces_by None = false
+
+-- whether they ask for the trace of a script's run
+abbrev pub traces_in : List (List ℕ) → Bool
+traces_in words = traces_by (script_asked words)
+
+-- ---- the trace
+
+-- what is written of these histories after the text: their trace, where it is asked for
+abbrev pub traced : Bool → List RegEntry → List (BoardEntry Ask) → List ℕ
+traced true r b = trace_of (λ ask. ask.line) r b
+traced false r b = []
 
 -- ---- histories
 

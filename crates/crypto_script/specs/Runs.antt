@@ -14,7 +14,7 @@ use Rattle.dialogues.specs.RegistryCalls.{reg_calls}
 use Rattle.dialogues.specs.Texts.{IsText, IsFrontText}
 use Rattle.dialogues.specs.Walk.{start}
 use Rattle.dialogues.specs.Widths.{widest}
-use Rattle.kc_base.specs.Streams.{AppendsFront}
+use Rattle.kc_base.specs.Streams.{AppendsFront, IsPrefix}
 use Rattle.script_session.specs.Holding.{HasSeenMore}
 use Rattle.script_session.specs.States.{State, SameLocks}
 use Rattle.script_text.specs.declared.commands.Line.{Line}
@@ -34,6 +34,14 @@ ReadsUpTo old new is_too_long = (part : List ℕ) × Consumes old new part × (i
 -- the sink has gained bytes of which this holds
 abbrev pub Gains : Option (List ℕ) → Option (List ℕ) → (List ℕ → Type 0) → Type 0
 Gains old new P = (gained : List ℕ) × P gained × Appends old new gained
+
+-- the sink has gained bytes of which this holds, and after them the trace
+abbrev pub GainsThen : Option (List ℕ) → Option (List ℕ) → (List ℕ → Type 0) → List ℕ → Type 0
+GainsThen old new P trace = (gained : List ℕ) × P gained × Appends old new (gained ++ trace)
+
+-- a front of a text, or the whole of it and a front of the trace
+abbrev pub GainsFront : Option (List ℕ) → Option (List ℕ) → (List ℕ → Type 0) → (List ℕ → Type 0) → List ℕ → Type 0
+GainsFront old new IsFront IsWhole trace = Gains old new IsFront ⊎ ((front : List ℕ) × IsPrefix front trace × GainsThen old new IsWhole front)
 
 -- ---- how what passes know goes on
 

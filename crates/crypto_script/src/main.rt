@@ -18,6 +18,7 @@ mod pipeline_tests;
 mod program;
 #[cfg(test)]
 mod tests;
+mod tracing;
 
 use adapters::{StdSink, StdSource};
 use crew::NoGate;

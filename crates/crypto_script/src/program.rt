@@ -1,6 +1,6 @@
 //! The whole program, from the words and the bytes read to the bytes written.
 
-ghost use Rattle.std.specs.Prelude.{OnOk, ◌≡◌, ◌+◌, ◌-◌, ◌^◌, ◌<◌, ◌≤◌, ◌↔◌, ◌⊎◌, List, ℕ, [], Some, None, length, take, map, IfOk, IfErr, IfSome, IsErrOf, IsSome, IsTrue, string_bytes, true};
+ghost use Rattle.std.specs.Prelude.{OnOk, ◌≡◌, ◌+◌, ◌-◌, ◌^◌, ◌<◌, ◌≤◌, ◌↔◌, ◌⊎◌, List, ℕ, [], Some, None, length, take, map, IfOk, IfErr, IfSome, IsErrOf, IsSome, IsTrue, Ok, string_bytes, true};
 ghost use Rattle.std.specs.List.{list_any};
 ghost use Rattle.std.specs.Io.KnownBytes.{Appends};
 ghost use Rattle.kc_base.specs.Streams.{AppendsFront, Rose};
@@ -16,17 +16,19 @@ ghost use Rattle.dialogues.specs.Texts.{IsText, IsFrontText};
 ghost use Rattle.dialogues.specs.Walk.{start};
 ghost use Rattle.templates.specs.Table.{table};
 ghost use Rattle.crypto_script.specs.Answered.{Gives, AreAnswered, BeginsWithText};
-ghost use Rattle.crypto_script.specs.Endings.{workers_asked, load_asked, workers_in, AreCallers, EndsShut};
-ghost use Rattle.crypto_script.specs.Runs.{ReadsUpTo, Gains, InTurn};
+ghost use Rattle.command_line.specs.CommandLine.{IsWithinLimits};
+ghost use Rattle.crypto_script.specs.Endings.{script_asked, script_in_mode, load_asked, load_in_mode, workers_in, traces_in, traced, AreCallers, EndsShut};
+ghost use Rattle.crypto_script.specs.Runs.{ReadsUpTo, Gains, GainsThen, GainsFront, InTurn};
 ghost use Rattle.crypto_script.specs.Statuses.{status_of};
 ghost use Rattle.crypto_script.specs.Text.{is_malformed};
 
-use crate::beside::{Ran, run_script};
+use crate::beside::Ran;
 use crate::errors::{RunError, status_by};
 use crate::load::run_load;
+use crate::tracing::run_traced;
 use alg_registry::RegLog;
 use board::BoardLog;
-use command_line::{LoadOptions, Mode, parse_words};
+use command_line::{Mode, parse_words};
 use crew::Gate;
 use kc_base::{Sink, Source};
 use std::alloc::Global;
@@ -45,33 +47,15 @@ pub struct Outcome {
     pub board: BoardLog<Ask>,
 }
 
-// Beside how many workers the words ask for a script to be run. A trace is not answered yet.
-fn workers_for(alloc: Global, words: &[String]) -> Result<u32, RunError>
-    ensures asked { IfOk result (λ workers. workers_asked (map string_bytes words.now) ≡ Some workers) }
-    ensures few { IfOk result (λ workers. workers ≤ 16) }
-    ensures refused { IfErr result (λ e. (e ≡ RunError.NoMemory) ⊎ ((e ≡ RunError.Usage) × (workers_asked (map string_bytes words.now) ≡ None))) }
+// What the words ask for.
+fn mode_for(alloc: Global, words: &[String]) -> Result<Mode, RunError>
+    ensures script { IfOk result (λ mode. script_asked (map string_bytes words.now) ≡ script_in_mode (Ok mode)) }
+    ensures load { IfOk result (λ mode. load_asked (map string_bytes words.now) ≡ load_in_mode (Ok mode)) }
+    ensures bounds { IfOk result IsWithinLimits }
+    ensures refused { IfErr result (λ e. (e ≡ RunError.NoMemory) ⊎ ((e ≡ RunError.Usage) × (script_asked (map string_bytes words.now) ≡ None) × (load_asked (map string_bytes words.now) ≡ None))) }
 {
-    let Mode::Script(options) = parse_words(alloc, words)? else {
-        return Err(RunError::Usage);
-    };
-    if options.trace {
-        return Err(RunError::Usage);
-    }
-    Ok(options.workers)
-}
-
-// The load that the words ask for, where that is what they ask for.
-fn load_for(alloc: Global, words: &[String]) -> Result<Option<LoadOptions>, RunError>
-    ensures asked { IfOk result (λ load. load_asked (map string_bytes words.now) ≡ load) }
-    ensures no_script { IfOk result (λ load. IsSome load → workers_asked (map string_bytes words.now) ≡ None) }
-    ensures few { IfOk result (λ load. IfSome load (λ options. options.workers ≤ 16)) }
-    ensures count { IfOk result (λ load. IfSome load (λ options. options.count ≤ 100000)) }
-    ensures refused { IfErr result (λ e. (e ≡ RunError.NoMemory) ⊎ ((e ≡ RunError.Usage) × (workers_asked (map string_bytes words.now) ≡ None) × (load_asked (map string_bytes words.now) ≡ None))) }
-{
-    match parse_words(alloc, words)? {
-        Mode::Load(options) => Ok(Some(options)),
-        Mode::Script(_) => Ok(None),
-    }
+    let mode = parse_words(alloc, words)?;
+    Ok(mode)
 }
 
 // The outcome of what was run.
@@ -93,7 +77,7 @@ fn outcome_of(ran: Ran) -> Outcome
 }
 
 /// Does all that the program does: reads a script from the source, and writes the answers of its lines, each in one piece, to the
-/// sink; or makes the requests of a load, and writes its line. It reads at most 65,536 bytes at once, and only where each whole line
+/// sink, and then the run's trace, where the words ask for it; or makes the requests of a load, and writes its line. It reads at most 65,536 bytes at once, and only where each whole line
 /// of what it has is answered. The words are the program's arguments without its name. Beside the script, or the load, stand as many
 /// workers as the words ask for, which do its jobs and build its instances; they pass the gate with each job.
 ///
@@ -101,7 +85,7 @@ fn outcome_of(ran: Ran) -> Outcome
 /// |---|---|
 /// | 0 | the run reached the end, and no line is malformed; or the load's line is written |
 /// | 1 | the run reached the end, and a line is malformed |
-/// | 2 | the words are no command, or ask for a trace, which isn't there yet |
+/// | 2 | the words are no command |
 /// | 3, 4 | the source, the sink failed |
 /// | 5 | memory is wanting |
 /// | 6 | the source has more than 2^28 bytes |
@@ -114,19 +98,20 @@ pub fn run<S: Source, K: Sink, G: Gate + Sync, R: Threads + Wait + Sync>(
     src: &mut S,
     out: &mut K,
 ) -> Outcome
-    // A run that reaches the end has read the script whole, written its text, and shut the board last. The script has called the
-    // registry in turn, with as many looks at once as a probe has names.
-    ensures ended { IsSome (workers_asked (map string_bytes words.now)) → result.status ≤ 1 → IfSome (S.left src.old) (λ _. S.left src.new ≡ Some []) }
-    ensures whole { IsSome (workers_asked (map string_bytes words.now)) → result.status ≤ 1 → IfSome (S.left src.old) (λ script. Gains (K.held out.old) (K.held out.new) (IsText (workers_in (map string_bytes words.now)) (start 0) 0 (script_of script) result.registry result.board)) }
-    ensures shut { IsSome (workers_asked (map string_bytes words.now)) → result.status ≤ 1 → EndsShut result.board }
-    ensures in_turn { IsSome (workers_asked (map string_bytes words.now)) → result.status ≤ 1 → IfSome (S.left src.old) (λ script. InTurn (script_of script) result.registry) }
-    ensures malformed { IsSome (workers_asked (map string_bytes words.now)) → result.status ≤ 1 → IfSome (S.left src.old) (λ script. (result.status ≡ 1) ↔ IsTrue (list_any is_malformed (script_of script))) }
+    // A run that reaches the end has read the script whole, written its text, then the trace where the words ask for it, and shut
+    // the board last. The script has called the registry in turn, with as many looks at once as a probe has names.
+    ensures ended { IsSome (script_asked (map string_bytes words.now)) → result.status ≤ 1 → IfSome (S.left src.old) (λ _. S.left src.new ≡ Some []) }
+    ensures whole { IsSome (script_asked (map string_bytes words.now)) → result.status ≤ 1 → IfSome (S.left src.old) (λ script. GainsThen (K.held out.old) (K.held out.new) (IsText (workers_in (map string_bytes words.now)) (start 0) 0 (script_of script) result.registry result.board) (traced (traces_in (map string_bytes words.now)) result.registry result.board)) }
+    ensures shut { IsSome (script_asked (map string_bytes words.now)) → result.status ≤ 1 → EndsShut result.board }
+    ensures in_turn { IsSome (script_asked (map string_bytes words.now)) → result.status ≤ 1 → IfSome (S.left src.old) (λ script. InTurn (script_of script) result.registry) }
+    ensures malformed { IsSome (script_asked (map string_bytes words.now)) → result.status ≤ 1 → IfSome (S.left src.old) (λ script. (result.status ≡ 1) ↔ IsTrue (list_any is_malformed (script_of script))) }
 
     // What a settled script writes is a function of its lines alone: the same beside every number of workers.
-    ensures settled { IsSome (workers_asked (map string_bytes words.now)) → result.status ≤ 1 → IfSome (S.left src.old) (λ script. IsSettled (script_of script) → Gains (K.held out.old) (K.held out.new) (λ text. text ≡ plain_text (script_of script))) }
+    ensures settled { IsSome (script_asked (map string_bytes words.now)) → result.status ≤ 1 → IfSome (S.left src.old) (λ script. IsSettled (script_of script) → GainsThen (K.held out.old) (K.held out.new) (λ text. text ≡ plain_text (script_of script)) (traced (traces_in (map string_bytes words.now)) result.registry result.board)) }
 
-    // However a run ends, what it has written is a front of the text.
-    ensures front { IsSome (workers_asked (map string_bytes words.now)) → IfSome (S.left src.old) (λ script. Gains (K.held out.old) (K.held out.new) (IsFrontText (workers_in (map string_bytes words.now)) (start 0) 0 (script_of script) result.registry result.board)) }
+    // However a run ends, what it has written is a front of the text; or the whole text, and a front of the trace.
+    ensures front { IsSome (script_asked (map string_bytes words.now)) → IfSome (S.left src.old) (λ script. GainsFront (K.held out.old) (K.held out.new) (IsFrontText (workers_in (map string_bytes words.now)) (start 0) 0 (script_of script) result.registry result.board)
+        (IsText (workers_in (map string_bytes words.now)) (start 0) 0 (script_of script) result.registry result.board) (traced (traces_in (map string_bytes words.now)) result.registry result.board)) }
 
     // A load that reaches the end has written its line, pads 0 and 1 have accepted its requests and handed each out, and the board
     // was shut last. It reads nothing, and what it has written is a front of its line however it ends.
@@ -140,11 +125,11 @@ pub fn run<S: Source, K: Sink, G: Gate + Sync, R: Threads + Wait + Sync>(
     // Where the source fails, the lines whose line feed stood in what it gave are answered whole, and nothing else is written.
     // Where it gives too much, so are those of a front that is at most a read shorter than the limit. Where the sink fails, it has
     // gained the text of those that stood before the last 65,536 bytes, or more.
-    ensures answered { IsSome (workers_asked (map string_bytes words.now)) → result.status ≡ 3 → Gives (S.left src.old) (S.left src.new) (λ given. Gains (K.held out.old) (K.held out.new)
+    ensures answered { IsSome (script_asked (map string_bytes words.now)) → result.status ≡ 3 → Gives (S.left src.old) (S.left src.new) (λ given. Gains (K.held out.old) (K.held out.new)
         (AreAnswered (workers_in (map string_bytes words.now)) (whole_script given) result.registry result.board)) }
-    ensures answered_up_to { IsSome (workers_asked (map string_bytes words.now)) → result.status ≡ 6 → Gives (S.left src.old) (S.left src.new) (λ given. (m : ℕ) × (2 ^ 28 - 65535 ≤ m) × (m ≤ 2 ^ 28) × Gains (K.held out.old) (K.held out.new)
+    ensures answered_up_to { IsSome (script_asked (map string_bytes words.now)) → result.status ≡ 6 → Gives (S.left src.old) (S.left src.new) (λ given. (m : ℕ) × (2 ^ 28 - 65535 ≤ m) × (m ≤ 2 ^ 28) × Gains (K.held out.old) (K.held out.new)
         (AreAnswered (workers_in (map string_bytes words.now)) (whole_script (take m given)) result.registry result.board)) }
-    ensures answered_front { IsSome (workers_asked (map string_bytes words.now)) → result.status ≡ 4 → Gives (S.left src.old) (S.left src.new) (λ given. Gains (K.held out.old) (K.held out.new)
+    ensures answered_front { IsSome (script_asked (map string_bytes words.now)) → result.status ≡ 4 → Gives (S.left src.old) (S.left src.new) (λ given. Gains (K.held out.old) (K.held out.new)
         (BeginsWithText (workers_in (map string_bytes words.now)) (whole_script (take (length given - 65536) given)) result.registry result.board)) }
 
     // Whatever ended the run, each entry of a history is right for those before it, each instance is what its template makes of
@@ -158,26 +143,25 @@ pub fn run<S: Source, K: Sink, G: Gate + Sync, R: Threads + Wait + Sync>(
     ensures closed { (result.board ≡ []) ⊎ (is_shut result.board ≡ true) }
 
     // Each other status has its cause. That of 5 is want of memory.
-    ensures usage { result.status ≡ 2 → (workers_asked (map string_bytes words.now) ≡ None) × (load_asked (map string_bytes words.now) ≡ None) }
-    ensures refused { workers_asked (map string_bytes words.now) ≡ None → load_asked (map string_bytes words.now) ≡ None → (result.status ≡ 2) ⊎ (result.status ≡ 5) }
-    ensures untouched { workers_asked (map string_bytes words.now) ≡ None → load_asked (map string_bytes words.now) ≡ None → (src.new ≡ src.old) × (out.new ≡ out.old) × (result.registry ≡ []) × (result.board ≡ []) }
+    ensures usage { result.status ≡ 2 → (script_asked (map string_bytes words.now) ≡ None) × (load_asked (map string_bytes words.now) ≡ None) }
+    ensures refused { script_asked (map string_bytes words.now) ≡ None → load_asked (map string_bytes words.now) ≡ None → (result.status ≡ 2) ⊎ (result.status ≡ 5) }
+    ensures untouched { script_asked (map string_bytes words.now) ≡ None → load_asked (map string_bytes words.now) ≡ None → (src.new ≡ src.old) × (out.new ≡ out.old) × (result.registry ≡ []) × (result.board ≡ []) }
     ensures read_fault { result.status ≡ 3 → Rose (S.faults src.old) (S.faults src.new) }
     ensures write_fault { result.status ≡ 4 → Rose (K.faults out.old) (K.faults out.new) }
     ensures too_long { ReadsUpTo (S.left src.old) (S.left src.new) (result.status ≡ 6) }
     ensures known { result.status ≤ 6 }
 
     // A command over streams that don't fail, and a script within the limit, reaches the end where memory suffices.
-    ensures complete { IsSome (workers_asked (map string_bytes words.now)) → ¬ (Rose (S.faults src.old) (S.faults src.new)) → ¬ (Rose (K.faults out.old) (K.faults out.new))
+    ensures complete { IsSome (script_asked (map string_bytes words.now)) → ¬ (Rose (S.faults src.old) (S.faults src.new)) → ¬ (Rose (K.faults out.old) (K.faults out.new))
         → IfSome (S.left src.old) (λ script. length script ≤ 2 ^ 28 → (result.status ≤ 1) ⊎ (result.status ≡ 5)) }
 {
-    match load_for(alloc, words) {
-        Ok(Some(options)) => return outcome_of(run_load(rt, alloc, &options, gate, out)),
-        Ok(None) => {}
-        Err(error) => return outcome_of(Ran::not_at_all(alloc, error)),
-    }
-    let workers = match workers_for(alloc, words) {
-        Ok(workers) => workers,
+    let mode = match mode_for(alloc, words) {
+        Ok(mode) => mode,
         Err(error) => return outcome_of(Ran::not_at_all(alloc, error)),
     };
-    outcome_of(run_script(rt, alloc, workers, gate, src, out))
+    let options = match mode {
+        Mode::Script(options) => options,
+        Mode::Load(options) => return outcome_of(run_load(rt, alloc, &options, gate, out)),
+    };
+    outcome_of(run_traced(rt, alloc, &options, gate, src, out))
 }

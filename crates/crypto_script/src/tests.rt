@@ -373,7 +373,7 @@ fn at_most_4096_transforms_live(rt: HostRuntime) -> Result<(), Fail> {
 #[test]
 fn words_are_refused(rt: HostRuntime) -> Result<(), Fail> {
     let alloc = rt.alloc();
-    for word in ["x", "--workers", "--workers=17", "--trace", "--count=5"] {
+    for word in ["x", "--workers", "--workers=17", "--trace=1", "--count=5"] {
         let words = vec![in alloc; String::from_str(alloc, word)?]?;
         let mut out = SureSink::new(alloc);
         let mut src = SureSource::new(bytes_of(alloc, LINE)?);
