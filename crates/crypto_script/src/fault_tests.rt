@@ -13,18 +13,17 @@ use std::thread::Threads;
 
 const CREWS: [u32; 3] = [0, 1, 4];
 
-// Settled scripts and their texts: three requests to a pad, and a queue that is held with a request in its backlog. The bytes are
-// those of GCM's second test case, and of SP 800-38A, F.2.1.
-const ROWS: [(&str, &str); 2] = [
-    (
-        "alloc p pcrypt(gcm(aes))\nkey p 00000000000000000000000000000000\nenc p 000000000000000000000000 - 00000000000000000000000000000000\nenc p 000000000000000000000000 - 00000000000000000000000000000000\nenc p 000000000000000000000000 - 00000000000000000000000000000000\ndrain p\n",
-        "1 ok pcrypt(gcm_base(ctr(aes-generic),ghash-generic))\n2 ok\n3 EINPROGRESS\n4 EINPROGRESS\n5 EINPROGRESS\n3 done 0388dace60b6a392f328c2b971b2fe78ab6e47d42cec13bdf53a67b21257bddf\n4 done 0388dace60b6a392f328c2b971b2fe78ab6e47d42cec13bdf53a67b21257bddf\n5 done 0388dace60b6a392f328c2b971b2fe78ab6e47d42cec13bdf53a67b21257bddf\n6 drained 3\n",
-    ),
-    (
-        "alloc q cryptd(cbc(aes)) 2\nkey q 2b7e151628aed2a6abf7158809cf4f3c\nhold q\nenc q 000102030405060708090a0b0c0d0e0f - 6bc1bee22e409f96e93d7e117393172a\nenc q 000102030405060708090a0b0c0d0e0f - 6bc1bee22e409f96e93d7e117393172a\nenc q 000102030405060708090a0b0c0d0e0f - 6bc1bee22e409f96e93d7e117393172a backlog\nenc q 000102030405060708090a0b0c0d0e0f - 6bc1bee22e409f96e93d7e117393172a\ndrain q\ngo q\ndrain q\n",
-        "1 ok cryptd(cbc(aes-generic))\n2 ok\n3 ok\n4 EINPROGRESS\n5 EINPROGRESS\n6 EBUSY\n7 ENOSPC\n8 EINVAL\n9 ok\n6 started\n4 done 7649abac8119b246cee98e9b12e9197d\n5 done 7649abac8119b246cee98e9b12e9197d\n6 done 7649abac8119b246cee98e9b12e9197d\n10 drained 3\n",
-    ),
-];
+// Three requests to a pad, and their text. The bytes are those of GCM's second test case.
+const PAD: (&str, &str) = (
+    "alloc p pcrypt(gcm(aes))\nkey p 00000000000000000000000000000000\nenc p 000000000000000000000000 - 00000000000000000000000000000000\nenc p 000000000000000000000000 - 00000000000000000000000000000000\nenc p 000000000000000000000000 - 00000000000000000000000000000000\ndrain p\n",
+    "1 ok pcrypt(gcm_base(ctr(aes-generic),ghash-generic))\n2 ok\n3 EINPROGRESS\n4 EINPROGRESS\n5 EINPROGRESS\n3 done 0388dace60b6a392f328c2b971b2fe78ab6e47d42cec13bdf53a67b21257bddf\n4 done 0388dace60b6a392f328c2b971b2fe78ab6e47d42cec13bdf53a67b21257bddf\n5 done 0388dace60b6a392f328c2b971b2fe78ab6e47d42cec13bdf53a67b21257bddf\n6 drained 3\n",
+);
+
+// A queue that is held with a request in its backlog, and its text. The bytes are those of SP 800-38A, F.2.1.
+const QUEUE: (&str, &str) = (
+    "alloc q cryptd(cbc(aes)) 2\nkey q 2b7e151628aed2a6abf7158809cf4f3c\nhold q\nenc q 000102030405060708090a0b0c0d0e0f - 6bc1bee22e409f96e93d7e117393172a\nenc q 000102030405060708090a0b0c0d0e0f - 6bc1bee22e409f96e93d7e117393172a\nenc q 000102030405060708090a0b0c0d0e0f - 6bc1bee22e409f96e93d7e117393172a backlog\nenc q 000102030405060708090a0b0c0d0e0f - 6bc1bee22e409f96e93d7e117393172a\ndrain q\ngo q\ndrain q\n",
+    "1 ok cryptd(cbc(aes-generic))\n2 ok\n3 ok\n4 EINPROGRESS\n5 EINPROGRESS\n6 EBUSY\n7 ENOSPC\n8 EINVAL\n9 ok\n6 started\n4 done 7649abac8119b246cee98e9b12e9197d\n5 done 7649abac8119b246cee98e9b12e9197d\n6 done 7649abac8119b246cee98e9b12e9197d\n10 drained 3\n",
+);
 
 // The stream that fails.
 #[derive(Clone, Copy, Debug, PartialEq, Eq)]
@@ -94,15 +93,28 @@ fn fail_each<R: Abort + Threads + Wait + Sync>(
     Ok(())
 }
 
-#[test]
-fn each_read_fails_in_turn(rt: HostRuntime) -> Result<(), Fail> {
+// Lets each read of a row fail in turn: one for each byte, and one that finds the end.
+fn fail_each_read<R: Abort + Threads + Wait + Sync>(
+    rt: &R,
+    alloc: Global,
+    row: (&str, &str),
+) -> Result<(), AllocError> {
+    let calls = row.0.len() as u64 + 1;
     for workers in CREWS {
-        for row in ROWS {
-            // a read for each byte, and one that finds the end
-            let calls = row.0.len() as u64 + 1;
-            fail_each(&rt, rt.alloc(), workers, row, Stream::Source, calls)?;
-        }
+        fail_each(rt, alloc, workers, row, Stream::Source, calls)?;
     }
+    Ok(())
+}
+
+#[test]
+fn each_read_of_requests_to_a_pad_fails_in_turn(rt: HostRuntime) -> Result<(), Fail> {
+    fail_each_read(&rt, rt.alloc(), PAD)?;
+    Ok(())
+}
+
+#[test]
+fn each_read_of_requests_to_a_queue_fails_in_turn(rt: HostRuntime) -> Result<(), Fail> {
+    fail_each_read(&rt, rt.alloc(), QUEUE)?;
     Ok(())
 }
 
@@ -110,7 +122,7 @@ fn each_read_fails_in_turn(rt: HostRuntime) -> Result<(), Fail> {
 fn each_write_fails_in_turn(rt: HostRuntime) -> Result<(), Fail> {
     for workers in CREWS {
         // three bytes of a line's answers a write
-        for (row, calls) in [(ROWS[0], 111), (ROWS[1], 83)] {
+        for (row, calls) in [(PAD, 111), (QUEUE, 83)] {
             fail_each(&rt, rt.alloc(), workers, row, Stream::Sink, calls)?;
         }
     }
