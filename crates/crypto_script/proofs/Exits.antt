@@ -5,6 +5,7 @@ use Rattle.std.specs.List.{list_any}
 use Rattle.std.specs.Io.KnownBytes.{IsAtEnd}
 use Rattle.std.proofs.KnownBytes.{Consumes-nil}
 use Rattle.std.proofs.lemmas.List.Folds.{list_any-append}
+use Rattle.board.specs.Legal.{is_shut}
 use Rattle.dialogues.specs.Lines.{line_dialogue}
 use Rattle.dialogues.specs.Turns.{text_in}
 use Rattle.dialogues.specs.Widths.{width_of}
@@ -28,7 +29,7 @@ use Rattle.crypto_script.specs.declared.errors.RunError.{RunError}
 use Rattle.crypto_script.specs.declared.errors.RunError.TheVariants.{ReadFault, WriteFault, TooLong, NoMemory}
 use Rattle.crypto_script.specs.Answered.{AreAnsweredAfter, BeginsWithTextAfter, AnswersFirst, RunsSource, script_in}
 use Rattle.crypto_script.specs.Laws.{Laws}
-use Rattle.crypto_script.specs.Runs.{Gains, IsFresh, Writes, Breaks, IsFrontAfter}
+use Rattle.crypto_script.specs.Runs.{Gains, IsFresh, IsUnshutOrEnds, Writes, Breaks, IsFrontAfter}
 use Rattle.crypto_script.specs.Statuses.{of_input, of_output}
 use Rattle.crypto_script.specs.Text.{is_malformed}
 use Rattle.crypto_script.proofs.Going.{Going, goes-same, keeps-same, going-begins, going-more, going-breaks, going-end_breaks, going-begun, going-end_begun, going-ends, going-ends_front, going-ends_in_turn, going-ends_own, line_broken-goes, end_broken-goes, end-goes, stopped, led-answered}
@@ -101,6 +102,7 @@ module _ (laws : Laws) (stay : WholeLinesStay) (none : NoWholeLine) (first : Sta
           in_turn = tt;
           own = tt;
           shut = tt;
+          unshut = inl (ready.posted.unshut fresh.board.0);
           malformed = tt;
           first = record { failed = λ e. absurd cc; too_long = (λ e. absurd cc, λ lt. absurd (omega arith)); up_to = λ e. absurd cc; written = λ e. absurd cc; whole = tt };
           own_reads = λ e. elim e [ inl is ↦ absurd cc | inr is ↦ absurd cc ];
@@ -152,6 +154,7 @@ module _ (laws : Laws) (stay : WholeLinesStay) (none : NoWholeLine) (first : Sta
               in_turn = tt;
               own = tt;
               shut = tt;
+              unshut = inl (at.going.ready.posted.unshut at.going.led.board_caller);
               malformed = tt;
               first = not-read;
               own_reads = λ is. at.going.ready.stands.caller.own;
@@ -186,8 +189,8 @@ module _ (laws : Laws) (stay : WholeLinesStay) (none : NoWholeLine) (first : Sta
           or_none true = refl
           or_none false = refl
 
-      pub runs-broken : (z : Option (List ℕ)) (s' : State) (e : SinkError) → Breaks s s' (Replies (width_of said) (line_dialogue s.workers s.walk number said) s s' []) y z → RunsSource left left'' first s' (Err (of_output e)) x z
-      runs-broken z s' e breaks =
+      pub runs-broken : (z : Option (List ℕ)) (s' : State) (e : SinkError) → Breaks s s' (Replies (width_of said) (line_dialogue s.workers s.walk number said) s s' []) y z → ((known s'.board).number ≡ 0 → is_shut (known s'.board).seen ≡ false) → RunsSource left left'' first s' (Err (of_output e)) x z
+      runs-broken z s' e breaks unshut =
           let told = cut-told place'.ended left left'' all_at (at.done ++ said ∷ []) found.line.0 next-reading.cut in
           let short = after-short stay none place place' left left' left'' at.given at.done at.pending number (Ok (Some said)) at.reading found found.room in
           record {
@@ -202,6 +205,7 @@ module _ (laws : Laws) (stay : WholeLinesStay) (none : NoWholeLine) (first : Sta
               in_turn = tt;
               own = tt;
               shut = tt;
+              unshut = inl (unshut ((line_broken-goes laws first registry board at.done number x y z s s' at.going said breaks).board.number ∙ (sym at.going.led.goes.board.number ∙ at.going.led.board_caller)));
               malformed = tt;
               first = record {
                 failed = λ is. absurd (wrote_read e (error-is (of_output e) ReadFault is));
@@ -240,8 +244,8 @@ module _ (laws : Laws) (stay : WholeLinesStay) (none : NoWholeLine) (first : Sta
       short-end : 2 ^ 28 < length end_at → ⊥
       short-end = after-short stay none place place' left left' left'' at.given at.done at.pending number (Ok None) at.reading found found.room
 
-      pub runs-end_broken : (z : Option (List ℕ)) (s' : State) (e : SinkError) → Breaks s s' (AnswersEnd s s' []) y z → RunsSource left left'' first s' (Err (of_output e)) x z
-      runs-end_broken z s' e breaks = record {
+      pub runs-end_broken : (z : Option (List ℕ)) (s' : State) (e : SinkError) → Breaks s s' (AnswersEnd s s' []) y z → IsUnshutOrEnds (known s'.board) → RunsSource left left'' first s' (Err (of_output e)) x z
+      runs-end_broken z s' e breaks unshut = record {
         given = end_at;
         reads = record { read = end-reading.cut.read; at_end = tt };
         lines = record {
@@ -251,6 +255,7 @@ module _ (laws : Laws) (stay : WholeLinesStay) (none : NoWholeLine) (first : Sta
           in_turn = tt;
           own = tt;
           shut = tt;
+          unshut = unshut;
           malformed = tt;
           first = record {
             failed = λ is. absurd (wrote_read e (error-is (of_output e) ReadFault is));
@@ -280,6 +285,7 @@ module _ (laws : Laws) (stay : WholeLinesStay) (none : NoWholeLine) (first : Sta
               in_turn = going-ends_in_turn laws first registry board at.done number x y z s s' at.going lines all-lines step;
               own = going-ends_own laws first registry board at.done number x y z s s' at.going lines all-lines step;
               shut = shut;
+              unshut = inr shut;
               malformed = at.malformed_is ∙ ap (list_any is_malformed) (sym all-lines);
               first = record {
                 failed = λ e. absurd cc;

@@ -1,5 +1,5 @@
 -- How a script's part begins and ends beside workers.
-use Rattle.std.proofs.Common.{◌≡◌, ℕ, ◌+◌, ◌≤◌, ◌⊎◌, Bool, true, false, ◌&&◌, List, [], ◌∷◌, ◌++◌, Some, refl, sym, ap, subst, ◌∙◌, append-nil, append_assoc, arith, inl, inr}
+use Rattle.std.proofs.Common.{◌≡◌, ℕ, zero, suc, ◌+◌, ◌≤◌, ◌⊎◌, Bool, true, false, ◌&&◌, List, [], ◌∷◌, ◌++◌, Some, refl, sym, ap, subst, ◌∙◌, append-nil, append_assoc, arith, inl, inr}
 use Rattle.std.specs.Prelude.{◌==◌, if◌then◌else◌, Result, Ok, Err, Option, None, OnOk, IfOk, IfSome, All, length, take, ◌-◌}
 use Rattle.std.specs.List.{list_all, list_any}
 use Rattle.std.specs.Io.KnownBytes.{Consumes, IsAtEnd}
@@ -15,6 +15,7 @@ use Rattle.board.specs.declared.entry.BoardEntry.{BoardEntry}
 use Rattle.board.specs.declared.entry.BoardEntry.TheVariants.{Shut}
 use Rattle.board.specs.Entries.{entries_of, caller_of as board_caller}
 use Rattle.board.specs.Legal.{MayManage, AreRightAfter, LegalBoard, is_shut, is_shut_entry}
+use Rattle.board.specs.Others.{WorkLeavesOwn}
 use Rattle.board.specs.Staying.{is_work}
 use Rattle.crew.specs.declared.passes.Passes.{Passes}
 use Rattle.crew.specs.Both.{ArePassesOn, HaveNext, CrewedOnBoth}
@@ -45,8 +46,8 @@ use Rattle.crypto_script.specs.declared.errors.RunError.{RunError}
 use Rattle.crypto_script.specs.declared.errors.RunError.TheVariants.{NoMemory}
 use Rattle.crypto_script.specs.Answered.{AreAnswered, BeginsWithText, AreAnsweredAfter, AreAnsweredOn, BeginsWithTextAfter, IsShutAlone, ShutsAlone, RunsSource, AnswersSource, RanSource, script_in}
 use Rattle.crypto_script.specs.Laws.{Laws, CrewLaws}
-use Rattle.crypto_script.specs.Endings.{AreCallers, EndsShut as ShutLast}
-use Rattle.crypto_script.specs.Runs.{Gains, GoesOn, OthersFollow, IsTextAfter, IsFrontAfter, InTurn, InTurnAfter, IsShutIn, AreNew, Ended, Answers}
+use Rattle.crypto_script.specs.Endings.{AreCallers, EndsShut as ShutLast, IsShutOnce}
+use Rattle.crypto_script.specs.Runs.{Gains, GoesOn, OthersFollow, IsTextAfter, IsFrontAfter, InTurn, InTurnAfter, IsShutIn, IsUnshutOrEnds, WasShut, AreNew, Ended, Answers}
 use Rattle.crypto_script.specs.Text.{is_malformed}
 use Rattle.shared_registry.specs.Building.{is_building}
 use Rattle.crypto_script.proofs.Following.{none-pass, starts-trans, sees-then, others-then, board_calls-same}
@@ -110,6 +111,32 @@ module _ (k l : Known (BoardEntry Ask)) where
       let still : is_shut l.seen ≡ true = ap (λ x. is_shut x.seen) t.2 ∙ (ap (λ h. is_shut h) t.1.goes_on ∙ (list_any-append is_shut_entry k.seen t.1.others ∙ or_left (is_shut k.seen) (is_shut t.1.others) shut)) in
       let bad : true ≡ false = sym still ∙ not in
       cc
+
+-- where the board is found shut that a session has shut last, or not at all, others have gone on since
+module _ (own : (h es : List (BoardEntry Ask)) (caller : ℕ) → WorkLeavesOwn h es caller) (k m : Known (BoardEntry Ask)) (first : k.number ≡ 0) (t : AtTurn board_caller LegalBoard k (λ h. Leaves k h m)) where
+  -- others shut nothing
+  unshut-stays : is_shut k.seen ≡ false → is_shut m.seen ≡ false
+  unshut-stays not =
+      ap (λ x. is_shut x.seen) t.2
+      ∙ (ap (λ h. is_shut h) t.1.goes_on
+      ∙ ((own k.seen t.1.others k.number (subst LegalBoard t.1.goes_on t.1.kept, ap (λ es. list_all is_work es) t.1.apart)).1 first ∙ not))
+
+  pub found-shut : is_shut m.seen ≡ true → IsUnshutOrEnds k → WasShut m.seen
+  found-shut is (inl not) = let bad : true ≡ false = sym is ∙ unshut-stays not in absurd cc
+  found-shut is (inr ends) = record {
+    before = ends.before;
+    after = t.1.others;
+    history = ap (λ x. x.seen) t.2 ∙ (t.1.goes_on ∙ (ap (λ h. h ++ t.1.others) (ends.shut ∙ ap (λ n. ends.before ++ Shut n ∷ []) first) ∙ append_assoc ends.before (Shut 0 ∷ []) t.1.others));
+    others = subst (λ n. of board_caller n t.1.others ≡ []) first t.1.apart;
+  }
+
+pub now-shut : (m l : Known (BoardEntry Ask)) → m.number ≡ 0 → AtTurn board_caller LegalBoard m (λ h. Enters LegalBoard m h (Shut m.number) l) → WasShut l.seen
+now-shut m l first u = record {
+  before = u.0;
+  after = [];
+  history = ap (λ x. x.seen) u.2.0 ∙ ap (λ n. u.0 ++ Shut n ∷ []) first;
+  others = refl;
+}
 
 -- what was seen since is others', and then the shut
 pub leaves-alone : (k l : Known (BoardEntry Ask)) → AtTurn board_caller LegalBoard k (λ h. Leaves k h l) → ShutsAlone board_caller k l
@@ -208,7 +235,7 @@ module _ (workers : ℕ) (lines : List Line) (p : Passes Ask) (qr : RegPass) (qb
   ended-ok (Err e) g in_turn own ends = tt
 
   pub answered : {F : Type 0} (r : Result Bool F) → OnOk r (Gains held held' (IsTextAfter s.workers lines (known s'.registry) (known s'.board))) → Gains held held' (IsFrontAfter s.workers lines (known s'.registry) (known s'.board))
-      → OnOk r (InTurnAfter lines (known s'.registry)) → OnOk r (IsOwn reg_caller (known s'.registry)) → OnOk r (EndsShut (known s'.board)) → IfOk r (λ bad. bad ≡ list_any is_malformed lines) → IsOwn board_caller (knows qb') → is_shut (knows qb').seen ≡ true
+      → OnOk r (InTurnAfter lines (known s'.registry)) → OnOk r (IsOwn reg_caller (known s'.registry)) → OnOk r (EndsShut (known s'.board)) → IfOk r (λ bad. bad ≡ list_any is_malformed lines) → IsOwn board_caller (knows qb') → WasShut (knows qb').seen
       → Answers workers lines p (record { registry = qr; board = qb' }) r held held'
   answered r whole front in_turn own ends malformed own_board closed = record {
     registry = goes-registry;
@@ -246,13 +273,13 @@ module _ (laws : Laws) (workers : ℕ) (left left' : Option (List ℕ)) (p : Pas
       (after r b (subst (λ (o : Option RegPass). StartsWith r (known o).seen) (sym now.0) from_r)
       (subst (λ (o : Option BoardPass). StartsWith b (known o).seen) (sym now.1) (starts-trans (knows qb).seen (knows qb').seen b more.seen from_b)))
 
-  pub answered-source : IsOwn board_caller (knows qb') → is_shut (knows qb').seen ≡ true → AnswersSource workers left left' p (record { registry = qr; board = qb' }) result held held'
+  pub answered-source : IsOwn board_caller (knows qb') → (IsUnshutOrEnds (knows qb) → WasShut (knows qb').seen) → AnswersSource workers left left' p (record { registry = qr; board = qb' }) result held held'
   answered-source own closed = record {
     given = run.given;
     reads = run.reads;
     answers =
         answered workers (script_of (script_in left run.given)) p qr qb qb' s s' held held' was now run.lines.goes_on new more shut
-        result run.lines.whole run.lines.front run.lines.in_turn run.lines.own run.lines.shut run.lines.malformed own closed;
+        result run.lines.whole run.lines.front run.lines.in_turn run.lines.own run.lines.shut run.lines.malformed own (closed (subst IsUnshutOrEnds (ap (λ (o : Option BoardPass). known o) now.1) run.lines.unshut));
     first = record {
       failed = λ is. let g = run.lines.first.failed is in (g.0, answered-on (whole_script run.given) g.0 g.1, g.2);
       too_long = run.lines.first.too_long;
@@ -319,6 +346,22 @@ others-work workers (e ∷ es) each none =
     work not (inl zero_is) = let bad : true ≡ false = sym (eq-eqb (board_caller e) 0 zero_is) ∙ not in cc
     work not (inr works) = works
 
+-- who isn't caller 0 is a later one
+after-first : (n : ℕ) → (n == 0) ≡ false → 1 ≤ n
+after-first zero not = absurd cc
+after-first (suc n) not = omega arith
+
+-- what isn't the script's is one of the crew's, and work
+others-beside : (workers : ℕ) (es : List (BoardEntry Ask)) → Each (IsEither workers) es → of board_caller 0 es ≡ [] → All (λ e. (1 ≤ board_caller e) × (board_caller e ≤ workers) × (is_work e ≡ true)) es
+others-beside workers [] each none = All-nil _
+others-beside workers (e ∷ es) each none =
+    let rest = none-pass (board_caller e == 0) e (of board_caller 0 es) none in
+    All-cons _ e es (after-first (board_caller e) rest.0, each.0.0, work rest.0 each.0.1) (others-beside workers es each.1 rest.1)
+  where
+    work : (board_caller e == 0) ≡ false → (board_caller e ≡ 0) ⊎ (is_work e ≡ true) → is_work e ≡ true
+    work not (inl zero_is) = let bad : true ≡ false = sym (eq-eqb (board_caller e) 0 zero_is) ∙ not in cc
+    work not (inr works) = works
+
 -- what holds of the script that the source tells, or else of what it gave
 if_told : (P : List ℕ → Type 0) (left : Option (List ℕ)) (given : List ℕ) → P (script_in left given) → IfSome left P
 if_told P None given holds = tt
@@ -360,10 +403,6 @@ module _ (laws : CrewLaws) (workers : ℕ) (left left' : Option (List ℕ)) (fir
   pub follow-board : OthersFollow board_caller (knows q.board) b
   follow-board = laws.board_ends is_work (knows first.board).next workers (knows q.board) (knows l.board) b answers.own crewed.board shows_b
 
-  -- however the script's part ended, it shut the board
-  pub whole-closed : is_shut b ≡ true
-  whole-closed = ap (λ h. is_shut h) follow-board.1 ∙ (list_any-append is_shut_entry (knows q.board).seen follow-board.0 ∙ or_left (is_shut (knows q.board).seen) (is_shut follow-board.0) answers.shut)
-
   -- each entry of the histories is the script's or a worker's
   zero-registry : (knows q.registry).number ≡ 0
   zero-registry = answers.registry.number ∙ (next-new workers first p new next).registry.0
@@ -388,6 +427,17 @@ module _ (laws : CrewLaws) (workers : ℕ) (left left' : Option (List ℕ)) (fir
         (subst (λ n. Crewed is_building n workers (knows q.registry) (knows l.registry)) (ap (λ x. x.next) new.1) crewed.registry) shows_r),
     all_each (IsEither workers) (λ e. board_caller e ≤ workers) (λ e x. x.0) b either-board,
   )
+
+  -- however the script's part ended, it shut the board, and after that the crew alone worked
+  pub whole-closed : IsShutOnce workers b
+  whole-closed =
+      let s = answers.shut in
+      let later = s.after ++ follow-board.0 in
+      let history : b ≡ s.before ++ Shut 0 ∷ later = follow-board.1 ∙ (ap (λ h. h ++ follow-board.0) s.history ∙ append_assoc s.before (Shut 0 ∷ s.after) follow-board.0) in
+      let none : of board_caller 0 later ≡ [] =
+      filter-append (λ e. board_caller e == 0) s.after follow-board.0 ∙ (λ i. s.others i ++ subst (λ n. of board_caller n follow-board.0 ≡ []) zero-board follow-board.2 i) in
+      let all : Each (IsEither workers) (s.before ++ Shut 0 ∷ later) = subst (Each (IsEither workers)) history either-board in
+      record { before = s.before; after = later; history = history; work = others-beside workers later (each_right (IsEither workers) s.before (Shut 0 ∷ later) all).1 none }
 
   -- the shut is last
   pub shut-ends : LegalBoard b → IsShutIn (knows q.board).seen → ShutLast b

@@ -9,3 +9,4 @@ pub mod Finishing
 pub mod LoadLines
 pub mod Loaded
 pub mod Stopping
+pub mod Traced

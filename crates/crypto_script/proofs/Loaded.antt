@@ -28,11 +28,11 @@ use Rattle.transforms.specs.declared.ask.Ask.{Ask}
 use Rattle.turn_lock.specs.Meeting.{IsOwn}
 use Rattle.turn_lock.specs.Passes.{knows}
 use Rattle.turn_lock.specs.Turns.{Shows, newcomer}
-use Rattle.crypto_script.specs.Endings.{EndsShut as ShutLast}
+use Rattle.crypto_script.specs.Endings.{EndsShut as ShutLast, IsShutOnce}
 use Rattle.crypto_script.specs.Laws.{CrewLaws}
 use Rattle.crypto_script.specs.Loads.{Loads, LoadEnds, IsLoadTurnAfter}
 use Rattle.crypto_script.specs.Answered.{AnswersSource, script_in}
-use Rattle.crypto_script.specs.Runs.{GoesOn, OthersFollow, AreNew}
+use Rattle.crypto_script.specs.Runs.{GoesOn, OthersFollow, AreNew, IsUnshutOrEnds, WasShut}
 use Rattle.crypto_script.proofs.Following.{others-then, sees-then}
 use Rattle.crypto_script.proofs.Finishing.{ends-shut, shut-in, follow-board, whole-closed, few-callers, few-enough, shut-ends}
 
@@ -69,13 +69,13 @@ module _ (workers seed count : ℕ) (p : Passes Ask) (qr : RegPass) (qb qb' : Bo
   ends-ok (Ok digest) turn own ends = load-ends digest turn own ends
   ends-ok (Err e) turn own ends = tt
 
-  pub loads : {F : Type 0} (r : Result (List ℕ) F) → IfOk r (IsLoadTurnAfter s.workers seed count (known s'.registry) (known s'.board)) → OnOk r (IsOwn reg_caller (known s'.registry)) → OnOk r (EndsShut (known s'.board)) → IsOwn board_caller (knows qb') → is_shut (knows qb').seen ≡ true
+  pub loads : {F : Type 0} (r : Result (List ℕ) F) → IfOk r (IsLoadTurnAfter s.workers seed count (known s'.registry) (known s'.board)) → OnOk r (IsOwn reg_caller (known s'.registry)) → OnOk r (EndsShut (known s'.board)) → IsUnshutOrEnds (known s'.board) → IsOwn board_caller (knows qb') → (IsUnshutOrEnds (knows qb) → WasShut (knows qb').seen)
       → Loads workers seed count p (record { registry = qr; board = qb' }) r
-  loads r turn own ends own_board closed = record {
+  loads r turn own ends unshut own_board closed = record {
     registry = goes-registry;
     board = sees-then (knows p.board) (knows qb) (knows qb') goes-board more;
     own = own_board;
-    shut = closed;
+    shut = closed (subst IsUnshutOrEnds at_board unshut);
     ended = ends-ok r turn own ends;
   }
 
@@ -126,7 +126,7 @@ module _ (crew : CrewLaws) {F : Type 0} (workers seed count : ℕ) (first p q l 
   abbrev part : AnswersSource workers None None p q stopped None None
   part = as_script workers seed count p q result loads
 
-  pub loaded-closed : is_shut b ≡ true
+  pub loaded-closed : IsShutOnce workers b
   loaded-closed = whole-closed crew workers None None first p q l stopped None None r b new next part crewed shows_r shows_b
 
   pub loaded-callers : All (λ e. reg_caller e ≤ workers) r × All (λ e. board_caller e ≤ workers) b

@@ -27,7 +27,7 @@ use Rattle.turn_lock.specs.Passes.{knows}
 use Rattle.turn_lock.specs.Turns.{Known, StartsWith, of}
 use Rattle.crypto_script.specs.declared.errors.RunError.{RunError}
 use Rattle.crypto_script.specs.declared.errors.RunError.TheVariants.{ReadFault, WriteFault, TooLong}
-use Rattle.crypto_script.specs.Runs.{Gains, GoesOn, OthersFollow, IsTextAfter, IsFrontAfter, InTurnAfter, Answers}
+use Rattle.crypto_script.specs.Runs.{Gains, GoesOn, OthersFollow, IsTextAfter, IsFrontAfter, InTurnAfter, IsUnshutOrEnds, Answers}
 use Rattle.crypto_script.specs.Text.{is_malformed}
 
 -- the turn that the script's calls in the histories make of its first lines
@@ -107,6 +107,7 @@ pub record RunsLines (lines : List Line) (given : List ℕ) (s s' : State) (resu
   pub in_turn : OnOk result (InTurnAfter lines (known s'.registry))
   pub own : OnOk result (IsOwn reg_caller (known s'.registry))
   pub shut : OnOk result (EndsShut (known s'.board))
+  pub unshut : IsUnshutOrEnds (known s'.board)
   pub malformed : IfOk result (λ bad. bad ≡ list_any is_malformed lines)
   pub first : AnswersFirst (λ first. AreAnsweredAfter s.workers first (known s'.registry) (known s'.board)) (λ first. BeginsWithTextAfter s.workers first (known s'.registry) (known s'.board)) given result held held'
   pub own_reads : IsErrOf result ReadFault ⊎ IsErrOf result TooLong → IsOwn reg_caller (known s'.registry)

@@ -5,6 +5,7 @@ use Rattle.alg_registry.specs.Rows.{caller_of as reg_caller}
 use Rattle.board.specs.declared.entry.BoardEntry.{BoardEntry}
 use Rattle.board.specs.declared.entry.BoardEntry.TheVariants.{Shut}
 use Rattle.board.specs.Entries.{caller_of as board_caller}
+use Rattle.board.specs.Staying.{is_work}
 use Rattle.command_line.specs.CommandLine.{mode_of}
 use Rattle.command_line.specs.declared.errors.CommandLineError.{CommandLineError}
 use Rattle.command_line.specs.declared.mode.LoadOptions.{LoadOptions}
@@ -67,3 +68,10 @@ AreCallers workers r b = All (λ e. reg_caller e ≤ workers) r × All (λ e. bo
 -- the board was shut last
 abbrev pub EndsShut : List (BoardEntry Ask) → Type 0
 EndsShut b = (before : List (BoardEntry Ask)) × (b ≡ before ++ Shut 0 ∷ [])
+
+-- Caller 0 shut the board. After that one of so many workers made each entry, and it is work.
+pub record IsShutOnce (workers : ℕ) (b : List (BoardEntry Ask)) : Type 0 where
+  pub before : List (BoardEntry Ask)
+  pub after : List (BoardEntry Ask)
+  pub history : b ≡ before ++ Shut 0 ∷ after
+  pub work : All (λ e. (1 ≤ board_caller e) × (board_caller e ≤ workers) × (is_work e ≡ true)) after

@@ -1,5 +1,5 @@
 -- A load as it is held by a session, line by line, and what its part leaves.
-use Rattle.std.specs.Prelude.{◌≡◌, ℕ, true, List, [], ◌++◌, Result, IfOk}
+use Rattle.std.specs.Prelude.{◌≡◌, ℕ, List, [], ◌++◌, Result, IfOk}
 use Rattle.std.specs.List.{flat_map}
 use Rattle.sha2.specs.declared.Sha256.{Sha256}
 use Rattle.sha2.specs.Hashers.{Holds256}
@@ -7,7 +7,6 @@ use Rattle.alg_registry.specs.declared.entry.RegEntry.{RegEntry}
 use Rattle.alg_registry.specs.Rows.{caller_of as reg_caller}
 use Rattle.board.specs.declared.entry.BoardEntry.{BoardEntry}
 use Rattle.board.specs.Entries.{caller_of as board_caller}
-use Rattle.board.specs.Legal.{is_shut}
 use Rattle.crew.specs.declared.passes.Passes.{Passes}
 use Rattle.dialogues.specs.BoardCalls.{BoardCall, board_calls}
 use Rattle.dialogues.specs.Dialogues.{Dialogue}
@@ -23,7 +22,7 @@ use Rattle.transforms.specs.declared.ask.Ask.{Ask}
 use Rattle.turn_lock.specs.Meeting.{IsOwn}
 use Rattle.turn_lock.specs.Passes.{knows}
 use Rattle.turn_lock.specs.Turns.{Known}
-use Rattle.crypto_script.specs.Runs.{OthersFollow, IsShutIn}
+use Rattle.crypto_script.specs.Runs.{OthersFollow, IsShutIn, WasShut}
 
 -- ---- a session that holds it
 
@@ -62,5 +61,5 @@ pub record Loads {F : Type 0} (workers seed count : ℕ) (p q : Passes Ask) (res
   pub registry : HasSeenMore (knows p.registry) (knows q.registry)
   pub board : HasSeenMore (knows p.board) (knows q.board)
   pub own : IsOwn board_caller (knows q.board)
-  pub shut : is_shut (knows q.board).seen ≡ true
+  pub shut : WasShut (knows q.board).seen
   pub ended : IfOk result (LoadEnds workers seed count q)

@@ -15,6 +15,7 @@ use Rattle.dialogues.specs.Texts.{IsText, IsFrontText}
 use Rattle.dialogues.specs.Walk.{start}
 use Rattle.dialogues.specs.Widths.{widest}
 use Rattle.kc_base.specs.Streams.{AppendsFront, IsPrefix}
+use Rattle.script_session.specs.Ending.{EndsShut}
 use Rattle.script_session.specs.Holding.{HasSeenMore}
 use Rattle.script_session.specs.States.{State, SameLocks}
 use Rattle.script_text.specs.declared.commands.Line.{Line}
@@ -92,6 +93,17 @@ InTurn lines r = AreInTurnBy (widest lines) 0 (reg_calls 0 r) [] r
 abbrev pub InTurnAfter : List Line → Known RegEntry → Type 0
 InTurnAfter lines k = (r : List RegEntry) → OthersFollow reg_caller k r → InTurn lines r
 
+-- the session hasn't shut the board, or has done so last
+abbrev pub IsUnshutOrEnds : Known (BoardEntry Ask) → Type 0
+IsUnshutOrEnds k = (is_shut k.seen ≡ false) ⊎ EndsShut k
+
+-- The script shut the board. Since then others alone made entries.
+pub record WasShut (b : List (BoardEntry Ask)) : Type 0 where
+  pub before : List (BoardEntry Ask)
+  pub after : List (BoardEntry Ask)
+  pub history : b ≡ before ++ Shut 0 ∷ after
+  pub others : of board_caller 0 after ≡ []
+
 -- The board was shut when each request was finished of each pipeline that the script made and hadn't closed. Since then others alone made entries.
 pub record IsShutIn (b : List (BoardEntry Ask)) : Type 0 where
   pub before : List (BoardEntry Ask)
@@ -119,7 +131,7 @@ pub record Answers {F : Type 0} (workers : ℕ) (lines : List Line) (p q : Passe
   pub registry : HasSeenMore (knows p.registry) (knows q.registry)
   pub board : HasSeenMore (knows p.board) (knows q.board)
   pub own : IsOwn board_caller (knows q.board)
-  pub shut : is_shut (knows q.board).seen ≡ true
+  pub shut : WasShut (knows q.board).seen
   pub front : Gains held held' (IsFrontAfter workers lines (knows q.registry) (knows q.board))
   pub ended : OnOk result (Ended workers lines q held held')
   pub malformed : IfOk result (λ bad. bad ≡ list_any is_malformed lines)

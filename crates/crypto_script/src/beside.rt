@@ -19,15 +19,15 @@ ghost use Rattle.turn_lock.specs.Meeting.{IsOwn};
 ghost use Rattle.turn_lock.specs.Passes.{knows};
 ghost use Rattle.turn_lock.specs.Turns.{newcomer};
 ghost use Rattle.crypto_script.specs.Answered.{AnswersSource, RanSource, ShutsAlone};
-ghost use Rattle.crypto_script.specs.Endings.{AreCallers, EndsShut};
+ghost use Rattle.crypto_script.specs.Endings.{AreCallers, EndsShut, IsShutOnce};
 ghost use Rattle.crypto_script.specs.Laws.{CrewLaws};
-ghost use Rattle.crypto_script.specs.Runs.{Gains, OthersFollow, InTurn, AreNew};
+ghost use Rattle.crypto_script.specs.Runs.{Gains, OthersFollow, InTurn, AreNew, IsUnshutOrEnds, WasShut};
 ghost use Rattle.crypto_script.specs.Text.{is_malformed};
 
 use crate::errors::RunError;
 use crate::lines::{laws, run_lines};
 use alg_registry::{RegEntry, RegLog};
-use board::{BoardEntry, BoardLog, work_ends};
+use board::{BoardEntry, BoardLog, others_leave, work_ends};
 use crew::{Gate, Passes, crew_works, crews_end, run_crew};
 use kc_base::{Sink, Source};
 use script_session::Session;
@@ -37,7 +37,7 @@ use shared_registry::{RegPass, SharedRegistry};
 use std::alloc::Global;
 use std::sync::Wait;
 use std::thread::Threads;
-use transforms::{Ask, Job};
+use transforms::{Ask, Finished, Job};
 
 /// What a run came to: whether a line is malformed, where it reached the end, and all that happened in the registry and on the
 /// board.
@@ -82,7 +82,9 @@ pub fn shut_board<R: Wait>(rt: &R, board: &SharedBoard<Job>, pass: BoardPass<Job
     ensures closed { is_shut (knows result).seen ≡ true }
     ensures shut { is_shut (knows pass).seen ≡ true → OthersFollow caller_of (knows pass) (knows result).seen }
     ensures alone { ShutsAlone caller_of (knows pass) (knows result) }
+    ensures once { IsUnshutOrEnds (knows pass) → WasShut (knows result).seen }
 {
+    others_leave::<Ask, Finished>();
     let (pass, shut) = board.is_shut(rt, pass);
     if shut {
         return pass;
@@ -180,7 +182,7 @@ fn run_beside<S: Source, K: Sink, G: Gate + Sync, R: Threads + Wait + Sync>(
     ensures shut { OnOk result.answer (EndsShut result.board) }
     ensures front { IfSome (S.left src.old) (λ script. Gains (K.held out.old) (K.held out.new) (IsFrontText workers (start 0) 0 (script_of script) result.registry result.board)) }
     ensures first { RanSource workers (S.left src.old) (S.left src.new) result.registry result.board result.answer (K.held out.old) (K.held out.new) }
-    ensures closed { is_shut result.board ≡ true }
+    ensures closed { IsShutOnce workers result.board }
     ensures callers { AreCallers workers result.registry result.board }
     ensures legal { LegalReg result.registry }
     ensures legal_board { LegalBoard result.board }
@@ -224,7 +226,7 @@ pub fn run_script<S: Source, K: Sink, G: Gate + Sync, R: Threads + Wait + Sync>(
     ensures shut { OnOk result.answer (EndsShut result.board) }
     ensures front { IfSome (S.left src.old) (λ script. Gains (K.held out.old) (K.held out.new) (IsFrontText workers (start 0) 0 (script_of script) result.registry result.board)) }
     ensures first { RanSource workers (S.left src.old) (S.left src.new) result.registry result.board result.answer (K.held out.old) (K.held out.new) }
-    ensures closed { (result.board ≡ []) ⊎ (is_shut result.board ≡ true) }
+    ensures closed { (result.board ≡ []) ⊎ IsShutOnce workers result.board }
     ensures callers { AreCallers workers result.registry result.board }
     ensures legal { LegalReg result.registry }
     ensures legal_board { LegalBoard result.board }

@@ -45,7 +45,7 @@ const TRACED: [Traced; 4] = [
 ];
 
 // What a script prints that asks for its trace beside so many workers.
-fn traced<R: Threads + Wait + Sync>(
+fn printed<R: Threads + Wait + Sync>(
     rt: &R,
     alloc: Global,
     workers: u32,
@@ -63,7 +63,7 @@ fn traced<R: Threads + Wait + Sync>(
 fn a_trace_holds_each_call_in_order(rt: HostRuntime) -> Result<(), Fail> {
     let alloc = rt.alloc();
     for row in &TRACED {
-        let got = traced(&rt, alloc, 0, row.script)?;
+        let got = printed(&rt, alloc, 0, row.script)?;
         let want = format!(in alloc; "{}{}", row.text, row.trace)?;
         assert_eq!(&rt; got.as_str(), want.as_str(), "{}", row.script);
     }
@@ -98,7 +98,7 @@ fn workers_build_what_was_asked_for_and_nothing_else(rt: HostRuntime) -> Result<
     for workers in [0u32, 1, 8] {
         let script =
             "alloc c cbc(aes)\nprobe pcrypt(gcm(aes)) cryptd(gcm(aes))\nunregister ghash-generic\n";
-        let text = traced(&rt, alloc, workers, script)?;
+        let text = printed(&rt, alloc, workers, script)?;
         assert!(&rt; text.contains(" end 1 built "), "{text}");
         for line in text.lines() {
             if let Some(entry) = line.strip_prefix("r ") {

@@ -1,6 +1,7 @@
 //! A script's lines, answered by its session and written one by one.
 
-ghost use Rattle.std.specs.Prelude.{OnOk, ◌≡◌, ◌+◌, ◌^◌, ◌≤◌, [], length, MatchResult, IfOk, IsErrOf};
+ghost use Rattle.std.specs.Prelude.{OnOk, ◌≡◌, ◌+◌, ◌^◌, ◌≤◌, [], length, MatchResult, IfOk, IsErrOf, false};
+ghost use Rattle.board.specs.Legal.{is_shut};
 ghost use Rattle.kc_base.specs.Streams.{Rose};
 ghost use Rattle.script_text.specs.Sizes.{IsShortLine};
 ghost use Rattle.dialogues.specs.Lines.{line_dialogue};
@@ -11,7 +12,7 @@ ghost use Rattle.script_session.specs.Ending.{AnswersEnd, EndsShut};
 ghost use Rattle.crypto_script.specs.Text.{is_malformed};
 ghost use Rattle.crypto_script.specs.Laws.{Laws};
 ghost use Rattle.crypto_script.specs.Answered.{RunsSource};
-ghost use Rattle.crypto_script.specs.Runs.{GoesOn, Writes, Breaks, IsFresh};
+ghost use Rattle.crypto_script.specs.Runs.{GoesOn, Writes, Breaks, IsFresh, IsUnshutOrEnds};
 
 use crate::errors::RunError;
 use crew::Gate;
@@ -67,6 +68,7 @@ fn reply_to<G: Gate, R: Threads + Wait + Sync>(
         (λ reply. Replies (width_of line) (line_dialogue session.old.workers session.old.walk number line) session.old session.new [] reply.0)
         (λ _. GoesOn session.old session.new) }
     ensures ready { OnOk result (IsReady registry.now board.now session.new) }
+    ensures unshut { (known session.new.board).number ≡ 0 → is_shut (known session.new.board).seen ≡ false }
     ensures malformed { IfOk result (λ reply. reply.1 ≡ is_malformed line) }
 {
     let mut reply = Bytes::new(alloc);
@@ -91,6 +93,7 @@ fn reply_to_end<G: Gate, R: Wait>(
         (λ reply. AnswersEnd session.old session.new [] reply)
         (λ _. GoesOn session.old session.new) }
     ensures shut { OnOk result (EndsShut (known session.new.board)) }
+    ensures unshut { IsUnshutOrEnds (known session.new.board) }
 {
     let mut reply = Bytes::new(alloc);
     match session.end(rt, board, gate, &mut reply) {
@@ -117,6 +120,7 @@ fn run_line<K: Sink, G: Gate, R: Threads + Wait + Sync>(
         (λ _. Writes (Replies (width_of line) (line_dialogue session.old.workers session.old.walk number line) session.old session.new []) (K.held out.old) (K.held out.new))
         (λ _. Breaks session.old session.new (Replies (width_of line) (line_dialogue session.old.workers session.old.walk number line) session.old session.new []) (K.held out.old) (K.held out.new)) }
     ensures ready { OnOk result (IsReady registry.now board.now session.new) }
+    ensures unshut { (known session.new.board).number ≡ 0 → is_shut (known session.new.board).seen ≡ false }
     ensures malformed { IfOk result (λ bad. bad ≡ is_malformed line) }
     ensures later { K.faults out.old ≤ K.faults out.new }
     ensures cause { IsErrOf result SinkError.Failed → Rose (K.faults out.old) (K.faults out.new) }
@@ -142,6 +146,7 @@ fn run_end<K: Sink, G: Gate, R: Wait>(
         (λ _. Writes (AnswersEnd session.old session.new []) (K.held out.old) (K.held out.new))
         (λ _. Breaks session.old session.new (AnswersEnd session.old session.new []) (K.held out.old) (K.held out.new)) }
     ensures shut { OnOk result (EndsShut (known session.new.board)) }
+    ensures unshut { IsUnshutOrEnds (known session.new.board) }
     ensures later { K.faults out.old ≤ K.faults out.new }
     ensures cause { IsErrOf result SinkError.Failed → Rose (K.faults out.old) (K.faults out.new) }
 {

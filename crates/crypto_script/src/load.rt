@@ -1,11 +1,11 @@
 //! A whole load beside workers.
 
-ghost use Rattle.std.specs.Prelude.{OnOk, ◌≡◌, ◌≤◌, ◌⊎◌, [], Ok, true, false, MatchResult, IfOk, IfErr, IsErrOf};
+ghost use Rattle.std.specs.Prelude.{OnOk, ◌≡◌, ◌≤◌, ◌⊎◌, [], Ok, false, MatchResult, IfOk, IfErr, IsErrOf};
 ghost use Rattle.std.specs.Result.{IsOk};
 ghost use Rattle.std.specs.Io.KnownBytes.{Appends};
 ghost use Rattle.alg_registry.specs.Legal.{LegalReg};
 ghost use Rattle.alg_registry.specs.Made.{Made};
-ghost use Rattle.board.specs.Legal.{LegalBoard, is_shut};
+ghost use Rattle.board.specs.Legal.{LegalBoard};
 ghost use Rattle.crew.specs.Both.{ArePassesOn, HaveNext, CrewedOnBoth};
 ghost use Rattle.kc_base.specs.Streams.{Rose, AppendsFront};
 ghost use Rattle.load_mode.specs.Requests.{load_line, line_of, digest_of, load_requests};
@@ -13,7 +13,7 @@ ghost use Rattle.load_mode.specs.Turns.{AreLoaded};
 ghost use Rattle.templates.specs.Table.{table};
 ghost use Rattle.turn_lock.specs.Passes.{knows};
 ghost use Rattle.turn_lock.specs.Turns.{newcomer};
-ghost use Rattle.crypto_script.specs.Endings.{AreCallers, EndsShut};
+ghost use Rattle.crypto_script.specs.Endings.{AreCallers, EndsShut, IsShutOnce};
 ghost use Rattle.crypto_script.specs.Loads.{Loads};
 ghost use Rattle.crypto_script.specs.Runs.{AreNew};
 
@@ -131,7 +131,7 @@ fn load_beside<G: Gate + Sync, R: Threads + Wait + Sync>(
     ensures digest { IfOk result.digest (λ digest. digest ≡ digest_of (load_requests options.now.seed options.now.count)) }
     ensures loaded { OnOk result.digest (AreLoaded options.now.seed options.now.count result.board) }
     ensures shut { OnOk result.digest (EndsShut result.board) }
-    ensures closed { is_shut result.board ≡ true }
+    ensures closed { IsShutOnce options.now.workers result.board }
     ensures callers { AreCallers options.now.workers result.registry result.board }
     ensures legal { LegalReg result.registry }
     ensures legal_board { LegalBoard result.board }
@@ -200,7 +200,7 @@ pub fn run_load<K: Sink, G: Gate + Sync, R: Threads + Wait + Sync>(
     ensures fine { IfOk result.answer (λ bad. bad ≡ false) }
     ensures loaded { OnOk result.answer (AreLoaded options.now.seed options.now.count result.board) }
     ensures shut { OnOk result.answer (EndsShut result.board) }
-    ensures closed { (result.board ≡ []) ⊎ (is_shut result.board ≡ true) }
+    ensures closed { (result.board ≡ []) ⊎ IsShutOnce options.now.workers result.board }
     ensures callers { AreCallers options.now.workers result.registry result.board }
     ensures legal { LegalReg result.registry }
     ensures legal_board { LegalBoard result.board }

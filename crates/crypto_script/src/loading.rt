@@ -1,7 +1,8 @@
 //! A load, held by a session.
 
-ghost use Rattle.std.specs.Prelude.{OnOk, ◌≡◌, ◌∷◌, [], IfOk};
+ghost use Rattle.std.specs.Prelude.{OnOk, ◌≡◌, ◌∷◌, [], IfOk, false};
 ghost use Rattle.alg_registry.specs.Rows.{caller_of};
+ghost use Rattle.board.specs.Legal.{is_shut};
 ghost use Rattle.dialogues.specs.Dialogues.{followed};
 ghost use Rattle.dialogues.specs.Lines.{line_dialogue, lines_dialogue};
 ghost use Rattle.dialogues.specs.Piping.{end};
@@ -17,7 +18,7 @@ ghost use Rattle.session_calls.specs.Passes.{known};
 ghost use Rattle.turn_lock.specs.Meeting.{IsOwn};
 ghost use Rattle.crypto_script.specs.Laws.{Laws};
 ghost use Rattle.crypto_script.specs.Loads.{IsHeld, HoldsOn, IsLoadTurnAfter};
-ghost use Rattle.crypto_script.specs.Runs.{GoesOn, IsFresh};
+ghost use Rattle.crypto_script.specs.Runs.{GoesOn, IsFresh, IsUnshutOrEnds};
 
 use crate::lines::laws;
 use crew::Gate;
@@ -52,6 +53,7 @@ fn hold_line<G: Gate, R: Threads + Wait + Sync>(
     ensures on { OnOk result ((later : Made → Dialogue) → HoldsOn (followed (line_dialogue session.old.workers session.old.walk number line.now) later) later session.old session.new hasher.old hasher.new) }
     ensures ready { OnOk result (IsReady registry.now board.now session.new) }
     ensures goes_on { GoesOn session.old session.new }
+    ensures unshut { (known session.new.board).number ≡ 0 → is_shut (known session.new.board).seen ≡ false }
 {
     laws();
     let mut answers = Vec::new(alloc);
@@ -80,6 +82,7 @@ fn hold_opened<G: Gate, R: Threads + Wait + Sync>(
     ensures on { OnOk result ((later : Made → Dialogue) → HoldsOn (lines_dialogue session.old.workers session.old.walk 0 opening later) later session.old session.new hasher.old hasher.new) }
     ensures ready { OnOk result (IsReady registry.now board.now session.new) }
     ensures goes_on { GoesOn session.old session.new }
+    ensures unshut { (known session.new.board).number ≡ 0 → is_shut (known session.new.board).seen ≡ false }
 {
     hold_line(
         rt,
@@ -142,6 +145,7 @@ fn hold_opening<G: Gate, R: Threads + Wait + Sync>(
     ensures on { OnOk result ((later : Made → Dialogue) → HoldsOn (lines_dialogue session.old.workers session.old.walk 0 opening later) later session.old session.new hasher.old hasher.new) }
     ensures ready { OnOk result (IsReady registry.now board.now session.new) }
     ensures goes_on { GoesOn session.old session.new }
+    ensures unshut { (known session.new.board).number ≡ 0 → is_shut (known session.new.board).seen ≡ false }
 {
     let lines = opening_lines(alloc)?;
     hold_opened(rt, alloc, board, registry, gate, session, hasher, &lines)
@@ -164,6 +168,7 @@ fn hold_request<G: Gate, R: Threads + Wait + Sync>(
     ensures drawn { OnOk result (generator.new ≡ (drawn_request generator.old).after) }
     ensures ready { OnOk result (IsReady registry.now board.now session.new) }
     ensures goes_on { GoesOn session.old session.new }
+    ensures unshut { (known session.new.board).number ≡ 0 → is_shut (known session.new.board).seen ≡ false }
 {
     let line = draw_request(alloc, generator, number)?;
     hold_line(
@@ -187,6 +192,7 @@ fn hold_requests<G: Gate, R: Threads + Wait + Sync>(
     ensures on { OnOk result (HoldsOn (lines_dialogue session.old.workers session.old.walk 0 (request_lines seed count) end) end session.old session.new hasher.old hasher.new) }
     ensures ready { OnOk result (IsReady registry.now board.now session.new) }
     ensures goes_on { GoesOn session.old session.new }
+    ensures unshut { (known session.new.board).number ≡ 0 → is_shut (known session.new.board).seen ≡ false }
 {
     let mut generator = Generator::new(seed);
     for number in 0..count {
@@ -221,6 +227,7 @@ fn hold_end<G: Gate, R: Wait>(
     ensures own { OnOk result (IsOwn caller_of (known session.new.registry)) }
     ensures shut { OnOk result (EndsShut (known session.new.board)) }
     ensures goes_on { GoesOn session.old session.new }
+    ensures unshut { IsUnshutOrEnds (known session.new.board) }
 {
     laws();
     let mut answers = Vec::new(alloc);
@@ -251,6 +258,7 @@ pub fn hold_load<G: Gate, R: Threads + Wait + Sync>(
     ensures own { OnOk result (IsOwn caller_of (known session.new.registry)) }
     ensures shut { OnOk result (EndsShut (known session.new.board)) }
     ensures goes_on { GoesOn session.old session.new }
+    ensures unshut { IsUnshutOrEnds (known session.new.board) }
 {
     laws();
     let mut hasher = Sha256::new();

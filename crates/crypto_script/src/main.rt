@@ -5,6 +5,8 @@ mod adapters;
 mod beside;
 mod errors;
 #[cfg(test)]
+mod fault_tests;
+#[cfg(test)]
 mod history_tests;
 #[cfg(test)]
 mod limit_tests;

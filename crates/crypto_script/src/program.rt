@@ -1,6 +1,6 @@
 //! The whole program, from the words and the bytes read to the bytes written.
 
-ghost use Rattle.std.specs.Prelude.{OnOk, ◌≡◌, ◌+◌, ◌-◌, ◌^◌, ◌<◌, ◌≤◌, ◌↔◌, ◌⊎◌, List, ℕ, [], Some, None, length, take, map, IfOk, IfErr, IfSome, IsErrOf, IsSome, IsTrue, Ok, string_bytes, true};
+ghost use Rattle.std.specs.Prelude.{OnOk, ◌≡◌, ◌+◌, ◌-◌, ◌^◌, ◌<◌, ◌≤◌, ◌↔◌, ◌⊎◌, List, ℕ, [], Some, None, length, take, map, IfOk, IfErr, IfSome, IsErrOf, IsSome, IsTrue, Ok, string_bytes};
 ghost use Rattle.std.specs.List.{list_any};
 ghost use Rattle.std.specs.Io.KnownBytes.{Appends};
 ghost use Rattle.kc_base.specs.Streams.{AppendsFront, Rose};
@@ -11,13 +11,13 @@ ghost use Rattle.script_text.specs.Whole.{whole_script};
 ghost use Rattle.settled_scripts.specs.Settled.{IsSettled, plain_text};
 ghost use Rattle.alg_registry.specs.Legal.{LegalReg};
 ghost use Rattle.alg_registry.specs.Made.{Made};
-ghost use Rattle.board.specs.Legal.{LegalBoard, is_shut};
+ghost use Rattle.board.specs.Legal.{LegalBoard};
 ghost use Rattle.dialogues.specs.Texts.{IsText, IsFrontText};
 ghost use Rattle.dialogues.specs.Walk.{start};
 ghost use Rattle.templates.specs.Table.{table};
 ghost use Rattle.crypto_script.specs.Answered.{Gives, AreAnswered, BeginsWithText};
 ghost use Rattle.command_line.specs.CommandLine.{IsWithinLimits};
-ghost use Rattle.crypto_script.specs.Endings.{script_asked, script_in_mode, load_asked, load_in_mode, workers_in, traces_in, traced, AreCallers, EndsShut};
+ghost use Rattle.crypto_script.specs.Endings.{script_asked, script_in_mode, load_asked, load_in_mode, workers_in, traces_in, traced, AreCallers, EndsShut, IsShutOnce};
 ghost use Rattle.crypto_script.specs.Runs.{ReadsUpTo, Gains, GainsThen, GainsFront, InTurn};
 ghost use Rattle.crypto_script.specs.Statuses.{status_of};
 ghost use Rattle.crypto_script.specs.Text.{is_malformed};
@@ -139,8 +139,9 @@ pub fn run<S: Source, K: Sink, G: Gate + Sync, R: Threads + Wait + Sync>(
     ensures faithful { Made table result.registry }
     ensures callers { AreCallers (workers_in (map string_bytes words.now)) result.registry result.board }
 
-    // Once anything was recorded on the board, it was shut, so that the workers ended.
-    ensures closed { (result.board ≡ []) ⊎ (is_shut result.board ≡ true) }
+    // Whatever ended the run, once anything was recorded on the board it was shut, so that the workers ended; after that they alone
+    // made entries, of jobs that they were inside then. So beside no workers the shut is last.
+    ensures closed { (result.board ≡ []) ⊎ IsShutOnce (workers_in (map string_bytes words.now)) result.board }
 
     // Each other status has its cause. That of 5 is want of memory.
     ensures usage { result.status ≡ 2 → (script_asked (map string_bytes words.now) ≡ None) × (load_asked (map string_bytes words.now) ≡ None) }

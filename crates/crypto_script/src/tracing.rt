@@ -1,11 +1,11 @@
 //! A script beside workers, and then the trace of its run.
 
-ghost use Rattle.std.specs.Prelude.{OnOk, ◌≡◌, ◌≤◌, ◌⊎◌, Bool, [], Err, Ok, true, IfOk, IfErr, IfSome, IsErrOf, MatchResult};
+ghost use Rattle.std.specs.Prelude.{OnOk, ◌≡◌, ◌≤◌, ◌⊎◌, Bool, [], Err, Ok, IfOk, IfErr, IfSome, IsErrOf, MatchResult};
 ghost use Rattle.std.specs.List.{list_any};
 ghost use Rattle.std.specs.Io.KnownBytes.{Appends, Keeps};
 ghost use Rattle.alg_registry.specs.Legal.{LegalReg};
 ghost use Rattle.alg_registry.specs.Made.{Made};
-ghost use Rattle.board.specs.Legal.{LegalBoard, is_shut};
+ghost use Rattle.board.specs.Legal.{LegalBoard};
 ghost use Rattle.dialogues.specs.Texts.{IsText, IsFrontText};
 ghost use Rattle.dialogues.specs.Walk.{start};
 ghost use Rattle.kc_base.specs.Streams.{AppendsFront, Rose};
@@ -14,7 +14,7 @@ ghost use Rattle.settled_scripts.specs.Settled.{IsSettled, plain_text};
 ghost use Rattle.templates.specs.Table.{table};
 ghost use Rattle.trace_text.specs.Trace.{trace_of};
 ghost use Rattle.crypto_script.specs.Answered.{RanSource};
-ghost use Rattle.crypto_script.specs.Endings.{AreCallers, EndsShut, traced};
+ghost use Rattle.crypto_script.specs.Endings.{AreCallers, EndsShut, IsShutOnce, traced};
 ghost use Rattle.crypto_script.specs.Runs.{GainsThen, GainsFront, InTurn};
 ghost use Rattle.crypto_script.specs.Text.{is_malformed};
 
@@ -92,7 +92,7 @@ pub fn run_traced<S: Source, K: Sink, G: Gate + Sync, R: Threads + Wait + Sync>(
     ensures front { IfSome (S.left src.old) (λ script. GainsFront (K.held out.old) (K.held out.new) (IsFrontText options.now.workers (start 0) 0 (script_of script) result.registry result.board)
         (IsText options.now.workers (start 0) 0 (script_of script) result.registry result.board) (traced options.now.trace result.registry result.board)) }
     ensures first { RanSource options.now.workers (S.left src.old) (S.left src.new) result.registry result.board result.answer (K.held out.old) (K.held out.new) }
-    ensures closed { (result.board ≡ []) ⊎ (is_shut result.board ≡ true) }
+    ensures closed { (result.board ≡ []) ⊎ IsShutOnce options.now.workers result.board }
     ensures callers { AreCallers options.now.workers result.registry result.board }
     ensures legal { LegalReg result.registry }
     ensures legal_board { LegalBoard result.board }

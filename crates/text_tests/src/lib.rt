@@ -6,6 +6,8 @@
 #[cfg(test)]
 mod checked_traces;
 #[cfg(test)]
+mod hostile_lines;
+#[cfg(test)]
 mod replies;
 #[cfg(test)]
 mod written_traces;

@@ -12,4 +12,4 @@ returns-clause-answers g c =
     answered-source c.laws.ensures c.args.workers (left c.args.src.now) (left c.run_lines-answer.new.src) c.args.passes c.into_passes-on_registry.result.0 c.into_passes-on_registry.result.1 c.shut_board.result
     c.new-session.result c.run_lines-answer.new.session c.run_lines-answer.result (held c.args.out.now) (held c.run_lines-answer.new.out)
     c.new-session.ensures c.into_passes-on_registry.ensures c.requires.new c.shut_board.ensures.more c.shut_board.ensures.shut c.shut_board.ensures.alone
-    c.run_lines-answer.ensures.run c.shut_board.ensures.own c.shut_board.ensures.closed
+    c.run_lines-answer.ensures.run c.shut_board.ensures.own c.shut_board.ensures.once

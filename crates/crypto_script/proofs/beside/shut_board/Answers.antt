@@ -1,6 +1,6 @@
-use Rattle.std.proofs.Common.{sym, ◌∙◌}
+use Rattle.std.proofs.Common.{sym, ap, ◌∙◌}
 use Rattle.turn_lock.specs.Passes.{knows}
-use Rattle.crypto_script.proofs.Finishing.{shut-own, shut-closed, shut-stays, leaves-alone, shuts-alone}
+use Rattle.crypto_script.proofs.Finishing.{shut-own, shut-closed, shut-stays, leaves-alone, shuts-alone, found-shut, now-shut}
 use Rattle.crypto_script.proofs.beside.shut_board.Goals as goal
 
 pub returns-clause-own : goal.returns-clause-own
@@ -18,3 +18,10 @@ returns-then-shut-clause-alone g c = leaves-alone (knows c.args.pass) (knows c.i
 
 pub returns-clause-alone : goal.returns-clause-alone
 returns-clause-alone g c = shuts-alone (knows c.args.pass) (knows c.is_shut-pass.result.0) (knows c.shut.result) c.is_shut-pass.ensures.turn c.shut.ensures.turn
+
+pub returns-then-shut-clause-once : goal.returns-then-shut-clause-once
+returns-then-shut-clause-once g c either =
+    found-shut c.others_leave.ensures.own (knows c.args.pass) (knows c.is_shut-pass.result.0) c.requires.first c.is_shut-pass.ensures.turn (sym c.is_shut-pass.ensures.shut ∙ c.if-shut.true) either
+
+pub returns-clause-once : goal.returns-clause-once
+returns-clause-once g c either = now-shut (knows c.is_shut-pass.result.0) (knows c.shut.result) (ap (λ x. x.number) c.is_shut-pass.ensures.turn.2 ∙ c.requires.first) c.shut.ensures.turn

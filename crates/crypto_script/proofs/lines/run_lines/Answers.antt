@@ -40,7 +40,7 @@ returns-in_err-bad-clause-run g c =
     let p = err_from_is_err_and c.from_residual-in_err-bad.result c.from_residual-in_err-bad.ensures.1 in
     rw (p.1, p.2)
     (runs-broken c.laws.ensures c.whole_lines_stay.ensures.stay c.whole_lines_stay.ensures.none c.args.session.now c.args.registry.now c.args.board.now
-    c.loop-reader.number c.loop-reader.reader c.next.new.self (left c.args.src.now) (left c.loop-reader.src) (left c.next.new.src) (held c.args.out.now) (held c.loop-reader.out) c.loop-reader.malformed c.loop-reader.session at c.in-Some.line found (held c.run_line.new.out) c.run_line.new.session c.in_err-bad.field-0.0 c.in_err-bad.ensures.done)
+    c.loop-reader.number c.loop-reader.reader c.next.new.self (left c.args.src.now) (left c.loop-reader.src) (left c.next.new.src) (held c.args.out.now) (held c.loop-reader.out) c.loop-reader.malformed c.loop-reader.session at c.in-Some.line found (held c.run_line.new.out) c.run_line.new.session c.in_err-bad.field-0.0 c.in_err-bad.ensures.done c.run_line.ensures.unshut)
 
 pub loop-reader-preserved : goal.loop-reader-preserved
 loop-reader-preserved g c =
@@ -65,7 +65,7 @@ returns-in_err-run_end-clause-run g c =
     let p = err_from_is_err_and c.from_residual-in_err-run_end.result c.from_residual-in_err-run_end.ensures.1 in
     rw (p.1, p.2)
     (runs-end_broken c.laws.ensures c.whole_lines_stay.ensures.stay c.whole_lines_stay.ensures.none c.args.session.now c.args.registry.now c.args.board.now
-    c.loop-reader.number c.loop-reader.reader c.next.new.self (left c.args.src.now) (left c.loop-reader.src) (left c.next.new.src) (held c.args.out.now) (held c.loop-reader.out) c.loop-reader.malformed c.loop-reader.session at found (held c.run_end.new.out) c.run_end.new.session c.in_err-run_end.field-0.0 c.in_err-run_end.ensures.done)
+    c.loop-reader.number c.loop-reader.reader c.next.new.self (left c.args.src.now) (left c.loop-reader.src) (left c.next.new.src) (held c.args.out.now) (held c.loop-reader.out) c.loop-reader.malformed c.loop-reader.session at found (held c.run_end.new.out) c.run_end.new.session c.in_err-run_end.field-0.0 c.in_err-run_end.ensures.done c.run_end.ensures.unshut)
 
 pub returns-clause-run : goal.returns-clause-run
 returns-clause-run g c =

@@ -12,4 +12,4 @@ returns-clause-loads g c =
     let options = c.args.options.now in
     loads options.workers options.seed options.count c.args.passes c.into_passes-on_registry.result.0 c.into_passes-on_registry.result.1 c.shut_board.result c.new-session.result c.hold_load-digest.new.session
     c.new-session.ensures c.into_passes-on_registry.ensures held.goes_on c.requires.new c.shut_board.ensures.more c.shut_board.ensures.shut
-    c.hold_load-digest.result held.loaded held.own held.shut c.shut_board.ensures.own c.shut_board.ensures.closed
+    c.hold_load-digest.result held.loaded held.own held.shut held.unshut c.shut_board.ensures.own c.shut_board.ensures.once
