@@ -1,0 +1,16 @@
+pub mod Lists
+pub mod Transfer
+pub mod Fronts
+pub mod Keeping
+pub mod Handing
+pub mod Starting
+pub mod OldShapes
+pub mod Callbacks
+pub mod Releasing
+pub mod KeptPad
+pub mod KeptChain
+pub mod KeptPassing
+pub mod KeptTaking
+pub mod KeptEntering
+pub mod KeptQueue
+pub mod KeptCollect

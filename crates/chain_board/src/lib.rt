@@ -1,0 +1,15 @@
+//! The entries of a board, which histories of them are legal, and what holds of these.
+#![tactic(auto)]
+
+mod entry;
+mod laws;
+mod mask;
+mod pipeline;
+mod stage;
+
+pub use entry::{BoardEntry, Entered, Shape};
+pub use laws::{
+    chains_are_legal, collects_hand_out_all, completions_in_order, fronts_are_first,
+    masks_are_legal, old_shapes_told_so, pads_are_as_before, queues_are_as_before,
+    starts_of_the_backlog,
+};
