@@ -5,3 +5,4 @@ pub mod Order
 pub mod Examples
 pub mod Stages
 pub mod Kept
+pub mod Ready

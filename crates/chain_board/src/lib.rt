@@ -5,6 +5,8 @@ mod entry;
 mod laws;
 mod mask;
 mod pipeline;
+mod ready;
+mod serving;
 mod stage;
 
 pub use entry::{BoardEntry, Entered, Shape};

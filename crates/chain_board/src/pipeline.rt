@@ -1,5 +1,9 @@
 //! One pipeline of a board.
 
+ghost use Rattle.std.specs.Prelude.{MatchBool};
+ghost use Rattle.chain_board.specs.Ready.{Admits};
+
+use crate::mask::is_masked;
 use crate::stage::Stage;
 
 /// Who made it, whether it is closed or shared, which workers may take from it, who else submitted to it, how many of its
@@ -13,4 +17,16 @@ pub(crate) struct Pipeline<J, F> {
     pub(crate) submitters: Vec<u32>,
     pub(crate) collected: u64,
     pub(crate) stage: Stage<J, F>,
+}
+
+impl<J: Drop, F: Drop> Pipeline<J, F> {
+    /// Whether this caller may take its jobs.
+    pub(crate) fn admits(&self, caller: u32) -> bool
+        ensures { MatchBool result (Admits self.now caller) (Admits self.now caller → ⊥) }
+    {
+        self.stage.is_queue()
+            || self.maker == caller
+            || self.submitters.iter().any(|submitter| *submitter == caller)
+            || is_masked(self.mask, caller)
+    }
 }
