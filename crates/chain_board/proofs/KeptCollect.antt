@@ -16,7 +16,7 @@ use Rattle.chain_board.specs.Kept.{IsKeptLine, IsKeptPad}
 use Rattle.chain_board.proofs.Lists.{filter_map-none, filter_map-some, last_or-append}
 use Rattle.chain_board.proofs.Fronts.{completes_on}
 use Rattle.chain_board.proofs.Keeping.{birth_stays, told-more}
-use Rattle.chain_board.proofs.OldShapes.{pad_tells}
+use Rattle.chain_board.proofs.PadsAndQueues.{pad_tells}
 use Rattle.chain_board.proofs.KeptPad.{front_is, emptied_kept, deliver_is}
 use Rattle.chain_board.proofs.KeptEntering.{pad_quiet}
 

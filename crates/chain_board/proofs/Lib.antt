@@ -4,7 +4,7 @@ pub mod Fronts
 pub mod Keeping
 pub mod Handing
 pub mod Starting
-pub mod OldShapes
+pub mod PadsAndQueues
 pub mod InLine
 pub mod Callbacks
 pub mod Releasing

@@ -21,7 +21,7 @@ use Rattle.chain_board.specs.Entries.{Notice, Starts, Completes, birth, accepted
 use Rattle.chain_board.specs.Legal.{IsRightFor}
 use Rattle.chain_board.specs.Order.{handed_in, AreRightForAfter, completed_in, completed, backlogged_in, backlogged, started_in, started, times}
 use Rattle.chain_board.proofs.Lists.{filter_map-none, filter_map-some, has-more, more_cases}
-use Rattle.chain_board.proofs.Fronts.{front_is_first, front_grows, none_started, unbroken_numbers}
+use Rattle.chain_board.proofs.Fronts.{front_is_finished, front_grows, none_started, unbroken_numbers}
 use Rattle.chain_board.proofs.Keeping.{birth_stays, born_some, maker_some, queue_has_line, not_both, AreNumbered, IsOrderly, orderly_start, orderly_step, front-same, front-accepted, told-more, runs_next, front_done}
 
 -- What a queue has told, by numbers: it accepted s requests, of which t were taken and f finished, and those in bs came into
@@ -241,7 +241,7 @@ front_passed_cases f p (inr g) h = g
 
 -- the front is not past the line
 pub front_passed : {A : Type 0} (es : List (BoardEntry A)) → AreNumbered es → front es ≤ passed_on es
-front_passed es o = front_passed_cases (front es) (passed_on es) (cases_lt (passed_on es) (front es)) (λ l. o.done (passed_on es) ((front_is_first es).0 (passed_on es) l))
+front_passed es o = front_passed_cases (front es) (passed_on es) (cases_lt (passed_on es) (front es)) (λ l. o.done (passed_on es) (front_is_finished es (passed_on es) l))
 
 same_telling : (max max2 s s2 t t2 f : ℕ) (bs bs2 : List ℕ) (ns ns2 : List Notice) → max2 ≡ max → s2 ≡ s → t2 ≡ t → bs2 ≡ bs → ns2 ≡ ns → IsTelling max s t f bs ns → IsTelling max2 s2 t2 f bs2 ns2
 same_telling max max2 s s2 t t2 f bs bs2 ns ns2 a b c d e o = rw (a, b, c, d, e) o

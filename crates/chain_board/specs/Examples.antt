@@ -37,3 +37,7 @@ held_queue a b c d =
 -- a pad whose second job was finished first
 abbrev pub second_first : {A : Type 0} → (a b : Arc A Global) → List (BoardEntry A)
 second_first a b = Born 0 0 (Pad 2) ∷ Submit 0 0 0 a ∷ Submit 0 0 1 b ∷ Take 2 0 1 ∷ Take 1 0 0 ∷ Finish 2 0 1 ∷ []
+
+-- a pad whose first job is finished, and the second runs
+abbrev pub first_alone : {A : Type 0} → (a b : Arc A Global) → List (BoardEntry A)
+first_alone a b = Born 0 0 (Pad 2) ∷ Submit 0 0 0 a ∷ Submit 0 0 1 b ∷ Take 1 0 0 ∷ Take 2 0 1 ∷ Finish 1 0 0 ∷ []
