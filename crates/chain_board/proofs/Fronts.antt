@@ -1,13 +1,13 @@
 -- The front of a pipeline, and the completions up to it.
-use Rattle.std.proofs.Common.{◌≡◌, ℕ, zero, suc, ◌+◌, ◌-◌, ◌<◌, ◌≤◌, Bool, true, false, cond, ◌||◌, List, [], ◌∷◌, ◌++◌, length, Option, Some, None, refl, sym, ◌∙◌, ap, subst, arith, append-nil, append_assoc, add-zero, zero-add, length-append, inl, inr, ◌⊎◌}
+use Rattle.std.proofs.Common.{◌≡◌, ℕ, zero, suc, ◌+◌, ◌<◌, ◌≤◌, Bool, true, false, cond, ◌||◌, List, [], ◌∷◌, ◌++◌, length, refl, sym, ◌∙◌, ap, subst, arith, append-nil, append_assoc, add-zero, zero-add, length-append, inl, inr, ◌⊎◌}
 use Rattle.std.specs.List.{filter_map}
 use Rattle.std.proofs.lemmas.Bool.{cases_lt, both_ways}
 use Rattle.std.proofs.lemmas.List.Folds.{list_any-append}
 use Rattle.std.proofs.lemmas.List.Elements.{filter_map-append}
 use Rattle.chain_board.specs.declared.entry.BoardEntry.{BoardEntry}
-use Rattle.chain_board.specs.Entries.{Notice, Starts, Completes, accepted_in, submissions, finished_in, finished, has, unbroken, front, completes_from}
-use Rattle.chain_board.specs.Order.{completed_in, completed, numbers_below, started, FrontIsFinished, FrontIsGreatest}
-use Rattle.chain_board.proofs.Lists.{has_below, has_only_below, length-numbers}
+use Rattle.chain_board.specs.Entries.{Completes, accepted_in, submissions, finished_in, finished, has, unbroken, front, completes_from}
+use Rattle.chain_board.specs.Order.{completed, numbers_below, started, FrontIsFinished, FrontIsGreatest}
+use Rattle.chain_board.proofs.Lists.{has_below, has_only_below}
 
 grow_step : (b c : Bool) (x y : ℕ) → x ≤ y → cond b (suc x) 0 ≤ cond (b || c) (suc y) 0
 grow_step true c x y h = omega arith

@@ -6,6 +6,7 @@ pub mod Handing
 pub mod Starting
 pub mod PadsAndQueues
 pub mod InLine
+pub mod Searching
 pub mod Callbacks
 pub mod Releasing
 pub mod KeptPad

@@ -4,7 +4,7 @@ use Rattle.std.specs.declared.alloc.Global.{Global}
 use Rattle.chain_board.specs.declared.entry.Shape.TheVariants.{Pad, Queue, Chain}
 use Rattle.chain_board.specs.declared.entry.Entered.TheVariants.{InProgress, Busy, NoSpace}
 use Rattle.chain_board.specs.declared.entry.BoardEntry.{BoardEntry}
-use Rattle.chain_board.specs.declared.entry.BoardEntry.TheVariants.{Born, Submit, Take, Finish, Enq, Deq, Done, Hold, Go, Collect, Close, Mask, Shut}
+use Rattle.chain_board.specs.declared.entry.BoardEntry.TheVariants.{Born, Submit, Take, Finish, Enq, Deq, Done, Hold, Go, Collect, Mask, Shut}
 
 -- a chain of one that waits, and two lists, gets three requests while it is held
 abbrev pub held_chain : {A : Type 0} → (a b c : Arc A Global) → List (BoardEntry A)
