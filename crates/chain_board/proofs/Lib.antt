@@ -16,3 +16,10 @@ pub mod KeptTaking
 pub mod KeptEntering
 pub mod KeptQueue
 pub mod KeptCollect
+pub mod Counting
+pub mod Kept
+pub mod KeptUsed
+pub mod KeptPipe
+pub mod KeptWork
+pub mod KeptFinish
+pub mod KeptPassOn

@@ -6,3 +6,5 @@ pub mod Examples
 pub mod Stages
 pub mod Kept
 pub mod Ready
+pub mod Allowance
+pub mod Slips

@@ -1,16 +1,25 @@
 //! The entries of a board, which histories of them are legal, and what holds of these.
 #![tactic(auto)]
 
+mod allowance;
+mod board_core;
 mod entry;
 mod laws;
+mod log;
 mod mask;
 mod pipeline;
 mod ready;
 mod serving;
 mod stage;
+mod work;
+mod working;
 
+pub use board_core::{BoardCore, BoardErr};
 pub use entry::{BoardEntry, Entered, Shape};
 pub use laws::{
     collects_hand_out_all, completions_in_order, fronts_tell_all, legal_chains, legal_masks,
     legal_pads, legal_queues, pads_and_queues_tell, starts_of_the_backlog,
 };
+pub use log::BoardLog;
+pub use work::Work;
+pub use working::{Slip, Taken};
