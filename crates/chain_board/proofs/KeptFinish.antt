@@ -1,5 +1,5 @@
 -- What a finish does to the board.
-use Rattle.std.proofs.Common.{◌≡◌, ℕ, zero, suc, ◌+◌, ◌-◌, ◌*◌, ◌<◌, ◌≤◌, Bool, true, false, cond, List, [], ◌∷◌, ◌++◌, length, drop, Option, Some, None, is_some, refl, sym, ◌∙◌, ap, subst, arith, get_or}
+use Rattle.std.proofs.Common.{◌≡◌, ◌≢◌, ℕ, zero, suc, ◌+◌, ◌-◌, ◌*◌, ◌<◌, ◌≤◌, Bool, true, false, cond, List, [], ◌∷◌, ◌++◌, length, drop, Option, Some, None, is_some, refl, sym, ◌∙◌, ap, subst, arith, get_or}
 use Rattle.std.specs.Prelude.{slice_get, slice_set}
 use Rattle.std.proofs.lemmas.Bool.{eq-eqb}
 use Rattle.padata_core.specs.Pad.{Pad, taken_of, ready, running_of}
@@ -154,3 +154,12 @@ pub ended_is_queue : {J O : Type 0} (s : Stage J O) (n : ℕ) (out : O) → is_q
 ended_is_queue (stage.Pad pad) n out = refl
 ended_is_queue (stage.Queue line) n out = refl
 ended_is_queue (stage.Chain c) n out = refl
+
+-- a pipeline of which a number was taken has entries
+pub taken_here : {A : Type 0} (es : List (BoardEntry A)) (n caller : ℕ) → takers n es ≡ caller ∷ [] → es ≢ []
+taken_here [] n caller t h = cc
+taken_here (e ∷ es) n caller t h = cc
+
+-- the entry that the call makes
+pub ended_made : {J O A : Type 0} (s after : Stage J O) (caller p n : ℕ) (out : O) (queue : Bool) → queue ≡ is_queue after → after ≡ ended s n out → cond {A = BoardEntry A} queue (Done caller p n) (Finish caller p n) ≡ job_ended s caller p n
+ended_made s after caller p n out queue a e = rw (a ∙ (ap is_queue e ∙ ended_is_queue s n out)) refl

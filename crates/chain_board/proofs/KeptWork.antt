@@ -1,5 +1,5 @@
 -- What a take does to the board.
-use Rattle.std.proofs.Common.{◌≡◌, ◌≢◌, ℕ, zero, suc, ◌+◌, ◌-◌, ◌*◌, ◌<◌, ◌≤◌, Bool, true, false, cond, List, [], ◌∷◌, ◌++◌, length, map, take, drop, Option, Some, None, is_some, refl, sym, ◌∙◌, ap, subst, arith, inl, inr, ◌⊎◌, get_or, length-append, append-nil}
+use Rattle.std.proofs.Common.{◌≡◌, ◌≢◌, ℕ, zero, suc, ◌+◌, ◌-◌, ◌*◌, ◌<◌, ◌≤◌, Bool, true, false, cond, ◌||◌, List, [], ◌∷◌, ◌++◌, length, map, take, drop, Option, Some, None, is_some, refl, sym, ◌∙◌, ap, subst, arith, inl, inr, ◌⊎◌, get_or, length-append, append-nil}
 use Rattle.std.specs.Prelude.{◌==◌, slice_get, slice_set}
 use Rattle.std.specs.List.{filter, filter_map}
 use Rattle.std.specs.Option.{option_map}
@@ -49,7 +49,7 @@ take_get (y ∷ xs) (suc k) (suc n) x h = take_get xs k n x h
 
 running_more : {O : Type 0} (outs : List (Option O)) → running_of (outs ++ None ∷ []) ≡ running_of outs + 1
 running_more [] = refl
-running_more (None ∷ outs) = ap suc (running_more outs)
+running_more (None ∷ outs) = (let r = running_more outs in omega arith)
 running_more (Some x ∷ outs) = running_more outs
 
 ready_more : {O : Type 0} (outs : List (Option O)) → ready outs ≡ [] → ready (outs ++ None ∷ []) ≡ []
@@ -60,14 +60,14 @@ ready_more (Some x ∷ outs) h = cc
 idle_cases : {X : Type 0} (c : Bool) (xs : List X) (x : X) (ys : List X) → (c ≡ true → xs ≡ []) → xs ≡ x ∷ ys → c ≡ false
 idle_cases c xs x ys i w = false_from_ne_true c (λ h. (let l = i h in cc))
 
+none_step : (b : Bool) (t : ℕ × ℕ) (ts : List (ℕ × ℕ)) (h : Bool) → (b || h) ≡ false → (h ≡ false → map (λ (u : ℕ × ℕ). u.1) ts ≡ []) → map (λ (u : ℕ × ℕ). u.1) (cond b (t ∷ ts) ts) ≡ []
+none_step true t ts h e rest = cc
+none_step false t ts h e rest = rest e
+
 -- a number that is not among those taken has nobody who took it
 none_took : (ts : List (ℕ × ℕ)) (n : ℕ) → has n (map (λ (t : ℕ × ℕ). t.0) ts) ≡ false → map (λ (t : ℕ × ℕ). t.1) (filter (λ (t : ℕ × ℕ). t.0 == n) ts) ≡ []
 none_took [] n h = refl
-none_took (t ∷ ts) n h = none_cases t ts n (t.0 == n) refl h
-  where
-    none_cases : (t : ℕ × ℕ) (ts : List (ℕ × ℕ)) (n : ℕ) (b : Bool) → (t.0 == n) ≡ b → has n (map (λ (u : ℕ × ℕ). u.0) (t ∷ ts)) ≡ false → map (λ (u : ℕ × ℕ). u.1) (cond b (t ∷ filter (λ (u : ℕ × ℕ). u.0 == n) ts) (filter (λ (u : ℕ × ℕ). u.0 == n) ts)) ≡ []
-    none_cases t ts n true e h = (let g = ap (λ c. c) e in cc)
-    none_cases t ts n false e h = none_took ts n (let g = e in cc)
+none_took (t ∷ ts) n h = none_step (t.0 == n) t (filter (λ (u : ℕ × ℕ). u.0 == n) ts) (has n (map (λ (u : ℕ × ℕ). u.0) ts)) h (none_took ts n)
 
 -- ---- what holds of the next number of a queue
 
@@ -311,14 +311,6 @@ none_at asked meaning pipes log caller k z p (inr above) = rw (k.beyond p above)
 
 pub take_none : {J O A : Type 0} (asked : J → A) (meaning : A → O) (pipes : List (Pipeline J O)) (log : List (BoardEntry A)) (caller : ℕ) → IsKeptBoard asked meaning pipes log → NoneIs (λ (pipe : Pipeline J O). HasJob pipe × Admits pipe caller) pipes → NoneFor log caller
 take_none asked meaning pipes log caller k z p = none_at asked meaning pipes log caller k z p (cases_lt p (length pipes))
-
--- a pipeline that may serve isn't quiet
-pub not_quiet : {J O : Type 0} (s : Stage J O) → MayServe s → IsQuiet s → ⊥
-not_quiet (stage.Pad pad) m z = (let w = ap length z in omega arith)
-not_quiet (stage.Queue line) m (inl held) = (let h = m.0 in cc)
-not_quiet (stage.Queue line) m (inr (inl busy)) = (let h = m.1 in cc)
-not_quiet (stage.Queue line) m (inr (inr none)) = (let w = ap length none in let l = m.2 in omega arith)
-not_quiet (stage.Chain c) m z = (let w = ap length z in omega arith)
 
 -- no Shut, and no acceptance, is among the entries of work
 pub first_quiet : {J O : Type 0} (A : Type 0) (s : Stage J O) (caller p : ℕ) → (is_shut_entry {A = A} (first_taken s caller p) ≡ false) × (accepted_in {A = A} (first_taken s caller p) ≡ None)
