@@ -1,9 +1,10 @@
 //! What stands behind one pipeline: a pad, a queue, or a chain of both.
 
-ghost use Rattle.std.specs.Prelude.{◌≡◌, ℕ, ◌+◌, ◌-◌, ◌<◌, ◌≤◌, ◌^◌, true, false, [], ◌∷◌, ◌++◌, length, None, OnOk, MatchBool, MatchOption, ◌⊎◌};
+ghost use Rattle.std.specs.Prelude.{◌≡◌, ℕ, ◌+◌, ◌-◌, ◌<◌, ◌≤◌, ◌^◌, true, false, [], ◌∷◌, ◌++◌, length, None, OnOk, OnErr, MatchBool, MatchOption, ◌⊎◌};
 ghost use Rattle.request_queue.specs.Line.{number_at_bound, accepted};
 ghost use Rattle.padata_core.specs.Pad.{ready, taken_of};
 ghost use Rattle.chain_board.specs.Stages.{is_pad, has_line, HasRoom, IsPlaced, without_room, accepted_of, answer_of, after_entered, entered_on, with_waiting, bare, passed, IsJoined, MayEnd, emptied, released, ended, unfinished_of, jobs_of, IsQuiet, next_of, started_by, with_taken, without_first, with_job, holding, callbacks_of, collected_from};
+ghost use Rattle.chain_board.specs.Pipelines.{accepts, work_of, with_lists, IsSpent};
 
 use crate::entry::Entered;
 use cryptd::Cryptd;
@@ -150,6 +151,61 @@ impl<J: Drop, F: Drop> Stage<J, F> {
             Stage::Pad(pad) => pad.collect(into),
             Stage::Queue(line) => line.collect(into),
             Stage::Chain(chain) => chain.line.collect(into),
+        }
+    }
+
+    /// Whether a queue or chain would accept a request that came now. A pad would not.
+    pub(crate) fn accepts(&self, backlog: bool) -> bool
+        ensures { result ≡ accepts self.now backlog }
+    {
+        match self {
+            Stage::Pad(_) => false,
+            Stage::Queue(line) => line.accepts(backlog),
+            Stage::Chain(chain) => chain.line.accepts(backlog),
+        }
+    }
+
+    /// How many entries of work follow on an answer to a request: on a chain it is passed on, taken and finished, and on a
+    /// queue taken and done.
+    pub(crate) fn work_entries(&self, answer: Entered) -> usize
+        ensures { result ≡ work_of self.now answer }
+    {
+        match (self, answer) {
+            (Stage::Pad(_), _) | (_, Entered::NoSpace) => 0,
+            (Stage::Queue(_), Entered::InProgress(_) | Entered::Busy(_)) => 2,
+            (Stage::Chain(_), Entered::InProgress(_) | Entered::Busy(_)) => 3,
+        }
+    }
+
+    /// From now on a pad has so many reorder lists. Want of memory changes nothing.
+    pub(crate) fn remask(&mut self, lists: u32) -> Result<(), AllocError>
+        requires pad { is_pad self.old ≡ true }
+        requires lists { 1 ≤ lists }
+        ensures ok { OnOk result (self.new ≡ with_lists self.old lists) }
+        ensures err { OnErr result (self.new ≡ self.old) }
+    {
+        match self {
+            Stage::Pad(pad) => pad.remask(lists),
+            Stage::Queue(_) => unreachable!(),
+            Stage::Chain(_) => unreachable!(),
+        }
+    }
+
+    /// Gives back the memory of a pipeline of which all is finished and collected.
+    pub(crate) fn free_room(&mut self)
+        requires { IsSpent self.old }
+        ensures same { without_room self.new ≡ without_room self.old }
+        ensures placed { IsPlaced self.new }
+    {
+        match self {
+            Stage::Pad(pad) => pad.free_room(),
+            Stage::Queue(line) => line.free_room(),
+            Stage::Chain(chain) => {
+                if chain.line.is_idle() {
+                    chain.line.free_room();
+                }
+                chain.pad.free_room();
+            }
         }
     }
 }
