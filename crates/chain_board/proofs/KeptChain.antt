@@ -101,4 +101,5 @@ chain_finish_kept {J} {O} {A} asked meaning c es place p n caller out k b l t f 
       (omega arith, omega arith),
       k.3,
       ready_rest after.outcomes,
+      k.5,
     )

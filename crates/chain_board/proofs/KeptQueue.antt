@@ -107,4 +107,5 @@ chain_made asked meaning caller p max lists = (
   (refl, refl),
   omega arith,
   refl,
+  refl,
 )

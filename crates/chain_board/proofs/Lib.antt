@@ -5,6 +5,7 @@ pub mod Keeping
 pub mod Handing
 pub mod Starting
 pub mod OldShapes
+pub mod InLine
 pub mod Callbacks
 pub mod Releasing
 pub mod KeptPad

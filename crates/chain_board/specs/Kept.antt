@@ -39,14 +39,14 @@ pub record IsKeptPad {J O A : Type 0} (asked : J → A) (meaning : A → O) (pad
   pub passed : (n : ℕ) → n < pad.collected → has n (finished es) ≡ true
   pub running : (n : ℕ) → taken_of pad ≤ n → has n (finished es) ≡ false
 
--- of a pad what was collected left it, of a chain what is ready
+-- of a pad what was collected left it, of a chain what is ready; a chain is never busy
 abbrev pub IsKeptStage : {J O A : Type 0} → (J → A) → (A → O) → Stage J O → ℕ → List (BoardEntry A) → Type 0
 IsKeptStage asked meaning (stage.Pad pad) place es = IsKeptPad asked meaning pad es × (place ≡ pad.collected)
 IsKeptStage asked meaning (stage.Queue line) place es =
     IsKeptLine asked meaning line place es × (length (finished es) + (if line.busy then 1 else 0) ≡ line.line.served)
 IsKeptStage asked meaning (stage.Chain c) place es =
     IsKeptLine asked meaning c.line place es × IsKeptPad asked meaning c.pad es × IsJoined c.line c.pad × IsPlaced (stage.Chain c)
-    × (ready c.pad.outcomes ≡ [])
+    × (ready c.pad.outcomes ≡ []) × (c.line.busy ≡ false)
 
 -- the shape that a stage of so many lists at birth was made with
 abbrev pub shape_of : {J O : Type 0} → Stage J O → ℕ → Shape

@@ -1,5 +1,5 @@
 -- What the calls on one pipeline leave of it.
-use Rattle.std.specs.Prelude.{◌≡◌, ◌≢◌, ◌⊎◌, ℕ, ◌+◌, ◌<◌, Bool, true, false, ◌==◌, nat_lt, ◌&&◌, ◌||◌, List, [], length}
+use Rattle.std.specs.Prelude.{◌≡◌, ◌≢◌, ◌⊎◌, ℕ, ◌+◌, ◌<◌, if◌then◌else◌, Bool, true, false, ◌==◌, nat_lt, ◌&&◌, ◌||◌, List, [], length}
 use Rattle.padata_core.specs.Pad.{Pad}
 use Rattle.cryptd.specs.Server.{Server}
 use Rattle.chain_board.specs.declared.entry.Entered.{Entered}
@@ -44,37 +44,21 @@ accepts (stage.Pad pad) backlog = false
 accepts (stage.Queue line) backlog = line_accepts line backlog
 accepts (stage.Chain c) backlog = line_accepts c.line backlog
 
--- how many entries of work follow on an answer to a request: on a chain the request is passed on, taken and finished
-abbrev pub work_of : {J O : Type 0} → Stage J O → Entered → ℕ
-work_of (stage.Pad pad) answer = 0
-work_of (stage.Queue line) (InProgress number) = 2
-work_of (stage.Queue line) (Busy number) = 2
-work_of (stage.Queue line) NoSpace = 0
-work_of (stage.Chain c) (InProgress number) = 3
-work_of (stage.Chain c) (Busy number) = 3
-work_of (stage.Chain c) NoSpace = 0
+-- how many entries of work follow on a request: on a chain it is passed on, taken and finished
+abbrev pub work_each : {J O : Type 0} → Stage J O → ℕ
+work_each (stage.Pad pad) = 2
+work_each (stage.Queue line) = 2
+work_each (stage.Chain c) = 3
+
+-- on an answer to it, where it is accepted
+abbrev pub work_after : {J O : Type 0} → Stage J O → Entered → ℕ
+work_after s answer = if is_accepted answer then work_each s else 0
 
 -- a pad of so many reorder lists
 abbrev pub with_lists : {J O : Type 0} → Stage J O → ℕ → Stage J O
 with_lists (stage.Pad pad) lists = stage.Pad (record pad { lists = lists })
 with_lists (stage.Queue line) lists = stage.Queue line
 with_lists (stage.Chain c) lists = stage.Chain c
-
--- a job may be taken
-abbrev pub MayServe : {J O : Type 0} → Stage J O → Type 0
-MayServe (stage.Pad pad) = 0 < length pad.waiting
-MayServe (stage.Queue line) = (line.held ≡ false) × (line.busy ≡ false) × (0 < length line.line.waiting)
-MayServe (stage.Chain c) = 0 < length c.pad.waiting
-
--- a request may be passed on
-abbrev pub MayPass : {J O : Type 0} → Stage J O → Type 0
-MayPass (stage.Pad pad) = ⊥
-MayPass (stage.Queue line) = ⊥
-MayPass (stage.Chain c) = (c.line.held ≡ false) × (0 < length c.line.line.waiting)
-
--- workers have something to do
-abbrev pub HasWork : {J O : Type 0} → Stage J O → Type 0
-HasWork s = MayServe s ⊎ MayPass s
 
 -- all is finished and collected
 abbrev pub IsSpentLine : {J O : Type 0} → Server J O → Type 0
@@ -86,4 +70,4 @@ IsSpentPad pad = (pad.waiting ≡ []) × (pad.outcomes ≡ [])
 abbrev pub IsSpent : {J O : Type 0} → Stage J O → Type 0
 IsSpent (stage.Pad pad) = IsSpentPad pad
 IsSpent (stage.Queue line) = IsSpentLine line
-IsSpent (stage.Chain c) = (c.line.line.waiting ≡ []) × (c.line.pending ≡ []) × IsSpentPad c.pad
+IsSpent (stage.Chain c) = IsSpentLine c.line × IsSpentPad c.pad

@@ -1,5 +1,5 @@
 -- What the calls on one pipeline do to it: a pad, a queue, or a chain of a queue and a pad.
-use Rattle.std.specs.Prelude.{◌≡◌, ℕ, ◌+◌, ◌-◌, ◌<◌, ◌≤◌, ◌⊎◌, Bool, true, false, nat_lt, ◌||◌, if◌then◌else◌, List, [], ◌∷◌, ◌++◌, length, drop, Option, Some, None, slice_get, slice_set}
+use Rattle.std.specs.Prelude.{◌≡◌, ℕ, ◌+◌, ◌-◌, ◌<◌, ◌≤◌, ◌⊎◌, Bool, true, false, nat_lt, ◌||◌, if◌then◌else◌, List, [], ◌∷◌, ◌++◌, length, take, drop, Option, Some, None, slice_get, slice_set}
 use Rattle.kc_base.specs.declared.callback_list.Callback.{Callback}
 use Rattle.kc_base.specs.declared.callback_list.Callback.TheVariants as callback
 use Rattle.padata_core.specs.Pad.{Pad, taken_of, submitted_of, ready, done_from, running_of}
@@ -20,6 +20,11 @@ abbrev pub has_line : {J O : Type 0} → Stage J O → Bool
 has_line (stage.Pad pad) = false
 has_line (stage.Queue line) = true
 has_line (stage.Chain c) = true
+
+abbrev pub is_queue : {J O : Type 0} → Stage J O → Bool
+is_queue (stage.Pad pad) = false
+is_queue (stage.Queue line) = true
+is_queue (stage.Chain c) = false
 
 -- there is room for one more request: on a chain also within its pad, besides those that wait in line
 abbrev pub HasRoom : {J O : Type 0} → Stage J O → Type 0
@@ -79,9 +84,27 @@ passed line rest =
       pending = line.pending ++ started_callback (number_at_bound line.line);
     }
 
+-- and stands last on the pad, in a place that was kept for it
+abbrev pub with_passed : {J O : Type 0} → Pad J O → List J → Pad J O
+with_passed pad first = record pad { waiting = pad.waiting ++ first; spare = pad.spare - 1 }
+
+abbrev pub after_passed : {J O : Type 0} → Stage J O → Stage J O
+after_passed (stage.Pad pad) = stage.Pad pad
+after_passed (stage.Queue line) = stage.Queue line
+after_passed (stage.Chain c) =
+    stage.Chain (record {
+      line = passed c.line (drop 1 c.line.line.waiting);
+      pad = with_passed c.pad (take 1 c.line.line.waiting);
+    })
+
 -- the chain's pad has just what its line passed on and didn't release
 abbrev pub IsJoined : {J O : Type 0} → Server J O → Pad J O → Type 0
 IsJoined line pad = (pad.collected + line.passed ≡ line.line.served) × (line.passed ≡ length pad.outcomes + length pad.waiting)
+
+abbrev pub IsLinked : {J O : Type 0} → Stage J O → Type 0
+IsLinked (stage.Pad pad) = Unit {0}
+IsLinked (stage.Queue line) = Unit {0}
+IsLinked (stage.Chain c) = IsJoined c.line c.pad
 
 -- a number whose job runs on a pad
 abbrev pub Runs : {J O : Type 0} → Pad J O → ℕ → Type 0
@@ -130,6 +153,35 @@ abbrev pub IsQuiet : {J O : Type 0} → Stage J O → Type 0
 IsQuiet (stage.Pad pad) = pad.waiting ≡ []
 IsQuiet (stage.Queue line) = is_quiet_line line
 IsQuiet (stage.Chain c) = c.pad.waiting ≡ []
+
+-- a job may be taken
+abbrev pub MayServe : {J O : Type 0} → Stage J O → Type 0
+MayServe (stage.Pad pad) = 0 < length pad.waiting
+MayServe (stage.Queue line) = (line.held ≡ false) × (line.busy ≡ false) × (0 < length line.line.waiting)
+MayServe (stage.Chain c) = 0 < length c.pad.waiting
+
+-- a request of a chain's line may go on to its pad
+abbrev pub MayPass : {J O : Type 0} → Stage J O → Type 0
+MayPass (stage.Pad pad) = ⊥
+MayPass (stage.Queue line) = ⊥
+MayPass (stage.Chain c) = (c.line.held ≡ false) × (c.line.busy ≡ false) × (0 < length c.line.line.waiting)
+
+-- no request may
+abbrev pub PassesNone : {J O : Type 0} → Stage J O → Type 0
+PassesNone (stage.Pad pad) = Unit {0}
+PassesNone (stage.Queue line) = Unit {0}
+PassesNone (stage.Chain c) = is_quiet_line c.line
+
+-- the number of the first request in a chain's line, and the number that leaves the backlog where it goes on
+abbrev pub next_in_line : {J O : Type 0} → Stage J O → ℕ
+next_in_line (stage.Pad pad) = 0
+next_in_line (stage.Queue line) = line.line.served
+next_in_line (stage.Chain c) = c.line.line.served
+
+abbrev pub starts_at : {J O : Type 0} → Stage J O → Option ℕ
+starts_at (stage.Pad pad) = None
+starts_at (stage.Queue line) = number_at_bound line.line
+starts_at (stage.Chain c) = number_at_bound c.line.line
 
 -- the number of the first of these jobs
 abbrev pub next_of : {J O : Type 0} → Stage J O → ℕ

@@ -68,12 +68,11 @@ impl<W: Work> Model for BoardCore<W> {
     ghost use Rattle.chain_board.specs.Legal.{is_shut};
     ghost use Rattle.chain_board.specs.Kept.{IsKeptBoard, owed_by};
     ghost use Rattle.chain_board.specs.Allowance.{IsKeptUsed};
-    ghost use Rattle.chain_board.specs.Pipelines.{MayServe, MayPass};
-    ghost use Rattle.chain_board.specs.Ready.{IsReadyFor};
+    ghost use Rattle.chain_board.specs.Ready.{HasJob, HasRequest, IsReadyFor};
 
     ghost view = { λ b. b.log.items };
 
-    ghost invariant = { λ b. IsKeptBoard W.asked W.meaning b.pipes.items b.log.items × (is_shut b.log.items ≡ b.shut) × (vec_len b.log + b.owed ≤ vec_capacity b.log) × (b.owed ≡ owed_by b.pipes.items + (if b.shut then 0 else 1)) × IsKeptUsed W.weight b.used b.log.items × IsReadyFor MayServe b.pipes.items b.ready × IsReadyFor MayPass b.pipes.items b.passing };
+    ghost invariant = { λ b. IsKeptBoard W.asked W.meaning b.pipes.items b.log.items × (is_shut b.log.items ≡ b.shut) × (vec_len b.log + b.owed ≤ vec_capacity b.log) × (b.owed ≡ owed_by b.pipes.items + (if b.shut then 0 else 1)) × IsKeptUsed W.weight b.used b.log.items × IsReadyFor HasJob b.pipes.items b.ready × IsReadyFor HasRequest b.pipes.items b.passing };
 }
 
 impl<W: Work> Told for BoardCore<W> {

@@ -4,6 +4,8 @@
 mod allowance;
 mod births;
 mod board_core;
+mod closing;
+mod entering;
 mod entry;
 mod handing_out;
 mod laws;
@@ -13,6 +15,7 @@ mod masking;
 mod pipeline;
 mod queues;
 mod ready;
+mod serving;
 mod stage;
 mod submitting;
 mod work;

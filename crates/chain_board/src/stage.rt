@@ -1,12 +1,12 @@
 //! What stands behind one pipeline: a pad, a queue, or a chain of both.
 
-ghost use Rattle.std.specs.Prelude.{◌≡◌, ℕ, ◌+◌, ◌-◌, ◌<◌, ◌≤◌, ◌^◌, true, false, [], ◌∷◌, ◌++◌, length, None, OnOk, OnErr, MatchBool, MatchOption, ◌⊎◌};
+ghost use Rattle.std.specs.Prelude.{◌≡◌, ℕ, ◌+◌, ◌-◌, ◌<◌, ◌≤◌, ◌^◌, true, false, if◌then◌else◌, [], ◌∷◌, ◌++◌, length, take, drop, None, OnOk, MatchBool, MatchOption, ◌⊎◌};
 ghost use Rattle.request_queue.specs.Line.{number_at_bound, accepted};
 ghost use Rattle.padata_core.specs.Pad.{ready, taken_of};
-ghost use Rattle.chain_board.specs.Stages.{is_pad, has_line, HasRoom, IsPlaced, without_room, accepted_of, answer_of, after_entered, entered_on, with_waiting, bare, passed, IsJoined, MayEnd, emptied, released, ended, unfinished_of, jobs_of, IsQuiet, next_of, started_by, with_taken, without_first, with_job, holding, callbacks_of, collected_from};
-ghost use Rattle.chain_board.specs.Pipelines.{accepts, work_of, with_lists, IsSpent};
+ghost use Rattle.chain_board.specs.declared.entry.BoardEntry.TheVariants as Entry;
+ghost use Rattle.chain_board.specs.Stages.{is_queue, MayServe, MayPass, PassesNone, IsLinked, next_in_line, starts_at, after_passed, with_passed, is_pad, has_line, HasRoom, IsPlaced, without_room, accepted_of, answer_of, after_entered, entered_on, with_waiting, bare, passed, IsJoined, MayEnd, emptied, released, ended, unfinished_of, jobs_of, IsQuiet, next_of, started_by, with_taken, without_first, with_job, holding, callbacks_of, collected_from};
 
-use crate::entry::Entered;
+use crate::entry::{BoardEntry, Entered};
 use cryptd::Cryptd;
 use kc_base::Callbacks;
 use padata_core::Padata;
@@ -107,6 +107,97 @@ impl<J: Drop, F: Drop> Stage<J, F> {
         }
     }
 
+    /// Whether a job may be taken.
+    pub(crate) fn may_serve(&self) -> bool
+        ensures { MatchBool result (MayServe self.now) (IsQuiet self.now) }
+    {
+        match self {
+            Stage::Pad(pad) => pad.has_waiting(),
+            Stage::Queue(line) => line.may_serve(),
+            Stage::Chain(chain) => chain.pad.has_waiting(),
+        }
+    }
+
+    /// Whether a chain's line may pass a request on.
+    pub(crate) fn may_pass(&self) -> bool
+        ensures { MatchBool result (MayPass self.now) (PassesNone self.now) }
+    {
+        match self {
+            Stage::Pad(_) => false,
+            Stage::Queue(_) => false,
+            Stage::Chain(chain) => chain.line.may_serve(),
+        }
+    }
+
+    /// The first request of a chain's line goes on to its pad, in the place that was kept for it there: its number, and the
+    /// number that has left the backlog by that.
+    pub(crate) fn pass_on(&mut self) -> Option<(u64, Option<u64>)>
+        requires placed { IsPlaced self.old }
+        requires few { accepted_of self.old ≤ 2 ^ 63 }
+        requires linked { IsLinked self.old }
+        ensures { MatchOption result (PassesNone self.old × (self.new ≡ self.old)) (λ r. (r.0 ≡ next_in_line self.old) × (r.1 ≡ starts_at self.old) × (self.new ≡ after_passed self.old)) }
+    {
+        match self {
+            Stage::Pad(_) => None,
+            Stage::Queue(_) => None,
+            Stage::Chain(chain) => pass_on(&mut chain.line, &mut chain.pad),
+        }
+    }
+
+    /// Everybody may take a queue's jobs.
+    pub(crate) fn is_queue(&self) -> bool
+        ensures { result ≡ is_queue self.now }
+    {
+        match self {
+            Stage::Pad(_) => false,
+            Stage::Queue(_) => true,
+            Stage::Chain(_) => false,
+        }
+    }
+
+    /// The entry by which a number is taken: on a queue a `Deq`, otherwise a `Take`.
+    pub(crate) fn take_entry<A>(
+        &self,
+        caller: u32,
+        pipe: u64,
+        number: u64,
+        started: Option<u64>,
+    ) -> BoardEntry<A>
+        ensures { result ≡ (if is_queue self.now then Entry.Deq caller pipe number started else Entry.Take caller pipe number) }
+    {
+        match self {
+            Stage::Pad(_) | Stage::Chain(_) => BoardEntry::Take {
+                caller,
+                pipe,
+                number,
+            },
+            Stage::Queue(_) => BoardEntry::Deq {
+                caller,
+                pipe,
+                number,
+                started,
+            },
+        }
+    }
+
+    /// The entry by which a number is finished: on a queue a `Done`, otherwise a `Finish`.
+    pub(crate) fn finish_entry<A>(&self, caller: u32, pipe: u64, number: u64) -> BoardEntry<A>
+        ensures { result ≡ (if is_queue self.now then Entry.Done caller pipe number else Entry.Finish caller pipe number) }
+    {
+        match self {
+            Stage::Pad(_) | Stage::Chain(_) => BoardEntry::Finish {
+                caller,
+                pipe,
+                number,
+            },
+            Stage::Queue(_) => BoardEntry::Done {
+                caller,
+                pipe,
+                number,
+            },
+        }
+    }
+
     /// Holds a queue or chain, or lets it go.
     pub(crate) fn set_held(&mut self, held: bool)
         requires { has_line self.old ≡ true }
@@ -153,61 +244,6 @@ impl<J: Drop, F: Drop> Stage<J, F> {
             Stage::Chain(chain) => chain.line.collect(into),
         }
     }
-
-    /// Whether a queue or chain would accept a request that came now. A pad would not.
-    pub(crate) fn accepts(&self, backlog: bool) -> bool
-        ensures { result ≡ accepts self.now backlog }
-    {
-        match self {
-            Stage::Pad(_) => false,
-            Stage::Queue(line) => line.accepts(backlog),
-            Stage::Chain(chain) => chain.line.accepts(backlog),
-        }
-    }
-
-    /// How many entries of work follow on an answer to a request: on a chain it is passed on, taken and finished, and on a
-    /// queue taken and done.
-    pub(crate) fn work_entries(&self, answer: Entered) -> usize
-        ensures { result ≡ work_of self.now answer }
-    {
-        match (self, answer) {
-            (Stage::Pad(_), _) | (_, Entered::NoSpace) => 0,
-            (Stage::Queue(_), Entered::InProgress(_) | Entered::Busy(_)) => 2,
-            (Stage::Chain(_), Entered::InProgress(_) | Entered::Busy(_)) => 3,
-        }
-    }
-
-    /// From now on a pad has so many reorder lists. Want of memory changes nothing.
-    pub(crate) fn remask(&mut self, lists: u32) -> Result<(), AllocError>
-        requires pad { is_pad self.old ≡ true }
-        requires lists { 1 ≤ lists }
-        ensures ok { OnOk result (self.new ≡ with_lists self.old lists) }
-        ensures err { OnErr result (self.new ≡ self.old) }
-    {
-        match self {
-            Stage::Pad(pad) => pad.remask(lists),
-            Stage::Queue(_) => unreachable!(),
-            Stage::Chain(_) => unreachable!(),
-        }
-    }
-
-    /// Gives back the memory of a pipeline of which all is finished and collected.
-    pub(crate) fn free_room(&mut self)
-        requires { IsSpent self.old }
-        ensures same { without_room self.new ≡ without_room self.old }
-        ensures placed { IsPlaced self.new }
-    {
-        match self {
-            Stage::Pad(pad) => pad.free_room(),
-            Stage::Queue(line) => line.free_room(),
-            Stage::Chain(chain) => {
-                if chain.line.is_idle() {
-                    chain.line.free_room();
-                }
-                chain.pad.free_room();
-            }
-        }
-    }
 }
 
 /// Hands out the first job of a pad.
@@ -249,14 +285,14 @@ fn enter<J: Drop, F: Drop>(line: &mut Cryptd<J, F>, job: J, backlog: bool) -> En
 }
 
 /// The first request of a chain's line goes on to its pad: its number, and the number that has left the backlog by that.
-pub(crate) fn pass_on<J: Drop, F: Drop>(
+fn pass_on<J: Drop, F: Drop>(
     line: &mut Cryptd<J, F>,
     pad: &mut Padata<J, F>,
 ) -> Option<(u64, Option<u64>)>
     requires placed { length line.old.line.waiting ≤ pad.old.spare }
     requires few { accepted line.old.line ≤ 2 ^ 63 }
     requires joined { IsJoined line.old pad.old }
-    ensures { MatchOption result (((line.old.held ≡ true) ⊎ (line.old.line.waiting ≡ [])) × (line.new ≡ line.old) × (pad.new ≡ pad.old)) (λ r. (line.old.held ≡ false) × (r.0 ≡ line.old.line.served) × (r.1 ≡ number_at_bound line.old.line) × (line.new ≡ passed line.old line.new.line.waiting) × IsJoined line.new pad.new × (length line.new.line.waiting ≤ pad.new.spare)) }
+    ensures { MatchOption result (((line.old.held ≡ true) ⊎ (line.old.line.waiting ≡ [])) × (line.new ≡ line.old) × (pad.new ≡ pad.old)) (λ r. (r.0 ≡ line.old.line.served) × (r.1 ≡ number_at_bound line.old.line) × (line.new ≡ passed line.old (drop 1 line.old.line.waiting)) × (pad.new ≡ with_passed pad.old (take 1 line.old.line.waiting))) }
 {
     let served = line.pass_on()?;
     let _ = pad.submit(served.item);
