@@ -15,3 +15,11 @@ pub mod KeptTaking
 pub mod KeptEntering
 pub mod KeptQueue
 pub mod KeptCollect
+pub mod Kept
+pub mod KeptUsed
+pub mod KeptMarks
+pub mod KeptRoom
+pub mod KeptStage
+pub mod KeptBorn
+pub mod KeptCalls
+pub mod KeptRequests
