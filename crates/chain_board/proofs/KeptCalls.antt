@@ -6,6 +6,7 @@ use Rattle.std.specs.Arc.{arc_value}
 use Rattle.std.specs.declared.sync.Arc.{Arc}
 use Rattle.std.specs.declared.alloc.Global.{Global}
 use Rattle.std.proofs.lemmas.Bool.{eq-eqb, or_right}
+use Rattle.std.proofs.lemmas.Option.{slice_get_read}
 use Rattle.std.proofs.lemmas.List.Folds.{list_any-append}
 use Rattle.kc_base.specs.declared.callback_list.Callback.{Callback}
 use Rattle.padata_core.specs.Pad.{ready, running_of}
@@ -16,7 +17,7 @@ use Rattle.chain_board.specs.declared.pipeline.Pipeline.{Pipeline}
 use Rattle.chain_board.specs.declared.stage.Stage.{Stage}
 use Rattle.chain_board.specs.declared.stage.Stage.TheVariants as stage
 use Rattle.chain_board.specs.Shapes.{is_pad, has_line, is_born, pad_born, line_born, width_born}
-use Rattle.chain_board.specs.Stages.{IsPlaced, without_room, unfinished_of, holding, callbacks_of, collected_from}
+use Rattle.chain_board.specs.Stages.{IsPlaced, without_room, unfinished_of, holding, callbacks_of, collected_from, MayServe, MayPass}
 use Rattle.chain_board.specs.Stages as stages
 use Rattle.chain_board.specs.Pipelines.{IsSame, with_lists, IsSpent}
 use Rattle.chain_board.specs.Entries.{is_of, entries_of, birth_in, birth, submissions, front, told, delivered, collected_in, collected, last_or, is_closed, is_shared, mask, has, submitters}
@@ -53,6 +54,60 @@ shape_line : {J O : Type 0} (s : Stage J O) (w : ℕ) → has_line (shape_of s w
 shape_line (stage.Pad x) w = refl
 shape_line (stage.Queue x) w = refl
 shape_line (stage.Chain x) w = refl
+
+-- a place of a list has one item
+pub same_item : {X : Type 0} (xs : List X) (i : ℕ) (x y : X) → i < length xs → x ≡ get_or xs i x → y ≡ get_or xs i y → x ≡ y
+same_item xs i x y l a b = (let p = slice_get_read xs (length xs) i x refl l a in let q = slice_get_read xs (length xs) i y refl l b in cc)
+
+-- ---- whether there is work, after a call
+
+held_serves : {J O : Type 0} (s : Stage J O) → MayServe (holding s true) → MayServe s
+held_serves (stage.Pad x) m = m
+held_serves (stage.Queue x) m = cc
+held_serves (stage.Chain x) m = m
+
+pub hold_serves : {J O : Type 0} (s after : Stage J O) → after ≡ holding s true → MayServe after → MayServe s
+hold_serves s after e m = held_serves s (subst (λ x. MayServe x) e m)
+
+held_passes : {J O : Type 0} (s : Stage J O) → MayPass (holding s true) → MayPass s
+held_passes (stage.Pad x) m = m
+held_passes (stage.Queue x) m = m
+held_passes (stage.Chain x) m = cc
+
+pub hold_passes : {J O : Type 0} (s after : Stage J O) → after ≡ holding s true → MayPass after → MayPass s
+hold_passes s after e m = held_passes s (subst (λ x. MayPass x) e m)
+
+from_serves : {J O : Type 0} (s : Stage J O) → MayServe (collected_from s) → MayServe s
+from_serves (stage.Pad x) m = m
+from_serves (stage.Queue x) m = m
+from_serves (stage.Chain x) m = m
+
+pub collected_serves : {J O : Type 0} (pipe after : Pipeline J O) (to : ℕ) → after ≡ record pipe { collected = to; stage = collected_from pipe.stage } → MayServe after.stage → MayServe pipe.stage
+collected_serves pipe after to e m = from_serves pipe.stage (subst (λ (x : Pipeline _ _). MayServe x.stage) e m)
+
+from_passes : {J O : Type 0} (s : Stage J O) → MayPass (collected_from s) → MayPass s
+from_passes (stage.Pad x) m = m
+from_passes (stage.Queue x) m = m
+from_passes (stage.Chain x) m = m
+
+pub collected_passes : {J O : Type 0} (pipe after : Pipeline J O) (to : ℕ) → after ≡ record pipe { collected = to; stage = collected_from pipe.stage } → MayPass after.stage → MayPass pipe.stage
+collected_passes pipe after to e m = from_passes pipe.stage (subst (λ (x : Pipeline _ _). MayPass x.stage) e m)
+
+with_serves : {J O : Type 0} (s : Stage J O) (lists : ℕ) → MayServe (with_lists s lists) → MayServe s
+with_serves (stage.Pad x) lists m = m
+with_serves (stage.Queue x) lists m = m
+with_serves (stage.Chain x) lists m = m
+
+pub lists_serves : {J O : Type 0} (s after : Stage J O) (lists : ℕ) → after ≡ with_lists s lists → MayServe after → MayServe s
+lists_serves s after lists e m = with_serves s lists (subst (λ x. MayServe x) e m)
+
+with_passes : {J O : Type 0} (s : Stage J O) (lists : ℕ) → MayPass (with_lists s lists) → MayPass s
+with_passes (stage.Pad x) lists m = m
+with_passes (stage.Queue x) lists m = m
+with_passes (stage.Chain x) lists m = m
+
+pub lists_passes : {J O : Type 0} (s after : Stage J O) (lists : ℕ) → after ≡ with_lists s lists → MayPass after → MayPass s
+lists_passes s after lists e m = with_passes s lists (subst (λ x. MayPass x) e m)
 
 module _ {J O A : Type 0} (asked : J → A) (meaning : A → O) where
   pub pad_kept : (pipe : Pipeline J O) (es : List (BoardEntry A)) → IsKeptPipe asked meaning pipe es → pad_born (birth es) ≡ true → stages.is_pad pipe.stage ≡ true

@@ -132,7 +132,8 @@ impl<W: Work> BoardCore<W> {
         ensures legal { LegalBoard self.new }
     {
         let place = &mut self.pipes[pipe as usize];
-        place.close();
+        place.closed = true;
+        place.stage.free_room();
         self.log.push_reserved(BoardEntry::Close { caller, pipe });
         self.owed -= 1;
     }
