@@ -1,13 +1,13 @@
 -- The front of a pipeline, and the completions up to it.
-use Rattle.std.proofs.Common.{◌≡◌, ℕ, zero, suc, ◌+◌, ◌-◌, ◌<◌, ◌≤◌, Bool, true, false, cond, ◌||◌, List, [], ◌∷◌, ◌++◌, length, Option, Some, None, refl, sym, ◌∙◌, ap, subst, arith, append-nil, append_assoc, add-zero, zero-add, length-append, inl, inr, ◌⊎◌}
+use Rattle.std.proofs.Common.{◌≡◌, ℕ, zero, suc, ◌+◌, ◌<◌, ◌≤◌, Bool, true, false, cond, ◌||◌, List, [], ◌∷◌, ◌++◌, length, refl, sym, ◌∙◌, ap, subst, arith, append-nil, append_assoc, add-zero, zero-add, length-append, inl, inr, ◌⊎◌}
 use Rattle.std.specs.List.{filter_map}
 use Rattle.std.proofs.lemmas.Bool.{cases_lt, both_ways}
 use Rattle.std.proofs.lemmas.List.Folds.{list_any-append}
 use Rattle.std.proofs.lemmas.List.Elements.{filter_map-append}
 use Rattle.chain_board.specs.declared.entry.BoardEntry.{BoardEntry}
-use Rattle.chain_board.specs.Entries.{Notice, Starts, Completes, accepted_in, submissions, finished_in, finished, has, unbroken, front, completes_from}
-use Rattle.chain_board.specs.Order.{completed_in, completed, numbers_below, started, FrontIsFirst}
-use Rattle.chain_board.proofs.Lists.{has_below, has_only_below, length-numbers}
+use Rattle.chain_board.specs.Entries.{Completes, accepted_in, submissions, finished_in, finished, has, unbroken, front, completes_from}
+use Rattle.chain_board.specs.Order.{completed, numbers_below, started, FrontIsFinished, FrontIsGreatest}
+use Rattle.chain_board.proofs.Lists.{has_below, has_only_below}
 
 grow_step : (b c : Bool) (x y : ℕ) → x ≤ y → cond b (suc x) 0 ≤ cond (b || c) (suc y) 0
 grow_step true c x y h = omega arith
@@ -57,11 +57,11 @@ pub unbroken_stop : (ns : List ℕ) (n many : ℕ) → unbroken ns n many < many
 unbroken_stop ns n zero l = absurd (omega arith)
 unbroken_stop ns n (suc many) l = stop_step ns n (unbroken ns (suc n) many) many (has n ns) refl l (unbroken_stop ns (suc n) many)
 
-pub front_is_first : {A : Type 0} (es : List (BoardEntry A)) → FrontIsFirst es
-front_is_first es = (
-  λ n l. subst (λ m. has m (finished es) ≡ true) (zero-add n) (unbroken_have (finished es) 0 (length (submissions es)) n l),
-  λ l. subst (λ m. has m (finished es) ≡ false) (zero-add (front es)) (unbroken_stop (finished es) 0 (length (submissions es)) l),
-)
+pub front_is_finished : {A : Type 0} (es : List (BoardEntry A)) (n : ℕ) → FrontIsFinished es n
+front_is_finished es n l = subst (λ m. has m (finished es) ≡ true) (zero-add n) (unbroken_have (finished es) 0 (length (submissions es)) n l)
+
+pub front_is_greatest : {A : Type 0} (es : List (BoardEntry A)) → FrontIsGreatest es
+front_is_greatest es l = subst (λ m. has m (finished es) ≡ false) (zero-add (front es)) (unbroken_stop (finished es) 0 (length (submissions es)) l)
 
 next_step : (ns : List ℕ) (n x y : ℕ) (b : Bool) → x ≡ y → cond b (suc x) 0 ≡ cond b (suc y) 0
 next_step ns n x y b e = ap (λ z. cond b (suc z) 0) e

@@ -1,11 +1,11 @@
 -- Which pipelines stand in line, as they change.
-use Rattle.std.proofs.Common.{◌≡◌, ◌≢◌, ℕ, zero, suc, ◌+◌, ◌<◌, ◌≤◌, Bool, true, false, ◌||◌, List, [], ◌∷◌, ◌++◌, length, refl, sym, ◌∙◌, ap, subst, arith, inl, inr, ◌⊎◌, get_or, length-append}
+use Rattle.std.proofs.Common.{◌≡◌, ◌≢◌, ℕ, zero, suc, ◌+◌, ◌<◌, ◌≤◌, Bool, true, false, ◌||◌, List, [], ◌∷◌, ◌++◌, length, take, refl, sym, ◌∙◌, ap, subst, arith, inl, inr, ◌⊎◌, get_or, length-append}
 use Rattle.std.specs.Prelude.{◌==◌, slice_index_or, slice_set}
 use Rattle.std.proofs.lemmas.Bool.{eqb-true, eq-eqb, or_left, or_right, cases_eq, cases_lt}
 use Rattle.std.proofs.lemmas.List.{get_or-set_same, get_or-set_other, length-set}
 use Rattle.std.proofs.lemmas.List.Folds.{list_any-append}
 use Rattle.chain_board.specs.Entries.{has}
-use Rattle.chain_board.specs.Ready.{ReadyLine, count_true, IsLine, AreInLine, OthersAreInLine, IsReadyFor}
+use Rattle.chain_board.specs.Ready.{ReadyLine, count_true, IsLine, AreInLine, OthersAreInLine, IsReadyFor, NoneIs}
 
 -- ---- the marks
 
@@ -166,3 +166,36 @@ module _ {P : Type 0} (such : P → Type 0) (pipes : List P) where
   pub skipped : (p : ℕ) (rest : List ℕ) → OthersAreInLine such p pipes rest → ((d : P) → such (slice_index_or pipes p d) → ⊥) → AreInLine such pipes rest
   skipped p rest others quiet q d l m = skip_cases p rest q d others l (quiet d) (cases_eq q p) m
 
+  -- which goes back into line
+  back_cases : (p : ℕ) (rest after : List ℕ) (q : ℕ) (d : P) → OthersAreInLine such p pipes rest → has p after ≡ true → ((n : ℕ) → has n rest ≡ true → has n after ≡ true) → (q ≡ p) ⊎ (q ≡ p → ⊥) → q < length pipes → such (slice_index_or pipes q d) → has q after ≡ true
+  back_cases p rest after q d others added kept (inl same) l m = subst (λ n. has n after ≡ true) (sym same) added
+  back_cases p rest after q d others added kept (inr other) l m = kept q (others q d l other m)
+
+  pub back_in_line : (p : ℕ) (rest after : List ℕ) → OthersAreInLine such p pipes rest → has p after ≡ true → ((n : ℕ) → has n rest ≡ true → has n after ≡ true) → AreInLine such pipes after
+  back_in_line p rest after others added kept q d l m = back_cases p rest after q d others added kept (cases_eq q p) l m
+
+  -- of those in line that are still to be seen the first is none
+  pub unseen : (p m : ℕ) (line rest : List ℕ) → AreInLine such pipes (take (suc m) line) → line ≡ p ∷ rest → ((d : P) → such (slice_index_or pipes p d) → ⊥) → AreInLine such pipes (take m rest)
+  unseen p m line rest all is quiet = skipped p (take m rest) (others_wait p (take (suc m) line) (take m rest) all (ap (take (suc m)) is)) quiet
+
+  -- and where none is to be seen there is none
+  pub none_seen : (line : List ℕ) → AreInLine such pipes line → line ≡ [] → NoneIs such pipes
+  none_seen line all none q d l m = (let h = sym (ap (has q) none) ∙ all q d l m in cc)
+
+  pub none_waits : (after : ReadyLine) → after.pipes ≡ length pipes → NoneIs such pipes → IsReadyFor such pipes after
+  none_waits after count none = (count, λ q d l m. absurd (none q d l m))
+
+-- what is added at the end isn't seen yet
+pub take_first : (m : ℕ) (rest after : List ℕ) → m ≤ length rest → take (length rest) after ≡ rest → take m after ≡ take m rest
+take_first zero rest after l h = refl
+take_first (suc m) [] after l h = absurd (omega arith)
+take_first (suc m) (x ∷ rest) [] l h = cc
+take_first (suc m) (x ∷ rest) (y ∷ after) l h = (let e : y ≡ x = cc in let t : take (length rest) after ≡ rest = cc in rw e (ap (λ zs. x ∷ zs) (take_first m rest after (omega arith) t)))
+
+pub take_whole : (xs : List ℕ) → take (length xs) xs ≡ xs
+take_whole [] = refl
+take_whole (x ∷ xs) = ap (λ ys. x ∷ ys) (take_whole xs)
+
+pub take_over : (xs ys : List ℕ) → take (length xs) (xs ++ ys) ≡ xs
+take_over [] ys = refl
+take_over (x ∷ xs) ys = ap (λ zs. x ∷ zs) (take_over xs ys)

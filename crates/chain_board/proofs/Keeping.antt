@@ -1,5 +1,5 @@
 -- Each right entry keeps a pipeline in order.
-use Rattle.std.proofs.Common.{◌≡◌, ℕ, zero, suc, ◌+◌, ◌-◌, ◌<◌, ◌≤◌, Bool, true, false, cond, List, [], ◌∷◌, ◌++◌, length, map, take, drop, Option, Some, None, is_some, refl, sym, ◌∙◌, ap, subst, subst₂, arith, append-nil, append_assoc, zero-add, length-append, inl, inr, ◌⊎◌}
+use Rattle.std.proofs.Common.{◌≡◌, ℕ, suc, ◌+◌, ◌-◌, ◌<◌, ◌≤◌, Bool, true, false, cond, List, [], ◌∷◌, ◌++◌, length, map, take, drop, Option, Some, None, is_some, refl, sym, ◌∙◌, ap, subst, subst₂, arith, append-nil, append_assoc, zero-add, length-append, inl, inr, ◌⊎◌}
 use Rattle.std.specs.List.{filter_map}
 use Rattle.std.proofs.lemmas.Bool.{cases_lt, false_from_ne_true}
 use Rattle.std.proofs.lemmas.List.{take-append-drop, take-append-le, map-append}
@@ -15,11 +15,11 @@ use Rattle.chain_board.specs.declared.entry.Entered.TheVariants.{InProgress, Bus
 use Rattle.chain_board.specs.declared.entry.BoardEntry.{BoardEntry}
 use Rattle.chain_board.specs.declared.entry.BoardEntry.TheVariants.{Born, Submit, Take, Finish, Enq, Deq, Done, Hold, Go, Collect, Close, Share, Mask, Shut}
 use Rattle.chain_board.specs.Shapes.{is_born, is_serial, has_line, has_lists, is_pad, queue_born, line_born, lists_born}
-use Rattle.chain_board.specs.Entries.{Notice, Starts, Completes, birth_in, birth, first, accepted_in, submissions, dequeued_in, dequeues, dequeued, passed_on, waiting, taken_in, takings, takers, finished_in, finished, has, unbroken, front, completes_from, tells, told_after, told, collected_in, collected, last_or, maker_is}
+use Rattle.chain_board.specs.Entries.{Notice, birth_in, birth, first, accepted_in, submissions, dequeued_in, dequeues, dequeued, passed_on, waiting, taken_in, takings, takers, finished_in, finished, has, unbroken, front, tells, told_after, told, collected_in, collected, last_or, maker_is}
 use Rattle.chain_board.specs.Legal.{IsRightFor}
 use Rattle.chain_board.specs.Order.{handed_in, handed_after, handed_out, AreRightForAfter, completed_in, completed, numbers_below}
-use Rattle.chain_board.proofs.Lists.{filter_map-none, filter_map-some, filter_map_grows, last_or-append, first-append, length-numbers, has_below, has_only_below, low_number, all_below_more, taker_among}
-use Rattle.chain_board.proofs.Fronts.{front_grows, unbroken-le, unbroken_next, unbroken_numbers, completed_on}
+use Rattle.chain_board.proofs.Lists.{filter_map-none, filter_map-some, filter_map_grows, last_or-append, first-append, has_only_below, low_number, all_below_more, taker_among}
+use Rattle.chain_board.proofs.Fronts.{front_grows, unbroken_next, unbroken_numbers, completed_on}
 
 -- ---- a pipeline's birth
 

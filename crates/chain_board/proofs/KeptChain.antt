@@ -1,18 +1,17 @@
 -- A finish on a chain keeps it as its entries say.
-use Rattle.std.proofs.Common.{◌≡◌, ℕ, zero, suc, ◌+◌, ◌-◌, ◌<◌, ◌≤◌, Bool, true, false, cond, List, [], ◌∷◌, ◌++◌, length, map, take, drop, Option, Some, None, is_some, refl, sym, ◌∙◌, ap, subst, arith, length-append}
+use Rattle.std.proofs.Common.{◌≡◌, ℕ, zero, suc, ◌-◌, ◌≤◌, true, false, List, [], ◌∷◌, ◌++◌, length, drop, Option, Some, None, is_some, refl, sym, ◌∙◌, ap, arith, length-append}
 use Rattle.std.specs.List.{filter_map}
 use Rattle.std.proofs.lemmas.List.{length-drop, length-set, drop-append-le}
 use Rattle.std.proofs.lemmas.List.Elements.{filter_map-append}
-use Rattle.padata_core.specs.Pad.{Pad, taken_of, submitted_of, ready, done_from}
-use Rattle.request_queue.specs.Line.{accepted}
+use Rattle.padata_core.specs.Pad.{Pad, ready, done_from}
 use Rattle.cryptd.specs.Server.{Server}
 use Rattle.chain_board.specs.declared.entry.BoardEntry.{BoardEntry}
 use Rattle.chain_board.specs.declared.entry.BoardEntry.TheVariants.{Finish}
 use Rattle.chain_board.specs.declared.stage.Chained.{Chained}
 use Rattle.chain_board.specs.declared.stage.Stage.TheVariants as stage
-use Rattle.chain_board.specs.Stages.{with_outcome, emptied, released, Runs, MayEnd, ended}
-use Rattle.chain_board.specs.Shapes.{max_born, line_born}
-use Rattle.chain_board.specs.Entries.{Notice, birth, accepted_in, submissions, dequeued_in, dequeues, dequeued, passed_on, takers, finished, has, front, completes_from, tells, told, held_in, is_held, last_or, callback_of, meaning_at}
+use Rattle.chain_board.specs.Stages.{with_outcome, released, MayEnd, ended}
+use Rattle.chain_board.specs.Shapes.{max_born}
+use Rattle.chain_board.specs.Entries.{birth, accepted_in, submissions, dequeued_in, dequeues, passed_on, takers, finished, has, front, completes_from, tells, told, held_in, is_held, last_or, callback_of, meaning_at}
 use Rattle.chain_board.specs.Kept.{IsKeptLine, IsKeptPad, IsKeptStage}
 use Rattle.chain_board.proofs.Lists.{filter_map-none}
 use Rattle.chain_board.proofs.Keeping.{birth_stays, told-more}

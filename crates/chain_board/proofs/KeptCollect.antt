@@ -1,5 +1,5 @@
 -- What a collect hands out, and what it and a hold leave.
-use Rattle.std.proofs.Common.{◌≡◌, ℕ, zero, suc, ◌+◌, ◌-◌, ◌<◌, ◌≤◌, Bool, true, false, cond, List, [], ◌∷◌, ◌++◌, length, map, take, drop, Option, Some, None, is_some, refl, sym, ◌∙◌, ap, subst, arith, append-nil, zero-add, inl, inr, ◌⊎◌}
+use Rattle.std.proofs.Common.{◌≡◌, ℕ, zero, suc, ◌+◌, ◌<◌, ◌≤◌, Bool, true, false, List, [], ◌∷◌, ◌++◌, length, take, drop, Option, Some, None, is_some, refl, sym, ◌∙◌, ap, arith, append-nil, zero-add, inl, inr, ◌⊎◌}
 use Rattle.std.proofs.lemmas.Bool.{cases_lt}
 use Rattle.std.specs.List.{filter_map}
 use Rattle.std.proofs.Math.Seq.{take-length}
@@ -16,7 +16,7 @@ use Rattle.chain_board.specs.Kept.{IsKeptLine, IsKeptPad}
 use Rattle.chain_board.proofs.Lists.{filter_map-none, filter_map-some, last_or-append}
 use Rattle.chain_board.proofs.Fronts.{completes_on}
 use Rattle.chain_board.proofs.Keeping.{birth_stays, told-more}
-use Rattle.chain_board.proofs.OldShapes.{pad_tells}
+use Rattle.chain_board.proofs.PadsAndQueues.{pad_tells}
 use Rattle.chain_board.proofs.KeptPad.{front_is, emptied_kept, deliver_is}
 use Rattle.chain_board.proofs.KeptEntering.{pad_quiet}
 

@@ -1,18 +1,18 @@
 -- A request that is accepted, and an entry that changes nothing, leave a pipeline as its entries say.
-use Rattle.std.proofs.Common.{◌≡◌, ℕ, zero, suc, ◌+◌, ◌-◌, ◌<◌, ◌≤◌, Bool, true, false, cond, ◌||◌, List, [], ◌∷◌, ◌++◌, length, map, take, drop, Option, Some, None, is_some, refl, sym, ◌∙◌, ap, subst, arith, append-nil, length-append}
+use Rattle.std.proofs.Common.{◌≡◌, ℕ, zero, suc, ◌+◌, ◌<◌, ◌≤◌, Bool, true, false, cond, List, [], ◌∷◌, ◌++◌, length, map, drop, Some, None, is_some, refl, sym, ◌∙◌, ap, subst, arith, append-nil, length-append}
 use Rattle.std.specs.Prelude.{◌==◌, nat_lt, slice_get}
 use Rattle.std.specs.List.{filter_map, cons_option}
 use Rattle.std.proofs.lemmas.Bool.{eq-eqb, or_left, or_right}
 use Rattle.std.proofs.lemmas.List.{length-map, drop-append-le, take-append-le, take_all, map-append}
 use Rattle.kc_base.specs.declared.callback_list.Callback.TheVariants as callback
-use Rattle.padata_core.specs.Pad.{Pad, taken_of, submitted_of, ready}
-use Rattle.request_queue.specs.Line.{accepted, number_at_bound}
+use Rattle.padata_core.specs.Pad.{Pad, taken_of}
+use Rattle.request_queue.specs.Line.{number_at_bound}
 use Rattle.cryptd.specs.Server.{Server}
 use Rattle.chain_board.specs.declared.entry.BoardEntry.{BoardEntry}
-use Rattle.chain_board.specs.Shapes.{max_born, line_born, queue_born}
-use Rattle.chain_board.specs.Entries.{Notice, Starts, Completes, birth, accepted_in, submissions, dequeued_in, dequeues, dequeued, passed_on, taken_in, takings, takers, finished_in, finished, has, front, starts, tells, told, held_in, is_held, last_or, callback_of, completion, meaning_at}
-use Rattle.chain_board.specs.Order.{completed, numbers_below}
-use Rattle.chain_board.specs.Kept.{IsKeptLine, IsKeptPad, outcome_at}
+use Rattle.chain_board.specs.Shapes.{max_born, line_born}
+use Rattle.chain_board.specs.Entries.{Notice, Starts, Completes, birth, accepted_in, submissions, dequeued_in, dequeues, dequeued, passed_on, taken_in, finished_in, finished, has, front, starts, tells, told, held_in, is_held, last_or, callback_of, completion, meaning_at}
+use Rattle.chain_board.specs.Order.{completed}
+use Rattle.chain_board.specs.Kept.{IsKeptLine, IsKeptPad}
 use Rattle.chain_board.proofs.Lists.{filter_map-none, filter_map-some, has_only_below}
 use Rattle.chain_board.proofs.Fronts.{unbroken-le}
 use Rattle.chain_board.proofs.Keeping.{birth_stays, told-more, IsOrderly}

@@ -1,5 +1,5 @@
 -- A pad is what the entries of its pipeline say, of a pad alone and of a chain.
-use Rattle.std.proofs.Common.{◌≡◌, ◌≢◌, ℕ, zero, suc, ◌+◌, ◌-◌, ◌<◌, ◌≤◌, Bool, true, false, cond, ◌||◌, List, [], ◌∷◌, ◌++◌, length, map, take, drop, Option, Some, None, is_some, refl, sym, ◌∙◌, ap, subst, arith, inl, inr, ◌⊎◌, get_or, add-zero, zero-add}
+use Rattle.std.proofs.Common.{◌≡◌, ℕ, zero, suc, ◌+◌, ◌-◌, ◌<◌, ◌≤◌, Bool, true, false, cond, ◌||◌, List, [], ◌∷◌, ◌++◌, length, map, Option, Some, None, is_some, refl, sym, ◌∙◌, ap, subst, arith, inl, inr, ◌⊎◌, get_or, add-zero, zero-add}
 use Rattle.std.specs.Prelude.{◌==◌, slice_get, slice_set}
 use Rattle.std.specs.List.{filter_map, cons_option}
 use Rattle.std.proofs.Math.Bool.{or-false}
@@ -7,12 +7,11 @@ use Rattle.std.proofs.lemmas.Bool.{cases_lt, cases_eq, eqb-true, eq-eqb, false_f
 use Rattle.std.proofs.lemmas.Option.{slice_get-get_or}
 use Rattle.std.proofs.lemmas.List.{length-map, length-drop, length-set, get_or-drop, get_or-set_same, get_or-set_other}
 use Rattle.kc_base.specs.declared.callback_list.Callback.TheVariants as callback
-use Rattle.padata_core.specs.Pad.{Pad, taken_of, submitted_of, ready, done_from}
+use Rattle.padata_core.specs.Pad.{Pad, taken_of, ready, done_from}
 use Rattle.chain_board.specs.declared.entry.BoardEntry.{BoardEntry}
 use Rattle.chain_board.specs.declared.entry.BoardEntry.TheVariants.{Finish}
 use Rattle.chain_board.specs.Stages.{with_outcome, emptied}
-use Rattle.chain_board.specs.Shapes.{line_born}
-use Rattle.chain_board.specs.Entries.{Notice, Completes, birth, accepted_in, submissions, dequeued_in, dequeues, dequeued, passed_on, taken_in, takings, takers, finished_in, finished, has, unbroken, front, completes_from, tells, callback_of, completion, meaning_at}
+use Rattle.chain_board.specs.Entries.{Completes, birth, accepted_in, submissions, dequeued_in, dequeues, passed_on, taken_in, takers, finished_in, finished, has, unbroken, front, completes_from, tells, callback_of, completion, meaning_at}
 use Rattle.chain_board.specs.Kept.{IsKeptPad, outcome_at}
 use Rattle.chain_board.proofs.Lists.{filter_map-none, filter_map-some, has-more}
 use Rattle.chain_board.proofs.Keeping.{birth_stays}

@@ -1,17 +1,17 @@
 -- A request that is passed on leaves a chain as its entries say.
-use Rattle.std.proofs.Common.{◌≡◌, ℕ, zero, suc, ◌+◌, ◌-◌, ◌<◌, ◌≤◌, Bool, true, false, cond, List, [], ◌∷◌, ◌++◌, length, map, take, drop, Option, Some, None, is_some, refl, sym, ◌∙◌, ap, subst, arith, length-append}
+use Rattle.std.proofs.Common.{◌≡◌, ℕ, zero, suc, ◌+◌, ◌≤◌, true, false, cond, List, [], ◌∷◌, ◌++◌, length, map, take, drop, Option, Some, None, is_some, refl, sym, ◌∙◌, ap, arith, length-append}
 use Rattle.std.specs.Prelude.{slice_get}
 use Rattle.std.specs.List.{filter_map}
-use Rattle.std.proofs.lemmas.List.{length-map, drop-append-le, map-append}
+use Rattle.std.proofs.lemmas.List.{drop-append-le, map-append}
 use Rattle.std.proofs.lemmas.List.Elements.{filter_map-append}
-use Rattle.padata_core.specs.Pad.{Pad, taken_of, submitted_of, ready}
-use Rattle.request_queue.specs.Line.{accepted, number_at_bound}
+use Rattle.padata_core.specs.Pad.{Pad, taken_of}
+use Rattle.request_queue.specs.Line.{number_at_bound}
 use Rattle.cryptd.specs.Server.{Server, started_callback}
 use Rattle.chain_board.specs.declared.entry.BoardEntry.{BoardEntry}
 use Rattle.chain_board.specs.declared.entry.BoardEntry.TheVariants.{Deq}
 use Rattle.chain_board.specs.Stages.{passed}
 use Rattle.chain_board.specs.Shapes.{max_born, line_born, queue_born}
-use Rattle.chain_board.specs.Entries.{birth, accepted_in, submissions, dequeued_in, dequeues, dequeued, passed_on, taken_in, takings, takers, finished_in, finished, has, tells, told, held_in, is_held, last_or, callback_of}
+use Rattle.chain_board.specs.Entries.{birth, accepted_in, submissions, dequeued_in, dequeues, dequeued, passed_on, taken_in, takers, finished_in, finished, tells, told, held_in, is_held, last_or, callback_of}
 use Rattle.chain_board.specs.Kept.{IsKeptLine, IsKeptPad}
 use Rattle.chain_board.proofs.Lists.{filter_map-none, filter_map-some}
 use Rattle.chain_board.proofs.Keeping.{birth_stays, told-more}

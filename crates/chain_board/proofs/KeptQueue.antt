@@ -1,5 +1,5 @@
 -- A queue whose requests run one at a time, and pipelines that were just made.
-use Rattle.std.proofs.Common.{◌≡◌, ℕ, zero, suc, ◌+◌, ◌-◌, ◌<◌, ◌≤◌, Bool, true, false, cond, List, [], ◌∷◌, ◌++◌, length, map, take, drop, Option, Some, None, is_some, refl, sym, ◌∙◌, ap, subst, arith, length-append}
+use Rattle.std.proofs.Common.{◌≡◌, ℕ, ◌+◌, ◌≤◌, Bool, true, false, cond, List, [], ◌∷◌, ◌++◌, length, drop, Some, is_some, refl, sym, ◌∙◌, ap, arith, length-append}
 use Rattle.std.specs.List.{filter_map, cons_option}
 use Rattle.std.proofs.lemmas.List.{drop-append-le}
 use Rattle.std.proofs.lemmas.List.Elements.{filter_map-append}
@@ -10,12 +10,11 @@ use Rattle.cryptd.specs.Server.{Server, started_callback}
 use Rattle.chain_board.specs.declared.entry.Shape.TheVariants as shape
 use Rattle.chain_board.specs.declared.entry.BoardEntry.{BoardEntry}
 use Rattle.chain_board.specs.declared.entry.BoardEntry.TheVariants.{Born, Deq, Done}
-use Rattle.chain_board.specs.declared.stage.Stage.{Stage}
 use Rattle.chain_board.specs.declared.stage.Stage.TheVariants as stage
 use Rattle.chain_board.specs.Stages.{passed, without_first, ended}
 use Rattle.chain_board.specs.Shapes.{max_born}
 use Rattle.chain_board.specs.Entries.{birth, accepted_in, submissions, dequeued_in, dequeues, finished_in, finished, told, tells, held_in, is_held, last_or, callback_of, completion, meaning_at}
-use Rattle.chain_board.specs.Kept.{IsKeptLine, IsKeptPad, IsKeptStage}
+use Rattle.chain_board.specs.Kept.{IsKeptLine, IsKeptStage}
 use Rattle.chain_board.proofs.Lists.{filter_map-none, filter_map-some}
 use Rattle.chain_board.proofs.Keeping.{birth_stays, told-more}
 use Rattle.chain_board.proofs.KeptPassing.{line_passed}

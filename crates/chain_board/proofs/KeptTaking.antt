@@ -1,12 +1,9 @@
 -- A job that is taken leaves a pad as its entries say, of a pad alone and of a chain.
-use Rattle.std.proofs.Common.{is_some, take, filter_map, true, ◌≡◌, ◌≢◌, ℕ, zero, suc, ◌+◌, ◌<◌, ◌≤◌, false, cond, List, [], ◌∷◌, ◌++◌, length, map, drop, Option, Some, None, is_none, refl, sym, ◌∙◌, ap, arith, append-nil, length-append, inl, inr, ◌⊎◌, get_or}
-use Rattle.std.specs.Prelude.{◌==◌, slice_get}
+use Rattle.std.proofs.Common.{is_some, take, filter_map, true, ◌≡◌, ◌≢◌, ℕ, ◌+◌, ◌<◌, ◌≤◌, false, cond, List, [], ◌∷◌, ◌++◌, length, map, Option, None, refl, sym, ◌∙◌, ap, arith, append-nil, length-append, inl, inr, ◌⊎◌, get_or}
+use Rattle.std.specs.Prelude.{◌==◌}
 use Rattle.std.specs.List.{filter}
 use Rattle.std.proofs.lemmas.Bool.{eqb-true, false_from_ne_true, cases_lt, eq-eqb}
-use Rattle.std.proofs.lemmas.Option.{slice_get-map}
-use Rattle.std.specs.Option.{option_map}
 use Rattle.std.proofs.lemmas.List.{map-append}
-use Rattle.std.proofs.lemmas.List.Sums.{sum_by-append}
 use Rattle.std.proofs.lemmas.List.Elements.{filter-append}
 use Rattle.std.proofs.lemmas.List.{get_or_append_left}
 use Rattle.std.proofs.Math.Seq.{get_or-append_seam}
@@ -15,8 +12,8 @@ use Rattle.padata_core.specs.Pad.{Pad, taken_of}
 use Rattle.chain_board.specs.declared.entry.BoardEntry.{BoardEntry}
 use Rattle.chain_board.specs.declared.entry.BoardEntry.TheVariants.{Take}
 use Rattle.chain_board.specs.Stages.{with_taken}
-use Rattle.chain_board.specs.Shapes.{queue_born, line_born}
-use Rattle.chain_board.specs.Entries.{birth, accepted_in, submissions, dequeued_in, dequeues, dequeued, passed_on, taken_in, takings, takers, finished_in, finished, has, meaning_at}
+use Rattle.chain_board.specs.Shapes.{queue_born}
+use Rattle.chain_board.specs.Entries.{birth, accepted_in, submissions, dequeued_in, dequeues, passed_on, taken_in, takings, takers, finished_in, finished, meaning_at}
 use Rattle.chain_board.specs.Kept.{IsKeptPad, outcome_at}
 use Rattle.chain_board.proofs.Lists.{filter_map-none, filter_map-some}
 use Rattle.chain_board.proofs.Keeping.{birth_stays}

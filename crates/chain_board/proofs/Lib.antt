@@ -4,8 +4,9 @@ pub mod Fronts
 pub mod Keeping
 pub mod Handing
 pub mod Starting
-pub mod OldShapes
+pub mod PadsAndQueues
 pub mod InLine
+pub mod Searching
 pub mod Callbacks
 pub mod Releasing
 pub mod KeptPad

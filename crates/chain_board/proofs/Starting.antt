@@ -1,14 +1,13 @@
 -- What is told of the backlog.
-use Rattle.std.proofs.Common.{◌≡◌, ℕ, zero, suc, ◌+◌, ◌-◌, ◌<◌, ◌≤◌, Bool, true, false, cond, ◌||◌, List, [], ◌∷◌, ◌++◌, length, map, take, Option, Some, None, is_some, refl, sym, ◌∙◌, ap, subst, subst₂, arith, append-nil, append_assoc, add-zero, length-append, inl, inr, ◌⊎◌}
+use Rattle.std.proofs.Common.{◌≡◌, ℕ, zero, suc, ◌+◌, ◌-◌, ◌<◌, ◌≤◌, Bool, true, false, cond, ◌||◌, List, [], ◌∷◌, ◌++◌, length, take, Option, Some, None, is_some, refl, sym, ◌∙◌, ap, subst, subst₂, arith, append-nil, append_assoc, add-zero, length-append, inl, inr, ◌⊎◌}
 use Rattle.std.specs.Prelude.{◌==◌, nat_lt, slice_get}
-use Rattle.std.specs.List.{filter_map, filter}
+use Rattle.std.specs.List.{filter}
 use Rattle.std.specs.Arc.{arc_value}
 use Rattle.std.specs.declared.sync.Arc.{Arc}
 use Rattle.std.specs.declared.alloc.Global.{Global}
-use Rattle.std.proofs.lemmas.Bool.{eqb-true, eq-eqb, or_cases, or_left, or_right, cases_lt, false_from_ne_true}
+use Rattle.std.proofs.lemmas.Bool.{eqb-true, eq-eqb, or_left, or_right, cases_lt, false_from_ne_true}
 use Rattle.std.proofs.lemmas.List.{take-append-le}
 use Rattle.std.proofs.Math.Seq.{take-length}
-use Rattle.std.proofs.Math.Bool.{or-false}
 use Rattle.std.proofs.lemmas.List.Elements.{filter-append, filter_map-append}
 use Rattle.chain_board.specs.declared.entry.Shape.{Shape}
 use Rattle.chain_board.specs.declared.entry.Shape.TheVariants as shape
@@ -16,12 +15,12 @@ use Rattle.chain_board.specs.declared.entry.Entered.{Entered}
 use Rattle.chain_board.specs.declared.entry.Entered.TheVariants.{InProgress, Busy, NoSpace}
 use Rattle.chain_board.specs.declared.entry.BoardEntry.{BoardEntry}
 use Rattle.chain_board.specs.declared.entry.BoardEntry.TheVariants.{Born, Submit, Take, Finish, Enq, Deq, Done, Hold, Go, Collect, Close, Share, Mask, Shut}
-use Rattle.chain_board.specs.Shapes.{is_born, is_pad, is_serial, has_line, has_lists, pad_born, queue_born, line_born, max_born}
-use Rattle.chain_board.specs.Entries.{Notice, Starts, Completes, birth, accepted_in, submissions, dequeued_in, dequeues, dequeued, passed_on, takers, finished_in, finished, has, front, completes_from, tells, told}
+use Rattle.chain_board.specs.Shapes.{is_pad, has_line, has_lists, pad_born, line_born, max_born}
+use Rattle.chain_board.specs.Entries.{Notice, Starts, Completes, birth, accepted_in, submissions, dequeued_in, dequeues, dequeued, passed_on, finished_in, has, front, completes_from, tells, told}
 use Rattle.chain_board.specs.Legal.{IsRightFor}
 use Rattle.chain_board.specs.Order.{handed_in, AreRightForAfter, completed_in, completed, backlogged_in, backlogged, started_in, started, times}
 use Rattle.chain_board.proofs.Lists.{filter_map-none, filter_map-some, has-more, more_cases}
-use Rattle.chain_board.proofs.Fronts.{front_is_first, front_grows, none_started, unbroken_numbers}
+use Rattle.chain_board.proofs.Fronts.{front_is_finished, front_grows, none_started}
 use Rattle.chain_board.proofs.Keeping.{birth_stays, born_some, maker_some, queue_has_line, not_both, AreNumbered, IsOrderly, orderly_start, orderly_step, front-same, front-accepted, told-more, runs_next, front_done}
 
 -- What a queue has told, by numbers: it accepted s requests, of which t were taken and f finished, and those in bs came into
@@ -241,7 +240,7 @@ front_passed_cases f p (inr g) h = g
 
 -- the front is not past the line
 pub front_passed : {A : Type 0} (es : List (BoardEntry A)) → AreNumbered es → front es ≤ passed_on es
-front_passed es o = front_passed_cases (front es) (passed_on es) (cases_lt (passed_on es) (front es)) (λ l. o.done (passed_on es) ((front_is_first es).0 (passed_on es) l))
+front_passed es o = front_passed_cases (front es) (passed_on es) (cases_lt (passed_on es) (front es)) (λ l. o.done (passed_on es) (front_is_finished es (passed_on es) l))
 
 same_telling : (max max2 s s2 t t2 f : ℕ) (bs bs2 : List ℕ) (ns ns2 : List Notice) → max2 ≡ max → s2 ≡ s → t2 ≡ t → bs2 ≡ bs → ns2 ≡ ns → IsTelling max s t f bs ns → IsTelling max2 s2 t2 f bs2 ns2
 same_telling max max2 s s2 t t2 f bs bs2 ns ns2 a b c d e o = rw (a, b, c, d, e) o

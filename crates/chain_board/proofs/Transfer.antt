@@ -4,7 +4,7 @@ use Rattle.std.proofs.lemmas.Bool.{eqb-true}
 use Rattle.std.proofs.lemmas.List.Elements.{filter-append}
 use Rattle.chain_board.specs.declared.entry.BoardEntry.{BoardEntry}
 use Rattle.chain_board.specs.Entries.{pipe_of, is_pipe, is_of, entries_of}
-use Rattle.chain_board.specs.Legal.{IsRight, IsRightOn, IsRightFor, AreRightAfter, LegalBoard}
+use Rattle.chain_board.specs.Legal.{IsRight, IsRightOn, IsRightFor, AreRightAfter}
 use Rattle.chain_board.specs.Order.{AreRightForAfter}
 
 right_on : {A : Type 0} (h : List (BoardEntry A)) (p : ℕ) (e : BoardEntry A) (o : Option ℕ) → is_pipe p o ≡ true → IsRightOn o h e → IsRightFor (entries_of p h) e

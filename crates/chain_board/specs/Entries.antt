@@ -9,7 +9,7 @@ use Rattle.chain_board.specs.declared.entry.Entered.{Entered}
 use Rattle.chain_board.specs.declared.entry.Entered.TheVariants.{InProgress, Busy, NoSpace}
 use Rattle.chain_board.specs.declared.entry.BoardEntry.{BoardEntry}
 use Rattle.chain_board.specs.declared.entry.BoardEntry.TheVariants.{Born, Submit, Take, Finish, Enq, Deq, Done, Hold, Go, Collect, Close, Share, Mask, Shut}
-use Rattle.chain_board.specs.Shapes.{is_chain, is_born, pad_born, queue_born, line_born, lists_born, max_born, width_born}
+use Rattle.chain_board.specs.Shapes.{is_chain, is_born, queue_born, line_born, lists_born, max_born, width_born}
 
 -- the pipeline whose entry it is
 abbrev pub pipe_of : {A : Type 0} → BoardEntry A → Option ℕ

@@ -4,7 +4,7 @@ use Rattle.std.specs.declared.alloc.Global.{Global}
 use Rattle.chain_board.specs.declared.entry.Shape.TheVariants.{Pad, Queue, Chain}
 use Rattle.chain_board.specs.declared.entry.Entered.TheVariants.{InProgress, Busy, NoSpace}
 use Rattle.chain_board.specs.declared.entry.BoardEntry.{BoardEntry}
-use Rattle.chain_board.specs.declared.entry.BoardEntry.TheVariants.{Born, Submit, Take, Finish, Enq, Deq, Done, Hold, Go, Collect, Close, Mask, Shut}
+use Rattle.chain_board.specs.declared.entry.BoardEntry.TheVariants.{Born, Submit, Take, Finish, Enq, Deq, Done, Hold, Go, Collect, Mask, Shut}
 
 -- a chain of one that waits, and two lists, gets three requests while it is held
 abbrev pub held_chain : {A : Type 0} → (a b c : Arc A Global) → List (BoardEntry A)
@@ -37,3 +37,7 @@ held_queue a b c d =
 -- a pad whose second job was finished first
 abbrev pub second_first : {A : Type 0} → (a b : Arc A Global) → List (BoardEntry A)
 second_first a b = Born 0 0 (Pad 2) ∷ Submit 0 0 0 a ∷ Submit 0 0 1 b ∷ Take 2 0 1 ∷ Take 1 0 0 ∷ Finish 2 0 1 ∷ []
+
+-- a pad whose first job is finished, and the second runs
+abbrev pub first_alone : {A : Type 0} → (a b : Arc A Global) → List (BoardEntry A)
+first_alone a b = Born 0 0 (Pad 2) ∷ Submit 0 0 0 a ∷ Submit 0 0 1 b ∷ Take 1 0 0 ∷ Take 2 0 1 ∷ Finish 1 0 0 ∷ []

@@ -1,5 +1,5 @@
 -- What a board keeps of its pipelines is what its history says.
-use Rattle.std.specs.Prelude.{◌≡◌, ◌≢◌, ◌⊎◌, ℕ, ◌+◌, ◌*◌, ◌<◌, ◌≤◌, Bool, true, false, if◌then◌else◌, List, [], length, map, take, drop, slice_index_or, Option, Some, None, sum_by}
+use Rattle.std.specs.Prelude.{◌≡◌, ◌≢◌, ◌⊎◌, ℕ, ◌+◌, ◌*◌, ◌<◌, ◌≤◌, true, false, if◌then◌else◌, List, [], length, map, take, drop, slice_index_or, Option, Some, None, sum_by}
 use Rattle.std.specs.List.{filter_map}
 use Rattle.padata_core.specs.Pad.{Pad, taken_of, submitted_of, ready, running_of}
 use Rattle.request_queue.specs.Line.{accepted}

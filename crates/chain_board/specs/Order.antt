@@ -63,10 +63,17 @@ HandsOutAll h p caller to =
     LegalBoard (h ++ Collect caller p to ∷ []) → AreAllFinished (entries_of p h)
     → completed (handed_out (entries_of p (h ++ Collect caller p to ∷ []))) ≡ numbers_below (length (submissions (entries_of p h)))
 
--- the front is the first number that is not finished
-abbrev pub FrontIsFirst : {A : Type 0} → List (BoardEntry A) → Type 0
-FrontIsFirst es =
-    ((n : ℕ) → n < front es → has n (finished es) ≡ true) × (front es < length (submissions es) → has (front es) (finished es) ≡ false)
+-- every number below the front is finished
+abbrev pub FrontIsFinished : {A : Type 0} → List (BoardEntry A) → ℕ → Type 0
+FrontIsFinished es n = n < front es → has n (finished es) ≡ true
+
+-- and the front itself is not, where it was submitted: it is the greatest such number
+abbrev pub FrontIsGreatest : {A : Type 0} → List (BoardEntry A) → Type 0
+FrontIsGreatest es = front es < length (submissions es) → has (front es) (finished es) ≡ false
+
+-- where it is at all submissions, each request is finished
+abbrev pub FrontIsAll : {A : Type 0} → List (BoardEntry A) → Type 0
+FrontIsAll es = front es ≡ length (submissions es) → AreAllFinished es
 
 -- a pad tells the completions up to its front
 abbrev pub PadTellsFront : {A : Type 0} → List (BoardEntry A) → ℕ → Type 0

@@ -1,5 +1,5 @@
 -- What the calls on one pipeline do to it: a pad, a queue, or a chain of a queue and a pad.
-use Rattle.std.specs.Prelude.{◌≡◌, ℕ, ◌+◌, ◌-◌, ◌<◌, ◌≤◌, ◌⊎◌, Bool, true, false, nat_lt, ◌||◌, if◌then◌else◌, List, [], ◌∷◌, ◌++◌, length, take, drop, Option, Some, None, slice_get, slice_set}
+use Rattle.std.specs.Prelude.{◌≡◌, ℕ, ◌+◌, ◌-◌, ◌<◌, ◌≤◌, ◌⊎◌, Bool, true, false, nat_lt, if◌then◌else◌, List, [], ◌∷◌, ◌++◌, length, take, drop, Option, Some, None, slice_get, slice_set}
 use Rattle.kc_base.specs.declared.callback_list.Callback.{Callback}
 use Rattle.kc_base.specs.declared.callback_list.Callback.TheVariants as callback
 use Rattle.padata_core.specs.Pad.{Pad, taken_of, submitted_of, ready, done_from, running_of}
@@ -7,7 +7,6 @@ use Rattle.request_queue.specs.Line.{accepted, number_at_bound}
 use Rattle.cryptd.specs.Server.{Server, started_callback}
 use Rattle.chain_board.specs.declared.entry.Entered.{Entered}
 use Rattle.chain_board.specs.declared.entry.Entered.TheVariants.{InProgress, Busy, NoSpace}
-use Rattle.chain_board.specs.declared.stage.Chained.{Chained}
 use Rattle.chain_board.specs.declared.stage.Stage.{Stage}
 use Rattle.chain_board.specs.declared.stage.Stage.TheVariants as stage
 

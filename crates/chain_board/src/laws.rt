@@ -8,10 +8,10 @@ ghost use Rattle.kc_base.specs.declared.callback_list.Callback.TheVariants as Ca
 ghost use Rattle.chain_board.specs.declared.entry.Entered.TheVariants.{Busy, InProgress, NoSpace};
 ghost use Rattle.chain_board.specs.declared.entry.BoardEntry.{BoardEntry};
 ghost use Rattle.chain_board.specs.declared.entry.BoardEntry.TheVariants.{Submit, Take, Finish, Enq, Deq, Done, Go, Collect, Close, Mask};
-ghost use Rattle.chain_board.specs.Entries.{Starts, Completes, told, entries_of, delivered};
+ghost use Rattle.chain_board.specs.Entries.{Starts, Completes, told, front, entries_of, delivered};
 ghost use Rattle.chain_board.specs.Legal.{IsRight, LegalBoard};
-ghost use Rattle.chain_board.specs.Order.{KeepsOrder, HandsOutTold, HandsOutInOrder, WaitsForEach, HandsOutAll, FrontIsFirst, PadTellsFront, QueueTellsSteps, StartsBackloggedAlone, StartsEachOnce, StartsBeforeCompletion};
-ghost use Rattle.chain_board.specs.Examples.{held_chain, crossed_chain, masked_pad, second_alone, held_requests, held_queue, second_first};
+ghost use Rattle.chain_board.specs.Order.{KeepsOrder, HandsOutTold, HandsOutInOrder, WaitsForEach, HandsOutAll, FrontIsFinished, FrontIsGreatest, FrontIsAll, PadTellsFront, QueueTellsSteps, StartsBackloggedAlone, StartsEachOnce, StartsBeforeCompletion};
+ghost use Rattle.chain_board.specs.Examples.{held_chain, crossed_chain, masked_pad, second_alone, held_requests, held_queue, second_first, first_alone};
 
 /// In every legal history each pipeline completes its requests in their order, each once, however its jobs were taken and
 /// finished, and hands out a front of what it told.
@@ -27,9 +27,12 @@ pub fn collects_hand_out_all<A>()
     ensures { (h : List (BoardEntry A)) (p caller to : ℕ) → HandsOutAll h p caller to }
 {}
 
-/// The front is the first number that is not finished.
-pub fn fronts_are_first<A>()
-    ensures { (es : List (BoardEntry A)) → FrontIsFirst es }
+/// The front of a pipeline is the greatest number below which each request is finished. Where it is at all of the pipeline's
+/// submissions, each of its requests is finished: what `collects_hand_out_all` asks for.
+pub fn fronts_tell_all<A>()
+    ensures below { (es : List (BoardEntry A)) (n : ℕ) → FrontIsFinished es n }
+    ensures greatest { (es : List (BoardEntry A)) → FrontIsGreatest es }
+    ensures all { (es : List (BoardEntry A)) → FrontIsAll es }
 {}
 
 /// In every legal history what a pipeline tells has `started` of backlogged requests alone, of each at most once, and of
@@ -41,14 +44,14 @@ pub fn starts_of_the_backlog<A>()
 {}
 
 /// A pad tells the completions up to its front, and a queue what its steps tell.
-pub fn old_shapes_told_so<A>()
+pub fn pads_and_queues_tell<A>()
     ensures pads { (h : List (BoardEntry A)) (p : ℕ) → PadTellsFront h p }
     ensures queues { (h : List (BoardEntry A)) (q : ℕ) → QueueTellsSteps h q }
 {}
 
 /// A chain whose second request is finished first has a legal history, and hands out each callback once, in order. What
 /// waits in line isn't taken, a held chain passes nothing on, and a chain's job has no Done.
-pub fn chains_are_legal()
+pub fn legal_chains()
     ensures legal { (a b c : Arc ℕ Global) → LegalBoard (crossed_chain a b c ++ Collect 0 0 2 ∷ Finish 1 0 0 ∷ Deq 3 0 2 None ∷ Take 0 0 2 ∷ Finish 0 0 2 ∷ Collect 0 0 5 ∷ Close 0 0 ∷ []) }
     ensures told { (a b c : Arc ℕ Global) → told (entries_of 0 (crossed_chain a b c ++ Finish 1 0 0 ∷ [])) ≡ Starts 1 ∷ Starts 2 ∷ Completes 0 ∷ Completes 1 ∷ [] }
     ensures handed { (a b c : Arc ℕ Global) → delivered (λ n. n + 1) (entries_of 0 (crossed_chain a b c ++ Collect 0 0 2 ∷ Finish 1 0 0 ∷ [])) 4 ≡ Callback.Done 0 (arc_value a + 1) ∷ Callback.Done 1 (arc_value b + 1) ∷ [] }
@@ -61,17 +64,20 @@ pub fn chains_are_legal()
 
 /// A pad whose mask changes has a legal history. Under an empty mask nothing is submitted, and its maker alone takes; a
 /// worker takes whose bit is set; no bit stands at or above the pad's lists.
-pub fn masks_are_legal()
+pub fn legal_masks()
     ensures legal { (a b : Arc ℕ Global) → LegalBoard (second_alone a b ++ Take 2 0 0 ∷ Take 0 0 1 ∷ Finish 0 0 1 ∷ Finish 2 0 0 ∷ Collect 0 0 2 ∷ Close 0 0 ∷ []) }
     ensures empty { (a b : Arc ℕ Global) → ¬ IsRight (masked_pad a b) (Submit 0 0 1 b) }
     ensures other { (a b : Arc ℕ Global) → ¬ IsRight (second_alone a b) (Take 1 0 0) }
     ensures above { (a b : Arc ℕ Global) → ¬ IsRight (masked_pad a b) (Mask 0 0 4) }
 {}
 
-/// A pad whose second job is finished first has a legal history. It hands out nothing past a job that still runs; only who
-/// took a job finishes it, once; no worker submits; and it isn't closed before all is handed out.
-pub fn pads_are_as_before()
+/// A pad whose second job is finished first has a legal history. It hands out nothing past a job that still runs, and what
+/// stands before that job, though others run; only who took a job finishes it, once; no worker submits; and it isn't closed
+/// before all is handed out.
+pub fn legal_pads()
     ensures legal { (a b : Arc ℕ Global) → LegalBoard (second_first a b ++ Collect 0 0 0 ∷ Finish 1 0 0 ∷ Collect 0 0 2 ∷ Close 0 0 ∷ []) }
+    ensures front { (a b : Arc ℕ Global) → (front (entries_of 0 (second_first a b)) ≡ 0) × (front (entries_of 0 (first_alone a b)) ≡ 1) }
+    ensures partial { (a b : Arc ℕ Global) → LegalBoard (first_alone a b ++ Collect 0 0 1 ∷ []) }
     ensures gap { (a b : Arc ℕ Global) → ¬ IsRight (second_first a b) (Collect 0 0 1) }
     ensures taker { (a b : Arc ℕ Global) → ¬ IsRight (second_first a b) (Finish 2 0 0) }
     ensures once { (a b : Arc ℕ Global) → ¬ IsRight (second_first a b) (Finish 2 0 1) }
@@ -82,7 +88,7 @@ pub fn pads_are_as_before()
 /// A queue that is held while requests come and is then drained has a legal history, and its collects hand out each
 /// callback once. A full queue takes nothing in without leave to wait; a held one serves nobody; the first that waits past
 /// the bound is told that it started; and a collect hands out all that was told.
-pub fn queues_are_as_before()
+pub fn legal_queues()
     ensures legal { (a b c d : Arc ℕ Global) → LegalBoard (held_queue a b c d) }
     ensures told { (a b c d : Arc ℕ Global) → told (entries_of 0 (held_queue a b c d)) ≡ Starts 2 ∷ Completes 0 ∷ Completes 1 ∷ Completes 2 ∷ [] }
     ensures first { (a b c d : Arc ℕ Global) → delivered (λ n. n + 1) (entries_of 0 (take 13 (held_queue a b c d))) 4 ≡ Callback.Started 2 ∷ Callback.Done 0 (arc_value a + 1) ∷ Callback.Done 1 (arc_value b + 1) ∷ Callback.Done 2 (arc_value c + 1) ∷ [] }

@@ -23,9 +23,8 @@ mod work;
 pub use board_core::{BoardCore, BoardErr};
 pub use entry::{BoardEntry, Entered, Shape};
 pub use laws::{
-    chains_are_legal, collects_hand_out_all, completions_in_order, fronts_are_first,
-    masks_are_legal, old_shapes_told_so, pads_are_as_before, queues_are_as_before,
-    starts_of_the_backlog,
+    collects_hand_out_all, completions_in_order, fronts_tell_all, legal_chains, legal_masks,
+    legal_pads, legal_queues, pads_and_queues_tell, starts_of_the_backlog,
 };
 pub use log::BoardLog;
 pub use work::Work;

@@ -1,6 +1,7 @@
 //! One pipeline of a board.
 
-ghost use Rattle.std.specs.Prelude.{MatchBool};
+ghost use Rattle.std.specs.Prelude.{◌≡◌, MatchBool};
+ghost use Rattle.chain_board.specs.Entries.{has};
 ghost use Rattle.chain_board.specs.Ready.{Admits};
 
 use crate::mask::is_masked;
@@ -24,9 +25,22 @@ impl<J: Drop, F: Drop> Pipeline<J, F> {
     pub(crate) fn admits(&self, caller: u32) -> bool
         ensures { MatchBool result (Admits self.now caller) (Admits self.now caller → ⊥) }
     {
-        self.stage.is_queue()
-            || self.maker == caller
-            || self.submitters.iter().any(|submitter| *submitter == caller)
-            || is_masked(self.mask, caller)
+        if self.stage.is_queue() {
+            return true;
+        }
+        if self.maker == caller {
+            return true;
+        }
+        if has_submitted(&self.submitters, caller) {
+            return true;
+        }
+        is_masked(self.mask, caller)
     }
+}
+
+/// Whether this caller is among those who submitted.
+fn has_submitted(submitters: &[u32], caller: u32) -> bool
+    ensures { result ≡ has caller submitters.now }
+{
+    submitters.iter().any(|submitter| *submitter == caller)
 }

@@ -1,4 +1,4 @@
-use Rattle.std.proofs.Common.{arith, ap, length, ◌∙◌, ◌≡◌, ◌+◌, ◌≤◌, suc}
+use Rattle.std.proofs.Common.{arith, ap, length, ◌∙◌, ◌≡◌, ◌≤◌, suc}
 use Rattle.padata_core.specs.Pad.{Pad}
 use Rattle.chain_board.proofs.Releasing.{release_step}
 use Rattle.cryptd.specs.Server.{Server}

@@ -1,5 +1,4 @@
 use Rattle.std.proofs.Common.{◌≡◌, length}
-use Rattle.kc_base.specs.Handed.{Handed}
 use Rattle.padata_core.specs.Collecting.{StillCollecting}
 use Rattle.chain_board.proofs.stage.pass_back.Given as goal
 

@@ -1,8 +1,8 @@
 use Rattle.std.proofs.Common.{[]}
 use Rattle.chain_board.specs.Entries.{entries_of}
 use Rattle.chain_board.proofs.Transfer.{each_right}
-use Rattle.chain_board.proofs.OldShapes.{pad_tells, queue_tells}
-use Rattle.chain_board.proofs.laws.old_shapes_told_so.Goals as goal
+use Rattle.chain_board.proofs.PadsAndQueues.{pad_tells, queue_tells}
+use Rattle.chain_board.proofs.laws.pads_and_queues_tell.Goals as goal
 
 pub returns : goal.returns
 returns g c = record {

@@ -1,15 +1,13 @@
 -- What a pad and a queue tell.
-use Rattle.std.proofs.Common.{◌≡◌, ℕ, ◌+◌, ◌-◌, ◌≤◌, Bool, true, false, List, [], ◌∷◌, ◌++◌, Option, Some, None, is_some, refl, sym, ◌∙◌, ap, subst, subst₂, arith, append-nil, append_assoc, zero-add}
+use Rattle.std.proofs.Common.{◌≡◌, ℕ, ◌+◌, ◌-◌, true, List, [], ◌∷◌, ◌++◌, Option, Some, None, is_some, refl, sym, ◌∙◌, ap, subst, arith, append-nil, append_assoc, zero-add}
 use Rattle.std.specs.List.{filter_map}
 use Rattle.std.specs.Arc.{arc_value}
-use Rattle.std.specs.declared.sync.Arc.{Arc}
-use Rattle.std.specs.declared.alloc.Global.{Global}
 use Rattle.std.proofs.lemmas.List.Elements.{filter_map-append}
 use Rattle.chain_board.specs.declared.entry.Shape.{Shape}
 use Rattle.chain_board.specs.declared.entry.Shape.TheVariants as shape
 use Rattle.chain_board.specs.declared.entry.BoardEntry.{BoardEntry}
 use Rattle.chain_board.specs.declared.entry.BoardEntry.TheVariants.{Born, Submit, Take, Finish, Enq, Deq, Done, Hold, Go, Collect, Close, Share, Mask, Shut}
-use Rattle.chain_board.specs.Shapes.{is_born, is_pad, is_serial, has_line, has_lists, pad_born, queue_born, line_born, lists_born}
+use Rattle.chain_board.specs.Shapes.{is_pad, is_serial, has_line, has_lists, pad_born, queue_born, line_born, lists_born}
 use Rattle.chain_board.specs.Entries.{Notice, birth, front, completes_from, tells, told}
 use Rattle.chain_board.specs.Legal.{IsRightFor}
 use Rattle.chain_board.specs.Order.{handed_in, AreRightForAfter, step_tells}
