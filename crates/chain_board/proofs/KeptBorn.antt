@@ -25,59 +25,59 @@ use Rattle.chain_board.proofs.KeptMarks.{made_same}
 use Rattle.chain_board.proofs.KeptQueue.{pad_made, queue_made, chain_made}
 
 -- an empty pipeline of a shape
-pub record IsEmpty {J O : Type 0} (new : Pipeline J O) (caller mask : ℕ) (form : Shape) : Type 0 where
+pub record IsEmpty {J O : Type 0} (new : Pipeline J O) (caller bits : ℕ) (form : Shape) : Type 0 where
   pub maker : new.maker ≡ caller
   pub closed : new.closed ≡ false
   pub shared : new.shared ≡ false
-  pub mask : new.mask ≡ mask
+  pub mask : new.mask ≡ bits
   pub submitters : new.submitters.items ≡ []
   pub collected : new.collected ≡ 0
-  pub stage : IsNew new.stage form mask
+  pub stage : IsNew new.stage form bits
 
 stage_made : {J O A : Type 0} (asked : J → A) (meaning : A → O) (caller p : ℕ) (form : Shape) → IsKeptStage {J = J} {O = O} {A = A} asked meaning (new_stage form) 0 (Born caller p form ∷ [])
 stage_made asked meaning caller p (shape.Pad lists) = pad_made asked meaning caller p lists
 stage_made asked meaning caller p (shape.Queue max) = queue_made asked meaning caller p max
 stage_made asked meaning caller p (shape.Chain max lists) = chain_made asked meaning caller p max lists
 
-shape_made : {J O : Type 0} (form : Shape) → shape_of {J = J} {O = O} (new_stage form) (lists_of form) ≡ form
-shape_made (shape.Pad lists) = refl
-shape_made (shape.Queue max) = refl
-shape_made (shape.Chain max lists) = refl
+shape_made : (J O : Type 0) (form : Shape) → shape_of {J = J} {O = O} (new_stage form) (lists_of form) ≡ form
+shape_made J O (shape.Pad lists) = refl
+shape_made J O (shape.Queue max) = refl
+shape_made J O (shape.Chain max lists) = refl
 
-idle_made : {J O : Type 0} (form : Shape) → IsIdle {J = J} {O = O} (new_stage form)
-idle_made (shape.Pad lists) = refl
-idle_made (shape.Queue max) = refl
-idle_made (shape.Chain max lists) = (refl, refl)
+idle_made : (J O : Type 0) (form : Shape) → IsIdle {J = J} {O = O} (new_stage form)
+idle_made J O (shape.Pad lists) = refl
+idle_made J O (shape.Queue max) = refl
+idle_made J O (shape.Chain max lists) = (refl, refl)
 
-owed_made : {J O : Type 0} (form : Shape) → work_owed {J = J} {O = O} (new_stage form) ≡ 0
-owed_made (shape.Pad lists) = refl
-owed_made (shape.Queue max) = refl
-owed_made (shape.Chain max lists) = refl
+owed_made : (J O : Type 0) (form : Shape) → work_owed {J = J} {O = O} (new_stage form) ≡ 0
+owed_made J O (shape.Pad lists) = refl
+owed_made J O (shape.Queue max) = refl
+owed_made J O (shape.Chain max lists) = refl
 
-pub no_job : {J O : Type 0} (form : Shape) → MayServe {J = J} {O = O} (new_stage form) → ⊥
-no_job (shape.Pad lists) m = omega arith
-no_job (shape.Queue max) m = (let l = m.2 in omega arith)
-no_job (shape.Chain max lists) m = omega arith
+pub no_job : (J O : Type 0) (form : Shape) → MayServe {J = J} {O = O} (new_stage form) → ⊥
+no_job J O (shape.Pad lists) m = omega arith
+no_job J O (shape.Queue max) m = (let l = m.2 in omega arith)
+no_job J O (shape.Chain max lists) m = omega arith
 
-pub no_request : {J O : Type 0} (form : Shape) → MayPass {J = J} {O = O} (new_stage form) → ⊥
-no_request (shape.Pad lists) m = m
-no_request (shape.Queue max) m = m
-no_request (shape.Chain max lists) m = (let l = m.2 in omega arith)
+pub no_request : (J O : Type 0) (form : Shape) → MayPass {J = J} {O = O} (new_stage form) → ⊥
+no_request J O (shape.Pad lists) m = m
+no_request J O (shape.Queue max) m = m
+no_request J O (shape.Chain max lists) m = (let l = m.2 in omega arith)
 
 pub born_kept : {J O A : Type 0} (asked : J → A) (meaning : A → O) (caller p mask : ℕ) (form : Shape) (new : Pipeline J O) → IsEmpty new caller mask form → IsKeptPipe {J = J} {O = O} {A = A} asked meaning new (Born caller p form ∷ [])
 born_kept {J} {O} {A} asked meaning caller p mask form new e = record {
-  born = made_same e.maker (ap (λ x. shape_of x (lists_of form)) e.stage.1 ∙ shape_made form);
+  born = made_same e.maker (ap (λ x. shape_of x (lists_of form)) e.stage.1 ∙ shape_made J O form);
   closing = sym e.closed;
   sharing = sym e.shared;
   masking = sym (e.mask ∙ e.stage.2);
   submitting = λ c. inr (ap (has c) e.submitters);
   place = sym e.collected;
   stage = subst (λ n. IsKeptStage asked meaning new.stage n (Born caller p form ∷ [])) (sym e.collected) (subst (λ x. IsKeptStage asked meaning x 0 (Born caller p form ∷ [])) (sym e.stage.1) (stage_made asked meaning caller p form));
-  idle = λ h. subst (λ x. IsIdle x) (sym e.stage.1) (idle_made form);
+  idle = λ h. subst (λ x. IsIdle x) (sym e.stage.1) (idle_made J O form);
 }
 
 pub born_owes : {J O : Type 0} (caller mask : ℕ) (form : Shape) (new : Pipeline J O) → IsEmpty new caller mask form → owes new ≡ 1
-born_owes caller mask form new e = rw (e.stage.1, owed_made form, e.closed) refl
+born_owes {J} {O} caller mask form new e = rw (e.stage.1, owed_made J O form, e.closed) refl
 
 born_each : {J O A : Type 0} (asked : J → A) (meaning : A → O) (pipes : List (Pipeline J O)) (log : List (BoardEntry A)) (caller : ℕ) (new : Pipeline J O) (form : Shape) → IsKeptBoard asked meaning pipes log → IsKeptPipe asked meaning new (Born caller (length pipes) form ∷ []) → (q : ℕ) (d : Pipeline J O) → q < length pipes + 1 → (q < length pipes) ⊎ (length pipes ≤ q) → IsKeptPipe asked meaning (slice_index_or (pipes ++ new ∷ []) q d) (entries_of q (log ++ Born caller (length pipes) form ∷ []))
 born_each {J} {O} {A} asked meaning pipes log caller new form k kept q d l (inl below) =

@@ -29,6 +29,7 @@ use Rattle.chain_board.proofs.Lists.{filter_map-none, filter_map-some, last_or-a
 use Rattle.chain_board.proofs.Kept.{legal_more, place_step, swap_step, kept_here, closed-same, shared-same, collected-same}
 use Rattle.chain_board.proofs.KeptMarks.{mask-same, mask-new, closed-now, shared-now, noted_same, pipe_more, stage_more}
 use Rattle.chain_board.proofs.KeptRoom.{shape_same, owed_same, idle_same, stage_same, pipe_same, owes_same}
+use Rattle.chain_board.proofs.Counting.{filter-at_most, told_twice}
 use Rattle.chain_board.proofs.KeptStage.{stage_quiet, stage_held, stage_lists, told_is, delivered_is, stage_collected, stage_done, stage_undone, stage_spent}
 
 -- ---- what a pipeline is, as its entries say
@@ -271,6 +272,16 @@ module _ {J O A : Type 0} (asked : J → A) (meaning : A → O) where
         let z : owes after ≡ owes pipe = ap owes q ∙ ap (λ n. n + cond pipe.closed 0 1) (collected_owed pipe.stage) in
         (s.0, omega (arith, s.1, z), all, delivered_is asked meaning pipe.stage es pipe.collected w kp.stage kp.place right_here (pipe.maker, kp.born))
 
+    -- a pipeline told no more than two callbacks an entry
+    pub told_few : pipe.collected + length (callbacks_of pipe.stage) ≤ 2 * length log
+    told_few =
+        let es = entries_of p log in
+        let kp = kept_here asked meaning pipes log p pipe k within here in
+        let t = told_is asked meaning pipe.stage es pipe.collected (width_born (birth es)) kp.stage right_here (pipe.maker, kp.born) in
+        let m = told_twice es right_here in
+        let l = filter-at_most (is_of p) log in
+        omega arith
+
     pub done_step : unfinished_of pipe.stage ≡ 0 → front (entries_of p log) ≡ length (submissions (entries_of p log))
     done_step d =
         let es = entries_of p log in
@@ -310,7 +321,7 @@ module _ {J O A : Type 0} (asked : J → A) (meaning : A → O) where
         let kept = pipe_more asked meaning pipe now es e kp refl (shape_same stage_ pipe.stage same) (closed-now es e refl) (shared-same es e refl ∙ kp.sharing) (mask-same es e b refl ∙ kp.masking) (noted_same asked meaning pipe es e kp refl) (collected-same es e refl ∙ kp.place) (stage_quiet asked meaning stage_ es e pipe.collected (stage_same asked meaning stage_ pipe.stage pipe.collected es same placed kp.stage) b refl refl refl refl refl refl) (λ h. idle_same pipe.stage stage_ (sym same) (spent_idle pipe.stage (spent_step all out))) in
         let s = place_step asked meaning pipes log p pipe after e k within here (eq-eqb p p refl) refl right (subst (λ x. IsKeptPipe asked meaning x (es ++ e ∷ [])) (sym q) kept) in
         let c : pipe.closed ≡ false = sym kp.closing ∙ open_ in
-        let z : owes after ≡ work_owed pipe.stage = ap owes q ∙ ap (λ n. n + 0) (owed_same stage_ pipe.stage same) in
+        let z : owes after ≡ work_owed pipe.stage + 0 = ap owes q ∙ ap (λ n. n + 0) (owed_same stage_ pipe.stage same) in
         let y : owes pipe ≡ work_owed pipe.stage + 1 = ap (λ d. work_owed pipe.stage + cond d 0 1) c in
         (s.0, omega (arith, s.1, z, y))
 

@@ -1,7 +1,7 @@
 -- What a request that is accepted, or refused, does to the board.
 use Rattle.std.proofs.Common.{◌≡◌, ◌≢◌, ℕ, ◌+◌, ◌-◌, ◌*◌, ◌<◌, ◌≤◌, Bool, true, false, cond, ◌||◌, List, [], ◌∷◌, ◌++◌, length, Option, Some, None, is_some, refl, sym, ◌∙◌, ap, subst, arith, get_or, length-append}
 use Rattle.std.specs.Prelude.{◌==◌, ◌&&◌, nat_lt, slice_set}
-use Rattle.std.specs.List.{filter_map, filter, cons_option}
+use Rattle.std.specs.List.{filter_map}
 use Rattle.std.specs.Arc.{arc_value}
 use Rattle.std.specs.declared.sync.Arc.{Arc}
 use Rattle.std.specs.declared.alloc.Global.{Global}
@@ -21,7 +21,7 @@ use Rattle.chain_board.specs.declared.stage.Chained.{Chained}
 use Rattle.chain_board.specs.declared.stage.Stage.{Stage}
 use Rattle.chain_board.specs.declared.stage.Stage.TheVariants as stage
 use Rattle.chain_board.specs.Shapes.{max_born, pad_born, line_born, width_born}
-use Rattle.chain_board.specs.Stages.{is_pad, has_line, IsPlaced, without_room, accepted_of, answer_of, entered_on, with_waiting, after_entered, with_job}
+use Rattle.chain_board.specs.Stages.{is_pad, has_line, IsPlaced, without_room, accepted_of, answer_of, entered_on, with_waiting, after_entered, with_job, MayPass}
 use Rattle.chain_board.specs.Pipelines.{IsSame, NotesCaller, is_accepted, accepts, line_accepts, work_each, work_after}
 use Rattle.chain_board.specs.Entries.{Notice, is_of, entries_of, birth, accepted_in, submissions, dequeued_in, dequeued, passed_on, waiting, verdict, taken_in, finished_in, tells, held_in, is_closed, mask, has, submitters}
 use Rattle.chain_board.specs.Legal.{IsRight, MaySubmit, IsOpenPad, IsOpenQueue}
@@ -31,28 +31,13 @@ use Rattle.chain_board.specs.Kept.{IsKeptLine, IsKeptStage, IsKeptPipe, IsKeptBo
 use Rattle.chain_board.proofs.Lists.{filter_map-none}
 use Rattle.chain_board.proofs.Keeping.{IsOrderly, orderly, passed-le}
 use Rattle.chain_board.proofs.Starting.{pad_no_line}
+use Rattle.chain_board.proofs.Counting.{filter_map-at_most, filter-at_most}
 use Rattle.chain_board.proofs.Kept.{kept_here, place_step, closed-same, shared-same, collected-same}
 use Rattle.chain_board.proofs.KeptUsed.{used_same, used_more}
 use Rattle.chain_board.proofs.KeptMarks.{mask-same, noted_same, noted_more, pipe_more}
-use Rattle.chain_board.proofs.KeptRoom.{IsKeptCore, core_same, stage_same, is_pad_same, placed_pad, accepted_same, shape_same, owed_same}
+use Rattle.chain_board.proofs.KeptRoom.{IsKeptCore, core_same, stage_same, is_pad_same, placed_pad, accepted_same, shape_same, owed_same, each_same, pass_same}
 use Rattle.chain_board.proofs.KeptEntering.{line_quiet, pad_quiet, line_accepted, within_accepted, submit_kept}
 use Rattle.chain_board.proofs.KeptCalls.{pad_kept, line_kept, right_here}
-
-at_most_step : {X Y : Type 0} (o : Option Y) (ys : List Y) (xs : List X) → length ys ≤ length xs → length (cons_option o ys) ≤ length xs + 1
-at_most_step None ys xs h = omega arith
-at_most_step (Some y) ys xs h = omega arith
-
-filter_step : {X : Type 0} (b : Bool) (x : X) (ys xs : List X) → length ys ≤ length xs → length (cond b (x ∷ ys) ys) ≤ length xs + 1
-filter_step true x ys xs h = omega arith
-filter_step false x ys xs h = omega arith
-
-pub filter_map-at_most : {X Y : Type 0} (f : X → Option Y) (xs : List X) → length (filter_map f xs) ≤ length xs
-filter_map-at_most f [] = omega arith
-filter_map-at_most f (x ∷ xs) = (let h = at_most_step (f x) (filter_map f xs) xs (filter_map-at_most f xs) in omega arith)
-
-pub filter-at_most : {X : Type 0} (f : X → Bool) (xs : List X) → length (filter f xs) ≤ length xs
-filter-at_most f [] = omega arith
-filter-at_most f (x ∷ xs) = (let h = filter_step (f x) x (filter f xs) xs (filter-at_most f xs) in omega arith)
 
 -- a pipeline has no more submissions than there are entries
 pub few_submissions : {A : Type 0} (p : ℕ) (log : List (BoardEntry A)) → length (submissions (entries_of p log)) ≤ length log
@@ -130,6 +115,24 @@ entered_owed (stage.Queue x) job NoSpace h = omega arith
 entered_owed (stage.Chain x) job (InProgress n) h = (let l = length-append x.line.line.waiting (job ∷ []) in omega arith)
 entered_owed (stage.Chain x) job (Busy n) h = (let l = length-append x.line.line.waiting (job ∷ []) in omega arith)
 entered_owed (stage.Chain x) job NoSpace h = omega arith
+
+-- how many entries an answer is followed by doesn't hang on it
+entered_each : {J O : Type 0} (s : Stage J O) (job : J) (answer : Entered) → work_each (after_entered s job answer) ≡ work_each s
+entered_each (stage.Pad x) job answer = refl
+entered_each (stage.Queue x) job answer = refl
+entered_each (stage.Chain x) job answer = refl
+
+pub work_same : {J O : Type 0} (after s : Stage J O) (job : J) (answer : Entered) → without_room after ≡ without_room (after_entered s job answer) → work_after after answer ≡ work_after s answer
+work_same after s job answer e = ap (λ n. cond (is_accepted answer) n 0) (each_same after (after_entered s job answer) e ∙ entered_each s job answer)
+
+job_waits : {J O : Type 0} (s : Stage J O) (job : J) → MayPass (with_job s job) → MayPass s
+job_waits (stage.Pad x) job m = m
+job_waits (stage.Queue x) job m = m
+job_waits (stage.Chain x) job m = m
+
+-- a job for a pad passes no request on
+pub job_passes : {J O : Type 0} (s after : Stage J O) (job : J) → without_room after ≡ without_room (with_job s job) → MayPass after → MayPass s
+job_passes s after job e m = job_waits s job (pass_same after (with_job s job) e m)
 
 module _ {J O A : Type 0} (asked : J → A) (meaning : A → O) where
   accepted_kept : (s : Stage J O) (es : List (BoardEntry A)) (place w m : ℕ) → IsKeptStage asked meaning s place es → birth es ≡ Some (m, shape_of s w) → accepted_of s ≡ length (submissions es)

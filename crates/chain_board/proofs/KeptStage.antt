@@ -23,7 +23,7 @@ use Rattle.chain_board.proofs.Lists.{filter_map-none, length-numbers}
 use Rattle.chain_board.proofs.Fronts.{unbroken-le, unbroken_numbers, none_started}
 use Rattle.chain_board.proofs.Keeping.{IsOrderly, orderly, passed-le}
 use Rattle.chain_board.proofs.Starting.{front_passed, pad_no_line}
-use Rattle.chain_board.proofs.OldShapes.{pad_tells}
+use Rattle.chain_board.proofs.PadsAndQueues.{pad_tells}
 use Rattle.chain_board.proofs.Callbacks.{length-done}
 use Rattle.chain_board.proofs.KeptPad.{front_is, ready_short}
 use Rattle.chain_board.proofs.KeptEntering.{line_quiet, pad_quiet}

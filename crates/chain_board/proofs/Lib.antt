@@ -20,6 +20,7 @@ pub mod Kept
 pub mod KeptUsed
 pub mod KeptMarks
 pub mod KeptRoom
+pub mod Counting
 pub mod KeptStage
 pub mod KeptBorn
 pub mod KeptCalls

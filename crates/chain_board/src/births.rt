@@ -1,6 +1,6 @@
 //! How pipelines are made.
 
-ghost use Rattle.std.specs.Prelude.{◌≡◌, ◌≤◌, [], ◌∷◌, ◌++◌, IfErr, MatchResult};
+ghost use Rattle.std.specs.Prelude.{◌≡◌, ◌+◌, ◌≤◌, [], ◌∷◌, ◌++◌, IfErr, MatchResult};
 ghost use Rattle.chain_board.specs.declared.entry.Shape.TheVariants as Shaped;
 ghost use Rattle.chain_board.specs.declared.entry.BoardEntry.TheVariants as Entry;
 ghost use Rattle.chain_board.specs.declared.board_core.BoardErr.TheVariants as BoardErr;
@@ -12,10 +12,12 @@ use crate::entry::{BoardEntry, Shape};
 use crate::log::reserve_entries;
 use crate::mask::full_mask;
 use crate::pipeline::Pipeline;
+use crate::ready::Ready;
 use crate::stage::{Chained, Stage};
 use crate::work::Work;
 use cryptd::Cryptd;
 use padata_core::Padata;
+use std::alloc::AllocError;
 
 impl<W: Work> BoardCore<W> {
     /// Makes a pad of `lists` reorder lists, 1 to 16, from which the workers 1 to `lists` may take, and answers its number.
@@ -84,8 +86,7 @@ impl<W: Work> BoardCore<W> {
     {
         reserve_entries(&mut self.log, self.owed, 2)?;
         self.pipes.reserve(1)?;
-        self.ready.grow()?;
-        self.passing.grow()?;
+        grow_both(&mut self.ready, &mut self.passing)?;
         let pipe = self.pipes.len() as u64;
         self.pipes.push_reserved(Pipeline {
             maker: caller,
@@ -104,4 +105,17 @@ impl<W: Work> BoardCore<W> {
         self.owed += 1;
         Ok(pipe)
     }
+}
+
+/// Makes room for one pipeline more in both lines. Want of memory changes nothing.
+fn grow_both(ready: &mut Ready, passing: &mut Ready) -> Result<(), AllocError>
+    ensures ready { MatchResult result (λ _. ready.new ≡ record ready.old { pipes = ready.old.pipes + 1 }) (λ _. ready.new ≡ ready.old) }
+    ensures passing { MatchResult result (λ _. passing.new ≡ record passing.old { pipes = passing.old.pipes + 1 }) (λ _. passing.new ≡ passing.old) }
+{
+    ready.grow()?;
+    let grown = passing.grow();
+    if grown.is_err() {
+        ready.shrink();
+    }
+    grown
 }

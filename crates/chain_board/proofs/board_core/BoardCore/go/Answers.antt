@@ -29,8 +29,8 @@ add-requires g c =
     let w = within_board g.W.Work.asked g.W.Work.meaning c.self.inside.pipes.items c.self.inside.log.items c.args.pipe c.self.invariant.0 (open_here has_line (entries_of c.args.pipe c.self.inside.log.items) open_.0) in
     omega (arith, w, c.self.invariant.5.0)
 
-pub add-2-requires : goal.add-2-requires
-add-2-requires g c =
+pub add-requires-2 : goal.add-requires-2
+add-requires-2 g c =
     let open_ : IsOpenQueue (entries_of c.args.pipe c.self.inside.log.items) = subst (λ h. IsOpenQueue (entries_of c.args.pipe h)) (sym c.self.view_is) c.requires.pipe in
     let w = within_board g.W.Work.asked g.W.Work.meaning c.self.inside.pipes.items c.self.inside.log.items c.args.pipe c.self.invariant.0 (open_here has_line (entries_of c.args.pipe c.self.inside.log.items) open_.0) in
     omega (arith, w, c.self.invariant.6.0)

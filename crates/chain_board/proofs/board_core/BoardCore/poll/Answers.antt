@@ -42,8 +42,7 @@ invariant_of-self-2 g c =
     let open_ : IsOpen (entries_of c.args.pipe c.self.inside.log.items) = subst (λ h. IsOpen (entries_of c.args.pipe h)) (sym c.self.view_is) c.requires.pipe in
     let w = within_board g.W.Work.asked g.W.Work.meaning c.self.inside.pipes.items c.self.inside.log.items c.args.pipe c.self.invariant.0 (any_open_here (entries_of c.args.pipe c.self.inside.log.items) open_) in
     let may : MayManage (entries_of c.args.pipe c.self.inside.log.items) c.args.caller = subst (λ h. MayManage (entries_of c.args.pipe h) c.args.caller) (sym c.self.view_is) c.requires.caller in
-    let s = poll_step g.W.Work.asked g.W.Work.meaning c.self.inside.pipes.items c.self.inside.log.items c.args.pipe c.index_mut-place.result.now c.self.invariant.0 w c.index_mut-place.ensures.value c.args.caller c.collect-to.result c.collect-to.new.self may open_ c.collect-to.ensures.told c.collect-to.ensures.emptied in
-    let e = Collect c.args.caller c.args.pipe c.collect-to.result in (
+    let s = poll_step g.W.Work.asked g.W.Work.meaning c.self.inside.pipes.items c.self.inside.log.items c.args.pipe c.index_mut-place.result.now c.self.invariant.0 w c.index_mut-place.ensures.value c.args.caller c.collect-to.result c.collect-to.new.self may open_ c.collect-to.ensures.told c.collect-to.ensures.emptied in (
       rw (c.push_reserved.ensures.items, c.in_ok-reserve_entries.ensures.items) s.0,
       rw (c.push_reserved.ensures.items, c.in_ok-reserve_entries.ensures.items) (shut-same c.self.inside.log.items (Collect c.args.caller c.args.pipe c.collect-to.result) refl ∙ c.self.invariant.1),
       omega (arith, c.push_reserved.ensures.len, c.push_reserved.ensures.capacity, c.in_ok-reserve_entries.ensures.ok),
