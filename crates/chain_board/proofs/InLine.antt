@@ -1,8 +1,10 @@
 -- Which pipelines stand in line, as they change.
-use Rattle.std.proofs.Common.{◌≡◌, ◌≢◌, ℕ, zero, suc, ◌+◌, ◌<◌, ◌≤◌, Bool, true, false, ◌||◌, List, [], ◌∷◌, ◌++◌, length, take, refl, sym, ◌∙◌, ap, subst, arith, inl, inr, ◌⊎◌, get_or, length-append}
+use Rattle.std.proofs.Common.{◌≡◌, ◌≢◌, ℕ, zero, suc, ◌+◌, ◌-◌, ◌<◌, ◌≤◌, Bool, Option, Some, None, true, false, ◌||◌, List, [], ◌∷◌, ◌++◌, length, take, refl, sym, ◌∙◌, ap, subst, arith, inl, inr, ◌⊎◌, get_or, length-append, append-nil}
 use Rattle.std.specs.Prelude.{◌==◌, slice_index_or, slice_set}
-use Rattle.std.proofs.lemmas.Bool.{eqb-true, eq-eqb, or_left, or_right, cases_eq, cases_lt}
+use Rattle.std.specs.Option.{option_to_list}
+use Rattle.std.proofs.lemmas.Bool.{eqb-true, eq-eqb, or_left, or_right, cases_eq, cases_lt, both_ways, false_from_ne_true}
 use Rattle.std.proofs.lemmas.List.{get_or-set_same, get_or-set_other, length-set}
+use Rattle.std.proofs.Math.Seq.{get_or-append_seam}
 use Rattle.std.proofs.lemmas.List.Folds.{list_any-append}
 use Rattle.chain_board.specs.Entries.{has}
 use Rattle.chain_board.specs.Ready.{ReadyLine, count_true, IsLine, AreInLine, OthersAreInLine, IsReadyFor, NoneIs}
@@ -72,6 +74,42 @@ line_grown marks line i = record {
   marked = λ p h. i.marked p (sym (get_end marks p) ∙ h);
   within = λ p h. (let w = i.within p h in let l = length-append marks (false ∷ []) in omega arith);
 }
+
+within_cases : (n p : ℕ) → (p < n) ⊎ (n ≤ p) → (p ≡ n → ⊥) → p < n + 1 → p < n
+within_cases n p (inl l) h w = l
+within_cases n p (inr g) h w = absurd (h (omega arith))
+
+within_or : (marks : List Bool) (p : ℕ) → (p ≡ length marks → ⊥) → p < length marks + 1 → p < length marks
+within_or marks p h w = within_cases (length marks) p (cases_lt p (length marks)) h w
+
+-- who doesn't stand there
+pub not_within : (marks : List Bool) (line : List ℕ) (p : ℕ) → IsLine marks line → length marks ≤ p → has p line ≡ false
+not_within marks line p i l = false_from_ne_true (has p line) (λ h. (let w = i.within p h in absurd (omega arith)))
+
+-- the last place is free
+last_free : (marks : List Bool) (last : Bool) (line : List ℕ) → IsLine (marks ++ last ∷ []) line → has (length marks) line ≡ false → last ≡ false
+last_free marks last line i h = false_from_ne_true last (λ t. both_ways (has (length marks) line) h (i.marked (length marks) (get_or-append_seam marks last [] false ∙ t)))
+
+-- and is given back
+pub line_shrunk : (marks : List Bool) (last : Bool) (line : List ℕ) → IsLine (marks ++ last ∷ []) line → has (length marks) line ≡ false → IsLine marks line
+line_shrunk marks last line i h =
+    let free = last_free marks last line i h in
+    let j = subst (λ b. IsLine (marks ++ b ∷ []) line) free i in
+    record {
+      few = (let c = count_false marks in let f = j.few in omega arith);
+      marked = λ p m. j.marked p (get_end marks p ∙ m);
+      within = λ p m.
+          (let w = j.within p m in
+          let l = length-append marks (false ∷ []) in
+          within_or marks p (λ q. both_ways (has (length marks) line) h (subst (λ n. has n line ≡ true) q m)) (omega arith));
+    }
+
+pub shrunk_by : (marks rest : List Bool) (o : Option Bool) (line : List ℕ) → IsLine marks line → marks ≡ rest ++ option_to_list o → 0 < length marks → has (length marks - 1) line ≡ false → IsLine rest line
+shrunk_by marks rest None line i e some h = subst (λ ms. IsLine ms line) (e ∙ append-nil rest) i
+shrunk_by marks rest (Some b) line i e some h =
+    let l : length marks ≡ length rest + 1 = ap length e ∙ length-append rest (b ∷ []) in
+    let at : length marks - 1 ≡ length rest = omega arith in
+    line_shrunk rest b line (subst (λ ms. IsLine ms line) e i) (subst (λ n. has n line ≡ false) at h)
 
 line_mark : (marks : List Bool) (line : List ℕ) (p q : ℕ) → IsLine marks line → p < length marks → (q ≡ p) ⊎ (q ≡ p → ⊥) → get_or (slice_set marks p true) q false ≡ true → has q (line ++ p ∷ []) ≡ true
 line_mark marks line p q i l (inl same) h = subst (λ n. has n (line ++ p ∷ []) ≡ true) (sym same) (has_added line p)

@@ -1,5 +1,5 @@
 -- What a finish does to the board.
-use Rattle.std.proofs.Common.{◌≡◌, ◌≢◌, ℕ, zero, suc, ◌+◌, ◌-◌, ◌*◌, ◌<◌, ◌≤◌, Bool, true, false, cond, List, [], ◌∷◌, ◌++◌, length, drop, Option, Some, None, is_some, refl, sym, ◌∙◌, ap, subst, arith, get_or}
+use Rattle.std.proofs.Common.{◌≡◌, ◌≢◌, ℕ, zero, suc, ◌+◌, ◌-◌, ◌<◌, ◌≤◌, Bool, true, false, cond, List, [], ◌∷◌, ◌++◌, length, drop, Option, Some, None, is_some, refl, sym, ◌∙◌, ap, subst, arith, get_or}
 use Rattle.std.specs.Prelude.{slice_get, slice_set}
 use Rattle.std.proofs.lemmas.Bool.{eq-eqb}
 use Rattle.padata_core.specs.Pad.{Pad, taken_of, ready, running_of}
@@ -9,10 +9,10 @@ use Rattle.chain_board.specs.declared.pipeline.Pipeline.{Pipeline}
 use Rattle.chain_board.specs.declared.stage.Stage.{Stage}
 use Rattle.chain_board.specs.declared.stage.Stage.TheVariants as stage
 use Rattle.chain_board.specs.Shapes.{queue_born, lists_born, width_born}
-use Rattle.chain_board.specs.Stages.{is_queue, MayServe, MayPass, with_outcome, emptied, MayEnd, ended}
+use Rattle.chain_board.specs.Stages.{is_queue, MayPass, MayEnd, ended}
 use Rattle.chain_board.specs.Entries.{is_of, entries_of, birth_in, birth, accepted_in, submissions, dequeued, takers, finished, has, meaning_at, finish_entry}
 use Rattle.chain_board.specs.Legal.{IsRight, IsRightFor, is_shut_entry}
-use Rattle.chain_board.specs.Kept.{shape_of, IsIdle, IsKeptPad, IsKeptStage, IsKeptPipe, IsKeptBoard, work_owed, owes, owed_by}
+use Rattle.chain_board.specs.Kept.{shape_of, IsIdle, IsKeptPad, IsKeptStage, IsKeptPipe, IsKeptBoard, work_owed, owed_by}
 use Rattle.chain_board.proofs.Keeping.{AreNumbered, passed-le, runs_next}
 use Rattle.chain_board.proofs.Kept.{kept_here, place_step}
 use Rattle.chain_board.proofs.KeptPipe.{pipe_moved, queue_kept}

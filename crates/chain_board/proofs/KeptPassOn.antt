@@ -1,10 +1,7 @@
 -- What a request that is passed on does to the board.
-use Rattle.std.proofs.Common.{◌≡◌, ℕ, zero, suc, ◌+◌, ◌-◌, ◌*◌, ◌<◌, ◌≤◌, Bool, true, false, cond, List, [], ◌∷◌, ◌++◌, length, take, drop, Option, Some, None, is_some, refl, sym, ◌∙◌, ap, subst, arith, inl, inr, ◌⊎◌, get_or, length-append}
+use Rattle.std.proofs.Common.{◌≡◌, ℕ, ◌+◌, ◌-◌, ◌<◌, ◌≤◌, Bool, true, false, List, [], ◌∷◌, ◌++◌, length, take, drop, Option, Some, is_some, refl, sym, ◌∙◌, ap, subst, arith, inl, inr, ◌⊎◌, get_or, length-append}
 use Rattle.std.specs.Prelude.{slice_set}
 use Rattle.std.proofs.lemmas.Bool.{cases_lt, eq-eqb, false_from_ne_true}
-use Rattle.padata_core.specs.Pad.{Pad, ready, running_of}
-use Rattle.request_queue.specs.Line.{accepted, number_at_bound}
-use Rattle.cryptd.specs.Server.{Server}
 use Rattle.chain_board.specs.declared.entry.BoardEntry.{BoardEntry}
 use Rattle.chain_board.specs.declared.entry.BoardEntry.TheVariants.{Deq}
 use Rattle.chain_board.specs.declared.pipeline.Pipeline.{Pipeline}
@@ -12,12 +9,12 @@ use Rattle.chain_board.specs.declared.stage.Chained.{Chained}
 use Rattle.chain_board.specs.declared.stage.Stage.{Stage}
 use Rattle.chain_board.specs.declared.stage.Stage.TheVariants as stage
 use Rattle.chain_board.specs.Shapes.{is_born, is_chain, queue_born, line_born, width_born}
-use Rattle.chain_board.specs.Stages.{MayPass, PassesNone, IsPlaced, IsLinked, IsJoined, passed, with_passed, after_passed, next_in_line, starts_at, accepted_of}
-use Rattle.chain_board.specs.Entries.{is_of, entries_of, birth_in, birth, accepted_in, submissions, dequeued, waiting, is_held, is_closed, starts, pass_entry, NonePasses}
-use Rattle.chain_board.specs.Legal.{IsRight, IsRightFor, Is, is_shut_entry}
-use Rattle.chain_board.specs.Kept.{shape_of, IsIdle, IsKeptLine, IsKeptPad, IsKeptStage, IsKeptPipe, IsKeptBoard, work_owed, owes, owed_by}
+use Rattle.chain_board.specs.Stages.{MayPass, PassesNone, IsPlaced, IsLinked, after_passed, next_in_line, starts_at, accepted_of}
+use Rattle.chain_board.specs.Entries.{entries_of, birth, submissions, dequeued, waiting, is_held, is_closed, starts, pass_entry, NonePasses}
+use Rattle.chain_board.specs.Legal.{IsRightFor, Is}
+use Rattle.chain_board.specs.Kept.{shape_of, IsIdle, IsKeptStage, IsKeptPipe, IsKeptBoard, work_owed, owed_by}
 use Rattle.chain_board.specs.Ready.{HasRequest, NoneIs}
-use Rattle.chain_board.proofs.Counting.{few_submissions}
+use Rattle.chain_board.proofs.KeptRequests.{few_submissions}
 use Rattle.chain_board.proofs.Kept.{kept_here, place_step}
 use Rattle.chain_board.proofs.KeptPipe.{pipe_moved}
 use Rattle.chain_board.proofs.KeptPassing.{line_passed, pad_passed}

@@ -1,13 +1,12 @@
 -- What an entry leaves of a pipeline beside its stage.
-use Rattle.std.proofs.Common.{◌≡◌, ℕ, Bool, true, false, List, [], ◌∷◌, ◌++◌, Option, Some, None, is_some, refl, sym, ◌∙◌, ap, subst, inl, inr, ◌⊎◌}
-use Rattle.std.specs.List.{filter_map}
+use Rattle.std.proofs.Common.{◌≡◌, ℕ, true, false, List, [], ◌∷◌, ◌++◌, Option, Some, None, is_some, refl, sym, ◌∙◌, ap, subst, inl, inr, ◌⊎◌}
 use Rattle.chain_board.specs.declared.entry.Shape.{Shape}
 use Rattle.chain_board.specs.declared.entry.BoardEntry.{BoardEntry}
 use Rattle.chain_board.specs.declared.pipeline.Pipeline.{Pipeline}
 use Rattle.chain_board.specs.declared.stage.Stage.{Stage}
 use Rattle.chain_board.specs.declared.stage.Stage.TheVariants as stage
-use Rattle.chain_board.specs.Shapes.{is_born, is_serial, has_line, has_lists, is_chain, queue_born, line_born, lists_born, width_born}
-use Rattle.chain_board.specs.Entries.{birth, is_close, is_share, masked_in, mask, submitter_in, submitters, collected_in, has, last_or, maker_is, IsMaker, IsMasked, MayTake}
+use Rattle.chain_board.specs.Shapes.{is_serial, queue_born, width_born}
+use Rattle.chain_board.specs.Entries.{birth, is_close, is_share, masked_in, mask, submitter_in, submitters, collected_in, has, maker_is, IsMaker, IsMasked, MayTake}
 use Rattle.chain_board.specs.Stages.{is_queue}
 use Rattle.chain_board.specs.Ready.{Admits}
 use Rattle.chain_board.specs.Kept.{shape_of, IsIdle, IsKeptStage, IsKeptPipe}

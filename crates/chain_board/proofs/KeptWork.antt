@@ -1,35 +1,32 @@
 -- What a take does to the board.
-use Rattle.std.proofs.Common.{◌≡◌, ◌≢◌, ℕ, zero, suc, ◌+◌, ◌-◌, ◌*◌, ◌<◌, ◌≤◌, Bool, true, false, cond, ◌||◌, List, [], ◌∷◌, ◌++◌, length, map, take, drop, Option, Some, None, is_some, refl, sym, ◌∙◌, ap, subst, arith, inl, inr, ◌⊎◌, get_or, length-append, append-nil}
+use Rattle.std.proofs.Common.{◌≡◌, ℕ, zero, suc, ◌+◌, ◌*◌, ◌<◌, ◌≤◌, Bool, true, false, cond, ◌||◌, List, [], ◌∷◌, ◌++◌, length, map, take, Option, Some, None, is_some, refl, sym, ◌∙◌, ap, subst, arith, inl, inr, ◌⊎◌, get_or, length-append}
 use Rattle.std.specs.Prelude.{◌==◌, slice_get, slice_set}
 use Rattle.std.specs.List.{filter, filter_map}
 use Rattle.std.specs.Option.{option_map}
-use Rattle.std.proofs.lemmas.Bool.{cases_lt, eq-eqb, false_from_ne_true, both_ways}
+use Rattle.std.proofs.lemmas.Bool.{cases_lt, eq-eqb, false_from_ne_true}
 use Rattle.std.proofs.lemmas.Option.{slice_get-map}
 use Rattle.std.proofs.lemmas.List.{map-append}
 use Rattle.std.proofs.lemmas.List.Elements.{filter-append}
-use Rattle.padata_core.specs.Pad.{Pad, taken_of, submitted_of, ready, running_of}
-use Rattle.request_queue.specs.Line.{accepted, number_at_bound}
+use Rattle.padata_core.specs.Pad.{Pad, taken_of, ready, running_of}
+use Rattle.request_queue.specs.Line.{number_at_bound}
 use Rattle.cryptd.specs.Server.{Server}
 use Rattle.chain_board.specs.declared.entry.BoardEntry.{BoardEntry}
-use Rattle.chain_board.specs.declared.entry.BoardEntry.TheVariants.{Take, Finish, Deq, Done}
+use Rattle.chain_board.specs.declared.entry.BoardEntry.TheVariants.{Take, Deq}
 use Rattle.chain_board.specs.declared.pipeline.Pipeline.{Pipeline}
-use Rattle.chain_board.specs.declared.stage.Chained.{Chained}
 use Rattle.chain_board.specs.declared.stage.Stage.{Stage}
 use Rattle.chain_board.specs.declared.stage.Stage.TheVariants as stage
-use Rattle.chain_board.specs.Shapes.{is_born, is_serial, has_line, has_lists, is_chain, queue_born, line_born, lists_born, width_born}
-use Rattle.chain_board.specs.Stages.{is_queue, jobs_of, next_of, started_by, MayServe, MayPass, IsQuiet, without_first, with_taken, with_outcome, emptied, MayEnd, Runs, ended, IsJoined, IsPlaced}
-use Rattle.chain_board.specs.Entries.{is_of, entries_of, birth_in, birth, accepted_in, submissions, dequeued_in, dequeues, dequeued, passed_on, waiting, taken_in, takings, takers, finished_in, finished, has, meaning_at, starts, is_close, is_closed, is_share, masked_in, submitter_in, collected_in, is_held, take_entry, finish_entry, MayTake, AllTaken, IsHeldBusyOrEmpty, NoneFor}
-use Rattle.chain_board.specs.Legal.{IsRight, IsRightFor, MayFinish, Is, LegalBoard, is_shut_entry}
-use Rattle.chain_board.specs.Order.{numbers_below, AreRightForAfter, handed_out}
-use Rattle.chain_board.specs.Kept.{shape_of, IsIdle, IsKeptLine, IsKeptPad, IsKeptStage, IsKeptPipe, IsKeptBoard, work_owed, owes, owed_by}
+use Rattle.chain_board.specs.Shapes.{queue_born, line_born, lists_born, width_born}
+use Rattle.chain_board.specs.Stages.{is_queue, jobs_of, next_of, started_by, MayServe, MayPass, without_first}
+use Rattle.chain_board.specs.Entries.{is_of, entries_of, birth_in, birth, accepted_in, submissions, dequeued_in, dequeues, dequeued, passed_on, taken_in, takings, takers, finished_in, finished, has, is_close, is_closed, is_share, masked_in, submitter_in, collected_in, take_entry, MayTake, AllTaken, IsHeldBusyOrEmpty, NoneFor}
+use Rattle.chain_board.specs.Legal.{IsRight, IsRightFor, MayFinish, LegalBoard, is_shut_entry}
+use Rattle.chain_board.specs.Kept.{shape_of, IsIdle, IsKeptPad, IsKeptStage, IsKeptPipe, IsKeptBoard, work_owed, owed_by}
 use Rattle.chain_board.specs.Ready.{HasJob, Admits, NoneIs}
-use Rattle.chain_board.proofs.Lists.{filter_map-none, filter_map-some, has_only_below, taker_among}
+use Rattle.chain_board.proofs.Lists.{filter_map-none, filter_map-some, has_only_below}
 use Rattle.chain_board.proofs.Transfer.{entries-more, each_right}
-use Rattle.chain_board.proofs.Keeping.{birth_stays, AreNumbered, passed-le, runs_next, IsOrderly, orderly, lists_no_queue}
+use Rattle.chain_board.proofs.Keeping.{birth_stays, AreNumbered, passed-le, orderly}
 use Rattle.chain_board.proofs.Kept.{kept_here, place_step}
-use Rattle.chain_board.proofs.KeptPipe.{pipe_some, pipe_moved, queue_kept, may_take, admitted}
+use Rattle.chain_board.proofs.KeptPipe.{pipe_moved, queue_kept, may_take, admitted}
 use Rattle.chain_board.proofs.KeptPassing.{drop_head}
-use Rattle.chain_board.proofs.KeptPad.{finish_low, finish_high, finish_runs, finish_kept, takers-same}
 use Rattle.chain_board.proofs.KeptTaking.{takers-taken, take_kept}
 use Rattle.chain_board.proofs.KeptEntering.{line_quiet, starts_is}
 use Rattle.chain_board.proofs.KeptQueue.{queue_taken}

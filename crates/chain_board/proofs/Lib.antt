@@ -23,3 +23,9 @@ pub mod KeptPipe
 pub mod KeptWork
 pub mod KeptFinish
 pub mod KeptPassOn
+pub mod KeptMarks
+pub mod KeptRoom
+pub mod KeptStage
+pub mod KeptBorn
+pub mod KeptCalls
+pub mod KeptRequests

@@ -5,6 +5,8 @@ pub mod Order
 pub mod Examples
 pub mod Stages
 pub mod Kept
-pub mod Ready
+pub mod Pipelines
+pub mod Births
 pub mod Allowance
 pub mod Slips
+pub mod Ready

@@ -104,6 +104,40 @@ impl<W: Work> BoardCore<W> {
         })
     }
 
+    /// Lets others than the caller submit to a pipeline that it made, which isn't closed. Only want of memory refuses, and
+    /// leaves the board as it was.
+    pub fn share(&mut self, caller: u32, pipe: u64) -> Result<(), BoardErr>
+        requires caller { MayManage (entries_of pipe self.old) caller }
+        requires pipe { IsOpen (entries_of pipe self.old) }
+        ensures shared { MatchResult result (λ _. self.new ≡ self.old ++ Entry.Share caller pipe ∷ []) (λ _. self.new ≡ self.old) }
+        ensures refused { IfErr result (λ e. e ≡ BoardErr.Memory) }
+        ensures legal { LegalBoard self.new }
+    {
+        reserve_entries(&mut self.log, self.owed, 1)?;
+        let place = &mut self.pipes[pipe as usize];
+        place.shared = true;
+        self.log.push_reserved(BoardEntry::Share { caller, pipe });
+        Ok(())
+    }
+
+    /// Closes a pipeline that the caller made and shared with nobody, of which all is finished and handed out. No memory is
+    /// taken.
+    pub fn close(&mut self, caller: u32, pipe: u64)
+        requires caller { MayManage (entries_of pipe self.old) caller }
+        requires pipe { IsOpen (entries_of pipe self.old) }
+        requires alone { is_shared (entries_of pipe self.old) ≡ false }
+        requires finished { front (entries_of pipe self.old) ≡ length (submissions (entries_of pipe self.old)) }
+        requires collected { collected (entries_of pipe self.old) ≡ length (told (entries_of pipe self.old)) }
+        ensures closed { self.new ≡ self.old ++ Entry.Close caller pipe ∷ [] }
+        ensures legal { LegalBoard self.new }
+    {
+        let place = &mut self.pipes[pipe as usize];
+        place.closed = true;
+        place.stage.free_room();
+        self.log.push_reserved(BoardEntry::Close { caller, pipe });
+        self.owed -= 1;
+    }
+
     /// Shuts the board, by caller 0, once. No memory is taken.
     pub fn shut(&mut self, caller: u32)
         requires caller { caller ≡ 0 }

@@ -2,15 +2,22 @@
 #![tactic(auto)]
 
 mod allowance;
+mod births;
 mod board_core;
+mod closing;
+mod entering;
 mod entry;
+mod handing_out;
 mod laws;
 mod log;
 mod mask;
+mod masking;
 mod pipeline;
+mod queues;
 mod ready;
 mod serving;
 mod stage;
+mod submitting;
 mod work;
 mod working;
 
