@@ -15,7 +15,8 @@ use Rattle.chain_board.specs.Legal.{IsRight, IsRightFor, is_shut_entry}
 use Rattle.chain_board.specs.Kept.{shape_of, IsIdle, IsKeptPad, IsKeptStage, IsKeptPipe, IsKeptBoard, work_owed, owed_by}
 use Rattle.chain_board.proofs.Keeping.{AreNumbered, passed-le, runs_next}
 use Rattle.chain_board.proofs.Kept.{kept_here, place_step}
-use Rattle.chain_board.proofs.KeptPipe.{pipe_moved, queue_kept}
+use Rattle.chain_board.proofs.KeptMarks.{stage_more}
+use Rattle.chain_board.proofs.Admitting.{queue_kept}
 use Rattle.chain_board.proofs.KeptPad.{finish_low, finish_high, finish_runs, finish_kept}
 use Rattle.chain_board.proofs.KeptQueue.{queue_done}
 use Rattle.chain_board.proofs.KeptChain.{chain_finish_kept}
@@ -125,7 +126,7 @@ finish_step {J} {O} {A} asked meaning pipes log p n caller out pipe after k with
     let d = finish_may asked meaning pipes log p n caller out pipe k within here t f m in
     let ch = ended_changes A pipe.stage caller p n in
     let i = ended_of A pipe.stage caller p n in
-    let moved = pipe_moved asked meaning pipe (ended pipe.stage n out) es en kp ch.close ch.share ch.mask ch.submitter ch.collect (ended_shape pipe.stage n out) d.kept (ended_idle pipe.stage n out) in
+    let moved = stage_more asked meaning pipe (ended pipe.stage n out) es en kp (ended_shape pipe.stage n out) ch.close ch.share ch.mask ch.submitter ch.collect d.kept (λ h. ended_idle pipe.stage n out (kp.idle h)) in
     let kept : IsKeptPipe asked meaning (record pipe { stage = after }) (es ++ en ∷ []) = subst (λ s. IsKeptPipe asked meaning (record pipe { stage = s }) (es ++ en ∷ [])) (sym e) moved in
     let s = place_step asked meaning pipes log p pipe (record pipe { stage = after }) en k within here i.0 i.1 (ended_right log pipe.stage caller p n d.right) kept in
     let pays : work_owed after + 1 ≡ work_owed pipe.stage = subst (λ x. work_owed x + 1 ≡ work_owed pipe.stage) (sym e) d.pays in

@@ -16,7 +16,7 @@ use Rattle.chain_board.specs.Kept.{shape_of, IsIdle, IsKeptStage, IsKeptPipe, Is
 use Rattle.chain_board.specs.Ready.{HasRequest, NoneIs}
 use Rattle.chain_board.proofs.KeptRequests.{few_submissions}
 use Rattle.chain_board.proofs.Kept.{kept_here, place_step}
-use Rattle.chain_board.proofs.KeptPipe.{pipe_moved}
+use Rattle.chain_board.proofs.KeptMarks.{stage_more}
 use Rattle.chain_board.proofs.KeptPassing.{line_passed, pad_passed}
 use Rattle.chain_board.proofs.KeptEntering.{starts_is}
 
@@ -96,7 +96,7 @@ pass_step {J} {O} {A} asked meaning pipes log p caller pipe after k within here 
     let kp = kept_here asked meaning pipes log p pipe k within here in
     let open_ : is_closed es ≡ false = kp.closing ∙ false_from_ne_true pipe.closed (λ h. passes_idle pipe.stage m (kp.idle h)) in
     let d = stage_passed asked meaning pipe.stage es pipe.collected caller p pipe.maker (width_born (birth es)) kp.stage kp.born open_ m in
-    let moved = pipe_moved asked meaning pipe (after_passed pipe.stage) es en kp refl refl refl refl refl (passed_shape pipe.stage) d.kept (λ i. absurd (passes_idle pipe.stage m i)) in
+    let moved = stage_more asked meaning pipe (after_passed pipe.stage) es en kp (passed_shape pipe.stage) refl refl refl refl refl d.kept (λ h. absurd (passes_idle pipe.stage m (kp.idle h))) in
     let kept : IsKeptPipe asked meaning (record pipe { stage = after }) (es ++ en ∷ []) = subst (λ s. IsKeptPipe asked meaning (record pipe { stage = s }) (es ++ en ∷ [])) (sym e) moved in
     let s = place_step asked meaning pipes log p pipe (record pipe { stage = after }) en k within here (eq-eqb p p refl) refl (tt, d.right) kept in
     let pays : work_owed after + 1 ≡ work_owed pipe.stage = subst (λ x. work_owed x + 1 ≡ work_owed pipe.stage) (sym e) d.pays in

@@ -25,7 +25,8 @@ use Rattle.chain_board.proofs.Lists.{filter_map-none, filter_map-some, has_only_
 use Rattle.chain_board.proofs.Transfer.{entries-more, each_right}
 use Rattle.chain_board.proofs.Keeping.{birth_stays, AreNumbered, passed-le, orderly}
 use Rattle.chain_board.proofs.Kept.{kept_here, place_step}
-use Rattle.chain_board.proofs.KeptPipe.{pipe_moved, queue_kept, may_take, admitted}
+use Rattle.chain_board.proofs.KeptMarks.{stage_more}
+use Rattle.chain_board.proofs.Admitting.{queue_kept, may_take, admitted}
 use Rattle.chain_board.proofs.KeptPassing.{drop_head}
 use Rattle.chain_board.proofs.KeptTaking.{takers-taken, take_kept}
 use Rattle.chain_board.proofs.KeptEntering.{line_quiet, starts_is}
@@ -252,7 +253,7 @@ take_step {J} {O} {A} asked meaning pipes log p caller pipe after job k within h
     let t = stage_taken asked meaning pipe.stage es pipe.collected caller p pipe.maker (width_born (birth es)) job rest kp.stage kp.born (numbered_here log p k.legal) open_ (λ q. may_take asked meaning pipe es caller kp q a) m w in
     let ch = first_changes A pipe.stage caller p in
     let f = first_of A pipe.stage caller p in
-    let moved = pipe_moved asked meaning pipe (without_first pipe.stage rest) es en kp ch.close ch.share ch.mask ch.submitter ch.collect (first_shape pipe.stage rest) t.kept (λ i. absurd (first_idle pipe.stage job rest w i)) in
+    let moved = stage_more asked meaning pipe (without_first pipe.stage rest) es en kp (first_shape pipe.stage rest) ch.close ch.share ch.mask ch.submitter ch.collect t.kept (λ h. absurd (first_idle pipe.stage job rest w (kp.idle h))) in
     let kept : IsKeptPipe asked meaning (record pipe { stage = after }) (es ++ en ∷ []) = subst (λ s. IsKeptPipe asked meaning (record pipe { stage = s }) (es ++ en ∷ [])) (sym e) moved in
     let s = place_step asked meaning pipes log p pipe (record pipe { stage = after }) en k within here f.0 f.1 (first_right log pipe.stage caller p t.right) kept in
     let pays : work_owed after + 1 ≡ work_owed pipe.stage = subst (λ x. work_owed x + 1 ≡ work_owed pipe.stage) (sym e) t.pays in

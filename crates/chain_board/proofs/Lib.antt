@@ -19,7 +19,7 @@ pub mod KeptCollect
 pub mod Counting
 pub mod Kept
 pub mod KeptUsed
-pub mod KeptPipe
+pub mod Admitting
 pub mod KeptWork
 pub mod KeptFinish
 pub mod KeptPassOn

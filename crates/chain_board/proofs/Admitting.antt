@@ -1,4 +1,4 @@
--- What an entry leaves of a pipeline beside its stage.
+-- Who may take the jobs of a pipeline, as it is kept.
 use Rattle.std.proofs.Common.{◌≡◌, ℕ, true, false, List, [], ◌∷◌, ◌++◌, Option, Some, None, is_some, refl, sym, ◌∙◌, ap, subst, inl, inr, ◌⊎◌}
 use Rattle.chain_board.specs.declared.entry.Shape.{Shape}
 use Rattle.chain_board.specs.declared.entry.BoardEntry.{BoardEntry}
@@ -13,37 +13,6 @@ use Rattle.chain_board.specs.Kept.{shape_of, IsIdle, IsKeptStage, IsKeptPipe}
 use Rattle.chain_board.proofs.Lists.{filter_map-none}
 use Rattle.chain_board.proofs.Keeping.{birth_stays}
 use Rattle.chain_board.proofs.Kept.{closed-same, shared-same, collected-same}
-
-pub pipe_some : {J O A : Type 0} (asked : J → A) (meaning : A → O) (pipe : Pipeline J O) (es : List (BoardEntry A)) → IsKeptPipe asked meaning pipe es → is_some (birth es) ≡ true
-pipe_some asked meaning pipe es k = ap is_some k.born
-
--- who may take stays, where an entry changes no mask
-pub mask-same : {A : Type 0} (es : List (BoardEntry A)) (e : BoardEntry A) → is_some (birth es) ≡ true → masked_in e ≡ None → mask (es ++ e ∷ []) ≡ mask es
-mask-same es e b m = rw (birth_stays es e b, filter_map-none masked_in es e m) refl
-
-submitting-same : {J O A : Type 0} (pipe : Pipeline J O) (es : List (BoardEntry A)) (e : BoardEntry A) (caller : ℕ) → is_some (birth es) ≡ true → submitter_in e ≡ None → IsMaker es caller ⊎ (has caller pipe.submitters.items ≡ has caller (submitters es))
-    → IsMaker (es ++ e ∷ []) caller ⊎ (has caller pipe.submitters.items ≡ has caller (submitters (es ++ e ∷ [])))
-submitting-same pipe es e caller b s (inl maker) = inl (subst (λ x. maker_is x caller) (sym (birth_stays es e b)) maker)
-submitting-same pipe es e caller b s (inr h) = inr (h ∙ ap (has caller) (sym (filter_map-none submitter_in es e s)))
-
--- a pipeline of which an entry changes the stage alone
-pub pipe_moved : {J O A : Type 0} (asked : J → A) (meaning : A → O) (pipe : Pipeline J O) (after : Stage J O) (es : List (BoardEntry A)) (e : BoardEntry A) → IsKeptPipe asked meaning pipe es
-    → is_close e ≡ false → is_share e ≡ false → masked_in e ≡ None → submitter_in e ≡ None → collected_in e ≡ None
-    → ((lists : ℕ) → shape_of after lists ≡ shape_of pipe.stage lists) → IsKeptStage asked meaning after pipe.collected (es ++ e ∷ []) → (IsIdle pipe.stage → IsIdle after)
-    → IsKeptPipe asked meaning (record pipe { stage = after }) (es ++ e ∷ [])
-pipe_moved asked meaning pipe after es e k c s m u t sh st i =
-    let b = pipe_some asked meaning pipe es k in
-    let be = birth_stays es e b in
-    record {
-      born = be ∙ (k.born ∙ ap (λ shape. Some (pipe.maker, shape)) (sym (sh (width_born (birth es)))) ∙ ap (λ x. Some (pipe.maker, shape_of after (width_born x))) (sym be));
-      closing = closed-same es e c ∙ k.closing;
-      sharing = shared-same es e s ∙ k.sharing;
-      masking = mask-same es e b m ∙ k.masking;
-      submitting = λ caller. submitting-same pipe es e caller b u (k.submitting caller);
-      place = collected-same es e t ∙ k.place;
-      stage = st;
-      idle = λ h. i (k.idle h);
-    }
 
 -- ---- the shape of a pipeline is that of its stage
 
