@@ -1,11 +1,11 @@
 -- How many requests, and how many callbacks, there are beside the entries.
-use Rattle.std.proofs.Common.{◌≡◌, ℕ, zero, suc, ◌+◌, ◌-◌, ◌*◌, ◌<◌, ◌≤◌, Bool, true, false, cond, List, [], ◌∷◌, ◌++◌, length, Option, Some, None, refl, sym, ◌∙◌, ap, arith, length-append}
+use Rattle.std.proofs.Common.{◌≡◌, ◌+◌, ◌-◌, ◌*◌, ◌≤◌, Bool, true, false, cond, List, [], ◌∷◌, ◌++◌, length, Option, Some, None, refl, ◌∙◌, ap, arith, length-append}
 use Rattle.std.specs.List.{filter_map, filter, cons_option}
 use Rattle.std.proofs.lemmas.List.Elements.{filter_map-append}
 use Rattle.chain_board.specs.declared.entry.BoardEntry.{BoardEntry}
 use Rattle.chain_board.specs.declared.entry.BoardEntry.TheVariants.{Born, Submit, Take, Finish, Enq, Deq, Done, Hold, Go, Collect, Close, Share, Mask, Shut}
-use Rattle.chain_board.specs.Entries.{Notice, Starts, Completes, accepted_in, submissions, finished, front, completes_from, tells, told_after, told}
-use Rattle.chain_board.specs.Order.{AreRightForAfter, completed_in, completed, started_in, started, numbers_below}
+use Rattle.chain_board.specs.Entries.{Notice, Starts, Completes, accepted_in, submissions, finished, front, tells, told_after, told}
+use Rattle.chain_board.specs.Order.{AreRightForAfter, completed, started_in, started}
 use Rattle.chain_board.proofs.Lists.{length-numbers}
 use Rattle.chain_board.proofs.Fronts.{unbroken-le, none_started}
 use Rattle.chain_board.proofs.Keeping.{orderly}

@@ -6,7 +6,6 @@ use Rattle.std.proofs.lemmas.List.Sums.{sum_by-append}
 use Rattle.chain_board.specs.declared.entry.BoardEntry.{BoardEntry}
 use Rattle.chain_board.specs.declared.entry.BoardEntry.TheVariants.{Born}
 use Rattle.chain_board.specs.declared.pipeline.Pipeline.{Pipeline}
-use Rattle.chain_board.specs.declared.stage.Stage.{Stage}
 use Rattle.chain_board.specs.Shapes.{lists_of, IsShape}
 use Rattle.chain_board.specs.Births.{new_stage, IsNew}
 use Rattle.chain_board.specs.Stages.{MayServe, MayPass}

@@ -1,14 +1,10 @@
 -- What each call on one pipeline does to the board.
-use Rattle.std.proofs.Common.{◌≡◌, ◌≢◌, ℕ, ◌+◌, ◌-◌, ◌*◌, ◌<◌, ◌≤◌, Bool, true, false, cond, ◌||◌, List, [], ◌∷◌, ◌++◌, length, drop, Option, Some, None, is_some, refl, sym, ◌∙◌, ap, subst, arith, inl, inr, ◌⊎◌, get_or}
-use Rattle.std.specs.Prelude.{◌^◌, ◌==◌, nat_lt, slice_set}
+use Rattle.std.proofs.Common.{◌≡◌, ◌≢◌, ℕ, ◌+◌, ◌*◌, ◌<◌, ◌≤◌, Bool, true, false, cond, List, [], ◌∷◌, ◌++◌, length, drop, Option, Some, None, is_some, refl, sym, ◌∙◌, ap, subst, arith, inl, inr, get_or}
+use Rattle.std.specs.Prelude.{◌^◌, slice_set}
 use Rattle.std.specs.List.{filter_map}
-use Rattle.std.specs.Arc.{arc_value}
-use Rattle.std.specs.declared.sync.Arc.{Arc}
-use Rattle.std.specs.declared.alloc.Global.{Global}
 use Rattle.std.proofs.lemmas.Bool.{eq-eqb, or_right}
 use Rattle.std.proofs.lemmas.Option.{slice_get_read}
 use Rattle.std.proofs.lemmas.List.Folds.{list_any-append}
-use Rattle.kc_base.specs.declared.callback_list.Callback.{Callback}
 use Rattle.padata_core.specs.Pad.{ready, running_of}
 use Rattle.chain_board.specs.declared.entry.Shape.{Shape}
 use Rattle.chain_board.specs.declared.entry.BoardEntry.{BoardEntry}
@@ -20,10 +16,10 @@ use Rattle.chain_board.specs.Shapes.{is_pad, has_line, is_born, pad_born, line_b
 use Rattle.chain_board.specs.Stages.{IsPlaced, without_room, unfinished_of, holding, callbacks_of, collected_from, MayServe, MayPass}
 use Rattle.chain_board.specs.Stages as stages
 use Rattle.chain_board.specs.Pipelines.{IsSame, with_lists, IsSpent}
-use Rattle.chain_board.specs.Entries.{is_of, entries_of, birth_in, birth, submissions, front, told, delivered, collected_in, collected, last_or, is_closed, is_shared, mask, has, submitters}
+use Rattle.chain_board.specs.Entries.{is_of, entries_of, birth_in, birth, submissions, front, told, delivered, collected_in, collected, last_or, is_closed, is_shared}
 use Rattle.chain_board.specs.Legal.{IsRight, MayManage, IsOpenPad, IsOpenQueue, IsOpen, is_shut_entry, is_shut}
 use Rattle.chain_board.specs.Order.{AreRightForAfter}
-use Rattle.chain_board.specs.Kept.{IsKeptStage, IsKeptPipe, IsKeptBoard, IsIdle, shape_of, work_owed, owes, owed_by}
+use Rattle.chain_board.specs.Kept.{IsKeptPipe, IsKeptBoard, IsIdle, shape_of, work_owed, owes, owed_by}
 use Rattle.chain_board.proofs.Transfer.{each_right, entries-same}
 use Rattle.chain_board.proofs.Lists.{filter_map-none, filter_map-some, last_or-append}
 use Rattle.chain_board.proofs.Kept.{legal_more, place_step, swap_step, kept_here, closed-same, shared-same, collected-same}

@@ -1,5 +1,5 @@
 -- What one more entry leaves of who made a pipeline, of its marks and of who submitted to it.
-use Rattle.std.proofs.Common.{◌≡◌, ◌≢◌, ℕ, Bool, true, false, ◌||◌, List, [], ◌∷◌, ◌++◌, length, Option, Some, None, is_some, refl, sym, ◌∙◌, ap, subst, inl, inr, ◌⊎◌}
+use Rattle.std.proofs.Common.{◌≡◌, ◌≢◌, ℕ, true, false, ◌||◌, List, [], ◌∷◌, ◌++◌, Option, Some, None, is_some, refl, sym, ◌∙◌, ap, subst, inl, inr, ◌⊎◌}
 use Rattle.std.specs.Prelude.{◌^◌, ◌-◌, ◌==◌}
 use Rattle.std.specs.List.{filter_map}
 use Rattle.std.proofs.Math.Bool.{or-false}

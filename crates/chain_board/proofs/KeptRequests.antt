@@ -1,7 +1,6 @@
 -- What a request that is accepted, or refused, does to the board.
-use Rattle.std.proofs.Common.{◌≡◌, ◌≢◌, ℕ, ◌+◌, ◌-◌, ◌*◌, ◌<◌, ◌≤◌, Bool, true, false, cond, ◌||◌, List, [], ◌∷◌, ◌++◌, length, Option, Some, None, is_some, refl, sym, ◌∙◌, ap, subst, arith, get_or, length-append}
+use Rattle.std.proofs.Common.{◌≡◌, ◌≢◌, ℕ, ◌+◌, ◌<◌, ◌≤◌, Bool, true, false, cond, ◌||◌, List, [], ◌∷◌, ◌++◌, length, Some, None, is_some, refl, sym, ◌∙◌, ap, subst, arith, get_or, length-append}
 use Rattle.std.specs.Prelude.{◌==◌, ◌&&◌, nat_lt, slice_set}
-use Rattle.std.specs.List.{filter_map}
 use Rattle.std.specs.Arc.{arc_value}
 use Rattle.std.specs.declared.sync.Arc.{Arc}
 use Rattle.std.specs.declared.alloc.Global.{Global}
@@ -20,12 +19,11 @@ use Rattle.chain_board.specs.declared.pipeline.Pipeline.{Pipeline}
 use Rattle.chain_board.specs.declared.stage.Chained.{Chained}
 use Rattle.chain_board.specs.declared.stage.Stage.{Stage}
 use Rattle.chain_board.specs.declared.stage.Stage.TheVariants as stage
-use Rattle.chain_board.specs.Shapes.{max_born, pad_born, line_born, width_born}
-use Rattle.chain_board.specs.Stages.{is_pad, has_line, IsPlaced, without_room, accepted_of, answer_of, entered_on, with_waiting, after_entered, with_job, MayPass}
-use Rattle.chain_board.specs.Pipelines.{IsSame, NotesCaller, is_accepted, accepts, line_accepts, work_each, work_after}
-use Rattle.chain_board.specs.Entries.{Notice, is_of, entries_of, birth, accepted_in, submissions, dequeued_in, dequeued, passed_on, waiting, verdict, taken_in, finished_in, tells, held_in, is_closed, mask, has, submitters}
+use Rattle.chain_board.specs.Shapes.{pad_born, line_born, width_born}
+use Rattle.chain_board.specs.Stages.{is_pad, has_line, IsPlaced, without_room, accepted_of, answer_of, entered_on, after_entered, with_job, MayPass}
+use Rattle.chain_board.specs.Pipelines.{IsSame, NotesCaller, is_accepted, accepts, work_each, work_after}
+use Rattle.chain_board.specs.Entries.{Notice, is_of, entries_of, birth, accepted_in, submissions, dequeued_in, dequeued, passed_on, waiting, verdict, taken_in, finished_in, tells, held_in, mask, has, submitters}
 use Rattle.chain_board.specs.Legal.{IsRight, MaySubmit, IsOpenPad, IsOpenQueue}
-use Rattle.chain_board.specs.Order.{AreRightForAfter}
 use Rattle.chain_board.specs.Allowance.{used_at, IsKeptUsed}
 use Rattle.chain_board.specs.Kept.{IsKeptLine, IsKeptStage, IsKeptPipe, IsKeptBoard, shape_of, work_owed, owes, owed_by}
 use Rattle.chain_board.proofs.Lists.{filter_map-none}

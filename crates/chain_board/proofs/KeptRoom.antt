@@ -1,9 +1,8 @@
 -- The room that is kept for more requests is no matter.
-use Rattle.std.proofs.Common.{◌≡◌, ◌≢◌, ℕ, ◌+◌, ◌<◌, ◌≤◌, Bool, true, false, ◌||◌, cond, List, [], ◌∷◌, ◌++◌, length, refl, sym, ◌∙◌, ap, subst, inl, inr, ◌⊎◌}
+use Rattle.std.proofs.Common.{◌≡◌, ℕ, Bool, true, false, ◌||◌, List, [], refl, sym, ◌∙◌, ap, subst, inl, inr, ◌⊎◌}
 use Rattle.std.specs.Prelude.{◌&&◌, ◌==◌}
 use Rattle.padata_core.specs.Pad.{Pad, ready}
 use Rattle.cryptd.specs.Server.{Server}
-use Rattle.chain_board.specs.declared.entry.Shape.{Shape}
 use Rattle.chain_board.specs.declared.entry.Entered.{Entered}
 use Rattle.chain_board.specs.declared.entry.Entered.TheVariants.{InProgress, Busy, NoSpace}
 use Rattle.chain_board.specs.declared.entry.BoardEntry.{BoardEntry}

@@ -1,27 +1,21 @@
 -- What stands behind a pipeline, after an entry that takes nothing in or out, after a hold, and after a collect.
-use Rattle.std.proofs.Common.{◌≡◌, ℕ, zero, suc, ◌+◌, ◌<◌, ◌≤◌, Bool, true, false, cond, List, [], ◌∷◌, ◌++◌, length, take, drop, Option, Some, None, is_some, refl, sym, ◌∙◌, ap, subst, arith, inl, inr, ◌⊎◌, length-append}
-use Rattle.std.specs.List.{filter_map}
+use Rattle.std.proofs.Common.{◌≡◌, ℕ, zero, suc, ◌+◌, ◌<◌, ◌≤◌, Bool, true, false, cond, List, [], ◌∷◌, ◌++◌, length, Some, None, is_some, refl, sym, ◌∙◌, ap, arith, inl, inr, ◌⊎◌}
 use Rattle.std.proofs.lemmas.Bool.{cases_lt}
-use Rattle.std.proofs.lemmas.List.Elements.{filter_map-append}
-use Rattle.std.proofs.Math.Seq.{take-length}
-use Rattle.kc_base.specs.declared.callback_list.Callback.{Callback}
 use Rattle.padata_core.specs.Pad.{Pad, ready, done_from, running_of}
 use Rattle.cryptd.specs.Server.{Server}
-use Rattle.chain_board.specs.declared.entry.Shape.{Shape}
-use Rattle.chain_board.specs.declared.entry.Shape.TheVariants as shape
 use Rattle.chain_board.specs.declared.entry.BoardEntry.{BoardEntry}
-use Rattle.chain_board.specs.declared.entry.BoardEntry.TheVariants.{Born, Submit, Take, Finish, Enq, Deq, Done, Hold, Go, Collect, Close, Share, Mask, Shut}
+use Rattle.chain_board.specs.declared.entry.BoardEntry.TheVariants.{Collect}
 use Rattle.chain_board.specs.declared.stage.Stage.{Stage}
 use Rattle.chain_board.specs.declared.stage.Stage.TheVariants as stage
-use Rattle.chain_board.specs.Stages.{has_line, emptied, unfinished_of, holding, callbacks_of, collected_from, MayServe, MayPass}
+use Rattle.chain_board.specs.Stages.{has_line, unfinished_of, holding, callbacks_of, collected_from}
 use Rattle.chain_board.specs.Pipelines.{with_lists, IsSpent}
 use Rattle.chain_board.specs.Shapes.{pad_born, queue_born, line_born}
-use Rattle.chain_board.specs.Entries.{Notice, Starts, Completes, birth, accepted_in, submissions, dequeued_in, dequeued, passed_on, taken_in, finished_in, finished, unbroken, front, tells, told_after, told, held_in, collected, delivered, completes_from}
-use Rattle.chain_board.specs.Order.{AreRightForAfter, completed_in, completed, started_in, started, handed_out, numbers_below}
-use Rattle.chain_board.specs.Kept.{IsKeptLine, IsKeptPad, IsKeptStage, IsIdle, shape_of, work_owed}
-use Rattle.chain_board.proofs.Lists.{filter_map-none, length-numbers}
-use Rattle.chain_board.proofs.Fronts.{unbroken-le, unbroken_numbers, none_started}
-use Rattle.chain_board.proofs.Keeping.{IsOrderly, orderly, passed-le}
+use Rattle.chain_board.specs.Entries.{birth, accepted_in, submissions, dequeued_in, dequeued, passed_on, taken_in, finished_in, finished, unbroken, front, tells, told, held_in, collected, delivered, completes_from}
+use Rattle.chain_board.specs.Order.{AreRightForAfter}
+use Rattle.chain_board.specs.Kept.{IsKeptLine, IsKeptPad, IsKeptStage, shape_of}
+use Rattle.chain_board.proofs.Lists.{filter_map-none}
+use Rattle.chain_board.proofs.Fronts.{unbroken_numbers}
+use Rattle.chain_board.proofs.Keeping.{orderly, passed-le}
 use Rattle.chain_board.proofs.Starting.{front_passed, pad_no_line}
 use Rattle.chain_board.proofs.PadsAndQueues.{pad_tells}
 use Rattle.chain_board.proofs.Callbacks.{length-done}

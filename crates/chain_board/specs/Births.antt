@@ -1,5 +1,5 @@
 -- A pipeline that was just made.
-use Rattle.std.specs.Prelude.{◌≡◌, ℕ, ◌-◌, ◌≤◌, ◌^◌, false, [], length}
+use Rattle.std.specs.Prelude.{◌≡◌, ℕ, ◌-◌, ◌^◌, false, []}
 use Rattle.padata_core.specs.Pad.{Pad}
 use Rattle.cryptd.specs.Server.{Server}
 use Rattle.chain_board.specs.declared.entry.Shape.{Shape}

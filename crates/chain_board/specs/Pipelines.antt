@@ -1,5 +1,5 @@
 -- What the calls on one pipeline leave of it.
-use Rattle.std.specs.Prelude.{◌≡◌, ◌≢◌, ◌⊎◌, ℕ, ◌+◌, ◌<◌, if◌then◌else◌, Bool, true, false, ◌==◌, nat_lt, ◌&&◌, ◌||◌, List, [], length}
+use Rattle.std.specs.Prelude.{◌≡◌, ◌≢◌, ℕ, if◌then◌else◌, Bool, true, false, ◌==◌, nat_lt, ◌&&◌, ◌||◌, [], length}
 use Rattle.padata_core.specs.Pad.{Pad}
 use Rattle.cryptd.specs.Server.{Server}
 use Rattle.chain_board.specs.declared.entry.Entered.{Entered}
@@ -8,7 +8,7 @@ use Rattle.chain_board.specs.declared.pipeline.Pipeline.{Pipeline}
 use Rattle.chain_board.specs.declared.stage.Stage.{Stage}
 use Rattle.chain_board.specs.declared.stage.Stage.TheVariants as stage
 use Rattle.chain_board.specs.Entries.{has}
-use Rattle.chain_board.specs.Stages.{bare, bare_pad, without_room}
+use Rattle.chain_board.specs.Stages.{without_room}
 
 -- all but the room that is kept for more requests is the same
 pub record IsSame {J O : Type 0} (old new : Pipeline J O) : Type 0 where

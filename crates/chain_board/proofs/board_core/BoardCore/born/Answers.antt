@@ -1,4 +1,4 @@
-use Rattle.std.proofs.Common.{arith, ◌≡◌, length, ◌∙◌, refl, subst, sym, false}
+use Rattle.std.proofs.Common.{arith, ◌≡◌, length, ◌∙◌, refl, subst, false}
 use Rattle.chain_board.specs.declared.pipeline.Pipeline.{Pipeline}
 use Rattle.chain_board.specs.declared.entry.BoardEntry.TheVariants.{Born}
 use Rattle.chain_board.specs.Ready.{HasJob, HasRequest}

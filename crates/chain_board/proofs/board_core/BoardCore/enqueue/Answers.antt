@@ -1,16 +1,14 @@
-use Rattle.chain_board.specs.declared.pipeline.Pipeline.{Pipeline}
-use Rattle.std.proofs.Common.{arith, ◌≡◌, ◌<◌, ◌+◌, length, Some, sym, ◌∙◌, ap, subst, refl}
+use Rattle.std.proofs.Common.{arith, ◌≡◌, sym, ◌∙◌, ap, subst, refl}
 use Rattle.chain_board.specs.declared.entry.BoardEntry.TheVariants.{Enq}
 use Rattle.chain_board.specs.Shapes.{has_line}
-use Rattle.chain_board.specs.Entries.{entries_of, submissions, verdict, mask}
+use Rattle.chain_board.specs.Entries.{entries_of, verdict}
 use Rattle.chain_board.specs.Ready.{HasJob, HasRequest}
 use Rattle.chain_board.specs.Legal.{MaySubmit, IsOpenQueue}
-use Rattle.chain_board.proofs.KeptUsed.{used_more}
 use Rattle.chain_board.proofs.Kept.{shut-same, within_board}
-use Rattle.chain_board.proofs.KeptRoom.{serve_same, pass_same, notes_same, job_same, after_same, answer_same, accepts_same, is_pad_same, line_same, each_same}
-use Rattle.chain_board.proofs.KeptCalls.{open_here, pad_here, line_here, room_step, same_item}
+use Rattle.chain_board.proofs.KeptRoom.{serve_same, pass_same, notes_same, after_same, answer_same, line_same}
+use Rattle.chain_board.proofs.KeptCalls.{open_here, line_here, room_step}
 use Rattle.chain_board.specs.Pipelines.{is_accepted, work_after}
-use Rattle.chain_board.proofs.KeptRequests.{work_same, few_submissions, few_entries, accepts_is, used_answer, accepted_here, mask_here, submit_step, enqueue_step, job_passes}
+use Rattle.chain_board.proofs.KeptRequests.{work_same, few_submissions, few_entries, accepts_is, used_answer, accepted_here, enqueue_step}
 use Rattle.chain_board.proofs.InLine.{ready_same, ready_added, all_but}
 use Rattle.chain_board.proofs.board_core.BoardCore.enqueue.Goals as goal
 

@@ -1,4 +1,4 @@
-use Rattle.std.proofs.Common.{arith, ◌≡◌, [], ◌∷◌, ◌++◌, ap, sym, ◌∙◌, subst, refl}
+use Rattle.std.proofs.Common.{arith, [], ◌∷◌, ◌++◌, ap, sym, ◌∙◌, subst, refl}
 use Rattle.chain_board.specs.declared.entry.BoardEntry.TheVariants.{Collect}
 use Rattle.chain_board.specs.Entries.{entries_of}
 use Rattle.chain_board.specs.Ready.{HasJob, HasRequest}
