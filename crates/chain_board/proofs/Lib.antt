@@ -25,3 +25,4 @@ pub mod KeptStage
 pub mod KeptBorn
 pub mod KeptCalls
 pub mod KeptRequests
+pub mod Staying
