@@ -26,3 +26,4 @@ pub mod KeptBorn
 pub mod KeptCalls
 pub mod KeptRequests
 pub mod Staying
+pub mod Drained
