@@ -29,3 +29,5 @@ pub mod KeptStage
 pub mod KeptBorn
 pub mod KeptCalls
 pub mod KeptRequests
+pub mod Staying
+pub mod Drained

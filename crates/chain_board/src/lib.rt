@@ -8,6 +8,7 @@ mod closing;
 mod entering;
 mod entry;
 mod handing_out;
+mod lasting;
 mod laws;
 mod log;
 mod mask;
@@ -26,6 +27,10 @@ pub use entry::{BoardEntry, Entered, Shape};
 pub use laws::{
     collects_hand_out_all, completions_in_order, fronts_tell_all, legal_chains, legal_masks,
     legal_pads, legal_queues, pads_and_queues_tell, starts_of_the_backlog,
+};
+pub use lasting::{
+    collects_hand_out, entries_join, masks_stay, only_collects_hand_out, others_leave,
+    pipelines_stay, queues_hold, slips_stay, work_ends,
 };
 pub use log::BoardLog;
 pub use work::Work;
