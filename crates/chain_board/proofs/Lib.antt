@@ -31,3 +31,5 @@ pub mod KeptCalls
 pub mod KeptRequests
 pub mod Staying
 pub mod Drained
+pub mod Ends
+pub mod Closed
