@@ -27,3 +27,4 @@ pub mod KeptCalls
 pub mod KeptRequests
 pub mod Staying
 pub mod Drained
+pub mod Others
