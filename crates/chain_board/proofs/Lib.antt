@@ -16,11 +16,15 @@ pub mod KeptTaking
 pub mod KeptEntering
 pub mod KeptQueue
 pub mod KeptCollect
+pub mod Counting
 pub mod Kept
 pub mod KeptUsed
+pub mod Admitting
+pub mod KeptWork
+pub mod KeptFinish
+pub mod KeptPassOn
 pub mod KeptMarks
 pub mod KeptRoom
-pub mod Counting
 pub mod KeptStage
 pub mod KeptBorn
 pub mod KeptCalls

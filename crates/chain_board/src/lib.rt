@@ -20,6 +20,7 @@ mod serving;
 mod stage;
 mod submitting;
 mod work;
+mod working;
 
 pub use board_core::{BoardCore, BoardErr};
 pub use entry::{BoardEntry, Entered, Shape};
@@ -33,3 +34,4 @@ pub use lasting::{
 };
 pub use log::BoardLog;
 pub use work::Work;
+pub use working::{Slip, Taken};
