@@ -32,3 +32,5 @@ pub mod KeptRequests
 pub mod Staying
 pub mod Drained
 pub mod Others
+pub mod Ends
+pub mod Closed
