@@ -31,5 +31,6 @@ pub mod KeptCalls
 pub mod KeptRequests
 pub mod Staying
 pub mod Drained
+pub mod Others
 pub mod Ends
 pub mod Closed
