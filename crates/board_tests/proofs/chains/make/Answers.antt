@@ -1,0 +1,10 @@
+use Rattle.std.proofs.Common.{refl, subst}
+use Rattle.chain_board.specs.declared.entry.Shape.TheVariants.{Chain}
+use Rattle.chain_board.specs.Shapes.{has_line}
+use Rattle.chain_board.specs.Legal.{LegalBoard}
+use Rattle.board_tests.proofs.chains.make.Goals as goal
+
+pub returns : goal.returns
+returns g c =
+    let made = c.in_ok-pipe.ensures.made.1 in
+    rw made (c.pipelines_stay.ensures.born has_line _ 0 c.in_ok-pipe.pipe (Chain 2 3) (subst (λ h. LegalBoard h) made c.in_ok-pipe.ensures.legal) refl)

@@ -1,0 +1,16 @@
+pub mod Shapes
+pub mod Entries
+pub mod Legal
+pub mod Order
+pub mod Examples
+pub mod Stages
+pub mod Kept
+pub mod Pipelines
+pub mod Births
+pub mod Allowance
+pub mod Slips
+pub mod Ready
+pub mod Staying
+pub mod Handing
+pub mod Others
+pub mod Ends
