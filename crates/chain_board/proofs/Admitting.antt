@@ -1,18 +1,15 @@
 -- Who may take the jobs of a pipeline, as it is kept.
-use Rattle.std.proofs.Common.{◌≡◌, ℕ, true, false, List, [], ◌∷◌, ◌++◌, Option, Some, None, is_some, refl, sym, ◌∙◌, ap, subst, inl, inr, ◌⊎◌}
+use Rattle.std.proofs.Common.{◌≡◌, ℕ, true, false, List, Option, Some, refl, sym, ◌∙◌, ap, subst, inl, inr, ◌⊎◌}
 use Rattle.chain_board.specs.declared.entry.Shape.{Shape}
 use Rattle.chain_board.specs.declared.entry.BoardEntry.{BoardEntry}
 use Rattle.chain_board.specs.declared.pipeline.Pipeline.{Pipeline}
 use Rattle.chain_board.specs.declared.stage.Stage.{Stage}
 use Rattle.chain_board.specs.declared.stage.Stage.TheVariants as stage
 use Rattle.chain_board.specs.Shapes.{is_serial, queue_born, width_born}
-use Rattle.chain_board.specs.Entries.{birth, is_close, is_share, masked_in, mask, submitter_in, submitters, collected_in, has, maker_is, IsMaker, IsMasked, MayTake}
+use Rattle.chain_board.specs.Entries.{birth, mask, submitters, has, maker_is, IsMaker, IsMasked, MayTake}
 use Rattle.chain_board.specs.Stages.{is_queue}
 use Rattle.chain_board.specs.Ready.{Admits}
-use Rattle.chain_board.specs.Kept.{shape_of, IsIdle, IsKeptStage, IsKeptPipe}
-use Rattle.chain_board.proofs.Lists.{filter_map-none}
-use Rattle.chain_board.proofs.Keeping.{birth_stays}
-use Rattle.chain_board.proofs.Kept.{closed-same, shared-same, collected-same}
+use Rattle.chain_board.specs.Kept.{shape_of, IsKeptPipe}
 
 -- ---- the shape of a pipeline is that of its stage
 

@@ -1,5 +1,5 @@
 -- What collects hand out, entry by entry, and when all is handed out.
-use Rattle.std.proofs.Common.{◌≡◌, ℕ, zero, suc, ◌+◌, ◌-◌, ◌<◌, ◌≤◌, Bool, true, false, cond, ◌||◌, List, [], ◌∷◌, ◌++◌, length, map, take, drop, Option, Some, None, is_some, refl, sym, ◌∙◌, ap, subst, arith, append-nil, append_assoc, length-append, inl, inr, ◌⊎◌}
+use Rattle.std.proofs.Common.{◌≡◌, ℕ, zero, suc, ◌+◌, ◌-◌, ◌<◌, ◌≤◌, Bool, true, false, cond, ◌||◌, List, [], ◌∷◌, ◌++◌, length, map, take, drop, Option, Some, None, refl, sym, ◌∙◌, ap, subst, arith, append-nil, append_assoc, length-append, inl, inr, ◌⊎◌}
 use Rattle.std.specs.Prelude.{◌==◌, slice_get}
 use Rattle.std.specs.List.{filter_map}
 use Rattle.std.proofs.lemmas.Bool.{eq-eqb, or_left, or_right, or_cases, cases_lt}
@@ -16,13 +16,13 @@ use Rattle.chain_board.specs.declared.entry.BoardEntry.TheVariants.{Born, Submit
 use Rattle.chain_board.specs.Shapes.{line_born, pad_born}
 use Rattle.chain_board.specs.Entries.{Notice, Starts, Completes, is_of, entries_of, birth_in, birth, first, accepted_in, submissions, dequeued_in, dequeues, dequeued, passed_on, finished_in, finished, has, front, completes_from, tells, told, collected, callback_of}
 use Rattle.chain_board.specs.Legal.{IsRightFor}
-use Rattle.chain_board.specs.Order.{handed_in, handed_after, handed_out, AreRightForAfter, completed_in, completed, numbers_below}
+use Rattle.chain_board.specs.Order.{handed_in, handed_after, handed_out, AreRightForAfter, completed_in, completed}
 use Rattle.chain_board.specs.Staying.{Joins, LeavesOthers, BeginsAlone, IsDrained}
 use Rattle.chain_board.specs.Handing.{is_collect, HandsNothing, HandsOutAtMost, completions, CollectHandsOut, AllHandedOutIsDrained}
-use Rattle.chain_board.proofs.Transfer.{before_last, right_for, entries-more, entries-same, each_right}
+use Rattle.chain_board.proofs.Transfer.{before_last, entries-more, entries-same, each_right}
 use Rattle.chain_board.proofs.Lists.{filter_map-none, filter_map-some, length-numbers}
 use Rattle.chain_board.proofs.Fronts.{unbroken-le, front_grows, completes_on}
-use Rattle.chain_board.proofs.Keeping.{IsOrderly, orderly_start, orderly_step, orderly, passed-le, told-more, front-same, front-accepted, born_some}
+use Rattle.chain_board.proofs.Keeping.{IsOrderly, orderly_start, orderly_step, orderly, passed-le, told-more, front-same, front-accepted}
 use Rattle.chain_board.proofs.Starting.{front_passed, pad_no_line}
 use Rattle.chain_board.proofs.Handing.{handed_below}
 use Rattle.chain_board.proofs.KeptEntering.{completed_low}

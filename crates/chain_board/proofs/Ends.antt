@@ -1,5 +1,5 @@
 -- Where each request is finished, no work is left.
-use Rattle.std.proofs.Common.{◌≡◌, ◌≢◌, ℕ, ◌<◌, ◌≤◌, Bool, true, false, cond, ◌||◌, List, [], ◌∷◌, ◌++◌, length, map, Option, Some, None, is_some, refl, sym, ◌∙◌, ap, subst, arith, append-nil, append_assoc, ◌⊎◌, inl, inr, ⊎_elim}
+use Rattle.std.proofs.Common.{◌≡◌, ◌≢◌, ℕ, ◌<◌, Bool, true, false, cond, ◌||◌, List, [], ◌∷◌, ◌++◌, length, map, Some, None, is_some, refl, sym, ◌∙◌, ap, subst, arith, append-nil, append_assoc, ◌⊎◌, inl, inr, ⊎_elim}
 use Rattle.std.specs.Prelude.{◌==◌}
 use Rattle.std.specs.List.{list_all, filter, filter_map}
 use Rattle.std.proofs.lemmas.Bool.{eqb-true, or_cases, and_parts, both_ways}
@@ -8,7 +8,7 @@ use Rattle.std.proofs.lemmas.List.Elements.{filter-append, filter_map-append}
 use Rattle.chain_board.specs.declared.entry.BoardEntry.{BoardEntry}
 use Rattle.chain_board.specs.declared.entry.BoardEntry.TheVariants.{Born, Submit, Take, Finish, Enq, Deq, Done, Hold, Go, Collect, Close, Share, Mask, Shut}
 use Rattle.chain_board.specs.Shapes.{is_pad, has_line, has_lists, is_serial, queue_born, line_born}
-use Rattle.chain_board.specs.Entries.{entries_of, birth, submissions, dequeued_in, dequeues, dequeued, passed_on, waiting, taken_in, takings, takers, finished_in, finished, has, front}
+use Rattle.chain_board.specs.Entries.{entries_of, birth, submissions, dequeued_in, dequeues, dequeued, passed_on, waiting, taken_in, takers, finished_in, finished, has, front}
 use Rattle.chain_board.specs.Legal.{IsRightFor, AreRightAfter, LegalBoard}
 use Rattle.chain_board.specs.Order.{AreRightForAfter}
 use Rattle.chain_board.specs.Staying.{is_work}

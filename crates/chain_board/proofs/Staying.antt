@@ -1,6 +1,6 @@
 -- What stays of a pipeline while a history goes on.
-use Rattle.std.proofs.Common.{◌≡◌, ◌≢◌, ℕ, zero, suc, ◌<◌, Bool, true, false, cond, ◌||◌, List, [], ◌∷◌, ◌++◌, length, map, Option, Some, None, is_some, refl, sym, ◌∙◌, ap, subst, arith, append-nil, append_assoc, ◌⊎◌, inl, inr}
-use Rattle.std.specs.Prelude.{◌==◌, ◌^◌, ◌-◌, slice_get}
+use Rattle.std.proofs.Common.{◌≡◌, ◌≢◌, ℕ, zero, suc, ◌<◌, Bool, true, false, cond, ◌||◌, List, [], ◌∷◌, ◌++◌, length, map, Option, Some, None, refl, sym, ◌∙◌, ap, subst, arith, append-nil, append_assoc, ◌⊎◌, inl, inr}
+use Rattle.std.specs.Prelude.{◌==◌, slice_get}
 use Rattle.std.specs.List.{filter_map, filter}
 use Rattle.std.proofs.lemmas.Bool.{eqb-true, eq-eqb, false_from_ne_true, or_left, or_from}
 use Rattle.std.proofs.lemmas.List.{map-append}
@@ -9,8 +9,8 @@ use Rattle.std.proofs.lemmas.List.Elements.{filter_map-append, filter-append}
 use Rattle.chain_board.specs.declared.entry.Shape.{Shape}
 use Rattle.chain_board.specs.declared.entry.BoardEntry.{BoardEntry}
 use Rattle.chain_board.specs.declared.entry.BoardEntry.TheVariants.{Born, Submit, Take, Finish, Enq, Deq, Done, Hold, Go, Collect, Close, Share, Mask, Shut}
-use Rattle.chain_board.specs.Shapes.{is_born, has_lists, queue_born, width_born, lists_of}
-use Rattle.chain_board.specs.Entries.{is_of, entries_of, birth_in, birth, first, starts, dequeued, dequeued_in, dequeues, held_in, is_held, accepted_in, submissions, taken_in, takings, takers, finished_in, finished, has, is_share, is_shared, masked_in, mask, meaning_at, caller_of, collected_in, collected, last_or, tells, told, front, maker_is, IsMaker}
+use Rattle.chain_board.specs.Shapes.{is_born, has_lists, queue_born}
+use Rattle.chain_board.specs.Entries.{is_of, entries_of, birth_in, birth, first, starts, dequeued, dequeued_in, dequeues, held_in, is_held, accepted_in, submissions, taken_in, takings, takers, finished_in, finished, has, is_share, is_shared, masked_in, mask, meaning_at, caller_of, collected_in, collected, last_or, told, maker_is, IsMaker}
 use Rattle.chain_board.specs.Legal.{IsRight, IsRightFor, AreRightAfter, MayFinish}
 use Rattle.chain_board.specs.Order.{AreRightForAfter, numbers_below}
 use Rattle.chain_board.specs.Staying.{Opens, StaysOpen, StaysManaged, StaysSubmitting, BornServed, Holds, StaysHeld, BornMasked, Masks, StaysMasked, SlipStays, CollectDrains, is_work, WorkLeaves, IsWorkOf, TakingIsWork, FinishingIsWork, PassingIsWork}

@@ -5,7 +5,7 @@ use Rattle.chain_board.specs.declared.entry.BoardEntry.{BoardEntry}
 use Rattle.chain_board.specs.declared.entry.BoardEntry.TheVariants.{Born, Take, Finish, Deq, Done, Hold, Go, Collect, Mask}
 use Rattle.chain_board.specs.Shapes.{lists_of}
 use Rattle.chain_board.specs.Entries.{is_of, entries_of, birth_in, submissions, front, told, collected, is_close, held_in, is_held, masked_in, mask, is_shared, caller_of, take_entry, finish_entry, pass_entry}
-use Rattle.chain_board.specs.Legal.{IsOpenAs, IsOpen, MaySubmit, MayManage, MayFinish, LegalBoard}
+use Rattle.chain_board.specs.Legal.{IsOpenAs, MaySubmit, MayManage, MayFinish, LegalBoard}
 
 -- an entry of the pipeline comes after those before it
 abbrev pub Joins : {A : Type 0} → List (BoardEntry A) → BoardEntry A → ℕ → Type 0
