@@ -1,8 +1,8 @@
 -- What one more entry is to a history, what it leaves, and how a pipeline's requests are numbered.
-use Rattle.std.specs.Prelude.{◌≡◌, ◌≢◌, ℕ, ◌+◌, ◌<◌, ◌≤◌, Bool, true, false, List, [], ◌∷◌, ◌++◌, length, map, Option, Some, None, is_some}
+use Rattle.std.specs.Prelude.{◌≡◌, ◌≢◌, ℕ, ◌+◌, ◌<◌, ◌≤◌, true, false, List, [], ◌∷◌, ◌++◌, length, map, None, is_some}
 use Rattle.chain_board.specs.declared.entry.BoardEntry.{BoardEntry}
 use Rattle.chain_board.specs.Shapes.{is_serial}
-use Rattle.chain_board.specs.Entries.{is_of, entries_of, birth, accepted_in, submissions, dequeued_in, dequeues, dequeued, passed_on, taken_in, takers, finished_in, finished, has, front, is_close, is_closed, is_share, is_shared, collected_in, collected, held_in, is_held}
+use Rattle.chain_board.specs.Entries.{is_of, entries_of, birth, accepted_in, submissions, dequeued_in, dequeues, dequeued, passed_on, taken_in, takers, finished_in, finished, has, front, is_close, is_closed, is_share, is_shared, collected_in, collected}
 use Rattle.chain_board.specs.Legal.{IsRight, IsRightFor, Is, LegalBoard, is_shut_entry, is_shut}
 use Rattle.chain_board.specs.Order.{AreRightForAfter, numbers_below}
 
