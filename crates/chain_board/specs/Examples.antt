@@ -16,6 +16,17 @@ abbrev pub crossed_chain : {A : Type 0} → (a b c : Arc A Global) → List (Boa
 crossed_chain a b c =
     held_chain a b c ++ Go 0 0 ∷ Deq 2 0 0 (Some 1) ∷ Deq 1 0 1 (Some 2) ∷ Take 1 0 0 ∷ Take 2 0 1 ∷ Finish 2 0 1 ∷ []
 
+-- a chain of two that wait, and three lists, gets three requests while it is held
+abbrev pub three_held : {A : Type 0} → (a b c : Arc A Global) → List (BoardEntry A)
+three_held a b c =
+    Born 0 0 (Chain 2 3) ∷ Hold 0 0 ∷ Enq 0 0 a false (InProgress 0) ∷ Enq 0 0 b false (InProgress 1) ∷ Enq 0 0 c true (Busy 2) ∷ []
+
+-- it is let go, all three go on, and three workers finish them backwards
+abbrev pub backward_chain : {A : Type 0} → (a b c : Arc A Global) → List (BoardEntry A)
+backward_chain a b c =
+    three_held a b c
+    ++ Go 0 0 ∷ Deq 1 0 0 (Some 2) ∷ Deq 2 0 1 None ∷ Deq 3 0 2 None ∷ Take 1 0 0 ∷ Take 2 0 1 ∷ Take 3 0 2 ∷ Finish 3 0 2 ∷ Finish 2 0 1 ∷ Finish 1 0 0 ∷ []
+
 -- a pad of two lists whose mask is emptied after a request, and then has the second worker alone
 abbrev pub masked_pad : {A : Type 0} → (a b : Arc A Global) → List (BoardEntry A)
 masked_pad a b = Born 0 0 (Pad 2) ∷ Submit 0 0 0 a ∷ Mask 0 0 0 ∷ []

@@ -11,7 +11,7 @@ ghost use Rattle.chain_board.specs.declared.entry.BoardEntry.TheVariants.{Submit
 ghost use Rattle.chain_board.specs.Entries.{Starts, Completes, told, front, entries_of, delivered};
 ghost use Rattle.chain_board.specs.Legal.{IsRight, LegalBoard};
 ghost use Rattle.chain_board.specs.Order.{KeepsOrder, HandsOutTold, HandsOutInOrder, WaitsForEach, HandsOutAll, FrontIsFinished, FrontIsGreatest, FrontIsAll, PadTellsFront, QueueTellsSteps, StartsBackloggedAlone, StartsEachOnce, StartsBeforeCompletion};
-ghost use Rattle.chain_board.specs.Examples.{held_chain, crossed_chain, masked_pad, second_alone, held_requests, held_queue, second_first, first_alone};
+ghost use Rattle.chain_board.specs.Examples.{held_chain, crossed_chain, backward_chain, masked_pad, second_alone, held_requests, held_queue, second_first, first_alone};
 
 /// In every legal history each pipeline completes its requests in their order, each once, however its jobs were taken and
 /// finished, and hands out a front of what it told.
@@ -49,13 +49,17 @@ pub fn pads_and_queues_tell<A>()
     ensures queues { (h : List (BoardEntry A)) (q : ℕ) → QueueTellsSteps h q }
 {}
 
-/// A chain whose second request is finished first has a legal history, and hands out each callback once, in order. What
-/// waits in line isn't taken, a held chain passes nothing on, and a chain's job has no Done.
+/// A chain whose second request is finished first has a legal history, and hands out each callback once, in order; and so has
+/// one whose three requests are finished backwards. What waits in line isn't taken, a held chain passes nothing on, the first
+/// that waits past the bound is told that it started, a chain's job has no Done, and its mask stays full.
 pub fn legal_chains()
     ensures legal { (a b c : Arc ℕ Global) → LegalBoard (crossed_chain a b c ++ Collect 0 0 2 ∷ Finish 1 0 0 ∷ Deq 3 0 2 None ∷ Take 0 0 2 ∷ Finish 0 0 2 ∷ Collect 0 0 5 ∷ Close 0 0 ∷ []) }
     ensures told { (a b c : Arc ℕ Global) → told (entries_of 0 (crossed_chain a b c ++ Finish 1 0 0 ∷ [])) ≡ Starts 1 ∷ Starts 2 ∷ Completes 0 ∷ Completes 1 ∷ [] }
     ensures handed { (a b c : Arc ℕ Global) → delivered (λ n. n + 1) (entries_of 0 (crossed_chain a b c ++ Collect 0 0 2 ∷ Finish 1 0 0 ∷ [])) 4 ≡ Callback.Done 0 (arc_value a + 1) ∷ Callback.Done 1 (arc_value b + 1) ∷ [] }
+    ensures backwards { (a b c : Arc ℕ Global) → LegalBoard (backward_chain a b c ++ Collect 0 0 4 ∷ Close 0 0 ∷ []) }
+    ensures order { (a b c : Arc ℕ Global) → told (entries_of 0 (backward_chain a b c)) ≡ Starts 2 ∷ Completes 0 ∷ Completes 1 ∷ Completes 2 ∷ [] }
     ensures held { (a b c : Arc ℕ Global) → ¬ IsRight (held_chain a b c) (Deq 1 0 0 (Some 1)) }
+    ensures newest { (a b c : Arc ℕ Global) → ¬ IsRight (held_chain a b c ++ Go 0 0 ∷ []) (Deq 1 0 0 (Some 2)) }
     ensures in_line { (a b c : Arc ℕ Global) → ¬ IsRight (crossed_chain a b c) (Take 1 0 2) }
     ensures done { (a b c : Arc ℕ Global) → ¬ IsRight (crossed_chain a b c) (Done 1 0 0) }
     ensures early { (a b c : Arc ℕ Global) → ¬ IsRight (crossed_chain a b c) (Collect 0 0 3) }

@@ -39,7 +39,7 @@ impl<W: Work> BoardCore<W> {
     /// waits, where the queue is neither held nor busy. `None` exactly where there is none. No memory is taken.
     pub fn take(&mut self, caller: u32) -> Option<Taken<W>>
         ensures taken { MatchOption result ((self.new ≡ self.old) × NoneFor self.old caller) (λ t. (self.new ≡ self.old ++ take_entry self.old caller t.slip.pipe t.slip.number ∷ []) × (slice_get (submissions (entries_of t.slip.pipe self.old)) t.slip.number ≡ Some (W.asked t.job))) }
-        ensures finishing { IfSome result (λ t. MayFinish W.meaning (entries_of t.slip.pipe self.new) caller t.slip.number (W.meaning (W.asked t.job))) }
+        ensures ready { IfSome result (λ t. MayFinish W.meaning (entries_of t.slip.pipe self.new) caller t.slip.number (W.meaning (W.asked t.job))) }
         ensures legal { LegalBoard self.new }
     {
         let p = next_job(&self.pipes, &mut self.ready, caller)?;

@@ -49,8 +49,8 @@ returns-clause-taken g c =
       rw (← c.self.view_is, c.in_ok-number.ensures.0) s.2,
     )
 
-pub returns-clause-finishing : goal.returns-clause-finishing
-returns-clause-finishing g c =
+pub returns-clause-ready : goal.returns-clause-ready
+returns-clause-ready g c =
     let k = c.self.invariant.0 in
     let pipe = c.index_mut-place.result.now in
     let w : c.in_ok-p.p < length c.self.inside.pipes.items = rw (← c.deref.ensures.value) c.in_ok-p.ensures.next.0 in
