@@ -1,5 +1,5 @@
 -- What a caller knows of a chain after a call, by the board's laws.
-use Rattle.std.proofs.Common.{◌≡◌, ◌≢◌, ℕ, Bool, true, false, List, [], ◌∷◌, ◌++◌, ◌⊎◌, inl, inr, subst}
+use Rattle.std.proofs.Common.{◌≡◌, ◌≢◌, ℕ, Bool, true, false, List, [], ◌∷◌, ◌++◌, inl, inr, subst}
 use Rattle.std.specs.Prelude.{MatchBool}
 use Rattle.chain_board.specs.declared.entry.Shape.{Shape}
 use Rattle.chain_board.specs.declared.entry.BoardEntry.{BoardEntry}
@@ -14,9 +14,9 @@ module _ {A : Type 0} (managed : (h : List (BoardEntry A)) (e : BoardEntry A) (p
   chain_after old new e p caller (inl more) c o = rw more (open_ has_line old e p o.0 c, managed old e p caller o.1)
   chain_after old new e p caller (inr same) c o = rw same o
 
-  pub passed_after : (passing : (h : List (BoardEntry A)) (caller p : ℕ) → PassingIsWork h caller p) (b : Bool) (old new : List (BoardEntry A)) (by p caller : ℕ) {P : Type 0} → MatchBool b ((q : ℕ) × Is is_chain (entries_of q old) × (new ≡ old ++ pass_entry old by q ∷ [])) (P × (new ≡ old)) → IsOpenFor has_line old p caller → IsOpenFor has_line new p caller
-  passed_after passing true old new by p caller m o = chain_after old new (pass_entry old by m.0) p caller (inl m.2) (passing old by m.0).2 o
-  passed_after passing false old new by p caller m o = rw m.1 o
+  pub passed_after : (passing : (h : List (BoardEntry A)) (caller p : ℕ) → PassingIsWork h caller p) (b : Bool) (old new : List (BoardEntry A)) (by p caller : ℕ) (P : Type 0) → MatchBool b ((q : ℕ) × Is is_chain (entries_of q old) × (new ≡ old ++ pass_entry old by q ∷ [])) (P × (new ≡ old)) → IsOpenFor has_line old p caller → IsOpenFor has_line new p caller
+  passed_after passing true old new by p caller P m o = chain_after old new (pass_entry old by m.0) p caller (inl m.2) (passing old by m.0).2 o
+  passed_after passing false old new by p caller P m o = rw m.1 o
 
 module _ {A O : Type 0} (meaning : A → O) (stays : (h : List (BoardEntry A)) (e : BoardEntry A) (p caller n : ℕ) (out : O) → SlipStays meaning h e p caller n out) where
   -- a job that another caller took stays its own

@@ -6,7 +6,6 @@ ghost use Rattle.chain_board.specs.Legal.{MayFinish};
 ghost use Rattle.chain_board.specs.Shapes.{has_line};
 ghost use Rattle.chain_board.specs.Staying.{IsOpenFor};
 
-use crate::pads::{Echo, Letter, saying};
 use chain_board::{BoardCore, BoardErr, Entered, Taken, Work, pipelines_stay, slips_stay};
 use kc_base::{Callback, Callbacks};
 use std::alloc::{AllocError, Global};
@@ -14,27 +13,29 @@ use std::process::Abort;
 use std::sync::Arc;
 use std::test::Fail;
 
+/// A job that says its letter again.
+#[derive(Drop)]
+struct Echo {
+    letter: char,
+}
+
 impl Work for Echo {
-    type Ask = Letter;
+    type Ask = char;
 
     type Out = char;
 
-    ghost asked = { λ job. record { letter = job.letter; bytes = job.bytes } };
+    ghost asked = { λ job. job.letter };
 
-    ghost meaning = { λ ask. ask.letter };
+    ghost meaning = { λ ask. ask };
 
-    ghost weight = { λ ask. ask.bytes };
+    ghost weight = { λ _. 1 };
 
-    fn ask(&self, alloc: Global) -> Result<Arc<Letter, Global>, AllocError> {
-        let letter = Letter {
-            letter: self.letter,
-            bytes: self.bytes,
-        };
-        Ok(Arc::new(alloc, letter)?)
+    fn ask(&self, alloc: Global) -> Result<Arc<char, Global>, AllocError> {
+        Ok(Arc::new(alloc, self.letter)?)
     }
 
     fn size(&self) -> u64 {
-        self.bytes
+        1
     }
 
     fn run(self) -> char {
@@ -187,7 +188,11 @@ fn chain_step(
             go(board, pipe)?;
             Ok(Said::Yes)
         }
-        'p' => Ok(if pass(board, pipe) { Said::Yes } else { Said::No }),
+        'p' => Ok(if pass(board, pipe) {
+            Said::Yes
+        } else {
+            Said::No
+        }),
         '!' => {
             work_backwards(board, pipe, into)?;
             Ok(Said::Told(into.as_slice().len()))
@@ -197,7 +202,7 @@ fn chain_step(
             Ok(Said::Told(into.as_slice().len()))
         }
         letter => {
-            let answer = offer(board, pipe, saying(letter, 1), letter < 'a')?;
+            let answer = offer(board, pipe, Echo { letter }, letter < 'a')?;
             Ok(Said::Entered(answer))
         }
     }

@@ -30,8 +30,7 @@ module _ {P : Type 0} (such admits : P → Type 0) (pipes : List P) where
   -- the first is dropped, since it has no job
   pub dropped : (ready rest : ReadyLine) (n left k : ℕ) (pipe : P) → IsSearched ready n (suc left) → rest.pipes ≡ ready.pipes → ready.line ≡ k ∷ rest.line → k < length pipes → pipe ≡ get_or pipes k pipe → (such pipe → ⊥) → IsSearched rest n left
   dropped ready rest n left k pipe i count is within here quiet =
-      let none = λ (d : P) (m : such (get_or pipes k d)). quiet (subst such (get_or_default pipes k d pipe within ∙ sym here) m) in
-      (
+      let none = λ (d : P) (m : such (get_or pipes k d)). quiet (subst such (get_or_default pipes k d pipe within ∙ sym here) m) in (
         (count ∙ i.0.0, skipped such pipes k rest.line (others_wait such pipes k ready.line rest.line i.0.1 is) none),
         count ∙ i.1,
         (let l = i.2 in let z = ap length is in omega arith),
@@ -43,8 +42,7 @@ module _ {P : Type 0} (such admits : P → Type 0) (pipes : List P) where
       → after.pipes ≡ rest.pipes → has k after.line ≡ true → ((q : ℕ) → has q rest.line ≡ true → has q after.line ≡ true) → take (length rest.line) after.line ≡ rest.line → IsSearched after n left
   put_back ready rest after n left k pipe i count is within here other same added kept first =
       let none = λ (d : P) (m : such (get_or pipes k d) × admits (get_or pipes k d)). other (subst admits (get_or_default pipes k d pipe within ∙ sym here) m.1) in
-      let left_ : left ≤ length rest.line = (let l = i.2 in let z = ap length is in omega arith) in
-      (
+      let left_ : left ≤ length rest.line = (let l = i.2 in let z = ap length is in omega arith) in (
         (same ∙ (count ∙ i.0.0), back_in_line such pipes k rest.line after.line (others_wait such pipes k ready.line rest.line i.0.1 is) added kept),
         same ∙ (count ∙ i.1),
         (let t = take_short (length rest.line) after.line in let f = ap length first in omega arith),

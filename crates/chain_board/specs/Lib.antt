@@ -14,3 +14,4 @@ pub mod Staying
 pub mod Handing
 pub mod Others
 pub mod Ends
+pub mod Following

@@ -10,6 +10,7 @@ mod board_core;
 mod closing;
 mod entering;
 mod entry;
+mod following;
 mod handing_out;
 mod lasting;
 mod laws;
@@ -27,6 +28,7 @@ mod working;
 
 pub use board_core::{BoardCore, BoardErr};
 pub use entry::{BoardEntry, Entered, Shape};
+pub use following::{entries_leave, histories_go_on, numbers_in_order};
 pub use lasting::{
     collects_hand_out, entries_join, masks_stay, only_collects_hand_out, others_leave,
     pipelines_stay, queues_hold, slips_stay, work_ends,

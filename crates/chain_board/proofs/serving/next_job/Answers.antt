@@ -14,6 +14,6 @@ loop-preserved g c =
     let searched : IsSearched HasJob (λ (pipe : Pipeline g.row.J.Denot g.row.F.Denot). Admits pipe c.args.caller) c.args.pipes.now c.loop.ready c.args.ready.now.pipes (suc (c.len-count.result - (c.loop.counter + 1))) =
     subst (λ n. IsSearched HasJob (λ (pipe : Pipeline g.row.J.Denot g.row.F.Denot). Admits pipe c.args.caller) c.args.pipes.now c.loop.ready c.args.ready.now.pipes n) more i in
     elim c.if-may_serve.branch [
-      then-may_serve+else-admits w ↦ rw w.ready-is (put_back HasJob (λ (pipe : Pipeline g.row.J.Denot g.row.F.Denot). Admits pipe c.args.caller) c.args.pipes.now c.loop.ready c.next.new.self w.add.new.self c.args.ready.now.pipes _ c.in_ok-k.k c.index-pipes-k.result searched next.pipes next.next.1 within c.index-pipes-k.is w.if-admits.ensures w.add.ensures.pipes w.add.ensures.added w.add.ensures.kept w.add.ensures.first)
-    | else-may_serve w ↦ rw w.ready-is (dropped HasJob (λ (pipe : Pipeline g.row.J.Denot g.row.F.Denot). Admits pipe c.args.caller) c.args.pipes.now c.loop.ready c.next.new.self c.args.ready.now.pipes _ c.in_ok-k.k c.index-pipes-k.result searched next.pipes next.next.1 within c.index-pipes-k.is (λ m. not_quiet c.index-pipes-k.result.stage m w.if-may_serve.ensures))
+      | then-may_serve+else-admits w ↦ rw w.ready-is (put_back HasJob (λ (pipe : Pipeline g.row.J.Denot g.row.F.Denot). Admits pipe c.args.caller) c.args.pipes.now c.loop.ready c.next.new.self w.add.new.self c.args.ready.now.pipes _ c.in_ok-k.k c.index-pipes-k.result searched next.pipes next.next.1 within c.index-pipes-k.is w.if-admits.ensures w.add.ensures.pipes w.add.ensures.added w.add.ensures.kept w.add.ensures.first)
+      | else-may_serve w ↦ rw w.ready-is (dropped HasJob (λ (pipe : Pipeline g.row.J.Denot g.row.F.Denot). Admits pipe c.args.caller) c.args.pipes.now c.loop.ready c.next.new.self c.args.ready.now.pipes _ c.in_ok-k.k c.index-pipes-k.result searched next.pipes next.next.1 within c.index-pipes-k.is (λ m. not_quiet c.index-pipes-k.result.stage m w.if-may_serve.ensures))
     ]
