@@ -351,12 +351,17 @@ after-first : (n : ℕ) → (n == 0) ≡ false → 1 ≤ n
 after-first zero not = absurd cc
 after-first (suc n) not = omega arith
 
--- what isn't the script's is one of the crew's, and work
-others-beside : (workers : ℕ) (es : List (BoardEntry Ask)) → Each (IsEither workers) es → of board_caller 0 es ≡ [] → All (λ e. (1 ≤ board_caller e) × (board_caller e ≤ workers) × (is_work e ≡ true)) es
-others-beside workers [] each none = All-nil _
+-- an entry is one of the crew's, and work
+abbrev IsCrews : ℕ → BoardEntry Ask → Type 0
+IsCrews workers e = (1 ≤ board_caller e) × (board_caller e ≤ workers) × (is_work e ≡ true)
+
+-- what isn't the script's is
+others-beside : (workers : ℕ) (es : List (BoardEntry Ask)) → Each (IsEither workers) es → of board_caller 0 es ≡ [] → All (IsCrews workers) es
+others-beside workers [] each none = All-nil (IsCrews workers)
 others-beside workers (e ∷ es) each none =
     let rest = none-pass (board_caller e == 0) e (of board_caller 0 es) none in
-    All-cons _ e es (after-first (board_caller e) rest.0, each.0.0, work rest.0 each.0.1) (others-beside workers es each.1 rest.1)
+    let is : IsCrews workers e = (after-first (board_caller e) rest.0, each.0.0, work rest.0 each.0.1) in
+    All-cons (IsCrews workers) e es is (others-beside workers es each.1 rest.1)
   where
     work : (board_caller e == 0) ≡ false → (board_caller e ≡ 0) ⊎ (is_work e ≡ true) → is_work e ≡ true
     work not (inl zero_is) = let bad : true ≡ false = sym (eq-eqb (board_caller e) 0 zero_is) ∙ not in cc

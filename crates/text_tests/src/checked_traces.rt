@@ -99,8 +99,10 @@ fn the_first_bad_line_is_named(rt: HostRuntime) -> Result<(), Fail> {
     Ok(())
 }
 
-// A text, how many events of it are right, and the letter of the reason why the next isn't.
-const REGISTRY_CASES: [(&[u8], u64, Reason); 20] = [
+// A text, how many events of it are right, and the reason why the next isn't: each that an event of the registry can have. Only a
+// claim, an end, a wait and a reference given back need a state; anybody may claim and wait; and a number stands in the answers of an
+// enlist, a look, an end and an unlist alone, which with that of a get are all that are judged.
+const REGISTRY_CASES: [(&[u8], u64, Reason); 21] = [
     (b"r 1 enlist x y cipher 1 made 3\n", 0, Reason::Caller),
     (b"r 0 enlist x y cipher 1 made 4\n", 0, Reason::Number),
     (
@@ -140,6 +142,7 @@ const REGISTRY_CASES: [(&[u8], u64, Reason); 20] = [
     (b"r 0 get 3 ok\n", 0, Reason::Answer),
     (b"r 0 put 0\n", 0, Reason::State),
     (b"r 0 get 0 ok\nr 17 put 0\n", 1, Reason::Caller),
+    (b"r 1 refs aes-generic\n", 0, Reason::Caller),
     (b"r 1 list\n", 0, Reason::Caller),
 ];
 
@@ -152,7 +155,9 @@ fn each_reason_of_the_registry_is_found(rt: HostRuntime) -> Result<(), Fail> {
     Ok(())
 }
 
-const BOARD_CASES: [(&[u8], u64, Reason); 20] = [
+// The same of the board's events. A birth needs no state, anybody may take a job of a pad or of a queue, an answer stands in what is
+// put to a queue alone, and a number that isn't right for a take, a finish or a done is one without its state.
+const BOARD_CASES: [(&[u8], u64, Reason); 31] = [
     (b"b 1 born 0 pad 1\n", 0, Reason::Caller),
     (b"b 0 born 1 pad 1\n", 0, Reason::Number),
     (b"b 0 born 0 queue 0\n", 0, Reason::Number),
@@ -176,6 +181,11 @@ const BOARD_CASES: [(&[u8], u64, Reason); 20] = [
         Reason::State,
     ),
     (
+        b"b 0 born 0 queue 1\nb 17 enq 0 7 plain EINPROGRESS 0\n",
+        1,
+        Reason::Caller,
+    ),
+    (
         b"b 0 born 0 queue 1\nb 0 enq 0 7 plain EINPROGRESS 1\n",
         1,
         Reason::Number,
@@ -191,7 +201,21 @@ const BOARD_CASES: [(&[u8], u64, Reason); 20] = [
         2,
         Reason::Number,
     ),
+    (
+        b"b 0 born 0 queue 1\nb 0 enq 0 7 plain EINPROGRESS 0\nb 1 done 0 0\n",
+        2,
+        Reason::State,
+    ),
+    (
+        b"b 0 born 0 queue 1\nb 0 enq 0 7 plain EINPROGRESS 0\nb 1 deq 0 0 -\nb 2 done 0 0\n",
+        3,
+        Reason::Caller,
+    ),
+    (b"b 0 born 0 pad 1\nb 0 hold 0\n", 1, Reason::State),
+    (b"b 0 born 0 queue 1\nb 17 hold 0\n", 1, Reason::Caller),
+    (b"b 0 born 0 pad 1\nb 0 go 0\n", 1, Reason::State),
     (b"b 0 born 0 queue 1\nb 17 go 0\n", 1, Reason::Caller),
+    (b"b 0 collect 0 0\n", 0, Reason::State),
     (b"b 0 born 0 pad 1\nb 17 collect 0 0\n", 1, Reason::Caller),
     (b"b 0 born 0 pad 1\nb 0 collect 0 1\n", 1, Reason::Number),
     (
@@ -199,8 +223,17 @@ const BOARD_CASES: [(&[u8], u64, Reason); 20] = [
         2,
         Reason::State,
     ),
+    (b"b 0 born 0 pad 1\nb 17 close 0\n", 1, Reason::Caller),
+    (b"b 0 share 0\n", 0, Reason::State),
+    (b"b 0 born 0 pad 1\nb 1 share 0\n", 1, Reason::Caller),
     (b"b 0 shut\nb 0 shut\n", 1, Reason::State),
     (b"b 1 shut\n", 0, Reason::Caller),
+    // the registry's events count too
+    (
+        b"r 0 list\nr 0 list\nb 0 born 0 pad 1\nb 0 collect 0 1\n",
+        3,
+        Reason::Number,
+    ),
 ];
 
 #[test]
