@@ -1,5 +1,5 @@
 -- What was sealed opens again.
-use Rattle.std.specs.Prelude.{◌≡◌, ◌≤◌, ◌<◌, ◌++◌, ℕ, List, length, take, All, Option, Some, None, bytes_eq}
+use Rattle.std.specs.Prelude.{◌≡◌, ◌++◌, ℕ, List, length, take, Option, Some, None, bytes_eq}
 use Rattle.std.specs.Option.{option_map}
 use Rattle.std.proofs.Common.{sym, ap, ◌∙◌, arith, length-take}
 use Rattle.std.proofs.lemmas.Bool.{cond-true}
@@ -7,8 +7,7 @@ use Rattle.std.proofs.lemmas.Slice.Eq.{bytes_eq-Decides}
 use Rattle.std_defs.specs.Hmac.{hmac_under}
 use Rattle.std_defs.specs.Authenc.{authenc_seal, authenc_open}
 use Rattle.std_defs.specs.Value.{or_invalid}
-use Rattle.std_defs.specs.Value.Value.{bytes, bad_message}
-use Rattle.aes_block.specs.Mode.{UndoesSealing}
+use Rattle.std_defs.specs.Value.Value.{bad_message}
 use Rattle.authenc.specs.Laws.{OpensWhatItSealed}
 
 -- a text and what is made of it

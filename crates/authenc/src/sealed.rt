@@ -8,6 +8,8 @@ ghost use Rattle.aes_block.specs.Outcome.{Becomes};
 use aes_block::Skcipher;
 use hmac_sha::Mac;
 use kc_base::Errno;
+use seg_modes::SegCipher;
+use sg_walk::Segs;
 use std::marker::Model;
 
 /// A cipher and a MAC, each under its key, seen as the MAC's key block and the cipher. No call takes memory.
@@ -77,5 +79,47 @@ impl<S: Skcipher + Drop> Authenc<S> {
             return Err(Errno::EBADMSG);
         }
         self.cipher.unseal(iv, b)
+    }
+}
+
+impl<S: SegCipher + Drop> Authenc<S> {
+    /// Seals the text in place as `seal` does. `EINVAL` exactly where the cipher doesn't take a text of that length; the
+    /// text and `tag` are then unchanged. Each segment keeps its length.
+    pub fn seal_segs(
+        &self,
+        iv: &[u8],
+        associated: &[u8],
+        b: &mut Segs,
+        tag: &mut [u8; 32],
+    ) -> Result<(), Errno>
+        requires { length iv.now ≡ S.iv_size self.now.1 }
+        ensures text { Becomes result (authenc_seal self.now.0 (S.seals self.now.1 iv.now) associated.now b.old.text) (b.old.text, tag.old) (b.new.text, tag.new) }
+        ensures sizes { b.new.sizes ≡ b.old.sizes }
+    {
+        self.cipher.seal_segs(iv, b)?;
+        *tag = self.mac.mac_segs(associated, b);
+        Ok(())
+    }
+
+    /// Opens the text in place as `unseal` does, under a tag of at most 32 bytes: `EBADMSG` exactly where it isn't the front of
+    /// the MAC of the associated bytes and the text, then `EINVAL` exactly where the cipher doesn't take a text of that length.
+    /// The text is unchanged after both. Each segment keeps its length.
+    pub fn unseal_segs(
+        &self,
+        iv: &[u8],
+        associated: &[u8],
+        b: &mut Segs,
+        tag: &[u8],
+    ) -> Result<(), Errno>
+        requires iv_fits { length iv.now ≡ S.iv_size self.now.1 }
+        requires tag_fits { length tag.now ≤ 32 }
+        ensures text { Opens result (authenc_open self.now.0 (S.unseals self.now.1 iv.now) associated.now b.old.text tag.now) b.old.text b.new.text }
+        ensures sizes { b.new.sizes ≡ b.old.sizes }
+    {
+        let whole = self.mac.mac_segs(associated, b);
+        if &whole[..tag.len()] != tag {
+            return Err(Errno::EBADMSG);
+        }
+        self.cipher.unseal_segs(iv, b)
     }
 }

@@ -4,6 +4,7 @@ use Rattle.std.proofs.lemmas.List.Elements.{All-append}
 use Rattle.std_defs.specs.GhashField.{field_product, field_power, ghash}
 use Rattle.std_defs.specs.Gcm.{BlockFunction, hash_subkey, padded_blocks, lengths_block, gcm_hash}
 use Rattle.std_defs.proofs.Horner.{horner, horner-ghash, horner-is_ghash, ghash-append, ghash-push}
+use Rattle.std_defs.proofs.Bytes.{bytes_from_all}
 use Rattle.std_defs.proofs.PaddedBlocks.{padded_blocks-fit}
 
 -- what `absorb` ensures of a value y before the blocks
@@ -43,3 +44,17 @@ carried-gcm_hash cipher h first second associated text is fits small_a small_t s
         ∙ sym (horner-ghash h first t fits range fit_t)
         ∙ ap (λ (y : ℕ). horner h y t) after_first
         ∙ ghash-append h a t fits fit_a fit_t
+
+-- the same, where the text was hashed in pieces
+pub hashed-gcm_hash : (cipher : BlockFunction) (h first second : ℕ) (associated text : List ℕ) → h ≡ hash_subkey cipher → h < 2 ^ 128
+    → ((i : ℕ) → get_or associated i zero < 256) → All (λ x. x < 256) text
+    → length associated < 2 ^ 32 → length text < 2 ^ 32
+    → first < 2 ^ 128 → first ≡ carried h 0 (padded_blocks associated) → second ≡ horner h first (padded_blocks text)
+    → field_product (bit_xor second (lengths_block associated text)) h ≡ gcm_hash cipher associated text
+hashed-gcm_hash cipher h first second associated text is fits small_a bytes short_a short_t range is_first is_second =
+    carried-gcm_hash cipher h first second associated text is fits small_a (bytes_from_all text bytes).at short_a short_t range is_first
+    (is_second ∙ horner-ghash h first (padded_blocks text) fits range (padded_blocks-fit text (bytes_from_all text bytes).at))
+
+-- what `absorb` ensures of a piece
+pub absorbed : (h y r : ℕ) (piece : List ℕ) → h < 2 ^ 128 → y < 2 ^ 128 → All (λ x. x < 256) piece → r ≡ carried h y (padded_blocks piece) → r ≡ horner h y (padded_blocks piece)
+absorbed h y r piece fits range bytes is = is ∙ sym (horner-ghash h y (padded_blocks piece) fits range (padded_blocks-fit piece (bytes_from_all piece bytes).at))

@@ -1,5 +1,5 @@
 -- what was sealed opens under its whole tag
-use Rattle.std.proofs.Common.{◌≡◌, ℕ, List, Some, length, take, arith, subst, ap}
+use Rattle.std.proofs.Common.{◌≡◌, ℕ, List, Some, length, arith, subst, ap}
 use Rattle.std.proofs.lemmas.List.{take_all}
 use Rattle.std_defs.specs.Gcm.{BlockFunction, gcm_text, gcm_tag, gcm_open}
 use Rattle.std_defs.proofs.GcmOpened.{gcm_open-seal, length-gcm_tag}

@@ -36,7 +36,7 @@ pub(crate) fn first_counter(iv: &[u8; 12]) -> u128
 /// The counter block `count` after this one.
 #[tactic(auto, using(crate::proofs::Counted::counted))]
 #[inline(always)]
-fn counter_after(block: u128, count: u64) -> u128
+pub(crate) fn counter_after(block: u128, count: u64) -> u128
     ensures { result ≡ counter_block block count }
 {
     block / 0x1_0000_0000 * 0x1_0000_0000

@@ -1,7 +1,9 @@
 //! GCM under a key.
 
-ghost use Rattle.std.specs.Prelude.{◌≡◌, ◌^◌, ◌<◌, ◌≤◌, ℕ, length, take, IsTrue, Some};
-ghost use Rattle.std_defs.specs.Gcm.{hash_subkey, gcm_tag, gcm_seal, gcm_open, gcm_takes_tag};
+ghost use Rattle.std.specs.Prelude.{◌≡◌, ◌+◌, ◌*◌, ◌^◌, ◌<◌, ◌≤◌, ℕ, length, take, IsTrue, Some, bit_xor};
+ghost use Rattle.std_defs.specs.Blocks.{block_bytes as bytes_of};
+ghost use Rattle.std_defs.specs.GhashField.{field_product};
+ghost use Rattle.std_defs.specs.Gcm.{hash_subkey, pre_counter_block, gctr, gcm_tag, gcm_seal, gcm_open, gcm_takes_tag};
 ghost use Rattle.std_defs.specs.Value.{or_bad_message};
 ghost use Rattle.aes_block.specs.Opened.{Opens};
 
@@ -103,11 +105,31 @@ impl<C: BlockCipher + Drop, H: GhashKey + Drop> Gcm<C, H> {
     {
         let after_associated = absorb(&self.key, 0, associated);
         let after_text = absorb(&self.key, after_associated, text);
-        let lengths = (associated.len() as u128 * 8) * 0x1_0000_0000_0000_0000
-            + text.len() as u128 * 8;
-        let hash = self.key.product(after_text ^ lengths);
-        let mut tag = block_bytes(hash);
+        self.seal_hash(iv, after_text, associated.len(), text.len())
+    }
+
+    /// The tag, from GHASH of the associated bytes and the ciphertext, and their lengths.
+    pub(crate) fn seal_hash(
+        &self,
+        iv: &[u8; 12],
+        hash: u128,
+        associated_len: usize,
+        text_len: usize,
+    ) -> [u8; 16]
+        requires associated_short { associated_len < 2 ^ 32 }
+        requires text_short { text_len < 2 ^ 32 }
+        ensures { result ≡ gctr (C.sealed self.now) (pre_counter_block iv.now) (bytes_of (field_product (bit_xor hash (associated_len * 8 * 2 ^ 64 + text_len * 8)) (hash_subkey (C.sealed self.now)))) }
+    {
+        let lengths = (associated_len as u128 * 8) * 0x1_0000_0000_0000_0000 + text_len as u128 * 8;
+        let mut tag = block_bytes(self.key.product(hash ^ lengths));
         apply_key_stream(&self.cipher, pre_counter(iv), &mut tag);
         tag
+    }
+
+    /// The key of GHASH.
+    pub(crate) fn key(&self) -> &H
+        ensures { H.block result.now ≡ hash_subkey (C.sealed self.now) }
+    {
+        &self.key
     }
 }

@@ -4,6 +4,7 @@
 mod counter;
 mod gcm;
 mod rfc4106;
+mod segments;
 
 pub use gcm::{Gcm, takes_gcm_tag};
 pub use rfc4106::{Rfc4106, takes_rfc4106_tag};

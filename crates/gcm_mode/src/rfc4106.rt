@@ -9,6 +9,7 @@ use crate::gcm::Gcm;
 use aes_block::BlockCipher;
 use ghash_field::GhashKey;
 use kc_base::Errno;
+use sg_walk::Segs;
 use std::marker::Model;
 
 /// Whether a tag of `len` bytes is taken: 8, 12 or 16 of them (6).
@@ -97,6 +98,52 @@ impl<C: BlockCipher + Drop, H: GhashKey + Drop> Rfc4106<C, H> {
         let nonce = salted(&self.salt, iv);
         self.gcm
             .unseal(&nonce, authenticated(associated), text, tag)
+    }
+
+    /// Makes the ciphertext of `text` in its place, and its full tag, as `seal` does. `EINVAL` exactly where `associated` hasn't
+    /// 16 or 20 bytes: all is then unchanged. Each segment keeps its length.
+    pub fn seal_segs(
+        &self,
+        iv: &[u8; 8],
+        associated: &[u8],
+        text: &mut Segs,
+        tag: &mut [u8; 16],
+    ) -> Result<(), Errno>
+        requires { length text.old.text < 2 ^ 32 }
+        ensures sealed { let given = rfc4106_seal (C.sealed self.now.0) self.now.1 iv.now associated.now text.old.text in
+            MatchResult result (λ _. given ≡ Some (text.new.text, tag.new)) (λ e. (e ≡ Errno.EINVAL) × (given ≡ None) × (text.new.text ≡ text.old.text) × (tag.new ≡ tag.old)) }
+        ensures sizes { text.new.sizes ≡ text.old.sizes }
+    {
+        if !is_taken(associated) {
+            return Err(Errno::EINVAL);
+        }
+        let nonce = salted(&self.salt, iv);
+        self.gcm
+            .seal_segs(&nonce, authenticated(associated), text, tag);
+        Ok(())
+    }
+
+    /// Makes the plaintext of `text` in its place, as `unseal` does. `EINVAL` exactly where `associated` hasn't 16 or 20 bytes,
+    /// and then `EBADMSG` exactly where `tag` isn't the front of the full tag: no segment is opened in both cases. Each segment
+    /// keeps its length.
+    pub fn unseal_segs(
+        &self,
+        iv: &[u8; 8],
+        associated: &[u8],
+        text: &mut Segs,
+        tag: &[u8],
+    ) -> Result<(), Errno>
+        requires text_short { length text.old.text < 2 ^ 32 }
+        requires tag_taken { IsTrue (rfc4106_takes_tag (length tag.now)) }
+        ensures text { Opens result (rfc4106_open (C.sealed self.now.0) self.now.1 iv.now associated.now text.old.text tag.now) text.old.text text.new.text }
+        ensures sizes { text.new.sizes ≡ text.old.sizes }
+    {
+        if !is_taken(associated) {
+            return Err(Errno::EINVAL);
+        }
+        let nonce = salted(&self.salt, iv);
+        self.gcm
+            .unseal_segs(&nonce, authenticated(associated), text, tag)
     }
 }
 

@@ -1,10 +1,13 @@
 //! The MAC under a key.
 
-ghost use Rattle.std.specs.Prelude.{◌≡◌, ◌++◌};
+ghost use Rattle.std.specs.Prelude.{◌≡◌, ◌++◌, ℕ, List};
+ghost use Rattle.std.specs.List.{concat};
 ghost use Rattle.std_defs.specs.Hmac.{block_key, xor_pad, hmac_under};
 ghost use Rattle.sha2.specs.Hashers.{Holds256};
 
 use crate::key_block::{add_pad, block_of};
+use kc_base::Bytes;
+use sg_walk::Segs;
 use sha2::{Digest, Sha256};
 use std::marker::Model;
 
@@ -62,7 +65,6 @@ impl Mac {
     }
 
     /// The whole MAC of the two pieces as one message. It takes no memory.
-    #[tactic(auto, unfolding(std_defs::specs::Hmac::hmac_under))]
     pub fn mac(&self, first: &[u8], second: &[u8]) -> [u8; 32]
         ensures { result ≡ hmac_under self.now (first.now ++ second.now) }
     {
@@ -70,9 +72,36 @@ impl Mac {
         let mut inner = self.inner.clone().unwrap();
         inner.update(first);
         inner.update(second);
+        self.finish(inner)
+    }
+
+    /// The whole MAC of the piece and the text behind it as one message. It takes no memory.
+    pub fn mac_segs(&self, first: &[u8], second: &Segs) -> [u8; 32]
+        ensures { result ≡ hmac_under self.now (first.now ++ second.now.text) }
+    {
+        let mut hasher = self.inner.clone().unwrap();
+        hasher.update(first);
+        hash_parts(&mut hasher, second.parts());
+        self.finish(hasher)
+    }
+
+    /// The MAC of what the inner hasher has taken behind its block.
+    #[tactic(auto, unfolding(std_defs::specs::Hmac::hmac_under))]
+    fn finish(&self, inner: Sha256) -> [u8; 32]
+        ensures { (message : List ℕ) → Holds256 inner (xor_pad 0x36 self.now ++ message) → result ≡ hmac_under self.now message }
+    {
         let digest = inner.finalize();
         let mut outer = self.outer.clone().unwrap();
         outer.update(digest.as_slice());
         outer.finalize()
+    }
+}
+
+/// Hashes the segments one after another.
+fn hash_parts(hasher: &mut Sha256, parts: &[Bytes])
+    ensures { (m : List ℕ) → Holds256 hasher.old m → Holds256 hasher.new (m ++ concat parts.now) }
+{
+    for part in parts {
+        hasher.update(part.as_slice());
     }
 }
