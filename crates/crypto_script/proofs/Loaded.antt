@@ -116,6 +116,7 @@ as_script workers seed count p q result loads = record {
     too_long = ((λ e. not-long e), (λ long. absurd (omega (arith, long))));
     up_to = λ e. not-long e;
     written = λ e. not-written e;
+    whole = tt;
   };
   own_reads = λ e. neither e;
 }
