@@ -1,5 +1,5 @@
 -- What words ask for.
-use Rattle.std.proofs.Common.{◌≡◌, ◌≢◌, ℕ, List, Option, None, Ok, Err, refl, ap, inl, inr, ◌⊎◌}
+use Rattle.std.proofs.Common.{◌≡◌, ◌≢◌, ℕ, List, None, Ok, Err, refl, ap, inl, inr, ◌⊎◌}
 use Rattle.command_line.specs.CommandLine.{mode_of}
 use Rattle.command_line.specs.declared.errors.CommandLineError.{CommandLineError}
 use Rattle.command_line.specs.declared.errors.CommandLineError.TheVariants as command

@@ -1,11 +1,14 @@
 -- What was answered before the trace, and what after it.
-use Rattle.std.proofs.Common.{◌≡◌, ℕ, ◌-◌, ◌⊎◌, Bool, List, [], ◌++◌, length, take, Option, Some, None, Result, Ok, Err, inl, inr, refl, sym, ap, subst, ◌∙◌, append_assoc, append-nil}
-use Rattle.std.specs.Prelude.{OnOk, IfOk, IfErr, IfSome, IsErrOf}
+use Rattle.std.proofs.Common.{◌≡◌, ℕ, ◌-◌, ◌⊎◌, Bool, List, [], ◌++◌, length, take, Option, Some, None, Result, Ok, Err, inl, inr, sym, ap, subst, ◌∙◌, append_assoc, append-nil}
+use Rattle.std.specs.Prelude.{OnOk, IfOk, IfErr, IfSome}
 use Rattle.std.specs.Io.KnownBytes.{Appends, Keeps}
 use Rattle.std.proofs.KnownBytes.{Appends-trans}
 use Rattle.alg_registry.specs.declared.entry.RegEntry.{RegEntry}
 use Rattle.board.specs.declared.entry.BoardEntry.{BoardEntry}
-use Rattle.kc_base.specs.Streams.{AppendsFront, IsPrefix}
+use Rattle.dialogues.specs.Texts.{IsText, IsFrontText}
+use Rattle.dialogues.specs.Walk.{start}
+use Rattle.kc_base.specs.Streams.{AppendsFront}
+use Rattle.script_text.specs.Script.{script_of}
 use Rattle.script_text.specs.Whole.{whole_script}
 use Rattle.script_text.specs.declared.commands.Line.{Line}
 use Rattle.transforms.specs.declared.ask.Ask.{Ask}
@@ -13,7 +16,7 @@ use Rattle.crypto_script.specs.Answered.{BeginsWithText, RanSource}
 use Rattle.crypto_script.specs.Runs.{Gains, GainsThen, GainsFront}
 use Rattle.crypto_script.specs.declared.errors.RunError.{RunError}
 use Rattle.crypto_script.specs.declared.errors.RunError.TheVariants.{ReadFault, WriteFault, NoMemory, TooLong}
-use Rattle.crypto_script.proofs.Going.{keeps-text}
+use Rattle.crypto_script.proofs.Going.{keeps-text, nothing_fronted}
 
 -- what is written after a text is no matter to the lines that it begins with
 begins-more : (workers : ℕ) (lines : List Line) (r : List RegEntry) (b : List (BoardEntry Ask)) (text more : List ℕ) → BeginsWithText workers lines r b text → BeginsWithText workers lines r b (text ++ more)
@@ -21,6 +24,11 @@ begins-more workers lines r b text more x = record {
   ended = x.ended;
   front = (x.front.0 ++ more, sym (append_assoc _ x.front.0 more) ∙ ap (λ xs. xs ++ more) x.front.1);
 }
+
+-- an answer is no error
+ok-not : (bad : Bool) (e : RunError) (r : Result Bool RunError) → r ≡ Ok bad → r ≡ Err e → ⊥
+ok-not bad e (Ok b) ok is = cc
+ok-not bad e (Err x) ok is = cc
 
 -- The script answered before, and the run answers after, when the trace was to be written.
 module _ (before after : Result Bool RunError) (held held' held'' : Option (List ℕ)) (trace : List ℕ)
@@ -108,7 +116,7 @@ module _ (before after : Result Bool RunError) (held held' held'' : Option (List
       own e is other = elim (subst (λ x. IfErr x IsPart) is front) [
         | inl kept ↦ kept
         | inr some ↦ elim (subst (λ x. IfErr x (λ y. (before ≡ Err y) ⊎ (y ≡ WriteFault) ⊎ (y ≡ NoMemory))) is causes) [
-          | inl same ↦ absurd (let ok = some.1 in let bad : Ok some.0 ≡ Err {T = Bool} e = sym ok ∙ same in cc)
+          | inl same ↦ absurd (ok-not some.0 e before some.1 same)
           | inr made ↦ absurd (other made)
         ]
       ]
@@ -118,9 +126,9 @@ module _ (before after : Result Bool RunError) (held held' held'' : Option (List
       stays e is = by after whole front
         where
           by : (r : Result Bool RunError) → IsWhole r → IfErr r IsPart → r ≡ Err e
-          by (Ok bad) w f = absurd (let ok = w.0 in let no : Ok bad ≡ Err {T = Bool} e = sym ok ∙ is in cc)
+          by (Ok bad) w f = absurd (ok-not bad e before w.0 is)
           by (Err x) w (inl kept) = sym kept.0 ∙ is
-          by (Err x) w (inr some) = absurd (let ok = some.1 in let no : Ok some.0 ≡ Err {T = Bool} e = sym ok ∙ is in cc)
+          by (Err x) w (inr some) = absurd (ok-not some.0 e before some.1 is)
 
       gains-kept : (P : List ℕ → Type 0) → Gains held held' P → Keeps held' held'' → Gains held held'' P
       gains-kept P gained kept = (gained.0, gained.1, keeps-text held held' held'' gained.0 gained.2 kept)
@@ -166,3 +174,9 @@ module _ (before after : Result Bool RunError) (held held' held'' : Option (List
             whole = wrote-all after whole;
           };
         }
+
+-- nothing is written before the first line
+pub nothing_traced : (workers : ℕ) (left held : Option (List ℕ)) (r : List RegEntry) (b : List (BoardEntry Ask)) (trace : List ℕ)
+    → IfSome left (λ script. GainsFront held held (IsFrontText workers (start 0) 0 (script_of script) r b) (IsText workers (start 0) 0 (script_of script) r b) trace)
+nothing_traced workers None held r b trace = tt
+nothing_traced workers (Some script) held r b trace = inl (nothing_fronted workers (Some script) held r b)

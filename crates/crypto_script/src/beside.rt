@@ -110,6 +110,7 @@ fn answer_script<S: Source, K: Sink, G: Gate, R: Threads + Wait + Sync>(
     ensures answers { AnswersSource workers (S.left src.old) (S.left src.new) passes result.0 result.1 (K.held out.old) (K.held out.new) }
     ensures read_fault { IsErrOf result.1 RunError.ReadFault → Rose (S.faults src.old) (S.faults src.new) }
     ensures write_fault { IsErrOf result.1 RunError.WriteFault → Rose (K.faults out.old) (K.faults out.new) }
+    ensures later { K.faults out.old ≤ K.faults out.new }
     ensures usage { IsErrOf result.1 RunError.Usage → ⊥ }
 {
     laws();
@@ -146,6 +147,7 @@ fn crew_script<S: Source, K: Sink, G: Gate + Sync, R: Threads + Wait + Sync>(
     ensures crewed { (p q : _) × HaveNext workers passes p × AnswersSource workers (S.left src.old) (S.left src.new) p q result.1 (K.held out.old) (K.held out.new) × CrewedOnBoth workers passes q result.0 }
     ensures read_fault { IsErrOf result.1 RunError.ReadFault → Rose (S.faults src.old) (S.faults src.new) }
     ensures write_fault { IsErrOf result.1 RunError.WriteFault → Rose (K.faults out.old) (K.faults out.new) }
+    ensures later { K.faults out.old ≤ K.faults out.new }
     ensures usage { IsErrOf result.1 RunError.Usage → ⊥ }
 {
     let mut main = |passes: Passes<Ask>| -> (Passes<Ask>, Result<bool, RunError>)
@@ -155,6 +157,7 @@ fn crew_script<S: Source, K: Sink, G: Gate + Sync, R: Threads + Wait + Sync>(
         ensures answers { AnswersSource workers (S.left src.entry.now) (S.left src.exit.now) passes result.0 result.1 (K.held out.entry.now) (K.held out.exit.now) }
         ensures read_fault { IsErrOf result.1 RunError.ReadFault → Rose (S.faults src.entry.now) (S.faults src.exit.now) }
         ensures write_fault { IsErrOf result.1 RunError.WriteFault → Rose (K.faults out.entry.now) (K.faults out.exit.now) }
+        ensures later { K.faults out.entry.now ≤ K.faults out.exit.now }
         ensures usage { IsErrOf result.1 RunError.Usage → ⊥ }
     { answer_script(rt, alloc, workers, board, registry, gate, passes, src, out) };
     run_crew(rt, alloc, workers, board, registry, passes, gate, &mut main)
@@ -190,6 +193,7 @@ fn run_beside<S: Source, K: Sink, G: Gate + Sync, R: Threads + Wait + Sync>(
     ensures malformed { IfOk result.answer (λ bad. IfSome (S.left src.old) (λ script. bad ≡ list_any is_malformed (script_of script))) }
     ensures read_fault { IsErrOf result.answer RunError.ReadFault → Rose (S.faults src.old) (S.faults src.new) }
     ensures write_fault { IsErrOf result.answer RunError.WriteFault → Rose (K.faults out.old) (K.faults out.new) }
+    ensures later { K.faults out.old ≤ K.faults out.new }
     ensures usage { IsErrOf result.answer RunError.Usage → ⊥ }
 {
     crew_laws();
@@ -234,6 +238,7 @@ pub fn run_script<S: Source, K: Sink, G: Gate + Sync, R: Threads + Wait + Sync>(
     ensures malformed { IfOk result.answer (λ bad. IfSome (S.left src.old) (λ script. bad ≡ list_any is_malformed (script_of script))) }
     ensures read_fault { IsErrOf result.answer RunError.ReadFault → Rose (S.faults src.old) (S.faults src.new) }
     ensures write_fault { IsErrOf result.answer RunError.WriteFault → Rose (K.faults out.old) (K.faults out.new) }
+    ensures later { K.faults out.old ≤ K.faults out.new }
     ensures usage { IsErrOf result.answer RunError.Usage → ⊥ }
 {
     let Ok((registry, on_registry)) = SharedRegistry::new(alloc) else {

@@ -172,6 +172,7 @@ pub fn run_lines<S: Source, K: Sink, G: Gate, R: Threads + Wait + Sync>(
     ensures run { RunsSource (S.left src.old) (S.left src.new) session.old session.new result (K.held out.old) (K.held out.new) }
     ensures read_fault { IsErrOf result RunError.ReadFault → Rose (S.faults src.old) (S.faults src.new) }
     ensures write_fault { IsErrOf result RunError.WriteFault → Rose (K.faults out.old) (K.faults out.new) }
+    ensures later { K.faults out.old ≤ K.faults out.new }
     ensures usage { IsErrOf result RunError.Usage → ⊥ }
 {
     laws();

@@ -89,7 +89,7 @@ fn outcome_of(ran: Ran) -> Outcome
 /// | 3, 4 | the source, the sink failed |
 /// | 5 | memory is wanting |
 /// | 6 | the source has more than 2^28 bytes |
-#[tactic(auto, using(crate::proofs::Going::nothing_fronted))]
+#[tactic(auto, using(crate::proofs::Traced::nothing_traced))]
 pub fn run<S: Source, K: Sink, G: Gate + Sync, R: Threads + Wait + Sync>(
     rt: &R,
     alloc: Global,

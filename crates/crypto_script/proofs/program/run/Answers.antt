@@ -1,14 +1,24 @@
-use Rattle.std.proofs.Common.{◌≡◌, ap, unwrap_or}
+use Rattle.std.proofs.Common.{◌≡◌, ap, ◌∙◌, Some, Ok}
 use Rattle.std.specs.Prelude.{map, string_bytes}
-use Rattle.crypto_script.specs.Endings.{workers_in, load_asked, workers_of_load}
-use Rattle.crypto_script.proofs.Stopping.{load-reads}
+use Rattle.crypto_script.specs.Endings.{script_asked, script_in_mode, load_asked, workers_in, workers_by, traces_in, traces_by}
+use Rattle.crypto_script.proofs.Stopping.{load-reads, reaches-end}
 use Rattle.crypto_script.proofs.program.run.Goals as goal
 
-pub returns-in-Ok-Some-clause-too_long : goal.returns-in-Ok-Some-clause-too_long
-returns-in-Ok-Some-clause-too_long g c = load-reads (g.S.Source.left c.args.src.now) c.run_load.result.answer c.outcome_of.result.status c.run_load.ensures.causes c.outcome_of.ensures.status
+pub returns-in-Load-clause-too_long : goal.returns-in-Load-clause-too_long
+returns-in-Load-clause-too_long g c = load-reads (g.S.Source.left c.args.src.now) c.run_load.result.answer c.outcome_of-in-Load.result.status c.run_load.ensures.causes c.outcome_of-in-Load.ensures.status
+
+pub returns-clause-complete : goal.returns-clause-complete
+returns-clause-complete g c =
+    let left = g.S.Source.left in
+    let ran = c.run_traced.ensures in
+    λ asked no_read no_write.
+    reaches-end (left c.args.src.now) (left c.run_traced.new.src) ran.first.given c.run_traced.result.answer c.outcome_of-2.result.status ran.first.reads.read ran.first.first.too_long.0
+    ran.usage (λ e. no_read (ran.read_fault e)) (λ e. no_write (ran.write_fault e)) c.outcome_of-2.ensures.status
 
 pub returns-clause-front : goal.returns-clause-front
 returns-clause-front g c some =
     let words = map string_bytes c.args.words.now in
-    let same : workers_in words ≡ c.in-Ok.workers = ap (λ o. unwrap_or o (workers_of_load (load_asked words))) c.in-Ok.ensures.asked in
-    rw (same, c.outcome_of-2.ensures.registry, c.outcome_of-2.ensures.board) c.run_script.ensures.front
+    let asked : script_asked words ≡ Some c.in-Script.options = c.in-Ok.ensures.script ∙ ap (λ m. script_in_mode (Ok m)) c.in-Script.is in
+    let workers : workers_in words ≡ c.in-Script.options.workers = ap (λ o. workers_by o (load_asked words)) asked in
+    let trace : traces_in words ≡ c.in-Script.options.trace = ap traces_by asked in
+    rw (workers, trace, c.outcome_of-2.ensures.registry, c.outcome_of-2.ensures.board) c.run_traced.ensures.front
