@@ -44,7 +44,11 @@ fn hostile_lines_are_malformed(rt: HostRuntime) -> Result<(), Fail> {
         (PARTS, 100, true),
     ] {
         let line = mac_of(alloc, text, count)?;
-        assert_eq!(rt; is_malformed(alloc, &line)?, want, "{text:?} in {count} bytes");
+        assert_eq!(rt;
+            is_malformed(alloc, &line)?,
+            want,
+            "{text:?} in {count} bytes"
+        );
     }
     Ok(())
 }
