@@ -77,9 +77,10 @@ fn outcome_of(ran: Ran) -> Outcome
 }
 
 /// Does all that the program does: reads a script from the source, and writes the answers of its lines, each in one piece, to the
-/// sink, and then the run's trace, where the words ask for it; or makes the requests of a load, and writes its line. It reads at most 65,536 bytes at once, and only where each whole line
-/// of what it has is answered. The words are the program's arguments without its name. Beside the script, or the load, stand as many
-/// workers as the words ask for, which do its jobs and build its instances; they pass the gate with each job.
+/// sink, and then the run's trace, where the words ask for it; or makes the requests of a load, and writes its line. It reads at
+/// most 65,536 bytes at once, and only where each whole line of what it has is answered. The words are the program's arguments
+/// without its name. Beside the script, or the load, stand as many workers as the words ask for, which do its jobs and build its
+/// instances; they pass the gate with each job.
 ///
 /// | status | comes |
 /// |---|---|
