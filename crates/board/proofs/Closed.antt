@@ -1,18 +1,19 @@
 -- A closed pipeline is finished.
 use Rattle.std.proofs.Common.{◌≡◌, ◌⊎◌, ℕ, Bool, true, false, List, [], ◌∷◌, ◌++◌, length, refl, sym, ◌∙◌, ap, subst, append-nil, append_assoc, inl, inr}
 use Rattle.std.specs.Prelude.{if◌then◌else◌}
-use Rattle.board.specs.declared.entry.BoardEntry.{BoardEntry}
-use Rattle.board.specs.declared.entry.BoardEntry.TheVariants.{Born, Submit, Take, Finish, Enq, Deq, Done, Hold, Go, Collect, Close, Share, Shut}
-use Rattle.board.specs.Entries.{is_of, entries_of, accepted_in, submissions, finished_in, unbroken, front, is_closed, caller_of}
-use Rattle.board.specs.Legal.{IsNoWorker, IsRightFor, MayManage}
-use Rattle.board.specs.Order.{AreRightForAfter}
-use Rattle.board.specs.Staying.{is_work}
-use Rattle.board.proofs.PadOrder.{filter_map-none}
-use Rattle.board.proofs.Transfer.{each_right}
-use Rattle.board.proofs.Kept.{closed-same}
 use Rattle.turn_lock.specs.Turns.{Each}
-use Rattle.board.proofs.Ends.{IsRun, run_step, ends_all}
+use Rattle.board.specs.declared.entry.BoardEntry.{BoardEntry}
+use Rattle.board.specs.declared.entry.BoardEntry.TheVariants.{Born, Submit, Take, Finish, Enq, Deq, Done, Hold, Go, Collect, Close, Share, Mask, Shut}
+use Rattle.board.specs.Entries.{Notice, is_of, entries_of, accepted_in, submissions, finished_in, unbroken, front, is_closed, caller_of}
+use Rattle.board.specs.Legal.{IsNoWorker, IsRightFor, MayManage}
+use Rattle.board.specs.Order.{AreRightForAfter, handed_in}
+use Rattle.board.specs.Staying.{is_work}
 use Rattle.board.specs.Ends.{AllIsFinished}
+use Rattle.board.proofs.Lists.{filter_map-none}
+use Rattle.board.proofs.Transfer.{each_right}
+use Rattle.board.proofs.Keeping.{IsOrderly, orderly_start, orderly_step}
+use Rattle.board.proofs.Kept.{closed-same}
+use Rattle.board.proofs.Ends.{ends_all}
 
 module _ {A : Type 0} where
   abbrev IsEnd : List (BoardEntry A) → Type 0
@@ -22,35 +23,36 @@ module _ {A : Type 0} where
   open-not es shut open_ = absurd (let bad : true ≡ false = sym shut ∙ open_ in cc)
 
   -- no entry but a Close leaves a pipeline closed that was open, and on a closed one none is right
-  closed-step : (es : List (BoardEntry A)) (e : BoardEntry A) → IsRun es → IsEnd es → IsRightFor es e → IsEnd (es ++ e ∷ [])
-  closed-step es (Born caller pipe shape) run end r shut =
+  closed-step : (es : List (BoardEntry A)) (given : List Notice) (e : BoardEntry A) → IsOrderly es given → IsEnd es → IsRightFor es e → IsEnd (es ++ e ∷ [])
+  closed-step es given (Born caller pipe shape) o end r shut =
       open-not es (sym (closed-same es (Born caller pipe shape) refl) ∙ shut) (ap is_closed r.1)
-  closed-step es (Submit caller pipe number ask) run end r shut =
+  closed-step es given (Submit caller pipe number ask) o end r shut =
       open-not es (sym (closed-same es (Submit caller pipe number ask) refl) ∙ shut) r.1.1
-  closed-step es (Take caller pipe number) run end r shut =
+  closed-step es given (Take caller pipe number) o end r shut =
       open-not es (sym (closed-same es (Take caller pipe number) refl) ∙ shut) r.0.1
-  closed-step es (Finish caller pipe number) run end r shut =
-      absurd (ends_all es number caller run (end (sym (closed-same es (Finish caller pipe number) refl) ∙ shut)) r.1 r.2)
-  closed-step es (Enq caller pipe ask backlog answer) run end r shut =
+  closed-step es given (Finish caller pipe number) o end r shut =
+      absurd (ends_all es number caller o.numbered (end (sym (closed-same es (Finish caller pipe number) refl) ∙ shut)) r.1 r.2)
+  closed-step es given (Enq caller pipe ask backlog answer) o end r shut =
       open-not es (sym (closed-same es (Enq caller pipe ask backlog answer) refl) ∙ shut) r.1.1
-  closed-step es (Deq caller pipe number started) run end r shut =
+  closed-step es given (Deq caller pipe number started) o end r shut =
       open-not es (sym (closed-same es (Deq caller pipe number started) refl) ∙ shut) r.0.1
-  closed-step es (Done caller pipe number) run end r shut =
-      absurd (ends_all es number caller run (end (sym (closed-same es (Done caller pipe number) refl) ∙ shut)) r.1 r.2)
-  closed-step es (Hold caller pipe) run end r shut = open-not es (sym (closed-same es (Hold caller pipe) refl) ∙ shut) r.1.1
-  closed-step es (Go caller pipe) run end r shut = open-not es (sym (closed-same es (Go caller pipe) refl) ∙ shut) r.1.1
-  closed-step es (Collect caller pipe to) run end r shut = open-not es (sym (closed-same es (Collect caller pipe to) refl) ∙ shut) r.1
-  closed-step es (Close caller pipe) run end r shut =
+  closed-step es given (Done caller pipe number) o end r shut =
+      absurd (ends_all es number caller o.numbered (end (sym (closed-same es (Done caller pipe number) refl) ∙ shut)) r.1 r.2)
+  closed-step es given (Hold caller pipe) o end r shut = open-not es (sym (closed-same es (Hold caller pipe) refl) ∙ shut) r.1.1
+  closed-step es given (Go caller pipe) o end r shut = open-not es (sym (closed-same es (Go caller pipe) refl) ∙ shut) r.1.1
+  closed-step es given (Collect caller pipe to) o end r shut = open-not es (sym (closed-same es (Collect caller pipe to) refl) ∙ shut) r.1
+  closed-step es given (Close caller pipe) o end r shut =
       let ended = filter_map-none finished_in es (Close caller pipe) refl in
       let had = filter_map-none accepted_in es (Close caller pipe) refl in
       (λ i. unbroken (ended i) 0 (length (had i))) ∙ (r.3 ∙ ap length (sym had))
-  closed-step es (Share caller pipe) run end r shut = open-not es (sym (closed-same es (Share caller pipe) refl) ∙ shut) r.1
-  closed-step es (Shut caller) run end r shut = absurd r
+  closed-step es given (Share caller pipe) o end r shut = open-not es (sym (closed-same es (Share caller pipe) refl) ∙ shut) r.1
+  closed-step es given (Mask caller pipe mask) o end r shut = open-not es (sym (closed-same es (Mask caller pipe mask) refl) ∙ shut) r.1.1
+  closed-step es given (Shut caller) o end r shut = absurd r
 
-  closed-on : (before es : List (BoardEntry A)) → IsRun before → IsEnd before → AreRightForAfter before es → IsEnd (before ++ es)
-  closed-on before [] run end r = rw (append-nil before) end
-  closed-on before (e ∷ es) run end r =
-      subst IsEnd (append_assoc before (e ∷ []) es) (closed-on (before ++ e ∷ []) es (run_step before e run r.0) (closed-step before e run end r.0) r.1)
+  closed-on : (before es : List (BoardEntry A)) (given : List Notice) → IsOrderly before given → IsEnd before → AreRightForAfter before es → IsEnd (before ++ es)
+  closed-on before [] given o end r = rw (append-nil before) end
+  closed-on before (e ∷ es) given o end r =
+      subst IsEnd (append_assoc before (e ∷ []) es) (closed-on (before ++ e ∷ []) es (given ++ handed_in before e) (orderly_step before e given o r.0) (closed-step before given e o end r.0) r.1)
 
   -- who made it, where one caller alone makes pipelines
   made-by : (caller : ℕ) (e : BoardEntry A) (es : List (BoardEntry A)) → IsRightFor [] e → (caller_of e ≡ caller) ⊎ (is_work e ≡ true) → MayManage (e ∷ es) caller
@@ -67,6 +69,7 @@ module _ {A : Type 0} where
   made-by caller (Collect by pipe to) es r own = absurd r.0.1
   made-by caller (Close by pipe) es r own = absurd r.0.1
   made-by caller (Share by pipe) es r own = absurd r.0.1
+  made-by caller (Mask by pipe mask) es r own = absurd r.0.1
   made-by caller (Shut by) es r own = absurd r
 
   each-of : (P : BoardEntry A → Type 0) (p : ℕ) (h : List (BoardEntry A)) → Each P h → Each P (entries_of p h)
@@ -83,8 +86,7 @@ module _ {A : Type 0} where
   finished-or caller (e ∷ es) r each own = by_closed (is_closed (e ∷ es)) refl
     where
       by_closed : (t : Bool) → is_closed (e ∷ es) ≡ t → front (e ∷ es) ≡ length (submissions (e ∷ es))
-      by_closed true shut =
-          closed-on [] (e ∷ es) (record { submitted = λ n x. absurd (x refl); taken = λ n x. cc }) (λ shut. absurd cc) r shut
+      by_closed true shut = closed-on [] (e ∷ es) [] orderly_start (λ shut. absurd cc) r shut
       by_closed false open_ = own (made-by caller e es r.0 each.0) open_
 
   pub all_finished : (h : List (BoardEntry A)) (caller : ℕ) → AllIsFinished h caller

@@ -1,15 +1,13 @@
 -- Which pipelines stand in line, as they change.
-use Rattle.std.proofs.Common.{◌≡◌, ◌≢◌, ℕ, zero, suc, ◌+◌, ◌<◌, ◌≤◌, Bool, true, false, ◌||◌, List, [], ◌∷◌, ◌++◌, length, refl, sym, ◌∙◌, ap, subst, arith, inl, inr, ◌⊎◌, get_or, length-append}
+use Rattle.std.proofs.Common.{◌≡◌, ◌≢◌, ℕ, zero, suc, ◌+◌, ◌-◌, ◌<◌, ◌≤◌, Bool, Option, Some, None, true, false, ◌||◌, List, [], ◌∷◌, ◌++◌, length, take, refl, sym, ◌∙◌, ap, subst, arith, inl, inr, ◌⊎◌, get_or, length-append, append-nil}
 use Rattle.std.specs.Prelude.{◌==◌, slice_index_or, slice_set}
-use Rattle.std.proofs.lemmas.Bool.{eqb-true, eq-eqb, or_left, or_right, cases_eq, cases_lt}
+use Rattle.std.specs.Option.{option_to_list}
+use Rattle.std.proofs.lemmas.Bool.{eqb-true, eq-eqb, or_left, or_right, cases_eq, cases_lt, both_ways, false_from_ne_true}
 use Rattle.std.proofs.lemmas.List.{get_or-set_same, get_or-set_other, length-set}
+use Rattle.std.proofs.Math.Seq.{get_or-append_seam}
 use Rattle.std.proofs.lemmas.List.Folds.{list_any-append}
 use Rattle.board.specs.Entries.{has}
-use Rattle.board.specs.declared.pipeline.Pipeline.{Pipeline}
-use Rattle.board.specs.declared.pipeline.Pipeline.TheVariants as pipeline
-use Rattle.board.specs.Pipelines.{MayServe, IsQuiet, without_room, holding, closed, emptied}
-use Rattle.board.proofs.KeptWork.{not_quiet}
-use Rattle.board.specs.Ready.{ReadyLine, count_true, IsLine, AreInLine, OthersAreInLine, IsReadyFor}
+use Rattle.board.specs.Ready.{ReadyLine, count_true, IsLine, AreInLine, OthersAreInLine, IsReadyFor, NoneIs}
 
 -- ---- the marks
 
@@ -77,6 +75,42 @@ line_grown marks line i = record {
   within = λ p h. (let w = i.within p h in let l = length-append marks (false ∷ []) in omega arith);
 }
 
+within_cases : (n p : ℕ) → (p < n) ⊎ (n ≤ p) → (p ≡ n → ⊥) → p < n + 1 → p < n
+within_cases n p (inl l) h w = l
+within_cases n p (inr g) h w = absurd (h (omega arith))
+
+within_or : (marks : List Bool) (p : ℕ) → (p ≡ length marks → ⊥) → p < length marks + 1 → p < length marks
+within_or marks p h w = within_cases (length marks) p (cases_lt p (length marks)) h w
+
+-- who doesn't stand there
+pub not_within : (marks : List Bool) (line : List ℕ) (p : ℕ) → IsLine marks line → length marks ≤ p → has p line ≡ false
+not_within marks line p i l = false_from_ne_true (has p line) (λ h. (let w = i.within p h in absurd (omega arith)))
+
+-- the last place is free
+last_free : (marks : List Bool) (last : Bool) (line : List ℕ) → IsLine (marks ++ last ∷ []) line → has (length marks) line ≡ false → last ≡ false
+last_free marks last line i h = false_from_ne_true last (λ t. both_ways (has (length marks) line) h (i.marked (length marks) (get_or-append_seam marks last [] false ∙ t)))
+
+-- and is given back
+pub line_shrunk : (marks : List Bool) (last : Bool) (line : List ℕ) → IsLine (marks ++ last ∷ []) line → has (length marks) line ≡ false → IsLine marks line
+line_shrunk marks last line i h =
+    let free = last_free marks last line i h in
+    let j = subst (λ b. IsLine (marks ++ b ∷ []) line) free i in
+    record {
+      few = (let c = count_false marks in let f = j.few in omega arith);
+      marked = λ p m. j.marked p (get_end marks p ∙ m);
+      within = λ p m.
+          (let w = j.within p m in
+          let l = length-append marks (false ∷ []) in
+          within_or marks p (λ q. both_ways (has (length marks) line) h (subst (λ n. has n line ≡ true) q m)) (omega arith));
+    }
+
+pub shrunk_by : (marks rest : List Bool) (o : Option Bool) (line : List ℕ) → IsLine marks line → marks ≡ rest ++ option_to_list o → 0 < length marks → has (length marks - 1) line ≡ false → IsLine rest line
+shrunk_by marks rest None line i e some h = subst (λ ms. IsLine ms line) (e ∙ append-nil rest) i
+shrunk_by marks rest (Some b) line i e some h =
+    let l : length marks ≡ length rest + 1 = ap length e ∙ length-append rest (b ∷ []) in
+    let at : length marks - 1 ≡ length rest = omega arith in
+    line_shrunk rest b line (subst (λ ms. IsLine ms line) e i) (subst (λ n. has n line ≡ false) at h)
+
 line_mark : (marks : List Bool) (line : List ℕ) (p q : ℕ) → IsLine marks line → p < length marks → (q ≡ p) ⊎ (q ≡ p → ⊥) → get_or (slice_set marks p true) q false ≡ true → has q (line ++ p ∷ []) ≡ true
 line_mark marks line p q i l (inl same) h = subst (λ n. has n (line ++ p ∷ []) ≡ true) (sym same) (has_added line p)
 line_mark marks line p q i l (inr other) h = has_kept line p q (i.marked q (sym (get_or-set_other marks p q true false other) ∙ h))
@@ -112,75 +146,46 @@ line_next marks p rest i = record {
 
 -- ---- the pipelines
 
-serve_without : {J O : Type 0} (a : Pipeline J O) → MayServe (without_room a) ≡ MayServe a
-serve_without (pipeline.Pad x) = refl
-serve_without (pipeline.Queue x) = refl
-
--- room is no matter
-pub serve_same : {J O : Type 0} (a b : Pipeline J O) → without_room a ≡ without_room b → MayServe a → MayServe b
-serve_same a b e m = subst (λ T. T) (sym (serve_without a) ∙ (ap MayServe e ∙ serve_without b)) m
-
-hold_mays : {J O : Type 0} (a : Pipeline J O) → MayServe (holding a true) → MayServe a
-hold_mays (pipeline.Pad x) m = m
-hold_mays (pipeline.Queue x) m = cc
-
-pub hold_serves : {J O : Type 0} (a b : Pipeline J O) → b ≡ holding a true → MayServe b → MayServe a
-hold_serves a b e m = hold_mays a (subst (λ x. MayServe x) e m)
-
-closed_mays : {J O : Type 0} (a : Pipeline J O) → MayServe (closed a) → MayServe a
-closed_mays (pipeline.Pad x) m = m
-closed_mays (pipeline.Queue x) m = m
-
-pub closed_serves : {J O : Type 0} (a b : Pipeline J O) → b ≡ closed a → MayServe b → MayServe a
-closed_serves a b e m = closed_mays a (subst (λ x. MayServe x) e m)
-
-emptied_mays : {J O : Type 0} (a : Pipeline J O) → MayServe (emptied a) → MayServe a
-emptied_mays (pipeline.Pad x) m = m
-emptied_mays (pipeline.Queue x) m = m
-
-pub emptied_serves : {J O : Type 0} (a b : Pipeline J O) → b ≡ emptied a → MayServe b → MayServe a
-emptied_serves a b e m = emptied_mays a (subst (λ x. MayServe x) e m)
-
-module _ {J O : Type 0} (pipes : List (Pipeline J O)) where
-  set_cases : (line after : List ℕ) (p : ℕ) (new : Pipeline J O) → p < length pipes → ((q : ℕ) → has q line ≡ true → has q after ≡ true) → OthersAreInLine p pipes line → (MayServe new → has p after ≡ true)
-      → (q : ℕ) (d : Pipeline J O) → (q ≡ p) ⊎ (q ≡ p → ⊥) → q < length pipes → MayServe (slice_index_or (slice_set pipes p new) q d) → has q after ≡ true
+module _ {P : Type 0} (such : P → Type 0) (pipes : List P) where
+  set_cases : (line after : List ℕ) (p : ℕ) (new : P) → p < length pipes → ((q : ℕ) → has q line ≡ true → has q after ≡ true) → OthersAreInLine such p pipes line → (such new → has p after ≡ true)
+      → (q : ℕ) (d : P) → (q ≡ p) ⊎ (q ≡ p → ⊥) → q < length pipes → such (slice_index_or (slice_set pipes p new) q d) → has q after ≡ true
   set_cases line after p new within kept others mine q d (inl same) l m =
-      subst (λ n. has n after ≡ true) (sym same) (mine (subst (λ x. MayServe x) (get_or-set_same pipes p new d within) (subst (λ n. MayServe (slice_index_or (slice_set pipes p new) n d)) same m)))
+      subst (λ n. has n after ≡ true) (sym same) (mine (subst (such) (get_or-set_same pipes p new d within) (subst (λ n. such (slice_index_or (slice_set pipes p new) n d)) same m)))
   set_cases line after p new within kept others mine q d (inr other) l m =
-      kept q (others q d l other (subst (λ x. MayServe x) (get_or-set_other pipes p q new d other) m))
+      kept q (others q d l other (subst (such) (get_or-set_other pipes p q new d other) m))
 
   -- a pipeline in another form
-  set_ready : (line after : List ℕ) (n p : ℕ) (new : Pipeline J O) → n ≡ length pipes → p < length pipes → ((q : ℕ) → has q line ≡ true → has q after ≡ true) → OthersAreInLine p pipes line → (MayServe new → has p after ≡ true) → IsReadyFor (slice_set pipes p new) (record { pipes = n; line = after })
+  set_ready : (line after : List ℕ) (n p : ℕ) (new : P) → n ≡ length pipes → p < length pipes → ((q : ℕ) → has q line ≡ true → has q after ≡ true) → OthersAreInLine such p pipes line → (such new → has p after ≡ true) → IsReadyFor such (slice_set pipes p new) (record { pipes = n; line = after })
   set_ready line after n p new count within kept others mine = (count ∙ sym (length-set pipes p new), λ q d l m. set_cases line after p new within kept others mine q d (cases_eq q p) (let s = length-set pipes p new in omega arith) m)
 
   -- of which a job may be taken only if one might before
-  pub ready_same : (ready : ReadyLine) (p : ℕ) (pipe new : Pipeline J O) → IsReadyFor pipes ready → p < length pipes → pipe ≡ get_or pipes p pipe → (MayServe new → MayServe pipe) → IsReadyFor (slice_set pipes p new) ready
-  ready_same ready p pipe new r within here serves = set_ready ready.line ready.line ready.pipes p new r.0 within (λ q h. h) (λ q d l n m. r.1 q d l m) (λ m. r.1 p pipe within (subst (λ x. MayServe x) here (serves m)))
+  pub ready_same : (ready : ReadyLine) (p : ℕ) (pipe new : P) → IsReadyFor such pipes ready → p < length pipes → pipe ≡ get_or pipes p pipe → (such new → such pipe) → IsReadyFor such (slice_set pipes p new) ready
+  ready_same ready p pipe new r within here serves = set_ready ready.line ready.line ready.pipes p new r.0 within (λ q h. h) (λ q d l n m. r.1 q d l m) (λ m. r.1 p pipe within (subst (such) here (serves m)))
 
   -- which is set in line
-  pub ready_added : (ready after : ReadyLine) (p : ℕ) (new : Pipeline J O) → ready.pipes ≡ length pipes → OthersAreInLine p pipes ready.line → p < length pipes → after.pipes ≡ ready.pipes → has p after.line ≡ true → ((q : ℕ) → has q ready.line ≡ true → has q after.line ≡ true) → IsReadyFor (slice_set pipes p new) after
+  pub ready_added : (ready after : ReadyLine) (p : ℕ) (new : P) → ready.pipes ≡ length pipes → OthersAreInLine such p pipes ready.line → p < length pipes → after.pipes ≡ ready.pipes → has p after.line ≡ true → ((q : ℕ) → has q ready.line ≡ true → has q after.line ≡ true) → IsReadyFor such (slice_set pipes p new) after
   ready_added ready after p new count others within same added kept = set_ready ready.line after.line after.pipes p new (same ∙ count) within kept others (λ m. added)
 
-  pub all_but : (line : List ℕ) (p : ℕ) → AreInLine pipes line → OthersAreInLine p pipes line
+  pub all_but : (line : List ℕ) (p : ℕ) → AreInLine such pipes line → OthersAreInLine such p pipes line
   all_but line p all q d l n m = all q d l m
 
-  born_cases : (new d : Pipeline J O) (q : ℕ) → (MayServe new → ⊥) → (q < length pipes) ⊎ (length pipes ≤ q) → q < length (pipes ++ new ∷ []) → MayServe (slice_index_or (pipes ++ new ∷ []) q d) → (q < length pipes) × MayServe (slice_index_or pipes q d)
-  born_cases new d q none (inl l) w m = (l, subst (λ x. MayServe x) (at_front pipes q d l) m)
+  born_cases : (new d : P) (q : ℕ) → (such new → ⊥) → (q < length pipes) ⊎ (length pipes ≤ q) → q < length (pipes ++ new ∷ []) → such (slice_index_or (pipes ++ new ∷ []) q d) → (q < length pipes) × such (slice_index_or pipes q d)
+  born_cases new d q none (inl l) w m = (l, subst (such) (at_front pipes q d l) m)
     where
-      at_front : (xs : List (Pipeline J O)) (i : ℕ) (d : Pipeline J O) → i < length xs → get_or (xs ++ new ∷ []) i d ≡ get_or xs i d
+      at_front : (xs : List P) (i : ℕ) (d : P) → i < length xs → get_or (xs ++ new ∷ []) i d ≡ get_or xs i d
       at_front [] i d l = absurd (omega arith)
       at_front (x ∷ xs) zero d l = refl
       at_front (x ∷ xs) (suc i) d l = at_front xs i d (omega arith)
-  born_cases new d q none (inr g) w m = absurd (none (subst (λ x. MayServe x) (at_end pipes q d g (let s = length-append pipes (new ∷ []) in omega arith)) m))
+  born_cases new d q none (inr g) w m = absurd (none (subst (such) (at_end pipes q d g (let s = length-append pipes (new ∷ []) in omega arith)) m))
     where
-      at_end : (xs : List (Pipeline J O)) (i : ℕ) (d : Pipeline J O) → length xs ≤ i → i < length xs + 1 → get_or (xs ++ new ∷ []) i d ≡ new
+      at_end : (xs : List P) (i : ℕ) (d : P) → length xs ≤ i → i < length xs + 1 → get_or (xs ++ new ∷ []) i d ≡ new
       at_end [] zero d g l = refl
       at_end [] (suc i) d g l = absurd (omega arith)
       at_end (x ∷ xs) zero d g l = absurd (omega arith)
       at_end (x ∷ xs) (suc i) d g l = at_end xs i d (omega arith) (omega arith)
 
   -- a pipeline that was just made has no job
-  pub ready_born : (ready : ReadyLine) (new : Pipeline J O) → IsReadyFor pipes ready → (MayServe new → ⊥) → IsReadyFor (pipes ++ new ∷ []) (record ready { pipes = ready.pipes + 1 })
+  pub ready_born : (ready : ReadyLine) (new : P) → IsReadyFor such pipes ready → (such new → ⊥) → IsReadyFor such (pipes ++ new ∷ []) (record ready { pipes = ready.pipes + 1 })
   ready_born ready new r none = ((let s = length-append pipes (new ∷ []) in let c = r.0 in omega arith), λ q d l m. (let b = born_cases new d q none (cases_lt q (length pipes)) l m in r.1 q d b.0 b.1))
 
   -- ---- the first in line of which a job may be taken
@@ -189,35 +194,46 @@ module _ {J O : Type 0} (pipes : List (Pipeline J O)) where
   next_cases p rest q (inl e) n = absurd (n (sym (eqb-true p q e)))
   next_cases p rest q (inr h) n = h
 
-  pub others_wait : (p : ℕ) (line rest : List ℕ) → AreInLine pipes line → line ≡ p ∷ rest → OthersAreInLine p pipes rest
+  pub others_wait : (p : ℕ) (line rest : List ℕ) → AreInLine such pipes line → line ≡ p ∷ rest → OthersAreInLine such p pipes rest
   others_wait p line rest all is q d l n m = next_cases p rest q (first_or (p == q) (has q rest) (ap (has q) (sym is) ∙ all q d l m)) n
 
-  skip_cases : (p : ℕ) (rest : List ℕ) (q : ℕ) (d : Pipeline J O) → OthersAreInLine p pipes rest → q < length pipes → (MayServe (slice_index_or pipes p d) → ⊥) → (q ≡ p) ⊎ (q ≡ p → ⊥) → MayServe (slice_index_or pipes q d) → has q rest ≡ true
-  skip_cases p rest q d others l quiet (inl same) m = absurd (quiet (subst (λ n. MayServe (slice_index_or pipes n d)) same m))
+  skip_cases : (p : ℕ) (rest : List ℕ) (q : ℕ) (d : P) → OthersAreInLine such p pipes rest → q < length pipes → (such (slice_index_or pipes p d) → ⊥) → (q ≡ p) ⊎ (q ≡ p → ⊥) → such (slice_index_or pipes q d) → has q rest ≡ true
+  skip_cases p rest q d others l quiet (inl same) m = absurd (quiet (subst (λ n. such (slice_index_or pipes n d)) same m))
   skip_cases p rest q d others l quiet (inr other) m = others q d l other m
 
-  pub skipped : (p : ℕ) (rest : List ℕ) → OthersAreInLine p pipes rest → ((d : Pipeline J O) → MayServe (slice_index_or pipes p d) → ⊥) → AreInLine pipes rest
+  pub skipped : (p : ℕ) (rest : List ℕ) → OthersAreInLine such p pipes rest → ((d : P) → such (slice_index_or pipes p d) → ⊥) → AreInLine such pipes rest
   skipped p rest others quiet q d l m = skip_cases p rest q d others l (quiet d) (cases_eq q p) m
 
-quiet_waiting : {X : Type 0} (xs : List X) → (0 < length xs → ⊥) → xs ≡ []
-quiet_waiting [] h = refl
-quiet_waiting (x ∷ xs) h = absurd (h (omega arith))
+  -- which goes back into line
+  back_cases : (p : ℕ) (rest after : List ℕ) (q : ℕ) (d : P) → OthersAreInLine such p pipes rest → has p after ≡ true → ((n : ℕ) → has n rest ≡ true → has n after ≡ true) → (q ≡ p) ⊎ (q ≡ p → ⊥) → q < length pipes → such (slice_index_or pipes q d) → has q after ≡ true
+  back_cases p rest after q d others added kept (inl same) l m = subst (λ n. has n after ≡ true) (sym same) added
+  back_cases p rest after q d others added kept (inr other) l m = kept q (others q d l other m)
 
-quiet_queue : {X : Type 0} (held busy : Bool) (xs : List X) → ((held ≡ false) × (busy ≡ false) × (0 < length xs) → ⊥) → (held ≡ true) ⊎ ((busy ≡ true) ⊎ (xs ≡ []))
-quiet_queue true busy xs h = inl refl
-quiet_queue false true xs h = inr (inl refl)
-quiet_queue false false xs h = inr (inr (quiet_waiting xs (λ l. h (refl, refl, l))))
+  pub back_in_line : (p : ℕ) (rest after : List ℕ) → OthersAreInLine such p pipes rest → has p after ≡ true → ((n : ℕ) → has n rest ≡ true → has n after ≡ true) → AreInLine such pipes after
+  back_in_line p rest after others added kept q d l m = back_cases p rest after q d others added kept (cases_eq q p) l m
 
-pub quiet_or : {J O : Type 0} (a : Pipeline J O) → (MayServe a → ⊥) → IsQuiet a
-quiet_or (pipeline.Pad x) h = quiet_waiting x.pad.waiting h
-quiet_or (pipeline.Queue x) h = quiet_queue x.queue.held x.queue.busy x.queue.line.waiting h
+  -- of those in line that are still to be seen the first is none
+  pub unseen : (p m : ℕ) (line rest : List ℕ) → AreInLine such pipes (take (suc m) line) → line ≡ p ∷ rest → ((d : P) → such (slice_index_or pipes p d) → ⊥) → AreInLine such pipes (take m rest)
+  unseen p m line rest all is quiet = skipped p (take m rest) (others_wait p (take (suc m) line) (take m rest) all (ap (take (suc m)) is)) quiet
 
-pub none_ready : {J O : Type 0} (pipes : List (Pipeline J O)) (line : List ℕ) → AreInLine pipes line → line ≡ [] → (k : ℕ) (d : Pipeline J O) → k < length pipes → IsQuiet (slice_index_or pipes k d)
-none_ready pipes line all none k d l = quiet_or (slice_index_or pipes k d) (λ m. (let h = ap (has k) (sym none) ∙ all k d l m in cc))
+  -- and where none is to be seen there is none
+  pub none_seen : (line : List ℕ) → AreInLine such pipes line → line ≡ [] → NoneIs such pipes
+  none_seen line all none q d l m = (let h = sym (ap (has q) none) ∙ all q d l m in cc)
 
--- where no job may be taken, who stands in line is no matter
-pub quiet_ready : {J O : Type 0} (pipes : List (Pipeline J O)) (after : ReadyLine) → after.pipes ≡ length pipes → ((k : ℕ) (d : Pipeline J O) → k < length pipes → IsQuiet (slice_index_or pipes k d)) → IsReadyFor pipes after
-quiet_ready pipes after count quiet = (count, λ q d l m. absurd (not_quiet (slice_index_or pipes q d) m (quiet q d l)))
+  pub none_waits : (after : ReadyLine) → after.pipes ≡ length pipes → NoneIs such pipes → IsReadyFor such pipes after
+  none_waits after count none = (count, λ q d l m. absurd (none q d l m))
 
-pub no_job : 0 < 0 → ⊥
-no_job l = omega arith
+-- what is added at the end isn't seen yet
+pub take_first : (m : ℕ) (rest after : List ℕ) → m ≤ length rest → take (length rest) after ≡ rest → take m after ≡ take m rest
+take_first zero rest after l h = refl
+take_first (suc m) [] after l h = absurd (omega arith)
+take_first (suc m) (x ∷ rest) [] l h = cc
+take_first (suc m) (x ∷ rest) (y ∷ after) l h = (let e : y ≡ x = cc in let t : take (length rest) after ≡ rest = cc in rw e (ap (λ zs. x ∷ zs) (take_first m rest after (omega arith) t)))
+
+pub take_whole : (xs : List ℕ) → take (length xs) xs ≡ xs
+take_whole [] = refl
+take_whole (x ∷ xs) = ap (λ ys. x ∷ ys) (take_whole xs)
+
+pub take_over : (xs ys : List ℕ) → take (length xs) (xs ++ ys) ≡ xs
+take_over [] ys = refl
+take_over (x ∷ xs) ys = ap (λ zs. x ∷ zs) (take_over xs ys)

@@ -1,90 +1,242 @@
-use Rattle.std.proofs.Common.{◌≡◌, ℕ, Bool, List, refl, sym, ◌∙◌, ap, subst}
-use Rattle.board.specs.declared.entry.BoardEntry.{BoardEntry}
-use Rattle.board.specs.declared.pipeline.PadPipeline.{PadPipeline}
-use Rattle.board.specs.declared.pipeline.QueuePipeline.{QueuePipeline}
-use Rattle.board.specs.declared.pipeline.Pipeline.{Pipeline}
-use Rattle.board.specs.declared.pipeline.Pipeline.TheVariants as pipeline
-use Rattle.board.specs.Pipelines.{without_room, with_job, is_pad, is_queue, accepts, entered_on, after_entered, accepted_of}
+-- The room that is kept for more requests is no matter.
+use Rattle.std.proofs.Common.{◌≡◌, ℕ, Bool, true, false, ◌||◌, List, [], refl, sym, ◌∙◌, ap, subst, inl, inr, ◌⊎◌}
+use Rattle.std.specs.Prelude.{◌&&◌, ◌==◌}
+use Rattle.padata_core.specs.Pad.{Pad, ready}
+use Rattle.cryptd.specs.Server.{Server}
 use Rattle.board.specs.declared.entry.Entered.{Entered}
 use Rattle.board.specs.declared.entry.Entered.TheVariants.{InProgress, Busy, NoSpace}
-use Rattle.board.specs.Kept.{IsKeptPad, IsKeptQueue, IsKept, owes}
+use Rattle.board.specs.declared.entry.BoardEntry.{BoardEntry}
+use Rattle.board.specs.declared.pipeline.Pipeline.{Pipeline}
+use Rattle.board.specs.declared.stage.Stage.{Stage}
+use Rattle.board.specs.declared.stage.Stage.TheVariants as stage
+use Rattle.board.specs.Stages.{is_pad, has_line, IsPlaced, IsJoined, bare, bare_pad, without_room, accepted_of, answer_of, with_waiting, after_entered, with_job, MayServe, MayPass}
+use Rattle.board.specs.Pipelines.{IsSame, NotesCaller, accepts, work_each}
+use Rattle.board.specs.Shapes.{width_born}
+use Rattle.board.specs.Entries.{birth, has, submitters, IsMaker}
+use Rattle.board.specs.Kept.{IsKeptLine, IsKeptPad, IsKeptStage, IsKeptPipe, IsIdle, shape_of, work_owed, owes}
+use Rattle.board.proofs.KeptMarks.{made_same}
 
--- The room for more requests is no part of what a history says.
+-- what doesn't see the room is the same of two stages that differ in it alone
+pub same_by : {J O X : Type 0} (f : Stage J O → X) (a b : Stage J O) → ((s : Stage J O) → f (without_room s) ≡ f s) → without_room a ≡ without_room b → f a ≡ f b
+same_by f a b h e = sym (h a) ∙ (ap f e ∙ h b)
 
-pub pad_room : {J O A : Type 0} (asked : J → A) (meaning : A → O) (x : PadPipeline J O) (es : List (BoardEntry A)) (n : ℕ) → IsKeptPad asked meaning x es → IsKeptPad asked meaning (record x { pad = record x.pad { spare = n } }) es
-pad_room asked meaning x es n k = record { born = k.born; closing = k.closing; submitted = k.submitted; waiting = k.waiting; taken = k.taken; untaken = k.untaken; outcomes = k.outcomes; passed = k.passed; running = k.running; place = k.place; idle = k.idle }
+is_pad_bare : {J O : Type 0} (s : Stage J O) → is_pad (without_room s) ≡ is_pad s
+is_pad_bare (stage.Pad x) = refl
+is_pad_bare (stage.Queue x) = refl
+is_pad_bare (stage.Chain x) = refl
 
-pad_room_back : {J O A : Type 0} (asked : J → A) (meaning : A → O) (x : PadPipeline J O) (es : List (BoardEntry A)) (n : ℕ) → IsKeptPad asked meaning (record x { pad = record x.pad { spare = n } }) es → IsKeptPad asked meaning x es
-pad_room_back asked meaning x es n k = record { born = k.born; closing = k.closing; submitted = k.submitted; waiting = k.waiting; taken = k.taken; untaken = k.untaken; outcomes = k.outcomes; passed = k.passed; running = k.running; place = k.place; idle = k.idle }
+pub is_pad_same : {J O : Type 0} (a b : Stage J O) → without_room a ≡ without_room b → is_pad a ≡ is_pad b
+is_pad_same a b e = same_by is_pad a b is_pad_bare e
 
-pub queue_room : {J O A : Type 0} (asked : J → A) (meaning : A → O) (x : QueuePipeline J O) (es : List (BoardEntry A)) (n m : ℕ) → IsKeptQueue asked meaning x es → IsKeptQueue asked meaning (record x { queue = record x.queue { spare = n; line = record x.queue.line { spare = m } } }) es
-queue_room asked meaning x es n m k = record { born = k.born; closing = k.closing; holding = k.holding; submitted = k.submitted; waiting = k.waiting; taken = k.taken; running = k.running; place = k.place; told = k.told; pending = k.pending; idle = k.idle }
+line_bare : {J O : Type 0} (s : Stage J O) → has_line (without_room s) ≡ has_line s
+line_bare (stage.Pad x) = refl
+line_bare (stage.Queue x) = refl
+line_bare (stage.Chain x) = refl
 
-queue_room_back : {J O A : Type 0} (asked : J → A) (meaning : A → O) (x : QueuePipeline J O) (es : List (BoardEntry A)) (n m : ℕ) → IsKeptQueue asked meaning (record x { queue = record x.queue { spare = n; line = record x.queue.line { spare = m } } }) es → IsKeptQueue asked meaning x es
-queue_room_back asked meaning x es n m k = record { born = k.born; closing = k.closing; holding = k.holding; submitted = k.submitted; waiting = k.waiting; taken = k.taken; running = k.running; place = k.place; told = k.told; pending = k.pending; idle = k.idle }
+pub line_same : {J O : Type 0} (a b : Stage J O) → without_room a ≡ without_room b → has_line a ≡ has_line b
+line_same a b e = same_by has_line a b line_bare e
 
-kept_without : {J O A : Type 0} (asked : J → A) (meaning : A → O) (pipe : Pipeline J O) (es : List (BoardEntry A)) → IsKept asked meaning pipe es → IsKept asked meaning (without_room pipe) es
-kept_without asked meaning (pipeline.Pad x) es k = pad_room asked meaning x es 0 k
-kept_without asked meaning (pipeline.Queue x) es k = queue_room asked meaning x es 0 0 k
+accepted_bare : {J O : Type 0} (s : Stage J O) → accepted_of (without_room s) ≡ accepted_of s
+accepted_bare (stage.Pad x) = refl
+accepted_bare (stage.Queue x) = refl
+accepted_bare (stage.Chain x) = refl
 
-kept_with : {J O A : Type 0} (asked : J → A) (meaning : A → O) (pipe : Pipeline J O) (es : List (BoardEntry A)) → IsKept asked meaning (without_room pipe) es → IsKept asked meaning pipe es
-kept_with asked meaning (pipeline.Pad x) es k = pad_room_back asked meaning x es 0 k
-kept_with asked meaning (pipeline.Queue x) es k = queue_room_back asked meaning x es 0 0 k
+pub accepted_same : {J O : Type 0} (a b : Stage J O) → without_room a ≡ without_room b → accepted_of a ≡ accepted_of b
+accepted_same a b e = same_by accepted_of a b accepted_bare e
 
-pub kept_same : {J O A : Type 0} (asked : J → A) (meaning : A → O) (a b : Pipeline J O) (es : List (BoardEntry A)) → without_room a ≡ without_room b → IsKept asked meaning b es → IsKept asked meaning a es
-kept_same asked meaning a b es e k = kept_with asked meaning a es (subst (λ x. IsKept asked meaning x es) (sym e) (kept_without asked meaning b es k))
+accepts_bare : {J O : Type 0} (backlog : Bool) (s : Stage J O) → accepts (without_room s) backlog ≡ accepts s backlog
+accepts_bare backlog (stage.Pad x) = refl
+accepts_bare backlog (stage.Queue x) = refl
+accepts_bare backlog (stage.Chain x) = refl
 
-owes_without : {J O : Type 0} (a : Pipeline J O) → owes (without_room a) ≡ owes a
-owes_without (pipeline.Pad x) = refl
-owes_without (pipeline.Queue x) = refl
+pub accepts_same : {J O : Type 0} (a b : Stage J O) (backlog : Bool) → without_room a ≡ without_room b → accepts a backlog ≡ accepts b backlog
+accepts_same a b backlog e = same_by (λ s. accepts s backlog) a b (accepts_bare backlog) e
 
-pub owes_same : {J O : Type 0} (a b : Pipeline J O) → without_room a ≡ without_room b → owes a ≡ owes b
-owes_same a b e = sym (owes_without a) ∙ (ap owes e ∙ owes_without b)
+answer_bare : {J O : Type 0} (backlog : Bool) (s : Stage J O) → answer_of (without_room s) backlog ≡ answer_of s backlog
+answer_bare backlog (stage.Pad x) = refl
+answer_bare backlog (stage.Queue x) = refl
+answer_bare backlog (stage.Chain x) = refl
 
-is_pad_without : {J O : Type 0} (a : Pipeline J O) → is_pad (without_room a) ≡ is_pad a
-is_pad_without (pipeline.Pad x) = refl
-is_pad_without (pipeline.Queue x) = refl
+pub answer_same : {J O : Type 0} (a b : Stage J O) (backlog : Bool) → without_room a ≡ without_room b → answer_of a backlog ≡ answer_of b backlog
+answer_same a b backlog e = same_by (λ s. answer_of s backlog) a b (answer_bare backlog) e
 
-pub is_pad_same : {J O : Type 0} (a b : Pipeline J O) → without_room a ≡ without_room b → is_pad a ≡ is_pad b
-is_pad_same a b e = sym (is_pad_without a) ∙ (ap is_pad e ∙ is_pad_without b)
+each_bare : {J O : Type 0} (s : Stage J O) → work_each (without_room s) ≡ work_each s
+each_bare (stage.Pad x) = refl
+each_bare (stage.Queue x) = refl
+each_bare (stage.Chain x) = refl
 
-is_queue_without : {J O : Type 0} (a : Pipeline J O) → is_queue (without_room a) ≡ is_queue a
-is_queue_without (pipeline.Pad x) = refl
-is_queue_without (pipeline.Queue x) = refl
+pub each_same : {J O : Type 0} (a b : Stage J O) → without_room a ≡ without_room b → work_each a ≡ work_each b
+each_same a b e = same_by work_each a b each_bare e
 
-pub is_queue_same : {J O : Type 0} (a b : Pipeline J O) → without_room a ≡ without_room b → is_queue a ≡ is_queue b
-is_queue_same a b e = sym (is_queue_without a) ∙ (ap is_queue e ∙ is_queue_without b)
+owed_bare : {J O : Type 0} (s : Stage J O) → work_owed (without_room s) ≡ work_owed s
+owed_bare (stage.Pad x) = refl
+owed_bare (stage.Queue x) = refl
+owed_bare (stage.Chain x) = refl
 
-accepted_without : {J O : Type 0} (a : Pipeline J O) → accepted_of (without_room a) ≡ accepted_of a
-accepted_without (pipeline.Pad x) = refl
-accepted_without (pipeline.Queue x) = refl
+pub owed_same : {J O : Type 0} (a b : Stage J O) → without_room a ≡ without_room b → work_owed a ≡ work_owed b
+owed_same a b e = same_by work_owed a b owed_bare e
 
-pub accepted_same : {J O : Type 0} (a b : Pipeline J O) → without_room a ≡ without_room b → accepted_of a ≡ accepted_of b
-accepted_same a b e = sym (accepted_without a) ∙ (ap accepted_of e ∙ accepted_without b)
+shape_bare : {J O : Type 0} (w : ℕ) (s : Stage J O) → shape_of (without_room s) w ≡ shape_of s w
+shape_bare w (stage.Pad x) = refl
+shape_bare w (stage.Queue x) = refl
+shape_bare w (stage.Chain x) = refl
 
-accepts_without : {J O : Type 0} (a : Pipeline J O) (backlog : Bool) → accepts (without_room a) backlog ≡ accepts a backlog
-accepts_without (pipeline.Pad x) backlog = refl
-accepts_without (pipeline.Queue x) backlog = refl
+pub shape_same : {J O : Type 0} (a b : Stage J O) → without_room a ≡ without_room b → (w : ℕ) → shape_of a w ≡ shape_of b w
+shape_same a b e w = same_by (λ s. shape_of s w) a b (shape_bare w) e
 
-pub accepts_same : {J O : Type 0} (a b : Pipeline J O) (backlog : Bool) → without_room a ≡ without_room b → accepts a backlog ≡ accepts b backlog
-accepts_same a b backlog e = sym (accepts_without a backlog) ∙ (ap (λ x. accepts x backlog) e ∙ accepts_without b backlog)
-
-entered_without : {J O : Type 0} (a : Pipeline J O) (backlog : Bool) → entered_on (without_room a) backlog ≡ entered_on a backlog
-entered_without (pipeline.Pad x) backlog = refl
-entered_without (pipeline.Queue x) backlog = refl
-
-pub entered_same : {J O : Type 0} (a b : Pipeline J O) (backlog : Bool) → without_room a ≡ without_room b → entered_on a backlog ≡ entered_on b backlog
-entered_same a b backlog e = sym (entered_without a backlog) ∙ (ap (λ x. entered_on x backlog) e ∙ entered_without b backlog)
-
-job_without : {J O : Type 0} (a : Pipeline J O) (job : J) → without_room (with_job a job) ≡ with_job (without_room a) job
-job_without (pipeline.Pad x) job = refl
-job_without (pipeline.Queue x) job = refl
+job_bare : {J O : Type 0} (s : Stage J O) (job : J) → without_room (with_job s job) ≡ with_job (without_room s) job
+job_bare (stage.Pad x) job = refl
+job_bare (stage.Queue x) job = refl
+job_bare (stage.Chain x) job = refl
 
 -- a job taken in after room was made
-pub job_same : {J O : Type 0} (a b : Pipeline J O) (job : J) → without_room a ≡ without_room b → without_room (with_job a job) ≡ without_room (with_job b job)
-job_same a b job e = job_without a job ∙ (ap (λ x. with_job x job) e ∙ sym (job_without b job))
+pub job_same : {J O : Type 0} (a b : Stage J O) (job : J) → without_room a ≡ without_room b → without_room (with_job a job) ≡ without_room (with_job b job)
+job_same a b job e = job_bare a job ∙ (ap (λ s. with_job s job) e ∙ sym (job_bare b job))
 
-pub answer_same : {J O : Type 0} (a b : Pipeline J O) (job : J) (answer : Entered) → without_room a ≡ without_room b → without_room (after_entered a job answer) ≡ without_room (after_entered b job answer)
-answer_same a b job (InProgress n) e = job_same a b job e
-answer_same a b job (Busy n) e = job_same a b job e
-answer_same a b job NoSpace e = e
+waiting_bare : {J O : Type 0} (line : Server J O) (job : J) (answer : Entered) → bare (with_waiting line job answer) ≡ with_waiting (bare line) job answer
+waiting_bare line job (InProgress n) = refl
+waiting_bare line job (Busy n) = refl
+waiting_bare line job NoSpace = refl
+
+after_bare : {J O : Type 0} (s : Stage J O) (job : J) (answer : Entered) → without_room (after_entered s job answer) ≡ after_entered (without_room s) job answer
+after_bare (stage.Pad x) job answer = refl
+after_bare (stage.Queue x) job answer = ap (λ line. stage.Queue line) (waiting_bare x job answer)
+after_bare (stage.Chain x) job answer = ap (λ line. stage.Chain (record { line = line; pad = bare_pad x.pad })) (waiting_bare x.line job answer)
+
+pub after_same : {J O : Type 0} (a b : Stage J O) (job : J) (answer : Entered) → without_room a ≡ without_room b → without_room (after_entered a job answer) ≡ without_room (after_entered b job answer)
+after_same a b job answer e = after_bare a job answer ∙ (ap (λ s. after_entered s job answer) e ∙ sym (after_bare b job answer))
+
+-- ---- whether there is work
+
+serve_to : {J O : Type 0} (s : Stage J O) → MayServe s → MayServe (without_room s)
+serve_to (stage.Pad x) m = m
+serve_to (stage.Queue x) m = m
+serve_to (stage.Chain x) m = m
+
+serve_from : {J O : Type 0} (s : Stage J O) → MayServe (without_room s) → MayServe s
+serve_from (stage.Pad x) m = m
+serve_from (stage.Queue x) m = m
+serve_from (stage.Chain x) m = m
+
+pub serve_same : {J O : Type 0} (a b : Stage J O) → without_room a ≡ without_room b → MayServe a → MayServe b
+serve_same a b e m = serve_from b (subst (λ s. MayServe s) e (serve_to a m))
+
+pass_to : {J O : Type 0} (s : Stage J O) → MayPass s → MayPass (without_room s)
+pass_to (stage.Pad x) m = m
+pass_to (stage.Queue x) m = m
+pass_to (stage.Chain x) m = m
+
+pass_from : {J O : Type 0} (s : Stage J O) → MayPass (without_room s) → MayPass s
+pass_from (stage.Pad x) m = m
+pass_from (stage.Queue x) m = m
+pass_from (stage.Chain x) m = m
+
+pub pass_same : {J O : Type 0} (a b : Stage J O) → without_room a ≡ without_room b → MayPass a → MayPass b
+pass_same a b e m = pass_from b (subst (λ s. MayPass s) e (pass_to a m))
+
+idle_to : {J O : Type 0} (s : Stage J O) → IsIdle s → IsIdle (without_room s)
+idle_to (stage.Pad x) m = m
+idle_to (stage.Queue x) m = m
+idle_to (stage.Chain x) m = m
+
+idle_from : {J O : Type 0} (s : Stage J O) → IsIdle (without_room s) → IsIdle s
+idle_from (stage.Pad x) m = m
+idle_from (stage.Queue x) m = m
+idle_from (stage.Chain x) m = m
+
+pub idle_same : {J O : Type 0} (a b : Stage J O) → without_room a ≡ without_room b → IsIdle a → IsIdle b
+idle_same a b e m = idle_from b (subst (λ s. IsIdle s) e (idle_to a m))
+
+-- ---- what is kept
+
+-- a line is kept by its requests, its hold and its callbacks alone
+line_room : {J O A : Type 0} (asked : J → A) (meaning : A → O) (x : Server J O) (place : ℕ) (es : List (BoardEntry A)) (n m : ℕ) → IsKeptLine asked meaning x place es → IsKeptLine asked meaning (record x { spare = n; line = record x.line { spare = m } }) place es
+line_room asked meaning x place es n m k = record { bound = k.bound; holding = k.holding; submitted = k.submitted; served = k.served; waiting = k.waiting; telling = k.telling; pending = k.pending }
+
+line_back : {J O A : Type 0} (asked : J → A) (meaning : A → O) (x : Server J O) (place : ℕ) (es : List (BoardEntry A)) (n m : ℕ) → IsKeptLine asked meaning (record x { spare = n; line = record x.line { spare = m } }) place es → IsKeptLine asked meaning x place es
+line_back asked meaning x place es n m k = record { bound = k.bound; holding = k.holding; submitted = k.submitted; served = k.served; waiting = k.waiting; telling = k.telling; pending = k.pending }
+
+-- a pad by its jobs and its outcomes
+pub pad_like : {J O A : Type 0} (asked : J → A) (meaning : A → O) (x : Pad J O) (es : List (BoardEntry A)) (lists spare : ℕ) → IsKeptPad asked meaning x es → IsKeptPad asked meaning (record x { lists = lists; spare = spare }) es
+pad_like asked meaning x es lists spare k = record { submitted = k.submitted; waiting = k.waiting; taken = k.taken; untaken = k.untaken; outcomes = k.outcomes; passed = k.passed; running = k.running }
+
+pad_back : {J O A : Type 0} (asked : J → A) (meaning : A → O) (x : Pad J O) (es : List (BoardEntry A)) (n : ℕ) → IsKeptPad asked meaning (record x { spare = n }) es → IsKeptPad asked meaning x es
+pad_back asked meaning x es n k = record { submitted = k.submitted; waiting = k.waiting; taken = k.taken; untaken = k.untaken; outcomes = k.outcomes; passed = k.passed; running = k.running }
+
+-- all of it but that each request in a chain's line has its place
+abbrev pub IsKeptCore : {J O A : Type 0} → (J → A) → (A → O) → Stage J O → ℕ → List (BoardEntry A) → Type 0
+IsKeptCore asked meaning (stage.Pad pad) place es = IsKeptStage asked meaning (stage.Pad pad) place es
+IsKeptCore asked meaning (stage.Queue line) place es = IsKeptStage asked meaning (stage.Queue line) place es
+IsKeptCore asked meaning (stage.Chain c) place es =
+    IsKeptLine asked meaning c.line place es × IsKeptPad asked meaning c.pad es × IsJoined c.line c.pad × (ready c.pad.outcomes ≡ []) × (c.line.busy ≡ false)
+
+core_of : {J O A : Type 0} (asked : J → A) (meaning : A → O) (s : Stage J O) (place : ℕ) (es : List (BoardEntry A)) → IsKeptStage asked meaning s place es → IsKeptCore asked meaning s place es
+core_of asked meaning (stage.Pad x) place es k = k
+core_of asked meaning (stage.Queue x) place es k = k
+core_of asked meaning (stage.Chain x) place es k = (k.0, k.1, k.2, k.4, k.5)
+
+placed_core : {J O A : Type 0} (asked : J → A) (meaning : A → O) (s : Stage J O) (place : ℕ) (es : List (BoardEntry A)) → IsKeptCore asked meaning s place es → IsPlaced s → IsKeptStage asked meaning s place es
+placed_core asked meaning (stage.Pad x) place es k l = k
+placed_core asked meaning (stage.Queue x) place es k l = k
+placed_core asked meaning (stage.Chain x) place es k l = (k.0, k.1, k.2, l, k.3, k.4)
+
+core_to : {J O A : Type 0} (asked : J → A) (meaning : A → O) (s : Stage J O) (place : ℕ) (es : List (BoardEntry A)) → IsKeptCore asked meaning s place es → IsKeptCore asked meaning (without_room s) place es
+core_to asked meaning (stage.Pad x) place es k = (pad_like asked meaning x es x.lists 0 k.0, k.1)
+core_to asked meaning (stage.Queue x) place es k = (line_room asked meaning x place es 0 0 k.0, k.1)
+core_to asked meaning (stage.Chain x) place es k = (line_room asked meaning x.line place es 0 0 k.0, pad_like asked meaning x.pad es x.pad.lists 0 k.1, k.2, k.3, k.4)
+
+core_from : {J O A : Type 0} (asked : J → A) (meaning : A → O) (s : Stage J O) (place : ℕ) (es : List (BoardEntry A)) → IsKeptCore asked meaning (without_room s) place es → IsKeptCore asked meaning s place es
+core_from asked meaning (stage.Pad x) place es k = (pad_back asked meaning x es 0 k.0, k.1)
+core_from asked meaning (stage.Queue x) place es k = (line_back asked meaning x place es 0 0 k.0, k.1)
+core_from asked meaning (stage.Chain x) place es k = (line_back asked meaning x.line place es 0 0 k.0, pad_back asked meaning x.pad es 0 k.1, k.2, k.3, k.4)
+
+pub core_same : {J O A : Type 0} (asked : J → A) (meaning : A → O) (a b : Stage J O) (place : ℕ) (es : List (BoardEntry A)) → without_room a ≡ without_room b → IsPlaced a → IsKeptCore asked meaning b place es → IsKeptStage asked meaning a place es
+core_same asked meaning a b place es e l k =
+    placed_core asked meaning a place es (core_from asked meaning a place es (subst (λ s. IsKeptCore asked meaning s place es) (sym e) (core_to asked meaning b place es k))) l
+
+pub stage_same : {J O A : Type 0} (asked : J → A) (meaning : A → O) (a b : Stage J O) (place : ℕ) (es : List (BoardEntry A)) → without_room a ≡ without_room b → IsPlaced a → IsKeptStage asked meaning b place es → IsKeptStage asked meaning a place es
+stage_same asked meaning a b place es e l k = core_same asked meaning a b place es e l (core_of asked meaning b place es k)
+
+pub placed_kept : {J O A : Type 0} (asked : J → A) (meaning : A → O) (s : Stage J O) (place : ℕ) (es : List (BoardEntry A)) → IsKeptStage asked meaning s place es → IsPlaced s
+placed_kept asked meaning (stage.Pad x) place es k = tt
+placed_kept asked meaning (stage.Queue x) place es k = tt
+placed_kept asked meaning (stage.Chain x) place es k = k.3
+
+pub placed_pad : {J O : Type 0} (s : Stage J O) → is_pad s ≡ true → IsPlaced s
+placed_pad (stage.Pad x) h = tt
+placed_pad (stage.Queue x) h = tt
+placed_pad (stage.Chain x) h = cc
+
+-- who is noted after room was made
+pub notes_same : {J O : Type 0} (old room new : Pipeline J O) (caller : ℕ) (accepted : Bool) → IsSame old room → NotesCaller room new caller accepted → NotesCaller old new caller accepted
+notes_same old room new caller accepted s n = record {
+  maker = n.maker ∙ s.maker;
+  closed = n.closed ∙ s.closed;
+  shared = n.shared ∙ s.shared;
+  mask = n.mask ∙ s.mask;
+  collected = n.collected ∙ s.collected;
+  submitters = λ c h. n.submitters c (λ q. h (q ∙ s.maker)) ∙ ap (λ xs. has c xs || (accepted && caller == c)) s.submitters;
+}
+
+has_items : {xs ys : List ℕ} (caller : ℕ) → xs ≡ ys → has caller xs ≡ has caller ys
+has_items caller e = ap (has caller) e
+
+room_cases : {J O A : Type 0} (old new : Pipeline J O) (es : List (BoardEntry A)) (caller : ℕ) → IsSame old new → IsMaker es caller ⊎ (has caller old.submitters.items ≡ has caller (submitters es)) → IsMaker es caller ⊎ (has caller new.submitters.items ≡ has caller (submitters es))
+room_cases old new es caller s (inl m) = inl m
+room_cases old new es caller s (inr e) = inr (has_items caller s.submitters ∙ e)
+
+-- a pipeline with more room is kept
+pub pipe_same : {J O A : Type 0} (asked : J → A) (meaning : A → O) (old new : Pipeline J O) (es : List (BoardEntry A)) → IsSame old new → (IsPlaced old.stage → IsPlaced new.stage) → IsKeptPipe asked meaning old es → IsKeptPipe asked meaning new es
+pipe_same asked meaning old new es s placed k = record {
+  born = k.born ∙ made_same s.maker (shape_same new.stage old.stage s.stage (width_born (birth es)));
+  closing = k.closing ∙ sym s.closed;
+  sharing = k.sharing ∙ sym s.shared;
+  masking = k.masking ∙ sym s.mask;
+  submitting = λ caller. room_cases old new es caller s (k.submitting caller);
+  place = k.place ∙ sym s.collected;
+  stage = subst (λ n. IsKeptStage asked meaning new.stage n es) (sym s.collected) (stage_same asked meaning new.stage old.stage old.collected es s.stage (placed (placed_kept asked meaning old.stage old.collected es k.stage)) k.stage);
+  idle = λ h. idle_same old.stage new.stage (sym s.stage) (k.idle (sym s.closed ∙ h));
+}
+
+pub owes_same : {J O : Type 0} (old new : Pipeline J O) → IsSame old new → owes new ≡ owes old
+owes_same old new s = rw (owed_same new.stage old.stage s.stage, s.closed) refl

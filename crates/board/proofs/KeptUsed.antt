@@ -8,7 +8,7 @@ use Rattle.board.specs.declared.entry.BoardEntry.{BoardEntry}
 use Rattle.board.specs.Entries.{caller_of, accepted_in}
 use Rattle.board.specs.declared.allowance.Used.{Used}
 use Rattle.board.specs.Allowance.{used_at, used_in, accepted_from, accepted_by, IsKeptUsed}
-use Rattle.board.proofs.PadOrder.{filter_map-none, filter_map-some}
+use Rattle.board.proofs.Lists.{filter_map-none, filter_map-some}
 
 pub nothing_from : {A : Type 0} (b : Bool) (o : Option A) → o ≡ None → cond b o None ≡ None
 nothing_from true o h = h

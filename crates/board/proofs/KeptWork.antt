@@ -1,246 +1,335 @@
-use Rattle.std.proofs.Common.{◌≡◌, ℕ, ◌+◌, ◌-◌, ◌<◌, ◌≤◌, Bool, true, false, cond, List, [], ◌∷◌, ◌++◌, length, map, Option, Some, None, refl, sym, ◌∙◌, ap, subst, arith, inl, inr, ◌⊎◌, get_or}
-use Rattle.std.specs.Prelude.{nat_lt, slice_get, slice_set}
+-- What a take does to the board.
+use Rattle.std.proofs.Common.{◌≡◌, ℕ, zero, suc, ◌+◌, ◌*◌, ◌<◌, ◌≤◌, Bool, true, false, cond, ◌||◌, List, [], ◌∷◌, ◌++◌, length, map, take, Option, Some, None, is_some, refl, sym, ◌∙◌, ap, subst, arith, inl, inr, ◌⊎◌, get_or, length-append}
+use Rattle.std.specs.Prelude.{◌==◌, slice_get, slice_set}
+use Rattle.std.specs.List.{filter, filter_map}
+use Rattle.std.specs.Option.{option_map}
 use Rattle.std.proofs.lemmas.Bool.{cases_lt, eq-eqb, false_from_ne_true}
-use Rattle.padata_core.specs.Pad.{taken_of}
+use Rattle.std.proofs.lemmas.Option.{slice_get-map}
+use Rattle.std.proofs.lemmas.List.{map-append}
+use Rattle.std.proofs.lemmas.List.Elements.{filter-append}
+use Rattle.padata_core.specs.Pad.{Pad, taken_of, ready, running_of}
 use Rattle.request_queue.specs.Line.{number_at_bound}
+use Rattle.cryptd.specs.Server.{Server}
 use Rattle.board.specs.declared.entry.BoardEntry.{BoardEntry}
-use Rattle.board.specs.declared.entry.BoardEntry.TheVariants.{Take, Finish, Deq, Done}
-use Rattle.board.specs.declared.pipeline.PadPipeline.{PadPipeline}
-use Rattle.board.specs.declared.pipeline.QueuePipeline.{QueuePipeline}
+use Rattle.board.specs.declared.entry.BoardEntry.TheVariants.{Take, Deq}
 use Rattle.board.specs.declared.pipeline.Pipeline.{Pipeline}
-use Rattle.board.specs.declared.pipeline.Pipeline.TheVariants as pipeline
-use Rattle.board.specs.Pipelines.{is_pad, waiting_in, next_of, started_by, MayServe, IsQuiet, without_first, MayEnd, ended}
-use Rattle.board.specs.Entries.{Notice, is_of, entries_of, accepted_in, birth_in, birth, pad_born, queue_born, max_born, submissions, takings, takers, finished, has, meaning_at, starts, is_closed, take_entry, finish_entry, AllTaken, IsHeldBusyOrEmpty, NoneWaits}
-use Rattle.board.specs.Legal.{IsRight, IsRightFor, MayFinish, is_shut_entry}
-use Rattle.board.specs.Kept.{IsKeptPad, IsKeptQueue, IsKept, IsKeptBoard, owes, owed_by}
-use Rattle.board.proofs.QueueOrder.{IsServed}
-use Rattle.board.proofs.Transfer.{entries-more}
+use Rattle.board.specs.declared.stage.Stage.{Stage}
+use Rattle.board.specs.declared.stage.Stage.TheVariants as stage
+use Rattle.board.specs.Shapes.{queue_born, line_born, lists_born, width_born}
+use Rattle.board.specs.Stages.{is_queue, jobs_of, next_of, started_by, MayServe, MayPass, without_first}
+use Rattle.board.specs.Entries.{is_of, entries_of, birth_in, birth, accepted_in, submissions, dequeued_in, dequeues, dequeued, passed_on, taken_in, takings, takers, finished_in, finished, has, is_close, is_closed, is_share, masked_in, submitter_in, collected_in, take_entry, MayTake, AllTaken, IsHeldBusyOrEmpty, NoneFor}
+use Rattle.board.specs.Legal.{IsRight, IsRightFor, MayFinish, LegalBoard, is_shut_entry}
+use Rattle.board.specs.Kept.{shape_of, IsIdle, IsKeptPad, IsKeptStage, IsKeptPipe, IsKeptBoard, work_owed, owed_by}
+use Rattle.board.specs.Ready.{HasJob, Admits, NoneIs}
+use Rattle.board.proofs.Lists.{filter_map-none, filter_map-some, has_only_below}
+use Rattle.board.proofs.Transfer.{entries-more, each_right}
+use Rattle.board.proofs.Keeping.{birth_stays, AreNumbered, passed-le, orderly}
 use Rattle.board.proofs.Kept.{kept_here, place_step}
-use Rattle.board.proofs.KeptTake.{take_kept, take_owes, drop_head, ready_after}
-use Rattle.board.proofs.KeptFinish.{finish_kept, finish_owes, finish_low, finish_high, finish_runs}
-use Rattle.board.proofs.KeptQueue.{queue_is, deq_kept, done_kept, next_untaken, next_unfinished, queue_ends}
-use Rattle.board.proofs.KeptServed.{served_here}
-
--- What a take and a finish do to the board.
+use Rattle.board.proofs.KeptMarks.{stage_more}
+use Rattle.board.proofs.Admitting.{queue_kept, may_take, admitted}
+use Rattle.board.proofs.KeptPassing.{drop_head}
+use Rattle.board.proofs.KeptTaking.{takers-taken, take_kept}
+use Rattle.board.proofs.KeptEntering.{line_quiet, starts_is}
+use Rattle.board.proofs.KeptQueue.{queue_taken}
 
 -- the entry by which the first job of a pipeline is taken
-abbrev pub first_taken : {J O A : Type 0} → Pipeline J O → ℕ → ℕ → BoardEntry A
-first_taken pipe caller p = cond (is_pad pipe) (Take caller p (next_of pipe)) (Deq caller p (next_of pipe) (started_by pipe))
+abbrev pub first_taken : {J O A : Type 0} → Stage J O → ℕ → ℕ → BoardEntry A
+first_taken s caller p = cond (is_queue s) (Deq caller p (next_of s) (started_by s)) (Take caller p (next_of s))
 
-abbrev pub job_ended : {J O A : Type 0} → Pipeline J O → ℕ → ℕ → ℕ → BoardEntry A
-job_ended pipe caller p n = cond (is_pad pipe) (Finish caller p n) (Done caller p n)
+-- ---- lists
 
-bound_cases : (max s w n : ℕ) (b : Bool) → nat_lt max w ≡ b → n ≡ s + w → nat_lt (s + max) n ≡ b
-bound_cases max s w n true h e = (let l : max < w = grind arith in grind arith)
-bound_cases max s w n false h e = (let l : w ≤ max = grind arith in grind arith)
+take_get : {X : Type 0} (xs : List X) (k n : ℕ) (x : X) → slice_get (take k xs) n ≡ Some x → slice_get xs n ≡ Some x
+take_get [] zero n x h = cc
+take_get [] (suc k) n x h = h
+take_get (y ∷ xs) zero n x h = cc
+take_get (y ∷ xs) (suc k) zero x h = h
+take_get (y ∷ xs) (suc k) (suc n) x h = take_get xs k n x h
 
-started_cases : (b c : Bool) (n m : ℕ) → b ≡ c → n ≡ m → cond b (Some n) None ≡ cond c (Some m) None
-started_cases b c n m h e = rw (h, e) refl
+running_more : {O : Type 0} (outs : List (Option O)) → running_of (outs ++ None ∷ []) ≡ running_of outs + 1
+running_more [] = refl
+running_more (None ∷ outs) = (let r = running_more outs in omega arith)
+running_more (Some x ∷ outs) = running_more outs
 
-started_is : {J O A : Type 0} (asked : J → A) (meaning : A → O) (x : QueuePipeline J O) (es : List (BoardEntry A)) → IsKeptQueue asked meaning x es → number_at_bound x.queue.line ≡ starts es x.queue.line.served
-started_is asked meaning x es k =
-    let m : max_born (birth es) ≡ x.queue.line.max = ap max_born k.born in
-    rw m (ap (λ b. cond b (Some (x.queue.line.served + x.queue.line.max)) None) (sym (bound_cases x.queue.line.max x.queue.line.served (length x.queue.line.waiting) (length (submissions es)) (nat_lt x.queue.line.max (length x.queue.line.waiting)) refl k.submitted)))
+ready_more : {O : Type 0} (outs : List (Option O)) → ready outs ≡ [] → ready (outs ++ None ∷ []) ≡ []
+ready_more [] h = refl
+ready_more (None ∷ outs) h = refl
+ready_more (Some x ∷ outs) h = cc
 
--- taking the first job: what is kept, that it is right, what it leaves owed, and the ask
-pub record IsTakenOf {J O A : Type 0} (asked : J → A) (meaning : A → O) (pipe : Pipeline J O) (es : List (BoardEntry A)) (caller p : ℕ) (job : J) (rest : List J) : Type 0 where
-  pub kept : IsKept asked meaning (without_first pipe rest) (es ++ first_taken pipe caller p ∷ [])
-  pub right : IsRightFor es (first_taken pipe caller p)
-  pub pays : owes (without_first pipe rest) + 1 ≡ owes pipe
-  pub ask : slice_get (submissions es) (next_of pipe) ≡ Some (asked job)
-  pub ready : MayFinish meaning (es ++ first_taken pipe caller p ∷ []) caller (next_of pipe) (meaning (asked job))
+idle_cases : {X : Type 0} (c : Bool) (xs : List X) (x : X) (ys : List X) → (c ≡ true → xs ≡ []) → xs ≡ x ∷ ys → c ≡ false
+idle_cases c xs x ys i w = false_from_ne_true c (λ h. (let l = i h in cc))
 
-idle_cases : {X : Type 0} (c : Bool) (xs : List X) (x : X) (ys : List X) → (c ≡ true → length xs ≡ 0) → xs ≡ x ∷ ys → c ≡ false
-idle_cases c xs x ys i w = false_from_ne_true c (λ h. (let l = ap length w in let z = i h in absurd (omega arith)))
+none_step : (b : Bool) (t : ℕ × ℕ) (ts : List (ℕ × ℕ)) (h : Bool) → (b || h) ≡ false → (h ≡ false → map (λ (u : ℕ × ℕ). u.1) ts ≡ []) → map (λ (u : ℕ × ℕ). u.1) (cond b (t ∷ ts) ts) ≡ []
+none_step true t ts h e rest = cc
+none_step false t ts h e rest = rest e
 
-pad_taken_of : {J O A : Type 0} (asked : J → A) (meaning : A → O) (x : PadPipeline J O) (es : List (BoardEntry A)) (caller p : ℕ) (job : J) (rest : List J) → IsKeptPad asked meaning x es → x.pad.waiting ≡ job ∷ rest → IsTakenOf asked meaning (pipeline.Pad x) es caller p job rest
-pad_taken_of {J} {O} {A} asked meaning x es caller p job rest k w =
-    let n = taken_of x.pad in
-    let e : BoardEntry A = Take caller p n in
-    let lw = ap length w in
-    let s0 = k.submitted in
-    let open_ : is_closed es ≡ false = k.closing ∙ idle_cases x.closed x.pad.waiting job rest k.idle w in
-    let u = k.untaken n (omega arith) in
-    let dh = drop_head (submissions es) n (asked job) (map asked rest) (sym k.waiting ∙ ap (map asked) w) in
-    record {
-      kept = take_kept asked meaning x es p caller job rest k w;
-      right = ((ap pad_born k.born, open_), omega arith, u);
-      pays = take_owes x job rest w;
-      ask = dh.0;
-      ready = ready_after meaning es e caller n (asked job) refl refl refl u (k.running n (omega arith)) dh.0;
-    }
+-- a number that is not among those taken has nobody who took it
+none_took : (ts : List (ℕ × ℕ)) (n : ℕ) → has n (map (λ (t : ℕ × ℕ). t.0) ts) ≡ false → map (λ (t : ℕ × ℕ). t.1) (filter (λ (t : ℕ × ℕ). t.0 == n) ts) ≡ []
+none_took [] n h = refl
+none_took (t ∷ ts) n h = none_step (t.0 == n) t (filter (λ (u : ℕ × ℕ). u.0 == n) ts) (has n (map (λ (u : ℕ × ℕ). u.0) ts)) h (none_took ts n)
 
-queue_taken_of : {J O A : Type 0} (asked : J → A) (meaning : A → O) (x : QueuePipeline J O) (es : List (BoardEntry A)) (given : List Notice) (caller p : ℕ) (job : J) (rest : List J) → IsKeptQueue asked meaning x es → IsServed es given → x.queue.held ≡ false → x.queue.busy ≡ false → x.queue.line.waiting ≡ job ∷ rest → IsTakenOf asked meaning (pipeline.Queue x) es caller p job rest
-queue_taken_of {J} {O} {A} asked meaning x es given caller p job rest k v held busy w =
-    let n = x.queue.line.served in
-    let o = number_at_bound x.queue.line in
+-- ---- what holds of the next number of a queue
+
+not_among : {A : Type 0} (es : List (BoardEntry A)) (n : ℕ) → AreNumbered es → dequeued es ≤ n → has n (map (λ (t : ℕ × ℕ). t.0) (dequeues es)) ≡ false
+not_among es n o l = false_from_ne_true (has n (map (λ (t : ℕ × ℕ). t.0) (dequeues es))) (λ h. (let b = has_only_below (dequeued es) n (subst (λ ns. has n ns ≡ true) o.numbers h) in absurd (omega arith)))
+
+serial_takings : {A : Type 0} (es : List (BoardEntry A)) → queue_born (birth es) ≡ true → takings es ≡ dequeues es
+serial_takings es q = ap (λ b. cond b (dequeues es) (filter_map taken_in es)) q
+
+-- nobody took a number that didn't leave the queue
+pub queue_untaken : {A : Type 0} (es : List (BoardEntry A)) (n : ℕ) → AreNumbered es → queue_born (birth es) ≡ true → dequeued es ≤ n → takers n es ≡ []
+queue_untaken es n o q l = ap (λ ts. map (λ (t : ℕ × ℕ). t.1) (filter (λ (t : ℕ × ℕ). t.0 == n) ts)) (serial_takings es q) ∙ none_took (dequeues es) n (not_among es n o l)
+
+unfinished_beyond : {A : Type 0} (es : List (BoardEntry A)) (n : ℕ) → AreNumbered es → passed_on es ≤ n → has n (finished es) ≡ false
+unfinished_beyond es n o l = false_from_ne_true (has n (finished es)) (λ h. (let b = o.done n h in absurd (omega arith)))
+
+-- who lets a queue's next request out has taken it
+pub takers-let : {A : Type 0} (es : List (BoardEntry A)) (p n caller : ℕ) (o : Option ℕ) → is_some (birth es) ≡ true → queue_born (birth es) ≡ true → takers n es ≡ [] → takers n (es ++ Deq caller p n o ∷ []) ≡ caller ∷ []
+takers-let {A} es p n caller o b q none =
     let e : BoardEntry A = Deq caller p n o in
-    let q = queue_is asked meaning x es k in
-    let lw = ap length w in
-    let s0 = k.submitted in
-    let t0 = k.taken in
-    let r : length (finished es) + cond x.queue.busy 1 0 ≡ n = k.running in
-    let r2 = rw busy at r in
-    let open_ : is_closed es ≡ false = k.closing ∙ idle_cases x.closed x.queue.line.waiting job rest k.idle w in
-    let u : takers n es ≡ [] = subst (λ m. takers m es ≡ []) k.taken (next_untaken es given v q) in
-    let f : has n (finished es) ≡ false = next_unfinished asked meaning x es given k v in
-    let dh = drop_head (submissions es) n (asked job) (map asked rest) (sym k.waiting ∙ ap (map asked) w) in
+    let be = birth_stays es e b in
+    let now = serial_takings es q in
+    let then : takings (es ++ e ∷ []) ≡ takings es ++ (n, caller) ∷ [] = serial_takings (es ++ e ∷ []) (ap queue_born be ∙ q) ∙ (filter_map-some dequeued_in es e (n, caller) refl ∙ ap (λ ts. ts ++ (n, caller) ∷ []) (sym now)) in
+    ap (λ ts. map (λ (t : ℕ × ℕ). t.1) (filter (λ (t : ℕ × ℕ). t.0 == n) ts)) then
+    ∙ (ap (map (λ (t : ℕ × ℕ). t.1)) (filter-append (λ (t : ℕ × ℕ). t.0 == n) (takings es) ((n, caller) ∷ []))
+    ∙ (map-append (λ (t : ℕ × ℕ). t.1) (filter (λ (t : ℕ × ℕ). t.0 == n) (takings es)) (cond (n == n) ((n, caller) ∷ []) [])
+    ∙ (ap (λ c. takers n es ++ map (λ (t : ℕ × ℕ). t.1) (cond c ((n, caller) ∷ []) [])) (eq-eqb n n refl)
+    ∙ ap (λ xs. xs ++ caller ∷ []) none)))
+
+takers-off : {A : Type 0} (es : List (BoardEntry A)) (p n caller : ℕ) → is_some (birth es) ≡ true → queue_born (birth es) ≡ false → takers n es ≡ [] → takers n (es ++ Take caller p n ∷ []) ≡ caller ∷ []
+takers-off es p n caller b q none =
+    takers-taken es p n caller n b q
+    ∙ (ap (λ c. takers n es ++ map (λ (t : ℕ × ℕ). t.1) (cond c ((n, caller) ∷ []) [])) (eq-eqb n n refl)
+    ∙ ap (λ xs. xs ++ caller ∷ []) none)
+
+-- who just took a number may finish it
+may_finish : {A O : Type 0} (meaning : A → O) (es : List (BoardEntry A)) (e : BoardEntry A) (caller n : ℕ) (a : A) → takers n (es ++ e ∷ []) ≡ caller ∷ [] → accepted_in e ≡ None → finished_in e ≡ None → has n (finished es) ≡ false → slice_get (submissions es) n ≡ Some a → MayFinish meaning (es ++ e ∷ []) caller n (meaning a)
+may_finish meaning es e caller n a t s f running ask =
+    let fe : finished (es ++ e ∷ []) ≡ finished es = filter_map-none finished_in es e f in
+    let se : submissions (es ++ e ∷ []) ≡ submissions es = filter_map-none accepted_in es e s in
+    (t, rw fe running, rw se (slice_get-map meaning (submissions es) n ∙ ap (option_map meaning) ask))
+
+-- ---- taking the first job: what is kept, that it is right, what it leaves owed, and the ask
+
+record IsTakenOf {J O A : Type 0} (asked : J → A) (meaning : A → O) (s : Stage J O) (es : List (BoardEntry A)) (place caller p : ℕ) (job : J) (rest : List J) : Type 0 where
+  kept : IsKeptStage asked meaning (without_first s rest) place (es ++ first_taken s caller p ∷ [])
+  right : IsRightFor es (first_taken s caller p)
+  pays : work_owed (without_first s rest) + 1 ≡ work_owed s
+  ask : slice_get (submissions es) (next_of s) ≡ Some (asked job)
+  finishing : MayFinish meaning (es ++ first_taken s caller p ∷ []) caller (next_of s) (meaning (asked job))
+
+pad_ask : {J O A : Type 0} (asked : J → A) (meaning : A → O) (pad : Pad J O) (es : List (BoardEntry A)) (job : J) (rest : List J) → IsKeptPad asked meaning pad es → pad.waiting ≡ job ∷ rest → slice_get (submissions es) (taken_of pad) ≡ Some (asked job)
+pad_ask asked meaning pad es job rest k w =
+    let h = drop_head (take (passed_on es) (submissions es)) (taken_of pad) (asked job) (map asked rest) (sym k.waiting ∙ ap (map asked) w) in
+    take_get (submissions es) (passed_on es) (taken_of pad) (asked job) h.0
+
+pad_low : {J O A : Type 0} (asked : J → A) (meaning : A → O) (pad : Pad J O) (es : List (BoardEntry A)) (job : J) (rest : List J) → IsKeptPad asked meaning pad es → pad.waiting ≡ job ∷ rest → taken_of pad < passed_on es
+pad_low asked meaning pad es job rest k w = (let l = ap length w in let s = k.submitted in omega arith)
+
+taken_pays : {J O : Type 0} (pad : Pad J O) (job : J) (rest : List J) → pad.waiting ≡ job ∷ rest → 2 * length rest + running_of (pad.outcomes ++ None ∷ []) + 1 ≡ 2 * length pad.waiting + running_of pad.outcomes
+taken_pays pad job rest w = (let l = ap length w in let r = running_more pad.outcomes in omega arith)
+
+no_wait : {X : Type 0} (xs : List X) (x : X) (ys : List X) → xs ≡ x ∷ ys → 0 < length xs
+no_wait xs x ys w = (let l = ap length w in omega arith)
+
+not_busy : (b : Bool) (f s : ℕ) → b ≡ false → f + cond b 1 0 ≡ s → f ≡ s
+not_busy true f s h e = cc
+not_busy false f s h e = omega arith
+
+stage_taken : {J O A : Type 0} (asked : J → A) (meaning : A → O) (s : Stage J O) (es : List (BoardEntry A)) (place caller p maker lists : ℕ) (job : J) (rest : List J) → IsKeptStage asked meaning s place es → birth es ≡ Some (maker, shape_of s lists) → AreNumbered es → is_closed es ≡ false → (is_queue s ≡ false → MayTake es caller) → MayServe s → jobs_of s ≡ job ∷ rest → IsTakenOf asked meaning s es place caller p job rest
+stage_taken {J} {O} {A} asked meaning (stage.Pad pad) es place caller p maker lists job rest k b o open_ may m w =
+    let some = ap is_some b in
+    let q = ap queue_born b in
+    let n = taken_of pad in
+    let e : BoardEntry A = Take caller p n in
+    let low = pad_low asked meaning pad es job rest k.0 w in
+    let none = k.0.untaken n (omega arith) in
+    let ask = pad_ask asked meaning pad es job rest k.0 w in
     record {
-      kept = deq_kept asked meaning x es p caller o job rest k busy w;
-      right = ((q, open_), k.holding ∙ held, omega arith, omega arith, omega arith, started_is asked meaning x es k);
-      pays = rw busy (omega arith);
-      ask = dh.0;
-      ready = ready_after meaning es e caller n (asked job) refl refl refl u f dh.0;
+      kept = (take_kept asked meaning pad es p caller job rest k.0 some q (passed-le es o.in_line) w, k.1);
+      right = ((ap lists_born b, open_), low, none, may refl);
+      pays = taken_pays pad job rest w;
+      ask = ask;
+      finishing = may_finish meaning es e caller n (asked job) (takers-off es p n caller some q none) refl refl (k.0.running n (omega arith)) ask;
+    }
+stage_taken {J} {O} {A} asked meaning (stage.Queue line) es place caller p maker lists job rest k b o open_ may m w =
+    let some = ap is_some b in
+    let q = ap queue_born b in
+    let n = line.line.served in
+    let e : BoardEntry A = Deq caller p n (number_at_bound line.line) in
+    let sv = k.0.served in
+    let sub = k.0.submitted in
+    let lw = ap length w in
+    let idle = not_busy line.busy (length (finished es)) line.line.served m.1 k.1 in
+    let pass : passed_on es ≡ dequeued es = ap (λ c. cond c (dequeued es) (length (submissions es))) (ap line_born b) in
+    let none = queue_untaken es n o q (omega arith) in
+    let ask = (drop_head (submissions es) n (asked job) (map asked rest) (sym k.0.waiting ∙ ap (map asked) w)).0 in
+    record {
+      kept = queue_taken asked meaning line es place p caller job rest k some m.1 w;
+      right = ((ap line_born b, open_), k.0.holding ∙ m.0, (λ h. omega arith), omega arith, sym sv, starts_is asked meaning line es place k.0);
+      pays = rw m.1 (omega arith);
+      ask = ask;
+      finishing = may_finish meaning es e caller n (asked job) (takers-let es p n caller (number_at_bound line.line) some q none) refl refl (unfinished_beyond es n o (omega arith)) ask;
+    }
+stage_taken {J} {O} {A} asked meaning (stage.Chain c) es place caller p maker lists job rest k b o open_ may m w =
+    let some = ap is_some b in
+    let q = ap queue_born b in
+    let n = taken_of c.pad in
+    let e : BoardEntry A = Take caller p n in
+    let low = pad_low asked meaning c.pad es job rest k.1 w in
+    let none = k.1.untaken n (omega arith) in
+    let ask = pad_ask asked meaning c.pad es job rest k.1 w in
+    let lw = ap length w in
+    let lo = length-append c.pad.outcomes (None ∷ []) in
+    let pays = taken_pays c.pad job rest w in
+    let j = k.2 in
+    record {
+      kept = (
+        line_quiet asked meaning c.line es e place k.0 some refl refl refl refl,
+        take_kept asked meaning c.pad es p caller job rest k.1 some q (passed-le es o.in_line) w,
+        (j.0, (let z = j.1 in omega arith)),
+        k.3,
+        ready_more c.pad.outcomes k.4,
+        k.5,
+      );
+      right = ((ap lists_born b, open_), low, none, may refl);
+      pays = omega arith;
+      ask = ask;
+      finishing = may_finish meaning es e caller n (asked job) (takers-off es p n caller some q none) refl refl (k.1.running n (omega arith)) ask;
     }
 
-pub taken_of_kept : {J O A : Type 0} (asked : J → A) (meaning : A → O) (pipe : Pipeline J O) (es : List (BoardEntry A)) (given : List Notice) (caller p : ℕ) (job : J) (rest : List J) → IsKept asked meaning pipe es → IsServed es given → MayServe pipe → waiting_in pipe ≡ job ∷ rest → IsTakenOf asked meaning pipe es caller p job rest
-taken_of_kept asked meaning (pipeline.Pad x) es given caller p job rest k v m w = pad_taken_of asked meaning x es caller p job rest k w
-taken_of_kept asked meaning (pipeline.Queue x) es given caller p job rest k v m w = queue_taken_of asked meaning x es given caller p job rest k v m.0 m.1 w
+-- no Close, Share, Mask, request or collect
+pub record ChangesStage {A : Type 0} (e : BoardEntry A) : Type 0 where
+  pub close : is_close e ≡ false
+  pub share : is_share e ≡ false
+  pub mask : masked_in e ≡ None
+  pub submitter : submitter_in e ≡ None
+  pub collect : collected_in e ≡ None
 
-first_right : {J O A : Type 0} (log : List (BoardEntry A)) (pipe : Pipeline J O) (caller p : ℕ) → IsRightFor (entries_of p log) (first_taken pipe caller p) → IsRight log (first_taken pipe caller p)
-first_right log (pipeline.Pad x) caller p r = r
-first_right log (pipeline.Queue x) caller p r = r
+first_changes : {J O : Type 0} (A : Type 0) (s : Stage J O) (caller p : ℕ) → ChangesStage {A = A} (first_taken s caller p)
+first_changes A (stage.Pad pad) caller p = record { close = refl; share = refl; mask = refl; submitter = refl; collect = refl }
+first_changes A (stage.Queue line) caller p = record { close = refl; share = refl; mask = refl; submitter = refl; collect = refl }
+first_changes A (stage.Chain c) caller p = record { close = refl; share = refl; mask = refl; submitter = refl; collect = refl }
 
-first_of : {J O : Type 0} (A : Type 0) (pipe : Pipeline J O) (caller p : ℕ) → (is_of {A = A} p (first_taken pipe caller p) ≡ true) × (birth_in {A = A} (first_taken pipe caller p) ≡ None)
-first_of A (pipeline.Pad x) caller p = (eq-eqb p p refl, refl)
-first_of A (pipeline.Queue x) caller p = (eq-eqb p p refl, refl)
+first_shape : {J O : Type 0} (s : Stage J O) (rest : List J) (lists : ℕ) → shape_of (without_first s rest) lists ≡ shape_of s lists
+first_shape (stage.Pad pad) rest lists = refl
+first_shape (stage.Queue line) rest lists = refl
+first_shape (stage.Chain c) rest lists = refl
+
+first_idle : {J O : Type 0} (s : Stage J O) (job : J) (rest : List J) → jobs_of s ≡ job ∷ rest → IsIdle s → ⊥
+first_idle (stage.Pad pad) job rest w i = cc
+first_idle (stage.Queue line) job rest w i = cc
+first_idle (stage.Chain c) job rest w i = (let z = i.1 in cc)
+
+-- a pipeline that has a job is open
+open_of : {J O A : Type 0} (asked : J → A) (meaning : A → O) (pipe : Pipeline J O) (es : List (BoardEntry A)) → IsKeptPipe asked meaning pipe es → (IsIdle pipe.stage → ⊥) → is_closed es ≡ false
+open_of asked meaning pipe es k n = k.closing ∙ false_from_ne_true pipe.closed (λ h. n (k.idle h))
+
+pub first_of : {J O : Type 0} (A : Type 0) (s : Stage J O) (caller p : ℕ) → (is_of {A = A} p (first_taken s caller p) ≡ true) × (birth_in {A = A} (first_taken s caller p) ≡ None)
+first_of A (stage.Pad pad) caller p = (eq-eqb p p refl, refl)
+first_of A (stage.Queue line) caller p = (eq-eqb p p refl, refl)
+first_of A (stage.Chain c) caller p = (eq-eqb p p refl, refl)
+
+first_right : {J O A : Type 0} (log : List (BoardEntry A)) (s : Stage J O) (caller p : ℕ) → IsRightFor (entries_of p log) (first_taken s caller p) → IsRight log (first_taken s caller p)
+first_right log (stage.Pad pad) caller p r = (tt, r)
+first_right log (stage.Queue line) caller p r = (tt, r)
+first_right log (stage.Chain c) caller p r = (tt, r)
+
+-- the entries of a pipeline are numbered
+pub numbered_here : {A : Type 0} (log : List (BoardEntry A)) (p : ℕ) → LegalBoard log → AreNumbered (entries_of p log)
+numbered_here log p l = (orderly (entries_of p log) (each_right [] log p l)).numbered
+
+pub take_step : {J O A : Type 0} (asked : J → A) (meaning : A → O) (pipes : List (Pipeline J O)) (log : List (BoardEntry A)) (p caller : ℕ) (pipe : Pipeline J O) (after : Stage J O) (job : J) → IsKeptBoard asked meaning pipes log → p < length pipes → pipe ≡ get_or pipes p pipe
+    → HasJob pipe → Admits pipe caller → jobs_of pipe.stage ≡ job ∷ jobs_of after → after ≡ without_first pipe.stage (jobs_of after)
+    → IsKeptBoard asked meaning (slice_set pipes p (record pipe { stage = after })) (log ++ first_taken pipe.stage caller p ∷ [])
+    × (owed_by (slice_set pipes p (record pipe { stage = after })) + 1 ≡ owed_by pipes)
+    × (slice_get (submissions (entries_of p log)) (next_of pipe.stage) ≡ Some (asked job))
+    × MayFinish meaning (entries_of p (log ++ first_taken pipe.stage caller p ∷ [])) caller (next_of pipe.stage) (meaning (asked job))
+take_step {J} {O} {A} asked meaning pipes log p caller pipe after job k within here m a w e =
+    let es = entries_of p log in
+    let rest = jobs_of after in
+    let en : BoardEntry A = first_taken pipe.stage caller p in
+    let kp = kept_here asked meaning pipes log p pipe k within here in
+    let open_ = open_of asked meaning pipe es kp (first_idle pipe.stage job rest w) in
+    let t = stage_taken asked meaning pipe.stage es pipe.collected caller p pipe.maker (width_born (birth es)) job rest kp.stage kp.born (numbered_here log p k.legal) open_ (λ q. may_take asked meaning pipe es caller kp q a) m w in
+    let ch = first_changes A pipe.stage caller p in
+    let f = first_of A pipe.stage caller p in
+    let moved = stage_more asked meaning pipe (without_first pipe.stage rest) es en kp (first_shape pipe.stage rest) ch.close ch.share ch.mask ch.submitter ch.collect t.kept (λ h. absurd (first_idle pipe.stage job rest w (kp.idle h))) in
+    let kept : IsKeptPipe asked meaning (record pipe { stage = after }) (es ++ en ∷ []) = subst (λ s. IsKeptPipe asked meaning (record pipe { stage = s }) (es ++ en ∷ [])) (sym e) moved in
+    let s = place_step asked meaning pipes log p pipe (record pipe { stage = after }) en k within here f.0 f.1 (first_right log pipe.stage caller p t.right) kept in
+    let pays : work_owed after + 1 ≡ work_owed pipe.stage = subst (λ x. work_owed x + 1 ≡ work_owed pipe.stage) (sym e) t.pays in
+    (s.0, omega (arith, s.1, pays), t.ask, rw (entries-more log p en f.0) t.finishing)
 
 -- the entry that a take adds, as the history names it
-pub take_entry_is : {J O A : Type 0} (asked : J → A) (meaning : A → O) (log : List (BoardEntry A)) (pipe : Pipeline J O) (caller p : ℕ) → IsKept asked meaning pipe (entries_of p log) → first_taken pipe caller p ≡ take_entry log caller p (next_of pipe)
-take_entry_is asked meaning log (pipeline.Pad x) caller p k = rw (ap pad_born k.born) refl
-take_entry_is asked meaning log (pipeline.Queue x) caller p k = rw (ap pad_born k.born) (ap (λ o. Deq caller p x.queue.line.served o) (started_is asked meaning x (entries_of p log) k))
+named_cases : {J O A : Type 0} (asked : J → A) (meaning : A → O) (log : List (BoardEntry A)) (s : Stage J O) (caller p place : ℕ) → IsKeptStage asked meaning s place (entries_of p log) → queue_born (birth (entries_of p log)) ≡ is_queue s → first_taken s caller p ≡ take_entry log caller p (next_of s)
+named_cases asked meaning log (stage.Pad pad) caller p place k q = rw q refl
+named_cases asked meaning log (stage.Queue line) caller p place k q = rw q (ap (λ o. Deq caller p line.line.served o) (starts_is asked meaning line (entries_of p log) place k.0))
+named_cases asked meaning log (stage.Chain c) caller p place k q = rw q refl
 
-pub take_step : {J O A : Type 0} (asked : J → A) (meaning : A → O) (pipes : List (Pipeline J O)) (log : List (BoardEntry A)) (p caller : ℕ) (pipe after : Pipeline J O) (job : J) → IsKeptBoard asked meaning pipes log → p < length pipes → pipe ≡ get_or pipes p pipe
-    → MayServe pipe → waiting_in pipe ≡ job ∷ waiting_in after → after ≡ without_first pipe (waiting_in after)
-    → IsKeptBoard asked meaning (slice_set pipes p after) (log ++ first_taken pipe caller p ∷ [])
-    × (owed_by (slice_set pipes p after) + 1 ≡ owed_by pipes)
-    × (slice_get (submissions (entries_of p log)) (next_of pipe) ≡ Some (asked job))
-    × MayFinish meaning (entries_of p (log ++ first_taken pipe caller p ∷ [])) caller (next_of pipe) (meaning (asked job))
-take_step {J} {O} {A} asked meaning pipes log p caller pipe after job k within here m w e =
-    let es = entries_of p log in
-    let en : BoardEntry A = first_taken pipe caller p in
-    let kp = kept_here asked meaning pipes log p pipe k within here in
-    let t = taken_of_kept asked meaning pipe es _ caller p job (waiting_in after) kp (served_here log p k.legal) m w in
-    let f = first_of A pipe caller p in
-    let kept : IsKept asked meaning after (es ++ en ∷ []) = subst (λ x. IsKept asked meaning x (es ++ en ∷ [])) (sym e) t.kept in
-    let s = place_step asked meaning pipes log p pipe after en k within here f.0 f.1 (first_right log pipe caller p t.right) kept in
-    let o : owes after + 1 ≡ owes pipe = subst (λ x. owes x + 1 ≡ owes pipe) (sym e) t.pays in
-    (s.0, omega (arith, s.1, o), t.ask, rw (entries-more log p en f.0) t.ready)
+pub take_entry_is : {J O A : Type 0} (asked : J → A) (meaning : A → O) (log : List (BoardEntry A)) (pipe : Pipeline J O) (caller p : ℕ) → IsKeptPipe asked meaning pipe (entries_of p log) → first_taken pipe.stage caller p ≡ take_entry log caller p (next_of pipe.stage)
+take_entry_is asked meaning log pipe caller p k = named_cases asked meaning log pipe.stage caller p pipe.collected k.stage (queue_kept asked meaning pipe (entries_of p log) k)
 
--- nothing is taken of a pipeline that is quiet
-no_waiting : {X : Type 0} (xs : List X) → xs ≡ [] → length xs ≡ 0
-no_waiting xs e = ap length e
+-- ---- where no job may be taken
 
-pad_quiet : {J O A : Type 0} (asked : J → A) (meaning : A → O) (x : PadPipeline J O) (es : List (BoardEntry A)) → IsKeptPad asked meaning x es → x.pad.waiting ≡ [] → AllTaken es
-pad_quiet asked meaning x es k z n l = k.taken n (let s = k.submitted in let w = no_waiting x.pad.waiting z in omega arith)
+no_job : {X : Type 0} (xs : List X) → (0 < length xs → ⊥) → length xs ≡ 0
+no_job [] h = refl
+no_job (x ∷ xs) h = absurd (h (omega arith))
 
-busy_cases : (b : Bool) (f t s : ℕ) → b ≡ true → f + cond b 1 0 ≡ s → t ≡ s → f < t
-busy_cases true f t s h e g = omega arith
-busy_cases false f t s h e g = cc
+pad_taken : {J O A : Type 0} (asked : J → A) (meaning : A → O) (pad : Pad J O) (es : List (BoardEntry A)) → IsKeptPad asked meaning pad es → (0 < length pad.waiting → ⊥) → AllTaken es
+pad_taken asked meaning pad es k z n l = k.taken n (let s = k.submitted in let w = no_job pad.waiting z in omega arith)
 
-queue_quiet : {J O A : Type 0} (asked : J → A) (meaning : A → O) (x : QueuePipeline J O) (es : List (BoardEntry A)) → IsKeptQueue asked meaning x es → (x.queue.held ≡ true) ⊎ ((x.queue.busy ≡ true) ⊎ (x.queue.line.waiting ≡ [])) → IsHeldBusyOrEmpty es
-queue_quiet asked meaning x es k (inl held) = inl (k.holding ∙ held)
-queue_quiet asked meaning x es k (inr (inl busy)) = inr (inl (busy_cases x.queue.busy (length (finished es)) (length (takings es)) x.queue.line.served busy k.running k.taken))
-queue_quiet asked meaning x es k (inr (inr none)) = inr (inr (let s = k.submitted in let t = k.taken in let w = no_waiting x.queue.line.waiting none in omega arith))
+busy_less : (b : Bool) (f s d : ℕ) → b ≡ true → f + cond b 1 0 ≡ s → d ≡ s → f < d
+busy_less true f s d h e g = omega arith
+busy_less false f s d h e g = cc
 
-quiet_of : {J O A : Type 0} (asked : J → A) (meaning : A → O) (pipe : Pipeline J O) (es : List (BoardEntry A)) → IsKept asked meaning pipe es → IsQuiet pipe → (pad_born (birth es) ≡ true → AllTaken es) × (queue_born (birth es) ≡ true → IsHeldBusyOrEmpty es)
-quiet_of asked meaning (pipeline.Pad x) es k z = (λ h. pad_quiet asked meaning x es k z, λ h. (let g = ap queue_born k.born in cc))
-quiet_of asked meaning (pipeline.Queue x) es k z = (λ h. (let g = ap pad_born k.born in cc), λ h. queue_quiet asked meaning x es k z)
+quiet_queue : {J O A : Type 0} (asked : J → A) (meaning : A → O) (line : Server J O) (es : List (BoardEntry A)) (place : ℕ) (held busy : Bool) → held ≡ line.held → busy ≡ line.busy → IsKeptStage asked meaning (stage.Queue line) place es → ((held ≡ false) × (busy ≡ false) × (0 < length line.line.waiting) → ⊥) → IsHeldBusyOrEmpty es
+quiet_queue asked meaning line es place true busy eh eb k z = inl (k.0.holding ∙ sym eh)
+quiet_queue asked meaning line es place false true eh eb k z = inr (inl (busy_less line.busy (length (finished es)) line.line.served (dequeued es) (sym eb) k.1 k.0.served))
+quiet_queue asked meaning line es place false false eh eb k z =
+    let w = no_job line.line.waiting (λ l. z (refl, refl, l)) in
+    inr (inr (let s = k.0.submitted in let d = k.0.served in omega arith))
 
-none_at : {J O A : Type 0} (asked : J → A) (meaning : A → O) (pipes : List (Pipeline J O)) (log : List (BoardEntry A)) → IsKeptBoard asked meaning pipes log → ((q : ℕ) (d : Pipeline J O) → q < length pipes → IsQuiet (get_or pipes q d)) → (p : ℕ) → (p < length pipes) ⊎ (length pipes ≤ p)
-    → (pad_born (birth (entries_of p log)) ≡ true → AllTaken (entries_of p log)) × (queue_born (birth (entries_of p log)) ≡ true → IsHeldBusyOrEmpty (entries_of p log))
-none_at asked meaning [] log k z p (inl below) = absurd (omega arith)
-none_at asked meaning (x ∷ xs) log k z p (inl below) = quiet_of asked meaning (get_or (x ∷ xs) p x) (entries_of p log) (k.each p x below) (z p x below)
-none_at asked meaning pipes log k z p (inr above) = rw (k.beyond p above) (λ h. cc, λ h. cc)
+quiet_stage : {J O A : Type 0} (asked : J → A) (meaning : A → O) (s : Stage J O) (es : List (BoardEntry A)) (place caller maker lists : ℕ) → IsKeptStage asked meaning s place es → birth es ≡ Some (maker, shape_of s lists) → ((is_queue s ≡ true) ⊎ MayTake es caller → MayServe s → ⊥)
+    → (lists_born (birth es) ≡ true → MayTake es caller → AllTaken es) × (queue_born (birth es) ≡ true → IsHeldBusyOrEmpty es)
+quiet_stage asked meaning (stage.Pad pad) es place caller maker lists k b z = (λ h t. pad_taken asked meaning pad es k.0 (z (inr t)), λ h. (let g = ap queue_born b in cc))
+quiet_stage asked meaning (stage.Queue line) es place caller maker lists k b z = (λ h t. (let g = ap lists_born b in cc), λ h. quiet_queue asked meaning line es place line.held line.busy refl refl k (z (inl refl)))
+quiet_stage asked meaning (stage.Chain c) es place caller maker lists k b z = (λ h t. pad_taken asked meaning c.pad es k.1 (z (inr t)), λ h. (let g = ap queue_born b in cc))
 
-pub take_none : {J O A : Type 0} (asked : J → A) (meaning : A → O) (pipes : List (Pipeline J O)) (log : List (BoardEntry A)) → IsKeptBoard asked meaning pipes log → ((q : ℕ) (d : Pipeline J O) → q < length pipes → IsQuiet (get_or pipes q d)) → NoneWaits log
-take_none asked meaning pipes log k z p = none_at asked meaning pipes log k z p (cases_lt p (length pipes))
+admits_of : {J O A : Type 0} (asked : J → A) (meaning : A → O) (pipe : Pipeline J O) (es : List (BoardEntry A)) (caller : ℕ) → IsKeptPipe asked meaning pipe es → (is_queue pipe.stage ≡ true) ⊎ MayTake es caller → Admits pipe caller
+admits_of asked meaning pipe es caller k (inl q) = inl q
+admits_of asked meaning pipe es caller k (inr t) = admitted asked meaning pipe es caller k t
 
--- a pipeline that may serve isn't quiet
-pub not_quiet : {J O : Type 0} (pipe : Pipeline J O) → MayServe pipe → IsQuiet pipe → ⊥
-not_quiet (pipeline.Pad x) m z = (let w = no_waiting x.pad.waiting z in omega arith)
-not_quiet (pipeline.Queue x) m (inl held) = (let h = m.0 in cc)
-not_quiet (pipeline.Queue x) m (inr (inl busy)) = (let h = m.1 in cc)
-not_quiet (pipeline.Queue x) m (inr (inr none)) = (let w = no_waiting x.queue.line.waiting none in let l = m.2 in omega arith)
+none_at : {J O A : Type 0} (asked : J → A) (meaning : A → O) (pipes : List (Pipeline J O)) (log : List (BoardEntry A)) (caller : ℕ) → IsKeptBoard asked meaning pipes log → NoneIs (λ (pipe : Pipeline J O). HasJob pipe × Admits pipe caller) pipes → (p : ℕ) → (p < length pipes) ⊎ (length pipes ≤ p)
+    → (lists_born (birth (entries_of p log)) ≡ true → MayTake (entries_of p log) caller → AllTaken (entries_of p log)) × (queue_born (birth (entries_of p log)) ≡ true → IsHeldBusyOrEmpty (entries_of p log))
+none_at asked meaning [] log caller k z p (inl below) = absurd (omega arith)
+none_at asked meaning (x ∷ xs) log caller k z p (inl below) =
+    let pipe = get_or (x ∷ xs) p x in
+    let kp = k.each p x below in
+    quiet_stage asked meaning pipe.stage (entries_of p log) pipe.collected caller pipe.maker (width_born (birth (entries_of p log))) kp.stage kp.born (λ t m. z p x below (m, admits_of asked meaning pipe (entries_of p log) caller kp t))
+none_at asked meaning pipes log caller k z p (inr above) = rw (k.beyond p above) (λ h t. cc, λ h. cc)
 
--- finishing a job that runs: that it may end, what is kept, that it is right, and what it pays
-pub record IsEndedOf {J O A : Type 0} (asked : J → A) (meaning : A → O) (pipe : Pipeline J O) (es : List (BoardEntry A)) (caller p n : ℕ) (out : O) : Type 0 where
-  pub may : MayEnd pipe n
-  pub kept : IsKept asked meaning (ended pipe n out) (es ++ job_ended pipe caller p n ∷ [])
-  pub right : IsRightFor es (job_ended pipe caller p n)
-  pub pays : owes (ended pipe n out) + 1 ≡ owes pipe
+pub take_none : {J O A : Type 0} (asked : J → A) (meaning : A → O) (pipes : List (Pipeline J O)) (log : List (BoardEntry A)) (caller : ℕ) → IsKeptBoard asked meaning pipes log → NoneIs (λ (pipe : Pipeline J O). HasJob pipe × Admits pipe caller) pipes → NoneFor log caller
+take_none asked meaning pipes log caller k z p = none_at asked meaning pipes log caller k z p (cases_lt p (length pipes))
 
-ended_of_kept : {J O A : Type 0} (asked : J → A) (meaning : A → O) (pipe : Pipeline J O) (es : List (BoardEntry A)) (given : List Notice) (caller p n : ℕ) (out : O) → IsKept asked meaning pipe es → IsServed es given → takers n es ≡ caller ∷ [] → has n (finished es) ≡ false → meaning_at meaning (submissions es) n ≡ Some out → IsEndedOf asked meaning pipe es caller p n out
-ended_of_kept asked meaning (pipeline.Pad x) es given caller p n out k v t f o =
-    let low = finish_low asked meaning x es n k f in
-    let high = finish_high asked meaning x es n caller k t in
-    let runs = finish_runs asked meaning x es n caller k t f in
-    record {
-      may = (low, high, runs);
-      kept = finish_kept asked meaning x es p n caller out k t f o;
-      right = (ap pad_born k.born, t, f);
-      pays = finish_owes x (n - x.pad.collected) out runs (omega arith);
-    }
-ended_of_kept asked meaning (pipeline.Queue x) es given caller p n out k v t f o =
-    let e = queue_ends asked meaning x es given n caller k v t f in
-    record {
-      may = e;
-      kept = done_kept asked meaning x es p caller n out k e.0 o;
-      right = (queue_is asked meaning x es k, t, f);
-      pays = rw e.0 (omega arith);
-    }
+-- no Shut, and no acceptance, is among the entries of work
+pub first_quiet : {J O : Type 0} (A : Type 0) (s : Stage J O) (caller p : ℕ) → (is_shut_entry {A = A} (first_taken s caller p) ≡ false) × (accepted_in {A = A} (first_taken s caller p) ≡ None)
+first_quiet A (stage.Pad pad) caller p = (refl, refl)
+first_quiet A (stage.Queue line) caller p = (refl, refl)
+first_quiet A (stage.Chain c) caller p = (refl, refl)
 
-ended_right : {J O A : Type 0} (log : List (BoardEntry A)) (pipe : Pipeline J O) (caller p n : ℕ) → IsRightFor (entries_of p log) (job_ended pipe caller p n) → IsRight log (job_ended pipe caller p n)
-ended_right log (pipeline.Pad x) caller p n r = r
-ended_right log (pipeline.Queue x) caller p n r = r
+-- a take lets nothing more be passed on
+first_passes : {J O : Type 0} (s : Stage J O) (rest : List J) → MayPass (without_first s rest) → MayPass s
+first_passes (stage.Pad pad) rest m = m
+first_passes (stage.Queue line) rest m = m
+first_passes (stage.Chain c) rest m = m
 
-ended_is_of : {J O : Type 0} (A : Type 0) (pipe : Pipeline J O) (caller p n : ℕ) → (is_of {A = A} p (job_ended pipe caller p n) ≡ true) × (birth_in {A = A} (job_ended pipe caller p n) ≡ None)
-ended_is_of A (pipeline.Pad x) caller p n = (eq-eqb p p refl, refl)
-ended_is_of A (pipeline.Queue x) caller p n = (eq-eqb p p refl, refl)
+pub take_passes : {J O : Type 0} (s after : Stage J O) (rest : List J) → after ≡ without_first s rest → MayPass after → MayPass s
+take_passes s after rest e m = first_passes s rest (subst MayPass e m)
 
-pub finish_entry_is : {J O A : Type 0} (asked : J → A) (meaning : A → O) (log : List (BoardEntry A)) (pipe : Pipeline J O) (caller p n : ℕ) → IsKept asked meaning pipe (entries_of p log) → job_ended pipe caller p n ≡ finish_entry log caller p n
-finish_entry_is asked meaning log (pipeline.Pad x) caller p n k = rw (ap pad_born k.born) refl
-finish_entry_is asked meaning log (pipeline.Queue x) caller p n k = rw (ap pad_born k.born) refl
+pub first_is_queue : {J O : Type 0} (s : Stage J O) (rest : List J) → is_queue (without_first s rest) ≡ is_queue s
+first_is_queue (stage.Pad pad) rest = refl
+first_is_queue (stage.Queue line) rest = refl
+first_is_queue (stage.Chain c) rest = refl
 
--- finishing leaves a pad a pad
-pub ended_is_pad : {J O : Type 0} (pipe : Pipeline J O) (n : ℕ) (out : O) → is_pad (ended pipe n out) ≡ is_pad pipe
-ended_is_pad (pipeline.Pad x) n out = refl
-ended_is_pad (pipeline.Queue x) n out = refl
-
-pub finish_may : {J O A : Type 0} (asked : J → A) (meaning : A → O) (pipes : List (Pipeline J O)) (log : List (BoardEntry A)) (p n caller : ℕ) (out : O) (pipe : Pipeline J O) → IsKeptBoard asked meaning pipes log → p < length pipes → pipe ≡ get_or pipes p pipe
-    → takers n (entries_of p log) ≡ caller ∷ [] → has n (finished (entries_of p log)) ≡ false → meaning_at meaning (submissions (entries_of p log)) n ≡ Some out → IsEndedOf asked meaning pipe (entries_of p log) caller p n out
-finish_may asked meaning pipes log p n caller out pipe k within here t f o =
-    ended_of_kept asked meaning pipe (entries_of p log) _ caller p n out (kept_here asked meaning pipes log p pipe k within here) (served_here log p k.legal) t f o
-
-pub finish_step : {J O A : Type 0} (asked : J → A) (meaning : A → O) (pipes : List (Pipeline J O)) (log : List (BoardEntry A)) (p n caller : ℕ) (out : O) (pipe after : Pipeline J O) → IsKeptBoard asked meaning pipes log → p < length pipes → pipe ≡ get_or pipes p pipe
-    → takers n (entries_of p log) ≡ caller ∷ [] → has n (finished (entries_of p log)) ≡ false → meaning_at meaning (submissions (entries_of p log)) n ≡ Some out → after ≡ ended pipe n out
-    → IsKeptBoard asked meaning (slice_set pipes p after) (log ++ job_ended pipe caller p n ∷ []) × (owed_by (slice_set pipes p after) + 1 ≡ owed_by pipes)
-finish_step {J} {O} {A} asked meaning pipes log p n caller out pipe after k within here t f o e =
-    let es = entries_of p log in
-    let en : BoardEntry A = job_ended pipe caller p n in
-    let d = finish_may asked meaning pipes log p n caller out pipe k within here t f o in
-    let i = ended_is_of A pipe caller p n in
-    let kept : IsKept asked meaning after (es ++ en ∷ []) = subst (λ x. IsKept asked meaning x (es ++ en ∷ [])) (sym e) d.kept in
-    let s = place_step asked meaning pipes log p pipe after en k within here i.0 i.1 (ended_right log pipe caller p n d.right) kept in
-    let q : owes after + 1 ≡ owes pipe = subst (λ x. owes x + 1 ≡ owes pipe) (sym e) d.pays in
-    (s.0, omega (arith, s.1, q))
-
--- the entries that the calls make
-pub first_made : {J O A : Type 0} (pipe : Pipeline J O) (caller p number : ℕ) (started : Option ℕ) (pad : Bool) → pad ≡ is_pad pipe → number ≡ next_of pipe → started ≡ started_by pipe → cond {A = BoardEntry A} pad (Take caller p number) (Deq caller p number started) ≡ first_taken pipe caller p
-first_made pipe caller p number started pad a b c = rw (a, b, c) refl
-
-pub first_is_pad : {J O : Type 0} (pipe : Pipeline J O) (rest : List J) → is_pad (without_first pipe rest) ≡ is_pad pipe
-first_is_pad (pipeline.Pad x) rest = refl
-first_is_pad (pipeline.Queue x) rest = refl
-
-pub ended_made : {J O A : Type 0} (pipe after : Pipeline J O) (caller p n : ℕ) (out : O) (pad : Bool) → pad ≡ is_pad after → after ≡ ended pipe n out → cond {A = BoardEntry A} pad (Finish caller p n) (Done caller p n) ≡ job_ended pipe caller p n
-ended_made pipe after caller p n out pad a e = rw (a ∙ (ap is_pad e ∙ ended_is_pad pipe n out)) refl
-
--- no Shut, and no acceptance, is among them
-pub first_quiet : {J O : Type 0} (A : Type 0) (pipe : Pipeline J O) (caller p : ℕ) → (is_shut_entry {A = A} (first_taken pipe caller p) ≡ false) × (accepted_in {A = A} (first_taken pipe caller p) ≡ None)
-first_quiet A (pipeline.Pad x) caller p = (refl, refl)
-first_quiet A (pipeline.Queue x) caller p = (refl, refl)
-
-pub ended_quiet : {J O : Type 0} (A : Type 0) (pipe : Pipeline J O) (caller p n : ℕ) → (is_shut_entry {A = A} (job_ended pipe caller p n) ≡ false) × (accepted_in {A = A} (job_ended pipe caller p n) ≡ None)
-ended_quiet A (pipeline.Pad x) caller p n = (refl, refl)
-ended_quiet A (pipeline.Queue x) caller p n = (refl, refl)
+-- the entry that the call makes
+pub first_made : {J O A : Type 0} (s : Stage J O) (caller p number : ℕ) (started : Option ℕ) (queue : Bool) → queue ≡ is_queue s → number ≡ next_of s → started ≡ started_by s → cond {A = BoardEntry A} queue (Deq caller p number started) (Take caller p number) ≡ first_taken s caller p
+first_made s caller p number started queue a b c = rw (a, b, c) refl

@@ -1,26 +1,27 @@
-use Rattle.std.proofs.Common.{◌≡◌, ◌≢◌, ℕ, ◌<◌, ◌≤◌, Bool, true, false, cond, ◌&&◌, List, [], ◌∷◌, ◌++◌, length, take, Option, Some, None, refl, sym, ◌∙◌, ap, subst, arith, append-nil, append_assoc, ◌⊎◌, inl, inr}
+-- What entries of others, and work of one's own, leave of what a caller knows.
+use Rattle.std.proofs.Common.{◌≡◌, ◌≢◌, ℕ, Bool, true, false, cond, ◌&&◌, List, [], ◌∷◌, ◌++◌, length, take, Option, Some, None, refl, sym, ◌∙◌, ap, subst, append-nil, append_assoc, ◌⊎◌, inl, inr}
 use Rattle.std.specs.Prelude.{◌==◌}
-use Rattle.std.proofs.lemmas.Bool.{eqb-true, eq-eqb, false_from_ne_true, both_ways, cases_lt}
+use Rattle.std.proofs.lemmas.Bool.{eqb-true, eq-eqb, false_from_ne_true, both_ways}
 use Rattle.std.proofs.Math.Seq.{take-length}
 use Rattle.std.specs.List.{list_all}
 use Rattle.turn_lock.specs.Turns.{of}
 use Rattle.board.specs.declared.entry.Shape.{Shape}
 use Rattle.board.specs.declared.entry.BoardEntry.{BoardEntry}
-use Rattle.board.specs.declared.entry.BoardEntry.TheVariants.{Born, Submit, Take, Finish, Enq, Deq, Done, Hold, Go, Collect, Close, Share, Shut}
-use Rattle.board.specs.Entries.{is_of, entries_of, birth, submissions, accepted_in, front, finished, has, told, held_in, is_held, is_close, is_share, is_shared, collected_in, collected, caller_of}
+use Rattle.board.specs.declared.entry.BoardEntry.TheVariants.{Born, Submit, Take, Finish, Enq, Deq, Done, Hold, Go, Collect, Close, Share, Mask, Shut}
+use Rattle.board.specs.Entries.{is_of, entries_of, birth_in, birth, submissions, accepted_in, front, told, held_in, is_held, masked_in, mask, is_close, is_share, is_shared, collected_in, collected, caller_of, maker_is, IsMaker}
 use Rattle.board.specs.Allowance.{accepted_from, accepted_by}
-use Rattle.board.specs.Legal.{IsMaker, maker_is, IsRight, IsRightFor, AreRightAfter, LegalBoard, MaySubmit, MayManage, MayFinish, IsOpenPad, IsOpenQueue, IsOpen, is_shut_entry, is_shut}
+use Rattle.board.specs.Legal.{IsRight, IsRightFor, AreRightAfter, LegalBoard, MaySubmit, MayManage, MayFinish, IsOpenAs, is_shut_entry, is_shut}
 use Rattle.board.specs.Order.{handed_out, completed}
 use Rattle.board.specs.Handing.{is_collect}
 use Rattle.board.specs.Staying.{IsDrained, is_work}
 use Rattle.board.specs.Others.{OthersCome, WorkComes, OthersAlone, StaysKnown, WorkLeavesKnown, WorkLeavesDrained, WorkLeavesOwn, OthersLeaveOpen, OthersLeaveSlips}
 use Rattle.board.proofs.Transfer.{right_for, entries-more, entries-same, each_right}
-use Rattle.board.proofs.PadOrder.{filter_map-none, orderly_run, orderly_start, told_on_pad, length-completes}
-use Rattle.board.proofs.QueueOrder.{queue_served, served_run, served_start, length-numbers, has_only_below}
+use Rattle.board.proofs.Lists.{filter_map-none, length-numbers}
+use Rattle.board.proofs.Keeping.{orderly}
 use Rattle.board.proofs.KeptUsed.{nothing_from}
 use Rattle.board.proofs.Kept.{collected-same, held-same, shared-same, shut-same}
-use Rattle.board.proofs.Staying.{last_right, stays_open, queue_stays_open, stays_managed, stays_submitting, slip_stays}
-use Rattle.board.proofs.Handing.{hands_nothing, all_handed_out, most_handed_out, front_is_all, completed-below}
+use Rattle.board.proofs.Staying.{last_right, stays_open, stays_managed, stays_submitting, slip_stays, mask_left}
+use Rattle.board.proofs.Drained.{hands_nothing, all_handed_out}
 
 -- ---- from one entry to any number
 
@@ -82,6 +83,8 @@ record Aside {A : Type 0} (es : List (BoardEntry A)) (e : BoardEntry A) : Type 0
   pub holds : held_in e ≡ None
   pub collects : collected_in e ≡ None
   pub hands : is_collect e ≡ false
+  pub born : birth_in e ≡ None
+  pub masks : masked_in e ≡ None
   pub accepts : is_shared es ≡ false → accepted_in e ≡ None
 
 no_other : {A : Type 0} {X : Type 0} (es : List (BoardEntry A)) (by caller : ℕ) → by ≢ caller → IsMaker es by → IsMaker es caller → X
@@ -96,32 +99,34 @@ not_alone es by caller ne (inr open_) mine alone = absurd (both_ways (is_shared 
 
 aside : {A : Type 0} (es : List (BoardEntry A)) (e : BoardEntry A) (caller : ℕ) → IsRightFor es e → caller_of e ≢ caller → IsMaker es caller → Aside es e
 aside es (Born by pipe shape) caller r ne mine = no_maker es caller r.1 mine
-aside es (Submit by pipe number ask) caller r ne mine = record { closes = refl; shares = refl; holds = refl; collects = refl; hands = refl; accepts = λ alone. not_alone es by caller ne r.0.1 mine alone }
-aside es (Take by pipe number) caller r ne mine = record { closes = refl; shares = refl; holds = refl; collects = refl; hands = refl; accepts = λ alone. refl }
-aside es (Finish by pipe number) caller r ne mine = record { closes = refl; shares = refl; holds = refl; collects = refl; hands = refl; accepts = λ alone. refl }
-aside es (Enq by pipe ask backlog answer) caller r ne mine = record { closes = refl; shares = refl; holds = refl; collects = refl; hands = refl; accepts = λ alone. not_alone es by caller ne r.0.1 mine alone }
-aside es (Deq by pipe number started) caller r ne mine = record { closes = refl; shares = refl; holds = refl; collects = refl; hands = refl; accepts = λ alone. refl }
-aside es (Done by pipe number) caller r ne mine = record { closes = refl; shares = refl; holds = refl; collects = refl; hands = refl; accepts = λ alone. refl }
+aside es (Submit by pipe number ask) caller r ne mine = record { closes = refl; shares = refl; holds = refl; collects = refl; hands = refl; born = refl; masks = refl; accepts = λ alone. not_alone es by caller ne r.0.1 mine alone }
+aside es (Take by pipe number) caller r ne mine = record { closes = refl; shares = refl; holds = refl; collects = refl; hands = refl; born = refl; masks = refl; accepts = λ alone. refl }
+aside es (Finish by pipe number) caller r ne mine = record { closes = refl; shares = refl; holds = refl; collects = refl; hands = refl; born = refl; masks = refl; accepts = λ alone. refl }
+aside es (Enq by pipe ask backlog answer) caller r ne mine = record { closes = refl; shares = refl; holds = refl; collects = refl; hands = refl; born = refl; masks = refl; accepts = λ alone. not_alone es by caller ne r.0.1 mine alone }
+aside es (Deq by pipe number started) caller r ne mine = record { closes = refl; shares = refl; holds = refl; collects = refl; hands = refl; born = refl; masks = refl; accepts = λ alone. refl }
+aside es (Done by pipe number) caller r ne mine = record { closes = refl; shares = refl; holds = refl; collects = refl; hands = refl; born = refl; masks = refl; accepts = λ alone. refl }
 aside es (Hold by pipe) caller r ne mine = no_other es by caller ne r.0.1 mine
 aside es (Go by pipe) caller r ne mine = no_other es by caller ne r.0.1 mine
 aside es (Collect by pipe to) caller r ne mine = no_other es by caller ne r.0.1 mine
 aside es (Close by pipe) caller r ne mine = no_other es by caller ne r.0.1 mine
 aside es (Share by pipe) caller r ne mine = no_other es by caller ne r.0.1 mine
+aside es (Mask by pipe bits) caller r ne mine = no_other es by caller ne r.0.1 mine
 aside es (Shut by) caller r ne mine = absurd r
 
 work_aside : {A : Type 0} (es : List (BoardEntry A)) (e : BoardEntry A) → is_work e ≡ true → Aside es e
 work_aside es (Born by pipe shape) w = cc
 work_aside es (Submit by pipe number ask) w = cc
-work_aside es (Take by pipe number) w = record { closes = refl; shares = refl; holds = refl; collects = refl; hands = refl; accepts = λ alone. refl }
-work_aside es (Finish by pipe number) w = record { closes = refl; shares = refl; holds = refl; collects = refl; hands = refl; accepts = λ alone. refl }
+work_aside es (Take by pipe number) w = record { closes = refl; shares = refl; holds = refl; collects = refl; hands = refl; born = refl; masks = refl; accepts = λ alone. refl }
+work_aside es (Finish by pipe number) w = record { closes = refl; shares = refl; holds = refl; collects = refl; hands = refl; born = refl; masks = refl; accepts = λ alone. refl }
 work_aside es (Enq by pipe ask backlog answer) w = cc
-work_aside es (Deq by pipe number started) w = record { closes = refl; shares = refl; holds = refl; collects = refl; hands = refl; accepts = λ alone. refl }
-work_aside es (Done by pipe number) w = record { closes = refl; shares = refl; holds = refl; collects = refl; hands = refl; accepts = λ alone. refl }
+work_aside es (Deq by pipe number started) w = record { closes = refl; shares = refl; holds = refl; collects = refl; hands = refl; born = refl; masks = refl; accepts = λ alone. refl }
+work_aside es (Done by pipe number) w = record { closes = refl; shares = refl; holds = refl; collects = refl; hands = refl; born = refl; masks = refl; accepts = λ alone. refl }
 work_aside es (Hold by pipe) w = cc
 work_aside es (Go by pipe) w = cc
 work_aside es (Collect by pipe to) w = cc
 work_aside es (Close by pipe) w = cc
 work_aside es (Share by pipe) w = cc
+work_aside es (Mask by pipe bits) w = cc
 work_aside es (Shut by) w = cc
 
 either_aside : {A : Type 0} (es : List (BoardEntry A)) (e : BoardEntry A) (caller : ℕ) → IsRightFor es e → (caller_of e ≢ caller) ⊎ (is_work e ≡ true) → IsMaker es caller → Aside es e
@@ -129,15 +134,15 @@ either_aside es e caller r (inl ne) mine = aside es e caller r ne mine
 either_aside es e caller r (inr w) mine = work_aside es e w
 
 pub known_start : {A : Type 0} (h : List (BoardEntry A)) (p caller : ℕ) → MayManage (entries_of p h) caller → StaysKnown h h p caller
-known_start h p caller m = record { managed = m; pad = λ o. o; queue = λ o. o; held = refl; shared = refl; collected = refl; handed = refl; accepted = λ a. refl }
+known_start h p caller m = record { managed = m; opened = λ such o. o; held = refl; shared = refl; masked = refl; collected = refl; handed = refl; accepted = λ a. refl }
 
 known_same : {A : Type 0} (h0 h : List (BoardEntry A)) (e : BoardEntry A) (p caller : ℕ) → is_of p e ≡ false → StaysKnown h0 h p caller → StaysKnown h0 (h ++ e ∷ []) p caller
 known_same h0 h e p caller s k = let same = entries-same h p e s in record {
   managed = rw same k.managed;
-  pad = λ o. rw same (k.pad o);
-  queue = λ o. rw same (k.queue o);
+  opened = λ such o. rw same (k.opened such o);
   held = rw same k.held;
   shared = rw same k.shared;
+  masked = rw same k.masked;
   collected = rw same k.collected;
   handed = rw same k.handed;
   accepted = λ a. rw same (k.accepted a);
@@ -150,10 +155,10 @@ known_more h0 h e p caller legal ne s k =
     let a = either_aside es e caller (right_for h p e s (last_right [] h e legal)) ne k.managed.1 in
     record {
       managed = stays_managed h e p caller k.managed;
-      pad = λ o. stays_open h e p (k.pad o) a.closes;
-      queue = λ o. queue_stays_open h e p (k.queue o) a.closes;
+      opened = λ such o. stays_open such h e p (k.opened such o) a.closes;
       held = ap (λ xs. is_held xs) more ∙ (held-same es e a.holds ∙ k.held);
       shared = ap (λ xs. is_shared xs) more ∙ (shared-same es e a.shares ∙ k.shared);
+      masked = ap (λ xs. mask xs) more ∙ (mask_left es e a.born a.masks ∙ k.masked);
       collected = ap (λ xs. collected xs) more ∙ (collected-same es e a.collects ∙ k.collected);
       handed = hands_nothing h e p a.hands ∙ k.handed;
       accepted = λ alone. ap (λ xs. submissions xs) more ∙ (filter_map-none accepted_in es e (a.accepts (k.shared ∙ alone)) ∙ k.accepted alone);
@@ -185,6 +190,7 @@ shuts_nothing h (Go by pipe) r ne = refl
 shuts_nothing h (Collect by pipe to) r ne = refl
 shuts_nothing h (Close by pipe) r ne = refl
 shuts_nothing h (Share by pipe) r ne = refl
+shuts_nothing h (Mask by pipe bits) r ne = refl
 shuts_nothing h (Shut by) r ne = absurd (ne r.0)
 
 either_shuts : {A : Type 0} (h : List (BoardEntry A)) (e : BoardEntry A) → IsRight h e → (caller_of e ≢ 0) ⊎ (is_work e ≡ true) → is_shut_entry e ≡ false
@@ -202,6 +208,7 @@ either_shuts h (Go by pipe) r (inr w) = refl
 either_shuts h (Collect by pipe to) r (inr w) = refl
 either_shuts h (Close by pipe) r (inr w) = refl
 either_shuts h (Share by pipe) r (inr w) = refl
+either_shuts h (Mask by pipe bits) r (inr w) = refl
 
 pub work_leaves_own : {A : Type 0} (h es : List (BoardEntry A)) (caller : ℕ) → WorkLeavesOwn h es caller
 work_leaves_own {A} h es caller o = (
@@ -228,58 +235,33 @@ closes_not es (Collect by pipe to) caller r ne m = refl
 closes_not es (Close by pipe) caller r ne (inl mine) = no_other es by caller ne r.0.1 mine
 closes_not es (Close by pipe) caller r ne (inr open_) = absurd (both_ways (is_shared es) r.2 open_)
 closes_not es (Share by pipe) caller r ne m = refl
+closes_not es (Mask by pipe bits) caller r ne m = refl
 closes_not es (Shut by) caller r ne m = refl
 
 module _ {A : Type 0} (h0 : List (BoardEntry A)) (p caller : ℕ) where
   abbrev StaysOpenTo : List (BoardEntry A) → Type 0
-  StaysOpenTo h = MaySubmit (entries_of p h) caller × (IsOpenPad (entries_of p h0) → IsOpenPad (entries_of p h)) × (IsOpenQueue (entries_of p h0) → IsOpenQueue (entries_of p h))
+  StaysOpenTo h = MaySubmit (entries_of p h) caller × ((such : Shape → Bool) → IsOpenAs such (entries_of p h0) → IsOpenAs such (entries_of p h))
 
   open_cases : (h : List (BoardEntry A)) (e : BoardEntry A) (b : Bool) → is_of p e ≡ b → LegalBoard (h ++ e ∷ []) → caller_of e ≢ caller → StaysOpenTo h → StaysOpenTo (h ++ e ∷ [])
   open_cases h e true s legal ne k =
       let c = closes_not (entries_of p h) e caller (right_for h p e s (last_right [] h e legal)) ne k.0.1 in
-      (stays_submitting h e p caller k.0, (λ o. stays_open h e p (k.1 o) c), λ o. queue_stays_open h e p (k.2 o) c)
+      (stays_submitting h e p caller k.0, λ such o. stays_open such h e p (k.1 such o) c)
   open_cases h e false s legal ne k = rw (entries-same h p e s) k
 
 pub others_leave_open : {A : Type 0} (h es : List (BoardEntry A)) (p caller : ℕ) → OthersLeaveOpen h es p caller
-others_leave_open h es p caller o m = others_keep (StaysOpenTo h p caller) caller (λ g e legal ne k. open_cases h p caller g e (is_of p e) refl legal ne k) es h o (m, (λ i. i), λ i. i)
+others_leave_open h es p caller o m = others_keep (StaysOpenTo h p caller) caller (λ g e legal ne k. open_cases h p caller g e (is_of p e) refl legal ne k) es h o (m, λ such i. i)
 
 -- ---- a drained pipeline
 
-drained_pad_hands : {A : Type 0} (h : List (BoardEntry A)) (p : ℕ) → LegalBoard h → IsOpenPad (entries_of p h) → IsDrained (entries_of p h) → length (completed (handed_out (entries_of p h))) ≡ length (submissions (entries_of p h))
-drained_pad_hands h p legal o d =
+pub drained_hands : {A : Type 0} (h : List (BoardEntry A)) (p : ℕ) → LegalBoard h → IsDrained (entries_of p h) → length (completed (handed_out (entries_of p h))) ≡ length (submissions (entries_of p h))
+drained_hands h p legal d =
     let es = entries_of p h in
-    let r = orderly_run [] es [] orderly_start (each_right [] h p legal) in
-    let n : length (completed (handed_out es)) ≡ collected es = ap (λ ns. length (completed ns)) (r.in_order o.0) ∙ (ap length (completed-below (collected es)) ∙ length-numbers (collected es)) in
-    let l : length (told es) ≡ front es = ap length (told_on_pad es o.0) ∙ length-completes (front es) in
-    n ∙ (d.1 ∙ (l ∙ d.0))
-
-some_below : (n f : ℕ) → ((i : ℕ) → i < n → i < f) → (f < n) ⊎ (n ≤ f) → n ≤ f
-some_below n f all (inl l) = (let m = all f l in absurd (omega arith))
-some_below n f all (inr g) = g
-
-drained_queue_hands : {A : Type 0} (h : List (BoardEntry A)) (q : ℕ) → LegalBoard h → IsOpenQueue (entries_of q h) → IsDrained (entries_of q h) → length (completed (handed_out (entries_of q h))) ≡ length (submissions (entries_of q h))
-drained_queue_hands h q legal o d =
-    let es = entries_of q h in
-    let right = each_right [] h q legal in
-    let s = queue_served es right o.0 in
-    let r = served_run [] es [] served_start right in
-    let all = front_is_all es d.0 in
-    let whole : handed_out es ≡ told es = s.1 ∙ (ap (λ n. take n (told es)) d.1 ∙ take-length (told es)) in
-    let n : length (completed (handed_out es)) ≡ length (finished es) = ap (λ ns. length (completed ns)) whole ∙ (ap length s.0 ∙ length-numbers (length (finished es))) in
-    let low : length (submissions es) ≤ length (finished es) = some_below (length (submissions es)) (length (finished es)) (λ i l. has_only_below (length (finished es)) i (subst (λ ns. has i ns ≡ true) (r.in_order o.0) (all i l))) (cases_lt (length (finished es)) (length (submissions es))) in
-    let high = most_handed_out h q legal (inr o) in
-    omega (arith, n, low, high)
-
-pub drained_hands : {A : Type 0} (h : List (BoardEntry A)) (p : ℕ) → LegalBoard h → IsOpen (entries_of p h) → IsDrained (entries_of p h) → length (completed (handed_out (entries_of p h))) ≡ length (submissions (entries_of p h))
-drained_hands h p legal (inl o) d = drained_pad_hands h p legal o d
-drained_hands h p legal (inr o) d = drained_queue_hands h p legal o d
-
-still_open : {A : Type 0} (h after : List (BoardEntry A)) (p caller : ℕ) → StaysKnown h after p caller → IsOpen (entries_of p h) → IsOpen (entries_of p after)
-still_open h after p caller k (inl o) = inl (k.pad o)
-still_open h after p caller k (inr o) = inr (k.queue o)
+    let o = (orderly es (each_right [] h p legal)).telling in
+    let whole : handed_out es ≡ told es = o.front_of ∙ (ap (λ n. take n (told es)) d.1 ∙ take-length (told es)) in
+    ap (λ ns. length (completed ns)) whole ∙ (ap length o.said ∙ (length-numbers (front es) ∙ d.0))
 
 pub work_leaves_drained : {A : Type 0} (h es : List (BoardEntry A)) (p caller : ℕ) → WorkLeavesDrained h es p caller
-work_leaves_drained h es p caller o m opened alone d =
+work_leaves_drained h es p caller o m alone d =
     let k = work_leaves_known h es p caller o m in
-    let all = drained_hands h p (legal_front [] h es o.0) opened d in
-    all_handed_out (h ++ es) p o.0 (still_open h (h ++ es) p caller k opened) (ap (λ ns. length (completed ns)) k.handed ∙ (all ∙ sym (ap length (k.accepted alone))))
+    let all = drained_hands h p (legal_front [] h es o.0) d in
+    all_handed_out (h ++ es) p o.0 (ap (λ ns. length (completed ns)) k.handed ∙ (all ∙ sym (ap length (k.accepted alone))))

@@ -1,16 +1,17 @@
-use Rattle.std.specs.Prelude.{◌≡◌, ◌≢◌, ◌⊎◌, ℕ, zero, suc, ◌+◌, ◌-◌, ◌<◌, Bool, true, false, ◌==◌, nat_lt, if◌then◌else◌, List, [], ◌∷◌, ◌++◌, length, filter, map, take, drop, Option, Some, None, slice_get}
+use Rattle.std.specs.Prelude.{◌≡◌, ◌≢◌, ◌⊎◌, ℕ, zero, suc, ◌+◌, ◌-◌, ◌^◌, ◌<◌, ◌≤◌, Bool, true, false, ◌==◌, nat_lt, if◌then◌else◌, List, [], ◌∷◌, ◌++◌, length, filter, map, take, drop, Option, Some, None, slice_get}
 use Rattle.std.specs.List.{filter_map, list_any}
+use Rattle.std.specs.Int.{bit_at}
 use Rattle.std.specs.Arc.{arc_value}
 use Rattle.kc_base.specs.declared.callback_list.Callback.{Callback}
 use Rattle.kc_base.specs.declared.callback_list.Callback.TheVariants as callback
 use Rattle.board.specs.declared.entry.Shape.{Shape}
-use Rattle.board.specs.declared.entry.Shape.TheVariants.{Pad, Queue}
 use Rattle.board.specs.declared.entry.Entered.{Entered}
 use Rattle.board.specs.declared.entry.Entered.TheVariants.{InProgress, Busy, NoSpace}
 use Rattle.board.specs.declared.entry.BoardEntry.{BoardEntry}
-use Rattle.board.specs.declared.entry.BoardEntry.TheVariants.{Born, Submit, Take, Finish, Enq, Deq, Done, Hold, Go, Collect, Close, Share, Shut}
+use Rattle.board.specs.declared.entry.BoardEntry.TheVariants.{Born, Submit, Take, Finish, Enq, Deq, Done, Hold, Go, Collect, Close, Share, Mask, Shut}
+use Rattle.board.specs.Shapes.{is_chain, is_born, queue_born, line_born, lists_born, max_born, width_born}
 
--- of which pipeline the entry is
+-- the pipeline whose entry it is
 abbrev pub pipe_of : {A : Type 0} → BoardEntry A → Option ℕ
 pipe_of (Born caller pipe shape) = Some pipe
 pipe_of (Submit caller pipe number ask) = Some pipe
@@ -24,6 +25,7 @@ pipe_of (Go caller pipe) = Some pipe
 pipe_of (Collect caller pipe to) = Some pipe
 pipe_of (Close caller pipe) = Some pipe
 pipe_of (Share caller pipe) = Some pipe
+pipe_of (Mask caller pipe mask) = Some pipe
 pipe_of (Shut caller) = None
 
 abbrev pub is_pipe : ℕ → Option ℕ → Bool
@@ -52,21 +54,6 @@ first (x ∷ xs) = Some x
 abbrev pub birth : {A : Type 0} → List (BoardEntry A) → Option (ℕ × Shape)
 birth es = first (filter_map birth_in es)
 
-abbrev pub pad_born : Option (ℕ × Shape) → Bool
-pad_born (Some (maker, Pad lists)) = true
-pad_born (Some (maker, Queue max)) = false
-pad_born None = false
-
-abbrev pub queue_born : Option (ℕ × Shape) → Bool
-queue_born (Some (maker, Pad lists)) = false
-queue_born (Some (maker, Queue max)) = true
-queue_born None = false
-
-abbrev pub max_born : Option (ℕ × Shape) → ℕ
-max_born (Some (maker, Pad lists)) = 0
-max_born (Some (maker, Queue max)) = max
-max_born None = 0
-
 -- the asks that it accepted, in order
 abbrev pub accepted_in : {A : Type 0} → BoardEntry A → Option A
 accepted_in (Submit caller pipe number ask) = Some (arc_value ask)
@@ -77,14 +64,33 @@ accepted_in _ = None
 abbrev pub submissions : {A : Type 0} → List (BoardEntry A) → List A
 submissions es = filter_map accepted_in es
 
--- the numbers whose jobs were taken out to be run, each with who took it
+-- the numbers that left the line, each with who let it out
+abbrev pub dequeued_in : {A : Type 0} → BoardEntry A → Option (ℕ × ℕ)
+dequeued_in (Deq caller pipe number started) = Some (number, caller)
+dequeued_in _ = None
+
+abbrev pub dequeues : {A : Type 0} → List (BoardEntry A) → List (ℕ × ℕ)
+dequeues es = filter_map dequeued_in es
+
+abbrev pub dequeued : {A : Type 0} → List (BoardEntry A) → ℕ
+dequeued es = length (dequeues es)
+
+-- how many wait in line
+abbrev pub waiting : {A : Type 0} → List (BoardEntry A) → ℕ
+waiting es = length (submissions es) - dequeued es
+
+-- how many are past the line: on a pad all that were accepted
+abbrev pub passed_on : {A : Type 0} → List (BoardEntry A) → ℕ
+passed_on es = if line_born (birth es) then dequeued es else length (submissions es)
+
+-- the numbers that were taken off a pad, each with who took it
 abbrev pub taken_in : {A : Type 0} → BoardEntry A → Option (ℕ × ℕ)
 taken_in (Take caller pipe number) = Some (number, caller)
-taken_in (Deq caller pipe number started) = Some (number, caller)
 taken_in _ = None
 
+-- the numbers whose jobs were handed out to be run, each with who runs it
 abbrev pub takings : {A : Type 0} → List (BoardEntry A) → List (ℕ × ℕ)
-takings es = filter_map taken_in es
+takings es = if queue_born (birth es) then dequeues es else filter_map taken_in es
 
 -- who took this number
 abbrev pub takers : {A : Type 0} → ℕ → List (BoardEntry A) → List ℕ
@@ -111,30 +117,31 @@ unbroken ns n (suc many) = if has n ns then suc (unbroken ns (suc n) many) else 
 abbrev pub front : {A : Type 0} → List (BoardEntry A) → ℕ
 front es = unbroken (finished es) 0 (length (submissions es))
 
--- how many wait in a queue
-abbrev pub waiting : {A : Type 0} → List (BoardEntry A) → ℕ
-waiting es = length (submissions es) - length (takings es)
-
--- what a queue answers to a request that comes now
+-- what a line answers to a request that comes now
 abbrev pub verdict : {A : Type 0} → List (BoardEntry A) → Bool → Entered
 verdict es backlog =
     if nat_lt (waiting es) (max_born (birth es)) then InProgress (length (submissions es))
     else (if backlog then Busy (length (submissions es)) else NoSpace)
 
--- which request is told that it has started where the number n leaves the queue
+-- which request is told that it has started where the number n leaves the line
 abbrev pub starts : {A : Type 0} → List (BoardEntry A) → ℕ → Option ℕ
 starts es n =
     if nat_lt (n + max_born (birth es)) (length (submissions es)) then Some (n + max_born (birth es)) else None
 
--- the entry by which this number is taken: on a pad a Take, on a queue a Deq with what it starts
+-- the entry by which this number is taken: on a queue a Deq with what it starts, otherwise a Take
 abbrev pub take_entry : {A : Type 0} → List (BoardEntry A) → ℕ → ℕ → ℕ → BoardEntry A
 take_entry h caller pipe number =
-    if pad_born (birth (entries_of pipe h)) then Take caller pipe number else Deq caller pipe number (starts (entries_of pipe h) number)
+    if queue_born (birth (entries_of pipe h)) then Deq caller pipe number (starts (entries_of pipe h) number) else Take caller pipe number
 
--- the entry by which it is finished: on a pad a Finish, on a queue a Done
+-- the entry by which it is finished: on a queue a Done, otherwise a Finish
 abbrev pub finish_entry : {A : Type 0} → List (BoardEntry A) → ℕ → ℕ → ℕ → BoardEntry A
 finish_entry h caller pipe number =
-    if pad_born (birth (entries_of pipe h)) then Finish caller pipe number else Done caller pipe number
+    if queue_born (birth (entries_of pipe h)) then Done caller pipe number else Finish caller pipe number
+
+-- the entry by which a chain's next request goes on to its pad
+abbrev pub pass_entry : {A : Type 0} → List (BoardEntry A) → ℕ → ℕ → BoardEntry A
+pass_entry h caller pipe =
+    Deq caller pipe (dequeued (entries_of pipe h)) (starts (entries_of pipe h) (dequeued (entries_of pipe h)))
 
 -- how many entries of work follow on a queue's answer
 abbrev pub work_of : Entered → ℕ
@@ -147,18 +154,26 @@ pub data Notice : Type 0 where
   Starts : (number : ℕ) → Notice
   Completes : (number : ℕ) → Notice
 
-abbrev pub told_in : {A : Type 0} → BoardEntry A → Option Notice
-told_in (Deq caller pipe number (Some started)) = Some (Starts started)
-told_in (Done caller pipe number) = Some (Completes number)
-told_in _ = None
+-- the completions of so many numbers from n on
+abbrev pub completes_from : ℕ → ℕ → List Notice
+completes_from n zero = []
+completes_from n (suc many) = Completes n ∷ completes_from (suc n) many
 
-abbrev pub completes_below : ℕ → List Notice
-completes_below zero = []
-completes_below (suc n) = completes_below n ++ Completes n ∷ []
+-- what an entry tells after those before it: a Deq what it starts, a Done its completion, a Finish the completions from the
+-- front before it up to the front after it
+abbrev pub tells : {A : Type 0} → List (BoardEntry A) → BoardEntry A → List Notice
+tells es (Deq caller pipe number (Some started)) = Starts started ∷ []
+tells es (Done caller pipe number) = Completes number ∷ []
+tells es (Finish caller pipe number) = completes_from (front es) (front (es ++ Finish caller pipe number ∷ []) - front es)
+tells es _ = []
 
--- a pad tells the completions up to its front, a queue what its steps told
+abbrev pub told_after : {A : Type 0} → List (BoardEntry A) → List (BoardEntry A) → List Notice
+told_after before [] = []
+told_after before (e ∷ es) = tells before e ++ told_after (before ++ e ∷ []) es
+
+-- all that a pipeline told, one entry after another
 abbrev pub told : {A : Type 0} → List (BoardEntry A) → List Notice
-told es = if pad_born (birth es) then completes_below (front es) else filter_map told_in es
+told es = told_after [] es
 
 abbrev pub last_or : {X : Type 0} → X → List X → X
 last_or d [] = d
@@ -181,20 +196,59 @@ held_in _ = None
 abbrev pub is_held : {A : Type 0} → List (BoardEntry A) → Bool
 is_held es = last_or false (filter_map held_in es)
 
--- each request of the pad is taken
+-- which workers may take from it, a bit for each: at first all, one to a list
+abbrev pub masked_in : {A : Type 0} → BoardEntry A → Option ℕ
+masked_in (Mask caller pipe mask) = Some mask
+masked_in _ = None
+
+abbrev pub mask : {A : Type 0} → List (BoardEntry A) → ℕ
+mask es = last_or (2 ^ width_born (birth es) - 1) (filter_map masked_in es)
+
+-- bit i stands for caller i + 1
+abbrev pub IsMasked : ℕ → ℕ → Type 0
+IsMasked mask caller = (1 ≤ caller) × (caller ≤ 16) × (bit_at mask (caller - 1) ≡ 1)
+
+-- who submitted what it accepted
+abbrev pub submitter_in : {A : Type 0} → BoardEntry A → Option ℕ
+submitter_in (Submit caller pipe number ask) = Some caller
+submitter_in (Enq caller pipe ask backlog (InProgress number)) = Some caller
+submitter_in (Enq caller pipe ask backlog (Busy number)) = Some caller
+submitter_in _ = None
+
+abbrev pub submitters : {A : Type 0} → List (BoardEntry A) → List ℕ
+submitters es = filter_map submitter_in es
+
+abbrev pub maker_is : Option (ℕ × Shape) → ℕ → Type 0
+maker_is (Some (maker, shape)) caller = maker ≡ caller
+maker_is None caller = ⊥
+
+-- this caller made the pipeline
+abbrev pub IsMaker : {A : Type 0} → List (BoardEntry A) → ℕ → Type 0
+IsMaker es caller = maker_is (birth es) caller
+
+-- the caller made the pipeline, or submitted to it, or is a worker in its mask
+abbrev pub MayTake : {A : Type 0} → List (BoardEntry A) → ℕ → Type 0
+MayTake es caller = IsMaker es caller ⊎ ((has caller (submitters es) ≡ true) ⊎ IsMasked (mask es) caller)
+
+-- each request past the line is taken
 abbrev pub AllTaken : {A : Type 0} → List (BoardEntry A) → Type 0
-AllTaken es = (n : ℕ) → n < length (submissions es) → takers n es ≢ []
+AllTaken es = (n : ℕ) → n < passed_on es → takers n es ≢ []
 
 -- the queue may not be served: it is held, or a job of it runs, or none waits
 abbrev pub IsHeldBusyOrEmpty : {A : Type 0} → List (BoardEntry A) → Type 0
-IsHeldBusyOrEmpty es = (is_held es ≡ true) ⊎ ((length (finished es) < length (takings es)) ⊎ (waiting es ≡ 0))
+IsHeldBusyOrEmpty es = (is_held es ≡ true) ⊎ ((length (finished es) < dequeued es) ⊎ (waiting es ≡ 0))
 
--- no pad has an untaken number, and no queue may be served
-abbrev pub NoneWaits : {A : Type 0} → List (BoardEntry A) → Type 0
-NoneWaits h =
+-- no pad or chain from which this caller may take has an untaken number, and no queue may be served
+abbrev pub NoneFor : {A : Type 0} → List (BoardEntry A) → ℕ → Type 0
+NoneFor h caller =
     (p : ℕ)
-    → (pad_born (birth (entries_of p h)) ≡ true → AllTaken (entries_of p h))
+    → (lists_born (birth (entries_of p h)) ≡ true → MayTake (entries_of p h) caller → AllTaken (entries_of p h))
     × (queue_born (birth (entries_of p h)) ≡ true → IsHeldBusyOrEmpty (entries_of p h))
+
+-- each chain is held, or none waits in its line
+abbrev pub NonePasses : {A : Type 0} → List (BoardEntry A) → Type 0
+NonePasses h =
+    (p : ℕ) → is_born is_chain (birth (entries_of p h)) ≡ true → (is_held (entries_of p h) ≡ true) ⊎ (waiting (entries_of p h) ≡ 0)
 
 abbrev pub is_close : {A : Type 0} → BoardEntry A → Bool
 is_close (Close caller pipe) = true
@@ -240,4 +294,5 @@ caller_of (Go caller pipe) = caller
 caller_of (Collect caller pipe to) = caller
 caller_of (Close caller pipe) = caller
 caller_of (Share caller pipe) = caller
+caller_of (Mask caller pipe mask) = caller
 caller_of (Shut caller) = caller

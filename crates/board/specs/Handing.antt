@@ -1,12 +1,12 @@
 -- What one more entry hands out, and when all is handed out.
-use Rattle.std.specs.Prelude.{◌≡◌, ◌<◌, ◌≤◌, ℕ, ◌+◌, Bool, true, false, List, [], ◌∷◌, ◌++◌, length, filter}
+use Rattle.std.specs.Prelude.{◌≡◌, ◌≤◌, ℕ, ◌+◌, Bool, true, false, List, [], ◌∷◌, ◌++◌, length, filter}
 use Rattle.kc_base.specs.declared.callback_list.Callback.{Callback}
 use Rattle.kc_base.specs.declared.callback_list.Callback.TheVariants.{Started, Done}
 use Rattle.board.specs.declared.entry.BoardEntry.{BoardEntry}
 use Rattle.board.specs.declared.entry.BoardEntry.TheVariants.{Collect}
-use Rattle.board.specs.Entries.{entries_of, submissions, finished, has, front, delivered}
-use Rattle.board.specs.Legal.{IsOpen, LegalBoard}
-use Rattle.board.specs.Order.{handed_out, completed, AreAllFinished}
+use Rattle.board.specs.Entries.{entries_of, submissions, delivered}
+use Rattle.board.specs.Legal.{LegalBoard}
+use Rattle.board.specs.Order.{handed_out, completed}
 use Rattle.board.specs.Staying.{IsDrained}
 
 abbrev pub is_collect : {A : Type 0} → BoardEntry A → Bool
@@ -32,25 +32,11 @@ CollectHandsOut meaning h caller p to =
     → length (completed (handed_out (entries_of p (h ++ Collect caller p to ∷ []))))
     ≡ length (completed (handed_out (entries_of p h))) + completions (delivered meaning (entries_of p h) to)
 
--- an open pad or queue hands out no more completions than it accepted requests
+-- a pipeline hands out no more completions than it accepted requests
 abbrev pub HandsOutAtMost : {A : Type 0} → List (BoardEntry A) → ℕ → Type 0
-HandsOutAtMost h p =
-    LegalBoard h → IsOpen (entries_of p h) → length (completed (handed_out (entries_of p h))) ≤ length (submissions (entries_of p h))
+HandsOutAtMost h p = LegalBoard h → length (completed (handed_out (entries_of p h))) ≤ length (submissions (entries_of p h))
 
--- an open pad or queue that handed out as many completions as it accepted requests is drained
+-- one that handed out as many is drained
 abbrev pub AllHandedOutIsDrained : {A : Type 0} → List (BoardEntry A) → ℕ → Type 0
 AllHandedOutIsDrained h p =
-    LegalBoard h → IsOpen (entries_of p h)
-    → length (completed (handed_out (entries_of p h))) ≡ length (submissions (entries_of p h)) → IsDrained (entries_of p h)
-
--- where the front is at all submissions, each request is finished
-abbrev pub FrontIsAll : {A : Type 0} → List (BoardEntry A) → Type 0
-FrontIsAll es = front es ≡ length (submissions es) → AreAllFinished es
-
--- every number below the front is finished
-abbrev pub FrontIsFinished : {A : Type 0} → List (BoardEntry A) → ℕ → Type 0
-FrontIsFinished es n = n < front es → has n (finished es) ≡ true
-
--- and the front itself is not, where it was submitted: it is the greatest such number
-abbrev pub FrontIsGreatest : {A : Type 0} → List (BoardEntry A) → Type 0
-FrontIsGreatest es = front es < length (submissions es) → has (front es) (finished es) ≡ false
+    LegalBoard h → length (completed (handed_out (entries_of p h))) ≡ length (submissions (entries_of p h)) → IsDrained (entries_of p h)

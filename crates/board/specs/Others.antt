@@ -1,10 +1,11 @@
 -- What entries of others, and work of one's own, leave of what a caller knows.
-use Rattle.std.specs.Prelude.{◌≡◌, ℕ, true, false, List, [], ◌++◌}
+use Rattle.std.specs.Prelude.{◌≡◌, ℕ, Bool, true, false, List, [], ◌++◌}
 use Rattle.std.specs.List.{list_all}
 use Rattle.turn_lock.specs.Turns.{of}
+use Rattle.board.specs.declared.entry.Shape.{Shape}
 use Rattle.board.specs.declared.entry.BoardEntry.{BoardEntry}
-use Rattle.board.specs.Entries.{entries_of, submissions, collected, is_held, is_shared, caller_of}
-use Rattle.board.specs.Legal.{IsOpenPad, IsOpenQueue, IsOpen, MaySubmit, MayManage, MayFinish, is_shut, LegalBoard}
+use Rattle.board.specs.Entries.{entries_of, submissions, collected, is_held, is_shared, mask, caller_of}
+use Rattle.board.specs.Legal.{IsOpenAs, MaySubmit, MayManage, MayFinish, is_shut, LegalBoard}
 use Rattle.board.specs.Order.{handed_out}
 use Rattle.board.specs.Staying.{IsDrained, is_work}
 use Rattle.board.specs.Allowance.{accepted_by}
@@ -20,14 +21,14 @@ WorkComes h es caller = LegalBoard (h ++ es) × (list_all is_work (of caller_of 
 abbrev pub OthersAlone : {A : Type 0} → List (BoardEntry A) → List (BoardEntry A) → ℕ → Type 0
 OthersAlone h es caller = OthersCome h es caller → WorkComes h es caller
 
--- A pipeline of which this caller is the maker: who manages it, whether it is open, held and shared, and what was collected
--- from it, are as before; and where it isn't shared, what it accepted.
+-- A pipeline of which this caller is the maker: who manages it, whether it is open, held and shared, its mask, and what was
+-- collected from it, are as before; and where it isn't shared, what it accepted.
 pub record StaysKnown {A : Type 0} (h after : List (BoardEntry A)) (p caller : ℕ) : Type 0 where
   pub managed : MayManage (entries_of p after) caller
-  pub pad : IsOpenPad (entries_of p h) → IsOpenPad (entries_of p after)
-  pub queue : IsOpenQueue (entries_of p h) → IsOpenQueue (entries_of p after)
+  pub opened : (such : Shape → Bool) → IsOpenAs such (entries_of p h) → IsOpenAs such (entries_of p after)
   pub held : is_held (entries_of p after) ≡ is_held (entries_of p h)
   pub shared : is_shared (entries_of p after) ≡ is_shared (entries_of p h)
+  pub masked : mask (entries_of p after) ≡ mask (entries_of p h)
   pub collected : collected (entries_of p after) ≡ collected (entries_of p h)
   pub handed : handed_out (entries_of p after) ≡ handed_out (entries_of p h)
   pub accepted : is_shared (entries_of p h) ≡ false → submissions (entries_of p after) ≡ submissions (entries_of p h)
@@ -38,8 +39,8 @@ WorkLeavesKnown h es p caller = WorkComes h es caller → MayManage (entries_of 
 -- a pipeline that is drained and not shared stays so
 abbrev pub WorkLeavesDrained : {A : Type 0} → List (BoardEntry A) → List (BoardEntry A) → ℕ → ℕ → Type 0
 WorkLeavesDrained h es p caller =
-    WorkComes h es caller → MayManage (entries_of p h) caller → IsOpen (entries_of p h)
-    → is_shared (entries_of p h) ≡ false → IsDrained (entries_of p h) → IsDrained (entries_of p (h ++ es))
+    WorkComes h es caller → MayManage (entries_of p h) caller → is_shared (entries_of p h) ≡ false → IsDrained (entries_of p h)
+    → IsDrained (entries_of p (h ++ es))
 
 -- what was accepted from a caller is as before, and caller 0 alone shuts the board
 abbrev pub WorkLeavesOwn : {A : Type 0} → List (BoardEntry A) → List (BoardEntry A) → ℕ → Type 0
@@ -52,8 +53,7 @@ abbrev pub OthersLeaveOpen : {A : Type 0} → List (BoardEntry A) → List (Boar
 OthersLeaveOpen h es p caller =
     OthersCome h es caller → MaySubmit (entries_of p h) caller
     → MaySubmit (entries_of p (h ++ es)) caller
-    × (IsOpenPad (entries_of p h) → IsOpenPad (entries_of p (h ++ es)))
-    × (IsOpenQueue (entries_of p h) → IsOpenQueue (entries_of p (h ++ es)))
+    × ((such : Shape → Bool) → IsOpenAs such (entries_of p h) → IsOpenAs such (entries_of p (h ++ es)))
 
 -- who took a job may finish it
 abbrev pub OthersLeaveSlips : {A O : Type 0} → (A → O) → List (BoardEntry A) → List (BoardEntry A) → ℕ → ℕ → ℕ → O → Type 0

@@ -1,8 +1,8 @@
--- The line of pipelines that may have a job to run.
-use Rattle.std.specs.Prelude.{◌≡◌, ◌≢◌, ℕ, suc, ◌<◌, ◌≤◌, Bool, true, false, List, [], ◌∷◌, length, slice_index_or}
+-- The lines of pipelines that may have a job to run, or a request to pass on.
+use Rattle.std.specs.Prelude.{◌≡◌, ◌≢◌, ◌⊎◌, ℕ, suc, ◌<◌, ◌≤◌, Bool, true, false, List, [], ◌∷◌, length, slice_index_or}
 use Rattle.board.specs.declared.pipeline.Pipeline.{Pipeline}
-use Rattle.board.specs.Entries.{has}
-use Rattle.board.specs.Pipelines.{MayServe}
+use Rattle.board.specs.Entries.{has, IsMasked}
+use Rattle.board.specs.Stages.{is_queue, MayServe, MayPass}
 
 -- of so many pipelines these stand in line
 pub record ReadyLine : Type 0 where
@@ -20,13 +20,30 @@ pub record IsLine (marks : List Bool) (line : List ℕ) : Type 0 where
   pub marked : (p : ℕ) → slice_index_or marks p false ≡ true → has p line ≡ true
   pub within : (p : ℕ) → has p line ≡ true → p < length marks
 
--- each pipeline of which a job may be taken stands in line
-abbrev pub AreInLine : {J O : Type 0} → List (Pipeline J O) → List ℕ → Type 0
-AreInLine {J} {O} pipes line = (p : ℕ) (d : Pipeline J O) → p < length pipes → MayServe (slice_index_or pipes p d) → has p line ≡ true
+-- a job of the pipeline may be taken, by somebody
+abbrev pub HasJob : {J O : Type 0} → Pipeline J O → Type 0
+HasJob pipe = MayServe pipe.stage
+
+-- a request of it may be passed on
+abbrev pub HasRequest : {J O : Type 0} → Pipeline J O → Type 0
+HasRequest pipe = MayPass pipe.stage
+
+-- everybody serves a queue; off a pad take who made the pipeline, who submitted to it, and the workers in its mask
+abbrev pub Admits : {J O : Type 0} → Pipeline J O → ℕ → Type 0
+Admits pipe caller =
+    (is_queue pipe.stage ≡ true) ⊎ ((pipe.maker ≡ caller) ⊎ ((has caller pipe.submitters.items ≡ true) ⊎ IsMasked pipe.mask caller))
+
+-- each pipeline of such a kind stands in line
+abbrev pub AreInLine : {P : Type 0} → (P → Type 0) → List P → List ℕ → Type 0
+AreInLine {P} such pipes line = (p : ℕ) (d : P) → p < length pipes → such (slice_index_or pipes p d) → has p line ≡ true
 
 -- each but this one
-abbrev pub OthersAreInLine : {J O : Type 0} → ℕ → List (Pipeline J O) → List ℕ → Type 0
-OthersAreInLine {J} {O} k pipes line = (p : ℕ) (d : Pipeline J O) → p < length pipes → p ≢ k → MayServe (slice_index_or pipes p d) → has p line ≡ true
+abbrev pub OthersAreInLine : {P : Type 0} → (P → Type 0) → ℕ → List P → List ℕ → Type 0
+OthersAreInLine {P} such k pipes line = (p : ℕ) (d : P) → p < length pipes → p ≢ k → such (slice_index_or pipes p d) → has p line ≡ true
 
-abbrev pub IsReadyFor : {J O : Type 0} → List (Pipeline J O) → ReadyLine → Type 0
-IsReadyFor pipes ready = (ready.pipes ≡ length pipes) × AreInLine pipes ready.line
+abbrev pub IsReadyFor : {P : Type 0} → (P → Type 0) → List P → ReadyLine → Type 0
+IsReadyFor such pipes ready = (ready.pipes ≡ length pipes) × AreInLine such pipes ready.line
+
+-- none of them is of such a kind
+abbrev pub NoneIs : {P : Type 0} → (P → Type 0) → List P → Type 0
+NoneIs {P} such pipes = (p : ℕ) (d : P) → p < length pipes → such (slice_index_or pipes p d) → ⊥

@@ -1,10 +1,11 @@
-use Rattle.std.specs.Prelude.{◌≡◌, ◌≢◌, ℕ, Bool, true, false, List, [], ◌∷◌, ◌++◌, length, None}
+-- What stays of a pipeline while a history goes on.
+use Rattle.std.specs.Prelude.{◌≡◌, ◌≢◌, ℕ, ◌-◌, ◌^◌, Bool, true, false, List, [], ◌∷◌, ◌++◌, length, None}
 use Rattle.board.specs.declared.entry.Shape.{Shape}
-use Rattle.board.specs.declared.entry.Shape.TheVariants.{Pad, Queue}
 use Rattle.board.specs.declared.entry.BoardEntry.{BoardEntry}
-use Rattle.board.specs.declared.entry.BoardEntry.TheVariants.{Born, Take, Finish, Deq, Done, Hold, Go, Collect}
-use Rattle.board.specs.Entries.{is_of, entries_of, submissions, front, told, collected, is_close, held_in, is_held, is_shared, caller_of, take_entry, finish_entry}
-use Rattle.board.specs.Legal.{IsOpenPad, IsOpenQueue, IsOpen, MaySubmit, MayManage, MayFinish, LegalBoard}
+use Rattle.board.specs.declared.entry.BoardEntry.TheVariants.{Born, Take, Finish, Deq, Done, Hold, Go, Collect, Mask}
+use Rattle.board.specs.Shapes.{lists_of}
+use Rattle.board.specs.Entries.{is_of, entries_of, birth_in, submissions, front, told, collected, is_close, held_in, is_held, masked_in, mask, is_shared, caller_of, take_entry, finish_entry, pass_entry}
+use Rattle.board.specs.Legal.{IsOpenAs, MaySubmit, MayManage, MayFinish, LegalBoard}
 
 -- an entry of the pipeline comes after those before it
 abbrev pub Joins : {A : Type 0} → List (BoardEntry A) → BoardEntry A → ℕ → Type 0
@@ -18,30 +19,18 @@ LeavesOthers h e p = is_of p e ≡ false → entries_of p (h ++ e ∷ []) ≡ en
 abbrev pub BeginsAlone : {A : Type 0} → List (BoardEntry A) → ℕ → ℕ → Shape → Type 0
 BeginsAlone h caller p shape = LegalBoard (h ++ Born caller p shape ∷ []) → entries_of p h ≡ []
 
--- the pad is open, and this caller manages it
-abbrev pub IsOpenFor : {A : Type 0} → List (BoardEntry A) → ℕ → ℕ → Type 0
-IsOpenFor h p caller = IsOpenPad (entries_of p h) × MayManage (entries_of p h) caller
+-- the pipeline is open, of such a shape, and this caller manages it
+abbrev pub IsOpenFor : {A : Type 0} → (Shape → Bool) → List (BoardEntry A) → ℕ → ℕ → Type 0
+IsOpenFor such h p caller = IsOpenAs such (entries_of p h) × MayManage (entries_of p h) caller
 
--- the queue is open, and this caller manages it
-abbrev pub IsOpenQueueFor : {A : Type 0} → List (BoardEntry A) → ℕ → ℕ → Type 0
-IsOpenQueueFor h q caller = IsOpenQueue (entries_of q h) × MayManage (entries_of q h) caller
+-- a pipeline that was just made is open, and its maker manages it
+abbrev pub Opens : {A : Type 0} → (Shape → Bool) → List (BoardEntry A) → ℕ → ℕ → Shape → Type 0
+Opens such h caller p shape =
+    LegalBoard (h ++ Born caller p shape ∷ []) → such shape ≡ true → IsOpenFor such (h ++ Born caller p shape ∷ []) p caller
 
--- a pad that was just made is open, and its maker manages it
-abbrev pub OpensPad : {A : Type 0} → List (BoardEntry A) → ℕ → ℕ → ℕ → Type 0
-OpensPad h caller p lists = LegalBoard (h ++ Born caller p (Pad lists) ∷ []) → IsOpenFor (h ++ Born caller p (Pad lists) ∷ []) p caller
-
--- and so is a queue
-abbrev pub OpensQueue : {A : Type 0} → List (BoardEntry A) → ℕ → ℕ → ℕ → Type 0
-OpensQueue h caller q max =
-    LegalBoard (h ++ Born caller q (Queue max) ∷ []) → IsOpenQueueFor (h ++ Born caller q (Queue max) ∷ []) q caller
-
--- an open pad stays open until it is closed
-abbrev pub StaysOpen : {A : Type 0} → List (BoardEntry A) → BoardEntry A → ℕ → Type 0
-StaysOpen h e p = IsOpenPad (entries_of p h) → is_close e ≡ false → IsOpenPad (entries_of p (h ++ e ∷ []))
-
--- and so does an open queue
-abbrev pub QueueStaysOpen : {A : Type 0} → List (BoardEntry A) → BoardEntry A → ℕ → Type 0
-QueueStaysOpen h e q = IsOpenQueue (entries_of q h) → is_close e ≡ false → IsOpenQueue (entries_of q (h ++ e ∷ []))
+-- an open pipeline stays open until it is closed
+abbrev pub StaysOpen : {A : Type 0} → (Shape → Bool) → List (BoardEntry A) → BoardEntry A → ℕ → Type 0
+StaysOpen such h e p = IsOpenAs such (entries_of p h) → is_close e ≡ false → IsOpenAs such (entries_of p (h ++ e ∷ []))
 
 -- who manages a pipeline, or may submit to it, may do so later
 abbrev pub StaysManaged : {A : Type 0} → List (BoardEntry A) → BoardEntry A → ℕ → ℕ → Type 0
@@ -50,17 +39,31 @@ StaysManaged h e p caller = MayManage (entries_of p h) caller → MayManage (ent
 abbrev pub StaysSubmitting : {A : Type 0} → List (BoardEntry A) → BoardEntry A → ℕ → ℕ → Type 0
 StaysSubmitting h e p caller = MaySubmit (entries_of p h) caller → MaySubmit (entries_of p (h ++ e ∷ [])) caller
 
--- a queue that was just made is not held
-abbrev pub BornServed : {A : Type 0} → List (BoardEntry A) → ℕ → ℕ → ℕ → Type 0
-BornServed h caller q max = LegalBoard (h ++ Born caller q (Queue max) ∷ []) → is_held (entries_of q (h ++ Born caller q (Queue max) ∷ [])) ≡ false
+-- a pipeline that was just made is not held
+abbrev pub BornServed : {A : Type 0} → List (BoardEntry A) → ℕ → ℕ → Shape → Type 0
+BornServed h caller p shape =
+    LegalBoard (h ++ Born caller p shape ∷ []) → is_held (entries_of p (h ++ Born caller p shape ∷ [])) ≡ false
 
 -- it is held after a Hold, not after a Go, and otherwise as before
 abbrev pub Holds : {A : Type 0} → List (BoardEntry A) → ℕ → ℕ → Type 0
-Holds h caller q =
-    (is_held (entries_of q (h ++ Hold caller q ∷ [])) ≡ true) × (is_held (entries_of q (h ++ Go caller q ∷ [])) ≡ false)
+Holds h caller p =
+    (is_held (entries_of p (h ++ Hold caller p ∷ [])) ≡ true) × (is_held (entries_of p (h ++ Go caller p ∷ [])) ≡ false)
 
 abbrev pub StaysHeld : {A : Type 0} → List (BoardEntry A) → BoardEntry A → ℕ → Type 0
-StaysHeld h e q = held_in e ≡ None → is_held (entries_of q (h ++ e ∷ [])) ≡ is_held (entries_of q h)
+StaysHeld h e p = held_in e ≡ None → is_held (entries_of p (h ++ e ∷ [])) ≡ is_held (entries_of p h)
+
+-- the mask of a pipeline that was just made is full
+abbrev pub BornMasked : {A : Type 0} → List (BoardEntry A) → ℕ → ℕ → Shape → Type 0
+BornMasked h caller p shape =
+    LegalBoard (h ++ Born caller p shape ∷ []) → mask (entries_of p (h ++ Born caller p shape ∷ [])) ≡ 2 ^ lists_of shape - 1
+
+-- it is that of a Mask after it, and otherwise as before
+abbrev pub Masks : {A : Type 0} → List (BoardEntry A) → ℕ → ℕ → ℕ → Type 0
+Masks h caller p bits = mask (entries_of p (h ++ Mask caller p bits ∷ [])) ≡ bits
+
+abbrev pub StaysMasked : {A : Type 0} → List (BoardEntry A) → BoardEntry A → ℕ → Type 0
+StaysMasked h e p =
+    birth_in e ≡ None → masked_in e ≡ None → mask (entries_of p (h ++ e ∷ [])) ≡ mask (entries_of p h)
 
 -- what another caller does leaves a job to who took it, with the same ask
 abbrev pub SlipStays : {A O : Type 0} → (A → O) → List (BoardEntry A) → BoardEntry A → ℕ → ℕ → ℕ → O → Type 0
@@ -72,11 +75,11 @@ SlipStays meaning h e p caller n out =
 abbrev pub IsDrained : {A : Type 0} → List (BoardEntry A) → Type 0
 IsDrained es = (front es ≡ length (submissions es)) × (collected es ≡ length (told es))
 
--- an open pad or queue of which each request is finished is drained by a collect
+-- a pipeline of which each request is finished is drained by a collect
 abbrev pub CollectDrains : {A : Type 0} → List (BoardEntry A) → ℕ → ℕ → ℕ → Type 0
 CollectDrains h caller p to =
-    LegalBoard (h ++ Collect caller p to ∷ []) → IsOpen (entries_of p h)
-    → front (entries_of p h) ≡ length (submissions (entries_of p h)) → IsDrained (entries_of p (h ++ Collect caller p to ∷ []))
+    LegalBoard (h ++ Collect caller p to ∷ []) → front (entries_of p h) ≡ length (submissions (entries_of p h))
+    → IsDrained (entries_of p (h ++ Collect caller p to ∷ []))
 
 -- what workers do
 abbrev pub is_work : {A : Type 0} → BoardEntry A → Bool
@@ -86,21 +89,25 @@ is_work (Deq caller pipe number started) = true
 is_work (Done caller pipe number) = true
 is_work _ = false
 
--- it accepts nothing, hands nothing out and shares nothing
+-- it accepts nothing, hands nothing out, shares nothing and masks nothing
 abbrev pub WorkLeaves : {A : Type 0} → List (BoardEntry A) → BoardEntry A → ℕ → Type 0
 WorkLeaves h e p =
     is_work e ≡ true
     → (submissions (entries_of p (h ++ e ∷ [])) ≡ submissions (entries_of p h))
     × (collected (entries_of p (h ++ e ∷ [])) ≡ collected (entries_of p h))
     × (is_shared (entries_of p (h ++ e ∷ [])) ≡ is_shared (entries_of p h))
+    × (mask (entries_of p (h ++ e ∷ [])) ≡ mask (entries_of p h))
 
 -- the entry is work of this caller's
 abbrev pub IsWorkOf : {A : Type 0} → BoardEntry A → ℕ → Type 0
 IsWorkOf e caller = (is_work e ≡ true) × (caller_of e ≡ caller) × (is_close e ≡ false)
 
--- to take a number and to finish it is work
+-- to take a number, to finish it and to pass a request on is work
 abbrev pub TakingIsWork : {A : Type 0} → List (BoardEntry A) → ℕ → ℕ → ℕ → Type 0
 TakingIsWork h caller p n = IsWorkOf (take_entry h caller p n) caller
 
 abbrev pub FinishingIsWork : {A : Type 0} → List (BoardEntry A) → ℕ → ℕ → ℕ → Type 0
 FinishingIsWork h caller p n = IsWorkOf (finish_entry h caller p n) caller
+
+abbrev pub PassingIsWork : {A : Type 0} → List (BoardEntry A) → ℕ → ℕ → Type 0
+PassingIsWork h caller p = IsWorkOf (pass_entry h caller p) caller

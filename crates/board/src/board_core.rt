@@ -8,12 +8,11 @@ ghost use Rattle.board.specs.Entries.{entries_of, is_shared, submissions, front,
 ghost use Rattle.board.specs.Legal.{IsNoWorker, MayManage, IsOpen, pipelines, is_shut, LegalBoard};
 
 use crate::allowance::Used;
-use crate::entry::{BoardEntry, Shape};
+use crate::entry::BoardEntry;
 use crate::log::{BoardLog, reserve_entries};
-use crate::pipeline::{PadPipeline, Pipeline};
+use crate::pipeline::Pipeline;
 use crate::ready::Ready;
 use crate::work::Work;
-use padata_core::Padata;
 use std::alloc::{AllocError, Global};
 use std::collections::BTreeMap;
 use std::marker::Model;
@@ -23,6 +22,9 @@ use turn_lock::Told;
 /// Why a board refuses.
 #[derive(Clone, Copy, Debug, PartialEq, Eq, Error)]
 pub enum BoardErr {
+    /// No worker may take from the pad: its mask is empty.
+    #[error("no worker may take from the pipeline")]
+    NoWorker,
     /// 2^20 requests of the caller were accepted, or with this one their bytes exceed 2^26.
     #[error("the caller has used its allowance")]
     TooBig,
@@ -47,6 +49,8 @@ pub struct BoardCore<W: Work> {
     pub(crate) pipes: Vec<Pipeline<W, W::Out>>,
     /// In line stands each pipeline of which a job may be taken.
     pub(crate) ready: Ready,
+    /// In line stands each chain of which a request may be passed on.
+    pub(crate) passing: Ready,
     /// For how many entries room is kept in `log`, since they may not be refused for want of memory.
     pub(crate) owed: usize,
     shut: bool,
@@ -64,11 +68,11 @@ impl<W: Work> Model for BoardCore<W> {
     ghost use Rattle.board.specs.Legal.{is_shut};
     ghost use Rattle.board.specs.Kept.{IsKeptBoard, owed_by};
     ghost use Rattle.board.specs.Allowance.{IsKeptUsed};
-    ghost use Rattle.board.specs.Ready.{IsReadyFor};
+    ghost use Rattle.board.specs.Ready.{HasJob, HasRequest, IsReadyFor};
 
     ghost view = { λ b. b.log.items };
 
-    ghost invariant = { λ b. IsKeptBoard W.asked W.meaning b.pipes.items b.log.items × (is_shut b.log.items ≡ b.shut) × (vec_len b.log + b.owed ≤ vec_capacity b.log) × (b.owed ≡ owed_by b.pipes.items + (if b.shut then 0 else 1)) × IsKeptUsed W.weight b.used b.log.items × IsReadyFor b.pipes.items b.ready };
+    ghost invariant = { λ b. IsKeptBoard W.asked W.meaning b.pipes.items b.log.items × (is_shut b.log.items ≡ b.shut) × (vec_len b.log + b.owed ≤ vec_capacity b.log) × (b.owed ≡ owed_by b.pipes.items + (if b.shut then 0 else 1)) × IsKeptUsed W.weight b.used b.log.items × IsReadyFor HasJob b.pipes.items b.ready × IsReadyFor HasRequest b.pipes.items b.passing };
 }
 
 impl<W: Work> Told for BoardCore<W> {
@@ -93,43 +97,15 @@ impl<W: Work> BoardCore<W> {
             log,
             pipes: Vec::new(alloc),
             ready: Ready::new(alloc),
+            passing: Ready::new(alloc),
             owed: 1,
             shut: false,
             used: BTreeMap::new(alloc),
         })
     }
 
-    /// Makes a pad of `lists` reorder lists, at least 1, and answers its number. The caller is no worker. Only want of memory
-    /// refuses, and leaves the board as it was.
-    pub fn born_pad(&mut self, caller: u32, lists: u32) -> Result<u64, BoardErr>
-        requires caller { IsNoWorker caller }
-        requires lists { 1 ≤ lists }
-        ensures made { MatchResult result (λ pipe. (pipe ≡ pipelines self.old) × (self.new ≡ self.old ++ Entry.Born caller pipe (Shaped.Pad lists) ∷ [])) (λ _. self.new ≡ self.old) }
-        ensures refused { IfErr result (λ e. e ≡ BoardErr.Memory) }
-        ensures legal { LegalBoard self.new }
-    {
-        let pad = Padata::new(self.alloc, lists)?;
-        reserve_entries(&mut self.log, self.owed, 2)?;
-        self.pipes.reserve(1)?;
-        self.ready.grow()?;
-        let pipe = self.pipes.len() as u64;
-        let place = PadPipeline {
-            maker: caller,
-            closed: false,
-            pad,
-        };
-        self.pipes.push_reserved(Pipeline::Pad(place));
-        self.log.push_reserved(BoardEntry::Born {
-            caller,
-            pipe,
-            shape: Shape::Pad(lists),
-        });
-        self.owed += 1;
-        Ok(pipe)
-    }
-
-    /// Lets others than the caller submit to a pad or a queue that it made, which isn't closed. Only want of memory refuses,
-    /// and leaves the board as it was.
+    /// Lets others than the caller submit to a pipeline that it made, which isn't closed. Only want of memory refuses, and
+    /// leaves the board as it was.
     pub fn share(&mut self, caller: u32, pipe: u64) -> Result<(), BoardErr>
         requires caller { MayManage (entries_of pipe self.old) caller }
         requires pipe { IsOpen (entries_of pipe self.old) }
@@ -138,12 +114,14 @@ impl<W: Work> BoardCore<W> {
         ensures legal { LegalBoard self.new }
     {
         reserve_entries(&mut self.log, self.owed, 1)?;
+        let place = &mut self.pipes[pipe as usize];
+        place.shared = true;
         self.log.push_reserved(BoardEntry::Share { caller, pipe });
         Ok(())
     }
 
-    /// Closes a pad or a queue that the caller made and shared with nobody, of which all is finished and handed out. No
-    /// memory is taken.
+    /// Closes a pipeline that the caller made and shared with nobody, of which all is finished and handed out. No memory is
+    /// taken.
     pub fn close(&mut self, caller: u32, pipe: u64)
         requires caller { MayManage (entries_of pipe self.old) caller }
         requires pipe { IsOpen (entries_of pipe self.old) }
@@ -154,7 +132,8 @@ impl<W: Work> BoardCore<W> {
         ensures legal { LegalBoard self.new }
     {
         let place = &mut self.pipes[pipe as usize];
-        place.close();
+        place.closed = true;
+        place.stage.free_room();
         self.log.push_reserved(BoardEntry::Close { caller, pipe });
         self.owed -= 1;
     }

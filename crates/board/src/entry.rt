@@ -1,18 +1,18 @@
 //! What happens on a board.
 
-ghost use Rattle.std.specs.Prelude.{◌≡◌};
-ghost use Rattle.board.specs.Entries.{work_of};
-
 use std::alloc::Global;
 use std::sync::Arc;
 
 /// What a pipeline is.
 #[derive(Clone, Copy, Debug, PartialEq, Eq)]
 pub enum Shape {
-    /// A pad: its jobs run in any order. It has so many reorder lists, at least 1.
+    /// A pad: its jobs run in any order. It has so many reorder lists, 1 to 16.
     Pad(u32),
     /// A queue: its jobs run one at a time, in order. So many requests wait before its backlog begins, at least 1.
     Queue(u32),
+    /// A chain: a queue of so many before its backlog begins, at least 1, whose requests go on to a pad within, of so many
+    /// reorder lists.
+    Chain(u32, u32),
 }
 
 /// What a queue answers to a request, with its number where it is accepted.
@@ -43,13 +43,13 @@ pub enum BoardEntry<A> {
         number: u64,
         ask: Arc<A, Global>,
     },
-    /// A pad's job is taken, to be run.
+    /// A pad's job is taken, or one on the pad within a chain, to be run.
     Take {
         caller: u32,
         pipe: u64,
         number: u64,
     },
-    /// A pad's job is done.
+    /// A job that was taken from a pad is done.
     Finish {
         caller: u32,
         pipe: u64,
@@ -63,7 +63,8 @@ pub enum BoardEntry<A> {
         backlog: bool,
         answer: Entered,
     },
-    /// A queue's first job is taken, to be run. By that `started` has left the backlog.
+    /// The first request leaves a queue, to be run, or goes on to the pad within a chain. By that `started` has left the
+    /// backlog.
     Deq {
         caller: u32,
         pipe: u64,
@@ -76,7 +77,7 @@ pub enum BoardEntry<A> {
         pipe: u64,
         number: u64,
     },
-    /// From now on a queue's jobs are not run.
+    /// From now on a queue's jobs are not run, and a chain's requests don't go on.
     Hold {
         caller: u32,
         pipe: u64,
@@ -102,18 +103,15 @@ pub enum BoardEntry<A> {
         caller: u32,
         pipe: u64,
     },
+    /// From now on the workers whose bits are set may take a pad's jobs, besides its maker and who submits to it: bit i
+    /// stands for caller i + 1.
+    Mask {
+        caller: u32,
+        pipe: u64,
+        mask: u16,
+    },
     /// The board is shut.
     Shut {
         caller: u32,
     },
-}
-
-/// How many entries of work follow on a queue's answer: two where it accepts.
-pub(crate) fn work_entries(answer: Entered) -> usize
-    ensures { result ≡ work_of answer }
-{
-    match answer {
-        Entered::InProgress(_) | Entered::Busy(_) => 2,
-        Entered::NoSpace => 0,
-    }
 }

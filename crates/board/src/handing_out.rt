@@ -13,8 +13,8 @@ use crate::work::Work;
 use kc_base::Callbacks;
 
 impl<W: Work> BoardCore<W> {
-    /// Hands out what a pad or a queue has told and no call handed out before, in the order in which it was told: of a pad
-    /// the completions up to the first request that isn't finished. The caller made the pipeline, which isn't closed. Only
+    /// Hands out what a pipeline has told and no call handed out before, in the order in which it was told: of a pad or a
+    /// chain the completions up to the first request that isn't finished. The caller made the pipeline, which isn't closed. Only
     /// want of memory refuses, and leaves all as it was.
     pub fn poll(
         &mut self,
@@ -30,7 +30,7 @@ impl<W: Work> BoardCore<W> {
         ensures legal { LegalBoard self.new }
     {
         let place = &self.pipes[pipe as usize];
-        into.reserve(place.uncollected())?;
+        into.reserve(place.stage.uncollected())?;
         reserve_entries(&mut self.log, self.owed, 1)?;
         let place = &mut self.pipes[pipe as usize];
         let to = place.collect(into);
@@ -39,7 +39,7 @@ impl<W: Work> BoardCore<W> {
         Ok(())
     }
 
-    /// Where all requests of the pad or queue are finished, answers true and hands out what no call handed out before, in
+    /// Where all requests of the pipeline are finished, answers true and hands out what no call handed out before, in
     /// the order in which it was told. Otherwise it answers false and nothing happens. The caller made the pipeline, which
     /// isn't closed. Only want of memory refuses, and leaves all as it was.
     pub fn try_drain(
@@ -57,7 +57,7 @@ impl<W: Work> BoardCore<W> {
         ensures legal { LegalBoard self.new }
     {
         let place = &self.pipes[pipe as usize];
-        if !place.is_done() {
+        if !place.stage.is_done() {
             return Ok(false);
         }
         self.poll(caller, pipe, into)?;

@@ -1,129 +1,83 @@
 //! What holds of every history that a board can have, and what such histories are.
 
-ghost use Rattle.std.specs.Prelude.{◌≡◌, ℕ, ◌+◌, true, false, List, [], ◌∷◌, ◌++◌, take};
+ghost use Rattle.std.specs.Prelude.{◌≡◌, ℕ, ◌+◌, true, false, List, [], ◌∷◌, ◌++◌, take, Some, None};
 ghost use Rattle.std.specs.declared.sync.Arc.{Arc};
 ghost use Rattle.std.specs.declared.alloc.Global.{Global};
 ghost use Rattle.std.specs.Arc.{arc_value};
 ghost use Rattle.kc_base.specs.declared.callback_list.Callback.TheVariants as Callback;
-ghost use Rattle.board.specs.declared.entry.Shape.{Shape};
-ghost use Rattle.board.specs.declared.entry.Entered.TheVariants.{Busy, NoSpace};
+ghost use Rattle.board.specs.declared.entry.Entered.TheVariants.{Busy, InProgress, NoSpace};
 ghost use Rattle.board.specs.declared.entry.BoardEntry.{BoardEntry};
-ghost use Rattle.board.specs.declared.entry.BoardEntry.TheVariants.{Submit, Finish, Enq, Deq, Go, Collect, Close};
+ghost use Rattle.board.specs.declared.entry.BoardEntry.TheVariants.{Submit, Take, Finish, Enq, Deq, Done, Go, Collect, Close, Mask};
 ghost use Rattle.board.specs.Entries.{Starts, Completes, told, front, entries_of, delivered};
 ghost use Rattle.board.specs.Legal.{IsRight, LegalBoard};
-ghost use Rattle.board.specs.Order.{PadsKeepOrder, PadsWaitForEach, PadsHandOutAll, QueuesKeepOrder, QueuesHandOutTold, QueuesCompleteInOrder, QueuesHandOutAll, StartsBackloggedAlone, StartsEachOnce, StartsBeforeCompletion};
-ghost use Rattle.board.specs.Staying.{Joins, LeavesOthers, BeginsAlone, OpensPad, OpensQueue, StaysOpen, QueueStaysOpen, StaysManaged, StaysSubmitting, BornServed, Holds, StaysHeld, SlipStays, CollectDrains, WorkLeaves, TakingIsWork, FinishingIsWork};
-ghost use Rattle.board.specs.Handing.{HandsNothing, HandsOutAtMost, FrontIsFinished, FrontIsGreatest, FrontIsAll, CollectHandsOut, AllHandedOutIsDrained};
-ghost use Rattle.board.specs.Others.{OthersAlone, WorkLeavesKnown, WorkLeavesDrained, WorkLeavesOwn, OthersLeaveOpen, OthersLeaveSlips};
-ghost use Rattle.board.specs.Ends.{AllIsFinished, NoWorkIsRight, ShutIsLast};
-ghost use Rattle.board.specs.Examples.{held_requests, held_queue, second_first, first_alone};
+ghost use Rattle.board.specs.Order.{KeepsOrder, HandsOutTold, HandsOutInOrder, WaitsForEach, HandsOutAll, FrontIsFinished, FrontIsGreatest, FrontIsAll, PadTellsFront, QueueTellsSteps, StartsBackloggedAlone, StartsEachOnce, StartsBeforeCompletion};
+ghost use Rattle.board.specs.Examples.{held_chain, crossed_chain, backward_chain, masked_pad, second_alone, held_requests, held_queue, second_first, first_alone};
 
-/// In every legal history a pad hands out the completions of its requests in their order, each once, however its jobs were
-/// taken and finished; and, where all were finished before its last collect, of all of them.
-pub fn pads_keep_order<A>()
-    ensures in_order { (h : List (BoardEntry A)) (p : ℕ) → PadsKeepOrder h p }
-    ensures waits { (h : List (BoardEntry A)) (p : ℕ) → PadsWaitForEach h p }
-    ensures all { (h : List (BoardEntry A)) (p caller to : ℕ) → PadsHandOutAll h p caller to }
+/// In every legal history each pipeline completes its requests in their order, each once, however its jobs were taken and
+/// finished, and hands out a front of what it told.
+pub fn completions_in_order<A>()
+    ensures in_order { (h : List (BoardEntry A)) (p : ℕ) → KeepsOrder h p }
+    ensures front_of { (h : List (BoardEntry A)) (p : ℕ) → HandsOutTold h p }
+    ensures handed { (h : List (BoardEntry A)) (p : ℕ) → HandsOutInOrder h p }
+    ensures waits { (h : List (BoardEntry A)) (p : ℕ) → WaitsForEach h p }
 {}
 
-/// In every legal history a queue completes its requests in their order, each once, and hands out a front of what it told;
-/// and, where all were finished before its last collect, the completions of all of them.
-pub fn queues_keep_order<A>()
-    ensures in_order { (h : List (BoardEntry A)) (q : ℕ) → QueuesKeepOrder h q }
-    ensures front_of { (h : List (BoardEntry A)) (q : ℕ) → QueuesHandOutTold h q }
-    ensures handed { (h : List (BoardEntry A)) (q : ℕ) → QueuesCompleteInOrder h q }
-    ensures all { (h : List (BoardEntry A)) (q caller to : ℕ) → QueuesHandOutAll h q caller to }
-{}
-
-/// In every legal history what a queue tells has `started` of backlogged requests alone, of each at most once, and of each
-/// whose completion it tells exactly once before that.
-pub fn queues_start_backlog<A>()
-    ensures alone { (h : List (BoardEntry A)) (q n : ℕ) → StartsBackloggedAlone h q n }
-    ensures once { (h : List (BoardEntry A)) (q n : ℕ) → StartsEachOnce h q n }
-    ensures before { (h : List (BoardEntry A)) (q n k : ℕ) → StartsBeforeCompletion h q n k }
-{}
-
-/// What stays of a pipeline while a history goes on: it is open until it is closed, who may manage it or submit to it may do
-/// so later, and work accepts nothing, hands nothing out and shares nothing. A pad or queue of which all is finished may be closed after a
-/// collect. What `take` and `finish` add is work of their caller's.
-pub fn pipelines_stay<A>()
-    ensures born { (h : List (BoardEntry A)) (caller p lists : ℕ) → OpensPad h caller p lists }
-    ensures queue_born { (h : List (BoardEntry A)) (caller q max : ℕ) → OpensQueue h caller q max }
-    ensures stays_open { (h : List (BoardEntry A)) (e : BoardEntry A) (p : ℕ) → StaysOpen h e p }
-    ensures queue_stays_open { (h : List (BoardEntry A)) (e : BoardEntry A) (q : ℕ) → QueueStaysOpen h e q }
-    ensures managed { (h : List (BoardEntry A)) (e : BoardEntry A) (p caller : ℕ) → StaysManaged h e p caller }
-    ensures submitting { (h : List (BoardEntry A)) (e : BoardEntry A) (p caller : ℕ) → StaysSubmitting h e p caller }
-    ensures work { (h : List (BoardEntry A)) (e : BoardEntry A) (p : ℕ) → WorkLeaves h e p }
-    ensures drained { (h : List (BoardEntry A)) (caller p to : ℕ) → CollectDrains h caller p to }
-    ensures taking { (h : List (BoardEntry A)) (caller p n : ℕ) → TakingIsWork h caller p n }
-    ensures finishing { (h : List (BoardEntry A)) (caller p n : ℕ) → FinishingIsWork h caller p n }
-{}
-
-/// A queue is held from its `hold` to its `go`.
-pub fn queues_hold<A>()
-    ensures born { (h : List (BoardEntry A)) (caller q max : ℕ) → BornServed h caller q max }
-    ensures held { (h : List (BoardEntry A)) (caller q : ℕ) → Holds h caller q }
-    ensures stays { (h : List (BoardEntry A)) (e : BoardEntry A) (q : ℕ) → StaysHeld h e q }
-{}
-
-/// Each entry joins the entries of its own pipeline and leaves those of the others; a pipeline's birth comes before them.
-pub fn entries_join<A>()
-    ensures joins { (h : List (BoardEntry A)) (e : BoardEntry A) (p : ℕ) → Joins h e p }
-    ensures leaves { (h : List (BoardEntry A)) (e : BoardEntry A) (p : ℕ) → LeavesOthers h e p }
-    ensures alone { (h : List (BoardEntry A)) (caller p : ℕ) (shape : Shape) → BeginsAlone h caller p shape }
-{}
-
-/// Only a collect hands anything out, and no more completions than requests were accepted. A pad or queue that handed out as
-/// many may be closed.
-pub fn only_collects_hand_out<A>()
-    ensures nothing { (h : List (BoardEntry A)) (e : BoardEntry A) (p : ℕ) → HandsNothing h e p }
-    ensures most { (h : List (BoardEntry A)) (p : ℕ) → HandsOutAtMost h p }
-    ensures drained { (h : List (BoardEntry A)) (p : ℕ) → AllHandedOutIsDrained h p }
+/// Where all were finished before its last collect, it has handed out the completions of all of them.
+pub fn collects_hand_out_all<A>()
+    ensures { (h : List (BoardEntry A)) (p caller to : ℕ) → HandsOutAll h p caller to }
 {}
 
 /// The front of a pipeline is the greatest number below which each request is finished. Where it is at all of the pipeline's
-/// submissions, as after a drain, each of its requests is finished: what `pads_keep_order` and `queues_keep_order` ask for, so
-/// that a collect hands out all completions.
+/// submissions, each of its requests is finished: what `collects_hand_out_all` asks for.
 pub fn fronts_tell_all<A>()
     ensures below { (es : List (BoardEntry A)) (n : ℕ) → FrontIsFinished es n }
     ensures greatest { (es : List (BoardEntry A)) → FrontIsGreatest es }
     ensures all { (es : List (BoardEntry A)) → FrontIsAll es }
 {}
 
-/// A collect hands out as many completions as are among the callbacks that it delivers.
-pub fn collects_hand_out<A, O>()
-    ensures { (meaning : A → O) (h : List (BoardEntry A)) (caller p to : ℕ) → CollectHandsOut meaning h caller p to }
+/// In every legal history what a pipeline tells has `started` of backlogged requests alone, of each at most once, and of
+/// each whose completion it tells exactly once before that.
+pub fn starts_of_the_backlog<A>()
+    ensures alone { (h : List (BoardEntry A)) (p n : ℕ) → StartsBackloggedAlone h p n }
+    ensures once { (h : List (BoardEntry A)) (p n : ℕ) → StartsEachOnce h p n }
+    ensures before { (h : List (BoardEntry A)) (p n k : ℕ) → StartsBeforeCompletion h p n k }
 {}
 
-/// Who took a job may finish it, with the value of the same ask, whatever others do meanwhile.
-pub fn slips_stay<A, O>()
-    ensures { (meaning : A → O) (h : List (BoardEntry A)) (e : BoardEntry A) (p caller n : ℕ) (out : O) → SlipStays meaning h e p caller n out }
+/// A pad tells the completions up to its front, and a queue what its steps tell.
+pub fn pads_and_queues_tell<A>()
+    ensures pads { (h : List (BoardEntry A)) (p : ℕ) → PadTellsFront h p }
+    ensures queues { (h : List (BoardEntry A)) (q : ℕ) → QueueTellsSteps h q }
 {}
 
-/// Entries of others, and work of a caller's own, leave what it knows: of the pipelines that it made who manages them, whether
-/// they are open, held and shared, what was collected from them and, where they aren't shared, what they accepted and that
-/// they are drained; and what was accepted from it. For caller 0 that the board isn't shut. Entries of others alone leave that
-/// it may submit, and the jobs that it took.
-pub fn others_leave<A, O>()
-    ensures alone { (h es : List (BoardEntry A)) (caller : ℕ) → OthersAlone h es caller }
-    ensures mine { (h es : List (BoardEntry A)) (p caller : ℕ) → WorkLeavesKnown h es p caller }
-    ensures drained { (h es : List (BoardEntry A)) (p caller : ℕ) → WorkLeavesDrained h es p caller }
-    ensures own { (h es : List (BoardEntry A)) (caller : ℕ) → WorkLeavesOwn h es caller }
-    ensures submitting { (h es : List (BoardEntry A)) (p caller : ℕ) → OthersLeaveOpen h es p caller }
-    ensures slips { (meaning : A → O) (h es : List (BoardEntry A)) (p caller n : ℕ) (out : O) → OthersLeaveSlips meaning h es p caller n out }
+/// A chain whose second request is finished first has a legal history, and hands out each callback once, in order; and so has
+/// one whose three requests are finished backwards. What waits in line isn't taken, a held chain passes nothing on, the first
+/// that waits past the bound is told that it started, a chain's job has no Done, and its mask stays full.
+pub fn legal_chains()
+    ensures legal { (a b c : Arc ℕ Global) → LegalBoard (crossed_chain a b c ++ Collect 0 0 2 ∷ Finish 1 0 0 ∷ Deq 3 0 2 None ∷ Take 0 0 2 ∷ Finish 0 0 2 ∷ Collect 0 0 5 ∷ Close 0 0 ∷ []) }
+    ensures told { (a b c : Arc ℕ Global) → told (entries_of 0 (crossed_chain a b c ++ Finish 1 0 0 ∷ [])) ≡ Starts 1 ∷ Starts 2 ∷ Completes 0 ∷ Completes 1 ∷ [] }
+    ensures handed { (a b c : Arc ℕ Global) → delivered (λ n. n + 1) (entries_of 0 (crossed_chain a b c ++ Collect 0 0 2 ∷ Finish 1 0 0 ∷ [])) 4 ≡ Callback.Done 0 (arc_value a + 1) ∷ Callback.Done 1 (arc_value b + 1) ∷ [] }
+    ensures backwards { (a b c : Arc ℕ Global) → LegalBoard (backward_chain a b c ++ Collect 0 0 4 ∷ Close 0 0 ∷ []) }
+    ensures order { (a b c : Arc ℕ Global) → told (entries_of 0 (backward_chain a b c)) ≡ Starts 2 ∷ Completes 0 ∷ Completes 1 ∷ Completes 2 ∷ [] }
+    ensures held { (a b c : Arc ℕ Global) → ¬ IsRight (held_chain a b c) (Deq 1 0 0 (Some 1)) }
+    ensures newest { (a b c : Arc ℕ Global) → ¬ IsRight (held_chain a b c ++ Go 0 0 ∷ []) (Deq 1 0 0 (Some 2)) }
+    ensures in_line { (a b c : Arc ℕ Global) → ¬ IsRight (crossed_chain a b c) (Take 1 0 2) }
+    ensures done { (a b c : Arc ℕ Global) → ¬ IsRight (crossed_chain a b c) (Done 1 0 0) }
+    ensures early { (a b c : Arc ℕ Global) → ¬ IsRight (crossed_chain a b c) (Collect 0 0 3) }
+    ensures unmasked { (a b c : Arc ℕ Global) → ¬ IsRight (held_chain a b c) (Mask 0 0 1) }
 {}
 
-/// Over every legal history: where each request of each pipeline is finished, no take and no finish of a job is right any
-/// more, so that a shut beside workers is the last entry. Where one caller alone made pipelines, closed ones are finished.
-pub fn work_ends<A>()
-    ensures all_finished { (h : List (BoardEntry A)) (caller : ℕ) → AllIsFinished h caller }
-    ensures nothing_left { (h : List (BoardEntry A)) (e : BoardEntry A) → NoWorkIsRight h e }
-    ensures shut_last { (h : List (BoardEntry A)) (caller : ℕ) (es : List (BoardEntry A)) → ShutIsLast h caller es }
+/// A pad whose mask changes has a legal history. Under an empty mask nothing is submitted, and its maker alone takes; a
+/// worker takes whose bit is set; no bit stands at or above the pad's lists.
+pub fn legal_masks()
+    ensures legal { (a b : Arc ℕ Global) → LegalBoard (second_alone a b ++ Take 2 0 0 ∷ Take 0 0 1 ∷ Finish 0 0 1 ∷ Finish 2 0 0 ∷ Collect 0 0 2 ∷ Close 0 0 ∷ []) }
+    ensures empty { (a b : Arc ℕ Global) → ¬ IsRight (masked_pad a b) (Submit 0 0 1 b) }
+    ensures other { (a b : Arc ℕ Global) → ¬ IsRight (second_alone a b) (Take 1 0 0) }
+    ensures above { (a b : Arc ℕ Global) → ¬ IsRight (masked_pad a b) (Mask 0 0 4) }
 {}
 
 /// A pad whose second job is finished first has a legal history. It hands out nothing past a job that still runs, and what
-/// stands before that job, though others run; only who
-/// took a job finishes it, once; no worker submits; and it isn't closed before all is handed out.
+/// stands before that job, though others run; only who took a job finishes it, once; no worker submits; and it isn't closed
+/// before all is handed out.
 pub fn legal_pads()
     ensures legal { (a b : Arc ℕ Global) → LegalBoard (second_first a b ++ Collect 0 0 0 ∷ Finish 1 0 0 ∷ Collect 0 0 2 ∷ Close 0 0 ∷ []) }
     ensures front { (a b : Arc ℕ Global) → (front (entries_of 0 (second_first a b)) ≡ 0) × (front (entries_of 0 (first_alone a b)) ≡ 1) }

@@ -1,6 +1,6 @@
-//! Which pipelines may have a job to run.
+//! Lines of pipelines that may have a job to run, or a request to pass on.
 
-ghost use Rattle.std.specs.Prelude.{◌≡◌, ℕ, ◌+◌, ◌<◌, true, [], ◌∷◌, MatchResult, MatchOption};
+ghost use Rattle.std.specs.Prelude.{◌≡◌, ℕ, ◌+◌, ◌-◌, ◌<◌, true, false, [], ◌∷◌, length, take, MatchResult, MatchOption};
 ghost use Rattle.board.specs.Entries.{has};
 
 use std::alloc::{AllocError, Global};
@@ -41,7 +41,7 @@ impl Ready {
 
     /// Makes room for one pipeline more, which doesn't stand in line. Want of memory changes nothing.
     pub(crate) fn grow(&mut self) -> Result<(), AllocError>
-        ensures { MatchResult result (λ _. self.new ≡ record self.old { pipes = self.old.pipes + 1 }) (λ _. self.new ≡ self.old) }
+        ensures { MatchResult result (λ _. (self.new ≡ record self.old { pipes = self.old.pipes + 1 }) × (has self.old.pipes self.old.line ≡ false)) (λ _. self.new ≡ self.old) }
     {
         let Some(room) = self.marks.len().checked_add(1) else {
             return Err(AllocError);
@@ -51,17 +51,34 @@ impl Ready {
         Ok(())
     }
 
+    /// Takes the room for the last pipeline back, which doesn't stand in line. No memory is taken.
+    pub(crate) fn shrink(&mut self)
+        requires some { 0 < self.old.pipes }
+        requires last { has (self.old.pipes - 1) self.old.line ≡ false }
+        ensures { self.new ≡ record self.old { pipes = self.old.pipes - 1 } }
+    {
+        let _ = self.marks.pop();
+    }
+
     /// Sets a pipeline at the end of the line, where it doesn't stand in it. No memory is taken.
     pub(crate) fn add(&mut self, pipe: usize)
         requires { pipe < self.old.pipes }
         ensures pipes { self.new.pipes ≡ self.old.pipes }
         ensures added { has pipe self.new.line ≡ true }
         ensures kept { (p : ℕ) → has p self.old.line ≡ true → has p self.new.line ≡ true }
+        ensures first { take (length self.old.line) self.new.line ≡ self.old.line }
     {
         if !self.marks[pipe] {
             self.marks[pipe] = true;
             self.line.push_back_reserved(pipe);
         }
+    }
+
+    /// How many pipelines stand in line.
+    pub(crate) fn len(&self) -> usize
+        ensures { result ≡ length self.now.line }
+    {
+        self.line.len()
     }
 
     /// Takes the first pipeline out of the line.

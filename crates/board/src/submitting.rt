@@ -1,12 +1,12 @@
 //! How a board admits requests, and a pad of it accepts them.
 
-ghost use Rattle.std.specs.Prelude.{◌≡◌, [], ◌∷◌, ◌++◌, length, IfOk, IfErr, OnOk, ◌↔◌, MatchResult};
+ghost use Rattle.std.specs.Prelude.{◌≡◌, ◌≢◌, ◌<◌, [], ◌∷◌, ◌++◌, length, IfOk, IfErr, OnOk, ◌↔◌, MatchResult};
 ghost use Rattle.std.specs.Arc.{arc_value};
 ghost use Rattle.std.specs.declared.sync.Arc.{Arc};
 ghost use Rattle.std.specs.declared.alloc.Global.{Global as GlobalMemory};
 ghost use Rattle.board.specs.declared.entry.BoardEntry.TheVariants as Entry;
 ghost use Rattle.board.specs.declared.board_core.BoardErr.TheVariants as BoardErr;
-ghost use Rattle.board.specs.Entries.{entries_of, submissions};
+ghost use Rattle.board.specs.Entries.{entries_of, submissions, mask};
 ghost use Rattle.board.specs.Allowance.{IsAllowed};
 ghost use Rattle.board.specs.Legal.{MaySubmit, IsOpenPad, LegalBoard};
 
@@ -26,23 +26,29 @@ pub(crate) struct Admitted<A> {
 
 impl<W: Work> BoardCore<W> {
     /// Takes a job into the pad, and answers its number. The caller made the pad, which isn't closed, or the pad is shared,
-    /// and the caller is no worker. `TooBig` where the caller's allowance has no room for the job; want of memory comes
-    /// after that. A refusal drops the job and leaves the board as it was. All memory that the job's `take` and `finish`
-    /// need is taken here.
+    /// and the caller is no worker. `NoWorker` where the pad's mask is empty, and otherwise `TooBig` where the caller's
+    /// allowance has no room for the job; want of memory comes after these. A refusal drops the job and leaves the board as
+    /// it was. All memory that the job's `take` and `finish` need is taken here.
     pub fn submit(&mut self, caller: u32, pipe: u64, job: W) -> Result<u64, BoardErr>
         requires caller { MaySubmit (entries_of pipe self.old) caller }
         requires pipe { IsOpenPad (entries_of pipe self.old) }
         ensures submitted { MatchResult result (λ n. (n ≡ length (submissions (entries_of pipe self.old))) × ((ask : Arc W.Ask GlobalMemory) × (arc_value ask ≡ W.asked job) × (self.new ≡ self.old ++ Entry.Submit caller pipe n ask ∷ []))) (λ _. self.new ≡ self.old) }
         ensures allowed { OnOk result (IsAllowed W.weight self.old caller (W.asked job)) }
-        ensures refused { IfErr result (λ e. (e ≡ BoardErr.TooBig) ↔ (IsAllowed W.weight self.old caller (W.asked job) → ⊥)) }
+        ensures masked { OnOk result (0 < mask (entries_of pipe self.old)) }
+        ensures unmasked { IfErr result (λ e. (e ≡ BoardErr.NoWorker) ↔ (mask (entries_of pipe self.old) ≡ 0)) }
+        ensures refused { IfErr result (λ e. (e ≡ BoardErr.TooBig) ↔ ((0 < mask (entries_of pipe self.old)) × (IsAllowed W.weight self.old caller (W.asked job) → ⊥))) }
         ensures legal { LegalBoard self.new }
     {
+        let place = &self.pipes[pipe as usize];
+        if place.mask == 0 {
+            return Err(BoardErr::NoWorker);
+        }
         let Admitted { ask, size } = self.admit(caller, &job)?;
         reserve_entries(&mut self.log, self.owed, 3)?;
         let place = &mut self.pipes[pipe as usize];
         place.reserve()?;
         spend(&mut self.used, caller, size)?;
-        let number = place.submit(job);
+        let number = place.submit(caller, job);
         self.log.push_reserved(BoardEntry::Submit {
             caller,
             pipe,
@@ -61,6 +67,7 @@ impl<W: Work> BoardCore<W> {
         ensures size { IfOk result (λ admitted. admitted.size ≡ W.weight (W.asked job.now)) }
         ensures allowed { OnOk result (IsAllowed W.weight self.now caller (W.asked job.now)) }
         ensures refused { IfErr result (λ e. (e ≡ BoardErr.TooBig) ↔ (IsAllowed W.weight self.now caller (W.asked job.now) → ⊥)) }
+        ensures other { IfErr result (λ e. e ≢ BoardErr.NoWorker) }
     {
         let size = job.size();
         let so_far = used_by(&self.used, caller);

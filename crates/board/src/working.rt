@@ -1,11 +1,13 @@
-//! How workers take a board's jobs, and finish them.
+//! How workers take a board's jobs, finish them, and pass the requests of chains on.
 
-ghost use Rattle.std.specs.Prelude.{◌≡◌, false, [], ◌∷◌, ◌++◌, slice_get, Some, IfSome, MatchOption};
-ghost use Rattle.board.specs.Entries.{entries_of, submissions, takers, finished, has, meaning_at, take_entry, finish_entry, NoneWaits};
-ghost use Rattle.board.specs.Legal.{MayFinish, LegalBoard};
+ghost use Rattle.std.specs.Prelude.{◌≡◌, ℕ, false, [], ◌∷◌, ◌++◌, slice_get, Some, IfSome, MatchBool, MatchOption};
+ghost use Rattle.board.specs.Shapes.{is_chain};
+ghost use Rattle.board.specs.Entries.{entries_of, submissions, takers, finished, has, meaning_at, take_entry, finish_entry, pass_entry, NoneFor, NonePasses};
+ghost use Rattle.board.specs.Legal.{Is, MayFinish, LegalBoard};
 
 use crate::board_core::BoardCore;
-use crate::pipeline::next_ready;
+use crate::entry::BoardEntry;
+use crate::serving::{next_job, next_request};
 use crate::work::Work;
 use request_queue::Served;
 use std::marker::Model;
@@ -32,22 +34,23 @@ pub struct Taken<W> {
 }
 
 impl<W: Work> BoardCore<W> {
-    /// Hands out a job of a pipeline that has one to run: of a pad the first that nobody has taken, of a queue the
-    /// first that waits, where the queue is neither held nor busy. `None` exactly where there is none. No memory is taken.
+    /// Hands out a job of a pipeline that has one for this caller: of a pad, or of the pad within a chain, the first that nobody
+    /// has taken, where the caller made the pipeline, submitted to it, or is a worker in its mask; of a queue the first that
+    /// waits, where the queue is neither held nor busy. `None` exactly where there is none. No memory is taken.
     pub fn take(&mut self, caller: u32) -> Option<Taken<W>>
-        ensures taken { MatchOption result ((self.new ≡ self.old) × NoneWaits self.old) (λ t. (self.new ≡ self.old ++ take_entry self.old caller t.slip.pipe t.slip.number ∷ []) × (slice_get (submissions (entries_of t.slip.pipe self.old)) t.slip.number ≡ Some (W.asked t.job))) }
+        ensures taken { MatchOption result ((self.new ≡ self.old) × NoneFor self.old caller) (λ t. (self.new ≡ self.old ++ take_entry self.old caller t.slip.pipe t.slip.number ∷ []) × (slice_get (submissions (entries_of t.slip.pipe self.old)) t.slip.number ≡ Some (W.asked t.job))) }
         ensures ready { IfSome result (λ t. MayFinish W.meaning (entries_of t.slip.pipe self.new) caller t.slip.number (W.meaning (W.asked t.job))) }
         ensures legal { LegalBoard self.new }
     {
-        let p = next_ready(&self.pipes, &mut self.ready)?;
+        let p = next_job(&self.pipes, &mut self.ready, caller)?;
         let place = &mut self.pipes[p];
         let Served {
             number,
             item: job,
             started,
-        } = place.take()?;
+        } = place.stage.take()?;
         let pipe = p as u64;
-        let entry = place.take_entry(caller, pipe, number, started);
+        let entry = place.stage.take_entry(caller, pipe, number, started);
         self.log.push_reserved(entry);
         self.owed -= 1;
         self.ready.add(p);
@@ -67,10 +70,35 @@ impl<W: Work> BoardCore<W> {
     {
         let Slip { pipe, number } = slip;
         let place = &mut self.pipes[pipe as usize];
-        place.finish(number, out);
-        let entry = place.finish_entry(caller, pipe, number);
+        place.stage.finish(number, out);
+        let entry = place.stage.finish_entry(caller, pipe, number);
         self.log.push_reserved(entry);
         self.owed -= 1;
         self.ready.add(pipe as usize);
+    }
+
+    /// The first request of a chain's line goes on to its pad, where the chain isn't held. False exactly where there is no such
+    /// chain. No memory is taken.
+    pub fn pass_on(&mut self, caller: u32) -> bool
+        ensures passed { MatchBool result ((p : ℕ) × Is is_chain (entries_of p self.old) × (self.new ≡ self.old ++ pass_entry self.old caller p ∷ [])) (NonePasses self.old × (self.new ≡ self.old)) }
+        ensures legal { LegalBoard self.new }
+    {
+        let Some(p) = next_request(&self.pipes, &mut self.passing) else {
+            return false;
+        };
+        let place = &mut self.pipes[p];
+        let Some((number, started)) = place.stage.pass_on() else {
+            return false;
+        };
+        self.log.push_reserved(BoardEntry::Deq {
+            caller,
+            pipe: p as u64,
+            number,
+            started,
+        });
+        self.owed -= 1;
+        self.ready.add(p);
+        self.passing.add(p);
+        true
     }
 }

@@ -1,12 +1,12 @@
 -- What a caller knows of a chain after a call, by the board's laws.
 use Rattle.std.proofs.Common.{◌≡◌, ◌≢◌, ℕ, Bool, true, false, List, [], ◌∷◌, ◌++◌, inl, inr, subst}
 use Rattle.std.specs.Prelude.{MatchBool}
-use Rattle.chain_board.specs.declared.entry.Shape.{Shape}
-use Rattle.chain_board.specs.declared.entry.BoardEntry.{BoardEntry}
-use Rattle.chain_board.specs.Shapes.{has_line, is_chain}
-use Rattle.chain_board.specs.Entries.{entries_of, is_close, caller_of, pass_entry}
-use Rattle.chain_board.specs.Legal.{Is, MayFinish, LegalBoard}
-use Rattle.chain_board.specs.Staying.{StaysOpen, StaysManaged, SlipStays, PassingIsWork, IsOpenFor}
+use Rattle.board.specs.declared.entry.Shape.{Shape}
+use Rattle.board.specs.declared.entry.BoardEntry.{BoardEntry}
+use Rattle.board.specs.Shapes.{has_line, is_chain}
+use Rattle.board.specs.Entries.{entries_of, is_close, caller_of, pass_entry}
+use Rattle.board.specs.Legal.{Is, MayFinish, LegalBoard}
+use Rattle.board.specs.Staying.{StaysOpen, StaysManaged, SlipStays, PassingIsWork, IsOpenFor}
 use Rattle.board_tests.proofs.Staying.{MayAppend}
 
 module _ {A : Type 0} (managed : (h : List (BoardEntry A)) (e : BoardEntry A) (p caller : ℕ) → StaysManaged h e p caller) (open_ : (such : Shape → Bool) (h : List (BoardEntry A)) (e : BoardEntry A) (p : ℕ) → StaysOpen such h e p) where

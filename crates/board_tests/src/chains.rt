@@ -1,12 +1,12 @@
 //! A chain on a board: a queue whose requests go on to a pad.
 
 ghost use Rattle.std.specs.Prelude.{◌≢◌, ℕ, IfOk};
-ghost use Rattle.chain_board.specs.Entries.{entries_of};
-ghost use Rattle.chain_board.specs.Legal.{MayFinish};
-ghost use Rattle.chain_board.specs.Shapes.{has_line};
-ghost use Rattle.chain_board.specs.Staying.{IsOpenFor};
+ghost use Rattle.board.specs.Entries.{entries_of};
+ghost use Rattle.board.specs.Legal.{MayFinish};
+ghost use Rattle.board.specs.Shapes.{has_line};
+ghost use Rattle.board.specs.Staying.{IsOpenFor};
 
-use chain_board::{BoardCore, BoardErr, Entered, Taken, Work, pipelines_stay, slips_stay};
+use board::{BoardCore, BoardErr, Entered, Taken, Work, pipelines_stay, slips_stay};
 use kc_base::{Callback, Callbacks};
 use std::alloc::{AllocError, Global};
 use std::process::Abort;

@@ -1,7 +1,7 @@
 use Rattle.std.proofs.Common.{refl, subst}
-use Rattle.chain_board.specs.declared.entry.Shape.TheVariants.{Chain}
-use Rattle.chain_board.specs.Shapes.{has_line}
-use Rattle.chain_board.specs.Legal.{LegalBoard}
+use Rattle.board.specs.declared.entry.Shape.TheVariants.{Chain}
+use Rattle.board.specs.Shapes.{has_line}
+use Rattle.board.specs.Legal.{LegalBoard}
 use Rattle.board_tests.proofs.chains.make.Goals as goal
 
 pub returns : goal.returns

@@ -1,4 +1,4 @@
-use Rattle.chain_board.specs.Entries.{NonePasses}
+use Rattle.board.specs.Entries.{NonePasses}
 use Rattle.board_tests.proofs.Chaining.{passed_after}
 use Rattle.board_tests.proofs.chains.pass.Goals as goal
 

@@ -1,5 +1,5 @@
-use Rattle.chain_board.specs.Shapes.{has_line}
-use Rattle.chain_board.specs.Staying.{IsOpenFor}
+use Rattle.board.specs.Shapes.{has_line}
+use Rattle.board.specs.Staying.{IsOpenFor}
 use Rattle.board_tests.proofs.chains.play.Given as goal
 
 -- the chain stays open to its maker

@@ -1,12 +1,13 @@
-use Rattle.std.proofs.Common.{arith, ◌≡◌, [], ◌∷◌, ◌++◌, length, ap, sym, ◌∙◌, subst, refl, false}
+use Rattle.std.proofs.Common.{arith, ◌≡◌, [], ◌∷◌, ◌++◌, length, ap, sym, ◌∙◌, subst, refl, true, false}
 use Rattle.board.specs.declared.entry.BoardEntry.TheVariants.{Close}
 use Rattle.board.specs.Entries.{entries_of, is_shared, submissions, front, told, collected}
-use Rattle.board.specs.Legal.{MayManage, IsOpen}
+use Rattle.board.specs.Ready.{HasJob, HasRequest}
 use Rattle.board.proofs.KeptUsed.{used_same}
 use Rattle.board.proofs.Kept.{shut-same, within_board}
-use Rattle.board.proofs.KeptSubmit.{any_open_here}
-use Rattle.board.proofs.KeptClose.{close_step, spent_step}
-use Rattle.board.proofs.InLine.{ready_same, closed_serves}
+use Rattle.board.specs.Legal.{MayManage, IsOpen}
+use Rattle.board.proofs.KeptCalls.{any_open_here, spent_step, close_step}
+use Rattle.board.proofs.KeptRoom.{serve_same, pass_same}
+use Rattle.board.proofs.InLine.{ready_same}
 use Rattle.board.proofs.board_core.BoardCore.close.Goals as goal
 
 pub index_mut-place-requires : goal.index_mut-place-requires
@@ -16,10 +17,11 @@ index_mut-place-requires g c =
     let o = c.self.inside.pipes.ok.0 in
     omega arith
 
-pub close-requires : goal.close-requires
-close-requires g c =
+pub free_room-requires : goal.free_room-requires
+free_room-requires g c =
     let open_ : IsOpen (entries_of c.args.pipe c.self.inside.log.items) = subst (λ h. IsOpen (entries_of c.args.pipe h)) (sym c.self.view_is) c.requires.pipe in
     let w = within_board g.W.Work.asked g.W.Work.meaning c.self.inside.pipes.items c.self.inside.log.items c.args.pipe c.self.invariant.0 (any_open_here (entries_of c.args.pipe c.self.inside.log.items) open_) in
+    let alone = subst (λ h. is_shared (entries_of c.args.pipe h) ≡ false) (sym c.self.view_is) c.requires.alone in
     let f = subst (λ h. front (entries_of c.args.pipe h) ≡ length (submissions (entries_of c.args.pipe h))) (sym c.self.view_is) c.requires.finished in
     let d = subst (λ h. collected (entries_of c.args.pipe h) ≡ length (told (entries_of c.args.pipe h))) (sym c.self.view_is) c.requires.collected in
     spent_step g.W.Work.asked g.W.Work.meaning c.self.inside.pipes.items c.self.inside.log.items c.args.pipe c.index_mut-place.result.now c.self.invariant.0 w c.index_mut-place.ensures.value f d
@@ -32,7 +34,7 @@ push_reserved-requires g c =
     let alone = subst (λ h. is_shared (entries_of c.args.pipe h) ≡ false) (sym c.self.view_is) c.requires.alone in
     let f = subst (λ h. front (entries_of c.args.pipe h) ≡ length (submissions (entries_of c.args.pipe h))) (sym c.self.view_is) c.requires.finished in
     let d = subst (λ h. collected (entries_of c.args.pipe h) ≡ length (told (entries_of c.args.pipe h))) (sym c.self.view_is) c.requires.collected in
-    let s = close_step g.W.Work.asked g.W.Work.meaning c.self.inside.pipes.items c.self.inside.log.items c.args.pipe c.args.caller c.index_mut-place.result.now c.close.new.self c.self.invariant.0 w c.index_mut-place.ensures.value may open_ alone f d c.close.ensures in
+    let s = close_step g.W.Work.asked g.W.Work.meaning c.self.inside.pipes.items c.self.inside.log.items c.args.pipe c.index_mut-place.result.now c.self.invariant.0 w c.index_mut-place.ensures.value c.args.caller c.free_room.new.self (record c.index_mut-place.result.now { closed = true; stage = c.free_room.new.self }) may open_ alone f d c.free_room.ensures.same c.free_room.ensures.placed refl in
     omega (arith, s.1, c.self.invariant.2, c.self.invariant.3)
 
 pub overflow_sub-self : goal.overflow_sub-self
@@ -43,7 +45,7 @@ overflow_sub-self g c =
     let alone = subst (λ h. is_shared (entries_of c.args.pipe h) ≡ false) (sym c.self.view_is) c.requires.alone in
     let f = subst (λ h. front (entries_of c.args.pipe h) ≡ length (submissions (entries_of c.args.pipe h))) (sym c.self.view_is) c.requires.finished in
     let d = subst (λ h. collected (entries_of c.args.pipe h) ≡ length (told (entries_of c.args.pipe h))) (sym c.self.view_is) c.requires.collected in
-    let s = close_step g.W.Work.asked g.W.Work.meaning c.self.inside.pipes.items c.self.inside.log.items c.args.pipe c.args.caller c.index_mut-place.result.now c.close.new.self c.self.invariant.0 w c.index_mut-place.ensures.value may open_ alone f d c.close.ensures in
+    let s = close_step g.W.Work.asked g.W.Work.meaning c.self.inside.pipes.items c.self.inside.log.items c.args.pipe c.index_mut-place.result.now c.self.invariant.0 w c.index_mut-place.ensures.value c.args.caller c.free_room.new.self (record c.index_mut-place.result.now { closed = true; stage = c.free_room.new.self }) may open_ alone f d c.free_room.ensures.same c.free_room.ensures.placed refl in
     omega (arith, s.1, c.self.invariant.3)
 
 pub invariant_of-self : goal.invariant_of-self
@@ -54,13 +56,14 @@ invariant_of-self g c =
     let alone = subst (λ h. is_shared (entries_of c.args.pipe h) ≡ false) (sym c.self.view_is) c.requires.alone in
     let f = subst (λ h. front (entries_of c.args.pipe h) ≡ length (submissions (entries_of c.args.pipe h))) (sym c.self.view_is) c.requires.finished in
     let d = subst (λ h. collected (entries_of c.args.pipe h) ≡ length (told (entries_of c.args.pipe h))) (sym c.self.view_is) c.requires.collected in
-    let s = close_step g.W.Work.asked g.W.Work.meaning c.self.inside.pipes.items c.self.inside.log.items c.args.pipe c.args.caller c.index_mut-place.result.now c.close.new.self c.self.invariant.0 w c.index_mut-place.ensures.value may open_ alone f d c.close.ensures in (
+    let s = close_step g.W.Work.asked g.W.Work.meaning c.self.inside.pipes.items c.self.inside.log.items c.args.pipe c.index_mut-place.result.now c.self.invariant.0 w c.index_mut-place.ensures.value c.args.caller c.free_room.new.self (record c.index_mut-place.result.now { closed = true; stage = c.free_room.new.self }) may open_ alone f d c.free_room.ensures.same c.free_room.ensures.placed refl in (
       rw c.push_reserved.ensures.items s.0,
       rw c.push_reserved.ensures.items (shut-same c.self.inside.log.items (Close c.args.caller c.args.pipe) refl ∙ c.self.invariant.1),
       omega (arith, s.1, c.self.invariant.2, c.self.invariant.3, c.push_reserved.ensures.len, c.push_reserved.ensures.capacity),
       omega (arith, s.1, c.self.invariant.3),
       rw c.push_reserved.ensures.items (used_same g.W.Work.weight c.self.inside.used c.self.inside.log.items (Close c.args.caller c.args.pipe) refl c.self.invariant.4),
-      ready_same c.self.inside.pipes.items c.self.inside.ready c.args.pipe c.index_mut-place.result.now c.close.new.self c.self.invariant.5 w c.index_mut-place.ensures.value (closed_serves c.index_mut-place.result.now c.close.new.self c.close.ensures),
+      ready_same HasJob c.self.inside.pipes.items c.self.inside.ready c.args.pipe c.index_mut-place.result.now (record c.index_mut-place.result.now { closed = true; stage = c.free_room.new.self }) c.self.invariant.5 w c.index_mut-place.ensures.value (serve_same c.free_room.new.self c.index_mut-place.result.now.stage c.free_room.ensures.same),
+      ready_same HasRequest c.self.inside.pipes.items c.self.inside.passing c.args.pipe c.index_mut-place.result.now (record c.index_mut-place.result.now { closed = true; stage = c.free_room.new.self }) c.self.invariant.6 w c.index_mut-place.ensures.value (pass_same c.free_room.new.self c.index_mut-place.result.now.stage c.free_room.ensures.same),
     )
 
 pub returns : goal.returns

@@ -1,55 +1,44 @@
-use Rattle.std.proofs.Common.{arith, ◌≡◌, [], ◌∷◌, ◌++◌, sym, ◌∙◌, refl, subst, false, Some}
+use Rattle.std.proofs.Common.{arith, ◌≡◌, ◌∷◌, [], Some, false, sym, ◌∙◌, subst, refl}
 use Rattle.board.specs.declared.entry.BoardEntry.{BoardEntry}
-use Rattle.board.specs.Entries.{entries_of, takers, finished, has, meaning_at, submissions, finish_entry}
+use Rattle.board.specs.Stages.{is_queue}
+use Rattle.board.specs.Entries.{entries_of, takers, finished, has, meaning_at, submissions}
+use Rattle.board.specs.Ready.{HasJob, HasRequest}
+use Rattle.board.proofs.InLine.{ready_same, ready_added, all_but}
 use Rattle.board.proofs.KeptUsed.{used_same}
-use Rattle.board.proofs.Kept.{within_board, shut-same, kept_here}
-use Rattle.board.proofs.KeptFinish.{taken_here}
-use Rattle.board.specs.Pipelines.{is_pad}
-use Rattle.board.proofs.KeptWork.{job_ended, ended_made, ended_quiet, finish_may, finish_step, finish_entry_is}
-use Rattle.board.proofs.InLine.{ready_added, all_but}
+use Rattle.board.proofs.Kept.{within_board, shut-same}
+use Rattle.board.proofs.KeptFinish.{job_ended, ended_made, ended_quiet, finish_may, finish_step, finish_passes, taken_here}
 use Rattle.board.proofs.board_core.BoardCore.finish.Goals as goal
-
-pub index_mut-place-requires : goal.index_mut-place-requires
-index_mut-place-requires g c =
-    let k = c.self.invariant.0 in
-    let t = subst (λ h. takers c.slip.inside.number (entries_of c.slip.inside.pipe h) ≡ c.args.caller ∷ []) (sym c.self.view_is) (subst (λ s. takers s.number (entries_of s.pipe c.args.self.now) ≡ c.args.caller ∷ []) (sym c.slip.view_is) c.requires.took) in
-    let w = within_board g.W.Work.asked g.W.Work.meaning _ _ c.slip.inside.pipe k (taken_here _ c.slip.inside.number c.args.caller t) in
-    let o = c.self.inside.pipes.ok.0 in
-    omega arith
 
 pub finish-requires : goal.finish-requires
 finish-requires g c =
     let k = c.self.invariant.0 in
+    let pipe = c.index_mut-place.result.now in
     let t = subst (λ h. takers c.slip.inside.number (entries_of c.slip.inside.pipe h) ≡ c.args.caller ∷ []) (sym c.self.view_is) (subst (λ s. takers s.number (entries_of s.pipe c.args.self.now) ≡ c.args.caller ∷ []) (sym c.slip.view_is) c.requires.took) in
     let f = subst (λ h. has c.slip.inside.number (finished (entries_of c.slip.inside.pipe h)) ≡ false) (sym c.self.view_is) (subst (λ s. has s.number (finished (entries_of s.pipe c.args.self.now)) ≡ false) (sym c.slip.view_is) c.requires.once) in
     let o = subst (λ h. meaning_at g.W.Work.meaning (submissions (entries_of c.slip.inside.pipe h)) c.slip.inside.number ≡ Some c.args.out) (sym c.self.view_is) (subst (λ s. meaning_at g.W.Work.meaning (submissions (entries_of s.pipe c.args.self.now)) s.number ≡ Some c.args.out) (sym c.slip.view_is) c.requires.right) in
-    let w = within_board g.W.Work.asked g.W.Work.meaning _ _ c.slip.inside.pipe k (taken_here _ c.slip.inside.number c.args.caller t) in
-    (finish_may g.W.Work.asked g.W.Work.meaning _ _ c.slip.inside.pipe c.slip.inside.number c.args.caller c.args.out _ k w c.index_mut-place.ensures.value t f o).may
+    let w = within_board g.W.Work.asked g.W.Work.meaning c.self.inside.pipes.items c.self.inside.log.items c.slip.inside.pipe k (taken_here _ c.slip.inside.number c.args.caller t) in
+    (finish_may g.W.Work.asked g.W.Work.meaning c.self.inside.pipes.items c.self.inside.log.items c.slip.inside.pipe c.slip.inside.number c.args.caller c.args.out pipe k w c.index_mut-place.ensures.value t f o).may
 
 pub push_reserved-requires : goal.push_reserved-requires
 push_reserved-requires g c =
     let k = c.self.invariant.0 in
+    let pipe = c.index_mut-place.result.now in
     let t = subst (λ h. takers c.slip.inside.number (entries_of c.slip.inside.pipe h) ≡ c.args.caller ∷ []) (sym c.self.view_is) (subst (λ s. takers s.number (entries_of s.pipe c.args.self.now) ≡ c.args.caller ∷ []) (sym c.slip.view_is) c.requires.took) in
     let f = subst (λ h. has c.slip.inside.number (finished (entries_of c.slip.inside.pipe h)) ≡ false) (sym c.self.view_is) (subst (λ s. has s.number (finished (entries_of s.pipe c.args.self.now)) ≡ false) (sym c.slip.view_is) c.requires.once) in
     let o = subst (λ h. meaning_at g.W.Work.meaning (submissions (entries_of c.slip.inside.pipe h)) c.slip.inside.number ≡ Some c.args.out) (sym c.self.view_is) (subst (λ s. meaning_at g.W.Work.meaning (submissions (entries_of s.pipe c.args.self.now)) s.number ≡ Some c.args.out) (sym c.slip.view_is) c.requires.right) in
-    let w = within_board g.W.Work.asked g.W.Work.meaning _ _ c.slip.inside.pipe k (taken_here _ c.slip.inside.number c.args.caller t) in
-    let s = finish_step g.W.Work.asked g.W.Work.meaning _ _ c.slip.inside.pipe c.slip.inside.number c.args.caller c.args.out _ _ k w c.index_mut-place.ensures.value t f o c.finish.ensures in
+    let w = within_board g.W.Work.asked g.W.Work.meaning c.self.inside.pipes.items c.self.inside.log.items c.slip.inside.pipe k (taken_here _ c.slip.inside.number c.args.caller t) in
+    let s = finish_step g.W.Work.asked g.W.Work.meaning c.self.inside.pipes.items c.self.inside.log.items c.slip.inside.pipe c.slip.inside.number c.args.caller c.args.out pipe c.finish.new.self k w c.index_mut-place.ensures.value t f o c.finish.ensures in
     omega (arith, s.1, c.self.invariant.2, c.self.invariant.3)
-
-pub add-requires : goal.add-requires
-add-requires g c =
-    let t = subst (λ h. takers c.slip.inside.number (entries_of c.slip.inside.pipe h) ≡ c.args.caller ∷ []) (sym c.self.view_is) (subst (λ s. takers s.number (entries_of s.pipe c.args.self.now) ≡ c.args.caller ∷ []) (sym c.slip.view_is) c.requires.took) in
-    let w = within_board g.W.Work.asked g.W.Work.meaning _ _ c.slip.inside.pipe c.self.invariant.0 (taken_here _ c.slip.inside.number c.args.caller t) in
-    omega (arith, w, c.self.invariant.5.0)
 
 pub overflow_sub-self : goal.overflow_sub-self
 overflow_sub-self g c =
     let k = c.self.invariant.0 in
+    let pipe = c.index_mut-place.result.now in
     let t = subst (λ h. takers c.slip.inside.number (entries_of c.slip.inside.pipe h) ≡ c.args.caller ∷ []) (sym c.self.view_is) (subst (λ s. takers s.number (entries_of s.pipe c.args.self.now) ≡ c.args.caller ∷ []) (sym c.slip.view_is) c.requires.took) in
     let f = subst (λ h. has c.slip.inside.number (finished (entries_of c.slip.inside.pipe h)) ≡ false) (sym c.self.view_is) (subst (λ s. has s.number (finished (entries_of s.pipe c.args.self.now)) ≡ false) (sym c.slip.view_is) c.requires.once) in
     let o = subst (λ h. meaning_at g.W.Work.meaning (submissions (entries_of c.slip.inside.pipe h)) c.slip.inside.number ≡ Some c.args.out) (sym c.self.view_is) (subst (λ s. meaning_at g.W.Work.meaning (submissions (entries_of s.pipe c.args.self.now)) s.number ≡ Some c.args.out) (sym c.slip.view_is) c.requires.right) in
-    let w = within_board g.W.Work.asked g.W.Work.meaning _ _ c.slip.inside.pipe k (taken_here _ c.slip.inside.number c.args.caller t) in
-    let s = finish_step g.W.Work.asked g.W.Work.meaning _ _ c.slip.inside.pipe c.slip.inside.number c.args.caller c.args.out _ _ k w c.index_mut-place.ensures.value t f o c.finish.ensures in
+    let w = within_board g.W.Work.asked g.W.Work.meaning c.self.inside.pipes.items c.self.inside.log.items c.slip.inside.pipe k (taken_here _ c.slip.inside.number c.args.caller t) in
+    let s = finish_step g.W.Work.asked g.W.Work.meaning c.self.inside.pipes.items c.self.inside.log.items c.slip.inside.pipe c.slip.inside.number c.args.caller c.args.out pipe c.finish.new.self k w c.index_mut-place.ensures.value t f o c.finish.ensures in
     omega (arith, s.1, c.self.invariant.3)
 
 pub invariant_of-self : goal.invariant_of-self
@@ -59,29 +48,19 @@ invariant_of-self g c =
     let t = subst (λ h. takers c.slip.inside.number (entries_of c.slip.inside.pipe h) ≡ c.args.caller ∷ []) (sym c.self.view_is) (subst (λ s. takers s.number (entries_of s.pipe c.args.self.now) ≡ c.args.caller ∷ []) (sym c.slip.view_is) c.requires.took) in
     let f = subst (λ h. has c.slip.inside.number (finished (entries_of c.slip.inside.pipe h)) ≡ false) (sym c.self.view_is) (subst (λ s. has s.number (finished (entries_of s.pipe c.args.self.now)) ≡ false) (sym c.slip.view_is) c.requires.once) in
     let o = subst (λ h. meaning_at g.W.Work.meaning (submissions (entries_of c.slip.inside.pipe h)) c.slip.inside.number ≡ Some c.args.out) (sym c.self.view_is) (subst (λ s. meaning_at g.W.Work.meaning (submissions (entries_of s.pipe c.args.self.now)) s.number ≡ Some c.args.out) (sym c.slip.view_is) c.requires.right) in
-    let w = within_board g.W.Work.asked g.W.Work.meaning _ _ c.slip.inside.pipe k (taken_here _ c.slip.inside.number c.args.caller t) in
-    let made = c.finish_entry-entry.ensures ∙ ended_made pipe c.finish.new.self c.args.caller c.slip.inside.pipe c.slip.inside.number c.args.out (is_pad c.finish.new.self) refl c.finish.ensures in
-    let e : BoardEntry g.row.W-Ask.Denot = job_ended pipe c.args.caller c.slip.inside.pipe c.slip.inside.number in
-    let q = ended_quiet g.row.W-Ask.Denot pipe c.args.caller c.slip.inside.pipe c.slip.inside.number in
-    let s = finish_step g.W.Work.asked g.W.Work.meaning _ _ c.slip.inside.pipe c.slip.inside.number c.args.caller c.args.out _ _ k w c.index_mut-place.ensures.value t f o c.finish.ensures in (
+    let w = within_board g.W.Work.asked g.W.Work.meaning c.self.inside.pipes.items c.self.inside.log.items c.slip.inside.pipe k (taken_here _ c.slip.inside.number c.args.caller t) in
+    let s = finish_step g.W.Work.asked g.W.Work.meaning c.self.inside.pipes.items c.self.inside.log.items c.slip.inside.pipe c.slip.inside.number c.args.caller c.args.out pipe c.finish.new.self k w c.index_mut-place.ensures.value t f o c.finish.ensures in
+    let made = c.finish_entry-entry.ensures ∙ ended_made pipe.stage c.finish.new.self c.args.caller c.slip.inside.pipe c.slip.inside.number c.args.out (is_queue c.finish.new.self) refl c.finish.ensures in
+    let e : BoardEntry g.row.W-Ask.Denot = job_ended pipe.stage c.args.caller c.slip.inside.pipe c.slip.inside.number in
+    let q = ended_quiet g.row.W-Ask.Denot pipe.stage c.args.caller c.slip.inside.pipe c.slip.inside.number in (
       rw (c.push_reserved.ensures.items, made) s.0,
       rw (c.push_reserved.ensures.items, made) (shut-same c.self.inside.log.items e q.0 ∙ c.self.invariant.1),
       omega (arith, s.1, c.self.invariant.2, c.self.invariant.3, c.push_reserved.ensures.len, c.push_reserved.ensures.capacity),
       omega (arith, s.1, c.self.invariant.3),
       rw (c.push_reserved.ensures.items, made) (used_same g.W.Work.weight c.self.inside.used c.self.inside.log.items e q.1 c.self.invariant.4),
-      ready_added c.self.inside.pipes.items c.self.inside.ready c.add.new.self c.slip.inside.pipe c.finish.new.self c.self.invariant.5.0 (all_but c.self.inside.pipes.items c.self.inside.ready.line c.slip.inside.pipe c.self.invariant.5.1) w c.add.ensures.pipes c.add.ensures.added c.add.ensures.kept,
+      ready_added HasJob c.self.inside.pipes.items c.self.inside.ready c.add.new.self c.slip.inside.pipe (record pipe { stage = c.finish.new.self }) c.self.invariant.5.0 (all_but HasJob c.self.inside.pipes.items c.self.inside.ready.line c.slip.inside.pipe c.self.invariant.5.1) w c.add.ensures.pipes c.add.ensures.added c.add.ensures.kept,
+      ready_same HasRequest c.self.inside.pipes.items c.self.inside.passing c.slip.inside.pipe pipe (record pipe { stage = c.finish.new.self }) c.self.invariant.6 w c.index_mut-place.ensures.value (finish_passes pipe.stage c.finish.new.self c.slip.inside.number c.args.out c.finish.ensures),
     )
 
-pub returns : goal.returns
-returns g c =
-    let k = c.self.invariant.0 in
-    let pipe = c.index_mut-place.result.now in
-    let t = subst (λ h. takers c.slip.inside.number (entries_of c.slip.inside.pipe h) ≡ c.args.caller ∷ []) (sym c.self.view_is) (subst (λ s. takers s.number (entries_of s.pipe c.args.self.now) ≡ c.args.caller ∷ []) (sym c.slip.view_is) c.requires.took) in
-    let w = within_board g.W.Work.asked g.W.Work.meaning _ _ c.slip.inside.pipe k (taken_here _ c.slip.inside.number c.args.caller t) in
-    let made = c.finish_entry-entry.ensures ∙ ended_made pipe c.finish.new.self c.args.caller c.slip.inside.pipe c.slip.inside.number c.args.out (is_pad c.finish.new.self) refl c.finish.ensures in
-    let kp = kept_here g.W.Work.asked g.W.Work.meaning c.self.inside.pipes.items c.self.inside.log.items c.slip.inside.pipe pipe k w c.index_mut-place.ensures.value in
-    let named = finish_entry_is g.W.Work.asked g.W.Work.meaning c.self.inside.log.items pipe c.args.caller c.slip.inside.pipe c.slip.inside.number kp in
-    record {
-      finished = subst (λ s. c.push_reserved.new.self.items ≡ c.args.self.now ++ finish_entry c.args.self.now c.args.caller s.pipe s.number ∷ []) c.slip.view_is (rw (← c.self.view_is, ← named, ← made) c.push_reserved.ensures.items);
-      legal = (invariant_of-self g c).0.legal;
-    }
+pub returns-clause-legal : goal.returns-clause-legal
+returns-clause-legal g c = (invariant_of-self g c).0.legal

@@ -3,7 +3,7 @@ use Rattle.board.specs.declared.entry.BoardEntry.TheVariants.{Shut}
 use Rattle.board.specs.Legal.{is_shut}
 use Rattle.board.specs.Kept.{owed_by}
 use Rattle.board.proofs.KeptUsed.{used_same}
-use Rattle.board.proofs.KeptClose.{shut_step}
+use Rattle.board.proofs.KeptCalls.{shut_step}
 use Rattle.board.proofs.board_core.BoardCore.shut.Goals as goal
 
 pub push_reserved-requires : goal.push_reserved-requires
@@ -32,6 +32,7 @@ invariant_of-self g c =
       omega (arith, n),
       rw c.push_reserved.ensures.items (used_same g.W.Work.weight c.self.inside.used c.self.inside.log.items (Shut c.args.caller) refl c.self.invariant.4),
       c.self.invariant.5,
+      c.self.invariant.6,
     )
 
 pub returns-clause-legal : goal.returns-clause-legal

@@ -2,8 +2,7 @@ use Rattle.std.proofs.Common.{arith, ◌≡◌, ◌<◌, length, sym, subst}
 use Rattle.board.specs.Entries.{entries_of, submissions, front}
 use Rattle.board.specs.Legal.{IsOpen}
 use Rattle.board.proofs.Kept.{within_board}
-use Rattle.board.proofs.KeptSubmit.{any_open_here}
-use Rattle.board.proofs.KeptHanding.{done_step, undone_step}
+use Rattle.board.proofs.KeptCalls.{any_open_here, done_step, undone_step}
 use Rattle.board.proofs.board_core.BoardCore.try_drain.Goals as goal
 
 pub index-place-requires : goal.index-place-requires

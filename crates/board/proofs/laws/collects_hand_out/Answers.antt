@@ -1,5 +1,0 @@
-use Rattle.board.proofs.Handing.{collect_hands_out}
-use Rattle.board.proofs.laws.collects_hand_out.Goals as goal
-
-pub returns : goal.returns
-returns g c = collect_hands_out

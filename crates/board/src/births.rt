@@ -1,0 +1,121 @@
+//! How pipelines are made.
+
+ghost use Rattle.std.specs.Prelude.{◌≡◌, ◌+◌, ◌≤◌, [], ◌∷◌, ◌++◌, IfErr, MatchResult};
+ghost use Rattle.board.specs.declared.entry.Shape.TheVariants as Shaped;
+ghost use Rattle.board.specs.declared.entry.BoardEntry.TheVariants as Entry;
+ghost use Rattle.board.specs.declared.board_core.BoardErr.TheVariants as BoardErr;
+ghost use Rattle.board.specs.Legal.{IsNoWorker, pipelines, LegalBoard};
+ghost use Rattle.board.specs.Births.{IsNew};
+
+use crate::board_core::{BoardCore, BoardErr};
+use crate::entry::{BoardEntry, Shape};
+use crate::log::reserve_entries;
+use crate::mask::full_mask;
+use crate::pipeline::Pipeline;
+use crate::ready::Ready;
+use crate::stage::{Chained, Stage};
+use crate::work::Work;
+use cryptd::Cryptd;
+use padata_core::Padata;
+use std::alloc::AllocError;
+
+impl<W: Work> BoardCore<W> {
+    /// Makes a pad of `lists` reorder lists, 1 to 16, from which the workers 1 to `lists` may take, and answers its number.
+    /// The caller is no worker. Only want of memory refuses, and leaves the board as it was.
+    pub fn born_pad(&mut self, caller: u32, lists: u32) -> Result<u64, BoardErr>
+        requires caller { IsNoWorker caller }
+        requires some { 1 ≤ lists }
+        requires lists { lists ≤ 16 }
+        ensures made { MatchResult result (λ pipe. (pipe ≡ pipelines self.old) × (self.new ≡ self.old ++ Entry.Born caller pipe (Shaped.Pad lists) ∷ [])) (λ _. self.new ≡ self.old) }
+        ensures refused { IfErr result (λ e. e ≡ BoardErr.Memory) }
+        ensures legal { LegalBoard self.new }
+    {
+        let pad = Padata::new(self.alloc, lists)?;
+        self.born(caller, Shape::Pad(lists), full_mask(lists), Stage::Pad(pad))
+    }
+
+    /// Makes a queue of which so many requests wait before its backlog begins, at least 1, and answers its number. The caller
+    /// is no worker. Only want of memory refuses, and leaves the board as it was.
+    pub fn born_queue(&mut self, caller: u32, max: u32) -> Result<u64, BoardErr>
+        requires caller { IsNoWorker caller }
+        requires max { 1 ≤ max }
+        ensures made { MatchResult result (λ pipe. (pipe ≡ pipelines self.old) × (self.new ≡ self.old ++ Entry.Born caller pipe (Shaped.Queue max) ∷ [])) (λ _. self.new ≡ self.old) }
+        ensures refused { IfErr result (λ e. e ≡ BoardErr.Memory) }
+        ensures legal { LegalBoard self.new }
+    {
+        let queue = Cryptd::new(self.alloc, max)?;
+        self.born(caller, Shape::Queue(max), full_mask(0), Stage::Queue(queue))
+    }
+
+    /// Makes a chain, and answers its number: a queue of which so many requests wait before its backlog begins, at least 1,
+    /// and a pad of `lists` reorder lists, 1 to 16, to which they go on, and from which the workers 1 to `lists` may take.
+    /// The caller is no worker. Only want of memory refuses, and leaves the board as it was.
+    pub fn born_chain(&mut self, caller: u32, max: u32, lists: u32) -> Result<u64, BoardErr>
+        requires caller { IsNoWorker caller }
+        requires max { 1 ≤ max }
+        requires some { 1 ≤ lists }
+        requires lists { lists ≤ 16 }
+        ensures made { MatchResult result (λ pipe. (pipe ≡ pipelines self.old) × (self.new ≡ self.old ++ Entry.Born caller pipe (Shaped.Chain max lists) ∷ [])) (λ _. self.new ≡ self.old) }
+        ensures refused { IfErr result (λ e. e ≡ BoardErr.Memory) }
+        ensures legal { LegalBoard self.new }
+    {
+        let line = Cryptd::new(self.alloc, max)?;
+        let pad = Padata::new(self.alloc, lists)?;
+        let chain = Chained { line, pad };
+        self.born(
+            caller,
+            Shape::Chain(max, lists),
+            full_mask(lists),
+            Stage::Chain(chain),
+        )
+    }
+
+    /// Sets an empty pipeline of this shape on the board.
+    fn born(
+        &mut self,
+        caller: u32,
+        shape: Shape,
+        mask: u16,
+        stage: Stage<W, W::Out>,
+    ) -> Result<u64, BoardErr>
+        requires caller { IsNoWorker caller }
+        requires stage { IsNew stage shape mask }
+        ensures made { MatchResult result (λ pipe. (pipe ≡ pipelines self.old) × (self.new ≡ self.old ++ Entry.Born caller pipe shape ∷ [])) (λ _. self.new ≡ self.old) }
+        ensures refused { IfErr result (λ e. e ≡ BoardErr.Memory) }
+        ensures legal { LegalBoard self.new }
+    {
+        reserve_entries(&mut self.log, self.owed, 2)?;
+        self.pipes.reserve(1)?;
+        grow_both(&mut self.ready, &mut self.passing)?;
+        let pipe = self.pipes.len() as u64;
+        self.pipes.push_reserved(Pipeline {
+            maker: caller,
+            closed: false,
+            shared: false,
+            mask,
+            submitters: Vec::new(self.alloc),
+            collected: 0,
+            stage,
+        });
+        self.log.push_reserved(BoardEntry::Born {
+            caller,
+            pipe,
+            shape,
+        });
+        self.owed += 1;
+        Ok(pipe)
+    }
+}
+
+/// Makes room for one pipeline more in both lines. Want of memory changes nothing.
+fn grow_both(ready: &mut Ready, passing: &mut Ready) -> Result<(), AllocError>
+    ensures ready { MatchResult result (λ _. ready.new ≡ record ready.old { pipes = ready.old.pipes + 1 }) (λ _. ready.new ≡ ready.old) }
+    ensures passing { MatchResult result (λ _. passing.new ≡ record passing.old { pipes = passing.old.pipes + 1 }) (λ _. passing.new ≡ passing.old) }
+{
+    ready.grow()?;
+    let grown = passing.grow();
+    if grown.is_err() {
+        ready.shrink();
+    }
+    grown
+}

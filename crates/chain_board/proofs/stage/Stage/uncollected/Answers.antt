@@ -1,6 +1,0 @@
-use Rattle.padata_core.specs.Pad.{ready}
-use Rattle.chain_board.proofs.Callbacks.{length-done}
-use Rattle.chain_board.proofs.stage.Stage.uncollected.Goals as goal
-
-pub returns-in-Pad : goal.returns-in-Pad
-returns-in-Pad g c = rw (c.in-Pad.is, length-done c.in-Pad.pad.collected (ready c.in-Pad.pad.outcomes)) c.finished.ensures
