@@ -62,10 +62,11 @@ impl Bells {
         }
     }
 
-    /// A job came, where that is so.
-    pub(crate) fn ring_job_if(&self, came: bool) {
-        if came {
+    /// A request was passed on, where that is so: its job came, for workers and for those who drain.
+    pub(crate) fn ring_passed(&self, passed: bool) {
+        if passed {
             self.ring_job();
+            self.ring_end();
         }
     }
 

@@ -321,7 +321,7 @@ impl<W: Work> SharedBoard<W> {
         let mut turn = self.turn(rt, pass);
         let passed = turn.get().pass_on(caller);
         let pass = turn.give(passed);
-        self.bells.ring_job_if(passed);
+        self.bells.ring_passed(passed);
         (pass, passed)
     }
 
@@ -475,7 +475,7 @@ impl<W: Work> SharedBoard<W> {
         self.bells.watch_jobs()
     }
 
-    /// Announces a wait for a job to be finished, or for the end of the board.
+    /// Announces a wait for a job to be finished, a request to be passed on, or the end of the board.
     pub fn watch_ends(&self) -> Watch<'_> {
         self.bells.watch_ends()
     }
