@@ -61,7 +61,7 @@ module _ {A O : Type 0} (meaning : A → O) where
     holds_here = record {
       known = known_here;
       open_ = open_here;
-      drained = λ p may o alone d. back (λ xs. IsDrained (entries_of p xs)) (law.drained k.seen m.others p k.number (law.alone k.seen m.others k.number come) may o alone d);
+      drained = λ p may o alone d. back (λ xs. IsDrained (entries_of p xs)) (law.drained k.seen m.others p k.number (law.alone k.seen m.others k.number come) may alone d);
       submits = λ p may. back (λ xs. MaySubmit (entries_of p xs) k.number) (law.submitting k.seen m.others p k.number come may).0;
       pad = λ p may o. back (λ xs. IsOpenPad (entries_of p xs)) ((law.submitting k.seen m.others p k.number come may).1 is_pad o);
       queue = λ p may o. back (λ xs. IsOpenQueue (entries_of p xs)) ((law.submitting k.seen m.others p k.number come may).1 has_line o);
