@@ -1,5 +1,5 @@
 use Rattle.std.proofs.Common.{◌≡◌, ◌^◌, ◌<◌, subst, sym, ◌∙◌}
-use Rattle.turn_lock.specs.Passes.{knows}
+use Rattle.turn_lock.specs.Passes.{knows, turn_value}
 use Rattle.board.specs.declared.entry.BoardEntry.TheVariants as entry
 use Rattle.board.specs.declared.board_core.BoardErr.TheVariants as error
 use Rattle.turn_lock.specs.Going.{done_turn}
@@ -28,7 +28,7 @@ mask-answer-requires-clause-alone g c κs within =
 pub mask-answer-requires-clause-bits : goal.mask-answer-requires-clause-bits
 mask-answer-requires-clause-bits g c κs within =
     let s = c.turn-turn.ensures.holds.known c.args.pipe c.requires.caller in
-    let w = same_width (entries_of c.args.pipe (knows c.args.pass).seen) _ s.opened c.requires.pipe in
+    let w = same_width (entries_of c.args.pipe (knows c.args.pass).seen) (entries_of c.args.pipe (turn_value c.turn-turn.result)) s.opened c.requires.pipe in
     rw c.get.ensures.value (subst (λ n. c.args.mask < 2 ^ n) (sym w) c.requires.bits)
 
 pub returns-clause-turn : goal.returns-clause-turn
