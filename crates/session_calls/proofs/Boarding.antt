@@ -289,7 +289,7 @@ asks-same laws h e p none = by_of (is_of p e) refl
     by_of true q = ap submissions (laws.steps.joins h e p q) ∙ laws.steps.accepted (entries_of p h) e none
     by_of false q = ap submissions (laws.steps.leaves h e p q)
 
--- what such an entry leaves: it makes nothing, closes nothing, shares nothing and masks nothing
+-- an entry that makes nothing, closes nothing, shares nothing and masks nothing
 pub record IsPlain (e : BoardEntry Ask) : Type 0 where
   pub born : birth_in e ≡ None
   pub closes : is_close e ≡ false
