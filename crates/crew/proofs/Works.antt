@@ -1,16 +1,18 @@
 -- What work leaves of a pass.
 use Rattle.std.proofs.Common.{◌≡◌, ℕ, Bool, true, false, ◌&&◌, List, [], ◌∷◌, ◌++◌, refl, sym, ◌∙◌, ap, subst, ◌⊎◌, inl, inr}
+use Rattle.std.specs.Prelude.{MatchBool}
 use Rattle.std.specs.List.{list_all}
 use Rattle.std.proofs.lemmas.List.Folds.{list_all-append}
 use Rattle.turn_lock.specs.Turns.{Known}
 use Rattle.turn_lock.specs.Meeting.{AtTurn, Enters, Leaves}
 use Rattle.turn_lock.specs.Going.{stays, goes_left, goes_entered, goes_then}
 use Rattle.board.specs.declared.entry.BoardEntry.{BoardEntry}
-use Rattle.board.specs.Entries.{entries_of, caller_of, take_entry, finish_entry}
-use Rattle.board.specs.Legal.{MayManage, IsOpen, LegalBoard}
-use Rattle.board.specs.Staying.{is_work, TakingIsWork, FinishingIsWork}
+use Rattle.board.specs.Shapes.{is_pad, is_chain, has_line}
+use Rattle.board.specs.Entries.{entries_of, caller_of, take_entry, finish_entry, pass_entry, NonePasses}
+use Rattle.board.specs.Legal.{Is, MayManage, IsOpen, LegalBoard}
+use Rattle.board.specs.Staying.{is_work, TakingIsWork, FinishingIsWork, PassingIsWork}
 use Rattle.board.specs.Others.{StaysKnown, WorkLeavesKnown}
-use Rattle.crew.specs.Working.{WorksOnce, Worked}
+use Rattle.crew.specs.Working.{RunsOne, FindsNoJob, WorksOnce, FindsNone, Worked}
 
 both_true : (a b : Bool) → a ≡ true → b ≡ true → (a && b) ≡ true
 both_true true b h g = g
@@ -40,15 +42,32 @@ module _ {A : Type 0} where
     work = list_all-append is_work a.own b.own ∙ both_true (list_all is_work a.own) (list_all is_work b.own) a.work b.work;
   }
 
-  pub once_worked : ((h : List (BoardEntry A)) (caller p n : ℕ) → TakingIsWork h caller p n) → ((h : List (BoardEntry A)) (caller p n : ℕ) → FinishingIsWork h caller p n) → (k l : Known (BoardEntry A)) → WorksOnce k l → Worked k l
-  once_worked taking finishing k l w =
+  pub run_worked : ((h : List (BoardEntry A)) (caller p n : ℕ) → TakingIsWork h caller p n) → ((h : List (BoardEntry A)) (caller p n : ℕ) → FinishingIsWork h caller p n) → (k l : Known (BoardEntry A)) → RunsOne k l → Worked k l
+  run_worked taking finishing k l w =
       worked_on k w.0 l
       (worked_entry k w.0 (λ h. take_entry h k.number w.1 w.2) (λ h. let t = taking h k.number w.1 w.2 in (t.0, t.1)) w.3)
       (worked_entry w.0 l (λ h. finish_entry h w.0.number w.1 w.2) (λ h. let t = finishing h w.0.number w.1 w.2 in (t.0, t.1)) w.4)
 
+  -- the turn after one that found no job
+  abbrev Passes : (m l : Known (BoardEntry A)) → Bool → Type 0
+  Passes m l passed =
+      AtTurn caller_of Legal m (λ h. MatchBool passed ((p : ℕ) × Is is_chain (entries_of p h) × Enters Legal m h (pass_entry h m.number p) l) (NonePasses h × Leaves m h l))
+
+  passes_worked : ((h : List (BoardEntry A)) (caller p : ℕ) → PassingIsWork h caller p) → (m l : Known (BoardEntry A)) (passed : Bool) → Passes m l passed → Worked m l
+  passes_worked passing m l true t =
+      worked_entry m l (λ h. pass_entry h m.number t.2.0) (λ h. let w = passing h m.number t.2.0 in (w.0, w.1)) (t.0, t.1, t.2.2)
+  passes_worked passing m l false t = worked_none m l (t.0, t.1, t.2.1)
+
+  pub passed_worked : ((h : List (BoardEntry A)) (caller p : ℕ) → PassingIsWork h caller p) → (k m l : Known (BoardEntry A)) (passed : Bool) → FindsNoJob k m → Passes m l passed → Worked k l
+  passed_worked passing k m l passed t u = worked_on k m l (worked_none k m (t.0, t.1, t.2.1)) (passes_worked passing m l passed u)
+
+  pub passed_once : (k m l : Known (BoardEntry A)) (passed : Bool) → FindsNoJob k m → Passes m l passed → MatchBool passed (WorksOnce k l) (FindsNone k l)
+  passed_once k m l true t u = inr (m, t, u)
+  passed_once k m l false t u = (m, t, u)
+
 module _ {A : Type 0} (leaves : (h es : List (BoardEntry A)) (p caller : ℕ) → WorkLeavesKnown h es p caller) where
   known_start : (h : List (BoardEntry A)) (p caller : ℕ) → MayManage (entries_of p h) caller → StaysKnown h h p caller
-  known_start h p caller m = record { managed = m; pad = λ o. o; queue = λ o. o; held = refl; shared = refl; collected = refl; handed = refl; accepted = λ a. refl }
+  known_start h p caller m = record { managed = m; opened = λ such o. o; held = refl; shared = refl; masked = refl; collected = refl; handed = refl; accepted = λ a. refl }
 
   known_cases : (k l : Known (BoardEntry A)) (p : ℕ) (w : Worked k l) → (l.seen ≡ k.seen) ⊎ LegalBoard l.seen → MayManage (entries_of p k.seen) k.number → StaysKnown k.seen l.seen p k.number
   known_cases k l p w (inl same) may = subst (λ xs. StaysKnown k.seen xs p k.number) (sym same) (known_start k.seen p k.number may)
@@ -64,5 +83,5 @@ module _ {A : Type 0} (leaves : (h es : List (BoardEntry A)) (p caller : ℕ) �
   managed_worked k l p w may = subst (λ n. MayManage (entries_of p l.seen) n) (sym w.goes.number) (known_worked k l p w may).managed
 
   pub open_worked : (k l : Known (BoardEntry A)) (p : ℕ) → Worked k l → MayManage (entries_of p k.seen) k.number → IsOpen (entries_of p k.seen) → IsOpen (entries_of p l.seen)
-  open_worked k l p w may (inl o) = inl ((known_worked k l p w may).pad o)
-  open_worked k l p w may (inr o) = inr ((known_worked k l p w may).queue o)
+  open_worked k l p w may (inl o) = inl ((known_worked k l p w may).opened is_pad o)
+  open_worked k l p w may (inr o) = inr ((known_worked k l p w may).opened has_line o)

@@ -17,7 +17,7 @@ abbrev pub ArePassesOn : {W A O : Type 0} → SharedBoard W A O → SharedRegist
 ArePassesOn board registry p = IsPassOn board p.board × IsRegPassOn registry p.registry
 
 module _ {A : Type 0} where
-  -- on the board jobs were done, on the registry larvals were built, and nothing else
+  -- on the board jobs were done and requests passed on, on the registry larvals were built, and nothing else
   pub record WorkedOnBoth (p q : Passes A) : Type 0 where
     pub board : Worked (knows p.board) (knows q.board)
     pub registry : Works (knows p.registry) (knows q.registry)
@@ -54,7 +54,7 @@ module _ {A : Type 0} where
     pub registry_seen : StartsWith (knows l.registry).seen (knows a.registry).seen × StartsWith (knows l.registry).seen (knows b.registry).seen
 
   -- The passes l are k, with so many workers joined into them, whose numbers begin at the next of p. On the board there are
-  -- takes and finishes of jobs alone under their numbers, on the registry builds alone.
+  -- takes and finishes of jobs and passings on alone under their numbers, on the registry builds alone.
   pub record CrewedOnBoth (workers : ℕ) (p k l : Passes A) : Type 0 where
     pub board : Crewed is_work (knows p.board).next workers (knows k.board) (knows l.board)
     pub registry : Crewed is_building (knows p.registry).next workers (knows k.registry) (knows l.registry)

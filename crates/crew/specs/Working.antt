@@ -1,21 +1,41 @@
 -- What work behind the lock leaves of a pass.
-use Rattle.std.specs.Prelude.{◌≡◌, ℕ, true, List, ◌++◌, length}
+use Rattle.std.specs.Prelude.{◌≡◌, ◌⊎◌, ℕ, true, List, ◌++◌, length}
 use Rattle.std.specs.List.{list_all}
 use Rattle.kc_base.specs.declared.callback_list.Callback.{Callback}
 use Rattle.turn_lock.specs.Turns.{Known}
-use Rattle.turn_lock.specs.Meeting.{AtTurn, Enters, GoesOn}
+use Rattle.turn_lock.specs.Meeting.{AtTurn, Enters, Leaves, GoesOn}
 use Rattle.board.specs.declared.entry.BoardEntry.{BoardEntry}
 use Rattle.board.specs.declared.entry.BoardEntry.TheVariants.{Collect}
-use Rattle.board.specs.Entries.{entries_of, submissions, front, told, delivered, caller_of, take_entry, finish_entry}
-use Rattle.board.specs.Legal.{LegalBoard}
+use Rattle.board.specs.Shapes.{is_chain}
+use Rattle.board.specs.Entries.{entries_of, submissions, front, told, delivered, caller_of, take_entry, finish_entry, pass_entry, NoneFor, NonePasses}
+use Rattle.board.specs.Legal.{Is, LegalBoard}
 use Rattle.board.specs.Staying.{is_work}
 
 -- the pass takes a job at one turn, and finishes it at another
-abbrev pub WorksOnce : {A : Type 0} → Known (BoardEntry A) → Known (BoardEntry A) → Type 0
-WorksOnce {A} k l =
+abbrev pub RunsOne : {A : Type 0} → Known (BoardEntry A) → Known (BoardEntry A) → Type 0
+RunsOne {A} k l =
     (m : Known (BoardEntry A)) × (pipe number : ℕ)
     × AtTurn caller_of (λ xs. LegalBoard xs) k (λ h. Enters (λ xs. LegalBoard xs) k h (take_entry h k.number pipe number) m)
     × AtTurn caller_of (λ xs. LegalBoard xs) m (λ h. Enters (λ xs. LegalBoard xs) m h (finish_entry h m.number pipe number) l)
+
+-- at its turn there was no job for the pass
+abbrev pub FindsNoJob : {A : Type 0} → Known (BoardEntry A) → Known (BoardEntry A) → Type 0
+FindsNoJob k l = AtTurn caller_of (λ xs. LegalBoard xs) k (λ h. NoneFor h k.number × Leaves k h l)
+
+-- then it passes a request of a chain on
+abbrev pub PassesOne : {A : Type 0} → Known (BoardEntry A) → Known (BoardEntry A) → Type 0
+PassesOne {A} k l =
+    (m : Known (BoardEntry A)) × FindsNoJob k m
+    × AtTurn caller_of (λ xs. LegalBoard xs) m (λ h. (pipe : ℕ) × Is is_chain (entries_of pipe h) × Enters (λ xs. LegalBoard xs) m h (pass_entry h m.number pipe) l)
+
+abbrev pub WorksOnce : {A : Type 0} → Known (BoardEntry A) → Known (BoardEntry A) → Type 0
+WorksOnce k l = RunsOne k l ⊎ PassesOne k l
+
+-- or there was no such request either
+abbrev pub FindsNone : {A : Type 0} → Known (BoardEntry A) → Known (BoardEntry A) → Type 0
+FindsNone {A} k l =
+    (m : Known (BoardEntry A)) × FindsNoJob k m
+    × AtTurn caller_of (λ xs. LegalBoard xs) m (λ h. NonePasses h × Leaves m h l)
 
 -- the pass went on from k to l, and its own entries between are work
 pub record Worked {A : Type 0} (k l : Known (BoardEntry A)) : Type 0 where

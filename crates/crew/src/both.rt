@@ -36,7 +36,8 @@ fn build_if_any<R: Wait>(
     (pass, built.unwrap_or(true))
 }
 
-/// Does one job where one waits, and otherwise builds one larval where one does. False where neither was found.
+/// Does one job where one waits for this caller, otherwise passes a request on where a chain has one, and otherwise builds one
+/// larval where one waits. False where none was found.
 pub fn work_or_build<W: Work, G: Gate, R: Wait>(
     rt: &R,
     alloc: Global,
@@ -120,8 +121,8 @@ fn look_at_end<W: Work, R: Wait>(
     (passes, shut)
 }
 
-/// Works until the board is shut: does a job where one waits, and otherwise builds a larval where one does. A worker that
-/// finds neither sleeps until a job comes or it is called.
+/// Works until the board is shut: does a job where one waits, otherwise passes a request on, and otherwise builds a larval. A
+/// worker that finds nothing sleeps until a job comes or it is called.
 pub fn work_on<W: Work, G: Gate, R: Wait>(
     rt: &R,
     alloc: Global,

@@ -3,13 +3,10 @@
 ghost use Rattle.std.specs.Prelude.{◌≡◌, ◌++◌, true, length, MatchBool, MatchResult};
 ghost use Rattle.turn_lock.specs.Passes.{knows};
 ghost use Rattle.board.specs.declared.board_core.BoardErr.TheVariants as BoardErr;
-ghost use Rattle.board.specs.Entries.{entries_of, NoneWaits};
+ghost use Rattle.board.specs.Entries.{entries_of};
 ghost use Rattle.board.specs.Legal.{MayManage, IsOpen, is_shut};
-ghost use Rattle.board.specs.Entries.{caller_of};
-ghost use Rattle.board.specs.Legal.{LegalBoard};
-ghost use Rattle.turn_lock.specs.Meeting.{AtTurn, Leaves};
 ghost use Rattle.shared_board.specs.Passes.{IsPassOn};
-ghost use Rattle.crew.specs.Working.{WorksOnce, Worked, Drained};
+ghost use Rattle.crew.specs.Working.{WorksOnce, FindsNone, Worked, Drained};
 
 use crate::gate::Gate;
 use board::{BoardErr, Taken, Work, others_leave, pipelines_stay};
@@ -17,7 +14,8 @@ use kc_base::Callbacks;
 use shared_board::{BoardPass, SharedBoard};
 use std::sync::Wait;
 
-/// Takes one job, runs it and finishes it. False exactly where there was none at that turn. No memory is taken.
+/// Takes one job, runs it and finishes it; where there is none for this caller, it passes a request of a chain on. False exactly
+/// where at the first turn there was no such job, and at the second no such request. No memory is taken.
 pub fn work_one<W: Work, G: Gate, R: Wait>(
     rt: &R,
     board: &SharedBoard<W>,
@@ -26,7 +24,7 @@ pub fn work_one<W: Work, G: Gate, R: Wait>(
 ) -> (BoardPass<W>, bool)
     requires { IsPassOn board.now pass }
     ensures lock { IsPassOn board.now result.0 }
-    ensures once { MatchBool result.1 (WorksOnce (knows pass) (knows result.0)) (AtTurn caller_of LegalBoard (knows pass) (λ h. NoneWaits h × Leaves (knows pass) h (knows result.0))) }
+    ensures once { MatchBool result.1 (WorksOnce (knows pass) (knows result.0)) (FindsNone (knows pass) (knows result.0)) }
     ensures worked { Worked (knows pass) (knows result.0) }
 {
     pipelines_stay::<W::Ask>();
@@ -37,11 +35,11 @@ pub fn work_one<W: Work, G: Gate, R: Wait>(
             let out = job.run();
             (board.finish(rt, pass, slip, out), true)
         }
-        None => (pass, false),
+        None => board.pass_on(rt, pass),
     }
 }
 
-/// Does one job after another, until there is none to be had or the board may be shut. No memory is taken.
+/// Does one job after another, and passes requests on, until there is none to be had or the board may be shut. No memory is taken.
 fn work_while<W: Work, G: Gate, R: Wait>(
     rt: &R,
     board: &SharedBoard<W>,
@@ -64,8 +62,8 @@ fn work_while<W: Work, G: Gate, R: Wait>(
 }
 
 /// Works until each request of the pipeline is finished, and hands out what no call handed out before. A caller that finds
-/// nothing to do sleeps until another has finished a job. The caller made the pipeline, which isn't closed. Only want of
-/// memory refuses, and hands out nothing.
+/// nothing to do sleeps until another has finished a job or passed a request on. The caller made the pipeline, which isn't
+/// closed. Only want of memory refuses, and hands out nothing.
 pub fn drain<W: Work, G: Gate, R: Wait>(
     rt: &R,
     board: &SharedBoard<W>,

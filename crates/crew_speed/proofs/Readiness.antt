@@ -11,6 +11,7 @@ use Rattle.turn_lock.specs.Meeting.{Meets, AtTurn, Enters, Leaves}
 use Rattle.board.specs.declared.entry.Shape.TheVariants.{Pad}
 use Rattle.board.specs.declared.entry.BoardEntry.{BoardEntry}
 use Rattle.board.specs.declared.entry.BoardEntry.TheVariants.{Born, Share}
+use Rattle.board.specs.Shapes.{is_pad}
 use Rattle.board.specs.Entries.{entries_of, is_close, is_share, is_shared, caller_of}
 use Rattle.board.specs.Legal.{MaySubmit, IsOpenPad, LegalBoard, is_shut, is_shut_entry}
 use Rattle.board.specs.Staying.{IsOpenFor, is_work}
@@ -42,15 +43,15 @@ module _ {A : Type 0} where
       neither false = refl
 
 module _ {A O : Type 0} (meaning : A → O) (laws : BoardLaws meaning) where
-  ready_here : (p : ℕ) (k : Known (BoardEntry A)) (h : List (BoardEntry A)) → Ready p k → Meets caller_of Legal k h → IsOpenFor h p k.number
-  ready_here p k h r m = let s = (laws.holds k h m).known p r.1 in (s.pad r.0, s.managed)
+  ready_here : (p : ℕ) (k : Known (BoardEntry A)) (h : List (BoardEntry A)) → Ready p k → Meets caller_of Legal k h → IsOpenFor is_pad h p k.number
+  ready_here p k h r m = let s = (laws.holds k h m).known p r.1 in (s.opened is_pad r.0, s.managed)
 
   ready_leaves : (p : ℕ) (k l : Known (BoardEntry A)) (h : List (BoardEntry A)) → Ready p k → Meets caller_of Legal k h → Leaves k h l → Ready p l
   ready_leaves p k l h r m t = subst (λ (x : Known (BoardEntry A)). Ready p x) (sym t) (ready_here p k h r m)
 
   ready_enters : (p : ℕ) (k l : Known (BoardEntry A)) (e : BoardEntry A) (h : List (BoardEntry A)) → Ready p k → Meets caller_of Legal k h → Enters Legal k h e l → is_close e ≡ false → Ready p l
   ready_enters p k l e h r m t c = let s = ready_here p k h r m in
-      subst (λ (x : Known (BoardEntry A)). Ready p x) (sym t.0) (laws.stays_open h e p s.0 c, laws.managed h e p k.number s.1)
+      subst (λ (x : Known (BoardEntry A)). Ready p x) (sym t.0) (laws.stays_open is_pad h e p s.0 c, laws.managed h e p k.number s.1)
 
   first_leaves : (k l : Known (BoardEntry A)) (h : List (BoardEntry A)) → Meets caller_of Legal k h → Leaves k h l → StaysFirst k l
   first_leaves k l h m t r = (ap (λ n. n.number) t ∙ r.0, subst (λ hs. is_shut hs ≡ false) (sym (ap (λ n. n.seen) t)) ((laws.holds k h m).unshut r.0 r.1))
@@ -58,18 +59,18 @@ module _ {A O : Type 0} (meaning : A → O) (laws : BoardLaws meaning) where
   first_enters : (k l : Known (BoardEntry A)) (e : BoardEntry A) (h : List (BoardEntry A)) → Meets caller_of Legal k h → Enters Legal k h e l → is_shut_entry e ≡ false → StaysFirst k l
   first_enters k l e h m t n r = (ap (λ x. x.number) t.0 ∙ r.0, subst (λ hs. is_shut hs ≡ false) (sym (ap (λ (x : Known (BoardEntry A)). x.seen) t.0)) (shut-same h e n ∙ (laws.holds k h m).unshut r.0 r.1))
 
-  module _ {X F I : Type 0} (k l : Known (BoardEntry A)) (r : Result X F) (P : List (BoardEntry A) → X → Type 0) (V : I → Type 0) (f : X → I → BoardEntry A) (Q : List (BoardEntry A) → F → Type 0) (R : List (BoardEntry A) → Type 0)
+  module _ {X F I : Type 0} (k l : Known (BoardEntry A)) (r : Result X F) (P : List (BoardEntry A) → X → Type 0) (V : I → Type 0) (f : X → I → BoardEntry A) (Q S : List (BoardEntry A) → F → Type 0) (R : List (BoardEntry A) → Type 0)
       (quiet : (x : X) (i : I) → (is_close (f x i) ≡ false) × (is_shut_entry (f x i) ≡ false)) where
     abbrev Submits : Result X F → Type 0
-    Submits a = AtTurn caller_of Legal k (λ h. MatchResult a (λ x. P h x × R h × ((i : I) × V i × Enters Legal k h (f x i) l)) (λ e. Q h e × Leaves k h l))
+    Submits a = AtTurn caller_of Legal k (λ h. MatchResult a (λ x. P h x × R h × ((i : I) × V i × Enters Legal k h (f x i) l)) (λ e. Q h e × S h e × Leaves k h l))
 
     submit_ready : (p : ℕ) (a : Result X F) → Ready p k → Submits a → Ready p l
     submit_ready p (Ok x) ready t = ready_enters p k l (f x t.2.2.0) t.0 ready t.1 t.2.2.2 (quiet x t.2.2.0).0
-    submit_ready p (Err e) ready t = ready_leaves p k l t.0 ready t.1 t.2.1
+    submit_ready p (Err e) ready t = ready_leaves p k l t.0 ready t.1 t.2.2
 
     submit_first : (a : Result X F) → Submits a → StaysFirst k l
     submit_first (Ok x) t = first_enters k l (f x t.2.2.0) t.0 t.1 t.2.2.2 (quiet x t.2.2.0).1
-    submit_first (Err e) t = first_leaves k l t.0 t.1 t.2.1
+    submit_first (Err e) t = first_leaves k l t.0 t.1 t.2.2
 
     pub submitted : (p : ℕ) → Ready p k → Submits r → Ready p l × StaysFirst k l
     submitted p ready t = (submit_ready p r ready t, submit_first r t)
@@ -82,7 +83,7 @@ module _ {A O : Type 0} (meaning : A → O) (laws : BoardLaws meaning) where
   pub made_ready : {F : Type 0} (lists : ℕ) (k l : Known (BoardEntry A)) (r : Result ℕ F) (P : List (BoardEntry A) → ℕ → Type 0) (Q : List (BoardEntry A) → F → Type 0)
       → AtTurn caller_of Legal k (λ h. MatchResult r (λ pipe. P h pipe × Enters Legal k h (Born k.number pipe (Pad lists)) l) (λ e. Q h e × Leaves k h l)) → IfOk r (λ pipe. Ready pipe l)
   made_ready lists k l (Ok p) P Q t =
-      subst (λ (x : Known (BoardEntry A)). Ready p x) (sym t.2.1.0) (laws.born t.0 k.number p lists t.2.1.1)
+      subst (λ (x : Known (BoardEntry A)). Ready p x) (sym t.2.1.0) (laws.born is_pad t.0 k.number p (Pad lists) t.2.1.1 refl)
   made_ready lists k l (Err e) P Q t = tt
 
   worked_cases : (k l : Known (BoardEntry A)) (w : Worked k l) → (l.seen ≡ k.seen) ⊎ LegalBoard l.seen → StaysFirst k l

@@ -2,6 +2,7 @@
 use Rattle.std.specs.Prelude.{◌≡◌, ℕ, false}
 use Rattle.turn_lock.specs.Turns.{Known}
 use Rattle.board.specs.declared.entry.BoardEntry.{BoardEntry}
+use Rattle.board.specs.Shapes.{is_pad}
 use Rattle.board.specs.Legal.{is_shut}
 use Rattle.board.specs.Staying.{IsOpenFor}
 
@@ -15,4 +16,4 @@ StaysFirst k l = IsFirst k → IsFirst l
 
 -- the pad is open, and the pass manages it
 abbrev pub Ready : {A : Type 0} → ℕ → Known (BoardEntry A) → Type 0
-Ready pipe k = IsOpenFor k.seen pipe k.number
+Ready pipe k = IsOpenFor is_pad k.seen pipe k.number

@@ -17,7 +17,7 @@ use std::alloc::Global;
 use std::sync::Wait;
 use std::thread::Threads;
 
-/// Makes a pad.
+/// Makes a pad from which all sixteen workers may take.
 pub(crate) fn make<R: Wait>(
     rt: &R,
     board: &SharedBoard<Load>,
@@ -30,7 +30,7 @@ pub(crate) fn make<R: Wait>(
     ensures ready { IfOk result.1 (λ pipe. Ready pipe (knows result.0)) }
 {
     board_laws::<u64, Spun>();
-    board.born_pad(rt, pass, 4)
+    board.born_pad(rt, pass, 16)
 }
 
 /// Submits a job.

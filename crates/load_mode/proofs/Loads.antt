@@ -7,9 +7,8 @@ use Rattle.std_defs.specs.Authenc.{blob, is_blob, blob_keys, cipher_key_length, 
 use Rattle.alg_names.specs.Spelled.{tree_of}
 use Rattle.board.specs.declared.entry.BoardEntry.{BoardEntry}
 use Rattle.board.specs.declared.entry.Shape.TheVariants.{Pad}
-use Rattle.board.specs.Entries.{entries_of, submissions, completes_below}
+use Rattle.board.specs.Entries.{entries_of, submissions, completes_from}
 use Rattle.board.specs.Legal.{LegalBoard}
-use Rattle.board.specs.Order.{PadsKeepOrder}
 use Rattle.templates.specs.Table.{table, template_named}
 use Rattle.templates.specs.Resolving.{weight}
 use Rattle.transforms.specs.declared.ask.Ask.{Ask}
@@ -27,7 +26,7 @@ use Rattle.load_mode.specs.Requests.{drawn_requests, load_requests, of_a, of_g, 
 use Rattle.load_mode.specs.Lines.{opening, request_lines, load_dialogue}
 use Rattle.load_mode.specs.Turns.{bytes_told, IsLoadedWith, LoadsComeTo}
 use Rattle.load_mode.proofs.Passing.{walk_at, pads, Comes, come, told_of}
-use Rattle.load_mode.proofs.Summing.{Summary, none_yet, summary, Sums, board-sums}
+use Rattle.load_mode.proofs.Summing.{BoardLaws, Summary, none_yet, summary, Sums, board-sums}
 use Rattle.load_mode.proofs.Values.{all-sized, all-drawn, values_of_a, values_of_g}
 
 -- ---- the opening
@@ -137,24 +136,22 @@ module _ (passes : PassesFollow) (posts : PostsFollow) (workers seed count : ℕ
   sum-g = ap (summary 1 none_yet) whole-posts ∙ comes.on_g (all_of [])
 
 -- a pad of which all was collected
-loaded : ((h : List (BoardEntry Ask)) (p : ℕ) → PadsKeepOrder h p) → (p : ℕ) (b : List (BoardEntry Ask)) (asks : List Asked) → LegalBoard b → Sums (entries_of p b) (record { is_pad = true; asks = asks; all = true }) → IsLoadedWith asks p b
-loaded in_order p b asks legal sums = record {
+loaded : (p : ℕ) (b : List (BoardEntry Ask)) (asks : List Asked) → Sums (entries_of p b) (record { is_pad = true; asks = asks; all = true }) → IsLoadedWith asks p b
+loaded p b asks sums = record {
   accepted = sums.asks;
-  handed_out =
-      in_order b p legal (sums.pad refl)
-      ∙ ap completes_below (sums.all refl refl ∙ (sym (length-asked (submissions (entries_of p b))) ∙ ap length sums.asks));
+  handed_out = sums.all refl refl ∙ ap (completes_from 0) (sym (length-asked (submissions (entries_of p b))) ∙ ap length sums.asks);
 }
 
-pub loads_come_to : TurnsArePlain → PassesFollow → PostsFollow → ((h : List (BoardEntry Ask)) (p : ℕ) → PadsKeepOrder h p) → LoadsComeTo
-loads_come_to plain passes posts in_order workers seed count r b digest few legal made callers legal_board board_callers is =
+pub loads_come_to : BoardLaws → TurnsArePlain → PassesFollow → PostsFollow → LoadsComeTo
+loads_come_to laws plain passes posts workers seed count r b digest few legal made callers legal_board board_callers is =
     let d = load_dialogue workers seed count in
     let passed = plain d is.turn r b legal made callers legal_board board_callers is.in_turn is.is is.ended is.registry is.board (timeless passes posts workers seed count few) in
     let calls : board_calls 0 b ≡ posted d first_registry [] = sym is.board ∙ passed.calls in
     let sums : (p : ℕ) → Sums (entries_of p b) (summary p none_yet (posted d first_registry [])) =
-    λ p. subst (λ cs. Sums (entries_of p b) (summary p none_yet cs)) calls (board-sums p b legal_board board_callers) in (
+    λ p. subst (λ cs. Sums (entries_of p b) (summary p none_yet cs)) calls (board-sums laws p b legal_board board_callers) in (
       is.digest_is ∙ (ap (λ answers. sha256 (flat_map bytes_told answers)) passed.answers ∙ digest-is passes posts workers seed count few),
       record {
-        on_a = loaded in_order 0 b (of_a (load_requests seed count)) legal_board (subst (Sums (entries_of 0 b)) (sum-a passes posts workers seed count few) (sums 0));
-        on_g = loaded in_order 1 b (of_g (load_requests seed count)) legal_board (subst (Sums (entries_of 1 b)) (sum-g passes posts workers seed count few) (sums 1));
+        on_a = loaded 0 b (of_a (load_requests seed count)) (subst (Sums (entries_of 0 b)) (sum-a passes posts workers seed count few) (sums 0));
+        on_g = loaded 1 b (of_g (load_requests seed count)) (subst (Sums (entries_of 1 b)) (sum-g passes posts workers seed count few) (sums 1));
       },
     )

@@ -7,7 +7,7 @@ use Rattle.alg_registry.specs.Legal.{LegalReg}
 use Rattle.alg_registry.specs.Made.{Made}
 use Rattle.alg_registry.specs.Rows.{caller_of}
 use Rattle.board.specs.declared.entry.BoardEntry.{BoardEntry}
-use Rattle.board.specs.Entries.{entries_of, submissions, completes_below, caller_of as board_caller}
+use Rattle.board.specs.Entries.{entries_of, submissions, completes_from, caller_of as board_caller}
 use Rattle.board.specs.Legal.{LegalBoard}
 use Rattle.board.specs.Order.{handed_out}
 use Rattle.templates.specs.Table.{table}
@@ -43,7 +43,7 @@ pub record IsLoadTurn (workers seed count : ℕ) (r : List RegEntry) (b : List (
 -- the pipeline of this number has accepted these requests, in order, and handed out the completion of each, in order and once
 pub record IsLoadedWith (asks : List Asked) (p : ℕ) (b : List (BoardEntry Ask)) : Type 0 where
   pub accepted : map asked_by (submissions (entries_of p b)) ≡ asks
-  pub handed_out : handed_out (entries_of p b) ≡ completes_below (length asks)
+  pub handed_out : handed_out (entries_of p b) ≡ completes_from 0 (length asks)
 
 -- both pipelines are loaded
 pub record AreLoaded (seed count : ℕ) (b : List (BoardEntry Ask)) : Type 0 where

@@ -2,7 +2,7 @@
 
 ghost use Rattle.load_mode.specs.Turns.{LoadsComeTo};
 
-use board::pads_keep_order;
+use board::{completions_in_order, histories_go_on, only_collects_hand_out, pads_and_queues_tell};
 use settled_scripts::{passes_follow, turns_are_plain};
 use transforms::Ask;
 
@@ -13,5 +13,8 @@ pub fn loads_come_to()
 {
     turns_are_plain();
     passes_follow();
-    pads_keep_order::<Ask>();
+    histories_go_on::<Ask>();
+    completions_in_order::<Ask>();
+    only_collects_hand_out::<Ask>();
+    pads_and_queues_tell::<Ask>();
 }

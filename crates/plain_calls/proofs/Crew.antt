@@ -9,7 +9,7 @@ use Rattle.alg_registry.specs.declared.entry.RegEntry.TheVariants as entry
 use Rattle.alg_registry.specs.Legal.{LegalReg, MayFollow, IsRight, is_worker}
 use Rattle.alg_registry.specs.Rows.{caller_of as made_by}
 use Rattle.board.specs.declared.entry.BoardEntry.{BoardEntry}
-use Rattle.board.specs.declared.entry.BoardEntry.TheVariants.{Born, Submit, Take, Finish, Enq, Deq, Done, Hold, Go, Collect, Close, Share, Shut}
+use Rattle.board.specs.declared.entry.BoardEntry.TheVariants.{Born, Submit, Take, Finish, Enq, Deq, Done, Hold, Go, Collect, Close, Share, Mask, Shut}
 use Rattle.board.specs.Entries.{caller_of}
 use Rattle.board.specs.Legal.{LegalBoard, AreRightAfter, IsNoWorker}
 use Rattle.board.specs.Legal.{IsRight as IsRightOn}
@@ -117,17 +117,18 @@ is_script caller lt (inr more) = absurd (omega (arith, lt, more))
 
 works : (b : List (BoardEntry Ask)) (e : BoardEntry Ask) → IsRightOn b e → caller_of e ≤ 16 → is_ours e ≡ true
 works b (Born caller pipe shape) right lt = is_script caller lt right.1.0
-works b (Submit caller pipe number ask) right lt = is_script caller lt right.0.0
+works b (Submit caller pipe number ask) right lt = is_script caller lt right.1.0.0
 works b (Take caller pipe number) right lt = refl
 works b (Finish caller pipe number) right lt = refl
-works b (Enq caller pipe ask backlog answer) right lt = is_script caller lt right.0.0
+works b (Enq caller pipe ask backlog answer) right lt = is_script caller lt right.1.0.0
 works b (Deq caller pipe number started) right lt = refl
 works b (Done caller pipe number) right lt = refl
-works b (Hold caller pipe) right lt = is_script caller lt right.0.0
-works b (Go caller pipe) right lt = is_script caller lt right.0.0
-works b (Collect caller pipe to) right lt = is_script caller lt right.0.0
-works b (Close caller pipe) right lt = is_script caller lt right.0.0
-works b (Share caller pipe) right lt = is_script caller lt right.0.0
+works b (Hold caller pipe) right lt = is_script caller lt right.1.0.0
+works b (Go caller pipe) right lt = is_script caller lt right.1.0.0
+works b (Collect caller pipe to) right lt = is_script caller lt right.1.0.0
+works b (Close caller pipe) right lt = is_script caller lt right.1.0.0
+works b (Share caller pipe) right lt = is_script caller lt right.1.0.0
+works b (Mask caller pipe mask) right lt = is_script caller lt right.1.0.0
 works b (Shut caller) right lt = ap (λ n. n == 0) right.0
 
 all_work : (b more : List (BoardEntry Ask)) → AreRightAfter b more → IsBoardOfCrew more → list_all is_ours more ≡ true

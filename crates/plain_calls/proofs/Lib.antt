@@ -1,5 +1,7 @@
 pub mod Agreeing
 pub mod Asking
+pub mod Growing
+pub mod Behaving
 pub mod Standing
 pub mod Callbacks
 pub mod Finding

@@ -1,13 +1,12 @@
 -- What a queue told, request by request, and what a collect makes of it.
-use Rattle.std.proofs.Common.{◌≡◌, ℕ, zero, suc, ◌+◌, ◌≤◌, ◌⊎◌, inl, inr, Bool, true, false, cond, List, [], ◌∷◌, ◌++◌, length, drop, map, refl, ap, sym, ◌∙◌, arith, Some, None, append-nil, append_assoc}
+use Rattle.std.proofs.Common.{◌≡◌, ℕ, zero, suc, ◌+◌, ◌≤◌, ◌⊎◌, inl, inr, Bool, true, false, cond, List, [], ◌∷◌, ◌++◌, length, drop, map, refl, ap, sym, ◌∙◌, arith, Some, None, append-nil, append_assoc, zero-add}
 use Rattle.std.specs.Prelude.{slice_get, nat_lt, nat_le}
 use Rattle.std.specs.List.{filter_map}
 use Rattle.std.proofs.lemmas.Bool.Decides.{nat_tests}
 use Rattle.std.proofs.lemmas.List.Elements.{filter_map-append}
 use Rattle.kc_base.specs.declared.callback_list.Callback.{Callback}
 use Rattle.kc_base.specs.declared.callback_list.Callback.TheVariants.{Started, Done}
-use Rattle.board.specs.Entries.{Notice, Starts, Completes, completes_below, callback_of, completion, meaning_at}
-use Rattle.board.proofs.PadOrder.{length-completes}
+use Rattle.board.specs.Entries.{Notice, Starts, Completes, completes_from, callback_of, completion, meaning_at}
 use Rattle.transforms.specs.declared.ask.Ask.{Ask}
 use Rattle.transforms.specs.declared.request.Finished.{Finished}
 use Rattle.dialogues.specs.BoardCalls.{asked_by, outcome}
@@ -156,42 +155,27 @@ queue_callbacks subs max n (suc k) (a ∷ rest) is all =
 
 -- ---- pads
 
-from : ℕ → ℕ → List Notice
-from n zero = []
-from n (suc k) = Completes n ∷ from (n + 1) k
+drop_completes : (n m k : ℕ) → drop n (completes_from m (n + k)) ≡ completes_from (m + n) k
+drop_completes zero m k = let e : m ≡ m + 0 = omega arith in ap (λ i. completes_from i k) e
+drop_completes (suc n) m k = let e : suc m + n ≡ m + suc n = omega arith in drop_completes n (suc m) k ∙ ap (λ i. completes_from i k) e
 
-from_more : (n k : ℕ) → from n (suc k) ≡ from n k ++ Completes (n + k) ∷ []
-unfolding from
-from_more n zero = let e : n ≡ n + 0 = omega arith in ap (λ m. Completes m ∷ []) e
-from_more n (suc k) = let e : (n + 1) + k ≡ n + suc k = omega arith in ap (λ ns. Completes n ∷ ns) (from_more (n + 1) k ∙ ap (λ m. from (n + 1) k ++ Completes m ∷ []) e)
+pub length_completes : (n k : ℕ) → length (completes_from n k) ≡ k
+length_completes n zero = refl
+length_completes n (suc k) = ap suc (length_completes (suc n) k)
 
-completes_from : (n k : ℕ) → completes_below (n + k) ≡ completes_below n ++ from n k
-unfolding from
-completes_from n zero = let e : n + 0 ≡ n = omega arith in ap completes_below e ∙ sym (append-nil (completes_below n))
-completes_from n (suc k) =
-    let e : n + suc k ≡ suc (n + k) = omega arith in
-    ap completes_below e
-    ∙ (ap (λ ns. ns ++ Completes (n + k) ∷ []) (completes_from n k)
-    ∙ (append_assoc (completes_below n) (from n k) (Completes (n + k) ∷ []) ∙ ap (λ ns. completes_below n ++ ns) (sym (from_more n k))))
-
-drop_front : (xs ys : List Notice) (n : ℕ) → n ≡ length xs → drop n (xs ++ ys) ≡ ys
-drop_front [] ys n e = ap (λ k. drop k ys) e
-drop_front (x ∷ xs) ys n e = ap (λ k. drop k (x ∷ xs ++ ys)) e ∙ drop_front xs ys (length xs) refl
-
-from_callbacks : (subs : List Ask) (n k : ℕ) (xs : List Ask) → drop n subs ≡ xs → n + k ≡ length subs → filter_map (callback_of outcome subs) (from n k) ≡ drained None n (map asked_by xs)
-unfolding from
+from_callbacks : (subs : List Ask) (n k : ℕ) (xs : List Ask) → drop n subs ≡ xs → n + k ≡ length subs → filter_map (callback_of outcome subs) (completes_from n k) ≡ drained None n (map asked_by xs)
 from_callbacks subs n zero [] is all = refl
 from_callbacks subs n (suc k) [] is all = absurd (omega (arith, all, drop_none subs n is))
 from_callbacks subs n zero (a ∷ rest) is all = let r = drop_head subs n a rest is in absurd (omega (arith, all, r.2))
 from_callbacks subs n (suc k) (a ∷ rest) is all =
     let r = drop_head subs n a rest is in
-    let later = from_callbacks subs (n + 1) k rest r.1 (omega (arith, all)) in
-    ap (λ o. Rattle.std.specs.List.cons_option (completion n o) (filter_map (callback_of outcome subs) (from (n + 1) k))) (meaning_get subs n a r.0)
+    let e : suc n ≡ n + 1 = omega arith in
+    let later = ap (λ m. filter_map (callback_of outcome subs) (completes_from m k)) e ∙ from_callbacks subs (n + 1) k rest r.1 (omega (arith, all)) in
+    ap (λ o. Rattle.std.specs.List.cons_option (completion n o) (filter_map (callback_of outcome subs) (completes_from (suc n) k))) (meaning_get subs n a r.0)
     ∙ ap (λ cs. Done n (outcome a) ∷ cs) later
 
 -- a pad on which all is done hands out what a plain drain tells
-pub pad_callbacks : (subs : List Ask) (n k : ℕ) → n + k ≡ length subs → filter_map (callback_of outcome subs) (drop n (completes_below (length subs))) ≡ drained None n (map asked_by (drop n subs))
+pub pad_callbacks : (subs : List Ask) (n k : ℕ) → n + k ≡ length subs → filter_map (callback_of outcome subs) (drop n (completes_from 0 (length subs))) ≡ drained None n (map asked_by (drop n subs))
 pad_callbacks subs n k all =
-    ap (λ m. filter_map (callback_of outcome subs) (drop n (completes_below m))) (sym all)
-    ∙ (ap (λ ns. filter_map (callback_of outcome subs) (drop n ns)) (completes_from n k)
-    ∙ (ap (λ ns. filter_map (callback_of outcome subs) ns) (drop_front (completes_below n) (from n k) n (sym (length-completes n))) ∙ from_callbacks subs n k (drop n subs) refl all))
+    ap (λ m. filter_map (callback_of outcome subs) (drop n (completes_from 0 m))) (sym all)
+    ∙ (ap (λ ns. filter_map (callback_of outcome subs) ns) (drop_completes n 0 k ∙ ap (λ m. completes_from m k) (zero-add n)) ∙ from_callbacks subs n k (drop n subs) refl all)

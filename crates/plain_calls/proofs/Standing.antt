@@ -1,11 +1,12 @@
 -- When the plain pipelines are those of a board's history.
-use Rattle.std.specs.Prelude.{ℕ, zero, suc, ◌+◌, ◌≡◌, ◌≤◌, ◌⊎◌, Bool, true, ◌||◌, ◌==◌, nat_lt, if◌then◌else◌, List, [], ◌∷◌, ◌++◌, length, map, drop, slice_get, Option, Some, None}
+use Rattle.std.specs.Prelude.{ℕ, zero, suc, ◌+◌, ◌≡◌, ◌≤◌, ◌⊎◌, Bool, true, false, ◌||◌, ◌==◌, nat_lt, if◌then◌else◌, List, [], ◌∷◌, ◌++◌, length, map, drop, slice_get, Option, Some, None}
 use Rattle.std.specs.List.{filter_map}
 use Rattle.board.specs.declared.entry.BoardEntry.{BoardEntry}
 use Rattle.board.specs.declared.entry.Shape.{Shape}
-use Rattle.board.specs.Entries.{Notice, Starts, Completes, entries_of, birth, queue_born, max_born, submissions, takings, finished, front, told_in, collected, is_held, caller_of}
+use Rattle.board.specs.Shapes.{is_chain, is_born, queue_born, max_born}
+use Rattle.board.specs.Entries.{Notice, Starts, Completes, entries_of, birth, submissions, dequeued, finished, front, collected, is_held, caller_of}
 use Rattle.board.specs.Legal.{pipelines}
-use Rattle.board.specs.Order.{handed_out, completed}
+use Rattle.board.specs.Order.{handed_out, completed, step_tells}
 use Rattle.board.specs.Staying.{is_work}
 use Rattle.transforms.specs.declared.ask.Ask.{Ask}
 use Rattle.dialogues.specs.Allocating.{bound_of}
@@ -37,15 +38,16 @@ pub record IsUntold (max total first done taken : ℕ) (ns : List Notice) : Type
 
 -- ---- pipelines
 
--- the plain pipeline is the one with these entries
+-- the plain pipeline is the one with these entries, a pad or a queue
 pub record IsPipelineOf (pipeline : Pipeline) (es : List (BoardEntry Ask)) : Type 0 where
+  pub unchained : is_born is_chain (birth es) ≡ false
   pub bound : bound_born (birth es) ≡ pipeline.bound
   pub handed : length (completed (handed_out es)) ≡ pipeline.delivered
   pub within : pipeline.delivered ≤ length (submissions es)
   pub asks : map asked_by (drop pipeline.delivered (submissions es)) ≡ pipeline.undelivered
   pub untold : queue_born (birth es) ≡ true
-      → IsUntold (max_born (birth es)) (length (submissions es)) pipeline.delivered (length (finished es)) (length (takings es)) (drop (collected es) (filter_map told_in es))
-  pub steady : pipeline.held_throughout ≡ true → (queue_born (birth es) ≡ true) × (is_held es ≡ true) × (length (takings es) ≡ pipeline.delivered)
+      → IsUntold (max_born (birth es)) (length (submissions es)) pipeline.delivered (length (finished es)) (dequeued es) (drop (collected es) (filter_map step_tells es))
+  pub steady : pipeline.held_throughout ≡ true → (queue_born (birth es) ≡ true) × (is_held es ≡ true) × (dequeued es ≡ pipeline.delivered)
 
 -- the plain pipelines are those of the history, by their numbers
 pub record ArePipelinesOf (plain : List Pipeline) (b : List (BoardEntry Ask)) : Type 0 where

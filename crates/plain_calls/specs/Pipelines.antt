@@ -1,11 +1,12 @@
 -- The pipelines of a script that is alone: no one works beside it, so a request is done when it is drained.
-use Rattle.std.specs.Prelude.{ℕ, ◌+◌, Bool, true, false, ◌||◌, nat_lt, if◌then◌else◌, List, [], ◌∷◌, ◌++◌, length, set, slice_get, Option, Some, None}
+use Rattle.std.specs.Prelude.{ℕ, ◌+◌, Bool, true, false, not, ◌||◌, nat_lt, if◌then◌else◌, List, [], ◌∷◌, ◌++◌, length, set, slice_get, Option, Some, None}
 use Rattle.std.specs.Option.{option_map_or}
 use Rattle.board.specs.declared.entry.Entered.{Entered}
 use Rattle.board.specs.declared.entry.Entered.TheVariants.{InProgress, Busy, NoSpace}
+use Rattle.board.specs.Shapes.{is_chain}
 use Rattle.transforms.specs.Finish.{finished_of}
 use Rattle.dialogues.specs.Allocating.{bound_of}
-use Rattle.dialogues.specs.BoardCalls.{Asked, Notice, Started, Completed, BoardCall, Creates, Submits, Enqueues, Holds, Goes, Collects, Closes, Shares, Shuts}
+use Rattle.dialogues.specs.BoardCalls.{Asked, Notice, Started, Completed, BoardCall, Creates, Submits, Enqueues, Holds, Goes, Collects, Closes, Shares, Masks, Shuts}
 use Rattle.dialogues.specs.Questions.{BoardQuestion, BoardAnswer, Create, Submit, Enqueue, Hold, Go, Poll, Drain, Close, Share, Shut}
 use Rattle.dialogues.specs.Requesting.{value_of}
 
@@ -77,6 +78,7 @@ reply_in pipelines Shut = tt
 
 -- The answer doesn't depend on time.
 abbrev pub is_timeless : List Pipeline → BoardQuestion → Bool
+is_timeless pipelines (Create shape) = not (is_chain shape)
 is_timeless pipelines (Enqueue pipe asked backlog) = option_map_or has_room (slice_get pipelines pipe) true
 is_timeless pipelines (Poll pipe) = false
 is_timeless pipelines (Share pipe) = false
@@ -119,4 +121,5 @@ pipelines_after pipelines (Goes pipe) = at_pipe let_go pipe pipelines
 pipelines_after pipelines (Collects pipe collected) = at_pipe all_delivered pipe pipelines
 pipelines_after pipelines (Closes pipe) = pipelines
 pipelines_after pipelines (Shares pipe) = pipelines
+pipelines_after pipelines (Masks pipe mask) = pipelines
 pipelines_after pipelines Shuts = pipelines

@@ -27,6 +27,8 @@ pub(crate) struct Bells {
     ends: EventCount,
     /// Whether the board may be shut: a hint, for those who look before they take a turn.
     over: AtomicBool,
+    /// Whether some pad was masked: then one worker that is woken may not be one that may take the job.
+    masked: AtomicBool,
 }
 
 impl Bells {
@@ -35,6 +37,7 @@ impl Bells {
             jobs: EventCount::new(),
             ends: EventCount::new(),
             over: AtomicBool::new(false),
+            masked: AtomicBool::new(false),
         }
     }
 
@@ -52,7 +55,25 @@ impl Bells {
 
     /// A job came.
     pub(crate) fn ring_job(&self) {
-        self.jobs.notify_one();
+        if self.masked.load(Ordering::SeqCst) {
+            self.jobs.notify_all();
+        } else {
+            self.jobs.notify_one();
+        }
+    }
+
+    /// A request was passed on, where that is so: its job came, for workers and for those who drain.
+    pub(crate) fn ring_passed(&self, passed: bool) {
+        if passed {
+            self.ring_job();
+            self.ring_end();
+        }
+    }
+
+    /// Other workers may take a pad's jobs.
+    pub(crate) fn ring_mask(&self) {
+        self.masked.store(true, Ordering::SeqCst);
+        self.jobs.notify_all();
     }
 
     /// A job was finished.

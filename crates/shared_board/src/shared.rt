@@ -1,6 +1,6 @@
 //! The board of many threads.
 
-ghost use Rattle.std.specs.Prelude.{◌≡◌, ◌+◌, ◌++◌, ◌<◌, ◌≤◌, ◌^◌, false, length, slice_get, Some, IfOk, ◌↔◌, MatchResult, MatchOption, MatchBool};
+ghost use Rattle.std.specs.Prelude.{◌≡◌, ◌≢◌, ℕ, ◌+◌, ◌++◌, ◌<◌, ◌≤◌, ◌^◌, false, length, slice_get, Some, IfOk, ◌↔◌, MatchResult, MatchOption, MatchBool};
 ghost use Rattle.std.specs.Arc.{arc_value};
 ghost use Rattle.std.specs.Result.{result_unwrap_or};
 ghost use Rattle.std.specs.declared.sync.Arc.{Arc};
@@ -10,9 +10,10 @@ ghost use Rattle.turn_lock.specs.Turns.{newcomer, sees, gives_number, gets_numbe
 ghost use Rattle.board.specs.declared.entry.Shape.TheVariants as Shaped;
 ghost use Rattle.board.specs.declared.entry.BoardEntry.TheVariants as Entry;
 ghost use Rattle.board.specs.declared.board_core.BoardErr.TheVariants as BoardErr;
-ghost use Rattle.board.specs.Entries.{entries_of, submissions, front, told, collected, delivered, verdict, is_shared, take_entry, finish_entry, NoneWaits, caller_of};
+ghost use Rattle.board.specs.Shapes.{is_chain, width_born};
+ghost use Rattle.board.specs.Entries.{entries_of, birth, submissions, front, mask, told, collected, delivered, verdict, is_shared, take_entry, finish_entry, pass_entry, NoneFor, NonePasses, caller_of};
 ghost use Rattle.board.specs.Allowance.{IsAllowed};
-ghost use Rattle.board.specs.Legal.{IsNoWorker, MaySubmit, MayManage, MayFinish, IsOpenPad, IsOpenQueue, IsOpen, pipelines, is_shut, LegalBoard};
+ghost use Rattle.board.specs.Legal.{Is, IsNoWorker, MaySubmit, MayManage, MayFinish, IsOpenPad, IsOpenQueue, IsOpen, pipelines, is_shut, LegalBoard};
 ghost use Rattle.board.specs.Staying.{IsDrained};
 ghost use Rattle.turn_lock.specs.Meeting.{Meets, AtTurn, Enters, Leaves};
 ghost use Rattle.shared_board.specs.Passes.{IsPassOn};
@@ -84,8 +85,9 @@ impl<W: Work> SharedBoard<W> {
         self.lock.join(a, b)
     }
 
-    /// Makes a pad of `lists` reorder lists, at least 1, and answers its number. The caller is no worker. Only want of memory
-    /// refuses.
+    /// Makes a pad of `lists` reorder lists, 1 to 16, from which the workers 1 to `lists` may take, and answers its number.
+    /// The caller is no worker. Only want of memory refuses. A job wakes one worker that sleeps, whichever it is: beside more
+    /// workers than lists it may be one that may not take it.
     pub fn born_pad<R: Wait>(
         &self,
         rt: &R,
@@ -94,7 +96,8 @@ impl<W: Work> SharedBoard<W> {
     ) -> (BoardPass<W>, Result<u64, BoardErr>)
         requires lock { IsPassOn self.now pass }
         requires caller { IsNoWorker (knows pass).number }
-        requires lists { 1 ≤ lists }
+        requires some { 1 ≤ lists }
+        requires lists { lists ≤ 16 }
         ensures lock { IsPassOn self.now result.0 }
         ensures turn { AtTurn caller_of LegalBoard (knows pass) (λ h. MatchResult result.1
             (λ pipe. (pipe ≡ pipelines h) × Enters LegalBoard (knows pass) h (Entry.Born (knows pass).number pipe (Shaped.Pad lists)) (knows result.0))
@@ -130,7 +133,34 @@ impl<W: Work> SharedBoard<W> {
         (turn.give(added), answer)
     }
 
-    /// Lets others than the caller submit to a pad or a queue that it made, which isn't closed. Only want of memory refuses.
+    /// Makes a chain, and answers its number: a queue of which so many requests wait before its backlog begins, at least 1,
+    /// and a pad of `lists` reorder lists, 1 to 16, to which they go on, and from which the workers 1 to `lists` may take.
+    /// The caller is no worker. Only want of memory refuses.
+    pub fn born_chain<R: Wait>(
+        &self,
+        rt: &R,
+        pass: BoardPass<W>,
+        max: u32,
+        lists: u32,
+    ) -> (BoardPass<W>, Result<u64, BoardErr>)
+        requires lock { IsPassOn self.now pass }
+        requires caller { IsNoWorker (knows pass).number }
+        requires max { 1 ≤ max }
+        requires some { 1 ≤ lists }
+        requires lists { lists ≤ 16 }
+        ensures lock { IsPassOn self.now result.0 }
+        ensures turn { AtTurn caller_of LegalBoard (knows pass) (λ h. MatchResult result.1
+            (λ pipe. (pipe ≡ pipelines h) × Enters LegalBoard (knows pass) h (Entry.Born (knows pass).number pipe (Shaped.Chain max lists)) (knows result.0))
+            (λ e. (e ≡ BoardErr.Memory) × Leaves (knows pass) h (knows result.0))) }
+    {
+        let caller = pass.number();
+        let mut turn = self.turn(rt, pass);
+        let answer = turn.get().born_chain(caller, max, lists);
+        let added = answer.is_ok();
+        (turn.give(added), answer)
+    }
+
+    /// Lets others than the caller submit to a pipeline that it made, which isn't closed. Only want of memory refuses.
     pub fn share<R: Wait>(
         &self,
         rt: &R,
@@ -152,9 +182,38 @@ impl<W: Work> SharedBoard<W> {
         (turn.give(added), answer)
     }
 
+    /// From now on the workers whose bits are set may take from the pad, besides its maker and who submits to it: bit i stands
+    /// for worker i + 1. What was submitted before stays, and is completed in order. The caller made the pad, which is neither
+    /// closed nor shared, and no bit stands at or above the number of lists that it was made with. Only want of memory refuses.
+    pub fn mask<R: Wait>(
+        &self,
+        rt: &R,
+        pass: BoardPass<W>,
+        pipe: u64,
+        mask: u16,
+    ) -> (BoardPass<W>, Result<(), BoardErr>)
+        requires lock { IsPassOn self.now pass }
+        requires caller { MayManage (entries_of pipe (knows pass).seen) (knows pass).number }
+        requires pipe { IsOpenPad (entries_of pipe (knows pass).seen) }
+        requires alone { is_shared (entries_of pipe (knows pass).seen) ≡ false }
+        requires bits { mask < 2 ^ width_born (birth (entries_of pipe (knows pass).seen)) }
+        ensures lock { IsPassOn self.now result.0 }
+        ensures turn { AtTurn caller_of LegalBoard (knows pass) (λ h. MatchResult result.1
+            (λ _. Enters LegalBoard (knows pass) h (Entry.Mask (knows pass).number pipe mask) (knows result.0))
+            (λ e. (e ≡ BoardErr.Memory) × Leaves (knows pass) h (knows result.0))) }
+    {
+        let caller = pass.number();
+        let mut turn = self.turn(rt, pass);
+        let answer = turn.get().mask(caller, pipe, mask);
+        let added = answer.is_ok();
+        let pass = turn.give(added);
+        self.bells.ring_mask();
+        (pass, answer)
+    }
+
     /// Takes a job into a pad that isn't closed, and answers its number. The caller made the pad, or has seen that it is
-    /// shared, and is no worker. `TooBig` where the caller's allowance has no room for the job; want of memory comes after
-    /// that. A refusal drops the job.
+    /// shared, and is no worker. `NoWorker` where the pad's mask is empty, and otherwise `TooBig` where the caller's allowance
+    /// has no room for the job; want of memory comes after these. A refusal drops the job.
     pub fn submit<R: Wait>(
         &self,
         rt: &R,
@@ -169,7 +228,7 @@ impl<W: Work> SharedBoard<W> {
         ensures turn { AtTurn caller_of LegalBoard (knows pass) (λ h. MatchResult result.1
             (λ n. (n ≡ length (submissions (entries_of pipe h))) × IsAllowed W.weight h (knows pass).number (W.asked job)
             × ((ask : Arc W.Ask GlobalMemory) × (arc_value ask ≡ W.asked job) × Enters LegalBoard (knows pass) h (Entry.Submit (knows pass).number pipe n ask) (knows result.0)))
-            (λ e. ((e ≡ BoardErr.TooBig) ↔ (IsAllowed W.weight h (knows pass).number (W.asked job) → ⊥)) × Leaves (knows pass) h (knows result.0))) }
+            (λ e. ((e ≡ BoardErr.NoWorker) ↔ (mask (entries_of pipe h) ≡ 0)) × ((e ≡ BoardErr.TooBig) ↔ ((0 < mask (entries_of pipe h)) × (IsAllowed W.weight h (knows pass).number (W.asked job) → ⊥))) × Leaves (knows pass) h (knows result.0))) }
     {
         let caller = pass.number();
         let mut turn = self.turn(rt, pass);
@@ -180,7 +239,7 @@ impl<W: Work> SharedBoard<W> {
         (pass, answer)
     }
 
-    /// Offers a job to a queue that isn't closed, and answers its verdict. The caller made the queue, or has seen that it is
+    /// Offers a job to a queue or chain that isn't closed, and answers its verdict. The caller made it, or has seen that it is
     /// shared, and is no worker. `TooBig` where the caller's allowance has no room for the job; want of memory comes after
     /// that, and both before the verdict. What isn't accepted is dropped.
     pub fn enqueue<R: Wait>(
@@ -198,7 +257,7 @@ impl<W: Work> SharedBoard<W> {
         ensures turn { AtTurn caller_of LegalBoard (knows pass) (λ h. MatchResult result.1
             (λ answer. (answer ≡ verdict (entries_of pipe h) backlog) × IsAllowed W.weight h (knows pass).number (W.asked job)
             × ((ask : Arc W.Ask GlobalMemory) × (arc_value ask ≡ W.asked job) × Enters LegalBoard (knows pass) h (Entry.Enq (knows pass).number pipe ask backlog answer) (knows result.0)))
-            (λ e. ((e ≡ BoardErr.TooBig) ↔ (IsAllowed W.weight h (knows pass).number (W.asked job) → ⊥)) × Leaves (knows pass) h (knows result.0))) }
+            (λ e. (e ≢ BoardErr.NoWorker) × ((e ≡ BoardErr.TooBig) ↔ (IsAllowed W.weight h (knows pass).number (W.asked job) → ⊥)) × Leaves (knows pass) h (knows result.0))) }
     {
         let caller = pass.number();
         let mut turn = self.turn(rt, pass);
@@ -209,13 +268,14 @@ impl<W: Work> SharedBoard<W> {
         (pass, answer)
     }
 
-    /// Hands out a job: of a pad one that nobody has taken, of a queue the first that waits, where it is neither held nor busy.
-    /// `None` exactly where there is none. No memory is taken.
+    /// Hands out a job that this caller may take: of a pad, or of the pad within a chain, the first that nobody has taken,
+    /// where the caller made the pipeline, submitted to it, or is a worker in its mask; of a queue the first that waits, where
+    /// it is neither held nor busy. `None` exactly where there is none. No memory is taken.
     pub fn take<R: Wait>(&self, rt: &R, pass: BoardPass<W>) -> (BoardPass<W>, Option<Taken<W>>)
         requires { IsPassOn self.now pass }
         ensures lock { IsPassOn self.now result.0 }
         ensures turn { AtTurn caller_of LegalBoard (knows pass) (λ h. MatchOption result.1
-            (NoneWaits h × Leaves (knows pass) h (knows result.0))
+            (NoneFor h (knows pass).number × Leaves (knows pass) h (knows result.0))
             (λ t. (slice_get (submissions (entries_of t.slip.pipe h)) t.slip.number ≡ Some (W.asked t.job))
             × Enters LegalBoard (knows pass) h (take_entry h (knows pass).number t.slip.pipe t.slip.number) (knows result.0)
             × MayFinish W.meaning (entries_of t.slip.pipe (knows result.0).seen) (knows pass).number t.slip.number (W.meaning (W.asked t.job)))) }
@@ -248,7 +308,25 @@ impl<W: Work> SharedBoard<W> {
         pass
     }
 
-    /// From now on no request of the queue is run. The caller made the queue, which isn't closed. Only want of memory refuses.
+    /// The first request of a chain's line goes on to its pad, where the chain isn't held. False exactly where there is no such
+    /// chain. No memory is taken.
+    pub fn pass_on<R: Wait>(&self, rt: &R, pass: BoardPass<W>) -> (BoardPass<W>, bool)
+        requires { IsPassOn self.now pass }
+        ensures lock { IsPassOn self.now result.0 }
+        ensures turn { AtTurn caller_of LegalBoard (knows pass) (λ h. MatchBool result.1
+            ((p : ℕ) × Is is_chain (entries_of p h) × Enters LegalBoard (knows pass) h (pass_entry h (knows pass).number p) (knows result.0))
+            (NonePasses h × Leaves (knows pass) h (knows result.0))) }
+    {
+        let caller = pass.number();
+        let mut turn = self.turn(rt, pass);
+        let passed = turn.get().pass_on(caller);
+        let pass = turn.give(passed);
+        self.bells.ring_passed(passed);
+        (pass, passed)
+    }
+
+    /// From now on no request of the queue is run, and none of the chain goes on to its pad. The caller made it, and it isn't
+    /// closed. Only want of memory refuses.
     pub fn hold<R: Wait>(
         &self,
         rt: &R,
@@ -270,7 +348,8 @@ impl<W: Work> SharedBoard<W> {
         (turn.give(added), answer)
     }
 
-    /// The queue's requests are run again. The caller made the queue, which isn't closed. Only want of memory refuses.
+    /// The queue's requests are run again, or the chain's go on. The caller made it, and it isn't closed. Only want of memory
+    /// refuses.
     pub fn go<R: Wait>(
         &self,
         rt: &R,
@@ -294,8 +373,8 @@ impl<W: Work> SharedBoard<W> {
         (pass, answer)
     }
 
-    /// Hands out what a pad or a queue has told and no call handed out before, in the order in which it was told. The caller
-    /// made the pipeline, which isn't closed. Only want of memory refuses, and hands out nothing.
+    /// Hands out what a pipeline has told and no call handed out before, in the order in which it was told. The caller made the
+    /// pipeline, which isn't closed. Only want of memory refuses, and hands out nothing.
     pub fn poll<R: Wait>(
         &self,
         rt: &R,
@@ -318,7 +397,7 @@ impl<W: Work> SharedBoard<W> {
         (turn.give(added), answer)
     }
 
-    /// Where all requests of the pad or queue are finished, answers true and hands out what no call handed out before, in the
+    /// Where all requests of the pipeline are finished, answers true and hands out what no call handed out before, in the
     /// order in which it was told. Otherwise it answers false and nothing happens. The caller made the pipeline, which isn't
     /// closed. Only want of memory refuses, and hands out nothing.
     pub fn try_drain<R: Wait>(
@@ -345,8 +424,8 @@ impl<W: Work> SharedBoard<W> {
         (turn.give(added), answer)
     }
 
-    /// Closes a pad or a queue that the caller made and shared with nobody, of which all is finished and handed out. No
-    /// memory is taken.
+    /// Closes a pipeline that the caller made and shared with nobody, of which all is finished and handed out. No memory is
+    /// taken.
     pub fn close<R: Wait>(&self, rt: &R, pass: BoardPass<W>, pipe: u64) -> BoardPass<W>
         requires lock { IsPassOn self.now pass }
         requires caller { MayManage (entries_of pipe (knows pass).seen) (knows pass).number }
@@ -396,7 +475,7 @@ impl<W: Work> SharedBoard<W> {
         self.bells.watch_jobs()
     }
 
-    /// Announces a wait for a job to be finished, or for the end of the board.
+    /// Announces a wait for a job to be finished, a request to be passed on, or the end of the board.
     pub fn watch_ends(&self) -> Watch<'_> {
         self.bells.watch_ends()
     }

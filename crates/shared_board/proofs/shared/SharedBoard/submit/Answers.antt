@@ -1,14 +1,14 @@
-use Rattle.std.proofs.Common.{◌≡◌, length}
+use Rattle.std.proofs.Common.{◌≡◌, ◌<◌, length}
 use Rattle.std.specs.Prelude.{◌↔◌}
 use Rattle.std.specs.Arc.{arc_value}
 use Rattle.turn_lock.specs.Passes.{knows}
 use Rattle.board.specs.declared.entry.BoardEntry.TheVariants as entry
 use Rattle.board.specs.declared.board_core.BoardErr.TheVariants as error
-use Rattle.board.specs.Entries.{entries_of, submissions, caller_of}
+use Rattle.board.specs.Entries.{entries_of, submissions, mask, caller_of}
 use Rattle.board.specs.Allowance.{IsAllowed}
-use Rattle.turn_lock.specs.Going.{asked_turn}
 use Rattle.board.specs.Legal.{LegalBoard}
 use Rattle.shared_board.proofs.Knowing.{itself}
+use Rattle.shared_board.proofs.Refusing.{refused_turn}
 use Rattle.shared_board.proofs.shared.SharedBoard.submit.Goals as goal
 
 pub submit-answer-requires-clause-caller : goal.submit-answer-requires-clause-caller
@@ -26,6 +26,7 @@ returns-clause-turn g c =
     let t = c.turn-turn.ensures in
     let a = c.submit-answer.ensures in
     let ask = g.W.Work.asked c.args.job in
-    asked_turn caller_of (λ xs. LegalBoard xs) itself (knows c.args.pass) _ (knows c.give-pass.result) _ _ c.submit-answer.new.self _ c.number-caller.ensures c.get.ensures.value t.sees t.meets a.legal c.submit-answer.result
+    refused_turn caller_of (λ xs. LegalBoard xs) itself (knows c.args.pass) _ (knows c.give-pass.result) _ _ c.submit-answer.new.self _ c.number-caller.ensures c.get.ensures.value t.sees t.meets a.legal c.submit-answer.result
     (λ v shared j xs. entry.Submit j c.args.pipe v shared) (λ shared. arc_value shared ≡ ask) (λ xs v. v ≡ length (submissions (entries_of c.args.pipe xs)))
-    (λ xs j. IsAllowed g.W.Work.weight xs j ask) (λ e X. (e ≡ error.TooBig) ↔ (X → ⊥)) _ c.is_ok-added.ensures.value a.submitted a.allowed a.refused c.give-pass.ensures.view
+    (λ xs j. IsAllowed g.W.Work.weight xs j ask) (λ xs e. (e ≡ error.NoWorker) ↔ (mask (entries_of c.args.pipe xs) ≡ 0)) (λ xs j e. (e ≡ error.TooBig) ↔ ((0 < mask (entries_of c.args.pipe xs)) × (IsAllowed g.W.Work.weight xs j ask → ⊥)))
+    _ c.is_ok-added.ensures.value a.submitted a.allowed a.unmasked a.refused c.give-pass.ensures.view
