@@ -486,6 +486,7 @@ impl Session {
         requires at_board { CallsBoard board.now self.old.board }
         requires stands { Stands self.old.walk.lives (known self.old.registry) }
         requires posted { Posted self.old.walk (known self.old.board) }
+        requires few { self.old.workers ≤ 16 }
         requires seen { IsSome (slice_get (registered (known self.old.registry).seen) id) }
         requires fits { is_queue_length length ≡ true }
         ensures { MatchResult result
@@ -541,6 +542,7 @@ impl Session {
         requires at_board { CallsBoard board.now self.old.board }
         requires stands { Stands self.old.walk.lives (known self.old.registry) }
         requires posted { Posted self.old.walk (known self.old.board) }
+        requires few { self.old.workers ≤ 16 }
         requires nested { is_nested_well name.now ≡ true }
         requires fits { is_queue_length length ≡ true }
         ensures { MatchResult result
@@ -569,6 +571,7 @@ impl Session {
         requires at_board { CallsBoard board.now self.old.board }
         requires stands { Stands self.old.walk.lives (known self.old.registry) }
         requires posted { Posted self.old.walk (known self.old.board) }
+        requires few { self.old.workers ≤ 16 }
         ensures { MatchResult result
             (λ _. Holds (alloc self.old.workers self.old.walk number label.now name.now length) self.old self.new answers.old.items answers.new.items)
             (λ _. Stops self.old self.new) }
@@ -634,6 +637,7 @@ impl Session {
         requires at_board { CallsBoard board.now self.old.board }
         requires stands { Stands self.old.walk.lives (known self.old.registry) }
         requires posted { Posted self.old.walk (known self.old.board) }
+        requires few { self.old.workers ≤ 16 }
         requires short { IsShortCommand command.now }
         ensures { MatchResult result
             (λ _. HoldsBy (command_width command.now) (command_dialogue self.old.workers self.old.walk number command.now) self.old self.new answers.old.items answers.new.items)
@@ -735,6 +739,7 @@ impl Session {
         requires at_board { CallsBoard board.now self.old.board }
         requires stands { Stands self.old.walk.lives (known self.old.registry) }
         requires posted { Posted self.old.walk (known self.old.board) }
+        requires few { self.old.workers ≤ 16 }
         requires short { IsShortLine line.now }
         ensures { MatchResult result
             (λ _. HoldsBy (width_of line.now) (line_dialogue self.old.workers self.old.walk number line.now) self.old self.new answers.old.items answers.new.items)
