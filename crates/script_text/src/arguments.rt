@@ -2,14 +2,15 @@
 
 ghost use Rattle.std.specs.Prelude.{◌≡◌, IsTrue, map, IfOk};
 ghost use Rattle.std.specs.Char.{is_ascii_digit};
-ghost use Rattle.std.specs.List.{list_all};
+ghost use Rattle.std.specs.List.{list_all, slice_split};
 ghost use Rattle.std.specs.Str.Parse.{digits_value};
-ghost use Rattle.script_text.specs.Arguments.{Reads, hex_of, is_label_byte, is_label, label_of, lone_label_of, is_number, number_of, length_of, names_of, backlog_of};
+ghost use Rattle.script_text.specs.Arguments.{Reads, hex_of, hexes_of, are_segments, is_bar, text_of, is_label_byte, is_label, label_of, lone_label_of, is_number, number_of, length_of, names_of, backlog_of};
 ghost use Rattle.script_text.specs.declared.arguments.ReadError.TheVariants.{NoMemory};
 
 use crate::texts::Texts;
 use hex::FromHexError;
 use kc_base::Bytes;
+use sg_walk::Segs;
 use std::alloc::{AllocError, Global};
 
 /// Why no command was read.
@@ -39,6 +40,42 @@ pub fn hex_bytes(alloc: Global, token: &[u8]) -> Result<Bytes, ReadError>
         Err(FromHexError::OutOfMemory) => Err(ReadError::NoMemory),
         Err(_) => Err(ReadError::Malformed),
     }
+}
+
+/// The bytes that each part spells.
+fn hex_parts(alloc: Global, parts: &[&[u8]]) -> Result<Vec<Bytes>, ReadError>
+    ensures { Reads result (hexes_of (map (λ part. part.now) parts.now)) }
+{
+    let mut read = Vec::with_capacity(alloc, parts.len())?;
+    for part in parts {
+        read.push(hex_bytes(alloc, part)?)?;
+    }
+    Ok(read)
+}
+
+fn are_segments(parts: &[Bytes]) -> bool
+    ensures { result ≡ are_segments parts.now }
+{
+    parts.len() == 1 || parts.len() <= 16 && parts.iter().all(|part| part.len() > 0)
+}
+
+/// What stands between bars.
+fn split_bars(alloc: Global, token: &[u8]) -> Result<Vec<&[u8]>, AllocError>
+    ensures { IfOk result (λ parts. map (λ part. part.now) parts.items ≡ slice_split is_bar token.now) }
+{
+    token.split(|b| *b == b'|').collect(alloc)
+}
+
+/// The text that a token spells in one part or several, each of which is read into a segment.
+pub fn segments(alloc: Global, token: &[u8]) -> Result<Segs, ReadError>
+    ensures { Reads result (text_of token.now) }
+{
+    let parts = split_bars(alloc, token)?;
+    let parts = hex_parts(alloc, &parts)?;
+    if !are_segments(&parts) {
+        return Err(ReadError::Malformed);
+    }
+    Ok(Segs::from_parts(parts))
 }
 
 fn is_label_byte(byte: u8) -> bool
