@@ -1,5 +1,5 @@
 -- The parts of a text.
-use Rattle.std.proofs.Common.{◌≡◌, ℕ, ◌+◌, ◌≤◌, Bool, true, false, cond, List, [], ◌∷◌, ◌++◌, length, Option, Some, None, refl, sym, ap, ◌∙◌, arith, append_assoc, length-append}
+use Rattle.std.proofs.Common.{◌≡◌, ℕ, ◌+◌, ◌≤◌, Bool, true, false, cond, List, [], ◌∷◌, ◌++◌, length, Option, Some, None, arith, length-append}
 use Rattle.std.specs.Prelude.{IfSome, codes}
 use Rattle.std.specs.List.{concat, onto_first, slice_split}
 use Rattle.std.specs.Result.{result_ok}
@@ -8,32 +8,9 @@ use Rattle.hex.specs.Hex.{decode_of}
 use Rattle.script_text.proofs.HexLemmas.{decoded_up_to}
 use Rattle.script_text.specs.Arguments.{◌>>=◌, hex_of, hexes_of, is_bar}
 
--- ---- one part after another is read
-
 -- these parts, and those that the rest spells
 abbrev pub going_on : List (List ℕ) → Option (List (List ℕ)) → Option (List (List ℕ))
 going_on read rest = rest >>= (λ more. Some (read ++ more))
-
-pub begun : (rest : Option (List (List ℕ))) → rest ≡ going_on [] rest
-begun (Some more) = refl
-begun None = refl
-
-some : List (List ℕ) → Option (List (List ℕ))
-some parts = Some parts
-
-pub part_read : (read : List (List ℕ)) (part bytes : List ℕ) (rest : List (List ℕ)) → hex_of part ≡ Some bytes
-    → going_on read (hexes_of (part ∷ rest)) ≡ going_on (read ++ bytes ∷ []) (hexes_of rest)
-unfolding some
-part_read read part bytes rest e =
-    ap (λ (o : Option (List ℕ)). going_on read (o >>= (λ b. hexes_of rest >>= (λ more. Some (b ∷ more))))) e ∙ moved (hexes_of rest)
-  where
-    moved : (o : Option (List (List ℕ))) → going_on read (o >>= (λ more. Some (bytes ∷ more))) ≡ going_on (read ++ bytes ∷ []) o
-    unfolding some
-    moved (Some more) = ap some (sym (append_assoc read (bytes ∷ []) more))
-    moved None = refl
-
-pub part_unread : (read : List (List ℕ)) (part : List ℕ) (rest : List (List ℕ)) → hex_of part ≡ None → going_on read (hexes_of (part ∷ rest)) ≡ None
-part_unread read part rest e = ap (λ (o : Option (List ℕ)). going_on read (o >>= (λ b. hexes_of rest >>= (λ more. Some (b ∷ more))))) e
 
 -- ---- all parts together spell no more bytes than the token has
 

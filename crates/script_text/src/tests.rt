@@ -199,7 +199,11 @@ fn push_hex(
 ) -> Result<(), AllocError> {
     let digits = hex::encode(alloc, bytes.as_slice())?;
     words.push_str(before)?;
-    words.push_str(if bytes.is_empty() { "-" } else { digits.as_str() })
+    words.push_str(if bytes.is_empty() {
+        "-"
+    } else {
+        digits.as_str()
+    })
 }
 
 // The command of a line that serves a request, written out: its label, its lists in hexadecimal digits, the segments of its
@@ -217,7 +221,12 @@ fn request_words(
         push_hex(alloc, &mut words, " ", part)?;
     }
     for i in 0..text_parts.len() {
-        push_hex(alloc, &mut words, if i == 0 { " " } else { "|" }, &text_parts[i])?;
+        push_hex(
+            alloc,
+            &mut words,
+            if i == 0 { " " } else { "|" },
+            &text_parts[i],
+        )?;
     }
     if backlog {
         words.push_str(" backlog")?;

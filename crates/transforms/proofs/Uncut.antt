@@ -7,7 +7,7 @@ use Rattle.std_defs.specs.Value.Value.{invalid}
 use Rattle.alg_names.specs.Name.{Tree, Args, node, end, arg}
 use Rattle.templates.specs.Table.{template_named}
 use Rattle.templates.specs.declared.template_words.Template.{Template}
-use Rattle.templates.specs.declared.template_words.Template.TheVariants.{Rfc3686, Rfc4106, Pcrypt, Cryptd}
+use Rattle.templates.specs.declared.template_words.Template.TheVariants.{Cbc, Ctr, Rfc3686, Xts, GcmBase, Rfc4106, Ccm, Hmac, Cmac, Authenc, Pcrypt, Cryptd}
 use Rattle.templates.specs.declared.driver_plans.Plan.{Plan}
 use Rattle.transforms.specs.Asked.{TakesInput, takes, kind_takes}
 use Rattle.transforms.specs.Cuts.{uncut}
@@ -31,15 +31,23 @@ over (Some Rfc3686) (x ∷ []) h = λ key n q. h.0 (front_key key) n (record q {
 over (Some Rfc4106) (x ∷ []) h = λ key n q.
     ap (λ (v : Value). if rfc4106_takes q.aad then v else invalid)
     (h.0 (front_key key) n (record q { iv = rfc4106_iv (last_four key) q.iv; aad = rfc4106_associated q.aad }))
-over o gs h = λ key n q. refl
+over (Some Cbc) (x ∷ []) h = λ key n q. refl
+over (Some Ctr) (x ∷ []) h = λ key n q. refl
+over (Some Xts) (x ∷ []) h = λ key n q. refl
+over (Some Hmac) (x ∷ []) h = λ key n q. refl
+over (Some Cmac) (x ∷ []) h = λ key n q. refl
+over (Some GcmBase) (c ∷ g ∷ []) h = λ key n q. refl
+over (Some Ccm) (x ∷ []) h = λ key n q. refl
+over (Some Authenc) (m ∷ e ∷ []) h = λ key n q. refl
+over _ _ h = λ key n q. refl
 
 mutual
-  pub uncut_value : (driver : Tree) → Joins (request_value driver)
   unfolding request_value
+
+  pub uncut_value : (driver : Tree) → Joins (request_value driver)
   uncut_value (node word args) = over (template_named word) (values_of args) (all_join args)
 
   all_join : (args : Args) → AllJoin (values_of args)
-  unfolding request_value
   all_join end = tt
   all_join (arg t ts) = (uncut_value t, all_join ts)
 

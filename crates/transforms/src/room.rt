@@ -49,11 +49,7 @@ pub fn joined(alloc: Global, text: &Segs, more: usize) -> Result<Vec<u8>, AllocE
 }
 
 /// The text in one piece, and so many zeros behind it.
-pub fn joined_with_zeros(
-    alloc: Global,
-    text: &Segs,
-    zeros: usize,
-) -> Result<Vec<u8>, AllocError>
+pub fn joined_with_zeros(alloc: Global, text: &Segs, zeros: usize) -> Result<Vec<u8>, AllocError>
     requires { length text.now.text + zeros < 2 ^ 63 }
     ensures { IfOk result (λ buffer. buffer.items ≡ text.now.text ++ replicate zeros 0) }
 {
