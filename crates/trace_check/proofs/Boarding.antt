@@ -11,7 +11,7 @@ use Rattle.board.specs.declared.entry.BoardEntry.{BoardEntry}
 use Rattle.board.specs.declared.entry.BoardEntry.TheVariants.{Born, Submit, Take, Finish, Enq, Deq, Done, Hold, Go, Collect, Close, Share, Mask, Shut}
 use Rattle.board.specs.Shapes.{is_serial, lists_of, IsShape}
 use Rattle.board.specs.Entries.{is_of, entries_of, birth_in, submissions, dequeues, takers, finished}
-use Rattle.board.specs.Legal.{is_shut_entry, is_shut, IsRight, LegalBoard}
+use Rattle.board.specs.Legal.{is_shut_entry, IsRight, LegalBoard}
 use Rattle.trace_check.specs.declared.reason.Reason.{Reason}
 use Rattle.trace_check.specs.BoardReasons.{IsWrong, IsFirstWrong}
 use Rattle.trace_check.specs.Pipes.{PipeState, full_mask, new_pipe, pipe_of, judged, CanCount, AllCanCount, after, is_shut_by, after_at, pipes_after}
@@ -99,16 +99,16 @@ inner_step ps shut h e (Some s) i there r k =
 full_is : (lists : ℕ) → lists ≤ 16 → 2 ^ lists - 1 ≡ full_mask lists
 full_is lists few = ap (λ b. cond b (2 ^ lists - 1) 0) (sym (le-leb lists 16 few))
 
-new_at : {A : Type 0} (caller pipe : ℕ) (shape : Shape) (n : ℕ) → takers {A = A} n (Born caller pipe shape ∷ []) ≡ []
-new_at caller pipe shape n = takers_are (Born caller pipe shape ∷ []) caller shape n refl ∙ (takers_new (is_serial shape) n caller pipe shape)
-  where
-    takers_new : {A : Type 0} (serial : Bool) (n caller pipe : ℕ) (shape : Shape) → takers_by {A = A} serial n (Born caller pipe shape ∷ []) ≡ []
-    takers_new true n caller pipe shape = refl
-    takers_new false n caller pipe shape = refl
+none_taken : (A : Type 0) (serial : Bool) (n caller pipe : ℕ) (shape : Shape) → takers_by {A = A} serial n (Born caller pipe shape ∷ []) ≡ []
+none_taken A true n caller pipe shape = refl
+none_taken A false n caller pipe shape = refl
+
+new_at : (A : Type 0) (caller pipe : ℕ) (shape : Shape) (n : ℕ) → takers {A = A} n (Born caller pipe shape ∷ []) ≡ []
+new_at A caller pipe shape n = takers_are (Born caller pipe shape ∷ []) caller shape n refl ∙ none_taken A (is_serial shape) n caller pipe shape
 
 new_is_pipe : {A : Type 0} (caller pipe : ℕ) (shape : Shape) → IsShape shape → IsPipe {A = A} (Born caller pipe shape ∷ []) (new_pipe caller shape)
-new_is_pipe caller pipe shape formed = record {
-  requests = record { count = refl; each = λ n. (new_at caller pipe shape n, refl) };
+new_is_pipe {A} caller pipe shape formed = record {
+  requests = record { count = refl; each = λ n. (new_at A caller pipe shape n, refl) };
   marks = record { born = refl; shaped = formed; place = refl; masking = full_is (lists_of shape) (few_lists shape formed); holding = refl; sharing = refl; closing = refl };
   noted = λ c. refl;
   dequeuing = refl;

@@ -4,16 +4,15 @@ use Rattle.std.specs.Prelude.{◌==◌, nat_lt, nat_le, slice_get}
 use Rattle.std.specs.Bool.{Decides}
 use Rattle.std.specs.Option.{option_map_or}
 use Rattle.std.specs.Int.{bit_at}
-use Rattle.std.proofs.lemmas.Bool.{cases_lt, le-leb, lt-leb}
+use Rattle.std.proofs.lemmas.Bool.{cases_lt, le-leb, lt-leb, leb-true}
 use Rattle.std.proofs.lemmas.Bool.Decides.{Decides-eqb, Decides-ltb, Decides-and, Decides-or, Decides-like}
-use Rattle.std.proofs.lemmas.Option.{slice_get_within}
 use Rattle.board.specs.declared.entry.Shape.{Shape}
 use Rattle.board.specs.declared.entry.Shape.TheVariants.{Pad, Queue, Chain}
 use Rattle.board.specs.declared.entry.Entered.{Entered}
 use Rattle.board.specs.declared.entry.Entered.TheVariants.{InProgress, Busy, NoSpace}
 use Rattle.board.specs.declared.entry.BoardEntry.{BoardEntry}
-use Rattle.board.specs.Shapes.{is_pad, has_line, has_lists, is_serial, bound_of, lists_of, is_born, line_born, max_born, width_born, AreLists, IsShape}
-use Rattle.board.specs.Entries.{birth, submissions, submitters, dequeued, passed_on, takers, finished, has, front, told, verdict, waiting, starts, is_held, is_closed, is_shared, mask, IsMasked, IsMaker, maker_is, MayTake}
+use Rattle.board.specs.Shapes.{is_pad, has_line, is_serial, bound_of, lists_of, is_born, line_born, max_born, width_born, AreLists, IsShape}
+use Rattle.board.specs.Entries.{birth, submissions, submitters, dequeued, passed_on, takers, has, front, told, verdict, waiting, starts, is_held, is_closed, is_shared, mask, IsMasked, IsMaker, maker_is, MayTake}
 use Rattle.board.specs.Legal.{IsNoWorker, MaySubmit, MayManage, Is, IsOpenAs, IsOpen}
 use Rattle.trace_check.specs.declared.pipe.Progress.{Progress}
 use Rattle.trace_check.specs.declared.pipe.Progress.TheVariants.{Waits, Runs, Ended}
@@ -46,7 +45,7 @@ decides3 a b c p q r =
     Decides-like (a && (b && c)) (λ t. (t.0, t.1.0, t.1.1)) (λ t. (t.0, (t.1, t.2))) (Decides-and a (b && c) p (Decides-and b c q r))
 
 dec_le : (x y : ℕ) → Decides (nat_le x y) (x ≤ y)
-dec_le x y = Decides-like (nat_lt x (suc y)) (λ h. omega arith) (λ h. omega arith) (Decides-ltb x (suc y))
+dec_le x y = (leb-true x y, le-leb x y)
 
 -- What the pipeline is.
 dec_lists : (lists : ℕ) → Decides (are_lists lists) (AreLists lists)

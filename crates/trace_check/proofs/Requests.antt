@@ -1,7 +1,7 @@
 -- What one more entry makes of a pipeline's requests.
-use Rattle.std.proofs.Common.{◌≡◌, ◌≢◌, ℕ, suc, ◌+◌, Bool, true, false, cond, ◌||◌, List, [], ◌∷◌, ◌++◌, length, map, Option, Some, None, refl, sym, ◌∙◌, ap, subst, arith, inl, inr, ◌⊎◌, append-nil}
+use Rattle.std.proofs.Common.{◌≡◌, ◌≢◌, ℕ, suc, ◌+◌, Bool, true, false, cond, ◌||◌, List, [], ◌∷◌, ◌++◌, length, map, Some, None, refl, sym, ◌∙◌, ap, subst, arith, inl, inr, ◌⊎◌, append-nil}
 use Rattle.std.specs.Prelude.{◌==◌, slice_get, slice_set}
-use Rattle.std.specs.List.{filter, filter_map, list_any}
+use Rattle.std.specs.List.{filter, filter_map}
 use Rattle.std.proofs.Math.Bool.{or-false}
 use Rattle.std.proofs.lemmas.Bool.{eq-eqb, ne_eqb, eqb-true, cases_eq, lt-leb}
 use Rattle.std.proofs.lemmas.List.{length-set, length_push, map-append}

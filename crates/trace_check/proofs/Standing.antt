@@ -5,7 +5,7 @@ use Rattle.std.specs.List.{filter, filter_map}
 use Rattle.board.specs.declared.entry.Shape.{Shape}
 use Rattle.board.specs.declared.entry.BoardEntry.{BoardEntry}
 use Rattle.board.specs.Shapes.{is_serial, queue_born, width_born, IsShape}
-use Rattle.board.specs.Entries.{birth, accepted_in, submissions, submitter_in, submitters, dequeued_in, dequeues, dequeued, taken_in, takings, takers, finished_in, finished, has, tells, told, collected_in, collected, held_in, is_held, masked_in, mask, last_or, is_close, is_closed, is_share, is_shared}
+use Rattle.board.specs.Entries.{birth, accepted_in, submissions, submitter_in, submitters, dequeued_in, dequeues, dequeued, taken_in, takers, finished_in, finished, has, tells, told, collected_in, collected, held_in, is_held, masked_in, mask, last_or, is_close, is_closed, is_share, is_shared}
 use Rattle.trace_check.specs.declared.pipe.Progress.{Progress}
 use Rattle.trace_check.specs.declared.pipe.Progress.TheVariants.{Waits, Runs, Ended}
 use Rattle.trace_check.specs.Pipes.{PipeState, has_submitted, ended_run}

@@ -1,10 +1,9 @@
 -- What the checker keeps goes on with a right event.
-use Rattle.std.proofs.Common.{◌≡◌, ℕ, ◌+◌, ◌-◌, ◌<◌, ◌≤◌, Bool, true, false, not, cond, ◌&&◌, ◌||◌, List, [], ◌∷◌, ◌++◌, length, drop, Option, Some, None, refl, sym, ◌∙◌, ap, subst, arith, inl, inr, ◌⊎◌, add-zero}
+use Rattle.std.proofs.Common.{◌≡◌, ℕ, ◌+◌, ◌-◌, ◌<◌, ◌≤◌, Bool, true, false, not, cond, ◌&&◌, ◌||◌, List, [], ◌∷◌, ◌++◌, length, drop, Option, Some, None, refl, sym, ◌∙◌, ap, arith, inl, inr, ◌⊎◌, add-zero}
 use Rattle.std.specs.declared.sync.Arc.{Arc}
 use Rattle.std.specs.declared.alloc.Global.{Global}
 use Rattle.std.specs.Arc.{arc_value}
 use Rattle.std.specs.Prelude.{◌==◌, nat_lt, slice_get, slice_set}
-use Rattle.std.specs.List.{filter_map}
 use Rattle.std.specs.Option.{option_map_or}
 use Rattle.std.proofs.lemmas.Bool.{cases_eq, eqb-true, and_parts, ltb-true}
 use Rattle.std.proofs.lemmas.List.{length-set, length_push}
@@ -14,11 +13,11 @@ use Rattle.board.specs.declared.entry.Entered.{Entered}
 use Rattle.board.specs.declared.entry.Entered.TheVariants.{InProgress, Busy, NoSpace}
 use Rattle.board.specs.declared.entry.BoardEntry.{BoardEntry}
 use Rattle.board.specs.declared.entry.BoardEntry.TheVariants.{Born, Submit, Take, Finish, Enq, Deq, Done, Hold, Go, Collect, Close, Share, Mask, Shut}
-use Rattle.board.specs.Shapes.{is_pad, has_line, has_lists, is_serial}
-use Rattle.board.specs.Entries.{front, accepted_in, submitter_in, dequeued_in, dequeues, taken_in, finished_in, finished, completes_from, tells, told, collected_in, held_in, masked_in, is_share, is_close}
+use Rattle.board.specs.Shapes.{has_line, has_lists, is_serial}
+use Rattle.board.specs.Entries.{front, accepted_in, submitter_in, dequeued_in, dequeues, taken_in, finished_in, finished, tells, told, collected_in, held_in, masked_in, is_share, is_close}
 use Rattle.trace_check.specs.declared.pipe.Progress.{Progress}
 use Rattle.trace_check.specs.declared.pipe.Progress.TheVariants.{Waits, Runs, Ended}
-use Rattle.trace_check.specs.Pipes.{PipeState, passes, waits, runs, ended_run, has_state, has_number, is_open_as, may_serve, backlog_of, passed_by, same_number, starts_by, notices_in, with_request, with_entered, with_taken, with_ended, with_dequeued, with_finished, with_done, after}
+use Rattle.trace_check.specs.Pipes.{PipeState, passes, waits, runs, ended_run, has_state, has_number, is_open_as, may_serve, backlog_of, passed_by, same_number, starts_by, notices_in, with_request, with_entered, with_taken, with_ended, after}
 use Rattle.trace_check.proofs.Histories.{filter_map-none, filter_map-some, last_now, any_now, told_more, length-completes}
 use Rattle.trace_check.proofs.Places.{get-set_other, get-push_same, get-push_other, run-push, run-taken, run-ended}
 use Rattle.trace_check.proofs.Standing.{AreRequests, IsMarked, IsLine, IsPipe, AsksNothing, MarksNothing, taking, no_taking, born_still, requests_stay, submitters_stay, collected_stays, mask_stays, held_stays, shared_stays, closed_stays, marks_stay}
@@ -89,9 +88,9 @@ accepts_one es s e a caller i sub d t f o n k = record {
 }
 
 -- A job on a pad is taken.
-taking_now : {A : Type 0} (serial : Bool) (caller pipe number : ℕ) → serial ≡ false → taking {A = A} serial (Take caller pipe number) ≡ Some (number, caller)
-taking_now true caller pipe number f = cc
-taking_now false caller pipe number f = refl
+taking_now : (A : Type 0) (serial : Bool) (caller pipe number : ℕ) → serial ≡ false → taking {A = A} serial (Take caller pipe number) ≡ Some (number, caller)
+taking_now A true caller pipe number f = cc
+taking_now A false caller pipe number f = refl
 
 takes_one : {A : Type 0} (es : List (BoardEntry A)) (s : PipeState) (caller pipe number : ℕ) → has_lists s.shape ≡ true → slice_get s.requests number ≡ Some Waits → IsPipe es s → IsPipe (es ++ Take caller pipe number ∷ []) (with_taken s number caller)
 takes_one {A} es s caller pipe number lists w k =
@@ -99,7 +98,7 @@ takes_one {A} es s caller pipe number lists w k =
     let pad : is_serial s.shape ≡ false = lists_not_serial s.shape lists in
     let n : MarksNothing e = record { collects = refl; masks = refl; holds = refl; shares = refl; closes = refl } in
     record {
-      requests = requests_taken es e s.maker s.shape number caller s.requests k.marks.born refl (taking_now (is_serial s.shape) caller pipe number pad) refl w k.requests;
+      requests = requests_taken es e s.maker s.shape number caller s.requests k.marks.born refl (taking_now A (is_serial s.shape) caller pipe number pad) refl w k.requests;
       marks = marks_stay es e s.maker s.shape s.collected s.mask s.held s.shared s.closed n k.marks;
       noted = submitters_stay es e s.submitters refl k.noted;
       dequeuing = ap length (filter_map-none dequeued_in es e refl) ∙ k.dequeuing;

@@ -353,8 +353,7 @@ impl Pipe {
     fn may_take(&self, caller: u32) -> bool
         ensures { result ≡ may_take (state_of self.now) caller }
     {
-        self.maker == caller
-            || (self.submitters.contains(&caller) || is_masked(self.mask, caller))
+        self.maker == caller || (self.submitters.contains(&caller) || is_masked(self.mask, caller))
     }
 
     fn is_numbered(&self, answer: Entered) -> bool
