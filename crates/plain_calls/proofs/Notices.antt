@@ -156,8 +156,14 @@ queue_callbacks subs max n (suc k) (a ∷ rest) is all =
 -- ---- pads
 
 drop_completes : (n m k : ℕ) → drop n (completes_from m (n + k)) ≡ completes_from (m + n) k
-drop_completes zero m k = let e : m ≡ m + 0 = omega arith in ap (λ i. completes_from i k) e
-drop_completes (suc n) m k = let e : suc m + n ≡ m + suc n = omega arith in drop_completes n (suc m) k ∙ ap (λ i. completes_from i k) e
+drop_completes zero m k =
+    let e : m ≡ m + 0 = omega arith in
+    let z : 0 + k ≡ k = zero-add k in
+    λ i. completes_from (e i) (z i)
+drop_completes (suc n) m k =
+    let e : suc m + n ≡ m + suc n = omega arith in
+    let z : suc n + k ≡ suc (n + k) = omega arith in
+    ap (λ j. drop (suc n) (completes_from m j)) z ∙ (drop_completes n (suc m) k ∙ ap (λ i. completes_from i k) e)
 
 pub length_completes : (n k : ℕ) → length (completes_from n k) ≡ k
 length_completes n zero = refl
