@@ -204,7 +204,7 @@ drained-changed laws k l pipe h on meets all enters =
 
 length-numbers : (n : ℕ) → length (numbers_below n) ≡ n
 length-numbers zero = refl
-length-numbers (suc n) = length-append (numbers_below n) (n ∷ []) ∙ ap (λ m. m + 1) (length-numbers n)
+length-numbers (suc n) = let all = length-append (numbers_below n) (n ∷ []) in let rest = length-numbers n in omega (arith, all, rest)
 
 -- it has handed all out
 drained-all : Laws → (k : Known (BoardEntry Ask)) (pipe : Pipe) (h : List (BoardEntry Ask)) → KnowsPipe k pipe → Met k h → front (entries_of pipe.number h) ≡ length (submissions (entries_of pipe.number h))
@@ -359,15 +359,11 @@ new-pipe_in n number (Chain max lists) outsider fits =
 not-new : (n : ℕ) (h : List (BoardEntry Ask)) (number : ℕ) (pipe : Pipe) → entries_of number h ≡ [] → IsPipeIn n (entries_of pipe.number h) pipe → (pipe.number == number) ≡ false
 not-new n h number pipe none on = by_test (pipe.number == number) refl
   where
-    by_bound : (bound : Option ℕ) → IsOpenAs (made_so bound) [] → false ≡ true
-    by_bound None o = o.0
-    by_bound (Some max) o = o.0
-
     by_test : (t : Bool) → (pipe.number == number) ≡ t → t ≡ false
     by_test true e =
         let same : pipe.number ≡ number = eqb-true pipe.number number e in
         let empty : entries_of pipe.number h ≡ [] = ap (λ m. entries_of m h) same ∙ none in
-        absurd (let f = by_bound pipe.bound (subst (IsOpenAs (made_so pipe.bound)) empty on.opened) in cc)
+        absurd (let f : false ≡ true = (subst (IsOpenAs (made_so pipe.bound)) empty on.opened).0 in cc)
     by_test false e = refl
 
 pub born-opened : Laws → (k l : Known (BoardEntry Ask)) (shape : Shape) (r : Result ℕ BoardErr) → IsNoWorker k.number

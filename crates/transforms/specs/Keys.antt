@@ -1,5 +1,5 @@
 -- For the contracts inside this crate: what is kept of a key, under a plan.
-use Rattle.std.specs.Prelude.{◌≡◌, ℕ, Bool, true, false, List, [], Option, None}
+use Rattle.std.specs.Prelude.{◌≡◌, ℕ, Bool, true, false, List, [], Option}
 use Rattle.std.specs.Option.{option_map}
 use Rattle.std_defs.specs.Value.{Value}
 use Rattle.std_defs.specs.Value.Value.{bytes}

@@ -1,4 +1,3 @@
-use Rattle.std.proofs.Common.{refl}
 use Rattle.transforms.proofs.Uncut.{uncut_value, uncut_taken}
 use Rattle.transforms.proofs.laws.cuts_change_nothing.Goals as goal
 
