@@ -15,7 +15,7 @@ reason_word Answer = codes "answer"
 -- the line of a verdict, without its line feed
 abbrev pub said : TraceVerdict → List ℕ
 said Legal = codes "legal"
-said (Illegal place reason) = codes "illegal " ++ decimal place ++ codes " " ++ reason_word reason
+said (Illegal place reason) = (codes "illegal " ++ decimal place ++ codes " ") ++ reason_word reason
 said (NoTrace line) = codes "no trace " ++ decimal line
 
 abbrev pub status_of : TraceVerdict → ℕ

@@ -31,7 +31,9 @@ fn said(alloc: Global, verdict: TraceVerdict) -> Result<String, AllocError>
     match verdict {
         TraceVerdict::Legal => "legal".to_string(alloc),
         TraceVerdict::Illegal(place, reason) => {
-            format!(in alloc; "illegal {} {}", place, reason_word(reason))
+            let mut line = format!(in alloc; "illegal {} ", place)?;
+            line.push_str(reason_word(reason))?;
+            Ok(line)
         }
         TraceVerdict::NoTrace(line) => format!(in alloc; "no trace {}", line),
     }
