@@ -1,5 +1,5 @@
 -- a mode with a tag under its key
-use Rattle.std.proofs.Common.{◌≡◌, ℕ, Bool, true, false, if◌then◌else◌, List, ◌++◌, refl, ap, ap₂, sym, ◌∙◌, Option, Some, None}
+use Rattle.std.proofs.Common.{◌≡◌, ℕ, Bool, true, false, if◌then◌else◌, List, ◌++◌, refl, ap, ap₂, sym, ◌∙◌, Option, Some, None, Box, Global}
 use Rattle.std.specs.Option.{option_map}
 use Rattle.std_defs.specs.Hmac.{hmac, hmac_under, block_key}
 use Rattle.std_defs.specs.Authenc.{authenc_seal, authenc_open, blob}
@@ -44,7 +44,7 @@ under_bits a form ghash key e f = record {
   gives = λ n q. ap (λ k. aead_value (gcm_seals k) (gcm_opens k) n q) e;
 }
 
-pub under_nibbles : (a : AnyAes) (form : AesForm) (ghash : GhashForm) (key : List ℕ) → key_of a ≡ key → form_of a ≡ form → IsAead (NibbleGcm a) (plan.Gcm form ghash) key
+pub under_nibbles : (a : Box AnyAes Global) (form : AesForm) (ghash : GhashForm) (key : List ℕ) → key_of a.value ≡ key → form_of a.value ≡ form → IsAead (NibbleGcm a) (plan.Gcm form ghash) key
 unfolding some some_form request_value template_named
 under_nibbles a form ghash key e f = record {
   form = ap some_form f;
@@ -77,7 +77,7 @@ under_bits_salted m form ghash key e f d = record {
   gives = λ n q. ap₂ (λ k s. aead_value (rfc4106_seals k s) (rfc4106_opens k s) n q) e d ∙ salted _ q.dir n _ _;
 }
 
-pub under_nibbles_salted : (m : AnyAes × List ℕ) (form : AesForm) (ghash : GhashForm) (key : List ℕ) → key_of m.0 ≡ front_key key → form_of m.0 ≡ form → m.1 ≡ last_four key → IsAead (NibbleRfc4106 m) (plan.Rfc4106 form ghash) key
+pub under_nibbles_salted : (m : Box (AnyAes × List ℕ) Global) (form : AesForm) (ghash : GhashForm) (key : List ℕ) → key_of m.value.0 ≡ front_key key → form_of m.value.0 ≡ form → m.value.1 ≡ last_four key → IsAead (NibbleRfc4106 m) (plan.Rfc4106 form ghash) key
 unfolding some some_form request_value template_named
 under_nibbles_salted m form ghash key e f d = record {
   form = ap some_form f;

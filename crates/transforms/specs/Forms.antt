@@ -9,7 +9,7 @@ use Rattle.transforms.specs.declared.any_aes.AnyAes.TheVariants.{Generic, Table,
 abbrev pub key_of : AnyAes → List ℕ
 key_of (Generic key) = key.bytes
 key_of (Table key) = key.bytes
-key_of (Lanes key) = key.bytes
+key_of (Lanes key) = key.value.bytes
 
 -- the form
 abbrev pub form_of : AnyAes → AesForm

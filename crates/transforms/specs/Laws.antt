@@ -9,4 +9,4 @@ use Rattle.transforms.specs.Forms.{key_of}
 pub seals_and_unseals_in : (a : AnyAes) → AreInverse (seal (key_of a)) (unseal (key_of a))
 seals_and_unseals_in (Generic key) = seals_and_unseals key.bytes key.is_key
 seals_and_unseals_in (Table key) = seals_and_unseals key.bytes key.is_key
-seals_and_unseals_in (Lanes key) = seals_and_unseals key.bytes key.is_key
+seals_and_unseals_in (Lanes key) = seals_and_unseals key.value.bytes key.value.is_key

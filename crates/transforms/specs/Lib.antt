@@ -7,6 +7,7 @@ pub mod Cuts
 pub mod Drivers
 pub mod Finish
 pub mod Forms
+pub mod Kept
 pub mod Keys
 pub mod Laws
 pub mod Macs

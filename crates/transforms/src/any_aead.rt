@@ -2,27 +2,30 @@
 
 ghost use Rattle.std.specs.Prelude.{◌≡◌, true, false, MatchOption, MatchResult, Some, None};
 ghost use Rattle.templates.specs.declared.driver_plans.Plan.TheVariants as plan;
+ghost use Rattle.transforms.specs.Kept.{IsNotKept};
 ghost use Rattle.transforms.specs.Plans.{takes_key};
 ghost use Rattle.transforms.specs.Ciphers.{authenc_plan};
 
 use crate::aead::Aead;
 use crate::any_aes::AnyAes;
 use crate::any_cipher::{AnyCipher, CipherMode, split_salted};
+use crate::tfm_err::TfmErr;
 use authenc::{Authenc, read_blob};
 use cmac_ccm::Ccm;
 use gcm_mode::{Gcm, Rfc4106};
 use ghash_field::{BitGhash, NibbleGhash};
 use hmac_sha::Mac;
 use kc_base::Errno;
+use std::alloc::Global;
 use templates::{AesForm, GhashForm};
 
-/// A mode with a tag, in each of its forms.
+/// A mode with a tag, in each of its forms. Those with tables of GHASH stand in a box.
 #[derive(Drop)]
 pub enum AnyAead {
     BitGcm(Gcm<AnyAes, BitGhash>),
-    NibbleGcm(Gcm<AnyAes, NibbleGhash>),
+    NibbleGcm(Box<Gcm<AnyAes, NibbleGhash>>),
     BitRfc4106(Rfc4106<AnyAes, BitGhash>),
-    NibbleRfc4106(Rfc4106<AnyAes, NibbleGhash>),
+    NibbleRfc4106(Box<Rfc4106<AnyAes, NibbleGhash>>),
     Ccm(Ccm<AnyAes>),
     Authenc(Authenc<AnyCipher>),
 }
@@ -67,9 +70,9 @@ impl Aead for AnyAead {
     fn seal(&self, iv: &[u8], aad: &[u8], b: &mut [u8], tag: &mut [u8]) -> Result<(), Errno> {
         match self {
             AnyAead::BitGcm(mode) => Aead::seal(mode, iv, aad, b, tag),
-            AnyAead::NibbleGcm(mode) => Aead::seal(mode, iv, aad, b, tag),
+            AnyAead::NibbleGcm(mode) => Aead::seal(&**mode, iv, aad, b, tag),
             AnyAead::BitRfc4106(mode) => Aead::seal(mode, iv, aad, b, tag),
-            AnyAead::NibbleRfc4106(mode) => Aead::seal(mode, iv, aad, b, tag),
+            AnyAead::NibbleRfc4106(mode) => Aead::seal(&**mode, iv, aad, b, tag),
             AnyAead::Ccm(mode) => Aead::seal(mode, iv, aad, b, tag),
             AnyAead::Authenc(mode) => Aead::seal(mode, iv, aad, b, tag),
         }
@@ -78,9 +81,9 @@ impl Aead for AnyAead {
     fn unseal(&self, iv: &[u8], aad: &[u8], b: &mut [u8], tag: &[u8]) -> Result<(), Errno> {
         match self {
             AnyAead::BitGcm(mode) => Aead::unseal(mode, iv, aad, b, tag),
-            AnyAead::NibbleGcm(mode) => Aead::unseal(mode, iv, aad, b, tag),
+            AnyAead::NibbleGcm(mode) => Aead::unseal(&**mode, iv, aad, b, tag),
             AnyAead::BitRfc4106(mode) => Aead::unseal(mode, iv, aad, b, tag),
-            AnyAead::NibbleRfc4106(mode) => Aead::unseal(mode, iv, aad, b, tag),
+            AnyAead::NibbleRfc4106(mode) => Aead::unseal(&**mode, iv, aad, b, tag),
             AnyAead::Ccm(mode) => Aead::unseal(mode, iv, aad, b, tag),
             AnyAead::Authenc(mode) => Aead::unseal(mode, iv, aad, b, tag),
         }
@@ -104,50 +107,68 @@ impl AnyAead {
         }
     }
 
-    /// GCM under a key. `EINVAL` exactly where the key hasn't 16, 24 or 32 bytes.
-    pub fn gcm(form: AesForm, ghash: GhashForm, key: &[u8]) -> Result<AnyAead, Errno>
+    /// GCM under a key. `Inval` exactly where the key hasn't 16, 24 or 32 bytes.
+    pub fn gcm(
+        alloc: Global,
+        form: AesForm,
+        ghash: GhashForm,
+        key: &[u8],
+    ) -> Result<AnyAead, TfmErr>
         ensures { MatchResult result
             (λ a. (takes_key (plan.Gcm form ghash) key.now ≡ true) × IsAead a (plan.Gcm form ghash) key.now)
-            (λ e. (e ≡ Errno.EINVAL) × (takes_key (plan.Gcm form ghash) key.now ≡ false)) }
+            (λ e. IsNotKept e (takes_key (plan.Gcm form ghash) key.now)) }
     {
-        let aes = AnyAes::new(form, key)?;
+        let aes = AnyAes::new(alloc, form, key)?;
         match ghash {
             GhashForm::GhashGeneric => Ok(AnyAead::BitGcm(Gcm::new(aes))),
-            GhashForm::GhashTable => Ok(AnyAead::NibbleGcm(Gcm::new(aes))),
+            GhashForm::GhashTable => Ok(AnyAead::NibbleGcm(Box::new(alloc, Gcm::new(aes))?)),
         }
     }
 
-    /// RFC 4106 under a key, whose last four bytes are the salt. `EINVAL` exactly where the rest hasn't 16, 24 or 32 bytes.
-    pub fn rfc4106(form: AesForm, ghash: GhashForm, key: &[u8]) -> Result<AnyAead, Errno>
+    /// RFC 4106 under a key, whose last four bytes are the salt. `Inval` exactly where the rest hasn't 16, 24 or 32 bytes.
+    pub fn rfc4106(
+        alloc: Global,
+        form: AesForm,
+        ghash: GhashForm,
+        key: &[u8],
+    ) -> Result<AnyAead, TfmErr>
         ensures { MatchResult result
             (λ a. (takes_key (plan.Rfc4106 form ghash) key.now ≡ true) × IsAead a (plan.Rfc4106 form ghash) key.now)
-            (λ e. (e ≡ Errno.EINVAL) × (takes_key (plan.Rfc4106 form ghash) key.now ≡ false)) }
+            (λ e. IsNotKept e (takes_key (plan.Rfc4106 form ghash) key.now)) }
     {
         let (front, salt) = split_salted(key)?;
-        let aes = AnyAes::new(form, front)?;
+        let aes = AnyAes::new(alloc, form, front)?;
         match ghash {
             GhashForm::GhashGeneric => Ok(AnyAead::BitRfc4106(Rfc4106::new(Gcm::new(aes), salt))),
-            GhashForm::GhashTable => Ok(AnyAead::NibbleRfc4106(Rfc4106::new(Gcm::new(aes), salt))),
+            GhashForm::GhashTable => {
+                let mode = Rfc4106::new(Gcm::new(aes), salt);
+                Ok(AnyAead::NibbleRfc4106(Box::new(alloc, mode)?))
+            }
         }
     }
 
-    /// CCM under a key. `EINVAL` exactly where the key hasn't 16, 24 or 32 bytes.
-    pub fn ccm(form: AesForm, key: &[u8]) -> Result<AnyAead, Errno>
+    /// CCM under a key. `Inval` exactly where the key hasn't 16, 24 or 32 bytes.
+    pub fn ccm(alloc: Global, form: AesForm, key: &[u8]) -> Result<AnyAead, TfmErr>
         ensures { MatchResult result
             (λ a. (takes_key (plan.Ccm form) key.now ≡ true) × IsAead a (plan.Ccm form) key.now)
-            (λ e. (e ≡ Errno.EINVAL) × (takes_key (plan.Ccm form) key.now ≡ false)) }
+            (λ e. IsNotKept e (takes_key (plan.Ccm form) key.now)) }
     {
-        Ok(AnyAead::Ccm(Ccm::new(AnyAes::new(form, key)?)))
+        Ok(AnyAead::Ccm(Ccm::new(AnyAes::new(alloc, form, key)?)))
     }
 
-    /// authenc under a key blob. `EINVAL` exactly where the blob doesn't read, or the mode doesn't take its cipher's key.
-    pub fn authenc(mode: CipherMode, form: AesForm, key: &[u8]) -> Result<AnyAead, Errno>
+    /// authenc under a key blob. `Inval` exactly where the blob doesn't read, or the mode doesn't take its cipher's key.
+    pub fn authenc(
+        alloc: Global,
+        mode: CipherMode,
+        form: AesForm,
+        key: &[u8],
+    ) -> Result<AnyAead, TfmErr>
         ensures { MatchResult result
             (λ a. (takes_key (authenc_plan mode form) key.now ≡ true) × IsAead a (authenc_plan mode form) key.now)
-            (λ e. (e ≡ Errno.EINVAL) × (takes_key (authenc_plan mode form) key.now ≡ false)) }
+            (λ e. IsNotKept e (takes_key (authenc_plan mode form) key.now)) }
     {
         let keys = read_blob(key)?;
-        let cipher = AnyCipher::new(mode, form, keys.cipher)?;
+        let cipher = AnyCipher::new(alloc, mode, form, keys.cipher)?;
         Ok(AnyAead::Authenc(Authenc::new(Mac::new(keys.mac), cipher)))
     }
 }

@@ -1,33 +1,36 @@
 //! AES in each of its forms.
 
 ghost use Rattle.std.specs.Prelude.{◌≡◌, MatchResult, length};
+ghost use Rattle.transforms.specs.Kept.{IsNotKept};
+ghost use Rattle.transforms.specs.Plans.{is_key_length};
 ghost use Rattle.std_defs.specs.Aes.{IsKeyLength};
 
+use crate::tfm_err::TfmErr;
 use aes_block::{Aes, BlockCipher};
 use aes_lanes::LaneAes;
 use aes_table::TableAes;
-use kc_base::Errno;
+use std::alloc::Global;
 use templates::AesForm;
 
-/// AES under a key, in the form that a plan names.
+/// AES under a key, in the form that a plan names. A form with much of a key in memory has it in a box.
 #[derive(Drop)]
 pub enum AnyAes {
     Generic(Aes),
     Table(TableAes),
-    Lanes(LaneAes),
+    Lanes(Box<LaneAes>),
 }
 
 impl AnyAes {
     ghost use Rattle.transforms.specs.Forms.{form_of, key_of};
 
-    /// `EINVAL` exactly where the key hasn't 16, 24 or 32 bytes.
-    pub(crate) fn new(form: AesForm, key: &[u8]) -> Result<AnyAes, Errno>
-        ensures { MatchResult result (λ a. IsKeyLength (length key.now) × (key_of a ≡ key.now) × (form_of a ≡ form)) (λ e. (e ≡ Errno.EINVAL) × ¬ (IsKeyLength (length key.now))) }
+    /// `Inval` exactly where the key hasn't 16, 24 or 32 bytes.
+    pub(crate) fn new(alloc: Global, form: AesForm, key: &[u8]) -> Result<AnyAes, TfmErr>
+        ensures { MatchResult result (λ a. IsKeyLength (length key.now) × (key_of a ≡ key.now) × (form_of a ≡ form)) (λ e. IsNotKept e (is_key_length (length key.now))) }
     {
         match form {
             AesForm::AesGeneric => Ok(AnyAes::Generic(Aes::new(key)?)),
             AesForm::AesTable => Ok(AnyAes::Table(TableAes::new(key)?)),
-            AesForm::AesLanes => Ok(AnyAes::Lanes(LaneAes::new(key)?)),
+            AesForm::AesLanes => Ok(AnyAes::Lanes(Box::new(alloc, LaneAes::new(key)?)?)),
         }
     }
 }

@@ -1,13 +1,16 @@
 //! The modes without a tag.
 
 ghost use Rattle.std.specs.Prelude.{◌≡◌, ◌≤◌, ◌<◌, length, MatchOption, MatchResult, Some, None, true, false};
+ghost use Rattle.transforms.specs.Kept.{IsNotKept};
 ghost use Rattle.transforms.specs.Plans.{takes_key, front_key, last_four, is_doubled_length, first_half, second_half};
 
 use crate::any_aes::AnyAes;
+use crate::tfm_err::TfmErr;
 use aes_block::Skcipher;
 use cbc_mode::Cbc;
 use ctr_mode::{Ctr, Rfc3686};
 use kc_base::Errno;
+use std::alloc::Global;
 use templates::AesForm;
 use xts_mode::Xts;
 
@@ -60,23 +63,28 @@ fn split_halves(key: &[u8]) -> Result<(&[u8], &[u8]), Errno>
 impl AnyCipher {
     ghost use Rattle.transforms.specs.Ciphers.{cipher_plan, IsCipher};
 
-    /// `EINVAL` exactly where the mode doesn't take a key of that length.
-    pub fn new(mode: CipherMode, form: AesForm, key: &[u8]) -> Result<AnyCipher, Errno>
+    /// `Inval` exactly where the mode doesn't take a key of that length.
+    pub fn new(
+        alloc: Global,
+        mode: CipherMode,
+        form: AesForm,
+        key: &[u8],
+    ) -> Result<AnyCipher, TfmErr>
         ensures { MatchResult result
             (λ c. (takes_key (cipher_plan mode form) key.now ≡ true) × IsCipher c (cipher_plan mode form) key.now)
-            (λ e. (e ≡ Errno.EINVAL) × (takes_key (cipher_plan mode form) key.now ≡ false)) }
+            (λ e. IsNotKept e (takes_key (cipher_plan mode form) key.now)) }
     {
         match mode {
-            CipherMode::Cbc => Ok(AnyCipher::Cbc(Cbc::new(AnyAes::new(form, key)?))),
-            CipherMode::Ctr => Ok(AnyCipher::Ctr(Ctr::new(AnyAes::new(form, key)?))),
+            CipherMode::Cbc => Ok(AnyCipher::Cbc(Cbc::new(AnyAes::new(alloc, form, key)?))),
+            CipherMode::Ctr => Ok(AnyCipher::Ctr(Ctr::new(AnyAes::new(alloc, form, key)?))),
             CipherMode::Rfc3686 => {
                 let (front, nonce) = split_salted(key)?;
-                Ok(AnyCipher::Rfc3686(Rfc3686::new(AnyAes::new(form, front)?, nonce)))
+                Ok(AnyCipher::Rfc3686(Rfc3686::new(AnyAes::new(alloc, form, front)?, nonce)))
             }
             CipherMode::Xts => {
                 let (body, tweak) = split_halves(key)?;
-                let body = AnyAes::new(form, body)?;
-                let tweak = AnyAes::new(form, tweak)?;
+                let body = AnyAes::new(alloc, form, body)?;
+                let tweak = AnyAes::new(alloc, form, tweak)?;
                 Ok(AnyCipher::Xts(Xts::new(body, tweak)))
             }
         }

@@ -6,13 +6,14 @@ ghost use Rattle.std_defs.specs.Cmac.{cmac};
 ghost use Rattle.templates.specs.declared.driver_plans.Plan.TheVariants as plan;
 ghost use Rattle.transforms.specs.Asked.{text_to_join};
 ghost use Rattle.transforms.specs.Forms.{key_of};
+ghost use Rattle.transforms.specs.Kept.{IsNotKept};
 ghost use Rattle.transforms.specs.Plans.{takes_key};
 
 use crate::any_aes::AnyAes;
 use crate::room::{in_one_segment, joined_with_zeros, zeros};
+use crate::tfm_err::TfmErr;
 use cmac_ccm::Cmac;
 use hmac_sha::Mac;
-use kc_base::Errno;
 use sg_walk::Segs;
 use std::alloc::{AllocError, Global};
 use templates::AesForm;
@@ -34,13 +35,13 @@ impl AnyMac {
         AnyMac::Hmac(Mac::new(key))
     }
 
-    /// CMAC under a key. `EINVAL` exactly where the key hasn't 16, 24 or 32 bytes.
-    pub fn cmac(form: AesForm, key: &[u8]) -> Result<AnyMac, Errno>
+    /// CMAC under a key. `Inval` exactly where the key hasn't 16, 24 or 32 bytes.
+    pub fn cmac(alloc: Global, form: AesForm, key: &[u8]) -> Result<AnyMac, TfmErr>
         ensures { MatchResult result
             (λ m. (takes_key (plan.Cmac form) key.now ≡ true) × IsMac m (plan.Cmac form) key.now)
-            (λ e. (e ≡ Errno.EINVAL) × (takes_key (plan.Cmac form) key.now ≡ false)) }
+            (λ e. IsNotKept e (takes_key (plan.Cmac form) key.now)) }
     {
-        Ok(AnyMac::Cmac(Cmac::new(AnyAes::new(form, key)?)))
+        Ok(AnyMac::Cmac(Cmac::new(AnyAes::new(alloc, form, key)?)))
     }
 
     /// The cipher under it, or none under HMAC.

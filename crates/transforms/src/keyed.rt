@@ -51,7 +51,7 @@ impl Keyed {
             (λ keyed. (keyed ≡ (plan.now, key.now)) × (takes_key plan.now key.now ≡ true))
             (λ e. (e ≡ TfmErr.Memory) ⊎ ((e ≡ TfmErr.Inval) × (takes_key plan.now key.now ≡ false))) }
     {
-        let inner = inner_of(plan, key)?;
+        let inner = inner_of(alloc, plan, key)?;
         let key = Bytes::copy_of(alloc, key)?;
         Ok(Keyed {
             plan: *plan,

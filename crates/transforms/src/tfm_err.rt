@@ -1,7 +1,7 @@
 //! Why a key or a request isn't taken.
 
 use kc_base::Errno;
-use std::alloc::AllocError;
+use std::alloc::{AllocError, AllocFailed};
 use thiserror::Error;
 
 /// Why a key or a request isn't taken.
@@ -22,6 +22,17 @@ impl From<AllocError> for TfmErr {
     ghost from_gives = { λ _ e. e ≡ TfmErr.Memory };
 
     fn from(_: AllocError) -> TfmErr {
+        TfmErr::Memory
+    }
+}
+
+impl<T: Drop> From<AllocFailed<T>> for TfmErr {
+    ghost use Rattle.std.specs.Prelude.{◌≡◌};
+    ghost use Rattle.transforms.specs.declared.tfm_err.TfmErr.{TfmErr};
+
+    ghost from_gives = { λ _ e. e ≡ TfmErr.Memory };
+
+    fn from(_: AllocFailed<T>) -> TfmErr {
         TfmErr::Memory
     }
 }
