@@ -1,14 +1,16 @@
 //! How pipelines are made.
 
-ghost use Rattle.std.specs.Prelude.{◌≡◌, ◌+◌, ◌≤◌, [], ◌∷◌, ◌++◌, IfErr, MatchResult};
+ghost use Rattle.std.specs.Prelude.{◌≡◌, ◌≤◌, [], ◌∷◌, ◌++◌, IfErr, MatchResult};
 ghost use Rattle.board.specs.declared.entry.Shape.TheVariants as Shaped;
 ghost use Rattle.board.specs.declared.entry.BoardEntry.TheVariants as Entry;
 ghost use Rattle.board.specs.declared.board_core.BoardErr.TheVariants as BoardErr;
 ghost use Rattle.board.specs.Legal.{IsNoWorker, pipelines, LegalBoard};
 ghost use Rattle.board.specs.Births.{IsNew};
+ghost use Rattle.board.specs.Ready.{AreMade, IsGrown};
 
 use crate::board_core::{BoardCore, BoardErr};
 use crate::entry::{BoardEntry, Shape};
+use crate::lines::JobLines;
 use crate::log::reserve_entries;
 use crate::mask::full_mask;
 use crate::pipeline::Pipeline;
@@ -86,7 +88,7 @@ impl<W: Work> BoardCore<W> {
     {
         reserve_entries(&mut self.log, self.owed, 2)?;
         self.pipes.reserve(1)?;
-        grow_both(&mut self.ready, &mut self.passing)?;
+        grow_both(&mut self.passing, &mut self.ready)?;
         let pipe = self.pipes.len() as u64;
         self.pipes.push_reserved(Pipeline {
             maker: caller,
@@ -107,15 +109,15 @@ impl<W: Work> BoardCore<W> {
     }
 }
 
-/// Makes room for one pipeline more in both lines. Want of memory changes nothing.
-fn grow_both(ready: &mut Ready, passing: &mut Ready) -> Result<(), AllocError>
-    ensures ready { MatchResult result (λ _. ready.new ≡ record ready.old { pipes = ready.old.pipes + 1 }) (λ _. ready.new ≡ ready.old) }
-    ensures passing { MatchResult result (λ _. passing.new ≡ record passing.old { pipes = passing.old.pipes + 1 }) (λ _. passing.new ≡ passing.old) }
+/// Makes room for one pipeline more in all lines. Want of memory changes nothing.
+fn grow_both(passing: &mut Ready, ready: &mut JobLines) -> Result<(), AllocError>
+    ensures passing { MatchResult result (λ _. IsGrown passing.old passing.new) (λ _. passing.new ≡ passing.old) }
+    ensures ready { MatchResult result (λ _. AreMade IsGrown ready.old ready.new) (λ _. ready.new ≡ ready.old) }
 {
-    ready.grow()?;
-    let grown = passing.grow();
+    passing.grow()?;
+    let grown = ready.grow();
     if grown.is_err() {
-        ready.shrink();
+        passing.shrink();
     }
     grown
 }

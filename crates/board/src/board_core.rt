@@ -9,6 +9,7 @@ ghost use Rattle.board.specs.Legal.{IsNoWorker, MayManage, IsOpen, pipelines, is
 
 use crate::allowance::Used;
 use crate::entry::BoardEntry;
+use crate::lines::JobLines;
 use crate::log::{BoardLog, reserve_entries};
 use crate::pipeline::Pipeline;
 use crate::ready::Ready;
@@ -47,8 +48,9 @@ pub struct BoardCore<W: Work> {
     pub(crate) alloc: Global,
     pub(crate) log: Vec<BoardEntry<W::Ask>>,
     pub(crate) pipes: Vec<Pipeline<W, W::Out>>,
-    /// In line stands each pipeline of which a job may be taken.
-    pub(crate) ready: Ready,
+    /// In a worker's line stands each pipeline of which it may take a job, and in the first line, that of all other callers,
+    /// each of which anybody may.
+    pub(crate) ready: JobLines,
     /// In line stands each chain of which a request may be passed on.
     pub(crate) passing: Ready,
     /// For how many entries room is kept in `log`, since they may not be refused for want of memory.
@@ -68,11 +70,11 @@ impl<W: Work> Model for BoardCore<W> {
     ghost use Rattle.board.specs.Legal.{is_shut};
     ghost use Rattle.board.specs.Kept.{IsKeptBoard, owed_by};
     ghost use Rattle.board.specs.Allowance.{IsKeptUsed};
-    ghost use Rattle.board.specs.Ready.{HasJob, HasRequest, IsReadyFor};
+    ghost use Rattle.board.specs.Ready.{HasRequest, IsReadyFor, AreReady};
 
     ghost view = { λ b. b.log.items };
 
-    ghost invariant = { λ b. IsKeptBoard W.asked W.meaning b.pipes.items b.log.items × (is_shut b.log.items ≡ b.shut) × (vec_len b.log + b.owed ≤ vec_capacity b.log) × (b.owed ≡ owed_by b.pipes.items + (if b.shut then 0 else 1)) × IsKeptUsed W.weight b.used b.log.items × IsReadyFor HasJob b.pipes.items b.ready × IsReadyFor HasRequest b.pipes.items b.passing };
+    ghost invariant = { λ b. IsKeptBoard W.asked W.meaning b.pipes.items b.log.items × (is_shut b.log.items ≡ b.shut) × (vec_len b.log + b.owed ≤ vec_capacity b.log) × (b.owed ≡ owed_by b.pipes.items + (if b.shut then 0 else 1)) × IsKeptUsed W.weight b.used b.log.items × AreReady b.pipes.items b.ready × IsReadyFor HasRequest b.pipes.items b.passing };
 }
 
 impl<W: Work> Told for BoardCore<W> {
@@ -96,7 +98,7 @@ impl<W: Work> BoardCore<W> {
             alloc,
             log,
             pipes: Vec::new(alloc),
-            ready: Ready::new(alloc),
+            ready: JobLines::new(alloc)?,
             passing: Ready::new(alloc),
             owed: 1,
             shut: false,

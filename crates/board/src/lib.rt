@@ -14,6 +14,7 @@ mod following;
 mod handing_out;
 mod lasting;
 mod laws;
+mod lines;
 mod log;
 mod mask;
 mod masking;

@@ -32,6 +32,7 @@ impl<W: Work> BoardCore<W> {
         place.mask = mask;
         self.log
             .push_reserved(BoardEntry::Mask { caller, pipe, mask });
+        self.ready.add(pipe as usize);
         Ok(())
     }
 }

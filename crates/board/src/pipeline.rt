@@ -2,7 +2,7 @@
 
 ghost use Rattle.std.specs.Prelude.{◌≡◌, MatchBool};
 ghost use Rattle.board.specs.Entries.{has};
-ghost use Rattle.board.specs.Ready.{Admits};
+ghost use Rattle.board.specs.Ready.{Admits, HasJobFor};
 
 use crate::mask::is_masked;
 use crate::stage::Stage;
@@ -21,6 +21,13 @@ pub(crate) struct Pipeline<J, F> {
 }
 
 impl<J: Drop, F: Drop> Pipeline<J, F> {
+    /// Whether there is a job that this caller may take.
+    pub(crate) fn has_job_for(&self, caller: u32) -> bool
+        ensures { MatchBool result (HasJobFor caller self.now) (HasJobFor caller self.now → ⊥) }
+    {
+        self.stage.may_serve() && self.admits(caller)
+    }
+
     /// Whether this caller may take its jobs.
     pub(crate) fn admits(&self, caller: u32) -> bool
         ensures { MatchBool result (Admits self.now caller) (Admits self.now caller → ⊥) }

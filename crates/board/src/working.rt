@@ -7,7 +7,7 @@ ghost use Rattle.board.specs.Legal.{Is, MayFinish, LegalBoard};
 
 use crate::board_core::BoardCore;
 use crate::entry::BoardEntry;
-use crate::serving::{next_job, next_request};
+use crate::serving::next_request;
 use crate::work::Work;
 use request_queue::Served;
 use std::marker::Model;
@@ -42,7 +42,7 @@ impl<W: Work> BoardCore<W> {
         ensures ready { IfSome result (λ t. MayFinish W.meaning (entries_of t.slip.pipe self.new) caller t.slip.number (W.meaning (W.asked t.job))) }
         ensures legal { LegalBoard self.new }
     {
-        let p = next_job(&self.pipes, &mut self.ready, caller)?;
+        let p = self.ready.next_job(&self.pipes, caller)?;
         let place = &mut self.pipes[p];
         let Served {
             number,

@@ -83,14 +83,15 @@ empty-posted k = record {
   unshut = λ first. refl;
 }
 
-pub new-ready : {W : Type 0} (registry : SharedRegistry) (board : SharedBoard W Ask Finished) (workers : ℕ) (p : Passes Ask) (s : State) → ArePassesOn board registry p → AreNew p
+pub new-ready : {W : Type 0} (registry : SharedRegistry) (board : SharedBoard W Ask Finished) (workers : ℕ) (p : Passes Ask) (s : State) → ArePassesOn board registry p → AreNew p → workers ≤ 16
     → s ≡ record { workers = workers; walk = start 0; registry = Some p.registry; board = Some p.board } → IsReady registry board s
-new-ready registry board workers p s at new is =
+new-ready registry board workers p s at new few is =
     subst (IsReady registry board) (sym is) (record {
       calls_registry = ap (λ n. Some n) at.1;
       calls_board = ap (λ n. Some n) at.0;
       stands = subst (Stands []) (is-empty (knows p.registry) new.registry.0 new.registry.1 new.registry.2) (empty-stands (knows p.registry));
       posted = subst (Posted (start 0)) (is-empty (knows p.board) new.board.0 new.board.1 new.board.2) (empty-posted (knows p.board));
+      few = few;
     })
 
 -- ---- the board is shut

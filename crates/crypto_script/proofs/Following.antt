@@ -75,6 +75,7 @@ not-called n (event.Go by pipe) e = e
 not-called n (event.Collect by pipe to) e = e
 not-called n (event.Close by pipe) e = e
 not-called n (event.Share by pipe) e = e
+not-called n (event.Mask by pipe mask) e = e
 not-called n (event.Shut by) e = e
 not-called n (event.Take by pipe number) e = refl
 not-called n (event.Finish by pipe number) e = refl

@@ -409,22 +409,7 @@ module _ (laws : Laws) (first : State) where
       pub end-goes : Writes (AnswersEnd s s' []) y z → GoesOn first s'
       end-goes step = goes-then first s s' going.led.goes (ended-goes s s' [] step.0 step.1)
 
--- ---- malformed lines
-
-pub or_later : (m b t : Bool) → ((m || b) || t) ≡ (m || (b || t))
-or_later true b t = refl
-or_later false b t = refl
-
--- ---- a reply, written
-
-pub reply-written : (IsReply : List ℕ → Type 0) (held held' : Option (List ℕ)) (reply piece : List ℕ) → IsReply reply → piece ≡ reply → Appends held held' piece → Writes IsReply held held'
-reply-written IsReply held held' reply piece made same written = (reply, made, subst (Appends held held') same written)
-
-pub reply-broken : (s s' : State) (IsReply : List ℕ → Type 0) (held held' : Option (List ℕ)) (reply piece : List ℕ) → IsReply reply → piece ≡ reply → AppendsFront held held' piece → Breaks s s' IsReply held held'
-reply-broken s s' IsReply held held' reply piece made same written = inr (reply, made, subst (AppendsFront held held') same written)
-
-pub reply-stopped : (s s' : State) (IsReply : List ℕ → Type 0) (held : Option (List ℕ)) → GoesOn s s' → Breaks s s' IsReply held held
-reply-stopped s s' IsReply held goes_on = inl (goes_on, keeps-same held)
+-- ---- nothing is written
 
 -- nothing is a front of the text of any script
 pub nothing_fronted : (workers : ℕ) (left held : Option (List ℕ)) (r : List RegEntry) (b : List (BoardEntry Ask)) → IfSome left (λ script. Gains held held (IsFrontText workers (start 0) 0 (script_of script) r b))

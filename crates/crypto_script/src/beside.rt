@@ -105,6 +105,7 @@ fn answer_script<S: Source, K: Sink, G: Gate, R: Threads + Wait + Sync>(
     out: &mut K,
 ) -> (Passes<Ask>, Result<bool, RunError>)
     requires lock { ArePassesOn board.now registry.now passes }
+    requires few { workers ≤ 16 }
     requires new { AreNew passes }
     ensures lock { ArePassesOn board.now registry.now result.0 }
     ensures answers { AnswersSource workers (S.left src.old) (S.left src.new) passes result.0 result.1 (K.held out.old) (K.held out.new) }
@@ -152,6 +153,7 @@ fn crew_script<S: Source, K: Sink, G: Gate + Sync, R: Threads + Wait + Sync>(
 {
     let mut main = |passes: Passes<Ask>| -> (Passes<Ask>, Result<bool, RunError>)
         requires lock { ArePassesOn board.now registry.now passes }
+        requires few { workers ≤ 16 }
         requires new { AreNew passes }
         ensures lock { ArePassesOn board.entry.now registry.entry.now result.0 }
         ensures answers { AnswersSource workers (S.left src.entry.now) (S.left src.exit.now) passes result.0 result.1 (K.held out.entry.now) (K.held out.exit.now) }

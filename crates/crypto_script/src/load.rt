@@ -45,6 +45,7 @@ fn answer_load<G: Gate, R: Threads + Wait + Sync>(
     passes: Passes<Ask>,
 ) -> (Passes<Ask>, Result<[u8; 32], AllocError>)
     requires lock { ArePassesOn board.now registry.now passes }
+    requires few { options.now.workers ≤ 16 }
     requires new { AreNew passes }
     ensures lock { ArePassesOn board.now registry.now result.0 }
     ensures loads { Loads options.now.workers options.now.seed options.now.count passes result.0 result.1 }
@@ -90,6 +91,7 @@ fn crew_load<G: Gate + Sync, R: Threads + Wait + Sync>(
 {
     let mut main = |passes: Passes<Ask>| -> (Passes<Ask>, Result<[u8; 32], AllocError>)
         requires lock { ArePassesOn board.now registry.now passes }
+        requires few { options.now.workers ≤ 16 }
         requires new { AreNew passes }
         ensures lock { ArePassesOn board.entry.now registry.entry.now result.0 }
         ensures loads { Loads options.entry.now.workers options.entry.now.seed options.entry.now.count passes result.0 result.1 }

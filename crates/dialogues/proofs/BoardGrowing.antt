@@ -37,6 +37,7 @@ no-call n before (event.Go by pipe) e = if-other _ _ e
 no-call n before (event.Collect by pipe to) e = if-other _ _ e
 no-call n before (event.Close by pipe) e = if-other _ _ e
 no-call n before (event.Share by pipe) e = if-other _ _ e
+no-call n before (event.Mask by pipe mask) e = if-other _ _ e
 no-call n before (event.Shut by) e = if-other _ _ e
 no-call n before (event.Take by pipe number) e = refl
 no-call n before (event.Finish by pipe number) e = refl

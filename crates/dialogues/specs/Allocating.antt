@@ -6,7 +6,7 @@ use Rattle.alg_registry.specs.declared.spec.Spec.{Spec}
 use Rattle.alg_registry.specs.declared.spec.Wrap.{Wrap}
 use Rattle.alg_registry.specs.declared.spec.Wrap.TheVariants.{Plain, Pcrypt, Cryptd}
 use Rattle.board.specs.declared.entry.Shape.{Shape}
-use Rattle.board.specs.declared.entry.Shape.TheVariants.{Pad, Queue}
+use Rattle.board.specs.declared.entry.Shape.TheVariants.{Pad, Queue, Chain}
 use Rattle.templates.specs.declared.driver_plans.Plan.{Plan}
 use Rattle.templates.specs.Looking.{Found, Entry, Fault}
 use Rattle.transforms.specs.Plans.{tag_size_of}
@@ -32,6 +32,7 @@ shape_for workers Cryptd len = Some (Queue (unwrap_or len 1000))
 abbrev pub bound_of : Shape → Option ℕ
 bound_of (Pad lists) = None
 bound_of (Queue max) = Some max
+bound_of (Chain max lists) = Some max
 
 -- the pipeline of this number, of which nothing was asked
 abbrev pub new_pipe : ℕ → Shape → Pipe

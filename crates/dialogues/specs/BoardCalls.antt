@@ -65,6 +65,7 @@ pub data BoardCall : Type 0 where
   Collects : (pipe : ℕ) → (collected : Collected) → BoardCall
   Closes : (pipe : ℕ) → BoardCall
   Shares : (pipe : ℕ) → BoardCall
+  Masks : (pipe : ℕ) → (mask : ℕ) → BoardCall
   Shuts : BoardCall
 
 -- The call that an entry is, where it is one; `before` stands before the entry. To take jobs and to finish them is work.
@@ -77,6 +78,7 @@ board_call_of caller before (event.Go by pipe) = if_own caller by (Goes pipe)
 board_call_of caller before (event.Collect by pipe to) = if_own caller by (Collects pipe (collected_to (entries_of pipe before) to))
 board_call_of caller before (event.Close by pipe) = if_own caller by (Closes pipe)
 board_call_of caller before (event.Share by pipe) = if_own caller by (Shares pipe)
+board_call_of caller before (event.Mask by pipe mask) = if_own caller by (Masks pipe mask)
 board_call_of caller before (event.Shut by) = if_own caller by Shuts
 board_call_of caller before (event.Take by pipe number) = None
 board_call_of caller before (event.Finish by pipe number) = None
@@ -93,6 +95,7 @@ is_called caller (event.Go by pipe) = by == caller
 is_called caller (event.Collect by pipe to) = by == caller
 is_called caller (event.Close by pipe) = by == caller
 is_called caller (event.Share by pipe) = by == caller
+is_called caller (event.Mask by pipe mask) = by == caller
 is_called caller (event.Shut by) = by == caller
 is_called caller _ = false
 

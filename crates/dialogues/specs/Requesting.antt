@@ -4,6 +4,7 @@ use Rattle.kc_base.specs.declared.error_numbers.Errno.TheVariants.{E2BIG, EBADMS
 use Rattle.std_defs.specs.Aes.{seal}
 use Rattle.std_defs.specs.Value.{Value}
 use Rattle.std_defs.specs.Value.Value.{bytes, bad_message, invalid}
+use Rattle.sg_walk.specs.Segments.{Segmented}
 use Rattle.board.specs.declared.entry.Entered.{Entered}
 use Rattle.board.specs.declared.entry.Entered.TheVariants.{InProgress, Busy, NoSpace}
 use Rattle.transforms.specs.declared.request.Dir.{Dir}
@@ -46,7 +47,7 @@ set_tag_size walk n label size = with_label walk n label λ live.
 
 -- ---- `enc T IV AAD TEXT [backlog]`, `dec T IV AAD TEXT [backlog]` and `mac T TEXT [backlog]`
 
-abbrev pub request_of : Dir → List ℕ → List ℕ → List ℕ → Request
+abbrev pub request_of : Dir → List ℕ → List ℕ → Segmented → Request
 request_of dir iv aad text = record { dir = dir; iv = iv; aad = aad; text = text }
 
 abbrev pub value_said : ℕ → Value → Answer
@@ -62,8 +63,9 @@ asked_of walk n live key request = record { plan = live.plan; key = key; tag_siz
 abbrev pub value_of : Asked → Value
 value_of asked = request_value (driver_of asked.plan) asked.key asked.tag_size asked.request
 
+-- its bytes, however the text is cut
 abbrev pub size_of : Request → ℕ
-size_of request = length request.iv + length request.aad + length request.text
+size_of request = length request.iv + length request.aad + length request.text.text
 
 -- pipelines accept 2^20 requests of a script, and 2^26 bytes of them
 abbrev pub is_too_big : Walk → Request → Bool

@@ -13,6 +13,7 @@ use Rattle.script_text.specs.declared.commands.Line.TheVariants.{Cmd}
 use Rattle.templates.specs.declared.driver_plans.AesForm.TheVariants.{AesGeneric}
 use Rattle.templates.specs.declared.driver_plans.GhashForm.TheVariants.{GhashGeneric}
 use Rattle.templates.specs.declared.driver_plans.Plan.TheVariants.{AuthencCbc, Gcm}
+use Rattle.transforms.specs.Cuts.{in_one}
 use Rattle.transforms.specs.declared.request.Dir.TheVariants.{Enc}
 use Rattle.transforms.specs.declared.request.Request.{Request}
 use Rattle.transforms.specs.Asked.{takes}
@@ -67,16 +68,16 @@ module _ (workers i j : ℕ) (la lg : List ℕ) (q v n : ℕ) (iv aad text : Lis
   walk = walk_at i j la lg q v
 
   abbrev asks : Request
-  asks = request_of Enc iv aad text
+  asks = request_of Enc iv aad (in_one text)
 
-  dialogue-a : length iv ≡ 16 → line_dialogue workers walk n (Cmd (command.Enc label_of_a iv aad text false)) ≡ Posts (Submit 0 (asked_of walk n (live_a i la) key_of_a asks)) λ number. refuses (walk_at i j (la ++ n ∷ []) lg (q + 1) (v + size_of asks)) n EINPROGRESS
+  dialogue-a : length iv ≡ 16 → line_dialogue workers walk n (Cmd (command.Enc label_of_a iv aad (in_one text) false)) ≡ Posts (Submit 0 (asked_of walk n (live_a i la) key_of_a asks)) λ number. refuses (walk_at i j (la ++ n ∷ []) lg (q + 1) (v + size_of asks)) n EINPROGRESS
   dialogue-a sized =
       let live = live_a i la in
       let asked = asked_of walk n live key_of_a asks in
       unless-none walk n (not (takes live.plan live.tag_size asks)) EINVAL (requests_in walk n live asked false live.pipe) (ap (λ t. not (t && true)) (eq-eqb (length iv) 16 sized))
       ∙ unless-none walk n (is_too_big walk asks) E2BIG (hands_in walk n live (pipe_at 0 la) asked false None) (fits q (v + size_of asks) few small)
 
-  dialogue-g : length iv ≡ 12 → line_dialogue workers walk n (Cmd (command.Enc label_of_g iv aad text false)) ≡ Posts (Submit 1 (asked_of walk n (live_g j lg) cipher_key asks)) λ number. refuses (walk_at i j la (lg ++ n ∷ []) (q + 1) (v + size_of asks)) n EINPROGRESS
+  dialogue-g : length iv ≡ 12 → line_dialogue workers walk n (Cmd (command.Enc label_of_g iv aad (in_one text) false)) ≡ Posts (Submit 1 (asked_of walk n (live_g j lg) cipher_key asks)) λ number. refuses (walk_at i j la (lg ++ n ∷ []) (q + 1) (v + size_of asks)) n EINPROGRESS
   dialogue-g sized =
       let live = live_g j lg in
       let asked = asked_of walk n live cipher_key asks in
@@ -182,7 +183,7 @@ module _ (registry : PlainRegistry) where
           let asked = asked_on_a n d in
           let v' = v + (length d.iv + length d.associated + length d.text) in
           let more = go (q + 1) v' (la ++ n ∷ []) lg (xs ++ asked ∷ []) ys (omega arith) (omega (arith, first.iv, first.associated, first.text)) in
-          subst (λ t. Comes (followed (line_dialogue workers here n (Cmd (command.Enc (if t then label_of_a else label_of_g) d.iv d.associated d.text false))) later) xs ys (if t then asked ∷ of_a rest else of_a rest) (if not t then asked ∷ of_g rest else of_g rest)) (sym is)
+          subst (λ t. Comes (followed (line_dialogue workers here n (Cmd (command.Enc (if t then label_of_a else label_of_g) d.iv d.associated (in_one d.text) false))) later) xs ys (if t then asked ∷ of_a rest else of_a rest) (if not t then asked ∷ of_g rest else of_g rest)) (sym is)
           (subst (λ D. Comes (followed D later) xs ys (asked ∷ of_a rest) (of_g rest)) (sym (dialogue-a workers i j la lg q v n d.iv d.associated d.text (omega arith) (omega (arith, first.iv, first.associated, first.text)) first.iv))
           (asks-a n (later (walk_at i j (la ++ n ∷ []) lg (q + 1) v')) asked xs ys (of_a rest) (of_g rest) more))
 
@@ -192,7 +193,7 @@ module _ (registry : PlainRegistry) where
           let iv = take 12 d.iv in
           let v' = v + (length iv + length d.associated + length d.text) in
           let more = go (q + 1) v' la (lg ++ n ∷ []) xs (ys ++ asked ∷ []) (omega arith) (omega (arith, first.iv_of_g, first.associated, first.text)) in
-          subst (λ t. Comes (followed (line_dialogue workers here n (Cmd (command.Enc (if t then label_of_a else label_of_g) iv d.associated d.text false))) later) xs ys (if t then asked ∷ of_a rest else of_a rest) (if not t then asked ∷ of_g rest else of_g rest)) (sym is)
+          subst (λ t. Comes (followed (line_dialogue workers here n (Cmd (command.Enc (if t then label_of_a else label_of_g) iv d.associated (in_one d.text) false))) later) xs ys (if t then asked ∷ of_a rest else of_a rest) (if not t then asked ∷ of_g rest else of_g rest)) (sym is)
           (subst (λ D. Comes (followed D later) xs ys (of_a rest) (asked ∷ of_g rest)) (sym (dialogue-g workers i j la lg q v n iv d.associated d.text (omega arith) (omega (arith, first.iv_of_g, first.associated, first.text)) first.iv_of_g))
           (asks-g n (later (walk_at i j la (lg ++ n ∷ []) (q + 1) v')) asked xs ys (of_a rest) (of_g rest) more))
 

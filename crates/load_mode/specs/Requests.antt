@@ -14,6 +14,7 @@ use Rattle.generator.specs.Draws.{drawn}
 use Rattle.templates.specs.declared.driver_plans.AesForm.TheVariants.{AesGeneric}
 use Rattle.templates.specs.declared.driver_plans.GhashForm.TheVariants.{GhashGeneric}
 use Rattle.templates.specs.declared.driver_plans.Plan.TheVariants.{AuthencCbc, Gcm}
+use Rattle.transforms.specs.Cuts.{in_one}
 use Rattle.transforms.specs.declared.request.Dir.TheVariants.{Enc}
 use Rattle.transforms.specs.declared.request.Request.{Request}
 use Rattle.transforms.specs.Tagged.{tagged}
@@ -61,12 +62,12 @@ is_on_a number = number % 2 == 0
 
 abbrev pub asked_on_a : ℕ → Drawn → Asked
 asked_on_a number d =
-    record { plan = AuthencCbc AesGeneric; key = key_of_a; tag_size = 32; request = request_of Enc d.iv d.associated d.text; client = 0; line = number }
+    record { plan = AuthencCbc AesGeneric; key = key_of_a; tag_size = 32; request = request_of Enc d.iv d.associated (in_one d.text); client = 0; line = number }
 
 -- with the first 12 bytes of the IV
 abbrev pub asked_on_g : ℕ → Drawn → Asked
 asked_on_g number d =
-    record { plan = Gcm AesGeneric GhashGeneric; key = cipher_key; tag_size = 16; request = request_of Enc (take 12 d.iv) d.associated d.text; client = 0; line = number }
+    record { plan = Gcm AesGeneric GhashGeneric; key = cipher_key; tag_size = 16; request = request_of Enc (take 12 d.iv) d.associated (in_one d.text); client = 0; line = number }
 
 abbrev pub asked_for : ℕ → Drawn → Asked
 asked_for number d = if is_on_a number then asked_on_a number d else asked_on_g number d
@@ -92,11 +93,11 @@ abbrev pub with_hmac : List ℕ → List ℕ → List ℕ
 with_hmac associated ciphertext = ciphertext ++ take 32 (hmac mac_key (associated ++ ciphertext))
 
 abbrev pub sealed_on_a : Request → List ℕ
-sealed_on_a q = option_map_or (with_hmac q.aad) (cbc_seal (seal cipher_key) q.iv q.text) []
+sealed_on_a q = option_map_or (with_hmac q.aad) (cbc_seal (seal cipher_key) q.iv q.text.text) []
 
 -- the ciphertext by GCM and its tag (SP 800-38D, 7.1)
 abbrev pub sealed_on_g : Request → List ℕ
-sealed_on_g q = tagged 16 (gcm_seal (seal cipher_key) q.iv q.aad q.text)
+sealed_on_g q = tagged 16 (gcm_seal (seal cipher_key) q.iv q.aad q.text.text)
 
 -- ---- the line
 

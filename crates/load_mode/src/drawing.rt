@@ -1,6 +1,7 @@
 //! The lines of a load.
 
 ghost use Rattle.std.specs.Prelude.{◌≡◌, ◌+◌, ◌*◌, ◌%◌, ◌≤◌, ◌∷◌, [], None, false, IfOk, OnOk};
+ghost use Rattle.transforms.specs.Cuts.{in_one};
 ghost use Rattle.script_text.specs.Sizes.{IsShortLine};
 ghost use Rattle.script_text.specs.declared.commands.Command.TheVariants.{Alloc, Enc, Key};
 ghost use Rattle.script_text.specs.declared.commands.Line.TheVariants.{Cmd};
@@ -10,6 +11,7 @@ ghost use Rattle.load_mode.specs.Lines.{opening, request_line};
 use generator::Generator;
 use kc_base::Bytes;
 use script_text::{Command, Line};
+use sg_walk::Segs;
 use std::alloc::{AllocError, Global};
 
 /// The label of the transform that has the requests of even numbers.
@@ -77,6 +79,15 @@ fn text_length(draw: u64) -> usize
     16 * (1 + (draw % 16) as usize)
 }
 
+// A text in one segment.
+fn one_segment(alloc: Global, text: Vec<u8>) -> Result<Segs, AllocError>
+    ensures { IfOk result (λ segs. segs ≡ in_one text.items) }
+{
+    let mut parts = Vec::with_capacity(alloc, 1)?;
+    parts.push(Bytes::from_vec(text))?;
+    Ok(Segs::from_parts(parts))
+}
+
 // `enc T IV AAD TEXT`
 fn enc_line(
     alloc: Global,
@@ -85,13 +96,13 @@ fn enc_line(
     associated: &[u8],
     text: Vec<u8>,
 ) -> Result<Line, AllocError>
-    ensures { IfOk result (λ line. line ≡ Cmd (Enc label.now iv.now associated.now text.items false)) }
+    ensures { IfOk result (λ line. line ≡ Cmd (Enc label.now iv.now associated.now (in_one text.items) false)) }
 {
     Ok(Line::Cmd(Command::Enc {
         label: Bytes::copy_of(alloc, label)?,
         iv: Bytes::copy_of(alloc, iv)?,
         aad: Bytes::copy_of(alloc, associated)?,
-        text: Bytes::from_vec(text),
+        text: one_segment(alloc, text)?,
         backlog: false,
     }))
 }

@@ -23,11 +23,10 @@ use Rattle.script_session.specs.Changing.{AreApart, Changes, HoldsFor, counting,
 use Rattle.script_session.specs.Holding.{Done}
 use Rattle.script_session.proofs.Standing.{stands-more}
 use Rattle.session_calls.proofs.Boarding.{kept-same}
-use Rattle.session_calls.proofs.BoardCalls.{is-open}
 use Rattle.std.proofs.lemmas.Bool.{ltb-false}
 use Rattle.std.proofs.lemmas.List.{length-map}
 use Rattle.board.specs.Entries.{entries_of, submissions}
-use Rattle.board.proofs.Handing.{most_handed_out}
+use Rattle.board.specs.Handing.{HandsOutAtMost}
 use Rattle.script_session.proofs.Placed.{Split, uses-replaced}
 use Rattle.script_session.proofs.Rules.{asked-nothing}
 
@@ -267,10 +266,10 @@ released-closed live pipe k l has closed =
     by_other (Some p) apart on = closed.others p (apart-of pipe p apart) on
 
 -- a pipeline that owes nothing has handed out as much as it accepted
-pub nothing-owed : (k : Known (BoardEntry Ask)) (live : Live) (pipe : Pipe) → live.pipe ≡ Some pipe → LegalBoard k.seen → KnowsPipe k pipe → owes live.pipe ≡ false → pipe.delivered ≡ length pipe.lines
-nothing-owed k live pipe has legal on paid =
+pub nothing-owed : ((h : List (BoardEntry Ask)) (p : ℕ) → HandsOutAtMost h p) → (k : Known (BoardEntry Ask)) (live : Live) (pipe : Pipe) → live.pipe ≡ Some pipe → LegalBoard k.seen → KnowsPipe k pipe → owes live.pipe ≡ false → pipe.delivered ≡ length pipe.lines
+nothing-owed law k live pipe has legal on paid =
     let es = entries_of pipe.number k.seen in
-    let most = most_handed_out k.seen pipe.number legal (is-open pipe.bound es on.opened) in
+    let most = law k.seen pipe.number legal in
     let given = on.delivered in
     let had : length (submissions es) ≡ length pipe.lines = sym (length-map (submissions es) line_of) ∙ ap length on.lines in
     let test : nat_lt pipe.delivered (length pipe.lines) ≡ false = ap owes (sym has) ∙ paid in

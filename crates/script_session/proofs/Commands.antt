@@ -1,6 +1,6 @@
 -- Commands, lines, and their text.
 use Rattle.std.proofs.Common.{◌≡◌, ℕ, List, [], ◌++◌, Result, refl, sym, ap, subst, ◌∙◌}
-use Rattle.std.specs.Prelude.{MatchResult}
+use Rattle.std.specs.Prelude.{◌≤◌, MatchResult}
 use Rattle.std.specs.List.{flat_map}
 use Rattle.transforms.specs.declared.ask.Ask.{Ask}
 use Rattle.transforms.specs.declared.request.Finished.{Finished}
@@ -87,4 +87,4 @@ replies {width} d s s' answers text text' held e =
 
 pub ready : {W : Type 0} {width : ℕ} (registry : SharedRegistry) (board : SharedBoard W Ask Finished) (d : Dialogue) (s s' : State) (answers answers' : List Answer) → IsReady registry board s → HoldsBy width d s s' answers answers' → IsReady registry board s'
 ready {W} {width} registry board d s s' answers answers' is held =
-    record { calls_registry = held.locks.registry ∙ is.calls_registry; calls_board = held.locks.board ∙ is.calls_board; stands = held.done.stands; posted = held.done.posted }
+    record { calls_registry = held.locks.registry ∙ is.calls_registry; calls_board = held.locks.board ∙ is.calls_board; stands = held.done.stands; posted = held.done.posted; few = subst (λ w. w ≤ 16) (sym held.locks.workers) is.few }

@@ -4,13 +4,15 @@ use Rattle.std.specs.Prelude.{All}
 use Rattle.std.specs.Option.{option_map}
 use Rattle.std.specs.List.{flat_map}
 use Rattle.std.proofs.lemmas.Bool.{eqb-true}
+use Rattle.std.proofs.lemmas.List.{length-map}
 use Rattle.std.proofs.lemmas.List.Elements.{All-head, All-tail}
 use Rattle.kc_base.specs.declared.callback_list.Callback.{Callback}
 use Rattle.board.specs.declared.entry.BoardEntry.{BoardEntry}
 use Rattle.board.specs.declared.entry.BoardEntry.TheVariants as event
 use Rattle.board.specs.Entries.{entries_of, submissions, front}
-use Rattle.board.specs.Handing.{completions}
+use Rattle.board.specs.Handing.{AllHandedOutIsDrained, completions}
 use Rattle.board.specs.Legal.{MayManage, LegalBoard}
+use Rattle.board.specs.Staying.{IsDrained}
 use Rattle.reply_text.specs.Answers.{text_of}
 use Rattle.reply_text.specs.declared.answers.Answer.{Answer}
 use Rattle.transforms.specs.declared.ask.Ask.{Ask}
@@ -24,8 +26,7 @@ use Rattle.dialogues.specs.Turns.{IsTurn, ended, joined, posting}
 use Rattle.dialogues.specs.Walk.{Walk, Live, Pipe}
 use Rattle.session_calls.specs.Asking.{Asked}
 use Rattle.session_calls.specs.Passes.{RegPass, BoardPass, known, lock_of}
-use Rattle.session_calls.specs.Pipelines.{KnowsPipe, Called, Changed, Drained, IsShut, notice_by}
-use Rattle.session_calls.proofs.BoardCalls.{all-drained}
+use Rattle.session_calls.specs.Pipelines.{KnowsPipe, Called, Changed, Drained, IsShut, notice_by, line_of}
 use Rattle.session_calls.proofs.Boarding.{kept-same, called-more}
 use Rattle.script_session.specs.Changing.{Changes}
 use Rattle.script_session.specs.Ending.{LeadsBy, part, Moves, MovesAll, ArePosted, AreAllPaid, IsPaid, end_said, place_of, EndsWith, AnswersEnd, EndsShut}
@@ -171,8 +172,17 @@ among (x ∷ xs) p k some on paid = by_pipe x.pipe (is_at p x.pipe) refl some (A
     by_pipe (Some pipe) true at some on paid rest = (pipe, eqb-true pipe.number p at, on, paid)
     by_pipe pipe false at some on paid rest = rest (omega (arith, some))
 
-pub ends-shut : (lives : List Live) (k l : Known (BoardEntry Ask)) → ArePosted lives k → AreAllPaid lives → IsShut k l → EndsShut l
-ends-shut lives k l are paid shut =
+abbrev HandingAllDrains : Type 0
+HandingAllDrains = (h : List (BoardEntry Ask)) (p : ℕ) → AllHandedOutIsDrained h p
+
+-- a pipeline that handed out as much as it accepted is drained
+paid-drained : HandingAllDrains → (k : Known (BoardEntry Ask)) (pipe : Pipe) → LegalBoard k.seen → KnowsPipe k pipe → pipe.delivered ≡ length pipe.lines → IsDrained (entries_of pipe.number k.seen)
+paid-drained law k pipe legal on paid =
+    let es = entries_of pipe.number k.seen in
+    law k.seen pipe.number legal (on.delivered ∙ (paid ∙ (ap length (sym on.lines) ∙ length-map (submissions es) line_of)))
+
+pub ends-shut : HandingAllDrains → (lives : List Live) (k l : Known (BoardEntry Ask)) → ArePosted lives k → AreAllPaid lives → IsShut k l → EndsShut l
+ends-shut law lives k l are paid shut =
     let before = shut.before in
     let m : Known (BoardEntry Ask) = sees k before in
     let same = shut.called.number in
@@ -184,6 +194,6 @@ ends-shut lives k l are paid shut =
           let some : 1 ≤ owners p lives = subst (λ ls. 1 ≤ owners p ls) are.1 (are.2.owned p owns) in
           let one = among lives p k some (subst (All (IsOn k)) are.1 are.2.pipes) paid in
           let pipe = one.0 in
-          let drained = all-drained m pipe shut.kept.legal (shut.kept.pipes pipe one.2) one.3 in
+          let drained = paid-drained law m pipe shut.kept.legal (shut.kept.pipes pipe one.2) one.3 in
           subst (λ n. front (entries_of n before) ≡ length (submissions (entries_of n before))) one.1 drained.0;
     }

@@ -17,5 +17,4 @@ pub mod Probed
 pub mod Commands
 pub mod Leading
 pub mod Moving
-pub mod Switching
 pub mod Ended

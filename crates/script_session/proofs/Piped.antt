@@ -9,9 +9,8 @@ use Rattle.kc_base.specs.declared.error_numbers.Errno.{Errno}
 use Rattle.kc_base.specs.declared.error_numbers.Errno.TheVariants.{EINVAL, E2BIG, EBUSY, EINPROGRESS, ENOSPC}
 use Rattle.board.specs.declared.entry.BoardEntry.{BoardEntry}
 use Rattle.board.specs.Entries.{entries_of, submissions}
-use Rattle.board.specs.Handing.{completions}
+use Rattle.board.specs.Handing.{HandsOutAtMost, completions}
 use Rattle.board.specs.Legal.{LegalBoard}
-use Rattle.board.proofs.Handing.{most_handed_out}
 use Rattle.transforms.specs.declared.ask.Ask.{Ask}
 use Rattle.transforms.specs.declared.request.Finished.{Finished}
 use Rattle.reply_text.specs.declared.answers.Answer.{Answer}
@@ -40,7 +39,6 @@ use Rattle.dialogues.specs.Walk.{Walk, Live, Pipe, is_of, live_of, with_live, wi
 use Rattle.script_session.specs.States.{HasPipe, Posted, is_at}
 use Rattle.script_session.specs.Changing.{HoldsFor, counting}
 use Rattle.session_calls.proofs.Boarding.{kept-same}
-use Rattle.session_calls.proofs.BoardCalls.{is-open}
 use Rattle.script_session.proofs.Changing.{changes-pipe, changes-kept}
 
 -- ---- the walk with a transform as it was
@@ -136,13 +134,9 @@ drain-holds k l live live' pipe n count callbacks answers answers' has free drai
     })
 
 -- it hands out no more than it accepted
-pub may-deliver : (k l : Known (BoardEntry Ask)) (live : Live) (pipe : Pipe) (count : ℕ) (callbacks : List (Callback Finished)) → live.pipe ≡ Some pipe → Drained k l pipe callbacks → count ≡ completions callbacks → MayDeliver count live.pipe
-may-deliver k l live pipe count callbacks has drained counts =
-    let es = entries_of pipe.number l.seen in
-    let most = most_handed_out l.seen pipe.number drained.legal (is-open pipe.bound es drained.now.opened) in
-    let given = drained.now.delivered in
-    let had : length (submissions es) ≡ length pipe.lines = sym (length-map (submissions es) line_of) ∙ ap length drained.now.lines in
-    let le : pipe.delivered + count ≤ length pipe.lines = omega (arith, most, given, had, counts) in
+pub may-deliver : (live : Live) (pipe : Pipe) (count : ℕ) (callbacks : List (Callback Finished)) → live.pipe ≡ Some pipe → pipe.delivered + completions callbacks ≡ length pipe.lines → count ≡ completions callbacks → MayDeliver count live.pipe
+may-deliver live pipe count callbacks has all counts =
+    let le : pipe.delivered + count ≤ length pipe.lines = omega (arith, all, counts) in
     subst (MayDeliver count) (sym has) le
 
 -- ---- requests
@@ -370,10 +364,10 @@ poll-holds k l live live' pipe n count callbacks all answers answers' has polled
     })
 
 -- it hands out no more than it accepted
-pub may-deliver-polled : (k l : Known (BoardEntry Ask)) (live : Live) (pipe : Pipe) (count : ℕ) (callbacks : List (Callback Finished)) (all : Bool) → live.pipe ≡ Some pipe → Polled k l pipe callbacks all → count ≡ completions callbacks → MayDeliver count live.pipe
-may-deliver-polled k l live pipe count callbacks all has polled counts =
+pub may-deliver-polled : ((h : List (BoardEntry Ask)) (p : ℕ) → HandsOutAtMost h p) → (k l : Known (BoardEntry Ask)) (live : Live) (pipe : Pipe) (count : ℕ) (callbacks : List (Callback Finished)) (all : Bool) → live.pipe ≡ Some pipe → Polled k l pipe callbacks all → count ≡ completions callbacks → MayDeliver count live.pipe
+may-deliver-polled law k l live pipe count callbacks all has polled counts =
     let es = entries_of pipe.number l.seen in
-    let most = most_handed_out l.seen pipe.number polled.legal (is-open pipe.bound es polled.now.opened) in
+    let most = law l.seen pipe.number polled.legal in
     let given = polled.now.delivered in
     let had : length (submissions es) ≡ length pipe.lines = sym (length-map (submissions es) line_of) ∙ ap length polled.now.lines in
     let le : pipe.delivered + count ≤ length pipe.lines = omega (arith, most, given, had, counts) in

@@ -12,6 +12,7 @@ ghost use Rattle.session_calls.specs.Passes.{known, CallsBoard};
 
 use crate::ending::{drain_last_all, release_all};
 use crate::scripts::Session;
+use board::only_collects_hand_out;
 use crew::Gate;
 use reply_text::Answer;
 use script_text::Line;
@@ -20,7 +21,7 @@ use shared_board::SharedBoard;
 use shared_registry::SharedRegistry;
 use std::sync::Wait;
 use std::thread::Threads;
-use transforms::Job;
+use transforms::{Ask, Job};
 
 impl Session {
     /// Answers a line as `line` does, and adds its answers, not their text, to those that are there. `Stop` comes for want of memory
@@ -65,6 +66,7 @@ impl Session {
             (λ _. Stops self.old self.new) }
         ensures shut { OnOk result (EndsShut (known self.new.board)) }
     {
+        only_collects_hand_out::<Ask>();
         release_all(rt, board, &mut self.board, &mut self.lives)?;
         drain_last_all(
             self.alloc,

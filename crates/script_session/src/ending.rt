@@ -12,6 +12,7 @@ use crate::answers::put_all;
 use crate::callbacks::{count_completions, tell};
 use crate::scripts::Session;
 use crate::transform::Transform;
+use board::only_collects_hand_out;
 use crew::Gate;
 use kc_base::{Bytes, Callbacks};
 use reply_text::Answer;
@@ -19,7 +20,7 @@ use session_calls::{BoardCaller, Stop};
 use shared_board::SharedBoard;
 use std::alloc::{AllocError, Global};
 use std::sync::Wait;
-use transforms::Job;
+use transforms::{Ask, Job};
 
 // Lets the pipeline of a transform go, if it is held.
 fn release_live<R: Wait>(
@@ -163,6 +164,7 @@ impl Session {
         ensures shut { OnOk result (EndsShut (known self.new.board)) }
         ensures unwritten { OnErr result (reply.new ≡ reply.old) }
     {
+        only_collects_hand_out::<Ask>();
         let mut answers = Vec::new(self.alloc);
         release_all(rt, board, &mut self.board, &mut self.lives)?;
         drain_last_all(

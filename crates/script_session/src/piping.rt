@@ -1,6 +1,6 @@
 //! What lines do with the pipeline of one transform.
 
-ghost use Rattle.std.specs.Prelude.{◌≡◌, ◌↔◌, ◌≤◌, ◌∷◌, [], MatchResult, IfOk, IsTrue, true, false};
+ghost use Rattle.std.specs.Prelude.{◌≡◌, ◌≢◌, ◌↔◌, ◌≤◌, ◌∷◌, [], MatchResult, IfOk, IfErr, IsTrue, true, false};
 ghost use Rattle.board.specs.declared.board_core.BoardErr.TheVariants as BoardErr;
 ghost use Rattle.script_session.specs.Holding.{SeesOn};
 ghost use Rattle.script_session.specs.Offering.{Offered};
@@ -26,7 +26,7 @@ use crate::answers::{refuse, say, value_answer};
 use crate::callbacks::{count_completions, tell};
 use crate::transform::Transform;
 use alg_registry::Wrap;
-use board::{BoardErr, Entered};
+use board::{BoardErr, Entered, only_collects_hand_out};
 use crew::Gate;
 use kc_base::{Callbacks, Errno};
 use reply_text::Answer;
@@ -34,7 +34,7 @@ use session_calls::{BoardCaller, Lines, Pipe, Stop};
 use shared_board::SharedBoard;
 use std::alloc::Global;
 use std::sync::Wait;
-use transforms::Job;
+use transforms::{Ask, Job};
 
 /// `drain T` of a transform. It does what jobs there are until those of the pipeline are done.
 pub fn drain_live<R: Wait, G: Gate>(
@@ -88,6 +88,7 @@ fn offer<R: Wait>(
     ensures allowed { MatchResult result
         (λ _. IsAllowed ask_size (known caller.old).seen (known caller.old).number (arc_value job.ask))
         (λ e. (e ≡ BoardErr.TooBig) ↔ (IsAllowed ask_size (known caller.old).seen (known caller.old).number (arc_value job.ask) → ⊥)) }
+    ensures served { IfErr result (λ e. e ≢ BoardErr.NoWorker) }
 {
     match pipe.bound {
         None => match caller.submit(rt, board, pipe, job) {
@@ -143,6 +144,8 @@ pub fn take_job<R: Wait>(
             Ok(false)
         }
         Err(BoardErr::Memory) => Err(Stop::Memory),
+        // No line masks a pad.
+        Err(BoardErr::NoWorker) => unreachable!(),
     }
 }
 
@@ -222,6 +225,7 @@ pub fn poll_live<R: Wait>(
         (λ _. HoldsFor (λ walk. polls_in walk line live.old live.old.pipe) live.old live.new (known caller.old) (known caller.new) [] answers.old.items answers.new.items)
         (λ _. SeesOn (known caller.old) (known caller.new)) }
 {
+    only_collects_hand_out::<Ask>();
     let Some(pipe) = live.pipe() else {
         return say(answers, Answer::Polled { line, count: 0 });
     };
@@ -258,6 +262,7 @@ pub fn close_live<R: Wait>(
     ensures lock { lock_of caller.new ≡ lock_of caller.old }
     ensures released { Released live.now (known caller.old) (known caller.new) }
 {
+    only_collects_hand_out::<Ask>();
     let Some(pipe) = live.pipe() else {
         return;
     };
@@ -269,8 +274,10 @@ const QUEUE_LENGTH: u32 = 1000;
 
 // How many lists a pad has beside so many workers.
 fn lists_beside_workers(workers: u32) -> u32
+    requires few { workers ≤ 16 }
     ensures lists { result ≡ lists_beside workers }
     ensures some { 1 ≤ result }
+    ensures most { result ≤ 16 }
 {
     if workers < 1 { 1 } else { workers }
 }
@@ -302,6 +309,7 @@ pub fn create_pipe<R: Wait>(
     requires at { CallsBoard board.now caller.old }
     requires caller { IsNoWorker (known caller.old).number }
     requires fits { is_queue_length length ≡ true }
+    requires few { workers ≤ 16 }
     ensures lock { lock_of caller.new ≡ lock_of caller.old }
     ensures created { MatchResult result
         (λ pipe. Created (shape_for workers wrap length) pipe (known caller.old) (known caller.new))

@@ -8,6 +8,7 @@ use aes_block::{Aes, BlockCipher};
 use kc_base::{Bytes, Errno};
 use reply_text::Answer;
 use session_calls::Stop;
+use sg_walk::Segs;
 use std::alloc::{AllocError, Global};
 use transforms::{Dir, Request};
 
@@ -38,13 +39,13 @@ pub fn answer_aes(alloc: Global, line: u32, key: &[u8], block: &[u8]) -> Result<
     }
 }
 
-/// A request of its own, with copies of the bytes.
+/// A request of its own, with copies of the bytes. Its text is cut as the line's.
 pub fn request_with(
     alloc: Global,
     dir: Dir,
     iv: &[u8],
     aad: &[u8],
-    text: &[u8],
+    text: &Segs,
 ) -> Result<Request, AllocError>
     ensures { IfOk result (λ request. request ≡ request_of dir iv.now aad.now text.now) }
 {
@@ -52,6 +53,6 @@ pub fn request_with(
         dir,
         iv: Bytes::copy_of(alloc, iv)?,
         aad: Bytes::copy_of(alloc, aad)?,
-        text: Bytes::copy_of(alloc, text)?,
+        text: text.copy(alloc)?,
     })
 }

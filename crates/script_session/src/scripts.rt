@@ -39,6 +39,7 @@ use kc_base::{Bytes, Errno};
 use reply_text::Answer;
 use script_text::{Command, Line};
 use session_calls::{BoardCaller, RegistryCaller, Stop};
+use sg_walk::Segs;
 use shared_board::{BoardPass, SharedBoard};
 use shared_registry::{RegPass, SharedRegistry};
 use std::alloc::Global;
@@ -197,7 +198,7 @@ impl Session {
         requires stands { Stands self.old.walk.lives (known self.old.registry) }
         requires posted { Posted self.old.walk (known self.old.board) }
         requires aad { length asked.aad < 2 ^ 32 }
-        requires text { length asked.text < 2 ^ 32 }
+        requires text { length asked.text.text < 2 ^ 32 }
         ensures { MatchResult result
             (λ _. Holds (request self.old.walk number label.now asked backlog) self.old self.new answers.old.items answers.new.items)
             (λ _. Stops self.old self.new) }
@@ -486,6 +487,7 @@ impl Session {
         requires at_board { CallsBoard board.now self.old.board }
         requires stands { Stands self.old.walk.lives (known self.old.registry) }
         requires posted { Posted self.old.walk (known self.old.board) }
+        requires few { self.old.workers ≤ 16 }
         requires seen { IsSome (slice_get (registered (known self.old.registry).seen) id) }
         requires fits { is_queue_length length ≡ true }
         ensures { MatchResult result
@@ -541,6 +543,7 @@ impl Session {
         requires at_board { CallsBoard board.now self.old.board }
         requires stands { Stands self.old.walk.lives (known self.old.registry) }
         requires posted { Posted self.old.walk (known self.old.board) }
+        requires few { self.old.workers ≤ 16 }
         requires nested { is_nested_well name.now ≡ true }
         requires fits { is_queue_length length ≡ true }
         ensures { MatchResult result
@@ -569,6 +572,7 @@ impl Session {
         requires at_board { CallsBoard board.now self.old.board }
         requires stands { Stands self.old.walk.lives (known self.old.registry) }
         requires posted { Posted self.old.walk (known self.old.board) }
+        requires few { self.old.workers ≤ 16 }
         ensures { MatchResult result
             (λ _. Holds (alloc self.old.workers self.old.walk number label.now name.now length) self.old self.new answers.old.items answers.new.items)
             (λ _. Stops self.old self.new) }
@@ -600,7 +604,7 @@ impl Session {
         dir: Dir,
         iv: &[u8],
         aad: &[u8],
-        text: &[u8],
+        text: &Segs,
         backlog: bool,
         answers: &mut Vec<Answer>,
     ) -> Result<(), Stop>
@@ -608,7 +612,7 @@ impl Session {
         requires stands { Stands self.old.walk.lives (known self.old.registry) }
         requires posted { Posted self.old.walk (known self.old.board) }
         requires aad { length aad.now < 2 ^ 32 }
-        requires text { length text.now < 2 ^ 32 }
+        requires text { length text.now.text < 2 ^ 32 }
         ensures { MatchResult result
             (λ _. Holds (request self.old.walk number label.now (request_of dir iv.now aad.now text.now) backlog) self.old self.new answers.old.items answers.new.items)
             (λ _. Stops self.old self.new) }
@@ -634,6 +638,7 @@ impl Session {
         requires at_board { CallsBoard board.now self.old.board }
         requires stands { Stands self.old.walk.lives (known self.old.registry) }
         requires posted { Posted self.old.walk (known self.old.board) }
+        requires few { self.old.workers ≤ 16 }
         requires short { IsShortCommand command.now }
         ensures { MatchResult result
             (λ _. HoldsBy (command_width command.now) (command_dialogue self.old.workers self.old.walk number command.now) self.old self.new answers.old.items answers.new.items)
@@ -669,7 +674,7 @@ impl Session {
                 Dir::Enc,
                 iv.as_slice(),
                 aad.as_slice(),
-                text.as_slice(),
+                text,
                 *backlog,
                 answers,
             ),
@@ -687,7 +692,7 @@ impl Session {
                 Dir::Dec,
                 iv.as_slice(),
                 aad.as_slice(),
-                text.as_slice(),
+                text,
                 *backlog,
                 answers,
             ),
@@ -703,7 +708,7 @@ impl Session {
                 Dir::Mac,
                 &[],
                 &[],
-                text.as_slice(),
+                text,
                 *backlog,
                 answers,
             ),
@@ -735,6 +740,7 @@ impl Session {
         requires at_board { CallsBoard board.now self.old.board }
         requires stands { Stands self.old.walk.lives (known self.old.registry) }
         requires posted { Posted self.old.walk (known self.old.board) }
+        requires few { self.old.workers ≤ 16 }
         requires short { IsShortLine line.now }
         ensures { MatchResult result
             (λ _. HoldsBy (width_of line.now) (line_dialogue self.old.workers self.old.walk number line.now) self.old self.new answers.old.items answers.new.items)

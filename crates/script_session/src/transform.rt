@@ -193,7 +193,7 @@ impl Transform {
         request: Request,
     ) -> Result<Job, JobErr>
         requires aad { length request.aad < 2 ^ 32 }
-        requires text { length request.text < 2 ^ 32 }
+        requires text { length request.text.text < 2 ^ 32 }
         ensures { MatchResult result (λ job. IsJob client line self.now request (asked_by (arc_value job.ask))) (λ e. IsNoJob self.now request e) }
     {
         let Some(keyed) = &self.keyed else {

@@ -1,11 +1,13 @@
 -- No list of bytes in a line is longer than its text.
 use Rattle.std.proofs.Common.{◌≡◌, ℕ, ◌+◌, ◌-◌, ◌≤◌, Bool, true, false, cond, List, [], ◌∷◌, length, Option, Some, None, inl, inr, sym, subst, arith, lit<, length-take}
 use Rattle.std.specs.Prelude.{nat_lt, filter, IfSome, IfOk, All, nat_le, ◌&&◌, Result, Ok, Err, codes}
-use Rattle.std.specs.List.{onto_first, slice_split, list_all}
+use Rattle.std.specs.List.{concat, onto_first, slice_split, list_all}
 use Rattle.std.specs.Result.{result_ok}
 use Rattle.std.specs.Str.{bytes_eq}
 use Rattle.hex.specs.Hex.{decode_of}
+use Rattle.sg_walk.specs.Segments.{Segmented, segmented}
 use Rattle.script_text.proofs.HexLemmas.{decoded_up_to}
+use Rattle.script_text.proofs.PartLemmas.{parts_fit}
 use Rattle.script_text.specs.Lines.{ends_with, without_last, without_return}
 use Rattle.std.proofs.lemmas.Option.{IfSome_then}
 use Rattle.std.proofs.lemmas.List.Elements.{All-nil, All-cons}
@@ -14,7 +16,7 @@ use borrow.Author.Tests.{lt-ltb}
 use Rattle.script_text.specs.declared.commands.Line.{Line}
 use Rattle.script_text.specs.declared.commands.Line.TheVariants.{Nothing, Malformed}
 use Rattle.script_text.specs.Tokens.{tokens_of, is_blank, is_visible, is_comment}
-use Rattle.script_text.specs.Arguments.{◌>>=◌, hex_of, label_of, lone_label_of, is_label, number_of, length_of, names_of, backlog_of}
+use Rattle.script_text.specs.Arguments.{◌>>=◌, hex_of, hexes_of, are_segments, is_bar, text_of, label_of, lone_label_of, is_label, number_of, length_of, names_of, backlog_of}
 use Rattle.script_text.specs.Commands.{aes_row, register_row, unregister_row, probe_row, alloc_row, key_row, authsize_row, aead_row, mac_row, bulk_row, label_row, refs_row, list_row, command_of}
 use Rattle.script_text.specs.Script.{command_line, line_of_tokens, line_of_text}
 use Rattle.script_text.specs.Sizes.{IsShort, IsShortCommand, IsShortLine}
@@ -91,6 +93,14 @@ hex_short token h =
       | false ↦ IfSome_then (result_ok (decode_of token)) (decoded_up_to token) (λ bytes le. omega arith)
     ]
 
+text_short_in : (token : List ℕ) (spelled : Option (List (List ℕ))) → IsShort token → IfSome spelled (λ parts. length (concat parts) ≤ length token)
+    → IfSome (spelled >>= (λ parts. cond (are_segments parts) (Some (segmented parts)) None)) (λ text. IsShort text.text)
+text_short_in token (Some parts) h fits = elim (are_segments parts) as (λ c. IfSome (cond c (Some (segmented parts)) None) (λ text. IsShort text.text)) [ true ↦ omega (arith, h, fits) | false ↦ tt ]
+text_short_in token None h fits = tt
+
+segments_short : (token : List ℕ) → IsShort token → IfSome (text_of token) (λ text. IsShort text.text)
+segments_short token h = text_short_in token (hexes_of (slice_split is_bar token)) h (parts_fit token)
+
 -- ---- rows
 
 -- the command that is spelled, if one is, has short lists alone
@@ -101,6 +111,12 @@ RowIsShort row = IfSome row IsShortCommand
 after : (first : Option (List ℕ)) (next : List ℕ → Option Command) → SpellsShort first → ((bytes : List ℕ) → IsShort bytes → RowIsShort (next bytes)) → RowIsShort (first >>= next)
 after (Some bytes) next h k = k bytes h
 after None next h k = tt
+
+-- a text, which is short
+after_text : (first : Option Segmented) (next : Segmented → Option Command) → IfSome first (λ text. IsShort text.text)
+    → ((text : Segmented) → IsShort text.text → RowIsShort (next text)) → RowIsShort (first >>= next)
+after_text (Some text) next h k = k text h
+after_text None next h k = tt
 
 -- and one that is no list
 after_any : {A : Type 0} (first : Option A) (next : A → Option Command) → ((x : A) → RowIsShort (next x)) → RowIsShort (first >>= next)
@@ -141,20 +157,20 @@ authsize_short : (args : List (List ℕ)) → AllShort args → RowIsShort (auth
 authsize_short (label ∷ size ∷ []) h = after (label_of label) _ (label_short label h.0) (λ l hl. after_any (number_of size) _ (λ n. hl))
 authsize_short other h = tt
 
-aead_short : (command : List ℕ → List ℕ → List ℕ → List ℕ → Bool → Command)
-    → ((l iv a t : List ℕ) (b : Bool) → IsShort l → IsShort iv → IsShort a → IsShort t → IsShortCommand (command l iv a t b))
+aead_short : (command : List ℕ → List ℕ → List ℕ → Segmented → Bool → Command)
+    → ((l iv a : List ℕ) (t : Segmented) (b : Bool) → IsShort l → IsShort iv → IsShort a → IsShort t.text → IsShortCommand (command l iv a t b))
     → (args : List (List ℕ)) → AllShort args → RowIsShort (aead_row command args)
 aead_short command put (label ∷ iv ∷ aad ∷ text ∷ more) h =
     after (label_of label) _ (label_short label h.0) (λ l hl.
     after (hex_of iv) _ (hex_short iv h.1.0) (λ i hi.
     after (hex_of aad) _ (hex_short aad h.1.1.0) (λ a ha.
-    after (hex_of text) _ (hex_short text h.1.1.1.0) (λ t ht.
+    after_text (text_of text) _ (segments_short text h.1.1.1.0) (λ t ht.
     after_any (backlog_of more) _ (λ b. put l i a t b hl hi ha ht)))))
 aead_short command put other h = tt
 
 mac_short : (args : List (List ℕ)) → AllShort args → RowIsShort (mac_row args)
 mac_short (label ∷ text ∷ more) h =
-    after (label_of label) _ (label_short label h.0) (λ l hl. after (hex_of text) _ (hex_short text h.1.0) (λ t ht. after_any (backlog_of more) _ (λ b. (hl, ht))))
+    after (label_of label) _ (label_short label h.0) (λ l hl. after_text (text_of text) _ (segments_short text h.1.0) (λ t ht. after_any (backlog_of more) _ (λ b. (hl, ht))))
 mac_short other h = tt
 
 bulk_short : (args : List (List ℕ)) → AllShort args → RowIsShort (bulk_row args)

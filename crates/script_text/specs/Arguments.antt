@@ -1,11 +1,12 @@
 -- What the arguments of a command spell, where they spell something.
 use Rattle.std.specs.Prelude.{◌≡◌, ℕ, Bool, true, false, ◌&&◌, ◌||◌, ◌==◌, nat_lt, nat_le, if◌then◌else◌, List, [], ◌∷◌, length, codes, Option, Some, None, Result, MatchResult}
 use Rattle.std.specs.Char.{is_ascii_alphanumeric, is_ascii_digit}
-use Rattle.std.specs.List.{list_all}
+use Rattle.std.specs.List.{list_all, slice_split}
 use Rattle.std.specs.Result.{result_ok}
 use Rattle.std.specs.Str.{bytes_eq}
 use Rattle.std.specs.Str.Parse.{digits_value}
 use Rattle.hex.specs.Hex.{decode_of}
+use Rattle.sg_walk.specs.Segments.{Segmented, segmented}
 use Rattle.script_text.specs.declared.arguments.ReadError.{ReadError}
 use Rattle.script_text.specs.declared.arguments.ReadError.TheVariants.{Malformed}
 
@@ -22,6 +23,27 @@ Reads result spelled = MatchResult result (λ read. spelled ≡ Some read) (λ e
 -- HEX: bytes in hexadecimal digits, and `-` for no bytes
 abbrev pub hex_of : List ℕ → Option (List ℕ)
 hex_of token = if bytes_eq token (codes "-") then Some [] else result_ok (decode_of token)
+
+-- the bytes of each part, where all are HEX
+abbrev pub hexes_of : List (List ℕ) → Option (List (List ℕ))
+hexes_of [] = Some []
+hexes_of (part ∷ parts) = do
+  bytes ← hex_of part
+  more ← hexes_of parts
+  Some (bytes ∷ more)
+
+-- one segment, or 2 to 16 of at least one byte each
+abbrev pub are_segments : List (List ℕ) → Bool
+are_segments parts = length parts == 1 || (nat_le (length parts) 16 && list_all (λ part. nat_lt 0 (length part)) parts)
+
+abbrev pub is_bar : ℕ → Bool
+is_bar b = b == 124
+
+-- TEXT: HEX, or 2 to 16 parts of it, of at least one byte each, joined by `|`; each part is a segment
+abbrev pub text_of : List ℕ → Option Segmented
+text_of token = do
+  parts ← hexes_of (slice_split is_bar token)
+  if are_segments parts then Some (segmented parts) else None
 
 -- a letter, a digit, `-` or `_`
 abbrev pub is_label_byte : ℕ → Bool

@@ -1,7 +1,8 @@
 -- The commands: what the arguments of each spell, a row a command.
 use Rattle.std.specs.Prelude.{ℕ, Bool, if◌then◌else◌, List, [], ◌∷◌, codes, Option, Some, None}
 use Rattle.std.specs.Str.{bytes_eq}
-use Rattle.script_text.specs.Arguments.{◌>>=◌, hex_of, label_of, lone_label_of, number_of, length_of, names_of, backlog_of}
+use Rattle.sg_walk.specs.Segments.{Segmented}
+use Rattle.script_text.specs.Arguments.{◌>>=◌, hex_of, text_of, label_of, lone_label_of, number_of, length_of, names_of, backlog_of}
 use Rattle.script_text.specs.declared.commands.Command.{Command}
 use Rattle.script_text.specs.declared.commands.Command.TheVariants as says
 
@@ -56,12 +57,12 @@ authsize_row (label ∷ size ∷ []) = do
 authsize_row other = None
 
 -- `enc T IV AAD TEXT [backlog]` and `dec T IV AAD TEXT [backlog]`
-abbrev pub aead_row : (List ℕ → List ℕ → List ℕ → List ℕ → Bool → Command) → List (List ℕ) → Option Command
+abbrev pub aead_row : (List ℕ → List ℕ → List ℕ → Segmented → Bool → Command) → List (List ℕ) → Option Command
 aead_row command (label ∷ iv ∷ aad ∷ text ∷ more) = do
   label ← label_of label
   iv ← hex_of iv
   aad ← hex_of aad
-  text ← hex_of text
+  text ← text_of text
   backlog ← backlog_of more
   Some (command label iv aad text backlog)
 aead_row command other = None
@@ -70,7 +71,7 @@ aead_row command other = None
 abbrev pub mac_row : List (List ℕ) → Option Command
 mac_row (label ∷ text ∷ more) = do
   label ← label_of label
-  text ← hex_of text
+  text ← text_of text
   backlog ← backlog_of more
   Some (says.Mac label text backlog)
 mac_row other = None

@@ -1,16 +1,17 @@
 //! What the arguments of a command spell.
 
-ghost use Rattle.std.specs.Prelude.{◌≡◌, IsTrue, map, IfOk};
+ghost use Rattle.std.specs.Prelude.{◌≡◌, IsTrue, nat_lt, length, map, IfOk, MatchResult, Some, None};
 ghost use Rattle.std.specs.Char.{is_ascii_digit};
-ghost use Rattle.std.specs.List.{list_all};
+ghost use Rattle.std.specs.List.{list_all, slice_split};
 ghost use Rattle.std.specs.Str.Parse.{digits_value};
-ghost use Rattle.script_text.specs.Arguments.{Reads, hex_of, is_label_byte, is_label, label_of, lone_label_of, is_number, number_of, length_of, names_of, backlog_of};
-ghost use Rattle.script_text.specs.declared.arguments.ReadError.TheVariants.{NoMemory};
+ghost use Rattle.script_text.specs.Arguments.{Reads, hex_of, hexes_of, are_segments, is_bar, text_of, is_label_byte, is_label, label_of, lone_label_of, is_number, number_of, length_of, names_of, backlog_of};
+ghost use Rattle.script_text.specs.declared.arguments.ReadError.TheVariants.{Malformed, NoMemory};
 
 use crate::texts::Texts;
 use hex::FromHexError;
 use kc_base::Bytes;
-use std::alloc::{AllocError, Global};
+use sg_walk::Segs;
+use std::alloc::{AllocError, AllocFailed, Global};
 
 /// Why no command was read.
 #[derive(Clone, Copy, Debug, PartialEq, Eq)]
@@ -27,6 +28,14 @@ impl From<AllocError> for ReadError {
     }
 }
 
+impl<T: Drop> From<AllocFailed<T>> for ReadError {
+    ghost from_gives = { λ _ e. e ≡ NoMemory };
+
+    fn from(_: AllocFailed<T>) -> Self {
+        ReadError::NoMemory
+    }
+}
+
 /// The bytes that a token spells in hexadecimal digits.
 pub fn hex_bytes(alloc: Global, token: &[u8]) -> Result<Bytes, ReadError>
     ensures { Reads result (hex_of token.now) }
@@ -39,6 +48,50 @@ pub fn hex_bytes(alloc: Global, token: &[u8]) -> Result<Bytes, ReadError>
         Err(FromHexError::OutOfMemory) => Err(ReadError::NoMemory),
         Err(_) => Err(ReadError::Malformed),
     }
+}
+
+/// The bytes that each part spells.
+fn hex_parts(alloc: Global, parts: &[&[u8]]) -> Result<Vec<Bytes>, ReadError>
+    ensures { MatchResult result
+        (λ read. hexes_of (map (λ part. part.now) parts.now) ≡ Some read.items)
+        (λ error. error ≡ Malformed → hexes_of (map (λ part. part.now) parts.now) ≡ None) }
+{
+    let mut read = Vec::with_capacity(alloc, parts.len())?;
+    for part in parts {
+        read.push(hex_bytes(alloc, part)?)?;
+    }
+    Ok(read)
+}
+
+fn are_filled(parts: &[Bytes]) -> bool
+    ensures { result ≡ list_all (λ part. nat_lt 0 (length part)) parts.now }
+{
+    parts.iter().all(|part| part.len() > 0)
+}
+
+fn are_segments(parts: &[Bytes]) -> bool
+    ensures { result ≡ are_segments parts.now }
+{
+    parts.len() == 1 || parts.len() <= 16 && are_filled(parts)
+}
+
+/// What stands between bars.
+fn split_bars(alloc: Global, token: &[u8]) -> Result<Vec<&[u8]>, AllocError>
+    ensures { IfOk result (λ parts. map (λ part. part.now) parts.items ≡ slice_split is_bar token.now) }
+{
+    token.split(|b| *b == b'|').collect(alloc)
+}
+
+/// The text that a token spells in one part or several, each of which is read into a segment.
+pub fn segments(alloc: Global, token: &[u8]) -> Result<Segs, ReadError>
+    ensures { Reads result (text_of token.now) }
+{
+    let parts = split_bars(alloc, token)?;
+    let parts = hex_parts(alloc, &parts)?;
+    if !are_segments(&parts) {
+        return Err(ReadError::Malformed);
+    }
+    Ok(Segs::from_parts(parts))
 }
 
 fn is_label_byte(byte: u8) -> bool

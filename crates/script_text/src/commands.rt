@@ -2,8 +2,9 @@
 
 use crate::texts::Texts;
 use kc_base::Bytes;
+use sg_walk::Segs;
 
-/// A command, with its arguments. Hexadecimal digits are decoded. A label has 1 to 32 letters, digits, `-` or `_`; a
+/// A command, with its arguments. Hexadecimal digits are decoded, each part of a text into a segment of its own. A label has 1 to 32 letters, digits, `-` or `_`; a
 /// name and a driver are any token; a number has 1 to 9 decimal digits.
 #[derive(Debug, Drop)]
 pub enum Command {
@@ -46,7 +47,7 @@ pub enum Command {
         label: Bytes,
         iv: Bytes,
         aad: Bytes,
-        text: Bytes,
+        text: Segs,
         backlog: bool,
     },
     /// `dec T IV AAD TEXT [backlog]`
@@ -54,13 +55,13 @@ pub enum Command {
         label: Bytes,
         iv: Bytes,
         aad: Bytes,
-        text: Bytes,
+        text: Segs,
         backlog: bool,
     },
     /// `mac T TEXT [backlog]`
     Mac {
         label: Bytes,
-        text: Bytes,
+        text: Segs,
         backlog: bool,
     },
     /// `bulk T SIZE SEED`: so many bytes drawn from the seed, sealed in chunks.

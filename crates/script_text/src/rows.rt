@@ -6,7 +6,7 @@ ghost use Rattle.script_text.specs.Commands.{aes_row, register_row, unregister_r
 ghost use Rattle.script_text.specs.declared.commands.Command.TheVariants as says;
 
 use crate::arguments::{
-    ReadError, backlog, hex_bytes, label, lone_label, names, number, optional_number,
+    ReadError, backlog, hex_bytes, label, lone_label, names, number, optional_number, segments,
 };
 use crate::commands::Command;
 use kc_base::Bytes;
@@ -102,7 +102,7 @@ fn enc_command(alloc: Global, args: &[&[u8]]) -> Result<Command, ReadError>
         label: label(alloc, transform)?,
         iv: hex_bytes(alloc, iv)?,
         aad: hex_bytes(alloc, aad)?,
-        text: hex_bytes(alloc, text)?,
+        text: segments(alloc, text)?,
         backlog: backlog(more)?,
     })
 }
@@ -117,7 +117,7 @@ fn dec_command(alloc: Global, args: &[&[u8]]) -> Result<Command, ReadError>
         label: label(alloc, transform)?,
         iv: hex_bytes(alloc, iv)?,
         aad: hex_bytes(alloc, aad)?,
-        text: hex_bytes(alloc, text)?,
+        text: segments(alloc, text)?,
         backlog: backlog(more)?,
     })
 }
@@ -130,7 +130,7 @@ fn mac_command(alloc: Global, args: &[&[u8]]) -> Result<Command, ReadError>
     };
     Ok(Command::Mac {
         label: label(alloc, transform)?,
-        text: hex_bytes(alloc, text)?,
+        text: segments(alloc, text)?,
         backlog: backlog(more)?,
     })
 }

@@ -190,20 +190,43 @@ fn text(bytes: &Bytes) -> &str {
     str::from_utf8(bytes.as_slice()).unwrap_or("no text")
 }
 
-// The command of a line that serves a request, written out: its label, its lists in hexadecimal digits, and whether it
-// may wait in the backlog.
+// Adds what stands before the bytes, and these in hexadecimal digits.
+fn push_hex(
+    alloc: Global,
+    words: &mut String,
+    before: &str,
+    bytes: &Bytes,
+) -> Result<(), AllocError> {
+    let digits = hex::encode(alloc, bytes.as_slice())?;
+    words.push_str(before)?;
+    words.push_str(if bytes.is_empty() {
+        "-"
+    } else {
+        digits.as_str()
+    })
+}
+
+// The command of a line that serves a request, written out: its label, its lists in hexadecimal digits, the segments of its
+// text, and whether it may wait in the backlog.
 fn request_words(
     alloc: Global,
     word: &str,
     label: &Bytes,
     parts: &[&Bytes],
+    text_parts: &[Bytes],
     backlog: bool,
 ) -> Result<String, AllocError> {
     let mut words = format!(in alloc; "{word} {}", text(label))?;
     for part in parts {
-        let digits = hex::encode(alloc, part.as_slice())?;
-        words.push_str(if part.is_empty() { " -" } else { " " })?;
-        words.push_str(digits.as_str())?;
+        push_hex(alloc, &mut words, " ", part)?;
+    }
+    for i in 0..text_parts.len() {
+        push_hex(
+            alloc,
+            &mut words,
+            if i == 0 { " " } else { "|" },
+            &text_parts[i],
+        )?;
     }
     if backlog {
         words.push_str(" backlog")?;
@@ -235,7 +258,7 @@ fn words(alloc: Global, command: &Command) -> Result<String, AllocError> {
             name,
             length,
         } => format!(in alloc; "alloc {} {} {length:?}", text(label), text(name)),
-        Command::Key { label, key } => request_words(alloc, "key", label, &[key], false),
+        Command::Key { label, key } => request_words(alloc, "key", label, &[key], &[], false),
         Command::Authsize { label, size } => format!(in alloc; "authsize {} {size}", text(label)),
         Command::Enc {
             label,
@@ -243,19 +266,19 @@ fn words(alloc: Global, command: &Command) -> Result<String, AllocError> {
             aad,
             text,
             backlog,
-        } => request_words(alloc, "enc", label, &[iv, aad, text], *backlog),
+        } => request_words(alloc, "enc", label, &[iv, aad], text.parts(), *backlog),
         Command::Dec {
             label,
             iv,
             aad,
             text,
             backlog,
-        } => request_words(alloc, "dec", label, &[iv, aad, text], *backlog),
+        } => request_words(alloc, "dec", label, &[iv, aad], text.parts(), *backlog),
         Command::Mac {
             label,
             text,
             backlog,
-        } => request_words(alloc, "mac", label, &[text], *backlog),
+        } => request_words(alloc, "mac", label, &[], text.parts(), *backlog),
         Command::Bulk { label, size, seed } => {
             format!(in alloc; "bulk {} {size} {seed}", text(label))
         }
@@ -300,6 +323,8 @@ dec t 01 0203 040506
 dec t - 02 - backlog
 mac t 0102
 mac t - backlog
+enc t 01 - 6bc1bee22e|409f96e93d7e1173|93172a
+mac t 00|01|02|03|04|05|06|07|08|09|0a|0b|0c|0d|0e|0f backlog
 bulk t 16777216 0
 hold T-0_z
 go T-0_z

@@ -1,35 +1,31 @@
 -- Calls of the board's caller, by what its lock says of a turn.
-use Rattle.std.proofs.Common.{◌≡◌, ◌≢◌, inl, inr, ℕ, zero, suc, ◌+◌, Bool, true, false, List, [], ◌∷◌, ◌++◌, length, map, Option, Some, None, Result, Ok, Err, refl, sym, ap, subst, ◌∙◌, append-nil, append_assoc}
-use Rattle.std.specs.Prelude.{◌==◌, ◌||◌, ◌↔◌, if◌then◌else◌, MatchResult, slice_get, unwrap_or}
+use Rattle.std.proofs.Common.{◌≡◌, ◌≢◌, inl, inr, ℕ, zero, suc, ◌+◌, Bool, true, false, List, [], ◌∷◌, ◌++◌, length, map, Option, Some, None, Result, Ok, Err, refl, sym, ap, subst, ◌∙◌, append-nil, append_assoc, length-append, arith}
+use Rattle.std.specs.Prelude.{◌<◌, ◌≤◌, ◌-◌, ◌^◌, ◌==◌, ◌||◌, ◌↔◌, if◌then◌else◌, IfErr, MatchResult, sum_by, slice_get, unwrap_or}
 use Rattle.std.specs.Arc.{arc_value}
 use Rattle.std.specs.declared.sync.Arc.{Arc}
 use Rattle.std.specs.declared.alloc.Global.{Global}
 use Rattle.std.proofs.lemmas.Bool.{eq-eqb}
+use Rattle.std.proofs.lemmas.Nat.{pow_below}
 use Rattle.kc_base.specs.declared.callback_list.Callback.{Callback}
 use Rattle.kc_base.specs.declared.callback_list.Callback.TheVariants as callback
 use Rattle.board.specs.declared.board_core.BoardErr.{BoardErr}
-use Rattle.board.specs.declared.board_core.BoardErr.TheVariants.{TooBig, Memory}
+use Rattle.board.specs.declared.board_core.BoardErr.TheVariants.{NoWorker, TooBig, Memory}
 use Rattle.board.specs.declared.entry.BoardEntry.{BoardEntry}
 use Rattle.board.specs.declared.entry.BoardEntry.TheVariants as event
 use Rattle.board.specs.declared.entry.Shape.{Shape}
-use Rattle.board.specs.declared.entry.Shape.TheVariants.{Pad, Queue}
-use Rattle.board.specs.Entries.{caller_of, is_of, is_close, is_closed, is_share, is_held, accepted_in, entries_of, submissions, front, told, delivered}
+use Rattle.board.specs.declared.entry.Shape.TheVariants.{Pad, Queue, Chain}
+use Rattle.board.specs.Entries.{caller_of, is_of, is_close, is_closed, is_share, is_held, mask, accepted_in, entries_of, submissions, front, told, delivered}
 use Rattle.board.specs.Allowance.{IsAllowed}
-use Rattle.board.specs.Legal.{IsNoWorker, IsOpen, IsOpenPad, IsOpenQueue, LegalBoard, pipelines}
+use Rattle.board.specs.Legal.{IsNoWorker, IsOpen, IsOpenPad, IsOpenQueue, IsOpenAs, LegalBoard, pipelines}
 use Rattle.board.specs.Handing.{is_collect, completions}
-use Rattle.board.proofs.Others.{drained_hands}
-use Rattle.board.proofs.Staying.{stays_managed, holds, collect_drains}
-use Rattle.board.proofs.Transfer.{entries-more}
-use Rattle.board.proofs.PadOrder.{filter_map-none}
 use Rattle.std.proofs.lemmas.Bool.{eqb-true}
 use Rattle.std.proofs.lemmas.List.Folds.{list_any-append}
-use Rattle.board.proofs.Handing.{all_handed_out, leaves_others, hands_nothing, joins, begins_alone}
-use Rattle.board.proofs.Kept.{only_of, not_shut, shut-same}
 use Rattle.board.specs.Staying.{IsDrained}
 use Rattle.board.specs.Allowance.{accepted_by}
 use Rattle.std.proofs.lemmas.List.{length-map}
 use Rattle.std.specs.Option.{option_map}
-use Rattle.board.specs.Order.{completed}
+use Rattle.board.specs.Order.{handed_out, completed, numbers_below}
+use Rattle.board.specs.Shapes.{IsShape}
 use Rattle.transforms.specs.declared.ask.Ask.{Ask}
 use Rattle.transforms.specs.declared.request.Finished.{Finished}
 use Rattle.transforms.specs.AskValue.{ask_size}
@@ -40,20 +36,20 @@ use Rattle.crew.specs.Working.{Worked, Drained as CrewDrained}
 use Rattle.dialogues.specs.RegistryCalls.{if_own}
 use Rattle.dialogues.specs.BoardCalls.{BoardCall, Creates, Submits, Enqueues, Holds, Goes, Collects, Closes, Shuts, Started, Completed, asked_by, outcome, board_calls, notice_of, line_in, collected_to}
 use Rattle.dialogues.specs.Walk.{Pipe}
-use Rattle.session_calls.specs.Pipelines.{Laws, IsOpenAs, IsPipeIn, line_of, line_at, KnowsPipe, Kept, Changed, Closed, IsPad, IsQueue, entered_pipe, entered_asks, with_ask, notice_by, IsShut, Owns, Drained, Polled, Opened}
+use Rattle.session_calls.specs.Pipelines.{Laws, IsPipeIn, line_of, line_at, made_so, KnowsPipe, Kept, Changed, Closed, IsPad, IsQueue, entered_pipe, entered_asks, with_ask, notice_by, IsShut, Owns, Drained, Polled, Opened}
 use Rattle.dialogues.specs.Allocating.{new_pipe}
 use Rattle.board.specs.declared.entry.Entered.{Entered}
 use Rattle.board.specs.declared.entry.Entered.TheVariants.{InProgress, Busy, NoSpace}
-use Rattle.session_calls.proofs.Boarding.{Met, OwnsIn, goes-kept, opened-more, shared-more, calls-one, meets-kept, leaves-kept, changed-later, accepted-none, accepted-more, pipe-stays, pipe-accepts, pipe-collected, entry-changed}
+use Rattle.session_calls.proofs.Boarding.{Met, OwnsIn, IsPlain, goes-kept, opened-more, managed-more, unshared-more, served-more, lines-more, delivered-more, calls-one, meets-kept, leaves-kept, changed-later, accepted-none, accepted-more, pipe-stays, pipe-accepts, pipe-collected, apart-same, entry-changed}
 
 own : {C : Type 0} (n : ℕ) (call : C) → if_own n n call ≡ Some call
 own {C} n call = ap (λ b. if b then Some call else None) (eq-eqb n n refl)
 
-pub open-pad : (bound : Option ℕ) (es : List (BoardEntry Ask)) → IsPad bound → IsOpenAs bound es → IsOpenPad es
+pub open-pad : (bound : Option ℕ) (es : List (BoardEntry Ask)) → IsPad bound → IsOpenAs (made_so bound) es → IsOpenPad es
 open-pad None es pad o = o
 open-pad (Some max) es pad o = absurd pad
 
-pub is-open : (bound : Option ℕ) (es : List (BoardEntry Ask)) → IsOpenAs bound es → IsOpen es
+pub is-open : (bound : Option ℕ) (es : List (BoardEntry Ask)) → IsOpenAs (made_so bound) es → IsOpen es
 is-open None es o = inl o
 is-open (Some max) es o = inr o
 
@@ -66,33 +62,73 @@ pub submit-changed : Laws → (k l : Known (BoardEntry Ask)) (pipe : Pipe) (aske
     → AtTurn caller_of LegalBoard k (λ h. MatchResult r
     (λ n. (n ≡ length (submissions (entries_of pipe.number h))) × IsAllowed ask_size h k.number asked
     × ((ask : Arc Ask Global) × (arc_value ask ≡ asked) × Enters LegalBoard k h (event.Submit k.number pipe.number n ask) l))
-    (λ e. ((e ≡ TooBig) ↔ (IsAllowed ask_size h k.number asked → ⊥)) × Leaves k h l))
+    (λ e. ((e ≡ NoWorker) ↔ (mask (entries_of pipe.number h) ≡ 0)) × ((e ≡ TooBig) ↔ ((0 < mask (entries_of pipe.number h)) × (IsAllowed ask_size h k.number asked → ⊥))) × Leaves k h l))
     → MatchResult r (λ number. Changed k l pipe (with_ask pipe asked) (Submits pipe.number number (asked_by asked) ∷ []) (asked ∷ [])) (λ _. Kept k l)
-submit-changed laws k l pipe asked (Err e) on turn = leaves-kept laws k l turn.0 turn.1 turn.2.1
+submit-changed laws k l pipe asked (Err e) on turn = leaves-kept laws k l turn.0 turn.1 turn.2.2
 submit-changed laws k l pipe asked (Ok n) on turn =
     let h = turn.0 in
     let done = turn.2.2 in
     let e : BoardEntry Ask = event.Submit k.number pipe.number n done.0 in
     let kept = meets-kept laws k h turn.1 in
     changed-later k (sees k h) l pipe (with_ask pipe asked) (Submits pipe.number n (asked_by asked) ∷ []) (asked ∷ []) kept
-    (entry-changed laws k l h e pipe (with_ask pipe asked) (Submits pipe.number n (asked_by asked)) (asked ∷ []) done.2 (eq-eqb pipe.number pipe.number refl)
+    (entry-changed laws k l h e pipe (with_ask pipe asked) (Submits pipe.number n (asked_by asked)) (asked ∷ []) done.2 (eq-eqb pipe.number pipe.number refl) refl
     (own k.number (Submits pipe.number n (asked_by (arc_value done.0))) ∙ ap (λ a. Some (Submits pipe.number n (asked_by a))) done.1)
     (accepted-more k.number h e asked (own_ask (k.number == k.number) (arc_value done.0) (eq-eqb k.number k.number refl) ∙ ap (λ a. Some a) done.1)) refl
-    (pipe-accepts k.number h e pipe refl refl (kept.pipes pipe on) asked (eq-eqb pipe.number pipe.number refl) (ap (λ a. Some a) done.1) refl refl))
+    (pipe-accepts laws k.number h e pipe (record { born = refl; closes = refl; shares = refl; masks = refl }) (kept.pipes pipe on) asked (eq-eqb pipe.number pipe.number refl) (ap (λ a. Some a) done.1) refl refl))
+
+-- two facts of a refusal
+pub not-unserved : {A : Type 0} (r : Result A BoardErr) (P : A → Type 0) (Q : BoardErr → Type 0) → MatchResult r P (λ e. (e ≢ NoWorker) × Q e) → IfErr r (λ e. e ≢ NoWorker)
+not-unserved (Ok a) P Q is = tt
+not-unserved (Err e) P Q is = is.0
+
+pub by-allowance : {A : Type 0} (r : Result A BoardErr) (P : A → Type 0) (Q : BoardErr → Type 0) → MatchResult r P (λ e. (e ≢ NoWorker) × Q e) → MatchResult r P Q
+by-allowance (Ok a) P Q is = is
+by-allowance (Err e) P Q is = is.1
+
+-- what was accepted from the caller is as before
+allowed-here : Laws → (k : Known (BoardEntry Ask)) (h : List (BoardEntry Ask)) (asked : Ask) → Met k h → IsAllowed ask_size h k.number asked ↔ IsAllowed ask_size k.seen k.number asked
+allowed-here laws k h asked met =
+    let same : accepted_by k.number h ≡ accepted_by k.number k.seen = (meets-kept laws k h met).accepted in
+    let IsRoom : List Ask → Type 0 = λ asks. (length asks < 2 ^ 20) × (sum_by ask_size asks + ask_size asked ≤ 2 ^ 26) in
+    ((λ allowed. subst IsRoom same allowed), (λ allowed. subst IsRoom (sym same) allowed))
+
+-- a pad that some worker serves refuses for want of room in the allowance alone, or of memory
+pub submit-refused : Laws → (k l : Known (BoardEntry Ask)) (pipe : Pipe) (asked : Ask) (r : Result ℕ BoardErr) (O : List (BoardEntry Ask) → ℕ → Type 0) → KnowsPipe k pipe → IsPad pipe.bound
+    → AtTurn caller_of LegalBoard k (λ h. MatchResult r
+    (λ n. (n ≡ length (submissions (entries_of pipe.number h))) × IsAllowed ask_size h k.number asked × O h n)
+    (λ e. ((e ≡ NoWorker) ↔ (mask (entries_of pipe.number h) ≡ 0)) × ((e ≡ TooBig) ↔ ((0 < mask (entries_of pipe.number h)) × (IsAllowed ask_size h k.number asked → ⊥))) × Leaves k h l))
+    → MatchResult r (λ _. IsAllowed ask_size k.seen k.number asked) (λ e. (e ≢ NoWorker) × ((e ≡ TooBig) ↔ (IsAllowed ask_size k.seen k.number asked → ⊥)))
+submit-refused laws k l pipe asked (Ok n) O on pad turn = (allowed-here laws k turn.0 asked turn.1).0 turn.2.1
+submit-refused laws k l pipe asked (Err e) O on pad turn =
+    let here = allowed-here laws k turn.0 asked turn.1 in
+    let some : 0 < mask (entries_of pipe.number turn.0) = ((meets-kept laws k turn.0 turn.1).pipes pipe on).served pad in (
+      (λ none. let zero_is = turn.2.0.0 none in absurd (omega (arith, some, zero_is))),
+      ((λ big allowed. (turn.2.1.0 big).1 (here.1 allowed)), (λ never. turn.2.1.1 (some, λ allowed. never (here.0 allowed)))),
+    )
 
 -- ---- `enqueue`
 
-pub open-queue : (bound : Option ℕ) (es : List (BoardEntry Ask)) → IsQueue bound → IsOpenAs bound es → IsOpenQueue es
+pub open-queue : (bound : Option ℕ) (es : List (BoardEntry Ask)) → IsQueue bound → IsOpenAs (made_so bound) es → IsOpenQueue es
 open-queue None es queue o = absurd queue
 open-queue (Some max) es queue o = o
+
+pub enqueue-refused : Laws → (k l : Known (BoardEntry Ask)) (asked : Ask) (r : Result Entered BoardErr) (V O : List (BoardEntry Ask) → Entered → Type 0)
+    → AtTurn caller_of LegalBoard k (λ h. MatchResult r
+    (λ answer. V h answer × IsAllowed ask_size h k.number asked × O h answer)
+    (λ e. (e ≢ NoWorker) × ((e ≡ TooBig) ↔ (IsAllowed ask_size h k.number asked → ⊥)) × Leaves k h l))
+    → MatchResult r (λ _. IsAllowed ask_size k.seen k.number asked) (λ e. (e ≢ NoWorker) × ((e ≡ TooBig) ↔ (IsAllowed ask_size k.seen k.number asked → ⊥)))
+enqueue-refused laws k l asked (Ok answer) V O turn = (allowed-here laws k turn.0 asked turn.1).0 turn.2.1
+enqueue-refused laws k l asked (Err e) V O turn =
+    let here = allowed-here laws k turn.0 asked turn.1 in
+    (turn.2.0, ((λ big allowed. turn.2.1.0 big (here.1 allowed)), (λ never. turn.2.1.1 (λ allowed. never (here.0 allowed)))))
 
 pub enqueue-changed : Laws → (k l : Known (BoardEntry Ask)) (pipe : Pipe) (asked : Ask) (backlog : Bool) (V : List (BoardEntry Ask) → Entered → Type 0) (r : Result Entered BoardErr) → KnowsPipe k pipe
     → AtTurn caller_of LegalBoard k (λ h. MatchResult r
     (λ answer. V h answer × IsAllowed ask_size h k.number asked
     × ((ask : Arc Ask Global) × (arc_value ask ≡ asked) × Enters LegalBoard k h (event.Enq k.number pipe.number ask backlog answer) l))
-    (λ e. ((e ≡ TooBig) ↔ (IsAllowed ask_size h k.number asked → ⊥)) × Leaves k h l))
+    (λ e. (e ≢ NoWorker) × ((e ≡ TooBig) ↔ (IsAllowed ask_size h k.number asked → ⊥)) × Leaves k h l))
     → MatchResult r (λ answer. Changed k l pipe (entered_pipe pipe asked answer) (Enqueues pipe.number (asked_by asked) backlog answer ∷ []) (entered_asks asked answer)) (λ _. Kept k l)
-enqueue-changed laws k l pipe asked backlog V (Err e) on turn = leaves-kept laws k l turn.0 turn.1 turn.2.1
+enqueue-changed laws k l pipe asked backlog V (Err e) on turn = leaves-kept laws k l turn.0 turn.1 turn.2.2
 enqueue-changed laws k l pipe asked backlog V (Ok answer) on turn = by_answer answer turn.2.2
   where
     h : List (BoardEntry Ask)
@@ -109,9 +145,9 @@ enqueue-changed laws k l pipe asked backlog V (Ok answer) on turn = by_answer an
     accepts answer ask e some enters =
         let x : BoardEntry Ask = event.Enq k.number pipe.number ask backlog answer in
         changed-later k (sees k h) l pipe (with_ask pipe asked) (Enqueues pipe.number (asked_by asked) backlog answer ∷ []) (asked ∷ []) kept
-        (entry-changed laws k l h x pipe (with_ask pipe asked) (Enqueues pipe.number (asked_by asked) backlog answer) (asked ∷ []) enters (eq-eqb pipe.number pipe.number refl) (called answer ask e)
+        (entry-changed laws k l h x pipe (with_ask pipe asked) (Enqueues pipe.number (asked_by asked) backlog answer) (asked ∷ []) enters (eq-eqb pipe.number pipe.number refl) refl (called answer ask e)
         (accepted-more k.number h x asked (ap (λ b. if b then accepted_in x else None) (eq-eqb k.number k.number refl) ∙ some)) refl
-        (pipe-accepts k.number h x pipe refl refl (kept.pipes pipe on) asked (eq-eqb pipe.number pipe.number refl) some refl refl))
+        (pipe-accepts laws k.number h x pipe (record { born = refl; closes = refl; shares = refl; masks = refl }) (kept.pipes pipe on) asked (eq-eqb pipe.number pipe.number refl) some refl refl))
 
     by_answer : (answer : Entered) → ((ask : Arc Ask Global) × (arc_value ask ≡ asked) × Enters LegalBoard k h (event.Enq k.number pipe.number ask backlog answer) l)
         → Changed k l pipe (entered_pipe pipe asked answer) (Enqueues pipe.number (asked_by asked) backlog answer ∷ []) (entered_asks asked answer)
@@ -120,8 +156,8 @@ enqueue-changed laws k l pipe asked backlog V (Ok answer) on turn = by_answer an
     by_answer NoSpace done =
         let x : BoardEntry Ask = event.Enq k.number pipe.number done.0 backlog NoSpace in
         changed-later k (sees k h) l pipe pipe (Enqueues pipe.number (asked_by asked) backlog NoSpace ∷ []) [] kept
-        (entry-changed laws k l h x pipe pipe (Enqueues pipe.number (asked_by asked) backlog NoSpace) [] done.2 (eq-eqb pipe.number pipe.number refl) (called NoSpace done.0 done.1)
-        (accepted-none k.number h x refl) refl (pipe-stays k.number h x pipe refl refl (kept.pipes pipe on) refl refl refl))
+        (entry-changed laws k l h x pipe pipe (Enqueues pipe.number (asked_by asked) backlog NoSpace) [] done.2 (eq-eqb pipe.number pipe.number refl) refl (called NoSpace done.0 done.1)
+        (accepted-none k.number h x refl) refl (pipe-stays laws k.number h x pipe (record { born = refl; closes = refl; shares = refl; masks = refl }) (kept.pipes pipe on) refl refl refl))
 
 -- ---- what is told, by the lines of the requests
 
@@ -160,11 +196,15 @@ drained-changed laws k l pipe h on meets all enters =
     let pipe' : Pipe = record pipe { delivered = pipe.delivered + completions callbacks } in
     let call : BoardCall = Collects pipe.number (record { notices = map (notice_by pipe.lines) callbacks; all_done = true }) in
     changed-later k (sees k h) l pipe pipe' (call ∷ []) [] kept
-    (entry-changed laws k l h (event.Collect k.number pipe.number to) pipe pipe' call [] enters (eq-eqb pipe.number pipe.number refl)
+    (entry-changed laws k l h (event.Collect k.number pipe.number to) pipe pipe' call [] enters (eq-eqb pipe.number pipe.number refl) refl
     (own k.number (Collects pipe.number (collected_to es to))
     ∙ (ap (λ ns. Some (Collects pipe.number (record { notices = ns; all_done = front es == length (submissions es) }))) (notices-are (submissions es) pipe.lines callbacks here.lines)
     ∙ ap (λ b. Some (Collects pipe.number (record { notices = map (notice_by pipe.lines) callbacks; all_done = b }))) (eq-eqb (front es) (length (submissions es)) all)))
-    (accepted-none k.number h (event.Collect k.number pipe.number to) refl) refl (pipe-collected k.number h pipe to enters.1 here))
+    (accepted-none k.number h (event.Collect k.number pipe.number to) refl) refl (pipe-collected laws k.number h pipe to enters.1 here))
+
+length-numbers : (n : ℕ) → length (numbers_below n) ≡ n
+length-numbers zero = refl
+length-numbers (suc n) = let all = length-append (numbers_below n) (n ∷ []) in let rest = length-numbers n in omega (arith, all, rest)
 
 -- it has handed all out
 drained-all : Laws → (k : Known (BoardEntry Ask)) (pipe : Pipe) (h : List (BoardEntry Ask)) → KnowsPipe k pipe → Met k h → front (entries_of pipe.number h) ≡ length (submissions (entries_of pipe.number h))
@@ -173,20 +213,19 @@ drained-all : Laws → (k : Known (BoardEntry Ask)) (pipe : Pipe) (h : List (Boa
 drained-all laws k pipe h on meets all legal =
     let p = pipe.number in
     let to = length (told (entries_of p h)) in
-    let after : List (BoardEntry Ask) = h ++ event.Collect k.number p to ∷ [] in
     let here = (meets-kept laws k h meets).pipes pipe on in
-    let now = pipe-collected k.number h pipe to legal here in
-    let drained = collect_drains h k.number p to legal (is-open pipe.bound (entries_of p h) here.opened) all in
+    let now = pipe-collected laws k.number h pipe to legal here in
     sym now.delivered
-    ∙ (drained_hands after p legal (is-open pipe.bound (entries_of p after) now.opened) drained
-    ∙ (sym (length-map (submissions (entries_of p after)) line_of) ∙ ap length now.lines))
+    ∙ (ap length (laws.steps.all h p k.number to legal (laws.steps.finished (entries_of p h) all))
+    ∙ (length-numbers (length (submissions (entries_of p h)))
+    ∙ (sym (length-map (submissions (entries_of p h)) line_of) ∙ ap length here.lines)))
 
 -- ---- `close`
 
-pub all-drained : (k : Known (BoardEntry Ask)) (pipe : Pipe) → LegalBoard k.seen → KnowsPipe k pipe → pipe.delivered ≡ length pipe.lines → IsDrained (entries_of pipe.number k.seen)
-all-drained k pipe legal on paid =
+pub all-drained : Laws → (k : Known (BoardEntry Ask)) (pipe : Pipe) → LegalBoard k.seen → KnowsPipe k pipe → pipe.delivered ≡ length pipe.lines → IsDrained (entries_of pipe.number k.seen)
+all-drained laws k pipe legal on paid =
     let es = entries_of pipe.number k.seen in
-    all_handed_out k.seen pipe.number legal (is-open pipe.bound es on.opened)
+    laws.steps.drained k.seen pipe.number legal
     (on.delivered ∙ (paid ∙ (ap length (sym on.lines) ∙ length-map (submissions es) line_of)))
 
 or-true : (b : Bool) → (b || true) ≡ true
@@ -206,10 +245,10 @@ close-closed laws k l pipe turn =
         calls_are = calls-one laws k.number h e (Closes pipe.number) (own k.number (Closes pipe.number)) ∙ ap (λ cs. cs ++ Closes pipe.number ∷ []) (kept.called.calls_are ∙ append-nil (board_calls k.number k.seen));
       };
       legal = turn.2.1;
-      others = λ other apart on. subst (λ es. IsPipeIn k.number es other) (sym (leaves_others h e other.number (only_of e pipe.number other.number (eq-eqb pipe.number pipe.number refl) (differs other.number apart)))) (kept.pipes other on);
+      others = λ other apart on. subst (λ es. IsPipeIn k.number es other) (sym (apart-same laws h e pipe.number other.number (eq-eqb pipe.number pipe.number refl) apart)) (kept.pipes other on);
       owned = λ p owns. by_number p (p == pipe.number) refl owns;
       accepted = accepted-none k.number h e refl ∙ (append-nil (accepted_by k.number h) ∙ kept.accepted);
-      unshut = λ zero_is. shut-same h e (not_shut e pipe.number (eq-eqb pipe.number pipe.number refl)) ∙ kept.unshut zero_is;
+      unshut = λ zero_is. laws.steps.shut h e refl ∙ kept.unshut zero_is;
     })
   where
     h : List (BoardEntry Ask)
@@ -218,38 +257,37 @@ close-closed laws k l pipe turn =
     e : BoardEntry Ask
     e = event.Close k.number pipe.number
 
-    differs : (p : ℕ) → (p == pipe.number) ≡ false → p ≢ pipe.number
-    differs p apart q = let yes : (p == pipe.number) ≡ true = eq-eqb p pipe.number q in let bad : true ≡ false = sym yes ∙ apart in cc
-
     by_number : (p : ℕ) (b : Bool) → (p == pipe.number) ≡ b → OwnsIn k.number (entries_of p (h ++ e ∷ [])) → Owns k p × ((p == pipe.number) ≡ false)
     by_number p true is owns =
         let open_still : is_closed (entries_of pipe.number (h ++ e ∷ [])) ≡ false = subst (λ q. is_closed (entries_of q (h ++ e ∷ [])) ≡ false) (eqb-true p pipe.number is) owns.1 in
-        let closed : is_closed (entries_of pipe.number (h ++ e ∷ [])) ≡ true = ap is_closed (entries-more h pipe.number e (eq-eqb pipe.number pipe.number refl)) ∙ (list_any-append is_close (entries_of pipe.number h) (e ∷ []) ∙ or-true (is_closed (entries_of pipe.number h))) in
+        let closed : is_closed (entries_of pipe.number (h ++ e ∷ [])) ≡ true = ap is_closed (laws.steps.joins h e pipe.number (eq-eqb pipe.number pipe.number refl)) ∙ (list_any-append is_close (entries_of pipe.number h) (e ∷ []) ∙ or-true (is_closed (entries_of pipe.number h))) in
         let bad : true ≡ false = sym closed ∙ open_still in
         cc
     by_number p false apart owns =
-        ((meets-kept laws k h turn.1).owned p (subst (λ es. OwnsIn k.number es) (leaves_others h e p (only_of e pipe.number p (eq-eqb pipe.number pipe.number refl) (differs p apart))) owns), apart)
+        ((meets-kept laws k h turn.1).owned p (subst (λ es. OwnsIn k.number es) (apart-same laws h e pipe.number p (eq-eqb pipe.number pipe.number refl) apart) owns), apart)
 
 -- ---- `hold` and `go`
 
 -- a pipeline is held, or let go
-pipe-switched : (n : ℕ) (h : List (BoardEntry Ask)) (e : BoardEntry Ask) (pipe : Pipe) (held : Bool) → is_close e ≡ false → is_share e ≡ false → is_of pipe.number e ≡ true → accepted_in e ≡ None → is_collect e ≡ false
-    → is_held (entries_of pipe.number (h ++ e ∷ [])) ≡ held → IsPipeIn n (entries_of pipe.number h) pipe → IsPipeIn n (entries_of pipe.number (h ++ e ∷ [])) (record pipe { held = held })
-pipe-switched n h e pipe held closes shares of none hands holds on =
+pipe-switched : Laws → (n : ℕ) (h : List (BoardEntry Ask)) (e : BoardEntry Ask) (pipe : Pipe) (held : Bool) → IsPlain e → accepted_in e ≡ None → is_collect e ≡ false → is_held (entries_of pipe.number (h ++ e ∷ [])) ≡ held → (held ≡ true → IsQueue pipe.bound)
+    → IsPipeIn n (entries_of pipe.number h) pipe → IsPipeIn n (entries_of pipe.number (h ++ e ∷ [])) (record pipe { held = held })
+pipe-switched laws n h e pipe held plain none hands holds queue on =
     record {
-      opened = opened-more pipe.bound h e pipe.number closes on.opened;
-      managed = stays_managed h e pipe.number n on.managed;
-      unshared = shared-more h e pipe.number shares ∙ on.unshared;
+      opened = opened-more laws n h e pipe plain on;
+      managed = managed-more laws n h e pipe plain on;
+      unshared = unshared-more laws n h e pipe plain on;
+      served = served-more laws n h e pipe plain on;
       held = holds;
-      lines = ap (λ es. map line_of (submissions es)) (entries-more h pipe.number e of) ∙ (ap (map line_of) (filter_map-none accepted_in (entries_of pipe.number h) e none) ∙ on.lines);
-      delivered = ap (λ ns. length (completed ns)) (hands_nothing h e pipe.number hands) ∙ on.delivered;
+      queue = queue;
+      lines = lines-more laws n h e pipe plain on none;
+      delivered = delivered-more laws n h e pipe plain on hands;
     }
 
-pub hold-changed : Laws → (k l : Known (BoardEntry Ask)) (pipe : Pipe) (r : Result (Unit {0}) BoardErr) → KnowsPipe k pipe
+pub hold-changed : Laws → (k l : Known (BoardEntry Ask)) (pipe : Pipe) (r : Result (Unit {0}) BoardErr) → KnowsPipe k pipe → IsQueue pipe.bound
     → AtTurn caller_of LegalBoard k (λ h. MatchResult r (λ _. Enters LegalBoard k h (event.Hold k.number pipe.number) l) (λ e. (e ≡ Memory) × Leaves k h l))
     → MatchResult r (λ _. Changed k l pipe (record pipe { held = true }) (Holds pipe.number ∷ []) []) (λ e. (e ≡ Memory) × Kept k l)
-hold-changed laws k l pipe (Err e) on turn = (turn.2.0, leaves-kept laws k l turn.0 turn.1 turn.2.1)
-hold-changed laws k l pipe (Ok done) on turn =
+hold-changed laws k l pipe (Err e) on queue turn = (turn.2.0, leaves-kept laws k l turn.0 turn.1 turn.2.1)
+hold-changed laws k l pipe (Ok done) on queue turn =
     let h = turn.0 in
     let n = k.number in
     let e : BoardEntry Ask = event.Hold n pipe.number in
@@ -257,8 +295,8 @@ hold-changed laws k l pipe (Ok done) on turn =
     let same = eq-eqb pipe.number pipe.number refl in
     let kept = meets-kept laws k h turn.1 in
     changed-later k (sees k h) l pipe pipe' (Holds pipe.number ∷ []) [] kept
-    (entry-changed laws k l h e pipe pipe' (Holds pipe.number) [] turn.2 same (own n (Holds pipe.number)) (accepted-none n h e refl) refl
-    (pipe-switched n h e pipe true refl refl same refl refl (holds h n pipe.number).0 (kept.pipes pipe on)))
+    (entry-changed laws k l h e pipe pipe' (Holds pipe.number) [] turn.2 same refl (own n (Holds pipe.number)) (accepted-none n h e refl) refl
+    (pipe-switched laws n h e pipe true (record { born = refl; closes = refl; shares = refl; masks = refl }) refl refl (laws.steps.switched h n pipe.number).0 (λ held. queue) (kept.pipes pipe on)))
 
 pub go-changed : Laws → (k l : Known (BoardEntry Ask)) (pipe : Pipe) (r : Result (Unit {0}) BoardErr) → KnowsPipe k pipe
     → AtTurn caller_of LegalBoard k (λ h. MatchResult r (λ _. Enters LegalBoard k h (event.Go k.number pipe.number) l) (λ e. (e ≡ Memory) × Leaves k h l))
@@ -272,8 +310,8 @@ go-changed laws k l pipe (Ok done) on turn =
     let same = eq-eqb pipe.number pipe.number refl in
     let kept = meets-kept laws k h turn.1 in
     changed-later k (sees k h) l pipe pipe' (Goes pipe.number ∷ []) [] kept
-    (entry-changed laws k l h e pipe pipe' (Goes pipe.number) [] turn.2 same (own n (Goes pipe.number)) (accepted-none n h e refl) refl
-    (pipe-switched n h e pipe false refl refl same refl refl (holds h n pipe.number).1 (kept.pipes pipe on)))
+    (entry-changed laws k l h e pipe pipe' (Goes pipe.number) [] turn.2 same refl (own n (Goes pipe.number)) (accepted-none n h e refl) refl
+    (pipe-switched laws n h e pipe false (record { born = refl; closes = refl; shares = refl; masks = refl }) refl refl (laws.steps.switched h n pipe.number).1 (λ held. absurd cc) (kept.pipes pipe on)))
 
 -- ---- `poll`
 
@@ -297,31 +335,35 @@ poll-changed laws k l pipe into into' (Ok done) on turn =
       all,
       turn.2.0,
       changed-later k (sees k h) l pipe pipe' (call ∷ []) [] kept
-          (entry-changed laws k l h (event.Collect k.number pipe.number to) pipe pipe' call [] turn.2.1 (eq-eqb pipe.number pipe.number refl)
+          (entry-changed laws k l h (event.Collect k.number pipe.number to) pipe pipe' call [] turn.2.1 (eq-eqb pipe.number pipe.number refl) refl
           (own k.number (Collects pipe.number (collected_to es to))
           ∙ ap (λ ns. Some (Collects pipe.number (record { notices = ns; all_done = all }))) (notices-are (submissions es) pipe.lines callbacks here.lines))
-          (accepted-none k.number h (event.Collect k.number pipe.number to) refl) refl (pipe-collected k.number h pipe to turn.2.1.1 here)),
+          (accepted-none k.number h (event.Collect k.number pipe.number to) refl) refl (pipe-collected laws k.number h pipe to turn.2.1.1 here)),
     )
 
 -- ---- a pipeline is made
 
-new-pipe_in : (n number : ℕ) (shape : Shape) → IsNoWorker n → IsPipeIn n (event.Born n number shape ∷ []) (new_pipe number shape)
-new-pipe_in n number (Pad lists) outsider = record { opened = (refl, refl); managed = (outsider, refl); unshared = refl; held = refl; lines = refl; delivered = refl }
-new-pipe_in n number (Queue max) outsider = record { opened = (refl, refl); managed = (outsider, refl); unshared = refl; held = refl; lines = refl; delivered = refl }
+-- a mask of so many bits is not empty
+full : (lists : ℕ) → 1 ≤ lists → 0 < 2 ^ lists - 1
+full lists some = let more = pow_below 0 lists some in omega (arith, more)
+
+new-pipe_in : (n number : ℕ) (shape : Shape) → IsNoWorker n → IsShape shape → IsPipeIn n (event.Born n number shape ∷ []) (new_pipe number shape)
+new-pipe_in n number (Pad lists) outsider fits =
+    record { opened = (refl, refl); managed = (outsider, refl); unshared = refl; served = λ pad. full lists fits.0; held = refl; queue = λ held. absurd cc; lines = refl; delivered = refl }
+new-pipe_in n number (Queue max) outsider fits =
+    record { opened = (refl, refl); managed = (outsider, refl); unshared = refl; served = λ pad. absurd pad; held = refl; queue = λ held. absurd cc; lines = refl; delivered = refl }
+new-pipe_in n number (Chain max lists) outsider fits =
+    record { opened = (refl, refl); managed = (outsider, refl); unshared = refl; served = λ pad. absurd pad; held = refl; queue = λ held. absurd cc; lines = refl; delivered = refl }
 
 -- a pipeline that a caller knows has entries
 not-new : (n : ℕ) (h : List (BoardEntry Ask)) (number : ℕ) (pipe : Pipe) → entries_of number h ≡ [] → IsPipeIn n (entries_of pipe.number h) pipe → (pipe.number == number) ≡ false
 not-new n h number pipe none on = by_test (pipe.number == number) refl
   where
-    by_bound : (bound : Option ℕ) → IsOpenAs bound [] → false ≡ true
-    by_bound None o = o.0
-    by_bound (Some max) o = o.0
-
     by_test : (t : Bool) → (pipe.number == number) ≡ t → t ≡ false
     by_test true e =
         let same : pipe.number ≡ number = eqb-true pipe.number number e in
         let empty : entries_of pipe.number h ≡ [] = ap (λ m. entries_of m h) same ∙ none in
-        absurd (let f = by_bound pipe.bound (subst (IsOpenAs pipe.bound) empty on.opened) in cc)
+        absurd (let f : false ≡ true = (subst (IsOpenAs (made_so pipe.bound)) empty on.opened).0 in cc)
     by_test false e = refl
 
 pub born-opened : Laws → (k l : Known (BoardEntry Ask)) (shape : Shape) (r : Result ℕ BoardErr) → IsNoWorker k.number
@@ -334,12 +376,13 @@ born-opened laws k l shape (Ok p) outsider turn =
     let e : BoardEntry Ask = event.Born n p shape in
     let same = eq-eqb p p refl in
     let kept = meets-kept laws k h turn.1 in
-    let empty : entries_of p h ≡ [] = begins_alone h n p shape turn.2.1.1 in
-    let begun : entries_of p (h ++ e ∷ []) ≡ e ∷ [] = joins h e p same ∙ ap (λ es. es ++ e ∷ []) empty in
-    let now : IsPipeIn n (entries_of p (h ++ e ∷ [])) (new_pipe p shape) = subst (λ es. IsPipeIn n es (new_pipe p shape)) (sym begun) (new-pipe_in n p shape outsider) in
+    let empty : entries_of p h ≡ [] = laws.steps.alone h n p shape turn.2.1.1 in
+    let fits : IsShape shape = (laws.steps.last h e turn.2.1.1).1.1.2 in
+    let begun : entries_of p (h ++ e ∷ []) ≡ e ∷ [] = laws.steps.joins h e p same ∙ ap (λ es. es ++ e ∷ []) empty in
+    let now : IsPipeIn n (entries_of p (h ++ e ∷ [])) (new_pipe p shape) = subst (λ es. IsPipeIn n es (new_pipe p shape)) (sym begun) (new-pipe_in n p shape outsider fits) in
     record {
       changed = changed-later k (sees k h) l (new_pipe p shape) (new_pipe p shape) (Creates p shape ∷ []) [] kept
-          (entry-changed laws k l h e (new_pipe p shape) (new_pipe p shape) (Creates p shape) [] turn.2.1 same (own n (Creates p shape)) (accepted-none n h e refl) refl now);
+          (entry-changed laws k l h e (new_pipe p shape) (new_pipe p shape) (Creates p shape) [] turn.2.1 same refl (own n (Creates p shape)) (accepted-none n h e refl) refl now);
       fresh = λ other on. not-new n h p other empty (kept.pipes other on);
     }
 

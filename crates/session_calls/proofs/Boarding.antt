@@ -1,6 +1,6 @@
 -- What a caller knows of its pipelines goes on, whatever others do.
 use Rattle.std.proofs.Common.{◌≡◌, ◌≢◌, ℕ, ◌+◌, Bool, true, false, List, [], ◌∷◌, ◌++◌, length, map, Option, Some, None, refl, sym, ap, subst, ◌∙◌, append_assoc, append-nil}
-use Rattle.std.specs.Prelude.{◌==◌, ◌&&◌, ◌||◌, if◌then◌else◌, filter, unwrap_or}
+use Rattle.std.specs.Prelude.{◌<◌, ◌==◌, ◌&&◌, ◌||◌, if◌then◌else◌, filter, unwrap_or}
 use Rattle.std.proofs.lemmas.Bool.{eq-eqb}
 use Rattle.std.proofs.lemmas.List.{map-append}
 use Rattle.std.proofs.lemmas.List.Elements.{filter-append, filter_map-append}
@@ -8,18 +8,13 @@ use Rattle.std.proofs.lemmas.List.Folds.{list_any-append}
 use Rattle.board.specs.declared.entry.BoardEntry.{BoardEntry}
 use Rattle.board.specs.declared.entry.BoardEntry.TheVariants as event
 use Rattle.board.specs.declared.entry.Shape.{Shape}
-use Rattle.board.specs.Entries.{is_of, entries_of, accepted_in, birth_in, birth, first, submissions, held_in, is_close, is_closed, is_share, is_shared, delivered, caller_of}
+use Rattle.board.specs.Entries.{is_of, entries_of, accepted_in, birth_in, birth, first, submissions, held_in, masked_in, mask, is_close, is_closed, is_share, is_shared, delivered, caller_of, maker_is}
 use Rattle.board.specs.Allowance.{accepted_by, accepted_from}
 use Rattle.board.specs.Staying.{is_work}
-use Rattle.board.specs.Legal.{IsOpenPad, IsOpenQueue, MayManage, LegalBoard, is_shut, maker_is}
-use Rattle.board.specs.Order.{completed}
+use Rattle.board.specs.Legal.{IsOpenAs, MayManage, LegalBoard, is_shut, is_shut_entry}
+use Rattle.board.specs.Order.{handed_out, completed}
 use Rattle.board.specs.Handing.{is_collect, completions}
-use Rattle.board.proofs.Transfer.{entries-more}
-use Rattle.board.proofs.PadOrder.{filter_map-none, filter_map-some}
-use Rattle.board.proofs.Kept.{only_of, not_shut, shut-same, shared-same}
 use Rattle.std.specs.List.{cons_option, filter_map, list_all}
-use Rattle.board.proofs.Staying.{stays_open, queue_stays_open, stays_managed, stays_held}
-use Rattle.board.proofs.Handing.{hands_nothing, collect_hands_out, leaves_others}
 use Rattle.transforms.specs.declared.ask.Ask.{Ask}
 use Rattle.turn_lock.specs.Turns.{Known, StartsWith, sees, adds, of}
 use Rattle.turn_lock.specs.Meeting.{Meets, GoesOn, Enters, Leaves}
@@ -27,7 +22,7 @@ use Rattle.turn_lock.specs.Going.{goes_left, goes_entered}
 use Rattle.dialogues.specs.RegistryCalls.{prepend}
 use Rattle.dialogues.specs.BoardCalls.{BoardCall, outcome, is_called, board_call_of, board_calls}
 use Rattle.dialogues.specs.Walk.{Pipe}
-use Rattle.session_calls.specs.Pipelines.{Laws, IsOpenAs, IsPipeIn, Called, line_of, KnowsPipe, Kept, Changed}
+use Rattle.session_calls.specs.Pipelines.{Laws, IsPad, IsPipeIn, Called, line_of, made_so, KnowsPipe, Kept, Changed}
 
 -- ---- calls
 
@@ -64,6 +59,7 @@ not-called n (event.Go by pipe) e = e
 not-called n (event.Collect by pipe to) e = e
 not-called n (event.Close by pipe) e = e
 not-called n (event.Share by pipe) e = e
+not-called n (event.Mask by pipe mask) e = e
 not-called n (event.Shut by) e = e
 not-called n (event.Take by pipe number) e = refl
 not-called n (event.Finish by pipe number) e = refl
@@ -83,6 +79,7 @@ work-called n (event.Go by pipe) w = absurd cc
 work-called n (event.Collect by pipe to) w = absurd cc
 work-called n (event.Close by pipe) w = absurd cc
 work-called n (event.Share by pipe) w = absurd cc
+work-called n (event.Mask by pipe mask) w = absurd cc
 work-called n (event.Shut by) w = absurd cc
 
 and-true : (a b : Bool) → (a && b) ≡ true → (a ≡ true) × (b ≡ true)
@@ -121,6 +118,7 @@ born-of (event.Go by pipe) born is = absurd cc
 born-of (event.Collect by pipe to) born is = absurd cc
 born-of (event.Close by pipe) born is = absurd cc
 born-of (event.Share by pipe) born is = absurd cc
+born-of (event.Mask by pipe mask) born is = absurd cc
 born-of (event.Shut by) born is = absurd cc
 
 -- where a caller's own entries are work, it made no pipeline
@@ -164,10 +162,6 @@ owned-before n p h es works owns =
     or-left false b e = refl
     or-left true b e = e
 
-opened-stays : (bound : Option ℕ) (es es' : List (BoardEntry Ask)) → (IsOpenPad es → IsOpenPad es') → (IsOpenQueue es → IsOpenQueue es') → IsOpenAs bound es → IsOpenAs bound es'
-opened-stays None es es' pad queue o = pad o
-opened-stays (Some max) es es' pad queue o = queue o
-
 -- a pass that went on by entries of others and by its own work keeps what it knows
 pub goes-kept : Laws → (k l : Known (BoardEntry Ask)) (own : List (BoardEntry Ask)) → GoesOn caller_of LegalBoard k l own → list_all (λ e. is_work e) own ≡ true → LegalBoard l.seen → Kept k l
 goes-kept laws k l own goes works legal =
@@ -189,10 +183,12 @@ goes-kept laws k l own goes works legal =
       pipes = λ pipe on.
           let known = laws.mine k.seen between pipe.number k.number come on.managed in
           let now : IsPipeIn k.number (entries_of pipe.number all) pipe = record {
-            opened = opened-stays pipe.bound (entries_of pipe.number k.seen) (entries_of pipe.number all) known.pad known.queue on.opened;
+            opened = known.opened (made_so pipe.bound) on.opened;
             managed = known.managed;
             unshared = known.shared ∙ on.unshared;
+            served = λ pad. subst (λ m. 0 < m) (sym known.masked) (on.served pad);
             held = known.held ∙ on.held;
+            queue = on.queue;
             lines = ap (map line_of) (known.accepted on.unshared) ∙ on.lines;
             delivered = ap (λ x. length (completed x)) known.handed ∙ on.delivered;
           } in
@@ -277,88 +273,122 @@ accepted-none n h e none = filter_map-append (accepted_from n) h (e ∷ []) ∙ 
 pub accepted-more : (n : ℕ) (h : List (BoardEntry Ask)) (e : BoardEntry Ask) (ask : Ask) → accepted_from n e ≡ Some ask → accepted_by n (h ++ e ∷ []) ≡ accepted_by n h ++ ask ∷ []
 accepted-more n h e ask some = filter_map-append (accepted_from n) h (e ∷ []) ∙ ap (λ o. accepted_by n h ++ cons_option o []) some
 
-pub opened-more : (bound : Option ℕ) (h : List (BoardEntry Ask)) (e : BoardEntry Ask) (p : ℕ) → is_close e ≡ false → IsOpenAs bound (entries_of p h) → IsOpenAs bound (entries_of p (h ++ e ∷ []))
-opened-more None h e p c o = stays_open h e p o c
-opened-more (Some max) h e p c o = queue_stays_open h e p o c
-
-pub shared-more : (h : List (BoardEntry Ask)) (e : BoardEntry Ask) (p : ℕ) → is_share e ≡ false → is_shared (entries_of p (h ++ e ∷ [])) ≡ is_shared (entries_of p h)
-shared-more h e p s = by_of (is_of p e) refl
+-- an entry that shares nothing
+pub shared-more : Laws → (h : List (BoardEntry Ask)) (e : BoardEntry Ask) (p : ℕ) → is_share e ≡ false → is_shared (entries_of p (h ++ e ∷ [])) ≡ is_shared (entries_of p h)
+shared-more laws h e p s = by_of (is_of p e) refl
   where
     by_of : (b : Bool) → is_of p e ≡ b → is_shared (entries_of p (h ++ e ∷ [])) ≡ is_shared (entries_of p h)
-    by_of true q = ap is_shared (entries-more h p e q) ∙ shared-same (entries_of p h) e s
-    by_of false q = ap is_shared (leaves_others h e p q)
+    by_of true q = ap is_shared (laws.steps.joins h e p q) ∙ laws.steps.shared (entries_of p h) e s
+    by_of false q = ap is_shared (laws.steps.leaves h e p q)
 
-module _ (n : ℕ) (h : List (BoardEntry Ask)) (e : BoardEntry Ask) (pipe : Pipe) (closes : is_close e ≡ false) (shares : is_share e ≡ false) (on : IsPipeIn n (entries_of pipe.number h) pipe) where
+-- one that accepts nothing
+pub asks-same : Laws → (h : List (BoardEntry Ask)) (e : BoardEntry Ask) (p : ℕ) → accepted_in e ≡ None → submissions (entries_of p (h ++ e ∷ [])) ≡ submissions (entries_of p h)
+asks-same laws h e p none = by_of (is_of p e) refl
+  where
+    by_of : (b : Bool) → is_of p e ≡ b → submissions (entries_of p (h ++ e ∷ [])) ≡ submissions (entries_of p h)
+    by_of true q = ap submissions (laws.steps.joins h e p q) ∙ laws.steps.accepted (entries_of p h) e none
+    by_of false q = ap submissions (laws.steps.leaves h e p q)
+
+-- an entry that makes nothing, closes nothing, shares nothing and masks nothing
+pub record IsPlain (e : BoardEntry Ask) : Type 0 where
+  pub born : birth_in e ≡ None
+  pub closes : is_close e ≡ false
+  pub shares : is_share e ≡ false
+  pub masks : masked_in e ≡ None
+
+module _ (laws : Laws) (n : ℕ) (h : List (BoardEntry Ask)) (e : BoardEntry Ask) (pipe : Pipe) (plain : IsPlain e) (on : IsPipeIn n (entries_of pipe.number h) pipe) where
   abbrev p : ℕ
   p = pipe.number
 
   abbrev later : List (BoardEntry Ask)
   later = entries_of p (h ++ e ∷ [])
 
+  pub opened-more : IsOpenAs (made_so pipe.bound) later
+  opened-more = laws.steps.opened (made_so pipe.bound) h e p on.opened plain.closes
+
+  pub managed-more : MayManage later n
+  managed-more = laws.steps.managed h e p n on.managed
+
+  pub unshared-more : is_shared later ≡ false
+  unshared-more = shared-more laws h e p plain.shares ∙ on.unshared
+
+  pub served-more : IsPad pipe.bound → 0 < mask later
+  served-more pad = subst (λ m. 0 < m) (sym (laws.steps.masked h e p plain.born plain.masks)) (on.served pad)
+
+  pub delivered-more : is_collect e ≡ false → length (completed (handed_out later)) ≡ pipe.delivered
+  delivered-more hands = ap (λ ns. length (completed ns)) (laws.steps.nothing h e p hands) ∙ on.delivered
+
+  pub lines-more : accepted_in e ≡ None → map line_of (submissions later) ≡ pipe.lines
+  lines-more none = ap (map line_of) (asks-same laws h e p none) ∙ on.lines
+
   -- it accepts nothing, hands nothing out, and holds nothing
   pub pipe-stays : accepted_in e ≡ None → is_collect e ≡ false → held_in e ≡ None → IsPipeIn n later pipe
   pipe-stays none hands holds =
       record {
-        opened = opened-more pipe.bound h e p closes on.opened;
-        managed = stays_managed h e p n on.managed;
-        unshared = shared-more h e p shares ∙ on.unshared;
-        held = stays_held h e p holds ∙ on.held;
-        lines = ap (map line_of) (same_asks (is_of p e) refl) ∙ on.lines;
-        delivered = ap (λ ns. length (completed ns)) (hands_nothing h e p hands) ∙ on.delivered;
+        opened = opened-more;
+        managed = managed-more;
+        unshared = unshared-more;
+        served = served-more;
+        held = laws.steps.held h e p holds ∙ on.held;
+        queue = on.queue;
+        lines = lines-more none;
+        delivered = delivered-more hands;
       }
-    where
-      same_asks : (b : Bool) → is_of p e ≡ b → submissions later ≡ submissions (entries_of p h)
-      same_asks true q = ap submissions (entries-more h p e q) ∙ filter_map-none accepted_in (entries_of p h) e none
-      same_asks false q = ap submissions (leaves_others h e p q)
 
   -- it accepts a request
   pub pipe-accepts : (ask : Ask) → is_of p e ≡ true → accepted_in e ≡ Some ask → is_collect e ≡ false → held_in e ≡ None → IsPipeIn n later (record pipe { lines = pipe.lines ++ line_of ask ∷ [] })
   pipe-accepts ask of some hands holds =
       record {
-        opened = opened-more pipe.bound h e p closes on.opened;
-        managed = stays_managed h e p n on.managed;
-        unshared = shared-more h e p shares ∙ on.unshared;
-        held = stays_held h e p holds ∙ on.held;
+        opened = opened-more;
+        managed = managed-more;
+        unshared = unshared-more;
+        served = served-more;
+        held = laws.steps.held h e p holds ∙ on.held;
+        queue = on.queue;
         lines =
-            ap (λ es. map line_of (submissions es)) (entries-more h p e of)
-            ∙ (ap (map line_of) (filter_map-some accepted_in (entries_of p h) e ask some)
+            ap (λ es. map line_of (submissions es)) (laws.steps.joins h e p of)
+            ∙ (ap (map line_of) (filter_map-append accepted_in (entries_of p h) (e ∷ []) ∙ ap (λ o. submissions (entries_of p h) ++ cons_option o []) some)
             ∙ (map-append line_of (submissions (entries_of p h)) (ask ∷ []) ∙ ap (λ ls. ls ++ line_of ask ∷ []) on.lines));
-        delivered = ap (λ ns. length (completed ns)) (hands_nothing h e p hands) ∙ on.delivered;
+        delivered = delivered-more hands;
       }
 
 -- it hands out what was told
-pub pipe-collected : (n : ℕ) (h : List (BoardEntry Ask)) (pipe : Pipe) (to : ℕ) → LegalBoard (h ++ event.Collect n pipe.number to ∷ []) → IsPipeIn n (entries_of pipe.number h) pipe
+pub pipe-collected : Laws → (n : ℕ) (h : List (BoardEntry Ask)) (pipe : Pipe) (to : ℕ) → LegalBoard (h ++ event.Collect n pipe.number to ∷ []) → IsPipeIn n (entries_of pipe.number h) pipe
     → IsPipeIn n (entries_of pipe.number (h ++ event.Collect n pipe.number to ∷ [])) (record pipe { delivered = pipe.delivered + completions (delivered outcome (entries_of pipe.number h) to) })
-pipe-collected n h pipe to legal on =
+pipe-collected laws n h pipe to legal on =
     let p : ℕ = pipe.number in
     let e : BoardEntry Ask = event.Collect n p to in
+    let plain : IsPlain e = record { born = refl; closes = refl; shares = refl; masks = refl } in
     record {
-      opened = opened-more pipe.bound h e p refl on.opened;
-      managed = stays_managed h e p n on.managed;
-      unshared = shared-more h e p refl ∙ on.unshared;
-      held = stays_held h e p refl ∙ on.held;
-      lines = ap (λ es. map line_of (submissions es)) (entries-more h p e (eq-eqb p p refl)) ∙ (ap (map line_of) (filter_map-none accepted_in (entries_of p h) e refl) ∙ on.lines);
-      delivered = collect_hands_out outcome h n p to legal ∙ ap (λ c. c + completions (delivered outcome (entries_of p h) to)) on.delivered;
+      opened = opened-more laws n h e pipe plain on;
+      managed = managed-more laws n h e pipe plain on;
+      unshared = unshared-more laws n h e pipe plain on;
+      served = served-more laws n h e pipe plain on;
+      held = laws.steps.held h e p refl ∙ on.held;
+      queue = on.queue;
+      lines = lines-more laws n h e pipe plain on refl;
+      delivered = laws.steps.handed h n p to legal ∙ ap (λ c. c + completions (delivered outcome (entries_of p h) to)) on.delivered;
     }
 
 entry-knows : (k l : Known (BoardEntry Ask)) (h : List (BoardEntry Ask)) (e : BoardEntry Ask) → Enters LegalBoard k h e l → (P : Known (BoardEntry Ask) → Type 0) → P (adds (sees k h) e) → P l
 entry-knows k l h e enters P p = subst P (sym enters.0) p
 
+-- an entry of one pipeline leaves each other
+pub apart-same : Laws → (h : List (BoardEntry Ask)) (e : BoardEntry Ask) (p q : ℕ) → is_of p e ≡ true → (q == p) ≡ false → entries_of q (h ++ e ∷ []) ≡ entries_of q h
+apart-same laws h e p q of apart = laws.steps.leaves h e q (laws.steps.one e p q of (λ same. let yes : (q == p) ≡ true = eq-eqb q p same in let bad : true ≡ false = sym yes ∙ apart in cc))
+
 -- the caller made a call on one of its pipelines
-pub entry-changed : Laws → (k l : Known (BoardEntry Ask)) (h : List (BoardEntry Ask)) (e : BoardEntry Ask) (pipe pipe' : Pipe) (call : BoardCall) (asks : List Ask) → Enters LegalBoard k h e l → is_of pipe.number e ≡ true
+pub entry-changed : Laws → (k l : Known (BoardEntry Ask)) (h : List (BoardEntry Ask)) (e : BoardEntry Ask) (pipe pipe' : Pipe) (call : BoardCall) (asks : List Ask) → Enters LegalBoard k h e l → is_of pipe.number e ≡ true → is_shut_entry e ≡ false
     → board_call_of k.number h e ≡ Some call → accepted_by k.number (h ++ e ∷ []) ≡ accepted_by k.number h ++ asks → pipe'.number ≡ pipe.number → IsPipeIn k.number (entries_of pipe'.number (h ++ e ∷ [])) pipe'
     → Changed (sees k h) l pipe pipe' (call ∷ []) asks
-entry-changed laws k l h e pipe pipe' call asks enters of called accepts same now =
+entry-changed laws k l h e pipe pipe' call asks enters of not_shut called accepts same now =
     entry-knows k l h e enters (λ x. Changed (sees k h) x pipe pipe' (call ∷ []) asks) (record {
       called = record { number = refl; next = refl; seen = (e ∷ [], refl); calls_are = calls-one laws k.number h e call called };
       legal = enters.1;
       same = same;
       now = now;
-      others = λ other apart on. subst (λ es. IsPipeIn k.number es other) (sym (leaves_others h e other.number (only_of e pipe.number other.number of (differs other.number apart)))) on;
-      owned = λ p apart owns. subst (λ es. OwnsIn k.number es) (leaves_others h e p (only_of e pipe.number p of (differs p apart))) owns;
+      others = λ other apart on. subst (λ es. IsPipeIn k.number es other) (sym (apart-same laws h e pipe.number other.number of apart)) on;
+      owned = λ p apart owns. subst (λ es. OwnsIn k.number es) (apart-same laws h e pipe.number p of apart) owns;
       accepted = accepts;
-      unshut = λ zero_is. shut-same h e (not_shut e pipe.number of);
+      unshut = λ zero_is. laws.steps.shut h e not_shut;
     })
-  where
-    differs : (p : ℕ) → (p == pipe.number) ≡ false → p ≢ pipe.number
-    differs p apart q = let yes : (p == pipe.number) ≡ true = eq-eqb p pipe.number q in let bad : true ≡ false = sym yes ∙ apart in cc

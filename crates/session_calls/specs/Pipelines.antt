@@ -1,5 +1,5 @@
 -- What a caller knows of its pipelines on the board, and how it goes on.
-use Rattle.std.specs.Prelude.{ℕ, ◌+◌, ◌≡◌, Bool, true, false, ◌==◌, List, [], ◌∷◌, ◌++◌, length, map, Option, Some, None, ⊤, slice_get, unwrap_or}
+use Rattle.std.specs.Prelude.{ℕ, ◌+◌, ◌<◌, ◌≡◌, Bool, true, false, ◌==◌, List, [], ◌∷◌, ◌++◌, length, map, Option, Some, None, ⊤, slice_get, unwrap_or}
 use Rattle.kc_base.specs.declared.callback_list.Callback.{Callback}
 use Rattle.kc_base.specs.declared.callback_list.Callback.TheVariants as callback
 use Rattle.board.specs.declared.entry.BoardEntry.{BoardEntry}
@@ -8,43 +8,79 @@ use Rattle.board.specs.declared.entry.Entered.{Entered}
 use Rattle.board.specs.declared.entry.Shape.{Shape}
 use Rattle.board.specs.declared.entry.Entered.TheVariants.{InProgress, Busy, NoSpace}
 use Rattle.board.specs.Allowance.{accepted_by}
-use Rattle.board.specs.Entries.{entries_of, submissions, is_held, is_shared, is_closed, caller_of}
-use Rattle.board.specs.Handing.{completions}
-use Rattle.board.specs.Legal.{IsOpenPad, IsOpenQueue, MayManage, LegalBoard, is_shut}
-use Rattle.board.specs.Order.{handed_out, completed}
+use Rattle.board.specs.Entries.{entries_of, submissions, is_held, is_shared, is_closed, mask, caller_of}
+use Rattle.board.specs.Following.{EndsRight, IsOfOne, LeavesShared, LeavesSubmissions, LeavesShut}
+use Rattle.board.specs.Handing.{HandsNothing, CollectHandsOut, AllHandedOutIsDrained, completions}
+use Rattle.board.specs.Legal.{IsOpenAs, MayManage, LegalBoard, is_shut}
+use Rattle.board.specs.Order.{handed_out, completed, HandsOutAll, FrontIsAll}
+use Rattle.board.specs.Shapes.{is_pad, has_line}
+use Rattle.board.specs.Staying.{Joins, LeavesOthers, BeginsAlone, StaysOpen, StaysManaged, Holds as IsHeldSo, StaysHeld, StaysMasked}
 use Rattle.transforms.specs.declared.ask.Ask.{Ask}
 use Rattle.transforms.specs.declared.request.Finished.{Finished}
 use Rattle.turn_lock.specs.Turns.{Known, StartsWith, sees}
 use Rattle.turn_lock.specs.Meeting.{IsOwn}
 use Rattle.board.specs.Others.{WorkLeavesKnown, WorkLeavesOwn}
 use Rattle.dialogues.specs.Allocating.{new_pipe}
-use Rattle.dialogues.specs.BoardCalls.{BoardCall, Creates, Collects, Closes, Shuts, Notice, Started, Completed, board_calls}
+use Rattle.dialogues.specs.BoardCalls.{BoardCall, Creates, Collects, Closes, Shuts, Notice, Started, Completed, board_calls, outcome}
 use Rattle.dialogues.specs.GoingOn.{BoardCallsGoOn, BoardUncalled}
 use Rattle.dialogues.specs.Walk.{Pipe}
 
--- what entries of others, and one's own work, leave as it was
+-- what the board's laws say of an entry of one's own
+pub record Steps : Type 0 where
+  pub last : (h : List (BoardEntry Ask)) (e : BoardEntry Ask) → EndsRight h e
+  pub one : (e : BoardEntry Ask) (p q : ℕ) → IsOfOne e p q
+  pub joins : (h : List (BoardEntry Ask)) (e : BoardEntry Ask) (p : ℕ) → Joins h e p
+  pub leaves : (h : List (BoardEntry Ask)) (e : BoardEntry Ask) (p : ℕ) → LeavesOthers h e p
+  pub alone : (h : List (BoardEntry Ask)) (caller p : ℕ) (shape : Shape) → BeginsAlone h caller p shape
+  pub opened : (such : Shape → Bool) (h : List (BoardEntry Ask)) (e : BoardEntry Ask) (p : ℕ) → StaysOpen such h e p
+  pub managed : (h : List (BoardEntry Ask)) (e : BoardEntry Ask) (p caller : ℕ) → StaysManaged h e p caller
+  pub switched : (h : List (BoardEntry Ask)) (caller p : ℕ) → IsHeldSo h caller p
+  pub held : (h : List (BoardEntry Ask)) (e : BoardEntry Ask) (p : ℕ) → StaysHeld h e p
+  pub masked : (h : List (BoardEntry Ask)) (e : BoardEntry Ask) (p : ℕ) → StaysMasked h e p
+  pub shared : (es : List (BoardEntry Ask)) (e : BoardEntry Ask) → LeavesShared es e
+  pub accepted : (es : List (BoardEntry Ask)) (e : BoardEntry Ask) → LeavesSubmissions es e
+  pub shut : (h : List (BoardEntry Ask)) (e : BoardEntry Ask) → LeavesShut h e
+  pub nothing : (h : List (BoardEntry Ask)) (e : BoardEntry Ask) (p : ℕ) → HandsNothing h e p
+  pub handed : (h : List (BoardEntry Ask)) (caller p to : ℕ) → CollectHandsOut outcome h caller p to
+  pub all : (h : List (BoardEntry Ask)) (p caller to : ℕ) → HandsOutAll h p caller to
+  pub finished : (es : List (BoardEntry Ask)) → FrontIsAll es
+  pub drained : (h : List (BoardEntry Ask)) (p : ℕ) → AllHandedOutIsDrained h p
+
+-- what entries of others, and one's own work, leave as it was, and what an entry of one's own does
 pub record Laws : Type 0 where
   pub mine : (h es : List (BoardEntry Ask)) (p caller : ℕ) → WorkLeavesKnown h es p caller
   pub own : (h es : List (BoardEntry Ask)) (caller : ℕ) → WorkLeavesOwn h es caller
   pub calls : BoardCallsGoOn
   pub uncalled : BoardUncalled
+  pub steps : Steps
 
 -- ---- one pipeline
 
 abbrev pub line_of : Ask → ℕ
 line_of ask = ask.line
 
--- an open pad, or an open queue: one has a bound
-abbrev pub IsOpenAs : Option ℕ → List (BoardEntry Ask) → Type 0
-IsOpenAs None es = IsOpenPad es
-IsOpenAs (Some max) es = IsOpenQueue es
+abbrev pub IsPad : Option ℕ → Type 0
+IsPad None = ⊤
+IsPad (Some max) = ⊥
 
--- the pipeline of which this caller is the maker, as the entries of its number have it
+abbrev pub IsQueue : Option ℕ → Type 0
+IsQueue None = ⊥
+IsQueue (Some max) = ⊤
+
+-- a pad, or a pipeline with a line in front: that one has a bound
+abbrev pub made_so : Option ℕ → Shape → Bool
+made_so None = is_pad
+made_so (Some max) = has_line
+
+-- The pipeline of which this caller is the maker, as the entries of its number have it. Some worker may take a pad's jobs, and only
+-- what has a line is held.
 pub record IsPipeIn (caller : ℕ) (es : List (BoardEntry Ask)) (pipe : Pipe) : Type 0 where
-  pub opened : IsOpenAs pipe.bound es
+  pub opened : IsOpenAs (made_so pipe.bound) es
   pub managed : MayManage es caller
   pub unshared : is_shared es ≡ false
+  pub served : IsPad pipe.bound → 0 < mask es
   pub held : is_held es ≡ pipe.held
+  pub queue : pipe.held ≡ true → IsQueue pipe.bound
   pub lines : map line_of (submissions es) ≡ pipe.lines
   pub delivered : length (completed (handed_out es)) ≡ pipe.delivered
 
@@ -54,14 +90,6 @@ KnowsPipe k pipe = IsPipeIn k.number (entries_of pipe.number k.seen) pipe
 -- the caller made the pipeline of this number, and hasn't closed it
 abbrev pub Owns : Known (BoardEntry Ask) → ℕ → Type 0
 Owns k p = MayManage (entries_of p k.seen) k.number × (is_closed (entries_of p k.seen) ≡ false)
-
-abbrev pub IsPad : Option ℕ → Type 0
-IsPad None = ⊤
-IsPad (Some max) = ⊥
-
-abbrev pub IsQueue : Option ℕ → Type 0
-IsQueue None = ⊥
-IsQueue (Some max) = ⊤
 
 -- ---- how what is known goes on
 

@@ -1,6 +1,6 @@
 //! A script's calls on the board.
 
-ghost use Rattle.std.specs.Prelude.{◌≡◌, ◌↔◌, ◌<◌, ◌≤◌, ◌+◌, ◌++◌, ◌∷◌, [], true, false, Bool, List, length, Some, IsSome, MatchResult};
+ghost use Rattle.std.specs.Prelude.{◌≡◌, ◌≢◌, ◌↔◌, ◌<◌, ◌≤◌, ◌+◌, ◌++◌, ◌∷◌, [], true, false, Bool, List, length, Some, IsSome, IfErr, MatchResult};
 ghost use Rattle.std.specs.Arc.{arc_value};
 ghost use Rattle.kc_base.specs.declared.callback_list.Callback.{Callback as Told};
 ghost use Rattle.board.specs.Allowance.{IsAllowed};
@@ -12,10 +12,14 @@ ghost use Rattle.transforms.specs.AskValue.{ask_size};
 ghost use Rattle.transforms.specs.declared.request.Finished.{Finished as Outcome};
 ghost use Rattle.dialogues.specs.BoardCalls.{Submits, Enqueues, Holds, Goes, asked_by};
 ghost use Rattle.session_calls.specs.Passes.{CallsBoard, known, lock_of};
-ghost use Rattle.session_calls.specs.Pipelines.{Laws, IsPad, IsQueue, KnowsPipe, Kept, Changed, Closed, IsShut, Opened, with_ask, entered_pipe, entered_asks, Drained, Polled};
+ghost use Rattle.session_calls.specs.Pipelines.{Laws, Steps, IsPad, IsQueue, KnowsPipe, Kept, Changed, Closed, IsShut, Opened, with_ask, entered_pipe, entered_asks, Drained, Polled};
 
 use crate::pipe::Pipe;
-use board::{BoardErr, Entered, others_leave};
+use board::{
+    BoardErr, Entered, collects_hand_out, collects_hand_out_all, entries_join, entries_leave,
+    fronts_tell_all, histories_go_on, masks_stay, only_collects_hand_out, others_leave,
+    pipelines_stay, queues_hold,
+};
 use crew::{Gate, drain};
 use dialogues::board_calls_go_on;
 use kc_base::Callbacks;
@@ -39,12 +43,29 @@ impl Model for BoardCaller {
     ghost view = { λ c. c.pass };
 }
 
-// what others leave of what a caller knows of the board
+// what an entry of a caller's own is to what it knows
+fn entry_laws()
+    ensures { Steps }
+{
+    histories_go_on::<Ask>();
+    entries_join::<Ask>();
+    entries_leave::<Ask>();
+    pipelines_stay::<Ask>();
+    queues_hold::<Ask>();
+    masks_stay::<Ask>();
+    only_collects_hand_out::<Ask>();
+    collects_hand_out::<Ask, Finished>();
+    collects_hand_out_all::<Ask>();
+    fronts_tell_all::<Ask>();
+}
+
+// what others leave of what a caller knows of the board, and what it does itself
 fn board_laws()
     ensures { Laws }
 {
     others_leave::<Ask, Finished>();
     board_calls_go_on();
+    entry_laws();
 }
 
 impl BoardCaller {
@@ -63,7 +84,7 @@ impl BoardCaller {
         self.pass.unwrap()
     }
 
-    /// Makes a pad of `lists` reorder lists, at least 1, and answers its number. Only want of memory refuses.
+    /// Makes a pad of `lists` reorder lists, 1 to 16, and answers its number. Only want of memory refuses.
     pub fn born_pad<R: Wait>(
         &mut self,
         rt: &R,
@@ -72,7 +93,8 @@ impl BoardCaller {
     ) -> Result<u64, BoardErr>
         requires at { CallsBoard board.now self.old }
         requires caller { IsNoWorker (known self.old).number }
-        requires lists { 1 ≤ lists }
+        requires some { 1 ≤ lists }
+        requires lists { lists ≤ 16 }
         ensures lock { lock_of self.new ≡ lock_of self.old }
         ensures opened { MatchResult result
             (λ number. Opened (known self.old) (known self.new) number (PadOf lists))
@@ -109,7 +131,7 @@ impl BoardCaller {
     }
 
     /// Hands a job in to a pad of the caller's, and answers its number. `TooBig` exactly where the caller's allowance has no
-    /// room for the job.
+    /// room for the job; `NoWorker` never, since its mask isn't empty.
     pub fn submit<R: Wait>(
         &mut self,
         rt: &R,
@@ -127,6 +149,7 @@ impl BoardCaller {
         ensures allowed { MatchResult result
             (λ _. IsAllowed ask_size (known self.old).seen (known self.old).number (arc_value job.ask))
             (λ e. (e ≡ BoardErr.TooBig) ↔ (IsAllowed ask_size (known self.old).seen (known self.old).number (arc_value job.ask) → ⊥)) }
+        ensures served { IfErr result (λ e. e ≢ BoardErr.NoWorker) }
     {
         board_laws();
         let pass = self.pass.take().unwrap();
@@ -136,7 +159,7 @@ impl BoardCaller {
     }
 
     /// Hands a job in to a queue of the caller's, and answers its verdict. `TooBig` exactly where the caller's allowance has no
-    /// room for the job.
+    /// room for the job; `NoWorker` never.
     pub fn enqueue<R: Wait>(
         &mut self,
         rt: &R,
@@ -155,6 +178,7 @@ impl BoardCaller {
         ensures allowed { MatchResult result
             (λ _. IsAllowed ask_size (known self.old).seen (known self.old).number (arc_value job.ask))
             (λ e. (e ≡ BoardErr.TooBig) ↔ (IsAllowed ask_size (known self.old).seen (known self.old).number (arc_value job.ask) → ⊥)) }
+        ensures served { IfErr result (λ e. e ≢ BoardErr.NoWorker) }
     {
         board_laws();
         let pass = self.pass.take().unwrap();

@@ -2,6 +2,7 @@
 use Rattle.std.specs.Prelude.{ℕ, Bool, true, false, List, [], ◌∷◌, ◌++◌, Some, None, replicate, map, codes}
 use Rattle.kc_base.specs.declared.error_numbers.Errno.{Errno}
 use Rattle.kc_base.specs.declared.error_numbers.Errno.TheVariants.{ENOENT, EINPROGRESS, EBUSY, ENOSPC, EINVAL}
+use Rattle.transforms.specs.Cuts.{in_one}
 use Rattle.script_text.specs.declared.commands.Command.TheVariants.{Alloc, Register, Unregister, Key, Enc, Hold, Go, Poll, Drain, Free, Refs}
 use Rattle.script_text.specs.declared.commands.Command.TheVariants as command
 use Rattle.script_text.specs.declared.commands.Line.{Line}
@@ -72,7 +73,7 @@ abbrev pub queue : List Line
 queue = Cmd (Alloc (codes "q") (codes "cryptd(cbc(aes))") (Some 2)) ∷ Cmd (Key (codes "q") (replicate 16 0)) ∷ []
 
 abbrev pub sealing : Bool → Line
-sealing backlog = Cmd (Enc (codes "q") (replicate 16 0) [] (replicate 16 0) backlog)
+sealing backlog = Cmd (Enc (codes "q") (replicate 16 0) [] (in_one (replicate 16 0)) backlog)
 
 abbrev pub held_first : List Line
 held_first =

@@ -40,6 +40,34 @@ const THREE: &[u8] = b"b 0 collect 0 3
 const SHUT: &[u8] = b"b 0 shut
 ";
 
+// A chain of one that waits, and two lists, whose second request is finished first; and a pad whose mask is emptied, and then has
+// the second worker alone.
+const CHAIN: &[u8] = b"b 0 born 0 chain 1 2
+b 0 hold 0
+b 0 enq 0 4 plain EINPROGRESS 0
+b 0 enq 0 5 backlog EBUSY 1
+b 0 go 0
+b 2 deq 0 0 started 1
+b 1 deq 0 1 -
+b 1 take 0 0
+b 2 take 0 1
+b 2 finish 0 1
+b 0 collect 0 1
+b 1 finish 0 0
+b 0 collect 0 3
+b 0 close 0
+";
+
+const MASKED: &[u8] = b"b 0 born 1 pad 2
+b 0 submit 1 0 6
+b 0 mask 1 0000
+b 0 mask 1 0002
+b 2 take 1 0
+b 2 finish 1 0
+b 0 collect 1 1
+b 0 close 1
+";
+
 // The parts of a trace of a held queue, and what it comes to: right, without its birth, with a collect of too few, and shut
 // twice.
 const HELD: [(&[&[u8]], TraceVerdict); 4] = [
@@ -79,8 +107,15 @@ fn the_trace_of_a_held_queue_is_judged(rt: HostRuntime) -> Result<(), Fail> {
 }
 
 #[test]
+fn the_trace_of_a_chain_and_a_mask_is_judged(rt: HostRuntime) -> Result<(), Fail> {
+    let found = verdict(rt.alloc(), &[REGISTRY, CHAIN, MASKED, SHUT])?;
+    assert!(rt; found == TraceVerdict::Legal);
+    Ok(())
+}
+
+#[test]
 fn the_first_bad_line_is_named(rt: HostRuntime) -> Result<(), Fail> {
-    let table: [(&[u8], u64); 10] = [
+    let table: [(&[u8], u64); 13] = [
         (b"x", 1),
         (b"b 0 shut", 1),
         (b"b 0 shut\nr 0 list\n", 2),
@@ -91,6 +126,9 @@ fn the_first_bad_line_is_named(rt: HostRuntime) -> Result<(), Fail> {
         (b"r 0 refs \x7f\n", 1),
         (b"b 0 enq 0 7 plain EBUSY 1\nb 0 enq 0 7 none EBUSY 1\n", 2),
         (b"b 0 deq 0 0 -\nb 0 deq 0 0 + 1\n", 2),
+        (b"b 0 born 0 chain 1 1\nb 0 born 0 chain 1\n", 2),
+        (b"b 0 mask 0 00ff\nb 0 mask 0 00FF\n", 2),
+        (b"b 0 mask 0 fff\n", 1),
     ];
     for (text, line) in table {
         let found = check_trace(rt.alloc(), text)?;
@@ -155,16 +193,52 @@ fn each_reason_of_the_registry_is_found(rt: HostRuntime) -> Result<(), Fail> {
     Ok(())
 }
 
-// The same of the board's events. A birth needs no state, anybody may take a job of a pad or of a queue, an answer stands in what is
-// put to a queue alone, and a number that isn't right for a take, a finish or a done is one without its state.
-const BOARD_CASES: [(&[u8], u64, Reason); 31] = [
+// The same of the board's events. A birth needs no state, anybody may let a request out of a line, an answer stands in what is put to
+// a queue or a chain alone, and a number that isn't right for a take, a finish or a done is one without its state.
+const BOARD_CASES: [(&[u8], u64, Reason); 43] = [
     (b"b 1 born 0 pad 1\n", 0, Reason::Caller),
     (b"b 0 born 1 pad 1\n", 0, Reason::Number),
     (b"b 0 born 0 queue 0\n", 0, Reason::Number),
+    (b"b 0 born 0 pad 17\n", 0, Reason::Number),
+    (b"b 0 born 0 chain 0 1\n", 0, Reason::Number),
+    (b"b 0 born 0 chain 1 0\n", 0, Reason::Number),
     (b"b 0 submit 0 0 7\n", 0, Reason::State),
     (b"b 0 born 0 pad 1\nb 17 submit 0 0 7\n", 1, Reason::Caller),
     (b"b 0 born 0 pad 1\nb 0 submit 0 1 7\n", 1, Reason::Number),
     (b"b 0 born 0 pad 1\nb 1 take 0 0\n", 1, Reason::State),
+    (
+        b"b 0 born 0 pad 2\nb 0 mask 0 0000\nb 0 submit 0 0 7\n",
+        2,
+        Reason::State,
+    ),
+    (
+        b"b 0 born 0 pad 2\nb 0 mask 0 0001\nb 0 submit 0 0 7\nb 2 take 0 0\n",
+        3,
+        Reason::Caller,
+    ),
+    (
+        b"b 0 born 0 chain 1 1\nb 0 enq 0 7 plain EINPROGRESS 0\nb 1 take 0 0\n",
+        2,
+        Reason::State,
+    ),
+    (
+        b"b 0 born 0 chain 1 1\nb 0 enq 0 7 plain EINPROGRESS 0\nb 1 deq 0 0 -\nb 1 done 0 0\n",
+        3,
+        Reason::State,
+    ),
+    (
+        b"b 0 born 0 chain 1 1\nb 0 enq 0 7 plain EINPROGRESS 0\nb 0 collect 0 1\n",
+        2,
+        Reason::Number,
+    ),
+    (b"b 0 born 0 chain 1 1\nb 0 mask 0 0000\n", 1, Reason::State),
+    (
+        b"b 0 born 0 pad 2\nb 0 share 0\nb 0 mask 0 0001\n",
+        2,
+        Reason::State,
+    ),
+    (b"b 0 born 0 pad 2\nb 17 mask 0 0001\n", 1, Reason::Caller),
+    (b"b 0 born 0 pad 2\nb 0 mask 0 0004\n", 1, Reason::Number),
     (
         b"b 0 born 0 pad 1\nb 0 submit 0 0 7\nb 1 finish 0 0\n",
         2,

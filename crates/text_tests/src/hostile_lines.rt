@@ -4,8 +4,8 @@ use script_text::{Line, MAX_LINE, read_line};
 use std::alloc::{AllocError, Global};
 use std::test::Fail;
 
-// 18 parts of a text, of a byte each.
-const PARTS: &[u8] = b"00|00|00|00|00|00|00|00|00|00|00|00|00|00|00|00|00|00";
+// 17 parts of a text, of a byte each.
+const PARTS: &[u8] = b"00|00|00|00|00|00|00|00|00|00|00|00|00|00|00|00|00";
 
 // A `mac` of this text, of so many bytes in all, by blanks at its end.
 fn mac_of(alloc: Global, text: &[u8], count: usize) -> Result<Vec<u8>, AllocError> {
@@ -23,7 +23,7 @@ fn is_malformed(alloc: Global, line: &[u8]) -> Result<bool, AllocError> {
 #[test]
 fn hostile_lines_are_malformed(rt: HostRuntime) -> Result<(), Fail> {
     let alloc = rt.alloc();
-    let table: [&[u8]; 9] = [
+    let table: [&[u8]; 14] = [
         b"key t 000",
         b"mac t 00\x0000",
         b"mac t\r00",
@@ -31,17 +31,23 @@ fn hostile_lines_are_malformed(rt: HostRuntime) -> Result<(), Fail> {
         b"register aes-generic 0000000001",
         b"drain abcdefghijklmnopqrstuvwxyzabcdefg",
         b"probe a b c d e f g h i j k l m n o p q",
-        b"enc t - - 00|00|00|00|00|00|00|00|00|00|00|00|00|00|00|00|00|00",
-        b"dec t - - 00|00|00|00|00|00|00|00|00|00|00|00|00|00|00|00|00|00",
+        b"enc t - - 00|00|00|00|00|00|00|00|00|00|00|00|00|00|00|00|00",
+        b"dec t - - 00|00|00|00|00|00|00|00|00|00|00|00|00|00|00|00|00",
+        b"enc t - - 00||00",
+        b"dec t - - 00|",
+        b"mac t |00",
+        b"mac t 00|-",
+        b"enc t - 00|00 00",
     ];
     for line in table {
         assert!(rt; is_malformed(alloc, line)?, "{line:?}");
     }
-    // what is a byte too long, beside what is as long as a line may be
+    // what is a byte too long or a part too many, beside what is as long as a line may be, or has as many parts
     for (text, count, want) in [
         (b"00".as_slice(), MAX_LINE, false),
         (b"00", MAX_LINE + 1, true),
         (PARTS, 100, true),
+        (&PARTS[3..], 100, false),
     ] {
         let line = mac_of(alloc, text, count)?;
         assert_eq!(rt;

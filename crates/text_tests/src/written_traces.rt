@@ -19,7 +19,7 @@ impl Lined for Line {
     }
 }
 
-/// One entry of a queue's, by its place in the table below.
+/// One entry, by its place in the table below.
 fn entry_at(alloc: Global, place: u32) -> Result<BoardEntry<Line>, AllocError> {
     Ok(match place {
         0 => BoardEntry::Born {
@@ -47,18 +47,30 @@ fn entry_at(alloc: Global, place: u32) -> Result<BoardEntry<Line>, AllocError> {
             number: 0,
             started: Some(2),
         },
+        4 => BoardEntry::Born {
+            caller: 0,
+            pipe: 1,
+            shape: Shape::Chain(2, 16),
+        },
+        5 => BoardEntry::Mask {
+            caller: 0,
+            pipe: 2,
+            mask: 0x1a0f,
+        },
         _ => BoardEntry::Shut { caller: 0 },
     })
 }
 
 #[test]
-fn a_queue_is_written_line_by_line(rt: HostRuntime) -> Result<(), Fail> {
-    let table: [(u32, &[u8]); 5] = [
+fn a_board_is_written_line_by_line(rt: HostRuntime) -> Result<(), Fail> {
+    let table: [(u32, &[u8]); 7] = [
         (0, b"b 0 born 0 queue 2\n"),
         (1, b"b 0 enq 0 6 backlog EBUSY 2\n"),
         (2, b"b 0 enq 0 7 plain ENOSPC\n"),
         (3, b"b 16 deq 0 0 started 2\n"),
-        (4, b"b 0 shut\n"),
+        (4, b"b 0 born 1 chain 2 16\n"),
+        (5, b"b 0 mask 2 1a0f\n"),
+        (6, b"b 0 shut\n"),
     ];
     for (place, want) in table {
         let line = board_line(rt.alloc(), &entry_at(rt.alloc(), place)?)?;

@@ -8,7 +8,7 @@ use Rattle.alg_registry.specs.declared.entry.RegEntry.{RegEntry}
 use Rattle.alg_registry.specs.declared.entry.RegEntry.TheVariants.{Enlist, Look, Claim, End, Waited, Unlist, Get, Put, Refs}
 use Rattle.alg_registry.specs.declared.entry.RegEntry.TheVariants as reg
 use Rattle.board.specs.declared.entry.BoardEntry.{BoardEntry}
-use Rattle.board.specs.declared.entry.BoardEntry.TheVariants.{Born, Submit, Take, Finish, Enq, Deq, Done, Hold, Go, Collect, Close, Share, Shut}
+use Rattle.board.specs.declared.entry.BoardEntry.TheVariants.{Born, Submit, Take, Finish, Enq, Deq, Done, Hold, Go, Collect, Close, Share, Mask, Shut}
 use Rattle.trace_check.specs.declared.lines.Known.{Known}
 use Rattle.trace_check.specs.declared.lines.Event.TheVariants as event
 use Rattle.trace_text.specs.Trace.{trace_of, board_fits, is_event, AreEvents}
@@ -167,6 +167,7 @@ board_head (Go caller pipe) = refl
 board_head (Collect caller pipe to) = refl
 board_head (Close caller pipe) = refl
 board_head (Share caller pipe) = refl
+board_head (Mask caller pipe mask) = refl
 board_head (Shut caller) = refl
 
 not_both : (line : List ℕ) → begins_with 114 line ≡ true → begins_with 98 line ≡ true → ⊥

@@ -1,34 +1,28 @@
 -- What the checker keeps of a board goes on with a right event.
-use Rattle.std.proofs.Common.{◌≡◌, ℕ, suc, ◌+◌, ◌<◌, ◌≤◌, ◌^◌, Bool, true, false, ◌||◌, List, [], ◌∷◌, ◌++◌, length, take, Option, Some, None, refl, sym, ◌∙◌, ap, subst, arith, inl, inr, ◌⊎◌, get_or}
+use Rattle.std.proofs.Common.{◌≡◌, ℕ, suc, ◌+◌, ◌-◌, ◌<◌, ◌≤◌, ◌^◌, Bool, true, false, cond, List, [], ◌∷◌, ◌++◌, length, take, Option, Some, None, refl, sym, ◌∙◌, ap, subst, arith, inl, inr, ◌⊎◌, get_or}
 use Rattle.std.specs.Prelude.{◌==◌, slice_get, slice_set, MatchOption}
 use Rattle.std.specs.List.{filter, filter_map}
-use Rattle.std.proofs.lemmas.Bool.{cases_eq, eq-eqb}
+use Rattle.std.proofs.lemmas.Bool.{cases_eq, eq-eqb, le-leb}
 use Rattle.std.proofs.lemmas.List.{length-set, length_push, take_more, take_all, length-take}
-use Rattle.std.proofs.lemmas.List.Folds.{list_any-append}
 use Rattle.std.proofs.lemmas.Option.{slice_get-get_or}
 use Rattle.board.specs.declared.entry.Shape.{Shape}
+use Rattle.board.specs.declared.entry.Entered.TheVariants.{InProgress, Busy, NoSpace}
 use Rattle.board.specs.declared.entry.BoardEntry.{BoardEntry}
-use Rattle.board.specs.declared.entry.BoardEntry.TheVariants.{Born, Submit, Take, Finish, Enq, Deq, Done, Hold, Go, Collect, Close, Share, Shut}
-use Rattle.board.specs.Entries.{is_of, entries_of, birth_in, told_in}
-use Rattle.board.specs.Legal.{is_shut_entry, is_shut, IsRight, LegalBoard}
-use Rattle.board.proofs.Transfer.{entries-more, entries-same}
-use Rattle.board.proofs.PadOrder.{filter_map-none, filter_map-some}
-use Rattle.board.proofs.Kept.{legal_more, only_of, shut-same}
-use Rattle.board.proofs.KeptSubmit.{filter_map-at_most}
+use Rattle.board.specs.declared.entry.BoardEntry.TheVariants.{Born, Submit, Take, Finish, Enq, Deq, Done, Hold, Go, Collect, Close, Share, Mask, Shut}
+use Rattle.board.specs.Shapes.{is_serial, lists_of, IsShape}
+use Rattle.board.specs.Entries.{is_of, entries_of, birth_in, submissions, dequeues, takers, finished}
+use Rattle.board.specs.Legal.{is_shut_entry, IsRight, LegalBoard}
 use Rattle.trace_check.specs.declared.reason.Reason.{Reason}
 use Rattle.trace_check.specs.BoardReasons.{IsWrong, IsFirstWrong}
-use Rattle.trace_check.specs.Pipes.{PipeState, new_pipe, pipe_of, judged, CanCount, AllCanCount, after, is_shut_by, after_at, pipes_after}
+use Rattle.trace_check.specs.Pipes.{PipeState, full_mask, new_pipe, pipe_of, judged, CanCount, AllCanCount, after, is_shut_by, after_at, pipes_after}
 use Rattle.trace_check.proofs.Places.{get-set_same, get-set_other, get-push_same, get-push_other, run_within}
-use Rattle.trace_check.proofs.Standing.{IsPipe}
+use Rattle.trace_check.proofs.Histories.{filter_map-none, filter_map-some, any-none, any_now, entries-more, entries-same, only_of, legal_more}
+use Rattle.trace_check.proofs.Standing.{IsPipe, takers_by, takers_are}
+use Rattle.trace_check.proofs.Deciding.{few_lists}
 use Rattle.std.proofs.lemmas.Bool.{cond_both}
-use Rattle.board.specs.Entries.{taken_in, finished_in}
 use Rattle.trace_check.proofs.Judging.{IsBoard, IsPlace, is_inner, no_state, dec_state, dec_number}
 use Rattle.trace_check.proofs.Parts.{right_has_all, judged_right, judged_wrong}
 use Rattle.trace_check.proofs.Stepping.{pipe_step}
-
-or_true : (b : Bool) → (b || (true || false)) ≡ true
-or_true true = refl
-or_true false = refl
 
 same_pipe : (p : ℕ) → (p == p) ≡ true
 same_pipe p = eq-eqb p p refl
@@ -46,6 +40,7 @@ is_of_own (Go caller pipe) i = same_pipe pipe
 is_of_own (Collect caller pipe to) i = same_pipe pipe
 is_of_own (Close caller pipe) i = same_pipe pipe
 is_of_own (Share caller pipe) i = same_pipe pipe
+is_of_own (Mask caller pipe mask) i = same_pipe pipe
 is_of_own (Shut caller) i = cc
 
 no_birth : {A : Type 0} (e : BoardEntry A) → is_inner e ≡ true → birth_in e ≡ None
@@ -61,6 +56,7 @@ no_birth (Go caller pipe) i = refl
 no_birth (Collect caller pipe to) i = refl
 no_birth (Close caller pipe) i = refl
 no_birth (Share caller pipe) i = refl
+no_birth (Mask caller pipe mask) i = refl
 no_birth (Shut caller) i = cc
 
 no_shut : {A : Type 0} (e : BoardEntry A) → is_inner e ≡ true → is_shut_entry e ≡ false
@@ -76,6 +72,7 @@ no_shut (Go caller pipe) i = refl
 no_shut (Collect caller pipe to) i = refl
 no_shut (Close caller pipe) i = refl
 no_shut (Share caller pipe) i = refl
+no_shut (Mask caller pipe mask) i = refl
 no_shut (Shut caller) i = cc
 
 -- the event's own pipeline, and each other
@@ -96,24 +93,40 @@ inner_step ps shut h e (Some s) i there r k =
       legal = legal_more h e k.legal r;
       count = ap length (filter_map-none birth_in h e (no_birth e i)) ∙ (k.count ∙ sym (length-set ps (pipe_of e) (after s e)));
       each = λ p. inner_each ps h e s p i there new k.each (cases_eq p (pipe_of e));
-      shutting = shut-same h e (no_shut e i) ∙ k.shutting;
+      shutting = any-none is_shut_entry h e (no_shut e i) ∙ k.shutting;
     }
 
-new_is_pipe : {A : Type 0} (caller pipe : ℕ) (shape : Shape) → IsPipe {A = A} (Born caller pipe shape ∷ []) (new_pipe caller shape)
-new_is_pipe caller pipe shape = record {
-  requests = record { count = refl; each = λ n. (refl, refl); taken_count = refl; done_count = refl; told_count = refl };
-  marks = record { born = refl; place = refl; holding = refl; sharing = refl; closing = refl };
+full_is : (lists : ℕ) → lists ≤ 16 → 2 ^ lists - 1 ≡ full_mask lists
+full_is lists few = ap (λ b. cond b (2 ^ lists - 1) 0) (sym (le-leb lists 16 few))
+
+none_taken : (A : Type 0) (serial : Bool) (n caller pipe : ℕ) (shape : Shape) → takers_by {A = A} serial n (Born caller pipe shape ∷ []) ≡ []
+none_taken A true n caller pipe shape = refl
+none_taken A false n caller pipe shape = refl
+
+new_at : (A : Type 0) (caller pipe : ℕ) (shape : Shape) (n : ℕ) → takers {A = A} n (Born caller pipe shape ∷ []) ≡ []
+new_at A caller pipe shape n = takers_are (Born caller pipe shape ∷ []) caller shape n refl ∙ none_taken A (is_serial shape) n caller pipe shape
+
+new_is_pipe : {A : Type 0} (caller pipe : ℕ) (shape : Shape) → IsShape shape → IsPipe {A = A} (Born caller pipe shape ∷ []) (new_pipe caller shape)
+new_is_pipe {A} caller pipe shape formed = record {
+  requests = record { count = refl; each = λ n. (new_at A caller pipe shape n, refl) };
+  marks = record { born = refl; shaped = formed; place = refl; masking = full_is (lists_of shape) (few_lists shape formed); holding = refl; sharing = refl; closing = refl };
+  noted = λ c. refl;
+  dequeuing = refl;
+  finishing = refl;
+  telling = refl;
   front = refl;
+  within = omega arith;
+  few = omega arith;
   line = λ q n from within. absurd (omega arith);
 }
 
-born_each : {A : Type 0} (ps : List PipeState) (h : List (BoardEntry A)) (caller pipe : ℕ) (shape : Shape) (p : ℕ) → pipe ≡ length ps → entries_of pipe h ≡ [] → ((q : ℕ) → IsPlace (entries_of q h) (slice_get ps q)) → (p ≡ length ps) ⊎ (p ≡ length ps → ⊥) → IsPlace (entries_of p (h ++ Born caller pipe shape ∷ [])) (slice_get (ps ++ new_pipe caller shape ∷ []) p)
-born_each ps h caller pipe shape p at none each (inl same) =
+born_each : {A : Type 0} (ps : List PipeState) (h : List (BoardEntry A)) (caller pipe : ℕ) (shape : Shape) (p : ℕ) → IsShape shape → pipe ≡ length ps → entries_of pipe h ≡ [] → ((q : ℕ) → IsPlace (entries_of q h) (slice_get ps q)) → (p ≡ length ps) ⊎ (p ≡ length ps → ⊥) → IsPlace (entries_of p (h ++ Born caller pipe shape ∷ [])) (slice_get (ps ++ new_pipe caller shape ∷ []) p)
+born_each ps h caller pipe shape p formed at none each (inl same) =
     let own : entries_of pipe (h ++ Born caller pipe shape ∷ []) ≡ Born caller pipe shape ∷ [] = entries-more h pipe (Born caller pipe shape) (same_pipe pipe) ∙ ap (λ es. es ++ Born caller pipe shape ∷ []) none in
     let here : entries_of p (h ++ Born caller pipe shape ∷ []) ≡ Born caller pipe shape ∷ [] = ap (λ q. entries_of q (h ++ Born caller pipe shape ∷ [])) (same ∙ sym at) ∙ own in
     let there : slice_get (ps ++ new_pipe caller shape ∷ []) p ≡ Some (new_pipe caller shape) = ap (slice_get (ps ++ new_pipe caller shape ∷ [])) same ∙ get-push_same ps (new_pipe caller shape) in
-    rw (here, there) (new_is_pipe caller pipe shape)
-born_each {A} ps h caller pipe shape p at none each (inr other) =
+    rw (here, there) (new_is_pipe caller pipe shape formed)
+born_each {A} ps h caller pipe shape p formed at none each (inr other) =
     let e : BoardEntry A = Born caller pipe shape in
     let apart : is_of p e ≡ false = only_of {A = A} e pipe p (same_pipe pipe) (λ q. other (q ∙ at)) in
     rw (get-push_other ps (new_pipe caller shape) p other, entries-same {A = A} h p e apart) (each p)
@@ -125,14 +138,14 @@ pub board_step : {A : Type 0} (ps : List PipeState) (shut : Bool) (h : List (Boa
 board_step ps shut h (Born caller pipe shape) r k = record {
   legal = legal_more h _ k.legal r;
   count = ap length (filter_map-some birth_in h _ (caller, shape) refl) ∙ (length_push (filter_map birth_in h) (caller, shape) ∙ (ap (λ n. n + 1) k.count ∙ sym (length_push ps (new_pipe caller shape))));
-  each = λ p. born_each ps h caller pipe shape p (r.0 ∙ k.count) r.1.1 k.each (cases_eq p (length ps));
-  shutting = shut-same h _ refl ∙ k.shutting;
+  each = λ p. born_each ps h caller pipe shape p r.1.2 (r.0 ∙ k.count) r.1.1 k.each (cases_eq p (length ps));
+  shutting = any-none is_shut_entry h _ refl ∙ k.shutting;
 }
 board_step ps shut h (Shut caller) r k = record {
   legal = legal_more h _ k.legal r;
   count = ap length (filter_map-none birth_in h _ refl) ∙ k.count;
   each = λ p. shut_each ps h caller p (k.each p);
-  shutting = list_any-append is_shut_entry h (Shut caller ∷ []) ∙ or_true (is_shut h);
+  shutting = any_now is_shut_entry h _ refl;
 }
 board_step ps shut h (Submit caller pipe number ask) r k = inner_step ps shut h _ (slice_get ps pipe) refl refl r k
 board_step ps shut h (Take caller pipe number) r k = inner_step ps shut h _ (slice_get ps pipe) refl refl r k
@@ -145,6 +158,7 @@ board_step ps shut h (Go caller pipe) r k = inner_step ps shut h _ (slice_get ps
 board_step ps shut h (Collect caller pipe to) r k = inner_step ps shut h _ (slice_get ps pipe) refl refl r k
 board_step ps shut h (Close caller pipe) r k = inner_step ps shut h _ (slice_get ps pipe) refl refl r k
 board_step ps shut h (Share caller pipe) r k = inner_step ps shut h _ (slice_get ps pipe) refl refl r k
+board_step ps shut h (Mask caller pipe mask) r k = inner_step ps shut h _ (slice_get ps pipe) refl refl r k
 
 pub board_empty : {A : Type 0} → IsBoard {A = A} [] false []
 board_empty = record { legal = tt; count = refl; each = λ p. refl; shutting = refl }
@@ -154,18 +168,37 @@ filter_at_most : {X : Type 0} (p : X → Bool) (xs : List X) → length (filter 
 filter_at_most p [] = omega arith
 filter_at_most p (x ∷ xs) = (let h = filter_at_most p xs in let P : List _ → Type 0 = λ ys. length ys ≤ suc (length xs) in cond_both (p x) (x ∷ filter p xs) (filter p xs) P (λ e. omega arith) (λ e. omega arith))
 
+-- an entry accepts a request, lets one out of a line, or finishes one, or none of these
+kinds_apart : {A : Type 0} (es : List (BoardEntry A)) → length (submissions es) + length (dequeues es) + length (finished es) ≤ length es
+kinds_apart [] = omega arith
+kinds_apart (Born caller pipe shape ∷ es) = (let h = kinds_apart es in omega arith)
+kinds_apart (Submit caller pipe number ask ∷ es) = (let h = kinds_apart es in omega arith)
+kinds_apart (Take caller pipe number ∷ es) = (let h = kinds_apart es in omega arith)
+kinds_apart (Finish caller pipe number ∷ es) = (let h = kinds_apart es in omega arith)
+kinds_apart (Enq caller pipe ask backlog (InProgress number) ∷ es) = (let h = kinds_apart es in omega arith)
+kinds_apart (Enq caller pipe ask backlog (Busy number) ∷ es) = (let h = kinds_apart es in omega arith)
+kinds_apart (Enq caller pipe ask backlog NoSpace ∷ es) = (let h = kinds_apart es in omega arith)
+kinds_apart (Deq caller pipe number started ∷ es) = (let h = kinds_apart es in omega arith)
+kinds_apart (Done caller pipe number ∷ es) = (let h = kinds_apart es in omega arith)
+kinds_apart (Hold caller pipe ∷ es) = (let h = kinds_apart es in omega arith)
+kinds_apart (Go caller pipe ∷ es) = (let h = kinds_apart es in omega arith)
+kinds_apart (Collect caller pipe to ∷ es) = (let h = kinds_apart es in omega arith)
+kinds_apart (Close caller pipe ∷ es) = (let h = kinds_apart es in omega arith)
+kinds_apart (Share caller pipe ∷ es) = (let h = kinds_apart es in omega arith)
+kinds_apart (Mask caller pipe mask ∷ es) = (let h = kinds_apart es in omega arith)
+kinds_apart (Shut caller ∷ es) = (let h = kinds_apart es in omega arith)
+
 count_at : {A : Type 0} (h : List (BoardEntry A)) (p : ℕ) (s : PipeState) → length h + 1 < 2 ^ 64 → IsPipe (entries_of p h) s → CanCount s
 count_at h p s short k =
     let own = filter_at_most (is_of p) h in
-    let t = filter_map-at_most taken_in (entries_of p h) in
-    let f = filter_map-at_most finished_in (entries_of p h) in
-    let c = filter_map-at_most told_in (entries_of p h) in
-    let a = k.requests.taken_count in
-    let b = k.requests.done_count in
-    let d = k.requests.told_count in
-    let w = run_within s.requests in
+    let apart = kinds_apart (entries_of p h) in
+    let a = k.requests.count in
+    let b = k.dequeuing in
+    let c = k.finishing in
+    let few = k.few in
     let v = k.front in
-    record { taken = omega arith; finished = omega arith; told = omega arith; front = omega arith }
+    let w = run_within s.requests in
+    record { dequeued = omega arith; finished = omega arith; told = omega arith; front = omega arith }
 
 pub can_count : {A : Type 0} (ps : List PipeState) (shut : Bool) (h : List (BoardEntry A)) → length h + 1 < 2 ^ 64 → IsBoard ps shut h → AllCanCount ps
 can_count ps shut h short k p s there = count_at h p s short (subst (IsPlace (entries_of p h)) there (k.each p))

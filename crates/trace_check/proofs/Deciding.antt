@@ -1,24 +1,23 @@
 -- The checker's tests on a pipeline decide what its entries say.
-use Rattle.std.proofs.Common.{◌≡◌, ℕ, zero, suc, ◌+◌, ◌-◌, ◌<◌, ◌≤◌, Bool, true, false, not, cond, ◌&&◌, List, [], ◌∷◌, length, Option, Some, None, refl, sym, ◌∙◌, ap, subst, arith, inl, inr, ◌⊎◌}
+use Rattle.std.proofs.Common.{◌≡◌, ℕ, zero, suc, ◌+◌, ◌-◌, ◌^◌, ◌<◌, ◌≤◌, Bool, true, false, not, cond, ◌&&◌, ◌||◌, List, [], ◌∷◌, length, Option, Some, None, refl, sym, ◌∙◌, ap, subst, arith, inl, inr, ◌⊎◌}
 use Rattle.std.specs.Prelude.{◌==◌, nat_lt, nat_le, slice_get}
 use Rattle.std.specs.Bool.{Decides}
-use Rattle.std.specs.List.{filter_map}
 use Rattle.std.specs.Option.{option_map_or}
-use Rattle.std.proofs.lemmas.Bool.{cases_lt, le-leb, lt-leb}
+use Rattle.std.specs.Int.{bit_at}
+use Rattle.std.proofs.lemmas.Bool.{cases_lt, le-leb, lt-leb, leb-true}
 use Rattle.std.proofs.lemmas.Bool.Decides.{Decides-eqb, Decides-ltb, Decides-and, Decides-or, Decides-like}
-use Rattle.std.proofs.lemmas.Option.{slice_get_within}
 use Rattle.board.specs.declared.entry.Shape.{Shape}
-use Rattle.board.specs.declared.entry.Shape.TheVariants.{Pad, Queue}
+use Rattle.board.specs.declared.entry.Shape.TheVariants.{Pad, Queue, Chain}
 use Rattle.board.specs.declared.entry.Entered.{Entered}
 use Rattle.board.specs.declared.entry.Entered.TheVariants.{InProgress, Busy, NoSpace}
 use Rattle.board.specs.declared.entry.BoardEntry.{BoardEntry}
-use Rattle.board.specs.Entries.{birth, pad_born, queue_born, max_born, submissions, takings, takers, front, completes_below, told_in, told, verdict, waiting, starts, is_held, is_closed, is_shared}
-use Rattle.board.specs.Legal.{IsNoWorker, IsMaker, maker_is, MaySubmit, MayManage, IsOpenPad, IsOpenQueue, IsOpen}
-use Rattle.board.proofs.PadOrder.{length-completes}
+use Rattle.board.specs.Shapes.{is_pad, has_line, is_serial, bound_of, lists_of, is_born, line_born, max_born, width_born, AreLists, IsShape}
+use Rattle.board.specs.Entries.{birth, submissions, submitters, dequeued, passed_on, takers, has, front, told, verdict, waiting, starts, is_held, is_closed, is_shared, mask, IsMasked, IsMaker, maker_is, MayTake}
+use Rattle.board.specs.Legal.{IsNoWorker, MaySubmit, MayManage, Is, IsOpenAs, IsOpen}
 use Rattle.trace_check.specs.declared.pipe.Progress.{Progress}
 use Rattle.trace_check.specs.declared.pipe.Progress.TheVariants.{Waits, Runs, Ended}
 use Rattle.trace_check.specs.BoardReasons.{IsUntaken, IsRunning, MayServe, MayClose, IsNumbered, verdict_word}
-use Rattle.trace_check.specs.Pipes.{PipeState, is_pad, bound_of, is_open_pad, is_open_queue, waits, runs, runs_by, passes, backlog_of, told_by, starts_by, may_serve, may_close, is_worker, may_manage, may_submit, same_number, is_numbered, is_answered}
+use Rattle.trace_check.specs.Pipes.{PipeState, are_lists, is_shape, is_open_as, waits, runs, runs_by, passes, backlog_of, passed_by, starts_by, may_serve, may_close, is_worker, may_manage, may_submit, has_submitted, is_masked, may_take, has_bits, same_number, is_numbered, is_answered}
 use Rattle.trace_check.proofs.Standing.{IsAt, IsPipe}
 use Rattle.trace_check.proofs.Requests.{front_is}
 
@@ -45,44 +44,50 @@ decides3 : {P Q R : Type 0} (a b c : Bool) → Decides a P → Decides b Q → D
 decides3 a b c p q r =
     Decides-like (a && (b && c)) (λ t. (t.0, t.1.0, t.1.1)) (λ t. (t.0, (t.1, t.2))) (Decides-and a (b && c) p (Decides-and b c q r))
 
+dec_le : (x y : ℕ) → Decides (nat_le x y) (x ≤ y)
+dec_le x y = (leb-true x y, le-leb x y)
+
 -- What the pipeline is.
-pad_is : (maker : ℕ) (shape : Shape) → pad_born (Some (maker, shape)) ≡ is_pad shape
-pad_is maker (Pad lists) = refl
-pad_is maker (Queue max) = refl
+dec_lists : (lists : ℕ) → Decides (are_lists lists) (AreLists lists)
+dec_lists lists = Decides-and _ _ (dec_le 1 lists) (dec_le lists 16)
 
-queue_is : (maker : ℕ) (shape : Shape) → queue_born (Some (maker, shape)) ≡ not (is_pad shape)
-queue_is maker (Pad lists) = refl
-queue_is maker (Queue max) = refl
+pub dec_shape : (shape : Shape) → Decides (is_shape shape) (IsShape shape)
+dec_shape (Pad lists) = dec_lists lists
+dec_shape (Queue max) = dec_le 1 max
+dec_shape (Chain max lists) = Decides-and _ _ (dec_le 1 max) (dec_lists lists)
 
-max_is : (maker : ℕ) (shape : Shape) → max_born (Some (maker, shape)) ≡ bound_of shape
-max_is maker (Pad lists) = refl
-max_is maker (Queue max) = refl
+pub few_lists : (shape : Shape) → IsShape shape → lists_of shape ≤ 16
+few_lists (Pad lists) k = k.1
+few_lists (Queue max) k = omega arith
+few_lists (Chain max lists) k = k.1.1
 
-pub dec_pad : {A : Type 0} (es : List (BoardEntry A)) (s : PipeState) → IsPipe es s → Decides (is_pad s.shape) (pad_born (birth es) ≡ true)
-dec_pad es s k = dec_flag _ _ (ap pad_born k.marks.born ∙ pad_is s.maker s.shape)
-
-pub dec_queue : {A : Type 0} (es : List (BoardEntry A)) (s : PipeState) → IsPipe es s → Decides (not (is_pad s.shape)) (queue_born (birth es) ≡ true)
-dec_queue es s k = dec_flag _ _ (ap queue_born k.marks.born ∙ queue_is s.maker s.shape)
+pub dec_is : {A : Type 0} (such : Shape → Bool) (es : List (BoardEntry A)) (s : PipeState) → IsPipe es s → Decides (such s.shape) (Is such es)
+dec_is such es s k = dec_flag (such s.shape) (is_born such (birth es)) (ap (is_born such) k.marks.born)
 
 dec_unclosed : {A : Type 0} (es : List (BoardEntry A)) (s : PipeState) → IsPipe es s → Decides (not s.closed) (is_closed es ≡ false)
 dec_unclosed es s k = dec_no_flag s.closed (is_closed es) k.marks.closing
 
-pub dec_open_pad : {A : Type 0} (es : List (BoardEntry A)) (s : PipeState) → IsPipe es s → Decides (is_open_pad s) (IsOpenPad es)
-dec_open_pad es s k = Decides-and _ _ (dec_pad es s k) (dec_unclosed es s k)
+pub dec_unshared : {A : Type 0} (es : List (BoardEntry A)) (s : PipeState) → IsPipe es s → Decides (not s.shared) (is_shared es ≡ false)
+dec_unshared es s k = dec_no_flag s.shared (is_shared es) k.marks.sharing
 
-pub dec_open_queue : {A : Type 0} (es : List (BoardEntry A)) (s : PipeState) → IsPipe es s → Decides (is_open_queue s) (IsOpenQueue es)
-dec_open_queue es s k = Decides-and _ _ (dec_queue es s k) (dec_unclosed es s k)
+pub dec_open_as : {A : Type 0} (such : Shape → Bool) (es : List (BoardEntry A)) (s : PipeState) → IsPipe es s → Decides (is_open_as such s) (IsOpenAs such es)
+dec_open_as such es s k = Decides-and _ _ (dec_is such es s k) (dec_unclosed es s k)
 
-either_open : {A : Type 0} (es : List (BoardEntry A)) (s : PipeState) (pad : Bool) → is_pad s.shape ≡ pad → IsPipe es s → is_closed es ≡ false → IsOpen es
-either_open es s true e k c = inl ((dec_pad es s k).0 e, c)
-either_open es s false e k c = inr ((dec_queue es s k).0 (ap not e), c)
+pad_or_line : (shape : Shape) → (is_pad shape ≡ true) ⊎ (has_line shape ≡ true)
+pad_or_line (Pad lists) = inl refl
+pad_or_line (Queue max) = inr refl
+pad_or_line (Chain max lists) = inr refl
+
+either_open : {A : Type 0} (es : List (BoardEntry A)) (s : PipeState) → (is_pad s.shape ≡ true) ⊎ (has_line s.shape ≡ true) → IsPipe es s → is_closed es ≡ false → IsOpen es
+either_open es s (inl pad) k c = inl ((dec_is is_pad es s k).0 pad, c)
+either_open es s (inr line) k c = inr ((dec_is has_line es s k).0 line, c)
 
 open_unclosed : {A : Type 0} (es : List (BoardEntry A)) → IsOpen es → is_closed es ≡ false
 open_unclosed es (inl pad) = pad.1
 open_unclosed es (inr queue) = queue.1
 
 pub dec_open : {A : Type 0} (es : List (BoardEntry A)) (s : PipeState) → IsPipe es s → Decides (not s.closed) (IsOpen es)
-dec_open es s k = Decides-like (not s.closed) (either_open es s (is_pad s.shape) refl k) (open_unclosed es) (dec_unclosed es s k)
+dec_open es s k = Decides-like (not s.closed) (either_open es s (pad_or_line s.shape) k) (open_unclosed es) (dec_unclosed es s k)
 
 -- How far a request is.
 past_end : (rs : List Progress) (n : ℕ) → slice_get rs n ≡ None → n < length rs → ⊥
@@ -90,14 +95,33 @@ past_end [] n h lt = omega arith
 past_end (r ∷ rs) zero h lt = cc
 past_end (r ∷ rs) (suc n) h lt = past_end rs n h (omega arith)
 
-dec_untaken_at : {A : Type 0} (es : List (BoardEntry A)) (rs : List Progress) (n : ℕ) (p : Option Progress) → slice_get rs n ≡ p → length (submissions es) ≡ length rs → IsAt es n p → Decides (option_map_or waits p false) (IsUntaken es n)
-dec_untaken_at es rs n None g c k = decides_false (λ h. past_end rs n g (let lt = h.0 in omega arith))
-dec_untaken_at es rs n (Some Waits) g c k = decides_true (let w : n < length rs = slice_get_within rs n Waits g in (omega arith, k.0))
-dec_untaken_at es rs n (Some (Runs caller)) g c k = decides_false (λ h. (let a = h.1 in let b = k.0 in cc))
-dec_untaken_at es rs n (Some Ended) g c k = decides_false (λ h. k.0 h.1)
+-- how many are past the line
+passed_either : {A : Type 0} (es : List (BoardEntry A)) (s : PipeState) (line : Bool) → IsPipe es s → cond line (dequeued es) (length (submissions es)) ≡ cond line s.dequeued (length s.requests)
+passed_either es s true k = k.dequeuing
+passed_either es s false k = k.requests.count
 
-pub dec_untaken : {A : Type 0} (es : List (BoardEntry A)) (s : PipeState) (n : ℕ) → IsPipe es s → Decides (passes waits s n) (IsUntaken es n)
-dec_untaken es s n k = dec_untaken_at es s.requests n (slice_get s.requests n) refl k.requests.count (k.requests.each n)
+passed_is : {A : Type 0} (es : List (BoardEntry A)) (s : PipeState) → IsPipe es s → passed_on es ≡ passed_by s
+passed_is es s k = ap (λ b. cond (line_born b) (dequeued es) (length (submissions es))) k.marks.born ∙ passed_either es s (has_line s.shape) k
+
+few_either : (line : Bool) (gone count : ℕ) → gone ≤ count → cond line gone count ≤ count
+few_either true gone count h = h
+few_either false gone count h = omega arith
+
+dec_waits_at : {A : Type 0} (es : List (BoardEntry A)) (rs : List Progress) (n : ℕ) (p : Option Progress) → n < length rs → slice_get rs n ≡ p → IsAt es n p → Decides (option_map_or waits p false) (takers n es ≡ [])
+dec_waits_at es rs n None lt g k = absurd (past_end rs n g lt)
+dec_waits_at es rs n (Some Waits) lt g k = decides_true k.0
+dec_waits_at es rs n (Some (Runs caller)) lt g k = decides_false (λ h. (let b = k.0 in cc))
+dec_waits_at es rs n (Some Ended) lt g k = decides_false (λ h. k.0 h)
+
+dec_when : {P Q : Type 0} (a b : Bool) → Decides a P → (P → Decides b Q) → Decides (a && b) (P × Q)
+dec_when true b p q = Decides-like b (λ t. (p.0 refl, t)) (λ t. t.1) (q (p.0 refl))
+dec_when false b p q = decides_false (λ t. (let h = p.1 t.0 in cc))
+
+pub dec_untaken : {A : Type 0} (es : List (BoardEntry A)) (s : PipeState) (n : ℕ) → IsPipe es s → Decides (nat_lt n (passed_by s) && passes waits s n) (IsUntaken es n)
+dec_untaken es s n k =
+    let is = passed_is es s k in
+    let few = few_either (has_line s.shape) s.dequeued (length s.requests) k.within in
+    dec_when (nat_lt n (passed_by s)) (passes waits s n) (dec_lt n (passed_by s) n (passed_on es) refl is) (λ lt. dec_waits_at es s.requests n (slice_get s.requests n) (omega arith) refl (k.requests.each n))
 
 dec_running_at : {A : Type 0} (es : List (BoardEntry A)) (n : ℕ) (p : Option Progress) → IsAt es n p → Decides (option_map_or runs p false) (IsRunning es n)
 dec_running_at es n None k = decides_false (λ h. h.0 k.0)
@@ -121,35 +145,35 @@ dec_taker es s n caller k r = dec_taker_at es n caller (slice_get s.requests n) 
 
 -- Its counts.
 waiting_is : {A : Type 0} (es : List (BoardEntry A)) (s : PipeState) → IsPipe es s → waiting es ≡ backlog_of s
-waiting_is es s k = ap (λ n. n - length (takings es)) k.requests.count ∙ ap (λ n. length s.requests - n) k.requests.taken_count
+waiting_is es s k = ap (λ n. n - dequeued es) k.requests.count ∙ ap (λ n. length s.requests - n) k.dequeuing
 
-pub front_of : {A : Type 0} (es : List (BoardEntry A)) (s : PipeState) → IsPipe es s → front es ≡ s.front
-front_of es s k = front_is es s.requests s.taken s.finished s.told k.requests ∙ sym k.front
-
-told_at : {A : Type 0} (es : List (BoardEntry A)) (told done : ℕ) (pad : Bool) → length (filter_map told_in es) ≡ told → front es ≡ done → length (cond pad (completes_below (front es)) (filter_map told_in es)) ≡ cond pad done told
-told_at es told done true t f = length-completes (front es) ∙ f
-told_at es told done false t f = t
-
-pub told_is : {A : Type 0} (es : List (BoardEntry A)) (s : PipeState) → IsPipe es s → length (told es) ≡ told_by s
-told_is es s k =
-    told_at es s.told s.front (pad_born (birth es)) k.requests.told_count (front_of es s k)
-    ∙ ap (λ b. cond b s.front s.told) (ap pad_born k.marks.born ∙ pad_is s.maker s.shape)
+front_of : {A : Type 0} (es : List (BoardEntry A)) (s : PipeState) → IsPipe es s → front es ≡ s.front
+front_of es s k = front_is es s.requests k.requests ∙ sym k.front
 
 max_of : {A : Type 0} (es : List (BoardEntry A)) (s : PipeState) → IsPipe es s → max_born (birth es) ≡ bound_of s.shape
-max_of es s k = ap max_born k.marks.born ∙ max_is s.maker s.shape
+max_of es s k = ap max_born k.marks.born
 
 starts_is : {A : Type 0} (es : List (BoardEntry A)) (s : PipeState) (n : ℕ) → IsPipe es s → starts es n ≡ starts_by s n
 starts_is es s n k =
     ap (λ m. cond (nat_lt (n + m) (length (submissions es))) (Some (n + m)) None) (max_of es s k)
     ∙ ap (λ l. cond (nat_lt (n + bound_of s.shape) l) (Some (n + bound_of s.shape)) None) k.requests.count
 
+dec_idle_at : {P : Type 0} (serial b : Bool) (is : Type 0) → Decides serial is → Decides b P → Decides (not serial || b) (is → P)
+dec_idle_at true b is d p = Decides-like b (λ h i. h) (λ f. f (d.0 refl)) p
+dec_idle_at false b is d p = decides_true (λ i. (let h = d.1 i in cc))
+
 pub dec_may_serve : {A : Type 0} (es : List (BoardEntry A)) (s : PipeState) → IsPipe es s → Decides (may_serve s) (MayServe es)
 dec_may_serve es s k =
-    decides3 _ _ _ (dec_no_flag s.held (is_held es) k.marks.holding) (dec_eq _ _ _ _ k.requests.done_count k.requests.taken_count) (dec_lt _ _ _ _ refl (waiting_is es s k))
+    decides3 _ _ _ (dec_no_flag s.held (is_held es) k.marks.holding)
+    (dec_idle_at (is_serial s.shape) (s.finished == s.dequeued) (Is is_serial es) (dec_is is_serial es s k) (dec_eq _ _ _ _ k.finishing k.dequeuing))
+    (dec_lt _ _ _ _ refl (waiting_is es s k))
 
 pub dec_may_close : {A : Type 0} (es : List (BoardEntry A)) (s : PipeState) → IsPipe es s → Decides (may_close s) (MayClose es)
 dec_may_close es s k =
-    decides3 _ _ _ (dec_no_flag s.shared (is_shared es) k.marks.sharing) (dec_eq _ _ _ _ (front_of es s k) k.requests.count) (dec_eq _ _ _ _ k.marks.place (told_is es s k))
+    decides3 _ _ _ (dec_unshared es s k) (dec_eq _ _ _ _ (front_of es s k) k.requests.count) (dec_eq _ _ _ _ k.marks.place k.telling)
+
+pub dec_masked : {A : Type 0} (es : List (BoardEntry A)) (s : PipeState) → IsPipe es s → Decides (nat_lt 0 s.mask) (0 < mask es)
+dec_masked es s k = dec_lt _ _ _ _ refl k.marks.masking
 
 -- Its callers.
 dec_no_worker_at : (caller : ℕ) → (caller < 1) ⊎ (1 ≤ caller) → (16 < caller) ⊎ (caller ≤ 16) → Decides (not (is_worker caller)) (IsNoWorker caller)
@@ -177,6 +201,17 @@ pub dec_may_submit : {A : Type 0} (es : List (BoardEntry A)) (s : PipeState) (ca
 dec_may_submit es s caller k =
     Decides-and _ _ (dec_no_worker caller) (Decides-or _ _ (dec_maker es s caller k) (dec_flag s.shared (is_shared es) k.marks.sharing))
 
+dec_bit : (bits caller : ℕ) → Decides (is_masked bits caller) (IsMasked bits caller)
+dec_bit bits caller =
+    Decides-like (is_masked bits caller) (λ t. (t.0.0, t.0.1, t.1)) (λ t. ((t.0, t.1), t.2))
+    (Decides-and (is_worker caller) (bit_at bits (caller - 1) == 1) (Decides-and _ _ (dec_le 1 caller) (dec_le caller 16)) (Decides-eqb (bit_at bits (caller - 1)) 1))
+
+pub dec_may_take : {A : Type 0} (es : List (BoardEntry A)) (s : PipeState) (caller : ℕ) → IsPipe es s → Decides (may_take s caller) (MayTake es caller)
+dec_may_take es s caller k =
+    Decides-or _ _ (dec_maker es s caller k)
+    (Decides-or _ _ (dec_flag (has_submitted s.submitters caller) (has caller (submitters es)) (k.noted caller))
+    (subst (λ bits. Decides (is_masked s.mask caller) (IsMasked bits caller)) (sym k.marks.masking) (dec_bit s.mask caller)))
+
 -- Its numbers.
 pub dec_next : {A : Type 0} (es : List (BoardEntry A)) (s : PipeState) (n : ℕ) → IsPipe es s → Decides (n == length s.requests) (n ≡ length (submissions es))
 dec_next es s n k = dec_eq _ _ _ _ refl k.requests.count
@@ -192,12 +227,19 @@ dec_same_number None (Some n) = decides_false (λ h. cc)
 dec_same_number (Some m) None = decides_false (λ h. cc)
 dec_same_number (Some m) (Some n) = Decides-like (m == n) (λ h. ap Some h) (λ h. cc) (Decides-eqb m n)
 
-pub dec_dequeued : {A : Type 0} (es : List (BoardEntry A)) (s : PipeState) (n : ℕ) (started : Option ℕ) → IsPipe es s → Decides (n == s.taken && same_number started (starts_by s n)) ((n ≡ length (takings es)) × (started ≡ starts es n))
+pub dec_dequeued : {A : Type 0} (es : List (BoardEntry A)) (s : PipeState) (n : ℕ) (started : Option ℕ) → IsPipe es s → Decides (n == s.dequeued && same_number started (starts_by s n)) ((n ≡ dequeued es) × (started ≡ starts es n))
 dec_dequeued es s n started k =
-    Decides-and _ _ (dec_eq _ _ _ _ refl k.requests.taken_count) (Decides-like _ (λ h. h ∙ sym (starts_is es s n k)) (λ h. h ∙ starts_is es s n k) (dec_same_number started (starts_by s n)))
+    Decides-and _ _ (dec_eq _ _ _ _ refl k.dequeuing) (Decides-like _ (λ h. h ∙ sym (starts_is es s n k)) (λ h. h ∙ starts_is es s n k) (dec_same_number started (starts_by s n)))
 
-pub dec_collected : {A : Type 0} (es : List (BoardEntry A)) (s : PipeState) (to : ℕ) → IsPipe es s → Decides (to == told_by s) (to ≡ length (told es))
-dec_collected es s to k = dec_eq _ _ _ _ refl (told_is es s k)
+pub dec_collected : {A : Type 0} (es : List (BoardEntry A)) (s : PipeState) (to : ℕ) → IsPipe es s → Decides (to == s.told) (to ≡ length (told es))
+dec_collected es s to k = dec_eq _ _ _ _ refl k.telling
+
+dec_bits_at : (lists bits : ℕ) → lists ≤ 16 → Decides (has_bits lists bits) (bits < 2 ^ lists)
+dec_bits_at lists bits few = Decides-like (has_bits lists bits) (λ t. t.1) (λ t. (few, t)) (Decides-and _ _ (dec_le lists 16) (Decides-ltb bits (2 ^ lists)))
+
+pub dec_bits : {A : Type 0} (es : List (BoardEntry A)) (s : PipeState) (bits : ℕ) → IsPipe es s → Decides (has_bits (lists_of s.shape) bits) (bits < 2 ^ width_born (birth es))
+dec_bits es s bits k =
+    subst (λ w. Decides (has_bits (lists_of s.shape) bits) (bits < 2 ^ w)) (sym (ap width_born k.marks.born)) (dec_bits_at (lists_of s.shape) bits (few_lists s.shape k.marks.shaped))
 
 -- Its answers.
 abbrev verdict_by : Bool → Bool → ℕ → Entered

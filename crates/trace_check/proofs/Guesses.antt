@@ -25,20 +25,20 @@ use Rattle.alg_registry.specs.declared.entry.RegEntry.{RegEntry}
 use Rattle.alg_registry.specs.declared.entry.RegEntry.TheVariants.{Enlist, Look, Claim, End, Waited, Unlist, Get, Put, Refs}
 use Rattle.alg_registry.specs.declared.entry.RegEntry.TheVariants as reg
 use Rattle.board.specs.declared.entry.Shape.{Shape}
-use Rattle.board.specs.declared.entry.Shape.TheVariants.{Pad, Queue}
+use Rattle.board.specs.declared.entry.Shape.TheVariants.{Pad, Queue, Chain}
 use Rattle.board.specs.declared.entry.Entered.{Entered}
 use Rattle.board.specs.declared.entry.Entered.TheVariants.{InProgress, Busy, NoSpace}
 use Rattle.board.specs.declared.entry.BoardEntry.{BoardEntry}
-use Rattle.board.specs.declared.entry.BoardEntry.TheVariants.{Born, Submit, Take, Finish, Enq, Deq, Done, Hold, Go, Collect, Close, Share, Shut}
+use Rattle.board.specs.declared.entry.BoardEntry.TheVariants.{Born, Submit, Take, Finish, Enq, Deq, Done, Hold, Go, Collect, Close, Share, Mask, Shut}
 use Rattle.trace_check.specs.declared.guessing.Plain.{Plain as PlainEvent}
 use Rattle.trace_check.specs.declared.guessing.Plain.TheVariants as says
 use Rattle.trace_check.specs.declared.lines.Guess.TheVariants as guess
 use Rattle.trace_check.specs.declared.lines.Known.{Known}
 use Rattle.trace_text.specs.Text.{kind_word, wrap_word, ids_word, plain_word, get_word, enlisted_words, looked_words, reg_words, shape_words, backlog_word, entered_words, started_words, board_words}
-use Rattle.trace_text.specs.Trace.{has_words, is_unwrapped, has_text, is_u32, is_u64, spec_fits, enlisted_fits, looked_fits, end_fits, option_fits, fits, shape_fits, entered_fits, board_fits}
+use Rattle.trace_text.specs.Trace.{has_words, is_unwrapped, has_text, is_u16, is_u32, is_u64, spec_fits, enlisted_fits, looked_fits, end_fits, option_fits, fits, shape_fits, entered_fits, board_fits}
 use Rattle.trace_check.specs.Guessing.{number_of, small_of, ids_of, kind_of, wrap_of, errno_of, enlisted_of, looked_of, entered_of, started_of, board_of, plain_words}
 use Rattle.trace_check.specs.Lines.{line_of, guess_of, plain_fits}
-use Rattle.trace_check.proofs.Numerals.{number_again, small_again, ids_again}
+use Rattle.trace_check.proofs.Numerals.{number_again, small_again, ids_again, mask_again}
 
 kind_again : (kind : Kind) → kind_of (kind_word kind) ≡ kind
 kind_again Cipher = refl
@@ -159,6 +159,9 @@ registry_again (reg.List caller) t f = λ i. Some (guess.Registry (reg.List (sma
 shape_again : (shape : Shape) → shape_fits shape ≡ true → (caller pipe : ℕ) → board_of caller (codes "born") (decimal pipe ∷ shape_words shape) ≡ Some (says.Born caller (number_of (decimal pipe)) shape)
 shape_again (Pad lists) f caller pipe = λ i. Some (says.Born caller (number_of (decimal pipe)) (Pad (small_again lists f i)))
 shape_again (Queue max) f caller pipe = λ i. Some (says.Born caller (number_of (decimal pipe)) (Queue (small_again max f i)))
+shape_again (Chain max lists) f caller pipe =
+    let ff = and_parts (is_u32 max) (is_u32 lists) f in
+    λ i. Some (says.Born caller (number_of (decimal pipe)) (Chain (small_again max ff.0 i) (small_again lists ff.1 i)))
 
 entered_again : (answer : Entered) → entered_fits answer ≡ true → entered_of (entered_words answer) ≡ answer
 entered_again (InProgress number) f = ap InProgress (number_again number f)
@@ -218,6 +221,10 @@ plain_event_again (says.Close caller pipe) f =
 plain_event_again (says.Share caller pipe) f =
     let ff = and_parts (is_u32 caller) (is_u64 pipe) f in
     λ i. Some (guess.Board (says.Share (small_again caller ff.0 i) (number_again pipe ff.1 i)))
+plain_event_again (says.Mask caller pipe mask) f =
+    let ff = and_parts (is_u32 caller) (is_u64 pipe && is_u16 mask) f in
+    let fp = and_parts (is_u64 pipe) (is_u16 mask) ff.1 in
+    λ i. Some (guess.Board (says.Mask (small_again caller ff.0 i) (number_again pipe fp.0 i) (mask_again mask fp.1 i)))
 plain_event_again (says.Shut caller) f = λ i. Some (guess.Board (says.Shut (small_again caller f i)))
 
 -- a board's event without its ask
@@ -234,6 +241,7 @@ plain_of (Go caller pipe) = says.Go caller pipe
 plain_of (Collect caller pipe to) = says.Collect caller pipe to
 plain_of (Close caller pipe) = says.Close caller pipe
 plain_of (Share caller pipe) = says.Share caller pipe
+plain_of (Mask caller pipe mask) = says.Mask caller pipe mask
 plain_of (Shut caller) = says.Shut caller
 
 pub plain_is : (e : BoardEntry Known) → (plain_words (plain_of e) ≡ board_words line_of e) × (plain_fits (plain_of e) ≡ board_fits line_of e)
@@ -249,4 +257,5 @@ plain_is (Go caller pipe) = (refl, refl)
 plain_is (Collect caller pipe to) = (refl, refl)
 plain_is (Close caller pipe) = (refl, refl)
 plain_is (Share caller pipe) = (refl, refl)
+plain_is (Mask caller pipe mask) = (refl, refl)
 plain_is (Shut caller) = (refl, refl)

@@ -1,23 +1,22 @@
 -- The checker's verdict on an event is what the event lacks.
-use Rattle.std.proofs.Common.{◌≡◌, ℕ, ◌≤◌, Bool, true, false, not, ◌&&◌, List, [], length, Option, Some, None, refl, sym, ◌∙◌, ap, arith, inl, inr}
-use Rattle.std.specs.Prelude.{◌==◌, nat_lt, nat_le, slice_get}
+use Rattle.std.proofs.Common.{◌≡◌, ℕ, Bool, true, false, not, ◌&&◌, List, [], length, Option, Some, None, refl, sym, ◌∙◌, ap, inl, inr}
+use Rattle.std.specs.Prelude.{◌==◌, slice_get}
 use Rattle.std.specs.Bool.{Decides}
 use Rattle.std.proofs.lemmas.Bool.{and_parts}
-use Rattle.std.proofs.lemmas.Bool.Decides.{Decides-eqb, Decides-ltb, Decides-and, Decides-like}
+use Rattle.std.proofs.lemmas.Bool.Decides.{Decides-eqb, Decides-and, Decides-like}
 use Rattle.board.specs.declared.entry.Shape.{Shape}
-use Rattle.board.specs.declared.entry.Shape.TheVariants.{Pad, Queue}
 use Rattle.board.specs.declared.entry.BoardEntry.{BoardEntry}
-use Rattle.board.specs.declared.entry.BoardEntry.TheVariants.{Born, Submit, Take, Finish, Enq, Deq, Done, Hold, Go, Collect, Close, Share, Shut}
-use Rattle.board.specs.Entries.{entries_of, birth, pad_born, queue_born}
-use Rattle.board.specs.Legal.{IsNoWorker, IsMaker, maker_is, MaySubmit, MayManage, IsOpenPad, IsOpenQueue, IsOpen, pipelines, is_shut_entry, is_shut, IsRight, IsRightFor, AreRightAfter, LegalBoard}
-use Rattle.board.specs.Legal as legal
+use Rattle.board.specs.declared.entry.BoardEntry.TheVariants.{Born, Submit, Take, Finish, Enq, Deq, Done, Hold, Go, Collect, Close, Share, Mask, Shut}
+use Rattle.board.specs.Shapes.{is_pad, has_line, has_lists, is_serial, is_born, IsShape}
+use Rattle.board.specs.Entries.{entries_of, birth}
+use Rattle.board.specs.Legal.{Is, IsOpen, pipelines, is_shut, LegalBoard}
 use Rattle.trace_check.specs.declared.reason.Reason.{Reason}
 use Rattle.trace_check.specs.declared.reason.Reason.TheVariants.{State, Caller, Number, Answer}
 use Rattle.trace_check.specs.Reasons.{IsFirstMissing}
 use Rattle.trace_check.specs.BoardReasons.{HasState, HasCaller, HasNumber, HasAnswer, IsWrong}
-use Rattle.trace_check.specs.Pipes.{PipeState, is_pad, size_of, is_worker, passes, runs, has_state, has_caller, has_number, has_answer, reason_of, judged_on, judged_at, pipe_of, judged}
+use Rattle.trace_check.specs.Pipes.{PipeState, is_shape, is_worker, passes, runs, has_state, has_caller, has_number, has_answer, reason_of, judged_on, judged_at, pipe_of, judged}
 use Rattle.trace_check.proofs.Standing.{IsPipe}
-use Rattle.trace_check.proofs.Deciding.{decides_true, decides_false, dec_pad, dec_queue, dec_open_pad, dec_open_queue, dec_open, dec_untaken, dec_running, dec_taker, dec_may_serve, dec_may_close, dec_no_worker, dec_may_manage, dec_may_submit, dec_next, dec_numbered, dec_dequeued, dec_collected, dec_answered}
+use Rattle.trace_check.proofs.Deciding.{decides_true, decides_false, dec_shape, dec_is, dec_unshared, dec_open_as, dec_open, dec_untaken, dec_running, dec_taker, dec_may_serve, dec_may_close, dec_masked, dec_no_worker, dec_may_manage, dec_may_submit, dec_may_take, dec_next, dec_numbered, dec_dequeued, dec_collected, dec_bits, dec_answered}
 
 -- The first part that isn't there.
 pub first_missing : {S C N W : Type 0} (a b c d : Bool) (r : Reason) → Decides a S → (a ≡ true → Decides b C) → Decides c N → Decides d W → reason_of a b c d ≡ Some r → IsFirstMissing S C N W r
@@ -57,32 +56,34 @@ is_inner _ = true
 
 pub dec_state : {A : Type 0} (h : List (BoardEntry A)) (s : PipeState) (e : BoardEntry A) → is_inner e ≡ true → IsPipe (entries_of (pipe_of e) h) s → Decides (has_state s e) (HasState h e)
 dec_state h s (Born caller pipe shape) i k = cc
-dec_state h s (Submit caller pipe number ask) i k = dec_open_pad _ s k
-dec_state h s (Take caller pipe number) i k = Decides-and _ _ (dec_open_pad _ s k) (dec_untaken _ s number k)
-dec_state h s (Finish caller pipe number) i k = Decides-and _ _ (dec_pad _ s k) (dec_running _ s number k)
-dec_state h s (Enq caller pipe ask backlog answer) i k = dec_open_queue _ s k
-dec_state h s (Deq caller pipe number started) i k = Decides-and _ _ (dec_open_queue _ s k) (dec_may_serve _ s k)
-dec_state h s (Done caller pipe number) i k = Decides-and _ _ (dec_queue _ s k) (dec_running _ s number k)
-dec_state h s (Hold caller pipe) i k = dec_open_queue _ s k
-dec_state h s (Go caller pipe) i k = dec_open_queue _ s k
+dec_state h s (Submit caller pipe number ask) i k = Decides-and _ _ (dec_open_as is_pad _ s k) (dec_masked _ s k)
+dec_state h s (Take caller pipe number) i k = Decides-and _ _ (dec_open_as has_lists _ s k) (dec_untaken _ s number k)
+dec_state h s (Finish caller pipe number) i k = Decides-and _ _ (dec_is has_lists _ s k) (dec_running _ s number k)
+dec_state h s (Enq caller pipe ask backlog answer) i k = dec_open_as has_line _ s k
+dec_state h s (Deq caller pipe number started) i k = Decides-and _ _ (dec_open_as has_line _ s k) (dec_may_serve _ s k)
+dec_state h s (Done caller pipe number) i k = Decides-and _ _ (dec_is is_serial _ s k) (dec_running _ s number k)
+dec_state h s (Hold caller pipe) i k = dec_open_as has_line _ s k
+dec_state h s (Go caller pipe) i k = dec_open_as has_line _ s k
 dec_state h s (Collect caller pipe to) i k = dec_open _ s k
 dec_state h s (Close caller pipe) i k = Decides-and _ _ (dec_open _ s k) (dec_may_close _ s k)
 dec_state h s (Share caller pipe) i k = dec_open _ s k
+dec_state h s (Mask caller pipe mask) i k = Decides-and _ _ (dec_open_as is_pad _ s k) (dec_unshared _ s k)
 dec_state h s (Shut caller) i k = cc
 
 pub dec_caller : {A : Type 0} (h : List (BoardEntry A)) (s : PipeState) (e : BoardEntry A) → is_inner e ≡ true → IsPipe (entries_of (pipe_of e) h) s → has_state s e ≡ true → Decides (has_caller s e) (HasCaller h e)
 dec_caller h s (Born caller pipe shape) i k t = cc
 dec_caller h s (Submit caller pipe number ask) i k t = dec_may_submit _ s caller k
-dec_caller h s (Take caller pipe number) i k t = decides_true tt
-dec_caller h s (Finish caller pipe number) i k t = dec_taker _ s number caller k (and_parts (is_pad s.shape) (passes runs s number) t).1
+dec_caller h s (Take caller pipe number) i k t = dec_may_take _ s caller k
+dec_caller h s (Finish caller pipe number) i k t = dec_taker _ s number caller k (and_parts (has_lists s.shape) (passes runs s number) t).1
 dec_caller h s (Enq caller pipe ask backlog answer) i k t = dec_may_submit _ s caller k
 dec_caller h s (Deq caller pipe number started) i k t = decides_true tt
-dec_caller h s (Done caller pipe number) i k t = dec_taker _ s number caller k (and_parts (not (is_pad s.shape)) (passes runs s number) t).1
+dec_caller h s (Done caller pipe number) i k t = dec_taker _ s number caller k (and_parts (is_serial s.shape) (passes runs s number) t).1
 dec_caller h s (Hold caller pipe) i k t = dec_may_manage _ s caller k
 dec_caller h s (Go caller pipe) i k t = dec_may_manage _ s caller k
 dec_caller h s (Collect caller pipe to) i k t = dec_may_manage _ s caller k
 dec_caller h s (Close caller pipe) i k t = dec_may_manage _ s caller k
 dec_caller h s (Share caller pipe) i k t = dec_may_manage _ s caller k
+dec_caller h s (Mask caller pipe mask) i k t = dec_may_manage _ s caller k
 dec_caller h s (Shut caller) i k t = cc
 
 pub dec_number : {A : Type 0} (h : List (BoardEntry A)) (s : PipeState) (e : BoardEntry A) → is_inner e ≡ true → IsPipe (entries_of (pipe_of e) h) s → Decides (has_number s e) (HasNumber h e)
@@ -98,6 +99,7 @@ dec_number h s (Go caller pipe) i k = decides_true tt
 dec_number h s (Collect caller pipe to) i k = dec_collected _ s to k
 dec_number h s (Close caller pipe) i k = decides_true tt
 dec_number h s (Share caller pipe) i k = decides_true tt
+dec_number h s (Mask caller pipe mask) i k = dec_bits _ s mask k
 dec_number h s (Shut caller) i k = cc
 
 pub dec_answer : {A : Type 0} (h : List (BoardEntry A)) (s : PipeState) (e : BoardEntry A) → is_inner e ≡ true → IsPipe (entries_of (pipe_of e) h) s → Decides (has_answer s e) (HasAnswer h e)
@@ -113,32 +115,31 @@ dec_answer h s (Go caller pipe) i k = decides_true tt
 dec_answer h s (Collect caller pipe to) i k = decides_true tt
 dec_answer h s (Close caller pipe) i k = decides_true tt
 dec_answer h s (Share caller pipe) i k = decides_true tt
+dec_answer h s (Mask caller pipe mask) i k = decides_true tt
 dec_answer h s (Shut caller) i k = cc
 
-no_pad : {A : Type 0} (es : List (BoardEntry A)) → es ≡ [] → pad_born (birth es) ≡ true → ⊥
-no_pad es n p = (let q : pad_born (birth es) ≡ false = ap (λ xs. pad_born (birth xs)) n in cc)
-
-no_queue : {A : Type 0} (es : List (BoardEntry A)) → es ≡ [] → queue_born (birth es) ≡ true → ⊥
-no_queue es n p = (let q : queue_born (birth es) ≡ false = ap (λ xs. queue_born (birth xs)) n in cc)
+no_shape : {A : Type 0} (such : Shape → Bool) (es : List (BoardEntry A)) → es ≡ [] → Is such es → ⊥
+no_shape such es n p = (let q : is_born such (birth es) ≡ false = ap (λ xs. is_born such (birth xs)) n in cc)
 
 none_open : {A : Type 0} (es : List (BoardEntry A)) → es ≡ [] → IsOpen es → ⊥
-none_open es n (inl pad) = no_pad es n pad.0
-none_open es n (inr queue) = no_queue es n queue.0
+none_open es n (inl pad) = no_shape is_pad es n pad.0
+none_open es n (inr queue) = no_shape has_line es n queue.0
 
 -- an event of a pipeline that isn't there lacks its state
 pub no_state : {A : Type 0} (h : List (BoardEntry A)) (e : BoardEntry A) → is_inner e ≡ true → entries_of (pipe_of e) h ≡ [] → HasState h e → ⊥
 no_state h (Born caller pipe shape) i n s = cc
-no_state h (Submit caller pipe number ask) i n s = no_pad (entries_of pipe h) n s.0
-no_state h (Take caller pipe number) i n s = no_pad (entries_of pipe h) n s.0.0
-no_state h (Finish caller pipe number) i n s = no_pad (entries_of pipe h) n s.0
-no_state h (Enq caller pipe ask backlog answer) i n s = no_queue (entries_of pipe h) n s.0
-no_state h (Deq caller pipe number started) i n s = no_queue (entries_of pipe h) n s.0.0
-no_state h (Done caller pipe number) i n s = no_queue (entries_of pipe h) n s.0
-no_state h (Hold caller pipe) i n s = no_queue (entries_of pipe h) n s.0
-no_state h (Go caller pipe) i n s = no_queue (entries_of pipe h) n s.0
+no_state h (Submit caller pipe number ask) i n s = no_shape is_pad (entries_of pipe h) n s.0.0
+no_state h (Take caller pipe number) i n s = no_shape has_lists (entries_of pipe h) n s.0.0
+no_state h (Finish caller pipe number) i n s = no_shape has_lists (entries_of pipe h) n s.0
+no_state h (Enq caller pipe ask backlog answer) i n s = no_shape has_line (entries_of pipe h) n s.0
+no_state h (Deq caller pipe number started) i n s = no_shape has_line (entries_of pipe h) n s.0.0
+no_state h (Done caller pipe number) i n s = no_shape is_serial (entries_of pipe h) n s.0
+no_state h (Hold caller pipe) i n s = no_shape has_line (entries_of pipe h) n s.0
+no_state h (Go caller pipe) i n s = no_shape has_line (entries_of pipe h) n s.0
 no_state h (Collect caller pipe to) i n s = none_open (entries_of pipe h) n s
 no_state h (Close caller pipe) i n s = none_open (entries_of pipe h) n s.0
 no_state h (Share caller pipe) i n s = none_open (entries_of pipe h) n s
+no_state h (Mask caller pipe mask) i n s = no_shape is_pad (entries_of pipe h) n s.0.0
 no_state h (Shut caller) i n s = cc
 
 -- What the checker keeps of the board.
@@ -169,13 +170,9 @@ judged_place h e None i k = no_state h e i k
 judged_place h e (Some s) i k =
     verdict_from h e (has_state s e) (has_caller s e) (has_number s e) (has_answer s e) (judged_on s e) (dec_state h s e i k) (dec_caller h s e i k) (dec_number h s e i k) (dec_answer h s e i k) refl
 
-dec_next_pipe : {A : Type 0} (ps : List PipeState) (h : List (BoardEntry A)) (pipe : ℕ) (shape : Shape) → pipelines h ≡ length ps → Decides (pipe == length ps && nat_le 1 (size_of shape)) ((pipe ≡ pipelines h) × (1 ≤ legal.size_of shape))
+dec_next_pipe : {A : Type 0} (ps : List PipeState) (h : List (BoardEntry A)) (pipe : ℕ) (shape : Shape) → pipelines h ≡ length ps → Decides (pipe == length ps && is_shape shape) ((pipe ≡ pipelines h) × IsShape shape)
 dec_next_pipe ps h pipe shape c =
-    Decides-and _ _ (Decides-like (pipe == length ps) (λ e. e ∙ sym c) (λ e. e ∙ c) (Decides-eqb pipe (length ps))) (size_at shape)
-  where
-    size_at : (shape : Shape) → Decides (nat_le 1 (size_of shape)) (1 ≤ legal.size_of shape)
-    size_at (Pad lists) = Decides-like (nat_lt 0 lists) (λ h. omega arith) (λ h. omega arith) (Decides-ltb 0 lists)
-    size_at (Queue max) = Decides-like (nat_lt 0 max) (λ h. omega arith) (λ h. omega arith) (Decides-ltb 0 max)
+    Decides-and _ _ (Decides-like (pipe == length ps) (λ e. e ∙ sym c) (λ e. e ∙ c) (Decides-eqb pipe (length ps))) (dec_shape shape)
 
 dec_unshut : (shut b : Bool) → b ≡ shut → Decides (not shut) (b ≡ false)
 dec_unshut true b e = decides_false (λ h. cc)
@@ -183,7 +180,7 @@ dec_unshut false b e = decides_true e
 
 pub judged_is : {A : Type 0} (ps : List PipeState) (shut : Bool) (h : List (BoardEntry A)) (e : BoardEntry A) → IsBoard ps shut h → IsJudged h e (judged ps shut e)
 judged_is ps shut h (Born caller pipe shape) k =
-    verdict_from h (Born caller pipe shape) true (not (is_worker caller)) (pipe == length ps && nat_le 1 (size_of shape)) true _ (decides_true tt) (λ t. dec_no_worker caller) (dec_next_pipe ps h pipe shape k.count) (decides_true tt) refl
+    verdict_from h (Born caller pipe shape) true (not (is_worker caller)) (pipe == length ps && is_shape shape) true _ (decides_true tt) (λ t. dec_no_worker caller) (dec_next_pipe ps h pipe shape k.count) (decides_true tt) refl
 judged_is ps shut h (Shut caller) k =
     verdict_from h (Shut caller) (not shut) (caller == 0) true true _ (dec_unshut shut (is_shut h) k.shutting) (λ t. Decides-eqb caller 0) (decides_true tt) (decides_true tt) refl
 judged_is ps shut h (Submit caller pipe number ask) k = judged_place h _ (slice_get ps pipe) refl (k.each pipe)
@@ -197,3 +194,4 @@ judged_is ps shut h (Go caller pipe) k = judged_place h _ (slice_get ps pipe) re
 judged_is ps shut h (Collect caller pipe to) k = judged_place h _ (slice_get ps pipe) refl (k.each pipe)
 judged_is ps shut h (Close caller pipe) k = judged_place h _ (slice_get ps pipe) refl (k.each pipe)
 judged_is ps shut h (Share caller pipe) k = judged_place h _ (slice_get ps pipe) refl (k.each pipe)
+judged_is ps shut h (Mask caller pipe mask) k = judged_place h _ (slice_get ps pipe) refl (k.each pipe)

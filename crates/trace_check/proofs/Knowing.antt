@@ -3,7 +3,7 @@ use Rattle.std.proofs.Common.{◌≡◌, ℕ, Bool, false, ◌&&◌, List, [], �
 use Rattle.std.specs.Prelude.{⊤, slice_get}
 use Rattle.std.specs.List.{list_all, flat_map}
 use Rattle.board.specs.declared.entry.BoardEntry.{BoardEntry}
-use Rattle.board.specs.declared.entry.BoardEntry.TheVariants.{Born, Submit, Take, Finish, Enq, Deq, Done, Hold, Go, Collect, Close, Share, Shut}
+use Rattle.board.specs.declared.entry.BoardEntry.TheVariants.{Born, Submit, Take, Finish, Enq, Deq, Done, Hold, Go, Collect, Close, Share, Mask, Shut}
 use Rattle.board.specs.Legal.{IsRight, AreRightAfter, LegalBoard, pipelines}
 use Rattle.board.specs.Entries.{entries_of}
 use Rattle.alg_registry.specs.declared.entry.RegEntry.{RegEntry}
@@ -53,6 +53,7 @@ on_same line s (Go caller pipe) = refl
 on_same line s (Collect caller pipe to) = refl
 on_same line s (Close caller pipe) = refl
 on_same line s (Share caller pipe) = refl
+on_same line s (Mask caller pipe mask) = refl
 on_same line s (Shut caller) = refl
 
 at_same : {A : Type 0} (line : A → ℕ) (p : Option PipeState) (e : BoardEntry A) → judged_at p (with_line line e) ≡ judged_at p e
@@ -72,6 +73,7 @@ judged_same line ps shut (Go caller pipe) = at_same line (slice_get ps pipe) (Go
 judged_same line ps shut (Collect caller pipe to) = at_same line (slice_get ps pipe) (Collect caller pipe to)
 judged_same line ps shut (Close caller pipe) = at_same line (slice_get ps pipe) (Close caller pipe)
 judged_same line ps shut (Share caller pipe) = at_same line (slice_get ps pipe) (Share caller pipe)
+judged_same line ps shut (Mask caller pipe mask) = at_same line (slice_get ps pipe) (Mask caller pipe mask)
 judged_same line ps shut (Shut caller) = refl
 
 after_same : {A : Type 0} (line : A → ℕ) (ps : List PipeState) (e : BoardEntry A) → pipes_after ps (with_line line e) ≡ pipes_after ps e
@@ -87,6 +89,7 @@ after_same line ps (Go caller pipe) = refl
 after_same line ps (Collect caller pipe to) = refl
 after_same line ps (Close caller pipe) = refl
 after_same line ps (Share caller pipe) = refl
+after_same line ps (Mask caller pipe mask) = refl
 after_same line ps (Shut caller) = refl
 
 shut_same : {A : Type 0} (line : A → ℕ) (shut : Bool) (e : BoardEntry A) → is_shut_by shut (with_line line e) ≡ is_shut_by shut e
@@ -102,6 +105,7 @@ shut_same line shut (Go caller pipe) = refl
 shut_same line shut (Collect caller pipe to) = refl
 shut_same line shut (Close caller pipe) = refl
 shut_same line shut (Share caller pipe) = refl
+shut_same line shut (Mask caller pipe mask) = refl
 shut_same line shut (Shut caller) = refl
 
 passes_there : {A : Type 0} (line : A → ℕ) (ps : List PipeState) (shut : Bool) (h : List (BoardEntry A)) → Passes ps shut h → Passes ps shut (with_lines line h)
@@ -140,6 +144,7 @@ words_same line (Go caller pipe) = refl
 words_same line (Collect caller pipe to) = refl
 words_same line (Close caller pipe) = refl
 words_same line (Share caller pipe) = refl
+words_same line (Mask caller pipe mask) = refl
 words_same line (Shut caller) = refl
 
 fits_same : {A : Type 0} (line : A → ℕ) (e : BoardEntry A) → board_fits line_of (with_line line e) ≡ board_fits line e
@@ -155,6 +160,7 @@ fits_same line (Go caller pipe) = refl
 fits_same line (Collect caller pipe to) = refl
 fits_same line (Close caller pipe) = refl
 fits_same line (Share caller pipe) = refl
+fits_same line (Mask caller pipe mask) = refl
 fits_same line (Shut caller) = refl
 
 board_same : {A : Type 0} (line : A → ℕ) (h : List (BoardEntry A)) → flat_map (λ e. sentence (board_words line_of e)) (with_lines line h) ≡ flat_map (λ e. sentence (board_words line e)) h

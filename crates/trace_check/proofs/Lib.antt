@@ -1,4 +1,5 @@
 pub mod Places
+pub mod Histories
 pub mod Standing
 pub mod Requests
 pub mod Deciding

@@ -21,18 +21,18 @@ use Rattle.alg_registry.specs.declared.entry.RegEntry.{RegEntry}
 use Rattle.alg_registry.specs.declared.entry.RegEntry.TheVariants.{Enlist, Look, Claim, End, Waited, Unlist, Get, Put, Refs}
 use Rattle.alg_registry.specs.declared.entry.RegEntry.TheVariants as reg
 use Rattle.board.specs.declared.entry.Shape.{Shape}
-use Rattle.board.specs.declared.entry.Shape.TheVariants.{Pad, Queue}
+use Rattle.board.specs.declared.entry.Shape.TheVariants.{Pad, Queue, Chain}
 use Rattle.board.specs.declared.entry.Entered.{Entered}
 use Rattle.board.specs.declared.entry.Entered.TheVariants.{InProgress, Busy, NoSpace}
 use Rattle.trace_check.specs.declared.guessing.Plain.{Plain as PlainEvent}
 use Rattle.trace_check.specs.declared.guessing.Plain.TheVariants as says
 use Rattle.trace_check.specs.declared.lines.Guess.{Guess}
 use Rattle.trace_check.specs.declared.lines.Guess.TheVariants as guess
-use Rattle.trace_text.specs.Text.{sentence, kind_word, wrap_word, ids_word, plain_word, get_word, enlisted_words, looked_words, end_words, unlisted_words, reg_words, shape_words, backlog_word, entered_words, started_words}
-use Rattle.trace_text.specs.Trace.{is_visible, is_word, has_words, is_unwrapped, end_has_text, has_text, is_u32, is_u64, spec_fits, enlisted_fits, looked_fits, end_fits, option_fits, fits, shape_fits, entered_fits, is_event}
+use Rattle.trace_text.specs.Text.{sentence, kind_word, wrap_word, ids_word, plain_word, get_word, enlisted_words, looked_words, end_words, unlisted_words, reg_words, shape_words, backlog_word, entered_words, started_words, mask_word}
+use Rattle.trace_text.specs.Trace.{is_visible, is_word, has_words, is_unwrapped, end_has_text, has_text, is_u16, is_u32, is_u64, spec_fits, enlisted_fits, looked_fits, end_fits, option_fits, fits, shape_fits, entered_fits, is_event}
 use Rattle.trace_check.specs.Guessing.{plain_words}
 use Rattle.trace_check.specs.Lines.{guess_of, guess_words, plain_fits}
-use Rattle.trace_check.proofs.Numerals.{visible_decimal, visible_small, visible_ids}
+use Rattle.trace_check.proofs.Numerals.{visible_decimal, visible_small, visible_ids, visible_mask}
 use Rattle.std.proofs.lemmas.List.{length_push}
 use Rattle.trace_check.specs.declared.lines.Event.{Event}
 use Rattle.trace_check.specs.declared.lines.Event.TheVariants as event
@@ -171,6 +171,9 @@ registry_visible (reg.List caller) t f = headed (codes "r") (codes "list") calle
 visible_shape : (shape : Shape) → shape_fits shape ≡ true → AreVisible (shape_words shape)
 visible_shape (Pad lists) f = sized (codes "pad") lists refl f
 visible_shape (Queue max) f = sized (codes "queue") max refl f
+visible_shape (Chain max lists) f =
+    let ff = and_parts (is_u32 max) (is_u32 lists) f in
+    one_more (codes "chain") _ refl (one_more (decimal max) _ (visible_small max ff.0) (one_more (decimal lists) [] (visible_small lists ff.1) none_more))
 
 visible_entered : (answer : Entered) → entered_fits answer ≡ true → AreVisible (entered_words answer)
 visible_entered (InProgress number) f = counted (codes "EINPROGRESS") number refl f
@@ -218,6 +221,10 @@ plain_visible (says.Go caller pipe) f = piped (codes "go") caller pipe refl f
 plain_visible (says.Collect caller pipe to) f = paired (codes "collect") caller pipe to refl f
 plain_visible (says.Close caller pipe) f = piped (codes "close") caller pipe refl f
 plain_visible (says.Share caller pipe) f = piped (codes "share") caller pipe refl f
+plain_visible (says.Mask caller pipe mask) f =
+    let ff = and_parts (is_u32 caller) (is_u64 pipe && is_u16 mask) f in
+    let fp = and_parts (is_u64 pipe) (is_u16 mask) ff.1 in
+    headed (codes "b") (codes "mask") caller _ refl refl ff.0 (one_more (decimal pipe) _ (visible_decimal pipe fp.0) (one_more (mask_word mask) [] (visible_mask mask) none_more))
 plain_visible (says.Shut caller) f = headed (codes "b") (codes "shut") caller [] refl refl f none_more
 
 -- a line of printed words is cut into them again
@@ -261,6 +268,7 @@ some_plain (says.Go caller pipe) = omega arith
 some_plain (says.Collect caller pipe to) = omega arith
 some_plain (says.Close caller pipe) = omega arith
 some_plain (says.Share caller pipe) = omega arith
+some_plain (says.Mask caller pipe mask) = omega arith
 some_plain (says.Shut caller) = omega arith
 
 pub registry_guessed : (body : List ℕ) (last : ℕ) (e : RegEntry) → is_event e ≡ true → body ++ last ∷ [] ≡ sentence (reg_words e) → guess_of (slice_split (λ b. b == 32) body) ≡ Some (guess.Registry e)

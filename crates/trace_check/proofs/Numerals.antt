@@ -1,14 +1,14 @@
 -- A number's digits, read again.
-use Rattle.std.proofs.Common.{◌≡◌, ℕ, ◌+◌, ◌-◌, ◌*◌, ◌/◌, ◌%◌, ◌^◌, ◌<◌, ◌≤◌, Bool, true, false, not, cond, ◌&&◌, List, [], ◌∷◌, ◌++◌, append-nil, length, map, Option, Some, None, refl, sym, ◌∙◌, ap, arith}
+use Rattle.std.proofs.Common.{◌≡◌, ℕ, suc, ◌+◌, ◌-◌, ◌*◌, ◌/◌, ◌%◌, ◌^◌, ◌<◌, ◌≤◌, Bool, true, false, not, cond, ◌&&◌, List, [], ◌∷◌, ◌++◌, append-nil, length, map, Option, Some, None, refl, sym, ◌∙◌, ap, arith, inl, inr, ◌⊎◌}
 use Rattle.std.specs.Prelude.{◌==◌, nat_lt, nat_le, unwrap_or}
 use Rattle.std.specs.Fmt.{decimal}
 use Rattle.std.specs.List.{list_all, join_with_byte, slice_split, onto_first}
 use Rattle.std.specs.Str.{bytes_eq}
-use Rattle.std.proofs.lemmas.Bool.{lt-ltb, le-leb, ltb-true, leb-true, and_parts, and_from, ne_eqb, eq-eqb, not-true}
+use Rattle.std.proofs.lemmas.Bool.{lt-ltb, le-leb, lt-leb, cases_lt, ltb-true, leb-true, and_parts, and_from, ne_eqb, eq-eqb, not-true}
 use Rattle.std.proofs.lemmas.Fmt.{decimal_by_steps, decimal_nonempty}
-use Rattle.trace_text.specs.Trace.{is_visible, is_u32, is_u64}
-use Rattle.trace_check.specs.Guessing.{digit_after, number_at, number_from, number_of, small_of, ids_of, is_comma}
-use Rattle.trace_text.specs.Text.{ids_word}
+use Rattle.trace_text.specs.Trace.{is_visible, is_u16, is_u32, is_u64}
+use Rattle.trace_check.specs.Guessing.{digit_after, number_at, number_from, number_of, small_of, ids_of, is_comma, hex_value, mask_in}
+use Rattle.trace_text.specs.Text.{ids_word, hex_digit, mask_word}
 
 digit_ok : (v d : ℕ) → v * 10 + d < 2 ^ 64 → digit_after v (48 + d) ≡ Some (v * 10 + d)
 digit_ok v d h =
@@ -59,6 +59,39 @@ small_again n f =
     let l : n < 2 ^ 32 = ltb-true n (2 ^ 32) f in
     let e : number_of (decimal n) ≡ n = number_again n (lt-ltb n (2 ^ 64) (omega arith)) in
     ap (λ m. cond (nat_lt m (2 ^ 32)) m 0) e ∙ ap (λ b. cond b n 0) f
+
+-- A mask's four digits, read again.
+digit_at : (n : ℕ) → n < 16 → (n < 10) ⊎ (10 ≤ n) → (hex_value (hex_digit n) ≡ n) × (is_visible (hex_digit n) ≡ true)
+digit_at n few (inl l) =
+    let d : hex_digit n ≡ 48 + n = ap (λ b. cond b (48 + n) (87 + n)) (lt-ltb n 10 l) in
+    let v : hex_value (48 + n) ≡ n = ap (λ b. cond b ((48 + n) - 48) ((48 + n) - 87) % 16) (lt-ltb (48 + n) 58 (omega arith)) ∙ omega arith in
+    (ap hex_value d ∙ v, ap is_visible d ∙ and_from (nat_le 33 (48 + n)) (nat_le (48 + n) 126) (le-leb 33 (48 + n) (omega arith)) (le-leb (48 + n) 126 (omega arith)))
+digit_at n few (inr g) =
+    let d : hex_digit n ≡ 87 + n = ap (λ b. cond b (48 + n) (87 + n)) (lt-leb (suc n) 10 (omega arith)) in
+    let v : hex_value (87 + n) ≡ n = ap (λ b. cond b ((87 + n) - 48) ((87 + n) - 87) % 16) (lt-leb (suc (87 + n)) 58 (omega arith)) ∙ omega arith in
+    (ap hex_value d ∙ v, ap is_visible d ∙ and_from (nat_le 33 (87 + n)) (nat_le (87 + n) 126) (le-leb 33 (87 + n) (omega arith)) (le-leb (87 + n) 126 (omega arith)))
+
+digit_again : (n : ℕ) → n < 16 → hex_value (hex_digit n) ≡ n
+digit_again n few = (digit_at n few (cases_lt n 10)).0
+
+visible_hex : (n : ℕ) → n < 16 → is_visible (hex_digit n) ≡ true
+visible_hex n few = (digit_at n few (cases_lt n 10)).1
+
+pub mask_again : (mask : ℕ) → is_u16 mask ≡ true → mask_in (mask_word mask) ≡ mask
+mask_again mask f =
+    let short : mask < 2 ^ 16 = ltb-true mask (2 ^ 16) f in
+    let a = digit_again (mask / 4096 % 16) (omega arith) in
+    let b = digit_again (mask / 256 % 16) (omega arith) in
+    let c = digit_again (mask / 16 % 16) (omega arith) in
+    let d = digit_again (mask % 16) (omega arith) in
+    omega arith
+
+pub visible_mask : (mask : ℕ) → list_all is_visible (mask_word mask) ≡ true
+visible_mask mask =
+    let d = and_from (is_visible (hex_digit (mask % 16))) true (visible_hex (mask % 16) (omega arith)) refl in
+    let c = and_from (is_visible (hex_digit (mask / 16 % 16))) _ (visible_hex (mask / 16 % 16) (omega arith)) d in
+    let b = and_from (is_visible (hex_digit (mask / 256 % 16))) _ (visible_hex (mask / 256 % 16) (omega arith)) c in
+    and_from (is_visible (hex_digit (mask / 4096 % 16))) _ (visible_hex (mask / 4096 % 16) (omega arith)) b
 
 -- Its digits are printed, and no commas.
 visible_digit : (d : ℕ) → d < 10 → is_visible (48 + d) ≡ true

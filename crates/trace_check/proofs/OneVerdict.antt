@@ -10,7 +10,7 @@ use denote.RawPtr.{null_ptr}
 use Rattle.alg_registry.specs.declared.entry.RegEntry.{RegEntry}
 use Rattle.alg_registry.specs.Legal as registry
 use Rattle.board.specs.declared.entry.BoardEntry.{BoardEntry}
-use Rattle.board.specs.declared.entry.BoardEntry.TheVariants.{Born, Submit, Take, Finish, Enq, Deq, Done, Hold, Go, Collect, Close, Share, Shut}
+use Rattle.board.specs.declared.entry.BoardEntry.TheVariants.{Born, Submit, Take, Finish, Enq, Deq, Done, Hold, Go, Collect, Close, Share, Mask, Shut}
 use Rattle.board.specs.Legal.{AreRightAfter}
 use Rattle.trace_text.specs.Text.{sentence}
 use Rattle.trace_text.specs.Trace.{is_event, board_fits, AreEvents}
@@ -166,6 +166,7 @@ entry_of ask (says.Go caller pipe) = Go caller pipe
 entry_of ask (says.Collect caller pipe to) = Collect caller pipe to
 entry_of ask (says.Close caller pipe) = Close caller pipe
 entry_of ask (says.Share caller pipe) = Share caller pipe
+entry_of ask (says.Mask caller pipe mask) = Mask caller pipe mask
 entry_of ask (says.Shut caller) = Shut caller
 
 an_ask : Arc Known Global
@@ -184,6 +185,7 @@ on_bare a s (Go caller pipe) = refl
 on_bare a s (Collect caller pipe to) = refl
 on_bare a s (Close caller pipe) = refl
 on_bare a s (Share caller pipe) = refl
+on_bare a s (Mask caller pipe mask) = refl
 on_bare a s (Shut caller) = refl
 
 at_bare : (a : Arc Known Global) (p : Option PipeState) (e : BoardEntry Known) → judged_at p (entry_of a (plain_of e)) ≡ judged_at p e
@@ -203,6 +205,7 @@ judged_bare a ps shut (Go caller pipe) = at_bare a (slice_get ps pipe) (Go calle
 judged_bare a ps shut (Collect caller pipe to) = at_bare a (slice_get ps pipe) (Collect caller pipe to)
 judged_bare a ps shut (Close caller pipe) = at_bare a (slice_get ps pipe) (Close caller pipe)
 judged_bare a ps shut (Share caller pipe) = at_bare a (slice_get ps pipe) (Share caller pipe)
+judged_bare a ps shut (Mask caller pipe mask) = at_bare a (slice_get ps pipe) (Mask caller pipe mask)
 judged_bare a ps shut (Shut caller) = refl
 
 after_bare : (a : Arc Known Global) (ps : List PipeState) (e : BoardEntry Known) → pipes_after ps (entry_of a (plain_of e)) ≡ pipes_after ps e
@@ -218,6 +221,7 @@ after_bare a ps (Go caller pipe) = refl
 after_bare a ps (Collect caller pipe to) = refl
 after_bare a ps (Close caller pipe) = refl
 after_bare a ps (Share caller pipe) = refl
+after_bare a ps (Mask caller pipe mask) = refl
 after_bare a ps (Shut caller) = refl
 
 shut_bare : (a : Arc Known Global) (shut : Bool) (e : BoardEntry Known) → is_shut_by shut (entry_of a (plain_of e)) ≡ is_shut_by shut e
@@ -233,6 +237,7 @@ shut_bare a shut (Go caller pipe) = refl
 shut_bare a shut (Collect caller pipe to) = refl
 shut_bare a shut (Close caller pipe) = refl
 shut_bare a shut (Share caller pipe) = refl
+shut_bare a shut (Mask caller pipe mask) = refl
 shut_bare a shut (Shut caller) = refl
 
 found_bare : (a : Arc Known Global) (n : ℕ) (ps : List PipeState) (shut : Bool) (h : List (BoardEntry Known)) → first_judged n ps shut (map (entry_of a) (map plain_of h)) ≡ first_judged n ps shut h

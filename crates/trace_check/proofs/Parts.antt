@@ -2,25 +2,27 @@
 use Rattle.std.proofs.Common.{◌≡◌, ◌≢◌, ℕ, Bool, true, false, cond, List, [], ◌∷◌, length, Option, Some, None, refl, sym, ap, subst, arith, inl, inr, ◌⊎◌}
 use Rattle.std.specs.Prelude.{slice_get, ⊤}
 use Rattle.board.specs.declared.entry.Shape.{Shape}
-use Rattle.board.specs.declared.entry.Shape.TheVariants.{Pad, Queue}
+use Rattle.board.specs.declared.entry.Shape.TheVariants.{Pad, Queue, Chain}
 use Rattle.board.specs.declared.entry.Entered.{Entered}
 use Rattle.board.specs.declared.entry.Entered.TheVariants.{InProgress, Busy, NoSpace}
 use Rattle.board.specs.declared.entry.BoardEntry.{BoardEntry}
-use Rattle.board.specs.declared.entry.BoardEntry.TheVariants.{Born, Submit, Take, Finish, Enq, Deq, Done, Hold, Go, Collect, Close, Share, Shut}
-use Rattle.board.specs.Entries.{entries_of, birth, pad_born, queue_born, submissions, takers, verdict, is_closed}
-use Rattle.board.specs.Legal.{maker_is, MayManage, IsOpen, pipelines, IsRight}
+use Rattle.board.specs.declared.entry.BoardEntry.TheVariants.{Born, Submit, Take, Finish, Enq, Deq, Done, Hold, Go, Collect, Close, Share, Mask, Shut}
+use Rattle.board.specs.Shapes.{pad_born, line_born}
+use Rattle.board.specs.Entries.{entries_of, birth, submissions, takers, verdict, is_closed, maker_is}
+use Rattle.board.specs.Legal.{MayManage, IsOpen, pipelines, IsRight}
 use Rattle.trace_check.specs.declared.reason.Reason.{Reason}
 use Rattle.trace_check.specs.declared.reason.Reason.TheVariants.{State, Caller, Number, Answer}
 use Rattle.trace_check.specs.BoardReasons.{IsNumbered, verdict_word, IsWrong}
 use Rattle.trace_check.specs.Pipes.{PipeState, judged}
 use Rattle.trace_check.proofs.Judging.{IsBoard, IsPlace, HasAll, IsJudged, judged_is}
 
-maker_some : (b : Option (ℕ × Shape)) (caller : ℕ) → maker_is b caller → (pad_born b ≡ true) ⊎ (queue_born b ≡ true)
+maker_some : (b : Option (ℕ × Shape)) (caller : ℕ) → maker_is b caller → (pad_born b ≡ true) ⊎ (line_born b ≡ true)
 maker_some None caller m = absurd m
 maker_some (Some (maker, Pad lists)) caller m = inl refl
 maker_some (Some (maker, Queue max)) caller m = inr refl
+maker_some (Some (maker, Chain max lists)) caller m = inr refl
 
-either_open : {A : Type 0} (es : List (BoardEntry A)) → is_closed es ≡ false → (pad_born (birth es) ≡ true) ⊎ (queue_born (birth es) ≡ true) → IsOpen es
+either_open : {A : Type 0} (es : List (BoardEntry A)) → is_closed es ≡ false → (pad_born (birth es) ≡ true) ⊎ (line_born (birth es) ≡ true) → IsOpen es
 either_open es c (inl p) = inl (p, c)
 either_open es c (inr q) = inr (q, c)
 
@@ -75,34 +77,36 @@ verdict_numbered es backlog answer e = answer_next es answer (subst (IsNext (len
 
 -- what is right lacks nothing
 pub right_has_all : {A : Type 0} (h : List (BoardEntry A)) (e : BoardEntry A) → IsRight h e → HasAll h e
-right_has_all h (Born caller pipe shape) r = (tt, r.1.0, (r.0, r.1.2), tt)
-right_has_all h (Submit caller pipe number ask) r = (r.1, r.0, r.2, tt)
-right_has_all h (Take caller pipe number) r = ((r.0, (r.1, r.2)), tt, tt, tt)
-right_has_all h (Finish caller pipe number) r = ((r.0, (taken_by_one (entries_of pipe h) number caller r.1, r.2)), r.1, tt, tt)
-right_has_all h (Enq caller pipe ask backlog answer) r = (r.1, r.0, verdict_numbered (entries_of pipe h) backlog answer r.2, ap verdict_word r.2)
-right_has_all h (Deq caller pipe number started) r = ((r.0, (r.1, r.2, r.3)), tt, (r.4, r.5), tt)
-right_has_all h (Done caller pipe number) r = ((r.0, (taken_by_one (entries_of pipe h) number caller r.1, r.2)), r.1, tt, tt)
-right_has_all h (Hold caller pipe) r = (r.1, r.0, tt, tt)
-right_has_all h (Go caller pipe) r = (r.1, r.0, tt, tt)
-right_has_all h (Collect caller pipe to) r = (managed_open (entries_of pipe h) caller r.0 r.1, r.0, r.2, tt)
-right_has_all h (Close caller pipe) r = ((managed_open (entries_of pipe h) caller r.0 r.1, (r.2, r.3, r.4)), r.0, tt, tt)
-right_has_all h (Share caller pipe) r = (managed_open (entries_of pipe h) caller r.0 r.1, r.0, tt, tt)
+right_has_all h (Born caller pipe shape) (n, r) = (tt, r.0, (n, r.2), tt)
+right_has_all h (Submit caller pipe number ask) (n, r) = ((r.1, r.3), r.0, r.2, tt)
+right_has_all h (Take caller pipe number) (n, r) = ((r.0, (r.1, r.2)), r.3, tt, tt)
+right_has_all h (Finish caller pipe number) (n, r) = ((r.0, (taken_by_one (entries_of pipe h) number caller r.1, r.2)), r.1, tt, tt)
+right_has_all h (Enq caller pipe ask backlog answer) (n, r) = (r.1, r.0, verdict_numbered (entries_of pipe h) backlog answer r.2, ap verdict_word r.2)
+right_has_all h (Deq caller pipe number started) (n, r) = ((r.0, (r.1, r.2, r.3)), tt, (r.4, r.5), tt)
+right_has_all h (Done caller pipe number) (n, r) = ((r.0, (taken_by_one (entries_of pipe h) number caller r.1, r.2)), r.1, tt, tt)
+right_has_all h (Hold caller pipe) (n, r) = (r.1, r.0, tt, tt)
+right_has_all h (Go caller pipe) (n, r) = (r.1, r.0, tt, tt)
+right_has_all h (Collect caller pipe to) (n, r) = (managed_open (entries_of pipe h) caller r.0 r.1, r.0, r.2, tt)
+right_has_all h (Close caller pipe) (n, r) = ((managed_open (entries_of pipe h) caller r.0 r.1, (r.2, r.3, r.4)), r.0, tt, tt)
+right_has_all h (Share caller pipe) (n, r) = (managed_open (entries_of pipe h) caller r.0 r.1, r.0, tt, tt)
+right_has_all h (Mask caller pipe mask) (n, r) = ((r.1, r.2), r.0, r.3, tt)
 right_has_all h (Shut caller) r = (r.1, r.0, tt, tt)
 
 -- and what lacks nothing is right, where the next pipeline has no events yet
 pub all_is_right : {A : Type 0} (h : List (BoardEntry A)) (e : BoardEntry A) → entries_of (pipelines h) h ≡ [] → HasAll h e → IsRight h e
 all_is_right h (Born caller pipe shape) n (s, c, m, a) = (m.0, (c, subst (λ p. entries_of p h ≡ []) (sym m.0) n, m.1))
-all_is_right h (Submit caller pipe number ask) n (s, c, m, a) = (c, s, m)
-all_is_right h (Take caller pipe number) n (s, c, m, a) = (s.0, s.1.0, s.1.1)
-all_is_right h (Finish caller pipe number) n (s, c, m, a) = (s.0, c, s.1.1)
-all_is_right h (Enq caller pipe ask backlog answer) n (s, c, m, a) = (c, s, verdict_known _ backlog (length (submissions (entries_of pipe h))) answer (next_answer (entries_of pipe h) answer m) a)
-all_is_right h (Deq caller pipe number started) n (s, c, m, a) = (s.0, s.1.0, s.1.1, s.1.2, m.0, m.1)
-all_is_right h (Done caller pipe number) n (s, c, m, a) = (s.0, c, s.1.1)
-all_is_right h (Hold caller pipe) n (s, c, m, a) = (c, s)
-all_is_right h (Go caller pipe) n (s, c, m, a) = (c, s)
-all_is_right h (Collect caller pipe to) n (s, c, m, a) = (c, open_unclosed (entries_of pipe h) s, m)
-all_is_right h (Close caller pipe) n (s, c, m, a) = (c, open_unclosed (entries_of pipe h) s.0, s.1.0, s.1.1, s.1.2)
-all_is_right h (Share caller pipe) n (s, c, m, a) = (c, open_unclosed (entries_of pipe h) s)
+all_is_right h (Submit caller pipe number ask) n (s, c, m, a) = (tt, (c, s.0, m, s.1))
+all_is_right h (Take caller pipe number) n (s, c, m, a) = (tt, (s.0, s.1.0, s.1.1, c))
+all_is_right h (Finish caller pipe number) n (s, c, m, a) = (tt, (s.0, c, s.1.1))
+all_is_right h (Enq caller pipe ask backlog answer) n (s, c, m, a) = (tt, (c, s, verdict_known _ backlog (length (submissions (entries_of pipe h))) answer (next_answer (entries_of pipe h) answer m) a))
+all_is_right h (Deq caller pipe number started) n (s, c, m, a) = (tt, (s.0, s.1.0, s.1.1, s.1.2, m.0, m.1))
+all_is_right h (Done caller pipe number) n (s, c, m, a) = (tt, (s.0, c, s.1.1))
+all_is_right h (Hold caller pipe) n (s, c, m, a) = (tt, (c, s))
+all_is_right h (Go caller pipe) n (s, c, m, a) = (tt, (c, s))
+all_is_right h (Collect caller pipe to) n (s, c, m, a) = (tt, (c, open_unclosed (entries_of pipe h) s, m))
+all_is_right h (Close caller pipe) n (s, c, m, a) = (tt, (c, open_unclosed (entries_of pipe h) s.0, s.1.0, s.1.1, s.1.2))
+all_is_right h (Share caller pipe) n (s, c, m, a) = (tt, (c, open_unclosed (entries_of pipe h) s))
+all_is_right h (Mask caller pipe mask) n (s, c, m, a) = (tt, (c, s.0, s.1, m))
 all_is_right h (Shut caller) n (s, c, m, a) = (c, s)
 
 past_end : {X : Type 0} (xs : List X) → slice_get xs (length xs) ≡ None

@@ -1,9 +1,10 @@
 -- Lists that change in one place.
-use Rattle.std.proofs.Common.{◌≡◌, ℕ, zero, suc, ◌+◌, ◌≤◌, Bool, true, false, cond, List, [], ◌∷◌, ◌++◌, length, drop, Some, refl, ap, arith}
+use Rattle.std.proofs.Common.{◌≡◌, ℕ, zero, suc, ◌+◌, ◌-◌, ◌^◌, ◌<◌, ◌≤◌, Bool, true, false, cond, List, [], ◌∷◌, ◌++◌, length, drop, Some, refl, ap, arith}
 use Rattle.std.specs.Prelude.{slice_get, slice_set}
 use Rattle.trace_check.specs.declared.pipe.Progress.{Progress}
 use Rattle.trace_check.specs.declared.pipe.Progress.TheVariants.{Waits, Runs, Ended}
-use Rattle.trace_check.specs.Pipes.{has_ended, ended_run}
+use Rattle.std.proofs.lemmas.List.{length-set, length-drop}
+use Rattle.trace_check.specs.Pipes.{PipeState, CanCount, has_ended, ended_run, with_ended}
 
 pub get-set_same : {X : Type 0} (xs : List X) (i : ℕ) (y x : X) → slice_get xs i ≡ Some x → slice_get (slice_set xs i y) i ≡ Some y
 get-set_same [] i y x h = cc
@@ -71,3 +72,13 @@ run_within (p ∷ ps) = run_within_at (has_ended p) (ended_run ps) (length ps) (
     run_within_at : (b : Bool) (run len : ℕ) → run ≤ len → cond b (suc run) 0 ≤ suc len
     run_within_at true run len h = omega arith
     run_within_at false run len h = omega arith
+
+-- what the front passes where a request is finished is told within 64 bits
+pub told_fits : (s : PipeState) (number told front : ℕ) → CanCount s → told ≡ s.told → front ≡ (with_ended s number).front → told + (front - s.front) < 2 ^ 64
+told_fits s number told front k t f =
+    let rs = slice_set s.requests number Ended in
+    let w = run_within (drop s.front rs) in
+    let d = length-drop s.front rs in
+    let l = length-set s.requests number Ended in
+    let b = k.told in
+    omega arith

@@ -1,6 +1,6 @@
 -- A loose reading of a line's words: of an event's own words it gives that event, and of other words anything. What it gives is
 -- printed again and compared with the line, so that this reading decides nothing.
-use Rattle.std.specs.Prelude.{ℕ, ◌+◌, ◌-◌, ◌*◌, ◌^◌, Bool, ◌&&◌, ◌==◌, nat_lt, nat_le, if◌then◌else◌, List, [], ◌∷◌, map, codes, Option, Some, None, unwrap_or}
+use Rattle.std.specs.Prelude.{ℕ, ◌+◌, ◌-◌, ◌*◌, ◌%◌, ◌^◌, Bool, ◌&&◌, ◌==◌, nat_lt, nat_le, if◌then◌else◌, List, [], ◌∷◌, map, codes, Option, Some, None, unwrap_or}
 use Rattle.std.specs.Fmt.{decimal}
 use Rattle.std.specs.List.{slice_split}
 use Rattle.std.specs.Str.{bytes_eq}
@@ -21,12 +21,12 @@ use Rattle.alg_registry.specs.declared.entry.RegEntry.{RegEntry}
 use Rattle.alg_registry.specs.declared.entry.RegEntry.TheVariants.{Enlist, Look, Claim, End, Waited, Unlist, Get, Put, Refs}
 use Rattle.alg_registry.specs.declared.entry.RegEntry.TheVariants as reg
 use Rattle.board.specs.declared.entry.Shape.{Shape}
-use Rattle.board.specs.declared.entry.Shape.TheVariants.{Pad, Queue}
+use Rattle.board.specs.declared.entry.Shape.TheVariants.{Pad, Queue, Chain}
 use Rattle.board.specs.declared.entry.Entered.{Entered}
 use Rattle.board.specs.declared.entry.Entered.TheVariants.{InProgress, Busy, NoSpace}
 use Rattle.trace_check.specs.declared.guessing.Plain.{Plain as PlainEvent}
 use Rattle.trace_check.specs.declared.guessing.Plain.TheVariants as says
-use Rattle.trace_text.specs.Text.{shape_words, backlog_word, entered_words, started_words}
+use Rattle.trace_text.specs.Text.{shape_words, backlog_word, entered_words, started_words, mask_word}
 
 -- a number with one digit more, where it stays below 2^64
 abbrev pub digit_after : ℕ → ℕ → Option ℕ
@@ -162,6 +162,7 @@ shape_of word size = if bytes_eq word (codes "pad") then Pad size else Queue siz
 
 abbrev pub born_of : ℕ → List (List ℕ) → Option PlainEvent
 born_of caller (pipe ∷ word ∷ size ∷ []) = Some (says.Born caller (number_of pipe) (shape_of word (small_of size)))
+born_of caller (pipe ∷ word ∷ max ∷ lists ∷ []) = Some (says.Born caller (number_of pipe) (Chain (small_of max) (small_of lists)))
 born_of caller other = None
 
 abbrev pub submit_of : ℕ → List (List ℕ) → Option PlainEvent
@@ -221,12 +222,25 @@ lone_or_pair caller name args None = pair_of caller name (pair_in args)
 abbrev pub short_of : ℕ → List ℕ → List (List ℕ) → Option PlainEvent
 short_of caller name args = lone_or_pair caller name args (pipe_in args)
 
+-- the number that a hexadecimal digit writes
+abbrev pub hex_value : ℕ → ℕ
+hex_value c = (if nat_lt c 58 then c - 48 else c - 87) % 16
+
+abbrev pub mask_in : List ℕ → ℕ
+mask_in (a ∷ b ∷ c ∷ d ∷ []) = hex_value a * 4096 + hex_value b * 256 + hex_value c * 16 + hex_value d
+mask_in other = 0
+
+abbrev pub mask_of : ℕ → List (List ℕ) → Option PlainEvent
+mask_of caller (pipe ∷ mask ∷ []) = Some (says.Mask caller (number_of pipe) (mask_in mask))
+mask_of caller other = None
+
 abbrev pub board_of : ℕ → List ℕ → List (List ℕ) → Option PlainEvent
 board_of caller name args =
     if bytes_eq name (codes "born") then born_of caller args
     else if bytes_eq name (codes "submit") then submit_of caller args
     else if bytes_eq name (codes "enq") then enq_of caller args
     else if bytes_eq name (codes "deq") then deq_of caller args
+    else if bytes_eq name (codes "mask") then mask_of caller args
     else if bytes_eq name (codes "shut") then Some (says.Shut caller)
     else short_of caller name args
 
@@ -245,4 +259,5 @@ plain_words (says.Go caller pipe) = codes "b" ∷ decimal caller ∷ codes "go" 
 plain_words (says.Collect caller pipe to) = codes "b" ∷ decimal caller ∷ codes "collect" ∷ decimal pipe ∷ decimal to ∷ []
 plain_words (says.Close caller pipe) = codes "b" ∷ decimal caller ∷ codes "close" ∷ decimal pipe ∷ []
 plain_words (says.Share caller pipe) = codes "b" ∷ decimal caller ∷ codes "share" ∷ decimal pipe ∷ []
+plain_words (says.Mask caller pipe mask) = codes "b" ∷ decimal caller ∷ codes "mask" ∷ decimal pipe ∷ mask_word mask ∷ []
 plain_words (says.Shut caller) = codes "b" ∷ decimal caller ∷ codes "shut" ∷ []

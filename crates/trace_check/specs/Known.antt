@@ -4,7 +4,7 @@ use Rattle.std.specs.declared.sync.Arc.{Arc}
 use Rattle.std.specs.declared.alloc.Global.{Global}
 use Rattle.std.specs.Arc.{arc_value}
 use Rattle.board.specs.declared.entry.BoardEntry.{BoardEntry}
-use Rattle.board.specs.declared.entry.BoardEntry.TheVariants.{Born, Submit, Take, Finish, Enq, Deq, Done, Hold, Go, Collect, Close, Share, Shut}
+use Rattle.board.specs.declared.entry.BoardEntry.TheVariants.{Born, Submit, Take, Finish, Enq, Deq, Done, Hold, Go, Collect, Close, Share, Mask, Shut}
 use Rattle.trace_check.specs.declared.lines.Known.{Known}
 
 -- the ask's line in place of the ask, where it lies in memory
@@ -24,6 +24,7 @@ with_line line (Go caller pipe) = Go caller pipe
 with_line line (Collect caller pipe to) = Collect caller pipe to
 with_line line (Close caller pipe) = Close caller pipe
 with_line line (Share caller pipe) = Share caller pipe
+with_line line (Mask caller pipe mask) = Mask caller pipe mask
 with_line line (Shut caller) = Shut caller
 
 -- of each ask its line

@@ -10,7 +10,7 @@ use Rattle.trace_check.specs.declared.lines.Event.{Event}
 use Rattle.trace_check.specs.declared.lines.Event.TheVariants as event
 use Rattle.trace_check.specs.declared.lines.Known.{Known}
 use Rattle.trace_text.specs.Text.{sentence, reg_words, board_words}
-use Rattle.trace_text.specs.Trace.{is_event, is_u32, is_u64, shape_fits, entered_fits, option_fits, board_fits}
+use Rattle.trace_text.specs.Trace.{is_event, is_u16, is_u32, is_u64, shape_fits, entered_fits, option_fits, board_fits}
 use Rattle.trace_check.specs.Guessing.{small_of, registry_of, board_of, plain_words}
 
 -- the line of an ask that is known by nothing else
@@ -41,6 +41,7 @@ plain_fits (says.Go caller pipe) = is_u32 caller && is_u64 pipe
 plain_fits (says.Collect caller pipe to) = is_u32 caller && (is_u64 pipe && is_u64 to)
 plain_fits (says.Close caller pipe) = is_u32 caller && is_u64 pipe
 plain_fits (says.Share caller pipe) = is_u32 caller && is_u64 pipe
+plain_fits (says.Mask caller pipe mask) = is_u32 caller && (is_u64 pipe && is_u16 mask)
 plain_fits (says.Shut caller) = is_u32 caller
 
 abbrev pub guess_fits : Guess → Bool

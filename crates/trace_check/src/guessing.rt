@@ -1,10 +1,10 @@
 //! A loose reading of a line's words.
 
-ghost use Rattle.std.specs.Prelude.{◌≡◌, ◌==◌, map, IfOk};
+ghost use Rattle.std.specs.Prelude.{◌≡◌, ◌<◌, ◌==◌, map, IfOk};
 ghost use Rattle.std.specs.List.{slice_split};
 ghost use Rattle.std.specs.Str.{bytes_eq};
 ghost use Rattle.alg_registry.specs.declared.entry.RegEntry.TheVariants as Entry;
-ghost use Rattle.trace_check.specs.Guessing.{digit_after, number_from, number_of, small_of, ids_of, kind_of, wrap_of, errno_of, enlisted_of, enlist_of, looked_of, look_of, spec_of, built_of, joined_of, failed_of, ending_of, end_of, unlist_of, get_of, refs_of, numbered_of, registry_of, shape_of, born_of, submit_of, entered_of, enq_of, started_of, deq_of, pipe_in, pair_in, counted_of, piped_of, short_of, board_of};
+ghost use Rattle.trace_check.specs.Guessing.{digit_after, number_from, number_of, small_of, ids_of, kind_of, wrap_of, errno_of, enlisted_of, enlist_of, looked_of, look_of, spec_of, built_of, joined_of, failed_of, ending_of, end_of, unlist_of, get_of, refs_of, numbered_of, registry_of, shape_of, born_of, submit_of, entered_of, enq_of, started_of, deq_of, hex_value, mask_in, mask_of, pipe_in, pair_in, counted_of, piped_of, short_of, board_of};
 
 use alg_registry::{EndAnswer, Enlisted, Ids, Kind, Looked, RegEntry, Spec, Wrap};
 use board::{Entered, Shape};
@@ -73,6 +73,11 @@ pub(crate) enum Plain {
     Share {
         caller: u32,
         pipe: u64,
+    },
+    Mask {
+        caller: u32,
+        pipe: u64,
+        mask: u16,
     },
     Shut {
         caller: u32,
@@ -492,6 +497,11 @@ fn born_of(caller: u32, words: &[&[u8]]) -> Option<Plain>
             pipe: number_of(pipe),
             shape: shape_of(word, small_of(size)),
         }),
+        [pipe, _word, max, lists] => Some(Plain::Born {
+            caller,
+            pipe: number_of(pipe),
+            shape: Shape::Chain(small_of(max), small_of(lists)),
+        }),
         _ => None,
     }
 }
@@ -553,6 +563,43 @@ fn deq_of(caller: u32, words: &[&[u8]]) -> Option<Plain>
             pipe: number_of(pipe),
             number: number_of(number),
             started: started_of(answer),
+        }),
+        _ => None,
+    }
+}
+
+// The number that a hexadecimal digit writes, and of another byte any below 16.
+fn hex_value(digit: u8) -> u16
+    ensures value { result ≡ hex_value digit }
+    ensures below { result < 16 }
+{
+    let value = if digit < 58 {
+        digit.saturating_sub(48)
+    } else {
+        digit.saturating_sub(87)
+    };
+    u16::from(value % 16)
+}
+
+fn mask_in(word: &[u8]) -> u16
+    ensures { result ≡ mask_in word.now }
+{
+    match word {
+        [a, b, c, d] => {
+            hex_value(*a) * 4096 + hex_value(*b) * 256 + hex_value(*c) * 16 + hex_value(*d)
+        }
+        _ => 0,
+    }
+}
+
+fn mask_of(caller: u32, words: &[&[u8]]) -> Option<Plain>
+    ensures { result ≡ mask_of caller (map (λ word. word.now) words.now) }
+{
+    match words {
+        [pipe, mask] => Some(Plain::Mask {
+            caller,
+            pipe: number_of(pipe),
+            mask: mask_in(mask),
         }),
         _ => None,
     }
@@ -651,6 +698,8 @@ pub(crate) fn board_of(caller: u32, name: &[u8], words: &[&[u8]]) -> Option<Plai
         enq_of(caller, words)
     } else if is_word(name, b"deq") {
         deq_of(caller, words)
+    } else if is_word(name, b"mask") {
+        mask_of(caller, words)
     } else if is_word(name, b"shut") {
         Some(Plain::Shut { caller })
     } else {

@@ -2,7 +2,7 @@
 
 ghost use Rattle.std.specs.Prelude.{◌≡◌, ◌<◌, true, length, map, IfOk};
 ghost use Rattle.trace_text.specs.Text.{sentence, board_words};
-ghost use Rattle.trace_text.specs.Trace.{is_visible, is_word, has_words, is_unwrapped, end_has_text, has_text, is_u32, is_u64, spec_fits, enlisted_fits, looked_fits, end_fits, option_fits, fits, shape_fits, entered_fits, is_event, board_fits};
+ghost use Rattle.trace_text.specs.Trace.{is_visible, is_word, has_words, is_unwrapped, end_has_text, has_text, is_u16, is_u32, is_u64, spec_fits, enlisted_fits, looked_fits, end_fits, option_fits, fits, shape_fits, entered_fits, is_event, board_fits};
 ghost use Rattle.trace_check.specs.Guessing.{plain_words};
 ghost use Rattle.trace_check.specs.Lines.{line_of, guess_of, guess_words, plain_fits, guess_fits, IsLineOf, IsReadAs};
 ghost use Rattle.std.specs.List.{list_all};
@@ -103,6 +103,12 @@ fn has_text(event: &RegEntry) -> bool
 }
 
 // A number of this type is within it.
+fn is_u16(_number: u16) -> bool
+    ensures { result ≡ is_u16 _number }
+{
+    true
+}
+
 fn is_u32(_number: u32) -> bool
     ensures { result ≡ is_u32 _number }
 {
@@ -195,6 +201,7 @@ fn shape_fits(shape: Shape) -> bool
 {
     match shape {
         Shape::Pad(size) | Shape::Queue(size) => is_u32(size),
+        Shape::Chain(max, lists) => is_u32(max) && is_u32(lists),
     }
 }
 
@@ -255,6 +262,7 @@ fn plain_fits(event: Plain) -> bool
         | Plain::Close { caller, pipe }
         | Plain::Share { caller, pipe } => is_u32(caller) && is_u64(pipe),
         Plain::Collect { caller, pipe, to } => is_u32(caller) && (is_u64(pipe) && is_u64(to)),
+        Plain::Mask { caller, pipe, mask } => is_u32(caller) && (is_u64(pipe) && is_u16(mask)),
         Plain::Shut { caller } => is_u32(caller),
     }
 }
@@ -341,6 +349,7 @@ fn board_event(alloc: Global, event: Plain) -> Result<BoardEntry<Known>, AllocEr
         Plain::Collect { caller, pipe, to } => Ok(BoardEntry::Collect { caller, pipe, to }),
         Plain::Close { caller, pipe } => Ok(BoardEntry::Close { caller, pipe }),
         Plain::Share { caller, pipe } => Ok(BoardEntry::Share { caller, pipe }),
+        Plain::Mask { caller, pipe, mask } => Ok(BoardEntry::Mask { caller, pipe, mask }),
         Plain::Shut { caller } => Ok(BoardEntry::Shut { caller }),
     }
 }

@@ -1,10 +1,12 @@
 //! What the checker keeps of one pipeline.
 
-ghost use Rattle.std.specs.Prelude.{◌≡◌, ◌+◌, ◌<◌, ◌≤◌, ◌^◌, not, ◌&&◌, length, slice_set, drop, true, false, OnOk, IfOk};
-ghost use Rattle.trace_check.specs.Pipes.{state_of, new_pipe, is_pad, size_of, bound_of, is_open_pad, is_open_queue, waits, runs, runs_by, has_ended, passes, backlog_of, told_by, starts_by, may_serve, may_close, is_worker, may_manage, may_submit, same_number, is_numbered, is_answered, has_state, has_caller, has_number, has_answer, ended_run, notices_in, with_request, with_entered, with_taken, with_ended, after, CanCount};
+ghost use Rattle.std.specs.Prelude.{◌≡◌, ◌+◌, ◌<◌, ◌≤◌, ◌^◌, not, ◌&&◌, if◌then◌else◌, length, slice_set, drop, true, false, OnOk, IfOk};
+ghost use Rattle.board.specs.Shapes.{is_pad, has_line, has_lists, is_serial, bound_of, lists_of};
+ghost use Rattle.trace_check.specs.Pipes.{state_of, new_pipe, full_mask, are_lists, is_shape, is_open_as, waits, runs, runs_by, has_ended, passes, backlog_of, passed_by, starts_by, may_serve, may_close, is_worker, may_manage, may_submit, is_masked, may_take, has_bits, same_number, is_numbered, is_answered, has_state, has_caller, has_number, has_answer, ended_run, notices_in, with_request, with_entered, with_taken, with_ended, with_dequeued, with_finished, with_done, after, CanCount};
 
 use board::{BoardEntry, Entered, Shape};
 use std::alloc::{AllocError, Global};
+use std::collections::BTreeSet;
 
 /// How far a request is.
 #[derive(Clone, Copy)]
@@ -15,18 +17,20 @@ pub(crate) enum Progress {
     Ended,
 }
 
-/// A pipeline: who made it, its requests by number, and how many of them were taken and finished; all before `front` are
-/// finished. A queue has told so many callbacks.
+/// A pipeline: who made it, its requests by number, who submitted them, and how many of them left its line and are finished; all
+/// before `front` are finished. It has told so many callbacks.
 #[derive(Drop)]
 pub(crate) struct Pipe {
     pub(crate) maker: u32,
     pub(crate) shape: Shape,
     pub(crate) requests: Vec<Progress>,
-    pub(crate) taken: u64,
+    pub(crate) submitters: BTreeSet<u32>,
+    pub(crate) dequeued: u64,
     pub(crate) finished: u64,
     pub(crate) front: usize,
     pub(crate) told: u64,
     pub(crate) collected: u64,
+    pub(crate) mask: u16,
     pub(crate) held: bool,
     pub(crate) shared: bool,
     pub(crate) closed: bool,
@@ -37,17 +41,60 @@ fn is_pad(shape: Shape) -> bool
 {
     match shape {
         Shape::Pad(_) => true,
+        Shape::Queue(_) | Shape::Chain(..) => false,
+    }
+}
+
+fn has_line(shape: Shape) -> bool
+    ensures { result ≡ has_line shape }
+{
+    match shape {
+        Shape::Pad(_) => false,
+        Shape::Queue(_) | Shape::Chain(..) => true,
+    }
+}
+
+fn has_lists(shape: Shape) -> bool
+    ensures { result ≡ has_lists shape }
+{
+    match shape {
+        Shape::Pad(_) | Shape::Chain(..) => true,
         Shape::Queue(_) => false,
     }
 }
 
-/// The number that a shape has, which is at least 1.
-pub(crate) fn size_of(shape: Shape) -> u32
-    ensures { result ≡ size_of shape }
+fn is_serial(shape: Shape) -> bool
+    ensures { result ≡ is_serial shape }
 {
     match shape {
-        Shape::Pad(lists) => lists,
-        Shape::Queue(max) => max,
+        Shape::Queue(_) => true,
+        Shape::Pad(_) | Shape::Chain(..) => false,
+    }
+}
+
+fn are_lists(lists: u32) -> bool
+    ensures { result ≡ are_lists lists }
+{
+    1 <= lists && lists <= 16
+}
+
+/// Whether a pipeline may be made so.
+pub(crate) fn is_shape(shape: Shape) -> bool
+    ensures { result ≡ is_shape shape }
+{
+    match shape {
+        Shape::Pad(lists) => are_lists(lists),
+        Shape::Queue(max) => 1 <= max,
+        Shape::Chain(max, lists) => 1 <= max && are_lists(lists),
+    }
+}
+
+fn lists_of(shape: Shape) -> u32
+    ensures { result ≡ lists_of shape }
+{
+    match shape {
+        Shape::Pad(lists) | Shape::Chain(_, lists) => lists,
+        Shape::Queue(_) => 0,
     }
 }
 
@@ -56,7 +103,7 @@ fn bound_of(shape: Shape) -> u32
 {
     match shape {
         Shape::Pad(_) => 0,
-        Shape::Queue(max) => max,
+        Shape::Queue(max) | Shape::Chain(max, _) => max,
     }
 }
 
@@ -65,6 +112,31 @@ pub(crate) fn is_worker(caller: u32) -> bool
     ensures { result ≡ is_worker caller }
 {
     1 <= caller && caller <= 16
+}
+
+// The bits of so many workers.
+fn full_mask(lists: u32) -> u16
+    ensures { result ≡ full_mask lists }
+{
+    if lists <= 16 {
+        ((1u32 << lists) - 1) as u16
+    } else {
+        0
+    }
+}
+
+// Whether no bit stands at or above the lists.
+fn has_bits(lists: u32, mask: u16) -> bool
+    ensures { result ≡ has_bits lists mask }
+{
+    lists <= 16 && u32::from(mask) < 1u32 << lists
+}
+
+// Whether the caller is a worker whose bit is set.
+fn is_masked(mask: u16, caller: u32) -> bool
+    ensures { result ≡ is_masked mask caller }
+{
+    is_worker(caller) && (u32::from(mask) >> (caller - 1)) & 1 == 1
 }
 
 fn waits(progress: Progress) -> bool
@@ -132,6 +204,15 @@ fn put(requests: &mut Vec<Progress>, number: u64, progress: Progress)
     }
 }
 
+// The same where it is to be.
+fn put_where(to_be: bool, requests: &mut Vec<Progress>, number: u64, progress: Progress)
+    ensures { requests.new.items ≡ (if to_be then slice_set requests.old.items number progress else requests.old.items) }
+{
+    if to_be {
+        put(requests, number, progress);
+    }
+}
+
 // Goes on to the first request that isn't finished.
 fn front_from(requests: &[Progress], from: usize) -> usize
     requires { from ≤ length requests.now }
@@ -154,11 +235,13 @@ impl Pipe {
             maker,
             shape,
             requests: Vec::new(alloc),
-            taken: 0,
+            submitters: BTreeSet::new(alloc),
+            dequeued: 0,
             finished: 0,
             front: 0,
             told: 0,
             collected: 0,
+            mask: full_mask(lists_of(shape)),
             held: false,
             shared: false,
             closed: false,
@@ -166,15 +249,21 @@ impl Pipe {
     }
 
     fn is_open_pad(&self) -> bool
-        ensures { result ≡ is_open_pad (state_of self.now) }
+        ensures { result ≡ is_open_as is_pad (state_of self.now) }
     {
         is_pad(self.shape) && !self.closed
     }
 
     fn is_open_queue(&self) -> bool
-        ensures { result ≡ is_open_queue (state_of self.now) }
+        ensures { result ≡ is_open_as has_line (state_of self.now) }
     {
-        !is_pad(self.shape) && !self.closed
+        has_line(self.shape) && !self.closed
+    }
+
+    fn has_open_lists(&self) -> bool
+        ensures { result ≡ is_open_as has_lists (state_of self.now) }
+    {
+        has_lists(self.shape) && !self.closed
     }
 
     fn waits(&self, number: u64) -> bool
@@ -213,20 +302,20 @@ impl Pipe {
     fn backlog(&self) -> u64
         ensures { result ≡ backlog_of (state_of self.now) }
     {
-        self.len().saturating_sub(self.taken)
+        self.len().saturating_sub(self.dequeued)
     }
 
-    fn told(&self) -> u64
-        ensures { result ≡ told_by (state_of self.now) }
+    fn passed(&self) -> u64
+        ensures { result ≡ passed_by (state_of self.now) }
     {
-        if is_pad(self.shape) {
-            self.front as u64
+        if has_line(self.shape) {
+            self.dequeued
         } else {
-            self.told
+            self.len()
         }
     }
 
-    // Which request leaves the backlog where this one is dequeued.
+    // Which request leaves the backlog where this one leaves the line.
     fn starts(&self, number: u64) -> Option<u64>
         ensures { result ≡ starts_by (state_of self.now) number }
     {
@@ -239,13 +328,14 @@ impl Pipe {
     fn may_serve(&self) -> bool
         ensures { result ≡ may_serve (state_of self.now) }
     {
-        !self.held && (self.finished == self.taken && 0 < self.backlog())
+        !self.held
+            && ((!is_serial(self.shape) || self.finished == self.dequeued) && 0 < self.backlog())
     }
 
     fn may_close(&self) -> bool
         ensures { result ≡ may_close (state_of self.now) }
     {
-        !self.shared && (self.front == self.requests.len() && self.collected == self.told())
+        !self.shared && (self.front == self.requests.len() && self.collected == self.told)
     }
 
     fn may_manage(&self, caller: u32) -> bool
@@ -258,6 +348,12 @@ impl Pipe {
         ensures { result ≡ may_submit (state_of self.now) caller }
     {
         !is_worker(caller) && (self.maker == caller || self.shared)
+    }
+
+    fn may_take(&self, caller: u32) -> bool
+        ensures { result ≡ may_take (state_of self.now) caller }
+    {
+        self.maker == caller || (self.submitters.contains(&caller) || is_masked(self.mask, caller))
     }
 
     fn is_numbered(&self, answer: Entered) -> bool
@@ -286,16 +382,19 @@ impl Pipe {
     {
         match event {
             BoardEntry::Born { .. } | BoardEntry::Shut { .. } => false,
-            BoardEntry::Submit { .. } => self.is_open_pad(),
-            BoardEntry::Take { number, .. } => self.is_open_pad() && self.waits(*number),
-            BoardEntry::Finish { number, .. } => is_pad(self.shape) && self.runs(*number),
+            BoardEntry::Submit { .. } => self.is_open_pad() && 0 < self.mask,
+            BoardEntry::Take { number, .. } => {
+                self.has_open_lists() && (*number < self.passed() && self.waits(*number))
+            }
+            BoardEntry::Finish { number, .. } => has_lists(self.shape) && self.runs(*number),
             BoardEntry::Enq { .. } | BoardEntry::Hold { .. } | BoardEntry::Go { .. } => {
                 self.is_open_queue()
             }
             BoardEntry::Deq { .. } => self.is_open_queue() && self.may_serve(),
-            BoardEntry::Done { number, .. } => !is_pad(self.shape) && self.runs(*number),
+            BoardEntry::Done { number, .. } => is_serial(self.shape) && self.runs(*number),
             BoardEntry::Collect { .. } | BoardEntry::Share { .. } => !self.closed,
             BoardEntry::Close { .. } => !self.closed && self.may_close(),
+            BoardEntry::Mask { .. } => self.is_open_pad() && !self.shared,
         }
     }
 
@@ -307,6 +406,7 @@ impl Pipe {
             BoardEntry::Submit { caller, .. } | BoardEntry::Enq { caller, .. } => {
                 self.may_submit(*caller)
             }
+            BoardEntry::Take { caller, .. } => self.may_take(*caller),
             BoardEntry::Finish { caller, number, .. } | BoardEntry::Done { caller, number, .. } => {
                 self.runs_by(*caller, *number)
             }
@@ -314,11 +414,9 @@ impl Pipe {
             | BoardEntry::Go { caller, .. }
             | BoardEntry::Collect { caller, .. }
             | BoardEntry::Close { caller, .. }
-            | BoardEntry::Share { caller, .. } => self.may_manage(*caller),
-            BoardEntry::Born { .. }
-            | BoardEntry::Take { .. }
-            | BoardEntry::Deq { .. }
-            | BoardEntry::Shut { .. } => true,
+            | BoardEntry::Share { caller, .. }
+            | BoardEntry::Mask { caller, .. } => self.may_manage(*caller),
+            BoardEntry::Born { .. } | BoardEntry::Deq { .. } | BoardEntry::Shut { .. } => true,
         }
     }
 
@@ -333,8 +431,9 @@ impl Pipe {
                 number,
                 started,
                 ..
-            } => *number == self.taken && same_number(*started, self.starts(*number)),
-            BoardEntry::Collect { to, .. } => *to == self.told(),
+            } => *number == self.dequeued && same_number(*started, self.starts(*number)),
+            BoardEntry::Collect { to, .. } => *to == self.told,
+            BoardEntry::Mask { mask, .. } => has_bits(lists_of(self.shape), *mask),
             BoardEntry::Born { .. }
             | BoardEntry::Take { .. }
             | BoardEntry::Finish { .. }
@@ -361,28 +460,41 @@ impl Pipe {
         }
     }
 
-    fn add_request(&mut self) -> Result<(), AllocError>
-        ensures { OnOk result (state_of self.new ≡ with_request (state_of self.old)) }
+    fn add_request(&mut self, caller: u32) -> Result<(), AllocError>
+        ensures { OnOk result (state_of self.new ≡ with_request (state_of self.old) caller) }
     {
         self.requests.push(Progress::Waits)?;
+        self.submitters.insert(caller)?;
         Ok(())
     }
 
-    fn add_entered(&mut self, answer: Entered) -> Result<(), AllocError>
-        ensures { OnOk result (state_of self.new ≡ with_entered (state_of self.old) answer) }
+    fn add_entered(&mut self, caller: u32, answer: Entered) -> Result<(), AllocError>
+        ensures { OnOk result (state_of self.new ≡ with_entered (state_of self.old) caller answer) }
     {
         match answer {
-            Entered::InProgress(_) | Entered::Busy(_) => self.add_request(),
+            Entered::InProgress(_) | Entered::Busy(_) => self.add_request(caller),
             Entered::NoSpace => Ok(()),
         }
     }
 
     fn take(&mut self, number: u64, caller: u32)
-        requires { CanCount (state_of self.old) }
         ensures { state_of self.new ≡ with_taken (state_of self.old) number caller }
     {
         put(&mut self.requests, number, Progress::Runs(caller));
-        self.taken += 1;
+    }
+
+    fn dequeue(&mut self, number: u64, caller: u32, started: Option<u64>)
+        requires { CanCount (state_of self.old) }
+        ensures { state_of self.new ≡ with_dequeued (state_of self.old) number caller started }
+    {
+        put_where(
+            is_serial(self.shape),
+            &mut self.requests,
+            number,
+            Progress::Runs(caller),
+        );
+        self.dequeued += 1;
+        self.told += notices_in(started);
     }
 
     fn end(&mut self, number: u64)
@@ -394,34 +506,47 @@ impl Pipe {
         self.front = front_from(&self.requests, self.front);
     }
 
+    // Tells what the front passes.
+    fn finish(&mut self, number: u64)
+        requires { CanCount (state_of self.old) }
+        ensures { state_of self.new ≡ with_finished (state_of self.old) number }
+    {
+        let front = self.front;
+        self.end(number);
+        self.told += (self.front - front) as u64;
+    }
+
+    fn complete(&mut self, number: u64)
+        requires { CanCount (state_of self.old) }
+        ensures { state_of self.new ≡ with_done (state_of self.old) number }
+    {
+        self.end(number);
+        self.told += 1;
+    }
+
     /// Goes on by a right event of the pipeline.
     pub(crate) fn advance<A>(&mut self, event: &BoardEntry<A>) -> Result<(), AllocError>
         requires { CanCount (state_of self.old) }
         ensures { OnOk result (state_of self.new ≡ after (state_of self.old) event.now) }
     {
         match event {
-            BoardEntry::Submit { .. } => self.add_request()?,
-            BoardEntry::Enq { answer, .. } => self.add_entered(*answer)?,
+            BoardEntry::Submit { caller, .. } => self.add_request(*caller)?,
+            BoardEntry::Enq { caller, answer, .. } => self.add_entered(*caller, *answer)?,
             BoardEntry::Take { caller, number, .. } => self.take(*number, *caller),
             BoardEntry::Deq {
                 caller,
                 number,
                 started,
                 ..
-            } => {
-                self.take(*number, *caller);
-                self.told += notices_in(*started);
-            }
-            BoardEntry::Finish { number, .. } => self.end(*number),
-            BoardEntry::Done { number, .. } => {
-                self.end(*number);
-                self.told += 1;
-            }
+            } => self.dequeue(*number, *caller, *started),
+            BoardEntry::Finish { number, .. } => self.finish(*number),
+            BoardEntry::Done { number, .. } => self.complete(*number),
             BoardEntry::Hold { .. } => self.held = true,
             BoardEntry::Go { .. } => self.held = false,
             BoardEntry::Collect { to, .. } => self.collected = *to,
             BoardEntry::Close { .. } => self.closed = true,
             BoardEntry::Share { .. } => self.shared = true,
+            BoardEntry::Mask { mask, .. } => self.mask = *mask,
             BoardEntry::Born { .. } | BoardEntry::Shut { .. } => {}
         }
         Ok(())

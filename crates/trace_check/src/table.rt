@@ -4,7 +4,7 @@ ghost use Rattle.std.specs.Prelude.{◌≡◌, map, OnOk, IfOk, slice_get};
 ghost use Rattle.trace_check.specs.BoardReasons.{IsFirstWrong};
 ghost use Rattle.trace_check.specs.Pipes.{state_of, AllCanCount, judged, judged_at, pipe_of, after_at, pipes_after, is_shut_by};
 
-use crate::pipe::{Pipe, is_worker, size_of};
+use crate::pipe::{Pipe, is_shape, is_worker};
 use crate::reason::{Reason, reason_of};
 use board::BoardEntry;
 use std::alloc::{AllocError, Global};
@@ -25,7 +25,8 @@ fn pipe_of<A>(event: &BoardEntry<A>) -> u64
         | BoardEntry::Go { pipe, .. }
         | BoardEntry::Collect { pipe, .. }
         | BoardEntry::Close { pipe, .. }
-        | BoardEntry::Share { pipe, .. } => *pipe,
+        | BoardEntry::Share { pipe, .. }
+        | BoardEntry::Mask { pipe, .. } => *pipe,
         BoardEntry::Shut { .. } => 0,
     }
 }
@@ -66,7 +67,7 @@ fn judge<A>(pipes: &[Pipe], shut: bool, event: &BoardEntry<A>) -> Option<Reason>
         } => reason_of(
             true,
             !is_worker(*caller),
-            *pipe == pipes.len() as u64 && 1 <= size_of(*shape),
+            *pipe == pipes.len() as u64 && is_shape(*shape),
             true,
         ),
         BoardEntry::Shut { caller } => reason_of(!shut, *caller == 0, true, true),

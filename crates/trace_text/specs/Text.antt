@@ -1,5 +1,5 @@
 -- The words of an event, and its line.
-use Rattle.std.specs.Prelude.{ℕ, Bool, if◌then◌else◌, List, [], ◌∷◌, ◌++◌, map, codes, Option, Some, None}
+use Rattle.std.specs.Prelude.{ℕ, ◌+◌, ◌/◌, ◌%◌, Bool, nat_lt, if◌then◌else◌, List, [], ◌∷◌, ◌++◌, map, codes, Option, Some, None}
 use Rattle.std.specs.Fmt.{decimal}
 use Rattle.std.specs.List.{join_with_byte}
 use Rattle.std.specs.Arc.{arc_value}
@@ -19,11 +19,11 @@ use Rattle.alg_registry.specs.declared.entry.RegEntry.{RegEntry}
 use Rattle.alg_registry.specs.declared.entry.RegEntry.TheVariants.{Enlist, Look, Claim, End, Waited, Unlist, Get, Put, Refs}
 use Rattle.alg_registry.specs.declared.entry.RegEntry.TheVariants as reg
 use Rattle.board.specs.declared.entry.Shape.{Shape}
-use Rattle.board.specs.declared.entry.Shape.TheVariants.{Pad, Queue}
+use Rattle.board.specs.declared.entry.Shape.TheVariants.{Pad, Queue, Chain}
 use Rattle.board.specs.declared.entry.Entered.{Entered}
 use Rattle.board.specs.declared.entry.Entered.TheVariants.{InProgress, Busy, NoSpace}
 use Rattle.board.specs.declared.entry.BoardEntry.{BoardEntry}
-use Rattle.board.specs.declared.entry.BoardEntry.TheVariants.{Born, Submit, Take, Finish, Enq, Deq, Done, Hold, Go, Collect, Close, Share, Shut}
+use Rattle.board.specs.declared.entry.BoardEntry.TheVariants.{Born, Submit, Take, Finish, Enq, Deq, Done, Hold, Go, Collect, Close, Share, Mask, Shut}
 
 -- words with a blank between each two, and a line feed at the end
 abbrev pub sentence : List (List ℕ) → List ℕ
@@ -92,6 +92,7 @@ reg_words (reg.List caller) = codes "r" ∷ decimal caller ∷ codes "list" ∷ 
 abbrev pub shape_words : Shape → List (List ℕ)
 shape_words (Pad lists) = codes "pad" ∷ decimal lists ∷ []
 shape_words (Queue max) = codes "queue" ∷ decimal max ∷ []
+shape_words (Chain max lists) = codes "chain" ∷ decimal max ∷ decimal lists ∷ []
 
 abbrev pub backlog_word : Bool → List ℕ
 backlog_word backlog = if backlog then codes "backlog" else codes "plain"
@@ -104,6 +105,14 @@ entered_words NoSpace = codes "ENOSPC" ∷ []
 abbrev pub started_words : Option ℕ → List (List ℕ)
 started_words (Some number) = codes "started" ∷ decimal number ∷ []
 started_words None = codes "-" ∷ []
+
+-- the digit of a number below 16, with letters of lower case
+abbrev pub hex_digit : ℕ → ℕ
+hex_digit n = if nat_lt n 10 then 48 + n else 87 + n
+
+-- a mask as four hexadecimal digits
+abbrev pub mask_word : ℕ → List ℕ
+mask_word mask = hex_digit (mask / 4096 % 16) ∷ hex_digit (mask / 256 % 16) ∷ hex_digit (mask / 16 % 16) ∷ hex_digit (mask % 16) ∷ []
 
 -- the words of a board's event, where an ask is known by its line alone
 abbrev pub board_words : {A : Type 0} → (A → ℕ) → BoardEntry A → List (List ℕ)
@@ -120,4 +129,5 @@ board_words line (Go caller pipe) = codes "b" ∷ decimal caller ∷ codes "go" 
 board_words line (Collect caller pipe to) = codes "b" ∷ decimal caller ∷ codes "collect" ∷ decimal pipe ∷ decimal to ∷ []
 board_words line (Close caller pipe) = codes "b" ∷ decimal caller ∷ codes "close" ∷ decimal pipe ∷ []
 board_words line (Share caller pipe) = codes "b" ∷ decimal caller ∷ codes "share" ∷ decimal pipe ∷ []
+board_words line (Mask caller pipe mask) = codes "b" ∷ decimal caller ∷ codes "mask" ∷ decimal pipe ∷ mask_word mask ∷ []
 board_words line (Shut caller) = codes "b" ∷ decimal caller ∷ codes "shut" ∷ []

@@ -15,11 +15,11 @@ use Rattle.alg_registry.specs.declared.entry.RegEntry.{RegEntry}
 use Rattle.alg_registry.specs.declared.entry.RegEntry.TheVariants.{Enlist, Look, Claim, End, Waited, Unlist, Get, Put, Refs}
 use Rattle.alg_registry.specs.declared.entry.RegEntry.TheVariants as reg
 use Rattle.board.specs.declared.entry.Shape.{Shape}
-use Rattle.board.specs.declared.entry.Shape.TheVariants.{Pad, Queue}
+use Rattle.board.specs.declared.entry.Shape.TheVariants.{Pad, Queue, Chain}
 use Rattle.board.specs.declared.entry.Entered.{Entered}
 use Rattle.board.specs.declared.entry.Entered.TheVariants.{InProgress, Busy, NoSpace}
 use Rattle.board.specs.declared.entry.BoardEntry.{BoardEntry}
-use Rattle.board.specs.declared.entry.BoardEntry.TheVariants.{Born, Submit, Take, Finish, Enq, Deq, Done, Hold, Go, Collect, Close, Share, Shut}
+use Rattle.board.specs.declared.entry.BoardEntry.TheVariants.{Born, Submit, Take, Finish, Enq, Deq, Done, Hold, Go, Collect, Close, Share, Mask, Shut}
 use Rattle.trace_text.specs.Text.{sentence, reg_words, board_words}
 
 -- the registry's events, and then the board's, a line each
@@ -55,6 +55,9 @@ has_text (Refs caller driver) = is_word driver
 has_text _ = true
 
 -- Each number of the event is within its type.
+abbrev pub is_u16 : ℕ → Bool
+is_u16 n = nat_lt n (2 ^ 16)
+
 abbrev pub is_u32 : ℕ → Bool
 is_u32 n = nat_lt n (2 ^ 32)
 
@@ -100,6 +103,7 @@ fits (reg.List caller) = is_u32 caller
 abbrev pub shape_fits : Shape → Bool
 shape_fits (Pad lists) = is_u32 lists
 shape_fits (Queue max) = is_u32 max
+shape_fits (Chain max lists) = is_u32 max && is_u32 lists
 
 abbrev pub entered_fits : Entered → Bool
 entered_fits (InProgress number) = is_u64 number
@@ -119,6 +123,7 @@ board_fits line (Go caller pipe) = is_u32 caller && is_u64 pipe
 board_fits line (Collect caller pipe to) = is_u32 caller && (is_u64 pipe && is_u64 to)
 board_fits line (Close caller pipe) = is_u32 caller && is_u64 pipe
 board_fits line (Share caller pipe) = is_u32 caller && is_u64 pipe
+board_fits line (Mask caller pipe mask) = is_u32 caller && (is_u64 pipe && is_u16 mask)
 board_fits line (Shut caller) = is_u32 caller
 
 -- the event can be printed, and its numbers are within their types

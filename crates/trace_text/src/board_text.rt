@@ -3,9 +3,9 @@
 ghost use Rattle.std.specs.Prelude.{◌≡◌, ◌∷◌, [], ℕ, codes, IfOk};
 ghost use Rattle.std.specs.Fmt.{decimal};
 ghost use Rattle.std.specs.Arc.{arc_value};
-ghost use Rattle.trace_text.specs.Text.{sentence, board_words, shape_words, started_words, entered_words, backlog_word};
+ghost use Rattle.trace_text.specs.Text.{sentence, board_words, shape_words, started_words, entered_words, backlog_word, mask_word};
 
-use crate::words::{backlog_word, sentence_of};
+use crate::words::{backlog_word, mask_word, sentence_of};
 use board::{BoardEntry, Entered, Shape};
 use kc_base::Bytes;
 use std::alloc::{AllocError, Global};
@@ -82,12 +82,40 @@ fn shape_text(
     )
 }
 
+fn chain_text(
+    alloc: Global,
+    caller: u32,
+    pipe: u64,
+    max: u32,
+    lists: u32,
+) -> Result<Bytes, AllocError>
+    ensures { IfOk result (λ text. text ≡ sentence (codes "b" ∷ decimal caller ∷ codes "born" ∷ decimal pipe ∷ codes "chain" ∷ decimal max ∷ decimal lists ∷ [])) }
+{
+    let caller = caller.to_string(alloc)?;
+    let pipe = pipe.to_string(alloc)?;
+    let max = max.to_string(alloc)?;
+    let lists = lists.to_string(alloc)?;
+    sentence_of(
+        alloc,
+        b"b",
+        &[
+            caller.as_bytes(),
+            b"born".as_slice(),
+            pipe.as_bytes(),
+            b"chain".as_slice(),
+            max.as_bytes(),
+            lists.as_bytes(),
+        ],
+    )
+}
+
 fn born_text(alloc: Global, caller: u32, pipe: u64, shape: Shape) -> Result<Bytes, AllocError>
     ensures { IfOk result (λ text. text ≡ sentence (codes "b" ∷ decimal caller ∷ codes "born" ∷ decimal pipe ∷ shape_words shape)) }
 {
     match shape {
         Shape::Pad(lists) => shape_text(alloc, caller, pipe, b"pad", lists),
         Shape::Queue(max) => shape_text(alloc, caller, pipe, b"queue", max),
+        Shape::Chain(max, lists) => chain_text(alloc, caller, pipe, max, lists),
     }
 }
 
@@ -228,6 +256,24 @@ fn deq_text(
     }
 }
 
+fn mask_text(alloc: Global, caller: u32, pipe: u64, mask: u16) -> Result<Bytes, AllocError>
+    ensures { IfOk result (λ text. text ≡ sentence (codes "b" ∷ decimal caller ∷ codes "mask" ∷ decimal pipe ∷ mask_word mask ∷ [])) }
+{
+    let caller = caller.to_string(alloc)?;
+    let pipe = pipe.to_string(alloc)?;
+    let mask = mask_word(alloc, mask)?;
+    sentence_of(
+        alloc,
+        b"b",
+        &[
+            caller.as_bytes(),
+            b"mask".as_slice(),
+            pipe.as_bytes(),
+            mask.as_slice(),
+        ],
+    )
+}
+
 /// The line of a board's event.
 pub fn board_line<A: Lined>(alloc: Global, event: &BoardEntry<A>) -> Result<Bytes, AllocError>
     ensures { IfOk result (λ text. text ≡ sentence (board_words A.line event.now)) }
@@ -279,6 +325,7 @@ pub fn board_line<A: Lined>(alloc: Global, event: &BoardEntry<A>) -> Result<Byte
         }
         BoardEntry::Close { caller, pipe } => pipe_text(alloc, *caller, b"close", *pipe),
         BoardEntry::Share { caller, pipe } => pipe_text(alloc, *caller, b"share", *pipe),
+        BoardEntry::Mask { caller, pipe, mask } => mask_text(alloc, *caller, *pipe, *mask),
         BoardEntry::Shut { caller } => lone_text(alloc, *caller, b"shut"),
     }
 }

@@ -1,7 +1,7 @@
 //! The words of events.
 
-ghost use Rattle.std.specs.Prelude.{◌≡◌, ◌∷◌, map, IfOk};
-ghost use Rattle.trace_text.specs.Text.{sentence, kind_word, wrap_word, ids_word, plain_word, get_word, backlog_word};
+ghost use Rattle.std.specs.Prelude.{◌≡◌, ◌<◌, ◌∷◌, map, IfOk};
+ghost use Rattle.trace_text.specs.Text.{sentence, kind_word, wrap_word, ids_word, plain_word, get_word, backlog_word, hex_digit, mask_word};
 
 use alg_registry::{Kind, Wrap};
 use kc_base::Bytes;
@@ -63,6 +63,33 @@ pub(crate) fn backlog_word(backlog: bool) -> &'static [u8]
     ensures { result.now ≡ backlog_word backlog }
 {
     if backlog { b"backlog" } else { b"plain" }
+}
+
+// The digit of a number below 16.
+fn hex_digit(number: u16) -> u8
+    requires { number < 16 }
+    ensures { result ≡ hex_digit number }
+{
+    if number < 10 {
+        b'0' + number as u8
+    } else {
+        b'a' - 10 + number as u8
+    }
+}
+
+/// A mask as four digits.
+pub(crate) fn mask_word(alloc: Global, mask: u16) -> Result<Bytes, AllocError>
+    ensures { IfOk result (λ text. text ≡ mask_word mask) }
+{
+    Bytes::copy_of(
+        alloc,
+        &[
+            hex_digit(mask / 4096 % 16),
+            hex_digit(mask / 256 % 16),
+            hex_digit(mask / 16 % 16),
+            hex_digit(mask % 16),
+        ],
+    )
 }
 
 // Numbers behind a first one, with a comma before each.

@@ -18,21 +18,21 @@ use Rattle.transforms.specs.declared.inner.Inner.TheVariants.{Skcipher, Mac, Aea
 use Rattle.transforms.specs.declared.request.Request.{Request}
 
 pub kept_hmac : (m : AnyMac) (key : List ℕ) → IsMac m plan.Hmac key → IsKeyed (Mac m) plan.Hmac key
-kept_hmac m key h = record { kind = refl; form = h.form; aes_key = h.aes_key; iv = refl; tags = λ n. refl; input = refl; mac_size = h.size; gives = h.gives }
+kept_hmac m key h = record { kind = refl; form = h.form; aes_key = h.aes_key; iv = refl; tags = λ n. refl; input = refl; mac_room = h.room; gives = h.gives }
 
 pub kept_cipher : (c : AnyCipher) (m : CipherMode) (form : AesForm) (key : List ℕ) → ciphers.IsCipher c (ciphers.cipher_plan m form) key
     → IsKeyed (Skcipher c) (ciphers.cipher_plan m form) key
-kept_cipher c mode.Cbc form key h = record { kind = refl; form = h.form; aes_key = h.aes_key; iv = h.iv; tags = λ n. refl; input = refl; mac_size = refl; gives = h.gives }
-kept_cipher c mode.Ctr form key h = record { kind = refl; form = h.form; aes_key = h.aes_key; iv = h.iv; tags = λ n. refl; input = refl; mac_size = refl; gives = h.gives }
-kept_cipher c mode.Rfc3686 form key h = record { kind = refl; form = h.form; aes_key = h.aes_key; iv = h.iv; tags = λ n. refl; input = refl; mac_size = refl; gives = h.gives }
-kept_cipher c mode.Xts form key h = record { kind = refl; form = h.form; aes_key = h.aes_key; iv = h.iv; tags = λ n. refl; input = refl; mac_size = refl; gives = h.gives }
+kept_cipher c mode.Cbc form key h = record { kind = refl; form = h.form; aes_key = h.aes_key; iv = h.iv; tags = λ n. refl; input = refl; mac_room = λ text. refl; gives = h.gives }
+kept_cipher c mode.Ctr form key h = record { kind = refl; form = h.form; aes_key = h.aes_key; iv = h.iv; tags = λ n. refl; input = refl; mac_room = λ text. refl; gives = h.gives }
+kept_cipher c mode.Rfc3686 form key h = record { kind = refl; form = h.form; aes_key = h.aes_key; iv = h.iv; tags = λ n. refl; input = refl; mac_room = λ text. refl; gives = h.gives }
+kept_cipher c mode.Xts form key h = record { kind = refl; form = h.form; aes_key = h.aes_key; iv = h.iv; tags = λ n. refl; input = refl; mac_room = λ text. refl; gives = h.gives }
 
 pub kept_authenc : (a : AnyAead) (m : CipherMode) (form : AesForm) (key : List ℕ) → aeads.IsAead a (ciphers.authenc_plan m form) key
     → IsKeyed (Aead a) (ciphers.authenc_plan m form) key
-kept_authenc a mode.Cbc form key h = record { kind = refl; form = h.form; aes_key = h.aes_key; iv = h.iv; tags = h.tags; input = h.input; mac_size = refl; gives = h.gives }
-kept_authenc a mode.Ctr form key h = record { kind = refl; form = h.form; aes_key = h.aes_key; iv = h.iv; tags = h.tags; input = h.input; mac_size = refl; gives = h.gives }
-kept_authenc a mode.Rfc3686 form key h = record { kind = refl; form = h.form; aes_key = h.aes_key; iv = h.iv; tags = h.tags; input = h.input; mac_size = refl; gives = h.gives }
-kept_authenc a mode.Xts form key h = record { kind = refl; form = h.form; aes_key = h.aes_key; iv = h.iv; tags = h.tags; input = h.input; mac_size = refl; gives = h.gives }
+kept_authenc a mode.Cbc form key h = record { kind = refl; form = h.form; aes_key = h.aes_key; iv = h.iv; tags = h.tags; input = h.input; mac_room = λ text. refl; gives = h.gives }
+kept_authenc a mode.Ctr form key h = record { kind = refl; form = h.form; aes_key = h.aes_key; iv = h.iv; tags = h.tags; input = h.input; mac_room = λ text. refl; gives = h.gives }
+kept_authenc a mode.Rfc3686 form key h = record { kind = refl; form = h.form; aes_key = h.aes_key; iv = h.iv; tags = h.tags; input = h.input; mac_room = λ text. refl; gives = h.gives }
+kept_authenc a mode.Xts form key h = record { kind = refl; form = h.form; aes_key = h.aes_key; iv = h.iv; tags = h.tags; input = h.input; mac_room = λ text. refl; gives = h.gives }
 
 -- a mode with a tag takes what its plan takes
 pub kept_takes : (a : AnyAead) (p : Plan) (key : List ℕ) (n : ℕ) (q : Request) → IsKeyed (Aead a) p key

@@ -21,13 +21,13 @@ some_form x = Some x
 
 pub under_hmac : (key : List ℕ) → IsMac (Hmac (block_key key)) plan.Hmac key
 unfolding request_value template_named
-under_hmac key = record { form = refl; aes_key = refl; size = refl; gives = λ n q. refl }
+under_hmac key = record { form = refl; aes_key = refl; room = λ text. refl; gives = λ n q. refl }
 
 pub under_cmac : (a : AnyAes) (form : AesForm) (key : List ℕ) → key_of a ≡ key → form_of a ≡ form → IsMac (Cmac a) (plan.Cmac form) key
 unfolding some some_form request_value template_named
 under_cmac a form key e f = record {
   form = ap some_form f;
   aes_key = ap some e;
-  size = refl;
-  gives = λ n q. ap (λ k. bytes (cmac (seal k) q.text)) e;
+  room = λ text. refl;
+  gives = λ n q. ap (λ k. bytes (cmac (seal k) q.text.text)) e;
 }

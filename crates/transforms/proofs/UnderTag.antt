@@ -5,6 +5,7 @@ use Rattle.std_defs.specs.Hmac.{hmac, hmac_under, block_key}
 use Rattle.std_defs.specs.Authenc.{authenc_seal, authenc_open, blob}
 use Rattle.std_defs.specs.Value.{Value, or_invalid}
 use Rattle.std_defs.specs.Value.Value.{bytes, invalid}
+use Rattle.sg_walk.specs.Segments.{Segmented}
 use Rattle.templates.specs.Table.{template_named}
 use Rattle.templates.specs.declared.driver_plans.AesForm.{AesForm}
 use Rattle.templates.specs.declared.driver_plans.GhashForm.{GhashForm}
@@ -104,16 +105,16 @@ authenc_value mk ck key seals unseals e reads is n q = by_direction_of q.dir q.i
     gives : Request → List ℕ → List ℕ → Value
     gives r mk' ck' =
         by_direction r
-        (with_mac (λ made. hmac mk' (r.aad ++ made)) n (e ck' 0 (cipher_request r.text r)))
+        (with_mac (λ made. hmac mk' (r.aad ++ made)) n (e ck' 0 (cipher_request r.text.text r)))
         (under_mac (hmac mk' (r.aad ++ ciphertext_in n r)) (tag_in n r) (e ck' 0 (cipher_request (ciphertext_in n r) r)))
 
-    at : Dir → List ℕ → List ℕ → List ℕ → Request
+    at : Dir → List ℕ → List ℕ → Segmented → Request
     at d iv aad text = record { dir = d; iv = iv; aad = aad; text = text }
 
-    by_direction_of : (d : Dir) (iv aad text : List ℕ)
+    by_direction_of : (d : Dir) (iv aad : List ℕ) (text : Segmented)
         → aead_value (authenc_seals (block_key mk) seals) (authenc_opens (block_key mk) unseals) n (at d iv aad text) ≡ gives (at d iv aad text) mk ck
     by_direction_of Enc iv aad text =
-        with_mac_is mk aad n (seals iv text) ∙ ap (with_mac (λ made. hmac mk (aad ++ made)) n) (is 0 (cipher_request text (at Enc iv aad text)))
+        with_mac_is mk aad n (seals iv text.text) ∙ ap (with_mac (λ made. hmac mk (aad ++ made)) n) (is 0 (cipher_request text.text (at Enc iv aad text)))
     by_direction_of Dec iv aad text =
         let q' : Request = at Dec iv aad text in
         ap (under_mac (hmac mk (aad ++ ciphertext_in n q')) (tag_in n q')) (is 0 (cipher_request (ciphertext_in n q') q'))

@@ -24,8 +24,8 @@ ask_room a = room_of (arc_value a.keyed).0 a.authsize a.request
 
 -- the tag size is one of the transform's plan, and the inputs are short
 abbrev pub IsFit : Ask → Type 0
-IsFit a = (fits_tag (arc_value a.keyed).0 a.authsize ≡ true) × (length a.request.aad < 2 ^ 32) × (length a.request.text < 2 ^ 32)
+IsFit a = (fits_tag (arc_value a.keyed).0 a.authsize ≡ true) × (length a.request.aad < 2 ^ 32) × (length a.request.text.text < 2 ^ 32)
 
 -- the bytes of IV, associated input and text
 abbrev pub ask_size : Ask → ℕ
-ask_size a = length a.request.iv + length a.request.aad + length a.request.text
+ask_size a = length a.request.iv + length a.request.aad + length a.request.text.text

@@ -1,7 +1,9 @@
 -- The requests that are taken, and the bytes that a job begins with.
-use Rattle.std.specs.Prelude.{ℕ, ◌++◌, ◌-◌, ◌==◌, ◌&&◌, nat_le, Bool, false, List, [], length, replicate}
+use Rattle.std.specs.Prelude.{ℕ, ◌++◌, ◌-◌, ◌==◌, ◌&&◌, nat_le, Bool, false, if◌then◌else◌, List, [], length, replicate}
+use Rattle.sg_walk.specs.Segments.{Segmented}
 use Rattle.templates.specs.declared.driver_plans.Plan.{Plan}
-use Rattle.transforms.specs.Plans.{PlanKind, kind_of, iv_size, takes_input, mac_size_of}
+use Rattle.templates.specs.declared.driver_plans.Plan.TheVariants.{Hmac, Cmac}
+use Rattle.transforms.specs.Plans.{PlanKind, kind_of, iv_size, takes_input}
 use Rattle.transforms.specs.Plans.PlanKind.{skcipher, mac, aead}
 use Rattle.transforms.specs.declared.request.Dir.TheVariants.{Enc, Dec, Mac}
 use Rattle.transforms.specs.declared.request.Request.{Request}
@@ -24,8 +26,8 @@ TakesInput = List ℕ → ℕ → ℕ → Bool
 abbrev pub aead_takes : TakesInput → ℕ → ℕ → Request → Bool
 aead_takes input size n q =
     elim q.dir [
-      | Enc ↦ length q.iv == size && input q.iv (length q.aad) (length q.text)
-      | Dec ↦ length q.iv == size && nat_le n (length q.text) && input q.iv (length q.aad) (length q.text - n)
+      | Enc ↦ length q.iv == size && input q.iv (length q.aad) (length q.text.text)
+      | Dec ↦ length q.iv == size && nat_le n (length q.text.text) && input q.iv (length q.aad) (length q.text.text - n)
       | Mac ↦ false
     ]
 
@@ -41,13 +43,23 @@ takes plan n q = kind_takes (kind_of plan) (takes_input plan) (iv_size plan) n q
 
 -- the text, and behind that of an encryption room for its tag
 abbrev pub aead_room : ℕ → Request → List ℕ
-aead_room n q = elim q.dir [ Enc ↦ q.text ++ replicate n 0 | Dec ↦ q.text | Mac ↦ [] ]
+aead_room n q = elim q.dir [ Enc ↦ q.text.text ++ replicate n 0 | Dec ↦ q.text.text | Mac ↦ [] ]
 
--- by the kind of a plan, and the bytes of its MAC
-abbrev pub kind_room : PlanKind → ℕ → ℕ → Request → List ℕ
-kind_room skcipher size n q = q.text
-kind_room mac size n q = replicate size 0
-kind_room aead size n q = aead_room n q
+-- the text, where it doesn't lie in one segment
+abbrev pub text_to_join : Segmented → List ℕ
+text_to_join text = if length text.sizes == 1 then [] else text.text
+
+-- room for the MAC of a text: HMAC goes over its segments, and CMAC takes it in one piece
+abbrev pub mac_room : Plan → Segmented → List ℕ
+mac_room Hmac text = replicate 32 0
+mac_room (Cmac aes) text = text_to_join text ++ replicate 16 0
+mac_room _ text = []
+
+-- by the kind of a plan, and the room for its MAC
+abbrev pub kind_room : PlanKind → List ℕ → ℕ → Request → List ℕ
+kind_room skcipher room n q = q.text.text
+kind_room mac room n q = room
+kind_room aead room n q = aead_room n q
 
 abbrev pub room_of : Plan → ℕ → Request → List ℕ
-room_of plan n q = kind_room (kind_of plan) (mac_size_of plan) n q
+room_of plan n q = kind_room (kind_of plan) (mac_room plan q.text) n q

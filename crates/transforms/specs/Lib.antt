@@ -3,6 +3,7 @@ pub mod AskValue
 pub mod Asked
 pub mod CipherLaws
 pub mod Ciphers
+pub mod Cuts
 pub mod Drivers
 pub mod Finish
 pub mod Forms

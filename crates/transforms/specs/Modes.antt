@@ -48,8 +48,8 @@ authenc_opens block gives iv aad text tag = authenc_open block (gives iv) aad te
 
 -- a request to a cipher without a tag, by what it seals and unseals at an IV and a text
 abbrev pub cipher_value : (List ℕ → List ℕ → Option (List ℕ)) → (List ℕ → List ℕ → Option (List ℕ)) → Request → Value
-cipher_value seals unseals q = by_direction q (or_invalid (seals q.iv q.text)) (or_invalid (unseals q.iv q.text))
+cipher_value seals unseals q = by_direction q (or_invalid (seals q.iv q.text.text)) (or_invalid (unseals q.iv q.text.text))
 
 -- a request to a mode with a tag of n bytes
 abbrev pub aead_value : Seals → Opens → ℕ → Request → Value
-aead_value seals opens n q = by_direction q (seals n q.iv q.aad q.text) (opens q.iv q.aad (ciphertext_in n q) (tag_in n q))
+aead_value seals opens n q = by_direction q (seals n q.iv q.aad q.text.text) (opens q.iv q.aad (ciphertext_in n q) (tag_in n q))

@@ -169,12 +169,6 @@ tag_size_of (AuthencCtr aes) = 32
 tag_size_of (AuthencRfc3686 aes) = 32
 tag_size_of (AuthencXts aes) = 32
 
--- the bytes of a MAC, and 0 on a plan that is none
-abbrev pub mac_size_of : Plan → ℕ
-mac_size_of Hmac = 32
-mac_size_of (Cmac aes) = 16
-mac_size_of _ = 0
-
 -- the tag size of a transform: one that the plan takes, or 0 on a plan that has no tag
 abbrev pub fits_kind : PlanKind → Bool → ℕ → Bool
 fits_kind skcipher taken n = n == 0

@@ -16,6 +16,7 @@ use Rattle.alg_names.specs.Name.{Tree, Args, node, end, arg}
 use Rattle.templates.specs.Table.{template_named}
 use Rattle.templates.specs.declared.template_words.Template.{Template}
 use Rattle.templates.specs.declared.template_words.Template.TheVariants.{Cbc, Ctr, Rfc3686, Xts, GcmBase, Rfc4106, Ccm, Hmac, Cmac, Authenc, Pcrypt, Cryptd}
+use Rattle.transforms.specs.Cuts.{in_one}
 use Rattle.transforms.specs.Plans.{front_key, last_four, first_half, second_half, by_keys}
 use Rattle.transforms.specs.Tagged.{tagged, joined}
 use Rattle.transforms.specs.declared.request.Dir.TheVariants.{Enc, Dec, Mac}
@@ -31,17 +32,17 @@ by_direction q sealed opened = elim q.dir [ Enc ↦ sealed | Dec ↦ opened | Ma
 
 -- the text of a decryption without its tag of n bytes, and that tag
 abbrev pub ciphertext_in : ℕ → Request → List ℕ
-ciphertext_in n q = take (length q.text - n) q.text
+ciphertext_in n q = take (length q.text.text - n) q.text.text
 
 abbrev pub tag_in : ℕ → Request → List ℕ
-tag_in n q = drop (length q.text - n) q.text
+tag_in n q = drop (length q.text.text - n) q.text.text
 
 abbrev pub cbc_gives : Gives
-cbc_gives key n q = by_direction q (or_invalid (cbc_seal (seal key) q.iv q.text)) (or_invalid (cbc_unseal (unseal key) q.iv q.text))
+cbc_gives key n q = by_direction q (or_invalid (cbc_seal (seal key) q.iv q.text.text)) (or_invalid (cbc_unseal (unseal key) q.iv q.text.text))
 
 -- the same in both directions
 abbrev pub ctr_gives : Gives
-ctr_gives key n q = by_direction q (bytes (ctr_of (seal key) q.iv q.text)) (bytes (ctr_of (seal key) q.iv q.text))
+ctr_gives key n q = by_direction q (bytes (ctr_of (seal key) q.iv q.text.text)) (bytes (ctr_of (seal key) q.iv q.text.text))
 
 -- x under the key without its last four bytes, from the counter block of these, the IV and 1
 abbrev pub rfc3686_gives : Gives → Gives
@@ -50,19 +51,19 @@ rfc3686_gives x key n q = x (front_key key) n (record q { iv = rfc3686_counter (
 -- Key1 and Key2 are the halves of the key, and the IV is the tweak value
 abbrev pub xts_gives : Gives
 xts_gives key n q =
-    by_direction q (or_invalid (xts_seal (seal (first_half key)) (seal (second_half key)) q.iv q.text))
-    (or_invalid (xts_unseal (unseal (first_half key)) (seal (second_half key)) q.iv q.text))
+    by_direction q (or_invalid (xts_seal (seal (first_half key)) (seal (second_half key)) q.iv q.text.text))
+    (or_invalid (xts_unseal (unseal (first_half key)) (seal (second_half key)) q.iv q.text.text))
 
 abbrev pub hmac_gives : Gives
-hmac_gives key n q = bytes (hmac key q.text)
+hmac_gives key n q = bytes (hmac key q.text.text)
 
 abbrev pub cmac_gives : Gives
-cmac_gives key n q = bytes (cmac (seal key) q.text)
+cmac_gives key n q = bytes (cmac (seal key) q.text.text)
 
 -- the ciphertext and the first n bytes of its tag; the plaintext of a ciphertext under such a tag
 abbrev pub gcm_gives : Gives
 gcm_gives key n q =
-    by_direction q (bytes (tagged n (gcm_seal (seal key) q.iv q.aad q.text)))
+    by_direction q (bytes (tagged n (gcm_seal (seal key) q.iv q.aad q.text.text)))
     (or_bad_message (gcm_open (seal key) q.iv q.aad (ciphertext_in n q) (tag_in n q)))
 
 -- x under the key without its last four bytes, at the IV of these and the packet's, and without the packet's IV in the
@@ -76,7 +77,7 @@ rfc4106_gives x key n q =
 -- the ciphertext and its tag of n bytes; the plaintext of a ciphertext under such a tag
 abbrev pub ccm_gives : Gives
 ccm_gives key n q =
-    by_direction q (or_invalid (option_map joined (ccm_seal (seal key) n q.iv q.aad q.text)))
+    by_direction q (or_invalid (option_map joined (ccm_seal (seal key) n q.iv q.aad q.text.text)))
     (ccm_open (seal key) q.iv q.aad (ciphertext_in n q) (tag_in n q))
 
 -- bytes, and behind them the first n of their MAC
@@ -91,7 +92,7 @@ under_mac mac tag opened = if bytes_eq (take (length tag) mac) tag then opened e
 
 -- a request to the cipher of an authenc
 abbrev pub cipher_request : List ℕ → Request → Request
-cipher_request text q = record q { aad = []; text = text }
+cipher_request text q = record q { aad = []; text = in_one text }
 
 -- by the two keys of the blob: what e makes of the text, and the MAC of the associated bytes and that; what e makes of a
 -- ciphertext, where its MAC is right
@@ -100,7 +101,7 @@ authenc_gives e key n q =
     by_keys
     (λ mk ck.
     by_direction q
-    (with_mac (λ made. hmac mk (q.aad ++ made)) n (e ck 0 (cipher_request q.text q)))
+    (with_mac (λ made. hmac mk (q.aad ++ made)) n (e ck 0 (cipher_request q.text.text q)))
     (under_mac (hmac mk (q.aad ++ ciphertext_in n q)) (tag_in n q) (e ck 0 (cipher_request (ciphertext_in n q) q))))
     invalid (blob key)
 

@@ -1,13 +1,20 @@
 //! The MACs.
 
-ghost use Rattle.std.specs.Prelude.{◌≡◌, true, false, length, MatchOption, MatchResult, Some, None};
+ghost use Rattle.std.specs.Prelude.{◌≡◌, ◌++◌, ◌<◌, ◌^◌, true, false, length, replicate, MatchOption, MatchResult, IfOk, Some, None};
+ghost use Rattle.std_defs.specs.Aes.{seal};
+ghost use Rattle.std_defs.specs.Cmac.{cmac};
 ghost use Rattle.templates.specs.declared.driver_plans.Plan.TheVariants as plan;
+ghost use Rattle.transforms.specs.Asked.{text_to_join};
+ghost use Rattle.transforms.specs.Forms.{key_of};
 ghost use Rattle.transforms.specs.Plans.{takes_key};
 
 use crate::any_aes::AnyAes;
+use crate::room::{in_one_segment, joined_with_zeros, zeros};
 use cmac_ccm::Cmac;
 use hmac_sha::Mac;
 use kc_base::Errno;
+use sg_walk::Segs;
+use std::alloc::{AllocError, Global};
 use templates::AesForm;
 
 /// A MAC, under a key.
@@ -18,7 +25,7 @@ pub enum AnyMac {
 }
 
 impl AnyMac {
-    ghost use Rattle.transforms.specs.Macs.{IsMac, size_of, makes_of, aes_of};
+    ghost use Rattle.transforms.specs.Macs.{IsMac, room_in, makes_of, aes_of};
 
     /// HMAC with SHA-256 under a key of any length.
     pub fn hmac(key: &[u8]) -> AnyMac
@@ -46,24 +53,58 @@ impl AnyMac {
         }
     }
 
-    /// The bytes of a MAC.
-    pub fn size(&self) -> usize
-        ensures { result ≡ size_of self.now }
+    /// Room for the MAC of a text. HMAC goes over the segments of the text. CMAC takes it in one piece, which stands before the
+    /// MAC's place where the text lies in several segments.
+    pub fn room(&self, alloc: Global, text: &Segs) -> Result<Vec<u8>, AllocError>
+        requires { length text.now.text < 2 ^ 32 }
+        ensures { IfOk result (λ room. room.items ≡ room_in self.now text.now) }
     {
         match self {
-            AnyMac::Hmac(_) => 32,
-            AnyMac::Cmac(_) => 16,
+            AnyMac::Hmac(_) => zeros(alloc, HMAC_SIZE),
+            AnyMac::Cmac(_) => cmac_room(alloc, text),
         }
     }
 
-    /// Writes the MAC of a text over as many bytes.
-    pub fn write(&self, text: &[u8], out: &mut [u8])
-        requires { length out.old ≡ size_of self.now }
-        ensures { out.new ≡ makes_of self.now text.now }
+    /// Makes the MAC of a text in its room.
+    pub fn make(&self, text: &Segs, room: &mut Vec<u8>)
+        requires { room.old.items ≡ room_in self.now text.now }
+        ensures { room.new.items ≡ makes_of self.now text.now.text }
     {
         match self {
-            AnyMac::Hmac(mac) => out.copy_from_slice(&mac.mac(text, &[])),
-            AnyMac::Cmac(mac) => out.copy_from_slice(&mac.mac(text)),
+            AnyMac::Hmac(mac) => room.copy_from_slice(&mac.mac_segs(&[], text)),
+            AnyMac::Cmac(mac) => {
+                let made = cmac_of(mac, text, room.as_slice());
+                room.truncate(CMAC_SIZE);
+                room.copy_from_slice(&made);
+            }
         }
+    }
+}
+
+/// The bytes of a MAC of HMAC with SHA-256.
+const HMAC_SIZE: usize = 32;
+
+/// The bytes of a MAC of CMAC.
+const CMAC_SIZE: usize = 16;
+
+/// Room for the CMAC of a text, and before it the text where it lies in several segments.
+fn cmac_room(alloc: Global, text: &Segs) -> Result<Vec<u8>, AllocError>
+    requires { length text.now.text < 2 ^ 32 }
+    ensures { IfOk result (λ room. room.items ≡ text_to_join text.now ++ replicate 16 0) }
+{
+    match in_one_segment(text) {
+        Some(_) => zeros(alloc, CMAC_SIZE),
+        None => joined_with_zeros(alloc, text, CMAC_SIZE),
+    }
+}
+
+/// The CMAC of a text, which stands in the room where it lies in several segments.
+fn cmac_of(mac: &Cmac<AnyAes>, text: &Segs, room: &[u8]) -> [u8; 16]
+    requires { room.now ≡ text_to_join text.now ++ replicate 16 0 }
+    ensures { result ≡ cmac (seal (key_of mac.now)) text.now.text }
+{
+    match in_one_segment(text) {
+        Some(bytes) => mac.mac(bytes),
+        None => mac.mac(&room[..text.len()]),
     }
 }

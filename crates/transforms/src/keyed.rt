@@ -11,7 +11,7 @@ use crate::aead::Aead;
 use crate::any_aes::AnyAes;
 use crate::inner::{Inner, inner_of};
 use crate::request::{Finished, Request};
-use crate::room::{room_with_tag, zeros};
+use crate::room::{joined, room_with_tag};
 use crate::running::{run_aead, run_cipher, run_mac};
 use crate::taking::{takes_aead, takes_mac, takes_plain};
 use crate::tfm_err::TfmErr;
@@ -92,12 +92,12 @@ impl Keyed {
         request: &Request,
     ) -> Result<Vec<u8>, AllocError>
         requires tag_fits { fits_tag self.now.0 authsize ≡ true }
-        requires text_short { length request.now.text < 2 ^ 32 }
+        requires text_short { length request.now.text.text < 2 ^ 32 }
         ensures { IfOk result (λ buffer. buffer.items ≡ room_of self.now.0 authsize request.now) }
     {
         match &self.inner {
-            Inner::Skcipher(_) => request.text.as_slice().to_vec(alloc),
-            Inner::Mac(mac) => zeros(alloc, mac.size()),
+            Inner::Skcipher(_) => joined(alloc, &request.text, 0),
+            Inner::Mac(mac) => mac.room(alloc, &request.text),
             Inner::Aead(_) => room_with_tag(alloc, authsize, request),
         }
     }
@@ -107,7 +107,7 @@ impl Keyed {
         requires taken { takes self.now.0 authsize request.now ≡ true }
         requires tag_fits { fits_tag self.now.0 authsize ≡ true }
         requires aad_short { length request.now.aad < 2 ^ 32 }
-        requires text_short { length request.now.text < 2 ^ 32 }
+        requires text_short { length request.now.text.text < 2 ^ 32 }
         requires room { buffer.items ≡ room_of self.now.0 authsize request.now }
         ensures { finished_value result ≡ request_value (driver_of self.now.0) self.now.1 authsize request.now }
     {

@@ -1,9 +1,12 @@
 //! The memory of a job.
 
-ghost use Rattle.std.specs.Prelude.{◌≡◌, ◌≤◌, ◌<◌, ◌^◌, length, IfOk, replicate};
+ghost use Rattle.std.specs.Prelude.{◌≡◌, ◌==◌, ◌++◌, ◌+◌, ◌≤◌, ◌<◌, ◌^◌, true, false, length, IfOk, OnOk, MatchOption, replicate};
+ghost use Rattle.std.specs.List.{concat};
 ghost use Rattle.transforms.specs.Asked.{aead_room};
 
 use crate::request::{Dir, Request};
+use kc_base::Bytes;
+use sg_walk::Segs;
 use std::alloc::{AllocError, Global};
 
 /// Zeros.
@@ -13,6 +16,48 @@ pub fn zeros(alloc: Global, n: usize) -> Result<Vec<u8>, AllocError>
     vec![in alloc; 0u8; n]
 }
 
+/// The text, where it lies in one segment.
+pub fn in_one_segment(text: &Segs) -> Option<&[u8]>
+    ensures { MatchOption result
+        ((length text.now.sizes == 1) ≡ false)
+        (λ bytes. ((length text.now.sizes == 1) ≡ true) × (bytes.now ≡ text.now.text)) }
+{
+    match text.parts() {
+        [part] => Some(part.as_slice()),
+        _ => None,
+    }
+}
+
+/// Adds the bytes of each segment.
+fn add_parts(buffer: &mut Vec<u8>, parts: &[Bytes]) -> Result<(), AllocError>
+    ensures { OnOk result (buffer.new.items ≡ buffer.old.items ++ concat parts.now) }
+{
+    for part in parts {
+        buffer.extend_from_slice(part.as_slice())?;
+    }
+    Ok(())
+}
+
+/// The text in one piece, with room for so many bytes more.
+pub fn joined(alloc: Global, text: &Segs, more: usize) -> Result<Vec<u8>, AllocError>
+    requires { length text.now.text + more < 2 ^ 63 }
+    ensures { IfOk result (λ buffer. buffer.items ≡ text.now.text) }
+{
+    let mut buffer = Vec::with_capacity(alloc, text.len() + more)?;
+    add_parts(&mut buffer, text.parts())?;
+    Ok(buffer)
+}
+
+/// The text in one piece, and so many zeros behind it.
+pub fn joined_with_zeros(alloc: Global, text: &Segs, zeros: usize) -> Result<Vec<u8>, AllocError>
+    requires { length text.now.text + zeros < 2 ^ 63 }
+    ensures { IfOk result (λ buffer. buffer.items ≡ text.now.text ++ replicate zeros 0) }
+{
+    let mut buffer = joined(alloc, text, zeros)?;
+    buffer.resize(text.len() + zeros, 0)?;
+    Ok(buffer)
+}
+
 /// The text, and behind the text of an encryption room for its tag.
 pub fn room_with_tag(
     alloc: Global,
@@ -20,17 +65,12 @@ pub fn room_with_tag(
     request: &Request,
 ) -> Result<Vec<u8>, AllocError>
     requires tag_fits { authsize ≤ 32 }
-    requires text_short { length request.now.text < 2 ^ 32 }
+    requires text_short { length request.now.text.text < 2 ^ 32 }
     ensures { IfOk result (λ buffer. buffer.items ≡ aead_room authsize request.now) }
 {
     match request.dir {
-        Dir::Enc => {
-            let mut buffer = Vec::with_capacity(alloc, request.text.len() + authsize)?;
-            buffer.extend_from_slice(request.text.as_slice())?;
-            buffer.resize(request.text.len() + authsize, 0)?;
-            Ok(buffer)
-        }
-        Dir::Dec => Vec::from_slice(alloc, request.text.as_slice()),
+        Dir::Enc => joined_with_zeros(alloc, &request.text, authsize),
+        Dir::Dec => joined(alloc, &request.text, 0),
         Dir::Mac => Ok(Vec::new(alloc)),
     }
 }

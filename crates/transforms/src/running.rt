@@ -2,7 +2,7 @@
 
 ghost use Rattle.std.specs.Prelude.{◌≡◌, ◌≤◌, ◌<◌, ◌^◌, ◌+◌, ◌-◌, length, true, take, drop, IsTrue, MatchResult};
 ghost use Rattle.std_defs.specs.Value.Value.{bytes, invalid};
-ghost use Rattle.transforms.specs.Macs.{size_of, makes_of};
+ghost use Rattle.transforms.specs.Macs.{room_in, makes_of};
 ghost use Rattle.aes_block.specs.Opened.{IsRefusal};
 ghost use Rattle.transforms.specs.Modes.{cipher_value, aead_value};
 ghost use Rattle.transforms.specs.Asked.{aead_room, aead_takes};
@@ -17,7 +17,7 @@ use kc_base::{Bytes, Errno};
 /// A request to a cipher.
 pub fn run_cipher<S: Skcipher>(cipher: &S, request: &Request, buffer: Vec<u8>) -> Finished
     requires iv_fits { length request.now.iv ≡ S.iv_size cipher.now }
-    requires text { buffer.items ≡ request.now.text }
+    requires text { buffer.items ≡ request.now.text.text }
     ensures { finished_value result ≡ cipher_value (S.seals cipher.now) (S.unseals cipher.now) request.now }
 {
     let mut buffer = buffer;
@@ -34,11 +34,11 @@ pub fn run_cipher<S: Skcipher>(cipher: &S, request: &Request, buffer: Vec<u8>) -
 
 /// A request to a MAC.
 pub fn run_mac(mac: &AnyMac, request: &Request, buffer: Vec<u8>) -> Finished
-    requires { length buffer.items ≡ size_of mac.now }
-    ensures { finished_value result ≡ bytes (makes_of mac.now request.now.text) }
+    requires { buffer.items ≡ room_in mac.now request.now.text }
+    ensures { finished_value result ≡ bytes (makes_of mac.now request.now.text.text) }
 {
     let mut buffer = buffer;
-    mac.write(request.text.as_slice(), buffer.as_mut_slice());
+    mac.make(&request.text, &mut buffer);
     Finished::Bytes(Bytes::from_vec(buffer))
 }
 
@@ -94,7 +94,7 @@ pub fn run_aead<A: Aead>(aead: &A, authsize: usize, request: &Request, buffer: V
     requires tag_fits { authsize ≤ A.tag_size aead.now }
     requires tag_taken { IsTrue (A.takes_tag aead.now authsize) }
     requires aad_short { length request.now.aad < 2 ^ 32 }
-    requires text_short { length request.now.text < 2 ^ 32 }
+    requires text_short { length request.now.text.text < 2 ^ 32 }
     requires room { buffer.items ≡ aead_room authsize request.now }
     ensures { finished_value result ≡ aead_value (A.seals aead.now) (A.opens aead.now) authsize request.now }
 {

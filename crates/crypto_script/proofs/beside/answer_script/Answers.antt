@@ -3,7 +3,7 @@ use Rattle.crypto_script.proofs.beside.answer_script.Goals as goal
 
 pub run_lines-answer-requires-clause-ready : goal.run_lines-answer-requires-clause-ready
 run_lines-answer-requires-clause-ready g c = λ lifetimes bounds.
-    new-ready c.args.registry.now c.args.board.now c.args.workers c.args.passes c.new-session.result c.requires.lock c.requires.new c.new-session.ensures
+    new-ready c.args.registry.now c.args.board.now c.args.workers c.args.passes c.new-session.result c.requires.lock c.requires.new c.requires.few c.new-session.ensures
 
 pub returns-clause-answers : goal.returns-clause-answers
 returns-clause-answers g c =

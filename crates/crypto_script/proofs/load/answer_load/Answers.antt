@@ -4,7 +4,7 @@ use Rattle.crypto_script.proofs.load.answer_load.Goals as goal
 
 pub hold_load-digest-requires-clause-ready : goal.hold_load-digest-requires-clause-ready
 hold_load-digest-requires-clause-ready g c = λ lifetimes bounds.
-    new-ready c.args.registry.now c.args.board.now c.args.options.now.workers c.args.passes c.new-session.result c.requires.lock c.requires.new c.new-session.ensures
+    new-ready c.args.registry.now c.args.board.now c.args.options.now.workers c.args.passes c.new-session.result c.requires.lock c.requires.new c.requires.few c.new-session.ensures
 
 pub returns-clause-loads : goal.returns-clause-loads
 returns-clause-loads g c =

@@ -1,10 +1,10 @@
 use Rattle.std.proofs.Common.{ap, sym, subst, ◌∙◌}
 use Rattle.dialogues.specs.Walk.{Pipe}
 use Rattle.session_calls.specs.Passes.{known}
+use Rattle.session_calls.specs.Pipelines.{KnowsPipe}
 use Rattle.script_session.specs.States.{HasPipe}
 use Rattle.script_session.proofs.Ended.{stays-put, goes-free_now}
 use Rattle.script_session.proofs.Leading.{goes-none, goes-free}
-use Rattle.script_session.proofs.Switching.{held-queue}
 use Rattle.script_session.proofs.ending.release_live.Goals as goal
 
 pub returns-in_default-clause-moved : goal.returns-in_default-clause-moved
@@ -18,7 +18,8 @@ returns-then-not-pipe-clause-moved g c =
 pub go-requires-clause-queue : goal.go-requires-clause-queue
 go-requires-clause-queue g c =
     let k = known c.args.caller.now in
-    held-queue k c.in-Some.pipe.now c.requires.legal (subst (HasPipe k) (sym c.in-Some.ensures) c.requires.pipe) (sym (ap (λ (p : Pipe). p.held) c.pipe-2.view_is) ∙ c.if-not-pipe.false)
+    let on : KnowsPipe k c.in-Some.pipe.now = subst (HasPipe k) (sym c.in-Some.ensures) c.requires.pipe in
+    on.queue (sym (ap (λ (p : Pipe). p.held) c.pipe-2.view_is) ∙ c.if-not-pipe.false)
 
 pub returns-clause-moved : goal.returns-clause-moved
 returns-clause-moved g c =

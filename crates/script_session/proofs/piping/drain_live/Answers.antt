@@ -26,7 +26,7 @@ pub deliver-requires : goal.deliver-requires
 deliver-requires g c =
     let e = c.in_ok-drain.ensures in
     let d = e.drained in
-    may-deliver (known c.args.caller.now) (known c.drain.new.self) c.args.live.now c.in-Some.pipe.now c.count_completions-count.result d.0 (sym c.in-Some.ensures) d.2
+    may-deliver c.args.live.now c.in-Some.pipe.now c.count_completions-count.result d.0 (sym c.in-Some.ensures) d.3
     (c.count_completions-count.ensures ∙ ap completions (c.as_slice.ensures ∙ from-empty c.new-into.result _ _ c.new-into.ensures d.1))
 
 pub returns-clause-held : goal.returns-clause-held

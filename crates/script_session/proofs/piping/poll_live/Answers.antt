@@ -19,7 +19,7 @@ pub deliver-requires : goal.deliver-requires
 deliver-requires g c =
     let e = c.in_ok-poll.ensures in
     let d = e.polled in
-    may-deliver-polled (known c.args.caller.now) (known c.poll.new.self) c.args.live.now c.in-Some.pipe.now c.count_completions-count.result d.0 d.1 (sym c.in-Some.ensures) d.3
+    may-deliver-polled c.only_collects_hand_out.ensures.most (known c.args.caller.now) (known c.poll.new.self) c.args.live.now c.in-Some.pipe.now c.count_completions-count.result d.0 d.1 (sym c.in-Some.ensures) d.3
     (c.count_completions-count.ensures ∙ ap completions (c.as_slice.ensures ∙ from-empty c.new-into.result _ _ c.new-into.ensures d.2))
 
 pub returns-clause-held : goal.returns-clause-held

@@ -6,4 +6,5 @@ returns c = record {
   own = c.others_leave.ensures.own;
   calls = c.board_calls_go_on.ensures.goes_on;
   uncalled = c.board_calls_go_on.ensures.uncalled;
+  steps = c.entry_laws.ensures;
 }

@@ -2,11 +2,12 @@ use Rattle.std.proofs.Common.{arith, ◌≡◌, ◌∷◌, [], Some, false, sym,
 use Rattle.board.specs.declared.entry.BoardEntry.{BoardEntry}
 use Rattle.board.specs.Stages.{is_queue}
 use Rattle.board.specs.Entries.{entries_of, takers, finished, has, meaning_at, submissions}
-use Rattle.board.specs.Ready.{HasJob, HasRequest}
-use Rattle.board.proofs.InLine.{ready_same, ready_added, all_but}
+use Rattle.board.specs.Ready.{HasRequest}
+use Rattle.board.proofs.InLine.{ready_same}
 use Rattle.board.proofs.KeptUsed.{used_same}
 use Rattle.board.proofs.Kept.{within_board, shut-same}
 use Rattle.board.proofs.KeptFinish.{job_ended, ended_made, ended_quiet, finish_may, finish_step, finish_passes, taken_here}
+use Rattle.board.proofs.LinesHold.{but_one, room_in_each, lines_added}
 use Rattle.board.proofs.board_core.BoardCore.finish.Goals as goal
 
 pub finish-requires : goal.finish-requires
@@ -41,6 +42,16 @@ overflow_sub-self g c =
     let s = finish_step g.W.Work.asked g.W.Work.meaning c.self.inside.pipes.items c.self.inside.log.items c.slip.inside.pipe c.slip.inside.number c.args.caller c.args.out pipe c.finish.new.self k w c.index_mut-place.ensures.value t f o c.finish.ensures in
     omega (arith, s.1, c.self.invariant.3)
 
+pub add-requires : goal.add-requires
+add-requires g c =
+    let k = c.self.invariant.0 in
+    let pipe = c.index_mut-place.result.now in
+    let t = subst (λ h. takers c.slip.inside.number (entries_of c.slip.inside.pipe h) ≡ c.args.caller ∷ []) (sym c.self.view_is) (subst (λ s. takers s.number (entries_of s.pipe c.args.self.now) ≡ c.args.caller ∷ []) (sym c.slip.view_is) c.requires.took) in
+    let f = subst (λ h. has c.slip.inside.number (finished (entries_of c.slip.inside.pipe h)) ≡ false) (sym c.self.view_is) (subst (λ s. has s.number (finished (entries_of s.pipe c.args.self.now)) ≡ false) (sym c.slip.view_is) c.requires.once) in
+    let o = subst (λ h. meaning_at g.W.Work.meaning (submissions (entries_of c.slip.inside.pipe h)) c.slip.inside.number ≡ Some c.args.out) (sym c.self.view_is) (subst (λ s. meaning_at g.W.Work.meaning (submissions (entries_of s.pipe c.args.self.now)) s.number ≡ Some c.args.out) (sym c.slip.view_is) c.requires.right) in
+    let w = within_board g.W.Work.asked g.W.Work.meaning c.self.inside.pipes.items c.self.inside.log.items c.slip.inside.pipe k (taken_here _ c.slip.inside.number c.args.caller t) in
+    room_in_each c.self.inside.pipes.items c.self.inside.ready c.slip.inside.pipe (but_one c.self.inside.pipes.items c.self.inside.ready c.slip.inside.pipe c.self.invariant.5) w
+
 pub invariant_of-self : goal.invariant_of-self
 invariant_of-self g c =
     let k = c.self.invariant.0 in
@@ -58,7 +69,7 @@ invariant_of-self g c =
       omega (arith, s.1, c.self.invariant.2, c.self.invariant.3, c.push_reserved.ensures.len, c.push_reserved.ensures.capacity),
       omega (arith, s.1, c.self.invariant.3),
       rw (c.push_reserved.ensures.items, made) (used_same g.W.Work.weight c.self.inside.used c.self.inside.log.items e q.1 c.self.invariant.4),
-      ready_added HasJob c.self.inside.pipes.items c.self.inside.ready c.add.new.self c.slip.inside.pipe (record pipe { stage = c.finish.new.self }) c.self.invariant.5.0 (all_but HasJob c.self.inside.pipes.items c.self.inside.ready.line c.slip.inside.pipe c.self.invariant.5.1) w c.add.ensures.pipes c.add.ensures.added c.add.ensures.kept,
+      lines_added c.self.inside.pipes.items c.self.inside.ready c.add.new.self c.slip.inside.pipe (record pipe { stage = c.finish.new.self }) (but_one c.self.inside.pipes.items c.self.inside.ready c.slip.inside.pipe c.self.invariant.5) w c.add.ensures,
       ready_same HasRequest c.self.inside.pipes.items c.self.inside.passing c.slip.inside.pipe pipe (record pipe { stage = c.finish.new.self }) c.self.invariant.6 w c.index_mut-place.ensures.value (finish_passes pipe.stage c.finish.new.self c.slip.inside.number c.args.out c.finish.ensures),
     )
 

@@ -1,13 +1,14 @@
 use Rattle.std.proofs.Common.{arith, refl, sym, ◌∙◌, ap, subst}
 use Rattle.board.specs.declared.entry.BoardEntry.TheVariants.{Go}
 use Rattle.board.specs.Entries.{entries_of}
-use Rattle.board.specs.Ready.{HasJob, HasRequest}
+use Rattle.board.specs.Ready.{HasRequest}
 use Rattle.board.proofs.KeptUsed.{used_same}
 use Rattle.board.proofs.Kept.{shut-same, within_board}
 use Rattle.board.specs.Shapes.{has_line}
 use Rattle.board.specs.Legal.{MayManage, IsOpenQueue}
 use Rattle.board.proofs.KeptCalls.{open_here, line_here, go_step}
 use Rattle.board.proofs.InLine.{ready_added, all_but}
+use Rattle.board.proofs.LinesHold.{but_one, room_in_each, lines_added}
 use Rattle.board.proofs.board_core.BoardCore.go.Goals as goal
 
 pub index_mut-place-requires : goal.index_mut-place-requires
@@ -27,7 +28,7 @@ pub add-requires : goal.add-requires
 add-requires g c =
     let open_ : IsOpenQueue (entries_of c.args.pipe c.self.inside.log.items) = subst (λ h. IsOpenQueue (entries_of c.args.pipe h)) (sym c.self.view_is) c.requires.pipe in
     let w = within_board g.W.Work.asked g.W.Work.meaning c.self.inside.pipes.items c.self.inside.log.items c.args.pipe c.self.invariant.0 (open_here has_line (entries_of c.args.pipe c.self.inside.log.items) open_.0) in
-    omega (arith, w, c.self.invariant.5.0)
+    room_in_each c.self.inside.pipes.items c.self.inside.ready c.args.pipe (but_one c.self.inside.pipes.items c.self.inside.ready c.args.pipe c.self.invariant.5) w
 
 pub add-requires-2 : goal.add-requires-2
 add-requires-2 g c =
@@ -47,7 +48,7 @@ invariant_of-self-2 g c =
       omega (arith, c.push_reserved.ensures.len, c.push_reserved.ensures.capacity, c.in_ok-reserve_entries.ensures.ok),
       omega (arith, s.1, c.self.invariant.3),
       rw (c.push_reserved.ensures.items, c.in_ok-reserve_entries.ensures.items) (used_same g.W.Work.weight c.self.inside.used c.self.inside.log.items e refl c.self.invariant.4),
-      ready_added HasJob c.self.inside.pipes.items c.self.inside.ready c.add.new.self c.args.pipe (record c.index_mut-place.result.now { stage = c.set_held.new.self }) c.self.invariant.5.0 (all_but HasJob c.self.inside.pipes.items c.self.inside.ready.line c.args.pipe c.self.invariant.5.1) w c.add.ensures.pipes c.add.ensures.added c.add.ensures.kept,
+      lines_added c.self.inside.pipes.items c.self.inside.ready c.add.new.self c.args.pipe (record c.index_mut-place.result.now { stage = c.set_held.new.self }) (but_one c.self.inside.pipes.items c.self.inside.ready c.args.pipe c.self.invariant.5) w c.add.ensures,
       ready_added HasRequest c.self.inside.pipes.items c.self.inside.passing c.add-2.new.self c.args.pipe (record c.index_mut-place.result.now { stage = c.set_held.new.self }) c.self.invariant.6.0 (all_but HasRequest c.self.inside.pipes.items c.self.inside.passing.line c.args.pipe c.self.invariant.6.1) w c.add-2.ensures.pipes c.add-2.ensures.added c.add-2.ensures.kept,
     )
 

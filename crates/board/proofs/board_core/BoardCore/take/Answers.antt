@@ -3,10 +3,11 @@ use Rattle.board.specs.declared.entry.BoardEntry.{BoardEntry}
 use Rattle.board.specs.Entries.{NoneFor}
 use Rattle.board.specs.Stages.{is_queue}
 use Rattle.board.specs.Ready.{HasJob, HasRequest, Admits}
-use Rattle.board.proofs.InLine.{ready_same, ready_added}
+use Rattle.board.proofs.InLine.{ready_same}
 use Rattle.board.proofs.KeptUsed.{used_same}
 use Rattle.board.proofs.Kept.{kept_here, shut-same}
 use Rattle.board.proofs.KeptWork.{first_taken, first_made, first_is_queue, first_quiet, take_step, take_none, take_passes, take_entry_is}
+use Rattle.board.proofs.LinesHold.{lines_added, room_in_each}
 use Rattle.board.proofs.board_core.BoardCore.take.Goals as goal
 
 pub returns-in_err-p-clause-taken : goal.returns-in_err-p-clause-taken
@@ -15,6 +16,13 @@ returns-in_err-p-clause-taken g c = rw c.from_residual.ensures (
   subst (λ h. NoneFor h c.args.caller) c.self.view_is
       (take_none g.W.Work.asked g.W.Work.meaning c.self.inside.pipes.items c.self.inside.log.items c.args.caller c.self.invariant.0 (rw c.deref.ensures.value at c.in_err-p.ensures.next.1)),
 )
+
+pub add-requires : goal.add-requires
+add-requires g c =
+    let k = c.self.invariant.0 in
+    let pipe = c.index_mut-place.result.now in
+    let w : c.in_ok-p.p < length c.self.inside.pipes.items = rw (← c.deref.ensures.value) c.in_ok-p.ensures.next.0 in
+    room_in_each c.self.inside.pipes.items c.next_job.new.self c.in_ok-p.p (rw c.deref.ensures.value at c.in_ok-p.ensures.next.2) w
 
 pub invariant_of-self-2 : goal.invariant_of-self-2
 invariant_of-self-2 g c =
@@ -31,7 +39,7 @@ invariant_of-self-2 g c =
       omega (arith, s.1, c.self.invariant.2, c.self.invariant.3, c.push_reserved.ensures.len, c.push_reserved.ensures.capacity),
       omega (arith, s.1, c.self.invariant.3),
       rw (c.push_reserved.ensures.items, made) (used_same g.W.Work.weight c.self.inside.used c.self.inside.log.items e q.1 c.self.invariant.4),
-      ready_added HasJob c.self.inside.pipes.items c.next_job.new.ready c.add.new.self c.in_ok-p.p (record pipe { stage = c.take.new.self }) (c.in_ok-p.ensures.pipes ∙ c.self.invariant.5.0) (rw c.deref.ensures.value at c.in_ok-p.ensures.next.2) w c.add.ensures.pipes c.add.ensures.added c.add.ensures.kept,
+      lines_added c.self.inside.pipes.items c.next_job.new.self c.add.new.self c.in_ok-p.p (record pipe { stage = c.take.new.self }) (rw c.deref.ensures.value at c.in_ok-p.ensures.next.2) w c.add.ensures,
       ready_same HasRequest c.self.inside.pipes.items c.self.inside.passing c.in_ok-p.p pipe (record pipe { stage = c.take.new.self }) c.self.invariant.6 w c.index_mut-place.ensures.value (take_passes pipe.stage c.take.new.self _ c.in_ok-number.ensures.3),
     )
 

@@ -1,4 +1,4 @@
-use Rattle.std.proofs.Common.{ap, ◌∙◌, []}
+use Rattle.std.proofs.Common.{ap, ◌∙◌, refl, []}
 use Rattle.script_text.specs.declared.commands.Command.TheVariants as command
 use Rattle.transforms.specs.declared.request.Dir.TheVariants as dir
 use Rattle.dialogues.specs.Requesting.{request_of}
@@ -54,16 +54,16 @@ pub returns-in-Enc : goal.returns-in-Enc
 returns-in-Enc g c =
     command-arm c.submit.result c.args.self.now _ c.args.number c.args.command.now (command.Enc c.in-Enc.label c.in-Enc.iv c.in-Enc.aad c.in-Enc.text c.in-Enc.backlog) _ _ c.in-Enc.is
     (request-arm-as c.submit.result c.args.self.now _ c.args.number c.in-Enc.label _ (request_of dir.Enc c.in-Enc.iv c.in-Enc.aad c.in-Enc.text) c.in-Enc.backlog _ _
-    (ap (λ x. request_of dir.Enc x c.as_slice-in-Enc.result.now c.as_slice-in-Enc-2.result.now) c.as_slice.ensures ∙ (ap (λ x. request_of dir.Enc c.in-Enc.iv x c.as_slice-in-Enc-2.result.now) c.as_slice-in-Enc.ensures ∙ ap (λ x. request_of dir.Enc c.in-Enc.iv c.in-Enc.aad x) c.as_slice-in-Enc-2.ensures)) c.submit.ensures)
+    (ap (λ x. request_of dir.Enc x c.as_slice-in-Enc.result.now c.in-Enc.text) c.as_slice.ensures ∙ ap (λ x. request_of dir.Enc c.in-Enc.iv x c.in-Enc.text) c.as_slice-in-Enc.ensures) c.submit.ensures)
 
 pub returns-in-Dec : goal.returns-in-Dec
 returns-in-Dec g c =
     command-arm c.submit-in-Dec.result c.args.self.now _ c.args.number c.args.command.now (command.Dec c.in-Dec.label c.in-Dec.iv c.in-Dec.aad c.in-Dec.text c.in-Dec.backlog) _ _ c.in-Dec.is
     (request-arm-as c.submit-in-Dec.result c.args.self.now _ c.args.number c.in-Dec.label _ (request_of dir.Dec c.in-Dec.iv c.in-Dec.aad c.in-Dec.text) c.in-Dec.backlog _ _
-    (ap (λ x. request_of dir.Dec x c.as_slice-in-Dec-2.result.now c.as_slice-in-Dec-3.result.now) c.as_slice-in-Dec.ensures ∙ (ap (λ x. request_of dir.Dec c.in-Dec.iv x c.as_slice-in-Dec-3.result.now) c.as_slice-in-Dec-2.ensures ∙ ap (λ x. request_of dir.Dec c.in-Dec.iv c.in-Dec.aad x) c.as_slice-in-Dec-3.ensures)) c.submit-in-Dec.ensures)
+    (ap (λ x. request_of dir.Dec x c.as_slice-in-Dec-2.result.now c.in-Dec.text) c.as_slice-in-Dec.ensures ∙ ap (λ x. request_of dir.Dec c.in-Dec.iv x c.in-Dec.text) c.as_slice-in-Dec-2.ensures) c.submit-in-Dec.ensures)
 
 pub returns-in-Mac : goal.returns-in-Mac
 returns-in-Mac g c =
     command-arm c.submit-in-Mac.result c.args.self.now _ c.args.number c.args.command.now (command.Mac c.in-Mac.label c.in-Mac.text c.in-Mac.backlog) _ _ c.in-Mac.is
     (request-arm-as c.submit-in-Mac.result c.args.self.now _ c.args.number c.in-Mac.label _ (request_of dir.Mac [] [] c.in-Mac.text) c.in-Mac.backlog _ _
-    (ap (λ x. request_of dir.Mac [] [] x) c.as_slice-in-Mac.ensures) c.submit-in-Mac.ensures)
+    refl c.submit-in-Mac.ensures)

@@ -15,4 +15,4 @@ returns-clause-done g c =
 
 pub returns-clause-shut : goal.returns-clause-shut
 returns-clause-shut g c =
-    ends-shut c.drain_last_all.new.lives (known c.drain_last_all.new.caller) (known c.shut.new.self) c.in_ok-drain_last_all.ensures.moved.posted c.in_ok-drain_last_all.ensures.paid c.shut.ensures.shut
+    ends-shut c.only_collects_hand_out.ensures.drained c.drain_last_all.new.lives (known c.drain_last_all.new.caller) (known c.shut.new.self) c.in_ok-drain_last_all.ensures.moved.posted c.in_ok-drain_last_all.ensures.paid c.shut.ensures.shut

@@ -30,7 +30,7 @@ close-requires-clause-drained g c κs within =
     let p : Pipe = record { number = i.number; bound = i.bound; held = i.held; lines = i.lines; delivered = i.delivered } in
     let on = subst (λ o. KnowsPipe (known o) p) at_hand (subst (KnowsPipe (known c.args.self.now)) (sym c.pipe.view_is) c.requires.pipe) in
     let paid : p.delivered ≡ length p.lines = subst (λ (x : Pipe). x.delivered ≡ length x.lines) (sym c.pipe.view_is) c.requires.done in
-    all-drained (known (Some c.unwrap-pass.result)) p (subst (λ o. LegalBoard (known o).seen) at_hand c.requires.legal) on paid
+    all-drained c.board_laws.ensures (known (Some c.unwrap-pass.result)) p (subst (λ o. LegalBoard (known o).seen) at_hand c.requires.legal) on paid
 
 pub returns-clause-closed : goal.returns-clause-closed
 returns-clause-closed g c =

@@ -3,7 +3,7 @@ use Rattle.board.specs.declared.board_core.BoardErr.TheVariants.{Memory}
 use Rattle.dialogues.specs.BoardCalls.{Holds}
 use Rattle.dialogues.specs.Walk.{Pipe}
 use Rattle.session_calls.specs.Passes.{known}
-use Rattle.session_calls.specs.Pipelines.{KnowsPipe, Kept, Changed}
+use Rattle.session_calls.specs.Pipelines.{IsQueue, KnowsPipe, Kept, Changed}
 use Rattle.session_calls.proofs.BoardCalls.{hold-changed}
 use Rattle.session_calls.proofs.board_caller.BoardCaller.hold.Goals as goal
 
@@ -13,7 +13,8 @@ returns-clause-held g c =
     let i = c.pipe.inside in
     let p : Pipe = record { number = i.number; bound = i.bound; held = i.held; lines = i.lines; delivered = i.delivered } in
     let on = subst (λ o. KnowsPipe (known o) p) at_hand (subst (KnowsPipe (known c.args.self.now)) (sym c.pipe.view_is) c.requires.pipe) in
+    let queue = subst (λ (x : Pipe). IsQueue x.bound) (sym c.pipe.view_is) c.requires.queue in
     let after = known (Some c.hold-pass.result.0) in
     subst (λ o. MatchResult c.hold-pass.result.1 (λ _. Changed (known o) after c.args.pipe.now (record (c.args.pipe.now) { held = true }) (Holds c.args.pipe.now.number ∷ []) []) (λ e. (e ≡ Memory) × Kept (known o) after)) (sym at_hand)
     (subst (λ (p : Pipe). MatchResult c.hold-pass.result.1 (λ _. Changed (known (Some c.unwrap-pass.result)) after p (record p { held = true }) (Holds p.number ∷ []) []) (λ e. (e ≡ Memory) × Kept (known (Some c.unwrap-pass.result)) after)) c.pipe.view_is
-    (hold-changed c.board_laws.ensures (known (Some c.unwrap-pass.result)) after p c.hold-pass.result.1 on c.hold-pass.ensures.turn))
+    (hold-changed c.board_laws.ensures (known (Some c.unwrap-pass.result)) after p c.hold-pass.result.1 on queue c.hold-pass.ensures.turn))
