@@ -20,6 +20,9 @@ returns-in_ok-refuse-then-pipe-clause-held g c =
     (λ walk posted. request-unmanned walk c.args.line c.args.live.now c.in-Some.pipe.now _ c.args.backlog (sym c.in-Some.ensures) (sym (ap (λ (p : Pipe). p.unmanned) c.pipe-2.view_is) ∙ c.if-pipe.true))
     c.in_ok-refuse.ensures
 
+pub offer-requires-clause-manned : goal.offer-requires-clause-manned
+offer-requires-clause-manned g c = sym (ap (λ (p : Pipe). p.unmanned) c.pipe-2.view_is) ∙ c.if-pipe.false
+
 pub returns-in_ok-accept-in-Ok-InProgress-clause-held : goal.returns-in_ok-accept-in-Ok-InProgress-clause-held
 returns-in_ok-accept-in-Ok-InProgress-clause-held g c =
     let e = c.in-Ok-InProgress.ensures in
