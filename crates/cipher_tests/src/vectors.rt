@@ -3,8 +3,10 @@
 ghost use Rattle.std.specs.Prelude.{◌≡◌, true, IfOk};
 ghost use Rattle.transforms.specs.Plans.{fits_tag};
 
+use crate::segments::{in_one, in_three};
 use alg_names::parse_name;
 use kc_base::{Bytes, Errno};
+use sg_walk::Segs;
 use std::alloc::Global;
 use std::process::Abort;
 use std::sync::Arc;
@@ -278,8 +280,20 @@ fn bytes(alloc: Global, text: &str) -> Result<Bytes, Fail> {
     Ok(Bytes::from_vec(hex::decode(alloc, text)?))
 }
 
-/// A request by its words.
-fn request_of(alloc: Global, dir: &str, iv: &str, aad: &str, text: &str) -> Result<Request, Fail> {
+/// The text of a request, in one segment or in three.
+fn text_of(rt: &impl Abort, alloc: Global, text: &str, is_cut: bool) -> Result<Segs, Fail> {
+    let text = bytes(alloc, text)?;
+    let n = text.len();
+    assert!(rt; n < 1000);
+    if is_cut {
+        Ok(in_three(alloc, text.as_slice(), n / 3, n / 3 * 2)?)
+    } else {
+        Ok(in_one(alloc, text.as_slice())?)
+    }
+}
+
+/// A request by its words, and its text.
+fn request_of(alloc: Global, dir: &str, iv: &str, aad: &str, text: Segs) -> Result<Request, Fail> {
     let dir = match dir {
         "enc" => Dir::Enc,
         "dec" => Dir::Dec,
@@ -289,7 +303,7 @@ fn request_of(alloc: Global, dir: &str, iv: &str, aad: &str, text: &str) -> Resu
         dir,
         iv: bytes(alloc, iv)?,
         aad: bytes(alloc, aad)?,
-        text: bytes(alloc, text)?,
+        text,
     })
 }
 
@@ -380,19 +394,21 @@ fn words_of(alloc: Global, row: &'static str) -> Result<Vec<&'static str>, Fail>
     Ok(words)
 }
 
-/// Whether a row holds by these drivers of AES and GHASH.
+/// Whether a row holds by these drivers of AES and GHASH, with its text in one segment or cut.
 fn holds(
     rt: &impl Abort,
     alloc: Global,
     row: &'static str,
     aes: &str,
     ghash: &str,
+    is_cut: bool,
 ) -> Result<bool, Fail> {
     let words = words_of(alloc, row)?;
     let [driver, key, size, dir, iv, aad, text, want] = words.as_slice() else {
         return Ok(false);
     };
     let driver = in_form(alloc, driver, aes, ghash)?;
+    let text = text_of(rt, alloc, text, is_cut)?;
     let request = request_of(alloc, dir, iv, aad, text)?;
     let size = size.parse::<u32>().unwrap_or(1000);
     let given = outcome_of(rt, alloc, driver.as_str(), key, size, request)?;
@@ -407,7 +423,10 @@ fn requests_have_their_values_in_each_form(rt: HostRuntime) -> Result<(), Fail> 
             ("aes-table", "ghash-table"),
             ("aes-lanes", "ghash-generic"),
         ] {
-            assert!(rt; holds(&rt, rt.alloc(), row, aes, ghash)?, "{row} by {aes}");
+            for is_cut in [false, true] {
+                let right = holds(&rt, rt.alloc(), row, aes, ghash, is_cut)?;
+                assert!(rt; right, "{row} by {aes}, cut: {is_cut}");
+            }
         }
     }
     Ok(())
@@ -487,7 +506,8 @@ fn opens_to(
     want: &str,
 ) -> Result<bool, Fail> {
     let (driver, key, iv, aad) = row;
-    let request = request_of(alloc, "dec", iv, aad, sealed)?;
+    let text = text_of(rt, alloc, sealed, true)?;
+    let request = request_of(alloc, "dec", iv, aad, text)?;
     let opened = outcome_of(rt, alloc, driver, key, size, request)?;
     Ok(opened.as_str() == want)
 }

@@ -117,11 +117,16 @@ fn scripts_have_their_text(rt: HostRuntime) -> Result<(), Fail> {
 }
 
 // Worked scripts: for each its text. Bytes are those of the standards' test vectors, where nothing else is said.
-const WORKED: [(&str, &str); 16] = [
+const WORKED: [(&str, &str); 17] = [
     (
         // SP 800-38A, F.2.1
         "alloc c cbc(aes)\nkey c 2b7e151628aed2a6abf7158809cf4f3c\nenc c 000102030405060708090a0b0c0d0e0f - 6bc1bee22e409f96e93d7e117393172aae2d8a571e03ac9c9eb76fac45af8e51\nenc c 000102030405060708090a0b0c0d0e0f - 00112233445566778899aabbccddee\nenc c 000102030405060708090a0b0c0d0e0f - -\ndec c 000102030405060708090a0b0c0d0e0f - 7649abac8119b246cee98e9b12e9197d\n",
         "1 ok cbc(aes-generic)\n2 ok\n3 ok 7649abac8119b246cee98e9b12e9197d5086cb9b507219ee95db113a917678b2\n4 EINVAL\n5 ok -\n6 ok 6bc1bee22e409f96e93d7e117393172a\n",
+    ),
+    (
+        // its first block, cut
+        "alloc c cbc(aes)\nkey c 2b7e151628aed2a6abf7158809cf4f3c\nenc c 000102030405060708090a0b0c0d0e0f - 6bc1bee22e|409f96e93d7e1173|93172a\ndec c 000102030405060708090a0b0c0d0e0f - 76|49abac8119b246cee98e9b12e9197d\nenc c 000102030405060708090a0b0c0d0e0f - 00112233445566778899|aabbccddee\n",
+        "1 ok cbc(aes-generic)\n2 ok\n3 ok 7649abac8119b246cee98e9b12e9197d\n4 ok 6bc1bee22e409f96e93d7e117393172a\n5 EINVAL\n",
     ),
     (
         // SP 800-38A, F.5.1, of which the first bytes are sealed

@@ -4,8 +4,9 @@ use crate::texts::Texts;
 use kc_base::Bytes;
 use sg_walk::Segs;
 
-/// A command, with its arguments. Hexadecimal digits are decoded, each part of a text into a segment of its own. A label has 1 to 32 letters, digits, `-` or `_`; a
-/// name and a driver are any token; a number has 1 to 9 decimal digits, a mask four hexadecimal ones.
+/// A command, with its arguments. Hexadecimal digits are decoded, each part of a text into a segment of its own. A label has 1
+/// to 32 letters, digits, `-` or `_`; a name and a driver are any token; a number has 1 to 9 decimal digits, a mask four
+/// hexadecimal ones.
 #[derive(Debug, Drop)]
 pub enum Command {
     /// `aes KEY BLOCK`: the block sealed by AES under the key.
