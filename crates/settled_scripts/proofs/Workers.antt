@@ -1,5 +1,5 @@
 -- The plain pass of a settled line is the same for every number of workers.
-use Rattle.std.proofs.Common.{◌≡◌, ◌⊎◌, inl, inr, ℕ, ◌+◌, ◌-◌, ◌^◌, ◌%◌, ◌==◌, Bool, true, false, cond, not, ◌||◌, nat_le, nat_lt, List, [], ◌∷◌, ◌++◌, length, refl, sym, ap, ◌∙◌, arith, Option, Some, None, is_some}
+use Rattle.std.proofs.Common.{◌≡◌, ◌⊎◌, inl, inr, ℕ, ◌≢◌, ◌+◌, ◌-◌, ◌*◌, ◌/◌, ◌^◌, ◌%◌, ◌==◌, Bool, true, false, cond, not, ◌||◌, nat_le, nat_lt, List, [], ◌∷◌, ◌++◌, length, refl, sym, ap, ◌∙◌, arith, Option, Some, None, is_some}
 use Rattle.std.proofs.lemmas.Bool.{eq-eqb, eqb-true, or_cases, false_from_ne_true}
 use Rattle.std.proofs.lemmas.Bool.Decides.{nat_tests}
 use Rattle.std.proofs.lemmas.Nat.{mod-pow-add}
@@ -56,6 +56,9 @@ binds_same : (workers : ℕ) (walk : Walk) (n : ℕ) (label : List ℕ) (len : O
 binds_same workers walk n label len (Fault errno) registry pipelines = refl
 binds_same workers walk n label len (Entry id spec) registry pipelines = plan_same workers walk n label len id spec (plan_for spec len) registry pipelines
 
+odd_is_some : (q r : ℕ) → r ≡ 1 → q * 2 + r ≢ 0
+odd_is_some q r odd none = absurd (omega (arith, odd, none))
+
 -- what is kept of an empty mask, and of one with the first worker's bit, is empty beside all numbers of workers or beside none
 kept_same : (workers bits : ℕ) → (bits == 0 || bits % 2 == 1) ≡ true → (kept_bits workers bits == 0) ≡ (kept_bits 0 bits == 0)
 kept_same workers bits settled = by (or_cases (bits == 0) (bits % 2 == 1) settled)
@@ -73,10 +76,10 @@ kept_same workers bits settled = by (or_cases (bits == 0) (bits % 2 == 1) settle
     some : (w : ℕ) → bits % 2 ≡ 1 → (kept_bits w bits == 0) ≡ false
     some w e =
         let l = lists w in
-        let split = ap (λ k. bits % 2 ^ k) l.1 ∙ mod-pow-add bits l.0 1 in
-        false_from_ne_true (kept_bits w bits == 0) (λ h. absurd (let z = eqb-true (kept_bits w bits) 0 h in omega (arith, split, e, z)))
+        let split : kept_bits w bits ≡ (bits / 2 ^ 1 % 2 ^ l.0) * 2 ^ 1 + bits % 2 ^ 1 = ap (λ k. bits % 2 ^ k) l.1 ∙ mod-pow-add bits l.0 1 in
+        false_from_ne_true (kept_bits w bits == 0) (λ h. odd_is_some (bits / 2 % 2 ^ l.0) (bits % 2) e (sym split ∙ eqb-true (kept_bits w bits) 0 h))
 
-    by : (bits == 0 ≡ true) ⊎ (bits % 2 == 1 ≡ true) → (kept_bits workers bits == 0) ≡ (kept_bits 0 bits == 0)
+    by : ((bits == 0) ≡ true) ⊎ ((bits % 2 == 1) ≡ true) → (kept_bits workers bits == 0) ≡ (kept_bits 0 bits == 0)
     by (inl h) = let e = eqb-true bits 0 h in none workers e ∙ sym (none 0 e)
     by (inr h) = let e = eqb-true (bits % 2) 1 h in some workers e ∙ sym (some 0 e)
 
