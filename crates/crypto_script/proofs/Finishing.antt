@@ -20,6 +20,7 @@ use Rattle.board.specs.Staying.{is_work}
 use Rattle.crew.specs.declared.passes.Passes.{Passes}
 use Rattle.crew.specs.Both.{ArePassesOn, HaveNext, CrewedOnBoth}
 use Rattle.crew.specs.Crews.{Crewed, with_next}
+use Rattle.dialogues.specs.Allocating.{lists_beside}
 use Rattle.dialogues.specs.BoardCalls.{BoardCall, Shuts, board_calls, board_calls_from}
 use Rattle.dialogues.specs.RegistryCalls.{reg_calls}
 use Rattle.dialogues.specs.Texts.{IsText, IsFrontText}
@@ -27,7 +28,7 @@ use Rattle.dialogues.specs.Walk.{start}
 use Rattle.script_session.specs.Ending.{EndsShut}
 use Rattle.script_session.specs.Holding.{HasSeenMore}
 use Rattle.script_session.specs.Running.{IsReady}
-use Rattle.script_session.specs.States.{State, Stands, Posted}
+use Rattle.script_session.specs.States.{State, Stands, Posted, MadeWide}
 use Rattle.script_text.specs.declared.commands.Line.{Line}
 use Rattle.script_text.specs.Script.{script_of}
 use Rattle.script_text.specs.Whole.{whole_script}
@@ -83,6 +84,10 @@ empty-posted k = record {
   unshut = λ first. refl;
 }
 
+empty-wide : (lists : ℕ) (k : Known (BoardEntry Ask)) → MadeWide lists (empty k)
+unfolding empty
+empty-wide lists k p owns pad = absurd owns.0.1
+
 pub new-ready : {W : Type 0} (registry : SharedRegistry) (board : SharedBoard W Ask Finished) (workers : ℕ) (p : Passes Ask) (s : State) → ArePassesOn board registry p → AreNew p → workers ≤ 16
     → s ≡ record { workers = workers; walk = start 0; registry = Some p.registry; board = Some p.board } → IsReady registry board s
 new-ready registry board workers p s at new few is =
@@ -92,6 +97,7 @@ new-ready registry board workers p s at new few is =
       stands = subst (Stands []) (is-empty (knows p.registry) new.registry.0 new.registry.1 new.registry.2) (empty-stands (knows p.registry));
       posted = subst (Posted (start 0)) (is-empty (knows p.board) new.board.0 new.board.1 new.board.2) (empty-posted (knows p.board));
       few = few;
+      wide = subst (MadeWide (lists_beside workers)) (is-empty (knows p.board) new.board.0 new.board.1 new.board.2) (empty-wide (lists_beside workers) (knows p.board));
     })
 
 -- ---- the board is shut

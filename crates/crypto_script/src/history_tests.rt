@@ -17,12 +17,18 @@ struct Traced {
     trace: &'static str,
 }
 
-const TRACED: [Traced; 4] = [
+const TRACED: [Traced; 5] = [
     // three requests to a pad
     Traced {
         script: "alloc p pcrypt(gcm(aes))\nkey p 00000000000000000000000000000000\nenc p 000000000000000000000000 - 00\nenc p 000000000000000000000000 - 00\nenc p 000000000000000000000000 - 00\ndrain p\n",
         text: "1 ok pcrypt(gcm_base(ctr(aes-generic),ghash-generic))\n2 ok\n3 EINPROGRESS\n4 EINPROGRESS\n5 EINPROGRESS\n3 done 035bc76c6e04efc25ab6d301679e074c70\n4 done 035bc76c6e04efc25ab6d301679e074c70\n5 done 035bc76c6e04efc25ab6d301679e074c70\n6 drained 3\n",
         trace: "r 0 look pcrypt(gcm(aes)) any began 0\nr 0 claim 0\nr 0 look gcm(aes) plain began 1\nr 0 claim 1\nr 0 look ctr(aes) plain began 2\nr 0 claim 2\nr 0 look aes plain found 0\nr 0 end 2 built 3 ctr(aes) ctr(aes-generic) skcipher plain 100 0\nr 0 look ghash plain found 2\nr 0 end 1 built 4 gcm(aes) gcm_base(ctr(aes-generic),ghash-generic) aead plain 100 3,2\nr 0 end 0 built 5 gcm(aes) pcrypt(gcm_base(ctr(aes-generic),ghash-generic)) aead pcrypt 200 4\nr 0 get 5 ok\nb 0 born 0 pad 1\nb 0 submit 0 0 3\nb 0 submit 0 1 4\nb 0 submit 0 2 5\nb 0 take 0 0\nb 0 finish 0 0\nb 0 take 0 1\nb 0 finish 0 1\nb 0 take 0 2\nb 0 finish 0 2\nb 0 collect 0 3\nb 0 collect 0 3\nb 0 shut\n",
+    },
+    // a mask of workers that there aren't, and then a full one
+    Traced {
+        script: "alloc p pcrypt(gcm(aes))\nkey p 00000000000000000000000000000000\nenc p 000000000000000000000000 - 00\nmask p fffe\nenc p 000000000000000000000000 - 00\nmask p ffff\nenc p 000000000000000000000000 - 00\ndrain p\n",
+        text: "1 ok pcrypt(gcm_base(ctr(aes-generic),ghash-generic))\n2 ok\n3 EINPROGRESS\n4 ok\n5 EINVAL\n6 ok\n7 EINPROGRESS\n3 done 035bc76c6e04efc25ab6d301679e074c70\n7 done 035bc76c6e04efc25ab6d301679e074c70\n8 drained 2\n",
+        trace: "r 0 look pcrypt(gcm(aes)) any began 0\nr 0 claim 0\nr 0 look gcm(aes) plain began 1\nr 0 claim 1\nr 0 look ctr(aes) plain began 2\nr 0 claim 2\nr 0 look aes plain found 0\nr 0 end 2 built 3 ctr(aes) ctr(aes-generic) skcipher plain 100 0\nr 0 look ghash plain found 2\nr 0 end 1 built 4 gcm(aes) gcm_base(ctr(aes-generic),ghash-generic) aead plain 100 3,2\nr 0 end 0 built 5 gcm(aes) pcrypt(gcm_base(ctr(aes-generic),ghash-generic)) aead pcrypt 200 4\nr 0 get 5 ok\nb 0 born 0 pad 1\nb 0 submit 0 0 3\nb 0 mask 0 0000\nb 0 mask 0 0001\nb 0 submit 0 1 7\nb 0 take 0 0\nb 0 finish 0 0\nb 0 take 0 1\nb 0 finish 0 1\nb 0 collect 0 2\nb 0 collect 0 2\nb 0 shut\n",
     },
     // a queue of two that is held, with a third request in its backlog and a fourth that is refused
     Traced {
@@ -105,6 +111,29 @@ fn workers_build_what_was_asked_for_and_nothing_else(rt: HostRuntime) -> Result<
                 expect_building(&rt, entry);
             }
         }
+    }
+    Ok(())
+}
+
+#[test]
+fn a_worker_outside_the_mask_takes_nothing(rt: HostRuntime) -> Result<(), Fail> {
+    let alloc = rt.alloc();
+    let mut script = String::from_str(
+        alloc,
+        "alloc p pcrypt(gcm(aes))\nkey p 00000000000000000000000000000000\nmask p 0004\n",
+    )?;
+    for _ in 0..30 {
+        script.push_str("enc p 000000000000000000000000 - 00\n")?;
+    }
+    script.push_str("drain p\n")?;
+    let text = printed(&rt, alloc, 8, script.as_str())?;
+    assert!(&rt; text.contains("b 0 mask 0 0004\n"), "{text}");
+    for line in text.lines() {
+        // the script may take, and the third worker
+        assert!(&rt;
+            !line.contains(" take ") || line.starts_with("b 0 ") || line.starts_with("b 3 "),
+            "{line}"
+        );
     }
     Ok(())
 }

@@ -107,6 +107,33 @@ fn only_queues_are_held(rt: HostRuntime) -> Result<(), Fail> {
     Ok(())
 }
 
+#[test]
+fn a_mask_that_changes_leaves_what_was_accepted(rt: HostRuntime) -> Result<(), Fail> {
+    let alloc = rt.alloc();
+    let script = format!(in alloc;
+        "alloc p pcrypt(gcm(aes))\nkey p {ZEROS}\nenc p {NONCE} - {ZEROS}\nmask p 0000\nenc p {NONCE} - {ZEROS}\nmask p ffff\nenc p {NONCE} - {ZEROS}\ndrain p\nmask p 000\n"
+    )?;
+    let text = format!(in alloc;
+        "1 ok pcrypt({GCM_DRIVER})\n2 ok\n3 EINPROGRESS\n4 ok\n5 EINVAL\n6 ok\n7 EINPROGRESS\n3 done {SEALED}\n7 done {SEALED}\n8 drained 2\n9 malformed\n"
+    )?;
+    expect(&rt, alloc, script.as_str(), 1, text.as_str())?;
+    Ok(())
+}
+
+#[test]
+fn only_pads_are_masked(rt: HostRuntime) -> Result<(), Fail> {
+    let alloc = rt.alloc();
+    // a request that is faulty by itself is refused as such first; a key is asked for before that
+    let script = format!(in alloc;
+        "alloc g gcm(aes)\nmask g 0001\nalloc q cryptd(gcm(aes))\nmask q 0001\nmask x 0001\nalloc p pcrypt(gcm(aes))\nmask p 0000\nenc p {NONCE} - 00\nkey p {ZEROS}\nenc p 00 - 00\nenc p {NONCE} - 00\nfree p\n"
+    )?;
+    let text = format!(in alloc;
+        "1 ok {GCM_DRIVER}\n2 EINVAL\n3 ok cryptd({GCM_DRIVER})\n4 EINVAL\n5 ENOENT\n6 ok pcrypt({GCM_DRIVER})\n7 ok\n8 ENOKEY\n9 ok\n10 EINVAL\n11 EINVAL\n12 ok\n"
+    )?;
+    expect(&rt, alloc, script.as_str(), 0, text.as_str())?;
+    Ok(())
+}
+
 // The completions of a script's text, and how many its polls and drains say that they handed out.
 fn handed_out(alloc: Global, written: &str) -> Result<(String, u64), AllocError> {
     let mut completions = String::new(alloc);

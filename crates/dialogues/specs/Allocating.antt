@@ -36,7 +36,7 @@ bound_of (Chain max lists) = Some max
 
 -- the pipeline of this number, of which nothing was asked
 abbrev pub new_pipe : ℕ → Shape → Pipe
-new_pipe number shape = record { number = number; bound = bound_of shape; held = false; lines = []; delivered = 0 }
+new_pipe number shape = record { number = number; bound = bound_of shape; held = false; unmanned = false; lines = []; delivered = 0 }
 
 -- with no key yet, and the greatest tag size of its mode
 abbrev pub new_live : List ℕ → ℕ → Plan → Option Pipe → Live

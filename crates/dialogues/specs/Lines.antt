@@ -9,7 +9,7 @@ use Rattle.reply_text.specs.declared.answers.Answer.TheVariants as said
 use Rattle.dialogues.specs.Allocating.{alloc, free}
 use Rattle.dialogues.specs.Bulk.{bulk}
 use Rattle.dialogues.specs.Dialogues.{Dialogue, Ends, followed, says}
-use Rattle.dialogues.specs.Piping.{hold, go, poll, drain, end}
+use Rattle.dialogues.specs.Piping.{mask, hold, go, poll, drain, end}
 use Rattle.dialogues.specs.Probing.{probe}
 use Rattle.dialogues.specs.Registering.{register, unregister, refs, listed}
 use Rattle.dialogues.specs.Requesting.{aes, set_key, set_tag_size, request, request_of}
@@ -28,6 +28,7 @@ command_dialogue workers walk n (command.Enc label iv aad text backlog) = reques
 command_dialogue workers walk n (command.Dec label iv aad text backlog) = request walk n label (request_of dir.Dec iv aad text) backlog
 command_dialogue workers walk n (command.Mac label text backlog) = request walk n label (request_of dir.Mac [] [] text) backlog
 command_dialogue workers walk n (command.Bulk label size seed) = bulk walk n label size seed
+command_dialogue workers walk n (command.Mask label bits) = mask workers walk n label bits
 command_dialogue workers walk n (command.Hold label) = hold walk n label
 command_dialogue workers walk n (command.Go label) = go walk n label
 command_dialogue workers walk n (command.Poll label) = poll walk n label

@@ -1,12 +1,13 @@
--- The lines that ask pipelines alone, `hold`, `go`, `poll` and `drain`, and the end of input.
-use Rattle.std.specs.Prelude.{ℕ, ◌+◌, Bool, true, false, ◌==◌, if◌then◌else◌, List, [], ◌∷◌, ◌++◌, length, filter, map, Option, Some, None}
+-- The lines that ask pipelines alone, `mask`, `hold`, `go`, `poll` and `drain`, and the end of input.
+use Rattle.std.specs.Prelude.{ℕ, ◌+◌, ◌^◌, ◌%◌, Bool, true, false, ◌==◌, if◌then◌else◌, List, [], ◌∷◌, ◌++◌, length, filter, map, Option, Some, None}
 use Rattle.kc_base.specs.declared.error_numbers.Errno.TheVariants.{EINVAL, EBADMSG}
 use Rattle.transforms.specs.declared.request.Finished.{Finished}
 use Rattle.transforms.specs.declared.request.Finished.TheVariants.{Bytes, BadMsg, Invalid}
 use Rattle.reply_text.specs.declared.answers.Answer.{Answer}
 use Rattle.reply_text.specs.declared.answers.Answer.TheVariants as said
 use Rattle.dialogues.specs.BoardCalls.{Notice, Started, Completed}
-use Rattle.dialogues.specs.Questions.{Hold, Go, Poll, Drain, Shut}
+use Rattle.dialogues.specs.Allocating.{lists_beside}
+use Rattle.dialogues.specs.Questions.{Mask, Hold, Go, Poll, Drain, Shut}
 use Rattle.dialogues.specs.Dialogues.{Dialogue, Ends, Says, Posts, says, refuses, unless, with_label}
 use Rattle.dialogues.specs.Walk.{Walk, Live, Pipe, with_pipe}
 
@@ -28,6 +29,29 @@ is_completion (Completed line finished) = true
 -- how many completions are among these
 abbrev pub completions : List Notice → ℕ
 completions notices = length (filter is_completion notices)
+
+-- ---- `mask T MASK`
+
+-- only a pad is masked: one has no bound
+abbrev pub if_pad : Walk → ℕ → Option ℕ → Dialogue → Dialogue
+if_pad walk n None rest = rest
+if_pad walk n (Some max) rest = refuses walk n EINVAL
+
+abbrev pub with_pad : Walk → ℕ → Option Pipe → (Pipe → Dialogue) → Dialogue
+with_pad walk n None rest = refuses walk n EINVAL
+with_pad walk n (Some pipe) rest = if_pad walk n pipe.bound (rest pipe)
+
+-- the bits of the workers that there are
+abbrev pub kept_bits : ℕ → ℕ → ℕ
+kept_bits workers bits = bits % 2 ^ lists_beside workers
+
+abbrev pub masks : ℕ → Walk → ℕ → ℕ → Live → Pipe → Dialogue
+masks workers walk n bits live pipe =
+    Posts (Mask pipe.number (kept_bits workers bits)) λ done.
+    says (with_pipe walk live (record pipe { unmanned = kept_bits workers bits == 0 })) (said.Ok n)
+
+abbrev pub mask : ℕ → Walk → ℕ → List ℕ → ℕ → Dialogue
+mask workers walk n label bits = with_label walk n label λ live. with_pad walk n live.pipe (masks workers walk n bits live)
 
 -- ---- `hold T` and `go T`
 

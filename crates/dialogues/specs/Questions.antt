@@ -8,7 +8,7 @@ use Rattle.board.specs.declared.entry.Entered.{Entered}
 use Rattle.board.specs.declared.entry.Shape.{Shape}
 use Rattle.templates.specs.Looking.{Found}
 use Rattle.dialogues.specs.RegistryCalls.{RegCall, Enlists, Looks, Unlists, Gets, Puts, Counts, Lists}
-use Rattle.dialogues.specs.BoardCalls.{Asked, BoardCall, Creates, Submits, Enqueues, Holds, Goes, Collects, Closes, Shares, Shuts, Notice, Collected}
+use Rattle.dialogues.specs.BoardCalls.{Asked, BoardCall, Creates, Submits, Enqueues, Holds, Goes, Collects, Closes, Shares, Masks, Shuts, Notice, Collected}
 
 -- ---- what is asked, and what comes of it
 
@@ -62,6 +62,7 @@ pub data BoardQuestion : Type 0 where
   Drain : (pipe : ℕ) → BoardQuestion
   Close : (pipe : ℕ) → BoardQuestion
   Share : (pipe : ℕ) → BoardQuestion
+  Mask : (pipe : ℕ) → (bits : ℕ) → BoardQuestion
   Shut : BoardQuestion
 
 abbrev pub BoardAnswer : BoardQuestion → Type 0
@@ -74,6 +75,7 @@ BoardAnswer (Poll pipe) = Collected
 BoardAnswer (Drain pipe) = List Notice
 BoardAnswer (Close pipe) = Unit {0}
 BoardAnswer (Share pipe) = Unit {0}
+BoardAnswer (Mask pipe bits) = Unit {0}
 BoardAnswer Shut = Unit {0}
 
 abbrev pub board_call : (question : BoardQuestion) → BoardAnswer question → BoardCall
@@ -86,6 +88,7 @@ board_call (Poll pipe) collected = Collects pipe collected
 board_call (Drain pipe) notices = Collects pipe (record { notices = notices; all_done = true })
 board_call (Close pipe) done = Closes pipe
 board_call (Share pipe) done = Shares pipe
+board_call (Mask pipe bits) done = Masks pipe bits
 board_call Shut done = Shuts
 
 abbrev pub if_all_done : Collected → Bool → Option (List Notice)
@@ -102,5 +105,6 @@ board_answer (Poll pipe) (Collects of collected) = Some collected
 board_answer (Drain pipe) (Collects of collected) = if_all_done collected collected.all_done
 board_answer (Close pipe) (Closes of) = Some tt
 board_answer (Share pipe) (Shares of) = Some tt
+board_answer (Mask pipe bits) (Masks of others) = Some tt
 board_answer Shut Shuts = Some tt
 board_answer question call = None

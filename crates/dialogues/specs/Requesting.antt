@@ -88,11 +88,11 @@ hands_in walk n live pipe asked backlog None =
 hands_in walk n live pipe asked backlog (Some max) =
     Posts (Enqueue pipe.number asked backlog) λ answer. entered walk n live pipe asked.request answer
 
--- a transform without a pipeline answers at once
+-- A transform without a pipeline answers at once. One that no worker serves takes nothing.
 abbrev pub requests_in : Walk → ℕ → Live → Asked → Bool → Option Pipe → Dialogue
 requests_in walk n live asked backlog None = says walk (value_said n (value_of asked))
 requests_in walk n live asked backlog (Some pipe) =
-    unless walk n ((is_too_big walk asked.request, E2BIG) ∷ []) (hands_in walk n live pipe asked backlog pipe.bound)
+    unless walk n ((pipe.unmanned, EINVAL) ∷ (is_too_big walk asked.request, E2BIG) ∷ []) (hands_in walk n live pipe asked backlog pipe.bound)
 
 abbrev pub requests_under : Walk → ℕ → Live → Request → Bool → Option (List ℕ) → Dialogue
 requests_under walk n live request backlog None = refuses walk n ENOKEY

@@ -4,11 +4,13 @@ use Rattle.std.specs.Str.{bytes_eq}
 use Rattle.templates.specs.declared.driver_plans.Plan.{Plan}
 
 -- A pipeline: its number on the board; how many requests may wait in a queue before it is full (none for a pad); whether it is
--- held; the lines of the requests that it accepted; and how many of their completions it has handed out.
+-- held; whether no worker may take from it, which is so of a pad whose mask is empty; the lines of the requests that it accepted;
+-- and how many of their completions it has handed out.
 pub record Pipe : Type 0 where
   pub number : ℕ
   pub bound : Option ℕ
   pub held : Bool
+  pub unmanned : Bool
   pub lines : List ℕ
   pub delivered : ℕ
 

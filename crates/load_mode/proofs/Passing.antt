@@ -38,7 +38,7 @@ use Rattle.load_mode.proofs.Summing.{Summary, asked_more, summary}
 -- ---- the two transforms, and their pads
 
 abbrev pipe_at : ℕ → List ℕ → Pipe
-pipe_at number lines = record { number = number; bound = None; held = false; lines = lines; delivered = 0 }
+pipe_at number lines = record { number = number; bound = None; held = false; unmanned = false; lines = lines; delivered = 0 }
 
 abbrev live_a : ℕ → List ℕ → Live
 live_a id lines = record { label = label_of_a; id = id; plan = AuthencCbc AesGeneric; key = Some key_of_a; tag_size = 32; pipe = Some (pipe_at 0 lines) }

@@ -7,7 +7,7 @@ use Rattle.board.specs.Shapes.{is_chain}
 use Rattle.transforms.specs.Finish.{finished_of}
 use Rattle.dialogues.specs.Allocating.{bound_of}
 use Rattle.dialogues.specs.BoardCalls.{Asked, Notice, Started, Completed, BoardCall, Creates, Submits, Enqueues, Holds, Goes, Collects, Closes, Shares, Masks, Shuts}
-use Rattle.dialogues.specs.Questions.{BoardQuestion, BoardAnswer, Create, Submit, Enqueue, Hold, Go, Poll, Drain, Close, Share, Shut}
+use Rattle.dialogues.specs.Questions.{BoardQuestion, BoardAnswer, Create, Submit, Enqueue, Hold, Go, Poll, Drain, Close, Share, Mask, Shut}
 use Rattle.dialogues.specs.Requesting.{value_of}
 
 -- How many requests may wait in a queue before it is full, none for a pad; how many of the requests that it accepted were
@@ -74,6 +74,7 @@ reply_in pipelines (Poll pipe) = record { notices = []; all_done = false }
 reply_in pipelines (Drain pipe) = option_map_or drained_from (slice_get pipelines pipe) []
 reply_in pipelines (Close pipe) = tt
 reply_in pipelines (Share pipe) = tt
+reply_in pipelines (Mask pipe bits) = tt
 reply_in pipelines Shut = tt
 
 -- The answer doesn't depend on time.

@@ -28,6 +28,7 @@ use Rattle.script_session.specs.Holding.{HasSeenMore, SeesOn, Done, Holds, Stops
 use Rattle.script_session.proofs.Standing.{stands-more}
 use Rattle.session_calls.proofs.Boarding.{starts-same}
 use Rattle.script_session.proofs.Rules.{says-done, asks-done}
+use Rattle.script_session.proofs.Widths.{wide-same}
 
 -- ---- what a dialogue comes to
 
@@ -83,6 +84,7 @@ pub answer-holds : (d : Dialogue) (s s' : State) (answer : Answer) (answers answ
 answer-holds d s s' answer answers answers' is same_r same_b same_n stands posted e =
     record {
       locks = record { registry = ap lock_of same_r; board = ap lock_of same_b; workers = same_n };
+      wide = wide-same s s' same_n same_b;
       done = subst (λ x. Done x (known s.registry) (known s.board) (known s'.registry) (known s'.board) s'.walk answers answers') (sym is)
           (subst (λ r. Done (says s'.walk answer) (known s.registry) (known s.board) (known r) (known s'.board) s'.walk answers answers') (sym same_r)
           (subst (λ b. Done (says s'.walk answer) (known s.registry) (known s.board) (known s.registry) (known b) s'.walk answers answers') (sym same_b)
@@ -96,6 +98,7 @@ pub asking-holds : (d : Dialogue) (question : RegQuestion) (answer : RegAnswer q
 asking-holds d question answer said s s' answers answers' is stands posted asks same_w same_b same_n balanced e =
     record {
       locks = record { registry = asks.lock; board = ap lock_of same_b; workers = same_n };
+      wide = wide-same s s' same_n same_b;
       done = subst (λ x. Done x (known s.registry) (known s.board) (known s'.registry) (known s'.board) s'.walk answers answers') (sym is)
           (subst (λ w. Done (AsksFor question (λ a. says s.walk (said a))) (known s.registry) (known s.board) (known s'.registry) (known s'.board) w answers answers') (sym same_w)
           (subst (λ b. Done (AsksFor question (λ a. says s.walk (said a))) (known s.registry) (known s.board) (known s'.registry) (known b) s.walk answers answers') (sym same_b)
@@ -111,6 +114,7 @@ pub listing-holds : (d : Dialogue) (rows : List ListRow) (said : List ListRow �
 listing-holds d rows said s s' answers answers' is stands posted asks same_w same_b same_n e =
     record {
       locks = record { registry = asks.lock; board = ap lock_of same_b; workers = same_n };
+      wide = wide-same s s' same_n same_b;
       done = subst (λ x. Done x (known s.registry) (known s.board) (known s'.registry) (known s'.board) s'.walk answers answers') (sym is)
           (subst (λ w. Done (AsksFor ListAll (λ a. Says (said a) (Ends s.walk))) (known s.registry) (known s.board) (known s'.registry) (known s'.board) w answers answers') (sym same_w)
           (subst (λ b. Done (AsksFor ListAll (λ a. Says (said a) (Ends s.walk))) (known s.registry) (known s.board) (known s'.registry) (known b) s.walk answers answers') (sym same_b)

@@ -59,6 +59,7 @@ nothing-holds s answers stands posted =
         stands = stands;
         posted = posted;
       };
+      wide = λ wide. wide;
     }
 
 -- what was held is a stop where its text found no memory
@@ -87,4 +88,4 @@ replies {width} d s s' answers text text' held e =
 
 pub ready : {W : Type 0} {width : ℕ} (registry : SharedRegistry) (board : SharedBoard W Ask Finished) (d : Dialogue) (s s' : State) (answers answers' : List Answer) → IsReady registry board s → HoldsBy width d s s' answers answers' → IsReady registry board s'
 ready {W} {width} registry board d s s' answers answers' is held =
-    record { calls_registry = held.locks.registry ∙ is.calls_registry; calls_board = held.locks.board ∙ is.calls_board; stands = held.done.stands; posted = held.done.posted; few = subst (λ w. w ≤ 16) (sym held.locks.workers) is.few }
+    record { calls_registry = held.locks.registry ∙ is.calls_registry; calls_board = held.locks.board ∙ is.calls_board; stands = held.done.stands; posted = held.done.posted; few = subst (λ w. w ≤ 16) (sym held.locks.workers) is.few; wide = held.wide is.wide }

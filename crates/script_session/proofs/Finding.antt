@@ -31,6 +31,7 @@ use Rattle.script_session.proofs.Arms.{viewed, sees-same, called-sees}
 use Rattle.script_session.proofs.Creating.{created-posted}
 use Rattle.script_session.proofs.Rules.{says-done, asks-done, posts-done, asked-more}
 use Rattle.script_session.proofs.Standing.{stands-more}
+use Rattle.script_session.proofs.Widths.{wide-created}
 
 -- ---- a dialogue that takes an entry into use
 
@@ -157,6 +158,7 @@ module _ {ws c : ℕ} {lives : List Live} {q v : ℕ} {r : Option RegPass} {b : 
         there,
         record {
           locks = record { registry = got.lock ∙ origin.lock; board = lock; workers = refl };
+          wide = wide-created ws spec.wrap len pipe (known b) (known b') created;
           done = subst (λ ls. Done d (known r) (known b) (known r2) (known b') (record { client = c; lives = ls; requests = q; bytes = v }) answers answers') (sym more)
               (asked-none-done d (known r) (known r') (known r2) (known b) (known b') (and_live from.walk (new_live label id plan pipe)) answers answers' origin.asked
               (bind-done ws from.walk n label len id spec plan pipe (known r') (known r2) (known b) (known b') answers answers' plans got.asked created
@@ -178,6 +180,7 @@ module _ {ws c : ℕ} {lives : List Live} {q v : ℕ} {r : Option RegPass} {b : 
         there,
         record {
           locks = record { registry = got.lock ∙ origin.lock; board = refl; workers = refl };
+          wide = λ wide. wide;
           done = asked-none-done d (known r) (known r') (known r2) (known b) (known b) from.walk answers answers' origin.asked
               (bind-lost ws from.walk n label len id spec plan (known r') (known r2) (known b) answers answers' plans got.asked
               (stands-more lives lives (known r) (known r') [] stands0 origin.asked (λ other. refl)) posted0 e);
@@ -198,6 +201,7 @@ module _ {ws c : ℕ} {lives : List Live} {q v : ℕ} {r : Option RegPass} {b : 
         there,
         record {
           locks = record { registry = origin.lock; board = refl; workers = refl };
+          wide = λ wide. wide;
           done = asked-none-done d (known r) (known r') (known r') (known b) (known b) from.walk answers answers' origin.asked
               (subst (λ p. Done (binds_plan ws from.walk n label len id spec p) (known r') (known b) (known r') (known b) from.walk answers answers') (sym plans)
               (says-done (known r') (known b) from.walk (said.Refused n EINVAL ∷ []) answers answers' (stands-more lives lives (known r) (known r') [] stands0 origin.asked (λ other. refl)) posted0 e));
@@ -223,6 +227,7 @@ module _ {ws c : ℕ} {lives : List Live} {q v : ℕ} {r : Option RegPass} {b : 
       subst (λ (x : State). Holds (looks x.workers x.walk n label text len) x s' answers answers') view
       (record {
         locks = record { registry = held.locks.registry ∙ found.1.lock; board = held.locks.board; workers = held.locks.workers };
+        wide = held.wide;
         done = asks-done (known r) (known r') (known s'.registry) (known b) (known s'.board) (Look text) (Entry id spec) (λ f. binds ws from.walk n label len f) s'.walk answers answers' found.1.asked
             (subst (λ sp. Done (binds ws from.walk n label len (Entry id sp)) (known r') (known b) (known s'.registry) (known s'.board) s'.walk answers answers') same held.done);
       })
@@ -242,6 +247,7 @@ module _ {ws c : ℕ} {lives : List Live} {q v : ℕ} {r : Option RegPass} {b : 
       subst (λ (x : State). Stands x.walk.lives (known x.registry) → Posted x.walk (known x.board) → Holds (looks x.workers x.walk n label text len) x to answers answers') view
       (λ stands0 posted0. record {
         locks = record { registry = found.lock; board = refl; workers = refl };
+        wide = λ wide. wide;
         done = asks-done (known r) (known r') (known r') (known b) (known b) (Look text) (Fault errno) (λ f. binds ws from.walk n label len f) from.walk answers answers' found.asked
             (says-done (known r') (known b) from.walk (said.Refused n errno ∷ []) answers answers' (stands-more lives lives (known r) (known r') (Looks text (Some (Fault errno)) ∷ []) stands0 found.asked (λ other. refl)) posted0 e);
       }) stands posted

@@ -3,19 +3,20 @@ use Rattle.std.proofs.Common.{◌≡◌, ℕ, false, List, [], ◌∷◌, ◌++�
 use Rattle.std.specs.List.{remove}
 use Rattle.reply_text.specs.declared.answers.Answer.{Answer}
 use Rattle.reply_text.specs.declared.answers.Answer.TheVariants as said
-use Rattle.dialogues.specs.Allocating.{free}
+use Rattle.dialogues.specs.Allocating.{free, lists_beside}
 use Rattle.dialogues.specs.RegistryCalls.{Puts}
 use Rattle.dialogues.specs.Walk.{Walk, Live, without, removed}
 use Rattle.session_calls.specs.Asking.{Asks}
 use Rattle.session_calls.specs.Passes.{RegPass, BoardPass, known, lock_of}
 use Rattle.script_session.specs.Changing.{owes, Released}
 use Rattle.script_session.specs.Holding.{Done, Holds}
-use Rattle.script_session.specs.States.{State, Stands, Posted}
+use Rattle.script_session.specs.States.{State, Stands, Posted, MadeWide}
 use Rattle.script_session.proofs.Arms.{viewed}
 use Rattle.script_session.proofs.Changing.{label-of, released-posted}
 use Rattle.script_session.proofs.Freeing.{free-done}
 use Rattle.script_session.proofs.Placed.{Split, split-remove, uses-removed}
 use Rattle.script_session.proofs.Standing.{stands-more}
+use Rattle.script_session.proofs.Widths.{wide-released}
 
 module _ {ws c : ℕ} {items items' : List Live} {q v : ℕ} {r r' : Option RegPass} {b b' : Option BoardPass} (s : State) (view : viewed ws c items q v r b ≡ s) (label : List ℕ) (place : ℕ) (at : Split label s.walk.lives 0 place) where
   free-at : (n : ℕ) (answers answers' : List Answer) → items' ≡ remove items place → lock_of b' ≡ lock_of b → Released at.live (known b) (known b') → Asks r r' (Puts at.live.id ∷ []) → owes at.live.pipe ≡ false
@@ -32,6 +33,7 @@ module _ {ws c : ℕ} {items items' : List Live} {q v : ℕ} {r r' : Option RegP
       (λ id. let u = uses-removed label s.walk.lives place id at in omega (arith, u)) in
       record {
         locks = record { registry = asks'.lock; board = lock ∙ ap (λ (x : State). lock_of x.board) view; workers = ap (λ (x : State). x.workers) view };
+        wide = λ wide. subst (λ n. MadeWide (lists_beside n) (known b')) (sym (ap (λ (x : State). x.workers) view)) (wide-released (lists_beside s.workers) at.live (known s.board) (known b') released' wide);
         done = subst (λ w. Done (free s.walk n label) (known s.registry) (known s.board) (known r') (known b') w answers answers') (sym walk_is)
             (free-done s.walk n label at.live (known s.registry) (known r') (known s.board) (known b') answers answers' at.found (label-of label s.walk.lives place at) paid posted.legal released' asks'.asked left
             (released-posted s.walk label place at (known s.board) (known b') posted released') e);

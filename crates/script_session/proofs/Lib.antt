@@ -11,6 +11,7 @@ pub mod Living
 pub mod Requests
 pub mod Frees
 pub mod Creating
+pub mod Widths
 pub mod Finding
 pub mod Searches
 pub mod Probed

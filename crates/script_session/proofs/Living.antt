@@ -9,15 +9,17 @@ use Rattle.reply_text.specs.declared.answers.Answer.{Answer}
 use Rattle.transforms.specs.declared.ask.Ask.{Ask}
 use Rattle.transforms.specs.AskValue.{ask_size}
 use Rattle.turn_lock.specs.Turns.{Known}
+use Rattle.dialogues.specs.Allocating.{lists_beside}
 use Rattle.dialogues.specs.Dialogues.{Dialogue, with_label}
 use Rattle.dialogues.specs.Walk.{Walk, Live, is_of, live_of, with_live, replaced}
-use Rattle.script_session.specs.States.{State, counted, HasPipe, Posted, Stands}
+use Rattle.script_session.specs.States.{State, counted, HasPipe, Posted, Stands, MadeWide}
 use Rattle.session_calls.specs.Passes.{RegPass, BoardPass, known, lock_of}
 use Rattle.script_session.specs.Changing.{HoldsFor, counting, asks_if}
 use Rattle.script_session.specs.Holding.{HasSeenMore, SeesOn, Done, Holds, Stops}
 use Rattle.script_session.proofs.Arms.{viewed}
 use Rattle.script_session.proofs.Changing.{IsOn, All-right, replaced-at, live-done}
 use Rattle.script_session.proofs.Placed.{Split, split-at, none-at, split-set, split-within, split-live}
+use Rattle.script_session.proofs.Widths.{wide-changes}
 use Rattle.session_calls.proofs.Boarding.{starts-same}
 
 -- a transform of the walk has its pipeline on the board
@@ -63,6 +65,9 @@ module _ {ws c : ℕ} {items : List Live} {q v : ℕ} {r : Option RegPass} {b : 
       ∙ ap (λ (x : State). let y : Walk = record { client = x.walk.client; lives = replaced new s.walk.lives; requests = x.walk.requests + length asks; bytes = x.walk.bytes + sum_by ask_size asks } in y) view)) in
       record {
         locks = record { registry = ap (λ (x : State). lock_of x.registry) view; board = lock ∙ ap (λ (x : State). lock_of x.board) view; workers = ap (λ (x : State). x.workers) view };
+        wide = λ wide.
+            subst (λ n. MadeWide (lists_beside n) (known b')) (sym (ap (λ (x : State). x.workers) view))
+            (wide-changes (lists_beside s.workers) split.live new (known s.board) (known b') there.calls asks (rests-at s.walk label place (known s.board) split posted) there.changes wide);
         done = subst (λ x. Done (with_label s.walk n label (rest s.walk)) (known s.registry) (known s.board) (known r) (known b') x answers answers') (sym walk_is)
             (subst (λ (x : State). Done (with_label s.walk n label (rest s.walk)) (known s.registry) (known s.board) (known x.registry) (known b') (counting (with_live s.walk new) asks) answers answers') (sym view) done);
       }

@@ -1,6 +1,6 @@
 -- What lines do with the pipeline of one transform.
 use Rattle.std.proofs.Common.{◌≡◌, ◌⊎◌, inl, inr, ℕ, suc, ◌+◌, ◌^◌, ◌<◌, ◌≤◌, Bool, true, false, cond, List, [], ◌∷◌, ◌++◌, length, map, Option, Some, None, refl, sym, ap, subst, ◌∙◌, append-nil, add-zero, zero-add, arith}
-use Rattle.std.specs.Prelude.{is_some, find, if◌then◌else◌, ◌||◌, nat_le, nat_lt, not}
+use Rattle.std.specs.Prelude.{◌==◌, is_some, find, if◌then◌else◌, ◌||◌, nat_le, nat_lt, not}
 use Rattle.std.specs.Option.{option_map}
 use Rattle.kc_base.specs.Handed.{Handed}
 use Rattle.kc_base.specs.declared.callback_list.Callback.{Callback}
@@ -22,18 +22,18 @@ use Rattle.board.specs.Allowance.{IsAllowed}
 use Rattle.board.specs.declared.entry.Entered.{Entered}
 use Rattle.board.specs.declared.entry.Entered.TheVariants.{InProgress, Busy, NoSpace}
 use Rattle.transforms.specs.AskValue.{ask_size}
-use Rattle.dialogues.specs.BoardCalls.{Asked, asked_by, Collects, Submits, Enqueues, BoardCall}
+use Rattle.dialogues.specs.BoardCalls.{Asked, asked_by, Collects, Submits, Enqueues, Masks, BoardCall}
 use Rattle.dialogues.specs.Requesting.{value_said, requests_in, hands_in, is_too_big, accepting, value_of}
-use Rattle.script_session.specs.Keyed.{sizes_live, held_as, keys_live, delivering, with_line, MayDeliver}
+use Rattle.script_session.specs.Keyed.{sizes_live, manned_as, held_as, masks_in, keys_live, delivering, with_line, MayDeliver}
 use Rattle.script_session.specs.Offering.{IsAnswerOf, Offered, offer_call, entered_said}
-use Rattle.session_calls.specs.Pipelines.{IsQueue, Polled, entered_pipe, entered_asks, with_ask, line_of, Kept, Changed, notice_by, Drained}
+use Rattle.session_calls.specs.Pipelines.{IsPad, IsQueue, Polled, entered_pipe, entered_asks, with_ask, line_of, Kept, Changed, notice_by, Drained}
 use Rattle.transforms.specs.Plans.{takes_key, takes_tag}
 use Rattle.transforms.specs.declared.tfm_err.TfmErr.{TfmErr}
 use Rattle.transforms.specs.declared.tfm_err.TfmErr.TheVariants.{Inval, Memory as OfMemory}
 use Rattle.script_session.specs.Telling.{callback_said}
 use Rattle.dialogues.specs.Dialogues.{Dialogue, says, refuses, Posts}
 use Rattle.dialogues.specs.Questions.{Drain}
-use Rattle.dialogues.specs.Piping.{with_queue, if_queue, polls_in, notice_said, tells, drains_in, completions as completed_in}
+use Rattle.dialogues.specs.Piping.{masks, kept_bits, with_pad, if_pad, with_queue, if_queue, polls_in, notice_said, tells, drains_in, completions as completed_in}
 use Rattle.dialogues.specs.Turns.{Turn, IsTurn}
 use Rattle.dialogues.specs.Walk.{Walk, Live, Pipe, is_of, live_of, with_live, with_pipe, replaced}
 use Rattle.script_session.specs.States.{HasPipe, Posted, is_at}
@@ -176,13 +176,24 @@ big walk k ask posted never =
 abbrev if_big : Walk → ℕ → Live → Pipe → Asked → Bool → Bool → Dialogue
 if_big walk n live pipe asked backlog test = if test then refuses walk n E2BIG else hands_in walk n live pipe asked backlog pipe.bound
 
-pub request-big : (walk : Walk) (k : Known (BoardEntry Ask)) (n : ℕ) (live : Live) (pipe : Pipe) (ask : Ask) (backlog : Bool) → live.pipe ≡ Some pipe → (IsAllowed ask_size k.seen k.number ask → ⊥) → Posted walk k
-    → requests_in walk n live (asked_by ask) backlog live.pipe ≡ refuses walk n E2BIG
-request-big walk k n live pipe ask backlog has never posted = ap (requests_in walk n live (asked_by ask) backlog) has ∙ ap (if_big walk n live pipe (asked_by ask) backlog) (big walk k ask posted never)
+abbrev if_unmanned : Walk → ℕ → Live → Pipe → Asked → Bool → Bool → Dialogue
+if_unmanned walk n live pipe asked backlog unmanned = if unmanned then refuses walk n EINVAL else if_big walk n live pipe asked backlog (is_too_big walk asked.request)
 
-request-enters : (walk : Walk) (k : Known (BoardEntry Ask)) (n : ℕ) (live : Live) (pipe : Pipe) (ask : Ask) (backlog : Bool) → live.pipe ≡ Some pipe → IsAllowed ask_size k.seen k.number ask → Posted walk k
+-- no worker may take from the pipeline
+pub request-unmanned : (walk : Walk) (n : ℕ) (live : Live) (pipe : Pipe) (asked : Asked) (backlog : Bool) → live.pipe ≡ Some pipe → pipe.unmanned ≡ true → requests_in walk n live asked backlog live.pipe ≡ refuses walk n EINVAL
+request-unmanned walk n live pipe asked backlog has unmanned = ap (requests_in walk n live asked backlog) has ∙ ap (if_unmanned walk n live pipe asked backlog) unmanned
+
+request-manned : (walk : Walk) (n : ℕ) (live : Live) (pipe : Pipe) (asked : Asked) (backlog : Bool) → live.pipe ≡ Some pipe → pipe.unmanned ≡ false
+    → requests_in walk n live asked backlog live.pipe ≡ if_big walk n live pipe asked backlog (is_too_big walk asked.request)
+request-manned walk n live pipe asked backlog has manned = ap (requests_in walk n live asked backlog) has ∙ ap (if_unmanned walk n live pipe asked backlog) manned
+
+pub request-big : (walk : Walk) (k : Known (BoardEntry Ask)) (n : ℕ) (live : Live) (pipe : Pipe) (ask : Ask) (backlog : Bool) → live.pipe ≡ Some pipe → pipe.unmanned ≡ false → (IsAllowed ask_size k.seen k.number ask → ⊥) → Posted walk k
+    → requests_in walk n live (asked_by ask) backlog live.pipe ≡ refuses walk n E2BIG
+request-big walk k n live pipe ask backlog has manned never posted = request-manned walk n live pipe (asked_by ask) backlog has manned ∙ ap (if_big walk n live pipe (asked_by ask) backlog) (big walk k ask posted never)
+
+request-enters : (walk : Walk) (k : Known (BoardEntry Ask)) (n : ℕ) (live : Live) (pipe : Pipe) (ask : Ask) (backlog : Bool) → live.pipe ≡ Some pipe → pipe.unmanned ≡ false → IsAllowed ask_size k.seen k.number ask → Posted walk k
     → requests_in walk n live (asked_by ask) backlog live.pipe ≡ hands_in walk n live pipe (asked_by ask) backlog pipe.bound
-request-enters walk k n live pipe ask backlog has allowed posted = ap (requests_in walk n live (asked_by ask) backlog) has ∙ ap (if_big walk n live pipe (asked_by ask) backlog) (not-big walk k ask posted allowed)
+request-enters walk k n live pipe ask backlog has manned allowed posted = request-manned walk n live pipe (asked_by ask) backlog has manned ∙ ap (if_big walk n live pipe (asked_by ask) backlog) (not-big walk k ask posted allowed)
 
 counting-one : (walk : Walk) (ask : Ask) → record walk { requests = walk.requests + 1; bytes = walk.bytes + ask_size ask } ≡ counting walk (ask ∷ [])
 counting-one walk ask = ap (λ n. record walk { requests = walk.requests + 1; bytes = walk.bytes + n }) (sym (zero-add (ask_size ask)))
@@ -209,16 +220,16 @@ enters-is walk n live pipe ask backlog (Busy number) None ok line found has = ab
 enters-is walk n live pipe ask backlog NoSpace None ok line found has = absurd ok
 
 pub request-holds : (k l : Known (BoardEntry Ask)) (live live' : Live) (pipe : Pipe) (n : ℕ) (ask : Ask) (backlog : Bool) (answer : Entered) (answers answers' : List Answer)
-    → live.pipe ≡ Some pipe → Offered k l pipe ask backlog answer → IsAllowed ask_size k.seen k.number ask → line_of ask ≡ n → live' ≡ record live { pipe = Some (entered_pipe pipe ask answer) } → answers' ≡ answers ++ entered_said n answer ∷ []
+    → live.pipe ≡ Some pipe → pipe.unmanned ≡ false → Offered k l pipe ask backlog answer → IsAllowed ask_size k.seen k.number ask → line_of ask ≡ n → live' ≡ record live { pipe = Some (entered_pipe pipe ask answer) } → answers' ≡ answers ++ entered_said n answer ∷ []
     → HoldsFor (λ walk. requests_in walk n live (asked_by ask) backlog live.pipe) live live' k l (entered_asks ask answer) answers answers'
-request-holds k l live live' pipe n ask backlog answer answers answers' has offered allowed line live_is e =
+request-holds k l live live' pipe n ask backlog answer answers answers' has manned offered allowed line live_is e =
     let new : Live = record live { pipe = Some (entered_pipe pipe ask answer) } in
     subst (λ x. HoldsFor (λ walk. requests_in walk n live (asked_by ask) backlog live.pipe) live x k l (entered_asks ask answer) answers answers') (sym live_is) (record {
       calls = offer_call pipe ask backlog answer pipe.bound ∷ [];
       said = entered_said n answer ∷ [];
       changes = changes-pipe live k l pipe (entered_pipe pipe ask answer) (offer_call pipe ask backlog answer pipe.bound ∷ []) (entered_asks ask answer) has offered.1;
       is = λ walk found posted.
-          subst (λ d. IsTurn d (turn_with (offer_call pipe ask backlog answer pipe.bound) (entered_said n answer) (counting (with_live walk new) (entered_asks ask answer)))) (sym (request-enters walk k n live pipe ask backlog has allowed posted))
+          subst (λ d. IsTurn d (turn_with (offer_call pipe ask backlog answer pipe.bound) (entered_said n answer) (counting (with_live walk new) (entered_asks ask answer)))) (sym (request-enters walk k n live pipe ask backlog has manned allowed posted))
           (enters-is walk n live pipe ask backlog answer pipe.bound offered.0 line found has);
       says = e;
     })
@@ -315,25 +326,63 @@ queue-bound : (walk : Walk) (n : ℕ) (live : Live) (pipe : Pipe) (bound : Optio
 queue-bound walk n live pipe None rest has is queue = absurd queue
 queue-bound walk n live pipe (Some max) rest has is queue = ap (λ o. with_queue walk n o rest) has ∙ ap (λ o. if_queue walk n o (rest pipe)) is
 
--- a call on the queue of a transform, and then an answer
+-- a call on the pipeline of a transform, and then an answer
+call-holds : (k l : Known (BoardEntry Ask)) (live live' : Live) (pipe pipe' : Pipe) (n : ℕ) (call : BoardCall) (d rest : Walk → Dialogue) (answers answers' : List Answer)
+    → live.pipe ≡ Some pipe → ((walk : Walk) → d walk ≡ rest walk) → Changed k l pipe pipe' (call ∷ []) []
+    → ((walk : Walk) → IsTurn (rest walk) (record { registry = []; board = call ∷ []; answers = said.Ok n ∷ []; after = Some (with_pipe walk live pipe') }))
+    → live' ≡ record live { pipe = Some pipe' } → answers' ≡ answers ++ said.Ok n ∷ [] → HoldsFor d live live' k l [] answers answers'
+call-holds k l live live' pipe pipe' n call d rest answers answers' has opens changed turns live_is e =
+    let new : Live = record live { pipe = Some pipe' } in
+    subst (λ x. HoldsFor d live x k l [] answers answers') (sym live_is) (record {
+      calls = call ∷ [];
+      said = said.Ok n ∷ [];
+      changes = changes-pipe live k l pipe pipe' (call ∷ []) [] has changed;
+      is = λ walk found posted.
+          subst (λ x. IsTurn x (record { registry = []; board = call ∷ []; answers = said.Ok n ∷ []; after = Some (counting (with_live walk new) []) })) (sym (opens walk))
+          (subst (λ w. IsTurn (rest walk) (record { registry = []; board = call ∷ []; answers = said.Ok n ∷ []; after = Some w })) (sym (counting-none (with_live walk new))) (turns walk));
+      says = e;
+    })
+
 pub switch-holds : (k l : Known (BoardEntry Ask)) (live live' : Live) (pipe pipe' : Pipe) (n : ℕ) (call : BoardCall) (rest : Walk → Pipe → Dialogue) (answers answers' : List Answer)
     → live.pipe ≡ Some pipe → IsQueue pipe.bound → Changed k l pipe pipe' (call ∷ []) []
     → ((walk : Walk) → IsTurn (rest walk pipe) (record { registry = []; board = call ∷ []; answers = said.Ok n ∷ []; after = Some (with_pipe walk live pipe') }))
     → live' ≡ record live { pipe = Some pipe' } → answers' ≡ answers ++ said.Ok n ∷ [] → HoldsFor (λ walk. with_queue walk n live.pipe (rest walk)) live live' k l [] answers answers'
 switch-holds k l live live' pipe pipe' n call rest answers answers' has queue changed turns live_is e =
-    let new : Live = record live { pipe = Some pipe' } in
-    subst (λ x. HoldsFor (λ walk. with_queue walk n live.pipe (rest walk)) live x k l [] answers answers') (sym live_is) (record {
-      calls = call ∷ [];
-      said = said.Ok n ∷ [];
-      changes = changes-pipe live k l pipe pipe' (call ∷ []) [] has changed;
-      is = λ walk found posted.
-          subst (λ d. IsTurn d (record { registry = []; board = call ∷ []; answers = said.Ok n ∷ []; after = Some (counting (with_live walk new) []) })) (sym (queue-bound walk n live pipe pipe.bound (rest walk) has refl queue))
-          (subst (λ w. IsTurn (rest walk pipe) (record { registry = []; board = call ∷ []; answers = said.Ok n ∷ []; after = Some w })) (sym (counting-none (with_live walk new))) (turns walk));
-      says = e;
-    })
+    call-holds k l live live' pipe pipe' n call (λ walk. with_queue walk n live.pipe (rest walk)) (λ walk. rest walk pipe) answers answers' has
+    (λ walk. queue-bound walk n live pipe pipe.bound (rest walk) has refl queue) changed turns live_is e
 
 pub held-live : (live live' : Live) (pipe : Pipe) (held : Bool) → live.pipe ≡ Some pipe → live' ≡ held_as live held → live' ≡ record live { pipe = Some (record pipe { held = held }) }
 held-live live live' pipe held has is = is ∙ ap (λ o. record live { pipe = option_map (λ (p : Pipe). record p { held = held }) o }) has
+
+-- ---- `mask T MASK`
+
+-- only a pad is masked
+pub pad-none : (walk : Walk) (n : ℕ) (live : Live) (rest : Pipe → Dialogue) → live.pipe ≡ None → with_pad walk n live.pipe rest ≡ refuses walk n EINVAL
+pad-none walk n live rest none = ap (λ o. with_pad walk n o rest) none
+
+pub pad-queue : (walk : Walk) (n : ℕ) (live : Live) (pipe : Pipe) (rest : Pipe → Dialogue) → live.pipe ≡ Some pipe → is_some pipe.bound ≡ true → with_pad walk n live.pipe rest ≡ refuses walk n EINVAL
+pad-queue walk n live pipe rest has some = ap (λ o. with_pad walk n o rest) has ∙ by_bound pipe.bound some
+  where
+    by_bound : (bound : Option ℕ) → is_some bound ≡ true → if_pad walk n bound (rest pipe) ≡ refuses walk n EINVAL
+    by_bound None e = absurd cc
+    by_bound (Some max) e = refl
+
+pub pad-of : (o : Option ℕ) → is_some o ≡ false → IsPad o
+pad-of None e = tt
+pad-of (Some n) e = absurd cc
+
+pub mask-holds : (k l : Known (BoardEntry Ask)) (live live' : Live) (pipe : Pipe) (workers n bits kept : ℕ) (answers answers' : List Answer)
+    → live.pipe ≡ Some pipe → is_some pipe.bound ≡ false → kept ≡ kept_bits workers bits → Changed k l pipe (record pipe { unmanned = kept == 0 }) (Masks pipe.number kept ∷ []) []
+    → live' ≡ record live { pipe = Some (record pipe { unmanned = kept == 0 }) } → answers' ≡ answers ++ said.Ok n ∷ [] → HoldsFor (λ walk. masks_in workers walk n bits live) live live' k l [] answers answers'
+mask-holds k l live live' pipe workers n bits kept answers answers' has none is changed live_is e =
+    call-holds k l live live' pipe (record pipe { unmanned = kept == 0 }) n (Masks pipe.number kept) (λ walk. masks_in workers walk n bits live) (λ walk. masks workers walk n bits live pipe) answers answers' has
+    (λ walk. ap (λ o. with_pad walk n o (masks workers walk n bits live)) has ∙ ap (λ o. if_pad walk n o (masks workers walk n bits live pipe)) (none-of pipe.bound none))
+    changed
+    (λ walk. subst (λ m. IsTurn (masks workers walk n bits live pipe) (record { registry = []; board = Masks pipe.number m ∷ []; answers = said.Ok n ∷ []; after = Some (with_pipe walk live (record pipe { unmanned = m == 0 })) })) (sym is) refl)
+    live_is e
+
+pub manned-live : (live live' : Live) (pipe : Pipe) (unmanned : Bool) → live.pipe ≡ Some pipe → live' ≡ manned_as live unmanned → live' ≡ record live { pipe = Some (record pipe { unmanned = unmanned }) }
+manned-live live live' pipe unmanned has is = is ∙ ap (λ o. record live { pipe = option_map (λ (p : Pipe). record p { unmanned = unmanned }) o }) has
 
 -- ---- `poll T`
 

@@ -336,6 +336,7 @@ module _ (looks_law : LooksAtOnce) (are_law : CallsByAre) where
       (λ _. Stops (record { workers = ws; walk = walk; registry = r; board = b }) (record { workers = ws; walk = walk; registry = r2; board = b }))
   probe-at r r1 r2 ws walk b (Ok done) n texts searches answers answers' stands posted first then = record {
     locks = record { registry = then.2.goes.lock ∙ first.goes.lock; board = refl; workers = refl };
+    wide = λ wide. wide;
     done = probe-done walk (known b) n texts searches then.0 answers answers' stands posted first then.2 then.1;
   }
   probe-at r r1 r2 ws walk b (Err stop) n texts searches answers answers' stands posted first more =

@@ -13,7 +13,7 @@ use Rattle.dialogues.specs.RegistryCalls.{RegCall, reg_calls}
 use Rattle.dialogues.proofs.Taking.{AllSettled-append}
 use Rattle.dialogues.specs.BoardCalls.{board_calls}
 use Rattle.dialogues.specs.Dialogues.{Dialogue, Ends, Says, Asks, Posts, refuses, unless, for_live, with_label}
-use Rattle.dialogues.specs.Questions.{RegQuestion, Enlist, Look, Unlist, Get, Put, Count, ListAll, RegAnswer, reg_call, reg_answer, BoardQuestion, Create, Submit, Enqueue, Hold, Go, Poll, Drain, Close, Share, Shut, BoardAnswer, board_call, board_answer}
+use Rattle.dialogues.specs.Questions.{RegQuestion, Enlist, Look, Unlist, Get, Put, Count, ListAll, RegAnswer, reg_call, reg_answer, BoardQuestion, Create, Submit, Enqueue, Hold, Go, Poll, Drain, Close, Share, Mask, Shut, BoardAnswer, board_call, board_answer}
 use Rattle.dialogues.specs.Turns.{Turn, ended, broken, saying, asking, posting, turn_of}
 use Rattle.dialogues.specs.Walk.{Walk, Live, live_of}
 use Rattle.dialogues.specs.InTurn.{AreInTurnBy, AreCalls}
@@ -87,6 +87,7 @@ board_answer-itself (Poll pipe) answer = refl
 board_answer-itself (Drain pipe) answer = refl
 board_answer-itself (Close pipe) answer = refl
 board_answer-itself (Share pipe) answer = refl
+board_answer-itself (Mask pipe bits) answer = refl
 board_answer-itself Shut answer = refl
 
 -- ---- the rules

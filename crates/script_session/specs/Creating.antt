@@ -10,7 +10,7 @@ use Rattle.session_calls.specs.Pipelines.{Opened}
 
 -- nothing was asked of it
 abbrev pub unasked : ℕ → Option ℕ → Pipe
-unasked number bound = record { number = number; bound = bound; held = false; lines = []; delivered = 0 }
+unasked number bound = record { number = number; bound = bound; held = false; unmanned = false; lines = []; delivered = 0 }
 
 -- The caller made a pipeline of the shape, where there is one; without one it called nothing.
 abbrev pub Created : Option Shape → Option Pipe → Known (BoardEntry Ask) → Known (BoardEntry Ask) → Type 0

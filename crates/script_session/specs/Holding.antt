@@ -9,7 +9,7 @@ use Rattle.turn_lock.specs.Turns.{Known, StartsWith}
 use Rattle.dialogues.specs.Dialogues.{Dialogue}
 use Rattle.dialogues.specs.Turns.{Turn, IsTurn}
 use Rattle.dialogues.specs.Walk.{Walk}
-use Rattle.script_session.specs.States.{State, SameLocks, Stands, Posted}
+use Rattle.script_session.specs.States.{State, SameLocks, Stands, Posted, IsWide}
 use Rattle.session_calls.specs.Passes.{known}
 use Rattle.session_calls.specs.Asking.{AskedBy}
 use Rattle.session_calls.specs.Pipelines.{Called}
@@ -29,10 +29,11 @@ pub record DoneBy (width : ℕ) (dialogue : Dialogue) (k : Known RegEntry) (b : 
 abbrev pub Done : Dialogue → Known RegEntry → Known (BoardEntry Ask) → Known RegEntry → Known (BoardEntry Ask) → Walk → List Answer → List Answer → Type 0
 Done dialogue k b k' b' after answers answers' = DoneBy 1 dialogue k b k' b' after answers answers'
 
--- the same of a session's states
+-- the same of a session's states, whose pads have as many lists as before
 pub record HoldsBy (width : ℕ) (dialogue : Dialogue) (s s' : State) (answers answers' : List Answer) : Type 0 where
   pub locks : SameLocks s s'
   pub done : DoneBy width dialogue (known s.registry) (known s.board) (known s'.registry) (known s'.board) s'.walk answers answers'
+  pub wide : IsWide s → IsWide s'
 
 abbrev pub Holds : Dialogue → State → State → List Answer → List Answer → Type 0
 Holds dialogue s s' answers answers' = HoldsBy 1 dialogue s s' answers answers'

@@ -13,7 +13,7 @@ use Rattle.kc_base.specs.declared.error_numbers.Errno.TheVariants.{EINVAL}
 use Rattle.reply_text.specs.declared.answers.Answer.TheVariants as said
 use Rattle.transforms.specs.Plans.{takes_key, takes_tag}
 use Rattle.dialogues.specs.Dialogues.{Dialogue, Posts, unless, says}
-use Rattle.dialogues.specs.Piping.{with_queue}
+use Rattle.dialogues.specs.Piping.{with_pad, masks, with_queue}
 use Rattle.dialogues.specs.Questions.{Hold, Go}
 use Rattle.dialogues.specs.Walk.{Walk, Live, Pipe, with_live, with_pipe}
 
@@ -62,6 +62,10 @@ with_line live line = on_pipe (λ pipe. record pipe { lines = pipe.lines ++ line
 abbrev pub held_as : Live → Bool → Live
 held_as live held = on_pipe (λ pipe. record pipe { held = held }) live
 
+-- some worker may take from it, or none
+abbrev pub manned_as : Live → Bool → Live
+manned_as live unmanned = on_pipe (λ pipe. record pipe { unmanned = unmanned }) live
+
 -- it handed so many completions out
 abbrev pub delivering : Live → ℕ → Live
 delivering live count = on_pipe (λ pipe. record pipe { delivered = pipe.delivered + count }) live
@@ -78,6 +82,10 @@ keys_live walk n live key = unless walk n ((not (takes_key live.plan key), EINVA
 -- what a tag size comes to
 abbrev pub sizes_live : Walk → ℕ → Live → ℕ → Dialogue
 sizes_live walk n live size = unless walk n ((not (takes_tag live.plan size), EINVAL) ∷ []) (says (with_live walk (record live { tag_size = size })) (said.Ok n))
+
+-- what a mask comes to, at a line
+abbrev pub masks_in : ℕ → Walk → ℕ → ℕ → Live → Dialogue
+masks_in workers walk n bits live = with_pad walk n live.pipe (masks workers walk n bits live)
 
 -- what a hold, and a go, come to at a line
 abbrev pub holds_in : Walk → ℕ → Live → Dialogue

@@ -9,15 +9,17 @@ use Rattle.dialogues.specs.Turns.{Turn, IsTurn, text_in}
 use Rattle.session_calls.specs.Asking.{AskedBy}
 use Rattle.session_calls.specs.Passes.{known, CallsRegistry, CallsBoard}
 use Rattle.session_calls.specs.Pipelines.{Called}
-use Rattle.script_session.specs.States.{State, SameLocks, Stands, Posted}
+use Rattle.script_session.specs.States.{State, SameLocks, Stands, Posted, IsWide}
 
--- The session's passes are those of the two locks, what it knows of them is its walk's, and at most 16 workers stand beside it.
+-- The session's passes are those of the two locks, what it knows of them is its walk's, and at most 16 workers stand beside it,
+-- for each of which its pads have a list.
 pub record IsReady {W : Type 0} (registry : SharedRegistry) (board : SharedBoard W Ask Finished) (s : State) : Type 0 where
   pub calls_registry : CallsRegistry registry s.registry
   pub calls_board : CallsBoard board s.board
   pub stands : Stands s.walk.lives (known s.registry)
   pub posted : Posted s.walk (known s.board)
   pub few : s.workers ≤ 16
+  pub wide : IsWide s
 
 -- A turn of the dialogue was done, with at most so many looks at once, and its text was added.
 pub record Replies (width : ℕ) (dialogue : Dialogue) (s s' : State) (text text' : List ℕ) : Type 0 where

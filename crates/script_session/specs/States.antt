@@ -3,15 +3,18 @@ use Rattle.std.specs.Prelude.{ℕ, ◌+◌, ◌==◌, if◌then◌else◌, ◌�
 use Rattle.alg_registry.specs.declared.entry.RegEntry.{RegEntry}
 use Rattle.board.specs.declared.entry.BoardEntry.{BoardEntry}
 use Rattle.board.specs.Allowance.{accepted_by}
-use Rattle.board.specs.Legal.{IsNoWorker, LegalBoard, is_shut}
+use Rattle.board.specs.Entries.{entries_of, birth}
+use Rattle.board.specs.Legal.{Is, IsNoWorker, LegalBoard, is_shut}
+use Rattle.board.specs.Shapes.{is_pad, width_born}
 use Rattle.transforms.specs.declared.ask.Ask.{Ask}
 use Rattle.transforms.specs.AskValue.{ask_size}
 use Rattle.turn_lock.specs.Turns.{Known}
+use Rattle.dialogues.specs.Allocating.{lists_beside}
 use Rattle.dialogues.specs.References.{got, given}
 use Rattle.dialogues.specs.RegistryCalls.{reg_calls}
 use Rattle.dialogues.specs.Walk.{Walk, Live, Pipe}
 use Rattle.session_calls.specs.Asking.{IsCaller}
-use Rattle.session_calls.specs.Passes.{RegPass, BoardPass, lock_of}
+use Rattle.session_calls.specs.Passes.{RegPass, BoardPass, known, lock_of}
 use Rattle.session_calls.specs.Pipelines.{KnowsPipe, Owns}
 
 -- how many live transforms stand on the entry
@@ -50,12 +53,20 @@ pub record Posted (walk : Walk) (k : Known (BoardEntry Ask)) : Type 0 where
   pub bytes : sum_by ask_size (accepted_by k.number k.seen) ≡ walk.bytes
   pub unshut : k.number ≡ 0 → is_shut k.seen ≡ false
 
+-- each open pad that the caller made has so many lists
+abbrev pub MadeWide : ℕ → Known (BoardEntry Ask) → Type 0
+MadeWide lists k = (p : ℕ) → Owns k p → Is is_pad (entries_of p k.seen) → width_born (birth (entries_of p k.seen)) ≡ lists
+
 -- beside how many workers the script runs, what it has made, and its passes
 pub record State : Type 0 where
   pub workers : ℕ
   pub walk : Walk
   pub registry : Option RegPass
   pub board : Option BoardPass
+
+-- a pad that the session made has a list for each worker, and one where there are none
+abbrev pub IsWide : State → Type 0
+IsWide s = MadeWide (lists_beside s.workers) (known s.board)
 
 -- both passes are still of their locks, and as many workers stand beside the script
 pub record SameLocks (s s' : State) : Type 0 where

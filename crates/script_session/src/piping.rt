@@ -14,12 +14,12 @@ ghost use Rattle.std.specs.Arc.{arc_value};
 ghost use Rattle.dialogues.specs.BoardCalls.{asked_by};
 ghost use Rattle.board.specs.Allowance.{IsAllowed};
 ghost use Rattle.transforms.specs.AskValue.{ask_size};
-ghost use Rattle.dialogues.specs.Piping.{drains_in, polls_in};
-ghost use Rattle.script_session.specs.Keyed.{holds_in, gos_in};
+ghost use Rattle.dialogues.specs.Piping.{drains_in, polls_in, kept_bits};
+ghost use Rattle.script_session.specs.Keyed.{masks_in, holds_in, gos_in};
 ghost use Rattle.dialogues.specs.Requesting.{requests_in};
 ghost use Rattle.session_calls.specs.Passes.{known, lock_of, CallsBoard};
 ghost use Rattle.session_calls.specs.Pipelines.{line_of};
-ghost use Rattle.script_session.specs.States.{HasPipe};
+ghost use Rattle.script_session.specs.States.{HasPipe, MadeWide};
 ghost use Rattle.script_session.specs.Changing.{HoldsFor, Released, asks_if, owes};
 
 use crate::answers::{refuse, say, value_answer};
@@ -70,7 +70,7 @@ pub fn drain_live<R: Wait, G: Gate>(
     Ok(())
 }
 
-// Hands a job in to a pipeline. A pad takes each that the caller's allowance has room for.
+// Hands a job in to a pipeline that isn't unmanned. A pad takes each that the caller's allowance has room for.
 fn offer<R: Wait>(
     rt: &R,
     board: &SharedBoard<Job>,
@@ -81,6 +81,7 @@ fn offer<R: Wait>(
 ) -> Result<Entered, BoardErr>
     requires at { CallsBoard board.now caller.old }
     requires pipe { KnowsPipe (known caller.old) pipe.now }
+    requires manned { pipe.now.unmanned ≡ false }
     ensures lock { lock_of caller.new ≡ lock_of caller.old }
     ensures offered { MatchResult result
         (λ answer. Offered (known caller.old) (known caller.new) pipe.now (arc_value job.ask) backlog answer)
@@ -124,6 +125,10 @@ pub fn take_job<R: Wait>(
         say(answers, value_answer(line, job.run()))?;
         return Ok(false);
     };
+    if pipe.unmanned {
+        refuse(answers, line, Errno::EINVAL)?;
+        return Ok(false);
+    }
     match offer(rt, board, caller, pipe, job, backlog) {
         Ok(Entered::InProgress(_)) => {
             refuse(answers, line, Errno::EINPROGRESS)?;
@@ -144,9 +149,51 @@ pub fn take_job<R: Wait>(
             Ok(false)
         }
         Err(BoardErr::Memory) => Err(Stop::Memory),
-        // No line masks a pad.
+        // Some worker may take from it.
         Err(BoardErr::NoWorker) => unreachable!(),
     }
+}
+
+// The bits of the workers that there are.
+fn bits_beside_workers(workers: u32, bits: u16) -> u16
+    requires few { workers ≤ 16 }
+    ensures { result ≡ kept_bits workers bits }
+{
+    (u32::from(bits) % (1u32 << lists_beside_workers(workers))) as u16
+}
+
+/// `mask T MASK` of a transform, beside so many workers. Only a pad is masked.
+pub fn mask_live<R: Wait>(
+    rt: &R,
+    board: &SharedBoard<Job>,
+    caller: &mut BoardCaller,
+    workers: u32,
+    line: u32,
+    bits: u16,
+    live: &mut Transform,
+    answers: &mut Vec<Answer>,
+) -> Result<(), Stop>
+    requires at { CallsBoard board.now caller.old }
+    requires legal { LegalBoard (known caller.old).seen }
+    requires pipe { HasPipe (known caller.old) live.old.pipe }
+    requires few { workers ≤ 16 }
+    requires wide { MadeWide (lists_beside workers) (known caller.old) }
+    ensures lock { lock_of caller.new ≡ lock_of caller.old }
+    ensures held { MatchResult result
+        (λ _. HoldsFor (λ walk. masks_in workers walk line bits live.old) live.old live.new (known caller.old) (known caller.new) [] answers.old.items answers.new.items)
+        (λ _. SeesOn (known caller.old) (known caller.new)) }
+{
+    let Some(pipe) = live.pipe() else {
+        return refuse(answers, line, Errno::EINVAL);
+    };
+    if pipe.bound.is_some() {
+        return refuse(answers, line, Errno::EINVAL);
+    }
+    let kept = bits_beside_workers(workers, bits);
+    caller.mask(rt, board, pipe, kept)?;
+    say(answers, Answer::Ok { line })?;
+    live.set_unmanned(kept == 0);
+    Ok(())
 }
 
 /// `hold T` of a transform. Only a queue is held.
@@ -290,6 +337,7 @@ fn unasked_pipe(alloc: Global, number: u64, bound: Option<u32>) -> Pipe
         number,
         bound,
         held: false,
+        unmanned: false,
         lines: Lines::new(alloc),
         delivered: 0,
     }

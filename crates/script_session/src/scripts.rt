@@ -14,11 +14,11 @@ ghost use Rattle.templates.specs.Nesting.{is_nested_well};
 ghost use Rattle.dialogues.specs.Allocating.{alloc, binds, free};
 ghost use Rattle.dialogues.specs.Names.{is_queue_length};
 ghost use Rattle.script_session.specs.Finding.{looks};
-ghost use Rattle.dialogues.specs.Piping.{hold, go, poll, drain};
+ghost use Rattle.dialogues.specs.Piping.{mask, hold, go, poll, drain};
 ghost use Rattle.dialogues.specs.Registering.{register, unregister, refs, listed};
 ghost use Rattle.dialogues.specs.Requesting.{aes, set_key, set_tag_size, request, request_of};
 ghost use Rattle.session_calls.specs.Passes.{CallsRegistry, known, CallsBoard};
-ghost use Rattle.script_session.specs.States.{Stands, Posted, counted};
+ghost use Rattle.script_session.specs.States.{Stands, Posted, IsWide, counted};
 ghost use Rattle.script_session.specs.Holding.{HoldsBy, Holds, Stops};
 
 use crate::answers::{enlisted_answer, put_all, refs_answer, refuse, say, unlisted_answer};
@@ -28,7 +28,8 @@ use crate::listing::list_rows;
 use crate::lives::place_of;
 use crate::naming::{fits_queue, plan_with, read_name};
 use crate::piping::{
-    close_live, create_pipe, drain_live, go_live, hold_live, is_owing, poll_live, take_job,
+    close_live, create_pipe, drain_live, go_live, hold_live, is_owing, mask_live, poll_live,
+    take_job,
 };
 use crate::requesting::{answer_aes, request_with};
 use crate::transform::{JobErr, Transform};
@@ -351,6 +352,40 @@ impl Session {
         size_live(number, &mut self.lives[place], size, answers)
     }
 
+    // `mask T MASK`
+    fn mask<R: Wait>(
+        &mut self,
+        rt: &R,
+        board: &SharedBoard<Job>,
+        number: u32,
+        label: &Bytes,
+        bits: u16,
+        answers: &mut Vec<Answer>,
+    ) -> Result<(), Stop>
+        requires at { CallsBoard board.now self.old.board }
+        requires stands { Stands self.old.walk.lives (known self.old.registry) }
+        requires posted { Posted self.old.walk (known self.old.board) }
+        requires few { self.old.workers ≤ 16 }
+        requires wide { IsWide self.old }
+        ensures { MatchResult result
+            (λ _. Holds (mask self.old.workers self.old.walk number label.now bits) self.old self.new answers.old.items answers.new.items)
+            (λ _. Stops self.old self.new) }
+    {
+        let Some(place) = place_of(&self.lives, label.as_slice()) else {
+            return refuse(answers, number, Errno::ENOENT);
+        };
+        mask_live(
+            rt,
+            board,
+            &mut self.board,
+            self.workers,
+            number,
+            bits,
+            &mut self.lives[place],
+            answers,
+        )
+    }
+
     // `hold T`
     fn hold<R: Wait>(
         &mut self,
@@ -639,6 +674,7 @@ impl Session {
         requires stands { Stands self.old.walk.lives (known self.old.registry) }
         requires posted { Posted self.old.walk (known self.old.board) }
         requires few { self.old.workers ≤ 16 }
+        requires wide { IsWide self.old }
         requires short { IsShortCommand command.now }
         ensures { MatchResult result
             (λ _. HoldsBy (command_width command.now) (command_dialogue self.old.workers self.old.walk number command.now) self.old self.new answers.old.items answers.new.items)
@@ -715,6 +751,7 @@ impl Session {
             Command::Bulk { label, size, seed } => {
                 self.bulk(rt, number, label, *size, *seed, answers)
             }
+            Command::Mask { label, mask } => self.mask(rt, board, number, label, *mask, answers),
             Command::Hold { label } => self.hold(rt, board, number, label, answers),
             Command::Go { label } => self.go(rt, board, number, label, answers),
             Command::Poll { label } => self.poll(rt, board, number, label, answers),
@@ -741,6 +778,7 @@ impl Session {
         requires stands { Stands self.old.walk.lives (known self.old.registry) }
         requires posted { Posted self.old.walk (known self.old.board) }
         requires few { self.old.workers ≤ 16 }
+        requires wide { IsWide self.old }
         requires short { IsShortLine line.now }
         ensures { MatchResult result
             (λ _. HoldsBy (width_of line.now) (line_dialogue self.old.workers self.old.walk number line.now) self.old self.new answers.old.items answers.new.items)

@@ -6,7 +6,7 @@ ghost use Rattle.std.specs.Option.{option_copied};
 ghost use Rattle.transforms.specs.Plans.{takes_key, takes_tag};
 ghost use Rattle.dialogues.specs.Allocating.{new_live};
 ghost use Rattle.dialogues.specs.BoardCalls.{asked_by};
-ghost use Rattle.script_session.specs.Keyed.{with_line, held_as, delivering, MayDeliver, IsJob, IsNoJob};
+ghost use Rattle.script_session.specs.Keyed.{with_line, held_as, manned_as, delivering, MayDeliver, IsJob, IsNoJob};
 
 use kc_base::{Bytes, Errno};
 use session_calls::Pipe;
@@ -168,6 +168,15 @@ impl Transform {
     {
         if let Some(pipe) = &mut self.pipe {
             pipe.held = held;
+        }
+    }
+
+    /// Some worker may take from its pipeline, or none.
+    pub fn set_unmanned(&mut self, unmanned: bool)
+        ensures { self.new ≡ manned_as self.old unmanned }
+    {
+        if let Some(pipe) = &mut self.pipe {
+            pipe.unmanned = unmanned;
         }
     }
 

@@ -16,8 +16,8 @@ use borrow.Author.Tests.{lt-ltb}
 use Rattle.script_text.specs.declared.commands.Line.{Line}
 use Rattle.script_text.specs.declared.commands.Line.TheVariants.{Nothing, Malformed}
 use Rattle.script_text.specs.Tokens.{tokens_of, is_blank, is_visible, is_comment}
-use Rattle.script_text.specs.Arguments.{◌>>=◌, hex_of, hexes_of, are_segments, is_bar, text_of, label_of, lone_label_of, is_label, number_of, length_of, names_of, backlog_of}
-use Rattle.script_text.specs.Commands.{aes_row, register_row, unregister_row, probe_row, alloc_row, key_row, authsize_row, aead_row, mac_row, bulk_row, label_row, refs_row, list_row, command_of}
+use Rattle.script_text.specs.Arguments.{◌>>=◌, hex_of, hexes_of, are_segments, is_bar, text_of, label_of, lone_label_of, is_label, number_of, mask_of, length_of, names_of, backlog_of}
+use Rattle.script_text.specs.Commands.{aes_row, register_row, unregister_row, probe_row, alloc_row, key_row, authsize_row, aead_row, mac_row, bulk_row, mask_row, label_row, refs_row, list_row, command_of}
 use Rattle.script_text.specs.Script.{command_line, line_of_tokens, line_of_text}
 use Rattle.script_text.specs.Sizes.{IsShort, IsShortCommand, IsShortLine}
 use Rattle.script_text.specs.declared.commands.Command.{Command}
@@ -178,6 +178,10 @@ bulk_short (label ∷ size ∷ seed ∷ []) h =
     after (label_of label) _ (label_short label h.0) (λ l hl. after_any (number_of size) _ (λ n. after_any (number_of seed) _ (λ m. hl)))
 bulk_short other h = tt
 
+mask_short : (args : List (List ℕ)) → AllShort args → RowIsShort (mask_row args)
+mask_short (label ∷ mask ∷ []) h = after (label_of label) _ (label_short label h.0) (λ l hl. after_any (mask_of mask) _ (λ m. hl))
+mask_short other h = tt
+
 label_row_short : (command : List ℕ → Command) → ((l : List ℕ) → IsShort l → IsShortCommand (command l))
     → (args : List (List ℕ)) → AllShort args → RowIsShort (label_row command args)
 label_row_short command put args h = after (lone_label_of args) _ (lone_label_short args h) (λ l hl. put l hl)
@@ -222,6 +226,7 @@ command_short name args h =
     pick name (codes "dec") (aead_row says.Dec args) (aead_short says.Dec (λ l i a t b hl hi ha ht. (hl, hi, ha, ht)) args h) (
     pick name (codes "mac") (mac_row args) (mac_short args h) (
     pick name (codes "bulk") (bulk_row args) (bulk_short args h) (
+    pick name (codes "mask") (mask_row args) (mask_short args h) (
     pick name (codes "hold") (label_row says.Hold args) (label_row_short says.Hold (λ l hl. hl) args h) (
     pick name (codes "go") (label_row says.Go args) (label_row_short says.Go (λ l hl. hl) args h) (
     pick name (codes "poll") (label_row says.Poll args) (label_row_short says.Poll (λ l hl. hl) args h) (
@@ -229,7 +234,7 @@ command_short name args h =
     pick name (codes "free") (label_row says.Free args) (label_row_short says.Free (λ l hl. hl) args h) (
     pick name (codes "refs") (refs_row args) (refs_short args h) (
     pick name (codes "list") (list_row args) (list_short args h) (
-    record { row = None; short = tt })))))))))))))))))) in
+    record { row = None; short = tt }))))))))))))))))))) in
     rows.short
 
 command_line_short : (row : Option Command) → RowIsShort row → IsShortLine (command_line row)

@@ -1,5 +1,5 @@
 -- What the arguments of a command spell, where they spell something.
-use Rattle.std.specs.Prelude.{◌≡◌, ℕ, Bool, true, false, ◌&&◌, ◌||◌, ◌==◌, nat_lt, nat_le, if◌then◌else◌, List, [], ◌∷◌, length, codes, Option, Some, None, Result, MatchResult}
+use Rattle.std.specs.Prelude.{◌≡◌, ℕ, ◌+◌, ◌*◌, Bool, true, false, ◌&&◌, ◌||◌, ◌==◌, nat_lt, nat_le, if◌then◌else◌, List, [], ◌∷◌, length, codes, Option, Some, None, Result, MatchResult}
 use Rattle.std.specs.Char.{is_ascii_alphanumeric, is_ascii_digit}
 use Rattle.std.specs.List.{list_all, slice_split}
 use Rattle.std.specs.Result.{result_ok}
@@ -67,6 +67,15 @@ is_number token = nat_lt 0 (length token) && nat_le (length token) 9 && list_all
 -- NUM: 1 to 9 decimal digits
 abbrev pub number_of : List ℕ → Option ℕ
 number_of token = if is_number token then Some (digits_value 10 token) else None
+
+-- a number of two bytes, the higher first
+abbrev pub word_of_bytes : List ℕ → Option ℕ
+word_of_bytes (high ∷ low ∷ []) = Some (high * 256 + low)
+word_of_bytes other = None
+
+-- MASK: four hexadecimal digits
+abbrev pub mask_of : List ℕ → Option ℕ
+mask_of token = if length token == 4 then hex_of token >>= word_of_bytes else None
 
 -- [NUM]
 abbrev pub length_of : List (List ℕ) → Option (Option ℕ)

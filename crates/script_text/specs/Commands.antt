@@ -2,7 +2,7 @@
 use Rattle.std.specs.Prelude.{ℕ, Bool, if◌then◌else◌, List, [], ◌∷◌, codes, Option, Some, None}
 use Rattle.std.specs.Str.{bytes_eq}
 use Rattle.sg_walk.specs.Segments.{Segmented}
-use Rattle.script_text.specs.Arguments.{◌>>=◌, hex_of, text_of, label_of, lone_label_of, number_of, length_of, names_of, backlog_of}
+use Rattle.script_text.specs.Arguments.{◌>>=◌, hex_of, text_of, label_of, lone_label_of, number_of, mask_of, length_of, names_of, backlog_of}
 use Rattle.script_text.specs.declared.commands.Command.{Command}
 use Rattle.script_text.specs.declared.commands.Command.TheVariants as says
 
@@ -85,6 +85,14 @@ bulk_row (label ∷ size ∷ seed ∷ []) = do
   Some (says.Bulk label size seed)
 bulk_row other = None
 
+-- `mask T MASK`
+abbrev pub mask_row : List (List ℕ) → Option Command
+mask_row (label ∷ mask ∷ []) = do
+  label ← label_of label
+  mask ← mask_of mask
+  Some (says.Mask label mask)
+mask_row other = None
+
 -- `hold T`, `go T`, `poll T`, `drain T` and `free T`
 abbrev pub label_row : (List ℕ → Command) → List (List ℕ) → Option Command
 label_row command args = do
@@ -115,6 +123,7 @@ command_of name args =
     else if bytes_eq name (codes "dec") then aead_row says.Dec args
     else if bytes_eq name (codes "mac") then mac_row args
     else if bytes_eq name (codes "bulk") then bulk_row args
+    else if bytes_eq name (codes "mask") then mask_row args
     else if bytes_eq name (codes "hold") then label_row says.Hold args
     else if bytes_eq name (codes "go") then label_row says.Go args
     else if bytes_eq name (codes "poll") then label_row says.Poll args

@@ -20,6 +20,7 @@ IsShortCommand (says.Enc label iv aad text backlog) = IsShort label × IsShort i
 IsShortCommand (says.Dec label iv aad text backlog) = IsShort label × IsShort iv × IsShort aad × IsShort text.text
 IsShortCommand (says.Mac label text backlog) = IsShort label × IsShort text.text
 IsShortCommand (says.Bulk label size seed) = IsShort label
+IsShortCommand (says.Mask label mask) = IsShort label
 IsShortCommand (says.Hold label) = IsShort label
 IsShortCommand (says.Go label) = IsShort label
 IsShortCommand (says.Poll label) = IsShort label

@@ -4,7 +4,7 @@ ghost use Rattle.std.specs.Prelude.{◌≡◌, IsTrue, nat_lt, length, map, IfOk
 ghost use Rattle.std.specs.Char.{is_ascii_digit};
 ghost use Rattle.std.specs.List.{list_all, slice_split};
 ghost use Rattle.std.specs.Str.Parse.{digits_value};
-ghost use Rattle.script_text.specs.Arguments.{Reads, hex_of, hexes_of, are_segments, is_bar, text_of, is_label_byte, is_label, label_of, lone_label_of, is_number, number_of, length_of, names_of, backlog_of};
+ghost use Rattle.script_text.specs.Arguments.{Reads, hex_of, hexes_of, are_segments, is_bar, text_of, is_label_byte, is_label, label_of, lone_label_of, is_number, number_of, mask_of, length_of, names_of, backlog_of};
 ghost use Rattle.script_text.specs.declared.arguments.ReadError.TheVariants.{Malformed, NoMemory};
 
 use crate::texts::Texts;
@@ -207,4 +207,18 @@ pub fn backlog(args: &[&[u8]]) -> Result<bool, ReadError>
         [word] if *word == b"backlog".as_slice() => Ok(true),
         _ => Err(ReadError::Malformed),
     }
+}
+
+/// The number that four hexadecimal digits spell.
+pub fn mask(alloc: Global, token: &[u8]) -> Result<u16, ReadError>
+    ensures { Reads result (mask_of token.now) }
+{
+    if token.len() != 4 {
+        return Err(ReadError::Malformed);
+    }
+    let bytes = hex_bytes(alloc, token)?;
+    let [high, low] = bytes.as_slice() else {
+        return Err(ReadError::Malformed);
+    };
+    Ok(u16::from(*high) * 256 + u16::from(*low))
 }

@@ -5,7 +5,8 @@ use kc_base::Bytes;
 use sg_walk::Segs;
 
 /// A command, with its arguments. Hexadecimal digits are decoded, each part of a text into a segment of its own. A label has 1
-/// to 32 letters, digits, `-` or `_`; a name and a driver are any token; a number has 1 to 9 decimal digits.
+/// to 32 letters, digits, `-` or `_`; a name and a driver are any token; a number has 1 to 9 decimal digits, a mask four
+/// hexadecimal ones.
 #[derive(Debug, Drop)]
 pub enum Command {
     /// `aes KEY BLOCK`: the block sealed by AES under the key.
@@ -69,6 +70,11 @@ pub enum Command {
         label: Bytes,
         size: u32,
         seed: u32,
+    },
+    /// `mask T MASK`: from now on the workers whose bits are set take from the transform's pipeline, bit i for worker i + 1.
+    Mask {
+        label: Bytes,
+        mask: u16,
     },
     /// `hold T`: the queue serves no request until `go T`.
     Hold {

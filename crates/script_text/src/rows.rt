@@ -2,11 +2,12 @@
 
 ghost use Rattle.std.specs.Prelude.{map};
 ghost use Rattle.script_text.specs.Arguments.{Reads};
-ghost use Rattle.script_text.specs.Commands.{aes_row, register_row, unregister_row, probe_row, alloc_row, key_row, authsize_row, aead_row, mac_row, bulk_row, label_row, refs_row, list_row, command_of};
+ghost use Rattle.script_text.specs.Commands.{aes_row, register_row, unregister_row, probe_row, alloc_row, key_row, authsize_row, aead_row, mac_row, bulk_row, mask_row, label_row, refs_row, list_row, command_of};
 ghost use Rattle.script_text.specs.declared.commands.Command.TheVariants as says;
 
 use crate::arguments::{
-    ReadError, backlog, hex_bytes, label, lone_label, names, number, optional_number, segments,
+    ReadError, backlog, hex_bytes, label, lone_label, mask, names, number, optional_number,
+    segments,
 };
 use crate::commands::Command;
 use kc_base::Bytes;
@@ -148,6 +149,18 @@ fn bulk_command(alloc: Global, args: &[&[u8]]) -> Result<Command, ReadError>
     })
 }
 
+fn mask_command(alloc: Global, args: &[&[u8]]) -> Result<Command, ReadError>
+    ensures { Reads result (mask_row (map (λ token. token.now) args.now)) }
+{
+    let [transform, bits] = args else {
+        return Err(ReadError::Malformed);
+    };
+    Ok(Command::Mask {
+        label: label(alloc, transform)?,
+        mask: mask(alloc, bits)?,
+    })
+}
+
 fn hold_command(alloc: Global, args: &[&[u8]]) -> Result<Command, ReadError>
     ensures { Reads result (label_row says.Hold (map (λ token. token.now) args.now)) }
 {
@@ -234,6 +247,8 @@ pub fn read_command(alloc: Global, name: &[u8], args: &[&[u8]]) -> Result<Comman
         mac_command(alloc, args)
     } else if name == b"bulk".as_slice() {
         bulk_command(alloc, args)
+    } else if name == b"mask".as_slice() {
+        mask_command(alloc, args)
     } else if name == b"hold".as_slice() {
         hold_command(alloc, args)
     } else if name == b"go".as_slice() {

@@ -282,6 +282,7 @@ fn words(alloc: Global, command: &Command) -> Result<String, AllocError> {
         Command::Bulk { label, size, seed } => {
             format!(in alloc; "bulk {} {size} {seed}", text(label))
         }
+        Command::Mask { label, mask } => format!(in alloc; "mask {} {mask:04x}", text(label)),
         Command::Hold { label } => format!(in alloc; "hold {}", text(label)),
         Command::Go { label } => format!(in alloc; "go {}", text(label)),
         Command::Poll { label } => format!(in alloc; "poll {}", text(label)),
@@ -326,6 +327,7 @@ mac t - backlog
 enc t 01 - 6bc1bee22e|409f96e93d7e1173|93172a
 mac t 00|01|02|03|04|05|06|07|08|09|0a|0b|0c|0d|0e|0f backlog
 bulk t 16777216 0
+mask t 00ff
 hold T-0_z
 go T-0_z
 poll T-0_z
@@ -402,6 +404,9 @@ alloc t aes ten
 key t 012
 mac t 0g
 bulk t 1 -
+mask t 000
+mask t 00000
+mask t 000g
 enc t 00 0 00
 dec t 00 00 --";
     assert!(rt; all_say(rt.alloc(), unfit, Said::Malformed)?);
@@ -434,6 +439,8 @@ mac t 00 backlo
 mac t 00 backlog 00
 bulk t 1
 bulk t 1 2 backlog
+mask t
+mask t 0001 0001
 hold
 hold t u
 go

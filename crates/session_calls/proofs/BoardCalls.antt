@@ -14,7 +14,7 @@ use Rattle.board.specs.declared.entry.BoardEntry.{BoardEntry}
 use Rattle.board.specs.declared.entry.BoardEntry.TheVariants as event
 use Rattle.board.specs.declared.entry.Shape.{Shape}
 use Rattle.board.specs.declared.entry.Shape.TheVariants.{Pad, Queue, Chain}
-use Rattle.board.specs.Entries.{caller_of, is_of, is_close, is_closed, is_share, is_held, mask, accepted_in, entries_of, submissions, front, told, delivered}
+use Rattle.board.specs.Entries.{caller_of, is_of, is_close, is_closed, is_share, is_held, mask, birth, accepted_in, entries_of, submissions, front, told, delivered}
 use Rattle.board.specs.Allowance.{IsAllowed}
 use Rattle.board.specs.Legal.{IsNoWorker, IsOpen, IsOpenPad, IsOpenQueue, IsOpenAs, LegalBoard, pipelines}
 use Rattle.board.specs.Handing.{is_collect, completions}
@@ -34,13 +34,13 @@ use Rattle.turn_lock.specs.Meeting.{AtTurn, Enters, Leaves, IsOwn}
 use Rattle.turn_lock.specs.Going.{still_kept, own_entered}
 use Rattle.crew.specs.Working.{Worked, Drained as CrewDrained}
 use Rattle.dialogues.specs.RegistryCalls.{if_own}
-use Rattle.dialogues.specs.BoardCalls.{BoardCall, Creates, Submits, Enqueues, Holds, Goes, Collects, Closes, Shuts, Started, Completed, asked_by, outcome, board_calls, notice_of, line_in, collected_to}
+use Rattle.dialogues.specs.BoardCalls.{BoardCall, Creates, Submits, Enqueues, Holds, Goes, Collects, Closes, Masks, Shuts, Started, Completed, asked_by, outcome, board_calls, notice_of, line_in, collected_to}
 use Rattle.dialogues.specs.Walk.{Pipe}
 use Rattle.session_calls.specs.Pipelines.{Laws, IsPipeIn, line_of, line_at, made_so, KnowsPipe, Kept, Changed, Closed, IsPad, IsQueue, entered_pipe, entered_asks, with_ask, notice_by, IsShut, Owns, Drained, Polled, Opened}
 use Rattle.dialogues.specs.Allocating.{new_pipe}
 use Rattle.board.specs.declared.entry.Entered.{Entered}
 use Rattle.board.specs.declared.entry.Entered.TheVariants.{InProgress, Busy, NoSpace}
-use Rattle.session_calls.proofs.Boarding.{Met, OwnsIn, IsPlain, goes-kept, opened-more, managed-more, unshared-more, served-more, lines-more, delivered-more, calls-one, meets-kept, leaves-kept, changed-later, accepted-none, accepted-more, pipe-stays, pipe-accepts, pipe-collected, apart-same, entry-changed}
+use Rattle.session_calls.proofs.Boarding.{Met, OwnsIn, IsPlain, IsMaskless, goes-kept, opened-more, managed-more, unshared-more, masked-more, lines-more, delivered-more, calls-one, meets-kept, leaves-kept, changed-later, accepted-none, accepted-more, pipe-stays, pipe-accepts, pipe-collected, apart-same, entry-changed}
 
 own : {C : Type 0} (n : ℕ) (call : C) → if_own n n call ≡ Some call
 own {C} n call = ap (λ b. if b then Some call else None) (eq-eqb n n refl)
@@ -74,7 +74,7 @@ submit-changed laws k l pipe asked (Ok n) on turn =
     (entry-changed laws k l h e pipe (with_ask pipe asked) (Submits pipe.number n (asked_by asked)) (asked ∷ []) done.2 (eq-eqb pipe.number pipe.number refl) refl
     (own k.number (Submits pipe.number n (asked_by (arc_value done.0))) ∙ ap (λ a. Some (Submits pipe.number n (asked_by a))) done.1)
     (accepted-more k.number h e asked (own_ask (k.number == k.number) (arc_value done.0) (eq-eqb k.number k.number refl) ∙ ap (λ a. Some a) done.1)) refl
-    (pipe-accepts laws k.number h e pipe (record { born = refl; closes = refl; shares = refl; masks = refl }) (kept.pipes pipe on) asked (eq-eqb pipe.number pipe.number refl) (ap (λ a. Some a) done.1) refl refl))
+    (pipe-accepts laws k.number h e pipe (record { closes = refl; shares = refl }) (kept.pipes pipe on) (record { born = refl; masks = refl }) asked (eq-eqb pipe.number pipe.number refl) (ap (λ a. Some a) done.1) refl refl))
 
 -- two facts of a refusal
 pub not-unserved : {A : Type 0} (r : Result A BoardErr) (P : A → Type 0) (Q : BoardErr → Type 0) → MatchResult r P (λ e. (e ≢ NoWorker) × Q e) → IfErr r (λ e. e ≢ NoWorker)
@@ -92,16 +92,20 @@ allowed-here laws k h asked met =
     let IsRoom : List Ask → Type 0 = λ asks. (length asks < 2 ^ 20) × (sum_by ask_size asks + ask_size asked ≤ 2 ^ 26) in
     ((λ allowed. subst IsRoom same allowed), (λ allowed. subst IsRoom (sym same) allowed))
 
--- a pad that some worker serves refuses for want of room in the allowance alone, or of memory
-pub submit-refused : Laws → (k l : Known (BoardEntry Ask)) (pipe : Pipe) (asked : Ask) (r : Result ℕ BoardErr) (O : List (BoardEntry Ask) → ℕ → Type 0) → KnowsPipe k pipe → IsPad pipe.bound
+some-bit : (mask : ℕ) → (mask == 0) ≡ false → 0 < mask
+some-bit zero e = absurd cc
+some-bit (suc m) e = omega arith
+
+-- a pad that is manned refuses for want of room in the allowance alone, or of memory
+pub submit-refused : Laws → (k l : Known (BoardEntry Ask)) (pipe : Pipe) (asked : Ask) (r : Result ℕ BoardErr) (O : List (BoardEntry Ask) → ℕ → Type 0) → KnowsPipe k pipe → IsPad pipe.bound → pipe.unmanned ≡ false
     → AtTurn caller_of LegalBoard k (λ h. MatchResult r
     (λ n. (n ≡ length (submissions (entries_of pipe.number h))) × IsAllowed ask_size h k.number asked × O h n)
     (λ e. ((e ≡ NoWorker) ↔ (mask (entries_of pipe.number h) ≡ 0)) × ((e ≡ TooBig) ↔ ((0 < mask (entries_of pipe.number h)) × (IsAllowed ask_size h k.number asked → ⊥))) × Leaves k h l))
     → MatchResult r (λ _. IsAllowed ask_size k.seen k.number asked) (λ e. (e ≢ NoWorker) × ((e ≡ TooBig) ↔ (IsAllowed ask_size k.seen k.number asked → ⊥)))
-submit-refused laws k l pipe asked (Ok n) O on pad turn = (allowed-here laws k turn.0 asked turn.1).0 turn.2.1
-submit-refused laws k l pipe asked (Err e) O on pad turn =
+submit-refused laws k l pipe asked (Ok n) O on pad manned turn = (allowed-here laws k turn.0 asked turn.1).0 turn.2.1
+submit-refused laws k l pipe asked (Err e) O on pad manned turn =
     let here = allowed-here laws k turn.0 asked turn.1 in
-    let some : 0 < mask (entries_of pipe.number turn.0) = ((meets-kept laws k turn.0 turn.1).pipes pipe on).served pad in (
+    let some : 0 < mask (entries_of pipe.number turn.0) = some-bit (mask (entries_of pipe.number turn.0)) (((meets-kept laws k turn.0 turn.1).pipes pipe on).masked pad ∙ manned) in (
       (λ none. let zero_is = turn.2.0.0 none in absurd (omega (arith, some, zero_is))),
       ((λ big allowed. (turn.2.1.0 big).1 (here.1 allowed)), (λ never. turn.2.1.1 (some, λ allowed. never (here.0 allowed)))),
     )
@@ -147,7 +151,7 @@ enqueue-changed laws k l pipe asked backlog V (Ok answer) on turn = by_answer an
         changed-later k (sees k h) l pipe (with_ask pipe asked) (Enqueues pipe.number (asked_by asked) backlog answer ∷ []) (asked ∷ []) kept
         (entry-changed laws k l h x pipe (with_ask pipe asked) (Enqueues pipe.number (asked_by asked) backlog answer) (asked ∷ []) enters (eq-eqb pipe.number pipe.number refl) refl (called answer ask e)
         (accepted-more k.number h x asked (ap (λ b. if b then accepted_in x else None) (eq-eqb k.number k.number refl) ∙ some)) refl
-        (pipe-accepts laws k.number h x pipe (record { born = refl; closes = refl; shares = refl; masks = refl }) (kept.pipes pipe on) asked (eq-eqb pipe.number pipe.number refl) some refl refl))
+        (pipe-accepts laws k.number h x pipe (record { closes = refl; shares = refl }) (kept.pipes pipe on) (record { born = refl; masks = refl }) asked (eq-eqb pipe.number pipe.number refl) some refl refl))
 
     by_answer : (answer : Entered) → ((ask : Arc Ask Global) × (arc_value ask ≡ asked) × Enters LegalBoard k h (event.Enq k.number pipe.number ask backlog answer) l)
         → Changed k l pipe (entered_pipe pipe asked answer) (Enqueues pipe.number (asked_by asked) backlog answer ∷ []) (entered_asks asked answer)
@@ -157,7 +161,7 @@ enqueue-changed laws k l pipe asked backlog V (Ok answer) on turn = by_answer an
         let x : BoardEntry Ask = event.Enq k.number pipe.number done.0 backlog NoSpace in
         changed-later k (sees k h) l pipe pipe (Enqueues pipe.number (asked_by asked) backlog NoSpace ∷ []) [] kept
         (entry-changed laws k l h x pipe pipe (Enqueues pipe.number (asked_by asked) backlog NoSpace) [] done.2 (eq-eqb pipe.number pipe.number refl) refl (called NoSpace done.0 done.1)
-        (accepted-none k.number h x refl) refl (pipe-stays laws k.number h x pipe (record { born = refl; closes = refl; shares = refl; masks = refl }) (kept.pipes pipe on) refl refl refl))
+        (accepted-none k.number h x refl) refl (pipe-stays laws k.number h x pipe (record { closes = refl; shares = refl }) (kept.pipes pipe on) (record { born = refl; masks = refl }) refl refl refl))
 
 -- ---- what is told, by the lines of the requests
 
@@ -269,14 +273,14 @@ close-closed laws k l pipe turn =
 -- ---- `hold` and `go`
 
 -- a pipeline is held, or let go
-pipe-switched : Laws → (n : ℕ) (h : List (BoardEntry Ask)) (e : BoardEntry Ask) (pipe : Pipe) (held : Bool) → IsPlain e → accepted_in e ≡ None → is_collect e ≡ false → is_held (entries_of pipe.number (h ++ e ∷ [])) ≡ held → (held ≡ true → IsQueue pipe.bound)
+pipe-switched : Laws → (n : ℕ) (h : List (BoardEntry Ask)) (e : BoardEntry Ask) (pipe : Pipe) (held : Bool) → IsPlain e → IsMaskless e → accepted_in e ≡ None → is_collect e ≡ false → is_held (entries_of pipe.number (h ++ e ∷ [])) ≡ held → (held ≡ true → IsQueue pipe.bound)
     → IsPipeIn n (entries_of pipe.number h) pipe → IsPipeIn n (entries_of pipe.number (h ++ e ∷ [])) (record pipe { held = held })
-pipe-switched laws n h e pipe held plain none hands holds queue on =
+pipe-switched laws n h e pipe held plain maskless none hands holds queue on =
     record {
       opened = opened-more laws n h e pipe plain on;
       managed = managed-more laws n h e pipe plain on;
       unshared = unshared-more laws n h e pipe plain on;
-      served = served-more laws n h e pipe plain on;
+      masked = masked-more laws n h e pipe plain on maskless;
       held = holds;
       queue = queue;
       lines = lines-more laws n h e pipe plain on none;
@@ -296,7 +300,7 @@ hold-changed laws k l pipe (Ok done) on queue turn =
     let kept = meets-kept laws k h turn.1 in
     changed-later k (sees k h) l pipe pipe' (Holds pipe.number ∷ []) [] kept
     (entry-changed laws k l h e pipe pipe' (Holds pipe.number) [] turn.2 same refl (own n (Holds pipe.number)) (accepted-none n h e refl) refl
-    (pipe-switched laws n h e pipe true (record { born = refl; closes = refl; shares = refl; masks = refl }) refl refl (laws.steps.switched h n pipe.number).0 (λ held. queue) (kept.pipes pipe on)))
+    (pipe-switched laws n h e pipe true (record { closes = refl; shares = refl }) (record { born = refl; masks = refl }) refl refl (laws.steps.switched h n pipe.number).0 (λ held. queue) (kept.pipes pipe on)))
 
 pub go-changed : Laws → (k l : Known (BoardEntry Ask)) (pipe : Pipe) (r : Result (Unit {0}) BoardErr) → KnowsPipe k pipe
     → AtTurn caller_of LegalBoard k (λ h. MatchResult r (λ _. Enters LegalBoard k h (event.Go k.number pipe.number) l) (λ e. (e ≡ Memory) × Leaves k h l))
@@ -311,7 +315,35 @@ go-changed laws k l pipe (Ok done) on turn =
     let kept = meets-kept laws k h turn.1 in
     changed-later k (sees k h) l pipe pipe' (Goes pipe.number ∷ []) [] kept
     (entry-changed laws k l h e pipe pipe' (Goes pipe.number) [] turn.2 same refl (own n (Goes pipe.number)) (accepted-none n h e refl) refl
-    (pipe-switched laws n h e pipe false (record { born = refl; closes = refl; shares = refl; masks = refl }) refl refl (laws.steps.switched h n pipe.number).1 (λ held. absurd cc) (kept.pipes pipe on)))
+    (pipe-switched laws n h e pipe false (record { closes = refl; shares = refl }) (record { born = refl; masks = refl }) refl refl (laws.steps.switched h n pipe.number).1 (λ held. absurd cc) (kept.pipes pipe on)))
+
+-- ---- `mask`
+
+pub mask-changed : Laws → (k l : Known (BoardEntry Ask)) (pipe : Pipe) (bits : ℕ) (r : Result (Unit {0}) BoardErr) → KnowsPipe k pipe
+    → AtTurn caller_of LegalBoard k (λ h. MatchResult r (λ _. Enters LegalBoard k h (event.Mask k.number pipe.number bits) l) (λ e. (e ≡ Memory) × Leaves k h l))
+    → MatchResult r (λ _. Changed k l pipe (record pipe { unmanned = bits == 0 }) (Masks pipe.number bits ∷ []) []) (λ e. (e ≡ Memory) × Kept k l)
+mask-changed laws k l pipe bits (Err e) on turn = (turn.2.0, leaves-kept laws k l turn.0 turn.1 turn.2.1)
+mask-changed laws k l pipe bits (Ok done) on turn =
+    let h = turn.0 in
+    let n = k.number in
+    let e : BoardEntry Ask = event.Mask n pipe.number bits in
+    let pipe' : Pipe = record pipe { unmanned = bits == 0 } in
+    let plain : IsPlain e = record { closes = refl; shares = refl } in
+    let same = eq-eqb pipe.number pipe.number refl in
+    let kept = meets-kept laws k h turn.1 in
+    let here = kept.pipes pipe on in
+    let now : IsPipeIn n (entries_of pipe.number (h ++ e ∷ [])) pipe' = record {
+      opened = opened-more laws n h e pipe plain here;
+      managed = managed-more laws n h e pipe plain here;
+      unshared = unshared-more laws n h e pipe plain here;
+      masked = λ pad. ap (λ m. m == 0) (laws.steps.remasked h n pipe.number bits);
+      held = laws.steps.held h e pipe.number refl ∙ here.held;
+      queue = here.queue;
+      lines = lines-more laws n h e pipe plain here refl;
+      delivered = delivered-more laws n h e pipe plain here refl;
+    } in
+    changed-later k (sees k h) l pipe pipe' (Masks pipe.number bits ∷ []) [] kept
+    (entry-changed laws k l h e pipe pipe' (Masks pipe.number bits) [] turn.2 same refl (own n (Masks pipe.number bits)) (accepted-none n h e refl) refl now)
 
 -- ---- `poll`
 
@@ -347,13 +379,20 @@ poll-changed laws k l pipe into into' (Ok done) on turn =
 full : (lists : ℕ) → 1 ≤ lists → 0 < 2 ^ lists - 1
 full lists some = let more = pow_below 0 lists some in omega (arith, more)
 
+not-empty : (mask : ℕ) → 0 < mask → (mask == 0) ≡ false
+not-empty mask some = by_test (mask == 0) refl
+  where
+    by_test : (t : Bool) → (mask == 0) ≡ t → (mask == 0) ≡ false
+    by_test true e = let none = eqb-true mask 0 e in absurd (omega (arith, some, none))
+    by_test false e = e
+
 new-pipe_in : (n number : ℕ) (shape : Shape) → IsNoWorker n → IsShape shape → IsPipeIn n (event.Born n number shape ∷ []) (new_pipe number shape)
 new-pipe_in n number (Pad lists) outsider fits =
-    record { opened = (refl, refl); managed = (outsider, refl); unshared = refl; served = λ pad. full lists fits.0; held = refl; queue = λ held. absurd cc; lines = refl; delivered = refl }
+    record { opened = (refl, refl); managed = (outsider, refl); unshared = refl; masked = λ pad. not-empty (2 ^ lists - 1) (full lists fits.0); held = refl; queue = λ held. absurd cc; lines = refl; delivered = refl }
 new-pipe_in n number (Queue max) outsider fits =
-    record { opened = (refl, refl); managed = (outsider, refl); unshared = refl; served = λ pad. absurd pad; held = refl; queue = λ held. absurd cc; lines = refl; delivered = refl }
+    record { opened = (refl, refl); managed = (outsider, refl); unshared = refl; masked = λ pad. absurd pad; held = refl; queue = λ held. absurd cc; lines = refl; delivered = refl }
 new-pipe_in n number (Chain max lists) outsider fits =
-    record { opened = (refl, refl); managed = (outsider, refl); unshared = refl; served = λ pad. absurd pad; held = refl; queue = λ held. absurd cc; lines = refl; delivered = refl }
+    record { opened = (refl, refl); managed = (outsider, refl); unshared = refl; masked = λ pad. absurd pad; held = refl; queue = λ held. absurd cc; lines = refl; delivered = refl }
 
 -- a pipeline that a caller knows has entries
 not-new : (n : ℕ) (h : List (BoardEntry Ask)) (number : ℕ) (pipe : Pipe) → entries_of number h ≡ [] → IsPipeIn n (entries_of pipe.number h) pipe → (pipe.number == number) ≡ false
@@ -384,6 +423,7 @@ born-opened laws k l shape (Ok p) outsider turn =
       changed = changed-later k (sees k h) l (new_pipe p shape) (new_pipe p shape) (Creates p shape ∷ []) [] kept
           (entry-changed laws k l h e (new_pipe p shape) (new_pipe p shape) (Creates p shape) [] turn.2.1 same refl (own n (Creates p shape)) (accepted-none n h e refl) refl now);
       fresh = λ other on. not-new n h p other empty (kept.pipes other on);
+      born = ap (λ (x : Known (BoardEntry Ask)). birth (entries_of p x.seen)) turn.2.1.0 ∙ (ap birth begun ∙ ap (λ m. Some (m, shape)) (sym (ap (λ (x : Known (BoardEntry Ask)). x.number) turn.2.1.0)));
     }
 
 -- ---- `shut`

@@ -1,6 +1,6 @@
 -- What a caller knows of its pipelines goes on, whatever others do.
 use Rattle.std.proofs.Common.{◌≡◌, ◌≢◌, ℕ, ◌+◌, Bool, true, false, List, [], ◌∷◌, ◌++◌, length, map, Option, Some, None, refl, sym, ap, subst, ◌∙◌, append_assoc, append-nil}
-use Rattle.std.specs.Prelude.{◌<◌, ◌==◌, ◌&&◌, ◌||◌, if◌then◌else◌, filter, unwrap_or}
+use Rattle.std.specs.Prelude.{◌==◌, ◌&&◌, ◌||◌, if◌then◌else◌, filter, unwrap_or}
 use Rattle.std.proofs.lemmas.Bool.{eq-eqb}
 use Rattle.std.proofs.lemmas.List.{map-append}
 use Rattle.std.proofs.lemmas.List.Elements.{filter-append, filter_map-append}
@@ -186,7 +186,7 @@ goes-kept laws k l own goes works legal =
             opened = known.opened (made_so pipe.bound) on.opened;
             managed = known.managed;
             unshared = known.shared ∙ on.unshared;
-            served = λ pad. subst (λ m. 0 < m) (sym known.masked) (on.served pad);
+            masked = λ pad. ap (λ m. m == 0) known.masked ∙ on.masked pad;
             held = known.held ∙ on.held;
             queue = on.queue;
             lines = ap (map line_of) (known.accepted on.unshared) ∙ on.lines;
@@ -289,11 +289,14 @@ asks-same laws h e p none = by_of (is_of p e) refl
     by_of true q = ap submissions (laws.steps.joins h e p q) ∙ laws.steps.accepted (entries_of p h) e none
     by_of false q = ap submissions (laws.steps.leaves h e p q)
 
--- an entry that makes nothing, closes nothing, shares nothing and masks nothing
+-- an entry that closes nothing and shares nothing
 pub record IsPlain (e : BoardEntry Ask) : Type 0 where
-  pub born : birth_in e ≡ None
   pub closes : is_close e ≡ false
   pub shares : is_share e ≡ false
+
+-- and makes nothing and masks nothing
+pub record IsMaskless (e : BoardEntry Ask) : Type 0 where
+  pub born : birth_in e ≡ None
   pub masks : masked_in e ≡ None
 
 module _ (laws : Laws) (n : ℕ) (h : List (BoardEntry Ask)) (e : BoardEntry Ask) (pipe : Pipe) (plain : IsPlain e) (on : IsPipeIn n (entries_of pipe.number h) pipe) where
@@ -312,8 +315,8 @@ module _ (laws : Laws) (n : ℕ) (h : List (BoardEntry Ask)) (e : BoardEntry Ask
   pub unshared-more : is_shared later ≡ false
   unshared-more = shared-more laws h e p plain.shares ∙ on.unshared
 
-  pub served-more : IsPad pipe.bound → 0 < mask later
-  served-more pad = subst (λ m. 0 < m) (sym (laws.steps.masked h e p plain.born plain.masks)) (on.served pad)
+  pub masked-more : IsMaskless e → IsPad pipe.bound → (mask later == 0) ≡ pipe.unmanned
+  masked-more maskless pad = ap (λ m. m == 0) (laws.steps.masked h e p maskless.born maskless.masks) ∙ on.masked pad
 
   pub delivered-more : is_collect e ≡ false → length (completed (handed_out later)) ≡ pipe.delivered
   delivered-more hands = ap (λ ns. length (completed ns)) (laws.steps.nothing h e p hands) ∙ on.delivered
@@ -322,13 +325,13 @@ module _ (laws : Laws) (n : ℕ) (h : List (BoardEntry Ask)) (e : BoardEntry Ask
   lines-more none = ap (map line_of) (asks-same laws h e p none) ∙ on.lines
 
   -- it accepts nothing, hands nothing out, and holds nothing
-  pub pipe-stays : accepted_in e ≡ None → is_collect e ≡ false → held_in e ≡ None → IsPipeIn n later pipe
-  pipe-stays none hands holds =
+  pub pipe-stays : IsMaskless e → accepted_in e ≡ None → is_collect e ≡ false → held_in e ≡ None → IsPipeIn n later pipe
+  pipe-stays maskless none hands holds =
       record {
         opened = opened-more;
         managed = managed-more;
         unshared = unshared-more;
-        served = served-more;
+        masked = masked-more maskless;
         held = laws.steps.held h e p holds ∙ on.held;
         queue = on.queue;
         lines = lines-more none;
@@ -336,13 +339,13 @@ module _ (laws : Laws) (n : ℕ) (h : List (BoardEntry Ask)) (e : BoardEntry Ask
       }
 
   -- it accepts a request
-  pub pipe-accepts : (ask : Ask) → is_of p e ≡ true → accepted_in e ≡ Some ask → is_collect e ≡ false → held_in e ≡ None → IsPipeIn n later (record pipe { lines = pipe.lines ++ line_of ask ∷ [] })
-  pipe-accepts ask of some hands holds =
+  pub pipe-accepts : IsMaskless e → (ask : Ask) → is_of p e ≡ true → accepted_in e ≡ Some ask → is_collect e ≡ false → held_in e ≡ None → IsPipeIn n later (record pipe { lines = pipe.lines ++ line_of ask ∷ [] })
+  pipe-accepts maskless ask of some hands holds =
       record {
         opened = opened-more;
         managed = managed-more;
         unshared = unshared-more;
-        served = served-more;
+        masked = masked-more maskless;
         held = laws.steps.held h e p holds ∙ on.held;
         queue = on.queue;
         lines =
@@ -358,12 +361,12 @@ pub pipe-collected : Laws → (n : ℕ) (h : List (BoardEntry Ask)) (pipe : Pipe
 pipe-collected laws n h pipe to legal on =
     let p : ℕ = pipe.number in
     let e : BoardEntry Ask = event.Collect n p to in
-    let plain : IsPlain e = record { born = refl; closes = refl; shares = refl; masks = refl } in
+    let plain : IsPlain e = record { closes = refl; shares = refl } in
     record {
       opened = opened-more laws n h e pipe plain on;
       managed = managed-more laws n h e pipe plain on;
       unshared = unshared-more laws n h e pipe plain on;
-      served = served-more laws n h e pipe plain on;
+      masked = masked-more laws n h e pipe plain on (record { born = refl; masks = refl });
       held = laws.steps.held h e p refl ∙ on.held;
       queue = on.queue;
       lines = lines-more laws n h e pipe plain on refl;

@@ -1,5 +1,5 @@
 -- What a caller knows of its pipelines on the board, and how it goes on.
-use Rattle.std.specs.Prelude.{ℕ, ◌+◌, ◌<◌, ◌≡◌, Bool, true, false, ◌==◌, List, [], ◌∷◌, ◌++◌, length, map, Option, Some, None, ⊤, slice_get, unwrap_or}
+use Rattle.std.specs.Prelude.{ℕ, ◌+◌, ◌≡◌, Bool, true, false, ◌==◌, List, [], ◌∷◌, ◌++◌, length, map, Option, Some, None, ⊤, slice_get, unwrap_or}
 use Rattle.kc_base.specs.declared.callback_list.Callback.{Callback}
 use Rattle.kc_base.specs.declared.callback_list.Callback.TheVariants as callback
 use Rattle.board.specs.declared.entry.BoardEntry.{BoardEntry}
@@ -8,13 +8,13 @@ use Rattle.board.specs.declared.entry.Entered.{Entered}
 use Rattle.board.specs.declared.entry.Shape.{Shape}
 use Rattle.board.specs.declared.entry.Entered.TheVariants.{InProgress, Busy, NoSpace}
 use Rattle.board.specs.Allowance.{accepted_by}
-use Rattle.board.specs.Entries.{entries_of, submissions, is_held, is_shared, is_closed, mask, caller_of}
+use Rattle.board.specs.Entries.{entries_of, birth, submissions, is_held, is_shared, is_closed, mask, caller_of}
 use Rattle.board.specs.Following.{EndsRight, IsOfOne, LeavesShared, LeavesSubmissions, LeavesShut}
 use Rattle.board.specs.Handing.{HandsNothing, CollectHandsOut, AllHandedOutIsDrained, completions}
 use Rattle.board.specs.Legal.{IsOpenAs, MayManage, LegalBoard, is_shut}
 use Rattle.board.specs.Order.{handed_out, completed, HandsOutAll, FrontIsAll}
 use Rattle.board.specs.Shapes.{is_pad, has_line}
-use Rattle.board.specs.Staying.{Joins, LeavesOthers, BeginsAlone, StaysOpen, StaysManaged, Holds as IsHeldSo, StaysHeld, StaysMasked}
+use Rattle.board.specs.Staying.{Joins, LeavesOthers, BeginsAlone, StaysOpen, StaysManaged, Holds as IsHeldSo, StaysHeld, Masks as IsMaskedSo, StaysMasked}
 use Rattle.transforms.specs.declared.ask.Ask.{Ask}
 use Rattle.transforms.specs.declared.request.Finished.{Finished}
 use Rattle.turn_lock.specs.Turns.{Known, StartsWith, sees}
@@ -36,6 +36,7 @@ pub record Steps : Type 0 where
   pub managed : (h : List (BoardEntry Ask)) (e : BoardEntry Ask) (p caller : ℕ) → StaysManaged h e p caller
   pub switched : (h : List (BoardEntry Ask)) (caller p : ℕ) → IsHeldSo h caller p
   pub held : (h : List (BoardEntry Ask)) (e : BoardEntry Ask) (p : ℕ) → StaysHeld h e p
+  pub remasked : (h : List (BoardEntry Ask)) (caller p bits : ℕ) → IsMaskedSo h caller p bits
   pub masked : (h : List (BoardEntry Ask)) (e : BoardEntry Ask) (p : ℕ) → StaysMasked h e p
   pub shared : (es : List (BoardEntry Ask)) (e : BoardEntry Ask) → LeavesShared es e
   pub accepted : (es : List (BoardEntry Ask)) (e : BoardEntry Ask) → LeavesSubmissions es e
@@ -72,13 +73,13 @@ abbrev pub made_so : Option ℕ → Shape → Bool
 made_so None = is_pad
 made_so (Some max) = has_line
 
--- The pipeline of which this caller is the maker, as the entries of its number have it. Some worker may take a pad's jobs, and only
--- what has a line is held.
+-- The pipeline of which this caller is the maker, as the entries of its number have it. A pad is unmanned exactly where its mask is
+-- empty, and only what has a line is held.
 pub record IsPipeIn (caller : ℕ) (es : List (BoardEntry Ask)) (pipe : Pipe) : Type 0 where
   pub opened : IsOpenAs (made_so pipe.bound) es
   pub managed : MayManage es caller
   pub unshared : is_shared es ≡ false
-  pub served : IsPad pipe.bound → 0 < mask es
+  pub masked : IsPad pipe.bound → (mask es == 0) ≡ pipe.unmanned
   pub held : is_held es ≡ pipe.held
   pub queue : pipe.held ≡ true → IsQueue pipe.bound
   pub lines : map line_of (submissions es) ≡ pipe.lines
@@ -138,10 +139,11 @@ pub record IsShut (k l : Known (BoardEntry Ask)) : Type 0 where
   pub legal : LegalBoard l.seen
   pub own : IsOwn caller_of l
 
--- The caller made a pipeline, whose number no other has; each other is as it was.
+-- The caller made a pipeline of the shape, whose number no other has; each other is as it was.
 pub record Opened (k l : Known (BoardEntry Ask)) (number : ℕ) (shape : Shape) : Type 0 where
   pub changed : Changed k l (new_pipe number shape) (new_pipe number shape) (Creates number shape ∷ []) []
   pub fresh : (other : Pipe) → KnowsPipe k other → (other.number == number) ≡ false
+  pub born : birth (entries_of number l.seen) ≡ Some (l.number, shape)
 
 -- ---- what calls make of a pipeline
 

@@ -1,16 +1,18 @@
 //! A script's calls on the board.
 
-ghost use Rattle.std.specs.Prelude.{◌≡◌, ◌≢◌, ◌↔◌, ◌<◌, ◌≤◌, ◌+◌, ◌++◌, ◌∷◌, [], true, false, Bool, List, length, Some, IsSome, IfErr, MatchResult};
+ghost use Rattle.std.specs.Prelude.{◌≡◌, ◌≢◌, ◌↔◌, ◌<◌, ◌≤◌, ◌==◌, ◌+◌, ◌^◌, ◌++◌, ◌∷◌, [], true, false, Bool, List, length, Some, IsSome, IfErr, MatchResult};
 ghost use Rattle.std.specs.Arc.{arc_value};
 ghost use Rattle.kc_base.specs.declared.callback_list.Callback.{Callback as Told};
 ghost use Rattle.board.specs.Allowance.{IsAllowed};
+ghost use Rattle.board.specs.Entries.{entries_of, birth};
 ghost use Rattle.board.specs.Handing.{completions};
 ghost use Rattle.board.specs.Legal.{IsNoWorker, LegalBoard, is_shut};
 ghost use Rattle.board.specs.declared.board_core.BoardErr.TheVariants as BoardErr;
 ghost use Rattle.board.specs.declared.entry.Shape.TheVariants.{Pad as PadOf, Queue as QueueOf};
+ghost use Rattle.board.specs.Shapes.{width_born};
 ghost use Rattle.transforms.specs.AskValue.{ask_size};
 ghost use Rattle.transforms.specs.declared.request.Finished.{Finished as Outcome};
-ghost use Rattle.dialogues.specs.BoardCalls.{Submits, Enqueues, Holds, Goes, asked_by};
+ghost use Rattle.dialogues.specs.BoardCalls.{Submits, Enqueues, Holds, Goes, Masks, asked_by};
 ghost use Rattle.session_calls.specs.Passes.{CallsBoard, known, lock_of};
 ghost use Rattle.session_calls.specs.Pipelines.{Laws, Steps, IsPad, IsQueue, KnowsPipe, Kept, Changed, Closed, IsShut, Opened, with_ask, entered_pipe, entered_asks, Drained, Polled};
 
@@ -131,7 +133,7 @@ impl BoardCaller {
     }
 
     /// Hands a job in to a pad of the caller's, and answers its number. `TooBig` exactly where the caller's allowance has no
-    /// room for the job; `NoWorker` never, since its mask isn't empty.
+    /// room for the job; `NoWorker` never, since some worker may take from it.
     pub fn submit<R: Wait>(
         &mut self,
         rt: &R,
@@ -142,6 +144,7 @@ impl BoardCaller {
         requires at { CallsBoard board.now self.old }
         requires pipe { KnowsPipe (known self.old) pipe.now }
         requires pad { IsPad pipe.now.bound }
+        requires manned { pipe.now.unmanned ≡ false }
         ensures lock { lock_of self.new ≡ lock_of self.old }
         ensures submitted { MatchResult result
             (λ number. Changed (known self.old) (known self.new) pipe.now (with_ask pipe.now (arc_value job.ask)) (Submits pipe.now.number number (asked_by (arc_value job.ask)) ∷ []) (arc_value job.ask ∷ []))
@@ -199,6 +202,31 @@ impl BoardCaller {
         board_laws();
         let pass = self.pass.take().unwrap();
         self.pass = Some(board.close(rt, pass, pipe.number));
+    }
+
+    /// From now on the workers whose bits are set may take from a pad of the caller's, bit i for worker i + 1; no bit stands at or
+    /// above the number of lists that it was made with. Only want of memory refuses.
+    pub fn mask<R: Wait>(
+        &mut self,
+        rt: &R,
+        board: &SharedBoard<Job>,
+        pipe: &Pipe,
+        bits: u16,
+    ) -> Result<(), BoardErr>
+        requires at { CallsBoard board.now self.old }
+        requires pipe { KnowsPipe (known self.old) pipe.now }
+        requires pad { IsPad pipe.now.bound }
+        requires bits { bits < 2 ^ width_born (birth (entries_of pipe.now.number (known self.old).seen)) }
+        ensures lock { lock_of self.new ≡ lock_of self.old }
+        ensures masked { MatchResult result
+            (λ _. Changed (known self.old) (known self.new) pipe.now (record (pipe.now) { unmanned = bits == 0 }) (Masks pipe.now.number bits ∷ []) [])
+            (λ e. (e ≡ BoardErr.Memory) × Kept (known self.old) (known self.new)) }
+    {
+        board_laws();
+        let pass = self.pass.take().unwrap();
+        let (pass, answer) = board.mask(rt, pass, pipe.number, bits);
+        self.pass = Some(pass);
+        answer
     }
 
     /// From now on no request of a queue of the caller's is run. Only want of memory refuses.

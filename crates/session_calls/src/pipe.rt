@@ -66,6 +66,8 @@ pub struct Pipe {
     pub bound: Option<u32>,
     /// Whether it is held.
     pub held: bool,
+    /// Whether no worker may take from it: it is a pad whose mask is empty.
+    pub unmanned: bool,
     pub lines: Lines,
     /// How many completions it handed out.
     pub delivered: u64,
@@ -76,5 +78,5 @@ impl Model for Pipe {
 
     ghost Value = { Known };
 
-    ghost view = { λ p. record { number = p.number; bound = p.bound; held = p.held; lines = p.lines; delivered = p.delivered } };
+    ghost view = { λ p. record { number = p.number; bound = p.bound; held = p.held; unmanned = p.unmanned; lines = p.lines; delivered = p.delivered } };
 }

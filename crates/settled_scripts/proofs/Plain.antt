@@ -7,7 +7,7 @@ use Rattle.board.specs.Shapes.{is_chain}
 use Rattle.templates.specs.Looking.{Found}
 use Rattle.dialogues.specs.RegistryCalls.{RegCall}
 use Rattle.dialogues.specs.BoardCalls.{BoardCall}
-use Rattle.dialogues.specs.Questions.{RegQuestion, RegAnswer, Enlist, Look, Unlist, Get, Put, Count, ListAll, reg_call, reg_answer, BoardQuestion, BoardAnswer, Create, Submit, Enqueue, Hold, Go, Poll, Drain, Close, Share, Shut, board_call, board_answer}
+use Rattle.dialogues.specs.Questions.{RegQuestion, RegAnswer, Enlist, Look, Unlist, Get, Put, Count, ListAll, reg_call, reg_answer, BoardQuestion, BoardAnswer, Create, Submit, Enqueue, Hold, Go, Poll, Drain, Close, Share, Mask, Shut, board_call, board_answer}
 use Rattle.dialogues.specs.Dialogues.{Dialogue, Ends, Says, Asks, Posts}
 use Rattle.dialogues.specs.Turns.{Turn, turn_of, asking, posting, broken}
 use Rattle.dialogues.specs.Walk.{Walk}
@@ -46,6 +46,7 @@ reply_same pipelines (Poll pipe) a timeless is = absurd cc
 reply_same pipelines (Drain pipe) a timeless is = there_is drained_from [] a (slice_get pipelines pipe) is
 reply_same pipelines (Close pipe) a timeless is = refl
 reply_same pipelines (Share pipe) a timeless is = absurd cc
+reply_same pipelines (Mask pipe bits) a timeless is = refl
 reply_same pipelines Shut a timeless is = refl
 
 is_not : (c : Bool) → not c ≡ true → c ≡ false
@@ -63,6 +64,7 @@ timeless_call pipelines (Poll pipe) a timeless = absurd cc
 timeless_call pipelines (Drain pipe) a timeless = refl
 timeless_call pipelines (Close pipe) a timeless = tt
 timeless_call pipelines (Share pipe) a timeless = absurd cc
+timeless_call pipelines (Mask pipe bits) a timeless = tt
 timeless_call pipelines Shut a timeless = tt
 
 both : (a b : Bool) → (a && b) ≡ true → (a ≡ true) × (b ≡ true)

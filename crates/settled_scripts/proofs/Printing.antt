@@ -59,15 +59,16 @@ posts_follow (Posts q next) later registry pipelines =
 
 -- ---- lines
 
--- the plain pass of lines is the same for every number of workers
-lines_same : (workers : ℕ) (walk : Walk) (n : ℕ) (lines : List Line) (registry : PlainRegistry) (pipelines : List Pipeline) → pass (lines_dialogue workers walk n lines end) registry pipelines ≡ pass (lines_dialogue 0 walk n lines end) registry pipelines
-lines_same workers walk n [] registry pipelines = refl
-lines_same workers walk n (next ∷ lines) registry pipelines =
+-- the plain pass of settled lines is the same for every number of workers
+lines_same : (workers : ℕ) (walk : Walk) (n : ℕ) (lines : List Line) → list_all is_settled_line lines ≡ true → (registry : PlainRegistry) (pipelines : List Pipeline) → pass (lines_dialogue workers walk n lines end) registry pipelines ≡ pass (lines_dialogue 0 walk n lines end) registry pipelines
+lines_same workers walk n [] settled registry pipelines = refl
+lines_same workers walk n (next ∷ lines) settled registry pipelines =
+    let parts = and_parts (is_settled_line next) (list_all is_settled_line lines) settled in
     let later : ℕ → Walk → Dialogue = λ beside after. lines_dialogue beside after (n + 1) lines end in
     let p : Passed = pass (line_dialogue 0 walk n next) registry pipelines in
     passes_follow (line_dialogue workers walk n next) (later workers) registry pipelines
-    ∙ (ap (λ (q : Passed). passed_then q (later workers)) (line_same workers walk n next registry pipelines)
-    ∙ (ap (λ (q : Passed). saying p.answers (if_timeless p.timeless q)) (lines_same workers p.after (n + 1) lines p.registry p.pipelines)
+    ∙ (ap (λ (q : Passed). passed_then q (later workers)) (line_same workers walk n next parts.0 registry pipelines)
+    ∙ (ap (λ (q : Passed). saying p.answers (if_timeless p.timeless q)) (lines_same workers p.after (n + 1) lines parts.1 p.registry p.pipelines)
     ∙ sym (passes_follow (line_dialogue 0 walk n next) (later 0) registry pipelines)))
 
 its_walk : (o : Option Walk) → IsSome o → (after : Walk) × (o ≡ Some after)
@@ -99,7 +100,7 @@ pub prints_plain : AnswersArePlain → RepliesArePlain → InTurnByOne → Print
 unfolding plain_text
 prints_plain answers replies narrow workers lines r b text settled legal made callers legal_board board_callers in_turn is =
     let turn : Turn = turn_in workers (start 0) 0 lines r b in
-    let same : pass (script workers (start 0) lines) first_registry [] ≡ passed lines = lines_same workers (start 0) 1 lines first_registry [] in
+    let same : pass (script workers (start 0) lines) first_registry [] ≡ passed lines = lines_same workers (start 0) 1 lines settled.lines_settled first_registry [] in
     let after = its_walk turn.after is.ended in
     let its : IsTurn (script workers (start 0) lines) turn =
     ap (λ calls. turn_of (script workers (start 0) lines) calls turn.board) is.registry ∙ ap (λ calls. turn_of (script workers (start 0) lines) (reg_calls 0 r) calls) is.board in

@@ -1,5 +1,9 @@
--- The plain pass of a line is the same for every number of workers.
-use Rattle.std.proofs.Common.{◌≡◌, ℕ, Bool, true, false, cond, not, nat_le, List, [], ◌∷◌, ◌++◌, length, refl, Option, Some, None, is_some}
+-- The plain pass of a settled line is the same for every number of workers.
+use Rattle.std.proofs.Common.{◌≡◌, ◌⊎◌, inl, inr, ℕ, ◌≢◌, ◌+◌, ◌-◌, ◌*◌, ◌/◌, ◌^◌, ◌%◌, ◌==◌, Bool, true, false, cond, not, ◌||◌, nat_le, nat_lt, List, [], ◌∷◌, ◌++◌, length, refl, sym, ap, ◌∙◌, arith, Option, Some, None, is_some}
+use Rattle.std.proofs.lemmas.Bool.{eq-eqb, eqb-true, or_cases, false_from_ne_true}
+use Rattle.std.proofs.lemmas.Bool.Decides.{nat_tests}
+use Rattle.std.proofs.lemmas.Nat.{mod-pow-add}
+use Rattle.std.proofs.Math.Nat.{zero-mod}
 use Rattle.kc_base.specs.declared.error_numbers.Errno.{Errno}
 use Rattle.kc_base.specs.declared.error_numbers.Errno.TheVariants.{EAGAIN, EEXIST, EINVAL, EMFILE}
 use Rattle.alg_registry.specs.Rows.{listed_at}
@@ -15,14 +19,15 @@ use Rattle.templates.specs.Looking.{Found, Entry, Fault}
 use Rattle.reply_text.specs.declared.answers.Answer.TheVariants as said
 use Rattle.dialogues.specs.Names.{name_read, is_queue_length, plan_for}
 use Rattle.dialogues.specs.RegistryCalls.{Looks, Gets}
-use Rattle.dialogues.specs.Allocating.{binds, binds_plan, creates, shape_for, new_live, and_live, fault_of}
-use Rattle.dialogues.specs.Dialogues.{Dialogue, Asks, unless, refuses, says}
+use Rattle.dialogues.specs.Allocating.{lists_beside, binds, binds_plan, creates, shape_for, new_live, and_live, fault_of}
+use Rattle.dialogues.specs.Dialogues.{Dialogue, Asks, unless, refuses, says, for_live}
+use Rattle.dialogues.specs.Piping.{kept_bits, if_pad, with_pad, masks}
 use Rattle.dialogues.specs.Questions.{Look}
 use Rattle.dialogues.specs.Lines.{command_dialogue, line_dialogue}
-use Rattle.dialogues.specs.Walk.{Walk, Pipe, live_of}
+use Rattle.dialogues.specs.Walk.{Walk, Live, Pipe, live_of, with_pipe}
 use Rattle.plain_calls.specs.Registry.{PlainRegistry, look_found, look_up, registry_after}
 use Rattle.plain_calls.specs.Pipelines.{Pipeline}
-use Rattle.settled_scripts.specs.Settled.{pass}
+use Rattle.settled_scripts.specs.Settled.{is_settled_line, pass}
 
 unless_same : (walk : Walk) (n : ℕ) (refusals : List (Bool × Errno)) (d e : Dialogue) (registry : PlainRegistry) (pipelines : List Pipeline) → pass d registry pipelines ≡ pass e registry pipelines → pass (unless walk n refusals d) registry pipelines ≡ pass (unless walk n refusals e) registry pipelines
 unless_same walk n [] d e registry pipelines same = same
@@ -51,17 +56,61 @@ binds_same : (workers : ℕ) (walk : Walk) (n : ℕ) (label : List ℕ) (len : O
 binds_same workers walk n label len (Fault errno) registry pipelines = refl
 binds_same workers walk n label len (Entry id spec) registry pipelines = plan_same workers walk n label len id spec (plan_for spec len) registry pipelines
 
-command_same : (workers : ℕ) (walk : Walk) (n : ℕ) (c : Command) (registry : PlainRegistry) (pipelines : List Pipeline) → pass (command_dialogue workers walk n c) registry pipelines ≡ pass (command_dialogue 0 walk n c) registry pipelines
-command_same workers walk n (command.Alloc label name len) registry pipelines =
+odd_is_some : (q r : ℕ) → r ≡ 1 → q * 2 + r ≢ 0
+odd_is_some q r odd none = absurd (omega (arith, odd, none))
+
+-- what is kept of an empty mask, and of one with the first worker's bit, is empty beside all numbers of workers or beside none
+kept_same : (workers bits : ℕ) → (bits == 0 || bits % 2 == 1) ≡ true → (kept_bits workers bits == 0) ≡ (kept_bits 0 bits == 0)
+kept_same workers bits settled = by (or_cases (bits == 0) (bits % 2 == 1) settled)
+  where
+    lists : (w : ℕ) → (j : ℕ) × (lists_beside w ≡ j + 1)
+    lists w = least (nat_lt w 1) refl
+      where
+        least : (c : Bool) → nat_lt w 1 ≡ c → (j : ℕ) × (cond c 1 w ≡ j + 1)
+        least true e = (0, refl)
+        least false e = (w - 1, grind (arith, nat_tests, e))
+
+    none : (w : ℕ) → bits ≡ 0 → (kept_bits w bits == 0) ≡ true
+    none w e = ap (λ b. kept_bits w b == 0) e ∙ eq-eqb (0 % 2 ^ lists_beside w) 0 (zero-mod (2 ^ lists_beside w))
+
+    some : (w : ℕ) → bits % 2 ≡ 1 → (kept_bits w bits == 0) ≡ false
+    some w e =
+        let l = lists w in
+        let split : kept_bits w bits ≡ (bits / 2 ^ 1 % 2 ^ l.0) * 2 ^ 1 + bits % 2 ^ 1 = ap (λ k. bits % 2 ^ k) l.1 ∙ mod-pow-add bits l.0 1 in
+        false_from_ne_true (kept_bits w bits == 0) (λ h. odd_is_some (bits / 2 % 2 ^ l.0) (bits % 2) e (sym split ∙ eqb-true (kept_bits w bits) 0 h))
+
+    by : ((bits == 0) ≡ true) ⊎ ((bits % 2 == 1) ≡ true) → (kept_bits workers bits == 0) ≡ (kept_bits 0 bits == 0)
+    by (inl h) = let e = eqb-true bits 0 h in none workers e ∙ sym (none 0 e)
+    by (inr h) = let e = eqb-true (bits % 2) 1 h in some workers e ∙ sym (some 0 e)
+
+-- a mask's line says the same where what is kept is empty in both
+mask_same : (workers : ℕ) (walk : Walk) (n bits : ℕ) (live : Live) (o : Option Pipe) (registry : PlainRegistry) (pipelines : List Pipeline) → (kept_bits workers bits == 0) ≡ (kept_bits 0 bits == 0)
+    → pass (with_pad walk n o (masks workers walk n bits live)) registry pipelines ≡ pass (with_pad walk n o (masks 0 walk n bits live)) registry pipelines
+mask_same workers walk n bits live None registry pipelines same = refl
+mask_same workers walk n bits live (Some pipe) registry pipelines same = by pipe.bound
+  where
+    by : (bound : Option ℕ) → pass (if_pad walk n bound (masks workers walk n bits live pipe)) registry pipelines ≡ pass (if_pad walk n bound (masks 0 walk n bits live pipe)) registry pipelines
+    by None = ap (λ c. pass (says (with_pipe walk live (record pipe { unmanned = c })) (said.Ok n)) registry pipelines) same
+    by (Some max) = refl
+
+label_mask_same : (workers : ℕ) (walk : Walk) (n bits : ℕ) (o : Option Live) (registry : PlainRegistry) (pipelines : List Pipeline) → (kept_bits workers bits == 0) ≡ (kept_bits 0 bits == 0)
+    → pass (for_live walk n o (λ live. with_pad walk n live.pipe (masks workers walk n bits live))) registry pipelines ≡ pass (for_live walk n o (λ live. with_pad walk n live.pipe (masks 0 walk n bits live))) registry pipelines
+label_mask_same workers walk n bits None registry pipelines same = refl
+label_mask_same workers walk n bits (Some live) registry pipelines same = mask_same workers walk n bits live live.pipe registry pipelines same
+
+command_same : (workers : ℕ) (walk : Walk) (n : ℕ) (c : Command) → is_settled_line (line.Cmd c) ≡ true → (registry : PlainRegistry) (pipelines : List Pipeline) → pass (command_dialogue workers walk n c) registry pipelines ≡ pass (command_dialogue 0 walk n c) registry pipelines
+command_same workers walk n (command.Mask label bits) settled registry pipelines =
+    label_mask_same workers walk n bits (live_of walk label) registry pipelines (kept_same workers bits settled)
+command_same workers walk n (command.Alloc label name len) settled registry pipelines =
     let found : Found = look_found (look_up registry name) in
     let asks : ℕ → Dialogue = λ beside. Asks (Look name) λ found. binds beside walk n label len found in
     unless_same walk n
     ((is_some (live_of walk label), EEXIST) ∷ (nat_le 4096 (length walk.lives), EMFILE) ∷ fault_of (name_read name) ++ (not (is_queue_length len), EINVAL) ∷ [])
     (asks workers) (asks 0) registry pipelines
     (binds_same workers walk n label len found (registry_after registry (Looks name (Some found))) pipelines)
-command_same workers walk n c registry pipelines = refl
+command_same workers walk n c settled registry pipelines = refl
 
-pub line_same : (workers : ℕ) (walk : Walk) (n : ℕ) (next : Line) (registry : PlainRegistry) (pipelines : List Pipeline) → pass (line_dialogue workers walk n next) registry pipelines ≡ pass (line_dialogue 0 walk n next) registry pipelines
-line_same workers walk n line.Nothing registry pipelines = refl
-line_same workers walk n line.Malformed registry pipelines = refl
-line_same workers walk n (line.Cmd c) registry pipelines = command_same workers walk n c registry pipelines
+pub line_same : (workers : ℕ) (walk : Walk) (n : ℕ) (next : Line) → is_settled_line next ≡ true → (registry : PlainRegistry) (pipelines : List Pipeline) → pass (line_dialogue workers walk n next) registry pipelines ≡ pass (line_dialogue 0 walk n next) registry pipelines
+line_same workers walk n line.Nothing settled registry pipelines = refl
+line_same workers walk n line.Malformed settled registry pipelines = refl
+line_same workers walk n (line.Cmd c) settled registry pipelines = command_same workers walk n c settled registry pipelines

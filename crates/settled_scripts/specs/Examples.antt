@@ -3,7 +3,7 @@ use Rattle.std.specs.Prelude.{ℕ, Bool, true, false, List, [], ◌∷◌, ◌++
 use Rattle.kc_base.specs.declared.error_numbers.Errno.{Errno}
 use Rattle.kc_base.specs.declared.error_numbers.Errno.TheVariants.{ENOENT, EINPROGRESS, EBUSY, ENOSPC, EINVAL}
 use Rattle.transforms.specs.Cuts.{in_one}
-use Rattle.script_text.specs.declared.commands.Command.TheVariants.{Alloc, Register, Unregister, Key, Enc, Hold, Go, Poll, Drain, Free, Refs}
+use Rattle.script_text.specs.declared.commands.Command.TheVariants.{Alloc, Register, Unregister, Key, Enc, Mask, Hold, Go, Poll, Drain, Free, Refs}
 use Rattle.script_text.specs.declared.commands.Command.TheVariants as command
 use Rattle.script_text.specs.declared.commands.Line.{Line}
 use Rattle.script_text.specs.declared.commands.Line.TheVariants.{Cmd}
@@ -124,3 +124,34 @@ held_first_kinds =
     ∷ Other
     ∷ Started 6 ∷ Done 4 ∷ Done 5 ∷ Done 6 ∷ Drained 10 3
     ∷ []
+
+-- ---- masks
+
+-- a pad, and a mask of it between requests
+abbrev pub pad : List Line
+pad = alloc (codes "p") (codes "pcrypt(gcm(aes))") ∷ Cmd (Key (codes "p") (replicate 16 0)) ∷ []
+
+abbrev pub sealing_on_pad : Line
+sealing_on_pad = Cmd (Enc (codes "p") (replicate 12 0) [] (in_one (replicate 16 0)) false)
+
+abbrev pub masking : ℕ → Line
+masking bits = Cmd (Mask (codes "p") bits)
+
+-- what was accepted before stays, and is completed
+abbrev pub masked : List Line
+masked =
+    pad
+    ++ sealing_on_pad ∷ masking 0 ∷ sealing_on_pad ∷ masking 65535 ∷ sealing_on_pad
+    ∷ Cmd (Drain (codes "p"))
+    ∷ []
+
+abbrev pub masked_kinds : List Kind
+masked_kinds =
+    Other ∷ Other
+    ∷ Refused 3 EINPROGRESS ∷ Other ∷ Refused 5 EINVAL ∷ Other ∷ Refused 7 EINPROGRESS
+    ∷ Done 3 ∷ Done 7 ∷ Drained 8 2
+    ∷ []
+
+-- the second worker alone may do the request, if there is one; without it nobody may, and none is accepted
+abbrev pub masked_to_second : List Line
+masked_to_second = pad ++ masking 2 ∷ sealing_on_pad ∷ []

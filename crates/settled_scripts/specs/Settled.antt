@@ -1,5 +1,5 @@
 -- What a settled script prints: by one pass over its lines with no workers, no locks and no events.
-use Rattle.std.specs.Prelude.{ℕ, ◌≡◌, Bool, true, false, ◌&&◌, nat_le, List, [], ◌++◌, length}
+use Rattle.std.specs.Prelude.{ℕ, ◌≡◌, ◌%◌, ◌==◌, Bool, true, false, ◌&&◌, ◌||◌, nat_le, List, [], ◌++◌, length}
 use Rattle.std.specs.List.{flat_map, list_all}
 use Rattle.script_text.specs.declared.commands.Command.TheVariants as command
 use Rattle.script_text.specs.declared.commands.Line.{Line}
@@ -45,10 +45,12 @@ passed lines = pass (script 0 (start 0) lines) first_registry []
 unfoldable pub plain_text : List Line → List ℕ
 plain_text lines = flat_map text_of (passed lines).answers
 
--- it is no `poll`, and no `probe` of several names
+-- It is no `poll`, and no `probe` of several names; and a mask is empty or has the first worker's bit, which is there beside any
+-- number of workers.
 abbrev pub is_settled_line : Line → Bool
 is_settled_line (line.Cmd (command.Poll label)) = false
 is_settled_line (line.Cmd (command.Probe names)) = nat_le (length names) 1
+is_settled_line (line.Cmd (command.Mask label bits)) = bits == 0 || bits % 2 == 1
 is_settled_line _ = true
 
 -- No line polls or probes several names, and no answer depends on which jobs were done by then: a request finds its queue full, or not, whoever works.

@@ -23,7 +23,7 @@ fn is_malformed(alloc: Global, line: &[u8]) -> Result<bool, AllocError> {
 #[test]
 fn hostile_lines_are_malformed(rt: HostRuntime) -> Result<(), Fail> {
     let alloc = rt.alloc();
-    let table: [&[u8]; 14] = [
+    let table: [&[u8]; 18] = [
         b"key t 000",
         b"mac t 00\x0000",
         b"mac t\r00",
@@ -38,6 +38,10 @@ fn hostile_lines_are_malformed(rt: HostRuntime) -> Result<(), Fail> {
         b"mac t |00",
         b"mac t 00|-",
         b"enc t - 00|00 00",
+        b"mask p 000",
+        b"mask p 00000",
+        b"mask p 000g",
+        b"mask p -",
     ];
     for line in table {
         assert!(rt; is_malformed(alloc, line)?, "{line:?}");

@@ -12,6 +12,7 @@ returns c = record {
   managed = c.pipelines_stay.ensures.managed;
   switched = c.queues_hold.ensures.held;
   held = c.queues_hold.ensures.stays;
+  remasked = c.masks_stay.ensures.masked;
   masked = c.masks_stay.ensures.stays;
   shared = c.entries_leave.ensures.shared;
   accepted = c.entries_leave.ensures.submissions;

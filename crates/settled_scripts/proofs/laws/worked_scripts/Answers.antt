@@ -36,3 +36,14 @@ returns-clause-held_late c = λ settled. absurd (let e = settled.timeless in cc)
 pub returns-clause-polling : goal.returns-clause-polling
 unfolding table template_named tree_of weight
 returns-clause-polling c = λ settled. absurd (let e = settled.timeless in cc)
+
+pub returns-clause-masked : goal.returns-clause-masked
+unfolding table template_named tree_of weight
+returns-clause-masked c = record { lines_settled = refl; timeless = refl }
+
+pub returns-clause-masked_answers : goal.returns-clause-masked_answers
+unfolding table template_named tree_of weight request_value
+returns-clause-masked_answers c = refl
+
+pub returns-clause-masked_to_second : goal.returns-clause-masked_to_second
+returns-clause-masked_to_second c = λ settled. absurd (let e = settled.lines_settled in cc)

@@ -29,6 +29,9 @@ returns-in-Authsize g c = command-arm c.authsize.result c.args.self.now _ c.args
 pub returns-in-Bulk : goal.returns-in-Bulk
 returns-in-Bulk g c = command-arm c.bulk.result c.args.self.now _ c.args.number c.args.command.now (command.Bulk c.in-Bulk.label c.in-Bulk.size c.in-Bulk.seed) _ _ c.in-Bulk.is c.bulk.ensures
 
+pub returns-in-Mask : goal.returns-in-Mask
+returns-in-Mask g c = command-arm c.mask.result c.args.self.now _ c.args.number c.args.command.now (command.Mask c.in-Mask.label c.in-Mask.mask) _ _ c.in-Mask.is c.mask.ensures
+
 pub returns-in-Hold : goal.returns-in-Hold
 returns-in-Hold g c = command-arm c.hold.result c.args.self.now _ c.args.number c.args.command.now (command.Hold c.in-Hold.label) _ _ c.in-Hold.is c.hold.ensures
 

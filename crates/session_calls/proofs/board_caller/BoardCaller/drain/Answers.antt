@@ -15,7 +15,7 @@ pub drain-pass-requires-clause-pipe : goal.drain-pass-requires-clause-pipe
 drain-pass-requires-clause-pipe g c κs within =
     let at_hand : c.args.self.now ≡ Some c.unwrap-pass.result = sym c.self.view_is ∙ (sym c.take.ensures.value ∙ c.unwrap-pass.ensures) in
     let i = c.pipe.inside in
-    let p : Pipe = record { number = i.number; bound = i.bound; held = i.held; lines = i.lines; delivered = i.delivered } in
+    let p : Pipe = record { number = i.number; bound = i.bound; held = i.held; unmanned = i.unmanned; lines = i.lines; delivered = i.delivered } in
     let on = subst (λ o. KnowsPipe (known o) p) at_hand (subst (KnowsPipe (known c.args.self.now)) (sym c.pipe.view_is) c.requires.pipe) in
     is-open p.bound (entries_of p.number (known (Some c.unwrap-pass.result)).seen) on.opened
 
@@ -23,7 +23,7 @@ pub returns-clause-drained : goal.returns-clause-drained
 returns-clause-drained g c =
     let at_hand : c.args.self.now ≡ Some c.unwrap-pass.result = sym c.self.view_is ∙ (sym c.take.ensures.value ∙ c.unwrap-pass.ensures) in
     let i = c.pipe.inside in
-    let p : Pipe = record { number = i.number; bound = i.bound; held = i.held; lines = i.lines; delivered = i.delivered } in
+    let p : Pipe = record { number = i.number; bound = i.bound; held = i.held; unmanned = i.unmanned; lines = i.lines; delivered = i.delivered } in
     let on = subst (λ o. KnowsPipe (known o) p) at_hand (subst (KnowsPipe (known c.args.self.now)) (sym c.pipe.view_is) c.requires.pipe) in
     let into = c.args.into.now.list in
     let into' = c.drain-pass.new.into.list in

@@ -15,7 +15,7 @@ pub enqueue-pass-requires-clause-caller : goal.enqueue-pass-requires-clause-call
 enqueue-pass-requires-clause-caller g c κs within =
     let at_hand : c.args.self.now ≡ Some c.unwrap-pass.result = sym c.self.view_is ∙ (sym c.take.ensures.value ∙ c.unwrap-pass.ensures) in
     let i = c.pipe.inside in
-    let p : Pipe = record { number = i.number; bound = i.bound; held = i.held; lines = i.lines; delivered = i.delivered } in
+    let p : Pipe = record { number = i.number; bound = i.bound; held = i.held; unmanned = i.unmanned; lines = i.lines; delivered = i.delivered } in
     let on = subst (λ o. KnowsPipe (known o) p) at_hand (subst (KnowsPipe (known c.args.self.now)) (sym c.pipe.view_is) c.requires.pipe) in
     (on.managed.0, inl on.managed.1)
 
@@ -23,7 +23,7 @@ pub returns-clause-entered : goal.returns-clause-entered
 returns-clause-entered g c =
     let at_hand : c.args.self.now ≡ Some c.unwrap-pass.result = sym c.self.view_is ∙ (sym c.take.ensures.value ∙ c.unwrap-pass.ensures) in
     let i = c.pipe.inside in
-    let p : Pipe = record { number = i.number; bound = i.bound; held = i.held; lines = i.lines; delivered = i.delivered } in
+    let p : Pipe = record { number = i.number; bound = i.bound; held = i.held; unmanned = i.unmanned; lines = i.lines; delivered = i.delivered } in
     let laws = c.board_laws.ensures in
     let ask = arc_value c.args.job.ask in
     subst (λ o. MatchResult c.enqueue-pass.result.1 (λ answer. Changed (known o) (known (Some c.enqueue-pass.result.0)) c.args.pipe.now (entered_pipe c.args.pipe.now ask answer) (Enqueues c.args.pipe.now.number (asked_by ask) c.args.backlog answer ∷ []) (entered_asks ask answer)) (λ _. Kept (known o) (known (Some c.enqueue-pass.result.0)))) (sym at_hand)

@@ -11,7 +11,7 @@ pub returns-clause-held : goal.returns-clause-held
 returns-clause-held g c =
     let at_hand : c.args.self.now ≡ Some c.unwrap-pass.result = sym c.self.view_is ∙ (sym c.take.ensures.value ∙ c.unwrap-pass.ensures) in
     let i = c.pipe.inside in
-    let p : Pipe = record { number = i.number; bound = i.bound; held = i.held; lines = i.lines; delivered = i.delivered } in
+    let p : Pipe = record { number = i.number; bound = i.bound; held = i.held; unmanned = i.unmanned; lines = i.lines; delivered = i.delivered } in
     let on = subst (λ o. KnowsPipe (known o) p) at_hand (subst (KnowsPipe (known c.args.self.now)) (sym c.pipe.view_is) c.requires.pipe) in
     let after = known (Some c.go-pass.result.0) in
     subst (λ o. MatchResult c.go-pass.result.1 (λ _. Changed (known o) after c.args.pipe.now (record (c.args.pipe.now) { held = false }) (Goes c.args.pipe.now.number ∷ []) []) (λ e. (e ≡ Memory) × Kept (known o) after)) (sym at_hand)

@@ -13,7 +13,7 @@ pub poll-pass-requires-clause-pipe : goal.poll-pass-requires-clause-pipe
 poll-pass-requires-clause-pipe g c κs within =
     let at_hand : c.args.self.now ≡ Some c.unwrap-pass.result = sym c.self.view_is ∙ (sym c.take.ensures.value ∙ c.unwrap-pass.ensures) in
     let i = c.pipe.inside in
-    let p : Pipe = record { number = i.number; bound = i.bound; held = i.held; lines = i.lines; delivered = i.delivered } in
+    let p : Pipe = record { number = i.number; bound = i.bound; held = i.held; unmanned = i.unmanned; lines = i.lines; delivered = i.delivered } in
     let on = subst (λ o. KnowsPipe (known o) p) at_hand (subst (KnowsPipe (known c.args.self.now)) (sym c.pipe.view_is) c.requires.pipe) in
     is-open p.bound (entries_of p.number (known (Some c.unwrap-pass.result)).seen) on.opened
 
@@ -21,7 +21,7 @@ pub returns-clause-polled : goal.returns-clause-polled
 returns-clause-polled g c =
     let at_hand : c.args.self.now ≡ Some c.unwrap-pass.result = sym c.self.view_is ∙ (sym c.take.ensures.value ∙ c.unwrap-pass.ensures) in
     let i = c.pipe.inside in
-    let p : Pipe = record { number = i.number; bound = i.bound; held = i.held; lines = i.lines; delivered = i.delivered } in
+    let p : Pipe = record { number = i.number; bound = i.bound; held = i.held; unmanned = i.unmanned; lines = i.lines; delivered = i.delivered } in
     let on = subst (λ o. KnowsPipe (known o) p) at_hand (subst (KnowsPipe (known c.args.self.now)) (sym c.pipe.view_is) c.requires.pipe) in
     let into = c.args.into.now.list in
     let into' = c.poll-pass.new.into.list in
