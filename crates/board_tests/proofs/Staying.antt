@@ -1,10 +1,11 @@
 -- What a caller knows of a board after a call, by the board's laws.
 use Rattle.std.proofs.Common.{◌≡◌, ◌≢◌, ℕ, Bool, true, false, List, [], ◌∷◌, ◌++◌, ◌⊎◌, inl, inr, subst}
 use Rattle.std.specs.Prelude.{Result, Ok, Err, MatchResult, MatchBool}
+use Rattle.board.specs.declared.entry.Shape.{Shape}
 use Rattle.board.specs.declared.entry.BoardEntry.{BoardEntry}
 use Rattle.board.specs.Entries.{entries_of, is_close, caller_of}
 use Rattle.board.specs.Legal.{MayFinish, LegalBoard}
-use Rattle.board.specs.Staying.{StaysOpen, QueueStaysOpen, StaysManaged, SlipStays, IsOpenFor, IsOpenQueueFor}
+use Rattle.board.specs.Staying.{StaysOpen, StaysManaged, SlipStays, IsOpenFor}
 
 -- the history of a board after a call that appends one entry or none
 abbrev pub MayAppend : {X : Type 0} → List X → List X → X → Type 0
@@ -19,16 +20,10 @@ pub done : {X T E : Type 0} (old new : List X) (e : X) (r : Result T E) → Matc
 done old new e (Ok t) h = inl h
 done old new e (Err x) h = inr h
 
-module _ {A : Type 0} (managed : (h : List (BoardEntry A)) (e : BoardEntry A) (p caller : ℕ) → StaysManaged h e p caller) where
-  module _ (open_ : (h : List (BoardEntry A)) (e : BoardEntry A) (p : ℕ) → StaysOpen h e p) where
-    pub pad_after : (old new : List (BoardEntry A)) (e : BoardEntry A) (p caller : ℕ) → MayAppend old new e → is_close e ≡ false → IsOpenFor old p caller → IsOpenFor new p caller
-    pad_after old new e p caller (inl more) c o = rw more (open_ old e p o.0 c, managed old e p caller o.1)
-    pad_after old new e p caller (inr same) c o = rw same o
-
-  module _ (open_ : (h : List (BoardEntry A)) (e : BoardEntry A) (q : ℕ) → QueueStaysOpen h e q) where
-    pub queue_after : (old new : List (BoardEntry A)) (e : BoardEntry A) (q caller : ℕ) → MayAppend old new e → is_close e ≡ false → IsOpenQueueFor old q caller → IsOpenQueueFor new q caller
-    queue_after old new e q caller (inl more) c o = rw more (open_ old e q o.0 c, managed old e q caller o.1)
-    queue_after old new e q caller (inr same) c o = rw same o
+module _ {A : Type 0} (such : Shape → Bool) (managed : (h : List (BoardEntry A)) (e : BoardEntry A) (p caller : ℕ) → StaysManaged h e p caller) (open_ : (h : List (BoardEntry A)) (e : BoardEntry A) (p : ℕ) → StaysOpen such h e p) where
+  pub open_after : (old new : List (BoardEntry A)) (e : BoardEntry A) (p caller : ℕ) → MayAppend old new e → is_close e ≡ false → IsOpenFor such old p caller → IsOpenFor such new p caller
+  open_after old new e p caller (inl more) c o = rw more (open_ old e p o.0 c, managed old e p caller o.1)
+  open_after old new e p caller (inr same) c o = rw same o
 
 module _ {A O : Type 0} (meaning : A → O) (stays : (h : List (BoardEntry A)) (e : BoardEntry A) (p caller n : ℕ) (out : O) → SlipStays meaning h e p caller n out) where
   -- a job that another caller took stays its own

@@ -3,6 +3,7 @@
 ghost use Rattle.std.specs.Prelude.{◌≢◌, ℕ, IfOk};
 ghost use Rattle.board.specs.Entries.{entries_of};
 ghost use Rattle.board.specs.Legal.{IsNoWorker, MayFinish};
+ghost use Rattle.board.specs.Shapes.{is_pad};
 ghost use Rattle.board.specs.Staying.{IsOpenFor};
 
 use board::{BoardCore, BoardErr, BoardLog, Entered, Taken, Work, pipelines_stay, slips_stay};
@@ -61,7 +62,7 @@ pub(crate) fn saying(letter: char, bytes: u64) -> Echo {
 /// Makes a pad.
 fn make<W: Work>(board: &mut BoardCore<W>, caller: u32) -> Result<u64, BoardErr>
     requires { IsNoWorker caller }
-    ensures { IfOk result (λ pipe. IsOpenFor board.new pipe caller) }
+    ensures { IfOk result (λ pipe. IsOpenFor is_pad board.new pipe caller) }
 {
     pipelines_stay::<W::Ask>();
     let pipe = board.born_pad(caller, 2)?;
@@ -75,8 +76,8 @@ fn submit<W: Work>(
     pipe: u64,
     job: W,
 ) -> Result<u64, BoardErr>
-    requires { IsOpenFor board.old pipe caller }
-    ensures { IsOpenFor board.new pipe caller }
+    requires { IsOpenFor is_pad board.old pipe caller }
+    ensures { IsOpenFor is_pad board.new pipe caller }
 {
     pipelines_stay::<W::Ask>();
     let number = board.submit(caller, pipe, job)?;
@@ -85,8 +86,8 @@ fn submit<W: Work>(
 
 /// Takes a job, runs it and finishes it, if there is one. The jobs that others took stay theirs.
 fn work<W: Work>(board: &mut BoardCore<W>, worker: u32, pipe: u64) -> bool
-    requires { IsOpenFor board.old pipe 0 }
-    ensures open { IsOpenFor board.new pipe 0 }
+    requires { IsOpenFor is_pad board.old pipe 0 }
+    ensures open { IsOpenFor is_pad board.new pipe 0 }
     ensures others { (other p n : ℕ) (out : W.Out) → worker ≢ other → MayFinish W.meaning (entries_of p board.old) other n out → MayFinish W.meaning (entries_of p board.new) other n out }
 {
     pipelines_stay::<W::Ask>();
@@ -107,8 +108,8 @@ fn drain<W: Work>(
     pipe: u64,
     into: &mut Callbacks<W::Out>,
 ) -> Result<bool, BoardErr>
-    requires { IsOpenFor board.old pipe 0 }
-    ensures open { IsOpenFor board.new pipe 0 }
+    requires { IsOpenFor is_pad board.old pipe 0 }
+    ensures open { IsOpenFor is_pad board.new pipe 0 }
     ensures others { (other p n : ℕ) (out : W.Out) → 0 ≢ other → MayFinish W.meaning (entries_of p board.old) other n out → MayFinish W.meaning (entries_of p board.new) other n out }
 {
     pipelines_stay::<W::Ask>();
@@ -122,8 +123,8 @@ fn poll<W: Work>(
     pipe: u64,
     into: &mut Callbacks<W::Out>,
 ) -> Result<(), BoardErr>
-    requires { IsOpenFor board.old pipe 0 }
-    ensures { IsOpenFor board.new pipe 0 }
+    requires { IsOpenFor is_pad board.old pipe 0 }
+    ensures { IsOpenFor is_pad board.new pipe 0 }
 {
     pipelines_stay::<W::Ask>();
     board.poll(0, pipe, into)
@@ -136,8 +137,8 @@ fn second_first<W: Work>(
     pipe: u64,
     into: &mut Callbacks<W::Out>,
 ) -> Result<bool, BoardErr>
-    requires { IsOpenFor board.old pipe 0 }
-    ensures { IsOpenFor board.new pipe 0 }
+    requires { IsOpenFor is_pad board.old pipe 0 }
+    ensures { IsOpenFor is_pad board.new pipe 0 }
 {
     pipelines_stay::<W::Ask>();
     let Some(first) = board.take(1) else {
@@ -185,8 +186,8 @@ fn pad_step(
     into: &mut Callbacks<char>,
     step: char,
 ) -> Result<Said, BoardErr>
-    requires { IsOpenFor board.old pipe 0 }
-    ensures { IsOpenFor board.new pipe 0 }
+    requires { IsOpenFor is_pad board.old pipe 0 }
+    ensures { IsOpenFor is_pad board.new pipe 0 }
 {
     match step {
         '1' => Ok(yes_or_no(work(board, 1, pipe))),
@@ -255,7 +256,7 @@ fn are_limited(
     pipe: u64,
     table: &[(u64, Result<u64, BoardErr>)],
 ) -> bool
-    requires { IsOpenFor board.old pipe caller }
+    requires { IsOpenFor is_pad board.old pipe caller }
 {
     for (bytes, want) in table {
         if submit(board, caller, pipe, saying('a', *bytes)) != *want {

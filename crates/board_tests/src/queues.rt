@@ -3,7 +3,8 @@
 ghost use Rattle.std.specs.Prelude.{◌≢◌, ℕ, ◌≤◌, IfOk};
 ghost use Rattle.board.specs.Entries.{entries_of};
 ghost use Rattle.board.specs.Legal.{IsNoWorker, MayFinish};
-ghost use Rattle.board.specs.Staying.{IsOpenQueueFor};
+ghost use Rattle.board.specs.Shapes.{has_line};
+ghost use Rattle.board.specs.Staying.{IsOpenFor};
 
 use crate::pads::{Echo, Said, saying, yes_or_no};
 use board::{BoardCore, BoardErr, Entered, Taken, Work, pipelines_stay, slips_stay};
@@ -16,7 +17,7 @@ use std::test::Fail;
 fn make<W: Work>(board: &mut BoardCore<W>, caller: u32, max: u32) -> Result<u64, BoardErr>
     requires caller { IsNoWorker caller }
     requires max { 1 ≤ max }
-    ensures { IfOk result (λ pipe. IsOpenQueueFor board.new pipe caller) }
+    ensures { IfOk result (λ pipe. IsOpenFor has_line board.new pipe caller) }
 {
     pipelines_stay::<W::Ask>();
     let pipe = board.born_queue(caller, max)?;
@@ -31,8 +32,8 @@ fn offer<W: Work>(
     job: W,
     backlog: bool,
 ) -> Result<Entered, BoardErr>
-    requires { IsOpenQueueFor board.old pipe caller }
-    ensures { IsOpenQueueFor board.new pipe caller }
+    requires { IsOpenFor has_line board.old pipe caller }
+    ensures { IsOpenFor has_line board.new pipe caller }
 {
     pipelines_stay::<W::Ask>();
     let answer = board.enqueue(caller, pipe, job, backlog)?;
@@ -41,8 +42,8 @@ fn offer<W: Work>(
 
 /// Holds the queue.
 fn hold<W: Work>(board: &mut BoardCore<W>, pipe: u64) -> Result<(), BoardErr>
-    requires { IsOpenQueueFor board.old pipe 0 }
-    ensures { IsOpenQueueFor board.new pipe 0 }
+    requires { IsOpenFor has_line board.old pipe 0 }
+    ensures { IsOpenFor has_line board.new pipe 0 }
 {
     pipelines_stay::<W::Ask>();
     board.hold(0, pipe)
@@ -50,8 +51,8 @@ fn hold<W: Work>(board: &mut BoardCore<W>, pipe: u64) -> Result<(), BoardErr>
 
 /// Lets the queue go.
 fn go<W: Work>(board: &mut BoardCore<W>, pipe: u64) -> Result<(), BoardErr>
-    requires { IsOpenQueueFor board.old pipe 0 }
-    ensures { IsOpenQueueFor board.new pipe 0 }
+    requires { IsOpenFor has_line board.old pipe 0 }
+    ensures { IsOpenFor has_line board.new pipe 0 }
 {
     pipelines_stay::<W::Ask>();
     board.go(0, pipe)
@@ -59,8 +60,8 @@ fn go<W: Work>(board: &mut BoardCore<W>, pipe: u64) -> Result<(), BoardErr>
 
 /// Takes a job, runs it and finishes it, if one may be taken. The jobs that others took stay theirs.
 fn serve<W: Work>(board: &mut BoardCore<W>, worker: u32, pipe: u64) -> bool
-    requires { IsOpenQueueFor board.old pipe 0 }
-    ensures open { IsOpenQueueFor board.new pipe 0 }
+    requires { IsOpenFor has_line board.old pipe 0 }
+    ensures open { IsOpenFor has_line board.new pipe 0 }
     ensures others { (other p n : ℕ) (out : W.Out) → worker ≢ other → MayFinish W.meaning (entries_of p board.old) other n out → MayFinish W.meaning (entries_of p board.new) other n out }
 {
     pipelines_stay::<W::Ask>();
@@ -81,8 +82,8 @@ fn poll<W: Work>(
     pipe: u64,
     into: &mut Callbacks<W::Out>,
 ) -> Result<(), BoardErr>
-    requires { IsOpenQueueFor board.old pipe 0 }
-    ensures { IsOpenQueueFor board.new pipe 0 }
+    requires { IsOpenFor has_line board.old pipe 0 }
+    ensures { IsOpenFor has_line board.new pipe 0 }
 {
     pipelines_stay::<W::Ask>();
     board.poll(0, pipe, into)
@@ -94,8 +95,8 @@ fn drain<W: Work>(
     pipe: u64,
     into: &mut Callbacks<W::Out>,
 ) -> Result<bool, BoardErr>
-    requires { IsOpenQueueFor board.old pipe 0 }
-    ensures { IsOpenQueueFor board.new pipe 0 }
+    requires { IsOpenFor has_line board.old pipe 0 }
+    ensures { IsOpenFor has_line board.new pipe 0 }
 {
     pipelines_stay::<W::Ask>();
     board.try_drain(0, pipe, into)
@@ -103,8 +104,8 @@ fn drain<W: Work>(
 
 /// One worker takes a job, and another looks for one before it is finished. Answers whether the other found one.
 fn serve_twice<W: Work>(board: &mut BoardCore<W>, pipe: u64) -> bool
-    requires { IsOpenQueueFor board.old pipe 0 }
-    ensures { IsOpenQueueFor board.new pipe 0 }
+    requires { IsOpenFor has_line board.old pipe 0 }
+    ensures { IsOpenFor has_line board.new pipe 0 }
 {
     pipelines_stay::<W::Ask>();
     let Some(first) = board.take(1) else {
@@ -125,8 +126,8 @@ fn queue_step(
     into: &mut Callbacks<char>,
     step: char,
 ) -> Result<Said, BoardErr>
-    requires { IsOpenQueueFor board.old pipe 0 }
-    ensures { IsOpenQueueFor board.new pipe 0 }
+    requires { IsOpenFor has_line board.old pipe 0 }
+    ensures { IsOpenFor has_line board.new pipe 0 }
 {
     match step {
         '1' => Ok(yes_or_no(serve(board, 1, pipe))),
@@ -224,7 +225,7 @@ fn are_limited(
     pipe: u64,
     table: &[(u64, bool, Result<Entered, BoardErr>)],
 ) -> bool
-    requires { IsOpenQueueFor board.old pipe 0 }
+    requires { IsOpenFor has_line board.old pipe 0 }
 {
     for (bytes, backlog, want) in table {
         if offer(board, 0, pipe, saying('a', *bytes), *backlog) != *want {

@@ -1,10 +1,10 @@
 use Rattle.std.proofs.Common.{refl}
-use Rattle.board_tests.proofs.Staying.{done}
-use Rattle.board_tests.proofs.Chaining.{chain_after, slip_after}
+use Rattle.board.specs.Shapes.{has_line}
+use Rattle.board_tests.proofs.Staying.{done, open_after, slip_after}
 use Rattle.board_tests.proofs.chains.poll.Goals as goal
 
 pub returns-clause-open : goal.returns-clause-open
-returns-clause-open g c = chain_after c.pipelines_stay.ensures.managed c.pipelines_stay.ensures.stays_open _ _ _ c.args.pipe 0 (done _ _ _ c.poll.result c.poll.ensures.board) refl c.requires
+returns-clause-open g c = open_after has_line c.pipelines_stay.ensures.managed (c.pipelines_stay.ensures.stays_open has_line) _ _ _ c.args.pipe 0 (done _ _ _ c.poll.result c.poll.ensures.board) refl c.requires
 
 pub returns-clause-others : goal.returns-clause-others
 returns-clause-others g c = λ other p n out apart m.

@@ -1,9 +1,10 @@
 use Rattle.std.proofs.Common.{refl}
-use Rattle.board_tests.proofs.Staying.{drained, pad_after, slip_after}
+use Rattle.board.specs.Shapes.{is_pad}
+use Rattle.board_tests.proofs.Staying.{drained, open_after, slip_after}
 use Rattle.board_tests.proofs.pads.drain.Goals as goal
 
 pub returns-clause-open : goal.returns-clause-open
-returns-clause-open g c = pad_after c.pipelines_stay.ensures.managed c.pipelines_stay.ensures.stays_open _ _ _ c.args.pipe 0 (drained _ _ _ c.try_drain.result c.try_drain.ensures.board) refl c.requires
+returns-clause-open g c = open_after is_pad c.pipelines_stay.ensures.managed (c.pipelines_stay.ensures.stays_open is_pad) _ _ _ c.args.pipe 0 (drained _ _ _ c.try_drain.result c.try_drain.ensures.board) refl c.requires
 
 pub returns-clause-others : goal.returns-clause-others
 returns-clause-others g c = λ other p n out apart m.

@@ -1,6 +1,7 @@
 use Rattle.std.proofs.Common.{refl}
-use Rattle.board_tests.proofs.Staying.{done, pad_after}
+use Rattle.board.specs.Shapes.{is_pad}
+use Rattle.board_tests.proofs.Staying.{done, open_after}
 use Rattle.board_tests.proofs.pads.poll.Goals as goal
 
 pub returns : goal.returns
-returns g c = pad_after c.pipelines_stay.ensures.managed c.pipelines_stay.ensures.stays_open _ _ _ c.args.pipe 0 (done _ _ _ c.poll.result c.poll.ensures.board) refl c.requires
+returns g c = open_after is_pad c.pipelines_stay.ensures.managed (c.pipelines_stay.ensures.stays_open is_pad) _ _ _ c.args.pipe 0 (done _ _ _ c.poll.result c.poll.ensures.board) refl c.requires

@@ -1,9 +1,10 @@
 use Rattle.std.proofs.Common.{ap, sym, ◌∙◌, ◌≡◌, Some, inl}
-use Rattle.board_tests.proofs.Staying.{pad_after}
+use Rattle.board.specs.Shapes.{is_pad}
+use Rattle.board_tests.proofs.Staying.{open_after}
 use Rattle.board_tests.proofs.pads.second_first.Goals as goal
 
 pub work-requires-after_bounds : goal.work-requires-after_bounds
-work-requires-after_bounds g c κs within = pad_after c.pipelines_stay.ensures.managed c.pipelines_stay.ensures.stays_open _ _ _ c.args.pipe 0 (inl c.in-Some.ensures.taken.0) (c.pipelines_stay.ensures.taking c.args.board.now 1 c.in-Some.first.slip.pipe c.in-Some.first.slip.number).2 c.requires
+work-requires-after_bounds g c κs within = open_after is_pad c.pipelines_stay.ensures.managed (c.pipelines_stay.ensures.stays_open is_pad) _ _ _ c.args.pipe 0 (inl c.in-Some.ensures.taken.0) (c.pipelines_stay.ensures.taking c.args.board.now 1 c.in-Some.first.slip.pipe c.in-Some.first.slip.number).2 c.requires
 
 pub finish-requires-clause-took : goal.finish-requires-clause-took
 finish-requires-clause-took g c κs within =
@@ -21,4 +22,4 @@ finish-requires-clause-right g c κs within =
     (c.drain-early.ensures.others 1 c.in-Some.first.slip.pipe c.in-Some.first.slip.number _ (λ (h : 0 ≡ 1). cc) worked).2 ∙ ap Some (sym c.run-out.ensures)
 
 pub returns : goal.returns
-returns g c = pad_after c.pipelines_stay.ensures.managed c.pipelines_stay.ensures.stays_open _ _ _ c.args.pipe 0 (inl c.finish.ensures.finished) (c.pipelines_stay.ensures.finishing c.drain-early.new.board 1 c.in-Some.first.slip.pipe c.in-Some.first.slip.number).2 c.drain-early.ensures.open
+returns g c = open_after is_pad c.pipelines_stay.ensures.managed (c.pipelines_stay.ensures.stays_open is_pad) _ _ _ c.args.pipe 0 (inl c.finish.ensures.finished) (c.pipelines_stay.ensures.finishing c.drain-early.new.board 1 c.in-Some.first.slip.pipe c.in-Some.first.slip.number).2 c.drain-early.ensures.open
