@@ -1,5 +1,5 @@
 -- Which pipelines stand in line, as they change.
-use Rattle.std.proofs.Common.{◌≡◌, ◌≢◌, ℕ, zero, suc, ◌+◌, ◌-◌, ◌<◌, ◌≤◌, Bool, Option, Some, None, true, false, ◌||◌, List, [], ◌∷◌, ◌++◌, length, take, refl, sym, ◌∙◌, ap, subst, arith, inl, inr, ◌⊎◌, get_or, length-append, append-nil}
+use Rattle.std.proofs.Common.{◌≡◌, ◌≢◌, ℕ, zero, suc, ◌+◌, ◌-◌, ◌<◌, ◌≤◌, Bool, Option, Some, None, true, false, ◌||◌, List, [], ◌∷◌, ◌++◌, length, refl, sym, ◌∙◌, ap, subst, arith, inl, inr, ◌⊎◌, get_or, length-append, append-nil}
 use Rattle.std.specs.Prelude.{◌==◌, slice_index_or, slice_set}
 use Rattle.std.specs.Option.{option_to_list}
 use Rattle.std.proofs.lemmas.Bool.{eqb-true, eq-eqb, or_left, or_right, cases_eq, cases_lt, both_ways, false_from_ne_true}
@@ -146,6 +146,25 @@ line_next marks p rest i = record {
 
 -- ---- the pipelines
 
+at_front : {P : Type 0} (xs : List P) (new : P) (i : ℕ) (d : P) → i < length xs → get_or (xs ++ new ∷ []) i d ≡ get_or xs i d
+at_front [] new i d l = absurd (omega arith)
+at_front (x ∷ xs) new zero d l = refl
+at_front (x ∷ xs) new (suc i) d l = at_front xs new i d (omega arith)
+
+at_end : {P : Type 0} (xs : List P) (new : P) (i : ℕ) (d : P) → length xs ≤ i → i < length xs + 1 → get_or (xs ++ new ∷ []) i d ≡ new
+at_end [] new zero d g l = refl
+at_end [] new (suc i) d g l = absurd (omega arith)
+at_end (x ∷ xs) new zero d g l = absurd (omega arith)
+at_end (x ∷ xs) new (suc i) d g l = at_end xs new i d (omega arith) (omega arith)
+
+get_cases : {P : Type 0} (pipes : List P) (new : P) (q : ℕ) (d : P) (holds : P → Type 0) → holds new → (q < length pipes → holds (slice_index_or pipes q d)) → (q < length pipes) ⊎ (length pipes ≤ q) → q < length (pipes ++ new ∷ []) → holds (slice_index_or (pipes ++ new ∷ []) q d)
+get_cases pipes new q d holds here there (inl l) w = subst holds (sym (at_front pipes new q d l)) (there l)
+get_cases pipes new q d holds here there (inr g) w = subst holds (sym (at_end pipes new q d g (let s = length-append pipes (new ∷ []) in omega arith))) here
+
+-- of the pipelines and one more each is one of them or the one
+pub get_born : {P : Type 0} (pipes : List P) (new : P) (q : ℕ) (d : P) (holds : P → Type 0) → holds new → (q < length pipes → holds (slice_index_or pipes q d)) → q < length (pipes ++ new ∷ []) → holds (slice_index_or (pipes ++ new ∷ []) q d)
+get_born pipes new q d holds here there w = get_cases pipes new q d holds here there (cases_lt q (length pipes)) w
+
 module _ {P : Type 0} (such : P → Type 0) (pipes : List P) where
   set_cases : (line after : List ℕ) (p : ℕ) (new : P) → p < length pipes → ((q : ℕ) → has q line ≡ true → has q after ≡ true) → OthersAreInLine such p pipes line → (such new → has p after ≡ true)
       → (q : ℕ) (d : P) → (q ≡ p) ⊎ (q ≡ p → ⊥) → q < length pipes → such (slice_index_or (slice_set pipes p new) q d) → has q after ≡ true
@@ -169,24 +188,12 @@ module _ {P : Type 0} (such : P → Type 0) (pipes : List P) where
   pub all_but : (line : List ℕ) (p : ℕ) → AreInLine such pipes line → OthersAreInLine such p pipes line
   all_but line p all q d l n m = all q d l m
 
-  born_cases : (new d : P) (q : ℕ) → (such new → ⊥) → (q < length pipes) ⊎ (length pipes ≤ q) → q < length (pipes ++ new ∷ []) → such (slice_index_or (pipes ++ new ∷ []) q d) → (q < length pipes) × such (slice_index_or pipes q d)
-  born_cases new d q none (inl l) w m = (l, subst (such) (at_front pipes q d l) m)
-    where
-      at_front : (xs : List P) (i : ℕ) (d : P) → i < length xs → get_or (xs ++ new ∷ []) i d ≡ get_or xs i d
-      at_front [] i d l = absurd (omega arith)
-      at_front (x ∷ xs) zero d l = refl
-      at_front (x ∷ xs) (suc i) d l = at_front xs i d (omega arith)
-  born_cases new d q none (inr g) w m = absurd (none (subst (such) (at_end pipes q d g (let s = length-append pipes (new ∷ []) in omega arith)) m))
-    where
-      at_end : (xs : List P) (i : ℕ) (d : P) → length xs ≤ i → i < length xs + 1 → get_or (xs ++ new ∷ []) i d ≡ new
-      at_end [] zero d g l = refl
-      at_end [] (suc i) d g l = absurd (omega arith)
-      at_end (x ∷ xs) zero d g l = absurd (omega arith)
-      at_end (x ∷ xs) (suc i) d g l = at_end xs i d (omega arith) (omega arith)
+  born_cases : (new d : P) (q : ℕ) → (such new → ⊥) → q < length (pipes ++ new ∷ []) → such (slice_index_or (pipes ++ new ∷ []) q d) → (q < length pipes) × such (slice_index_or pipes q d)
+  born_cases new d q none w m = get_born pipes new q d (λ (x : P). such x → (q < length pipes) × such (slice_index_or pipes q d)) (λ n. absurd (none n)) (λ l n. (l, n)) w m
 
   -- a pipeline that was just made has no job
   pub ready_born : (ready : ReadyLine) (new : P) → IsReadyFor such pipes ready → (such new → ⊥) → IsReadyFor such (pipes ++ new ∷ []) (record ready { pipes = ready.pipes + 1 })
-  ready_born ready new r none = ((let s = length-append pipes (new ∷ []) in let c = r.0 in omega arith), λ q d l m. (let b = born_cases new d q none (cases_lt q (length pipes)) l m in r.1 q d b.0 b.1))
+  ready_born ready new r none = ((let s = length-append pipes (new ∷ []) in let c = r.0 in omega arith), λ q d l m. (let b = born_cases new d q none l m in r.1 q d b.0 b.1))
 
   -- ---- the first in line of which a job may be taken
 
@@ -204,36 +211,9 @@ module _ {P : Type 0} (such : P → Type 0) (pipes : List P) where
   pub skipped : (p : ℕ) (rest : List ℕ) → OthersAreInLine such p pipes rest → ((d : P) → such (slice_index_or pipes p d) → ⊥) → AreInLine such pipes rest
   skipped p rest others quiet q d l m = skip_cases p rest q d others l (quiet d) (cases_eq q p) m
 
-  -- which goes back into line
-  back_cases : (p : ℕ) (rest after : List ℕ) (q : ℕ) (d : P) → OthersAreInLine such p pipes rest → has p after ≡ true → ((n : ℕ) → has n rest ≡ true → has n after ≡ true) → (q ≡ p) ⊎ (q ≡ p → ⊥) → q < length pipes → such (slice_index_or pipes q d) → has q after ≡ true
-  back_cases p rest after q d others added kept (inl same) l m = subst (λ n. has n after ≡ true) (sym same) added
-  back_cases p rest after q d others added kept (inr other) l m = kept q (others q d l other m)
-
-  pub back_in_line : (p : ℕ) (rest after : List ℕ) → OthersAreInLine such p pipes rest → has p after ≡ true → ((n : ℕ) → has n rest ≡ true → has n after ≡ true) → AreInLine such pipes after
-  back_in_line p rest after others added kept q d l m = back_cases p rest after q d others added kept (cases_eq q p) l m
-
-  -- of those in line that are still to be seen the first is none
-  pub unseen : (p m : ℕ) (line rest : List ℕ) → AreInLine such pipes (take (suc m) line) → line ≡ p ∷ rest → ((d : P) → such (slice_index_or pipes p d) → ⊥) → AreInLine such pipes (take m rest)
-  unseen p m line rest all is quiet = skipped p (take m rest) (others_wait p (take (suc m) line) (take m rest) all (ap (take (suc m)) is)) quiet
-
   -- and where none is to be seen there is none
   pub none_seen : (line : List ℕ) → AreInLine such pipes line → line ≡ [] → NoneIs such pipes
   none_seen line all none q d l m = (let h = sym (ap (has q) none) ∙ all q d l m in cc)
 
   pub none_waits : (after : ReadyLine) → after.pipes ≡ length pipes → NoneIs such pipes → IsReadyFor such pipes after
   none_waits after count none = (count, λ q d l m. absurd (none q d l m))
-
--- what is added at the end isn't seen yet
-pub take_first : (m : ℕ) (rest after : List ℕ) → m ≤ length rest → take (length rest) after ≡ rest → take m after ≡ take m rest
-take_first zero rest after l h = refl
-take_first (suc m) [] after l h = absurd (omega arith)
-take_first (suc m) (x ∷ rest) [] l h = cc
-take_first (suc m) (x ∷ rest) (y ∷ after) l h = (let e : y ≡ x = cc in let t : take (length rest) after ≡ rest = cc in rw e (ap (λ zs. x ∷ zs) (take_first m rest after (omega arith) t)))
-
-pub take_whole : (xs : List ℕ) → take (length xs) xs ≡ xs
-take_whole [] = refl
-take_whole (x ∷ xs) = ap (λ ys. x ∷ ys) (take_whole xs)
-
-pub take_over : (xs ys : List ℕ) → take (length xs) (xs ++ ys) ≡ xs
-take_over [] ys = refl
-take_over (x ∷ xs) ys = ap (λ zs. x ∷ zs) (take_over xs ys)

@@ -10,6 +10,7 @@ pub mod Births
 pub mod Allowance
 pub mod Slips
 pub mod Ready
+pub mod Lines
 pub mod Staying
 pub mod Handing
 pub mod Others

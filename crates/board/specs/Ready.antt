@@ -1,5 +1,5 @@
 -- The lines of pipelines that may have a job to run, or a request to pass on.
-use Rattle.std.specs.Prelude.{◌≡◌, ◌≢◌, ◌⊎◌, ℕ, zero, suc, ◌+◌, ◌<◌, ◌≤◌, Bool, true, false, List, [], ◌∷◌, length, slice_index_or}
+use Rattle.std.specs.Prelude.{◌≡◌, ◌≢◌, ◌⊎◌, ℕ, suc, ◌+◌, ◌<◌, ◌≤◌, Bool, true, false, List, [], ◌∷◌, length, slice_index_or}
 use Rattle.board.specs.declared.pipeline.Pipeline.{Pipeline}
 use Rattle.board.specs.Entries.{has, IsMasked}
 use Rattle.board.specs.Stages.{is_queue, MayServe, MayPass}
@@ -48,32 +48,11 @@ IsReadyFor such pipes ready = (ready.pipes ≡ length pipes) × AreInLine such p
 abbrev pub NoneIs : {P : Type 0} → (P → Type 0) → List P → Type 0
 NoneIs {P} such pipes = (p : ℕ) (d : P) → p < length pipes → such (slice_index_or pipes p d) → ⊥
 
--- ---- a line for each worker, 1 to 16, and the first for all other callers
-
 -- a job of the pipeline may be taken by this caller
 abbrev pub HasJobFor : {J O : Type 0} → ℕ → Pipeline J O → Type 0
 HasJobFor caller pipe = HasJob pipe × Admits pipe caller
 
--- whose pipelines stand in which line
-abbrev pub IsForLine : {J O : Type 0} → ℕ → Pipeline J O → Type 0
-IsForLine zero pipe = HasJob pipe
-IsForLine (suc i) pipe = HasJobFor (suc i) pipe
-
--- each line is such, by its number
-abbrev pub AreFrom : (ℕ → ReadyLine → Type 0) → ℕ → List ReadyLine → Type 0
-AreFrom such i [] = Unit {0}
-AreFrom such i (line ∷ lines) = such i line × AreFrom such (suc i) lines
-
-abbrev pub AreAll : (ReadyLine → Type 0) → List ReadyLine → Type 0
-AreAll such [] = Unit {0}
-AreAll such (line ∷ lines) = such line × AreAll such lines
-
--- each line became another
-abbrev pub AreMade : (ReadyLine → ReadyLine → Type 0) → List ReadyLine → List ReadyLine → Type 0
-AreMade made [] [] = Unit {0}
-AreMade made (line ∷ lines) (after ∷ afters) = made line after × AreMade made lines afters
-AreMade made [] (after ∷ afters) = ⊥
-AreMade made (line ∷ lines) [] = ⊥
+-- ---- how a line changes
 
 abbrev pub IsGrown : ReadyLine → ReadyLine → Type 0
 IsGrown line after = after ≡ record line { pipes = line.pipes + 1 }
@@ -82,13 +61,6 @@ abbrev pub HasAdded : ℕ → ReadyLine → ReadyLine → Type 0
 HasAdded pipe line after =
     (after.pipes ≡ line.pipes) × (has pipe after.line ≡ true) × ((p : ℕ) → has p line.line ≡ true → has p after.line ≡ true)
 
-abbrev pub line_count : ℕ
-line_count = 17
-
-abbrev pub AreReady : {J O : Type 0} → List (Pipeline J O) → List ReadyLine → Type 0
-AreReady pipes lines = (length lines ≡ line_count) × AreFrom (λ i. IsReadyFor (IsForLine i) pipes) 0 lines
-
--- but for one pipeline
-abbrev pub OthersAreReady : {J O : Type 0} → ℕ → List (Pipeline J O) → List ReadyLine → Type 0
-OthersAreReady k pipes lines =
-    (length lines ≡ line_count) × AreFrom (λ i line. (line.pipes ≡ length pipes) × OthersAreInLine (IsForLine i) k pipes line.line) 0 lines
+-- of so many pipelines all stand in line
+abbrev pub IsFull : ℕ → ReadyLine → Type 0
+IsFull pipes line = (line.pipes ≡ pipes) × ((p : ℕ) → p < pipes → has p line.line ≡ true)

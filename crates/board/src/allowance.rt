@@ -20,7 +20,7 @@ pub(crate) struct Used {
 }
 
 /// What this caller has used.
-pub(crate) fn used_by(used: &BTreeMap<u32, Used>, caller: u32) -> Used
+fn used_by(used: &BTreeMap<u32, Used>, caller: u32) -> Used
     ensures { result ≡ used_at used.now caller }
 {
     match used.get(&caller) {
@@ -32,17 +32,32 @@ pub(crate) fn used_by(used: &BTreeMap<u32, Used>, caller: u32) -> Used
     }
 }
 
-/// Adds a request of `size` bytes to what the caller has used. Want of memory changes nothing.
+/// Whether the caller's allowance has room for one more request of `size` bytes.
+pub(crate) fn is_allowed(used: &BTreeMap<u32, Used>, caller: u32, size: u64) -> bool
+    ensures { IsTrue result ↔ (((used_at used.now caller).requests < 2 ^ 20) × ((used_at used.now caller).bytes + size ≤ 2 ^ 26)) }
+{
+    let Used { requests, bytes } = used_by(used, caller);
+    match bytes.checked_add(size) {
+        Some(bytes) => requests < MOST_REQUESTS && bytes <= MOST_BYTES,
+        None => false,
+    }
+}
+
+/// Adds a request of `size` bytes to what the caller has used, where it is accepted. Want of memory changes nothing.
 pub(crate) fn spend(
     used: &mut BTreeMap<u32, Used>,
     caller: u32,
     size: u64,
+    accepted: bool,
 ) -> Result<(), AllocError>
     requires requests { (used_at used.old caller).requests < 2 ^ 32 }
     requires bytes { (used_at used.old caller).bytes + size < 2 ^ 32 }
-    ensures ok { OnOk result ((c : ℕ) → used_at used.new c ≡ (if c == caller then record { requests = (used_at used.old caller).requests + 1; bytes = (used_at used.old caller).bytes + size } else used_at used.old c)) }
+    ensures ok { OnOk result ((c : ℕ) → used_at used.new c ≡ (if accepted then (if c == caller then record { requests = (used_at used.old caller).requests + 1; bytes = (used_at used.old caller).bytes + size } else used_at used.old c) else used_at used.old c)) }
     ensures err { OnErr result ((c : ℕ) → used_at used.new c ≡ used_at used.old c) }
 {
+    if !accepted {
+        return Ok(());
+    }
     let Used { requests, bytes } = used_by(used, caller);
     let more = Used {
         requests: requests + 1,
@@ -50,33 +65,4 @@ pub(crate) fn spend(
     };
     used.insert(caller, more)?;
     Ok(())
-}
-
-/// Adds a request of `size` bytes to what the caller has used, where it is accepted. Want of memory changes nothing.
-pub(crate) fn spend_if(
-    accepted: bool,
-    used: &mut BTreeMap<u32, Used>,
-    caller: u32,
-    size: u64,
-) -> Result<(), AllocError>
-    requires requests { (used_at used.old caller).requests < 2 ^ 32 }
-    requires bytes { (used_at used.old caller).bytes + size < 2 ^ 32 }
-    ensures ok { OnOk result ((c : ℕ) → used_at used.new c ≡ (if accepted then (if c == caller then record { requests = (used_at used.old caller).requests + 1; bytes = (used_at used.old caller).bytes + size } else used_at used.old c) else used_at used.old c)) }
-    ensures err { OnErr result ((c : ℕ) → used_at used.new c ≡ used_at used.old c) }
-{
-    if accepted {
-        spend(used, caller, size)
-    } else {
-        Ok(())
-    }
-}
-
-/// Whether the allowance has room for one more request of `size` bytes.
-pub(crate) fn is_allowed(used: Used, size: u64) -> bool
-    ensures { IsTrue result ↔ ((used.requests < 2 ^ 20) × (used.bytes + size ≤ 2 ^ 26)) }
-{
-    match used.bytes.checked_add(size) {
-        Some(bytes) => used.requests < MOST_REQUESTS && bytes <= MOST_BYTES,
-        None => false,
-    }
 }

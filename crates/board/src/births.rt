@@ -6,7 +6,8 @@ ghost use Rattle.board.specs.declared.entry.BoardEntry.TheVariants as Entry;
 ghost use Rattle.board.specs.declared.board_core.BoardErr.TheVariants as BoardErr;
 ghost use Rattle.board.specs.Legal.{IsNoWorker, pipelines, LegalBoard};
 ghost use Rattle.board.specs.Births.{IsNew};
-ghost use Rattle.board.specs.Ready.{AreMade, IsGrown};
+ghost use Rattle.board.specs.Ready.{IsGrown};
+ghost use Rattle.board.specs.Lines.{IsMade};
 
 use crate::board_core::{BoardCore, BoardErr};
 use crate::entry::{BoardEntry, Shape};
@@ -88,6 +89,7 @@ impl<W: Work> BoardCore<W> {
     {
         reserve_entries(&mut self.log, self.owed, 2)?;
         self.pipes.reserve(1)?;
+        self.ready.give_line(caller)?;
         grow_both(&mut self.passing, &mut self.ready)?;
         let pipe = self.pipes.len() as u64;
         self.pipes.push_reserved(Pipeline {
@@ -112,7 +114,7 @@ impl<W: Work> BoardCore<W> {
 /// Makes room for one pipeline more in all lines. Want of memory changes nothing.
 fn grow_both(passing: &mut Ready, ready: &mut JobLines) -> Result<(), AllocError>
     ensures passing { MatchResult result (λ _. IsGrown passing.old passing.new) (λ _. passing.new ≡ passing.old) }
-    ensures ready { MatchResult result (λ _. AreMade IsGrown ready.old ready.new) (λ _. ready.new ≡ ready.old) }
+    ensures ready { MatchResult result (λ _. IsMade IsGrown ready.old ready.new) (λ _. ready.new ≡ ready.old) }
 {
     passing.grow()?;
     let grown = ready.grow();

@@ -48,8 +48,7 @@ pub struct BoardCore<W: Work> {
     pub(crate) alloc: Global,
     pub(crate) log: Vec<BoardEntry<W::Ask>>,
     pub(crate) pipes: Vec<Pipeline<W, W::Out>>,
-    /// In a worker's line stands each pipeline of which it may take a job, and in the first line, that of all other callers,
-    /// each of which anybody may.
+    /// In a caller's line stands each pipeline of which it may take a job.
     pub(crate) ready: JobLines,
     /// In line stands each chain of which a request may be passed on.
     pub(crate) passing: Ready,
@@ -70,7 +69,8 @@ impl<W: Work> Model for BoardCore<W> {
     ghost use Rattle.board.specs.Legal.{is_shut};
     ghost use Rattle.board.specs.Kept.{IsKeptBoard, owed_by};
     ghost use Rattle.board.specs.Allowance.{IsKeptUsed};
-    ghost use Rattle.board.specs.Ready.{HasRequest, IsReadyFor, AreReady};
+    ghost use Rattle.board.specs.Ready.{HasRequest, IsReadyFor};
+    ghost use Rattle.board.specs.Lines.{AreReady};
 
     ghost view = { λ b. b.log.items };
 

@@ -10,7 +10,7 @@ ghost use Rattle.board.specs.Entries.{entries_of, verdict};
 ghost use Rattle.board.specs.Allowance.{IsAllowed};
 ghost use Rattle.board.specs.Legal.{MaySubmit, MayManage, IsOpenQueue, LegalBoard};
 
-use crate::allowance::spend_if;
+use crate::allowance::spend;
 use crate::board_core::{BoardCore, BoardErr};
 use crate::entry::{BoardEntry, Entered};
 use crate::log::reserve_entries;
@@ -41,10 +41,11 @@ impl<W: Work> BoardCore<W> {
     {
         let Admitted { ask, size } = self.admit(caller, &job)?;
         reserve_entries(&mut self.log, self.owed, 4)?;
+        self.ready.give_line(caller)?;
         let place = &mut self.pipes[pipe as usize];
         place.reserve()?;
         let accepted = place.stage.accepts(backlog);
-        spend_if(accepted, &mut self.used, caller, size)?;
+        spend(&mut self.used, caller, size, accepted)?;
         let answer = place.enqueue(caller, job, backlog);
         let more = place.stage.work_entries(answer);
         self.log.push_reserved(BoardEntry::Enq {

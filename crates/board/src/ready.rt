@@ -1,7 +1,8 @@
 //! Lines of pipelines that may have a job to run, or a request to pass on.
 
-ghost use Rattle.std.specs.Prelude.{◌≡◌, ℕ, ◌+◌, ◌-◌, ◌<◌, true, false, [], ◌∷◌, length, take, MatchResult, MatchOption};
+ghost use Rattle.std.specs.Prelude.{◌≡◌, ℕ, ◌+◌, ◌-◌, ◌<◌, true, false, [], ◌∷◌, IfOk, MatchResult, MatchOption};
 ghost use Rattle.board.specs.Entries.{has};
+ghost use Rattle.board.specs.Ready.{IsFull};
 
 use std::alloc::{AllocError, Global};
 use std::collections::VecDeque;
@@ -39,6 +40,18 @@ impl Ready {
         }
     }
 
+    /// Of so many pipelines all stand in line.
+    pub(crate) fn all(alloc: Global, pipes: usize) -> Result<Ready, AllocError>
+        ensures { IfOk result (IsFull pipes) }
+    {
+        let mut ready = Ready::new(alloc);
+        for pipe in 0..pipes {
+            ready.grow()?;
+            ready.add(pipe);
+        }
+        Ok(ready)
+    }
+
     /// Makes room for one pipeline more, which doesn't stand in line. Want of memory changes nothing.
     pub(crate) fn grow(&mut self) -> Result<(), AllocError>
         ensures { MatchResult result (λ _. (self.new ≡ record self.old { pipes = self.old.pipes + 1 }) × (has self.old.pipes self.old.line ≡ false)) (λ _. self.new ≡ self.old) }
@@ -66,7 +79,6 @@ impl Ready {
         ensures pipes { self.new.pipes ≡ self.old.pipes }
         ensures added { has pipe self.new.line ≡ true }
         ensures kept { (p : ℕ) → has p self.old.line ≡ true → has p self.new.line ≡ true }
-        ensures first { take (length self.old.line) self.new.line ≡ self.old.line }
     {
         if !self.marks[pipe] {
             self.marks[pipe] = true;
@@ -74,11 +86,11 @@ impl Ready {
         }
     }
 
-    /// How many pipelines stand in line.
-    pub(crate) fn len(&self) -> usize
-        ensures { result ≡ length self.now.line }
+    /// Of how many pipelines it is.
+    pub(crate) fn pipes(&self) -> usize
+        ensures { result ≡ self.now.pipes }
     {
-        self.line.len()
+        self.marks.len()
     }
 
     /// Takes the first pipeline out of the line.

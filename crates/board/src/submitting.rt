@@ -10,7 +10,7 @@ ghost use Rattle.board.specs.Entries.{entries_of, submissions, mask};
 ghost use Rattle.board.specs.Allowance.{IsAllowed};
 ghost use Rattle.board.specs.Legal.{MaySubmit, IsOpenPad, LegalBoard};
 
-use crate::allowance::{is_allowed, spend, used_by};
+use crate::allowance::{is_allowed, spend};
 use crate::board_core::{BoardCore, BoardErr};
 use crate::entry::BoardEntry;
 use crate::log::reserve_entries;
@@ -45,9 +45,10 @@ impl<W: Work> BoardCore<W> {
         }
         let Admitted { ask, size } = self.admit(caller, &job)?;
         reserve_entries(&mut self.log, self.owed, 3)?;
+        self.ready.give_line(caller)?;
         let place = &mut self.pipes[pipe as usize];
         place.reserve()?;
-        spend(&mut self.used, caller, size)?;
+        spend(&mut self.used, caller, size, true)?;
         let number = place.submit(caller, job);
         self.log.push_reserved(BoardEntry::Submit {
             caller,
@@ -70,8 +71,7 @@ impl<W: Work> BoardCore<W> {
         ensures other { IfErr result (λ e. e ≢ BoardErr.NoWorker) }
     {
         let size = job.size();
-        let so_far = used_by(&self.used, caller);
-        if !is_allowed(so_far, size) {
+        if !is_allowed(&self.used, caller, size) {
             return Err(BoardErr::TooBig);
         }
         let ask = job.ask(self.alloc)?;

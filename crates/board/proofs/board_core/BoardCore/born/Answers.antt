@@ -1,13 +1,14 @@
-use Rattle.std.proofs.Common.{arith, ◌≡◌, length, ◌∙◌, refl, subst, false}
+use Rattle.std.proofs.Common.{arith, ◌≡◌, length, ◌∙◌, refl, sym, ap, subst, true, false}
 use Rattle.board.specs.declared.pipeline.Pipeline.{Pipeline}
 use Rattle.board.specs.declared.entry.BoardEntry.TheVariants.{Born}
+use Rattle.board.specs.Entries.{has}
 use Rattle.board.specs.Ready.{HasRequest}
 use Rattle.board.specs.Stages.{MayServe, MayPass}
 use Rattle.board.proofs.KeptUsed.{used_same}
 use Rattle.board.proofs.Kept.{shut-same}
 use Rattle.board.proofs.KeptBorn.{IsEmpty, born_kept, born_owes, born_step, no_job, no_request}
 use Rattle.board.proofs.InLine.{ready_born}
-use Rattle.board.proofs.LinesHold.{lines_born}
+use Rattle.board.proofs.LinesHold.{lines_born, lines_given}
 use Rattle.board.proofs.board_core.BoardCore.born.Goals as goal
 
 pub invariant_of-self-2 : goal.invariant_of-self-2
@@ -22,7 +23,7 @@ invariant_of-self-2 g c =
       omega (arith, c.push_reserved-2.ensures.len, c.push_reserved-2.ensures.capacity, c.in_ok-reserve_entries.ensures.ok),
       rw (c.push_reserved.ensures.items, c.in_ok-reserve.ensures.items) (omega (arith, s.1, c.self.invariant.3)),
       rw (c.push_reserved-2.ensures.items, c.in_ok-reserve_entries.ensures.items) (used_same g.W.Work.weight c.self.inside.used c.self.inside.log.items (Born c.args.caller c.len-pipe.result c.args.shape) refl c.self.invariant.4),
-      rw (c.push_reserved.ensures.items, c.in_ok-reserve.ensures.items) (lines_born c.self.inside.pipes.items c.self.inside.ready c.grow_both.new.ready new c.self.invariant.5 c.in_ok-grow_both.ensures.ready (λ m. no_job _ _ c.args.shape (subst (λ x. MayServe x) c.requires.stage.1 m))),
+      rw (c.push_reserved.ensures.items, c.in_ok-reserve.ensures.items) (lines_born c.self.inside.pipes.items c.give_line.new.self c.grow_both.new.ready new (lines_given c.self.inside.pipes.items c.self.inside.ready c.give_line.new.self c.args.caller c.self.invariant.5 c.in_ok-give_line.ensures) c.in_ok-grow_both.ensures.ready (λ m. no_job _ _ c.args.shape (subst (λ x. MayServe x) c.requires.stage.1 m)) (c.in_ok-give_line.ensures.1, λ caller h. (let e : false ≡ true = ap (has caller) (sym c.new.ensures.items) ∙ h in cc))),
       rw (c.push_reserved.ensures.items, c.in_ok-reserve.ensures.items, c.in_ok-grow_both.ensures.passing) (ready_born HasRequest c.self.inside.pipes.items c.self.inside.passing new c.self.invariant.6 (λ m. no_request _ _ c.args.shape (subst (λ x. MayPass x) c.requires.stage.1 m))),
     )
 

@@ -7,7 +7,7 @@ use Rattle.board.proofs.InLine.{ready_same}
 use Rattle.board.proofs.KeptUsed.{used_same}
 use Rattle.board.proofs.Kept.{within_board, shut-same}
 use Rattle.board.proofs.KeptFinish.{job_ended, ended_made, ended_quiet, finish_may, finish_step, finish_passes, taken_here}
-use Rattle.board.proofs.LinesHold.{but_one, room_in_each, lines_added}
+use Rattle.board.proofs.LinesHold.{but_one, known_here, room_in_each, lines_added}
 use Rattle.board.proofs.board_core.BoardCore.finish.Goals as goal
 
 pub finish-requires : goal.finish-requires
@@ -69,7 +69,7 @@ invariant_of-self g c =
       omega (arith, s.1, c.self.invariant.2, c.self.invariant.3, c.push_reserved.ensures.len, c.push_reserved.ensures.capacity),
       omega (arith, s.1, c.self.invariant.3),
       rw (c.push_reserved.ensures.items, made) (used_same g.W.Work.weight c.self.inside.used c.self.inside.log.items e q.1 c.self.invariant.4),
-      lines_added c.self.inside.pipes.items c.self.inside.ready c.add.new.self c.slip.inside.pipe (record pipe { stage = c.finish.new.self }) (but_one c.self.inside.pipes.items c.self.inside.ready c.slip.inside.pipe c.self.invariant.5) w c.add.ensures,
+      lines_added c.self.inside.pipes.items c.self.inside.ready c.add.new.self c.slip.inside.pipe (record pipe { stage = c.finish.new.self }) (but_one c.self.inside.pipes.items c.self.inside.ready c.slip.inside.pipe c.self.invariant.5) w (known_here c.self.inside.pipes.items c.self.inside.ready.own c.slip.inside.pipe pipe c.self.invariant.5.known w c.index_mut-place.ensures.value) c.add.ensures,
       ready_same HasRequest c.self.inside.pipes.items c.self.inside.passing c.slip.inside.pipe pipe (record pipe { stage = c.finish.new.self }) c.self.invariant.6 w c.index_mut-place.ensures.value (finish_passes pipe.stage c.finish.new.self c.slip.inside.number c.args.out c.finish.ensures),
     )
 

@@ -8,7 +8,7 @@ use Rattle.board.specs.Shapes.{has_line}
 use Rattle.board.specs.Legal.{MayManage, IsOpenQueue}
 use Rattle.board.proofs.KeptCalls.{open_here, line_here, go_step}
 use Rattle.board.proofs.InLine.{ready_added, all_but}
-use Rattle.board.proofs.LinesHold.{but_one, room_in_each, lines_added}
+use Rattle.board.proofs.LinesHold.{but_one, known_here, room_in_each, lines_added}
 use Rattle.board.proofs.board_core.BoardCore.go.Goals as goal
 
 pub index_mut-place-requires : goal.index_mut-place-requires
@@ -48,7 +48,7 @@ invariant_of-self-2 g c =
       omega (arith, c.push_reserved.ensures.len, c.push_reserved.ensures.capacity, c.in_ok-reserve_entries.ensures.ok),
       omega (arith, s.1, c.self.invariant.3),
       rw (c.push_reserved.ensures.items, c.in_ok-reserve_entries.ensures.items) (used_same g.W.Work.weight c.self.inside.used c.self.inside.log.items e refl c.self.invariant.4),
-      lines_added c.self.inside.pipes.items c.self.inside.ready c.add.new.self c.args.pipe (record c.index_mut-place.result.now { stage = c.set_held.new.self }) (but_one c.self.inside.pipes.items c.self.inside.ready c.args.pipe c.self.invariant.5) w c.add.ensures,
+      lines_added c.self.inside.pipes.items c.self.inside.ready c.add.new.self c.args.pipe (record c.index_mut-place.result.now { stage = c.set_held.new.self }) (but_one c.self.inside.pipes.items c.self.inside.ready c.args.pipe c.self.invariant.5) w (known_here c.self.inside.pipes.items c.self.inside.ready.own c.args.pipe c.index_mut-place.result.now c.self.invariant.5.known w c.index_mut-place.ensures.value) c.add.ensures,
       ready_added HasRequest c.self.inside.pipes.items c.self.inside.passing c.add-2.new.self c.args.pipe (record c.index_mut-place.result.now { stage = c.set_held.new.self }) c.self.invariant.6.0 (all_but HasRequest c.self.inside.pipes.items c.self.inside.passing.line c.args.pipe c.self.invariant.6.1) w c.add-2.ensures.pipes c.add-2.ensures.added c.add-2.ensures.kept,
     )
 

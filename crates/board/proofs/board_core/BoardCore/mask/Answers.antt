@@ -11,7 +11,7 @@ use Rattle.board.proofs.Kept.{shut-same, within_board, kept_here, swap_step}
 use Rattle.board.specs.Legal.{MayManage, IsOpenPad}
 use Rattle.board.proofs.KeptCalls.{open_here, pad_here, mask_step, lists_passes}
 use Rattle.board.proofs.InLine.{ready_same}
-use Rattle.board.proofs.LinesHold.{admits_same, but_one, room_in_each, lines_added, lines_same}
+use Rattle.board.proofs.LinesHold.{admits_same, but_one, known_here, room_in_each, lines_added, lines_same}
 use Rattle.board.proofs.board_core.BoardCore.mask.Goals as goal
 
 pub index_mut-place-requires : goal.index_mut-place-requires
@@ -61,7 +61,7 @@ invariant_of-self-2 g c =
       omega (arith, c.push_reserved.ensures.len, c.push_reserved.ensures.capacity, c.in_ok-reserve_entries.ensures.ok),
       omega (arith, s.1, c.self.invariant.3),
       rw (c.push_reserved.ensures.items, c.in_ok-reserve_entries.ensures.items) (used_same g.W.Work.weight c.self.inside.used c.self.inside.log.items (Mask c.args.caller c.args.pipe c.args.mask) refl c.self.invariant.4),
-      lines_added c.self.inside.pipes.items c.self.inside.ready c.add.new.self c.args.pipe (record c.index_mut-place.result.now { mask = c.args.mask; stage = c.remask.new.self }) (but_one c.self.inside.pipes.items c.self.inside.ready c.args.pipe c.self.invariant.5) w c.add.ensures,
+      lines_added c.self.inside.pipes.items c.self.inside.ready c.add.new.self c.args.pipe (record c.index_mut-place.result.now { mask = c.args.mask; stage = c.remask.new.self }) (but_one c.self.inside.pipes.items c.self.inside.ready c.args.pipe c.self.invariant.5) w (known_here c.self.inside.pipes.items c.self.inside.ready.own c.args.pipe c.index_mut-place.result.now c.self.invariant.5.known w c.index_mut-place.ensures.value) c.add.ensures,
       ready_same HasRequest c.self.inside.pipes.items c.self.inside.passing c.args.pipe c.index_mut-place.result.now (record c.index_mut-place.result.now { mask = c.args.mask; stage = c.remask.new.self }) c.self.invariant.6 w c.index_mut-place.ensures.value (lists_passes c.index_mut-place.result.now.stage c.remask.new.self c.max.result c.in_ok-remask.ensures.ok),
     )
 

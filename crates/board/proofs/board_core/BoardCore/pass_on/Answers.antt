@@ -6,7 +6,7 @@ use Rattle.board.proofs.InLine.{ready_added}
 use Rattle.board.proofs.KeptUsed.{used_same}
 use Rattle.board.proofs.Kept.{shut-same}
 use Rattle.board.proofs.KeptPassOn.{passed_entry, pass_step, pass_none, few_here, entry_made}
-use Rattle.board.proofs.LinesHold.{but_one, room_in_each, lines_added}
+use Rattle.board.proofs.LinesHold.{but_one, known_here, room_in_each, lines_added}
 use Rattle.board.proofs.board_core.BoardCore.pass_on.Goals as goal
 
 pub returns-in_default-clause-passed : goal.returns-in_default-clause-passed
@@ -59,7 +59,7 @@ invariant_of-self-2 g c =
       omega (arith, s.1, c.self.invariant.2, c.self.invariant.3, c.push_reserved.ensures.len, c.push_reserved.ensures.capacity),
       omega (arith, s.1, c.self.invariant.3),
       rw (c.push_reserved.ensures.items, made) (used_same g.W.Work.weight c.self.inside.used c.self.inside.log.items e refl c.self.invariant.4),
-      lines_added c.self.inside.pipes.items c.self.inside.ready c.add.new.self c.in-Some.p (record pipe { stage = c.pass_on.new.self }) (but_one c.self.inside.pipes.items c.self.inside.ready c.in-Some.p c.self.invariant.5) w c.add.ensures,
+      lines_added c.self.inside.pipes.items c.self.inside.ready c.add.new.self c.in-Some.p (record pipe { stage = c.pass_on.new.self }) (but_one c.self.inside.pipes.items c.self.inside.ready c.in-Some.p c.self.invariant.5) w (known_here c.self.inside.pipes.items c.self.inside.ready.own c.in-Some.p pipe c.self.invariant.5.known w c.index_mut-place.ensures.value) c.add.ensures,
       ready_added HasRequest c.self.inside.pipes.items c.next_request.new.passing c.add-2.new.self c.in-Some.p (record pipe { stage = c.pass_on.new.self }) (c.in-Some.ensures.pipes ∙ c.self.invariant.6.0) (rw c.deref.ensures.value at c.in-Some.ensures.next.2) w c.add-2.ensures.pipes c.add-2.ensures.added c.add-2.ensures.kept,
     )
 

@@ -11,7 +11,7 @@ use Rattle.board.proofs.KeptRoom.{serve_same, pass_same, notes_same, job_same, i
 use Rattle.board.proofs.KeptCalls.{open_here, pad_here, room_step, same_item}
 use Rattle.board.proofs.KeptRequests.{few_submissions, accepted_here, submit_step, job_passes}
 use Rattle.board.proofs.InLine.{ready_same}
-use Rattle.board.proofs.LinesHold.{but_one, room_in_each, lines_added, lines_same, room_admits}
+use Rattle.board.proofs.LinesHold.{but_one, known_here, known_noted, room_in_each, lines_added, lines_given, lines_same, room_admits}
 use Rattle.board.proofs.board_core.BoardCore.submit.Goals as goal
 
 pub index-place-requires : goal.index-place-requires
@@ -38,7 +38,7 @@ invariant_of-self-in_err-reserve g c =
       omega (arith, c.self.invariant.2, c.in_ok-reserve_entries.ensures.len, c.in_ok-reserve_entries.ensures.capacity),
       omega (arith, s.1, c.self.invariant.3),
       rw c.in_ok-reserve_entries.ensures.items (c.self.invariant.4),
-      lines_same c.self.inside.pipes.items c.self.inside.ready c.args.pipe c.index_mut-place.result.now c.reserve.new.self c.self.invariant.5 w c.index_mut-place.ensures.value (serve_same c.reserve.new.self.stage c.index_mut-place.result.now.stage c.in_err-reserve.ensures.same.stage) (room_admits c.index_mut-place.result.now c.reserve.new.self c.in_err-reserve.ensures.same),
+      lines_same c.self.inside.pipes.items c.give_line.new.self c.args.pipe c.index_mut-place.result.now c.reserve.new.self (lines_given c.self.inside.pipes.items c.self.inside.ready c.give_line.new.self c.args.caller c.self.invariant.5 c.in_ok-give_line.ensures) w c.index_mut-place.ensures.value (serve_same c.reserve.new.self.stage c.index_mut-place.result.now.stage c.in_err-reserve.ensures.same.stage) (room_admits c.index_mut-place.result.now c.reserve.new.self c.in_err-reserve.ensures.same),
       ready_same HasRequest c.self.inside.pipes.items c.self.inside.passing c.args.pipe c.index_mut-place.result.now c.reserve.new.self c.self.invariant.6 w c.index_mut-place.ensures.value (pass_same c.reserve.new.self.stage c.index_mut-place.result.now.stage c.in_err-reserve.ensures.same.stage),
     )
 
@@ -52,7 +52,7 @@ invariant_of-self-in_err-spend g c =
       omega (arith, c.self.invariant.2, c.in_ok-reserve_entries.ensures.len, c.in_ok-reserve_entries.ensures.capacity),
       omega (arith, s.1, c.self.invariant.3),
       rw c.in_ok-reserve_entries.ensures.items (λ q. c.in_err-spend.ensures.err q ∙ c.self.invariant.4 q),
-      lines_same c.self.inside.pipes.items c.self.inside.ready c.args.pipe c.index_mut-place.result.now c.reserve.new.self c.self.invariant.5 w c.index_mut-place.ensures.value (serve_same c.reserve.new.self.stage c.index_mut-place.result.now.stage c.in_ok-reserve.ensures.same.stage) (room_admits c.index_mut-place.result.now c.reserve.new.self c.in_ok-reserve.ensures.same),
+      lines_same c.self.inside.pipes.items c.give_line.new.self c.args.pipe c.index_mut-place.result.now c.reserve.new.self (lines_given c.self.inside.pipes.items c.self.inside.ready c.give_line.new.self c.args.caller c.self.invariant.5 c.in_ok-give_line.ensures) w c.index_mut-place.ensures.value (serve_same c.reserve.new.self.stage c.index_mut-place.result.now.stage c.in_ok-reserve.ensures.same.stage) (room_admits c.index_mut-place.result.now c.reserve.new.self c.in_ok-reserve.ensures.same),
       ready_same HasRequest c.self.inside.pipes.items c.self.inside.passing c.args.pipe c.index_mut-place.result.now c.reserve.new.self c.self.invariant.6 w c.index_mut-place.ensures.value (pass_same c.reserve.new.self.stage c.index_mut-place.result.now.stage c.in_ok-reserve.ensures.same.stage),
     )
 
@@ -73,7 +73,7 @@ pub add-requires : goal.add-requires
 add-requires g c =
     let open_ : IsOpenPad (entries_of c.args.pipe c.self.inside.log.items) = subst (λ h. IsOpenPad (entries_of c.args.pipe h)) (sym c.self.view_is) c.requires.pipe in
     let w = within_board g.W.Work.asked g.W.Work.meaning c.self.inside.pipes.items c.self.inside.log.items c.args.pipe c.self.invariant.0 (open_here is_pad (entries_of c.args.pipe c.self.inside.log.items) open_.0) in
-    room_in_each c.self.inside.pipes.items c.self.inside.ready c.args.pipe (but_one c.self.inside.pipes.items c.self.inside.ready c.args.pipe c.self.invariant.5) w
+    room_in_each c.self.inside.pipes.items c.give_line.new.self c.args.pipe (but_one c.self.inside.pipes.items c.give_line.new.self c.args.pipe (lines_given c.self.inside.pipes.items c.self.inside.ready c.give_line.new.self c.args.caller c.self.invariant.5 c.in_ok-give_line.ensures)) w
 
 pub invariant_of-self-2 : goal.invariant_of-self-2
 invariant_of-self-2 g c =
@@ -93,7 +93,7 @@ invariant_of-self-2 g c =
       omega (arith, c.push_reserved.ensures.len, c.push_reserved.ensures.capacity, c.in_ok-reserve_entries.ensures.ok),
       omega (arith, s.1, c.self.invariant.3),
       rw (c.push_reserved.ensures.items, c.in_ok-reserve_entries.ensures.items) (used_more g.W.Work.weight c.self.inside.used c.spend.new.used c.self.inside.log.items (Submit c.args.caller c.args.pipe c.submit-number.result c.in_ok-ask.field-0.ask) (g.W.Work.asked c.args.job) c.in_ok-ask.field-0.size (ap Some c.in_ok-ask.ensures.ask) c.in_ok-ask.ensures.size c.self.invariant.4 c.in_ok-spend.ensures.ok),
-      lines_added c.self.inside.pipes.items c.self.inside.ready c.add.new.self c.args.pipe c.submit-number.new.self (but_one c.self.inside.pipes.items c.self.inside.ready c.args.pipe c.self.invariant.5) w c.add.ensures,
+      lines_added c.self.inside.pipes.items c.give_line.new.self c.add.new.self c.args.pipe c.submit-number.new.self (but_one c.self.inside.pipes.items c.give_line.new.self c.args.pipe (lines_given c.self.inside.pipes.items c.self.inside.ready c.give_line.new.self c.args.caller c.self.invariant.5 c.in_ok-give_line.ensures)) w (known_noted c.give_line.new.self.own c.index_mut-place.result.now c.submit-number.new.self c.args.caller _ noting c.in_ok-give_line.ensures.1 (known_here c.self.inside.pipes.items c.give_line.new.self.own c.args.pipe c.index_mut-place.result.now (lines_given c.self.inside.pipes.items c.self.inside.ready c.give_line.new.self c.args.caller c.self.invariant.5 c.in_ok-give_line.ensures).known w c.index_mut-place.ensures.value)) c.add.ensures,
       ready_same HasRequest c.self.inside.pipes.items c.self.inside.passing c.args.pipe c.index_mut-place.result.now c.submit-number.new.self c.self.invariant.6 w c.index_mut-place.ensures.value (job_passes c.index_mut-place.result.now.stage c.submit-number.new.self.stage c.args.job e),
     )
 

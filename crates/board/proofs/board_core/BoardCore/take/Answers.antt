@@ -7,7 +7,7 @@ use Rattle.board.proofs.InLine.{ready_same}
 use Rattle.board.proofs.KeptUsed.{used_same}
 use Rattle.board.proofs.Kept.{kept_here, shut-same}
 use Rattle.board.proofs.KeptWork.{first_taken, first_made, first_is_queue, first_quiet, take_step, take_none, take_passes, take_entry_is}
-use Rattle.board.proofs.LinesHold.{lines_added, room_in_each}
+use Rattle.board.proofs.LinesHold.{known_here, lines_added, room_in_each}
 use Rattle.board.proofs.board_core.BoardCore.take.Goals as goal
 
 pub returns-in_err-p-clause-taken : goal.returns-in_err-p-clause-taken
@@ -39,7 +39,7 @@ invariant_of-self-2 g c =
       omega (arith, s.1, c.self.invariant.2, c.self.invariant.3, c.push_reserved.ensures.len, c.push_reserved.ensures.capacity),
       omega (arith, s.1, c.self.invariant.3),
       rw (c.push_reserved.ensures.items, made) (used_same g.W.Work.weight c.self.inside.used c.self.inside.log.items e q.1 c.self.invariant.4),
-      lines_added c.self.inside.pipes.items c.next_job.new.self c.add.new.self c.in_ok-p.p (record pipe { stage = c.take.new.self }) (rw c.deref.ensures.value at c.in_ok-p.ensures.next.2) w c.add.ensures,
+      lines_added c.self.inside.pipes.items c.next_job.new.self c.add.new.self c.in_ok-p.p (record pipe { stage = c.take.new.self }) (rw c.deref.ensures.value at c.in_ok-p.ensures.next.2) w (known_here c.self.inside.pipes.items c.next_job.new.self.own c.in_ok-p.p pipe (rw c.deref.ensures.value at c.in_ok-p.ensures.next.2).known w c.index_mut-place.ensures.value) c.add.ensures,
       ready_same HasRequest c.self.inside.pipes.items c.self.inside.passing c.in_ok-p.p pipe (record pipe { stage = c.take.new.self }) c.self.invariant.6 w c.index_mut-place.ensures.value (take_passes pipe.stage c.take.new.self _ c.in_ok-number.ensures.3),
     )
 

@@ -1,8 +1,9 @@
-use Rattle.std.proofs.Common.{◌≡◌, [], ◌≤◌}
+use Rattle.std.proofs.Common.{◌≡◌, ℕ, ◌≤◌}
 use Rattle.std.specs.Vec.{vec_len, vec_capacity}
-use Rattle.board.specs.Ready.{AreAll, line_count}
+use Rattle.board.specs.Lines.{AreAll, HasLine, no_pipelines}
 use Rattle.board.proofs.lines.JobLines.new.Given as goal
 
 abbrev pub invariant-loop : goal.invariant-loop
 invariant-loop l =
-    (vec_len l.lines ≡ l.counter) × (line_count ≤ vec_capacity l.lines) × AreAll (λ line. line ≡ record { pipes = 0; line = [] }) l.lines.items
+    (vec_len l.own ≡ l.counter) × (16 ≤ vec_capacity l.own) × AreAll (λ own. own.line ≡ no_pipelines) l.own.items
+    × ((worker : ℕ) → 1 ≤ worker → worker ≤ l.counter → HasLine l.own.items worker)
