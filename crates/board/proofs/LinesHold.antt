@@ -1,6 +1,6 @@
 -- The lines of a board's callers, as pipelines change.
-use Rattle.std.proofs.Common.{◌≡◌, ℕ, zero, suc, ◌+◌, ◌<◌, ◌≤◌, Bool, true, false, cond, ◌||◌, List, [], ◌∷◌, ◌++◌, length, refl, sym, ◌∙◌, ap, subst, arith, inl, inr, ◌⊎◌, get_or}
-use Rattle.std.specs.Prelude.{◌==◌, slice_set, slice_index_or, MatchOption, Option, Some, None}
+use Rattle.std.proofs.Common.{◌≡◌, ℕ, zero, suc, ◌+◌, ◌<◌, ◌≤◌, Bool, true, false, cond, ◌&&◌, ◌||◌, List, [], ◌∷◌, ◌++◌, length, refl, sym, ◌∙◌, ap, subst, arith, inl, inr, ◌⊎◌, get_or}
+use Rattle.std.specs.Prelude.{is_some, ◌==◌, slice_set, slice_index_or, MatchOption, Option, Some, None}
 use Rattle.std.specs.List.{list_any, position_from}
 use Rattle.std.proofs.lemmas.Bool.{eqb-true, eq-eqb, or_left, or_right, cases_eq, cases_lt, both_ways}
 use Rattle.std.proofs.lemmas.List.{get_or-set_same, get_or-set_other, length-set}
@@ -74,7 +74,7 @@ end_has own l caller e =
 
 -- ---- the place of a caller's line
 
-pub IsAt : ℕ → List OwnLine → ℕ → Type 0
+abbrev pub IsAt : ℕ → List OwnLine → ℕ → Type 0
 IsAt caller own j = (j < length own) × ((d : OwnLine) → (get_or own j d).caller ≡ caller)
 
 place_step : (caller i : ℕ) (l : OwnLine) (own : List OwnLine) (place : ℕ) (b : Bool) → (l.caller == caller) ≡ b → cond b (Some i) (position_from (is_line_of caller) (i + 1) own) ≡ Some place
@@ -104,6 +104,19 @@ some_step i place o rest false h more = more h
 pub place_has : (caller i : ℕ) (own : List OwnLine) (place : ℕ) → position_from (is_line_of caller) i own ≡ Some place → HasLine own caller
 place_has caller i [] place h = cc
 place_has caller i (l ∷ own) place h = some_step i place (position_from (is_line_of caller) (i + 1) own) (list_any (is_line_of caller) own) (l.caller == caller) h (place_has caller (i + 1) own place)
+
+-- a caller whose line was found has one
+pub found_has : (caller : ℕ) (own : List OwnLine) (found : Option ℕ) → found ≡ position_from (is_line_of caller) 0 own → is_some found ≡ true → HasLine own caller
+found_has caller own None e h = cc
+found_has caller own (Some place) e h = place_has caller 0 own place (sym e)
+
+workers_cases : (own : List OwnLine) (n : ℕ) (l : OwnLine) (worker : ℕ) → ((w : ℕ) → 1 ≤ w → w ≤ n → HasLine own w) → l.caller ≡ n + 1 → 1 ≤ worker → worker ≤ n + 1 → (worker < n + 1) ⊎ (n + 1 ≤ worker) → HasLine (own ++ l ∷ []) worker
+workers_cases own n l worker all e low high (inl less) = end_keeps own l worker (all worker low (omega arith))
+workers_cases own n l worker all e low high (inr more) = end_has own l worker (omega arith)
+
+-- the next worker's line after those of the workers before
+pub workers_more : (own : List OwnLine) (n : ℕ) (l : OwnLine) → ((w : ℕ) → 1 ≤ w → w ≤ n → HasLine own w) → l.caller ≡ n + 1 → (worker : ℕ) → 1 ≤ worker → worker ≤ n + 1 → HasLine (own ++ l ∷ []) worker
+workers_more own n l all e worker low high = workers_cases own n l worker all e low high (cases_lt worker (n + 1))
 
 -- ---- who may take
 
@@ -187,10 +200,10 @@ strangers_serve own pipe caller workers k none (inr (inr (inl s))) = absurd (bot
 strangers_serve own pipe caller workers k none (inr (inr (inr m))) = absurd (both_ways (list_any (is_line_of caller) own) none (workers caller m.0 m.1))
 
 module _ {J O : Type 0} (pipes : List (Pipeline J O)) where
-  IsOwn : OwnLine → Type 0
+  abbrev IsOwn : OwnLine → Type 0
   IsOwn own = IsReadyFor (HasJobFor own.caller) pipes own.line
 
-  IsOwnBut : ℕ → OwnLine → Type 0
+  abbrev IsOwnBut : ℕ → OwnLine → Type 0
   IsOwnBut k own = OthersAreReadyFor (HasJobFor own.caller) k pipes own.line
 
   known_cases : (own : List OwnLine) (p q : ℕ) (new d : Pipeline J O) → AreKnown pipes own → IsKnown own new → p < length pipes → q < length pipes → (q ≡ p) ⊎ (q ≡ p → ⊥) → IsKnown own (slice_index_or (slice_set pipes p new) q d)
