@@ -29,3 +29,14 @@ invariant_of-self-2 g c =
 
 pub returns-clause-legal : goal.returns-clause-legal
 returns-clause-legal g c = (invariant_of-self-2 g c).0.legal
+
+pub invariant_of-self-in_err-grow_both : goal.invariant_of-self-in_err-grow_both
+invariant_of-self-in_err-grow_both g c = (
+  rw (c.in_ok-reserve_entries.ensures.items, c.in_ok-reserve.ensures.items) c.self.invariant.0,
+  rw c.in_ok-reserve_entries.ensures.items c.self.invariant.1,
+  omega (arith, c.self.invariant.2, c.in_ok-reserve_entries.ensures.len, c.in_ok-reserve_entries.ensures.capacity),
+  rw c.in_ok-reserve.ensures.items c.self.invariant.3,
+  rw c.in_ok-reserve_entries.ensures.items c.self.invariant.4,
+  rw (c.in_ok-reserve.ensures.items, c.in_err-grow_both.ensures.ready) (lines_given c.self.inside.pipes.items c.self.inside.ready c.give_line.new.self c.args.caller c.self.invariant.5 c.in_ok-give_line.ensures),
+  rw (c.in_ok-reserve.ensures.items, c.in_err-grow_both.ensures.passing) c.self.invariant.6,
+)
