@@ -12,7 +12,7 @@ use Rattle.board.specs.declared.stage.Stage.{Stage}
 use Rattle.board.specs.declared.stage.Stage.TheVariants as stage
 use Rattle.board.specs.Pipelines.{IsSame, NotesCaller}
 use Rattle.board.specs.Stages.{is_queue, without_room, holding, collected_from}
-use Rattle.board.specs.Ready.{ReadyLine, HasJob, HasJobFor, Admits, AreInLine, OthersAreInLine, IsReadyFor, NoneIs, IsGrown, HasAdded, IsFull}
+use Rattle.board.specs.Ready.{ReadyLine, HasJob, HasJobFor, Admits, OthersAreInLine, IsReadyFor, NoneIs, IsGrown, HasAdded, IsFull}
 use Rattle.board.specs.Lines.{LinesOf, no_pipelines, is_line_of, HasLine, HaveWorkers, AreAll, AreMade, IsMade, HasRoom, GivesLine, IsForStrangers, IsKnown, AreKnown, AreReady, OthersAreReadyFor, OthersAreReady}
 use Rattle.board.proofs.InLine.{ready_same, ready_added, ready_born, all_but, get_born}
 

@@ -1,6 +1,6 @@
 //! The lines in which callers find the pipelines whose jobs they may take.
 
-ghost use Rattle.std.specs.Prelude.{◌≡◌, ℕ, ◌<◌, [], length, slice_index_or, IfOk, MatchResult, MatchOption};
+ghost use Rattle.std.specs.Prelude.{◌≡◌, ◌<◌, length, slice_index_or, IfOk, MatchResult, MatchOption};
 ghost use Rattle.std.specs.List.{position_from};
 ghost use Rattle.board.specs.declared.pipeline.Pipeline.{Pipeline};
 ghost use Rattle.board.specs.Ready.{IsGrown, HasAdded, HasJobFor, NoneIs};

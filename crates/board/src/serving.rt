@@ -1,6 +1,6 @@
 //! Which pipeline a caller serves next.
 
-ghost use Rattle.std.specs.Prelude.{◌≡◌, ℕ, ◌<◌, length, slice_index_or, MatchOption};
+ghost use Rattle.std.specs.Prelude.{◌≡◌, ◌<◌, length, slice_index_or, MatchOption};
 ghost use Rattle.board.specs.declared.pipeline.Pipeline.{Pipeline};
 ghost use Rattle.board.specs.Ready.{HasJobFor, HasRequest, IsReadyFor, OthersAreInLine, NoneIs};
 

@@ -1,8 +1,7 @@
 use Rattle.std.proofs.Common.{refl, ◌∙◌, ap, sym, subst, arith}
 use Rattle.std.specs.List.{position_from}
-use Rattle.board.specs.Ready.{HasJobFor, IsReadyFor}
 use Rattle.board.specs.Lines.{is_line_of, AreReady}
-use Rattle.board.proofs.LinesHold.{IsAt, place_at, place_none, at_own, at_strangers, found_own, found_strangers}
+use Rattle.board.proofs.LinesHold.{place_at, place_none, at_own, at_strangers, found_own, found_strangers}
 use Rattle.board.proofs.lines.JobLines.next_job.Goals as goal
 
 pub index_mut-requires : goal.index_mut-requires
