@@ -52,16 +52,19 @@ pub(crate) fn mixed_back_all(words: &[u32; 60]) -> [u32; 60]
 impl TableSchedule {
     ghost use Rattle.aes_table.specs.Key.{table_key};
 
-    /// Seals a block.
+    /// Seals a block. The rounds are an even number, and two go in a turn: so the columns need not be moved back to the registers
+    /// that a round took them from.
     #[inline(always)]
     pub(crate) fn seal(&self, b: &[u8; 16]) -> [u8; 16]
         ensures { result ≡ seal (table_key self.now) b.now }
     {
         let mut state = key_added(columns_of(b), &self.words, 0);
-        for round in 1..self.rounds {
-            state = sealed_round(state, &self.words, round);
+        for pair in 1..self.rounds / 2 {
+            let between = sealed_round(state, &self.words, 2 * pair - 1);
+            state = sealed_round(between, &self.words, 2 * pair);
         }
-        block_of(sealed_last(state, &self.words, self.rounds))
+        let before_last = sealed_round(state, &self.words, self.rounds - 1);
+        block_of(sealed_last(before_last, &self.words, self.rounds))
     }
 
     /// Unseals a block. InvMixColumns goes over a sum, so that a round may add words which went through it.
