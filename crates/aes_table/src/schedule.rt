@@ -58,13 +58,12 @@ impl TableSchedule {
     pub(crate) fn seal(&self, b: &[u8; 16]) -> [u8; 16]
         ensures { result ≡ seal (table_key self.now) b.now }
     {
-        let mut state = key_added(columns_of(b), &self.words, 0);
+        let mut state = sealed_round(key_added(columns_of(b), &self.words, 0), &self.words, 1);
         for pair in 1..self.rounds / 2 {
-            let between = sealed_round(state, &self.words, 2 * pair - 1);
-            state = sealed_round(between, &self.words, 2 * pair);
+            let between = sealed_round(state, &self.words, 2 * pair);
+            state = sealed_round(between, &self.words, 2 * pair + 1);
         }
-        let before_last = sealed_round(state, &self.words, self.rounds - 1);
-        block_of(sealed_last(before_last, &self.words, self.rounds))
+        block_of(sealed_last(state, &self.words, self.rounds))
     }
 
     /// Unseals a block. InvMixColumns goes over a sum, so that a round may add words which went through it.

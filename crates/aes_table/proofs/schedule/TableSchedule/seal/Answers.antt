@@ -15,7 +15,10 @@ unfolding after_rounds
 loop-pair-init c =
     let s = c.args.self.now in
     let ws : List (List ℕ) = map bytes_of s.words in
-    c.key_added-state.ensures ∙ ap (add_round_key ws 0) c.columns_of.ensures ∙ round_key_is s.rounds ws 0 c.args.b.now s.scheduled (omega arith)
+    let begun : state_of c.key_added.result ≡ after_rounds (key_schedule (key_of s.rounds ws)) c.args.b.now 0 =
+    c.key_added.ensures ∙ ap (add_round_key ws 0) c.columns_of.ensures ∙ round_key_is s.rounds ws 0 c.args.b.now s.scheduled (omega arith) in
+    c.sealed_round-state.ensures
+    ∙ sealing_more s.rounds ws c.args.b.now (state_of c.key_added.result) 1 s.scheduled (omega arith) (omega (arith, at_least_ten s.rounds ws s.scheduled)) begun
 
 pub loop-pair-preserved : goal.loop-pair-preserved
 loop-pair-preserved c =
@@ -23,27 +26,22 @@ loop-pair-preserved c =
     let ws : List (List ℕ) = map bytes_of s.words in
     let ahead : ℕ → List ℕ = after_rounds (key_schedule (key_of s.rounds ws)) c.args.b.now in
     let pair : ℕ = c.loop-pair.pair in
-    let first : 2 * pair - 2 ≡ 2 * pair - 1 - 1 = omega arith in
-    let second : 2 * pair - 1 + 1 - 1 ≡ 2 * pair - 1 = omega arith in
-    let both : 2 * pair + 1 - 1 ≡ 2 * (pair + 1) - 2 = omega arith in
-    let between : state_of c.sealed_round-between.result ≡ ahead (2 * pair - 1) =
+    let first : 2 * pair + 1 - 1 ≡ 2 * pair = omega arith in
+    let second : 2 * pair ≡ 2 * pair + 1 - 1 = omega arith in
+    let both : 2 * pair + 1 + 1 - 1 ≡ 2 * (pair + 1) - 1 = omega arith in
+    let even : s.rounds % 2 ≡ 0 = are_even s.rounds ws s.scheduled in
+    let between : state_of c.sealed_round-between.result ≡ ahead (2 * pair) =
     c.sealed_round-between.ensures
-    ∙ sealing_more s.rounds ws c.args.b.now (state_of c.loop-pair.state) (2 * pair - 1) s.scheduled (omega arith) (omega arith) (c.loop-pair.invariant ∙ ap ahead first)
-    ∙ ap ahead second in
-    c.sealed_round-state.ensures
-    ∙ sealing_more s.rounds ws c.args.b.now (state_of c.sealed_round-between.result) (2 * pair) s.scheduled (omega arith) (omega arith) between
+    ∙ sealing_more s.rounds ws c.args.b.now (state_of c.loop-pair.state) (2 * pair) s.scheduled (omega arith) (omega arith) c.loop-pair.invariant
+    ∙ ap ahead first in
+    c.sealed_round-state-in-loop-pair.ensures
+    ∙ sealing_more s.rounds ws c.args.b.now (state_of c.sealed_round-between.result) (2 * pair + 1) s.scheduled (omega arith) (omega (arith, even)) (between ∙ ap ahead second)
     ∙ ap ahead both
 
 pub returns : goal.returns
 returns c =
     let s = c.args.self.now in
     let ws : List (List ℕ) = map bytes_of s.words in
-    let ahead : ℕ → List ℕ = after_rounds (key_schedule (key_of s.rounds ws)) c.args.b.now in
-    let end : 2 * c.loop-pair.pair - 2 ≡ s.rounds - 1 - 1 = omega (arith, at_least_ten s.rounds ws s.scheduled, are_even s.rounds ws s.scheduled) in
-    let last : s.rounds - 1 + 1 - 1 ≡ s.rounds - 1 = omega (arith, at_least_ten s.rounds ws s.scheduled) in
-    let before_last : state_of c.sealed_round-before_last.result ≡ ahead (s.rounds - 1) =
-    c.sealed_round-before_last.ensures
-    ∙ sealing_more s.rounds ws c.args.b.now (state_of c.loop-pair.state) (s.rounds - 1) s.scheduled (omega (arith, at_least_ten s.rounds ws s.scheduled)) (omega (arith, at_least_ten s.rounds ws s.scheduled)) (c.loop-pair.invariant ∙ ap ahead end)
-    ∙ ap ahead last in
+    let end : 2 * c.loop-pair.pair - 1 ≡ s.rounds - 1 = omega (arith, at_least_ten s.rounds ws s.scheduled, are_even s.rounds ws s.scheduled) in
     c.block_of.ensures ∙ c.sealed_last.ensures
-    ∙ sealed_all s.rounds ws c.args.b.now (state_of c.sealed_round-before_last.result) s.scheduled before_last
+    ∙ sealed_all s.rounds ws c.args.b.now (state_of c.loop-pair.state) s.scheduled (rw end at c.loop-pair.invariant)
