@@ -3,7 +3,8 @@
 
 mod answers;
 mod replies;
+mod reply;
 mod sentences;
 
 pub use answers::Answer;
-pub use replies::put;
+pub use reply::Reply;

@@ -1,28 +1,22 @@
 //! Answers put into a reply.
 
-ghost use Rattle.std.specs.Prelude.{◌≡◌, ◌∷◌, ◌++◌, [], codes, IfOk, OnOk, OnErr};
+ghost use Rattle.std.specs.Prelude.{◌≡◌, ◌+◌, ◌≤◌, ◌∷◌, ◌++◌, [], codes, length, IsOk, OnOk, OnErr};
 ghost use Rattle.std.specs.Fmt.{decimal};
-ghost use Rattle.reply_text.specs.Answers.{hex_text, sentence, listed_word, text_of};
+ghost use Rattle.reply_text.specs.Answers.{sentence, listed_word, text_of};
+ghost use Rattle.reply_text.specs.Written.{Puts};
 
 use crate::answers::Answer;
-use crate::sentences::{hex_digits, numbered, sentence_of};
-use kc_base::Bytes;
-use std::alloc::{AllocError, Global};
-
-// A line with a word and bytes.
-fn bytes_text(alloc: Global, line: u32, word: &[u8], bytes: &[u8]) -> Result<Bytes, AllocError>
-    ensures { IfOk result (λ text. text ≡ sentence (decimal line ∷ word.now ∷ hex_text bytes.now ∷ [])) }
-{
-    let digits = hex_digits(alloc, bytes)?;
-    numbered(alloc, line, &[word, digits.as_bytes()])
-}
+use crate::reply::Reply;
+use crate::sentences::{say, say_bytes, say_numbered};
+use itoa::Buffer;
+use std::alloc::AllocError;
 
 // A line with a word and a count.
-fn count_text(alloc: Global, line: u32, word: &[u8], count: u64) -> Result<Bytes, AllocError>
-    ensures { IfOk result (λ text. text ≡ sentence (decimal line ∷ word.now ∷ decimal count ∷ [])) }
+fn say_count(reply: &mut Reply, line: u32, word: &[u8], count: u64) -> Result<(), AllocError>
+    ensures { Puts (sentence (decimal line ∷ word.now ∷ decimal count ∷ [])) reply.old reply.new result }
 {
-    let count = count.to_string(alloc)?;
-    numbered(alloc, line, &[word, count.as_bytes()])
+    let mut number = Buffer::new();
+    say_numbered(reply, line, &[word, number.format(count).as_bytes()])
 }
 
 fn listed_word(listed: bool) -> &'static [u8]
@@ -31,116 +25,118 @@ fn listed_word(listed: bool) -> &'static [u8]
     if listed { b"listed" } else { b"unlisted" }
 }
 
-fn refs_text(alloc: Global, line: u32, count: u64, listed: bool) -> Result<Bytes, AllocError>
-    ensures { IfOk result (λ text. text ≡ text_of (Answer.Refs line count listed)) }
+fn say_refs(reply: &mut Reply, line: u32, count: u64, listed: bool) -> Result<(), AllocError>
+    ensures { Puts (text_of (Answer.Refs line count listed)) reply.old reply.new result }
 {
-    let count = count.to_string(alloc)?;
-    numbered(
-        alloc,
+    let mut number = Buffer::new();
+    let count = number.format(count).as_bytes();
+    say_numbered(
+        reply,
         line,
-        &[b"refs".as_slice(), count.as_bytes(), listed_word(listed)],
+        &[b"refs".as_slice(), count, listed_word(listed)],
     )
 }
 
 // A line with a word, a name and what the name came to.
-fn name_text(
-    alloc: Global,
+fn say_name(
+    reply: &mut Reply,
     line: u32,
     word: &[u8],
     name: &[u8],
     found: &[u8],
-) -> Result<Bytes, AllocError>
-    ensures { IfOk result (λ text. text ≡ sentence (decimal line ∷ word.now ∷ name.now ∷ found.now ∷ [])) }
+) -> Result<(), AllocError>
+    ensures { Puts (sentence (decimal line ∷ word.now ∷ name.now ∷ found.now ∷ [])) reply.old reply.new result }
 {
-    numbered(alloc, line, &[word, name, found])
+    say_numbered(reply, line, &[word, name, found])
 }
 
-fn alg_text(
-    alloc: Global,
+fn say_alg(
+    reply: &mut Reply,
     line: u32,
     name: &[u8],
     driver: &[u8],
     priority: u32,
     refs: u64,
-) -> Result<Bytes, AllocError>
-    ensures { IfOk result (λ text. text ≡ text_of (Answer.Alg line name.now driver.now priority refs)) }
+) -> Result<(), AllocError>
+    ensures { Puts (text_of (Answer.Alg line name.now driver.now priority refs)) reply.old reply.new result }
 {
-    let priority = priority.to_string(alloc)?;
-    let refs = refs.to_string(alloc)?;
-    numbered(
-        alloc,
+    let mut first = Buffer::new();
+    let mut second = Buffer::new();
+    let priority = first.format(priority).as_bytes();
+    let refs = second.format(refs).as_bytes();
+    say_numbered(
+        reply,
         line,
-        &[
-            b"alg".as_slice(),
-            name,
-            driver,
-            priority.as_bytes(),
-            refs.as_bytes(),
-        ],
+        &[b"alg".as_slice(), name, driver, priority, refs],
     )
 }
 
-fn end_text(alloc: Global, label: &[u8], count: u64) -> Result<Bytes, AllocError>
-    ensures { IfOk result (λ text. text ≡ text_of (Answer.End label.now count)) }
+fn say_end(reply: &mut Reply, label: &[u8], count: u64) -> Result<(), AllocError>
+    ensures { Puts (text_of (Answer.End label.now count)) reply.old reply.new result }
 {
-    let count = count.to_string(alloc)?;
-    sentence_of(alloc, b"end", &[label, count.as_bytes()])
+    let mut number = Buffer::new();
+    say(reply, b"end", &[label, number.format(count).as_bytes()])
 }
 
-fn answer_text(alloc: Global, answer: &Answer) -> Result<Bytes, AllocError>
-    ensures { IfOk result (λ text. text ≡ text_of answer.now) }
+fn say_answer(reply: &mut Reply, answer: &Answer) -> Result<(), AllocError>
+    ensures { Puts (text_of answer.now) reply.old reply.new result }
 {
     match answer {
-        Answer::Ok { line } => numbered(alloc, *line, &[b"ok".as_slice()]),
-        Answer::Value { line, bytes } => bytes_text(alloc, *line, b"ok", bytes.as_slice()),
+        Answer::Ok { line } => say_numbered(reply, *line, &[b"ok".as_slice()]),
+        Answer::Value { line, bytes } => say_bytes(reply, *line, b"ok", bytes.as_slice()),
         Answer::Made { line, driver } => {
-            numbered(alloc, *line, &[b"ok".as_slice(), driver.as_slice()])
+            say_numbered(reply, *line, &[b"ok".as_slice(), driver.as_slice()])
         }
-        Answer::Refused { line, errno } => numbered(alloc, *line, &[errno.name().as_bytes()]),
-        Answer::Malformed { line } => numbered(alloc, *line, &[b"malformed".as_slice()]),
+        Answer::Refused { line, errno } => say_numbered(reply, *line, &[errno.name().as_bytes()]),
+        Answer::Malformed { line } => say_numbered(reply, *line, &[b"malformed".as_slice()]),
         Answer::Probed { line, name, driver } => {
-            name_text(alloc, *line, b"probed", name.as_slice(), driver.as_slice())
+            say_name(reply, *line, b"probed", name.as_slice(), driver.as_slice())
         }
         Answer::Unprobed { line, name, errno } => {
             let errno = errno.name().as_bytes();
-            name_text(alloc, *line, b"unprobed", name.as_slice(), errno)
+            say_name(reply, *line, b"unprobed", name.as_slice(), errno)
         }
         Answer::Refs {
             line,
             count,
             listed,
-        } => refs_text(alloc, *line, *count, *listed),
+        } => say_refs(reply, *line, *count, *listed),
         Answer::Alg {
             line,
             name,
             driver,
             priority,
             refs,
-        } => alg_text(
-            alloc,
+        } => say_alg(
+            reply,
             *line,
             name.as_slice(),
             driver.as_slice(),
             *priority,
             *refs,
         ),
-        Answer::Listed { line, count } => count_text(alloc, *line, b"listed", *count),
-        Answer::Started { line } => numbered(alloc, *line, &[b"started".as_slice()]),
-        Answer::Done { line, bytes } => bytes_text(alloc, *line, b"done", bytes.as_slice()),
+        Answer::Listed { line, count } => say_count(reply, *line, b"listed", *count),
+        Answer::Started { line } => say_numbered(reply, *line, &[b"started".as_slice()]),
+        Answer::Done { line, bytes } => say_bytes(reply, *line, b"done", bytes.as_slice()),
         Answer::Failed { line, errno } => {
-            numbered(alloc, *line, &[b"fail".as_slice(), errno.name().as_bytes()])
+            say_numbered(reply, *line, &[b"fail".as_slice(), errno.name().as_bytes()])
         }
-        Answer::Polled { line, count } => count_text(alloc, *line, b"polled", *count),
-        Answer::Drained { line, count } => count_text(alloc, *line, b"drained", *count),
-        Answer::End { label, count } => end_text(alloc, label.as_slice(), *count),
+        Answer::Polled { line, count } => say_count(reply, *line, b"polled", *count),
+        Answer::Drained { line, count } => say_count(reply, *line, b"drained", *count),
+        Answer::End { label, count } => say_end(reply, label.as_slice(), *count),
     }
 }
 
-/// Adds the text of an answer at the end. Want of memory leaves the reply as it was.
-pub fn put(alloc: Global, reply: &mut Bytes, answer: &Answer) -> Result<(), AllocError>
-    ensures ok { OnOk result (reply.new ≡ reply.old ++ text_of answer.now) }
-    ensures err { OnErr result (reply.new ≡ reply.old) }
-{
-    let text = answer_text(alloc, answer)?;
-    reply.append(text.as_slice())
+impl Reply {
+    /// Adds the text of an answer at the end. Want of memory comes only where the room is too small for the text, and leaves all as it
+    /// was.
+    pub fn put(&mut self, answer: &Answer) -> Result<(), AllocError>
+        ensures ok { OnOk result (self.new.text ≡ self.old.text ++ text_of answer.now) }
+        ensures err { OnErr result (self.new ≡ self.old) }
+        ensures room { length (text_of answer.now) ≤ self.old.spare → IsOk result }
+        // No more of the room is used than the text's length.
+        ensures left { self.old.spare ≤ self.new.spare + length (text_of answer.now) }
+    {
+        say_answer(self, answer)
+    }
 }

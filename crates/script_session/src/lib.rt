@@ -1,6 +1,7 @@
 //! One script over a registry and a board that others call too.
 #![tactic(auto)]
 
+mod allocating;
 mod answering;
 mod answers;
 mod bulk;
@@ -11,8 +12,10 @@ mod keying;
 mod listing;
 mod lives;
 mod naming;
+mod pipelines;
 mod piping;
 mod probing;
+mod registering;
 mod requesting;
 mod scripts;
 mod transform;

@@ -1,16 +1,27 @@
 //! Requests as lines give them, and single blocks.
 
-ghost use Rattle.std.specs.Prelude.{◌≡◌, length, IfOk, MatchResult};
+ghost use Rattle.std.specs.Prelude.{◌≡◌, ◌+◌, ◌<◌, ◌≤◌, ◌^◌, length, IfOk, MatchResult, IsTrue};
 ghost use Rattle.std_defs.specs.Aes.{IsKeyLength, seal};
-ghost use Rattle.dialogues.specs.Requesting.{aes_said, request_of};
+ghost use Rattle.dialogues.specs.Requesting.{aes_said, request_of, aes, request};
+ghost use Rattle.session_calls.specs.Passes.{known, CallsBoard};
+ghost use Rattle.script_session.specs.States.{Stands, Posted, counted};
+ghost use Rattle.script_session.specs.Holding.{Holds, Stops};
 
+use crate::answers::{refuse, say};
+use crate::lives::place_of;
+use crate::piping::take_job;
+use crate::scripts::Session;
+use crate::transform::JobErr;
 use aes_block::{Aes, BlockCipher};
+use board::Work;
 use kc_base::{Bytes, Errno};
 use reply_text::Answer;
 use session_calls::Stop;
 use sg_walk::Segs;
+use shared_board::SharedBoard;
 use std::alloc::{AllocError, Global};
-use transforms::{Dir, Request};
+use std::sync::Wait;
+use transforms::{Dir, Job, Request};
 
 // The block sealed under the key. `EINVAL` exactly where the key hasn't 16, 24 or 32 bytes, or the block hasn't 16.
 fn sealed_block(key: &[u8], block: &[u8]) -> Result<[u8; 16], Errno>
@@ -55,4 +66,109 @@ pub fn request_with(
         aad: Bytes::copy_of(alloc, aad)?,
         text: text.copy(alloc)?,
     })
+}
+
+impl Session {
+    // `aes KEY BLOCK`
+    pub(crate) fn aes(
+        &mut self,
+        number: u32,
+        key: &Bytes,
+        block: &Bytes,
+        answers: &mut Vec<Answer>,
+    ) -> Result<(), Stop>
+        requires stands { Stands self.old.walk.lives (known self.old.registry) }
+        requires posted { Posted self.old.walk (known self.old.board) }
+        ensures { MatchResult result
+            (λ _. Holds (aes self.old.walk number key.now block.now) self.old self.new answers.old.items answers.new.items)
+            (λ _. Stops self.old self.new) }
+    {
+        let answer = answer_aes(self.alloc, number, key.as_slice(), block.as_slice())?;
+        say(answers, answer)
+    }
+
+    // Counts a request of so many bytes, where a pipeline accepted it.
+    fn count(&mut self, accepted: bool, size: u64)
+        requires { IsTrue accepted → (self.old.walk.requests < 2 ^ 20) × (self.old.walk.bytes + size ≤ 2 ^ 26) }
+        ensures { self.new ≡ counted self.old accepted size }
+    {
+        if accepted {
+            self.requests += 1;
+            self.bytes += size;
+        }
+    }
+
+    // `enc T IV AAD TEXT [backlog]`, `dec T IV AAD TEXT [backlog]` and `mac T TEXT [backlog]`
+    fn request<R: Wait>(
+        &mut self,
+        rt: &R,
+        board: &SharedBoard<Job>,
+        number: u32,
+        label: &Bytes,
+        asked: Request,
+        backlog: bool,
+        answers: &mut Vec<Answer>,
+    ) -> Result<(), Stop>
+        requires at { CallsBoard board.now self.old.board }
+        requires stands { Stands self.old.walk.lives (known self.old.registry) }
+        requires posted { Posted self.old.walk (known self.old.board) }
+        requires aad { length asked.aad < 2 ^ 32 }
+        requires text { length asked.text.text < 2 ^ 32 }
+        ensures { MatchResult result
+            (λ _. Holds (request self.old.walk number label.now asked backlog) self.old self.new answers.old.items answers.new.items)
+            (λ _. Stops self.old self.new) }
+    {
+        let Some(place) = place_of(&self.lives, label.as_slice()) else {
+            return refuse(answers, number, Errno::ENOENT);
+        };
+        let job = match self.lives[place].job(self.alloc, self.client, number, asked) {
+            Ok(job) => job,
+            Err(JobErr::NoKey) => return refuse(answers, number, Errno::ENOKEY),
+            Err(JobErr::Inval) => return refuse(answers, number, Errno::EINVAL),
+            Err(JobErr::Memory) => return Err(Stop::Memory),
+        };
+        let size = job.size();
+        let live = &mut self.lives[place];
+        let accepted = take_job(
+            rt,
+            board,
+            &mut self.board,
+            number,
+            live,
+            job,
+            backlog,
+            answers,
+        )?;
+        self.count(accepted, size);
+        Ok(())
+    }
+
+    // A request of which the line gives these bytes.
+    pub(crate) fn submit<R: Wait>(
+        &mut self,
+        rt: &R,
+        board: &SharedBoard<Job>,
+        number: u32,
+        label: &Bytes,
+        dir: Dir,
+        iv: &[u8],
+        aad: &[u8],
+        text: &Segs,
+        backlog: bool,
+        answers: &mut Vec<Answer>,
+    ) -> Result<(), Stop>
+        requires at { CallsBoard board.now self.old.board }
+        requires stands { Stands self.old.walk.lives (known self.old.registry) }
+        requires posted { Posted self.old.walk (known self.old.board) }
+        requires aad { length aad.now < 2 ^ 32 }
+        requires text { length text.now.text < 2 ^ 32 }
+        ensures { MatchResult result
+            (λ _. Holds (request self.old.walk number label.now (request_of dir iv.now aad.now text.now) backlog) self.old self.new answers.old.items answers.new.items)
+            (λ _. Stops self.old self.new) }
+    {
+        let Ok(asked) = request_with(self.alloc, dir, iv, aad, text) else {
+            return Err(Stop::Memory);
+        };
+        self.request(rt, board, number, label, asked, backlog, answers)
+    }
 }

@@ -1,14 +1,15 @@
 //! The text of answers.
 
 use kc_base::{Bytes, Errno};
-use reply_text::{Answer, put};
+use reply_text::{Answer, Reply};
 use std::alloc::{AllocError, Global};
 use std::test::Fail;
 
 /// The text of an answer after another one's.
-fn put_after(alloc: Global, answer: &Answer) -> Result<Bytes, AllocError> {
-    let mut reply = Bytes::copy_of(alloc, b"6 ok\n")?;
-    put(alloc, &mut reply, answer)?;
+fn put_after(alloc: Global, answer: &Answer) -> Result<Reply, AllocError> {
+    let mut reply = Reply::new(alloc);
+    reply.put(&Answer::Ok { line: 6 })?;
+    reply.put(answer)?;
     Ok(reply)
 }
 

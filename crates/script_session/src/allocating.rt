@@ -1,0 +1,190 @@
+//! The lines that take a transform into use and let it go.
+
+ghost use Rattle.std.specs.Prelude.{◌≡◌, ◌≤◌, MatchResult, IsSome, Some, true, slice_get};
+ghost use Rattle.alg_names.specs.Name.{spelling};
+ghost use Rattle.alg_registry.specs.declared.spec.Spec.{Spec as Algorithm};
+ghost use Rattle.alg_registry.specs.Rows.{registered};
+ghost use Rattle.templates.specs.Looking.{Entry};
+ghost use Rattle.templates.specs.Nesting.{is_nested_well};
+ghost use Rattle.dialogues.specs.Allocating.{alloc, binds, free};
+ghost use Rattle.dialogues.specs.Names.{is_queue_length};
+ghost use Rattle.script_session.specs.Finding.{looks};
+ghost use Rattle.session_calls.specs.Passes.{CallsRegistry, known, CallsBoard};
+ghost use Rattle.script_session.specs.States.{Stands, Posted};
+ghost use Rattle.script_session.specs.Holding.{Holds, Stops};
+
+use crate::answers::{refuse, say};
+use crate::lives::place_of;
+use crate::naming::{fits_queue, plan_with, read_name};
+use crate::piping::{close_live, create_pipe, is_owing};
+use crate::scripts::Session;
+use crate::transform::Transform;
+use alg_names::Name;
+use kc_base::{Bytes, Errno};
+use reply_text::Answer;
+use session_calls::Stop;
+use shared_board::SharedBoard;
+use shared_registry::SharedRegistry;
+use std::sync::Wait;
+use templates::BuildErr;
+use transforms::Job;
+
+/// The most live transforms.
+const MOST_LIVE: usize = 4096;
+
+impl Session {
+    // Takes an entry that a look came to into use.
+    fn bind<R: Wait>(
+        &mut self,
+        rt: &R,
+        board: &SharedBoard<Job>,
+        registry: &SharedRegistry,
+        number: u32,
+        label: &Bytes,
+        length: Option<u32>,
+        id: u64,
+        answers: &mut Vec<Answer>,
+    ) -> Result<(), Stop>
+        requires at_registry { CallsRegistry registry.now self.old.registry }
+        requires at_board { CallsBoard board.now self.old.board }
+        requires stands { Stands self.old.walk.lives (known self.old.registry) }
+        requires posted { Posted self.old.walk (known self.old.board) }
+        requires few { self.old.workers ≤ 16 }
+        requires seen { IsSome (slice_get (registered (known self.old.registry).seen) id) }
+        requires fits { is_queue_length length ≡ true }
+        ensures { MatchResult result
+            (λ _. (spec : Algorithm) × (slice_get (registered (known self.old.registry).seen) id ≡ Some spec)
+            × Holds (binds self.old.workers self.old.walk number label.now length (Entry id spec)) self.old self.new answers.old.items answers.new.items)
+            (λ _. Stops self.old self.new) }
+    {
+        let spec = self.registry.origin(rt, registry, id)?;
+        let Ok(planned) = plan_with(self.alloc, &spec, length) else {
+            return Err(Stop::Memory);
+        };
+        let Some(plan) = planned else {
+            return refuse(answers, number, Errno::EINVAL);
+        };
+        let label = Bytes::copy_of(self.alloc, label.as_slice())?;
+        if !self.registry.take_ref(rt, registry, id)? {
+            return refuse(answers, number, Errno::EAGAIN);
+        }
+        let pipe = create_pipe(
+            self.alloc,
+            rt,
+            board,
+            &mut self.board,
+            self.workers,
+            spec.wrap,
+            length,
+        )?;
+        let driver = spec.driver;
+        say(
+            answers,
+            Answer::Made {
+                line: number,
+                driver,
+            },
+        )?;
+        self.lives.push(Transform::new(label, id, plan, pipe))?;
+        Ok(())
+    }
+
+    // Looks a name up, and takes what is found into use.
+    fn find<R: Wait>(
+        &mut self,
+        rt: &R,
+        board: &SharedBoard<Job>,
+        registry: &SharedRegistry,
+        number: u32,
+        label: &Bytes,
+        name: &Name,
+        length: Option<u32>,
+        answers: &mut Vec<Answer>,
+    ) -> Result<(), Stop>
+        requires at_registry { CallsRegistry registry.now self.old.registry }
+        requires at_board { CallsBoard board.now self.old.board }
+        requires stands { Stands self.old.walk.lives (known self.old.registry) }
+        requires posted { Posted self.old.walk (known self.old.board) }
+        requires few { self.old.workers ≤ 16 }
+        requires nested { is_nested_well name.now ≡ true }
+        requires fits { is_queue_length length ≡ true }
+        ensures { MatchResult result
+            (λ _. Holds (looks self.old.workers self.old.walk number label.now (spelling name.now) length) self.old self.new answers.old.items answers.new.items)
+            (λ _. Stops self.old self.new) }
+    {
+        match self.registry.resolve(rt, self.alloc, registry, name)? {
+            Ok(id) => self.bind(rt, board, registry, number, label, length, id, answers),
+            Err(errno) => refuse(answers, number, errno),
+        }
+    }
+
+    // `alloc T NAME [NUM]`
+    pub(crate) fn alloc<R: Wait>(
+        &mut self,
+        rt: &R,
+        board: &SharedBoard<Job>,
+        registry: &SharedRegistry,
+        number: u32,
+        label: &Bytes,
+        name: &Bytes,
+        length: Option<u32>,
+        answers: &mut Vec<Answer>,
+    ) -> Result<(), Stop>
+        requires at_registry { CallsRegistry registry.now self.old.registry }
+        requires at_board { CallsBoard board.now self.old.board }
+        requires stands { Stands self.old.walk.lives (known self.old.registry) }
+        requires posted { Posted self.old.walk (known self.old.board) }
+        requires few { self.old.workers ≤ 16 }
+        ensures { MatchResult result
+            (λ _. Holds (alloc self.old.workers self.old.walk number label.now name.now length) self.old self.new answers.old.items answers.new.items)
+            (λ _. Stops self.old self.new) }
+    {
+        if place_of(&self.lives, label.as_slice()).is_some() {
+            return refuse(answers, number, Errno::EEXIST);
+        }
+        if self.lives.len() >= MOST_LIVE {
+            return refuse(answers, number, Errno::EMFILE);
+        }
+        let name = match read_name(self.alloc, name.as_slice()) {
+            Ok(name) => name,
+            Err(BuildErr::Fault(errno)) => return refuse(answers, number, errno),
+            Err(BuildErr::Memory) => return Err(Stop::Memory),
+        };
+        if !fits_queue(length) {
+            return refuse(answers, number, Errno::EINVAL);
+        }
+        self.find(rt, board, registry, number, label, &name, length, answers)
+    }
+
+    // `free T`
+    pub(crate) fn free<R: Wait>(
+        &mut self,
+        rt: &R,
+        board: &SharedBoard<Job>,
+        registry: &SharedRegistry,
+        number: u32,
+        label: &Bytes,
+        answers: &mut Vec<Answer>,
+    ) -> Result<(), Stop>
+        requires at_registry { CallsRegistry registry.now self.old.registry }
+        requires at_board { CallsBoard board.now self.old.board }
+        requires stands { Stands self.old.walk.lives (known self.old.registry) }
+        requires posted { Posted self.old.walk (known self.old.board) }
+        ensures { MatchResult result
+            (λ _. Holds (free self.old.walk number label.now) self.old self.new answers.old.items answers.new.items)
+            (λ _. Stops self.old self.new) }
+    {
+        let Some(place) = place_of(&self.lives, label.as_slice()) else {
+            return refuse(answers, number, Errno::ENOENT);
+        };
+        if is_owing(&self.lives[place]) {
+            return refuse(answers, number, Errno::EBUSY);
+        }
+        // Memory is taken first: nothing stops the line once its pipeline is closed.
+        say(answers, Answer::Ok { line: number })?;
+        let live = self.lives.remove(place);
+        close_live(rt, board, &mut self.board, &live);
+        self.registry.put_ref(rt, registry, live.id());
+        Ok(())
+    }
+}

@@ -1,0 +1,175 @@
+//! The lines on the pipeline of a transform.
+
+ghost use Rattle.std.specs.Prelude.{◌≤◌, MatchResult};
+ghost use Rattle.dialogues.specs.Piping.{mask, hold, go, poll, drain};
+ghost use Rattle.session_calls.specs.Passes.{known, CallsBoard};
+ghost use Rattle.script_session.specs.States.{Stands, Posted, IsWide};
+ghost use Rattle.script_session.specs.Holding.{Holds, Stops};
+
+use crate::answers::refuse;
+use crate::lives::place_of;
+use crate::piping::{drain_live, go_live, hold_live, mask_live, poll_live};
+use crate::scripts::Session;
+use crew::Gate;
+use kc_base::{Bytes, Errno};
+use reply_text::Answer;
+use session_calls::Stop;
+use shared_board::SharedBoard;
+use std::sync::Wait;
+use transforms::Job;
+
+impl Session {
+    // `mask T MASK`
+    pub(crate) fn mask<R: Wait>(
+        &mut self,
+        rt: &R,
+        board: &SharedBoard<Job>,
+        number: u32,
+        label: &Bytes,
+        bits: u16,
+        answers: &mut Vec<Answer>,
+    ) -> Result<(), Stop>
+        requires at { CallsBoard board.now self.old.board }
+        requires stands { Stands self.old.walk.lives (known self.old.registry) }
+        requires posted { Posted self.old.walk (known self.old.board) }
+        requires few { self.old.workers ≤ 16 }
+        requires wide { IsWide self.old }
+        ensures { MatchResult result
+            (λ _. Holds (mask self.old.workers self.old.walk number label.now bits) self.old self.new answers.old.items answers.new.items)
+            (λ _. Stops self.old self.new) }
+    {
+        let Some(place) = place_of(&self.lives, label.as_slice()) else {
+            return refuse(answers, number, Errno::ENOENT);
+        };
+        mask_live(
+            rt,
+            board,
+            &mut self.board,
+            self.workers,
+            number,
+            bits,
+            &mut self.lives[place],
+            answers,
+        )
+    }
+
+    // `hold T`
+    pub(crate) fn hold<R: Wait>(
+        &mut self,
+        rt: &R,
+        board: &SharedBoard<Job>,
+        number: u32,
+        label: &Bytes,
+        answers: &mut Vec<Answer>,
+    ) -> Result<(), Stop>
+        requires at { CallsBoard board.now self.old.board }
+        requires stands { Stands self.old.walk.lives (known self.old.registry) }
+        requires posted { Posted self.old.walk (known self.old.board) }
+        ensures { MatchResult result
+            (λ _. Holds (hold self.old.walk number label.now) self.old self.new answers.old.items answers.new.items)
+            (λ _. Stops self.old self.new) }
+    {
+        let Some(place) = place_of(&self.lives, label.as_slice()) else {
+            return refuse(answers, number, Errno::ENOENT);
+        };
+        hold_live(
+            rt,
+            board,
+            &mut self.board,
+            number,
+            &mut self.lives[place],
+            answers,
+        )
+    }
+
+    // `go T`
+    pub(crate) fn go<R: Wait>(
+        &mut self,
+        rt: &R,
+        board: &SharedBoard<Job>,
+        number: u32,
+        label: &Bytes,
+        answers: &mut Vec<Answer>,
+    ) -> Result<(), Stop>
+        requires at { CallsBoard board.now self.old.board }
+        requires stands { Stands self.old.walk.lives (known self.old.registry) }
+        requires posted { Posted self.old.walk (known self.old.board) }
+        ensures { MatchResult result
+            (λ _. Holds (go self.old.walk number label.now) self.old self.new answers.old.items answers.new.items)
+            (λ _. Stops self.old self.new) }
+    {
+        let Some(place) = place_of(&self.lives, label.as_slice()) else {
+            return refuse(answers, number, Errno::ENOENT);
+        };
+        go_live(
+            rt,
+            board,
+            &mut self.board,
+            number,
+            &mut self.lives[place],
+            answers,
+        )
+    }
+
+    // `poll T`
+    pub(crate) fn poll<R: Wait>(
+        &mut self,
+        rt: &R,
+        board: &SharedBoard<Job>,
+        number: u32,
+        label: &Bytes,
+        answers: &mut Vec<Answer>,
+    ) -> Result<(), Stop>
+        requires at { CallsBoard board.now self.old.board }
+        requires stands { Stands self.old.walk.lives (known self.old.registry) }
+        requires posted { Posted self.old.walk (known self.old.board) }
+        ensures { MatchResult result
+            (λ _. Holds (poll self.old.walk number label.now) self.old self.new answers.old.items answers.new.items)
+            (λ _. Stops self.old self.new) }
+    {
+        let Some(place) = place_of(&self.lives, label.as_slice()) else {
+            return refuse(answers, number, Errno::ENOENT);
+        };
+        poll_live(
+            self.alloc,
+            rt,
+            board,
+            &mut self.board,
+            number,
+            &mut self.lives[place],
+            answers,
+        )
+    }
+
+    // `drain T`
+    pub(crate) fn drain<R: Wait, G: Gate>(
+        &mut self,
+        rt: &R,
+        board: &SharedBoard<Job>,
+        gate: &G,
+        number: u32,
+        label: &Bytes,
+        answers: &mut Vec<Answer>,
+    ) -> Result<(), Stop>
+        requires at { CallsBoard board.now self.old.board }
+        requires stands { Stands self.old.walk.lives (known self.old.registry) }
+        requires posted { Posted self.old.walk (known self.old.board) }
+        ensures { MatchResult result
+            (λ _. Holds (drain self.old.walk number label.now) self.old self.new answers.old.items answers.new.items)
+            (λ _. Stops self.old self.new) }
+    {
+        let Some(place) = place_of(&self.lives, label.as_slice()) else {
+            return refuse(answers, number, Errno::ENOENT);
+        };
+        drain_live(
+            self.alloc,
+            rt,
+            board,
+            gate,
+            &mut self.board,
+            number,
+            &mut self.lives[place],
+            answers,
+        )
+    }
+}
