@@ -1,5 +1,5 @@
 -- The lines that make and release transforms: `alloc` and `free`.
-use Rattle.std.specs.Prelude.{ℕ, Bool, true, false, not, if◌then◌else◌, nat_lt, nat_le, List, [], ◌∷◌, ◌++◌, length, Option, Some, None, is_some, unwrap_or, Result, Ok, Err}
+use Rattle.std.specs.Prelude.{ℕ, Bool, true, false, not, if◌then◌else◌, nat_lt, nat_le, List, [], ◌∷◌, ◌++◌, length, Option, Some, None, is_some, unwrap_or, Result, Ok, Err, codes}
 use Rattle.kc_base.specs.declared.error_numbers.Errno.{Errno}
 use Rattle.kc_base.specs.declared.error_numbers.Errno.TheVariants.{EAGAIN, EBUSY, EEXIST, EINVAL, EMFILE}
 use Rattle.alg_registry.specs.declared.spec.Spec.{Spec}
@@ -9,6 +9,7 @@ use Rattle.board.specs.declared.entry.Shape.{Shape}
 use Rattle.board.specs.declared.entry.Shape.TheVariants.{Pad, Queue, Chain}
 use Rattle.templates.specs.declared.driver_plans.Plan.{Plan}
 use Rattle.templates.specs.Looking.{Found, Entry, Fault}
+use Rattle.templates.specs.Table.{begins_with}
 use Rattle.transforms.specs.Plans.{tag_size_of}
 use Rattle.reply_text.specs.declared.answers.Answer.TheVariants as said
 use Rattle.dialogues.specs.Names.{name_read, is_queue_length, plan_for}
@@ -22,11 +23,20 @@ use Rattle.dialogues.specs.Walk.{Walk, Live, Pipe, live_of, without}
 abbrev pub lists_beside : ℕ → ℕ
 lists_beside workers = if nat_lt workers 1 then 1 else workers
 
--- under `pcrypt` a pad, and under `cryptd` a queue of the length given
-abbrev pub shape_for : ℕ → Wrap → Option ℕ → Option Shape
-shape_for workers Plain len = None
-shape_for workers Pcrypt len = Some (Pad (lists_beside workers))
-shape_for workers Cryptd len = Some (Queue (unwrap_or len 1000))
+-- a driver under `cryptd` over `pcrypt`
+abbrev pub is_chained : List ℕ → Bool
+is_chained driver = begins_with driver (codes "cryptd(pcrypt(")
+
+-- a queue of the length given, and for what is chained a pad to which its requests go on
+abbrev pub queue_shape : ℕ → Bool → Option ℕ → Shape
+queue_shape workers true len = Chain (unwrap_or len 1000) (lists_beside workers)
+queue_shape workers false len = Queue (unwrap_or len 1000)
+
+-- under `pcrypt` a pad, and under `cryptd` a queue or a chain
+abbrev pub shape_for : ℕ → Bool → Wrap → Option ℕ → Option Shape
+shape_for workers chained Plain len = None
+shape_for workers chained Pcrypt len = Some (Pad (lists_beside workers))
+shape_for workers chained Cryptd len = Some (queue_shape workers chained len)
 
 -- how many requests may wait before it is full
 abbrev pub bound_of : Shape → Option ℕ
@@ -54,7 +64,7 @@ abbrev pub binds_plan : ℕ → Walk → ℕ → List ℕ → Option ℕ → ℕ
 binds_plan workers walk n label len id spec None = refuses walk n EINVAL
 binds_plan workers walk n label len id spec (Some plan) =
     Asks (Get id) λ ok. unless walk n ((not ok, EAGAIN) ∷ []) (
-    creates (shape_for workers spec.wrap len) λ pipe. says (and_live walk (new_live label id plan pipe)) (said.Made n spec.driver))
+    creates (shape_for workers (is_chained spec.driver) spec.wrap len) λ pipe. says (and_live walk (new_live label id plan pipe)) (said.Made n spec.driver))
 
 -- what was found is taken into use
 abbrev pub binds : ℕ → Walk → ℕ → List ℕ → Option ℕ → Found → Dialogue

@@ -50,7 +50,7 @@ abbrev pub walk_at : ℕ → ℕ → List ℕ → List ℕ → ℕ → ℕ → W
 walk_at i j la lg q v = record { client = 0; lives = live_a i la ∷ live_g j lg ∷ []; requests = q; bytes = v }
 
 abbrev pad_with : List Asked → Pipeline
-pad_with asks = record { bound = None; delivered = 0; undelivered = asks; held_throughout = false }
+pad_with asks = record { bound = None; chained = false; delivered = 0; undelivered = asks; held_throughout = false }
 
 abbrev pub pads : List Asked → List Asked → List Pipeline
 pads xs ys = pad_with xs ∷ pad_with ys ∷ []

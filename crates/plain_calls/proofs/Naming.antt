@@ -8,8 +8,8 @@ use Rattle.alg_names.specs.Name.{Tree, node, end, arg, IsName, a_word, a_templat
 use Rattle.alg_names.specs.Spelled.{tree_of}
 use Rattle.templates.specs.Asking.{AsksForLess}
 use Rattle.templates.specs.declared.template_words.Template.{Template}
-use Rattle.templates.specs.declared.template_words.Template.TheVariants.{Gcm}
-use Rattle.templates.specs.Table.{table, template_named, children_of, asked, asked_by, spellings, is_allowed}
+use Rattle.templates.specs.declared.template_words.Template.TheVariants.{Gcm, CryptdPcrypt}
+use Rattle.templates.specs.Table.{table, template_at, only_one, children_of, asked, asked_by, spellings, is_allowed}
 use Rattle.templates.specs.Resolving.{weight, weight_of}
 use Rattle.plain_calls.proofs.Phases.{AreLighter}
 
@@ -25,15 +25,24 @@ pub record NameLaws : Type 0 where
 abbrev AsksTwo : List Tree → List Tree → Type 0
 AsksTwo args names = (x : Tree) × (args ≡ x ∷ []) × (names ≡ node (codes "ctr") (arg x end) ∷ node (codes "ghash") end ∷ [])
 
--- its arguments, and under `gcm` two names over its one
-asked_shape : (template : Template) (args names : List Tree) → asked template args ≡ Ok names → (names ≡ args) ⊎ AsksTwo args names
-asked_shape Gcm (x ∷ []) names e = inr (x, refl, let f : names ≡ node (codes "ctr") (arg x end) ∷ node (codes "ghash") end ∷ [] = cc in f)
+abbrev AsksWithin : List Tree → List Tree → Type 0
+AsksWithin args names = (x : Tree) × (args ≡ x ∷ []) × (names ≡ args_of x)
+
+one_only : (xs names : List Tree) → only_one xs ≡ Ok names → names ≡ xs
+one_only [] names e = absurd cc
+one_only (x ∷ []) names e = let f : names ≡ x ∷ [] = cc in f
+one_only (x ∷ y ∷ xs) names e = absurd cc
+
+-- its arguments; under `gcm` two names over its one; and under `cryptd` over `pcrypt` what stands in the `pcrypt`
+asked_shape : (template : Template) (args names : List Tree) → asked template args ≡ Ok names → (names ≡ args) ⊎ (AsksTwo args names ⊎ AsksWithin args names)
+asked_shape Gcm (x ∷ []) names e = inr (inl (x, refl, let f : names ≡ node (codes "ctr") (arg x end) ∷ node (codes "ghash") end ∷ [] = cc in f))
+asked_shape CryptdPcrypt (x ∷ []) names e = inr (inr (x, refl, one_only (args_of x) names e))
 asked_shape template [] names e = inl (grind (arith, e))
 asked_shape template (x ∷ []) names e = inl (grind (arith, e))
 asked_shape template (x ∷ y ∷ []) names e = inl (grind (arith, e))
 asked_shape template (x ∷ y ∷ z ∷ xs) names e = inl (grind (arith, e))
 
-by_shape : (o : Option Template) (args names : List Tree) → asked_by o args ≡ Ok names → (names ≡ args) ⊎ AsksTwo args names
+by_shape : (o : Option Template) (args names : List Tree) → asked_by o args ≡ Ok names → (names ≡ args) ⊎ (AsksTwo args names ⊎ AsksWithin args names)
 by_shape None args names e = absurd cc
 by_shape (Some template) args names e = asked_shape template args names e
 
@@ -58,20 +67,24 @@ ghash_named : IsName (codes "ghash") (node (codes "ghash") end)
 ghash_named = a_word (omega arith, (refl, (refl, (refl, (refl, (refl, tt))))))
 
 child_named : NameLaws → (text : List ℕ) (t : Tree) (names : List Tree) (i : ℕ) (u : Tree) → IsName text t → children_of t ≡ Ok names → i < length names → u ≡ get_or names i u → IsName (spelling u) u
-child_named g text (node w ts) names i u named e lt is = by_case (by_shape (template_named w) (list_of ts) names e)
+child_named g text (node w ts) names i u named e lt is = by_case (by_shape (template_at (node w ts)) (list_of ts) names e)
   where
     at_gcm : (x : Tree) (j : ℕ) → IsName (spelling x) x → j < 2 → u ≡ get_or (node (codes "ctr") (arg x end) ∷ node (codes "ghash") end ∷ []) j u → IsName (spelling u) u
     at_gcm x zero n l q = subst (λ a. IsName (spelling a) a) (sym q) (ctr_named x n)
     at_gcm x (suc zero) n l q = subst (λ a. IsName (spelling a) a) (sym q) ghash_named
     at_gcm x (suc (suc j)) n l q = absurd (omega (arith, l))
 
-    by_case : (names ≡ list_of ts) ⊎ AsksTwo (list_of ts) names → IsName (spelling u) u
+    only_named : (x : Tree) → list_of ts ≡ x ∷ [] → IsName (spelling x) x
+    only_named x s = subst (λ xs. IsName (spelling (get_or xs 0 x)) (get_or xs 0 x)) s (g.arguments text (node w ts) named 0 x (omega (arith, ap length s)))
+
+    by_case : (names ≡ list_of ts) ⊎ (AsksTwo (list_of ts) names ⊎ AsksWithin (list_of ts) names) → IsName (spelling u) u
     by_case (inl s) =
         let at : u ≡ get_or (list_of ts) i u = is ∙ ap (λ ns. get_or ns i u) s in
         subst (λ a. IsName (spelling a) a) (sym at) (g.arguments text (node w ts) named i u (subst (λ ns. i < length ns) s lt))
-    by_case (inr s) =
-        let only : IsName (spelling s.0) s.0 = subst (λ xs. IsName (spelling (get_or xs 0 s.0)) (get_or xs 0 s.0)) s.1 (g.arguments text (node w ts) named 0 s.0 (omega (arith, ap length s.1))) in
-        at_gcm s.0 i only (subst (λ ns. i < length ns) s.2 lt) (is ∙ ap (λ ns. get_or ns i u) s.2)
+    by_case (inr (inl s)) = at_gcm s.0 i (only_named s.0 s.1) (subst (λ ns. i < length ns) s.2 lt) (is ∙ ap (λ ns. get_or ns i u) s.2)
+    by_case (inr (inr s)) =
+        let at : u ≡ get_or (args_of s.0) i u = is ∙ ap (λ ns. get_or ns i u) s.2 in
+        subst (λ a. IsName (spelling a) a) (sym at) (g.arguments (spelling s.0) s.0 (only_named s.0 s.1) i u (subst (λ ns. i < length ns) s.2 lt))
 
 spelled_at : (us : List Tree) (i : ℕ) (text : List ℕ) → slice_get (map spelling us) i ≡ Some text → (u : Tree) × (text ≡ spelling u) × (i < length us) × (u ≡ get_or us i u)
 spelled_at [] i text e = absurd cc

@@ -3,10 +3,10 @@ use Rattle.std.specs.Prelude.{ℕ, zero, suc, ◌+◌, ◌≡◌, ◌≤◌, ◌
 use Rattle.std.specs.List.{filter_map}
 use Rattle.board.specs.declared.entry.BoardEntry.{BoardEntry}
 use Rattle.board.specs.declared.entry.Shape.{Shape}
-use Rattle.board.specs.Shapes.{is_chain, is_born, queue_born, max_born}
-use Rattle.board.specs.Entries.{Notice, Starts, Completes, entries_of, birth, submissions, dequeued, finished, front, collected, is_held, caller_of}
+use Rattle.board.specs.Shapes.{is_chain, is_born, queue_born, line_born, max_born}
+use Rattle.board.specs.Entries.{Notice, Starts, Completes, entries_of, birth, submissions, dequeued, finished, front, told, collected, is_held, caller_of}
 use Rattle.board.specs.Legal.{pipelines}
-use Rattle.board.specs.Order.{handed_out, completed, step_tells}
+use Rattle.board.specs.Order.{handed_out, completed, started, step_tells}
 use Rattle.board.specs.Staying.{is_work}
 use Rattle.transforms.specs.declared.ask.Ask.{Ask}
 use Rattle.dialogues.specs.Allocating.{bound_of}
@@ -38,16 +38,18 @@ pub record IsUntold (max total first done taken : ℕ) (ns : List Notice) : Type
 
 -- ---- pipelines
 
--- the plain pipeline is the one with these entries, a pad or a queue
+-- The plain pipeline is the one with these entries. A chain accepted no more than fit its queue behind what was handed out, so it
+-- never told that a request has started.
 pub record IsPipelineOf (pipeline : Pipeline) (es : List (BoardEntry Ask)) : Type 0 where
-  pub unchained : is_born is_chain (birth es) ≡ false
+  pub chained : is_born is_chain (birth es) ≡ pipeline.chained
   pub bound : bound_born (birth es) ≡ pipeline.bound
   pub handed : length (completed (handed_out es)) ≡ pipeline.delivered
   pub within : pipeline.delivered ≤ length (submissions es)
   pub asks : map asked_by (drop pipeline.delivered (submissions es)) ≡ pipeline.undelivered
   pub untold : queue_born (birth es) ≡ true
       → IsUntold (max_born (birth es)) (length (submissions es)) pipeline.delivered (length (finished es)) (dequeued es) (drop (collected es) (filter_map step_tells es))
-  pub steady : pipeline.held_throughout ≡ true → (queue_born (birth es) ≡ true) × (is_held es ≡ true) × (dequeued es ≡ pipeline.delivered)
+  pub calm : pipeline.chained ≡ true → (length (submissions es) ≤ pipeline.delivered + max_born (birth es)) × (started (told es) ≡ [])
+  pub steady : pipeline.held_throughout ≡ true → (line_born (birth es) ≡ true) × (is_held es ≡ true) × (dequeued es ≡ pipeline.delivered)
 
 -- the plain pipelines are those of the history, by their numbers
 pub record ArePipelinesOf (plain : List Pipeline) (b : List (BoardEntry Ask)) : Type 0 where

@@ -1,5 +1,5 @@
 -- What the calls of a script come to beside workers: what they come to where it is alone.
-use Rattle.std.specs.Prelude.{◌≡◌, ◌≤◌, true, false, List, [], ◌∷◌, length, slice_get, Option, Some, None, ⊤, All}
+use Rattle.std.specs.Prelude.{◌≡◌, ◌≤◌, true, List, [], ◌∷◌, length, slice_get, Option, Some, None, ⊤, All}
 use Rattle.std.specs.Option.{option_map_or}
 use Rattle.alg_registry.specs.declared.entry.RegEntry.{RegEntry}
 use Rattle.alg_registry.specs.Answers.{enlist_answer, driver_place}
@@ -8,7 +8,6 @@ use Rattle.alg_registry.specs.Legal.{LegalReg}
 use Rattle.alg_registry.specs.Made.{Made}
 use Rattle.alg_registry.specs.Rows.{listed_at, caller_of}
 use Rattle.board.specs.declared.entry.BoardEntry.{BoardEntry}
-use Rattle.board.specs.Shapes.{is_chain}
 use Rattle.board.specs.Entries.{caller_of as board_caller}
 use Rattle.board.specs.Legal.{LegalBoard}
 use Rattle.templates.specs.Table.{table}
@@ -48,10 +47,9 @@ abbrev pub ThereIs : Option Pipeline → (Pipeline → Type 0) → Type 0
 ThereIs None P = ⊥
 ThereIs (Some pipeline) P = P pipeline
 
--- What the call came to doesn't depend on time. A chain's answers do: when its requests go on decides what it tells first.
+-- what the call came to doesn't depend on time
 abbrev pub IsTimelessCall : List Pipeline → BoardCall → Type 0
-IsTimelessCall pipelines (Creates pipe shape) = is_chain shape ≡ false
-IsTimelessCall pipelines (Enqueues pipe asked backlog answer) = option_map_or has_room (slice_get pipelines pipe) true ≡ true
+IsTimelessCall pipelines (Enqueues pipe asked backlog answer) = option_map_or (has_room backlog) (slice_get pipelines pipe) true ≡ true
 IsTimelessCall pipelines (Collects pipe collected) = collected.all_done ≡ true
 IsTimelessCall pipelines (Shares pipe) = ⊥
 IsTimelessCall pipelines _ = ⊤

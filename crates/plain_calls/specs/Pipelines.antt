@@ -1,8 +1,9 @@
 -- The pipelines of a script that is alone: no one works beside it, so a request is done when it is drained.
-use Rattle.std.specs.Prelude.{ℕ, ◌+◌, Bool, true, false, not, ◌||◌, nat_lt, if◌then◌else◌, List, [], ◌∷◌, ◌++◌, length, set, slice_get, Option, Some, None}
+use Rattle.std.specs.Prelude.{ℕ, ◌+◌, Bool, true, false, not, ◌&&◌, ◌||◌, nat_lt, if◌then◌else◌, List, [], ◌∷◌, ◌++◌, length, set, slice_get, Option, Some, None}
 use Rattle.std.specs.Option.{option_map_or}
 use Rattle.board.specs.declared.entry.Entered.{Entered}
 use Rattle.board.specs.declared.entry.Entered.TheVariants.{InProgress, Busy, NoSpace}
+use Rattle.board.specs.declared.entry.Shape.{Shape}
 use Rattle.board.specs.Shapes.{is_chain}
 use Rattle.transforms.specs.Finish.{finished_of}
 use Rattle.dialogues.specs.Allocating.{bound_of}
@@ -10,17 +11,18 @@ use Rattle.dialogues.specs.BoardCalls.{Asked, Notice, Started, Completed, BoardC
 use Rattle.dialogues.specs.Questions.{BoardQuestion, BoardAnswer, Create, Submit, Enqueue, Hold, Go, Poll, Drain, Close, Share, Mask, Shut}
 use Rattle.dialogues.specs.Requesting.{value_of}
 
--- How many requests may wait in a queue before it is full, none for a pad; how many of the requests that it accepted were
--- handed out; those that weren't, the oldest first; and whether it has been held without a break since before the oldest of
--- them came.
+-- How many requests may wait in a queue before it is full, none for a pad; whether its requests go on to a pad behind the queue; how
+-- many of the requests that it accepted were handed out; those that weren't, the oldest first; and whether it has been held without
+-- a break since before the oldest of them came.
 pub record Pipeline : Type 0 where
   pub bound : Option ℕ
+  pub chained : Bool
   pub delivered : ℕ
   pub undelivered : List Asked
   pub held_throughout : Bool
 
-abbrev pub new_pipeline : Option ℕ → Pipeline
-new_pipeline bound = record { bound = bound; delivered = 0; undelivered = []; held_throughout = false }
+abbrev pub new_pipeline : Shape → Pipeline
+new_pipeline shape = record { bound = bound_of shape; chained = is_chain shape; delivered = 0; undelivered = []; held_throughout = false }
 
 -- ---- requests
 
@@ -38,9 +40,11 @@ abbrev pub verdict_of : Bool → Pipeline → Entered
 verdict_of backlog pipeline = verdict_at (next_number pipeline) (length pipeline.undelivered) backlog pipeline.bound
 
 -- What a queue answers depends on time, unless it takes more than are undelivered, or is held since before the oldest of them
--- came.
-abbrev pub has_room : Pipeline → Bool
-has_room pipeline = pipeline.held_throughout || option_map_or (λ max. nat_lt (length pipeline.undelivered) max) pipeline.bound true
+-- came. On a chain no request may go into the backlog then: what it tells first, that it started or completions, depends on time.
+abbrev pub has_room : Bool → Pipeline → Bool
+has_room backlog pipeline =
+    (pipeline.held_throughout && not (pipeline.chained && backlog))
+    || option_map_or (λ max. nat_lt (length pipeline.undelivered) max) pipeline.bound true
 
 -- ---- drains
 
@@ -79,8 +83,7 @@ reply_in pipelines Shut = tt
 
 -- The answer doesn't depend on time.
 abbrev pub is_timeless : List Pipeline → BoardQuestion → Bool
-is_timeless pipelines (Create shape) = not (is_chain shape)
-is_timeless pipelines (Enqueue pipe asked backlog) = option_map_or has_room (slice_get pipelines pipe) true
+is_timeless pipelines (Enqueue pipe asked backlog) = option_map_or (has_room backlog) (slice_get pipelines pipe) true
 is_timeless pipelines (Poll pipe) = false
 is_timeless pipelines (Share pipe) = false
 is_timeless pipelines _ = true
@@ -113,7 +116,7 @@ at_pipe change pipe pipelines = at_pipe_by change pipe pipelines (slice_get pipe
 
 -- the pipelines after a call
 abbrev pub pipelines_after : List Pipeline → BoardCall → List Pipeline
-pipelines_after pipelines (Creates pipe shape) = pipelines ++ new_pipeline (bound_of shape) ∷ []
+pipelines_after pipelines (Creates pipe shape) = pipelines ++ new_pipeline shape ∷ []
 pipelines_after pipelines (Submits pipe number asked) = at_pipe (asked_more asked) pipe pipelines
 pipelines_after pipelines (Enqueues pipe asked backlog NoSpace) = pipelines
 pipelines_after pipelines (Enqueues pipe asked backlog entered) = at_pipe (asked_more asked) pipe pipelines

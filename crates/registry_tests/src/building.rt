@@ -125,6 +125,12 @@ fn each_template_over_each_kind(rt: HostRuntime) -> Result<(), Fail> {
             [no, no, no, skcipher, aead, mac],
         ),
         (
+            b"cryptd(pcrypt(x))".as_slice(),
+            b"x".as_slice(),
+            Wrap::Plain,
+            [no, no, no, no, aead, no],
+        ),
+        (
             b"gcm(x)".as_slice(),
             b"ctr(x)".as_slice(),
             Wrap::Plain,
@@ -292,6 +298,24 @@ fn instances_over_one(rt: HostRuntime) -> Result<(), Fail> {
             b"cryptd(d)".as_slice(),
             150,
         ),
+        (
+            b"cryptd(pcrypt(z))".as_slice(),
+            Kind::Aead,
+            b"gcm(aes)".as_slice(),
+            100,
+            b"gcm(aes)".as_slice(),
+            b"cryptd(pcrypt(d))".as_slice(),
+            250,
+        ),
+        (
+            b"cryptd(pcrypt(z))".as_slice(),
+            Kind::Aead,
+            b"a".as_slice(),
+            4_294_967_146,
+            b"a".as_slice(),
+            b"cryptd(pcrypt(d))".as_slice(),
+            4_294_967_295,
+        ),
     ];
     for (text, kind, below, priority, name, driver, raised) in table {
         let below = entry(rt.alloc(), below, b"d", kind, Wrap::Plain, priority)?;
@@ -401,7 +425,7 @@ fn asks_for_children(rt: HostRuntime) -> Result<(), Fail> {
 
 #[test]
 fn refuses_to_ask(rt: HostRuntime) {
-    let table: [(&[u8], Errno); 9] = [
+    let table: [(&[u8], Errno); 11] = [
         (b"cbc(a,b)", Errno::EINVAL),
         (b"cbc", Errno::EINVAL),
         (b"gcm(a,b)", Errno::EINVAL),
@@ -409,6 +433,8 @@ fn refuses_to_ask(rt: HostRuntime) {
         (b"xts(a,b)", Errno::EINVAL),
         (b"ccm(a,b)", Errno::EINVAL),
         (b"cmac", Errno::EINVAL),
+        (b"cryptd(pcrypt)", Errno::EINVAL),
+        (b"cryptd(pcrypt(a,b))", Errno::EINVAL),
         (b"lrw(a,b)", Errno::ENOENT),
         (b"aes", Errno::ENOENT),
     ];
@@ -424,7 +450,14 @@ fn wrappers_stand_at_the_root(rt: HostRuntime) -> Result<(), Fail> {
         (b"pcrypt(gcm(aes))".as_slice(), true),
         (b"cryptd".as_slice(), true),
         (b"gcm(pcrypt(aes))".as_slice(), false),
-        (b"cryptd(pcrypt(gcm(aes)))".as_slice(), false),
+        (b"cryptd(pcrypt(gcm(aes)))".as_slice(), true),
+        (b"cryptd(pcrypt)".as_slice(), true),
+        (b"pcrypt(cryptd(gcm(aes)))".as_slice(), false),
+        (b"pcrypt(pcrypt(gcm(aes)))".as_slice(), false),
+        (b"cryptd(cryptd(gcm(aes)))".as_slice(), false),
+        (b"cryptd(pcrypt(pcrypt(gcm(aes))))".as_slice(), false),
+        (b"cryptd(pcrypt(gcm(aes)),aes)".as_slice(), false),
+        (b"gcm(cryptd(pcrypt(aes)))".as_slice(), false),
         (b"authenc(hmac(sha256),cryptd)".as_slice(), false),
     ];
     for (text, is_right) in table {
@@ -455,6 +488,10 @@ fn plans_of_drivers(rt: HostRuntime) -> Result<(), Fail> {
             Ok(Plan::Rfc4106(aes, ghash)),
         ),
         (b"pcrypt(ccm(aes-generic))".as_slice(), Ok(Plan::Ccm(aes))),
+        (
+            b"cryptd(pcrypt(ccm(aes-generic)))".as_slice(),
+            Ok(Plan::Ccm(aes)),
+        ),
         (b"ccm(ctr(aes-generic))".as_slice(), Err(Errno::EINVAL)),
         (b"hmac(sha256-generic)".as_slice(), Ok(Plan::Hmac)),
         (b"cryptd(cmac(aes-generic))".as_slice(), Ok(Plan::Cmac(aes))),
@@ -513,7 +550,7 @@ fn resolved(
 }
 
 // Names in turn, and the entry that each comes to.
-const RESOLVED: [(&[u8], Result<u64, Errno>); 12] = [
+const RESOLVED: [(&[u8], Result<u64, Errno>); 14] = [
     (b"cbc(aes)", Ok(3)),
     (b"cbc(aes)", Ok(3)),
     (b"authenc(hmac(sha256),cbc(aes))", Ok(5)),
@@ -526,6 +563,8 @@ const RESOLVED: [(&[u8], Result<u64, Errno>); 12] = [
     (b"authenc(cmac(aes),cbc(aes))", Err(Errno::EINVAL)),
     (b"cmac(aes)", Ok(10)),
     (b"pcrypt(ccm(aes))", Ok(12)),
+    (b"cryptd(pcrypt(gcm(aes)))", Ok(13)),
+    (b"cryptd(pcrypt(cbc(aes)))", Err(Errno::EINVAL)),
 ];
 
 #[test]

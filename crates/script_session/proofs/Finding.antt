@@ -16,7 +16,7 @@ use Rattle.transforms.specs.declared.ask.Ask.{Ask}
 use Rattle.turn_lock.specs.Turns.{Known}
 use Rattle.dialogues.specs.Names.{plan_for}
 use Rattle.dialogues.specs.RegistryCalls.{RegCall, Looks, Gets}
-use Rattle.dialogues.specs.Allocating.{binds, binds_plan, creates, shape_for, new_pipe, new_live, and_live}
+use Rattle.dialogues.specs.Allocating.{binds, binds_plan, creates, is_chained, shape_for, new_pipe, new_live, and_live}
 use Rattle.dialogues.specs.Dialogues.{Dialogue, says, unless}
 use Rattle.dialogues.specs.Questions.{Look, Get, Create}
 use Rattle.dialogues.specs.Walk.{Walk, Live, Pipe}
@@ -63,21 +63,21 @@ asked-none-done d k k1 k' b b' after answers answers' first done =
 
 abbrev after-get : ℕ → Walk → ℕ → List ℕ → Option ℕ → ℕ → Spec → Plan → Bool → Dialogue
 after-get workers walk n label len id spec plan ok =
-    unless walk n ((not ok, EAGAIN) ∷ []) (creates (shape_for workers spec.wrap len) (λ pipe. says (and_live walk (new_live label id plan pipe)) (said.Made n spec.driver)))
+    unless walk n ((not ok, EAGAIN) ∷ []) (creates (shape_for workers (is_chained spec.driver) spec.wrap len) (λ pipe. says (and_live walk (new_live label id plan pipe)) (said.Made n spec.driver)))
 
 -- a plan, a reference and a pipeline, where there is one
 bind-done : (workers : ℕ) (walk : Walk) (n : ℕ) (label : List ℕ) (len : Option ℕ) (id : ℕ) (spec : Spec) (plan : Plan) (pipe : Option Pipe) (k k2 : Known RegEntry) (b b' : Known (BoardEntry Ask)) (answers answers' : List Answer)
-    → plan_for spec len ≡ Some plan → Asked k k2 (Gets id true ∷ []) → Created (shape_for workers spec.wrap len) pipe b b' → Stands walk.lives k → Posted walk b → answers' ≡ answers ++ said.Made n spec.driver ∷ []
+    → plan_for spec len ≡ Some plan → Asked k k2 (Gets id true ∷ []) → Created (shape_for workers (is_chained spec.driver) spec.wrap len) pipe b b' → Stands walk.lives k → Posted walk b → answers' ≡ answers ++ said.Made n spec.driver ∷ []
     → Done (binds workers walk n label len (Entry id spec)) k b k2 b' (and_live walk (new_live label id plan pipe)) answers answers'
 bind-done workers walk n label len id spec plan pipe k k2 b b' answers answers' plans got created stands posted e =
     let live : Live = new_live label id plan pipe in
     let after : Walk = and_live walk live in
     let stands' : Stands after.lives k2 = stands-more walk.lives after.lives k k2 (Gets id true ∷ []) stands got (λ other. let u = uses-more other walk.lives live in omega (arith, u)) in
-    let posted' : Posted after b' = created-posted walk label id plan (shape_for workers spec.wrap len) pipe b b' posted created in
+    let posted' : Posted after b' = created-posted walk label id plan (shape_for workers (is_chained spec.driver) spec.wrap len) pipe b b' posted created in
     let rest : Option Pipe → Dialogue = λ p. says (and_live walk (new_live label id plan p)) (said.Made n spec.driver) in
     subst (λ p. Done (binds_plan workers walk n label len id spec p) k b k2 b' after answers answers') (sym plans)
     (asks-done k k2 k2 b b' (Get id) true (after-get workers walk n label len id spec plan) after answers answers' got
-    (creates-done (shape_for workers spec.wrap len) pipe rest k2 b b' after answers answers' created
+    (creates-done (shape_for workers (is_chained spec.driver) spec.wrap len) pipe rest k2 b b' after answers answers' created
     (says-done k2 b' after (said.Made n spec.driver ∷ []) answers answers' stands' posted' e)))
 
 -- the entry was no more listed
@@ -145,7 +145,7 @@ module _ {ws c : ℕ} {lives : List Live} {q v : ℕ} {r : Option RegPass} {b : 
       }
 
   pub bound-arm : {r' r2 : Option RegPass} {b' : Option BoardPass} {items : List Live} (n : ℕ) (label : List ℕ) (len : Option ℕ) (id : ℕ) (spec : Spec) (plan : Plan) (pipe : Option Pipe) (answers answers' : List Answer)
-      → Asks r r' [] → slice_get (registered (known r).seen) id ≡ Some spec → plan_for spec len ≡ Some plan → Asks r' r2 (Gets id true ∷ []) → lock_of b' ≡ lock_of b → Created (shape_for ws spec.wrap len) pipe (known b) (known b')
+      → Asks r r' [] → slice_get (registered (known r).seen) id ≡ Some spec → plan_for spec len ≡ Some plan → Asks r' r2 (Gets id true ∷ []) → lock_of b' ≡ lock_of b → Created (shape_for ws (is_chained spec.driver) spec.wrap len) pipe (known b) (known b')
       → items ≡ lives ++ new_live label id plan pipe ∷ [] → Stands s.walk.lives (known s.registry) → Posted s.walk (known s.board) → answers' ≡ answers ++ said.Made n spec.driver ∷ []
       → Bound s (viewed ws c items q v r2 b') n label len id answers answers'
   bound-arm {r'} {r2} {b'} {items} n label len id spec plan pipe answers answers' origin there plans got lock created more stands posted e =
@@ -158,7 +158,7 @@ module _ {ws c : ℕ} {lives : List Live} {q v : ℕ} {r : Option RegPass} {b : 
         there,
         record {
           locks = record { registry = got.lock ∙ origin.lock; board = lock; workers = refl };
-          wide = wide-created ws spec.wrap len pipe (known b) (known b') created;
+          wide = wide-created ws (is_chained spec.driver) spec.wrap len pipe (known b) (known b') created;
           done = subst (λ ls. Done d (known r) (known b) (known r2) (known b') (record { client = c; lives = ls; requests = q; bytes = v }) answers answers') (sym more)
               (asked-none-done d (known r) (known r') (known r2) (known b) (known b') (and_live from.walk (new_live label id plan pipe)) answers answers' origin.asked
               (bind-done ws from.walk n label len id spec plan pipe (known r') (known r2) (known b) (known b') answers answers' plans got.asked created

@@ -9,7 +9,7 @@ use Rattle.alg_registry.specs.declared.spec.Wrap.{Wrap}
 use Rattle.alg_registry.specs.declared.spec.Wrap.TheVariants.{Plain, Pcrypt, Cryptd}
 use Rattle.board.specs.declared.entry.BoardEntry.{BoardEntry}
 use Rattle.board.specs.declared.entry.Shape.{Shape}
-use Rattle.board.specs.declared.entry.Shape.TheVariants.{Pad, Queue}
+use Rattle.board.specs.declared.entry.Shape.TheVariants.{Pad, Queue, Chain}
 use Rattle.board.specs.Entries.{is_of, entries_of, birth_in, birth, first, maker_is, IsMaker}
 use Rattle.board.specs.Legal.{Is}
 use Rattle.board.specs.Shapes.{is_pad, is_born, lists_of, width_born}
@@ -71,10 +71,11 @@ wide-opened lists k l number shape fits opened wide p owns pad = by_number (p ==
         ap width_born born ∙ fits (sym (ap (is_born is_pad) born) ∙ pad)
     by_number false apart = wide-at lists k l p opened.changed.called.seen (opened.changed.owned p apart owns) wide pad
 
-pub wide-created : (workers : ℕ) (wrap : Wrap) (len : Option ℕ) (pipe : Option Pipe) (k l : Known (BoardEntry Ask)) → Created (shape_for workers wrap len) pipe k l → MadeWide (lists_beside workers) k → MadeWide (lists_beside workers) l
-wide-created workers Plain len pipe k l created wide = subst (MadeWide (lists_beside workers)) (sym created.1) wide
-wide-created workers Pcrypt len pipe k l created wide = wide-opened (lists_beside workers) k l created.0 (Pad (lists_beside workers)) (λ pad. refl) created.2 wide
-wide-created workers Cryptd len pipe k l created wide = wide-opened (lists_beside workers) k l created.0 (Queue (unwrap_or len 1000)) (λ pad. absurd cc) created.2 wide
+pub wide-created : (workers : ℕ) (chained : Bool) (wrap : Wrap) (len : Option ℕ) (pipe : Option Pipe) (k l : Known (BoardEntry Ask)) → Created (shape_for workers chained wrap len) pipe k l → MadeWide (lists_beside workers) k → MadeWide (lists_beside workers) l
+wide-created workers chained Plain len pipe k l created wide = subst (MadeWide (lists_beside workers)) (sym created.1) wide
+wide-created workers chained Pcrypt len pipe k l created wide = wide-opened (lists_beside workers) k l created.0 (Pad (lists_beside workers)) (λ pad. refl) created.2 wide
+wide-created workers true Cryptd len pipe k l created wide = wide-opened (lists_beside workers) k l created.0 (Chain (unwrap_or len 1000) (lists_beside workers)) (λ pad. absurd cc) created.2 wide
+wide-created workers false Cryptd len pipe k l created wide = wide-opened (lists_beside workers) k l created.0 (Queue (unwrap_or len 1000)) (λ pad. absurd cc) created.2 wide
 
 pub wide-same : (s s' : State) → s'.workers ≡ s.workers → s'.board ≡ s.board → IsWide s → IsWide s'
 wide-same s s' workers board wide =

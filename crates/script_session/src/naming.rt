@@ -4,6 +4,7 @@ ghost use Rattle.std.specs.Prelude.{◌≡◌, true, IfOk, IfErr, Ok};
 ghost use Rattle.alg_names.specs.Name.{spelling};
 ghost use Rattle.templates.specs.Nesting.{is_nested_well};
 ghost use Rattle.templates.specs.Table.{FaultIs};
+ghost use Rattle.dialogues.specs.Allocating.{is_chained};
 ghost use Rattle.dialogues.specs.Names.{limited_name, name_read, is_queue_length, takes_length, plan_for};
 
 use alg_names::laws::{computed_tree, one_name};
@@ -77,4 +78,11 @@ pub fn plan_with(alloc: Global, spec: &Spec, length: Option<u32>) -> Result<Opti
         Err(BuildErr::Fault(_)) => Ok(None),
         Err(BuildErr::Memory) => Err(BuildErr::Memory),
     }
+}
+
+/// Whether a driver stands under `cryptd` over `pcrypt`.
+pub fn is_chained_driver(driver: &[u8]) -> bool
+    ensures { result ≡ is_chained driver.now }
+{
+    driver.starts_with(b"cryptd(pcrypt(")
 }

@@ -1,11 +1,11 @@
 //! What lines do with the pipeline of one transform.
 
-ghost use Rattle.std.specs.Prelude.{◌≡◌, ◌≢◌, ◌↔◌, ◌≤◌, ◌∷◌, [], MatchResult, IfOk, IfErr, IsTrue, true, false};
+ghost use Rattle.std.specs.Prelude.{◌≡◌, ◌≢◌, ◌↔◌, ◌≤◌, ◌∷◌, [], Some, MatchResult, IfOk, IfErr, IsTrue, true, false};
 ghost use Rattle.board.specs.declared.board_core.BoardErr.TheVariants as BoardErr;
 ghost use Rattle.script_session.specs.Holding.{SeesOn};
 ghost use Rattle.script_session.specs.Offering.{Offered};
-ghost use Rattle.session_calls.specs.Pipelines.{KnowsPipe, Kept};
-ghost use Rattle.dialogues.specs.Allocating.{lists_beside, shape_for};
+ghost use Rattle.session_calls.specs.Pipelines.{KnowsPipe, Kept, Opened};
+ghost use Rattle.dialogues.specs.Allocating.{lists_beside, queue_shape, shape_for};
 ghost use Rattle.dialogues.specs.Names.{is_queue_length};
 ghost use Rattle.script_session.specs.Creating.{Created, unasked};
 ghost use Rattle.board.specs.Legal.{IsNoWorker};
@@ -343,14 +343,40 @@ fn unasked_pipe(alloc: Global, number: u64, bound: Option<u32>) -> Pipe
     }
 }
 
-/// Makes the pipeline of a transform, where its driver's outermost template has one: a pad under `pcrypt`, a queue under
-/// `cryptd`.
+// Makes a queue in which so many requests may wait before it is full, and for what is chained a chain.
+fn create_queue<R: Wait>(
+    rt: &R,
+    board: &SharedBoard<Job>,
+    caller: &mut BoardCaller,
+    workers: u32,
+    chained: bool,
+    max: u32,
+) -> Result<u64, BoardErr>
+    requires at { CallsBoard board.now caller.old }
+    requires caller { IsNoWorker (known caller.old).number }
+    requires few { workers ≤ 16 }
+    requires max { 1 ≤ max }
+    ensures lock { lock_of caller.new ≡ lock_of caller.old }
+    ensures opened { MatchResult result
+        (λ number. Opened (known caller.old) (known caller.new) number (queue_shape workers chained (Some max)))
+        (λ e. (e ≡ BoardErr.Memory) × Kept (known caller.old) (known caller.new)) }
+{
+    if chained {
+        caller.born_chain(rt, board, max, lists_beside_workers(workers))
+    } else {
+        caller.born_queue(rt, board, max)
+    }
+}
+
+/// Makes the pipeline of a transform, where its driver's outermost template has one: a pad under `pcrypt`, under `cryptd` a queue,
+/// and a chain where the driver is chained.
 pub fn create_pipe<R: Wait>(
     alloc: Global,
     rt: &R,
     board: &SharedBoard<Job>,
     caller: &mut BoardCaller,
     workers: u32,
+    chained: bool,
     wrap: Wrap,
     length: Option<u32>,
 ) -> Result<Option<Pipe>, Stop>
@@ -360,7 +386,7 @@ pub fn create_pipe<R: Wait>(
     requires few { workers ≤ 16 }
     ensures lock { lock_of caller.new ≡ lock_of caller.old }
     ensures created { MatchResult result
-        (λ pipe. Created (shape_for workers wrap length) pipe (known caller.old) (known caller.new))
+        (λ pipe. Created (shape_for workers chained wrap length) pipe (known caller.old) (known caller.new))
         (λ _. SeesOn (known caller.old) (known caller.new)) }
 {
     match wrap {
@@ -371,7 +397,7 @@ pub fn create_pipe<R: Wait>(
         }
         Wrap::Cryptd => {
             let max = length.unwrap_or(QUEUE_LENGTH);
-            let number = caller.born_queue(rt, board, max)?;
+            let number = create_queue(rt, board, caller, workers, chained, max)?;
             Ok(Some(unasked_pipe(alloc, number, Some(max))))
         }
     }

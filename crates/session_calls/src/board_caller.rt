@@ -8,7 +8,7 @@ ghost use Rattle.board.specs.Entries.{entries_of, birth};
 ghost use Rattle.board.specs.Handing.{completions};
 ghost use Rattle.board.specs.Legal.{IsNoWorker, LegalBoard, is_shut};
 ghost use Rattle.board.specs.declared.board_core.BoardErr.TheVariants as BoardErr;
-ghost use Rattle.board.specs.declared.entry.Shape.TheVariants.{Pad as PadOf, Queue as QueueOf};
+ghost use Rattle.board.specs.declared.entry.Shape.TheVariants.{Pad as PadOf, Queue as QueueOf, Chain as ChainOf};
 ghost use Rattle.board.specs.Shapes.{width_born};
 ghost use Rattle.transforms.specs.AskValue.{ask_size};
 ghost use Rattle.transforms.specs.declared.request.Finished.{Finished as Outcome};
@@ -132,6 +132,32 @@ impl BoardCaller {
         answer
     }
 
+    /// Makes a chain, and answers its number: a queue in which so many requests may wait before it is full, at least 1, and a pad of
+    /// `lists` reorder lists, 1 to 16, to which they go on. Only want of memory refuses.
+    pub fn born_chain<R: Wait>(
+        &mut self,
+        rt: &R,
+        board: &SharedBoard<Job>,
+        max: u32,
+        lists: u32,
+    ) -> Result<u64, BoardErr>
+        requires at { CallsBoard board.now self.old }
+        requires caller { IsNoWorker (known self.old).number }
+        requires max { 1 ≤ max }
+        requires some { 1 ≤ lists }
+        requires lists { lists ≤ 16 }
+        ensures lock { lock_of self.new ≡ lock_of self.old }
+        ensures opened { MatchResult result
+            (λ number. Opened (known self.old) (known self.new) number (ChainOf max lists))
+            (λ e. (e ≡ BoardErr.Memory) × Kept (known self.old) (known self.new)) }
+    {
+        board_laws();
+        let pass = self.pass.take().unwrap();
+        let (pass, answer) = board.born_chain(rt, pass, max, lists);
+        self.pass = Some(pass);
+        answer
+    }
+
     /// Hands a job in to a pad of the caller's, and answers its number. `TooBig` exactly where the caller's allowance has no
     /// room for the job; `NoWorker` never, since some worker may take from it.
     pub fn submit<R: Wait>(
@@ -161,7 +187,7 @@ impl BoardCaller {
         answer
     }
 
-    /// Hands a job in to a queue of the caller's, and answers its verdict. `TooBig` exactly where the caller's allowance has no
+    /// Hands a job in to a queue or a chain of the caller's, and answers its verdict. `TooBig` exactly where the caller's allowance has no
     /// room for the job; `NoWorker` never.
     pub fn enqueue<R: Wait>(
         &mut self,
@@ -229,7 +255,7 @@ impl BoardCaller {
         answer
     }
 
-    /// From now on no request of a queue of the caller's is run. Only want of memory refuses.
+    /// From now on no request of a queue of the caller's is run, and none of a chain goes on. Only want of memory refuses.
     pub fn hold<R: Wait>(
         &mut self,
         rt: &R,
@@ -251,7 +277,7 @@ impl BoardCaller {
         answer
     }
 
-    /// The requests of a queue of the caller's are run again. Only want of memory refuses.
+    /// The requests of a queue of the caller's are run again, and those of a chain go on. Only want of memory refuses.
     pub fn go<R: Wait>(
         &mut self,
         rt: &R,

@@ -1,9 +1,8 @@
 -- A turn whose calls came to what is plain says what the plain pass says.
-use Rattle.std.proofs.Common.{◌≡◌, Bool, true, false, not, ◌&&◌, List, [], ◌∷◌, ◌++◌, refl, ap, sym, ◌∙◌, subst, Option, Some, None}
+use Rattle.std.proofs.Common.{◌≡◌, Bool, true, false, ◌&&◌, List, [], ◌∷◌, ◌++◌, refl, ap, sym, ◌∙◌, subst, Option, Some, None}
 use Rattle.std.specs.Prelude.{slice_get}
 use Rattle.std.specs.Option.{option_map_or}
 use Rattle.board.specs.declared.entry.Entered.TheVariants.{NoSpace}
-use Rattle.board.specs.Shapes.{is_chain}
 use Rattle.templates.specs.Looking.{Found}
 use Rattle.dialogues.specs.RegistryCalls.{RegCall}
 use Rattle.dialogues.specs.BoardCalls.{BoardCall}
@@ -49,13 +48,9 @@ reply_same pipelines (Share pipe) a timeless is = absurd cc
 reply_same pipelines (Mask pipe bits) a timeless is = refl
 reply_same pipelines Shut a timeless is = refl
 
-is_not : (c : Bool) → not c ≡ true → c ≡ false
-is_not true e = absurd cc
-is_not false e = refl
-
 -- a call that answers a timeless question is still
 timeless_call : (pipelines : List Pipeline) (q : BoardQuestion) (a : BoardAnswer q) → is_timeless pipelines q ≡ true → IsTimelessCall pipelines (board_call q a)
-timeless_call pipelines (Create shape) a timeless = is_not (is_chain shape) timeless
+timeless_call pipelines (Create shape) a timeless = tt
 timeless_call pipelines (Submit pipe asked) a timeless = tt
 timeless_call pipelines (Enqueue pipe asked backlog) a timeless = timeless
 timeless_call pipelines (Hold pipe) a timeless = tt

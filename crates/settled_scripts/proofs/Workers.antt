@@ -19,7 +19,7 @@ use Rattle.templates.specs.Looking.{Found, Entry, Fault}
 use Rattle.reply_text.specs.declared.answers.Answer.TheVariants as said
 use Rattle.dialogues.specs.Names.{name_read, is_queue_length, plan_for}
 use Rattle.dialogues.specs.RegistryCalls.{Looks, Gets}
-use Rattle.dialogues.specs.Allocating.{lists_beside, binds, binds_plan, creates, shape_for, new_live, and_live, fault_of}
+use Rattle.dialogues.specs.Allocating.{lists_beside, binds, binds_plan, creates, is_chained, shape_for, new_live, and_live, fault_of}
 use Rattle.dialogues.specs.Dialogues.{Dialogue, Asks, unless, refuses, says, for_live}
 use Rattle.dialogues.specs.Piping.{kept_bits, if_pad, with_pad, masks}
 use Rattle.dialogues.specs.Questions.{Look}
@@ -38,10 +38,11 @@ unless_same walk n (refusal ∷ refusals) d e registry pipelines same = by refus
     by true later = refl
     by false later = later
 
-creates_same : (workers : ℕ) (wrap : Wrap) (len : Option ℕ) (rest : Option Pipe → Dialogue) (registry : PlainRegistry) (pipelines : List Pipeline) → pass (creates (shape_for workers wrap len) rest) registry pipelines ≡ pass (creates (shape_for 0 wrap len) rest) registry pipelines
-creates_same workers Plain len rest registry pipelines = refl
-creates_same workers Pcrypt len rest registry pipelines = refl
-creates_same workers Cryptd len rest registry pipelines = refl
+creates_same : (workers : ℕ) (chained : Bool) (wrap : Wrap) (len : Option ℕ) (rest : Option Pipe → Dialogue) (registry : PlainRegistry) (pipelines : List Pipeline) → pass (creates (shape_for workers chained wrap len) rest) registry pipelines ≡ pass (creates (shape_for 0 chained wrap len) rest) registry pipelines
+creates_same workers chained Plain len rest registry pipelines = refl
+creates_same workers chained Pcrypt len rest registry pipelines = refl
+creates_same workers true Cryptd len rest registry pipelines = refl
+creates_same workers false Cryptd len rest registry pipelines = refl
 
 plan_same : (workers : ℕ) (walk : Walk) (n : ℕ) (label : List ℕ) (len : Option ℕ) (id : ℕ) (spec : Spec) (plan : Option Plan) (registry : PlainRegistry) (pipelines : List Pipeline)
     → pass (binds_plan workers walk n label len id spec plan) registry pipelines ≡ pass (binds_plan 0 walk n label len id spec plan) registry pipelines
@@ -50,7 +51,7 @@ plan_same workers walk n label len id spec (Some plan) registry pipelines =
     let ok : Bool = listed_at registry.rows id in
     let rest : Option Pipe → Dialogue = λ pipe. says (and_live walk (new_live label id plan pipe)) (said.Made n spec.driver) in
     let knows : PlainRegistry = registry_after registry (Gets id ok) in
-    unless_same walk n ((not ok, EAGAIN) ∷ []) (creates (shape_for workers spec.wrap len) rest) (creates (shape_for 0 spec.wrap len) rest) knows pipelines (creates_same workers spec.wrap len rest knows pipelines)
+    unless_same walk n ((not ok, EAGAIN) ∷ []) (creates (shape_for workers (is_chained spec.driver) spec.wrap len) rest) (creates (shape_for 0 (is_chained spec.driver) spec.wrap len) rest) knows pipelines (creates_same workers (is_chained spec.driver) spec.wrap len rest knows pipelines)
 
 binds_same : (workers : ℕ) (walk : Walk) (n : ℕ) (label : List ℕ) (len : Option ℕ) (found : Found) (registry : PlainRegistry) (pipelines : List Pipeline) → pass (binds workers walk n label len found) registry pipelines ≡ pass (binds 0 walk n label len found) registry pipelines
 binds_same workers walk n label len (Fault errno) registry pipelines = refl

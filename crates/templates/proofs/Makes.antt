@@ -12,7 +12,7 @@ use Rattle.alg_registry.specs.declared.spec.Kind.TheVariants.{Cipher, Hash, Ghas
 use Rattle.alg_registry.specs.declared.spec.Wrap.TheVariants as wrap
 use Rattle.alg_registry.specs.declared.spec.Spec.{Spec}
 use Rattle.alg_registry.specs.Rows.{opening}
-use Rattle.alg_names.specs.Name.{Tree, node, end, arg, word_of, spelling}
+use Rattle.alg_names.specs.Name.{Tree, node, end, arg, word_of, args_of, spelling}
 use Rattle.templates.specs.declared.template_words.Template.{Template}
 use Rattle.templates.specs.declared.template_words.Template.TheVariants as template
 use Rattle.templates.specs.declared.driver_plans.AesForm.{AesForm}
@@ -20,9 +20,9 @@ use Rattle.templates.specs.declared.driver_plans.AesForm.TheVariants.{AesGeneric
 use Rattle.templates.specs.declared.driver_plans.GhashForm.{GhashForm}
 use Rattle.templates.specs.declared.driver_plans.GhashForm.TheVariants.{GhashGeneric, GhashTable}
 use Rattle.templates.specs.Nesting.{is_wrapper_word}
-use Rattle.templates.specs.Table.{template_named, is_cipher, is_hash, is_ghash, is_skcipher, is_aead, is_mac, is_bare, begins_with, admits, admits_two, enclosed, enclosed_two, limited, over_one, over_two, derived_over, derived_by, derived_of, drivers, is_same_driver, is_same_kind, is_one_of, is_built_in, wrap_of}
+use Rattle.templates.specs.Table.{template_named, template_at, is_cipher, is_hash, is_ghash, is_skcipher, is_aead, is_mac, is_bare, begins_with, admits, admits_two, enclosed, enclosed_two, limited, over_one, over_two, derived_over, derived_by, derived_of, drivers, is_same_driver, is_same_kind, is_one_of, is_built_in, wrap_of}
 use Rattle.templates.specs.Planned.{is_basic}
-use Rattle.templates.proofs.Words.{template_word, named_word}
+use Rattle.templates.proofs.Words.{template_word, word_at}
 
 pub data Make : Type 0 where
   cipher : AesForm → Make
@@ -139,15 +139,20 @@ pub record IsPlainAs (s : Spec) (m : Make) : Type 0 where
   pub begins_gcm : begins_with s.name (codes "gcm(") ≡ is_gcm m
   pub begins_hmac : begins_with s.name (codes "hmac(") ≡ is_hmac m
 
--- it is that under `pcrypt` or `cryptd`
+-- the word of a wrapper, and what stands in its parentheses over this name: the name itself, or `pcrypt` over it under `cryptd`
+abbrev pub Wraps : List ℕ → Tree → Tree → Type 0
+Wraps word inner t = ((word ≡ codes "pcrypt") × (inner ≡ t)) ⊎ (((word ≡ codes "cryptd") × (inner ≡ t)) ⊎ ((word ≡ codes "cryptd") × (inner ≡ over (codes "pcrypt") t)))
+
+-- it is that under `pcrypt`, under `cryptd`, or under both
 pub record IsWrappedAs (s : Spec) (m : Make) : Type 0 where
   pub word : List ℕ
-  pub word_is : (word ≡ codes "pcrypt") ⊎ (word ≡ codes "cryptd")
+  pub inner : Tree
+  pub form : Wraps word inner (tree_of_make m)
   pub wraps : s.wrap ≡ option_map_or wrap_of (template_named word) wrap.Plain
   pub wrapped : is_bare s.wrap ≡ false
   pub kind : s.kind ≡ kind_of_make m
   pub planned : is_basic (kind_of_make m) ≡ false
-  pub driver : s.driver ≡ spelling (over word (tree_of_make m))
+  pub driver : s.driver ≡ spelling (over word inner)
 
 abbrev pub Known : Spec → Type 0
 Known s = (m : Make) × (IsPlainAs s m ⊎ IsWrappedAs s m)
@@ -280,10 +285,24 @@ one-known template.Cmac id x m p e =
     (cmac i.0, inl (record { bare = refl; kind = refl; driver = enclosed-tree (codes "cmac") x.driver (cipher_tree i.0) (p.driver ∙ ap (λ n. spelling (tree_of_make n)) i.1); begins_ctr = refl; begins_gcm = refl; begins_hmac = refl }))
 one-known template.Pcrypt id x m p e =
     let k : is_aead (kind_of_make m) ≡ true = sym (ap is_aead p.kind) ∙ e in
-    (m, inr (record { word = codes "pcrypt"; word_is = inl refl; wraps = pcrypt_wraps; wrapped = refl; kind = only_aead (kind_of_make m) k; planned = aead_planned (kind_of_make m) k; driver = enclosed-tree (codes "pcrypt") x.driver (tree_of_make m) p.driver }))
+    (m, inr (record { word = codes "pcrypt"; inner = tree_of_make m; form = inl (refl, refl); wraps = pcrypt_wraps; wrapped = refl; kind = only_aead (kind_of_make m) k; planned = aead_planned (kind_of_make m) k; driver = enclosed-tree (codes "pcrypt") x.driver (tree_of_make m) p.driver }))
 one-known template.Cryptd id x m p e =
     let k : (is_skcipher (kind_of_make m) || is_aead (kind_of_make m) || is_mac (kind_of_make m)) ≡ true = sym (ap (λ k. is_skcipher k || is_aead k || is_mac k) p.kind) ∙ e in
-    (m, inr (record { word = codes "cryptd"; word_is = inr refl; wraps = cryptd_wraps; wrapped = refl; kind = p.kind; planned = wrapped_planned (kind_of_make m) k; driver = enclosed-tree (codes "cryptd") x.driver (tree_of_make m) p.driver }))
+    (m, inr (record { word = codes "cryptd"; inner = tree_of_make m; form = inr (inl (refl, refl)); wraps = cryptd_wraps; wrapped = refl; kind = p.kind; planned = wrapped_planned (kind_of_make m) k; driver = enclosed-tree (codes "cryptd") x.driver (tree_of_make m) p.driver }))
+one-known template.CryptdPcrypt id x m p e =
+    let k : is_aead (kind_of_make m) ≡ true = sym (ap is_aead p.kind) ∙ e in (
+      m,
+      inr (record {
+        word = codes "cryptd";
+        inner = over (codes "pcrypt") (tree_of_make m);
+        form = inr (inr (refl, refl));
+        wraps = cryptd_wraps;
+        wrapped = refl;
+        kind = only_aead (kind_of_make m) k;
+        planned = aead_planned (kind_of_make m) k;
+        driver = enclosed-tree (codes "cryptd") (enclosed (codes "pcrypt") x.driver) (over (codes "pcrypt") (tree_of_make m)) (enclosed-tree (codes "pcrypt") x.driver (tree_of_make m) p.driver);
+      }),
+    )
 one-known template.Gcm id x m p e = absurd cc
 one-known template.GcmBase id x m p e = absurd cc
 one-known template.Authenc id x m p e = absurd cc
@@ -322,6 +341,7 @@ two-known _ x y m n p q e = absurd cc
 one-bare : (t : Template) → is_wrapper_word (template_word t) ≡ false → is_bare (wrap_of t) ≡ true
 one-bare template.Pcrypt e = absurd cc
 one-bare template.Cryptd e = absurd cc
+one-bare template.CryptdPcrypt e = absurd cc
 one-bare _ e = refl
 
 if_ok : (b : Bool) (r : Result Spec Errno) (spec : Spec) → (if b then r else Err EINVAL) ≡ Ok spec → (b ≡ true) × (r ≡ Ok spec)
@@ -359,11 +379,11 @@ over_plain word t (x ∷ y ∷ []) spec w plain e =
 over_plain word t (x ∷ y ∷ z ∷ zs) spec w plain e = absurd cc
 
 pub derived-plain : (t : Tree) (below : List (ℕ × Spec)) (spec : Spec) → ArePlain below → derived_of t below ≡ Ok spec → IsMadeSo (word_of t) spec
-derived-plain t below spec plain e = by_template (template_named (word_of t)) refl e
+derived-plain t below spec plain e = by_template (template_at t) refl e
   where
-    by_template : (o : Option Template) → template_named (word_of t) ≡ o → derived_by o (word_of t) below ≡ Ok spec → IsMadeSo (word_of t) spec
+    by_template : (o : Option Template) → template_at t ≡ o → derived_by o (word_of t) below ≡ Ok spec → IsMadeSo (word_of t) spec
     by_template None q f = absurd cc
-    by_template (Some template) q f = over_plain (word_of t) template below spec (named_word (word_of t) template q) plain f
+    by_template (Some template) q f = over_plain (word_of t) template below spec (word_at (word_of t) (args_of t) template q) plain f
 
 -- ---- the drivers
 

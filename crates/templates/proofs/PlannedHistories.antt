@@ -38,15 +38,14 @@ use Rattle.templates.specs.declared.driver_plans.AesForm.TheVariants.{AesGeneric
 use Rattle.templates.specs.declared.driver_plans.GhashForm.TheVariants.{GhashGeneric, GhashTable}
 use Rattle.templates.specs.declared.template_words.Template.TheVariants.{Gcm}
 use Rattle.templates.specs.Nesting.{is_nested_well, is_wrapper_word, has_wrapper, any_wrapper}
-use Rattle.templates.specs.Table.{table, template_named, children_of, derived_of, spellings, is_allowed, is_bare, begins_with}
+use Rattle.templates.specs.Table.{table, template_at, children_of, derived_of, spellings, is_allowed, is_bare, begins_with}
 use Rattle.templates.proofs.Growth.{split}
 use Rattle.templates.proofs.ChildLooks.{get_within}
 use Rattle.alg_registry.proofs.Looks.{began_new}
 use Rattle.templates.proofs.Looks.{position_at}
-use Rattle.templates.proofs.Shapes.{by_shape, not_false, from_false}
-use Rattle.templates.proofs.Wrappers.{any_at}
+use Rattle.templates.proofs.Shapes.{AsksOwn, AsksParts, AsksWithin, by_shape, child_bare}
 use Rattle.templates.proofs.PlainLooks.{found_bare, pending_text}
-use Rattle.templates.proofs.Makes.{Make, cipher, sha256, ghash, cbc, ctr, rfc3686, xts, gcm, rfc4106, ccm, hmac, cmac, authenc_cbc, authenc_ctr, authenc_rfc3686, authenc_xts, IsPlainAs, IsWrappedAs, Known, IsPlain, ArePlain, IsMadeSo, derived-plain, driver-known, opening-known, tree_of_make, over, right_true}
+use Rattle.templates.proofs.Makes.{Make, cipher, sha256, ghash, cbc, ctr, rfc3686, xts, gcm, rfc4106, ccm, hmac, cmac, authenc_cbc, authenc_ctr, authenc_rfc3686, authenc_xts, IsPlainAs, IsWrappedAs, Wraps, Known, IsPlain, ArePlain, IsMadeSo, derived-plain, driver-known, opening-known, tree_of_make, over, right_true}
 
 -- what is known of the grammar
 pub record Grammar : Type 0 where
@@ -222,24 +221,31 @@ ghash_named : IsName (codes "ghash") (node (codes "ghash") end)
 ghash_named = a_word (omega arith, (refl, (refl, (refl, (refl, (refl, tt))))))
 
 child_is : Grammar → (text : List ℕ) (t : Tree) (names : List Tree) (i : ℕ) (u : Tree) → IsName text t → children_of t ≡ Ok names → is_nested_well t ≡ true → i < length names → u ≡ get_or names i u → IsChild u
-child_is g text (node w ts) names i u named e nested lt is = by_case (by_shape (template_named w) (list_of ts) names e)
+child_is g text (node w ts) names i u named e nested lt is = by_case (by_shape (template_at (node w ts)) (list_of ts) names e)
   where
     at_gcm : (x : Tree) (j : ℕ) → IsName (spelling x) x → j < 2 → u ≡ get_or (over (codes "ctr") x ∷ node (codes "ghash") end ∷ []) j u → IsChild u
     at_gcm x zero n l q = subst IsChild (sym q) (record { named = ctr_named x n; bare = refl })
     at_gcm x (suc zero) n l q = subst IsChild (sym q) (record { named = ghash_named; bare = refl })
     at_gcm x (suc (suc j)) n l q = absurd (omega (arith, l))
 
-    by_case : (names ≡ list_of ts) ⊎ ((template_named w ≡ Some Gcm) × (x : Tree) × (list_of ts ≡ x ∷ []) × (names ≡ over (codes "ctr") x ∷ node (codes "ghash") end ∷ [])) → IsChild u
+    -- the only argument
+    only_named : (x : Tree) → list_of ts ≡ x ∷ [] → IsName (spelling x) x
+    only_named x s = subst (λ xs. IsName (spelling (get_or xs 0 x)) (get_or xs 0 x)) s (g.arguments text (node w ts) named 0 x (omega (arith, ap length s)))
+
+    by_case : AsksOwn (template_at (node w ts)) (list_of ts) names ⊎ (AsksParts (template_at (node w ts)) (list_of ts) names ⊎ AsksWithin (template_at (node w ts)) (list_of ts) names) → IsChild u
     by_case (inl s) =
-        let below : any_wrapper (args_from names) ≡ false = ap any_wrapper (ap args_from s ∙ args_from-list_of ts) ∙ not_false (any_wrapper ts) nested in
-        let at : u ≡ get_or (list_of ts) i u = is ∙ ap (λ ns. get_or ns i u) s in
+        let at : u ≡ get_or (list_of ts) i u = is ∙ ap (λ ns. get_or ns i u) s.1 in
         record {
-          named = subst (λ a. IsName (spelling a) a) (sym at) (g.arguments text (node w ts) named i u (subst (λ ns. i < length ns) s lt));
-          bare = root_bare u (from_false (has_wrapper u) (any_wrapper (args_from names)) below (any_at names i u lt is));
+          named = subst (λ a. IsName (spelling a) a) (sym at) (g.arguments text (node w ts) named i u (subst (λ ns. i < length ns) s.1 lt));
+          bare = root_bare u (child_bare w ts names i u (inl s) lt is nested);
         }
-    by_case (inr s) =
-        let only : IsName (spelling s.1) s.1 = subst (λ xs. IsName (spelling (get_or xs 0 s.1)) (get_or xs 0 s.1)) s.2 (g.arguments text (node w ts) named 0 s.1 (omega (arith, ap length s.2))) in
-        at_gcm s.1 i only (subst (λ ns. i < length ns) s.3 lt) (is ∙ ap (λ ns. get_or ns i u) s.3)
+    by_case (inr (inl s)) = at_gcm s.1 i (only_named s.1 s.2) (subst (λ ns. i < length ns) s.3 lt) (is ∙ ap (λ ns. get_or ns i u) s.3)
+    by_case (inr (inr s)) =
+        let at : u ≡ get_or (args_of s.1) i u = is ∙ ap (λ ns. get_or ns i u) s.3 in
+        record {
+          named = subst (λ a. IsName (spelling a) a) (sym at) (g.arguments (spelling s.1) s.1 (only_named s.1 s.2) i u (subst (λ ns. i < length ns) s.3 lt));
+          bare = root_bare u (child_bare w ts names i u (inr s) lt is nested);
+        }
 
 next_some : (h : List RegEntry) (looks : List Looked) (texts : List (List ℕ)) (ids : List ℕ) → outcomes h looks ≡ Some (Ok ids) → next_of h looks (Ok texts) ≡ slice_get texts (length ids)
 next_some h looks texts ids e = rw e
@@ -515,15 +521,22 @@ cryptd_driver : (t : Tree) → begins_with (spelling (over (codes "cryptd") t)) 
 cryptd_driver t = refl
 
 other_driver : (s u : Spec) → IsPlain s → (m : Make) → IsWrappedAs u m → u.driver ≡ s.driver → ⊥
-other_driver s u plain m under same = by_word under.word under.word_is under.driver
+other_driver s u plain m under same = by_form under.form
   where
-    by_word : (w : List ℕ) → (w ≡ codes "pcrypt") ⊎ (w ≡ codes "cryptd") → u.driver ≡ spelling (over w (tree_of_make m)) → ⊥
-    by_word w (inl e) d =
-        let f : spelling (over (codes "pcrypt") (tree_of_make m)) ≡ spelling (tree_of_make plain.0) = sym (d ∙ ap (λ v. spelling (over v (tree_of_make m))) e) ∙ (same ∙ plain.1.driver) in
-        let g : true ≡ false = sym (pcrypt_driver (tree_of_make m)) ∙ (ap (λ x. begins_with x (codes "pcrypt(")) f ∙ no_pcrypt plain.0) in cc
-    by_word w (inr e) d =
-        let f : spelling (over (codes "cryptd") (tree_of_make m)) ≡ spelling (tree_of_make plain.0) = sym (d ∙ ap (λ v. spelling (over v (tree_of_make m))) e) ∙ (same ∙ plain.1.driver) in
-        let g : true ≡ false = sym (cryptd_driver (tree_of_make m)) ∙ (ap (λ x. begins_with x (codes "cryptd(")) f ∙ no_cryptd plain.0) in cc
+    by_pcrypt : under.word ≡ codes "pcrypt" → ⊥
+    by_pcrypt e =
+        let f : spelling (over (codes "pcrypt") under.inner) ≡ spelling (tree_of_make plain.0) = sym (under.driver ∙ ap (λ v. spelling (over v under.inner)) e) ∙ (same ∙ plain.1.driver) in
+        let g : true ≡ false = sym (pcrypt_driver under.inner) ∙ (ap (λ x. begins_with x (codes "pcrypt(")) f ∙ no_pcrypt plain.0) in cc
+
+    by_cryptd : under.word ≡ codes "cryptd" → ⊥
+    by_cryptd e =
+        let f : spelling (over (codes "cryptd") under.inner) ≡ spelling (tree_of_make plain.0) = sym (under.driver ∙ ap (λ v. spelling (over v under.inner)) e) ∙ (same ∙ plain.1.driver) in
+        let g : true ≡ false = sym (cryptd_driver under.inner) ∙ (ap (λ x. begins_with x (codes "cryptd(")) f ∙ no_cryptd plain.0) in cc
+
+    by_form : Wraps under.word under.inner (tree_of_make m) → ⊥
+    by_form (inl e) = by_pcrypt e.0
+    by_form (inr (inl e)) = by_cryptd e.0
+    by_form (inr (inr e)) = by_cryptd e.0
 
 -- ---- each entry keeps what is known
 

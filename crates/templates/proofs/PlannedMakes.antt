@@ -1,7 +1,7 @@
 -- What an entry can be has a driver within the limits, and the plan of its kind.
-use Rattle.std.proofs.Common.{◌≡◌, ℕ, true, ◌≤◌, ◌⊎◌, inl, inr, List, [], ◌∷◌, ◌++◌, length, refl, ap, sym, ◌∙◌, subst, arith, length-append, lit≤, Some, codes}
+use Rattle.std.proofs.Common.{◌≡◌, ℕ, ◌+◌, true, ◌≤◌, ◌⊎◌, inl, inr, List, [], ◌∷◌, ◌++◌, length, refl, ap, sym, ◌∙◌, subst, arith, length-append, lit≤, Some, codes}
 use Rattle.alg_registry.specs.declared.spec.Spec.{Spec}
-use Rattle.alg_names.specs.Name.{Tree, IsWord, IsAllowed, a_template, one, spelling, depth, width}
+use Rattle.alg_names.specs.Name.{Tree, IsName, IsWord, IsAllowed, a_template, one, spelling, depth, width}
 use Rattle.alg_names.specs.Spelled.{tree_of}
 use Rattle.templates.specs.declared.driver_plans.AesForm.TheVariants.{AesGeneric, AesTable, AesLanes}
 use Rattle.templates.specs.declared.driver_plans.GhashForm.TheVariants.{GhashGeneric, GhashTable}
@@ -12,12 +12,12 @@ use Rattle.templates.specs.Table.{template_named, wrap_of, is_bare}
 use Rattle.templates.specs.Plans.{plan_at, bare_plan}
 use Rattle.templates.specs.Planned.{IsPlanned, Fits, root_wrap}
 use Rattle.templates.proofs.PlannedHistories.{Grammar}
-use Rattle.templates.proofs.Makes.{Make, cipher, sha256, ghash, cbc, ctr, rfc3686, xts, gcm, rfc4106, ccm, hmac, cmac, authenc_cbc, authenc_ctr, authenc_rfc3686, authenc_xts, IsPlainAs, IsWrappedAs, Known, tree_of_make, kind_of_make, over}
+use Rattle.templates.proofs.Makes.{Make, cipher, sha256, ghash, cbc, ctr, rfc3686, xts, gcm, rfc4106, ccm, hmac, cmac, authenc_cbc, authenc_ctr, authenc_rfc3686, authenc_xts, IsPlainAs, IsWrappedAs, Wraps, Known, tree_of_make, kind_of_make, over}
 
--- with room for one more template
+-- with room for two more templates
 record IsSmall (t : Tree) : Type 0 where
   short : length (spelling t) ≤ 100
-  levels : depth t ≤ 7
+  levels : depth t ≤ 6
   arguments : width t ≤ 4
 
 make_small : (m : Make) → IsSmall (tree_of_make m)
@@ -291,9 +291,32 @@ pcrypt_plan : (t : Tree) → plan_at (over (codes "pcrypt") t) ≡ bare_plan t
 unfolding template_named
 pcrypt_plan t = refl
 
-cryptd_plan : (t : Tree) → plan_at (over (codes "cryptd") t) ≡ bare_plan t
+-- no make is `pcrypt` over another
+cryptd_plan : (m : Make) → plan_at (over (codes "cryptd") (tree_of_make m)) ≡ bare_plan (tree_of_make m)
 unfolding template_named
-cryptd_plan t = refl
+cryptd_plan (cipher AesGeneric) = refl
+cryptd_plan (cipher AesTable) = refl
+cryptd_plan (cipher AesLanes) = refl
+cryptd_plan sha256 = refl
+cryptd_plan (ghash GhashGeneric) = refl
+cryptd_plan (ghash GhashTable) = refl
+cryptd_plan (cbc a) = refl
+cryptd_plan (ctr a) = refl
+cryptd_plan (rfc3686 a) = refl
+cryptd_plan (xts a) = refl
+cryptd_plan (gcm a g) = refl
+cryptd_plan (rfc4106 a g) = refl
+cryptd_plan (ccm a) = refl
+cryptd_plan hmac = refl
+cryptd_plan (cmac a) = refl
+cryptd_plan (authenc_cbc a) = refl
+cryptd_plan (authenc_ctr a) = refl
+cryptd_plan (authenc_rfc3686 a) = refl
+cryptd_plan (authenc_xts a) = refl
+
+chained_plan : (t : Tree) → plan_at (over (codes "cryptd") (over (codes "pcrypt") t)) ≡ bare_plan t
+unfolding template_named
+chained_plan t = refl
 
 make_allowed : Grammar → (m : Make) → IsAllowed (tree_of_make m)
 make_allowed g m =
@@ -305,36 +328,71 @@ make_allowed g m =
       arguments = small.arguments;
     }
 
+wrapped_allowed : (w : List ℕ) (t : Tree) → IsWord w → length w ≡ 6 → IsName (spelling t) t → length (spelling t) ≤ 119 → depth t ≤ 7 → width t ≤ 4 → IsAllowed (over w t)
+wrapped_allowed w t word six named short levels arguments = record {
+  named = a_template {w = w} {inner = spelling t} word (one named);
+  short = omega (arith, six, short, length-append w (40 ∷ (spelling t ++ 41 ∷ [])), length-append (spelling t) (41 ∷ []));
+  levels = omega (arith, levels);
+  arguments = omega (arith, arguments);
+}
+
+pcrypt_word : IsWord (codes "pcrypt")
+pcrypt_word = (omega arith, (refl, (refl, (refl, (refl, (refl, (refl, tt)))))))
+
+cryptd_word : IsWord (codes "cryptd")
+cryptd_word = (omega arith, (refl, (refl, (refl, (refl, (refl, (refl, tt)))))))
+
 over_allowed : Grammar → (w : List ℕ) (m : Make) → IsWord w → length w ≡ 6 → IsAllowed (over w (tree_of_make m))
 over_allowed g w m word six =
     let small = make_small m in
-    record {
-      named = a_template {w = w} {inner = spelling (tree_of_make m)} word (one (make_allowed g m).named);
-      short = omega (arith, six, small.short, length-append w (40 ∷ (spelling (tree_of_make m) ++ 41 ∷ [])), length-append (spelling (tree_of_make m)) (41 ∷ []));
-      levels = omega (arith, small.levels);
-      arguments = omega (arith, small.arguments);
-    }
+    wrapped_allowed w (tree_of_make m) word six (make_allowed g m).named (omega (arith, small.short)) (omega (arith, small.levels)) small.arguments
 
-over_fits : (w : List ℕ) (s : Spec) (m : Make) → s.kind ≡ kind_of_make m → plan_at (over w (tree_of_make m)) ≡ bare_plan (tree_of_make m) → Fits s.kind (plan_at (over w (tree_of_make m)))
-over_fits w s m kind same = subst (λ o. Fits s.kind o) (make_bare m ∙ sym same) (subst (λ k. Fits k (plan_at (tree_of_make m))) (sym kind) (make_fits m))
+over_length : (w : List ℕ) (t : Tree) → length w ≡ 6 → length (spelling (over w t)) ≡ length (spelling t) + 8
+over_length w t six = omega (arith, six, length-append w (40 ∷ (spelling t ++ 41 ∷ [])), length-append (spelling t) (41 ∷ []))
+
+chained_allowed : Grammar → (m : Make) → IsAllowed (over (codes "cryptd") (over (codes "pcrypt") (tree_of_make m)))
+chained_allowed g m =
+    let small = make_small m in
+    let inner = over_allowed g (codes "pcrypt") m pcrypt_word refl in
+    wrapped_allowed (codes "cryptd") (over (codes "pcrypt") (tree_of_make m)) cryptd_word refl inner.named
+    (omega (arith, small.short, over_length (codes "pcrypt") (tree_of_make m) refl))
+    (omega (arith, small.levels))
+    (omega (arith, small.arguments))
+
+over_fits : (t : Tree) (s : Spec) (m : Make) → s.kind ≡ kind_of_make m → plan_at t ≡ bare_plan (tree_of_make m) → Fits s.kind (plan_at t)
+over_fits t s m kind same = subst (λ o. Fits s.kind o) (make_bare m ∙ sym same) (subst (λ k. Fits k (plan_at (tree_of_make m))) (sym kind) (make_fits m))
 
 pub known-planned : Grammar → (s : Spec) → Known s → IsPlanned s
 known-planned g s known = by_make known.0 known.1
   where
-    by_word : (m : Make) (w : List ℕ) → (w ≡ codes "pcrypt") ⊎ (w ≡ codes "cryptd") → s.driver ≡ spelling (over w (tree_of_make m)) → s.wrap ≡ option_map_or wrap_of (template_named w) wrap.Plain → s.kind ≡ kind_of_make m → IsPlanned s
-    by_word m w (inl e) driver wraps kind = record {
+    -- under this word, over this name
+    spelled_so : (w : List ℕ) (inner : Tree) (v : List ℕ) (t : Tree) → s.driver ≡ spelling (over w inner) → w ≡ v → inner ≡ t → s.driver ≡ spelling (over v t)
+    spelled_so w inner v t driver e f = driver ∙ (ap (λ x. spelling (over x inner)) e ∙ ap (λ x. spelling (over v x)) f)
+
+    wraps_so : (w v : List ℕ) → s.wrap ≡ option_map_or wrap_of (template_named w) wrap.Plain → w ≡ v → s.wrap ≡ option_map_or wrap_of (template_named v) wrap.Plain
+    wraps_so w v wraps e = wraps ∙ ap (λ x. option_map_or wrap_of (template_named x) wrap.Plain) e
+
+    by_form : (m : Make) (w : List ℕ) (inner : Tree) → Wraps w inner (tree_of_make m) → s.driver ≡ spelling (over w inner) → s.wrap ≡ option_map_or wrap_of (template_named w) wrap.Plain → s.kind ≡ kind_of_make m → IsPlanned s
+    by_form m w inner (inl e) driver wraps kind = record {
       tree = over (codes "pcrypt") (tree_of_make m);
-      spelled = driver ∙ ap (λ v. spelling (over v (tree_of_make m))) e;
-      allowed = over_allowed g (codes "pcrypt") m (omega arith, (refl, (refl, (refl, (refl, (refl, (refl, tt))))))) refl;
-      wraps = wraps ∙ ap (λ v. option_map_or wrap_of (template_named v) wrap.Plain) e;
-      fits = over_fits (codes "pcrypt") s m kind (pcrypt_plan (tree_of_make m));
+      spelled = spelled_so w inner (codes "pcrypt") (tree_of_make m) driver e.0 e.1;
+      allowed = over_allowed g (codes "pcrypt") m pcrypt_word refl;
+      wraps = wraps_so w (codes "pcrypt") wraps e.0;
+      fits = over_fits (over (codes "pcrypt") (tree_of_make m)) s m kind (pcrypt_plan (tree_of_make m));
     }
-    by_word m w (inr e) driver wraps kind = record {
+    by_form m w inner (inr (inl e)) driver wraps kind = record {
       tree = over (codes "cryptd") (tree_of_make m);
-      spelled = driver ∙ ap (λ v. spelling (over v (tree_of_make m))) e;
-      allowed = over_allowed g (codes "cryptd") m (omega arith, (refl, (refl, (refl, (refl, (refl, (refl, tt))))))) refl;
-      wraps = wraps ∙ ap (λ v. option_map_or wrap_of (template_named v) wrap.Plain) e;
-      fits = over_fits (codes "cryptd") s m kind (cryptd_plan (tree_of_make m));
+      spelled = spelled_so w inner (codes "cryptd") (tree_of_make m) driver e.0 e.1;
+      allowed = over_allowed g (codes "cryptd") m cryptd_word refl;
+      wraps = wraps_so w (codes "cryptd") wraps e.0;
+      fits = over_fits (over (codes "cryptd") (tree_of_make m)) s m kind (cryptd_plan m);
+    }
+    by_form m w inner (inr (inr e)) driver wraps kind = record {
+      tree = over (codes "cryptd") (over (codes "pcrypt") (tree_of_make m));
+      spelled = spelled_so w inner (codes "cryptd") (over (codes "pcrypt") (tree_of_make m)) driver e.0 e.1;
+      allowed = chained_allowed g m;
+      wraps = wraps_so w (codes "cryptd") wraps e.0;
+      fits = over_fits (over (codes "cryptd") (over (codes "pcrypt") (tree_of_make m))) s m kind (chained_plan (tree_of_make m));
     }
 
     by_make : (m : Make) → IsPlainAs s m ⊎ IsWrappedAs s m → IsPlanned s
@@ -345,4 +403,4 @@ known-planned g s known = by_make known.0 known.1
       wraps = only_plain s.wrap p.bare ∙ sym (make_plain m);
       fits = subst (λ k. Fits k (plan_at (tree_of_make m))) (sym p.kind) (make_fits m);
     }
-    by_make m (inr p) = by_word m p.word p.word_is p.driver p.wraps p.kind
+    by_make m (inr p) = by_form m p.word p.inner p.form p.driver p.wraps p.kind

@@ -6,7 +6,7 @@ use Rattle.alg_names.specs.Built.{args_from}
 use Rattle.alg_names.specs.Built.{args_from-list_of}
 use Rattle.kc_base.specs.declared.error_numbers.Errno.{Errno}
 use Rattle.kc_base.specs.declared.error_numbers.Errno.TheVariants.{EINVAL}
-use Rattle.templates.specs.Nesting.{has_wrapper, any_wrapper, is_wrapper_word, is_nested_well}
+use Rattle.templates.specs.Nesting.{has_wrapper, any_wrapper, inner_args, is_wrapper_word, is_nested_well}
 
 or_true : (a : Bool) → (a || true) ≡ true
 or_true true = refl
@@ -40,8 +40,12 @@ any_at (x ∷ xs) (suc i) u h e k = ap (λ b. has_wrapper x || b) (any_at xs i u
 pub wrapper_parts : (t : Tree) (xs : List Tree) → xs ≡ args_of t → has_wrapper t ≡ (is_wrapper_word (word_of t) || any_wrapper (args_from xs))
 wrapper_parts (node w ts) xs e = ap (λ us. is_wrapper_word w || any_wrapper us) (sym (args_from-list_of ts) ∙ ap args_from (sym e))
 
-pub nested_parts : (t : Tree) (xs : List Tree) → xs ≡ args_of t → is_nested_well t ≡ not (any_wrapper (args_from xs))
-nested_parts (node w ts) xs e = ap (λ us. not (any_wrapper us)) (sym (args_from-list_of ts) ∙ ap args_from (sym e))
+-- the arguments of a name in which no wrapper may stand are these
+abbrev pub AreInner : Tree → List Tree → Type 0
+AreInner t xs = xs ≡ inner_args (word_of t) (args_of t)
+
+pub nested_parts : (t : Tree) (xs : List Tree) → AreInner t xs → is_nested_well t ≡ not (any_wrapper (args_from xs))
+nested_parts t xs e = ap (λ us. not (any_wrapper (args_from us))) (sym e)
 
 pub found_below : (t : Tree) (xs : List Tree) (i : ℕ) (u : Tree) → xs ≡ args_of t → i < length xs → u ≡ get_or xs i u → true ≡ has_wrapper u → true ≡ has_wrapper t
 found_below t xs i u e h k l = sym (wrapper_parts t xs e ∙ ap (λ b. is_wrapper_word (word_of t) || b) (any_at xs i u h k (sym l)) ∙ or_true (is_wrapper_word (word_of t)))
@@ -53,8 +57,8 @@ none_found t xs i w e f h k l =
 abbrev verdict : Bool → Result (Unit {0}) Errno
 verdict b = if b then Ok tt else Err EINVAL
 
-pub refused : (t : Tree) (xs : List Tree) (i : ℕ) (u : Tree) → xs ≡ args_of t → i < length xs → u ≡ get_or xs i u → true ≡ has_wrapper u → verdict false ≡ verdict (is_nested_well t)
+pub refused : (t : Tree) (xs : List Tree) (i : ℕ) (u : Tree) → AreInner t xs → i < length xs → u ≡ get_or xs i u → true ≡ has_wrapper u → verdict false ≡ verdict (is_nested_well t)
 refused t xs i u e h k l = ap (λ b. verdict (not b)) (sym (any_at xs i u h k (sym l))) ∙ ap verdict (sym (nested_parts t xs e))
 
-pub taken : (t : Tree) (xs : List Tree) (i : ℕ) → xs ≡ args_of t → length xs ≤ i → any_wrapper (args_from (take i xs)) ≡ false → verdict true ≡ verdict (is_nested_well t)
+pub taken : (t : Tree) (xs : List Tree) (i : ℕ) → AreInner t xs → length xs ≤ i → any_wrapper (args_from (take i xs)) ≡ false → verdict true ≡ verdict (is_nested_well t)
 taken t xs i e h l = ap (λ b. verdict (not b)) (sym l ∙ ap (λ ys. any_wrapper (args_from ys)) (take_all i xs h)) ∙ ap verdict (sym (nested_parts t xs e))

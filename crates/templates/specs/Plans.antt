@@ -83,10 +83,15 @@ bare_over t _ args = cipher_plan t
 abbrev pub bare_plan : Tree → Option Plan
 bare_plan t = bare_over t (template_named (word_of t)) (args_of t)
 
--- `pcrypt(X)` and `cryptd(X)` have the plan of X
+-- what stands under `cryptd`, where that is no `pcrypt`, and otherwise what stands under this
+abbrev pub queued_plan : Tree → Option Template → List Tree → Option Plan
+queued_plan x (Some template.Pcrypt) (y ∷ []) = bare_plan y
+queued_plan x _ args = bare_plan x
+
+-- `pcrypt(X)`, `cryptd(X)` and `cryptd(pcrypt(X))` have the plan of X
 abbrev pub plan_over : Tree → Option Template → List Tree → Option Plan
 plan_over t (Some template.Pcrypt) (x ∷ []) = bare_plan x
-plan_over t (Some template.Cryptd) (x ∷ []) = bare_plan x
+plan_over t (Some template.Cryptd) (x ∷ []) = queued_plan x (template_named (word_of x)) (args_of x)
 plan_over t _ args = bare_plan t
 
 abbrev pub plan_at : Tree → Option Plan

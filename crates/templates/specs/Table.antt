@@ -1,7 +1,7 @@
 -- The templates: what each asks for, and what it makes of what it gets.
 use Rattle.std.specs.Prelude.{ℕ, ◌+◌, ◌-◌, ◌*◌, ◌/◌, ◌≡◌, Bool, true, false, not, ◌&&◌, ◌||◌, nat_lt, if◌then◌else◌, List, [], ◌∷◌, ◌++◌, length, take, drop, Option, Some, None, Result, Ok, Err, codes, map, ⊤}
 use Prim.Native.Nat.{min}
-use Rattle.std.specs.Option.{option_map_or}
+use Rattle.std.specs.Option.{option_map, option_map_or}
 use Rattle.std.specs.Str.{bytes_eq}
 use Rattle.kc_base.specs.declared.error_numbers.Errno.{Errno}
 use Rattle.kc_base.specs.declared.error_numbers.Errno.TheVariants.{ENOENT, EINVAL, ENAMETOOLONG}
@@ -14,7 +14,7 @@ use Rattle.alg_registry.specs.Made.{Templates}
 use Rattle.alg_registry.specs.Rows.{opened, opening}
 use Rattle.alg_names.specs.Name.{Tree, node, end, arg, word_of, args_of, depth, width, spelling}
 use Rattle.templates.specs.declared.template_words.Template.{Template}
-use Rattle.templates.specs.declared.template_words.Template.TheVariants.{Cbc, Ctr, Rfc3686, Xts, Gcm, GcmBase, Rfc4106, Ccm, Hmac, Cmac, Authenc, Pcrypt, Cryptd}
+use Rattle.templates.specs.declared.template_words.Template.TheVariants.{Cbc, Ctr, Rfc3686, Xts, Gcm, GcmBase, Rfc4106, Ccm, Hmac, Cmac, Authenc, Pcrypt, Cryptd, CryptdPcrypt}
 use Rattle.templates.specs.declared.build_errors.BuildErr.{BuildErr}
 use Rattle.templates.specs.declared.build_errors.BuildErr.TheVariants.{Fault, Memory}
 use Rattle.alg_names.specs.Spelled.{tree_of}
@@ -37,6 +37,20 @@ template_named word =
     (if bytes_eq word (codes "pcrypt") then Some Pcrypt else
     (if bytes_eq word (codes "cryptd") then Some Cryptd else None))))))))))))
 
+-- `cryptd` over `pcrypt` alone is a template of its own, which no word names
+abbrev pub over_pcrypt : Template → List Tree → Template
+over_pcrypt Cryptd (x ∷ []) = if bytes_eq (word_of x) (codes "pcrypt") then CryptdPcrypt else Cryptd
+over_pcrypt template args = template
+
+-- the template of a name
+abbrev pub template_at : Tree → Option Template
+template_at t = option_map (λ template. over_pcrypt template (args_of t)) (template_named (word_of t))
+
+-- the only one
+abbrev pub only_one : List Tree → Result (List Tree) Errno
+only_one (x ∷ []) = Ok (x ∷ [])
+only_one names = Err EINVAL
+
 -- the names that the template asks for, over its arguments
 abbrev pub asked : Template → List Tree → Result (List Tree) Errno
 asked Cbc (x ∷ []) = Ok (x ∷ [])
@@ -52,6 +66,7 @@ asked Cmac (x ∷ []) = Ok (x ∷ [])
 asked Authenc (a ∷ e ∷ []) = Ok (a ∷ e ∷ [])
 asked Pcrypt (x ∷ []) = Ok (x ∷ [])
 asked Cryptd (x ∷ []) = Ok (x ∷ [])
+asked CryptdPcrypt (x ∷ []) = only_one (args_of x)
 asked template args = Err EINVAL
 
 abbrev pub asked_by : Option Template → List Tree → Result (List Tree) Errno
@@ -60,7 +75,7 @@ asked_by (Some template) args = asked template args
 
 -- the names that a name asks for
 abbrev pub children_of : Tree → Result (List Tree) Errno
-children_of name = asked_by (template_named (word_of name)) (args_of name)
+children_of name = asked_by (template_at name) (args_of name)
 
 abbrev pub is_cipher : Kind → Bool
 is_cipher Cipher = true
@@ -105,6 +120,7 @@ admits Hmac x = is_hash x.kind
 admits Cmac x = is_cipher x.kind
 admits Pcrypt x = is_aead x.kind
 admits Cryptd x = is_skcipher x.kind || is_aead x.kind || is_mac x.kind
+admits CryptdPcrypt x = is_aead x.kind
 admits _ x = false
 
 abbrev pub admits_two : Template → Spec → Spec → Bool
@@ -131,6 +147,7 @@ limited_priority p = min p 4294967295
 abbrev pub name_over : Template → List ℕ → List ℕ → List ℕ
 name_over Pcrypt word name = name
 name_over Cryptd word name = name
+name_over CryptdPcrypt word name = name
 name_over _ word name = enclosed word name
 
 abbrev pub kind_over : Template → Kind → Kind
@@ -140,17 +157,24 @@ kind_over Hmac kind = Mac
 kind_over Cmac kind = Mac
 kind_over Pcrypt kind = Aead
 kind_over Cryptd kind = kind
+kind_over CryptdPcrypt kind = Aead
 kind_over _ kind = Skcipher
 
 abbrev pub wrap_of : Template → Wrap
 wrap_of Pcrypt = wrap.Pcrypt
 wrap_of Cryptd = wrap.Cryptd
+wrap_of CryptdPcrypt = wrap.Cryptd
 wrap_of _ = wrap.Plain
 
 abbrev pub raised : Template → ℕ → ℕ
 raised Pcrypt p = limited_priority (p + 100)
 raised Cryptd p = limited_priority (p + 50)
+raised CryptdPcrypt p = limited_priority (p + 150)
 raised _ p = p
+
+abbrev pub driver_over : Template → List ℕ → List ℕ → List ℕ
+driver_over CryptdPcrypt word driver = enclosed word (enclosed (codes "pcrypt") driver)
+driver_over _ word driver = enclosed word driver
 
 abbrev pub name_over_two : Template → List ℕ → Spec → Spec → List ℕ
 name_over_two Authenc word a e = enclosed_two word a.name e.name
@@ -171,7 +195,7 @@ limited spec = if nat_lt 127 (length spec.name) || nat_lt 127 (length spec.drive
 abbrev pub over_one : Template → List ℕ → ℕ → Spec → Spec
 over_one template word id x = record {
   name = name_over template word x.name;
-  driver = enclosed word x.driver;
+  driver = driver_over template word x.driver;
   kind = kind_over template x.kind;
   wrap = wrap_of template;
   priority = raised template x.priority;
@@ -199,7 +223,7 @@ derived_by (Some template) word below = derived_over template word below
 
 -- the instance of a name over its children
 abbrev pub derived_of : Tree → List (ℕ × Spec) → Result Spec Errno
-derived_of name below = derived_by (template_named (word_of name)) (word_of name) below
+derived_of name below = derived_by (template_at name) (word_of name) below
 
 -- the call answers so, unless memory ran out
 abbrev pub FaultIs : {A : Type 0} → BuildErr → Result A Errno → Type 0

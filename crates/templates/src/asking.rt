@@ -1,10 +1,10 @@
 //! What a template asks for.
 ghost use Rattle.std.specs.Prelude.{◌≡◌, Ok, Err, IfOk, IfErr, length, Some};
-ghost use Rattle.alg_names.specs.Name.{word_of, args_of};
-ghost use Rattle.templates.specs.Table.{template_named, children_of, asked, FaultIs};
+ghost use Rattle.alg_names.specs.Name.{args_of};
+ghost use Rattle.templates.specs.Table.{template_at, children_of, asked, FaultIs};
 
 use crate::BuildErr;
-use crate::template_words::{Template, template_of};
+use crate::template_words::{Template, template_of_name};
 use alg_names::Name;
 use kc_base::{Bytes, Errno};
 use std::alloc::Global;
@@ -34,7 +34,7 @@ fn both(alloc: Global, args: &[Name]) -> Result<Vec<Name>, BuildErr>
 
 /// What `gcm(X)` asks for: `ctr(X)` and `ghash`.
 fn counter_and_hash(alloc: Global, name: &Name) -> Result<Vec<Name>, BuildErr>
-    requires word { template_named (word_of name.now) ≡ Some Template.Gcm }
+    requires word { template_at name.now ≡ Some Template.Gcm }
     requires one { length (args_of name.now) ≡ 1 }
     ensures ok { IfOk result (λ names. asked Template.Gcm (args_of name.now) ≡ Ok names.items) }
     ensures err { IfErr result (λ e. e ≡ BuildErr.Memory) }
@@ -48,6 +48,21 @@ fn counter_and_hash(alloc: Global, name: &Name) -> Result<Vec<Name>, BuildErr>
     Ok(names)
 }
 
+/// What `cryptd(pcrypt(X))` asks for: `X`.
+fn within(alloc: Global, args: &[Name]) -> Result<Vec<Name>, BuildErr>
+    ensures ok { IfOk result (λ names. asked Template.CryptdPcrypt args.now ≡ Ok names.items) }
+    ensures err { IfErr result (λ e. FaultIs e (asked Template.CryptdPcrypt args.now)) }
+{
+    let [pcrypt] = args else {
+        return Err(BuildErr::Fault(Errno::EINVAL));
+    };
+    let inner = pcrypt.args();
+    if inner.len() != 1 {
+        return Err(BuildErr::Fault(Errno::EINVAL));
+    }
+    only(alloc, inner)
+}
+
 /// The names that the name's template asks for, in the order in which they are looked for.
 ///
 /// `Fault` is ENOENT where the word names no template, otherwise EINVAL where the name has a wrong number of arguments.
@@ -55,7 +70,7 @@ pub fn children(alloc: Global, name: &Name) -> Result<Vec<Name>, BuildErr>
     ensures ok { IfOk result (λ names. children_of name.now ≡ Ok names.items) }
     ensures err { IfErr result (λ e. FaultIs e (children_of name.now)) }
 {
-    let Some(template) = template_of(name.word()) else {
+    let Some(template) = template_of_name(name) else {
         return Err(BuildErr::Fault(Errno::ENOENT));
     };
     let args = name.args();
@@ -74,6 +89,7 @@ pub fn children(alloc: Global, name: &Name) -> Result<Vec<Name>, BuildErr>
                 Err(BuildErr::Fault(Errno::EINVAL))
             }
         }
+        Template::CryptdPcrypt => within(alloc, args),
         _ => {
             if args.len() == 1 {
                 only(alloc, args)

@@ -1,6 +1,8 @@
 //! What an instance computes, by the name of its driver.
 ghost use Rattle.std.specs.Prelude.{◌≡◌, ℕ, length, Some, None, List};
-ghost use Rattle.templates.specs.Plans.{is_word, aes_form, ghash_form, ctr_form, gcm_plan, salted, is_hmac, cipher_plan, authentic, bare_plan, plan_at, or_invalid};
+ghost use Rattle.templates.specs.Plans.{is_word, aes_form, ghash_form, ctr_form, gcm_plan, salted, is_hmac, cipher_plan, authentic, bare_plan, queued_plan, plan_at, or_invalid};
+ghost use Rattle.templates.specs.Table.{template_named};
+ghost use Rattle.alg_names.specs.Name.{word_of, args_of};
 
 use crate::template_words::{Template, template_of};
 use alg_names::Name;
@@ -183,6 +185,16 @@ fn bare(name: &Name) -> Option<Plan>
     }
 }
 
+/// The plan of what stands under `cryptd`.
+fn queued(name: &Name) -> Option<Plan>
+    ensures { result ≡ queued_plan name.now (template_named (word_of name.now)) (args_of name.now) }
+{
+    match (template_of(name.word()), name.args()) {
+        (Some(Template::Pcrypt), [only]) => bare(only),
+        _ => bare(name),
+    }
+}
+
 /// The plan of an instance, by the name of its driver. No memory is taken.
 ///
 /// EINVAL where no instance that has a plan has such a driver: a cipher, a hash and a GHASH have none.
@@ -191,7 +203,7 @@ pub fn plan_of(driver: &Name) -> Result<Plan, Errno>
 {
     let plan = match (template_of(driver.word()), driver.args()) {
         (Some(Template::Pcrypt), [only]) => bare(only),
-        (Some(Template::Cryptd), [only]) => bare(only),
+        (Some(Template::Cryptd), [only]) => queued(only),
         _ => bare(driver),
     };
     match plan {

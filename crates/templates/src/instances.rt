@@ -1,9 +1,9 @@
 //! What a template makes of what it asked for.
 ghost use Rattle.std.specs.Prelude.{◌≡◌, Ok, Err, IfOk, IfErr, List, [], ◌∷◌};
-ghost use Rattle.templates.specs.Table.{derived_of, derived_over, FaultIs, enclosed, enclosed_two, limited, inside_ctr, admits, admits_two, begins_with, name_over, name_over_two, driver_over_two, priority_over_two, raised, kind_over, wrap_of, limited_priority};
+ghost use Rattle.templates.specs.Table.{derived_of, derived_over, FaultIs, enclosed, enclosed_two, limited, inside_ctr, admits, admits_two, begins_with, name_over, driver_over, name_over_two, driver_over_two, priority_over_two, raised, kind_over, wrap_of, limited_priority};
 
 use crate::BuildErr;
-use crate::template_words::{Template, template_of};
+use crate::template_words::{Template, template_of_name};
 use alg_names::Name;
 use alg_names::limits::MAX_BYTES;
 use alg_registry::{Ids, Kind, Spec, Wrap};
@@ -66,7 +66,7 @@ fn is_admitted(template: Template, child: &Spec) -> bool
             starts_with(child.name.as_slice(), b"gcm(") && matches!(child.wrap, Wrap::Plain)
         }
         Template::Hmac => matches!(child.kind, Kind::Hash),
-        Template::Pcrypt => matches!(child.kind, Kind::Aead),
+        Template::Pcrypt | Template::CryptdPcrypt => matches!(child.kind, Kind::Aead),
         Template::Cryptd => matches!(child.kind, Kind::Skcipher | Kind::Aead | Kind::Mac),
         Template::Gcm | Template::GcmBase | Template::Authenc => false,
     }
@@ -98,8 +98,28 @@ fn name_over_child(
     ensures err { IfErr result (λ e. e ≡ BuildErr.Memory) }
 {
     match template {
-        Template::Pcrypt | Template::Cryptd => Ok(Bytes::copy_of(alloc, name)?),
+        Template::Pcrypt | Template::Cryptd | Template::CryptdPcrypt => {
+            Ok(Bytes::copy_of(alloc, name)?)
+        }
         _ => enclose(alloc, word, name),
+    }
+}
+
+fn driver_over_child(
+    alloc: Global,
+    template: Template,
+    word: &[u8],
+    driver: &[u8],
+) -> Result<Bytes, BuildErr>
+    ensures ok { IfOk result (λ text. text ≡ driver_over template word.now driver.now) }
+    ensures err { IfErr result (λ e. e ≡ BuildErr.Memory) }
+{
+    match template {
+        Template::CryptdPcrypt => {
+            let inner = enclose(alloc, b"pcrypt", driver)?;
+            enclose(alloc, word, inner.as_slice())
+        }
+        _ => enclose(alloc, word, driver),
     }
 }
 
@@ -107,7 +127,7 @@ fn kind_over_child(template: Template, kind: Kind) -> Kind
     ensures { result ≡ kind_over template kind }
 {
     match template {
-        Template::Rfc4106 | Template::Ccm | Template::Pcrypt => Kind::Aead,
+        Template::Rfc4106 | Template::Ccm | Template::Pcrypt | Template::CryptdPcrypt => Kind::Aead,
         Template::Hmac | Template::Cmac => Kind::Mac,
         Template::Cryptd => kind,
         _ => Kind::Skcipher,
@@ -119,7 +139,7 @@ fn wrap_by(template: Template) -> Wrap
 {
     match template {
         Template::Pcrypt => Wrap::Pcrypt,
-        Template::Cryptd => Wrap::Cryptd,
+        Template::Cryptd | Template::CryptdPcrypt => Wrap::Cryptd,
         _ => Wrap::Plain,
     }
 }
@@ -140,6 +160,7 @@ fn raise(template: Template, priority: u32) -> u32
     match template {
         Template::Pcrypt => cap(priority as u64 + 100),
         Template::Cryptd => cap(priority as u64 + 50),
+        Template::CryptdPcrypt => cap(priority as u64 + 150),
         _ => priority,
     }
 }
@@ -158,7 +179,7 @@ fn derive_over_one(
         return Err(BuildErr::Fault(Errno::EINVAL));
     }
     let name = name_over_child(alloc, template, word, child.name.as_slice())?;
-    let driver = enclose(alloc, word, child.driver.as_slice())?;
+    let driver = driver_over_child(alloc, template, word, child.driver.as_slice())?;
     let mut below = Ids::new(alloc);
     below.push(id)?;
     limit(Spec {
@@ -276,7 +297,7 @@ pub fn derive(alloc: Global, name: &Name, below: &[(u64, Spec)]) -> Result<Spec,
     ensures err { IfErr result (λ e. FaultIs e (derived_of name.now below.now)) }
 {
     let word = name.word();
-    let Some(template) = template_of(word) else {
+    let Some(template) = template_of_name(name) else {
         return Err(BuildErr::Fault(Errno::ENOENT));
     };
     match below {

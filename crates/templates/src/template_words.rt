@@ -1,8 +1,10 @@
 //! The words that name templates.
 ghost use Rattle.std.specs.Prelude.{◌≡◌};
-ghost use Rattle.templates.specs.Table.{template_named};
+ghost use Rattle.templates.specs.Table.{template_named, template_at};
 
-/// A template by its word.
+use alg_names::Name;
+
+/// A template by its word; `CryptdPcrypt` is that of `cryptd` over `pcrypt` alone.
 #[derive(Clone, Copy, Debug, PartialEq, Eq)]
 pub enum Template {
     Cbc,
@@ -18,6 +20,7 @@ pub enum Template {
     Authenc,
     Pcrypt,
     Cryptd,
+    CryptdPcrypt,
 }
 
 /// The template of a word.
@@ -53,5 +56,18 @@ pub(crate) fn template_of(word: &[u8]) -> Option<Template>
         Some(Template::Cryptd)
     } else {
         None
+    }
+}
+
+/// The template of a name.
+pub(crate) fn template_of_name(name: &Name) -> Option<Template>
+    ensures { result ≡ template_at name.now }
+{
+    let template = template_of(name.word())?;
+    match (template, name.args()) {
+        (Template::Cryptd, [only]) if only.word() == b"pcrypt".as_slice() => {
+            Some(Template::CryptdPcrypt)
+        }
+        _ => Some(template),
     }
 }

@@ -5,7 +5,7 @@ use Rattle.std.specs.Option.{option_map}
 use Rattle.std.specs.Str.{bytes_eq}
 use Rattle.std.proofs.lemmas.Bool.{eqb-true}
 use Rattle.std.proofs.lemmas.Slice.Eq.{bytes_eq-Decides}
-use Rattle.alg_names.specs.Name.{Tree, Args, node, end, arg, list_of}
+use Rattle.alg_names.specs.Name.{Tree, Args, node, end, arg, word_of, args_of, list_of}
 use Rattle.templates.specs.Table.{template_named}
 use Rattle.templates.proofs.Words.{named_word}
 use Rattle.templates.specs.declared.template_words.Template.{Template}
@@ -16,8 +16,8 @@ use Rattle.templates.specs.declared.driver_plans.GhashForm.{GhashForm}
 use Rattle.templates.specs.declared.driver_plans.GhashForm.TheVariants.{GhashGeneric, GhashTable}
 use Rattle.templates.specs.declared.driver_plans.Plan.{Plan}
 use Rattle.templates.specs.declared.driver_plans.Plan.TheVariants.{Cbc, Ctr, Rfc3686, Xts, Gcm, Rfc4106, Ccm, Hmac, Cmac, AuthencCbc, AuthencCtr, AuthencRfc3686, AuthencXts}
-use Rattle.templates.specs.Plans.{is_word, aes_form, ghash_form, ctr_over, ctr_form, gcm_of, gcm_over, gcm_plan, salted, hmac_over, is_hmac, cipher_over, cipher_plan, authentic, bare_over, bare_plan, plan_over, plan_at}
-use Rattle.transforms.specs.Drivers.{over, over_two, aes_driver, ghash_driver, ctr_driver, gcm_driver, hmac_driver, driver_of, unwrapped_over, unwrapped}
+use Rattle.templates.specs.Plans.{is_word, aes_form, ghash_form, ctr_over, ctr_form, gcm_of, gcm_over, gcm_plan, salted, hmac_over, is_hmac, cipher_over, cipher_plan, authentic, bare_over, bare_plan, queued_plan, plan_over, plan_at}
+use Rattle.transforms.specs.Drivers.{over, over_two, aes_driver, ghash_driver, ctr_driver, gcm_driver, hmac_driver, driver_of, unqueued, unwrapped_over, unwrapped}
 
 first_true : (a b : Bool) → (if a then b else false) ≡ true → a ≡ true
 first_true true b e = refl
@@ -147,12 +147,19 @@ bare_is (node w ts) p e = by_shape (template_named w) ts refl e
     by_shape (Some template.Authenc) (arg a (arg e end)) n f = authentic_is a e (is_hmac a) (cipher_plan e) p w (named_word w template.Authenc n) refl refl f
     by_shape o us n f = cipher_is (node w us) p f
 
+queued_is : (x : Tree) (p : Plan) → queued_plan x (template_named (word_of x)) (args_of x) ≡ Some p → unqueued x (template_named (word_of x)) (args_of x) ≡ driver_of p
+queued_is (node w ts) p e = by_shape (template_named w) ts e
+  where
+    by_shape : (o : Option Template) (us : Args) → queued_plan (node w us) o (list_of us) ≡ Some p → unqueued (node w us) o (list_of us) ≡ driver_of p
+    by_shape (Some template.Pcrypt) (arg y end) f = bare_is y p f
+    by_shape o us f = bare_is (node w us) p f
+
 pub driver_is : (t : Tree) (p : Plan) → plan_at t ≡ Some p → unwrapped t ≡ driver_of p
 driver_is (node w ts) p e = by_shape (template_named w) ts e
   where
     by_shape : (o : Option Template) (us : Args) → plan_over (node w us) o (list_of us) ≡ Some p → unwrapped_over (node w us) o (list_of us) ≡ driver_of p
     by_shape (Some template.Pcrypt) (arg x end) f = bare_is x p f
-    by_shape (Some template.Cryptd) (arg x end) f = bare_is x p f
+    by_shape (Some template.Cryptd) (arg x end) f = queued_is x p f
     by_shape o us f = bare_is (node w us) p f
 
 pub plan_of_driver : (p : Plan) → plan_at (driver_of p) ≡ Some p

@@ -54,10 +54,15 @@ driver_of (AuthencCtr aes) = authenc_driver (ctr_driver aes)
 driver_of (AuthencRfc3686 aes) = authenc_driver (over (codes "rfc3686") (ctr_driver aes))
 driver_of (AuthencXts aes) = authenc_driver (over (codes "xts") (aes_driver aes))
 
--- a name without the `pcrypt` or `cryptd` at its root
+-- what stands under `cryptd`, without the `pcrypt` at its root
+abbrev pub unqueued : Tree → Option Template → List Tree → Tree
+unqueued x (Some Pcrypt) (y ∷ []) = y
+unqueued x _ _ = x
+
+-- a name without the `pcrypt` or `cryptd` at its root, or both
 abbrev pub unwrapped_over : Tree → Option Template → List Tree → Tree
 unwrapped_over t (Some Pcrypt) (x ∷ []) = x
-unwrapped_over t (Some Cryptd) (x ∷ []) = x
+unwrapped_over t (Some Cryptd) (x ∷ []) = unqueued x (template_named (word_of x)) (args_of x)
 unwrapped_over t _ _ = t
 
 abbrev pub unwrapped : Tree → Tree

@@ -5,7 +5,7 @@ use Rattle.templates.proofs.asking.counter_and_hash.Goals as goal
 
 pub with_word-counter-requires-clause-short : goal.with_word-counter-requires-clause-short
 with_word-counter-requires-clause-short c =
-    omega (arith, gcm_length (word_of c.args.name.now) c.requires.word, ap (λ t. length (word_of t)) c.in_ok-copy.ensures, ap length c.in_ok-ctr.ensures)
+    omega (arith, gcm_length c.args.name.now c.requires.word, ap (λ t. length (word_of t)) c.in_ok-copy.ensures, ap length c.in_ok-ctr.ensures)
 
 two_pushed : (a b c : List Tree) (x y z : Tree) → a ≡ [] → b ≡ a ++ x ∷ [] → c ≡ b ++ y ∷ [] → y ≡ z → c ≡ x ∷ z ∷ []
 two_pushed a b c x y z p q r s = r ∙ (ap (λ l. l ++ y ∷ []) (q ∙ ap (λ l. l ++ x ∷ []) p) ∙ ap (λ u. x ∷ u ∷ []) s)
