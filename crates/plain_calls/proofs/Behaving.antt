@@ -5,7 +5,7 @@ use Rattle.board.specs.declared.entry.Shape.{Shape}
 use Rattle.board.specs.declared.entry.Shape.TheVariants.{Pad, Queue, Chain}
 use Rattle.board.specs.declared.entry.BoardEntry.{BoardEntry}
 use Rattle.board.specs.declared.entry.BoardEntry.TheVariants.{Collect}
-use Rattle.board.specs.Shapes.{is_pad, is_serial, is_chain, has_line, has_lists, is_born, pad_born, queue_born, line_born, lists_born}
+use Rattle.board.specs.Shapes.{is_pad, is_serial, is_chain, is_born, pad_born, queue_born, line_born, lists_born}
 use Rattle.board.specs.Entries.{entries_of, submissions, dequeues, dequeued, passed_on, finished, has, front, completes_from, tells, told_after, told, collected_in, collected, last_or, held_in, is_held, maker_is}
 use Rattle.board.specs.Following.{GoesOn, IsRightAlone, AreRightAlone, IsOfOne, LeavesBirth, LeaveInOrder, FrontIsPassed, RunsOneByOne}
 use Rattle.board.specs.Handing.{HandsNothing}

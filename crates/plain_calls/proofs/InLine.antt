@@ -1,5 +1,5 @@
 -- A pipeline in front of which a queue stands: what left the queue, and what a chain told whose backlog was empty.
-use Rattle.std.proofs.Common.{◌≡◌, ℕ, zero, suc, ◌+◌, ◌<◌, ◌≤◌, Bool, true, false, cond, List, [], ◌∷◌, ◌++◌, length, map, refl, ap, sym, ◌∙◌, subst, arith, Some, None}
+use Rattle.std.proofs.Common.{◌≡◌, ℕ, zero, suc, ◌+◌, ◌<◌, ◌≤◌, true, false, cond, List, [], ◌∷◌, ◌++◌, length, map, refl, ap, sym, ◌∙◌, subst, arith, Some, None}
 use Rattle.std.specs.Prelude.{◌==◌, nat_le}
 use Rattle.std.proofs.lemmas.Bool.{eq-eqb, or_left}
 use Rattle.std.proofs.lemmas.Bool.Decides.{nat_tests}
@@ -7,7 +7,7 @@ use Rattle.std.proofs.lemmas.List.{map-append}
 use Rattle.kc_base.specs.declared.callback_list.Callback.TheVariants.{Started, Done}
 use Rattle.board.specs.declared.entry.BoardEntry.{BoardEntry}
 use Rattle.board.specs.Shapes.{line_born}
-use Rattle.board.specs.Entries.{Notice, Starts, Completes, birth, submissions, dequeued, passed_on, has, front, completes_from, told}
+use Rattle.board.specs.Entries.{Notice, Starts, Completes, birth, submissions, dequeued, has, front, completes_from, told}
 use Rattle.board.specs.Order.{completed, started, backlogged, numbers_below}
 use Rattle.transforms.specs.declared.ask.Ask.{Ask}
 use Rattle.transforms.specs.Finish.{finished_of}

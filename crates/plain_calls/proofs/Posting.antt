@@ -1,5 +1,5 @@
 -- A board's history goes on by the script's calls and by work, and the plain pipelines with it.
-use Rattle.std.proofs.Common.{◌≡◌, ◌≢◌, ℕ, zero, suc, ◌+◌, ◌<◌, ◌≤◌, ◌⊎◌, inl, inr, Bool, true, false, ◌||◌, ◌&&◌, List, [], ◌∷◌, ◌++◌, length, set, refl, ap, sym, ◌∙◌, subst, arith, Option, Some, None, is_some, append-nil, append_assoc, length-append}
+use Rattle.std.proofs.Common.{◌≡◌, ◌≢◌, ℕ, zero, suc, ◌+◌, ◌<◌, ◌≤◌, ◌⊎◌, inl, inr, Bool, true, false, ◌&&◌, List, [], ◌∷◌, ◌++◌, length, set, refl, ap, sym, ◌∙◌, subst, arith, Option, Some, None, is_some, append-nil, append_assoc, length-append}
 use Rattle.std.specs.Prelude.{slice_get, ◌==◌}
 use Rattle.std.specs.List.{filter_map}
 use Rattle.std.specs.Option.{option_map_or}
@@ -12,7 +12,7 @@ use Rattle.board.specs.declared.entry.Entered.{Entered}
 use Rattle.board.specs.declared.entry.Entered.TheVariants.{InProgress, Busy, NoSpace}
 use Rattle.board.specs.declared.entry.BoardEntry.{BoardEntry}
 use Rattle.board.specs.declared.entry.BoardEntry.TheVariants.{Born, Submit, Take, Finish, Enq, Deq, Done, Hold, Go, Collect, Close, Share, Mask, Shut}
-use Rattle.board.specs.Shapes.{is_pad, has_line, has_lists}
+use Rattle.board.specs.Shapes.{is_pad, has_line}
 use Rattle.board.specs.Entries.{is_of, entries_of, birth_in, birth, accepted_in, submissions, front, is_held, delivered}
 use Rattle.board.specs.Handing.{is_collect}
 use Rattle.board.specs.Legal.{IsRight, IsRightFor, LegalBoard, AreRightAfter, pipelines}
@@ -25,7 +25,7 @@ use Rattle.plain_calls.proofs.Callbacks.{drained_from}
 use Rattle.plain_calls.specs.Pipelines.{has_room}
 use Rattle.plain_calls.specs.Laws.{ThereIs, IsTimelessCall, IsToldBy}
 use Rattle.plain_calls.proofs.Growing.{filter_map-none, filter_map-some, length-numbers}
-use Rattle.plain_calls.proofs.Behaving.{BoardLaws, Behaves, behaves, held_same, born_some, maker_born}
+use Rattle.plain_calls.proofs.Behaving.{BoardLaws, behaves, held_same, born_some, maker_born}
 use Rattle.plain_calls.proofs.Standing.{is_all_done, IsPipelineOf, ArePipelinesOf}
 use Rattle.plain_calls.proofs.Pipelines.{owed_count, on_lists, submitted, entered, dequeued, done_one, held_now, let_go_now, left_alone, delivers, collected_now, born_now, waits_as}
 
