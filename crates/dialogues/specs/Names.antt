@@ -26,7 +26,7 @@ abbrev pub nested : Result Tree Errno → Result Tree Errno
 nested (Ok t) = if is_nested_well t then Ok t else Err EINVAL
 nested (Err errno) = Err errno
 
--- the same, with `pcrypt` and `cryptd` at the root alone
+-- the same, with `pcrypt` and `cryptd` only where they may stand
 abbrev pub name_read : List ℕ → Result Tree Errno
 name_read text = nested (limited_name text)
 

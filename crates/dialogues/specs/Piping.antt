@@ -55,7 +55,7 @@ mask workers walk n label bits = with_label walk n label λ live. with_pad walk 
 
 -- ---- `hold T` and `go T`
 
--- only a queue is held and let go: one has a bound
+-- only a queue or a chain is held and let go: one has a bound
 abbrev pub if_queue : Walk → ℕ → Option ℕ → Dialogue → Dialogue
 if_queue walk n None rest = refuses walk n EINVAL
 if_queue walk n (Some max) rest = rest

@@ -12,9 +12,13 @@ use Rattle.templates.specs.Resolving.{weight}
 use Rattle.templates.proofs.Words.{template_over, gcm_at, queued_at, is_queued}
 use Rattle.templates.proofs.Wrappers.{any_at}
 
+abbrev pub is_chain : Option Template → Bool
+is_chain (Some CryptdPcrypt) = true
+is_chain _ = false
+
 -- it asks for its arguments
 abbrev pub AsksOwn : Option Template → List Tree → List Tree → Type 0
-AsksOwn o args names = (o ≡ Some CryptdPcrypt → ⊥) × (names ≡ args)
+AsksOwn o args names = (is_chain o ≡ false) × (names ≡ args)
 
 -- it asks for a counter over its argument, and a hash
 abbrev pub AsksParts : Option Template → List Tree → List Tree → Type 0
@@ -32,45 +36,45 @@ one_only (x ∷ y ∷ xs) names e = absurd cc
 pub by_shape : (o : Option Template) (args names : List Tree) → asked_by o args ≡ Ok names → AsksOwn o args names ⊎ (AsksParts o args names ⊎ AsksWithin o args names)
 by_shape None args names e = absurd cc
 by_shape (Some Cbc) [] names e = absurd cc
-by_shape (Some Cbc) (x ∷ []) names e = inl (λ z. absurd cc, let f : names ≡ x ∷ [] = cc in f)
+by_shape (Some Cbc) (x ∷ []) names e = inl (refl, let f : names ≡ x ∷ [] = cc in f)
 by_shape (Some Cbc) (x ∷ y ∷ xs) names e = absurd cc
 by_shape (Some Ctr) [] names e = absurd cc
-by_shape (Some Ctr) (x ∷ []) names e = inl (λ z. absurd cc, let f : names ≡ x ∷ [] = cc in f)
+by_shape (Some Ctr) (x ∷ []) names e = inl (refl, let f : names ≡ x ∷ [] = cc in f)
 by_shape (Some Ctr) (x ∷ y ∷ xs) names e = absurd cc
 by_shape (Some Rfc3686) [] names e = absurd cc
-by_shape (Some Rfc3686) (x ∷ []) names e = inl (λ z. absurd cc, let f : names ≡ x ∷ [] = cc in f)
+by_shape (Some Rfc3686) (x ∷ []) names e = inl (refl, let f : names ≡ x ∷ [] = cc in f)
 by_shape (Some Rfc3686) (x ∷ y ∷ xs) names e = absurd cc
 by_shape (Some Xts) [] names e = absurd cc
-by_shape (Some Xts) (x ∷ []) names e = inl (λ z. absurd cc, let f : names ≡ x ∷ [] = cc in f)
+by_shape (Some Xts) (x ∷ []) names e = inl (refl, let f : names ≡ x ∷ [] = cc in f)
 by_shape (Some Xts) (x ∷ y ∷ xs) names e = absurd cc
 by_shape (Some Gcm) [] names e = absurd cc
 by_shape (Some Gcm) (x ∷ []) names e = inr (inl (refl, x, refl, let f : names ≡ node (codes "ctr") (arg x end) ∷ node (codes "ghash") end ∷ [] = cc in f))
 by_shape (Some Gcm) (x ∷ y ∷ xs) names e = absurd cc
 by_shape (Some GcmBase) [] names e = absurd cc
 by_shape (Some GcmBase) (x ∷ []) names e = absurd cc
-by_shape (Some GcmBase) (x ∷ y ∷ []) names e = inl (λ z. absurd cc, let f : names ≡ x ∷ y ∷ [] = cc in f)
+by_shape (Some GcmBase) (x ∷ y ∷ []) names e = inl (refl, let f : names ≡ x ∷ y ∷ [] = cc in f)
 by_shape (Some GcmBase) (x ∷ y ∷ z ∷ xs) names e = absurd cc
 by_shape (Some Rfc4106) [] names e = absurd cc
-by_shape (Some Rfc4106) (x ∷ []) names e = inl (λ z. absurd cc, let f : names ≡ x ∷ [] = cc in f)
+by_shape (Some Rfc4106) (x ∷ []) names e = inl (refl, let f : names ≡ x ∷ [] = cc in f)
 by_shape (Some Rfc4106) (x ∷ y ∷ xs) names e = absurd cc
 by_shape (Some Ccm) [] names e = absurd cc
-by_shape (Some Ccm) (x ∷ []) names e = inl (λ z. absurd cc, let f : names ≡ x ∷ [] = cc in f)
+by_shape (Some Ccm) (x ∷ []) names e = inl (refl, let f : names ≡ x ∷ [] = cc in f)
 by_shape (Some Ccm) (x ∷ y ∷ xs) names e = absurd cc
 by_shape (Some Hmac) [] names e = absurd cc
-by_shape (Some Hmac) (x ∷ []) names e = inl (λ z. absurd cc, let f : names ≡ x ∷ [] = cc in f)
+by_shape (Some Hmac) (x ∷ []) names e = inl (refl, let f : names ≡ x ∷ [] = cc in f)
 by_shape (Some Hmac) (x ∷ y ∷ xs) names e = absurd cc
 by_shape (Some Cmac) [] names e = absurd cc
-by_shape (Some Cmac) (x ∷ []) names e = inl (λ z. absurd cc, let f : names ≡ x ∷ [] = cc in f)
+by_shape (Some Cmac) (x ∷ []) names e = inl (refl, let f : names ≡ x ∷ [] = cc in f)
 by_shape (Some Cmac) (x ∷ y ∷ xs) names e = absurd cc
 by_shape (Some Authenc) [] names e = absurd cc
 by_shape (Some Authenc) (x ∷ []) names e = absurd cc
-by_shape (Some Authenc) (x ∷ y ∷ []) names e = inl (λ z. absurd cc, let f : names ≡ x ∷ y ∷ [] = cc in f)
+by_shape (Some Authenc) (x ∷ y ∷ []) names e = inl (refl, let f : names ≡ x ∷ y ∷ [] = cc in f)
 by_shape (Some Authenc) (x ∷ y ∷ z ∷ xs) names e = absurd cc
 by_shape (Some Pcrypt) [] names e = absurd cc
-by_shape (Some Pcrypt) (x ∷ []) names e = inl (λ z. absurd cc, let f : names ≡ x ∷ [] = cc in f)
+by_shape (Some Pcrypt) (x ∷ []) names e = inl (refl, let f : names ≡ x ∷ [] = cc in f)
 by_shape (Some Pcrypt) (x ∷ y ∷ xs) names e = absurd cc
 by_shape (Some Cryptd) [] names e = absurd cc
-by_shape (Some Cryptd) (x ∷ []) names e = inl (λ z. absurd cc, let f : names ≡ x ∷ [] = cc in f)
+by_shape (Some Cryptd) (x ∷ []) names e = inl (refl, let f : names ≡ x ∷ [] = cc in f)
 by_shape (Some Cryptd) (x ∷ y ∷ xs) names e = absurd cc
 by_shape (Some CryptdPcrypt) [] names e = absurd cc
 by_shape (Some CryptdPcrypt) (x ∷ []) names e = inr (inr (refl, x, refl, one_only (args_of x) names e))
@@ -164,13 +168,14 @@ inner_bare w (x ∷ []) e =
 inner_bare w (x ∷ y ∷ xs) e = refl
 
 -- and so has what isn't `cryptd` over `pcrypt` alone
-inner_own : (w : List ℕ) (xs : List Tree) → (template_over w xs ≡ Some CryptdPcrypt → ⊥) → inner_args w xs ≡ xs
+inner_own : (w : List ℕ) (xs : List Tree) → is_chain (template_over w xs) ≡ false → inner_args w xs ≡ xs
 inner_own w [] other = refl
 inner_own w (x ∷ []) other = by_test (bytes_eq w (codes "cryptd") && bytes_eq (word_of x) (codes "pcrypt")) refl
   where
     by_test : (b : Bool) → (bytes_eq w (codes "cryptd") && bytes_eq (word_of x) (codes "pcrypt")) ≡ b → (if b then args_of x else x ∷ []) ≡ x ∷ []
     by_test true e =
-        absurd (other (is_queued w x (left_true (bytes_eq w (codes "cryptd")) (bytes_eq (word_of x) (codes "pcrypt")) e) (right_true (bytes_eq w (codes "cryptd")) (bytes_eq (word_of x) (codes "pcrypt")) e)))
+        let queued = is_queued w x (left_true (bytes_eq w (codes "cryptd")) (bytes_eq (word_of x) (codes "pcrypt")) e) (right_true (bytes_eq w (codes "cryptd")) (bytes_eq (word_of x) (codes "pcrypt")) e) in
+        let f : true ≡ false = sym (ap is_chain queued) ∙ other in absurd cc
     by_test false e = refl
 inner_own w (x ∷ y ∷ xs) other = refl
 
@@ -205,8 +210,7 @@ within_none w xs names s nested =
 -- nor in the arguments of the `gcm` that asks for its parts
 gcm_own : (w : List ℕ) (ts : Args) → template_over w (list_of ts) ≡ Some Gcm → is_nested_well (node w ts) ≡ true → not (any_wrapper ts) ≡ true
 gcm_own w ts e nested =
-    let other : template_over w (list_of ts) ≡ Some CryptdPcrypt → ⊥ = λ z. absurd (let f : Some Gcm ≡ Some CryptdPcrypt = sym e ∙ z in cc) in
-    ap (λ us. not (any_wrapper us)) (sym (ap args_from (inner_own w (list_of ts) other) ∙ args_from-list_of ts)) ∙ nested
+    ap (λ us. not (any_wrapper us)) (sym (ap args_from (inner_own w (list_of ts) (ap is_chain e)) ∙ args_from-list_of ts)) ∙ nested
 
 gcm_nested : (x : Tree) → not (any_wrapper (arg x end)) ≡ true → (i : ℕ) (u : Tree) → i < 2 → u ≡ get_or (node (codes "ctr") (arg x end) ∷ node (codes "ghash") end ∷ []) i u → is_nested_well u ≡ true
 gcm_nested x e zero u lt is = ap is_nested_well is ∙ e

@@ -33,9 +33,7 @@ fn inner_args(name: &Name) -> &[Name]
     ensures { result.now ≡ inner_args (word_of name.now) (args_of name.now) }
 {
     match name.args() {
-        [only]
-            if name.word() == b"cryptd".as_slice() && only.word() == b"pcrypt".as_slice() =>
-        {
+        [only] if name.word() == b"cryptd".as_slice() && only.word() == b"pcrypt".as_slice() => {
             only.args()
         }
         args => args,
