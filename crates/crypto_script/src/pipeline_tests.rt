@@ -108,6 +108,46 @@ fn only_queues_are_held(rt: HostRuntime) -> Result<(), Fail> {
 }
 
 #[test]
+fn a_held_chain_takes_in_no_more_than_fits(rt: HostRuntime) -> Result<(), Fail> {
+    let alloc = rt.alloc();
+    let script = format!(in alloc;
+        "alloc q cryptd(pcrypt(gcm(aes))) 2\nkey q {ZEROS}\nhold q\nenc q {NONCE} - {ZEROS}\nenc q {NONCE} - {ZEROS}\nenc q {NONCE} - {ZEROS} backlog\nenc q {NONCE} - {ZEROS}\ndrain q\ngo q\ndrain q\n"
+    )?;
+    let text = format!(in alloc;
+        "1 ok cryptd(pcrypt({GCM_DRIVER}))\n2 ok\n3 ok\n4 EINPROGRESS\n5 EINPROGRESS\n6 EBUSY\n7 ENOSPC\n8 EINVAL\n9 ok\n6 started\n4 done {SEALED}\n5 done {SEALED}\n6 done {SEALED}\n10 drained 3\n"
+    )?;
+    expect(&rt, alloc, script.as_str(), 0, text.as_str())?;
+    Ok(())
+}
+
+#[test]
+fn wrappers_below_a_root_are_refused(rt: HostRuntime) -> Result<(), Fail> {
+    let alloc = rt.alloc();
+    // what a name stood on that was refused for its kind stays listed; a chain takes no mask
+    let script =
+        "alloc q pcrypt(cryptd(gcm(aes)))\nalloc q cryptd(cryptd(gcm(aes)))\nalloc q pcrypt(pcrypt(gcm(aes)))\nalloc q cryptd(pcrypt(cbc(aes)))\nalloc q cryptd(pcrypt)\nalloc q cryptd(pcrypt(gcm(aes),aes))\nalloc q cryptd(pcrypt(gcm(aes)),aes)\nalloc q cbc(cryptd(pcrypt(aes)))\nalloc q cryptd(pcrypt(des))\nalloc q cryptd(pcrypt(gcm(aes))) 4097\nalloc q cryptd(pcrypt(gcm(aes)))\nmask q 0001\nmask q 0000\nlist\n";
+    let text = format!(in alloc;
+        "1 EINVAL\n2 EINVAL\n3 EINVAL\n4 EINVAL\n5 EINVAL\n6 EINVAL\n7 EINVAL\n8 EINVAL\n9 ENOENT\n10 EINVAL\n11 ok cryptd(pcrypt({GCM_DRIVER}))\n12 EINVAL\n13 EINVAL\n14 alg aes aes-generic 100 2\n14 alg sha256 sha256-generic 100 0\n14 alg ghash ghash-generic 100 1\n14 alg cbc(aes) cbc(aes-generic) 100 0\n14 alg ctr(aes) ctr(aes-generic) 100 1\n14 alg gcm(aes) {GCM_DRIVER} 100 1\n14 alg gcm(aes) cryptd(pcrypt({GCM_DRIVER})) 250 1\n14 listed 7\n"
+    )?;
+    expect(&rt, alloc, script, 0, text.as_str())?;
+    Ok(())
+}
+
+#[test]
+fn a_chain_completes_in_order(rt: HostRuntime) -> Result<(), Fail> {
+    let alloc = rt.alloc();
+    // one has a wrong tag; the last is held, and comes at the end of input
+    let script = format!(in alloc;
+        "alloc q cryptd(pcrypt(gcm(aes))) 4\nkey q {ZEROS}\nenc q {NONCE} - {ZEROS}\ndec q {NONCE} - {SEALED}\ndec q {NONCE} - {ZEROS}\nenc q {NONCE} - {ZEROS}\ndrain q\nhold q\nenc q {NONCE} - {ZEROS}\nfree q\ngo q\n"
+    )?;
+    let text = format!(in alloc;
+        "1 ok cryptd(pcrypt({GCM_DRIVER}))\n2 ok\n3 EINPROGRESS\n4 EINPROGRESS\n5 EINPROGRESS\n6 EINPROGRESS\n3 done {SEALED}\n4 done {ZEROS}\n5 fail EBADMSG\n6 done {SEALED}\n7 drained 4\n8 ok\n9 EINPROGRESS\n10 EBUSY\n11 ok\n9 done {SEALED}\nend q 1\n"
+    )?;
+    expect(&rt, alloc, script.as_str(), 0, text.as_str())?;
+    Ok(())
+}
+
+#[test]
 fn a_mask_that_changes_leaves_what_was_accepted(rt: HostRuntime) -> Result<(), Fail> {
     let alloc = rt.alloc();
     let script = format!(in alloc;

@@ -15,6 +15,7 @@ pub mod Determined
 pub mod Naming
 pub mod Lightness
 pub mod Answering
+pub mod InLine
 pub mod Notices
 pub mod Pipelines
 pub mod Posting

@@ -1,5 +1,5 @@
 -- A board's history goes on by the script's calls and by work, and the plain pipelines with it.
-use Rattle.std.proofs.Common.{◌≡◌, ◌≢◌, ℕ, zero, suc, ◌+◌, ◌<◌, ◌≤◌, ◌⊎◌, inl, inr, Bool, true, false, ◌||◌, ◌&&◌, List, [], ◌∷◌, ◌++◌, length, set, refl, ap, sym, ◌∙◌, subst, arith, Option, Some, None, is_some, append-nil, append_assoc, length-append}
+use Rattle.std.proofs.Common.{◌≡◌, ◌≢◌, ℕ, zero, suc, ◌+◌, ◌<◌, ◌≤◌, ◌⊎◌, inl, inr, Bool, true, false, ◌&&◌, List, [], ◌∷◌, ◌++◌, length, set, refl, ap, sym, ◌∙◌, subst, arith, Option, Some, None, is_some, append-nil, append_assoc, length-append}
 use Rattle.std.specs.Prelude.{slice_get, ◌==◌}
 use Rattle.std.specs.List.{filter_map}
 use Rattle.std.specs.Option.{option_map_or}
@@ -12,7 +12,7 @@ use Rattle.board.specs.declared.entry.Entered.{Entered}
 use Rattle.board.specs.declared.entry.Entered.TheVariants.{InProgress, Busy, NoSpace}
 use Rattle.board.specs.declared.entry.BoardEntry.{BoardEntry}
 use Rattle.board.specs.declared.entry.BoardEntry.TheVariants.{Born, Submit, Take, Finish, Enq, Deq, Done, Hold, Go, Collect, Close, Share, Mask, Shut}
-use Rattle.board.specs.Shapes.{is_pad, is_chain, is_serial, has_line, is_born}
+use Rattle.board.specs.Shapes.{is_pad, has_line}
 use Rattle.board.specs.Entries.{is_of, entries_of, birth_in, birth, accepted_in, submissions, front, is_held, delivered}
 use Rattle.board.specs.Handing.{is_collect}
 use Rattle.board.specs.Legal.{IsRight, IsRightFor, LegalBoard, AreRightAfter, pipelines}
@@ -20,15 +20,14 @@ use Rattle.board.specs.Order.{handed_out, completed, AreAllFinished}
 use Rattle.board.specs.Staying.{is_work}
 use Rattle.transforms.specs.declared.ask.Ask.{Ask}
 use Rattle.dialogues.specs.BoardCalls.{BoardCall, Creates, Submits, Enqueues, Holds, Goes, Closes, Masks, asked_by, outcome}
-use Rattle.plain_calls.specs.Pipelines.{Pipeline, next_number, asked_more, now_held, let_go, all_delivered, at_pipe, at_pipe_by, pipelines_after, verdict_of}
+use Rattle.plain_calls.specs.Pipelines.{Pipeline, new_pipeline, next_number, asked_more, now_held, let_go, all_delivered, at_pipe, at_pipe_by, pipelines_after, verdict_of}
 use Rattle.plain_calls.proofs.Callbacks.{drained_from}
-use Rattle.dialogues.specs.Allocating.{bound_of}
 use Rattle.plain_calls.specs.Pipelines.{has_room}
 use Rattle.plain_calls.specs.Laws.{ThereIs, IsTimelessCall, IsToldBy}
 use Rattle.plain_calls.proofs.Growing.{filter_map-none, filter_map-some, length-numbers}
-use Rattle.plain_calls.proofs.Behaving.{BoardLaws, Behaves, behaves, held_same, born_some, maker_born, only_pad, only_queue}
+use Rattle.plain_calls.proofs.Behaving.{BoardLaws, behaves, held_same, born_some, maker_born}
 use Rattle.plain_calls.proofs.Standing.{is_all_done, IsPipelineOf, ArePipelinesOf}
-use Rattle.plain_calls.proofs.Pipelines.{owed_count, on_pad, submitted, entered, dequeued, done_one, held_now, let_go_now, left_alone, delivers, collected_now, born_now, waits_as}
+use Rattle.plain_calls.proofs.Pipelines.{owed_count, on_lists, submitted, entered, dequeued, done_one, held_now, let_go_now, left_alone, delivers, collected_now, born_now, waits_as}
 
 -- ---- lists of pipelines
 
@@ -126,8 +125,8 @@ if_there pipelines b p P are born f = by (slice_get pipelines p) refl (born_ther
     by None e t = absurd (let g : None ≡ Some t.0 = sym e ∙ t.1 in cc)
     by (Some pipeline) e t = f pipeline e
 
-roomy_there : (pipelines : List Pipeline) (p : ℕ) (pipeline : Pipeline) → slice_get pipelines p ≡ Some pipeline → option_map_or has_room (slice_get pipelines p) true ≡ true → has_room pipeline ≡ true
-roomy_there pipelines p pipeline some e = sym (ap (λ o. option_map_or has_room o true) some) ∙ e
+roomy_there : (backlog : Bool) (pipelines : List Pipeline) (p : ℕ) (pipeline : Pipeline) → slice_get pipelines p ≡ Some pipeline → option_map_or (has_room backlog) (slice_get pipelines p) true ≡ true → has_room backlog pipeline ≡ true
+roomy_there backlog pipelines p pipeline some e = sym (ap (λ o. option_map_or (has_room backlog) o true) some) ∙ e
 
 module _ (laws : BoardLaws) where
   bare_still : (pipelines : List Pipeline) (b : List (BoardEntry Ask)) (e : BoardEntry Ask) (p : ℕ) → IsAt b e p → ArePipelinesOf pipelines b → (q : ℕ) → length pipelines ≤ q → entries_of q (b ++ e ∷ []) ≡ []
@@ -199,22 +198,22 @@ module _ (laws : BoardLaws) where
       let at : p ≡ length pipelines = r.0 ∙ sym are.count in (
         record {
           count = length-append pipelines (_ ∷ []) ∙ (ap (λ n. n + 1) are.count ∙ sym (ap length (filter_map-some birth_in b e (by, shape) refl) ∙ length-append (filter_map birth_in b) ((by, shape) ∷ [])));
-          each = λ q pipeline found. each q pipeline still at (get_last pipelines q (record { bound = bound_of shape; delivered = 0; undelivered = []; held_throughout = false }) pipeline found);
+          each = λ q pipeline found. each q pipeline at (get_last pipelines q (new_pipeline shape) pipeline found);
           bare = λ q le.
-              let l : length pipelines + 1 ≤ q = omega (arith, le, length-append pipelines (record { bound = bound_of shape; delivered = 0; undelivered = []; held_throughout = false } ∷ [])) in
+              let l : length pipelines + 1 ≤ q = omega (arith, le, length-append pipelines (new_pipeline shape ∷ [])) in
               laws.leaves b e q (laws.one e p q (own_pipe p) (λ s. absurd (omega (arith, s, at, l)))) ∙ are.bare q (omega (arith, l));
         },
         at,
       )
     where
-      each : (q : ℕ) (pipeline : Pipeline) → is_chain shape ≡ false → p ≡ length pipelines → ((q < length pipelines) × (slice_get pipelines q ≡ Some pipeline)) ⊎ ((q ≡ length pipelines) × (pipeline ≡ record { bound = bound_of shape; delivered = 0; undelivered = []; held_throughout = false })) → IsPipelineOf pipeline (entries_of q (b ++ Born by p shape ∷ []))
-      each q pipeline plain at (inl f) =
+      each : (q : ℕ) (pipeline : Pipeline) → p ≡ length pipelines → ((q < length pipelines) × (slice_get pipelines q ≡ Some pipeline)) ⊎ ((q ≡ length pipelines) × (pipeline ≡ new_pipeline shape)) → IsPipelineOf pipeline (entries_of q (b ++ Born by p shape ∷ []))
+      each q pipeline at (inl f) =
           let e : BoardEntry Ask = Born by p shape in
           subst (λ es. IsPipelineOf pipeline es) (sym (laws.leaves b e q (laws.one e p q (own_pipe p) (λ s. absurd (omega (arith, s, at, f.0)))))) (are.each q pipeline f.1)
-      each q pipeline plain at (inr f) =
+      each q pipeline at (inr f) =
           subst (λ n. IsPipelineOf pipeline (entries_of n (b ++ Born by p shape ∷ []))) (at ∙ sym f.0)
           (subst (λ x. IsPipelineOf x (entries_of p (b ++ Born by p shape ∷ []))) (sym f.1)
-          (subst (λ es. IsPipelineOf (record { bound = bound_of shape; delivered = 0; undelivered = []; held_throughout = false }) es) (sym (laws.joins b (Born by p shape) p (own_pipe p))) (born_now laws (entries_of p b) by p shape plain r.1.1)))
+          (subst (λ es. IsPipelineOf (new_pipeline shape) es) (sym (laws.joins b (Born by p shape) p (own_pipe p))) (born_now laws (entries_of p b) by p shape r.1.1)))
 
   pub at_pipe_of : (b : List (BoardEntry Ask)) (e : BoardEntry Ask) (p : ℕ) → is_of p e ≡ true → birth_in e ≡ None → IsRight b e → IsAt b e p
   at_pipe_of b e p here unborn r = record { here = here; unborn = unborn; right = laws.alone b e p here r }
@@ -230,16 +229,16 @@ module _ (laws : BoardLaws) where
   pub moves_enter : (pipelines : List Pipeline) (b : List (BoardEntry Ask)) (by p : ℕ) (ask : Arc Ask Global) (backlog : Bool) (a : Entered) → LegalBoard b → IsRight b (Enq by p ask backlog a) → ArePipelinesOf pipelines b → Moves pipelines b (Enq by p ask backlog a) (Some (Enqueues p (asked_by (arc_value ask)) backlog a))
   moves_enter pipelines b by p ask backlog a legal r are still = (
     by_answer a r still,
-    if_there pipelines b p (λ (pipeline : Pipeline). a ≡ verdict_of backlog pipeline) are (born_some has_line (birth (entries_of p b)) r.1.1.0) (λ pipeline some. r.1.2 ∙ waits_as laws (entries_of p b) pipeline backlog (behaves laws b p legal) (only_queue (birth (entries_of p b)) (are.each p pipeline some).unchained r.1.1.0) (roomy_there pipelines p pipeline some still) (are.each p pipeline some)),
+    if_there pipelines b p (λ (pipeline : Pipeline). a ≡ verdict_of backlog pipeline) are (born_some has_line (birth (entries_of p b)) r.1.1.0) (λ pipeline some. r.1.2 ∙ waits_as laws (entries_of p b) pipeline backlog (behaves laws b p legal) r.1.1.0 (roomy_there backlog pipelines p pipeline some still) (are.each p pipeline some)),
   )
     where
-      accepts : (x : Entered) → IsRight b (Enq by p ask backlog x) → accepted_in (Enq by p ask backlog x) ≡ Some (arc_value ask) → option_map_or has_room (slice_get pipelines p) true ≡ true → ArePipelinesOf (at_pipe (asked_more (asked_by (arc_value ask))) p pipelines) (b ++ Enq by p ask backlog x ∷ [])
+      accepts : (x : Entered) → IsRight b (Enq by p ask backlog x) → accepted_in (Enq by p ask backlog x) ≡ Some (arc_value ask) → option_map_or (has_room backlog) (slice_get pipelines p) true ≡ true → ArePipelinesOf (at_pipe (asked_more (asked_by (arc_value ask))) p pipelines) (b ++ Enq by p ask backlog x ∷ [])
       accepts x r' in_it m =
           let e : BoardEntry Ask = Enq by p ask backlog x in
           pipes_at pipelines b e p (asked_more (asked_by (arc_value ask))) (at_pipe_of b e p (own_pipe p) refl r') are
-          (λ pipeline some o. entered laws (entries_of p b) e (arc_value ask) pipeline (only_queue (birth (entries_of p b)) o.unchained r'.1.1.0) (handed_still b e p (own_pipe p) refl) in_it refl refl refl refl (held_same (entries_of p b) e refl) (roomy_there pipelines p pipeline some m) o)
+          (λ pipeline some o. entered laws (entries_of p b) by p ask backlog x pipeline (behaves laws b p legal) r'.1.1.0 r'.1.2 (handed_still b e p (own_pipe p) refl) in_it (held_same (entries_of p b) e refl) (roomy_there backlog pipelines p pipeline some m) o)
 
-      by_answer : (x : Entered) → IsRight b (Enq by p ask backlog x) → option_map_or has_room (slice_get pipelines p) true ≡ true → ArePipelinesOf (pipelines_after pipelines (Enqueues p (asked_by (arc_value ask)) backlog x)) (b ++ Enq by p ask backlog x ∷ [])
+      by_answer : (x : Entered) → IsRight b (Enq by p ask backlog x) → option_map_or (has_room backlog) (slice_get pipelines p) true ≡ true → ArePipelinesOf (pipelines_after pipelines (Enqueues p (asked_by (arc_value ask)) backlog x)) (b ++ Enq by p ask backlog x ∷ [])
       by_answer (InProgress n) r' m = accepts (InProgress n) r' refl m
       by_answer (Busy n) r' m = accepts (Busy n) r' refl m
       by_answer NoSpace r' m =
@@ -251,7 +250,7 @@ module _ (laws : BoardLaws) where
   moves_hold pipelines b by p legal r are still =
       let e : BoardEntry Ask = Hold by p in (
         pipes_at pipelines b e p now_held (at_pipe_of b e p (own_pipe p) refl r) are
-            (λ pipeline some o. held_now laws (entries_of p b) by p pipeline (behaves laws b p legal) (only_queue (birth (entries_of p b)) o.unchained r.1.1.0) (handed_still b e p (own_pipe p) refl) (ap is_held (sym (laws.joins b e p (own_pipe p))) ∙ (laws.holds b by p).0) o),
+            (λ pipeline some o. held_now laws (entries_of p b) by p pipeline (behaves laws b p legal) r.1.1.0 (handed_still b e p (own_pipe p) refl) (ap is_held (sym (laws.joins b e p (own_pipe p))) ∙ (laws.holds b by p).0) o),
         tt,
       )
 
@@ -305,10 +304,10 @@ module _ (laws : BoardLaws) where
   pub moves_work : (pipelines : List Pipeline) (b : List (BoardEntry Ask)) (e : BoardEntry Ask) → LegalBoard b → IsRight b e → is_work e ≡ true → ArePipelinesOf pipelines b → ArePipelinesOf pipelines (b ++ e ∷ [])
   moves_work pipelines b (Take by p n) legal r work are =
       let e : BoardEntry Ask = Take by p n in
-      pipes_same pipelines b e p (at_pipe_of b e p (own_pipe p) refl r) are (λ pipeline o. on_pad laws (entries_of p b) e pipeline (only_pad (birth (entries_of p b)) o.unchained r.1.0.0) (handed_still b e p (own_pipe p) refl) refl o)
+      pipes_same pipelines b e p (at_pipe_of b e p (own_pipe p) refl r) are (λ pipeline o. on_lists laws (entries_of p b) e pipeline r.1.0.0 (handed_still b e p (own_pipe p) refl) refl refl (held_same (entries_of p b) e refl) o)
   moves_work pipelines b (Finish by p n) legal r work are =
       let e : BoardEntry Ask = Finish by p n in
-      pipes_same pipelines b e p (at_pipe_of b e p (own_pipe p) refl r) are (λ pipeline o. on_pad laws (entries_of p b) e pipeline (only_pad (birth (entries_of p b)) o.unchained r.1.0) (handed_still b e p (own_pipe p) refl) refl o)
+      pipes_same pipelines b e p (at_pipe_of b e p (own_pipe p) refl r) are (λ pipeline o. on_lists laws (entries_of p b) e pipeline r.1.0 (handed_still b e p (own_pipe p) refl) refl refl (held_same (entries_of p b) e refl) o)
   moves_work pipelines b (Deq by p n started) legal r work are =
       let e : BoardEntry Ask = Deq by p n started in
       pipes_same pipelines b e p (at_pipe_of b e p (own_pipe p) refl r) are (λ pipeline o. dequeued laws (entries_of p b) by p n started pipeline (behaves laws b p legal) r.1 (handed_still b e p (own_pipe p) refl) o)

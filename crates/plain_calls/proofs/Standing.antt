@@ -1,12 +1,12 @@
 -- When the plain pipelines are those of a board's history.
-use Rattle.std.specs.Prelude.{ℕ, zero, suc, ◌+◌, ◌≡◌, ◌≤◌, ◌⊎◌, Bool, true, false, ◌||◌, ◌==◌, nat_lt, if◌then◌else◌, List, [], ◌∷◌, ◌++◌, length, map, drop, slice_get, Option, Some, None}
+use Rattle.std.specs.Prelude.{ℕ, zero, suc, ◌+◌, ◌≡◌, ◌≤◌, ◌⊎◌, Bool, true, ◌||◌, ◌==◌, nat_lt, if◌then◌else◌, List, [], ◌∷◌, ◌++◌, length, map, drop, slice_get, Option, Some, None}
 use Rattle.std.specs.List.{filter_map}
 use Rattle.board.specs.declared.entry.BoardEntry.{BoardEntry}
 use Rattle.board.specs.declared.entry.Shape.{Shape}
 use Rattle.board.specs.Shapes.{is_chain, is_born, queue_born, line_born, max_born}
-use Rattle.board.specs.Entries.{Notice, Starts, Completes, entries_of, birth, submissions, dequeued, finished, front, told, collected, is_held, caller_of}
+use Rattle.board.specs.Entries.{Notice, Starts, Completes, entries_of, birth, submissions, dequeued, finished, front, collected, is_held, caller_of}
 use Rattle.board.specs.Legal.{pipelines}
-use Rattle.board.specs.Order.{handed_out, completed, started, step_tells}
+use Rattle.board.specs.Order.{handed_out, completed, backlogged, step_tells}
 use Rattle.board.specs.Staying.{is_work}
 use Rattle.transforms.specs.declared.ask.Ask.{Ask}
 use Rattle.dialogues.specs.Allocating.{bound_of}
@@ -38,8 +38,8 @@ pub record IsUntold (max total first done taken : ℕ) (ns : List Notice) : Type
 
 -- ---- pipelines
 
--- The plain pipeline is the one with these entries. A chain accepted no more than fit its queue behind what was handed out, so it
--- never told that a request has started.
+-- The plain pipeline is the one with these entries. A chain accepted no more than fit its queue behind what was handed out, and
+-- nothing into its backlog.
 pub record IsPipelineOf (pipeline : Pipeline) (es : List (BoardEntry Ask)) : Type 0 where
   pub chained : is_born is_chain (birth es) ≡ pipeline.chained
   pub bound : bound_born (birth es) ≡ pipeline.bound
@@ -48,7 +48,7 @@ pub record IsPipelineOf (pipeline : Pipeline) (es : List (BoardEntry Ask)) : Typ
   pub asks : map asked_by (drop pipeline.delivered (submissions es)) ≡ pipeline.undelivered
   pub untold : queue_born (birth es) ≡ true
       → IsUntold (max_born (birth es)) (length (submissions es)) pipeline.delivered (length (finished es)) (dequeued es) (drop (collected es) (filter_map step_tells es))
-  pub calm : pipeline.chained ≡ true → (length (submissions es) ≤ pipeline.delivered + max_born (birth es)) × (started (told es) ≡ [])
+  pub calm : pipeline.chained ≡ true → (length (submissions es) ≤ pipeline.delivered + max_born (birth es)) × (backlogged es ≡ [])
   pub steady : pipeline.held_throughout ≡ true → (line_born (birth es) ≡ true) × (is_held es ≡ true) × (dequeued es ≡ pipeline.delivered)
 
 -- the plain pipelines are those of the history, by their numbers

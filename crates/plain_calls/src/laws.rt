@@ -6,6 +6,7 @@ use alg_names::laws::{computed_tree, named_arguments};
 use board::{
     collects_hand_out_all, completions_in_order, entries_join, entries_leave, fronts_tell_all,
     histories_go_on, numbers_in_order, only_collects_hand_out, pads_and_queues_tell, queues_hold,
+    starts_of_the_backlog,
 };
 use templates::laws::names_in_the_table;
 use transforms::Ask;
@@ -31,6 +32,7 @@ pub fn replies_are_plain()
     queues_hold::<Ask>();
     pads_and_queues_tell::<Ask>();
     completions_in_order::<Ask>();
+    starts_of_the_backlog::<Ask>();
     collects_hand_out_all::<Ask>();
     fronts_tell_all::<Ask>();
     numbers_in_order::<Ask>();

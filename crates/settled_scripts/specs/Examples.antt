@@ -125,6 +125,40 @@ held_first_kinds =
     ∷ Started 6 ∷ Done 4 ∷ Done 5 ∷ Done 6 ∷ Drained 10 3
     ∷ []
 
+-- ---- chains
+
+-- a chain of two
+abbrev pub chain : List Line
+chain = Cmd (Alloc (codes "q") (codes "cryptd(pcrypt(gcm(aes)))") (Some 2)) ∷ Cmd (Key (codes "q") (replicate 16 0)) ∷ []
+
+abbrev pub sealing_on_chain : Bool → Line
+sealing_on_chain backlog = Cmd (Enc (codes "q") (replicate 12 0) [] (in_one (replicate 16 0)) backlog)
+
+abbrev pub held_chain : List Line
+held_chain =
+    chain
+    ++ Cmd (Hold (codes "q"))
+    ∷ sealing_on_chain false ∷ sealing_on_chain true ∷ sealing_on_chain false
+    ∷ Cmd (Go (codes "q"))
+    ∷ Cmd (Drain (codes "q"))
+    ∷ []
+
+abbrev pub held_chain_kinds : List Kind
+held_chain_kinds =
+    Other ∷ Other ∷ Other
+    ∷ Refused 4 EINPROGRESS ∷ Refused 5 EINPROGRESS ∷ Refused 6 ENOSPC
+    ∷ Other
+    ∷ Done 4 ∷ Done 5 ∷ Drained 8 2
+    ∷ []
+
+-- whether the fourth is told to have started before the first is completed depends on who works
+abbrev pub backlog_of_chain : List Line
+backlog_of_chain =
+    chain
+    ++ Cmd (Hold (codes "q"))
+    ∷ sealing_on_chain false ∷ sealing_on_chain false ∷ sealing_on_chain true ∷ sealing_on_chain true
+    ∷ []
+
 -- ---- masks
 
 -- a pad, and a mask of it between requests

@@ -16,10 +16,14 @@ returns c =
       holds = c.queues_hold.ensures.held;
       pads = c.pads_and_queues_tell.ensures.pads;
       queues = c.pads_and_queues_tell.ensures.queues;
+      order = c.completions_in_order.ensures.in_order;
       handed = c.completions_in_order.ensures.front_of;
+      waits = c.completions_in_order.ensures.waits;
+      starts = c.starts_of_the_backlog.ensures.alone;
       all_out = c.collects_hand_out_all.ensures;
       front_all = c.fronts_tell_all.ensures.all;
       leave = c.numbers_in_order.ensures.leave;
+      passed = c.numbers_in_order.ensures.front;
       serial = c.numbers_in_order.ensures.serial;
     } in
     plain laws

@@ -37,6 +37,18 @@ pub returns-clause-polling : goal.returns-clause-polling
 unfolding table template_named tree_of weight
 returns-clause-polling c = λ settled. absurd (let e = settled.timeless in cc)
 
+pub returns-clause-held_chain : goal.returns-clause-held_chain
+unfolding table template_named tree_of weight
+returns-clause-held_chain c = record { lines_settled = refl; timeless = refl }
+
+pub returns-clause-held_chain_answers : goal.returns-clause-held_chain_answers
+unfolding table template_named tree_of weight request_value
+returns-clause-held_chain_answers c = refl
+
+pub returns-clause-backlog_of_chain : goal.returns-clause-backlog_of_chain
+unfolding table template_named tree_of weight
+returns-clause-backlog_of_chain c = λ settled. absurd (let e = settled.timeless in cc)
+
 pub returns-clause-masked : goal.returns-clause-masked
 unfolding table template_named tree_of weight
 returns-clause-masked c = record { lines_settled = refl; timeless = refl }
