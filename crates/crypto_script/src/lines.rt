@@ -19,7 +19,8 @@ use crew::Gate;
 use dialogues::{
     board_calls_go_on, calls_at_once, calls_in_turn, lines_lead, registry_calls_go_on, turns_follow,
 };
-use kc_base::{Bytes, Sink, SinkError, Source, write_piece};
+use kc_base::{Sink, SinkError, Source, write_piece};
+use reply_text::Reply;
 use script_session::Session;
 use script_text::{Line, LineReader, whole_lines_stay};
 use session_calls::Stop;
@@ -61,17 +62,17 @@ fn reply_to<G: Gate, R: Threads + Wait + Sync>(
     session: &mut Session,
     number: u32,
     line: Line,
-) -> Result<(Bytes, bool), AllocError>
+) -> Result<(Reply, bool), AllocError>
     requires ready { IsReady registry.now board.now session.old }
     requires short { IsShortLine line }
     ensures done { MatchResult result
-        (λ reply. Replies (width_of line) (line_dialogue session.old.workers session.old.walk number line) session.old session.new [] reply.0)
+        (λ reply. Replies (width_of line) (line_dialogue session.old.workers session.old.walk number line) session.old session.new [] reply.0.text)
         (λ _. GoesOn session.old session.new) }
     ensures ready { OnOk result (IsReady registry.now board.now session.new) }
     ensures unshut { (known session.new.board).number ≡ 0 → is_shut (known session.new.board).seen ≡ false }
     ensures malformed { IfOk result (λ reply. reply.1 ≡ is_malformed line) }
 {
-    let mut reply = Bytes::new(alloc);
+    let mut reply = Reply::new(alloc);
     match session.line(rt, board, registry, gate, number, &line, &mut reply) {
         Ok(()) => Ok((reply, is_malformed_line(&line))),
         Err(Stop::Memory) => Err(AllocError),
@@ -86,16 +87,16 @@ fn reply_to_end<G: Gate, R: Wait>(
     registry: &SharedRegistry,
     gate: &G,
     session: &mut Session,
-) -> Result<Bytes, AllocError>
+) -> Result<Reply, AllocError>
     requires ready { IsReady registry.now board.now session.old }
     requires first { (known session.old.board).number ≡ 0 }
     ensures done { MatchResult result
-        (λ reply. AnswersEnd session.old session.new [] reply)
+        (λ reply. AnswersEnd session.old session.new [] reply.text)
         (λ _. GoesOn session.old session.new) }
     ensures shut { OnOk result (EndsShut (known session.new.board)) }
     ensures unshut { IsUnshutOrEnds (known session.new.board) }
 {
-    let mut reply = Bytes::new(alloc);
+    let mut reply = Reply::new(alloc);
     match session.end(rt, board, gate, &mut reply) {
         Ok(()) => Ok(reply),
         Err(Stop::Memory) => Err(AllocError),

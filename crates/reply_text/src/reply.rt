@@ -1,6 +1,6 @@
 //! A reply, and the room for more of it.
 
-ghost use Rattle.std.specs.Prelude.{◌≡◌, ◌+◌, ◌*◌, ◌^◌, ◌<◌, ◌≤◌, [], ◌++◌, length, IsOk, OnOk, OnErr};
+ghost use Rattle.std.specs.Prelude.{◌≡◌, ◌+◌, ◌*◌, ◌^◌, ◌<◌, ◌≤◌, [], ◌++◌, length, take, IsOk, OnOk, OnErr};
 ghost use Rattle.hex.specs.Hex.{encode_lower};
 
 use std::alloc::{AllocError, Global};
@@ -40,6 +40,21 @@ impl Reply {
         ensures { result.now ≡ self.now.text }
     {
         &self.text
+    }
+
+    /// How many bytes the text has.
+    pub fn len(&self) -> usize
+        ensures { result ≡ length self.now.text }
+    {
+        self.text.len()
+    }
+
+    /// Keeps the first `len` bytes of the text, all where it has no more. The room for the others is kept.
+    pub fn truncate(&mut self, len: usize)
+        ensures text { self.new.text ≡ take len self.old.text }
+        ensures room { self.old.spare ≤ self.new.spare }
+    {
+        self.text.truncate(len);
     }
 
     /// Takes the room for `more` further bytes at least, where it isn't there. Want of memory leaves all as it was.

@@ -1,6 +1,6 @@
 //! Answers of lines.
 
-ghost use Rattle.std.specs.Prelude.{◌≡◌, ◌++◌, ◌∷◌, [], ℕ, Option as Perhaps, is_some, OnOk, OnErr};
+ghost use Rattle.std.specs.Prelude.{◌≡◌, ◌++◌, ◌∷◌, [], ℕ, Option as Perhaps, is_some, length, take, OnOk, OnErr};
 ghost use Rattle.std.specs.List.{flat_map};
 ghost use Rattle.reply_text.specs.Answers.{text_of};
 ghost use Rattle.dialogues.specs.Registering.{enlist_said, unlist_said, refs_said};
@@ -8,10 +8,10 @@ ghost use Rattle.dialogues.specs.Requesting.{value_said};
 ghost use Rattle.transforms.specs.Finish.{finished_value};
 
 use alg_registry::{Enlisted, RefAnswer};
-use kc_base::{Bytes, Errno};
-use reply_text::{Answer, put};
+use kc_base::Errno;
+use reply_text::{Answer, Reply};
 use session_calls::Stop;
-use std::alloc::{AllocError, Global};
+use std::alloc::AllocError;
 use transforms::Finished;
 
 /// Adds an answer.
@@ -94,14 +94,26 @@ pub fn refs_answer(line: u32, references: Option<RefAnswer>) -> Answer
     }
 }
 
-/// Adds the texts of the answers, all or none.
-pub fn put_all(alloc: Global, reply: &mut Bytes, answers: &[Answer]) -> Result<(), AllocError>
-    ensures ok { OnOk result (reply.new ≡ reply.old ++ flat_map text_of answers.now) }
-    ensures err { OnErr result (reply.new ≡ reply.old) }
+// Adds the texts of the answers. Where memory is wanting, those of the first have been added.
+fn put_each(reply: &mut Reply, answers: &[Answer]) -> Result<(), AllocError>
+    ensures ok { OnOk result (reply.new.text ≡ reply.old.text ++ flat_map text_of answers.now) }
+    ensures front { OnErr result (take (length reply.old.text) reply.new.text ≡ reply.old.text) }
 {
-    let mut text = Bytes::new(alloc);
     for answer in answers {
-        put(alloc, &mut text, answer)?;
+        reply.put(answer)?;
     }
-    reply.append(text.as_slice())
+    Ok(())
+}
+
+/// Adds the texts of the answers, all or none.
+pub fn put_all(reply: &mut Reply, answers: &[Answer]) -> Result<(), AllocError>
+    ensures ok { OnOk result (reply.new.text ≡ reply.old.text ++ flat_map text_of answers.now) }
+    ensures err { OnErr result (reply.new.text ≡ reply.old.text) }
+{
+    let len = reply.len();
+    let put = put_each(reply, answers);
+    if put.is_err() {
+        reply.truncate(len);
+    }
+    put
 }

@@ -15,7 +15,7 @@ use crate::transform::Transform;
 use board::only_collects_hand_out;
 use crew::Gate;
 use kc_base::{Bytes, Callbacks};
-use reply_text::Answer;
+use reply_text::{Answer, Reply};
 use session_calls::{BoardCaller, Stop};
 use shared_board::SharedBoard;
 use std::alloc::{AllocError, Global};
@@ -152,17 +152,17 @@ impl Session {
         rt: &R,
         board: &SharedBoard<Job>,
         gate: &G,
-        reply: &mut Bytes,
+        reply: &mut Reply,
     ) -> Result<(), Stop>
         requires at { CallsBoard board.now self.old.board }
         requires stands { Stands self.old.walk.lives (known self.old.registry) }
         requires posted { Posted self.old.walk (known self.old.board) }
         requires first { (known self.old.board).number ≡ 0 }
         ensures done { MatchResult result
-            (λ _. AnswersEnd self.old self.new reply.old reply.new)
+            (λ _. AnswersEnd self.old self.new reply.old.text reply.new.text)
             (λ _. Stops self.old self.new) }
         ensures shut { OnOk result (EndsShut (known self.new.board)) }
-        ensures unwritten { OnErr result (reply.new ≡ reply.old) }
+        ensures unwritten { OnErr result (reply.new.text ≡ reply.old.text) }
     {
         only_collects_hand_out::<Ask>();
         let mut answers = Vec::new(self.alloc);
@@ -176,7 +176,7 @@ impl Session {
             &mut self.lives,
             &mut answers,
         )?;
-        put_all(self.alloc, reply, &answers)?;
+        put_all(reply, &answers)?;
         self.board.shut(rt, board);
         Ok(())
     }

@@ -13,8 +13,7 @@ ghost use Rattle.script_session.specs.Holding.{HoldsBy, Stops};
 use crate::answers::{put_all, say};
 use crate::transform::Transform;
 use crew::Gate;
-use kc_base::Bytes;
-use reply_text::Answer;
+use reply_text::{Answer, Reply};
 use script_text::{Command, Line};
 use session_calls::{BoardCaller, RegistryCaller, Stop};
 use shared_board::{BoardPass, SharedBoard};
@@ -229,20 +228,20 @@ impl Session {
         gate: &G,
         number: u32,
         line: &Line,
-        reply: &mut Bytes,
+        reply: &mut Reply,
     ) -> Result<(), Stop>
         requires ready { IsReady registry.now board.now self.old }
         requires short { IsShortLine line.now }
         ensures done { MatchResult result
-            (λ _. Replies (width_of line.now) (line_dialogue self.old.workers self.old.walk number line.now) self.old self.new reply.old reply.new)
+            (λ _. Replies (width_of line.now) (line_dialogue self.old.workers self.old.walk number line.now) self.old self.new reply.old.text reply.new.text)
             (λ _. Stops self.old self.new) }
         // It is ready for the next line.
         ensures ready { OnOk result (IsReady registry.now board.now self.new) }
-        ensures unwritten { OnErr result (reply.new ≡ reply.old) }
+        ensures unwritten { OnErr result (reply.new.text ≡ reply.old.text) }
     {
         let mut answers = Vec::new(self.alloc);
         self.answer(rt, board, registry, gate, number, line, &mut answers)?;
-        put_all(self.alloc, reply, &answers)?;
+        put_all(reply, &answers)?;
         Ok(())
     }
 }

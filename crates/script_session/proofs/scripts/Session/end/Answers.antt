@@ -7,7 +7,7 @@ use Rattle.script_session.proofs.scripts.Session.end.Goals as goal
 pub returns-clause-done : goal.returns-clause-done
 returns-clause-done g c =
     end-arm c.args.self.now c.self.view_is c.deref_mut.result.now c.release_all.new.lives c.deref_mut-2.result.now c.drain_last_all.new.lives (known c.release_all.new.caller) (known c.drain_last_all.new.caller)
-    c.new-answers.result.items c.drain_last_all.new.answers.items c.deref.result.now c.args.reply.now c.put_all.new.reply
+    c.new-answers.result.items c.drain_last_all.new.answers.items c.deref.result.now c.args.reply.now.text c.put_all.new.reply.text
     c.deref_mut.ensures.value
     (c.deref_mut-2.ensures.value ∙ with_items_is c.self.inside.lives c.release_all.new.lives (omega (arith, c.release_all.auto.lives, c.deref_mut.ensures.len, ap length c.deref_mut.ensures.value))) c.new-answers.ensures.items c.deref.ensures.value
     (c.shut.ensures.lock ∙ (c.drain_last_all.ensures.lock ∙ c.release_all.ensures.lock)) c.requires.stands
