@@ -72,9 +72,10 @@ fn reply_to<G: Gate, R: Threads + Wait + Sync>(
     ensures unshut { (known session.new.board).number ≡ 0 → is_shut (known session.new.board).seen ≡ false }
     ensures malformed { IfOk result (λ reply. reply.1 ≡ is_malformed line) }
 {
+    let malformed = is_malformed_line(&line);
     let mut reply = Reply::new(alloc);
-    match session.line(rt, board, registry, gate, number, &line, &mut reply) {
-        Ok(()) => Ok((reply, is_malformed_line(&line))),
+    match session.line(rt, board, registry, gate, number, line, &mut reply) {
+        Ok(()) => Ok((reply, malformed)),
         Err(Stop::Memory) => Err(AllocError),
     }
 }

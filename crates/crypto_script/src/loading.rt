@@ -45,12 +45,12 @@ fn hold_line<G: Gate, R: Threads + Wait + Sync>(
     session: &mut Session,
     hasher: &mut Sha256,
     number: u32,
-    line: &Line,
+    line: Line,
 ) -> Result<(), AllocError>
     requires ready { IsReady registry.now board.now session.old }
-    requires short { IsShortLine line.now }
-    requires narrow { width_of line.now ≡ 1 }
-    ensures on { OnOk result ((later : Made → Dialogue) → HoldsOn (followed (line_dialogue session.old.workers session.old.walk number line.now) later) later session.old session.new hasher.old hasher.new) }
+    requires short { IsShortLine line }
+    requires narrow { width_of line ≡ 1 }
+    ensures on { OnOk result ((later : Made → Dialogue) → HoldsOn (followed (line_dialogue session.old.workers session.old.walk number line) later) later session.old session.new hasher.old hasher.new) }
     ensures ready { OnOk result (IsReady registry.now board.now session.new) }
     ensures goes_on { GoesOn session.old session.new }
     ensures unshut { (known session.new.board).number ≡ 0 → is_shut (known session.new.board).seen ≡ false }
@@ -75,10 +75,10 @@ fn hold_opened<G: Gate, R: Threads + Wait + Sync>(
     gate: &G,
     session: &mut Session,
     hasher: &mut Sha256,
-    lines: &Opening,
+    lines: Opening,
 ) -> Result<(), AllocError>
     requires ready { IsReady registry.now board.now session.old }
-    requires lines { lines.now.make_a ∷ lines.now.key_a ∷ lines.now.make_g ∷ lines.now.key_g ∷ [] ≡ opening }
+    requires lines { lines.make_a ∷ lines.key_a ∷ lines.make_g ∷ lines.key_g ∷ [] ≡ opening }
     ensures on { OnOk result ((later : Made → Dialogue) → HoldsOn (lines_dialogue session.old.workers session.old.walk 0 opening later) later session.old session.new hasher.old hasher.new) }
     ensures ready { OnOk result (IsReady registry.now board.now session.new) }
     ensures goes_on { GoesOn session.old session.new }
@@ -93,7 +93,7 @@ fn hold_opened<G: Gate, R: Threads + Wait + Sync>(
         session,
         hasher,
         0,
-        &lines.make_a,
+        lines.make_a,
     )?;
     hold_line(
         rt,
@@ -104,7 +104,7 @@ fn hold_opened<G: Gate, R: Threads + Wait + Sync>(
         session,
         hasher,
         1,
-        &lines.key_a,
+        lines.key_a,
     )?;
     hold_line(
         rt,
@@ -115,7 +115,7 @@ fn hold_opened<G: Gate, R: Threads + Wait + Sync>(
         session,
         hasher,
         2,
-        &lines.make_g,
+        lines.make_g,
     )?;
     hold_line(
         rt,
@@ -126,7 +126,7 @@ fn hold_opened<G: Gate, R: Threads + Wait + Sync>(
         session,
         hasher,
         3,
-        &lines.key_g,
+        lines.key_g,
     )?;
     Ok(())
 }
@@ -148,7 +148,7 @@ fn hold_opening<G: Gate, R: Threads + Wait + Sync>(
     ensures unshut { (known session.new.board).number ≡ 0 → is_shut (known session.new.board).seen ≡ false }
 {
     let lines = opening_lines(alloc)?;
-    hold_opened(rt, alloc, board, registry, gate, session, hasher, &lines)
+    hold_opened(rt, alloc, board, registry, gate, session, hasher, lines)
 }
 
 // Draws a request and hands it in.
@@ -172,7 +172,7 @@ fn hold_request<G: Gate, R: Threads + Wait + Sync>(
 {
     let line = draw_request(alloc, generator, number)?;
     hold_line(
-        rt, alloc, board, registry, gate, session, hasher, number, &line,
+        rt, alloc, board, registry, gate, session, hasher, number, line,
     )
 }
 

@@ -33,13 +33,13 @@ impl Session {
         registry: &SharedRegistry,
         gate: &G,
         number: u32,
-        line: &Line,
+        line: Line,
         answers: &mut Vec<Answer>,
     ) -> Result<(), Stop>
         requires ready { IsReady registry.now board.now self.old }
-        requires short { IsShortLine line.now }
+        requires short { IsShortLine line }
         ensures done { MatchResult result
-            (λ _. HoldsBy (width_of line.now) (line_dialogue self.old.workers self.old.walk number line.now) self.old self.new answers.old.items answers.new.items)
+            (λ _. HoldsBy (width_of line) (line_dialogue self.old.workers self.old.walk number line) self.old self.new answers.old.items answers.new.items)
             (λ _. Stops self.old self.new) }
         // It is ready for the next line.
         ensures ready { OnOk result (IsReady registry.now board.now self.new) }

@@ -1,6 +1,6 @@
 //! Requests as lines give them, and single blocks.
 
-ghost use Rattle.std.specs.Prelude.{◌≡◌, ◌+◌, ◌<◌, ◌≤◌, ◌^◌, length, IfOk, MatchResult, IsTrue};
+ghost use Rattle.std.specs.Prelude.{◌≡◌, ◌+◌, ◌<◌, ◌≤◌, ◌^◌, [], length, IfOk, MatchResult, IsTrue};
 ghost use Rattle.std_defs.specs.Aes.{IsKeyLength, seal};
 ghost use Rattle.dialogues.specs.Requesting.{aes_said, request_of, aes, request};
 ghost use Rattle.session_calls.specs.Passes.{known, CallsBoard};
@@ -19,7 +19,7 @@ use reply_text::Answer;
 use session_calls::Stop;
 use sg_walk::Segs;
 use shared_board::SharedBoard;
-use std::alloc::{AllocError, Global};
+use std::alloc::Global;
 use std::sync::Wait;
 use transforms::{Dir, Job, Request};
 
@@ -50,22 +50,16 @@ pub fn answer_aes(alloc: Global, line: u32, key: &[u8], block: &[u8]) -> Result<
     }
 }
 
-/// A request of its own, with copies of the bytes. Its text is cut as the line's.
-pub fn request_with(
-    alloc: Global,
-    dir: Dir,
-    iv: &[u8],
-    aad: &[u8],
-    text: &Segs,
-) -> Result<Request, AllocError>
-    ensures { IfOk result (λ request. request ≡ request_of dir iv.now aad.now text.now) }
+/// A request for the MAC of a text, with no IV and no associated bytes. No memory is taken.
+pub fn mac_request(alloc: Global, text: Segs) -> Request
+    ensures { result ≡ request_of Dir.Mac [] [] text }
 {
-    Ok(Request {
-        dir,
-        iv: Bytes::copy_of(alloc, iv)?,
-        aad: Bytes::copy_of(alloc, aad)?,
-        text: text.copy(alloc)?,
-    })
+    Request {
+        dir: Dir::Mac,
+        iv: Bytes::new(alloc),
+        aad: Bytes::new(alloc),
+        text,
+    }
 }
 
 impl Session {
@@ -99,7 +93,7 @@ impl Session {
     }
 
     // `enc T IV AAD TEXT [backlog]`, `dec T IV AAD TEXT [backlog]` and `mac T TEXT [backlog]`
-    fn request<R: Wait>(
+    pub(crate) fn request<R: Wait>(
         &mut self,
         rt: &R,
         board: &SharedBoard<Job>,
@@ -141,34 +135,5 @@ impl Session {
         )?;
         self.count(accepted, size);
         Ok(())
-    }
-
-    // A request of which the line gives these bytes.
-    pub(crate) fn submit<R: Wait>(
-        &mut self,
-        rt: &R,
-        board: &SharedBoard<Job>,
-        number: u32,
-        label: &Bytes,
-        dir: Dir,
-        iv: &[u8],
-        aad: &[u8],
-        text: &Segs,
-        backlog: bool,
-        answers: &mut Vec<Answer>,
-    ) -> Result<(), Stop>
-        requires at { CallsBoard board.now self.old.board }
-        requires stands { Stands self.old.walk.lives (known self.old.registry) }
-        requires posted { Posted self.old.walk (known self.old.board) }
-        requires aad { length aad.now < 2 ^ 32 }
-        requires text { length text.now.text < 2 ^ 32 }
-        ensures { MatchResult result
-            (λ _. Holds (request self.old.walk number label.now (request_of dir iv.now aad.now text.now) backlog) self.old self.new answers.old.items answers.new.items)
-            (λ _. Stops self.old self.new) }
-    {
-        let Ok(asked) = request_with(self.alloc, dir, iv, aad, text) else {
-            return Err(Stop::Memory);
-        };
-        self.request(rt, board, number, label, asked, backlog, answers)
     }
 }

@@ -11,6 +11,7 @@ ghost use Rattle.script_session.specs.States.{Stands, Posted, IsWide};
 ghost use Rattle.script_session.specs.Holding.{HoldsBy, Stops};
 
 use crate::answers::{put_all, say};
+use crate::requesting::mac_request;
 use crate::transform::Transform;
 use crew::Gate;
 use reply_text::{Answer, Reply};
@@ -22,7 +23,7 @@ use std::alloc::Global;
 use std::marker::Model;
 use std::sync::Wait;
 use std::thread::Threads;
-use transforms::{Dir, Job};
+use transforms::{Dir, Job, Request};
 
 /// One script, which contracts see as what it has made so far and what its passes know.
 #[derive(Drop)]
@@ -82,7 +83,7 @@ impl Session {
         (self.registry.into_pass(), self.board.into_pass())
     }
 
-    // A command's answers.
+    // A command's answers. A request takes the command's bytes.
     fn command<R: Threads + Wait + Sync, G: Gate>(
         &mut self,
         rt: &R,
@@ -90,7 +91,7 @@ impl Session {
         registry: &SharedRegistry,
         gate: &G,
         number: u32,
-        command: &Command,
+        command: Command,
         answers: &mut Vec<Answer>,
     ) -> Result<(), Stop>
         requires at_registry { CallsRegistry registry.now self.old.registry }
@@ -99,89 +100,67 @@ impl Session {
         requires posted { Posted self.old.walk (known self.old.board) }
         requires few { self.old.workers ≤ 16 }
         requires wide { IsWide self.old }
-        requires short { IsShortCommand command.now }
+        requires short { IsShortCommand command }
         ensures { MatchResult result
-            (λ _. HoldsBy (command_width command.now) (command_dialogue self.old.workers self.old.walk number command.now) self.old self.new answers.old.items answers.new.items)
+            (λ _. HoldsBy (command_width command) (command_dialogue self.old.workers self.old.walk number command) self.old self.new answers.old.items answers.new.items)
             (λ _. Stops self.old self.new) }
     {
         match command {
-            Command::Aes { key, block } => self.aes(number, key, block, answers),
+            Command::Aes { key, block } => self.aes(number, &key, &block, answers),
             Command::Register { driver, priority } => {
-                self.register(rt, registry, number, driver, *priority, answers)
+                self.register(rt, registry, number, &driver, priority, answers)
             }
             Command::Unregister { driver } => {
-                self.unregister(rt, registry, number, driver, answers)
+                self.unregister(rt, registry, number, &driver, answers)
             }
-            Command::Probe { names } => self.probe(rt, registry, number, names, answers),
+            Command::Probe { names } => self.probe(rt, registry, number, &names, answers),
             Command::Alloc {
                 label,
                 name,
                 length,
-            } => self.alloc(rt, board, registry, number, label, name, *length, answers),
-            Command::Key { label, key } => self.key(number, label, key, answers),
-            Command::Authsize { label, size } => self.authsize(number, label, *size, answers),
+            } => self.alloc(rt, board, registry, number, &label, &name, length, answers),
+            Command::Key { label, key } => self.key(number, &label, &key, answers),
+            Command::Authsize { label, size } => self.authsize(number, &label, size, answers),
             Command::Enc {
                 label,
                 iv,
                 aad,
                 text,
                 backlog,
-            } => self.submit(
-                rt,
-                board,
-                number,
-                label,
-                Dir::Enc,
-                iv.as_slice(),
-                aad.as_slice(),
-                text,
-                *backlog,
-                answers,
-            ),
+            } => {
+                let dir = Dir::Enc;
+                let asked = Request { dir, iv, aad, text };
+                self.request(rt, board, number, &label, asked, backlog, answers)
+            }
             Command::Dec {
                 label,
                 iv,
                 aad,
                 text,
                 backlog,
-            } => self.submit(
-                rt,
-                board,
-                number,
-                label,
-                Dir::Dec,
-                iv.as_slice(),
-                aad.as_slice(),
-                text,
-                *backlog,
-                answers,
-            ),
+            } => {
+                let dir = Dir::Dec;
+                let asked = Request { dir, iv, aad, text };
+                self.request(rt, board, number, &label, asked, backlog, answers)
+            }
             Command::Mac {
                 label,
                 text,
                 backlog,
-            } => self.submit(
-                rt,
-                board,
-                number,
-                label,
-                Dir::Mac,
-                &[],
-                &[],
-                text,
-                *backlog,
-                answers,
-            ),
-            Command::Bulk { label, size, seed } => {
-                self.bulk(rt, number, label, *size, *seed, answers)
+            } => {
+                let asked = mac_request(self.alloc, text);
+                self.request(rt, board, number, &label, asked, backlog, answers)
             }
-            Command::Mask { label, mask } => self.mask(rt, board, number, label, *mask, answers),
-            Command::Hold { label } => self.hold(rt, board, number, label, answers),
-            Command::Go { label } => self.go(rt, board, number, label, answers),
-            Command::Poll { label } => self.poll(rt, board, number, label, answers),
-            Command::Drain { label } => self.drain(rt, board, gate, number, label, answers),
-            Command::Free { label } => self.free(rt, board, registry, number, label, answers),
-            Command::Refs { driver } => self.refs(rt, registry, number, driver, answers),
+            Command::Bulk { label, size, seed } => {
+                self.bulk(rt, number, &label, size, seed, answers)
+            }
+            Command::Mask { label, mask } => self.mask(rt, board, number, &label, mask, answers),
+            Command::Hold { label } => self.hold(rt, board, number, &label, answers),
+            Command::Go { label } => self.go(rt, board, number, &label, answers),
+            Command::Poll { label } => self.poll(rt, board, number, &label, answers),
+            Command::Drain { label } => self.drain(rt, board, gate, number, &label, answers),
+            Command::Free { label } => self.free(rt, board, registry, number, &label, answers),
+            Command::Refs { driver } => self.refs(rt, registry, number, &driver, answers),
             Command::List => self.list(rt, registry, number, answers),
         }
     }
@@ -194,7 +173,7 @@ impl Session {
         registry: &SharedRegistry,
         gate: &G,
         number: u32,
-        line: &Line,
+        line: Line,
         answers: &mut Vec<Answer>,
     ) -> Result<(), Stop>
         requires at_registry { CallsRegistry registry.now self.old.registry }
@@ -203,9 +182,9 @@ impl Session {
         requires posted { Posted self.old.walk (known self.old.board) }
         requires few { self.old.workers ≤ 16 }
         requires wide { IsWide self.old }
-        requires short { IsShortLine line.now }
+        requires short { IsShortLine line }
         ensures { MatchResult result
-            (λ _. HoldsBy (width_of line.now) (line_dialogue self.old.workers self.old.walk number line.now) self.old self.new answers.old.items answers.new.items)
+            (λ _. HoldsBy (width_of line) (line_dialogue self.old.workers self.old.walk number line) self.old self.new answers.old.items answers.new.items)
             (λ _. Stops self.old self.new) }
     {
         match line {
@@ -218,8 +197,8 @@ impl Session {
     /// Answers a line: it holds the line's dialogue with the registry and the board, and adds the text of what was answered to
     /// `reply`. Entries of others may lie between its calls.
     ///
-    /// `drain` does what jobs there are while it waits, `probe` builds, and `bulk` starts threads, which end in this call. `Stop` comes for want of memory alone, with the reply as it was; the
-    /// session takes no line after it.
+    /// `drain` does what jobs there are while it waits, `probe` builds, and `bulk` starts threads, which end in this call. A request
+    /// keeps the line's bytes. `Stop` comes for want of memory alone, with the reply as it was; the session takes no line after it.
     pub fn line<R: Threads + Wait + Sync, G: Gate>(
         &mut self,
         rt: &R,
@@ -227,13 +206,13 @@ impl Session {
         registry: &SharedRegistry,
         gate: &G,
         number: u32,
-        line: &Line,
+        line: Line,
         reply: &mut Reply,
     ) -> Result<(), Stop>
         requires ready { IsReady registry.now board.now self.old }
-        requires short { IsShortLine line.now }
+        requires short { IsShortLine line }
         ensures done { MatchResult result
-            (λ _. Replies (width_of line.now) (line_dialogue self.old.workers self.old.walk number line.now) self.old self.new reply.old.text reply.new.text)
+            (λ _. Replies (width_of line) (line_dialogue self.old.workers self.old.walk number line) self.old self.new reply.old.text reply.new.text)
             (λ _. Stops self.old self.new) }
         // It is ready for the next line.
         ensures ready { OnOk result (IsReady registry.now board.now self.new) }

@@ -10,6 +10,6 @@ use Rattle.crypto_script.proofs.loading.hold_line.Goals as goal
 pub returns-in-Ok-clause-on : goal.returns-in-Ok-clause-on
 returns-in-Ok-clause-on g c =
     let s = c.args.session.now in
-    line-on c.laws.ensures (width_of c.args.line.now) (line_dialogue s.workers s.walk c.args.number c.args.line.now) s c.answer_line.new.self c.args.hasher.now c.hash_completions.new.hasher
+    line-on c.laws.ensures (width_of c.args.line) (line_dialogue s.workers s.walk c.args.number c.args.line) s c.answer_line.new.self c.args.hasher.now c.hash_completions.new.hasher
     c.new-answers.result.items c.answer_line.new.answers.items c.requires.narrow c.new-answers.ensures.items c.in-Ok.ensures.done
     (subst (λ xs. (m : List ℕ) → Holds256 c.args.hasher.now m → Holds256 c.hash_completions.new.hasher (m ++ flat_map bytes_told xs)) c.deref.ensures.value c.hash_completions.ensures)
