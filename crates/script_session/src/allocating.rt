@@ -15,7 +15,7 @@ ghost use Rattle.script_session.specs.Holding.{Holds, Stops};
 
 use crate::answers::{refuse, say};
 use crate::lives::place_of;
-use crate::naming::{fits_queue, is_chained_driver, plan_with, read_name};
+use crate::naming::{fits_queue, plan_with, read_name};
 use crate::piping::{close_live, create_pipe, is_owing};
 use crate::scripts::Session;
 use crate::transform::Transform;
@@ -68,15 +68,13 @@ impl Session {
         if !self.registry.take_ref(rt, registry, id)? {
             return refuse(answers, number, Errno::EAGAIN);
         }
-        let chained = is_chained_driver(spec.driver.as_slice());
         let pipe = create_pipe(
             self.alloc,
             rt,
             board,
             &mut self.board,
             self.workers,
-            chained,
-            spec.wrap,
+            &spec,
             length,
         )?;
         let driver = spec.driver;
