@@ -32,7 +32,7 @@ fn read_limited(alloc: Global, text: &[u8]) -> Result<Name, BuildErr>
     }
 }
 
-/// The name that a script asks for: EINVAL also where `pcrypt` or `cryptd` stands below the root.
+/// The name that a script asks for: EINVAL also where `pcrypt` or `cryptd` stands where it may not.
 pub fn read_name(alloc: Global, text: &[u8]) -> Result<Name, BuildErr>
     ensures ok { IfOk result (λ t. name_read text.now ≡ Ok t) }
     ensures err { IfErr result (λ e. FaultIs e (name_read text.now)) }

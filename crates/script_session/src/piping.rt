@@ -4,8 +4,8 @@ ghost use Rattle.std.specs.Prelude.{◌≡◌, ◌≢◌, ◌↔◌, ◌≤◌, 
 ghost use Rattle.board.specs.declared.board_core.BoardErr.TheVariants as BoardErr;
 ghost use Rattle.script_session.specs.Holding.{SeesOn};
 ghost use Rattle.script_session.specs.Offering.{Offered};
-ghost use Rattle.session_calls.specs.Pipelines.{KnowsPipe, Kept, Opened};
-ghost use Rattle.dialogues.specs.Allocating.{lists_beside, queue_shape, shape_for};
+ghost use Rattle.session_calls.specs.Pipelines.{KnowsPipe, Kept};
+ghost use Rattle.dialogues.specs.Allocating.{lists_beside, is_chained, queue_shape, shape_for};
 ghost use Rattle.dialogues.specs.Names.{is_queue_length};
 ghost use Rattle.script_session.specs.Creating.{Created, unasked};
 ghost use Rattle.board.specs.Legal.{IsNoWorker};
@@ -24,8 +24,9 @@ ghost use Rattle.script_session.specs.Changing.{HoldsFor, Released, asks_if, owe
 
 use crate::answers::{refuse, say, value_answer};
 use crate::callbacks::{count_completions, tell};
+use crate::naming::is_chained_driver;
 use crate::transform::Transform;
-use alg_registry::Wrap;
+use alg_registry::{Spec, Wrap};
 use board::{BoardErr, Entered, only_collects_hand_out};
 use crew::Gate;
 use kc_base::{Callbacks, Errno};
@@ -343,41 +344,43 @@ fn unasked_pipe(alloc: Global, number: u64, bound: Option<u32>) -> Pipe
     }
 }
 
-// Makes a queue in which so many requests may wait before it is full, and for what is chained a chain.
+// Makes the pipeline of what is under `cryptd`: a queue, and a chain for what is chained.
 fn create_queue<R: Wait>(
-    rt: &R,
-    board: &SharedBoard<Job>,
-    caller: &mut BoardCaller,
-    workers: u32,
-    chained: bool,
-    max: u32,
-) -> Result<u64, BoardErr>
-    requires at { CallsBoard board.now caller.old }
-    requires caller { IsNoWorker (known caller.old).number }
-    requires few { workers ≤ 16 }
-    requires max { 1 ≤ max }
-    ensures lock { lock_of caller.new ≡ lock_of caller.old }
-    ensures opened { MatchResult result
-        (λ number. Opened (known caller.old) (known caller.new) number (queue_shape workers chained (Some max)))
-        (λ e. (e ≡ BoardErr.Memory) × Kept (known caller.old) (known caller.new)) }
-{
-    if chained {
-        caller.born_chain(rt, board, max, lists_beside_workers(workers))
-    } else {
-        caller.born_queue(rt, board, max)
-    }
-}
-
-/// Makes the pipeline of a transform, where its driver's outermost template has one: a pad under `pcrypt`, under `cryptd` a queue,
-/// and a chain where the driver is chained.
-pub fn create_pipe<R: Wait>(
     alloc: Global,
     rt: &R,
     board: &SharedBoard<Job>,
     caller: &mut BoardCaller,
     workers: u32,
     chained: bool,
-    wrap: Wrap,
+    length: Option<u32>,
+) -> Result<Pipe, Stop>
+    requires at { CallsBoard board.now caller.old }
+    requires caller { IsNoWorker (known caller.old).number }
+    requires fits { is_queue_length length ≡ true }
+    requires few { workers ≤ 16 }
+    ensures lock { lock_of caller.new ≡ lock_of caller.old }
+    ensures created { MatchResult result
+        (λ pipe. Created (Some (queue_shape workers chained length)) (Some pipe) (known caller.old) (known caller.new))
+        (λ _. SeesOn (known caller.old) (known caller.new)) }
+{
+    let max = length.unwrap_or(QUEUE_LENGTH);
+    if chained {
+        let number = caller.born_chain(rt, board, max, lists_beside_workers(workers))?;
+        return Ok(unasked_pipe(alloc, number, Some(max)));
+    }
+    let number = caller.born_queue(rt, board, max)?;
+    Ok(unasked_pipe(alloc, number, Some(max)))
+}
+
+/// Makes the pipeline of a transform, where its driver's outermost template has one: a pad under `pcrypt`, and under `cryptd` a
+/// queue, or a chain over `pcrypt`.
+pub fn create_pipe<R: Wait>(
+    alloc: Global,
+    rt: &R,
+    board: &SharedBoard<Job>,
+    caller: &mut BoardCaller,
+    workers: u32,
+    spec: &Spec,
     length: Option<u32>,
 ) -> Result<Option<Pipe>, Stop>
     requires at { CallsBoard board.now caller.old }
@@ -386,19 +389,19 @@ pub fn create_pipe<R: Wait>(
     requires few { workers ≤ 16 }
     ensures lock { lock_of caller.new ≡ lock_of caller.old }
     ensures created { MatchResult result
-        (λ pipe. Created (shape_for workers chained wrap length) pipe (known caller.old) (known caller.new))
+        (λ pipe. Created (shape_for workers (is_chained spec.now.driver) spec.now.wrap length) pipe (known caller.old) (known caller.new))
         (λ _. SeesOn (known caller.old) (known caller.new)) }
 {
-    match wrap {
+    match spec.wrap {
         Wrap::Plain => Ok(None),
         Wrap::Pcrypt => {
             let number = caller.born_pad(rt, board, lists_beside_workers(workers))?;
             Ok(Some(unasked_pipe(alloc, number, None)))
         }
         Wrap::Cryptd => {
-            let max = length.unwrap_or(QUEUE_LENGTH);
-            let number = create_queue(rt, board, caller, workers, chained, max)?;
-            Ok(Some(unasked_pipe(alloc, number, Some(max))))
+            let chained = is_chained_driver(spec.driver.as_slice());
+            let pipe = create_queue(alloc, rt, board, caller, workers, chained, length)?;
+            Ok(Some(pipe))
         }
     }
 }

@@ -26,7 +26,7 @@ use crate::drivers::driver_of;
 use crate::keying::{key_live, size_live};
 use crate::listing::list_rows;
 use crate::lives::place_of;
-use crate::naming::{fits_queue, is_chained_driver, plan_with, read_name};
+use crate::naming::{fits_queue, plan_with, read_name};
 use crate::piping::{
     close_live, create_pipe, drain_live, go_live, hold_live, is_owing, mask_live, poll_live,
     take_job,
@@ -541,15 +541,13 @@ impl Session {
         if !self.registry.take_ref(rt, registry, id)? {
             return refuse(answers, number, Errno::EAGAIN);
         }
-        let chained = is_chained_driver(spec.driver.as_slice());
         let pipe = create_pipe(
             self.alloc,
             rt,
             board,
             &mut self.board,
             self.workers,
-            chained,
-            spec.wrap,
+            &spec,
             length,
         )?;
         let driver = spec.driver;

@@ -1,9 +1,8 @@
-use Rattle.std.proofs.Common.{◌++◌, ◌∷◌, [], refl, sym, ap, subst, ◌∙◌}
+use Rattle.std.proofs.Common.{◌++◌, ◌∷◌, [], refl, sym, ap, ◌∙◌}
 use Rattle.std.proofs.lemmas.Result.{err_from_is_err_and}
 use Rattle.dialogues.specs.Allocating.{is_chained, new_live, shape_for}
 use Rattle.dialogues.specs.RegistryCalls.{Gets}
 use Rattle.session_calls.specs.Passes.{known}
-use Rattle.script_session.specs.Creating.{Created}
 use Rattle.script_session.proofs.Arms.{or-stops, sees-same}
 use Rattle.script_session.proofs.Finding.{sees-asked, sees-then, asks-got, created-sees, further, bound-arm, lost-arm, unplanned-arm}
 use Rattle.script_session.proofs.scripts.Session.bind.Goals as goal
@@ -31,19 +30,18 @@ returns-in_err-say g c =
     let p = err_from_is_err_and c.from_residual-in_err-say.result c.from_residual-in_err-say.ensures.1 in
     rw (p.1)
     (further c.args.self.now c.self.view_is _ (sees-then (sees-asked [] c.in_ok-spec.ensures.0) (sees-asked (Gets c.args.id c.in_ok-take_ref.field-0 ∷ []) c.in_ok-take_ref.ensures)) c.in_ok-pipe.ensures.lock
-    (created-sees (shape_for c.self.inside.workers c.is_chained_driver-chained.result c.in_ok-spec.spec.wrap c.args.length) c.in_ok-pipe.pipe (known c.self.inside.board) (known c.create_pipe.new.caller) c.in_ok-pipe.ensures.created))
+    (created-sees (shape_for c.self.inside.workers (is_chained c.in_ok-spec.spec.driver) c.in_ok-spec.spec.wrap c.args.length) c.in_ok-pipe.pipe (known c.self.inside.board) (known c.create_pipe.new.caller) c.in_ok-pipe.ensures.created))
 
 pub returns-in_err-push : goal.returns-in_err-push
 returns-in_err-push g c =
     let p = err_from_is_err_and c.from_residual-in_err-push.result c.from_residual-in_err-push.ensures.1 in
     rw (p.1)
     (further c.args.self.now c.self.view_is _ (sees-then (sees-asked [] c.in_ok-spec.ensures.0) (sees-asked (Gets c.args.id c.in_ok-take_ref.field-0 ∷ []) c.in_ok-take_ref.ensures)) c.in_ok-pipe.ensures.lock
-    (created-sees (shape_for c.self.inside.workers c.is_chained_driver-chained.result c.in_ok-spec.spec.wrap c.args.length) c.in_ok-pipe.pipe (known c.self.inside.board) (known c.create_pipe.new.caller) c.in_ok-pipe.ensures.created))
+    (created-sees (shape_for c.self.inside.workers (is_chained c.in_ok-spec.spec.driver) c.in_ok-spec.spec.wrap c.args.length) c.in_ok-pipe.pipe (known c.self.inside.board) (known c.create_pipe.new.caller) c.in_ok-pipe.ensures.created))
 
 pub returns : goal.returns
 returns g c =
     bound-arm c.args.self.now c.self.view_is c.args.number c.args.label.now c.args.length c.args.id c.in_ok-spec.spec c.in-Some.plan c.in_ok-pipe.pipe _ _ c.in_ok-spec.ensures.0 c.in_ok-spec.ensures.1 (sym c.in-Ok.ensures.ok ∙ c.in-Some.is)
-    (asks-got c.args.id _ _ c.if-not-branch.false c.in_ok-take_ref.ensures) c.in_ok-pipe.ensures.lock
-    (subst (λ chained. Created (shape_for c.self.inside.workers chained c.in_ok-spec.spec.wrap c.args.length) c.in_ok-pipe.pipe (known c.self.inside.board) (known c.create_pipe.new.caller)) (c.is_chained_driver-chained.ensures ∙ ap is_chained c.as_slice-2.ensures) c.in_ok-pipe.ensures.created)
+    (asks-got c.args.id _ _ c.if-not-branch.false c.in_ok-take_ref.ensures) c.in_ok-pipe.ensures.lock c.in_ok-pipe.ensures.created
     (c.in_ok-push.ensures.items ∙ ap (λ l. c.self.inside.lives.items ++ l ∷ []) (c.new.ensures ∙ ap (λ t. new_live t c.args.id c.in-Some.plan c.in_ok-pipe.pipe) (c.in_ok-label.ensures ∙ c.as_slice.ensures)))
     c.requires.stands c.requires.posted c.in_ok-say.ensures
