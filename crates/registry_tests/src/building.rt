@@ -326,6 +326,24 @@ fn instances_over_one(rt: HostRuntime) -> Result<(), Fail> {
     Ok(())
 }
 
+#[test]
+fn how_requests_are_run(rt: HostRuntime) -> Result<(), Fail> {
+    let table = [
+        (b"rfc4106(z)".as_slice(), Wrap::Plain),
+        (b"pcrypt(z)".as_slice(), Wrap::Pcrypt),
+        (b"cryptd(z)".as_slice(), Wrap::Cryptd),
+        (b"cryptd(pcrypt(z))".as_slice(), Wrap::Cryptd),
+    ];
+    for (text, wrap) in table {
+        let below = entry(rt.alloc(), b"gcm(z)", b"d", Kind::Aead, Wrap::Plain, 1)?;
+        assert!(rt;
+            made(rt.alloc(), text, &[(7, below)])?.wrap == wrap,
+            "{text:?}"
+        );
+    }
+    Ok(())
+}
+
 /// A template over two entries, each with its name, its driver, its kind and its priority.
 fn made_of_two(
     alloc: Global,
