@@ -31,6 +31,7 @@ use sha2::{Digest, Sha256};
 use shared_board::SharedBoard;
 use shared_registry::SharedRegistry;
 use std::alloc::{AllocError, Global};
+use std::mem;
 use std::sync::Wait;
 use std::thread::Threads;
 use transforms::Job;
@@ -66,6 +67,13 @@ fn hold_line<G: Gate, R: Threads + Wait + Sync>(
     }
 }
 
+// Takes a line out of its place. So no line is a local that is let go where a call stops.
+fn taken(line: &mut Line) -> Line
+    ensures { result ≡ line.old }
+{
+    mem::replace(line, Line::Nothing)
+}
+
 // Answers the lines that make both transforms.
 fn hold_opened<G: Gate, R: Threads + Wait + Sync>(
     rt: &R,
@@ -75,10 +83,10 @@ fn hold_opened<G: Gate, R: Threads + Wait + Sync>(
     gate: &G,
     session: &mut Session,
     hasher: &mut Sha256,
-    lines: Opening,
+    lines: &mut Opening,
 ) -> Result<(), AllocError>
     requires ready { IsReady registry.now board.now session.old }
-    requires lines { lines.make_a ∷ lines.key_a ∷ lines.make_g ∷ lines.key_g ∷ [] ≡ opening }
+    requires lines { lines.old.make_a ∷ lines.old.key_a ∷ lines.old.make_g ∷ lines.old.key_g ∷ [] ≡ opening }
     ensures on { OnOk result ((later : Made → Dialogue) → HoldsOn (lines_dialogue session.old.workers session.old.walk 0 opening later) later session.old session.new hasher.old hasher.new) }
     ensures ready { OnOk result (IsReady registry.now board.now session.new) }
     ensures goes_on { GoesOn session.old session.new }
@@ -93,7 +101,7 @@ fn hold_opened<G: Gate, R: Threads + Wait + Sync>(
         session,
         hasher,
         0,
-        lines.make_a,
+        taken(&mut lines.make_a),
     )?;
     hold_line(
         rt,
@@ -104,7 +112,7 @@ fn hold_opened<G: Gate, R: Threads + Wait + Sync>(
         session,
         hasher,
         1,
-        lines.key_a,
+        taken(&mut lines.key_a),
     )?;
     hold_line(
         rt,
@@ -115,7 +123,7 @@ fn hold_opened<G: Gate, R: Threads + Wait + Sync>(
         session,
         hasher,
         2,
-        lines.make_g,
+        taken(&mut lines.make_g),
     )?;
     hold_line(
         rt,
@@ -126,7 +134,7 @@ fn hold_opened<G: Gate, R: Threads + Wait + Sync>(
         session,
         hasher,
         3,
-        lines.key_g,
+        taken(&mut lines.key_g),
     )?;
     Ok(())
 }
@@ -147,8 +155,10 @@ fn hold_opening<G: Gate, R: Threads + Wait + Sync>(
     ensures goes_on { GoesOn session.old session.new }
     ensures unshut { (known session.new.board).number ≡ 0 → is_shut (known session.new.board).seen ≡ false }
 {
-    let lines = opening_lines(alloc)?;
-    hold_opened(rt, alloc, board, registry, gate, session, hasher, lines)
+    let mut lines = opening_lines(alloc)?;
+    hold_opened(
+        rt, alloc, board, registry, gate, session, hasher, &mut lines,
+    )
 }
 
 // Draws a request and hands it in.
