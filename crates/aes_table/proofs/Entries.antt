@@ -1,9 +1,9 @@
 -- the entries of the tables, and sums of words byte by byte
 use Rattle.std.specs.Prelude.{◌≡◌, ℕ, zero, suc, ◌+◌, ◌/◌, ◌%◌, ◌^◌, ◌<◌, List, [], ◌∷◌, slice_index, bit_xor, refl}
 use Rattle.std.specs.Int.{from_le_bytes, w32}
-use Rattle.std.specs.Int.Bits.{xor_zero_r}
+use Rattle.std.specs.Int.Bits.{xor_zero_r, xor_assoc}
 use Rattle.std.proofs.Common.{sym, ◌∙◌, ap, ap₂, arith}
-use Rattle.std.proofs.lemmas.Nat.{xor_mod, xor_shr, le_bytes_4}
+use Rattle.std.proofs.lemmas.Nat.{xor_mod, xor_shr, xor_comm, le_bytes_4}
 use Rattle.std_defs.specs.Aes.{product, remainder, mul8, sbox, inverse_sbox, xor_words}
 use Rattle.std_defs.proofs.Enumerate.{same_below}
 use Rattle.std_defs.proofs.Tables.{sbox_table, inverse_sbox_table, sbox_at, inverse_sbox_at}
@@ -24,6 +24,14 @@ pub column_is : (f s t u key : ℕ) (cf cs ct cu : List ℕ) → bytes_of f ≡ 
 column_is f s t u key cf cs ct cu ef es et eu =
     bytes_of_sum (bit_xor (bit_xor f s) (bit_xor t u)) key (xor_words (xor_words cf cs) (xor_words ct cu)) (bytes_of key)
     (bytes_of_sum (bit_xor f s) (bit_xor t u) (xor_words cf cs) (xor_words ct cu) (bytes_of_sum f s cf cs ef es) (bytes_of_sum t u ct cu et eu)) refl
+
+-- the key of a column may come first
+pub key_first : (k f s t u : ℕ) → bit_xor (bit_xor (bit_xor (bit_xor k f) s) t) u ≡ bit_xor (bit_xor (bit_xor f s) (bit_xor t u)) k
+key_first k f s t u =
+    xor_assoc (bit_xor (bit_xor k f) s) t u
+    ∙ ap (λ (x : ℕ). bit_xor x (bit_xor t u)) (xor_assoc k f s)
+    ∙ xor_assoc k (bit_xor f s) (bit_xor t u)
+    ∙ xor_comm k (bit_xor (bit_xor f s) (bit_xor t u))
 
 pub plus_zero : (a b c d : ℕ) → xor_words (a ∷ b ∷ c ∷ d ∷ []) (bytes_of 0) ≡ a ∷ b ∷ c ∷ d ∷ []
 plus_zero a b c d = λ j. xor_zero_r a j ∷ xor_zero_r b j ∷ xor_zero_r c j ∷ xor_zero_r d j ∷ []

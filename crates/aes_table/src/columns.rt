@@ -28,7 +28,8 @@ fn inverse_substituted(byte: u8) -> u8
 pub(crate) fn sealed_column(a: u8, b: u8, c: u8, d: u8, key: u32) -> u32
     ensures { bytes_of result ≡ xor_words (mixed (map sbox (a ∷ b ∷ c ∷ d ∷ []))) (bytes_of key) }
 {
-    (first(a) ^ second(b)) ^ (third(c) ^ fourth(d)) ^ key
+    // the key first: it doesn't wait for the bytes
+    key ^ first(a) ^ second(b) ^ third(c) ^ fourth(d)
 }
 
 /// A column after InvSubBytes and InvMixColumns, and a key added to it, from its bytes before.

@@ -52,14 +52,16 @@ pub(crate) fn mixed_back_all(words: &[u32; 60]) -> [u32; 60]
 impl TableSchedule {
     ghost use Rattle.aes_table.specs.Key.{table_key};
 
-    /// Seals a block.
+    /// Seals a block. The rounds are an even number, and two go in a turn: so the columns need not be moved back to the registers
+    /// that a round took them from.
     #[inline(always)]
     pub(crate) fn seal(&self, b: &[u8; 16]) -> [u8; 16]
         ensures { result ≡ seal (table_key self.now) b.now }
     {
-        let mut state = key_added(columns_of(b), &self.words, 0);
-        for round in 1..self.rounds {
-            state = sealed_round(state, &self.words, round);
+        let mut state = sealed_round(key_added(columns_of(b), &self.words, 0), &self.words, 1);
+        for pair in 1..self.rounds / 2 {
+            let between = sealed_round(state, &self.words, 2 * pair);
+            state = sealed_round(between, &self.words, 2 * pair + 1);
         }
         block_of(sealed_last(state, &self.words, self.rounds))
     }

@@ -16,6 +16,13 @@ fn sum_of(a: &[u8; 16], b: &[u8; 16]) -> [u8; 16]
     sum
 }
 
+/// Adds the block `b` to the chain, which stays where it is: as a value of its own it would go from block to block in single bytes.
+fn add_block(chain: &mut [u8; 16], b: &[u8; 16])
+    ensures { chain.new ≡ xor_blocks b.now chain.old }
+{
+    xor_block(chain, b);
+}
+
 /// Block `i` of the text.
 #[tactic(auto, unfolding(std_defs::specs::Blocks::text_block))]
 fn block_at(text: &[u8], i: usize) -> [u8; 16]
@@ -32,13 +39,11 @@ pub fn seal_blocks<C: BlockCipher>(cipher: &C, iv: &[u8; 16], text: &mut [u8])
     requires { length text.old % 16 ≡ 0 }
     ensures { text.new ≡ joined (λ j. cbc_block (C.sealed cipher.now) iv.now text.old (suc j)) (length text.old / 16) }
 {
-    let mut before = *iv;
+    let mut chain = *iv;
     for i in 0..text.len() / 16 {
-        let plain = block_at(text, i);
-        let mut block = sum_of(&plain, &before);
-        cipher.seal_block(&mut block);
-        text[16 * i..16 * i + 16].copy_from_slice(&block);
-        before = block;
+        add_block(&mut chain, &block_at(text, i));
+        cipher.seal_block(&mut chain);
+        text[16 * i..16 * i + 16].copy_from_slice(&chain);
     }
 }
 

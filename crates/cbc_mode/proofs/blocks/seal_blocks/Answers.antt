@@ -15,8 +15,8 @@ loop-i-preserved g c =
     let blocks : ℕ → List ℕ = λ j. cbc_block sealed c.args.iv.now c.args.text.now (suc j) in
     let within : 16 * c.loop-i.i + 16 ≤ length c.args.text.now = omega arith in
     let block : c.seal_block.new.b ≡ blocks c.loop-i.i =
-    c.seal_block.ensures ∙ ap sealed (c.sum_of-block.ensures
-    ∙ ap₂ xor_blocks (c.block_at-plain.ensures ∙ next_block c.args.text.now c.loop-i.text blocks c.loop-i.i c.loop-i.invariant.made c.loop-i.auto.text within) c.loop-i.invariant.last) in
+    c.seal_block.ensures ∙ ap sealed (c.add_block.ensures
+    ∙ ap₂ xor_blocks (c.block_at.ensures ∙ next_block c.args.text.now c.loop-i.text blocks c.loop-i.i c.loop-i.invariant.made c.loop-i.auto.text within) c.loop-i.invariant.last) in
     record {
       made = one_more c.args.text.now c.loop-i.text blocks c.loop-i.i c.loop-i.invariant.made c.loop-i.auto.text c.copy_from_slice.new.self (c.copy_from_slice.ensures.after ∙ block) within;
       last = rw add-one block;
