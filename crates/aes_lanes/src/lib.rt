@@ -13,8 +13,6 @@ mod rows;
 mod sealing;
 mod sealing_rows;
 mod sealing_tower;
-#[cfg(test)]
-mod tests;
 mod tower;
 mod unsealing;
 

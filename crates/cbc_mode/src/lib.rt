@@ -3,7 +3,5 @@
 
 mod blocks;
 mod cbc;
-#[cfg(test)]
-mod tests;
 
 pub use cbc::Cbc;

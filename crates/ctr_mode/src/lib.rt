@@ -5,8 +5,6 @@ mod counter;
 mod ctr;
 mod key_stream;
 mod rfc3686;
-#[cfg(test)]
-mod tests;
 
 pub use ctr::Ctr;
 pub use key_stream::{CounterBlocks, KeyStream, apply_in_two, apply_key_stream};

@@ -8,6 +8,3 @@ mod segments;
 
 pub use gcm::{Gcm, takes_gcm_tag};
 pub use rfc4106::{Rfc4106, takes_rfc4106_tag};
-
-#[cfg(test)]
-mod tests;

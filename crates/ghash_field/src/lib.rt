@@ -13,6 +13,3 @@ pub use hash::absorb;
 pub use key::GhashKey;
 pub use nibble_ghash::NibbleGhash;
 pub use product::multiply;
-
-#[cfg(test)]
-mod tests;

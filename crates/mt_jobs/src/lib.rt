@@ -7,8 +7,6 @@ mod counter;
 mod ctr;
 mod job;
 pub mod laws;
-#[cfg(test)]
-mod tests;
 
 pub use chunks::{chunk_of, range_of};
 pub use ctr::ctr_chunked;

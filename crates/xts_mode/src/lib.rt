@@ -3,8 +3,6 @@
 
 mod blocks;
 mod direction;
-#[cfg(test)]
-mod tests;
 mod tweak;
 mod xts;
 

@@ -1,6 +1,6 @@
 //! The vectors of FIPS 197, and against AES byte by byte.
 
-use crate::LaneAes;
+use aes_lanes::LaneAes;
 use aes_block::{Aes, BlockCipher, seal_and_unseal};
 use kc_base::Errno;
 use std::process::Abort;

@@ -1,4 +1,4 @@
-use crate::{Aes, BlockCipher, seal_and_unseal, xor_block};
+use aes_block::{Aes, BlockCipher, seal_and_unseal, xor_block};
 use kc_base::Errno;
 use std::process::Abort;
 

@@ -1,6 +1,6 @@
 //! The vectors of IEEE Std 1619, annex B, and texts that another library sealed.
 
-use crate::Xts;
+use xts_mode::Xts;
 use aes_block::{Aes, Skcipher};
 use std::alloc::Global;
 use std::process::Abort;

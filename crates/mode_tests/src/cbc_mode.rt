@@ -1,6 +1,6 @@
 //! The vectors of SP 800-38A.
 
-use crate::Cbc;
+use cbc_mode::Cbc;
 use aes_block::{Aes, BlockCipher, Skcipher};
 use kc_base::Errno;
 use std::alloc::Global;

@@ -1,6 +1,6 @@
 //! Jobs by example, and CTR in many threads against CTR in one.
 
-use crate::{MtJob, chunk_of, ctr_chunked, range_of};
+use mt_jobs::{MtJob, chunk_of, ctr_chunked, range_of};
 use aes_block::{Aes, Skcipher};
 use ctr_mode::Ctr;
 use std::process::Abort;

@@ -1,6 +1,6 @@
 //! Vectors of the GCM specification's test case 2, and the block of one.
 
-use crate::{BitGhash, GhashKey, absorb, multiply};
+use ghash_field::{BitGhash, GhashKey, absorb, multiply};
 use std::process::Abort;
 use std_defs::block_bytes;
 

@@ -2,7 +2,7 @@
 
 ghost use Rattle.std.specs.Prelude.{◌<◌, vec_len};
 
-use crate::{Gcm, Rfc4106, takes_gcm_tag, takes_rfc4106_tag};
+use gcm_mode::{Gcm, Rfc4106, takes_gcm_tag, takes_rfc4106_tag};
 use aes_block::{Aes, BlockCipher};
 use ghash_field::BitGhash;
 use kc_base::Errno;
