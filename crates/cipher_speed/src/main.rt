@@ -8,8 +8,6 @@ ghost use Rattle.std.specs.Prelude.{◌≡◌, ◌<◌, IfOk, vec_len};
 
 mod chunked;
 mod sealing;
-#[cfg(test)]
-mod tests;
 
 use chunked::repeat_chunked;
 use sealing::{Form, Work, form_named, repeat, work_named};

@@ -1,9 +1,6 @@
 //! cryptd: a bounded queue whose jobs are served one at a time, in order, and that can be held.
 #![tactic(auto)]
 
-#[cfg(test)]
-mod tests;
-
 ghost use Rattle.std.specs.Prelude.{◌≡◌, ℕ, ◌+◌, ◌-◌, ◌*◌, ◌^◌, ◌<◌, ◌≤◌, nat_lt, Bool, true, false, ◌||◌, List, [], ◌∷◌, ◌++◌, length, IfOk, OnOk, MatchBool, MatchOption, ◌⊎◌};
 ghost use Rattle.kc_base.specs.declared.callback_list.Callback.TheVariants as Callback;
 ghost use Rattle.request_queue.specs.Line.{accepted, verdict_on, line_after, number_at_bound};

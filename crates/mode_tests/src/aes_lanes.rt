@@ -1,7 +1,7 @@
 //! The vectors of FIPS 197, and against AES byte by byte.
 
-use aes_lanes::LaneAes;
 use aes_block::{Aes, BlockCipher, seal_and_unseal};
+use aes_lanes::LaneAes;
 use kc_base::Errno;
 use std::process::Abort;
 

@@ -1,7 +1,7 @@
 //! The vectors of SP 800-38A.
 
-use cbc_mode::Cbc;
 use aes_block::{Aes, BlockCipher, Skcipher};
+use cbc_mode::Cbc;
 use kc_base::Errno;
 use std::alloc::Global;
 use std::test::Fail;

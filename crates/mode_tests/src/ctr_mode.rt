@@ -1,7 +1,7 @@
 //! The vectors of SP 800-38A and RFC 3686.
 
-use ctr_mode::{Ctr, Rfc3686};
 use aes_block::{Aes, BlockCipher, Skcipher};
+use ctr_mode::{Ctr, Rfc3686};
 use std::alloc::Global;
 use std::process::Abort;
 use std::test::Fail;

@@ -2,8 +2,8 @@
 
 ghost use Rattle.std.specs.Prelude.{◌<◌, vec_len};
 
-use gcm_mode::{Gcm, Rfc4106, takes_gcm_tag, takes_rfc4106_tag};
 use aes_block::{Aes, BlockCipher};
+use gcm_mode::{Gcm, Rfc4106, takes_gcm_tag, takes_rfc4106_tag};
 use ghash_field::BitGhash;
 use kc_base::Errno;
 use std::alloc::Global;

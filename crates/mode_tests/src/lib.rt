@@ -12,6 +12,8 @@ mod cbc_mode;
 #[cfg(test)]
 mod ctr_mode;
 #[cfg(test)]
+mod forms;
+#[cfg(test)]
 mod gcm_mode;
 #[cfg(test)]
 mod ghash_field;

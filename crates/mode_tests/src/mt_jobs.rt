@@ -1,8 +1,8 @@
 //! Jobs by example, and CTR in many threads against CTR in one.
 
-use mt_jobs::{MtJob, chunk_of, ctr_chunked, range_of};
 use aes_block::{Aes, Skcipher};
 use ctr_mode::Ctr;
+use mt_jobs::{MtJob, chunk_of, ctr_chunked, range_of};
 use std::process::Abort;
 use std::test::Fail;
 

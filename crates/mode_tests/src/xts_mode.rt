@@ -1,10 +1,10 @@
 //! The vectors of IEEE Std 1619, annex B, and texts that another library sealed.
 
-use xts_mode::Xts;
 use aes_block::{Aes, Skcipher};
 use std::alloc::Global;
 use std::process::Abort;
 use std::test::Fail;
+use xts_mode::Xts;
 
 /// The keys of vectors 4 to 9.
 const KEYS: [&str; 2] = [

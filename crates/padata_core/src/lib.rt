@@ -4,8 +4,6 @@
 pub mod laws;
 mod row;
 mod rows;
-#[cfg(test)]
-mod tests;
 
 ghost use Rattle.std.specs.Prelude.{◌≡◌, ℕ, ◌+◌, ◌-◌, ◌^◌, ◌<◌, ◌≤◌, List, [], ◌∷◌, ◌++◌, drop, length, slice_get, slice_set, Some, None, IfOk, OnOk, OnErr, IfSome, MatchOption, MatchBool, nat_lt};
 ghost use Rattle.std.specs.VecDeque.{deque_len, deque_capacity};

@@ -1,9 +1,6 @@
 //! A bounded queue of requests, with a backlog past its bound.
 #![tactic(auto)]
 
-#[cfg(test)]
-mod tests;
-
 ghost use Rattle.std.specs.Prelude.{◌≡◌, ℕ, ◌+◌, ◌-◌, ◌^◌, ◌<◌, ◌≤◌, nat_lt, ◌||◌, List, [], ◌∷◌, ◌++◌, length, IfOk, OnOk, MatchOption};
 ghost use Rattle.request_queue.specs.Line.{accepted, verdict_on, line_after, number_at_bound};
 

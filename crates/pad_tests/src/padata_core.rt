@@ -1,7 +1,7 @@
 ghost use Rattle.std.specs.Prelude.{◌≡◌, [], ◌∷◌, None, length, IfOk};
 
-use crate::Padata;
 use kc_base::{Callback, Callbacks};
+use padata_core::Padata;
 use std::alloc::Global;
 use std::test::Fail;
 

@@ -1,4 +1,4 @@
-use crate::{Queue, Verdict};
+use request_queue::{Queue, Verdict};
 use std::test::Fail;
 
 #[test]

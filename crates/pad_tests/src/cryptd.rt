@@ -1,4 +1,4 @@
-use crate::Cryptd;
+use cryptd::Cryptd;
 use kc_base::{Callback, Callbacks};
 use request_queue::Verdict;
 use std::test::Fail;
