@@ -4,20 +4,20 @@
 #![tactic(auto)]
 
 #[cfg(test)]
-mod aes_block;
+mod aes;
 #[cfg(test)]
-mod aes_lanes;
+mod cbc;
 #[cfg(test)]
-mod cbc_mode;
+mod chunks;
 #[cfg(test)]
-mod ctr_mode;
+mod ctr;
 #[cfg(test)]
 mod forms;
 #[cfg(test)]
-mod gcm_mode;
+mod gcm;
 #[cfg(test)]
-mod ghash_field;
+mod ghash;
 #[cfg(test)]
-mod mt_jobs;
+mod lanes;
 #[cfg(test)]
-mod xts_mode;
+mod xts;

@@ -4,8 +4,8 @@
 #![tactic(auto)]
 
 #[cfg(test)]
-mod cryptd;
+mod pads;
 #[cfg(test)]
-mod padata_core;
+mod queue;
 #[cfg(test)]
-mod request_queue;
+mod served_queue;
