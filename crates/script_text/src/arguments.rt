@@ -13,6 +13,9 @@ use kc_base::Bytes;
 use sg_walk::Segs;
 use std::alloc::{AllocError, AllocFailed, Global};
 
+/// The most parts that a text has.
+const MOST_PARTS: usize = 16;
+
 /// Why no command was read.
 #[derive(Clone, Copy, Debug, PartialEq, Eq)]
 pub enum ReadError {
@@ -50,19 +53,6 @@ pub fn hex_bytes(alloc: Global, token: &[u8]) -> Result<Bytes, ReadError>
     }
 }
 
-/// The bytes that each part spells.
-fn hex_parts(alloc: Global, parts: &[&[u8]]) -> Result<Vec<Bytes>, ReadError>
-    ensures { MatchResult result
-        (λ read. hexes_of (map (λ part. part.now) parts.now) ≡ Some read.items)
-        (λ error. error ≡ Malformed → hexes_of (map (λ part. part.now) parts.now) ≡ None) }
-{
-    let mut read = Vec::with_capacity(alloc, parts.len())?;
-    for part in parts {
-        read.push(hex_bytes(alloc, part)?)?;
-    }
-    Ok(read)
-}
-
 fn are_filled(parts: &[Bytes]) -> bool
     ensures { result ≡ list_all (λ part. nat_lt 0 (length part)) parts.now }
 {
@@ -72,22 +62,27 @@ fn are_filled(parts: &[Bytes]) -> bool
 fn are_segments(parts: &[Bytes]) -> bool
     ensures { result ≡ are_segments parts.now }
 {
-    parts.len() == 1 || parts.len() <= 16 && are_filled(parts)
+    parts.len() == 1 || parts.len() <= MOST_PARTS && are_filled(parts)
 }
 
-/// What stands between bars.
-fn split_bars(alloc: Global, token: &[u8]) -> Result<Vec<&[u8]>, AllocError>
-    ensures { IfOk result (λ parts. map (λ part. part.now) parts.items ≡ slice_split is_bar token.now) }
+// The bytes that each part between bars spells.
+fn hex_parts(alloc: Global, token: &[u8]) -> Result<Vec<Bytes>, ReadError>
+    ensures { MatchResult result
+        (λ read. hexes_of (slice_split is_bar token.now) ≡ Some read.items)
+        (λ error. error ≡ Malformed → hexes_of (slice_split is_bar token.now) ≡ None) }
 {
-    token.split(|b| *b == b'|').collect(alloc)
+    let mut read = Vec::new(alloc);
+    for part in token.split(|b| *b == b'|') {
+        read.push(hex_bytes(alloc, part)?)?;
+    }
+    Ok(read)
 }
 
 /// The text that a token spells in one part or several, each of which is read into a segment.
 pub fn segments(alloc: Global, token: &[u8]) -> Result<Segs, ReadError>
     ensures { Reads result (text_of token.now) }
 {
-    let parts = split_bars(alloc, token)?;
-    let parts = hex_parts(alloc, &parts)?;
+    let parts = hex_parts(alloc, token)?;
     if !are_segments(&parts) {
         return Err(ReadError::Malformed);
     }
