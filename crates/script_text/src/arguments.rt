@@ -43,7 +43,7 @@ impl<T: Drop> From<AllocFailed<T>> for ReadError {
 pub fn hex_bytes(alloc: Global, token: &[u8]) -> Result<Bytes, ReadError>
     ensures { Reads result (hex_of token.now) }
 {
-    if token == b"-".as_slice() {
+    if let [b'-'] = token {
         return Ok(Bytes::new(alloc));
     }
     match hex::decode(alloc, token) {
@@ -65,6 +65,17 @@ fn are_segments(parts: &[Bytes]) -> bool
     parts.len() == 1 || parts.len() <= MOST_PARTS && are_filled(parts)
 }
 
+// Before the first part, takes the room for all parts of the token that are as long.
+fn reserve_parts(parts: &mut Vec<Bytes>, token: &[u8], part: &[u8]) -> Result<(), AllocError>
+    ensures { parts.new.items ≡ parts.old.items }
+{
+    if parts.is_empty() {
+        let room = (token.len() + 1) / (part.len() + 1);
+        parts.reserve_exact(room.min(MOST_PARTS))?;
+    }
+    Ok(())
+}
+
 // The bytes that each part between bars spells.
 fn hex_parts(alloc: Global, token: &[u8]) -> Result<Vec<Bytes>, ReadError>
     ensures { MatchResult result
@@ -73,6 +84,7 @@ fn hex_parts(alloc: Global, token: &[u8]) -> Result<Vec<Bytes>, ReadError>
 {
     let mut read = Vec::new(alloc);
     for part in token.split(|b| *b == b'|') {
+        reserve_parts(&mut read, token, part)?;
         read.push(hex_bytes(alloc, part)?)?;
     }
     Ok(read)
