@@ -1,5 +1,6 @@
 -- The parts of a text.
-use Rattle.std.proofs.Common.{◌≡◌, ℕ, ◌+◌, ◌≤◌, Bool, true, false, cond, List, [], ◌∷◌, ◌++◌, length, Option, Some, None, arith, length-append}
+use Rattle.std.proofs.Common.{◌≡◌, ◌∙◌, refl, sym, ap, ℕ, ◌+◌, ◌<◌, ◌≤◌, Bool, true, false, cond, List, [], ◌∷◌, ◌++◌, length, get_or, drop, Option, Some, None, arith, append_assoc, append-nil, length-append}
+use Rattle.std.proofs.lemmas.List.{at_drop_more, at_drop_all}
 use Rattle.std.specs.Prelude.{IfSome, codes}
 use Rattle.std.specs.List.{concat, onto_first, slice_split}
 use Rattle.std.specs.Result.{result_ok}
@@ -11,6 +12,28 @@ use Rattle.script_text.specs.Arguments.{◌>>=◌, hex_of, hexes_of, is_bar}
 -- these parts, and those that the rest spells
 abbrev pub going_on : List (List ℕ) → Option (List (List ℕ)) → Option (List (List ℕ))
 going_on read rest = rest >>= (λ more. Some (read ++ more))
+
+joined : (read : List (List ℕ)) (bytes : List ℕ) (rest : Option (List (List ℕ))) → going_on read (rest >>= (λ more. Some (bytes ∷ more))) ≡ going_on (read ++ bytes ∷ []) rest
+joined read bytes (Some more) = ap (λ parts. Some parts) (sym (append_assoc read (bytes ∷ []) more))
+joined read bytes None = refl
+
+-- the n-th of these parts is read, or isn't any, or all were
+module _ (read parts : List (List ℕ)) (n : ℕ) where
+  module _ (part : List ℕ) (turn : (n < length parts) × (part ≡ get_or parts n part)) where
+    abbrev then : Option (List ℕ) → Option (List (List ℕ))
+    then spelled = spelled >>= (λ bytes. hexes_of (drop (n + 1) parts) >>= (λ more. Some (bytes ∷ more)))
+
+    here : hexes_of (drop n parts) ≡ then (hex_of part)
+    here = at_drop_more hexes_of parts n part turn.0 ∙ ap (λ p. hexes_of (p ∷ drop (n + 1) parts)) (sym turn.1)
+
+    pub part_read : (bytes : List ℕ) → hex_of part ≡ Some bytes → going_on read (hexes_of (drop n parts)) ≡ going_on (read ++ bytes ∷ []) (hexes_of (drop (n + 1) parts))
+    part_read bytes spelled = ap (going_on read) (here ∙ ap then spelled) ∙ joined read bytes (hexes_of (drop (n + 1) parts))
+
+    pub part_malformed : hex_of part ≡ None → going_on read (hexes_of (drop n parts)) ≡ None
+    part_malformed none = ap (going_on read) (here ∙ ap then none)
+
+  pub all_read : length parts ≤ n → going_on read (hexes_of (drop n parts)) ≡ Some read
+  all_read none_left = ap (going_on read) (at_drop_all hexes_of parts n none_left) ∙ ap (λ parts. Some parts) (append-nil read)
 
 -- ---- all parts together spell no more bytes than the token has
 

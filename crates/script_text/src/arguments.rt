@@ -13,6 +13,9 @@ use kc_base::Bytes;
 use sg_walk::Segs;
 use std::alloc::{AllocError, AllocFailed, Global};
 
+/// The most parts that a text has.
+const MOST_PARTS: usize = 16;
+
 /// Why no command was read.
 #[derive(Clone, Copy, Debug, PartialEq, Eq)]
 pub enum ReadError {
@@ -40,7 +43,7 @@ impl<T: Drop> From<AllocFailed<T>> for ReadError {
 pub fn hex_bytes(alloc: Global, token: &[u8]) -> Result<Bytes, ReadError>
     ensures { Reads result (hex_of token.now) }
 {
-    if token == b"-".as_slice() {
+    if let [b'-'] = token {
         return Ok(Bytes::new(alloc));
     }
     match hex::decode(alloc, token) {
@@ -48,19 +51,6 @@ pub fn hex_bytes(alloc: Global, token: &[u8]) -> Result<Bytes, ReadError>
         Err(FromHexError::OutOfMemory) => Err(ReadError::NoMemory),
         Err(_) => Err(ReadError::Malformed),
     }
-}
-
-/// The bytes that each part spells.
-fn hex_parts(alloc: Global, parts: &[&[u8]]) -> Result<Vec<Bytes>, ReadError>
-    ensures { MatchResult result
-        (λ read. hexes_of (map (λ part. part.now) parts.now) ≡ Some read.items)
-        (λ error. error ≡ Malformed → hexes_of (map (λ part. part.now) parts.now) ≡ None) }
-{
-    let mut read = Vec::with_capacity(alloc, parts.len())?;
-    for part in parts {
-        read.push(hex_bytes(alloc, part)?)?;
-    }
-    Ok(read)
 }
 
 fn are_filled(parts: &[Bytes]) -> bool
@@ -72,22 +62,39 @@ fn are_filled(parts: &[Bytes]) -> bool
 fn are_segments(parts: &[Bytes]) -> bool
     ensures { result ≡ are_segments parts.now }
 {
-    parts.len() == 1 || parts.len() <= 16 && are_filled(parts)
+    parts.len() == 1 || parts.len() <= MOST_PARTS && are_filled(parts)
 }
 
-/// What stands between bars.
-fn split_bars(alloc: Global, token: &[u8]) -> Result<Vec<&[u8]>, AllocError>
-    ensures { IfOk result (λ parts. map (λ part. part.now) parts.items ≡ slice_split is_bar token.now) }
+// Before the first part, takes the room for all parts of the token that are as long.
+fn reserve_parts(parts: &mut Vec<Bytes>, token: &[u8], part: &[u8]) -> Result<(), AllocError>
+    ensures { parts.new.items ≡ parts.old.items }
 {
-    token.split(|b| *b == b'|').collect(alloc)
+    if parts.is_empty() {
+        let room = (token.len() + 1) / (part.len() + 1);
+        parts.reserve_exact(room.min(MOST_PARTS))?;
+    }
+    Ok(())
+}
+
+// The bytes that each part between bars spells.
+fn hex_parts(alloc: Global, token: &[u8]) -> Result<Vec<Bytes>, ReadError>
+    ensures { MatchResult result
+        (λ read. hexes_of (slice_split is_bar token.now) ≡ Some read.items)
+        (λ error. error ≡ Malformed → hexes_of (slice_split is_bar token.now) ≡ None) }
+{
+    let mut read = Vec::new(alloc);
+    for part in token.split(|b| *b == b'|') {
+        reserve_parts(&mut read, token, part)?;
+        read.push(hex_bytes(alloc, part)?)?;
+    }
+    Ok(read)
 }
 
 /// The text that a token spells in one part or several, each of which is read into a segment.
 pub fn segments(alloc: Global, token: &[u8]) -> Result<Segs, ReadError>
     ensures { Reads result (text_of token.now) }
 {
-    let parts = split_bars(alloc, token)?;
-    let parts = hex_parts(alloc, &parts)?;
+    let parts = hex_parts(alloc, token)?;
     if !are_segments(&parts) {
         return Err(ReadError::Malformed);
     }

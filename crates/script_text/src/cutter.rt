@@ -36,12 +36,17 @@ impl Model for LineCutter {
     ghost invariant = { λ c. (c.at ≤ c.seen) × (c.seen ≤ vec_len c.bytes) };
 }
 
-// Takes so many bytes off the front.
+// Takes so many bytes off the front. Where there are none to take, it moves nothing, as pieces of a line may be short.
 fn drop_front(bytes: &mut Vec<u8>, count: usize)
     requires { count ≤ vec_len bytes.old }
     ensures { bytes.new.items ≡ drop count bytes.old.items }
 {
-    bytes.drain(..count);
+    if count == 0 {
+        return;
+    }
+    let rest = bytes.len() - count;
+    bytes.copy_within(count.., 0);
+    bytes.truncate(rest);
 }
 
 // What a line says that a line feed ends.

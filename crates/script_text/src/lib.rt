@@ -8,8 +8,6 @@ mod line_reader;
 mod reading;
 mod rows;
 mod split;
-#[cfg(test)]
-mod tests;
 mod texts;
 mod tokens;
 

@@ -10,4 +10,6 @@ mod hostile_lines;
 #[cfg(test)]
 mod replies;
 #[cfg(test)]
+mod script_lines;
+#[cfg(test)]
 mod written_traces;

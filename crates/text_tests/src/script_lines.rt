@@ -1,0 +1,248 @@
+//! What the lines of a script say, and lines out of pieces.
+
+ghost use Rattle.std.specs.Prelude.{◌<◌};
+
+use kc_base::{Bytes, MemSource};
+use script_text::{Command, Line, LineCutter, LineReader, read_line};
+use std::alloc::{AllocError, Global};
+use std::test::Fail;
+
+// What a line says, in a form that a table can hold.
+#[derive(Clone, Copy, Debug, PartialEq, Eq)]
+enum Said {
+    Nothing,
+    Malformed,
+    // `aes` with so many bytes of key and of block
+    Aes(usize, usize),
+    Another,
+}
+
+fn seen(line: &Line) -> Said {
+    match line {
+        Line::Nothing => Said::Nothing,
+        Line::Malformed => Said::Malformed,
+        Line::Cmd(Command::Aes { key, block }) => Said::Aes(key.len(), block.len()),
+        Line::Cmd(_) => Said::Another,
+    }
+}
+
+fn read_said(alloc: Global, line: &[u8]) -> Result<Said, AllocError> {
+    Ok(seen(&read_line(alloc, line)?))
+}
+
+#[test]
+fn lines_say_what_they_say(rt: HostRuntime) -> Result<(), Fail> {
+    let table: [(&[u8], Said); 24] = [
+        (b"", Said::Nothing),
+        (b"\n", Said::Nothing),
+        (b" \t \n", Said::Nothing),
+        (b"# note\n", Said::Nothing),
+        (b"  #note \x80\n", Said::Nothing),
+        (b"aes 0001 fF\n", Said::Aes(2, 1)),
+        (b"aes 0001 fF", Said::Aes(2, 1)),
+        (b"aes 0001 fF\r\n", Said::Aes(2, 1)),
+        (b"\t aes \t0001  fF \t\n", Said::Aes(2, 1)),
+        (b"aes - -\n", Said::Aes(0, 0)),
+        // a carriage return that no line feed follows
+        (b"aes 0001 fF\r", Said::Malformed),
+        (b"\r", Said::Malformed),
+        (b"aes\r0001 fF\n", Said::Malformed),
+        (b"aes 0001 fF\r\r\n", Said::Malformed),
+        // no digits, and half a byte
+        (b"aes 0001 fg\n", Said::Malformed),
+        (b"aes 0001 f\n", Said::Malformed),
+        (b"aes --  00\n", Said::Malformed),
+        // another number of tokens
+        (b"aes\n", Said::Malformed),
+        (b"aes 00\n", Said::Malformed),
+        (b"aes 00 00 #\n", Said::Malformed),
+        // bytes that are not printed
+        (b"aes 00\x00 00\n", Said::Malformed),
+        (b"aes 00 \x7f\n", Said::Malformed),
+        (b"\x80\n", Said::Malformed),
+        (b"AES 00 00\n", Said::Malformed),
+    ];
+    for (line, want) in table {
+        assert_eq!(rt; read_said(rt.alloc(), line)?, want, "{line:?}");
+    }
+    Ok(())
+}
+
+// Lines that are commands: each of them, and what just fits.
+const COMMANDS: &[u8] = b"register cbc(aes-generic) 0200
+unregister aes-generic
+probe pcrypt(gcm(aes))
+probe a b c d e f g h i j k l m n o cbc(aes
+alloc a authenc(hmac(sha256),cbc(aes))
+alloc a cryptd(gcm(aes)) 010
+key t -
+key T-0_z aAbB
+authsize t 16
+enc t 01 0203 040506
+enc t 01 - 0405 backlog
+enc t 01 - 6bc1bee22e|409f96e93d7e1173|93172a
+dec t 01 0203 040506
+dec t - 02 - backlog
+mac t 0102
+mac t 00|01|02|03|04|05|06|07|08|09|0a|0b|0c|0d|0e|0f backlog
+bulk t 16777216 0
+mask t 00ff
+hold T-0_z
+go T-0_z
+poll T-0_z
+\tdrain  - \r
+free abcdefghijklmnopqrstuvwxyz-_0123
+refs #!
+register a 999999999
+register a 000000000
+\tlist ";
+
+// Lines that nearly are commands.
+const MALFORMED: &[u8] = b"free abcdefghijklmnopqrstuvwxyz-_01234
+free a.b
+go a:b
+poll a(b)
+drain a/b
+key a/b 00
+register a 0000000001
+register a 1000000000
+register a +1
+register a -
+authsize t 0x10
+alloc t aes ten
+key t 012
+mac t 0g
+bulk t 1 -
+mask t 00000
+mask t 000g
+enc t 00 0 00
+dec t 00 00 --
+register
+register a
+register a 1 2
+unregister
+unregister a b
+probe
+probe a b c d e f g h i j k l m n o p q
+probes a
+alloc t
+alloc t aes 1 2
+key t
+key t 00 00
+authsize t
+authsize t 1 1
+enc t 00 00
+enc t 00 00 00 00
+enc t 00 00 00 backlog backlog
+dec t 00 00
+dec t 00 00 00 Backlog
+mac t
+mac t 00 backlo
+mac t 00 backlog 00
+bulk t 1
+bulk t 1 2 backlog
+mask t
+mask t 0001 0001
+hold
+hold t u
+go
+go t u
+poll
+poll t 1
+drain
+drain t backlog
+free
+free t u
+refs
+refs a b
+list a
+List
+lists
+DRAIN t
+encrypt t 00 00 00";
+
+// The first line, counted from 1, that doesn't say this.
+fn first_but(alloc: Global, script: &[u8], wanted: Said) -> Result<Option<u32>, AllocError> {
+    let mut number = 0u32;
+    for line in script.split_inclusive(|b| *b == b'\n') {
+        number = number.saturating_add(1);
+        if read_said(alloc, line)? != wanted {
+            return Ok(Some(number));
+        }
+    }
+    Ok(None)
+}
+
+#[test]
+fn commands_are_read_and_nothing_else(rt: HostRuntime) -> Result<(), Fail> {
+    for (script, want) in [(COMMANDS, Said::Another), (MALFORMED, Said::Malformed)] {
+        assert_eq!(rt; first_but(rt.alloc(), script, want)?, None, "{want:?}");
+    }
+    Ok(())
+}
+
+// What the next line says, and what the last one does.
+fn next_said(cutter: &mut LineCutter) -> Result<Option<Said>, AllocError> {
+    Ok(cutter.next()?.map(|line| seen(&line)))
+}
+
+fn last_said(cutter: &mut LineCutter) -> Result<Option<Said>, AllocError> {
+    Ok(cutter.last()?.map(|line| seen(&line)))
+}
+
+// What a script says that comes in pieces of so many bytes.
+fn said_in_pieces(alloc: Global, script: &[u8], size: usize) -> Result<Vec<Said>, AllocError>
+    requires { 0 < size }
+{
+    let mut cutter = LineCutter::new(alloc);
+    let mut found = Vec::new(alloc);
+    for piece in script.chunks(size) {
+        cutter.feed(piece)?;
+        // a piece ends no more lines than it has bytes
+        for _ in piece {
+            found.extend(next_said(&mut cutter)?)?;
+        }
+    }
+    found.extend(last_said(&mut cutter)?)?;
+    Ok(found)
+}
+
+// What a script says that is read from a source, so many bytes at once.
+fn said_by_reader(alloc: Global, script: &[u8], step: usize) -> Result<Vec<Said>, AllocError>
+    requires { 0 < step }
+{
+    let bytes = Bytes::copy_of(alloc, script)?;
+    let mut source = MemSource::new(bytes, step, Vec::new(alloc));
+    let mut reader = LineReader::new(alloc, script.len())?;
+    let mut found = Vec::new(alloc);
+    // a script has no more lines than bytes
+    for _ in script {
+        if let Ok(Some(line)) = reader.next(&mut source) {
+            found.push(seen(&line))?;
+        }
+    }
+    Ok(found)
+}
+
+#[test]
+fn pieces_make_lines_wherever_they_are_cut(rt: HostRuntime) -> Result<(), Fail> {
+    let script = b"# note\r\naes 00 0001\nfrob\n\naes 00 -";
+    let want = [
+        Said::Nothing,
+        Said::Aes(1, 2),
+        Said::Malformed,
+        Said::Nothing,
+        Said::Aes(1, 0),
+    ];
+    for size in 1..12usize {
+        let cut = said_in_pieces(rt.alloc(), script, size)?;
+        let read = said_by_reader(rt.alloc(), script, size)?;
+        assert_eq!(rt; cut.as_slice(), want.as_slice(), "pieces of {size} bytes");
+        assert_eq!(rt;
+            read.as_slice(),
+            want.as_slice(),
+            "read {size} bytes at once"
+        );
+    }
+    Ok(())
+}
