@@ -1,9 +1,10 @@
-use Rattle.std.proofs.Common.{◌∙◌, ap}
+use Rattle.std.proofs.Common.{◌∙◌, ap, sym, rules}
 use Rattle.dialogues.specs.Piping.{poll, drain}
 use Rattle.dialogues.specs.Widths.{width_of}
 use Rattle.script_text.specs.declared.commands.Command.TheVariants as command
 use Rattle.script_text.specs.declared.commands.Line.TheVariants as line
 use Rattle.script_session.proofs.Commands.{done-on, line-replies, line-ready, line-unwritten, line-uncalled, answers-reply}
+use Rattle.script_session.proofs.scripts.Session.line.Goals.{in_default-via-in-Cmd+in-Aes-1, in_default-via-in-Nothing-1}
 use Rattle.script_session.proofs.scripts.Session.line.Goals as goal
 
 pub returns-in-Cmd-Poll-clause-done : goal.returns-in-Cmd-Poll-clause-done
@@ -37,7 +38,13 @@ pub returns-in-Cmd-Drain-clause-uncalled : goal.returns-in-Cmd-Drain-clause-unca
 returns-in-Cmd-Drain-clause-uncalled g c = line-uncalled c.drain_into.result _ _ c.args.self.now c.drain_into.new.self _ _ c.drain_into.ensures
 
 pub returns-in_default-clause-done : goal.returns-in_default-clause-done
-returns-in_default-clause-done g c = answers-reply (width_of c.args.line) c.say_line.result _ c.args.self.now c.say_line.new.self _ _ c.say_line.ensures.done
+returns-in_default-clause-done g c =
+    let s = c.args.self.now in
+    let replied = answers-reply _ c.say_line.result _ s c.say_line.new.self _ _ c.say_line.ensures.done in
+    elim c.in_default-1.branch [
+      in_default-via-in-Cmd+in-Aes-1 w ↦ done-on c.say_line.result s c.say_line.new.self c.args.number c.args.line _ _ _ (search rules) replied
+      | in_default-via-in-Nothing-1 w ↦ done-on c.say_line.result s c.say_line.new.self c.args.number c.args.line _ _ _ (sym w.line-is) replied
+    ]
 
 pub returns-in_default-clause-ready : goal.returns-in_default-clause-ready
-returns-in_default-clause-ready g c = line-ready (width_of c.args.line) c.say_line.result _ c.args.registry.now c.args.board.now _ c.args.self.now c.say_line.new.self _ _ c.requires.ready c.say_line.ensures.done
+returns-in_default-clause-ready g c = line-ready _ c.say_line.result _ c.args.registry.now c.args.board.now _ c.args.self.now c.say_line.new.self _ _ c.requires.ready c.say_line.ensures.done
