@@ -20,8 +20,8 @@ loop-callback-preserved c =
     let text = c.args.reply.now.text in
     let told = flat_map text_of (map (callback_said lines) (take i callbacks)) in (
       c.put_callback.ensures.text
-      ∙ (ap (λ x. x ++ text_of (callback_said lines item)) c.loop-callback.invariant.0
-      ∙ (append_assoc text told (text_of (callback_said lines item))
-      ∙ ap (λ x. text ++ x) (ap (λ x. told ++ text_of (callback_said lines x)) c.callback-item.is ∙ sym (said-more lines callbacks i item c.loop-callback-test.true)))),
+          ∙ (ap (λ x. x ++ text_of (callback_said lines item)) c.loop-callback.invariant.0
+          ∙ (append_assoc text told (text_of (callback_said lines item))
+          ∙ ap (λ x. text ++ x) (ap (λ x. told ++ text_of (callback_said lines x)) c.callback-item.is ∙ sym (said-more lines callbacks i item c.loop-callback-test.true)))),
       omega (arith, room-more callbacks i item c.loop-callback-test.true, ap callback_room c.callback-item.is, c.loop-callback.invariant.1, c.put_callback.ensures.left),
     )

@@ -1,4 +1,4 @@
-use Rattle.std.proofs.Common.{◌≡◌, ◌+◌, ◌++◌, ap, sym, refl, ◌∙◌, map, length, arith}
+use Rattle.std.proofs.Common.{◌++◌, ap, sym, refl, ◌∙◌, map, length, arith}
 use Rattle.std.specs.Prelude.{sum_by}
 use Rattle.std.specs.List.{flat_map}
 use Rattle.board.specs.Allowance.{accepted_by}
@@ -11,7 +11,7 @@ use Rattle.script_session.specs.Ending.{end_said}
 use Rattle.script_session.specs.Saying.{callback_room}
 use Rattle.script_session.specs.Telling.{callback_said}
 use Rattle.script_session.proofs.Arms.{sees-same, kept-sees}
-use Rattle.script_session.proofs.Ended.{stays-put, paid-last}
+use Rattle.script_session.proofs.Ended.{stays-put}
 use Rattle.script_session.proofs.Leading.{drains-none}
 use Rattle.script_session.proofs.Moving.{fails}
 use Rattle.script_session.proofs.Piped.{from-empty}

@@ -1,6 +1,5 @@
 use Rattle.std.proofs.Common.{◌∙◌, ap, sym, rules}
 use Rattle.dialogues.specs.Piping.{poll, drain}
-use Rattle.dialogues.specs.Widths.{width_of}
 use Rattle.script_text.specs.declared.commands.Command.TheVariants as command
 use Rattle.script_text.specs.declared.commands.Line.TheVariants as line
 use Rattle.script_session.proofs.Commands.{done-on, line-replies, line-ready, line-unwritten, line-uncalled, answers-reply}
@@ -42,7 +41,7 @@ returns-in_default-clause-done g c =
     let s = c.args.self.now in
     let replied = answers-reply _ c.say_line.result _ s c.say_line.new.self _ _ c.say_line.ensures.done in
     elim c.in_default-1.branch [
-      in_default-via-in-Cmd+in-Aes-1 w ↦ done-on c.say_line.result s c.say_line.new.self c.args.number c.args.line _ _ _ (search rules) replied
+      | in_default-via-in-Cmd+in-Aes-1 w ↦ done-on c.say_line.result s c.say_line.new.self c.args.number c.args.line _ _ _ (search rules) replied
       | in_default-via-in-Nothing-1 w ↦ done-on c.say_line.result s c.say_line.new.self c.args.number c.args.line _ _ _ (sym w.line-is) replied
     ]
 
