@@ -139,4 +139,23 @@ impl Reply {
     {
         say_answer(self, answer)
     }
+
+    /// Adds what a request of this line gave, as [`Reply::put`] adds `Answer::Done`, without a copy of the bytes.
+    pub fn put_done(&mut self, line: u32, bytes: &[u8]) -> Result<(), AllocError>
+        ensures ok { OnOk result (self.new.text ≡ self.old.text ++ text_of (Answer.Done line bytes.now)) }
+        ensures err { OnErr result (self.new ≡ self.old) }
+        ensures room { length (text_of (Answer.Done line bytes.now)) ≤ self.old.spare → IsOk result }
+        ensures left { self.old.spare ≤ self.new.spare + length (text_of (Answer.Done line bytes.now)) }
+    {
+        say_bytes(self, line, b"done", bytes)
+    }
+    /// Adds the line `end` of this label, as [`Reply::put`] adds `Answer::End`, without a copy of the label.
+    pub fn put_end(&mut self, label: &[u8], count: u64) -> Result<(), AllocError>
+        ensures ok { OnOk result (self.new.text ≡ self.old.text ++ text_of (Answer.End label.now count)) }
+        ensures err { OnErr result (self.new ≡ self.old) }
+        ensures room { length (text_of (Answer.End label.now count)) ≤ self.old.spare → IsOk result }
+        ensures left { self.old.spare ≤ self.new.spare + length (text_of (Answer.End label.now count)) }
+    {
+        say_end(self, label, count)
+    }
 }

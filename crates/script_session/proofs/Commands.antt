@@ -1,6 +1,6 @@
 -- Commands, lines, and their text.
-use Rattle.std.proofs.Common.{◌≡◌, ℕ, List, [], ◌++◌, Result, refl, sym, ap, subst, ◌∙◌}
-use Rattle.std.specs.Prelude.{◌≤◌, MatchResult}
+use Rattle.std.proofs.Common.{◌≡◌, ℕ, List, [], ◌++◌, Result, Ok, Err, OnOk, refl, sym, ap, subst, ◌∙◌}
+use Rattle.std.specs.Prelude.{◌≤◌, MatchResult, OnErr}
 use Rattle.std.specs.List.{flat_map}
 use Rattle.transforms.specs.declared.ask.Ask.{Ask}
 use Rattle.transforms.specs.declared.request.Finished.{Finished}
@@ -18,7 +18,9 @@ use Rattle.dialogues.specs.Widths.{command_width, width_of}
 use Rattle.transforms.specs.declared.request.Request.{Request}
 use Rattle.session_calls.specs.Passes.{known}
 use Rattle.script_session.specs.Holding.{HoldsBy, Holds, Stops}
+use Rattle.session_calls.specs.Pipelines.{Called}
 use Rattle.script_session.specs.Running.{IsReady, Replies}
+use Rattle.script_session.specs.Saying.{SaysBy, BreaksOff}
 use Rattle.script_session.specs.States.{State, Stands, Posted}
 use Rattle.script_session.proofs.Rules.{asked-nothing, called-nothing}
 use Rattle.std.proofs.Common.{append-nil}
@@ -89,3 +91,36 @@ replies {width} d s s' answers text text' held e =
 pub ready : {W : Type 0} {width : ℕ} (registry : SharedRegistry) (board : SharedBoard W Ask Finished) (d : Dialogue) (s s' : State) (answers answers' : List Answer) → IsReady registry board s → HoldsBy width d s s' answers answers' → IsReady registry board s'
 ready {W} {width} registry board d s s' answers answers' is held =
     record { calls_registry = held.locks.registry ∙ is.calls_registry; calls_board = held.locks.board ∙ is.calls_board; stands = held.done.stands; posted = held.done.posted; few = subst (λ w. w ≤ 16) (sym held.locks.workers) is.few; wide = held.wide is.wide }
+
+-- ---- lines whose text goes straight into the reply
+
+pub line-replies : {S A : Type 0} {width : ℕ} (result : Result A S) (d : Dialogue) (s s' : State) (text text' : List ℕ) → MatchResult result (λ _. SaysBy width d s s' text text') (λ _. BreaksOff s s' text text')
+    → MatchResult result (λ _. Replies width d s s' text text') (λ _. Stops s s')
+line-replies (Ok done) d s s' text text' says = replies d s s' says.said text text' says.held says.says
+line-replies (Err stop) d s s' text text' breaks = breaks.stops
+
+pub line-ready : {S A W : Type 0} {width : ℕ} (result : Result A S) (Broken : Type 0) (registry : SharedRegistry) (board : SharedBoard W Ask Finished) (d : Dialogue) (s s' : State) (text text' : List ℕ) → IsReady registry board s
+    → MatchResult result (λ _. SaysBy width d s s' text text') (λ _. Broken) → OnOk result (IsReady registry board s')
+line-ready (Ok done) Broken registry board d s s' text text' is says = ready registry board d s s' [] says.said is says.held
+line-ready (Err stop) Broken registry board d s s' text text' is breaks = tt
+
+pub line-unwritten : {S A : Type 0} (result : Result A S) (Said : Type 0) (s s' : State) (text text' : List ℕ) → MatchResult result (λ _. Said) (λ _. BreaksOff s s' text text') → OnErr result (text' ≡ text)
+line-unwritten (Ok done) Said s s' text text' says = tt
+line-unwritten (Err stop) Said s s' text text' breaks = breaks.says
+
+pub line-uncalled : {S A : Type 0} (result : Result A S) (Said If : Type 0) (s s' : State) (text text' : List ℕ) → MatchResult result (λ _. Said) (λ _. BreaksOff s s' text text') → OnErr result (If → Called (known s.board) (known s'.board) [])
+line-uncalled (Ok done) Said If s s' text text' says = tt
+line-uncalled (Err stop) Said If s s' text text' breaks = λ so. breaks.called
+
+-- the same of a line whose answers are put together
+pub answers-reply : {S A : Type 0} {width : ℕ} (result : Result A S) (d : Dialogue) (s s' : State) (text text' : List ℕ) → MatchResult result (λ _. SaysBy width d s s' text text') (λ _. Stops s s')
+    → MatchResult result (λ _. Replies width d s s' text text') (λ _. Stops s s')
+answers-reply (Ok done) d s s' text text' says = replies d s s' says.said text text' says.held says.says
+answers-reply (Err stop) d s s' text text' stops = stops
+
+-- of a line that is such a one
+pub done-on : {S A : Type 0} (result : Result A S) (s s' : State) (n : ℕ) (line given : Line) (text text' : List ℕ) → line ≡ given
+    → MatchResult result (λ _. Replies (width_of given) (line_dialogue s.workers s.walk n given) s s' text text') (λ _. Stops s s')
+    → MatchResult result (λ _. Replies (width_of line) (line_dialogue s.workers s.walk n line) s s' text text') (λ _. Stops s s')
+done-on result s s' n line given text text' is replied =
+    subst (λ x. MatchResult result (λ _. Replies (width_of x) (line_dialogue s.workers s.walk n x) s s' text text') (λ _. Stops s s')) (sym is) replied

@@ -19,3 +19,5 @@ pub mod Commands
 pub mod Leading
 pub mod Moving
 pub mod Ended
+pub mod Rooms
+pub mod Said

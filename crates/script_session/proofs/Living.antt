@@ -4,6 +4,7 @@ use Rattle.std.specs.Prelude.{All, MatchResult, sum_by}
 use Rattle.std.specs.List.{position_from}
 use Rattle.std.proofs.Math.ListN.{set}
 use Rattle.std.proofs.lemmas.List.Elements.{All-head}
+use Rattle.board.specs.Allowance.{accepted_by}
 use Rattle.board.specs.declared.entry.BoardEntry.{BoardEntry}
 use Rattle.reply_text.specs.declared.answers.Answer.{Answer}
 use Rattle.transforms.specs.declared.ask.Ask.{Ask}
@@ -14,9 +15,11 @@ use Rattle.dialogues.specs.Dialogues.{Dialogue, with_label}
 use Rattle.dialogues.specs.Walk.{Walk, Live, is_of, live_of, with_live, replaced}
 use Rattle.script_session.specs.States.{State, counted, HasPipe, Posted, Stands, MadeWide}
 use Rattle.session_calls.specs.Passes.{RegPass, BoardPass, known, lock_of}
+use Rattle.session_calls.specs.Pipelines.{Called}
 use Rattle.script_session.specs.Changing.{HoldsFor, counting, asks_if}
 use Rattle.script_session.specs.Holding.{HasSeenMore, SeesOn, Done, Holds, Stops}
-use Rattle.script_session.proofs.Arms.{viewed}
+use Rattle.script_session.specs.Saying.{SaysFor, BreaksFor, SaysBy, BreaksOff}
+use Rattle.script_session.proofs.Arms.{viewed, called-sees}
 use Rattle.script_session.proofs.Changing.{IsOn, All-right, replaced-at, live-done}
 use Rattle.script_session.proofs.Placed.{Split, split-at, none-at, split-set, split-within, split-live}
 use Rattle.script_session.proofs.Widths.{wide-changes}
@@ -100,3 +103,25 @@ module _ {ws c : ℕ} {items : List Live} {q v : ℕ} {r : Option RegPass} {b : 
   request-arm n place at old new rest d s' b' false size ask answers answers' same_d is lock stands posted sized held e =
       subst (λ x. Holds (with_label s.walk n label (rest s.walk)) s x answers answers') (sym e)
       (live-holds n place at old new rest d q v b' [] answers answers' same_d is lock (omega arith) (omega arith) stands posted held)
+
+  -- what the session has counted is what was accepted from it
+  pub bytes-at : Posted s.walk (known s.board) → sum_by ask_size (accepted_by (known b).number (known b).seen) ≡ v
+  bytes-at posted = subst (λ (x : State). sum_by ask_size (accepted_by (known x.board).number (known x.board).seen) ≡ x.walk.bytes) (sym view) posted.bytes
+
+  -- the same of an arm whose text is added to a reply
+  pub text-arm : {S A : Type 0} (n place : ℕ) (at : Some place ≡ position_from (is_of name) 0 slice) (old new : Live) (rest : Walk → Live → Dialogue) (b' : Option BoardPass) (text text' : List ℕ) (result : Result A S)
+      → old ≡ slice_index_or items place old → lock_of b' ≡ lock_of b → Stands s.walk.lives (known s.registry) → Posted s.walk (known s.board)
+      → MatchResult result (λ _. SaysFor (λ walk. rest walk old) old new (known b) (known b') text text') (λ _. BreaksFor (known b) (known b') text text')
+      → MatchResult result (λ _. SaysBy 1 (with_label s.walk n label (rest s.walk)) s (viewed ws c (set items place new) q v r b') text text') (λ _. BreaksOff s (viewed ws c (set items place new) q v r b') text text')
+  text-arm n place at old new rest b' text text' (Ok a) is lock stands posted says =
+      record {
+        said = says.said;
+        held = live-holds n place at old new rest (λ walk. rest walk old) q v b' [] [] says.said refl is lock (omega arith) (omega arith) stands posted says.held;
+        says = says.says;
+      }
+  text-arm n place at old new rest b' text text' (Err e) is lock stands posted breaks =
+      record {
+        stops = live-stops place new q v b' lock stands (called-sees (known b) (known b') [] breaks.called breaks.unshut);
+        called = subst (λ (x : State). Called (known x.board) (known b') []) view breaks.called;
+        says = breaks.says;
+      }

@@ -6,6 +6,7 @@ use Rattle.std.proofs.Math.ListN.{set}
 use Rattle.std.proofs.lemmas.List.{length-map, map-append, take_more, take_more_set, drop_more, get_or-drop, take-append-drop, take-set, drop-set, drop-set-lt, take_all}
 use Rattle.std.proofs.lemmas.List.Elements.{All-nil, All-cons, All-head, All-append}
 use Rattle.board.specs.declared.entry.BoardEntry.{BoardEntry}
+use Rattle.board.specs.Allowance.{accepted_by}
 use Rattle.board.specs.Legal.{LegalBoard}
 use Rattle.reply_text.specs.declared.answers.Answer.{Answer}
 use Rattle.transforms.specs.declared.ask.Ask.{Ask}
@@ -58,6 +59,7 @@ sets-out all lives k answers nothing are legal =
         called = (kept-same k legal).called;
         places = refl;
         posted = are;
+        accepted = refl;
         leads = leads-same (λ rest. rest) (all []) [] [] nothing leads-nothing;
         says = sym (append-nil answers);
       };
@@ -122,6 +124,7 @@ module _ (all : List Live → Dialogue → Dialogue) (one : Live → Dialogue �
           called = called-more k l l' way.moves.calls m.calls way.moves.called m.changes.called;
           places = places ∙ way.moves.places;
           posted = subst (λ ls. ArePosted ls l') (sym is) (one-posted (take i now) (drop (i + 1) now) live live' l l' m.calls now_posted m.changes);
+          accepted = m.changes.accepted ∙ (append-nil (accepted_by l.number l.seen) ∙ way.moves.accepted);
           leads = leads-same (λ rest. all (take i lives) (one live rest)) (all (take (i + 1) lives)) (way.moves.calls ++ m.calls) (way.moves.said ++ m.said)
               (λ rest. ap (λ ls. all ls rest) fewer ∙ more (take i lives) live rest)
               (leads-then (all (take i lives)) (one live) way.moves.calls m.calls way.moves.said m.said way.moves.leads m.leads);

@@ -3,6 +3,7 @@ use Rattle.std.specs.Prelude.{ℕ, ◌==◌, if◌then◌else◌, ◌≡◌, fal
 use Rattle.std.specs.Option.{option_map}
 use Rattle.board.specs.declared.entry.BoardEntry.{BoardEntry}
 use Rattle.board.specs.declared.entry.BoardEntry.TheVariants.{Shut}
+use Rattle.board.specs.Allowance.{accepted_by}
 use Rattle.board.specs.Entries.{entries_of, submissions, front, is_closed}
 use Rattle.board.specs.Legal.{MayManage}
 use Rattle.transforms.specs.declared.ask.Ask.{Ask}
@@ -69,6 +70,7 @@ pub record MovesAll (dialogue : Dialogue → Dialogue) (lives lives' : List Live
   pub called : Called k l calls
   pub places : map place_of lives' ≡ map place_of lives
   pub posted : ArePosted lives' l
+  pub accepted : accepted_by l.number l.seen ≡ accepted_by k.number k.seen
   pub leads : LeadsBy dialogue calls said
   pub says : answers' ≡ answers ++ said
 

@@ -9,3 +9,4 @@ pub mod Finding
 pub mod Probing
 pub mod Running
 pub mod Ending
+pub mod Saying

@@ -117,3 +117,12 @@ pub fn put_all(reply: &mut Reply, answers: &[Answer]) -> Result<(), AllocError>
     }
     put
 }
+
+/// Adds the text of one answer. Want of memory leaves the reply as it was.
+pub fn put_one(reply: &mut Reply, answer: &Answer) -> Result<(), Stop>
+    ensures ok { OnOk result (reply.new.text ≡ reply.old.text ++ text_of answer.now) }
+    ensures err { OnErr result (reply.new.text ≡ reply.old.text) }
+{
+    reply.put(answer)?;
+    Ok(())
+}

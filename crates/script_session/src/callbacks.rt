@@ -1,12 +1,16 @@
 //! The answers to what pipelines hand out.
 
-ghost use Rattle.std.specs.Prelude.{◌≡◌, ◌++◌, ◌∷◌, [], map, OnOk, IfOk};
+ghost use Rattle.std.specs.Prelude.{◌≡◌, ◌+◌, ◌*◌, ◌≤◌, ◌++◌, ◌∷◌, [], length, map, sum_by, OnOk, IfOk};
+ghost use Rattle.std.specs.List.{flat_map};
 ghost use Rattle.board.specs.Handing.{completions};
 ghost use Rattle.dialogues.specs.Piping.{completion_said};
+ghost use Rattle.reply_text.specs.Answers.{text_of};
+ghost use Rattle.transforms.specs.Finish.{finished_length};
+ghost use Rattle.script_session.specs.Saying.{callback_room};
 ghost use Rattle.script_session.specs.Telling.{callback_said};
 
 use kc_base::{Bytes, Callback, Errno};
-use reply_text::Answer;
+use reply_text::{Answer, Reply};
 use session_calls::Lines;
 use std::alloc::{AllocError, Global};
 use transforms::Finished;
@@ -64,4 +68,65 @@ pub fn count_completions(callbacks: &[Callback<Finished>]) -> u64
         .iter()
         .filter(|callback| matches!(callback, Callback::Done(..)))
         .count() as u64
+}
+
+/// Adds the text of an answer, for which there is room. No memory is taken.
+pub fn put_short(reply: &mut Reply, answer: &Answer)
+    requires { length (text_of answer.now) ≤ reply.old.spare }
+    ensures text { reply.new.text ≡ reply.old.text ++ text_of answer.now }
+    ensures left { reply.old.spare ≤ reply.new.spare + length (text_of answer.now) }
+{
+    let _ = reply.put(answer);
+}
+
+// The same of bytes, which aren't copied.
+fn put_bytes(reply: &mut Reply, line: u32, bytes: &[u8])
+    requires { 24 + 2 * length bytes.now ≤ reply.old.spare }
+    ensures text { reply.new.text ≡ reply.old.text ++ text_of (Answer.Done line bytes.now) }
+    ensures left { reply.old.spare ≤ reply.new.spare + (24 + 2 * length bytes.now) }
+{
+    let _ = reply.put_done(line, bytes);
+}
+
+fn put_completed(reply: &mut Reply, line: u32, finished: &Finished)
+    requires { 24 + 2 * finished_length finished.now ≤ reply.old.spare }
+    ensures text { reply.new.text ≡ reply.old.text ++ text_of (completion_said line finished.now) }
+    ensures left { reply.old.spare ≤ reply.new.spare + (24 + 2 * finished_length finished.now) }
+{
+    match finished {
+        Finished::Bytes(bytes) => put_bytes(reply, line, bytes.as_slice()),
+        Finished::BadMsg => {
+            let errno = Errno::EBADMSG;
+            put_short(reply, &Answer::Failed { line, errno })
+        }
+        Finished::Invalid => {
+            let errno = Errno::EINVAL;
+            put_short(reply, &Answer::Failed { line, errno })
+        }
+    }
+}
+
+fn put_callback(reply: &mut Reply, lines: &Lines, callback: &Callback<Finished>)
+    requires { callback_room callback.now ≤ reply.old.spare }
+    ensures text { reply.new.text ≡ reply.old.text ++ text_of (callback_said lines.now callback.now) }
+    ensures left { reply.old.spare ≤ reply.new.spare + callback_room callback.now }
+{
+    match callback {
+        Callback::Started(number) => {
+            let line = lines.at(*number);
+            put_short(reply, &Answer::Started { line })
+        }
+        Callback::Done(number, finished) => put_completed(reply, lines.at(*number), finished),
+    }
+}
+
+/// Adds the text of each callback, under the line of its request. There is room for it, and no memory is taken.
+pub fn put_callbacks(reply: &mut Reply, lines: &Lines, callbacks: &[Callback<Finished>])
+    requires { sum_by callback_room callbacks.now ≤ reply.old.spare }
+    ensures text { reply.new.text ≡ reply.old.text ++ flat_map text_of (map (callback_said lines.now) callbacks.now) }
+    ensures left { reply.old.spare ≤ reply.new.spare + sum_by callback_room callbacks.now }
+{
+    for callback in callbacks {
+        put_callback(reply, lines, callback);
+    }
 }

@@ -5,11 +5,12 @@ ghost use Rattle.board.specs.Legal.{LegalBoard};
 ghost use Rattle.dialogues.specs.Piping.{lets_go, let_all_go, drains_at_end, drain_all};
 ghost use Rattle.script_session.specs.Ending.{Moves, MovesAll, ArePosted, AreAllPaid, IsPaid, end_said, AnswersEnd, EndsShut};
 ghost use Rattle.script_session.specs.Holding.{SeesOn, Stops};
+ghost use Rattle.script_session.specs.Saying.{SaysTold, Tells};
 ghost use Rattle.script_session.specs.States.{HasPipe, Stands, Posted};
 ghost use Rattle.session_calls.specs.Passes.{known, lock_of, CallsBoard};
 
-use crate::answers::put_all;
 use crate::callbacks::{count_completions, tell};
+use crate::collecting::drain_last_said_all;
 use crate::scripts::Session;
 use crate::transform::Transform;
 use board::only_collects_hand_out;
@@ -36,6 +37,7 @@ fn release_live<R: Wait>(
     ensures moved { MatchResult result
         (λ _. Moves (lets_go live.old.pipe) live.old live.new (known caller.old) (known caller.new) [] [])
         (λ _. SeesOn (known caller.old) (known caller.new)) }
+    ensures told { Tells (known caller.old) (known caller.new) [] }
 {
     let Some(pipe) = live.pipe() else {
         return Ok(());
@@ -109,6 +111,7 @@ pub fn release_all<R: Wait>(
     ensures moved { MatchResult result
         (λ _. MovesAll (let_all_go lives.old) lives.old lives.new (known caller.old) (known caller.new) [] [])
         (λ _. SeesOn (known caller.old) (known caller.new)) }
+    ensures told { Tells (known caller.old) (known caller.new) [] }
 {
     for live in lives.iter_mut() {
         release_live(rt, board, caller, live)?;
@@ -145,8 +148,8 @@ impl Session {
     /// in order of allocation, and then the board is shut. No line comes after it. The session's is the board's first pass,
     /// with the number 0.
     ///
-    /// It does what jobs there are while it waits. `Stop` comes for want of memory alone, with the reply as it was; then the
-    /// board isn't shut.
+    /// It does what jobs there are while it waits. `Stop` comes for want of memory alone; then the board isn't shut, and the reply has
+    /// the text of what its pipelines handed out up to then, and no other callback.
     pub fn end<R: Wait, G: Gate>(
         &mut self,
         rt: &R,
@@ -162,21 +165,20 @@ impl Session {
             (λ _. AnswersEnd self.old self.new reply.old.text reply.new.text)
             (λ _. Stops self.old self.new) }
         ensures shut { OnOk result (EndsShut (known self.new.board)) }
-        ensures unwritten { OnErr result (reply.new.text ≡ reply.old.text) }
+        ensures told { OnErr result (SaysTold (known self.old.board) (known self.new.board) reply.old.text reply.new.text) }
     {
         only_collects_hand_out::<Ask>();
-        let mut answers = Vec::new(self.alloc);
         release_all(rt, board, &mut self.board, &mut self.lives)?;
-        drain_last_all(
+        drain_last_said_all(
             self.alloc,
             rt,
             board,
             gate,
             &mut self.board,
+            self.bytes,
             &mut self.lives,
-            &mut answers,
+            reply,
         )?;
-        put_all(reply, &answers)?;
         self.board.shut(rt, board);
         Ok(())
     }

@@ -6,6 +6,7 @@ mod answering;
 mod answers;
 mod bulk;
 mod callbacks;
+mod collecting;
 mod drivers;
 mod ending;
 mod keying;
@@ -17,6 +18,7 @@ mod piping;
 mod probing;
 mod registering;
 mod requesting;
+mod room;
 mod scripts;
 mod transform;
 

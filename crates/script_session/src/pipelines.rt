@@ -5,14 +5,16 @@ ghost use Rattle.dialogues.specs.Piping.{mask, hold, go, poll, drain};
 ghost use Rattle.session_calls.specs.Passes.{known, CallsBoard};
 ghost use Rattle.script_session.specs.States.{Stands, Posted, IsWide};
 ghost use Rattle.script_session.specs.Holding.{Holds, Stops};
+ghost use Rattle.script_session.specs.Saying.{SaysBy, BreaksOff};
 
-use crate::answers::refuse;
+use crate::answers::{put_one, refuse};
+use crate::collecting::{drain_said, poll_said};
 use crate::lives::place_of;
 use crate::piping::{drain_live, go_live, hold_live, mask_live, poll_live};
 use crate::scripts::Session;
 use crew::Gate;
 use kc_base::{Bytes, Errno};
-use reply_text::Answer;
+use reply_text::{Answer, Reply};
 use session_calls::Stop;
 use shared_board::SharedBoard;
 use std::sync::Wait;
@@ -170,6 +172,83 @@ impl Session {
             number,
             &mut self.lives[place],
             answers,
+        )
+    }
+    // `poll T`, whose text is added. Where it stops, the board wasn't called.
+    pub(crate) fn poll_into<R: Wait>(
+        &mut self,
+        rt: &R,
+        board: &SharedBoard<Job>,
+        number: u32,
+        label: &Bytes,
+        reply: &mut Reply,
+    ) -> Result<(), Stop>
+        requires at { CallsBoard board.now self.old.board }
+        requires stands { Stands self.old.walk.lives (known self.old.registry) }
+        requires posted { Posted self.old.walk (known self.old.board) }
+        ensures { MatchResult result
+            (λ _. SaysBy 1 (poll self.old.walk number label.now) self.old self.new reply.old.text reply.new.text)
+            (λ _. BreaksOff self.old self.new reply.old.text reply.new.text) }
+    {
+        let Some(place) = place_of(&self.lives, label.as_slice()) else {
+            let errno = Errno::ENOENT;
+            return put_one(
+                reply,
+                &Answer::Refused {
+                    line: number,
+                    errno,
+                },
+            );
+        };
+        poll_said(
+            self.alloc,
+            rt,
+            board,
+            &mut self.board,
+            number,
+            self.bytes,
+            &mut self.lives[place],
+            reply,
+        )
+    }
+
+    // `drain T`, whose text is added. Where it stops, the board wasn't called.
+    pub(crate) fn drain_into<R: Wait, G: Gate>(
+        &mut self,
+        rt: &R,
+        board: &SharedBoard<Job>,
+        gate: &G,
+        number: u32,
+        label: &Bytes,
+        reply: &mut Reply,
+    ) -> Result<(), Stop>
+        requires at { CallsBoard board.now self.old.board }
+        requires stands { Stands self.old.walk.lives (known self.old.registry) }
+        requires posted { Posted self.old.walk (known self.old.board) }
+        ensures { MatchResult result
+            (λ _. SaysBy 1 (drain self.old.walk number label.now) self.old self.new reply.old.text reply.new.text)
+            (λ _. BreaksOff self.old self.new reply.old.text reply.new.text) }
+    {
+        let Some(place) = place_of(&self.lives, label.as_slice()) else {
+            let errno = Errno::ENOENT;
+            return put_one(
+                reply,
+                &Answer::Refused {
+                    line: number,
+                    errno,
+                },
+            );
+        };
+        drain_said(
+            self.alloc,
+            rt,
+            board,
+            gate,
+            &mut self.board,
+            number,
+            self.bytes,
+            &mut self.lives[place],
+            reply,
         )
     }
 }

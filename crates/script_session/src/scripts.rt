@@ -1,6 +1,6 @@
 //! One script over a registry and a board that others call too.
 
-ghost use Rattle.std.specs.Prelude.{◌≡◌, ◌≤◌, OnOk, OnErr, MatchResult, IsSome, Some};
+ghost use Rattle.std.specs.Prelude.{◌≡◌, ◌≤◌, [], true, OnOk, OnErr, MatchResult, IsSome, Some};
 ghost use Rattle.script_text.specs.Sizes.{IsShortCommand, IsShortLine};
 ghost use Rattle.dialogues.specs.Walk.{start};
 ghost use Rattle.dialogues.specs.Lines.{command_dialogue, line_dialogue};
@@ -9,6 +9,8 @@ ghost use Rattle.script_session.specs.Running.{IsReady, Replies};
 ghost use Rattle.session_calls.specs.Passes.{CallsRegistry, known, CallsBoard};
 ghost use Rattle.script_session.specs.States.{Stands, Posted, IsWide};
 ghost use Rattle.script_session.specs.Holding.{HoldsBy, Stops};
+ghost use Rattle.script_session.specs.Saying.{SaysBy, hands_out};
+ghost use Rattle.session_calls.specs.Pipelines.{Called};
 
 use crate::answers::{put_all, say};
 use crate::requesting::mac_request;
@@ -194,11 +196,36 @@ impl Session {
         }
     }
 
+    // A line whose answers are put into the reply together.
+    fn say_line<R: Threads + Wait + Sync, G: Gate>(
+        &mut self,
+        rt: &R,
+        board: &SharedBoard<Job>,
+        registry: &SharedRegistry,
+        gate: &G,
+        number: u32,
+        line: Line,
+        reply: &mut Reply,
+    ) -> Result<(), Stop>
+        requires ready { IsReady registry.now board.now self.old }
+        requires short { IsShortLine line }
+        ensures done { MatchResult result
+            (λ _. SaysBy (width_of line) (line_dialogue self.old.workers self.old.walk number line) self.old self.new reply.old.text reply.new.text)
+            (λ _. Stops self.old self.new) }
+        ensures unwritten { OnErr result (reply.new.text ≡ reply.old.text) }
+    {
+        let mut answers = Vec::new(self.alloc);
+        self.answer(rt, board, registry, gate, number, line, &mut answers)?;
+        put_all(reply, &answers)?;
+        Ok(())
+    }
+
     /// Answers a line: it holds the line's dialogue with the registry and the board, and adds the text of what was answered to
     /// `reply`. Entries of others may lie between its calls.
     ///
     /// `drain` does what jobs there are while it waits, `probe` builds, and `bulk` starts threads, which end in this call. A request
-    /// keeps the line's bytes. `Stop` comes for want of memory alone, with the reply as it was; the session takes no line after it.
+    /// keeps the line's bytes. `Stop` comes for want of memory alone, with the reply as it was, and for `poll` and `drain` before the
+    /// board is called; the session takes no line after it.
     pub fn line<R: Threads + Wait + Sync, G: Gate>(
         &mut self,
         rt: &R,
@@ -217,10 +244,15 @@ impl Session {
         // It is ready for the next line.
         ensures ready { OnOk result (IsReady registry.now board.now self.new) }
         ensures unwritten { OnErr result (reply.new.text ≡ reply.old.text) }
+        // What a pipeline hands out is in the reply, or was not handed out.
+        ensures uncalled { OnErr result (hands_out line ≡ true → Called (known self.old.board) (known self.new.board) []) }
     {
-        let mut answers = Vec::new(self.alloc);
-        self.answer(rt, board, registry, gate, number, line, &mut answers)?;
-        put_all(reply, &answers)?;
-        Ok(())
+        match line {
+            Line::Cmd(Command::Poll { label }) => self.poll_into(rt, board, number, &label, reply),
+            Line::Cmd(Command::Drain { label }) => {
+                self.drain_into(rt, board, gate, number, &label, reply)
+            }
+            line => self.say_line(rt, board, registry, gate, number, line, reply),
+        }
     }
 }

@@ -36,7 +36,9 @@ use Rattle.crew.specs.Working.{Worked, Drained as CrewDrained}
 use Rattle.dialogues.specs.RegistryCalls.{if_own}
 use Rattle.dialogues.specs.BoardCalls.{BoardCall, Creates, Submits, Enqueues, Holds, Goes, Collects, Closes, Masks, Shuts, Started, Completed, asked_by, outcome, board_calls, notice_of, line_in, collected_to}
 use Rattle.dialogues.specs.Walk.{Pipe}
+use Rattle.session_calls.specs.Bounds.{AreWithin}
 use Rattle.session_calls.specs.Pipelines.{Laws, IsPipeIn, line_of, line_at, made_so, KnowsPipe, Kept, Changed, Closed, IsPad, IsQueue, entered_pipe, entered_asks, with_ask, notice_by, IsShut, Owns, Drained, Polled, Opened}
+use Rattle.session_calls.proofs.HandedOut.{hands-within}
 use Rattle.dialogues.specs.Allocating.{new_pipe}
 use Rattle.board.specs.declared.entry.Entered.{Entered}
 use Rattle.board.specs.declared.entry.Entered.TheVariants.{InProgress, Busy, NoSpace}
@@ -345,13 +347,23 @@ mask-changed laws k l pipe bits (Ok done) on turn =
     changed-later k (sees k h) l pipe pipe' (Masks pipe.number bits ∷ []) [] kept
     (entry-changed laws k l h e pipe pipe' (Masks pipe.number bits) [] turn.2 same refl (own n (Masks pipe.number bits)) (accepted-none n h e refl) refl now)
 
+-- ---- what is handed out
+
+-- of a pipeline of its own
+knows-within : Laws → (n : ℕ) (h : List (BoardEntry Ask)) (pipe : Pipe) (to : ℕ) → LegalBoard h → IsPipeIn n (entries_of pipe.number h) pipe
+    → AreWithin (length pipe.lines) (accepted_by n h) (delivered outcome (entries_of pipe.number h) to)
+knows-within laws n h pipe to legal on =
+    let asks = submissions (entries_of pipe.number h) in
+    subst (λ many. AreWithin many (accepted_by n h) (delivered outcome (entries_of pipe.number h) to)) (sym (length-map asks line_of) ∙ ap length on.lines)
+    (hands-within laws n h pipe.number to legal on.managed.1 on.unshared)
+
 -- ---- `poll`
 
 pub poll-changed : Laws → (k l : Known (BoardEntry Ask)) (pipe : Pipe) (into into' : List (Callback Finished)) (r : Result (Unit {0}) BoardErr) → KnowsPipe k pipe
     → AtTurn caller_of LegalBoard k (λ h. let es = entries_of pipe.number h in MatchResult r
     (λ _. (into' ≡ into ++ delivered outcome es (length (told es))) × Enters LegalBoard k h (event.Collect k.number pipe.number (length (told es))) l)
     (λ e. (e ≡ Memory) × (into' ≡ into) × Leaves k h l))
-    → MatchResult r (λ _. (callbacks : List (Callback Finished)) × (all : Bool) × (into' ≡ into ++ callbacks) × Polled k l pipe callbacks all) (λ e. (e ≡ Memory) × Kept k l)
+    → MatchResult r (λ _. (callbacks : List (Callback Finished)) × (all : Bool) × (into' ≡ into ++ callbacks) × Polled k l pipe callbacks all × AreWithin (length pipe.lines) (accepted_by k.number k.seen) callbacks) (λ e. (e ≡ Memory) × Kept k l)
 poll-changed laws k l pipe into into' (Err e) on turn = (turn.2.0, leaves-kept laws k l turn.0 turn.1 turn.2.2)
 poll-changed laws k l pipe into into' (Ok done) on turn =
     let h = turn.0 in
@@ -371,6 +383,7 @@ poll-changed laws k l pipe into into' (Ok done) on turn =
           (own k.number (Collects pipe.number (collected_to es to))
           ∙ ap (λ ns. Some (Collects pipe.number (record { notices = ns; all_done = all }))) (notices-are (submissions es) pipe.lines callbacks here.lines))
           (accepted-none k.number h (event.Collect k.number pipe.number to) refl) refl (pipe-collected laws k.number h pipe to turn.2.1.1 here)),
+      subst (λ asks. AreWithin (length pipe.lines) asks callbacks) kept.accepted (knows-within laws k.number h pipe to kept.legal here),
     )
 
 -- ---- a pipeline is made
@@ -450,9 +463,16 @@ shut-changed laws k l turn =
 
 -- ---- `drain`
 
+drained-within : Laws → (k m : Known (BoardEntry Ask)) (pipe : Pipe) (h : List (BoardEntry Ask)) (to : ℕ) → Kept k m → KnowsPipe m pipe → Met m h
+    → AreWithin (length pipe.lines) (accepted_by k.number k.seen) (delivered outcome (entries_of pipe.number h) to)
+drained-within laws k m pipe h to worked on met =
+    let kept = meets-kept laws m h met in
+    subst (λ asks. AreWithin (length pipe.lines) asks (delivered outcome (entries_of pipe.number h) to)) (kept.accepted ∙ worked.accepted)
+    (knows-within laws m.number h pipe to kept.legal (kept.pipes pipe on))
+
 pub crew-drained : Laws → (k l : Known (BoardEntry Ask)) (pipe : Pipe) (into into' : List (Callback Finished)) (r : Result (Unit {0}) BoardErr) → LegalBoard k.seen → KnowsPipe k pipe
     → MatchResult r (λ _. CrewDrained outcome pipe.number k l into into') (λ e. (e ≡ Memory) × (into' ≡ into) × Worked k l)
-    → MatchResult r (λ _. (callbacks : List (Callback Finished)) × (into' ≡ into ++ callbacks) × Drained k l pipe callbacks × (pipe.delivered + completions callbacks ≡ length pipe.lines)) (λ e. (e ≡ Memory) × Kept k l)
+    → MatchResult r (λ _. (callbacks : List (Callback Finished)) × (into' ≡ into ++ callbacks) × Drained k l pipe callbacks × (pipe.delivered + completions callbacks ≡ length pipe.lines) × AreWithin (length pipe.lines) (accepted_by k.number k.seen) callbacks) (λ e. (e ≡ Memory) × Kept k l)
 crew-drained laws k l pipe into into' (Err e) legal on did =
     let w = did.2 in
     (did.0, goes-kept laws k l w.own w.goes w.work (still_kept caller_of LegalBoard k l w.own w.goes legal))
@@ -468,4 +488,5 @@ crew-drained laws k l pipe into into' (Ok done) legal on did =
       changed-later k m l pipe pipe' (Collects pipe.number (record { notices = map (notice_by pipe.lines) callbacks; all_done = true }) ∷ []) [] kept
           (drained-changed laws m l pipe turn.0 (kept.pipes pipe on) turn.1 turn.2.0 turn.2.2),
       drained-all laws m pipe turn.0 (kept.pipes pipe on) turn.1 turn.2.0 turn.2.2.1,
+      drained-within laws k m pipe turn.0 (length (told (entries_of pipe.number turn.0))) kept (kept.pipes pipe on) turn.1,
     )

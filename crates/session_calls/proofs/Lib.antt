@@ -2,3 +2,4 @@ pub mod Asking
 pub mod Looking
 pub mod Boarding
 pub mod BoardCalls
+pub mod HandedOut

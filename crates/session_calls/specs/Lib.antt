@@ -1,3 +1,4 @@
+pub mod Bounds
 pub mod Passes
 pub mod Asking
 pub mod Looking

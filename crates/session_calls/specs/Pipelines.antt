@@ -1,5 +1,5 @@
 -- What a caller knows of its pipelines on the board, and how it goes on.
-use Rattle.std.specs.Prelude.{ℕ, ◌+◌, ◌≡◌, Bool, true, false, ◌==◌, List, [], ◌∷◌, ◌++◌, length, map, Option, Some, None, ⊤, slice_get, unwrap_or}
+use Rattle.std.specs.Prelude.{ℕ, ◌+◌, ◌≡◌, ◌≤◌, Bool, true, false, ◌==◌, List, [], ◌∷◌, ◌++◌, length, map, Option, Some, None, ⊤, slice_get, unwrap_or}
 use Rattle.kc_base.specs.declared.callback_list.Callback.{Callback}
 use Rattle.kc_base.specs.declared.callback_list.Callback.TheVariants as callback
 use Rattle.board.specs.declared.entry.BoardEntry.{BoardEntry}
@@ -9,12 +9,14 @@ use Rattle.board.specs.declared.entry.Shape.{Shape}
 use Rattle.board.specs.declared.entry.Entered.TheVariants.{InProgress, Busy, NoSpace}
 use Rattle.board.specs.Allowance.{accepted_by}
 use Rattle.board.specs.Entries.{entries_of, birth, submissions, is_held, is_shared, is_closed, mask, caller_of}
-use Rattle.board.specs.Following.{EndsRight, IsOfOne, LeavesShared, LeavesSubmissions, LeavesShut}
+use Rattle.board.specs.Following.{EndsRight, IsOfOne, LeaveInOrder, LeavesShared, LeavesSubmissions, LeavesShut}
 use Rattle.board.specs.Handing.{HandsNothing, CollectHandsOut, AllHandedOutIsDrained, completions}
 use Rattle.board.specs.Legal.{IsOpenAs, MayManage, LegalBoard, is_shut}
-use Rattle.board.specs.Order.{handed_out, completed, HandsOutAll, FrontIsAll}
+use Rattle.board.specs.Order.{handed_out, completed, HandsOutAll, FrontIsAll, KeepsOrder}
 use Rattle.board.specs.Shapes.{is_pad, has_line}
 use Rattle.board.specs.Staying.{Joins, LeavesOthers, BeginsAlone, StaysOpen, StaysManaged, Holds as IsHeldSo, StaysHeld, Masks as IsMaskedSo, StaysMasked}
+use Rattle.transforms.specs.AskValue.{ask_size}
+use Rattle.transforms.specs.Finish.{finished_length}
 use Rattle.transforms.specs.declared.ask.Ask.{Ask}
 use Rattle.transforms.specs.declared.request.Finished.{Finished}
 use Rattle.turn_lock.specs.Turns.{Known, StartsWith, sees}
@@ -46,14 +48,17 @@ pub record Steps : Type 0 where
   pub all : (h : List (BoardEntry Ask)) (p caller to : ℕ) → HandsOutAll h p caller to
   pub finished : (es : List (BoardEntry Ask)) → FrontIsAll es
   pub drained : (h : List (BoardEntry Ask)) (p : ℕ) → AllHandedOutIsDrained h p
+  pub order : (h : List (BoardEntry Ask)) (p : ℕ) → KeepsOrder h p
+  pub leave : (h : List (BoardEntry Ask)) (p : ℕ) → LeaveInOrder h p
 
--- what entries of others, and one's own work, leave as it was, and what an entry of one's own does
+-- what entries of others, and one's own work, leave as it was, what an entry of one's own does, and that values are short
 pub record Laws : Type 0 where
   pub mine : (h es : List (BoardEntry Ask)) (p caller : ℕ) → WorkLeavesKnown h es p caller
   pub own : (h es : List (BoardEntry Ask)) (caller : ℕ) → WorkLeavesOwn h es caller
   pub calls : BoardCallsGoOn
   pub uncalled : BoardUncalled
   pub steps : Steps
+  pub short : (ask : Ask) → finished_length (outcome ask) ≤ ask_size ask + 64
 
 -- ---- one pipeline
 

@@ -3,7 +3,7 @@
 ghost use Rattle.std.specs.Prelude.{◌≡◌, ◌≢◌, ◌↔◌, ◌<◌, ◌≤◌, ◌==◌, ◌+◌, ◌^◌, ◌++◌, ◌∷◌, [], true, false, Bool, List, length, Some, IsSome, IfErr, MatchResult};
 ghost use Rattle.std.specs.Arc.{arc_value};
 ghost use Rattle.kc_base.specs.declared.callback_list.Callback.{Callback as Told};
-ghost use Rattle.board.specs.Allowance.{IsAllowed};
+ghost use Rattle.board.specs.Allowance.{IsAllowed, accepted_by};
 ghost use Rattle.board.specs.Entries.{entries_of, birth};
 ghost use Rattle.board.specs.Handing.{completions};
 ghost use Rattle.board.specs.Legal.{IsNoWorker, LegalBoard, is_shut};
@@ -13,14 +13,15 @@ ghost use Rattle.board.specs.Shapes.{width_born};
 ghost use Rattle.transforms.specs.AskValue.{ask_size};
 ghost use Rattle.transforms.specs.declared.request.Finished.{Finished as Outcome};
 ghost use Rattle.dialogues.specs.BoardCalls.{Submits, Enqueues, Holds, Goes, Masks, asked_by};
+ghost use Rattle.session_calls.specs.Bounds.{AreWithin};
 ghost use Rattle.session_calls.specs.Passes.{CallsBoard, known, lock_of};
 ghost use Rattle.session_calls.specs.Pipelines.{Laws, Steps, IsPad, IsQueue, KnowsPipe, Kept, Changed, Closed, IsShut, Opened, with_ask, entered_pipe, entered_asks, Drained, Polled};
 
 use crate::pipe::Pipe;
 use board::{
-    BoardErr, Entered, collects_hand_out, collects_hand_out_all, entries_join, entries_leave,
-    fronts_tell_all, histories_go_on, masks_stay, only_collects_hand_out, others_leave,
-    pipelines_stay, queues_hold,
+    BoardErr, Entered, collects_hand_out, collects_hand_out_all, completions_in_order,
+    entries_join, entries_leave, fronts_tell_all, histories_go_on, masks_stay, numbers_in_order,
+    only_collects_hand_out, others_leave, pipelines_stay, queues_hold,
 };
 use crew::{Gate, drain};
 use dialogues::board_calls_go_on;
@@ -28,6 +29,7 @@ use kc_base::Callbacks;
 use shared_board::{BoardPass, SharedBoard};
 use std::marker::Model;
 use std::sync::Wait;
+use transforms::laws::values_are_short;
 use transforms::{Ask, Finished, Job};
 
 /// Who calls the board for a script. Its pass is at hand between two calls; contracts see it.
@@ -59,15 +61,18 @@ fn entry_laws()
     collects_hand_out::<Ask, Finished>();
     collects_hand_out_all::<Ask>();
     fronts_tell_all::<Ask>();
+    completions_in_order::<Ask>();
+    numbers_in_order::<Ask>();
 }
 
-// what others leave of what a caller knows of the board, and what it does itself
+// what others leave of what a caller knows of the board, what it does itself, and that values are short
 fn board_laws()
     ensures { Laws }
 {
     others_leave::<Ask, Finished>();
     board_calls_go_on();
     entry_laws();
+    values_are_short();
 }
 
 impl BoardCaller {
@@ -299,7 +304,8 @@ impl BoardCaller {
         answer
     }
 
-    /// Hands out what a pipeline of the caller's has told and no call handed out before. Only want of memory refuses.
+    /// Hands out what a pipeline of the caller's has told and no call handed out before: at most a start and a completion of
+    /// each of its requests, with at most 64 bytes more for each than was asked. Only want of memory refuses.
     pub fn poll<R: Wait>(
         &mut self,
         rt: &R,
@@ -311,7 +317,7 @@ impl BoardCaller {
         requires pipe { KnowsPipe (known self.old) pipe.now }
         ensures lock { lock_of self.new ≡ lock_of self.old }
         ensures polled { MatchResult result
-            (λ _. (callbacks : List (Told Outcome)) × (all : Bool) × (into.new.list ≡ into.old.list ++ callbacks) × Polled (known self.old) (known self.new) pipe.now callbacks all)
+            (λ _. (callbacks : List (Told Outcome)) × (all : Bool) × (into.new.list ≡ into.old.list ++ callbacks) × Polled (known self.old) (known self.new) pipe.now callbacks all × AreWithin (length pipe.now.lines) (accepted_by (known self.old).number (known self.old).seen) callbacks)
             (λ e. (e ≡ BoardErr.Memory) × Kept (known self.old) (known self.new)) }
     {
         board_laws();
@@ -321,8 +327,8 @@ impl BoardCaller {
         answer
     }
 
-    /// Does what jobs there are until each of a pipeline of the caller's is done, and hands out what no call handed out before:
-    /// with it all is handed out. Only want of memory refuses.
+    /// Does what jobs there are until each of a pipeline of the caller's is done, and hands out what no call handed out before, as
+    /// `poll` does: with it all is handed out. Only want of memory refuses.
     pub fn drain<R: Wait, G: Gate>(
         &mut self,
         rt: &R,
@@ -336,7 +342,7 @@ impl BoardCaller {
         requires pipe { KnowsPipe (known self.old) pipe.now }
         ensures lock { lock_of self.new ≡ lock_of self.old }
         ensures drained { MatchResult result
-            (λ _. (callbacks : List (Told Outcome)) × (into.new.list ≡ into.old.list ++ callbacks) × Drained (known self.old) (known self.new) pipe.now callbacks × (pipe.now.delivered + completions callbacks ≡ length pipe.now.lines))
+            (λ _. (callbacks : List (Told Outcome)) × (into.new.list ≡ into.old.list ++ callbacks) × Drained (known self.old) (known self.new) pipe.now callbacks × (pipe.now.delivered + completions callbacks ≡ length pipe.now.lines) × AreWithin (length pipe.now.lines) (accepted_by (known self.old).number (known self.old).seen) callbacks)
             (λ e. (e ≡ BoardErr.Memory) × Kept (known self.old) (known self.new)) }
     {
         board_laws();

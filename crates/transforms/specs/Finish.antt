@@ -1,5 +1,5 @@
 -- the value of what a job gives
-use Rattle.std.specs.Prelude.{◌≡◌, refl}
+use Rattle.std.specs.Prelude.{◌≡◌, refl, ℕ, length}
 use Rattle.std_defs.specs.Value.{Value}
 use Rattle.std_defs.specs.Value.Value.{bytes, bad_message, invalid}
 use Rattle.transforms.specs.declared.request.Finished.{Finished}
@@ -15,6 +15,12 @@ abbrev pub finished_of : Value → Finished
 finished_of (bytes made) = Bytes made
 finished_of bad_message = BadMsg
 finished_of invalid = Invalid
+
+-- how many bytes a job gives
+abbrev pub finished_length : Finished → ℕ
+finished_length (Bytes made) = length made
+finished_length BadMsg = 0
+finished_length Invalid = 0
 
 pub finished_of-finished_value : (f : Finished) → finished_of (finished_value f) ≡ f
 finished_of-finished_value (Bytes made) = refl

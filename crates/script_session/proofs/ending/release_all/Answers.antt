@@ -6,10 +6,12 @@ use Rattle.script_session.specs.Ending.{Moves}
 use Rattle.script_session.specs.States.{HasPipe}
 use Rattle.script_session.proofs.Leading.{let-more}
 use Rattle.script_session.proofs.Moving.{sets-out, on-board, goes-further, all-moved, sees-on, fails}
+use Rattle.session_calls.proofs.Boarding.{kept-same}
+use Rattle.script_session.proofs.Said.{tells-nothing, tells-more}
 use Rattle.script_session.proofs.ending.release_all.Goals as goal
 
 pub loop-live-init : goal.loop-live-init
-loop-live-init g c = (sets-out let_all_go c.args.lives.now (known c.args.caller.now) [] (λ rest. refl) c.requires.posted c.requires.posted.2.legal, refl)
+loop-live-init g c = (sets-out let_all_go c.args.lives.now (known c.args.caller.now) [] (λ rest. refl) c.requires.posted c.requires.posted.2.legal, refl, tells-nothing (known c.args.caller.now) (known c.args.caller.now) (kept-same (known c.args.caller.now) c.requires.posted.2.legal).called)
 
 pub release_live-requires-clause-at : goal.release_live-requires-clause-at
 release_live-requires-clause-at g c = c.loop-live.invariant.1 ∙ c.requires.at
@@ -43,9 +45,16 @@ loop-live-preserved g c =
           (subst (λ n. c.loop-live.live-index < n) (sym c.loop-live.auto.lives) c.loop-live-test.true) c.live-item.is _ refl
           (subst (λ (x : Live). Moves (lets_go x.pipe) x live' l l' [] []) (sym c.live-item.is) c.in_ok-release_live.ensures.moved),
       c.release_live.ensures.lock ∙ c.loop-live.invariant.1,
+      tells-more (known c.args.caller.now) l l' [] [] c.loop-live.invariant.2 c.release_live.ensures.told,
     )
 
 pub returns-clause-moved : goal.returns-clause-moved
 returns-clause-moved g c =
     all-moved let_all_go c.loop-live.live-index c.args.lives.now c.loop-live.lives (known c.args.caller.now) (known c.loop-live.caller) [] [] c.loop-live.invariant.0
     (subst (λ n. n ≤ c.loop-live.live-index) (sym c.loop-live.auto.lives) c.loop-live-test.false)
+
+pub returns-in_err-release_live-clause-told : goal.returns-in_err-release_live-clause-told
+returns-in_err-release_live-clause-told g c = tells-more (known c.args.caller.now) (known c.loop-live.caller) (known c.release_live.new.caller) [] [] c.loop-live.invariant.2 c.release_live.ensures.told
+
+pub returns-clause-told : goal.returns-clause-told
+returns-clause-told g c = c.loop-live.invariant.2

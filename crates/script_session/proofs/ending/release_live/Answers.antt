@@ -2,9 +2,11 @@ use Rattle.std.proofs.Common.{ap, sym, subst, ◌∙◌}
 use Rattle.dialogues.specs.Walk.{Pipe}
 use Rattle.session_calls.specs.Passes.{known}
 use Rattle.session_calls.specs.Pipelines.{KnowsPipe}
+use Rattle.session_calls.proofs.Boarding.{kept-same}
 use Rattle.script_session.specs.States.{HasPipe}
 use Rattle.script_session.proofs.Ended.{stays-put, goes-free_now}
 use Rattle.script_session.proofs.Leading.{goes-none, goes-free}
+use Rattle.script_session.proofs.Said.{tells-nothing, tells-go}
 use Rattle.script_session.proofs.ending.release_live.Goals as goal
 
 pub returns-in_default-clause-moved : goal.returns-in_default-clause-moved
@@ -25,3 +27,15 @@ pub returns-clause-moved : goal.returns-clause-moved
 returns-clause-moved g c =
     goes-free_now (known c.args.caller.now) (known c.go.new.self) c.args.live.now c.set_held.new.self c.in-Some.pipe.now (sym c.in-Some.ensures) (sym (ap (λ (p : Pipe). p.held) c.pipe-2.view_is) ∙ c.if-not-pipe.false)
     c.in_ok-go.ensures.held c.set_held.ensures
+
+pub returns-in_default-clause-told : goal.returns-in_default-clause-told
+returns-in_default-clause-told g c = tells-nothing (known c.args.caller.now) (known c.args.caller.now) (kept-same (known c.args.caller.now) c.requires.legal).called
+
+pub returns-then-not-pipe-clause-told : goal.returns-then-not-pipe-clause-told
+returns-then-not-pipe-clause-told g c = tells-nothing (known c.args.caller.now) (known c.args.caller.now) (kept-same (known c.args.caller.now) c.requires.legal).called
+
+pub returns-in_err-go-clause-told : goal.returns-in_err-go-clause-told
+returns-in_err-go-clause-told g c = tells-nothing (known c.args.caller.now) (known c.go.new.self) c.in_err-go.ensures.held.1.called
+
+pub returns-clause-told : goal.returns-clause-told
+returns-clause-told g c = tells-go (known c.args.caller.now) (known c.go.new.self) c.in-Some.pipe.now _ c.in_ok-go.ensures.held

@@ -7,4 +7,5 @@ returns c = record {
   calls = c.board_calls_go_on.ensures.goes_on;
   uncalled = c.board_calls_go_on.ensures.uncalled;
   steps = c.entry_laws.ensures;
+  short = c.values_are_short.ensures;
 }

@@ -22,4 +22,6 @@ returns c = record {
   all = c.collects_hand_out_all.ensures;
   finished = c.fronts_tell_all.ensures.all;
   drained = c.only_collects_hand_out.ensures.drained;
+  order = c.completions_in_order.ensures.in_order;
+  leave = c.numbers_in_order.ensures.leave;
 }

@@ -1,18 +1,42 @@
-use Rattle.std.proofs.Common.{◌∙◌, ap, arith, length}
+use Rattle.std.proofs.Common.{◌≡◌, ◌∙◌, [], ap, refl, sym, subst, arith, length}
+use Rattle.std.specs.Prelude.{sum_by}
 use Rattle.std.proofs.lemmas.List.{with_items_is}
+use Rattle.board.specs.Allowance.{accepted_by}
 use Rattle.session_calls.specs.Passes.{known}
+use Rattle.transforms.specs.AskValue.{ask_size}
+use Rattle.script_session.specs.Saying.{SaysTold}
+use Rattle.script_session.specs.States.{State}
 use Rattle.script_session.proofs.Ended.{end-arm, ends-shut}
+use Rattle.script_session.proofs.Said.{on-err, told-first, told-after}
 use Rattle.script_session.proofs.scripts.Session.end.Goals as goal
+
+pub drain_last_said_all-requires-clause-bytes : goal.drain_last_said_all-requires-clause-bytes
+drain_last_said_all-requires-clause-bytes g c =
+    ap (sum_by ask_size) c.in_ok-release_all.ensures.moved.accepted
+    ∙ subst (λ (x : State). sum_by ask_size (accepted_by (known x.board).number (known x.board).seen) ≡ x.walk.bytes) (sym c.self.view_is) c.requires.posted.bytes
+
+pub returns-in_err-release_all-clause-told : goal.returns-in_err-release_all-clause-told
+returns-in_err-release_all-clause-told g c =
+    on-err c.from_residual.result
+    (subst (λ (x : State). SaysTold (known x.board) (known c.release_all.new.caller) c.args.reply.now.text c.args.reply.now.text) c.self.view_is
+    (told-first (known c.self.inside.board) (known c.release_all.new.caller) c.args.reply.now.text c.release_all.ensures.told))
+
+pub returns-in_err-drain_last_said_all-clause-told : goal.returns-in_err-drain_last_said_all-clause-told
+returns-in_err-drain_last_said_all-clause-told g c =
+    on-err c.from_residual-in_err-drain_last_said_all.result
+    (subst (λ (x : State). SaysTold (known x.board) (known c.drain_last_said_all.new.caller) c.args.reply.now.text c.drain_last_said_all.new.reply.text) c.self.view_is
+    (told-after (known c.self.inside.board) (known c.release_all.new.caller) (known c.drain_last_said_all.new.caller) c.args.reply.now.text c.drain_last_said_all.new.reply.text c.release_all.ensures.told c.drain_last_said_all.ensures.told))
 
 pub returns-clause-done : goal.returns-clause-done
 returns-clause-done g c =
-    end-arm c.args.self.now c.self.view_is c.deref_mut.result.now c.release_all.new.lives c.deref_mut-2.result.now c.drain_last_all.new.lives (known c.release_all.new.caller) (known c.drain_last_all.new.caller)
-    c.new-answers.result.items c.drain_last_all.new.answers.items c.deref.result.now c.args.reply.now.text c.put_all.new.reply.text
+    let says = c.in_ok-drain_last_said_all.ensures.moved in
+    end-arm c.args.self.now c.self.view_is c.deref_mut.result.now c.release_all.new.lives c.deref_mut-2.result.now c.drain_last_said_all.new.lives (known c.release_all.new.caller) (known c.drain_last_said_all.new.caller)
+    [] says.said says.said c.args.reply.now.text c.drain_last_said_all.new.reply.text
     c.deref_mut.ensures.value
-    (c.deref_mut-2.ensures.value ∙ with_items_is c.self.inside.lives c.release_all.new.lives (omega (arith, c.release_all.auto.lives, c.deref_mut.ensures.len, ap length c.deref_mut.ensures.value))) c.new-answers.ensures.items c.deref.ensures.value
-    (c.shut.ensures.lock ∙ (c.drain_last_all.ensures.lock ∙ c.release_all.ensures.lock)) c.requires.stands
-    c.in_ok-release_all.ensures.moved c.in_ok-drain_last_all.ensures.moved c.shut.ensures.shut.called c.in_ok-put_all.ensures.ok
+    (c.deref_mut-2.ensures.value ∙ with_items_is c.self.inside.lives c.release_all.new.lives (omega (arith, c.release_all.auto.lives, c.deref_mut.ensures.len, ap length c.deref_mut.ensures.value))) refl refl
+    (c.shut.ensures.lock ∙ (c.drain_last_said_all.ensures.lock ∙ c.release_all.ensures.lock)) c.requires.stands
+    c.in_ok-release_all.ensures.moved says.moves c.shut.ensures.shut.called says.says
 
 pub returns-clause-shut : goal.returns-clause-shut
 returns-clause-shut g c =
-    ends-shut c.only_collects_hand_out.ensures.drained c.drain_last_all.new.lives (known c.drain_last_all.new.caller) (known c.shut.new.self) c.in_ok-drain_last_all.ensures.moved.posted c.in_ok-drain_last_all.ensures.paid c.shut.ensures.shut
+    ends-shut c.only_collects_hand_out.ensures.drained c.drain_last_said_all.new.lives (known c.drain_last_said_all.new.caller) (known c.shut.new.self) c.in_ok-drain_last_said_all.ensures.moved.moves.posted c.in_ok-drain_last_said_all.ensures.paid c.shut.ensures.shut

@@ -1,9 +1,11 @@
-use Rattle.std.proofs.Common.{◌≡◌, Some, sym, ◌∙◌, ◌++◌, List, Bool, subst, MatchResult}
+use Rattle.std.proofs.Common.{◌≡◌, length, Some, sym, ◌∙◌, ◌++◌, List, Bool, subst, MatchResult}
 use Rattle.kc_base.specs.declared.callback_list.Callback.{Callback}
 use Rattle.board.specs.Entries.{entries_of}
 use Rattle.board.specs.declared.board_core.BoardErr.TheVariants.{Memory}
 use Rattle.transforms.specs.declared.request.Finished.{Finished}
 use Rattle.dialogues.specs.Walk.{Pipe}
+use Rattle.board.specs.Allowance.{accepted_by}
+use Rattle.session_calls.specs.Bounds.{AreWithin}
 use Rattle.session_calls.specs.Passes.{known}
 use Rattle.session_calls.specs.Pipelines.{KnowsPipe, Kept, Polled}
 use Rattle.session_calls.proofs.BoardCalls.{poll-changed, is-open}
@@ -27,6 +29,6 @@ returns-clause-polled g c =
     let into' = c.poll-pass.new.into.list in
     let before = known (Some c.unwrap-pass.result) in
     let after = known (Some c.poll-pass.result.0) in
-    subst (λ o. MatchResult c.poll-pass.result.1 (λ _. (callbacks : List (Callback Finished)) × (all : Bool) × (into' ≡ into ++ callbacks) × Polled (known o) after c.args.pipe.now callbacks all) (λ e. (e ≡ Memory) × Kept (known o) after)) (sym at_hand)
-    (subst (λ (p : Pipe). MatchResult c.poll-pass.result.1 (λ _. (callbacks : List (Callback Finished)) × (all : Bool) × (into' ≡ into ++ callbacks) × Polled before after p callbacks all) (λ e. (e ≡ Memory) × Kept before after)) c.pipe.view_is
+    subst (λ o. MatchResult c.poll-pass.result.1 (λ _. (callbacks : List (Callback Finished)) × (all : Bool) × (into' ≡ into ++ callbacks) × Polled (known o) after c.args.pipe.now callbacks all × AreWithin (length c.args.pipe.now.lines) (accepted_by (known o).number (known o).seen) callbacks) (λ e. (e ≡ Memory) × Kept (known o) after)) (sym at_hand)
+    (subst (λ (p : Pipe). MatchResult c.poll-pass.result.1 (λ _. (callbacks : List (Callback Finished)) × (all : Bool) × (into' ≡ into ++ callbacks) × Polled before after p callbacks all × AreWithin (length p.lines) (accepted_by before.number before.seen) callbacks) (λ e. (e ≡ Memory) × Kept before after)) c.pipe.view_is
     (poll-changed c.board_laws.ensures before after p into into' c.poll-pass.result.1 on c.poll-pass.ensures.turn))

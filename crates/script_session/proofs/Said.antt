@@ -1,0 +1,246 @@
+-- Lines, and the end of input, whose text goes straight into a reply.
+use Rattle.std.proofs.Common.{◌≡◌, ℕ, ◌+◌, ◌<◌, ◌≤◌, Bool, true, false, List, [], ◌∷◌, ◌++◌, length, map, Option, Some, None, Result, Ok, Err, OnOk, refl, sym, ap, subst, ◌∙◌, append-nil, append_assoc, slice_index_or}
+use Rattle.std.specs.Prelude.{◌==◌, if◌then◌else◌, filter, OnErr, MatchResult}
+use Rattle.std.specs.List.{flat_map}
+use Rattle.std.proofs.Math.ListN.{set}
+use Rattle.std.proofs.lemmas.Grind.{flat_map-append}
+use Rattle.std.proofs.lemmas.List.Elements.{filter-append}
+use Rattle.kc_base.specs.declared.callback_list.Callback.{Callback}
+use Rattle.kc_base.specs.declared.callback_list.Callback.TheVariants as callback
+use Rattle.board.specs.declared.entry.BoardEntry.{BoardEntry}
+use Rattle.board.specs.Handing.{completions}
+use Rattle.board.specs.Legal.{LegalBoard, is_shut}
+use Rattle.transforms.specs.declared.ask.Ask.{Ask}
+use Rattle.transforms.specs.declared.request.Finished.{Finished}
+use Rattle.transforms.specs.declared.request.Finished.TheVariants.{Bytes, BadMsg, Invalid}
+use Rattle.reply_text.specs.Answers.{text_of}
+use Rattle.reply_text.specs.declared.answers.Answer.{Answer}
+use Rattle.reply_text.specs.declared.answers.Answer.TheVariants as said
+use Rattle.turn_lock.specs.Turns.{Known}
+use Rattle.dialogues.specs.BoardCalls.{BoardCall, Goes, Collects}
+use Rattle.dialogues.specs.Dialogues.{Dialogue, says}
+use Rattle.dialogues.specs.Piping.{polls_in, drains_in, drains_at_end, drain_all, notice_said}
+use Rattle.dialogues.specs.Walk.{Walk, Live, Pipe}
+use Rattle.session_calls.specs.Passes.{known}
+use Rattle.session_calls.specs.Pipelines.{Called, Changed, Kept, Polled, Drained, notice_by}
+use Rattle.session_calls.proofs.Boarding.{kept-same, called-more}
+use Rattle.script_session.specs.Ending.{Moves, ArePosted, end_said}
+use Rattle.script_session.specs.Holding.{SeesOn, Holds}
+use Rattle.script_session.specs.Keyed.{delivering}
+use Rattle.script_session.specs.Saying.{SaysFor, BreaksFor, SaysBy, BreaksOff, SaysMove, SaysMoves, is_told, call_says, Tells, SaysTold}
+use Rattle.script_session.specs.States.{State, HasPipe, Stands, Posted}
+use Rattle.script_session.specs.Telling.{callback_said}
+use Rattle.script_session.proofs.Arms.{called-sees, stops-same}
+use Rattle.script_session.proofs.Ended.{drains-last}
+use Rattle.script_session.proofs.Leading.{drain-more}
+use Rattle.script_session.proofs.Moving.{OnTheWay, sets-out, goes-further, all-moved}
+use Rattle.script_session.proofs.Piped.{says-for, said-is, poll-holds, drain-holds}
+use Rattle.script_session.proofs.Rooms.{flat-one, flat-more}
+
+-- it says what is left to say, or memory is wanting and it says nothing
+pub or-breaks : {S A : Type 0} (result : Result A S) {Says Unsaid Holds Breaks : Type 0} → OnOk result Says → OnErr result Unsaid → (Says → Holds) → (Unsaid → Breaks) → MatchResult result (λ _. Holds) (λ _. Breaks)
+or-breaks (Ok done) says unsaid holds breaks = holds says
+or-breaks (Err stop) says unsaid holds breaks = breaks unsaid
+
+pub on-err : {S A : Type 0} (result : Result A S) {P : Type 0} → P → OnErr result P
+on-err (Ok done) p = tt
+on-err (Err stop) p = p
+
+pub breaks-same : (k : Known (BoardEntry Ask)) (text text' : List ℕ) → LegalBoard k.seen → text' ≡ text → BreaksFor k k text text'
+breaks-same k text text' legal e = record { called = (kept-same k legal).called; unshut = λ zero_is. refl; says = e }
+
+pub breaks-kept : (k l : Known (BoardEntry Ask)) (text text' : List ℕ) → Kept k l → text' ≡ text → BreaksFor k l text text'
+breaks-kept k l text text' kept e = record { called = kept.called; unshut = kept.unshut; says = e }
+
+pub breaks-see : (k l : Known (BoardEntry Ask)) (text text' : List ℕ) → BreaksFor k l text text' → SeesOn k l
+breaks-see k l text text' breaks = called-sees k l [] breaks.called breaks.unshut
+
+-- ---- one answer
+
+pub one-says : (d : Walk → Dialogue) (live : Live) (k : Known (BoardEntry Ask)) (answer : Answer) (text text' : List ℕ) → HasPipe k live.pipe → LegalBoard k.seen
+    → ((walk : Walk) → Posted walk k → d walk ≡ says walk answer) → text' ≡ text ++ text_of answer → SaysFor d live live k k text text'
+one-says d live k answer text text' on legal is e =
+    record { said = answer ∷ []; held = says-for d live k answer [] (answer ∷ []) on legal is refl; says = e ∙ ap (λ x. text ++ x) (sym (flat-one answer)) }
+
+-- ---- callbacks, and an answer behind them
+
+pub told-text : (lines : List ℕ) (callbacks : List (Callback Finished)) (answer : Answer) (text a b c : List ℕ) → a ≡ text → b ≡ a ++ flat_map text_of (map (callback_said lines) callbacks) → c ≡ b ++ text_of answer
+    → c ≡ text ++ flat_map text_of (map (callback_said lines) callbacks ++ answer ∷ [])
+told-text lines callbacks answer text a b c first middle last =
+    let told = map (callback_said lines) callbacks in
+    last
+    ∙ (ap (λ x. x ++ text_of answer) (middle ∙ ap (λ x. x ++ flat_map text_of told) first)
+    ∙ (append_assoc text (flat_map text_of told) (text_of answer) ∙ ap (λ x. text ++ x) (sym (flat-more told answer))))
+
+pub poll-says : (k l : Known (BoardEntry Ask)) (live live' : Live) (pipe : Pipe) (n count : ℕ) (callbacks : List (Callback Finished)) (all : Bool) (text a b text' : List ℕ)
+    → live.pipe ≡ Some pipe → Polled k l pipe callbacks all → count ≡ completions callbacks → live' ≡ delivering live count
+    → a ≡ text → b ≡ a ++ flat_map text_of (map (callback_said pipe.lines) callbacks) → text' ≡ b ++ text_of (said.Polled n count)
+    → SaysFor (λ walk. polls_in walk n live live.pipe) live live' k l text text'
+poll-says k l live live' pipe n count callbacks all text a b text' has polled counts live_is first middle last =
+    let answers : List Answer = map (callback_said pipe.lines) callbacks ++ said.Polled n count ∷ [] in
+    record {
+      said = answers;
+      held = poll-holds k l live live' pipe n count callbacks all [] answers has polled counts live_is refl;
+      says = told-text pipe.lines callbacks (said.Polled n count) text a b text' first middle last;
+    }
+
+pub drain-says : (k l : Known (BoardEntry Ask)) (live live' : Live) (pipe : Pipe) (n count : ℕ) (callbacks : List (Callback Finished)) (text a b text' : List ℕ)
+    → live.pipe ≡ Some pipe → pipe.held ≡ false → Drained k l pipe callbacks → count ≡ completions callbacks → live' ≡ delivering live count
+    → a ≡ text → b ≡ a ++ flat_map text_of (map (callback_said pipe.lines) callbacks) → text' ≡ b ++ text_of (said.Drained n count)
+    → SaysFor (λ walk. drains_in walk n live live.pipe) live live' k l text text'
+drain-says k l live live' pipe n count callbacks text a b text' has free drained counts live_is first middle last =
+    let answers : List Answer = map (callback_said pipe.lines) callbacks ++ said.Drained n count ∷ [] in
+    record {
+      said = answers;
+      held = drain-holds k l live live' pipe n count callbacks [] answers has free drained counts live_is refl;
+      says = told-text pipe.lines callbacks (said.Drained n count) text a b text' first middle last;
+    }
+
+-- ---- the last drain
+
+pub last-says : (k l : Known (BoardEntry Ask)) (live live' : Live) (pipe : Pipe) (count : ℕ) (callbacks : List (Callback Finished)) (text a b text' : List ℕ)
+    → live.pipe ≡ Some pipe → Drained k l pipe callbacks → count ≡ completions callbacks → live' ≡ delivering live count
+    → a ≡ text → b ≡ a ++ flat_map text_of (map (callback_said pipe.lines) callbacks) → text' ≡ b ++ flat_map text_of (end_said live.label count)
+    → SaysMove (drains_at_end live.label live.pipe) live live' k l text text'
+last-says k l live live' pipe count callbacks text a b text' has drained counts live_is first middle last =
+    let told : List Answer = map (callback_said pipe.lines) callbacks in
+    let tail : List Answer = end_said live.label count in
+    record {
+      said = told ++ tail;
+      moves = drains-last k l live live' pipe count callbacks [] (told ++ tail) has drained counts live_is refl;
+      says =
+          last
+          ∙ (ap (λ x. x ++ flat_map text_of tail) (middle ∙ ap (λ x. x ++ flat_map text_of told) first)
+          ∙ (append_assoc text (flat_map text_of told) (flat_map text_of tail) ∙ ap (λ x. text ++ x) (sym (flat_map-append text_of told tail))));
+    }
+
+pub last-stays : (live : Live) (k : Known (BoardEntry Ask)) (text text' : List ℕ) (moves : Moves (drains_at_end live.label live.pipe) live live k k [] []) → text' ≡ text → SaysMove (drains_at_end live.label live.pipe) live live k k text text'
+last-stays live k text text' moves e = record { said = []; moves = moves; says = e ∙ sym (append-nil text) }
+
+-- ---- what the collects handed out is told
+
+pub tells-nothing : (k l : Known (BoardEntry Ask)) → Called k l [] → Tells k l []
+tells-nothing k l called = record { calls = []; called = called; whole = refl }
+
+pub tells-go : (k l : Known (BoardEntry Ask)) (pipe pipe' : Pipe) → Changed k l pipe pipe' (Goes pipe.number ∷ []) [] → Tells k l []
+tells-go k l pipe pipe' changed = record { calls = Goes pipe.number ∷ []; called = changed.called; whole = refl }
+
+all-told : (lines : List ℕ) (callbacks : List (Callback Finished)) → filter is_told (map (callback_said lines) callbacks) ≡ map (callback_said lines) callbacks
+all-told lines [] = refl
+all-told lines (callback.Started n ∷ xs) = ap (λ rest. callback_said lines (callback.Started n) ∷ rest) (all-told lines xs)
+all-told lines (callback.Done n (Bytes made) ∷ xs) = ap (λ rest. callback_said lines (callback.Done n (Bytes made)) ∷ rest) (all-told lines xs)
+all-told lines (callback.Done n BadMsg ∷ xs) = ap (λ rest. callback_said lines (callback.Done n BadMsg) ∷ rest) (all-told lines xs)
+all-told lines (callback.Done n Invalid ∷ xs) = ap (λ rest. callback_said lines (callback.Done n Invalid) ∷ rest) (all-told lines xs)
+
+end-untold : (label : List ℕ) (count : ℕ) (none : Bool) → filter is_told (if none then [] else said.End label count ∷ []) ≡ []
+end-untold label count true = refl
+end-untold label count false = refl
+
+pub tells-last : (k l : Known (BoardEntry Ask)) (pipe : Pipe) (label : List ℕ) (count : ℕ) (callbacks : List (Callback Finished)) → Drained k l pipe callbacks
+    → Tells k l (map (callback_said pipe.lines) callbacks ++ end_said label count)
+tells-last k l pipe label count callbacks drained =
+    let told : List Answer = map (callback_said pipe.lines) callbacks in
+    let notices = map (notice_by pipe.lines) callbacks in
+    record {
+      calls = Collects pipe.number (record { notices = notices; all_done = true }) ∷ [];
+      called = drained.called;
+      whole =
+          filter-append is_told told (end_said label count)
+          ∙ (ap (λ x. filter is_told told ++ x) (end-untold label count (count == 0))
+          ∙ (append-nil (filter is_told told) ∙ (all-told pipe.lines callbacks ∙ (sym (said-is pipe.lines callbacks) ∙ sym (append-nil (map notice_said notices))))));
+    }
+
+pub tells-more : (k l m : Known (BoardEntry Ask)) (before after : List Answer) → Tells k l before → Tells l m after → Tells k m (before ++ after)
+tells-more k l m before after first later =
+    record {
+      calls = first.calls ++ later.calls;
+      called = called-more k l m first.calls later.calls first.called later.called;
+      whole =
+          filter-append is_told before after
+          ∙ (ap (λ x. x ++ filter is_told after) first.whole ∙ (ap (λ x. flat_map call_says first.calls ++ x) later.whole ∙ sym (flat_map-append call_says first.calls later.calls)));
+    }
+
+pub told-nothing : (k l : Known (BoardEntry Ask)) (text text' : List ℕ) → Called k l [] → text' ≡ text → SaysTold k l text text'
+told-nothing k l text text' called e = record { said = []; tells = tells-nothing k l called; says = e ∙ sym (append-nil text) }
+
+pub told-last : (k l : Known (BoardEntry Ask)) (pipe : Pipe) (label : List ℕ) (count : ℕ) (callbacks : List (Callback Finished)) (text a b text' : List ℕ) → Drained k l pipe callbacks
+    → a ≡ text → b ≡ a ++ flat_map text_of (map (callback_said pipe.lines) callbacks) → text' ≡ b ++ flat_map text_of (end_said label count) → SaysTold k l text text'
+told-last k l pipe label count callbacks text a b text' drained first middle last =
+    let told : List Answer = map (callback_said pipe.lines) callbacks in
+    let tail : List Answer = end_said label count in
+    record {
+      said = told ++ tail;
+      tells = tells-last k l pipe label count callbacks drained;
+      says =
+          last
+          ∙ (ap (λ x. x ++ flat_map text_of tail) (middle ∙ ap (λ x. x ++ flat_map text_of told) first)
+          ∙ (append_assoc text (flat_map text_of told) (flat_map text_of tail) ∙ ap (λ x. text ++ x) (sym (flat_map-append text_of told tail))));
+    }
+
+pub told-more : (k l m : Known (BoardEntry Ask)) (text a text' : List ℕ) → SaysTold k l text a → SaysTold l m a text' → SaysTold k m text text'
+told-more k l m text a text' first later =
+    record {
+      said = first.said ++ later.said;
+      tells = tells-more k l m first.said later.said first.tells later.tells;
+      says =
+          later.says
+          ∙ (ap (λ x. x ++ flat_map text_of later.said) first.says
+          ∙ (append_assoc text (flat_map text_of first.said) (flat_map text_of later.said) ∙ ap (λ x. text ++ x) (sym (flat_map-append text_of first.said later.said))));
+    }
+
+pub told-first : (k l : Known (BoardEntry Ask)) (text : List ℕ) → Tells k l [] → SaysTold k l text text
+told-first k l text tells = record { said = []; tells = tells; says = sym (append-nil text) }
+
+-- the queues that were let go first told nothing
+pub told-after : (k l m : Known (BoardEntry Ask)) (text text' : List ℕ) → Tells k l [] → SaysTold l m text text' → SaysTold k m text text'
+told-after k l m text text' first later = record { said = later.said; tells = tells-more k l m [] later.said first later.tells; says = later.says }
+
+-- ---- a session's states
+
+pub says-by : (d : Dialogue) (s s' : State) (answer : Answer) (text text' : List ℕ) → Holds d s s' [] (answer ∷ []) → text' ≡ text ++ text_of answer → SaysBy 1 d s s' text text'
+says-by d s s' answer text text' held e = record { said = answer ∷ []; held = held; says = e ∙ ap (λ x. text ++ x) (sym (flat-one answer)) }
+
+-- ---- a loop over all transforms
+
+-- the first so many were drained, and the text of what they handed out was added
+pub record SaidSoFar (i : ℕ) (lives now : List Live) (k l : Known (BoardEntry Ask)) (text text' : List ℕ) : Type 0 where
+  pub said : List Answer
+  pub way : OnTheWay drain_all i lives now k l [] said
+  pub says : text' ≡ text ++ flat_map text_of said
+  pub told : SaysTold k l text text'
+
+pub says-out : (lives : List Live) (k : Known (BoardEntry Ask)) (text : List ℕ) → ArePosted lives k → LegalBoard k.seen → SaidSoFar 0 lives lives k k text text
+says-out lives k text are legal =
+    record {
+      said = [];
+      way = sets-out drain_all lives k [] (λ rest. refl) are legal;
+      says = sym (append-nil text);
+      told = told-nothing k k text text (kept-same k legal).called refl;
+    }
+
+-- the answers before a part's own
+moves-behind : (dialogue : Dialogue → Dialogue) (live live' : Live) (k l : Known (BoardEntry Ask)) (before said : List Answer) → Moves dialogue live live' k l [] said → Moves dialogue live live' k l before (before ++ said)
+moves-behind dialogue live live' k l before said moves =
+    record { calls = moves.calls; said = moves.said; changes = moves.changes; place = moves.place; leads = moves.leads; says = ap (λ x. before ++ x) moves.says }
+
+pub says-further : (i : ℕ) (lives now now' : List Live) (live live' : Live) (k l l' : Known (BoardEntry Ask)) (text a text' : List ℕ) → SaidSoFar i lives now k l text a → i < length now → live ≡ slice_index_or now i live → now' ≡ set now i live'
+    → SaysMove (drains_at_end live.label live.pipe) live live' l l' a text' → SaysTold l l' a text' → SaidSoFar (i + 1) lives now' k l' text text'
+says-further i lives now now' live live' k l l' text a text' saying within here set_to move told =
+    let one : Live → Dialogue → Dialogue = λ x. drains_at_end x.label x.pipe in
+    record {
+      said = saying.said ++ move.said;
+      way = goes-further drain_all one drain-more lives now i live live' k l l' [] saying.said (saying.said ++ move.said) saying.way within here now' set_to
+          (moves-behind (drains_at_end live.label live.pipe) live live' l l' saying.said move.said move.moves);
+      says =
+          move.says
+          ∙ (ap (λ x. x ++ flat_map text_of move.said) saying.says
+          ∙ (append_assoc text (flat_map text_of saying.said) (flat_map text_of move.said) ∙ ap (λ x. text ++ x) (sym (flat_map-append text_of saying.said move.said))));
+      told = told-more k l l' text a text' saying.told told;
+    }
+
+pub says-all : (i : ℕ) (lives now : List Live) (k l : Known (BoardEntry Ask)) (text text' : List ℕ) → SaidSoFar i lives now k l text text' → length now ≤ i → SaysMoves (drain_all lives) lives now k l text text'
+says-all i lives now k l text text' saying past =
+    record { said = saying.said; moves = all-moved drain_all i lives now k l [] saying.said saying.way past; says = saying.says }
+
+pub breaks-off_same : (s : State) (text text' : List ℕ) → Stands s.walk.lives (known s.registry) → Posted s.walk (known s.board) → text' ≡ text → BreaksOff s s text text'
+breaks-off_same s text text' stands posted e = record { stops = stops-same s stands; called = (kept-same (known s.board) posted.legal).called; says = e }
