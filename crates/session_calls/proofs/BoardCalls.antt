@@ -14,7 +14,7 @@ use Rattle.board.specs.declared.entry.BoardEntry.{BoardEntry}
 use Rattle.board.specs.declared.entry.BoardEntry.TheVariants as event
 use Rattle.board.specs.declared.entry.Shape.{Shape}
 use Rattle.board.specs.declared.entry.Shape.TheVariants.{Pad, Queue, Chain}
-use Rattle.board.specs.Entries.{caller_of, is_of, is_close, is_closed, is_share, is_held, mask, birth, accepted_in, entries_of, submissions, front, told, delivered}
+use Rattle.board.specs.Entries.{caller_of, is_close, is_closed, is_held, mask, birth, accepted_in, entries_of, submissions, front, told, delivered}
 use Rattle.board.specs.Allowance.{IsAllowed}
 use Rattle.board.specs.Legal.{IsNoWorker, IsOpen, IsOpenPad, IsOpenQueue, IsOpenAs, LegalBoard, pipelines}
 use Rattle.board.specs.Handing.{is_collect, completions}
@@ -24,7 +24,7 @@ use Rattle.board.specs.Staying.{IsDrained}
 use Rattle.board.specs.Allowance.{accepted_by}
 use Rattle.std.proofs.lemmas.List.{length-map}
 use Rattle.std.specs.Option.{option_map}
-use Rattle.board.specs.Order.{handed_out, completed, numbers_below}
+use Rattle.board.specs.Order.{numbers_below}
 use Rattle.board.specs.Shapes.{IsShape}
 use Rattle.transforms.specs.declared.ask.Ask.{Ask}
 use Rattle.transforms.specs.declared.request.Finished.{Finished}

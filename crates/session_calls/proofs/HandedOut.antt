@@ -1,6 +1,6 @@
 -- What a collect hands out of a pipeline of a caller's own, beside what was accepted from the caller.
-use Rattle.std.proofs.Common.{◌≡◌, ◌⊎◌, inl, inr, ℕ, zero, suc, ◌+◌, ◌-◌, ◌*◌, ◌<◌, ◌≤◌, Bool, true, false, ◌||◌, List, [], ◌∷◌, ◌++◌, length, map, take, drop, Option, Some, None, refl, sym, ap, subst, ◌∙◌, append-nil, append_assoc, length-append, length-take, length-drop, zero-add, arith}
-use Rattle.std.specs.Prelude.{◌==◌, if◌then◌else◌, ⊤, slice_get, sum_by}
+use Rattle.std.proofs.Common.{◌≡◌, ◌⊎◌, inl, inr, ℕ, zero, suc, ◌+◌, ◌-◌, ◌*◌, ◌≤◌, Bool, true, false, ◌||◌, List, [], ◌∷◌, ◌++◌, length, map, take, drop, Option, Some, None, refl, sym, ap, subst, ◌∙◌, append-nil, append_assoc, length-append, length-take, length-drop, zero-add, arith}
+use Rattle.std.specs.Prelude.{if◌then◌else◌, ⊤, slice_get, sum_by}
 use Rattle.std.specs.List.{filter_map, cons_option}
 use Rattle.std.proofs.lemmas.Bool.{eq-eqb, eqb-true}
 use Rattle.std.proofs.lemmas.List.Elements.{filter_map-append}
@@ -14,9 +14,8 @@ use Rattle.board.specs.declared.entry.Entered.TheVariants.{InProgress, Busy, NoS
 use Rattle.board.specs.declared.entry.Shape.{Shape}
 use Rattle.board.specs.Allowance.{accepted_from, accepted_by}
 use Rattle.board.specs.Entries.{pipe_of, is_pipe, is_of, entries_of, birth_in, first, birth, accepted_in, submissions, dequeued_in, dequeues, finished, has, unbroken, front, Notice, Starts, Completes, completes_from, tells, told_after, told, collected, is_share, is_shared, maker_is, IsMaker, caller_of, completion, meaning_at, callback_of, delivered}
-use Rattle.board.specs.Following.{LeaveInOrder}
-use Rattle.board.specs.Legal.{MaySubmit, IsRightFor, IsRightOn, LegalBoard}
-use Rattle.board.specs.Order.{completed_in, completed, numbers_below, started_in, started, KeepsOrder}
+use Rattle.board.specs.Legal.{IsRightFor, IsRightOn, LegalBoard}
+use Rattle.board.specs.Order.{completed, numbers_below, started_in, started}
 use Rattle.transforms.specs.AskValue.{ask_size}
 use Rattle.transforms.specs.Finish.{finished_length}
 use Rattle.transforms.specs.declared.ask.Ask.{Ask}

@@ -1,5 +1,5 @@
 -- Looks that are made first, and what they come to later.
-use Rattle.std.proofs.Common.{◌≡◌, ℕ, Bool, true, false, List, [], ◌∷◌, ◌++◌, Option, Some, None, Result, Ok, Err, refl, sym, ap, subst, ◌∙◌, append-nil}
+use Rattle.std.proofs.Common.{◌≡◌, ℕ, List, [], ◌++◌, Option, Some, Result, Ok, Err, refl, sym, ap, subst, ◌∙◌, append-nil}
 use Rattle.std.specs.Prelude.{slice_get}
 use Rattle.kc_base.specs.declared.error_numbers.Errno.{Errno}
 use Rattle.alg_registry.specs.declared.spec.Spec.{Spec}
@@ -9,15 +9,13 @@ use Rattle.alg_registry.specs.Made.{outcome}
 use Rattle.alg_registry.specs.Rows.{registered, caller_of}
 use Rattle.templates.specs.declared.build_errors.BuildErr.{BuildErr}
 use Rattle.templates.specs.declared.build_errors.BuildErr.TheVariants as build
-use Rattle.templates.specs.Looking.{Found, Entry, Fault, found_in}
+use Rattle.templates.specs.Looking.{Entry, Fault, found_in}
 use Rattle.turn_lock.specs.Going.{goes_then}
-use Rattle.turn_lock.specs.Meeting.{GoesOn}
-use Rattle.turn_lock.specs.Turns.{Known}
 use Rattle.shared_registry.specs.Building.{Works, Settled}
 use Rattle.shared_registry.specs.Faithful.{IsFaithful}
 use Rattle.dialogues.specs.GoingOn.{FoundStays}
 use Rattle.session_calls.specs.Asking.{SeesMore, IsResolved}
-use Rattle.session_calls.specs.Looking.{Goes, found_result, Settles}
+use Rattle.session_calls.specs.Looking.{Goes, Settles}
 use Rattle.session_calls.specs.Passes.{RegPass, known, lock_of}
 use Rattle.session_calls.proofs.Asking.{found-registered}
 

@@ -1,5 +1,5 @@
 -- The bytes of a value are at most 64 more than those of its request's text.
-use Rattle.std.proofs.Common.{◌≡◌, ℕ, zero, suc, ◌+◌, ◌-◌, ◌*◌, ◌/◌, ◌%◌, ◌<◌, ◌≤◌, Bool, true, false, cond, List, [], ◌++◌, length, take, drop, Option, Some, None, refl, arith, length-append, length-take, length-drop}
+use Rattle.std.proofs.Common.{◌≡◌, ℕ, zero, suc, ◌+◌, ◌-◌, ◌*◌, ◌/◌, ◌%◌, ◌≤◌, Bool, true, false, cond, List, [], ◌++◌, length, take, drop, Option, Some, None, refl, arith, length-append, length-take, length-drop}
 use Rattle.std.specs.Prelude.{◌==◌, bytes_eq, bit_xor, slice_index, slice_index_or}
 use Rattle.std.specs.Arc.{arc_value}
 use Rattle.std.specs.Option.{option_map}
@@ -11,12 +11,12 @@ use Rattle.std_defs.specs.Blocks.{block_number, xor_blocks, text_block, joined, 
 use Rattle.std_defs.specs.Ccm.{ccm_takes_iv, ccm_counter, ccm_text, ccm_tag, ccm_chained, ccm_seal, ccm_open}
 use Rattle.std_defs.specs.Cmac.{cmac}
 use Rattle.std_defs.specs.Gcm.{BlockFunction, gctr, gcm_text, gcm_tag, gcm_seal, gcm_open}
-use Rattle.std_defs.specs.Hmac.{hmac, hmac_under, block_key}
-use Rattle.std_defs.specs.Modes.{cbc_block, cbc_plain_block, cbc_seal, cbc_unseal, of_whole_blocks, ctr as ctr_of, ctr_stream, rfc3686_counter}
+use Rattle.std_defs.specs.Hmac.{hmac, hmac_under}
+use Rattle.std_defs.specs.Modes.{cbc_block, cbc_plain_block, cbc_seal, cbc_unseal, ctr as ctr_of, ctr_stream, rfc3686_counter}
 use Rattle.std_defs.specs.Rfc4106.{rfc4106_takes, rfc4106_iv, rfc4106_associated}
 use Rattle.std_defs.specs.Value.{Value, or_invalid, or_bad_message}
 use Rattle.std_defs.specs.Value.Value.{bytes, bad_message, invalid}
-use Rattle.std_defs.specs.Xts.{xts_block, xts_blocks, with_stealing, xts_unit, of_a_block_or_more, xts_seal, xts_unseal}
+use Rattle.std_defs.specs.Xts.{xts_block, xts_blocks, with_stealing, xts_unit, xts_seal, xts_unseal}
 use Rattle.std_defs.proofs.GcmOpened.{length-gcm_tag}
 use Rattle.std_defs.proofs.Joined.{length-joined, xor_blocks-length}
 use Rattle.std_defs.proofs.KeyStream.{length-with_stream}

@@ -1,8 +1,8 @@
-use Rattle.std.proofs.Common.{◌≡◌, ◌≢◌, inl, Some, sym, ◌∙◌, ◌∷◌, [], false, subst, MatchResult}
+use Rattle.std.proofs.Common.{◌≡◌, inl, Some, sym, ◌∙◌, ◌∷◌, [], false, subst, MatchResult}
 use Rattle.std.specs.Prelude.{◌↔◌}
 use Rattle.std.specs.Arc.{arc_value}
 use Rattle.board.specs.Allowance.{IsAllowed}
-use Rattle.board.specs.declared.board_core.BoardErr.TheVariants.{NoWorker, TooBig}
+use Rattle.board.specs.declared.board_core.BoardErr.TheVariants.{TooBig}
 use Rattle.transforms.specs.AskValue.{ask_size}
 use Rattle.dialogues.specs.BoardCalls.{Submits, asked_by}
 use Rattle.dialogues.specs.Walk.{Pipe}
