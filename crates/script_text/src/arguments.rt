@@ -65,7 +65,7 @@ fn are_segments(parts: &[Bytes]) -> bool
     parts.len() == 1 || parts.len() <= MOST_PARTS && are_filled(parts)
 }
 
-// Before the first part, takes the room for all parts of the token that are as long.
+// Before the first part is added, takes the room for as many as the token has if all are as long.
 fn reserve_parts(parts: &mut Vec<Bytes>, token: &[u8], part: &[u8]) -> Result<(), AllocError>
     ensures { parts.new.items ≡ parts.old.items }
 {

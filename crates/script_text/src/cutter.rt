@@ -36,7 +36,7 @@ impl Model for LineCutter {
     ghost invariant = { λ c. (c.at ≤ c.seen) × (c.seen ≤ vec_len c.bytes) };
 }
 
-// Takes so many bytes off the front. Where there are none to take, it moves nothing, as pieces of a line may be short.
+// Takes so many bytes off the front. Where there are none, nothing is moved, since a line may come in many short pieces.
 fn drop_front(bytes: &mut Vec<u8>, count: usize)
     requires { count ≤ vec_len bytes.old }
     ensures { bytes.new.items ≡ drop count bytes.old.items }
