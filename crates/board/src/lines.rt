@@ -128,9 +128,18 @@ impl JobLines {
         ensures joined { OnOk result ((worker : ℕ) → IsMasked mask worker → IsMember (line_of worker self.new.own) pipe) }
     {
         for before in 0..WORKERS {
-            if is_masked(mask, before + 1) {
-                self.join(before + 1, pipe)?;
-            }
+            self.join_worker(before + 1, mask, pipe)?;
+        }
+        Ok(())
+    }
+
+    /// From now on the worker may take from a pad or a chain, where its bit is set. Want of memory changes nothing that is seen.
+    fn join_worker(&mut self, worker: u32, mask: u16, pipe: usize) -> Result<(), AllocError>
+        ensures kept { IsMade Keeps self.old self.new }
+        ensures joined { OnOk result (IsMasked mask worker → IsMember (line_of worker self.new.own) pipe) }
+    {
+        if is_masked(mask, worker) {
+            return self.join(worker, pipe);
         }
         Ok(())
     }
@@ -233,11 +242,19 @@ fn readmit_all<J: Drop, F: Drop>(own: &mut [OwnLine], pipe: usize, place: &Pipel
     ensures { (caller : ℕ) → IsReadmitted pipe place.now caller (line_of caller own.old) (line_of caller own.new) }
 {
     if let Some((first, rest)) = own.split_first_mut() {
-        if place.admits(first.caller) {
-            first.line.set(pipe, place.stage.may_serve());
-        } else {
-            first.line.leave(pipe);
-        }
+        readmit(first, pipe, place);
         readmit_all(rest, pipe, place);
+    }
+}
+
+/// The pipeline stays a member of the line where it admits the caller, and stands there where it has a job.
+fn readmit<J: Drop, F: Drop>(own: &mut OwnLine, pipe: usize, place: &Pipeline<J, F>)
+    ensures caller { own.new.caller ≡ own.old.caller }
+    ensures line { IsReadmitted pipe place.now own.old.caller own.old.line own.new.line }
+{
+    if place.admits(own.caller) {
+        own.line.set(pipe, place.stage.may_serve());
+    } else {
+        own.line.leave(pipe);
     }
 }

@@ -64,6 +64,9 @@ impl Ready {
         ensures kept { Keeps self.old self.new }
         ensures added { IsMember self.old pipe → IsInLine self.new pipe }
     {
+        if self.ready == self.members.len() {
+            return;
+        }
         if let Some(place) = self.members.get_index_of(&pipe) {
             if self.ready <= place {
                 self.members.swap_indices(place, self.ready);
@@ -102,11 +105,9 @@ impl Ready {
         if self.ready == 0 {
             return None;
         }
-        if self.turn >= self.ready {
-            self.turn = 0;
-        }
-        let pipe = *self.members.get_index(self.turn)?;
-        self.turn += 1;
+        let place = self.turn % self.ready;
+        let pipe = *self.members.get_index(place)?;
+        self.turn = place + 1;
         Some(pipe)
     }
 
@@ -123,10 +124,16 @@ impl Ready {
         }
         self.ready -= 1;
         self.members.swap_indices(place, self.ready);
-        // The member that stands here now had the last place in line, and has its turn next.
-        if self.turn == place + 1 {
-            self.turn = place;
-        }
+        self.turn = turn_after(self.turn, place);
         self.ready
+    }
+}
+
+/// Whose turn it is when the last in line has come to this place: its own, where the place had the last turn.
+fn turn_after(turn: usize, place: usize) -> usize {
+    if turn.saturating_sub(1) == place {
+        place
+    } else {
+        turn
     }
 }
