@@ -1,6 +1,6 @@
 -- The lines of a board's callers, as pipelines change.
 use Rattle.std.proofs.Common.{◌≡◌, ◌≢◌, ℕ, zero, suc, ◌+◌, ◌<◌, ◌≤◌, Bool, true, false, cond, ◌&&◌, ◌||◌, take, drop, List, [], ◌∷◌, ◌++◌, length, refl, sym, ◌∙◌, ap, subst, arith, inl, inr, ◌⊎◌, get_or, length-append}
-use Rattle.std.specs.Prelude.{◌==◌, slice_set, slice_index_or, MatchOption, Option, Some, None}
+use Rattle.std.specs.Prelude.{◌==◌, slice_set, slice_index_or, MatchOption, Option, Some, None, Result, Ok, Err, OnOk}
 use Rattle.std.specs.List.{position_from}
 use Rattle.std.proofs.lemmas.Bool.{eqb-true, eq-eqb, cases_eq, cases_lt, both_ways}
 use Rattle.std.proofs.lemmas.List.{get_or-set_same, get_or-set_other, get_or_append_left, length-set}
@@ -145,6 +145,26 @@ worker_cases mask pipe before worker own after so_far kept joined m (inr n) l = 
 pub next_worker : (mask pipe before : ℕ) (own after : List OwnLine) → ((w : ℕ) → IsMasked mask w → w ≤ before → IsMember (line_of w own) pipe) → AreMade Keeps own after → (IsMasked mask (before + 1) → IsMember (line_of (before + 1) after) pipe)
     → (worker : ℕ) → IsMasked mask worker → worker ≤ before + 1 → IsMember (line_of worker after) pipe
 next_worker mask pipe before own after so_far kept joined worker m l = worker_cases mask pipe before worker own after so_far kept joined m (cases_eq worker (before + 1)) l
+
+pub lines_on : (lines next after : LinesOf) → IsMade Keeps lines next → IsMade Keeps next after → IsMade Keeps lines after
+lines_on lines next after k l = (
+  keeps_on lines.queues next.queues after.queues k.0 l.0,
+  λ c. keeps_on (line_of c lines.own) (line_of c next.own) (line_of c after.own) (k.1 c) (l.1 c),
+)
+
+-- and so all but one pipeline
+pub lines_but : (pipe : ℕ) (lines after : LinesOf) → IsMade Keeps lines after → IsMade (KeepsOthers pipe) lines after
+lines_but pipe lines after k = (λ p n. k.0 p, λ c p n. k.1 c p)
+
+pub lines_but_on : (pipe : ℕ) (lines next after : LinesOf) → IsMade (KeepsOthers pipe) lines next → IsMade (KeepsOthers pipe) next after → IsMade (KeepsOthers pipe) lines after
+lines_but_on pipe lines next after k l = (
+  others_on pipe lines.queues next.queues after.queues k.0 l.0,
+  λ c. others_on pipe (line_of c lines.own) (line_of c next.own) (line_of c after.own) (k.1 c) (l.1 c),
+)
+
+pub ok_map : {T E A B : Type 0} (o : Result T E) → (A → B) → OnOk o A → OnOk o B
+ok_map (Ok x) f h = f h
+ok_map (Err e) f h = tt
 
 pub none_told : (p : ℕ) (had has : Bool) → IsTold p had has no_pipelines no_pipelines
 none_told p had has = record {
@@ -492,3 +512,46 @@ module _ {J O : Type 0} (pipes : List (Pipeline J O)) where
       → MatchOption found (NoneStands (HasJobFor caller) pipes lines.queues × NoneStands (HasJobFor caller) pipes (line_of caller lines.own)) (IsOne (HasJobFor caller) pipes) → Finds (HasJobFor caller) pipes found
   found_all lines caller None r none = λ p d l h. none_cases lines caller p d (is_queue (slice_index_or pipes p d).stage) r none.0 none.1 l h refl
   found_all lines caller (Some k) r one = one
+
+  both_ways_round : (caller : ℕ) (line second : ReadyLine) (found : Option ℕ) → MatchOption found (NoneStands (HasJobFor caller) pipes line × NoneStands (HasJobFor caller) pipes second) (IsOne (HasJobFor caller) pipes)
+      → MatchOption found (NoneStands (HasJobFor caller) pipes second × NoneStands (HasJobFor caller) pipes line) (IsOne (HasJobFor caller) pipes)
+  both_ways_round caller line second None h = (h.1, h.0)
+  both_ways_round caller line second (Some k) h = h
+
+  -- the queues' line alone, for a caller that has no other
+  pub found_queue : (lines : LinesOf) (caller : ℕ) (found : Option ℕ) → AreReady pipes lines → line_of caller lines.own ≡ no_pipelines → MatchOption found (NoneStands (HasJobFor caller) pipes lines.queues) (IsOne (HasJobFor caller) pipes) → Finds (HasJobFor caller) pipes found
+  found_queue lines caller None r none h = found_all lines caller None r (h, λ p d l m i. none_in_line p (subst (λ line. IsInLine line p) none i))
+  found_queue lines caller (Some k) r none h = h
+
+  -- the queues' line first, then the caller's own
+  pub found_queue_first : (lines : LinesOf) (caller place : ℕ) (own : OwnLine) (found : Option ℕ) → AreReady pipes lines → IsLineAt caller lines.own place → own ≡ get_or lines.own place own
+      → MatchOption found (NoneStands (HasJobFor caller) pipes lines.queues × NoneStands (HasJobFor caller) pipes own.line) (IsOne (HasJobFor caller) pipes) → Finds (HasJobFor caller) pipes found
+  found_queue_first lines caller place own found r at here h =
+      found_all lines caller found r
+          (subst (λ line. MatchOption found (NoneStands (HasJobFor caller) pipes lines.queues × NoneStands (HasJobFor caller) pipes line) (IsOne (HasJobFor caller) pipes))
+          (ap (λ (o : OwnLine). o.line) here ∙ sym (at.line_is own)) h)
+
+  -- or the other way round
+  pub found_own_first : (lines : LinesOf) (caller place : ℕ) (own : OwnLine) (found : Option ℕ) → AreReady pipes lines → IsLineAt caller lines.own place → own ≡ get_or lines.own place own
+      → MatchOption found (NoneStands (HasJobFor caller) pipes own.line × NoneStands (HasJobFor caller) pipes lines.queues) (IsOne (HasJobFor caller) pipes) → Finds (HasJobFor caller) pipes found
+  found_own_first lines caller place own found r at here h = found_queue_first lines caller place own found r at here (both_ways_round caller own.line lines.queues found h)
+
+  -- what a search leaves of the lines
+  pub line_searched : (lines : LinesOf) (caller : ℕ) (queues : ReadyLine) → AreReady pipes lines → KeepsSuch (HasJobFor caller) pipes lines.queues queues → AreReady pipes (record lines { queues = queues })
+  line_searched lines caller queues r k = record {
+    queues = queues_searched caller lines.queues queues r.queues k;
+    own = r.own;
+  }
+
+  pub lines_searched : (lines : LinesOf) (caller place : ℕ) (own new : OwnLine) (queues : ReadyLine) → AreReady pipes lines → IsLineAt caller lines.own place → own ≡ get_or lines.own place own → new.caller ≡ own.caller → KeepsSuch (HasJobFor caller) pipes lines.queues queues
+      → KeepsSuch (HasJobFor caller) pipes own.line new.line → AreReady pipes (record { queues = queues; own = slice_set lines.own place new })
+  lines_searched lines caller place own new queues r at here e k l = record {
+    queues = queues_searched caller lines.queues queues r.queues k;
+    own = λ c.
+        set_made (λ n line after. IsReadyFor (IsFor n) HasJob pipes line → IsReadyFor (IsFor n) HasJob pipes after) (λ n line s. s) lines.own place new own at.within (e ∙ ap (λ (o : OwnLine). o.caller) here)
+            (subst (λ (o : OwnLine). IsReadyFor (IsFor o.caller) HasJob pipes o.line → IsReadyFor (IsFor o.caller) HasJob pipes new.line) here
+            (λ s. subst (λ n. IsReadyFor (IsFor n) HasJob pipes new.line) (sym (mine own at here)) (own_searched caller own.line new.line (subst (λ n. IsReadyFor (IsFor n) HasJob pipes own.line) (mine own at here) s) l))) c (r.own c);
+  }
+    where
+      mine : (own : OwnLine) → IsLineAt caller lines.own place → own ≡ get_or lines.own place own → own.caller ≡ caller
+      mine own at here = ap (λ (o : OwnLine). o.caller) here ∙ at.caller_is own
