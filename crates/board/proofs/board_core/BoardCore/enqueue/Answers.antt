@@ -43,7 +43,7 @@ invariant_of-self-in_err-admit g c =
       omega (arith, c.self.invariant.2, c.in_ok-reserve_entries.ensures.len, c.in_ok-reserve_entries.ensures.capacity),
       omega (arith, s.1, c.self.invariant.3),
       rw c.in_ok-reserve_entries.ensures.items c.self.invariant.4,
-      lines_same c.self.inside.pipes.items c.admit.new.self c.args.pipe c.index_mut-place.result.now c.reserve.new.self (lines_kept c.self.inside.pipes.items c.self.inside.ready c.admit.new.self c.self.invariant.5 c.in_err-admit.ensures.kept) w c.index_mut-place.ensures.value c.in_ok-reserve.ensures.same.closed (serve_same c.reserve.new.self.stage c.index_mut-place.result.now.stage c.in_ok-reserve.ensures.same.stage) (room_admits c.index_mut-place.result.now c.reserve.new.self c.in_ok-reserve.ensures.same),
+      lines_same c.self.inside.pipes.items c.admit-2.new.self c.args.pipe c.index_mut-place.result.now c.reserve.new.self (lines_kept c.self.inside.pipes.items c.self.inside.ready c.admit-2.new.self c.self.invariant.5 c.in_err-admit.ensures.kept) w c.index_mut-place.ensures.value c.in_ok-reserve.ensures.same.closed (serve_same c.reserve.new.self.stage c.index_mut-place.result.now.stage c.in_ok-reserve.ensures.same.stage) (room_admits c.index_mut-place.result.now c.reserve.new.self c.in_ok-reserve.ensures.same),
       passing_same c.self.inside.pipes.items c.self.inside.passing c.args.pipe c.index_mut-place.result.now c.reserve.new.self c.self.invariant.6 w c.index_mut-place.ensures.value c.in_ok-reserve.ensures.same.closed (chain_same c.reserve.new.self.stage c.index_mut-place.result.now.stage c.in_ok-reserve.ensures.same.stage) (pass_same c.reserve.new.self.stage c.index_mut-place.result.now.stage c.in_ok-reserve.ensures.same.stage),
     )
 
@@ -57,7 +57,7 @@ invariant_of-self-in_err-spend g c =
       omega (arith, c.self.invariant.2, c.in_ok-reserve_entries.ensures.len, c.in_ok-reserve_entries.ensures.capacity),
       omega (arith, s.1, c.self.invariant.3),
       rw c.in_ok-reserve_entries.ensures.items (λ q. c.in_err-spend.ensures.err q ∙ c.self.invariant.4 q),
-      lines_same c.self.inside.pipes.items c.admit.new.self c.args.pipe c.index_mut-place.result.now c.reserve.new.self (lines_kept c.self.inside.pipes.items c.self.inside.ready c.admit.new.self c.self.invariant.5 c.in_ok-admit.ensures.kept) w c.index_mut-place.ensures.value c.in_ok-reserve.ensures.same.closed (serve_same c.reserve.new.self.stage c.index_mut-place.result.now.stage c.in_ok-reserve.ensures.same.stage) (room_admits c.index_mut-place.result.now c.reserve.new.self c.in_ok-reserve.ensures.same),
+      lines_same c.self.inside.pipes.items c.admit-2.new.self c.args.pipe c.index_mut-place.result.now c.reserve.new.self (lines_kept c.self.inside.pipes.items c.self.inside.ready c.admit-2.new.self c.self.invariant.5 c.in_ok-admit.ensures.kept) w c.index_mut-place.ensures.value c.in_ok-reserve.ensures.same.closed (serve_same c.reserve.new.self.stage c.index_mut-place.result.now.stage c.in_ok-reserve.ensures.same.stage) (room_admits c.index_mut-place.result.now c.reserve.new.self c.in_ok-reserve.ensures.same),
       passing_same c.self.inside.pipes.items c.self.inside.passing c.args.pipe c.index_mut-place.result.now c.reserve.new.self c.self.invariant.6 w c.index_mut-place.ensures.value c.in_ok-reserve.ensures.same.closed (chain_same c.reserve.new.self.stage c.index_mut-place.result.now.stage c.in_ok-reserve.ensures.same.stage) (pass_same c.reserve.new.self.stage c.index_mut-place.result.now.stage c.in_ok-reserve.ensures.same.stage),
     )
 
@@ -91,8 +91,8 @@ invariant_of-self-2 g c =
       omega (arith, more, few_entries c.index_mut-place.result.now.stage answer, c.push_reserved.ensures.len, c.push_reserved.ensures.capacity, c.in_ok-reserve_entries.ensures.ok),
       omega (arith, more, s.1, c.self.invariant.3),
       rw (c.push_reserved.ensures.items, c.in_ok-reserve_entries.ensures.items) (used_answer g.W.Work.weight c.self.inside.used c.spend.new.used c.self.inside.log.items c.args.caller c.args.pipe c.in_ok-ask.field-0.ask c.args.backlog answer (g.W.Work.asked c.args.job) c.in_ok-ask.field-0.size c.in_ok-ask.ensures.ask c.in_ok-ask.ensures.size c.self.invariant.4 (rw spent at c.in_ok-spend.ensures.ok)),
-      lines_asked c.self.inside.pipes.items c.admit.new.self c.tell.new.self c.args.pipe c.index_mut-place.result.now c.enqueue-answer.new.self c.args.caller _ c.may_serve-has_job.result (lines_kept c.self.inside.pipes.items c.self.inside.ready c.admit.new.self c.self.invariant.5 c.in_ok-admit.ensures.kept) w c.index_mut-place.ensures.value (λ q. c.in_ok-admit.ensures.joined (c.is_queue.ensures ∙ (queue_same c.reserve.new.self.stage c.index_mut-place.result.now.stage c.in_ok-reserve.ensures.same.stage ∙ q))) c.tell.ensures noting (enqueued_queue c.index_mut-place.result.now.stage c.enqueue-answer.new.self.stage c.args.job answer e) (says c.enqueue-answer.new.self.stage c.may_serve-has_job.result c.may_serve-has_job.ensures) (job_open g.W.Work.asked g.W.Work.meaning c.self.inside.pipes.items (c.self.inside.log.items ++ Enq c.args.caller c.args.pipe c.in_ok-ask.field-0.ask c.args.backlog answer ∷ []) c.args.pipe c.enqueue-answer.new.self s.0 w),
-      passing_told c.self.inside.pipes.items c.self.inside.passing c.args.pipe c.index_mut-place.result.now c.enqueue-answer.new.self c.self.invariant.6 w c.index_mut-place.ensures.value c.set.new.self c.may_pass.result c.set.ensures noting.closed (enqueued_chain c.index_mut-place.result.now.stage c.enqueue-answer.new.self.stage c.args.job answer e) (says_passing c.enqueue-answer.new.self.stage c.may_pass.result c.may_pass.ensures) (request_open g.W.Work.asked g.W.Work.meaning c.self.inside.pipes.items (c.self.inside.log.items ++ Enq c.args.caller c.args.pipe c.in_ok-ask.field-0.ask c.args.backlog answer ∷ []) c.args.pipe c.enqueue-answer.new.self s.0 w),
+      lines_asked c.self.inside.pipes.items c.admit-2.new.self c.tell.new.self c.args.pipe c.index_mut-place.result.now c.enqueue-answer.new.self c.args.caller _ c.may_serve-has_job.result (lines_kept c.self.inside.pipes.items c.self.inside.ready c.admit-2.new.self c.self.invariant.5 c.in_ok-admit.ensures.kept) w c.index_mut-place.ensures.value (λ q. c.in_ok-admit.ensures.joined (c.is_queue.ensures ∙ (queue_same c.reserve.new.self.stage c.index_mut-place.result.now.stage c.in_ok-reserve.ensures.same.stage ∙ q))) c.tell.ensures noting (enqueued_queue c.index_mut-place.result.now.stage c.enqueue-answer.new.self.stage c.args.job answer e) (says c.enqueue-answer.new.self.stage c.may_serve-has_job.result c.may_serve-has_job.ensures) (job_open g.W.Work.asked g.W.Work.meaning c.self.inside.pipes.items (c.self.inside.log.items ++ Enq c.args.caller c.args.pipe c.in_ok-ask.field-0.ask c.args.backlog answer ∷ []) c.args.pipe c.enqueue-answer.new.self s.0 w),
+      passing_told c.self.inside.pipes.items c.self.inside.passing c.args.pipe c.index_mut-place.result.now c.enqueue-answer.new.self c.self.invariant.6 w c.index_mut-place.ensures.value c.set.new.self c.may_pass-may_pass.result c.set.ensures noting.closed (enqueued_chain c.index_mut-place.result.now.stage c.enqueue-answer.new.self.stage c.args.job answer e) (says_passing c.enqueue-answer.new.self.stage c.may_pass-may_pass.result c.may_pass-may_pass.ensures) (request_open g.W.Work.asked g.W.Work.meaning c.self.inside.pipes.items (c.self.inside.log.items ++ Enq c.args.caller c.args.pipe c.in_ok-ask.field-0.ask c.args.backlog answer ∷ []) c.args.pipe c.enqueue-answer.new.self s.0 w),
     )
 
 pub returns-clause-answered : goal.returns-clause-answered

@@ -35,7 +35,7 @@ invariant_of-self-2 g c =
       omega (arith, s.1, c.self.invariant.3),
       rw (c.push_reserved.ensures.items, c.in_ok-reserve_entries.ensures.items) (used_same g.W.Work.weight c.self.inside.used c.self.inside.log.items (Hold c.args.caller c.args.pipe) refl c.self.invariant.4),
       lines_told c.self.inside.pipes.items c.self.inside.ready c.tell.new.self c.args.pipe c.index_mut-place.result.now (record c.index_mut-place.result.now { stage = c.set_held.new.self }) c.may_serve-had_job.result c.may_serve-has_job.result c.self.invariant.5 w c.index_mut-place.ensures.value c.tell.ensures refl (admits_same c.index_mut-place.result.now (record c.index_mut-place.result.now { stage = c.set_held.new.self }) refl refl refl (hold_queue c.index_mut-place.result.now.stage c.set_held.new.self true c.set_held.ensures)) (serves c.index_mut-place.result.now.stage c.may_serve-had_job.result c.may_serve-had_job.ensures) (says c.set_held.new.self c.may_serve-has_job.result c.may_serve-has_job.ensures) (job_open g.W.Work.asked g.W.Work.meaning c.self.inside.pipes.items (c.self.inside.log.items ++ Hold c.args.caller c.args.pipe ∷ []) c.args.pipe (record c.index_mut-place.result.now { stage = c.set_held.new.self }) s.0 w),
-      passing_told c.self.inside.pipes.items c.self.inside.passing c.args.pipe c.index_mut-place.result.now (record c.index_mut-place.result.now { stage = c.set_held.new.self }) c.self.invariant.6 w c.index_mut-place.ensures.value c.set.new.self c.may_pass.result c.set.ensures refl (hold_chain c.index_mut-place.result.now.stage c.set_held.new.self true c.set_held.ensures) (says_passing c.set_held.new.self c.may_pass.result c.may_pass.ensures) (request_open g.W.Work.asked g.W.Work.meaning c.self.inside.pipes.items (c.self.inside.log.items ++ Hold c.args.caller c.args.pipe ∷ []) c.args.pipe (record c.index_mut-place.result.now { stage = c.set_held.new.self }) s.0 w),
+      passing_told c.self.inside.pipes.items c.self.inside.passing c.args.pipe c.index_mut-place.result.now (record c.index_mut-place.result.now { stage = c.set_held.new.self }) c.self.invariant.6 w c.index_mut-place.ensures.value c.set.new.self c.may_pass-may_pass.result c.set.ensures refl (hold_chain c.index_mut-place.result.now.stage c.set_held.new.self true c.set_held.ensures) (says_passing c.set_held.new.self c.may_pass-may_pass.result c.may_pass-may_pass.ensures) (request_open g.W.Work.asked g.W.Work.meaning c.self.inside.pipes.items (c.self.inside.log.items ++ Hold c.args.caller c.args.pipe ∷ []) c.args.pipe (record c.index_mut-place.result.now { stage = c.set_held.new.self }) s.0 w),
     )
 
 pub returns-clause-legal : goal.returns-clause-legal

@@ -61,3 +61,14 @@ invariant_of-self-2 g c =
 
 pub returns-clause-legal : goal.returns-clause-legal
 returns-clause-legal g c = (invariant_of-self-2 g c).0.legal
+
+pub invariant_of-self-in_err-join_workers : goal.invariant_of-self-in_err-join_workers
+invariant_of-self-in_err-join_workers g c = (
+  rw c.in_ok-reserve_entries.ensures.items c.self.invariant.0,
+  rw c.in_ok-reserve_entries.ensures.items c.self.invariant.1,
+  omega (arith, c.self.invariant.2, c.in_ok-reserve_entries.ensures.len, c.in_ok-reserve_entries.ensures.capacity),
+  c.self.invariant.3,
+  rw c.in_ok-reserve_entries.ensures.items c.self.invariant.4,
+  lines_kept c.self.inside.pipes.items c.self.inside.ready c.join_workers.new.self c.self.invariant.5 c.in_err-join_workers.ensures.kept,
+  c.self.invariant.6,
+)

@@ -16,6 +16,17 @@ returns-in_default-clause-passed g c = (
   c.self.view_is,
 )
 
+pub invariant_of-self : goal.invariant_of-self
+invariant_of-self g c = (
+  c.self.invariant.0,
+  c.self.invariant.1,
+  c.self.invariant.2,
+  c.self.invariant.3,
+  c.self.invariant.4,
+  c.self.invariant.5,
+  passing_searched c.self.inside.pipes.items c.self.inside.passing c.next_request.new.passing c.self.invariant.6 (rw c.deref.ensures.value at c.in_default.ensures.kept),
+)
+
 pub pass_on-requires-clause-few : goal.pass_on-requires-clause-few
 pass_on-requires-clause-few g c =
     let pipe = c.index_mut-place.result.now in
@@ -54,8 +65,18 @@ invariant_of-self-2 g c =
       omega (arith, s.1, c.self.invariant.3),
       rw (c.push_reserved.ensures.items, made) (used_same g.W.Work.weight c.self.inside.used c.self.inside.log.items e refl c.self.invariant.4),
       lines_told c.self.inside.pipes.items c.self.inside.ready c.tell.new.self c.in-Some.p pipe (record pipe { stage = c.pass_on.new.self }) c.may_serve-had_job.result c.may_serve-has_job.result c.self.invariant.5 w c.index_mut-place.ensures.value c.tell.ensures refl (admits_same pipe (record pipe { stage = c.pass_on.new.self }) refl refl refl (passed_is_queue pipe.stage c.pass_on.new.self c.in-Some-pass_on.ensures.2)) (serves pipe.stage c.may_serve-had_job.result c.may_serve-had_job.ensures) (says c.pass_on.new.self c.may_serve-has_job.result c.may_serve-has_job.ensures) (job_open g.W.Work.asked g.W.Work.meaning c.self.inside.pipes.items (c.self.inside.log.items ++ e ∷ []) c.in-Some.p (record pipe { stage = c.pass_on.new.self }) s.0 w),
-      passing_told c.self.inside.pipes.items c.next_request.new.passing c.in-Some.p pipe (record pipe { stage = c.pass_on.new.self }) (passing_searched c.self.inside.pipes.items c.self.inside.passing c.next_request.new.passing c.self.invariant.6 (rw c.deref.ensures.value at c.in-Some.ensures.kept)) w c.index_mut-place.ensures.value c.set.new.self c.may_pass.result c.set.ensures refl (passed_is_chain pipe.stage c.pass_on.new.self c.in-Some-pass_on.ensures.2) (says_passing c.pass_on.new.self c.may_pass.result c.may_pass.ensures) (request_open g.W.Work.asked g.W.Work.meaning c.self.inside.pipes.items (c.self.inside.log.items ++ e ∷ []) c.in-Some.p (record pipe { stage = c.pass_on.new.self }) s.0 w),
+      passing_told c.self.inside.pipes.items c.next_request.new.passing c.in-Some.p pipe (record pipe { stage = c.pass_on.new.self }) (passing_searched c.self.inside.pipes.items c.self.inside.passing c.next_request.new.passing c.self.invariant.6 (rw c.deref.ensures.value at c.in-Some.ensures.kept)) w c.index_mut-place.ensures.value c.set.new.self c.may_pass-may_pass.result c.set.ensures refl (passed_is_chain pipe.stage c.pass_on.new.self c.in-Some-pass_on.ensures.2) (says_passing c.pass_on.new.self c.may_pass-may_pass.result c.may_pass-may_pass.ensures) (request_open g.W.Work.asked g.W.Work.meaning c.self.inside.pipes.items (c.self.inside.log.items ++ e ∷ []) c.in-Some.p (record pipe { stage = c.pass_on.new.self }) s.0 w),
     )
+
+pub returns-clause-passed : goal.returns-clause-passed
+returns-clause-passed g c =
+    let pipe = c.index_mut-place.result.now in
+    let w : c.in-Some.p < length c.self.inside.pipes.items = rw (← c.deref.ensures.value) c.in-Some.ensures.next.0 in
+    let m = subst (λ x. HasRequest x) (sym c.index_mut-place.ensures.value) ((rw c.deref.ensures.value at c.in-Some.ensures.next.1) pipe) in
+    let s = pass_step g.W.Work.asked g.W.Work.meaning c.self.inside.pipes.items c.self.inside.log.items c.in-Some.p c.args.caller pipe c.pass_on.new.self c.self.invariant.0 w c.index_mut-place.ensures.value m c.in-Some-pass_on.ensures.2 in
+    let e : BoardEntry g.row.W-Ask.Denot = passed_entry pipe.stage c.args.caller c.in-Some.p in
+    let made = entry_made g.row.W-Ask.Denot pipe.stage c.args.caller c.in-Some.p c.in-Some-pass_on.number c.in-Some-pass_on.started c.in-Some-pass_on.ensures.0 c.in-Some-pass_on.ensures.1 in
+    (c.in-Some.p, rw (← c.self.view_is) s.2, rw (← c.self.view_is, ← s.3, ← made) c.push_reserved.ensures.items)
 
 pub returns-clause-legal : goal.returns-clause-legal
 returns-clause-legal g c = (invariant_of-self-2 g c).0.legal

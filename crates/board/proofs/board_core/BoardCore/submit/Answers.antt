@@ -105,3 +105,14 @@ returns-clause-submitted g c =
 
 pub returns-clause-legal : goal.returns-clause-legal
 returns-clause-legal g c = (invariant_of-self-2 g c).0.legal
+
+pub invariant_of-self-in_err-join : goal.invariant_of-self-in_err-join
+invariant_of-self-in_err-join g c = (
+  rw c.in_ok-reserve_entries.ensures.items c.self.invariant.0,
+  rw c.in_ok-reserve_entries.ensures.items c.self.invariant.1,
+  omega (arith, c.self.invariant.2, c.in_ok-reserve_entries.ensures.len, c.in_ok-reserve_entries.ensures.capacity),
+  c.self.invariant.3,
+  rw c.in_ok-reserve_entries.ensures.items c.self.invariant.4,
+  lines_kept c.self.inside.pipes.items c.self.inside.ready c.join.new.self c.self.invariant.5 c.in_err-join.ensures.kept,
+  c.self.invariant.6,
+)
