@@ -24,6 +24,7 @@ pub mod Admitting
 pub mod KeptWork
 pub mod KeptFinish
 pub mod KeptPassOn
+pub mod KeptLines
 pub mod KeptMarks
 pub mod KeptRoom
 pub mod KeptStage

@@ -1,131 +1,207 @@
 -- The lines of a board's callers, as pipelines change.
-use Rattle.std.proofs.Common.{◌≡◌, ℕ, zero, suc, ◌+◌, ◌<◌, ◌≤◌, Bool, true, false, cond, ◌&&◌, ◌||◌, List, [], ◌∷◌, ◌++◌, length, refl, sym, ◌∙◌, ap, subst, arith, inl, inr, ◌⊎◌, get_or}
-use Rattle.std.specs.Prelude.{is_some, ◌==◌, slice_set, slice_index_or, MatchOption, Option, Some, None}
-use Rattle.std.specs.List.{list_any, position_from}
-use Rattle.std.proofs.lemmas.Bool.{eqb-true, eq-eqb, or_left, or_right, cases_eq, cases_lt, both_ways}
-use Rattle.std.proofs.lemmas.List.{get_or-set_same, get_or-set_other, length-set}
-use Rattle.std.proofs.lemmas.List.Folds.{list_any-append}
+use Rattle.std.proofs.Common.{◌≡◌, ◌≢◌, ℕ, zero, suc, ◌+◌, ◌<◌, ◌≤◌, Bool, true, false, cond, ◌&&◌, ◌||◌, take, drop, List, [], ◌∷◌, ◌++◌, length, refl, sym, ◌∙◌, ap, subst, arith, inl, inr, ◌⊎◌, get_or, length-append}
+use Rattle.std.specs.Prelude.{◌==◌, slice_set, slice_index_or, MatchOption, Option, Some, None, Result, Ok, Err, OnOk}
+use Rattle.std.specs.List.{position_from}
+use Rattle.std.proofs.lemmas.Bool.{eqb-true, eq-eqb, cases_eq, cases_lt, both_ways}
+use Rattle.std.proofs.lemmas.List.{get_or-set_same, get_or-set_other, get_or_append_left, length-set}
+use Rattle.std.proofs.Math.Seq.{get_or-append_seam}
+use Rattle.std.proofs.lemmas.Grind.{common_steps}
 use Rattle.board.specs.declared.pipeline.Pipeline.{Pipeline}
 use Rattle.board.specs.declared.lines.OwnLine.{OwnLine}
-use Rattle.board.specs.Entries.{has, IsMasked}
 use Rattle.board.specs.declared.stage.Stage.{Stage}
 use Rattle.board.specs.declared.stage.Stage.TheVariants as stage
+use Rattle.board.specs.Entries.{has, IsMasked}
 use Rattle.board.specs.Pipelines.{IsSame, NotesCaller}
-use Rattle.board.specs.Stages.{is_queue, without_room, holding, collected_from}
-use Rattle.board.specs.Ready.{ReadyLine, HasJob, HasJobFor, Admits, OthersAreInLine, IsReadyFor, NoneIs, IsGrown, HasAdded, IsFull}
-use Rattle.board.specs.Lines.{LinesOf, no_pipelines, is_line_of, HasLine, HaveWorkers, AreAll, AreMade, IsMade, HasRoom, GivesLine, IsForStrangers, IsKnown, AreKnown, AreReady, OthersAreReadyFor, OthersAreReady}
-use Rattle.board.proofs.InLine.{ready_same, ready_added, ready_born, all_but, get_born}
+use Rattle.board.specs.Stages.{is_queue, is_chain, without_room, holding, collected_from}
+use Rattle.board.specs.Ready.{ReadyLine, IsMember, IsInLine, no_pipelines, HasJob, HasJobFor, Admits, IsQueue, IsNoQueue, IsFor, IsReadyFor, NoneIs, NoneStands, IsOne, Finds, KeepsPipe, Keeps, KeepsOthers, KeepsSuch, IsTold}
+use Rattle.board.specs.Lines.{LinesOf, is_line_of, line_of, AreMade, IsMade, Joins, IsReadmitted, AreReady}
 
--- ---- all own lines
+-- ---- the callers' lines
 
-pub each : (a b : OwnLine → Type 0) (own : List OwnLine) → ((l : OwnLine) → a l → b l) → AreAll a own → AreAll b own
-each a b [] f all = tt
-each a b (l ∷ own) f all = (f l all.0, each a b own f all.1)
+abbrev Made : Type 1
+Made = ℕ → ReadyLine → ReadyLine → Type 0
 
-pub made_all : (a b : OwnLine → Type 0) (made : ReadyLine → ReadyLine → Type 0) (own afters : List OwnLine) → ((l m : OwnLine) → a l → m.caller ≡ l.caller → made l.line m.line → b m) → AreAll a own → AreMade made own afters → AreAll b afters
-made_all a b made [] [] f all m = tt
-made_all a b made (l ∷ own) (after ∷ afters) f all m = (f l after all.0 m.0 m.1, made_all a b made own afters f all.1 m.2)
-made_all a b made [] (after ∷ afters) f all m = absurd m
-made_all a b made (l ∷ own) [] f all m = absurd m
+either_made : (made : Made) (c : ℕ) (line after rest rests : ReadyLine) (b : Bool) → (b ≡ true → made c line after) → made c rest rests → made c (cond b line rest) (cond b after rests)
+either_made made c line after rest rests true here there = here refl
+either_made made c line after rest rests false here there = there
+
+-- one line more in front
+pub in_front : (made : Made) (own : OwnLine) (after : ReadyLine) (more afters : List OwnLine) → made own.caller own.line after → ((c : ℕ) → made c (line_of c more) (line_of c afters)) → (c : ℕ) → made c (line_of c (own ∷ more)) (cond (own.caller == c) after (line_of c afters))
+in_front made own after more afters here there c = either_made made c own.line after (line_of c more) (line_of c afters) (own.caller == c) (λ b. subst (λ n. made n own.line after) (eqb-true own.caller c b) here) (there c)
+
+pub first_made : (made : Made) (own after : OwnLine) (more afters : List OwnLine) → after.caller ≡ own.caller → made own.caller own.line after.line → ((c : ℕ) → made c (line_of c more) (line_of c afters)) → (c : ℕ) → made c (line_of c (own ∷ more)) (line_of c (after ∷ afters))
+first_made made own after more afters e here there c =
+    subst (λ n. made c (line_of c (own ∷ more)) (cond (n == c) after.line (line_of c afters))) (sym e) (in_front made own after.line more afters here there c)
+
+-- the lines that a loan of all of them gives back
+pub given_back : (xs ys : List OwnLine) (n : ℕ) → length ys ≡ length xs → n ≡ length xs → take n (ys ++ drop (length ys) xs) ≡ ys
+given_back xs ys n e f = grind (arith, common_steps)
+
+-- one line in another form
+pub set_made : (made : Made) → ((c : ℕ) (line : ReadyLine) → made c line line) → (own : List OwnLine) (j : ℕ) (new d : OwnLine) → j < length own → new.caller ≡ (get_or own j d).caller → made (get_or own j d).caller (get_or own j d).line new.line
+    → (c : ℕ) → made c (line_of c own) (line_of c (slice_set own j new))
+set_made made same [] j new d w e here c = absurd (omega arith)
+set_made made same (o ∷ own) zero new d w e here c = first_made made o new own own e here (λ n. same n (line_of n own)) c
+set_made made same (o ∷ own) (suc j) new d w e here c = first_made made o o own (slice_set own j new) refl (same o.caller o.line) (set_made made same own j new d (omega arith) e here) c
+
+end_first : (made : Made) (c : ℕ) (line : ReadyLine) (b : Bool) → (b ≡ true → made c no_pipelines line) → made c no_pipelines no_pipelines → made c no_pipelines (cond b line no_pipelines)
+end_first made c line true here none = here refl
+end_first made c line false here none = none
 
 -- a line more at the end
-pub all_end : (a : OwnLine → Type 0) (own : List OwnLine) (l : OwnLine) → AreAll a own → a l → AreAll a (own ++ l ∷ [])
-all_end a [] l all here = (here, tt)
-all_end a (o ∷ own) l all here = (all.0, all_end a own l all.1 here)
-
--- one of them
-pub one_of : (a : OwnLine → Type 0) (own : List OwnLine) (j : ℕ) (d : OwnLine) → j < length own → AreAll a own → a (get_or own j d)
-one_of a [] j d l all = absurd (omega arith)
-one_of a (o ∷ own) zero d l all = all.0
-one_of a (o ∷ own) (suc j) d l all = one_of a own j d (omega arith) all.1
-
--- in another form, while the others change as they may
-pub set_all : (a b : OwnLine → Type 0) (own : List OwnLine) (j : ℕ) (new : OwnLine) → ((l : OwnLine) → a l → b l) → b new → AreAll a own → AreAll b (slice_set own j new)
-set_all a b [] j new f here all = tt
-set_all a b (o ∷ own) zero new f here all = (here, each a b own f all.1)
-set_all a b (o ∷ own) (suc j) new f here all = (f o all.0, set_all a b own j new f here all.1)
-
--- ---- who has a line
-
-made_has : (made : ReadyLine → ReadyLine → Type 0) (own afters : List OwnLine) (caller : ℕ) → AreMade made own afters → list_any (is_line_of caller) afters ≡ list_any (is_line_of caller) own
-made_has made [] [] caller m = refl
-made_has made (l ∷ own) (after ∷ afters) caller m =
-    ap (λ n. (n == caller) || list_any (is_line_of caller) afters) m.0 ∙ ap (λ b. (l.caller == caller) || b) (made_has made own afters caller m.2)
-made_has made [] (after ∷ afters) caller m = absurd m
-made_has made (l ∷ own) [] caller m = absurd m
-
-pub made_keeps : (made : ReadyLine → ReadyLine → Type 0) (own afters : List OwnLine) → AreMade made own afters → (caller : ℕ) → HasLine own caller → HasLine afters caller
-made_keeps made own afters m caller h = made_has made own afters caller m ∙ h
-
-set_has : (own : List OwnLine) (j : ℕ) (new : OwnLine) (caller : ℕ) → j < length own → new.caller ≡ (get_or own j new).caller → list_any (is_line_of caller) (slice_set own j new) ≡ list_any (is_line_of caller) own
-set_has [] j new caller l e = absurd (omega arith)
-set_has (o ∷ own) zero new caller l e = ap (λ n. (n == caller) || list_any (is_line_of caller) own) e
-set_has (o ∷ own) (suc j) new caller l e = ap (λ b. (o.caller == caller) || b) (set_has own j new caller (omega arith) e)
-
-set_keeps : (own : List OwnLine) (j : ℕ) (new : OwnLine) → j < length own → new.caller ≡ (get_or own j new).caller → (caller : ℕ) → HasLine own caller → HasLine (slice_set own j new) caller
-set_keeps own j new l e caller h = set_has own j new caller l e ∙ h
-
-pub end_keeps : (own : List OwnLine) (l : OwnLine) (caller : ℕ) → HasLine own caller → HasLine (own ++ l ∷ []) caller
-end_keeps own l caller h = list_any-append (is_line_of caller) own (l ∷ []) ∙ or_left (list_any (is_line_of caller) own) ((l.caller == caller) || false) h
-
-pub end_has : (own : List OwnLine) (l : OwnLine) (caller : ℕ) → l.caller ≡ caller → HasLine (own ++ l ∷ []) caller
-end_has own l caller e =
-    list_any-append (is_line_of caller) own (l ∷ []) ∙ or_right (list_any (is_line_of caller) own) ((l.caller == caller) || false) (ap (λ b. b || false) (eq-eqb l.caller caller e))
+pub end_made : (made : Made) → ((c : ℕ) (line : ReadyLine) → made c line line) → (own : List OwnLine) (new : OwnLine) → made new.caller no_pipelines new.line → (c : ℕ) → made c (line_of c own) (line_of c (own ++ new ∷ []))
+end_made made same [] new here c = end_first made c new.line (new.caller == c) (λ b. subst (λ n. made n no_pipelines new.line) (eqb-true new.caller c b) here) (same c no_pipelines)
+end_made made same (o ∷ own) new here c = first_made made o o own (own ++ new ∷ []) refl (same o.caller o.line) (end_made made same own new here) c
 
 -- ---- the place of a caller's line
 
-abbrev pub IsAt : ℕ → List OwnLine → ℕ → Type 0
-IsAt caller own j = (j < length own) × ((d : OwnLine) → (get_or own j d).caller ≡ caller)
+pub record IsLineAt (caller : ℕ) (own : List OwnLine) (j : ℕ) : Type 0 where
+  pub within : j < length own
+  pub caller_is : (d : OwnLine) → (get_or own j d).caller ≡ caller
+  pub line_is : (d : OwnLine) → line_of caller own ≡ (get_or own j d).line
+  pub set_is : (new : OwnLine) → new.caller ≡ caller → line_of caller (slice_set own j new) ≡ new.line
 
-place_step : (caller i : ℕ) (l : OwnLine) (own : List OwnLine) (place : ℕ) (b : Bool) → (l.caller == caller) ≡ b → cond b (Some i) (position_from (is_line_of caller) (i + 1) own) ≡ Some place
-    → (position_from (is_line_of caller) (i + 1) own ≡ Some place → (j : ℕ) × (place ≡ i + 1 + j) × IsAt caller own j) → (j : ℕ) × (place ≡ i + j) × IsAt caller (l ∷ own) j
-place_step caller i l own place true e h more = (0, (let p : i ≡ place = cc in omega arith), (omega arith, λ d. eqb-true l.caller caller e))
-place_step caller i l own place false e h more = (let m = more h in (suc m.0, (let p = m.1 in omega arith), ((let w = m.2.0 in omega arith), m.2.1)))
+line_here : (caller : ℕ) (o : OwnLine) (own : List OwnLine) → o.caller ≡ caller → line_of caller (o ∷ own) ≡ o.line
+line_here caller o own e = ap (λ b. cond b o.line (line_of caller own)) (eq-eqb o.caller caller e)
 
-place_from : (caller i : ℕ) (own : List OwnLine) (place : ℕ) → position_from (is_line_of caller) i own ≡ Some place → (j : ℕ) × (place ≡ i + j) × IsAt caller own j
-place_from caller i [] place h = cc
-place_from caller i (l ∷ own) place h = place_step caller i l own place (l.caller == caller) refl h (place_from caller (i + 1) own place)
+place_step : (caller i place : ℕ) (o : OwnLine) (own : List OwnLine) (b : Bool) → (o.caller == caller) ≡ b → cond b (Some i) (position_from (is_line_of caller) (i + 1) own) ≡ Some place
+    → (position_from (is_line_of caller) (i + 1) own ≡ Some place → (j : ℕ) × (place ≡ i + 1 + j) × IsLineAt caller own j) → (j : ℕ) × (place ≡ i + j) × IsLineAt caller (o ∷ own) j
+place_step caller i place o own true e h more =
+    let same = eqb-true o.caller caller e in (
+      0,
+      (let p : i ≡ place = cc in omega arith),
+      record {
+        within = omega arith;
+        caller_is = λ d. same;
+        line_is = λ d. line_here caller o own same;
+        set_is = λ new n. line_here caller new own n;
+      },
+    )
+place_step caller i place o own false e h more =
+    let m = more h in
+    let at = m.2 in (
+      suc m.0,
+      (let p = m.1 in omega arith),
+      record {
+        within = (let w = at.within in omega arith);
+        caller_is = at.caller_is;
+        line_is = λ d. ap (λ b. cond b o.line (line_of caller own)) e ∙ at.line_is d;
+        set_is = λ new n. ap (λ b. cond b o.line (line_of caller (slice_set own m.0 new))) e ∙ at.set_is new n;
+      },
+    )
 
-pub place_at : (caller : ℕ) (own : List OwnLine) (place : ℕ) → position_from (is_line_of caller) 0 own ≡ Some place → IsAt caller own place
-place_at caller own place h = (let m = place_from caller 0 own place h in subst (IsAt caller own) (let e : m.0 ≡ place = (let p = m.1 in omega arith) in e) m.2)
+place_from : (caller i place : ℕ) (own : List OwnLine) → position_from (is_line_of caller) i own ≡ Some place → (j : ℕ) × (place ≡ i + j) × IsLineAt caller own j
+place_from caller i place [] h = cc
+place_from caller i place (o ∷ own) h = place_step caller i place o own (o.caller == caller) refl h (place_from caller (i + 1) place own)
 
-none_step : (i : ℕ) (o : Option ℕ) (rest b : Bool) → cond b (Some i) o ≡ None → (o ≡ None → rest ≡ false) → (b || rest) ≡ false
-none_step i o rest true h more = cc
-none_step i o rest false h more = more h
+pub place_at : (caller : ℕ) (own : List OwnLine) (place : ℕ) → position_from (is_line_of caller) 0 own ≡ Some place → IsLineAt caller own place
+place_at caller own place h = (let m = place_from caller 0 place own h in subst (IsLineAt caller own) (let e : m.0 ≡ place = (let p = m.1 in omega arith) in e) m.2)
 
-pub place_none : (caller i : ℕ) (own : List OwnLine) → position_from (is_line_of caller) i own ≡ None → list_any (is_line_of caller) own ≡ false
+none_step : (i : ℕ) (o : Option ℕ) (line rest new : ReadyLine) (b : Bool) → cond b (Some i) o ≡ None → (o ≡ None → rest ≡ new) → cond b line rest ≡ new
+none_step i o line rest new true h more = cc
+none_step i o line rest new false h more = more h
+
+-- a caller that has no line
+pub place_none : (caller i : ℕ) (own : List OwnLine) → position_from (is_line_of caller) i own ≡ None → line_of caller own ≡ no_pipelines
 place_none caller i [] h = refl
-place_none caller i (l ∷ own) h = none_step i (position_from (is_line_of caller) (i + 1) own) (list_any (is_line_of caller) own) (l.caller == caller) h (place_none caller (i + 1) own)
+place_none caller i (o ∷ own) h = none_step i (position_from (is_line_of caller) (i + 1) own) o.line (line_of caller own) no_pipelines (o.caller == caller) h (place_none caller (i + 1) own)
 
-some_step : (i place : ℕ) (o : Option ℕ) (rest b : Bool) → cond b (Some i) o ≡ Some place → (o ≡ Some place → rest ≡ true) → (b || rest) ≡ true
-some_step i place o rest true h more = refl
-some_step i place o rest false h more = more h
+-- until it is given one
+pub place_given : (caller i : ℕ) (own : List OwnLine) (new : OwnLine) → position_from (is_line_of caller) i own ≡ None → new.caller ≡ caller → line_of caller (own ++ new ∷ []) ≡ new.line
+place_given caller i [] new h e = line_here caller new [] e
+place_given caller i (o ∷ own) new h e =
+    none_step i (position_from (is_line_of caller) (i + 1) own) o.line (line_of caller (own ++ new ∷ [])) new.line (o.caller == caller) h (λ n. place_given caller (i + 1) own new n e)
 
-pub place_has : (caller i : ℕ) (own : List OwnLine) (place : ℕ) → position_from (is_line_of caller) i own ≡ Some place → HasLine own caller
-place_has caller i [] place h = cc
-place_has caller i (l ∷ own) place h = some_step i place (position_from (is_line_of caller) (i + 1) own) (list_any (is_line_of caller) own) (l.caller == caller) h (place_has caller (i + 1) own place)
+-- ---- what a line keeps
 
--- a caller whose line was found has one
-pub found_has : (caller : ℕ) (own : List OwnLine) (found : Option ℕ) → found ≡ position_from (is_line_of caller) 0 own → is_some found ≡ true → HasLine own caller
-found_has caller own None e h = cc
-found_has caller own (Some place) e h = place_has caller 0 own place (sym e)
+pub no_member : (p : ℕ) → IsMember no_pipelines p → ⊥
+no_member p m = (let h = m.1 in cc)
 
-workers_cases : (own : List OwnLine) (n : ℕ) (l : OwnLine) (worker : ℕ) → ((w : ℕ) → 1 ≤ w → w ≤ n → HasLine own w) → l.caller ≡ n + 1 → 1 ≤ worker → worker ≤ n + 1 → (worker < n + 1) ⊎ (n + 1 ≤ worker) → HasLine (own ++ l ∷ []) worker
-workers_cases own n l worker all e low high (inl less) = end_keeps own l worker (all worker low (omega arith))
-workers_cases own n l worker all e low high (inr more) = end_has own l worker (omega arith)
+pub none_in_line : (p : ℕ) → IsInLine no_pipelines p → ⊥
+none_in_line p s = (let h = s.2 in cc)
 
--- the next worker's line after those of the workers before
-pub workers_more : (own : List OwnLine) (n : ℕ) (l : OwnLine) → ((w : ℕ) → 1 ≤ w → w ≤ n → HasLine own w) → l.caller ≡ n + 1 → (worker : ℕ) → 1 ≤ worker → worker ≤ n + 1 → HasLine (own ++ l ∷ []) worker
-workers_more own n l all e worker low high = workers_cases own n l worker all e low high (cases_lt worker (n + 1))
+pub none_keeps : (line : ReadyLine) → Keeps no_pipelines line
+none_keeps line p = (λ m. absurd (no_member p m), λ s. absurd (none_in_line p s))
+
+pub same_keeps : (line : ReadyLine) → Keeps line line
+same_keeps line p = (λ m. m, λ s. s)
+
+pub keeps_on : (line next after : ReadyLine) → Keeps line next → Keeps next after → Keeps line after
+keeps_on line next after k l p = (λ m. (l p).0 ((k p).0 m), λ s. (l p).1 ((k p).1 s))
+
+pub others_on : (pipe : ℕ) (line next after : ReadyLine) → KeepsOthers pipe line next → KeepsOthers pipe next after → KeepsOthers pipe line after
+others_on pipe line next after k l p n = (λ m. (l p n).0 ((k p n).0 m), λ s. (l p n).1 ((k p n).1 s))
+
+worker_cases : (mask pipe before worker : ℕ) (own after : List OwnLine) → ((w : ℕ) → IsMasked mask w → w ≤ before → IsMember (line_of w own) pipe) → AreMade Keeps own after → (IsMasked mask (before + 1) → IsMember (line_of (before + 1) after) pipe) → IsMasked mask worker → (worker ≡ before + 1) ⊎ (worker ≡ before + 1 → ⊥) → worker ≤ before + 1
+    → IsMember (line_of worker after) pipe
+worker_cases mask pipe before worker own after so_far kept joined m (inl e) l = subst (λ n. IsMember (line_of n after) pipe) (sym e) (joined (subst (IsMasked mask) e m))
+worker_cases mask pipe before worker own after so_far kept joined m (inr n) l = (kept worker pipe).0 (so_far worker m (lower (cases_lt worker (before + 1))))
+  where
+    lower : (worker < before + 1) ⊎ (before + 1 ≤ worker) → worker ≤ before
+    lower (inl b) = omega arith
+    lower (inr g) = absurd (n (omega arith))
+
+-- the next worker joined after those before
+pub next_worker : (mask pipe before : ℕ) (own after : List OwnLine) → ((w : ℕ) → IsMasked mask w → w ≤ before → IsMember (line_of w own) pipe) → AreMade Keeps own after → (IsMasked mask (before + 1) → IsMember (line_of (before + 1) after) pipe)
+    → (worker : ℕ) → IsMasked mask worker → worker ≤ before + 1 → IsMember (line_of worker after) pipe
+next_worker mask pipe before own after so_far kept joined worker m l = worker_cases mask pipe before worker own after so_far kept joined m (cases_eq worker (before + 1)) l
+
+pub lines_on : (lines next after : LinesOf) → IsMade Keeps lines next → IsMade Keeps next after → IsMade Keeps lines after
+lines_on lines next after k l = (
+  keeps_on lines.queues next.queues after.queues k.0 l.0,
+  λ c. keeps_on (line_of c lines.own) (line_of c next.own) (line_of c after.own) (k.1 c) (l.1 c),
+)
+
+-- and so all but one pipeline
+pub lines_but : (pipe : ℕ) (lines after : LinesOf) → IsMade Keeps lines after → IsMade (KeepsOthers pipe) lines after
+lines_but pipe lines after k = (λ p n. k.0 p, λ c p n. k.1 c p)
+
+pub lines_but_on : (pipe : ℕ) (lines next after : LinesOf) → IsMade (KeepsOthers pipe) lines next → IsMade (KeepsOthers pipe) next after → IsMade (KeepsOthers pipe) lines after
+lines_but_on pipe lines next after k l = (
+  others_on pipe lines.queues next.queues after.queues k.0 l.0,
+  λ c. others_on pipe (line_of c lines.own) (line_of c next.own) (line_of c after.own) (k.1 c) (l.1 c),
+)
+
+pub ok_map : {T E A B : Type 0} (o : Result T E) → (A → B) → OnOk o A → OnOk o B
+ok_map (Ok x) f h = f h
+ok_map (Err e) f h = tt
+
+pub none_told : (p : ℕ) (had has : Bool) → IsTold p had has no_pipelines no_pipelines
+none_told p had has = record {
+  others = λ q n. same_keeps no_pipelines q;
+  member = λ m. m;
+  in_line = λ r w m. absurd (no_member p m);
+}
+
+pub none_readmitted : {J O : Type 0} (p : ℕ) (new : Pipeline J O) (c : ℕ) → IsReadmitted p new c no_pipelines no_pipelines
+none_readmitted p new c = record {
+  others = λ q n. same_keeps no_pipelines q;
+  member = λ a m. m;
+  in_line = λ a h m. absurd (no_member p m);
+}
+
+-- a line that is told nothing new
+pub told_same : (p : ℕ) (had has : Bool) (line : ReadyLine) → had ≡ has → IsTold p had has line line
+told_same p had has line e = record {
+  others = λ q n. same_keeps line q;
+  member = λ m. m;
+  in_line = λ r w m. w (e ∙ r);
+}
+
+-- and one that is told anew
+pub told_anew : (p : ℕ) (had has : Bool) (line after : ReadyLine) → IsTold p false has line after → IsTold p had has line after
+told_anew p had has line after t = record {
+  others = t.others;
+  member = t.member;
+  in_line = λ r w m. t.in_line r (λ f. cc) m;
+}
 
 -- ---- who may take
 
--- nobody may take who might not, nobody else made it or submitted to it, and it is a queue or none as before
+-- nobody may take who might not, and it is a queue or none as before
 pub record AdmitsNoMore {J O : Type 0} (pipe new : Pipeline J O) : Type 0 where
   pub queue : is_queue new.stage ≡ is_queue pipe.stage
   pub admits : (caller : ℕ) → Admits new caller → Admits pipe caller
-  pub maker : pipe.maker ≡ new.maker
-  pub submitters : (caller : ℕ) → has caller new.submitters.items ≡ true → has caller pipe.submitters.items ≡ true
 
 admitted_same : {J O : Type 0} (pipe new : Pipeline J O) → pipe.maker ≡ new.maker → pipe.submitters.items ≡ new.submitters.items → pipe.mask ≡ new.mask → is_queue new.stage ≡ is_queue pipe.stage → (caller : ℕ) → Admits new caller → Admits pipe caller
 admitted_same pipe new made subs masked queue caller (inl q) = inl (sym queue ∙ q)
@@ -138,11 +214,9 @@ pub admits_same : {J O : Type 0} (pipe new : Pipeline J O) → pipe.maker ≡ ne
 admits_same pipe new made subs masked queue = record {
   queue = queue;
   admits = admitted_same pipe new made subs masked queue;
-  maker = made;
-  submitters = λ caller h. ap (has caller) subs ∙ h;
 }
 
--- room alone makes no queue of a pad
+-- room alone makes no queue of a pad, and no chain
 bare_queue : {J O : Type 0} (s : Stage J O) → is_queue (without_room s) ≡ is_queue s
 bare_queue (stage.Pad x) = refl
 bare_queue (stage.Queue x) = refl
@@ -150,6 +224,14 @@ bare_queue (stage.Chain x) = refl
 
 pub queue_same : {J O : Type 0} (new old : Stage J O) → without_room new ≡ without_room old → is_queue new ≡ is_queue old
 queue_same new old e = sym (bare_queue new) ∙ (ap is_queue e ∙ bare_queue old)
+
+bare_chain : {J O : Type 0} (s : Stage J O) → is_chain (without_room s) ≡ is_chain s
+bare_chain (stage.Pad x) = refl
+bare_chain (stage.Queue x) = refl
+bare_chain (stage.Chain x) = refl
+
+pub chain_same : {J O : Type 0} (new old : Stage J O) → without_room new ≡ without_room old → is_chain new ≡ is_chain old
+chain_same new old e = sym (bare_chain new) ∙ (ap is_chain e ∙ bare_chain old)
 
 pub room_admits : {J O : Type 0} (pipe new : Pipeline J O) → IsSame pipe new → AdmitsNoMore pipe new
 room_admits pipe new s = admits_same pipe new (sym s.maker) (sym s.submitters) (sym s.mask) (queue_same new.stage pipe.stage s.stage)
@@ -159,229 +241,317 @@ held_queue (stage.Pad x) held = refl
 held_queue (stage.Queue x) held = refl
 held_queue (stage.Chain x) held = refl
 
-pub hold_queue : {J O : Type 0} (s after : Stage J O) → after ≡ holding s true → is_queue after ≡ is_queue s
-hold_queue s after e = ap is_queue e ∙ held_queue s true
+pub hold_queue : {J O : Type 0} (s after : Stage J O) (held : Bool) → after ≡ holding s held → is_queue after ≡ is_queue s
+hold_queue s after held e = ap is_queue e ∙ held_queue s held
+
+held_chain : {J O : Type 0} (s : Stage J O) (held : Bool) → is_chain (holding s held) ≡ is_chain s
+held_chain (stage.Pad x) held = refl
+held_chain (stage.Queue x) held = refl
+held_chain (stage.Chain x) held = refl
+
+pub hold_chain : {J O : Type 0} (s after : Stage J O) (held : Bool) → after ≡ holding s held → is_chain after ≡ is_chain s
+hold_chain s after held e = ap is_chain e ∙ held_chain s held
 
 collected_queue : {J O : Type 0} (s : Stage J O) → is_queue (collected_from s) ≡ is_queue s
 collected_queue (stage.Pad x) = refl
 collected_queue (stage.Queue x) = refl
 collected_queue (stage.Chain x) = refl
 
+collected_chain : {J O : Type 0} (s : Stage J O) → is_chain (collected_from s) ≡ is_chain s
+collected_chain (stage.Pad x) = refl
+collected_chain (stage.Queue x) = refl
+collected_chain (stage.Chain x) = refl
+
+pub collected_is_chain : {J O : Type 0} (pipe after : Pipeline J O) (to : ℕ) → after ≡ record pipe { collected = to; stage = collected_from pipe.stage } → is_chain after.stage ≡ is_chain pipe.stage
+collected_is_chain {J} {O} pipe after to e = ap (λ (x : Pipeline J O). is_chain x.stage) e ∙ collected_chain pipe.stage
+
+pub collected_closed : {J O : Type 0} (pipe after : Pipeline J O) (to : ℕ) → after ≡ record pipe { collected = to; stage = collected_from pipe.stage } → after.closed ≡ pipe.closed
+collected_closed {J} {O} pipe after to e = ap (λ (x : Pipeline J O). x.closed) e
+
 pub collected_admits : {J O : Type 0} (pipe after : Pipeline J O) (to : ℕ) → after ≡ record pipe { collected = to; stage = collected_from pipe.stage } → AdmitsNoMore pipe after
 collected_admits pipe after to e =
     subst (AdmitsNoMore pipe) (sym e) (admits_same pipe (record pipe { collected = to; stage = collected_from pipe.stage }) refl refl refl (collected_queue pipe.stage))
 
--- ---- who is no stranger
+-- ---- one line
 
-pub known_keeps : {J O : Type 0} (own after : List OwnLine) (pipe : Pipeline J O) → ((caller : ℕ) → HasLine own caller → HasLine after caller) → IsKnown own pipe → IsKnown after pipe
-known_keeps own after pipe keeps k = (keeps pipe.maker k.0, λ caller h. keeps caller (k.1 caller h))
+module _ {J O : Type 0} (such ready : Pipeline J O → Type 0) (pipes : List (Pipeline J O)) where
+  pub ready_kept : (line after : ReadyLine) → IsReadyFor such ready pipes line → Keeps line after → IsReadyFor such ready pipes after
+  ready_kept line after r k = record {
+    members = λ q d l o s. (k q).0 (r.members q d l o s);
+    in_line = λ q d l m s. (k q).1 (r.in_line q d l m s);
+  }
 
-known_same : {J O : Type 0} (own : List OwnLine) (pipe new : Pipeline J O) → AdmitsNoMore pipe new → IsKnown own pipe → IsKnown own new
-known_same own pipe new a k = (subst (HasLine own) a.maker k.0, λ caller h. k.1 caller (a.submitters caller h))
+  past_end : (q : ℕ) → q < length pipes → q ≢ length pipes
+  past_end q l e = (let f : q ≡ length pipes = e in absurd (omega arith))
 
-noted_cases : {J O : Type 0} (own : List OwnLine) (pipe new : Pipeline J O) (caller c : ℕ) (accepted : Bool) → NotesCaller pipe new caller accepted → HasLine own caller → IsKnown own pipe → has c new.submitters.items ≡ true → (c ≡ pipe.maker) ⊎ (c ≡ pipe.maker → ⊥) → HasLine own c
-noted_cases own pipe new caller c accepted n h k s (inl made) = subst (HasLine own) (sym made) k.0
-noted_cases own pipe new caller c accepted n h k s (inr other) = noted (has c pipe.submitters.items) accepted (caller == c) refl refl (sym (n.submitters c other) ∙ s)
+  -- but for a number that no pipeline has
+  pub ready_others : (line after : ReadyLine) → IsReadyFor such ready pipes line → KeepsOthers (length pipes) line after → IsReadyFor such ready pipes after
+  ready_others line after r k = record {
+    members = λ q d l o s. (k q (past_end q l)).0 (r.members q d l o s);
+    in_line = λ q d l m s. (k q (past_end q l)).1 (r.in_line q d l m s);
+  }
+
+  -- one pipeline of the line belongs there, and stands there where it is ready
+  abbrev pub Belongs : ReadyLine → ℕ → Pipeline J O → Type 0
+  Belongs line q x = (x.closed ≡ false → such x → IsMember line q) × (ready x → such x → IsInLine line q)
+
+  belongs_here : (line : ReadyLine) (q : ℕ) (d : Pipeline J O) → IsReadyFor such ready pipes line → q < length pipes → Belongs line q (slice_index_or pipes q d)
+  belongs_here line q d r l = (r.members q d l, r.in_line q d l)
+
+  belongs_kept : (line after : ReadyLine) (q : ℕ) (x : Pipeline J O) → KeepsPipe line after q → Belongs line q x → Belongs after q x
+  belongs_kept line after q x k b = (λ o s. k.0 (b.0 o s), λ m s. k.1 (b.1 m s))
+
+  all_belong : (line : ReadyLine) (more : List (Pipeline J O)) → ((q : ℕ) (d : Pipeline J O) → q < length more → Belongs line q (slice_index_or more q d)) → IsReadyFor such ready more line
+  all_belong line more b = record {
+    members = λ q d l. (b q d l).0;
+    in_line = λ q d l. (b q d l).1;
+  }
+
+  set_cases : (line after : ReadyLine) (p : ℕ) (new : Pipeline J O) → IsReadyFor such ready pipes line → p < length pipes → KeepsOthers p line after → Belongs after p new → (q : ℕ) (d : Pipeline J O) → q < length pipes → (q ≡ p) ⊎ (q ≡ p → ⊥)
+      → Belongs after q (slice_index_or (slice_set pipes p new) q d)
+  set_cases line after p new r within k here q d l (inl e) =
+      subst (λ n. Belongs after n (slice_index_or (slice_set pipes p new) n d)) (sym e) (subst (Belongs after p) (sym (get_or-set_same pipes p new d within)) here)
+  set_cases line after p new r within k here q d l (inr n) =
+      subst (Belongs after q) (sym (get_or-set_other pipes p q new d n)) (belongs_kept line after q (slice_index_or pipes q d) (k q n) (belongs_here line q d r l))
+
+  -- a pipeline in another form
+  pub ready_set : (line after : ReadyLine) (p : ℕ) (new : Pipeline J O) → IsReadyFor such ready pipes line → p < length pipes → KeepsOthers p line after → Belongs after p new → IsReadyFor such ready (slice_set pipes p new) after
+  ready_set line after p new r within k here =
+      all_belong after (slice_set pipes p new) (λ q d l. set_cases line after p new r within k here q d (let s = length-set pipes p new in omega arith) (cases_eq q p))
+
+  -- where it is, and belongs to the line, it does as before
+  pub member_here : (line : ReadyLine) (p : ℕ) (pipe : Pipeline J O) → IsReadyFor such ready pipes line → p < length pipes → pipe ≡ get_or pipes p pipe → Belongs line p pipe
+  member_here line p pipe r within here = subst (Belongs line p) (sym here) (belongs_here line p pipe r within)
+
+  -- which belongs there only if it did, and is ready only if it was
+  pub ready_same : (line : ReadyLine) (p : ℕ) (pipe new : Pipeline J O) → IsReadyFor such ready pipes line → p < length pipes → pipe ≡ get_or pipes p pipe → new.closed ≡ pipe.closed → (such new → such pipe) → (ready new → ready pipe)
+      → IsReadyFor such ready (slice_set pipes p new) line
+  ready_same line p pipe new r within here closed belongs is =
+      let b = member_here line p pipe r within here in
+      ready_set line line p new r within (λ q n. same_keeps line q) (λ o s. b.0 (sym closed ∙ o) (belongs s), λ m s. b.1 (is m) (belongs s))
+
+  -- of which the line is told
+  pub ready_told : (line after : ReadyLine) (p : ℕ) (new : Pipeline J O) (had is : Bool) → IsReadyFor such ready pipes line → p < length pipes → IsTold p had is line after
+      → (new.closed ≡ false → such new → IsMember line p) → (had ≡ true → ready new → such new → IsInLine line p) → (ready new → is ≡ true) → (ready new → new.closed ≡ false) → IsReadyFor such ready (slice_set pipes p new) after
+  ready_told line after p new had is r within t member stood says open_ =
+      ready_set line after p new r within t.others
+          (λ o s. t.member (member o s), λ m s. t.in_line (says m) (λ h. stood h m s) (member (open_ m) s))
+
+  born_cases : (line after : ReadyLine) (new : Pipeline J O) → IsReadyFor such ready pipes line → KeepsOthers (length pipes) line after → Belongs after (length pipes) new → (q : ℕ) (d : Pipeline J O) → q < length pipes + 1 → (q < length pipes) ⊎ (length pipes ≤ q)
+      → Belongs after q (slice_index_or (pipes ++ new ∷ []) q d)
+  born_cases line after new r k here q d l (inl below) =
+      subst (Belongs after q) (sym (get_or_append_left pipes (new ∷ []) d q below)) (belongs_kept line after q (slice_index_or pipes q d) (k q (past_end q below)) (belongs_here line q d r below))
+  born_cases line after new r k here q d l (inr above) =
+      let e : q ≡ length pipes = omega arith in
+      subst (λ n. Belongs after n (slice_index_or (pipes ++ new ∷ []) n d)) (sym e) (subst (Belongs after (length pipes)) (sym (get_or-append_seam pipes new [] d)) here)
+
+  -- a pipeline that was just made is not ready
+  pub ready_born : (line after : ReadyLine) (new : Pipeline J O) → IsReadyFor such ready pipes line → KeepsOthers (length pipes) line after → (such new → IsMember after (length pipes)) → (ready new → ⊥) → IsReadyFor such ready (pipes ++ new ∷ []) after
+  ready_born line after new r k member none =
+      all_belong after (pipes ++ new ∷ [])
+      (λ q d l. born_cases line after new r k (λ o s. member s, λ m s. absurd (none m)) q d (let s = length-append pipes (new ∷ []) in omega arith) (cases_lt q (length pipes)))
+
+  -- a search leaves what is ready
+  pub ready_searched : (seen : Pipeline J O → Type 0) (line after : ReadyLine) → ((x : Pipeline J O) → ready x → such x → seen x) → IsReadyFor such ready pipes line → KeepsSuch seen pipes line after → IsReadyFor such ready pipes after
+  ready_searched seen line after to r k = record {
+    members = λ q d l o s. (k q).0 (r.members q d l o s);
+    in_line = λ q d l m s. (k q).1 d l (to (slice_index_or pipes q d) m s) (r.in_line q d l m s);
+  }
+
+-- no pipelines
+pub ready_none : {J O : Type 0} (such ready : Pipeline J O → Type 0) (line : ReadyLine) → IsReadyFor such ready [] line
+ready_none such ready line = record {
+  members = λ q d l. absurd (omega arith);
+  in_line = λ q d l. absurd (omega arith);
+}
+
+-- ---- the search in a line
+
+-- who is found without a job leaves the line
+pub dropped : {P : Type 0} (such : P → Type 0) (pipes : List P) (line next after : ReadyLine) (k : ℕ) → KeepsSuch such pipes line next → KeepsOthers k next after → (IsMember next k → IsMember after k) → ((d : P) → k < length pipes → such (slice_index_or pipes k d) → ⊥)
+    → KeepsSuch such pipes line after
+dropped {P} such pipes line next after k kept others member none p = drop_cases (cases_eq p k)
   where
-    noted : (a b e : Bool) → has c pipe.submitters.items ≡ a → (caller == c) ≡ e → (a || (b && e)) ≡ true → HasLine own c
-    noted true b e is same t = k.1 c is
-    noted false true true is same t = subst (HasLine own) (eqb-true caller c same) h
-    noted false true false is same t = cc
-    noted false false e is same t = cc
+    drop_cases : (p ≡ k) ⊎ (p ≡ k → ⊥) → (IsMember line p → IsMember after p) × ((d : P) → p < length pipes → such (slice_index_or pipes p d) → IsInLine line p → IsInLine after p)
+    drop_cases (inl e) = (
+      λ m. subst (IsMember after) (sym e) (member (subst (IsMember next) e ((kept p).0 m))),
+      λ d l s i. absurd (none d (subst (λ n. n < length pipes) e l) (subst (λ n. such (slice_index_or pipes n d)) e s)),
+    )
+    drop_cases (inr n) = (λ m. (others p n).0 ((kept p).0 m), λ d l s i. (others p n).1 ((kept p).1 d l s i))
 
--- who submits has a line
-pub known_noted : {J O : Type 0} (own : List OwnLine) (pipe new : Pipeline J O) (caller : ℕ) (accepted : Bool) → NotesCaller pipe new caller accepted → HasLine own caller → IsKnown own pipe → IsKnown own new
-known_noted own pipe new caller accepted n h k = (subst (HasLine own) (sym n.maker) k.0, λ c s. noted_cases own pipe new caller c accepted n h k s (cases_eq c pipe.maker))
+-- where nobody stands in line
+pub none_stands : {P : Type 0} (such : P → Type 0) (pipes : List P) (line next : ReadyLine) → KeepsSuch such pipes line next → ((p : ℕ) → IsInLine next p → ⊥) → NoneStands such pipes line
+none_stands such pipes line next kept none p d l s i = none p ((kept p).1 d l s i)
 
-strangers_serve : {J O : Type 0} (own : List OwnLine) (pipe : Pipeline J O) (caller : ℕ) → HaveWorkers own → IsKnown own pipe → list_any (is_line_of caller) own ≡ false → Admits pipe caller → is_queue pipe.stage ≡ true
-strangers_serve own pipe caller workers k none (inl q) = q
-strangers_serve own pipe caller workers k none (inr (inl made)) = absurd (both_ways (list_any (is_line_of caller) own) none (subst (HasLine own) made k.0))
-strangers_serve own pipe caller workers k none (inr (inr (inl s))) = absurd (both_ways (list_any (is_line_of caller) own) none (k.1 caller s))
-strangers_serve own pipe caller workers k none (inr (inr (inr m))) = absurd (both_ways (list_any (is_line_of caller) own) none (workers caller m.0 m.1))
+-- ---- all lines
 
 module _ {J O : Type 0} (pipes : List (Pipeline J O)) where
-  abbrev IsOwn : OwnLine → Type 0
-  IsOwn own = IsReadyFor (HasJobFor own.caller) pipes own.line
+  pub lines_kept : (lines after : LinesOf) → AreReady pipes lines → IsMade Keeps lines after → AreReady pipes after
+  lines_kept lines after r k = record {
+    queues = ready_kept IsQueue HasJob pipes lines.queues after.queues r.queues k.0;
+    own = λ c. ready_kept (IsFor c) HasJob pipes (line_of c lines.own) (line_of c after.own) (r.own c) (k.1 c);
+  }
 
-  abbrev IsOwnBut : ℕ → OwnLine → Type 0
-  IsOwnBut k own = OthersAreReadyFor (HasJobFor own.caller) k pipes own.line
+  pub lines_others : (lines after : LinesOf) → AreReady pipes lines → IsMade (KeepsOthers (length pipes)) lines after → AreReady pipes after
+  lines_others lines after r k = record {
+    queues = ready_others IsQueue HasJob pipes lines.queues after.queues r.queues k.0;
+    own = λ c. ready_others (IsFor c) HasJob pipes (line_of c lines.own) (line_of c after.own) (r.own c) (k.1 c);
+  }
 
-  known_cases : (own : List OwnLine) (p q : ℕ) (new d : Pipeline J O) → AreKnown pipes own → IsKnown own new → p < length pipes → q < length pipes → (q ≡ p) ⊎ (q ≡ p → ⊥) → IsKnown own (slice_index_or (slice_set pipes p new) q d)
-  known_cases own p q new d all here within l (inl same) = subst (λ n. IsKnown own (slice_index_or (slice_set pipes p new) n d)) (sym same) (subst (IsKnown own) (sym (get_or-set_same pipes p new d within)) here)
-  known_cases own p q new d all here within l (inr other) = subst (IsKnown own) (sym (get_or-set_other pipes p q new d other)) (all q d l)
-
-  known_set : (own : List OwnLine) (p : ℕ) (new : Pipeline J O) → AreKnown pipes own → p < length pipes → IsKnown own new → AreKnown (slice_set pipes p new) own
-  known_set own p new all within here q d l = known_cases own p q new d all here within (let s = length-set pipes p new in omega arith) (cases_eq q p)
-
-  all_keep : (own after : List OwnLine) → ((caller : ℕ) → HasLine own caller → HasLine after caller) → AreKnown pipes own → AreKnown pipes after
-  all_keep own after keeps all q d l = known_keeps own after (slice_index_or pipes q d) keeps (all q d l)
-
-  -- who made a pipeline, and who submitted to it
-  pub known_here : (own : List OwnLine) (p : ℕ) (pipe : Pipeline J O) → AreKnown pipes own → p < length pipes → pipe ≡ get_or pipes p pipe → IsKnown own pipe
-  known_here own p pipe all within here = subst (IsKnown own) (sym here) (all p pipe within)
+  no_queue : (pipe new : Pipeline J O) → AdmitsNoMore pipe new → (c : ℕ) → IsFor c new → IsFor c pipe
+  no_queue pipe new a c s = (sym a.queue ∙ s.0, a.admits c s.1)
 
   -- a pipeline in another form, of which nobody may take a job who might not before
-  pub lines_same : (lines : LinesOf) (p : ℕ) (pipe new : Pipeline J O) → AreReady pipes lines → p < length pipes → pipe ≡ get_or pipes p pipe → (HasJob new → HasJob pipe) → AdmitsNoMore pipe new → AreReady (slice_set pipes p new) lines
-  lines_same lines p pipe new r within here serves a = record {
-    strangers = ready_same IsForStrangers pipes lines.strangers p pipe new r.strangers within here (λ m. (serves m.0, sym a.queue ∙ m.1));
-    own = each IsOwn (λ own. IsReadyFor (HasJobFor own.caller) (slice_set pipes p new) own.line) lines.own
-        (λ own m. ready_same (HasJobFor own.caller) pipes own.line p pipe new m within here (λ j. (serves j.0, a.admits own.caller j.1))) r.own;
-    workers = r.workers;
-    known = known_set lines.own p new r.known within (known_same lines.own pipe new a (known_here lines.own p pipe r.known within here));
+  pub lines_same : (lines : LinesOf) (p : ℕ) (pipe new : Pipeline J O) → AreReady pipes lines → p < length pipes → pipe ≡ get_or pipes p pipe → new.closed ≡ pipe.closed → (HasJob new → HasJob pipe) → AdmitsNoMore pipe new → AreReady (slice_set pipes p new) lines
+  lines_same lines p pipe new r within here closed serves a = record {
+    queues = ready_same IsQueue HasJob pipes lines.queues p pipe new r.queues within here closed (λ q. sym a.queue ∙ q) serves;
+    own = λ c. ready_same (IsFor c) HasJob pipes (line_of c lines.own) p pipe new (r.own c) within here closed (no_queue pipe new a c) serves;
   }
 
-  pub but_one : (lines : LinesOf) (p : ℕ) → AreReady pipes lines → OthersAreReady p pipes lines
-  but_one lines p r = record {
-    strangers = (r.strangers.0, all_but IsForStrangers pipes lines.strangers.line p r.strangers.1);
-    own = each IsOwn (IsOwnBut p) lines.own (λ own m. (m.0, all_but (HasJobFor own.caller) pipes own.line.line p m.1)) r.own;
-    workers = r.workers;
-    known = r.known;
-  }
-
-  added_line : (such : Pipeline J O → Type 0) (line after : ReadyLine) (p : ℕ) (new : Pipeline J O) → OthersAreReadyFor such p pipes line → p < length pipes → HasAdded p line after → IsReadyFor such (slice_set pipes p new) after
-  added_line such line after p new m within a = ready_added such pipes line after p new m.0 m.1 within a.0 a.1 a.2
-
-  -- which is set in each line
-  pub lines_added : (lines afters : LinesOf) (p : ℕ) (new : Pipeline J O) → OthersAreReady p pipes lines → p < length pipes → IsKnown lines.own new → IsMade (HasAdded p) lines afters → AreReady (slice_set pipes p new) afters
-  lines_added lines afters p new r within known added =
-      let keeps = made_keeps (HasAdded p) lines.own afters.own added.1 in
+  -- of which the lines are told
+  pub lines_told : (lines after : LinesOf) (p : ℕ) (pipe new : Pipeline J O) (had is : Bool) → AreReady pipes lines → p < length pipes → pipe ≡ get_or pipes p pipe → IsMade (IsTold p had is) lines after → new.closed ≡ pipe.closed → AdmitsNoMore pipe new
+      → (had ≡ true → HasJob pipe) → (HasJob new → is ≡ true) → (HasJob new → new.closed ≡ false) → AreReady (slice_set pipes p new) after
+  lines_told lines after p pipe new had is r within here t closed a had_job says open_ =
+      let q = member_here IsQueue HasJob pipes lines.queues p pipe r.queues within here in
       record {
-        strangers = added_line IsForStrangers lines.strangers afters.strangers p new r.strangers within added.0;
-        own = made_all (IsOwnBut p) (λ own. IsReadyFor (HasJobFor own.caller) (slice_set pipes p new) own.line) (HasAdded p) lines.own afters.own
-            (λ own after m e a. added_line (HasJobFor after.caller) own.line after.line p new (subst (λ c. OthersAreReadyFor (HasJobFor c) p pipes own.line) (sym e) m) within a) r.own added.1;
-        workers = λ worker l m. keeps worker (r.workers worker l m);
-        known = known_set afters.own p new (all_keep lines.own afters.own keeps r.known) within (known_keeps lines.own afters.own new keeps known);
+        queues = ready_told IsQueue HasJob pipes lines.queues after.queues p new had is r.queues within t.0 (λ o s. q.0 (sym closed ∙ o) (sym a.queue ∙ s)) (λ h m s. q.1 (had_job h) (sym a.queue ∙ s)) says open_;
+        own = λ c.
+            (let b = member_here (IsFor c) HasJob pipes (line_of c lines.own) p pipe (r.own c) within here in
+            ready_told (IsFor c) HasJob pipes (line_of c lines.own) (line_of c after.own) p new had is (r.own c) within (t.1 c) (λ o s. b.0 (sym closed ∙ o) (no_queue pipe new a c s)) (λ h m s. b.1 (had_job h) (no_queue pipe new a c s)) says open_);
       }
 
-  -- there is room for it in each
-  pub room_in_each : (lines : LinesOf) (p : ℕ) → OthersAreReady p pipes lines → p < length pipes → HasRoom p lines
-  room_in_each lines p r within = (
-    (let c = r.strangers.0 in omega arith),
-    each (IsOwnBut p) (λ own. p < own.line.pipes) lines.own (λ own m. (let c = m.0 in omega arith)) r.own,
-  )
+  noted_cases : (pipe new : Pipeline J O) (caller c : ℕ) (accepted : Bool) → NotesCaller pipe new caller accepted → is_queue new.stage ≡ is_queue pipe.stage → Admits new c → (c ≡ pipe.maker) ⊎ (c ≡ pipe.maker → ⊥) → Admits pipe c ⊎ (caller ≡ c)
+  noted_cases pipe new caller c accepted n queue a (inl made) = inl (inr (inl (sym made)))
+  noted_cases pipe new caller c accepted n queue (inl q) (inr other) = inl (inl (sym queue ∙ q))
+  noted_cases pipe new caller c accepted n queue (inr (inl m)) (inr other) = absurd (other (sym m ∙ n.maker))
+  noted_cases pipe new caller c accepted n queue (inr (inr (inl s))) (inr other) = noted (has c pipe.submitters.items) accepted (caller == c) refl refl (sym (n.submitters c other) ∙ s)
+    where
+      noted : (a b e : Bool) → has c pipe.submitters.items ≡ a → (caller == c) ≡ e → (a || (b && e)) ≡ true → Admits pipe c ⊎ (caller ≡ c)
+      noted true b e is same t = inl (inr (inr (inl is)))
+      noted false true true is same t = inr (eqb-true caller c same)
+      noted false true false is same t = cc
+      noted false false e is same t = cc
+  noted_cases pipe new caller c accepted n queue (inr (inr (inr m))) (inr other) = inl (inr (inr (inr (subst (λ k. IsMasked k c) n.mask m))))
 
-  grown_line : (such : Pipeline J O → Type 0) (new : Pipeline J O) → (such new → ⊥) → (line after : ReadyLine) → IsReadyFor such pipes line → IsGrown line after → IsReadyFor such (pipes ++ new ∷ []) after
-  grown_line such new none line after m g = subst (IsReadyFor such (pipes ++ new ∷ [])) (sym g) (ready_born such pipes line new m none)
+  asked_member : (own : List OwnLine) (p : ℕ) (pipe new : Pipeline J O) (caller c : ℕ) → IsReadyFor (IsFor c) HasJob pipes (line_of c own) → p < length pipes → pipe ≡ get_or pipes p pipe → new.closed ≡ pipe.closed → is_queue new.stage ≡ is_queue pipe.stage → (IsNoQueue pipe → IsMember (line_of caller own) p)
+      → new.closed ≡ false → IsNoQueue new → Admits pipe c ⊎ (caller ≡ c) → IsMember (line_of c own) p
+  asked_member own p pipe new caller c r within here closed queue joined o s (inl a) = (member_here (IsFor c) HasJob pipes (line_of c own) p pipe r within here).0 (sym closed ∙ o) (sym queue ∙ s, a)
+  asked_member own p pipe new caller c r within here closed queue joined o s (inr e) = subst (λ n. IsMember (line_of n own) p) e (joined (sym queue ∙ s))
 
-  born_known : (own : List OwnLine) (new : Pipeline J O) (q : ℕ) (d : Pipeline J O) → AreKnown pipes own → IsKnown own new → q < length (pipes ++ new ∷ []) → IsKnown own (slice_index_or (pipes ++ new ∷ []) q d)
-  born_known own new q d all here l = get_born pipes new q d (IsKnown own) here (λ w. all q d w) l
+  -- a pipeline of which a caller who joined its line asked something
+  pub lines_asked : (lines after : LinesOf) (p : ℕ) (pipe new : Pipeline J O) (caller : ℕ) (accepted is : Bool) → AreReady pipes lines → p < length pipes → pipe ≡ get_or pipes p pipe → (IsNoQueue pipe → IsMember (line_of caller lines.own) p) → IsMade (IsTold p false is) lines after
+      → NotesCaller pipe new caller accepted → is_queue new.stage ≡ is_queue pipe.stage → (HasJob new → is ≡ true) → (HasJob new → new.closed ≡ false) → AreReady (slice_set pipes p new) after
+  lines_asked lines after p pipe new caller accepted is r within here joined t n queue says open_ =
+      let q = member_here IsQueue HasJob pipes lines.queues p pipe r.queues within here in
+      record {
+        queues = ready_told IsQueue HasJob pipes lines.queues after.queues p new false is r.queues within t.0 (λ o s. q.0 (sym n.closed ∙ o) (sym queue ∙ s)) (λ h. cc) says open_;
+        own = λ c.
+            ready_told (IsFor c) HasJob pipes (line_of c lines.own) (line_of c after.own) p new false is (r.own c) within (t.1 c)
+                (λ o s. asked_member lines.own p pipe new caller c (r.own c) within here n.closed queue joined o s.0 (noted_cases pipe new caller c accepted n queue s.1 (cases_eq c pipe.maker))) (λ h. cc) says open_;
+      }
+
+  -- a pipeline that was closed, and left all lines
+  pub lines_left : (lines after : LinesOf) (p : ℕ) (new : Pipeline J O) → AreReady pipes lines → p < length pipes → IsMade (KeepsOthers p) lines after → new.closed ≡ true → (HasJob new → ⊥) → AreReady (slice_set pipes p new) after
+  lines_left lines after p new r within k closed none = record {
+    queues = ready_set IsQueue HasJob pipes lines.queues after.queues p new r.queues within k.0 (λ o s. absurd (both_ways new.closed o closed), λ m s. absurd (none m));
+    own = λ c. ready_set (IsFor c) HasJob pipes (line_of c lines.own) (line_of c after.own) p new (r.own c) within (k.1 c) (λ o s. absurd (both_ways new.closed o closed), λ m s. absurd (none m));
+  }
+
+  masked_member : (own : List OwnLine) (p : ℕ) (pipe new : Pipeline J O) (c : ℕ) → IsReadyFor (IsFor c) HasJob pipes (line_of c own) → p < length pipes → pipe ≡ get_or pipes p pipe → new.closed ≡ pipe.closed → new.maker ≡ pipe.maker → new.submitters.items ≡ pipe.submitters.items → is_queue new.stage ≡ is_queue pipe.stage
+      → ((worker : ℕ) → IsMasked new.mask worker → IsMember (line_of worker own) p) → new.closed ≡ false → IsNoQueue new → Admits new c → IsMember (line_of c own) p
+  masked_member own p pipe new c r within here closed made subs queue workers o s (inl q) = absurd (both_ways (is_queue new.stage) s q)
+  masked_member own p pipe new c r within here closed made subs queue workers o s (inr (inl m)) = (member_here (IsFor c) HasJob pipes (line_of c own) p pipe r within here).0 (sym closed ∙ o) (sym queue ∙ s, inr (inl (sym made ∙ m)))
+  masked_member own p pipe new c r within here closed made subs queue workers o s (inr (inr (inl h))) = (member_here (IsFor c) HasJob pipes (line_of c own) p pipe r within here).0 (sym closed ∙ o) (sym queue ∙ s, inr (inr (inl (ap (has c) (sym subs) ∙ h))))
+  masked_member own p pipe new c r within here closed made subs queue workers o s (inr (inr (inr m))) = workers c m
+
+  -- a pad under another mask, whose workers joined their lines
+  pub lines_masked : (lines after : LinesOf) (p : ℕ) (pipe new : Pipeline J O) → AreReady pipes lines → p < length pipes → pipe ≡ get_or pipes p pipe → after.queues ≡ lines.queues → ((c : ℕ) → IsReadmitted p new c (line_of c lines.own) (line_of c after.own))
+      → new.closed ≡ pipe.closed → new.maker ≡ pipe.maker → new.submitters.items ≡ pipe.submitters.items → is_queue new.stage ≡ is_queue pipe.stage → (HasJob new → HasJob pipe) → ((worker : ℕ) → IsMasked new.mask worker → IsMember (line_of worker lines.own) p) → new.closed ≡ false
+      → AreReady (slice_set pipes p new) after
+  lines_masked lines after p pipe new r within here queues own closed made subs queue serves workers open_ =
+      let member : (c : ℕ) → IsNoQueue new → Admits new c → IsMember (line_of c lines.own) p = λ c s a. masked_member lines.own p pipe new c (r.own c) within here closed made subs queue workers open_ s a in
+      record {
+        queues = subst (IsReadyFor IsQueue HasJob (slice_set pipes p new)) (sym queues) (ready_same IsQueue HasJob pipes lines.queues p pipe new r.queues within here closed (λ q. sym queue ∙ q) serves);
+        own = λ c. ready_set (IsFor c) HasJob pipes (line_of c lines.own) (line_of c after.own) p new (r.own c) within (own c).others
+            (λ o s. (own c).member s.1 (member c s.0 s.1), λ m s. (own c).in_line s.1 m (member c s.0 s.1));
+      }
+
+  born_member : (own : List OwnLine) (p : ℕ) (new : Pipeline J O) (queues : ReadyLine) (c : ℕ) → Joins p new (record { queues = queues; own = own }) → new.submitters.items ≡ [] → IsNoQueue new → Admits new c → IsMember (line_of c own) p
+  born_member own p new queues c j none s (inl q) = absurd (both_ways (is_queue new.stage) s q)
+  born_member own p new queues c j none s (inr (inl m)) = subst (λ n. IsMember (line_of n own) p) m (j.maker s)
+  born_member own p new queues c j none s (inr (inr (inl h))) = (let e : false ≡ true = ap (has c) (sym none) ∙ h in cc)
+  born_member own p new queues c j none s (inr (inr (inr m))) = j.workers s c m
 
   -- a pipeline that was just made has no job
-  pub lines_born : (lines afters : LinesOf) (new : Pipeline J O) → AreReady pipes lines → IsMade IsGrown lines afters → (HasJob new → ⊥) → IsKnown lines.own new → AreReady (pipes ++ new ∷ []) afters
-  lines_born lines afters new r grown none known =
-      let keeps = made_keeps IsGrown lines.own afters.own grown.1 in
-      record {
-        strangers = grown_line IsForStrangers new (λ m. none m.0) lines.strangers afters.strangers r.strangers grown.0;
-        own = made_all IsOwn (λ own. IsReadyFor (HasJobFor own.caller) (pipes ++ new ∷ []) own.line) IsGrown lines.own afters.own
-            (λ own after m e g. grown_line (HasJobFor after.caller) new (λ j. none j.0) own.line after.line (subst (λ c. IsReadyFor (HasJobFor c) pipes own.line) (sym e) m) g) r.own grown.1;
-        workers = λ worker l m. keeps worker (r.workers worker l m);
-        known = λ q d l. born_known afters.own new q d (all_keep lines.own afters.own keeps r.known) (known_keeps lines.own afters.own new keeps known) l;
-      }
+  pub lines_born : (lines after : LinesOf) (new : Pipeline J O) → AreReady pipes lines → IsMade (KeepsOthers (length pipes)) lines after → Joins (length pipes) new after → (HasJob new → ⊥) → new.submitters.items ≡ [] → AreReady (pipes ++ new ∷ []) after
+  lines_born lines after new r k j none subs = record {
+    queues = ready_born IsQueue HasJob pipes lines.queues after.queues new r.queues k.0 j.queue none;
+    own = λ c. ready_born (IsFor c) HasJob pipes (line_of c lines.own) (line_of c after.own) new (r.own c) (k.1 c) (λ s. born_member after.own (length pipes) new after.queues c j subs s.0 s.1) none;
+  }
 
-  -- a caller that has its own line from now on
-  given_all : (lines : LinesOf) (after : List OwnLine) → AreReady pipes lines → (after ≡ lines.own) ⊎ ((own : OwnLine) × IsFull lines.strangers.pipes own.line × (after ≡ lines.own ++ own ∷ [])) → AreAll IsOwn after
-  given_all lines after r (inl same) = subst (AreAll IsOwn) (sym same) r.own
-  given_all lines after r (inr g) =
-      subst (AreAll IsOwn) (sym g.2)
-      (all_end IsOwn lines.own g.0 r.own (g.1.0 ∙ r.strangers.0, λ p d l m. g.1.1 p (let c = r.strangers.0 in omega arith)))
+  -- ---- the search in the queues' line and in a caller's own
 
-  given_keeps : (lines : LinesOf) (after : List OwnLine) → (after ≡ lines.own) ⊎ ((own : OwnLine) × IsFull lines.strangers.pipes own.line × (after ≡ lines.own ++ own ∷ [])) → (caller : ℕ) → HasLine lines.own caller → HasLine after caller
-  given_keeps lines after (inl same) caller h = subst (λ o. HasLine o caller) (sym same) h
-  given_keeps lines after (inr g) caller h = subst (λ o. HasLine o caller) (sym g.2) (end_keeps lines.own g.0 caller h)
+  queue_seen : (caller : ℕ) (x : Pipeline J O) → HasJob x → IsQueue x → HasJobFor caller x
+  queue_seen caller x m q = (m, inl q)
 
-  pub lines_given : (lines after : LinesOf) (caller : ℕ) → AreReady pipes lines → GivesLine caller lines after → AreReady pipes after
-  lines_given lines after caller r g =
-      let keeps = given_keeps lines after.own g.2 in
-      record {
-        strangers = subst (IsReadyFor IsForStrangers pipes) (sym g.0) r.strangers;
-        own = given_all lines after.own r g.2;
-        workers = λ worker l m. keeps worker (r.workers worker l m);
-        known = all_keep lines.own after.own keeps r.known;
-      }
+  own_seen : (caller : ℕ) (x : Pipeline J O) → HasJob x → IsFor caller x → HasJobFor caller x
+  own_seen caller x m s = (m, s.1)
 
-  -- ---- one line's search
+  pub queues_searched : (caller : ℕ) (line after : ReadyLine) → IsReadyFor IsQueue HasJob pipes line → KeepsSuch (HasJobFor caller) pipes line after → IsReadyFor IsQueue HasJob pipes after
+  queues_searched caller line after r k = ready_searched IsQueue HasJob pipes (HasJobFor caller) line after (queue_seen caller) r k
 
-  -- a caller's own line
-  pub at_own : (lines : LinesOf) (caller place : ℕ) (own : OwnLine) → AreReady pipes lines → IsAt caller lines.own place → own ≡ get_or lines.own place own → IsReadyFor (HasJobFor caller) pipes own.line
-  at_own lines caller place own r at here =
-      subst (λ c. IsReadyFor (HasJobFor c) pipes own.line) (ap (λ (o : OwnLine). o.caller) here ∙ at.1 own) (subst IsOwn (sym here) (one_of IsOwn lines.own place own at.0 r.own))
+  pub own_searched : (caller : ℕ) (line after : ReadyLine) → IsReadyFor (IsFor caller) HasJob pipes line → KeepsSuch (HasJobFor caller) pipes line after → IsReadyFor (IsFor caller) HasJob pipes after
+  own_searched caller line after r k = ready_searched (IsFor caller) HasJob pipes (HasJobFor caller) line after (own_seen caller) r k
 
-  -- the strangers' line
-  pub at_strangers : (lines : LinesOf) (caller : ℕ) → AreReady pipes lines → list_any (is_line_of caller) lines.own ≡ false → IsReadyFor (HasJobFor caller) pipes lines.strangers
-  at_strangers lines caller r none =
-      (r.strangers.0, λ p d l m. r.strangers.1 p d l (m.0, strangers_serve lines.own (slice_index_or pipes p d) caller r.workers (r.known p d l) none m.1))
+  none_cases : (lines : LinesOf) (caller p : ℕ) (d : Pipeline J O) (queue : Bool) → AreReady pipes lines → NoneStands (HasJobFor caller) pipes lines.queues → NoneStands (HasJobFor caller) pipes (line_of caller lines.own) → p < length pipes → HasJobFor caller (slice_index_or pipes p d) → is_queue (slice_index_or pipes p d).stage ≡ queue → ⊥
+  none_cases lines caller p d true r q o l h e = q p d l h (r.queues.in_line p d l h.0 e)
+  none_cases lines caller p d false r q o l h e = o p d l h ((r.own caller).in_line p d l h.0 (e, h.1))
 
-  -- what a search finds, over all lines
-  abbrev pub Found : ℕ → Option ℕ → LinesOf → Type 0
-  Found caller found lines =
-      MatchOption found (AreReady pipes lines × NoneIs (HasJobFor caller) pipes) (λ k. (k < length pipes) × ((e : Pipeline J O) → HasJobFor caller (slice_index_or pipes k e)) × OthersAreReady k pipes lines)
+  -- what stands in neither has no job for the caller
+  pub found_all : (lines : LinesOf) (caller : ℕ) (found : Option ℕ) → AreReady pipes lines
+      → MatchOption found (NoneStands (HasJobFor caller) pipes lines.queues × NoneStands (HasJobFor caller) pipes (line_of caller lines.own)) (IsOne (HasJobFor caller) pipes) → Finds (HasJobFor caller) pipes found
+  found_all lines caller None r none = λ p d l h. none_cases lines caller p d (is_queue (slice_index_or pipes p d).stage) r none.0 none.1 l h refl
+  found_all lines caller (Some k) r one = one
 
-  abbrev pub FoundIn : ℕ → Option ℕ → ReadyLine → Type 0
-  FoundIn caller found line =
-      MatchOption found (NoneIs (HasJobFor caller) pipes) (λ k. (k < length pipes) × ((e : Pipeline J O) → HasJobFor caller (slice_index_or pipes k e)) × OthersAreInLine (HasJobFor caller) k pipes line.line)
+  both_ways_round : (caller : ℕ) (line second : ReadyLine) (found : Option ℕ) → MatchOption found (NoneStands (HasJobFor caller) pipes line × NoneStands (HasJobFor caller) pipes second) (IsOne (HasJobFor caller) pipes)
+      → MatchOption found (NoneStands (HasJobFor caller) pipes second × NoneStands (HasJobFor caller) pipes line) (IsOne (HasJobFor caller) pipes)
+  both_ways_round caller line second None h = (h.1, h.0)
+  both_ways_round caller line second (Some k) h = h
 
-  none_left : (caller : ℕ) (such : Pipeline J O → Type 0) (line : ReadyLine) → ((pipe : Pipeline J O) → such pipe → HasJobFor caller pipe) → line.pipes ≡ length pipes → NoneIs (HasJobFor caller) pipes → IsReadyFor such pipes line
-  none_left caller such line to count none = (count, λ p d l m. absurd (none p d l (to (slice_index_or pipes p d) m)))
+  -- the queues' line alone, for a caller that has no other
+  pub found_queue : (lines : LinesOf) (caller : ℕ) (found : Option ℕ) → AreReady pipes lines → line_of caller lines.own ≡ no_pipelines → MatchOption found (NoneStands (HasJobFor caller) pipes lines.queues) (IsOne (HasJobFor caller) pipes) → Finds (HasJobFor caller) pipes found
+  found_queue lines caller None r none h = found_all lines caller None r (h, λ p d l m i. none_in_line p (subst (λ line. IsInLine line p) none i))
+  found_queue lines caller (Some k) r none h = h
 
-  own_found : (lines : LinesOf) (caller place : ℕ) (new : OwnLine) (found : Option ℕ) → AreReady pipes lines → place < length lines.own → new.caller ≡ caller → new.caller ≡ (get_or lines.own place new).caller → new.line.pipes ≡ length pipes → FoundIn caller found new.line → Found caller found (record lines { own = slice_set lines.own place new })
-  own_found lines caller place new None r within mine same count none =
-      let keeps = set_keeps lines.own place new within same in (
-        record {
-          strangers = r.strangers;
-          own = set_all IsOwn IsOwn lines.own place new (λ own m. m) (none_left caller (HasJobFor new.caller) new.line (λ pipe m. subst (λ c. HasJobFor c pipe) mine m) count none) r.own;
-          workers = λ worker l m. keeps worker (r.workers worker l m);
-          known = all_keep lines.own (slice_set lines.own place new) keeps r.known;
-        },
-        none,
-      )
-  own_found lines caller place new (Some k) r within mine same count s =
-      let keeps = set_keeps lines.own place new within same in
-      let others = but_one lines k r in (
-        s.0,
-        s.1,
-        record {
-          strangers = others.strangers;
-          own = set_all (IsOwnBut k) (IsOwnBut k) lines.own place new (λ own m. m) (count, subst (λ c. OthersAreInLine (HasJobFor c) k pipes new.line.line) (sym mine) s.2) others.own;
-          workers = λ worker l m. keeps worker (r.workers worker l m);
-          known = all_keep lines.own (slice_set lines.own place new) keeps r.known;
-        },
-      )
+  -- the queues' line first, then the caller's own
+  pub found_queue_first : (lines : LinesOf) (caller place : ℕ) (own : OwnLine) (found : Option ℕ) → AreReady pipes lines → IsLineAt caller lines.own place → own ≡ get_or lines.own place own
+      → MatchOption found (NoneStands (HasJobFor caller) pipes lines.queues × NoneStands (HasJobFor caller) pipes own.line) (IsOne (HasJobFor caller) pipes) → Finds (HasJobFor caller) pipes found
+  found_queue_first lines caller place own found r at here h =
+      found_all lines caller found r
+          (subst (λ line. MatchOption found (NoneStands (HasJobFor caller) pipes lines.queues × NoneStands (HasJobFor caller) pipes line) (IsOne (HasJobFor caller) pipes))
+          (ap (λ (o : OwnLine). o.line) here ∙ sym (at.line_is own)) h)
 
-  pub found_own : (lines : LinesOf) (caller place : ℕ) (own new : OwnLine) (found : Option ℕ) → AreReady pipes lines → IsAt caller lines.own place → own ≡ get_or lines.own place own → new.caller ≡ own.caller → new.line.pipes ≡ own.line.pipes → FoundIn caller found new.line → Found caller found (record lines { own = slice_set lines.own place new })
-  found_own lines caller place own new found r at here same count s =
-      let ready = at_own lines caller place own r at here in
-      own_found lines caller place new found r at.0 (same ∙ (ap (λ (o : OwnLine). o.caller) here ∙ at.1 own)) (same ∙ (ap (λ (o : OwnLine). o.caller) here ∙ (at.1 own ∙ sym (at.1 new)))) (count ∙ ready.0) s
+  -- or the other way round
+  pub found_own_first : (lines : LinesOf) (caller place : ℕ) (own : OwnLine) (found : Option ℕ) → AreReady pipes lines → IsLineAt caller lines.own place → own ≡ get_or lines.own place own
+      → MatchOption found (NoneStands (HasJobFor caller) pipes own.line × NoneStands (HasJobFor caller) pipes lines.queues) (IsOne (HasJobFor caller) pipes) → Finds (HasJobFor caller) pipes found
+  found_own_first lines caller place own found r at here h = found_queue_first lines caller place own found r at here (both_ways_round caller own.line lines.queues found h)
 
-  for_strangers : (caller : ℕ) (pipe : Pipeline J O) → IsForStrangers pipe → HasJobFor caller pipe
-  for_strangers caller pipe m = (m.0, inl m.1)
+  -- what a search leaves of the lines
+  pub line_searched : (lines : LinesOf) (caller : ℕ) (queues : ReadyLine) → AreReady pipes lines → KeepsSuch (HasJobFor caller) pipes lines.queues queues → AreReady pipes (record lines { queues = queues })
+  line_searched lines caller queues r k = record {
+    queues = queues_searched caller lines.queues queues r.queues k;
+    own = r.own;
+  }
 
-  pub found_strangers : (lines : LinesOf) (caller : ℕ) (new : ReadyLine) (found : Option ℕ) → AreReady pipes lines → new.pipes ≡ lines.strangers.pipes → FoundIn caller found new → Found caller found (record lines { strangers = new })
-  found_strangers lines caller new None r count none = (
-    record {
-      strangers = none_left caller IsForStrangers new (for_strangers caller) (count ∙ r.strangers.0) none;
-      own = r.own;
-      workers = r.workers;
-      known = r.known;
-    },
-    none,
-  )
-  found_strangers lines caller new (Some k) r count s =
-      let others = but_one lines k r in (
-        s.0,
-        s.1,
-        record {
-          strangers = (count ∙ r.strangers.0, λ p d l n m. s.2 p d l n (for_strangers caller (slice_index_or pipes p d) m));
-          own = others.own;
-          workers = others.workers;
-          known = others.known;
-        },
-      )
-
--- no pipelines, no jobs
-pub none_at_first : (J O : Type 0) (lines : LinesOf) → HaveWorkers lines.own → lines.strangers ≡ no_pipelines → AreAll (λ own. own.line ≡ no_pipelines) lines.own → AreReady {J = J} {O = O} [] lines
-none_at_first J O lines workers strangers own = record {
-  strangers = (ap (λ r. r.pipes) strangers, λ p d l m. absurd (omega arith));
-  own = each (λ own. own.line ≡ no_pipelines) (λ own. IsReadyFor (HasJobFor {J = J} {O = O} own.caller) [] own.line) lines.own (λ own e. (ap (λ r. r.pipes) e, λ p d l m. absurd (omega arith))) own;
-  workers = workers;
-  known = λ p d l. absurd (omega arith);
-}
+  pub lines_searched : (lines : LinesOf) (caller place : ℕ) (own new : OwnLine) (queues : ReadyLine) → AreReady pipes lines → IsLineAt caller lines.own place → own ≡ get_or lines.own place own → new.caller ≡ own.caller → KeepsSuch (HasJobFor caller) pipes lines.queues queues
+      → KeepsSuch (HasJobFor caller) pipes own.line new.line → AreReady pipes (record { queues = queues; own = slice_set lines.own place new })
+  lines_searched lines caller place own new queues r at here e k l = record {
+    queues = queues_searched caller lines.queues queues r.queues k;
+    own = λ c.
+        set_made (λ n line after. IsReadyFor (IsFor n) HasJob pipes line → IsReadyFor (IsFor n) HasJob pipes after) (λ n line s. s) lines.own place new own at.within (e ∙ ap (λ (o : OwnLine). o.caller) here)
+            (subst (λ (o : OwnLine). IsReadyFor (IsFor o.caller) HasJob pipes o.line → IsReadyFor (IsFor o.caller) HasJob pipes new.line) here
+            (λ s. subst (λ n. IsReadyFor (IsFor n) HasJob pipes new.line) (sym (mine own at here)) (own_searched caller own.line new.line (subst (λ n. IsReadyFor (IsFor n) HasJob pipes own.line) (mine own at here) s) l))) c (r.own c);
+  }
+    where
+      mine : (own : OwnLine) → IsLineAt caller lines.own place → own ≡ get_or lines.own place own → own.caller ≡ caller
+      mine own at here = ap (λ (o : OwnLine). o.caller) here ∙ at.caller_is own

@@ -1,81 +1,44 @@
--- The lines of a board's callers: one for each worker, one for each caller that made a pipeline or submitted to one, and one for
--- all others, the strangers.
-use Rattle.std.specs.Prelude.{◌≡◌, ◌⊎◌, ℕ, ◌<◌, ◌≤◌, Bool, true, ◌==◌, List, [], ◌∷◌, ◌++◌, length, slice_index_or}
-use Rattle.std.specs.List.{list_any}
+-- The lines of a board's callers: one of all queues, for everybody, and one of pads and chains for each caller that may take from any.
+use Rattle.std.specs.Prelude.{◌≡◌, ◌⊎◌, ℕ, ◌<◌, Bool, true, false, ◌==◌, if◌then◌else◌, List, [], ◌∷◌, length, slice_index_or}
 use Rattle.board.specs.declared.pipeline.Pipeline.{Pipeline}
 use Rattle.board.specs.declared.lines.OwnLine.{OwnLine}
-use Rattle.board.specs.Entries.{has}
-use Rattle.board.specs.Stages.{is_queue}
-use Rattle.board.specs.Ready.{ReadyLine, HasJob, HasJobFor, OthersAreInLine, IsReadyFor, IsFull}
+use Rattle.board.specs.Entries.{IsMasked}
+use Rattle.board.specs.Ready.{ReadyLine, IsMember, IsInLine, no_pipelines, HasJob, Admits, IsQueue, IsNoQueue, IsFor, IsReadyFor, Keeps, KeepsOthers, IsTold}
 
--- the strangers' line, and the others, each with its caller
+-- the queues' line, and the others, each with its caller
 pub record LinesOf : Type 0 where
-  pub strangers : ReadyLine
+  pub queues : ReadyLine
   pub own : List OwnLine
-
-abbrev pub no_pipelines : ReadyLine
-no_pipelines = record { pipes = 0; line = [] }
 
 abbrev pub is_line_of : ℕ → OwnLine → Bool
 is_line_of caller own = own.caller == caller
 
--- the caller has its own line
-abbrev pub HasLine : List OwnLine → ℕ → Type 0
-HasLine own caller = list_any (is_line_of caller) own ≡ true
+-- the caller's own line, which has no members where it was given none
+abbrev pub line_of : ℕ → List OwnLine → ReadyLine
+line_of caller [] = no_pipelines
+line_of caller (own ∷ more) = if is_line_of caller own then own.line else line_of caller more
 
--- the callers 1 to 16 are workers
-abbrev pub HaveWorkers : List OwnLine → Type 0
-HaveWorkers own = (worker : ℕ) → 1 ≤ worker → worker ≤ 16 → HasLine own worker
-
--- each own line is such
-abbrev pub AreAll : (OwnLine → Type 0) → List OwnLine → Type 0
-AreAll such [] = Unit {0}
-AreAll such (own ∷ more) = such own × AreAll such more
-
--- each own line became another of the same caller
+-- each caller's own line became such another
 abbrev pub AreMade : (ReadyLine → ReadyLine → Type 0) → List OwnLine → List OwnLine → Type 0
-AreMade made [] [] = Unit {0}
-AreMade made (own ∷ more) (after ∷ afters) = (after.caller ≡ own.caller) × made own.line after.line × AreMade made more afters
-AreMade made [] (after ∷ afters) = ⊥
-AreMade made (own ∷ more) [] = ⊥
+AreMade made own after = (caller : ℕ) → made (line_of caller own) (line_of caller after)
 
--- and so did the strangers'
+-- and so did the queues'
 abbrev pub IsMade : (ReadyLine → ReadyLine → Type 0) → LinesOf → LinesOf → Type 0
-IsMade made lines after = made lines.strangers after.strangers × AreMade made lines.own after.own
+IsMade made lines after = made lines.queues after.queues × AreMade made lines.own after.own
 
-abbrev pub HasRoom : ℕ → LinesOf → Type 0
-HasRoom pipe lines = (pipe < lines.strangers.pipes) × AreAll (λ own. pipe < own.line.pipes) lines.own
+-- the pipeline is a member where it belongs: a queue of the queues' line, and another of the lines of its maker and its workers
+pub record Joins {J O : Type 0} (pipe : ℕ) (new : Pipeline J O) (lines : LinesOf) : Type 0 where
+  pub queue : IsQueue new → IsMember lines.queues pipe
+  pub maker : IsNoQueue new → IsMember (line_of new.maker lines.own) pipe
+  pub workers : IsNoQueue new → (worker : ℕ) → IsMasked new.mask worker → IsMember (line_of worker lines.own) pipe
 
--- the caller has its own line now, where it had none a full one
-abbrev pub GivesLine : ℕ → LinesOf → LinesOf → Type 0
-GivesLine caller lines after =
-    (after.strangers ≡ lines.strangers) × HasLine after.own caller
-    × ((after.own ≡ lines.own) ⊎ ((own : OwnLine) × IsFull lines.strangers.pipes own.line × (after.own ≡ lines.own ++ own ∷ [])))
+-- a line after a pipeline was given another mask: it stays a member of those that it admits, in line where it has a job
+pub record IsReadmitted {J O : Type 0} (pipe : ℕ) (new : Pipeline J O) (caller : ℕ) (line after : ReadyLine) : Type 0 where
+  pub others : KeepsOthers pipe line after
+  pub member : Admits new caller → IsMember line pipe → IsMember after pipe
+  pub in_line : Admits new caller → HasJob new → IsMember line pipe → IsInLine after pipe
 
--- strangers serve queues alone
-abbrev pub IsForStrangers : {J O : Type 0} → Pipeline J O → Type 0
-IsForStrangers pipe = HasJob pipe × (is_queue pipe.stage ≡ true)
-
--- who made the pipeline, and who submitted to it, have their own lines
-abbrev pub IsKnown : {J O : Type 0} → List OwnLine → Pipeline J O → Type 0
-IsKnown own pipe = HasLine own pipe.maker × ((caller : ℕ) → has caller pipe.submitters.items ≡ true → HasLine own caller)
-
-abbrev pub AreKnown : {J O : Type 0} → List (Pipeline J O) → List OwnLine → Type 0
-AreKnown {J} {O} pipes own = (p : ℕ) (d : Pipeline J O) → p < length pipes → IsKnown own (slice_index_or pipes p d)
-
--- in each line stands what it is for, and nobody is a stranger to what it made or submitted to
+-- in each line stands what it is for
 pub record AreReady {J O : Type 0} (pipes : List (Pipeline J O)) (lines : LinesOf) : Type 0 where
-  pub strangers : IsReadyFor IsForStrangers pipes lines.strangers
-  pub own : AreAll (λ own. IsReadyFor (HasJobFor own.caller) pipes own.line) lines.own
-  pub workers : HaveWorkers lines.own
-  pub known : AreKnown pipes lines.own
-
-abbrev pub OthersAreReadyFor : {P : Type 0} → (P → Type 0) → ℕ → List P → ReadyLine → Type 0
-OthersAreReadyFor such k pipes line = (line.pipes ≡ length pipes) × OthersAreInLine such k pipes line.line
-
--- but for one pipeline
-pub record OthersAreReady {J O : Type 0} (k : ℕ) (pipes : List (Pipeline J O)) (lines : LinesOf) : Type 0 where
-  pub strangers : OthersAreReadyFor IsForStrangers k pipes lines.strangers
-  pub own : AreAll (λ own. OthersAreReadyFor (HasJobFor own.caller) k pipes own.line) lines.own
-  pub workers : HaveWorkers lines.own
-  pub known : AreKnown pipes lines.own
+  pub queues : IsReadyFor IsQueue HasJob pipes lines.queues
+  pub own : (caller : ℕ) → IsReadyFor (IsFor caller) HasJob pipes (line_of caller lines.own)

@@ -1,24 +1,24 @@
 -- The lines of pipelines that may have a job to run, or a request to pass on.
-use Rattle.std.specs.Prelude.{◌≡◌, ◌≢◌, ◌⊎◌, ℕ, suc, ◌+◌, ◌<◌, ◌≤◌, Bool, true, false, List, [], ◌∷◌, length, slice_index_or}
+use Rattle.std.specs.Prelude.{◌≡◌, ◌≢◌, ◌⊎◌, ℕ, ◌<◌, Bool, true, false, List, [], length, Option, Some, slice_get, slice_index_or, MatchOption}
 use Rattle.board.specs.declared.pipeline.Pipeline.{Pipeline}
 use Rattle.board.specs.Entries.{has, IsMasked}
-use Rattle.board.specs.Stages.{is_queue, MayServe, MayPass}
+use Rattle.board.specs.Stages.{is_queue, is_chain, MayServe, MayPass}
 
--- of so many pipelines these stand in line
+-- the pipelines that may stand in a line, its members: the first `ready` of them stand there
 pub record ReadyLine : Type 0 where
-  pub pipes : ℕ
-  pub line : List ℕ
+  pub members : List ℕ
+  pub ready : ℕ
 
-abbrev pub count_true : List Bool → ℕ
-count_true [] = 0
-count_true (true ∷ marks) = suc (count_true marks)
-count_true (false ∷ marks) = count_true marks
+abbrev pub IsMember : ReadyLine → ℕ → Type 0
+IsMember line p = (i : ℕ) × (slice_get line.members i ≡ Some p)
 
--- who is marked stands in line, and no more stand there than are marked
-pub record IsLine (marks : List Bool) (line : List ℕ) : Type 0 where
-  pub few : length line ≤ count_true marks
-  pub marked : (p : ℕ) → slice_index_or marks p false ≡ true → has p line ≡ true
-  pub within : (p : ℕ) → has p line ≡ true → p < length marks
+abbrev pub IsInLine : ReadyLine → ℕ → Type 0
+IsInLine line p = (i : ℕ) × (i < line.ready) × (slice_get line.members i ≡ Some p)
+
+abbrev pub no_pipelines : ReadyLine
+no_pipelines = record { members = []; ready = 0 }
+
+-- ---- who stands in which line
 
 -- a job of the pipeline may be taken, by somebody
 abbrev pub HasJob : {J O : Type 0} → Pipeline J O → Type 0
@@ -33,34 +33,70 @@ abbrev pub Admits : {J O : Type 0} → Pipeline J O → ℕ → Type 0
 Admits pipe caller =
     (is_queue pipe.stage ≡ true) ⊎ ((pipe.maker ≡ caller) ⊎ ((has caller pipe.submitters.items ≡ true) ⊎ IsMasked pipe.mask caller))
 
--- each pipeline of such a kind stands in line
-abbrev pub AreInLine : {P : Type 0} → (P → Type 0) → List P → List ℕ → Type 0
-AreInLine {P} such pipes line = (p : ℕ) (d : P) → p < length pipes → such (slice_index_or pipes p d) → has p line ≡ true
-
--- each but this one
-abbrev pub OthersAreInLine : {P : Type 0} → (P → Type 0) → ℕ → List P → List ℕ → Type 0
-OthersAreInLine {P} such k pipes line = (p : ℕ) (d : P) → p < length pipes → p ≢ k → such (slice_index_or pipes p d) → has p line ≡ true
-
-abbrev pub IsReadyFor : {P : Type 0} → (P → Type 0) → List P → ReadyLine → Type 0
-IsReadyFor such pipes ready = (ready.pipes ≡ length pipes) × AreInLine such pipes ready.line
-
--- none of them is of such a kind
-abbrev pub NoneIs : {P : Type 0} → (P → Type 0) → List P → Type 0
-NoneIs {P} such pipes = (p : ℕ) (d : P) → p < length pipes → such (slice_index_or pipes p d) → ⊥
-
 -- a job of the pipeline may be taken by this caller
 abbrev pub HasJobFor : {J O : Type 0} → ℕ → Pipeline J O → Type 0
 HasJobFor caller pipe = HasJob pipe × Admits pipe caller
 
+-- the pipeline is a queue, or none
+abbrev pub IsQueue : {J O : Type 0} → Pipeline J O → Type 0
+IsQueue pipe = is_queue pipe.stage ≡ true
+
+abbrev pub IsNoQueue : {J O : Type 0} → Pipeline J O → Type 0
+IsNoQueue pipe = is_queue pipe.stage ≡ false
+
+abbrev pub IsChain : {J O : Type 0} → Pipeline J O → Type 0
+IsChain pipe = is_chain pipe.stage ≡ true
+
+-- it is no queue, and this caller may take its jobs
+abbrev pub IsFor : {J O : Type 0} → ℕ → Pipeline J O → Type 0
+IsFor caller pipe = IsNoQueue pipe × Admits pipe caller
+
+-- of the open pipelines each of such a kind is a member, and of all pipelines each of that kind that is ready stands in line
+pub record IsReadyFor {J O : Type 0} (such ready : Pipeline J O → Type 0) (pipes : List (Pipeline J O)) (line : ReadyLine) : Type 0 where
+  pub members : (p : ℕ) (d : Pipeline J O) → p < length pipes → (slice_index_or pipes p d).closed ≡ false → such (slice_index_or pipes p d) → IsMember line p
+  pub in_line : (p : ℕ) (d : Pipeline J O) → p < length pipes → ready (slice_index_or pipes p d) → such (slice_index_or pipes p d) → IsInLine line p
+
+-- none of the pipelines is of such a kind
+abbrev pub NoneIs : {P : Type 0} → (P → Type 0) → List P → Type 0
+NoneIs {P} such pipes = (p : ℕ) (d : P) → p < length pipes → such (slice_index_or pipes p d) → ⊥
+
 -- ---- how a line changes
 
-abbrev pub IsGrown : ReadyLine → ReadyLine → Type 0
-IsGrown line after = after ≡ record line { pipes = line.pipes + 1 }
+-- where the pipeline was a member, or stood in line, it still does
+abbrev pub KeepsPipe : ReadyLine → ReadyLine → ℕ → Type 0
+KeepsPipe line after p = (IsMember line p → IsMember after p) × (IsInLine line p → IsInLine after p)
 
-abbrev pub HasAdded : ℕ → ReadyLine → ReadyLine → Type 0
-HasAdded pipe line after =
-    (after.pipes ≡ line.pipes) × (has pipe after.line ≡ true) × ((p : ℕ) → has p line.line ≡ true → has p after.line ≡ true)
+abbrev pub Keeps : ReadyLine → ReadyLine → Type 0
+Keeps line after = (p : ℕ) → KeepsPipe line after p
 
--- of so many pipelines all stand in line
-abbrev pub IsFull : ℕ → ReadyLine → Type 0
-IsFull pipes line = (line.pipes ≡ pipes) × ((p : ℕ) → p < pipes → has p line.line ≡ true)
+abbrev pub KeepsOthers : ℕ → ReadyLine → ReadyLine → Type 0
+KeepsOthers pipe line after = (p : ℕ) → p ≢ pipe → KeepsPipe line after p
+
+-- the line is told whether the pipeline is ready now, and was before: where it is, and is a member, it stands in line
+pub record IsTold (pipe : ℕ) (was is : Bool) (line after : ReadyLine) : Type 0 where
+  pub others : KeepsOthers pipe line after
+  pub member : IsMember line pipe → IsMember after pipe
+  pub in_line : is ≡ true → (was ≡ true → IsInLine line pipe) → IsMember line pipe → IsInLine after pipe
+
+-- only pipelines that are not of such a kind left the line
+abbrev pub KeepsSuch : {P : Type 0} → (P → Type 0) → List P → ReadyLine → ReadyLine → Type 0
+KeepsSuch {P} such pipes line after =
+    (p : ℕ) → (IsMember line p → IsMember after p) × ((d : P) → p < length pipes → such (slice_index_or pipes p d) → IsInLine line p → IsInLine after p)
+
+-- what a search in a line finds: one of such a kind, or none stands there
+abbrev pub NoneStands : {P : Type 0} → (P → Type 0) → List P → ReadyLine → Type 0
+NoneStands {P} such pipes line = (p : ℕ) (d : P) → p < length pipes → such (slice_index_or pipes p d) → IsInLine line p → ⊥
+
+abbrev pub IsOne : {P : Type 0} → (P → Type 0) → List P → ℕ → Type 0
+IsOne {P} such pipes k = (k < length pipes) × ((d : P) → such (slice_index_or pipes k d))
+
+abbrev pub FindsIn : {P : Type 0} → (P → Type 0) → List P → ReadyLine → Option ℕ → Type 0
+FindsIn such pipes line found = MatchOption found (NoneStands such pipes line) (IsOne such pipes)
+
+-- a search in two lines
+abbrev pub FindsInBoth : {P : Type 0} → (P → Type 0) → List P → ReadyLine → ReadyLine → Option ℕ → Type 0
+FindsInBoth such pipes line second found = MatchOption found (NoneStands such pipes line × NoneStands such pipes second) (IsOne such pipes)
+
+-- a search among all pipelines
+abbrev pub Finds : {P : Type 0} → (P → Type 0) → List P → Option ℕ → Type 0
+Finds such pipes found = MatchOption found (NoneIs such pipes) (IsOne such pipes)

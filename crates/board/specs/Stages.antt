@@ -25,6 +25,11 @@ is_queue (stage.Pad pad) = false
 is_queue (stage.Queue line) = true
 is_queue (stage.Chain c) = false
 
+abbrev pub is_chain : {J O : Type 0} → Stage J O → Bool
+is_chain (stage.Pad pad) = false
+is_chain (stage.Queue line) = false
+is_chain (stage.Chain c) = true
+
 -- there is room for one more request: on a chain also within its pad, besides those that wait in line
 abbrev pub HasRoom : {J O : Type 0} → Stage J O → Type 0
 HasRoom (stage.Pad pad) = 1 ≤ pad.spare

@@ -1,13 +1,13 @@
 //! How pipelines are made.
 
-ghost use Rattle.std.specs.Prelude.{◌≡◌, ◌≤◌, [], ◌∷◌, ◌++◌, IfErr, MatchResult};
+ghost use Rattle.std.specs.Prelude.{◌≡◌, ◌≤◌, [], ◌∷◌, ◌++◌, IfErr, OnOk, MatchResult};
 ghost use Rattle.board.specs.declared.entry.Shape.TheVariants as Shaped;
 ghost use Rattle.board.specs.declared.entry.BoardEntry.TheVariants as Entry;
 ghost use Rattle.board.specs.declared.board_core.BoardErr.TheVariants as BoardErr;
 ghost use Rattle.board.specs.Legal.{IsNoWorker, pipelines, LegalBoard};
 ghost use Rattle.board.specs.Births.{IsNew};
-ghost use Rattle.board.specs.Ready.{IsGrown};
-ghost use Rattle.board.specs.Lines.{IsMade};
+ghost use Rattle.board.specs.Ready.{IsMember, IsChain, KeepsOthers};
+ghost use Rattle.board.specs.Lines.{IsMade, Joins};
 
 use crate::board_core::{BoardCore, BoardErr};
 use crate::entry::{BoardEntry, Shape};
@@ -89,10 +89,7 @@ impl<W: Work> BoardCore<W> {
     {
         reserve_entries(&mut self.log, self.owed, 2)?;
         self.pipes.reserve(1)?;
-        self.ready.give_line(caller)?;
-        grow_both(&mut self.passing, &mut self.ready)?;
-        let pipe = self.pipes.len() as u64;
-        self.pipes.push_reserved(Pipeline {
+        let new = Pipeline {
             maker: caller,
             closed: false,
             shared: false,
@@ -100,7 +97,11 @@ impl<W: Work> BoardCore<W> {
             submitters: Vec::new(self.alloc),
             collected: 0,
             stage,
-        });
+        };
+        let place = self.pipes.len();
+        enter_lines(&mut self.ready, &mut self.passing, place, &new)?;
+        let pipe = place as u64;
+        self.pipes.push_reserved(new);
         self.log.push_reserved(BoardEntry::Born {
             caller,
             pipe,
@@ -111,15 +112,25 @@ impl<W: Work> BoardCore<W> {
     }
 }
 
-/// Makes room for one pipeline more in all lines. Want of memory changes nothing.
-fn grow_both(passing: &mut Ready, ready: &mut JobLines) -> Result<(), AllocError>
-    ensures passing { MatchResult result (λ _. IsGrown passing.old passing.new) (λ _. passing.new ≡ passing.old) }
-    ensures ready { MatchResult result (λ _. IsMade IsGrown ready.old ready.new) (λ _. ready.new ≡ ready.old) }
+/// Makes a new pipeline a member of the lines where it belongs. Want of memory leaves it out of all lines.
+fn enter_lines<J: Drop, F: Drop>(
+    ready: &mut JobLines,
+    passing: &mut Ready,
+    pipe: usize,
+    new: &Pipeline<J, F>,
+) -> Result<(), AllocError>
+    ensures ready { IsMade (KeepsOthers pipe) ready.old ready.new }
+    ensures passing { KeepsOthers pipe passing.old passing.new }
+    ensures joined { OnOk result (Joins pipe new.now ready.new) }
+    ensures chain { OnOk result (IsChain new.now → IsMember passing.new pipe) }
 {
-    passing.grow()?;
-    let grown = ready.grow();
-    if grown.is_err() {
-        passing.shrink();
+    ready.enter(pipe, new)?;
+    if !new.stage.is_chain() {
+        return Ok(());
     }
-    grown
+    let joined = passing.join(pipe);
+    if joined.is_err() {
+        ready.leave(pipe);
+    }
+    joined
 }

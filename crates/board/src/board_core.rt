@@ -48,7 +48,7 @@ pub struct BoardCore<W: Work> {
     pub(crate) alloc: Global,
     pub(crate) log: Vec<BoardEntry<W::Ask>>,
     pub(crate) pipes: Vec<Pipeline<W, W::Out>>,
-    /// In a caller's line stands each pipeline of which it may take a job.
+    /// In the lines of those that may take from a pipeline it stands while it has a job.
     pub(crate) ready: JobLines,
     /// In line stands each chain of which a request may be passed on.
     pub(crate) passing: Ready,
@@ -69,12 +69,12 @@ impl<W: Work> Model for BoardCore<W> {
     ghost use Rattle.board.specs.Legal.{is_shut};
     ghost use Rattle.board.specs.Kept.{IsKeptBoard, owed_by};
     ghost use Rattle.board.specs.Allowance.{IsKeptUsed};
-    ghost use Rattle.board.specs.Ready.{HasRequest, IsReadyFor};
+    ghost use Rattle.board.specs.Ready.{IsChain, HasRequest, IsReadyFor};
     ghost use Rattle.board.specs.Lines.{AreReady};
 
     ghost view = { λ b. b.log.items };
 
-    ghost invariant = { λ b. IsKeptBoard W.asked W.meaning b.pipes.items b.log.items × (is_shut b.log.items ≡ b.shut) × (vec_len b.log + b.owed ≤ vec_capacity b.log) × (b.owed ≡ owed_by b.pipes.items + (if b.shut then 0 else 1)) × IsKeptUsed W.weight b.used b.log.items × AreReady b.pipes.items b.ready × IsReadyFor HasRequest b.pipes.items b.passing };
+    ghost invariant = { λ b. IsKeptBoard W.asked W.meaning b.pipes.items b.log.items × (is_shut b.log.items ≡ b.shut) × (vec_len b.log + b.owed ≤ vec_capacity b.log) × (b.owed ≡ owed_by b.pipes.items + (if b.shut then 0 else 1)) × IsKeptUsed W.weight b.used b.log.items × AreReady b.pipes.items b.ready × IsReadyFor IsChain HasRequest b.pipes.items b.passing };
 }
 
 impl<W: Work> Told for BoardCore<W> {
@@ -98,7 +98,7 @@ impl<W: Work> BoardCore<W> {
             alloc,
             log,
             pipes: Vec::new(alloc),
-            ready: JobLines::new(alloc)?,
+            ready: JobLines::new(alloc),
             passing: Ready::new(alloc),
             owed: 1,
             shut: false,
@@ -136,6 +136,8 @@ impl<W: Work> BoardCore<W> {
         let place = &mut self.pipes[pipe as usize];
         place.closed = true;
         place.stage.free_room();
+        self.ready.leave(pipe as usize);
+        self.passing.leave(pipe as usize);
         self.log.push_reserved(BoardEntry::Close { caller, pipe });
         self.owed -= 1;
     }

@@ -1,11 +1,13 @@
 //! The lines in which callers find the pipelines whose jobs they may take.
 
-ghost use Rattle.std.specs.Prelude.{◌≡◌, ◌<◌, length, slice_index_or, IfOk, MatchResult, MatchOption};
+ghost use Rattle.std.specs.Prelude.{◌≡◌, ℕ, false, [], OnOk};
 ghost use Rattle.std.specs.List.{position_from};
 ghost use Rattle.board.specs.declared.pipeline.Pipeline.{Pipeline};
-ghost use Rattle.board.specs.Ready.{IsGrown, HasAdded, HasJobFor, NoneIs};
-ghost use Rattle.board.specs.Lines.{is_line_of, AreAll, AreMade, IsMade, HaveWorkers, AreReady, OthersAreReady, HasRoom, GivesLine, no_pipelines};
+ghost use Rattle.board.specs.Entries.{IsMasked};
+ghost use Rattle.board.specs.Ready.{IsMember, no_pipelines, HasJobFor, Keeps, KeepsOthers, IsTold, KeepsSuch, Finds, FindsInBoth};
+ghost use Rattle.board.specs.Lines.{is_line_of, line_of, AreMade, IsMade, Joins, IsReadmitted, AreReady};
 
+use crate::mask::is_masked;
 use crate::pipeline::Pipeline;
 use crate::ready::Ready;
 use crate::serving::next_for;
@@ -15,19 +17,21 @@ use std::marker::Model;
 /// The callers 1 to so many are workers.
 const WORKERS: u32 = 16;
 
-/// A caller's own line. In it stands each pipeline of which the caller may take a job.
+/// A caller's own line. Its members are the pads and chains from which the caller may take.
 #[derive(Drop)]
 pub(crate) struct OwnLine {
     pub(crate) caller: u32,
     pub(crate) line: Ready,
+    /// Whether the caller looked for a queue first when it last looked for a job.
+    pub(crate) queue_first: bool,
 }
 
-/// The lines of all callers. Each worker has its own, and so has each caller that made a pipeline or submitted to one. All others,
-/// the strangers, serve queues alone, and have one line together: in it stands each queue that has a job.
+/// The lines of all callers: in one stand the queues, which everybody serves, and each caller that may take from a pad or a chain
+/// has its own.
 #[derive(Drop)]
 pub(crate) struct JobLines {
     alloc: Global,
-    strangers: Ready,
+    queues: Ready,
     own: Vec<OwnLine>,
 }
 
@@ -36,78 +40,174 @@ impl Model for JobLines {
 
     ghost Value = { LinesOf };
 
-    ghost view = { λ l. record { strangers = l.strangers; own = l.own.items } };
+    ghost view = { λ l. record { queues = l.queues; own = l.own.items } };
 }
 
 impl JobLines {
-    /// Lines of no pipelines.
-    pub(crate) fn new(alloc: Global) -> Result<JobLines, AllocError>
-        ensures workers { IfOk result (λ lines. HaveWorkers lines.own) }
-        ensures strangers { IfOk result (λ lines. lines.strangers ≡ no_pipelines) }
-        ensures own { IfOk result (λ lines. AreAll (λ own. own.line ≡ no_pipelines) lines.own) }
+    /// Lines without members.
+    pub(crate) fn new(alloc: Global) -> JobLines
+        ensures { result ≡ record { queues = no_pipelines; own = [] } }
     {
-        let mut own = Vec::with_capacity(alloc, WORKERS as usize)?;
-        for before in 0..WORKERS {
-            own.push_reserved(OwnLine {
-                caller: before + 1,
-                line: Ready::new(alloc),
-            });
-        }
-        Ok(JobLines {
+        JobLines {
             alloc,
-            strangers: Ready::new(alloc),
-            own,
-        })
-    }
-
-    /// Makes room for one pipeline more in each line. Want of memory changes nothing.
-    pub(crate) fn grow(&mut self) -> Result<(), AllocError>
-        ensures { MatchResult result (λ _. IsMade IsGrown self.old self.new) (λ _. self.new ≡ self.old) }
-    {
-        self.strangers.grow()?;
-        let grown = grow_all(&mut self.own);
-        if grown.is_err() {
-            self.strangers.shrink();
+            queues: Ready::new(alloc),
+            own: Vec::new(alloc),
         }
-        grown
     }
 
-    /// Sets a pipeline at the end of each line in which it doesn't stand. No memory is taken.
-    pub(crate) fn add(&mut self, pipe: usize)
-        requires { HasRoom pipe self.old }
-        ensures { IsMade (HasAdded pipe) self.old self.new }
+    /// Makes a new pipeline a member of the lines of those that may take from it. Want of memory leaves it out of all lines.
+    pub(crate) fn enter<J: Drop, F: Drop>(
+        &mut self,
+        pipe: usize,
+        new: &Pipeline<J, F>,
+    ) -> Result<(), AllocError>
+        ensures others { IsMade (KeepsOthers pipe) self.old self.new }
+        ensures joined { OnOk result (Joins pipe new.now self.new) }
     {
-        self.strangers.add(pipe);
-        add_to_all(&mut self.own, pipe);
+        let joined = self.join_all(pipe, new);
+        if joined.is_err() {
+            self.leave(pipe);
+        }
+        joined
     }
 
-    /// Gives a caller its own line where it has none. All pipelines stand in it at first. Want of memory changes nothing.
-    pub(crate) fn give_line(&mut self, caller: u32) -> Result<(), AllocError>
-        ensures { MatchResult result (λ _. GivesLine caller self.old self.new) (λ _. self.new ≡ self.old) }
+    /// Makes a new pipeline a member of the lines of those that may take from it. Want of memory leaves it in some.
+    fn join_all<J: Drop, F: Drop>(
+        &mut self,
+        pipe: usize,
+        new: &Pipeline<J, F>,
+    ) -> Result<(), AllocError>
+        ensures kept { IsMade Keeps self.old self.new }
+        ensures joined { OnOk result (Joins pipe new.now self.new) }
     {
-        if place_of(&self.own, caller).is_some() {
-            return Ok(());
+        if new.stage.is_queue() {
+            return self.queues.join(pipe);
+        }
+        self.join(new.maker, pipe)?;
+        self.join_workers(new.mask, pipe)
+    }
+
+    /// From now on the caller may take from a pad or a chain. Want of memory changes nothing that is seen.
+    pub(crate) fn join(&mut self, caller: u32, pipe: usize) -> Result<(), AllocError>
+        ensures kept { IsMade Keeps self.old self.new }
+        ensures joined { OnOk result (IsMember (line_of caller self.new.own) pipe) }
+    {
+        if let Some(place) = place_of(&self.own, caller) {
+            return self.own[place].line.join(pipe);
         }
         self.own.reserve(1)?;
-        let line = Ready::all(self.alloc, self.strangers.pipes())?;
-        self.own.push_reserved(OwnLine { caller, line });
+        let mut line = Ready::new(self.alloc);
+        line.join(pipe)?;
+        self.own.push_reserved(OwnLine {
+            caller,
+            line,
+            queue_first: false,
+        });
         Ok(())
     }
 
-    /// Finds a pipeline of which this caller may take a job, and takes it out of the line in which it stood for this caller.
+    /// From now on the caller may take from the pipeline. From a queue everybody may. Want of memory changes nothing that is seen.
+    pub(crate) fn admit(
+        &mut self,
+        caller: u32,
+        pipe: usize,
+        is_queue: bool,
+    ) -> Result<(), AllocError>
+        ensures kept { IsMade Keeps self.old self.new }
+        ensures joined { OnOk result (is_queue ≡ false → IsMember (line_of caller self.new.own) pipe) }
+    {
+        if is_queue {
+            return Ok(());
+        }
+        self.join(caller, pipe)
+    }
+
+    /// From now on the workers whose bits are set may take from a pad or a chain. Want of memory leaves it in the lines of some.
+    pub(crate) fn join_workers(&mut self, mask: u16, pipe: usize) -> Result<(), AllocError>
+        ensures kept { IsMade Keeps self.old self.new }
+        ensures joined { OnOk result ((worker : ℕ) → IsMasked mask worker → IsMember (line_of worker self.new.own) pipe) }
+    {
+        for before in 0..WORKERS {
+            self.join_worker(before + 1, mask, pipe)?;
+        }
+        Ok(())
+    }
+
+    /// From now on the worker may take from a pad or a chain, where its bit is set. Want of memory changes nothing that is seen.
+    fn join_worker(&mut self, worker: u32, mask: u16, pipe: usize) -> Result<(), AllocError>
+        ensures kept { IsMade Keeps self.old self.new }
+        ensures joined { OnOk result (IsMasked mask worker → IsMember (line_of worker self.new.own) pipe) }
+    {
+        if is_masked(mask, worker) {
+            return self.join(worker, pipe);
+        }
+        Ok(())
+    }
+
+    /// Nobody takes from the pipeline any more. No memory is taken.
+    pub(crate) fn leave(&mut self, pipe: usize)
+        ensures { IsMade (KeepsOthers pipe) self.old self.new }
+    {
+        self.queues.leave(pipe);
+        leave_all(&mut self.own, pipe);
+    }
+
+    /// Tells the lines whether the pipeline has a job now, where it had one before or not. No memory is taken.
+    pub(crate) fn tell(&mut self, pipe: usize, had_job: bool, has_job: bool)
+        ensures { IsMade (IsTold pipe had_job has_job) self.old self.new }
+    {
+        if had_job != has_job {
+            self.queues.set(pipe, has_job);
+            set_all(&mut self.own, pipe, has_job);
+        }
+    }
+
+    /// Tells the callers' own lines which of them a pad with a new mask admits. No memory is taken.
+    pub(crate) fn readmit<J: Drop, F: Drop>(&mut self, pipe: usize, place: &Pipeline<J, F>)
+        ensures queues { self.new.queues ≡ self.old.queues }
+        ensures own { (caller : ℕ) → IsReadmitted pipe place.now caller (line_of caller self.old.own) (line_of caller self.new.own) }
+    {
+        readmit_all(&mut self.own, pipe, place);
+    }
+
+    /// Finds a pipeline of which this caller may take a job. Queues, and pads and chains, have their turns at being looked for first.
     pub(crate) fn next_job<J: Drop, F: Drop>(
         &mut self,
         pipes: &[Pipeline<J, F>],
         caller: u32,
     ) -> Option<usize>
         requires ready { AreReady pipes.now self.old }
-        ensures next { MatchOption result (AreReady pipes.now self.new × NoneIs (HasJobFor caller) pipes.now) (λ k. (k < length pipes.now) × ((d : Pipeline J F) → HasJobFor caller (slice_index_or pipes.now k d)) × OthersAreReady k pipes.now self.new) }
+        ensures ready { AreReady pipes.now self.new }
+        ensures next { Finds (HasJobFor caller) pipes.now result }
     {
-        match place_of(&self.own, caller) {
-            Some(place) => next_for(pipes, &mut self.own[place].line, caller),
-            None => next_for(pipes, &mut self.strangers, caller),
+        let Some(place) = place_of(&self.own, caller) else {
+            return next_for(pipes, &mut self.queues, caller);
+        };
+        let own = &mut self.own[place];
+        own.queue_first = !own.queue_first;
+        if own.queue_first {
+            next_of(pipes, &mut self.queues, &mut own.line, caller)
+        } else {
+            next_of(pipes, &mut own.line, &mut self.queues, caller)
         }
     }
+}
+
+/// Finds a pipeline of which the caller may take a job, in one line or else in another.
+fn next_of<J: Drop, F: Drop>(
+    pipes: &[Pipeline<J, F>],
+    first: &mut Ready,
+    second: &mut Ready,
+    caller: u32,
+) -> Option<usize>
+    ensures first { KeepsSuch (HasJobFor caller) pipes.now first.old first.new }
+    ensures second { KeepsSuch (HasJobFor caller) pipes.now second.old second.new }
+    ensures next { FindsInBoth (HasJobFor caller) pipes.now first.old second.old result }
+{
+    if let Some(k) = next_for(pipes, first, caller) {
+        return Some(k);
+    }
+    next_for(pipes, second, caller)
 }
 
 /// Where a caller's own line stands.
@@ -117,28 +217,44 @@ fn place_of(own: &[OwnLine], caller: u32) -> Option<usize>
     own.iter().position(|line| line.caller == caller)
 }
 
-/// Makes room for one pipeline more in each line. Want of memory changes nothing.
-fn grow_all(own: &mut [OwnLine]) -> Result<(), AllocError>
-    ensures { MatchResult result (λ _. AreMade IsGrown own.old own.new) (λ _. own.new ≡ own.old) }
-{
-    let Some((first, rest)) = own.split_first_mut() else {
-        return Ok(());
-    };
-    first.line.grow()?;
-    let grown = grow_all(rest);
-    if grown.is_err() {
-        first.line.shrink();
-    }
-    grown
-}
-
-/// Sets a pipeline at the end of each line in which it doesn't stand. No memory is taken.
-fn add_to_all(own: &mut [OwnLine], pipe: usize)
-    requires { AreAll (λ own. pipe < own.line.pipes) own.old }
-    ensures { AreMade (HasAdded pipe) own.old own.new }
+/// The pipeline is a member of no line any more.
+fn leave_all(own: &mut [OwnLine], pipe: usize)
+    ensures { AreMade (KeepsOthers pipe) own.old own.new }
 {
     if let Some((first, rest)) = own.split_first_mut() {
-        first.line.add(pipe);
-        add_to_all(rest, pipe);
+        first.line.leave(pipe);
+        leave_all(rest, pipe);
+    }
+}
+
+/// Sets the pipeline in each line of which it is a member where it has a job, and otherwise takes it out.
+fn set_all(own: &mut [OwnLine], pipe: usize, has_job: bool)
+    ensures { AreMade (IsTold pipe false has_job) own.old own.new }
+{
+    if let Some((first, rest)) = own.split_first_mut() {
+        first.line.set(pipe, has_job);
+        set_all(rest, pipe, has_job);
+    }
+}
+
+/// The pipeline stays a member of the lines of those that it admits, and stands there where it has a job.
+fn readmit_all<J: Drop, F: Drop>(own: &mut [OwnLine], pipe: usize, place: &Pipeline<J, F>)
+    ensures { (caller : ℕ) → IsReadmitted pipe place.now caller (line_of caller own.old) (line_of caller own.new) }
+{
+    if let Some((first, rest)) = own.split_first_mut() {
+        readmit(first, pipe, place);
+        readmit_all(rest, pipe, place);
+    }
+}
+
+/// The pipeline stays a member of the line where it admits the caller, and stands there where it has a job.
+fn readmit<J: Drop, F: Drop>(own: &mut OwnLine, pipe: usize, place: &Pipeline<J, F>)
+    ensures caller { own.new.caller ≡ own.old.caller }
+    ensures line { IsReadmitted pipe place.now own.old.caller own.old.line own.new.line }
+{
+    if place.admits(own.caller) {
+        own.line.set(pipe, place.stage.may_serve());
+    } else {
+        own.line.leave(pipe);
     }
 }

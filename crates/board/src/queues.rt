@@ -41,13 +41,16 @@ impl<W: Work> BoardCore<W> {
     {
         let Admitted { ask, size } = self.admit(caller, &job)?;
         reserve_entries(&mut self.log, self.owed, 4)?;
-        self.ready.give_line(caller)?;
         let place = &mut self.pipes[pipe as usize];
         place.reserve()?;
+        self.ready
+            .admit(caller, pipe as usize, place.stage.is_queue())?;
         let accepted = place.stage.accepts(backlog);
         spend(&mut self.used, caller, size, accepted)?;
         let answer = place.enqueue(caller, job, backlog);
         let more = place.stage.work_entries(answer);
+        let has_job = place.stage.may_serve();
+        let may_pass = place.stage.may_pass();
         self.log.push_reserved(BoardEntry::Enq {
             caller,
             pipe,
@@ -56,8 +59,8 @@ impl<W: Work> BoardCore<W> {
             answer,
         });
         self.owed += more;
-        self.ready.add(pipe as usize);
-        self.passing.add(pipe as usize);
+        self.ready.tell(pipe as usize, false, has_job);
+        self.passing.set(pipe as usize, may_pass);
         Ok(answer)
     }
 
@@ -72,8 +75,13 @@ impl<W: Work> BoardCore<W> {
     {
         reserve_entries(&mut self.log, self.owed, 1)?;
         let place = &mut self.pipes[pipe as usize];
+        let had_job = place.stage.may_serve();
         place.stage.set_held(true);
+        let has_job = place.stage.may_serve();
+        let may_pass = place.stage.may_pass();
         self.log.push_reserved(BoardEntry::Hold { caller, pipe });
+        self.ready.tell(pipe as usize, had_job, has_job);
+        self.passing.set(pipe as usize, may_pass);
         Ok(())
     }
 
@@ -88,10 +96,13 @@ impl<W: Work> BoardCore<W> {
     {
         reserve_entries(&mut self.log, self.owed, 1)?;
         let place = &mut self.pipes[pipe as usize];
+        let had_job = place.stage.may_serve();
         place.stage.set_held(false);
+        let has_job = place.stage.may_serve();
+        let may_pass = place.stage.may_pass();
         self.log.push_reserved(BoardEntry::Go { caller, pipe });
-        self.ready.add(pipe as usize);
-        self.passing.add(pipe as usize);
+        self.ready.tell(pipe as usize, had_job, has_job);
+        self.passing.set(pipe as usize, may_pass);
         Ok(())
     }
 }

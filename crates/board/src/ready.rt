@@ -1,105 +1,139 @@
 //! Lines of pipelines that may have a job to run, or a request to pass on.
 
-ghost use Rattle.std.specs.Prelude.{◌≡◌, ℕ, ◌+◌, ◌-◌, ◌<◌, true, false, [], ◌∷◌, IfOk, MatchResult, MatchOption};
-ghost use Rattle.board.specs.Entries.{has};
-ghost use Rattle.board.specs.Ready.{IsFull};
+ghost use Rattle.std.specs.Prelude.{◌≡◌, ℕ, ◌<◌, ◌≤◌, false, length, slice_get, Some, OnOk, MatchOption};
+ghost use Rattle.board.specs.Ready.{IsMember, IsInLine, no_pipelines, Keeps, KeepsPipe, KeepsOthers, IsTold};
 
+use indexmap::IndexSet;
 use std::alloc::{AllocError, Global};
-use std::collections::VecDeque;
 use std::marker::Model;
 
-/// A line of pipelines, by their numbers, each at most once. Room for all of them is kept.
+/// The pipelines, by their numbers, that may stand in a line. To set one in line, or to take it out, two of them change places.
 #[derive(Drop)]
 pub(crate) struct Ready {
-    /// Whether a pipeline stands in line.
-    marks: Vec<bool>,
-    line: VecDeque<usize>,
+    members: IndexSet<usize>,
+    /// So many of the first members stand in line.
+    ready: usize,
+    /// The place that is looked at next, so that the members in line take turns.
+    turn: usize,
 }
 
 impl Model for Ready {
     ghost use Rattle.std.specs.Prelude.{◌≤◌, length};
-    ghost use Rattle.std.specs.Vec.{vec_len};
-    ghost use Rattle.std.specs.VecDeque.{deque_capacity};
-    ghost use Rattle.board.specs.Ready.{ReadyLine, IsLine};
+    ghost use Rattle.board.specs.Ready.{ReadyLine};
 
     ghost Value = { ReadyLine };
 
-    ghost view = { λ r. record { pipes = length r.marks.items; line = r.line.items } };
+    ghost view = { λ r. record { members = r.members.keys; ready = r.ready } };
 
-    ghost invariant = { λ r. IsLine r.marks.items r.line.items × (vec_len r.marks ≤ deque_capacity r.line) };
+    ghost invariant = { λ r. r.ready ≤ length r.members.keys };
 }
 
 impl Ready {
-    /// No pipelines.
+    /// A line without members.
     pub(crate) fn new(alloc: Global) -> Ready
-        ensures { result ≡ record { pipes = 0; line = [] } }
+        ensures { result ≡ no_pipelines }
     {
         Ready {
-            marks: Vec::new(alloc),
-            line: VecDeque::new(alloc),
+            members: IndexSet::new(alloc),
+            ready: 0,
+            turn: 0,
         }
     }
 
-    /// Of so many pipelines all stand in line.
-    pub(crate) fn all(alloc: Global, pipes: usize) -> Result<Ready, AllocError>
-        ensures { IfOk result (IsFull pipes) }
+    /// From now on the pipeline is a member. A new one doesn't stand in line. Want of memory changes nothing.
+    pub(crate) fn join(&mut self, pipe: usize) -> Result<(), AllocError>
+        ensures kept { Keeps self.old self.new }
+        ensures joined { OnOk result (IsMember self.new pipe) }
     {
-        let mut ready = Ready::new(alloc);
-        for pipe in 0..pipes {
-            ready.grow()?;
-            ready.add(pipe);
-        }
-        Ok(ready)
-    }
-
-    /// Makes room for one pipeline more, which doesn't stand in line. Want of memory changes nothing.
-    pub(crate) fn grow(&mut self) -> Result<(), AllocError>
-        ensures { MatchResult result (λ _. (self.new ≡ record self.old { pipes = self.old.pipes + 1 }) × (has self.old.pipes self.old.line ≡ false)) (λ _. self.new ≡ self.old) }
-    {
-        let Some(room) = self.marks.len().checked_add(1) else {
-            return Err(AllocError);
-        };
-        self.line.reserve(room)?;
-        self.marks.push(false)?;
+        self.members.insert(pipe)?;
         Ok(())
     }
 
-    /// Takes the room for the last pipeline back, which doesn't stand in line. No memory is taken.
-    pub(crate) fn shrink(&mut self)
-        requires some { 0 < self.old.pipes }
-        requires last { has (self.old.pipes - 1) self.old.line ≡ false }
-        ensures { self.new ≡ record self.old { pipes = self.old.pipes - 1 } }
+    /// The pipeline is no member any more. No memory is taken.
+    pub(crate) fn leave(&mut self, pipe: usize)
+        ensures others { KeepsOthers pipe self.old self.new }
     {
-        let _ = self.marks.pop();
-    }
-
-    /// Sets a pipeline at the end of the line, where it doesn't stand in it. No memory is taken.
-    pub(crate) fn add(&mut self, pipe: usize)
-        requires { pipe < self.old.pipes }
-        ensures pipes { self.new.pipes ≡ self.old.pipes }
-        ensures added { has pipe self.new.line ≡ true }
-        ensures kept { (p : ℕ) → has p self.old.line ≡ true → has p self.new.line ≡ true }
-    {
-        if !self.marks[pipe] {
-            self.marks[pipe] = true;
-            self.line.push_back_reserved(pipe);
+        if let Some(place) = self.members.get_index_of(&pipe) {
+            let last = self.take_out(place);
+            self.members.swap_remove_index(last);
         }
     }
 
-    /// Of how many pipelines it is.
-    pub(crate) fn pipes(&self) -> usize
-        ensures { result ≡ self.now.pipes }
+    /// Sets a member in line. No memory is taken.
+    pub(crate) fn add(&mut self, pipe: usize)
+        ensures kept { Keeps self.old self.new }
+        ensures added { IsMember self.old pipe → IsInLine self.new pipe }
     {
-        self.marks.len()
+        if self.ready == self.members.len() {
+            return;
+        }
+        if let Some(place) = self.members.get_index_of(&pipe) {
+            if self.ready <= place {
+                self.members.swap_indices(place, self.ready);
+                self.ready += 1;
+            }
+        }
     }
 
-    /// Takes the first pipeline out of the line.
-    pub(crate) fn next(&mut self) -> Option<usize>
-        ensures pipes { self.new.pipes ≡ self.old.pipes }
-        ensures next { MatchOption result ((self.old.line ≡ []) × (self.new ≡ self.old)) (λ p. (p < self.old.pipes) × (self.old.line ≡ p ∷ self.new.line)) }
+    /// Takes a member out of the line. No memory is taken.
+    pub(crate) fn remove(&mut self, pipe: usize)
+        ensures others { KeepsOthers pipe self.old self.new }
+        ensures member { IsMember self.old pipe → IsMember self.new pipe }
+        ensures fewer { IsInLine self.old pipe → self.new.ready < self.old.ready }
     {
-        let pipe = self.line.pop_front()?;
-        self.marks[pipe] = false;
+        if let Some(place) = self.members.get_index_of(&pipe) {
+            self.take_out(place);
+        }
+    }
+
+    /// Sets a member in line where it is ready, and otherwise takes it out. No memory is taken.
+    pub(crate) fn set(&mut self, pipe: usize, ready: bool)
+        ensures { IsTold pipe false ready self.old self.new }
+    {
+        if ready {
+            self.add(pipe);
+        } else {
+            self.remove(pipe);
+        }
+    }
+
+    /// One of the members that stand in line. They take turns.
+    pub(crate) fn next(&mut self) -> Option<usize>
+        ensures same { self.new ≡ self.old }
+        ensures next { MatchOption result ((p : ℕ) → IsInLine self.old p → ⊥) (λ pipe. IsInLine self.old pipe) }
+    {
+        if self.ready == 0 {
+            return None;
+        }
+        let place = self.turn % self.ready;
+        let pipe = *self.members.get_index(place)?;
+        self.turn = place + 1;
         Some(pipe)
+    }
+
+    /// Takes the member at this place out of the line, and answers its place behind the line.
+    fn take_out(&mut self, place: usize) -> usize
+        requires { place < length self.old.members }
+        ensures moved { (p : ℕ) → slice_get self.old.members place ≡ Some p → slice_get self.new.members result ≡ Some p }
+        ensures others { (p : ℕ) → (slice_get self.old.members place ≡ Some p → ⊥) → KeepsPipe self.old self.new p }
+        ensures behind { self.new.ready ≤ result }
+        ensures fewer { place < self.old.ready → self.new.ready < self.old.ready }
+    {
+        if self.ready <= place {
+            return place;
+        }
+        self.ready -= 1;
+        self.members.swap_indices(place, self.ready);
+        self.turn = turn_after(self.turn, place);
+        self.ready
+    }
+}
+
+/// Whose turn it is when the last in line has come to this place: its own, where the place had the last turn.
+fn turn_after(turn: usize, place: usize) -> usize {
+    if turn.saturating_sub(1) == place {
+        place
+    } else {
+        turn
     }
 }

@@ -4,7 +4,7 @@ ghost use Rattle.std.specs.Prelude.{◌≡◌, ℕ, ◌+◌, ◌-◌, ◌<◌, �
 ghost use Rattle.request_queue.specs.Line.{number_at_bound, accepted};
 ghost use Rattle.padata_core.specs.Pad.{ready, taken_of};
 ghost use Rattle.board.specs.declared.entry.BoardEntry.TheVariants as Entry;
-ghost use Rattle.board.specs.Stages.{is_queue, MayServe, MayPass, PassesNone, IsLinked, next_in_line, starts_at, after_passed, with_passed, is_pad, has_line, HasRoom, IsPlaced, without_room, accepted_of, answer_of, after_entered, entered_on, with_waiting, bare, passed, IsJoined, MayEnd, emptied, released, ended, unfinished_of, jobs_of, IsQuiet, next_of, started_by, with_taken, without_first, with_job, holding, callbacks_of, collected_from};
+ghost use Rattle.board.specs.Stages.{is_queue, is_chain, MayServe, MayPass, PassesNone, IsLinked, next_in_line, starts_at, after_passed, with_passed, is_pad, has_line, HasRoom, IsPlaced, without_room, accepted_of, answer_of, after_entered, entered_on, with_waiting, bare, passed, IsJoined, MayEnd, emptied, released, ended, unfinished_of, jobs_of, IsQuiet, next_of, started_by, with_taken, without_first, with_job, holding, callbacks_of, collected_from};
 
 use crate::entry::{BoardEntry, Entered};
 use cryptd::Cryptd;
@@ -152,6 +152,16 @@ impl<J: Drop, F: Drop> Stage<J, F> {
             Stage::Pad(_) => false,
             Stage::Queue(_) => true,
             Stage::Chain(_) => false,
+        }
+    }
+
+    /// Whether requests go on from its line to a pad.
+    pub(crate) fn is_chain(&self) -> bool
+        ensures { result ≡ is_chain self.now }
+    {
+        match self {
+            Stage::Pad(_) | Stage::Queue(_) => false,
+            Stage::Chain(_) => true,
         }
     }
 

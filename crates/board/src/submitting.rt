@@ -45,7 +45,7 @@ impl<W: Work> BoardCore<W> {
         }
         let Admitted { ask, size } = self.admit(caller, &job)?;
         reserve_entries(&mut self.log, self.owed, 3)?;
-        self.ready.give_line(caller)?;
+        self.ready.join(caller, pipe as usize)?;
         let place = &mut self.pipes[pipe as usize];
         place.reserve()?;
         spend(&mut self.used, caller, size, true)?;
@@ -57,7 +57,7 @@ impl<W: Work> BoardCore<W> {
             ask,
         });
         self.owed += 2;
-        self.ready.add(pipe as usize);
+        self.ready.tell(pipe as usize, false, true);
         Ok(number)
     }
 

@@ -51,9 +51,10 @@ impl<W: Work> BoardCore<W> {
         } = place.stage.take()?;
         let pipe = p as u64;
         let entry = place.stage.take_entry(caller, pipe, number, started);
+        let has_job = place.stage.may_serve();
         self.log.push_reserved(entry);
         self.owed -= 1;
-        self.ready.add(p);
+        self.ready.tell(p, true, has_job);
         Some(Taken {
             slip: Slip { pipe, number },
             job,
@@ -70,11 +71,13 @@ impl<W: Work> BoardCore<W> {
     {
         let Slip { pipe, number } = slip;
         let place = &mut self.pipes[pipe as usize];
+        let had_job = place.stage.may_serve();
         place.stage.finish(number, out);
+        let has_job = place.stage.may_serve();
         let entry = place.stage.finish_entry(caller, pipe, number);
         self.log.push_reserved(entry);
         self.owed -= 1;
-        self.ready.add(pipe as usize);
+        self.ready.tell(pipe as usize, had_job, has_job);
     }
 
     /// The first request of a chain's line goes on to its pad, where the chain isn't held. False exactly where there is no such
@@ -87,9 +90,12 @@ impl<W: Work> BoardCore<W> {
             return false;
         };
         let place = &mut self.pipes[p];
+        let had_job = place.stage.may_serve();
         let Some((number, started)) = place.stage.pass_on() else {
             return false;
         };
+        let has_job = place.stage.may_serve();
+        let may_pass = place.stage.may_pass();
         self.log.push_reserved(BoardEntry::Deq {
             caller,
             pipe: p as u64,
@@ -97,8 +103,8 @@ impl<W: Work> BoardCore<W> {
             started,
         });
         self.owed -= 1;
-        self.ready.add(p);
-        self.passing.add(p);
+        self.ready.tell(p, had_job, has_job);
+        self.passing.set(p, may_pass);
         true
     }
 }

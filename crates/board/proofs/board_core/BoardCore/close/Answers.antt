@@ -1,14 +1,12 @@
 use Rattle.std.proofs.Common.{arith, ◌≡◌, [], ◌∷◌, ◌++◌, length, ap, sym, ◌∙◌, subst, refl, true, false}
 use Rattle.board.specs.declared.entry.BoardEntry.TheVariants.{Close}
 use Rattle.board.specs.Entries.{entries_of, is_shared, submissions, front, told, collected}
-use Rattle.board.specs.Ready.{HasRequest}
 use Rattle.board.proofs.KeptUsed.{used_same}
 use Rattle.board.proofs.Kept.{shut-same, within_board}
 use Rattle.board.specs.Legal.{MayManage, IsOpen}
 use Rattle.board.proofs.KeptCalls.{any_open_here, spent_step, close_step}
-use Rattle.board.proofs.KeptRoom.{serve_same, pass_same}
-use Rattle.board.proofs.InLine.{ready_same}
-use Rattle.board.proofs.LinesHold.{admits_same, queue_same, lines_same}
+use Rattle.board.proofs.KeptLines.{job_open, request_open, passing_left}
+use Rattle.board.proofs.LinesHold.{lines_left}
 use Rattle.board.proofs.board_core.BoardCore.close.Goals as goal
 
 pub index_mut-place-requires : goal.index_mut-place-requires
@@ -63,8 +61,8 @@ invariant_of-self g c =
       omega (arith, s.1, c.self.invariant.2, c.self.invariant.3, c.push_reserved.ensures.len, c.push_reserved.ensures.capacity),
       omega (arith, s.1, c.self.invariant.3),
       rw c.push_reserved.ensures.items (used_same g.W.Work.weight c.self.inside.used c.self.inside.log.items (Close c.args.caller c.args.pipe) refl c.self.invariant.4),
-      lines_same c.self.inside.pipes.items c.self.inside.ready c.args.pipe c.index_mut-place.result.now (record c.index_mut-place.result.now { closed = true; stage = c.free_room.new.self }) c.self.invariant.5 w c.index_mut-place.ensures.value (serve_same c.free_room.new.self c.index_mut-place.result.now.stage c.free_room.ensures.same) (admits_same c.index_mut-place.result.now (record c.index_mut-place.result.now { closed = true; stage = c.free_room.new.self }) refl refl refl (queue_same c.free_room.new.self c.index_mut-place.result.now.stage c.free_room.ensures.same)),
-      ready_same HasRequest c.self.inside.pipes.items c.self.inside.passing c.args.pipe c.index_mut-place.result.now (record c.index_mut-place.result.now { closed = true; stage = c.free_room.new.self }) c.self.invariant.6 w c.index_mut-place.ensures.value (pass_same c.free_room.new.self c.index_mut-place.result.now.stage c.free_room.ensures.same),
+      lines_left c.self.inside.pipes.items c.self.inside.ready c.leave.new.self c.args.pipe (record c.index_mut-place.result.now { closed = true; stage = c.free_room.new.self }) c.self.invariant.5 w c.leave.ensures refl (λ m. (let o : true ≡ false = job_open g.W.Work.asked g.W.Work.meaning c.self.inside.pipes.items (c.self.inside.log.items ++ Close c.args.caller c.args.pipe ∷ []) c.args.pipe (record c.index_mut-place.result.now { closed = true; stage = c.free_room.new.self }) s.0 w m in cc)),
+      passing_left c.self.inside.pipes.items c.self.inside.passing c.leave-2.new.self c.args.pipe (record c.index_mut-place.result.now { closed = true; stage = c.free_room.new.self }) c.self.invariant.6 w c.leave-2.ensures.others refl (λ m. (let o : true ≡ false = request_open g.W.Work.asked g.W.Work.meaning c.self.inside.pipes.items (c.self.inside.log.items ++ Close c.args.caller c.args.pipe ∷ []) c.args.pipe (record c.index_mut-place.result.now { closed = true; stage = c.free_room.new.self }) s.0 w m in cc)),
     )
 
 pub returns : goal.returns

@@ -1,16 +1,15 @@
-use Rattle.std.proofs.Common.{arith, ◌≡◌, sym, ◌∙◌, ap, subst, refl}
+use Rattle.std.proofs.Common.{arith, ◌∷◌, ◌++◌, [], ◌≡◌, sym, ◌∙◌, ap, subst, refl}
 use Rattle.board.specs.declared.entry.BoardEntry.TheVariants.{Enq}
 use Rattle.board.specs.Shapes.{has_line}
 use Rattle.board.specs.Entries.{entries_of, verdict}
-use Rattle.board.specs.Ready.{HasRequest}
 use Rattle.board.specs.Legal.{MaySubmit, IsOpenQueue}
 use Rattle.board.proofs.Kept.{shut-same, within_board}
 use Rattle.board.proofs.KeptRoom.{serve_same, pass_same, notes_same, after_same, answer_same, line_same}
 use Rattle.board.proofs.KeptCalls.{open_here, line_here, room_step}
 use Rattle.board.specs.Pipelines.{is_accepted, work_after}
 use Rattle.board.proofs.KeptRequests.{work_same, few_submissions, few_entries, accepts_is, used_answer, accepted_here, enqueue_step}
-use Rattle.board.proofs.InLine.{ready_same, ready_added, all_but}
-use Rattle.board.proofs.LinesHold.{but_one, known_here, known_noted, room_in_each, lines_added, lines_given, lines_same, room_admits}
+use Rattle.board.proofs.KeptLines.{says, says_passing, job_open, request_open, passing_same, passing_told, enqueued_queue, enqueued_chain}
+use Rattle.board.proofs.LinesHold.{queue_same, chain_same, room_admits, lines_kept, lines_same, lines_asked}
 use Rattle.board.proofs.board_core.BoardCore.enqueue.Goals as goal
 
 pub index_mut-place-requires : goal.index_mut-place-requires
@@ -30,8 +29,22 @@ invariant_of-self-in_err-reserve g c =
       omega (arith, c.self.invariant.2, c.in_ok-reserve_entries.ensures.len, c.in_ok-reserve_entries.ensures.capacity),
       omega (arith, s.1, c.self.invariant.3),
       rw c.in_ok-reserve_entries.ensures.items (c.self.invariant.4),
-      lines_same c.self.inside.pipes.items c.give_line.new.self c.args.pipe c.index_mut-place.result.now c.reserve.new.self (lines_given c.self.inside.pipes.items c.self.inside.ready c.give_line.new.self c.args.caller c.self.invariant.5 c.in_ok-give_line.ensures) w c.index_mut-place.ensures.value (serve_same c.reserve.new.self.stage c.index_mut-place.result.now.stage c.in_err-reserve.ensures.same.stage) (room_admits c.index_mut-place.result.now c.reserve.new.self c.in_err-reserve.ensures.same),
-      ready_same HasRequest c.self.inside.pipes.items c.self.inside.passing c.args.pipe c.index_mut-place.result.now c.reserve.new.self c.self.invariant.6 w c.index_mut-place.ensures.value (pass_same c.reserve.new.self.stage c.index_mut-place.result.now.stage c.in_err-reserve.ensures.same.stage),
+      lines_same c.self.inside.pipes.items c.self.inside.ready c.args.pipe c.index_mut-place.result.now c.reserve.new.self c.self.invariant.5 w c.index_mut-place.ensures.value c.in_err-reserve.ensures.same.closed (serve_same c.reserve.new.self.stage c.index_mut-place.result.now.stage c.in_err-reserve.ensures.same.stage) (room_admits c.index_mut-place.result.now c.reserve.new.self c.in_err-reserve.ensures.same),
+      passing_same c.self.inside.pipes.items c.self.inside.passing c.args.pipe c.index_mut-place.result.now c.reserve.new.self c.self.invariant.6 w c.index_mut-place.ensures.value c.in_err-reserve.ensures.same.closed (chain_same c.reserve.new.self.stage c.index_mut-place.result.now.stage c.in_err-reserve.ensures.same.stage) (pass_same c.reserve.new.self.stage c.index_mut-place.result.now.stage c.in_err-reserve.ensures.same.stage),
+    )
+
+pub invariant_of-self-in_err-admit : goal.invariant_of-self-in_err-admit
+invariant_of-self-in_err-admit g c =
+    let open_ : IsOpenQueue (entries_of c.args.pipe c.self.inside.log.items) = subst (λ h. IsOpenQueue (entries_of c.args.pipe h)) (sym c.self.view_is) c.requires.pipe in
+    let w = within_board g.W.Work.asked g.W.Work.meaning c.self.inside.pipes.items c.self.inside.log.items c.args.pipe c.self.invariant.0 (open_here has_line (entries_of c.args.pipe c.self.inside.log.items) open_.0) in
+    let s = room_step g.W.Work.asked g.W.Work.meaning c.self.inside.pipes.items c.self.inside.log.items c.args.pipe c.index_mut-place.result.now c.self.invariant.0 w c.index_mut-place.ensures.value c.reserve.new.self c.in_ok-reserve.ensures.same c.in_ok-reserve.ensures.placed in (
+      rw c.in_ok-reserve_entries.ensures.items s.0,
+      rw c.in_ok-reserve_entries.ensures.items c.self.invariant.1,
+      omega (arith, c.self.invariant.2, c.in_ok-reserve_entries.ensures.len, c.in_ok-reserve_entries.ensures.capacity),
+      omega (arith, s.1, c.self.invariant.3),
+      rw c.in_ok-reserve_entries.ensures.items c.self.invariant.4,
+      lines_same c.self.inside.pipes.items c.admit-2.new.self c.args.pipe c.index_mut-place.result.now c.reserve.new.self (lines_kept c.self.inside.pipes.items c.self.inside.ready c.admit-2.new.self c.self.invariant.5 c.in_err-admit.ensures.kept) w c.index_mut-place.ensures.value c.in_ok-reserve.ensures.same.closed (serve_same c.reserve.new.self.stage c.index_mut-place.result.now.stage c.in_ok-reserve.ensures.same.stage) (room_admits c.index_mut-place.result.now c.reserve.new.self c.in_ok-reserve.ensures.same),
+      passing_same c.self.inside.pipes.items c.self.inside.passing c.args.pipe c.index_mut-place.result.now c.reserve.new.self c.self.invariant.6 w c.index_mut-place.ensures.value c.in_ok-reserve.ensures.same.closed (chain_same c.reserve.new.self.stage c.index_mut-place.result.now.stage c.in_ok-reserve.ensures.same.stage) (pass_same c.reserve.new.self.stage c.index_mut-place.result.now.stage c.in_ok-reserve.ensures.same.stage),
     )
 
 pub invariant_of-self-in_err-spend : goal.invariant_of-self-in_err-spend
@@ -44,8 +57,8 @@ invariant_of-self-in_err-spend g c =
       omega (arith, c.self.invariant.2, c.in_ok-reserve_entries.ensures.len, c.in_ok-reserve_entries.ensures.capacity),
       omega (arith, s.1, c.self.invariant.3),
       rw c.in_ok-reserve_entries.ensures.items (λ q. c.in_err-spend.ensures.err q ∙ c.self.invariant.4 q),
-      lines_same c.self.inside.pipes.items c.give_line.new.self c.args.pipe c.index_mut-place.result.now c.reserve.new.self (lines_given c.self.inside.pipes.items c.self.inside.ready c.give_line.new.self c.args.caller c.self.invariant.5 c.in_ok-give_line.ensures) w c.index_mut-place.ensures.value (serve_same c.reserve.new.self.stage c.index_mut-place.result.now.stage c.in_ok-reserve.ensures.same.stage) (room_admits c.index_mut-place.result.now c.reserve.new.self c.in_ok-reserve.ensures.same),
-      ready_same HasRequest c.self.inside.pipes.items c.self.inside.passing c.args.pipe c.index_mut-place.result.now c.reserve.new.self c.self.invariant.6 w c.index_mut-place.ensures.value (pass_same c.reserve.new.self.stage c.index_mut-place.result.now.stage c.in_ok-reserve.ensures.same.stage),
+      lines_same c.self.inside.pipes.items c.admit-2.new.self c.args.pipe c.index_mut-place.result.now c.reserve.new.self (lines_kept c.self.inside.pipes.items c.self.inside.ready c.admit-2.new.self c.self.invariant.5 c.in_ok-admit.ensures.kept) w c.index_mut-place.ensures.value c.in_ok-reserve.ensures.same.closed (serve_same c.reserve.new.self.stage c.index_mut-place.result.now.stage c.in_ok-reserve.ensures.same.stage) (room_admits c.index_mut-place.result.now c.reserve.new.self c.in_ok-reserve.ensures.same),
+      passing_same c.self.inside.pipes.items c.self.inside.passing c.args.pipe c.index_mut-place.result.now c.reserve.new.self c.self.invariant.6 w c.index_mut-place.ensures.value c.in_ok-reserve.ensures.same.closed (chain_same c.reserve.new.self.stage c.index_mut-place.result.now.stage c.in_ok-reserve.ensures.same.stage) (pass_same c.reserve.new.self.stage c.index_mut-place.result.now.stage c.in_ok-reserve.ensures.same.stage),
     )
 
 pub enqueue-answer-requires-clause-line : goal.enqueue-answer-requires-clause-line
@@ -60,18 +73,6 @@ enqueue-answer-requires-clause-few g c =
     let w = within_board g.W.Work.asked g.W.Work.meaning c.self.inside.pipes.items c.self.inside.log.items c.args.pipe c.self.invariant.0 (open_here has_line (entries_of c.args.pipe c.self.inside.log.items) open_.0) in
     let a = accepted_here g.W.Work.asked g.W.Work.meaning c.self.inside.pipes.items c.self.inside.log.items c.args.pipe c.index_mut-place.result.now c.self.invariant.0 w c.index_mut-place.ensures.value c.reserve.new.self c.in_ok-reserve.ensures.same in
     omega (arith, a, few_submissions c.args.pipe c.self.inside.log.items, c.self.inside.log.ok.0, c.self.inside.log.ok.1, c.self.inside.log.small)
-
-pub add-requires : goal.add-requires
-add-requires g c =
-    let open_ : IsOpenQueue (entries_of c.args.pipe c.self.inside.log.items) = subst (λ h. IsOpenQueue (entries_of c.args.pipe h)) (sym c.self.view_is) c.requires.pipe in
-    let w = within_board g.W.Work.asked g.W.Work.meaning c.self.inside.pipes.items c.self.inside.log.items c.args.pipe c.self.invariant.0 (open_here has_line (entries_of c.args.pipe c.self.inside.log.items) open_.0) in
-    room_in_each c.self.inside.pipes.items c.give_line.new.self c.args.pipe (but_one c.self.inside.pipes.items c.give_line.new.self c.args.pipe (lines_given c.self.inside.pipes.items c.self.inside.ready c.give_line.new.self c.args.caller c.self.invariant.5 c.in_ok-give_line.ensures)) w
-
-pub add-requires-2 : goal.add-requires-2
-add-requires-2 g c =
-    let open_ : IsOpenQueue (entries_of c.args.pipe c.self.inside.log.items) = subst (λ h. IsOpenQueue (entries_of c.args.pipe h)) (sym c.self.view_is) c.requires.pipe in
-    let w = within_board g.W.Work.asked g.W.Work.meaning c.self.inside.pipes.items c.self.inside.log.items c.args.pipe c.self.invariant.0 (open_here has_line (entries_of c.args.pipe c.self.inside.log.items) open_.0) in
-    omega (arith, w, c.self.invariant.6.0)
 
 pub invariant_of-self-2 : goal.invariant_of-self-2
 invariant_of-self-2 g c =
@@ -90,8 +91,8 @@ invariant_of-self-2 g c =
       omega (arith, more, few_entries c.index_mut-place.result.now.stage answer, c.push_reserved.ensures.len, c.push_reserved.ensures.capacity, c.in_ok-reserve_entries.ensures.ok),
       omega (arith, more, s.1, c.self.invariant.3),
       rw (c.push_reserved.ensures.items, c.in_ok-reserve_entries.ensures.items) (used_answer g.W.Work.weight c.self.inside.used c.spend.new.used c.self.inside.log.items c.args.caller c.args.pipe c.in_ok-ask.field-0.ask c.args.backlog answer (g.W.Work.asked c.args.job) c.in_ok-ask.field-0.size c.in_ok-ask.ensures.ask c.in_ok-ask.ensures.size c.self.invariant.4 (rw spent at c.in_ok-spend.ensures.ok)),
-      lines_added c.self.inside.pipes.items c.give_line.new.self c.add.new.self c.args.pipe (c.enqueue-answer.new.self) (but_one c.self.inside.pipes.items c.give_line.new.self c.args.pipe (lines_given c.self.inside.pipes.items c.self.inside.ready c.give_line.new.self c.args.caller c.self.invariant.5 c.in_ok-give_line.ensures)) w (known_noted c.give_line.new.self.own c.index_mut-place.result.now c.enqueue-answer.new.self c.args.caller _ noting c.in_ok-give_line.ensures.1 (known_here c.self.inside.pipes.items c.give_line.new.self.own c.args.pipe c.index_mut-place.result.now (lines_given c.self.inside.pipes.items c.self.inside.ready c.give_line.new.self c.args.caller c.self.invariant.5 c.in_ok-give_line.ensures).known w c.index_mut-place.ensures.value)) c.add.ensures,
-      ready_added HasRequest c.self.inside.pipes.items c.self.inside.passing c.add-2.new.self c.args.pipe (c.enqueue-answer.new.self) c.self.invariant.6.0 (all_but HasRequest c.self.inside.pipes.items c.self.inside.passing.line c.args.pipe c.self.invariant.6.1) w c.add-2.ensures.pipes c.add-2.ensures.added c.add-2.ensures.kept,
+      lines_asked c.self.inside.pipes.items c.admit-2.new.self c.tell.new.self c.args.pipe c.index_mut-place.result.now c.enqueue-answer.new.self c.args.caller _ c.may_serve-has_job.result (lines_kept c.self.inside.pipes.items c.self.inside.ready c.admit-2.new.self c.self.invariant.5 c.in_ok-admit.ensures.kept) w c.index_mut-place.ensures.value (λ q. c.in_ok-admit.ensures.joined (c.is_queue.ensures ∙ (queue_same c.reserve.new.self.stage c.index_mut-place.result.now.stage c.in_ok-reserve.ensures.same.stage ∙ q))) c.tell.ensures noting (enqueued_queue c.index_mut-place.result.now.stage c.enqueue-answer.new.self.stage c.args.job answer e) (says c.enqueue-answer.new.self.stage c.may_serve-has_job.result c.may_serve-has_job.ensures) (job_open g.W.Work.asked g.W.Work.meaning c.self.inside.pipes.items (c.self.inside.log.items ++ Enq c.args.caller c.args.pipe c.in_ok-ask.field-0.ask c.args.backlog answer ∷ []) c.args.pipe c.enqueue-answer.new.self s.0 w),
+      passing_told c.self.inside.pipes.items c.self.inside.passing c.args.pipe c.index_mut-place.result.now c.enqueue-answer.new.self c.self.invariant.6 w c.index_mut-place.ensures.value c.set.new.self c.may_pass-may_pass.result c.set.ensures noting.closed (enqueued_chain c.index_mut-place.result.now.stage c.enqueue-answer.new.self.stage c.args.job answer e) (says_passing c.enqueue-answer.new.self.stage c.may_pass-may_pass.result c.may_pass-may_pass.ensures) (request_open g.W.Work.asked g.W.Work.meaning c.self.inside.pipes.items (c.self.inside.log.items ++ Enq c.args.caller c.args.pipe c.in_ok-ask.field-0.ask c.args.backlog answer ∷ []) c.args.pipe c.enqueue-answer.new.self s.0 w),
     )
 
 pub returns-clause-answered : goal.returns-clause-answered

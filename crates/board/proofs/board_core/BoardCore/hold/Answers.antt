@@ -1,14 +1,13 @@
-use Rattle.std.proofs.Common.{arith, refl, sym, ◌∙◌, ap, subst}
+use Rattle.std.proofs.Common.{arith, true, false, ◌∷◌, ◌++◌, [], refl, sym, ◌∙◌, ap, subst}
 use Rattle.board.specs.declared.entry.BoardEntry.TheVariants.{Hold}
 use Rattle.board.specs.Entries.{entries_of}
-use Rattle.board.specs.Ready.{HasRequest}
 use Rattle.board.proofs.KeptUsed.{used_same}
 use Rattle.board.proofs.Kept.{shut-same, within_board}
 use Rattle.board.specs.Shapes.{has_line}
 use Rattle.board.specs.Legal.{MayManage, IsOpenQueue}
-use Rattle.board.proofs.KeptCalls.{open_here, line_here, hold_step, hold_serves, hold_passes}
-use Rattle.board.proofs.InLine.{ready_same}
-use Rattle.board.proofs.LinesHold.{admits_same, hold_queue, lines_same}
+use Rattle.board.proofs.KeptCalls.{open_here, line_here, hold_step}
+use Rattle.board.proofs.LinesHold.{admits_same, hold_queue, hold_chain, lines_told}
+use Rattle.board.proofs.KeptLines.{serves, says, says_passing, job_open, request_open, passing_told}
 use Rattle.board.proofs.board_core.BoardCore.hold.Goals as goal
 
 pub index_mut-place-requires : goal.index_mut-place-requires
@@ -35,8 +34,8 @@ invariant_of-self-2 g c =
       omega (arith, c.push_reserved.ensures.len, c.push_reserved.ensures.capacity, c.in_ok-reserve_entries.ensures.ok),
       omega (arith, s.1, c.self.invariant.3),
       rw (c.push_reserved.ensures.items, c.in_ok-reserve_entries.ensures.items) (used_same g.W.Work.weight c.self.inside.used c.self.inside.log.items (Hold c.args.caller c.args.pipe) refl c.self.invariant.4),
-      lines_same c.self.inside.pipes.items c.self.inside.ready c.args.pipe c.index_mut-place.result.now (record c.index_mut-place.result.now { stage = c.set_held.new.self }) c.self.invariant.5 w c.index_mut-place.ensures.value (hold_serves c.index_mut-place.result.now.stage c.set_held.new.self c.set_held.ensures) (admits_same c.index_mut-place.result.now (record c.index_mut-place.result.now { stage = c.set_held.new.self }) refl refl refl (hold_queue c.index_mut-place.result.now.stage c.set_held.new.self c.set_held.ensures)),
-      ready_same HasRequest c.self.inside.pipes.items c.self.inside.passing c.args.pipe c.index_mut-place.result.now (record c.index_mut-place.result.now { stage = c.set_held.new.self }) c.self.invariant.6 w c.index_mut-place.ensures.value (hold_passes c.index_mut-place.result.now.stage c.set_held.new.self c.set_held.ensures),
+      lines_told c.self.inside.pipes.items c.self.inside.ready c.tell.new.self c.args.pipe c.index_mut-place.result.now (record c.index_mut-place.result.now { stage = c.set_held.new.self }) c.may_serve-had_job.result c.may_serve-has_job.result c.self.invariant.5 w c.index_mut-place.ensures.value c.tell.ensures refl (admits_same c.index_mut-place.result.now (record c.index_mut-place.result.now { stage = c.set_held.new.self }) refl refl refl (hold_queue c.index_mut-place.result.now.stage c.set_held.new.self true c.set_held.ensures)) (serves c.index_mut-place.result.now.stage c.may_serve-had_job.result c.may_serve-had_job.ensures) (says c.set_held.new.self c.may_serve-has_job.result c.may_serve-has_job.ensures) (job_open g.W.Work.asked g.W.Work.meaning c.self.inside.pipes.items (c.self.inside.log.items ++ Hold c.args.caller c.args.pipe ∷ []) c.args.pipe (record c.index_mut-place.result.now { stage = c.set_held.new.self }) s.0 w),
+      passing_told c.self.inside.pipes.items c.self.inside.passing c.args.pipe c.index_mut-place.result.now (record c.index_mut-place.result.now { stage = c.set_held.new.self }) c.self.invariant.6 w c.index_mut-place.ensures.value c.set.new.self c.may_pass-may_pass.result c.set.ensures refl (hold_chain c.index_mut-place.result.now.stage c.set_held.new.self true c.set_held.ensures) (says_passing c.set_held.new.self c.may_pass-may_pass.result c.may_pass-may_pass.ensures) (request_open g.W.Work.asked g.W.Work.meaning c.self.inside.pipes.items (c.self.inside.log.items ++ Hold c.args.caller c.args.pipe ∷ []) c.args.pipe (record c.index_mut-place.result.now { stage = c.set_held.new.self }) s.0 w),
     )
 
 pub returns-clause-legal : goal.returns-clause-legal

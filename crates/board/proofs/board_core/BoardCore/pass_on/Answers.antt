@@ -1,19 +1,30 @@
-use Rattle.std.proofs.Common.{arith, ◌<◌, length, sym, ◌∙◌, subst, refl}
+use Rattle.std.proofs.Common.{arith, ◌∷◌, ◌++◌, [], ◌<◌, length, sym, ◌∙◌, subst, refl}
 use Rattle.board.specs.declared.entry.BoardEntry.{BoardEntry}
 use Rattle.board.specs.Entries.{NonePasses}
 use Rattle.board.specs.Ready.{HasRequest}
-use Rattle.board.proofs.InLine.{ready_added}
+use Rattle.board.proofs.KeptLines.{serves, says, says_passing, job_open, request_open, passing_told, passing_searched, none_passes, passed_is_queue, passed_is_chain}
 use Rattle.board.proofs.KeptUsed.{used_same}
 use Rattle.board.proofs.Kept.{shut-same}
 use Rattle.board.proofs.KeptPassOn.{passed_entry, pass_step, pass_none, few_here, entry_made}
-use Rattle.board.proofs.LinesHold.{but_one, known_here, room_in_each, lines_added}
+use Rattle.board.proofs.LinesHold.{admits_same, lines_told}
 use Rattle.board.proofs.board_core.BoardCore.pass_on.Goals as goal
 
 pub returns-in_default-clause-passed : goal.returns-in_default-clause-passed
 returns-in_default-clause-passed g c = (
   subst (λ h. NonePasses h) c.self.view_is
-      (pass_none g.W.Work.asked g.W.Work.meaning c.self.inside.pipes.items c.self.inside.log.items c.self.invariant.0 (rw c.deref.ensures.value at c.in_default.ensures.next)),
+      (pass_none g.W.Work.asked g.W.Work.meaning c.self.inside.pipes.items c.self.inside.log.items c.self.invariant.0 (none_passes c.self.inside.pipes.items c.self.inside.passing c.self.invariant.6 (rw c.deref.ensures.value at c.in_default.ensures.next))),
   c.self.view_is,
+)
+
+pub invariant_of-self : goal.invariant_of-self
+invariant_of-self g c = (
+  c.self.invariant.0,
+  c.self.invariant.1,
+  c.self.invariant.2,
+  c.self.invariant.3,
+  c.self.invariant.4,
+  c.self.invariant.5,
+  passing_searched c.self.inside.pipes.items c.self.inside.passing c.next_request.new.passing c.self.invariant.6 (rw c.deref.ensures.value at c.in_default.ensures.kept),
 )
 
 pub pass_on-requires-clause-few : goal.pass_on-requires-clause-few
@@ -40,12 +51,6 @@ overflow_sub-self g c =
     let s = pass_step g.W.Work.asked g.W.Work.meaning c.self.inside.pipes.items c.self.inside.log.items c.in-Some.p c.args.caller pipe c.pass_on.new.self c.self.invariant.0 w c.index_mut-place.ensures.value m c.in-Some-pass_on.ensures.2 in
     omega (arith, s.1, c.self.invariant.3)
 
-pub add-requires : goal.add-requires
-add-requires g c =
-    let pipe = c.index_mut-place.result.now in
-    let w : c.in-Some.p < length c.self.inside.pipes.items = rw (← c.deref.ensures.value) c.in-Some.ensures.next.0 in
-    room_in_each c.self.inside.pipes.items c.self.inside.ready c.in-Some.p (but_one c.self.inside.pipes.items c.self.inside.ready c.in-Some.p c.self.invariant.5) w
-
 pub invariant_of-self-2 : goal.invariant_of-self-2
 invariant_of-self-2 g c =
     let pipe = c.index_mut-place.result.now in
@@ -59,9 +64,19 @@ invariant_of-self-2 g c =
       omega (arith, s.1, c.self.invariant.2, c.self.invariant.3, c.push_reserved.ensures.len, c.push_reserved.ensures.capacity),
       omega (arith, s.1, c.self.invariant.3),
       rw (c.push_reserved.ensures.items, made) (used_same g.W.Work.weight c.self.inside.used c.self.inside.log.items e refl c.self.invariant.4),
-      lines_added c.self.inside.pipes.items c.self.inside.ready c.add.new.self c.in-Some.p (record pipe { stage = c.pass_on.new.self }) (but_one c.self.inside.pipes.items c.self.inside.ready c.in-Some.p c.self.invariant.5) w (known_here c.self.inside.pipes.items c.self.inside.ready.own c.in-Some.p pipe c.self.invariant.5.known w c.index_mut-place.ensures.value) c.add.ensures,
-      ready_added HasRequest c.self.inside.pipes.items c.next_request.new.passing c.add-2.new.self c.in-Some.p (record pipe { stage = c.pass_on.new.self }) (c.in-Some.ensures.pipes ∙ c.self.invariant.6.0) (rw c.deref.ensures.value at c.in-Some.ensures.next.2) w c.add-2.ensures.pipes c.add-2.ensures.added c.add-2.ensures.kept,
+      lines_told c.self.inside.pipes.items c.self.inside.ready c.tell.new.self c.in-Some.p pipe (record pipe { stage = c.pass_on.new.self }) c.may_serve-had_job.result c.may_serve-has_job.result c.self.invariant.5 w c.index_mut-place.ensures.value c.tell.ensures refl (admits_same pipe (record pipe { stage = c.pass_on.new.self }) refl refl refl (passed_is_queue pipe.stage c.pass_on.new.self c.in-Some-pass_on.ensures.2)) (serves pipe.stage c.may_serve-had_job.result c.may_serve-had_job.ensures) (says c.pass_on.new.self c.may_serve-has_job.result c.may_serve-has_job.ensures) (job_open g.W.Work.asked g.W.Work.meaning c.self.inside.pipes.items (c.self.inside.log.items ++ e ∷ []) c.in-Some.p (record pipe { stage = c.pass_on.new.self }) s.0 w),
+      passing_told c.self.inside.pipes.items c.next_request.new.passing c.in-Some.p pipe (record pipe { stage = c.pass_on.new.self }) (passing_searched c.self.inside.pipes.items c.self.inside.passing c.next_request.new.passing c.self.invariant.6 (rw c.deref.ensures.value at c.in-Some.ensures.kept)) w c.index_mut-place.ensures.value c.set.new.self c.may_pass-may_pass.result c.set.ensures refl (passed_is_chain pipe.stage c.pass_on.new.self c.in-Some-pass_on.ensures.2) (says_passing c.pass_on.new.self c.may_pass-may_pass.result c.may_pass-may_pass.ensures) (request_open g.W.Work.asked g.W.Work.meaning c.self.inside.pipes.items (c.self.inside.log.items ++ e ∷ []) c.in-Some.p (record pipe { stage = c.pass_on.new.self }) s.0 w),
     )
+
+pub returns-clause-passed : goal.returns-clause-passed
+returns-clause-passed g c =
+    let pipe = c.index_mut-place.result.now in
+    let w : c.in-Some.p < length c.self.inside.pipes.items = rw (← c.deref.ensures.value) c.in-Some.ensures.next.0 in
+    let m = subst (λ x. HasRequest x) (sym c.index_mut-place.ensures.value) ((rw c.deref.ensures.value at c.in-Some.ensures.next.1) pipe) in
+    let s = pass_step g.W.Work.asked g.W.Work.meaning c.self.inside.pipes.items c.self.inside.log.items c.in-Some.p c.args.caller pipe c.pass_on.new.self c.self.invariant.0 w c.index_mut-place.ensures.value m c.in-Some-pass_on.ensures.2 in
+    let e : BoardEntry g.row.W-Ask.Denot = passed_entry pipe.stage c.args.caller c.in-Some.p in
+    let made = entry_made g.row.W-Ask.Denot pipe.stage c.args.caller c.in-Some.p c.in-Some-pass_on.number c.in-Some-pass_on.started c.in-Some-pass_on.ensures.0 c.in-Some-pass_on.ensures.1 in
+    (c.in-Some.p, rw (← c.self.view_is) s.2, rw (← c.self.view_is, ← s.3, ← made) c.push_reserved.ensures.items)
 
 pub returns-clause-legal : goal.returns-clause-legal
 returns-clause-legal g c = (invariant_of-self-2 g c).0.legal

@@ -1,13 +1,12 @@
 use Rattle.std.proofs.Common.{arith, [], ◌∷◌, ◌++◌, ap, sym, ◌∙◌, subst, refl}
 use Rattle.board.specs.declared.entry.BoardEntry.TheVariants.{Collect}
 use Rattle.board.specs.Entries.{entries_of}
-use Rattle.board.specs.Ready.{HasRequest}
 use Rattle.board.proofs.KeptUsed.{used_same}
 use Rattle.board.proofs.Kept.{shut-same, within_board}
 use Rattle.board.specs.Legal.{MayManage, IsOpen}
 use Rattle.board.proofs.KeptCalls.{any_open_here, same_item, poll_step, told_few, collected_serves, collected_passes}
-use Rattle.board.proofs.InLine.{ready_same}
-use Rattle.board.proofs.LinesHold.{collected_admits, lines_same}
+use Rattle.board.proofs.KeptLines.{passing_same}
+use Rattle.board.proofs.LinesHold.{collected_closed, collected_is_chain, collected_admits, lines_same}
 use Rattle.board.proofs.board_core.BoardCore.poll.Goals as goal
 
 pub index-place-requires : goal.index-place-requires
@@ -49,8 +48,8 @@ invariant_of-self-2 g c =
       omega (arith, c.push_reserved.ensures.len, c.push_reserved.ensures.capacity, c.in_ok-reserve_entries.ensures.ok),
       omega (arith, s.1, c.self.invariant.3),
       rw (c.push_reserved.ensures.items, c.in_ok-reserve_entries.ensures.items) (used_same g.W.Work.weight c.self.inside.used c.self.inside.log.items (Collect c.args.caller c.args.pipe c.collect-to.result) refl c.self.invariant.4),
-      lines_same c.self.inside.pipes.items c.self.inside.ready c.args.pipe c.index_mut-place.result.now (c.collect-to.new.self) c.self.invariant.5 w c.index_mut-place.ensures.value (collected_serves c.index_mut-place.result.now c.collect-to.new.self c.collect-to.result c.collect-to.ensures.emptied) (collected_admits c.index_mut-place.result.now (c.collect-to.new.self) c.collect-to.result c.collect-to.ensures.emptied),
-      ready_same HasRequest c.self.inside.pipes.items c.self.inside.passing c.args.pipe c.index_mut-place.result.now (c.collect-to.new.self) c.self.invariant.6 w c.index_mut-place.ensures.value (collected_passes c.index_mut-place.result.now c.collect-to.new.self c.collect-to.result c.collect-to.ensures.emptied),
+      lines_same c.self.inside.pipes.items c.self.inside.ready c.args.pipe c.index_mut-place.result.now c.collect-to.new.self c.self.invariant.5 w c.index_mut-place.ensures.value (collected_closed c.index_mut-place.result.now c.collect-to.new.self c.collect-to.result c.collect-to.ensures.emptied) (collected_serves c.index_mut-place.result.now c.collect-to.new.self c.collect-to.result c.collect-to.ensures.emptied) (collected_admits c.index_mut-place.result.now c.collect-to.new.self c.collect-to.result c.collect-to.ensures.emptied),
+      passing_same c.self.inside.pipes.items c.self.inside.passing c.args.pipe c.index_mut-place.result.now c.collect-to.new.self c.self.invariant.6 w c.index_mut-place.ensures.value (collected_closed c.index_mut-place.result.now c.collect-to.new.self c.collect-to.result c.collect-to.ensures.emptied) (collected_is_chain c.index_mut-place.result.now c.collect-to.new.self c.collect-to.result c.collect-to.ensures.emptied) (collected_passes c.index_mut-place.result.now c.collect-to.new.self c.collect-to.result c.collect-to.ensures.emptied),
     )
 
 pub returns : goal.returns

@@ -1,12 +1,11 @@
 use Rattle.std.proofs.Common.{arith, refl, sym, ◌∙◌, subst, true}
 use Rattle.board.specs.declared.entry.BoardEntry.TheVariants.{Share}
 use Rattle.board.specs.Entries.{entries_of}
-use Rattle.board.specs.Ready.{HasRequest}
 use Rattle.board.proofs.KeptUsed.{used_same}
 use Rattle.board.proofs.Kept.{shut-same, within_board}
 use Rattle.board.specs.Legal.{MayManage, IsOpen}
 use Rattle.board.proofs.KeptCalls.{any_open_here, share_step}
-use Rattle.board.proofs.InLine.{ready_same}
+use Rattle.board.proofs.KeptLines.{passing_same}
 use Rattle.board.proofs.LinesHold.{admits_same, lines_same}
 use Rattle.board.proofs.board_core.BoardCore.share.Goals as goal
 
@@ -28,8 +27,8 @@ invariant_of-self-2 g c =
       omega (arith, c.push_reserved.ensures.len, c.push_reserved.ensures.capacity, c.in_ok-reserve_entries.ensures.ok),
       omega (arith, s.1, c.self.invariant.3),
       rw (c.push_reserved.ensures.items, c.in_ok-reserve_entries.ensures.items) (used_same g.W.Work.weight c.self.inside.used c.self.inside.log.items (Share c.args.caller c.args.pipe) refl c.self.invariant.4),
-      lines_same c.self.inside.pipes.items c.self.inside.ready c.args.pipe c.index_mut-place.result.now (record c.index_mut-place.result.now { shared = true }) c.self.invariant.5 w c.index_mut-place.ensures.value (λ m. m) (admits_same c.index_mut-place.result.now (record c.index_mut-place.result.now { shared = true }) refl refl refl refl),
-      ready_same HasRequest c.self.inside.pipes.items c.self.inside.passing c.args.pipe c.index_mut-place.result.now (record c.index_mut-place.result.now { shared = true }) c.self.invariant.6 w c.index_mut-place.ensures.value (λ m. m),
+      lines_same c.self.inside.pipes.items c.self.inside.ready c.args.pipe c.index_mut-place.result.now (record c.index_mut-place.result.now { shared = true }) c.self.invariant.5 w c.index_mut-place.ensures.value refl (λ m. m) (admits_same c.index_mut-place.result.now (record c.index_mut-place.result.now { shared = true }) refl refl refl refl),
+      passing_same c.self.inside.pipes.items c.self.inside.passing c.args.pipe c.index_mut-place.result.now (record c.index_mut-place.result.now { shared = true }) c.self.invariant.6 w c.index_mut-place.ensures.value refl refl (λ m. m),
     )
 
 pub returns-clause-legal : goal.returns-clause-legal

@@ -1,17 +1,16 @@
 use Rattle.board.specs.declared.pipeline.Pipeline.{Pipeline}
-use Rattle.std.proofs.Common.{arith, ◌≡◌, ◌<◌, length, Some, sym, ◌∙◌, ap, subst, refl}
+use Rattle.std.proofs.Common.{arith, true, ◌∷◌, ◌++◌, [], ◌≡◌, ◌<◌, length, Some, sym, ◌∙◌, ap, subst, refl}
 use Rattle.board.specs.declared.entry.BoardEntry.TheVariants.{Submit}
 use Rattle.board.specs.Shapes.{is_pad}
 use Rattle.board.specs.Entries.{entries_of, submissions}
-use Rattle.board.specs.Ready.{HasRequest}
 use Rattle.board.specs.Legal.{MaySubmit, IsOpenPad}
 use Rattle.board.proofs.KeptUsed.{used_more}
 use Rattle.board.proofs.Kept.{shut-same, within_board}
 use Rattle.board.proofs.KeptRoom.{serve_same, pass_same, notes_same, job_same, is_pad_same}
 use Rattle.board.proofs.KeptCalls.{open_here, pad_here, room_step, same_item}
 use Rattle.board.proofs.KeptRequests.{few_submissions, accepted_here, submit_step, job_passes}
-use Rattle.board.proofs.InLine.{ready_same}
-use Rattle.board.proofs.LinesHold.{but_one, known_here, known_noted, room_in_each, lines_added, lines_given, lines_same, room_admits}
+use Rattle.board.proofs.KeptLines.{job_open, passing_same, submitted_queue, submitted_chain}
+use Rattle.board.proofs.LinesHold.{chain_same, room_admits, lines_kept, lines_same, lines_asked}
 use Rattle.board.proofs.board_core.BoardCore.submit.Goals as goal
 
 pub index-place-requires : goal.index-place-requires
@@ -38,8 +37,8 @@ invariant_of-self-in_err-reserve g c =
       omega (arith, c.self.invariant.2, c.in_ok-reserve_entries.ensures.len, c.in_ok-reserve_entries.ensures.capacity),
       omega (arith, s.1, c.self.invariant.3),
       rw c.in_ok-reserve_entries.ensures.items (c.self.invariant.4),
-      lines_same c.self.inside.pipes.items c.give_line.new.self c.args.pipe c.index_mut-place.result.now c.reserve.new.self (lines_given c.self.inside.pipes.items c.self.inside.ready c.give_line.new.self c.args.caller c.self.invariant.5 c.in_ok-give_line.ensures) w c.index_mut-place.ensures.value (serve_same c.reserve.new.self.stage c.index_mut-place.result.now.stage c.in_err-reserve.ensures.same.stage) (room_admits c.index_mut-place.result.now c.reserve.new.self c.in_err-reserve.ensures.same),
-      ready_same HasRequest c.self.inside.pipes.items c.self.inside.passing c.args.pipe c.index_mut-place.result.now c.reserve.new.self c.self.invariant.6 w c.index_mut-place.ensures.value (pass_same c.reserve.new.self.stage c.index_mut-place.result.now.stage c.in_err-reserve.ensures.same.stage),
+      lines_same c.self.inside.pipes.items c.join.new.self c.args.pipe c.index_mut-place.result.now c.reserve.new.self (lines_kept c.self.inside.pipes.items c.self.inside.ready c.join.new.self c.self.invariant.5 c.in_ok-join.ensures.kept) w c.index_mut-place.ensures.value c.in_err-reserve.ensures.same.closed (serve_same c.reserve.new.self.stage c.index_mut-place.result.now.stage c.in_err-reserve.ensures.same.stage) (room_admits c.index_mut-place.result.now c.reserve.new.self c.in_err-reserve.ensures.same),
+      passing_same c.self.inside.pipes.items c.self.inside.passing c.args.pipe c.index_mut-place.result.now c.reserve.new.self c.self.invariant.6 w c.index_mut-place.ensures.value c.in_err-reserve.ensures.same.closed (chain_same c.reserve.new.self.stage c.index_mut-place.result.now.stage c.in_err-reserve.ensures.same.stage) (pass_same c.reserve.new.self.stage c.index_mut-place.result.now.stage c.in_err-reserve.ensures.same.stage),
     )
 
 pub invariant_of-self-in_err-spend : goal.invariant_of-self-in_err-spend
@@ -52,8 +51,8 @@ invariant_of-self-in_err-spend g c =
       omega (arith, c.self.invariant.2, c.in_ok-reserve_entries.ensures.len, c.in_ok-reserve_entries.ensures.capacity),
       omega (arith, s.1, c.self.invariant.3),
       rw c.in_ok-reserve_entries.ensures.items (λ q. c.in_err-spend.ensures.err q ∙ c.self.invariant.4 q),
-      lines_same c.self.inside.pipes.items c.give_line.new.self c.args.pipe c.index_mut-place.result.now c.reserve.new.self (lines_given c.self.inside.pipes.items c.self.inside.ready c.give_line.new.self c.args.caller c.self.invariant.5 c.in_ok-give_line.ensures) w c.index_mut-place.ensures.value (serve_same c.reserve.new.self.stage c.index_mut-place.result.now.stage c.in_ok-reserve.ensures.same.stage) (room_admits c.index_mut-place.result.now c.reserve.new.self c.in_ok-reserve.ensures.same),
-      ready_same HasRequest c.self.inside.pipes.items c.self.inside.passing c.args.pipe c.index_mut-place.result.now c.reserve.new.self c.self.invariant.6 w c.index_mut-place.ensures.value (pass_same c.reserve.new.self.stage c.index_mut-place.result.now.stage c.in_ok-reserve.ensures.same.stage),
+      lines_same c.self.inside.pipes.items c.join.new.self c.args.pipe c.index_mut-place.result.now c.reserve.new.self (lines_kept c.self.inside.pipes.items c.self.inside.ready c.join.new.self c.self.invariant.5 c.in_ok-join.ensures.kept) w c.index_mut-place.ensures.value c.in_ok-reserve.ensures.same.closed (serve_same c.reserve.new.self.stage c.index_mut-place.result.now.stage c.in_ok-reserve.ensures.same.stage) (room_admits c.index_mut-place.result.now c.reserve.new.self c.in_ok-reserve.ensures.same),
+      passing_same c.self.inside.pipes.items c.self.inside.passing c.args.pipe c.index_mut-place.result.now c.reserve.new.self c.self.invariant.6 w c.index_mut-place.ensures.value c.in_ok-reserve.ensures.same.closed (chain_same c.reserve.new.self.stage c.index_mut-place.result.now.stage c.in_ok-reserve.ensures.same.stage) (pass_same c.reserve.new.self.stage c.index_mut-place.result.now.stage c.in_ok-reserve.ensures.same.stage),
     )
 
 pub submit-number-requires-clause-pad : goal.submit-number-requires-clause-pad
@@ -68,12 +67,6 @@ submit-number-requires-clause-few g c =
     let w = within_board g.W.Work.asked g.W.Work.meaning c.self.inside.pipes.items c.self.inside.log.items c.args.pipe c.self.invariant.0 (open_here is_pad (entries_of c.args.pipe c.self.inside.log.items) open_.0) in
     let a = accepted_here g.W.Work.asked g.W.Work.meaning c.self.inside.pipes.items c.self.inside.log.items c.args.pipe c.index_mut-place.result.now c.self.invariant.0 w c.index_mut-place.ensures.value c.reserve.new.self c.in_ok-reserve.ensures.same in
     omega (arith, a, few_submissions c.args.pipe c.self.inside.log.items, c.self.inside.log.ok.0, c.self.inside.log.ok.1, c.self.inside.log.small)
-
-pub add-requires : goal.add-requires
-add-requires g c =
-    let open_ : IsOpenPad (entries_of c.args.pipe c.self.inside.log.items) = subst (λ h. IsOpenPad (entries_of c.args.pipe h)) (sym c.self.view_is) c.requires.pipe in
-    let w = within_board g.W.Work.asked g.W.Work.meaning c.self.inside.pipes.items c.self.inside.log.items c.args.pipe c.self.invariant.0 (open_here is_pad (entries_of c.args.pipe c.self.inside.log.items) open_.0) in
-    room_in_each c.self.inside.pipes.items c.give_line.new.self c.args.pipe (but_one c.self.inside.pipes.items c.give_line.new.self c.args.pipe (lines_given c.self.inside.pipes.items c.self.inside.ready c.give_line.new.self c.args.caller c.self.invariant.5 c.in_ok-give_line.ensures)) w
 
 pub invariant_of-self-2 : goal.invariant_of-self-2
 invariant_of-self-2 g c =
@@ -93,8 +86,8 @@ invariant_of-self-2 g c =
       omega (arith, c.push_reserved.ensures.len, c.push_reserved.ensures.capacity, c.in_ok-reserve_entries.ensures.ok),
       omega (arith, s.1, c.self.invariant.3),
       rw (c.push_reserved.ensures.items, c.in_ok-reserve_entries.ensures.items) (used_more g.W.Work.weight c.self.inside.used c.spend.new.used c.self.inside.log.items (Submit c.args.caller c.args.pipe c.submit-number.result c.in_ok-ask.field-0.ask) (g.W.Work.asked c.args.job) c.in_ok-ask.field-0.size (ap Some c.in_ok-ask.ensures.ask) c.in_ok-ask.ensures.size c.self.invariant.4 c.in_ok-spend.ensures.ok),
-      lines_added c.self.inside.pipes.items c.give_line.new.self c.add.new.self c.args.pipe c.submit-number.new.self (but_one c.self.inside.pipes.items c.give_line.new.self c.args.pipe (lines_given c.self.inside.pipes.items c.self.inside.ready c.give_line.new.self c.args.caller c.self.invariant.5 c.in_ok-give_line.ensures)) w (known_noted c.give_line.new.self.own c.index_mut-place.result.now c.submit-number.new.self c.args.caller _ noting c.in_ok-give_line.ensures.1 (known_here c.self.inside.pipes.items c.give_line.new.self.own c.args.pipe c.index_mut-place.result.now (lines_given c.self.inside.pipes.items c.self.inside.ready c.give_line.new.self c.args.caller c.self.invariant.5 c.in_ok-give_line.ensures).known w c.index_mut-place.ensures.value)) c.add.ensures,
-      ready_same HasRequest c.self.inside.pipes.items c.self.inside.passing c.args.pipe c.index_mut-place.result.now c.submit-number.new.self c.self.invariant.6 w c.index_mut-place.ensures.value (job_passes c.index_mut-place.result.now.stage c.submit-number.new.self.stage c.args.job e),
+      lines_asked c.self.inside.pipes.items c.join.new.self c.tell.new.self c.args.pipe c.index_mut-place.result.now c.submit-number.new.self c.args.caller true true (lines_kept c.self.inside.pipes.items c.self.inside.ready c.join.new.self c.self.invariant.5 c.in_ok-join.ensures.kept) w c.index_mut-place.ensures.value (λ q. c.in_ok-join.ensures.joined) c.tell.ensures noting (submitted_queue c.index_mut-place.result.now.stage c.submit-number.new.self.stage c.args.job e) (λ m. refl) (job_open g.W.Work.asked g.W.Work.meaning c.self.inside.pipes.items (c.self.inside.log.items ++ Submit c.args.caller c.args.pipe c.submit-number.result c.in_ok-ask.field-0.ask ∷ []) c.args.pipe c.submit-number.new.self s.0 w),
+      passing_same c.self.inside.pipes.items c.self.inside.passing c.args.pipe c.index_mut-place.result.now c.submit-number.new.self c.self.invariant.6 w c.index_mut-place.ensures.value noting.closed (submitted_chain c.index_mut-place.result.now.stage c.submit-number.new.self.stage c.args.job e) (job_passes c.index_mut-place.result.now.stage c.submit-number.new.self.stage c.args.job e),
     )
 
 pub returns-clause-submitted : goal.returns-clause-submitted
@@ -112,3 +105,14 @@ returns-clause-submitted g c =
 
 pub returns-clause-legal : goal.returns-clause-legal
 returns-clause-legal g c = (invariant_of-self-2 g c).0.legal
+
+pub invariant_of-self-in_err-join : goal.invariant_of-self-in_err-join
+invariant_of-self-in_err-join g c = (
+  rw c.in_ok-reserve_entries.ensures.items c.self.invariant.0,
+  rw c.in_ok-reserve_entries.ensures.items c.self.invariant.1,
+  omega (arith, c.self.invariant.2, c.in_ok-reserve_entries.ensures.len, c.in_ok-reserve_entries.ensures.capacity),
+  c.self.invariant.3,
+  rw c.in_ok-reserve_entries.ensures.items c.self.invariant.4,
+  lines_kept c.self.inside.pipes.items c.self.inside.ready c.join.new.self c.self.invariant.5 c.in_err-join.ensures.kept,
+  c.self.invariant.6,
+)

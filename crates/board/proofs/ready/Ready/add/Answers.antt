@@ -1,24 +1,24 @@
-use Rattle.std.proofs.Common.{arith, rules, ◌≡◌, ◌<◌, length, get_or, true, false, sym, subst}
-use Rattle.board.specs.Entries.{has}
-use Rattle.board.proofs.InLine.{line_added, has_added, has_kept, count_less}
+use Rattle.std.proofs.Common.{arith, ◌+◌, length, sym, subst}
+use Rattle.board.specs.Ready.{KeepsPipe, IsMember, IsInLine}
+use Rattle.board.proofs.InLine.{added_keeps, swapped_second, found_place, not_found}
 use Rattle.board.proofs.ready.Ready.add.Goals as goal
 
-pub push_back_reserved-requires : goal.push_back_reserved-requires
-push_back_reserved-requires c =
-    let w : c.args.pipe < length c.self.inside.marks.items = subst (λ r. c.args.pipe < r.pipes) (sym c.self.view_is) c.requires in
-    let u : get_or c.self.inside.marks.items c.args.pipe false ≡ false = search rules in
-    let n = count_less c.self.inside.marks.items c.args.pipe w u in
-    let f = c.self.invariant.0.few in
-    omega (arith, n, f, c.self.invariant.1, c.self.inside.marks.ok.0, c.self.inside.line.ok.0)
+pub returns-then-self-place-clause-kept : goal.returns-then-self-place-clause-kept
+returns-then-self-place-clause-kept c p =
+    subst (λ line. KeepsPipe line (record { members = c.swap_indices.new.self.keys; ready = c.self.inside.ready + 1 }) p) c.self.view_is
+        (rw c.swap_indices.ensures.keys (added_keeps c.self.inside.members.keys c.self.inside.ready c.in-Some.place p c.in-Some.ensures.within c.if-self-place.true))
 
-pub invariant_of-self : goal.invariant_of-self
-invariant_of-self c =
-    let w : c.args.pipe < length c.self.inside.marks.items = subst (λ r. c.args.pipe < r.pipes) (sym c.self.view_is) c.requires in
-    let u : get_or c.self.inside.marks.items c.args.pipe false ≡ false = search rules in
-    (rw c.push_back_reserved.ensures.items (line_added c.self.inside.marks.items c.self.inside.line.items c.args.pipe c.self.invariant.0 w u), search rules)
+pub returns-then-self-place-clause-added : goal.returns-then-self-place-clause-added
+returns-then-self-place-clause-added c m = (
+  c.self.inside.ready,
+  omega arith,
+  rw c.swap_indices.ensures.keys (swapped_second c.self.inside.members.keys c.in-Some.place c.self.inside.ready c.in-Some.ensures.within (omega (arith, c.in-Some.ensures.within, c.if-self-place.true)) c.args.pipe (found_place c.self.inside.members.keys c.args.pipe c.in-Some.place (sym c.in-Some.ensures.index))),
+)
 
-pub returns-then-not-index-clause-added : goal.returns-then-not-index-clause-added
-returns-then-not-index-clause-added c = rw c.push_back_reserved.ensures.items (has_added c.self.inside.line.items c.args.pipe)
+pub returns-else-self-place-clause-added : goal.returns-else-self-place-clause-added
+returns-else-self-place-clause-added c m =
+    subst (λ line. IsInLine line c.args.pipe) c.self.view_is
+        (c.in-Some.place, omega (arith, c.if-self-place.false), found_place c.self.inside.members.keys c.args.pipe c.in-Some.place (sym c.in-Some.ensures.index))
 
-pub returns-then-not-index-clause-kept : goal.returns-then-not-index-clause-kept
-returns-then-not-index-clause-kept c p h = rw c.push_back_reserved.ensures.items (has_kept c.self.inside.line.items c.args.pipe p (subst (λ r. has p r.line ≡ true) (sym c.self.view_is) h))
+pub returns-in_default-clause-added : goal.returns-in_default-clause-added
+returns-in_default-clause-added c m = absurd (subst (λ line. IsMember line c.args.pipe → ⊥) c.self.view_is (λ m. not_found c.self.inside.members.keys c.args.pipe m.0 (sym c.in_default.ensures.found) m.1) m)

@@ -1,21 +1,9 @@
-use Rattle.std.proofs.Common.{arith, rules, ◌<◌, ◌∙◌, ap, sym, subst}
-use Rattle.board.specs.Ready.{IsLine}
-use Rattle.board.proofs.InLine.{line_next, first_within}
+use Rattle.std.proofs.Common.{arith, ◌%◌, sym, subst}
+use Rattle.std.proofs.lemmas.Nat.{mod_below}
+use Rattle.board.specs.Ready.{IsInLine}
 use Rattle.board.proofs.ready.Ready.next.Goals as goal
-
-pub index_mut-requires : goal.index_mut-requires
-index_mut-requires c =
-    let l = subst (λ xs. IsLine c.self.inside.marks.items xs) c.in_ok-pipe.ensures.items c.self.invariant.0 in
-    let w = first_within c.self.inside.marks.items c.in_ok-pipe.pipe c.pop_front.new.self.items l in
-    omega (arith, w, c.self.inside.marks.ok.0)
-
-pub invariant_of-self-2 : goal.invariant_of-self-2
-invariant_of-self-2 c =
-    let l = subst (λ xs. IsLine c.self.inside.marks.items xs) c.in_ok-pipe.ensures.items c.self.invariant.0 in
-    (line_next c.self.inside.marks.items c.in_ok-pipe.pipe c.pop_front.new.self.items l, search rules)
 
 pub returns-clause-next : goal.returns-clause-next
 returns-clause-next c =
-    let l = subst (λ xs. IsLine c.self.inside.marks.items xs) c.in_ok-pipe.ensures.items c.self.invariant.0 in
-    let w = first_within c.self.inside.marks.items c.in_ok-pipe.pipe c.pop_front.new.self.items l in
-    (subst (λ r. c.in_ok-pipe.pipe < r.pipes) c.self.view_is w, ap (λ r. r.line) (sym c.self.view_is) ∙ c.in_ok-pipe.ensures.items)
+    subst (λ line. IsInLine line c.in_ok-pipe.field-0.now) c.self.view_is
+        (c.self.inside.turn % c.self.inside.ready, mod_below c.self.inside.turn c.self.inside.ready (omega (arith, c.if-self-eq0.false)), sym c.in_ok-pipe.ensures.key)

@@ -1,5 +1,0 @@
-use Rattle.std.proofs.Common.{length}
-use Rattle.board.proofs.lines.+add_to_all.Given as goal
-
-abbrev pub decreases-add_to_all : goal.decreases-add_to_all
-decreases-add_to_all l = length l.own.now

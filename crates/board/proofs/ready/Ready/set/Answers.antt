@@ -1,0 +1,8 @@
+use Rattle.board.proofs.ready.Ready.set.Goals as goal
+
+pub returns-then-ready : goal.returns-then-ready
+returns-then-ready c = record {
+  others = λ p n. c.add.ensures.kept p;
+  member = λ m. (c.add.ensures.kept c.args.pipe).0 m;
+  in_line = λ r w m. c.add.ensures.added m;
+}
