@@ -335,7 +335,7 @@ module _ {J O : Type 0} (such ready : Pipeline J O → Type 0) (pipes : List (Pi
       → (new.closed ≡ false → such new → IsMember line p) → (had ≡ true → ready new → such new → IsInLine line p) → (ready new → is ≡ true) → (ready new → new.closed ≡ false) → IsReadyFor such ready (slice_set pipes p new) after
   ready_told line after p new had is r within t member stood says open_ =
       ready_set line after p new r within t.others
-          (λ o s. t.member (member o s), λ m s. t.in_line (says m) (λ h. stood h m s) (member (open_ m) s))
+      (λ o s. t.member (member o s), λ m s. t.in_line (says m) (λ h. stood h m s) (member (open_ m) s))
 
   born_cases : (line after : ReadyLine) (new : Pipeline J O) → IsReadyFor such ready pipes line → KeepsOthers (length pipes) line after → Belongs after (length pipes) new → (q : ℕ) (d : Pipeline J O) → q < length pipes + 1 → (q < length pipes) ⊎ (length pipes ≤ q)
       → Belongs after q (slice_index_or (pipes ++ new ∷ []) q d)
@@ -453,8 +453,8 @@ module _ {J O : Type 0} (pipes : List (Pipeline J O)) where
         queues = ready_told IsQueue HasJob pipes lines.queues after.queues p new had is r.queues within t.0 (λ o s. q.0 (sym n.closed ∙ o) (sym queue ∙ s)) (λ h m s. q.1 (had_job h) (sym queue ∙ s)) says open_;
         own = λ c.
             ready_told (IsFor c) HasJob pipes (line_of c lines.own) (line_of c after.own) p new had is (r.own c) within (t.1 c)
-                (λ o s. asked_member lines.own p pipe new caller c (r.own c) within here n.closed queue joined o s.0 (may c s.1))
-                (λ h m s. asked_stands lines.own p pipe new caller c (r.own c) within here queue stood (had_job h) s.0 (may c s.1)) says open_;
+            (λ o s. asked_member lines.own p pipe new caller c (r.own c) within here n.closed queue joined o s.0 (may c s.1))
+            (λ h m s. asked_stands lines.own p pipe new caller c (r.own c) within here queue stood (had_job h) s.0 (may c s.1)) says open_;
       }
 
   -- a pipeline that was closed, and left all lines
@@ -535,8 +535,8 @@ module _ {J O : Type 0} (pipes : List (Pipeline J O)) where
       → MatchOption found (NoneStands (HasJobFor caller) pipes lines.queues × NoneStands (HasJobFor caller) pipes own.line) (IsOne (HasJobFor caller) pipes) → Finds (HasJobFor caller) pipes found
   found_queue_first lines caller place own found r at here h =
       found_all lines caller found r
-          (subst (λ line. MatchOption found (NoneStands (HasJobFor caller) pipes lines.queues × NoneStands (HasJobFor caller) pipes line) (IsOne (HasJobFor caller) pipes))
-          (ap (λ (o : OwnLine). o.line) here ∙ sym (at.line_is own)) h)
+      (subst (λ line. MatchOption found (NoneStands (HasJobFor caller) pipes lines.queues × NoneStands (HasJobFor caller) pipes line) (IsOne (HasJobFor caller) pipes))
+      (ap (λ (o : OwnLine). o.line) here ∙ sym (at.line_is own)) h)
 
   -- or the other way round
   pub found_own_first : (lines : LinesOf) (caller place : ℕ) (own : OwnLine) (found : Option ℕ) → AreReady pipes lines → IsLineAt caller lines.own place → own ≡ get_or lines.own place own
@@ -556,8 +556,8 @@ module _ {J O : Type 0} (pipes : List (Pipeline J O)) where
     queues = queues_searched caller lines.queues queues r.queues k;
     own = λ c.
         set_made (λ n line after. IsReadyFor (IsFor n) HasJob pipes line → IsReadyFor (IsFor n) HasJob pipes after) (λ n line s. s) lines.own place new own at.within (e ∙ ap (λ (o : OwnLine). o.caller) here)
-            (subst (λ (o : OwnLine). IsReadyFor (IsFor o.caller) HasJob pipes o.line → IsReadyFor (IsFor o.caller) HasJob pipes new.line) here
-            (λ s. subst (λ n. IsReadyFor (IsFor n) HasJob pipes new.line) (sym (mine own at here)) (own_searched caller own.line new.line (subst (λ n. IsReadyFor (IsFor n) HasJob pipes own.line) (mine own at here) s) l))) c (r.own c);
+        (subst (λ (o : OwnLine). IsReadyFor (IsFor o.caller) HasJob pipes o.line → IsReadyFor (IsFor o.caller) HasJob pipes new.line) here
+        (λ s. subst (λ n. IsReadyFor (IsFor n) HasJob pipes new.line) (sym (mine own at here)) (own_searched caller own.line new.line (subst (λ n. IsReadyFor (IsFor n) HasJob pipes own.line) (mine own at here) s) l))) c (r.own c);
   }
     where
       mine : (own : OwnLine) → IsLineAt caller lines.own place → own ≡ get_or lines.own place own → own.caller ≡ caller

@@ -18,8 +18,7 @@ returns-in-Some-clause-kept c =
     let d = c.index_mut.result.now in
     let new : OwnLine = record d { line = c.admit.new.self } in
     let e = c.index_mut.ensures.value in
-    rw (← c.self.view_is)
-    (
+    rw (← c.self.view_is) (
       same_keeps c.self.inside.queues,
       set_made (λ n. Keeps) (λ n line. same_keeps line) c.self.inside.own.items c.in-Some.place new d at.within (ap (λ (o : OwnLine). o.caller) e) (subst (λ (o : OwnLine). Keeps o.line c.admit.new.self) e c.admit.ensures.kept),
     )
