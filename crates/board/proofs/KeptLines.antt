@@ -163,7 +163,7 @@ module _ {J O : Type 0} (pipes : List (Pipeline J O)) (line : ReadyLine) (p : �
   pub passing_told : (after : ReadyLine) (is : Bool) → IsTold p false is line after → new.closed ≡ pipe.closed → is_chain new.stage ≡ is_chain pipe.stage → (HasRequest new → is ≡ true) → (HasRequest new → new.closed ≡ false) → IsReadyFor IsChain HasRequest (slice_set pipes p new) after
   passing_told after is t closed chain says open_ =
       ready_told IsChain HasRequest pipes line after p new false is r within t
-          (λ o s. (member_here IsChain HasRequest pipes line p pipe r within here).0 (sym closed ∙ o) (sym chain ∙ s)) (λ h. cc) says open_
+      (λ o s. (member_here IsChain HasRequest pipes line p pipe r within here).0 (sym closed ∙ o) (sym chain ∙ s)) (λ h. cc) says open_
 
 -- a chain that was closed, and left it
 pub passing_left : {J O : Type 0} (pipes : List (Pipeline J O)) (line after : ReadyLine) (p : ℕ) (new : Pipeline J O) → IsReadyFor IsChain HasRequest pipes line → p < length pipes → KeepsOthers p line after → new.closed ≡ true → (HasRequest new → ⊥) → IsReadyFor IsChain HasRequest (slice_set pipes p new) after

@@ -335,7 +335,7 @@ module _ {J O : Type 0} (such ready : Pipeline J O → Type 0) (pipes : List (Pi
       → (new.closed ≡ false → such new → IsMember line p) → (had ≡ true → ready new → such new → IsInLine line p) → (ready new → is ≡ true) → (ready new → new.closed ≡ false) → IsReadyFor such ready (slice_set pipes p new) after
   ready_told line after p new had is r within t member stood says open_ =
       ready_set line after p new r within t.others
-          (λ o s. t.member (member o s), λ m s. t.in_line (says m) (λ h. stood h m s) (member (open_ m) s))
+      (λ o s. t.member (member o s), λ m s. t.in_line (says m) (λ h. stood h m s) (member (open_ m) s))
 
   born_cases : (line after : ReadyLine) (new : Pipeline J O) → IsReadyFor such ready pipes line → KeepsOthers (length pipes) line after → Belongs after (length pipes) new → (q : ℕ) (d : Pipeline J O) → q < length pipes + 1 → (q < length pipes) ⊎ (length pipes ≤ q)
       → Belongs after q (slice_index_or (pipes ++ new ∷ []) q d)
@@ -438,16 +438,23 @@ module _ {J O : Type 0} (pipes : List (Pipeline J O)) where
   asked_member own p pipe new caller c r within here closed queue joined o s (inl a) = (member_here (IsFor c) HasJob pipes (line_of c own) p pipe r within here).0 (sym closed ∙ o) (sym queue ∙ s, a)
   asked_member own p pipe new caller c r within here closed queue joined o s (inr e) = subst (λ n. IsMember (line_of n own) p) e (joined (sym queue ∙ s))
 
+  asked_stands : (own : List OwnLine) (p : ℕ) (pipe new : Pipeline J O) (caller c : ℕ) → IsReadyFor (IsFor c) HasJob pipes (line_of c own) → p < length pipes → pipe ≡ get_or pipes p pipe → is_queue new.stage ≡ is_queue pipe.stage → (IsNoQueue pipe → HasJob pipe → IsInLine (line_of caller own) p)
+      → HasJob pipe → IsNoQueue new → Admits pipe c ⊎ (caller ≡ c) → IsInLine (line_of c own) p
+  asked_stands own p pipe new caller c r within here queue stood h s (inl a) = (member_here (IsFor c) HasJob pipes (line_of c own) p pipe r within here).1 h (sym queue ∙ s, a)
+  asked_stands own p pipe new caller c r within here queue stood h s (inr e) = subst (λ n. IsInLine (line_of n own) p) e (stood (sym queue ∙ s) h)
+
   -- a pipeline of which a caller who joined its line asked something
-  pub lines_asked : (lines after : LinesOf) (p : ℕ) (pipe new : Pipeline J O) (caller : ℕ) (accepted is : Bool) → AreReady pipes lines → p < length pipes → pipe ≡ get_or pipes p pipe → (IsNoQueue pipe → IsMember (line_of caller lines.own) p) → IsMade (IsTold p false is) lines after
-      → NotesCaller pipe new caller accepted → is_queue new.stage ≡ is_queue pipe.stage → (HasJob new → is ≡ true) → (HasJob new → new.closed ≡ false) → AreReady (slice_set pipes p new) after
-  lines_asked lines after p pipe new caller accepted is r within here joined t n queue says open_ =
+  pub lines_asked : (lines after : LinesOf) (p : ℕ) (pipe new : Pipeline J O) (caller : ℕ) (accepted had is : Bool) → AreReady pipes lines → p < length pipes → pipe ≡ get_or pipes p pipe → (IsNoQueue pipe → IsMember (line_of caller lines.own) p) → (IsNoQueue pipe → HasJob pipe → IsInLine (line_of caller lines.own) p)
+      → IsMade (IsTold p had is) lines after → NotesCaller pipe new caller accepted → is_queue new.stage ≡ is_queue pipe.stage → (had ≡ true → HasJob pipe) → (HasJob new → is ≡ true) → (HasJob new → new.closed ≡ false) → AreReady (slice_set pipes p new) after
+  lines_asked lines after p pipe new caller accepted had is r within here joined stood t n queue had_job says open_ =
       let q = member_here IsQueue HasJob pipes lines.queues p pipe r.queues within here in
+      let may : (c : ℕ) → Admits new c → Admits pipe c ⊎ (caller ≡ c) = λ c a. noted_cases pipe new caller c accepted n queue a (cases_eq c pipe.maker) in
       record {
-        queues = ready_told IsQueue HasJob pipes lines.queues after.queues p new false is r.queues within t.0 (λ o s. q.0 (sym n.closed ∙ o) (sym queue ∙ s)) (λ h. cc) says open_;
+        queues = ready_told IsQueue HasJob pipes lines.queues after.queues p new had is r.queues within t.0 (λ o s. q.0 (sym n.closed ∙ o) (sym queue ∙ s)) (λ h m s. q.1 (had_job h) (sym queue ∙ s)) says open_;
         own = λ c.
-            ready_told (IsFor c) HasJob pipes (line_of c lines.own) (line_of c after.own) p new false is (r.own c) within (t.1 c)
-                (λ o s. asked_member lines.own p pipe new caller c (r.own c) within here n.closed queue joined o s.0 (noted_cases pipe new caller c accepted n queue s.1 (cases_eq c pipe.maker))) (λ h. cc) says open_;
+            ready_told (IsFor c) HasJob pipes (line_of c lines.own) (line_of c after.own) p new had is (r.own c) within (t.1 c)
+            (λ o s. asked_member lines.own p pipe new caller c (r.own c) within here n.closed queue joined o s.0 (may c s.1))
+            (λ h m s. asked_stands lines.own p pipe new caller c (r.own c) within here queue stood (had_job h) s.0 (may c s.1)) says open_;
       }
 
   -- a pipeline that was closed, and left all lines
@@ -528,8 +535,8 @@ module _ {J O : Type 0} (pipes : List (Pipeline J O)) where
       → MatchOption found (NoneStands (HasJobFor caller) pipes lines.queues × NoneStands (HasJobFor caller) pipes own.line) (IsOne (HasJobFor caller) pipes) → Finds (HasJobFor caller) pipes found
   found_queue_first lines caller place own found r at here h =
       found_all lines caller found r
-          (subst (λ line. MatchOption found (NoneStands (HasJobFor caller) pipes lines.queues × NoneStands (HasJobFor caller) pipes line) (IsOne (HasJobFor caller) pipes))
-          (ap (λ (o : OwnLine). o.line) here ∙ sym (at.line_is own)) h)
+      (subst (λ line. MatchOption found (NoneStands (HasJobFor caller) pipes lines.queues × NoneStands (HasJobFor caller) pipes line) (IsOne (HasJobFor caller) pipes))
+      (ap (λ (o : OwnLine). o.line) here ∙ sym (at.line_is own)) h)
 
   -- or the other way round
   pub found_own_first : (lines : LinesOf) (caller place : ℕ) (own : OwnLine) (found : Option ℕ) → AreReady pipes lines → IsLineAt caller lines.own place → own ≡ get_or lines.own place own
@@ -549,8 +556,8 @@ module _ {J O : Type 0} (pipes : List (Pipeline J O)) where
     queues = queues_searched caller lines.queues queues r.queues k;
     own = λ c.
         set_made (λ n line after. IsReadyFor (IsFor n) HasJob pipes line → IsReadyFor (IsFor n) HasJob pipes after) (λ n line s. s) lines.own place new own at.within (e ∙ ap (λ (o : OwnLine). o.caller) here)
-            (subst (λ (o : OwnLine). IsReadyFor (IsFor o.caller) HasJob pipes o.line → IsReadyFor (IsFor o.caller) HasJob pipes new.line) here
-            (λ s. subst (λ n. IsReadyFor (IsFor n) HasJob pipes new.line) (sym (mine own at here)) (own_searched caller own.line new.line (subst (λ n. IsReadyFor (IsFor n) HasJob pipes own.line) (mine own at here) s) l))) c (r.own c);
+        (subst (λ (o : OwnLine). IsReadyFor (IsFor o.caller) HasJob pipes o.line → IsReadyFor (IsFor o.caller) HasJob pipes new.line) here
+        (λ s. subst (λ n. IsReadyFor (IsFor n) HasJob pipes new.line) (sym (mine own at here)) (own_searched caller own.line new.line (subst (λ n. IsReadyFor (IsFor n) HasJob pipes own.line) (mine own at here) s) l))) c (r.own c);
   }
     where
       mine : (own : OwnLine) → IsLineAt caller lines.own place → own ≡ get_or lines.own place own → own.caller ≡ caller

@@ -1,10 +1,10 @@
 //! The lines in which callers find the pipelines whose jobs they may take.
 
-ghost use Rattle.std.specs.Prelude.{◌≡◌, ℕ, false, [], OnOk};
+ghost use Rattle.std.specs.Prelude.{◌≡◌, ℕ, true, false, [], OnOk};
 ghost use Rattle.std.specs.List.{position_from};
 ghost use Rattle.board.specs.declared.pipeline.Pipeline.{Pipeline};
 ghost use Rattle.board.specs.Entries.{IsMasked};
-ghost use Rattle.board.specs.Ready.{IsMember, no_pipelines, HasJobFor, Keeps, KeepsOthers, IsTold, KeepsSuch, Finds, FindsInBoth};
+ghost use Rattle.board.specs.Ready.{IsMember, IsInLine, no_pipelines, HasJob, IsNoQueue, HasJobFor, Keeps, KeepsOthers, IsTold, KeepsSuch, Finds, FindsInBoth};
 ghost use Rattle.board.specs.Lines.{is_line_of, line_of, AreMade, IsMade, Joins, IsReadmitted, AreReady};
 
 use crate::mask::is_masked;
@@ -83,21 +83,23 @@ impl JobLines {
         if new.stage.is_queue() {
             return self.queues.join(pipe);
         }
-        self.join(new.maker, pipe)?;
+        self.join(new.maker, pipe, false)?;
         self.join_workers(new.mask, pipe)
     }
 
-    /// From now on the caller may take from a pad or a chain. Want of memory changes nothing that is seen.
-    pub(crate) fn join(&mut self, caller: u32, pipe: usize) -> Result<(), AllocError>
+    /// From now on the caller may take from a pad or a chain, which has a job or not. Want of memory changes nothing that is
+    /// seen.
+    fn join(&mut self, caller: u32, pipe: usize, has_job: bool) -> Result<(), AllocError>
         ensures kept { IsMade Keeps self.old self.new }
         ensures joined { OnOk result (IsMember (line_of caller self.new.own) pipe) }
+        ensures in_line { OnOk result (has_job ≡ true → IsInLine (line_of caller self.new.own) pipe) }
     {
         if let Some(place) = place_of(&self.own, caller) {
-            return self.own[place].line.join(pipe);
+            return self.own[place].line.admit(pipe, has_job);
         }
         self.own.reserve(1)?;
         let mut line = Ready::new(self.alloc);
-        line.join(pipe)?;
+        line.admit(pipe, has_job)?;
         self.own.push_reserved(OwnLine {
             caller,
             line,
@@ -107,19 +109,20 @@ impl JobLines {
     }
 
     /// From now on the caller may take from the pipeline. From a queue everybody may. Want of memory changes nothing that is seen.
-    pub(crate) fn admit(
+    pub(crate) fn admit<J: Drop, F: Drop>(
         &mut self,
         caller: u32,
         pipe: usize,
-        is_queue: bool,
+        place: &Pipeline<J, F>,
     ) -> Result<(), AllocError>
         ensures kept { IsMade Keeps self.old self.new }
-        ensures joined { OnOk result (is_queue ≡ false → IsMember (line_of caller self.new.own) pipe) }
+        ensures joined { OnOk result (IsNoQueue place.now → IsMember (line_of caller self.new.own) pipe) }
+        ensures in_line { OnOk result (IsNoQueue place.now → HasJob place.now → IsInLine (line_of caller self.new.own) pipe) }
     {
-        if is_queue {
+        if place.stage.is_queue() {
             return Ok(());
         }
-        self.join(caller, pipe)
+        self.join(caller, pipe, place.stage.may_serve())
     }
 
     /// From now on the workers whose bits are set may take from a pad or a chain. Want of memory leaves it in the lines of some.
@@ -139,7 +142,7 @@ impl JobLines {
         ensures joined { OnOk result (IsMasked mask worker → IsMember (line_of worker self.new.own) pipe) }
     {
         if is_masked(mask, worker) {
-            return self.join(worker, pipe);
+            return self.join(worker, pipe, false);
         }
         Ok(())
     }

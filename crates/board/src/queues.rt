@@ -41,10 +41,11 @@ impl<W: Work> BoardCore<W> {
     {
         let Admitted { ask, size } = self.admit(caller, &job)?;
         reserve_entries(&mut self.log, self.owed, 4)?;
+        let place = &self.pipes[pipe as usize];
+        let had_job = place.stage.may_serve();
+        self.ready.admit(caller, pipe as usize, place)?;
         let place = &mut self.pipes[pipe as usize];
         place.reserve()?;
-        self.ready
-            .admit(caller, pipe as usize, place.stage.is_queue())?;
         let accepted = place.stage.accepts(backlog);
         spend(&mut self.used, caller, size, accepted)?;
         let answer = place.enqueue(caller, job, backlog);
@@ -59,7 +60,7 @@ impl<W: Work> BoardCore<W> {
             answer,
         });
         self.owed += more;
-        self.ready.tell(pipe as usize, false, has_job);
+        self.ready.tell(pipe as usize, had_job, has_job);
         self.passing.set(pipe as usize, may_pass);
         Ok(answer)
     }

@@ -1,6 +1,6 @@
 //! Lines of pipelines that may have a job to run, or a request to pass on.
 
-ghost use Rattle.std.specs.Prelude.{◌≡◌, ℕ, ◌<◌, ◌≤◌, false, length, slice_get, Some, OnOk, MatchOption};
+ghost use Rattle.std.specs.Prelude.{◌≡◌, ℕ, ◌<◌, ◌≤◌, true, false, length, slice_get, Some, OnOk, MatchOption};
 ghost use Rattle.board.specs.Ready.{IsMember, IsInLine, no_pipelines, Keeps, KeepsPipe, KeepsOthers, IsTold};
 
 use indexmap::IndexSet;
@@ -46,6 +46,19 @@ impl Ready {
         ensures joined { OnOk result (IsMember self.new pipe) }
     {
         self.members.insert(pipe)?;
+        Ok(())
+    }
+
+    /// From now on the pipeline is a member, and stands in line where it is ready. Want of memory changes nothing.
+    pub(crate) fn admit(&mut self, pipe: usize, ready: bool) -> Result<(), AllocError>
+        ensures kept { Keeps self.old self.new }
+        ensures joined { OnOk result (IsMember self.new pipe) }
+        ensures in_line { OnOk result (ready ≡ true → IsInLine self.new pipe) }
+    {
+        self.join(pipe)?;
+        if ready {
+            self.add(pipe);
+        }
         Ok(())
     }
 

@@ -45,7 +45,9 @@ impl<W: Work> BoardCore<W> {
         }
         let Admitted { ask, size } = self.admit(caller, &job)?;
         reserve_entries(&mut self.log, self.owed, 3)?;
-        self.ready.join(caller, pipe as usize)?;
+        let place = &self.pipes[pipe as usize];
+        let had_job = place.stage.may_serve();
+        self.ready.admit(caller, pipe as usize, place)?;
         let place = &mut self.pipes[pipe as usize];
         place.reserve()?;
         spend(&mut self.used, caller, size, true)?;
@@ -57,7 +59,7 @@ impl<W: Work> BoardCore<W> {
             ask,
         });
         self.owed += 2;
-        self.ready.tell(pipe as usize, false, true);
+        self.ready.tell(pipe as usize, had_job, true);
         Ok(number)
     }
 

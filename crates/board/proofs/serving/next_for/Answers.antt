@@ -9,7 +9,7 @@ returns-then-has_job_at-clause-kept g c = subst (λ line. KeepsSuch (HasJobFor c
 pub loop-k-preserved : goal.loop-k-preserved
 loop-k-preserved g c =
     dropped (HasJobFor c.args.caller) c.args.pipes.now c.args.line.now c.next.new.self c.remove.new.self c.in-Some.k
-        (subst (λ line. KeepsSuch (HasJobFor c.args.caller) c.args.pipes.now c.args.line.now line) (sym c.next.ensures.same) c.loop-k.invariant) c.remove.ensures.others c.remove.ensures.member c.if-has_job_at.ensures
+    (subst (λ line. KeepsSuch (HasJobFor c.args.caller) c.args.pipes.now c.args.line.now line) (sym c.next.ensures.same) c.loop-k.invariant) c.remove.ensures.others c.remove.ensures.member c.if-has_job_at.ensures
 
 pub returns-clause-kept : goal.returns-clause-kept
 returns-clause-kept g c = subst (λ line. KeepsSuch (HasJobFor c.args.caller) c.args.pipes.now c.args.line.now line) (sym c.next.ensures.same) c.loop-k.invariant

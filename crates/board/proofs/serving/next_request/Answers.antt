@@ -9,7 +9,7 @@ returns-then-has_request_at-clause-kept g c = subst (λ line. KeepsSuch HasReque
 pub loop-k-preserved : goal.loop-k-preserved
 loop-k-preserved g c =
     dropped HasRequest c.args.pipes.now c.args.passing.now c.next.new.self c.remove.new.self c.in-Some.k
-        (subst (λ line. KeepsSuch HasRequest c.args.pipes.now c.args.passing.now line) (sym c.next.ensures.same) c.loop-k.invariant) c.remove.ensures.others c.remove.ensures.member c.if-has_request_at.ensures
+    (subst (λ line. KeepsSuch HasRequest c.args.pipes.now c.args.passing.now line) (sym c.next.ensures.same) c.loop-k.invariant) c.remove.ensures.others c.remove.ensures.member c.if-has_request_at.ensures
 
 pub returns-clause-kept : goal.returns-clause-kept
 returns-clause-kept g c = subst (λ line. KeepsSuch HasRequest c.args.pipes.now c.args.passing.now line) (sym c.next.ensures.same) c.loop-k.invariant

@@ -2,15 +2,23 @@ use Rattle.std.proofs.Common.{arith, ◌∷◌, ◌++◌, [], ◌≡◌, sym, �
 use Rattle.board.specs.declared.entry.BoardEntry.TheVariants.{Enq}
 use Rattle.board.specs.Shapes.{has_line}
 use Rattle.board.specs.Entries.{entries_of, verdict}
+use Rattle.board.specs.Ready.{HasJob, IsNoQueue}
 use Rattle.board.specs.Legal.{MaySubmit, IsOpenQueue}
 use Rattle.board.proofs.Kept.{shut-same, within_board}
 use Rattle.board.proofs.KeptRoom.{serve_same, pass_same, notes_same, after_same, answer_same, line_same}
-use Rattle.board.proofs.KeptCalls.{open_here, line_here, room_step}
+use Rattle.board.proofs.KeptCalls.{open_here, line_here, room_step, same_item}
 use Rattle.board.specs.Pipelines.{is_accepted, work_after}
 use Rattle.board.proofs.KeptRequests.{work_same, few_submissions, few_entries, accepts_is, used_answer, accepted_here, enqueue_step}
-use Rattle.board.proofs.KeptLines.{says, says_passing, job_open, request_open, passing_same, passing_told, enqueued_queue, enqueued_chain}
-use Rattle.board.proofs.LinesHold.{queue_same, chain_same, room_admits, lines_kept, lines_same, lines_asked}
+use Rattle.board.proofs.KeptLines.{serves, says, says_passing, job_open, request_open, passing_same, passing_told, enqueued_queue, enqueued_chain}
+use Rattle.board.proofs.LinesHold.{chain_same, room_admits, lines_kept, lines_same, lines_asked}
 use Rattle.board.proofs.board_core.BoardCore.enqueue.Goals as goal
+
+pub index-place-requires : goal.index-place-requires
+index-place-requires g c =
+    let open_ : IsOpenQueue (entries_of c.args.pipe c.self.inside.log.items) = subst (λ h. IsOpenQueue (entries_of c.args.pipe h)) (sym c.self.view_is) c.requires.pipe in
+    let w = within_board g.W.Work.asked g.W.Work.meaning c.self.inside.pipes.items c.self.inside.log.items c.args.pipe c.self.invariant.0 (open_here has_line (entries_of c.args.pipe c.self.inside.log.items) open_.0) in
+    let o = c.self.inside.pipes.ok.0 in
+    omega arith
 
 pub index_mut-place-requires : goal.index_mut-place-requires
 index_mut-place-requires g c =
@@ -29,23 +37,20 @@ invariant_of-self-in_err-reserve g c =
       omega (arith, c.self.invariant.2, c.in_ok-reserve_entries.ensures.len, c.in_ok-reserve_entries.ensures.capacity),
       omega (arith, s.1, c.self.invariant.3),
       rw c.in_ok-reserve_entries.ensures.items (c.self.invariant.4),
-      lines_same c.self.inside.pipes.items c.self.inside.ready c.args.pipe c.index_mut-place.result.now c.reserve.new.self c.self.invariant.5 w c.index_mut-place.ensures.value c.in_err-reserve.ensures.same.closed (serve_same c.reserve.new.self.stage c.index_mut-place.result.now.stage c.in_err-reserve.ensures.same.stage) (room_admits c.index_mut-place.result.now c.reserve.new.self c.in_err-reserve.ensures.same),
+      lines_same c.self.inside.pipes.items c.admit-2.new.self c.args.pipe c.index_mut-place.result.now c.reserve.new.self (lines_kept c.self.inside.pipes.items c.self.inside.ready c.admit-2.new.self c.self.invariant.5 c.in_ok-admit.ensures.kept) w c.index_mut-place.ensures.value c.in_err-reserve.ensures.same.closed (serve_same c.reserve.new.self.stage c.index_mut-place.result.now.stage c.in_err-reserve.ensures.same.stage) (room_admits c.index_mut-place.result.now c.reserve.new.self c.in_err-reserve.ensures.same),
       passing_same c.self.inside.pipes.items c.self.inside.passing c.args.pipe c.index_mut-place.result.now c.reserve.new.self c.self.invariant.6 w c.index_mut-place.ensures.value c.in_err-reserve.ensures.same.closed (chain_same c.reserve.new.self.stage c.index_mut-place.result.now.stage c.in_err-reserve.ensures.same.stage) (pass_same c.reserve.new.self.stage c.index_mut-place.result.now.stage c.in_err-reserve.ensures.same.stage),
     )
 
 pub invariant_of-self-in_err-admit : goal.invariant_of-self-in_err-admit
-invariant_of-self-in_err-admit g c =
-    let open_ : IsOpenQueue (entries_of c.args.pipe c.self.inside.log.items) = subst (λ h. IsOpenQueue (entries_of c.args.pipe h)) (sym c.self.view_is) c.requires.pipe in
-    let w = within_board g.W.Work.asked g.W.Work.meaning c.self.inside.pipes.items c.self.inside.log.items c.args.pipe c.self.invariant.0 (open_here has_line (entries_of c.args.pipe c.self.inside.log.items) open_.0) in
-    let s = room_step g.W.Work.asked g.W.Work.meaning c.self.inside.pipes.items c.self.inside.log.items c.args.pipe c.index_mut-place.result.now c.self.invariant.0 w c.index_mut-place.ensures.value c.reserve.new.self c.in_ok-reserve.ensures.same c.in_ok-reserve.ensures.placed in (
-      rw c.in_ok-reserve_entries.ensures.items s.0,
-      rw c.in_ok-reserve_entries.ensures.items c.self.invariant.1,
-      omega (arith, c.self.invariant.2, c.in_ok-reserve_entries.ensures.len, c.in_ok-reserve_entries.ensures.capacity),
-      omega (arith, s.1, c.self.invariant.3),
-      rw c.in_ok-reserve_entries.ensures.items c.self.invariant.4,
-      lines_same c.self.inside.pipes.items c.admit-2.new.self c.args.pipe c.index_mut-place.result.now c.reserve.new.self (lines_kept c.self.inside.pipes.items c.self.inside.ready c.admit-2.new.self c.self.invariant.5 c.in_err-admit.ensures.kept) w c.index_mut-place.ensures.value c.in_ok-reserve.ensures.same.closed (serve_same c.reserve.new.self.stage c.index_mut-place.result.now.stage c.in_ok-reserve.ensures.same.stage) (room_admits c.index_mut-place.result.now c.reserve.new.self c.in_ok-reserve.ensures.same),
-      passing_same c.self.inside.pipes.items c.self.inside.passing c.args.pipe c.index_mut-place.result.now c.reserve.new.self c.self.invariant.6 w c.index_mut-place.ensures.value c.in_ok-reserve.ensures.same.closed (chain_same c.reserve.new.self.stage c.index_mut-place.result.now.stage c.in_ok-reserve.ensures.same.stage) (pass_same c.reserve.new.self.stage c.index_mut-place.result.now.stage c.in_ok-reserve.ensures.same.stage),
-    )
+invariant_of-self-in_err-admit g c = (
+  rw c.in_ok-reserve_entries.ensures.items c.self.invariant.0,
+  rw c.in_ok-reserve_entries.ensures.items c.self.invariant.1,
+  omega (arith, c.self.invariant.2, c.in_ok-reserve_entries.ensures.len, c.in_ok-reserve_entries.ensures.capacity),
+  c.self.invariant.3,
+  rw c.in_ok-reserve_entries.ensures.items c.self.invariant.4,
+  lines_kept c.self.inside.pipes.items c.self.inside.ready c.admit-2.new.self c.self.invariant.5 c.in_err-admit.ensures.kept,
+  c.self.invariant.6,
+)
 
 pub invariant_of-self-in_err-spend : goal.invariant_of-self-in_err-spend
 invariant_of-self-in_err-spend g c =
@@ -84,6 +89,7 @@ invariant_of-self-2 g c =
     let said = c.enqueue-answer.ensures.answer ∙ answer_same c.reserve.new.self.stage c.index_mut-place.result.now.stage c.args.backlog c.in_ok-reserve.ensures.same.stage in
     let noting = notes_same c.index_mut-place.result.now c.reserve.new.self c.enqueue-answer.new.self c.args.caller _ c.in_ok-reserve.ensures.same c.enqueue-answer.ensures.notes in
     let s = enqueue_step g.W.Work.asked g.W.Work.meaning c.self.inside.pipes.items c.self.inside.log.items c.args.pipe c.index_mut-place.result.now c.self.invariant.0 w c.index_mut-place.ensures.value c.args.caller c.in_ok-ask.field-0.ask c.enqueue-answer.new.self c.args.job c.args.backlog answer c.in_ok-ask.ensures.ask said noting e c.enqueue-answer.ensures.placed may open_ in
+    let item = same_item c.self.inside.pipes.items c.args.pipe c.index-place.result.now c.index_mut-place.result.now w c.index-place.ensures c.index_mut-place.ensures.value in
     let spent = c.accepts-accepted.ensures ∙ (accepts_is c.reserve.new.self.stage c.args.backlog ∙ ap is_accepted (sym c.enqueue-answer.ensures.answer)) in
     let more : c.work_entries-more.result ≡ work_after c.index_mut-place.result.now.stage answer = c.work_entries-more.ensures ∙ work_same c.enqueue-answer.new.self.stage c.index_mut-place.result.now.stage c.args.job answer e in (
       rw (c.push_reserved.ensures.items, c.in_ok-reserve_entries.ensures.items) s.0,
@@ -91,7 +97,7 @@ invariant_of-self-2 g c =
       omega (arith, more, few_entries c.index_mut-place.result.now.stage answer, c.push_reserved.ensures.len, c.push_reserved.ensures.capacity, c.in_ok-reserve_entries.ensures.ok),
       omega (arith, more, s.1, c.self.invariant.3),
       rw (c.push_reserved.ensures.items, c.in_ok-reserve_entries.ensures.items) (used_answer g.W.Work.weight c.self.inside.used c.spend.new.used c.self.inside.log.items c.args.caller c.args.pipe c.in_ok-ask.field-0.ask c.args.backlog answer (g.W.Work.asked c.args.job) c.in_ok-ask.field-0.size c.in_ok-ask.ensures.ask c.in_ok-ask.ensures.size c.self.invariant.4 (rw spent at c.in_ok-spend.ensures.ok)),
-      lines_asked c.self.inside.pipes.items c.admit-2.new.self c.tell.new.self c.args.pipe c.index_mut-place.result.now c.enqueue-answer.new.self c.args.caller _ c.may_serve-has_job.result (lines_kept c.self.inside.pipes.items c.self.inside.ready c.admit-2.new.self c.self.invariant.5 c.in_ok-admit.ensures.kept) w c.index_mut-place.ensures.value (λ q. c.in_ok-admit.ensures.joined (c.is_queue.ensures ∙ (queue_same c.reserve.new.self.stage c.index_mut-place.result.now.stage c.in_ok-reserve.ensures.same.stage ∙ q))) c.tell.ensures noting (enqueued_queue c.index_mut-place.result.now.stage c.enqueue-answer.new.self.stage c.args.job answer e) (says c.enqueue-answer.new.self.stage c.may_serve-has_job.result c.may_serve-has_job.ensures) (job_open g.W.Work.asked g.W.Work.meaning c.self.inside.pipes.items (c.self.inside.log.items ++ Enq c.args.caller c.args.pipe c.in_ok-ask.field-0.ask c.args.backlog answer ∷ []) c.args.pipe c.enqueue-answer.new.self s.0 w),
+      lines_asked c.self.inside.pipes.items c.admit-2.new.self c.tell.new.self c.args.pipe c.index_mut-place.result.now c.enqueue-answer.new.self c.args.caller _ c.may_serve-had_job.result c.may_serve-has_job.result (lines_kept c.self.inside.pipes.items c.self.inside.ready c.admit-2.new.self c.self.invariant.5 c.in_ok-admit.ensures.kept) w c.index_mut-place.ensures.value (λ q. c.in_ok-admit.ensures.joined (subst (λ x. IsNoQueue x) (sym item) q)) (λ q h. c.in_ok-admit.ensures.in_line (subst (λ x. IsNoQueue x) (sym item) q) (subst (λ x. HasJob x) (sym item) h)) c.tell.ensures noting (enqueued_queue c.index_mut-place.result.now.stage c.enqueue-answer.new.self.stage c.args.job answer e) (λ h. subst (λ x. HasJob x) item (serves c.index-place.result.now.stage c.may_serve-had_job.result c.may_serve-had_job.ensures h)) (says c.enqueue-answer.new.self.stage c.may_serve-has_job.result c.may_serve-has_job.ensures) (job_open g.W.Work.asked g.W.Work.meaning c.self.inside.pipes.items (c.self.inside.log.items ++ Enq c.args.caller c.args.pipe c.in_ok-ask.field-0.ask c.args.backlog answer ∷ []) c.args.pipe c.enqueue-answer.new.self s.0 w),
       passing_told c.self.inside.pipes.items c.self.inside.passing c.args.pipe c.index_mut-place.result.now c.enqueue-answer.new.self c.self.invariant.6 w c.index_mut-place.ensures.value c.set.new.self c.may_pass-may_pass.result c.set.ensures noting.closed (enqueued_chain c.index_mut-place.result.now.stage c.enqueue-answer.new.self.stage c.args.job answer e) (says_passing c.enqueue-answer.new.self.stage c.may_pass-may_pass.result c.may_pass-may_pass.ensures) (request_open g.W.Work.asked g.W.Work.meaning c.self.inside.pipes.items (c.self.inside.log.items ++ Enq c.args.caller c.args.pipe c.in_ok-ask.field-0.ask c.args.backlog answer ∷ []) c.args.pipe c.enqueue-answer.new.self s.0 w),
     )
 

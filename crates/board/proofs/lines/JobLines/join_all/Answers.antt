@@ -14,8 +14,8 @@ returns-clause-kept g c = lines_on c.args.self.now c.join-2.new.self c.join_work
 pub returns-clause-joined : goal.returns-clause-joined
 returns-clause-joined g c =
     ok_map c.join_workers.result
-        (λ h. record {
-          queue = λ q. absurd (both_ways c.is_queue.result c.if-is_queue.false (c.is_queue.ensures ∙ q));
-          maker = λ s. (c.join_workers.ensures.kept.1 c.args.new.now.maker c.args.pipe).0 c.in_ok-join.ensures.joined;
-          workers = λ s worker m. h worker m;
-        }) c.join_workers.ensures.joined
+    (λ h. record {
+      queue = λ q. absurd (both_ways c.is_queue.result c.if-is_queue.false (c.is_queue.ensures ∙ q));
+      maker = λ s. (c.join_workers.ensures.kept.1 c.args.new.now.maker c.args.pipe).0 c.in_ok-join.ensures.joined;
+      workers = λ s worker m. h worker m;
+    }) c.join_workers.ensures.joined
