@@ -1,6 +1,6 @@
 -- The members of a line, as they change places.
-use Rattle.std.proofs.Common.{◌≡◌, ◌≢◌, ℕ, zero, suc, ◌+◌, ◌-◌, ◌<◌, ◌≤◌, Bool, Option, Some, None, true, false, List, [], ◌∷◌, ◌++◌, length, refl, sym, ◌∙◌, ap, subst, arith, inl, inr, ◌⊎◌, get_or, cond}
-use Rattle.std.specs.Prelude.{◌==◌, ◌||◌, is_some, nat_eq, slice_get, swap, swap_remove, slice_set, take, position, IfSome}
+use Rattle.std.proofs.Common.{◌≡◌, ◌≢◌, ℕ, suc, ◌+◌, ◌-◌, ◌<◌, ◌≤◌, Bool, Option, Some, None, true, false, List, [], ◌∷◌, ◌++◌, length, refl, sym, ◌∙◌, ap, subst, arith, inl, inr, ◌⊎◌, get_or, cond}
+use Rattle.std.specs.Prelude.{◌||◌, nat_eq, slice_get, swap, swap_remove, slice_set, position, IfSome}
 use Rattle.std.specs.List.{list_any}
 use Rattle.std.proofs.lemmas.Bool.{eqb-true, eq-eqb, cases_eq, cases_lt, both_ways}
 use Rattle.std.proofs.lemmas.Option.{slice_get_within, slice_get_read, get_or_from_slice_get}
@@ -10,7 +10,7 @@ use Rattle.std.proofs.lemmas.List.Quantifiers.{position-Some}
 use Rattle.std.proofs.lemmas.Map.Keys.{any_passes_from_place}
 use Rattle.std.proofs.Math.Seq.{get_or-append_seam}
 use Rattle.indexmap.specs.IndexSet.{insert_key}
-use Rattle.board.specs.Ready.{ReadyLine, IsMember, IsInLine, KeepsPipe}
+use Rattle.board.specs.Ready.{KeepsPipe}
 
 -- a place is read in another list of which it is known
 read : (xs ys : List ℕ) (k j p : ℕ) → slice_get xs k ≡ Some p → j < length ys → get_or ys j p ≡ get_or xs k p → slice_get ys j ≡ Some p

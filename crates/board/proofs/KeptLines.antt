@@ -1,5 +1,5 @@
 -- What the lines are told of a pipeline.
-use Rattle.std.proofs.Common.{◌≡◌, ℕ, ◌<◌, Bool, true, false, List, length, refl, sym, ◌∙◌, ap, subst, arith, get_or, inl, inr, ◌⊎◌}
+use Rattle.std.proofs.Common.{◌≡◌, ℕ, ◌<◌, Bool, true, false, List, length, refl, sym, ◌∙◌, ap, subst, arith, get_or}
 use Rattle.std.specs.Prelude.{slice_set, MatchBool}
 use Rattle.std.proofs.lemmas.List.{get_or-set_same, length-set}
 use Rattle.std.proofs.lemmas.Bool.{both_ways}
@@ -8,11 +8,11 @@ use Rattle.board.specs.declared.entry.BoardEntry.{BoardEntry}
 use Rattle.board.specs.declared.pipeline.Pipeline.{Pipeline}
 use Rattle.board.specs.declared.stage.Stage.{Stage}
 use Rattle.board.specs.declared.stage.Stage.TheVariants as stage
-use Rattle.board.specs.Stages.{is_queue, is_chain, is_pad, without_room, after_entered, after_passed, ended, with_job, without_first, MayServe, MayPass, IsQuiet, PassesNone}
+use Rattle.board.specs.Stages.{is_queue, is_chain, without_room, after_entered, after_passed, ended, with_job, without_first, MayServe, MayPass, IsQuiet, PassesNone}
 use Rattle.board.specs.Pipelines.{with_lists}
 use Rattle.board.specs.Kept.{IsIdle, IsKeptPipe, IsKeptBoard}
 use Rattle.board.specs.Entries.{entries_of}
-use Rattle.board.specs.Ready.{ReadyLine, HasJob, HasRequest, IsChain, IsMember, IsInLine, IsReadyFor, NoneIs, NoneStands, KeepsOthers, KeepsSuch, IsTold}
+use Rattle.board.specs.Ready.{ReadyLine, HasJob, HasRequest, IsChain, IsReadyFor, NoneIs, NoneStands, KeepsOthers, KeepsSuch, IsTold}
 use Rattle.board.proofs.Searching.{not_quiet}
 use Rattle.board.proofs.Kept.{kept_here}
 use Rattle.board.proofs.KeptPassOn.{not_none}

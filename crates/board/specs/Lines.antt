@@ -1,9 +1,9 @@
 -- The lines of a board's callers: one of all queues, for everybody, and one of pads and chains for each caller that may take from any.
-use Rattle.std.specs.Prelude.{◌≡◌, ◌⊎◌, ℕ, ◌<◌, Bool, true, false, ◌==◌, if◌then◌else◌, List, [], ◌∷◌, length, slice_index_or}
+use Rattle.std.specs.Prelude.{ℕ, Bool, ◌==◌, if◌then◌else◌, List, [], ◌∷◌}
 use Rattle.board.specs.declared.pipeline.Pipeline.{Pipeline}
 use Rattle.board.specs.declared.lines.OwnLine.{OwnLine}
 use Rattle.board.specs.Entries.{IsMasked}
-use Rattle.board.specs.Ready.{ReadyLine, IsMember, IsInLine, no_pipelines, HasJob, Admits, IsQueue, IsNoQueue, IsFor, IsReadyFor, Keeps, KeepsOthers, IsTold}
+use Rattle.board.specs.Ready.{ReadyLine, IsMember, IsInLine, no_pipelines, HasJob, Admits, IsQueue, IsNoQueue, IsFor, IsReadyFor, KeepsOthers}
 
 -- the queues' line, and the others, each with its caller
 pub record LinesOf : Type 0 where

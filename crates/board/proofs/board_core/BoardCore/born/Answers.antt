@@ -1,4 +1,4 @@
-use Rattle.std.proofs.Common.{arith, ◌≡◌, length, ◌∙◌, refl, sym, ap, subst, true, false}
+use Rattle.std.proofs.Common.{arith, ◌≡◌, length, ◌∙◌, refl, subst, false}
 use Rattle.board.specs.declared.pipeline.Pipeline.{Pipeline}
 use Rattle.board.specs.declared.entry.BoardEntry.TheVariants.{Born}
 use Rattle.board.specs.Ready.{IsMember, IsChain, HasRequest, KeepsOthers}

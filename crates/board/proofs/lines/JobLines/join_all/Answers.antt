@@ -1,7 +1,6 @@
-use Rattle.std.proofs.Common.{sym, ◌∙◌, subst}
+use Rattle.std.proofs.Common.{◌∙◌}
 use Rattle.std.proofs.lemmas.Bool.{both_ways}
-use Rattle.board.specs.Ready.{Keeps}
-use Rattle.board.specs.Lines.{line_of, IsMade}
+use Rattle.board.specs.Lines.{line_of}
 use Rattle.board.proofs.LinesHold.{same_keeps, lines_on, ok_map}
 use Rattle.board.proofs.lines.JobLines.join_all.Goals as goal
 

@@ -1,4 +1,4 @@
-use Rattle.std.proofs.Common.{arith, ◌+◌, length, sym, subst}
+use Rattle.std.proofs.Common.{arith, ◌+◌, sym, subst}
 use Rattle.board.specs.Ready.{KeepsPipe, IsMember, IsInLine}
 use Rattle.board.proofs.InLine.{added_keeps, swapped_second, found_place, not_found}
 use Rattle.board.proofs.ready.Ready.add.Goals as goal

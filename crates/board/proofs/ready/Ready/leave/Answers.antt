@@ -1,6 +1,6 @@
-use Rattle.std.proofs.Common.{◌≡◌, ◌≤◌, Some, ◌∙◌, ap, sym, subst}
+use Rattle.std.proofs.Common.{◌≡◌, ◌≤◌, Some, sym, subst}
 use Rattle.std.specs.Prelude.{slice_get}
-use Rattle.board.specs.Ready.{ReadyLine, KeepsPipe}
+use Rattle.board.specs.Ready.{KeepsPipe}
 use Rattle.board.proofs.InLine.{found_place, same_number, left_keeps}
 use Rattle.board.proofs.ready.Ready.leave.Goals as goal
 
