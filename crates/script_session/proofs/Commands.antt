@@ -94,15 +94,15 @@ ready {W} {width} registry board d s s' answers answers' is held =
 
 -- ---- lines whose text goes straight into the reply
 
-pub line-replies : {S A : Type 0} {width : ℕ} (result : Result A S) (d : Dialogue) (s s' : State) (text text' : List ℕ) → MatchResult result (λ _. SaysBy width d s s' text text') (λ _. BreaksOff s s' text text')
+pub line-replies : {S A : Type 0} (width : ℕ) (result : Result A S) (d : Dialogue) (s s' : State) (text text' : List ℕ) → MatchResult result (λ _. SaysBy width d s s' text text') (λ _. BreaksOff s s' text text')
     → MatchResult result (λ _. Replies width d s s' text text') (λ _. Stops s s')
-line-replies (Ok done) d s s' text text' says = replies d s s' says.said text text' says.held says.says
-line-replies (Err stop) d s s' text text' breaks = breaks.stops
+line-replies width (Ok done) d s s' text text' says = replies d s s' says.said text text' says.held says.says
+line-replies width (Err stop) d s s' text text' breaks = breaks.stops
 
-pub line-ready : {S A W : Type 0} {width : ℕ} (result : Result A S) (Broken : Type 0) (registry : SharedRegistry) (board : SharedBoard W Ask Finished) (d : Dialogue) (s s' : State) (text text' : List ℕ) → IsReady registry board s
+pub line-ready : {S A W : Type 0} (width : ℕ) (result : Result A S) (Broken : Type 0) (registry : SharedRegistry) (board : SharedBoard W Ask Finished) (d : Dialogue) (s s' : State) (text text' : List ℕ) → IsReady registry board s
     → MatchResult result (λ _. SaysBy width d s s' text text') (λ _. Broken) → OnOk result (IsReady registry board s')
-line-ready (Ok done) Broken registry board d s s' text text' is says = ready registry board d s s' [] says.said is says.held
-line-ready (Err stop) Broken registry board d s s' text text' is breaks = tt
+line-ready width (Ok done) Broken registry board d s s' text text' is says = ready registry board d s s' [] says.said is says.held
+line-ready width (Err stop) Broken registry board d s s' text text' is breaks = tt
 
 pub line-unwritten : {S A : Type 0} (result : Result A S) (Said : Type 0) (s s' : State) (text text' : List ℕ) → MatchResult result (λ _. Said) (λ _. BreaksOff s s' text text') → OnErr result (text' ≡ text)
 line-unwritten (Ok done) Said s s' text text' says = tt
@@ -113,10 +113,10 @@ line-uncalled (Ok done) Said If s s' text text' says = tt
 line-uncalled (Err stop) Said If s s' text text' breaks = λ so. breaks.called
 
 -- the same of a line whose answers are put together
-pub answers-reply : {S A : Type 0} {width : ℕ} (result : Result A S) (d : Dialogue) (s s' : State) (text text' : List ℕ) → MatchResult result (λ _. SaysBy width d s s' text text') (λ _. Stops s s')
+pub answers-reply : {S A : Type 0} (width : ℕ) (result : Result A S) (d : Dialogue) (s s' : State) (text text' : List ℕ) → MatchResult result (λ _. SaysBy width d s s' text text') (λ _. Stops s s')
     → MatchResult result (λ _. Replies width d s s' text text') (λ _. Stops s s')
-answers-reply (Ok done) d s s' text text' says = replies d s s' says.said text text' says.held says.says
-answers-reply (Err stop) d s s' text text' stops = stops
+answers-reply width (Ok done) d s s' text text' says = replies d s s' says.said text text' says.held says.says
+answers-reply width (Err stop) d s s' text text' stops = stops
 
 -- of a line that is such a one
 pub done-on : {S A : Type 0} (result : Result A S) (s s' : State) (n : ℕ) (line given : Line) (text text' : List ℕ) → line ≡ given

@@ -1,20 +1,19 @@
 -- `probe`: all looks are made first, and then each is waited for.
-use Rattle.std.proofs.Common.{◌≡◌, ℕ, suc, ◌<◌, take, get_or, arith, Bool, true, false, ◌&&◌, List, [], ◌∷◌, ◌++◌, length, Option, Some, None, Result, Ok, Err, refl, sym, ap, subst, ◌∙◌, append_assoc, append-nil, inl, inr}
+use Rattle.std.proofs.Common.{◌≡◌, ℕ, suc, ◌<◌, take, get_or, arith, Bool, true, false, ◌&&◌, List, [], ◌∷◌, ◌++◌, length, Option, Some, Result, Ok, Err, refl, sym, ap, subst, ◌∙◌, append_assoc, append-nil, inl, inr}
 use Rattle.std.specs.Prelude.{All, MatchResult, IsFalse, IsErr, ◌+◌}
-use Rattle.std.specs.List.{list_all, flat_map}
+use Rattle.std.specs.List.{list_all}
 use Rattle.std.proofs.lemmas.List.Concat.{flat_map-append}
 use Rattle.std.proofs.Math.Seq.{take-suc}
 use Rattle.std.proofs.lemmas.List.Elements.{All-nil, All-cons, All-append}
 use Rattle.kc_base.specs.declared.error_numbers.Errno.{Errno}
 use Rattle.alg_names.specs.Name.{Tree, spelling}
-use Rattle.alg_registry.specs.declared.entry.Looked.{Looked}
 use Rattle.alg_registry.specs.declared.entry.RegEntry.{RegEntry}
 use Rattle.alg_registry.specs.Legal.{is_worker}
 use Rattle.alg_registry.specs.declared.spec.Spec.{Spec}
 use Rattle.alg_registry.specs.Rows.{caller_of}
 use Rattle.board.specs.declared.entry.BoardEntry.{BoardEntry}
 use Rattle.reply_text.specs.declared.answers.Answer.{Answer}
-use Rattle.shared_registry.specs.Building.{IsLook, WasAnswered, is_building}
+use Rattle.shared_registry.specs.Building.{IsLook, is_building}
 use Rattle.shared_registry.specs.Faithful.{IsFaithful}
 use Rattle.shared_registry.specs.Passes.{IsSound}
 use Rattle.templates.specs.Looking.{Found, Fault, found_in}
@@ -29,14 +28,14 @@ use Rattle.dialogues.specs.Names.{name_read}
 use Rattle.dialogues.specs.Probing.{found_said, looks_up, looks_all, probe}
 use Rattle.dialogues.specs.Questions.{Look}
 use Rattle.dialogues.specs.RegistryCalls.{RegCall, Looks, reg_calls, AllSettled}
-use Rattle.dialogues.specs.Turns.{Turn, broken, asking, turn_of}
+use Rattle.dialogues.specs.Turns.{Turn, turn_of}
 use Rattle.dialogues.specs.Walk.{Walk, Live}
 use Rattle.session_calls.specs.Asking.{AskedBy, SeesMore, IsCaller}
 use Rattle.session_calls.specs.Looking.{Sought, Goes, look_entry, found_result, Settles}
-use Rattle.session_calls.specs.Passes.{RegPass, BoardPass, known, lock_of}
+use Rattle.session_calls.specs.Passes.{RegPass, BoardPass, known}
 use Rattle.session_calls.proofs.Looking.{goes-further, goes-more}
 use Rattle.script_session.specs.Holding.{DoneBy, HoldsBy, Stops}
-use Rattle.script_session.specs.Probing.{Searched, IsRead, AreRead, entry_of, look_entries, MaySettle, LooksFirst, comes_to, IsSaid, AreSaid, SettlesThen}
+use Rattle.script_session.specs.Probing.{Searched, IsRead, AreRead, entry_of, look_entries, MaySettle, LooksFirst, comes_to, AreSaid, SettlesThen}
 use Rattle.script_session.specs.States.{State, Stands, Posted, uses}
 use Rattle.script_session.proofs.Arms.{viewed, sees-same}
 use Rattle.script_session.proofs.Finding.{has-seen-more}

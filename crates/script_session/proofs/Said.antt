@@ -1,5 +1,5 @@
 -- Lines, and the end of input, whose text goes straight into a reply.
-use Rattle.std.proofs.Common.{◌≡◌, ℕ, ◌+◌, ◌<◌, ◌≤◌, Bool, true, false, List, [], ◌∷◌, ◌++◌, length, map, Option, Some, None, Result, Ok, Err, OnOk, refl, sym, ap, subst, ◌∙◌, append-nil, append_assoc, slice_index_or}
+use Rattle.std.proofs.Common.{◌≡◌, ℕ, ◌+◌, ◌<◌, ◌≤◌, Bool, true, false, List, [], ◌∷◌, ◌++◌, length, map, Some, Result, Ok, Err, OnOk, refl, sym, ap, ◌∙◌, append-nil, append_assoc, slice_index_or}
 use Rattle.std.specs.Prelude.{◌==◌, if◌then◌else◌, filter, OnErr, MatchResult}
 use Rattle.std.specs.List.{flat_map}
 use Rattle.std.proofs.Math.ListN.{set}
@@ -9,7 +9,7 @@ use Rattle.kc_base.specs.declared.callback_list.Callback.{Callback}
 use Rattle.kc_base.specs.declared.callback_list.Callback.TheVariants as callback
 use Rattle.board.specs.declared.entry.BoardEntry.{BoardEntry}
 use Rattle.board.specs.Handing.{completions}
-use Rattle.board.specs.Legal.{LegalBoard, is_shut}
+use Rattle.board.specs.Legal.{LegalBoard}
 use Rattle.transforms.specs.declared.ask.Ask.{Ask}
 use Rattle.transforms.specs.declared.request.Finished.{Finished}
 use Rattle.transforms.specs.declared.request.Finished.TheVariants.{Bytes, BadMsg, Invalid}
@@ -17,7 +17,7 @@ use Rattle.reply_text.specs.Answers.{text_of}
 use Rattle.reply_text.specs.declared.answers.Answer.{Answer}
 use Rattle.reply_text.specs.declared.answers.Answer.TheVariants as said
 use Rattle.turn_lock.specs.Turns.{Known}
-use Rattle.dialogues.specs.BoardCalls.{BoardCall, Goes, Collects}
+use Rattle.dialogues.specs.BoardCalls.{Goes, Collects}
 use Rattle.dialogues.specs.Dialogues.{Dialogue, says}
 use Rattle.dialogues.specs.Piping.{polls_in, drains_in, drains_at_end, drain_all, notice_said}
 use Rattle.dialogues.specs.Walk.{Walk, Live, Pipe}

@@ -8,14 +8,14 @@ use Rattle.alg_registry.specs.declared.entry.RegEntry.TheVariants as entry
 use Rattle.alg_registry.specs.Rows.{caller_of}
 use Rattle.reply_text.specs.declared.answers.Answer.{Answer}
 use Rattle.shared_registry.specs.Building.{is_building}
-use Rattle.templates.specs.Looking.{Found, Fault, found_in}
-use Rattle.turn_lock.specs.Turns.{of, Has}
+use Rattle.templates.specs.Looking.{Found, found_in}
+use Rattle.turn_lock.specs.Turns.{of}
 use Rattle.dialogues.specs.InTurn.{is_look}
 use Rattle.dialogues.specs.References.{got, given}
 use Rattle.dialogues.specs.RegistryCalls.{RegCall, Looks, reg_call_of, reg_calls_from, prepend, AllSettled}
-use Rattle.session_calls.specs.Looking.{Sought, look_entry}
+use Rattle.session_calls.specs.Looking.{Sought}
 use Rattle.session_calls.proofs.Asking.{own}
-use Rattle.script_session.specs.Probing.{Searched, IsRead, AreRead, entry_of, look_entries, comes_to, IsSaid, AreSaid}
+use Rattle.script_session.specs.Probing.{Searched, IsRead, AreRead, entry_of, look_entries, comes_to, AreSaid}
 
 -- ---- the calls that searches are
 

@@ -1,5 +1,5 @@
 -- A `probe` as it is made: first a look for each of its names that is one, and then what these come to.
-use Rattle.std.specs.Prelude.{◌≡◌, ℕ, Bool, true, List, [], ◌∷◌, ◌++◌, Option, Some, Result, Ok, Err, All, ⊤}
+use Rattle.std.specs.Prelude.{◌≡◌, ℕ, true, List, [], ◌∷◌, Option, Some, Result, Ok, Err, All, ⊤}
 use Rattle.std.specs.List.{list_all, flat_map}
 use Rattle.kc_base.specs.declared.error_numbers.Errno.{Errno}
 use Rattle.alg_names.specs.Name.{Tree}

@@ -1,4 +1,4 @@
-use Rattle.std.proofs.Common.{◌≡◌, ◌+◌, ◌++◌, ap, sym, refl, ◌∙◌, map, length, arith}
+use Rattle.std.proofs.Common.{◌++◌, ap, sym, refl, ◌∙◌, map, length, arith}
 use Rattle.std.specs.Prelude.{sum_by}
 use Rattle.std.specs.List.{flat_map}
 use Rattle.board.specs.Allowance.{accepted_by}
@@ -11,7 +11,7 @@ use Rattle.script_session.specs.Ending.{end_said}
 use Rattle.script_session.specs.Saying.{callback_room}
 use Rattle.script_session.specs.Telling.{callback_said}
 use Rattle.script_session.proofs.Arms.{sees-same, kept-sees}
-use Rattle.script_session.proofs.Ended.{stays-put, paid-last}
+use Rattle.script_session.proofs.Ended.{stays-put}
 use Rattle.script_session.proofs.Leading.{drains-none}
 use Rattle.script_session.proofs.Moving.{fails}
 use Rattle.script_session.proofs.Piped.{from-empty}
@@ -44,7 +44,7 @@ pub put_callbacks-requires : goal.put_callbacks-requires
 put_callbacks-requires g c =
     let d = c.in_ok-drain.ensures.drained in
     let are = c.as_slice-2.ensures ∙ from-empty c.new-into.result _ _ c.new-into.ensures d.1 in
-    let room = room-enough c.count.result c.args.bytes c.len-more.result c.collected_room.result c.reserve.new.self.spare (length c.in-Some.pipe.now.lines) (accepted_by (known c.args.caller.now).number (known c.args.caller.now).seen) d.0 c.collected_room.ensures c.in_ok-reserve.ensures.most c.in_ok-reserve.ensures.room
+    let room = room-enough c.count.result c.args.bytes (length c.label-more.result.now) c.collected_room.result c.reserve.new.self.spare (length c.in-Some.pipe.now.lines) (accepted_by (known c.args.caller.now).number (known c.args.caller.now).seen) d.0 c.collected_room.ensures c.in_ok-reserve.ensures.most c.in_ok-reserve.ensures.room
     (c.count.ensures ∙ ap (λ (p : Pipe). length p.lines) c.pipe-2.view_is) c.requires.bytes d.4 in
     omega (arith, room, ap (sum_by callback_room) are)
 
@@ -52,9 +52,9 @@ pub put_end-requires : goal.put_end-requires
 put_end-requires g c =
     let d = c.in_ok-drain.ensures.drained in
     let are = c.as_slice-2.ensures ∙ from-empty c.new-into.result _ _ c.new-into.ensures d.1 in
-    let room = room-enough c.count.result c.args.bytes c.len-more.result c.collected_room.result c.reserve.new.self.spare (length c.in-Some.pipe.now.lines) (accepted_by (known c.args.caller.now).number (known c.args.caller.now).seen) d.0 c.collected_room.ensures c.in_ok-reserve.ensures.most c.in_ok-reserve.ensures.room
+    let room = room-enough c.count.result c.args.bytes (length c.label-more.result.now) c.collected_room.result c.reserve.new.self.spare (length c.in-Some.pipe.now.lines) (accepted_by (known c.args.caller.now).number (known c.args.caller.now).seen) d.0 c.collected_room.ensures c.in_ok-reserve.ensures.most c.in_ok-reserve.ensures.room
     (c.count.ensures ∙ ap (λ (p : Pipe). length p.lines) c.pipe-2.view_is) c.requires.bytes d.4 in
-    omega (arith, room, c.put_callbacks.ensures.left, ap (sum_by callback_room) are, c.len-more.ensures, ap length c.label.ensures, ap length c.label-2.ensures)
+    omega (arith, room, c.put_callbacks.ensures.left, ap (sum_by callback_room) are, ap length c.label-more.ensures, ap length c.label.ensures)
 
 pub returns-clause-moved : goal.returns-clause-moved
 returns-clause-moved g c =
@@ -70,7 +70,7 @@ returns-clause-moved g c =
     (c.put_callbacks.ensures.text
     ∙ (ap (λ ls. a ++ flat_map text_of (map (callback_said ls) c.as_slice-2.result.now)) (ap (λ (p : Pipe). p.lines) c.pipe-2.view_is)
     ∙ ap (λ cs. a ++ flat_map text_of (map (callback_said pipe.lines) cs)) (c.as_slice-2.ensures ∙ from-empty c.new-into.result _ _ c.new-into.ensures d.1)))
-    (c.put_end.ensures ∙ ap (λ l. b ++ flat_map text_of (end_said l count)) c.label-2.ensures)
+    (c.put_end.ensures ∙ ap (λ l. b ++ flat_map text_of (end_said l count)) c.label.ensures)
 
 pub returns-clause-told : goal.returns-clause-told
 returns-clause-told g c =
@@ -78,7 +78,7 @@ returns-clause-told g c =
     let pipe = c.in-Some.pipe.now in
     let count = c.count_completions-count.result in
     let a = c.reserve.new.self.text in
-    told-last (known c.args.caller.now) (known c.drain.new.self) pipe c.label-2.result.now count d.0 c.args.reply.now.text a c.put_callbacks.new.reply.text c.put_end.new.reply.text d.2
+    told-last (known c.args.caller.now) (known c.drain.new.self) pipe c.label.result.now count d.0 c.args.reply.now.text a c.put_callbacks.new.reply.text c.put_end.new.reply.text d.2
     c.reserve.ensures.text
     (c.put_callbacks.ensures.text
     ∙ (ap (λ ls. a ++ flat_map text_of (map (callback_said ls) c.as_slice-2.result.now)) (ap (λ (p : Pipe). p.lines) c.pipe-2.view_is)

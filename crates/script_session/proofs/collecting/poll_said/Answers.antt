@@ -1,4 +1,4 @@
-use Rattle.std.proofs.Common.{ap, sym, refl, ◌∙◌, ◌+◌, ◌≡◌, ◌++◌, map, length, arith}
+use Rattle.std.proofs.Common.{ap, sym, ◌∙◌, ◌++◌, map, length, arith}
 use Rattle.std.specs.Prelude.{sum_by}
 use Rattle.std.specs.List.{flat_map}
 use Rattle.board.specs.Allowance.{accepted_by}

@@ -1,4 +1,4 @@
-use Rattle.std.proofs.Common.{rules, arith, append-nil}
+use Rattle.std.proofs.Common.{rules, arith}
 use Rattle.script_session.proofs.Rooms.{end-length, flat-one}
 use Rattle.reply_text.specs.declared.answers.Answer.TheVariants.{End}
 use Rattle.script_session.proofs.collecting.put_end.Goals as goal

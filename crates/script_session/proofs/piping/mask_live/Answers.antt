@@ -1,10 +1,10 @@
-use Rattle.std.proofs.Common.{◌≡◌, ◌<◌, ap, sym, subst, ◌∙◌, true, false}
+use Rattle.std.proofs.Common.{◌≡◌, ◌<◌, ap, sym, subst, ◌∙◌}
 use Rattle.std.specs.Prelude.{is_some, ◌^◌, ◌==◌}
 use Rattle.board.specs.Entries.{entries_of, birth}
 use Rattle.board.specs.Shapes.{width_born}
-use Rattle.dialogues.specs.Walk.{Live, Pipe}
+use Rattle.dialogues.specs.Walk.{Pipe}
 use Rattle.session_calls.specs.Passes.{known}
-use Rattle.session_calls.specs.Pipelines.{IsPad, KnowsPipe}
+use Rattle.session_calls.specs.Pipelines.{KnowsPipe}
 use Rattle.script_session.specs.States.{HasPipe}
 use Rattle.script_session.proofs.Arms.{or-stops, sees-same}
 use Rattle.script_session.proofs.Piped.{says-for, pad-none, pad-queue, pad-of, mask-holds, manned-live}

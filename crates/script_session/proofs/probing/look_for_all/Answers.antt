@@ -1,6 +1,4 @@
-use Rattle.std.proofs.Common.{◌≡◌, ◌∙◌, ◌+◌, sym, ap, subst, take, List, ℕ, [], ◌∷◌, ◌++◌}
-use Rattle.std.specs.Prelude.{IsFalse}
-use Rattle.alg_registry.specs.Legal.{is_worker}
+use Rattle.std.proofs.Common.{◌∙◌, ◌+◌, sym, subst, take, List, ℕ, [], ◌∷◌, ◌++◌}
 use Rattle.script_session.specs.Probing.{Searched, LooksFirst}
 use Rattle.script_session.proofs.Probed.{LooksFor, stopped, take-more, seen-then, looks-begin, looks-more, looks-seen, look-seen}
 use Rattle.script_session.proofs.probing.look_for_all.Goals as goal

@@ -1,4 +1,4 @@
-use Rattle.std.proofs.Common.{◌≡◌, ◌∙◌, sym, ap, subst, take, List, [], ◌∷◌, ◌++◌, append-nil, append_assoc}
+use Rattle.std.proofs.Common.{◌∙◌, sym, ap, subst, take, List, [], ◌∷◌, ◌++◌, append-nil, append_assoc}
 use Rattle.session_calls.specs.Passes.{known}
 use Rattle.script_session.specs.Probing.{Searched, MaySettle, SettlesThen}
 use Rattle.script_session.proofs.Probed.{stopped, take-more, seen-then, settles-begin, settles-more, settles-seen, may-still}

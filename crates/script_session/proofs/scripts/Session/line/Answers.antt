@@ -1,18 +1,19 @@
-use Rattle.std.proofs.Common.{◌∙◌, ap}
+use Rattle.std.proofs.Common.{◌∙◌, ap, sym, rules}
 use Rattle.dialogues.specs.Piping.{poll, drain}
 use Rattle.script_text.specs.declared.commands.Command.TheVariants as command
 use Rattle.script_text.specs.declared.commands.Line.TheVariants as line
 use Rattle.script_session.proofs.Commands.{done-on, line-replies, line-ready, line-unwritten, line-uncalled, answers-reply}
+use Rattle.script_session.proofs.scripts.Session.line.Goals.{in_default-via-in-Cmd+in-Aes-1, in_default-via-in-Nothing-1}
 use Rattle.script_session.proofs.scripts.Session.line.Goals as goal
 
 pub returns-in-Cmd-Poll-clause-done : goal.returns-in-Cmd-Poll-clause-done
 returns-in-Cmd-Poll-clause-done g c =
     let s = c.args.self.now in
     done-on c.poll_into.result s c.poll_into.new.self c.args.number c.args.line (line.Cmd (command.Poll c.in-Cmd-Poll.label)) _ _ (c.in-Cmd-Poll.is ∙ ap (λ x. line.Cmd x) c.in-Cmd-Poll.field-0-is)
-    (line-replies c.poll_into.result (poll s.walk c.args.number c.in-Cmd-Poll.label) s c.poll_into.new.self _ _ c.poll_into.ensures)
+    (line-replies 1 c.poll_into.result (poll s.walk c.args.number c.in-Cmd-Poll.label) s c.poll_into.new.self _ _ c.poll_into.ensures)
 
 pub returns-in-Cmd-Poll-clause-ready : goal.returns-in-Cmd-Poll-clause-ready
-returns-in-Cmd-Poll-clause-ready g c = line-ready c.poll_into.result _ c.args.registry.now c.args.board.now _ c.args.self.now c.poll_into.new.self _ _ c.requires.ready c.poll_into.ensures
+returns-in-Cmd-Poll-clause-ready g c = line-ready 1 c.poll_into.result _ c.args.registry.now c.args.board.now _ c.args.self.now c.poll_into.new.self _ _ c.requires.ready c.poll_into.ensures
 
 pub returns-in-Cmd-Poll-clause-unwritten : goal.returns-in-Cmd-Poll-clause-unwritten
 returns-in-Cmd-Poll-clause-unwritten g c = line-unwritten c.poll_into.result _ c.args.self.now c.poll_into.new.self _ _ c.poll_into.ensures
@@ -24,10 +25,10 @@ pub returns-in-Cmd-Drain-clause-done : goal.returns-in-Cmd-Drain-clause-done
 returns-in-Cmd-Drain-clause-done g c =
     let s = c.args.self.now in
     done-on c.drain_into.result s c.drain_into.new.self c.args.number c.args.line (line.Cmd (command.Drain c.in-Cmd-Drain.label)) _ _ (c.in-Cmd-Drain.is ∙ ap (λ x. line.Cmd x) c.in-Cmd-Drain.field-0-is)
-    (line-replies c.drain_into.result (drain s.walk c.args.number c.in-Cmd-Drain.label) s c.drain_into.new.self _ _ c.drain_into.ensures)
+    (line-replies 1 c.drain_into.result (drain s.walk c.args.number c.in-Cmd-Drain.label) s c.drain_into.new.self _ _ c.drain_into.ensures)
 
 pub returns-in-Cmd-Drain-clause-ready : goal.returns-in-Cmd-Drain-clause-ready
-returns-in-Cmd-Drain-clause-ready g c = line-ready c.drain_into.result _ c.args.registry.now c.args.board.now _ c.args.self.now c.drain_into.new.self _ _ c.requires.ready c.drain_into.ensures
+returns-in-Cmd-Drain-clause-ready g c = line-ready 1 c.drain_into.result _ c.args.registry.now c.args.board.now _ c.args.self.now c.drain_into.new.self _ _ c.requires.ready c.drain_into.ensures
 
 pub returns-in-Cmd-Drain-clause-unwritten : goal.returns-in-Cmd-Drain-clause-unwritten
 returns-in-Cmd-Drain-clause-unwritten g c = line-unwritten c.drain_into.result _ c.args.self.now c.drain_into.new.self _ _ c.drain_into.ensures
@@ -36,7 +37,13 @@ pub returns-in-Cmd-Drain-clause-uncalled : goal.returns-in-Cmd-Drain-clause-unca
 returns-in-Cmd-Drain-clause-uncalled g c = line-uncalled c.drain_into.result _ _ c.args.self.now c.drain_into.new.self _ _ c.drain_into.ensures
 
 pub returns-in_default-clause-done : goal.returns-in_default-clause-done
-returns-in_default-clause-done g c = answers-reply c.say_line.result _ c.args.self.now c.say_line.new.self _ _ c.say_line.ensures.done
+returns-in_default-clause-done g c =
+    let s = c.args.self.now in
+    let replied = answers-reply _ c.say_line.result _ s c.say_line.new.self _ _ c.say_line.ensures.done in
+    elim c.in_default-1.branch [
+      | in_default-via-in-Cmd+in-Aes-1 w ↦ done-on c.say_line.result s c.say_line.new.self c.args.number c.args.line _ _ _ (search rules) replied
+      | in_default-via-in-Nothing-1 w ↦ done-on c.say_line.result s c.say_line.new.self c.args.number c.args.line _ _ _ (sym w.line-is) replied
+    ]
 
 pub returns-in_default-clause-ready : goal.returns-in_default-clause-ready
-returns-in_default-clause-ready g c = line-ready c.say_line.result _ c.args.registry.now c.args.board.now _ c.args.self.now c.say_line.new.self _ _ c.requires.ready c.say_line.ensures.done
+returns-in_default-clause-ready g c = line-ready _ c.say_line.result _ c.args.registry.now c.args.board.now _ c.args.self.now c.say_line.new.self _ _ c.requires.ready c.say_line.ensures.done

@@ -3,7 +3,6 @@ use Rattle.dialogues.specs.Questions.{Enlist}
 use Rattle.dialogues.specs.Registering.{enlist_said}
 use Rattle.script_session.proofs.KnownDrivers.{known-driver}
 use Rattle.script_session.proofs.Arms.{or-stops, stops-same, answer-holds, asking-arm, stops-arm, register-unknown, register-high, register-asks}
-use Rattle.script_session.proofs.Commands.{command-arm, line-arm, line-holds, nothing-holds, holds-stops, replies, ready}
 use Rattle.script_session.proofs.scripts.Session.register.Goals as goal
 
 pub returns-in_default : goal.returns-in_default
