@@ -115,7 +115,7 @@ impl Segs {
     }
 
     /// Has the walker go over the text from its front: over the whole blocks of 16 bytes that lie in one segment where they
-    /// are, and over a block that lies in several as one piece too. Each segment keeps its length.
+    /// are, and over what lies in several in pieces of eight blocks. Each segment keeps its length.
     pub fn walk<W: Walker>(&mut self, walker: &mut W)
         ensures text { W.makes walker.old self.old.text self.new.text walker.new }
         ensures sizes { self.new.sizes ≡ self.old.sizes }

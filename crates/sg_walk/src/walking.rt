@@ -24,8 +24,8 @@ fn step_within<W: Walker>(alloc: Global, part: &mut Bytes, at: usize, count: usi
     *part = Bytes::from_vec(bytes);
 }
 
-/// Goes over a block that begins at the byte `at` of the segment `i`, and may go on in those behind it; the last one may be
-/// shorter than 16 bytes. How many it has.
+/// Goes over a piece that begins at the byte `at` of the segment `i`, and may go on in those behind it: eight blocks, which a
+/// cipher in lanes seals in the time of one, or what is left of the text. How many bytes it has.
 fn step_across<W: Walker>(
     alloc: Global,
     parts: &mut [Bytes],
@@ -35,18 +35,18 @@ fn step_across<W: Walker>(
 ) -> usize
     requires within { i < length parts.old }
     requires inside { at ≤ length (concat (drop i parts.old)) }
-    ensures count { result ≡ min 16 (length (concat (drop i parts.old)) - at) }
+    ensures count { result ≡ min 128 (length (concat (drop i parts.old)) - at) }
     ensures stepped { Stepped W.makes walker.old parts.old parts.new walker.new (length (concat (take i parts.old)) + at) result }
 {
-    let mut block = [0u8; 16];
-    let count = gather(parts, i, at, &mut block);
-    walker.step(&mut block[..count]);
-    scatter(alloc, parts, i, at, &block[..count]);
+    let mut piece = [0u8; 128];
+    let count = gather(parts, i, at, &mut piece);
+    walker.step(&mut piece[..count]);
+    scatter(alloc, parts, i, at, &piece[..count]);
     count
 }
 
-/// Goes over the segment `i` from its byte `skip` on, with the whole block that ends behind it. How many bytes of those behind
-/// it were gone over.
+/// Goes over the segment `i` from its byte `skip` on: over its whole blocks where they are, and over what is left of it as one
+/// piece with what stands behind it. How many bytes of the segments behind it were gone over.
 fn walk_part<W: Walker>(
     alloc: Global,
     parts: &mut [Bytes],
