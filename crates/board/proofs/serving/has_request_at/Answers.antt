@@ -1,3 +1,4 @@
+use Rattle.std.proofs.Common.{sym}
 use Rattle.board.specs.Places.{places}
 use Rattle.board.specs.Ready.{HasRequest}
 use Rattle.board.proofs.LinesHold.{one_at}
@@ -6,4 +7,4 @@ use Rattle.board.proofs.serving.has_request_at.Goals as goal
 
 pub returns-in-Some : goal.returns-in-Some
 returns-in-Some g c =
-    one_at HasRequest (places c.args.pipes.now) c.args.k c.in-Some.pipe.now c.may_pass.result c.in-Some.ensures.value (passes_or_not c.in-Some.pipe.now.stage c.may_pass.result c.may_pass.ensures)
+    one_at HasRequest (places c.args.pipes.now) c.args.k c.in-Some.pipe.now c.may_pass.result (sym c.in-Some.ensures.value) (passes_or_not c.in-Some.pipe.now.stage c.may_pass.result c.may_pass.ensures)
