@@ -165,7 +165,7 @@ returns-in_err-reserve_entries-clause-unmasked g c =
     let z = c.if-place-eq0.false in
     let some : 0 < mask (entries_of c.args.pipe c.args.self.now) = omega arith in
     let p = err_from_is_err_and c.from_residual-in_err-reserve_entries.result c.from_residual-in_err-reserve_entries.ensures.1 in
-    rw (p.1, p.2) (λ q. cc, λ q. absurd (omega arith))
+    rw (p.1, p.2, c.in_err-reserve_entries.ensures.refused) (λ q. cc, λ q. absurd (omega arith))
 
 pub returns-in_err-admit-clause-unmasked : goal.returns-in_err-admit-clause-unmasked
 returns-in_err-admit-clause-unmasked g c =
