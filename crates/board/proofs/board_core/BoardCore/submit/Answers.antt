@@ -1,6 +1,6 @@
 use Rattle.std.specs.Prelude.{IsSome}
 use Rattle.board.specs.declared.pipeline.Pipeline.{Pipeline}
-use Rattle.std.proofs.Common.{arith, inl, true, ◌∷◌, ◌++◌, [], ◌≡◌, ◌<◌, length, Some, sym, ◌∙◌, ap, subst, refl}
+use Rattle.std.proofs.Common.{arith, inl, true, ◌≡◌, ◌<◌, length, Some, sym, ◌∙◌, ap, subst, refl}
 use Rattle.std.proofs.lemmas.Result.{err_from_is_err_and}
 use Rattle.board.specs.declared.entry.BoardEntry.TheVariants.{Submit}
 use Rattle.board.specs.Entries.{entries_of, submissions, mask}
