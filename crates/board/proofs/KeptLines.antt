@@ -28,6 +28,10 @@ pub says_passing : {J O : Type 0} (s : Stage J O) (b : Bool) → MatchBool b (Ma
 says_passing s true m h = refl
 says_passing s false m h = absurd (not_none s h m)
 
+pub passes_or_not : {J O : Type 0} (s : Stage J O) (b : Bool) → MatchBool b (MayPass s) (PassesNone s) → MatchBool b (MayPass s) (MayPass s → ⊥)
+passes_or_not s true m = m
+passes_or_not s false m = λ h. not_none s h m
+
 -- ---- a stage stays a queue, a chain or a pad
 
 first_chain : {J O : Type 0} (s : Stage J O) (rest : List J) → is_chain (without_first s rest) ≡ is_chain s

@@ -1,6 +1,6 @@
 -- The lines of a board's callers, as pipelines change.
 use Rattle.std.proofs.Common.{◌≡◌, ◌≢◌, ℕ, zero, suc, ◌+◌, ◌<◌, ◌≤◌, Bool, true, false, cond, ◌&&◌, ◌||◌, take, drop, List, [], ◌∷◌, ◌++◌, length, refl, sym, ◌∙◌, ap, subst, arith, inl, inr, ◌⊎◌, get_or}
-use Rattle.std.specs.Prelude.{◌==◌, slice_set, MatchOption, Option, Some, None, Result, Ok, Err, OnOk}
+use Rattle.std.specs.Prelude.{◌==◌, slice_set, MatchBool, MatchOption, Option, Some, None, Result, Ok, Err, OnOk}
 use Rattle.std.specs.List.{position_from}
 use Rattle.std.proofs.lemmas.Bool.{eqb-true, eq-eqb, cases_eq, cases_lt, both_ways}
 use Rattle.std.proofs.lemmas.Grind.{common_steps}
@@ -12,7 +12,7 @@ use Rattle.board.specs.Entries.{has, IsMasked}
 use Rattle.board.specs.Pipelines.{IsSame, NotesCaller}
 use Rattle.board.specs.Stages.{is_queue, is_chain, without_room, holding, collected_from}
 use Rattle.board.specs.Places.{Places, places}
-use Rattle.board.proofs.Kept.{Pipes, IsSet, IsLeft, IsAdded}
+use Rattle.board.proofs.Kept.{Pipes, IsSet, IsLeft, IsAdded, one_here}
 use Rattle.board.specs.Ready.{ReadyLine, IsMember, IsInLine, no_pipelines, HasJob, HasJobFor, Admits, IsQueue, IsNoQueue, IsFor, IsReadyFor, NoneStands, IsOne, Finds, KeepsPipe, Keeps, KeepsOthers, KeepsSuch, IsTold}
 use Rattle.board.specs.Lines.{LinesOf, is_line_of, line_of, AreMade, IsMade, Joins, IsReadmitted, AreReady}
 
@@ -370,6 +370,11 @@ dropped {P} such pipes line next after k kept others member none p = drop_cases 
       λ x at s i. absurd (none x (ap pipes (sym e) ∙ at) s),
     )
     drop_cases (inr n) = (λ m. (others p n).0 ((kept p).0 m), λ x at s i. (others p n).1 ((kept p).1 x at s i))
+
+-- what is known of the pipeline at a number is known of the number
+pub one_at : {P : Type 0} (such : P → Type 0) (pipes : Places P) (k : ℕ) (x : P) (b : Bool) → pipes k ≡ Some x → MatchBool b (such x) (such x → ⊥) → MatchBool b (IsOne such pipes k) ((y : P) → pipes k ≡ Some y → such y → ⊥)
+one_at such pipes k x true at m = (x, at, m)
+one_at such pipes k x false at m = λ y there s. m (one_here such (pipes k) x there s at)
 
 -- where nobody stands in line
 pub none_stands : {P : Type 0} (such : P → Type 0) (pipes : Places P) (line next : ReadyLine) → KeepsSuch such pipes line next → ((p : ℕ) → IsInLine next p → ⊥) → NoneStands such pipes line
