@@ -1,5 +1,5 @@
 -- What each call on one pipeline does to the board.
-use Rattle.std.proofs.Common.{◌≡◌, ◌≢◌, ℕ, ◌+◌, ◌*◌, ◌<◌, ◌≤◌, Bool, true, false, cond, List, [], ◌∷◌, ◌++◌, length, drop, Option, Some, None, is_some, refl, sym, ◌∙◌, ap, subst, arith, inl, inr, ◌⊎◌}
+use Rattle.std.proofs.Common.{◌≡◌, ◌≢◌, ℕ, ◌+◌, ◌*◌, ◌<◌, ◌≤◌, Bool, true, false, List, [], ◌∷◌, ◌++◌, length, drop, Option, Some, None, is_some, refl, sym, ◌∙◌, ap, subst, arith, inl, inr, ◌⊎◌}
 use Rattle.std.specs.Prelude.{◌^◌}
 use Rattle.std.specs.List.{filter_map}
 use Rattle.std.proofs.lemmas.Bool.{eq-eqb, or_right, cases_eq}
@@ -12,7 +12,7 @@ use Rattle.board.specs.declared.pipeline.Pipeline.{Pipeline}
 use Rattle.board.specs.declared.stage.Stage.{Stage}
 use Rattle.board.specs.declared.stage.Stage.TheVariants as stage
 use Rattle.board.specs.Shapes.{is_pad, has_line, is_born, pad_born, line_born, width_born}
-use Rattle.board.specs.Stages.{IsPlaced, without_room, unfinished_of, holding, callbacks_of, collected_from, MayServe, MayPass}
+use Rattle.board.specs.Stages.{IsPlaced, unfinished_of, holding, callbacks_of, collected_from, MayServe, MayPass}
 use Rattle.board.specs.Stages as stages
 use Rattle.board.specs.Pipelines.{IsSame, with_lists}
 use Rattle.board.specs.Places.{Places, places}

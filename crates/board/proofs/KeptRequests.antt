@@ -1,13 +1,13 @@
 -- What a request that is accepted, or refused, does to the board.
-use Rattle.std.proofs.Common.{◌≡◌, ◌≢◌, ℕ, ◌+◌, ◌<◌, ◌≤◌, Bool, true, false, cond, ◌||◌, List, [], ◌∷◌, ◌++◌, length, Some, None, is_some, refl, sym, ◌∙◌, ap, subst, arith, get_or, length-append}
-use Rattle.std.specs.Prelude.{◌==◌, ◌&&◌, nat_lt, slice_set}
+use Rattle.std.proofs.Common.{◌≡◌, ◌≢◌, ℕ, ◌+◌, ◌<◌, ◌≤◌, Bool, true, false, cond, ◌||◌, List, [], ◌∷◌, ◌++◌, length, Some, None, is_some, refl, sym, ◌∙◌, ap, subst, arith, length-append}
+use Rattle.std.specs.Prelude.{◌==◌, ◌&&◌, nat_lt}
 use Rattle.std.specs.Arc.{arc_value}
 use Rattle.std.specs.declared.sync.Arc.{Arc}
 use Rattle.std.specs.declared.alloc.Global.{Global}
 use Rattle.std.specs.declared.collections.BTreeMap.{BTreeMap}
 use Rattle.std.specs.Global.{Global as Memory}
 use Rattle.std.proofs.Math.Bool.{or-false}
-use Rattle.std.proofs.lemmas.Bool.{eq-eqb, both_ways}
+use Rattle.std.proofs.lemmas.Bool.{eq-eqb}
 use Rattle.request_queue.specs.Line.{accepted}
 use Rattle.cryptd.specs.Server.{Server}
 use Rattle.board.specs.declared.allowance.Used.{Used}
@@ -25,8 +25,8 @@ use Rattle.board.specs.Pipelines.{IsSame, NotesCaller, is_accepted, accepts, wor
 use Rattle.board.specs.Entries.{Notice, is_of, entries_of, birth, accepted_in, submissions, dequeued_in, dequeued, passed_on, waiting, verdict, taken_in, finished_in, tells, held_in, mask, has, submitters}
 use Rattle.board.specs.Legal.{IsRight, MaySubmit, IsOpenPad, IsOpenQueue}
 use Rattle.board.specs.Allowance.{used_at, IsKeptUsed}
-use Rattle.board.specs.Places.{Places, places}
-use Rattle.board.specs.Kept.{IsKeptLine, IsKeptStage, IsKeptPipe, IsKeptBoard, shape_of, work_owed, owes, owed_by}
+use Rattle.board.specs.Places.{places}
+use Rattle.board.specs.Kept.{IsKeptLine, IsKeptStage, IsKeptPipe, IsKeptBoard, shape_of, work_owed, owed_by}
 use Rattle.board.proofs.Lists.{filter_map-none}
 use Rattle.board.proofs.Keeping.{IsOrderly, orderly, passed-le}
 use Rattle.board.proofs.Starting.{pad_no_line}

@@ -1,5 +1,5 @@
 use Rattle.std.specs.Prelude.{IsSome}
-use Rattle.std.proofs.Common.{arith, inr, ◌∷◌, ◌++◌, [], ◌≡◌, sym, ◌∙◌, ap, subst, refl}
+use Rattle.std.proofs.Common.{arith, inr, ◌≡◌, sym, ◌∙◌, ap, subst, refl}
 use Rattle.board.specs.declared.entry.BoardEntry.TheVariants.{Enq}
 use Rattle.board.specs.Entries.{entries_of, verdict}
 use Rattle.board.specs.Ready.{HasJob, IsNoQueue}

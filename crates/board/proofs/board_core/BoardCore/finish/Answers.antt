@@ -1,12 +1,12 @@
 use Rattle.std.proofs.Common.{arith, ◌≡◌, ◌∷◌, ◌++◌, [], ap, Some, false, sym, ◌∙◌, subst, refl}
 use Rattle.board.specs.declared.entry.BoardEntry.{BoardEntry}
 use Rattle.board.specs.Stages.{is_queue}
-use Rattle.board.specs.Entries.{entries_of, takers, finished, has, meaning_at, submissions}
+use Rattle.board.specs.Entries.{entries_of, takers, finished, has, meaning_at, submissions, finish_entry}
 use Rattle.board.proofs.KeptLines.{serves, says, passing_same, finished_chain}
 use Rattle.board.proofs.KeptUsed.{used_same}
 use Rattle.board.specs.Places.{places}
 use Rattle.board.proofs.Kept.{shut-same, loan_here, loan_some, set_here}
-use Rattle.board.proofs.KeptFinish.{ended_is_queue, job_ended, ended_made, ended_quiet, finish_may, finish_step, finish_passes, runs_here}
+use Rattle.board.proofs.KeptFinish.{ended_is_queue, job_ended, ended_made, ended_quiet, finish_may, finish_step, finish_entry_is, finish_passes, runs_here}
 use Rattle.board.proofs.LinesHold.{admits_same, lines_told}
 use Rattle.board.proofs.board_core.BoardCore.finish.Goals as goal
 
@@ -76,6 +76,19 @@ invariant_of-self g c =
       lines_told c.self.inside.pipes next c.self.inside.ready c.tell.new.self c.slip.inside.pipe pipe (record pipe { stage = c.finish.new.self }) c.may_serve-had_job.result c.may_serve-has_job.result c.self.invariant.5 set c.tell.ensures (admits_same pipe (record pipe { stage = c.finish.new.self }) refl refl refl (ap is_queue c.finish.ensures ∙ ended_is_queue pipe.stage c.slip.inside.number c.args.out)) (serves pipe.stage c.may_serve-had_job.result c.may_serve-had_job.ensures) (says c.finish.new.self c.may_serve-has_job.result c.may_serve-has_job.ensures),
       passing_same c.self.inside.pipes next c.self.inside.passing c.slip.inside.pipe pipe (record pipe { stage = c.finish.new.self }) c.self.invariant.6 set (finished_chain pipe.stage c.finish.new.self c.slip.inside.number c.args.out c.finish.ensures) (finish_passes pipe.stage c.finish.new.self c.slip.inside.number c.args.out c.finish.ensures),
     )
+
+pub returns-clause-finished : goal.returns-clause-finished
+returns-clause-finished g c =
+    let pipe = c.unwrap-place.result.now in
+    let log = c.self.inside.log.items in
+    let p = c.slip.inside.pipe in
+    let n = c.slip.inside.number in
+    let here = loan_here (places c.self.inside.pipes p) c.get_mut.result c.unwrap-place.result c.get_mut.ensures.value c.unwrap-place.ensures in
+    let made = c.finish_entry-entry.ensures ∙ ended_made pipe.stage c.finish.new.self c.args.caller p n c.args.out (is_queue c.finish.new.self) refl c.finish.ensures in
+    let named = finish_entry_is g.W.Work.asked g.W.Work.meaning log pipe c.args.caller p n (c.self.invariant.0.each p pipe here) in
+    let after = c.push_reserved.new.self.items in
+    let all : after ≡ log ++ finish_entry log c.args.caller p n ∷ [] = c.push_reserved.ensures.items ∙ ap (λ e. log ++ e ∷ []) (made ∙ named) in
+    subst (λ s. after ≡ c.args.self.now ++ finish_entry c.args.self.now c.args.caller s.pipe s.number ∷ []) c.slip.view_is (subst (λ h. after ≡ h ++ finish_entry h c.args.caller p n ∷ []) c.self.view_is all)
 
 pub returns-clause-legal : goal.returns-clause-legal
 returns-clause-legal g c = (invariant_of-self g c).0.legal

@@ -7,7 +7,7 @@ use Rattle.board.proofs.KeptUsed.{used_same}
 use Rattle.board.specs.declared.pipeline.Pipeline.{Pipeline}
 use Rattle.board.specs.Places.{places}
 use Rattle.board.proofs.Kept.{shut-same, loan_here, loan_some, one_here, set_here}
-use Rattle.board.proofs.KeptPassOn.{passed_entry, pass_step, pass_none, few_here, entry_made}
+use Rattle.board.proofs.KeptPassOn.{passed_entry, pass_step, pass_none, few_here, linked_here, entry_made}
 use Rattle.board.proofs.LinesHold.{admits_same, lines_told}
 use Rattle.board.proofs.board_core.BoardCore.pass_on.Goals as goal
 
@@ -30,13 +30,25 @@ invariant_of-self g c = (
 )
 
 pub unwrap-place-requires : goal.unwrap-place-requires
-unwrap-place-requires g c = loan_some c.get_mut.result (places c.self.inside.pipes c.in-Some.pipe) c.in-Some.ensures.next.0 c.get_mut.ensures.value c.in-Some.ensures.next.1.0
+unwrap-place-requires g c = loan_some c.get_mut.result (places c.self.inside.pipes c.in-Some.pipe) c.in-Some.ensures.next.0 c.get_mut.ensures.value c.in-Some.ensures.next.1
+
+pub pass_on-requires-clause-placed : goal.pass_on-requires-clause-placed
+pass_on-requires-clause-placed g c =
+    let pipe = c.unwrap-place.result.now in
+    let here = loan_here (places c.self.inside.pipes c.in-Some.pipe) c.get_mut.result c.unwrap-place.result c.get_mut.ensures.value c.unwrap-place.ensures in
+    (linked_here g.W.Work.asked g.W.Work.meaning c.self.inside.pipes c.self.inside.born c.self.inside.log.items c.in-Some.pipe pipe c.self.invariant.0 here).0
+
+pub pass_on-requires-clause-linked : goal.pass_on-requires-clause-linked
+pass_on-requires-clause-linked g c =
+    let pipe = c.unwrap-place.result.now in
+    let here = loan_here (places c.self.inside.pipes c.in-Some.pipe) c.get_mut.result c.unwrap-place.result c.get_mut.ensures.value c.unwrap-place.ensures in
+    (linked_here g.W.Work.asked g.W.Work.meaning c.self.inside.pipes c.self.inside.born c.self.inside.log.items c.in-Some.pipe pipe c.self.invariant.0 here).1
 
 pub pass_on-requires-clause-few : goal.pass_on-requires-clause-few
 pass_on-requires-clause-few g c =
     let pipe = c.unwrap-place.result.now in
     let here = loan_here (places c.self.inside.pipes c.in-Some.pipe) c.get_mut.result c.unwrap-place.result c.get_mut.ensures.value c.unwrap-place.ensures in
-    let m = one_here (λ (x : Pipeline _ _). HasRequest x) (places c.self.inside.pipes c.in-Some.pipe) pipe c.in-Some.ensures.next.1.0 c.in-Some.ensures.next.1.1 here in
+    let m = one_here (λ (x : Pipeline _ _). HasRequest x) (places c.self.inside.pipes c.in-Some.pipe) pipe c.in-Some.ensures.next.1 c.in-Some.ensures.next.2 here in
     let f = few_here g.W.Work.asked g.W.Work.meaning c.self.inside.pipes c.self.inside.born c.self.inside.log.items c.in-Some.pipe pipe c.self.invariant.0 here m in
     omega (arith, f, c.self.inside.log.ok.0, c.self.inside.log.ok.1, c.self.inside.log.small)
 
@@ -44,7 +56,7 @@ pub push_reserved-requires : goal.push_reserved-requires
 push_reserved-requires g c =
     let pipe = c.unwrap-place.result.now in
     let here = loan_here (places c.self.inside.pipes c.in-Some.pipe) c.get_mut.result c.unwrap-place.result c.get_mut.ensures.value c.unwrap-place.ensures in
-    let m = one_here (λ (x : Pipeline _ _). HasRequest x) (places c.self.inside.pipes c.in-Some.pipe) pipe c.in-Some.ensures.next.1.0 c.in-Some.ensures.next.1.1 here in
+    let m = one_here (λ (x : Pipeline _ _). HasRequest x) (places c.self.inside.pipes c.in-Some.pipe) pipe c.in-Some.ensures.next.1 c.in-Some.ensures.next.2 here in
     let next = c.get_mut.follows.lender (record pipe { stage = c.pass_on.new.self }) in
     let set = set_here c.self.inside.pipes next c.in-Some.pipe pipe (record pipe { stage = c.pass_on.new.self }) here (c.get_mut.follows.holds (record pipe { stage = c.pass_on.new.self })) in
     let s = pass_step g.W.Work.asked g.W.Work.meaning c.self.inside.pipes c.self.inside.born c.self.inside.log.items c.in-Some.pipe c.args.caller pipe c.pass_on.new.self next c.self.invariant.0 set m c.in-Some-pass_on.ensures.2 in
@@ -54,7 +66,7 @@ pub overflow_sub-self : goal.overflow_sub-self
 overflow_sub-self g c =
     let pipe = c.unwrap-place.result.now in
     let here = loan_here (places c.self.inside.pipes c.in-Some.pipe) c.get_mut.result c.unwrap-place.result c.get_mut.ensures.value c.unwrap-place.ensures in
-    let m = one_here (λ (x : Pipeline _ _). HasRequest x) (places c.self.inside.pipes c.in-Some.pipe) pipe c.in-Some.ensures.next.1.0 c.in-Some.ensures.next.1.1 here in
+    let m = one_here (λ (x : Pipeline _ _). HasRequest x) (places c.self.inside.pipes c.in-Some.pipe) pipe c.in-Some.ensures.next.1 c.in-Some.ensures.next.2 here in
     let next = c.get_mut.follows.lender (record pipe { stage = c.pass_on.new.self }) in
     let set = set_here c.self.inside.pipes next c.in-Some.pipe pipe (record pipe { stage = c.pass_on.new.self }) here (c.get_mut.follows.holds (record pipe { stage = c.pass_on.new.self })) in
     let s = pass_step g.W.Work.asked g.W.Work.meaning c.self.inside.pipes c.self.inside.born c.self.inside.log.items c.in-Some.pipe c.args.caller pipe c.pass_on.new.self next c.self.invariant.0 set m c.in-Some-pass_on.ensures.2 in
@@ -64,7 +76,7 @@ pub invariant_of-self-2 : goal.invariant_of-self-2
 invariant_of-self-2 g c =
     let pipe = c.unwrap-place.result.now in
     let here = loan_here (places c.self.inside.pipes c.in-Some.pipe) c.get_mut.result c.unwrap-place.result c.get_mut.ensures.value c.unwrap-place.ensures in
-    let m = one_here (λ (x : Pipeline _ _). HasRequest x) (places c.self.inside.pipes c.in-Some.pipe) pipe c.in-Some.ensures.next.1.0 c.in-Some.ensures.next.1.1 here in
+    let m = one_here (λ (x : Pipeline _ _). HasRequest x) (places c.self.inside.pipes c.in-Some.pipe) pipe c.in-Some.ensures.next.1 c.in-Some.ensures.next.2 here in
     let next = c.get_mut.follows.lender (record pipe { stage = c.pass_on.new.self }) in
     let set = set_here c.self.inside.pipes next c.in-Some.pipe pipe (record pipe { stage = c.pass_on.new.self }) here (c.get_mut.follows.holds (record pipe { stage = c.pass_on.new.self })) in
     let s = pass_step g.W.Work.asked g.W.Work.meaning c.self.inside.pipes c.self.inside.born c.self.inside.log.items c.in-Some.pipe c.args.caller pipe c.pass_on.new.self next c.self.invariant.0 set m c.in-Some-pass_on.ensures.2 in
@@ -83,7 +95,7 @@ pub returns-clause-passed : goal.returns-clause-passed
 returns-clause-passed g c =
     let pipe = c.unwrap-place.result.now in
     let here = loan_here (places c.self.inside.pipes c.in-Some.pipe) c.get_mut.result c.unwrap-place.result c.get_mut.ensures.value c.unwrap-place.ensures in
-    let m = one_here (λ (x : Pipeline _ _). HasRequest x) (places c.self.inside.pipes c.in-Some.pipe) pipe c.in-Some.ensures.next.1.0 c.in-Some.ensures.next.1.1 here in
+    let m = one_here (λ (x : Pipeline _ _). HasRequest x) (places c.self.inside.pipes c.in-Some.pipe) pipe c.in-Some.ensures.next.1 c.in-Some.ensures.next.2 here in
     let next = c.get_mut.follows.lender (record pipe { stage = c.pass_on.new.self }) in
     let set = set_here c.self.inside.pipes next c.in-Some.pipe pipe (record pipe { stage = c.pass_on.new.self }) here (c.get_mut.follows.holds (record pipe { stage = c.pass_on.new.self })) in
     let s = pass_step g.W.Work.asked g.W.Work.meaning c.self.inside.pipes c.self.inside.born c.self.inside.log.items c.in-Some.pipe c.args.caller pipe c.pass_on.new.self next c.self.invariant.0 set m c.in-Some-pass_on.ensures.2 in

@@ -1,8 +1,9 @@
 use Rattle.std.specs.Prelude.{IsSome}
 use Rattle.board.specs.declared.pipeline.Pipeline.{Pipeline}
-use Rattle.std.proofs.Common.{arith, inl, true, ◌∷◌, ◌++◌, [], ◌≡◌, ◌<◌, length, Some, sym, ◌∙◌, ap, subst, refl}
+use Rattle.std.proofs.Common.{arith, inl, true, ◌≡◌, ◌<◌, length, Some, sym, ◌∙◌, ap, subst, refl}
+use Rattle.std.proofs.lemmas.Result.{err_from_is_err_and}
 use Rattle.board.specs.declared.entry.BoardEntry.TheVariants.{Submit}
-use Rattle.board.specs.Entries.{entries_of, submissions}
+use Rattle.board.specs.Entries.{entries_of, submissions, mask}
 use Rattle.board.specs.Ready.{HasJob, IsNoQueue}
 use Rattle.board.specs.Legal.{MaySubmit, IsOpenPad}
 use Rattle.board.proofs.KeptUsed.{used_more}
@@ -10,7 +11,7 @@ use Rattle.board.specs.Places.{places}
 use Rattle.board.proofs.Kept.{shut-same, loan_here, loan_some, set_here}
 use Rattle.board.proofs.KeptRoom.{serve_same, pass_same, notes_same, job_same, is_pad_same}
 use Rattle.board.proofs.KeptCalls.{kept_open, pad_here, room_step, same_item}
-use Rattle.board.proofs.KeptRequests.{few_submissions, accepted_here, submit_step, job_passes}
+use Rattle.board.proofs.KeptRequests.{few_submissions, accepted_here, mask_here, submit_step, job_passes}
 use Rattle.board.proofs.KeptLines.{serves, passing_same, submitted_queue, submitted_chain}
 use Rattle.board.proofs.LinesHold.{chain_same, room_admits, lines_kept, lines_same, lines_asked}
 use Rattle.board.proofs.board_core.BoardCore.submit.Goals as goal
@@ -129,3 +130,70 @@ invariant_of-self-in_err-admit g c = (
   lines_kept c.self.inside.pipes c.self.inside.ready c.admit-2.new.self c.self.invariant.5 c.in_err-admit.ensures.kept,
   c.self.invariant.6,
 )
+
+pub returns-then-place-eq0-clause-unmasked : goal.returns-then-place-eq0-clause-unmasked
+returns-then-place-eq0-clause-unmasked g c =
+    let m : mask (entries_of c.args.pipe c.args.self.now) ≡ c.index-place.result.now.mask = subst (λ h. mask (entries_of c.args.pipe h) ≡ c.index-place.result.now.mask) c.self.view_is (mask_here g.W.Work.asked g.W.Work.meaning c.self.inside.pipes c.self.inside.born c.self.inside.log.items c.args.pipe c.index-place.result.now c.self.invariant.0 c.index-place.ensures) in
+    let z = c.if-place-eq0.true in
+    (λ q. omega arith, λ q. refl)
+
+pub returns-then-place-eq0-clause-refused : goal.returns-then-place-eq0-clause-refused
+returns-then-place-eq0-clause-refused g c =
+    let m : mask (entries_of c.args.pipe c.args.self.now) ≡ c.index-place.result.now.mask = subst (λ h. mask (entries_of c.args.pipe h) ≡ c.index-place.result.now.mask) c.self.view_is (mask_here g.W.Work.asked g.W.Work.meaning c.self.inside.pipes c.self.inside.born c.self.inside.log.items c.args.pipe c.index-place.result.now c.self.invariant.0 c.index-place.ensures) in
+    let z = c.if-place-eq0.true in
+    (λ q. cc, λ q. absurd (let l = q.0 in omega arith))
+
+pub returns-in_err-ask-clause-unmasked : goal.returns-in_err-ask-clause-unmasked
+returns-in_err-ask-clause-unmasked g c =
+    let m : mask (entries_of c.args.pipe c.args.self.now) ≡ c.index-place.result.now.mask = subst (λ h. mask (entries_of c.args.pipe h) ≡ c.index-place.result.now.mask) c.self.view_is (mask_here g.W.Work.asked g.W.Work.meaning c.self.inside.pipes c.self.inside.born c.self.inside.log.items c.args.pipe c.index-place.result.now c.self.invariant.0 c.index-place.ensures) in
+    let z = c.if-place-eq0.false in
+    let some : 0 < mask (entries_of c.args.pipe c.args.self.now) = omega arith in
+    let p = err_from_is_err_and c.from_residual.result c.from_residual.ensures.1 in
+    rw (p.1, p.2) (λ q. absurd (c.in_err-ask.ensures.other q), λ q. absurd (omega arith))
+
+pub returns-in_err-ask-clause-refused : goal.returns-in_err-ask-clause-refused
+returns-in_err-ask-clause-refused g c =
+    let m : mask (entries_of c.args.pipe c.args.self.now) ≡ c.index-place.result.now.mask = subst (λ h. mask (entries_of c.args.pipe h) ≡ c.index-place.result.now.mask) c.self.view_is (mask_here g.W.Work.asked g.W.Work.meaning c.self.inside.pipes c.self.inside.born c.self.inside.log.items c.args.pipe c.index-place.result.now c.self.invariant.0 c.index-place.ensures) in
+    let z = c.if-place-eq0.false in
+    let some : 0 < mask (entries_of c.args.pipe c.args.self.now) = omega arith in
+    let p = err_from_is_err_and c.from_residual.result c.from_residual.ensures.1 in
+    rw (p.1, p.2) (λ q. (some, c.in_err-ask.ensures.refused.0 q), λ q. c.in_err-ask.ensures.refused.1 q.1)
+
+pub returns-in_err-reserve_entries-clause-unmasked : goal.returns-in_err-reserve_entries-clause-unmasked
+returns-in_err-reserve_entries-clause-unmasked g c =
+    let m : mask (entries_of c.args.pipe c.args.self.now) ≡ c.index-place.result.now.mask = subst (λ h. mask (entries_of c.args.pipe h) ≡ c.index-place.result.now.mask) c.self.view_is (mask_here g.W.Work.asked g.W.Work.meaning c.self.inside.pipes c.self.inside.born c.self.inside.log.items c.args.pipe c.index-place.result.now c.self.invariant.0 c.index-place.ensures) in
+    let z = c.if-place-eq0.false in
+    let some : 0 < mask (entries_of c.args.pipe c.args.self.now) = omega arith in
+    let p = err_from_is_err_and c.from_residual-in_err-reserve_entries.result c.from_residual-in_err-reserve_entries.ensures.1 in
+    rw (p.1, p.2, c.in_err-reserve_entries.ensures.refused) (λ q. cc, λ q. absurd (omega arith))
+
+pub returns-in_err-admit-clause-unmasked : goal.returns-in_err-admit-clause-unmasked
+returns-in_err-admit-clause-unmasked g c =
+    let m : mask (entries_of c.args.pipe c.args.self.now) ≡ c.index-place.result.now.mask = subst (λ h. mask (entries_of c.args.pipe h) ≡ c.index-place.result.now.mask) c.self.view_is (mask_here g.W.Work.asked g.W.Work.meaning c.self.inside.pipes c.self.inside.born c.self.inside.log.items c.args.pipe c.index-place.result.now c.self.invariant.0 c.index-place.ensures) in
+    let z = c.if-place-eq0.false in
+    let some : 0 < mask (entries_of c.args.pipe c.args.self.now) = omega arith in
+    let p = err_from_is_err_and c.from_residual-in_err-admit.result c.from_residual-in_err-admit.ensures.1 in
+    rw (p.1, p.2) (λ q. cc, λ q. absurd (omega arith))
+
+pub returns-in_err-reserve-clause-unmasked : goal.returns-in_err-reserve-clause-unmasked
+returns-in_err-reserve-clause-unmasked g c =
+    let m : mask (entries_of c.args.pipe c.args.self.now) ≡ c.index-place.result.now.mask = subst (λ h. mask (entries_of c.args.pipe h) ≡ c.index-place.result.now.mask) c.self.view_is (mask_here g.W.Work.asked g.W.Work.meaning c.self.inside.pipes c.self.inside.born c.self.inside.log.items c.args.pipe c.index-place.result.now c.self.invariant.0 c.index-place.ensures) in
+    let z = c.if-place-eq0.false in
+    let some : 0 < mask (entries_of c.args.pipe c.args.self.now) = omega arith in
+    let p = err_from_is_err_and c.from_residual-in_err-reserve.result c.from_residual-in_err-reserve.ensures.1 in
+    rw (p.1, p.2) (λ q. cc, λ q. absurd (omega arith))
+
+pub returns-in_err-spend-clause-unmasked : goal.returns-in_err-spend-clause-unmasked
+returns-in_err-spend-clause-unmasked g c =
+    let m : mask (entries_of c.args.pipe c.args.self.now) ≡ c.index-place.result.now.mask = subst (λ h. mask (entries_of c.args.pipe h) ≡ c.index-place.result.now.mask) c.self.view_is (mask_here g.W.Work.asked g.W.Work.meaning c.self.inside.pipes c.self.inside.born c.self.inside.log.items c.args.pipe c.index-place.result.now c.self.invariant.0 c.index-place.ensures) in
+    let z = c.if-place-eq0.false in
+    let some : 0 < mask (entries_of c.args.pipe c.args.self.now) = omega arith in
+    let p = err_from_is_err_and c.from_residual-in_err-spend.result c.from_residual-in_err-spend.ensures.1 in
+    rw (p.1, p.2) (λ q. cc, λ q. absurd (omega arith))
+
+pub returns-clause-masked : goal.returns-clause-masked
+returns-clause-masked g c =
+    let m : mask (entries_of c.args.pipe c.args.self.now) ≡ c.index-place.result.now.mask = subst (λ h. mask (entries_of c.args.pipe h) ≡ c.index-place.result.now.mask) c.self.view_is (mask_here g.W.Work.asked g.W.Work.meaning c.self.inside.pipes c.self.inside.born c.self.inside.log.items c.args.pipe c.index-place.result.now c.self.invariant.0 c.index-place.ensures) in
+    let z = c.if-place-eq0.false in
+    let some : 0 < mask (entries_of c.args.pipe c.args.self.now) = omega arith in
+    some

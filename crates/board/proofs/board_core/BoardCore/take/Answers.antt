@@ -13,7 +13,7 @@ use Rattle.board.proofs.LinesHold.{admits_same, lines_told}
 use Rattle.board.proofs.board_core.BoardCore.take.Goals as goal
 
 pub unwrap-place-requires : goal.unwrap-place-requires
-unwrap-place-requires g c = loan_some c.get_mut.result (places c.self.inside.pipes c.in_ok-pipe.pipe) c.in_ok-pipe.ensures.next.0 c.get_mut.ensures.value c.in_ok-pipe.ensures.next.1.0
+unwrap-place-requires g c = loan_some c.get_mut.result (places c.self.inside.pipes c.in_ok-pipe.pipe) c.in_ok-pipe.ensures.next.0 c.get_mut.ensures.value c.in_ok-pipe.ensures.next.1
 
 pub returns-in_err-pipe-clause-taken : goal.returns-in_err-pipe-clause-taken
 returns-in_err-pipe-clause-taken g c = rw c.from_residual.ensures (
@@ -27,7 +27,7 @@ invariant_of-self-2 g c =
     let k = c.self.invariant.0 in
     let pipe = c.unwrap-place.result.now in
     let here = loan_here (places c.self.inside.pipes c.in_ok-pipe.pipe) c.get_mut.result c.unwrap-place.result c.get_mut.ensures.value c.unwrap-place.ensures in
-    let m = one_here (λ (x : Pipeline _ _). HasJob x × Admits x c.args.caller) (places c.self.inside.pipes c.in_ok-pipe.pipe) pipe c.in_ok-pipe.ensures.next.1.0 c.in_ok-pipe.ensures.next.1.1 here in
+    let m = one_here (λ (x : Pipeline _ _). HasJob x × Admits x c.args.caller) (places c.self.inside.pipes c.in_ok-pipe.pipe) pipe c.in_ok-pipe.ensures.next.1 c.in_ok-pipe.ensures.next.2 here in
     let next = c.get_mut.follows.lender (record pipe { stage = c.take.new.self }) in
     let set = set_here c.self.inside.pipes next c.in_ok-pipe.pipe pipe (record pipe { stage = c.take.new.self }) here (c.get_mut.follows.holds (record pipe { stage = c.take.new.self })) in
     let made = c.take_entry-entry.ensures ∙ first_made pipe.stage c.args.caller c.in_ok-pipe.pipe c.in_ok-number.field-0.number c.in_ok-number.field-0.started (is_queue c.take.new.self) (ap is_queue c.in_ok-number.ensures.3 ∙ first_is_queue pipe.stage _) c.in_ok-number.ensures.0 c.in_ok-number.ensures.1 in
@@ -48,7 +48,7 @@ returns-clause-taken g c =
     let k = c.self.invariant.0 in
     let pipe = c.unwrap-place.result.now in
     let here = loan_here (places c.self.inside.pipes c.in_ok-pipe.pipe) c.get_mut.result c.unwrap-place.result c.get_mut.ensures.value c.unwrap-place.ensures in
-    let m = one_here (λ (x : Pipeline _ _). HasJob x × Admits x c.args.caller) (places c.self.inside.pipes c.in_ok-pipe.pipe) pipe c.in_ok-pipe.ensures.next.1.0 c.in_ok-pipe.ensures.next.1.1 here in
+    let m = one_here (λ (x : Pipeline _ _). HasJob x × Admits x c.args.caller) (places c.self.inside.pipes c.in_ok-pipe.pipe) pipe c.in_ok-pipe.ensures.next.1 c.in_ok-pipe.ensures.next.2 here in
     let next = c.get_mut.follows.lender (record pipe { stage = c.take.new.self }) in
     let set = set_here c.self.inside.pipes next c.in_ok-pipe.pipe pipe (record pipe { stage = c.take.new.self }) here (c.get_mut.follows.holds (record pipe { stage = c.take.new.self })) in
     let made = c.take_entry-entry.ensures ∙ first_made pipe.stage c.args.caller c.in_ok-pipe.pipe c.in_ok-number.field-0.number c.in_ok-number.field-0.started (is_queue c.take.new.self) (ap is_queue c.in_ok-number.ensures.3 ∙ first_is_queue pipe.stage _) c.in_ok-number.ensures.0 c.in_ok-number.ensures.1 in
@@ -64,7 +64,7 @@ returns-clause-ready g c =
     let k = c.self.invariant.0 in
     let pipe = c.unwrap-place.result.now in
     let here = loan_here (places c.self.inside.pipes c.in_ok-pipe.pipe) c.get_mut.result c.unwrap-place.result c.get_mut.ensures.value c.unwrap-place.ensures in
-    let m = one_here (λ (x : Pipeline _ _). HasJob x × Admits x c.args.caller) (places c.self.inside.pipes c.in_ok-pipe.pipe) pipe c.in_ok-pipe.ensures.next.1.0 c.in_ok-pipe.ensures.next.1.1 here in
+    let m = one_here (λ (x : Pipeline _ _). HasJob x × Admits x c.args.caller) (places c.self.inside.pipes c.in_ok-pipe.pipe) pipe c.in_ok-pipe.ensures.next.1 c.in_ok-pipe.ensures.next.2 here in
     let next = c.get_mut.follows.lender (record pipe { stage = c.take.new.self }) in
     let set = set_here c.self.inside.pipes next c.in_ok-pipe.pipe pipe (record pipe { stage = c.take.new.self }) here (c.get_mut.follows.holds (record pipe { stage = c.take.new.self })) in
     let made = c.take_entry-entry.ensures ∙ first_made pipe.stage c.args.caller c.in_ok-pipe.pipe c.in_ok-number.field-0.number c.in_ok-number.field-0.started (is_queue c.take.new.self) (ap is_queue c.in_ok-number.ensures.3 ∙ first_is_queue pipe.stage _) c.in_ok-number.ensures.0 c.in_ok-number.ensures.1 in
