@@ -1,5 +1,5 @@
 -- What the lines are told of a pipeline.
-use Rattle.std.proofs.Common.{◌≡◌, ℕ, ◌<◌, Bool, true, false, List, length, refl, sym, ◌∙◌, ap, subst, arith, get_or}
+use Rattle.std.proofs.Common.{◌≡◌, ℕ, Bool, true, false, List, refl, sym, ◌∙◌, ap, subst}
 use Rattle.std.specs.Prelude.{MatchBool}
 use Rattle.board.specs.declared.entry.Entered.{Entered}
 use Rattle.board.specs.declared.pipeline.Pipeline.{Pipeline}
@@ -8,7 +8,7 @@ use Rattle.board.specs.declared.stage.Stage.TheVariants as stage
 use Rattle.board.specs.Stages.{is_queue, is_chain, without_room, after_entered, after_passed, ended, with_job, without_first, MayServe, MayPass, IsQuiet, PassesNone}
 use Rattle.board.specs.Pipelines.{with_lists}
 use Rattle.board.specs.Places.{places}
-use Rattle.board.specs.Ready.{ReadyLine, HasJob, HasRequest, IsChain, IsReadyFor, NoneIs, NoneStands, KeepsSuch, IsTold}
+use Rattle.board.specs.Ready.{ReadyLine, HasRequest, IsChain, IsReadyFor, NoneIs, NoneStands, KeepsSuch, IsTold}
 use Rattle.board.proofs.Searching.{not_quiet}
 use Rattle.board.proofs.Kept.{Pipes, IsSet}
 use Rattle.board.proofs.KeptPassOn.{not_none}

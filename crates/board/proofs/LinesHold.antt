@@ -13,7 +13,7 @@ use Rattle.board.specs.Pipelines.{IsSame, NotesCaller}
 use Rattle.board.specs.Stages.{is_queue, is_chain, without_room, holding, collected_from}
 use Rattle.board.specs.Places.{Places, places}
 use Rattle.board.proofs.Kept.{Pipes, IsSet, IsLeft, IsAdded, one_here}
-use Rattle.board.specs.Ready.{ReadyLine, IsMember, IsInLine, no_pipelines, HasJob, HasJobFor, Admits, IsQueue, IsNoQueue, IsFor, IsReadyFor, NoneStands, IsOne, Finds, KeepsPipe, Keeps, KeepsOthers, KeepsSuch, IsTold}
+use Rattle.board.specs.Ready.{ReadyLine, IsMember, IsInLine, no_pipelines, HasJob, HasJobFor, Admits, IsQueue, IsNoQueue, IsFor, IsReadyFor, NoneStands, IsOne, Finds, Keeps, KeepsOthers, KeepsSuch, IsTold}
 use Rattle.board.specs.Lines.{LinesOf, is_line_of, line_of, AreMade, IsMade, Joins, IsReadmitted, AreReady}
 
 -- ---- the callers' lines

@@ -1,4 +1,4 @@
-use Rattle.std.proofs.Common.{arith, inr, false, ◌∷◌, ◌++◌, [], refl, sym, ◌∙◌, ap, subst}
+use Rattle.std.proofs.Common.{arith, inr, false, refl, sym, ◌∙◌, ap, subst}
 use Rattle.board.specs.declared.entry.BoardEntry.TheVariants.{Go}
 use Rattle.board.specs.Entries.{entries_of}
 use Rattle.board.proofs.KeptUsed.{used_same}

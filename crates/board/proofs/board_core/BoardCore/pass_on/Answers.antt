@@ -1,4 +1,4 @@
-use Rattle.std.proofs.Common.{arith, ◌∷◌, ◌++◌, [], ◌<◌, length, sym, ◌∙◌, subst, refl}
+use Rattle.std.proofs.Common.{arith, ◌∙◌, subst, refl}
 use Rattle.board.specs.declared.entry.BoardEntry.{BoardEntry}
 use Rattle.board.specs.Entries.{NonePasses}
 use Rattle.board.specs.Ready.{HasRequest}

@@ -1,4 +1,4 @@
-use Rattle.std.proofs.Common.{arith, true, refl, ◌∷◌, ◌++◌, [], ◌<◌, length, sym, ◌∙◌, ap, subst}
+use Rattle.std.proofs.Common.{arith, true, refl, ◌∙◌, ap, subst}
 use Rattle.board.specs.declared.entry.BoardEntry.{BoardEntry}
 use Rattle.board.specs.Entries.{NoneFor}
 use Rattle.board.specs.Stages.{is_queue}

@@ -1,5 +1,5 @@
 use Rattle.std.specs.Prelude.{IsSome}
-use Rattle.std.proofs.Common.{refl, arith, ◌≡◌, ◌<◌, length, sym, subst}
+use Rattle.std.proofs.Common.{refl, ◌≡◌, ◌<◌, length, sym, subst}
 use Rattle.board.specs.Entries.{entries_of, submissions, front}
 use Rattle.board.specs.Legal.{IsOpen}
 use Rattle.board.specs.Places.{places}
