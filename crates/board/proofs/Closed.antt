@@ -1,19 +1,24 @@
 -- A closed pipeline is finished.
-use Rattle.std.proofs.Common.{◌≡◌, ◌⊎◌, ℕ, Bool, true, false, List, [], ◌∷◌, ◌++◌, length, refl, sym, ◌∙◌, ap, subst, append-nil, append_assoc, inl, inr}
+use Rattle.std.proofs.Common.{◌≡◌, ◌⊎◌, ℕ, zero, suc, ◌<◌, Bool, true, false, List, [], ◌∷◌, ◌++◌, length, refl, sym, ◌∙◌, ap, subst, arith, append-nil, append_assoc, inl, inr}
 use Rattle.std.specs.Prelude.{if◌then◌else◌}
 use Rattle.turn_lock.specs.Turns.{Each}
 use Rattle.board.specs.declared.entry.BoardEntry.{BoardEntry}
 use Rattle.board.specs.declared.entry.BoardEntry.TheVariants.{Born, Submit, Take, Finish, Enq, Deq, Done, Hold, Go, Collect, Close, Share, Mask, Shut}
-use Rattle.board.specs.Entries.{Notice, is_of, entries_of, accepted_in, submissions, finished_in, unbroken, front, is_closed, caller_of}
+use Rattle.board.specs.Shapes.{line_born}
+use Rattle.board.specs.Entries.{Notice, is_of, entries_of, accepted_in, submissions, finished_in, unbroken, front, waiting, birth, is_closed, caller_of, AllTaken}
 use Rattle.board.specs.Legal.{IsNoWorker, IsRightFor, MayManage}
 use Rattle.board.specs.Order.{AreRightForAfter, handed_in}
 use Rattle.board.specs.Staying.{is_work}
 use Rattle.board.specs.Ends.{AllIsFinished}
 use Rattle.board.proofs.Lists.{filter_map-none}
 use Rattle.board.proofs.Transfer.{each_right}
-use Rattle.board.proofs.Keeping.{IsOrderly, orderly_start, orderly_step}
+use Rattle.board.proofs.Keeping.{IsOrderly, orderly, orderly_start, orderly_step}
 use Rattle.board.proofs.Kept.{closed-same}
-use Rattle.board.proofs.Ends.{ends_all}
+use Rattle.board.proofs.Ends.{ends_all, takes_all, passes_all, taken_run}
+
+none_over : (n : ℕ) → (0 < n → ⊥) → n ≡ 0
+none_over zero h = refl
+none_over (suc n) h = absurd (h (omega arith))
 
 module _ {A : Type 0} where
   abbrev IsEnd : List (BoardEntry A) → Type 0
@@ -53,6 +58,16 @@ module _ {A : Type 0} where
   closed-on before [] given o end r = rw (append-nil before) end
   closed-on before (e ∷ es) given o end r =
       subst IsEnd (append_assoc before (e ∷ []) es) (closed-on (before ++ e ∷ []) es (given ++ handed_in before e) (orderly_step before e given o r.0) (closed-step before given e o end r.0) r.1)
+
+  pub closed_end : (es : List (BoardEntry A)) → AreRightForAfter [] es → IsEnd es
+  closed_end es r = closed-on [] es [] orderly_start (λ shut. absurd cc) r
+
+  -- of a closed pipeline each number past the line was taken, and none waits in the line
+  pub ended_taken : (es : List (BoardEntry A)) → AreRightForAfter [] es → is_closed es ≡ true → AllTaken es
+  ended_taken es r shut n low none = takes_all es n (taken_run [] es (λ n h. cc) r) (orderly es r).numbered (closed_end es r shut) low none
+
+  pub ended_line : (es : List (BoardEntry A)) → AreRightForAfter [] es → is_closed es ≡ true → line_born (birth es) ≡ true → waiting es ≡ 0
+  ended_line es r shut line = none_over (waiting es) (λ w. passes_all es (orderly es r).numbered (closed_end es r shut) line w)
 
   -- who made it, where one caller alone makes pipelines
   made-by : (caller : ℕ) (e : BoardEntry A) (es : List (BoardEntry A)) → IsRightFor [] e → (caller_of e ≡ caller) ⊎ (is_work e ≡ true) → MayManage (e ∷ es) caller

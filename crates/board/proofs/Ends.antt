@@ -76,7 +76,7 @@ module _ {A : Type 0} where
   taken_step es (Mask caller pipe mask) taken r = quiet es (Mask caller pipe mask) taken (maker_some (birth es) caller r.0.1) refl
   taken_step es (Shut caller) taken r = absurd r
 
-  taken_run : (before es : List (BoardEntry A)) → AreTaken before → AreRightForAfter before es → AreTaken (before ++ es)
+  pub taken_run : (before es : List (BoardEntry A)) → AreTaken before → AreRightForAfter before es → AreTaken (before ++ es)
   taken_run before [] taken r = rw (append-nil before) taken
   taken_run before (e ∷ es) taken r = subst (λ xs. AreTaken xs) (append_assoc before (e ∷ []) es) (taken_run (before ++ e ∷ []) es (taken_step before e taken r.0) r.1)
 
@@ -93,10 +93,10 @@ module _ {A : Type 0} where
       let low = taken_low es n caller (queue_born (birth es)) refl o by open_ in
       both_ways (has n (finished es)) open_ (front_is_finished es n (omega arith))
 
-  takes_all : (es : List (BoardEntry A)) (n : ℕ) → AreTaken es → AreNumbered es → front es ≡ length (submissions es) → n < passed_on es → takers n es ≡ [] → ⊥
+  pub takes_all : (es : List (BoardEntry A)) (n : ℕ) → AreTaken es → AreNumbered es → front es ≡ length (submissions es) → n < passed_on es → takers n es ≡ [] → ⊥
   takes_all es n taken o all low none = (let l = passed-le es o.in_line in taken n (front_is_finished es n (omega arith)) none)
 
-  passes_all : (es : List (BoardEntry A)) → AreNumbered es → front es ≡ length (submissions es) → line_born (birth es) ≡ true → 0 < waiting es → ⊥
+  pub passes_all : (es : List (BoardEntry A)) → AreNumbered es → front es ≡ length (submissions es) → line_born (birth es) ≡ true → 0 < waiting es → ⊥
   passes_all es o all line w =
       let f = front_passed es o in
       let p : passed_on es ≡ dequeued es = ap (λ c. cond c (dequeued es) (length (submissions es))) line in

@@ -1,22 +1,18 @@
 -- What the lines are told of a pipeline.
-use Rattle.std.proofs.Common.{◌≡◌, ℕ, ◌<◌, Bool, true, false, List, length, refl, sym, ◌∙◌, ap, subst, arith, get_or}
-use Rattle.std.specs.Prelude.{slice_set, MatchBool}
-use Rattle.std.proofs.lemmas.List.{get_or-set_same, length-set}
-use Rattle.std.proofs.lemmas.Bool.{both_ways}
+use Rattle.std.proofs.Common.{◌≡◌, ℕ, Bool, true, false, List, refl, sym, ◌∙◌, ap, subst}
+use Rattle.std.specs.Prelude.{MatchBool}
 use Rattle.board.specs.declared.entry.Entered.{Entered}
-use Rattle.board.specs.declared.entry.BoardEntry.{BoardEntry}
 use Rattle.board.specs.declared.pipeline.Pipeline.{Pipeline}
 use Rattle.board.specs.declared.stage.Stage.{Stage}
 use Rattle.board.specs.declared.stage.Stage.TheVariants as stage
 use Rattle.board.specs.Stages.{is_queue, is_chain, without_room, after_entered, after_passed, ended, with_job, without_first, MayServe, MayPass, IsQuiet, PassesNone}
 use Rattle.board.specs.Pipelines.{with_lists}
-use Rattle.board.specs.Kept.{IsIdle, IsKeptPipe, IsKeptBoard}
-use Rattle.board.specs.Entries.{entries_of}
-use Rattle.board.specs.Ready.{ReadyLine, HasJob, HasRequest, IsChain, IsReadyFor, NoneIs, NoneStands, KeepsOthers, KeepsSuch, IsTold}
+use Rattle.board.specs.Places.{places}
+use Rattle.board.specs.Ready.{ReadyLine, HasRequest, IsChain, IsReadyFor, NoneIs, NoneStands, KeepsSuch, IsTold}
 use Rattle.board.proofs.Searching.{not_quiet}
-use Rattle.board.proofs.Kept.{kept_here}
+use Rattle.board.proofs.Kept.{Pipes, IsSet}
 use Rattle.board.proofs.KeptPassOn.{not_none}
-use Rattle.board.proofs.LinesHold.{ready_same, ready_set, ready_told, ready_searched, member_here, queue_same, chain_same}
+use Rattle.board.proofs.LinesHold.{ready_same, ready_told, ready_searched, member_here, queue_same, chain_same}
 
 -- ---- what the call says of a stage
 
@@ -31,6 +27,10 @@ says s false m h = absurd (not_quiet s h m)
 pub says_passing : {J O : Type 0} (s : Stage J O) (b : Bool) → MatchBool b (MayPass s) (PassesNone s) → MayPass s → b ≡ true
 says_passing s true m h = refl
 says_passing s false m h = absurd (not_none s h m)
+
+pub passes_or_not : {J O : Type 0} (s : Stage J O) (b : Bool) → MatchBool b (MayPass s) (PassesNone s) → MatchBool b (MayPass s) (MayPass s → ⊥)
+passes_or_not s true m = m
+passes_or_not s false m = λ h. not_none s h m
 
 -- ---- a stage stays a queue, a chain or a pad
 
@@ -128,52 +128,21 @@ passes_chain (stage.Pad x) m = absurd m
 passes_chain (stage.Queue x) m = absurd m
 passes_chain (stage.Chain x) m = refl
 
--- ---- what is ready is open
-
-idle_serves : {J O : Type 0} (s : Stage J O) → IsIdle s → MayServe s → ⊥
-idle_serves (stage.Pad x) i m = (let l = ap length i in omega arith)
-idle_serves (stage.Queue x) i m = (let l = ap length i in let n = m.2 in omega arith)
-idle_serves (stage.Chain x) i m = (let l = ap length i.1 in omega arith)
-
-idle_passes : {J O : Type 0} (s : Stage J O) → IsIdle s → MayPass s → ⊥
-idle_passes (stage.Pad x) i m = m
-idle_passes (stage.Queue x) i m = m
-idle_passes (stage.Chain x) i m = (let l = ap length i.0 in let n = m.2 in omega arith)
-
-not_closed : (b : Bool) → (b ≡ true → ⊥) → b ≡ false
-not_closed true h = absurd (h refl)
-not_closed false h = refl
-
-module _ {J O A : Type 0} (asked : J → A) (meaning : A → O) (pipes : List (Pipeline J O)) (log : List (BoardEntry A)) (p : ℕ) (new : Pipeline J O) (k : IsKeptBoard asked meaning (slice_set pipes p new) log) (within : p < length pipes) where
-  kept_new : IsKeptPipe asked meaning new (entries_of p log)
-  kept_new = kept_here asked meaning (slice_set pipes p new) log p new k (let s = length-set pipes p new in omega arith) (sym (get_or-set_same pipes p new new within))
-
-  pub job_open : HasJob new → new.closed ≡ false
-  job_open m = not_closed new.closed (λ c. idle_serves new.stage (kept_new.idle c) m)
-
-  pub request_open : HasRequest new → new.closed ≡ false
-  request_open m = not_closed new.closed (λ c. idle_passes new.stage (kept_new.idle c) m)
-
 -- ---- the chains' line
 
-module _ {J O : Type 0} (pipes : List (Pipeline J O)) (line : ReadyLine) (p : ℕ) (pipe new : Pipeline J O) (r : IsReadyFor IsChain HasRequest pipes line) (within : p < length pipes) (here : pipe ≡ get_or pipes p pipe) where
-  pub passing_same : new.closed ≡ pipe.closed → is_chain new.stage ≡ is_chain pipe.stage → (HasRequest new → HasRequest pipe) → IsReadyFor IsChain HasRequest (slice_set pipes p new) line
-  passing_same closed chain serves = ready_same IsChain HasRequest pipes line p pipe new r within here closed (λ s. sym chain ∙ s) serves
+module _ {J O : Type 0} (pipes next : Pipes J O) (line : ReadyLine) (p : ℕ) (pipe new : Pipeline J O) (r : IsReadyFor IsChain HasRequest (places pipes) line) (set : IsSet pipes next p pipe new) where
+  pub passing_same : is_chain new.stage ≡ is_chain pipe.stage → (HasRequest new → HasRequest pipe) → IsReadyFor IsChain HasRequest (places next) line
+  passing_same chain serves = ready_same IsChain HasRequest pipes next line p pipe new r set (λ s. sym chain ∙ s) serves
 
-  pub passing_told : (after : ReadyLine) (is : Bool) → IsTold p false is line after → new.closed ≡ pipe.closed → is_chain new.stage ≡ is_chain pipe.stage → (HasRequest new → is ≡ true) → (HasRequest new → new.closed ≡ false) → IsReadyFor IsChain HasRequest (slice_set pipes p new) after
-  passing_told after is t closed chain says open_ =
-      ready_told IsChain HasRequest pipes line after p new false is r within t
-      (λ o s. (member_here IsChain HasRequest pipes line p pipe r within here).0 (sym closed ∙ o) (sym chain ∙ s)) (λ h. cc) says open_
-
--- a chain that was closed, and left it
-pub passing_left : {J O : Type 0} (pipes : List (Pipeline J O)) (line after : ReadyLine) (p : ℕ) (new : Pipeline J O) → IsReadyFor IsChain HasRequest pipes line → p < length pipes → KeepsOthers p line after → new.closed ≡ true → (HasRequest new → ⊥) → IsReadyFor IsChain HasRequest (slice_set pipes p new) after
-passing_left pipes line after p new r within k closed none =
-    ready_set IsChain HasRequest pipes line after p new r within k (λ o s. absurd (both_ways new.closed o closed), λ m s. absurd (none m))
+  pub passing_told : (after : ReadyLine) (is : Bool) → IsTold p false is line after → is_chain new.stage ≡ is_chain pipe.stage → (HasRequest new → is ≡ true) → IsReadyFor IsChain HasRequest (places next) after
+  passing_told after is t chain says =
+      ready_told IsChain HasRequest pipes next line after p pipe new false is r set t
+      (λ s. (member_here IsChain HasRequest pipes line p pipe r set.here).0 (sym chain ∙ s)) (λ h. cc) says
 
 -- what a search leaves of it
-pub passing_searched : {J O : Type 0} (pipes : List (Pipeline J O)) (line after : ReadyLine) → IsReadyFor IsChain HasRequest pipes line → KeepsSuch HasRequest pipes line after → IsReadyFor IsChain HasRequest pipes after
+pub passing_searched : {J O : Type 0} (pipes : Pipes J O) (line after : ReadyLine) → IsReadyFor IsChain HasRequest (places pipes) line → KeepsSuch HasRequest (places pipes) line after → IsReadyFor IsChain HasRequest (places pipes) after
 passing_searched pipes line after r k = ready_searched IsChain HasRequest pipes HasRequest line after (λ x m s. m) r k
 
 -- what doesn't stand there passes nothing on
-pub none_passes : {J O : Type 0} (pipes : List (Pipeline J O)) (line : ReadyLine) → IsReadyFor IsChain HasRequest pipes line → NoneStands HasRequest pipes line → NoneIs HasRequest pipes
-none_passes pipes line r none p d l m = none p d l m (r.in_line p d l m (passes_chain (get_or pipes p d).stage m))
+pub none_passes : {J O : Type 0} (pipes : Pipes J O) (line : ReadyLine) → IsReadyFor IsChain HasRequest (places pipes) line → NoneStands HasRequest (places pipes) line → NoneIs HasRequest (places pipes)
+none_passes pipes line r none p x at m = none p x at m (r.in_line p x at m (passes_chain x.stage m))

@@ -11,7 +11,7 @@ use Rattle.board.specs.declared.pipeline.Pipeline.{Pipeline}
 use Rattle.board.specs.declared.stage.Stage.{Stage}
 use Rattle.board.specs.Shapes.{width_born}
 use Rattle.board.specs.Entries.{birth, is_close, is_closed, is_share, is_shared, collected, collected_in, masked_in, mask, submitter_in, submitters, has, last_or, maker_is, IsMaker}
-use Rattle.board.specs.Kept.{IsKeptStage, IsKeptPipe, IsIdle, shape_of}
+use Rattle.board.specs.Kept.{IsKeptStage, IsKeptPipe, shape_of}
 use Rattle.board.proofs.Lists.{filter_map-none, filter_map-some, last_or-append, has-more}
 use Rattle.board.proofs.Keeping.{birth_stays}
 use Rattle.board.proofs.Kept.{closed-same, shared-same, collected-same}
@@ -64,11 +64,11 @@ made_same h e = rw (h, e) refl
 -- a pipeline after one more entry
 pub pipe_more : {J O A : Type 0} (asked : J → A) (meaning : A → O) (pipe new : Pipeline J O) (es : List (BoardEntry A)) (e : BoardEntry A) → IsKeptPipe asked meaning pipe es
     → new.maker ≡ pipe.maker → ((w : ℕ) → shape_of new.stage w ≡ shape_of pipe.stage w)
-    → is_closed (es ++ e ∷ []) ≡ new.closed → is_shared (es ++ e ∷ []) ≡ new.shared → mask (es ++ e ∷ []) ≡ new.mask
+    → is_closed (es ++ e ∷ []) ≡ false → is_shared (es ++ e ∷ []) ≡ new.shared → mask (es ++ e ∷ []) ≡ new.mask
     → ((caller : ℕ) → caller ≢ pipe.maker → has caller new.submitters.items ≡ has caller (submitters (es ++ e ∷ [])))
-    → collected (es ++ e ∷ []) ≡ new.collected → IsKeptStage asked meaning new.stage new.collected (es ++ e ∷ []) → (new.closed ≡ true → IsIdle new.stage)
+    → collected (es ++ e ∷ []) ≡ new.collected → IsKeptStage asked meaning new.stage new.collected (es ++ e ∷ [])
     → IsKeptPipe asked meaning new (es ++ e ∷ [])
-pipe_more asked meaning pipe new es e k m s cl sh ma su co st idle =
+pipe_more asked meaning pipe new es e k m s cl sh ma su co st =
     let be = birth_stays es e (ap is_some k.born) in
     record {
       born = be ∙ (k.born ∙ made_same m (ap (λ b. shape_of new.stage (width_born b)) be ∙ s (width_born (birth es))));
@@ -78,14 +78,13 @@ pipe_more asked meaning pipe new es e k m s cl sh ma su co st idle =
       submitting = λ caller. by_cases asked meaning pipe es (es ++ e ∷ []) new.submitters.items k be su caller (cases_eq caller pipe.maker);
       place = co;
       stage = st;
-      idle = idle;
     }
 
 -- after an entry that leaves the marks: the stage alone is another
 pub stage_more : {J O A : Type 0} (asked : J → A) (meaning : A → O) (pipe : Pipeline J O) (after : Stage J O) (es : List (BoardEntry A)) (e : BoardEntry A) → IsKeptPipe asked meaning pipe es
     → ((w : ℕ) → shape_of after w ≡ shape_of pipe.stage w)
     → is_close e ≡ false → is_share e ≡ false → masked_in e ≡ None → submitter_in e ≡ None → collected_in e ≡ None
-    → IsKeptStage asked meaning after pipe.collected (es ++ e ∷ []) → (pipe.closed ≡ true → IsIdle after)
+    → IsKeptStage asked meaning after pipe.collected (es ++ e ∷ [])
     → IsKeptPipe asked meaning (record pipe { stage = after }) (es ++ e ∷ [])
-stage_more asked meaning pipe after es e k s cl sh ma su co st idle =
-    pipe_more asked meaning pipe (record pipe { stage = after }) es e k refl s (closed-same es e cl ∙ k.closing) (shared-same es e sh ∙ k.sharing) (mask-same es e (ap is_some k.born) ma ∙ k.masking) (noted_same asked meaning pipe es e k su) (collected-same es e co ∙ k.place) st idle
+stage_more asked meaning pipe after es e k s cl sh ma su co st =
+    pipe_more asked meaning pipe (record pipe { stage = after }) es e k refl s (closed-same es e cl ∙ k.closing) (shared-same es e sh ∙ k.sharing) (mask-same es e (ap is_some k.born) ma ∙ k.masking) (noted_same asked meaning pipe es e k su) (collected-same es e co ∙ k.place) st

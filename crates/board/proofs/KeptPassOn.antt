@@ -1,7 +1,8 @@
 -- What a request that is passed on does to the board.
-use Rattle.std.proofs.Common.{◌≡◌, ℕ, ◌+◌, ◌-◌, ◌<◌, ◌≤◌, Bool, true, false, List, [], ◌∷◌, ◌++◌, length, take, drop, Option, Some, is_some, refl, sym, ◌∙◌, ap, subst, arith, inl, inr, ◌⊎◌, get_or, length-append}
-use Rattle.std.specs.Prelude.{slice_set}
-use Rattle.std.proofs.lemmas.Bool.{cases_lt, eq-eqb, false_from_ne_true}
+use Rattle.std.proofs.Common.{◌≡◌, ℕ, ◌+◌, ◌-◌, ◌<◌, ◌≤◌, Bool, true, false, List, [], ◌∷◌, ◌++◌, length, take, drop, Option, Some, None, is_some, refl, sym, ◌∙◌, ap, subst, arith, inl, inr, ◌⊎◌, length-append}
+use Rattle.std.proofs.lemmas.Bool.{cases_lt, eq-eqb}
+use Rattle.board.specs.declared.entry.Shape.{Shape}
+use Rattle.board.specs.declared.entry.Shape.TheVariants as shape
 use Rattle.board.specs.declared.entry.BoardEntry.{BoardEntry}
 use Rattle.board.specs.declared.entry.BoardEntry.TheVariants.{Deq}
 use Rattle.board.specs.declared.pipeline.Pipeline.{Pipeline}
@@ -12,10 +13,13 @@ use Rattle.board.specs.Shapes.{is_born, is_chain, queue_born, line_born, width_b
 use Rattle.board.specs.Stages.{MayPass, PassesNone, IsPlaced, IsLinked, after_passed, next_in_line, starts_at, accepted_of}
 use Rattle.board.specs.Entries.{entries_of, birth, submissions, dequeued, waiting, is_held, is_closed, starts, pass_entry, NonePasses}
 use Rattle.board.specs.Legal.{IsRightFor, Is}
-use Rattle.board.specs.Kept.{shape_of, IsIdle, IsKeptStage, IsKeptPipe, IsKeptBoard, work_owed, owed_by}
+use Rattle.board.specs.Places.{Places, places}
+use Rattle.board.specs.Kept.{shape_of, IsKeptStage, IsKeptPipe, IsKeptBoard, work_owed, owed_by}
 use Rattle.board.specs.Ready.{HasRequest, NoneIs}
 use Rattle.board.proofs.KeptRequests.{few_submissions}
-use Rattle.board.proofs.Kept.{kept_here, place_step}
+use Rattle.board.proofs.Kept.{Pipes, IsSet, place_step}
+use Rattle.board.proofs.Transfer.{each_right}
+use Rattle.board.proofs.Closed.{ended_line}
 use Rattle.board.proofs.KeptMarks.{stage_more}
 use Rattle.board.proofs.KeptPassing.{line_passed, pad_passed}
 use Rattle.board.proofs.KeptEntering.{starts_is}
@@ -67,11 +71,6 @@ stage_passed asked meaning (stage.Pad pad) es place caller p maker lists k b o m
 stage_passed asked meaning (stage.Queue line) es place caller p maker lists k b o m = absurd m
 stage_passed asked meaning (stage.Chain c) es place caller p maker lists k b o m = chain_passed asked meaning c es place caller p maker lists c.line.line.waiting refl k b o m
 
-passes_idle : {J O : Type 0} (s : Stage J O) → MayPass s → IsIdle s → ⊥
-passes_idle (stage.Pad pad) m i = m
-passes_idle (stage.Queue line) m i = m
-passes_idle (stage.Chain c) m i = (let l = ap length i.0 in let z = m.2 in omega arith)
-
 passed_shape : {J O : Type 0} (s : Stage J O) (lists : ℕ) → shape_of (after_passed s) lists ≡ shape_of s lists
 passed_shape (stage.Pad pad) lists = refl
 passed_shape (stage.Queue line) lists = refl
@@ -83,22 +82,22 @@ stage_linked asked meaning (stage.Pad pad) es place k = (tt, tt)
 stage_linked asked meaning (stage.Queue line) es place k = (tt, tt)
 stage_linked asked meaning (stage.Chain c) es place k = (k.3, k.2)
 
-pub linked_here : {J O A : Type 0} (asked : J → A) (meaning : A → O) (pipes : List (Pipeline J O)) (log : List (BoardEntry A)) (p : ℕ) (pipe : Pipeline J O) → IsKeptBoard asked meaning pipes log → p < length pipes → pipe ≡ get_or pipes p pipe → IsPlaced pipe.stage × IsLinked pipe.stage
-linked_here asked meaning pipes log p pipe k within here = stage_linked asked meaning pipe.stage (entries_of p log) pipe.collected (kept_here asked meaning pipes log p pipe k within here).stage
+pub linked_here : {J O A : Type 0} (asked : J → A) (meaning : A → O) (pipes : Pipes J O) (born : ℕ) (log : List (BoardEntry A)) (p : ℕ) (pipe : Pipeline J O) → IsKeptBoard asked meaning (places pipes) born log → places pipes p ≡ Some pipe → IsPlaced pipe.stage × IsLinked pipe.stage
+linked_here asked meaning pipes born log p pipe k here = stage_linked asked meaning pipe.stage (entries_of p log) pipe.collected (k.each p pipe here).stage
 
-pub pass_step : {J O A : Type 0} (asked : J → A) (meaning : A → O) (pipes : List (Pipeline J O)) (log : List (BoardEntry A)) (p caller : ℕ) (pipe : Pipeline J O) (after : Stage J O) → IsKeptBoard asked meaning pipes log → p < length pipes → pipe ≡ get_or pipes p pipe → HasRequest pipe → after ≡ after_passed pipe.stage
-    → IsKeptBoard asked meaning (slice_set pipes p (record pipe { stage = after })) (log ++ passed_entry pipe.stage caller p ∷ [])
-    × (owed_by (slice_set pipes p (record pipe { stage = after })) + 1 ≡ owed_by pipes)
+pub pass_step : {J O A : Type 0} (asked : J → A) (meaning : A → O) (pipes : Pipes J O) (born : ℕ) (log : List (BoardEntry A)) (p caller : ℕ) (pipe : Pipeline J O) (after : Stage J O) (next : Pipes J O) → IsKeptBoard asked meaning (places pipes) born log → IsSet pipes next p pipe (record pipe { stage = after }) → HasRequest pipe → after ≡ after_passed pipe.stage
+    → IsKeptBoard asked meaning (places next) born (log ++ passed_entry pipe.stage caller p ∷ [])
+    × (owed_by next + 1 ≡ owed_by pipes)
     × Is is_chain (entries_of p log) × (passed_entry pipe.stage caller p ≡ pass_entry log caller p)
-pass_step {J} {O} {A} asked meaning pipes log p caller pipe after k within here m e =
+pass_step {J} {O} {A} asked meaning pipes born log p caller pipe after next k set m e =
     let es = entries_of p log in
     let en : BoardEntry A = passed_entry pipe.stage caller p in
-    let kp = kept_here asked meaning pipes log p pipe k within here in
-    let open_ : is_closed es ≡ false = kp.closing ∙ false_from_ne_true pipe.closed (λ h. passes_idle pipe.stage m (kp.idle h)) in
+    let kp = k.each p pipe set.here in
+    let open_ : is_closed es ≡ false = kp.closing in
     let d = stage_passed asked meaning pipe.stage es pipe.collected caller p pipe.maker (width_born (birth es)) kp.stage kp.born open_ m in
-    let moved = stage_more asked meaning pipe (after_passed pipe.stage) es en kp (passed_shape pipe.stage) refl refl refl refl refl d.kept (λ h. absurd (passes_idle pipe.stage m (kp.idle h))) in
+    let moved = stage_more asked meaning pipe (after_passed pipe.stage) es en kp (passed_shape pipe.stage) refl refl refl refl refl d.kept in
     let kept : IsKeptPipe asked meaning (record pipe { stage = after }) (es ++ en ∷ []) = subst (λ s. IsKeptPipe asked meaning (record pipe { stage = s }) (es ++ en ∷ [])) (sym e) moved in
-    let s = place_step asked meaning pipes log p pipe (record pipe { stage = after }) en k within here (eq-eqb p p refl) refl (tt, d.right) kept in
+    let s = place_step asked meaning pipes next born log p pipe (record pipe { stage = after }) en k set (eq-eqb p p refl) refl (tt, d.right) kept in
     let pays : work_owed after + 1 ≡ work_owed pipe.stage = subst (λ x. work_owed x + 1 ≡ work_owed pipe.stage) (sym e) d.pays in
     (s.0, omega (arith, s.1, pays), d.chain, d.named)
 
@@ -108,9 +107,9 @@ stage_few asked meaning (stage.Pad pad) es place k m = absurd m
 stage_few asked meaning (stage.Queue line) es place k m = absurd m
 stage_few asked meaning (stage.Chain c) es place k m = sym k.0.submitted
 
-pub few_here : {J O A : Type 0} (asked : J → A) (meaning : A → O) (pipes : List (Pipeline J O)) (log : List (BoardEntry A)) (p : ℕ) (pipe : Pipeline J O) → IsKeptBoard asked meaning pipes log → p < length pipes → pipe ≡ get_or pipes p pipe → HasRequest pipe → accepted_of pipe.stage ≤ length log
-few_here asked meaning pipes log p pipe k within here m =
-    let a = stage_few asked meaning pipe.stage (entries_of p log) pipe.collected (kept_here asked meaning pipes log p pipe k within here).stage m in
+pub few_here : {J O A : Type 0} (asked : J → A) (meaning : A → O) (pipes : Pipes J O) (born : ℕ) (log : List (BoardEntry A)) (p : ℕ) (pipe : Pipeline J O) → IsKeptBoard asked meaning (places pipes) born log → places pipes p ≡ Some pipe → HasRequest pipe → accepted_of pipe.stage ≤ length log
+few_here asked meaning pipes born log p pipe k here m =
+    let a = stage_few asked meaning pipe.stage (entries_of p log) pipe.collected (k.each p pipe here).stage m in
     let f = few_submissions p log in
     omega arith
 
@@ -131,16 +130,22 @@ quiet_line asked meaning (stage.Pad pad) es place maker lists k b z h = (let g =
 quiet_line asked meaning (stage.Queue line) es place maker lists k b z h = (let g = ap (is_born is_chain) b in cc)
 quiet_line asked meaning (stage.Chain c) es place maker lists k b z h = quiet_chain asked meaning c es place c.line.held refl k z
 
-none_at : {J O A : Type 0} (asked : J → A) (meaning : A → O) (pipes : List (Pipeline J O)) (log : List (BoardEntry A)) → IsKeptBoard asked meaning pipes log → NoneIs HasRequest pipes → (p : ℕ) → (p < length pipes) ⊎ (length pipes ≤ p) → is_born is_chain (birth (entries_of p log)) ≡ true → (is_held (entries_of p log) ≡ true) ⊎ (waiting (entries_of p log) ≡ 0)
-none_at asked meaning [] log k z p (inl below) h = absurd (omega arith)
-none_at asked meaning (x ∷ xs) log k z p (inl below) h =
-    let pipe = get_or (x ∷ xs) p x in
-    let kp = k.each p x below in
-    quiet_line asked meaning pipe.stage (entries_of p log) pipe.collected pipe.maker (width_born (birth (entries_of p log))) kp.stage kp.born (z p x below) h
-none_at asked meaning pipes log k z p (inr above) h = (let g = ap (λ es. is_born is_chain (birth es)) (k.beyond p above) in cc)
+chain_line : (b : Option (ℕ × Shape)) → is_born is_chain b ≡ true → line_born b ≡ true
+chain_line None h = cc
+chain_line (Some (maker, shape.Pad lists)) h = cc
+chain_line (Some (maker, shape.Queue max)) h = cc
+chain_line (Some (maker, shape.Chain max lists)) h = refl
 
-pub pass_none : {J O A : Type 0} (asked : J → A) (meaning : A → O) (pipes : List (Pipeline J O)) (log : List (BoardEntry A)) → IsKeptBoard asked meaning pipes log → NoneIs HasRequest pipes → NonePasses log
-pass_none asked meaning pipes log k z p h = none_at asked meaning pipes log k z p (cases_lt p (length pipes)) h
+at_cases : {J O A : Type 0} (asked : J → A) (meaning : A → O) (pipes : Places (Pipeline J O)) (born : ℕ) (log : List (BoardEntry A)) → IsKeptBoard asked meaning pipes born log → NoneIs HasRequest pipes → (p : ℕ) → (p < born) ⊎ (born ≤ p) → (o : Option (Pipeline J O)) → pipes p ≡ o
+    → is_born is_chain (birth (entries_of p log)) ≡ true → (is_held (entries_of p log) ≡ true) ⊎ (waiting (entries_of p log) ≡ 0)
+at_cases asked meaning pipes born log k z p (inl below) None at h = inr (ended_line (entries_of p log) (each_right [] log p k.legal) (k.others p below at) (chain_line (birth (entries_of p log)) h))
+at_cases asked meaning pipes born log k z p (inl below) (Some pipe) at h =
+    let kp = k.each p pipe at in
+    quiet_line asked meaning pipe.stage (entries_of p log) pipe.collected pipe.maker (width_born (birth (entries_of p log))) kp.stage kp.born (z p pipe at) h
+at_cases asked meaning pipes born log k z p (inr above) o at h = (let g = ap (λ es. is_born is_chain (birth es)) (k.beyond p above) in cc)
+
+pub pass_none : {J O A : Type 0} (asked : J → A) (meaning : A → O) (pipes : Places (Pipeline J O)) (born : ℕ) (log : List (BoardEntry A)) → IsKeptBoard asked meaning pipes born log → NoneIs HasRequest pipes → NonePasses log
+pass_none asked meaning pipes born log k z p h = at_cases asked meaning pipes born log k z p (cases_lt p born) (pipes p) refl h
 
 -- a stage that may pass a request on isn't quiet
 pub not_none : {J O : Type 0} (s : Stage J O) → MayPass s → PassesNone s → ⊥

@@ -1,13 +1,13 @@
 -- What a request that is accepted, or refused, does to the board.
-use Rattle.std.proofs.Common.{◌≡◌, ◌≢◌, ℕ, ◌+◌, ◌<◌, ◌≤◌, Bool, true, false, cond, ◌||◌, List, [], ◌∷◌, ◌++◌, length, Some, None, is_some, refl, sym, ◌∙◌, ap, subst, arith, get_or, length-append}
-use Rattle.std.specs.Prelude.{◌==◌, ◌&&◌, nat_lt, slice_set}
+use Rattle.std.proofs.Common.{◌≡◌, ◌≢◌, ℕ, ◌+◌, ◌<◌, ◌≤◌, Bool, true, false, cond, ◌||◌, List, [], ◌∷◌, ◌++◌, length, Some, None, is_some, refl, sym, ◌∙◌, ap, subst, arith, length-append}
+use Rattle.std.specs.Prelude.{◌==◌, ◌&&◌, nat_lt}
 use Rattle.std.specs.Arc.{arc_value}
 use Rattle.std.specs.declared.sync.Arc.{Arc}
 use Rattle.std.specs.declared.alloc.Global.{Global}
 use Rattle.std.specs.declared.collections.BTreeMap.{BTreeMap}
 use Rattle.std.specs.Global.{Global as Memory}
 use Rattle.std.proofs.Math.Bool.{or-false}
-use Rattle.std.proofs.lemmas.Bool.{eq-eqb, both_ways}
+use Rattle.std.proofs.lemmas.Bool.{eq-eqb}
 use Rattle.request_queue.specs.Line.{accepted}
 use Rattle.cryptd.specs.Server.{Server}
 use Rattle.board.specs.declared.allowance.Used.{Used}
@@ -25,12 +25,13 @@ use Rattle.board.specs.Pipelines.{IsSame, NotesCaller, is_accepted, accepts, wor
 use Rattle.board.specs.Entries.{Notice, is_of, entries_of, birth, accepted_in, submissions, dequeued_in, dequeued, passed_on, waiting, verdict, taken_in, finished_in, tells, held_in, mask, has, submitters}
 use Rattle.board.specs.Legal.{IsRight, MaySubmit, IsOpenPad, IsOpenQueue}
 use Rattle.board.specs.Allowance.{used_at, IsKeptUsed}
-use Rattle.board.specs.Kept.{IsKeptLine, IsKeptStage, IsKeptPipe, IsKeptBoard, shape_of, work_owed, owes, owed_by}
+use Rattle.board.specs.Places.{places}
+use Rattle.board.specs.Kept.{IsKeptLine, IsKeptStage, IsKeptPipe, IsKeptBoard, shape_of, work_owed, owed_by}
 use Rattle.board.proofs.Lists.{filter_map-none}
 use Rattle.board.proofs.Keeping.{IsOrderly, orderly, passed-le}
 use Rattle.board.proofs.Starting.{pad_no_line}
 use Rattle.board.proofs.Counting.{filter_map-at_most, filter-at_most}
-use Rattle.board.proofs.Kept.{kept_here, place_step, closed-same, shared-same, collected-same}
+use Rattle.board.proofs.Kept.{Pipes, IsSet, place_step, closed-same, shared-same, collected-same}
 use Rattle.board.proofs.KeptUsed.{used_same, used_more}
 use Rattle.board.proofs.KeptMarks.{mask-same, noted_same, noted_more, pipe_more}
 use Rattle.board.proofs.KeptRoom.{IsKeptCore, core_same, stage_same, is_pad_same, placed_pad, accepted_same, shape_same, owed_same, each_same, pass_same}
@@ -178,24 +179,24 @@ module _ {J O A : Type 0} (asked : J → A) (meaning : A → O) where
   entered_noted pipe es p caller ask backlog (Busy n) after k more = noted_more asked meaning pipe es (Enq caller p ask backlog (Busy n)) caller after k refl more
   entered_noted pipe es p caller ask backlog NoSpace after k more = λ c h. more c h ∙ (or-false (has c pipe.submitters.items) ∙ noted_same asked meaning pipe es (Enq caller p ask backlog NoSpace) k refl c h)
 
-  module _ (pipes : List (Pipeline J O)) (log : List (BoardEntry A)) (p : ℕ) (pipe : Pipeline J O) (k : IsKeptBoard asked meaning pipes log) (within : p < length pipes) (here : pipe ≡ get_or pipes p pipe) where
+  module _ (pipes : Pipes J O) (born : ℕ) (log : List (BoardEntry A)) (p : ℕ) (pipe : Pipeline J O) (k : IsKeptBoard asked meaning (places pipes) born log) (here : places pipes p ≡ Some pipe) where
     -- how many requests a pipeline with room accepted
     pub accepted_here : (room : Pipeline J O) → IsSame pipe room → accepted_of room.stage ≡ length (submissions (entries_of p log))
     accepted_here room s =
         let es = entries_of p log in
-        let kp = kept_here asked meaning pipes log p pipe k within here in
+        let kp = k.each p pipe here in
         accepted_same room.stage pipe.stage s.stage ∙ accepted_kept pipe.stage es pipe.collected (width_born (birth es)) pipe.maker kp.stage kp.born
 
     -- the mask is the history's
     pub mask_here : mask (entries_of p log) ≡ pipe.mask
-    mask_here = (kept_here asked meaning pipes log p pipe k within here).masking
+    mask_here = (k.each p pipe here).masking
 
-    pub submit_step : (n caller : ℕ) (ask : Arc A Global) (after : Pipeline J O) (job : J) → arc_value ask ≡ asked job → NotesCaller pipe after caller true → without_room after.stage ≡ without_room (with_job pipe.stage job) → MaySubmit (entries_of p log) caller → IsOpenPad (entries_of p log) → n ≡ length (submissions (entries_of p log)) → 0 < pipe.mask
-        → IsKeptBoard asked meaning (slice_set pipes p after) (log ++ Submit caller p n ask ∷ []) × (owed_by (slice_set pipes p after) ≡ owed_by pipes + 2)
-    submit_step n caller ask after job a noting e may opened num some =
+    pub submit_step : (next : Pipes J O) (n caller : ℕ) (ask : Arc A Global) (after : Pipeline J O) (job : J) → IsSet pipes next p pipe after → arc_value ask ≡ asked job → NotesCaller pipe after caller true → without_room after.stage ≡ without_room (with_job pipe.stage job) → MaySubmit (entries_of p log) caller → IsOpenPad (entries_of p log) → n ≡ length (submissions (entries_of p log)) → 0 < pipe.mask
+        → IsKeptBoard asked meaning (places next) born (log ++ Submit caller p n ask ∷ []) × (owed_by next ≡ owed_by pipes + 2)
+    submit_step next n caller ask after job set a noting e may opened num some =
         let es = entries_of p log in
         let x : BoardEntry A = Submit caller p n ask in
-        let kp = kept_here asked meaning pipes log p pipe k within here in
+        let kp = k.each p pipe here in
         let b = ap is_some kp.born in
         let pad = pad_kept asked meaning pipe es kp opened.0 in
         let masked : 0 < mask es = rw kp.masking some in
@@ -203,28 +204,26 @@ module _ {J O A : Type 0} (asked : J → A) (meaning : A → O) where
         let is_pad_after : is_pad after.stage ≡ true = is_pad_same after.stage (with_job pipe.stage job) e ∙ (job_pad pipe.stage job ∙ pad) in
         let st = job_kept pipe.stage es pipe.collected p n caller ask job kp.stage pad b (pad_no_line (birth es) opened.0) a in
         let st2 = stage_same asked meaning after.stage (with_job pipe.stage job) pipe.collected (es ++ x ∷ []) e (placed_pad after.stage is_pad_after) st in
-        let kept = pipe_more asked meaning pipe after es x kp noting.maker (λ w. shape_same after.stage (with_job pipe.stage job) e w ∙ job_shape pipe.stage job w) (closed-same es x refl ∙ (kp.closing ∙ sym noting.closed)) (shared-same es x refl ∙ (kp.sharing ∙ sym noting.shared)) (mask-same es x b refl ∙ (kp.masking ∙ sym noting.mask)) (noted_more asked meaning pipe es x caller after.submitters.items kp refl noting.submitters) (collected-same es x refl ∙ (kp.place ∙ sym noting.collected)) (subst (λ m. IsKeptStage asked meaning after.stage m (es ++ x ∷ [])) (sym noting.collected) st2) (λ h. absurd (both_ways pipe.closed (sym kp.closing ∙ opened.1) (sym noting.closed ∙ h))) in
-        let s = place_step asked meaning pipes log p pipe after x k within here (eq-eqb p p refl) refl right kept in
+        let kept = pipe_more asked meaning pipe after es x kp noting.maker (λ w. shape_same after.stage (with_job pipe.stage job) e w ∙ job_shape pipe.stage job w) (closed-same es x refl ∙ kp.closing) (shared-same es x refl ∙ (kp.sharing ∙ sym noting.shared)) (mask-same es x b refl ∙ (kp.masking ∙ sym noting.mask)) (noted_more asked meaning pipe es x caller after.submitters.items kp refl noting.submitters) (collected-same es x refl ∙ (kp.place ∙ sym noting.collected)) (subst (λ m. IsKeptStage asked meaning after.stage m (es ++ x ∷ [])) (sym noting.collected) st2) in
+        let s = place_step asked meaning pipes next born log p pipe after x k set (eq-eqb p p refl) refl right kept in
         let o : work_owed after.stage ≡ work_owed pipe.stage + 2 = owed_same after.stage (with_job pipe.stage job) e ∙ job_owed pipe.stage job pad in
-        let z : owes after ≡ work_owed after.stage + cond pipe.closed 0 1 = ap (λ c. work_owed after.stage + cond c 0 1) noting.closed in
-        (s.0, omega (arith, s.1, o, z))
+        (s.0, omega (arith, s.1, o))
 
-    pub enqueue_step : (caller : ℕ) (ask : Arc A Global) (after : Pipeline J O) (job : J) (backlog : Bool) (answer : Entered) → arc_value ask ≡ asked job → answer ≡ answer_of pipe.stage backlog → NotesCaller pipe after caller (is_accepted answer) → without_room after.stage ≡ without_room (after_entered pipe.stage job answer) → IsPlaced after.stage → MaySubmit (entries_of p log) caller → IsOpenQueue (entries_of p log)
-        → IsKeptBoard asked meaning (slice_set pipes p after) (log ++ Enq caller p ask backlog answer ∷ [])
-        × (owed_by (slice_set pipes p after) ≡ owed_by pipes + work_after pipe.stage answer)
+    pub enqueue_step : (next : Pipes J O) (caller : ℕ) (ask : Arc A Global) (after : Pipeline J O) (job : J) (backlog : Bool) (answer : Entered) → IsSet pipes next p pipe after → arc_value ask ≡ asked job → answer ≡ answer_of pipe.stage backlog → NotesCaller pipe after caller (is_accepted answer) → without_room after.stage ≡ without_room (after_entered pipe.stage job answer) → IsPlaced after.stage → MaySubmit (entries_of p log) caller → IsOpenQueue (entries_of p log)
+        → IsKeptBoard asked meaning (places next) born (log ++ Enq caller p ask backlog answer ∷ [])
+        × (owed_by next ≡ owed_by pipes + work_after pipe.stage answer)
         × (answer ≡ verdict (entries_of p log) backlog)
-    enqueue_step caller ask after job backlog answer a said noting e placed may opened =
+    enqueue_step next caller ask after job backlog answer set a said noting e placed may opened =
         let es = entries_of p log in
         let x : BoardEntry A = Enq caller p ask backlog answer in
-        let kp = kept_here asked meaning pipes log p pipe k within here in
+        let kp = k.each p pipe here in
         let b = ap is_some kp.born in
         let line = line_kept asked meaning pipe es kp opened.0 in
         let v : answer ≡ verdict es backlog = said ∙ answer_verdict pipe.stage es pipe.collected backlog kp.stage line in
         let right : IsRight log x = (tt, (may, opened, v)) in
-        let st = entered_kept pipe.stage es pipe.collected p caller ask job backlog answer _ kp.stage line (orderly es (right_here asked meaning pipes log p pipe k within here)) b opened.0 a in
+        let st = entered_kept pipe.stage es pipe.collected p caller ask job backlog answer _ kp.stage line (orderly es (right_here asked meaning pipes born log p pipe k here)) b opened.0 a in
         let st2 = core_same asked meaning after.stage (after_entered pipe.stage job answer) pipe.collected (es ++ x ∷ []) e placed st in
-        let kept = pipe_more asked meaning pipe after es x kp noting.maker (λ w. shape_same after.stage (after_entered pipe.stage job answer) e w ∙ entered_shape pipe.stage job answer w) (closed-same es x refl ∙ (kp.closing ∙ sym noting.closed)) (shared-same es x refl ∙ (kp.sharing ∙ sym noting.shared)) (mask-same es x b refl ∙ (kp.masking ∙ sym noting.mask)) (entered_noted pipe es p caller ask backlog answer after.submitters.items kp noting.submitters) (collected-same es x refl ∙ (kp.place ∙ sym noting.collected)) (subst (λ m. IsKeptStage asked meaning after.stage m (es ++ x ∷ [])) (sym noting.collected) st2) (λ h. absurd (both_ways pipe.closed (sym kp.closing ∙ opened.1) (sym noting.closed ∙ h))) in
-        let s = place_step asked meaning pipes log p pipe after x k within here (eq-eqb p p refl) refl right kept in
+        let kept = pipe_more asked meaning pipe after es x kp noting.maker (λ w. shape_same after.stage (after_entered pipe.stage job answer) e w ∙ entered_shape pipe.stage job answer w) (closed-same es x refl ∙ kp.closing) (shared-same es x refl ∙ (kp.sharing ∙ sym noting.shared)) (mask-same es x b refl ∙ (kp.masking ∙ sym noting.mask)) (entered_noted pipe es p caller ask backlog answer after.submitters.items kp noting.submitters) (collected-same es x refl ∙ (kp.place ∙ sym noting.collected)) (subst (λ m. IsKeptStage asked meaning after.stage m (es ++ x ∷ [])) (sym noting.collected) st2) in
+        let s = place_step asked meaning pipes next born log p pipe after x k set (eq-eqb p p refl) refl right kept in
         let o : work_owed after.stage ≡ work_owed pipe.stage + work_after pipe.stage answer = owed_same after.stage (after_entered pipe.stage job answer) e ∙ entered_owed pipe.stage job answer line in
-        let z : owes after ≡ work_owed after.stage + cond pipe.closed 0 1 = ap (λ c. work_owed after.stage + cond c 0 1) noting.closed in
-        (s.0, omega (arith, s.1, o, z), v)
+        (s.0, omega (arith, s.1, o), v)

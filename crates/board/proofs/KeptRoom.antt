@@ -13,7 +13,7 @@ use Rattle.board.specs.Stages.{is_pad, has_line, IsPlaced, IsJoined, bare, bare_
 use Rattle.board.specs.Pipelines.{IsSame, NotesCaller, accepts, work_each}
 use Rattle.board.specs.Shapes.{width_born}
 use Rattle.board.specs.Entries.{birth, has, submitters, IsMaker}
-use Rattle.board.specs.Kept.{IsKeptLine, IsKeptPad, IsKeptStage, IsKeptPipe, IsIdle, shape_of, work_owed, owes}
+use Rattle.board.specs.Kept.{IsKeptLine, IsKeptPad, IsKeptStage, IsKeptPipe, shape_of, work_owed, owes}
 use Rattle.board.proofs.KeptMarks.{made_same}
 
 -- what doesn't see the room is the same of two stages that differ in it alone
@@ -134,19 +134,6 @@ pass_from (stage.Chain x) m = m
 pub pass_same : {J O : Type 0} (a b : Stage J O) → without_room a ≡ without_room b → MayPass a → MayPass b
 pass_same a b e m = pass_from b (subst (λ s. MayPass s) e (pass_to a m))
 
-idle_to : {J O : Type 0} (s : Stage J O) → IsIdle s → IsIdle (without_room s)
-idle_to (stage.Pad x) m = m
-idle_to (stage.Queue x) m = m
-idle_to (stage.Chain x) m = m
-
-idle_from : {J O : Type 0} (s : Stage J O) → IsIdle (without_room s) → IsIdle s
-idle_from (stage.Pad x) m = m
-idle_from (stage.Queue x) m = m
-idle_from (stage.Chain x) m = m
-
-pub idle_same : {J O : Type 0} (a b : Stage J O) → without_room a ≡ without_room b → IsIdle a → IsIdle b
-idle_same a b e m = idle_from b (subst (λ s. IsIdle s) e (idle_to a m))
-
 -- ---- what is kept
 
 -- a line is kept by its requests, its hold and its callbacks alone
@@ -211,7 +198,6 @@ placed_pad (stage.Chain x) h = cc
 pub notes_same : {J O : Type 0} (old room new : Pipeline J O) (caller : ℕ) (accepted : Bool) → IsSame old room → NotesCaller room new caller accepted → NotesCaller old new caller accepted
 notes_same old room new caller accepted s n = record {
   maker = n.maker ∙ s.maker;
-  closed = n.closed ∙ s.closed;
   shared = n.shared ∙ s.shared;
   mask = n.mask ∙ s.mask;
   collected = n.collected ∙ s.collected;
@@ -229,14 +215,13 @@ room_cases old new es caller s (inr e) = inr (has_items caller s.submitters ∙ 
 pub pipe_same : {J O A : Type 0} (asked : J → A) (meaning : A → O) (old new : Pipeline J O) (es : List (BoardEntry A)) → IsSame old new → (IsPlaced old.stage → IsPlaced new.stage) → IsKeptPipe asked meaning old es → IsKeptPipe asked meaning new es
 pipe_same asked meaning old new es s placed k = record {
   born = k.born ∙ made_same s.maker (shape_same new.stage old.stage s.stage (width_born (birth es)));
-  closing = k.closing ∙ sym s.closed;
+  closing = k.closing;
   sharing = k.sharing ∙ sym s.shared;
   masking = k.masking ∙ sym s.mask;
   submitting = λ caller. room_cases old new es caller s (k.submitting caller);
   place = k.place ∙ sym s.collected;
   stage = subst (λ n. IsKeptStage asked meaning new.stage n es) (sym s.collected) (stage_same asked meaning new.stage old.stage old.collected es s.stage (placed (placed_kept asked meaning old.stage old.collected es k.stage)) k.stage);
-  idle = λ h. idle_same old.stage new.stage (sym s.stage) (k.idle (sym s.closed ∙ h));
 }
 
 pub owes_same : {J O : Type 0} (old new : Pipeline J O) → IsSame old new → owes new ≡ owes old
-owes_same old new s = rw (owed_same new.stage old.stage s.stage, s.closed) refl
+owes_same old new s = rw (owed_same new.stage old.stage s.stage) refl

@@ -8,11 +8,11 @@ use Rattle.board.specs.declared.entry.BoardEntry.TheVariants.{Collect}
 use Rattle.board.specs.declared.stage.Stage.{Stage}
 use Rattle.board.specs.declared.stage.Stage.TheVariants as stage
 use Rattle.board.specs.Stages.{has_line, unfinished_of, holding, callbacks_of, collected_from}
-use Rattle.board.specs.Pipelines.{with_lists, IsSpent}
+use Rattle.board.specs.Pipelines.{with_lists}
 use Rattle.board.specs.Shapes.{pad_born, queue_born, line_born}
 use Rattle.board.specs.Entries.{birth, accepted_in, submissions, dequeued_in, dequeued, passed_on, taken_in, finished_in, finished, unbroken, front, tells, told, held_in, collected, delivered, completes_from}
 use Rattle.board.specs.Order.{AreRightForAfter}
-use Rattle.board.specs.Kept.{IsKeptLine, IsKeptPad, IsKeptStage, shape_of}
+use Rattle.board.specs.Kept.{IsKeptLine, IsKeptPad, IsKeptStage, shape_of, work_owed}
 use Rattle.board.proofs.Lists.{filter_map-none}
 use Rattle.board.proofs.Fronts.{unbroken_numbers}
 use Rattle.board.proofs.Keeping.{orderly, passed-le}
@@ -43,6 +43,24 @@ undone_queue false f w s n d g e = omega arith
 idle_queue : (b : Bool) (f w s : ℕ) → f + cond b 1 0 ≡ s → s + w ≤ f → b ≡ false
 idle_queue true f w s g l = absurd (omega arith)
 idle_queue false f w s g l = refl
+
+-- all is finished and collected
+abbrev pub IsSpentLine : {J O : Type 0} → Server J O → Type 0
+IsSpentLine line = (line.busy ≡ false) × (line.line.waiting ≡ []) × (line.pending ≡ [])
+
+abbrev pub IsSpentPad : {J O : Type 0} → Pad J O → Type 0
+IsSpentPad pad = (pad.waiting ≡ []) × (pad.outcomes ≡ [])
+
+abbrev pub IsSpent : {J O : Type 0} → Stage J O → Type 0
+IsSpent (stage.Pad pad) = IsSpentPad pad
+IsSpent (stage.Queue line) = IsSpentLine line
+IsSpent (stage.Chain c) = IsSpentLine c.line × IsSpentPad c.pad
+
+-- which owes no entries of work
+pub spent_owed : {J O : Type 0} (s : Stage J O) → IsSpent s → work_owed s ≡ 0
+spent_owed (stage.Pad pad) h = rw (h.0, h.1) refl
+spent_owed (stage.Queue line) h = rw (h.0, h.1) refl
+spent_owed (stage.Chain c) h = rw (h.0.1, h.1.0, h.1.1) refl
 
 module _ {J O A : Type 0} (asked : J → A) (meaning : A → O) where
   -- an entry that neither accepts, lets out, takes, finishes, tells nor holds

@@ -1,6 +1,6 @@
 -- What a take does to the board.
-use Rattle.std.proofs.Common.{◌≡◌, ℕ, zero, suc, ◌+◌, ◌*◌, ◌<◌, ◌≤◌, Bool, true, false, cond, ◌||◌, List, [], ◌∷◌, ◌++◌, length, map, take, Option, Some, None, is_some, refl, sym, ◌∙◌, ap, subst, arith, inl, inr, ◌⊎◌, get_or, length-append}
-use Rattle.std.specs.Prelude.{◌==◌, slice_get, slice_set}
+use Rattle.std.proofs.Common.{◌≡◌, ℕ, zero, suc, ◌+◌, ◌*◌, ◌<◌, ◌≤◌, Bool, true, false, cond, ◌||◌, List, [], ◌∷◌, ◌++◌, length, map, take, Option, Some, None, is_some, refl, sym, ◌∙◌, ap, subst, arith, inl, inr, ◌⊎◌, length-append}
+use Rattle.std.specs.Prelude.{◌==◌, slice_get}
 use Rattle.std.specs.List.{filter, filter_map}
 use Rattle.std.specs.Option.{option_map}
 use Rattle.std.proofs.lemmas.Bool.{cases_lt, eq-eqb, false_from_ne_true}
@@ -10,6 +10,8 @@ use Rattle.std.proofs.lemmas.List.Elements.{filter-append}
 use Rattle.padata_core.specs.Pad.{Pad, taken_of, ready, running_of}
 use Rattle.request_queue.specs.Line.{number_at_bound}
 use Rattle.cryptd.specs.Server.{Server}
+use Rattle.board.specs.declared.entry.Shape.{Shape}
+use Rattle.board.specs.declared.entry.Shape.TheVariants as shape
 use Rattle.board.specs.declared.entry.BoardEntry.{BoardEntry}
 use Rattle.board.specs.declared.entry.BoardEntry.TheVariants.{Take, Deq}
 use Rattle.board.specs.declared.pipeline.Pipeline.{Pipeline}
@@ -19,12 +21,14 @@ use Rattle.board.specs.Shapes.{queue_born, line_born, lists_born, width_born}
 use Rattle.board.specs.Stages.{is_queue, jobs_of, next_of, started_by, MayServe, MayPass, without_first}
 use Rattle.board.specs.Entries.{is_of, entries_of, birth_in, birth, accepted_in, submissions, dequeued_in, dequeues, dequeued, passed_on, taken_in, takings, takers, finished_in, finished, has, is_close, is_closed, is_share, masked_in, submitter_in, collected_in, take_entry, MayTake, AllTaken, IsHeldBusyOrEmpty, NoneFor}
 use Rattle.board.specs.Legal.{IsRight, IsRightFor, MayFinish, LegalBoard, is_shut_entry}
-use Rattle.board.specs.Kept.{shape_of, IsIdle, IsKeptPad, IsKeptStage, IsKeptPipe, IsKeptBoard, work_owed, owed_by}
+use Rattle.board.specs.Places.{Places, places}
+use Rattle.board.specs.Kept.{shape_of, IsKeptPad, IsKeptStage, IsKeptPipe, IsKeptBoard, work_owed, owed_by}
 use Rattle.board.specs.Ready.{HasJob, Admits, NoneIs}
 use Rattle.board.proofs.Lists.{filter_map-none, filter_map-some, has_only_below}
 use Rattle.board.proofs.Transfer.{entries-more, each_right}
 use Rattle.board.proofs.Keeping.{birth_stays, AreNumbered, passed-le, orderly}
-use Rattle.board.proofs.Kept.{kept_here, place_step}
+use Rattle.board.proofs.Kept.{Pipes, IsSet, place_step}
+use Rattle.board.proofs.Closed.{ended_taken, ended_line}
 use Rattle.board.proofs.KeptMarks.{stage_more}
 use Rattle.board.proofs.Admitting.{queue_kept, may_take, admitted}
 use Rattle.board.proofs.KeptPassing.{drop_head}
@@ -215,15 +219,6 @@ first_shape (stage.Pad pad) rest lists = refl
 first_shape (stage.Queue line) rest lists = refl
 first_shape (stage.Chain c) rest lists = refl
 
-first_idle : {J O : Type 0} (s : Stage J O) (job : J) (rest : List J) → jobs_of s ≡ job ∷ rest → IsIdle s → ⊥
-first_idle (stage.Pad pad) job rest w i = cc
-first_idle (stage.Queue line) job rest w i = cc
-first_idle (stage.Chain c) job rest w i = (let z = i.1 in cc)
-
--- a pipeline that has a job is open
-open_of : {J O A : Type 0} (asked : J → A) (meaning : A → O) (pipe : Pipeline J O) (es : List (BoardEntry A)) → IsKeptPipe asked meaning pipe es → (IsIdle pipe.stage → ⊥) → is_closed es ≡ false
-open_of asked meaning pipe es k n = k.closing ∙ false_from_ne_true pipe.closed (λ h. n (k.idle h))
-
 pub first_of : {J O : Type 0} (A : Type 0) (s : Stage J O) (caller p : ℕ) → (is_of {A = A} p (first_taken s caller p) ≡ true) × (birth_in {A = A} (first_taken s caller p) ≡ None)
 first_of A (stage.Pad pad) caller p = (eq-eqb p p refl, refl)
 first_of A (stage.Queue line) caller p = (eq-eqb p p refl, refl)
@@ -238,24 +233,23 @@ first_right log (stage.Chain c) caller p r = (tt, r)
 pub numbered_here : {A : Type 0} (log : List (BoardEntry A)) (p : ℕ) → LegalBoard log → AreNumbered (entries_of p log)
 numbered_here log p l = (orderly (entries_of p log) (each_right [] log p l)).numbered
 
-pub take_step : {J O A : Type 0} (asked : J → A) (meaning : A → O) (pipes : List (Pipeline J O)) (log : List (BoardEntry A)) (p caller : ℕ) (pipe : Pipeline J O) (after : Stage J O) (job : J) → IsKeptBoard asked meaning pipes log → p < length pipes → pipe ≡ get_or pipes p pipe
+pub take_step : {J O A : Type 0} (asked : J → A) (meaning : A → O) (pipes : Pipes J O) (born : ℕ) (log : List (BoardEntry A)) (p caller : ℕ) (pipe : Pipeline J O) (after : Stage J O) (job : J) (next : Pipes J O) → IsKeptBoard asked meaning (places pipes) born log → IsSet pipes next p pipe (record pipe { stage = after })
     → HasJob pipe → Admits pipe caller → jobs_of pipe.stage ≡ job ∷ jobs_of after → after ≡ without_first pipe.stage (jobs_of after)
-    → IsKeptBoard asked meaning (slice_set pipes p (record pipe { stage = after })) (log ++ first_taken pipe.stage caller p ∷ [])
-    × (owed_by (slice_set pipes p (record pipe { stage = after })) + 1 ≡ owed_by pipes)
+    → IsKeptBoard asked meaning (places next) born (log ++ first_taken pipe.stage caller p ∷ [])
+    × (owed_by next + 1 ≡ owed_by pipes)
     × (slice_get (submissions (entries_of p log)) (next_of pipe.stage) ≡ Some (asked job))
     × MayFinish meaning (entries_of p (log ++ first_taken pipe.stage caller p ∷ [])) caller (next_of pipe.stage) (meaning (asked job))
-take_step {J} {O} {A} asked meaning pipes log p caller pipe after job k within here m a w e =
+take_step {J} {O} {A} asked meaning pipes born log p caller pipe after job next k set m a w e =
     let es = entries_of p log in
     let rest = jobs_of after in
     let en : BoardEntry A = first_taken pipe.stage caller p in
-    let kp = kept_here asked meaning pipes log p pipe k within here in
-    let open_ = open_of asked meaning pipe es kp (first_idle pipe.stage job rest w) in
-    let t = stage_taken asked meaning pipe.stage es pipe.collected caller p pipe.maker (width_born (birth es)) job rest kp.stage kp.born (numbered_here log p k.legal) open_ (λ q. may_take asked meaning pipe es caller kp q a) m w in
+    let kp = k.each p pipe set.here in
+    let t = stage_taken asked meaning pipe.stage es pipe.collected caller p pipe.maker (width_born (birth es)) job rest kp.stage kp.born (numbered_here log p k.legal) kp.closing (λ q. may_take asked meaning pipe es caller kp q a) m w in
     let ch = first_changes A pipe.stage caller p in
     let f = first_of A pipe.stage caller p in
-    let moved = stage_more asked meaning pipe (without_first pipe.stage rest) es en kp (first_shape pipe.stage rest) ch.close ch.share ch.mask ch.submitter ch.collect t.kept (λ h. absurd (first_idle pipe.stage job rest w (kp.idle h))) in
+    let moved = stage_more asked meaning pipe (without_first pipe.stage rest) es en kp (first_shape pipe.stage rest) ch.close ch.share ch.mask ch.submitter ch.collect t.kept in
     let kept : IsKeptPipe asked meaning (record pipe { stage = after }) (es ++ en ∷ []) = subst (λ s. IsKeptPipe asked meaning (record pipe { stage = s }) (es ++ en ∷ [])) (sym e) moved in
-    let s = place_step asked meaning pipes log p pipe (record pipe { stage = after }) en k within here f.0 f.1 (first_right log pipe.stage caller p t.right) kept in
+    let s = place_step asked meaning pipes next born log p pipe (record pipe { stage = after }) en k set f.0 f.1 (first_right log pipe.stage caller p t.right) kept in
     let pays : work_owed after + 1 ≡ work_owed pipe.stage = subst (λ x. work_owed x + 1 ≡ work_owed pipe.stage) (sym e) t.pays in
     (s.0, omega (arith, s.1, pays), t.ask, rw (entries-more log p en f.0) t.finishing)
 
@@ -298,17 +292,26 @@ admits_of : {J O A : Type 0} (asked : J → A) (meaning : A → O) (pipe : Pipel
 admits_of asked meaning pipe es caller k (inl q) = inl q
 admits_of asked meaning pipe es caller k (inr t) = admitted asked meaning pipe es caller k t
 
-none_at : {J O A : Type 0} (asked : J → A) (meaning : A → O) (pipes : List (Pipeline J O)) (log : List (BoardEntry A)) (caller : ℕ) → IsKeptBoard asked meaning pipes log → NoneIs (λ (pipe : Pipeline J O). HasJob pipe × Admits pipe caller) pipes → (p : ℕ) → (p < length pipes) ⊎ (length pipes ≤ p)
-    → (lists_born (birth (entries_of p log)) ≡ true → MayTake (entries_of p log) caller → AllTaken (entries_of p log)) × (queue_born (birth (entries_of p log)) ≡ true → IsHeldBusyOrEmpty (entries_of p log))
-none_at asked meaning [] log caller k z p (inl below) = absurd (omega arith)
-none_at asked meaning (x ∷ xs) log caller k z p (inl below) =
-    let pipe = get_or (x ∷ xs) p x in
-    let kp = k.each p x below in
-    quiet_stage asked meaning pipe.stage (entries_of p log) pipe.collected caller pipe.maker (width_born (birth (entries_of p log))) kp.stage kp.born (λ t m. z p x below (m, admits_of asked meaning pipe (entries_of p log) caller kp t))
-none_at asked meaning pipes log caller k z p (inr above) = rw (k.beyond p above) (λ h t. cc, λ h. cc)
+queue_line : (b : Option (ℕ × Shape)) → queue_born b ≡ true → line_born b ≡ true
+queue_line None h = cc
+queue_line (Some (maker, shape.Pad lists)) h = cc
+queue_line (Some (maker, shape.Queue max)) h = refl
+queue_line (Some (maker, shape.Chain max lists)) h = refl
 
-pub take_none : {J O A : Type 0} (asked : J → A) (meaning : A → O) (pipes : List (Pipeline J O)) (log : List (BoardEntry A)) (caller : ℕ) → IsKeptBoard asked meaning pipes log → NoneIs (λ (pipe : Pipeline J O). HasJob pipe × Admits pipe caller) pipes → NoneFor log caller
-take_none asked meaning pipes log caller k z p = none_at asked meaning pipes log caller k z p (cases_lt p (length pipes))
+at_cases : {J O A : Type 0} (asked : J → A) (meaning : A → O) (pipes : Places (Pipeline J O)) (born : ℕ) (log : List (BoardEntry A)) (caller : ℕ) → IsKeptBoard asked meaning pipes born log → NoneIs (λ (pipe : Pipeline J O). HasJob pipe × Admits pipe caller) pipes → (p : ℕ) → (p < born) ⊎ (born ≤ p) → (o : Option (Pipeline J O)) → pipes p ≡ o
+    → (lists_born (birth (entries_of p log)) ≡ true → MayTake (entries_of p log) caller → AllTaken (entries_of p log)) × (queue_born (birth (entries_of p log)) ≡ true → IsHeldBusyOrEmpty (entries_of p log))
+at_cases asked meaning pipes born log caller k z p (inl below) None at =
+    let es = entries_of p log in
+    let r = each_right [] log p k.legal in
+    let shut = k.others p below at in
+    (λ h m. ended_taken es r shut, λ h. inr (inr (ended_line es r shut (queue_line (birth es) h))))
+at_cases asked meaning pipes born log caller k z p (inl below) (Some pipe) at =
+    let kp = k.each p pipe at in
+    quiet_stage asked meaning pipe.stage (entries_of p log) pipe.collected caller pipe.maker (width_born (birth (entries_of p log))) kp.stage kp.born (λ t m. z p pipe at (m, admits_of asked meaning pipe (entries_of p log) caller kp t))
+at_cases asked meaning pipes born log caller k z p (inr above) o at = rw (k.beyond p above) (λ h t. cc, λ h. cc)
+
+pub take_none : {J O A : Type 0} (asked : J → A) (meaning : A → O) (pipes : Places (Pipeline J O)) (born : ℕ) (log : List (BoardEntry A)) (caller : ℕ) → IsKeptBoard asked meaning pipes born log → NoneIs (λ (pipe : Pipeline J O). HasJob pipe × Admits pipe caller) pipes → NoneFor log caller
+take_none asked meaning pipes born log caller k z p = at_cases asked meaning pipes born log caller k z p (cases_lt p born) (pipes p) refl
 
 -- no Shut, and no acceptance, is among the entries of work
 pub first_quiet : {J O : Type 0} (A : Type 0) (s : Stage J O) (caller p : ℕ) → (is_shut_entry {A = A} (first_taken s caller p) ≡ false) × (accepted_in {A = A} (first_taken s caller p) ≡ None)

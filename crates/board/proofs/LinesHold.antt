@@ -1,10 +1,8 @@
 -- The lines of a board's callers, as pipelines change.
-use Rattle.std.proofs.Common.{◌≡◌, ◌≢◌, ℕ, zero, suc, ◌+◌, ◌<◌, ◌≤◌, Bool, true, false, cond, ◌&&◌, ◌||◌, take, drop, List, [], ◌∷◌, ◌++◌, length, refl, sym, ◌∙◌, ap, subst, arith, inl, inr, ◌⊎◌, get_or, length-append}
-use Rattle.std.specs.Prelude.{◌==◌, slice_set, slice_index_or, MatchOption, Option, Some, None, Result, Ok, Err, OnOk}
+use Rattle.std.proofs.Common.{◌≡◌, ◌≢◌, ℕ, zero, suc, ◌+◌, ◌<◌, ◌≤◌, Bool, true, false, cond, ◌&&◌, ◌||◌, take, drop, List, [], ◌∷◌, ◌++◌, length, refl, sym, ◌∙◌, ap, subst, arith, inl, inr, ◌⊎◌, get_or}
+use Rattle.std.specs.Prelude.{◌==◌, slice_set, MatchBool, MatchOption, Option, Some, None, Result, Ok, Err, OnOk}
 use Rattle.std.specs.List.{position_from}
 use Rattle.std.proofs.lemmas.Bool.{eqb-true, eq-eqb, cases_eq, cases_lt, both_ways}
-use Rattle.std.proofs.lemmas.List.{get_or-set_same, get_or-set_other, get_or_append_left, length-set}
-use Rattle.std.proofs.Math.Seq.{get_or-append_seam}
 use Rattle.std.proofs.lemmas.Grind.{common_steps}
 use Rattle.board.specs.declared.pipeline.Pipeline.{Pipeline}
 use Rattle.board.specs.declared.lines.OwnLine.{OwnLine}
@@ -13,7 +11,9 @@ use Rattle.board.specs.declared.stage.Stage.TheVariants as stage
 use Rattle.board.specs.Entries.{has, IsMasked}
 use Rattle.board.specs.Pipelines.{IsSame, NotesCaller}
 use Rattle.board.specs.Stages.{is_queue, is_chain, without_room, holding, collected_from}
-use Rattle.board.specs.Ready.{ReadyLine, IsMember, IsInLine, no_pipelines, HasJob, HasJobFor, Admits, IsQueue, IsNoQueue, IsFor, IsReadyFor, NoneStands, IsOne, Finds, KeepsPipe, Keeps, KeepsOthers, KeepsSuch, IsTold}
+use Rattle.board.specs.Places.{Places, places}
+use Rattle.board.proofs.Kept.{Pipes, IsSet, IsLeft, IsAdded, one_here}
+use Rattle.board.specs.Ready.{ReadyLine, IsMember, IsInLine, no_pipelines, HasJob, HasJobFor, Admits, IsQueue, IsNoQueue, IsFor, IsReadyFor, NoneStands, IsOne, Finds, Keeps, KeepsOthers, KeepsSuch, IsTold}
 use Rattle.board.specs.Lines.{LinesOf, is_line_of, line_of, AreMade, IsMade, Joins, IsReadmitted, AreReady}
 
 -- ---- the callers' lines
@@ -265,159 +265,156 @@ collected_chain (stage.Chain x) = refl
 pub collected_is_chain : {J O : Type 0} (pipe after : Pipeline J O) (to : ℕ) → after ≡ record pipe { collected = to; stage = collected_from pipe.stage } → is_chain after.stage ≡ is_chain pipe.stage
 collected_is_chain {J} {O} pipe after to e = ap (λ (x : Pipeline J O). is_chain x.stage) e ∙ collected_chain pipe.stage
 
-pub collected_closed : {J O : Type 0} (pipe after : Pipeline J O) (to : ℕ) → after ≡ record pipe { collected = to; stage = collected_from pipe.stage } → after.closed ≡ pipe.closed
-collected_closed {J} {O} pipe after to e = ap (λ (x : Pipeline J O). x.closed) e
-
 pub collected_admits : {J O : Type 0} (pipe after : Pipeline J O) (to : ℕ) → after ≡ record pipe { collected = to; stage = collected_from pipe.stage } → AdmitsNoMore pipe after
 collected_admits pipe after to e =
     subst (AdmitsNoMore pipe) (sym e) (admits_same pipe (record pipe { collected = to; stage = collected_from pipe.stage }) refl refl refl (collected_queue pipe.stage))
 
 -- ---- one line
 
-module _ {J O : Type 0} (such ready : Pipeline J O → Type 0) (pipes : List (Pipeline J O)) where
-  pub ready_kept : (line after : ReadyLine) → IsReadyFor such ready pipes line → Keeps line after → IsReadyFor such ready pipes after
+module _ {J O : Type 0} (such ready : Pipeline J O → Type 0) (pipes : Pipes J O) where
+  pub ready_kept : (line after : ReadyLine) → IsReadyFor such ready (places pipes) line → Keeps line after → IsReadyFor such ready (places pipes) after
   ready_kept line after r k = record {
-    members = λ q d l o s. (k q).0 (r.members q d l o s);
-    in_line = λ q d l m s. (k q).1 (r.in_line q d l m s);
+    members = λ q x at s. (k q).0 (r.members q x at s);
+    in_line = λ q x at m s. (k q).1 (r.in_line q x at m s);
   }
 
-  past_end : (q : ℕ) → q < length pipes → q ≢ length pipes
-  past_end q l e = (let f : q ≡ length pipes = e in absurd (omega arith))
+  not_there : (p q : ℕ) (x : Pipeline J O) → places pipes p ≡ None → places pipes q ≡ Some x → q ≢ p
+  not_there p q x none at e = (let z : None ≡ Some x = sym none ∙ (ap (places pipes) (sym e) ∙ at) in cc)
 
   -- but for a number that no pipeline has
-  pub ready_others : (line after : ReadyLine) → IsReadyFor such ready pipes line → KeepsOthers (length pipes) line after → IsReadyFor such ready pipes after
-  ready_others line after r k = record {
-    members = λ q d l o s. (k q (past_end q l)).0 (r.members q d l o s);
-    in_line = λ q d l m s. (k q (past_end q l)).1 (r.in_line q d l m s);
+  pub ready_others : (line after : ReadyLine) (p : ℕ) → places pipes p ≡ None → IsReadyFor such ready (places pipes) line → KeepsOthers p line after → IsReadyFor such ready (places pipes) after
+  ready_others line after p none r k = record {
+    members = λ q x at s. (k q (not_there p q x none at)).0 (r.members q x at s);
+    in_line = λ q x at m s. (k q (not_there p q x none at)).1 (r.in_line q x at m s);
   }
 
   -- one pipeline of the line belongs there, and stands there where it is ready
   abbrev pub Belongs : ReadyLine → ℕ → Pipeline J O → Type 0
-  Belongs line q x = (x.closed ≡ false → such x → IsMember line q) × (ready x → such x → IsInLine line q)
-
-  belongs_here : (line : ReadyLine) (q : ℕ) (d : Pipeline J O) → IsReadyFor such ready pipes line → q < length pipes → Belongs line q (slice_index_or pipes q d)
-  belongs_here line q d r l = (r.members q d l, r.in_line q d l)
-
-  belongs_kept : (line after : ReadyLine) (q : ℕ) (x : Pipeline J O) → KeepsPipe line after q → Belongs line q x → Belongs after q x
-  belongs_kept line after q x k b = (λ o s. k.0 (b.0 o s), λ m s. k.1 (b.1 m s))
-
-  all_belong : (line : ReadyLine) (more : List (Pipeline J O)) → ((q : ℕ) (d : Pipeline J O) → q < length more → Belongs line q (slice_index_or more q d)) → IsReadyFor such ready more line
-  all_belong line more b = record {
-    members = λ q d l. (b q d l).0;
-    in_line = λ q d l. (b q d l).1;
-  }
-
-  set_cases : (line after : ReadyLine) (p : ℕ) (new : Pipeline J O) → IsReadyFor such ready pipes line → p < length pipes → KeepsOthers p line after → Belongs after p new → (q : ℕ) (d : Pipeline J O) → q < length pipes → (q ≡ p) ⊎ (q ≡ p → ⊥)
-      → Belongs after q (slice_index_or (slice_set pipes p new) q d)
-  set_cases line after p new r within k here q d l (inl e) =
-      subst (λ n. Belongs after n (slice_index_or (slice_set pipes p new) n d)) (sym e) (subst (Belongs after p) (sym (get_or-set_same pipes p new d within)) here)
-  set_cases line after p new r within k here q d l (inr n) =
-      subst (Belongs after q) (sym (get_or-set_other pipes p q new d n)) (belongs_kept line after q (slice_index_or pipes q d) (k q n) (belongs_here line q d r l))
-
-  -- a pipeline in another form
-  pub ready_set : (line after : ReadyLine) (p : ℕ) (new : Pipeline J O) → IsReadyFor such ready pipes line → p < length pipes → KeepsOthers p line after → Belongs after p new → IsReadyFor such ready (slice_set pipes p new) after
-  ready_set line after p new r within k here =
-      all_belong after (slice_set pipes p new) (λ q d l. set_cases line after p new r within k here q d (let s = length-set pipes p new in omega arith) (cases_eq q p))
+  Belongs line q x = (such x → IsMember line q) × (ready x → such x → IsInLine line q)
 
   -- where it is, and belongs to the line, it does as before
-  pub member_here : (line : ReadyLine) (p : ℕ) (pipe : Pipeline J O) → IsReadyFor such ready pipes line → p < length pipes → pipe ≡ get_or pipes p pipe → Belongs line p pipe
-  member_here line p pipe r within here = subst (Belongs line p) (sym here) (belongs_here line p pipe r within)
+  pub member_here : (line : ReadyLine) (q : ℕ) (x : Pipeline J O) → IsReadyFor such ready (places pipes) line → places pipes q ≡ Some x → Belongs line q x
+  member_here line q x r at = (r.members q x at, r.in_line q x at)
+
+  put_cases : (next : Pipes J O) (line after : ReadyLine) (p : ℕ) → IsReadyFor such ready (places pipes) line → ((q : ℕ) → q ≢ p → places next q ≡ places pipes q) → KeepsOthers p line after → ((x : Pipeline J O) → places next p ≡ Some x → Belongs after p x)
+      → (q : ℕ) (x : Pipeline J O) → places next q ≡ Some x → (q ≡ p) ⊎ (q ≡ p → ⊥) → Belongs after q x
+  put_cases next line after p r others k here q x at (inl e) = subst (λ n. Belongs after n x) (sym e) (here x (ap (places next) (sym e) ∙ at))
+  put_cases next line after p r others k here q x at (inr n) =
+      let b = member_here line q x r (sym (others q n) ∙ at) in
+      (λ s. (k q n).0 (b.0 s), λ m s. (k q n).1 (b.1 m s))
+
+  -- another pipeline at one number, or none
+  pub ready_put : (next : Pipes J O) (line after : ReadyLine) (p : ℕ) → IsReadyFor such ready (places pipes) line → ((q : ℕ) → q ≢ p → places next q ≡ places pipes q) → KeepsOthers p line after → ((x : Pipeline J O) → places next p ≡ Some x → Belongs after p x) → IsReadyFor such ready (places next) after
+  ready_put next line after p r others k here = record {
+    members = λ q x at. (put_cases next line after p r others k here q x at (cases_eq q p)).0;
+    in_line = λ q x at. (put_cases next line after p r others k here q x at (cases_eq q p)).1;
+  }
+
+  one_there : (next : Pipes J O) (after : ReadyLine) (p : ℕ) (new x : Pipeline J O) → places next p ≡ Some new → Belongs after p new → places next p ≡ Some x → Belongs after p x
+  one_there next after p new x there b at =
+      let z : Some new ≡ Some x = sym there ∙ at in
+      let y : new ≡ x = cc in
+      subst (Belongs after p) y b
+
+  -- a pipeline in another form
+  pub ready_set : (next : Pipes J O) (line after : ReadyLine) (p : ℕ) (pipe new : Pipeline J O) → IsReadyFor such ready (places pipes) line → IsSet pipes next p pipe new → KeepsOthers p line after → Belongs after p new → IsReadyFor such ready (places next) after
+  ready_set next line after p pipe new r set k b = ready_put next line after p r set.others k (λ x at. one_there next after p new x set.there b at)
 
   -- which belongs there only if it did, and is ready only if it was
-  pub ready_same : (line : ReadyLine) (p : ℕ) (pipe new : Pipeline J O) → IsReadyFor such ready pipes line → p < length pipes → pipe ≡ get_or pipes p pipe → new.closed ≡ pipe.closed → (such new → such pipe) → (ready new → ready pipe)
-      → IsReadyFor such ready (slice_set pipes p new) line
-  ready_same line p pipe new r within here closed belongs is =
-      let b = member_here line p pipe r within here in
-      ready_set line line p new r within (λ q n. same_keeps line q) (λ o s. b.0 (sym closed ∙ o) (belongs s), λ m s. b.1 (is m) (belongs s))
+  pub ready_same : (next : Pipes J O) (line : ReadyLine) (p : ℕ) (pipe new : Pipeline J O) → IsReadyFor such ready (places pipes) line → IsSet pipes next p pipe new → (such new → such pipe) → (ready new → ready pipe)
+      → IsReadyFor such ready (places next) line
+  ready_same next line p pipe new r set belongs is =
+      let b = member_here line p pipe r set.here in
+      ready_set next line line p pipe new r set (λ q n. same_keeps line q) (λ s. b.0 (belongs s), λ m s. b.1 (is m) (belongs s))
 
   -- of which the line is told
-  pub ready_told : (line after : ReadyLine) (p : ℕ) (new : Pipeline J O) (had is : Bool) → IsReadyFor such ready pipes line → p < length pipes → IsTold p had is line after
-      → (new.closed ≡ false → such new → IsMember line p) → (had ≡ true → ready new → such new → IsInLine line p) → (ready new → is ≡ true) → (ready new → new.closed ≡ false) → IsReadyFor such ready (slice_set pipes p new) after
-  ready_told line after p new had is r within t member stood says open_ =
-      ready_set line after p new r within t.others
-      (λ o s. t.member (member o s), λ m s. t.in_line (says m) (λ h. stood h m s) (member (open_ m) s))
-
-  born_cases : (line after : ReadyLine) (new : Pipeline J O) → IsReadyFor such ready pipes line → KeepsOthers (length pipes) line after → Belongs after (length pipes) new → (q : ℕ) (d : Pipeline J O) → q < length pipes + 1 → (q < length pipes) ⊎ (length pipes ≤ q)
-      → Belongs after q (slice_index_or (pipes ++ new ∷ []) q d)
-  born_cases line after new r k here q d l (inl below) =
-      subst (Belongs after q) (sym (get_or_append_left pipes (new ∷ []) d q below)) (belongs_kept line after q (slice_index_or pipes q d) (k q (past_end q below)) (belongs_here line q d r below))
-  born_cases line after new r k here q d l (inr above) =
-      let e : q ≡ length pipes = omega arith in
-      subst (λ n. Belongs after n (slice_index_or (pipes ++ new ∷ []) n d)) (sym e) (subst (Belongs after (length pipes)) (sym (get_or-append_seam pipes new [] d)) here)
+  pub ready_told : (next : Pipes J O) (line after : ReadyLine) (p : ℕ) (pipe new : Pipeline J O) (had is : Bool) → IsReadyFor such ready (places pipes) line → IsSet pipes next p pipe new → IsTold p had is line after
+      → (such new → IsMember line p) → (had ≡ true → ready new → such new → IsInLine line p) → (ready new → is ≡ true) → IsReadyFor such ready (places next) after
+  ready_told next line after p pipe new had is r set t member stood says =
+      ready_set next line after p pipe new r set t.others
+      (λ s. t.member (member s), λ m s. t.in_line (says m) (λ h. stood h m s) (member s))
 
   -- a pipeline that was just made is not ready
-  pub ready_born : (line after : ReadyLine) (new : Pipeline J O) → IsReadyFor such ready pipes line → KeepsOthers (length pipes) line after → (such new → IsMember after (length pipes)) → (ready new → ⊥) → IsReadyFor such ready (pipes ++ new ∷ []) after
-  ready_born line after new r k member none =
-      all_belong after (pipes ++ new ∷ [])
-      (λ q d l. born_cases line after new r k (λ o s. member s, λ m s. absurd (none m)) q d (let s = length-append pipes (new ∷ []) in omega arith) (cases_lt q (length pipes)))
+  pub ready_born : (next : Pipes J O) (line after : ReadyLine) (p : ℕ) (new : Pipeline J O) → IsReadyFor such ready (places pipes) line → IsAdded pipes next p new → KeepsOthers p line after → (such new → IsMember after p) → (ready new → ⊥) → IsReadyFor such ready (places next) after
+  ready_born next line after p new r added k member none =
+      ready_put next line after p r added.others k (λ x at. one_there next after p new x added.there (λ s. member s, λ m s. absurd (none m)) at)
+
+  -- one that was closed left the line
+  pub ready_left : (next : Pipes J O) (line after : ReadyLine) (p : ℕ) (pipe : Pipeline J O) → IsReadyFor such ready (places pipes) line → IsLeft pipes next p pipe → KeepsOthers p line after → IsReadyFor such ready (places next) after
+  ready_left next line after p pipe r left k = ready_put next line after p r left.others k (λ x at. (let z : None ≡ Some x = sym left.there ∙ at in cc))
 
   -- a search leaves what is ready
-  pub ready_searched : (seen : Pipeline J O → Type 0) (line after : ReadyLine) → ((x : Pipeline J O) → ready x → such x → seen x) → IsReadyFor such ready pipes line → KeepsSuch seen pipes line after → IsReadyFor such ready pipes after
+  pub ready_searched : (seen : Pipeline J O → Type 0) (line after : ReadyLine) → ((x : Pipeline J O) → ready x → such x → seen x) → IsReadyFor such ready (places pipes) line → KeepsSuch seen (places pipes) line after → IsReadyFor such ready (places pipes) after
   ready_searched seen line after to r k = record {
-    members = λ q d l o s. (k q).0 (r.members q d l o s);
-    in_line = λ q d l m s. (k q).1 d l (to (slice_index_or pipes q d) m s) (r.in_line q d l m s);
+    members = λ q x at s. (k q).0 (r.members q x at s);
+    in_line = λ q x at m s. (k q).1 x at (to x m s) (r.in_line q x at m s);
   }
 
 -- no pipelines
-pub ready_none : {J O : Type 0} (such ready : Pipeline J O → Type 0) (line : ReadyLine) → IsReadyFor such ready [] line
-ready_none such ready line = record {
-  members = λ q d l. absurd (omega arith);
-  in_line = λ q d l. absurd (omega arith);
+pub ready_none : {J O : Type 0} (such ready : Pipeline J O → Type 0) (pipes : Places (Pipeline J O)) (line : ReadyLine) → ((p : ℕ) → pipes p ≡ None) → IsReadyFor such ready pipes line
+ready_none such ready pipes line none = record {
+  members = λ q x at. (let z : None ≡ Some x = sym (none q) ∙ at in cc);
+  in_line = λ q x at. (let z : None ≡ Some x = sym (none q) ∙ at in cc);
 }
 
 -- ---- the search in a line
 
 -- who is found without a job leaves the line
-pub dropped : {P : Type 0} (such : P → Type 0) (pipes : List P) (line next after : ReadyLine) (k : ℕ) → KeepsSuch such pipes line next → KeepsOthers k next after → (IsMember next k → IsMember after k) → ((d : P) → k < length pipes → such (slice_index_or pipes k d) → ⊥)
+pub dropped : {P : Type 0} (such : P → Type 0) (pipes : Places P) (line next after : ReadyLine) (k : ℕ) → KeepsSuch such pipes line next → KeepsOthers k next after → (IsMember next k → IsMember after k) → ((x : P) → pipes k ≡ Some x → such x → ⊥)
     → KeepsSuch such pipes line after
 dropped {P} such pipes line next after k kept others member none p = drop_cases (cases_eq p k)
   where
-    drop_cases : (p ≡ k) ⊎ (p ≡ k → ⊥) → (IsMember line p → IsMember after p) × ((d : P) → p < length pipes → such (slice_index_or pipes p d) → IsInLine line p → IsInLine after p)
+    drop_cases : (p ≡ k) ⊎ (p ≡ k → ⊥) → (IsMember line p → IsMember after p) × ((x : P) → pipes p ≡ Some x → such x → IsInLine line p → IsInLine after p)
     drop_cases (inl e) = (
       λ m. subst (IsMember after) (sym e) (member (subst (IsMember next) e ((kept p).0 m))),
-      λ d l s i. absurd (none d (subst (λ n. n < length pipes) e l) (subst (λ n. such (slice_index_or pipes n d)) e s)),
+      λ x at s i. absurd (none x (ap pipes (sym e) ∙ at) s),
     )
-    drop_cases (inr n) = (λ m. (others p n).0 ((kept p).0 m), λ d l s i. (others p n).1 ((kept p).1 d l s i))
+    drop_cases (inr n) = (λ m. (others p n).0 ((kept p).0 m), λ x at s i. (others p n).1 ((kept p).1 x at s i))
+
+-- what is known of the pipeline at a number is known of the number
+pub one_at : {P : Type 0} (such : P → Type 0) (pipes : Places P) (k : ℕ) (x : P) (b : Bool) → pipes k ≡ Some x → MatchBool b (such x) (such x → ⊥) → MatchBool b (IsOne such pipes k) ((y : P) → pipes k ≡ Some y → such y → ⊥)
+one_at such pipes k x true at m = (x, at, m)
+one_at such pipes k x false at m = λ y there s. m (one_here such (pipes k) x there s at)
 
 -- where nobody stands in line
-pub none_stands : {P : Type 0} (such : P → Type 0) (pipes : List P) (line next : ReadyLine) → KeepsSuch such pipes line next → ((p : ℕ) → IsInLine next p → ⊥) → NoneStands such pipes line
-none_stands such pipes line next kept none p d l s i = none p ((kept p).1 d l s i)
+pub none_stands : {P : Type 0} (such : P → Type 0) (pipes : Places P) (line next : ReadyLine) → KeepsSuch such pipes line next → ((p : ℕ) → IsInLine next p → ⊥) → NoneStands such pipes line
+none_stands such pipes line next kept none p x at s i = none p ((kept p).1 x at s i)
 
 -- ---- all lines
 
-module _ {J O : Type 0} (pipes : List (Pipeline J O)) where
-  pub lines_kept : (lines after : LinesOf) → AreReady pipes lines → IsMade Keeps lines after → AreReady pipes after
+module _ {J O : Type 0} (pipes : Pipes J O) where
+  pub lines_kept : (lines after : LinesOf) → AreReady (places pipes) lines → IsMade Keeps lines after → AreReady (places pipes) after
   lines_kept lines after r k = record {
     queues = ready_kept IsQueue HasJob pipes lines.queues after.queues r.queues k.0;
     own = λ c. ready_kept (IsFor c) HasJob pipes (line_of c lines.own) (line_of c after.own) (r.own c) (k.1 c);
   }
 
-  pub lines_others : (lines after : LinesOf) → AreReady pipes lines → IsMade (KeepsOthers (length pipes)) lines after → AreReady pipes after
-  lines_others lines after r k = record {
-    queues = ready_others IsQueue HasJob pipes lines.queues after.queues r.queues k.0;
-    own = λ c. ready_others (IsFor c) HasJob pipes (line_of c lines.own) (line_of c after.own) (r.own c) (k.1 c);
+  pub lines_others : (lines after : LinesOf) (p : ℕ) → places pipes p ≡ None → AreReady (places pipes) lines → IsMade (KeepsOthers p) lines after → AreReady (places pipes) after
+  lines_others lines after p none r k = record {
+    queues = ready_others IsQueue HasJob pipes lines.queues after.queues p none r.queues k.0;
+    own = λ c. ready_others (IsFor c) HasJob pipes (line_of c lines.own) (line_of c after.own) p none (r.own c) (k.1 c);
   }
 
   no_queue : (pipe new : Pipeline J O) → AdmitsNoMore pipe new → (c : ℕ) → IsFor c new → IsFor c pipe
   no_queue pipe new a c s = (sym a.queue ∙ s.0, a.admits c s.1)
 
   -- a pipeline in another form, of which nobody may take a job who might not before
-  pub lines_same : (lines : LinesOf) (p : ℕ) (pipe new : Pipeline J O) → AreReady pipes lines → p < length pipes → pipe ≡ get_or pipes p pipe → new.closed ≡ pipe.closed → (HasJob new → HasJob pipe) → AdmitsNoMore pipe new → AreReady (slice_set pipes p new) lines
-  lines_same lines p pipe new r within here closed serves a = record {
-    queues = ready_same IsQueue HasJob pipes lines.queues p pipe new r.queues within here closed (λ q. sym a.queue ∙ q) serves;
-    own = λ c. ready_same (IsFor c) HasJob pipes (line_of c lines.own) p pipe new (r.own c) within here closed (no_queue pipe new a c) serves;
+  pub lines_same : (next : Pipes J O) (lines : LinesOf) (p : ℕ) (pipe new : Pipeline J O) → AreReady (places pipes) lines → IsSet pipes next p pipe new → (HasJob new → HasJob pipe) → AdmitsNoMore pipe new → AreReady (places next) lines
+  lines_same next lines p pipe new r set serves a = record {
+    queues = ready_same IsQueue HasJob pipes next lines.queues p pipe new r.queues set (λ q. sym a.queue ∙ q) serves;
+    own = λ c. ready_same (IsFor c) HasJob pipes next (line_of c lines.own) p pipe new (r.own c) set (no_queue pipe new a c) serves;
   }
 
   -- of which the lines are told
-  pub lines_told : (lines after : LinesOf) (p : ℕ) (pipe new : Pipeline J O) (had is : Bool) → AreReady pipes lines → p < length pipes → pipe ≡ get_or pipes p pipe → IsMade (IsTold p had is) lines after → new.closed ≡ pipe.closed → AdmitsNoMore pipe new
-      → (had ≡ true → HasJob pipe) → (HasJob new → is ≡ true) → (HasJob new → new.closed ≡ false) → AreReady (slice_set pipes p new) after
-  lines_told lines after p pipe new had is r within here t closed a had_job says open_ =
-      let q = member_here IsQueue HasJob pipes lines.queues p pipe r.queues within here in
+  pub lines_told : (next : Pipes J O) (lines after : LinesOf) (p : ℕ) (pipe new : Pipeline J O) (had is : Bool) → AreReady (places pipes) lines → IsSet pipes next p pipe new → IsMade (IsTold p had is) lines after → AdmitsNoMore pipe new
+      → (had ≡ true → HasJob pipe) → (HasJob new → is ≡ true) → AreReady (places next) after
+  lines_told next lines after p pipe new had is r set t a had_job says =
+      let q = member_here IsQueue HasJob pipes lines.queues p pipe r.queues set.here in
       record {
-        queues = ready_told IsQueue HasJob pipes lines.queues after.queues p new had is r.queues within t.0 (λ o s. q.0 (sym closed ∙ o) (sym a.queue ∙ s)) (λ h m s. q.1 (had_job h) (sym a.queue ∙ s)) says open_;
+        queues = ready_told IsQueue HasJob pipes next lines.queues after.queues p pipe new had is r.queues set t.0 (λ s. q.0 (sym a.queue ∙ s)) (λ h m s. q.1 (had_job h) (sym a.queue ∙ s)) says;
         own = λ c.
-            (let b = member_here (IsFor c) HasJob pipes (line_of c lines.own) p pipe (r.own c) within here in
-            ready_told (IsFor c) HasJob pipes (line_of c lines.own) (line_of c after.own) p new had is (r.own c) within (t.1 c) (λ o s. b.0 (sym closed ∙ o) (no_queue pipe new a c s)) (λ h m s. b.1 (had_job h) (no_queue pipe new a c s)) says open_);
+            (let b = member_here (IsFor c) HasJob pipes (line_of c lines.own) p pipe (r.own c) set.here in
+            ready_told (IsFor c) HasJob pipes next (line_of c lines.own) (line_of c after.own) p pipe new had is (r.own c) set (t.1 c) (λ s. b.0 (no_queue pipe new a c s)) (λ h m s. b.1 (had_job h) (no_queue pipe new a c s)) says);
       }
 
   noted_cases : (pipe new : Pipeline J O) (caller c : ℕ) (accepted : Bool) → NotesCaller pipe new caller accepted → is_queue new.stage ≡ is_queue pipe.stage → Admits new c → (c ≡ pipe.maker) ⊎ (c ≡ pipe.maker → ⊥) → Admits pipe c ⊎ (caller ≡ c)
@@ -433,54 +430,54 @@ module _ {J O : Type 0} (pipes : List (Pipeline J O)) where
       noted false false e is same t = cc
   noted_cases pipe new caller c accepted n queue (inr (inr (inr m))) (inr other) = inl (inr (inr (inr (subst (λ k. IsMasked k c) n.mask m))))
 
-  asked_member : (own : List OwnLine) (p : ℕ) (pipe new : Pipeline J O) (caller c : ℕ) → IsReadyFor (IsFor c) HasJob pipes (line_of c own) → p < length pipes → pipe ≡ get_or pipes p pipe → new.closed ≡ pipe.closed → is_queue new.stage ≡ is_queue pipe.stage → (IsNoQueue pipe → IsMember (line_of caller own) p)
-      → new.closed ≡ false → IsNoQueue new → Admits pipe c ⊎ (caller ≡ c) → IsMember (line_of c own) p
-  asked_member own p pipe new caller c r within here closed queue joined o s (inl a) = (member_here (IsFor c) HasJob pipes (line_of c own) p pipe r within here).0 (sym closed ∙ o) (sym queue ∙ s, a)
-  asked_member own p pipe new caller c r within here closed queue joined o s (inr e) = subst (λ n. IsMember (line_of n own) p) e (joined (sym queue ∙ s))
+  asked_member : (own : List OwnLine) (p : ℕ) (pipe new : Pipeline J O) (caller c : ℕ) → IsReadyFor (IsFor c) HasJob (places pipes) (line_of c own) → places pipes p ≡ Some pipe → is_queue new.stage ≡ is_queue pipe.stage → (IsNoQueue pipe → IsMember (line_of caller own) p)
+      → IsNoQueue new → Admits pipe c ⊎ (caller ≡ c) → IsMember (line_of c own) p
+  asked_member own p pipe new caller c r here queue joined s (inl a) = (member_here (IsFor c) HasJob pipes (line_of c own) p pipe r here).0 (sym queue ∙ s, a)
+  asked_member own p pipe new caller c r here queue joined s (inr e) = subst (λ n. IsMember (line_of n own) p) e (joined (sym queue ∙ s))
 
-  asked_stands : (own : List OwnLine) (p : ℕ) (pipe new : Pipeline J O) (caller c : ℕ) → IsReadyFor (IsFor c) HasJob pipes (line_of c own) → p < length pipes → pipe ≡ get_or pipes p pipe → is_queue new.stage ≡ is_queue pipe.stage → (IsNoQueue pipe → HasJob pipe → IsInLine (line_of caller own) p)
+  asked_stands : (own : List OwnLine) (p : ℕ) (pipe new : Pipeline J O) (caller c : ℕ) → IsReadyFor (IsFor c) HasJob (places pipes) (line_of c own) → places pipes p ≡ Some pipe → is_queue new.stage ≡ is_queue pipe.stage → (IsNoQueue pipe → HasJob pipe → IsInLine (line_of caller own) p)
       → HasJob pipe → IsNoQueue new → Admits pipe c ⊎ (caller ≡ c) → IsInLine (line_of c own) p
-  asked_stands own p pipe new caller c r within here queue stood h s (inl a) = (member_here (IsFor c) HasJob pipes (line_of c own) p pipe r within here).1 h (sym queue ∙ s, a)
-  asked_stands own p pipe new caller c r within here queue stood h s (inr e) = subst (λ n. IsInLine (line_of n own) p) e (stood (sym queue ∙ s) h)
+  asked_stands own p pipe new caller c r here queue stood h s (inl a) = (member_here (IsFor c) HasJob pipes (line_of c own) p pipe r here).1 h (sym queue ∙ s, a)
+  asked_stands own p pipe new caller c r here queue stood h s (inr e) = subst (λ n. IsInLine (line_of n own) p) e (stood (sym queue ∙ s) h)
 
   -- a pipeline of which a caller who joined its line asked something
-  pub lines_asked : (lines after : LinesOf) (p : ℕ) (pipe new : Pipeline J O) (caller : ℕ) (accepted had is : Bool) → AreReady pipes lines → p < length pipes → pipe ≡ get_or pipes p pipe → (IsNoQueue pipe → IsMember (line_of caller lines.own) p) → (IsNoQueue pipe → HasJob pipe → IsInLine (line_of caller lines.own) p)
-      → IsMade (IsTold p had is) lines after → NotesCaller pipe new caller accepted → is_queue new.stage ≡ is_queue pipe.stage → (had ≡ true → HasJob pipe) → (HasJob new → is ≡ true) → (HasJob new → new.closed ≡ false) → AreReady (slice_set pipes p new) after
-  lines_asked lines after p pipe new caller accepted had is r within here joined stood t n queue had_job says open_ =
-      let q = member_here IsQueue HasJob pipes lines.queues p pipe r.queues within here in
+  pub lines_asked : (next : Pipes J O) (lines after : LinesOf) (p : ℕ) (pipe new : Pipeline J O) (caller : ℕ) (accepted had is : Bool) → AreReady (places pipes) lines → IsSet pipes next p pipe new → (IsNoQueue pipe → IsMember (line_of caller lines.own) p) → (IsNoQueue pipe → HasJob pipe → IsInLine (line_of caller lines.own) p)
+      → IsMade (IsTold p had is) lines after → NotesCaller pipe new caller accepted → is_queue new.stage ≡ is_queue pipe.stage → (had ≡ true → HasJob pipe) → (HasJob new → is ≡ true) → AreReady (places next) after
+  lines_asked next lines after p pipe new caller accepted had is r set joined stood t n queue had_job says =
+      let q = member_here IsQueue HasJob pipes lines.queues p pipe r.queues set.here in
       let may : (c : ℕ) → Admits new c → Admits pipe c ⊎ (caller ≡ c) = λ c a. noted_cases pipe new caller c accepted n queue a (cases_eq c pipe.maker) in
       record {
-        queues = ready_told IsQueue HasJob pipes lines.queues after.queues p new had is r.queues within t.0 (λ o s. q.0 (sym n.closed ∙ o) (sym queue ∙ s)) (λ h m s. q.1 (had_job h) (sym queue ∙ s)) says open_;
+        queues = ready_told IsQueue HasJob pipes next lines.queues after.queues p pipe new had is r.queues set t.0 (λ s. q.0 (sym queue ∙ s)) (λ h m s. q.1 (had_job h) (sym queue ∙ s)) says;
         own = λ c.
-            ready_told (IsFor c) HasJob pipes (line_of c lines.own) (line_of c after.own) p new had is (r.own c) within (t.1 c)
-            (λ o s. asked_member lines.own p pipe new caller c (r.own c) within here n.closed queue joined o s.0 (may c s.1))
-            (λ h m s. asked_stands lines.own p pipe new caller c (r.own c) within here queue stood (had_job h) s.0 (may c s.1)) says open_;
+            ready_told (IsFor c) HasJob pipes next (line_of c lines.own) (line_of c after.own) p pipe new had is (r.own c) set (t.1 c)
+            (λ s. asked_member lines.own p pipe new caller c (r.own c) set.here queue joined s.0 (may c s.1))
+            (λ h m s. asked_stands lines.own p pipe new caller c (r.own c) set.here queue stood (had_job h) s.0 (may c s.1)) says;
       }
 
   -- a pipeline that was closed, and left all lines
-  pub lines_left : (lines after : LinesOf) (p : ℕ) (new : Pipeline J O) → AreReady pipes lines → p < length pipes → IsMade (KeepsOthers p) lines after → new.closed ≡ true → (HasJob new → ⊥) → AreReady (slice_set pipes p new) after
-  lines_left lines after p new r within k closed none = record {
-    queues = ready_set IsQueue HasJob pipes lines.queues after.queues p new r.queues within k.0 (λ o s. absurd (both_ways new.closed o closed), λ m s. absurd (none m));
-    own = λ c. ready_set (IsFor c) HasJob pipes (line_of c lines.own) (line_of c after.own) p new (r.own c) within (k.1 c) (λ o s. absurd (both_ways new.closed o closed), λ m s. absurd (none m));
+  pub lines_left : (next : Pipes J O) (lines after : LinesOf) (p : ℕ) (pipe : Pipeline J O) → AreReady (places pipes) lines → IsLeft pipes next p pipe → IsMade (KeepsOthers p) lines after → AreReady (places next) after
+  lines_left next lines after p pipe r left k = record {
+    queues = ready_left IsQueue HasJob pipes next lines.queues after.queues p pipe r.queues left k.0;
+    own = λ c. ready_left (IsFor c) HasJob pipes next (line_of c lines.own) (line_of c after.own) p pipe (r.own c) left (k.1 c);
   }
 
-  masked_member : (own : List OwnLine) (p : ℕ) (pipe new : Pipeline J O) (c : ℕ) → IsReadyFor (IsFor c) HasJob pipes (line_of c own) → p < length pipes → pipe ≡ get_or pipes p pipe → new.closed ≡ pipe.closed → new.maker ≡ pipe.maker → new.submitters.items ≡ pipe.submitters.items → is_queue new.stage ≡ is_queue pipe.stage
-      → ((worker : ℕ) → IsMasked new.mask worker → IsMember (line_of worker own) p) → new.closed ≡ false → IsNoQueue new → Admits new c → IsMember (line_of c own) p
-  masked_member own p pipe new c r within here closed made subs queue workers o s (inl q) = absurd (both_ways (is_queue new.stage) s q)
-  masked_member own p pipe new c r within here closed made subs queue workers o s (inr (inl m)) = (member_here (IsFor c) HasJob pipes (line_of c own) p pipe r within here).0 (sym closed ∙ o) (sym queue ∙ s, inr (inl (sym made ∙ m)))
-  masked_member own p pipe new c r within here closed made subs queue workers o s (inr (inr (inl h))) = (member_here (IsFor c) HasJob pipes (line_of c own) p pipe r within here).0 (sym closed ∙ o) (sym queue ∙ s, inr (inr (inl (ap (has c) (sym subs) ∙ h))))
-  masked_member own p pipe new c r within here closed made subs queue workers o s (inr (inr (inr m))) = workers c m
+  masked_member : (own : List OwnLine) (p : ℕ) (pipe new : Pipeline J O) (c : ℕ) → IsReadyFor (IsFor c) HasJob (places pipes) (line_of c own) → places pipes p ≡ Some pipe → new.maker ≡ pipe.maker → new.submitters.items ≡ pipe.submitters.items → is_queue new.stage ≡ is_queue pipe.stage
+      → ((worker : ℕ) → IsMasked new.mask worker → IsMember (line_of worker own) p) → IsNoQueue new → Admits new c → IsMember (line_of c own) p
+  masked_member own p pipe new c r here made subs queue workers s (inl q) = absurd (both_ways (is_queue new.stage) s q)
+  masked_member own p pipe new c r here made subs queue workers s (inr (inl m)) = (member_here (IsFor c) HasJob pipes (line_of c own) p pipe r here).0 (sym queue ∙ s, inr (inl (sym made ∙ m)))
+  masked_member own p pipe new c r here made subs queue workers s (inr (inr (inl h))) = (member_here (IsFor c) HasJob pipes (line_of c own) p pipe r here).0 (sym queue ∙ s, inr (inr (inl (ap (has c) (sym subs) ∙ h))))
+  masked_member own p pipe new c r here made subs queue workers s (inr (inr (inr m))) = workers c m
 
   -- a pad under another mask, whose workers joined their lines
-  pub lines_masked : (lines after : LinesOf) (p : ℕ) (pipe new : Pipeline J O) → AreReady pipes lines → p < length pipes → pipe ≡ get_or pipes p pipe → after.queues ≡ lines.queues → ((c : ℕ) → IsReadmitted p new c (line_of c lines.own) (line_of c after.own))
-      → new.closed ≡ pipe.closed → new.maker ≡ pipe.maker → new.submitters.items ≡ pipe.submitters.items → is_queue new.stage ≡ is_queue pipe.stage → (HasJob new → HasJob pipe) → ((worker : ℕ) → IsMasked new.mask worker → IsMember (line_of worker lines.own) p) → new.closed ≡ false
-      → AreReady (slice_set pipes p new) after
-  lines_masked lines after p pipe new r within here queues own closed made subs queue serves workers open_ =
-      let member : (c : ℕ) → IsNoQueue new → Admits new c → IsMember (line_of c lines.own) p = λ c s a. masked_member lines.own p pipe new c (r.own c) within here closed made subs queue workers open_ s a in
+  pub lines_masked : (next : Pipes J O) (lines after : LinesOf) (p : ℕ) (pipe new : Pipeline J O) → AreReady (places pipes) lines → IsSet pipes next p pipe new → after.queues ≡ lines.queues → ((c : ℕ) → IsReadmitted p new c (line_of c lines.own) (line_of c after.own))
+      → new.maker ≡ pipe.maker → new.submitters.items ≡ pipe.submitters.items → is_queue new.stage ≡ is_queue pipe.stage → (HasJob new → HasJob pipe) → ((worker : ℕ) → IsMasked new.mask worker → IsMember (line_of worker lines.own) p)
+      → AreReady (places next) after
+  lines_masked next lines after p pipe new r set queues own made subs queue serves workers =
+      let member : (c : ℕ) → IsNoQueue new → Admits new c → IsMember (line_of c lines.own) p = λ c s a. masked_member lines.own p pipe new c (r.own c) set.here made subs queue workers s a in
       record {
-        queues = subst (IsReadyFor IsQueue HasJob (slice_set pipes p new)) (sym queues) (ready_same IsQueue HasJob pipes lines.queues p pipe new r.queues within here closed (λ q. sym queue ∙ q) serves);
-        own = λ c. ready_set (IsFor c) HasJob pipes (line_of c lines.own) (line_of c after.own) p new (r.own c) within (own c).others
-            (λ o s. (own c).member s.1 (member c s.0 s.1), λ m s. (own c).in_line s.1 m (member c s.0 s.1));
+        queues = subst (IsReadyFor IsQueue HasJob (places next)) (sym queues) (ready_same IsQueue HasJob pipes next lines.queues p pipe new r.queues set (λ q. sym queue ∙ q) serves);
+        own = λ c. ready_set (IsFor c) HasJob pipes next (line_of c lines.own) (line_of c after.own) p pipe new (r.own c) set (own c).others
+            (λ s. (own c).member s.1 (member c s.0 s.1), λ m s. (own c).in_line s.1 m (member c s.0 s.1));
       }
 
   born_member : (own : List OwnLine) (p : ℕ) (new : Pipeline J O) (queues : ReadyLine) (c : ℕ) → Joins p new (record { queues = queues; own = own }) → new.submitters.items ≡ [] → IsNoQueue new → Admits new c → IsMember (line_of c own) p
@@ -490,10 +487,10 @@ module _ {J O : Type 0} (pipes : List (Pipeline J O)) where
   born_member own p new queues c j none s (inr (inr (inr m))) = j.workers s c m
 
   -- a pipeline that was just made has no job
-  pub lines_born : (lines after : LinesOf) (new : Pipeline J O) → AreReady pipes lines → IsMade (KeepsOthers (length pipes)) lines after → Joins (length pipes) new after → (HasJob new → ⊥) → new.submitters.items ≡ [] → AreReady (pipes ++ new ∷ []) after
-  lines_born lines after new r k j none subs = record {
-    queues = ready_born IsQueue HasJob pipes lines.queues after.queues new r.queues k.0 j.queue none;
-    own = λ c. ready_born (IsFor c) HasJob pipes (line_of c lines.own) (line_of c after.own) new (r.own c) (k.1 c) (λ s. born_member after.own (length pipes) new after.queues c j subs s.0 s.1) none;
+  pub lines_born : (next : Pipes J O) (lines after : LinesOf) (p : ℕ) (new : Pipeline J O) → AreReady (places pipes) lines → IsAdded pipes next p new → IsMade (KeepsOthers p) lines after → Joins p new after → (HasJob new → ⊥) → new.submitters.items ≡ [] → AreReady (places next) after
+  lines_born next lines after p new r added k j none subs = record {
+    queues = ready_born IsQueue HasJob pipes next lines.queues after.queues p new r.queues added k.0 j.queue none;
+    own = λ c. ready_born (IsFor c) HasJob pipes next (line_of c lines.own) (line_of c after.own) p new (r.own c) added (k.1 c) (λ s. born_member after.own p new after.queues c j subs s.0 s.1) none;
   }
 
   -- ---- the search in the queues' line and in a caller's own
@@ -504,60 +501,60 @@ module _ {J O : Type 0} (pipes : List (Pipeline J O)) where
   own_seen : (caller : ℕ) (x : Pipeline J O) → HasJob x → IsFor caller x → HasJobFor caller x
   own_seen caller x m s = (m, s.1)
 
-  pub queues_searched : (caller : ℕ) (line after : ReadyLine) → IsReadyFor IsQueue HasJob pipes line → KeepsSuch (HasJobFor caller) pipes line after → IsReadyFor IsQueue HasJob pipes after
+  pub queues_searched : (caller : ℕ) (line after : ReadyLine) → IsReadyFor IsQueue HasJob (places pipes) line → KeepsSuch (HasJobFor caller) (places pipes) line after → IsReadyFor IsQueue HasJob (places pipes) after
   queues_searched caller line after r k = ready_searched IsQueue HasJob pipes (HasJobFor caller) line after (queue_seen caller) r k
 
-  pub own_searched : (caller : ℕ) (line after : ReadyLine) → IsReadyFor (IsFor caller) HasJob pipes line → KeepsSuch (HasJobFor caller) pipes line after → IsReadyFor (IsFor caller) HasJob pipes after
+  pub own_searched : (caller : ℕ) (line after : ReadyLine) → IsReadyFor (IsFor caller) HasJob (places pipes) line → KeepsSuch (HasJobFor caller) (places pipes) line after → IsReadyFor (IsFor caller) HasJob (places pipes) after
   own_searched caller line after r k = ready_searched (IsFor caller) HasJob pipes (HasJobFor caller) line after (own_seen caller) r k
 
-  none_cases : (lines : LinesOf) (caller p : ℕ) (d : Pipeline J O) (queue : Bool) → AreReady pipes lines → NoneStands (HasJobFor caller) pipes lines.queues → NoneStands (HasJobFor caller) pipes (line_of caller lines.own) → p < length pipes → HasJobFor caller (slice_index_or pipes p d) → is_queue (slice_index_or pipes p d).stage ≡ queue → ⊥
-  none_cases lines caller p d true r q o l h e = q p d l h (r.queues.in_line p d l h.0 e)
-  none_cases lines caller p d false r q o l h e = o p d l h ((r.own caller).in_line p d l h.0 (e, h.1))
+  none_cases : (lines : LinesOf) (caller p : ℕ) (x : Pipeline J O) (queue : Bool) → AreReady (places pipes) lines → NoneStands (HasJobFor caller) (places pipes) lines.queues → NoneStands (HasJobFor caller) (places pipes) (line_of caller lines.own) → places pipes p ≡ Some x → HasJobFor caller x → is_queue x.stage ≡ queue → ⊥
+  none_cases lines caller p x true r q o at h e = q p x at h (r.queues.in_line p x at h.0 e)
+  none_cases lines caller p x false r q o at h e = o p x at h ((r.own caller).in_line p x at h.0 (e, h.1))
 
   -- what stands in neither has no job for the caller
-  pub found_all : (lines : LinesOf) (caller : ℕ) (found : Option ℕ) → AreReady pipes lines
-      → MatchOption found (NoneStands (HasJobFor caller) pipes lines.queues × NoneStands (HasJobFor caller) pipes (line_of caller lines.own)) (IsOne (HasJobFor caller) pipes) → Finds (HasJobFor caller) pipes found
-  found_all lines caller None r none = λ p d l h. none_cases lines caller p d (is_queue (slice_index_or pipes p d).stage) r none.0 none.1 l h refl
+  pub found_all : (lines : LinesOf) (caller : ℕ) (found : Option ℕ) → AreReady (places pipes) lines
+      → MatchOption found (NoneStands (HasJobFor caller) (places pipes) lines.queues × NoneStands (HasJobFor caller) (places pipes) (line_of caller lines.own)) (IsOne (HasJobFor caller) (places pipes)) → Finds (HasJobFor caller) (places pipes) found
+  found_all lines caller None r none = λ p x at h. none_cases lines caller p x (is_queue x.stage) r none.0 none.1 at h refl
   found_all lines caller (Some k) r one = one
 
-  both_ways_round : (caller : ℕ) (line second : ReadyLine) (found : Option ℕ) → MatchOption found (NoneStands (HasJobFor caller) pipes line × NoneStands (HasJobFor caller) pipes second) (IsOne (HasJobFor caller) pipes)
-      → MatchOption found (NoneStands (HasJobFor caller) pipes second × NoneStands (HasJobFor caller) pipes line) (IsOne (HasJobFor caller) pipes)
+  both_ways_round : (caller : ℕ) (line second : ReadyLine) (found : Option ℕ) → MatchOption found (NoneStands (HasJobFor caller) (places pipes) line × NoneStands (HasJobFor caller) (places pipes) second) (IsOne (HasJobFor caller) (places pipes))
+      → MatchOption found (NoneStands (HasJobFor caller) (places pipes) second × NoneStands (HasJobFor caller) (places pipes) line) (IsOne (HasJobFor caller) (places pipes))
   both_ways_round caller line second None h = (h.1, h.0)
   both_ways_round caller line second (Some k) h = h
 
   -- the queues' line alone, for a caller that has no other
-  pub found_queue : (lines : LinesOf) (caller : ℕ) (found : Option ℕ) → AreReady pipes lines → line_of caller lines.own ≡ no_pipelines → MatchOption found (NoneStands (HasJobFor caller) pipes lines.queues) (IsOne (HasJobFor caller) pipes) → Finds (HasJobFor caller) pipes found
-  found_queue lines caller None r none h = found_all lines caller None r (h, λ p d l m i. none_in_line p (subst (λ line. IsInLine line p) none i))
+  pub found_queue : (lines : LinesOf) (caller : ℕ) (found : Option ℕ) → AreReady (places pipes) lines → line_of caller lines.own ≡ no_pipelines → MatchOption found (NoneStands (HasJobFor caller) (places pipes) lines.queues) (IsOne (HasJobFor caller) (places pipes)) → Finds (HasJobFor caller) (places pipes) found
+  found_queue lines caller None r none h = found_all lines caller None r (h, λ p x at m i. none_in_line p (subst (λ line. IsInLine line p) none i))
   found_queue lines caller (Some k) r none h = h
 
   -- the queues' line first, then the caller's own
-  pub found_queue_first : (lines : LinesOf) (caller place : ℕ) (own : OwnLine) (found : Option ℕ) → AreReady pipes lines → IsLineAt caller lines.own place → own ≡ get_or lines.own place own
-      → MatchOption found (NoneStands (HasJobFor caller) pipes lines.queues × NoneStands (HasJobFor caller) pipes own.line) (IsOne (HasJobFor caller) pipes) → Finds (HasJobFor caller) pipes found
+  pub found_queue_first : (lines : LinesOf) (caller place : ℕ) (own : OwnLine) (found : Option ℕ) → AreReady (places pipes) lines → IsLineAt caller lines.own place → own ≡ get_or lines.own place own
+      → MatchOption found (NoneStands (HasJobFor caller) (places pipes) lines.queues × NoneStands (HasJobFor caller) (places pipes) own.line) (IsOne (HasJobFor caller) (places pipes)) → Finds (HasJobFor caller) (places pipes) found
   found_queue_first lines caller place own found r at here h =
       found_all lines caller found r
-      (subst (λ line. MatchOption found (NoneStands (HasJobFor caller) pipes lines.queues × NoneStands (HasJobFor caller) pipes line) (IsOne (HasJobFor caller) pipes))
+      (subst (λ line. MatchOption found (NoneStands (HasJobFor caller) (places pipes) lines.queues × NoneStands (HasJobFor caller) (places pipes) line) (IsOne (HasJobFor caller) (places pipes)))
       (ap (λ (o : OwnLine). o.line) here ∙ sym (at.line_is own)) h)
 
   -- or the other way round
-  pub found_own_first : (lines : LinesOf) (caller place : ℕ) (own : OwnLine) (found : Option ℕ) → AreReady pipes lines → IsLineAt caller lines.own place → own ≡ get_or lines.own place own
-      → MatchOption found (NoneStands (HasJobFor caller) pipes own.line × NoneStands (HasJobFor caller) pipes lines.queues) (IsOne (HasJobFor caller) pipes) → Finds (HasJobFor caller) pipes found
+  pub found_own_first : (lines : LinesOf) (caller place : ℕ) (own : OwnLine) (found : Option ℕ) → AreReady (places pipes) lines → IsLineAt caller lines.own place → own ≡ get_or lines.own place own
+      → MatchOption found (NoneStands (HasJobFor caller) (places pipes) own.line × NoneStands (HasJobFor caller) (places pipes) lines.queues) (IsOne (HasJobFor caller) (places pipes)) → Finds (HasJobFor caller) (places pipes) found
   found_own_first lines caller place own found r at here h = found_queue_first lines caller place own found r at here (both_ways_round caller own.line lines.queues found h)
 
   -- what a search leaves of the lines
-  pub line_searched : (lines : LinesOf) (caller : ℕ) (queues : ReadyLine) → AreReady pipes lines → KeepsSuch (HasJobFor caller) pipes lines.queues queues → AreReady pipes (record lines { queues = queues })
+  pub line_searched : (lines : LinesOf) (caller : ℕ) (queues : ReadyLine) → AreReady (places pipes) lines → KeepsSuch (HasJobFor caller) (places pipes) lines.queues queues → AreReady (places pipes) (record lines { queues = queues })
   line_searched lines caller queues r k = record {
     queues = queues_searched caller lines.queues queues r.queues k;
     own = r.own;
   }
 
-  pub lines_searched : (lines : LinesOf) (caller place : ℕ) (own new : OwnLine) (queues : ReadyLine) → AreReady pipes lines → IsLineAt caller lines.own place → own ≡ get_or lines.own place own → new.caller ≡ own.caller → KeepsSuch (HasJobFor caller) pipes lines.queues queues
-      → KeepsSuch (HasJobFor caller) pipes own.line new.line → AreReady pipes (record { queues = queues; own = slice_set lines.own place new })
+  pub lines_searched : (lines : LinesOf) (caller place : ℕ) (own new : OwnLine) (queues : ReadyLine) → AreReady (places pipes) lines → IsLineAt caller lines.own place → own ≡ get_or lines.own place own → new.caller ≡ own.caller → KeepsSuch (HasJobFor caller) (places pipes) lines.queues queues
+      → KeepsSuch (HasJobFor caller) (places pipes) own.line new.line → AreReady (places pipes) (record { queues = queues; own = slice_set lines.own place new })
   lines_searched lines caller place own new queues r at here e k l = record {
     queues = queues_searched caller lines.queues queues r.queues k;
     own = λ c.
-        set_made (λ n line after. IsReadyFor (IsFor n) HasJob pipes line → IsReadyFor (IsFor n) HasJob pipes after) (λ n line s. s) lines.own place new own at.within (e ∙ ap (λ (o : OwnLine). o.caller) here)
-        (subst (λ (o : OwnLine). IsReadyFor (IsFor o.caller) HasJob pipes o.line → IsReadyFor (IsFor o.caller) HasJob pipes new.line) here
-        (λ s. subst (λ n. IsReadyFor (IsFor n) HasJob pipes new.line) (sym (mine own at here)) (own_searched caller own.line new.line (subst (λ n. IsReadyFor (IsFor n) HasJob pipes own.line) (mine own at here) s) l))) c (r.own c);
+        set_made (λ n line after. IsReadyFor (IsFor n) HasJob (places pipes) line → IsReadyFor (IsFor n) HasJob (places pipes) after) (λ n line s. s) lines.own place new own at.within (e ∙ ap (λ (o : OwnLine). o.caller) here)
+        (subst (λ (o : OwnLine). IsReadyFor (IsFor o.caller) HasJob (places pipes) o.line → IsReadyFor (IsFor o.caller) HasJob (places pipes) new.line) here
+        (λ s. subst (λ n. IsReadyFor (IsFor n) HasJob (places pipes) new.line) (sym (mine own at here)) (own_searched caller own.line new.line (subst (λ n. IsReadyFor (IsFor n) HasJob (places pipes) own.line) (mine own at here) s) l))) c (r.own c);
   }
     where
       mine : (own : OwnLine) → IsLineAt caller lines.own place → own ≡ get_or lines.own place own → own.caller ≡ caller

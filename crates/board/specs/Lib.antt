@@ -4,6 +4,7 @@ pub mod Legal
 pub mod Order
 pub mod Examples
 pub mod Stages
+pub mod Places
 pub mod Kept
 pub mod Pipelines
 pub mod Births

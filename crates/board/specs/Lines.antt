@@ -3,6 +3,7 @@ use Rattle.std.specs.Prelude.{ℕ, Bool, ◌==◌, if◌then◌else◌, List, []
 use Rattle.board.specs.declared.pipeline.Pipeline.{Pipeline}
 use Rattle.board.specs.declared.lines.OwnLine.{OwnLine}
 use Rattle.board.specs.Entries.{IsMasked}
+use Rattle.board.specs.Places.{Places}
 use Rattle.board.specs.Ready.{ReadyLine, IsMember, IsInLine, no_pipelines, HasJob, Admits, IsQueue, IsNoQueue, IsFor, IsReadyFor, KeepsOthers}
 
 -- the queues' line, and the others, each with its caller
@@ -39,6 +40,6 @@ pub record IsReadmitted {J O : Type 0} (pipe : ℕ) (new : Pipeline J O) (caller
   pub in_line : Admits new caller → HasJob new → IsMember line pipe → IsInLine after pipe
 
 -- in each line stands what it is for
-pub record AreReady {J O : Type 0} (pipes : List (Pipeline J O)) (lines : LinesOf) : Type 0 where
+pub record AreReady {J O : Type 0} (pipes : Places (Pipeline J O)) (lines : LinesOf) : Type 0 where
   pub queues : IsReadyFor IsQueue HasJob pipes lines.queues
   pub own : (caller : ℕ) → IsReadyFor (IsFor caller) HasJob pipes (line_of caller lines.own)

@@ -1,6 +1,5 @@
 -- What the calls on one pipeline leave of it.
-use Rattle.std.specs.Prelude.{◌≡◌, ◌≢◌, ℕ, if◌then◌else◌, Bool, true, false, ◌==◌, nat_lt, ◌&&◌, ◌||◌, [], length}
-use Rattle.padata_core.specs.Pad.{Pad}
+use Rattle.std.specs.Prelude.{◌≡◌, ◌≢◌, ℕ, if◌then◌else◌, Bool, true, false, ◌==◌, nat_lt, ◌&&◌, ◌||◌, length}
 use Rattle.cryptd.specs.Server.{Server}
 use Rattle.board.specs.declared.entry.Entered.{Entered}
 use Rattle.board.specs.declared.entry.Entered.TheVariants.{InProgress, Busy, NoSpace}
@@ -13,7 +12,6 @@ use Rattle.board.specs.Stages.{without_room}
 -- all but the room that is kept for more requests is the same
 pub record IsSame {J O : Type 0} (old new : Pipeline J O) : Type 0 where
   pub maker : new.maker ≡ old.maker
-  pub closed : new.closed ≡ old.closed
   pub shared : new.shared ≡ old.shared
   pub mask : new.mask ≡ old.mask
   pub submitters : new.submitters.items ≡ old.submitters.items
@@ -23,7 +21,6 @@ pub record IsSame {J O : Type 0} (old new : Pipeline J O) : Type 0 where
 -- where the caller's request is accepted, it is noted among those who submitted, unless it made the pipeline
 pub record NotesCaller {J O : Type 0} (old new : Pipeline J O) (caller : ℕ) (accepted : Bool) : Type 0 where
   pub maker : new.maker ≡ old.maker
-  pub closed : new.closed ≡ old.closed
   pub shared : new.shared ≡ old.shared
   pub mask : new.mask ≡ old.mask
   pub collected : new.collected ≡ old.collected
@@ -59,15 +56,3 @@ abbrev pub with_lists : {J O : Type 0} → Stage J O → ℕ → Stage J O
 with_lists (stage.Pad pad) lists = stage.Pad (record pad { lists = lists })
 with_lists (stage.Queue line) lists = stage.Queue line
 with_lists (stage.Chain c) lists = stage.Chain c
-
--- all is finished and collected
-abbrev pub IsSpentLine : {J O : Type 0} → Server J O → Type 0
-IsSpentLine line = (line.busy ≡ false) × (line.line.waiting ≡ []) × (line.pending ≡ [])
-
-abbrev pub IsSpentPad : {J O : Type 0} → Pad J O → Type 0
-IsSpentPad pad = (pad.waiting ≡ []) × (pad.outcomes ≡ [])
-
-abbrev pub IsSpent : {J O : Type 0} → Stage J O → Type 0
-IsSpent (stage.Pad pad) = IsSpentPad pad
-IsSpent (stage.Queue line) = IsSpentLine line
-IsSpent (stage.Chain c) = IsSpentLine c.line × IsSpentPad c.pad

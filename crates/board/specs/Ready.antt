@@ -1,7 +1,8 @@
 -- The lines of pipelines that may have a job to run, or a request to pass on.
-use Rattle.std.specs.Prelude.{◌≡◌, ◌≢◌, ◌⊎◌, ℕ, ◌<◌, Bool, true, false, List, [], length, Option, Some, slice_get, slice_index_or, MatchOption}
+use Rattle.std.specs.Prelude.{◌≡◌, ◌≢◌, ◌⊎◌, ℕ, ◌<◌, Bool, true, false, List, [], Option, Some, slice_get, MatchOption}
 use Rattle.board.specs.declared.pipeline.Pipeline.{Pipeline}
 use Rattle.board.specs.Entries.{has, IsMasked}
+use Rattle.board.specs.Places.{Places}
 use Rattle.board.specs.Stages.{is_queue, is_chain, MayServe, MayPass}
 
 -- the pipelines that may stand in a line, its members: the first `ready` of them stand there
@@ -51,14 +52,14 @@ IsChain pipe = is_chain pipe.stage ≡ true
 abbrev pub IsFor : {J O : Type 0} → ℕ → Pipeline J O → Type 0
 IsFor caller pipe = IsNoQueue pipe × Admits pipe caller
 
--- of the open pipelines each of such a kind is a member, and of all pipelines each of that kind that is ready stands in line
-pub record IsReadyFor {J O : Type 0} (such ready : Pipeline J O → Type 0) (pipes : List (Pipeline J O)) (line : ReadyLine) : Type 0 where
-  pub members : (p : ℕ) (d : Pipeline J O) → p < length pipes → (slice_index_or pipes p d).closed ≡ false → such (slice_index_or pipes p d) → IsMember line p
-  pub in_line : (p : ℕ) (d : Pipeline J O) → p < length pipes → ready (slice_index_or pipes p d) → such (slice_index_or pipes p d) → IsInLine line p
+-- of the open pipelines each of such a kind is a member, and each of that kind that is ready stands in line
+pub record IsReadyFor {J O : Type 0} (such ready : Pipeline J O → Type 0) (pipes : Places (Pipeline J O)) (line : ReadyLine) : Type 0 where
+  pub members : (p : ℕ) (x : Pipeline J O) → pipes p ≡ Some x → such x → IsMember line p
+  pub in_line : (p : ℕ) (x : Pipeline J O) → pipes p ≡ Some x → ready x → such x → IsInLine line p
 
 -- none of the pipelines is of such a kind
-abbrev pub NoneIs : {P : Type 0} → (P → Type 0) → List P → Type 0
-NoneIs {P} such pipes = (p : ℕ) (d : P) → p < length pipes → such (slice_index_or pipes p d) → ⊥
+abbrev pub NoneIs : {P : Type 0} → (P → Type 0) → Places P → Type 0
+NoneIs {P} such pipes = (p : ℕ) (x : P) → pipes p ≡ Some x → such x → ⊥
 
 -- ---- how a line changes
 
@@ -79,24 +80,24 @@ pub record IsTold (pipe : ℕ) (was is : Bool) (line after : ReadyLine) : Type 0
   pub in_line : is ≡ true → (was ≡ true → IsInLine line pipe) → IsMember line pipe → IsInLine after pipe
 
 -- only pipelines that are not of such a kind left the line
-abbrev pub KeepsSuch : {P : Type 0} → (P → Type 0) → List P → ReadyLine → ReadyLine → Type 0
+abbrev pub KeepsSuch : {P : Type 0} → (P → Type 0) → Places P → ReadyLine → ReadyLine → Type 0
 KeepsSuch {P} such pipes line after =
-    (p : ℕ) → (IsMember line p → IsMember after p) × ((d : P) → p < length pipes → such (slice_index_or pipes p d) → IsInLine line p → IsInLine after p)
+    (p : ℕ) → (IsMember line p → IsMember after p) × ((x : P) → pipes p ≡ Some x → such x → IsInLine line p → IsInLine after p)
 
 -- what a search in a line finds: one of such a kind, or none stands there
-abbrev pub NoneStands : {P : Type 0} → (P → Type 0) → List P → ReadyLine → Type 0
-NoneStands {P} such pipes line = (p : ℕ) (d : P) → p < length pipes → such (slice_index_or pipes p d) → IsInLine line p → ⊥
+abbrev pub NoneStands : {P : Type 0} → (P → Type 0) → Places P → ReadyLine → Type 0
+NoneStands {P} such pipes line = (p : ℕ) (x : P) → pipes p ≡ Some x → such x → IsInLine line p → ⊥
 
-abbrev pub IsOne : {P : Type 0} → (P → Type 0) → List P → ℕ → Type 0
-IsOne {P} such pipes k = (k < length pipes) × ((d : P) → such (slice_index_or pipes k d))
+abbrev pub IsOne : {P : Type 0} → (P → Type 0) → Places P → ℕ → Type 0
+IsOne {P} such pipes k = (x : P) × (pipes k ≡ Some x) × such x
 
-abbrev pub FindsIn : {P : Type 0} → (P → Type 0) → List P → ReadyLine → Option ℕ → Type 0
+abbrev pub FindsIn : {P : Type 0} → (P → Type 0) → Places P → ReadyLine → Option ℕ → Type 0
 FindsIn such pipes line found = MatchOption found (NoneStands such pipes line) (IsOne such pipes)
 
 -- a search in two lines
-abbrev pub FindsInBoth : {P : Type 0} → (P → Type 0) → List P → ReadyLine → ReadyLine → Option ℕ → Type 0
+abbrev pub FindsInBoth : {P : Type 0} → (P → Type 0) → Places P → ReadyLine → ReadyLine → Option ℕ → Type 0
 FindsInBoth such pipes line second found = MatchOption found (NoneStands such pipes line × NoneStands such pipes second) (IsOne such pipes)
 
 -- a search among all pipelines
-abbrev pub Finds : {P : Type 0} → (P → Type 0) → List P → Option ℕ → Type 0
+abbrev pub Finds : {P : Type 0} → (P → Type 0) → Places P → Option ℕ → Type 0
 Finds such pipes found = MatchOption found (NoneIs such pipes) (IsOne such pipes)

@@ -88,26 +88,28 @@ impl<W: Work> BoardCore<W> {
         ensures legal { LegalBoard self.new }
     {
         reserve_entries(&mut self.log, self.owed, 2)?;
-        self.pipes.reserve(1)?;
         let new = Pipeline {
             maker: caller,
-            closed: false,
             shared: false,
             mask,
             submitters: Vec::new(self.alloc),
             collected: 0,
             stage,
         };
-        let place = self.pipes.len();
-        enter_lines(&mut self.ready, &mut self.passing, place, &new)?;
-        let pipe = place as u64;
-        self.pipes.push_reserved(new);
+        let pipe = self.born;
+        enter_lines(&mut self.ready, &mut self.passing, pipe, &new)?;
+        if self.pipes.insert(pipe, new).is_err() {
+            self.ready.leave(pipe);
+            self.passing.leave(pipe);
+            return Err(BoardErr::Memory);
+        }
         self.log.push_reserved(BoardEntry::Born {
             caller,
             pipe,
             shape,
         });
         self.owed += 1;
+        self.born += 1;
         Ok(pipe)
     }
 }
@@ -116,7 +118,7 @@ impl<W: Work> BoardCore<W> {
 fn enter_lines<J: Drop, F: Drop>(
     ready: &mut JobLines,
     passing: &mut Ready,
-    pipe: usize,
+    pipe: u64,
     new: &Pipeline<J, F>,
 ) -> Result<(), AllocError>
     ensures ready { IsMade (KeepsOthers pipe) ready.old ready.new }

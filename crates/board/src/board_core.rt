@@ -47,7 +47,10 @@ impl From<AllocError> for BoardErr {
 pub struct BoardCore<W: Work> {
     pub(crate) alloc: Global,
     pub(crate) log: Vec<BoardEntry<W::Ask>>,
-    pub(crate) pipes: Vec<Pipeline<W, W::Out>>,
+    /// The open pipelines, by their numbers.
+    pub(crate) pipes: BTreeMap<u64, Pipeline<W, W::Out>>,
+    /// How many pipelines were made, and the number of the next.
+    pub(crate) born: u64,
     /// In the lines of those that may take from a pipeline it stands while it has a job.
     pub(crate) ready: JobLines,
     /// In line stands each chain of which a request may be passed on.
@@ -67,6 +70,7 @@ impl<W: Work> Model for BoardCore<W> {
     ghost Value = { List (BoardEntry W.Ask) };
 
     ghost use Rattle.board.specs.Legal.{is_shut};
+    ghost use Rattle.board.specs.Places.{places};
     ghost use Rattle.board.specs.Kept.{IsKeptBoard, owed_by};
     ghost use Rattle.board.specs.Allowance.{IsKeptUsed};
     ghost use Rattle.board.specs.Ready.{IsChain, HasRequest, IsReadyFor};
@@ -74,7 +78,7 @@ impl<W: Work> Model for BoardCore<W> {
 
     ghost view = { λ b. b.log.items };
 
-    ghost invariant = { λ b. IsKeptBoard W.asked W.meaning b.pipes.items b.log.items × (is_shut b.log.items ≡ b.shut) × (vec_len b.log + b.owed ≤ vec_capacity b.log) × (b.owed ≡ owed_by b.pipes.items + (if b.shut then 0 else 1)) × IsKeptUsed W.weight b.used b.log.items × AreReady b.pipes.items b.ready × IsReadyFor IsChain HasRequest b.pipes.items b.passing };
+    ghost invariant = { λ b. IsKeptBoard W.asked W.meaning (places b.pipes) b.born b.log.items × (is_shut b.log.items ≡ b.shut) × (vec_len b.log + b.owed ≤ vec_capacity b.log) × (b.owed ≡ owed_by b.pipes + (if b.shut then 0 else 1)) × IsKeptUsed W.weight b.used b.log.items × AreReady (places b.pipes) b.ready × IsReadyFor IsChain HasRequest (places b.pipes) b.passing };
 }
 
 impl<W: Work> Told for BoardCore<W> {
@@ -97,7 +101,8 @@ impl<W: Work> BoardCore<W> {
         Ok(BoardCore {
             alloc,
             log,
-            pipes: Vec::new(alloc),
+            pipes: BTreeMap::new(alloc),
+            born: 0,
             ready: JobLines::new(alloc),
             passing: Ready::new(alloc),
             owed: 1,
@@ -116,7 +121,7 @@ impl<W: Work> BoardCore<W> {
         ensures legal { LegalBoard self.new }
     {
         reserve_entries(&mut self.log, self.owed, 1)?;
-        let place = &mut self.pipes[pipe as usize];
+        let place = self.pipes.get_mut(&pipe).unwrap();
         place.shared = true;
         self.log.push_reserved(BoardEntry::Share { caller, pipe });
         Ok(())
@@ -133,11 +138,9 @@ impl<W: Work> BoardCore<W> {
         ensures closed { self.new ≡ self.old ++ Entry.Close caller pipe ∷ [] }
         ensures legal { LegalBoard self.new }
     {
-        let place = &mut self.pipes[pipe as usize];
-        place.closed = true;
-        place.stage.free_room();
-        self.ready.leave(pipe as usize);
-        self.passing.leave(pipe as usize);
+        self.pipes.remove(&pipe);
+        self.ready.leave(pipe);
+        self.passing.leave(pipe);
         self.log.push_reserved(BoardEntry::Close { caller, pipe });
         self.owed -= 1;
     }

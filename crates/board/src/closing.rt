@@ -1,8 +1,8 @@
-//! What a stage says before a request comes, how its reorder lists change, and how it gives back its memory.
+//! What a stage says before a request comes, and how its reorder lists change.
 
 ghost use Rattle.std.specs.Prelude.{◌≡◌, ◌≤◌, true, OnOk, OnErr};
-ghost use Rattle.board.specs.Stages.{is_pad, IsPlaced, without_room};
-ghost use Rattle.board.specs.Pipelines.{accepts, work_after, with_lists, IsSpent};
+ghost use Rattle.board.specs.Stages.{is_pad};
+ghost use Rattle.board.specs.Pipelines.{accepts, work_after, with_lists};
 
 use crate::entering::is_accepted;
 use crate::entry::Entered;
@@ -46,22 +46,6 @@ impl<J: Drop, F: Drop> Stage<J, F> {
             Stage::Pad(pad) => pad.remask(lists),
             Stage::Queue(_) => unreachable!(),
             Stage::Chain(_) => unreachable!(),
-        }
-    }
-
-    /// Gives back the memory of a pipeline of which all is finished and collected.
-    pub(crate) fn free_room(&mut self)
-        requires { IsSpent self.old }
-        ensures same { without_room self.new ≡ without_room self.old }
-        ensures placed { IsPlaced self.new }
-    {
-        match self {
-            Stage::Pad(pad) => pad.free_room(),
-            Stage::Queue(line) => line.free_room(),
-            Stage::Chain(chain) => {
-                chain.line.free_room();
-                chain.pad.free_room();
-            }
         }
     }
 }

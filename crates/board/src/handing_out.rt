@@ -29,10 +29,10 @@ impl<W: Work> BoardCore<W> {
         ensures refused { IfErr result (λ e. e ≡ BoardErr.Memory) }
         ensures legal { LegalBoard self.new }
     {
-        let place = &self.pipes[pipe as usize];
+        let place = &self.pipes[&pipe];
         into.reserve(place.stage.uncollected())?;
         reserve_entries(&mut self.log, self.owed, 1)?;
-        let place = &mut self.pipes[pipe as usize];
+        let place = self.pipes.get_mut(&pipe).unwrap();
         let to = place.collect(into);
         self.log
             .push_reserved(BoardEntry::Collect { caller, pipe, to });
@@ -56,7 +56,7 @@ impl<W: Work> BoardCore<W> {
         ensures refused { IfErr result (λ e. e ≡ BoardErr.Memory) }
         ensures legal { LegalBoard self.new }
     {
-        let place = &self.pipes[pipe as usize];
+        let place = &self.pipes[&pipe];
         if !place.stage.is_done() {
             return Ok(false);
         }

@@ -4,6 +4,7 @@ ghost use Rattle.std.specs.Prelude.{◌≡◌, ℕ, true, false, [], OnOk};
 ghost use Rattle.std.specs.List.{position_from};
 ghost use Rattle.board.specs.declared.pipeline.Pipeline.{Pipeline};
 ghost use Rattle.board.specs.Entries.{IsMasked};
+ghost use Rattle.board.specs.Places.{places};
 ghost use Rattle.board.specs.Ready.{IsMember, IsInLine, no_pipelines, HasJob, IsNoQueue, HasJobFor, Keeps, KeepsOthers, IsTold, KeepsSuch, Finds, FindsInBoth};
 ghost use Rattle.board.specs.Lines.{is_line_of, line_of, AreMade, IsMade, Joins, IsReadmitted, AreReady};
 
@@ -12,6 +13,7 @@ use crate::pipeline::Pipeline;
 use crate::ready::Ready;
 use crate::serving::next_for;
 use std::alloc::{AllocError, Global};
+use std::collections::BTreeMap;
 use std::marker::Model;
 
 /// The callers 1 to so many are workers.
@@ -58,7 +60,7 @@ impl JobLines {
     /// Makes a new pipeline a member of the lines of those that may take from it. Want of memory leaves it out of all lines.
     pub(crate) fn enter<J: Drop, F: Drop>(
         &mut self,
-        pipe: usize,
+        pipe: u64,
         new: &Pipeline<J, F>,
     ) -> Result<(), AllocError>
         ensures others { IsMade (KeepsOthers pipe) self.old self.new }
@@ -74,7 +76,7 @@ impl JobLines {
     /// Makes a new pipeline a member of the lines of those that may take from it. Want of memory leaves it in some.
     fn join_all<J: Drop, F: Drop>(
         &mut self,
-        pipe: usize,
+        pipe: u64,
         new: &Pipeline<J, F>,
     ) -> Result<(), AllocError>
         ensures kept { IsMade Keeps self.old self.new }
@@ -89,7 +91,7 @@ impl JobLines {
 
     /// From now on the caller may take from a pad or a chain, which has a job or not. Want of memory changes nothing that is
     /// seen.
-    fn join(&mut self, caller: u32, pipe: usize, has_job: bool) -> Result<(), AllocError>
+    fn join(&mut self, caller: u32, pipe: u64, has_job: bool) -> Result<(), AllocError>
         ensures kept { IsMade Keeps self.old self.new }
         ensures joined { OnOk result (IsMember (line_of caller self.new.own) pipe) }
         ensures in_line { OnOk result (has_job ≡ true → IsInLine (line_of caller self.new.own) pipe) }
@@ -112,7 +114,7 @@ impl JobLines {
     pub(crate) fn admit<J: Drop, F: Drop>(
         &mut self,
         caller: u32,
-        pipe: usize,
+        pipe: u64,
         place: &Pipeline<J, F>,
     ) -> Result<(), AllocError>
         ensures kept { IsMade Keeps self.old self.new }
@@ -126,7 +128,7 @@ impl JobLines {
     }
 
     /// From now on the workers whose bits are set may take from a pad or a chain. Want of memory leaves it in the lines of some.
-    pub(crate) fn join_workers(&mut self, mask: u16, pipe: usize) -> Result<(), AllocError>
+    pub(crate) fn join_workers(&mut self, mask: u16, pipe: u64) -> Result<(), AllocError>
         ensures kept { IsMade Keeps self.old self.new }
         ensures joined { OnOk result ((worker : ℕ) → IsMasked mask worker → IsMember (line_of worker self.new.own) pipe) }
     {
@@ -137,7 +139,7 @@ impl JobLines {
     }
 
     /// From now on the worker may take from a pad or a chain, where its bit is set. Want of memory changes nothing that is seen.
-    fn join_worker(&mut self, worker: u32, mask: u16, pipe: usize) -> Result<(), AllocError>
+    fn join_worker(&mut self, worker: u32, mask: u16, pipe: u64) -> Result<(), AllocError>
         ensures kept { IsMade Keeps self.old self.new }
         ensures joined { OnOk result (IsMasked mask worker → IsMember (line_of worker self.new.own) pipe) }
     {
@@ -148,7 +150,7 @@ impl JobLines {
     }
 
     /// Nobody takes from the pipeline any more. No memory is taken.
-    pub(crate) fn leave(&mut self, pipe: usize)
+    pub(crate) fn leave(&mut self, pipe: u64)
         ensures { IsMade (KeepsOthers pipe) self.old self.new }
     {
         self.queues.leave(pipe);
@@ -156,7 +158,7 @@ impl JobLines {
     }
 
     /// Tells the lines whether the pipeline has a job now, where it had one before or not. No memory is taken.
-    pub(crate) fn tell(&mut self, pipe: usize, had_job: bool, has_job: bool)
+    pub(crate) fn tell(&mut self, pipe: u64, had_job: bool, has_job: bool)
         ensures { IsMade (IsTold pipe had_job has_job) self.old self.new }
     {
         if had_job != has_job {
@@ -166,7 +168,7 @@ impl JobLines {
     }
 
     /// Tells the callers' own lines which of them a pad with a new mask admits. No memory is taken.
-    pub(crate) fn readmit<J: Drop, F: Drop>(&mut self, pipe: usize, place: &Pipeline<J, F>)
+    pub(crate) fn readmit<J: Drop, F: Drop>(&mut self, pipe: u64, place: &Pipeline<J, F>)
         ensures queues { self.new.queues ≡ self.old.queues }
         ensures own { (caller : ℕ) → IsReadmitted pipe place.now caller (line_of caller self.old.own) (line_of caller self.new.own) }
     {
@@ -176,12 +178,12 @@ impl JobLines {
     /// Finds a pipeline of which this caller may take a job. Queues, and pads and chains, have their turns at being looked for first.
     pub(crate) fn next_job<J: Drop, F: Drop>(
         &mut self,
-        pipes: &[Pipeline<J, F>],
+        pipes: &BTreeMap<u64, Pipeline<J, F>>,
         caller: u32,
-    ) -> Option<usize>
-        requires ready { AreReady pipes.now self.old }
-        ensures ready { AreReady pipes.now self.new }
-        ensures next { Finds (HasJobFor caller) pipes.now result }
+    ) -> Option<u64>
+        requires ready { AreReady (places pipes.now) self.old }
+        ensures ready { AreReady (places pipes.now) self.new }
+        ensures next { Finds (HasJobFor caller) (places pipes.now) result }
     {
         let Some(place) = place_of(&self.own, caller) else {
             return next_for(pipes, &mut self.queues, caller);
@@ -198,14 +200,14 @@ impl JobLines {
 
 /// Finds a pipeline of which the caller may take a job, in one line or else in another.
 fn next_of<J: Drop, F: Drop>(
-    pipes: &[Pipeline<J, F>],
+    pipes: &BTreeMap<u64, Pipeline<J, F>>,
     first: &mut Ready,
     second: &mut Ready,
     caller: u32,
-) -> Option<usize>
-    ensures first { KeepsSuch (HasJobFor caller) pipes.now first.old first.new }
-    ensures second { KeepsSuch (HasJobFor caller) pipes.now second.old second.new }
-    ensures next { FindsInBoth (HasJobFor caller) pipes.now first.old second.old result }
+) -> Option<u64>
+    ensures first { KeepsSuch (HasJobFor caller) (places pipes.now) first.old first.new }
+    ensures second { KeepsSuch (HasJobFor caller) (places pipes.now) second.old second.new }
+    ensures next { FindsInBoth (HasJobFor caller) (places pipes.now) first.old second.old result }
 {
     if let Some(k) = next_for(pipes, first, caller) {
         return Some(k);
@@ -221,7 +223,7 @@ fn place_of(own: &[OwnLine], caller: u32) -> Option<usize>
 }
 
 /// The pipeline is a member of no line any more.
-fn leave_all(own: &mut [OwnLine], pipe: usize)
+fn leave_all(own: &mut [OwnLine], pipe: u64)
     ensures { AreMade (KeepsOthers pipe) own.old own.new }
 {
     if let Some((first, rest)) = own.split_first_mut() {
@@ -231,7 +233,7 @@ fn leave_all(own: &mut [OwnLine], pipe: usize)
 }
 
 /// Sets the pipeline in each line of which it is a member where it has a job, and otherwise takes it out.
-fn set_all(own: &mut [OwnLine], pipe: usize, has_job: bool)
+fn set_all(own: &mut [OwnLine], pipe: u64, has_job: bool)
     ensures { AreMade (IsTold pipe false has_job) own.old own.new }
 {
     if let Some((first, rest)) = own.split_first_mut() {
@@ -241,7 +243,7 @@ fn set_all(own: &mut [OwnLine], pipe: usize, has_job: bool)
 }
 
 /// The pipeline stays a member of the lines of those that it admits, and stands there where it has a job.
-fn readmit_all<J: Drop, F: Drop>(own: &mut [OwnLine], pipe: usize, place: &Pipeline<J, F>)
+fn readmit_all<J: Drop, F: Drop>(own: &mut [OwnLine], pipe: u64, place: &Pipeline<J, F>)
     ensures { (caller : ℕ) → IsReadmitted pipe place.now caller (line_of caller own.old) (line_of caller own.new) }
 {
     if let Some((first, rest)) = own.split_first_mut() {
@@ -251,7 +253,7 @@ fn readmit_all<J: Drop, F: Drop>(own: &mut [OwnLine], pipe: usize, place: &Pipel
 }
 
 /// The pipeline stays a member of the line where it admits the caller, and stands there where it has a job.
-fn readmit<J: Drop, F: Drop>(own: &mut OwnLine, pipe: usize, place: &Pipeline<J, F>)
+fn readmit<J: Drop, F: Drop>(own: &mut OwnLine, pipe: u64, place: &Pipeline<J, F>)
     ensures caller { own.new.caller ≡ own.old.caller }
     ensures line { IsReadmitted pipe place.now own.old.caller own.old.line own.new.line }
 {

@@ -27,11 +27,11 @@ impl<W: Work> BoardCore<W> {
         ensures legal { LegalBoard self.new }
     {
         reserve_entries(&mut self.log, self.owed, 1)?;
-        self.ready.join_workers(mask, pipe as usize)?;
-        let place = &mut self.pipes[pipe as usize];
+        self.ready.join_workers(mask, pipe)?;
+        let place = self.pipes.get_mut(&pipe).unwrap();
         place.stage.remask(mask.count_ones().max(1))?;
         place.mask = mask;
-        self.ready.readmit(pipe as usize, place);
+        self.ready.readmit(pipe, place);
         self.log
             .push_reserved(BoardEntry::Mask { caller, pipe, mask });
         Ok(())

@@ -41,10 +41,10 @@ impl<W: Work> BoardCore<W> {
     {
         let Admitted { ask, size } = self.admit(caller, &job)?;
         reserve_entries(&mut self.log, self.owed, 4)?;
-        let place = &self.pipes[pipe as usize];
+        let place = &self.pipes[&pipe];
         let had_job = place.stage.may_serve();
-        self.ready.admit(caller, pipe as usize, place)?;
-        let place = &mut self.pipes[pipe as usize];
+        self.ready.admit(caller, pipe, place)?;
+        let place = self.pipes.get_mut(&pipe).unwrap();
         place.reserve()?;
         let accepted = place.stage.accepts(backlog);
         spend(&mut self.used, caller, size, accepted)?;
@@ -60,8 +60,8 @@ impl<W: Work> BoardCore<W> {
             answer,
         });
         self.owed += more;
-        self.ready.tell(pipe as usize, had_job, has_job);
-        self.passing.set(pipe as usize, may_pass);
+        self.ready.tell(pipe, had_job, has_job);
+        self.passing.set(pipe, may_pass);
         Ok(answer)
     }
 
@@ -75,14 +75,14 @@ impl<W: Work> BoardCore<W> {
         ensures legal { LegalBoard self.new }
     {
         reserve_entries(&mut self.log, self.owed, 1)?;
-        let place = &mut self.pipes[pipe as usize];
+        let place = self.pipes.get_mut(&pipe).unwrap();
         let had_job = place.stage.may_serve();
         place.stage.set_held(true);
         let has_job = place.stage.may_serve();
         let may_pass = place.stage.may_pass();
         self.log.push_reserved(BoardEntry::Hold { caller, pipe });
-        self.ready.tell(pipe as usize, had_job, has_job);
-        self.passing.set(pipe as usize, may_pass);
+        self.ready.tell(pipe, had_job, has_job);
+        self.passing.set(pipe, may_pass);
         Ok(())
     }
 
@@ -96,14 +96,14 @@ impl<W: Work> BoardCore<W> {
         ensures legal { LegalBoard self.new }
     {
         reserve_entries(&mut self.log, self.owed, 1)?;
-        let place = &mut self.pipes[pipe as usize];
+        let place = self.pipes.get_mut(&pipe).unwrap();
         let had_job = place.stage.may_serve();
         place.stage.set_held(false);
         let has_job = place.stage.may_serve();
         let may_pass = place.stage.may_pass();
         self.log.push_reserved(BoardEntry::Go { caller, pipe });
-        self.ready.tell(pipe as usize, had_job, has_job);
-        self.passing.set(pipe as usize, may_pass);
+        self.ready.tell(pipe, had_job, has_job);
+        self.passing.set(pipe, may_pass);
         Ok(())
     }
 }

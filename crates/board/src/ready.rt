@@ -10,7 +10,7 @@ use std::marker::Model;
 /// The pipelines, by their numbers, that may stand in a line. To set one in line, or to take it out, two of them change places.
 #[derive(Drop)]
 pub(crate) struct Ready {
-    members: IndexSet<usize>,
+    members: IndexSet<u64>,
     /// So many of the first members stand in line.
     ready: usize,
     /// The place that is looked at next, so that the members in line take turns.
@@ -41,7 +41,7 @@ impl Ready {
     }
 
     /// From now on the pipeline is a member. A new one doesn't stand in line. Want of memory changes nothing.
-    pub(crate) fn join(&mut self, pipe: usize) -> Result<(), AllocError>
+    pub(crate) fn join(&mut self, pipe: u64) -> Result<(), AllocError>
         ensures kept { Keeps self.old self.new }
         ensures joined { OnOk result (IsMember self.new pipe) }
     {
@@ -50,7 +50,7 @@ impl Ready {
     }
 
     /// From now on the pipeline is a member, and stands in line where it is ready. Want of memory changes nothing.
-    pub(crate) fn admit(&mut self, pipe: usize, ready: bool) -> Result<(), AllocError>
+    pub(crate) fn admit(&mut self, pipe: u64, ready: bool) -> Result<(), AllocError>
         ensures kept { Keeps self.old self.new }
         ensures joined { OnOk result (IsMember self.new pipe) }
         ensures in_line { OnOk result (ready ≡ true → IsInLine self.new pipe) }
@@ -63,7 +63,7 @@ impl Ready {
     }
 
     /// The pipeline is no member any more. No memory is taken.
-    pub(crate) fn leave(&mut self, pipe: usize)
+    pub(crate) fn leave(&mut self, pipe: u64)
         ensures others { KeepsOthers pipe self.old self.new }
     {
         if let Some(place) = self.members.get_index_of(&pipe) {
@@ -73,7 +73,7 @@ impl Ready {
     }
 
     /// Sets a member in line. No memory is taken.
-    pub(crate) fn add(&mut self, pipe: usize)
+    pub(crate) fn add(&mut self, pipe: u64)
         ensures kept { Keeps self.old self.new }
         ensures added { IsMember self.old pipe → IsInLine self.new pipe }
     {
@@ -89,7 +89,7 @@ impl Ready {
     }
 
     /// Takes a member out of the line. No memory is taken.
-    pub(crate) fn remove(&mut self, pipe: usize)
+    pub(crate) fn remove(&mut self, pipe: u64)
         ensures others { KeepsOthers pipe self.old self.new }
         ensures member { IsMember self.old pipe → IsMember self.new pipe }
         ensures fewer { IsInLine self.old pipe → self.new.ready < self.old.ready }
@@ -100,7 +100,7 @@ impl Ready {
     }
 
     /// Sets a member in line where it is ready, and otherwise takes it out. No memory is taken.
-    pub(crate) fn set(&mut self, pipe: usize, ready: bool)
+    pub(crate) fn set(&mut self, pipe: u64, ready: bool)
         ensures { IsTold pipe false ready self.old self.new }
     {
         if ready {
@@ -111,7 +111,7 @@ impl Ready {
     }
 
     /// One of the members that stand in line. They take turns.
-    pub(crate) fn next(&mut self) -> Option<usize>
+    pub(crate) fn next(&mut self) -> Option<u64>
         ensures same { self.new ≡ self.old }
         ensures next { MatchOption result ((p : ℕ) → IsInLine self.old p → ⊥) (λ pipe. IsInLine self.old pipe) }
     {

@@ -39,16 +39,16 @@ impl<W: Work> BoardCore<W> {
         ensures refused { IfErr result (λ e. (e ≡ BoardErr.TooBig) ↔ ((0 < mask (entries_of pipe self.old)) × (IsAllowed W.weight self.old caller (W.asked job) → ⊥))) }
         ensures legal { LegalBoard self.new }
     {
-        let place = &self.pipes[pipe as usize];
+        let place = &self.pipes[&pipe];
         if place.mask == 0 {
             return Err(BoardErr::NoWorker);
         }
         let Admitted { ask, size } = self.admit(caller, &job)?;
         reserve_entries(&mut self.log, self.owed, 3)?;
-        let place = &self.pipes[pipe as usize];
+        let place = &self.pipes[&pipe];
         let had_job = place.stage.may_serve();
-        self.ready.admit(caller, pipe as usize, place)?;
-        let place = &mut self.pipes[pipe as usize];
+        self.ready.admit(caller, pipe, place)?;
+        let place = self.pipes.get_mut(&pipe).unwrap();
         place.reserve()?;
         spend(&mut self.used, caller, size, true)?;
         let number = place.submit(caller, job);
@@ -59,7 +59,7 @@ impl<W: Work> BoardCore<W> {
             ask,
         });
         self.owed += 2;
-        self.ready.tell(pipe as usize, had_job, true);
+        self.ready.tell(pipe, had_job, true);
         Ok(number)
     }
 

@@ -42,19 +42,18 @@ impl<W: Work> BoardCore<W> {
         ensures ready { IfSome result (λ t. MayFinish W.meaning (entries_of t.slip.pipe self.new) caller t.slip.number (W.meaning (W.asked t.job))) }
         ensures legal { LegalBoard self.new }
     {
-        let p = self.ready.next_job(&self.pipes, caller)?;
-        let place = &mut self.pipes[p];
+        let pipe = self.ready.next_job(&self.pipes, caller)?;
+        let place = self.pipes.get_mut(&pipe).unwrap();
         let Served {
             number,
             item: job,
             started,
         } = place.stage.take()?;
-        let pipe = p as u64;
         let entry = place.stage.take_entry(caller, pipe, number, started);
         let has_job = place.stage.may_serve();
         self.log.push_reserved(entry);
         self.owed -= 1;
-        self.ready.tell(p, true, has_job);
+        self.ready.tell(pipe, true, has_job);
         Some(Taken {
             slip: Slip { pipe, number },
             job,
@@ -70,14 +69,14 @@ impl<W: Work> BoardCore<W> {
         ensures legal { LegalBoard self.new }
     {
         let Slip { pipe, number } = slip;
-        let place = &mut self.pipes[pipe as usize];
+        let place = self.pipes.get_mut(&pipe).unwrap();
         let had_job = place.stage.may_serve();
         place.stage.finish(number, out);
         let has_job = place.stage.may_serve();
         let entry = place.stage.finish_entry(caller, pipe, number);
         self.log.push_reserved(entry);
         self.owed -= 1;
-        self.ready.tell(pipe as usize, had_job, has_job);
+        self.ready.tell(pipe, had_job, has_job);
     }
 
     /// The first request of a chain's line goes on to its pad, where the chain isn't held. False exactly where there is no such
@@ -86,10 +85,10 @@ impl<W: Work> BoardCore<W> {
         ensures passed { MatchBool result ((p : ℕ) × Is is_chain (entries_of p self.old) × (self.new ≡ self.old ++ pass_entry self.old caller p ∷ [])) (NonePasses self.old × (self.new ≡ self.old)) }
         ensures legal { LegalBoard self.new }
     {
-        let Some(p) = next_request(&self.pipes, &mut self.passing) else {
+        let Some(pipe) = next_request(&self.pipes, &mut self.passing) else {
             return false;
         };
-        let place = &mut self.pipes[p];
+        let place = self.pipes.get_mut(&pipe).unwrap();
         let had_job = place.stage.may_serve();
         let Some((number, started)) = place.stage.pass_on() else {
             return false;
@@ -98,13 +97,13 @@ impl<W: Work> BoardCore<W> {
         let may_pass = place.stage.may_pass();
         self.log.push_reserved(BoardEntry::Deq {
             caller,
-            pipe: p as u64,
+            pipe,
             number,
             started,
         });
         self.owed -= 1;
-        self.ready.tell(p, had_job, has_job);
-        self.passing.set(p, may_pass);
+        self.ready.tell(pipe, had_job, has_job);
+        self.passing.set(pipe, may_pass);
         true
     }
 }
