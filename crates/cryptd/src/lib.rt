@@ -111,20 +111,6 @@ impl<J: Drop, F: Drop> Cryptd<J, F> {
         Ok(())
     }
 
-    /// Gives back the memory of a queue of which all is done and collected, but for the callbacks of what was passed on.
-    pub fn free_room(&mut self)
-        requires busy { self.old.busy ≡ false }
-        requires waiting { self.old.line.waiting ≡ [] }
-        requires pending { self.old.pending ≡ [] }
-        ensures { self.new ≡ record self.old { spare = 0; line = record self.old.line { spare = 0 } } }
-    {
-        self.queue.free_room();
-        if self.passed == 0 {
-            self.pending = VecDeque::new(self.alloc);
-        }
-        self.spare = 0;
-    }
-
     /// Accepts the job where fewer than `max` wait, and past that into the backlog where `backlog` permits it. Otherwise
     /// hands it back. `number` is how many were accepted before. There must be room for one.
     pub fn enqueue(&mut self, number: u64, job: J, backlog: bool) -> Verdict<J>

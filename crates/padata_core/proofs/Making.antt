@@ -15,12 +15,6 @@ push_at [] y d (suc k) P a p l = absurd (omega arith)
 push_at (x ∷ xs) y d zero P a p l = a 0 x (omega arith)
 push_at (x ∷ xs) y d (suc k) P a p l = push_at xs y d k P (λ j c m. a (suc j) c (omega arith)) p (omega arith)
 
-empty_row : {F : Type 0} (lists k low to : ℕ) (h : Held F) → h ≡ empty_held → IsRow lists k low to h.entries
-empty_row lists k low to h e = rw e tt
-
-pub empty_are : {F : Type 0} (rows : List (Held F)) (lists low to : ℕ) → 1 ≤ lists → length rows ≡ lists → ((k : ℕ) (d : Held F) → k < lists → slice_index_or rows k d ≡ empty_held) → AreRows rows lists low to 0
-empty_are rows lists low to s c e = record { some = s; count = c; each = λ k d l. empty_row lists k low to (slice_index_or rows k d) (e k d l); rooms = λ k d l. omega arith }
-
 pub more_start : {F : Type 0} (rows : List (Held F)) → HaveMore rows rows
 more_start rows = record { count = refl; same = λ k d. refl; kept = λ k d. omega arith }
 

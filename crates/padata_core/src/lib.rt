@@ -10,7 +10,7 @@ ghost use Rattle.std.specs.VecDeque.{deque_len, deque_capacity};
 ghost use Rattle.padata_core.specs.Pad.{taken_of, submitted_of, ready, done_from, running_of};
 
 use crate::row::Row;
-use crate::rows::{clear_rows, empty_rows, move_rows, reserve_rows};
+use crate::rows::{empty_rows, move_rows, reserve_rows};
 use kc_base::{Callback, Callbacks};
 use std::alloc::{AllocError, Global};
 use std::collections::VecDeque;
@@ -149,18 +149,6 @@ impl<J: Drop, F: Drop> Padata<J, F> {
         ensures { MatchBool result (submitted_of self.now ≡ self.now.collected + length (ready self.now.outcomes)) (self.now.collected + length (ready self.now.outcomes) < submitted_of self.now) }
     {
         self.running == 0 && self.waiting.is_empty()
-    }
-
-    /// Gives back the memory of a pipeline of which all is collected.
-    pub fn free_room(&mut self)
-        requires taken { self.old.waiting ≡ [] }
-        requires collected { self.old.outcomes ≡ [] }
-        ensures { self.new ≡ record self.old { spare = 0 } }
-    {
-        clear_rows(self.alloc, &mut self.rows);
-        self.waiting = VecDeque::new(self.alloc);
-        self.room = 0;
-        self.spare = 0;
     }
 
     /// Whether a number is still untaken.

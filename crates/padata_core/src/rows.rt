@@ -31,16 +31,6 @@ pub(crate) fn reserve_rows<F: Drop>(rows: &mut Vec<Row<F>>, room: usize) -> Resu
     Ok(())
 }
 
-/// Empties each list, and gives back its memory.
-pub(crate) fn clear_rows<F: Drop>(alloc: Global, rows: &mut Vec<Row<F>>)
-    ensures count { length rows.new.items ≡ length rows.old.items }
-    ensures empty { (k : ℕ) (d : Held F) → k < length rows.new.items → slice_index_or rows.new.items k d ≡ record { entries = []; room = 0 } }
-{
-    for k in 0..rows.len() {
-        rows[k] = Row::new(alloc);
-    }
-}
-
 /// Moves the outcomes of the numbers from `from` on and below `to` onto new lists, that have room for them.
 pub(crate) fn move_rows<F: Drop>(
     old: &mut Vec<Row<F>>,

@@ -99,15 +99,6 @@ impl<T: Drop> Queue<T> {
         Ok(())
     }
 
-    /// Gives back the memory of an empty queue.
-    pub fn free_room(&mut self)
-        requires { self.old.waiting ≡ [] }
-        ensures { self.new ≡ record self.old { spare = 0 } }
-    {
-        self.waiting = VecDeque::new(self.alloc);
-        self.spare = 0;
-    }
-
     /// Accepts the item where fewer than `max` wait, and past that into the backlog where `backlog` permits it. Otherwise
     /// hands it back. `number` is how many were accepted before. There must be room for one.
     pub fn enqueue(&mut self, number: u64, item: T, backlog: bool) -> Verdict<T>
