@@ -100,6 +100,28 @@ fn judge(rows: &Rows, spec: &Spec) -> Judged
     Judged::Builds
 }
 
+/// Records a look. Want of memory leaves the history as it was.
+fn record_look(
+    alloc: Global,
+    log: &mut RegLog,
+    caller: u32,
+    text: &[u8],
+    plain: bool,
+    answer: Looked,
+) -> Result<(), RegErr>
+    ensures ok { OnOk result (log.new ≡ log.old ++ RegEntry.Look caller text.now plain answer ∷ []) }
+    ensures memory { IfErr result (λ e. e ≡ RegErr.Memory) }
+    ensures unchanged { OnErr result (log.new ≡ log.old) }
+{
+    let text = Bytes::copy_of(alloc, text)?;
+    log.record(RegEntry::Look {
+        caller,
+        text,
+        plain,
+        answer,
+    })
+}
+
 /// An algorithm that is listed from the start.
 fn opened_spec(alloc: Global, name: &[u8], driver: &[u8], kind: Kind) -> Result<Spec, AllocError>
     ensures { IfOk result (λ spec. spec ≡ opened name.now driver.now kind) }
@@ -209,22 +231,15 @@ impl Registry {
         ensures legal_before { LegalReg self.old }
         ensures legal { LegalReg self.new }
     {
-        let copy = Bytes::copy_of(self.alloc, text)?;
         let answer = look_up(self.alloc, &self.rows, &self.larvals, text, plain)?;
-        let entry = RegEntry::Look {
-            caller,
-            text: copy,
-            plain,
-            answer,
-        };
         if let Looked::Began(_) = answer {
-            let begun = Bytes::copy_of(self.alloc, text)?;
             self.larvals.reserve()?;
-            self.log.record(entry)?;
+            let begun = Bytes::copy_of(self.alloc, text)?;
+            record_look(self.alloc, &mut self.log, caller, text, plain, answer)?;
             self.larvals.begin(begun);
             return Ok(answer);
         }
-        self.log.record(entry)?;
+        record_look(self.alloc, &mut self.log, caller, text, plain, answer)?;
         Ok(answer)
     }
 
