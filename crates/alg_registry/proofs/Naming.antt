@@ -7,14 +7,13 @@ use Rattle.std.specs.Str.{bytes_eq}
 use Rattle.std.proofs.lemmas.Slice.Eq.{bytes_eq-Decides}
 use Rattle.alg_registry.specs.declared.row.Row.{Row}
 use Rattle.alg_registry.specs.declared.row.Larval.{Larval}
-use Rattle.alg_registry.specs.declared.entry.Looked.{Looked}
 use Rattle.alg_registry.specs.declared.entry.Looked.TheVariants.{Found, Pending, Began, Absent}
 use Rattle.alg_registry.specs.declared.entry.RegEntry.{RegEntry}
 use Rattle.alg_registry.specs.declared.entry.RegEntry.TheVariants.{Look}
-use Rattle.alg_registry.specs.Rows.{texts, rows_of, larvals_of, larval_at, registered, is_listed}
+use Rattle.alg_registry.specs.Rows.{texts, rows_of, larvals_of, larval_at, registered}
 use Rattle.alg_registry.specs.Answers.{look_answer, found_driver, found_best, not_found, is_pending, is_template, may_find, best_from}
-use Rattle.alg_registry.specs.Legal.{LegalReg, IsRight}
-use Rattle.alg_registry.specs.Naming.{IsNamed, LooksName, EndsName}
+use Rattle.alg_registry.specs.Legal.{IsRight}
+use Rattle.alg_registry.specs.Naming.{LooksName, EndsName}
 use Rattle.alg_registry.proofs.Existing.{outcome_exists, registered_grow}
 use Rattle.alg_registry.proofs.Fresh.{length-rows_of, is_listed-within}
 use Rattle.alg_registry.proofs.Histories.{text_more}

@@ -1,5 +1,5 @@
 -- Entries of the history that register, and those that end a larval.
-use Rattle.std.proofs.Common.{◌≡◌, ◌≢◌, ℕ, suc, ◌+◌, ◌-◌, ◌<◌, ◌≤◌, Bool, true, false, cond, ◌&&◌, eqb, leb, List, [], ◌∷◌, ◌++◌, length, map, get_or, set, Option, Some, None, refl, sym, ap, ◌∙◌, subst, arith}
+use Rattle.std.proofs.Common.{◌≡◌, ◌≢◌, ℕ, suc, ◌+◌, ◌-◌, ◌<◌, Bool, true, false, cond, ◌&&◌, eqb, leb, List, [], ◌∷◌, ◌++◌, length, map, get_or, set, Option, Some, None, refl, sym, ap, ◌∙◌, subst, arith}
 use Rattle.std.specs.Prelude.{count_by, slice_get, is_some}
 use Rattle.std.specs.List.{list_any, list_all, cons_option, position_from}
 use Rattle.std.specs.Option.{option_and_then}
@@ -49,21 +49,6 @@ rows_of-registered h e rows spec legal are some quiet =
     let then : map bare (rows ++ new_row spec ∷ []) ≡ noted h 0 (registered h ++ spec ∷ []) =
     map-push rows (new_row spec) ∙ ((λ i. now i ++ new i ∷ []) ∙ sym (noted-push h 0 (registered h) spec last (omega arith))) in
     standing-from_bare h' (rows ++ new_row spec ∷ []) (then ∙ (sym (noted-quiet h e quiet 0 (registered h ++ spec ∷ [])) ∙ ap (λ ss. noted h' 0 ss) (sym specs)))
-
-pub enlist-exist : (rows : List Row) (spec : Spec) → list_any (clashes_with spec) rows ≡ true → enlist_answer rows spec ≡ enlisted.Exist
-enlist-exist rows spec clash = ap (λ b. cond b enlisted.Exist (cond (leb 4096 (held_count rows)) enlisted.NFile (enlisted.Made (length rows)))) clash
-
-pub enlist-full : (rows : List Row) (spec : Spec) → list_any (clashes_with spec) rows ≡ false → 4096 ≤ held_count rows → enlist_answer rows spec ≡ enlisted.NFile
-enlist-full rows spec clash le =
-    let full : leb 4096 (held_count rows) ≡ true = grind (arith, nat_tests) in
-    ap (λ b. cond b enlisted.Exist (cond (leb 4096 (held_count rows)) enlisted.NFile (enlisted.Made (length rows)))) clash
-    ∙ ap (λ b. cond b enlisted.NFile (enlisted.Made (length rows))) full
-
-pub enlist-made : (rows : List Row) (spec : Spec) → list_any (clashes_with spec) rows ≡ false → held_count rows < 4096 → enlist_answer rows spec ≡ enlisted.Made (length rows)
-enlist-made rows spec clash lt =
-    let full : leb 4096 (held_count rows) ≡ false = grind (arith, nat_tests) in
-    ap (λ b. cond b enlisted.Exist (cond (leb 4096 (held_count rows)) enlisted.NFile (enlisted.Made (length rows)))) clash
-    ∙ ap (λ b. cond b enlisted.NFile (enlisted.Made (length rows))) full
 
 pub kept-made : (h log : List RegEntry) (rows rows' : List Row) (larvals : List Larval) (caller id : ℕ) (spec : Spec)
     → IsKept h rows larvals → is_worker caller ≡ false → spec.below ≡ [] → spec.wrap ≡ Plain → enlist_answer rows spec ≡ enlisted.Made id

@@ -100,6 +100,52 @@ fn judge(rows: &Rows, spec: &Spec) -> Judged
     Judged::Builds
 }
 
+/// What enlisting an algorithm answers.
+fn answer_to(rows: &Rows, spec: &Spec) -> Enlisted
+    ensures { result ≡ enlist_answer rows.now.list spec.now }
+{
+    if rows.clashes(spec) {
+        Enlisted::Exist
+    } else if rows.count_held() >= MOST_HELD {
+        Enlisted::NFile
+    } else {
+        Enlisted::Made(rows.count())
+    }
+}
+
+/// The id of the new entry, or why there is none.
+fn result_of(answer: Enlisted) -> Result<u64, RegErr>
+    ensures { result ≡ enlist_result answer }
+{
+    match answer {
+        Enlisted::Made(id) => Ok(id),
+        Enlisted::Exist => Err(RegErr::Exist),
+        Enlisted::NFile => Err(RegErr::NFile),
+    }
+}
+
+/// Records a look. Want of memory leaves the history as it was.
+fn record_look(
+    alloc: Global,
+    log: &mut RegLog,
+    caller: u32,
+    text: &[u8],
+    plain: bool,
+    answer: Looked,
+) -> Result<(), RegErr>
+    ensures ok { OnOk result (log.new ≡ log.old ++ RegEntry.Look caller text.now plain answer ∷ []) }
+    ensures memory { IfErr result (λ e. e ≡ RegErr.Memory) }
+    ensures unchanged { OnErr result (log.new ≡ log.old) }
+{
+    let text = Bytes::copy_of(alloc, text)?;
+    log.record(RegEntry::Look {
+        caller,
+        text,
+        plain,
+        answer,
+    })
+}
+
 /// An algorithm that is listed from the start.
 fn opened_spec(alloc: Global, name: &[u8], driver: &[u8], kind: Kind) -> Result<Spec, AllocError>
     ensures { IfOk result (λ spec. spec ≡ opened name.now driver.now kind) }
@@ -114,12 +160,18 @@ fn opened_spec(alloc: Global, name: &[u8], driver: &[u8], kind: Kind) -> Result<
     })
 }
 
-/// Lists an algorithm that stands on no other.
-fn open(rows: &mut Rows, spec: Spec) -> Result<(), AllocError>
-    requires alone { spec.below ≡ [] }
-    requires few { All (λ row. row.taken < 2 ^ 61) rows.old.list }
-    ensures { OnOk result (rows.new.list ≡ standing (rows.old.list ++ new_row spec ∷ [])) }
+/// Lists an algorithm from the start.
+fn open(
+    alloc: Global,
+    rows: &mut Rows,
+    name: &[u8],
+    driver: &[u8],
+    kind: Kind,
+) -> Result<(), AllocError>
+    requires { All (λ row. row.taken < 2 ^ 61) rows.old.list }
+    ensures { OnOk result (rows.new.list ≡ standing (rows.old.list ++ new_row (opened name.now driver.now kind) ∷ [])) }
 {
+    let spec = opened_spec(alloc, name, driver, kind)?;
     if rows.reserve().is_err() {
         return Err(AllocError);
     }
@@ -133,18 +185,9 @@ impl Registry {
         ensures { IfOk result (λ registry. registry ≡ []) }
     {
         let mut rows = Rows::new(alloc);
-        open(
-            &mut rows,
-            opened_spec(alloc, b"aes", b"aes-generic", Kind::Cipher)?,
-        )?;
-        open(
-            &mut rows,
-            opened_spec(alloc, b"sha256", b"sha256-generic", Kind::Hash)?,
-        )?;
-        open(
-            &mut rows,
-            opened_spec(alloc, b"ghash", b"ghash-generic", Kind::Ghash)?,
-        )?;
+        open(alloc, &mut rows, b"aes", b"aes-generic", Kind::Cipher)?;
+        open(alloc, &mut rows, b"sha256", b"sha256-generic", Kind::Hash)?;
+        open(alloc, &mut rows, b"ghash", b"ghash-generic", Kind::Ghash)?;
         Ok(Registry {
             alloc,
             log: RegLog::empty(alloc),
@@ -166,32 +209,24 @@ impl Registry {
         ensures memory { OnMemory result (self.new ≡ self.old) }
         ensures legal { LegalReg self.new }
     {
-        if self.rows.clashes(&spec) {
+        let answer = answer_to(&self.rows, &spec);
+        if let Enlisted::Made(_) = answer {
+            self.rows.reserve()?;
+            let copy = spec.copy(self.alloc)?;
             self.log.record(RegEntry::Enlist {
                 caller,
                 spec,
-                answer: Enlisted::Exist,
+                answer,
             })?;
-            return Err(RegErr::Exist);
+            self.rows.add(copy);
+            return result_of(answer);
         }
-        if self.rows.count_held() >= MOST_HELD {
-            self.log.record(RegEntry::Enlist {
-                caller,
-                spec,
-                answer: Enlisted::NFile,
-            })?;
-            return Err(RegErr::NFile);
-        }
-        let copy = spec.copy(self.alloc)?;
-        self.rows.reserve()?;
-        let id = self.rows.count();
         self.log.record(RegEntry::Enlist {
             caller,
             spec,
-            answer: Enlisted::Made(id),
+            answer,
         })?;
-        self.rows.add(copy);
-        Ok(id)
+        result_of(answer)
     }
 
     /// Looks for what answers to the text. With `plain` only entries that are not wrapped count.
@@ -209,22 +244,15 @@ impl Registry {
         ensures legal_before { LegalReg self.old }
         ensures legal { LegalReg self.new }
     {
-        let copy = Bytes::copy_of(self.alloc, text)?;
         let answer = look_up(self.alloc, &self.rows, &self.larvals, text, plain)?;
-        let entry = RegEntry::Look {
-            caller,
-            text: copy,
-            plain,
-            answer,
-        };
         if let Looked::Began(_) = answer {
-            let begun = Bytes::copy_of(self.alloc, text)?;
             self.larvals.reserve()?;
-            self.log.record(entry)?;
+            let begun = Bytes::copy_of(self.alloc, text)?;
+            record_look(self.alloc, &mut self.log, caller, text, plain, answer)?;
             self.larvals.begin(begun);
             return Ok(answer);
         }
-        self.log.record(entry)?;
+        record_look(self.alloc, &mut self.log, caller, text, plain, answer)?;
         Ok(answer)
     }
 

@@ -14,7 +14,7 @@ invariant_of-self-in-Began c = record {
       let is : c.in_ok-answer.answer ≡ look_answer c.self.inside.rows.list c.self.inside.larvals.list c.args.text.now c.args.plain =
       c.in_ok-answer.ensures.ok in
       kept-began _ _ _ _ _ c.args.caller c.args.text.now c.args.plain c.in_ok-answer.answer c.in-Began.field-0 c.self.invariant.kept c.requires is c.in-Began.is
-      (cc (c.in_ok-record.ensures.ok, c.in_ok-copy.ensures)) (cc (c.reserve.ensures.list, c.begin.ensures.list, c.in_ok-begun.ensures));
+      (c.in_ok-record_look.ensures.ok) (cc (c.reserve.ensures.list, c.begin.ensures.list, c.in_ok-begun.ensures));
   seen_are = seen-more c.self.inside.rows.list c.self.inside.larvals.list c.begin.new.self.list c.self.inside.larvals.seen c.begin.new.self.seen c.args.text.now
       (cc (c.reserve.ensures.list, c.begin.ensures.list, c.in_ok-begun.ensures))
       (c.begin.ensures.seen ∙ (λ i. c.reserve.ensures.seen i ++ length (c.reserve.ensures.list i) ∷ [])) c.self.invariant.seen_are;
@@ -26,7 +26,7 @@ invariant_of-self-2 c = record {
       let is : c.in_ok-answer.answer ≡ look_answer c.self.inside.rows.list c.self.inside.larvals.list c.args.text.now c.args.plain =
       c.in_ok-answer.ensures.ok in
       kept-look _ _ _ _ c.args.caller c.args.text.now c.args.plain c.in_ok-answer.answer c.self.invariant.kept c.requires is c.in_default.not-Began
-      (cc (c.in_ok-record-2.ensures.ok, c.in_ok-copy.ensures));
+      (c.in_ok-record_look-2.ensures.ok);
   seen_are = c.self.invariant.seen_are;
 }
 
@@ -39,7 +39,7 @@ returns c =
     let larvals : c.self.inside.larvals.list ≡ larvals_of c.args.self.now = c.self.invariant.kept.larvals_are ∙ ap (λ (h : List RegEntry). larvals_of h) c.self.view_is in
     record {
       answer = c.in_ok-answer.ensures.ok ∙ (λ i. look_answer (rows i) (larvals i) c.args.text.now c.args.plain);
-      history = cc (c.in_ok-record-2.ensures.ok, c.in_ok-copy.ensures, c.self.view_is);
+      history = cc (c.in_ok-record_look-2.ensures.ok, c.self.view_is);
       memory = tt;
       unchanged = tt;
       legal_before = subst LegalReg c.self.view_is c.self.invariant.kept.legal;
