@@ -1,6 +1,6 @@
 //! The table of larvals.
 
-ghost use Rattle.std.specs.Prelude.{◌≡◌, ℕ, ◌+◌, ◌<◌, ◌≤◌, ◌∷◌, ◌++◌, [], length, IfOk, IfErr, OnOk, None, Some, not, ◌==◌, vec_capacity, slice_set, slice_index_or, slice_get};
+ghost use Rattle.std.specs.Prelude.{◌≡◌, ℕ, ◌+◌, ◌-◌, ◌<◌, ◌≤◌, ◌∷◌, ◌++◌, [], length, IfOk, IfErr, OnOk, None, Some, not, ◌==◌, vec_capacity, slice_set, slice_index_or, slice_get};
 ghost use Rattle.std.specs.List.{position_from, find, filter, filter_map, cons_option};
 ghost use Rattle.std.specs.Option.{option_and_then};
 ghost use Rattle.std.specs.Str.{bytes_eq};
@@ -219,6 +219,7 @@ impl Larvals {
         requires { 0 < self.old.spare }
         ensures list { self.new.list ≡ self.old.list ++ record { text = text; claimed = None; ended = None } ∷ [] }
         ensures seen { self.new.seen ≡ self.old.seen ++ length self.old.list ∷ [] }
+        ensures room { self.new.spare ≡ self.old.spare - 1 }
     {
         let number = self.all.len() as u64;
         self.seen.push_reserved(number);
@@ -261,6 +262,7 @@ impl Larvals {
         requires { number < length self.old.list }
         ensures list { (d : Larval) → self.new.list ≡ slice_set self.old.list number (claimed_larval caller (slice_index_or self.old.list number d)) }
         ensures seen { self.new.seen ≡ self.old.seen }
+        ensures room { self.new.spare ≡ self.old.spare }
     {
         let larval = &mut self.all[number as usize];
         larval.claimed = Some(caller);
@@ -272,6 +274,7 @@ impl Larvals {
         requires { number < length self.old.list }
         ensures list { (d : Larval) → self.new.list ≡ slice_set self.old.list number (ended_larval ended (slice_index_or self.old.list number d)) }
         ensures seen { self.new.seen ≡ seen_after ended number self.old.seen }
+        ensures room { self.new.spare ≡ self.old.spare }
     {
         let larval = &mut self.all[number as usize];
         larval.ended = Some(ended);
@@ -295,6 +298,7 @@ impl Larvals {
     pub fn forget_unlisted(&mut self, rows: &[Row])
         ensures list { self.new.list ≡ self.old.list }
         ensures seen { self.new.seen ≡ filter (passes_at (is_seen rows.now) self.old.list) self.old.seen }
+        ensures room { self.new.spare ≡ self.old.spare }
     {
         keep_seen(&mut self.seen, rows, &self.all);
     }

@@ -236,7 +236,8 @@ impl Rows {
         requires room { 0 < self.old.spare }
         requires listed { list_all (listed_at self.old.list) spec.below ≡ true }
         requires few { All (λ row. row.taken < 2 ^ 61) self.old.list }
-        ensures { self.new.list ≡ standing (self.old.list ++ new_row spec ∷ []) }
+        ensures list { self.new.list ≡ standing (self.old.list ++ new_row spec ∷ []) }
+        ensures room { self.new.spare ≡ self.old.spare - 1 }
     {
         add_references(&mut self.all, spec.below.as_slice());
         self.held.push_reserved(self.all.len() as u64);
@@ -254,7 +255,8 @@ impl Rows {
     pub fn unlist(&mut self, place: usize)
         requires listed { listed_at self.old.list place ≡ true }
         requires few { All (λ row. row.taken < 2 ^ 61) self.old.list }
-        ensures { (d : Row) → self.new.list ≡ standing (slice_set self.old.list place (unlisted_row (slice_index_or self.old.list place d))) }
+        ensures list { (d : Row) → self.new.list ≡ standing (slice_set self.old.list place (unlisted_row (slice_index_or self.old.list place d))) }
+        ensures room { self.new.spare ≡ self.old.spare }
     {
         unlist_row(&mut self.all, &self.held, place);
         let_go(&mut self.held, &self.all);
@@ -264,7 +266,8 @@ impl Rows {
     pub fn take(&mut self, place: usize)
         requires listed { listed_at self.old.list place ≡ true }
         requires few { All (λ row. row.taken < 2 ^ 61) self.old.list }
-        ensures { (d : Row) → self.new.list ≡ standing (slice_set self.old.list place (taken_row (slice_index_or self.old.list place d))) }
+        ensures list { (d : Row) → self.new.list ≡ standing (slice_set self.old.list place (taken_row (slice_index_or self.old.list place d))) }
+        ensures room { self.new.spare ≡ self.old.spare }
     {
         let row = &mut self.all[place];
         row.taken += 1;
@@ -276,7 +279,8 @@ impl Rows {
         requires within { place < length self.old.list }
         requires taken { (d : Row) → 0 < (slice_index_or self.old.list place d).taken }
         requires few { All (λ row. row.taken < 2 ^ 61) self.old.list }
-        ensures { (d : Row) → self.new.list ≡ standing (slice_set self.old.list place (put_row_of (slice_index_or self.old.list place d))) }
+        ensures list { (d : Row) → self.new.list ≡ standing (slice_set self.old.list place (put_row_of (slice_index_or self.old.list place d))) }
+        ensures room { self.new.spare ≡ self.old.spare }
     {
         put_row(&mut self.all, &self.held, place);
         let_go(&mut self.held, &self.all);

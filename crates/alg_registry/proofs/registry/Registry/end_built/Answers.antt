@@ -29,7 +29,7 @@ invariant_of-self-2 c = record {
       let builds : built_answer (rows_of c.self.inside.log) c.args.spec ≡ Built (length (rows_of c.self.inside.log)) c.args.spec = subst (λ (h : List RegEntry). built_answer (rows_of h) c.args.spec ≡ Built (length (rows_of h)) c.args.spec) (sym c.self.view_is) c.requires.builds in
       let id : c.count-id.result ≡ length c.self.inside.rows.list = omega (arith, c.count-id.ensures) in
       kept-built c.self.inside.log _ c.self.inside.rows.list _ _ _ c.args.caller c.args.larval c.count-id.result c.args.spec none c.self.invariant.kept it.claimed it.unended builds id
-      c.settle.ensures.appended (cc (c.add.ensures, c.reserve.ensures.list, c.in-Ok.ensures)) (c.end.ensures.list none);
+      c.settle.ensures.appended (cc (c.add.ensures.list, c.reserve.ensures.list, c.in-Ok.ensures)) (c.end.ensures.list none);
   seen_are =
       let it = to_end _ _ _ _ c.args.caller c.args.larval c.self.invariant.kept c.self.view_is c.requires.claimed c.requires.unended in
       let none : Larval = record { text = []; claimed = None; ended = None } in
@@ -37,7 +37,7 @@ invariant_of-self-2 c = record {
       let listed : list_all (listed_at c.self.inside.rows.list) c.args.spec.below ≡ true =
       ap (λ (rs : List Row). list_all (listed_at rs) c.args.spec.below) c.self.invariant.kept.rows_are ∙ built-listed (rows_of c.self.inside.log) c.args.spec (length (rows_of c.self.inside.log)) builds in
       seen-built c.self.inside.log c.self.inside.rows.list _ c.self.inside.larvals.list _ c.self.inside.larvals.seen _ c.args.larval c.count-id.result c.args.spec none c.self.invariant.kept
-      (standing-rows_of c.self.inside.log c.self.inside.rows.list c.self.invariant.kept.rows_are) listed (cc (c.add.ensures, c.reserve.ensures.list, c.in-Ok.ensures)) c.count-id.ensures it.within it.pending
+      (standing-rows_of c.self.inside.log c.self.inside.rows.list c.self.invariant.kept.rows_are) listed (cc (c.add.ensures.list, c.reserve.ensures.list, c.in-Ok.ensures)) c.count-id.ensures it.within it.pending
       (c.end.ensures.list none) c.end.ensures.seen c.self.invariant.seen_are;
 }
 

@@ -27,11 +27,11 @@ invariant_of-self-in-Made c = record {
   kept =
       kept-made _ _ c.self.inside.rows.list _ _ c.args.caller c.in-Made.field-0 c.args.spec c.self.invariant.kept c.requires.outsider c.requires.alone c.requires.plain
       (sym c.answer_to-answer.ensures ∙ c.in-Made.is)
-      (cc (c.in_ok-record.ensures.ok, c.in-Made.is)) (c.add.ensures ∙ grown c.reserve.ensures.list c.in_ok-copy.ensures);
+      (cc (c.in_ok-record.ensures.ok, c.in-Made.is)) (c.add.ensures.list ∙ grown c.reserve.ensures.list c.in_ok-copy.ensures);
   seen_are =
       let alone : list_all (listed_at c.self.inside.rows.list) c.args.spec.below ≡ true = ap (λ (ids : List ℕ). list_all (listed_at c.self.inside.rows.list) ids) c.requires.alone in
       seen-added c.self.inside.log c.self.inside.rows.list _ c.self.inside.larvals.list c.self.inside.larvals.seen c.args.spec c.self.invariant.kept
-      (standing-rows_of c.self.inside.log c.self.inside.rows.list c.self.invariant.kept.rows_are) alone (c.add.ensures ∙ grown c.reserve.ensures.list c.in_ok-copy.ensures) c.self.invariant.seen_are;
+      (standing-rows_of c.self.inside.log c.self.inside.rows.list c.self.invariant.kept.rows_are) alone (c.add.ensures.list ∙ grown c.reserve.ensures.list c.in_ok-copy.ensures) c.self.invariant.seen_are;
 }
 
 pub returns-in-Made-clause-legal : goal.returns-in-Made-clause-legal

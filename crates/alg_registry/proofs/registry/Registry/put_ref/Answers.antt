@@ -38,12 +38,12 @@ invariant_of-self c = record {
       let none : Row = record { spec = record { name = []; driver = []; kind = Cipher; wrap = Plain; priority = 0; below = [] }; unlisted = false; taken = 0; listed = false; references = 0 } in
       let has : HasReference c.self.inside.log c.args.caller c.args.id = subst (λ (h : List RegEntry). HasReference h c.args.caller c.args.id) (sym c.self.view_is) c.requires.has in
       kept-put c.self.inside.log _ c.self.inside.rows.list _ _ c.args.caller c.args.id none c.self.invariant.kept c.requires.outsider has
-      c.settle.ensures.appended (c.put.ensures none);
+      c.settle.ensures.appended (c.put.ensures.list none);
   seen_are =
       let has : HasReference c.self.inside.log c.args.caller c.args.id = subst (λ (h : List RegEntry). HasReference h c.args.caller c.args.id) (sym c.self.view_is) c.requires.has in
       seen-put c.self.inside.rows.list _ c.self.inside.larvals.list c.self.inside.larvals.seen c.args.id a_row
       (standing-rows_of c.self.inside.log c.self.inside.rows.list c.self.invariant.kept.rows_are)
-      (put-within c.self.inside.log c.self.inside.rows.list c.args.caller c.args.id c.self.invariant.kept.legal c.self.invariant.kept.rows_are has) (c.put.ensures a_row) c.self.invariant.seen_are;
+      (put-within c.self.inside.log c.self.inside.rows.list c.args.caller c.args.id c.self.invariant.kept.legal c.self.invariant.kept.rows_are has) (c.put.ensures.list a_row) c.self.invariant.seen_are;
 }
 
 pub returns-clause-legal : goal.returns-clause-legal

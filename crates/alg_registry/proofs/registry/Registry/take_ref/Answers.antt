@@ -18,9 +18,9 @@ invariant_of-self-then-is_listed_at c = record {
   kept =
       let none : Row = record { spec = record { name = []; driver = []; kind = Cipher; wrap = Plain; priority = 0; below = [] }; unlisted = false; taken = 0; listed = false; references = 0 } in
       kept-get _ _ _ _ _ c.args.caller c.args.id none c.self.invariant.kept c.requires (cc)
-      (cc (c.in_ok-record.ensures.ok)) (c.take.ensures none);
+      (cc (c.in_ok-record.ensures.ok)) (c.take.ensures.list none);
   seen_are = seen-taken c.self.inside.rows.list _ c.self.inside.larvals.list c.self.inside.larvals.seen c.args.id a_row
-      (standing-rows_of c.self.inside.log c.self.inside.rows.list c.self.invariant.kept.rows_are) (is_listed-within c.self.inside.rows.list c.args.id (cc)) (c.take.ensures a_row) c.self.invariant.seen_are;
+      (standing-rows_of c.self.inside.log c.self.inside.rows.list c.self.invariant.kept.rows_are) (is_listed-within c.self.inside.rows.list c.args.id (cc)) (c.take.ensures.list a_row) c.self.invariant.seen_are;
 }
 
 pub invariant_of-self-else-is_listed_at : goal.invariant_of-self-else-is_listed_at

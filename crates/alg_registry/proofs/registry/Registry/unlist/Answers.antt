@@ -27,9 +27,9 @@ invariant_of-self-in-Some c = record {
       let none : Row = record { spec = record { name = []; driver = []; kind = Cipher; wrap = Plain; priority = 0; below = [] }; unlisted = false; taken = 0; listed = false; references = 0 } in
       subst (λ (ls : List Larval). IsKept c.record.new.self c.unlist.new.self.list ls) (sym c.forget_unlisted.ensures.list)
       (kept-unlist _ _ _ _ _ c.args.caller c.in-Some.id c.args.driver.now none c.self.invariant.kept c.requires (cc)
-      (cc (c.in_ok-record-in-Some.ensures.ok, c.in_ok-text.ensures)) (c.unlist.ensures none));
+      (cc (c.in_ok-record-in-Some.ensures.ok, c.in_ok-text.ensures)) (c.unlist.ensures.list none));
   seen_are = seen-unlisted c.self.inside.rows.list c.unlist.new.self.list c.self.inside.larvals.list c.self.inside.larvals.seen _ c.in-Some.id a_row
-      (standing-rows_of c.self.inside.log c.self.inside.rows.list c.self.invariant.kept.rows_are) (driver_listed-at c.self.inside.rows.list c.args.driver.now c.in-Some.id (cc)) (c.unlist.ensures a_row) c.self.invariant.seen_are
+      (standing-rows_of c.self.inside.log c.self.inside.rows.list c.self.invariant.kept.rows_are) (driver_listed-at c.self.inside.rows.list c.args.driver.now c.in-Some.id (cc)) (c.unlist.ensures.list a_row) c.self.invariant.seen_are
       (c.forget_unlisted.ensures.seen ∙ ap (λ (rs : List Row). filter (passes_at (is_seen rs) c.self.inside.larvals.list) c.self.inside.larvals.seen) c.all.ensures.all)
       ∙ ap (λ (ls : List Larval). seen_from c.unlist.new.self.list 0 ls) (sym c.forget_unlisted.ensures.list);
 }

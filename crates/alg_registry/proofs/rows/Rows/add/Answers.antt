@@ -42,8 +42,8 @@ invariant_of-self c =
       held_fits = omega (arith, c.self.invariant.held_fits, c.requires.room, spare, ap length c.push_reserved.ensures.items, length-append c.self.inside.held.items (c.len.result ∷ []), c.push_reserved.ensures.capacity);
     }
 
-pub returns : goal.returns
-returns c =
+pub returns-clause-list : goal.returns-clause-list
+returns-clause-list c =
     let rows : List Row = c.self.inside.all.items in
     let older : List Row = c.add_references.new.older in
     let below : List ℕ = c.args.spec.below in

@@ -43,8 +43,8 @@ invariant_of-self c =
       held_fits = c.self.invariant.held_fits;
     }
 
-pub returns : goal.returns
-returns c =
+pub returns-clause-list : goal.returns-clause-list
+returns-clause-list c =
     let rows : List Row = c.self.inside.all.items in
     let list : rows ≡ c.args.self.now.list = ap (λ (t : RowTable). t.list) c.self.view_is in
     let listed : listed_at rows c.args.place ≡ true = ap (λ (rs : List Row). listed_at rs c.args.place) list ∙ c.requires.listed in
