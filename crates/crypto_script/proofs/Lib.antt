@@ -1,11 +1,3 @@
-pub mod Following
-pub mod Fronts
-pub mod Going
-pub mod Readings
-pub mod Exits
 pub mod Asking
-pub mod Finishing
-pub mod LoadLines
-pub mod Loaded
 pub mod Stopping
-pub mod Traced
+pub mod Refusing

@@ -2,10 +2,10 @@
 use Rattle.std.proofs.Common.{◌≡◌, ℕ, ◌^◌, ◌<◌, ◌≤◌, ◌⊎◌, inl, inr, Bool, true, false, List, [], ◌++◌, length, Option, Some, None, refl, ap, arith, IfSome, length-append}
 use Rattle.std.specs.Prelude.{Result, Ok, Err, IfErr, IsErrOf}
 use Rattle.std.specs.Io.KnownBytes.{Consumes}
-use Rattle.crypto_script.specs.declared.errors.RunError.{RunError}
-use Rattle.crypto_script.specs.declared.errors.RunError.TheVariants as run
-use Rattle.crypto_script.specs.Runs.{ReadsUpTo}
-use Rattle.crypto_script.specs.Statuses.{status_of}
+use Rattle.script_run.specs.declared.errors.RunError.{RunError}
+use Rattle.script_run.specs.declared.errors.RunError.TheVariants as run
+use Rattle.script_run.specs.Runs.{ReadsUpTo}
+use Rattle.script_run.specs.Statuses.{status_of}
 
 never-long : (answer : Result Bool RunError) (status : ℕ) → IfErr answer (λ e. (e ≡ run.WriteFault) ⊎ (e ≡ run.NoMemory)) → status ≡ status_of answer → status ≡ 6 → ⊥
 never-long (Ok true) status causes code six = omega arith

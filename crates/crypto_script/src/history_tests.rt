@@ -1,8 +1,6 @@
 //! The traces of whole runs.
 
-use crate::program::run;
-use crate::tests::{bytes_of, words_for};
-use crew::NoGate;
+use crate::tests::{bytes_of, status_with, words_for};
 use kc_base::{SureSink, SureSource};
 use std::alloc::{AllocError, Global};
 use std::process::Abort;
@@ -61,7 +59,7 @@ fn printed<R: Threads + Wait + Sync>(
     words.push(String::from_str(alloc, "--trace")?)?;
     let mut out = SureSink::new(alloc);
     let mut src = SureSource::new(bytes_of(alloc, script)?);
-    run(rt, alloc, &words, &NoGate, &mut src, &mut out);
+    status_with(rt, alloc, &words, &mut src, &mut out);
     String::from_str(alloc, str::from_utf8(out.bytes()).unwrap_or("no text"))
 }
 

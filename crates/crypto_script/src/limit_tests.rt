@@ -20,9 +20,8 @@ fn push_times(text: &mut String, line: &str, count: u32) -> Result<(), AllocErro
     Ok(())
 }
 
-#[test]
-fn pipelines_accept_two_to_the_26_bytes(rt: HostRuntime) -> Result<(), Fail> {
-    let alloc = rt.alloc();
+// A held queue takes as many bytes as pipelines accept.
+fn held_bytes(alloc: Global) -> Result<String, AllocError> {
     // 2^14 bytes a request, and 2^12 requests, as many as the queue takes in
     let mut request = String::from_str(alloc, "mac m ")?;
     push_times(&mut request, "00", 16_384)?;
@@ -34,6 +33,11 @@ fn pipelines_accept_two_to_the_26_bytes(rt: HostRuntime) -> Result<(), Fail> {
     push_times(&mut script, request.as_str(), 4096)?;
     // a byte too many comes before the queue's verdict
     script.push_str("mac m 00\nmac m -\n")?;
+    Ok(script)
+}
+
+// What that script prints.
+fn held_text(alloc: Global) -> Result<String, AllocError> {
     let mut text = String::from_str(alloc, "1 ok cryptd(hmac(sha256-generic))\n2 ok\n3 ok\n")?;
     for line in 4..4100u32 {
         text.push_str(format!(in alloc; "{line} EINPROGRESS\n")?.as_str())?;
@@ -43,6 +47,14 @@ fn pipelines_accept_two_to_the_26_bytes(rt: HostRuntime) -> Result<(), Fail> {
         text.push_str(format!(in alloc; "{line} done {MAC}\n")?.as_str())?;
     }
     text.push_str("end m 4096\n")?;
+    Ok(text)
+}
+
+#[test]
+fn pipelines_accept_two_to_the_26_bytes(rt: HostRuntime) -> Result<(), Fail> {
+    let alloc = rt.alloc();
+    let script = held_bytes(alloc)?;
+    let text = held_text(alloc)?;
     expect_beside(&rt, alloc, 2, script.as_str(), 0, text.as_str())?;
     Ok(())
 }

@@ -1,8 +1,6 @@
 //! Whole loads. Each line is that of tools/load-line, which takes nothing of the program.
 
-use crate::program::run;
-use crate::tests::bytes_of;
-use crew::NoGate;
+use crate::tests::{bytes_of, status_with};
 use kc_base::{MemSink, SureSink, SureSource};
 use std::alloc::{AllocError, Global};
 use std::process::Abort;
@@ -30,8 +28,8 @@ fn expect_load<R: Abort + Threads + Wait + Sync>(
     let words = words_of(alloc, line)?;
     let mut out = SureSink::new(alloc);
     let mut src = SureSource::new(bytes_of(alloc, "frob\n")?);
-    let outcome = run(rt, alloc, &words, &NoGate, &mut src, &mut out);
-    assert_eq!(rt; outcome.status, want, "{line}");
+    let status = status_with(rt, alloc, &words, &mut src, &mut out);
+    assert_eq!(rt; status, want, "{line}");
     assert_eq!(rt; out.bytes(), text.as_bytes(), "{line}");
     Ok(())
 }
@@ -83,8 +81,8 @@ fn a_failed_write_leaves_a_front_of_the_line(rt: HostRuntime) -> Result<(), Fail
     let words = words_of(alloc, "--workers 1 --load 7 --count 0")?;
     let mut src = SureSource::new(bytes_of(alloc, "")?);
     let mut out = MemSink::new(alloc, 3, vec![in alloc; 2u64]?);
-    let outcome = run(&rt, alloc, &words, &NoGate, &mut src, &mut out);
-    assert_eq!(rt; outcome.status, 4);
+    let status = status_with(&rt, alloc, &words, &mut src, &mut out);
+    assert_eq!(rt; status, 4);
     assert_eq!(rt; out.bytes(), b"load 0".as_slice());
     Ok(())
 }

@@ -2,30 +2,24 @@
 #![tactic(auto)]
 
 mod adapters;
-mod beside;
-mod errors;
 #[cfg(test)]
 mod fault_tests;
 #[cfg(test)]
 mod history_tests;
 #[cfg(test)]
 mod limit_tests;
-mod lines;
-mod load;
 #[cfg(test)]
 mod load_tests;
-mod loading;
 #[cfg(test)]
 mod pipeline_tests;
 mod program;
 #[cfg(test)]
 mod tests;
-mod tracing;
 
 use adapters::{StdSink, StdSource};
 use crew::NoGate;
-use errors::{NO_MEMORY, USAGE};
 use program::run;
+use script_run::{NO_MEMORY, USAGE};
 use std::process::ExitCode;
 use std::{env, io};
 

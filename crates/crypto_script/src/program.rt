@@ -15,22 +15,20 @@ ghost use Rattle.board.specs.Legal.{LegalBoard};
 ghost use Rattle.dialogues.specs.Texts.{IsText, IsFrontText};
 ghost use Rattle.dialogues.specs.Walk.{start};
 ghost use Rattle.templates.specs.Table.{table};
-ghost use Rattle.crypto_script.specs.Answered.{Gives, AreAnswered, BeginsWithText};
+ghost use Rattle.script_run.specs.Answered.{Gives, AreAnswered, BeginsWithText};
 ghost use Rattle.command_line.specs.CommandLine.{IsWithinLimits};
-ghost use Rattle.crypto_script.specs.Endings.{script_asked, script_in_mode, load_asked, load_in_mode, workers_in, traces_in, traced, AreCallers, EndsShut, IsShutOnce};
-ghost use Rattle.crypto_script.specs.Runs.{ReadsUpTo, Gains, GainsThen, GainsFront, InTurn};
-ghost use Rattle.crypto_script.specs.Statuses.{status_of};
-ghost use Rattle.crypto_script.specs.Text.{is_malformed};
+ghost use Rattle.script_run.specs.Endings.{traced, AreCallers, EndsShut, IsShutOnce};
+ghost use Rattle.script_run.specs.Runs.{ReadsUpTo, Gains, GainsThen, GainsFront, InTurn};
+ghost use Rattle.script_run.specs.Statuses.{status_of};
+ghost use Rattle.script_run.specs.Text.{is_malformed};
+ghost use Rattle.crypto_script.specs.Words.{script_asked, script_in_mode, load_asked, load_in_mode, workers_in, traces_in};
 
-use crate::beside::Ran;
-use crate::errors::{RunError, status_by};
-use crate::load::run_load;
-use crate::tracing::run_traced;
 use alg_registry::RegLog;
 use board::BoardLog;
 use command_line::{Mode, parse_words};
 use crew::Gate;
 use kc_base::{Sink, Source};
+use script_run::{Ran, RunError, run_load, run_traced, status_by};
 use std::alloc::Global;
 use std::sync::Wait;
 use std::thread::Threads;
@@ -90,7 +88,7 @@ fn outcome_of(ran: Ran) -> Outcome
 /// | 3, 4 | the source, the sink failed |
 /// | 5 | memory is wanting |
 /// | 6 | the source has more than 2^28 bytes |
-#[tactic(auto, using(crate::proofs::Traced::nothing_traced))]
+#[tactic(auto, using(crate::proofs::Refusing::nothing_traced))]
 pub fn run<S: Source, K: Sink, G: Gate + Sync, R: Threads + Wait + Sync>(
     rt: &R,
     alloc: Global,

@@ -46,6 +46,17 @@ pub fn words_for(alloc: Global, workers: u32) -> Result<Vec<String>, AllocError>
     ]?)
 }
 
+/// The status of a run with these words.
+pub fn status_with<S: Source, K: Sink, R: Threads + Wait + Sync>(
+    rt: &R,
+    alloc: Global,
+    words: &[String],
+    src: &mut S,
+    out: &mut K,
+) -> u8 {
+    run(rt, alloc, words, &NoGate, src, out).status
+}
+
 // The status of a run beside so many workers.
 fn status<S: Source, K: Sink, R: Threads + Wait + Sync>(
     rt: &R,
@@ -55,7 +66,7 @@ fn status<S: Source, K: Sink, R: Threads + Wait + Sync>(
     out: &mut K,
 ) -> Result<u8, AllocError> {
     let words = words_for(alloc, workers)?;
-    Ok(run(rt, alloc, &words, &NoGate, src, out).status)
+    Ok(status_with(rt, alloc, &words, src, out))
 }
 
 /// A script over streams that don't fail has this status and this text beside so many workers.
@@ -210,16 +221,29 @@ fn transforms_answer_by_the_standards(rt: HostRuntime) -> Result<(), Fail> {
     Ok(())
 }
 
+// A script has this text where each read gives so many bytes.
+fn expect_in_steps<R: Abort + Threads + Wait + Sync>(
+    rt: &R,
+    alloc: Global,
+    step: usize,
+    script: &str,
+    text: &str,
+) -> Result<(), AllocError>
+    requires { 0 < step }
+{
+    let mut src = MemSource::new(bytes_of(alloc, script)?, step, Vec::new(alloc));
+    let mut out = SureSink::new(alloc);
+    let status = status(rt, alloc, 2, &mut src, &mut out)?;
+    assert_eq!(rt; status, 0, "steps of {step}: {script}");
+    assert_eq!(rt; out.bytes(), text.as_bytes(), "steps of {step}: {script}");
+    Ok(())
+}
+
 #[test]
 fn pieces_change_no_text(rt: HostRuntime) -> Result<(), Fail> {
-    let alloc = rt.alloc();
     for step in [1usize, 2, 7, 65_536] {
         for (script, text) in WORKED {
-            let mut src = MemSource::new(bytes_of(alloc, script)?, step, Vec::new(alloc));
-            let mut out = SureSink::new(alloc);
-            let status = status(&rt, alloc, 2, &mut src, &mut out)?;
-            assert_eq!(rt; status, 0, "steps of {step}: {script}");
-            assert_eq!(rt; out.bytes(), text.as_bytes(), "steps of {step}: {script}");
+            expect_in_steps(&rt, rt.alloc(), step, script, text)?;
         }
     }
     Ok(())
@@ -243,19 +267,30 @@ fn moved(alloc: Global, text: &str, driver: &str, form: &str) -> Result<String, 
     Ok(moved)
 }
 
+// A script has the same text where this form computes in the place of that driver.
+fn expect_form<R: Abort + Threads + Wait + Sync>(
+    rt: &R,
+    alloc: Global,
+    driver: &str,
+    form: &str,
+    script: &str,
+    text: &str,
+) -> Result<(), AllocError> {
+    let script = format!(in alloc; "register {form} 200\n{script}")?;
+    let rest = moved(alloc, text, driver, form)?;
+    let text = format!(in alloc; "1 ok\n{rest}")?;
+    expect_beside(rt, alloc, 2, script.as_str(), 0, text.as_str())
+}
+
 #[test]
 fn each_form_answers_the_same(rt: HostRuntime) -> Result<(), Fail> {
-    let alloc = rt.alloc();
     for (driver, form) in [
         ("aes-generic", "aes-table"),
         ("aes-generic", "aes-lanes"),
         ("ghash-generic", "ghash-table"),
     ] {
         for (script, text) in WORKED {
-            let script = format!(in alloc; "register {form} 200\n{script}")?;
-            let rest = moved(alloc, text, driver, form)?;
-            let text = format!(in alloc; "1 ok\n{rest}")?;
-            expect_beside(&rt, alloc, 2, script.as_str(), 0, text.as_str())?;
+            expect_form(&rt, rt.alloc(), driver, form, script, text)?;
         }
     }
     Ok(())
@@ -328,6 +363,18 @@ fn long_texts_are_sealed_in_chunks(rt: HostRuntime) -> Result<(), Fail> {
     Ok(())
 }
 
+// An `alloc` of this name is refused so.
+fn expect_refusal<R: Abort + Threads + Wait + Sync>(
+    rt: &R,
+    alloc: Global,
+    name: &str,
+    errno: &str,
+) -> Result<(), AllocError> {
+    let script = format!(in alloc; "alloc a {name}\n")?;
+    let text = format!(in alloc; "1 {errno}\n")?;
+    expect_beside(rt, alloc, 1, script.as_str(), 0, text.as_str())
+}
+
 #[test]
 fn names_are_refused(rt: HostRuntime) -> Result<(), Fail> {
     let table = [
@@ -354,9 +401,7 @@ fn names_are_refused(rt: HostRuntime) -> Result<(), Fail> {
         ("cryptd(aes)", "EINVAL"),
     ];
     for (name, errno) in table {
-        let script = format!(in rt.alloc(); "alloc a {name}\n")?;
-        let text = format!(in rt.alloc(); "1 {errno}\n")?;
-        expect_beside(&rt, rt.alloc(), 1, script.as_str(), 0, text.as_str())?;
+        expect_refusal(&rt, rt.alloc(), name, errno)?;
     }
     Ok(())
 }
@@ -375,16 +420,24 @@ fn at_most_4096_transforms_live(rt: HostRuntime) -> Result<(), Fail> {
     Ok(())
 }
 
+// The status of a run with one word, and whether it has written nothing.
+fn run_word<R: Threads + Wait + Sync>(
+    rt: &R,
+    alloc: Global,
+    word: &str,
+) -> Result<(u8, bool), AllocError> {
+    let words = vec![in alloc; String::from_str(alloc, word)?]?;
+    let mut out = SureSink::new(alloc);
+    let mut src = SureSource::new(bytes_of(alloc, LINE)?);
+    let status = status_with(rt, alloc, &words, &mut src, &mut out);
+    Ok((status, out.bytes().is_empty()))
+}
+
 #[test]
 fn words_are_refused(rt: HostRuntime) -> Result<(), Fail> {
-    let alloc = rt.alloc();
     for word in ["x", "--workers", "--workers=17", "--trace=1", "--count=5"] {
-        let words = vec![in alloc; String::from_str(alloc, word)?]?;
-        let mut out = SureSink::new(alloc);
-        let mut src = SureSource::new(bytes_of(alloc, LINE)?);
-        let outcome = run(&rt, alloc, &words, &NoGate, &mut src, &mut out);
-        assert_eq!(rt; outcome.status, 2, "{word}");
-        assert!(rt; out.bytes().is_empty(), "{word}");
+        let ended = run_word(&rt, rt.alloc(), word)?;
+        assert_eq!(rt; ended, (2, true), "{word}");
     }
     Ok(())
 }
@@ -409,21 +462,29 @@ impl Gate for Meet {
     }
 }
 
-#[test]
-fn two_are_inside_jobs_at_once(rt: HostRuntime) -> Result<(), Fail> {
-    let alloc = rt.alloc();
-    let gate = Meet {
-        inside: AtomicU64::new(0),
-        gave_up: AtomicU64::new(0),
-    };
+// The status of a run of two jobs beside two workers, past this gate.
+fn status_past<R: Threads + Wait + Sync>(
+    rt: &R,
+    alloc: Global,
+    gate: &Meet,
+) -> Result<u8, AllocError> {
     let mut out = SureSink::new(alloc);
     let mut src = SureSource::new(bytes_of(
         alloc,
         "alloc p pcrypt(gcm(aes))\nkey p 00000000000000000000000000000000\nenc p 000000000000000000000000 - -\nenc p 000000000000000000000000 - -\ndrain p\n",
     )?);
     let words = words_for(alloc, 2)?;
-    let outcome = run(&rt, alloc, &words, &gate, &mut src, &mut out);
-    assert_eq!(rt; outcome.status, 0);
+    Ok(run(rt, alloc, &words, gate, &mut src, &mut out).status)
+}
+
+#[test]
+fn two_are_inside_jobs_at_once(rt: HostRuntime) -> Result<(), Fail> {
+    let gate = Meet {
+        inside: AtomicU64::new(0),
+        gave_up: AtomicU64::new(0),
+    };
+    let status = status_past(&rt, rt.alloc(), &gate)?;
+    assert_eq!(rt; status, 0);
     assert_eq!(rt; gate.gave_up.load(Ordering::SeqCst), 0);
     assert_eq!(rt; gate.inside.load(Ordering::SeqCst), 2);
     Ok(())
@@ -437,6 +498,16 @@ fn first_lines(alloc: Global, text: &str, count: usize) -> Result<String, AllocE
         first.push('\n')?;
     }
     Ok(first)
+}
+
+// The status and the text of the script's run where the read of this number fails.
+fn wanted_by(alloc: Global, step: usize, number: u32) -> Result<(u8, String), AllocError> {
+    let given = step.saturating_mul(number as usize);
+    if given.saturating_sub(step) >= SCRIPT.len() {
+        return Ok((1, first_lines(alloc, TEXT, 3)?));
+    }
+    let feeds = SCRIPT.bytes().take(given).filter(|b| *b == b'\n').count();
+    Ok((3, first_lines(alloc, TEXT, feeds)?))
 }
 
 // The script's run where one read fails: the lines whose line feed came before it are answered.
@@ -454,13 +525,7 @@ fn fail_read<R: Abort + Threads + Wait + Sync>(
         vec![in alloc; u64::from(number)]?,
     );
     let mut out = SureSink::new(alloc);
-    let given = step.saturating_mul(number as usize);
-    let feeds = SCRIPT.bytes().take(given).filter(|b| *b == b'\n').count();
-    let (want, text) = if given.saturating_sub(step) >= SCRIPT.len() {
-        (1, first_lines(alloc, TEXT, 3)?)
-    } else {
-        (3, first_lines(alloc, TEXT, feeds)?)
-    };
+    let (want, text) = wanted_by(alloc, step, number)?;
     let status = status(rt, alloc, number % 4, &mut src, &mut out)?;
     assert_eq!(rt; status, want, "read {number} in steps of {step}");
     assert_eq!(rt;
@@ -541,8 +606,8 @@ fn std_streams_are_a_source_and_a_sink(rt: HostRuntime) -> Result<(), Fail> {
     let mut out = StdSink::new(Vec::new(rt.alloc()));
     let words = Vec::new(rt.alloc());
     // four workers, where no word says how many
-    let outcome = run(&rt, rt.alloc(), &words, &NoGate, &mut src, &mut out);
-    assert_eq!(rt; outcome.status, 0);
+    let status = status_with(&rt, rt.alloc(), &words, &mut src, &mut out);
+    assert_eq!(rt; status, 0);
     assert_eq!(rt; out.into_inner().as_slice(), ANSWER.as_bytes());
     Ok(())
 }

@@ -1,6 +1,6 @@
 use Rattle.std.proofs.Common.{◌≡◌, ap, ◌∙◌, Some, Ok}
 use Rattle.std.specs.Prelude.{map, string_bytes}
-use Rattle.crypto_script.specs.Endings.{script_asked, script_in_mode, load_asked, workers_in, workers_by, traces_in, traces_by}
+use Rattle.crypto_script.specs.Words.{script_asked, script_in_mode, load_asked, workers_in, workers_by, traces_in, traces_by}
 use Rattle.crypto_script.proofs.Stopping.{load-reads, reaches-end}
 use Rattle.crypto_script.proofs.program.run.Goals as goal
 

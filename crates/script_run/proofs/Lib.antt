@@ -1,0 +1,9 @@
+pub mod Following
+pub mod Fronts
+pub mod Going
+pub mod Readings
+pub mod Exits
+pub mod Finishing
+pub mod LoadLines
+pub mod Loaded
+pub mod Traced

@@ -1,0 +1,228 @@
+-- A load, line by line, and what it leaves.
+use Rattle.std.proofs.Common.{◌≡◌, ℕ, suc, ◌+◌, ◌-◌, ◌<◌, List, [], ◌∷◌, ◌++◌, map, Some, None, refl, sym, ap, subst, ◌∙◌, append_assoc, append-nil, arith}
+use Rattle.std.specs.List.{flat_map}
+use Rattle.std.proofs.lemmas.Grind.{flat_map-append}
+use Rattle.sha2.specs.Sha256.{sha256}
+use Rattle.sha2.specs.Hashers.{Holds256}
+use Rattle.sha2.specs.declared.Sha256.{Sha256}
+use Rattle.alg_registry.specs.declared.entry.RegEntry.{RegEntry}
+use Rattle.board.specs.declared.entry.BoardEntry.{BoardEntry}
+use Rattle.dialogues.specs.BoardCalls.{board_calls}
+use Rattle.dialogues.specs.Dialogues.{Dialogue, Ends, followed}
+use Rattle.dialogues.specs.InTurn.{AreInTurnBy}
+use Rattle.dialogues.specs.Lines.{line_dialogue, lines_dialogue}
+use Rattle.dialogues.specs.Piping.{end}
+use Rattle.dialogues.specs.RegistryCalls.{reg_calls, AllSettled}
+use Rattle.dialogues.specs.Turns.{Turn, IsTurn, ended, joined, turn_of}
+use Rattle.dialogues.specs.Walk.{Walk}
+use Rattle.load_mode.specs.Requests.{drawn_request, drawn_requests, asked_for, asked_from}
+use Rattle.load_mode.specs.Lines.{opening, request_line, request_lines, load_dialogue}
+use Rattle.load_mode.specs.Turns.{bytes_told}
+use Rattle.reply_text.specs.declared.answers.Answer.{Answer}
+use Rattle.script_session.specs.Ending.{EndsWith}
+use Rattle.script_session.specs.Holding.{HoldsBy, Stops}
+use Rattle.script_session.specs.States.{State}
+use Rattle.script_text.specs.declared.commands.Line.{Line}
+use Rattle.session_calls.specs.Asking.{AskedBy}
+use Rattle.session_calls.specs.Passes.{known}
+use Rattle.session_calls.specs.Pipelines.{Called}
+use Rattle.transforms.specs.declared.ask.Ask.{Ask}
+use Rattle.turn_lock.specs.Turns.{Known}
+use Rattle.script_run.specs.Laws.{Laws}
+use Rattle.script_run.specs.Loads.{IsHeld, HoldsOn, IsLoadTurnAfter}
+use Rattle.script_run.specs.Runs.{GoesOn, IsFresh}
+use Rattle.script_run.proofs.Following.{reg_calls-same, board_calls-same, in_turn-on, followed-ends}
+
+-- ---- a session goes on
+
+pub held-goes : (width : ℕ) (d : Dialogue) (s s' : State) (answers answers' : List Answer) → HoldsBy width d s s' answers answers' → GoesOn s s'
+held-goes width d s s' answers answers' h = record {
+  locks = h.locks;
+  registry = record { number = h.done.asked.number; next = h.done.asked.next; seen = (h.done.asked.are.more, h.done.asked.are.goes_on) };
+  board = record { number = h.done.called.number; next = h.done.called.next; seen = h.done.called.seen };
+}
+
+pub ended-goes : (s s' : State) (answers answers' : List Answer) → EndsWith s s' answers answers' → GoesOn s s'
+ended-goes s s' answers answers' e = record {
+  locks = e.locks;
+  registry = record { number = e.asked.number; next = e.asked.next; seen = (e.asked.are.more, e.asked.are.goes_on) };
+  board = record { number = e.called.number; next = e.called.next; seen = e.called.seen };
+}
+
+pub stopped-goes : (s s' : State) → Stops s s' → GoesOn s s'
+stopped-goes s s' stop = record { locks = stop.locks; registry = stop.registry; board = stop.board.more }
+
+-- ---- a part of a dialogue
+
+joined-assoc : (t u v : Turn) → joined (joined t u) v ≡ joined t (joined u v)
+joined-assoc t u v = λ i. record {
+  registry = append_assoc t.registry u.registry v.registry i;
+  board = append_assoc t.board u.board v.board i;
+  answers = append_assoc t.answers u.answers v.answers i;
+  after = v.after;
+}
+
+abbrev nothing : Turn
+nothing = record { registry = []; board = []; answers = []; after = None }
+
+pub begins : Laws → (whole : Dialogue) (s : State) (hasher : Sha256) → IsFresh s → Holds256 hasher [] → IsHeld whole whole s hasher
+unfolding reg_calls board_calls
+begins laws whole s hasher fresh empty = record {
+  turn = nothing;
+  leads = λ r b. refl;
+  asked = ap (λ h. reg_calls 0 h) fresh.registry.1;
+  settled = subst (λ h. AllSettled (reg_calls 0 h)) (sym fresh.registry.1) tt;
+  called = ap (λ h. board_calls 0 h) fresh.board.1;
+  in_turn = subst (λ h. AreInTurnBy 1 0 [] [] h) (sym fresh.registry.1) (laws.any_width 1 0 [] [] [] (laws.no_call 0 []));
+  caller = fresh.registry.0;
+  board_caller = fresh.board.0;
+  hashed = empty;
+}
+
+-- one turn more
+module _ (laws : Laws) (whole d : Dialogue) (later : Walk → Dialogue) (s s' : State) (x y : Sha256) (walk : Walk) (u : Turn) (answers : List Answer) (is : IsTurn d u) (asked : AskedBy 1 (known s.registry) (known s'.registry) u.registry) (called : Called (known s.board) (known s'.board) u.board)
+    (ends : u.after ≡ Some walk) (says : answers ≡ u.answers) (hashes : (m : List ℕ) → Holds256 x m → Holds256 y (m ++ flat_map bytes_told answers)) (held : IsHeld whole (followed d later) s x) where
+  abbrev t : Turn
+  t = held.turn
+
+  abbrev k : Known RegEntry
+  k = known s.registry
+
+  abbrev k' : Known RegEntry
+  k' = known s'.registry
+
+  abbrev l : Known (BoardEntry Ask)
+  l = known s.board
+
+  abbrev l' : Known (BoardEntry Ask)
+  l' = known s'.board
+
+  pub turned : IsHeld whole (later walk) s' y
+  turned = record {
+    turn = joined t u;
+    leads = λ r b.
+        (λ i. turn_of whole (append_assoc t.registry u.registry r i) (append_assoc t.board u.board b i))
+        ∙ (held.leads (u.registry ++ r) (u.board ++ b)
+        ∙ (ap (joined t) (laws.follow d later u walk r b is ends) ∙ sym (joined-assoc t u (turn_of (later walk) r b))));
+    asked = ap (λ n. reg_calls n k'.seen) (sym held.caller) ∙ (asked.are.calls_are ∙ (ap (λ n. reg_calls n k.seen ++ u.registry) held.caller ∙ ap (λ cs. cs ++ u.registry) held.asked));
+    settled = subst (λ n. AllSettled (reg_calls n k'.seen)) held.caller asked.are.all_settled;
+    called = ap (λ n. board_calls n l'.seen) (sym (called.number ∙ held.board_caller)) ∙ (called.calls_are ∙ (ap (λ n. board_calls n l.seen ++ u.board) held.board_caller ∙ ap (λ cs. cs ++ u.board) held.called));
+    in_turn = laws.later_calls 1 0 t.registry u.registry [] k.seen k'.seen held.in_turn (subst (λ n. AreInTurnBy 1 n u.registry k.seen k'.seen) held.caller asked.in_turn);
+    caller = asked.number ∙ held.caller;
+    board_caller = called.number ∙ held.board_caller;
+    hashed =
+        subst (Holds256 y) (ap (λ xs. flat_map bytes_told t.answers ++ flat_map bytes_told xs) says ∙ sym (flat_map-append bytes_told t.answers u.answers)) (hashes (flat_map bytes_told t.answers) held.hashed);
+  }
+
+-- a line of one look at most
+pub line-on : Laws → (width : ℕ) (d : Dialogue) (s s' : State) (x y : Sha256) (none answers : List Answer) → width ≡ 1 → none ≡ [] → HoldsBy width d s s' none answers → ((m : List ℕ) → Holds256 x m → Holds256 y (m ++ flat_map bytes_told answers))
+    → (later : Walk → Dialogue) → HoldsOn (followed d later) later s s' x y
+line-on laws width d s s' x y none answers narrow empty done hashes later = λ whole held.
+    let h = done.done in
+    turned laws whole d later s s' x y s'.walk h.turn answers h.is (subst (λ w. AskedBy w (known s.registry) (known s'.registry) h.turn.registry) narrow h.asked) h.called h.ends
+    (h.says ∙ ap (λ xs. xs ++ h.turn.answers) empty) hashes held
+
+-- the end
+pub end-on : Laws → (s s' : State) (x y : Sha256) (none answers : List Answer) → none ≡ [] → EndsWith s s' none answers → ((m : List ℕ) → Holds256 x m → Holds256 y (m ++ flat_map bytes_told answers))
+    → (whole : Dialogue) → IsHeld whole (end s.walk) s x → IsHeld whole (Ends s.walk) s' y
+end-on laws s s' x y none answers empty e hashes = λ whole held.
+    turned laws whole (end s.walk) Ends s s' x y s.walk e.turn answers e.is e.asked e.called e.ends (e.says ∙ ap (λ xs. xs ++ e.turn.answers) empty) hashes
+    (subst (λ d. IsHeld whole d s x) (sym (followed-ends (end s.walk))) held)
+
+-- ---- the requests
+
+-- so many lines from a number on, whose bytes are drawn from a state on
+abbrev pub lines_from : ℕ → ℕ → ℕ → List Line
+lines_from number state more = map request_line (asked_from number (drawn_requests state more))
+
+pub lines-next : (count number state : ℕ) → number < count → lines_from number state (count - number) ≡ request_line (asked_for number (drawn_request state)) ∷ lines_from (number + 1) (drawn_request state).after (count - (number + 1))
+lines-next count number state below =
+    let one : count - number ≡ suc (count - (number + 1)) = omega arith in
+    ap (λ n. lines_from number state n) one
+
+pub lines-none : (count number state : ℕ) → number ≡ count → lines_from number state (count - number) ≡ []
+lines-none count number state all = let none : count - number ≡ 0 = omega arith in ap (λ n. lines_from number state n) none
+
+-- ---- lines, one after another
+
+abbrev LineOn : ℕ → ℕ → Line → State → State → Sha256 → Sha256 → Type 0
+LineOn workers n line s s' x y = (later : Walk → Dialogue) → HoldsOn (followed (line_dialogue workers s.walk n line) later) later s s' x y
+
+-- beside as many workers as before
+line-with : (workers n : ℕ) (line : Line) (s s' : State) (x y : Sha256) → s.workers ≡ workers → LineOn s.workers n line s s' x y → LineOn workers n line s s' x y
+line-with workers n line s s' x y same on = subst (λ w. LineOn w n line s s' x y) same on
+
+pub opening-on : (a b c d : Line) (s s1 s2 s3 s4 : State) (x x1 x2 x3 x4 : Sha256) → a ∷ b ∷ c ∷ d ∷ [] ≡ opening → GoesOn s s1 → GoesOn s1 s2 → GoesOn s2 s3
+    → LineOn s.workers 0 a s s1 x x1 → LineOn s1.workers 1 b s1 s2 x1 x2 → LineOn s2.workers 2 c s2 s3 x2 x3 → LineOn s3.workers 3 d s3 s4 x3 x4
+    → (later : Walk → Dialogue) → HoldsOn (lines_dialogue s.workers s.walk 0 opening later) later s s4 x x4
+opening-on a b c d s s1 s2 s3 s4 x x1 x2 x3 x4 same g1 g2 g3 on1 on2 on3 on4 later =
+    let w = s.workers in
+    let w1 = g1.locks.workers in
+    let w2 = g2.locks.workers ∙ w1 in
+    let w3 = g3.locks.workers ∙ w2 in
+    let last : Walk → Dialogue = λ walk. followed (line_dialogue w walk 3 d) later in
+    let third : Walk → Dialogue = λ walk. followed (line_dialogue w walk 2 c) last in
+    let second : Walk → Dialogue = λ walk. followed (line_dialogue w walk 1 b) third in
+    subst (λ lines. HoldsOn (lines_dialogue w s.walk 0 lines later) later s s4 x x4) same
+    (λ whole held.
+    line-with w 3 d s3 s4 x3 x4 w3 on4 later whole
+    (line-with w 2 c s2 s3 x2 x3 w2 on3 last whole
+    (line-with w 1 b s1 s2 x1 x2 w1 on2 third whole
+    (on1 second whole held))))
+
+abbrev pub LeftAt : ℕ → ℕ → ℕ → ℕ → Walk → Dialogue
+LeftAt workers count number state walk = lines_dialogue workers walk number (lines_from number state (count - number)) end
+
+pub requests-begin : (workers seed count state : ℕ) (s : State) (x : Sha256) → s.workers ≡ workers → state ≡ seed → HoldsOn (lines_dialogue workers s.walk 0 (request_lines seed count) end) (LeftAt workers count 0 state) s s x x
+requests-begin workers seed count state s x same seeded = λ whole held.
+    let all : count - 0 ≡ count = omega arith in
+    subst (λ lines. IsHeld whole (lines_dialogue workers s.walk 0 lines end) s x) (λ i. lines_from 0 (sym seeded i) (sym all i)) held
+
+pub requests-more : (workers count n state state' : ℕ) (first : Dialogue) (s s1 s2 : State) (x x1 x2 : Sha256) (line : Line) → n < count → s1.workers ≡ workers → line ≡ request_line (asked_for n (drawn_request state)) → state' ≡ (drawn_request state).after
+    → HoldsOn first (LeftAt workers count n state) s s1 x x1 → LineOn s1.workers n line s1 s2 x1 x2 → HoldsOn first (LeftAt workers count (n + 1) state') s s2 x x2
+requests-more workers count n state state' first s s1 s2 x x1 x2 line below same is after before on = λ whole held.
+    let rest : List Line = lines_from (n + 1) (drawn_request state).after (count - (n + 1)) in
+    let lines : lines_from n state (count - n) ≡ line ∷ rest = lines-next count n state below ∙ ap (λ l. l ∷ rest) (sym is) in
+    let now : IsHeld whole (followed (line_dialogue workers s1.walk n line) (λ walk. lines_dialogue workers walk (n + 1) rest end)) s1 x1 =
+    subst (λ ls. IsHeld whole (lines_dialogue workers s1.walk n ls end) s1 x1) lines (before whole held) in
+    subst (λ g. IsHeld whole (LeftAt workers count (n + 1) g s2.walk) s2 x2) (sym after)
+    (line-with workers n line s1 s2 x1 x2 same on (λ walk. lines_dialogue workers walk (n + 1) rest end) whole now)
+
+pub requests-end : (workers count n state : ℕ) (first : Dialogue) (s s1 : State) (x x1 : Sha256) → n ≡ count → HoldsOn first (LeftAt workers count n state) s s1 x x1 → HoldsOn first end s s1 x x1
+requests-end workers count n state first s s1 x x1 all before = λ whole held.
+    subst (λ ls. IsHeld whole (lines_dialogue workers s1.walk n ls end) s1 x1) (lines-none count n state all) (before whole held)
+
+-- ---- what it leaves
+
+pub done-load : Laws → (workers seed count : ℕ) (walk : Walk) (s : State) (hasher : Sha256) (digest : List ℕ) → IsHeld (load_dialogue workers seed count) (Ends walk) s hasher → ((m : List ℕ) → Holds256 hasher m → digest ≡ sha256 m)
+    → IsLoadTurnAfter workers seed count (known s.registry) (known s.board) digest
+done-load laws workers seed count walk s hasher digest held hashes = λ r b from_r from_b.
+    let t = held.turn in
+    let k = known s.registry in
+    let calls : reg_calls 0 r ≡ t.registry = reg_calls-same laws k r held.caller held.settled from_r ∙ held.asked in
+    record {
+      turn = joined t (ended walk);
+      is = held.leads [] [];
+      registry = append-nil t.registry ∙ sym calls;
+      board = append-nil t.board ∙ sym (board_calls-same laws (known s.board) b held.board_caller from_b ∙ held.called);
+      ended = cc;
+      in_turn = subst (λ cs. AreInTurnBy 1 0 cs [] r) (sym calls) (in_turn-on laws 1 k r t.registry held.caller from_r held.in_turn);
+      digest_is = hashes (flat_map bytes_told t.answers) held.hashed ∙ ap (λ xs. sha256 (flat_map bytes_told xs)) (sym (append-nil t.answers));
+    }
+
+-- the whole load, from a session that has seen nothing
+pub load-done : Laws → (seed count : ℕ) (s s1 s2 s3 : State) (x x1 x2 x3 : Sha256) (digest : List ℕ) → IsFresh s → Holds256 x [] → GoesOn s s1
+    → ((later : Walk → Dialogue) → HoldsOn (lines_dialogue s.workers s.walk 0 opening later) later s s1 x x1)
+    → HoldsOn (lines_dialogue s1.workers s1.walk 0 (request_lines seed count) end) end s1 s2 x1 x2
+    → ((whole : Dialogue) → IsHeld whole (end s2.walk) s2 x2 → IsHeld whole (Ends s2.walk) s3 x3)
+    → ((m : List ℕ) → Holds256 x3 m → digest ≡ sha256 m)
+    → IsLoadTurnAfter s.workers seed count (known s3.registry) (known s3.board) digest
+load-done laws seed count s s1 s2 s3 x x1 x2 x3 digest fresh empty goes opens requests ends hashes =
+    let rest : Walk → Dialogue = λ walk. lines_dialogue s.workers walk 0 (request_lines seed count) end in
+    let whole : Dialogue = load_dialogue s.workers seed count in
+    let first : IsHeld whole (lines_dialogue s.workers s.walk 0 opening rest) s x =
+    subst (λ walk. IsHeld whole (lines_dialogue s.workers walk 0 opening rest) s x) (sym fresh.walk) (begins laws whole s x fresh empty) in
+    let second : IsHeld whole (rest s1.walk) s1 x1 = opens rest whole first in
+    let third : IsHeld whole (end s2.walk) s2 x2 =
+    requests whole (subst (λ w. IsHeld whole (lines_dialogue w s1.walk 0 (request_lines seed count) end) s1 x1) (sym goes.locks.workers) second) in
+    done-load laws s.workers seed count s2.walk s3 x3 digest (ends whole third) hashes

@@ -1,0 +1,45 @@
+use Rattle.std.specs.Prelude.{◌≡◌}
+use Rattle.dialogues.specs.Texts.{IsText, IsFrontText}
+use Rattle.dialogues.specs.Walk.{start}
+use Rattle.script_text.specs.Script.{script_of}
+use Rattle.settled_scripts.specs.Settled.{IsSettled, plain_text}
+use Rattle.script_run.specs.Endings.{traced}
+use Rattle.script_run.proofs.Traced.{then-gains, then-gains_if, then-front, then-ran}
+use Rattle.script_run.proofs.tracing.run_traced.Goals as goal
+
+pub returns-clause-whole : goal.returns-clause-whole
+returns-clause-whole g c =
+    let held = g.K.Sink.held in
+    let ran = c.run_script-answer.result in
+    let workers = c.args.options.now.workers in
+    then-gains ran.answer c.answer_traced-answer.result (held c.args.out.now) (held c.run_script-answer.new.out) (held c.answer_traced-answer.new.out)
+    (traced c.args.options.now.trace ran.registry ran.board) c.answer_traced-answer.ensures.whole (g.S.Source.left c.args.src.now)
+    (λ script text. IsText workers (start 0) 0 (script_of script) ran.registry ran.board text) c.run_script-answer.ensures.whole
+
+pub returns-clause-settled : goal.returns-clause-settled
+returns-clause-settled g c =
+    let held = g.K.Sink.held in
+    let ran = c.run_script-answer.result in
+    then-gains_if ran.answer c.answer_traced-answer.result (held c.args.out.now) (held c.run_script-answer.new.out) (held c.answer_traced-answer.new.out)
+    (traced c.args.options.now.trace ran.registry ran.board) c.answer_traced-answer.ensures.whole (g.S.Source.left c.args.src.now)
+    (λ script. IsSettled (script_of script)) (λ script text. text ≡ plain_text (script_of script)) c.run_script-answer.ensures.settled
+
+pub returns-clause-front : goal.returns-clause-front
+returns-clause-front g c =
+    let held = g.K.Sink.held in
+    let ran = c.run_script-answer.result in
+    let workers = c.args.options.now.workers in
+    then-front ran.answer c.answer_traced-answer.result (held c.args.out.now) (held c.run_script-answer.new.out) (held c.answer_traced-answer.new.out)
+    (traced c.args.options.now.trace ran.registry ran.board) c.answer_traced-answer.ensures.whole c.answer_traced-answer.ensures.front (g.S.Source.left c.args.src.now)
+    (λ script text. IsFrontText workers (start 0) 0 (script_of script) ran.registry ran.board text)
+    (λ script text. IsText workers (start 0) 0 (script_of script) ran.registry ran.board text)
+    c.run_script-answer.ensures.front c.run_script-answer.ensures.whole
+
+pub returns-clause-first : goal.returns-clause-first
+returns-clause-first g c =
+    let held = g.K.Sink.held in
+    let left = g.S.Source.left in
+    let ran = c.run_script-answer.result in
+    then-ran ran.answer c.answer_traced-answer.result (held c.args.out.now) (held c.run_script-answer.new.out) (held c.answer_traced-answer.new.out)
+    (traced c.args.options.now.trace ran.registry ran.board) c.answer_traced-answer.ensures.whole c.answer_traced-answer.ensures.front c.answer_traced-answer.ensures.causes
+    c.args.options.now.workers (left c.args.src.now) (left c.run_script-answer.new.src) ran.registry ran.board c.run_script-answer.ensures.first

@@ -1,0 +1,7 @@
+pub mod Laws
+pub mod Text
+pub mod Runs
+pub mod Loads
+pub mod Answered
+pub mod Endings
+pub mod Statuses

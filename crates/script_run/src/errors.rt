@@ -1,0 +1,82 @@
+//! Why a run did not reach the end.
+
+ghost use Rattle.std.specs.Prelude.{◌≡◌};
+ghost use Rattle.script_run.specs.Statuses.{of_words, of_input, of_output, status_of};
+ghost use Rattle.script_run.specs.declared.errors.RunError.TheVariants.{NoMemory as MemoryWants};
+
+use command_line::CommandLineError;
+use kc_base::{InputError, SinkError};
+use std::alloc::AllocError;
+
+/// The status where the words are no command.
+pub const USAGE: u8 = 2;
+
+/// The status where memory is wanting.
+pub const NO_MEMORY: u8 = 5;
+
+/// Why a run did not reach the end.
+#[derive(Clone, Copy, Debug, PartialEq, Eq)]
+pub enum RunError {
+    Usage,
+    ReadFault,
+    WriteFault,
+    NoMemory,
+    TooLong,
+}
+
+impl From<AllocError> for RunError {
+    ghost from_gives = { λ _ e. e ≡ MemoryWants };
+
+    fn from(_: AllocError) -> Self {
+        RunError::NoMemory
+    }
+}
+
+impl From<CommandLineError> for RunError {
+    ghost from_gives = { λ e r. r ≡ of_words e };
+
+    fn from(error: CommandLineError) -> Self {
+        match error {
+            CommandLineError::NoMemory => RunError::NoMemory,
+            _ => RunError::Usage,
+        }
+    }
+}
+
+impl From<InputError> for RunError {
+    ghost from_gives = { λ e r. r ≡ of_input e };
+
+    fn from(error: InputError) -> Self {
+        match error {
+            InputError::Failed => RunError::ReadFault,
+            InputError::NoMemory => RunError::NoMemory,
+            InputError::TooLong => RunError::TooLong,
+        }
+    }
+}
+
+impl From<SinkError> for RunError {
+    ghost from_gives = { λ e r. r ≡ of_output e };
+
+    fn from(error: SinkError) -> Self {
+        match error {
+            SinkError::Failed => RunError::WriteFault,
+            SinkError::NoMemory => RunError::NoMemory,
+        }
+    }
+}
+
+/// The program's status, by whether a line is malformed, or why the run did not reach the end.
+pub fn status_by(answer: Result<bool, RunError>) -> u8
+    ensures { result ≡ status_of answer }
+{
+    match answer {
+        Ok(false) => 0,
+        Ok(true) => 1,
+        Err(RunError::Usage) => USAGE,
+        Err(RunError::ReadFault) => 3,
+        Err(RunError::WriteFault) => 4,
+        Err(RunError::NoMemory) => NO_MEMORY,
+        Err(RunError::TooLong) => 6,
+    }
+}

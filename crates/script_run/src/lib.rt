@@ -1,0 +1,15 @@
+//! A whole script, or a whole load, beside workers.
+#![tactic(auto)]
+
+mod beside;
+mod errors;
+mod lines;
+mod load;
+mod loading;
+mod tracing;
+
+pub use beside::Ran;
+pub use errors::{NO_MEMORY, RunError, USAGE, status_by};
+pub use lines::MAX_INPUT;
+pub use load::run_load;
+pub use tracing::run_traced;

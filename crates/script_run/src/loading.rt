@@ -1,0 +1,289 @@
+//! A load, held by a session.
+
+ghost use Rattle.std.specs.Prelude.{OnOk, ◌≡◌, ◌∷◌, [], IfOk, false};
+ghost use Rattle.alg_registry.specs.Rows.{caller_of};
+ghost use Rattle.board.specs.Legal.{is_shut};
+ghost use Rattle.dialogues.specs.Dialogues.{followed};
+ghost use Rattle.dialogues.specs.Lines.{line_dialogue, lines_dialogue};
+ghost use Rattle.dialogues.specs.Piping.{end};
+ghost use Rattle.dialogues.specs.Walk.{Walk as Made};
+ghost use Rattle.dialogues.specs.Dialogues.{Dialogue, Ends};
+ghost use Rattle.dialogues.specs.Widths.{width_of};
+ghost use Rattle.load_mode.specs.Lines.{opening, request_line, request_lines};
+ghost use Rattle.load_mode.specs.Requests.{asked_for, drawn_request};
+ghost use Rattle.script_text.specs.Sizes.{IsShortLine};
+ghost use Rattle.script_session.specs.Ending.{EndsShut};
+ghost use Rattle.script_session.specs.Running.{IsReady};
+ghost use Rattle.session_calls.specs.Passes.{known};
+ghost use Rattle.turn_lock.specs.Meeting.{IsOwn};
+ghost use Rattle.script_run.specs.Laws.{Laws};
+ghost use Rattle.script_run.specs.Loads.{IsHeld, HoldsOn, IsLoadTurnAfter};
+ghost use Rattle.script_run.specs.Runs.{GoesOn, IsFresh, IsUnshutOrEnds};
+
+use crate::lines::laws;
+use crew::Gate;
+use generator::Generator;
+use load_mode::{Opening, draw_request, hash_completions, opening_lines};
+use script_session::Session;
+use script_text::Line;
+use session_calls::Stop;
+use sha2::{Digest, Sha256};
+use shared_board::SharedBoard;
+use shared_registry::SharedRegistry;
+use std::alloc::{AllocError, Global};
+use std::mem;
+use std::sync::Wait;
+use std::thread::Threads;
+use transforms::Job;
+
+// Answers one line, which makes at most one look at once.
+fn hold_line<G: Gate, R: Threads + Wait + Sync>(
+    rt: &R,
+    alloc: Global,
+    board: &SharedBoard<Job>,
+    registry: &SharedRegistry,
+    gate: &G,
+    session: &mut Session,
+    hasher: &mut Sha256,
+    number: u32,
+    line: Line,
+) -> Result<(), AllocError>
+    requires ready { IsReady registry.now board.now session.old }
+    requires short { IsShortLine line }
+    requires narrow { width_of line ≡ 1 }
+    ensures on { OnOk result ((later : Made → Dialogue) → HoldsOn (followed (line_dialogue session.old.workers session.old.walk number line) later) later session.old session.new hasher.old hasher.new) }
+    ensures ready { OnOk result (IsReady registry.now board.now session.new) }
+    ensures goes_on { GoesOn session.old session.new }
+    ensures unshut { (known session.new.board).number ≡ 0 → is_shut (known session.new.board).seen ≡ false }
+{
+    laws();
+    let mut answers = Vec::new(alloc);
+    match session.answer_line(rt, board, registry, gate, number, line, &mut answers) {
+        Ok(()) => {
+            hash_completions(hasher, &answers);
+            Ok(())
+        }
+        Err(Stop::Memory) => Err(AllocError),
+    }
+}
+
+// Takes a line out of its place. So no line is a local that is let go where a call stops.
+fn taken(line: &mut Line) -> Line
+    ensures { result ≡ line.old }
+{
+    mem::replace(line, Line::Nothing)
+}
+
+// Answers the lines that make both transforms.
+fn hold_opened<G: Gate, R: Threads + Wait + Sync>(
+    rt: &R,
+    alloc: Global,
+    board: &SharedBoard<Job>,
+    registry: &SharedRegistry,
+    gate: &G,
+    session: &mut Session,
+    hasher: &mut Sha256,
+    lines: &mut Opening,
+) -> Result<(), AllocError>
+    requires ready { IsReady registry.now board.now session.old }
+    requires lines { lines.old.make_a ∷ lines.old.key_a ∷ lines.old.make_g ∷ lines.old.key_g ∷ [] ≡ opening }
+    ensures on { OnOk result ((later : Made → Dialogue) → HoldsOn (lines_dialogue session.old.workers session.old.walk 0 opening later) later session.old session.new hasher.old hasher.new) }
+    ensures ready { OnOk result (IsReady registry.now board.now session.new) }
+    ensures goes_on { GoesOn session.old session.new }
+    ensures unshut { (known session.new.board).number ≡ 0 → is_shut (known session.new.board).seen ≡ false }
+{
+    hold_line(
+        rt,
+        alloc,
+        board,
+        registry,
+        gate,
+        session,
+        hasher,
+        0,
+        taken(&mut lines.make_a),
+    )?;
+    hold_line(
+        rt,
+        alloc,
+        board,
+        registry,
+        gate,
+        session,
+        hasher,
+        1,
+        taken(&mut lines.key_a),
+    )?;
+    hold_line(
+        rt,
+        alloc,
+        board,
+        registry,
+        gate,
+        session,
+        hasher,
+        2,
+        taken(&mut lines.make_g),
+    )?;
+    hold_line(
+        rt,
+        alloc,
+        board,
+        registry,
+        gate,
+        session,
+        hasher,
+        3,
+        taken(&mut lines.key_g),
+    )?;
+    Ok(())
+}
+
+// Makes both transforms.
+fn hold_opening<G: Gate, R: Threads + Wait + Sync>(
+    rt: &R,
+    alloc: Global,
+    board: &SharedBoard<Job>,
+    registry: &SharedRegistry,
+    gate: &G,
+    session: &mut Session,
+    hasher: &mut Sha256,
+) -> Result<(), AllocError>
+    requires ready { IsReady registry.now board.now session.old }
+    ensures on { OnOk result ((later : Made → Dialogue) → HoldsOn (lines_dialogue session.old.workers session.old.walk 0 opening later) later session.old session.new hasher.old hasher.new) }
+    ensures ready { OnOk result (IsReady registry.now board.now session.new) }
+    ensures goes_on { GoesOn session.old session.new }
+    ensures unshut { (known session.new.board).number ≡ 0 → is_shut (known session.new.board).seen ≡ false }
+{
+    let mut lines = opening_lines(alloc)?;
+    hold_opened(
+        rt, alloc, board, registry, gate, session, hasher, &mut lines,
+    )
+}
+
+// Draws a request and hands it in.
+fn hold_request<G: Gate, R: Threads + Wait + Sync>(
+    rt: &R,
+    alloc: Global,
+    board: &SharedBoard<Job>,
+    registry: &SharedRegistry,
+    gate: &G,
+    session: &mut Session,
+    hasher: &mut Sha256,
+    generator: &mut Generator,
+    number: u32,
+) -> Result<(), AllocError>
+    requires ready { IsReady registry.now board.now session.old }
+    ensures on { OnOk result ((later : Made → Dialogue) → HoldsOn (followed (line_dialogue session.old.workers session.old.walk number (request_line (asked_for number (drawn_request generator.old)))) later) later session.old session.new hasher.old hasher.new) }
+    ensures drawn { OnOk result (generator.new ≡ (drawn_request generator.old).after) }
+    ensures ready { OnOk result (IsReady registry.now board.now session.new) }
+    ensures goes_on { GoesOn session.old session.new }
+    ensures unshut { (known session.new.board).number ≡ 0 → is_shut (known session.new.board).seen ≡ false }
+{
+    let line = draw_request(alloc, generator, number)?;
+    hold_line(
+        rt, alloc, board, registry, gate, session, hasher, number, line,
+    )
+}
+
+// Hands the requests in.
+fn hold_requests<G: Gate, R: Threads + Wait + Sync>(
+    rt: &R,
+    alloc: Global,
+    board: &SharedBoard<Job>,
+    registry: &SharedRegistry,
+    gate: &G,
+    session: &mut Session,
+    hasher: &mut Sha256,
+    seed: u64,
+    count: u32,
+) -> Result<(), AllocError>
+    requires ready { IsReady registry.now board.now session.old }
+    ensures on { OnOk result (HoldsOn (lines_dialogue session.old.workers session.old.walk 0 (request_lines seed count) end) end session.old session.new hasher.old hasher.new) }
+    ensures ready { OnOk result (IsReady registry.now board.now session.new) }
+    ensures goes_on { GoesOn session.old session.new }
+    ensures unshut { (known session.new.board).number ≡ 0 → is_shut (known session.new.board).seen ≡ false }
+{
+    let mut generator = Generator::new(seed);
+    for number in 0..count {
+        hold_request(
+            rt,
+            alloc,
+            board,
+            registry,
+            gate,
+            session,
+            hasher,
+            &mut generator,
+            number,
+        )?;
+    }
+    Ok(())
+}
+
+// Drains both transforms and shuts the board.
+fn hold_end<G: Gate, R: Wait>(
+    rt: &R,
+    alloc: Global,
+    board: &SharedBoard<Job>,
+    registry: &SharedRegistry,
+    gate: &G,
+    session: &mut Session,
+    hasher: &mut Sha256,
+) -> Result<(), AllocError>
+    requires ready { IsReady registry.now board.now session.old }
+    requires first { (known session.old.board).number ≡ 0 }
+    ensures on { OnOk result ((whole : Dialogue) → IsHeld whole (end session.old.walk) session.old hasher.old → IsHeld whole (Ends session.old.walk) session.new hasher.new) }
+    ensures own { OnOk result (IsOwn caller_of (known session.new.registry)) }
+    ensures shut { OnOk result (EndsShut (known session.new.board)) }
+    ensures goes_on { GoesOn session.old session.new }
+    ensures unshut { IsUnshutOrEnds (known session.new.board) }
+{
+    laws();
+    let mut answers = Vec::new(alloc);
+    match session.answer_end(rt, board, gate, &mut answers) {
+        Ok(()) => {
+            hash_completions(hasher, &answers);
+            Ok(())
+        }
+        Err(Stop::Memory) => Err(AllocError),
+    }
+}
+
+/// Makes so many requests from the seed, and gives the hash of their values: first of those of even numbers, then of the others. Only
+/// want of memory stops it.
+pub fn hold_load<G: Gate, R: Threads + Wait + Sync>(
+    rt: &R,
+    alloc: Global,
+    board: &SharedBoard<Job>,
+    registry: &SharedRegistry,
+    gate: &G,
+    session: &mut Session,
+    seed: u64,
+    count: u32,
+) -> Result<[u8; 32], AllocError>
+    requires ready { IsReady registry.now board.now session.old }
+    requires fresh { IsFresh session.old }
+    ensures loaded { IfOk result (IsLoadTurnAfter session.old.workers seed count (known session.new.registry) (known session.new.board)) }
+    ensures own { OnOk result (IsOwn caller_of (known session.new.registry)) }
+    ensures shut { OnOk result (EndsShut (known session.new.board)) }
+    ensures goes_on { GoesOn session.old session.new }
+    ensures unshut { IsUnshutOrEnds (known session.new.board) }
+{
+    laws();
+    let mut hasher = Sha256::new();
+    hold_opening(rt, alloc, board, registry, gate, session, &mut hasher)?;
+    hold_requests(
+        rt,
+        alloc,
+        board,
+        registry,
+        gate,
+        session,
+        &mut hasher,
+        seed,
+        count,
+    )?;
+    hold_end(rt, alloc, board, registry, gate, session, &mut hasher)?;
+    Ok(hasher.finalize())
+}
