@@ -1,5 +1,11 @@
+//! The forms of AES, with the vectors of FIPS 197 and against each other.
+
+use crate::given::{array, bytes, words_of};
 use aes_block::{Aes, BlockCipher, seal_and_unseal, xor_block};
+use aes_lanes::LaneAes;
+use aes_table::TableAes;
 use kc_base::Errno;
+use std::alloc::Global;
 use std::process::Abort;
 
 // 00 01 02 .. 1f
@@ -8,90 +14,105 @@ const KEY: [u8; 32] = [
     26, 27, 28, 29, 30, 31,
 ];
 
-// A key, a block and the block sealed: FIPS 197, appendices B and C, and a block of zeros under a key of zeros.
-const VECTORS: [(&[u8], u128, u128); 5] = [
-    (
-        &[
-            0x2b, 0x7e, 0x15, 0x16, 0x28, 0xae, 0xd2, 0xa6, 0xab, 0xf7, 0x15, 0x88, 0x09, 0xcf,
-            0x4f, 0x3c,
-        ],
-        0x3243f6a8885a308d313198a2e0370734,
-        0x3925841d02dc09fbdc118597196a0b32,
-    ),
-    (
-        &[0, 1, 2, 3, 4, 5, 6, 7, 8, 9, 10, 11, 12, 13, 14, 15],
-        0x00112233445566778899aabbccddeeff,
-        0x69c4e0d86a7b0430d8cdb78070b4c55a,
-    ),
-    (
-        &[
-            0, 1, 2, 3, 4, 5, 6, 7, 8, 9, 10, 11, 12, 13, 14, 15, 16, 17, 18, 19, 20, 21, 22, 23,
-        ],
-        0x00112233445566778899aabbccddeeff,
-        0xdda97ca4864cdfe06eaf70a0ec0d7191,
-    ),
-    (
-        &KEY,
-        0x00112233445566778899aabbccddeeff,
-        0x8ea2b7ca516745bfeafc49904b496089,
-    ),
-    (&[0; 16], 0, 0x66e94bd4ef8a2c3b884cfa59ca342b2e),
-];
+/// In a row stand a key, a block and the block sealed: FIPS 197, appendices B and C, and a block of zeros under a key of zeros.
+const ROWS: &str = "\
+2b7e151628aed2a6abf7158809cf4f3c 3243f6a8885a308d313198a2e0370734 3925841d02dc09fbdc118597196a0b32
+000102030405060708090a0b0c0d0e0f 00112233445566778899aabbccddeeff 69c4e0d86a7b0430d8cdb78070b4c55a
+000102030405060708090a0b0c0d0e0f1011121314151617 00112233445566778899aabbccddeeff dda97ca4864cdfe06eaf70a0ec0d7191
+000102030405060708090a0b0c0d0e0f101112131415161718191a1b1c1d1e1f 00112233445566778899aabbccddeeff 8ea2b7ca516745bfeafc49904b496089
+00000000000000000000000000000000 00000000000000000000000000000000 66e94bd4ef8a2c3b884cfa59ca342b2e
+";
 
-fn aes(rt: &impl Abort, key: &[u8]) -> Aes {
-    match Aes::new(key) {
-        Ok(aes) => aes,
-        Err(_) => panic!(rt; "a key of {} bytes is refused", key.len()),
-    }
+/// A cipher seals a block to this, and unseals it again.
+fn goes_both_ways<C: BlockCipher>(
+    rt: &impl Abort,
+    cipher: &C,
+    block: &[u8; 16],
+    sealed: &[u8; 16],
+) {
+    let mut b = *block;
+    cipher.seal_block(&mut b);
+    assert!(rt; b == *sealed);
+    cipher.unseal_block(&mut b);
+    assert!(rt; b == *block);
+    seal_and_unseal(cipher, &mut b);
+    assert!(rt; b == *block);
+}
+
+/// A row holds by each form.
+fn row_holds(rt: &impl Abort, alloc: Global, row: &'static str) {
+    let words = words_of(rt, alloc, row);
+    let [key, block, sealed] = words.as_slice() else {
+        panic!(rt; "{row}")
+    };
+    let key = bytes(rt, alloc, key);
+    let block = array(rt, block);
+    let sealed = array(rt, sealed);
+    goes_both_ways(rt, &Aes::new(&key).expect(rt, "a key"), &block, &sealed);
+    goes_both_ways(
+        rt,
+        &TableAes::new(&key).expect(rt, "a key"),
+        &block,
+        &sealed,
+    );
+    goes_both_ways(rt, &LaneAes::new(&key).expect(rt, "a key"), &block, &sealed);
 }
 
 #[test]
 fn seals_and_unseals_the_standards_vectors(rt: HostRuntime) {
-    for (key, block, sealed) in VECTORS {
-        let aes = aes(&rt, key);
-        let mut b = block.to_be_bytes();
-        aes.seal_block(&mut b);
-        assert_eq!(rt; b, sealed.to_be_bytes());
-        aes.unseal_block(&mut b);
-        assert_eq!(rt; b, block.to_be_bytes());
-        seal_and_unseal(&aes, &mut b);
-        assert_eq!(rt; b, block.to_be_bytes());
+    for row in ROWS.lines() {
+        row_holds(&rt, rt.alloc(), row);
     }
 }
 
 #[test]
 fn takes_keys_of_three_lengths(rt: HostRuntime) {
     for length in 0..33usize {
-        let taken = matches!(length, 16 | 24 | 32);
-        match Aes::new(&KEY[..length]) {
-            Ok(_) => assert!(rt; taken, "{length} bytes"),
-            Err(errno) => assert!(rt; !taken && errno == Errno::EINVAL, "{length} bytes"),
-        }
+        let wanted = match length {
+            16 | 24 | 32 => None,
+            _ => Some(Errno::EINVAL),
+        };
+        let key = &KEY[..length];
+        assert!(rt; Aes::new(key).err() == wanted, "{length} bytes");
+        assert!(rt; TableAes::new(key).err() == wanted, "{length} bytes");
+        assert!(rt; LaneAes::new(key).err() == wanted, "{length} bytes");
     }
 }
 
+/// Eight blocks are sealed as each by the other form, and unsealed again.
+fn seals_eight_as_each<A: BlockCipher, B: BlockCipher>(rt: &impl Abort, eight: &A, each: &B) {
+    let mut start = [[0u8; 16]; 8];
+    for i in 0..8usize {
+        start[i][15] = KEY[i];
+    }
+    let mut blocks = start;
+    eight.seal_eight(&mut blocks);
+    for i in 0..8usize {
+        let mut single = start[i];
+        each.seal_block(&mut single);
+        assert!(rt; blocks[i] == single, "block {i}");
+    }
+    eight.unseal_eight(&mut blocks);
+    assert!(rt; blocks == start);
+}
+
 #[test]
-fn seals_eight_blocks_as_each(rt: HostRuntime) {
-    let aes = aes(&rt, &KEY[..16]);
-    let mut blocks = [[0u8; 16]; 8];
-    for (i, block) in blocks.iter_mut().enumerate() {
-        block[15] = KEY[i];
-    }
-    let plain = blocks;
-    aes.seal_eight(&mut blocks);
-    for (block, mut single) in blocks.into_iter().zip(plain) {
-        aes.seal_block(&mut single);
-        assert_eq!(rt; block, single);
-    }
+fn eight_blocks_at_once(rt: HostRuntime) {
+    let aes = Aes::new(&KEY[..16]).expect(&rt, "a key");
+    seals_eight_as_each(&rt, &aes, &aes);
+    let tables = TableAes::new(&KEY[..16]).expect(&rt, "a key");
+    seals_eight_as_each(&rt, &tables, &aes);
+    let lanes = LaneAes::new(&KEY[..16]).expect(&rt, "a key");
+    seals_eight_as_each(&rt, &lanes, &aes);
 }
 
 #[test]
 fn xors_a_block_into_the_front_of_a_text(rt: HostRuntime) {
     let mut text = [0x0fu8; 18];
     xor_block(&mut text, &[0xff; 16]);
-    assert_eq!(rt; &text[..16], [0xf0; 16].as_slice());
-    assert_eq!(rt; &text[16..], [0x0f; 2].as_slice());
+    assert!(rt; text[..16] == [0xf0; 16]);
+    assert!(rt; text[16..] == [0x0f; 2]);
     let mut short = [0x0fu8; 3];
     xor_block(&mut short, &[0xff; 16]);
-    assert_eq!(rt; short, [0xf0; 3]);
+    assert!(rt; short == [0xf0; 3]);
 }

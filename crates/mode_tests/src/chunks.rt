@@ -1,10 +1,12 @@
 //! Jobs by example, and CTR in many threads against CTR in one.
 
+use crate::given::{aes, array, bytes};
 use aes_block::{Aes, Skcipher};
 use ctr_mode::Ctr;
 use mt_jobs::{MtJob, chunk_of, ctr_chunked, range_of};
+use std::alloc::Global;
 use std::process::Abort;
-use std::test::Fail;
+use std::thread::Threads;
 
 /// A job over as many places from 1,000 on.
 fn job_of(rt: &impl Abort, size: u64, min_chunk: u64, max_threads: u32) -> MtJob {
@@ -18,9 +20,30 @@ fn job_of(rt: &impl Abort, size: u64, min_chunk: u64, max_threads: u32) -> MtJob
     }
 }
 
+/// A job is cut into so many chunks of a length, the last of another.
+fn is_cut(rt: &impl Abort, job: &MtJob, chunk: u64, count: u64, last: u64) {
+    assert!(rt; chunk_of(job) == chunk, "the chunk of {}", job.size);
+    assert!(rt;
+        count > 0 && range_of(job, count).is_none(),
+        "the chunks of {}",
+        job.size
+    );
+    let range = range_of(job, count - 1).expect(rt, "a last range");
+    assert!(rt;
+        range.end == job.start + job.size,
+        "the end of {}",
+        job.size
+    );
+    assert!(rt;
+        range.start <= range.end && range.end - range.start == last,
+        "the last range of {}",
+        job.size
+    );
+}
+
 /// Chunks as the kernel's formula gives them, worked by hand.
 #[test]
-fn chunks_by_hand(rt: HostRuntime) -> Result<(), Fail> {
+fn chunks_by_hand(rt: HostRuntime) {
     for (size, min_chunk, max_threads, chunk, count, last) in [
         (100_000u64, 4_096u64, 4u32, 6_256u64, 16u64, 6_160u64),
         (1_000_000, 4_096, 8, 31_264, 32, 30_816),
@@ -32,65 +55,70 @@ fn chunks_by_hand(rt: HostRuntime) -> Result<(), Fail> {
         (40, 0, 4, 16, 3, 8),
     ] {
         let job = job_of(&rt, size, min_chunk, max_threads);
-        assert_eq!(rt; chunk_of(&job), chunk, "the chunk of {size}");
-        assert!(rt;
-            count > 0 && range_of(&job, count).is_none(),
-            "the chunks of {size}"
-        );
-        let range = range_of(&job, count - 1).expect(&rt, "a last range");
-        assert_eq!(rt; range.end, 1_000 + size, "the end of {size}");
-        assert!(rt;
-            range.start <= range.end && range.end - range.start == last,
-            "the last range of {size}"
-        );
+        is_cut(&rt, &job, chunk, count, last);
     }
     assert!(rt; range_of(&job_of(&rt, 0, 4_096, 4), 0).is_none());
-    Ok(())
+}
+
+/// A text in chunks of a length is sealed to this.
+fn seals_in_chunks<R: Threads + Sync + Abort>(
+    rt: &R,
+    alloc: Global,
+    cipher: &Aes,
+    iv: &[u8; 16],
+    plain: &[u8],
+    sealed: &[u8],
+    chunk: usize,
+) {
+    let mut text = Vec::from_slice(alloc, plain).expect(rt, "memory");
+    assert!(rt; chunk > 0 && chunk % 16 == 0);
+    ctr_chunked(rt, cipher, iv, &mut text, chunk);
+    assert!(rt;
+        text.as_slice() == sealed,
+        "{} bytes in chunks of {chunk}",
+        text.len()
+    );
 }
 
 /// SP 800-38A, F.5.1, in chunks of one, two, three and four blocks.
 #[test]
-fn sp_800_38a_f5_1_in_chunks(rt: HostRuntime) -> Result<(), Fail> {
+fn sp_800_38a_f5_1_in_chunks(rt: HostRuntime) {
     let alloc = rt.alloc();
-    let key = hex::decode(alloc, "2b7e151628aed2a6abf7158809cf4f3c")?;
-    let cipher = Aes::new(&key)?;
-    let mut iv = [0u8; 16];
-    hex::decode_to_slice("f0f1f2f3f4f5f6f7f8f9fafbfcfdfeff", &mut iv)?;
-    let plain = hex::decode(
+    let cipher = aes(&rt, alloc, "2b7e151628aed2a6abf7158809cf4f3c");
+    let iv = array(&rt, "f0f1f2f3f4f5f6f7f8f9fafbfcfdfeff");
+    let plain = bytes(
+        &rt,
         alloc,
         "6bc1bee22e409f96e93d7e117393172aae2d8a571e03ac9c9eb76fac45af8e5130c81c46a35ce411e5fbc1191a0a52eff69f2445df4f9b17ad2b417be66c3710",
-    )?;
-    let sealed = hex::decode(
+    );
+    let sealed = bytes(
+        &rt,
         alloc,
         "874d6191b620e3261bef6864990db6ce9806f66b7970fdff8617187bb9fffdff5ae4df3edbd5d35e5b4f09020db03eab1e031dda2fbe03d1792170a0f3009cee",
-    )?;
+    );
     for blocks in [1usize, 2, 3, 4] {
-        assert!(rt; blocks > 0 && blocks <= 4);
-        let mut text = plain.clone()?;
-        ctr_chunked(&rt, &cipher, &iv, &mut text, 16 * blocks);
-        assert!(rt; text == sealed, "chunks of {blocks} blocks");
+        seals_in_chunks(&rt, alloc, &cipher, &iv, &plain, &sealed, 16 * blocks);
     }
-    Ok(())
 }
 
-/// Texts about a block and about a page, in chunks of several lengths, against one thread; under a counter that wraps.
-#[test]
-fn each_size_against_one_thread(rt: HostRuntime) -> Result<(), Fail> {
-    let alloc = rt.alloc();
-    let key = [7u8; 32];
-    let cipher = Aes::new(key.as_slice())?;
-    let mode = Ctr::new(Aes::new(key.as_slice())?);
+/// A text of a length in chunks of several lengths, against one thread; under a counter that wraps.
+fn is_as_in_one_thread<R: Threads + Sync + Abort>(rt: &R, alloc: Global, size: usize) {
+    let key = [7u8; 32].as_slice();
+    let cipher = Aes::new(key).expect(rt, "a key");
+    let mode = Ctr::new(Aes::new(key).expect(rt, "a key"));
     let iv = [0xffu8; 16];
-    for size in [0usize, 1, 15, 16, 17, 4_095, 4_096, 4_097] {
-        assert!(rt; size < 5_000);
-        let mut expected = vec![in alloc; 5u8; size]?;
-        mode.seal(&iv, &mut expected)?;
-        for chunk in [16usize, 48, 1_024, 4_096, 8_192] {
-            assert!(rt; chunk > 0 && chunk % 16 == 0);
-            let mut text = vec![in alloc; 5u8; size]?;
-            ctr_chunked(&rt, &cipher, &iv, &mut text, chunk);
-            assert!(rt; text == expected, "{size} bytes in chunks of {chunk}");
-        }
+    let plain = vec![in alloc; 5u8; size].expect(rt, "memory");
+    let mut sealed = plain.clone().expect(rt, "memory");
+    assert!(rt; mode.seal(&iv, &mut sealed).is_ok());
+    for chunk in [16usize, 48, 1_024, 4_096, 8_192] {
+        seals_in_chunks(rt, alloc, &cipher, &iv, &plain, &sealed, chunk);
     }
-    Ok(())
+}
+
+/// Texts about a block and about a page.
+#[test]
+fn each_size_against_one_thread(rt: HostRuntime) {
+    for size in [0usize, 1, 15, 16, 17, 4_095, 4_096, 4_097] {
+        is_as_in_one_thread(&rt, rt.alloc(), size);
+    }
 }

@@ -6,11 +6,7 @@
 #[cfg(test)]
 mod aes;
 #[cfg(test)]
-mod cbc;
-#[cfg(test)]
 mod chunks;
-#[cfg(test)]
-mod ctr;
 #[cfg(test)]
 mod forms;
 #[cfg(test)]
@@ -18,6 +14,6 @@ mod gcm;
 #[cfg(test)]
 mod ghash;
 #[cfg(test)]
-mod lanes;
+mod given;
 #[cfg(test)]
-mod xts;
+mod skciphers;
