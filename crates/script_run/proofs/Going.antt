@@ -1,5 +1,5 @@
 -- A script, line by line, and what it leaves.
-use Rattle.std.proofs.Common.{◌≡◌, ℕ, ◌+◌, ◌||◌, Bool, true, false, List, [], ◌∷◌, ◌++◌, Option, Some, None, refl, sym, ap, subst, ◌∙◌, append_assoc, append-nil, arith, inl, inr, IfSome, ◌≤◌}
+use Rattle.std.proofs.Common.{◌≡◌, ℕ, ◌+◌, List, [], ◌∷◌, ◌++◌, Option, Some, None, refl, sym, ap, subst, ◌∙◌, append_assoc, append-nil, arith, inl, inr, IfSome, ◌≤◌}
 use Rattle.std.specs.Prelude.{is_some}
 use Rattle.std.specs.Io.KnownBytes.{Appends, Keeps}
 use Rattle.std.proofs.KnownBytes.{Appends-trans}
@@ -18,7 +18,7 @@ use Rattle.dialogues.specs.Texts.{IsText, IsFrontText, turn_in}
 use Rattle.dialogues.specs.Turns.{Turn, IsTurn, ended, joined, text_in, turn_of}
 use Rattle.dialogues.specs.Walk.{start}
 use Rattle.dialogues.specs.Widths.{width_of, widest}
-use Rattle.kc_base.specs.Streams.{AppendsFront, IsPrefix}
+use Rattle.kc_base.specs.Streams.{IsPrefix}
 use Rattle.reply_text.specs.Answers.{text_of}
 use Rattle.script_session.specs.Ending.{AnswersEnd}
 use Rattle.script_session.specs.Running.{IsReady, Replies}

@@ -5,10 +5,8 @@ use Rattle.std.specs.Io.KnownBytes.{Appends, Keeps}
 use Rattle.std.proofs.KnownBytes.{Appends-trans}
 use Rattle.alg_registry.specs.declared.entry.RegEntry.{RegEntry}
 use Rattle.board.specs.declared.entry.BoardEntry.{BoardEntry}
-use Rattle.dialogues.specs.Texts.{IsText, IsFrontText}
-use Rattle.dialogues.specs.Walk.{start}
+use Rattle.dialogues.specs.Texts.{IsText}
 use Rattle.kc_base.specs.Streams.{AppendsFront}
-use Rattle.script_text.specs.Script.{script_of}
 use Rattle.script_text.specs.Whole.{whole_script}
 use Rattle.script_text.specs.declared.commands.Line.{Line}
 use Rattle.transforms.specs.declared.ask.Ask.{Ask}
@@ -16,7 +14,7 @@ use Rattle.script_run.specs.Answered.{BeginsWithText, RanSource}
 use Rattle.script_run.specs.Runs.{Gains, GainsThen, GainsFront}
 use Rattle.script_run.specs.declared.errors.RunError.{RunError}
 use Rattle.script_run.specs.declared.errors.RunError.TheVariants.{ReadFault, WriteFault, NoMemory, TooLong}
-use Rattle.script_run.proofs.Going.{keeps-text, nothing_fronted}
+use Rattle.script_run.proofs.Going.{keeps-text}
 
 -- what is written after a text is no matter to the lines that it begins with
 begins-more : (workers : ℕ) (lines : List Line) (r : List RegEntry) (b : List (BoardEntry Ask)) (text more : List ℕ) → BeginsWithText workers lines r b text → BeginsWithText workers lines r b (text ++ more)
