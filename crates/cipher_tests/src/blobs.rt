@@ -1,33 +1,34 @@
 //! Keys of authenc, as they are read.
 
+use crate::segments::bytes;
 use authenc::read_blob;
 use kc_base::Errno;
 use std::alloc::Global;
-use std::test::Fail;
+use std::process::Abort;
 
 /// The keys of a blob in hexadecimal are these.
-fn reads_as(alloc: Global, blob: &str, mac: &str, cipher: &str) -> Result<bool, Fail> {
-    let key = hex::decode(alloc, blob)?;
-    let keys = read_blob(&key)?;
-    let mac = hex::decode(alloc, mac)?;
-    let cipher = hex::decode(alloc, cipher)?;
-    Ok(keys.mac == mac.as_slice() && keys.cipher == cipher.as_slice())
+fn reads_as(rt: &impl Abort, alloc: Global, blob: &str, mac: &str, cipher: &str) -> bool {
+    let key = bytes(rt, alloc, blob);
+    let Ok(keys) = read_blob(&key) else {
+        return false;
+    };
+    keys.mac == bytes(rt, alloc, mac).as_slice()
+        && keys.cipher == bytes(rt, alloc, cipher).as_slice()
 }
 
 #[test]
-fn blobs_are_read(rt: HostRuntime) -> Result<(), Fail> {
+fn blobs_are_read(rt: HostRuntime) {
     for (blob, mac, cipher) in [
         ("0800010000000000", "", ""),
         ("080001000000000201020304", "0102", "0304"),
         ("080001000000000401020304", "", "01020304"),
     ] {
-        assert!(rt; reads_as(rt.alloc(), blob, mac, cipher)?, "{blob}");
+        assert!(rt; reads_as(&rt, rt.alloc(), blob, mac, cipher), "{blob}");
     }
-    Ok(())
 }
 
 #[test]
-fn other_blobs_are_refused(rt: HostRuntime) -> Result<(), Fail> {
+fn other_blobs_are_refused(rt: HostRuntime) {
     for blob in [
         "",
         "08000100000000",
@@ -38,8 +39,7 @@ fn other_blobs_are_refused(rt: HostRuntime) -> Result<(), Fail> {
         "080001000000000501020304",
         "080001000400000001020304",
     ] {
-        let key = hex::decode(rt.alloc(), blob)?;
+        let key = bytes(&rt, rt.alloc(), blob);
         assert!(rt; read_blob(&key).err() == Some(Errno::EINVAL), "{blob}");
     }
-    Ok(())
 }

@@ -1,10 +1,8 @@
-//! Tests of the ciphers, modes and transforms, over what these make public.
+//! Tests of texts in segments, of authenc's keys and of the transforms, over what these make public.
 //!
 //! They stand apart, since a crate that has tests is proved a second time for them.
 #![tactic(auto)]
 
-#[cfg(test)]
-mod aes_tables;
 #[cfg(test)]
 mod blobs;
 #[cfg(test)]

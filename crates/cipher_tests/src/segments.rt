@@ -1,6 +1,6 @@
 //! Texts in segments: every cut gives what the whole gives, and the whole gives the vectors of SP 800-38A.
 
-ghost use Rattle.std.specs.Prelude.{◌≡◌, ◌≤◌, ◌<◌, length};
+ghost use Rattle.std.specs.Prelude.{◌≡◌};
 
 use aes_block::Aes;
 use authenc::Authenc;
@@ -12,9 +12,8 @@ use hmac_sha::Mac;
 use kc_base::Bytes;
 use seg_modes::SegCipher;
 use sg_walk::Segs;
-use std::alloc::{AllocError, Global};
+use std::alloc::Global;
 use std::process::Abort;
-use std::test::Fail;
 
 /// The key of SP 800-38A, appendix F, of 128 bits.
 const KEY: &str = "2b7e151628aed2a6abf7158809cf4f3c";
@@ -25,200 +24,227 @@ const PLAIN: &str =
 
 const ASSOCIATED: &[u8] = b"associated bytes";
 
-/// The text in one segment.
-pub fn in_one(alloc: Global, text: &[u8]) -> Result<Segs, AllocError>
-    requires { length text.now < 1000 }
+/// Bytes that are written in hexadecimal, `-` for none.
+pub(crate) fn bytes(rt: &impl Abort, alloc: Global, text: &str) -> Vec<u8> {
+    if text == "-" {
+        return Vec::new(alloc);
+    }
+    hex::decode(alloc, text).expect(rt, "hex")
+}
+
+fn aes(rt: &impl Abort, alloc: Global) -> Aes {
+    Aes::new(&bytes(rt, alloc, KEY)).expect(rt, "a key of AES")
+}
+
+/// A segment.
+fn segment(rt: &impl Abort, alloc: Global, text: &[u8]) -> Bytes
+    ensures { result ≡ text.now }
 {
+    Bytes::copy_of(alloc, text).expect(rt, "memory")
+}
+
+/// The text in one segment.
+pub(crate) fn in_one(rt: &impl Abort, alloc: Global, text: &[u8]) -> Segs {
+    assert!(rt; text.len() < 1000);
     let mut parts = Vec::new(alloc);
-    parts.push(Bytes::copy_of(alloc, text)?)?;
-    Ok(Segs::from_parts(parts))
+    parts.push(segment(rt, alloc, text)).expect(rt, "memory");
+    Segs::from_parts(parts)
 }
 
 /// The text in three segments, which may be empty.
-pub fn in_three(alloc: Global, text: &[u8], a: usize, b: usize) -> Result<Segs, AllocError>
-    requires short { length text.now < 1000 }
-    requires first { a ≤ b }
-    requires second { b ≤ length text.now }
-{
+pub(crate) fn in_three(rt: &impl Abort, alloc: Global, text: &[u8], a: usize, b: usize) -> Segs {
+    assert!(rt; a <= b && b <= text.len() && text.len() < 1000);
     let mut parts = Vec::new(alloc);
-    parts.push(Bytes::copy_of(alloc, &text[..a])?)?;
-    parts.push(Bytes::copy_of(alloc, &text[a..b])?)?;
-    parts.push(Bytes::copy_of(alloc, &text[b..])?)?;
-    Ok(Segs::from_parts(parts))
+    parts
+        .push(segment(rt, alloc, &text[..a]))
+        .expect(rt, "memory");
+    parts
+        .push(segment(rt, alloc, &text[a..b]))
+        .expect(rt, "memory");
+    parts
+        .push(segment(rt, alloc, &text[b..]))
+        .expect(rt, "memory");
+    Segs::from_parts(parts)
 }
 
-/// Seals and unseals the text, cut into three at every two places.
-fn seals_every_cut<M: SegCipher>(
-    rt: &impl Abort,
-    alloc: Global,
-    mode: &M,
-    iv: &[u8],
-    plain: &[u8],
-    first_four: &[u8],
-) -> Result<(), Fail>
-    requires iv { length iv.now ≡ M.iv_size mode.now }
-    requires text { length plain.now ≡ 80 }
-{
-    let mut sealed = Vec::from_slice(alloc, plain)?;
-    mode.seal(iv, &mut sealed)?;
-    assert!(rt; sealed.as_slice().starts_with(first_four));
-    for a in 0..81usize {
-        for b in a..81usize {
-            let mut segs = in_three(alloc, plain, a, b)?;
-            mode.seal_segs(iv, &mut segs)?;
-            let made = segs.copy(alloc)?.join(alloc)?;
-            assert!(rt;
-                made.as_slice() == sealed.as_slice(),
-                "sealing, cut at {a} and {b}"
-            );
-            mode.unseal_segs(iv, &mut segs)?;
-            let opened = segs.join(alloc)?;
-            assert!(rt; opened.as_slice() == plain, "unsealing, cut at {a} and {b}");
-        }
-    }
-    Ok(())
+/// The text of segments.
+fn joined(rt: &impl Abort, alloc: Global, segs: &Segs) -> Bytes {
+    let copy = segs.copy(alloc).expect(rt, "memory");
+    copy.join(alloc).expect(rt, "memory")
 }
 
-#[test]
-fn cbc_seals_every_cut_as_the_whole(rt: HostRuntime) -> Result<(), Fail> {
-    let alloc = rt.alloc();
-    let iv = hex::decode(alloc, "000102030405060708090a0b0c0d0e0f")?;
-    let plain = hex::decode(alloc, PLAIN)?;
-    let sealed = hex::decode(
-        alloc,
-        "7649abac8119b246cee98e9b12e9197d5086cb9b507219ee95db113a917678b273bed6b8e3c1743b7116e69e222295163ff1caa1681fac09120eca307586e1a7",
-    )?;
-    assert_eq!(rt; iv.len(), 16);
-    assert_eq!(rt; plain.len(), 80);
-    let mode = Cbc::new(Aes::new(&hex::decode(alloc, KEY)?)?);
-    seals_every_cut(&rt, alloc, &mode, &iv, &plain, &sealed)
+/// A mode under an IV of its own, behind methods of which no clause speaks. A tag has its front in the array, and zeros
+/// behind it.
+trait Sealing {
+    fn seals<R: Abort>(&self, rt: &R, text: &mut [u8]) -> [u8; 32];
+
+    fn seals_segs<R: Abort>(&self, rt: &R, segs: &mut Segs) -> [u8; 32];
+
+    fn opens_segs<R: Abort>(&self, rt: &R, segs: &mut Segs, tag: &[u8; 32]);
 }
 
-#[test]
-fn ctr_seals_every_cut_as_the_whole(rt: HostRuntime) -> Result<(), Fail> {
-    let alloc = rt.alloc();
-    let iv = hex::decode(alloc, "f0f1f2f3f4f5f6f7f8f9fafbfcfdfeff")?;
-    let plain = hex::decode(alloc, PLAIN)?;
-    let sealed = hex::decode(
-        alloc,
-        "874d6191b620e3261bef6864990db6ce9806f66b7970fdff8617187bb9fffdff5ae4df3edbd5d35e5b4f09020db03eab1e031dda2fbe03d1792170a0f3009cee",
-    )?;
-    assert_eq!(rt; iv.len(), 16);
-    assert_eq!(rt; plain.len(), 80);
-    let mode = Ctr::new(Aes::new(&hex::decode(alloc, KEY)?)?);
-    seals_every_cut(&rt, alloc, &mode, &iv, &plain, &sealed)
-}
-
-/// A text sealed by a mode with a tag, and the tag.
+/// A mode with no tag, and an IV.
 #[derive(Drop)]
-struct Sealed {
-    text: Vec<u8>,
-    tag: Vec<u8>,
+struct Untagged<M> {
+    mode: M,
+    iv: [u8; 16],
 }
 
-/// What GCM makes of a text in segments, which it opens again.
-fn gcm_over(
+impl<M: SegCipher> Sealing for Untagged<M> {
+    fn seals<R: Abort>(&self, rt: &R, text: &mut [u8]) -> [u8; 32] {
+        assert!(rt; self.mode.iv_len() == 16);
+        assert!(rt; self.mode.seal(&self.iv, text).is_ok());
+        [0; 32]
+    }
+
+    fn seals_segs<R: Abort>(&self, rt: &R, segs: &mut Segs) -> [u8; 32] {
+        assert!(rt; self.mode.iv_len() == 16);
+        assert!(rt; self.mode.seal_segs(&self.iv, segs).is_ok());
+        [0; 32]
+    }
+
+    fn opens_segs<R: Abort>(&self, rt: &R, segs: &mut Segs, _tag: &[u8; 32]) {
+        assert!(rt; self.mode.iv_len() == 16);
+        assert!(rt; self.mode.unseal_segs(&self.iv, segs).is_ok());
+    }
+}
+
+/// A tag of 16 bytes, and zeros behind it.
+fn padded(tag: &[u8; 16]) -> [u8; 32] {
+    let mut padded = [0u8; 32];
+    padded[..16].copy_from_slice(tag);
+    padded
+}
+
+impl Sealing for Gcm<Aes, BitGhash> {
+    fn seals<R: Abort>(&self, rt: &R, text: &mut [u8]) -> [u8; 32] {
+        let mut tag = [0u8; 16];
+        assert!(rt; text.len() < 1000);
+        self.seal(&[7; 12], ASSOCIATED, text, &mut tag);
+        padded(&tag)
+    }
+
+    fn seals_segs<R: Abort>(&self, rt: &R, segs: &mut Segs) -> [u8; 32] {
+        let mut tag = [0u8; 16];
+        assert!(rt; segs.len() < 1000);
+        self.seal_segs(&[7; 12], ASSOCIATED, segs, &mut tag);
+        padded(&tag)
+    }
+
+    fn opens_segs<R: Abort>(&self, rt: &R, segs: &mut Segs, tag: &[u8; 32]) {
+        assert!(rt; segs.len() < 1000);
+        assert!(rt;
+            self.unseal_segs(&[7; 12], ASSOCIATED, segs, &tag[..16])
+                .is_ok()
+        );
+    }
+}
+
+impl Sealing for Authenc<Cbc<Aes>> {
+    fn seals<R: Abort>(&self, rt: &R, text: &mut [u8]) -> [u8; 32] {
+        let mut tag = [0u8; 32];
+        assert!(rt; self.seal(&[7; 16], ASSOCIATED, text, &mut tag).is_ok());
+        tag
+    }
+
+    fn seals_segs<R: Abort>(&self, rt: &R, segs: &mut Segs) -> [u8; 32] {
+        let mut tag = [0u8; 32];
+        assert!(rt; self.seal_segs(&[7; 16], ASSOCIATED, segs, &mut tag).is_ok());
+        tag
+    }
+
+    fn opens_segs<R: Abort>(&self, rt: &R, segs: &mut Segs, tag: &[u8; 32]) {
+        assert!(rt; self.unseal_segs(&[7; 16], ASSOCIATED, segs, tag).is_ok());
+    }
+}
+
+/// The text cut into three is sealed to this with this tag, and opens again.
+fn cut_gives<S: Sealing>(
     rt: &impl Abort,
-    mode: &Gcm<Aes, BitGhash>,
-    segs: &mut Segs,
     alloc: Global,
-) -> Result<Sealed, Fail> {
-    let mut tag = [0u8; 16];
-    assert!(rt; segs.len() < 1000);
-    mode.seal_segs(&[7; 12], ASSOCIATED, segs, &mut tag);
-    assert!(rt; segs.len() < 1000);
-    let text = segs.copy(alloc)?.join(alloc)?.into_vec();
-    mode.unseal_segs(&[7; 12], ASSOCIATED, segs, &tag)?;
-    let tag = tag.to_vec(alloc)?;
-    Ok(Sealed { text, tag })
-}
-
-/// The same of authenc over CBC.
-fn authenc_over(mode: &Authenc<Cbc<Aes>>, segs: &mut Segs, alloc: Global) -> Result<Sealed, Fail> {
-    let mut tag = [0u8; 32];
-    mode.seal_segs(&[7; 16], ASSOCIATED, segs, &mut tag)?;
-    let text = segs.copy(alloc)?.join(alloc)?.into_vec();
-    mode.unseal_segs(&[7; 16], ASSOCIATED, segs, &tag)?;
-    let tag = tag.to_vec(alloc)?;
-    Ok(Sealed { text, tag })
-}
-
-#[test]
-fn gcm_seals_every_cut_as_the_whole(rt: HostRuntime) -> Result<(), Fail> {
-    let alloc = rt.alloc();
-    let plain = hex::decode(alloc, PLAIN)?;
-    assert_eq!(rt; plain.len(), 80);
-    let mode = Gcm::new(Aes::new(&hex::decode(alloc, KEY)?)?);
-    let mut whole = Vec::from_slice(alloc, &plain)?;
-    let mut tag = [0u8; 16];
-    mode.seal(&[7; 12], ASSOCIATED, &mut whole, &mut tag);
-    for a in 0..81usize {
-        for b in a..81usize {
-            let mut segs = in_three(alloc, &plain, a, b)?;
-            let made = gcm_over(&rt, &mode, &mut segs, alloc)?;
-            assert!(rt;
-                made.text.as_slice() == whole.as_slice() && made.tag.as_slice() == tag.as_slice(),
-                "cut at {a} and {b}"
-            );
-            assert!(rt;
-                segs.join(alloc)?.as_slice() == plain.as_slice(),
-                "opened, cut at {a} and {b}"
-            );
-        }
-    }
-    Ok(())
-}
-
-#[test]
-fn authenc_seals_every_cut_as_the_whole(rt: HostRuntime) -> Result<(), Fail> {
-    let alloc = rt.alloc();
-    let plain = hex::decode(alloc, PLAIN)?;
-    assert_eq!(rt; plain.len(), 80);
-    let mode = Authenc::new(
-        Mac::new(b"key"),
-        Cbc::new(Aes::new(&hex::decode(alloc, KEY)?)?),
+    mode: &S,
+    plain: &[u8],
+    (a, b): (usize, usize),
+    (sealed, tag): (&[u8], &[u8; 32]),
+) {
+    let mut segs = in_three(rt, alloc, plain, a, b);
+    let made = mode.seals_segs(rt, &mut segs);
+    assert!(rt; made == *tag, "the tag, cut at {a} and {b}");
+    assert!(rt;
+        joined(rt, alloc, &segs).as_slice() == sealed,
+        "sealing, cut at {a} and {b}"
     );
-    let mut whole = Vec::from_slice(alloc, &plain)?;
-    let mut tag = [0u8; 32];
-    mode.seal(&[7; 16], ASSOCIATED, &mut whole, &mut tag)?;
+    mode.opens_segs(rt, &mut segs, tag);
+    assert!(rt;
+        joined(rt, alloc, &segs).as_slice() == plain,
+        "opening, cut at {a} and {b}"
+    );
+}
+
+/// Seals and opens the text, cut into three at every two places, as the whole, which begins with these bytes.
+fn every_cut_gives_the_whole<S: Sealing>(rt: &impl Abort, alloc: Global, mode: &S, first: &str) {
+    let plain = bytes(rt, alloc, PLAIN);
+    let mut sealed = bytes(rt, alloc, PLAIN);
+    let tag = mode.seals(rt, &mut sealed);
+    assert!(rt; plain.len() == 80 && sealed.starts_with(&bytes(rt, alloc, first)));
     for a in 0..81usize {
         for b in a..81usize {
-            let mut segs = in_three(alloc, &plain, a, b)?;
-            let made = authenc_over(&mode, &mut segs, alloc)?;
-            assert!(rt;
-                made.text.as_slice() == whole.as_slice() && made.tag.as_slice() == tag.as_slice(),
-                "cut at {a} and {b}"
-            );
-            assert!(rt;
-                segs.join(alloc)?.as_slice() == plain.as_slice(),
-                "opened, cut at {a} and {b}"
-            );
+            cut_gives(rt, alloc, mode, &plain, (a, b), (&sealed, &tag));
         }
     }
-    Ok(())
 }
 
 #[test]
-fn segments_are_read_written_and_cut(rt: HostRuntime) -> Result<(), Fail> {
-    let alloc = rt.alloc();
-    let mut segs = in_three(alloc, b"abcdefgh", 3, 3)?;
-    assert_eq!(rt; segs.len(), 8);
+fn cbc_seals_every_cut_as_the_whole(rt: HostRuntime) {
+    let mode = Untagged {
+        mode: Cbc::new(aes(&rt, rt.alloc())),
+        iv: [0, 1, 2, 3, 4, 5, 6, 7, 8, 9, 10, 11, 12, 13, 14, 15],
+    };
+    let first =
+        "7649abac8119b246cee98e9b12e9197d5086cb9b507219ee95db113a917678b273bed6b8e3c1743b7116e69e222295163ff1caa1681fac09120eca307586e1a7";
+    every_cut_gives_the_whole(&rt, rt.alloc(), &mode, first);
+}
+
+#[test]
+fn ctr_seals_every_cut_as_the_whole(rt: HostRuntime) {
+    let mode = Untagged {
+        mode: Ctr::new(aes(&rt, rt.alloc())),
+        iv: 0xf0f1f2f3f4f5f6f7f8f9fafbfcfdfeffu128.to_be_bytes(),
+    };
+    let first =
+        "874d6191b620e3261bef6864990db6ce9806f66b7970fdff8617187bb9fffdff5ae4df3edbd5d35e5b4f09020db03eab1e031dda2fbe03d1792170a0f3009cee";
+    every_cut_gives_the_whole(&rt, rt.alloc(), &mode, first);
+}
+
+#[test]
+fn gcm_seals_every_cut_as_the_whole(rt: HostRuntime) {
+    let mode = Gcm::<Aes, BitGhash>::new(aes(&rt, rt.alloc()));
+    every_cut_gives_the_whole(&rt, rt.alloc(), &mode, "-");
+}
+
+#[test]
+fn authenc_seals_every_cut_as_the_whole(rt: HostRuntime) {
+    let mode = Authenc::new(Mac::new(b"key"), Cbc::new(aes(&rt, rt.alloc())));
+    every_cut_gives_the_whole(&rt, rt.alloc(), &mode, "-");
+}
+
+#[test]
+fn segments_are_read_written_and_cut(rt: HostRuntime) {
+    let mut segs = in_three(&rt, rt.alloc(), b"abcdefgh", 3, 3);
+    assert!(rt; segs.len() == 8);
     let mut piece = [0u8; 4];
     segs.copy_out(2, &mut piece);
-    assert_eq!(rt; piece, *b"cdef");
+    assert!(rt; piece == *b"cdef");
     segs.copy_in(2, b"XYZ");
     segs.cut(6);
-    assert_eq!(rt; segs.parts().len(), 3);
-    assert!(rt; segs.join(alloc)?.as_slice() == b"abXYZf".as_slice());
-    Ok(())
+    assert!(rt; segs.parts().len() == 3);
+    assert!(rt; joined(&rt, rt.alloc(), &segs).as_slice() == b"abXYZf".as_slice());
 }
 
 #[test]
-fn segments_join_to_the_text(rt: HostRuntime) -> Result<(), Fail> {
-    let alloc = rt.alloc();
+fn segments_join_to_the_text(rt: HostRuntime) {
     let text = b"of sixteen bytes";
-    let segs = in_three(alloc, text, 5, 13)?;
-    assert_eq!(rt; segs.parts().len(), 3);
-    assert!(rt; segs.join(alloc)?.as_slice() == text.as_slice());
-    Ok(())
+    let segs = in_three(&rt, rt.alloc(), text, 5, 13);
+    assert!(rt; segs.parts().len() == 3);
+    assert!(rt; joined(&rt, rt.alloc(), &segs).as_slice() == text.as_slice());
 }

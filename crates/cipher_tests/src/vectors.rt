@@ -3,14 +3,13 @@
 ghost use Rattle.std.specs.Prelude.{◌≡◌, true, IfOk};
 ghost use Rattle.transforms.specs.Plans.{fits_tag};
 
-use crate::segments::{in_one, in_three};
+use crate::segments::{bytes, in_one, in_three};
 use alg_names::parse_name;
 use kc_base::{Bytes, Errno};
 use sg_walk::Segs;
 use std::alloc::Global;
 use std::process::Abort;
 use std::sync::Arc;
-use std::test::Fail;
 use templates::{Plan, plan_of};
 use transforms::{Ask, Dir, Finished, Keyed, Request, TfmErr, largest_tag_size, prepare, tag_size};
 
@@ -272,126 +271,138 @@ fn size_for(plan: &Plan, wanted: u32) -> Result<u32, Errno>
     Ok(wanted)
 }
 
-/// Bytes that are written in hexadecimal.
-fn bytes(alloc: Global, text: &str) -> Result<Bytes, Fail> {
-    if text == "-" {
-        return Ok(Bytes::new(alloc));
-    }
-    Ok(Bytes::from_vec(hex::decode(alloc, text)?))
-}
-
 /// The text of a request, in one segment or in three.
-fn text_of(rt: &impl Abort, alloc: Global, text: &str, is_cut: bool) -> Result<Segs, Fail> {
-    let text = bytes(alloc, text)?;
+fn text_of(rt: &impl Abort, alloc: Global, text: &[u8], is_cut: bool) -> Segs {
     let n = text.len();
-    assert!(rt; n < 1000);
     if is_cut {
-        Ok(in_three(alloc, text.as_slice(), n / 3, n / 3 * 2)?)
+        in_three(rt, alloc, text, n / 3, n / 3 * 2)
     } else {
-        Ok(in_one(alloc, text.as_slice())?)
+        in_one(rt, alloc, text)
     }
 }
 
 /// A request by its words, and its text.
-fn request_of(alloc: Global, dir: &str, iv: &str, aad: &str, text: Segs) -> Result<Request, Fail> {
+fn request_of(
+    rt: &impl Abort,
+    alloc: Global,
+    dir: &str,
+    (iv, aad): (&str, &str),
+    text: Segs,
+) -> Request {
     let dir = match dir {
         "enc" => Dir::Enc,
         "dec" => Dir::Dec,
         _ => Dir::Mac,
     };
-    Ok(Request {
+    Request {
         dir,
-        iv: bytes(alloc, iv)?,
-        aad: bytes(alloc, aad)?,
+        iv: Bytes::from_vec(bytes(rt, alloc, iv)),
+        aad: Bytes::from_vec(bytes(rt, alloc, aad)),
         text,
-    })
+    }
 }
 
-/// What a job gave, in the words of a row.
-fn word_of(alloc: Global, given: &Finished) -> Result<String, Fail> {
-    match given {
-        Finished::Bytes(made) if made.is_empty() => Ok(String::from_str(alloc, "-")?),
-        Finished::Bytes(made) => Ok(hex::encode(alloc, made.as_slice())?),
-        Finished::BadMsg => Ok(String::from_str(alloc, "bad-message")?),
-        Finished::Invalid => Ok(String::from_str(alloc, "invalid")?),
+/// What comes of a request: bytes, or a word that says why there are none.
+#[derive(Drop)]
+enum Outcome {
+    Made(Bytes),
+    Refused(&'static str),
+}
+
+/// Whether the outcome is what a row says.
+fn is_as_said(rt: &impl Abort, alloc: Global, outcome: &Outcome, want: &str) -> bool {
+    match outcome {
+        Outcome::Made(made) if made.is_empty() => want == "-",
+        Outcome::Made(made) => {
+            let made = hex::encode(alloc, made.as_slice()).expect(rt, "memory");
+            made.as_str() == want
+        }
+        Outcome::Refused(word) => *word == want,
     }
 }
 
 /// The plan of a driver.
-fn plan_named(alloc: Global, driver: &str) -> Result<Plan, Fail> {
-    let name = parse_name(alloc, driver.as_bytes())?;
-    Ok(plan_of(&name)?)
+fn plan_named(rt: &impl Abort, alloc: Global, driver: &str) -> Plan {
+    let name = parse_name(alloc, driver.as_bytes()).expect(rt, "a name");
+    plan_of(&name).expect(rt, "a driver")
 }
 
-/// What the plan makes of a request under a key that it takes, in the words of a row.
+/// What the plan makes of a request under a key that it takes.
 fn given_by(
     rt: &impl Abort,
     alloc: Global,
     keyed: Keyed,
     authsize: u32,
     request: Request,
-) -> Result<String, Fail>
+) -> Outcome
     requires { fits_tag keyed.0 authsize ≡ true }
 {
     assert!(rt; request.aad.len() < 1000 && request.text.len() < 1000);
     let ask = Ask {
-        keyed: Arc::new(alloc, keyed)?,
+        keyed: Arc::new(alloc, keyed).expect(rt, "memory"),
         authsize,
         request,
         client: 0,
         line: 0,
     };
-    match prepare(alloc, Arc::new(alloc, ask)?) {
-        Ok(job) => word_of(alloc, &job.run()),
-        Err(TfmErr::Inval) => Ok(String::from_str(alloc, "not-taken")?),
-        Err(TfmErr::Memory) => Ok(String::from_str(alloc, "no-memory")?),
+    let ask = Arc::new(alloc, ask).expect(rt, "memory");
+    match prepare(alloc, ask) {
+        Ok(job) => outcome_by(job.run()),
+        Err(TfmErr::Inval) => Outcome::Refused("not-taken"),
+        Err(TfmErr::Memory) => Outcome::Refused("no-memory"),
     }
 }
 
-/// What comes of a request by the plan of a driver, in the words of a row.
+fn outcome_by(finished: Finished) -> Outcome {
+    match finished {
+        Finished::Bytes(made) => Outcome::Made(made),
+        Finished::BadMsg => Outcome::Refused("bad-message"),
+        Finished::Invalid => Outcome::Refused("invalid"),
+    }
+}
+
+/// What comes of a request by the plan of a driver.
 fn outcome_of(
     rt: &impl Abort,
     alloc: Global,
     driver: &str,
-    key: &str,
-    size: u32,
+    (key, size): (&str, u32),
     request: Request,
-) -> Result<String, Fail> {
-    let plan = plan_named(alloc, driver)?;
-    let key = bytes(alloc, key)?;
-    let Ok(keyed) = Keyed::set(alloc, &plan, key.as_slice()) else {
-        return Ok(String::from_str(alloc, "no-key")?);
+) -> Outcome {
+    let plan = plan_named(rt, alloc, driver);
+    let Ok(keyed) = Keyed::set(alloc, &plan, &bytes(rt, alloc, key)) else {
+        return Outcome::Refused("no-key");
     };
     let Ok(authsize) = size_for(&plan, size) else {
-        return Ok(String::from_str(alloc, "no-tag-size")?);
+        return Outcome::Refused("no-tag-size");
     };
     given_by(rt, alloc, keyed, authsize, request)
 }
 
-// A driver's name, with other drivers of AES and GHASH in it.
-fn in_form(alloc: Global, driver: &str, aes: &str, ghash: &str) -> Result<String, Fail> {
-    let mut name = String::new(alloc);
-    for (place, part) in driver.split("aes-generic").enumerate() {
+/// A text with another word in place of each of one.
+fn replaced(rt: &impl Abort, alloc: Global, text: &str, word: &str, other: &str) -> String {
+    let mut made = String::new(alloc);
+    for (place, part) in text.split(word).enumerate() {
         if place > 0 {
-            name.push_str(aes)?;
+            made.push_str(other).expect(rt, "memory");
         }
-        for (place, part) in part.split("ghash-generic").enumerate() {
-            if place > 0 {
-                name.push_str(ghash)?;
-            }
-            name.push_str(part)?;
-        }
+        made.push_str(part).expect(rt, "memory");
     }
-    Ok(name)
+    made
 }
 
 /// The words of a row.
-fn words_of(alloc: Global, row: &'static str) -> Result<Vec<&'static str>, Fail> {
+fn words_of(rt: &impl Abort, alloc: Global, row: &'static str) -> Vec<&'static str> {
     let mut words = Vec::new(alloc);
     for word in row.split(' ') {
-        words.push(word)?;
+        words.push(word).expect(rt, "memory");
     }
-    Ok(words)
+    words
+}
+
+/// A number, or one that no tag size is.
+fn size_in(word: &str) -> u32 {
+    word.parse::<u32>().unwrap_or(1000)
 }
 
 /// Whether a row holds by these drivers of AES and GHASH, with its text in one segment or cut.
@@ -399,24 +410,23 @@ fn holds(
     rt: &impl Abort,
     alloc: Global,
     row: &'static str,
-    aes: &str,
-    ghash: &str,
+    (aes, ghash): (&str, &str),
     is_cut: bool,
-) -> Result<bool, Fail> {
-    let words = words_of(alloc, row)?;
+) -> bool {
+    let words = words_of(rt, alloc, row);
     let [driver, key, size, dir, iv, aad, text, want] = words.as_slice() else {
-        return Ok(false);
+        return false;
     };
-    let driver = in_form(alloc, driver, aes, ghash)?;
-    let text = text_of(rt, alloc, text, is_cut)?;
-    let request = request_of(alloc, dir, iv, aad, text)?;
-    let size = size.parse::<u32>().unwrap_or(1000);
-    let given = outcome_of(rt, alloc, driver.as_str(), key, size, request)?;
-    Ok(given.as_str() == *want)
+    let text = text_of(rt, alloc, &bytes(rt, alloc, text), is_cut);
+    let request = request_of(rt, alloc, dir, (iv, aad), text);
+    let driver = replaced(rt, alloc, driver, "aes-generic", aes);
+    let driver = replaced(rt, alloc, driver.as_str(), "ghash-generic", ghash);
+    let outcome = outcome_of(rt, alloc, driver.as_str(), (key, size_in(size)), request);
+    is_as_said(rt, alloc, &outcome, want)
 }
 
 #[test]
-fn requests_have_their_values_in_each_form(rt: HostRuntime) -> Result<(), Fail> {
+fn requests_have_their_values_in_each_form(rt: HostRuntime) {
     for row in ROWS.lines() {
         for (aes, ghash) in [
             ("aes-generic", "ghash-generic"),
@@ -424,116 +434,76 @@ fn requests_have_their_values_in_each_form(rt: HostRuntime) -> Result<(), Fail> 
             ("aes-lanes", "ghash-generic"),
         ] {
             for is_cut in [false, true] {
-                let right = holds(&rt, rt.alloc(), row, aes, ghash, is_cut)?;
+                let right = holds(&rt, rt.alloc(), row, (aes, ghash), is_cut);
                 assert!(rt; right, "{row} by {aes}, cut: {is_cut}");
             }
         }
     }
-    Ok(())
-}
-
-/// A ciphertext with so many bytes of its tag behind it; where `right` isn't said, the last digit is another.
-fn tagged(
-    alloc: Global,
-    ciphertext: &str,
-    tag: &str,
-    size: u32,
-    right: bool,
-) -> Result<String, Fail> {
-    let mut text = String::from_str(alloc, ciphertext)?;
-    for digit in tag.chars().take((size as usize).saturating_mul(2)) {
-        text.push(digit)?;
-    }
-    if !right {
-        let last = text.pop();
-        text.push(if last == Some('0') { '1' } else { '0' })?;
-    }
-    Ok(text)
 }
 
 /// In a row stand a driver, a key, an IV, associated bytes, a text, its ciphertext and its longest tag, by python's
 /// `cryptography`; then the sizes that its tag may have.
-const TAGGED: [(&str, &str, &str, &str, &str, &str, &str, &[u32]); 4] = [
-    (
-        "gcm_base(ctr(aes-generic),ghash-generic)",
-        "feffe9928665731c6d6a8f9467308308",
-        "cafebabefacedbaddecaf888",
-        "000102030405060708090a0b0c0d0e0f1011121314151617",
-        "28292a2b2c2d2e2f303132333435363738393a3b",
-        "b39b06ccf5de5ceede1a1a411f10c4315d34b247",
-        "abf8c25799a7d930c73c188e13a11f1e",
-        &[4, 8, 12, 13, 14, 15, 16],
-    ),
-    (
-        "rfc4106(gcm_base(ctr(aes-generic),ghash-generic))",
-        "feffe9928665731c6d6a8f94673083080a0b0c0d",
-        "4956ed7e3b244cfe",
-        "00004321876543214956ed7e3b244cfe",
-        "28292a2b2c2d2e2f303132333435363738393a3b",
-        "656903b16b4065ae138f7aaf4a44f50ce77a3a60",
-        "9747215cde5b16863d510aed579e471d",
-        &[8, 12, 16],
-    ),
-    (
-        "authenc(hmac(sha256-generic),ctr(aes-generic))",
-        "0800010000000010202122232425262728292a2b2c2d2e2f303132333435363738393a3b3c3d3e3f06a9214036b8a15b512e03d534120006",
-        "00000000000000000000000000000000",
-        "000102030405060708090a0b0c0d0e0f1011121314151617",
-        "28292a2b2c2d2e2f303132333435363738393a3b",
-        "d28339fd71dd9aafb2625e20597fb4d4faa5a811",
-        "491738cfb55f650fdbeeb06a16545ed94a3bd973f69327d5b458af3dbb0e3354",
-        &[1, 2, 4, 8, 12, 16, 20, 31, 32],
-    ),
-    (
-        "ccm(aes-generic)",
-        "feffe9928665731c6d6a8f9467308308",
-        "02101112131415161718191a1b000000",
-        "000102030405060708090a0b0c0d0e0f1011121314151617",
-        "28292a2b2c2d2e2f303132333435363738393a3b",
-        "a2e7d0f94c5fd70027e33573f9732c522ce0007b",
-        "201024ca8445d399e9195ffa9e18407d",
-        &[16],
-    ),
-];
+const TAGGED: &str = "\
+gcm_base(ctr(aes-generic),ghash-generic) feffe9928665731c6d6a8f9467308308 cafebabefacedbaddecaf888 000102030405060708090a0b0c0d0e0f1011121314151617 28292a2b2c2d2e2f303132333435363738393a3b b39b06ccf5de5ceede1a1a411f10c4315d34b247 abf8c25799a7d930c73c188e13a11f1e 4,8,12,13,14,15,16
+rfc4106(gcm_base(ctr(aes-generic),ghash-generic)) feffe9928665731c6d6a8f94673083080a0b0c0d 4956ed7e3b244cfe 00004321876543214956ed7e3b244cfe 28292a2b2c2d2e2f303132333435363738393a3b 656903b16b4065ae138f7aaf4a44f50ce77a3a60 9747215cde5b16863d510aed579e471d 8,12,16
+authenc(hmac(sha256-generic),ctr(aes-generic)) 0800010000000010202122232425262728292a2b2c2d2e2f303132333435363738393a3b3c3d3e3f06a9214036b8a15b512e03d534120006 00000000000000000000000000000000 000102030405060708090a0b0c0d0e0f1011121314151617 28292a2b2c2d2e2f303132333435363738393a3b d28339fd71dd9aafb2625e20597fb4d4faa5a811 491738cfb55f650fdbeeb06a16545ed94a3bd973f69327d5b458af3dbb0e3354 1,2,4,8,12,16,20,31,32
+ccm(aes-generic) feffe9928665731c6d6a8f9467308308 02101112131415161718191a1b000000 000102030405060708090a0b0c0d0e0f1011121314151617 28292a2b2c2d2e2f303132333435363738393a3b a2e7d0f94c5fd70027e33573f9732c522ce0007b 201024ca8445d399e9195ffa9e18407d 16
+";
+
+/// A ciphertext with so many bytes of its tag behind it, the last byte with these bits turned over.
+fn tagged(
+    rt: &impl Abort,
+    alloc: Global,
+    (ciphertext, tag): (&str, &str),
+    size: u32,
+    wrong: u8,
+) -> Vec<u8> {
+    let mut text = bytes(rt, alloc, ciphertext);
+    let tag = bytes(rt, alloc, tag);
+    assert!(rt; size as usize <= tag.len());
+    text.extend_from_slice(&tag[..size as usize])
+        .expect(rt, "memory");
+    if let Some(last) = text.last_mut() {
+        *last ^= wrong;
+    }
+    text
+}
 
 /// A sealed text opens to this under a tag of so many bytes.
 fn opens_to(
     rt: &impl Abort,
     alloc: Global,
-    row: (&str, &str, &str, &str),
-    sealed: &str,
+    (driver, key, iv, aad): (&str, &str, &str, &str),
+    sealed: &[u8],
     size: u32,
     want: &str,
-) -> Result<bool, Fail> {
-    let (driver, key, iv, aad) = row;
-    let text = text_of(rt, alloc, sealed, true)?;
-    let request = request_of(alloc, "dec", iv, aad, text)?;
-    let opened = outcome_of(rt, alloc, driver, key, size, request)?;
-    Ok(opened.as_str() == want)
+) -> bool {
+    let text = text_of(rt, alloc, sealed, true);
+    let request = request_of(rt, alloc, "dec", (iv, aad), text);
+    let opened = outcome_of(rt, alloc, driver, (key, size), request);
+    is_as_said(rt, alloc, &opened, want)
+}
+
+/// A row opens under a tag of each of its sizes, and under no other tag.
+fn tags_hold(rt: &impl Abort, alloc: Global, row: &'static str) {
+    let words = words_of(rt, alloc, row);
+    let [driver, key, iv, aad, text, ciphertext, tag, sizes] = words.as_slice() else {
+        panic!(rt; "{row}")
+    };
+    let under = (*driver, *key, *iv, *aad);
+    for word in sizes.split(',') {
+        let size = size_in(word);
+        for (wrong, want) in [(0u8, *text), (1, "bad-message"), (128, "bad-message")] {
+            let sealed = tagged(rt, alloc, (ciphertext, tag), size, wrong);
+            let right = opens_to(rt, alloc, under, &sealed, size, want);
+            assert!(rt; right, "{driver} {size}, turned over: {wrong}");
+        }
+    }
 }
 
 #[test]
-fn each_size_of_a_tag_is_taken(rt: HostRuntime) -> Result<(), Fail> {
-    for (driver, key, iv, aad, text, ciphertext, tag, sizes) in TAGGED {
-        for size in sizes {
-            let sealed = tagged(rt.alloc(), ciphertext, tag, *size, true)?;
-            let row = (driver, key, iv, aad);
-            let opens = opens_to(&rt, rt.alloc(), row, sealed.as_str(), *size, text)?;
-            assert!(rt; opens, "{driver} {size}");
-        }
+fn each_size_of_a_tag_is_taken_and_no_other_tag(rt: HostRuntime) {
+    for row in TAGGED.lines() {
+        tags_hold(&rt, rt.alloc(), row);
     }
-    Ok(())
-}
-
-#[test]
-fn no_other_tag_is_taken(rt: HostRuntime) -> Result<(), Fail> {
-    for (driver, key, iv, aad, _, ciphertext, tag, sizes) in TAGGED {
-        for size in sizes {
-            let sealed = tagged(rt.alloc(), ciphertext, tag, *size, false)?;
-            let row = (driver, key, iv, aad);
-            let refused = opens_to(&rt, rt.alloc(), row, sealed.as_str(), *size, "bad-message")?;
-            assert!(rt; refused, "{driver} {size}");
-        }
-    }
-    Ok(())
 }

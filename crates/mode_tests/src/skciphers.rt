@@ -82,8 +82,9 @@ fn goes_both_ways<S: Skcipher>(
 fn is_refused<S: Skcipher>(rt: &impl Abort, mode: &S, iv: &[u8], plain: &[u8], text: &mut [u8]) {
     assert!(rt; iv.len() == mode.iv_len());
     assert!(rt; mode.seal(iv, text) == Err(Errno::EINVAL));
+    assert!(rt; &*text == plain, "refusing to seal {} bytes", text.len());
     assert!(rt; mode.unseal(iv, text) == Err(Errno::EINVAL));
-    assert!(rt; &*text == plain, "refusing {} bytes", text.len());
+    assert!(rt; &*text == plain, "refusing to unseal {} bytes", text.len());
 }
 
 /// A row holds by its mode.
