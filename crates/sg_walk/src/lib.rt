@@ -4,6 +4,7 @@
 mod copying;
 mod parts;
 mod segs;
+mod sizes;
 mod walker;
 mod walking;
 

@@ -1,45 +1,70 @@
 //! A text in segments.
 
-ghost use Rattle.std.specs.Prelude.{◌≡◌, ◌+◌, ◌^◌, ◌<◌, ◌≤◌, [], length, take, drop, IsTrue, ◌↔◌, IfOk};
-ghost use Rattle.std.specs.List.{concat};
+ghost use Rattle.std.specs.Prelude.{◌≡◌, ◌+◌, ◌^◌, ◌<◌, ◌≤◌, ◌==◌, true, false, [], length, take, drop, IsTrue, ◌↔◌, IfOk, MatchOption};
+ghost use Rattle.std.specs.List.{concat, sum};
 ghost use Rattle.sg_walk.specs.Segments.{segmented, written, cut_sizes};
 
 use crate::copying::{gather, scatter};
 use crate::parts::{copies, cut_to, joined, total_len};
+use crate::sizes;
+use crate::sizes::Sizes;
 use crate::walker::Walker;
 use crate::walking::walk_parts;
 use kc_base::Bytes;
 use std::alloc::{AllocError, Global};
 use std::marker::Model;
 
-/// A text that lies in segments, as a scatterlist has it. Contracts see the text, which is the segments one after another, and
-/// how many bytes each segment has. A segment may be empty. Only `join` and `copy` take memory.
+/// A text that lies in segments, as a scatterlist has it: each in a piece of memory of its own, or all one behind the other in a
+/// single piece, as entries of a scatterlist may share a page. Contracts see the text, which is the segments one after another,
+/// and how many bytes each segment has. A segment may be empty. Only `cut_from`, `join` and `copy` take memory.
 #[derive(Debug, Drop)]
 pub struct Segs {
     parts: Vec<Bytes>,
+    // The sizes of the segments, where they lie in a single piece.
+    within: Option<Sizes>,
     len: usize,
 }
 
 impl Model for Segs {
-    ghost use Rattle.std.specs.Prelude.{◌≡◌, length};
+    ghost use Rattle.std.specs.Prelude.{◌≡◌, length, map};
     ghost use Rattle.std.specs.List.{concat};
-    ghost use Rattle.sg_walk.specs.Segments.{Segmented, segmented};
+    ghost use Rattle.sg_walk.specs.Segments.{Segmented};
+    ghost use Rattle.sg_walk.specs.Lying.{sizes_in, LieIn};
 
     ghost Value = { Segmented };
 
-    ghost view = { λ segs. segmented segs.parts.items };
+    ghost view = { λ segs. record { text = concat segs.parts.items; sizes = sizes_in (map length segs.parts.items) segs.within } };
 
-    ghost invariant = { λ segs. segs.len ≡ length (concat segs.parts.items) };
+    ghost invariant = { λ segs. (segs.len ≡ length (concat segs.parts.items)) × LieIn (map length segs.parts.items) segs.within };
 }
 
 impl Segs {
-    /// The text of these segments.
+    /// The text of these segments, each a piece of its own.
     pub fn from_parts(parts: Vec<Bytes>) -> Segs
         requires { length (concat parts.items) < 2 ^ 63 }
         ensures { result ≡ segmented parts.items }
     {
         let len = total_len(&parts);
-        Segs { parts, len }
+        Segs {
+            parts,
+            within: None,
+            len,
+        }
+    }
+
+    /// The text of these bytes, which stay one piece, in segments of these sizes.
+    pub fn cut_from(alloc: Global, bytes: Bytes, sizes: Vec<usize>) -> Result<Segs, AllocError>
+        requires { sum sizes.items ≡ length bytes }
+        ensures { IfOk result (λ segs. segs ≡ record { text = bytes; sizes = sizes.items }) }
+    {
+        let len = bytes.len();
+        let mut parts = Vec::with_capacity(alloc, 1)?;
+        parts.push(bytes)?;
+        Ok(Segs {
+            parts,
+            within: Some(Sizes::from_vec(sizes)),
+            len,
+        })
     }
 
     /// How many bytes the text has.
@@ -55,11 +80,36 @@ impl Segs {
         self.len == 0
     }
 
-    /// The segments in their order.
+    /// How many segments the text has.
+    pub fn count(&self) -> usize
+        ensures { result ≡ length self.now.sizes }
+    {
+        match &self.within {
+            Some(sizes) => sizes.count(),
+            None => self.parts.len(),
+        }
+    }
+
+    /// The pieces of memory that the text lies in, in their order. Segments may share one.
     pub fn parts(&self) -> &[Bytes]
-        ensures { segmented result.now ≡ self.now }
+        ensures { concat result.now ≡ self.now.text }
     {
         &self.parts
+    }
+
+    /// The text, where it is one segment.
+    pub fn single(&self) -> Option<&[u8]>
+        ensures { MatchOption result
+            ((length self.now.sizes == 1) ≡ false)
+            (λ bytes. ((length self.now.sizes == 1) ≡ true) × (bytes.now ≡ self.now.text)) }
+    {
+        if self.count() != 1 {
+            return None;
+        }
+        match self.parts.as_slice() {
+            [part] => Some(part.as_slice()),
+            _ => None,
+        }
     }
 
     /// Copies the bytes of the text from `at` on, as many as `into` has room for.
@@ -81,11 +131,11 @@ impl Segs {
         scatter(alloc, &mut self.parts, 0, at, piece);
     }
 
-    /// The text in one piece. A single segment is handed over as it is.
+    /// The text in one piece. What lies in one already is handed over as it is.
     pub fn join(self, alloc: Global) -> Result<Bytes, AllocError>
         ensures { IfOk result (λ bytes. bytes ≡ self.text) }
     {
-        let Segs { mut parts, len } = self;
+        let Segs { mut parts, len, .. } = self;
         if parts.len() == 1 {
             return Ok(parts.remove(0));
         }
@@ -97,8 +147,10 @@ impl Segs {
         ensures { IfOk result (λ copy. copy ≡ self.now) }
     {
         let parts = copies(alloc, &self.parts)?;
+        let within = sizes::copy_of(alloc, &self.within)?;
         Ok(Segs {
             parts,
+            within,
             len: self.len,
         })
     }
@@ -111,6 +163,7 @@ impl Segs {
     {
         let alloc = *self.parts.allocator();
         cut_to(alloc, &mut self.parts, len);
+        sizes::cut_to(&mut self.within, len);
         self.len = len;
     }
 
