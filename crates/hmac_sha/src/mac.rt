@@ -97,7 +97,7 @@ impl Mac {
     }
 }
 
-/// Hashes the segments one after another.
+/// Hashes the pieces one after another.
 fn hash_parts(hasher: &mut Sha256, parts: &[Bytes])
     ensures { (m : List ℕ) → Holds256 hasher.old m → Holds256 hasher.new (m ++ concat parts.now) }
 {

@@ -1,10 +1,11 @@
 //! What the arguments of a command spell.
 
-ghost use Rattle.std.specs.Prelude.{◌≡◌, IsTrue, nat_lt, length, map, IfOk, MatchResult, Some, None};
+ghost use Rattle.std.specs.Prelude.{◌≡◌, IsTrue, false, nat_lt, length, map, take, drop, IfOk, OnOk, MatchResult, Some, None};
 ghost use Rattle.std.specs.Char.{is_ascii_digit};
-ghost use Rattle.std.specs.List.{list_all, slice_split};
+ghost use Rattle.std.specs.List.{list_all, list_any, slice_split};
 ghost use Rattle.std.specs.Str.Parse.{digits_value};
-ghost use Rattle.script_text.specs.Arguments.{Reads, hex_of, hexes_of, are_segments, is_bar, text_of, is_label_byte, is_label, label_of, lone_label_of, is_number, number_of, mask_of, length_of, names_of, backlog_of};
+ghost use Rattle.script_text.specs.Arguments.{Reads, hex_of, hexes_of, is_bar, text_of, is_label_byte, is_label, label_of, lone_label_of, is_number, number_of, mask_of, length_of, names_of, backlog_of};
+ghost use Rattle.script_text.specs.InSegments.{in_segments, are_sizes};
 ghost use Rattle.script_text.specs.declared.arguments.ReadError.TheVariants.{Malformed, NoMemory};
 
 use crate::texts::Texts;
@@ -53,52 +54,88 @@ pub fn hex_bytes(alloc: Global, token: &[u8]) -> Result<Bytes, ReadError>
     }
 }
 
-fn are_filled(parts: &[Bytes]) -> bool
-    ensures { result ≡ list_all (λ part. nat_lt 0 (length part)) parts.now }
-{
-    parts.iter().all(|part| part.len() > 0)
+// The bytes of a text's parts, one part behind the other, and how many each has.
+#[derive(Drop)]
+struct Parts {
+    bytes: Vec<u8>,
+    sizes: Vec<usize>,
 }
 
-fn are_segments(parts: &[Bytes]) -> bool
-    ensures { result ≡ are_segments parts.now }
+// Adds the bytes that a part spells.
+fn append_hex(bytes: &mut Vec<u8>, part: &[u8]) -> Result<(), ReadError>
+    ensures front { OnOk result (take (length bytes.old.items) bytes.new.items ≡ bytes.old.items) }
+    ensures behind { MatchResult result
+        (λ _. hex_of part.now ≡ Some (drop (length bytes.old.items) bytes.new.items))
+        (λ error. error ≡ Malformed → hex_of part.now ≡ None) }
 {
-    parts.len() == 1 || parts.len() <= MOST_PARTS && are_filled(parts)
-}
-
-// Before the first part is added, takes the room for as many as the token has if all are as long.
-fn reserve_parts(parts: &mut Vec<Bytes>, token: &[u8], part: &[u8]) -> Result<(), AllocError>
-    ensures { parts.new.items ≡ parts.old.items }
-{
-    if parts.is_empty() {
-        let room = (token.len() + 1) / (part.len() + 1);
-        parts.reserve_exact(room.min(MOST_PARTS))?;
+    if let [b'-'] = part {
+        return Ok(());
     }
-    Ok(())
+    let at = bytes.len();
+    bytes.resize(at + part.len() / 2, 0)?;
+    match hex::decode_to_slice(part, &mut bytes[at..]) {
+        Ok(()) => Ok(()),
+        Err(_) => Err(ReadError::Malformed),
+    }
 }
 
-// The bytes that each part between bars spells.
-fn hex_parts(alloc: Global, token: &[u8]) -> Result<Vec<Bytes>, ReadError>
+// What each part between bars spells.
+fn hex_parts(alloc: Global, token: &[u8]) -> Result<Parts, ReadError>
     ensures { MatchResult result
-        (λ read. hexes_of (slice_split is_bar token.now) ≡ Some read.items)
+        (λ read. in_segments (hexes_of (slice_split is_bar token.now)) ≡ Some (record { text = read.bytes.items; sizes = read.sizes.items }))
         (λ error. error ≡ Malformed → hexes_of (slice_split is_bar token.now) ≡ None) }
 {
-    let mut read = Vec::new(alloc);
+    let mut bytes = Vec::with_capacity(alloc, token.len() / 2)?;
+    let mut sizes = Vec::with_capacity(alloc, MOST_PARTS)?;
     for part in token.split(|b| *b == b'|') {
-        reserve_parts(&mut read, token, part)?;
-        read.push(hex_bytes(alloc, part)?)?;
+        let at = bytes.len();
+        append_hex(&mut bytes, part)?;
+        sizes.push(bytes.len() - at)?;
     }
-    Ok(read)
+    Ok(Parts { bytes, sizes })
 }
 
-/// The text that a token spells in one part or several, each of which is read into a segment.
+fn are_filled(sizes: &[usize]) -> bool
+    ensures { result ≡ list_all (λ size. nat_lt 0 size) sizes.now }
+{
+    sizes.iter().all(|size| *size > 0)
+}
+
+fn are_sizes(sizes: &[usize]) -> bool
+    ensures { result ≡ are_sizes sizes.now }
+{
+    sizes.len() == 1 || sizes.len() <= MOST_PARTS && are_filled(sizes)
+}
+
+fn has_bar(token: &[u8]) -> bool
+    ensures { result ≡ list_any is_bar token.now }
+{
+    token.iter().any(|b| *b == b'|')
+}
+
+// The text of a token without bars.
+fn one_segment(alloc: Global, token: &[u8]) -> Result<Segs, ReadError>
+    requires { list_any is_bar token.now ≡ false }
+    ensures { Reads result (text_of token.now) }
+{
+    let bytes = hex_bytes(alloc, token)?;
+    let mut parts = Vec::with_capacity(alloc, 1)?;
+    parts.push(bytes)?;
+    Ok(Segs::from_parts(parts))
+}
+
+/// The text that a token spells in one part or several, each of which is a segment. Several are read into one piece of memory.
 pub fn segments(alloc: Global, token: &[u8]) -> Result<Segs, ReadError>
     ensures { Reads result (text_of token.now) }
 {
-    let parts = hex_parts(alloc, token)?;
-    if !are_segments(&parts) {
+    if !has_bar(token) {
+        return one_segment(alloc, token);
+    }
+    let Parts { bytes, sizes } = hex_parts(alloc, token)?;
+    if !are_sizes(&sizes) {
         return Err(ReadError::Malformed);
     }
-    Ok(Segs::from_parts(parts))
+    Ok(Segs::cut_from(alloc, Bytes::from_vec(bytes), sizes)?)
 }
 
 fn is_label_byte(byte: u8) -> bool

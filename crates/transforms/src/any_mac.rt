@@ -10,7 +10,7 @@ ghost use Rattle.transforms.specs.Kept.{IsNotKept};
 ghost use Rattle.transforms.specs.Plans.{takes_key};
 
 use crate::any_aes::AnyAes;
-use crate::room::{in_one_segment, joined_with_zeros, zeros};
+use crate::room::{joined_with_zeros, zeros};
 use crate::tfm_err::TfmErr;
 use cmac_ccm::Cmac;
 use hmac_sha::Mac;
@@ -93,7 +93,7 @@ fn cmac_room(alloc: Global, text: &Segs) -> Result<Vec<u8>, AllocError>
     requires { length text.now.text < 2 ^ 32 }
     ensures { IfOk result (λ room. room.items ≡ text_to_join text.now ++ replicate 16 0) }
 {
-    match in_one_segment(text) {
+    match text.single() {
         Some(_) => zeros(alloc, CMAC_SIZE),
         None => joined_with_zeros(alloc, text, CMAC_SIZE),
     }
@@ -104,7 +104,7 @@ fn cmac_of(mac: &Cmac<AnyAes>, text: &Segs, room: &[u8]) -> [u8; 16]
     requires { room.now ≡ text_to_join text.now ++ replicate 16 0 }
     ensures { result ≡ cmac (seal (key_of mac.now)) text.now.text }
 {
-    match in_one_segment(text) {
+    match text.single() {
         Some(bytes) => mac.mac(bytes),
         None => mac.mac(&room[..text.len()]),
     }

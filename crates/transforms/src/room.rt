@@ -1,6 +1,6 @@
 //! The memory of a job.
 
-ghost use Rattle.std.specs.Prelude.{◌≡◌, ◌==◌, ◌++◌, ◌+◌, ◌≤◌, ◌<◌, ◌^◌, true, false, length, IfOk, OnOk, MatchOption, replicate};
+ghost use Rattle.std.specs.Prelude.{◌≡◌, ◌++◌, ◌+◌, ◌≤◌, ◌<◌, ◌^◌, length, IfOk, OnOk, replicate};
 ghost use Rattle.std.specs.List.{concat};
 ghost use Rattle.transforms.specs.Asked.{aead_room};
 
@@ -16,19 +16,7 @@ pub fn zeros(alloc: Global, n: usize) -> Result<Vec<u8>, AllocError>
     vec![in alloc; 0u8; n]
 }
 
-/// The text, where it lies in one segment.
-pub fn in_one_segment(text: &Segs) -> Option<&[u8]>
-    ensures { MatchOption result
-        ((length text.now.sizes == 1) ≡ false)
-        (λ bytes. ((length text.now.sizes == 1) ≡ true) × (bytes.now ≡ text.now.text)) }
-{
-    match text.parts() {
-        [part] => Some(part.as_slice()),
-        _ => None,
-    }
-}
-
-/// Adds the bytes of each segment.
+/// Adds the bytes of each piece.
 fn add_parts(buffer: &mut Vec<u8>, parts: &[Bytes]) -> Result<(), AllocError>
     ensures { OnOk result (buffer.new.items ≡ buffer.old.items ++ concat parts.now) }
 {
