@@ -67,6 +67,13 @@ pub(crate) fn in_three(rt: &impl Abort, alloc: Global, text: &[u8], a: usize, b:
     Segs::from_parts(parts)
 }
 
+/// The text in one piece of memory, cut into three segments, which may be empty.
+pub(crate) fn within_one(rt: &impl Abort, alloc: Global, text: &[u8], a: usize, b: usize) -> Segs {
+    assert!(rt; a <= b && b <= text.len());
+    let sizes = vec![in alloc; a, b - a, text.len() - b].expect(rt, "memory");
+    Segs::cut_from(alloc, segment(rt, alloc, text), sizes).expect(rt, "memory")
+}
+
 /// The text of segments.
 fn joined(rt: &impl Abort, alloc: Global, segs: &Segs) -> Bytes {
     let copy = segs.copy(alloc).expect(rt, "memory");
@@ -237,7 +244,7 @@ fn segments_are_read_written_and_cut(rt: HostRuntime) {
     assert!(rt; piece == *b"cdef");
     segs.copy_in(2, b"XYZ");
     segs.cut(6);
-    assert!(rt; segs.parts().len() == 3);
+    assert!(rt; segs.count() == 3);
     assert!(rt; joined(&rt, rt.alloc(), &segs).as_slice() == b"abXYZf".as_slice());
 }
 
@@ -245,6 +252,14 @@ fn segments_are_read_written_and_cut(rt: HostRuntime) {
 fn segments_join_to_the_text(rt: HostRuntime) {
     let text = b"of sixteen bytes";
     let segs = in_three(&rt, rt.alloc(), text, 5, 13);
-    assert!(rt; segs.parts().len() == 3);
+    assert!(rt; segs.count() == 3);
     assert!(rt; joined(&rt, rt.alloc(), &segs).as_slice() == text.as_slice());
+}
+
+#[test]
+fn segments_within_one_piece_are_cut(rt: HostRuntime) {
+    let mut segs = within_one(&rt, rt.alloc(), b"abcdefgh", 3, 5);
+    segs.cut(4);
+    assert!(rt; segs.count() == 3 && segs.single().is_none());
+    assert!(rt; joined(&rt, rt.alloc(), &segs).as_slice() == b"abcd".as_slice());
 }

@@ -3,7 +3,7 @@
 ghost use Rattle.std.specs.Prelude.{◌≡◌, true, IfOk};
 ghost use Rattle.transforms.specs.Plans.{fits_tag};
 
-use crate::segments::{bytes, in_one, in_three};
+use crate::segments::{bytes, in_one, in_three, within_one};
 use alg_names::parse_name;
 use kc_base::{Bytes, Errno};
 use sg_walk::Segs;
@@ -271,13 +271,21 @@ fn size_for(plan: &Plan, wanted: u32) -> Result<u32, Errno>
     Ok(wanted)
 }
 
-/// The text of a request, in one segment or in three.
-fn text_of(rt: &impl Abort, alloc: Global, text: &[u8], is_cut: bool) -> Segs {
+/// Where the text of a request lies: in one segment, in three pieces of memory, or in three segments of one.
+#[derive(Clone, Copy, Debug)]
+enum Lies {
+    Whole,
+    InThree,
+    WithinOne,
+}
+
+/// The text of a request.
+fn text_of(rt: &impl Abort, alloc: Global, text: &[u8], lies: Lies) -> Segs {
     let n = text.len();
-    if is_cut {
-        in_three(rt, alloc, text, n / 3, n / 3 * 2)
-    } else {
-        in_one(rt, alloc, text)
+    match lies {
+        Lies::Whole => in_one(rt, alloc, text),
+        Lies::InThree => in_three(rt, alloc, text, n / 3, n / 3 * 2),
+        Lies::WithinOne => within_one(rt, alloc, text, n / 3, n / 3 * 2),
     }
 }
 
@@ -405,19 +413,19 @@ fn size_in(word: &str) -> u32 {
     word.parse::<u32>().unwrap_or(1000)
 }
 
-/// Whether a row holds by these drivers of AES and GHASH, with its text in one segment or cut.
+/// Whether a row holds by these drivers of AES and GHASH, with its text lying so.
 fn holds(
     rt: &impl Abort,
     alloc: Global,
     row: &'static str,
     (aes, ghash): (&str, &str),
-    is_cut: bool,
+    lies: Lies,
 ) -> bool {
     let words = words_of(rt, alloc, row);
     let [driver, key, size, dir, iv, aad, text, want] = words.as_slice() else {
         return false;
     };
-    let text = text_of(rt, alloc, &bytes(rt, alloc, text), is_cut);
+    let text = text_of(rt, alloc, &bytes(rt, alloc, text), lies);
     let request = request_of(rt, alloc, dir, (iv, aad), text);
     let driver = replaced(rt, alloc, driver, "aes-generic", aes);
     let driver = replaced(rt, alloc, driver.as_str(), "ghash-generic", ghash);
@@ -433,9 +441,9 @@ fn requests_have_their_values_in_each_form(rt: HostRuntime) {
             ("aes-table", "ghash-table"),
             ("aes-lanes", "ghash-generic"),
         ] {
-            for is_cut in [false, true] {
-                let right = holds(&rt, rt.alloc(), row, (aes, ghash), is_cut);
-                assert!(rt; right, "{row} by {aes}, cut: {is_cut}");
+            for lies in [Lies::Whole, Lies::InThree, Lies::WithinOne] {
+                let right = holds(&rt, rt.alloc(), row, (aes, ghash), lies);
+                assert!(rt; right, "{row} by {aes}, {lies:?}");
             }
         }
     }
@@ -478,7 +486,7 @@ fn opens_to(
     size: u32,
     want: &str,
 ) -> bool {
-    let text = text_of(rt, alloc, sealed, true);
+    let text = text_of(rt, alloc, sealed, Lies::InThree);
     let request = request_of(rt, alloc, "dec", (iv, aad), text);
     let opened = outcome_of(rt, alloc, driver, (key, size), request);
     is_as_said(rt, alloc, &opened, want)
