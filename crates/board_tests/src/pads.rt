@@ -1,6 +1,6 @@
 //! A pad on a board.
 
-ghost use Rattle.std.specs.Prelude.{◌≢◌, ℕ, IfOk};
+ghost use Rattle.std.specs.Prelude.{◌≡◌, ◌≢◌, ℕ, [], IfOk};
 ghost use Rattle.board.specs.Entries.{entries_of};
 ghost use Rattle.board.specs.Legal.{IsNoWorker, MayFinish};
 ghost use Rattle.board.specs.Shapes.{is_pad};
@@ -11,7 +11,6 @@ use kc_base::{Callback, Callbacks};
 use std::alloc::{AllocError, Global};
 use std::process::Abort;
 use std::sync::Arc;
-use std::test::Fail;
 
 /// What is asked: a letter to be said again, for so many bytes of the allowance.
 #[derive(Debug, Drop)]
@@ -153,14 +152,14 @@ fn second_first<W: Work>(
 }
 
 /// The completions of a list: numbers with letters.
-fn letters(alloc: Global, callbacks: &Callbacks<char>) -> Result<Vec<(u64, char)>, Fail> {
+fn letters(rt: &impl Abort, alloc: Global, callbacks: &Callbacks<char>) -> Vec<(u64, char)> {
     let mut found = Vec::new(alloc);
     for callback in callbacks.as_slice() {
         if let Callback::Done(number, letter) = callback {
-            found.push((*number, *letter))?;
+            found.push((*number, *letter)).expect(rt, "memory");
         }
     }
-    Ok(found)
+    found
 }
 
 /// What a step of a table answers.
@@ -201,52 +200,66 @@ fn pad_step(
     }
 }
 
+pub(crate) fn new_board(rt: &impl Abort, alloc: Global) -> BoardCore<Echo>
+    ensures { result ≡ [] }
+{
+    BoardCore::new(alloc).expect(rt, "memory")
+}
+
+/// Makes the pad of a test.
+fn open_pad(rt: &impl Abort, board: &mut BoardCore<Echo>, caller: u32) -> u64
+    requires { IsNoWorker caller }
+    ensures { IsOpenFor is_pad board.new result caller }
+{
+    make(board, caller).expect(rt, "memory")
+}
+
 /// Steps on a new pad answer as their table says; the completions that were handed out.
-fn play(rt: &impl Abort, alloc: Global, steps: &[(char, Said)]) -> Result<Vec<(u64, char)>, Fail> {
-    let mut board: BoardCore<Echo> = BoardCore::new(alloc)?;
+fn play(rt: &impl Abort, alloc: Global, steps: &[(char, Said)]) -> Vec<(u64, char)> {
+    let mut board = new_board(rt, alloc);
     let mut into = Callbacks::new(alloc);
-    let pipe = make(&mut board, 0)?;
+    let pipe = open_pad(rt, &mut board, 0);
     for (step, want) in steps {
-        let said = pad_step(&mut board, pipe, &mut into, *step)?;
-        assert!(rt; said == *want, "{step}");
+        let said = pad_step(&mut board, pipe, &mut into, *step);
+        assert!(rt; said == Ok(*want), "{step}");
     }
-    letters(alloc, &into)
+    letters(rt, alloc, &into)
 }
 
-#[test]
-fn completions_come_in_the_order_of_requests(rt: HostRuntime) -> Result<(), Fail> {
-    let steps = [
-        ('a', Said::Number(0)),
-        ('b', Said::Number(1)),
-        ('c', Said::Number(2)),
-        ('!', Said::No),
-        ('?', Said::No),
-        ('1', Said::Yes),
-        ('1', Said::No),
-        ('?', Said::Yes),
-        ('?', Said::Yes),
-    ];
-    let said = play(&rt, rt.alloc(), &steps)?;
-    assert_eq!(rt; said.as_slice(), [(0, 'a'), (1, 'b'), (2, 'c')].as_slice());
-    Ok(())
-}
+const DRAINED: [(char, Said); 9] = [
+    ('a', Said::Number(0)),
+    ('b', Said::Number(1)),
+    ('c', Said::Number(2)),
+    ('!', Said::No),
+    ('?', Said::No),
+    ('1', Said::Yes),
+    ('1', Said::No),
+    ('?', Said::Yes),
+    ('?', Said::Yes),
+];
 
 #[test]
-fn a_poll_hands_out_what_is_ready(rt: HostRuntime) -> Result<(), Fail> {
-    let steps = [
-        ('a', Said::Number(0)),
-        ('b', Said::Number(1)),
-        ('.', Said::Told(0)),
-        ('1', Said::Yes),
-        ('.', Said::Told(1)),
-        ('1', Said::Yes),
-        ('1', Said::No),
-        ('.', Said::Told(2)),
-        ('.', Said::Told(2)),
-    ];
-    let said = play(&rt, rt.alloc(), &steps)?;
-    assert_eq!(rt; said.as_slice(), [(0, 'a'), (1, 'b')].as_slice());
-    Ok(())
+fn completions_come_in_the_order_of_requests(rt: HostRuntime) {
+    let said = play(&rt, rt.alloc(), &DRAINED);
+    assert!(rt; said.as_slice() == [(0, 'a'), (1, 'b'), (2, 'c')].as_slice());
+}
+
+const POLLED: [(char, Said); 9] = [
+    ('a', Said::Number(0)),
+    ('b', Said::Number(1)),
+    ('.', Said::Told(0)),
+    ('1', Said::Yes),
+    ('.', Said::Told(1)),
+    ('1', Said::Yes),
+    ('1', Said::No),
+    ('.', Said::Told(2)),
+    ('.', Said::Told(2)),
+];
+
+#[test]
+fn a_poll_hands_out_what_is_ready(rt: HostRuntime) {
+    let said = play(&rt, rt.alloc(), &POLLED);
+    assert!(rt; said.as_slice() == [(0, 'a'), (1, 'b')].as_slice());
 }
 
 /// Requests of so many bytes to a pad are answered as the table says.
@@ -266,49 +279,57 @@ fn are_limited(
     true
 }
 
-#[test]
-fn each_caller_has_bytes_of_its_own(rt: HostRuntime) -> Result<(), Fail> {
-    let mut board: BoardCore<Echo> = BoardCore::new(rt.alloc())?;
-    // 2^26 bytes together
-    let table = [
-        (67_108_865, Err(BoardErr::TooBig)),
-        (u64::MAX, Err(BoardErr::TooBig)),
-        (67_108_861, Ok(0)),
-        (4, Err(BoardErr::TooBig)),
-        (3, Ok(1)),
-        (1, Err(BoardErr::TooBig)),
-    ];
-    for caller in [0, 17] {
-        let pipe = make(&mut board, caller)?;
-        assert!(rt; are_limited(&mut board, caller, pipe, &table));
-    }
-    Ok(())
+// 2^26 bytes together.
+const SUBMITTED: [(u64, Result<u64, BoardErr>); 6] = [
+    (67_108_865, Err(BoardErr::TooBig)),
+    (u64::MAX, Err(BoardErr::TooBig)),
+    (67_108_861, Ok(0)),
+    (4, Err(BoardErr::TooBig)),
+    (3, Ok(1)),
+    (1, Err(BoardErr::TooBig)),
+];
+
+/// A caller's requests to a pad of its own are answered as that table says.
+fn is_limited(rt: &impl Abort, board: &mut BoardCore<Echo>, caller: u32)
+    requires { IsNoWorker caller }
+{
+    let pipe = open_pad(rt, board, caller);
+    assert!(rt; are_limited(board, caller, pipe, &SUBMITTED), "{caller}");
 }
 
 #[test]
-fn each_caller_has_1048576_requests(rt: HostRuntime) -> Result<(), Fail> {
-    let mut board: BoardCore<Echo> = BoardCore::new(rt.alloc())?;
-    let pipe = make(&mut board, 0)?;
+fn each_caller_has_bytes_of_its_own(rt: HostRuntime) {
+    let mut board = new_board(&rt, rt.alloc());
+    is_limited(&rt, &mut board, 0);
+    is_limited(&rt, &mut board, 17);
+}
+
+fn wanted_number(number: u64) -> Result<u64, BoardErr> {
+    if number < 1_048_576 {
+        Ok(number)
+    } else {
+        Err(BoardErr::TooBig)
+    }
+}
+
+#[test]
+fn each_caller_has_1048576_requests(rt: HostRuntime) {
+    let mut board = new_board(&rt, rt.alloc());
+    let pipe = open_pad(&rt, &mut board, 0);
     for number in 0..1_048_577u64 {
-        let want = if number < 1_048_576 {
-            Ok(number)
-        } else {
-            Err(BoardErr::TooBig)
-        };
-        assert!(rt; submit(&mut board, 0, pipe, saying('a', 64)) == want);
+        let found = submit(&mut board, 0, pipe, saying('a', 64));
+        assert!(rt; found == wanted_number(number));
     }
-    Ok(())
 }
 
 #[test]
-fn a_board_is_shut_once_its_pads_are_closed(rt: HostRuntime) -> Result<(), Fail> {
-    let mut board: BoardCore<Echo> = BoardCore::new(rt.alloc())?;
-    let pad = board.born_pad(0, 2)?;
+fn a_board_is_shut_once_its_pads_are_closed(rt: HostRuntime) {
+    let mut board = new_board(&rt, rt.alloc());
+    let pad = board.born_pad(0, 2).expect(&rt, "memory");
     board.close(0, pad);
     board.shut(0);
     assert!(rt; board.is_shut(0));
-    assert_eq!(rt; board.finish_all().entries().len(), 3);
-    Ok(())
+    assert!(rt; board.finish_all().entries().len() == 3);
 }
 
 #[test]

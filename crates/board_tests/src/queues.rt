@@ -6,12 +6,11 @@ ghost use Rattle.board.specs.Legal.{IsNoWorker, MayFinish};
 ghost use Rattle.board.specs.Shapes.{has_line};
 ghost use Rattle.board.specs.Staying.{IsOpenFor};
 
-use crate::pads::{Echo, Said, saying, yes_or_no};
+use crate::pads::{Echo, Said, new_board, saying, yes_or_no};
 use board::{BoardCore, BoardErr, Entered, Taken, Work, pipelines_stay, slips_stay};
 use kc_base::{Callback, Callbacks};
 use std::alloc::Global;
 use std::process::Abort;
-use std::test::Fail;
 
 /// Makes a queue.
 fn make<W: Work>(board: &mut BoardCore<W>, caller: u32, max: u32) -> Result<u64, BoardErr>
@@ -25,7 +24,7 @@ fn make<W: Work>(board: &mut BoardCore<W>, caller: u32, max: u32) -> Result<u64,
 }
 
 /// Offers a job to a queue of the caller's own.
-fn offer<W: Work>(
+pub(crate) fn offer<W: Work>(
     board: &mut BoardCore<W>,
     caller: u32,
     pipe: u64,
@@ -41,7 +40,7 @@ fn offer<W: Work>(
 }
 
 /// Holds the queue.
-fn hold<W: Work>(board: &mut BoardCore<W>, pipe: u64) -> Result<(), BoardErr>
+pub(crate) fn hold<W: Work>(board: &mut BoardCore<W>, pipe: u64) -> Result<(), BoardErr>
     requires { IsOpenFor has_line board.old pipe 0 }
     ensures { IsOpenFor has_line board.new pipe 0 }
 {
@@ -50,7 +49,7 @@ fn hold<W: Work>(board: &mut BoardCore<W>, pipe: u64) -> Result<(), BoardErr>
 }
 
 /// Lets the queue go.
-fn go<W: Work>(board: &mut BoardCore<W>, pipe: u64) -> Result<(), BoardErr>
+pub(crate) fn go<W: Work>(board: &mut BoardCore<W>, pipe: u64) -> Result<(), BoardErr>
     requires { IsOpenFor has_line board.old pipe 0 }
     ensures { IsOpenFor has_line board.new pipe 0 }
 {
@@ -59,7 +58,7 @@ fn go<W: Work>(board: &mut BoardCore<W>, pipe: u64) -> Result<(), BoardErr>
 }
 
 /// Takes a job, runs it and finishes it, if one may be taken. The jobs that others took stay theirs.
-fn serve<W: Work>(board: &mut BoardCore<W>, worker: u32, pipe: u64) -> bool
+pub(crate) fn serve<W: Work>(board: &mut BoardCore<W>, worker: u32, pipe: u64) -> bool
     requires { IsOpenFor has_line board.old pipe 0 }
     ensures open { IsOpenFor has_line board.new pipe 0 }
     ensures others { (other p n : ℕ) (out : W.Out) → worker ≢ other → MayFinish W.meaning (entries_of p board.old) other n out → MayFinish W.meaning (entries_of p board.new) other n out }
@@ -76,16 +75,18 @@ fn serve<W: Work>(board: &mut BoardCore<W>, worker: u32, pipe: u64) -> bool
     }
 }
 
-/// Hands out what the queue told.
-fn poll<W: Work>(
+/// Hands out what the queue told. The jobs that workers took stay theirs.
+pub(crate) fn poll<W: Work>(
     board: &mut BoardCore<W>,
     pipe: u64,
     into: &mut Callbacks<W::Out>,
 ) -> Result<(), BoardErr>
     requires { IsOpenFor has_line board.old pipe 0 }
-    ensures { IsOpenFor has_line board.new pipe 0 }
+    ensures open { IsOpenFor has_line board.new pipe 0 }
+    ensures others { (other p n : ℕ) (out : W.Out) → 0 ≢ other → MayFinish W.meaning (entries_of p board.old) other n out → MayFinish W.meaning (entries_of p board.new) other n out }
 {
     pipelines_stay::<W::Ask>();
+    slips_stay::<W::Ask, W::Out>();
     board.poll(0, pipe, into)
 }
 
@@ -154,69 +155,85 @@ fn queue_step(
 }
 
 /// A callback's number, and its letter or `-`.
-fn written(alloc: Global, callbacks: &Callbacks<char>) -> Result<Vec<(u64, char)>, Fail> {
+fn pair_of(callback: &Callback<char>) -> (u64, char) {
+    match callback {
+        Callback::Started(number) => (*number, '-'),
+        Callback::Done(number, letter) => (*number, *letter),
+    }
+}
+
+pub(crate) fn written(
+    rt: &impl Abort,
+    alloc: Global,
+    callbacks: &Callbacks<char>,
+) -> Vec<(u64, char)> {
     let mut found = Vec::new(alloc);
     for callback in callbacks.as_slice() {
-        match callback {
-            Callback::Started(number) => found.push((*number, '-'))?,
-            Callback::Done(number, letter) => found.push((*number, *letter))?,
-        }
+        found.push(pair_of(callback)).expect(rt, "memory");
     }
-    Ok(found)
+    found
+}
+
+/// Makes the queue of a test.
+fn open_queue(rt: &impl Abort, board: &mut BoardCore<Echo>, max: u32) -> u64
+    requires { 1 ≤ max }
+    ensures { IsOpenFor has_line board.new result 0 }
+{
+    make(board, 0, max).expect(rt, "memory")
 }
 
 /// Steps on a new queue of two answer as their table says; the callbacks that were handed out.
-fn play(rt: &impl Abort, alloc: Global, steps: &[(char, Said)]) -> Result<Vec<(u64, char)>, Fail> {
-    let mut board: BoardCore<Echo> = BoardCore::new(alloc)?;
+fn play(rt: &impl Abort, alloc: Global, steps: &[(char, Said)]) -> Vec<(u64, char)> {
+    let mut board = new_board(rt, alloc);
     let mut into = Callbacks::new(alloc);
-    let pipe = make(&mut board, 0, 2)?;
+    let pipe = open_queue(rt, &mut board, 2);
     for (step, want) in steps {
-        let said = queue_step(&mut board, pipe, &mut into, *step)?;
-        assert!(rt; said == *want, "{step}");
+        let said = queue_step(&mut board, pipe, &mut into, *step);
+        assert!(rt; said == Ok(*want), "{step}");
     }
-    written(alloc, &into)
+    written(rt, alloc, &into)
 }
 
-#[test]
-fn a_queue_serves_one_job_at_a_time(rt: HostRuntime) -> Result<(), Fail> {
-    let steps = [
-        ('a', Said::Entered(Entered::InProgress(0))),
-        ('b', Said::Entered(Entered::InProgress(1))),
-        ('!', Said::No),
-        ('!', Said::No),
-        ('?', Said::Yes),
-    ];
-    let told = play(&rt, rt.alloc(), &steps)?;
-    assert_eq!(rt; told.as_slice(), [(0, 'a'), (1, 'b')].as_slice());
-    Ok(())
-}
+const AT_ONCE: [(char, Said); 5] = [
+    ('a', Said::Entered(Entered::InProgress(0))),
+    ('b', Said::Entered(Entered::InProgress(1))),
+    ('!', Said::No),
+    ('!', Said::No),
+    ('?', Said::Yes),
+];
 
 #[test]
-fn a_held_queue_tells_of_its_backlog_before_its_completions(rt: HostRuntime) -> Result<(), Fail> {
-    let steps = [
-        ('h', Said::Yes),
-        ('a', Said::Entered(Entered::InProgress(0))),
-        ('b', Said::Entered(Entered::InProgress(1))),
-        ('C', Said::Entered(Entered::Busy(2))),
-        ('d', Said::Entered(Entered::NoSpace)),
-        ('1', Said::No),
-        ('?', Said::No),
-        ('g', Said::Yes),
-        ('1', Said::Yes),
-        ('.', Said::Told(2)),
-        ('.', Said::Told(2)),
-        ('1', Said::Yes),
-        ('h', Said::Yes),
-        ('1', Said::No),
-        ('g', Said::Yes),
-        ('1', Said::Yes),
-        ('1', Said::No),
-        ('?', Said::Yes),
-    ];
-    let told = play(&rt, rt.alloc(), &steps)?;
+fn a_queue_serves_one_job_at_a_time(rt: HostRuntime) {
+    let told = play(&rt, rt.alloc(), &AT_ONCE);
+    assert!(rt; told.as_slice() == [(0, 'a'), (1, 'b')].as_slice());
+}
+
+const HELD: [(char, Said); 18] = [
+    ('h', Said::Yes),
+    ('a', Said::Entered(Entered::InProgress(0))),
+    ('b', Said::Entered(Entered::InProgress(1))),
+    ('C', Said::Entered(Entered::Busy(2))),
+    ('d', Said::Entered(Entered::NoSpace)),
+    ('1', Said::No),
+    ('?', Said::No),
+    ('g', Said::Yes),
+    ('1', Said::Yes),
+    ('.', Said::Told(2)),
+    ('.', Said::Told(2)),
+    ('1', Said::Yes),
+    ('h', Said::Yes),
+    ('1', Said::No),
+    ('g', Said::Yes),
+    ('1', Said::Yes),
+    ('1', Said::No),
+    ('?', Said::Yes),
+];
+
+#[test]
+fn a_held_queue_tells_of_its_backlog_before_its_completions(rt: HostRuntime) {
+    let told = play(&rt, rt.alloc(), &HELD);
     let want = [(2, '-'), (0, 'a'), (1, 'b'), (2, 'C')];
-    assert_eq!(rt; told.as_slice(), want.as_slice());
-    Ok(())
+    assert!(rt; told.as_slice() == want.as_slice());
 }
 
 /// Requests of so many bytes to a queue, with and without leave to wait, are answered as the table says.
@@ -248,18 +265,16 @@ const OFFERED: [(u64, bool, Result<Entered, BoardErr>); 8] = [
 ];
 
 #[test]
-fn the_allowance_comes_before_the_verdict(rt: HostRuntime) -> Result<(), Fail> {
-    let mut board: BoardCore<Echo> = BoardCore::new(rt.alloc())?;
-    let queue = make(&mut board, 0, 1)?;
+fn the_allowance_comes_before_the_verdict(rt: HostRuntime) {
+    let mut board = new_board(&rt, rt.alloc());
+    let queue = open_queue(&rt, &mut board, 1);
     assert!(rt; are_limited(&mut board, queue, &OFFERED));
-    Ok(())
 }
 
 #[test]
-fn a_new_queue_is_closed(rt: HostRuntime) -> Result<(), Fail> {
-    let mut board: BoardCore<Echo> = BoardCore::new(rt.alloc())?;
-    let queue = board.born_queue(0, 2)?;
+fn a_new_queue_is_closed(rt: HostRuntime) {
+    let mut board = new_board(&rt, rt.alloc());
+    let queue = board.born_queue(0, 2).expect(&rt, "memory");
     board.close(0, queue);
-    assert_eq!(rt; board.finish_all().entries().len(), 2);
-    Ok(())
+    assert!(rt; board.finish_all().entries().len() == 2);
 }

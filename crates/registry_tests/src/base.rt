@@ -1,72 +1,107 @@
 //! Error numbers, bytes, callbacks, and streams that fail.
 
+ghost use Rattle.std.specs.Prelude.{◌<◌, length};
+
+use crate::given::bytes_of;
 use kc_base::{
     Bytes, Callback, Callbacks, Errno, InputError, MemSink, MemSource, ReadAnswer, RepeatSource,
     Sink, SinkError, Source, SureSink, SureSource, WriteAnswer, read_input, write_piece,
 };
-use std::alloc::{AllocError, Global};
+use std::alloc::Global;
 use std::process::Abort;
-use std::test::Fail;
 
-fn bytes_of(alloc: Global, text: &str) -> Result<Bytes, AllocError> {
-    Bytes::copy_of(alloc, text.as_bytes())
-}
+const ERRORS: [Errno; 13] = [
+    Errno::ENOENT,
+    Errno::E2BIG,
+    Errno::EAGAIN,
+    Errno::EBUSY,
+    Errno::EEXIST,
+    Errno::EINVAL,
+    Errno::ENFILE,
+    Errno::EMFILE,
+    Errno::ENOSPC,
+    Errno::ENAMETOOLONG,
+    Errno::EBADMSG,
+    Errno::EINPROGRESS,
+    Errno::ENOKEY,
+];
 
-#[test]
-fn errors_have_the_kernels_numbers(rt: HostRuntime) {
-    let table = [
-        (Errno::ENOENT, 2, "ENOENT"),
-        (Errno::E2BIG, 7, "E2BIG"),
-        (Errno::EAGAIN, 11, "EAGAIN"),
-        (Errno::EBUSY, 16, "EBUSY"),
-        (Errno::EEXIST, 17, "EEXIST"),
-        (Errno::EINVAL, 22, "EINVAL"),
-        (Errno::ENFILE, 23, "ENFILE"),
-        (Errno::EMFILE, 24, "EMFILE"),
-        (Errno::ENOSPC, 28, "ENOSPC"),
-        (Errno::ENAMETOOLONG, 36, "ENAMETOOLONG"),
-        (Errno::EBADMSG, 74, "EBADMSG"),
-        (Errno::EINPROGRESS, 115, "EINPROGRESS"),
-        (Errno::ENOKEY, 126, "ENOKEY"),
-    ];
-    for (errno, number, name) in table {
-        assert!(rt; errno.number() == number && errno.name() == name, "{name}");
+/// The kernel's number and name of each.
+const NUMBERS: &str = "\
+2 ENOENT
+7 E2BIG
+11 EAGAIN
+16 EBUSY
+17 EEXIST
+22 EINVAL
+23 ENFILE
+24 EMFILE
+28 ENOSPC
+36 ENAMETOOLONG
+74 EBADMSG
+115 EINPROGRESS
+126 ENOKEY
+";
+
+/// A row has the number and the name of an error.
+fn is_of(row: &str, error: Errno) -> bool {
+    match row.split_once(' ') {
+        Some((number, name)) => {
+            number.parse::<u32>() == Ok(error.number()) && name == error.name()
+        }
+        None => false,
     }
 }
 
 #[test]
-fn bytes_grow_at_the_end(rt: HostRuntime) -> Result<(), Fail> {
-    let mut bytes = Bytes::new(rt.alloc());
-    bytes.append(b"ab")?;
-    bytes.push(b'c')?;
-    let again = Bytes::from_vec(bytes.into_vec());
-    assert_eq!(rt; again.as_slice(), b"abc".as_slice());
-    Ok(())
+fn errors_have_the_kernels_numbers(rt: HostRuntime) {
+    assert!(rt; NUMBERS.lines().count() == ERRORS.len());
+    for (row, error) in NUMBERS.lines().zip(ERRORS) {
+        assert!(rt; is_of(row, error), "{row}");
+    }
 }
 
 #[test]
-fn callbacks_keep_their_order(rt: HostRuntime) -> Result<(), Fail> {
+fn bytes_grow_at_the_end(rt: HostRuntime) {
+    let mut bytes = Bytes::new(rt.alloc());
+    assert!(rt; bytes.append(b"ab").is_ok());
+    assert!(rt; bytes.push(b'c').is_ok());
+    let again = Bytes::from_vec(bytes.into_vec());
+    assert!(rt; again.as_slice() == b"abc".as_slice());
+}
+
+/// Whether these are the callbacks that the test below told.
+fn are_told(callbacks: &[Callback<char>]) -> bool {
+    matches!(callbacks, [Callback::Started(4), Callback::Done(2, 'x')])
+}
+
+#[test]
+fn callbacks_keep_their_order(rt: HostRuntime) {
     let mut callbacks = Callbacks::new(rt.alloc());
-    callbacks.reserve(2)?;
+    callbacks.reserve(2).expect(&rt, "memory");
     callbacks.push(Callback::Started(4));
     callbacks.push(Callback::Done(2, 'x'));
-    let is_right = matches!(
-        callbacks.as_slice(),
-        [Callback::Started(4), Callback::Done(2, 'x')]
-    );
-    assert!(rt; is_right);
-    Ok(())
+    assert!(rt; are_told(callbacks.as_slice()));
+}
+
+/// A call's number among those that fail.
+fn failing(rt: &impl Abort, alloc: Global, call: u64) -> Vec<u64> {
+    vec![in alloc; call].expect(rt, "memory")
 }
 
 /// A source of `abcd` by three bytes, of which the read of this number fails.
-fn failing_source(alloc: Global, read: u64) -> Result<MemSource, AllocError> {
-    let bytes = bytes_of(alloc, "abcd")?;
-    Ok(MemSource::new(bytes, 3, vec![in alloc; read]?))
+fn failing_source(rt: &impl Abort, alloc: Global, read: u64) -> MemSource {
+    MemSource::new(bytes_of(rt, alloc, b"abcd"), 3, failing(rt, alloc, read))
+}
+
+/// The next read answers so, and leaves this byte at the front.
+fn is_read<S: Source>(src: &mut S, buf: &mut [u8; 8], answer: ReadAnswer, first: u8) -> bool {
+    src.read(buf) == answer && buf[0] == first
 }
 
 #[test]
-fn a_failed_read_loses_nothing(rt: HostRuntime) -> Result<(), Fail> {
-    let mut src = failing_source(rt.alloc(), 1)?;
+fn a_failed_read_loses_nothing(rt: HostRuntime) {
+    let mut src = failing_source(&rt, rt.alloc(), 1);
     let mut buf = [0u8; 8];
     for (answer, first) in [
         (ReadAnswer::Got(3), b'a'),
@@ -74,79 +109,75 @@ fn a_failed_read_loses_nothing(rt: HostRuntime) -> Result<(), Fail> {
         (ReadAnswer::Got(1), b'd'),
         (ReadAnswer::Ended, b'd'),
     ] {
-        let found = src.read(&mut buf);
-        assert!(rt; found == answer && buf[0] == first);
+        assert!(rt; is_read(&mut src, &mut buf, answer, first));
     }
-    Ok(())
 }
 
 /// A sink that takes two bytes, of which the write of this number fails.
-fn failing_sink(alloc: Global, write: u64) -> Result<MemSink, AllocError> {
-    Ok(MemSink::new(alloc, 2, vec![in alloc; write]?))
+fn failing_sink(rt: &impl Abort, alloc: Global, write: u64) -> MemSink {
+    MemSink::new(alloc, 2, failing(rt, alloc, write))
+}
+
+/// The next write answers so, and the sink holds this then.
+fn is_written(out: &mut MemSink, piece: &[u8], answer: WriteAnswer, held: &[u8]) -> bool
+    requires { 0 < length piece.now }
+{
+    out.write(piece) == answer && out.bytes() == held
 }
 
 #[test]
-fn a_failed_write_appends_nothing(rt: HostRuntime) -> Result<(), Fail> {
-    let mut out = failing_sink(rt.alloc(), 1)?;
-    let table: [(&[u8], WriteAnswer, &[u8]); 3] = [
-        (b"abc", WriteAnswer::Took(2), b"ab"),
-        (b"c", WriteAnswer::Failed, b"ab"),
-        (b"c", WriteAnswer::Took(1), b"abc"),
-    ];
-    for (piece, answer, held) in table {
-        let found = out.write(piece);
-        assert!(rt; found == answer && out.bytes() == held);
-    }
-    Ok(())
+fn a_failed_write_appends_nothing(rt: HostRuntime) {
+    let mut out = failing_sink(&rt, rt.alloc(), 1);
+    assert!(rt; is_written(&mut out, b"abc", WriteAnswer::Took(2), b"ab"));
+    assert!(rt; is_written(&mut out, b"c", WriteAnswer::Failed, b"ab"));
+    assert!(rt; is_written(&mut out, b"c", WriteAnswer::Took(1), b"abc"));
+}
+
+/// A piece that is offered to a sink of which this write fails comes to this.
+fn is_offered(
+    rt: &impl Abort,
+    alloc: Global,
+    write: u64,
+    answer: Result<(), SinkError>,
+    held: &[u8],
+) {
+    let mut out = failing_sink(rt, alloc, write);
+    assert!(rt; write_piece(&mut out, b"abcde") == answer);
+    assert!(rt; out.bytes() == held);
 }
 
 #[test]
-fn a_piece_is_offered_until_it_is_taken(rt: HostRuntime) -> Result<(), Fail> {
-    let table: [(u64, Result<(), SinkError>, &[u8]); 2] = [
-        (9, Ok(()), b"abcde"),
-        (1, Err(SinkError::Failed), b"ab"),
-    ];
-    for (write, answer, held) in table {
-        let mut out = failing_sink(rt.alloc(), write)?;
-        let found = write_piece(&mut out, b"abcde");
-        assert!(rt; found == answer && out.bytes() == held);
-    }
-    Ok(())
+fn a_piece_is_offered_until_it_is_taken(rt: HostRuntime) {
+    is_offered(&rt, rt.alloc(), 9, Ok(()), b"abcde");
+    is_offered(&rt, rt.alloc(), 1, Err(SinkError::Failed), b"ab");
 }
 
 #[test]
 fn a_sure_sink_takes_a_piece(rt: HostRuntime) {
     let mut out = SureSink::new(rt.alloc());
-    let found = write_piece(&mut out, b"abcde");
-    assert!(rt; found == Ok(()) && out.bytes() == b"abcde".as_slice());
+    assert!(rt; write_piece(&mut out, b"abcde").is_ok());
+    assert!(rt; out.bytes() == b"abcde".as_slice());
 }
 
 /// An input of at most four bytes comes to this.
-fn expect_input<S: Source>(
-    rt: &impl Abort,
-    alloc: Global,
-    src: &mut S,
-    want: Result<&[u8], InputError>,
-) {
+fn comes_to<S: Source>(alloc: Global, src: &mut S, want: Result<&[u8], InputError>) -> bool {
     let mut buf = [0u8; 3];
     match read_input(alloc, src, &mut buf, 4) {
-        Ok(input) => assert!(rt; want == Ok(input.as_slice())),
-        Err(error) => assert!(rt; want == Err(error)),
+        Ok(input) => want == Ok(input.as_slice()),
+        Err(error) => want == Err(error),
     }
 }
 
 #[test]
-fn an_input_is_read_up_to_a_limit(rt: HostRuntime) -> Result<(), Fail> {
-    let mut src = SureSource::new(bytes_of(rt.alloc(), "abcd")?);
-    expect_input(&rt, rt.alloc(), &mut src, Ok(b"abcd"));
+fn an_input_is_read_up_to_a_limit(rt: HostRuntime) {
+    let mut src = SureSource::new(bytes_of(&rt, rt.alloc(), b"abcd"));
+    assert!(rt; comes_to(rt.alloc(), &mut src, Ok(b"abcd")));
     let mut src = RepeatSource::new(b'x', 5);
-    expect_input(&rt, rt.alloc(), &mut src, Err(InputError::TooLong));
-    Ok(())
+    assert!(rt; comes_to(rt.alloc(), &mut src, Err(InputError::TooLong)));
 }
 
 #[test]
-fn an_input_whose_read_fails_is_none(rt: HostRuntime) -> Result<(), Fail> {
-    let mut src = failing_source(rt.alloc(), 1)?;
-    expect_input(&rt, rt.alloc(), &mut src, Err(InputError::Failed));
-    Ok(())
+fn an_input_whose_read_fails_is_none(rt: HostRuntime) {
+    let mut src = failing_source(&rt, rt.alloc(), 1);
+    assert!(rt; comes_to(rt.alloc(), &mut src, Err(InputError::Failed)));
 }

@@ -8,6 +8,8 @@ mod base;
 #[cfg(test)]
 mod building;
 #[cfg(test)]
+mod given;
+#[cfg(test)]
 mod names;
 #[cfg(test)]
 mod registry;

@@ -1,196 +1,255 @@
 //! A registry, as its callers see it.
 
-ghost use Rattle.std.specs.Prelude.{◌≡◌, [], IfOk};
+ghost use Rattle.std.specs.Prelude.{◌≡◌, []};
 ghost use Rattle.alg_registry.specs.declared.spec.Wrap.TheVariants.{Plain};
 
-use alg_registry::{Ended, Ids, Kind, Looked, RefAnswer, RegErr, Registry, Spec, Wrap};
-use kc_base::{Bytes, Errno};
-use std::alloc::{AllocError, Global};
-use std::test::Fail;
+use crate::given::{bytes_of, new_registry, number_in, words_of};
+use alg_registry::{Ended, Ids, Kind, Looked, RegErr, Registry, Spec, Wrap};
+use kc_base::Bytes;
+use std::alloc::Global;
+use std::process::Abort;
 
-fn cipher(alloc: Global, name: &[u8], driver: &[u8], priority: u32) -> Result<Spec, AllocError>
-    ensures alone { IfOk result (λ spec. spec.below ≡ []) }
-    ensures plain { IfOk result (λ spec. spec.wrap ≡ Plain) }
+/// A driver of AES, or of another name.
+fn cipher(alloc: Global, name: Bytes, driver: Bytes, priority: u32) -> Spec
+    ensures alone { result.below ≡ [] }
+    ensures plain { result.wrap ≡ Plain }
 {
-    Ok(Spec {
-        name: Bytes::copy_of(alloc, name)?,
-        driver: Bytes::copy_of(alloc, driver)?,
+    Spec {
+        name,
+        driver,
         kind: Kind::Cipher,
         wrap: Wrap::Plain,
         priority,
         below: Ids::new(alloc),
-    })
+    }
 }
 
 /// `cbc(aes-generic)` over the entry 0.
-fn cbc(alloc: Global) -> Result<Spec, AllocError> {
-    Ok(Spec {
-        name: Bytes::copy_of(alloc, b"cbc(aes)")?,
-        driver: Bytes::copy_of(alloc, b"cbc(aes-generic)")?,
+fn cbc(rt: &impl Abort, alloc: Global) -> Spec {
+    Spec {
+        name: bytes_of(rt, alloc, b"cbc(aes)"),
+        driver: bytes_of(rt, alloc, b"cbc(aes-generic)"),
         kind: Kind::Skcipher,
         wrap: Wrap::Plain,
         priority: 100,
-        below: Ids::copy_of(alloc, &[0])?,
-    })
+        below: Ids::copy_of(alloc, &[0]).expect(rt, "memory"),
+    }
+}
+
+/// What comes of a call: a word, and a number that goes with it, or else 0.
+#[derive(Clone, Copy, PartialEq, Eq)]
+struct Said(&'static str, u64);
+
+fn refused(rt: &impl Abort, error: RegErr) -> Said {
+    match error {
+        RegErr::Exist => Said("EEXIST", 0),
+        RegErr::NFile => Said("ENFILE", 0),
+        RegErr::NoEnt => Said("ENOENT", 0),
+        RegErr::Again => Said("EAGAIN", 0),
+        RegErr::Memory => panic!(rt; "memory"),
+    }
+}
+
+/// Another driver is enlisted.
+fn enlist(
+    rt: &impl Abort,
+    registry: &mut Registry,
+    alloc: Global,
+    (name, driver): (&str, &[u8]),
+    priority: u32,
+) -> Said {
+    let name = bytes_of(rt, alloc, name.as_bytes());
+    let driver = bytes_of(rt, alloc, driver);
+    match registry.enlist(0, cipher(alloc, name, driver, priority)) {
+        Ok(id) => Said("made", id),
+        Err(error) => refused(rt, error),
+    }
+}
+
+fn look(rt: &impl Abort, registry: &mut Registry, text: &str) -> Looked {
+    registry
+        .look(0, text.as_bytes(), false)
+        .expect(rt, "memory")
+}
+
+fn said_of_look(looked: Looked) -> Said {
+    match looked {
+        Looked::Found(id) => Said("found", id),
+        Looked::Pending(larval) => Said("pending", larval),
+        Looked::Began(larval) => Said("began", larval),
+        Looked::Absent => Said("absent", 0),
+    }
+}
+
+/// The larval that waits longest is built as `cbc(aes-generic)`.
+fn build_next(rt: &impl Abort, registry: &mut Registry, alloc: Global) -> Ended {
+    let spec = cbc(rt, alloc);
+    match registry.claim(0, None).expect(rt, "memory") {
+        Some(claimed) => registry.end(0, claimed.larval, Ok(spec)),
+        None => panic!(rt; "no larval"),
+    }
+}
+
+fn said_of_end(rt: &impl Abort, ended: Ended) -> Said {
+    match ended {
+        Ended::Built(id) => Said("built", id),
+        Ended::Joined(id) => Said("joined", id),
+        Ended::Failed(errno) => Said(errno.name(), 0),
+        Ended::NoMemory => panic!(rt; "memory"),
+    }
 }
 
 /// Looks the text up, and builds `cbc(aes-generic)` where a larval of it began.
-fn build(registry: &mut Registry, alloc: Global, text: &[u8]) -> Result<Ended, RegErr> {
-    if let Looked::Found(id) = registry.look(0, text, false)? {
-        return Ok(Ended::Joined(id));
-    }
-    let spec = cbc(alloc)?;
-    match registry.claim(0, None)? {
-        Some(claimed) => Ok(registry.end(0, claimed.larval, Ok(spec))),
-        None => Err(RegErr::NoEnt),
+fn build(rt: &impl Abort, registry: &mut Registry, alloc: Global, text: &str) -> Said {
+    match look(rt, registry, text) {
+        Looked::Found(id) => Said("joined", id),
+        _ => said_of_end(rt, build_next(rt, registry, alloc)),
     }
 }
 
-/// A call of caller 0.
-#[derive(Clone, Copy)]
-enum Call {
-    /// Of a further driver of the name.
-    Enlist(&'static str, &'static str, u32),
-    Look(&'static str),
-    /// A look, and the build of `cbc(aes-generic)` where a larval began.
-    Build(&'static str),
-    Get(u64),
-    Unlist(&'static str),
-    Refs(&'static str),
+fn get(rt: &impl Abort, registry: &mut Registry, id: u64) -> Said {
+    match registry.take_ref(0, id) {
+        Ok(()) => Said("ok", 0),
+        Err(error) => refused(rt, error),
+    }
 }
 
-#[derive(Clone, Copy, PartialEq, Eq)]
-enum Answer {
-    Made(u64),
-    Looked(Looked),
-    Ended(Ended),
-    Refs(RefAnswer),
-    Done,
-    Refused(RegErr),
+fn unlist(rt: &impl Abort, registry: &mut Registry, driver: &str) -> Said {
+    match registry.unlist(0, driver.as_bytes()) {
+        Ok(()) => Said("ok", 0),
+        Err(error) => refused(rt, error),
+    }
 }
 
-fn answer_or_err(registry: &mut Registry, alloc: Global, call: Call) -> Result<Answer, RegErr> {
+fn refs(rt: &impl Abort, registry: &mut Registry, driver: &str) -> Said {
+    match registry.refs(0, driver.as_bytes()) {
+        Ok(refs) if refs.listed => Said("listed", refs.count),
+        Ok(refs) => Said("unlisted", refs.count),
+        Err(error) => refused(rt, error),
+    }
+}
+
+/// A further driver of AES is enlisted, by its name and its priority.
+fn enlist_aes(rt: &impl Abort, registry: &mut Registry, alloc: Global, text: &str) -> Said {
+    let (driver, priority) = text.split_once(' ').expect(rt, "a driver and a priority");
+    let priority = number_in(rt, priority);
+    enlist(rt, registry, alloc, ("aes", driver.as_bytes()), priority)
+}
+
+/// What comes of a call of caller 0.
+fn come_of(
+    rt: &impl Abort,
+    registry: &mut Registry,
+    alloc: Global,
+    call: &str,
+    text: &str,
+) -> Said {
     match call {
-        Call::Enlist(name, driver, priority) => {
-            let spec = cipher(alloc, name.as_bytes(), driver.as_bytes(), priority)?;
-            Ok(Answer::Made(registry.enlist(0, spec)?))
-        }
-        Call::Look(text) => Ok(Answer::Looked(registry.look(0, text.as_bytes(), false)?)),
-        Call::Build(text) => Ok(Answer::Ended(build(registry, alloc, text.as_bytes())?)),
-        Call::Get(id) => {
-            registry.take_ref(0, id)?;
-            Ok(Answer::Done)
-        }
-        Call::Unlist(driver) => {
-            registry.unlist(0, driver.as_bytes())?;
-            Ok(Answer::Done)
-        }
-        Call::Refs(driver) => Ok(Answer::Refs(registry.refs(0, driver.as_bytes())?)),
+        "enlist" => enlist_aes(rt, registry, alloc, text),
+        "look" => said_of_look(look(rt, registry, text)),
+        "build" => build(rt, registry, alloc, text),
+        "get" => get(rt, registry, u64::from(number_in(rt, text))),
+        "unlist" => unlist(rt, registry, text),
+        "refs" => refs(rt, registry, text),
+        _ => panic!(rt; "{call}"),
     }
 }
 
-fn answered(registry: &mut Registry, alloc: Global, call: Call) -> Answer {
-    match answer_or_err(registry, alloc, call) {
-        Ok(answer) => answer,
-        Err(error) => Answer::Refused(error),
-    }
-}
+/// In a row stand a call, what it is about, and what comes of it. Another text of the same name begins a larval of its own, which comes
+/// to the same instance. An instance over what is unlisted isn't found any more, and no other is built over it. Of equal
+/// priorities the newest is found.
+const CALLS: &str = "\
+build|cbc(aes)|built|3
+build|cbc( aes)|joined|3
+look|cbc( aes)|found|3
+get|3|ok|0
+unlist|aes-generic|ok|0
+refs|aes-generic|unlisted|1
+get|3|EAGAIN|0
+build|cbc(aes)|EAGAIN|0
+unlist|aes-generic|ENOENT|0
+enlist|lanes 200|made|4
+look|aes|found|4
+enlist|table 200|made|5
+look|aes|found|5
+enlist|slow 50|made|6
+look|aes|found|5
+look|slow|found|6
+enlist|slow 50|EEXIST|0
+look|des|absent|0
+";
 
-const CALLS: [(Call, Answer); 18] = [
-    (Call::Build("cbc(aes)"), Answer::Ended(Ended::Built(3))),
-    // another text of the same name begins a larval of its own, which comes to the same instance
-    (Call::Build("cbc( aes)"), Answer::Ended(Ended::Joined(3))),
-    (Call::Look("cbc( aes)"), Answer::Looked(Looked::Found(3))),
-    (Call::Get(3), Answer::Done),
-    (Call::Unlist("aes-generic"), Answer::Done),
-    (
-        Call::Refs("aes-generic"),
-        Answer::Refs(RefAnswer {
-            count: 1,
-            listed: false,
-        }),
-    ),
-    // an instance over what is unlisted isn't found any more, and no other is built over it
-    (Call::Get(3), Answer::Refused(RegErr::Again)),
-    (
-        Call::Build("cbc(aes)"),
-        Answer::Ended(Ended::Failed(Errno::EAGAIN)),
-    ),
-    (Call::Unlist("aes-generic"), Answer::Refused(RegErr::NoEnt)),
-    // of equal priorities the newest
-    (Call::Enlist("aes", "lanes", 200), Answer::Made(4)),
-    (Call::Look("aes"), Answer::Looked(Looked::Found(4))),
-    (Call::Enlist("aes", "table", 200), Answer::Made(5)),
-    (Call::Look("aes"), Answer::Looked(Looked::Found(5))),
-    (Call::Enlist("aes", "slow", 50), Answer::Made(6)),
-    (Call::Look("aes"), Answer::Looked(Looked::Found(5))),
-    (Call::Look("slow"), Answer::Looked(Looked::Found(6))),
-    (
-        Call::Enlist("aes", "slow", 50),
-        Answer::Refused(RegErr::Exist),
-    ),
-    (Call::Look("des"), Answer::Looked(Looked::Absent)),
-];
+/// A row holds in its turn.
+fn row_holds(rt: &impl Abort, registry: &mut Registry, alloc: Global, row: &'static str) {
+    let words = words_of(rt, alloc, row, '|');
+    let [call, text, word, number] = words.as_slice() else {
+        panic!(rt; "{row}")
+    };
+    let Said(found, of) = come_of(rt, registry, alloc, call, text);
+    assert!(rt;
+        found == *word && of == u64::from(number_in(rt, number)),
+        "{row}"
+    );
+}
 
 #[test]
-fn calls_are_answered_in_turn(rt: HostRuntime) -> Result<(), Fail> {
-    let mut registry = Registry::new(rt.alloc())?;
-    for (call, want) in &CALLS {
-        assert!(rt; answered(&mut registry, rt.alloc(), *call) == *want);
+fn calls_are_answered_in_turn(rt: HostRuntime) {
+    let mut registry = new_registry(&rt, rt.alloc());
+    for row in CALLS.lines() {
+        row_holds(&rt, &mut registry, rt.alloc(), row);
     }
-    Ok(())
 }
 
-/// A registry that holds as many entries as it may.
-fn full_registry(alloc: Global) -> Result<Registry, RegErr> {
-    let mut registry = Registry::new(alloc)?;
+/// An entry under this driver comes to this.
+fn is_answered(rt: &impl Abort, registry: &mut Registry, alloc: Global, driver: &[u8], want: Said) {
+    assert!(rt; enlist(rt, registry, alloc, ("x", driver), 1) == want);
+}
+
+#[test]
+fn entries_are_held_up_to_4096(rt: HostRuntime) {
+    let mut registry = new_registry(&rt, rt.alloc());
     for number in 3..4096u64 {
-        let spec = cipher(alloc, b"x", &number.to_be_bytes(), 1)?;
-        registry.enlist(0, spec)?;
+        let want = Said("made", number);
+        is_answered(&rt, &mut registry, rt.alloc(), &number.to_be_bytes(), want);
     }
-    Ok(registry)
+    is_answered(&rt, &mut registry, rt.alloc(), b"more", Said("ENFILE", 0));
+    is_answered(
+        &rt,
+        &mut registry,
+        rt.alloc(),
+        b"aes-generic",
+        Said("EEXIST", 0),
+    );
 }
 
 #[test]
-fn entries_are_held_up_to_4096(rt: HostRuntime) -> Result<(), Fail> {
-    let mut registry = full_registry(rt.alloc())?;
-    for (driver, error) in [("more", RegErr::NFile), ("aes-generic", RegErr::Exist)] {
-        let found = answered(&mut registry, rt.alloc(), Call::Enlist("x", driver, 1));
-        assert!(rt; found == Answer::Refused(error));
-    }
-    Ok(())
+fn entries_are_listed(rt: HostRuntime) {
+    let mut registry = new_registry(&rt, rt.alloc());
+    let listing = registry.list(0).expect(&rt, "memory");
+    assert!(rt; listing.rows().len() == 3);
 }
 
 #[test]
-fn entries_are_listed(rt: HostRuntime) -> Result<(), Fail> {
-    let mut registry = Registry::new(rt.alloc())?;
-    let listing = registry.list(0)?;
-    assert_eq!(rt; listing.rows().len(), 3);
-    Ok(())
+fn an_entry_has_its_spec(rt: HostRuntime) {
+    let registry = new_registry(&rt, rt.alloc());
+    assert!(rt; registry.spec(2).is_some());
+    assert!(rt; registry.origin(2).expect(&rt, "memory").is_some());
 }
 
 #[test]
-fn an_entry_has_its_spec(rt: HostRuntime) -> Result<(), Fail> {
-    let registry = Registry::new(rt.alloc())?;
-    assert!(rt; registry.spec(2).is_some() && registry.origin(2)?.is_some());
-    Ok(())
+fn a_larval_that_is_claimed_has_not_ended(rt: HostRuntime) {
+    let mut registry = new_registry(&rt, rt.alloc());
+    registry.look(0, b"cbc(aes)", false).expect(&rt, "memory");
+    let claimed = registry.claim(1, Some(0)).expect(&rt, "memory");
+    let ended = registry.waited(0, 0).expect(&rt, "memory");
+    assert!(rt; claimed.is_some() && ended.is_none());
+    assert!(rt; registry.history().entries().len() == 2);
 }
 
 #[test]
-fn a_larval_that_is_claimed_has_not_ended(rt: HostRuntime) -> Result<(), Fail> {
-    let mut registry = Registry::new(rt.alloc())?;
-    registry.look(0, b"cbc(aes)", false)?;
-    assert!(rt; registry.claim(1, Some(0))?.is_some());
-    assert!(rt; registry.waited(0, 0)?.is_none());
-    assert_eq!(rt; registry.into_history().entries().len(), 2);
-    Ok(())
-}
-
-#[test]
-fn a_reference_is_given_back(rt: HostRuntime) -> Result<(), Fail> {
-    let mut registry = Registry::new(rt.alloc())?;
-    registry.take_ref(0, 0)?;
+fn a_reference_is_given_back(rt: HostRuntime) {
+    let mut registry = new_registry(&rt, rt.alloc());
+    registry.take_ref(0, 0).expect(&rt, "an entry");
     registry.put_ref(0, 0);
-    assert_eq!(rt; registry.history().entries().len(), 2);
-    Ok(())
+    assert!(rt; registry.history().entries().len() == 2);
 }

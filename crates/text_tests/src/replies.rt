@@ -2,106 +2,129 @@
 
 use kc_base::{Bytes, Errno};
 use reply_text::{Answer, Reply};
-use std::alloc::{AllocError, Global};
-use std::test::Fail;
+use std::alloc::Global;
+use std::process::Abort;
 
-/// The text of an answer after another one's.
-fn put_after(alloc: Global, answer: &Answer) -> Result<Reply, AllocError> {
+fn put(rt: &impl Abort, reply: &mut Reply, answer: &Answer) {
+    reply.put(answer).expect(rt, "memory");
+}
+
+/// After another answer's text an answer has this line.
+fn is_put(rt: &impl Abort, alloc: Global, answer: &Answer, line: &str) {
     let mut reply = Reply::new(alloc);
-    reply.put(&Answer::Ok { line: 6 })?;
-    reply.put(answer)?;
-    Ok(reply)
+    put(rt, &mut reply, &Answer::Ok { line: 6 });
+    put(rt, &mut reply, answer);
+    let text = format!(in alloc; "6 ok\n{line}\n").expect(rt, "memory");
+    assert!(rt; reply.as_slice() == text.as_bytes(), "{line}");
+}
+
+/// The lines of the answers below.
+const PLAIN: &str = "\
+1 ok
+4294967295 ENAMETOOLONG
+20 malformed
+3 listed 0
+5 refs 2 listed
+5 refs 0 unlisted
+4294967295 started
+4 polled 0
+6 drained 3
+1 drained 18446744073709551615
+";
+
+fn refs_of(count: u64, listed: bool) -> Answer {
+    Answer::Refs {
+        line: 5,
+        count,
+        listed,
+    }
+}
+
+/// An answer without bytes, by its place among those lines.
+fn plain_answer(place: usize) -> Answer {
+    match place {
+        0 => Answer::Ok { line: 1 },
+        1 => Answer::Refused {
+            line: u32::MAX,
+            errno: Errno::ENAMETOOLONG,
+        },
+        2 => Answer::Malformed { line: 20 },
+        3 => Answer::Listed { line: 3, count: 0 },
+        4 => refs_of(2, true),
+        5 => refs_of(0, false),
+        6 => Answer::Started { line: u32::MAX },
+        7 => Answer::Polled { line: 4, count: 0 },
+        8 => Answer::Drained { line: 6, count: 3 },
+        _ => Answer::Drained {
+            line: 1,
+            count: u64::MAX,
+        },
+    }
 }
 
 #[test]
-fn answers_without_bytes_have_their_text(rt: HostRuntime) -> Result<(), Fail> {
-    let errno = Errno::ENAMETOOLONG;
-    let most = u64::MAX;
-    let table: [(Answer, &[u8]); 10] = [
-        (Answer::Ok { line: 1 }, b"6 ok\n1 ok\n"),
-        (
-            Answer::Refused {
-                line: u32::MAX,
-                errno,
-            },
-            b"6 ok\n4294967295 ENAMETOOLONG\n",
-        ),
-        (Answer::Malformed { line: 20 }, b"6 ok\n20 malformed\n"),
-        (Answer::Listed { line: 3, count: 0 }, b"6 ok\n3 listed 0\n"),
-        (
-            Answer::Refs {
-                line: 5,
-                count: 2,
-                listed: true,
-            },
-            b"6 ok\n5 refs 2 listed\n",
-        ),
-        (
-            Answer::Refs {
-                line: 5,
-                count: 0,
-                listed: false,
-            },
-            b"6 ok\n5 refs 0 unlisted\n",
-        ),
-        (
-            Answer::Started { line: u32::MAX },
-            b"6 ok\n4294967295 started\n",
-        ),
-        (Answer::Polled { line: 4, count: 0 }, b"6 ok\n4 polled 0\n"),
-        (
-            Answer::Drained { line: 6, count: 3 },
-            b"6 ok\n6 drained 3\n",
-        ),
-        (
-            Answer::Drained {
-                line: 1,
-                count: most,
-            },
-            b"6 ok\n1 drained 18446744073709551615\n",
-        ),
-    ];
-    for (answer, want) in &table {
-        let reply = put_after(rt.alloc(), answer)?;
-        assert!(rt; reply.as_slice() == *want);
+fn answers_without_bytes_have_their_text(rt: HostRuntime) {
+    for (place, line) in PLAIN.lines().enumerate() {
+        is_put(&rt, rt.alloc(), &plain_answer(place), line);
     }
-    Ok(())
+}
+
+const ERRORS: [Errno; 13] = [
+    Errno::ENOENT,
+    Errno::E2BIG,
+    Errno::EAGAIN,
+    Errno::EBUSY,
+    Errno::EEXIST,
+    Errno::EINVAL,
+    Errno::ENFILE,
+    Errno::EMFILE,
+    Errno::ENOSPC,
+    Errno::ENAMETOOLONG,
+    Errno::EBADMSG,
+    Errno::EINPROGRESS,
+    Errno::ENOKEY,
+];
+
+/// The line of a request that failed by each of them.
+const FAILED: &str = "\
+3 fail ENOENT
+3 fail E2BIG
+3 fail EAGAIN
+3 fail EBUSY
+3 fail EEXIST
+3 fail EINVAL
+3 fail ENFILE
+3 fail EMFILE
+3 fail ENOSPC
+3 fail ENAMETOOLONG
+3 fail EBADMSG
+3 fail EINPROGRESS
+3 fail ENOKEY
+";
+
+fn failed(errno: Errno) -> Answer {
+    Answer::Failed { line: 3, errno }
 }
 
 #[test]
-fn a_failed_request_has_its_error_number(rt: HostRuntime) -> Result<(), Fail> {
-    let table: [(Errno, &[u8]); 13] = [
-        (Errno::ENOENT, b"6 ok\n3 fail ENOENT\n"),
-        (Errno::E2BIG, b"6 ok\n3 fail E2BIG\n"),
-        (Errno::EAGAIN, b"6 ok\n3 fail EAGAIN\n"),
-        (Errno::EBUSY, b"6 ok\n3 fail EBUSY\n"),
-        (Errno::EEXIST, b"6 ok\n3 fail EEXIST\n"),
-        (Errno::EINVAL, b"6 ok\n3 fail EINVAL\n"),
-        (Errno::ENFILE, b"6 ok\n3 fail ENFILE\n"),
-        (Errno::EMFILE, b"6 ok\n3 fail EMFILE\n"),
-        (Errno::ENOSPC, b"6 ok\n3 fail ENOSPC\n"),
-        (Errno::ENAMETOOLONG, b"6 ok\n3 fail ENAMETOOLONG\n"),
-        (Errno::EBADMSG, b"6 ok\n3 fail EBADMSG\n"),
-        (Errno::EINPROGRESS, b"6 ok\n3 fail EINPROGRESS\n"),
-        (Errno::ENOKEY, b"6 ok\n3 fail ENOKEY\n"),
-    ];
-    for (errno, want) in table {
-        let reply = put_after(rt.alloc(), &Answer::Failed { line: 3, errno })?;
-        assert!(rt; reply.as_slice() == want);
+fn a_failed_request_has_its_error_number(rt: HostRuntime) {
+    assert!(rt; FAILED.lines().count() == ERRORS.len());
+    for (line, errno) in FAILED.lines().zip(ERRORS) {
+        is_put(&rt, rt.alloc(), &failed(errno), line);
     }
-    Ok(())
 }
 
-/// An answer with bytes or with names, by its word.
-fn answer_of(alloc: Global, word: &str, first: &[u8], second: &[u8]) -> Result<Answer, AllocError> {
+fn bytes_of(rt: &impl Abort, alloc: Global, text: &[u8]) -> Bytes {
+    Bytes::copy_of(alloc, text).expect(rt, "memory")
+}
+
+/// An answer with bytes or a name, by its word.
+fn answer_of(rt: &impl Abort, word: &str, name: Bytes) -> Answer {
     let line = 12;
-    let name = Bytes::copy_of(alloc, first)?;
-    let driver = Bytes::copy_of(alloc, second)?;
-    Ok(match word {
+    match word {
         "value" => Answer::Value { line, bytes: name },
         "done" => Answer::Done { line, bytes: name },
         "made" => Answer::Made { line, driver: name },
-        "probed" => Answer::Probed { line, name, driver },
         "unprobed" => Answer::Unprobed {
             line,
             name,
@@ -111,54 +134,76 @@ fn answer_of(alloc: Global, word: &str, first: &[u8], second: &[u8]) -> Result<A
             label: name,
             count: 67,
         },
-        _ => Answer::Alg {
-            line,
-            name,
-            driver,
-            priority: 100,
-            refs: u64::MAX,
-        },
-    })
+        _ => panic!(rt; "{word}"),
+    }
+}
+
+/// The answer has this line.
+fn has_line(rt: &impl Abort, alloc: Global, word: &str, bytes: &[u8], line: &str) {
+    let answer = answer_of(rt, word, bytes_of(rt, alloc, bytes));
+    is_put(rt, alloc, &answer, line);
 }
 
 #[test]
-fn answers_with_bytes_have_their_text(rt: HostRuntime) -> Result<(), Fail> {
-    let table: [(&str, &[u8], &[u8], &[u8]); 10] = [
-        ("value", b"\x00\xaf\xFE", b"", b"6 ok\n12 ok 00affe\n"),
-        ("value", b"", b"", b"6 ok\n12 ok -\n"),
-        ("done", b"\x00\xaf\xFE", b"", b"6 ok\n12 done 00affe\n"),
-        ("done", b"", b"", b"6 ok\n12 done -\n"),
-        (
-            "made",
-            b"cbc(aes-generic)",
-            b"",
-            b"6 ok\n12 ok cbc(aes-generic)\n",
-        ),
-        (
-            "probed",
-            b"cbc(aes)",
-            b"cbc(aes-generic)",
-            b"6 ok\n12 probed cbc(aes) cbc(aes-generic)\n",
-        ),
-        ("unprobed", b"des", b"", b"6 ok\n12 unprobed des ENOENT\n"),
-        ("end", b"T-0_z", b"", b"6 ok\nend T-0_z 67\n"),
-        (
-            "alg",
-            b"cbc(aes)",
-            b"cbc(aes-generic)",
-            b"6 ok\n12 alg cbc(aes) cbc(aes-generic) 100 18446744073709551615\n",
-        ),
-        (
-            "alg",
-            b"a",
-            b"b",
-            b"6 ok\n12 alg a b 100 18446744073709551615\n",
-        ),
-    ];
-    for (word, first, second, want) in table {
-        let answer = answer_of(rt.alloc(), word, first, second)?;
-        let reply = put_after(rt.alloc(), &answer)?;
-        assert!(rt; reply.as_slice() == want, "{word}");
-    }
-    Ok(())
+fn answers_with_bytes_have_their_text(rt: HostRuntime) {
+    has_line(&rt, rt.alloc(), "value", b"\x00\xaf\xFE", "12 ok 00affe");
+    has_line(&rt, rt.alloc(), "value", b"", "12 ok -");
+    has_line(&rt, rt.alloc(), "done", b"\x00\xaf\xFE", "12 done 00affe");
+    has_line(&rt, rt.alloc(), "done", b"", "12 done -");
+    has_line(
+        &rt,
+        rt.alloc(),
+        "made",
+        b"cbc(aes-generic)",
+        "12 ok cbc(aes-generic)",
+    );
+    has_line(
+        &rt,
+        rt.alloc(),
+        "unprobed",
+        b"des",
+        "12 unprobed des ENOENT",
+    );
+    has_line(&rt, rt.alloc(), "end", b"T-0_z", "end T-0_z 67");
+}
+
+/// An answer of a name that came to a driver has this line.
+fn is_probed(rt: &impl Abort, alloc: Global, line: &str) {
+    let answer = Answer::Probed {
+        line: 12,
+        name: bytes_of(rt, alloc, b"cbc(aes)"),
+        driver: bytes_of(rt, alloc, b"cbc(aes-generic)"),
+    };
+    is_put(rt, alloc, &answer, line);
+}
+
+/// An entry of a list has this line.
+fn is_listed(rt: &impl Abort, alloc: Global, name: &[u8], driver: &[u8], line: &str) {
+    let answer = Answer::Alg {
+        line: 12,
+        name: bytes_of(rt, alloc, name),
+        driver: bytes_of(rt, alloc, driver),
+        priority: 100,
+        refs: u64::MAX,
+    };
+    is_put(rt, alloc, &answer, line);
+}
+
+#[test]
+fn answers_with_names_have_their_text(rt: HostRuntime) {
+    is_probed(&rt, rt.alloc(), "12 probed cbc(aes) cbc(aes-generic)");
+    is_listed(
+        &rt,
+        rt.alloc(),
+        b"cbc(aes)",
+        b"cbc(aes-generic)",
+        "12 alg cbc(aes) cbc(aes-generic) 100 18446744073709551615",
+    );
+    is_listed(
+        &rt,
+        rt.alloc(),
+        b"a",
+        b"b",
+        "12 alg a b 100 18446744073709551615",
+    );
 }

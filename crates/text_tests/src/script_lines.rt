@@ -4,8 +4,8 @@ ghost use Rattle.std.specs.Prelude.{◌<◌};
 
 use kc_base::{Bytes, MemSource};
 use script_text::{Command, Line, LineCutter, LineReader, read_line};
-use std::alloc::{AllocError, Global};
-use std::test::Fail;
+use std::alloc::Global;
+use std::process::Abort;
 
 // What a line says, in a form that a table can hold.
 #[derive(Clone, Copy, Debug, PartialEq, Eq)]
@@ -26,50 +26,55 @@ fn seen(line: &Line) -> Said {
     }
 }
 
-fn read_said(alloc: Global, line: &[u8]) -> Result<Said, AllocError> {
-    Ok(seen(&read_line(alloc, line)?))
+fn read_said(rt: &impl Abort, alloc: Global, line: &[u8]) -> Said {
+    seen(&read_line(alloc, line).expect(rt, "memory"))
+}
+
+const LINES: [(&[u8], Said); 24] = [
+    (b"", Said::Nothing),
+    (b"\n", Said::Nothing),
+    (b" \t \n", Said::Nothing),
+    (b"# note\n", Said::Nothing),
+    (b"  #note \x80\n", Said::Nothing),
+    (b"aes 0001 fF\n", Said::Aes(2, 1)),
+    (b"aes 0001 fF", Said::Aes(2, 1)),
+    (b"aes 0001 fF\r\n", Said::Aes(2, 1)),
+    (b"\t aes \t0001  fF \t\n", Said::Aes(2, 1)),
+    (b"aes - -\n", Said::Aes(0, 0)),
+    // a carriage return that no line feed follows
+    (b"aes 0001 fF\r", Said::Malformed),
+    (b"\r", Said::Malformed),
+    (b"aes\r0001 fF\n", Said::Malformed),
+    (b"aes 0001 fF\r\r\n", Said::Malformed),
+    // no digits, and half a byte
+    (b"aes 0001 fg\n", Said::Malformed),
+    (b"aes 0001 f\n", Said::Malformed),
+    (b"aes --  00\n", Said::Malformed),
+    // another number of tokens
+    (b"aes\n", Said::Malformed),
+    (b"aes 00\n", Said::Malformed),
+    (b"aes 00 00 #\n", Said::Malformed),
+    // bytes that are not printed
+    (b"aes 00\x00 00\n", Said::Malformed),
+    (b"aes 00 \x7f\n", Said::Malformed),
+    (b"\x80\n", Said::Malformed),
+    (b"AES 00 00\n", Said::Malformed),
+];
+
+/// A line says this.
+fn says(rt: &impl Abort, alloc: Global, line: &[u8], want: Said) {
+    assert!(rt; read_said(rt, alloc, line) == want, "{line:?}");
 }
 
 #[test]
-fn lines_say_what_they_say(rt: HostRuntime) -> Result<(), Fail> {
-    let table: [(&[u8], Said); 24] = [
-        (b"", Said::Nothing),
-        (b"\n", Said::Nothing),
-        (b" \t \n", Said::Nothing),
-        (b"# note\n", Said::Nothing),
-        (b"  #note \x80\n", Said::Nothing),
-        (b"aes 0001 fF\n", Said::Aes(2, 1)),
-        (b"aes 0001 fF", Said::Aes(2, 1)),
-        (b"aes 0001 fF\r\n", Said::Aes(2, 1)),
-        (b"\t aes \t0001  fF \t\n", Said::Aes(2, 1)),
-        (b"aes - -\n", Said::Aes(0, 0)),
-        // a carriage return that no line feed follows
-        (b"aes 0001 fF\r", Said::Malformed),
-        (b"\r", Said::Malformed),
-        (b"aes\r0001 fF\n", Said::Malformed),
-        (b"aes 0001 fF\r\r\n", Said::Malformed),
-        // no digits, and half a byte
-        (b"aes 0001 fg\n", Said::Malformed),
-        (b"aes 0001 f\n", Said::Malformed),
-        (b"aes --  00\n", Said::Malformed),
-        // another number of tokens
-        (b"aes\n", Said::Malformed),
-        (b"aes 00\n", Said::Malformed),
-        (b"aes 00 00 #\n", Said::Malformed),
-        // bytes that are not printed
-        (b"aes 00\x00 00\n", Said::Malformed),
-        (b"aes 00 \x7f\n", Said::Malformed),
-        (b"\x80\n", Said::Malformed),
-        (b"AES 00 00\n", Said::Malformed),
-    ];
-    for (line, want) in table {
-        assert_eq!(rt; read_said(rt.alloc(), line)?, want, "{line:?}");
+fn lines_say_what_they_say(rt: HostRuntime) {
+    for (line, want) in LINES {
+        says(&rt, rt.alloc(), line, want);
     }
-    Ok(())
 }
 
 // Lines that are commands: each of them, and what just fits.
-const COMMANDS: &[u8] = b"register cbc(aes-generic) 0200
+const COMMANDS: &str = "register cbc(aes-generic) 0200
 unregister aes-generic
 probe pcrypt(gcm(aes))
 probe a b c d e f g h i j k l m n o cbc(aes
@@ -98,7 +103,7 @@ register a 000000000
 \tlist ";
 
 // Lines that nearly are commands.
-const MALFORMED: &[u8] = b"free abcdefghijklmnopqrstuvwxyz-_01234
+const MALFORMED: &str = "free abcdefghijklmnopqrstuvwxyz-_01234
 free a.b
 go a:b
 poll a(b)
@@ -161,88 +166,91 @@ lists
 DRAIN t
 encrypt t 00 00 00";
 
-// The first line, counted from 1, that doesn't say this.
-fn first_but(alloc: Global, script: &[u8], wanted: Said) -> Result<Option<u32>, AllocError> {
-    let mut number = 0u32;
-    for line in script.split_inclusive(|b| *b == b'\n') {
-        number = number.saturating_add(1);
-        if read_said(alloc, line)? != wanted {
-            return Ok(Some(number));
-        }
+// Each line of a script says this.
+fn each_says(rt: &impl Abort, alloc: Global, script: &str, want: Said) {
+    for line in script.split_inclusive('\n') {
+        says(rt, alloc, line.as_bytes(), want);
     }
-    Ok(None)
 }
 
 #[test]
-fn commands_are_read_and_nothing_else(rt: HostRuntime) -> Result<(), Fail> {
-    for (script, want) in [(COMMANDS, Said::Another), (MALFORMED, Said::Malformed)] {
-        assert_eq!(rt; first_but(rt.alloc(), script, want)?, None, "{want:?}");
+fn commands_are_read_and_nothing_else(rt: HostRuntime) {
+    each_says(&rt, rt.alloc(), COMMANDS, Said::Another);
+    each_says(&rt, rt.alloc(), MALFORMED, Said::Malformed);
+}
+
+// Adds what a line says, if there is one.
+fn add(rt: &impl Abort, found: &mut Vec<Said>, line: Option<Line>) {
+    if let Some(line) = line {
+        found.push(seen(&line)).expect(rt, "memory");
     }
-    Ok(())
 }
 
-// What the next line says, and what the last one does.
-fn next_said(cutter: &mut LineCutter) -> Result<Option<Said>, AllocError> {
-    Ok(cutter.next()?.map(|line| seen(&line)))
-}
-
-fn last_said(cutter: &mut LineCutter) -> Result<Option<Said>, AllocError> {
-    Ok(cutter.last()?.map(|line| seen(&line)))
+// Adds what the lines say that have come so far. A piece ends no more lines than it has bytes.
+fn add_lines(rt: &impl Abort, found: &mut Vec<Said>, cutter: &mut LineCutter, piece: &[u8]) {
+    for _ in piece {
+        add(rt, found, cutter.next().expect(rt, "memory"));
+    }
 }
 
 // What a script says that comes in pieces of so many bytes.
-fn said_in_pieces(alloc: Global, script: &[u8], size: usize) -> Result<Vec<Said>, AllocError>
+fn said_in_pieces(rt: &impl Abort, alloc: Global, script: &[u8], size: usize) -> Vec<Said>
     requires { 0 < size }
 {
     let mut cutter = LineCutter::new(alloc);
     let mut found = Vec::new(alloc);
     for piece in script.chunks(size) {
-        cutter.feed(piece)?;
-        // a piece ends no more lines than it has bytes
-        for _ in piece {
-            found.extend(next_said(&mut cutter)?)?;
-        }
+        cutter.feed(piece).expect(rt, "memory");
+        add_lines(rt, &mut found, &mut cutter, piece);
     }
-    found.extend(last_said(&mut cutter)?)?;
-    Ok(found)
+    add(rt, &mut found, cutter.last().expect(rt, "memory"));
+    found
 }
 
-// What a script says that is read from a source, so many bytes at once.
-fn said_by_reader(alloc: Global, script: &[u8], step: usize) -> Result<Vec<Said>, AllocError>
+// A script that is read so many bytes at once.
+fn source_of(rt: &impl Abort, alloc: Global, script: &[u8], step: usize) -> MemSource
     requires { 0 < step }
 {
-    let bytes = Bytes::copy_of(alloc, script)?;
-    let mut source = MemSource::new(bytes, step, Vec::new(alloc));
-    let mut reader = LineReader::new(alloc, script.len())?;
-    let mut found = Vec::new(alloc);
-    // a script has no more lines than bytes
-    for _ in script {
-        if let Ok(Some(line)) = reader.next(&mut source) {
-            found.push(seen(&line))?;
-        }
-    }
-    Ok(found)
+    let bytes = Bytes::copy_of(alloc, script).expect(rt, "memory");
+    MemSource::new(bytes, step, Vec::new(alloc))
 }
 
+// What a script says that is read from a source, so many bytes at once. It has no more lines than bytes.
+fn said_by_reader(rt: &impl Abort, alloc: Global, script: &[u8], step: usize) -> Vec<Said>
+    requires { 0 < step }
+{
+    let mut source = source_of(rt, alloc, script, step);
+    let mut reader = LineReader::new(alloc, script.len()).expect(rt, "memory");
+    let mut found = Vec::new(alloc);
+    for _ in script {
+        add(rt, &mut found, reader.next(&mut source).unwrap_or(None));
+    }
+    found
+}
+
+const CUT: &[u8] = b"# note\r\naes 00 0001\nfrob\n\naes 00 -";
+
+// What it says.
+const CUT_SAYS: [Said; 5] = [
+    Said::Nothing,
+    Said::Aes(1, 2),
+    Said::Malformed,
+    Said::Nothing,
+    Said::Aes(1, 0),
+];
+
 #[test]
-fn pieces_make_lines_wherever_they_are_cut(rt: HostRuntime) -> Result<(), Fail> {
-    let script = b"# note\r\naes 00 0001\nfrob\n\naes 00 -";
-    let want = [
-        Said::Nothing,
-        Said::Aes(1, 2),
-        Said::Malformed,
-        Said::Nothing,
-        Said::Aes(1, 0),
-    ];
+fn pieces_make_lines_wherever_they_are_cut(rt: HostRuntime) {
     for size in 1..12usize {
-        let cut = said_in_pieces(rt.alloc(), script, size)?;
-        let read = said_by_reader(rt.alloc(), script, size)?;
-        assert_eq!(rt; cut.as_slice(), want.as_slice(), "pieces of {size} bytes");
-        assert_eq!(rt;
-            read.as_slice(),
-            want.as_slice(),
+        let cut = said_in_pieces(&rt, rt.alloc(), CUT, size);
+        assert!(rt;
+            cut.as_slice() == CUT_SAYS.as_slice(),
+            "pieces of {size} bytes"
+        );
+        let read = said_by_reader(&rt, rt.alloc(), CUT, size);
+        assert!(rt;
+            read.as_slice() == CUT_SAYS.as_slice(),
             "read {size} bytes at once"
         );
     }
-    Ok(())
 }

@@ -5,5 +5,5 @@ use Rattle.templates.specs.Table.{table}
 use Rattle.templates.specs.Looking.{NonePending}
 use Rattle.registry_tests.proofs.building.builds_children_first.Goals as goal
 
-pub loop-text-init : goal.loop-text-init
-loop-text-init g c = subst (λ (h : List RegEntry). Made table h × NonePending h) (sym c.in_ok-registry.ensures) (tt, λ n lt. absurd (omega (arith, lt)))
+pub loop-row-init : goal.loop-row-init
+loop-row-init g c = subst (λ (h : List RegEntry). Made table h × NonePending h) (sym c.new_registry-registry.ensures) (tt, λ n lt. absurd (omega (arith, lt)))

@@ -4,5 +4,5 @@ use Rattle.templates.specs.Looking.{NonePending}
 use Rattle.registry_tests.proofs.building.builds_children_first.Given as goal
 
 -- between builds the history is one of faithful builds, and no larval is pending
-abbrev pub invariant-loop-text : goal.invariant-loop-text
-invariant-loop-text g l = Made table l.registry × NonePending l.registry
+abbrev pub invariant-loop-row : goal.invariant-loop-row
+invariant-loop-row g l = Made table l.registry × NonePending l.registry
