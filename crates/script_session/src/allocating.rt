@@ -1,6 +1,6 @@
 //! The lines that take a transform into use and let it go.
 
-ghost use Rattle.std.specs.Prelude.{◌≡◌, ◌≤◌, MatchResult, IsSome, Some, true, slice_get};
+ghost use Rattle.std.specs.Prelude.{◌≡◌, ◌≤◌, MatchResult, IsSome, None, Some, true, slice_get};
 ghost use Rattle.alg_names.specs.Name.{spelling};
 ghost use Rattle.alg_registry.specs.declared.spec.Spec.{Spec as Algorithm};
 ghost use Rattle.alg_registry.specs.Rows.{registered};
@@ -8,13 +8,13 @@ ghost use Rattle.templates.specs.Looking.{Entry};
 ghost use Rattle.templates.specs.Nesting.{is_nested_well};
 ghost use Rattle.dialogues.specs.Allocating.{alloc, binds, free};
 ghost use Rattle.dialogues.specs.Names.{is_queue_length};
+ghost use Rattle.dialogues.specs.Walk.{live_of};
 ghost use Rattle.script_session.specs.Finding.{looks};
 ghost use Rattle.session_calls.specs.Passes.{CallsRegistry, known, CallsBoard};
 ghost use Rattle.script_session.specs.States.{Stands, Posted};
 ghost use Rattle.script_session.specs.Holding.{Holds, Stops};
 
 use crate::answers::{refuse, say};
-use crate::lives::place_of;
 use crate::naming::{fits_queue, plan_with, read_name};
 use crate::piping::{close_live, create_pipe, is_owing};
 use crate::scripts::Session;
@@ -50,6 +50,7 @@ impl Session {
         requires stands { Stands self.old.walk.lives (known self.old.registry) }
         requires posted { Posted self.old.walk (known self.old.board) }
         requires few { self.old.workers ≤ 16 }
+        requires free { live_of self.old.walk label.now ≡ None }
         requires seen { IsSome (slice_get (registered (known self.old.registry).seen) id) }
         requires fits { is_queue_length length ≡ true }
         ensures { MatchResult result
@@ -85,7 +86,8 @@ impl Session {
                 driver,
             },
         )?;
-        self.lives.push(Transform::new(label, id, plan, pipe))?;
+        let live = Transform::new(label, id, plan, pipe);
+        self.lives.push(self.alloc, live)?;
         Ok(())
     }
 
@@ -106,6 +108,7 @@ impl Session {
         requires stands { Stands self.old.walk.lives (known self.old.registry) }
         requires posted { Posted self.old.walk (known self.old.board) }
         requires few { self.old.workers ≤ 16 }
+        requires free { live_of self.old.walk label.now ≡ None }
         requires nested { is_nested_well name.now ≡ true }
         requires fits { is_queue_length length ≡ true }
         ensures { MatchResult result
@@ -139,7 +142,7 @@ impl Session {
             (λ _. Holds (alloc self.old.workers self.old.walk number label.now name.now length) self.old self.new answers.old.items answers.new.items)
             (λ _. Stops self.old self.new) }
     {
-        if place_of(&self.lives, label.as_slice()).is_some() {
+        if self.lives.place_of(label.as_slice()).is_some() {
             return refuse(answers, number, Errno::EEXIST);
         }
         if self.lives.len() >= MOST_LIVE {
@@ -174,10 +177,10 @@ impl Session {
             (λ _. Holds (free self.old.walk number label.now) self.old self.new answers.old.items answers.new.items)
             (λ _. Stops self.old self.new) }
     {
-        let Some(place) = place_of(&self.lives, label.as_slice()) else {
+        let Some(place) = self.lives.place_of(label.as_slice()) else {
             return refuse(answers, number, Errno::ENOENT);
         };
-        if is_owing(&self.lives[place]) {
+        if is_owing(self.lives.get(place)) {
             return refuse(answers, number, Errno::EBUSY);
         }
         // Memory is taken first: nothing stops the line once its pipeline is closed.
