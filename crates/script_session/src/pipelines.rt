@@ -75,14 +75,7 @@ impl Session {
             return refuse(answers, number, Errno::ENOENT);
         };
         let live = self.lives.transforms.get_mut(&place).unwrap();
-        hold_live(
-            rt,
-            board,
-            &mut self.board,
-            number,
-            live,
-            answers,
-        )
+        hold_live(rt, board, &mut self.board, number, live, answers)
     }
 
     // `go T`
@@ -105,14 +98,7 @@ impl Session {
             return refuse(answers, number, Errno::ENOENT);
         };
         let live = self.lives.transforms.get_mut(&place).unwrap();
-        go_live(
-            rt,
-            board,
-            &mut self.board,
-            number,
-            live,
-            answers,
-        )
+        go_live(rt, board, &mut self.board, number, live, answers)
     }
 
     // `poll T`
