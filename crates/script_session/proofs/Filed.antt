@@ -6,16 +6,15 @@ use Rattle.std.specs.Cmp.Lexicographic.{slice_cmp}
 use Rattle.std.specs.List.{position_from}
 use Rattle.std.specs.List.Sorted.{IsStrictlySortedBy}
 use Rattle.std.specs.Map.{IsKeyTest, AreApart, KeepsOthers, keys_of, lookup, remove_entry, set_value, values_of}
-use Rattle.std.specs.Ordering.{eq_by_cmp, is_eq, nat_cmp}
+use Rattle.std.specs.Ordering.{is_eq, nat_cmp}
 use Rattle.std.specs.Str.{bytes_eq}
-use Rattle.std.specs.declared.cmp.Ordering.{Ordering}
 use Rattle.std.specs.declared.cmp.Ordering.TheVariants.{Less, Equal, Greater}
 use Rattle.std.specs.declared.collections.BTreeMap.{BTreeMap}
 use Rattle.std.specs.Global.{Global}
 use Rattle.std.specs.Cmp.{nat_cmp_is}
 use Rattle.std.specs.Ordering.{match_ordering}
 use Rattle.std.proofs.lemmas.Bool.{eqb-true, false_from_ne_true}
-use Rattle.std.proofs.lemmas.Cmp.{eq_by_cmp_equiv, nat_cmp_total, nat_list_cmp_total, nat_list_eq_equiv}
+use Rattle.std.proofs.lemmas.Cmp.{eq_by_cmp_equiv, nat_list_cmp_total, nat_list_eq_equiv}
 use Rattle.std.proofs.lemmas.List.Elements.{All-cons, All-head, All-nil, All-push, All-tail}
 use Rattle.std.proofs.lemmas.Map.Keys.{sorted_tail}
 use Rattle.std.proofs.lemmas.Map.Text.{is_eq-slice_cmp}
@@ -302,22 +301,17 @@ module _ (all : Entries) where
 
     pub number-removed : (es : Entries) → IsStrictlySortedBy nat_cmp (keys_of es) → lookup (is_at (nat_cmp n)) es ≡ Some live → All IsApart es → Removed es
     number-removed [] ascend here apart = absurd cc
-    number-removed (x ∷ xs) ascend here apart = first (is_at (nat_cmp n) x.0) refl here
+    number-removed (x ∷ xs) ascend here apart = first (is_at (nat_cmp n) x.0) refl here (λ h. number-removed xs (sorted_tail nat_cmp x.0 (keys_of xs) ascend) h (All-tail IsApart x xs apart))
       where
-        first : (b : Bool) → is_at (nat_cmp n) x.0 ≡ b → cond b (Some x.1) (lookup (is_at (nat_cmp n)) xs) ≡ Some live
+        first : (b : Bool) → is_at (nat_cmp n) x.0 ≡ b → cond b (Some x.1) (lookup (is_at (nat_cmp n)) xs) ≡ Some live → (lookup (is_at (nat_cmp n)) xs ≡ Some live → Removed xs)
             → number_of label (cond b xs (x ∷ remove_entry (is_at (nat_cmp n)) xs)) ≡ cond (is_of label live) None (number_of label (x ∷ xs))
-        first true at here = (let is : x.1 ≡ live = cc in here-removed x xs at is (All-tail IsApart x xs apart) (All-after_first nat_cmp x.0 (keys_of xs) ascend))
-        first false at here =
-            later-removed x xs at (All-head IsApart x xs apart) (number-removed xs (sorted_tail nat_cmp x.0 (keys_of xs) ascend) here (All-tail IsApart x xs apart)) (is_of label x.1) refl
+        first true at here go = (let is : x.1 ≡ live = cc in here-removed x xs at is (All-tail IsApart x xs apart) (All-after_first nat_cmp x.0 (keys_of xs) ascend))
+        first false at here go = later-removed x xs at (All-head IsApart x xs apart) (go here) (is_of label x.1) refl
 
 -- ---- the session's invariant after each
 
 own-label : (label : List ℕ) → bytes_eq label label ≡ true
-own-label label = decided (bytes_eq label label) refl
-  where
-    decided : (b : Bool) → bytes_eq label label ≡ b → bytes_eq label label ≡ true
-    decided true e = e
-    decided false e = absurd ((bytes_eq-Decides label label).1 e refl)
+own-label label = (bytes_eq-Decides label label).1 refl
 
 apart-push : (n : ℕ) (live : Live) (all es : Entries) → All (IsApart all) es → All (IsApart (all ++ (n, live) ∷ [])) es
 apart-push n live all [] apart = All-nil (IsApart (all ++ (n, live) ∷ []))
@@ -336,23 +330,26 @@ pub values-push : (n : ℕ) (live : Live) (es : Entries) → values_of (es ++ (n
 values-push n live [] = refl
 values-push n live (x ∷ xs) = ap (λ ls. x.1 ∷ ls) (values-push n live xs)
 
+-- it is the last in the order of allocation
+pub listed-push : (lives : Lives) (live : Live) (next : Entries) → AreFiled lives → next ≡ insert_entry nat_cmp lives.transforms.entries lives.next live → values_of next ≡ lives_of lives ++ live ∷ []
+listed-push lives live next filed added =
+    ap values_of (added ∙ insert-last lives.next live lives.transforms.entries filed.below) ∙ values-push lives.next live lives.transforms.entries
+
 pub filed-push : (lives next : Lives) (live : Live) → AreFiled lives → number_of live.label lives.transforms.entries ≡ None → IsStrictlySortedBy nat_cmp (keys_of next.transforms.entries)
     → next.transforms.entries ≡ insert_entry nat_cmp lives.transforms.entries lives.next live → ((label : List ℕ) → led_to next label ≡ cond (bytes_eq live.label label) (Some lives.next) (led_to lives label)) → next.next ≡ lives.next + 1
-    → AreFiled next × (lives_of next ≡ lives_of lives ++ live ∷ [])
+    → AreFiled next
 filed-push lives next live filed free ascend added led count =
     let n = lives.next in
     let es = lives.transforms.entries in
     let is : next.transforms.entries ≡ es ++ (n, live) ∷ [] = added ∙ insert-last n live es filed.below in
-    let own : number_of live.label (es ++ (n, live) ∷ []) ≡ Some n = number-push n live live.label es free ∙ ap (λ t. cond t (Some n) (number_of live.label es)) (own-label live.label) in (
-      record {
-        ascend = ascend;
-        led = λ label. led label ∙ (ap (cond (bytes_eq live.label label) (Some n)) (filed.led label) ∙ (sym (number-push n live label es free) ∙ ap (number_of label) (sym is)));
-        apart = subst (λ xs. All (IsApart xs) xs) (sym is) (All-push (IsApart (es ++ (n, live) ∷ [])) es (n, live) (apart-push n live es es filed.apart) own);
-        below = subst (λ m. All (λ k. k < m) (keys_of next.transforms.entries)) (sym count)
-            (subst (λ xs. All (λ k. k < n + 1) (keys_of xs)) (sym is) (subst (All (λ k. k < n + 1)) (sym (keys-push n live es)) (All-push (λ k. k < n + 1) (keys_of es) n (below-next n (keys_of es) filed.below) (omega arith))));
-      },
-      ap values_of is ∙ values-push n live es,
-    )
+    let own : number_of live.label (es ++ (n, live) ∷ []) ≡ Some n = number-push n live live.label es free ∙ ap (λ t. cond t (Some n) (number_of live.label es)) (own-label live.label) in
+    record {
+      ascend = ascend;
+      led = λ label. led label ∙ (ap (cond (bytes_eq live.label label) (Some n)) (filed.led label) ∙ (sym (number-push n live label es free) ∙ ap (number_of label) (sym is)));
+      apart = subst (λ xs. All (IsApart xs) xs) (sym is) (All-push (IsApart (es ++ (n, live) ∷ [])) es (n, live) (apart-push n live es es filed.apart) own);
+      below = subst (λ m. All (λ k. k < m) (keys_of next.transforms.entries)) (sym count)
+          (subst (λ xs. All (λ k. k < n + 1) (keys_of xs)) (sym is) (subst (All (λ k. k < n + 1)) (sym (keys-push n live es)) (All-push (λ k. k < n + 1) (keys_of es) n (below-next n (keys_of es) filed.below) (omega arith))));
+    }
 
 module _ (n : ℕ) where
   All-removed : (P : ℕ × Live → Type 0) (es : Entries) → All P es → All P (remove_entry (is_at (nat_cmp n)) es)
@@ -450,6 +447,6 @@ filed-same lives next filed labels same count =
     }
 
 -- where nothing can be taken, nothing is
-pub nothing-left : (es : Entries) → (0 < length es → ⊥) → es ≡ []
+pub nothing-left : (es : Entries) → (0 < length es → false ≡ true) → es ≡ []
 nothing-left [] none = refl
-nothing-left (x ∷ xs) none = absurd (none (omega arith))
+nothing-left (x ∷ xs) none = (let both : false ≡ true = none (omega arith) in absurd cc)

@@ -4,7 +4,7 @@ use Rattle.script_session.proofs.Filed.{filed-none}
 use Rattle.script_session.proofs.lives.Lives.new.Goals as goal
 
 pub returns-clause-none : goal.returns-clause-none
-returns-clause-none g c = ap values_of c.new-transforms.ensures.empty
+returns-clause-none c = ap values_of c.new-2.ensures.empty
 
 pub returns-clause-filed : goal.returns-clause-filed
-returns-clause-filed g c = filed-none _ c.new-transforms.ensures.ordered c.new-labels.ensures.empty c.new-transforms.ensures.empty
+returns-clause-filed c = filed-none _ c.new-2.ensures.ordered c.new.ensures.empty c.new-2.ensures.empty
