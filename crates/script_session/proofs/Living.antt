@@ -1,5 +1,7 @@
 -- Arms on the transform of a label.
 use Rattle.std.proofs.Common.{◌≡◌, ℕ, ◌+◌, ◌<◌, List, [], ◌∷◌, length, Option, Some, None, Result, Ok, Err, refl, sym, ap, subst, ◌∙◌, slice_index_or, arith, Bool, true, false, zero-add}
+use Rattle.std.specs.Borrow.{MutBor}
+use Rattle.std.specs.Option.{option_copied_mut}
 use Rattle.std.specs.Prelude.{All, IsSome, MatchResult, sum_by}
 use Rattle.std.specs.List.{position_from}
 use Rattle.std.specs.BTreeMap.{get, is_at}
@@ -7,6 +9,7 @@ use Rattle.std.specs.Map.{remove_entry, set_value, values_of}
 use Rattle.std.specs.Ordering.{nat_cmp}
 use Rattle.std.proofs.lemmas.List.Elements.{All-head}
 use Rattle.board.specs.Allowance.{accepted_by}
+use Rattle.board.proofs.Kept.{loan_some}
 use Rattle.board.specs.declared.entry.BoardEntry.{BoardEntry}
 use Rattle.reply_text.specs.declared.answers.Answer.{Answer}
 use Rattle.transforms.specs.declared.ask.Ask.{Ask}
@@ -46,6 +49,7 @@ module _ {ws c q v : ℕ} {r : Option RegPass} {b : Option BoardPass} (s : State
   place number at = (place-at label entries 0 number (numbered number at)).0
 
   pub live-at : (number : ℕ) (at : Some number ≡ number_of name entries) → Split label s.walk.lives 0 (place number at)
+  unfolding place
   live-at number at =
       split-at label s.walk.lives 0 (place number at)
       (sym (ap (λ (x : State). position_from (is_of label) 0 x.walk.lives) view) ∙ (place-at label entries 0 number (numbered number at)).1)
@@ -63,8 +67,19 @@ module _ {ws c q v : ℕ} {r : Option RegPass} {b : Option BoardPass} (s : State
   pub is-there : (number : ℕ) → Some number ≡ number_of name entries → IsSome (get nat_cmp lives.transforms number)
   is-there number at = subst IsSome (sym (has-live number at)) refl
 
+  -- a loan of it can be had
+  pub loan-there : (number : ℕ) → Some number ≡ number_of name entries → (loan : Option (MutBor Live)) → option_copied_mut loan ≡ get nat_cmp lives.transforms number → IsSome loan
+  loan-there number at loan is = loan_some loan (get nat_cmp lives.transforms number) (live-at number at).live is (has-live number at)
+
   pub is-live : (number : ℕ) (at : Some number ≡ number_of name entries) (old : Live) → get nat_cmp lives.transforms number ≡ Some old → old ≡ (live-at number at).live
   is-live number at old is = (let both : Some old ≡ Some (live-at number at).live = sym is ∙ has-live number at in cc)
+
+  -- its pipeline, where it has one, is on the board
+  pub pipe-there : (number : ℕ) → Some number ≡ number_of name entries → (old : Live) → get nat_cmp lives.transforms number ≡ Some old → Posted s.walk (known s.board) → HasPipe (known b) old.pipe
+  pipe-there number at old is posted =
+      let split = live-at number at in
+      subst (λ (l : Live). HasPipe (known b) l.pipe) (sym (is-live number at old is))
+      (subst (λ (x : State). HasPipe (known x.board) split.live.pipe) (sym view) (rests-at s.walk label (place number at) (known s.board) split posted))
 
   -- the list with what was written through its loan
   pub written : (number : ℕ) (at : Some number ≡ number_of name entries) (old new : Live) (next : List (ℕ × Live)) → get nat_cmp lives.transforms number ≡ Some old → new.label ≡ old.label
