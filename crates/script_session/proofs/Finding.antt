@@ -174,14 +174,14 @@ module _ {ws c : ℕ} {lives : List Live} {q v : ℕ} {r : Option RegPass} {b : 
       )) stands posted
 
   -- a transform was made and added, and it is answered
-  pub adds-arm : {S A : Type 0} {b' : Option BoardPass} {items : List Live} (n : ℕ) (label : List ℕ) (len : Option ℕ) (id : ℕ) (spec : Spec) (plan : Plan) (live : Live) (answers answers' : List Answer) (result : Result A S)
+  pub adds-arm : {S A : Type 0} (b' : Option BoardPass) (items : List Live) (n : ℕ) (label : List ℕ) (len : Option ℕ) (id : ℕ) (spec : Spec) (plan : Plan) (live : Live) (answers answers' : List Answer) (result : Result A S)
       → lock_of b' ≡ lock_of b → CreatedLive ws label len id spec plan live (known b) (known b') → items ≡ lives ++ live ∷ [] → OnOk result (answers' ≡ answers ++ said.Made n spec.driver ∷ [])
       → MatchResult result (λ _. AddsLive n label len id spec plan s (viewed ws c items q v r b') answers answers') (λ _. Stops s (viewed ws c items q v r b'))
-  adds-arm {b' = b'} {items = items} n label len id spec plan live answers answers' (Ok a) lock created more says =
+  adds-arm b' items n label len id spec plan live answers answers' (Ok a) lock created more e =
       subst (λ (x : State). AddsLive n label len id spec plan x (viewed ws c items q v r b') answers answers') view
-      (record { live = live; created = created; lock = lock; added = ap (λ ls. viewed ws c ls q v r b') more; says = says })
-  adds-arm {items = items} n label len id spec plan live answers answers' (Err e) lock created more says =
-      further-on items lock (created-live-sees ws label len id spec plan live (known b) _ created)
+      (record { live = live; created = created; lock = lock; added = ap (λ ls. viewed ws c ls q v r b') more; says = e })
+  adds-arm b' items n label len id spec plan live answers answers' (Err stop) lock created more e =
+      further-on items lock (created-live-sees ws label len id spec plan live (known b) (known b') created)
 
   -- the same where another call made the transform and added it
   pub added-arm : {S A : Type 0} {r' r2 : Option RegPass} (s' : State) (n : ℕ) (label : List ℕ) (len : Option ℕ) (id : ℕ) (spec : Spec) (plan : Plan) (answers answers' : List Answer) (result : Result A S)

@@ -4,7 +4,6 @@ use Rattle.dialogues.specs.Walk.{Live, live_of}
 use Rattle.script_session.specs.Filed.{lives_of, number_of}
 use Rattle.script_session.specs.States.{State}
 use Rattle.session_calls.specs.Passes.{known}
-use Rattle.script_session.proofs.Arms.{or-stops}
 use Rattle.script_session.proofs.Filed.{nobody-filed}
 use Rattle.script_session.proofs.Finding.{created-live-sees, further-on, adds-arm}
 use Rattle.script_session.proofs.scripts.Session.add_live.Goals as goal
@@ -29,5 +28,5 @@ returns-in_err-push g c =
 
 pub returns : goal.returns
 returns g c =
-    adds-arm c.args.self.now c.self.view_is c.args.number c.args.label.now c.args.length c.args.id c.args.spec c.args.plan c.in_ok-live.live _ _ c.say.result
+    adds-arm c.args.self.now c.self.view_is c.create_live.new.caller _ c.args.number c.args.label.now c.args.length c.args.id c.args.spec c.args.plan c.in_ok-live.live _ _ c.say.result
     c.create_live.ensures.lock c.in_ok-live.ensures.created c.in_ok-push.ensures.added c.say.ensures
