@@ -161,9 +161,9 @@ module _ {ws c : ℕ} {items left : List Live} {q v : ℕ} {r : Option RegPass} 
       (ap (λ (x : State). x.registry) view) stands lets' drains' shuts (put ∙ ap (λ a. text ++ flat_map text_of a) same)
 
 -- memory was wanting before anything was called
-module _ {ws c : ℕ} {items left : List Live} {q v : ℕ} {r : Option RegPass} {b : Option BoardPass} (s : State) (view : viewed ws c items q v r b ≡ s) where
-  pub stops-here : Stops s (viewed ws c left q v r b)
-  stops-here =
+module _ {ws c : ℕ} {items : List Live} {q v : ℕ} {r : Option RegPass} {b : Option BoardPass} (s : State) (view : viewed ws c items q v r b ≡ s) where
+  pub stops-here : (left : List Live) → Stops s (viewed ws c left q v r b)
+  stops-here left =
       record {
         locks = record { registry = ap (λ (x : State). lock_of x.registry) view; board = ap (λ (x : State). lock_of x.board) view; workers = ap (λ (x : State). x.workers) view };
         registry = subst (λ (x : State). HasSeenMore (known x.registry) (known r)) view (record { number = refl; next = refl; seen = starts-same (known r).seen });

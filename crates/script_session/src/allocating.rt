@@ -9,10 +9,12 @@ ghost use Rattle.templates.specs.Nesting.{is_nested_well};
 ghost use Rattle.dialogues.specs.Allocating.{alloc, binds, free};
 ghost use Rattle.dialogues.specs.Names.{is_queue_length};
 ghost use Rattle.dialogues.specs.Walk.{live_of};
-ghost use Rattle.script_session.specs.Finding.{looks};
-ghost use Rattle.session_calls.specs.Passes.{CallsRegistry, known, CallsBoard};
+ghost use Rattle.board.specs.Legal.{IsNoWorker};
+ghost use Rattle.script_session.specs.Creating.{CreatedLive};
+ghost use Rattle.script_session.specs.Finding.{looks, AddsLive};
+ghost use Rattle.session_calls.specs.Passes.{CallsRegistry, known, lock_of, CallsBoard};
 ghost use Rattle.script_session.specs.States.{Stands, Posted};
-ghost use Rattle.script_session.specs.Holding.{Holds, Stops};
+ghost use Rattle.script_session.specs.Holding.{Holds, SeesOn, Stops};
 
 use crate::answers::{refuse, say};
 use crate::naming::{fits_queue, plan_with, read_name};
@@ -20,19 +22,93 @@ use crate::piping::{close_live, create_pipe, is_owing};
 use crate::scripts::Session;
 use crate::transform::Transform;
 use alg_names::Name;
+use alg_registry::Spec;
 use kc_base::{Bytes, Errno};
 use reply_text::Answer;
-use session_calls::Stop;
+use session_calls::{BoardCaller, Stop};
 use shared_board::SharedBoard;
 use shared_registry::SharedRegistry;
+use std::alloc::Global;
 use std::sync::Wait;
-use templates::BuildErr;
+use templates::{BuildErr, Plan};
 use transforms::Job;
 
 /// The most live transforms.
 const MOST_LIVE: usize = 4096;
 
+// A transform of an entry, with its pipeline, where it has one.
+fn create_live<R: Wait>(
+    alloc: Global,
+    rt: &R,
+    board: &SharedBoard<Job>,
+    caller: &mut BoardCaller,
+    workers: u32,
+    label: &Bytes,
+    length: Option<u32>,
+    id: u64,
+    spec: &Spec,
+    plan: Plan,
+) -> Result<Transform, Stop>
+    requires at { CallsBoard board.now caller.old }
+    requires caller { IsNoWorker (known caller.old).number }
+    requires fits { is_queue_length length ≡ true }
+    requires few { workers ≤ 16 }
+    ensures lock { lock_of caller.new ≡ lock_of caller.old }
+    ensures created { MatchResult result
+        (λ live. CreatedLive workers label.now length id spec.now plan live (known caller.old) (known caller.new))
+        (λ _. SeesOn (known caller.old) (known caller.new)) }
+{
+    let label = Bytes::copy_of(alloc, label.as_slice())?;
+    let pipe = create_pipe(alloc, rt, board, caller, workers, spec, length)?;
+    Ok(Transform::new(label, id, plan, pipe))
+}
+
 impl Session {
+    // Makes the transform of an entry, of which there is a reference, and adds it behind the others.
+    fn add_live<R: Wait>(
+        &mut self,
+        rt: &R,
+        board: &SharedBoard<Job>,
+        number: u32,
+        label: &Bytes,
+        length: Option<u32>,
+        id: u64,
+        spec: Spec,
+        plan: Plan,
+        answers: &mut Vec<Answer>,
+    ) -> Result<(), Stop>
+        requires at_board { CallsBoard board.now self.old.board }
+        requires posted { Posted self.old.walk (known self.old.board) }
+        requires few { self.old.workers ≤ 16 }
+        requires free { live_of self.old.walk label.now ≡ None }
+        requires fits { is_queue_length length ≡ true }
+        ensures { MatchResult result
+            (λ _. AddsLive number label.now length id spec plan self.old self.new answers.old.items answers.new.items)
+            (λ _. Stops self.old self.new) }
+    {
+        let live = create_live(
+            self.alloc,
+            rt,
+            board,
+            &mut self.board,
+            self.workers,
+            label,
+            length,
+            id,
+            &spec,
+            plan,
+        )?;
+        self.lives.push(self.alloc, live)?;
+        let driver = spec.driver;
+        say(
+            answers,
+            Answer::Made {
+                line: number,
+                driver,
+            },
+        )
+    }
+
     // Takes an entry that a look came to into use.
     fn bind<R: Wait>(
         &mut self,
@@ -65,30 +141,10 @@ impl Session {
         let Some(plan) = planned else {
             return refuse(answers, number, Errno::EINVAL);
         };
-        let label = Bytes::copy_of(self.alloc, label.as_slice())?;
         if !self.registry.take_ref(rt, registry, id)? {
             return refuse(answers, number, Errno::EAGAIN);
         }
-        let pipe = create_pipe(
-            self.alloc,
-            rt,
-            board,
-            &mut self.board,
-            self.workers,
-            &spec,
-            length,
-        )?;
-        let driver = spec.driver;
-        say(
-            answers,
-            Answer::Made {
-                line: number,
-                driver,
-            },
-        )?;
-        let live = Transform::new(label, id, plan, pipe);
-        self.lives.push(self.alloc, live)?;
-        Ok(())
+        self.add_live(rt, board, number, label, length, id, spec, plan, answers)
     }
 
     // Looks a name up, and takes what is found into use.

@@ -52,8 +52,7 @@ returns-then-not-fits_queue g c =
 pub find-requires-clause-free : goal.find-requires-clause-free
 find-requires-clause-free g c =
     let s = c.args.self.now in
-    ap (λ (x : State). live_of x.walk c.args.label.now) c.self.view_is
-    ∙ nobody (live_of s.walk c.args.label.now)
+    nobody (live_of s.walk c.args.label.now)
     (live-there s c.self.inside.lives c.self.invariant c.self.view_is c.args.label.now c.as_slice.result.now c.as_slice.ensures c.place_of.result c.place_of.ensures ∙ (sym c.is_some.ensures ∙ c.if-is_some.false))
 
 pub returns : goal.returns

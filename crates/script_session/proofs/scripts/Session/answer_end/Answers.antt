@@ -1,9 +1,19 @@
 use Rattle.std.proofs.Common.{◌∙◌, ap, arith, length, sym, subst, refl}
 use Rattle.std.proofs.lemmas.List.{with_items_is}
 use Rattle.session_calls.specs.Passes.{known}
+use Rattle.script_session.specs.States.{State, Posted}
 use Rattle.script_session.proofs.Ended.{end_with-arm, ends-shut, stops-here}
 use Rattle.std.proofs.lemmas.Result.{err_from_is_err_and}
 use Rattle.script_session.proofs.scripts.Session.answer_end.Goals as goal
+
+pub release_all-requires-clause-posted : goal.release_all-requires-clause-posted
+release_all-requires-clause-posted g c =
+    let s = c.args.self.now in
+    (
+      s.walk,
+      sym (c.deref_mut.ensures.value ∙ (c.in_ok-lives.ensures.all ∙ ap (λ (x : State). x.walk.lives) c.self.view_is)),
+      subst (λ (x : State). Posted s.walk (known x.board)) (sym c.self.view_is) c.requires.posted,
+    )
 
 pub returns-clause-done : goal.returns-clause-done
 returns-clause-done g c =
@@ -19,7 +29,7 @@ returns-clause-shut g c =
     ends-shut c.only_collects_hand_out.ensures.drained c.drain_last_all.new.lives (known c.drain_last_all.new.caller) (known c.shut.new.self) c.in_ok-drain_last_all.ensures.moved.posted c.in_ok-drain_last_all.ensures.paid c.shut.ensures.shut
 
 -- memory was wanting before anything was called
-pub returns-in_err-take_all-clause-done : goal.returns-in_err-take_all-clause-done
-returns-in_err-take_all-clause-done g c =
+pub returns-in_err-lives-clause-done : goal.returns-in_err-lives-clause-done
+returns-in_err-lives-clause-done g c =
     let p = err_from_is_err_and c.from_residual.result c.from_residual.ensures.1 in
-    rw (p.1) (stops-here c.args.self.now c.self.view_is)
+    rw (p.1) (stops-here c.args.self.now c.self.view_is _)

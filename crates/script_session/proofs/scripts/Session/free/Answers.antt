@@ -10,7 +10,7 @@ use Rattle.script_session.proofs.Frees.{free-arm}
 use Rattle.script_session.proofs.Standing.{may-give}
 use Rattle.script_session.proofs.Arms.{or-stops, stops-same, answer-holds}
 use Rattle.script_session.proofs.Freeing.{free-owing}
-use Rattle.script_session.proofs.Living.{live-at, no-live, is-live, is-there, taken}
+use Rattle.script_session.proofs.Living.{live-at, no-live, is-live, is-there, pipe-there, taken}
 use Rattle.script_session.proofs.scripts.Session.free.Goals as goal
 
 pub returns-in_default : goal.returns-in_default
@@ -35,6 +35,10 @@ returns-then-is_owing g c =
 
 pub remove-live-requires-clause-there : goal.remove-live-requires-clause-there
 remove-live-requires-clause-there g c = is-there c.args.self.now c.self.inside.lives c.self.invariant c.self.view_is c.args.label.now c.as_slice.result.now c.as_slice.ensures c.in-Some.place c.in-Some.ensures
+
+pub close_live-requires-clause-pipe : goal.close_live-requires-clause-pipe
+close_live-requires-clause-pipe g c =
+    pipe-there c.args.self.now c.self.inside.lives c.self.invariant c.self.view_is c.args.label.now c.as_slice.result.now c.as_slice.ensures c.in-Some.place c.in-Some.ensures c.remove-live.result c.remove-live.ensures.value c.requires.posted
 
 pub put_ref-requires-clause-has : goal.put_ref-requires-clause-has
 put_ref-requires-clause-has g c =

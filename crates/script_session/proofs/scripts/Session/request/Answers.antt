@@ -10,9 +10,9 @@ use Rattle.session_calls.specs.Passes.{known}
 use Rattle.script_session.proofs.Arms.{or-stops, stops-same, answer-holds}
 use Rattle.std.specs.BTreeMap.{get}
 use Rattle.std.specs.Ordering.{nat_cmp}
-use Rattle.board.proofs.Kept.{loan_here, loan_some}
+use Rattle.board.proofs.Kept.{loan_here}
 use Rattle.script_session.proofs.Filed.{filed-set}
-use Rattle.script_session.proofs.Living.{live-at, no-live, is-live, rests-at, request-arm, has-live, written, is-there}
+use Rattle.script_session.proofs.Living.{live-at, no-live, is-live, is-there, loan-there, pipe-there, request-arm, written}
 use Rattle.script_session.proofs.Requests.{no-key, not-taken, job-asks}
 use Rattle.script_session.proofs.scripts.Session.request.Goals as goal
 
@@ -54,21 +54,25 @@ returns-in-Err-Inval g c =
     (stops-same s c.requires.stands)
 
 pub unwrap-live-requires : goal.unwrap-live-requires
-unwrap-live-requires g c =
-    let at = live-at c.args.self.now c.self.inside.lives c.self.invariant c.self.view_is c.args.label.now c.as_slice.result.now c.as_slice.ensures c.in-Some.place c.in-Some.ensures in
-    loan_some c.get_mut.result (get nat_cmp c.self.inside.lives.transforms c.in-Some.place) at.live c.get_mut.ensures.value (has-live c.args.self.now c.self.inside.lives c.self.invariant c.self.view_is c.args.label.now c.as_slice.result.now c.as_slice.ensures c.in-Some.place c.in-Some.ensures)
+unwrap-live-requires g c = loan-there c.args.self.now c.self.inside.lives c.self.invariant c.self.view_is c.args.label.now c.as_slice.result.now c.as_slice.ensures c.in-Some.place c.in-Some.ensures c.get_mut.result c.get_mut.ensures.value
+
+-- its label stays, whether a pipeline accepted it or memory was wanting
+pub invariant_of-self : goal.invariant_of-self
+invariant_of-self g c =
+    let is = loan_here (get nat_cmp c.self.inside.lives.transforms c.in-Some.place) c.get_mut.result c.unwrap-live.result c.get_mut.ensures.value c.unwrap-live.ensures in
+    let set = c.get_mut.follows.holds c.take_job.new.live in
+    filed-set c.self.inside.lives _ c.in-Some.place c.unwrap-live.result.now c.take_job.new.live c.self.invariant is c.take_job.ensures.named refl refl set.0 set.1
 
 pub invariant_of-self-2 : goal.invariant_of-self-2
 invariant_of-self-2 g c =
-    filed-set c.self.inside.lives _ c.in-Some.place c.unwrap-live.result.now c.take_job.new.live c.self.invariant (loan_here (get nat_cmp c.self.inside.lives.transforms c.in-Some.place) c.get_mut.result c.unwrap-live.result c.get_mut.ensures.value c.unwrap-live.ensures) c.take_job.ensures.named refl refl (c.get_mut.follows.holds c.take_job.new.live).0 (c.get_mut.follows.holds c.take_job.new.live).1
+    let is = loan_here (get nat_cmp c.self.inside.lives.transforms c.in-Some.place) c.get_mut.result c.unwrap-live.result c.get_mut.ensures.value c.unwrap-live.ensures in
+    let set = c.get_mut.follows.holds c.take_job.new.live in
+    filed-set c.self.inside.lives _ c.in-Some.place c.unwrap-live.result.now c.take_job.new.live c.self.invariant is c.take_job.ensures.named refl refl set.0 set.1
 
 pub take_job-requires-clause-pipe : goal.take_job-requires-clause-pipe
 take_job-requires-clause-pipe g c =
-    let s = c.args.self.now in
-    let at = live-at c.args.self.now c.self.inside.lives c.self.invariant c.self.view_is c.args.label.now c.as_slice.result.now c.as_slice.ensures c.in-Some.place c.in-Some.ensures in
-    let was = is-live c.args.self.now c.self.inside.lives c.self.invariant c.self.view_is c.args.label.now c.as_slice.result.now c.as_slice.ensures c.in-Some.place c.in-Some.ensures c.unwrap-live.result.now (loan_here (get nat_cmp c.self.inside.lives.transforms c.in-Some.place) c.get_mut.result c.unwrap-live.result c.get_mut.ensures.value c.unwrap-live.ensures) in
-    subst (λ (l : Live). HasPipe (known c.self.inside.board) l.pipe) (sym was)
-    (subst (λ (x : State). HasPipe (known x.board) at.live.pipe) (sym c.self.view_is) (rests-at s.walk c.args.label.now _ (known s.board) at c.requires.posted))
+    let is = loan_here (get nat_cmp c.self.inside.lives.transforms c.in-Some.place) c.get_mut.result c.unwrap-live.result c.get_mut.ensures.value c.unwrap-live.ensures in
+    pipe-there c.args.self.now c.self.inside.lives c.self.invariant c.self.view_is c.args.label.now c.as_slice.result.now c.as_slice.ensures c.in-Some.place c.in-Some.ensures c.unwrap-live.result.now is c.requires.posted
 
 pub returns : goal.returns
 returns g c =
@@ -76,10 +80,11 @@ returns g c =
     let e = c.in_ok-accepted.ensures in
     let ask = arc_value c.in-Ok.job.ask in
     let old = c.unwrap-live.result.now in
+    let is = loan_here (get nat_cmp c.self.inside.lives.transforms c.in-Some.place) c.get_mut.result c.unwrap-live.result c.get_mut.ensures.value c.unwrap-live.ensures in
     let first = is-live c.args.self.now c.self.inside.lives c.self.invariant c.self.view_is c.args.label.now c.as_slice.result.now c.as_slice.ensures c.in-Some.place c.in-Some.ensures c.get.result.now c.get.ensures in
-    let then_is = is-live c.args.self.now c.self.inside.lives c.self.invariant c.self.view_is c.args.label.now c.as_slice.result.now c.as_slice.ensures c.in-Some.place c.in-Some.ensures old (loan_here (get nat_cmp c.self.inside.lives.transforms c.in-Some.place) c.get_mut.result c.unwrap-live.result c.get_mut.ensures.value c.unwrap-live.ensures) in
+    let then_is = is-live c.args.self.now c.self.inside.lives c.self.invariant c.self.view_is c.args.label.now c.as_slice.result.now c.as_slice.ensures c.in-Some.place c.in-Some.ensures old is in
     let job = subst (λ (l : Live). IsJob c.self.inside.client c.args.number l c.args.asked (asked_by ask)) (first ∙ sym then_is) c.in-Ok.ensures in
     request-arm c.args.self.now c.self.inside.lives c.self.invariant c.self.view_is c.args.label.now c.as_slice.result.now c.as_slice.ensures c.args.number c.in-Some.place c.in-Some.ensures old c.take_job.new.live _
     (λ walk live. requests_under walk c.args.number live c.args.asked c.args.backlog live.key) (λ walk. requests_in walk c.args.number old (asked_by ask) c.args.backlog old.pipe) c.count.new.self c.take_job.new.caller c.in_ok-accepted.accepted c.size-size.result ask _ _
     (job-asks s.walk c.args.number c.self.inside.client old c.args.asked (asked_by ask) c.args.backlog old.key (ap (λ (x : State). x.walk.client) (sym c.self.view_is)) job)
-    (loan_here (get nat_cmp c.self.inside.lives.transforms c.in-Some.place) c.get_mut.result c.unwrap-live.result c.get_mut.ensures.value c.unwrap-live.ensures) (written c.args.self.now c.self.inside.lives c.self.invariant c.self.view_is c.args.label.now c.as_slice.result.now c.as_slice.ensures c.in-Some.place c.in-Some.ensures c.unwrap-live.result.now c.take_job.new.live _ (loan_here (get nat_cmp c.self.inside.lives.transforms c.in-Some.place) c.get_mut.result c.unwrap-live.result c.get_mut.ensures.value c.unwrap-live.ensures) c.take_job.ensures.named (c.get_mut.follows.holds c.take_job.new.live).0) e.lock c.requires.stands c.requires.posted c.size-size.ensures e.held c.count.ensures
+    is (written c.args.self.now c.self.inside.lives c.self.invariant c.self.view_is c.args.label.now c.as_slice.result.now c.as_slice.ensures c.in-Some.place c.in-Some.ensures c.unwrap-live.result.now c.take_job.new.live _ is c.take_job.ensures.named (c.get_mut.follows.holds c.take_job.new.live).0) e.lock c.requires.stands c.requires.posted c.size-size.ensures e.held c.count.ensures
