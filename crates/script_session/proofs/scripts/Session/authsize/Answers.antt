@@ -1,9 +1,9 @@
-use Rattle.std.proofs.Common.{ap, sym, refl, subst, arith, length}
+use Rattle.std.proofs.Common.{ap, sym, refl, subst}
 use Rattle.board.specs.Legal.{LegalBoard}
 use Rattle.dialogues.specs.Dialogues.{for_live}
 use Rattle.dialogues.specs.Walk.{Live}
 use Rattle.script_session.specs.Keyed.{sizes_live}
-use Rattle.script_session.specs.States.{State, HasPipe}
+use Rattle.script_session.specs.States.{State}
 use Rattle.session_calls.specs.Passes.{known}
 use Rattle.script_session.proofs.Arms.{or-stops, stops-same, answer-holds, sees-same}
 use Rattle.std.specs.BTreeMap.{get}

@@ -1,9 +1,7 @@
-use Rattle.std.proofs.Common.{ap, sym, refl, subst, arith, length}
+use Rattle.std.proofs.Common.{ap, refl}
 use Rattle.dialogues.specs.Dialogues.{for_live}
 use Rattle.dialogues.specs.Piping.{drains_in}
 use Rattle.dialogues.specs.Walk.{Live}
-use Rattle.script_session.specs.States.{State, HasPipe}
-use Rattle.session_calls.specs.Passes.{known}
 use Rattle.script_session.proofs.Arms.{or-stops, stops-same, answer-holds}
 use Rattle.std.specs.BTreeMap.{get}
 use Rattle.std.specs.Ordering.{nat_cmp}

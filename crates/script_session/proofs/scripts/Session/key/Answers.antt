@@ -1,4 +1,4 @@
-use Rattle.std.proofs.Common.{ap, sym, refl, subst, arith, length, [], OnOk}
+use Rattle.std.proofs.Common.{ap, sym, refl, subst, [], OnOk}
 use Rattle.board.specs.declared.entry.BoardEntry.{BoardEntry}
 use Rattle.board.specs.Legal.{LegalBoard}
 use Rattle.transforms.specs.declared.ask.Ask.{Ask}

@@ -1,11 +1,11 @@
-use Rattle.std.proofs.Common.{[], ap, sym, refl, subst, arith, length}
+use Rattle.std.proofs.Common.{[], ap, sym, refl, subst}
 use Rattle.std.specs.Prelude.{MatchResult}
 use Rattle.script_session.specs.Changing.{HoldsFor}
 use Rattle.script_session.specs.Holding.{SeesOn}
 use Rattle.dialogues.specs.Dialogues.{for_live}
 use Rattle.script_session.specs.Keyed.{masks_in}
 use Rattle.dialogues.specs.Walk.{Live}
-use Rattle.script_session.specs.States.{State, HasPipe, IsWide}
+use Rattle.script_session.specs.States.{State, IsWide}
 use Rattle.session_calls.specs.Passes.{known}
 use Rattle.script_session.proofs.Arms.{or-stops, stops-same, answer-holds}
 use Rattle.std.specs.BTreeMap.{get}
