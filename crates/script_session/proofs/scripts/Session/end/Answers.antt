@@ -61,6 +61,6 @@ returns-in_err-lives-clause-done g c =
 pub returns-in_err-lives-clause-told : goal.returns-in_err-lives-clause-told
 returns-in_err-lives-clause-told g c =
     on-err c.from_residual.result
-    (subst (λ (x : State). SaysTold (known x.board) (known x.board) c.args.reply.now.text c.args.reply.now.text) c.self.view_is
+    (subst (λ (x : State). SaysTold (known x.board) (known c.self.inside.board) c.args.reply.now.text c.args.reply.now.text) c.self.view_is
     (told-first (known c.self.inside.board) (known c.self.inside.board) c.args.reply.now.text
     (tells-nothing (known c.self.inside.board) (known c.self.inside.board) (called-nothing (known c.self.inside.board)))))
