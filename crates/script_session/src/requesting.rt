@@ -114,7 +114,11 @@ impl Session {
         let Some(place) = self.lives.place_of(label.as_slice()) else {
             return refuse(answers, number, Errno::ENOENT);
         };
-        let job = match self.lives.get(place).job(self.alloc, self.client, number, asked) {
+        let job = match self
+            .lives
+            .get(place)
+            .job(self.alloc, self.client, number, asked)
+        {
             Ok(job) => job,
             Err(JobErr::NoKey) => return refuse(answers, number, Errno::ENOKEY),
             Err(JobErr::Inval) => return refuse(answers, number, Errno::EINVAL),

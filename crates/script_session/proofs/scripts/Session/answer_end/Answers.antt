@@ -8,8 +8,7 @@ use Rattle.script_session.proofs.scripts.Session.answer_end.Goals as goal
 
 pub release_all-requires-clause-posted : goal.release_all-requires-clause-posted
 release_all-requires-clause-posted g c =
-    let s = c.args.self.now in
-    (
+    let s = c.args.self.now in (
       s.walk,
       sym (c.deref_mut.ensures.value ∙ (c.in_ok-lives.ensures.all ∙ ap (λ (x : State). x.walk.lives) c.self.view_is)),
       subst (λ (x : State). Posted s.walk (known x.board)) (sym c.self.view_is) c.requires.posted,
