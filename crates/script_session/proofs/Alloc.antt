@@ -1,7 +1,6 @@
 -- `alloc`: its refusals, in order, and then a look.
-use Rattle.std.proofs.Common.{◌≡◌, ℕ, ◌<◌, ◌≤◌, true, false, List, [], ◌∷◌, ◌++◌, length, Option, Some, None, Result, Ok, Err, sym, ap, subst, ◌∙◌, arith}
+use Rattle.std.proofs.Common.{◌≡◌, ℕ, ◌<◌, ◌≤◌, true, false, List, [], ◌∷◌, ◌++◌, length, Option, Some, None, Result, Ok, Err, refl, sym, ap, subst, ◌∙◌, arith}
 use Rattle.std.specs.Prelude.{not, is_some, nat_le, MatchResult}
-use Rattle.std.specs.List.{position_from}
 use Rattle.std.proofs.lemmas.Bool.Decides.{nat_tests}
 use Rattle.kc_base.specs.declared.error_numbers.Errno.{Errno}
 use Rattle.kc_base.specs.declared.error_numbers.Errno.TheVariants.{EEXIST, EINVAL, EMFILE}
@@ -11,19 +10,25 @@ use Rattle.dialogues.specs.Names.{name_read, is_queue_length}
 use Rattle.dialogues.specs.Allocating.{alloc, binds, fault_of}
 use Rattle.dialogues.specs.Dialogues.{Asks, refuses, unless}
 use Rattle.dialogues.specs.Questions.{Look}
-use Rattle.dialogues.specs.Walk.{Walk, Live, is_of, live_of}
+use Rattle.dialogues.specs.Walk.{Walk, Live, live_of}
 use Rattle.session_calls.specs.Passes.{RegPass, BoardPass}
 use Rattle.script_session.specs.Finding.{looks}
+use Rattle.script_session.specs.Filed.{AreFiled, lives_of, number_of}
+use Rattle.script_session.specs.declared.lives.Lives.{Lives}
 use Rattle.script_session.specs.Holding.{Holds, Stops}
 use Rattle.script_session.specs.States.{State}
 use Rattle.script_session.proofs.Arms.{viewed, unless-not, unless-so}
 use Rattle.script_session.proofs.Living.{live-at, no-live}
 
 -- whether the label has a transform
-module _ {ws c : ℕ} {items : List Live} {q v : ℕ} {r : Option RegPass} {b : Option BoardPass} (s : State) (view : viewed ws c items q v r b ≡ s) (label name : List ℕ) (slice : List Live) (same : name ≡ label) (are : slice ≡ items) where
-  pub live-there : (o : Option ℕ) → o ≡ position_from (is_of name) 0 slice → is_some (live_of s.walk label) ≡ is_some o
-  live-there (Some place) at = ap is_some (live-at s view label name slice same are place at).found
-  live-there None at = ap is_some (no-live s view label name slice same are at)
+module _ {ws c q v : ℕ} {r : Option RegPass} {b : Option BoardPass} (s : State) (lives : Lives) (filed : AreFiled lives) (view : viewed ws c (lives_of lives) q v r b ≡ s) (label name : List ℕ) (same : name ≡ label) where
+  pub live-there : (o : Option ℕ) → o ≡ number_of name lives.transforms.entries → is_some (live_of s.walk label) ≡ is_some o
+  live-there (Some number) at = ap is_some (live-at s lives filed view label name same number at).found
+  live-there None at = ap is_some (no-live s lives filed view label name same at)
+
+pub nobody : (o : Option Live) → is_some o ≡ false → o ≡ None
+nobody None e = refl
+nobody (Some live) e = absurd cc
 
 module _ (workers : ℕ) (walk : Walk) (n : ℕ) (label name : List ℕ) (len : Option ℕ) where
   pub alloc-live : is_some (live_of walk label) ≡ true → alloc workers walk n label name len ≡ refuses walk n EEXIST

@@ -27,13 +27,14 @@ use Rattle.dialogues.specs.Walk.{Walk, Live, Pipe}
 use Rattle.session_calls.specs.Asking.{Asked}
 use Rattle.session_calls.specs.Passes.{RegPass, BoardPass, known, lock_of}
 use Rattle.session_calls.specs.Pipelines.{KnowsPipe, Called, Changed, Drained, IsShut, notice_by, line_of}
-use Rattle.session_calls.proofs.Boarding.{kept-same, called-more}
+use Rattle.session_calls.proofs.Boarding.{kept-same, called-more, starts-same}
 use Rattle.script_session.specs.Changing.{Changes}
 use Rattle.script_session.specs.Ending.{LeadsBy, part, Moves, MovesAll, ArePosted, AreAllPaid, IsPaid, end_said, place_of, EndsWith, AnswersEnd, EndsShut}
+use Rattle.script_session.specs.Holding.{HasSeenMore, SeesOn, Stops}
 use Rattle.script_session.specs.Keyed.{held_as, delivering}
 use Rattle.script_session.specs.States.{State, SameLocks, Stands, HasPipe, is_at, owners}
 use Rattle.script_session.specs.Telling.{callback_said}
-use Rattle.script_session.proofs.Arms.{viewed}
+use Rattle.script_session.proofs.Arms.{sees-same, viewed}
 use Rattle.script_session.proofs.Changing.{IsOn, changes-pipe, changes-kept}
 use Rattle.script_session.proofs.Leading.{leads-same, goes-held, drains-some, drains-same}
 use Rattle.script_session.proofs.Piped.{held-live, said-is, count-is, delivered-live}
@@ -158,6 +159,16 @@ module _ {ws c : ℕ} {items left : List Live} {q v : ℕ} {r : Option RegPass} 
       end-answers s (viewed ws c left q v r b') first' second' k l answers text text'
       (record { registry = ap (λ (x : State). lock_of x.registry) view; board = lock ∙ ap (λ (x : State). lock_of x.board) view; workers = ap (λ (x : State). x.workers) view })
       (ap (λ (x : State). x.registry) view) stands lets' drains' shuts (put ∙ ap (λ a. text ++ flat_map text_of a) same)
+
+-- memory was wanting before anything was called
+module _ {ws c : ℕ} {items : List Live} {q v : ℕ} {r : Option RegPass} {b : Option BoardPass} (s : State) (view : viewed ws c items q v r b ≡ s) where
+  pub stops-here : (left : List Live) → Stops s (viewed ws c left q v r b)
+  stops-here left =
+      record {
+        locks = record { registry = ap (λ (x : State). lock_of x.registry) view; board = ap (λ (x : State). lock_of x.board) view; workers = ap (λ (x : State). x.workers) view };
+        registry = subst (λ (x : State). HasSeenMore (known x.registry) (known r)) view (record { number = refl; next = refl; seen = starts-same (known r).seen });
+        board = subst (λ (x : State). SeesOn (known x.board) (known b)) view (sees-same (known b));
+      }
 
 -- ---- each pipeline is finished
 

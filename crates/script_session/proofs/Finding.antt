@@ -1,6 +1,6 @@
 -- `alloc` past its own refusals: the name is looked up, and what is found is taken into use.
 use Rattle.std.proofs.Common.{◌≡◌, ℕ, ◌+◌, Bool, true, false, cond, List, [], ◌∷◌, ◌++◌, Option, Some, None, Result, Ok, Err, slice_get, refl, sym, ap, subst, ◌∙◌, arith}
-use Rattle.std.specs.Prelude.{◌==◌, not, unwrap_or, MatchResult}
+use Rattle.std.specs.Prelude.{◌==◌, not, unwrap_or, MatchResult, OnOk}
 use Rattle.kc_base.specs.declared.error_numbers.Errno.{Errno}
 use Rattle.kc_base.specs.declared.error_numbers.Errno.TheVariants.{EAGAIN, EINVAL}
 use Rattle.alg_registry.specs.declared.spec.Spec.{Spec}
@@ -22,9 +22,9 @@ use Rattle.dialogues.specs.Questions.{Look, Get, Create}
 use Rattle.dialogues.specs.Walk.{Walk, Live, Pipe}
 use Rattle.session_calls.specs.Asking.{Asked, Asks, SeesMore, Finds}
 use Rattle.session_calls.specs.Passes.{RegPass, BoardPass, known, lock_of}
-use Rattle.session_calls.proofs.Boarding.{starts-trans}
-use Rattle.script_session.specs.Creating.{Created}
-use Rattle.script_session.specs.Finding.{looks}
+use Rattle.session_calls.proofs.Boarding.{starts-same, starts-trans}
+use Rattle.script_session.specs.Creating.{Created, CreatedLive}
+use Rattle.script_session.specs.Finding.{looks, AddsLive}
 use Rattle.script_session.specs.Holding.{HasSeenMore, SeesOn, Done, Holds, Stops}
 use Rattle.script_session.specs.States.{State, Stands, Posted, uses}
 use Rattle.script_session.proofs.Arms.{viewed, sees-same, called-sees}
@@ -108,6 +108,9 @@ pub created-sees : (shape : Option Shape) (pipe : Option Pipe) (k l : Known (Boa
 created-sees None pipe k l created = subst (SeesOn k) (sym created.1) (sees-same k)
 created-sees (Some shape) pipe k l created = called-sees k l _ created.2.changed.called created.2.changed.unshut
 
+pub created-live-sees : (workers : ℕ) (label : List ℕ) (len : Option ℕ) (id : ℕ) (spec : Spec) (plan : Plan) (live : Live) (k l : Known (BoardEntry Ask)) → CreatedLive workers label len id spec plan live k l → SeesOn k l
+created-live-sees workers label len id spec plan live k l created = created-sees (shape_for workers (is_chained spec.driver) spec.wrap len) created.0 k l created.2
+
 -- a reference was taken, or not
 pub asks-got : {r r' : Option RegPass} (id : ℕ) (ok t : Bool) → ok ≡ t → Asks r r' (Gets id ok ∷ []) → Asks r r' (Gets id t ∷ [])
 asks-got {r} {r'} id ok t is asks = subst (λ x. Asks r r' (Gets id x ∷ [])) is asks
@@ -134,6 +137,10 @@ module _ {ws c : ℕ} {lives : List Live} {q v : ℕ} {r : Option RegPass} {b : 
         registry = subst (λ (x : State). HasSeenMore (known x.registry) (known r')) view (has-seen-more more);
         board = subst (λ (x : State). SeesOn (known x.board) (known b')) view on;
       }
+
+  -- the same where the registry wasn't asked
+  pub further-on : {b' : Option BoardPass} (lives' : List Live) → lock_of b' ≡ lock_of b → SeesOn (known b) (known b') → Stops s (viewed ws c lives' q v r b')
+  further-on lives' lock on = further lives' (record { lock = refl; number = refl; next = refl; seen = starts-same (known r).seen }) lock on
 
   -- the same after the registry was asked
   pub further-still : {r' : Option RegPass} (s' : State) → SeesMore r r' → Stops (viewed ws c lives q v r' b) s' → Stops s s'
@@ -165,6 +172,28 @@ module _ {ws c : ℕ} {lives : List Live} {q v : ℕ} {r : Option RegPass} {b : 
               (stands-more lives lives (known r) (known r') [] stands0 origin.asked (λ other. refl)) posted0 e));
         },
       )) stands posted
+
+  -- a transform was made and added, and it is answered
+  pub adds-arm : {S A : Type 0} (b' : Option BoardPass) (items : List Live) (n : ℕ) (label : List ℕ) (len : Option ℕ) (id : ℕ) (spec : Spec) (plan : Plan) (live : Live) (answers answers' : List Answer) (result : Result A S)
+      → lock_of b' ≡ lock_of b → CreatedLive ws label len id spec plan live (known b) (known b') → items ≡ lives ++ live ∷ [] → OnOk result (answers' ≡ answers ++ said.Made n spec.driver ∷ [])
+      → MatchResult result (λ _. AddsLive n label len id spec plan s (viewed ws c items q v r b') answers answers') (λ _. Stops s (viewed ws c items q v r b'))
+  adds-arm b' items n label len id spec plan live answers answers' (Ok a) lock created more e =
+      subst (λ (x : State). AddsLive n label len id spec plan x (viewed ws c items q v r b') answers answers') view
+      (record { live = live; created = created; lock = lock; added = ap (λ ls. viewed ws c ls q v r b') more; says = e })
+  adds-arm b' items n label len id spec plan live answers answers' (Err stop) lock created more e =
+      further-on items lock (created-live-sees ws label len id spec plan live (known b) (known b') created)
+
+  -- the same where another call made the transform and added it
+  pub added-arm : {S A : Type 0} {r' r2 : Option RegPass} (s' : State) (n : ℕ) (label : List ℕ) (len : Option ℕ) (id : ℕ) (spec : Spec) (plan : Plan) (answers answers' : List Answer) (result : Result A S)
+      → Asks r r' [] → slice_get (registered (known r).seen) id ≡ Some spec → plan_for spec len ≡ Some plan → Asks r' r2 (Gets id true ∷ []) → Stands s.walk.lives (known s.registry) → Posted s.walk (known s.board)
+      → MatchResult result (λ _. AddsLive n label len id spec plan (viewed ws c lives q v r2 b) s' answers answers') (λ _. Stops (viewed ws c lives q v r2 b) s')
+      → MatchResult result (λ _. Bound s s' n label len id answers answers') (λ _. Stops s s')
+  added-arm {r' = r'} {r2 = r2} s' n label len id spec plan answers answers' (Ok a) origin there plans got stands posted adds =
+      subst (λ x. Bound s x n label len id answers answers') (sym adds.added)
+      (bound-arm {r' = r'} {r2 = r2} {b' = s'.board} n label len id spec plan adds.created.0 answers answers' origin there plans got adds.lock adds.created.2
+      (ap (λ l. lives ++ l ∷ []) adds.created.1) stands posted adds.says)
+  added-arm s' n label len id spec plan answers answers' (Err e) origin there plans got stands posted stops =
+      further-still s' (sees-then (sees-asked [] origin) (sees-asked (Gets id true ∷ []) got)) stops
 
   pub lost-arm : {r' r2 : Option RegPass} (n : ℕ) (label : List ℕ) (len : Option ℕ) (id : ℕ) (spec : Spec) (plan : Plan) (answers answers' : List Answer)
       → Asks r r' [] → slice_get (registered (known r).seen) id ≡ Some spec → plan_for spec len ≡ Some plan → Asks r' r2 (Gets id false ∷ [])

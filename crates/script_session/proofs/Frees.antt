@@ -1,6 +1,5 @@
 -- A transform is released: its pipeline is closed, and its reference given back.
 use Rattle.std.proofs.Common.{◌≡◌, ℕ, false, List, [], ◌∷◌, ◌++◌, Option, sym, ap, subst, ◌∙◌, arith}
-use Rattle.std.specs.List.{remove}
 use Rattle.reply_text.specs.declared.answers.Answer.{Answer}
 use Rattle.reply_text.specs.declared.answers.Answer.TheVariants as said
 use Rattle.dialogues.specs.Allocating.{free, lists_beside}
@@ -14,19 +13,18 @@ use Rattle.script_session.specs.States.{State, Stands, Posted, MadeWide}
 use Rattle.script_session.proofs.Arms.{viewed}
 use Rattle.script_session.proofs.Changing.{label-of, released-posted}
 use Rattle.script_session.proofs.Freeing.{free-done}
-use Rattle.script_session.proofs.Placed.{Split, split-remove, uses-removed}
+use Rattle.script_session.proofs.Placed.{Split, uses-removed}
 use Rattle.script_session.proofs.Standing.{stands-more}
 use Rattle.script_session.proofs.Widths.{wide-released}
 
 module _ {ws c : ℕ} {items items' : List Live} {q v : ℕ} {r r' : Option RegPass} {b b' : Option BoardPass} (s : State) (view : viewed ws c items q v r b ≡ s) (label : List ℕ) (place : ℕ) (at : Split label s.walk.lives 0 place) where
-  free-at : (n : ℕ) (answers answers' : List Answer) → items' ≡ remove items place → lock_of b' ≡ lock_of b → Released at.live (known b) (known b') → Asks r r' (Puts at.live.id ∷ []) → owes at.live.pipe ≡ false
+  free-at : (n : ℕ) (answers answers' : List Answer) → items' ≡ removed label s.walk.lives → lock_of b' ≡ lock_of b → Released at.live (known b) (known b') → Asks r r' (Puts at.live.id ∷ []) → owes at.live.pipe ≡ false
       → Stands s.walk.lives (known s.registry) → Posted s.walk (known s.board) → answers' ≡ answers ++ said.Ok n ∷ [] → Holds (free s.walk n label) s (viewed ws c items' q v r' b') answers answers'
   free-at n answers answers' gone lock released asks paid stands posted e =
       let released' : Released at.live (known s.board) (known b') = subst (λ (x : State). Released at.live (known x.board) (known b')) view released in
       let asks' : Asks s.registry r' (Puts at.live.id ∷ []) = subst (λ (x : State). Asks x.registry r' (Puts at.live.id ∷ [])) view asks in
-      let now : items' ≡ removed label s.walk.lives = gone ∙ (ap (λ (x : State). remove x.walk.lives place) view ∙ split-remove label s.walk.lives place at) in
       let walk_is : record { client = c; lives = items'; requests = q; bytes = v } ≡ without s.walk label =
-      ap (λ ls. let x : Walk = record { client = c; lives = ls; requests = q; bytes = v } in x) now
+      ap (λ ls. let x : Walk = record { client = c; lives = ls; requests = q; bytes = v } in x) gone
       ∙ ap (λ (x : State). let y : Walk = record { client = x.walk.client; lives = removed label s.walk.lives; requests = x.walk.requests; bytes = x.walk.bytes } in y) view in
       let left : Stands (removed label s.walk.lives) (known r') =
       stands-more s.walk.lives (removed label s.walk.lives) (known s.registry) (known r') (Puts at.live.id ∷ []) stands asks'.asked
@@ -39,7 +37,7 @@ module _ {ws c : ℕ} {items items' : List Live} {q v : ℕ} {r r' : Option RegP
             (released-posted s.walk label place at (known s.board) (known b') posted released') e);
       }
 
-  pub free-arm : (live : Live) (id n : ℕ) (answers answers' : List Answer) → live ≡ at.live → id ≡ live.id → items' ≡ remove items place → lock_of b' ≡ lock_of b → Released live (known b) (known b') → Asks r r' (Puts id ∷ []) → owes at.live.pipe ≡ false
+  pub free-arm : (live : Live) (id n : ℕ) (answers answers' : List Answer) → live ≡ at.live → id ≡ live.id → items' ≡ removed label s.walk.lives → lock_of b' ≡ lock_of b → Released live (known b) (known b') → Asks r r' (Puts id ∷ []) → owes at.live.pipe ≡ false
       → Stands s.walk.lives (known s.registry) → Posted s.walk (known s.board) → answers' ≡ answers ++ said.Ok n ∷ [] → Holds (free s.walk n label) s (viewed ws c items' q v r' b') answers answers'
   free-arm live id n answers answers' was id_is gone lock released asks paid stands posted e =
       free-at n answers answers' gone lock (subst (λ l. Released l (known b) (known b')) was released) (subst (λ m. Asks r r' (Puts m ∷ [])) (id_is ∙ ap (λ (l : Live). l.id) was) asks) paid stands posted e

@@ -7,6 +7,7 @@ pub mod Freeing
 pub mod Changing
 pub mod Piped
 pub mod Placed
+pub mod Filed
 pub mod Living
 pub mod Requests
 pub mod Frees

@@ -1,10 +1,15 @@
 -- Arms on the transform of a label.
-use Rattle.std.proofs.Common.{◌≡◌, ℕ, ◌+◌, ◌<◌, List, [], ◌∷◌, length, Option, Some, None, Result, Ok, Err, refl, sym, ap, subst, ◌∙◌, slice_index_or, arith, Bool, true, false, zero-add}
-use Rattle.std.specs.Prelude.{All, MatchResult, sum_by}
+use Rattle.std.proofs.Common.{◌≡◌, ℕ, ◌+◌, List, [], ◌∷◌, length, Option, Some, None, Result, Ok, Err, refl, sym, ap, subst, ◌∙◌, arith, Bool, true, false, zero-add}
+use Rattle.std.specs.Borrow.{MutBor}
+use Rattle.std.specs.Option.{option_copied_mut}
+use Rattle.std.specs.Prelude.{All, IsSome, MatchResult, sum_by}
 use Rattle.std.specs.List.{position_from}
-use Rattle.std.proofs.Math.ListN.{set}
+use Rattle.std.specs.BTreeMap.{get, is_at}
+use Rattle.std.specs.Map.{remove_entry, set_value, values_of}
+use Rattle.std.specs.Ordering.{nat_cmp}
 use Rattle.std.proofs.lemmas.List.Elements.{All-head}
 use Rattle.board.specs.Allowance.{accepted_by}
+use Rattle.board.proofs.Kept.{loan_some}
 use Rattle.board.specs.declared.entry.BoardEntry.{BoardEntry}
 use Rattle.reply_text.specs.declared.answers.Answer.{Answer}
 use Rattle.transforms.specs.declared.ask.Ask.{Ask}
@@ -12,16 +17,19 @@ use Rattle.transforms.specs.AskValue.{ask_size}
 use Rattle.turn_lock.specs.Turns.{Known}
 use Rattle.dialogues.specs.Allocating.{lists_beside}
 use Rattle.dialogues.specs.Dialogues.{Dialogue, with_label}
-use Rattle.dialogues.specs.Walk.{Walk, Live, is_of, live_of, with_live, replaced}
+use Rattle.dialogues.specs.Walk.{Walk, Live, is_of, live_of, with_live, replaced, removed}
 use Rattle.script_session.specs.States.{State, counted, HasPipe, Posted, Stands, MadeWide}
 use Rattle.session_calls.specs.Passes.{RegPass, BoardPass, known, lock_of}
 use Rattle.session_calls.specs.Pipelines.{Called}
 use Rattle.script_session.specs.Changing.{HoldsFor, counting, asks_if}
+use Rattle.script_session.specs.Filed.{AreFiled, lives_of, number_of}
+use Rattle.script_session.specs.declared.lives.Lives.{Lives}
 use Rattle.script_session.specs.Holding.{HasSeenMore, SeesOn, Done, Holds, Stops}
 use Rattle.script_session.specs.Saying.{SaysFor, BreaksFor, SaysBy, BreaksOff}
 use Rattle.script_session.proofs.Arms.{viewed, called-sees}
-use Rattle.script_session.proofs.Changing.{IsOn, All-right, replaced-at, live-done}
-use Rattle.script_session.proofs.Placed.{Split, split-at, none-at, split-set, split-within, split-live}
+use Rattle.script_session.proofs.Changing.{IsOn, All-right, label-of, live-done}
+use Rattle.script_session.proofs.Filed.{place-at, nobody-at, get-found, set-found, removed-found}
+use Rattle.script_session.proofs.Placed.{Split, split-at}
 use Rattle.script_session.proofs.Widths.{wide-changes}
 use Rattle.session_calls.proofs.Boarding.{starts-same}
 
@@ -29,40 +37,74 @@ use Rattle.session_calls.proofs.Boarding.{starts-same}
 pub rests-at : (walk : Walk) (label : List ℕ) (place : ℕ) (k : Known (BoardEntry Ask)) (s : Split label walk.lives 0 place) → Posted walk k → HasPipe k s.live.pipe
 rests-at walk label place k s posted = All-head (IsOn k) s.live s.later (All-right (IsOn k) s.before (s.live ∷ s.later) (subst (All (IsOn k)) s.lives_is posted.pipes))
 
-module _ {ws c : ℕ} {items : List Live} {q v : ℕ} {r : Option RegPass} {b : Option BoardPass} (s : State) (view : viewed ws c items q v r b ≡ s) (label name : List ℕ) (slice : List Live) (same : name ≡ label) (are : slice ≡ items) where
-  -- where the label's transform stands
-  pub live-at : (place : ℕ) → Some place ≡ position_from (is_of name) 0 slice → Split label s.walk.lives 0 place
-  live-at place at =
-      split-at label s.walk.lives 0 place (sym (at ∙ (ap (λ l. position_from (is_of l) 0 slice) same ∙ ap (λ ls. position_from (is_of label) 0 ls) (are ∙ ap (λ (x : State). x.walk.lives) view))))
+module _ {ws c q v : ℕ} {r : Option RegPass} {b : Option BoardPass} (s : State) (lives : Lives) (filed : AreFiled lives) (view : viewed ws c (lives_of lives) q v r b ≡ s) (label name : List ℕ) (same : name ≡ label) where
+  abbrev entries : List (ℕ × Live)
+  entries = lives.transforms.entries
 
-  pub no-live : None ≡ position_from (is_of name) 0 slice → live_of s.walk label ≡ None
+  numbered : (number : ℕ) → Some number ≡ number_of name entries → number_of label entries ≡ Some number
+  numbered number at = ap (λ l. number_of l entries) (sym same) ∙ sym at
+
+  -- where the label's transform stands in the walk
+  pub place : (number : ℕ) → Some number ≡ number_of name entries → ℕ
+  place number at = (place-at label entries 0 number (numbered number at)).0
+
+  pub live-at : (number : ℕ) (at : Some number ≡ number_of name entries) → Split label s.walk.lives 0 (place number at)
+  unfolding place
+  live-at number at =
+      split-at label s.walk.lives 0 (place number at)
+      (sym (ap (λ (x : State). position_from (is_of label) 0 x.walk.lives) view) ∙ (place-at label entries 0 number (numbered number at)).1)
+
+  pub no-live : None ≡ number_of name entries → live_of s.walk label ≡ None
   no-live at =
-      none-at label s.walk.lives 0 (sym (at ∙ (ap (λ l. position_from (is_of l) 0 slice) same ∙ ap (λ ls. position_from (is_of label) 0 ls) (are ∙ ap (λ (x : State). x.walk.lives) view))))
+      sym (ap (λ (x : State). live_of x.walk label) view) ∙ nobody-at label entries (ap (λ l. number_of l entries) (sym same) ∙ sym at)
 
-  pub within : (place : ℕ) → Some place ≡ position_from (is_of name) 0 slice → place < length items
-  within place at =
-      let e = split-within label s.walk.lives place (live-at place at) in
-      let l = ap (λ (x : State). length x.walk.lives) view in
-      omega (arith, e, l)
+  -- the number has it
+  pub has-live : (number : ℕ) (at : Some number ≡ number_of name entries) → get nat_cmp lives.transforms number ≡ Some (live-at number at).live
+  has-live number at =
+      get-found label number entries filed.ascend (numbered number at)
+      ∙ (ap (λ (x : State). live_of x.walk label) view ∙ (live-at number at).found)
 
-  pub is-live : (place : ℕ) (at : Some place ≡ position_from (is_of name) 0 slice) (old : Live) → old ≡ slice_index_or items place old → old ≡ (live-at place at).live
-  is-live place at old is = is ∙ (ap (λ (x : State). slice_index_or x.walk.lives place old) view ∙ split-live label s.walk.lives place old (live-at place at))
+  pub is-there : (number : ℕ) → Some number ≡ number_of name entries → IsSome (get nat_cmp lives.transforms number)
+  is-there number at = subst IsSome (sym (has-live number at)) refl
+
+  -- a loan of it can be had
+  pub loan-there : (number : ℕ) → Some number ≡ number_of name entries → (loan : Option (MutBor Live)) → option_copied_mut loan ≡ get nat_cmp lives.transforms number → IsSome loan
+  loan-there number at loan is = loan_some loan (get nat_cmp lives.transforms number) (live-at number at).live is (has-live number at)
+
+  pub is-live : (number : ℕ) (at : Some number ≡ number_of name entries) (old : Live) → get nat_cmp lives.transforms number ≡ Some old → old ≡ (live-at number at).live
+  is-live number at old is = (let both : Some old ≡ Some (live-at number at).live = sym is ∙ has-live number at in cc)
+
+  -- its pipeline, where it has one, is on the board
+  pub pipe-there : (number : ℕ) → Some number ≡ number_of name entries → (old : Live) → get nat_cmp lives.transforms number ≡ Some old → Posted s.walk (known s.board) → HasPipe (known b) old.pipe
+  pipe-there number at old is posted =
+      let split = live-at number at in
+      subst (λ (l : Live). HasPipe (known b) l.pipe) (sym (is-live number at old is))
+      (subst (λ (x : State). HasPipe (known x.board) split.live.pipe) (sym view) (rests-at s.walk label (place number at) (known s.board) split posted))
+
+  -- the list with what was written through its loan
+  pub written : (number : ℕ) (at : Some number ≡ number_of name entries) (old new : Live) (next : List (ℕ × Live)) → get nat_cmp lives.transforms number ≡ Some old → new.label ≡ old.label
+      → next ≡ set_value (is_at (nat_cmp number)) entries new → values_of next ≡ replaced new s.walk.lives
+  written number at old new next is named set =
+      let mine : new.label ≡ label = named ∙ (ap (λ (l : Live). l.label) (is-live number at old is) ∙ label-of label s.walk.lives (place number at) (live-at number at)) in
+      ap values_of set ∙ (set-found label number entries new mine filed.ascend (numbered number at) ∙ ap (λ (x : State). replaced new x.walk.lives) view)
+
+  -- and without it
+  pub taken : (number : ℕ) → Some number ≡ number_of name entries → (next : List (ℕ × Live)) → next ≡ remove_entry (is_at (nat_cmp number)) entries → values_of next ≡ removed label s.walk.lives
+  taken number at next gone =
+      ap values_of gone ∙ (removed-found label number entries filed.ascend (numbered number at) ∙ ap (λ (x : State). removed label x.walk.lives) view)
 
   -- the dialogue of the transform is that of the label
-  pub live-holds : (n place : ℕ) (at : Some place ≡ position_from (is_of name) 0 slice) (old new : Live) (rest : Walk → Live → Dialogue) (d : Walk → Dialogue) (q' v' : ℕ) (b' : Option BoardPass) (asks : List Ask) (answers answers' : List Answer)
-      → rest s.walk old ≡ d s.walk → old ≡ slice_index_or items place old → lock_of b' ≡ lock_of b → q' ≡ q + length asks → v' ≡ v + sum_by ask_size asks → Stands s.walk.lives (known s.registry) → Posted s.walk (known s.board)
-      → HoldsFor d old new (known b) (known b') asks answers answers' → Holds (with_label s.walk n label (rest s.walk)) s (viewed ws c (set items place new) q' v' r b') answers answers'
-  live-holds n place at old new rest d q' v' b' asks answers answers' same_d is lock more_q more_v stands posted holds =
-      let split = live-at place at in
-      let was = is-live place at old is in
+  pub live-holds : (n number : ℕ) (at : Some number ≡ number_of name entries) (old new : Live) (items' : List Live) (rest : Walk → Live → Dialogue) (d : Walk → Dialogue) (q' v' : ℕ) (b' : Option BoardPass) (asks : List Ask) (answers answers' : List Answer)
+      → rest s.walk old ≡ d s.walk → get nat_cmp lives.transforms number ≡ Some old → items' ≡ replaced new s.walk.lives → lock_of b' ≡ lock_of b → q' ≡ q + length asks → v' ≡ v + sum_by ask_size asks → Stands s.walk.lives (known s.registry) → Posted s.walk (known s.board)
+      → HoldsFor d old new (known b) (known b') asks answers answers' → Holds (with_label s.walk n label (rest s.walk)) s (viewed ws c items' q' v' r b') answers answers'
+  live-holds n number at old new items' rest d q' v' b' asks answers answers' same_d is set_is lock more_q more_v stands posted holds =
+      let split = live-at number at in
+      let was = is-live number at old is in
       let here : HoldsFor d split.live new (known b) (known b') asks answers answers' = subst (λ l. HoldsFor d l new (known b) (known b') asks answers answers') was holds in
       let there : HoldsFor d split.live new (known s.board) (known b') asks answers answers' = subst (λ (x : State). HoldsFor d split.live new (known x.board) (known b') asks answers answers') view here in
-      let done = live-done s.walk n label place split new (known s.registry) (known s.board) (known b') asks answers answers' rest d (ap (rest s.walk) (sym was) ∙ same_d) stands posted there in
-      let now : List Live = set items place new in
-      let lives_are : now ≡ replaced new s.walk.lives =
-      ap (λ (x : State). set x.walk.lives place new) view ∙ (split-set label s.walk.lives place new split ∙ sym (replaced-at s.walk label place new split there.changes.label)) in
-      let walk_is : record { client = c; lives = now; requests = q'; bytes = v' } ≡ counting (with_live s.walk new) asks =
-      ap (λ ls. let x : Walk = record { client = c; lives = ls; requests = q'; bytes = v' } in x) lives_are
+      let done = live-done s.walk n label (place number at) split new (known s.registry) (known s.board) (known b') asks answers answers' rest d (ap (rest s.walk) (sym was) ∙ same_d) stands posted there in
+      let walk_is : record { client = c; lives = items'; requests = q'; bytes = v' } ≡ counting (with_live s.walk new) asks =
+      ap (λ ls. let x : Walk = record { client = c; lives = ls; requests = q'; bytes = v' } in x) set_is
       ∙ (ap (λ m. let x : Walk = record { client = c; lives = replaced new s.walk.lives; requests = m; bytes = v' } in x) more_q
       ∙ (ap (λ m. let x : Walk = record { client = c; lives = replaced new s.walk.lives; requests = q + length asks; bytes = m } in x) more_v
       ∙ ap (λ (x : State). let y : Walk = record { client = x.walk.client; lives = replaced new s.walk.lives; requests = x.walk.requests + length asks; bytes = x.walk.bytes + sum_by ask_size asks } in y) view)) in
@@ -70,15 +112,15 @@ module _ {ws c : ℕ} {items : List Live} {q v : ℕ} {r : Option RegPass} {b : 
         locks = record { registry = ap (λ (x : State). lock_of x.registry) view; board = lock ∙ ap (λ (x : State). lock_of x.board) view; workers = ap (λ (x : State). x.workers) view };
         wide = λ wide.
             subst (λ n. MadeWide (lists_beside n) (known b')) (sym (ap (λ (x : State). x.workers) view))
-            (wide-changes (lists_beside s.workers) split.live new (known s.board) (known b') there.calls asks (rests-at s.walk label place (known s.board) split posted) there.changes wide);
+            (wide-changes (lists_beside s.workers) split.live new (known s.board) (known b') there.calls asks (rests-at s.walk label (place number at) (known s.board) split posted) there.changes wide);
         done = subst (λ x. Done (with_label s.walk n label (rest s.walk)) (known s.registry) (known s.board) (known r) (known b') x answers answers') (sym walk_is)
             (subst (λ (x : State). Done (with_label s.walk n label (rest s.walk)) (known s.registry) (known s.board) (known x.registry) (known b') (counting (with_live s.walk new) asks) answers answers') (sym view) done);
       }
 
   -- memory was wanting
-  pub live-stops : (place : ℕ) (new : Live) (q' v' : ℕ) (b' : Option BoardPass) → lock_of b' ≡ lock_of b → Stands s.walk.lives (known s.registry) → SeesOn (known b) (known b')
-      → Stops s (viewed ws c (set items place new) q' v' r b')
-  live-stops place new q' v' b' lock stands more =
+  pub live-stops : (items' : List Live) (q' v' : ℕ) (b' : Option BoardPass) → lock_of b' ≡ lock_of b → Stands s.walk.lives (known s.registry) → SeesOn (known b) (known b')
+      → Stops s (viewed ws c items' q' v' r b')
+  live-stops items' q' v' b' lock stands more =
       record {
         locks = record { registry = ap (λ (x : State). lock_of x.registry) view; board = lock ∙ ap (λ (x : State). lock_of x.board) view; workers = ap (λ (x : State). x.workers) view };
         registry = subst (λ (x : State). HasSeenMore (known x.registry) (known r)) view (record { number = refl; next = refl; seen = starts-same (known r).seen });
@@ -86,42 +128,42 @@ module _ {ws c : ℕ} {items : List Live} {q v : ℕ} {r : Option RegPass} {b : 
       }
 
   -- the same of an arm that hands nothing in
-  pub live-arm : {S A : Type 0} (n place : ℕ) (at : Some place ≡ position_from (is_of name) 0 slice) (old new : Live) (rest : Walk → Live → Dialogue) (b' : Option BoardPass) (answers answers' : List Answer) (result : Result A S)
-      → old ≡ slice_index_or items place old → lock_of b' ≡ lock_of b → Stands s.walk.lives (known s.registry) → Posted s.walk (known s.board)
+  pub live-arm : {S A : Type 0} (n number : ℕ) (at : Some number ≡ number_of name entries) (old new : Live) (items' : List Live) (rest : Walk → Live → Dialogue) (b' : Option BoardPass) (answers answers' : List Answer) (result : Result A S)
+      → get nat_cmp lives.transforms number ≡ Some old → items' ≡ replaced new s.walk.lives → lock_of b' ≡ lock_of b → Stands s.walk.lives (known s.registry) → Posted s.walk (known s.board)
       → MatchResult result (λ _. HoldsFor (λ walk. rest walk old) old new (known b) (known b') [] answers answers') (λ _. SeesOn (known b) (known b'))
-      → MatchResult result (λ _. Holds (with_label s.walk n label (rest s.walk)) s (viewed ws c (set items place new) q v r b') answers answers') (λ _. Stops s (viewed ws c (set items place new) q v r b'))
-  live-arm n place at old new rest b' answers answers' (Ok a) is lock stands posted held = live-holds n place at old new rest (λ walk. rest walk old) q v b' [] answers answers' refl is lock (omega arith) (omega arith) stands posted held
-  live-arm n place at old new rest b' answers answers' (Err e) is lock stands posted held = live-stops place new q v b' lock stands held
+      → MatchResult result (λ _. Holds (with_label s.walk n label (rest s.walk)) s (viewed ws c items' q v r b') answers answers') (λ _. Stops s (viewed ws c items' q v r b'))
+  live-arm n number at old new items' rest b' answers answers' (Ok a) is set_is lock stands posted held = live-holds n number at old new items' rest (λ walk. rest walk old) q v b' [] answers answers' refl is set_is lock (omega arith) (omega arith) stands posted held
+  live-arm n number at old new items' rest b' answers answers' (Err e) is set_is lock stands posted held = live-stops items' q v b' lock stands held
 
   -- the same of an arm that hands a request in, which is counted where it was accepted
-  pub request-arm : (n place : ℕ) (at : Some place ≡ position_from (is_of name) 0 slice) (old new : Live) (rest : Walk → Live → Dialogue) (d : Walk → Dialogue) (s' : State) (b' : Option BoardPass) (accepted : Bool) (size : ℕ) (ask : Ask) (answers answers' : List Answer)
-      → rest s.walk old ≡ d s.walk → old ≡ slice_index_or items place old → lock_of b' ≡ lock_of b → Stands s.walk.lives (known s.registry) → Posted s.walk (known s.board) → size ≡ ask_size ask
-      → HoldsFor d old new (known b) (known b') (asks_if accepted ask) answers answers' → s' ≡ counted (viewed ws c (set items place new) q v r b') accepted size → Holds (with_label s.walk n label (rest s.walk)) s s' answers answers'
-  request-arm n place at old new rest d s' b' true size ask answers answers' same_d is lock stands posted sized held e =
+  pub request-arm : (n number : ℕ) (at : Some number ≡ number_of name entries) (old new : Live) (items' : List Live) (rest : Walk → Live → Dialogue) (d : Walk → Dialogue) (s' : State) (b' : Option BoardPass) (accepted : Bool) (size : ℕ) (ask : Ask) (answers answers' : List Answer)
+      → rest s.walk old ≡ d s.walk → get nat_cmp lives.transforms number ≡ Some old → items' ≡ replaced new s.walk.lives → lock_of b' ≡ lock_of b → Stands s.walk.lives (known s.registry) → Posted s.walk (known s.board) → size ≡ ask_size ask
+      → HoldsFor d old new (known b) (known b') (asks_if accepted ask) answers answers' → s' ≡ counted (viewed ws c items' q v r b') accepted size → Holds (with_label s.walk n label (rest s.walk)) s s' answers answers'
+  request-arm n number at old new items' rest d s' b' true size ask answers answers' same_d is set_is lock stands posted sized held e =
       subst (λ x. Holds (with_label s.walk n label (rest s.walk)) s x answers answers') (sym e)
-      (live-holds n place at old new rest d (q + 1) (v + size) b' (ask ∷ []) answers answers' same_d is lock refl (ap (λ m. v + m) (sized ∙ sym (zero-add (ask_size ask)))) stands posted held)
-  request-arm n place at old new rest d s' b' false size ask answers answers' same_d is lock stands posted sized held e =
+      (live-holds n number at old new items' rest d (q + 1) (v + size) b' (ask ∷ []) answers answers' same_d is set_is lock refl (ap (λ m. v + m) (sized ∙ sym (zero-add (ask_size ask)))) stands posted held)
+  request-arm n number at old new items' rest d s' b' false size ask answers answers' same_d is set_is lock stands posted sized held e =
       subst (λ x. Holds (with_label s.walk n label (rest s.walk)) s x answers answers') (sym e)
-      (live-holds n place at old new rest d q v b' [] answers answers' same_d is lock (omega arith) (omega arith) stands posted held)
+      (live-holds n number at old new items' rest d q v b' [] answers answers' same_d is set_is lock (omega arith) (omega arith) stands posted held)
 
   -- what the session has counted is what was accepted from it
   pub bytes-at : Posted s.walk (known s.board) → sum_by ask_size (accepted_by (known b).number (known b).seen) ≡ v
   bytes-at posted = subst (λ (x : State). sum_by ask_size (accepted_by (known x.board).number (known x.board).seen) ≡ x.walk.bytes) (sym view) posted.bytes
 
   -- the same of an arm whose text is added to a reply
-  pub text-arm : {S A : Type 0} (n place : ℕ) (at : Some place ≡ position_from (is_of name) 0 slice) (old new : Live) (rest : Walk → Live → Dialogue) (b' : Option BoardPass) (text text' : List ℕ) (result : Result A S)
-      → old ≡ slice_index_or items place old → lock_of b' ≡ lock_of b → Stands s.walk.lives (known s.registry) → Posted s.walk (known s.board)
+  pub text-arm : {S A : Type 0} (n number : ℕ) (at : Some number ≡ number_of name entries) (old new : Live) (items' : List Live) (rest : Walk → Live → Dialogue) (b' : Option BoardPass) (text text' : List ℕ) (result : Result A S)
+      → get nat_cmp lives.transforms number ≡ Some old → items' ≡ replaced new s.walk.lives → lock_of b' ≡ lock_of b → Stands s.walk.lives (known s.registry) → Posted s.walk (known s.board)
       → MatchResult result (λ _. SaysFor (λ walk. rest walk old) old new (known b) (known b') text text') (λ _. BreaksFor (known b) (known b') text text')
-      → MatchResult result (λ _. SaysBy 1 (with_label s.walk n label (rest s.walk)) s (viewed ws c (set items place new) q v r b') text text') (λ _. BreaksOff s (viewed ws c (set items place new) q v r b') text text')
-  text-arm n place at old new rest b' text text' (Ok a) is lock stands posted says =
+      → MatchResult result (λ _. SaysBy 1 (with_label s.walk n label (rest s.walk)) s (viewed ws c items' q v r b') text text') (λ _. BreaksOff s (viewed ws c items' q v r b') text text')
+  text-arm n number at old new items' rest b' text text' (Ok a) is set_is lock stands posted says =
       record {
         said = says.said;
-        held = live-holds n place at old new rest (λ walk. rest walk old) q v b' [] [] says.said refl is lock (omega arith) (omega arith) stands posted says.held;
+        held = live-holds n number at old new items' rest (λ walk. rest walk old) q v b' [] [] says.said refl is set_is lock (omega arith) (omega arith) stands posted says.held;
         says = says.says;
       }
-  text-arm n place at old new rest b' text text' (Err e) is lock stands posted breaks =
+  text-arm n number at old new items' rest b' text text' (Err e) is set_is lock stands posted breaks =
       record {
-        stops = live-stops place new q v b' lock stands (called-sees (known b) (known b') [] breaks.called breaks.unshut);
+        stops = live-stops items' q v b' lock stands (called-sees (known b) (known b') [] breaks.called breaks.unshut);
         called = subst (λ (x : State). Called (known x.board) (known b') []) view breaks.called;
         says = breaks.says;
       }

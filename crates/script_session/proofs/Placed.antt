@@ -1,11 +1,8 @@
 -- The transform of a label, by its place.
-use Rattle.std.proofs.Common.{◌≡◌, ℕ, ◌+◌, ◌-◌, ◌<◌, List, [], ◌∷◌, ◌++◌, length, refl, sym, ap, ◌∙◌, Some, None, Bool, true, false, cond, arith, get_or, length-append}
+use Rattle.std.proofs.Common.{◌≡◌, ℕ, ◌+◌, List, [], ◌∷◌, ◌++◌, length, refl, sym, ap, ◌∙◌, Some, Bool, true, false, cond, arith}
 use Rattle.std.specs.Prelude.{find, if◌then◌else◌, ◌==◌}
-use Rattle.std.specs.List.{position_from, remove}
+use Rattle.std.specs.List.{position_from}
 use Rattle.std.specs.Str.{bytes_eq}
-use Rattle.std.proofs.Math.Seq.{get_or-append_seam, set-append_seam}
-use Rattle.std.proofs.Math.ListN.{set}
-use Rattle.std.proofs.lemmas.List.Edits.{remove-append_right}
 use Rattle.dialogues.specs.Walk.{Live, is_of, replaced, removed}
 use Rattle.script_session.specs.States.{uses}
 
@@ -52,33 +49,6 @@ split-first label x xs i place false e go at =
 pub split-at : (label : List ℕ) (lives : List Live) (i place : ℕ) → position_from (is_of label) i lives ≡ Some place → Split label lives i place
 split-at label [] i place e = absurd cc
 split-at label (x ∷ xs) i place e = split-first label x xs i place (is_of label x) refl (split-at label xs (i + 1) place) e
-
-pub none-at : (label : List ℕ) (lives : List Live) (i : ℕ) → position_from (is_of label) i lives ≡ None → find (is_of label) lives ≡ None
-none-at label [] i e = refl
-none-at label (x ∷ xs) i e = none-first (is_of label x) e (none-at label xs (i + 1))
-  where
-    none-first : (b : Bool) → cond b (Some i) (position_from (is_of label) (i + 1) xs) ≡ None → (position_from (is_of label) (i + 1) xs ≡ None → find (is_of label) xs ≡ None) → cond b (Some x) (find (is_of label) xs) ≡ None
-    none-first true e go = absurd cc
-    none-first false e go = go e
-
-pub split-within : (label : List ℕ) (lives : List Live) (place : ℕ) → Split label lives 0 place → place < length lives
-split-within label lives place s = let e = ap length s.lives_is in omega (arith, e, length-append s.before (s.live ∷ s.later), s.place_is)
-
-pub split-live : (label : List ℕ) (lives : List Live) (place : ℕ) (d : Live) (s : Split label lives 0 place) → get_or lives place d ≡ s.live
-split-live label lives place d s =
-    ap (λ ls. get_or ls place d) s.lives_is
-    ∙ (ap (λ k. get_or (s.before ++ s.live ∷ s.later) k d) (let e : place ≡ length s.before = omega (arith, s.place_is) in e) ∙ get_or-append_seam s.before s.live s.later d)
-
-pub split-set : (label : List ℕ) (lives : List Live) (place : ℕ) (new : Live) (s : Split label lives 0 place) → set lives place new ≡ s.before ++ new ∷ s.later
-split-set label lives place new s =
-    ap (λ ls. set ls place new) s.lives_is
-    ∙ (ap (λ k. set (s.before ++ s.live ∷ s.later) k new) (let e : place ≡ length s.before = omega (arith, s.place_is) in e) ∙ set-append_seam s.before s.live s.later new)
-
-pub split-remove : (label : List ℕ) (lives : List Live) (place : ℕ) (s : Split label lives 0 place) → remove lives place ≡ removed label lives
-split-remove label lives place s =
-    ap (λ ls. remove ls place) s.lives_is
-    ∙ (remove-append_right s.before (s.live ∷ s.later) (length s.before) place refl (omega (arith, s.place_is))
-    ∙ (ap (λ k. s.before ++ remove (s.live ∷ s.later) k) (let e : place - length s.before ≡ 0 = omega (arith, s.place_is) in e) ∙ sym s.removes))
 
 -- ---- how many stand on an entry
 

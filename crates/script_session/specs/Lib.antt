@@ -5,6 +5,7 @@ pub mod Changing
 pub mod Telling
 pub mod Offering
 pub mod Creating
+pub mod Filed
 pub mod Finding
 pub mod Probing
 pub mod Running

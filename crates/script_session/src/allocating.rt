@@ -1,6 +1,6 @@
 //! The lines that take a transform into use and let it go.
 
-ghost use Rattle.std.specs.Prelude.{◌≡◌, ◌≤◌, MatchResult, IsSome, Some, true, slice_get};
+ghost use Rattle.std.specs.Prelude.{◌≡◌, ◌≤◌, MatchResult, IsSome, None, Some, true, slice_get};
 ghost use Rattle.alg_names.specs.Name.{spelling};
 ghost use Rattle.alg_registry.specs.declared.spec.Spec.{Spec as Algorithm};
 ghost use Rattle.alg_registry.specs.Rows.{registered};
@@ -8,31 +8,107 @@ ghost use Rattle.templates.specs.Looking.{Entry};
 ghost use Rattle.templates.specs.Nesting.{is_nested_well};
 ghost use Rattle.dialogues.specs.Allocating.{alloc, binds, free};
 ghost use Rattle.dialogues.specs.Names.{is_queue_length};
-ghost use Rattle.script_session.specs.Finding.{looks};
-ghost use Rattle.session_calls.specs.Passes.{CallsRegistry, known, CallsBoard};
+ghost use Rattle.dialogues.specs.Walk.{live_of};
+ghost use Rattle.board.specs.Legal.{IsNoWorker};
+ghost use Rattle.script_session.specs.Creating.{CreatedLive};
+ghost use Rattle.script_session.specs.Finding.{looks, AddsLive};
+ghost use Rattle.session_calls.specs.Passes.{CallsRegistry, known, lock_of, CallsBoard};
 ghost use Rattle.script_session.specs.States.{Stands, Posted};
-ghost use Rattle.script_session.specs.Holding.{Holds, Stops};
+ghost use Rattle.script_session.specs.Holding.{Holds, SeesOn, Stops};
 
 use crate::answers::{refuse, say};
-use crate::lives::place_of;
 use crate::naming::{fits_queue, plan_with, read_name};
 use crate::piping::{close_live, create_pipe, is_owing};
 use crate::scripts::Session;
 use crate::transform::Transform;
 use alg_names::Name;
+use alg_registry::Spec;
 use kc_base::{Bytes, Errno};
 use reply_text::Answer;
-use session_calls::Stop;
+use session_calls::{BoardCaller, Stop};
 use shared_board::SharedBoard;
 use shared_registry::SharedRegistry;
+use std::alloc::Global;
 use std::sync::Wait;
-use templates::BuildErr;
+use templates::{BuildErr, Plan};
 use transforms::Job;
 
 /// The most live transforms.
 const MOST_LIVE: usize = 4096;
 
+// A transform of an entry, with its pipeline, where it has one.
+fn create_live<R: Wait>(
+    alloc: Global,
+    rt: &R,
+    board: &SharedBoard<Job>,
+    caller: &mut BoardCaller,
+    workers: u32,
+    label: &Bytes,
+    length: Option<u32>,
+    id: u64,
+    spec: &Spec,
+    plan: Plan,
+) -> Result<Transform, Stop>
+    requires at { CallsBoard board.now caller.old }
+    requires caller { IsNoWorker (known caller.old).number }
+    requires fits { is_queue_length length ≡ true }
+    requires few { workers ≤ 16 }
+    ensures lock { lock_of caller.new ≡ lock_of caller.old }
+    ensures created { MatchResult result
+        (λ live. CreatedLive workers label.now length id spec.now plan live (known caller.old) (known caller.new))
+        (λ _. SeesOn (known caller.old) (known caller.new)) }
+{
+    let label = Bytes::copy_of(alloc, label.as_slice())?;
+    let pipe = create_pipe(alloc, rt, board, caller, workers, spec, length)?;
+    Ok(Transform::new(label, id, plan, pipe))
+}
+
 impl Session {
+    // Makes the transform of an entry, of which there is a reference, and adds it behind the others.
+    fn add_live<R: Wait>(
+        &mut self,
+        rt: &R,
+        board: &SharedBoard<Job>,
+        number: u32,
+        label: &Bytes,
+        length: Option<u32>,
+        id: u64,
+        spec: Spec,
+        plan: Plan,
+        answers: &mut Vec<Answer>,
+    ) -> Result<(), Stop>
+        requires at_board { CallsBoard board.now self.old.board }
+        requires posted { Posted self.old.walk (known self.old.board) }
+        requires few { self.old.workers ≤ 16 }
+        requires free { live_of self.old.walk label.now ≡ None }
+        requires fits { is_queue_length length ≡ true }
+        ensures { MatchResult result
+            (λ _. AddsLive number label.now length id spec plan self.old self.new answers.old.items answers.new.items)
+            (λ _. Stops self.old self.new) }
+    {
+        let live = create_live(
+            self.alloc,
+            rt,
+            board,
+            &mut self.board,
+            self.workers,
+            label,
+            length,
+            id,
+            &spec,
+            plan,
+        )?;
+        self.lives.push(self.alloc, live)?;
+        let driver = spec.driver;
+        say(
+            answers,
+            Answer::Made {
+                line: number,
+                driver,
+            },
+        )
+    }
+
     // Takes an entry that a look came to into use.
     fn bind<R: Wait>(
         &mut self,
@@ -50,6 +126,7 @@ impl Session {
         requires stands { Stands self.old.walk.lives (known self.old.registry) }
         requires posted { Posted self.old.walk (known self.old.board) }
         requires few { self.old.workers ≤ 16 }
+        requires free { live_of self.old.walk label.now ≡ None }
         requires seen { IsSome (slice_get (registered (known self.old.registry).seen) id) }
         requires fits { is_queue_length length ≡ true }
         ensures { MatchResult result
@@ -64,29 +141,10 @@ impl Session {
         let Some(plan) = planned else {
             return refuse(answers, number, Errno::EINVAL);
         };
-        let label = Bytes::copy_of(self.alloc, label.as_slice())?;
         if !self.registry.take_ref(rt, registry, id)? {
             return refuse(answers, number, Errno::EAGAIN);
         }
-        let pipe = create_pipe(
-            self.alloc,
-            rt,
-            board,
-            &mut self.board,
-            self.workers,
-            &spec,
-            length,
-        )?;
-        let driver = spec.driver;
-        say(
-            answers,
-            Answer::Made {
-                line: number,
-                driver,
-            },
-        )?;
-        self.lives.push(Transform::new(label, id, plan, pipe))?;
-        Ok(())
+        self.add_live(rt, board, number, label, length, id, spec, plan, answers)
     }
 
     // Looks a name up, and takes what is found into use.
@@ -106,6 +164,7 @@ impl Session {
         requires stands { Stands self.old.walk.lives (known self.old.registry) }
         requires posted { Posted self.old.walk (known self.old.board) }
         requires few { self.old.workers ≤ 16 }
+        requires free { live_of self.old.walk label.now ≡ None }
         requires nested { is_nested_well name.now ≡ true }
         requires fits { is_queue_length length ≡ true }
         ensures { MatchResult result
@@ -139,7 +198,7 @@ impl Session {
             (λ _. Holds (alloc self.old.workers self.old.walk number label.now name.now length) self.old self.new answers.old.items answers.new.items)
             (λ _. Stops self.old self.new) }
     {
-        if place_of(&self.lives, label.as_slice()).is_some() {
+        if self.lives.place_of(label.as_slice()).is_some() {
             return refuse(answers, number, Errno::EEXIST);
         }
         if self.lives.len() >= MOST_LIVE {
@@ -174,10 +233,10 @@ impl Session {
             (λ _. Holds (free self.old.walk number label.now) self.old self.new answers.old.items answers.new.items)
             (λ _. Stops self.old self.new) }
     {
-        let Some(place) = place_of(&self.lives, label.as_slice()) else {
+        let Some(place) = self.lives.place_of(label.as_slice()) else {
             return refuse(answers, number, Errno::ENOENT);
         };
-        if is_owing(&self.lives[place]) {
+        if is_owing(self.lives.get(place)) {
             return refuse(answers, number, Errno::EBUSY);
         }
         // Memory is taken first: nothing stops the line once its pipeline is closed.

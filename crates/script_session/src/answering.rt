@@ -67,14 +67,15 @@ impl Session {
         ensures shut { OnOk result (EndsShut (known self.new.board)) }
     {
         only_collects_hand_out::<Ask>();
-        release_all(rt, board, &mut self.board, &mut self.lives)?;
+        let mut lives = self.lives.take_all(self.alloc)?;
+        release_all(rt, board, &mut self.board, &mut lives)?;
         drain_last_all(
             self.alloc,
             rt,
             board,
             gate,
             &mut self.board,
-            &mut self.lives,
+            &mut lives,
             answers,
         )?;
         self.board.shut(rt, board);

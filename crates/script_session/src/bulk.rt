@@ -9,7 +9,6 @@ ghost use Rattle.script_session.specs.States.{Stands, Posted};
 ghost use Rattle.transforms.specs.Forms.{key_of};
 
 use crate::answers::{refuse, say};
-use crate::lives::place_of;
 use crate::scripts::Session;
 use crate::transform::Transform;
 use aes_block::BlockCipher;
@@ -128,11 +127,11 @@ impl Session {
             (λ _. Holds (bulk self.old.walk number label.now size seed) self.old self.new answers.old.items answers.new.items)
             (λ _. Stops self.old self.new) }
     {
-        let Some(place) = place_of(&self.lives, label.as_slice()) else {
+        let Some(place) = self.lives.place_of(label.as_slice()) else {
             return refuse(answers, number, Errno::ENOENT);
         };
         let threads = self.workers.max(1);
-        let live = &self.lives[place];
+        let live = self.lives.get(place);
         let answer = bulk_answer(rt, self.alloc, threads, number, live, size, seed)?;
         say(answers, answer)
     }

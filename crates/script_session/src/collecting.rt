@@ -44,6 +44,7 @@ pub fn poll_said<R: Wait>(
     requires legal { LegalBoard (known caller.old).seen }
     requires pipe { HasPipe (known caller.old) live.old.pipe }
     requires bytes { sum_by ask_size (accepted_by (known caller.old).number (known caller.old).seen) ≡ bytes }
+    ensures named { live.new.label ≡ live.old.label }
     ensures lock { lock_of caller.new ≡ lock_of caller.old }
     ensures held { MatchResult result
         (λ _. SaysFor (λ walk. polls_in walk line live.old live.old.pipe) live.old live.new (known caller.old) (known caller.new) reply.old.text reply.new.text)
@@ -80,6 +81,7 @@ pub fn drain_said<R: Wait, G: Gate>(
     requires legal { LegalBoard (known caller.old).seen }
     requires pipe { HasPipe (known caller.old) live.old.pipe }
     requires bytes { sum_by ask_size (accepted_by (known caller.old).number (known caller.old).seen) ≡ bytes }
+    ensures named { live.new.label ≡ live.old.label }
     ensures lock { lock_of caller.new ≡ lock_of caller.old }
     ensures held { MatchResult result
         (λ _. SaysFor (λ walk. drains_in walk line live.old live.old.pipe) live.old live.new (known caller.old) (known caller.new) reply.old.text reply.new.text)

@@ -168,7 +168,9 @@ impl Session {
         ensures told { OnErr result (SaysTold (known self.old.board) (known self.new.board) reply.old.text reply.new.text) }
     {
         only_collects_hand_out::<Ask>();
-        release_all(rt, board, &mut self.board, &mut self.lives)?;
+        // No line comes after it, so nothing is looked up any more.
+        let mut lives = self.lives.take_all(self.alloc)?;
+        release_all(rt, board, &mut self.board, &mut lives)?;
         drain_last_said_all(
             self.alloc,
             rt,
@@ -176,7 +178,7 @@ impl Session {
             gate,
             &mut self.board,
             self.bytes,
-            &mut self.lives,
+            &mut lives,
             reply,
         )?;
         self.board.shut(rt, board);

@@ -13,7 +13,6 @@ ghost use Rattle.session_calls.specs.Passes.{known};
 ghost use Rattle.script_session.specs.Holding.{Holds, Stops};
 
 use crate::answers::{refuse, say};
-use crate::lives::place_of;
 use crate::scripts::Session;
 use crate::transform::Transform;
 use kc_base::{Bytes, Errno};
@@ -30,7 +29,8 @@ pub fn key_live(
     key: &[u8],
     answers: &mut Vec<Answer>,
 ) -> Result<(), Stop>
-    ensures { OnOk result ((k : Known (BoardEntry Ask)) → HasPipe k live.old.pipe → LegalBoard k.seen
+    ensures named { live.new.label ≡ live.old.label }
+    ensures held { OnOk result ((k : Known (BoardEntry Ask)) → HasPipe k live.old.pipe → LegalBoard k.seen
         → HoldsFor (λ walk. keys_live walk line live.old key.now) live.old live.new k k [] answers.old.items answers.new.items) }
 {
     match live.set_key(alloc, key) {
@@ -53,7 +53,8 @@ pub fn size_live(
     size: u32,
     answers: &mut Vec<Answer>,
 ) -> Result<(), Stop>
-    ensures { OnOk result ((k : Known (BoardEntry Ask)) → HasPipe k live.old.pipe → LegalBoard k.seen
+    ensures named { live.new.label ≡ live.old.label }
+    ensures held { OnOk result ((k : Known (BoardEntry Ask)) → HasPipe k live.old.pipe → LegalBoard k.seen
         → HoldsFor (λ walk. sizes_live walk line live.old size) live.old live.new k k [] answers.old.items answers.new.items) }
 {
     match live.set_tag_size(size) {
@@ -83,16 +84,11 @@ impl Session {
             (λ _. Holds (set_key self.old.walk number label.now key.now) self.old self.new answers.old.items answers.new.items)
             (λ _. Stops self.old self.new) }
     {
-        let Some(place) = place_of(&self.lives, label.as_slice()) else {
+        let Some(place) = self.lives.place_of(label.as_slice()) else {
             return refuse(answers, number, Errno::ENOENT);
         };
-        key_live(
-            self.alloc,
-            number,
-            &mut self.lives[place],
-            key.as_slice(),
-            answers,
-        )
+        let live = self.lives.transforms.get_mut(&place).unwrap();
+        key_live(self.alloc, number, live, key.as_slice(), answers)
     }
 
     // `authsize T NUM`
@@ -109,9 +105,10 @@ impl Session {
             (λ _. Holds (set_tag_size self.old.walk number label.now size) self.old self.new answers.old.items answers.new.items)
             (λ _. Stops self.old self.new) }
     {
-        let Some(place) = place_of(&self.lives, label.as_slice()) else {
+        let Some(place) = self.lives.place_of(label.as_slice()) else {
             return refuse(answers, number, Errno::ENOENT);
         };
-        size_live(number, &mut self.lives[place], size, answers)
+        let live = self.lives.transforms.get_mut(&place).unwrap();
+        size_live(number, live, size, answers)
     }
 }

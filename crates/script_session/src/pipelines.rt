@@ -9,7 +9,6 @@ ghost use Rattle.script_session.specs.Saying.{SaysBy, BreaksOff};
 
 use crate::answers::{put_one, refuse};
 use crate::collecting::{drain_said, poll_said};
-use crate::lives::place_of;
 use crate::piping::{drain_live, go_live, hold_live, mask_live, poll_live};
 use crate::scripts::Session;
 use crew::Gate;
@@ -40,9 +39,10 @@ impl Session {
             (λ _. Holds (mask self.old.workers self.old.walk number label.now bits) self.old self.new answers.old.items answers.new.items)
             (λ _. Stops self.old self.new) }
     {
-        let Some(place) = place_of(&self.lives, label.as_slice()) else {
+        let Some(place) = self.lives.place_of(label.as_slice()) else {
             return refuse(answers, number, Errno::ENOENT);
         };
+        let live = self.lives.transforms.get_mut(&place).unwrap();
         mask_live(
             rt,
             board,
@@ -50,7 +50,7 @@ impl Session {
             self.workers,
             number,
             bits,
-            &mut self.lives[place],
+            live,
             answers,
         )
     }
@@ -71,17 +71,11 @@ impl Session {
             (λ _. Holds (hold self.old.walk number label.now) self.old self.new answers.old.items answers.new.items)
             (λ _. Stops self.old self.new) }
     {
-        let Some(place) = place_of(&self.lives, label.as_slice()) else {
+        let Some(place) = self.lives.place_of(label.as_slice()) else {
             return refuse(answers, number, Errno::ENOENT);
         };
-        hold_live(
-            rt,
-            board,
-            &mut self.board,
-            number,
-            &mut self.lives[place],
-            answers,
-        )
+        let live = self.lives.transforms.get_mut(&place).unwrap();
+        hold_live(rt, board, &mut self.board, number, live, answers)
     }
 
     // `go T`
@@ -100,17 +94,11 @@ impl Session {
             (λ _. Holds (go self.old.walk number label.now) self.old self.new answers.old.items answers.new.items)
             (λ _. Stops self.old self.new) }
     {
-        let Some(place) = place_of(&self.lives, label.as_slice()) else {
+        let Some(place) = self.lives.place_of(label.as_slice()) else {
             return refuse(answers, number, Errno::ENOENT);
         };
-        go_live(
-            rt,
-            board,
-            &mut self.board,
-            number,
-            &mut self.lives[place],
-            answers,
-        )
+        let live = self.lives.transforms.get_mut(&place).unwrap();
+        go_live(rt, board, &mut self.board, number, live, answers)
     }
 
     // `poll T`
@@ -129,16 +117,17 @@ impl Session {
             (λ _. Holds (poll self.old.walk number label.now) self.old self.new answers.old.items answers.new.items)
             (λ _. Stops self.old self.new) }
     {
-        let Some(place) = place_of(&self.lives, label.as_slice()) else {
+        let Some(place) = self.lives.place_of(label.as_slice()) else {
             return refuse(answers, number, Errno::ENOENT);
         };
+        let live = self.lives.transforms.get_mut(&place).unwrap();
         poll_live(
             self.alloc,
             rt,
             board,
             &mut self.board,
             number,
-            &mut self.lives[place],
+            live,
             answers,
         )
     }
@@ -160,9 +149,10 @@ impl Session {
             (λ _. Holds (drain self.old.walk number label.now) self.old self.new answers.old.items answers.new.items)
             (λ _. Stops self.old self.new) }
     {
-        let Some(place) = place_of(&self.lives, label.as_slice()) else {
+        let Some(place) = self.lives.place_of(label.as_slice()) else {
             return refuse(answers, number, Errno::ENOENT);
         };
+        let live = self.lives.transforms.get_mut(&place).unwrap();
         drain_live(
             self.alloc,
             rt,
@@ -170,7 +160,7 @@ impl Session {
             gate,
             &mut self.board,
             number,
-            &mut self.lives[place],
+            live,
             answers,
         )
     }
@@ -190,7 +180,7 @@ impl Session {
             (λ _. SaysBy 1 (poll self.old.walk number label.now) self.old self.new reply.old.text reply.new.text)
             (λ _. BreaksOff self.old self.new reply.old.text reply.new.text) }
     {
-        let Some(place) = place_of(&self.lives, label.as_slice()) else {
+        let Some(place) = self.lives.place_of(label.as_slice()) else {
             let errno = Errno::ENOENT;
             return put_one(
                 reply,
@@ -200,6 +190,7 @@ impl Session {
                 },
             );
         };
+        let live = self.lives.transforms.get_mut(&place).unwrap();
         poll_said(
             self.alloc,
             rt,
@@ -207,7 +198,7 @@ impl Session {
             &mut self.board,
             number,
             self.bytes,
-            &mut self.lives[place],
+            live,
             reply,
         )
     }
@@ -229,7 +220,7 @@ impl Session {
             (λ _. SaysBy 1 (drain self.old.walk number label.now) self.old self.new reply.old.text reply.new.text)
             (λ _. BreaksOff self.old self.new reply.old.text reply.new.text) }
     {
-        let Some(place) = place_of(&self.lives, label.as_slice()) else {
+        let Some(place) = self.lives.place_of(label.as_slice()) else {
             let errno = Errno::ENOENT;
             return put_one(
                 reply,
@@ -239,6 +230,7 @@ impl Session {
                 },
             );
         };
+        let live = self.lives.transforms.get_mut(&place).unwrap();
         drain_said(
             self.alloc,
             rt,
@@ -247,7 +239,7 @@ impl Session {
             &mut self.board,
             number,
             self.bytes,
-            &mut self.lives[place],
+            live,
             reply,
         )
     }

@@ -51,6 +51,7 @@ pub fn drain_live<R: Wait, G: Gate>(
     requires at { CallsBoard board.now caller.old }
     requires legal { LegalBoard (known caller.old).seen }
     requires pipe { HasPipe (known caller.old) live.old.pipe }
+    ensures named { live.new.label ≡ live.old.label }
     ensures lock { lock_of caller.new ≡ lock_of caller.old }
     ensures held { MatchResult result
         (λ _. HoldsFor (λ walk. drains_in walk line live.old live.old.pipe) live.old live.new (known caller.old) (known caller.new) [] answers.old.items answers.new.items)
@@ -116,6 +117,7 @@ pub fn take_job<R: Wait>(
     requires legal { LegalBoard (known caller.old).seen }
     requires pipe { HasPipe (known caller.old) live.old.pipe }
     requires line { line_of (arc_value job.ask) ≡ line }
+    ensures named { live.new.label ≡ live.old.label }
     ensures lock { lock_of caller.new ≡ lock_of caller.old }
     ensures held { MatchResult result
         (λ accepted. HoldsFor (λ walk. requests_in walk line live.old (asked_by (arc_value job.ask)) backlog live.old.pipe) live.old live.new (known caller.old) (known caller.new) (asks_if accepted (arc_value job.ask)) answers.old.items answers.new.items)
@@ -179,6 +181,7 @@ pub fn mask_live<R: Wait>(
     requires pipe { HasPipe (known caller.old) live.old.pipe }
     requires few { workers ≤ 16 }
     requires wide { MadeWide (lists_beside workers) (known caller.old) }
+    ensures named { live.new.label ≡ live.old.label }
     ensures lock { lock_of caller.new ≡ lock_of caller.old }
     ensures held { MatchResult result
         (λ _. HoldsFor (λ walk. masks_in workers walk line bits live.old) live.old live.new (known caller.old) (known caller.new) [] answers.old.items answers.new.items)
@@ -209,6 +212,7 @@ pub fn hold_live<R: Wait>(
     requires at { CallsBoard board.now caller.old }
     requires legal { LegalBoard (known caller.old).seen }
     requires pipe { HasPipe (known caller.old) live.old.pipe }
+    ensures named { live.new.label ≡ live.old.label }
     ensures lock { lock_of caller.new ≡ lock_of caller.old }
     ensures held { MatchResult result
         (λ _. HoldsFor (λ walk. holds_in walk line live.old) live.old live.new (known caller.old) (known caller.new) [] answers.old.items answers.new.items)
@@ -238,6 +242,7 @@ pub fn go_live<R: Wait>(
     requires at { CallsBoard board.now caller.old }
     requires legal { LegalBoard (known caller.old).seen }
     requires pipe { HasPipe (known caller.old) live.old.pipe }
+    ensures named { live.new.label ≡ live.old.label }
     ensures lock { lock_of caller.new ≡ lock_of caller.old }
     ensures held { MatchResult result
         (λ _. HoldsFor (λ walk. gos_in walk line live.old) live.old live.new (known caller.old) (known caller.new) [] answers.old.items answers.new.items)
@@ -268,6 +273,7 @@ pub fn poll_live<R: Wait>(
     requires at { CallsBoard board.now caller.old }
     requires legal { LegalBoard (known caller.old).seen }
     requires pipe { HasPipe (known caller.old) live.old.pipe }
+    ensures named { live.new.label ≡ live.old.label }
     ensures lock { lock_of caller.new ≡ lock_of caller.old }
     ensures held { MatchResult result
         (λ _. HoldsFor (λ walk. polls_in walk line live.old live.old.pipe) live.old live.new (known caller.old) (known caller.new) [] answers.old.items answers.new.items)

@@ -8,7 +8,6 @@ ghost use Rattle.script_session.specs.States.{Stands, Posted, counted};
 ghost use Rattle.script_session.specs.Holding.{Holds, Stops};
 
 use crate::answers::{refuse, say};
-use crate::lives::place_of;
 use crate::piping::take_job;
 use crate::scripts::Session;
 use crate::transform::JobErr;
@@ -112,17 +111,21 @@ impl Session {
             (λ _. Holds (request self.old.walk number label.now asked backlog) self.old self.new answers.old.items answers.new.items)
             (λ _. Stops self.old self.new) }
     {
-        let Some(place) = place_of(&self.lives, label.as_slice()) else {
+        let Some(place) = self.lives.place_of(label.as_slice()) else {
             return refuse(answers, number, Errno::ENOENT);
         };
-        let job = match self.lives[place].job(self.alloc, self.client, number, asked) {
+        let job = match self
+            .lives
+            .get(place)
+            .job(self.alloc, self.client, number, asked)
+        {
             Ok(job) => job,
             Err(JobErr::NoKey) => return refuse(answers, number, Errno::ENOKEY),
             Err(JobErr::Inval) => return refuse(answers, number, Errno::EINVAL),
             Err(JobErr::Memory) => return Err(Stop::Memory),
         };
         let size = job.size();
-        let live = &mut self.lives[place];
+        let live = self.lives.transforms.get_mut(&place).unwrap();
         let accepted = take_job(
             rt,
             board,

@@ -13,8 +13,8 @@ ghost use Rattle.script_session.specs.Saying.{SaysBy, hands_out};
 ghost use Rattle.session_calls.specs.Pipelines.{Called};
 
 use crate::answers::{put_all, say};
+use crate::lives::Lives;
 use crate::requesting::mac_request;
-use crate::transform::Transform;
 use crew::Gate;
 use reply_text::{Answer, Reply};
 use script_text::{Command, Line};
@@ -33,7 +33,7 @@ pub struct Session {
     pub(crate) alloc: Global,
     pub(crate) workers: u32,
     pub(crate) client: u32,
-    pub(crate) lives: Vec<Transform>,
+    pub(crate) lives: Lives,
     /// How many requests pipelines accepted, and of how many bytes.
     pub(crate) requests: u64,
     pub(crate) bytes: u64,
@@ -42,16 +42,19 @@ pub struct Session {
 }
 
 impl Model for Session {
+    ghost use Rattle.script_session.specs.Filed.{AreFiled, lives_of};
     ghost use Rattle.script_session.specs.States.{State};
 
     ghost Value = { State };
 
     ghost view = { λ s. record {
       workers = s.workers;
-      walk = record { client = s.client; lives = s.lives.items; requests = s.requests; bytes = s.bytes };
+      walk = record { client = s.client; lives = lives_of s.lives; requests = s.requests; bytes = s.bytes };
       registry = s.registry;
       board = s.board;
     } };
+
+    ghost invariant = { λ s. AreFiled s.lives };
 }
 
 impl Session {
@@ -69,7 +72,7 @@ impl Session {
             alloc,
             workers,
             client,
-            lives: Vec::new(alloc),
+            lives: Lives::new(alloc),
             requests: 0,
             bytes: 0,
             registry: RegistryCaller::new(registry),

@@ -1,18 +1,34 @@
-use Rattle.std.proofs.Common.{◌∙◌, ap, arith, length}
+use Rattle.std.proofs.Common.{◌∙◌, ap, arith, length, sym, subst, refl}
 use Rattle.std.proofs.lemmas.List.{with_items_is}
 use Rattle.session_calls.specs.Passes.{known}
-use Rattle.script_session.proofs.Ended.{end_with-arm, ends-shut}
+use Rattle.script_session.specs.States.{State, Posted}
+use Rattle.script_session.proofs.Ended.{end_with-arm, ends-shut, stops-here}
+use Rattle.std.proofs.lemmas.Result.{err_from_is_err_and}
 use Rattle.script_session.proofs.scripts.Session.answer_end.Goals as goal
+
+pub release_all-requires-clause-posted : goal.release_all-requires-clause-posted
+release_all-requires-clause-posted g c =
+    let s = c.args.self.now in (
+      s.walk,
+      sym (c.deref_mut.ensures.value ∙ (c.in_ok-lives.ensures.all ∙ ap (λ (x : State). x.walk.lives) c.self.view_is)),
+      subst (λ (x : State). Posted s.walk (known x.board)) (sym c.self.view_is) c.requires.posted,
+    )
 
 pub returns-clause-done : goal.returns-clause-done
 returns-clause-done g c =
     end_with-arm c.args.self.now c.self.view_is c.deref_mut.result.now c.release_all.new.lives c.deref_mut-2.result.now c.drain_last_all.new.lives (known c.release_all.new.caller) (known c.drain_last_all.new.caller)
     c.args.answers.now.items c.drain_last_all.new.answers.items
-    c.deref_mut.ensures.value
-    (c.deref_mut-2.ensures.value ∙ with_items_is c.self.inside.lives c.release_all.new.lives (omega (arith, c.release_all.auto.lives, c.deref_mut.ensures.len, ap length c.deref_mut.ensures.value)))
+    (c.deref_mut.ensures.value ∙ c.in_ok-lives.ensures.all)
+    (c.deref_mut-2.ensures.value ∙ with_items_is c.in_ok-lives.lives c.release_all.new.lives (omega (arith, c.release_all.auto.lives, c.deref_mut.ensures.len, ap length c.deref_mut.ensures.value)))
     (c.shut.ensures.lock ∙ (c.drain_last_all.ensures.lock ∙ c.release_all.ensures.lock)) c.requires.stands
     c.in_ok-release_all.ensures.moved c.in_ok-drain_last_all.ensures.moved c.shut.ensures.shut.called
 
 pub returns-clause-shut : goal.returns-clause-shut
 returns-clause-shut g c =
     ends-shut c.only_collects_hand_out.ensures.drained c.drain_last_all.new.lives (known c.drain_last_all.new.caller) (known c.shut.new.self) c.in_ok-drain_last_all.ensures.moved.posted c.in_ok-drain_last_all.ensures.paid c.shut.ensures.shut
+
+-- memory was wanting before anything was called
+pub returns-in_err-lives-clause-done : goal.returns-in_err-lives-clause-done
+returns-in_err-lives-clause-done g c =
+    let p = err_from_is_err_and c.from_residual.result c.from_residual.ensures.1 in
+    rw (p.1) (stops-here c.args.self.now c.self.view_is _)

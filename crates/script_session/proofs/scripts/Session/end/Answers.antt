@@ -5,10 +5,20 @@ use Rattle.board.specs.Allowance.{accepted_by}
 use Rattle.session_calls.specs.Passes.{known}
 use Rattle.transforms.specs.AskValue.{ask_size}
 use Rattle.script_session.specs.Saying.{SaysTold}
-use Rattle.script_session.specs.States.{State}
-use Rattle.script_session.proofs.Ended.{end-arm, ends-shut}
-use Rattle.script_session.proofs.Said.{on-err, told-first, told-after}
+use Rattle.script_session.specs.States.{State, Posted}
+use Rattle.script_session.proofs.Ended.{end-arm, ends-shut, stops-here}
+use Rattle.script_session.proofs.Said.{on-err, tells-nothing, told-first, told-after}
+use Rattle.std.proofs.lemmas.Result.{err_from_is_err_and}
+use Rattle.script_session.proofs.Rules.{called-nothing}
 use Rattle.script_session.proofs.scripts.Session.end.Goals as goal
+
+pub release_all-requires-clause-posted : goal.release_all-requires-clause-posted
+release_all-requires-clause-posted g c =
+    let s = c.args.self.now in (
+      s.walk,
+      sym (c.deref_mut.ensures.value ∙ (c.in_ok-lives.ensures.all ∙ ap (λ (x : State). x.walk.lives) c.self.view_is)),
+      subst (λ (x : State). Posted s.walk (known x.board)) (sym c.self.view_is) c.requires.posted,
+    )
 
 pub drain_last_said_all-requires-clause-bytes : goal.drain_last_said_all-requires-clause-bytes
 drain_last_said_all-requires-clause-bytes g c =
@@ -17,7 +27,7 @@ drain_last_said_all-requires-clause-bytes g c =
 
 pub returns-in_err-release_all-clause-told : goal.returns-in_err-release_all-clause-told
 returns-in_err-release_all-clause-told g c =
-    on-err c.from_residual.result
+    on-err c.from_residual-in_err-release_all.result
     (subst (λ (x : State). SaysTold (known x.board) (known c.release_all.new.caller) c.args.reply.now.text c.args.reply.now.text) c.self.view_is
     (told-first (known c.self.inside.board) (known c.release_all.new.caller) c.args.reply.now.text c.release_all.ensures.told))
 
@@ -32,11 +42,24 @@ returns-clause-done g c =
     let says = c.in_ok-drain_last_said_all.ensures.moved in
     end-arm c.args.self.now c.self.view_is c.deref_mut.result.now c.release_all.new.lives c.deref_mut-2.result.now c.drain_last_said_all.new.lives (known c.release_all.new.caller) (known c.drain_last_said_all.new.caller)
     [] says.said says.said c.args.reply.now.text c.drain_last_said_all.new.reply.text
-    c.deref_mut.ensures.value
-    (c.deref_mut-2.ensures.value ∙ with_items_is c.self.inside.lives c.release_all.new.lives (omega (arith, c.release_all.auto.lives, c.deref_mut.ensures.len, ap length c.deref_mut.ensures.value))) refl refl
+    (c.deref_mut.ensures.value ∙ c.in_ok-lives.ensures.all)
+    (c.deref_mut-2.ensures.value ∙ with_items_is c.in_ok-lives.lives c.release_all.new.lives (omega (arith, c.release_all.auto.lives, c.deref_mut.ensures.len, ap length c.deref_mut.ensures.value))) refl refl
     (c.shut.ensures.lock ∙ (c.drain_last_said_all.ensures.lock ∙ c.release_all.ensures.lock)) c.requires.stands
     c.in_ok-release_all.ensures.moved says.moves c.shut.ensures.shut.called says.says
 
 pub returns-clause-shut : goal.returns-clause-shut
 returns-clause-shut g c =
     ends-shut c.only_collects_hand_out.ensures.drained c.drain_last_said_all.new.lives (known c.drain_last_said_all.new.caller) (known c.shut.new.self) c.in_ok-drain_last_said_all.ensures.moved.moves.posted c.in_ok-drain_last_said_all.ensures.paid c.shut.ensures.shut
+
+-- memory was wanting before anything was called
+pub returns-in_err-lives-clause-done : goal.returns-in_err-lives-clause-done
+returns-in_err-lives-clause-done g c =
+    let p = err_from_is_err_and c.from_residual.result c.from_residual.ensures.1 in
+    rw (p.1) (stops-here c.args.self.now c.self.view_is _)
+
+pub returns-in_err-lives-clause-told : goal.returns-in_err-lives-clause-told
+returns-in_err-lives-clause-told g c =
+    on-err c.from_residual.result
+    (subst (λ (x : State). SaysTold (known x.board) (known c.self.inside.board) c.args.reply.now.text c.args.reply.now.text) c.self.view_is
+    (told-first (known c.self.inside.board) (known c.self.inside.board) c.args.reply.now.text
+    (tells-nothing (known c.self.inside.board) (known c.self.inside.board) (called-nothing (known c.self.inside.board)))))

@@ -1,5 +1,7 @@
-use Rattle.std.proofs.Common.{refl, Ok, Err}
+use Rattle.std.proofs.Common.{refl, ap, ◌∙◌, Ok, Err}
 use Rattle.alg_names.specs.Name.{spelling}
+use Rattle.dialogues.specs.Walk.{live_of}
+use Rattle.script_session.specs.States.{State}
 use Rattle.session_calls.specs.Passes.{known}
 use Rattle.script_session.proofs.Arms.{or-stops, sees-same}
 use Rattle.script_session.proofs.Finding.{sees-asked, finds-as, further, look-stands, found-arm, fault-holds}
@@ -7,6 +9,9 @@ use Rattle.script_session.proofs.scripts.Session.find.Goals as goal
 
 pub bind-requires-clause-stands : goal.bind-requires-clause-stands
 bind-requires-clause-stands g c = look-stands c.args.self.now c.self.view_is (spelling c.args.name.now) c.in-Ok.id c.requires.stands (finds-as c.self.inside.registry c.resolve.new.self (spelling c.args.name.now) c.in_ok-id.field-0 (Ok c.in-Ok.id) c.in-Ok.is c.in_ok-id.ensures)
+
+pub bind-requires-clause-free : goal.bind-requires-clause-free
+bind-requires-clause-free g c = ap (λ (x : State). live_of x.walk c.args.label.now) c.self.view_is ∙ c.requires.free
 
 pub returns-in-Ok : goal.returns-in-Ok
 returns-in-Ok g c =

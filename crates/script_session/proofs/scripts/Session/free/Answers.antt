@@ -10,50 +10,50 @@ use Rattle.script_session.proofs.Frees.{free-arm}
 use Rattle.script_session.proofs.Standing.{may-give}
 use Rattle.script_session.proofs.Arms.{or-stops, stops-same, answer-holds}
 use Rattle.script_session.proofs.Freeing.{free-owing}
-use Rattle.script_session.proofs.Living.{live-at, no-live, within, is-live}
+use Rattle.script_session.proofs.Living.{live-at, no-live, is-live, is-there, pipe-there, taken}
 use Rattle.script_session.proofs.scripts.Session.free.Goals as goal
 
 pub returns-in_default : goal.returns-in_default
 returns-in_default g c =
     let s = c.args.self.now in
-    let none = no-live c.args.self.now c.self.view_is c.args.label.now c.as_slice.result.now c.deref.result.now c.as_slice.ensures c.deref.ensures.value c.in_default.ensures in
+    let none = no-live c.args.self.now c.self.inside.lives c.self.invariant c.self.view_is c.args.label.now c.as_slice.result.now c.as_slice.ensures c.in_default.ensures in
     or-stops c.refuse.result c.refuse.ensures
     (answer-holds _ s s _ _ _ (ap (λ o. for_live s.walk c.args.number o (λ (live : Live). closes s.walk c.args.number live live.pipe)) none) refl refl refl c.requires.stands c.requires.posted)
     (stops-same s c.requires.stands)
 
-pub index-requires : goal.index-requires
-index-requires g c =
-    let less = within c.args.self.now c.self.view_is c.args.label.now c.as_slice.result.now c.deref.result.now c.as_slice.ensures c.deref.ensures.value c.in-Some.place c.in-Some.ensures in
-    omega (arith, less, c.deref.ensures.len, ap length c.deref.ensures.value)
+pub get-requires : goal.get-requires
+get-requires g c = is-there c.args.self.now c.self.inside.lives c.self.invariant c.self.view_is c.args.label.now c.as_slice.result.now c.as_slice.ensures c.in-Some.place c.in-Some.ensures
 
 pub returns-then-is_owing : goal.returns-then-is_owing
 returns-then-is_owing g c =
     let s = c.args.self.now in
-    let at = live-at c.args.self.now c.self.view_is c.args.label.now c.as_slice.result.now c.deref.result.now c.as_slice.ensures c.deref.ensures.value c.in-Some.place c.in-Some.ensures in
-    let was = is-live c.args.self.now c.self.view_is c.args.label.now c.as_slice.result.now c.deref.result.now c.as_slice.ensures c.deref.ensures.value c.in-Some.place c.in-Some.ensures c.index.result.now c.index.ensures in
+    let at = live-at c.args.self.now c.self.inside.lives c.self.invariant c.self.view_is c.args.label.now c.as_slice.result.now c.as_slice.ensures c.in-Some.place c.in-Some.ensures in
+    let was = is-live c.args.self.now c.self.inside.lives c.self.invariant c.self.view_is c.args.label.now c.as_slice.result.now c.as_slice.ensures c.in-Some.place c.in-Some.ensures c.get.result.now c.get.ensures in
     or-stops c.refuse-then-is_owing.result c.refuse-then-is_owing.ensures
     (answer-holds _ s s _ _ _ (free-owing s.walk c.args.number c.args.label.now at.live at.found (ap (λ (l : Live). owes l.pipe) (sym was) ∙ (sym c.is_owing.ensures ∙ c.if-is_owing.true))) refl refl refl c.requires.stands c.requires.posted)
     (stops-same s c.requires.stands)
 
-pub remove-live-requires : goal.remove-live-requires
-remove-live-requires g c =
-    let less = within c.args.self.now c.self.view_is c.args.label.now c.as_slice.result.now c.deref.result.now c.as_slice.ensures c.deref.ensures.value c.in-Some.place c.in-Some.ensures in
-    omega (arith, less)
+pub remove-live-requires-clause-there : goal.remove-live-requires-clause-there
+remove-live-requires-clause-there g c = is-there c.args.self.now c.self.inside.lives c.self.invariant c.self.view_is c.args.label.now c.as_slice.result.now c.as_slice.ensures c.in-Some.place c.in-Some.ensures
+
+pub close_live-requires-clause-pipe : goal.close_live-requires-clause-pipe
+close_live-requires-clause-pipe g c =
+    pipe-there c.args.self.now c.self.inside.lives c.self.invariant c.self.view_is c.args.label.now c.as_slice.result.now c.as_slice.ensures c.in-Some.place c.in-Some.ensures c.remove-live.result c.remove-live.ensures.value c.requires.posted
 
 pub put_ref-requires-clause-has : goal.put_ref-requires-clause-has
 put_ref-requires-clause-has g c =
     let s = c.args.self.now in
-    let at = live-at c.args.self.now c.self.view_is c.args.label.now c.as_slice.result.now c.deref.result.now c.as_slice.ensures c.deref.ensures.value c.in-Some.place c.in-Some.ensures in
-    let was = is-live c.args.self.now c.self.view_is c.args.label.now c.as_slice.result.now c.deref.result.now c.as_slice.ensures c.deref.ensures.value c.in-Some.place c.in-Some.ensures c.remove-live.result c.remove-live.ensures.value in
+    let at = live-at c.args.self.now c.self.inside.lives c.self.invariant c.self.view_is c.args.label.now c.as_slice.result.now c.as_slice.ensures c.in-Some.place c.in-Some.ensures in
+    let was = is-live c.args.self.now c.self.inside.lives c.self.invariant c.self.view_is c.args.label.now c.as_slice.result.now c.as_slice.ensures c.in-Some.place c.in-Some.ensures c.remove-live.result c.remove-live.ensures.value in
     subst (HasReferenceOf (known c.self.inside.registry)) (sym (c.id.ensures ∙ ap (λ (l : Live). l.id) was))
-    (subst (λ (x : State). HasReferenceOf (known x.registry) at.live.id) (sym c.self.view_is) (may-give c.args.label.now s.walk.lives c.in-Some.place at (known s.registry) c.requires.stands))
+    (subst (λ (x : State). HasReferenceOf (known x.registry) at.live.id) (sym c.self.view_is) (may-give c.args.label.now s.walk.lives _ at (known s.registry) c.requires.stands))
 
 pub returns : goal.returns
 returns g c =
     let s = c.args.self.now in
-    let at = live-at c.args.self.now c.self.view_is c.args.label.now c.as_slice.result.now c.deref.result.now c.as_slice.ensures c.deref.ensures.value c.in-Some.place c.in-Some.ensures in
-    let first = is-live c.args.self.now c.self.view_is c.args.label.now c.as_slice.result.now c.deref.result.now c.as_slice.ensures c.deref.ensures.value c.in-Some.place c.in-Some.ensures c.index.result.now c.index.ensures in
-    let was = is-live c.args.self.now c.self.view_is c.args.label.now c.as_slice.result.now c.deref.result.now c.as_slice.ensures c.deref.ensures.value c.in-Some.place c.in-Some.ensures c.remove-live.result c.remove-live.ensures.value in
-    free-arm s c.self.view_is c.args.label.now c.in-Some.place at c.remove-live.result c.id.result c.args.number c.args.answers.now.items c.say.new.answers.items was c.id.ensures c.remove-live.ensures.items
+    let at = live-at c.args.self.now c.self.inside.lives c.self.invariant c.self.view_is c.args.label.now c.as_slice.result.now c.as_slice.ensures c.in-Some.place c.in-Some.ensures in
+    let first = is-live c.args.self.now c.self.inside.lives c.self.invariant c.self.view_is c.args.label.now c.as_slice.result.now c.as_slice.ensures c.in-Some.place c.in-Some.ensures c.get.result.now c.get.ensures in
+    let was = is-live c.args.self.now c.self.inside.lives c.self.invariant c.self.view_is c.args.label.now c.as_slice.result.now c.as_slice.ensures c.in-Some.place c.in-Some.ensures c.remove-live.result c.remove-live.ensures.value in
+    free-arm s c.self.view_is c.args.label.now _ at c.remove-live.result c.id.result c.args.number c.args.answers.now.items c.say.new.answers.items was c.id.ensures (taken c.args.self.now c.self.inside.lives c.self.invariant c.self.view_is c.args.label.now c.as_slice.result.now c.as_slice.ensures c.in-Some.place c.in-Some.ensures _ c.remove-live.ensures.entries)
     c.close_live.ensures.lock c.close_live.ensures.released c.put_ref.ensures
     (ap (λ (l : Live). owes l.pipe) (sym first) ∙ (sym c.is_owing.ensures ∙ c.if-is_owing.false)) c.requires.stands c.requires.posted c.in_ok-say.ensures

@@ -1,4 +1,4 @@
-use Rattle.std.proofs.Common.{ap, sym, refl, subst, arith, length, [], OnOk}
+use Rattle.std.proofs.Common.{ap, sym, refl, subst, [], OnOk}
 use Rattle.board.specs.declared.entry.BoardEntry.{BoardEntry}
 use Rattle.board.specs.Legal.{LegalBoard}
 use Rattle.transforms.specs.declared.ask.Ask.{Ask}
@@ -10,32 +10,39 @@ use Rattle.script_session.specs.Keyed.{keys_live}
 use Rattle.script_session.specs.States.{State, HasPipe}
 use Rattle.session_calls.specs.Passes.{known}
 use Rattle.script_session.proofs.Arms.{or-stops, stops-same, answer-holds, sees-same}
-use Rattle.script_session.proofs.Living.{live-at, no-live, within, is-live, rests-at, live-arm}
+use Rattle.std.specs.BTreeMap.{get}
+use Rattle.std.specs.Ordering.{nat_cmp}
+use Rattle.board.proofs.Kept.{loan_here}
+use Rattle.script_session.proofs.Filed.{filed-set}
+use Rattle.script_session.proofs.Living.{no-live, loan-there, pipe-there, live-arm, written}
 use Rattle.script_session.proofs.scripts.Session.key.Goals as goal
 
 pub returns-in_default : goal.returns-in_default
 returns-in_default c =
     let s = c.args.self.now in
-    let none = no-live c.args.self.now c.self.view_is c.args.label.now c.as_slice.result.now c.deref.result.now c.as_slice.ensures c.deref.ensures.value c.in_default.ensures in
+    let none = no-live s c.self.inside.lives c.self.invariant c.self.view_is c.args.label.now c.as_slice.result.now c.as_slice.ensures c.in_default.ensures in
     or-stops c.refuse.result c.refuse.ensures
     (answer-holds _ s s _ _ _ (ap (λ o. for_live s.walk c.args.number o (λ (live : Live). keys_live s.walk c.args.number live c.args.key.now)) none) refl refl refl c.requires.stands c.requires.posted)
     (stops-same s c.requires.stands)
 
-pub index_mut-requires : goal.index_mut-requires
-index_mut-requires c =
-    let less = within c.args.self.now c.self.view_is c.args.label.now c.as_slice.result.now c.deref.result.now c.as_slice.ensures c.deref.ensures.value c.in-Some.place c.in-Some.ensures in
-    omega (arith, less, c.deref.ensures.len, ap length c.deref.ensures.value)
+pub unwrap-live-requires : goal.unwrap-live-requires
+unwrap-live-requires c = loan-there c.args.self.now c.self.inside.lives c.self.invariant c.self.view_is c.args.label.now c.as_slice.result.now c.as_slice.ensures c.in-Some.place c.in-Some.ensures c.get_mut.result c.get_mut.ensures.value
+
+pub invariant_of-self : goal.invariant_of-self
+invariant_of-self c =
+    let is = loan_here (get nat_cmp c.self.inside.lives.transforms c.in-Some.place) c.get_mut.result c.unwrap-live.result c.get_mut.ensures.value c.unwrap-live.ensures in
+    let set = c.get_mut.follows.holds c.key_live.new.live in
+    filed-set c.self.inside.lives _ c.in-Some.place c.unwrap-live.result.now c.key_live.new.live c.self.invariant is c.key_live.ensures.named refl refl set.0 set.1
 
 pub returns : goal.returns
 returns c =
     let s = c.args.self.now in
-    let old = c.index_mut.result.now in
-    let at = live-at c.args.self.now c.self.view_is c.args.label.now c.as_slice.result.now c.deref.result.now c.as_slice.ensures c.deref.ensures.value c.in-Some.place c.in-Some.ensures in
-    let was = is-live c.args.self.now c.self.view_is c.args.label.now c.as_slice.result.now c.deref.result.now c.as_slice.ensures c.deref.ensures.value c.in-Some.place c.in-Some.ensures old c.index_mut.ensures.value in
+    let is = loan_here (get nat_cmp c.self.inside.lives.transforms c.in-Some.place) c.get_mut.result c.unwrap-live.result c.get_mut.ensures.value c.unwrap-live.ensures in
+    let old = c.unwrap-live.result.now in
     let b = known c.self.inside.board in
-    let on : HasPipe b old.pipe = subst (λ (l : Live). HasPipe b l.pipe) (sym was)
-    (subst (λ (x : State). HasPipe (known x.board) at.live.pipe) (sym c.self.view_is) (rests-at s.walk c.args.label.now c.in-Some.place (known s.board) at c.requires.posted)) in
+    let on = pipe-there s c.self.inside.lives c.self.invariant c.self.view_is c.args.label.now c.as_slice.result.now c.as_slice.ensures c.in-Some.place c.in-Some.ensures old is c.requires.posted in
     let legal : LegalBoard b.seen = subst (λ (x : State). LegalBoard (known x.board).seen) (sym c.self.view_is) c.requires.posted.legal in
-    live-arm c.args.self.now c.self.view_is c.args.label.now c.as_slice.result.now c.deref.result.now c.as_slice.ensures c.deref.ensures.value c.args.number c.in-Some.place c.in-Some.ensures old c.key_live.new.live
-    (λ walk live. keys_live walk c.args.number live c.args.key.now) c.self.inside.board _ _ c.key_live.result c.index_mut.ensures.value refl c.requires.stands c.requires.posted
-    (or-stops c.key_live.result (subst (λ x. OnOk c.key_live.result ((k : Known (BoardEntry Ask)) → HasPipe k old.pipe → LegalBoard k.seen → HoldsFor (λ walk. keys_live walk c.args.number old x) old c.key_live.new.live k k [] c.args.answers.now.items c.key_live.new.answers.items)) c.as_slice-2.ensures c.key_live.ensures) (λ f. f b on legal) (sees-same b))
+    let set = written s c.self.inside.lives c.self.invariant c.self.view_is c.args.label.now c.as_slice.result.now c.as_slice.ensures c.in-Some.place c.in-Some.ensures c.unwrap-live.result.now c.key_live.new.live _ is c.key_live.ensures.named (c.get_mut.follows.holds c.key_live.new.live).0 in
+    live-arm s c.self.inside.lives c.self.invariant c.self.view_is c.args.label.now c.as_slice.result.now c.as_slice.ensures c.args.number c.in-Some.place c.in-Some.ensures old c.key_live.new.live _
+    (λ walk live. keys_live walk c.args.number live c.args.key.now) c.self.inside.board _ _ c.key_live.result is set refl c.requires.stands c.requires.posted
+    (or-stops c.key_live.result (subst (λ x. OnOk c.key_live.result ((k : Known (BoardEntry Ask)) → HasPipe k old.pipe → LegalBoard k.seen → HoldsFor (λ walk. keys_live walk c.args.number old x) old c.key_live.new.live k k [] c.args.answers.now.items c.key_live.new.answers.items)) c.as_slice-2.ensures c.key_live.ensures.held) (λ f. f b on legal) (sees-same b))

@@ -8,28 +8,30 @@ use Rattle.dialogues.specs.Walk.{Live}
 use Rattle.script_session.specs.States.{State, HasPipe}
 use Rattle.session_calls.specs.Passes.{known}
 use Rattle.script_session.proofs.Arms.{or-stops, stops-same, answer-holds}
-use Rattle.script_session.proofs.Living.{live-at, no-live, within, is-live, rests-at, request-arm}
+use Rattle.std.specs.BTreeMap.{get}
+use Rattle.std.specs.Ordering.{nat_cmp}
+use Rattle.board.proofs.Kept.{loan_here}
+use Rattle.script_session.proofs.Filed.{filed-set}
+use Rattle.script_session.proofs.Living.{live-at, no-live, is-live, is-there, loan-there, pipe-there, request-arm, written}
 use Rattle.script_session.proofs.Requests.{no-key, not-taken, job-asks}
 use Rattle.script_session.proofs.scripts.Session.request.Goals as goal
 
 pub returns-in_default : goal.returns-in_default
 returns-in_default g c =
     let s = c.args.self.now in
-    let none = no-live s c.self.view_is c.args.label.now c.as_slice.result.now c.deref.result.now c.as_slice.ensures c.deref.ensures.value c.in_default.ensures in
+    let none = no-live s c.self.inside.lives c.self.invariant c.self.view_is c.args.label.now c.as_slice.result.now c.as_slice.ensures c.in_default.ensures in
     or-stops c.refuse.result c.refuse.ensures
     (answer-holds _ s s _ _ _ (ap (λ o. for_live s.walk c.args.number o (λ (live : Live). requests_under s.walk c.args.number live c.args.asked c.args.backlog live.key)) none) refl refl refl c.requires.stands c.requires.posted)
     (stops-same s c.requires.stands)
 
-pub index-requires : goal.index-requires
-index-requires g c =
-    let less = within c.args.self.now c.self.view_is c.args.label.now c.as_slice.result.now c.deref.result.now c.as_slice.ensures c.deref.ensures.value c.in-Some.place c.in-Some.ensures in
-    omega (arith, less, c.deref.ensures.len, ap length c.deref.ensures.value)
+pub get-requires : goal.get-requires
+get-requires g c = is-there c.args.self.now c.self.inside.lives c.self.invariant c.self.view_is c.args.label.now c.as_slice.result.now c.as_slice.ensures c.in-Some.place c.in-Some.ensures
 
 pub returns-in-Err-NoKey : goal.returns-in-Err-NoKey
 returns-in-Err-NoKey g c =
     let s = c.args.self.now in
-    let at = live-at c.args.self.now c.self.view_is c.args.label.now c.as_slice.result.now c.deref.result.now c.as_slice.ensures c.deref.ensures.value c.in-Some.place c.in-Some.ensures in
-    let was = is-live c.args.self.now c.self.view_is c.args.label.now c.as_slice.result.now c.deref.result.now c.as_slice.ensures c.deref.ensures.value c.in-Some.place c.in-Some.ensures c.index.result.now c.index.ensures in
+    let at = live-at c.args.self.now c.self.inside.lives c.self.invariant c.self.view_is c.args.label.now c.as_slice.result.now c.as_slice.ensures c.in-Some.place c.in-Some.ensures in
+    let was = is-live c.args.self.now c.self.inside.lives c.self.invariant c.self.view_is c.args.label.now c.as_slice.result.now c.as_slice.ensures c.in-Some.place c.in-Some.ensures c.get.result.now c.get.ensures in
     let why = rw c.in-Err-NoKey.field-0-is at c.in-Err-NoKey.ensures in
     or-stops c.refuse-in-Err-NoKey.result c.refuse-in-Err-NoKey.ensures
     (answer-holds _ s s _ _ _
@@ -41,8 +43,8 @@ returns-in-Err-NoKey g c =
 pub returns-in-Err-Inval : goal.returns-in-Err-Inval
 returns-in-Err-Inval g c =
     let s = c.args.self.now in
-    let at = live-at c.args.self.now c.self.view_is c.args.label.now c.as_slice.result.now c.deref.result.now c.as_slice.ensures c.deref.ensures.value c.in-Some.place c.in-Some.ensures in
-    let was = is-live c.args.self.now c.self.view_is c.args.label.now c.as_slice.result.now c.deref.result.now c.as_slice.ensures c.deref.ensures.value c.in-Some.place c.in-Some.ensures c.index.result.now c.index.ensures in
+    let at = live-at c.args.self.now c.self.inside.lives c.self.invariant c.self.view_is c.args.label.now c.as_slice.result.now c.as_slice.ensures c.in-Some.place c.in-Some.ensures in
+    let was = is-live c.args.self.now c.self.inside.lives c.self.invariant c.self.view_is c.args.label.now c.as_slice.result.now c.as_slice.ensures c.in-Some.place c.in-Some.ensures c.get.result.now c.get.ensures in
     let why = rw c.in-Err-Inval.field-0-is at c.in-Err-Inval.ensures in
     or-stops c.refuse-in-Err-Inval.result c.refuse-in-Err-Inval.ensures
     (answer-holds _ s s _ _ _
@@ -51,29 +53,38 @@ returns-in-Err-Inval g c =
     refl refl refl c.requires.stands c.requires.posted)
     (stops-same s c.requires.stands)
 
-pub index_mut-live-requires : goal.index_mut-live-requires
-index_mut-live-requires g c =
-    let less = within c.args.self.now c.self.view_is c.args.label.now c.as_slice.result.now c.deref.result.now c.as_slice.ensures c.deref.ensures.value c.in-Some.place c.in-Some.ensures in
-    omega (arith, less, c.deref.ensures.len, ap length c.deref.ensures.value)
+pub unwrap-live-requires : goal.unwrap-live-requires
+unwrap-live-requires g c = loan-there c.args.self.now c.self.inside.lives c.self.invariant c.self.view_is c.args.label.now c.as_slice.result.now c.as_slice.ensures c.in-Some.place c.in-Some.ensures c.get_mut.result c.get_mut.ensures.value
+
+-- its label stays, whether a pipeline accepted it or memory was wanting
+pub invariant_of-self : goal.invariant_of-self
+invariant_of-self g c =
+    let is = loan_here (get nat_cmp c.self.inside.lives.transforms c.in-Some.place) c.get_mut.result c.unwrap-live.result c.get_mut.ensures.value c.unwrap-live.ensures in
+    let set = c.get_mut.follows.holds c.take_job.new.live in
+    filed-set c.self.inside.lives _ c.in-Some.place c.unwrap-live.result.now c.take_job.new.live c.self.invariant is c.take_job.ensures.named refl refl set.0 set.1
+
+pub invariant_of-self-2 : goal.invariant_of-self-2
+invariant_of-self-2 g c =
+    let is = loan_here (get nat_cmp c.self.inside.lives.transforms c.in-Some.place) c.get_mut.result c.unwrap-live.result c.get_mut.ensures.value c.unwrap-live.ensures in
+    let set = c.get_mut.follows.holds c.take_job.new.live in
+    filed-set c.self.inside.lives _ c.in-Some.place c.unwrap-live.result.now c.take_job.new.live c.self.invariant is c.take_job.ensures.named refl refl set.0 set.1
 
 pub take_job-requires-clause-pipe : goal.take_job-requires-clause-pipe
 take_job-requires-clause-pipe g c =
-    let s = c.args.self.now in
-    let at = live-at c.args.self.now c.self.view_is c.args.label.now c.as_slice.result.now c.deref.result.now c.as_slice.ensures c.deref.ensures.value c.in-Some.place c.in-Some.ensures in
-    let was = is-live c.args.self.now c.self.view_is c.args.label.now c.as_slice.result.now c.deref.result.now c.as_slice.ensures c.deref.ensures.value c.in-Some.place c.in-Some.ensures c.index_mut-live.result.now c.index_mut-live.ensures.value in
-    subst (λ (l : Live). HasPipe (known c.self.inside.board) l.pipe) (sym was)
-    (subst (λ (x : State). HasPipe (known x.board) at.live.pipe) (sym c.self.view_is) (rests-at s.walk c.args.label.now c.in-Some.place (known s.board) at c.requires.posted))
+    let is = loan_here (get nat_cmp c.self.inside.lives.transforms c.in-Some.place) c.get_mut.result c.unwrap-live.result c.get_mut.ensures.value c.unwrap-live.ensures in
+    pipe-there c.args.self.now c.self.inside.lives c.self.invariant c.self.view_is c.args.label.now c.as_slice.result.now c.as_slice.ensures c.in-Some.place c.in-Some.ensures c.unwrap-live.result.now is c.requires.posted
 
 pub returns : goal.returns
 returns g c =
     let s = c.args.self.now in
     let e = c.in_ok-accepted.ensures in
     let ask = arc_value c.in-Ok.job.ask in
-    let old = c.index_mut-live.result.now in
-    let first = is-live c.args.self.now c.self.view_is c.args.label.now c.as_slice.result.now c.deref.result.now c.as_slice.ensures c.deref.ensures.value c.in-Some.place c.in-Some.ensures c.index.result.now c.index.ensures in
-    let then_is = is-live c.args.self.now c.self.view_is c.args.label.now c.as_slice.result.now c.deref.result.now c.as_slice.ensures c.deref.ensures.value c.in-Some.place c.in-Some.ensures old c.index_mut-live.ensures.value in
+    let old = c.unwrap-live.result.now in
+    let is = loan_here (get nat_cmp c.self.inside.lives.transforms c.in-Some.place) c.get_mut.result c.unwrap-live.result c.get_mut.ensures.value c.unwrap-live.ensures in
+    let first = is-live c.args.self.now c.self.inside.lives c.self.invariant c.self.view_is c.args.label.now c.as_slice.result.now c.as_slice.ensures c.in-Some.place c.in-Some.ensures c.get.result.now c.get.ensures in
+    let then_is = is-live c.args.self.now c.self.inside.lives c.self.invariant c.self.view_is c.args.label.now c.as_slice.result.now c.as_slice.ensures c.in-Some.place c.in-Some.ensures old is in
     let job = subst (λ (l : Live). IsJob c.self.inside.client c.args.number l c.args.asked (asked_by ask)) (first ∙ sym then_is) c.in-Ok.ensures in
-    request-arm c.args.self.now c.self.view_is c.args.label.now c.as_slice.result.now c.deref.result.now c.as_slice.ensures c.deref.ensures.value c.args.number c.in-Some.place c.in-Some.ensures old c.take_job.new.live
+    request-arm c.args.self.now c.self.inside.lives c.self.invariant c.self.view_is c.args.label.now c.as_slice.result.now c.as_slice.ensures c.args.number c.in-Some.place c.in-Some.ensures old c.take_job.new.live _
     (λ walk live. requests_under walk c.args.number live c.args.asked c.args.backlog live.key) (λ walk. requests_in walk c.args.number old (asked_by ask) c.args.backlog old.pipe) c.count.new.self c.take_job.new.caller c.in_ok-accepted.accepted c.size-size.result ask _ _
     (job-asks s.walk c.args.number c.self.inside.client old c.args.asked (asked_by ask) c.args.backlog old.key (ap (λ (x : State). x.walk.client) (sym c.self.view_is)) job)
-    c.index_mut-live.ensures.value e.lock c.requires.stands c.requires.posted c.size-size.ensures e.held c.count.ensures
+    is (written c.args.self.now c.self.inside.lives c.self.invariant c.self.view_is c.args.label.now c.as_slice.result.now c.as_slice.ensures c.in-Some.place c.in-Some.ensures c.unwrap-live.result.now c.take_job.new.live _ is c.take_job.ensures.named (c.get_mut.follows.holds c.take_job.new.live).0) e.lock c.requires.stands c.requires.posted c.size-size.ensures e.held c.count.ensures
