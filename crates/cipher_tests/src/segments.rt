@@ -259,6 +259,7 @@ fn segments_join_to_the_text(rt: HostRuntime) {
 #[test]
 fn segments_within_one_piece_are_cut(rt: HostRuntime) {
     let mut segs = within_one(&rt, rt.alloc(), b"abcdefgh", 3, 5);
+    assert!(rt; segs.len() == 8);
     segs.cut(4);
     assert!(rt; segs.count() == 3 && segs.single().is_none());
     assert!(rt; joined(&rt, rt.alloc(), &segs).as_slice() == b"abcd".as_slice());
