@@ -1,4 +1,4 @@
-use Rattle.std.proofs.Common.{◌∙◌, ap, arith, length, sym, subst, refl}
+use Rattle.std.proofs.Common.{◌∙◌, ap, arith, length, sym, subst}
 use Rattle.std.proofs.lemmas.List.{with_items_is}
 use Rattle.session_calls.specs.Passes.{known}
 use Rattle.script_session.specs.States.{State, Posted}

@@ -1,4 +1,4 @@
-use Rattle.std.proofs.Common.{◌++◌, ◌∷◌, [], refl, sym, ap, ◌∙◌}
+use Rattle.std.proofs.Common.{◌∷◌, [], refl, sym, ap, ◌∙◌}
 use Rattle.std.proofs.lemmas.Result.{err_from_is_err_and}
 use Rattle.dialogues.specs.RegistryCalls.{Gets}
 use Rattle.dialogues.specs.Walk.{live_of}

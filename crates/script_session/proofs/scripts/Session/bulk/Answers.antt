@@ -1,4 +1,4 @@
-use Rattle.std.proofs.Common.{ap, sym, ◌∙◌, refl, arith, length}
+use Rattle.std.proofs.Common.{ap, sym, ◌∙◌, refl}
 use Rattle.dialogues.specs.Bulk.{bulk_said}
 use Rattle.dialogues.specs.Dialogues.{for_live, says}
 use Rattle.dialogues.specs.Walk.{Live}

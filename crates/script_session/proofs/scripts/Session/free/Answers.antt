@@ -1,4 +1,4 @@
-use Rattle.std.proofs.Common.{ap, sym, ◌∙◌, refl, subst, arith, length}
+use Rattle.std.proofs.Common.{ap, sym, ◌∙◌, refl, subst}
 use Rattle.dialogues.specs.Allocating.{closes}
 use Rattle.dialogues.specs.Dialogues.{for_live}
 use Rattle.dialogues.specs.Walk.{Live}

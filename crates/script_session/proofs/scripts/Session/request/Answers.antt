@@ -1,12 +1,11 @@
-use Rattle.std.proofs.Common.{ap, sym, ◌∙◌, refl, subst, arith, length}
+use Rattle.std.proofs.Common.{ap, sym, ◌∙◌, refl, subst}
 use Rattle.dialogues.specs.Dialogues.{for_live}
 use Rattle.std.specs.Arc.{arc_value}
 use Rattle.dialogues.specs.BoardCalls.{asked_by}
 use Rattle.script_session.specs.Keyed.{IsJob, IsNotTaken}
 use Rattle.dialogues.specs.Requesting.{requests_under, requests_in}
 use Rattle.dialogues.specs.Walk.{Live}
-use Rattle.script_session.specs.States.{State, HasPipe}
-use Rattle.session_calls.specs.Passes.{known}
+use Rattle.script_session.specs.States.{State}
 use Rattle.script_session.proofs.Arms.{or-stops, stops-same, answer-holds}
 use Rattle.std.specs.BTreeMap.{get}
 use Rattle.std.specs.Ordering.{nat_cmp}
