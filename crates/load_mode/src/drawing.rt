@@ -59,15 +59,35 @@ pub struct Opening {
     pub key_g: Line,
 }
 
+// The lines that make a transform and give it its key.
+fn made_and_keyed(
+    alloc: Global,
+    label: &[u8],
+    name: &[u8],
+    key: &[u8],
+) -> Result<(Line, Line), AllocError>
+    ensures { IfOk result (λ lines. (lines.0 ≡ Cmd (Alloc label.now name.now None)) × (lines.1 ≡ Cmd (Key label.now key.now))) }
+{
+    let make = alloc_line(alloc, label, name)?;
+    Ok((make, key_line(alloc, label, key)?))
+}
+
 /// The lines that make both transforms.
 pub fn opening_lines(alloc: Global) -> Result<Opening, AllocError>
     ensures { IfOk result (λ lines. lines.make_a ∷ lines.key_a ∷ lines.make_g ∷ lines.key_g ∷ [] ≡ opening) }
 {
+    let (make_a, key_a) = made_and_keyed(
+        alloc,
+        A,
+        b"pcrypt(authenc(hmac(sha256),cbc(aes)))",
+        &KEY_OF_A,
+    )?;
+    let (make_g, key_g) = made_and_keyed(alloc, G, b"pcrypt(gcm(aes))", &CIPHER_KEY)?;
     Ok(Opening {
-        make_a: alloc_line(alloc, A, b"pcrypt(authenc(hmac(sha256),cbc(aes)))")?,
-        key_a: key_line(alloc, A, &KEY_OF_A)?,
-        make_g: alloc_line(alloc, G, b"pcrypt(gcm(aes))")?,
-        key_g: key_line(alloc, G, &CIPHER_KEY)?,
+        make_a,
+        key_a,
+        make_g,
+        key_g,
     })
 }
 
