@@ -1,4 +1,3 @@
-use Rattle.std.proofs.Common.{◌≡◌}
 use Rattle.turn_lock.specs.Passes.{knows}
 use Rattle.shared_registry.proofs.Referring.{takes_one, still_held}
 use Rattle.shared_registry.proofs.tests.hold_and_count.Goals as goal
