@@ -1,6 +1,5 @@
-use Rattle.std.proofs.Common.{◌≡◌, sym, refl, subst, List, ℕ, codes}
+use Rattle.std.proofs.Common.{◌≡◌, refl, List, ℕ, codes}
 use Rattle.std.specs.Prelude.{IsTrue}
-use Rattle.kc_base.specs.declared.byte_list.Bytes.{Bytes}
 use Rattle.alg_registry.specs.declared.spec.Kind.TheVariants.{Cipher}
 use Rattle.alg_registry.specs.declared.spec.Wrap.TheVariants.{Plain}
 use Rattle.templates.specs.Table.{table}
@@ -11,4 +10,4 @@ unfolding table
 is_driver name driver n d below = rw (n, d) refl
 
 pub returns-clause-driver : goal.returns-clause-driver
-returns-clause-driver c = is_driver c.in_ok-copy_of.field-0 c.in_ok-copy_of-2.field-0 c.in_ok-copy_of.ensures c.in_ok-copy_of-2.ensures c.new.result
+returns-clause-driver g c = is_driver c.bytes_of.result c.bytes_of-2.result c.bytes_of.ensures c.bytes_of-2.ensures c.new.result
