@@ -1,130 +1,130 @@
 //! Runs of which one read, or one write, fails.
 
-use crate::program::run;
-use crate::tests::{bytes_of, words_for};
-use board::BoardEntry;
-use crew::NoGate;
-use kc_base::{MemSink, MemSource};
-use std::alloc::{AllocError, Global};
+use crate::tests::{Fault, Row, check, decimal, row_of, run_slow};
+use std::alloc::Global;
 use std::process::Abort;
 use std::sync::Wait;
-use std::test::Fail;
 use std::thread::Threads;
 
-const CREWS: [u32; 3] = [0, 1, 4];
+const CREWS: [&str; 3] = ["--workers 0", "--workers 1", "--workers 4"];
 
-// Three requests to a pad, and their text. The bytes are those of GCM's second test case.
-const PAD: (&str, &str) = (
-    "alloc p pcrypt(gcm(aes))\nkey p 00000000000000000000000000000000\nenc p 000000000000000000000000 - 00000000000000000000000000000000\nenc p 000000000000000000000000 - 00000000000000000000000000000000\nenc p 000000000000000000000000 - 00000000000000000000000000000000\ndrain p\n",
-    "1 ok pcrypt(gcm_base(ctr(aes-generic),ghash-generic))\n2 ok\n3 EINPROGRESS\n4 EINPROGRESS\n5 EINPROGRESS\n3 done 0388dace60b6a392f328c2b971b2fe78ab6e47d42cec13bdf53a67b21257bddf\n4 done 0388dace60b6a392f328c2b971b2fe78ab6e47d42cec13bdf53a67b21257bddf\n5 done 0388dace60b6a392f328c2b971b2fe78ab6e47d42cec13bdf53a67b21257bddf\n6 drained 3\n",
-);
+// The bytes are those of GCM's second test case.
+const PAD: &str = "\
+three requests to a pad
+alloc p pcrypt(gcm(aes))
+key p 00000000000000000000000000000000
+enc p 000000000000000000000000 - 00000000000000000000000000000000
+enc p 000000000000000000000000 - 00000000000000000000000000000000
+enc p 000000000000000000000000 - 00000000000000000000000000000000
+drain p
+= 0
+1 ok pcrypt(gcm_base(ctr(aes-generic),ghash-generic))
+2 ok
+3 EINPROGRESS
+4 EINPROGRESS
+5 EINPROGRESS
+3 done 0388dace60b6a392f328c2b971b2fe78ab6e47d42cec13bdf53a67b21257bddf
+4 done 0388dace60b6a392f328c2b971b2fe78ab6e47d42cec13bdf53a67b21257bddf
+5 done 0388dace60b6a392f328c2b971b2fe78ab6e47d42cec13bdf53a67b21257bddf
+6 drained 3
+";
 
-// A queue that is held with a request in its backlog, and its text. The bytes are those of SP 800-38A, F.2.1.
-const QUEUE: (&str, &str) = (
-    "alloc q cryptd(cbc(aes)) 2\nkey q 2b7e151628aed2a6abf7158809cf4f3c\nhold q\nenc q 000102030405060708090a0b0c0d0e0f - 6bc1bee22e409f96e93d7e117393172a\nenc q 000102030405060708090a0b0c0d0e0f - 6bc1bee22e409f96e93d7e117393172a\nenc q 000102030405060708090a0b0c0d0e0f - 6bc1bee22e409f96e93d7e117393172a backlog\nenc q 000102030405060708090a0b0c0d0e0f - 6bc1bee22e409f96e93d7e117393172a\ndrain q\ngo q\ndrain q\n",
-    "1 ok cryptd(cbc(aes-generic))\n2 ok\n3 ok\n4 EINPROGRESS\n5 EINPROGRESS\n6 EBUSY\n7 ENOSPC\n8 EINVAL\n9 ok\n6 started\n4 done 7649abac8119b246cee98e9b12e9197d\n5 done 7649abac8119b246cee98e9b12e9197d\n6 done 7649abac8119b246cee98e9b12e9197d\n10 drained 3\n",
-);
+// The bytes are those of SP 800-38A, F.2.1.
+const QUEUE: &str = "\
+a queue that is held with a request in its backlog
+alloc q cryptd(cbc(aes)) 2
+key q 2b7e151628aed2a6abf7158809cf4f3c
+hold q
+enc q 000102030405060708090a0b0c0d0e0f - 6bc1bee22e409f96e93d7e117393172a
+enc q 000102030405060708090a0b0c0d0e0f - 6bc1bee22e409f96e93d7e117393172a
+enc q 000102030405060708090a0b0c0d0e0f - 6bc1bee22e409f96e93d7e117393172a backlog
+enc q 000102030405060708090a0b0c0d0e0f - 6bc1bee22e409f96e93d7e117393172a
+drain q
+go q
+drain q
+= 0
+1 ok cryptd(cbc(aes-generic))
+2 ok
+3 ok
+4 EINPROGRESS
+5 EINPROGRESS
+6 EBUSY
+7 ENOSPC
+8 EINVAL
+9 ok
+6 started
+4 done 7649abac8119b246cee98e9b12e9197d
+5 done 7649abac8119b246cee98e9b12e9197d
+6 done 7649abac8119b246cee98e9b12e9197d
+10 drained 3
+";
 
-// The stream that fails.
-#[derive(Clone, Copy, Debug, PartialEq, Eq)]
-enum Stream {
-    Source,
-    Sink,
+fn number_of(fault: Fault) -> u64 {
+    match fault {
+        Fault::None => 0,
+        Fault::Read(number) | Fault::Write(number) => number,
+    }
 }
 
-// How a run ended: its status, whether it wrote a front of the text, the whole text, and whether the board was shut.
-#[derive(Clone, Copy, Debug, PartialEq, Eq)]
-struct Ended {
-    status: u8,
-    front: bool,
-    whole: bool,
-    shut: bool,
-}
-
-// Runs a row that is read byte by byte, and written three bytes at once, where the read, or the write, of this number fails.
-fn run_with<R: Threads + Wait + Sync>(
+// A row that is read byte by byte, and written three bytes at once, ends so where this call fails: with this status, a front of the text
+// and the board shut, whose history is legal by a clause of `run`; and with the whole text where no call fails.
+fn expect_fault<R: Abort + Threads + Wait + Sync>(
     rt: &R,
     alloc: Global,
-    workers: u32,
-    row: (&str, &str),
-    stream: Stream,
-    number: u64,
-) -> Result<Ended, AllocError> {
-    let (script, text) = row;
-    let words = words_for(alloc, workers)?;
-    let fails = vec![in alloc; number]?;
-    let (reads, writes) = match stream {
-        Stream::Source => (fails, Vec::new(alloc)),
-        Stream::Sink => (Vec::new(alloc), fails),
-    };
-    let mut src = MemSource::new(bytes_of(alloc, script)?, 1, reads);
-    let mut out = MemSink::new(alloc, 3, writes);
-    let outcome = run(rt, alloc, &words, &NoGate, &mut src, &mut out);
-    let mut history = outcome.board.entries().iter();
-    Ok(Ended {
-        status: outcome.status,
-        front: text.as_bytes().starts_with(out.bytes()),
-        whole: text.as_bytes() == out.bytes(),
-        shut: history.any(|entry| matches!(entry, BoardEntry::Shut { .. })),
-    })
+    line: &str,
+    row: Row,
+    fault: Fault,
+    want: u8,
+) {
+    let (ended, written) = run_slow(rt, alloc, line, row.script, (1, 3), fault);
+    let is_front = row.text.starts_with(written.as_str());
+    let is_enough = want != 0 || written.len() == row.text.len();
+    let is_right = ended.status == want && ended.shut && is_front && is_enough;
+    check(rt, is_right, decimal(rt, alloc, number_of(fault)).as_str());
 }
 
-// Lets each read, or each write, of a row fail in turn. Whichever it is, the run ends with the status that says so, has written a front
-// of the text, and has shut the board, whose history is legal by a clause of `run`. With a number that no call has it writes the whole.
-fn fail_each<R: Abort + Threads + Wait + Sync>(
+// Lets each read of a row fail in turn: one for each byte, and one that finds the end. No read has the number after.
+fn fail_each_read<R: Abort + Threads + Wait + Sync>(rt: &R, alloc: Global, line: &str, row: Row) {
+    let calls = row.script.len() as u64 + 1;
+    for number in 0..calls {
+        expect_fault(rt, alloc, line, row, Fault::Read(number), 3);
+    }
+    expect_fault(rt, alloc, line, row, Fault::Read(calls), 0);
+}
+
+// Lets each of so many writes of a row fail in turn.
+fn fail_each_write<R: Abort + Threads + Wait + Sync>(
     rt: &R,
     alloc: Global,
-    workers: u32,
-    row: (&str, &str),
-    stream: Stream,
+    line: &str,
+    row: Row,
     calls: u64,
-) -> Result<(), AllocError> {
-    let failed = match stream {
-        Stream::Source => 3,
-        Stream::Sink => 4,
-    };
-    for number in 0..=calls {
-        let ended = run_with(rt, alloc, workers, row, stream, number)?;
-        let whole = number == calls;
-        let status = if whole { 0 } else { failed };
-        let right = ended.status == status && ended.front && ended.shut && (ended.whole || !whole);
-        assert!(rt; right, "{workers} workers, {stream:?} {number}: {ended:?}");
+) {
+    for number in 0..calls {
+        expect_fault(rt, alloc, line, row, Fault::Write(number), 4);
     }
-    Ok(())
+    expect_fault(rt, alloc, line, row, Fault::Write(calls), 0);
 }
 
-// Lets each read of a row fail in turn: one for each byte, and one that finds the end.
-fn fail_each_read<R: Abort + Threads + Wait + Sync>(
-    rt: &R,
-    alloc: Global,
-    row: (&str, &str),
-) -> Result<(), AllocError> {
-    let calls = row.0.len() as u64 + 1;
-    for workers in CREWS {
-        fail_each(rt, alloc, workers, row, Stream::Source, calls)?;
+#[test]
+fn each_read_of_requests_to_a_pad_fails_in_turn(rt: HostRuntime) {
+    for line in CREWS {
+        fail_each_read(&rt, rt.alloc(), line, row_of(&rt, PAD));
     }
-    Ok(())
 }
 
 #[test]
-fn each_read_of_requests_to_a_pad_fails_in_turn(rt: HostRuntime) -> Result<(), Fail> {
-    fail_each_read(&rt, rt.alloc(), PAD)?;
-    Ok(())
+fn each_read_of_requests_to_a_queue_fails_in_turn(rt: HostRuntime) {
+    for line in CREWS {
+        fail_each_read(&rt, rt.alloc(), line, row_of(&rt, QUEUE));
+    }
 }
 
 #[test]
-fn each_read_of_requests_to_a_queue_fails_in_turn(rt: HostRuntime) -> Result<(), Fail> {
-    fail_each_read(&rt, rt.alloc(), QUEUE)?;
-    Ok(())
-}
-
-#[test]
-fn each_write_fails_in_turn(rt: HostRuntime) -> Result<(), Fail> {
-    for workers in CREWS {
+fn each_write_fails_in_turn(rt: HostRuntime) {
+    for line in CREWS {
         // three bytes of a line's answers a write
-        for (row, calls) in [(PAD, 111), (QUEUE, 83)] {
-            fail_each(&rt, rt.alloc(), workers, row, Stream::Sink, calls)?;
-        }
+        fail_each_write(&rt, rt.alloc(), line, row_of(&rt, PAD), 111);
+        fail_each_write(&rt, rt.alloc(), line, row_of(&rt, QUEUE), 83);
     }
-    Ok(())
 }

@@ -1,229 +1,449 @@
 //! Whole runs whose requests wait in pipelines.
 
-use crate::tests::{CREWS, bytes_of, expect, status_with, words_for};
-use kc_base::{SureSink, SureSource};
-use std::alloc::{AllocError, Global};
+use crate::tests::{
+    CREWS, check, expect, expect_rows, printed, push, push_all, push_line, string_of,
+};
+use std::alloc::Global;
 use std::process::Abort;
 use std::sync::Wait;
-use std::test::Fail;
 use std::thread::Threads;
 
-// The key, the text and the nonce of GCM's second test case, and its sealed text.
-const ZEROS: &str = "00000000000000000000000000000000";
-
-const NONCE: &str = "000000000000000000000000";
-
-const SEALED: &str = "0388dace60b6a392f328c2b971b2fe78ab6e47d42cec13bdf53a67b21257bddf";
-
-// Of a gateway's key 16 bytes, and the driver under its pads.
-const ESP_KEY: &str = "2b7e151628aed2a6abf7158809cf4f3c";
-
-const ESP_DRIVER: &str = "rfc4106(gcm_base(ctr(aes-generic),ghash-generic))";
-
-// What a script prints beside so many workers, over streams that don't fail.
-fn written_by<R: Abort + Threads + Wait + Sync>(
-    rt: &R,
-    alloc: Global,
-    workers: u32,
-    script: &str,
-) -> Result<String, AllocError> {
-    let words = words_for(alloc, workers)?;
-    let mut out = SureSink::new(alloc);
-    let mut src = SureSource::new(bytes_of(alloc, script)?);
-    let status = status_with(rt, alloc, &words, &mut src, &mut out);
-    assert_eq!(rt; status, 0);
-    String::from_str(alloc, str::from_utf8(out.bytes()).unwrap_or("no text"))
-}
-
 // Scripts, their status and their text. The bytes are those of GCM's second test case, and of SP 800-38A, F.2.1.
-const ROWS: [(&str, u8, &str); 10] = [
-    (
-        // a held queue takes in no more than fits
-        "alloc q cryptd(cbc(aes)) 2\nkey q 2b7e151628aed2a6abf7158809cf4f3c\nhold q\nenc q 000102030405060708090a0b0c0d0e0f - 6bc1bee22e409f96e93d7e117393172a\nenc q 000102030405060708090a0b0c0d0e0f - 6bc1bee22e409f96e93d7e117393172a\nenc q 000102030405060708090a0b0c0d0e0f - 6bc1bee22e409f96e93d7e117393172a backlog\nenc q 000102030405060708090a0b0c0d0e0f - 6bc1bee22e409f96e93d7e117393172a\ndrain q\ngo q\ndrain q\n",
-        0,
-        "1 ok cryptd(cbc(aes-generic))\n2 ok\n3 ok\n4 EINPROGRESS\n5 EINPROGRESS\n6 EBUSY\n7 ENOSPC\n8 EINVAL\n9 ok\n6 started\n4 done 7649abac8119b246cee98e9b12e9197d\n5 done 7649abac8119b246cee98e9b12e9197d\n6 done 7649abac8119b246cee98e9b12e9197d\n10 drained 3\n",
-    ),
-    (
-        // what owes completions is not freed
-        "alloc p pcrypt(gcm(aes))\nkey p 00000000000000000000000000000000\nenc p 000000000000000000000000 - 00000000000000000000000000000000\nfree p\ndrain p\nfree p\nenc p 000000000000000000000000 - 00000000000000000000000000000000\n",
-        0,
-        "1 ok pcrypt(gcm_base(ctr(aes-generic),ghash-generic))\n2 ok\n3 EINPROGRESS\n4 EBUSY\n3 done 0388dace60b6a392f328c2b971b2fe78ab6e47d42cec13bdf53a67b21257bddf\n5 drained 1\n6 ok\n7 ENOENT\n",
-    ),
-    (
-        // the end of input drains
-        "alloc p pcrypt(gcm(aes))\nkey p 00000000000000000000000000000000\nenc p 000000000000000000000000 - 00000000000000000000000000000000\n",
-        0,
-        "1 ok pcrypt(gcm_base(ctr(aes-generic),ghash-generic))\n2 ok\n3 EINPROGRESS\n3 done 0388dace60b6a392f328c2b971b2fe78ab6e47d42cec13bdf53a67b21257bddf\nend p 1\n",
-    ),
-    (
-        // the end of input lets a held queue go
-        "alloc q cryptd(cbc(aes)) 1\nkey q 2b7e151628aed2a6abf7158809cf4f3c\nhold q\nenc q 000102030405060708090a0b0c0d0e0f - 6bc1bee22e409f96e93d7e117393172a\nenc q 000102030405060708090a0b0c0d0e0f - 6bc1bee22e409f96e93d7e117393172a backlog\nalloc p pcrypt(gcm(aes))\n",
-        0,
-        "1 ok cryptd(cbc(aes-generic))\n2 ok\n3 ok\n4 EINPROGRESS\n5 EBUSY\n6 ok pcrypt(gcm_base(ctr(aes-generic),ghash-generic))\n5 started\n4 done 7649abac8119b246cee98e9b12e9197d\n5 done 7649abac8119b246cee98e9b12e9197d\nend q 2\n",
-    ),
-    (
-        // only queues are held
-        "alloc p pcrypt(gcm(aes))\nalloc c cbc(aes)\nhold p\ngo p\nhold c\ngo c\nhold x\ngo x\npoll x\ndrain x\npoll c\ndrain c\npoll p\ndrain p\n",
-        0,
-        "1 ok pcrypt(gcm_base(ctr(aes-generic),ghash-generic))\n2 ok cbc(aes-generic)\n3 EINVAL\n4 EINVAL\n5 EINVAL\n6 EINVAL\n7 ENOENT\n8 ENOENT\n9 ENOENT\n10 ENOENT\n11 polled 0\n12 drained 0\n13 polled 0\n14 drained 0\n",
-    ),
-    (
-        // a held chain takes in no more than fits
-        "alloc q cryptd(pcrypt(gcm(aes))) 2\nkey q 00000000000000000000000000000000\nhold q\nenc q 000000000000000000000000 - 00000000000000000000000000000000\nenc q 000000000000000000000000 - 00000000000000000000000000000000\nenc q 000000000000000000000000 - 00000000000000000000000000000000 backlog\nenc q 000000000000000000000000 - 00000000000000000000000000000000\ndrain q\ngo q\ndrain q\n",
-        0,
-        "1 ok cryptd(pcrypt(gcm_base(ctr(aes-generic),ghash-generic)))\n2 ok\n3 ok\n4 EINPROGRESS\n5 EINPROGRESS\n6 EBUSY\n7 ENOSPC\n8 EINVAL\n9 ok\n6 started\n4 done 0388dace60b6a392f328c2b971b2fe78ab6e47d42cec13bdf53a67b21257bddf\n5 done 0388dace60b6a392f328c2b971b2fe78ab6e47d42cec13bdf53a67b21257bddf\n6 done 0388dace60b6a392f328c2b971b2fe78ab6e47d42cec13bdf53a67b21257bddf\n10 drained 3\n",
-    ),
-    (
-        // wrappers below a root are refused; what a name stood on that was refused for its kind stays listed; a chain takes no mask
-        "alloc q pcrypt(cryptd(gcm(aes)))\nalloc q cryptd(cryptd(gcm(aes)))\nalloc q pcrypt(pcrypt(gcm(aes)))\nalloc q cryptd(pcrypt(cbc(aes)))\nalloc q cryptd(pcrypt)\nalloc q cryptd(pcrypt(gcm(aes),aes))\nalloc q cryptd(pcrypt(gcm(aes)),aes)\nalloc q cbc(cryptd(pcrypt(aes)))\nalloc q cryptd(pcrypt(des))\nalloc q cryptd(pcrypt(gcm(aes))) 4097\nalloc q cryptd(pcrypt(gcm(aes)))\nmask q 0001\nmask q 0000\nlist\n",
-        0,
-        "1 EINVAL\n2 EINVAL\n3 EINVAL\n4 EINVAL\n5 EINVAL\n6 EINVAL\n7 EINVAL\n8 EINVAL\n9 ENOENT\n10 EINVAL\n11 ok cryptd(pcrypt(gcm_base(ctr(aes-generic),ghash-generic)))\n12 EINVAL\n13 EINVAL\n14 alg aes aes-generic 100 2\n14 alg sha256 sha256-generic 100 0\n14 alg ghash ghash-generic 100 1\n14 alg cbc(aes) cbc(aes-generic) 100 0\n14 alg ctr(aes) ctr(aes-generic) 100 1\n14 alg gcm(aes) gcm_base(ctr(aes-generic),ghash-generic) 100 1\n14 alg gcm(aes) cryptd(pcrypt(gcm_base(ctr(aes-generic),ghash-generic))) 250 1\n14 listed 7\n",
-    ),
-    (
-        // a chain completes in order; one has a wrong tag; the last is held, and comes at the end of input
-        "alloc q cryptd(pcrypt(gcm(aes))) 4\nkey q 00000000000000000000000000000000\nenc q 000000000000000000000000 - 00000000000000000000000000000000\ndec q 000000000000000000000000 - 0388dace60b6a392f328c2b971b2fe78ab6e47d42cec13bdf53a67b21257bddf\ndec q 000000000000000000000000 - 00000000000000000000000000000000\nenc q 000000000000000000000000 - 00000000000000000000000000000000\ndrain q\nhold q\nenc q 000000000000000000000000 - 00000000000000000000000000000000\nfree q\ngo q\n",
-        0,
-        "1 ok cryptd(pcrypt(gcm_base(ctr(aes-generic),ghash-generic)))\n2 ok\n3 EINPROGRESS\n4 EINPROGRESS\n5 EINPROGRESS\n6 EINPROGRESS\n3 done 0388dace60b6a392f328c2b971b2fe78ab6e47d42cec13bdf53a67b21257bddf\n4 done 00000000000000000000000000000000\n5 fail EBADMSG\n6 done 0388dace60b6a392f328c2b971b2fe78ab6e47d42cec13bdf53a67b21257bddf\n7 drained 4\n8 ok\n9 EINPROGRESS\n10 EBUSY\n11 ok\n9 done 0388dace60b6a392f328c2b971b2fe78ab6e47d42cec13bdf53a67b21257bddf\nend q 1\n",
-    ),
-    (
-        // a mask that changes leaves what was accepted
-        "alloc p pcrypt(gcm(aes))\nkey p 00000000000000000000000000000000\nenc p 000000000000000000000000 - 00000000000000000000000000000000\nmask p 0000\nenc p 000000000000000000000000 - 00000000000000000000000000000000\nmask p ffff\nenc p 000000000000000000000000 - 00000000000000000000000000000000\ndrain p\nmask p 000\n",
-        1,
-        "1 ok pcrypt(gcm_base(ctr(aes-generic),ghash-generic))\n2 ok\n3 EINPROGRESS\n4 ok\n5 EINVAL\n6 ok\n7 EINPROGRESS\n3 done 0388dace60b6a392f328c2b971b2fe78ab6e47d42cec13bdf53a67b21257bddf\n7 done 0388dace60b6a392f328c2b971b2fe78ab6e47d42cec13bdf53a67b21257bddf\n8 drained 2\n9 malformed\n",
-    ),
-    (
-        // only pads are masked; a request that is faulty by itself is refused as such first; a key is asked for before that
-        "alloc g gcm(aes)\nmask g 0001\nalloc q cryptd(gcm(aes))\nmask q 0001\nmask x 0001\nalloc p pcrypt(gcm(aes))\nmask p 0000\nenc p 000000000000000000000000 - 00\nkey p 00000000000000000000000000000000\nenc p 00 - 00\nenc p 000000000000000000000000 - 00\nfree p\n",
-        0,
-        "1 ok gcm_base(ctr(aes-generic),ghash-generic)\n2 EINVAL\n3 ok cryptd(gcm_base(ctr(aes-generic),ghash-generic))\n4 EINVAL\n5 ENOENT\n6 ok pcrypt(gcm_base(ctr(aes-generic),ghash-generic))\n7 ok\n8 ENOKEY\n9 ok\n10 EINVAL\n11 EINVAL\n12 ok\n",
-    ),
-];
+const ROWS: &str = "\
+a held queue takes in no more than fits
+alloc q cryptd(cbc(aes)) 2
+key q 2b7e151628aed2a6abf7158809cf4f3c
+hold q
+enc q 000102030405060708090a0b0c0d0e0f - 6bc1bee22e409f96e93d7e117393172a
+enc q 000102030405060708090a0b0c0d0e0f - 6bc1bee22e409f96e93d7e117393172a
+enc q 000102030405060708090a0b0c0d0e0f - 6bc1bee22e409f96e93d7e117393172a backlog
+enc q 000102030405060708090a0b0c0d0e0f - 6bc1bee22e409f96e93d7e117393172a
+drain q
+go q
+drain q
+= 0
+1 ok cryptd(cbc(aes-generic))
+2 ok
+3 ok
+4 EINPROGRESS
+5 EINPROGRESS
+6 EBUSY
+7 ENOSPC
+8 EINVAL
+9 ok
+6 started
+4 done 7649abac8119b246cee98e9b12e9197d
+5 done 7649abac8119b246cee98e9b12e9197d
+6 done 7649abac8119b246cee98e9b12e9197d
+10 drained 3
+%
+what owes completions is not freed
+alloc p pcrypt(gcm(aes))
+key p 00000000000000000000000000000000
+enc p 000000000000000000000000 - 00000000000000000000000000000000
+free p
+drain p
+free p
+enc p 000000000000000000000000 - 00000000000000000000000000000000
+= 0
+1 ok pcrypt(gcm_base(ctr(aes-generic),ghash-generic))
+2 ok
+3 EINPROGRESS
+4 EBUSY
+3 done 0388dace60b6a392f328c2b971b2fe78ab6e47d42cec13bdf53a67b21257bddf
+5 drained 1
+6 ok
+7 ENOENT
+%
+the end of input drains
+alloc p pcrypt(gcm(aes))
+key p 00000000000000000000000000000000
+enc p 000000000000000000000000 - 00000000000000000000000000000000
+= 0
+1 ok pcrypt(gcm_base(ctr(aes-generic),ghash-generic))
+2 ok
+3 EINPROGRESS
+3 done 0388dace60b6a392f328c2b971b2fe78ab6e47d42cec13bdf53a67b21257bddf
+end p 1
+%
+the end of input lets a held queue go
+alloc q cryptd(cbc(aes)) 1
+key q 2b7e151628aed2a6abf7158809cf4f3c
+hold q
+enc q 000102030405060708090a0b0c0d0e0f - 6bc1bee22e409f96e93d7e117393172a
+enc q 000102030405060708090a0b0c0d0e0f - 6bc1bee22e409f96e93d7e117393172a backlog
+alloc p pcrypt(gcm(aes))
+= 0
+1 ok cryptd(cbc(aes-generic))
+2 ok
+3 ok
+4 EINPROGRESS
+5 EBUSY
+6 ok pcrypt(gcm_base(ctr(aes-generic),ghash-generic))
+5 started
+4 done 7649abac8119b246cee98e9b12e9197d
+5 done 7649abac8119b246cee98e9b12e9197d
+end q 2
+%
+only queues are held
+alloc p pcrypt(gcm(aes))
+alloc c cbc(aes)
+hold p
+go p
+hold c
+go c
+hold x
+go x
+poll x
+drain x
+poll c
+drain c
+poll p
+drain p
+= 0
+1 ok pcrypt(gcm_base(ctr(aes-generic),ghash-generic))
+2 ok cbc(aes-generic)
+3 EINVAL
+4 EINVAL
+5 EINVAL
+6 EINVAL
+7 ENOENT
+8 ENOENT
+9 ENOENT
+10 ENOENT
+11 polled 0
+12 drained 0
+13 polled 0
+14 drained 0
+%
+a held chain takes in no more than fits
+alloc q cryptd(pcrypt(gcm(aes))) 2
+key q 00000000000000000000000000000000
+hold q
+enc q 000000000000000000000000 - 00000000000000000000000000000000
+enc q 000000000000000000000000 - 00000000000000000000000000000000
+enc q 000000000000000000000000 - 00000000000000000000000000000000 backlog
+enc q 000000000000000000000000 - 00000000000000000000000000000000
+drain q
+go q
+drain q
+= 0
+1 ok cryptd(pcrypt(gcm_base(ctr(aes-generic),ghash-generic)))
+2 ok
+3 ok
+4 EINPROGRESS
+5 EINPROGRESS
+6 EBUSY
+7 ENOSPC
+8 EINVAL
+9 ok
+6 started
+4 done 0388dace60b6a392f328c2b971b2fe78ab6e47d42cec13bdf53a67b21257bddf
+5 done 0388dace60b6a392f328c2b971b2fe78ab6e47d42cec13bdf53a67b21257bddf
+6 done 0388dace60b6a392f328c2b971b2fe78ab6e47d42cec13bdf53a67b21257bddf
+10 drained 3
+%
+wrappers below a root are refused; what a name stood on that was refused for its kind stays listed; a chain takes no mask
+alloc q pcrypt(cryptd(gcm(aes)))
+alloc q cryptd(cryptd(gcm(aes)))
+alloc q pcrypt(pcrypt(gcm(aes)))
+alloc q cryptd(pcrypt(cbc(aes)))
+alloc q cryptd(pcrypt)
+alloc q cryptd(pcrypt(gcm(aes),aes))
+alloc q cryptd(pcrypt(gcm(aes)),aes)
+alloc q cbc(cryptd(pcrypt(aes)))
+alloc q cryptd(pcrypt(des))
+alloc q cryptd(pcrypt(gcm(aes))) 4097
+alloc q cryptd(pcrypt(gcm(aes)))
+mask q 0001
+mask q 0000
+list
+= 0
+1 EINVAL
+2 EINVAL
+3 EINVAL
+4 EINVAL
+5 EINVAL
+6 EINVAL
+7 EINVAL
+8 EINVAL
+9 ENOENT
+10 EINVAL
+11 ok cryptd(pcrypt(gcm_base(ctr(aes-generic),ghash-generic)))
+12 EINVAL
+13 EINVAL
+14 alg aes aes-generic 100 2
+14 alg sha256 sha256-generic 100 0
+14 alg ghash ghash-generic 100 1
+14 alg cbc(aes) cbc(aes-generic) 100 0
+14 alg ctr(aes) ctr(aes-generic) 100 1
+14 alg gcm(aes) gcm_base(ctr(aes-generic),ghash-generic) 100 1
+14 alg gcm(aes) cryptd(pcrypt(gcm_base(ctr(aes-generic),ghash-generic))) 250 1
+14 listed 7
+%
+a chain completes in order; one has a wrong tag; the last is held, and comes at the end of input
+alloc q cryptd(pcrypt(gcm(aes))) 4
+key q 00000000000000000000000000000000
+enc q 000000000000000000000000 - 00000000000000000000000000000000
+dec q 000000000000000000000000 - 0388dace60b6a392f328c2b971b2fe78ab6e47d42cec13bdf53a67b21257bddf
+dec q 000000000000000000000000 - 00000000000000000000000000000000
+enc q 000000000000000000000000 - 00000000000000000000000000000000
+drain q
+hold q
+enc q 000000000000000000000000 - 00000000000000000000000000000000
+free q
+go q
+= 0
+1 ok cryptd(pcrypt(gcm_base(ctr(aes-generic),ghash-generic)))
+2 ok
+3 EINPROGRESS
+4 EINPROGRESS
+5 EINPROGRESS
+6 EINPROGRESS
+3 done 0388dace60b6a392f328c2b971b2fe78ab6e47d42cec13bdf53a67b21257bddf
+4 done 00000000000000000000000000000000
+5 fail EBADMSG
+6 done 0388dace60b6a392f328c2b971b2fe78ab6e47d42cec13bdf53a67b21257bddf
+7 drained 4
+8 ok
+9 EINPROGRESS
+10 EBUSY
+11 ok
+9 done 0388dace60b6a392f328c2b971b2fe78ab6e47d42cec13bdf53a67b21257bddf
+end q 1
+%
+a mask that changes leaves what was accepted
+alloc p pcrypt(gcm(aes))
+key p 00000000000000000000000000000000
+enc p 000000000000000000000000 - 00000000000000000000000000000000
+mask p 0000
+enc p 000000000000000000000000 - 00000000000000000000000000000000
+mask p ffff
+enc p 000000000000000000000000 - 00000000000000000000000000000000
+drain p
+mask p 000
+= 1
+1 ok pcrypt(gcm_base(ctr(aes-generic),ghash-generic))
+2 ok
+3 EINPROGRESS
+4 ok
+5 EINVAL
+6 ok
+7 EINPROGRESS
+3 done 0388dace60b6a392f328c2b971b2fe78ab6e47d42cec13bdf53a67b21257bddf
+7 done 0388dace60b6a392f328c2b971b2fe78ab6e47d42cec13bdf53a67b21257bddf
+8 drained 2
+9 malformed
+%
+only pads are masked; a request that is faulty by itself is refused as such first; a key is asked for before that
+alloc g gcm(aes)
+mask g 0001
+alloc q cryptd(gcm(aes))
+mask q 0001
+mask x 0001
+alloc p pcrypt(gcm(aes))
+mask p 0000
+enc p 000000000000000000000000 - 00
+key p 00000000000000000000000000000000
+enc p 00 - 00
+enc p 000000000000000000000000 - 00
+free p
+= 0
+1 ok gcm_base(ctr(aes-generic),ghash-generic)
+2 EINVAL
+3 ok cryptd(gcm_base(ctr(aes-generic),ghash-generic))
+4 EINVAL
+5 ENOENT
+6 ok pcrypt(gcm_base(ctr(aes-generic),ghash-generic))
+7 ok
+8 ENOKEY
+9 ok
+10 EINVAL
+11 EINVAL
+12 ok
+";
 
 #[test]
-fn pipelines_answer_in_order(rt: HostRuntime) -> Result<(), Fail> {
-    for (script, want, text) in ROWS {
-        expect(&rt, rt.alloc(), script, want, text)?;
-    }
-    Ok(())
+fn pipelines_answer_in_order(rt: HostRuntime) {
+    expect_rows(&rt, rt.alloc(), ROWS);
 }
 
-// The completions of a script's text, and how many its polls and drains say that they handed out.
-fn handed_out(alloc: Global, written: &str) -> Result<(String, u64), AllocError> {
+// Three requests to a pad, each followed by a poll. The bytes are those of GCM's second test case.
+const POLLED: &str = "\
+alloc p pcrypt(gcm(aes))
+key p 00000000000000000000000000000000
+enc p 000000000000000000000000 - 00000000000000000000000000000000
+poll p
+enc p 000000000000000000000000 - 00000000000000000000000000000000
+poll p
+enc p 000000000000000000000000 - 00000000000000000000000000000000
+poll p
+drain p
+";
+
+// Its completions.
+const COMPLETED: &str = "\
+3 done 0388dace60b6a392f328c2b971b2fe78ab6e47d42cec13bdf53a67b21257bddf
+5 done 0388dace60b6a392f328c2b971b2fe78ab6e47d42cec13bdf53a67b21257bddf
+7 done 0388dace60b6a392f328c2b971b2fe78ab6e47d42cec13bdf53a67b21257bddf
+";
+
+// How many completions a line says that were handed out: that of a poll, or of a drain.
+fn told_in(line: &str) -> u64 {
+    for end in [" polled ", " drained "] {
+        if let Some((_, told)) = line.split_once(end) {
+            return told.parse::<u64>().unwrap_or(100);
+        }
+    }
+    0
+}
+
+// The completions of a text.
+fn completions(rt: &impl Abort, alloc: Global, written: &str) -> String {
     let mut completions = String::new(alloc);
+    for line in written.split_inclusive('\n') {
+        if line.contains(" done ") {
+            push(rt, &mut completions, line);
+        }
+    }
+    completions
+}
+
+// How many its polls and drains say that they handed out.
+fn handed_out(written: &str) -> u64 {
     let mut count = 0u64;
     for line in written.lines() {
-        if line.split_once(" done ").is_some() {
-            completions.push_str(format!(in alloc; "{line}\n")?.as_str())?;
-        }
-        for end in [" polled ", " drained "] {
-            if let Some((_, told)) = line.split_once(end) {
-                count = count.wrapping_add(told.parse::<u64>().unwrap_or(100));
-            }
-        }
+        count = count.wrapping_add(told_in(line));
     }
-    Ok((completions, count))
+    count
 }
 
-// Beside so many workers a script hands out these completions, three by its polls and its drain.
-fn expect_handed_out<R: Abort + Threads + Wait + Sync>(
-    rt: &R,
-    alloc: Global,
-    workers: u32,
-    script: &str,
-    want: &str,
-) -> Result<(), AllocError> {
-    let written = written_by(rt, alloc, workers, script)?;
-    let (completions, count) = handed_out(alloc, written.as_str())?;
-    assert_eq!(rt; completions.as_str(), want, "{workers} workers");
-    assert_eq!(rt; count, 3, "{workers} workers");
-    Ok(())
+// Beside these workers the script hands out its completions, three by its polls and its drain.
+fn expect_handed_out<R: Abort + Threads + Wait + Sync>(rt: &R, alloc: Global, line: &str) {
+    let written = printed(rt, alloc, line, POLLED, 0);
+    let completed = completions(rt, alloc, written.as_str());
+    check(rt, completed.as_str() == COMPLETED, line);
+    check(rt, handed_out(written.as_str()) == 3, line);
 }
 
 #[test]
-fn polls_and_the_drain_hand_out_each_completion_once(rt: HostRuntime) -> Result<(), Fail> {
-    let alloc = rt.alloc();
-    let script = format!(in alloc;
-        "alloc p pcrypt(gcm(aes))\nkey p {ZEROS}\nenc p {NONCE} - {ZEROS}\npoll p\nenc p {NONCE} - {ZEROS}\npoll p\nenc p {NONCE} - {ZEROS}\npoll p\ndrain p\n"
-    )?;
-    let want = format!(in alloc; "3 done {SEALED}\n5 done {SEALED}\n7 done {SEALED}\n")?;
-    for workers in CREWS {
-        expect_handed_out(&rt, alloc, workers, script.as_str(), want.as_str())?;
+fn polls_and_the_drain_hand_out_each_completion_once(rt: HostRuntime) {
+    for line in CREWS {
+        expect_handed_out(&rt, rt.alloc(), line);
     }
-    Ok(())
 }
 
-// One packet of a gateway: its number in the eight bytes of its IV, 16 bytes that are authenticated, and a text of 64 to
-// 1,400 bytes.
-fn push_packet(
-    alloc: Global,
-    script: &mut String,
-    label: &str,
-    number: u32,
-) -> Result<(), AllocError> {
-    let head = format!(in alloc; "enc {label} {number:016x} 00001000{number:08x}{number:016x} ")?;
-    script.push_str(head.as_str())?;
-    let byte = format!(in alloc; "{:02x}", number % 256)?;
+// The last two, eight and sixteen digits of a number.
+fn two_digits(rt: &impl Abort, alloc: Global, number: u32) -> String {
+    format!(in alloc; "{:02x}", number % 256).expect(rt, "memory")
+}
+
+fn eight_digits(rt: &impl Abort, alloc: Global, number: u32) -> String {
+    format!(in alloc; "{number:08x}").expect(rt, "memory")
+}
+
+fn sixteen_digits(rt: &impl Abort, alloc: Global, number: u32) -> String {
+    format!(in alloc; "{number:016x}").expect(rt, "memory")
+}
+
+// The front of a packet: its number in the eight bytes of its IV, and 16 bytes that are authenticated.
+fn push_head(rt: &impl Abort, alloc: Global, script: &mut String, label: &str, number: u32) {
+    let iv = sixteen_digits(rt, alloc, number);
+    let sequence = eight_digits(rt, alloc, number);
+    push_all(rt, script, &["enc ", label, " ", iv.as_str(), " 00001000"]);
+    push_all(rt, script, &[sequence.as_str(), iv.as_str(), " "]);
+}
+
+// One packet of a gateway, with a text of 64 to 1,400 bytes.
+fn push_packet(rt: &impl Abort, alloc: Global, script: &mut String, label: &str, number: u32) {
+    push_head(rt, alloc, script, label, number);
+    let byte = two_digits(rt, alloc, number);
     for _ in 0..64 + number.wrapping_mul(37) % 1337 {
-        script.push_str(byte.as_str())?;
+        push(rt, script, byte.as_str());
     }
-    script.push_str("\n")
+    push(rt, script, "\n");
+}
+
+const LABELS: [&str; 3] = ["a", "b", "c"];
+
+// 16 bytes of a transform's key, and 4 of the salt.
+fn push_key(rt: &impl Abort, script: &mut String, label: &str) {
+    push_all(
+        rt,
+        script,
+        &["key ", label, " 2b7e151628aed2a6abf7158809cf4f3c"],
+    );
+    for _ in 0..4 {
+        push_all(rt, script, &["0", label]);
+    }
+    push(rt, script, "\n");
 }
 
 // A gateway's script: three transforms of this name, each with a key, and 200 packets in turn over them.
-fn gateway(alloc: Global, name: &str) -> Result<String, AllocError> {
-    let labels = ["a", "b", "c"];
+fn gateway(rt: &impl Abort, alloc: Global, name: &str) -> String {
     let mut script = String::new(alloc);
-    for label in labels {
-        script.push_str(format!(in alloc; "alloc {label} {name}\n")?.as_str())?;
+    for label in LABELS {
+        push_all(rt, &mut script, &["alloc ", label, " ", name, "\n"]);
     }
-    for label in labels {
-        // 16 bytes of the key, and 4 of the salt
-        script.push_str(format!(in alloc;
-            "key {label} {ESP_KEY}0{label}0{label}0{label}0{label}\n"
-        )?.as_str())?;
+    for label in LABELS {
+        push_key(rt, &mut script, label);
     }
     for number in 0..200u32 {
-        push_packet(alloc, &mut script, labels[number as usize % 3], number)?;
+        push_packet(rt, alloc, &mut script, LABELS[number as usize % 3], number);
     }
-    Ok(script)
+    script
 }
 
-// The answers `ok BYTES` of the lines from 7 on that fall to one of three transforms, as completions.
+// A completion, by the answer `ok BYTES`.
+fn push_completion(rt: &impl Abort, text: &mut String, answer: &str) {
+    let (number, made) = answer.split_once(" ok ").unwrap_or(("no", "answer"));
+    push_all(rt, text, &[number, " done ", made, "\n"]);
+}
+
+// The answers of the lines from 7 on that fall to one of three transforms, as completions, and then the transform's end.
 fn push_completions(
-    alloc: Global,
+    rt: &impl Abort,
     text: &mut String,
     answers: &str,
-    place: usize,
-) -> Result<(), AllocError> {
-    for line in answers.lines().skip(6).skip(place).step_by(3) {
-        let (number, made) = line.split_once(" ok ").unwrap_or(("no", "answer"));
-        text.push_str(format!(in alloc; "{number} done {made}\n")?.as_str())?;
+    (place, end): (usize, &str),
+) {
+    for answer in answers.lines().skip(6).skip(place).step_by(3) {
+        push_completion(rt, text, answer);
     }
-    Ok(())
+    push(rt, text, end);
 }
 
-// What a gateway prints whose transforms are pads, by the answers of one whose transforms are plain.
-fn gateway_text(alloc: Global, answers: &str) -> Result<String, AllocError> {
-    let mut text = format!(in alloc;
-        "1 ok pcrypt({ESP_DRIVER})\n2 ok pcrypt({ESP_DRIVER})\n3 ok pcrypt({ESP_DRIVER})\n4 ok\n5 ok\n6 ok\n"
-    )?;
+// The first lines of a gateway whose transforms are pads.
+const OPENED: &str = "\
+1 ok pcrypt(rfc4106(gcm_base(ctr(aes-generic),ghash-generic)))
+2 ok pcrypt(rfc4106(gcm_base(ctr(aes-generic),ghash-generic)))
+3 ok pcrypt(rfc4106(gcm_base(ctr(aes-generic),ghash-generic)))
+4 ok
+5 ok
+6 ok
+";
+
+// What it prints, by the answers of one whose transforms are plain.
+fn gateway_text(rt: &impl Abort, alloc: Global, answers: &str) -> String {
+    let mut text = string_of(rt, alloc, OPENED);
     for number in 7..207u32 {
-        text.push_str(format!(in alloc; "{number} EINPROGRESS\n")?.as_str())?;
+        push_line(rt, alloc, &mut text, number, "EINPROGRESS");
     }
-    for (label, place, count) in [("a", 0, 67), ("b", 1, 67), ("c", 2, 66)] {
-        push_completions(alloc, &mut text, answers, place)?;
-        text.push_str(format!(in alloc; "end {label} {count}\n")?.as_str())?;
+    for part in [(0, "end a 67\n"), (1, "end b 67\n"), (2, "end c 66\n")] {
+        push_completions(rt, &mut text, answers, part);
     }
-    Ok(text)
+    text
+}
+
+// What a gateway prints whose transforms are plain, beside no workers.
+fn plain_answers<R: Abort + Threads + Wait + Sync>(rt: &R, alloc: Global) -> String {
+    let script = gateway(rt, alloc, "rfc4106(gcm(aes))");
+    printed(rt, alloc, "--workers 0", script.as_str(), 0)
 }
 
 #[test]
-fn a_gateway_seals_its_packets_in_order(rt: HostRuntime) -> Result<(), Fail> {
-    let alloc = rt.alloc();
-    let plain = gateway(alloc, "rfc4106(gcm(aes))")?;
-    let answers = written_by(&rt, alloc, 0, plain.as_str())?;
-    let text = gateway_text(alloc, answers.as_str())?;
-    let script = gateway(alloc, "pcrypt(rfc4106(gcm(aes)))")?;
-    expect(&rt, alloc, script.as_str(), 0, text.as_str())?;
-    Ok(())
+fn a_gateway_seals_its_packets_in_order(rt: HostRuntime) {
+    let text = gateway_text(&rt, rt.alloc(), plain_answers(&rt, rt.alloc()).as_str());
+    let script = gateway(&rt, rt.alloc(), "pcrypt(rfc4106(gcm(aes)))");
+    expect(&rt, rt.alloc(), script.as_str(), 0, text.as_str());
 }
