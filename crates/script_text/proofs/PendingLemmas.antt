@@ -1,6 +1,7 @@
 -- Lines cut out of bytes that come in pieces.
 use Rattle.std.proofs.Common.{◌≡◌, ℕ, zero, suc, ◌+◌, ◌-◌, ◌<◌, ◌≤◌, ◌&&◌, Bool, true, false, not, cond, List, [], ◌∷◌, length, take, drop, get_or, Option, Some, None, inl, inr, refl, sym, ap, ap₂, ◌∙◌, arith, ◌++◌, map, subst, append-nil, append_assoc, length-append, add-one}
-use Rattle.std.specs.Prelude.{nat_lt, ◌==◌, if◌then◌else◌, filter, slice_index}
+use Rattle.std.specs.Prelude.{nat_lt, ◌==◌, if◌then◌else◌, filter, slice_index, MatchOption}
+use Rattle.memchr.specs.Find.{IsFirstByte}
 use Rattle.std.proofs.lemmas.Bool.Decides.{nat_tests}
 use Rattle.std.proofs.lemmas.Bool.{cases_Bool, cases_lt, and_parts}
 use Rattle.std.proofs.lemmas.List.{take-append-drop, get_or-take, length-take-le}
@@ -15,7 +16,8 @@ use Rattle.script_text.specs.Tokens.{tokens_of}
 use Rattle.script_text.specs.Whole.{whole_script, AreFirst, WholeLinesStay, NoWholeLine}
 use Rattle.script_text.specs.declared.commands.Line.{Line}
 use Rattle.script_text.specs.declared.commands.Line.TheVariants.{Malformed}
-use Rattle.script_text.proofs.LineLemmas.{is_ten, not_is, line_without_feed}
+use Rattle.script_text.proofs.LineLemmas.{is_ten, not_is, no_feed, line_without_feed}
+use Rattle.script_text.proofs.PlaceLemmas.{place_found}
 
 -- ---- where a line feed stands
 
@@ -44,6 +46,11 @@ first_feed bytes p at lt =
           sym (take-append-drop p bytes)
           ∙ ap (λ xs. take p bytes ++ xs) (drop-cons bytes p 0 lt ∙ ap₂ (λ x n. x ∷ drop n bytes) ten (sym (add-one p)));
     }
+
+-- what a search answers
+pub feed_found : (bytes : List ℕ) (answer : Option ℕ) → IsFirstByte is_feed bytes answer → MatchOption answer (Contains bytes 10 → ⊥) (IsFirstFeed bytes)
+feed_found bytes None none = let at = place_found is_feed bytes None none in no_feed bytes (omega (arith, at))
+feed_found bytes (Some place) found = first_feed bytes place (place_found is_feed bytes (Some place) found) found.0.high
 
 pub no_feed_in : (xs ys : List ℕ) → (Contains xs 10 → ⊥) → (Contains ys 10 → ⊥) → Contains (xs ++ ys) 10 → ⊥
 no_feed_in xs ys a b has = elim (Contains-append_cases xs ys 10 has) [ inl l ↦ a l | inr r ↦ b r ]

@@ -8,9 +8,10 @@ ghost use Rattle.script_text.specs.Arguments.{Reads, hex_of, hexes_of, is_bar, t
 ghost use Rattle.script_text.specs.InSegments.{in_segments, are_sizes};
 ghost use Rattle.script_text.specs.declared.arguments.ReadError.TheVariants.{Malformed, NoMemory};
 
+use crate::hexadecimal::{are_pairs, write_bytes};
 use crate::texts::Texts;
-use hex::FromHexError;
 use kc_base::Bytes;
+use memchr::memchr;
 use sg_walk::Segs;
 use std::alloc::{AllocError, AllocFailed, Global};
 
@@ -44,14 +45,9 @@ impl<T: Drop> From<AllocFailed<T>> for ReadError {
 pub fn hex_bytes(alloc: Global, token: &[u8]) -> Result<Bytes, ReadError>
     ensures { Reads result (hex_of token.now) }
 {
-    if let [b'-'] = token {
-        return Ok(Bytes::new(alloc));
-    }
-    match hex::decode(alloc, token) {
-        Ok(bytes) => Ok(Bytes::from_vec(bytes)),
-        Err(FromHexError::OutOfMemory) => Err(ReadError::NoMemory),
-        Err(_) => Err(ReadError::Malformed),
-    }
+    let mut bytes = Vec::new(alloc);
+    append_hex(&mut bytes, token)?;
+    Ok(Bytes::from_vec(bytes))
 }
 
 // The bytes of a text's parts, one part behind the other, and how many each has.
@@ -68,15 +64,16 @@ fn append_hex(bytes: &mut Vec<u8>, part: &[u8]) -> Result<(), ReadError>
         (λ _. hex_of part.now ≡ Some (drop (length bytes.old.items) bytes.new.items))
         (λ error. error ≡ Malformed → hex_of part.now ≡ None) }
 {
-    if let [b'-'] = part {
+    if part == b"-".as_slice() {
         return Ok(());
+    }
+    if !are_pairs(part) {
+        return Err(ReadError::Malformed);
     }
     let at = bytes.len();
     bytes.resize(at + part.len() / 2, 0)?;
-    match hex::decode_to_slice(part, &mut bytes[at..]) {
-        Ok(()) => Ok(()),
-        Err(_) => Err(ReadError::Malformed),
-    }
+    write_bytes(part, &mut bytes[at..]);
+    Ok(())
 }
 
 // What each part between bars spells.
@@ -110,7 +107,7 @@ fn are_sizes(sizes: &[usize]) -> bool
 fn has_bar(token: &[u8]) -> bool
     ensures { result ≡ list_any is_bar token.now }
 {
-    token.iter().any(|b| *b == b'|')
+    memchr(b'|', token).is_some()
 }
 
 // The text of a token without bars.

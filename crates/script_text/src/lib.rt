@@ -4,6 +4,7 @@
 mod arguments;
 mod commands;
 mod cutter;
+mod hexadecimal;
 mod line_reader;
 mod reading;
 mod rows;
