@@ -2,6 +2,7 @@
 #![tactic(auto)]
 
 mod answers;
+mod hexadecimal;
 mod replies;
 mod reply;
 mod sentences;

@@ -3,6 +3,7 @@
 ghost use Rattle.std.specs.Prelude.{◌≡◌, ◌+◌, ◌*◌, ◌^◌, ◌<◌, ◌≤◌, [], ◌++◌, length, take, IsOk, OnOk, OnErr};
 ghost use Rattle.hex.specs.Hex.{encode_lower};
 
+use crate::hexadecimal::write_digits;
 use std::alloc::{AllocError, Global};
 use std::marker::Model;
 
@@ -91,6 +92,6 @@ impl Reply {
         let more = 2 * bytes.len();
         self.spare -= more;
         let _ = self.text.resize(start + more, 0);
-        let _ = hex::encode_to_slice(bytes, &mut self.text[start..]);
+        write_digits(bytes, &mut self.text[start..]);
     }
 }

@@ -1,0 +1,10 @@
+use Rattle.std.proofs.Common.{arith, rules}
+use Rattle.hex.specs.Hex.{lower_digits}
+use Rattle.hex.proofs.Pairs.{encode_step, encode_done}
+use Rattle.reply_text.proofs.hexadecimal.write_digits.Goals as goal
+
+pub bytes-preserved : goal.bytes-preserved
+bytes-preserved c = encode_step lower_digits c.args.bytes.now c.bytes.digits c.bytes.i c.digit_of.result c.digit_of-in-bytes.result (omega arith) (omega arith) c.digit_of.ensures c.digit_of-in-bytes.ensures c.bytes.invariant
+
+pub returns : goal.returns
+returns c = encode_done lower_digits c.args.bytes.now c.bytes.digits c.bytes.i (omega arith) (omega arith) c.bytes.invariant
