@@ -6,6 +6,8 @@
 #[cfg(test)]
 mod checked_traces;
 #[cfg(test)]
+mod digits;
+#[cfg(test)]
 mod hostile_lines;
 #[cfg(test)]
 mod replies;
