@@ -1,5 +1,5 @@
 -- Where the first byte stands that passes a test.
-use Rattle.std.proofs.Common.{◌≡◌, ◌∙◌, refl, sym, ap, subst, ℕ, ◌+◌, ◌-◌, ◌<◌, ◌≤◌, Bool, true, false, not, cond, List, [], ◌∷◌, ◌++◌, length, map, get_or, take, drop, Option, Some, None, unwrap_or, inl, inr, arith, append_assoc, take_all, le_refl}
+use Rattle.std.proofs.Common.{◌≡◌, ◌∙◌, refl, sym, ap, subst, ℕ, ◌+◌, ◌<◌, ◌≤◌, Bool, true, false, not, cond, List, [], ◌∷◌, ◌++◌, length, get_or, take, drop, Option, Some, None, unwrap_or, inl, inr, arith, append_assoc, take_all, le_refl}
 use Rattle.std.proofs.lemmas.Bool.{cases_lt}
 use Rattle.std.proofs.lemmas.Bool.Decides.{nat_tests}
 use Rattle.std.proofs.lemmas.List.{length-take-le, drop_all}
@@ -8,8 +8,8 @@ use Rattle.std.proofs.lemmas.List.Folds.{list_any_none, list_any_at}
 use Rattle.std.proofs.lemmas.List.Splits.{slice_split_first, slice_split_none}
 use Rattle.std.proofs.lemmas.List.Sums.{position_or_len_is, prefix_len-le-length, fails_before_first}
 use Rattle.std.specs.Prelude.{◌==◌, ◌&&◌, filter, is_some}
-use Rattle.std.specs.List.{All, fold, list_all, list_any, position_or_len, slice_split}
-use Rattle.memchr.specs.Find.{IsFirstByte, Passes}
+use Rattle.std.specs.List.{fold, list_all, list_any, position_or_len, slice_split}
+use Rattle.memchr.specs.Find.{IsFirstByte}
 use Rattle.script_text.specs.Tokens.{is_blank, tokens_of}
 
 not_true : (b : Bool) → ¬ (b ≡ true) → b ≡ false

@@ -1,4 +1,4 @@
-use Rattle.std.proofs.Common.{arith, rules}
+use Rattle.std.proofs.Common.{arith}
 use Rattle.hex.specs.Hex.{lower_digits}
 use Rattle.hex.proofs.Pairs.{encode_step, encode_done}
 use Rattle.reply_text.proofs.hexadecimal.write_digits.Goals as goal

@@ -1,4 +1,4 @@
-use Rattle.std.proofs.Common.{◌*◌, length, arith}
+use Rattle.std.proofs.Common.{◌*◌, arith}
 use Rattle.hex.proofs.Pairs.{decode_step, decode_done}
 use Rattle.script_text.proofs.HexLemmas.{pairs_even}
 use Rattle.script_text.proofs.hexadecimal.write_bytes.Goals as goal

@@ -1,4 +1,4 @@
-use Rattle.std.proofs.Common.{◌≡◌, ◌∙◌, sym, ap, ℕ, ◌+◌, List, ◌++◌, map, drop, arith, rules}
+use Rattle.std.proofs.Common.{◌∙◌, sym, ap, ℕ, ◌+◌, List, ◌++◌, map, drop, arith, rules}
 use Rattle.std.proofs.lemmas.List.{map-append}
 use Rattle.script_text.specs.Tokens.{tokens_of}
 use Rattle.script_text.proofs.PlaceLemmas.{token_taken, blank_passed}
