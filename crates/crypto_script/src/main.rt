@@ -21,7 +21,7 @@ use crew::NoGate;
 use program::run;
 use script_run::{NO_MEMORY, USAGE};
 use std::process::ExitCode;
-use std::{env, io};
+use std::{env, io, mem};
 
 // The arguments without the program's name.
 fn words(rt: &HostRuntime) -> io::Result<Vec<String>> {
@@ -44,5 +44,8 @@ fn main(rt: HostRuntime) -> ExitCode {
     let mut source = StdSource::new(rt.reader());
     let mut sink = StdSink::new(io::writer(&rt));
     let outcome = run(&rt, rt.alloc(), &words, &NoGate, &mut source, &mut sink);
-    ExitCode::from(outcome.status)
+    let status = outcome.status;
+    // The process ends, and with it all its memory: the histories aren't let go record by record.
+    mem::forget(outcome);
+    ExitCode::from(status)
 }
