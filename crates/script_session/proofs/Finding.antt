@@ -24,7 +24,7 @@ use Rattle.session_calls.specs.Asking.{Asked, Asks, SeesMore, Finds}
 use Rattle.session_calls.specs.Passes.{RegPass, BoardPass, known, lock_of}
 use Rattle.session_calls.proofs.Boarding.{starts-same, starts-trans}
 use Rattle.script_session.specs.Creating.{Created, CreatedLive}
-use Rattle.script_session.specs.Finding.{looks, AddsLive}
+use Rattle.script_session.specs.Finding.{looks, MakesLive, AddsLive}
 use Rattle.script_session.specs.Holding.{HasSeenMore, SeesOn, Done, Holds, Stops}
 use Rattle.script_session.specs.States.{State, Stands, Posted, uses}
 use Rattle.script_session.proofs.Arms.{viewed, sees-same, called-sees}
@@ -65,30 +65,28 @@ abbrev after-get : ℕ → Walk → ℕ → List ℕ → Option ℕ → ℕ → 
 after-get workers walk n label len id spec plan ok =
     unless walk n ((not ok, EAGAIN) ∷ []) (creates (shape_for workers (is_chained spec.driver) spec.wrap len) (λ pipe. says (and_live walk (new_live label id plan pipe)) (said.Made n spec.driver)))
 
--- a plan, a reference and a pipeline, where there is one
-bind-done : (workers : ℕ) (walk : Walk) (n : ℕ) (label : List ℕ) (len : Option ℕ) (id : ℕ) (spec : Spec) (plan : Plan) (pipe : Option Pipe) (k k2 : Known RegEntry) (b b' : Known (BoardEntry Ask)) (answers answers' : List Answer)
-    → plan_for spec len ≡ Some plan → Asked k k2 (Gets id true ∷ []) → Created (shape_for workers (is_chained spec.driver) spec.wrap len) pipe b b' → Stands walk.lives k → Posted walk b → answers' ≡ answers ++ said.Made n spec.driver ∷ []
-    → Done (binds workers walk n label len (Entry id spec)) k b k2 b' (and_live walk (new_live label id plan pipe)) answers answers'
-bind-done workers walk n label len id spec plan pipe k k2 b b' answers answers' plans got created stands posted e =
+-- a reference and a pipeline, where there is one
+taken-done : (workers : ℕ) (walk : Walk) (n : ℕ) (label : List ℕ) (len : Option ℕ) (id : ℕ) (spec : Spec) (plan : Plan) (pipe : Option Pipe) (k k2 : Known RegEntry) (b b' : Known (BoardEntry Ask)) (answers answers' : List Answer)
+    → Asked k k2 (Gets id true ∷ []) → Created (shape_for workers (is_chained spec.driver) spec.wrap len) pipe b b' → Stands walk.lives k → Posted walk b → answers' ≡ answers ++ said.Made n spec.driver ∷ []
+    → Done (binds_plan workers walk n label len id spec (Some plan)) k b k2 b' (and_live walk (new_live label id plan pipe)) answers answers'
+taken-done workers walk n label len id spec plan pipe k k2 b b' answers answers' got created stands posted e =
     let live : Live = new_live label id plan pipe in
     let after : Walk = and_live walk live in
     let stands' : Stands after.lives k2 = stands-more walk.lives after.lives k k2 (Gets id true ∷ []) stands got (λ other. let u = uses-more other walk.lives live in omega (arith, u)) in
     let posted' : Posted after b' = created-posted walk label id plan (shape_for workers (is_chained spec.driver) spec.wrap len) pipe b b' posted created in
     let rest : Option Pipe → Dialogue = λ p. says (and_live walk (new_live label id plan p)) (said.Made n spec.driver) in
-    subst (λ p. Done (binds_plan workers walk n label len id spec p) k b k2 b' after answers answers') (sym plans)
-    (asks-done k k2 k2 b b' (Get id) true (after-get workers walk n label len id spec plan) after answers answers' got
+    asks-done k k2 k2 b b' (Get id) true (after-get workers walk n label len id spec plan) after answers answers' got
     (creates-done (shape_for workers (is_chained spec.driver) spec.wrap len) pipe rest k2 b b' after answers answers' created
-    (says-done k2 b' after (said.Made n spec.driver ∷ []) answers answers' stands' posted' e)))
+    (says-done k2 b' after (said.Made n spec.driver ∷ []) answers answers' stands' posted' e))
 
 -- the entry was no more listed
-bind-lost : (workers : ℕ) (walk : Walk) (n : ℕ) (label : List ℕ) (len : Option ℕ) (id : ℕ) (spec : Spec) (plan : Plan) (k k2 : Known RegEntry) (b : Known (BoardEntry Ask)) (answers answers' : List Answer)
-    → plan_for spec len ≡ Some plan → Asked k k2 (Gets id false ∷ []) → Stands walk.lives k → Posted walk b → answers' ≡ answers ++ said.Refused n EAGAIN ∷ []
-    → Done (binds workers walk n label len (Entry id spec)) k b k2 b walk answers answers'
-bind-lost workers walk n label len id spec plan k k2 b answers answers' plans got stands posted e =
+lost-done : (workers : ℕ) (walk : Walk) (n : ℕ) (label : List ℕ) (len : Option ℕ) (id : ℕ) (spec : Spec) (plan : Plan) (k k2 : Known RegEntry) (b : Known (BoardEntry Ask)) (answers answers' : List Answer)
+    → Asked k k2 (Gets id false ∷ []) → Stands walk.lives k → Posted walk b → answers' ≡ answers ++ said.Refused n EAGAIN ∷ []
+    → Done (binds_plan workers walk n label len id spec (Some plan)) k b k2 b walk answers answers'
+lost-done workers walk n label len id spec plan k k2 b answers answers' got stands posted e =
     let stands' : Stands walk.lives k2 = stands-more walk.lives walk.lives k k2 (Gets id false ∷ []) stands got (λ other. refl) in
-    subst (λ p. Done (binds_plan workers walk n label len id spec p) k b k2 b walk answers answers') (sym plans)
-    (asks-done k k2 k2 b b (Get id) false (after-get workers walk n label len id spec plan) walk answers answers' got
-    (says-done k2 b walk (said.Refused n EAGAIN ∷ []) answers answers' stands' posted e))
+    asks-done k k2 k2 b b (Get id) false (after-get workers walk n label len id spec plan) walk answers answers' got
+    (says-done k2 b walk (said.Refused n EAGAIN ∷ []) answers answers' stands' posted e)
 
 -- ---- what is seen goes on
 
@@ -117,6 +115,23 @@ asks-got {r} {r'} id ok t is asks = subst (λ x. Asks r r' (Gets id x ∷ [])) i
 
 pub finds-as : (r r' : Option RegPass) (text : List ℕ) (a b : Result ℕ Errno) → a ≡ b → Finds r r' text a → Finds r r' text b
 finds-as r r' text a b is found = subst (Finds r r' text) is found
+
+-- ---- a transform was made and added
+
+made-stops : (label : List ℕ) (len : Option ℕ) (id : ℕ) (spec : Spec) (plan : Plan) (s s' : State) → MakesLive label len id spec plan s s' → Stops s s'
+made-stops label len id spec plan s s' made =
+    record {
+      locks = record { registry = ap (λ (x : State). lock_of x.registry) made.added; board = made.lock; workers = ap (λ (x : State). x.workers) made.added };
+      registry = subst (λ (x : State). HasSeenMore (known s.registry) (known x.registry)) (sym made.added) (record { number = refl; next = refl; seen = starts-same (known s.registry).seen });
+      board = created-live-sees s.workers label len id spec plan made.live (known s.board) (known s'.board) made.created;
+    }
+
+-- it is answered
+pub made-said : {S A : Type 0} (n : ℕ) (label : List ℕ) (len : Option ℕ) (id : ℕ) (spec : Spec) (plan : Plan) (s s' : State) (answers answers' : List Answer) (result : Result A S)
+    → MakesLive label len id spec plan s s' → OnOk result (answers' ≡ answers ++ said.Made n spec.driver ∷ [])
+    → MatchResult result (λ _. AddsLive n label len id spec plan s s' answers answers') (λ _. Stops s s')
+made-said n label len id spec plan s s' answers answers' (Ok a) made e = record { made = made; says = e }
+made-said n label len id spec plan s s' answers answers' (Err stop) made e = made-stops label len id spec plan s s' made
 
 -- ---- arms
 
@@ -151,70 +166,78 @@ module _ {ws c : ℕ} {lives : List Live} {q v : ℕ} {r : Option RegPass} {b : 
         board = subst (λ (x : State). SeesOn (known x.board) (known s'.board)) view stops.board;
       }
 
-  pub bound-arm : {r' r2 : Option RegPass} {b' : Option BoardPass} {items : List Live} (n : ℕ) (label : List ℕ) (len : Option ℕ) (id : ℕ) (spec : Spec) (plan : Plan) (pipe : Option Pipe) (answers answers' : List Answer)
-      → Asks r r' [] → slice_get (registered (known r).seen) id ≡ Some spec → plan_for spec len ≡ Some plan → Asks r' r2 (Gets id true ∷ []) → lock_of b' ≡ lock_of b → Created (shape_for ws (is_chained spec.driver) spec.wrap len) pipe (known b) (known b')
+  -- a transform was made and added
+  pub makes-arm : (b' : Option BoardPass) (items : List Live) (label : List ℕ) (len : Option ℕ) (id : ℕ) (spec : Spec) (plan : Plan) (live : Live)
+      → lock_of b' ≡ lock_of b → CreatedLive ws label len id spec plan live (known b) (known b') → items ≡ lives ++ live ∷ [] → MakesLive label len id spec plan s (viewed ws c items q v r b')
+  makes-arm b' items label len id spec plan live lock created more =
+      subst (λ (x : State). MakesLive label len id spec plan x (viewed ws c items q v r b')) view
+      (record { live = live; created = created; lock = lock; added = ap (λ ls. viewed ws c ls q v r b') more })
+
+  taken-holds : {r2 : Option RegPass} {b' : Option BoardPass} {items : List Live} (n : ℕ) (label : List ℕ) (len : Option ℕ) (id : ℕ) (spec : Spec) (plan : Plan) (pipe : Option Pipe) (answers answers' : List Answer)
+      → Asks r r2 (Gets id true ∷ []) → lock_of b' ≡ lock_of b → Created (shape_for ws (is_chained spec.driver) spec.wrap len) pipe (known b) (known b')
       → items ≡ lives ++ new_live label id plan pipe ∷ [] → Stands s.walk.lives (known s.registry) → Posted s.walk (known s.board) → answers' ≡ answers ++ said.Made n spec.driver ∷ []
-      → Bound s (viewed ws c items q v r2 b') n label len id answers answers'
-  bound-arm {r'} {r2} {b'} {items} n label len id spec plan pipe answers answers' origin there plans got lock created more stands posted e =
+      → Holds (binds_plan s.workers s.walk n label len id spec (Some plan)) s (viewed ws c items q v r2 b') answers answers'
+  taken-holds {r2} {b'} {items} n label len id spec plan pipe answers answers' got lock created more stands posted e =
       let from : State = viewed ws c lives q v r b in
       let to : State = viewed ws c items q v r2 b' in
-      let d : Dialogue = binds ws from.walk n label len (Entry id spec) in
-      subst (λ (x : State). Stands x.walk.lives (known x.registry) → Posted x.walk (known x.board) → Bound x to n label len id answers answers') view
-      (λ stands0 posted0. (
-        spec,
-        there,
-        record {
-          locks = record { registry = got.lock ∙ origin.lock; board = lock; workers = refl };
-          wide = wide-created ws (is_chained spec.driver) spec.wrap len pipe (known b) (known b') created;
-          done = subst (λ ls. Done d (known r) (known b) (known r2) (known b') (record { client = c; lives = ls; requests = q; bytes = v }) answers answers') (sym more)
-              (asked-none-done d (known r) (known r') (known r2) (known b) (known b') (and_live from.walk (new_live label id plan pipe)) answers answers' origin.asked
-              (bind-done ws from.walk n label len id spec plan pipe (known r') (known r2) (known b) (known b') answers answers' plans got.asked created
-              (stands-more lives lives (known r) (known r') [] stands0 origin.asked (λ other. refl)) posted0 e));
-        },
-      )) stands posted
-
-  -- a transform was made and added, and it is answered
-  pub adds-arm : {S A : Type 0} (b' : Option BoardPass) (items : List Live) (n : ℕ) (label : List ℕ) (len : Option ℕ) (id : ℕ) (spec : Spec) (plan : Plan) (live : Live) (answers answers' : List Answer) (result : Result A S)
-      → lock_of b' ≡ lock_of b → CreatedLive ws label len id spec plan live (known b) (known b') → items ≡ lives ++ live ∷ [] → OnOk result (answers' ≡ answers ++ said.Made n spec.driver ∷ [])
-      → MatchResult result (λ _. AddsLive n label len id spec plan s (viewed ws c items q v r b') answers answers') (λ _. Stops s (viewed ws c items q v r b'))
-  adds-arm b' items n label len id spec plan live answers answers' (Ok a) lock created more e =
-      subst (λ (x : State). AddsLive n label len id spec plan x (viewed ws c items q v r b') answers answers') view
-      (record { live = live; created = created; lock = lock; added = ap (λ ls. viewed ws c ls q v r b') more; says = e })
-  adds-arm b' items n label len id spec plan live answers answers' (Err stop) lock created more e =
-      further-on items lock (created-live-sees ws label len id spec plan live (known b) (known b') created)
+      let d : Dialogue = binds_plan ws from.walk n label len id spec (Some plan) in
+      subst (λ (x : State). Stands x.walk.lives (known x.registry) → Posted x.walk (known x.board) → Holds (binds_plan x.workers x.walk n label len id spec (Some plan)) x to answers answers') view
+      (λ stands0 posted0. record {
+        locks = record { registry = got.lock; board = lock; workers = refl };
+        wide = wide-created ws (is_chained spec.driver) spec.wrap len pipe (known b) (known b') created;
+        done = subst (λ ls. Done d (known r) (known b) (known r2) (known b') (record { client = c; lives = ls; requests = q; bytes = v }) answers answers') (sym more)
+            (taken-done ws from.walk n label len id spec plan pipe (known r) (known r2) (known b) (known b') answers answers' got.asked created stands0 posted0 e);
+      }) stands posted
 
   -- the same where another call made the transform and added it
-  pub added-arm : {S A : Type 0} {r' r2 : Option RegPass} (s' : State) (n : ℕ) (label : List ℕ) (len : Option ℕ) (id : ℕ) (spec : Spec) (plan : Plan) (answers answers' : List Answer) (result : Result A S)
-      → Asks r r' [] → slice_get (registered (known r).seen) id ≡ Some spec → plan_for spec len ≡ Some plan → Asks r' r2 (Gets id true ∷ []) → Stands s.walk.lives (known s.registry) → Posted s.walk (known s.board)
+  pub taken-arm : {S A : Type 0} {r2 : Option RegPass} (s' : State) (n : ℕ) (label : List ℕ) (len : Option ℕ) (id : ℕ) (spec : Spec) (plan : Plan) (answers answers' : List Answer) (result : Result A S)
+      → Asks r r2 (Gets id true ∷ []) → Stands s.walk.lives (known s.registry) → Posted s.walk (known s.board)
       → MatchResult result (λ _. AddsLive n label len id spec plan (viewed ws c lives q v r2 b) s' answers answers') (λ _. Stops (viewed ws c lives q v r2 b) s')
-      → MatchResult result (λ _. Bound s s' n label len id answers answers') (λ _. Stops s s')
-  added-arm {r' = r'} {r2 = r2} s' n label len id spec plan answers answers' (Ok a) origin there plans got stands posted adds =
-      subst (λ x. Bound s x n label len id answers answers') (sym adds.added)
-      (bound-arm {r' = r'} {r2 = r2} {b' = s'.board} n label len id spec plan adds.created.0 answers answers' origin there plans got adds.lock adds.created.2
-      (ap (λ l. lives ++ l ∷ []) adds.created.1) stands posted adds.says)
-  added-arm s' n label len id spec plan answers answers' (Err e) origin there plans got stands posted stops =
-      further-still s' (sees-then (sees-asked [] origin) (sees-asked (Gets id true ∷ []) got)) stops
+      → MatchResult result (λ _. Holds (binds_plan s.workers s.walk n label len id spec (Some plan)) s s' answers answers') (λ _. Stops s s')
+  taken-arm {r2 = r2} s' n label len id spec plan answers answers' (Ok a) got stands posted adds =
+      let made = adds.made in
+      subst (λ x. Holds (binds_plan s.workers s.walk n label len id spec (Some plan)) s x answers answers') (sym made.added)
+      (taken-holds {r2 = r2} {b' = s'.board} n label len id spec plan made.created.0 answers answers' got made.lock made.created.2
+      (ap (λ l. lives ++ l ∷ []) made.created.1) stands posted adds.says)
+  taken-arm s' n label len id spec plan answers answers' (Err e) got stands posted stops = further-still s' (sees-asked (Gets id true ∷ []) got) stops
 
-  pub lost-arm : {r' r2 : Option RegPass} (n : ℕ) (label : List ℕ) (len : Option ℕ) (id : ℕ) (spec : Spec) (plan : Plan) (answers answers' : List Answer)
-      → Asks r r' [] → slice_get (registered (known r).seen) id ≡ Some spec → plan_for spec len ≡ Some plan → Asks r' r2 (Gets id false ∷ [])
-      → Stands s.walk.lives (known s.registry) → Posted s.walk (known s.board) → answers' ≡ answers ++ said.Refused n EAGAIN ∷ []
-      → Bound s (viewed ws c lives q v r2 b) n label len id answers answers'
-  lost-arm {r'} {r2} n label len id spec plan answers answers' origin there plans got stands posted e =
+  pub lost-arm : {r2 : Option RegPass} (n : ℕ) (label : List ℕ) (len : Option ℕ) (id : ℕ) (spec : Spec) (plan : Plan) (answers answers' : List Answer)
+      → Asks r r2 (Gets id false ∷ []) → Stands s.walk.lives (known s.registry) → Posted s.walk (known s.board) → answers' ≡ answers ++ said.Refused n EAGAIN ∷ []
+      → Holds (binds_plan s.workers s.walk n label len id spec (Some plan)) s (viewed ws c lives q v r2 b) answers answers'
+  lost-arm {r2} n label len id spec plan answers answers' got stands posted e =
       let from : State = viewed ws c lives q v r b in
       let to : State = viewed ws c lives q v r2 b in
-      let d : Dialogue = binds ws from.walk n label len (Entry id spec) in
-      subst (λ (x : State). Stands x.walk.lives (known x.registry) → Posted x.walk (known x.board) → Bound x to n label len id answers answers') view
-      (λ stands0 posted0. (
+      subst (λ (x : State). Stands x.walk.lives (known x.registry) → Posted x.walk (known x.board) → Holds (binds_plan x.workers x.walk n label len id spec (Some plan)) x to answers answers') view
+      (λ stands0 posted0. record {
+        locks = record { registry = got.lock; board = refl; workers = refl };
+        wide = λ wide. wide;
+        done = lost-done ws from.walk n label len id spec plan (known r) (known r2) (known b) answers answers' got.asked stands0 posted0 e;
+      }) stands posted
+
+  -- nothing was asked of the registry but the entry
+  pub origin-stands : {r' : Option RegPass} → Stands s.walk.lives (known s.registry) → Asks r r' [] → Stands lives (known r')
+  origin-stands {r'} stands origin =
+      let stands0 : Stands lives (known r) = subst (λ (x : State). Stands x.walk.lives (known x.registry)) (sym view) stands in
+      stands-more lives lives (known r) (known r') [] stands0 origin.asked (λ other. refl)
+
+  -- what an entry's plan comes to
+  pub bound-arm : {S A : Type 0} {r' : Option RegPass} (s' : State) (n : ℕ) (label : List ℕ) (len : Option ℕ) (id : ℕ) (spec : Spec) (plan : Plan) (answers answers' : List Answer) (result : Result A S)
+      → Asks r r' [] → slice_get (registered (known r).seen) id ≡ Some spec → plan_for spec len ≡ Some plan
+      → MatchResult result (λ _. Holds (binds_plan ws (record { client = c; lives = lives; requests = q; bytes = v }) n label len id spec (Some plan)) (viewed ws c lives q v r' b) s' answers answers') (λ _. Stops (viewed ws c lives q v r' b) s')
+      → MatchResult result (λ _. Bound s s' n label len id answers answers') (λ _. Stops s s')
+  bound-arm {r' = r'} s' n label len id spec plan answers answers' (Ok a) origin there plans held =
+      let from : State = viewed ws c lives q v r b in
+      subst (λ (x : State). Bound x s' n label len id answers answers') view (
         spec,
         there,
         record {
-          locks = record { registry = got.lock ∙ origin.lock; board = refl; workers = refl };
-          wide = λ wide. wide;
-          done = asked-none-done d (known r) (known r') (known r2) (known b) (known b) from.walk answers answers' origin.asked
-              (bind-lost ws from.walk n label len id spec plan (known r') (known r2) (known b) answers answers' plans got.asked
-              (stands-more lives lives (known r) (known r') [] stands0 origin.asked (λ other. refl)) posted0 e);
+          locks = record { registry = held.locks.registry ∙ origin.lock; board = held.locks.board; workers = held.locks.workers };
+          wide = held.wide;
+          done = subst (λ p. Done (binds_plan ws from.walk n label len id spec p) (known r) (known b) (known s'.registry) (known s'.board) s'.walk answers answers') (sym plans)
+              (asked-none-done (binds_plan ws from.walk n label len id spec (Some plan)) (known r) (known r') (known s'.registry) (known b) (known s'.board) s'.walk answers answers' origin.asked held.done);
         },
-      )) stands posted
+      )
+  bound-arm s' n label len id spec plan answers answers' (Err e) origin there plans stops = further-still s' (sees-asked [] origin) stops
 
   pub unplanned-arm : {r' : Option RegPass} (n : ℕ) (label : List ℕ) (len : Option ℕ) (id : ℕ) (spec : Spec) (answers answers' : List Answer)
       → Asks r r' [] → slice_get (registered (known r).seen) id ≡ Some spec → plan_for spec len ≡ None

@@ -16,10 +16,14 @@ use Rattle.script_session.specs.States.{State}
 abbrev pub looks : ℕ → Walk → ℕ → List ℕ → List ℕ → Option ℕ → Dialogue
 looks workers walk n label name len = Asks (Look name) λ found. binds workers walk n label len found
 
--- The transform of an entry was made with its pipeline, and stands behind the others; nothing else was changed. It was answered.
-pub record AddsLive (n : ℕ) (label : List ℕ) (len : Option ℕ) (id : ℕ) (spec : Spec) (plan : Plan) (s s' : State) (answers answers' : List Answer) : Type 0 where
+-- The transform of an entry was made with its pipeline, and stands behind the others; nothing else was changed.
+pub record MakesLive (label : List ℕ) (len : Option ℕ) (id : ℕ) (spec : Spec) (plan : Plan) (s s' : State) : Type 0 where
   pub live : Live
   pub created : CreatedLive s.workers label len id spec plan live (known s.board) (known s'.board)
   pub lock : lock_of s'.board ≡ lock_of s.board
   pub added : s' ≡ record s { walk = and_live s.walk live; board = s'.board }
+
+-- the same, and it was answered
+pub record AddsLive (n : ℕ) (label : List ℕ) (len : Option ℕ) (id : ℕ) (spec : Spec) (plan : Plan) (s s' : State) (answers answers' : List Answer) : Type 0 where
+  pub made : MakesLive label len id spec plan s s'
   pub says : answers' ≡ answers ++ said.Made n spec.driver ∷ []

@@ -6,12 +6,12 @@ ghost use Rattle.alg_registry.specs.declared.spec.Spec.{Spec as Algorithm};
 ghost use Rattle.alg_registry.specs.Rows.{registered};
 ghost use Rattle.templates.specs.Looking.{Entry};
 ghost use Rattle.templates.specs.Nesting.{is_nested_well};
-ghost use Rattle.dialogues.specs.Allocating.{alloc, binds, free};
+ghost use Rattle.dialogues.specs.Allocating.{alloc, binds, binds_plan, free};
 ghost use Rattle.dialogues.specs.Names.{is_queue_length};
 ghost use Rattle.dialogues.specs.Walk.{live_of};
 ghost use Rattle.board.specs.Legal.{IsNoWorker};
 ghost use Rattle.script_session.specs.Creating.{CreatedLive};
-ghost use Rattle.script_session.specs.Finding.{looks, AddsLive};
+ghost use Rattle.script_session.specs.Finding.{looks, MakesLive, AddsLive};
 ghost use Rattle.session_calls.specs.Passes.{CallsRegistry, known, lock_of, CallsBoard};
 ghost use Rattle.script_session.specs.States.{Stands, Posted};
 ghost use Rattle.script_session.specs.Holding.{Holds, SeesOn, Stops};
@@ -64,7 +64,43 @@ fn create_live<R: Wait>(
 }
 
 impl Session {
-    // Makes the transform of an entry, of which there is a reference, and adds it behind the others.
+    // Makes the transform of an entry, and puts it behind the others.
+    fn make_live<R: Wait>(
+        &mut self,
+        rt: &R,
+        board: &SharedBoard<Job>,
+        label: &Bytes,
+        length: Option<u32>,
+        id: u64,
+        spec: &Spec,
+        plan: Plan,
+    ) -> Result<(), Stop>
+        requires at_board { CallsBoard board.now self.old.board }
+        requires posted { Posted self.old.walk (known self.old.board) }
+        requires few { self.old.workers ≤ 16 }
+        requires free { live_of self.old.walk label.now ≡ None }
+        requires fits { is_queue_length length ≡ true }
+        ensures { MatchResult result
+            (λ _. MakesLive label.now length id spec.now plan self.old self.new)
+            (λ _. Stops self.old self.new) }
+    {
+        let live = create_live(
+            self.alloc,
+            rt,
+            board,
+            &mut self.board,
+            self.workers,
+            label,
+            length,
+            id,
+            spec,
+            plan,
+        )?;
+        self.lives.push(self.alloc, live)?;
+        Ok(())
+    }
+
+    // Makes the transform of an entry, of which there is a reference, adds it behind the others, and answers.
     fn add_live<R: Wait>(
         &mut self,
         rt: &R,
@@ -86,19 +122,7 @@ impl Session {
             (λ _. AddsLive number label.now length id spec plan self.old self.new answers.old.items answers.new.items)
             (λ _. Stops self.old self.new) }
     {
-        let live = create_live(
-            self.alloc,
-            rt,
-            board,
-            &mut self.board,
-            self.workers,
-            label,
-            length,
-            id,
-            &spec,
-            plan,
-        )?;
-        self.lives.push(self.alloc, live)?;
+        self.make_live(rt, board, label, length, id, &spec, plan)?;
         let driver = spec.driver;
         say(
             answers,
@@ -107,6 +131,37 @@ impl Session {
                 driver,
             },
         )
+    }
+
+    // Takes an entry of a plan into use, if there is a reference to it.
+    fn take_entry<R: Wait>(
+        &mut self,
+        rt: &R,
+        board: &SharedBoard<Job>,
+        registry: &SharedRegistry,
+        number: u32,
+        label: &Bytes,
+        length: Option<u32>,
+        id: u64,
+        spec: Spec,
+        plan: Plan,
+        answers: &mut Vec<Answer>,
+    ) -> Result<(), Stop>
+        requires at_registry { CallsRegistry registry.now self.old.registry }
+        requires at_board { CallsBoard board.now self.old.board }
+        requires stands { Stands self.old.walk.lives (known self.old.registry) }
+        requires posted { Posted self.old.walk (known self.old.board) }
+        requires few { self.old.workers ≤ 16 }
+        requires free { live_of self.old.walk label.now ≡ None }
+        requires fits { is_queue_length length ≡ true }
+        ensures { MatchResult result
+            (λ _. Holds (binds_plan self.old.workers self.old.walk number label.now length id spec (Some plan)) self.old self.new answers.old.items answers.new.items)
+            (λ _. Stops self.old self.new) }
+    {
+        if !self.registry.take_ref(rt, registry, id)? {
+            return refuse(answers, number, Errno::EAGAIN);
+        }
+        self.add_live(rt, board, number, label, length, id, spec, plan, answers)
     }
 
     // Takes an entry that a look came to into use.
@@ -135,16 +190,12 @@ impl Session {
             (λ _. Stops self.old self.new) }
     {
         let spec = self.registry.origin(rt, registry, id)?;
-        let Ok(planned) = plan_with(self.alloc, &spec, length) else {
-            return Err(Stop::Memory);
-        };
-        let Some(plan) = planned else {
+        let Some(plan) = plan_with(self.alloc, &spec, length)? else {
             return refuse(answers, number, Errno::EINVAL);
         };
-        if !self.registry.take_ref(rt, registry, id)? {
-            return refuse(answers, number, Errno::EAGAIN);
-        }
-        self.add_live(rt, board, number, label, length, id, spec, plan, answers)
+        self.take_entry(
+            rt, board, registry, number, label, length, id, spec, plan, answers,
+        )
     }
 
     // Looks a name up, and takes what is found into use.

@@ -119,10 +119,10 @@ pub fn put_all(reply: &mut Reply, answers: &[Answer]) -> Result<(), AllocError>
 }
 
 /// Adds the text of one answer. Want of memory leaves the reply as it was.
-pub fn put_one(reply: &mut Reply, answer: &Answer) -> Result<(), Stop>
-    ensures ok { OnOk result (reply.new.text ≡ reply.old.text ++ text_of answer.now) }
+pub fn put_one(reply: &mut Reply, answer: Answer) -> Result<(), Stop>
+    ensures ok { OnOk result (reply.new.text ≡ reply.old.text ++ text_of answer) }
     ensures err { OnErr result (reply.new.text ≡ reply.old.text) }
 {
-    reply.put(answer)?;
+    reply.put(&answer)?;
     Ok(())
 }

@@ -71,12 +71,12 @@ pub fn count_completions(callbacks: &[Callback<Finished>]) -> u64
 }
 
 /// Adds the text of an answer, for which there is room. No memory is taken.
-pub fn put_short(reply: &mut Reply, answer: &Answer)
-    requires { length (text_of answer.now) ≤ reply.old.spare }
-    ensures text { reply.new.text ≡ reply.old.text ++ text_of answer.now }
-    ensures left { reply.old.spare ≤ reply.new.spare + length (text_of answer.now) }
+pub fn put_short(reply: &mut Reply, answer: Answer)
+    requires { length (text_of answer) ≤ reply.old.spare }
+    ensures text { reply.new.text ≡ reply.old.text ++ text_of answer }
+    ensures left { reply.old.spare ≤ reply.new.spare + length (text_of answer) }
 {
-    let _ = reply.put(answer);
+    let _ = reply.put(&answer);
 }
 
 // The same of bytes, which aren't copied.
@@ -97,11 +97,11 @@ fn put_completed(reply: &mut Reply, line: u32, finished: &Finished)
         Finished::Bytes(bytes) => put_bytes(reply, line, bytes.as_slice()),
         Finished::BadMsg => {
             let errno = Errno::EBADMSG;
-            put_short(reply, &Answer::Failed { line, errno })
+            put_short(reply, Answer::Failed { line, errno })
         }
         Finished::Invalid => {
             let errno = Errno::EINVAL;
-            put_short(reply, &Answer::Failed { line, errno })
+            put_short(reply, Answer::Failed { line, errno })
         }
     }
 }
@@ -114,7 +114,7 @@ fn put_callback(reply: &mut Reply, lines: &Lines, callback: &Callback<Finished>)
     match callback {
         Callback::Started(number) => {
             let line = lines.at(*number);
-            put_short(reply, &Answer::Started { line })
+            put_short(reply, Answer::Started { line })
         }
         Callback::Done(number, finished) => put_completed(reply, lines.at(*number), finished),
     }

@@ -52,14 +52,14 @@ pub fn poll_said<R: Wait>(
 {
     only_collects_hand_out::<Ask>();
     let Some(pipe) = live.pipe() else {
-        return put_one(reply, &Answer::Polled { line, count: 0 });
+        return put_one(reply, Answer::Polled { line, count: 0 });
     };
     reply.reserve(collected_room(pipe.lines.count(), bytes, 0))?;
     let mut into = Callbacks::new(alloc);
     caller.poll(rt, board, pipe, &mut into)?;
     let count = count_completions(into.as_slice());
     put_callbacks(reply, &pipe.lines, into.as_slice());
-    put_short(reply, &Answer::Polled { line, count });
+    put_short(reply, Answer::Polled { line, count });
     live.deliver(count);
     Ok(())
 }
@@ -88,18 +88,18 @@ pub fn drain_said<R: Wait, G: Gate>(
         (λ _. BreaksFor (known caller.old) (known caller.new) reply.old.text reply.new.text) }
 {
     let Some(pipe) = live.pipe() else {
-        return put_one(reply, &Answer::Drained { line, count: 0 });
+        return put_one(reply, Answer::Drained { line, count: 0 });
     };
     if pipe.held {
         let errno = Errno::EINVAL;
-        return put_one(reply, &Answer::Refused { line, errno });
+        return put_one(reply, Answer::Refused { line, errno });
     }
     reply.reserve(collected_room(pipe.lines.count(), bytes, 0))?;
     let mut into = Callbacks::new(alloc);
     caller.drain(rt, board, gate, pipe, &mut into)?;
     let count = count_completions(into.as_slice());
     put_callbacks(reply, &pipe.lines, into.as_slice());
-    put_short(reply, &Answer::Drained { line, count });
+    put_short(reply, Answer::Drained { line, count });
     live.deliver(count);
     Ok(())
 }

@@ -11,6 +11,7 @@ use alg_names::laws::{computed_tree, one_name};
 use alg_names::{Name, NameErr, parse_name};
 use alg_registry::{Spec, Wrap};
 use kc_base::Errno;
+use session_calls::Stop;
 use std::alloc::Global;
 use templates::{BuildErr, Plan, nesting, plan_of};
 
@@ -66,9 +67,8 @@ fn may_have(wrap: Wrap, length: Option<u32>) -> bool
 }
 
 /// What an entry computes as a transform, if it does and may have the length of a queue that was given.
-pub fn plan_with(alloc: Global, spec: &Spec, length: Option<u32>) -> Result<Option<Plan>, BuildErr>
-    ensures ok { IfOk result (λ plan. plan ≡ plan_for spec.now length) }
-    ensures err { IfErr result (λ e. e ≡ BuildErr.Memory) }
+pub fn plan_with(alloc: Global, spec: &Spec, length: Option<u32>) -> Result<Option<Plan>, Stop>
+    ensures { IfOk result (λ plan. plan ≡ plan_for spec.now length) }
 {
     if !may_have(spec.wrap, length) {
         return Ok(None);
@@ -76,7 +76,7 @@ pub fn plan_with(alloc: Global, spec: &Spec, length: Option<u32>) -> Result<Opti
     match read_limited(alloc, spec.driver.as_slice()) {
         Ok(name) => Ok(plan_of(&name).ok()),
         Err(BuildErr::Fault(_)) => Ok(None),
-        Err(BuildErr::Memory) => Err(BuildErr::Memory),
+        Err(BuildErr::Memory) => Err(Stop::Memory),
     }
 }
 

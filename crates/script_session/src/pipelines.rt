@@ -184,7 +184,7 @@ impl Session {
             let errno = Errno::ENOENT;
             return put_one(
                 reply,
-                &Answer::Refused {
+                Answer::Refused {
                     line: number,
                     errno,
                 },
@@ -224,7 +224,7 @@ impl Session {
             let errno = Errno::ENOENT;
             return put_one(
                 reply,
-                &Answer::Refused {
+                Answer::Refused {
                     line: number,
                     errno,
                 },
