@@ -57,3 +57,8 @@ IsLineOf line (event.Board e) = (board_fits line_of e ≡ true) × (line ≡ sen
 abbrev pub IsReadAs : List ℕ → Option Event → Type 0
 IsReadAs line (Some e) = IsLineOf line e
 IsReadAs line None = (e : Event) → IsLineOf line e → ⊥
+
+-- what became of a guess at the line: its event, and None only where the line isn't that of the guess
+abbrev pub IsChecked : Guess → List ℕ → Option Event → Type 0
+IsChecked g line (Some e) = IsLineOf line e
+IsChecked g line None = (guess_fits g ≡ true) × (sentence (guess_words g) ≡ line) → ⊥

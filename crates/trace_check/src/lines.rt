@@ -1,11 +1,14 @@
 //! The events of lines.
 
-ghost use Rattle.std.specs.Prelude.{◌≡◌, ◌<◌, true, length, map, IfOk};
+ghost use Rattle.std.specs.Prelude.{◌≡◌, ◌<◌, ◌==◌, true, length, map, IfOk};
 ghost use Rattle.trace_text.specs.Text.{sentence, board_words};
 ghost use Rattle.trace_text.specs.Trace.{is_visible, is_word, has_words, is_unwrapped, end_has_text, has_text, is_u16, is_u32, is_u64, spec_fits, enlisted_fits, looked_fits, end_fits, option_fits, fits, shape_fits, entered_fits, is_event, board_fits};
-ghost use Rattle.trace_check.specs.Guessing.{plain_words};
-ghost use Rattle.trace_check.specs.Lines.{line_of, guess_of, guess_words, plain_fits, guess_fits, IsLineOf, IsReadAs};
-ghost use Rattle.std.specs.List.{list_all};
+ghost use Rattle.std.specs.Option.{option_map};
+ghost use Rattle.trace_check.specs.declared.guessing.Plain.TheVariants as plain;
+ghost use Rattle.trace_check.specs.declared.lines.Guess.TheVariants as guess;
+ghost use Rattle.trace_check.specs.Guessing.{plain_words, registry_of, board_of};
+ghost use Rattle.trace_check.specs.Lines.{line_of, guess_of, guess_words, plain_fits, guess_fits, IsLineOf, IsChecked, IsReadAs};
+ghost use Rattle.std.specs.List.{list_all, slice_split};
 ghost use Rattle.std.specs.Bool.{Decides};
 
 use crate::guessing::{Plain, board_of, is_word as is_same, parts_of, registry_of, small_of};
@@ -267,6 +270,47 @@ fn plain_fits(event: Plain) -> bool
     }
 }
 
+// The events with an ask, which is of its own for a line.
+fn submit_event(
+    alloc: Global,
+    caller: u32,
+    pipe: u64,
+    number: u64,
+    line: u32,
+) -> Result<BoardEntry<Known>, AllocError>
+    ensures words { IfOk result (λ e. board_words line_of e ≡ plain_words (plain.Submit caller pipe number line)) }
+    ensures fits { IfOk result (λ e. board_fits line_of e ≡ plain_fits (plain.Submit caller pipe number line)) }
+{
+    let ask = Arc::new(alloc, Known { line })?;
+    Ok(BoardEntry::Submit {
+        caller,
+        pipe,
+        number,
+        ask,
+    })
+}
+
+fn enq_event(
+    alloc: Global,
+    caller: u32,
+    pipe: u64,
+    line: u32,
+    backlog: bool,
+    answer: Entered,
+) -> Result<BoardEntry<Known>, AllocError>
+    ensures words { IfOk result (λ e. board_words line_of e ≡ plain_words (plain.Enq caller pipe line backlog answer)) }
+    ensures fits { IfOk result (λ e. board_fits line_of e ≡ plain_fits (plain.Enq caller pipe line backlog answer)) }
+{
+    let ask = Arc::new(alloc, Known { line })?;
+    Ok(BoardEntry::Enq {
+        caller,
+        pipe,
+        ask,
+        backlog,
+        answer,
+    })
+}
+
 // The event, with an ask of its own for a line.
 fn board_event(alloc: Global, event: Plain) -> Result<BoardEntry<Known>, AllocError>
     ensures words { IfOk result (λ e. board_words line_of e ≡ plain_words event) }
@@ -287,12 +331,7 @@ fn board_event(alloc: Global, event: Plain) -> Result<BoardEntry<Known>, AllocEr
             pipe,
             number,
             line,
-        } => Ok(BoardEntry::Submit {
-            caller,
-            pipe,
-            number,
-            ask: Arc::new(alloc, Known { line })?,
-        }),
+        } => submit_event(alloc, caller, pipe, number, line),
         Plain::Take {
             caller,
             pipe,
@@ -317,13 +356,7 @@ fn board_event(alloc: Global, event: Plain) -> Result<BoardEntry<Known>, AllocEr
             line,
             backlog,
             answer,
-        } => Ok(BoardEntry::Enq {
-            caller,
-            pipe,
-            ask: Arc::new(alloc, Known { line })?,
-            backlog,
-            answer,
-        }),
+        } => enq_event(alloc, caller, pipe, line, backlog, answer),
         Plain::Deq {
             caller,
             pipe,
@@ -354,6 +387,30 @@ fn board_event(alloc: Global, event: Plain) -> Result<BoardEntry<Known>, AllocEr
     }
 }
 
+// What the words of a registry's event may be.
+fn registry_guess(
+    alloc: Global,
+    caller: u32,
+    name: &[u8],
+    words: &[&[u8]],
+) -> Result<Option<Guess>, AllocError>
+    ensures { IfOk result (λ found. found ≡ option_map guess.Registry (registry_of caller name.now (map (λ word. word.now) words.now))) }
+{
+    match registry_of(alloc, caller, name, words)? {
+        Some(event) => Ok(Some(Guess::Registry(event))),
+        None => Ok(None),
+    }
+}
+
+fn board_guess(caller: u32, name: &[u8], words: &[&[u8]]) -> Option<Guess>
+    ensures { result ≡ option_map guess.Board (board_of caller name.now (map (λ word. word.now) words.now)) }
+{
+    match board_of(caller, name, words) {
+        Some(event) => Some(Guess::Board(event)),
+        None => None,
+    }
+}
+
 // What these words may be.
 fn guess_of(alloc: Global, words: &[&[u8]]) -> Result<Option<Guess>, AllocError>
     ensures { IfOk result (λ guess. guess ≡ guess_of (map (λ word. word.now) words.now)) }
@@ -362,15 +419,9 @@ fn guess_of(alloc: Global, words: &[&[u8]]) -> Result<Option<Guess>, AllocError>
         return Ok(None);
     };
     if is_same(kind, b"r") {
-        match registry_of(alloc, small_of(caller), name, args)? {
-            Some(event) => Ok(Some(Guess::Registry(event))),
-            None => Ok(None),
-        }
+        registry_guess(alloc, small_of(caller), name, args)
     } else {
-        match board_of(small_of(caller), name, args) {
-            Some(event) => Ok(Some(Guess::Board(event))),
-            None => Ok(None),
-        }
+        Ok(board_guess(small_of(caller), name, args))
     }
 }
 
@@ -403,18 +454,32 @@ fn event_of(alloc: Global, guess: Guess, line: &[u8]) -> Result<Event, AllocErro
     }
 }
 
+// What a line without its line feed may be.
+fn line_guess(alloc: Global, body: &[u8]) -> Result<Option<Guess>, AllocError>
+    ensures { IfOk result (λ guess. guess ≡ guess_of (slice_split (λ b. b == 32) body.now)) }
+{
+    let words = parts_of(alloc, body, b' ')?;
+    guess_of(alloc, &words)
+}
+
+// The event that was guessed, where the line is its line.
+fn checked_event(alloc: Global, guess: Guess, line: &[u8]) -> Result<Option<Event>, AllocError>
+    ensures { IfOk result (λ event. IsChecked guess line.now event) }
+{
+    if !is_line_of(alloc, &guess, line)? {
+        return Ok(None);
+    }
+    Ok(Some(event_of(alloc, guess, line)?))
+}
+
 /// The event of a line that ends with its line feed.
 pub(crate) fn read_event(alloc: Global, line: &[u8]) -> Result<Option<Event>, AllocError>
     requires { 0 < length line.now }
     ensures { IfOk result (λ event. IsReadAs line.now event) }
 {
     let (body, _last) = line.split_at(line.len() - 1);
-    let words = parts_of(alloc, body, b' ')?;
-    let Some(guess) = guess_of(alloc, &words)? else {
-        return Ok(None);
-    };
-    if !is_line_of(alloc, &guess, line)? {
-        return Ok(None);
+    match line_guess(alloc, body)? {
+        Some(guess) => checked_event(alloc, guess, line),
+        None => Ok(None),
     }
-    Ok(Some(event_of(alloc, guess, line)?))
 }

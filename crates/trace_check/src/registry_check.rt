@@ -1,6 +1,6 @@
 //! A registry's events checked in order.
 
-ghost use Rattle.std.specs.Prelude.{◌≡◌, IfOk, true, map};
+ghost use Rattle.std.specs.Prelude.{◌≡◌, [], IfOk, true, map};
 ghost use Rattle.std.specs.List.{list_all};
 ghost use Rattle.alg_registry.specs.Rows.{opened, rows_of};
 ghost use Rattle.trace_text.specs.Trace.{has_text};
@@ -9,7 +9,7 @@ ghost use Rattle.trace_check.specs.Registers.{row_of, opening_table};
 
 use crate::advancing::{advance_entries, advance_larvals, advance_references};
 use crate::reason::Reason;
-use crate::register::{Entry, add_entry};
+use crate::register::{Entry, Larva, Reference, add_entry};
 use crate::registering::judge_registry;
 use alg_registry::{Ids, Kind, RegEntry, Spec, Wrap};
 use kc_base::Bytes;
@@ -43,6 +43,32 @@ fn opening_entries(alloc: Global) -> Result<Vec<Entry>, AllocError>
     Ok(entries)
 }
 
+// The same, where nothing happened before the first event.
+fn first_wrong_from(
+    alloc: Global,
+    events: &[RegEntry],
+    entries: &mut Vec<Entry>,
+    larvals: &mut Vec<Larva>,
+    references: &mut Vec<Reference>,
+) -> Result<Option<(u64, Reason)>, AllocError>
+    requires text { list_all has_text events.now ≡ true }
+    requires opening { map row_of entries.old.items ≡ opening_table }
+    requires no_larvals { larvals.old.items ≡ [] }
+    requires no_references { references.old.items ≡ [] }
+    ensures { IfOk result (λ found. IsFirstWrong events.now found) }
+{
+    for place in 0..events.len() {
+        let event = &events[place];
+        if let Some(reason) = judge_registry(alloc, entries, larvals, references, event)? {
+            return Ok(Some((place as u64, reason)));
+        }
+        advance_entries(alloc, entries, event)?;
+        advance_larvals(alloc, larvals, event)?;
+        advance_references(references, event)?;
+    }
+    Ok(None)
+}
+
 /// The place and the reason of the first event that isn't right after those before it.
 pub fn first_wrong_entry(
     alloc: Global,
@@ -52,16 +78,11 @@ pub fn first_wrong_entry(
     ensures { IfOk result (λ found. IsFirstWrong events.now found) }
 {
     let mut entries = opening_entries(alloc)?;
-    let mut larvals = Vec::new(alloc);
-    let mut references = Vec::new(alloc);
-    for place in 0..events.len() {
-        let event = &events[place];
-        if let Some(reason) = judge_registry(alloc, &entries, &larvals, &references, event)? {
-            return Ok(Some((place as u64, reason)));
-        }
-        advance_entries(alloc, &mut entries, event)?;
-        advance_larvals(alloc, &mut larvals, event)?;
-        advance_references(&mut references, event)?;
-    }
-    Ok(None)
+    first_wrong_from(
+        alloc,
+        events,
+        &mut entries,
+        &mut Vec::new(alloc),
+        &mut Vec::new(alloc),
+    )
 }
