@@ -1,6 +1,6 @@
 //! The live transforms of a script, in order of allocation and by label.
 
-ghost use Rattle.std.specs.Prelude.{◌≡◌, ◌+◌, ◌++◌, ◌∷◌, [], IsSome, None, Some, OnErr, IfOk, OnOk, length};
+ghost use Rattle.std.specs.Prelude.{◌≡◌, ◌++◌, ◌∷◌, [], IsSome, None, Some, OnErr, IfOk, OnOk, length};
 ghost use Rattle.std.specs.BTreeMap.{get, is_at};
 ghost use Rattle.std.specs.Map.{remove_entry};
 ghost use Rattle.std.specs.Ordering.{nat_cmp};
@@ -58,17 +58,20 @@ impl Lives {
         self.transforms.get(&place).unwrap()
     }
 
-    // Files a transform and its label under the next number.
-    fn file(&mut self, next: u64, label: Vec<u8>, live: Transform) -> Result<(), AllocError>
+    /// Adds a transform behind the others, of a label that none of them has. Where memory is wanting they stay as they were.
+    pub fn push(&mut self, alloc: Global, live: Transform) -> Result<(), AllocError>
         requires filed { AreFiled self.old }
         requires free { number_of live.label self.old.transforms.entries ≡ None }
-        requires next { next ≡ self.old.next + 1 }
-        requires label { label.items ≡ live.label }
         ensures added { OnOk result (lives_of self.new ≡ lives_of self.old ++ live ∷ []) }
         ensures unchanged { OnErr result (lives_of self.new ≡ lives_of self.old) }
         ensures filed { AreFiled self.new }
     {
         let place = self.next;
+        // No script comes to 2^64 allocations.
+        let Some(next) = place.checked_add(1) else {
+            return Err(AllocError);
+        };
+        let label = live.label().to_vec(alloc)?;
         if self.transforms.insert(place, live).is_err() {
             return Err(AllocError);
         }
@@ -78,22 +81,6 @@ impl Lives {
         }
         self.next = next;
         Ok(())
-    }
-
-    /// Adds a transform behind the others, of a label that none of them has. Where memory is wanting they stay as they were.
-    pub fn push(&mut self, alloc: Global, live: Transform) -> Result<(), AllocError>
-        requires filed { AreFiled self.old }
-        requires free { number_of live.label self.old.transforms.entries ≡ None }
-        ensures added { OnOk result (lives_of self.new ≡ lives_of self.old ++ live ∷ []) }
-        ensures unchanged { OnErr result (lives_of self.new ≡ lives_of self.old) }
-        ensures filed { AreFiled self.new }
-    {
-        // No script comes to 2^64 allocations.
-        let Some(next) = self.next.checked_add(1) else {
-            return Err(AllocError);
-        };
-        let label = live.label().to_vec(alloc)?;
-        self.file(next, label, live)
     }
 
     /// Takes out the transform of a number that `place_of` gave. No memory is taken.

@@ -74,6 +74,16 @@ impl<T: Drop> From<AllocFailed<T>> for JobErr {
     }
 }
 
+// What is kept of a key, for its transform and the jobs made of it.
+fn shared(alloc: Global, keyed: Keyed) -> Result<Arc<Keyed>, TfmErr>
+    ensures { MatchResult result (λ shared. arc_value shared ≡ keyed) (λ e. e ≡ TfmErr.Memory) }
+{
+    match Arc::new(alloc, keyed) {
+        Ok(shared) => Ok(shared),
+        Err(_) => Err(TfmErr::Memory),
+    }
+}
+
 impl Transform {
     /// A transform with no key, and the greatest tag size of its mode. No memory is taken.
     pub fn new(label: Bytes, id: u64, plan: Plan, pipe: Option<Pipe>) -> Transform
@@ -125,13 +135,8 @@ impl Transform {
             (λ e. ((e ≡ TfmErr.Memory) ⊎ ((e ≡ TfmErr.Inval) × (takes_key self.old.plan key.now ≡ false))) × (self.new ≡ self.old)) }
     {
         let keyed = Keyed::set(alloc, &self.plan, key)?;
-        match Arc::new(alloc, keyed) {
-            Ok(keyed) => {
-                self.keyed = Some(keyed);
-                Ok(())
-            }
-            Err(_) => Err(TfmErr::Memory),
-        }
+        self.keyed = Some(shared(alloc, keyed)?);
+        Ok(())
     }
 
     /// Sets the size of tags: EINVAL exactly where the mode doesn't take it. A refusal leaves the earlier size.

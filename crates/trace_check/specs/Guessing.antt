@@ -76,9 +76,13 @@ enlisted_of (word ∷ id ∷ []) = Made (number_of id)
 enlisted_of (word ∷ []) = if bytes_eq word (codes "EEXIST") then Exist else NFile
 enlisted_of other = NFile
 
+-- what stands on no other, and runs nobody's work
+abbrev pub plain_spec : List ℕ → List ℕ → Kind → ℕ → Spec
+plain_spec name driver kind priority = record { name = name; driver = driver; kind = kind; wrap = Plain; priority = priority; below = [] }
+
 abbrev pub enlist_of : ℕ → List (List ℕ) → Option RegEntry
 enlist_of caller (name ∷ driver ∷ kind ∷ priority ∷ answer) =
-    Some (Enlist caller (record { name = name; driver = driver; kind = kind_of kind; wrap = Plain; priority = small_of priority; below = [] }) (enlisted_of answer))
+    Some (Enlist caller (plain_spec name driver (kind_of kind) (small_of priority)) (enlisted_of answer))
 enlist_of caller other = None
 
 abbrev pub looked_of : List (List ℕ) → Looked

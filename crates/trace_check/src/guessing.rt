@@ -1,10 +1,10 @@
 //! A loose reading of a line's words.
 
-ghost use Rattle.std.specs.Prelude.{◌≡◌, ◌<◌, ◌==◌, map, IfOk};
+ghost use Rattle.std.specs.Prelude.{◌≡◌, ◌<◌, ◌==◌, Some, map, IfOk};
 ghost use Rattle.std.specs.List.{slice_split};
 ghost use Rattle.std.specs.Str.{bytes_eq};
 ghost use Rattle.alg_registry.specs.declared.entry.RegEntry.TheVariants as Entry;
-ghost use Rattle.trace_check.specs.Guessing.{digit_after, number_from, number_of, small_of, ids_of, kind_of, wrap_of, errno_of, enlisted_of, enlist_of, looked_of, look_of, spec_of, built_of, joined_of, failed_of, ending_of, end_of, unlist_of, get_of, refs_of, numbered_of, registry_of, shape_of, born_of, submit_of, entered_of, enq_of, started_of, deq_of, hex_value, mask_in, mask_of, pipe_in, pair_in, counted_of, piped_of, short_of, board_of};
+ghost use Rattle.trace_check.specs.Guessing.{digit_after, number_from, number_of, small_of, ids_of, kind_of, wrap_of, errno_of, enlisted_of, plain_spec, enlist_of, looked_of, look_of, spec_of, built_of, joined_of, failed_of, ending_of, end_of, unlist_of, get_of, refs_of, numbered_of, registry_of, shape_of, born_of, submit_of, entered_of, enq_of, started_of, deq_of, hex_value, mask_in, mask_of, pipe_in, pair_in, counted_of, piped_of, short_of, board_of};
 
 use alg_registry::{EndAnswer, Enlisted, Ids, Kind, Looked, RegEntry, Spec, Wrap};
 use board::{Entered, Shape};
@@ -227,22 +227,33 @@ fn enlisted_of(words: &[&[u8]]) -> Enlisted
     }
 }
 
+/// What stands on no other, and runs nobody's work.
+pub(crate) fn plain_spec(
+    alloc: Global,
+    name: &[u8],
+    driver: &[u8],
+    kind: Kind,
+    priority: u32,
+) -> Result<Spec, AllocError>
+    ensures { IfOk result (λ spec. spec ≡ plain_spec name.now driver.now kind priority) }
+{
+    Ok(Spec {
+        name: Bytes::copy_of(alloc, name)?,
+        driver: Bytes::copy_of(alloc, driver)?,
+        kind,
+        wrap: Wrap::Plain,
+        priority,
+        below: Ids::new(alloc),
+    })
+}
+
 fn enlist_of(alloc: Global, caller: u32, words: &[&[u8]]) -> Result<Option<RegEntry>, AllocError>
     ensures { IfOk result (λ event. event ≡ enlist_of caller (map (λ word. word.now) words.now)) }
 {
     let [name, driver, kind, priority, answer @ ..] = words else {
         return Ok(None);
     };
-    let name = Bytes::copy_of(alloc, name)?;
-    let driver = Bytes::copy_of(alloc, driver)?;
-    let spec = Spec {
-        name,
-        driver,
-        kind: kind_of(kind),
-        wrap: Wrap::Plain,
-        priority: small_of(priority),
-        below: Ids::new(alloc),
-    };
+    let spec = plain_spec(alloc, name, driver, kind_of(kind), small_of(priority))?;
     Ok(Some(RegEntry::Enlist {
         caller,
         spec,
@@ -359,26 +370,28 @@ fn end_of(alloc: Global, caller: u32, words: &[&[u8]]) -> Result<Option<RegEntry
     }))
 }
 
+fn unlisted(
+    alloc: Global,
+    caller: u32,
+    driver: &[u8],
+    answer: Option<u64>,
+) -> Result<Option<RegEntry>, AllocError>
+    ensures { IfOk result (λ event. event ≡ Some (Entry.Unlist caller driver.now answer)) }
+{
+    let driver = Bytes::copy_of(alloc, driver)?;
+    Ok(Some(RegEntry::Unlist {
+        caller,
+        driver,
+        answer,
+    }))
+}
+
 fn unlist_of(alloc: Global, caller: u32, words: &[&[u8]]) -> Result<Option<RegEntry>, AllocError>
     ensures { IfOk result (λ event. event ≡ unlist_of caller (map (λ word. word.now) words.now)) }
 {
     match words {
-        [driver, _word, id] => {
-            let driver = Bytes::copy_of(alloc, driver)?;
-            Ok(Some(RegEntry::Unlist {
-                caller,
-                driver,
-                answer: Some(number_of(id)),
-            }))
-        }
-        [driver, _word] => {
-            let driver = Bytes::copy_of(alloc, driver)?;
-            Ok(Some(RegEntry::Unlist {
-                caller,
-                driver,
-                answer: None,
-            }))
-        }
+        [driver, _word, id] => unlisted(alloc, caller, driver, Some(number_of(id))),
+        [driver, _word] => unlisted(alloc, caller, driver, None),
         _ => Ok(None),
     }
 }

@@ -8,25 +8,18 @@ ghost use Rattle.trace_check.specs.RegReasons.{IsFirstWrong};
 ghost use Rattle.trace_check.specs.Registers.{row_of, opening_table};
 
 use crate::advancing::{advance_entries, advance_larvals, advance_references};
+use crate::guessing::plain_spec;
 use crate::reason::Reason;
 use crate::register::{Entry, Larva, Reference, add_entry};
 use crate::registering::judge_registry;
-use alg_registry::{Ids, Kind, RegEntry, Spec, Wrap};
-use kc_base::Bytes;
+use alg_registry::{Kind, RegEntry, Spec};
 use std::alloc::{AllocError, Global};
 
 // A driver that is listed from the start.
 fn opened(alloc: Global, name: &[u8], driver: &[u8], kind: Kind) -> Result<Spec, AllocError>
     ensures { IfOk result (λ spec. spec ≡ opened name.now driver.now kind) }
 {
-    Ok(Spec {
-        name: Bytes::copy_of(alloc, name)?,
-        driver: Bytes::copy_of(alloc, driver)?,
-        kind,
-        wrap: Wrap::Plain,
-        priority: 100,
-        below: Ids::new(alloc),
-    })
+    plain_spec(alloc, name, driver, kind, 100)
 }
 
 // The entries before the first event.
@@ -43,7 +36,7 @@ fn opening_entries(alloc: Global) -> Result<Vec<Entry>, AllocError>
     Ok(entries)
 }
 
-// The same, where nothing happened before the first event.
+// The first wrong event, where the checker keeps what it does before the first.
 fn first_wrong_from(
     alloc: Global,
     events: &[RegEntry],
