@@ -1,6 +1,7 @@
 //! Runs of which one read, or one write, fails.
 
-use crate::tests::{Fault, Row, check, decimal, row_of, run_slow};
+use crate::stream_tests::{Fault, run_slow};
+use crate::tests::{Row, check, decimal, row_of};
 use std::alloc::Global;
 use std::process::Abort;
 use std::sync::Wait;

@@ -1,6 +1,7 @@
 //! Whole loads. Each line is that of tools/load-line, which takes nothing of the program.
 
-use crate::tests::{Fault, cut, expect_line, expect_slow, joined};
+use crate::stream_tests::{Fault, expect_slow};
+use crate::tests::{cut, expect_line, joined};
 use std::alloc::Global;
 use std::process::Abort;
 use std::sync::Wait;

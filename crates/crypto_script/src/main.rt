@@ -14,7 +14,13 @@ mod load_tests;
 mod pipeline_tests;
 mod program;
 #[cfg(test)]
+mod registry_tests;
+#[cfg(test)]
+mod stream_tests;
+#[cfg(test)]
 mod tests;
+#[cfg(test)]
+mod worked_tests;
 
 use adapters::{StdSink, StdSource};
 use crew::NoGate;
