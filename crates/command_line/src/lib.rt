@@ -10,8 +10,6 @@ mod number;
 mod options;
 mod parser;
 mod syntax;
-#[cfg(test)]
-mod tests;
 
 pub use errors::CommandLineError;
 pub use mode::{LoadOptions, Mode, ScriptOptions};

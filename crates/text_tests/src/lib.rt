@@ -15,3 +15,5 @@ mod replies;
 mod script_lines;
 #[cfg(test)]
 mod written_traces;
+#[cfg(test)]
+mod words;

@@ -1,4 +1,6 @@
-use crate::{CommandLineError, LoadOptions, Mode, ScriptOptions, parse_words};
+//! Words, and what they ask of the program.
+
+use command_line::{CommandLineError, LoadOptions, Mode, ScriptOptions, parse_words};
 use std::alloc::Global;
 use std::test::Fail;
 
