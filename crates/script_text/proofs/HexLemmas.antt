@@ -1,6 +1,5 @@
 -- Digits spell no more bytes than they are.
-use Rattle.std.proofs.Common.{◌≡◌, ◌∙◌, refl, sym, ap, ℕ, suc, ◌+◌, ◌-◌, ◌≤◌, Bool, true, false, cond, List, [], ◌∷◌, ◌++◌, length, take, drop, Some, None, Ok, Err, Result, arith, append_assoc, length-append}
-use Rattle.std.proofs.lemmas.List.{length-take-le, take_at, drop_at}
+use Rattle.std.proofs.Common.{◌≡◌, ◌∙◌, refl, sym, ap, ap₂, ℕ, suc, ◌+◌, ◌-◌, ◌*◌, ◌/◌, ◌≤◌, Bool, true, false, cond, List, [], ◌∷◌, ◌++◌, length, Option, Some, None, Ok, Err, Result, arith, length-append}
 use Rattle.std.proofs.lemmas.List.Sums.{list_all-from_AllPass}
 use Rattle.std.specs.Char.{is_ascii_hexdigit}
 use Rattle.std.specs.List.{list_all}
@@ -9,7 +8,7 @@ use Rattle.std.proofs.lemmas.Bool.{false≢true, and_parts, eqb-true}
 use Rattle.std.specs.Result.{result_ok}
 use Rattle.hex.specs.declared.error.FromHexError.{FromHexError}
 use Rattle.hex.specs.declared.error.FromHexError.TheVariants.{OddLength}
-use Rattle.hex.specs.Hex.{◌>>=◌, decode_of, decode_pairs, is_hex_digit, pair_value}
+use Rattle.hex.specs.Hex.{◌>>=◌, decode_of, decode_pairs, digit_or_error, hex_digit_value, is_hex_digit, pair_value}
 use Rattle.hex.proofs.HexLemmas.{decode_of-even, decode_of-ok}
 
 -- what decoding gives, if it gives anything, has at most n bytes
@@ -63,13 +62,79 @@ gives_none text (Err e) is bad = refl
 pub not_spelled : (text : List ℕ) → (length text % 2 == 0 && list_all is_hex_digit text) ≡ false → result_ok (decode_of text) ≡ None
 not_spelled text bad = gives_none text (decode_of text) refl bad
 
--- what was written behind so many bytes of a list
-pub written_behind : (n m at : ℕ) (front bytes past rest : List ℕ) → n ≡ at → at ≤ length front → m ≡ at + length bytes
-    → bytes ≡ drop n (take m ((take at front ++ (bytes ++ past)) ++ rest))
-written_behind n m at front bytes past rest is fits many =
-    let long : length (take at front) ≡ at = length-take-le at front fits in
-    let both : length (take at front ++ bytes) ≡ m = omega (arith, long, length-append (take at front) bytes) in
-    let all : (take at front ++ (bytes ++ past)) ++ rest ≡ (take at front ++ bytes) ++ (past ++ rest) =
-    ap (λ (l : List ℕ). l ++ rest) (sym (append_assoc (take at front) bytes past)) ∙ append_assoc (take at front ++ bytes) past rest in
-    let taken : take m ((take at front ++ (bytes ++ past)) ++ rest) ≡ take at front ++ bytes = ap (take m) all ∙ take_at (take at front ++ bytes) (past ++ rest) m both in
-    sym (ap (drop n) taken ∙ drop_at (take at front) bytes n (long ∙ sym is))
+-- ---- digits behind other digits
+
+-- a byte before those that are spelled
+abbrev with_byte : Option ℕ → Option (List ℕ) → Option (List ℕ)
+with_byte (Some byte) (Some bytes) = Some (byte ∷ bytes)
+with_byte (Some byte) None = None
+with_byte None bytes = None
+
+-- the bytes of both, where both are spelled
+abbrev pub joined : Option (List ℕ) → Option (List ℕ) → Option (List ℕ)
+joined (Some front) (Some rest) = Some (front ++ rest)
+joined (Some front) None = None
+joined None rest = None
+
+joined_nil : (rest : Option (List ℕ)) → rest ≡ joined (Some []) rest
+joined_nil (Some rest) = refl
+joined_nil None = refl
+
+with_joined : (byte : Option ℕ) (front rest : Option (List ℕ)) → with_byte byte (joined front rest) ≡ joined (with_byte byte front) rest
+with_joined (Some byte) (Some front) (Some rest) = refl
+with_joined (Some byte) (Some front) None = refl
+with_joined (Some byte) None rest = refl
+with_joined None front rest = refl
+
+given_byte : (byte : Result ℕ FromHexError) (rest : Result (List ℕ) FromHexError) → result_ok (byte >>= (λ b. rest >>= (λ bs. Ok (b ∷ bs)))) ≡ with_byte (result_ok byte) (result_ok rest)
+given_byte (Ok b) (Ok bs) = refl
+given_byte (Ok b) (Err e) = refl
+given_byte (Err e) rest = refl
+
+-- a place only numbers errors
+pair_anywhere : (high low i j : ℕ) (h l : Option ℕ)
+    → result_ok (digit_or_error high i h >>= (λ x. digit_or_error low (i + 1) l >>= (λ y. Ok (x * 16 + y))))
+    ≡ result_ok (digit_or_error high j h >>= (λ x. digit_or_error low (j + 1) l >>= (λ y. Ok (x * 16 + y))))
+pair_anywhere high low i j (Some h) (Some l) = refl
+pair_anywhere high low i j (Some h) None = refl
+pair_anywhere high low i j None l = refl
+
+next_pair : (high low i : ℕ) (rest : List ℕ) → result_ok (decode_pairs i (high ∷ low ∷ rest)) ≡ with_byte (result_ok (pair_value high low i)) (result_ok (decode_pairs (i + 2) rest))
+unfolding decode_pairs
+next_pair high low i rest = given_byte (pair_value high low i) (decode_pairs (i + 2) rest)
+
+pairs_anywhere : (i j : ℕ) (text : List ℕ) → result_ok (decode_pairs i text) ≡ result_ok (decode_pairs j text)
+unfolding decode_pairs
+pairs_anywhere i j [] = refl
+pairs_anywhere i j (digit ∷ []) = refl
+pairs_anywhere i j (high ∷ low ∷ text) =
+    next_pair high low i text
+    ∙ ap₂ with_byte (pair_anywhere high low i j (hex_digit_value high) (hex_digit_value low)) (pairs_anywhere (i + 2) (j + 2) text)
+    ∙ sym (next_pair high low j text)
+
+pairs_joined : (i j : ℕ) (front rest : List ℕ) → length front % 2 ≡ 0 → result_ok (decode_pairs i (front ++ rest)) ≡ joined (result_ok (decode_pairs i front)) (result_ok (decode_pairs j rest))
+unfolding decode_pairs
+pairs_joined i j [] rest even = pairs_anywhere i j rest ∙ joined_nil (result_ok (decode_pairs j rest))
+pairs_joined i j (digit ∷ []) rest even = absurd (omega (arith, even))
+pairs_joined i j (high ∷ low ∷ front) rest even =
+    let byte = result_ok (pair_value high low i) in
+    next_pair high low i (front ++ rest)
+    ∙ ap (with_byte byte) (pairs_joined (i + 2) j front rest (omega (arith, even)))
+    ∙ with_joined byte (result_ok (decode_pairs (i + 2) front)) (result_ok (decode_pairs j rest))
+    ∙ ap (λ (bytes : Option (List ℕ)). joined bytes (result_ok (decode_pairs j rest))) (sym (next_pair high low i front))
+
+-- even numbers of digits spell, one behind the other, what they spell by themselves
+pub decoded_joined : (front rest : List ℕ) → length front % 2 ≡ 0 → length rest % 2 ≡ 0 → result_ok (decode_of (front ++ rest)) ≡ joined (result_ok (decode_of front)) (result_ok (decode_of rest))
+decoded_joined front rest even even_too =
+    let both : length (front ++ rest) % 2 ≡ 0 = omega (arith, even, even_too, length-append front rest) in
+    ap result_ok (decode_of-even (front ++ rest) both)
+    ∙ pairs_joined 0 0 front rest even
+    ∙ ap₂ joined (ap result_ok (sym (decode_of-even front even))) (ap result_ok (sym (decode_of-even rest even_too)))
+
+-- an even number of digits spells half as many bytes
+pub decoded_half : (text : List ℕ) → IfSome (result_ok (decode_of text)) (λ bytes. length bytes ≡ length text / 2)
+decoded_half text = half (decode_of text) refl
+  where
+    half : (decoded : Result (List ℕ) FromHexError) → decode_of text ≡ decoded → IfSome (result_ok decoded) (λ bytes. length bytes ≡ length text / 2)
+    half (Ok bytes) is = let twice = (decode_of-ok text bytes is).2 in omega (arith, twice)
+    half (Err e) is = tt

@@ -1,6 +1,6 @@
 -- The parts of a text.
-use Rattle.std.proofs.Common.{◌≡◌, ◌∙◌, refl, sym, ap, ap₂, subst, ℕ, ◌+◌, ◌-◌, ◌<◌, ◌≤◌, Bool, true, false, cond, List, [], ◌∷◌, ◌++◌, length, map, get_or, take, drop, Option, Some, None, arith, append_assoc, append-nil, length-append, length-drop, take-append-drop}
-use Rattle.std.proofs.lemmas.List.{at_drop_more, at_drop_all, length-map}
+use Rattle.std.proofs.Common.{◌≡◌, ◌∙◌, refl, sym, ap, ap₂, subst, ℕ, ◌+◌, ◌/◌, ◌%◌, ◌≤◌, Bool, true, false, cond, List, [], ◌∷◌, ◌++◌, length, map, Option, Some, None, arith, append_assoc, append-nil, length-append}
+use Rattle.std.proofs.lemmas.List.{length-map}
 use Rattle.std.proofs.lemmas.List.Folds.{list_all-map}
 use Rattle.std.proofs.lemmas.List.Splits.{slice_split-cons_no}
 use Rattle.std.proofs.lemmas.List.Sums.{sum_by-cons}
@@ -8,15 +8,12 @@ use Rattle.std.specs.Prelude.{◌==◌, ◌&&◌, ◌||◌, nat_lt, nat_le, IfSo
 use Rattle.std.specs.List.{concat, sum, list_any, onto_first, slice_split}
 use Rattle.std.specs.Result.{result_ok}
 use Rattle.std.specs.Str.{bytes_eq}
-use Rattle.hex.specs.Hex.{decode_of}
+use Rattle.hex.specs.Hex.{decode_of, decode_pairs}
+use Rattle.hex.proofs.HexLemmas.{decode_of-odd}
 use Rattle.sg_walk.specs.Segments.{Segmented, segmented}
-use Rattle.script_text.proofs.HexLemmas.{decoded_up_to}
+use Rattle.script_text.proofs.HexLemmas.{decoded_up_to, decoded_half, decoded_joined, joined}
 use Rattle.script_text.specs.Arguments.{◌>>=◌, hex_of, hexes_of, are_segments, is_bar, text_of}
-use Rattle.script_text.specs.InSegments.{in_segments, are_sizes}
-
--- these bytes and sizes, and those of the parts that the rest spells
-abbrev pub going_on : List ℕ → List ℕ → Option (List (List ℕ)) → Option Segmented
-going_on bytes sizes rest = rest >>= (λ more. Some (record { text = bytes ++ concat more; sizes = sizes ++ map length more }))
+use Rattle.script_text.specs.InSegments.{in_segments, spelled_in, digits_of, are_sizes}
 
 abbrev pub text_with : List ℕ → List ℕ → Segmented
 text_with text sizes = record { text = text; sizes = sizes }
@@ -24,36 +21,82 @@ text_with text sizes = record { text = text; sizes = sizes }
 same_text : (a b m n : List ℕ) → a ≡ b → m ≡ n → Some (text_with a m) ≡ Some (text_with b n)
 same_text a b m n e f = ap₂ (λ (text sizes : List ℕ). Some (text_with text sizes)) e f
 
-joined : (bytes sizes more : List ℕ) (rest : Option (List (List ℕ)))
-    → going_on bytes sizes (rest >>= (λ parts. Some (more ∷ parts))) ≡ going_on (bytes ++ more) (sizes ++ length more ∷ []) rest
-joined bytes sizes more (Some parts) = same_text _ _ _ _ (sym (append_assoc bytes more (concat parts))) (sym (append_assoc sizes (length more ∷ []) (map length parts)))
-joined bytes sizes more None = refl
+-- ---- digits
 
--- the n-th of these parts is read, or isn't any, or all were
-module _ (bytes sizes : List ℕ) (parts : List (List ℕ)) (n : ℕ) where
-  module _ (part : List ℕ) (turn : (n < length parts) × (part ≡ get_or parts n part)) where
-    abbrev then : Option (List ℕ) → Option (List (List ℕ))
-    then spelled = spelled >>= (λ first. hexes_of (drop (n + 1) parts) >>= (λ more. Some (first ∷ more)))
+pub hex_by_digits : (part : List ℕ) → hex_of part ≡ result_ok (decode_of (digits_of part))
+unfolding decode_pairs
+hex_by_digits part =
+    elim (bytes_eq part (codes "-")) as (λ c. cond c (Some []) (result_ok (decode_of part)) ≡ result_ok (decode_of (cond c [] part))) [
+      | true ↦ refl
+      | false ↦ refl
+    ]
 
-    here : hexes_of (drop n parts) ≡ then (hex_of part)
-    here = at_drop_more hexes_of parts n part turn.0 ∙ ap (λ p. hexes_of (p ∷ drop (n + 1) parts)) (sym turn.1)
+hex_odd : (part : List ℕ) → length (digits_of part) % 2 ≡ 1 → hex_of part ≡ None
+hex_odd part odd = hex_by_digits part ∙ ap result_ok (decode_of-odd (digits_of part) odd)
 
-    -- `new` are the bytes with those of the part behind them
-    pub part_read : (new : List ℕ) (size : ℕ) → take (length bytes) new ≡ bytes → hex_of part ≡ Some (drop (length bytes) new) → size ≡ length new - length bytes
-        → going_on bytes sizes (hexes_of (drop n parts)) ≡ going_on new (sizes ++ size ∷ []) (hexes_of (drop (n + 1) parts))
-    part_read new size front spelled many =
-        let more = drop (length bytes) new in
-        let all : bytes ++ more ≡ new = ap (λ (t : List ℕ). t ++ more) (sym front) ∙ take-append-drop (length bytes) new in
-        let long : length more ≡ size = length-drop (length bytes) new ∙ sym many in
-        ap (going_on bytes sizes) (here ∙ ap then spelled)
-        ∙ joined bytes sizes more (hexes_of (drop (n + 1) parts))
-        ∙ ap₂ (λ (t : List ℕ) (k : ℕ). going_on t (sizes ++ k ∷ []) (hexes_of (drop (n + 1) parts))) all long
+-- digits that are even in number are not `-`
+hex_even : (digits : List ℕ) → length digits % 2 ≡ 0 → hex_of digits ≡ result_ok (decode_of digits)
+unfolding decode_pairs
+hex_even [] even = refl
+hex_even (digit ∷ []) even = absurd (omega (arith, even))
+hex_even (high ∷ low ∷ more) even = ap (λ (c : Bool). cond c (Some []) (result_ok (decode_of (high ∷ low ∷ more)))) (never (high == 45))
+  where
+    never : (c : Bool) → (c && false) ≡ false
+    never true = refl
+    never false = refl
 
-    pub part_malformed : hex_of part ≡ None → going_on bytes sizes (hexes_of (drop n parts)) ≡ None
-    part_malformed none = ap (going_on bytes sizes) (here ∙ ap then none)
+-- ---- the digits and sizes of the first parts, and the parts that are left
 
-  pub all_read : length parts ≤ n → going_on bytes sizes (hexes_of (drop n parts)) ≡ Some (record { text = bytes; sizes = sizes })
-  all_read none_left = ap (going_on bytes sizes) (at_drop_all hexes_of parts n none_left) ∙ same_text _ _ _ _ (append-nil bytes) (append-nil sizes)
+-- the bytes of the first parts, with their sizes, and those of the rest
+abbrev going_on : List ℕ → Option (List ℕ) → Option (List (List ℕ)) → Option Segmented
+going_on sizes front rest = front >>= (λ bytes. rest >>= (λ more. Some (text_with (bytes ++ concat more) (sizes ++ map length more))))
+
+-- what the first parts' digits spell, with these sizes, and the parts that are left
+abbrev pub still : List ℕ → List ℕ → List (List ℕ) → Option Segmented
+still digits sizes parts = going_on sizes (result_ok (decode_of digits)) (hexes_of parts)
+
+begun : (spelled : Option (List (List ℕ))) → in_segments spelled ≡ going_on [] (Some []) spelled
+begun (Some parts) = refl
+begun None = refl
+
+one_more : (sizes : List ℕ) (n : ℕ) (front next : Option (List ℕ)) (rest : Option (List (List ℕ))) → IfSome next (λ bytes. length bytes ≡ n)
+    → going_on sizes front (next >>= (λ bytes. rest >>= (λ more. Some (bytes ∷ more)))) ≡ going_on (sizes ++ n ∷ []) (joined front next) rest
+one_more sizes n (Some front) (Some next) (Some more) long =
+    same_text _ _ _ _ (sym (append_assoc front next (concat more)))
+    (ap (λ (k : ℕ). sizes ++ k ∷ map length more) long ∙ sym (append_assoc sizes (n ∷ []) (map length more)))
+one_more sizes n (Some front) (Some next) None long = refl
+one_more sizes n (Some front) None rest long = refl
+one_more sizes n None next rest long = refl
+
+none_left : (sizes : List ℕ) (front : Option (List ℕ)) → going_on sizes front (Some []) ≡ spelled_in sizes front
+none_left sizes (Some front) = same_text _ _ _ _ (append-nil front) (append-nil sizes)
+none_left sizes None = refl
+
+lost : (sizes : List ℕ) (front : Option (List ℕ)) → going_on sizes front None ≡ None
+lost sizes (Some front) = refl
+lost sizes None = refl
+
+pub none_read : (parts : List (List ℕ)) → in_segments (hexes_of parts) ≡ still [] [] parts
+unfolding decode_pairs
+none_read parts = begun (hexes_of parts)
+
+module _ (digits sizes : List ℕ) (even : length digits % 2 ≡ 0) where
+  module _ (part : List ℕ) (parts : List (List ℕ)) where
+    abbrev with_part : Option (List ℕ) → Option Segmented
+    with_part spelled = going_on sizes (result_ok (decode_of digits)) (spelled >>= (λ bytes. hexes_of parts >>= (λ more. Some (bytes ∷ more))))
+
+    pub part_read : length (digits_of part) % 2 ≡ 0 → still digits sizes (part ∷ parts) ≡ still (digits ++ digits_of part) (sizes ++ length (digits_of part) / 2 ∷ []) parts
+    part_read too =
+        let more = sizes ++ length (digits_of part) / 2 ∷ [] in
+        ap with_part (hex_by_digits part)
+        ∙ one_more sizes (length (digits_of part) / 2) (result_ok (decode_of digits)) (result_ok (decode_of (digits_of part))) (hexes_of parts) (decoded_half (digits_of part))
+        ∙ ap (λ (front : Option (List ℕ)). going_on more front (hexes_of parts)) (sym (decoded_joined digits (digits_of part) even too))
+
+    pub part_malformed : length (digits_of part) % 2 ≡ 1 → still digits sizes (part ∷ parts) ≡ None
+    part_malformed odd = ap with_part (hex_odd part odd) ∙ lost sizes (result_ok (decode_of digits))
+
+  pub all_read : still digits sizes [] ≡ spelled_in sizes (hex_of digits)
+  all_read = none_left sizes (result_ok (decode_of digits)) ∙ ap (spelled_in sizes) (sym (hex_even digits even))
 
 pub none_in_segments : (spelled : Option (List (List ℕ))) → in_segments spelled ≡ None → spelled ≡ None
 none_in_segments (Some parts) e = absurd (cc)
@@ -61,16 +104,24 @@ none_in_segments None e = refl
 
 -- ---- what a token spells, by its bytes and sizes
 
+-- the text of these parts
+abbrev text_in : Option (List (List ℕ)) → Option Segmented
+text_in spelled = spelled >>= (λ parts. cond (are_segments parts) (Some (segmented parts)) None)
+
 sized : (parts : List (List ℕ)) → are_segments parts ≡ are_sizes (map length parts)
 sized parts =
     ap₂ (λ (n : ℕ) (filled : Bool). n == 1 || (nat_le n 16 && filled)) (sym (length-map parts length)) (sym (list_all-map (λ (n : ℕ). nat_lt 0 n) length parts))
 
-pub text_in_segments : (spelled : Option (List (List ℕ))) (text : Segmented) → in_segments spelled ≡ Some text
-    → (spelled >>= (λ parts. cond (are_segments parts) (Some (segmented parts)) None)) ≡ cond (are_sizes text.sizes) (Some text) None
+pub text_in_segments : (spelled : Option (List (List ℕ))) (text : Segmented) → in_segments spelled ≡ Some text → text_in spelled ≡ cond (are_sizes text.sizes) (Some text) None
 text_in_segments (Some parts) text e =
     let same : segmented parts ≡ text = cc in
     ap (λ (c : Bool). cond c (Some (segmented parts)) None) (sized parts) ∙ ap (λ (t : Segmented). cond (are_sizes t.sizes) (Some t) None) same
 text_in_segments None text e = absurd (cc)
+
+-- what all digits spell, in sizes that no text has
+pub sizes_malformed : (spelled : Option (List (List ℕ))) (sizes : List ℕ) (bytes : Option (List ℕ)) → in_segments spelled ≡ spelled_in sizes bytes → are_sizes sizes ≡ false → text_in spelled ≡ None
+sizes_malformed spelled sizes (Some bytes) is unfit = text_in_segments spelled (text_with bytes sizes) is ∙ ap (λ (c : Bool). cond c (Some (text_with bytes sizes)) None) unfit
+sizes_malformed spelled sizes None is unfit = ap text_in (none_in_segments spelled is)
 
 total : (parts : List (List ℕ)) → sum (map length parts) ≡ length (concat parts)
 total [] = refl

@@ -29,6 +29,17 @@ module _ (test : ℕ → Bool) (hay : List ℕ) where
       sym (list_any_none test hay (All-from_get_or (λ b. test b ≡ false) hay 0 (λ k below. not_true (test (get_or hay k 0)) (none k (omega arith) below))))
   any_found (Some k) found = sym (list_any_at test hay k 0 found.0.high found.1)
 
+-- the first part ends where that byte stands
+module _ (test : ℕ → Bool) (hay : List ℕ) (end : ℕ) (at : end ≡ position_or_len test hay) where
+  pub split_there : end < length hay → slice_split test hay ≡ take end hay ∷ slice_split test (drop (end + 1) hay)
+  split_there below =
+      slice_split_first test hay 0 (omega (arith, at)) ∙ ap (λ (n : ℕ). take n hay ∷ slice_split test (drop (n + 1) hay)) (sym at)
+
+  pub not_split : length hay ≤ end → slice_split test hay ≡ hay ∷ []
+  not_split all =
+      slice_split_none test hay
+      (All-from_get_or (λ b. test b ≡ false) hay 0 (λ k below. fails_before_first test hay k 0 (omega (arith, at))))
+
 positive : (n : ℕ) → 0 < n → (n == 0) ≡ false
 positive n some = grind (arith, nat_tests)
 
@@ -59,21 +70,15 @@ module _ (line : List ℕ) (end : ℕ) (at : end ≡ position_or_len is_blank li
 
   inside : end < length line → tokens_of line ≡ cond (end == 0) rest (take end line ∷ rest)
   inside below =
-      let split : slice_split is_blank line ≡ take end line ∷ slice_split is_blank (drop (end + 1) line) =
-      slice_split_first is_blank line 0 (omega (arith, at)) ∙ ap (λ (n : ℕ). take n line ∷ slice_split is_blank (drop (n + 1) line)) (sym at) in
-      ap (filter (λ p. not (length p == 0))) split ∙ part_of (take end line) (slice_split is_blank (drop (end + 1) line)) end (length-take-le end line (omega arith))
-
-  no_blank : length line ≤ end → slice_split is_blank line ≡ line ∷ []
-  no_blank all =
-      slice_split_none is_blank line
-      (All-from_get_or (λ b. is_blank b ≡ false) line 0 (λ k below. fails_before_first is_blank line k 0 (omega (arith, at))))
+      ap (filter (λ p. not (length p == 0))) (split_there is_blank line end at below)
+      ∙ part_of (take end line) (slice_split is_blank (drop (end + 1) line)) end (length-take-le end line (omega arith))
 
   at_end : length line ≤ end → tokens_of line ≡ cond (end == 0) rest (take end line ∷ rest)
   at_end all =
       let le : position_or_len is_blank line ≤ length line = prefix_len-le-length (λ b. not (is_blank b)) line in
       let none : drop (end + 1) line ≡ [] = drop_all (end + 1) line (omega arith) in
       let whole : take end line ≡ line = take_all end line all in
-      ap (filter (λ p. not (length p == 0))) (no_blank all)
+      ap (filter (λ p. not (length p == 0))) (not_split is_blank line end at all)
       ∙ part_of line [] end (omega (arith, at, le))
       ∙ ap (λ (l : List ℕ). cond (end == 0) [] (l ∷ [])) (sym whole)
       ∙ ap (λ (l : List ℕ). cond (end == 0) (tokens_of l) (take end line ∷ tokens_of l)) (sym none)

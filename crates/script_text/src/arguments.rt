@@ -1,11 +1,11 @@
 //! What the arguments of a command spell.
 
-ghost use Rattle.std.specs.Prelude.{◌≡◌, IsTrue, false, nat_lt, length, map, take, drop, IfOk, OnOk, MatchResult, Some, None};
+ghost use Rattle.std.specs.Prelude.{◌≡◌, ◌/◌, ◌%◌, IsTrue, false, nat_lt, [], ◌∷◌, ◌++◌, length, map, IfOk, IfErr, OnOk, MatchResult, Some, None};
 ghost use Rattle.std.specs.Char.{is_ascii_digit};
 ghost use Rattle.std.specs.List.{list_all, list_any, slice_split};
 ghost use Rattle.std.specs.Str.Parse.{digits_value};
 ghost use Rattle.script_text.specs.Arguments.{Reads, hex_of, hexes_of, is_bar, text_of, is_label_byte, is_label, label_of, lone_label_of, is_number, number_of, mask_of, length_of, names_of, backlog_of};
-ghost use Rattle.script_text.specs.InSegments.{in_segments, are_sizes};
+ghost use Rattle.script_text.specs.InSegments.{digits_of, in_segments, spelled_in, are_sizes};
 ghost use Rattle.script_text.specs.declared.arguments.ReadError.TheVariants.{Malformed, NoMemory};
 
 use crate::hexadecimal::{are_pairs, write_bytes};
@@ -41,55 +41,70 @@ impl<T: Drop> From<AllocFailed<T>> for ReadError {
     }
 }
 
+// The digits of a part: none of `-`.
+fn digits_of(part: &[u8]) -> &[u8]
+    ensures { result.now ≡ digits_of part.now }
+{
+    if part == b"-".as_slice() {
+        return &part[..0];
+    }
+    part
+}
+
 /// The bytes that a token spells in hexadecimal digits.
 pub fn hex_bytes(alloc: Global, token: &[u8]) -> Result<Bytes, ReadError>
     ensures { Reads result (hex_of token.now) }
 {
+    let digits = digits_of(token);
+    if !are_pairs(digits) {
+        return Err(ReadError::Malformed);
+    }
     let mut bytes = Vec::new(alloc);
-    append_hex(&mut bytes, token)?;
+    bytes.resize(digits.len() / 2, 0)?;
+    write_bytes(digits, &mut bytes);
     Ok(Bytes::from_vec(bytes))
 }
 
-// The bytes of a text's parts, one part behind the other, and how many each has.
+// The digits of a text's parts, one part behind the other, and how many bytes each part spells.
 #[derive(Drop)]
 struct Parts {
-    bytes: Vec<u8>,
+    digits: Vec<u8>,
     sizes: Vec<usize>,
 }
 
-// Adds the bytes that a part spells.
-fn append_hex(bytes: &mut Vec<u8>, part: &[u8]) -> Result<(), ReadError>
-    ensures front { OnOk result (take (length bytes.old.items) bytes.new.items ≡ bytes.old.items) }
-    ensures behind { MatchResult result
-        (λ _. hex_of part.now ≡ Some (drop (length bytes.old.items) bytes.new.items))
-        (λ error. error ≡ Malformed → hex_of part.now ≡ None) }
+// Adds a part's digits, and how many bytes they spell. Malformed where they are odd in number.
+fn append_part(parts: &mut Parts, part: &[u8]) -> Result<(), ReadError>
+    ensures digits { OnOk result (parts.new.digits.items ≡ parts.old.digits.items ++ digits_of part.now) }
+    ensures sizes { OnOk result (parts.new.sizes.items ≡ parts.old.sizes.items ++ length (digits_of part.now) / 2 ∷ []) }
+    ensures even { OnOk result (length (digits_of part.now) % 2 ≡ 0) }
+    ensures odd { IfErr result (λ error. error ≡ Malformed → length (digits_of part.now) % 2 ≡ 1) }
 {
-    if part == b"-".as_slice() {
-        return Ok(());
-    }
-    if !are_pairs(part) {
+    let digits = digits_of(part);
+    if digits.len() % 2 == 1 {
         return Err(ReadError::Malformed);
     }
-    let at = bytes.len();
-    bytes.resize(at + part.len() / 2, 0)?;
-    write_bytes(part, &mut bytes[at..]);
+    parts.digits.extend_from_slice(digits)?;
+    parts.sizes.push(digits.len() / 2)?;
     Ok(())
 }
 
-// What each part between bars spells.
-fn hex_parts(alloc: Global, token: &[u8]) -> Result<Parts, ReadError>
+// What stands between bars. All parts are decoded together, since that costs less than one by one.
+fn parts_of(alloc: Global, token: &[u8]) -> Result<Parts, ReadError>
     ensures { MatchResult result
-        (λ read. in_segments (hexes_of (slice_split is_bar token.now)) ≡ Some (record { text = read.bytes.items; sizes = read.sizes.items }))
+        (λ read. in_segments (hexes_of (slice_split is_bar token.now)) ≡ spelled_in read.sizes.items (hex_of read.digits.items))
         (λ error. error ≡ Malformed → hexes_of (slice_split is_bar token.now) ≡ None) }
 {
-    let mut bytes = Vec::with_capacity(alloc, token.len() / 2)?;
-    let mut sizes = Vec::with_capacity(alloc, MOST_PARTS)?;
-    for part in token.split(|b| *b == b'|') {
-        let at = bytes.len();
-        append_hex(&mut bytes, part)?;
-        sizes.push(bytes.len() - at)?;
+    let mut parts = Parts {
+        digits: Vec::with_capacity(alloc, token.len())?,
+        sizes: Vec::with_capacity(alloc, MOST_PARTS)?,
+    };
+    let mut left = token;
+    while let Some(end) = memchr(b'|', left) {
+        append_part(&mut parts, &left[..end])?;
+        left = &left[end + 1..];
     }
-    Ok(Parts { bytes, sizes })
+    append_part(&mut parts, left)?;
+    Ok(parts)
 }
 
 fn are_filled(sizes: &[usize]) -> bool
@@ -128,11 +143,12 @@ pub fn segments(alloc: Global, token: &[u8]) -> Result<Segs, ReadError>
     if !has_bar(token) {
         return one_segment(alloc, token);
     }
-    let Parts { bytes, sizes } = hex_parts(alloc, token)?;
+    let Parts { digits, sizes } = parts_of(alloc, token)?;
     if !are_sizes(&sizes) {
         return Err(ReadError::Malformed);
     }
-    Ok(Segs::cut_from(alloc, Bytes::from_vec(bytes), sizes)?)
+    let bytes = hex_bytes(alloc, &digits)?;
+    Ok(Segs::cut_from(alloc, bytes, sizes)?)
 }
 
 fn is_label_byte(byte: u8) -> bool
