@@ -7,6 +7,7 @@ mod Terms
 mod Transposed
 mod RowsMixed
 mod RowKeyVectors
+mod TowerKeyVectors
 mod RowsUnsealed
 mod SealingTerms
 mod RowsSealed

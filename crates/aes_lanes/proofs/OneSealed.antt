@@ -1,7 +1,9 @@
 -- one block sealed in the tower
-use Rattle.std.specs.Prelude.{◌≡◌, ℕ, ◌+◌, ◌-◌, ◌<◌, ◌≤◌, List, ◌++◌, map, length, take, slice_index, bit_xor, refl}
+use Rattle.std.specs.Prelude.{◌≡◌, ℕ, ◌+◌, ◌-◌, ◌<◌, ◌≤◌, List, [], ◌∷◌, ◌++◌, map, length, take, slice_index, bit_xor, refl}
+use Rattle.std.specs.Int.Bits.{xor_assoc}
 use Rattle.std.proofs.Common.{sym, ◌∙◌, ap, ap₂, arith, subst}
 use Rattle.std.proofs.lemmas.List.{length-map}
+use Rattle.std.proofs.lemmas.Nat.{xor_comm}
 use Rattle.std.proofs.lemmas.Simd.{map-map, pick_l_whole}
 use lib.Lanes.{zip2}
 use Rattle.std_defs.specs.Aes.{mul8, places, sbox, add_round_key, sub_bytes, shift_rows, mix_columns, after_rounds, key_schedule, seal}
@@ -26,14 +28,28 @@ turned_map f = of_places 16 (λ x. turned 1 (map f x) ≡ map f (turned 1 x)) (�
 block_mixed : (s : List ℕ) → length s ≡ 16 → AreBytes s → mixed_lanes s ≡ mix_columns s
 block_mixed = of_places 16 (λ s. AreBytes s → mixed_lanes s ≡ mix_columns s) (λ z h. subst (λ (v : List ℕ). mixed_lanes v ≡ mix_columns v) (pick_l_whole 0 (map z places) 16 refl) (mixed_block (slice_index (map z places)) h))
 
-pub one_mixed_is : (y once twice next pair turn both most last r : List ℕ) → IsVector 16 y
+key_moved : (a b c d : ℕ) → bit_xor (bit_xor a (bit_xor b c)) d ≡ bit_xor (bit_xor (bit_xor a b) d) c
+key_moved a b c d =
+    ap (λ v. bit_xor v d) (sym (xor_assoc a b c)) ∙ xor_assoc (bit_xor a b) c d ∙ ap (bit_xor (bit_xor a b)) (xor_comm c d) ∙ sym (xor_assoc (bit_xor a b) d c)
+
+-- the key may be added last
+keys_moved : (a b c d : List ℕ) → zip2 bit_xor (zip2 bit_xor a (zip2 bit_xor b c)) d ≡ zip2 bit_xor (zip2 bit_xor (zip2 bit_xor a b) d) c
+keys_moved [] b c d = refl
+keys_moved (x ∷ a) [] c d = refl
+keys_moved (x ∷ a) (y ∷ b) [] [] = refl
+keys_moved (x ∷ a) (y ∷ b) [] (t ∷ d) = refl
+keys_moved (x ∷ a) (y ∷ b) (z ∷ c) [] = refl
+keys_moved (x ∷ a) (y ∷ b) (z ∷ c) (t ∷ d) = λ j. key_moved x y z t j ∷ keys_moved a b c d j
+
+pub one_mixed_is : (y key once twice next pair turn both keyed most last r : List ℕ) → IsVector 16 y
     → map tower_byte once ≡ map (λ y. less_sbox (tower_byte y)) y → map tower_byte twice ≡ map (λ y. mul8 2 (less_sbox (tower_byte y))) y
     → map tower_byte next ≡ turned 1 (map tower_byte once) → map tower_byte pair ≡ zip2 bit_xor (map tower_byte once) (map tower_byte next)
     → map tower_byte turn ≡ turned 1 (map tower_byte twice) → map tower_byte both ≡ zip2 bit_xor (map tower_byte twice) (map tower_byte turn)
-    → map tower_byte most ≡ zip2 bit_xor (map tower_byte both) (map tower_byte next) → map tower_byte last ≡ turned 2 (map tower_byte pair)
-    → map tower_byte r ≡ zip2 bit_xor (map tower_byte most) (map tower_byte last) → map tower_byte r ≡ mix_columns (map (λ y. less_sbox (tower_byte y)) y)
+    → map tower_byte keyed ≡ zip2 bit_xor (map tower_byte next) (map tower_byte key) → map tower_byte most ≡ zip2 bit_xor (map tower_byte both) (map tower_byte keyed)
+    → map tower_byte last ≡ turned 2 (map tower_byte pair) → map tower_byte r ≡ zip2 bit_xor (map tower_byte most) (map tower_byte last)
+    → map tower_byte r ≡ zip2 bit_xor (mix_columns (map (λ y. less_sbox (tower_byte y)) y)) (map tower_byte key)
 unfolding mixed_lanes
-one_mixed_is y once twice next pair turn both most last r fits e1 e2 e3 e4 e5 e6 e7 e8 e9 =
+one_mixed_is y key once twice next pair turn both keyed most last r fits e1 e2 e3 e4 e5 e6 e7 e8 e9 e10 =
     let a : List ℕ = made_row y in
     let long : length (made_row y) ≡ 16 = length-map y (λ y. less_sbox (tower_byte y)) ∙ fits.0 in
     let two : map tower_byte twice ≡ map (mul8 2) a = e2 ∙ sym (map-map (mul8 2) (λ y. less_sbox (tower_byte y)) y) in
@@ -41,7 +57,10 @@ one_mixed_is y once twice next pair turn both most last r fits e1 e2 e3 e4 e5 e6
     let p : map tower_byte pair ≡ zip2 bit_xor a (turned 1 a) = e4 ∙ ap₂ (zip2 bit_xor) e1 n in
     let b : map tower_byte both ≡ map (mul8 2) (zip2 bit_xor a (turned 1 a)) =
     e6 ∙ ap₂ (zip2 bit_xor) two (e5 ∙ ap (turned 1) two ∙ turned_map (mul8 2) a long) ∙ twice_sum a (turned 1 a) in
-    e9 ∙ ap₂ (zip2 bit_xor) (e7 ∙ ap₂ (zip2 bit_xor) b n) (e8 ∙ ap (turned 2) p) ∙ block_mixed a long (made_bytes y fits.1)
+    let k : List ℕ = map tower_byte key in
+    e10 ∙ ap₂ (zip2 bit_xor) (e8 ∙ ap₂ (zip2 bit_xor) b (e7 ∙ ap (λ (v : List ℕ). zip2 bit_xor v k) n)) (e9 ∙ ap (turned 2) p)
+    ∙ keys_moved (map (mul8 2) (zip2 bit_xor a (turned 1 a))) (turned 1 a) k (turned 2 (zip2 bit_xor a (turned 1 a)))
+    ∙ ap (λ (v : List ℕ). zip2 bit_xor v k) (block_mixed a long (made_bytes y fits.1))
 
 -- ---- a round
 
@@ -68,13 +87,13 @@ pub one_begun : (r : ℕ) (ws : List (List ℕ)) (b key sum y : List ℕ) → Is
     → map tower_byte y ≡ after_rounds (key_schedule (key_of r ws)) b 0
 one_begun r ws b key sum y h long k e f = f ∙ e ∙ ap (zip2 bit_xor b) k ∙ plain_key ws 0 b long ∙ first_key r ws b h
 
-pub one_more : (r : ℕ) (ws : List (List ℕ)) (i : ℕ) (b y key z : List ℕ) → IsSchedule r ws → 1 ≤ i → i < r → length y ≡ 16 → key ≡ key_block ws i
+pub one_more : (r : ℕ) (ws : List (List ℕ)) (i : ℕ) (b y key z : List ℕ) → IsSchedule r ws → 1 ≤ i → i < r → length y ≡ 16 → map tower_byte key ≡ map less_constant (key_block ws i)
     → map tower_byte y ≡ after_rounds (key_schedule (key_of r ws)) b (i - 1)
-    → map tower_byte z ≡ zip2 bit_xor (mix_columns (map (λ y. less_sbox (tower_byte y)) (shift_rows y))) (map less_constant key)
+    → map tower_byte z ≡ zip2 bit_xor (mix_columns (map (λ y. less_sbox (tower_byte y)) (shift_rows y))) (map tower_byte key)
     → map tower_byte z ≡ after_rounds (key_schedule (key_of r ws)) b (i + 1 - 1)
 one_more r ws i b y key z h from below long k before e =
     let tl : length (map tower_byte y) ≡ 16 = length-map y tower_byte ∙ long in
-    e ∙ ap₂ (λ (s t : List ℕ). zip2 bit_xor (mix_columns s) (map less_constant t))
+    e ∙ ap₂ (λ (s t : List ℕ). zip2 bit_xor (mix_columns s) t)
     (sym (map-map less_sbox tower_byte (shift_rows y)) ∙ ap (map less_sbox) (shift_map tower_byte y long) ∙ shift_map less_sbox (map tower_byte y) tl) k
     ∙ keyed_state ws i (map tower_byte y) tl
     ∙ sealing_more r ws b (map tower_byte y) i h from below before

@@ -1,5 +1,5 @@
--- round keys by rows
-use Rattle.std.specs.Prelude.{◌≡◌, ℕ, ◌+◌, ◌*◌, ◌%◌, ◌<◌, List, [], ◌∷◌, map, slice_index, slice_index_or, bit_xor}
+-- round keys by rows, and in the tower
+use Rattle.std.specs.Prelude.{◌≡◌, ℕ, ◌+◌, ◌*◌, ◌%◌, ◌<◌, List, [], ◌∷◌, map, take, slice_index, slice_index_or, bit_xor}
 use Rattle.std_defs.specs.Aes.{places, inverse_mix_columns}
 use Rattle.aes_lanes.specs.SealingTower.{tower_byte}
 use Rattle.aes_lanes.specs.Tower.{state_byte}
@@ -7,6 +7,7 @@ use Rattle.aes_lanes.specs.Pairs.{each_half}
 use Rattle.aes_lanes.specs.RoundKeys.{vectors_of}
 use Rattle.aes_lanes.specs.declared.round_keys.RoundKey.{RoundKey}
 use Rattle.aes_lanes.specs.declared.row_keys.RowKey.{RowKey}
+use Rattle.aes_lanes.specs.declared.tower_keys.TowerKey.{TowerKey}
 
 -- row n of the block at the front of x, four times
 abbrev pub row_of : ℕ → List ℕ → List ℕ
@@ -30,6 +31,10 @@ StandFor f g keys rows = (r : ℕ) → r < 15 → slice_index_or (map (bytes_by 
 -- the constant that the S-box adds, left out where it was added, or the other way round
 abbrev pub less_constant : ℕ → ℕ
 less_constant x = bit_xor x 0x63
+
+-- each is the block of its round with the constant, in the tower
+abbrev pub AreTowerKeys : List RoundKey → List TowerKey → Type 0
+AreTowerKeys keys tower = (r : ℕ) → r < 15 → map tower_byte (slice_index_or (map (λ k. k.elements) tower) r []) ≡ map less_constant (take 16 (slice_index_or (vectors_of keys) r []))
 
 abbrev pub AreSealingKeys : List RoundKey → List RowKey → Type 0
 AreSealingKeys keys rows = StandFor tower_byte (map less_constant) keys rows

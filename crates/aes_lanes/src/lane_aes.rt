@@ -7,6 +7,7 @@ use crate::lane_schedule::LaneSchedule;
 use crate::pairs::{first_of, joined, paired, parted};
 use crate::round_keys::round_keys;
 use crate::row_keys::{sealing_keys, unsealing_keys};
+use crate::tower_keys::tower_keys;
 use aes_block::{BlockCipher, expand_key};
 use kc_base::Errno;
 use std::marker::Model;
@@ -42,6 +43,7 @@ impl LaneAes {
             schedule: LaneSchedule {
                 rounds: key.len() / 4 + 6,
                 keys,
+                tower_keys: tower_keys(&keys),
                 sealing_keys: sealing_keys(&keys),
                 unsealing_keys: unsealing_keys(&keys),
             },

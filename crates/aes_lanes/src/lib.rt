@@ -14,6 +14,7 @@ mod sealing;
 mod sealing_rows;
 mod sealing_tower;
 mod tower;
+mod tower_keys;
 mod unsealing;
 
 pub use lane_aes::LaneAes;

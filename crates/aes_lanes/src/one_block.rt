@@ -5,7 +5,6 @@ ghost use Rattle.std.specs.Simd.Lanes.{zip2};
 ghost use Rattle.std_defs.specs.Aes.{mul8, sbox, shift_rows, mix_columns};
 ghost use Rattle.aes_lanes.specs.Lookup.{look, AreIndices, low, high, first_part, second_part};
 ghost use Rattle.aes_lanes.specs.Pairs.{turned};
-ghost use Rattle.aes_lanes.specs.RowKeys.{less_constant};
 ghost use Rattle.aes_lanes.specs.SealingTower.{tower_byte, less_sbox};
 
 use crate::lookup::{
@@ -150,30 +149,23 @@ fn two_on(x: u8x16) -> u8x16
     x.swizzle(TWO_ON)
 }
 
-/// SubBytes less its constant, and MixColumns.
+/// SubBytes less its constant, MixColumns, and a key added. The key is added before the last shuffle is done, so that nothing waits for it.
 #[inline(always)]
-fn one_mixed(y: u8x16) -> u8x16
-    ensures { map tower_byte result ≡ mix_columns (map (λ y. less_sbox (tower_byte y)) y) }
+fn one_mixed(y: u8x16, key: u8x16) -> u8x16
+    ensures { map tower_byte result ≡ zip2 bit_xor (mix_columns (map (λ y. less_sbox (tower_byte y)) y)) (map tower_byte key) }
 {
     let (once, twice) = one_made(y);
     let next = one_on(once);
     let pair = one_added(once, next);
     let both = one_added(twice, one_on(twice));
-    one_added(one_added(both, next), two_on(pair))
+    let most = one_added(both, one_added(next, key));
+    one_added(most, two_on(pair))
 }
 
-/// A round key with the constant that the S-box adds, in the tower.
-#[inline(always)]
-fn one_key(key: u8x16) -> u8x16
-    ensures { map tower_byte result ≡ map less_constant key }
-{
-    one_in_tower(key ^ u8x16::splat(0x63))
-}
-
-/// A round of one block.
+/// A round of one block, under a key in the tower to which the constant of the S-box was added.
 #[inline(always)]
 pub(crate) fn one_round(y: u8x16, key: u8x16) -> u8x16
-    ensures { map tower_byte result ≡ zip2 bit_xor (mix_columns (map (λ y. less_sbox (tower_byte y)) (shift_rows y))) (map less_constant key) }
+    ensures { map tower_byte result ≡ zip2 bit_xor (mix_columns (map (λ y. less_sbox (tower_byte y)) (shift_rows y))) (map tower_byte key) }
 {
-    one_added(one_mixed(one_shifted(y)), one_key(key))
+    one_mixed(one_shifted(y), key)
 }

@@ -74,7 +74,7 @@ impl LaneSchedule {
     {
         let mut state = one_in_tower(one_block::sum(b, front_of(self.keys[0].twice)));
         for round in 1..self.rounds {
-            state = one_round(state, front_of(self.keys[round].twice));
+            state = one_round(state, self.tower_keys[round].elements);
         }
         let last = front_of(self.keys[self.rounds].twice);
         one_block::sum(one_made_last(one_shifted(state)), last)

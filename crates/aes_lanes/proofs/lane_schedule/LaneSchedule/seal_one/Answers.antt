@@ -1,6 +1,9 @@
-use Rattle.std.specs.Prelude.{[]}
-use Rattle.std.proofs.Common.{arith}
+use Rattle.std.specs.Prelude.{◌<◌, [], map, refl}
+use Rattle.std.proofs.Common.{arith, ap, sym, ◌∙◌}
+use Rattle.std.proofs.lemmas.List.{get_or-map}
 use Rattle.aes_lanes.specs.RoundKeys.{schedule_of}
+use Rattle.aes_lanes.specs.RowKeys.{less_constant}
+use Rattle.aes_lanes.specs.SealingTower.{tower_byte}
 use Rattle.aes_block.proofs.Rounds.{at_least_ten, at_most_fourteen}
 use Rattle.aes_lanes.proofs.KeyVectors.{vector_at}
 use Rattle.aes_lanes.proofs.OneSealed.{front_key, one_begun, one_more, one_end}
@@ -16,8 +19,9 @@ pub loop-round-preserved : goal.loop-round-preserved
 loop-round-preserved c =
     let s = c.args.self.now in
     let i = c.loop-round.round in
+    let within : i < 15 = omega (arith, at_most_fourteen s.rounds (schedule_of s.keys) s.scheduled) in
     one_more s.rounds (schedule_of s.keys) i c.args.b c.loop-round.state _ _ s.scheduled (omega arith) (omega arith) (omega arith)
-    (front_key (schedule_of s.keys) i _ _ c.front_of-in-loop-round.ensures (vector_at s.keys i (record { twice = [] }) (omega arith) (omega (arith, at_most_fourteen s.rounds (schedule_of s.keys) s.scheduled)) s.twice))
+    (ap (map tower_byte) (sym (get_or-map (λ k. k.elements) s.tower_keys i (record { elements = [] }) [] (omega arith))) ∙ s.in_tower i within ∙ ap (map less_constant) (front_key (schedule_of s.keys) i _ _ refl (s.twice i within)))
     c.loop-round.invariant c.one_round-state.ensures
 
 pub returns : goal.returns
