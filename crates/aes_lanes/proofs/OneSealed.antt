@@ -1,5 +1,5 @@
 -- one block sealed in the tower
-use Rattle.std.specs.Prelude.{◌≡◌, ℕ, ◌+◌, ◌-◌, ◌<◌, ◌≤◌, List, [], ◌∷◌, ◌++◌, map, length, take, slice_index, bit_xor, refl}
+use Rattle.std.specs.Prelude.{◌≡◌, ℕ, ◌+◌, ◌-◌, ◌*◌, ◌/◌, ◌%◌, ◌<◌, ◌≤◌, List, ◌++◌, map, length, take, slice_index, bit_xor, refl}
 use Rattle.std.specs.Int.Bits.{xor_assoc}
 use Rattle.std.proofs.Common.{sym, ◌∙◌, ap, ap₂, arith, subst}
 use Rattle.std.proofs.lemmas.List.{length-map}
@@ -7,6 +7,7 @@ use Rattle.std.proofs.lemmas.Nat.{xor_comm}
 use Rattle.std.proofs.lemmas.Simd.{map-map, pick_l_whole}
 use lib.Lanes.{zip2}
 use Rattle.std_defs.specs.Aes.{mul8, places, sbox, add_round_key, sub_bytes, shift_rows, mix_columns, after_rounds, key_schedule, seal}
+use Rattle.std_defs.proofs.Mul8.{mul8-xor, xor_swap}
 use Rattle.aes_block.specs.Schedule.{IsSchedule, key_of}
 use Rattle.aes_block.proofs.Rounds.{sealing_more, sealed_all, round_key_is}
 use Rattle.aes_lanes.specs.KeyBlock.{key_block}
@@ -17,50 +18,54 @@ use Rattle.aes_lanes.proofs.Halves.{of_places, front}
 use Rattle.aes_lanes.proofs.Lookups.{IsVector}
 use Rattle.aes_lanes.proofs.Mixing.{mixed_lanes, mixed_block}
 use Rattle.aes_lanes.proofs.RowsMixed.{AreBytes}
-use Rattle.aes_lanes.proofs.RowsSealed.{made_row, made_bytes, keyed_block, twice_sum}
+use Rattle.aes_lanes.proofs.RowsSealed.{made_row, made_bytes, keyed_block}
 use Rattle.aes_lanes.proofs.RowsUnsealed.{block_long}
 
 -- ---- MixColumns
 
-turned_map : (f : ℕ → ℕ) (x : List ℕ) → length x ≡ 16 → turned 1 (map f x) ≡ map f (turned 1 x)
-turned_map f = of_places 16 (λ x. turned 1 (map f x) ≡ map f (turned 1 x)) (λ z. refl)
-
 block_mixed : (s : List ℕ) → length s ≡ 16 → AreBytes s → mixed_lanes s ≡ mix_columns s
 block_mixed = of_places 16 (λ s. AreBytes s → mixed_lanes s ≡ mix_columns s) (λ z h. subst (λ (v : List ℕ). mixed_lanes v ≡ mix_columns v) (pick_l_whole 0 (map z places) 16 refl) (mixed_block (slice_index (map z places)) h))
 
-key_moved : (a b c d : ℕ) → bit_xor (bit_xor a (bit_xor b c)) d ≡ bit_xor (bit_xor (bit_xor a b) d) c
-key_moved a b c d =
-    ap (λ v. bit_xor v d) (sym (xor_assoc a b c)) ∙ xor_assoc (bit_xor a b) c d ∙ ap (bit_xor (bit_xor a b)) (xor_comm c d) ∙ sym (xor_assoc (bit_xor a b) d c)
+terms_moved : (a b c d k : ℕ) → bit_xor (bit_xor (bit_xor d k) (bit_xor (mul8 2 a) b)) (bit_xor (mul8 2 b) c) ≡ bit_xor (bit_xor (bit_xor (mul8 2 (bit_xor a b)) b) (bit_xor c d)) k
+terms_moved a b c d k =
+    let p : ℕ = mul8 2 a in
+    let q : ℕ = mul8 2 b in
+    let sums : ℕ = bit_xor (bit_xor p q) (bit_xor b c) in
+    xor_assoc (bit_xor d k) (bit_xor p b) (bit_xor q c) ∙ xor_comm (bit_xor d k) (bit_xor (bit_xor p b) (bit_xor q c)) ∙ ap (λ v. bit_xor v (bit_xor d k)) (xor_swap p b q c)
+    ∙ sym (xor_assoc sums d k)
+    ∙ ap (λ v. bit_xor v k) (ap (λ v. bit_xor v d) (sym (xor_assoc (bit_xor p q) b c)) ∙ xor_assoc (bit_xor (bit_xor p q) b) c d)
+    ∙ ap (λ v. bit_xor (bit_xor (bit_xor v b) (bit_xor c d)) k) (sym (mul8-xor 2 a b))
 
--- the key may be added last
-keys_moved : (a b c d : List ℕ) → zip2 bit_xor (zip2 bit_xor a (zip2 bit_xor b c)) d ≡ zip2 bit_xor (zip2 bit_xor (zip2 bit_xor a b) d) c
-keys_moved [] b c d = refl
-keys_moved (x ∷ a) [] c d = refl
-keys_moved (x ∷ a) (y ∷ b) [] [] = refl
-keys_moved (x ∷ a) (y ∷ b) [] (t ∷ d) = refl
-keys_moved (x ∷ a) (y ∷ b) (z ∷ c) [] = refl
-keys_moved (x ∷ a) (y ∷ b) (z ∷ c) (t ∷ d) = λ j. key_moved x y z t j ∷ keys_moved a b c d j
+-- what the function `one_mixed` adds up, of the bytes s behind the S-box and the key k
+mixed_with : List ℕ → List ℕ → List ℕ
+mixed_with s k =
+    let front : List ℕ = zip2 bit_xor (map (mul8 2) s) (turned 1 s) in
+    zip2 bit_xor (zip2 bit_xor (zip2 bit_xor (turned 3 s) k) front) (turned 1 front)
 
-pub one_mixed_is : (y key once twice next pair turn both keyed most last r : List ℕ) → IsVector 16 y
+lanes_moved : (s k : List ℕ) → length s ≡ 16 → length k ≡ 16 → mixed_with s k ≡ zip2 bit_xor (mixed_lanes s) k
+unfolding mixed_with mixed_lanes
+lanes_moved s k long key_long =
+    of_places 16 (λ s. mixed_with s k ≡ zip2 bit_xor (mixed_lanes s) k) (λ z.
+    of_places 16 (λ k. mixed_with (map z places) k ≡ zip2 bit_xor (mixed_lanes (map z places)) k) (λ w j.
+    map (λ i. terms_moved (z i) (z (4 * (i / 4) + (i + 1) % 4)) (z (4 * (i / 4) + (i + 2) % 4)) (z (4 * (i / 4) + (i + 3) % 4)) (w i) j) places) k key_long) s long
+
+pub one_mixed_is : (y key once twice next front last rest most turn r : List ℕ) → IsVector 16 y → length key ≡ 16
     → map tower_byte once ≡ map (λ y. less_sbox (tower_byte y)) y → map tower_byte twice ≡ map (λ y. mul8 2 (less_sbox (tower_byte y))) y
-    → map tower_byte next ≡ turned 1 (map tower_byte once) → map tower_byte pair ≡ zip2 bit_xor (map tower_byte once) (map tower_byte next)
-    → map tower_byte turn ≡ turned 1 (map tower_byte twice) → map tower_byte both ≡ zip2 bit_xor (map tower_byte twice) (map tower_byte turn)
-    → map tower_byte keyed ≡ zip2 bit_xor (map tower_byte next) (map tower_byte key) → map tower_byte most ≡ zip2 bit_xor (map tower_byte both) (map tower_byte keyed)
-    → map tower_byte last ≡ turned 2 (map tower_byte pair) → map tower_byte r ≡ zip2 bit_xor (map tower_byte most) (map tower_byte last)
+    → map tower_byte next ≡ turned 1 (map tower_byte once) → map tower_byte front ≡ zip2 bit_xor (map tower_byte twice) (map tower_byte next)
+    → map tower_byte last ≡ turned 3 (map tower_byte once) → map tower_byte rest ≡ zip2 bit_xor (map tower_byte last) (map tower_byte key)
+    → map tower_byte most ≡ zip2 bit_xor (map tower_byte rest) (map tower_byte front) → map tower_byte turn ≡ turned 1 (map tower_byte front)
+    → map tower_byte r ≡ zip2 bit_xor (map tower_byte most) (map tower_byte turn)
     → map tower_byte r ≡ zip2 bit_xor (mix_columns (map (λ y. less_sbox (tower_byte y)) y)) (map tower_byte key)
-unfolding mixed_lanes
-one_mixed_is y key once twice next pair turn both keyed most last r fits e1 e2 e3 e4 e5 e6 e7 e8 e9 e10 =
+unfolding mixed_with
+one_mixed_is y key once twice next front last rest most turn r fits key_long e1 e2 e3 e4 e5 e6 e7 e8 e9 =
     let a : List ℕ = made_row y in
-    let long : length (made_row y) ≡ 16 = length-map y (λ y. less_sbox (tower_byte y)) ∙ fits.0 in
-    let two : map tower_byte twice ≡ map (mul8 2) a = e2 ∙ sym (map-map (mul8 2) (λ y. less_sbox (tower_byte y)) y) in
-    let n : map tower_byte next ≡ turned 1 a = e3 ∙ ap (turned 1) e1 in
-    let p : map tower_byte pair ≡ zip2 bit_xor a (turned 1 a) = e4 ∙ ap₂ (zip2 bit_xor) e1 n in
-    let b : map tower_byte both ≡ map (mul8 2) (zip2 bit_xor a (turned 1 a)) =
-    e6 ∙ ap₂ (zip2 bit_xor) two (e5 ∙ ap (turned 1) two ∙ turned_map (mul8 2) a long) ∙ twice_sum a (turned 1 a) in
     let k : List ℕ = map tower_byte key in
-    e10 ∙ ap₂ (zip2 bit_xor) (e8 ∙ ap₂ (zip2 bit_xor) b (e7 ∙ ap (λ (v : List ℕ). zip2 bit_xor v k) n)) (e9 ∙ ap (turned 2) p)
-    ∙ keys_moved (map (mul8 2) (zip2 bit_xor a (turned 1 a))) (turned 1 a) k (turned 2 (zip2 bit_xor a (turned 1 a)))
-    ∙ ap (λ (v : List ℕ). zip2 bit_xor v k) (block_mixed a long (made_bytes y fits.1))
+    let long : length (made_row y) ≡ 16 = length-map y (λ y. less_sbox (tower_byte y)) ∙ fits.0 in
+    let f : map tower_byte front ≡ zip2 bit_xor (map (mul8 2) a) (turned 1 a) =
+    e4 ∙ ap₂ (zip2 bit_xor) (e2 ∙ sym (map-map (mul8 2) (λ y. less_sbox (tower_byte y)) y)) (e3 ∙ ap (turned 1) e1) in
+    let all : map tower_byte r ≡ mixed_with a k =
+    e9 ∙ ap₂ (zip2 bit_xor) (e7 ∙ ap₂ (zip2 bit_xor) (e6 ∙ ap (λ (v : List ℕ). zip2 bit_xor v k) (e5 ∙ ap (turned 3) e1)) f) (e8 ∙ ap (turned 1) f) in
+    all ∙ lanes_moved a k long (length-map key tower_byte ∙ key_long) ∙ ap (λ (v : List ℕ). zip2 bit_xor v k) (block_mixed a long (made_bytes y fits.1))
 
 -- ---- a round
 

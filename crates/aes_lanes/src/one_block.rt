@@ -19,7 +19,7 @@ const SHIFTED: [usize; 16] = [0, 5, 10, 15, 4, 9, 14, 3, 8, 13, 2, 7, 12, 1, 6, 
 
 const ONE_ON: [usize; 16] = [1, 2, 3, 0, 5, 6, 7, 4, 9, 10, 11, 8, 13, 14, 15, 12];
 
-const TWO_ON: [usize; 16] = [2, 3, 0, 1, 6, 7, 4, 5, 10, 11, 8, 9, 14, 15, 12, 13];
+const THREE_ON: [usize; 16] = [3, 0, 1, 2, 7, 4, 5, 6, 11, 8, 9, 10, 15, 12, 13, 14];
 
 /// The first of two blocks.
 #[inline(always)]
@@ -143,23 +143,22 @@ fn one_on(x: u8x16) -> u8x16
 }
 
 #[inline(always)]
-fn two_on(x: u8x16) -> u8x16
-    ensures { map tower_byte result ≡ turned 2 (map tower_byte x) }
+fn three_on(x: u8x16) -> u8x16
+    ensures { map tower_byte result ≡ turned 3 (map tower_byte x) }
 {
-    x.swizzle(TWO_ON)
+    x.swizzle(THREE_ON)
 }
 
-/// SubBytes less its constant, MixColumns, and a key added. The key is added before the last shuffle is done, so that nothing waits for it.
+/// SubBytes less its constant, MixColumns, and a key added. The next round waits for the last shuffle alone, since the key and the other terms
+/// are added before.
 #[inline(always)]
 fn one_mixed(y: u8x16, key: u8x16) -> u8x16
     ensures { map tower_byte result ≡ zip2 bit_xor (mix_columns (map (λ y. less_sbox (tower_byte y)) y)) (map tower_byte key) }
 {
     let (once, twice) = one_made(y);
-    let next = one_on(once);
-    let pair = one_added(once, next);
-    let both = one_added(twice, one_on(twice));
-    let most = one_added(both, one_added(next, key));
-    one_added(most, two_on(pair))
+    let front = one_added(twice, one_on(once));
+    let rest = one_added(three_on(once), key);
+    one_added(one_added(rest, front), one_on(front))
 }
 
 /// A round of one block, under a key in the tower to which the constant of the S-box was added.
