@@ -122,7 +122,7 @@ fn look_at_end<W: Work, R: Wait>(
 }
 
 /// Works until the board is shut: does a job where one waits, otherwise passes a request on, and otherwise builds a larval. A
-/// worker that finds nothing sleeps until a job comes or it is called.
+/// worker that finds nothing stays awake for a while, and then sleeps until a job comes or it is called.
 pub fn work_on<W: Work, G: Gate, R: Wait>(
     rt: &R,
     alloc: Global,
@@ -140,6 +140,10 @@ pub fn work_on<W: Work, G: Gate, R: Wait>(
     let mut mine = passes;
     for _ in rt.forever() {
         let worked = work_both_while(rt, alloc, board, registry, mine, gate);
+        if board.linger() {
+            mine = worked;
+            continue;
+        }
         let watch = board.watch_jobs();
         let (looked, shut) = look_at_end(rt, board, registry, worked);
         if shut {
