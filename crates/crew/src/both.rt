@@ -71,7 +71,12 @@ pub fn work_or_build<W: Work, G: Gate, R: Wait>(
     (passes, built)
 }
 
-/// Works until nothing is found or the board may be shut.
+/// Whether a worker that found something may find more: a hint that takes no turn.
+fn may_find_more<W: Work>(board: &SharedBoard<W>, registry: &SharedRegistry) -> bool {
+    !board.may_be_shut() && (board.may_have_job() || registry.may_build())
+}
+
+/// Works until nothing is found, or nothing more is expected.
 fn work_both_while<W: Work, G: Gate, R: Wait>(
     rt: &R,
     alloc: Global,
@@ -88,7 +93,7 @@ fn work_both_while<W: Work, G: Gate, R: Wait>(
     let mut mine = passes;
     for _ in rt.forever() {
         let (worked, found) = work_or_build(rt, alloc, board, registry, mine, gate);
-        if !found || board.may_be_shut() {
+        if !found || !may_find_more(board, registry) {
             return worked;
         }
         mine = worked;

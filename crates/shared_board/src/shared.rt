@@ -126,6 +126,7 @@ impl<W: Work> SharedBoard<W> {
             (λ pipe. (pipe ≡ pipelines h) × Enters LegalBoard (knows pass) h (Entry.Born (knows pass).number pipe (Shaped.Queue max)) (knows result.0))
             (λ e. (e ≡ BoardErr.Memory) × Leaves (knows pass) h (knows result.0))) }
     {
+        self.bells.note_queue();
         let caller = pass.number();
         let mut turn = self.turn(rt, pass);
         let answer = turn.get().born_queue(caller, max);
@@ -153,6 +154,7 @@ impl<W: Work> SharedBoard<W> {
             (λ pipe. (pipe ≡ pipelines h) × Enters LegalBoard (knows pass) h (Entry.Born (knows pass).number pipe (Shaped.Chain max lists)) (knows result.0))
             (λ e. (e ≡ BoardErr.Memory) × Leaves (knows pass) h (knows result.0))) }
     {
+        self.bells.note_queue();
         let caller = pass.number();
         let mut turn = self.turn(rt, pass);
         let answer = turn.get().born_chain(caller, max, lists);
@@ -488,6 +490,12 @@ impl<W: Work> SharedBoard<W> {
     /// Wakes a worker that sleeps, if there is one: something else than a job may be there for it.
     pub fn call_worker(&self) {
         self.bells.ring_job();
+    }
+
+    /// Whether a worker that did a job may find another: a hint that takes no turn. Who gets false stays awake for a while (`linger`), or
+    /// announces a wait and looks at the board once more.
+    pub fn may_have_job(&self) -> bool {
+        self.bells.may_have_job()
     }
 
     /// Stays awake for a while for a job to come: a hint that takes no turn. Who gets false has to announce a wait, and to look at the
