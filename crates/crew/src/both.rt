@@ -71,7 +71,12 @@ pub fn work_or_build<W: Work, G: Gate, R: Wait>(
     (passes, built)
 }
 
-/// Works until nothing is found or the board may be shut.
+/// Whether a worker that found something may find more: a hint that takes no turn.
+fn may_find_more<W: Work>(board: &SharedBoard<W>, registry: &SharedRegistry) -> bool {
+    !board.may_be_shut() && (board.may_have_job() || registry.may_build())
+}
+
+/// Works until nothing is found, or nothing more is expected.
 fn work_both_while<W: Work, G: Gate, R: Wait>(
     rt: &R,
     alloc: Global,
@@ -88,7 +93,7 @@ fn work_both_while<W: Work, G: Gate, R: Wait>(
     let mut mine = passes;
     for _ in rt.forever() {
         let (worked, found) = work_or_build(rt, alloc, board, registry, mine, gate);
-        if !found || board.may_be_shut() {
+        if !found || !may_find_more(board, registry) {
             return worked;
         }
         mine = worked;
@@ -122,7 +127,7 @@ fn look_at_end<W: Work, R: Wait>(
 }
 
 /// Works until the board is shut: does a job where one waits, otherwise passes a request on, and otherwise builds a larval. A
-/// worker that finds nothing sleeps until a job comes or it is called.
+/// worker that finds nothing stays awake for a while, and then sleeps until a job comes or it is called.
 pub fn work_on<W: Work, G: Gate, R: Wait>(
     rt: &R,
     alloc: Global,
@@ -140,6 +145,10 @@ pub fn work_on<W: Work, G: Gate, R: Wait>(
     let mut mine = passes;
     for _ in rt.forever() {
         let worked = work_both_while(rt, alloc, board, registry, mine, gate);
+        if board.linger() {
+            mine = worked;
+            continue;
+        }
         let watch = board.watch_jobs();
         let (looked, shut) = look_at_end(rt, board, registry, worked);
         if shut {

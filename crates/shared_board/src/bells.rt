@@ -1,8 +1,19 @@
 //! What wakes those who wait for a board. It holds no fact: who is woken looks again.
+//!
+//! A worker that finds nothing stays awake for a while, since to sleep and to be woken costs more than a short job. While it does, jobs
+//! that come are left to it, and nobody is woken for them. It takes no turn at the board until a job came: a turn that finds nothing
+//! keeps those waiting who submit.
 
+ghost use Rattle.std.specs.Prelude.{◌≤◌};
+
+use crossbeam_utils::Backoff;
 use crossbeam_utils::sync::{EventCount, Key};
 use std::sync::Wait;
-use std::sync::atomic::{AtomicBool, Ordering};
+use std::sync::atomic::{AtomicBool, AtomicU64, Ordering};
+
+/// How often a worker that stays awake looks for a job that came: some 50 microseconds. From the eighth time on it leaves the processor
+/// to others in between.
+const PATIENCE: u32 = 100;
 
 /// A wait that is announced. Whoever announced it looks at the board once more, and waits only if there is nothing.
 #[derive(Drop)]
@@ -29,6 +40,12 @@ pub(crate) struct Bells {
     over: AtomicBool,
     /// Whether some pad was masked: then one worker that is woken may not be one that may take the job.
     masked: AtomicBool,
+    /// Whether some queue or chain was made: the end of its job lets the next be taken, and nothing rings for that.
+    queues: AtomicBool,
+    /// How many jobs came that no worker has noticed. Some may have been taken all the same.
+    unnoticed: AtomicU64,
+    /// How many workers stay awake for a job.
+    awake: AtomicU64,
 }
 
 impl Bells {
@@ -38,6 +55,9 @@ impl Bells {
             ends: EventCount::new(),
             over: AtomicBool::new(false),
             masked: AtomicBool::new(false),
+            queues: AtomicBool::new(false),
+            unnoticed: AtomicU64::new(0),
+            awake: AtomicU64::new(0),
         }
     }
 
@@ -53,13 +73,88 @@ impl Bells {
         }
     }
 
-    /// A job came.
+    /// A job came. It wakes a worker that sleeps, where fewer stay awake than jobs are unnoticed.
     pub(crate) fn ring_job(&self) {
+        let before = self.unnoticed.fetch_add(1, Ordering::SeqCst);
         if self.masked.load(Ordering::SeqCst) {
             self.jobs.notify_all();
-        } else {
+        } else if before >= self.awake.load(Ordering::SeqCst) {
             self.jobs.notify_one();
         }
+    }
+
+    /// A queue or a chain is made.
+    pub(crate) fn note_queue(&self) {
+        self.queues.store(true, Ordering::SeqCst);
+    }
+
+    /// How many jobs came that no worker has noticed.
+    pub(crate) fn unnoticed(&self) -> u64 {
+        self.unnoticed.load(Ordering::SeqCst)
+    }
+
+    /// Takes so many, unless their number changed meanwhile.
+    fn lower(&self, unnoticed: u64, by: u64) -> bool
+        requires { by ≤ unnoticed }
+    {
+        self.unnoticed
+            .compare_exchange(
+                unnoticed,
+                unnoticed - by,
+                Ordering::SeqCst,
+                Ordering::SeqCst,
+            )
+            .is_ok()
+    }
+
+    /// There was no job at a turn, so those that were unnoticed before it are taken. If one came meanwhile, nothing is forgotten.
+    pub(crate) fn forget(&self, unnoticed: u64) {
+        if unnoticed > 0 {
+            let _ = self.lower(unnoticed, unnoticed);
+        }
+    }
+
+    /// Notices a job, if one is unnoticed.
+    fn notice(&self) -> bool {
+        let unnoticed = self.unnoticed();
+        unnoticed > 0 && self.lower(unnoticed, 1)
+    }
+
+    /// Whether a worker that did a job may find another, which it has then noticed.
+    pub(crate) fn may_have_job(&self) -> bool {
+        let is_rung_for_each = !self.queues.load(Ordering::SeqCst)
+            && !self.masked.load(Ordering::SeqCst);
+        !is_rung_for_each || self.notice()
+    }
+
+    /// Notices a job that comes within a while, unless the board may be shut first.
+    fn notice_soon(&self) -> bool {
+        let backoff = Backoff::new();
+        for _ in 0..PATIENCE {
+            if self.is_over() {
+                return false;
+            }
+            if self.notice() {
+                return true;
+            }
+            backoff.snooze();
+        }
+        false
+    }
+
+    /// Stays awake for a while, where any worker may take any job. True where a job came. A further one that came meanwhile may have
+    /// been left to this worker too, so it wakes another for that.
+    pub(crate) fn linger(&self) -> bool {
+        if self.masked.load(Ordering::SeqCst) {
+            return false;
+        }
+        self.awake.fetch_add(1, Ordering::SeqCst);
+        let came = self.notice_soon();
+        self.awake.fetch_sub(1, Ordering::SeqCst);
+        if came && self.unnoticed() > 0 {
+            self.jobs.notify_one();
+        }
+        came
     }
 
     /// A request was passed on, where that is so: its job came, for workers and for those who drain.

@@ -126,6 +126,7 @@ impl<W: Work> SharedBoard<W> {
             (λ pipe. (pipe ≡ pipelines h) × Enters LegalBoard (knows pass) h (Entry.Born (knows pass).number pipe (Shaped.Queue max)) (knows result.0))
             (λ e. (e ≡ BoardErr.Memory) × Leaves (knows pass) h (knows result.0))) }
     {
+        self.bells.note_queue();
         let caller = pass.number();
         let mut turn = self.turn(rt, pass);
         let answer = turn.get().born_queue(caller, max);
@@ -153,6 +154,7 @@ impl<W: Work> SharedBoard<W> {
             (λ pipe. (pipe ≡ pipelines h) × Enters LegalBoard (knows pass) h (Entry.Born (knows pass).number pipe (Shaped.Chain max lists)) (knows result.0))
             (λ e. (e ≡ BoardErr.Memory) × Leaves (knows pass) h (knows result.0))) }
     {
+        self.bells.note_queue();
         let caller = pass.number();
         let mut turn = self.turn(rt, pass);
         let answer = turn.get().born_chain(caller, max, lists);
@@ -281,10 +283,15 @@ impl<W: Work> SharedBoard<W> {
             × MayFinish W.meaning (entries_of t.slip.pipe (knows result.0).seen) (knows pass).number t.slip.number (W.meaning (W.asked t.job)))) }
     {
         let caller = pass.number();
+        let unnoticed = self.bells.unnoticed();
         let mut turn = self.turn(rt, pass);
         let answer = turn.get().take(caller);
         let added = answer.is_some();
-        (turn.give(added), answer)
+        let pass = turn.give(added);
+        if !added {
+            self.bells.forget(unnoticed);
+        }
+        (pass, answer)
     }
 
     /// Records the outcome of a job that this caller took and hasn't finished: what the job's ask means. No memory is taken.
@@ -483,6 +490,18 @@ impl<W: Work> SharedBoard<W> {
     /// Wakes a worker that sleeps, if there is one: something else than a job may be there for it.
     pub fn call_worker(&self) {
         self.bells.ring_job();
+    }
+
+    /// Whether a worker that did a job may find another: a hint that takes no turn. Who gets false stays awake for a while (`linger`), or
+    /// announces a wait and looks at the board once more.
+    pub fn may_have_job(&self) -> bool {
+        self.bells.may_have_job()
+    }
+
+    /// Stays awake for a while for a job to come: a hint that takes no turn. Who gets false has to announce a wait, and to look at the
+    /// board once more, before it sleeps.
+    pub fn linger(&self) -> bool {
+        self.bells.linger()
     }
 
     /// Whether the board may be shut: a hint that takes no turn.

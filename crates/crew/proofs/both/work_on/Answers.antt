@@ -14,3 +14,7 @@ loop-preserved-then-not-found g c =
 pub loop-preserved : goal.loop-preserved
 loop-preserved g c =
     (tt, tt, c.work_or_build-tried.ensures.lock, both_on c.building_goes_on.ensures.on _ _ _ (both_on c.building_goes_on.ensures.on _ _ _ (both_on c.building_goes_on.ensures.on _ _ _ c.loop.invariant.3 c.work_both_while-worked.ensures.worked) c.look_at_end-looked.ensures.worked) c.work_or_build-tried.ensures.worked)
+
+pub loop-preserved-then-linger : goal.loop-preserved-then-linger
+loop-preserved-then-linger g c =
+    (tt, tt, c.work_both_while-worked.ensures.lock, both_on c.building_goes_on.ensures.on _ _ _ c.loop.invariant.3 c.work_both_while-worked.ensures.worked)

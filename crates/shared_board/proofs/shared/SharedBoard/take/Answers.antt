@@ -13,8 +13,8 @@ returns-clause-turn g c =
     let a = c.take-answer.ensures in
     let old = c.get.result.now in
     let own = subst (λ j. MatchOption c.take-answer.result ((c.take-answer.new.self ≡ old) × NoneFor old j) (λ t. (c.take-answer.new.self ≡ old ++ take_entry old c.number-caller.result t.slip.pipe t.slip.number ∷ []) × (slice_get (submissions (entries_of t.slip.pipe old)) t.slip.number ≡ Some (g.W.Work.asked t.job)))) c.number-caller.ensures a.taken in
-    found_turn caller_of (λ xs. LegalBoard xs) itself (knows c.args.pass) _ (knows c.give.result) _ _ c.take-answer.new.self _ c.number-caller.ensures c.get.ensures.value t.sees t.meets a.legal c.take-answer.result
+    found_turn caller_of (λ xs. LegalBoard xs) itself (knows c.args.pass) _ (knows c.give-pass.result) _ _ c.take-answer.new.self _ c.number-caller.ensures c.get.ensures.value t.sees t.meets a.legal c.take-answer.result
     (λ v j xs. take_entry xs j v.slip.pipe v.slip.number) (λ xs. NoneFor xs (knows c.args.pass).number)
     (λ xs v. slice_get (submissions (entries_of v.slip.pipe xs)) v.slip.number ≡ Some (g.W.Work.asked v.job))
     (λ xs j v. MayFinish g.W.Work.meaning (entries_of v.slip.pipe xs) j v.slip.number (g.W.Work.meaning (g.W.Work.asked v.job)))
-    _ c.is_some-added.ensures own a.ready c.give.ensures.view
+    _ c.is_some-added.ensures own a.ready c.give-pass.ensures.view
