@@ -149,7 +149,8 @@ fn three_on(x: u8x16) -> u8x16
     x.swizzle(THREE_ON)
 }
 
-/// SubBytes less its constant, MixColumns, and a key added. The last shuffle ends latest, so all other terms are summed before it is added.
+/// SubBytes less its constant, MixColumns, and a key added. The next round waits for the last shuffle alone, since the key and the other terms
+/// are added before.
 #[inline(always)]
 fn one_mixed(y: u8x16, key: u8x16) -> u8x16
     ensures { map tower_byte result ≡ zip2 bit_xor (mix_columns (map (λ y. less_sbox (tower_byte y)) y)) (map tower_byte key) }
