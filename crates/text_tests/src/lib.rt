@@ -14,6 +14,6 @@ mod replies;
 #[cfg(test)]
 mod script_lines;
 #[cfg(test)]
-mod written_traces;
-#[cfg(test)]
 mod words;
+#[cfg(test)]
+mod written_traces;
