@@ -52,6 +52,17 @@ impl<F> Callbacks<F> {
         self.callbacks.as_slice()
     }
 
+    /// The callbacks themselves, in the order in which they came. No memory is taken.
+    pub fn into_vec(self) -> Vec<Callback<F>>
+        ensures { result.items ≡ self.list }
+    {
+        let Callbacks {
+            callbacks,
+            spare: _,
+        } = self;
+        callbacks
+    }
+
     /// Makes room for `n` more callbacks at least. Want of memory leaves all as it was.
     pub fn reserve(&mut self, n: usize) -> Result<(), AllocError>
         ensures list { self.new.list ≡ self.old.list }

@@ -1,6 +1,6 @@
 //! The answers to what pipelines hand out.
 
-ghost use Rattle.std.specs.Prelude.{◌≡◌, ◌+◌, ◌*◌, ◌≤◌, ◌++◌, ◌∷◌, [], length, map, sum_by, OnOk, IfOk};
+ghost use Rattle.std.specs.Prelude.{◌≡◌, ◌+◌, ◌*◌, ◌≤◌, ◌++◌, ◌∷◌, [], length, map, sum_by, OnOk};
 ghost use Rattle.std.specs.List.{flat_map};
 ghost use Rattle.board.specs.Handing.{completions};
 ghost use Rattle.dialogues.specs.Piping.{completion_said};
@@ -9,53 +9,49 @@ ghost use Rattle.transforms.specs.Finish.{finished_length};
 ghost use Rattle.script_session.specs.Saying.{callback_room};
 ghost use Rattle.script_session.specs.Telling.{callback_said};
 
-use kc_base::{Bytes, Callback, Errno};
+use kc_base::{Callback, Callbacks, Errno};
 use reply_text::{Answer, Reply};
 use session_calls::Lines;
-use std::alloc::{AllocError, Global};
+use std::alloc::AllocError;
 use transforms::Finished;
 
-fn completed(alloc: Global, line: u32, finished: &Finished) -> Result<Answer, AllocError>
-    ensures { IfOk result (λ answer. answer ≡ completion_said line finished.now) }
+fn completed(line: u32, finished: Finished) -> Answer
+    ensures { result ≡ completion_said line finished }
 {
     match finished {
-        Finished::Bytes(bytes) => Ok(Answer::Done {
-            line,
-            bytes: Bytes::copy_of(alloc, bytes.as_slice())?,
-        }),
-        Finished::BadMsg => Ok(Answer::Failed {
+        Finished::Bytes(bytes) => Answer::Done { line, bytes },
+        Finished::BadMsg => Answer::Failed {
             line,
             errno: Errno::EBADMSG,
-        }),
-        Finished::Invalid => Ok(Answer::Failed {
+        },
+        Finished::Invalid => Answer::Failed {
             line,
             errno: Errno::EINVAL,
-        }),
+        },
     }
 }
 
-fn told(alloc: Global, lines: &Lines, callback: &Callback<Finished>) -> Result<Answer, AllocError>
-    ensures { IfOk result (λ answer. answer ≡ callback_said lines.now callback.now) }
+fn told(lines: &Lines, callback: Callback<Finished>) -> Answer
+    ensures { result ≡ callback_said lines.now callback }
 {
     match callback {
-        Callback::Started(number) => Ok(Answer::Started {
-            line: lines.at(*number),
-        }),
-        Callback::Done(number, finished) => completed(alloc, lines.at(*number), finished),
+        Callback::Started(number) => Answer::Started {
+            line: lines.at(number),
+        },
+        Callback::Done(number, finished) => completed(lines.at(number), finished),
     }
 }
 
-/// Adds an answer for each callback, each under the line of its request.
+/// Adds an answer for each callback, each under the line of its request. The answers keep the callbacks' bytes.
 pub fn tell(
-    alloc: Global,
     lines: &Lines,
-    callbacks: &[Callback<Finished>],
+    callbacks: Callbacks<Finished>,
     answers: &mut Vec<Answer>,
 ) -> Result<(), AllocError>
-    ensures { OnOk result (answers.new.items ≡ answers.old.items ++ map (callback_said lines.now) callbacks.now) }
+    ensures { OnOk result (answers.new.items ≡ answers.old.items ++ map (callback_said lines.now) callbacks.list) }
 {
-    for callback in callbacks {
-        answers.push(told(alloc, lines, callback)?)?;
+    for callback in callbacks.into_vec() {
+        answers.push(told(lines, callback))?;
     }
     Ok(())
 }

@@ -92,7 +92,7 @@ fn drain_last<R: Wait, G: Gate>(
     let mut into = Callbacks::new(alloc);
     caller.drain(rt, board, gate, pipe, &mut into)?;
     let count = count_completions(into.as_slice());
-    tell(alloc, &pipe.lines, into.as_slice(), answers)?;
+    tell(&pipe.lines, into, answers)?;
     say_end(alloc, live.label(), count, answers)?;
     live.deliver(count);
     Ok(())

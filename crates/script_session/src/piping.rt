@@ -66,7 +66,7 @@ pub fn drain_live<R: Wait, G: Gate>(
     let mut into = Callbacks::new(alloc);
     caller.drain(rt, board, gate, pipe, &mut into)?;
     let count = count_completions(into.as_slice());
-    tell(alloc, &pipe.lines, into.as_slice(), answers)?;
+    tell(&pipe.lines, into, answers)?;
     say(answers, Answer::Drained { line, count })?;
     live.deliver(count);
     Ok(())
@@ -286,7 +286,7 @@ pub fn poll_live<R: Wait>(
     let mut into = Callbacks::new(alloc);
     caller.poll(rt, board, pipe, &mut into)?;
     let count = count_completions(into.as_slice());
-    tell(alloc, &pipe.lines, into.as_slice(), answers)?;
+    tell(&pipe.lines, into, answers)?;
     say(answers, Answer::Polled { line, count })?;
     live.deliver(count);
     Ok(())
