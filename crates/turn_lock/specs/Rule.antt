@@ -3,6 +3,7 @@
 use Rattle.std.specs.Prelude.{◌≡◌, ◌≢◌, ℕ, ◌+◌, ◌-◌, ◌%◌, ◌^◌, ◌<◌, ◌≤◌, List, [], ◌∷◌, ◌++◌, length, Option, Some, None, Bool, true, false, zero, suc}
 use mathlib.Core.Option.{some, none}
 use lib.ListN.{get_elem?}
+use Rattle.std.specs.Global.{Box}
 use Rattle.atomic_table.specs.Table.{State, Me, Step, rest}
 use Rattle.turn_lock.specs.Turns.{StartsWith, of, Each, Known, Shows, skipped, longer_of}
 use Rattle.turn_lock.specs.declared.view.View.{View}
@@ -54,6 +55,10 @@ InQueue drawn serving Spent t = Unit {0}
 InQueue drawn serving Idle t = Unit {0}
 InQueue drawn serving Waiting t = (serving ≤ t) × (t < drawn)
 InQueue drawn serving Holding t = (serving ≡ t) × (t < drawn)
+
+-- what a value in a piece of memory of its own stands for
+abbrev pub boxed : {T E : Type 0} → (T → List E) → Box T → List E
+boxed told b = told b.value
 
 module _ {E : Type 0} where
   abbrev pub known : View E → Known E

@@ -29,8 +29,9 @@ impl<T: Told> TurnLock<T> {
         requires { T.told value ≡ [] }
         ensures { IfOk result (λ r. IsPassOf r.0 r.1 × (knows r.1 ≡ newcomer)) }
     {
+        let boxed = Box::new(alloc, value)?;
         let mut slots = Vec::with_capacity(alloc, 1)?;
-        slots.push(Some(value))?;
+        slots.push(Some(boxed))?;
         match Table::new(alloc, &[0, 0, 0], slots, &()) {
             Ok((table, seat)) => Ok((TurnLock { table }, seated(0, 1, seat))),
             Err(Refused { slots: _ }) => Err(AllocError),
@@ -79,9 +80,9 @@ impl<T: Told> TurnLock<T> {
     // The same on a seat, where the number is known to the step's type.
     fn cut<N: Number>(
         &self,
-        seat: &mut Seat<Option<T>, View<T::Entry>>,
+        seat: &mut Seat<Option<Box<T>>, View<T::Entry>>,
         number: u32,
-    ) -> Seat<Option<T>, View<T::Entry>>
+    ) -> Seat<Option<Box<T>>, View<T::Entry>>
         requires seat { IsIdle self.now seat.old × (seat.old.me.0.next ≤ number) × (number + 1 < 2 ^ 32) }
         requires number { number ≡ N.number }
         ensures first { (seat.new.table_id ≡ seat.old.table_id) × (seat.new.me ≡ (giver number seat.old.me.0, [])) }
@@ -113,7 +114,7 @@ impl<T: Told> TurnLock<T> {
         requires { IsPassOf self pass }
         ensures { Shows T.by (knows pass) (T.told result) }
     {
-        self.wait(rt, pass.into_seat()).0
+        Box::into_inner(self.wait(rt, pass.into_seat()).0)
     }
 
     // Lets others have their turns first, for a while. Who draws a ticket where the lock is free has its turn at once; a thread
@@ -134,12 +135,12 @@ impl<T: Told> TurnLock<T> {
     fn wait<R: Wait>(
         &self,
         rt: &R,
-        mut seat: Seat<Option<T>, View<T::Entry>>,
-    ) -> (T, Seat<Option<T>, View<T::Entry>>)
+        mut seat: Seat<Option<Box<T>>, View<T::Entry>>,
+    ) -> (Box<T>, Seat<Option<Box<T>>, View<T::Entry>>)
         requires { IsIdle self.now seat }
         ensures seat { IsAtTurn self.now result.1 }
-        ensures pass { seat_knows result.1 ≡ sees (seat_knows seat) (T.told result.0) }
-        ensures shows { Shows T.by (seat_knows seat) (T.told result.0) }
+        ensures pass { seat_knows result.1 ≡ sees (seat_knows seat) (T.told result.0.value) }
+        ensures shows { Shows T.by (seat_knows seat) (T.told result.0.value) }
     {
         self.hesitate();
         let shared = &self.table.shared;

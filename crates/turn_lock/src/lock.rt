@@ -13,7 +13,8 @@ use std::alloc::Global;
 /// A lock round a value that stands for a history.
 #[derive(Drop)]
 pub struct TurnLock<T: Told> {
-    pub(crate) table: Table<Option<T>, View<T::Entry>, (), Turns<T>, Global>,
+    /// The value stands in a piece of memory of its own, so that a turn moves no more than its address.
+    pub(crate) table: Table<Option<Box<T>>, View<T::Entry>, (), Turns<T>, Global>,
     ghost shape: { (table.shared.table_id.words ≡ 3) × (table.shared.table_id.slots ≡ 1) },
 }
 
@@ -31,10 +32,10 @@ pub struct Pass<E> {
 /// A pass's turn, in which the value is its own. It ends by `give`.
 pub struct Turn<'a, T: Told> {
     pub(crate) lock: &'a TurnLock<T>,
-    pub(crate) value: T,
+    pub(crate) value: Box<T>,
     pub(crate) number: u32,
     pub(crate) next: u32,
-    pub(crate) seat: Seat<Option<T>, View<T::Entry>>,
+    pub(crate) seat: Seat<Option<Box<T>>, View<T::Entry>>,
     ghost numbers: { (seat.me.0.number ≡ number) × (seat.me.0.next ≡ next) },
     ghost holding: { (is_holding seat.me.0.stage ≡ true) × (is_out seat.me.1 ≡ true) },
     ghost own: { seat.table_id ≡ lock.now.table.shared.table_id },

@@ -3,7 +3,7 @@
 //! holds the value, or nothing while a turn is held.
 
 ghost use Rattle.std.specs.Prelude.{ℕ};
-ghost use Rattle.turn_lock.specs.Rule.{drew, found, appended, served, giver, receiver, joiner, spent, compared};
+ghost use Rattle.turn_lock.specs.Rule.{drew, found, appended, served, giver, receiver, joiner, spent, compared, boxed};
 
 use crate::told::Told;
 use crate::view::View;
@@ -15,10 +15,10 @@ pub struct Turns<T> {
     value: PhantomData<T>,
 }
 
-impl<T: Told> TableRule<Option<T>, View<T::Entry>, ()> for Turns<T> {
+impl<T: Told> TableRule<Option<Box<T>>, View<T::Entry>, ()> for Turns<T> {
     ghost use Rattle.turn_lock.specs.Rule.{Turned, first_view};
 
-    ghost holds = { λ _. Turned T.told T.by };
+    ghost holds = { λ _. Turned (boxed T.told) T.by };
 
     ghost first = { λ _. first_view };
 }
@@ -35,8 +35,8 @@ pub struct Finds<T> {
     value: PhantomData<T>,
 }
 
-impl<T: Told> Play<Option<T>, View<T::Entry>> for Finds<T> {
-    ghost then = { found T.told T.by };
+impl<T: Told> Play<Option<Box<T>>, View<T::Entry>> for Finds<T> {
+    ghost then = { found (boxed T.told) T.by };
 }
 
 /// The history has the pass's entry.
@@ -44,8 +44,8 @@ pub struct Appends<T> {
     value: PhantomData<T>,
 }
 
-impl<T: Told> Play<Option<T>, View<T::Entry>> for Appends<T> {
-    ghost then = { appended T.told T.by };
+impl<T: Told> Play<Option<Box<T>>, View<T::Entry>> for Appends<T> {
+    ghost then = { appended (boxed T.told) T.by };
 }
 
 /// The slot is given back, and the next ticket is served.
