@@ -1,7 +1,8 @@
 -- The members of a line, as they change places.
-use Rattle.std.proofs.Common.{◌≡◌, ◌≢◌, ℕ, suc, ◌+◌, ◌-◌, ◌<◌, ◌≤◌, Bool, Option, Some, None, true, false, List, [], ◌∷◌, ◌++◌, length, refl, sym, ◌∙◌, ap, subst, arith, inl, inr, ◌⊎◌, get_or, cond}
+use Rattle.std.proofs.Common.{◌≡◌, ◌≢◌, ℕ, suc, ◌+◌, ◌-◌, ◌<◌, ◌≤◌, Bool, Option, Some, None, true, false, List, [], ◌∷◌, ◌++◌, length, refl, sym, ◌∙◌, ap, subst, arith, inl, inr, ◌⊎◌, get_or, cond, not, is_some, nat_lt}
 use Rattle.std.specs.Prelude.{◌||◌, nat_eq, slice_get, swap, swap_remove, slice_set, position, IfSome}
-use Rattle.std.specs.List.{list_any}
+use Rattle.std.specs.List.{list_any, position_or_len}
+use Rattle.std.proofs.lemmas.Grind.{common_steps}
 use Rattle.std.proofs.lemmas.Bool.{eqb-true, eq-eqb, cases_eq, cases_lt, both_ways}
 use Rattle.std.proofs.lemmas.Option.{slice_get_within, slice_get_read, get_or_from_slice_get}
 use Rattle.std.proofs.lemmas.List.{length-set, length-take, length-append, get_or-set_same, get_or-set_other, get_or-take, get_or_append_left}
@@ -108,6 +109,22 @@ joined_cases false xs q e =
 pub inserted_member : (xs : List ℕ) (q : ℕ) → (k : ℕ) × (slice_get (insert_key nat_eq xs q) k ≡ Some q)
 inserted_member xs q = joined_cases (list_any (nat_eq q) xs) xs q refl
 
+-- a search finds a place where something passes
+first_step : (b c : Bool) (a n : ℕ) → nat_lt a n ≡ c → nat_lt (cond (not b) (1 + a) 0) (suc n) ≡ (b || c)
+first_step true c a n e = grind (arith, common_steps)
+first_step false c a n e = grind (arith, common_steps)
+
+first_passes : (test : ℕ → Bool) (xs : List ℕ) → nat_lt (position_or_len test xs) (length xs) ≡ list_any test xs
+first_passes test [] = refl
+first_passes test (x ∷ xs) = first_step (test x) (list_any test xs) (position_or_len test xs) (length xs) (first_passes test xs)
+
+some_where : (b : Bool) (i : ℕ) → is_some (cond b (Some i) None) ≡ b
+some_where true i = refl
+some_where false i = refl
+
+searched : (xs : List ℕ) (q : ℕ) → is_some (position (nat_eq q) xs) ≡ list_any (nat_eq q) xs
+searched xs q = some_where (nat_lt (position_or_len (nat_eq q) xs) (length xs)) (position_or_len (nat_eq q) xs) ∙ first_passes (nat_eq q) xs
+
 -- the place that a search finds
 pub found_place : (xs : List ℕ) (q i : ℕ) → position (nat_eq q) xs ≡ Some i → slice_get xs i ≡ Some q
 found_place xs q i e = (let s = position-Some (nat_eq q) xs i q e in slice_get_read xs (length xs) i q refl s.0 (eqb-true q (get_or xs i q) s.1))
@@ -119,8 +136,8 @@ first_cases xs q i k e h (inr g) = g
 pub found_first : (xs : List ℕ) (q i k : ℕ) → position (nat_eq q) xs ≡ Some i → slice_get xs k ≡ Some q → i ≤ k
 found_first xs q i k e h = first_cases xs q i k e h (cases_lt k i)
 
-pub not_found : (xs : List ℕ) (q k : ℕ) → list_any (nat_eq q) xs ≡ false → slice_get xs k ≡ Some q → ⊥
-not_found xs q k n h = both_ways (list_any (nat_eq q) xs) n (any_passes_from_place (nat_eq q) xs k q h (eq-eqb q q refl))
+pub not_found : (xs : List ℕ) (q k : ℕ) → position (nat_eq q) xs ≡ None → slice_get xs k ≡ Some q → ⊥
+not_found xs q k n h = both_ways (list_any (nat_eq q) xs) (sym (searched xs q) ∙ ap is_some n) (any_passes_from_place (nat_eq q) xs k q h (eq-eqb q q refl))
 
 -- ---- the last member in the place of one that leaves
 

@@ -1,11 +1,14 @@
 //! Lines of pipelines that may have a job to run, or a request to pass on.
 
-ghost use Rattle.std.specs.Prelude.{◌≡◌, ℕ, ◌<◌, ◌≤◌, true, false, length, slice_get, Some, OnOk, MatchOption};
+ghost use Rattle.std.specs.Prelude.{◌≡◌, ℕ, ◌<◌, ◌≤◌, true, false, length, slice_get, Some, OnOk, IfSome, MatchOption, nat_eq, position};
 ghost use Rattle.board.specs.Ready.{IsMember, IsInLine, no_pipelines, Keeps, KeepsPipe, KeepsOthers, IsTold};
 
 use indexmap::IndexSet;
 use std::alloc::{AllocError, Global};
 use std::marker::Model;
+
+/// Among so few members a number is looked for one by one, which takes less time than to hash it.
+const FEW: usize = 8;
 
 /// The pipelines, by their numbers, that may stand in a line. To set one in line, or to take it out, two of them change places.
 #[derive(Drop)]
@@ -45,6 +48,9 @@ impl Ready {
         ensures kept { Keeps self.old self.new }
         ensures joined { OnOk result (IsMember self.new pipe) }
     {
+        if let Some(_) = place_of(&self.members, pipe) {
+            return Ok(());
+        }
         self.members.insert(pipe)?;
         Ok(())
     }
@@ -66,7 +72,7 @@ impl Ready {
     pub(crate) fn leave(&mut self, pipe: u64)
         ensures others { KeepsOthers pipe self.old self.new }
     {
-        if let Some(place) = self.members.get_index_of(&pipe) {
+        if let Some(place) = place_of(&self.members, pipe) {
             let last = self.take_out(place);
             self.members.swap_remove_index(last);
         }
@@ -80,7 +86,7 @@ impl Ready {
         if self.ready == self.members.len() {
             return;
         }
-        if let Some(place) = self.members.get_index_of(&pipe) {
+        if let Some(place) = place_of(&self.members, pipe) {
             if self.ready <= place {
                 self.members.swap_indices(place, self.ready);
                 self.ready += 1;
@@ -94,7 +100,7 @@ impl Ready {
         ensures member { IsMember self.old pipe → IsMember self.new pipe }
         ensures fewer { IsInLine self.old pipe → self.new.ready < self.old.ready }
     {
-        if let Some(place) = self.members.get_index_of(&pipe) {
+        if let Some(place) = place_of(&self.members, pipe) {
             self.take_out(place);
         }
     }
@@ -140,6 +146,17 @@ impl Ready {
         self.turn = turn_after(self.turn, place);
         self.ready
     }
+}
+
+/// The place of a pipeline among members.
+fn place_of(members: &IndexSet<u64>, pipe: u64) -> Option<usize>
+    ensures index { result ≡ position (nat_eq pipe) members.now.keys }
+    ensures within { IfSome result (λ place. place < length members.now.keys) }
+{
+    if members.len() <= FEW {
+        return members.iter().position(|member| *member == pipe);
+    }
+    members.get_index_of(&pipe)
 }
 
 /// Whose turn it is when the last in line has come to this place: its own, where the place had the last turn.

@@ -21,4 +21,4 @@ returns-else-self-place-clause-added c m =
     (c.in-Some.place, omega (arith, c.if-self-place.false), found_place c.self.inside.members.keys c.args.pipe c.in-Some.place (sym c.in-Some.ensures.index))
 
 pub returns-in_default-clause-added : goal.returns-in_default-clause-added
-returns-in_default-clause-added c m = absurd (subst (λ line. IsMember line c.args.pipe → ⊥) c.self.view_is (λ m. not_found c.self.inside.members.keys c.args.pipe m.0 (sym c.in_default.ensures.found) m.1) m)
+returns-in_default-clause-added c m = absurd (subst (λ line. IsMember line c.args.pipe → ⊥) c.self.view_is (λ m. not_found c.self.inside.members.keys c.args.pipe m.0 (sym c.in_default.ensures.index) m.1) m)

@@ -24,4 +24,4 @@ returns-in-Some-clause-fewer c s =
 pub returns-in_default-clause-fewer : goal.returns-in_default-clause-fewer
 returns-in_default-clause-fewer c s =
     let t = subst (λ line. IsInLine line c.args.pipe) (sym c.self.view_is) s in
-    absurd (not_found c.self.inside.members.keys c.args.pipe t.0 (sym c.in_default.ensures.found) t.2)
+    absurd (not_found c.self.inside.members.keys c.args.pipe t.0 (sym c.in_default.ensures.index) t.2)
