@@ -7,7 +7,7 @@ use indexmap::IndexSet;
 use std::alloc::{AllocError, Global};
 use std::marker::Model;
 
-/// Among so few members a number is looked for one by one, which takes less time than to hash it.
+/// So many members are few: a number is looked for among them one by one, which takes less time than to hash it.
 const FEW: usize = 8;
 
 /// The pipelines, by their numbers, that may stand in a line. To set one in line, or to take it out, two of them change places.
@@ -105,13 +105,15 @@ impl Ready {
         }
     }
 
-    /// Sets a member in line where it is ready, and otherwise takes it out. No memory is taken.
+    /// Sets a member in line where it is ready. Where it isn't, it leaves the line, but among few it stays until who looks there finds it
+    /// so: while jobs are taken as soon as they come, no line changes then, and none has to pass from one processor to the next. No memory
+    /// is taken.
     pub(crate) fn set(&mut self, pipe: u64, ready: bool)
         ensures { IsTold pipe false ready self.old self.new }
     {
         if ready {
             self.add(pipe);
-        } else {
+        } else if self.members.len() > FEW {
             self.remove(pipe);
         }
     }

@@ -6,8 +6,8 @@
 
 ghost use Rattle.std.specs.Prelude.{◌≤◌};
 
-use crossbeam_utils::Backoff;
 use crossbeam_utils::sync::{EventCount, Key};
+use crossbeam_utils::{Backoff, CachePadded};
 use std::sync::Wait;
 use std::sync::atomic::{AtomicBool, AtomicU64, Ordering};
 
@@ -29,7 +29,7 @@ impl<'a> Watch<'a> {
     }
 }
 
-/// The bells of a board.
+/// The bells of a board. What each job changes has cache lines of its own, since the rest is read at each turn.
 #[derive(Drop)]
 pub(crate) struct Bells {
     /// Rings where a job may be taken.
@@ -43,9 +43,9 @@ pub(crate) struct Bells {
     /// Whether some queue or chain was made: the end of its job lets the next be taken, and nothing rings for that.
     queues: AtomicBool,
     /// How many jobs came that no worker has noticed. Some may have been taken all the same.
-    unnoticed: AtomicU64,
+    unnoticed: CachePadded<AtomicU64>,
     /// How many workers stay awake for a job.
-    awake: AtomicU64,
+    awake: CachePadded<AtomicU64>,
 }
 
 impl Bells {
@@ -56,8 +56,8 @@ impl Bells {
             over: AtomicBool::new(false),
             masked: AtomicBool::new(false),
             queues: AtomicBool::new(false),
-            unnoticed: AtomicU64::new(0),
-            awake: AtomicU64::new(0),
+            unnoticed: CachePadded::new(AtomicU64::new(0)),
+            awake: CachePadded::new(AtomicU64::new(0)),
         }
     }
 
