@@ -1,6 +1,7 @@
-//! The look-ups and steps of sealing on one block, in a vector of 16 bytes. ShiftRows moves bytes that the S-box takes one by one, so it is left
-//! undone: the state of a round is one that ShiftRows, done once for each round, puts in order, and MixColumns finds the bytes of a column where
-//! they then lie. After four times each byte is back in its place, so there are four arrangements.
+//! The look-ups and steps of sealing on one block, in a vector of 16 bytes.
+//!
+//! The S-box takes bytes one by one, so ShiftRows is left undone: the state after round n is one that ShiftRows, done n times, puts in order, and
+//! MixColumns takes the bytes of a column from where they then lie. Four times leave each byte in its place, so there are four arrangements.
 
 ghost use Rattle.std.specs.Prelude.{◌≡◌, ℕ, length, map, take, bit_xor};
 ghost use Rattle.std.specs.Fn.{iterate};
@@ -18,24 +19,24 @@ use std::simd::prelude::*;
 
 const FRONT: [usize; 16] = [0, 1, 2, 3, 4, 5, 6, 7, 8, 9, 10, 11, 12, 13, 14, 15];
 
-/// From where each byte comes by ShiftRows, done 0 to 3 times.
-const SHIFTED: [[u8; 16]; 4] = [
+/// From where each byte comes by ShiftRows, done 0 to 3 times. A constant would be copied wherever an entry is read.
+static SHIFTED: [[u8; 16]; 4] = [
     [0, 1, 2, 3, 4, 5, 6, 7, 8, 9, 10, 11, 12, 13, 14, 15],
     [0, 5, 10, 15, 4, 9, 14, 3, 8, 13, 2, 7, 12, 1, 6, 11],
     [0, 9, 2, 11, 4, 13, 6, 15, 8, 1, 10, 3, 12, 5, 14, 7],
     [0, 13, 10, 7, 4, 1, 14, 11, 8, 5, 2, 15, 12, 9, 6, 3],
 ];
 
-/// Where the next byte of each byte's column lies, in the four arrangements.
-const ONE_ON: [[u8; 16]; 4] = [
+/// Where the byte one on in each byte's column lies, in the four arrangements.
+static ONE_ON: [[u8; 16]; 4] = [
     [1, 2, 3, 0, 5, 6, 7, 4, 9, 10, 11, 8, 13, 14, 15, 12],
     [5, 6, 7, 4, 9, 10, 11, 8, 13, 14, 15, 12, 1, 2, 3, 0],
     [9, 10, 11, 8, 13, 14, 15, 12, 1, 2, 3, 0, 5, 6, 7, 4],
     [13, 14, 15, 12, 1, 2, 3, 0, 5, 6, 7, 4, 9, 10, 11, 8],
 ];
 
-/// Where the one before it lies.
-const THREE_ON: [[u8; 16]; 4] = [
+/// Where the byte three on lies.
+static THREE_ON: [[u8; 16]; 4] = [
     [3, 0, 1, 2, 7, 4, 5, 6, 11, 8, 9, 10, 15, 12, 13, 14],
     [15, 12, 13, 14, 3, 0, 1, 2, 7, 4, 5, 6, 11, 8, 9, 10],
     [11, 8, 9, 10, 15, 12, 13, 14, 3, 0, 1, 2, 7, 4, 5, 6],
@@ -140,7 +141,7 @@ pub(crate) fn one_made_last(y: u8x16) -> u8x16
     less ^ u8x16::splat(0x63)
 }
 
-/// Sums of elements, whichever times of ShiftRows put their states in order.
+/// Sums of elements, in whichever arrangement.
 #[inline(always)]
 fn one_added(x: u8x16, y: u8x16) -> u8x16
     ensures { (n : ℕ) → ordered n result ≡ zip2 bit_xor (ordered n x) (ordered n y) }

@@ -14,7 +14,7 @@ pub(crate) struct TowerKey {
     pub(crate) elements: u8x16,
 }
 
-/// The key of a round. ShiftRows three times takes back one.
+/// The key of a round, arranged by ShiftRows undone once for each round: three times undo one.
 fn tower_key(key: u8x16, round: usize) -> TowerKey
     requires { round < 15 }
     ensures { ordered round result.elements ≡ map less_constant key }
