@@ -10,5 +10,6 @@ mod RowKeyVectors
 mod TowerKeyVectors
 mod RowsUnsealed
 mod SealingTerms
+mod Shifted
 mod RowsSealed
 mod OneSealed

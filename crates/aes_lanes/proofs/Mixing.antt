@@ -32,7 +32,7 @@ all_doubled (x ∷ xs) h = rw (one_doubled x h.0.fits, all_doubled xs h.1) refl
 
 -- ---- MixColumns
 
-places_below : (y : ℕ → ℕ) → ((i : ℕ) → y i < 256) → (k : ℕ) → slice_index (map y places) k < 256
+pub places_below : (y : ℕ → ℕ) → ((i : ℕ) → y i < 256) → (k : ℕ) → slice_index (map y places) k < 256
 places_below y at k =
     ⊎_elim
     (λ (l : k < 16). subst (λ (n : ℕ). n < 256) (sym (get_or-map-range_with_len y 0 16 k k 0 l (zero-add k))) (at k))

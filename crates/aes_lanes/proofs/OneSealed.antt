@@ -1,5 +1,6 @@
 -- one block sealed in the tower
-use Rattle.std.specs.Prelude.{◌≡◌, ℕ, ◌+◌, ◌-◌, ◌*◌, ◌/◌, ◌%◌, ◌<◌, ◌≤◌, List, ◌++◌, map, length, take, slice_index, bit_xor, refl}
+use Rattle.std.specs.Prelude.{◌≡◌, ℕ, suc, ◌+◌, ◌-◌, ◌*◌, ◌/◌, ◌%◌, ◌<◌, ◌≤◌, List, ◌++◌, map, length, take, slice_index, bit_xor, refl}
+use Rattle.std.specs.Fn.{iterate}
 use Rattle.std.specs.Int.Bits.{xor_assoc}
 use Rattle.std.proofs.Common.{sym, ◌∙◌, ap, ap₂, arith, subst}
 use Rattle.std.proofs.lemmas.List.{length-map}
@@ -13,13 +14,15 @@ use Rattle.aes_block.proofs.Rounds.{sealing_more, sealed_all, round_key_is}
 use Rattle.aes_lanes.specs.KeyBlock.{key_block}
 use Rattle.aes_lanes.specs.Pairs.{turned}
 use Rattle.aes_lanes.specs.RowKeys.{less_constant}
-use Rattle.aes_lanes.specs.SealingTower.{tower_byte, less_sbox}
+use Rattle.aes_lanes.specs.SealingTower.{tower_byte, less_sbox, ordered}
 use Rattle.aes_lanes.proofs.Halves.{of_places, front}
 use Rattle.aes_lanes.proofs.Lookups.{IsVector}
 use Rattle.aes_lanes.proofs.Mixing.{mixed_lanes, mixed_block}
 use Rattle.aes_lanes.proofs.RowsMixed.{AreBytes}
 use Rattle.aes_lanes.proofs.RowsSealed.{made_row, made_bytes, keyed_block}
 use Rattle.aes_lanes.proofs.RowsUnsealed.{block_long}
+use Rattle.aes_lanes.proofs.SealingTerms.{all_added}
+use Rattle.aes_lanes.proofs.Shifted.{shift_map, shifts_long, shifts_more, shifts_map, shifts_sum, shifts_bytes}
 
 -- ---- MixColumns
 
@@ -36,7 +39,7 @@ terms_moved a b c d k =
     ∙ ap (λ v. bit_xor v k) (ap (λ v. bit_xor v d) (sym (xor_assoc (bit_xor p q) b c)) ∙ xor_assoc (bit_xor (bit_xor p q) b) c d)
     ∙ ap (λ v. bit_xor (bit_xor (bit_xor v b) (bit_xor c d)) k) (sym (mul8-xor 2 a b))
 
--- what the function `one_mixed` adds up, of the bytes s behind the S-box and the key k
+-- what the function `one_round` adds up, of the bytes s behind the S-box and the key k, both in order
 mixed_with : List ℕ → List ℕ → List ℕ
 mixed_with s k =
     let front : List ℕ = zip2 bit_xor (map (mul8 2) s) (turned 1 s) in
@@ -49,29 +52,45 @@ lanes_moved s k long key_long =
     of_places 16 (λ k. mixed_with (map z places) k ≡ zip2 bit_xor (mixed_lanes (map z places)) k) (λ w j.
     map (λ i. terms_moved (z i) (z (4 * (i / 4) + (i + 1) % 4)) (z (4 * (i / 4) + (i + 2) % 4)) (z (4 * (i / 4) + (i + 3) % 4)) (w i) j) places) k key_long) s long
 
-pub one_mixed_is : (y key once twice next front last rest most turn r : List ℕ) → IsVector 16 y → length key ≡ 16
-    → map tower_byte once ≡ map (λ y. less_sbox (tower_byte y)) y → map tower_byte twice ≡ map (λ y. mul8 2 (less_sbox (tower_byte y))) y
-    → map tower_byte next ≡ turned 1 (map tower_byte once) → map tower_byte front ≡ zip2 bit_xor (map tower_byte twice) (map tower_byte next)
-    → map tower_byte last ≡ turned 3 (map tower_byte once) → map tower_byte rest ≡ zip2 bit_xor (map tower_byte last) (map tower_byte key)
-    → map tower_byte most ≡ zip2 bit_xor (map tower_byte rest) (map tower_byte front) → map tower_byte turn ≡ turned 1 (map tower_byte front)
-    → map tower_byte r ≡ zip2 bit_xor (map tower_byte most) (map tower_byte turn)
-    → map tower_byte r ≡ zip2 bit_xor (mix_columns (map (λ y. less_sbox (tower_byte y)) y)) (map tower_byte key)
-unfolding mixed_with
-one_mixed_is y key once twice next front last rest most turn r fits key_long e1 e2 e3 e4 e5 e6 e7 e8 e9 =
-    let a : List ℕ = made_row y in
-    let k : List ℕ = map tower_byte key in
-    let long : length (made_row y) ≡ 16 = length-map y (λ y. less_sbox (tower_byte y)) ∙ fits.0 in
-    let f : map tower_byte front ≡ zip2 bit_xor (map (mul8 2) a) (turned 1 a) =
-    e4 ∙ ap₂ (zip2 bit_xor) (e2 ∙ sym (map-map (mul8 2) (λ y. less_sbox (tower_byte y)) y)) (e3 ∙ ap (turned 1) e1) in
-    let all : map tower_byte r ≡ mixed_with a k =
-    e9 ∙ ap₂ (zip2 bit_xor) (e7 ∙ ap₂ (zip2 bit_xor) (e6 ∙ ap (λ (v : List ℕ). zip2 bit_xor v k) (e5 ∙ ap (turned 3) e1)) f) (e8 ∙ ap (turned 1) f) in
-    all ∙ lanes_moved a k long (length-map key tower_byte ∙ key_long) ∙ ap (λ (v : List ℕ). zip2 bit_xor v k) (block_mixed a long (made_bytes y fits.1))
-
 -- ---- a round
 
-shift_map : (f : ℕ → ℕ) (x : List ℕ) → length x ≡ 16 → map f (shift_rows x) ≡ shift_rows (map f x)
-unfolding shift_rows
-shift_map f = of_places 16 (λ x. map f (shift_rows x) ≡ shift_rows (map f x)) (λ z. refl)
+made_in_order : (n : ℕ) (y : List ℕ) → length y ≡ 16 → iterate shift_rows n (made_row y) ≡ map less_sbox (ordered n y)
+made_in_order n y long =
+    ap (iterate shift_rows n) (sym (map-map less_sbox tower_byte y)) ∙ sym (shifts_map less_sbox n (map tower_byte y) (length-map y tower_byte ∙ long))
+
+once_in_order : (n : ℕ) (y once : List ℕ) → length y ≡ 16 → map tower_byte once ≡ made_row y → ordered n once ≡ map less_sbox (ordered n y)
+once_in_order n y once long e = ap (iterate shift_rows n) e ∙ made_in_order n y long
+
+twice_in_order : (n : ℕ) (y twice : List ℕ) → length y ≡ 16 → map tower_byte twice ≡ map (λ y. mul8 2 (less_sbox (tower_byte y))) y
+    → ordered n twice ≡ map (mul8 2) (map less_sbox (ordered n y))
+twice_in_order n y twice long e =
+    ap (iterate shift_rows n) (e ∙ sym (map-map (mul8 2) (λ y. less_sbox (tower_byte y)) y))
+    ∙ sym (shifts_map (mul8 2) n (made_row y) (length-map y (λ y. less_sbox (tower_byte y)) ∙ long))
+    ∙ ap (map (mul8 2)) (made_in_order n y long)
+
+pub one_round_is : (n : ℕ) (y key once twice next front last rest most turn r : List ℕ) → IsVector 16 y → length key ≡ 16
+    → map tower_byte once ≡ map (λ y. less_sbox (tower_byte y)) y → map tower_byte twice ≡ map (λ y. mul8 2 (less_sbox (tower_byte y))) y
+    → ordered n next ≡ turned 1 (ordered n once) → ordered n front ≡ zip2 bit_xor (ordered n twice) (ordered n next)
+    → ordered n last ≡ turned 3 (ordered n once) → ordered n rest ≡ zip2 bit_xor (ordered n last) (ordered n key)
+    → ordered n most ≡ zip2 bit_xor (ordered n rest) (ordered n front) → ordered n turn ≡ turned 1 (ordered n front)
+    → ordered n r ≡ zip2 bit_xor (ordered n most) (ordered n turn)
+    → ordered n r ≡ zip2 bit_xor (mix_columns (map less_sbox (ordered n y))) (ordered n key)
+unfolding mixed_with
+one_round_is n y key once twice next front last rest most turn r fits key_long e1 e2 e3 e4 e5 e6 e7 e8 e9 =
+    let a : List ℕ = map less_sbox (ordered n y) in
+    let k : List ℕ = ordered n key in
+    let made : ordered n once ≡ map less_sbox (ordered n y) = once_in_order n y once fits.0 e1 in
+    let long : length a ≡ 16 = length-map (ordered n y) less_sbox ∙ shifts_long n (map tower_byte y) (length-map y tower_byte ∙ fits.0) in
+    let bytes : AreBytes a = subst AreBytes (made_in_order n y fits.0) (shifts_bytes n (made_row y) (made_bytes y fits.1)) in
+    let f : ordered n front ≡ zip2 bit_xor (map (mul8 2) a) (turned 1 a) = e4 ∙ ap₂ (zip2 bit_xor) (twice_in_order n y twice fits.0 e2) (e3 ∙ ap (turned 1) made) in
+    let all : ordered n r ≡ mixed_with a k =
+    e9 ∙ ap₂ (zip2 bit_xor) (e7 ∙ ap₂ (zip2 bit_xor) (e6 ∙ ap (λ (v : List ℕ). zip2 bit_xor v k) (e5 ∙ ap (turned 3) made)) f) (e8 ∙ ap (turned 1) f) in
+    all ∙ lanes_moved a k long (shifts_long n (map tower_byte key) (length-map key tower_byte ∙ key_long)) ∙ ap (λ (v : List ℕ). zip2 bit_xor v k) (block_mixed a long bytes)
+
+pub sum_in_order : (x y r : List ℕ) → IsVector 16 x → IsVector 16 y → r ≡ zip2 bit_xor x y → (n : ℕ) → ordered n r ≡ zip2 bit_xor (ordered n x) (ordered n y)
+sum_in_order x y r h k e n =
+    ap (ordered n) e ∙ ap (iterate shift_rows n) (all_added x y h.1 k.1)
+    ∙ shifts_sum n (map tower_byte x) (map tower_byte y) (length-map x tower_byte ∙ h.0) (length-map y tower_byte ∙ k.0)
 
 keyed_state : (ws : List (List ℕ)) (r : ℕ) (s : List ℕ) → length s ≡ 16
     → zip2 bit_xor (mix_columns (shift_rows (map less_sbox s))) (map less_constant (key_block ws r)) ≡ add_round_key ws r (mix_columns (shift_rows (sub_bytes s)))
@@ -89,27 +108,38 @@ unfolding after_rounds
 first_key r ws s h = round_key_is r ws 0 s h (omega arith)
 
 pub one_begun : (r : ℕ) (ws : List (List ℕ)) (b key sum y : List ℕ) → IsSchedule r ws → length b ≡ 16 → key ≡ key_block ws 0 → sum ≡ zip2 bit_xor b key → map tower_byte y ≡ sum
-    → map tower_byte y ≡ after_rounds (key_schedule (key_of r ws)) b 0
+    → ordered 0 y ≡ after_rounds (key_schedule (key_of r ws)) b 0
 one_begun r ws b key sum y h long k e f = f ∙ e ∙ ap (zip2 bit_xor b) k ∙ plain_key ws 0 b long ∙ first_key r ws b h
 
-pub one_more : (r : ℕ) (ws : List (List ℕ)) (i : ℕ) (b y key z : List ℕ) → IsSchedule r ws → 1 ≤ i → i < r → length y ≡ 16 → map tower_byte key ≡ map less_constant (key_block ws i)
-    → map tower_byte y ≡ after_rounds (key_schedule (key_of r ws)) b (i - 1)
-    → map tower_byte z ≡ zip2 bit_xor (mix_columns (map (λ y. less_sbox (tower_byte y)) (shift_rows y))) (map tower_byte key)
-    → map tower_byte z ≡ after_rounds (key_schedule (key_of r ws)) b (i + 1 - 1)
-one_more r ws i b y key z h from below long k before e =
-    let tl : length (map tower_byte y) ≡ 16 = length-map y tower_byte ∙ long in
-    e ∙ ap₂ (λ (s t : List ℕ). zip2 bit_xor (mix_columns s) t)
-    (sym (map-map less_sbox tower_byte (shift_rows y)) ∙ ap (map less_sbox) (shift_map tower_byte y long) ∙ shift_map less_sbox (map tower_byte y) tl) k
-    ∙ keyed_state ws i (map tower_byte y) tl
-    ∙ sealing_more r ws b (map tower_byte y) i h from below before
+-- a state that ShiftRows, done once for each round before, puts in order is there for the next round when it was done once more
+next_order : (i : ℕ) (s : List ℕ) → 1 ≤ i → iterate shift_rows i s ≡ shift_rows (iterate shift_rows (i - 1) s)
+next_order i s from =
+    let next : i ≡ suc (i - 1) = omega arith in
+    ap (λ n. iterate shift_rows n s) next ∙ shifts_more (i - 1) s
 
-pub one_end : (r : ℕ) (ws : List (List ℕ)) (i : ℕ) (b y shifted made key z : List ℕ) → IsSchedule r ws → i ≡ r → length y ≡ 16 → key ≡ key_block ws r
-    → map tower_byte y ≡ after_rounds (key_schedule (key_of r ws)) b (i - 1) → shifted ≡ shift_rows y → made ≡ map (λ y. sbox (tower_byte y)) shifted → z ≡ zip2 bit_xor made key
+pub one_more : (r : ℕ) (ws : List (List ℕ)) (i : ℕ) (b y key z : List ℕ) → IsSchedule r ws → 1 ≤ i → i < r → length y ≡ 16 → ordered i key ≡ map less_constant (key_block ws i)
+    → ordered (i - 1) y ≡ after_rounds (key_schedule (key_of r ws)) b (i - 1)
+    → ordered i z ≡ zip2 bit_xor (mix_columns (map less_sbox (ordered i y))) (ordered i key)
+    → ordered (i + 1 - 1) z ≡ after_rounds (key_schedule (key_of r ws)) b (i + 1 - 1)
+one_more r ws i b y key z h from below long k before e =
+    let s : List ℕ = ordered (i - 1) y in
+    let sl : length (ordered (i - 1) y) ≡ 16 = shifts_long (i - 1) (map tower_byte y) (length-map y tower_byte ∙ long) in
+    let same : i + 1 - 1 ≡ i = omega arith in
+    ap (λ n. ordered n z) same ∙ e
+    ∙ ap₂ (λ (s t : List ℕ). zip2 bit_xor (mix_columns s) t) (ap (map less_sbox) (next_order i (map tower_byte y) from) ∙ shift_map less_sbox s sl) k
+    ∙ keyed_state ws i s sl
+    ∙ sealing_more r ws b s i h from below before
+
+pub one_end : (r : ℕ) (ws : List (List ℕ)) (i : ℕ) (b y made shifted key z : List ℕ) → IsSchedule r ws → i ≡ r → 1 ≤ r → length y ≡ 16 → key ≡ key_block ws r
+    → ordered (i - 1) y ≡ after_rounds (key_schedule (key_of r ws)) b (i - 1) → made ≡ map (λ y. sbox (tower_byte y)) y → shifted ≡ iterate shift_rows r made → z ≡ zip2 bit_xor shifted key
     → z ≡ seal (key_of r ws) b
 unfolding shift_rows
-one_end r ws i b y shifted made key z h at long k before es em e =
+one_end r ws i b y made shifted key z h at from long k before em es e =
+    let t : List ℕ = map tower_byte y in
     let tl : length (map tower_byte y) ≡ 16 = length-map y tower_byte ∙ long in
-    let m : made ≡ shift_rows (sub_bytes (map tower_byte y)) =
-    em ∙ ap (map (λ y. sbox (tower_byte y))) es ∙ sym (map-map sbox tower_byte (shift_rows y)) ∙ ap (map sbox) (shift_map tower_byte y long) ∙ shift_map sbox (map tower_byte y) tl in
-    e ∙ ap₂ (zip2 bit_xor) m k ∙ plain_key ws r (shift_rows (sub_bytes (map tower_byte y))) refl
-    ∙ sealed_all r ws b (map tower_byte y) h (before ∙ ap (λ (n : ℕ). after_rounds (key_schedule (key_of r ws)) b (n - 1)) at)
+    let s : List ℕ = ordered (r - 1) y in
+    let m : shifted ≡ shift_rows (sub_bytes s) =
+    es ∙ ap (iterate shift_rows r) (em ∙ sym (map-map sbox tower_byte y)) ∙ sym (shifts_map sbox r t tl)
+    ∙ ap (map sbox) (next_order r t from) ∙ shift_map sbox s (shifts_long (r - 1) t tl) in
+    e ∙ ap₂ (zip2 bit_xor) m k ∙ plain_key ws r (shift_rows (sub_bytes s)) refl
+    ∙ sealed_all r ws b s h (subst (λ (n : ℕ). ordered (n - 1) y ≡ after_rounds (key_schedule (key_of r ws)) b (n - 1)) at before)

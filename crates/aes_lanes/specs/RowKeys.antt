@@ -1,7 +1,7 @@
 -- round keys by rows, and in the tower
 use Rattle.std.specs.Prelude.{◌≡◌, ℕ, ◌+◌, ◌*◌, ◌%◌, ◌<◌, List, [], ◌∷◌, map, take, slice_index, slice_index_or, bit_xor}
 use Rattle.std_defs.specs.Aes.{places, inverse_mix_columns}
-use Rattle.aes_lanes.specs.SealingTower.{tower_byte}
+use Rattle.aes_lanes.specs.SealingTower.{tower_byte, ordered}
 use Rattle.aes_lanes.specs.Tower.{state_byte}
 use Rattle.aes_lanes.specs.Pairs.{each_half}
 use Rattle.aes_lanes.specs.RoundKeys.{vectors_of}
@@ -32,9 +32,9 @@ StandFor f g keys rows = (r : ℕ) → r < 15 → slice_index_or (map (bytes_by 
 abbrev pub less_constant : ℕ → ℕ
 less_constant x = bit_xor x 0x63
 
--- each is the block of its round with the constant, in the tower
+-- each is the block of its round with the constant, in the tower, arranged as the state of its round
 abbrev pub AreTowerKeys : List RoundKey → List TowerKey → Type 0
-AreTowerKeys keys tower = (r : ℕ) → r < 15 → map tower_byte (slice_index_or (map (λ k. k.elements) tower) r []) ≡ map less_constant (take 16 (slice_index_or (vectors_of keys) r []))
+AreTowerKeys keys tower = (r : ℕ) → r < 15 → ordered r (slice_index_or (map (λ k. k.elements) tower) r []) ≡ map less_constant (take 16 (slice_index_or (vectors_of keys) r []))
 
 abbrev pub AreSealingKeys : List RoundKey → List RowKey → Type 0
 AreSealingKeys keys rows = StandFor tower_byte (map less_constant) keys rows

@@ -1,11 +1,15 @@
 //! The look-ups and steps of sealing on one block, in a vector of 16 bytes.
+//!
+//! The S-box takes bytes one by one, so ShiftRows is left undone: the state after round n is one that ShiftRows, done n times, puts in order, and
+//! MixColumns takes the bytes of a column from where they then lie. Four times leave each byte in its place, so there are four arrangements.
 
-ghost use Rattle.std.specs.Prelude.{◌≡◌, length, map, take, bit_xor};
+ghost use Rattle.std.specs.Prelude.{◌≡◌, ℕ, length, map, take, bit_xor};
+ghost use Rattle.std.specs.Fn.{iterate};
 ghost use Rattle.std.specs.Simd.Lanes.{zip2};
 ghost use Rattle.std_defs.specs.Aes.{mul8, sbox, shift_rows, mix_columns};
 ghost use Rattle.aes_lanes.specs.Lookup.{look, AreIndices, low, high, first_part, second_part};
 ghost use Rattle.aes_lanes.specs.Pairs.{turned};
-ghost use Rattle.aes_lanes.specs.SealingTower.{tower_byte, less_sbox};
+ghost use Rattle.aes_lanes.specs.SealingTower.{tower_byte, less_sbox, ordered};
 
 use crate::lookup::{
     FIRST_FROM_TOWER, HIGH_TO_TOWER, INVERSE, LOW_TO_TOWER, RATIO, SECOND_FROM_TOWER,
@@ -15,11 +19,29 @@ use std::simd::prelude::*;
 
 const FRONT: [usize; 16] = [0, 1, 2, 3, 4, 5, 6, 7, 8, 9, 10, 11, 12, 13, 14, 15];
 
-const SHIFTED: [usize; 16] = [0, 5, 10, 15, 4, 9, 14, 3, 8, 13, 2, 7, 12, 1, 6, 11];
+/// From where each byte comes by ShiftRows, done 0 to 3 times. A constant would be copied wherever an entry is read.
+static SHIFTED: [[u8; 16]; 4] = [
+    [0, 1, 2, 3, 4, 5, 6, 7, 8, 9, 10, 11, 12, 13, 14, 15],
+    [0, 5, 10, 15, 4, 9, 14, 3, 8, 13, 2, 7, 12, 1, 6, 11],
+    [0, 9, 2, 11, 4, 13, 6, 15, 8, 1, 10, 3, 12, 5, 14, 7],
+    [0, 13, 10, 7, 4, 1, 14, 11, 8, 5, 2, 15, 12, 9, 6, 3],
+];
 
-const ONE_ON: [usize; 16] = [1, 2, 3, 0, 5, 6, 7, 4, 9, 10, 11, 8, 13, 14, 15, 12];
+/// Where the byte one on in each byte's column lies, in the four arrangements.
+static ONE_ON: [[u8; 16]; 4] = [
+    [1, 2, 3, 0, 5, 6, 7, 4, 9, 10, 11, 8, 13, 14, 15, 12],
+    [5, 6, 7, 4, 9, 10, 11, 8, 13, 14, 15, 12, 1, 2, 3, 0],
+    [9, 10, 11, 8, 13, 14, 15, 12, 1, 2, 3, 0, 5, 6, 7, 4],
+    [13, 14, 15, 12, 1, 2, 3, 0, 5, 6, 7, 4, 9, 10, 11, 8],
+];
 
-const THREE_ON: [usize; 16] = [3, 0, 1, 2, 7, 4, 5, 6, 11, 8, 9, 10, 15, 12, 13, 14];
+/// Where the byte three on lies.
+static THREE_ON: [[u8; 16]; 4] = [
+    [3, 0, 1, 2, 7, 4, 5, 6, 11, 8, 9, 10, 15, 12, 13, 14],
+    [15, 12, 13, 14, 3, 0, 1, 2, 7, 4, 5, 6, 11, 8, 9, 10],
+    [11, 8, 9, 10, 15, 12, 13, 14, 3, 0, 1, 2, 7, 4, 5, 6],
+    [7, 4, 5, 6, 11, 8, 9, 10, 15, 12, 13, 14, 3, 0, 1, 2],
+];
 
 /// The first of two blocks.
 #[inline(always)]
@@ -119,52 +141,44 @@ pub(crate) fn one_made_last(y: u8x16) -> u8x16
     less ^ u8x16::splat(0x63)
 }
 
-/// Sums of elements.
+/// Sums of elements, in whichever arrangement.
 #[inline(always)]
 fn one_added(x: u8x16, y: u8x16) -> u8x16
-    ensures { map tower_byte result ≡ zip2 bit_xor (map tower_byte x) (map tower_byte y) }
+    ensures { (n : ℕ) → ordered n result ≡ zip2 bit_xor (ordered n x) (ordered n y) }
 {
     x ^ y
 }
 
-/// ShiftRows.
+/// ShiftRows, so many times.
 #[inline(always)]
-pub(crate) fn one_shifted(x: u8x16) -> u8x16
-    ensures { result ≡ shift_rows x }
+pub(crate) fn shifted(x: u8x16, times: usize) -> u8x16
+    ensures { result ≡ iterate shift_rows times x }
 {
-    x.swizzle(SHIFTED)
+    looked_up(x.to_array(), u8x16::from_array(SHIFTED[times % 4]))
 }
 
 #[inline(always)]
-fn one_on(x: u8x16) -> u8x16
-    ensures { map tower_byte result ≡ turned 1 (map tower_byte x) }
+fn one_on(x: u8x16, round: usize) -> u8x16
+    ensures { ordered round result ≡ turned 1 (ordered round x) }
 {
-    x.swizzle(ONE_ON)
+    looked_up(x.to_array(), u8x16::from_array(ONE_ON[round % 4]))
 }
 
 #[inline(always)]
-fn three_on(x: u8x16) -> u8x16
-    ensures { map tower_byte result ≡ turned 3 (map tower_byte x) }
+fn three_on(x: u8x16, round: usize) -> u8x16
+    ensures { ordered round result ≡ turned 3 (ordered round x) }
 {
-    x.swizzle(THREE_ON)
+    looked_up(x.to_array(), u8x16::from_array(THREE_ON[round % 4]))
 }
 
-/// SubBytes less its constant, MixColumns, and a key added. The next round waits for the last shuffle alone, since the key and the other terms
-/// are added before.
+/// A round of one block, under a key in the tower to which the constant of the S-box was added. The next round waits for the last shuffle alone,
+/// since the key and the other terms are added before.
 #[inline(always)]
-fn one_mixed(y: u8x16, key: u8x16) -> u8x16
-    ensures { map tower_byte result ≡ zip2 bit_xor (mix_columns (map (λ y. less_sbox (tower_byte y)) y)) (map tower_byte key) }
+pub(crate) fn one_round(y: u8x16, key: u8x16, round: usize) -> u8x16
+    ensures { ordered round result ≡ zip2 bit_xor (mix_columns (map less_sbox (ordered round y))) (ordered round key) }
 {
     let (once, twice) = one_made(y);
-    let front = one_added(twice, one_on(once));
-    let rest = one_added(three_on(once), key);
-    one_added(one_added(rest, front), one_on(front))
-}
-
-/// A round of one block, under a key in the tower to which the constant of the S-box was added.
-#[inline(always)]
-pub(crate) fn one_round(y: u8x16, key: u8x16) -> u8x16
-    ensures { map tower_byte result ≡ zip2 bit_xor (mix_columns (map (λ y. less_sbox (tower_byte y)) (shift_rows y))) (map tower_byte key) }
-{
-    one_mixed(one_shifted(y), key)
+    let front = one_added(twice, one_on(once, round));
+    let rest = one_added(three_on(once, round), key);
+    one_added(one_added(rest, front), one_on(front, round))
 }

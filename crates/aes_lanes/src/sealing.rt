@@ -10,7 +10,7 @@ ghost use Rattle.aes_lanes.specs.SealingTower.{tower_byte};
 
 use crate::lane_schedule::LaneSchedule;
 use crate::lookup::sum;
-use crate::one_block::{self, front_of, one_in_tower, one_made_last, one_round, one_shifted};
+use crate::one_block::{self, front_of, one_in_tower, one_made_last, one_round, shifted};
 use crate::rows::{Rows, pairs_of, rows_of};
 use crate::sealing_rows::{made_and_mixed, sealing_key_added, shifted_rows};
 use crate::sealing_tower::{in_sealing_tower, made_last};
@@ -74,9 +74,9 @@ impl LaneSchedule {
     {
         let mut state = one_in_tower(one_block::sum(b, front_of(self.keys[0].twice)));
         for round in 1..self.rounds {
-            state = one_round(state, self.tower_keys[round].elements);
+            state = one_round(state, self.tower_keys[round].elements, round);
         }
         let last = front_of(self.keys[self.rounds].twice);
-        one_block::sum(one_made_last(one_shifted(state)), last)
+        one_block::sum(shifted(one_made_last(state), self.rounds), last)
     }
 }

@@ -1,25 +1,26 @@
 //! Round keys as they are added to one block, in the tower.
 
-ghost use Rattle.std.specs.Prelude.{◌≡◌, map};
-ghost use Rattle.aes_lanes.specs.SealingTower.{tower_byte};
+ghost use Rattle.std.specs.Prelude.{◌≡◌, ◌<◌, map};
+ghost use Rattle.aes_lanes.specs.SealingTower.{ordered};
 ghost use Rattle.aes_lanes.specs.RowKeys.{less_constant, AreTowerKeys};
 
-use crate::one_block::{front_of, one_in_tower};
+use crate::one_block::{front_of, one_in_tower, shifted};
 use crate::round_keys::RoundKey;
 use std::simd::prelude::*;
 
-/// A round key with the constant that the S-box adds, in the tower.
+/// A round key with the constant that the S-box adds, in the tower, arranged as the state of its round.
 #[derive(Clone, Copy)]
 pub(crate) struct TowerKey {
     pub(crate) elements: u8x16,
 }
 
-/// A round key, in the tower.
-fn tower_key(key: u8x16) -> TowerKey
-    ensures { map tower_byte result.elements ≡ map less_constant key }
+/// The key of a round, arranged by ShiftRows undone once for each round: three times undo one.
+fn tower_key(key: u8x16, round: usize) -> TowerKey
+    requires { round < 15 }
+    ensures { ordered round result.elements ≡ map less_constant key }
 {
     TowerKey {
-        elements: one_in_tower(key ^ u8x16::splat(0x63)),
+        elements: one_in_tower(shifted(key ^ u8x16::splat(0x63), 3 * round)),
     }
 }
 
@@ -31,7 +32,7 @@ pub(crate) fn tower_keys(keys: &[RoundKey; 15]) -> [TowerKey; 15]
         elements: u8x16::splat(0),
     }; 15];
     for round in 0..15usize {
-        in_tower[round] = tower_key(front_of(keys[round].twice));
+        in_tower[round] = tower_key(front_of(keys[round].twice), round);
     }
     in_tower
 }

@@ -1,9 +1,8 @@
-use Rattle.std.specs.Prelude.{ℕ, List, map, bit_xor}
-use Rattle.std.proofs.Common.{◌∙◌, ap}
-use lib.Lanes.{zip2}
-use Rattle.std_defs.specs.Aes.{mix_columns}
-use Rattle.aes_lanes.specs.SealingTower.{tower_byte, less_sbox}
+use Rattle.aes_lanes.proofs.OneSealed.{one_round_is}
 use Rattle.aes_lanes.proofs.one_block.one_round.Goals as goal
 
 pub returns : goal.returns
-returns c = c.one_mixed.ensures ∙ ap (λ (s : List ℕ). zip2 bit_xor (mix_columns (map (λ y. less_sbox (tower_byte y)) s)) (map tower_byte c.args.key)) c.one_shifted.ensures
+returns c =
+    let n = c.args.round in
+    one_round_is n c.args.y c.args.key _ _ _ _ _ _ _ _ _ c.fits-y c.fits-key.0 c.one_made.ensures.once c.one_made.ensures.twice c.one_on.ensures (c.one_added-front.ensures n)
+    c.three_on.ensures (c.one_added-rest.ensures n) (c.one_added.ensures n) c.one_on-2.ensures (c.one_added-2.ensures n)

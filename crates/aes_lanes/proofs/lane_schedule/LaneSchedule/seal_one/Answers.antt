@@ -3,7 +3,7 @@ use Rattle.std.proofs.Common.{arith, ap, sym, ◌∙◌}
 use Rattle.std.proofs.lemmas.List.{get_or-map}
 use Rattle.aes_lanes.specs.RoundKeys.{schedule_of}
 use Rattle.aes_lanes.specs.RowKeys.{less_constant}
-use Rattle.aes_lanes.specs.SealingTower.{tower_byte}
+use Rattle.aes_lanes.specs.SealingTower.{ordered}
 use Rattle.aes_block.proofs.Rounds.{at_least_ten, at_most_fourteen}
 use Rattle.aes_lanes.proofs.KeyVectors.{vector_at}
 use Rattle.aes_lanes.proofs.OneSealed.{front_key, one_begun, one_more, one_end}
@@ -21,12 +21,13 @@ loop-round-preserved c =
     let i = c.loop-round.round in
     let within : i < 15 = omega (arith, at_most_fourteen s.rounds (schedule_of s.keys) s.scheduled) in
     one_more s.rounds (schedule_of s.keys) i c.args.b c.loop-round.state _ _ s.scheduled (omega arith) (omega arith) (omega arith)
-    (ap (map tower_byte) (sym (get_or-map (λ k. k.elements) s.tower_keys i (record { elements = [] }) [] (omega arith))) ∙ s.in_tower i within ∙ ap (map less_constant) (front_key (schedule_of s.keys) i _ _ refl (s.twice i within)))
+    (ap (ordered i) (sym (get_or-map (λ k. k.elements) s.tower_keys i (record { elements = [] }) [] (omega arith))) ∙ s.in_tower i within ∙ ap (map less_constant) (front_key (schedule_of s.keys) i _ _ refl (s.twice i within)))
     c.loop-round.invariant c.one_round-state.ensures
 
 pub returns : goal.returns
 returns c =
     let s = c.args.self.now in
-    one_end s.rounds (schedule_of s.keys) c.loop-round.round c.args.b c.loop-round.state _ _ _ _ s.scheduled (omega (arith, at_least_ten s.rounds (schedule_of s.keys) s.scheduled)) (omega arith)
+    one_end s.rounds (schedule_of s.keys) c.loop-round.round c.args.b c.loop-round.state _ _ _ _ s.scheduled (omega (arith, at_least_ten s.rounds (schedule_of s.keys) s.scheduled))
+    (omega (arith, at_least_ten s.rounds (schedule_of s.keys) s.scheduled)) (omega arith)
     (front_key (schedule_of s.keys) s.rounds _ _ c.front_of-last.ensures (vector_at s.keys s.rounds (record { twice = [] }) (omega arith) (omega (arith, at_most_fourteen s.rounds (schedule_of s.keys) s.scheduled)) s.twice))
-    c.loop-round.invariant c.one_shifted.ensures c.one_made_last.ensures c.sum-2.ensures
+    c.loop-round.invariant c.one_made_last.ensures c.shifted.ensures c.sum-2.ensures
