@@ -15,7 +15,7 @@ pub returns-clause-turn : goal.returns-clause-turn
 returns-clause-turn g c =
     let k = knows c.args.pass in
     let t = c.take-turn.ensures in
-    let h = c.take-turn.result.value.entries.items in
+    let h = c.take-turn.result.value.value.entries.items in
     let y = c.add-answer.new.self in
     let told : Log → List Entry = λ log. log.entries.items in
     let by : Entry → ℕ = λ e. e.by in
