@@ -1,8 +1,11 @@
-//! A script's lines, answered by its session and written one by one.
+//! A script's lines, answered by its session. Their answers are written together: before more is read, and where they are many.
 
-ghost use Rattle.std.specs.Prelude.{OnOk, ◌≡◌, ◌+◌, ◌^◌, ◌≤◌, [], length, MatchResult, IfOk, IsErrOf, false};
+ghost use Rattle.std.specs.Prelude.{OnOk, OnErr, ◌≡◌, ◌+◌, ◌^◌, ◌≤◌, List, ℕ, [], length, MatchResult, IfOk, IfSome, IsErrOf, false};
+ghost use Rattle.std.specs.Io.KnownBytes.{Appends};
 ghost use Rattle.board.specs.Legal.{is_shut};
-ghost use Rattle.kc_base.specs.Streams.{Rose};
+ghost use Rattle.kc_base.specs.Streams.{Rose, AppendsFront};
+ghost use Rattle.script_text.specs.NextLine.{FindsNext, StandsAt};
+ghost use Rattle.script_text.specs.Pending.{IsPending};
 ghost use Rattle.script_text.specs.Sizes.{IsShortLine};
 ghost use Rattle.dialogues.specs.Lines.{line_dialogue};
 ghost use Rattle.dialogues.specs.Widths.{width_of};
@@ -12,6 +15,7 @@ ghost use Rattle.script_session.specs.Ending.{AnswersEnd, EndsShut};
 ghost use Rattle.script_run.specs.Text.{is_malformed};
 ghost use Rattle.script_run.specs.Laws.{Laws};
 ghost use Rattle.script_run.specs.Answered.{RunsSource};
+ghost use Rattle.script_run.specs.Keeping.{IsKept, LooksOn};
 ghost use Rattle.script_run.specs.Runs.{GoesOn, Writes, Breaks, IsFresh, IsUnshutOrEnds};
 
 use crate::errors::RunError;
@@ -19,7 +23,7 @@ use crew::Gate;
 use dialogues::{
     board_calls_go_on, calls_at_once, calls_in_turn, lines_lead, registry_calls_go_on, turns_follow,
 };
-use kc_base::{Sink, SinkError, Source, write_piece};
+use kc_base::{InputError, Sink, SinkError, Source, write_piece};
 use reply_text::Reply;
 use script_session::Session;
 use script_text::{Line, LineReader, whole_lines_stay};
@@ -33,6 +37,9 @@ use transforms::Job;
 
 /// The most bytes of input.
 pub const MAX_INPUT: usize = 268_435_456;
+
+/// So many bytes of answers are written, even where whole lines are left.
+const MOST_KEPT: usize = 65_536;
 
 /// What texts and calls are as histories go on.
 pub fn laws()
@@ -52,31 +59,101 @@ fn is_malformed_line(line: &Line) -> bool
     matches!(line, Line::Malformed)
 }
 
-// The text of the answers to one line, and whether it is malformed.
-fn reply_to<G: Gate, R: Threads + Wait + Sync>(
+// Writes the answers that are kept, and keeps none.
+fn write_kept<K: Sink>(kept: &mut Reply, out: &mut K) -> Result<(), SinkError>
+    ensures bytes { MatchResult result
+        (λ _. Appends (K.held out.old) (K.held out.new) kept.old.text × (kept.new.text ≡ []))
+        (λ _. AppendsFront (K.held out.old) (K.held out.new) kept.old.text) }
+    ensures later { K.faults out.old ≤ K.faults out.new }
+    ensures cause { IsErrOf result SinkError.Failed → Rose (K.faults out.old) (K.faults out.new) }
+{
+    write_piece(out, kept.as_slice())?;
+    kept.truncate(0);
+    Ok(())
+}
+
+// Writes the answers that are kept, where no whole line is left or they are many.
+fn write_due<K: Sink>(reader: &LineReader, kept: &mut Reply, out: &mut K) -> Result<(), SinkError>
+    ensures bytes { (pending : List ℕ) → IsPending pending reader.now.kept → MatchResult result
+        (λ _. IsKept pending kept.old.text kept.new.text (K.held out.old) (K.held out.new))
+        (λ _. AppendsFront (K.held out.old) (K.held out.new) kept.old.text) }
+    ensures later { K.faults out.old ≤ K.faults out.new }
+    ensures cause { IsErrOf result SinkError.Failed → Rose (K.faults out.old) (K.faults out.new) }
+{
+    if reader.has_line() && kept.len() < MOST_KEPT {
+        return Ok(());
+    }
+    write_kept(kept, out)
+}
+
+// The next line. Where none is found, the answers that are kept are written, as far as may be.
+fn find_line<S: Source, K: Sink>(
+    reader: &mut LineReader,
+    src: &mut S,
+    kept: &Reply,
+    out: &mut K,
+) -> Result<Option<Line>, InputError>
+    ensures line { (pending : List ℕ) → StandsAt pending reader.old (S.left src.old) → FindsNext pending reader.old reader.new (S.left src.old) (S.left src.new) result }
+    ensures short { IfOk result (λ answer. IfSome answer IsShortLine) }
+    ensures unwritten { OnOk result (out.new ≡ out.old) }
+    ensures front { OnErr result (AppendsFront (K.held out.old) (K.held out.new) kept.now.text) }
+    ensures read_later { S.faults src.old ≤ S.faults src.new }
+    ensures write_later { K.faults out.old ≤ K.faults out.new }
+    ensures cause { IsErrOf result InputError.Failed → Rose (S.faults src.old) (S.faults src.new) }
+{
+    let found = reader.next(src);
+    if found.is_err() {
+        let _ = write_piece(out, kept.as_slice());
+    }
+    found
+}
+
+// The next line. The answers that are kept are written before more is read, and where they are many.
+fn next_line<S: Source, K: Sink>(
+    reader: &mut LineReader,
+    src: &mut S,
+    kept: &mut Reply,
+    out: &mut K,
+) -> Result<Option<Line>, RunError>
+    ensures next { (pending : List ℕ) → StandsAt pending reader.old (S.left src.old) → LooksOn pending reader.old reader.new (S.left src.old) (S.left src.new) kept.old.text kept.new.text (K.held out.old) (K.held out.new) result }
+    ensures short { IfOk result (λ answer. IfSome answer IsShortLine) }
+    ensures read_later { S.faults src.old ≤ S.faults src.new }
+    ensures write_later { K.faults out.old ≤ K.faults out.new }
+    ensures read_fault { IsErrOf result RunError.ReadFault → Rose (S.faults src.old) (S.faults src.new) }
+    ensures write_fault { IsErrOf result RunError.WriteFault → Rose (K.faults out.old) (K.faults out.new) }
+    ensures usage { IsErrOf result RunError.Usage → ⊥ }
+{
+    write_due(reader, kept, out)?;
+    Ok(find_line(reader, src, kept, out)?)
+}
+
+// Adds the answers to one line to those that are kept. Where memory is wanting, these are written, as far as may be.
+fn answer_line<K: Sink, G: Gate, R: Threads + Wait + Sync>(
     rt: &R,
-    alloc: Global,
     board: &SharedBoard<Job>,
     registry: &SharedRegistry,
     gate: &G,
     session: &mut Session,
     number: u32,
     line: Line,
-) -> Result<(Reply, bool), AllocError>
+    kept: &mut Reply,
+    out: &mut K,
+) -> Result<(), AllocError>
     requires ready { IsReady registry.now board.now session.old }
     requires short { IsShortLine line }
     ensures done { MatchResult result
-        (λ reply. Replies (width_of line) (line_dialogue session.old.workers session.old.walk number line) session.old session.new [] reply.0.text)
-        (λ _. GoesOn session.old session.new) }
+        (λ _. Replies (width_of line) (line_dialogue session.old.workers session.old.walk number line) session.old session.new kept.old.text kept.new.text × (out.new ≡ out.old))
+        (λ _. GoesOn session.old session.new × AppendsFront (K.held out.old) (K.held out.new) kept.old.text) }
     ensures ready { OnOk result (IsReady registry.now board.now session.new) }
     ensures unshut { (known session.new.board).number ≡ 0 → is_shut (known session.new.board).seen ≡ false }
-    ensures malformed { IfOk result (λ reply. reply.1 ≡ is_malformed line) }
+    ensures later { K.faults out.old ≤ K.faults out.new }
 {
-    let malformed = is_malformed_line(&line);
-    let mut reply = Reply::new(alloc);
-    match session.line(rt, board, registry, gate, number, line, &mut reply) {
-        Ok(()) => Ok((reply, malformed)),
-        Err(Stop::Memory) => Err(AllocError),
+    match session.line(rt, board, registry, gate, number, line, kept) {
+        Ok(()) => Ok(()),
+        Err(Stop::Memory) => {
+            let _ = write_piece(out, kept.as_slice());
+            Err(AllocError)
+        }
     }
 }
 
@@ -104,34 +181,6 @@ fn reply_to_end<G: Gate, R: Wait>(
     }
 }
 
-// Answers one line in one piece, and says whether it is malformed.
-fn run_line<K: Sink, G: Gate, R: Threads + Wait + Sync>(
-    rt: &R,
-    alloc: Global,
-    board: &SharedBoard<Job>,
-    registry: &SharedRegistry,
-    gate: &G,
-    session: &mut Session,
-    number: u32,
-    line: Line,
-    out: &mut K,
-) -> Result<bool, SinkError>
-    requires ready { IsReady registry.now board.now session.old }
-    requires short { IsShortLine line }
-    ensures done { MatchResult result
-        (λ _. Writes (Replies (width_of line) (line_dialogue session.old.workers session.old.walk number line) session.old session.new []) (K.held out.old) (K.held out.new))
-        (λ _. Breaks session.old session.new (Replies (width_of line) (line_dialogue session.old.workers session.old.walk number line) session.old session.new []) (K.held out.old) (K.held out.new)) }
-    ensures ready { OnOk result (IsReady registry.now board.now session.new) }
-    ensures unshut { (known session.new.board).number ≡ 0 → is_shut (known session.new.board).seen ≡ false }
-    ensures malformed { IfOk result (λ bad. bad ≡ is_malformed line) }
-    ensures later { K.faults out.old ≤ K.faults out.new }
-    ensures cause { IsErrOf result SinkError.Failed → Rose (K.faults out.old) (K.faults out.new) }
-{
-    let (reply, malformed) = reply_to(rt, alloc, board, registry, gate, session, number, line)?;
-    write_piece(out, reply.as_slice())?;
-    Ok(malformed)
-}
-
 // Answers the end of input.
 fn run_end<K: Sink, G: Gate, R: Wait>(
     rt: &R,
@@ -156,8 +205,8 @@ fn run_end<K: Sink, G: Gate, R: Wait>(
     write_piece(out, reply.as_slice())
 }
 
-/// Answers each line out of the source and its end, each in one piece, and says whether a line is malformed. It reads on only
-/// where each whole line of what was read is answered. A failed read, more bytes than `MAX_INPUT`, a failed write and want of
+/// Answers each line out of the source and its end, and says whether a line is malformed. It reads on only where each whole line of
+/// what was read is answered, and the answers are written. A failed read, more bytes than `MAX_INPUT`, a failed write and want of
 /// memory stop it.
 pub fn run_lines<S: Source, K: Sink, G: Gate, R: Threads + Wait + Sync>(
     rt: &R,
@@ -180,10 +229,14 @@ pub fn run_lines<S: Source, K: Sink, G: Gate, R: Threads + Wait + Sync>(
     laws();
     whole_lines_stay();
     let mut reader = LineReader::new(alloc, MAX_INPUT)?;
+    let mut kept = Reply::new(alloc);
     let mut number = 1u32;
     let mut malformed = false;
-    while let Some(line) = reader.next(src)? {
-        let bad = run_line(rt, alloc, board, registry, gate, session, number, line, out)?;
+    while let Some(line) = next_line(&mut reader, src, &mut kept, out)? {
+        let bad = is_malformed_line(&line);
+        answer_line(
+            rt, board, registry, gate, session, number, line, &mut kept, out,
+        )?;
         malformed |= bad;
         number += 1;
     }

@@ -1,6 +1,6 @@
 -- Lines cut out of bytes that come in pieces.
 use Rattle.std.proofs.Common.{◌≡◌, ℕ, zero, suc, ◌+◌, ◌-◌, ◌<◌, ◌≤◌, ◌&&◌, Bool, true, false, not, cond, List, [], ◌∷◌, length, take, drop, get_or, Option, Some, None, inl, inr, refl, sym, ap, ap₂, ◌∙◌, arith, ◌++◌, map, subst, append-nil, append_assoc, length-append, add-one}
-use Rattle.std.specs.Prelude.{nat_lt, ◌==◌, if◌then◌else◌, filter, slice_index, MatchOption}
+use Rattle.std.specs.Prelude.{nat_lt, ◌==◌, if◌then◌else◌, filter, slice_index, MatchOption, MatchBool, is_some}
 use Rattle.memchr.specs.Find.{IsFirstByte}
 use Rattle.std.proofs.lemmas.Bool.Decides.{nat_tests}
 use Rattle.std.proofs.lemmas.Bool.{cases_Bool, cases_lt, and_parts}
@@ -10,7 +10,7 @@ use Rattle.std.proofs.lemmas.List.Sums.{prefix_len_passes, prefix_len_stops}
 use Rattle.std.proofs.lemmas.List.Elements.{All-from_get_or, All-contains, Contains-append_right, Contains-append_cases, Contains-get_or, All-cons, All-nil}
 use Rattle.std.specs.List.{onto_first, position_or_len, All, Contains}
 use Rattle.script_text.specs.Lines.{is_feed, lines_of, ends_with, without_return, without_last}
-use Rattle.script_text.specs.Pending.{Kept, IsFirstFeed, CutsNext, CutsLast, kept_of, all_seen, all_begun}
+use Rattle.script_text.specs.Pending.{Kept, IsPending, IsFirstFeed, CutsNext, CutsLast, kept_of, all_seen, all_begun}
 use Rattle.script_text.specs.Script.{line_of, line_of_text, line_of_tokens, script_of}
 use Rattle.script_text.specs.Tokens.{tokens_of}
 use Rattle.script_text.specs.Whole.{whole_script, AreFirst, WholeLinesStay, NoWholeLine}
@@ -54,6 +54,16 @@ feed_found bytes (Some place) found = first_feed bytes place (place_found is_fee
 
 pub no_feed_in : (xs ys : List ℕ) → (Contains xs 10 → ⊥) → (Contains ys 10 → ⊥) → Contains (xs ++ ys) 10 → ⊥
 no_feed_in xs ys a b has = elim (Contains-append_cases xs ys 10 has) [ inl l ↦ a l | inr r ↦ b r ]
+
+-- whether a search finds one says whether one is pending, since the line that has begun has none
+pub pending_feed : (unseen : List ℕ) (answer : Option ℕ) → MatchOption answer (Contains unseen 10 → ⊥) (IsFirstFeed unseen)
+    → (bytes : List ℕ) (kept : Kept) → kept.unseen ≡ unseen → IsPending bytes kept → MatchBool (is_some answer) (Contains bytes 10) (Contains bytes 10 → ⊥)
+pending_feed unseen None none bytes kept same is =
+    λ has. no_feed_in is.begun kept.unseen is.no_feed (subst (λ xs. Contains xs 10 → ⊥) (sym same) none) (subst (λ xs. Contains xs 10) is.bytes_are has)
+pending_feed unseen (Some place) found bytes kept same is =
+    let before = take place unseen in
+    let there : Contains unseen 10 = subst (λ xs. Contains xs 10) (sym found.bytes_are) (Contains-append_right before (10 ∷ drop (place + 1) unseen) 10 (0, omega arith, refl)) in
+    subst (λ xs. Contains xs 10) (sym is.bytes_are) (Contains-append_right is.begun kept.unseen 10 (subst (λ xs. Contains xs 10) (sym same) there))
 
 pub none_in_none : Contains {X = ℕ} [] 10 → ⊥
 none_in_none has = absurd (omega (arith, has.1))

@@ -1,7 +1,7 @@
 //! Lines out of pieces that come one after another.
 
-ghost use Rattle.std.specs.Prelude.{◌≡◌, ◌||◌, ◌&&◌, not, length, nat_eq, nat_lt, ◌≤◌, ◌++◌, List, ℕ, [], ◌∷◌, Some, drop, true, false, vec_len, IfSome, IfOk, OnOk, OnErr};
-ghost use Rattle.script_text.specs.Pending.{all_seen, CutsNext, CutsLast};
+ghost use Rattle.std.specs.Prelude.{◌≡◌, ◌||◌, ◌&&◌, not, length, nat_eq, nat_lt, ◌≤◌, ◌++◌, List, ℕ, [], ◌∷◌, Some, drop, true, false, vec_len, Contains, MatchBool, IfSome, IfOk, OnOk, OnErr};
+ghost use Rattle.script_text.specs.Pending.{all_seen, IsPending, CutsNext, CutsLast};
 ghost use Rattle.script_text.specs.Script.{line_of};
 ghost use Rattle.script_text.specs.Sizes.{IsShortLine};
 
@@ -98,6 +98,13 @@ impl LineCutter {
         self.seen -= self.at;
         self.at = 0;
         self.bytes.extend_from_slice(piece)
+    }
+
+    /// Whether a line feed ends a line of what is left.
+    pub fn has_line(&self) -> bool
+        ensures { (bytes : List ℕ) → IsPending bytes self.now → MatchBool result (Contains bytes 10) (Contains bytes 10 → ⊥) }
+    {
+        feed_place(&self.bytes[self.seen..]).is_some()
     }
 
     // No line feed stands in what has come.

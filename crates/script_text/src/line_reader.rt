@@ -1,9 +1,9 @@
 //! A script's lines out of a source, each before more is read.
 
-ghost use Rattle.std.specs.Prelude.{◌≡◌, ◌<◌, ◌≤◌, ◌⊎◌, List, ℕ, [], Some, true, false, length, vec_len, IfSome, IfOk, OnOk, IfErr, IsErrOf};
+ghost use Rattle.std.specs.Prelude.{◌≡◌, ◌<◌, ◌≤◌, ◌⊎◌, List, ℕ, [], Some, true, false, length, vec_len, Contains, MatchBool, IfSome, IfOk, OnOk, IfErr, IsErrOf};
 ghost use Rattle.kc_base.specs.Streams.{Rose};
 ghost use Rattle.script_text.specs.NextLine.{StandsAt, ReadsPiece, FindsNext};
-ghost use Rattle.script_text.specs.Pending.{CutsNext, CutsLast};
+ghost use Rattle.script_text.specs.Pending.{IsPending, CutsNext, CutsLast};
 ghost use Rattle.script_text.specs.Sizes.{IsShortLine};
 
 use crate::commands::Line;
@@ -60,6 +60,13 @@ impl LineReader {
         ensures { result ≡ self.now.ended }
     {
         self.ended
+    }
+
+    /// Whether a whole line is left of what was read.
+    pub fn has_line(&self) -> bool
+        ensures { (pending : List ℕ) → IsPending pending self.now.kept → MatchBool result (Contains pending 10) (Contains pending 10 → ⊥) }
+    {
+        self.cutter.has_line()
     }
 
     // The next whole line of what was read.
