@@ -25,6 +25,6 @@ returns-clause-moved g c =
     (c.in_ok-say_end.ensures
     ∙ (ap (λ x. x ++ end_said c.label.result.now count)
     (c.in_ok-tell.ensures
-    ∙ (ap (λ ls. had ++ map (callback_said ls) c.as_slice-2.result.now) (ap (λ (p : Pipe). p.lines) c.pipe-2.view_is)
-    ∙ ap (λ cs. had ++ map (callback_said pipe.lines) cs) (c.as_slice-2.ensures ∙ from-empty c.new-into.result _ _ c.new-into.ensures d.1)))
+    ∙ (ap (λ ls. had ++ map (callback_said ls) c.drain.new.into.list) (ap (λ (p : Pipe). p.lines) c.pipe-2.view_is)
+    ∙ ap (λ cs. had ++ map (callback_said pipe.lines) cs) (from-empty c.new-into.result _ _ c.new-into.ensures d.1)))
     ∙ (ap (λ l. (had ++ told) ++ end_said l count) c.label.ensures ∙ append_assoc had told (end_said live.label count))))

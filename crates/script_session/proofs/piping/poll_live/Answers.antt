@@ -35,6 +35,6 @@ returns-clause-held g c =
     (c.in_ok-say.ensures
     ∙ (ap (λ x. x ++ tail)
     (c.in_ok-tell.ensures
-    ∙ (ap (λ ls. had ++ map (callback_said ls) c.as_slice-2.result.now) (ap (λ (p : Pipe). p.lines) c.pipe-2.view_is)
-    ∙ ap (λ cs. had ++ map (callback_said pipe.lines) cs) (c.as_slice-2.ensures ∙ from-empty c.new-into.result _ _ c.new-into.ensures d.2)))
+    ∙ (ap (λ ls. had ++ map (callback_said ls) c.poll.new.into.list) (ap (λ (p : Pipe). p.lines) c.pipe-2.view_is)
+    ∙ ap (λ cs. had ++ map (callback_said pipe.lines) cs) (from-empty c.new-into.result _ _ c.new-into.ensures d.2)))
     ∙ append_assoc had (map (callback_said pipe.lines) d.0) tail))
