@@ -3,7 +3,8 @@
 ghost use Rattle.std.specs.Prelude.{◌≡◌, ◌≤◌, ◌++◌, ◌-◌, length, replicate};
 ghost use Rattle.std_defs.specs.Hmac.{block_key, xor_pad};
 
-use sha2::{Digest, Sha256};
+use sha_lanes::Sha256;
+use sha2::Digest;
 
 /// The bytes, and zeros behind them.
 fn filled(front: &[u8]) -> [u8; 64]

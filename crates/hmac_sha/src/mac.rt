@@ -3,12 +3,13 @@
 ghost use Rattle.std.specs.Prelude.{◌≡◌, ◌++◌, ℕ, List};
 ghost use Rattle.std.specs.List.{concat};
 ghost use Rattle.std_defs.specs.Hmac.{block_key, xor_pad, hmac_under};
-ghost use Rattle.sha2.specs.Hashers.{Holds256};
+ghost use Rattle.sha_lanes.specs.Hashers.{Holds};
 
 use crate::key_block::{add_pad, block_of};
 use kc_base::Bytes;
 use sg_walk::Segs;
-use sha2::{Digest, Sha256};
+use sha_lanes::Sha256;
+use sha2::Digest;
 use std::marker::Model;
 
 /// The pad of the inner hash.
@@ -19,7 +20,7 @@ const OUTER_PAD: u8 = 0x5c;
 
 /// A hasher that has taken the block with the pad.
 fn hasher_of(block: &[u8; 64], pad: u8) -> Sha256
-    ensures { Holds256 result (xor_pad pad block.now) }
+    ensures { Holds result (xor_pad pad block.now) }
 {
     let mut padded = *block;
     add_pad(&mut padded, pad);
@@ -39,14 +40,14 @@ pub struct Mac {
 
 impl Model for Mac {
     ghost use Rattle.std.specs.Prelude.{ℕ, List};
-    ghost use Rattle.sha2.specs.Hashers.{Holds256};
+    ghost use Rattle.sha_lanes.specs.Hashers.{Holds};
     ghost use Rattle.std_defs.specs.Hmac.{xor_pad};
 
     ghost Value = { List ℕ };
 
     ghost view = { λ mac. mac.block };
 
-    ghost invariant = { λ mac. Holds256 mac.inner (xor_pad 0x36 mac.block) × Holds256 mac.outer (xor_pad 0x5c mac.block) };
+    ghost invariant = { λ mac. Holds mac.inner (xor_pad 0x36 mac.block) × Holds mac.outer (xor_pad 0x5c mac.block) };
 }
 
 impl Mac {
@@ -88,7 +89,7 @@ impl Mac {
     /// The MAC of what the inner hasher has taken behind its block.
     #[tactic(auto, unfolding(std_defs::specs::Hmac::hmac_under))]
     fn finish(&self, inner: Sha256) -> [u8; 32]
-        ensures { (message : List ℕ) → Holds256 inner (xor_pad 0x36 self.now ++ message) → result ≡ hmac_under self.now message }
+        ensures { (message : List ℕ) → Holds inner (xor_pad 0x36 self.now ++ message) → result ≡ hmac_under self.now message }
     {
         let digest = inner.finalize();
         let mut outer = self.outer.clone().unwrap();
@@ -99,7 +100,7 @@ impl Mac {
 
 /// Hashes the pieces one after another.
 fn hash_parts(hasher: &mut Sha256, parts: &[Bytes])
-    ensures { (m : List ℕ) → Holds256 hasher.old m → Holds256 hasher.new (m ++ concat parts.now) }
+    ensures { (m : List ℕ) → Holds hasher.old m → Holds hasher.new (m ++ concat parts.now) }
 {
     for part in parts {
         hasher.update(part.as_slice());

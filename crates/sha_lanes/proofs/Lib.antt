@@ -1,0 +1,6 @@
+mod HashedBlocks
+mod Majority
+mod Messages
+mod Rows
+mod Schedules
+mod Steps

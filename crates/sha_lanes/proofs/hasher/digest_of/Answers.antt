@@ -1,0 +1,21 @@
+use Rattle.std.proofs.Common.{rules, ◌≡◌, ◌∙◌, arith, refl, sym}
+use Rattle.std.proofs.lemmas.List.{take_all}
+use Rattle.std.proofs.lemmas.Slice.{overwrites}
+use Rattle.sha2.specs.Sha256.{digest_bytes}
+use Rattle.sha_lanes.proofs.Messages.{digest_more}
+use Rattle.sha_lanes.proofs.hasher.digest_of.Goals as goal
+
+pub loop-i-init : goal.loop-i-init
+unfolding digest_bytes
+loop-i-init c = (refl, refl)
+
+pub loop-i-preserved : goal.loop-i-preserved
+loop-i-preserved c = (
+  search (rules, overwrites),
+  digest_more c.args.state.now c.loop-i.digest _ c.loop-i.i _ c.loop-i.invariant.1 (omega arith) (c.copy_from_slice.ensures.after ∙ c.to_be_bytes.ensures),
+)
+
+pub returns : goal.returns
+returns c =
+    let all : c.loop-i.i ≡ 8 = omega arith in
+    sym (take_all 32 c.loop-i.digest (omega arith)) ∙ rw all at c.loop-i.invariant.1
