@@ -3,7 +3,7 @@ use Rattle.std.proofs.Common.{◌≡◌, refl, codes, [], ◌∷◌, Ok, Err, tr
 use Rattle.clap.proofs.OnLiterals.{clap_on_literals}
 use Rattle.command_line.specs.CommandLine.{mode_of}
 use Rattle.command_line.specs.declared.errors.CommandLineError.TheVariants.{Syntax, CountWithoutLoad}
-use Rattle.command_line.specs.declared.mode.Mode.TheVariants.{Script, Load}
+use Rattle.run_options.specs.declared.options.Mode.TheVariants.{Script, Load}
 
 no_words : mode_of [] ≡ Ok (Script (record { workers = 4; trace = false }))
 unfolding clap_on_literals

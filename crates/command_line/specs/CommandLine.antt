@@ -8,8 +8,8 @@ use Rattle.clap.specs.declared.builder.action.ArgAction.TheVariants.{SetTrue}
 use Rattle.command_line.specs.Number.{number_up_to}
 use Rattle.command_line.specs.declared.errors.CommandLineError.{CommandLineError}
 use Rattle.command_line.specs.declared.errors.CommandLineError.TheVariants.{Syntax, CountWithoutLoad, LoadWithTrace, InvalidNumber}
-use Rattle.command_line.specs.declared.mode.Mode.{Mode}
-use Rattle.command_line.specs.declared.mode.Mode.TheVariants.{Script, Load}
+use Rattle.run_options.specs.declared.options.Mode.{Mode}
+use Rattle.run_options.specs.declared.options.Mode.TheVariants.{Script, Load}
 
 -- `--name VALUE`
 abbrev pub option_rule : Text → Rule

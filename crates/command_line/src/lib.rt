@@ -5,12 +5,10 @@
 #![tactic(auto)]
 
 mod errors;
-mod mode;
 mod number;
 mod options;
 mod parser;
 mod syntax;
 
 pub use errors::CommandLineError;
-pub use mode::{LoadOptions, Mode, ScriptOptions};
 pub use parser::parse_words;

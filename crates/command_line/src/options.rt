@@ -4,9 +4,10 @@ ghost use Rattle.std.specs.Prelude.{◌≡◌, IfOk, option_map};
 ghost use Rattle.clap.specs.Words.{found_of, rows_of};
 ghost use Rattle.command_line.specs.CommandLine.{IsWithinLimits, count_of, is_true_text, load_mode, mode_by, mode_of_rows, script_mode, seed_of, workers_of};
 
+use crate::CommandLineError;
 use crate::number::{number_at_most, number_given};
-use crate::{CommandLineError, LoadOptions, Mode, ScriptOptions};
 use clap::ArgMatches;
+use run_options::{LoadOptions, Mode, ScriptOptions};
 
 const DEFAULT_WORKERS: u32 = 4;
 

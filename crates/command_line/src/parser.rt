@@ -6,11 +6,12 @@ ghost use Rattle.command_line.specs.CommandLine.{IsWithinLimits, mode_of};
 ghost use Rattle.command_line.specs.Steps.{rows_of_words};
 ghost use Rattle.command_line.specs.declared.errors.CommandLineError.TheVariants.{NoMemory};
 
+use crate::CommandLineError;
 use crate::options::mode_found;
 use crate::syntax::script_command;
-use crate::{CommandLineError, Mode};
 use clap::ArgMatches;
 use clap::error::ErrorKind;
+use run_options::Mode;
 use std::alloc::Global;
 
 // What `clap` finds in the words.

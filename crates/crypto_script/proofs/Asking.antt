@@ -3,11 +3,11 @@ use Rattle.std.proofs.Common.{◌≡◌, ◌≢◌, ℕ, List, None, Ok, Err, re
 use Rattle.command_line.specs.CommandLine.{mode_of}
 use Rattle.command_line.specs.declared.errors.CommandLineError.{CommandLineError}
 use Rattle.command_line.specs.declared.errors.CommandLineError.TheVariants as command
-use Rattle.command_line.specs.declared.mode.Mode.{Mode}
+use Rattle.run_options.specs.declared.options.Mode.{Mode}
 use Rattle.script_run.specs.declared.errors.RunError.{RunError}
 use Rattle.script_run.specs.declared.errors.RunError.TheVariants as run
 use Rattle.crypto_script.specs.Words.{script_asked, script_in_mode, load_asked, load_in_mode}
-use Rattle.script_run.specs.Statuses.{of_words}
+use Rattle.crypto_script.specs.Refusals.{of_words}
 
 module _ (words : List (List ℕ)) where
   pub asks-script : (mode : Mode) → mode_of words ≡ Ok mode → script_asked words ≡ script_in_mode (Ok mode)

@@ -2,10 +2,10 @@
 use Rattle.std.specs.Prelude.{ℕ, Bool, false, List, Option, Some, None, Result, Ok, Err}
 use Rattle.command_line.specs.CommandLine.{mode_of}
 use Rattle.command_line.specs.declared.errors.CommandLineError.{CommandLineError}
-use Rattle.command_line.specs.declared.mode.LoadOptions.{LoadOptions}
-use Rattle.command_line.specs.declared.mode.Mode.{Mode}
-use Rattle.command_line.specs.declared.mode.Mode.TheVariants.{Script, Load}
-use Rattle.command_line.specs.declared.mode.ScriptOptions.{ScriptOptions}
+use Rattle.run_options.specs.declared.options.LoadOptions.{LoadOptions}
+use Rattle.run_options.specs.declared.options.Mode.{Mode}
+use Rattle.run_options.specs.declared.options.Mode.TheVariants.{Script, Load}
+use Rattle.run_options.specs.declared.options.ScriptOptions.{ScriptOptions}
 
 abbrev pub script_in_mode : Result Mode CommandLineError → Option ScriptOptions
 script_in_mode (Ok (Script options)) = Some options

@@ -1,7 +1,6 @@
 //! A script of the crypto API on standard input, answered line by line on standard output.
 #![tactic(auto)]
 
-mod adapters;
 #[cfg(test)]
 mod fault_tests;
 #[cfg(test)]
@@ -22,12 +21,12 @@ mod tests;
 #[cfg(test)]
 mod worked_tests;
 
-use adapters::{StdSink, StdSource};
 use crew::NoGate;
 use program::run;
 use script_run::{NO_MEMORY, USAGE};
 use std::process::ExitCode;
 use std::{env, io, mem};
+use std_streams::{StdSink, StdSource};
 
 // The arguments without the program's name.
 fn words(rt: &HostRuntime) -> io::Result<Vec<String>> {

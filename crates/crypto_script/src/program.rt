@@ -21,13 +21,15 @@ ghost use Rattle.script_run.specs.Endings.{traced, AreCallers, EndsShut, IsShutO
 ghost use Rattle.script_run.specs.Runs.{ReadsUpTo, Gains, GainsThen, GainsFront, InTurn};
 ghost use Rattle.script_run.specs.Statuses.{status_of};
 ghost use Rattle.script_run.specs.Text.{is_malformed};
+ghost use Rattle.crypto_script.specs.Refusals.{of_words};
 ghost use Rattle.crypto_script.specs.Words.{script_asked, script_in_mode, load_asked, load_in_mode, workers_in, traces_in};
 
 use alg_registry::RegLog;
 use board::BoardLog;
-use command_line::{Mode, parse_words};
+use command_line::{CommandLineError, parse_words};
 use crew::Gate;
 use kc_base::{Sink, Source};
+use run_options::Mode;
 use script_run::{Ran, RunError, run_load, run_traced, status_by};
 use std::alloc::Global;
 use std::sync::Wait;
@@ -45,6 +47,16 @@ pub struct Outcome {
     pub board: BoardLog<Ask>,
 }
 
+// Why a run ends whose words are no command, or can't be read for want of memory.
+fn refusal_of(error: CommandLineError) -> RunError
+    ensures { result ≡ of_words error }
+{
+    match error {
+        CommandLineError::NoMemory => RunError::NoMemory,
+        _ => RunError::Usage,
+    }
+}
+
 // What the words ask for.
 fn mode_for(alloc: Global, words: &[String]) -> Result<Mode, RunError>
     ensures script { IfOk result (λ mode. script_asked (map string_bytes words.now) ≡ script_in_mode (Ok mode)) }
@@ -52,8 +64,7 @@ fn mode_for(alloc: Global, words: &[String]) -> Result<Mode, RunError>
     ensures bounds { IfOk result IsWithinLimits }
     ensures refused { IfErr result (λ e. (e ≡ RunError.NoMemory) ⊎ ((e ≡ RunError.Usage) × (script_asked (map string_bytes words.now) ≡ None) × (load_asked (map string_bytes words.now) ≡ None))) }
 {
-    let mode = parse_words(alloc, words)?;
-    Ok(mode)
+    parse_words(alloc, words).map_err(refusal_of)
 }
 
 // The outcome of what was run.

@@ -2,7 +2,6 @@
 
 ghost use Rattle.std.specs.Prelude.{◌<◌};
 
-use crate::adapters::{StdSink, StdSource};
 use crate::tests::{
     ANSWER, Ended, LINE, MIXED_SCRIPT, MIXED_TEXT, SCRIPT, TEXT, bytes_of, check, decimal, joined,
     push, row_of, run_line, text_of,
@@ -14,6 +13,7 @@ use std::alloc::Global;
 use std::process::Abort;
 use std::sync::Wait;
 use std::thread::Threads;
+use std_streams::{StdSink, StdSource};
 
 /// The call that fails, if one does.
 #[derive(Clone, Copy)]

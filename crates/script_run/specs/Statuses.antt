@@ -1,17 +1,11 @@
 -- Why a run did not reach the end, and the status that says so.
 use Rattle.std.specs.Prelude.{ℕ, Bool, true, false, Result, Ok, Err}
-use Rattle.command_line.specs.declared.errors.CommandLineError.{CommandLineError}
-use Rattle.command_line.specs.declared.errors.CommandLineError.TheVariants as command
 use Rattle.kc_base.specs.declared.transfer.InputError.{InputError}
 use Rattle.kc_base.specs.declared.transfer.InputError.TheVariants as input
 use Rattle.kc_base.specs.declared.transfer.SinkError.{SinkError}
 use Rattle.kc_base.specs.declared.transfer.SinkError.TheVariants as output
 use Rattle.script_run.specs.declared.errors.RunError.{RunError}
 use Rattle.script_run.specs.declared.errors.RunError.TheVariants.{Usage, ReadFault, WriteFault, NoMemory, TooLong}
-
-abbrev pub of_words : CommandLineError → RunError
-of_words command.NoMemory = NoMemory
-of_words _ = Usage
 
 abbrev pub of_input : InputError → RunError
 of_input input.Failed = ReadFault

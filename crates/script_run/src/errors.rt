@@ -1,10 +1,9 @@
 //! Why a run did not reach the end.
 
 ghost use Rattle.std.specs.Prelude.{◌≡◌};
-ghost use Rattle.script_run.specs.Statuses.{of_words, of_input, of_output, status_of};
+ghost use Rattle.script_run.specs.Statuses.{of_input, of_output, status_of};
 ghost use Rattle.script_run.specs.declared.errors.RunError.TheVariants.{NoMemory as MemoryWants};
 
-use command_line::CommandLineError;
 use kc_base::{InputError, SinkError};
 use std::alloc::AllocError;
 
@@ -29,17 +28,6 @@ impl From<AllocError> for RunError {
 
     fn from(_: AllocError) -> Self {
         RunError::NoMemory
-    }
-}
-
-impl From<CommandLineError> for RunError {
-    ghost from_gives = { λ e r. r ≡ of_words e };
-
-    fn from(error: CommandLineError) -> Self {
-        match error {
-            CommandLineError::NoMemory => RunError::NoMemory,
-            _ => RunError::Usage,
-        }
     }
 }
 

@@ -1,6 +1,7 @@
 //! Words, and what they ask of the program.
 
-use command_line::{CommandLineError, LoadOptions, Mode, ScriptOptions, parse_words};
+use command_line::{CommandLineError, parse_words};
+use run_options::{LoadOptions, Mode, ScriptOptions};
 use std::alloc::Global;
 use std::test::Fail;
 

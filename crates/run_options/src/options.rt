@@ -1,4 +1,6 @@
-//! What a command line asks for.
+//! A script with its workers and with or without its trace, or a load of so many requests.
+
+ghost use Rattle.std.specs.Prelude.{◌≡◌, false};
 
 /// The program as it answers a script.
 #[derive(Clone, Copy, Debug, PartialEq, Eq)]
@@ -7,6 +9,18 @@ pub struct ScriptOptions {
     pub workers: u32,
     /// Whether the trace is written after the answers.
     pub trace: bool,
+}
+
+/// What no words ask for: four workers, and no trace.
+impl Default for ScriptOptions {
+    fn default() -> ScriptOptions
+        ensures { result ≡ record { workers = 4; trace = false } }
+    {
+        ScriptOptions {
+            workers: 4,
+            trace: false,
+        }
+    }
 }
 
 /// The program as it makes requests by itself.
@@ -20,7 +34,7 @@ pub struct LoadOptions {
     pub count: u32,
 }
 
-/// What a command line asks for.
+/// What a run is asked for.
 #[derive(Clone, Copy, Debug, PartialEq, Eq)]
 pub enum Mode {
     /// A script is read and answered.

@@ -1,0 +1,6 @@
+//! What a run is asked for.
+#![tactic(auto)]
+
+mod options;
+
+pub use options::{LoadOptions, Mode, ScriptOptions};

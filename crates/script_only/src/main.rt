@@ -1,0 +1,22 @@
+//! A script of the crypto API on standard input, answered line by line on standard output: what `crypto_script` does without words.
+//!
+//! A third of what `crypto_script` is compiled from reads its words. This program has none of that, so it stands sooner.
+#![tactic(auto)]
+
+use crew::NoGate;
+use run_options::ScriptOptions;
+use script_run::{run_traced, status_by};
+use std::process::ExitCode;
+use std::{io, mem};
+use std_streams::{StdSink, StdSource};
+
+fn main(rt: HostRuntime) -> ExitCode {
+    let options = ScriptOptions::default();
+    let mut source = StdSource::new(rt.reader());
+    let mut sink = StdSink::new(io::writer(&rt));
+    let ran = run_traced(&rt, rt.alloc(), &options, &NoGate, &mut source, &mut sink);
+    let status = status_by(ran.answer);
+    // The process ends, and with it all its memory: the histories aren't let go record by record.
+    mem::forget(ran);
+    ExitCode::from(status)
+}
