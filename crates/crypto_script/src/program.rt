@@ -64,7 +64,10 @@ fn mode_for(alloc: Global, words: &[String]) -> Result<Mode, RunError>
     ensures bounds { IfOk result IsWithinLimits }
     ensures refused { IfErr result (λ e. (e ≡ RunError.NoMemory) ⊎ ((e ≡ RunError.Usage) × (script_asked (map string_bytes words.now) ≡ None) × (load_asked (map string_bytes words.now) ≡ None))) }
 {
-    parse_words(alloc, words).map_err(refusal_of)
+    match parse_words(alloc, words) {
+        Ok(mode) => Ok(mode),
+        Err(error) => Err(refusal_of(error)),
+    }
 }
 
 // The outcome of what was run.
