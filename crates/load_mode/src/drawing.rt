@@ -1,6 +1,7 @@
 //! The lines of a load.
 
-ghost use Rattle.std.specs.Prelude.{◌≡◌, ◌+◌, ◌*◌, ◌%◌, ◌≤◌, ◌∷◌, [], None, false, IfOk, OnOk};
+ghost use Rattle.std.specs.Prelude.{◌≡◌, ◌+◌, ◌*◌, ◌%◌, ◌<◌, ◌≤◌, Some, None, false, length, slice_get, IfOk, OnOk};
+ghost use Rattle.dialogues.specs.Widths.{width_of};
 ghost use Rattle.transforms.specs.Cuts.{in_one};
 ghost use Rattle.script_text.specs.Sizes.{IsShortLine};
 ghost use Rattle.script_text.specs.declared.commands.Command.TheVariants.{Alloc, Enc, Key};
@@ -50,45 +51,19 @@ fn key_line(alloc: Global, label: &[u8], key: &[u8]) -> Result<Line, AllocError>
     }))
 }
 
-/// The lines that make both transforms, in this order.
-#[derive(Debug, Drop)]
-pub struct Opening {
-    pub make_a: Line,
-    pub key_a: Line,
-    pub make_g: Line,
-    pub key_g: Line,
-}
-
-// The lines that make a transform and give it its key.
-fn made_and_keyed(
-    alloc: Global,
-    label: &[u8],
-    name: &[u8],
-    key: &[u8],
-) -> Result<(Line, Line), AllocError>
-    ensures { IfOk result (λ lines. (lines.0 ≡ Cmd (Alloc label.now name.now None)) × (lines.1 ≡ Cmd (Key label.now key.now))) }
+/// The line of this number, 0 to 3, among those that make both transforms.
+pub fn opening_line(alloc: Global, number: u32) -> Result<Line, AllocError>
+    requires { number < length opening }
+    ensures line { IfOk result (λ line. slice_get opening number ≡ Some line) }
+    ensures short { IfOk result IsShortLine }
+    ensures narrow { IfOk result (λ line. width_of line ≡ 1) }
 {
-    let make = alloc_line(alloc, label, name)?;
-    Ok((make, key_line(alloc, label, key)?))
-}
-
-/// The lines that make both transforms.
-pub fn opening_lines(alloc: Global) -> Result<Opening, AllocError>
-    ensures { IfOk result (λ lines. lines.make_a ∷ lines.key_a ∷ lines.make_g ∷ lines.key_g ∷ [] ≡ opening) }
-{
-    let (make_a, key_a) = made_and_keyed(
-        alloc,
-        A,
-        b"pcrypt(authenc(hmac(sha256),cbc(aes)))",
-        &KEY_OF_A,
-    )?;
-    let (make_g, key_g) = made_and_keyed(alloc, G, b"pcrypt(gcm(aes))", &CIPHER_KEY)?;
-    Ok(Opening {
-        make_a,
-        key_a,
-        make_g,
-        key_g,
-    })
+    match number {
+        0 => alloc_line(alloc, A, b"pcrypt(authenc(hmac(sha256),cbc(aes)))"),
+        1 => key_line(alloc, A, &KEY_OF_A),
+        2 => alloc_line(alloc, G, b"pcrypt(gcm(aes))"),
+        _ => key_line(alloc, G, &CIPHER_KEY),
+    }
 }
 
 // How many bytes of text a request has, by its first draw.

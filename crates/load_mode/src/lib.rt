@@ -5,6 +5,6 @@ mod drawing;
 mod laws;
 mod writing;
 
-pub use drawing::{Opening, draw_request, opening_lines};
+pub use drawing::{draw_request, opening_line};
 pub use laws::loads_come_to;
 pub use writing::{hash_completions, load_text};

@@ -1,5 +1,5 @@
 -- A load, line by line, and what it leaves.
-use Rattle.std.proofs.Common.{◌≡◌, ℕ, suc, ◌+◌, ◌-◌, ◌<◌, List, [], ◌∷◌, ◌++◌, map, Some, None, refl, sym, ap, subst, ◌∙◌, append_assoc, append-nil, arith}
+use Rattle.std.proofs.Common.{◌≡◌, ℕ, suc, ◌+◌, ◌-◌, ◌<◌, List, [], ◌∷◌, ◌++◌, drop, map, Some, None, refl, sym, ap, subst, ◌∙◌, append_assoc, append-nil, arith}
 use Rattle.std.specs.List.{flat_map}
 use Rattle.std.proofs.lemmas.Grind.{flat_map-append}
 use Rattle.sha2.specs.Sha256.{sha256}
@@ -29,7 +29,7 @@ use Rattle.session_calls.specs.Pipelines.{Called}
 use Rattle.transforms.specs.declared.ask.Ask.{Ask}
 use Rattle.turn_lock.specs.Turns.{Known}
 use Rattle.script_run.specs.Laws.{Laws}
-use Rattle.script_run.specs.Loads.{IsHeld, HoldsOn, IsLoadTurnAfter}
+use Rattle.script_run.specs.Loads.{IsHeld, HoldsOn, HoldsOpening, IsLoadTurnAfter}
 use Rattle.script_run.specs.Runs.{GoesOn, IsFresh}
 use Rattle.script_run.proofs.Following.{reg_calls-same, board_calls-same, in_turn-on, followed-ends}
 
@@ -152,23 +152,26 @@ LineOn workers n line s s' x y = (later : Walk → Dialogue) → HoldsOn (follow
 line-with : (workers n : ℕ) (line : Line) (s s' : State) (x y : Sha256) → s.workers ≡ workers → LineOn s.workers n line s s' x y → LineOn workers n line s s' x y
 line-with workers n line s s' x y same on = subst (λ w. LineOn w n line s s' x y) same on
 
-pub opening-on : (a b c d : Line) (s s1 s2 s3 s4 : State) (x x1 x2 x3 x4 : Sha256) → a ∷ b ∷ c ∷ d ∷ [] ≡ opening → GoesOn s s1 → GoesOn s1 s2 → GoesOn s2 s3
-    → LineOn s.workers 0 a s s1 x x1 → LineOn s1.workers 1 b s1 s2 x1 x2 → LineOn s2.workers 2 c s2 s3 x2 x3 → LineOn s3.workers 3 d s3 s4 x3 x4
+-- the same of a line of the opening
+opening-with : (workers n : ℕ) (s s' : State) (x y : Sha256) → s.workers ≡ workers → HoldsOpening s.workers n s s' x y → HoldsOpening workers n s s' x y
+opening-with workers n s s' x y same on = subst (λ w. HoldsOpening w n s s' x y) same on
+
+pub opening-on : (s s1 s2 s3 s4 : State) (x x1 x2 x3 x4 : Sha256) → GoesOn s s1 → GoesOn s1 s2 → GoesOn s2 s3
+    → HoldsOpening s.workers 0 s s1 x x1 → HoldsOpening s1.workers 1 s1 s2 x1 x2 → HoldsOpening s2.workers 2 s2 s3 x2 x3 → HoldsOpening s3.workers 3 s3 s4 x3 x4
     → (later : Walk → Dialogue) → HoldsOn (lines_dialogue s.workers s.walk 0 opening later) later s s4 x x4
-opening-on a b c d s s1 s2 s3 s4 x x1 x2 x3 x4 same g1 g2 g3 on1 on2 on3 on4 later =
+opening-on s s1 s2 s3 s4 x x1 x2 x3 x4 g1 g2 g3 on1 on2 on3 on4 later =
     let w = s.workers in
     let w1 = g1.locks.workers in
     let w2 = g2.locks.workers ∙ w1 in
     let w3 = g3.locks.workers ∙ w2 in
-    let last : Walk → Dialogue = λ walk. followed (line_dialogue w walk 3 d) later in
-    let third : Walk → Dialogue = λ walk. followed (line_dialogue w walk 2 c) last in
-    let second : Walk → Dialogue = λ walk. followed (line_dialogue w walk 1 b) third in
-    subst (λ lines. HoldsOn (lines_dialogue w s.walk 0 lines later) later s s4 x x4) same
-    (λ whole held.
-    line-with w 3 d s3 s4 x3 x4 w3 on4 later whole
-    (line-with w 2 c s2 s3 x2 x3 w2 on3 last whole
-    (line-with w 1 b s1 s2 x1 x2 w1 on2 third whole
-    (on1 second whole held))))
+    let last : Walk → Dialogue = λ walk. lines_dialogue w walk 3 (drop 3 opening) later in
+    let third : Walk → Dialogue = λ walk. lines_dialogue w walk 2 (drop 2 opening) later in
+    let second : Walk → Dialogue = λ walk. lines_dialogue w walk 1 (drop 1 opening) later in
+    λ whole held.
+    opening-with w 3 s3 s4 x3 x4 w3 on4 later whole
+    (opening-with w 2 s2 s3 x2 x3 w2 on3 last whole
+    (opening-with w 1 s1 s2 x1 x2 w1 on2 third whole
+    (on1 second whole held)))
 
 abbrev pub LeftAt : ℕ → ℕ → ℕ → ℕ → Walk → Dialogue
 LeftAt workers count number state walk = lines_dialogue workers walk number (lines_from number state (count - number)) end

@@ -1,5 +1,5 @@
 -- A load as it is held by a session, line by line, and what its part leaves.
-use Rattle.std.specs.Prelude.{◌≡◌, ℕ, List, [], ◌++◌, Result, IfOk}
+use Rattle.std.specs.Prelude.{◌≡◌, ℕ, List, [], ◌++◌, Result, IfOk, IfSome, slice_get}
 use Rattle.std.specs.List.{flat_map}
 use Rattle.sha2.specs.declared.Sha256.{Sha256}
 use Rattle.sha2.specs.Hashers.{Holds256}
@@ -9,11 +9,13 @@ use Rattle.board.specs.declared.entry.BoardEntry.{BoardEntry}
 use Rattle.board.specs.Entries.{caller_of as board_caller}
 use Rattle.crew.specs.declared.passes.Passes.{Passes}
 use Rattle.dialogues.specs.BoardCalls.{BoardCall, board_calls}
-use Rattle.dialogues.specs.Dialogues.{Dialogue}
+use Rattle.dialogues.specs.Dialogues.{Dialogue, followed}
 use Rattle.dialogues.specs.InTurn.{AreInTurnBy}
+use Rattle.dialogues.specs.Lines.{line_dialogue}
 use Rattle.dialogues.specs.RegistryCalls.{RegCall, reg_calls, AllSettled}
 use Rattle.dialogues.specs.Turns.{Turn, turn_of, joined}
 use Rattle.dialogues.specs.Walk.{Walk}
+use Rattle.load_mode.specs.Lines.{opening}
 use Rattle.load_mode.specs.Turns.{bytes_told, IsLoadTurn}
 use Rattle.script_session.specs.Holding.{HasSeenMore}
 use Rattle.script_session.specs.States.{State}
@@ -42,6 +44,11 @@ pub record IsHeld (whole left : Dialogue) (s : State) (hasher : Sha256) : Type 0
 -- the session goes on with a dialogue by a further part of it, whatever was held before
 abbrev pub HoldsOn : Dialogue → (Walk → Dialogue) → State → State → Sha256 → Sha256 → Type 0
 HoldsOn left later s s' hasher hasher' = (whole : Dialogue) → IsHeld whole left s hasher → IsHeld whole (later s'.walk) s' hasher'
+
+-- it goes on by the line of this number among those that make both transforms
+abbrev pub HoldsOpening : ℕ → ℕ → State → State → Sha256 → Sha256 → Type 0
+HoldsOpening workers number s s' hasher hasher' = IfSome (slice_get opening number) λ line.
+    (later : Walk → Dialogue) → HoldsOn (followed (line_dialogue workers s.walk number line) later) later s s' hasher hasher'
 
 -- over all histories in which others alone follow on what the passes have seen the load is done, with this digest
 abbrev pub IsLoadTurnAfter : ℕ → ℕ → ℕ → Known RegEntry → Known (BoardEntry Ask) → List ℕ → Type 0

@@ -1,6 +1,6 @@
 //! A load, held by a session.
 
-ghost use Rattle.std.specs.Prelude.{OnOk, ◌≡◌, ◌∷◌, [], IfOk, false};
+ghost use Rattle.std.specs.Prelude.{OnOk, ◌≡◌, ◌<◌, [], IfOk, false, length};
 ghost use Rattle.alg_registry.specs.Rows.{caller_of};
 ghost use Rattle.board.specs.Legal.{is_shut};
 ghost use Rattle.dialogues.specs.Dialogues.{followed};
@@ -17,13 +17,13 @@ ghost use Rattle.script_session.specs.Running.{IsReady};
 ghost use Rattle.session_calls.specs.Passes.{known};
 ghost use Rattle.turn_lock.specs.Meeting.{IsOwn};
 ghost use Rattle.script_run.specs.Laws.{Laws};
-ghost use Rattle.script_run.specs.Loads.{IsHeld, HoldsOn, IsLoadTurnAfter};
+ghost use Rattle.script_run.specs.Loads.{IsHeld, HoldsOn, HoldsOpening, IsLoadTurnAfter};
 ghost use Rattle.script_run.specs.Runs.{GoesOn, IsFresh, IsUnshutOrEnds};
 
 use crate::lines::laws;
 use crew::Gate;
 use generator::Generator;
-use load_mode::{Opening, draw_request, hash_completions, opening_lines};
+use load_mode::{draw_request, hash_completions, opening_line};
 use script_session::Session;
 use script_text::Line;
 use session_calls::Stop;
@@ -31,7 +31,6 @@ use sha2::{Digest, Sha256};
 use shared_board::SharedBoard;
 use shared_registry::SharedRegistry;
 use std::alloc::{AllocError, Global};
-use std::mem;
 use std::sync::Wait;
 use std::thread::Threads;
 use transforms::Job;
@@ -67,15 +66,8 @@ fn hold_line<G: Gate, R: Threads + Wait + Sync>(
     }
 }
 
-// Takes a line out of its place. So no line is a local that is let go where a call stops.
-fn taken(line: &mut Line) -> Line
-    ensures { result ≡ line.old }
-{
-    mem::replace(line, Line::Nothing)
-}
-
-// Answers the lines that make both transforms.
-fn hold_opened<G: Gate, R: Threads + Wait + Sync>(
+// Answers the line of this number among those that make both transforms.
+fn hold_opening_line<G: Gate, R: Threads + Wait + Sync>(
     rt: &R,
     alloc: Global,
     board: &SharedBoard<Job>,
@@ -83,60 +75,19 @@ fn hold_opened<G: Gate, R: Threads + Wait + Sync>(
     gate: &G,
     session: &mut Session,
     hasher: &mut Sha256,
-    lines: &mut Opening,
+    number: u32,
 ) -> Result<(), AllocError>
     requires ready { IsReady registry.now board.now session.old }
-    requires lines { lines.old.make_a ∷ lines.old.key_a ∷ lines.old.make_g ∷ lines.old.key_g ∷ [] ≡ opening }
-    ensures on { OnOk result ((later : Made → Dialogue) → HoldsOn (lines_dialogue session.old.workers session.old.walk 0 opening later) later session.old session.new hasher.old hasher.new) }
+    requires among { number < length opening }
+    ensures on { OnOk result (HoldsOpening session.old.workers number session.old session.new hasher.old hasher.new) }
     ensures ready { OnOk result (IsReady registry.now board.now session.new) }
     ensures goes_on { GoesOn session.old session.new }
     ensures unshut { (known session.new.board).number ≡ 0 → is_shut (known session.new.board).seen ≡ false }
 {
+    let line = opening_line(alloc, number)?;
     hold_line(
-        rt,
-        alloc,
-        board,
-        registry,
-        gate,
-        session,
-        hasher,
-        0,
-        taken(&mut lines.make_a),
-    )?;
-    hold_line(
-        rt,
-        alloc,
-        board,
-        registry,
-        gate,
-        session,
-        hasher,
-        1,
-        taken(&mut lines.key_a),
-    )?;
-    hold_line(
-        rt,
-        alloc,
-        board,
-        registry,
-        gate,
-        session,
-        hasher,
-        2,
-        taken(&mut lines.make_g),
-    )?;
-    hold_line(
-        rt,
-        alloc,
-        board,
-        registry,
-        gate,
-        session,
-        hasher,
-        3,
-        taken(&mut lines.key_g),
-    )?;
-    Ok(())
+        rt, alloc, board, registry, gate, session, hasher, number, line,
+    )
 }
 
 // Makes both transforms.
@@ -155,10 +106,11 @@ fn hold_opening<G: Gate, R: Threads + Wait + Sync>(
     ensures goes_on { GoesOn session.old session.new }
     ensures unshut { (known session.new.board).number ≡ 0 → is_shut (known session.new.board).seen ≡ false }
 {
-    let mut lines = opening_lines(alloc)?;
-    hold_opened(
-        rt, alloc, board, registry, gate, session, hasher, &mut lines,
-    )
+    hold_opening_line(rt, alloc, board, registry, gate, session, hasher, 0)?;
+    hold_opening_line(rt, alloc, board, registry, gate, session, hasher, 1)?;
+    hold_opening_line(rt, alloc, board, registry, gate, session, hasher, 2)?;
+    hold_opening_line(rt, alloc, board, registry, gate, session, hasher, 3)?;
+    Ok(())
 }
 
 // Draws a request and hands it in.
