@@ -5,23 +5,34 @@ use std::test::Fail;
 fn a_queue_of_one_takes_one_item(rt: HostRuntime) -> Result<(), Fail> {
     let mut queue = Queue::new(rt.alloc(), 1)?;
     queue.reserve(3)?;
-    assert!(rt; matches!(queue.enqueue(0, 'a', false), Verdict::InProgress));
-    assert!(rt; matches!(queue.enqueue(1, 'b', false), Verdict::NoSpace('b')));
-    assert!(rt; matches!(queue.enqueue(1, 'c', true), Verdict::Busy));
-    assert!(rt; matches!(queue.enqueue(2, 'd', true), Verdict::Busy));
-    assert_eq!(rt; queue.len(), 3);
-    assert_eq!(rt; queue.accepted(), 3);
-    assert!(rt; queue.accepts(true) && !queue.accepts(false));
-    for (number, item, started) in [(0, 'a', Some(1)), (1, 'c', Some(2)), (2, 'd', None)] {
-        match queue.dequeue() {
-            Some(served) => {
-                assert!(rt;
-                    served.number == number && served.item == item && served.started == started
-                )
-            }
-            None => panic!(rt; "number {number} is not there"),
-        }
+    let verdicts = (
+        queue.enqueue(0, 'a', false),
+        queue.enqueue(1, 'b', false),
+        queue.enqueue(1, 'c', true),
+        queue.enqueue(2, 'd', true),
+    );
+    let counts = (queue.len(), queue.accepted());
+    let accepts = (queue.accepts(true), queue.accepts(false));
+    assert!(rt; counts == (3, 3) && accepts == (true, false));
+    assert!(rt;
+        matches!(
+            verdicts,
+            (
+                Verdict::InProgress,
+                Verdict::NoSpace('b'),
+                Verdict::Busy,
+                Verdict::Busy,
+            )
+        )
+    );
+    for row in [
+        Some((0, 'a', Some(1))),
+        Some((1, 'c', Some(2))),
+        Some((2, 'd', None)),
+        None,
+    ] {
+        let served = queue.dequeue().map(|it| (it.number, it.item, it.started));
+        assert_eq!(rt; served, row);
     }
-    assert!(rt; queue.dequeue().is_none());
     Ok(())
 }

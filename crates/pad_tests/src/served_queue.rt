@@ -8,26 +8,36 @@ fn a_held_queue_serves_its_backlog_in_order(rt: HostRuntime) -> Result<(), Fail>
     let mut queue = Cryptd::new(rt.alloc(), 2)?;
     queue.reserve(4)?;
     queue.hold();
-    assert!(rt; matches!(queue.enqueue(0, 'a', false), Verdict::InProgress));
-    assert!(rt; matches!(queue.enqueue(1, 'b', false), Verdict::InProgress));
-    assert!(rt; matches!(queue.enqueue(2, 'c', true), Verdict::Busy));
-    assert!(rt; matches!(queue.enqueue(3, 'd', false), Verdict::NoSpace('d')));
-    assert!(rt; queue.serve().is_none());
-    assert!(rt; !queue.may_serve() && !queue.is_idle());
-    assert!(rt; queue.accepts(true) && !queue.accepts(false));
-    assert_eq!(rt; queue.accepted(), 3);
+    let verdicts = (
+        queue.enqueue(0, 'a', false),
+        queue.enqueue(1, 'b', false),
+        queue.enqueue(2, 'c', true),
+        queue.enqueue(3, 'd', false),
+    );
+    let serves = queue.serve().is_some() || queue.may_serve() || queue.is_idle();
+    let accepts = (queue.accepts(true), queue.accepts(false), queue.accepted());
     queue.go();
-    assert!(rt; queue.may_serve());
+    let goes = queue.may_serve();
+    assert!(rt; !serves && accepts == (true, false, 3) && goes);
+    assert!(rt;
+        matches!(
+            verdicts,
+            (
+                Verdict::InProgress,
+                Verdict::InProgress,
+                Verdict::Busy,
+                Verdict::NoSpace('d'),
+            )
+        )
+    );
     for _ in 0..3 {
-        match queue.serve() {
-            Some(served) => {
-                // one job at a time
-                assert!(rt; queue.serve().is_none());
-                let outcome = served.item.to_ascii_uppercase();
-                queue.done(served.number, outcome);
-            }
-            None => panic!(rt; "a job waits"),
-        }
+        let Some(served) = queue.serve() else {
+            panic!(rt; "a job waits")
+        };
+        // one job at a time
+        let another = queue.serve().is_some();
+        queue.done(served.number, served.item.to_ascii_uppercase());
+        assert!(rt; !another);
     }
     assert!(rt; queue.is_idle() && !queue.may_serve());
     let mut into = Callbacks::new(rt.alloc());
@@ -48,10 +58,11 @@ fn a_held_queue_serves_its_backlog_in_order(rt: HostRuntime) -> Result<(), Fail>
 fn what_is_passed_on_is_told_in_order(rt: HostRuntime) -> Result<(), Fail> {
     let mut queue = Cryptd::new(rt.alloc(), 1)?;
     queue.reserve(2)?;
-    assert!(rt; matches!(queue.enqueue(0, 'a', false), Verdict::InProgress));
-    assert!(rt; matches!(queue.enqueue(1, 'b', true), Verdict::Busy));
-    assert!(rt; queue.pass_on().is_some() && queue.pass_on().is_some());
-    assert!(rt; queue.waiting() == 0 && queue.unreleased() == 2);
+    let verdicts = (queue.enqueue(0, 'a', false), queue.enqueue(1, 'b', true));
+    let passes = (queue.pass_on().is_some(), queue.pass_on().is_some());
+    let counts = (queue.waiting(), queue.unreleased());
+    assert!(rt; matches!(verdicts, (Verdict::InProgress, Verdict::Busy)));
+    assert!(rt; passes == (true, true) && counts == (0, 2));
     queue.release(0, 'A');
     queue.release(1, 'B');
     let mut into = Callbacks::new(rt.alloc());
