@@ -4,7 +4,7 @@ ghost use Rattle.std.specs.Prelude.{◌≡◌, ◌∷◌, [], map};
 ghost use Rattle.std.specs.List.{range_with_len};
 ghost use Rattle.std_defs.specs.Aes.{mul8, mixed_byte};
 
-/// Twice a byte in the field (FIPS 197, 4.2.1).
+/// Twice a byte in the field (FIPS 197, 4.2).
 fn double(a: u8) -> u8
     ensures { result ≡ mul8 2 a }
 {

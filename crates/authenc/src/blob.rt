@@ -11,7 +11,9 @@ const HEADER: [u8; 4] = [0x08, 0x00, 0x01, 0x00];
 /// The two keys of a blob.
 #[derive(Drop)]
 pub struct Blob<'a> {
+    /// The MAC key, of any length.
     pub mac: &'a [u8],
+    /// The cipher key, of the length that the blob names.
     pub cipher: &'a [u8],
 }
 

@@ -43,7 +43,7 @@ impl<S: Skcipher + Drop> Authenc<S> {
     }
 
     /// Seals the text `b` in place under an IV of the cipher's length, and writes the whole MAC of the associated bytes
-    /// and the ciphertext into `tag`. `EINVAL` exactly where the cipher doesn't take a text of that length; `b` and
+    /// and behind them the ciphertext into `tag`. The IV is covered only where it stands among the associated bytes, as in ESP. `EINVAL` exactly where the cipher doesn't take a text of that length; `b` and
     /// `tag` are then unchanged.
     pub fn seal(
         &self,

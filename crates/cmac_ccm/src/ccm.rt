@@ -54,8 +54,9 @@ impl<C: BlockCipher + Drop> Ccm<C> {
         &self.cipher
     }
 
-    /// Makes the ciphertext of `b` in its place, and the tag of as many bytes as `tag` has (6.1). `EINVAL` exactly where byte
-    /// 0 of the IV isn't 1 to 7: all is then unchanged.
+    /// Makes the ciphertext of `b` in its place, and the tag of as many bytes as `tag` has (6.1): 4, 6, 8, 10, 12, 14 or 16. `aad`
+    /// has fewer than 65,280 bytes, `b` fewer than 65,536. The tag covers the nonce, `aad`, the plaintext and their lengths.
+    /// `EINVAL` exactly where byte 0 of the IV isn't 1 to 7: all is then unchanged.
     pub fn seal(&self, iv: &[u8; 16], aad: &[u8], b: &mut [u8], tag: &mut [u8]) -> Result<(), Errno>
         requires aad_short { length aad.now < 65280 }
         requires text_short { length b.old < 65536 }
@@ -72,8 +73,9 @@ impl<C: BlockCipher + Drop> Ccm<C> {
         Ok(())
     }
 
-    /// Makes the plaintext of `b` in its place (6.2). `EINVAL` exactly where byte 0 of the IV isn't 1 to 7, and then `EBADMSG`
-    /// exactly where the tag isn't the plaintext's: `b` is unchanged in both cases.
+    /// Makes the plaintext of `b` in its place (6.2), under a tag of 4, 6, 8, 10, 12, 14 or 16 bytes. `aad` has fewer than 65,280
+    /// bytes, `b` fewer than 65,536. `EINVAL` exactly where byte 0 of the IV isn't 1 to 7, and then `EBADMSG` exactly where the
+    /// tag isn't the plaintext's: `b` is unchanged in both cases.
     pub fn unseal(&self, iv: &[u8; 16], aad: &[u8], b: &mut [u8], tag: &[u8]) -> Result<(), Errno>
         requires aad_short { length aad.now < 65280 }
         requires text_short { length b.old < 65536 }
@@ -101,7 +103,7 @@ impl<C: BlockCipher + Drop> Ccm<C> {
         apply_key_stream(&self.cipher, Counter { iv: *iv, next: 1 }, text);
     }
 
-    /// All 16 bytes that a tag of `tag_len` bytes is the front of (6.1, steps 1 to 4).
+    /// All 16 bytes that a tag of `tag_len` bytes is the front of (6.1, steps 1 to 3 and 8).
     fn full_tag(&self, iv: &[u8; 16], tag_len: usize, aad: &[u8], text: &[u8]) -> [u8; 16]
         requires iv_taken { slice_index iv.now 0 ≤ 7 }
         requires tag_short { tag_len ≤ 16 }

@@ -1,6 +1,6 @@
 //! The whole program, from the words and the bytes read to the bytes written.
 
-ghost use Rattle.std.specs.Prelude.{OnOk, ◌≡◌, ◌+◌, ◌-◌, ◌^◌, ◌<◌, ◌≤◌, ◌↔◌, ◌⊎◌, List, ℕ, [], Some, None, length, take, map, IfOk, IfErr, IfSome, IsErrOf, IsSome, IsTrue, Ok, string_bytes};
+ghost use Rattle.std.specs.Prelude.{◌≡◌, ◌+◌, ◌-◌, ◌^◌, ◌<◌, ◌≤◌, ◌↔◌, ◌⊎◌, ℕ, [], Some, None, length, take, map, IfOk, IfErr, IfSome, IsSome, IsTrue, Ok, string_bytes};
 ghost use Rattle.std.specs.List.{list_any};
 ghost use Rattle.std.specs.Io.KnownBytes.{Appends};
 ghost use Rattle.kc_base.specs.Streams.{AppendsFront, Rose};
@@ -88,9 +88,9 @@ fn outcome_of(ran: Ran) -> Outcome
     }
 }
 
-/// Does all that the program does: reads a script from the source, and writes the answers of its lines, each in one piece, to the
-/// sink, and then the run's trace, where the words ask for it; or makes the requests of a load, and writes its line. It reads at
-/// most 65,536 bytes at once, and only where each whole line of what it has is answered. The words are the program's arguments
+/// Does all that the program does: reads a script from the source, and writes the answers of its lines to the sink, and then the
+/// run's trace, where the words ask for it; or makes the requests of a load, and writes its line. It reads at most 65,536 bytes at
+/// once, and only where the answers to each whole line of what it has are written. The words are the program's arguments
 /// without its name. Beside the script, or the load, stand as many workers as the words ask for, which do its jobs and build its
 /// instances; they pass the gate with each job.
 ///
@@ -152,8 +152,8 @@ pub fn run<S: Source, K: Sink, G: Gate + Sync, R: Threads + Wait + Sync>(
     ensures faithful { Made table result.registry }
     ensures callers { AreCallers (workers_in (map string_bytes words.now)) result.registry result.board }
 
-    // Whatever ended the run, once anything was recorded on the board it was shut, so that the workers ended; after that they alone
-    // made entries, of jobs that they were inside then. So beside no workers the shut is last.
+    // Whatever ended the run, once anything was recorded on the board it was shut; after that the workers alone made entries, and all
+    // of these are work. So beside no workers the shut is last.
     ensures closed { (result.board ≡ []) ⊎ IsShutOnce (workers_in (map string_bytes words.now)) result.board }
 
     // Each other status has its cause. That of 5 is want of memory.

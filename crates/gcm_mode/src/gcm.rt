@@ -54,15 +54,15 @@ impl<C: BlockCipher + Drop, H: GhashKey + Drop> Gcm<C, H> {
         &self.cipher
     }
 
-    /// The bytes of an IV.
+    /// The length of an IV in bytes: 12.
     pub fn iv_len(&self) -> usize
         ensures { result ≡ 12 }
     {
         12
     }
 
-    /// Makes the ciphertext of `text` in its place, and its full tag (7.1). What is sealed opens again, under the whole tag and
-    /// under each front of it.
+    /// Makes the ciphertext of `text` in its place, and its full tag (7.1), which covers `associated` and the ciphertext. Both have
+    /// fewer than 2^32 bytes. What is sealed opens again, under the whole tag and under each front of it.
     pub fn seal(&self, iv: &[u8; 12], associated: &[u8], text: &mut [u8], tag: &mut [u8; 16])
         requires associated_short { length associated.now < 2 ^ 32 }
         requires text_short { length text.old < 2 ^ 32 }
@@ -74,8 +74,8 @@ impl<C: BlockCipher + Drop, H: GhashKey + Drop> Gcm<C, H> {
         *tag = self.tag(iv, associated, text);
     }
 
-    /// Makes the plaintext of `text` in its place (7.2). `EBADMSG` exactly where `tag` isn't the front of the full tag: the
-    /// text is then unchanged.
+    /// Makes the plaintext of `text` in its place (7.2). `associated` and `text` have fewer than 2^32 bytes each, `tag` has 4, 8 or
+    /// 12 to 16. `EBADMSG` exactly where `tag` isn't the front of the full tag: the text is then unchanged.
     pub fn unseal(
         &self,
         iv: &[u8; 12],

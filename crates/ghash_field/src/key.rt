@@ -11,6 +11,7 @@ pub trait GhashKey {
     /// The block H, as a number.
     ghost block: { Self → ℕ };
 
+    /// Prepares H, the cipher of the block of zeros.
     fn new(h: [u8; 16]) -> Self
         ensures { block result ≡ number_of h };
 

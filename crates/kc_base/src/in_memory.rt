@@ -23,6 +23,7 @@ impl Model for SureSource {
 }
 
 impl SureSource {
+    /// A source of these bytes.
     pub fn new(bytes: Bytes) -> SureSource
         ensures { result ≡ bytes }
     {
@@ -71,6 +72,7 @@ impl Model for SureSink {
 }
 
 impl SureSink {
+    /// A sink that holds nothing yet.
     pub fn new(alloc: Global) -> SureSink
         ensures { result ≡ [] }
     {
@@ -122,6 +124,7 @@ impl Model for MemSource {
 }
 
 impl MemSource {
+    /// A source of these bytes, at most `step` a read, which is above 0. Reads are counted from 0.
     pub fn new(bytes: Bytes, step: usize, failing: Vec<u64>) -> MemSource
         requires { 0 < step }
         ensures { result ≡ record { left = bytes; step = step; failing = failing.items; calls = 0; faults = 0 } }
@@ -188,6 +191,7 @@ impl Model for MemSink {
 }
 
 impl MemSink {
+    /// A sink that holds nothing yet, and takes at most `step` bytes a write, which is above 0. Writes are counted from 0.
     pub fn new(alloc: Global, step: usize, failing: Vec<u64>) -> MemSink
         requires { 0 < step }
         ensures { result ≡ record { held = []; step = step; failing = failing.items; calls = 0; faults = 0 } }
@@ -252,6 +256,7 @@ impl Model for RepeatSource {
 }
 
 impl RepeatSource {
+    /// A source of `count` bytes `byte`.
     pub fn new(byte: u8, count: u64) -> RepeatSource
         ensures { result ≡ record { byte = byte; count = count } }
     {

@@ -2,20 +2,29 @@
 ghost use Rattle.std.specs.Prelude.{◌≡◌, ◌<◌, ◌≤◌, List, ℕ, Option, length};
 ghost use Rattle.kc_base.specs.Streams.{IsReadCount, IsWriteCount, Reads, Writes, Rose};
 
+/// What a read came to.
 #[derive(Clone, Copy, Debug, PartialEq, Eq)]
 pub enum ReadAnswer {
+    /// So many bytes, one at least.
     Got(usize),
+    /// None are left.
     Ended,
+    /// It failed, and took none.
     Failed,
 }
 
+/// What a write came to.
 #[derive(Clone, Copy, Debug, PartialEq, Eq)]
 pub enum WriteAnswer {
+    /// So many bytes were taken, one at least.
     Took(usize),
+    /// It failed, and none was taken.
     Failed,
+    /// Memory is wanting, and none was taken.
     NoMemory,
 }
 
+/// Where bytes come from.
 pub trait Source {
     /// The bytes that are left, where they are told.
     ghost left: { Self → Option (List ℕ) };
@@ -23,7 +32,7 @@ pub trait Source {
     /// How often a read has failed. It never falls, and stands still at 2 ^ 64 - 1.
     ghost faults: { Self → ℕ };
 
-    /// The next bytes, at the front of `buf`.
+    /// The next bytes, at the front of `buf`, which has a byte at least.
     fn read(&mut self, buf: &mut [u8]) -> ReadAnswer
         requires { 0 < length buf.old }
         ensures count { IsReadCount result (length buf.new) }
@@ -32,6 +41,7 @@ pub trait Source {
         ensures cause { result ≡ ReadAnswer.Failed → Rose (faults self.old) (faults self.new) };
 }
 
+/// Where bytes go.
 pub trait Sink {
     /// The bytes that it holds, where they are told.
     ghost held: { Self → Option (List ℕ) };
@@ -39,7 +49,7 @@ pub trait Sink {
     /// How often a write has failed. It never falls, and stands still at 2 ^ 64 - 1.
     ghost faults: { Self → ℕ };
 
-    /// Takes a front of the piece.
+    /// Takes a front of the piece, which has a byte at least.
     fn write(&mut self, piece: &[u8]) -> WriteAnswer
         requires { 0 < length piece.now }
         ensures count { IsWriteCount result (length piece.now) }

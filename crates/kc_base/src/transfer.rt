@@ -7,9 +7,12 @@ ghost use Rattle.kc_base.specs.Streams.{AppendsFront, StopsReading, Rose};
 use crate::{Bytes, ReadAnswer, Sink, Source, WriteAnswer};
 use std::alloc::{AllocError, Global};
 
+/// Why a piece was not taken whole.
 #[derive(Clone, Copy, Debug, PartialEq, Eq)]
 pub enum SinkError {
+    /// A write failed.
     Failed,
+    /// The sink lacks memory.
     NoMemory,
 }
 
@@ -21,14 +24,19 @@ impl From<AllocError> for SinkError {
     }
 }
 
+/// Why an input was not read whole.
 #[derive(Clone, Copy, Debug, PartialEq, Eq)]
 pub enum InputError {
+    /// A read failed.
     Failed,
+    /// Memory is wanting for what was read.
     NoMemory,
+    /// The input has more bytes than are allowed.
     TooLong,
 }
 
-/// Hands the whole piece to the sink. What it does not take is offered again.
+/// Hands the whole piece to the sink. What it does not take is offered again. `Failed` where a write failed, `NoMemory` where the sink
+/// lacks memory: it has taken a front of the piece then.
 pub fn write_piece<K: Sink>(out: &mut K, piece: &[u8]) -> Result<(), SinkError>
     ensures bytes { MatchResult result
         (λ _. Appends (K.held out.old) (K.held out.new) piece.now)
@@ -47,7 +55,8 @@ pub fn write_piece<K: Sink>(out: &mut K, piece: &[u8]) -> Result<(), SinkError>
     Ok(())
 }
 
-/// Reads to the end, by a buffer, and gives up above the limit.
+/// Reads to the end, by `buf`, which has a byte at least, and gives all of it. `TooLong` where more than `limit` bytes came, `Failed`
+/// where a read failed, `NoMemory`: what was read is lost then.
 pub fn read_input<S: Source>(
     alloc: Global,
     src: &mut S,

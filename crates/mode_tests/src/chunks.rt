@@ -41,7 +41,7 @@ fn is_cut(rt: &impl Abort, job: &MtJob, chunk: u64, count: u64, last: u64) {
     );
 }
 
-/// Chunks as the kernel's formula gives them, worked by hand.
+/// Chunks whose length is by the kernel's formula, worked by hand.
 #[test]
 fn chunks_by_hand(rt: HostRuntime) {
     for (size, min_chunk, max_threads, chunk, count, last) in [

@@ -1,5 +1,5 @@
--- How a job is cut into chunks for several threads, as the kernel's padata_do_multithreaded cuts it. All quotients are rounded
--- down.
+-- How a job is cut into chunks for several threads. The length of a chunk is that of the kernel's padata_do_multithreaded; chunks
+-- are counted from the job's start. All quotients are rounded down.
 use Rattle.std.specs.Prelude.{◌≡◌, ◌⊎◌, ◌<◌, ◌≤◌, ◌==◌, ℕ, ◌+◌, ◌-◌, ◌*◌, ◌/◌, ◌%◌, if◌then◌else◌, min, max}
 use Rattle.std.specs.Int.{next_multiple_of}
 use Rattle.std.specs.declared.ops.Range.{Range}

@@ -39,7 +39,7 @@ impl Model for Segs {
 }
 
 impl Segs {
-    /// The text of these segments, each a piece of its own.
+    /// The text of these segments, each a piece of its own. Together they have fewer than 2^63 bytes.
     pub fn from_parts(parts: Vec<Bytes>) -> Segs
         requires { length (concat parts.items) < 2 ^ 63 }
         ensures { result ≡ segmented parts.items }
@@ -52,7 +52,7 @@ impl Segs {
         }
     }
 
-    /// The text of these bytes, which stay one piece, in segments of these sizes.
+    /// The text of these bytes, which stay one piece, in segments of these sizes, whose sum is the number of bytes.
     pub fn cut_from(alloc: Global, bytes: Bytes, sizes: Vec<usize>) -> Result<Segs, AllocError>
         requires { sum sizes.items ≡ length bytes }
         ensures { IfOk result (λ segs. segs ≡ record { text = bytes; sizes = sizes.items }) }
@@ -112,7 +112,7 @@ impl Segs {
         }
     }
 
-    /// Copies the bytes of the text from `at` on, as many as `into` has room for.
+    /// Fills `into` with the bytes of the text from `at` on. The text has as many there.
     pub fn copy_out(&self, at: usize, into: &mut [u8])
         requires { at + length into.old ≤ length self.now.text }
         ensures { into.new ≡ take (length into.old) (drop at self.now.text) }
@@ -120,7 +120,7 @@ impl Segs {
         gather(&self.parts, 0, at, into);
     }
 
-    /// Writes the piece over the bytes of the text from `at` on. Each segment keeps its length.
+    /// Writes the piece over the bytes of the text from `at` on, within the text. Each segment keeps its length.
     pub fn copy_in(&mut self, at: usize, piece: &[u8])
         requires { at + length piece.now ≤ length self.old.text }
         ensures text { self.new.text ≡ written at piece.now self.old.text }
@@ -155,7 +155,7 @@ impl Segs {
         })
     }
 
-    /// Keeps the first `len` bytes of the text: each segment keeps its front, and those behind are empty then.
+    /// Keeps the first `len` bytes of the text, which has as many: each segment keeps its front, and those behind are empty then.
     pub fn cut(&mut self, len: usize)
         requires { len ≤ length self.old.text }
         ensures text { self.new.text ≡ take len self.old.text }
@@ -168,7 +168,7 @@ impl Segs {
     }
 
     /// Has the walker go over the text from its front: over the whole blocks of 16 bytes that lie in one segment where they
-    /// are, and over what lies in several in pieces of eight blocks. Each segment keeps its length.
+    /// are, and over what lies in several in pieces of eight blocks, or of what is left. Each segment keeps its length.
     pub fn walk<W: Walker>(&mut self, walker: &mut W)
         ensures text { W.makes walker.old self.old.text self.new.text walker.new }
         ensures sizes { self.new.sizes ≡ self.old.sizes }

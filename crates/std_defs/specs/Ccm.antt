@@ -71,7 +71,7 @@ unfoldable pub ccm_seal : BlockFunction → ℕ → List ℕ → List ℕ → Li
 ccm_seal cipher t iv associated plaintext =
     if ccm_takes_iv iv then Some (ccm_text cipher iv plaintext, ccm_tag cipher t iv associated plaintext) else None
 
--- the plaintext of a ciphertext where the tag is its (6.2)
+-- the plaintext of a ciphertext where the tag is its (6.2). An empty one is opened too, as by RFC 3610, where step 1 would refuse it.
 unfoldable pub ccm_open : BlockFunction → List ℕ → List ℕ → List ℕ → List ℕ → Value
 ccm_open cipher iv associated ciphertext tag =
     let plaintext = ccm_text cipher iv ciphertext in

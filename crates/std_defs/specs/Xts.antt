@@ -1,6 +1,6 @@
 -- XTS (IEEE Std 1619) over two cipher functions on blocks of sixteen bytes: that of Key1, forward or inverse, and the forward
 -- one of Key2, which makes the tweaks. Section numbers are the standard's, and so are the letters: a data unit of m whole
--- blocks and b further bytes, and its tweak value i, of sixteen bytes.
+-- blocks and b further bytes (bits, in the standard), and its tweak value i, of sixteen bytes.
 use Rattle.std.specs.Prelude.{ℕ, zero, suc, ◌-◌, ◌*◌, ◌/◌, ◌%◌, ◌==◌, nat_lt, Option, Some, None, if◌then◌else◌, List, ◌++◌, length, take, drop, map, slice_index, bit_xor}
 use Rattle.std.specs.List.{range_with_len}
 use Rattle.std_defs.specs.Blocks.{xor_blocks, text_block, joined}
