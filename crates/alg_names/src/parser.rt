@@ -34,7 +34,8 @@ fn build(alloc: Global, text: &[u8]) -> Result<Name, NameErr>
 /// The name that a text spells.
 ///
 /// `TooLong` above 127 bytes; then `Bad(p)` where the text is no name, `p` being the length of its longest front that
-/// begins one; then `TooDeep` above 8 levels; then `TooMany` above 4 arguments at a template.
+/// begins one; then `TooDeep` above 8 levels; then `TooMany` above 4 arguments at a template. `Memory` may
+/// come in place of any.
 pub fn parse_name(alloc: Global, text: &[u8]) -> Result<Name, NameErr>
     ensures name { IfOk result (λ n. IsName text.now n × IsAllowed n) }
     ensures refused { IfErr result (λ e. IsRefusedFor e text.now) }

@@ -15,10 +15,10 @@ pub enum RegErr {
     /// The driver equals the name or the driver of a listed entry, or the name equals the driver of one.
     #[error("the name is taken")]
     Exist,
-    /// No entry has that driver.
+    /// No entry that counts has the driver: for `unlist` a listed one, for `refs` a held one.
     #[error("no such algorithm")]
     NoEnt,
-    /// The entry is no longer listed.
+    /// The entry isn't listed: no longer, or no entry has the id.
     #[error("the algorithm is no longer listed")]
     Again,
     /// The registry holds as many entries as it may.
@@ -54,7 +54,7 @@ pub enum Looked {
     Pending(u64),
     /// A larval of this number began for the text.
     Began(u64),
-    /// Nothing answers to the text, and it names no template.
+    /// Nothing answers to the text, and no `(` stands in it.
     Absent,
 }
 
@@ -134,7 +134,7 @@ pub enum RegEntry {
         driver: Bytes,
         answer: Option<u64>,
     },
-    /// `ok` is false where the entry was no longer listed.
+    /// `ok` is false where no listed entry has the id.
     Get {
         caller: u32,
         id: u64,

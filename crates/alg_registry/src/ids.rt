@@ -61,18 +61,21 @@ impl Ids {
         Ok(())
     }
 
+    /// The ids, in the order in which they came.
     pub fn as_slice(&self) -> &[u64]
         ensures { result.now ≡ self.now }
     {
         &self.inner
     }
 
+    /// How many ids there are.
     pub fn len(&self) -> usize
         ensures { result ≡ length self.now }
     {
         self.inner.len()
     }
 
+    /// Whether there is no id.
     pub fn is_empty(&self) -> bool
         ensures { IsTrue result ↔ (self.now ≡ []) }
     {

@@ -196,7 +196,7 @@ impl Registry {
         })
     }
 
-    /// Lists an algorithm that stands on no other, and answers its id.
+    /// Lists an algorithm that stands on no other and isn't wrapped, and answers its id. The caller is no worker.
     ///
     /// `Exist` comes where its driver equals the name or the driver of a listed entry, or its name equals the driver
     /// of one; otherwise `NFile` where 4,096 entries are held. Both are recorded. `Memory` leaves all as it was.
@@ -229,7 +229,7 @@ impl Registry {
         result_of(answer)
     }
 
-    /// Looks for what answers to the text. With `plain` only entries that are not wrapped count.
+    /// Looks for what answers to the text. With `plain` only entries that are not wrapped count; without it the caller is no worker.
     ///
     /// An entry whose driver is the text is found. Otherwise, of the entries whose name is the text, or with which a
     /// larval of the text ended, the one of greatest priority is found, and of equal priorities the newest. Where there
@@ -376,7 +376,8 @@ impl Registry {
         }
     }
 
-    /// How the larval ended. Answers `None`, and records nothing, while it is pending. `Memory` is the only refusal.
+    /// How the larval ended, which has begun. Answers `None`, and records nothing, while it is pending. `Memory` is the only refusal,
+    /// and leaves all as it was.
     pub fn waited(&mut self, caller: u32, larval: u64) -> Result<Option<Ended>, RegErr>
         requires { larval < length (larvals_of self.old) }
         ensures answer { IfOk result (λ ended. ended ≡ ended_as self.old larval) }
@@ -395,6 +396,7 @@ impl Registry {
     }
 
     /// Takes the entry of the driver off the list, and with it what stands on it. Who has a reference keeps the entry.
+    /// The caller is no worker.
     ///
     /// `NoEnt` comes where no listed entry has the driver, and is recorded. `Memory` leaves all as it was.
     pub fn unlist(&mut self, caller: u32, driver: &[u8]) -> Result<(), RegErr>
@@ -428,6 +430,7 @@ impl Registry {
     }
 
     /// Takes a reference to a listed entry. The room of the entry that `put_ref` records is kept from here on.
+    /// The caller is no worker.
     ///
     /// `Again` comes where the entry isn't listed, and is recorded. `Memory` leaves all as it was.
     pub fn take_ref(&mut self, caller: u32, id: u64) -> Result<(), RegErr>
@@ -456,6 +459,7 @@ impl Registry {
     }
 
     /// Gives a reference of the caller back. An entry that is neither listed nor referenced is gone. No memory is taken.
+    /// The caller is no worker.
     pub fn put_ref(&mut self, caller: u32, id: u64)
         requires outsider { IsFalse (is_worker caller) }
         requires has { HasReference self.old caller id }
@@ -466,7 +470,7 @@ impl Registry {
         self.rows.put(id as usize);
     }
 
-    /// The references of the newest held entry of the driver.
+    /// The references of the newest held entry of the driver. The caller is no worker.
     ///
     /// `NoEnt` comes where no held entry has the driver, and is recorded. `Memory` leaves all as it was.
     pub fn refs(&mut self, caller: u32, driver: &[u8]) -> Result<RefAnswer, RegErr>
@@ -488,7 +492,7 @@ impl Registry {
         }
     }
 
-    /// The listed entries by id. `Memory` is the only refusal, and leaves all as it was.
+    /// The listed entries by id. `Memory` is the only refusal, and leaves all as it was. The caller is no worker.
     pub fn list(&mut self, caller: u32) -> Result<Listing, RegErr>
         requires { IsFalse (is_worker caller) }
         ensures answer { IfOk result (λ rows. rows ≡ listing (rows_of self.old)) }
@@ -510,7 +514,8 @@ impl Registry {
         held_spec_at(self.rows.all(), id)
     }
 
-    /// A copy of the entry as it came to be, held or not. `None` where no entry ever had the id.
+    /// A copy of the entry as it came to be, held or not. `None` where no entry ever had the id. `Memory` is the only refusal.
+    /// Nothing is recorded.
     pub fn origin(&self, id: u64) -> Result<Option<Spec>, RegErr>
         ensures answer { IfOk result (λ origin. origin ≡ slice_get (registered self.now) id) }
         ensures memory { IfErr result (λ e. e ≡ RegErr.Memory) }

@@ -11,7 +11,7 @@ pub enum Shape {
     /// A queue: its jobs run one at a time, in order. So many requests wait before its backlog begins, at least 1.
     Queue(u32),
     /// A chain: a queue of so many before its backlog begins, at least 1, whose requests go on to a pad within, of so many
-    /// reorder lists.
+    /// reorder lists, 1 to 16.
     Chain(u32, u32),
 }
 
@@ -82,7 +82,7 @@ pub enum BoardEntry<A> {
         caller: u32,
         pipe: u64,
     },
-    /// A queue's jobs are run again.
+    /// A queue's jobs are run again, and a chain's requests go on again.
     Go {
         caller: u32,
         pipe: u64,

@@ -40,7 +40,7 @@ impl<J, F> Model for Cryptd<J, F> {
 }
 
 impl<J: Drop, F: Drop> Cryptd<J, F> {
-    /// An empty queue with room for no job, neither held nor busy.
+    /// An empty queue of bound `max`, at least 1, with room for no job, neither held nor busy.
     pub fn new(alloc: Global, max: u32) -> Result<Cryptd<J, F>, AllocError>
         requires { 1 ≤ max }
         ensures { IfOk result (λ server. server ≡ record { line = record { max = max; served = 0; waiting = []; spare = 0 }; held = false; busy = false; passed = 0; pending = []; spare = 0 }) }
@@ -112,7 +112,7 @@ impl<J: Drop, F: Drop> Cryptd<J, F> {
     }
 
     /// Accepts the job where fewer than `max` wait, and past that into the backlog where `backlog` permits it. Otherwise
-    /// hands it back. `number` is how many were accepted before. There must be room for one.
+    /// hands it back. `number` is how many were accepted before, fewer than 2^63. There must be room for one.
     pub fn enqueue(&mut self, number: u64, job: J, backlog: bool) -> Verdict<J>
         requires spare { 1 ≤ self.old.spare }
         requires number { number ≡ accepted self.old.line }

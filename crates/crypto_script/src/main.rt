@@ -1,4 +1,4 @@
-//! A script of the crypto API on standard input, answered line by line on standard output.
+//! A script of the crypto API on standard input, whose lines are answered on standard output; or a load of requests.
 #![tactic(auto)]
 
 #[cfg(test)]

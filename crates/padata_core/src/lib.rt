@@ -44,7 +44,7 @@ impl<J, F> Model for Padata<J, F> {
 }
 
 impl<J: Drop, F: Drop> Padata<J, F> {
-    /// An empty pipeline with room for no job.
+    /// An empty pipeline of `lists` reorder lists, at least 1, with room for no job. Only want of memory is an error.
     pub fn new(alloc: Global, lists: u32) -> Result<Padata<J, F>, AllocError>
         requires { 1 ≤ lists }
         ensures { IfOk result (λ pad. pad ≡ record { lists = lists; collected = 0; outcomes = []; waiting = []; spare = 0 }) }
@@ -86,7 +86,7 @@ impl<J: Drop, F: Drop> Padata<J, F> {
         Ok(())
     }
 
-    /// Takes a job in, and gives it the next number. There must be room for one.
+    /// Takes a job in, and gives it the next number. There must be room for one, and fewer than 2^63 were submitted.
     pub fn submit(&mut self, job: J) -> u64
         requires spare { 1 ≤ self.old.spare }
         requires number { submitted_of self.old < 2 ^ 63 }
@@ -199,7 +199,7 @@ impl<J: Drop, F: Drop> Padata<J, F> {
         }
     }
 
-    /// From now on the outcome of number n waits on the list n mod `lists`, and the finished ones move there. There is room
+    /// From now on the outcome of number n waits on the list n mod `lists`, at least 1, and the finished ones move there. There is room
     /// for what is not collected and for as many further jobs as before. Want of memory changes nothing.
     pub fn remask(&mut self, lists: u32) -> Result<(), AllocError>
         requires { 1 ≤ lists }

@@ -19,11 +19,12 @@ pub enum Answer {
         line: u32,
         driver: Bytes,
     },
-    /// Refused, or a queue's verdict.
+    /// Refused, or a pipeline's verdict: `EINPROGRESS`, `EBUSY` or `ENOSPC`.
     Refused {
         line: u32,
         errno: Errno,
     },
+    /// The line is no command.
     Malformed {
         line: u32,
     },

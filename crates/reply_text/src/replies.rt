@@ -149,6 +149,7 @@ impl Reply {
     {
         say_bytes(self, line, b"done", bytes)
     }
+
     /// Adds the line `end` of this label, as [`Reply::put`] adds `Answer::End`, without a copy of the label.
     pub fn put_end(&mut self, label: &[u8], count: u64) -> Result<(), AllocError>
         ensures ok { OnOk result (self.new.text ≡ self.old.text ++ text_of (Answer.End label.now count)) }

@@ -37,6 +37,7 @@ impl Reply {
         }
     }
 
+    /// The text.
     pub fn as_slice(&self) -> &[u8]
         ensures { result.now ≡ self.now.text }
     {
@@ -50,7 +51,7 @@ impl Reply {
         self.text.len()
     }
 
-    /// Keeps the first `len` bytes of the text, all where it has no more. The room for the others is kept.
+    /// Keeps the first `len` bytes of the text, all where it has no more. The room for further bytes gets no smaller.
     pub fn truncate(&mut self, len: usize)
         ensures text { self.new.text ≡ take len self.old.text }
         ensures room { self.old.spare ≤ self.new.spare }
@@ -58,7 +59,8 @@ impl Reply {
         self.text.truncate(len);
     }
 
-    /// Takes the room for `more` further bytes at least, where it isn't there. Want of memory leaves all as it was.
+    /// Takes the room for `more` further bytes at least, where it isn't there; the text stays. Want of memory comes only where it
+    /// isn't there, always where it would be 2^63 bytes or more, and leaves all as it was.
     pub fn reserve(&mut self, more: usize) -> Result<(), AllocError>
         ensures text { self.new.text ≡ self.old.text }
         ensures room { OnOk result (more ≤ self.new.spare) }

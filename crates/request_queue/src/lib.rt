@@ -50,7 +50,7 @@ impl<T> Model for Queue<T> {
 }
 
 impl<T: Drop> Queue<T> {
-    /// An empty queue with room for no item.
+    /// An empty queue of bound `max`, at least 1, with room for no item.
     pub fn new(alloc: Global, max: u32) -> Result<Queue<T>, AllocError>
         requires { 1 ≤ max }
         ensures { IfOk result (λ line. line ≡ record { max = max; served = 0; waiting = []; spare = 0 }) }
@@ -100,7 +100,7 @@ impl<T: Drop> Queue<T> {
     }
 
     /// Accepts the item where fewer than `max` wait, and past that into the backlog where `backlog` permits it. Otherwise
-    /// hands it back. `number` is how many were accepted before. There must be room for one.
+    /// hands it back. `number` is how many were accepted before, fewer than 2^63. There must be room for one.
     pub fn enqueue(&mut self, number: u64, item: T, backlog: bool) -> Verdict<T>
         requires spare { 1 ≤ self.old.spare }
         requires number { number ≡ accepted self.old }

@@ -1,4 +1,5 @@
-//! A script of the crypto API on standard input, answered line by line on standard output: what `crypto_script` does without words.
+//! A script of the crypto API on standard input, whose lines are answered on standard output: what `crypto_script` does without
+//! words.
 //!
 //! A third of what `crypto_script` is compiled from reads its words. This program has none of that, so it stands sooner.
 #![tactic(auto)]

@@ -16,10 +16,15 @@ pub const NO_MEMORY: u8 = 5;
 /// Why a run did not reach the end.
 #[derive(Clone, Copy, Debug, PartialEq, Eq)]
 pub enum RunError {
+    /// The words are no command.
     Usage,
+    /// A read of the source failed.
     ReadFault,
+    /// A write to the sink failed.
     WriteFault,
+    /// Memory is wanting.
     NoMemory,
+    /// The source has more bytes than may come.
     TooLong,
 }
 
@@ -54,7 +59,8 @@ impl From<SinkError> for RunError {
     }
 }
 
-/// The program's status, by whether a line is malformed, or why the run did not reach the end.
+/// The program's status: 0 where no line is malformed, 1 where one is; and where the run did not reach the end, 2 for `Usage`, 3 for
+/// `ReadFault`, 4 for `WriteFault`, 5 for `NoMemory` and 6 for `TooLong`.
 pub fn status_by(answer: Result<bool, RunError>) -> u8
     ensures { result ≡ status_of answer }
 {

@@ -121,8 +121,8 @@ impl LineCutter {
         self.seen = length;
     }
 
-    /// The next line that a line feed ends, or `None` exactly where none is left. No byte is looked at twice. Want of memory
-    /// changes nothing.
+    /// The next line that a line feed ends, or `None` exactly where none is left. It looks for a line feed in no byte twice. Want
+    /// of memory changes nothing.
     pub fn next(&mut self) -> Result<Option<Line>, AllocError>
         ensures line { IfOk result (CutsNext self.old self.new) }
         ensures short { IfOk result (λ answer. IfSome answer IsShortLine) }

@@ -163,8 +163,9 @@ impl BoardCaller {
         answer
     }
 
-    /// Hands a job in to a pad of the caller's, and answers its number. `TooBig` exactly where the caller's allowance has no
-    /// room for the job; `NoWorker` never, since some worker may take from it.
+    /// Hands a job in to a pad of the caller's, from which some worker may take, and answers its number. `TooBig` exactly where
+    /// the caller's allowance has no room for the job, otherwise `Memory`; `NoWorker` never. An error drops the job, and leaves
+    /// the caller's pipelines as they were.
     pub fn submit<R: Wait>(
         &mut self,
         rt: &R,
@@ -192,8 +193,9 @@ impl BoardCaller {
         answer
     }
 
-    /// Hands a job in to a queue or a chain of the caller's, and answers its verdict. `TooBig` exactly where the caller's allowance has no
-    /// room for the job; `NoWorker` never.
+    /// Hands a job in to a queue or a chain of the caller's, and answers its verdict. `TooBig` exactly where the caller's allowance
+    /// has no room for the job, otherwise `Memory`; `NoWorker` never. An error drops the job, and leaves the caller's pipelines as
+    /// they were.
     pub fn enqueue<R: Wait>(
         &mut self,
         rt: &R,
@@ -260,7 +262,8 @@ impl BoardCaller {
         answer
     }
 
-    /// From now on no request of a queue of the caller's is run, and none of a chain goes on. Only want of memory refuses.
+    /// From now on no request of a queue of the caller's is begun, and none of a chain goes on; what was begun, or has gone on, is
+    /// done. Only want of memory refuses.
     pub fn hold<R: Wait>(
         &mut self,
         rt: &R,
@@ -352,7 +355,7 @@ impl BoardCaller {
         answer
     }
 
-    /// Shuts the board, by the caller with the number 0. No memory is taken.
+    /// Shuts the board, which isn't shut yet, by the caller with the number 0. No memory is taken.
     pub fn shut<R: Wait>(&mut self, rt: &R, board: &SharedBoard<Job>)
         requires at { CallsBoard board.now self.old }
         requires first { (known self.old).number ≡ 0 }

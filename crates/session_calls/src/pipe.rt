@@ -62,12 +62,13 @@ impl Lines {
 pub struct Pipe {
     /// Its number on the board.
     pub number: u64,
-    /// How many requests may wait in a queue before it is full; none for a pad.
+    /// How many requests may wait in a queue, or in a chain's line, before it is full; `None` for a pad.
     pub bound: Option<u32>,
     /// Whether it is held.
     pub held: bool,
     /// Whether no worker may take from it: it is a pad whose mask is empty.
     pub unmanned: bool,
+    /// The lines of the requests that it accepted.
     pub lines: Lines,
     /// How many completions it handed out.
     pub delivered: u64,

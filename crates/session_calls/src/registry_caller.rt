@@ -157,7 +157,9 @@ impl RegistryCaller {
         self.pass.unwrap()
     }
 
-    /// Lists a driver that stands on no other. Only want of memory stops it, and then nothing is recorded.
+    /// Lists a driver of the table that stands on no other, and answers its id. `Exist` comes where its driver equals the name or
+    /// the driver of a listed entry, or its name the driver of one; otherwise `NFile` where 4,096 entries are held. Both are
+    /// recorded. Only want of memory stops it, and then nothing is recorded.
     pub fn enlist<R: Wait>(
         &mut self,
         rt: &R,
@@ -178,8 +180,8 @@ impl RegistryCaller {
         enlisted(answer)
     }
 
-    /// Takes a driver off the list, and says whether it was there. Only want of memory stops it, and then nothing is
-    /// recorded.
+    /// Takes the entry of a driver off the list, and with it what stands on it, and says whether it was there. Only want of memory
+    /// stops it, and then nothing is recorded.
     pub fn unlist<R: Wait>(
         &mut self,
         rt: &R,
@@ -199,8 +201,8 @@ impl RegistryCaller {
         unlisted(answer)
     }
 
-    /// Takes a reference of an entry, and says whether it was still listed. Only want of memory stops it, and then nothing is
-    /// recorded.
+    /// Takes a reference of an entry where it is still listed, and says whether it was. Only want of memory stops it, and then
+    /// nothing is recorded.
     pub fn take_ref<R: Wait>(
         &mut self,
         rt: &R,
@@ -263,8 +265,8 @@ impl RegistryCaller {
         listed(answer)
     }
 
-    /// Looks a name up, and builds what is missing or waits for who builds it. An errno is what the look comes to where it
-    /// comes to no entry. Only want of memory stops it.
+    /// Looks a name up, builds what is missing or waits for who builds it, and answers the id of the entry. An errno is what the
+    /// look comes to where it comes to no entry. Only want of memory stops it, and then calls may have been recorded.
     pub fn resolve<R: Wait>(
         &mut self,
         rt: &R,

@@ -6,6 +6,7 @@ use std::alloc::{AllocError, AllocFailed};
 /// Why a session goes no further. It takes no line after this.
 #[derive(Clone, Copy, Debug, PartialEq, Eq)]
 pub enum Stop {
+    /// Memory is wanting.
     Memory,
 }
 

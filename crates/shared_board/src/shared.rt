@@ -30,7 +30,7 @@ use turn_lock::{Pass, Turn, TurnLock};
 /// What one caller knows of a board, and its right to take a turn on it.
 pub type BoardPass<W> = Pass<BoardEntry<<W as Work>::Ask>>;
 
-/// A board for many threads, each of which has a pass and takes its turn.
+/// A board for many threads, each of which has a pass and takes its turn. A call that refuses records nothing.
 #[derive(Drop)]
 pub struct SharedBoard<W: Work> {
     lock: TurnLock<BoardCore<W>>,
@@ -63,7 +63,7 @@ impl<W: Work> SharedBoard<W> {
     }
 
     /// Two passes of one. The first keeps its number, and gives numbers above `number` from then on; the second has `number`
-    /// and has seen as much.
+    /// and has seen as much. `number` is at least the pass's `next`, and below 2^32 - 1. No turn is taken.
     pub fn split(&self, pass: BoardPass<W>, number: u32) -> (BoardPass<W>, BoardPass<W>)
         requires lock { IsPassOn self.now pass }
         requires number { ((knows pass).next ≤ number) × (number + 1 < 2 ^ 32) }
@@ -86,8 +86,8 @@ impl<W: Work> SharedBoard<W> {
     }
 
     /// Makes a pad of `lists` reorder lists, 1 to 16, from which the workers 1 to `lists` may take, and answers its number.
-    /// The caller is no worker. Only want of memory refuses. A job wakes one worker that sleeps, whichever it is: beside more
-    /// workers than lists it may be one that may not take it.
+    /// The caller is no worker. Only want of memory refuses. Until a pad is masked a job wakes at most one worker that sleeps,
+    /// whichever it is: beside more workers than lists it may be one that may not take it.
     pub fn born_pad<R: Wait>(
         &self,
         rt: &R,
@@ -332,7 +332,7 @@ impl<W: Work> SharedBoard<W> {
         (pass, passed)
     }
 
-    /// From now on no request of the queue is run, and none of the chain goes on to its pad. The caller made it, and it isn't
+    /// From now on no request of the queue is begun, and none of the chain goes on to its pad. The caller made it, and it isn't
     /// closed. Only want of memory refuses.
     pub fn hold<R: Wait>(
         &self,
@@ -487,7 +487,8 @@ impl<W: Work> SharedBoard<W> {
         self.bells.watch_ends()
     }
 
-    /// Wakes a worker that sleeps, if there is one: something else than a job may be there for it.
+    /// Counts as a job that came, since something else than a job may be there for a worker: wakes one that sleeps, unless enough
+    /// stay awake, and all of them once a pad was masked.
     pub fn call_worker(&self) {
         self.bells.ring_job();
     }

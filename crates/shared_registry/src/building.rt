@@ -395,7 +395,8 @@ fn resolve_within<R: Wait>(
 /// Looks for the name, and builds it where a larval of it is pending that nobody has claimed, children first from left to
 /// right; where another caller builds it, waits for its end.
 ///
-/// `Fault` is what the look comes to where it comes to no entry. `Memory` leaves no larval that this call claimed unended.
+/// `nesting` takes the name. Without `plain` the caller is no worker; with it the name is the next child of what the caller claimed
+/// last. `Fault` is what the look comes to where it comes to no entry. `Memory` leaves no larval that this call claimed unended.
 pub fn resolve<R: Wait>(
     rt: &R,
     alloc: Global,
@@ -415,7 +416,7 @@ pub fn resolve<R: Wait>(
     resolve_within(rt, alloc, registry, pass, name, plain)
 }
 
-/// What `resolve` does after its look, for a look of the name that this pass made.
+/// What `resolve` does after its look, with its errors, for a look of the name that this pass made. `nesting` takes the name.
 pub fn settle<R: Wait>(
     rt: &R,
     alloc: Global,

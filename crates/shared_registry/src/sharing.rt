@@ -102,7 +102,7 @@ impl SharedRegistry {
         turn
     }
 
-    /// Lists a driver that stands on no other, and answers its id.
+    /// Lists a driver of the table, of any priority, which stands on no other and isn't wrapped, and answers its id.
     ///
     /// `Exist` comes where its driver equals the name or the driver of a listed entry, or its name the driver of one;
     /// otherwise `NFile` where 4,096 entries are held. Both are recorded. No worker may call it.
@@ -128,8 +128,9 @@ impl SharedRegistry {
         (turn.give(added), answer)
     }
 
-    /// Looks for the text of a name (at most 127 bytes): without `plain`, which no worker may do, for any entry; with it,
-    /// for an entry that isn't wrapped, where the text is the next child of what the caller claimed last.
+    /// Looks for the text of a name within the limits (127 bytes, 8 levels, 4 arguments at each template) that `nesting` takes: without
+    /// `plain`, which no worker may do, for any entry; with it, for an entry that isn't wrapped, where the text is the next child of
+    /// what the caller claimed last.
     ///
     /// A larval begins where nothing is found and the text has a parenthesis. `Memory` is the only refusal.
     pub fn look<R: Wait>(
@@ -209,7 +210,8 @@ impl SharedRegistry {
         (pass, answer)
     }
 
-    /// How the larval ended. Answers `None`, and records nothing, while it is pending. `Memory` is the only refusal.
+    /// How the larval ended, of which the pass has seen that it began. Answers `None`, and records nothing, while it is pending.
+    /// `Memory` is the only refusal.
     pub fn waited<R: Wait>(
         &self,
         rt: &R,
@@ -335,7 +337,8 @@ impl SharedRegistry {
         (turn.give(false), answer)
     }
 
-    /// Two passes of one: the first keeps its number, and the second gets this one. No turn is taken.
+    /// Two passes of one: the first keeps its number, and the second gets this one, which is at least the first's `next` and below
+    /// 2^32 - 1. No turn is taken.
     pub fn split(&self, pass: RegPass, number: u32) -> (RegPass, RegPass)
         requires lock { IsPassOn self.now pass }
         requires number { ((knows pass).next ≤ number) × (number + 1 < 2 ^ 32) }

@@ -45,7 +45,8 @@ impl Model for Keyed {
 impl Keyed {
     ghost use Rattle.transforms.specs.Forms.{form_of, key_of};
 
-    /// Sets a key: `Inval` exactly where the plan doesn't take it.
+    /// Sets a key. Unless memory ran out (`Memory`), `Inval` exactly where the plan doesn't take it: AES takes 16, 24 or 32 bytes, RFC
+    /// 3686 and RFC 4106 4 bytes more, XTS 32 or 64, HMAC any number, and authenc a blob with a cipher key that its cipher takes.
     pub fn set(alloc: Global, plan: &Plan, key: &[u8]) -> Result<Keyed, TfmErr>
         ensures { MatchResult result
             (λ keyed. (keyed ≡ (plan.now, key.now)) × (takes_key plan.now key.now ≡ true))

@@ -59,8 +59,8 @@ impl<T: Told> TurnLock<T> {
     }
 
     /// Two passes of one. The first keeps its number, and `number + 1` is the next that it may give; the second has `number`
-    /// and has seen as much. The numbers between, which nobody gets, are kept as ended without an entry. A pass that was
-    /// itself given has no number to give.
+    /// and has seen as much. The numbers between, which nobody gets, are kept as ended without an entry. `number` is at
+    /// least the pass's `next`, and below 2^32 - 1: a pass that was itself given has no number to give.
     pub fn split(&self, pass: Pass<T::Entry>, number: u32) -> (Pass<T::Entry>, Pass<T::Entry>)
         requires lock { IsPassOf self.now pass }
         requires number { ((knows pass).next ≤ number) × (number + 1 < 2 ^ 32) }
