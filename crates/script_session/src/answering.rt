@@ -25,7 +25,8 @@ use transforms::{Ask, Job};
 
 impl Session {
     /// Answers a line as `line` does, and adds its answers, not their text, to those that are there. `Stop` comes for want of memory
-    /// alone; the session takes no line after it.
+    /// alone: what `answers` has then isn't told, and what a `poll` or a `drain` handed out may be lost. The session takes no line
+    /// after it.
     pub fn answer_line<R: Threads + Wait + Sync, G: Gate>(
         &mut self,
         rt: &R,
@@ -48,8 +49,8 @@ impl Session {
         Ok(())
     }
 
-    /// Does what `end` does, and adds its answers, not their text, to those that are there. `Stop` comes for want of memory alone;
-    /// then the board isn't shut.
+    /// Does what `end` does, and adds its answers, not their text, to those that are there. `Stop` comes for want of memory alone:
+    /// the board isn't shut then, what `answers` has isn't told, and what was handed out may be lost.
     pub fn answer_end<R: Wait, G: Gate>(
         &mut self,
         rt: &R,

@@ -226,9 +226,10 @@ impl Session {
     /// Answers a line: it holds the line's dialogue with the registry and the board, and adds the text of what was answered to
     /// `reply`. Entries of others may lie between its calls.
     ///
-    /// `drain` does what jobs there are while it waits, `probe` builds, and `bulk` starts threads, which end in this call. A request
-    /// keeps the line's bytes. `Stop` comes for want of memory alone, with the reply as it was, and for `poll` and `drain` before the
-    /// board is called; the session takes no line after it.
+    /// Each list of bytes in the line is shorter than 2^32. `drain` does what jobs there are while it waits, `probe` builds, and `bulk`
+    /// starts threads, which end in this call. A request keeps the line's bytes. `Stop` comes for want of memory alone, with the
+    /// reply as it was; `poll` and `drain` have made no call on the board then, but jobs may have been done. The session takes no
+    /// line after it.
     pub fn line<R: Threads + Wait + Sync, G: Gate>(
         &mut self,
         rt: &R,

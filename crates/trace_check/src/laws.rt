@@ -28,12 +28,12 @@ pub fn one_verdict()
     ensures { (text : List ℕ) (v w : TraceVerdict) → IsVerdict text v → IsVerdict text w → v ≡ w }
 {}
 
-/// An event of a registry is right exactly where none of its four parts is missing.
+/// An event of a registry whose names can be printed is right exactly where none of its four parts is missing.
 pub fn registry_reasons()
     ensures right { (h : List RegEntry) (e : RegEntry) → has_text e ≡ true → (registry.IsRight h e ↔ (reg.HasState h e × reg.HasCaller h e × reg.HasNumber h e × reg.HasAnswer h e)) }
 {}
 
-/// And so is an event of a board.
+/// And so is an event of a board, after a legal history.
 pub fn board_reasons<A>()
     ensures right { (h : List (BoardEntry A)) (e : BoardEntry A) → LegalBoard h → (board.IsRight h e ↔ (brd.HasState h e × brd.HasCaller h e × brd.HasNumber h e × brd.HasAnswer h e)) }
 {}
