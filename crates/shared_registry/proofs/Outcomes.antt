@@ -214,7 +214,7 @@ module _ (laws : RegistryLaws) where
   resolved k l text plain (Ok id) (inr came) =
       let w = came.1 in
       let f = found_entry l.seen came.0 id w.sound.faithful.legal (looks_exists k l text plain came.0 w) came.2 in
-      (f.0, record { answer = came.0; work = w.work; goes = w.goes; all_work = w.all_work; found_is = f.1 })
+      (f.0, record { answer = came.0; work = w.work; goes = w.goes; all_work = w.all_work; builds = w.builds; found_is = f.1 })
   resolved k l text plain (Err (build.Fault errno)) (inr came) =
-      let w = came.1 in record { answer = came.0; work = w.work; goes = w.goes; all_work = w.all_work; found_is = ap (λ o. found_as l.seen o) came.2 }
+      let w = came.1 in record { answer = came.0; work = w.work; goes = w.goes; all_work = w.all_work; builds = w.builds; found_is = ap (λ o. found_as l.seen o) came.2 }
   resolved k l text plain (Err build.Memory) (inr came) = inr (came.0, came.1)

@@ -60,12 +60,14 @@ Ends l larval (Ok id) = outcome_of (ended_as l.seen larval) ≡ Some (Ok id)
 Ends l larval (Err (build.Fault errno)) = outcome_of (ended_as l.seen larval) ≡ Some (Err errno)
 Ends l larval (Err build.Memory) = ⊤
 
--- one look, and building and waiting for it: what the look came to in what the pass has seen then
+-- one look, and building and waiting for it: what the look came to in what the pass has seen then. What the pass was building it
+-- builds still, and nothing else: each larval that it claimed it ended
 pub record LooksFor (k l : Known RegEntry) (text : List ℕ) (plain : Bool) (found : Found) : Type 0 where
   pub answer : Looked
   pub work : List RegEntry
   pub goes : GoesOn caller_of IsFaithful k l (Look k.number text plain answer ∷ work)
   pub all_work : list_all is_building work ≡ true
+  pub builds : open_of l ≡ open_of k
   pub found_is : found_in l.seen answer ≡ Some found
 
 abbrev pub Resolved : Known RegEntry → Known RegEntry → List ℕ → Bool → Result ℕ BuildErr → Type 0

@@ -21,8 +21,6 @@ impl<'a> Watch<'a> {
 /// The bells of a registry.
 #[derive(Drop)]
 pub(crate) struct Bells {
-    /// Rings where a larval begins.
-    begins: EventCount,
     /// Rings where a larval ends.
     ends: EventCount,
     /// How many larvals began, and how many were claimed: a hint, for those who look before they take a turn.
@@ -33,16 +31,9 @@ pub(crate) struct Bells {
 impl Bells {
     pub(crate) fn new() -> Bells {
         Bells {
-            begins: EventCount::new(),
             ends: EventCount::new(),
             begun: AtomicUsize::new(0),
             claimed: AtomicUsize::new(0),
-        }
-    }
-
-    pub(crate) fn watch_begins(&self) -> Watch<'_> {
-        Watch {
-            key: self.begins.prepare_wait(),
         }
     }
 
@@ -53,9 +44,8 @@ impl Bells {
     }
 
     /// A larval began.
-    pub(crate) fn ring_begin(&self) {
+    pub(crate) fn note_begin(&self) {
         self.begun.fetch_add(1, Ordering::SeqCst);
-        self.begins.notify_one();
     }
 
     /// A larval was claimed.

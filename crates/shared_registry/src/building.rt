@@ -396,7 +396,8 @@ fn resolve_within<R: Wait>(
 /// right; where another caller builds it, waits for its end.
 ///
 /// `nesting` takes the name. Without `plain` the caller is no worker; with it the name is the next child of what the caller claimed
-/// last. `Fault` is what the look comes to where it comes to no entry. `Memory` leaves no larval that this call claimed unended.
+/// last. `Fault` is what the look comes to where it comes to no entry. However it ends, no larval that this call claimed is
+/// left unended.
 pub fn resolve<R: Wait>(
     rt: &R,
     alloc: Global,

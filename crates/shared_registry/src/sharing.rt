@@ -71,11 +71,6 @@ impl SharedRegistry {
         Ok((SharedRegistry { lock, bells }, pass))
     }
 
-    /// Announces a wait for a larval to begin.
-    pub fn watch_begins(&self) -> Watch<'_> {
-        self.bells.watch_begins()
-    }
-
     /// Announces a wait for a larval to end.
     pub fn watch_ends(&self) -> Watch<'_> {
         self.bells.watch_ends()
@@ -152,7 +147,7 @@ impl SharedRegistry {
         let added = answer.is_ok();
         let pass = turn.give(added);
         if let Ok(Looked::Began(_)) = answer {
-            self.bells.ring_begin();
+            self.bells.note_begin();
         }
         (pass, answer)
     }
