@@ -36,31 +36,52 @@ use transforms::Job;
 /// The most live transforms.
 const MOST_LIVE: usize = 4096;
 
+/// What an `alloc` asks for beside the name.
+#[derive(Drop)]
+pub struct Wanted<'a> {
+    pub label: &'a Bytes,
+    /// How many requests may wait in its queue, where the line says it.
+    pub length: Option<u32>,
+}
+
+/// An entry that a look came to, and what its driver computes.
+#[derive(Drop)]
+struct Chosen {
+    id: u64,
+    spec: Spec,
+    plan: Plan,
+}
+
 // A transform of an entry, with its pipeline, where it has one.
 fn create_live<R: Wait>(
-    alloc: Global,
     rt: &R,
+    alloc: Global,
     board: &SharedBoard<Job>,
     caller: &mut BoardCaller,
     workers: u32,
-    label: &Bytes,
-    length: Option<u32>,
-    id: u64,
-    spec: &Spec,
-    plan: Plan,
+    wanted: &Wanted<'_>,
+    chosen: &Chosen,
 ) -> Result<Transform, Stop>
     requires at { CallsBoard board.now caller.old }
     requires caller { IsNoWorker (known caller.old).number }
-    requires fits { is_queue_length length ≡ true }
+    requires fits { is_queue_length wanted.now.length ≡ true }
     requires few { workers ≤ 16 }
     ensures lock { lock_of caller.new ≡ lock_of caller.old }
     ensures created { MatchResult result
-        (λ live. CreatedLive workers label.now length id spec.now plan live (known caller.old) (known caller.new))
+        (λ live. CreatedLive workers wanted.now.label.now wanted.now.length chosen.now.id chosen.now.spec chosen.now.plan live (known caller.old) (known caller.new))
         (λ _. SeesOn (known caller.old) (known caller.new)) }
 {
-    let label = Bytes::copy_of(alloc, label.as_slice())?;
-    let pipe = create_pipe(alloc, rt, board, caller, workers, spec, length)?;
-    Ok(Transform::new(label, id, plan, pipe))
+    let label = Bytes::copy_of(alloc, wanted.label.as_slice())?;
+    let pipe = create_pipe(
+        rt,
+        alloc,
+        board,
+        caller,
+        workers,
+        &chosen.spec,
+        wanted.length,
+    )?;
+    Ok(Transform::new(label, chosen.id, chosen.plan, pipe))
 }
 
 impl Session {
@@ -69,32 +90,26 @@ impl Session {
         &mut self,
         rt: &R,
         board: &SharedBoard<Job>,
-        label: &Bytes,
-        length: Option<u32>,
-        id: u64,
-        spec: &Spec,
-        plan: Plan,
+        wanted: &Wanted<'_>,
+        chosen: &Chosen,
     ) -> Result<(), Stop>
         requires at_board { CallsBoard board.now self.old.board }
         requires posted { Posted self.old.walk (known self.old.board) }
         requires few { self.old.workers ≤ 16 }
-        requires free { live_of self.old.walk label.now ≡ None }
-        requires fits { is_queue_length length ≡ true }
+        requires free { live_of self.old.walk wanted.now.label.now ≡ None }
+        requires fits { is_queue_length wanted.now.length ≡ true }
         ensures { MatchResult result
-            (λ _. MakesLive label.now length id spec.now plan self.old self.new)
+            (λ _. MakesLive wanted.now.label.now wanted.now.length chosen.now.id chosen.now.spec chosen.now.plan self.old self.new)
             (λ _. Stops self.old self.new) }
     {
         let live = create_live(
-            self.alloc,
             rt,
+            self.alloc,
             board,
             &mut self.board,
             self.workers,
-            label,
-            length,
-            id,
-            spec,
-            plan,
+            wanted,
+            chosen,
         )?;
         self.lives.push(self.alloc, live)?;
         Ok(())
@@ -106,24 +121,21 @@ impl Session {
         rt: &R,
         board: &SharedBoard<Job>,
         number: u32,
-        label: &Bytes,
-        length: Option<u32>,
-        id: u64,
-        spec: Spec,
-        plan: Plan,
+        wanted: &Wanted<'_>,
+        chosen: Chosen,
         answers: &mut Vec<Answer>,
     ) -> Result<(), Stop>
         requires at_board { CallsBoard board.now self.old.board }
         requires posted { Posted self.old.walk (known self.old.board) }
         requires few { self.old.workers ≤ 16 }
-        requires free { live_of self.old.walk label.now ≡ None }
-        requires fits { is_queue_length length ≡ true }
+        requires free { live_of self.old.walk wanted.now.label.now ≡ None }
+        requires fits { is_queue_length wanted.now.length ≡ true }
         ensures { MatchResult result
-            (λ _. AddsLive number label.now length id spec plan self.old self.new answers.old.items answers.new.items)
+            (λ _. AddsLive number wanted.now.label.now wanted.now.length chosen.id chosen.spec chosen.plan self.old self.new answers.old.items answers.new.items)
             (λ _. Stops self.old self.new) }
     {
-        self.make_live(rt, board, label, length, id, &spec, plan)?;
-        let driver = spec.driver;
+        self.make_live(rt, board, wanted, &chosen)?;
+        let driver = chosen.spec.driver;
         say(
             answers,
             Answer::Made {
@@ -140,11 +152,8 @@ impl Session {
         board: &SharedBoard<Job>,
         registry: &SharedRegistry,
         number: u32,
-        label: &Bytes,
-        length: Option<u32>,
-        id: u64,
-        spec: Spec,
-        plan: Plan,
+        wanted: &Wanted<'_>,
+        chosen: Chosen,
         answers: &mut Vec<Answer>,
     ) -> Result<(), Stop>
         requires at_registry { CallsRegistry registry.now self.old.registry }
@@ -152,16 +161,16 @@ impl Session {
         requires stands { Stands self.old.walk.lives (known self.old.registry) }
         requires posted { Posted self.old.walk (known self.old.board) }
         requires few { self.old.workers ≤ 16 }
-        requires free { live_of self.old.walk label.now ≡ None }
-        requires fits { is_queue_length length ≡ true }
+        requires free { live_of self.old.walk wanted.now.label.now ≡ None }
+        requires fits { is_queue_length wanted.now.length ≡ true }
         ensures { MatchResult result
-            (λ _. Holds (binds_plan self.old.workers self.old.walk number label.now length id spec (Some plan)) self.old self.new answers.old.items answers.new.items)
+            (λ _. Holds (binds_plan self.old.workers self.old.walk number wanted.now.label.now wanted.now.length chosen.id chosen.spec (Some chosen.plan)) self.old self.new answers.old.items answers.new.items)
             (λ _. Stops self.old self.new) }
     {
-        if !self.registry.take_ref(rt, registry, id)? {
+        if !self.registry.take_ref(rt, registry, chosen.id)? {
             return refuse(answers, number, Errno::EAGAIN);
         }
-        self.add_live(rt, board, number, label, length, id, spec, plan, answers)
+        self.add_live(rt, board, number, wanted, chosen, answers)
     }
 
     // Takes an entry that a look came to into use.
@@ -171,8 +180,7 @@ impl Session {
         board: &SharedBoard<Job>,
         registry: &SharedRegistry,
         number: u32,
-        label: &Bytes,
-        length: Option<u32>,
+        wanted: &Wanted<'_>,
         id: u64,
         answers: &mut Vec<Answer>,
     ) -> Result<(), Stop>
@@ -181,21 +189,20 @@ impl Session {
         requires stands { Stands self.old.walk.lives (known self.old.registry) }
         requires posted { Posted self.old.walk (known self.old.board) }
         requires few { self.old.workers ≤ 16 }
-        requires free { live_of self.old.walk label.now ≡ None }
+        requires free { live_of self.old.walk wanted.now.label.now ≡ None }
         requires seen { IsSome (slice_get (registered (known self.old.registry).seen) id) }
-        requires fits { is_queue_length length ≡ true }
+        requires fits { is_queue_length wanted.now.length ≡ true }
         ensures { MatchResult result
             (λ _. (spec : Algorithm) × (slice_get (registered (known self.old.registry).seen) id ≡ Some spec)
-            × Holds (binds self.old.workers self.old.walk number label.now length (Entry id spec)) self.old self.new answers.old.items answers.new.items)
+            × Holds (binds self.old.workers self.old.walk number wanted.now.label.now wanted.now.length (Entry id spec)) self.old self.new answers.old.items answers.new.items)
             (λ _. Stops self.old self.new) }
     {
         let spec = self.registry.origin(rt, registry, id)?;
-        let Some(plan) = plan_with(self.alloc, &spec, length)? else {
+        let Some(plan) = plan_with(self.alloc, &spec, wanted.length)? else {
             return refuse(answers, number, Errno::EINVAL);
         };
-        self.take_entry(
-            rt, board, registry, number, label, length, id, spec, plan, answers,
-        )
+        let chosen = Chosen { id, spec, plan };
+        self.take_entry(rt, board, registry, number, wanted, chosen, answers)
     }
 
     // Looks a name up, and takes what is found into use.
@@ -205,9 +212,8 @@ impl Session {
         board: &SharedBoard<Job>,
         registry: &SharedRegistry,
         number: u32,
-        label: &Bytes,
+        wanted: &Wanted<'_>,
         name: &Name,
-        length: Option<u32>,
         answers: &mut Vec<Answer>,
     ) -> Result<(), Stop>
         requires at_registry { CallsRegistry registry.now self.old.registry }
@@ -215,15 +221,15 @@ impl Session {
         requires stands { Stands self.old.walk.lives (known self.old.registry) }
         requires posted { Posted self.old.walk (known self.old.board) }
         requires few { self.old.workers ≤ 16 }
-        requires free { live_of self.old.walk label.now ≡ None }
+        requires free { live_of self.old.walk wanted.now.label.now ≡ None }
         requires nested { is_nested_well name.now ≡ true }
-        requires fits { is_queue_length length ≡ true }
+        requires fits { is_queue_length wanted.now.length ≡ true }
         ensures { MatchResult result
-            (λ _. Holds (looks self.old.workers self.old.walk number label.now (spelling name.now) length) self.old self.new answers.old.items answers.new.items)
+            (λ _. Holds (looks self.old.workers self.old.walk number wanted.now.label.now (spelling name.now) wanted.now.length) self.old self.new answers.old.items answers.new.items)
             (λ _. Stops self.old self.new) }
     {
         match self.registry.resolve(rt, self.alloc, registry, name)? {
-            Ok(id) => self.bind(rt, board, registry, number, label, length, id, answers),
+            Ok(id) => self.bind(rt, board, registry, number, wanted, id, answers),
             Err(errno) => refuse(answers, number, errno),
         }
     }
@@ -235,9 +241,8 @@ impl Session {
         board: &SharedBoard<Job>,
         registry: &SharedRegistry,
         number: u32,
-        label: &Bytes,
+        wanted: &Wanted<'_>,
         name: &Bytes,
-        length: Option<u32>,
         answers: &mut Vec<Answer>,
     ) -> Result<(), Stop>
         requires at_registry { CallsRegistry registry.now self.old.registry }
@@ -246,10 +251,10 @@ impl Session {
         requires posted { Posted self.old.walk (known self.old.board) }
         requires few { self.old.workers ≤ 16 }
         ensures { MatchResult result
-            (λ _. Holds (alloc self.old.workers self.old.walk number label.now name.now length) self.old self.new answers.old.items answers.new.items)
+            (λ _. Holds (alloc self.old.workers self.old.walk number wanted.now.label.now name.now wanted.now.length) self.old self.new answers.old.items answers.new.items)
             (λ _. Stops self.old self.new) }
     {
-        if self.lives.place_of(label.as_slice()).is_some() {
+        if self.lives.place_of(wanted.label.as_slice()).is_some() {
             return refuse(answers, number, Errno::EEXIST);
         }
         if self.lives.len() >= MOST_LIVE {
@@ -260,10 +265,10 @@ impl Session {
             Err(BuildErr::Fault(errno)) => return refuse(answers, number, errno),
             Err(BuildErr::Memory) => return Err(Stop::Memory),
         };
-        if !fits_queue(length) {
+        if !fits_queue(wanted.length) {
             return refuse(answers, number, Errno::EINVAL);
         }
-        self.find(rt, board, registry, number, label, &name, length, answers)
+        self.find(rt, board, registry, number, wanted, &name, answers)
     }
 
     // `free T`

@@ -71,8 +71,8 @@ impl Session {
         let mut lives = self.lives.take_all(self.alloc)?;
         release_all(rt, board, &mut self.board, &mut lives)?;
         drain_last_all(
-            self.alloc,
             rt,
+            self.alloc,
             board,
             gate,
             &mut self.board,

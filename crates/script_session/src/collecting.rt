@@ -31,8 +31,8 @@ use transforms::{Ask, Job};
 /// `poll T` of a transform, as `poll_live`, whose text is added to a reply, where all requests of the script ask so many
 /// bytes. Where it stops, the board wasn't called.
 pub fn poll_said<R: Wait>(
-    alloc: Global,
     rt: &R,
+    alloc: Global,
     board: &SharedBoard<Job>,
     caller: &mut BoardCaller,
     line: u32,
@@ -67,8 +67,8 @@ pub fn poll_said<R: Wait>(
 /// `drain T` of a transform, as `drain_live`, whose text is added to a reply. Where it stops, the board wasn't called, but jobs that
 /// there were may have been done.
 pub fn drain_said<R: Wait, G: Gate>(
-    alloc: Global,
     rt: &R,
+    alloc: Global,
     board: &SharedBoard<Job>,
     gate: &G,
     caller: &mut BoardCaller,
@@ -117,8 +117,8 @@ fn put_end(reply: &mut Reply, label: &[u8], count: u64)
 
 // Does what jobs there are until those of a transform's pipeline are done, if it has one, and adds the text of what it hands out.
 fn drain_last_said<R: Wait, G: Gate>(
-    alloc: Global,
     rt: &R,
+    alloc: Global,
     board: &SharedBoard<Job>,
     gate: &G,
     caller: &mut BoardCaller,
@@ -154,8 +154,8 @@ fn drain_last_said<R: Wait, G: Gate>(
 /// Drains each pipeline, in order of allocation, and adds the text of what they hand out, where all requests of
 /// the script ask so many bytes. Where it stops, the reply has what was handed out.
 pub fn drain_last_said_all<R: Wait, G: Gate>(
-    alloc: Global,
     rt: &R,
+    alloc: Global,
     board: &SharedBoard<Job>,
     gate: &G,
     caller: &mut BoardCaller,
@@ -174,7 +174,7 @@ pub fn drain_last_said_all<R: Wait, G: Gate>(
     ensures paid { OnOk result (AreAllPaid lives.new) }
 {
     for live in lives.iter_mut() {
-        drain_last_said(alloc, rt, board, gate, caller, bytes, live, reply)?;
+        drain_last_said(rt, alloc, board, gate, caller, bytes, live, reply)?;
     }
     Ok(())
 }

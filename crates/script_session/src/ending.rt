@@ -69,8 +69,8 @@ fn say_end(
 
 // Does what jobs there are until those of a transform's pipeline are done, if it has one, and adds what it hands out.
 fn drain_last<R: Wait, G: Gate>(
-    alloc: Global,
     rt: &R,
+    alloc: Global,
     board: &SharedBoard<Job>,
     gate: &G,
     caller: &mut BoardCaller,
@@ -121,8 +121,8 @@ pub fn release_all<R: Wait>(
 
 /// Drains each pipeline, in order of allocation, and adds what they hand out.
 pub fn drain_last_all<R: Wait, G: Gate>(
-    alloc: Global,
     rt: &R,
+    alloc: Global,
     board: &SharedBoard<Job>,
     gate: &G,
     caller: &mut BoardCaller,
@@ -138,7 +138,7 @@ pub fn drain_last_all<R: Wait, G: Gate>(
     ensures paid { OnOk result (AreAllPaid lives.new) }
 {
     for live in lives.iter_mut() {
-        drain_last(alloc, rt, board, gate, caller, live, answers)?;
+        drain_last(rt, alloc, board, gate, caller, live, answers)?;
     }
     Ok(())
 }
@@ -172,8 +172,8 @@ impl Session {
         let mut lives = self.lives.take_all(self.alloc)?;
         release_all(rt, board, &mut self.board, &mut lives)?;
         drain_last_said_all(
-            self.alloc,
             rt,
+            self.alloc,
             board,
             gate,
             &mut self.board,

@@ -122,8 +122,8 @@ impl Session {
         };
         let live = self.lives.transforms.get_mut(&place).unwrap();
         poll_live(
-            self.alloc,
             rt,
+            self.alloc,
             board,
             &mut self.board,
             number,
@@ -154,8 +154,8 @@ impl Session {
         };
         let live = self.lives.transforms.get_mut(&place).unwrap();
         drain_live(
-            self.alloc,
             rt,
+            self.alloc,
             board,
             gate,
             &mut self.board,
@@ -192,8 +192,8 @@ impl Session {
         };
         let live = self.lives.transforms.get_mut(&place).unwrap();
         poll_said(
-            self.alloc,
             rt,
+            self.alloc,
             board,
             &mut self.board,
             number,
@@ -232,8 +232,8 @@ impl Session {
         };
         let live = self.lives.transforms.get_mut(&place).unwrap();
         drain_said(
-            self.alloc,
             rt,
+            self.alloc,
             board,
             gate,
             &mut self.board,

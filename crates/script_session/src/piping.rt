@@ -39,8 +39,8 @@ use transforms::{Ask, Job};
 
 /// `drain T` of a transform. It does what jobs there are until those of the pipeline are done.
 pub fn drain_live<R: Wait, G: Gate>(
-    alloc: Global,
     rt: &R,
+    alloc: Global,
     board: &SharedBoard<Job>,
     gate: &G,
     caller: &mut BoardCaller,
@@ -262,8 +262,8 @@ pub fn go_live<R: Wait>(
 
 /// `poll T` of a transform.
 pub fn poll_live<R: Wait>(
-    alloc: Global,
     rt: &R,
+    alloc: Global,
     board: &SharedBoard<Job>,
     caller: &mut BoardCaller,
     line: u32,
@@ -352,8 +352,8 @@ fn unasked_pipe(alloc: Global, number: u64, bound: Option<u32>) -> Pipe
 
 // Makes the pipeline of what is under `cryptd`: a queue, and a chain for what is chained.
 fn create_queue<R: Wait>(
-    alloc: Global,
     rt: &R,
+    alloc: Global,
     board: &SharedBoard<Job>,
     caller: &mut BoardCaller,
     workers: u32,
@@ -381,8 +381,8 @@ fn create_queue<R: Wait>(
 /// Makes the pipeline of a transform, where its driver's outermost template has one: a pad under `pcrypt`, and under `cryptd` a
 /// queue, or a chain over `pcrypt`.
 pub fn create_pipe<R: Wait>(
-    alloc: Global,
     rt: &R,
+    alloc: Global,
     board: &SharedBoard<Job>,
     caller: &mut BoardCaller,
     workers: u32,
@@ -406,7 +406,7 @@ pub fn create_pipe<R: Wait>(
         }
         Wrap::Cryptd => {
             let chained = is_chained_driver(spec.driver.as_slice());
-            let pipe = create_queue(alloc, rt, board, caller, workers, chained, length)?;
+            let pipe = create_queue(rt, alloc, board, caller, workers, chained, length)?;
             Ok(Some(pipe))
         }
     }

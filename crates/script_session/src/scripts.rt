@@ -12,6 +12,7 @@ ghost use Rattle.script_session.specs.Holding.{HoldsBy, Stops};
 ghost use Rattle.script_session.specs.Saying.{SaysBy, hands_out};
 ghost use Rattle.session_calls.specs.Pipelines.{Called};
 
+use crate::allocating::Wanted;
 use crate::answers::{put_all, say};
 use crate::lives::Lives;
 use crate::requesting::mac_request;
@@ -123,7 +124,13 @@ impl Session {
                 label,
                 name,
                 length,
-            } => self.alloc(rt, board, registry, number, &label, &name, length, answers),
+            } => {
+                let wanted = Wanted {
+                    label: &label,
+                    length,
+                };
+                self.alloc(rt, board, registry, number, &wanted, &name, answers)
+            }
             Command::Key { label, key } => self.key(number, &label, &key, answers),
             Command::Authsize { label, size } => self.authsize(number, &label, size, answers),
             Command::Enc {

@@ -12,8 +12,8 @@ returns-then-is_some g c =
     let s = c.args.self.now in
     or-stops c.refuse.result c.refuse.ensures
     (answer-holds _ s s _ _ _
-    (alloc-live s.workers s.walk c.args.number c.args.label.now c.args.name.now c.args.length
-    (live-there s c.self.inside.lives c.self.invariant c.self.view_is c.args.label.now c.as_slice.result.now c.as_slice.ensures c.place_of.result c.place_of.ensures ∙ (sym c.is_some.ensures ∙ c.if-is_some.true))) refl refl refl c.requires.stands c.requires.posted)
+    (alloc-live s.workers s.walk c.args.number c.args.wanted.now.label.now c.args.name.now c.args.wanted.now.length
+    (live-there s c.self.inside.lives c.self.invariant c.self.view_is c.args.wanted.now.label.now c.as_slice.result.now c.as_slice.ensures c.place_of.result c.place_of.ensures ∙ (sym c.is_some.ensures ∙ c.if-is_some.true))) refl refl refl c.requires.stands c.requires.posted)
     (stops-same s c.requires.stands)
 
 pub returns-then-len-ge-MOST_LIVE : goal.returns-then-len-ge-MOST_LIVE
@@ -21,8 +21,8 @@ returns-then-len-ge-MOST_LIVE g c =
     let s = c.args.self.now in
     or-stops c.refuse-then-len-ge-MOST_LIVE.result c.refuse-then-len-ge-MOST_LIVE.ensures
     (answer-holds _ s s _ _ _
-    (alloc-full s.workers s.walk c.args.number c.args.label.now c.args.name.now c.args.length
-    (live-there s c.self.inside.lives c.self.invariant c.self.view_is c.args.label.now c.as_slice.result.now c.as_slice.ensures c.place_of.result c.place_of.ensures ∙ (sym c.is_some.ensures ∙ c.if-is_some.false))
+    (alloc-full s.workers s.walk c.args.number c.args.wanted.now.label.now c.args.name.now c.args.wanted.now.length
+    (live-there s c.self.inside.lives c.self.invariant c.self.view_is c.args.wanted.now.label.now c.as_slice.result.now c.as_slice.ensures c.place_of.result c.place_of.ensures ∙ (sym c.is_some.ensures ∙ c.if-is_some.false))
     (let view = ap (λ (x : State). length x.walk.lives) c.self.view_is in omega (arith, view, c.if-len-ge-MOST_LIVE.true, c.len.ensures))) refl refl refl c.requires.stands c.requires.posted)
     (stops-same s c.requires.stands)
 
@@ -32,8 +32,8 @@ returns-in-Err-Fault g c =
     let read = rw c.in-Err-Fault.field-0-is at c.in-Err-Fault.ensures in
     or-stops c.refuse-in-Err-Fault.result (rw c.in-Err-Fault.errno-is at c.refuse-in-Err-Fault.ensures)
     (answer-holds _ s s _ _ _
-    (alloc-faulty s.workers s.walk c.args.number c.args.label.now c.args.name.now c.args.length c.in-Err-Fault.errno
-    (live-there s c.self.inside.lives c.self.invariant c.self.view_is c.args.label.now c.as_slice.result.now c.as_slice.ensures c.place_of.result c.place_of.ensures ∙ (sym c.is_some.ensures ∙ c.if-is_some.false))
+    (alloc-faulty s.workers s.walk c.args.number c.args.wanted.now.label.now c.args.name.now c.args.wanted.now.length c.in-Err-Fault.errno
+    (live-there s c.self.inside.lives c.self.invariant c.self.view_is c.args.wanted.now.label.now c.as_slice.result.now c.as_slice.ensures c.place_of.result c.place_of.ensures ∙ (sym c.is_some.ensures ∙ c.if-is_some.false))
     (let view = ap (λ (x : State). length x.walk.lives) c.self.view_is in omega (arith, view, c.if-len-ge-MOST_LIVE.false, c.len.ensures))
     (ap name_read (sym c.as_slice-2.ensures) ∙ read.err)) refl refl refl c.requires.stands c.requires.posted)
     (stops-same s c.requires.stands)
@@ -43,8 +43,8 @@ returns-then-not-fits_queue g c =
     let s = c.args.self.now in
     or-stops c.refuse-then-not-fits_queue.result c.refuse-then-not-fits_queue.ensures
     (answer-holds _ s s _ _ _
-    (alloc-unfit s.workers s.walk c.args.number c.args.label.now c.args.name.now c.args.length c.in-Ok.name
-    (live-there s c.self.inside.lives c.self.invariant c.self.view_is c.args.label.now c.as_slice.result.now c.as_slice.ensures c.place_of.result c.place_of.ensures ∙ (sym c.is_some.ensures ∙ c.if-is_some.false))
+    (alloc-unfit s.workers s.walk c.args.number c.args.wanted.now.label.now c.args.name.now c.args.wanted.now.length c.in-Ok.name
+    (live-there s c.self.inside.lives c.self.invariant c.self.view_is c.args.wanted.now.label.now c.as_slice.result.now c.as_slice.ensures c.place_of.result c.place_of.ensures ∙ (sym c.is_some.ensures ∙ c.if-is_some.false))
     (let view = ap (λ (x : State). length x.walk.lives) c.self.view_is in omega (arith, view, c.if-len-ge-MOST_LIVE.false, c.len.ensures))
     (ap name_read (sym c.as_slice-2.ensures) ∙ c.in-Ok.ensures.ok) (sym c.fits_queue.ensures ∙ c.if-not-fits_queue.true)) refl refl refl c.requires.stands c.requires.posted)
     (stops-same s c.requires.stands)
@@ -52,13 +52,13 @@ returns-then-not-fits_queue g c =
 pub find-requires-clause-free : goal.find-requires-clause-free
 find-requires-clause-free g c =
     let s = c.args.self.now in
-    nobody (live_of s.walk c.args.label.now)
-    (live-there s c.self.inside.lives c.self.invariant c.self.view_is c.args.label.now c.as_slice.result.now c.as_slice.ensures c.place_of.result c.place_of.ensures ∙ (sym c.is_some.ensures ∙ c.if-is_some.false))
+    nobody (live_of s.walk c.args.wanted.now.label.now)
+    (live-there s c.self.inside.lives c.self.invariant c.self.view_is c.args.wanted.now.label.now c.as_slice.result.now c.as_slice.ensures c.place_of.result c.place_of.ensures ∙ (sym c.is_some.ensures ∙ c.if-is_some.false))
 
 pub returns : goal.returns
 returns g c =
     let s = c.args.self.now in
-    looks-arm s _ c.args.number c.args.label.now c.args.name.now (spelling c.in-Ok.name) c.args.length c.in-Ok.name _ _ c.find.result
-    (live-there s c.self.inside.lives c.self.invariant c.self.view_is c.args.label.now c.as_slice.result.now c.as_slice.ensures c.place_of.result c.place_of.ensures ∙ (sym c.is_some.ensures ∙ c.if-is_some.false))
+    looks-arm s _ c.args.number c.args.wanted.now.label.now c.args.name.now (spelling c.in-Ok.name) c.args.wanted.now.length c.in-Ok.name _ _ c.find.result
+    (live-there s c.self.inside.lives c.self.invariant c.self.view_is c.args.wanted.now.label.now c.as_slice.result.now c.as_slice.ensures c.place_of.result c.place_of.ensures ∙ (sym c.is_some.ensures ∙ c.if-is_some.false))
     (let view = ap (λ (x : State). length x.walk.lives) c.self.view_is in omega (arith, view, c.if-len-ge-MOST_LIVE.false, c.len.ensures))
     (ap name_read (sym c.as_slice-2.ensures) ∙ c.in-Ok.ensures.ok) (sym c.fits_queue.ensures ∙ c.if-not-fits_queue.false) (c.in-Ok.ensures.spelled ∙ c.as_slice-2.ensures) c.find.ensures

@@ -9,16 +9,16 @@ use Rattle.script_session.proofs.scripts.Session.bind.Goals as goal
 pub returns-in_default : goal.returns-in_default
 returns-in_default g c =
     or-stops c.refuse.result c.refuse.ensures
-    (unplanned-arm c.args.self.now c.self.view_is c.args.number c.args.label.now c.args.length c.args.id c.in_ok-spec.spec _ _ c.in_ok-spec.ensures.0 c.in_ok-spec.ensures.1 (sym c.in_ok-plan.ensures ∙ c.in_default.is) c.requires.stands c.requires.posted)
+    (unplanned-arm c.args.self.now c.self.view_is c.args.number c.args.wanted.now.label.now c.args.wanted.now.length c.args.id c.in_ok-spec.spec _ _ c.in_ok-spec.ensures.0 c.in_ok-spec.ensures.1 (sym c.in_ok-plan.ensures ∙ c.in_default.is) c.requires.stands c.requires.posted)
     (further c.args.self.now c.self.view_is _ (sees-asked [] c.in_ok-spec.ensures.0) refl (sees-same (known c.self.inside.board)))
 
 pub take_entry-requires-clause-stands : goal.take_entry-requires-clause-stands
 take_entry-requires-clause-stands g c = origin-stands c.args.self.now c.self.view_is c.requires.stands c.in_ok-spec.ensures.0
 
 pub take_entry-requires-clause-free : goal.take_entry-requires-clause-free
-take_entry-requires-clause-free g c = ap (λ (x : State). live_of x.walk c.args.label.now) c.self.view_is ∙ c.requires.free
+take_entry-requires-clause-free g c = ap (λ (x : State). live_of x.walk c.args.wanted.now.label.now) c.self.view_is ∙ c.requires.free
 
 pub returns : goal.returns
 returns g c =
-    bound-arm c.args.self.now c.self.view_is _ c.args.number c.args.label.now c.args.length c.args.id c.in_ok-spec.spec c.in-Some.plan _ _ c.take_entry.result c.in_ok-spec.ensures.0 c.in_ok-spec.ensures.1
+    bound-arm c.args.self.now c.self.view_is _ c.args.number c.args.wanted.now.label.now c.args.wanted.now.length c.args.id c.in_ok-spec.spec c.in-Some.plan _ _ c.take_entry.result c.in_ok-spec.ensures.0 c.in_ok-spec.ensures.1
     (sym c.in_ok-plan.ensures ∙ c.in-Some.is) c.take_entry.ensures

@@ -11,15 +11,15 @@ pub bind-requires-clause-stands : goal.bind-requires-clause-stands
 bind-requires-clause-stands g c = look-stands c.args.self.now c.self.view_is (spelling c.args.name.now) c.in-Ok.id c.requires.stands (finds-as c.self.inside.registry c.resolve.new.self (spelling c.args.name.now) c.in_ok-id.field-0 (Ok c.in-Ok.id) c.in-Ok.is c.in_ok-id.ensures)
 
 pub bind-requires-clause-free : goal.bind-requires-clause-free
-bind-requires-clause-free g c = ap (λ (x : State). live_of x.walk c.args.label.now) c.self.view_is ∙ c.requires.free
+bind-requires-clause-free g c = ap (λ (x : State). live_of x.walk c.args.wanted.now.label.now) c.self.view_is ∙ c.requires.free
 
 pub returns-in-Ok : goal.returns-in-Ok
 returns-in-Ok g c =
-    found-arm c.args.self.now c.self.view_is _ c.args.number c.args.label.now (spelling c.args.name.now) c.args.length c.in-Ok.id _ _ c.bind.result (finds-as c.self.inside.registry c.resolve.new.self (spelling c.args.name.now) c.in_ok-id.field-0 (Ok c.in-Ok.id) c.in-Ok.is c.in_ok-id.ensures) c.bind.ensures
+    found-arm c.args.self.now c.self.view_is _ c.args.number c.args.wanted.now.label.now (spelling c.args.name.now) c.args.wanted.now.length c.in-Ok.id _ _ c.bind.result (finds-as c.self.inside.registry c.resolve.new.self (spelling c.args.name.now) c.in_ok-id.field-0 (Ok c.in-Ok.id) c.in-Ok.is c.in_ok-id.ensures) c.bind.ensures
 
 pub returns-in-Err : goal.returns-in-Err
 returns-in-Err g c =
     let found = finds-as c.self.inside.registry c.resolve.new.self (spelling c.args.name.now) c.in_ok-id.field-0 (Err c.in-Err.errno) c.in-Err.is c.in_ok-id.ensures in
     or-stops c.refuse.result c.refuse.ensures
-    (fault-holds c.args.self.now c.self.view_is c.args.number c.args.label.now (spelling c.args.name.now) c.args.length c.in-Err.errno _ _ found c.requires.stands c.requires.posted)
+    (fault-holds c.args.self.now c.self.view_is c.args.number c.args.wanted.now.label.now (spelling c.args.name.now) c.args.wanted.now.length c.in-Err.errno _ _ found c.requires.stands c.requires.posted)
     (further c.args.self.now c.self.view_is _ (sees-asked _ found) refl (sees-same (known c.self.inside.board)))

@@ -17,16 +17,16 @@ returns-in_err-live g c =
 pub push-requires-clause-free : goal.push-requires-clause-free
 push-requires-clause-free g c =
     ap (λ (l : Live). number_of l.label c.self.inside.lives.transforms.entries) c.in_ok-live.ensures.created.1
-    ∙ nobody-filed c.args.label.now c.self.inside.lives.transforms.entries (ap (λ (x : State). live_of x.walk c.args.label.now) c.self.view_is ∙ c.requires.free)
+    ∙ nobody-filed c.args.wanted.now.label.now c.self.inside.lives.transforms.entries (ap (λ (x : State). live_of x.walk c.args.wanted.now.label.now) c.self.view_is ∙ c.requires.free)
 
 pub returns-in_err-push : goal.returns-in_err-push
 returns-in_err-push g c =
     let p = err_from_is_err_and c.from_residual-in_err-push.result c.from_residual-in_err-push.ensures.1 in
     rw (p.1)
     (further-on c.args.self.now c.self.view_is _ c.create_live.ensures.lock
-    (created-live-sees c.self.inside.workers c.args.label.now c.args.length c.args.id c.args.spec.now c.args.plan c.in_ok-live.live (known c.self.inside.board) (known c.create_live.new.caller) c.in_ok-live.ensures.created))
+    (created-live-sees c.self.inside.workers c.args.wanted.now.label.now c.args.wanted.now.length c.args.chosen.now.id c.args.chosen.now.spec c.args.chosen.now.plan c.in_ok-live.live (known c.self.inside.board) (known c.create_live.new.caller) c.in_ok-live.ensures.created))
 
 pub returns : goal.returns
 returns g c =
-    makes-arm c.args.self.now c.self.view_is c.create_live.new.caller _ c.args.label.now c.args.length c.args.id c.args.spec.now c.args.plan c.in_ok-live.live
+    makes-arm c.args.self.now c.self.view_is c.create_live.new.caller _ c.args.wanted.now.label.now c.args.wanted.now.length c.args.chosen.now.id c.args.chosen.now.spec c.args.chosen.now.plan c.in_ok-live.live
     c.create_live.ensures.lock c.in_ok-live.ensures.created c.in_ok-push.ensures.added

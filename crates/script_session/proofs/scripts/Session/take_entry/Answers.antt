@@ -10,14 +10,14 @@ use Rattle.script_session.proofs.scripts.Session.take_entry.Goals as goal
 pub returns-then-not-branch : goal.returns-then-not-branch
 returns-then-not-branch g c =
     or-stops c.refuse.result c.refuse.ensures
-    (lost-arm c.args.self.now c.self.view_is c.args.number c.args.label.now c.args.length c.args.id c.args.spec c.args.plan _ _
-    (asks-got c.args.id _ _ c.if-not-branch.true c.in_ok-take_ref.ensures) c.requires.stands c.requires.posted)
-    (further c.args.self.now c.self.view_is _ (sees-asked (Gets c.args.id c.in_ok-take_ref.field-0 ∷ []) c.in_ok-take_ref.ensures) refl (sees-same (known c.self.inside.board)))
+    (lost-arm c.args.self.now c.self.view_is c.args.number c.args.wanted.now.label.now c.args.wanted.now.length c.args.chosen.id c.args.chosen.spec c.args.chosen.plan _ _
+    (asks-got c.args.chosen.id _ _ c.if-not-branch.true c.in_ok-take_ref.ensures) c.requires.stands c.requires.posted)
+    (further c.args.self.now c.self.view_is _ (sees-asked (Gets c.args.chosen.id c.in_ok-take_ref.field-0 ∷ []) c.in_ok-take_ref.ensures) refl (sees-same (known c.self.inside.board)))
 
 pub add_live-requires-clause-free : goal.add_live-requires-clause-free
-add_live-requires-clause-free g c = ap (λ (x : State). live_of x.walk c.args.label.now) c.self.view_is ∙ c.requires.free
+add_live-requires-clause-free g c = ap (λ (x : State). live_of x.walk c.args.wanted.now.label.now) c.self.view_is ∙ c.requires.free
 
 pub returns : goal.returns
 returns g c =
-    taken-arm c.args.self.now c.self.view_is _ c.args.number c.args.label.now c.args.length c.args.id c.args.spec c.args.plan _ _ c.add_live.result
-    (asks-got c.args.id _ _ c.if-not-branch.false c.in_ok-take_ref.ensures) c.requires.stands c.requires.posted c.add_live.ensures
+    taken-arm c.args.self.now c.self.view_is _ c.args.number c.args.wanted.now.label.now c.args.wanted.now.length c.args.chosen.id c.args.chosen.spec c.args.chosen.plan _ _ c.add_live.result
+    (asks-got c.args.chosen.id _ _ c.if-not-branch.false c.in_ok-take_ref.ensures) c.requires.stands c.requires.posted c.add_live.ensures
