@@ -1,6 +1,6 @@
 //! The calls on a lock, a turn and a pass.
 
-ghost use Rattle.std.specs.Prelude.{◌≡◌, ◌+◌, ◌%◌, ◌^◌, ◌<◌, ◌≤◌, [], ◌∷◌, IfOk, Some};
+ghost use Rattle.std.specs.Prelude.{◌≡◌, true, ◌+◌, ◌%◌, ◌^◌, ◌<◌, ◌≤◌, [], ◌∷◌, IfOk, Some};
 ghost use Rattle.turn_lock.specs.declared.view.Stage.TheVariants.{Idle, Waiting, Holding};
 ghost use Rattle.turn_lock.specs.Passes.{knows, turn_knows, turn_value, turn_lock, IsPassOf, Adds, Added};
 ghost use Rattle.turn_lock.specs.Seats.{seat_knows, IsIdle, IsAtTurn};
@@ -164,6 +164,37 @@ impl<'a, T: Told> Turn<'a, T> {
         ensures value { result.now ≡ turn_value self.old }
     {
         &mut self.value
+    }
+
+    /// Notes that the value's list has one further entry than at the take, of this pass's number. The pass has then seen the whole
+    /// list, and keeps its turn, in which it may add another entry.
+    pub fn note(self) -> Turn<'a, T>
+        requires { Adds T.told T.by (turn_knows self) (turn_value self) true }
+        ensures lock { turn_lock result ≡ turn_lock self.entry }
+        ensures value { turn_value result ≡ turn_value self.entry }
+        ensures view { Added T.told T.by (turn_knows self.entry) (turn_value self.entry) true (turn_knows result) }
+    {
+        let Turn {
+            lock,
+            value,
+            number,
+            next,
+            mut seat,
+        } = self;
+        let shared = &lock.table.shared;
+        match shared.exchange(&mut seat, 0, Some(value)) {
+            None => {}
+            Some(_) => unreachable!(),
+        }
+        shared.fetch_add::<Appends<T>>(&mut seat, 2, 1);
+        let value = shared.exchange(&mut seat, 0, None).unwrap();
+        Turn {
+            lock,
+            value,
+            number,
+            next,
+            seat,
+        }
     }
 
     /// Puts the value back, and lets the next pass have its turn. `added` says whether the value's list has one further entry
