@@ -1,18 +1,18 @@
 -- What work leaves of a pass.
-use Rattle.std.proofs.Common.{◌≡◌, ℕ, Bool, true, false, ◌&&◌, List, [], ◌∷◌, ◌++◌, refl, sym, ◌∙◌, ap, subst, ◌⊎◌, inl, inr}
-use Rattle.std.specs.Prelude.{MatchBool}
+use Rattle.std.proofs.Common.{◌≡◌, ℕ, Option, Some, None, Bool, true, false, ◌&&◌, List, [], ◌∷◌, ◌++◌, refl, sym, ◌∙◌, ap, subst, ◌⊎◌, inl, inr}
+use Rattle.std.specs.Prelude.{MatchBool, MatchOption}
 use Rattle.std.specs.List.{list_all}
 use Rattle.std.proofs.lemmas.List.Folds.{list_all-append}
 use Rattle.turn_lock.specs.Turns.{Known}
 use Rattle.turn_lock.specs.Meeting.{AtTurn, Enters, Leaves}
-use Rattle.turn_lock.specs.Going.{stays, goes_left, goes_entered, goes_then}
+use Rattle.turn_lock.specs.Going.{stays, goes_left, goes_entered, goes_added, goes_then}
 use Rattle.board.specs.declared.entry.BoardEntry.{BoardEntry}
 use Rattle.board.specs.Shapes.{is_pad, is_chain, has_line}
 use Rattle.board.specs.Entries.{entries_of, caller_of, take_entry, finish_entry, pass_entry, NonePasses}
 use Rattle.board.specs.Legal.{Is, MayManage, IsOpen, LegalBoard}
 use Rattle.board.specs.Staying.{is_work, TakingIsWork, FinishingIsWork, PassingIsWork}
 use Rattle.board.specs.Others.{StaysKnown, WorkLeavesKnown}
-use Rattle.crew.specs.Working.{RunsOne, FindsNoJob, WorksOnce, FindsNone, Worked}
+use Rattle.crew.specs.Working.{FinishesFirst, RunsFirst, FindsNoJob, WorksSome, FindsNone, Worked}
 
 both_true : (a b : Bool) → a ≡ true → b ≡ true → (a && b) ≡ true
 both_true true b h g = g
@@ -42,11 +42,35 @@ module _ {A : Type 0} where
     work = list_all-append is_work a.own b.own ∙ both_true (list_all is_work a.own) (list_all is_work b.own) a.work b.work;
   }
 
-  pub run_worked : ((h : List (BoardEntry A)) (caller p n : ℕ) → TakingIsWork h caller p n) → ((h : List (BoardEntry A)) (caller p n : ℕ) → FinishingIsWork h caller p n) → (k l : Known (BoardEntry A)) → RunsOne k l → Worked k l
-  run_worked taking finishing k l w =
+  -- a second entry of a turn
+  worked_added : (m l : Known (BoardEntry A)) (e : BoardEntry A) → (is_work e ≡ true) × (caller_of e ≡ m.number) → Enters Legal m m.seen e l → Worked m l
+  worked_added m l e all entered = record {
+    own = e ∷ [];
+    goes = goes_added caller_of Legal m l e entered all.1;
+    work = both_true (is_work e) true all.0 refl;
+  }
+
+  -- what a turn that finishes a job goes on with: nothing, or the next job v, which is number j v of the pipeline q v
+  module _ {X : Type 0} (m l : Known (BoardEntry A)) (q j : X → ℕ) where
+    abbrev Next : Option X → Type 0 → (X → Type 0) → (X → Type 0) → Type 0
+    Next r N P Q = MatchOption r (N × (l ≡ m)) (λ v. P v × Enters Legal m m.seen (take_entry m.seen m.number (q v) (j v)) l × Q v)
+
+    pub next_worked : ((h : List (BoardEntry A)) (caller p n : ℕ) → TakingIsWork h caller p n) → (r : Option X) (N : Type 0) (P Q : X → Type 0) → Next r N P Q → Worked m l
+    next_worked taking None N P Q t = subst (λ z. Worked m z) (sym t.1) (worked_still m)
+    next_worked taking (Some v) N P Q t = let w = taking m.seen m.number (q v) (j v) in worked_added m l (take_entry m.seen m.number (q v) (j v)) (w.0, w.1) t.1
+
+  pub finished_worked : ((h : List (BoardEntry A)) (caller p n : ℕ) → FinishingIsWork h caller p n) → (k l : Known (BoardEntry A)) (p n : ℕ) → FinishesFirst k p n l → Worked k l
+  finished_worked finishing k l p n w =
+      worked_on k w.0 l (worked_entry k w.0 (λ h. finish_entry h k.number p n) (λ h. let t = finishing h k.number p n in (t.0, t.1)) w.1) w.2
+
+  pub finished_on : (k l m : Known (BoardEntry A)) (p n : ℕ) → FinishesFirst k p n l → Worked l m → FinishesFirst k p n m
+  finished_on k l m p n w more = (w.0, w.1, worked_on w.0 l m w.2 more)
+
+  pub first_worked : ((h : List (BoardEntry A)) (caller p n : ℕ) → TakingIsWork h caller p n) → ((h : List (BoardEntry A)) (caller p n : ℕ) → FinishingIsWork h caller p n) → (k l : Known (BoardEntry A)) → RunsFirst k l → Worked k l
+  first_worked taking finishing k l w =
       worked_on k w.0 l
       (worked_entry k w.0 (λ h. take_entry h k.number w.1 w.2) (λ h. let t = taking h k.number w.1 w.2 in (t.0, t.1)) w.3)
-      (worked_entry w.0 l (λ h. finish_entry h w.0.number w.1 w.2) (λ h. let t = finishing h w.0.number w.1 w.2 in (t.0, t.1)) w.4)
+      (finished_worked finishing w.0 l w.1 w.2 w.4)
 
   -- the turn after one that found no job
   abbrev Passes : (m l : Known (BoardEntry A)) → Bool → Type 0
@@ -61,9 +85,9 @@ module _ {A : Type 0} where
   pub passed_worked : ((h : List (BoardEntry A)) (caller p : ℕ) → PassingIsWork h caller p) → (k m l : Known (BoardEntry A)) (passed : Bool) → FindsNoJob k m → Passes m l passed → Worked k l
   passed_worked passing k m l passed t u = worked_on k m l (worked_none k m (t.0, t.1, t.2.1)) (passes_worked passing m l passed u)
 
-  pub passed_once : (k m l : Known (BoardEntry A)) (passed : Bool) → FindsNoJob k m → Passes m l passed → MatchBool passed (WorksOnce k l) (FindsNone k l)
-  passed_once k m l true t u = inr (m, t, u)
-  passed_once k m l false t u = (m, t, u)
+  pub passed_some : (k m l : Known (BoardEntry A)) (passed : Bool) → FindsNoJob k m → Passes m l passed → MatchBool passed (WorksSome k l) (FindsNone k l)
+  passed_some k m l true t u = inr (m, t, u)
+  passed_some k m l false t u = (m, t, u)
 
 module _ {A : Type 0} (leaves : (h es : List (BoardEntry A)) (p caller : ℕ) → WorkLeavesKnown h es p caller) where
   known_start : (h : List (BoardEntry A)) (p caller : ℕ) → MayManage (entries_of p h) caller → StaysKnown h h p caller

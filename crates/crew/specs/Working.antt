@@ -8,15 +8,32 @@ use Rattle.board.specs.declared.entry.BoardEntry.{BoardEntry}
 use Rattle.board.specs.declared.entry.BoardEntry.TheVariants.{Collect}
 use Rattle.board.specs.Shapes.{is_chain}
 use Rattle.board.specs.Entries.{entries_of, submissions, front, told, delivered, caller_of, take_entry, finish_entry, pass_entry, NoneFor, NonePasses}
-use Rattle.board.specs.Legal.{Is, LegalBoard}
+use Rattle.board.specs.Legal.{Is, MayFinish, LegalBoard}
 use Rattle.board.specs.Staying.{is_work}
 
--- the pass takes a job at one turn, and finishes it at another
-abbrev pub RunsOne : {A : Type 0} → Known (BoardEntry A) → Known (BoardEntry A) → Type 0
-RunsOne {A} k l =
+-- the pass went on from k to l, and its own entries between are work
+pub record Worked {A : Type 0} (k l : Known (BoardEntry A)) : Type 0 where
+  pub own : List (BoardEntry A)
+  pub goes : GoesOn caller_of (λ xs. LegalBoard xs) k l own
+  pub work : list_all is_work own ≡ true
+
+-- the pass took this job of the pipeline, and hasn't finished it
+abbrev pub HasTaken : {A O : Type 0} → (A → O) → Known (BoardEntry A) → ℕ → ℕ → A → Type 0
+HasTaken meaning k pipe number ask = MayFinish meaning (entries_of pipe k.seen) k.number number (meaning ask)
+
+-- at its turn the pass finishes a job, and then it works
+abbrev pub FinishesFirst : {A : Type 0} → Known (BoardEntry A) → ℕ → ℕ → Known (BoardEntry A) → Type 0
+FinishesFirst {A} k pipe number l =
+    (m : Known (BoardEntry A))
+    × AtTurn caller_of (λ xs. LegalBoard xs) k (λ h. Enters (λ xs. LegalBoard xs) k h (finish_entry h k.number pipe number) m)
+    × Worked m l
+
+-- the pass takes a job at one turn, finishes it at another, and then it works
+abbrev pub RunsFirst : {A : Type 0} → Known (BoardEntry A) → Known (BoardEntry A) → Type 0
+RunsFirst {A} k l =
     (m : Known (BoardEntry A)) × (pipe number : ℕ)
     × AtTurn caller_of (λ xs. LegalBoard xs) k (λ h. Enters (λ xs. LegalBoard xs) k h (take_entry h k.number pipe number) m)
-    × AtTurn caller_of (λ xs. LegalBoard xs) m (λ h. Enters (λ xs. LegalBoard xs) m h (finish_entry h m.number pipe number) l)
+    × FinishesFirst m pipe number l
 
 -- at its turn there was no job for the pass
 abbrev pub FindsNoJob : {A : Type 0} → Known (BoardEntry A) → Known (BoardEntry A) → Type 0
@@ -28,20 +45,14 @@ PassesOne {A} k l =
     (m : Known (BoardEntry A)) × FindsNoJob k m
     × AtTurn caller_of (λ xs. LegalBoard xs) m (λ h. (pipe : ℕ) × Is is_chain (entries_of pipe h) × Enters (λ xs. LegalBoard xs) m h (pass_entry h m.number pipe) l)
 
-abbrev pub WorksOnce : {A : Type 0} → Known (BoardEntry A) → Known (BoardEntry A) → Type 0
-WorksOnce k l = RunsOne k l ⊎ PassesOne k l
+abbrev pub WorksSome : {A : Type 0} → Known (BoardEntry A) → Known (BoardEntry A) → Type 0
+WorksSome k l = RunsFirst k l ⊎ PassesOne k l
 
 -- or there was no such request either
 abbrev pub FindsNone : {A : Type 0} → Known (BoardEntry A) → Known (BoardEntry A) → Type 0
 FindsNone {A} k l =
     (m : Known (BoardEntry A)) × FindsNoJob k m
     × AtTurn caller_of (λ xs. LegalBoard xs) m (λ h. NonePasses h × Leaves m h l)
-
--- the pass went on from k to l, and its own entries between are work
-pub record Worked {A : Type 0} (k l : Known (BoardEntry A)) : Type 0 where
-  pub own : List (BoardEntry A)
-  pub goes : GoesOn caller_of (λ xs. LegalBoard xs) k l own
-  pub work : list_all is_work own ≡ true
 
 -- after some work each request of the pipeline is finished, and what no call handed out before is handed out
 abbrev pub Drained : {A O : Type 0} → (A → O) → ℕ → Known (BoardEntry A) → Known (BoardEntry A) → List (Callback O) → List (Callback O) → Type 0

@@ -9,7 +9,7 @@ ghost use Rattle.crew.specs.Both.{ArePassesOn, WorkedOnBoth};
 
 use crate::gate::Gate;
 use crate::passes::Passes;
-use crate::working::work_one;
+use crate::working::work_some;
 use board::Work;
 use shared_board::SharedBoard;
 use shared_registry::laws::building_goes_on;
@@ -36,8 +36,8 @@ fn build_if_any<R: Wait>(
     (pass, built.unwrap_or(true))
 }
 
-/// Does one job where one waits for this caller, otherwise passes a request on where a chain has one, and otherwise builds one
-/// larval where one waits. False where none was found. Where memory runs out while it builds it answers true, and a larval that was
+/// Does what jobs wait for this caller, otherwise passes a request on where a chain has one, and otherwise builds one larval where
+/// one waits. False where none was found. Where memory runs out while it builds it answers true, and a larval that was
 /// claimed is ended with `NoMemory`.
 pub fn work_or_build<W: Work, G: Gate, R: Wait>(
     rt: &R,
@@ -56,7 +56,7 @@ pub fn work_or_build<W: Work, G: Gate, R: Wait>(
         board: on_board,
         registry: on_registry,
     } = passes;
-    let (on_board, worked) = work_one(rt, board, on_board, gate);
+    let (on_board, worked) = work_some(rt, board, on_board, gate);
     if worked {
         let passes = Passes {
             board: on_board,
@@ -127,7 +127,7 @@ fn look_at_end<W: Work, R: Wait>(
     (passes, shut)
 }
 
-/// Works until the board is shut: does a job where one waits, otherwise passes a request on, and otherwise builds a larval. A
+/// Works until the board is shut: does what jobs wait, otherwise passes a request on, and otherwise builds a larval. A
 /// worker that finds nothing stays awake for a while, and then sleeps until a job comes or it is called.
 pub fn work_on<W: Work, G: Gate, R: Wait>(
     rt: &R,

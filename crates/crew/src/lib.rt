@@ -13,4 +13,4 @@ pub use crew::run_crew;
 pub use gate::{Gate, NoGate};
 pub use laws::{crew_works, crews_end};
 pub use passes::Passes;
-pub use working::{drain, work_one};
+pub use working::{drain, work_some};

@@ -1,12 +1,12 @@
 //! The work of one thread on a board behind its lock.
 
-ghost use Rattle.std.specs.Prelude.{◌≡◌, ◌++◌, true, length, MatchBool, MatchResult};
+ghost use Rattle.std.specs.Prelude.{◌≡◌, ◌++◌, true, length, IfSome, MatchBool, MatchResult};
 ghost use Rattle.turn_lock.specs.Passes.{knows};
 ghost use Rattle.board.specs.declared.board_core.BoardErr.TheVariants as BoardErr;
 ghost use Rattle.board.specs.Entries.{entries_of};
 ghost use Rattle.board.specs.Legal.{MayManage, IsOpen, is_shut};
 ghost use Rattle.shared_board.specs.Passes.{IsPassOn};
-ghost use Rattle.crew.specs.Working.{WorksOnce, FindsNone, Worked, Drained};
+ghost use Rattle.crew.specs.Working.{HasTaken, FinishesFirst, WorksSome, FindsNone, Worked, Drained};
 
 use crate::gate::Gate;
 use board::{BoardErr, Taken, Work, others_leave, pipelines_stay};
@@ -14,9 +14,62 @@ use kc_base::Callbacks;
 use shared_board::{BoardPass, SharedBoard};
 use std::sync::Wait;
 
-/// Takes one job, runs it and finishes it; where there is none for this caller, it passes a request of a chain on. False exactly
-/// where at the first turn there was no such job, and at the second no such request. No memory is taken.
-pub fn work_one<W: Work, G: Gate, R: Wait>(
+/// Runs a job that the pass took, finishes it, and takes the next at the same turn, where there is one for this caller and the board
+/// isn't to be shut. No memory is taken.
+fn run_and_take<W: Work, G: Gate, R: Wait>(
+    rt: &R,
+    board: &SharedBoard<W>,
+    pass: BoardPass<W>,
+    gate: &G,
+    taken: Taken<W>,
+) -> (BoardPass<W>, Option<Taken<W>>)
+    requires lock { IsPassOn board.now pass }
+    requires took { HasTaken W.meaning (knows pass) taken.slip.pipe taken.slip.number (W.asked taken.job) }
+    ensures lock { IsPassOn board.now result.0 }
+    ensures finished { FinishesFirst (knows pass) taken.slip.pipe taken.slip.number (knows result.0) }
+    ensures took { IfSome result.1 (λ next. HasTaken W.meaning (knows result.0) next.slip.pipe next.slip.number (W.asked next.job)) }
+{
+    pipelines_stay::<W::Ask>();
+    let Taken { slip, job } = taken;
+    gate.inside();
+    let out = job.run();
+    if board.may_be_shut() {
+        return (board.finish(rt, pass, slip, out), None);
+    }
+    board.finish_and_take(rt, pass, slip, out)
+}
+
+/// Runs the job that the pass took, if it took one, and each that it can take when it finishes one. No memory is taken.
+fn run_on<W: Work, G: Gate, R: Wait>(
+    rt: &R,
+    board: &SharedBoard<W>,
+    pass: BoardPass<W>,
+    gate: &G,
+    taken: Option<Taken<W>>,
+) -> BoardPass<W>
+    requires lock { IsPassOn board.now pass }
+    requires took { IfSome taken (λ next. HasTaken W.meaning (knows pass) next.slip.pipe next.slip.number (W.asked next.job)) }
+    ensures lock { IsPassOn board.now result }
+    ensures worked { Worked (knows pass) (knows result) }
+{
+    pipelines_stay::<W::Ask>();
+    let mut mine = pass;
+    let mut next = taken;
+    for _ in rt.forever() {
+        let Some(job) = next else {
+            return mine;
+        };
+        let (worked, found) = run_and_take(rt, board, mine, gate, job);
+        mine = worked;
+        next = found;
+    }
+    unreachable!()
+}
+
+/// Takes a job, runs it and finishes it, and goes on with each that is to be had at the turn at which it finishes one. Where there
+/// was none for this caller, it passes a request of a chain on. False exactly where at the first turn there was no such job, and at
+/// the second no such request. No memory is taken.
+pub fn work_some<W: Work, G: Gate, R: Wait>(
     rt: &R,
     board: &SharedBoard<W>,
     pass: BoardPass<W>,
@@ -24,16 +77,15 @@ pub fn work_one<W: Work, G: Gate, R: Wait>(
 ) -> (BoardPass<W>, bool)
     requires { IsPassOn board.now pass }
     ensures lock { IsPassOn board.now result.0 }
-    ensures once { MatchBool result.1 (WorksOnce (knows pass) (knows result.0)) (FindsNone (knows pass) (knows result.0)) }
+    ensures some { MatchBool result.1 (WorksSome (knows pass) (knows result.0)) (FindsNone (knows pass) (knows result.0)) }
     ensures worked { Worked (knows pass) (knows result.0) }
 {
     pipelines_stay::<W::Ask>();
     let (pass, taken) = board.take(rt, pass);
     match taken {
-        Some(Taken { slip, job }) => {
-            gate.inside();
-            let out = job.run();
-            (board.finish(rt, pass, slip, out), true)
+        Some(job) => {
+            let (pass, next) = run_and_take(rt, board, pass, gate, job);
+            (run_on(rt, board, pass, gate, next), true)
         }
         None => board.pass_on(rt, pass),
     }
@@ -52,7 +104,7 @@ fn work_while<W: Work, G: Gate, R: Wait>(
 {
     let mut mine = pass;
     for _ in rt.forever() {
-        let (worked, found) = work_one(rt, board, mine, gate);
+        let (worked, found) = work_some(rt, board, mine, gate);
         if !found || board.may_be_shut() {
             return worked;
         }
@@ -89,7 +141,7 @@ pub fn drain<W: Work, G: Gate, R: Wait>(
             Ok(false) => {}
             Err(error) => return (drained, Err(error)),
         }
-        let (tried, found) = work_one(rt, board, drained, gate);
+        let (tried, found) = work_some(rt, board, drained, gate);
         mine = tried;
         if !found {
             watch.wait(rt);

@@ -115,7 +115,7 @@ impl Bells {
     }
 
     /// Notices a job, if one is unnoticed.
-    fn notice(&self) -> bool {
+    pub(crate) fn notice(&self) -> bool {
         let unnoticed = self.unnoticed();
         unnoticed > 0 && self.lower(unnoticed, 1)
     }

@@ -315,6 +315,43 @@ impl<W: Work> SharedBoard<W> {
         pass
     }
 
+    /// Records the outcome of a job that this caller took and hasn't finished, as `finish` does, and at the same turn hands out the
+    /// next, as `take` does. No memory is taken.
+    pub fn finish_and_take<R: Wait>(
+        &self,
+        rt: &R,
+        pass: BoardPass<W>,
+        slip: Slip,
+        out: W::Out,
+    ) -> (BoardPass<W>, Option<Taken<W>>)
+        requires lock { IsPassOn self.now pass }
+        requires took { MayFinish W.meaning (entries_of slip.pipe (knows pass).seen) (knows pass).number slip.number out }
+        ensures lock { IsPassOn self.now result.0 }
+        ensures turn { (m : _)
+            × AtTurn caller_of LegalBoard (knows pass) (λ h. Enters LegalBoard (knows pass) h (finish_entry h (knows pass).number slip.pipe slip.number) m)
+            × MatchOption result.1
+            (NoneFor m.seen m.number × (knows result.0 ≡ m))
+            (λ t. (slice_get (submissions (entries_of t.slip.pipe m.seen)) t.slip.number ≡ Some (W.asked t.job))
+            × Enters LegalBoard m m.seen (take_entry m.seen m.number t.slip.pipe t.slip.number) (knows result.0)
+            × MayFinish W.meaning (entries_of t.slip.pipe (knows result.0).seen) m.number t.slip.number (W.meaning (W.asked t.job))) }
+    {
+        let caller = pass.number();
+        let unnoticed = self.bells.unnoticed();
+        let mut turn = self.turn(rt, pass);
+        turn.get().finish(caller, slip, out);
+        let mut turn = turn.note();
+        let next = turn.get().take(caller);
+        let added = next.is_some();
+        let pass = turn.give(added);
+        self.bells.ring_end();
+        if added {
+            self.bells.notice();
+        } else {
+            self.bells.forget(unnoticed);
+        }
+        (pass, next)
+    }
+
     /// The first request of a chain's line goes on to its pad, where the chain isn't held. False exactly where there is no such
     /// chain. No memory is taken.
     pub fn pass_on<R: Wait>(&self, rt: &R, pass: BoardPass<W>) -> (BoardPass<W>, bool)
