@@ -1,6 +1,6 @@
 //! The MACs.
 
-ghost use Rattle.std.specs.Prelude.{◌≡◌, ◌++◌, ◌<◌, ◌^◌, true, false, length, replicate, MatchOption, MatchResult, IfOk, Some, None};
+ghost use Rattle.std.specs.Prelude.{◌≡◌, ◌++◌, ◌<◌, ◌≤◌, ◌^◌, [], true, false, length, vec_capacity, replicate, MatchOption, MatchResult, Some, None};
 ghost use Rattle.std_defs.specs.Aes.{seal};
 ghost use Rattle.std_defs.specs.Cmac.{cmac};
 ghost use Rattle.templates.specs.declared.driver_plans.Plan.TheVariants as plan;
@@ -10,12 +10,12 @@ ghost use Rattle.transforms.specs.Kept.{IsNotKept};
 ghost use Rattle.transforms.specs.Plans.{takes_key};
 
 use crate::any_aes::AnyAes;
-use crate::room::{joined_with_zeros, zeros};
+use crate::room::{add_text, add_zeros};
 use crate::tfm_err::TfmErr;
 use cmac_ccm::Cmac;
 use hmac_sha::Mac;
 use sg_walk::Segs;
-use std::alloc::{AllocError, Global};
+use std::alloc::Global;
 use templates::AesForm;
 
 /// A MAC, under a key.
@@ -54,15 +54,27 @@ impl AnyMac {
         }
     }
 
-    /// Room for the MAC of a text. HMAC goes over the segments of the text. CMAC takes it in one piece, which stands before the
-    /// MAC's place where the text lies in several segments.
-    pub fn room(&self, alloc: Global, text: &Segs) -> Result<Vec<u8>, AllocError>
+    /// How many bytes the room for the MAC of a text has. HMAC goes over the segments of the text. CMAC takes it in one piece, which
+    /// stands before the MAC's place where the text lies in several segments.
+    pub fn room_length(&self, text: &Segs) -> usize
         requires { length text.now.text < 2 ^ 32 }
-        ensures { IfOk result (λ room. room.items ≡ room_in self.now text.now) }
+        ensures { result ≡ length (room_in self.now text.now) }
     {
         match self {
-            AnyMac::Hmac(_) => zeros(alloc, HMAC_SIZE),
-            AnyMac::Cmac(_) => cmac_room(alloc, text),
+            AnyMac::Hmac(_) => HMAC_SIZE,
+            AnyMac::Cmac(_) => cmac_room_length(text),
+        }
+    }
+
+    /// Writes what the room for the MAC of a text begins with. No memory is taken.
+    pub fn fill(&self, text: &Segs, room: &mut Vec<u8>)
+        requires empty { room.old.items ≡ [] }
+        requires reserved { length (room_in self.now text.now) ≤ vec_capacity room.old }
+        ensures { room.new.items ≡ room_in self.now text.now }
+    {
+        match self {
+            AnyMac::Hmac(_) => add_zeros(room, HMAC_SIZE),
+            AnyMac::Cmac(_) => fill_for_cmac(text, room),
         }
     }
 
@@ -88,15 +100,27 @@ const HMAC_SIZE: usize = 32;
 /// The bytes of a MAC of CMAC.
 const CMAC_SIZE: usize = 16;
 
-/// Room for the CMAC of a text, and before it the text where it lies in several segments.
-fn cmac_room(alloc: Global, text: &Segs) -> Result<Vec<u8>, AllocError>
+/// The bytes of the CMAC of a text, and of the text where it lies in several segments.
+fn cmac_room_length(text: &Segs) -> usize
     requires { length text.now.text < 2 ^ 32 }
-    ensures { IfOk result (λ room. room.items ≡ text_to_join text.now ++ replicate 16 0) }
+    ensures { result ≡ length (text_to_join text.now ++ replicate 16 0) }
 {
     match text.single() {
-        Some(_) => zeros(alloc, CMAC_SIZE),
-        None => joined_with_zeros(alloc, text, CMAC_SIZE),
+        Some(_) => CMAC_SIZE,
+        None => text.len() + CMAC_SIZE,
     }
+}
+
+/// Writes the text where it lies in several segments, and zeros for its CMAC.
+fn fill_for_cmac(text: &Segs, room: &mut Vec<u8>)
+    requires empty { room.old.items ≡ [] }
+    requires reserved { length (text_to_join text.now ++ replicate 16 0) ≤ vec_capacity room.old }
+    ensures { room.new.items ≡ text_to_join text.now ++ replicate 16 0 }
+{
+    if text.single().is_none() {
+        add_text(room, text);
+    }
+    add_zeros(room, CMAC_SIZE);
 }
 
 /// The CMAC of a text, which stands in the room where it lies in several segments.

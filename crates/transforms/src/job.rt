@@ -1,6 +1,6 @@
 //! Jobs: requests with all the memory that they need.
 
-ghost use Rattle.std.specs.Prelude.{◌≡◌, ◌⊎◌, true, false, MatchResult};
+ghost use Rattle.std.specs.Prelude.{◌≡◌, ◌≤◌, ◌⊎◌, [], length, vec_capacity, true, false, MatchResult};
 ghost use Rattle.std.specs.Arc.{arc_value};
 ghost use Rattle.transforms.specs.Finish.{finished_value};
 ghost use Rattle.transforms.specs.AskValue.{ask_takes, ask_value, ask_room, IsFit};
@@ -18,7 +18,8 @@ pub struct Job {
     buffer: Vec<u8>,
     ghost taken: { ask_takes (arc_value ask) ≡ true },
     ghost fit: { IsFit (arc_value ask) },
-    ghost room: { buffer.items ≡ ask_room (arc_value ask) },
+    ghost empty: { buffer.items ≡ [] },
+    ghost room: { length (ask_room (arc_value ask)) ≤ vec_capacity buffer },
 }
 
 impl Job {
@@ -26,8 +27,10 @@ impl Job {
     pub fn run(self) -> Finished
         ensures { finished_value result ≡ ask_value (arc_value self.ask) }
     {
-        let Job { ask, buffer } = self;
-        ask.keyed.run(ask.authsize as usize, &ask.request, buffer)
+        let Job { ask, mut buffer } = self;
+        let authsize = ask.authsize as usize;
+        ask.keyed.fill(authsize, &ask.request, &mut buffer);
+        ask.keyed.run(authsize, &ask.request, buffer)
     }
 }
 

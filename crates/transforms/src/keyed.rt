@@ -1,6 +1,6 @@
 //! A plan under a key.
 
-ghost use Rattle.std.specs.Prelude.{◌≡◌, ◌⊎◌, ◌<◌, ◌^◌, length, true, false, MatchResult, MatchOption, Some, None, IfOk};
+ghost use Rattle.std.specs.Prelude.{◌≡◌, ◌⊎◌, ◌<◌, ◌≤◌, ◌^◌, [], length, vec_capacity, true, false, MatchResult, MatchOption, Some, None, IfOk};
 ghost use Rattle.transforms.specs.Drivers.{driver_of};
 ghost use Rattle.transforms.specs.Plans.{takes_key, fits_tag, form_in, aes_key_in};
 ghost use Rattle.transforms.specs.RequestValue.{request_value};
@@ -11,7 +11,7 @@ use crate::aead::Aead;
 use crate::any_aes::AnyAes;
 use crate::inner::{Inner, inner_of};
 use crate::request::{Finished, Request};
-use crate::room::{joined, room_with_tag};
+use crate::room::{add_text, add_with_tag, length_with_tag};
 use crate::running::{run_aead, run_cipher, run_mac};
 use crate::taking::{takes_aead, takes_mac, takes_plain};
 use crate::tfm_err::TfmErr;
@@ -85,7 +85,20 @@ impl Keyed {
         }
     }
 
-    /// Room for the answer to a request, which begins with its text.
+    /// How many bytes a job's buffer has for the answer to a request, which begins with its text.
+    fn room_length(&self, authsize: usize, request: &Request) -> usize
+        requires tag_fits { fits_tag self.now.0 authsize ≡ true }
+        requires text_short { length request.now.text.text < 2 ^ 32 }
+        ensures { result ≡ length (room_of self.now.0 authsize request.now) }
+    {
+        match &self.inner {
+            Inner::Skcipher(_) => request.text.len(),
+            Inner::Mac(mac) => mac.room_length(&request.text),
+            Inner::Aead(_) => length_with_tag(authsize, request),
+        }
+    }
+
+    /// An empty buffer with room for the answer to a request.
     pub(crate) fn room(
         &self,
         alloc: Global,
@@ -94,12 +107,21 @@ impl Keyed {
     ) -> Result<Vec<u8>, AllocError>
         requires tag_fits { fits_tag self.now.0 authsize ≡ true }
         requires text_short { length request.now.text.text < 2 ^ 32 }
-        ensures { IfOk result (λ buffer. buffer.items ≡ room_of self.now.0 authsize request.now) }
+        ensures { IfOk result (λ buffer. (buffer.items ≡ []) × (length (room_of self.now.0 authsize request.now) ≤ vec_capacity buffer)) }
+    {
+        Vec::with_capacity(alloc, self.room_length(authsize, request))
+    }
+
+    /// Writes what the buffer of a job begins with. No memory is taken.
+    pub(crate) fn fill(&self, authsize: usize, request: &Request, buffer: &mut Vec<u8>)
+        requires empty { buffer.old.items ≡ [] }
+        requires reserved { length (room_of self.now.0 authsize request.now) ≤ vec_capacity buffer.old }
+        ensures { buffer.new.items ≡ room_of self.now.0 authsize request.now }
     {
         match &self.inner {
-            Inner::Skcipher(_) => joined(alloc, &request.text, 0),
-            Inner::Mac(mac) => mac.room(alloc, &request.text),
-            Inner::Aead(_) => room_with_tag(alloc, authsize, request),
+            Inner::Skcipher(_) => add_text(buffer, &request.text),
+            Inner::Mac(mac) => mac.fill(&request.text, buffer),
+            Inner::Aead(_) => add_with_tag(buffer, authsize, request),
         }
     }
 

@@ -1,64 +1,66 @@
-//! The memory of a job.
+//! The memory of a job's answer. It is reserved with the job and written as the job runs, so that who runs it is the first to touch
+//! it: that costs more than to reserve it.
 
-ghost use Rattle.std.specs.Prelude.{◌≡◌, ◌++◌, ◌+◌, ◌≤◌, ◌<◌, ◌^◌, length, IfOk, OnOk, replicate};
+ghost use Rattle.std.specs.Prelude.{◌≡◌, ◌++◌, ◌+◌, ◌≤◌, ◌<◌, ◌^◌, [], length, vec_capacity, replicate};
 ghost use Rattle.std.specs.List.{concat};
 ghost use Rattle.transforms.specs.Asked.{aead_room};
 
 use crate::request::{Dir, Request};
 use kc_base::Bytes;
 use sg_walk::Segs;
-use std::alloc::{AllocError, Global};
 
-/// Zeros.
-pub fn zeros(alloc: Global, n: usize) -> Result<Vec<u8>, AllocError>
-    ensures { IfOk result (λ buffer. buffer.items ≡ replicate n 0) }
-{
-    vec![in alloc; 0u8; n]
-}
-
-/// Adds the bytes of each piece.
-fn add_parts(buffer: &mut Vec<u8>, parts: &[Bytes]) -> Result<(), AllocError>
-    ensures { OnOk result (buffer.new.items ≡ buffer.old.items ++ concat parts.now) }
+/// Adds the bytes of each piece, for which there is room. No memory is taken.
+fn add_parts(buffer: &mut Vec<u8>, parts: &[Bytes])
+    requires { length buffer.old.items + length (concat parts.now) ≤ vec_capacity buffer.old }
+    ensures items { buffer.new.items ≡ buffer.old.items ++ concat parts.now }
+    ensures capacity { vec_capacity buffer.old ≤ vec_capacity buffer.new }
 {
     for part in parts {
-        buffer.extend_from_slice(part.as_slice())?;
+        let _ = buffer.extend_from_slice(part.as_slice());
     }
-    Ok(())
 }
 
-/// The text in one piece, with room for so many bytes more.
-pub fn joined(alloc: Global, text: &Segs, more: usize) -> Result<Vec<u8>, AllocError>
-    requires { length text.now.text + more < 2 ^ 63 }
-    ensures { IfOk result (λ buffer. buffer.items ≡ text.now.text) }
+/// Adds so many zeros, for which there is room. No memory is taken.
+pub fn add_zeros(buffer: &mut Vec<u8>, zeros: usize)
+    requires { length buffer.old.items + zeros ≤ vec_capacity buffer.old }
+    ensures { buffer.new.items ≡ buffer.old.items ++ replicate zeros 0 }
 {
-    let mut buffer = Vec::with_capacity(alloc, text.len() + more)?;
-    add_parts(&mut buffer, text.parts())?;
-    Ok(buffer)
+    let _ = buffer.resize(buffer.len() + zeros, 0);
 }
 
-/// The text in one piece, and so many zeros behind it.
-pub fn joined_with_zeros(alloc: Global, text: &Segs, zeros: usize) -> Result<Vec<u8>, AllocError>
-    requires { length text.now.text + zeros < 2 ^ 63 }
-    ensures { IfOk result (λ buffer. buffer.items ≡ text.now.text ++ replicate zeros 0) }
+/// Adds the text in one piece, for which there is room. No memory is taken.
+pub fn add_text(buffer: &mut Vec<u8>, text: &Segs)
+    requires { length buffer.old.items + length text.now.text ≤ vec_capacity buffer.old }
+    ensures items { buffer.new.items ≡ buffer.old.items ++ text.now.text }
+    ensures capacity { vec_capacity buffer.old ≤ vec_capacity buffer.new }
 {
-    let mut buffer = joined(alloc, text, zeros)?;
-    buffer.resize(text.len() + zeros, 0)?;
-    Ok(buffer)
+    add_parts(buffer, text.parts());
 }
 
-/// The text, and behind the text of an encryption room for its tag.
-pub fn room_with_tag(
-    alloc: Global,
-    authsize: usize,
-    request: &Request,
-) -> Result<Vec<u8>, AllocError>
+/// The bytes of a text, and of the tag behind the text of an encryption.
+pub fn length_with_tag(authsize: usize, request: &Request) -> usize
     requires tag_fits { authsize ≤ 32 }
     requires text_short { length request.now.text.text < 2 ^ 32 }
-    ensures { IfOk result (λ buffer. buffer.items ≡ aead_room authsize request.now) }
+    ensures { result ≡ length (aead_room authsize request.now) }
 {
     match request.dir {
-        Dir::Enc => joined_with_zeros(alloc, &request.text, authsize),
-        Dir::Dec => joined(alloc, &request.text, 0),
-        Dir::Mac => Ok(Vec::new(alloc)),
+        Dir::Enc => request.text.len() + authsize,
+        Dir::Dec => request.text.len(),
+        Dir::Mac => 0,
+    }
+}
+
+/// Adds the text, and zeros for the tag behind the text of an encryption, for which there is room. No memory is taken.
+pub fn add_with_tag(buffer: &mut Vec<u8>, authsize: usize, request: &Request)
+    requires { length buffer.old.items + length (aead_room authsize request.now) ≤ vec_capacity buffer.old }
+    ensures { buffer.new.items ≡ buffer.old.items ++ aead_room authsize request.now }
+{
+    match request.dir {
+        Dir::Enc => {
+            add_text(buffer, &request.text);
+            add_zeros(buffer, authsize);
+        }
+        Dir::Dec => add_text(buffer, &request.text),
+        Dir::Mac => {}
     }
 }
