@@ -10,6 +10,8 @@ mod limit_tests;
 #[cfg(test)]
 mod load_tests;
 #[cfg(test)]
+mod peer_tests;
+#[cfg(test)]
 mod pipeline_tests;
 mod program;
 #[cfg(test)]
@@ -24,9 +26,13 @@ mod worked_tests;
 use crew::NoGate;
 use program::run;
 use script_run::{NO_MEMORY, USAGE};
+use std::io::BufWriter;
 use std::process::ExitCode;
 use std::{env, io, mem};
 use std_streams::{StdSink, StdSource};
+
+/// So many bytes of answers are written at once, unless they are flushed before.
+const WRITTEN_AT_ONCE: usize = 65_536;
 
 // The arguments without the program's name.
 fn words(rt: &HostRuntime) -> io::Result<Vec<String>> {
@@ -46,8 +52,11 @@ fn main(rt: HostRuntime) -> ExitCode {
         // a word that isn't UTF-8 is no command
         Err(_) => return ExitCode::from(USAGE),
     };
+    let Ok(writer) = BufWriter::with_capacity(rt.alloc(), WRITTEN_AT_ONCE, io::writer(&rt)) else {
+        return ExitCode::from(NO_MEMORY);
+    };
     let mut source = StdSource::new(rt.reader());
-    let mut sink = StdSink::new(io::writer(&rt));
+    let mut sink = StdSink::new(writer);
     let outcome = run(&rt, rt.alloc(), &words, &NoGate, &mut source, &mut sink);
     let status = outcome.status;
     // The process ends, and with it all its memory: the histories aren't let go record by record.

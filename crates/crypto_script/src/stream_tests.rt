@@ -175,19 +175,22 @@ fn fail_write<R: Abort + Threads + Wait + Sync>(
     );
 }
 
+/// The answers to the first two of three lines.
+const TWO_ANSWERS: &str =
+    "1 ok 69c4e0d86a7b0430d8cdb78070b4c55a\n2 ok 69c4e0d86a7b0430d8cdb78070b4c55a\n";
+
 #[test]
-fn a_line_is_answered_before_more_is_read(rt: HostRuntime) {
-    let script = joined(&rt, rt.alloc(), &[LINE, LINE]);
-    let fault = Fault::Read(LINE.len() as u64);
+fn each_line_is_answered_in_one_piece(rt: HostRuntime) {
+    let script = joined(&rt, rt.alloc(), &[LINE, LINE, LINE]);
     expect_slow(
         &rt,
         rt.alloc(),
         "--workers 1",
         script.as_str(),
-        (1, ALL),
-        fault,
-        3,
-        ANSWER,
+        (ALL, ALL),
+        Fault::Write(2),
+        4,
+        TWO_ANSWERS,
     );
 }
 

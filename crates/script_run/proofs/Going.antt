@@ -98,7 +98,7 @@ texts-joined : (t u : Turn) → text_in (joined t u) ≡ text_in t ++ text_in u
 texts-joined t u = flat_map-append text_of t.answers u.answers
 
 -- a front of what comes after is a front with what came before
-pub front-later : (before text front : List ℕ) → IsPrefix front text → IsPrefix (before ++ front) (before ++ text)
+front-later : (before text front : List ℕ) → IsPrefix front text → IsPrefix (before ++ front) (before ++ text)
 front-later before text front p = (p.0, append_assoc before front p.0 ∙ ap (λ x. before ++ x) p.1)
 
 -- ---- a run
@@ -171,7 +171,7 @@ module _ (laws : Laws) (first : State) where
         laws.later_calls (widest lines) 0 led.turn.registry calls [] k.seen k'.seen (laws.wider (widest done) (widest lines) 0 led.turn.registry [] k.seen before led.in_turn)
         (laws.wider width (widest lines) 0 calls k.seen k'.seen le (subst (λ n. AreInTurnBy width n calls k.seen k'.seen) led.caller asked.in_turn))
 
-    pub led-more : (line : Line) (s' : State) (reply : List ℕ) → Replies (width_of line) (line_dialogue s.workers s.walk number line) s s' [] reply
+    led-more : (line : Line) (s' : State) (reply : List ℕ) → Replies (width_of line) (line_dialogue s.workers s.walk number line) s s' [] reply
         → (next : Led first (done ++ line ∷ []) (number + 1) s') × (text_in next.turn ≡ text_in led.turn ++ reply)
     led-more line s' reply r =
         let t = led.turn in
@@ -194,7 +194,7 @@ module _ (laws : Laws) (first : State) where
         )
 
     -- however the session goes on, what is written of this is a front of the text of all lines that begin with these
-    pub led-front : (left : List Line) (s' : State) (text : List ℕ) → GoesOn s s' → IsPrefix text (text_in led.turn) → IsFrontAfter first.workers (done ++ left) (known s'.registry) (known s'.board) text
+    led-front : (left : List Line) (s' : State) (text : List ℕ) → GoesOn s s' → IsPrefix text (text_in led.turn) → IsFrontAfter first.workers (done ++ left) (known s'.registry) (known s'.board) text
     led-front left s' text goes front = λ r b from_r from_b.
         let reg = starts-trans k.seen (known s'.registry).seen r goes.registry.seen from_r in
         let brd = starts-trans l.seen (known s'.board).seen b goes.board.seen from_b in
@@ -234,7 +234,7 @@ module _ (laws : Laws) (first : State) where
         }
 
     -- however the session goes on, what is written begins with the text of the first of them
-    pub led-begins_with : (ones : List Line) (s' : State) (text : List ℕ) → AreFirst ones done → GoesOn s s' → IsPrefix (text_in led.turn) text → BeginsWithTextAfter first.workers ones (known s'.registry) (known s'.board) text
+    led-begins_with : (ones : List Line) (s' : State) (text : List ℕ) → AreFirst ones done → GoesOn s s' → IsPrefix (text_in led.turn) text → BeginsWithTextAfter first.workers ones (known s'.registry) (known s'.board) text
     led-begins_with ones s' text are goes front = λ r b from_r from_b.
         let t = led.turn in
         let reg = starts-trans k.seen (known s'.registry).seen r goes.registry.seen from_r in
@@ -330,10 +330,26 @@ module _ (laws : Laws) (first : State) where
       abbrev Begun : List Line → Type 0
       Begun ones = Gains x z (BeginsWithTextAfter first.workers ones (known s'.registry) (known s'.board))
 
+      pub going-more : (line : Line) → Writes (Replies (width_of line) (line_dialogue s.workers s.walk number line) s s' []) y z → IsReady registry board s' → At (done ++ line ∷ []) (number + 1) x z s'
+      going-more line step ready =
+          let m = led-more done number s going.led line s' step.0 step.1 in
+          record { led = m.0; ready = ready; written = subst (Appends x z) (sym m.1) (Appends-trans x y z (text_in t) step.0 going.written step.2) }
+
       pub stopped : (left : List Line) → GoesOn s s' → Keeps y z → Broken (done ++ left)
       stopped left goes kept = (text_in t, led-front done number s going.led left s' (text_in t) goes ([], append-nil (text_in t)), keeps-text x y z (text_in t) going.written kept)
 
-      -- an end of input that breaks off leaves a front of the text
+      -- a line that breaks off leaves a front of the text
+      pub going-breaks : (line : Line) (left : List Line) → Breaks s s' (Replies (width_of line) (line_dialogue s.workers s.walk number line) s s' []) y z → Broken ((done ++ line ∷ []) ++ left)
+      going-breaks line left (inl stop) = subst Broken (sym (append_assoc done (line ∷ []) left)) (stopped (line ∷ left) stop.0 stop.1)
+      going-breaks line left (inr part) =
+          let m = led-more done number s going.led line s' part.0 part.1 in
+          let written = part.2 in (
+            text_in t ++ written.0,
+            led-front (done ++ line ∷ []) (number + 1) s' m.0 left s' (text_in t ++ written.0) (goes-same s') (subst (IsPrefix (text_in t ++ written.0)) (sym m.1) (front-later (text_in t) part.0 written.0 written.1)),
+            Appends-trans x y z (text_in t) written.0 going.written written.2,
+          )
+
+      -- and so does the end of input
       pub going-end_breaks : (lines : List Line) → lines ≡ done → Breaks s s' (AnswersEnd s s' []) y z → Broken lines
       going-end_breaks lines none (inl stop) = subst Broken (append-nil done ∙ sym none) (stopped [] stop.0 stop.1)
       going-end_breaks lines none (inr part) =
@@ -353,6 +369,9 @@ module _ (laws : Laws) (first : State) where
               led-begins_with done number s going.led ones s' (text_in t ++ written.0) are (goes part.0 part.1) (written.0, refl),
               Appends-trans x y z (text_in t) written.0 going.written written.2,
             )
+
+        pub going-begun : (line : Line) → Breaks s s' (Replies (width_of line) (line_dialogue s.workers s.walk number line) s s' []) y z → Begun ones
+        going-begun line breaks = begun-by (Replies (width_of line) (line_dialogue s.workers s.walk number line) s s' []) (λ reply r. replied-goes (width_of line) (line_dialogue s.workers s.walk number line) s s' [] reply r) breaks
 
         pub going-end_begun : Breaks s s' (AnswersEnd s s' []) y z → Begun ones
         going-end_begun breaks = begun-by (AnswersEnd s s' []) (λ reply e. ended-goes s s' [] reply e) breaks
@@ -380,6 +399,9 @@ module _ (laws : Laws) (first : State) where
       pub broken-goes : (IsReply : List ℕ → Type 0) → ((reply : List ℕ) → IsReply reply → GoesOn s s') → Breaks s s' IsReply y z → GoesOn first s'
       broken-goes IsReply of (inl stop) = goes-then first s s' going.led.goes stop.0
       broken-goes IsReply of (inr part) = goes-then first s s' going.led.goes (of part.0 part.1)
+
+      pub line_broken-goes : (line : Line) → Breaks s s' (Replies (width_of line) (line_dialogue s.workers s.walk number line) s s' []) y z → GoesOn first s'
+      line_broken-goes line breaks = broken-goes (Replies (width_of line) (line_dialogue s.workers s.walk number line) s s' []) (λ reply r. replied-goes (width_of line) (line_dialogue s.workers s.walk number line) s s' [] reply r) breaks
 
       pub end_broken-goes : Breaks s s' (AnswersEnd s s' []) y z → GoesOn first s'
       end_broken-goes breaks = broken-goes (AnswersEnd s s' []) (λ reply e. ended-goes s s' [] reply e) breaks

@@ -3,7 +3,6 @@ pub mod Fronts
 pub mod Going
 pub mod Readings
 pub mod Exits
-pub mod Keeping
 pub mod Finishing
 pub mod LoadLines
 pub mod Loaded

@@ -5,4 +5,3 @@ pub mod Loads
 pub mod Answered
 pub mod Endings
 pub mod Statuses
-pub mod Keeping

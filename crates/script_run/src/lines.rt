@@ -1,11 +1,9 @@
-//! A script's lines, answered by its session. Their answers are written together: before more is read, and where they are many.
+//! A script's lines, answered by its session and written one by one. The sink is flushed before more is read.
 
-ghost use Rattle.std.specs.Prelude.{OnOk, OnErr, ◌≡◌, ◌+◌, ◌^◌, ◌≤◌, List, ℕ, [], length, MatchResult, IfOk, IfSome, IsErrOf, false};
-ghost use Rattle.std.specs.Io.KnownBytes.{Appends};
+ghost use Rattle.std.specs.Prelude.{OnOk, ◌≡◌, ◌+◌, ◌^◌, ◌≤◌, [], length, MatchResult, IfOk, IsErrOf, false};
 ghost use Rattle.board.specs.Legal.{is_shut};
 ghost use Rattle.kc_base.specs.Streams.{Rose, AppendsFront};
-ghost use Rattle.script_text.specs.NextLine.{FindsNext, StandsAt};
-ghost use Rattle.script_text.specs.Pending.{IsPending};
+ghost use Rattle.std.specs.Io.KnownBytes.{Appends};
 ghost use Rattle.script_text.specs.Sizes.{IsShortLine};
 ghost use Rattle.dialogues.specs.Lines.{line_dialogue};
 ghost use Rattle.dialogues.specs.Widths.{width_of};
@@ -15,7 +13,6 @@ ghost use Rattle.script_session.specs.Ending.{AnswersEnd, EndsShut};
 ghost use Rattle.script_run.specs.Text.{is_malformed};
 ghost use Rattle.script_run.specs.Laws.{Laws};
 ghost use Rattle.script_run.specs.Answered.{RunsSource};
-ghost use Rattle.script_run.specs.Keeping.{IsKept, LooksOn};
 ghost use Rattle.script_run.specs.Runs.{GoesOn, Writes, Breaks, IsFresh, IsUnshutOrEnds};
 
 use crate::errors::RunError;
@@ -23,7 +20,7 @@ use crew::Gate;
 use dialogues::{
     board_calls_go_on, calls_at_once, calls_in_turn, lines_lead, registry_calls_go_on, turns_follow,
 };
-use kc_base::{InputError, Sink, SinkError, Source, write_piece};
+use kc_base::{Sink, SinkError, Source, write_and_flush, write_piece};
 use reply_text::Reply;
 use script_session::Session;
 use script_text::{Line, LineReader, whole_lines_stay};
@@ -37,9 +34,6 @@ use transforms::Job;
 
 /// The most bytes of input.
 pub const MAX_INPUT: usize = 268_435_456;
-
-/// So many bytes of answers are written, even where whole lines are left.
-const MOST_KEPT: usize = 65_536;
 
 /// What texts and calls are as histories go on.
 pub fn laws()
@@ -59,76 +53,8 @@ fn is_malformed_line(line: &Line) -> bool
     matches!(line, Line::Malformed)
 }
 
-// Writes the answers that are kept, and keeps none.
-fn write_kept<K: Sink>(kept: &mut Reply, out: &mut K) -> Result<(), SinkError>
-    ensures bytes { MatchResult result
-        (λ _. Appends (K.held out.old) (K.held out.new) kept.old.text × (kept.new.text ≡ []))
-        (λ _. AppendsFront (K.held out.old) (K.held out.new) kept.old.text) }
-    ensures later { K.faults out.old ≤ K.faults out.new }
-    ensures cause { IsErrOf result SinkError.Failed → Rose (K.faults out.old) (K.faults out.new) }
-{
-    write_piece(out, kept.as_slice())?;
-    kept.truncate(0);
-    Ok(())
-}
-
-// Writes the answers that are kept, where no whole line is left or they are many.
-fn write_due<K: Sink>(reader: &LineReader, kept: &mut Reply, out: &mut K) -> Result<(), SinkError>
-    ensures bytes { (pending : List ℕ) → IsPending pending reader.now.kept → MatchResult result
-        (λ _. IsKept pending kept.old.text kept.new.text (K.held out.old) (K.held out.new))
-        (λ _. AppendsFront (K.held out.old) (K.held out.new) kept.old.text) }
-    ensures later { K.faults out.old ≤ K.faults out.new }
-    ensures cause { IsErrOf result SinkError.Failed → Rose (K.faults out.old) (K.faults out.new) }
-{
-    if reader.has_line() && kept.len() < MOST_KEPT {
-        return Ok(());
-    }
-    write_kept(kept, out)
-}
-
-// The next line. Where none is found, the answers that are kept are written, as far as may be.
-fn find_line<S: Source, K: Sink>(
-    reader: &mut LineReader,
-    src: &mut S,
-    kept: &Reply,
-    out: &mut K,
-) -> Result<Option<Line>, InputError>
-    ensures line { (pending : List ℕ) → StandsAt pending reader.old (S.left src.old) → FindsNext pending reader.old reader.new (S.left src.old) (S.left src.new) result }
-    ensures short { IfOk result (λ answer. IfSome answer IsShortLine) }
-    ensures unwritten { OnOk result (out.new ≡ out.old) }
-    ensures front { OnErr result (AppendsFront (K.held out.old) (K.held out.new) kept.now.text) }
-    ensures read_later { S.faults src.old ≤ S.faults src.new }
-    ensures write_later { K.faults out.old ≤ K.faults out.new }
-    ensures cause { IsErrOf result InputError.Failed → Rose (S.faults src.old) (S.faults src.new) }
-{
-    let found = reader.next(src);
-    if found.is_err() {
-        let _ = write_piece(out, kept.as_slice());
-    }
-    found
-}
-
-// The next line. The answers that are kept are written before more is read, and where they are many.
-fn next_line<S: Source, K: Sink>(
-    reader: &mut LineReader,
-    src: &mut S,
-    kept: &mut Reply,
-    out: &mut K,
-) -> Result<Option<Line>, RunError>
-    ensures next { (pending : List ℕ) → StandsAt pending reader.old (S.left src.old) → LooksOn pending reader.old reader.new (S.left src.old) (S.left src.new) kept.old.text kept.new.text (K.held out.old) (K.held out.new) result }
-    ensures short { IfOk result (λ answer. IfSome answer IsShortLine) }
-    ensures read_later { S.faults src.old ≤ S.faults src.new }
-    ensures write_later { K.faults out.old ≤ K.faults out.new }
-    ensures read_fault { IsErrOf result RunError.ReadFault → Rose (S.faults src.old) (S.faults src.new) }
-    ensures write_fault { IsErrOf result RunError.WriteFault → Rose (K.faults out.old) (K.faults out.new) }
-    ensures usage { IsErrOf result RunError.Usage → ⊥ }
-{
-    write_due(reader, kept, out)?;
-    Ok(find_line(reader, src, kept, out)?)
-}
-
-// Adds the answers to one line to those that are kept. Where memory is wanting, these are written, as far as may be.
-fn answer_line<K: Sink, G: Gate, R: Threads + Wait + Sync>(
+// The text of the answers to one line, in place of what the reply held, and whether the line is malformed.
+fn reply_to<G: Gate, R: Threads + Wait + Sync>(
     rt: &R,
     board: &SharedBoard<Job>,
     registry: &SharedRegistry,
@@ -136,24 +62,22 @@ fn answer_line<K: Sink, G: Gate, R: Threads + Wait + Sync>(
     session: &mut Session,
     number: u32,
     line: Line,
-    kept: &mut Reply,
-    out: &mut K,
-) -> Result<(), AllocError>
+    reply: &mut Reply,
+) -> Result<bool, AllocError>
     requires ready { IsReady registry.now board.now session.old }
     requires short { IsShortLine line }
     ensures done { MatchResult result
-        (λ _. Replies (width_of line) (line_dialogue session.old.workers session.old.walk number line) session.old session.new kept.old.text kept.new.text × (out.new ≡ out.old))
-        (λ _. GoesOn session.old session.new × AppendsFront (K.held out.old) (K.held out.new) kept.old.text) }
+        (λ _. Replies (width_of line) (line_dialogue session.old.workers session.old.walk number line) session.old session.new [] reply.new.text)
+        (λ _. GoesOn session.old session.new) }
     ensures ready { OnOk result (IsReady registry.now board.now session.new) }
     ensures unshut { (known session.new.board).number ≡ 0 → is_shut (known session.new.board).seen ≡ false }
-    ensures later { K.faults out.old ≤ K.faults out.new }
+    ensures malformed { IfOk result (λ bad. bad ≡ is_malformed line) }
 {
-    match session.line(rt, board, registry, gate, number, line, kept) {
-        Ok(()) => Ok(()),
-        Err(Stop::Memory) => {
-            let _ = write_piece(out, kept.as_slice());
-            Err(AllocError)
-        }
+    let malformed = is_malformed_line(&line);
+    reply.truncate(0);
+    match session.line(rt, board, registry, gate, number, line, reply) {
+        Ok(()) => Ok(malformed),
+        Err(Stop::Memory) => Err(AllocError),
     }
 }
 
@@ -181,6 +105,50 @@ fn reply_to_end<G: Gate, R: Wait>(
     }
 }
 
+// Writes the answers to a line in one piece. Where no further line is there yet, they are flushed: more is read then.
+fn write_reply<K: Sink>(reader: &LineReader, reply: &Reply, out: &mut K) -> Result<(), SinkError>
+    ensures bytes { MatchResult result
+        (λ _. Appends (K.held out.old) (K.held out.new) reply.now.text)
+        (λ _. AppendsFront (K.held out.old) (K.held out.new) reply.now.text) }
+    ensures later { K.faults out.old ≤ K.faults out.new }
+    ensures cause { IsErrOf result SinkError.Failed → Rose (K.faults out.old) (K.faults out.new) }
+{
+    if reader.has_line() {
+        write_piece(out, reply.as_slice())
+    } else {
+        write_and_flush(out, reply.as_slice())
+    }
+}
+
+// Answers one line in one piece, and says whether it is malformed.
+fn run_line<K: Sink, G: Gate, R: Threads + Wait + Sync>(
+    rt: &R,
+    board: &SharedBoard<Job>,
+    registry: &SharedRegistry,
+    gate: &G,
+    session: &mut Session,
+    reader: &LineReader,
+    number: u32,
+    line: Line,
+    reply: &mut Reply,
+    out: &mut K,
+) -> Result<bool, SinkError>
+    requires ready { IsReady registry.now board.now session.old }
+    requires short { IsShortLine line }
+    ensures done { MatchResult result
+        (λ _. Writes (Replies (width_of line) (line_dialogue session.old.workers session.old.walk number line) session.old session.new []) (K.held out.old) (K.held out.new))
+        (λ _. Breaks session.old session.new (Replies (width_of line) (line_dialogue session.old.workers session.old.walk number line) session.old session.new []) (K.held out.old) (K.held out.new)) }
+    ensures ready { OnOk result (IsReady registry.now board.now session.new) }
+    ensures unshut { (known session.new.board).number ≡ 0 → is_shut (known session.new.board).seen ≡ false }
+    ensures malformed { IfOk result (λ bad. bad ≡ is_malformed line) }
+    ensures later { K.faults out.old ≤ K.faults out.new }
+    ensures cause { IsErrOf result SinkError.Failed → Rose (K.faults out.old) (K.faults out.new) }
+{
+    let malformed = reply_to(rt, board, registry, gate, session, number, line, reply)?;
+    write_reply(reader, reply, out)?;
+    Ok(malformed)
+}
+
 // Answers the end of input.
 fn run_end<K: Sink, G: Gate, R: Wait>(
     rt: &R,
@@ -202,12 +170,12 @@ fn run_end<K: Sink, G: Gate, R: Wait>(
     ensures cause { IsErrOf result SinkError.Failed → Rose (K.faults out.old) (K.faults out.new) }
 {
     let reply = reply_to_end(rt, alloc, board, registry, gate, session)?;
-    write_piece(out, reply.as_slice())
+    write_and_flush(out, reply.as_slice())
 }
 
-/// Answers each line out of the source and its end, and says whether a line is malformed. It reads on only where each whole line of
-/// what was read is answered, and the answers are written. A failed read, more bytes than `MAX_INPUT`, a failed write and want of
-/// memory stop it.
+/// Answers each line out of the source and its end, each in one piece, and says whether a line is malformed. It reads on only
+/// where each whole line of what was read is answered, and the sink flushed. A failed read, more bytes than `MAX_INPUT`, a failed
+/// write and want of memory stop it.
 pub fn run_lines<S: Source, K: Sink, G: Gate, R: Threads + Wait + Sync>(
     rt: &R,
     alloc: Global,
@@ -229,13 +197,12 @@ pub fn run_lines<S: Source, K: Sink, G: Gate, R: Threads + Wait + Sync>(
     laws();
     whole_lines_stay();
     let mut reader = LineReader::new(alloc, MAX_INPUT)?;
-    let mut kept = Reply::new(alloc);
+    let mut reply = Reply::new(alloc);
     let mut number = 1u32;
     let mut malformed = false;
-    while let Some(line) = next_line(&mut reader, src, &mut kept, out)? {
-        let bad = is_malformed_line(&line);
-        answer_line(
-            rt, board, registry, gate, session, number, line, &mut kept, out,
+    while let Some(line) = reader.next(src)? {
+        let bad = run_line(
+            rt, board, registry, gate, session, &reader, number, line, &mut reply, out,
         )?;
         malformed |= bad;
         number += 1;

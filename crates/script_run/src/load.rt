@@ -23,7 +23,7 @@ use crate::loading::hold_load;
 use alg_registry::RegLog;
 use board::BoardLog;
 use crew::{Gate, Passes, run_crew};
-use kc_base::{Bytes, Sink, write_piece};
+use kc_base::{Bytes, Sink, write_and_flush};
 use load_mode::{load_text, loads_come_to};
 use run_options::LoadOptions;
 use script_session::Session;
@@ -183,7 +183,7 @@ fn write_line<K: Sink>(
     ensures causes { IfErr result (λ e. (e ≡ RunError.WriteFault) ⊎ (e ≡ RunError.NoMemory)) }
 {
     let text = line_text(alloc, options.count, digest)?;
-    write_piece(out, text.as_slice())?;
+    write_and_flush(out, text.as_slice())?;
     Ok(false)
 }
 

@@ -23,7 +23,7 @@ use crate::errors::RunError;
 use alg_registry::RegLog;
 use board::BoardLog;
 use crew::Gate;
-use kc_base::{Sink, Source, write_piece};
+use kc_base::{Sink, Source, write_and_flush};
 use run_options::ScriptOptions;
 use std::alloc::Global;
 use std::sync::Wait;
@@ -46,7 +46,7 @@ fn put_trace<K: Sink>(
     ensures causes { IfErr result (λ e. (e ≡ RunError.WriteFault) ⊎ (e ≡ RunError.NoMemory)) }
 {
     let text = write_trace(alloc, registry, board)?;
-    write_piece(out, text.as_slice())?;
+    write_and_flush(out, text.as_slice())?;
     Ok(())
 }
 

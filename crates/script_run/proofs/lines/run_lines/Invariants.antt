@@ -2,15 +2,15 @@ use Rattle.std.proofs.Common.{◌≤◌, ◌-◌, ◌^◌}
 use Rattle.script_run.proofs.Exits.{Running}
 use Rattle.script_run.proofs.lines.run_lines.Given as goal
 
-abbrev pub invariant-loop-kept : goal.invariant-loop-kept
-invariant-loop-kept g l =
+abbrev pub invariant-loop-reader : goal.invariant-loop-reader
+invariant-loop-reader g l =
     let held = g.K.Sink.held in
     let left = g.S.Source.left in
     record {
-      at : Running l.registry l.board l.fn.session l.number l.reader (left l.fn.src) (left l.src) (held l.fn.out) (held l.out) l.kept.text l.malformed l.session;
+      at : Running l.registry l.board l.fn.session l.number l.reader (left l.fn.src) (left l.src) (held l.fn.out) (held l.out) l.malformed l.session;
       read_later : g.S.Source.faults l.fn.src ≤ g.S.Source.faults l.src;
       written_later : g.K.Sink.faults l.fn.out ≤ g.K.Sink.faults l.out;
     }
 
-abbrev pub decreases-loop-kept : goal.decreases-loop-kept
-decreases-loop-kept g l = 2 ^ 32 - l.number
+abbrev pub decreases-loop-reader : goal.decreases-loop-reader
+decreases-loop-reader g l = 2 ^ 32 - l.number
