@@ -13,4 +13,4 @@ pub use callback_list::{Callback, Callbacks};
 pub use error_numbers::Errno;
 pub use in_memory::{MemSink, MemSource, RepeatSource, SureSink, SureSource};
 pub use streams::{ReadAnswer, Sink, Source, WriteAnswer};
-pub use transfer::{InputError, SinkError, read_input, write_piece};
+pub use transfer::{InputError, SinkError, read_input, write_and_flush, write_piece};

@@ -1,6 +1,9 @@
 //! Where bytes come from, and where they go.
-ghost use Rattle.std.specs.Prelude.{◌≡◌, ◌<◌, ◌≤◌, List, ℕ, Option, length};
+ghost use Rattle.std.specs.Prelude.{◌≡◌, ◌<◌, ◌≤◌, List, ℕ, Option, length, IsErrOf};
+ghost use Rattle.std.specs.Io.KnownBytes.{Keeps};
 ghost use Rattle.kc_base.specs.Streams.{IsReadCount, IsWriteCount, Reads, Writes, Rose};
+
+use crate::transfer::SinkError;
 
 /// What a read came to.
 #[derive(Clone, Copy, Debug, PartialEq, Eq)]
@@ -46,7 +49,7 @@ pub trait Sink {
     /// The bytes that it holds, where they are told.
     ghost held: { Self → Option (List ℕ) };
 
-    /// How often a write has failed. It never falls, and stands still at 2 ^ 64 - 1.
+    /// How often a write or a flush has failed. It never falls, and stands still at 2 ^ 64 - 1.
     ghost faults: { Self → ℕ };
 
     /// Takes a front of the piece, which has a byte at least.
@@ -56,4 +59,14 @@ pub trait Sink {
         ensures bytes { Writes (held self.old) (held self.new) result piece.now }
         ensures later { faults self.old ≤ faults self.new }
         ensures cause { result ≡ WriteAnswer.Failed → Rose (faults self.old) (faults self.new) };
+
+    /// Passes on what it has taken and kept back so far. A sink that keeps nothing back has nothing to do. `Failed` where that failed,
+    /// `NoMemory` where memory is wanting. What it holds stays as it is.
+    fn flush(&mut self) -> Result<(), SinkError>
+        ensures bytes { Keeps (held self.old) (held self.new) }
+        ensures later { faults self.old ≤ faults self.new }
+        ensures cause { IsErrOf result SinkError.Failed → Rose (faults self.old) (faults self.new) }
+    {
+        Ok(())
+    }
 }

@@ -7,10 +7,10 @@ ghost use Rattle.kc_base.specs.Streams.{AppendsFront, StopsReading, Rose};
 use crate::{Bytes, ReadAnswer, Sink, Source, WriteAnswer};
 use std::alloc::{AllocError, Global};
 
-/// Why a piece was not taken whole.
+/// Why a piece was not taken whole, or not passed on.
 #[derive(Clone, Copy, Debug, PartialEq, Eq)]
 pub enum SinkError {
-    /// A write failed.
+    /// A write or a flush failed.
     Failed,
     /// The sink lacks memory.
     NoMemory,
@@ -53,6 +53,18 @@ pub fn write_piece<K: Sink>(out: &mut K, piece: &[u8]) -> Result<(), SinkError>
         }
     }
     Ok(())
+}
+
+/// Hands the whole piece to the sink as `write_piece` does, and flushes it. Where the flush fails, the sink has taken all of the piece.
+pub fn write_and_flush<K: Sink>(out: &mut K, piece: &[u8]) -> Result<(), SinkError>
+    ensures bytes { MatchResult result
+        (λ _. Appends (K.held out.old) (K.held out.new) piece.now)
+        (λ _. AppendsFront (K.held out.old) (K.held out.new) piece.now) }
+    ensures later { K.faults out.old ≤ K.faults out.new }
+    ensures cause { IsErrOf result SinkError.Failed → Rose (K.faults out.old) (K.faults out.new) }
+{
+    write_piece(out, piece)?;
+    out.flush()
 }
 
 /// Reads to the end, by `buf`, which has a byte at least, and gives all of it. `TooLong` where more than `limit` bytes came, `Failed`

@@ -2,10 +2,11 @@
 
 ghost use Rattle.std.specs.Prelude.{◌≡◌};
 
-use kc_base::{Sink, WriteAnswer};
+use kc_base::{Sink, SinkError, WriteAnswer};
 use std::io::Write;
 
-/// A writer whose errors are counted. A write that takes no byte is one. It tells what the writer tells.
+/// A writer whose errors are counted. A write that takes no byte is one. It tells what the writer tells, and keeps back what the writer
+/// keeps back, as a `BufWriter` does.
 #[derive(Drop)]
 pub struct StdSink<W> {
     inner: W,
@@ -41,5 +42,13 @@ impl<W: Write> Sink for StdSink<W> {
                 WriteAnswer::Failed
             }
         }
+    }
+
+    fn flush(&mut self) -> Result<(), SinkError> {
+        if self.inner.flush().is_err() {
+            self.faults = self.faults.saturating_add(1);
+            return Err(SinkError::Failed);
+        }
+        Ok(())
     }
 }
