@@ -1,12 +1,12 @@
 -- What finishing, releasing and taking do to the lists.
-use Rattle.std.proofs.Common.{◌≡◌, ◌≢◌, ℕ, zero, suc, ◌+◌, ◌-◌, ◌*◌, ◌<◌, ◌≤◌, ◌%◌, Bool, true, false, cond, List, [], ◌∷◌, ◌++◌, length, Option, Some, None, refl, sym, ◌∙◌, ap, subst, arith, inl, inr, ◌⊎◌}
+use Rattle.std.proofs.Common.{◌≡◌, ◌≢◌, ℕ, zero, suc, ◌+◌, ◌-◌, ◌*◌, ◌<◌, ◌≤◌, ◌%◌, false, cond, List, [], ◌∷◌, ◌++◌, length, Option, Some, None, refl, sym, ◌∙◌, ap, subst, arith, inl, inr, ◌⊎◌}
 use Rattle.std.specs.Prelude.{◌==◌, slice_get, slice_index_or, slice_set}
 use Rattle.std.proofs.lemmas.Bool.{eqb-true, eq-eqb, false_from_ne_true}
 use Rattle.std.proofs.lemmas.List.{get_or_default}
 use Rattle.padata_core.specs.Rows.{Held, put, first_is, IsRising, found}
 use Rattle.padata_core.specs.Pad.{kept_at, outcomes_from, IsRow, AreRows, ready, running_of}
-use Rattle.padata_core.proofs.Tables.{length-outcomes, outcomes-same, outcomes-more, outcomes-get, outcomes-set, running-more, running-set, running-le}
-use Rattle.padata_core.proofs.Sorted.{found_put, row_put, row_rising, rising_from, row_low, row_first, row_raise, first_other, row_room, rest_below, rows_change, kept_change, kept_high, rows_more, empty_held}
+use Rattle.padata_core.proofs.Tables.{length-outcomes, outcomes-same, outcomes-more, outcomes-get, outcomes-set, running-set}
+use Rattle.padata_core.proofs.Sorted.{found_put, row_put, row_rising, rising_from, row_first, row_raise, first_other, row_room, rest_below, rows_change, kept_change, kept_high, empty_held}
 
 -- a job that runs has nothing on the lists
 pub runs_free : {F : Type 0} (rows : List (Held F)) (lists low many n : ℕ) → low ≤ n → slice_get (outcomes_from (kept_at rows lists) low many) (n - low) ≡ Some None → kept_at rows lists n ≡ None

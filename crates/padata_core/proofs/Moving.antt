@@ -1,11 +1,11 @@
 -- Outcomes that move to other lists.
-use Rattle.std.proofs.Common.{◌≡◌, ◌≢◌, ℕ, zero, suc, ◌+◌, ◌-◌, ◌*◌, ◌<◌, ◌≤◌, ◌%◌, Bool, true, false, cond, List, [], ◌∷◌, length, Option, Some, None, refl, sym, ◌∙◌, ap, subst, arith, inl, inr, ◌⊎◌}
-use Rattle.std.specs.Prelude.{◌==◌, slice_index_or, slice_set}
+use Rattle.std.proofs.Common.{◌≡◌, ◌≢◌, ℕ, ◌+◌, ◌-◌, ◌*◌, ◌<◌, ◌≤◌, ◌%◌, false, List, ◌∷◌, length, Option, Some, refl, sym, ◌∙◌, ap, subst, arith, inl, inr, ◌⊎◌}
+use Rattle.std.specs.Prelude.{slice_index_or, slice_set}
 use Rattle.std.proofs.lemmas.Bool.{cases_eq, cases_lt}
-use Rattle.padata_core.specs.Rows.{Held, put, first_is, found}
-use Rattle.padata_core.specs.Pad.{kept_at, IsRow, AreRows, HaveMore}
+use Rattle.padata_core.specs.Rows.{Held, first_is, found}
+use Rattle.padata_core.specs.Pad.{kept_at, IsRow, AreRows}
 use Rattle.padata_core.proofs.Sorted.{found_put, row_first, row_raise, first_other, rest_below, rows_change, kept_change, kept_high, rows_more, empty_held}
-use Rattle.padata_core.proofs.Finishing.{put_row, finish_room, finish_rising, finish_rows, release_rows, release_at, same_number, other_number}
+use Rattle.padata_core.proofs.Finishing.{put_row, finish_room, finish_rows, release_rows, release_at, same_number, other_number}
 
 -- the numbers below n have moved, and those from n on are where they were
 pub record AreMoved {F : Type 0} (first old new : List (Held F)) (lists more from n to room share : ℕ) : Type 0 where

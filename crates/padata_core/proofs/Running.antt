@@ -3,7 +3,6 @@ use Rattle.std.proofs.Common.{◌≡◌, ℕ, zero, suc, Bool, true, false, sym,
 use Rattle.std.specs.Prelude.{MatchBool, ◌==◌}
 use Rattle.std.proofs.lemmas.Bool.{eqb-true}
 use Rattle.padata_core.specs.Pad.{Pad, ready, submitted_of, running_of}
-use Rattle.padata_core.proofs.Tables.{running-le}
 
 module _ {F : Type 0} where
   none_runs : (xs : List (Option F)) → running_of xs ≡ 0 → length (ready xs) ≡ length xs

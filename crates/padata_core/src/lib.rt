@@ -73,8 +73,11 @@ impl<J: Drop, F: Drop> Padata<J, F> {
         if n <= self.spare {
             return Ok(());
         }
-        self.waiting.reserve(n)?;
-        let Some(total) = n.checked_add(self.uncollected()) else {
+        // At least as many as there are, so that no list is looked at for most jobs: whoever finishes one writes to its list.
+        let uncollected = self.uncollected();
+        let spare = n.max(uncollected);
+        self.waiting.reserve(spare)?;
+        let Some(total) = spare.checked_add(uncollected) else {
             return Err(AllocError);
         };
         let Some(share) = (total / self.lists as usize).checked_add(1) else {
@@ -82,7 +85,7 @@ impl<J: Drop, F: Drop> Padata<J, F> {
         };
         reserve_rows(&mut self.rows, share)?;
         self.room = share;
-        self.spare = n;
+        self.spare = spare;
         Ok(())
     }
 

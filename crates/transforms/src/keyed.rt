@@ -16,6 +16,7 @@ use crate::running::{run_aead, run_cipher, run_mac};
 use crate::taking::{takes_aead, takes_mac, takes_plain};
 use crate::tfm_err::TfmErr;
 use aes_block::Skcipher;
+use crossbeam_utils::CachePadded;
 use kc_base::Bytes;
 use std::alloc::{AllocError, Global};
 use std::marker::Model;
@@ -27,19 +28,21 @@ use templates::Plan;
 pub struct Keyed {
     plan: Plan,
     key: Bytes,
-    inner: Inner,
+    /// On cache lines of its own: each job that is made counts a reference beside it, and each that is run reads it.
+    inner: CachePadded<Inner>,
 }
 
 impl Model for Keyed {
     ghost use Rattle.std.specs.Prelude.{ℕ, List};
     ghost use Rattle.templates.specs.declared.driver_plans.Plan.{Plan};
+    ghost use Rattle.crossbeam_utils.specs.Padded.{padded_value};
     ghost use Rattle.transforms.specs.Keys.{IsKeyed};
 
     ghost Value = { Plan × List ℕ };
 
     ghost view = { λ keyed. (keyed.plan, keyed.key) };
 
-    ghost invariant = { λ keyed. IsKeyed keyed.inner keyed.plan keyed.key };
+    ghost invariant = { λ keyed. IsKeyed (padded_value keyed.inner) keyed.plan keyed.key };
 }
 
 impl Keyed {
@@ -57,7 +60,7 @@ impl Keyed {
         Ok(Keyed {
             plan: *plan,
             key,
-            inner,
+            inner: CachePadded::new(inner),
         })
     }
 
@@ -67,7 +70,7 @@ impl Keyed {
             ((form_in self.now.0 ≡ None) × (aes_key_in self.now.0 self.now.1 ≡ None))
             (λ a. (form_in self.now.0 ≡ Some (form_of a.now)) × (aes_key_in self.now.0 self.now.1 ≡ Some (key_of a.now))) }
     {
-        match &self.inner {
+        match &*self.inner {
             Inner::Skcipher(cipher) => cipher.aes(),
             Inner::Mac(mac) => mac.aes(),
             Inner::Aead(aead) => aead.aes(),
@@ -78,7 +81,7 @@ impl Keyed {
     pub(crate) fn takes(&self, authsize: usize, request: &Request) -> bool
         ensures { result ≡ takes self.now.0 authsize request.now }
     {
-        match &self.inner {
+        match &*self.inner {
             Inner::Skcipher(cipher) => takes_plain(request, cipher.iv_len()),
             Inner::Mac(_) => takes_mac(request),
             Inner::Aead(aead) => takes_aead(aead, request, authsize),
@@ -91,7 +94,7 @@ impl Keyed {
         requires text_short { length request.now.text.text < 2 ^ 32 }
         ensures { result ≡ length (room_of self.now.0 authsize request.now) }
     {
-        match &self.inner {
+        match &*self.inner {
             Inner::Skcipher(_) => request.text.len(),
             Inner::Mac(mac) => mac.room_length(&request.text),
             Inner::Aead(_) => length_with_tag(authsize, request),
@@ -118,7 +121,7 @@ impl Keyed {
         requires reserved { length (room_of self.now.0 authsize request.now) ≤ vec_capacity buffer.old }
         ensures { buffer.new.items ≡ room_of self.now.0 authsize request.now }
     {
-        match &self.inner {
+        match &*self.inner {
             Inner::Skcipher(_) => add_text(buffer, &request.text),
             Inner::Mac(mac) => mac.fill(&request.text, buffer),
             Inner::Aead(_) => add_with_tag(buffer, authsize, request),
@@ -134,7 +137,7 @@ impl Keyed {
         requires room { buffer.items ≡ room_of self.now.0 authsize request.now }
         ensures { finished_value result ≡ request_value (driver_of self.now.0) self.now.1 authsize request.now }
     {
-        match &self.inner {
+        match &*self.inner {
             Inner::Skcipher(cipher) => run_cipher(cipher, request, buffer),
             Inner::Mac(mac) => run_mac(mac, request, buffer),
             Inner::Aead(aead) => run_aead(aead, authsize, request, buffer),

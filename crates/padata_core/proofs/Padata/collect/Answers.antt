@@ -1,4 +1,4 @@
-use Rattle.std.proofs.Common.{arith, ap, sym, ◌∙◌, ◌+◌, ◌++◌, ◌∷◌, []}
+use Rattle.std.proofs.Common.{ap, ◌∙◌}
 use Rattle.padata_core.specs.Pad.{Pad}
 use Rattle.padata_core.proofs.Step.{release_step}
 use Rattle.padata_core.proofs.Padata.collect.Goals as goal

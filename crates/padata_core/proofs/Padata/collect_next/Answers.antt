@@ -1,7 +1,5 @@
-use Rattle.std.proofs.Common.{rules, arith, refl, sym, subst, ap, length, ◌∙◌, ◌≡◌, ℕ, ◌+◌, ◌-◌, ◌*◌, ◌<◌, ◌≤◌, ◌%◌, slice_index_or, Some, None}
+use Rattle.std.proofs.Common.{arith, refl, sym, ap, ◌∙◌, ◌-◌}
 use Rattle.padata_core.specs.Rows.{Held, first_is}
-use Rattle.padata_core.specs.Pad.{Pad, kept_at, outcomes_from}
-use Rattle.padata_core.proofs.Sorted.{empty_held}
 use Rattle.padata_core.proofs.Finishing.{none_ready, released_all, row_at, same_outcomes}
 use Rattle.padata_core.proofs.Padata.collect_next.Goals as goal
 

@@ -1,8 +1,7 @@
-use Rattle.std.proofs.Common.{rules, arith, refl, sym, subst, ap, length, ◌∙◌, ◌≡◌, ℕ, ◌+◌, ◌-◌, ◌*◌, ◌<◌, ◌≤◌, ◌%◌, slice_index_or, Some, None}
+use Rattle.std.proofs.Common.{arith, refl, sym, subst, ap, ◌∙◌, ◌≡◌, ◌-◌, ◌<◌, ◌≤◌, Some, None}
 use Rattle.std.specs.Prelude.{slice_get}
 use Rattle.padata_core.specs.Rows.{Held, put}
-use Rattle.padata_core.specs.Pad.{Pad, kept_at, outcomes_from, taken_of}
-use Rattle.padata_core.proofs.Sorted.{empty_held}
+use Rattle.padata_core.specs.Pad.{Pad, kept_at, taken_of}
 use Rattle.padata_core.proofs.Tables.{length-outcomes}
 use Rattle.padata_core.proofs.Finishing.{put_row, runs_free, finish_room, finish_rising, finished_all, row_at}
 use Rattle.padata_core.proofs.Padata.finish.Goals as goal

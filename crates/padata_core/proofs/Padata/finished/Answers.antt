@@ -1,5 +1,5 @@
-use Rattle.std.proofs.Common.{arith, sym, subst, length, ◌∙◌, ◌-◌, ◌≤◌}
-use Rattle.padata_core.specs.Pad.{Pad, kept_at, outcomes_from, ready}
+use Rattle.std.proofs.Common.{arith, ◌-◌}
+use Rattle.padata_core.specs.Pad.{kept_at, outcomes_from}
 use Rattle.padata_core.proofs.Tables.{length-outcomes, running-le, ready-le}
 use Rattle.padata_core.proofs.Padata.finished.Goals as goal
 

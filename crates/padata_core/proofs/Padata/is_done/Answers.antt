@@ -1,6 +1,6 @@
 use Rattle.std.proofs.Common.{arith, ◌-◌, ◌≡◌, ◌<◌, ◌∙◌, length, sym, ap, subst, deque_len, ne_eqb}
 use Rattle.std.specs.Prelude.{◌==◌, MatchBool}
-use Rattle.padata_core.specs.Pad.{Pad, running_of, kept_at, outcomes_from}
+use Rattle.padata_core.specs.Pad.{running_of, kept_at, outcomes_from}
 use Rattle.padata_core.proofs.Running.{done_cases, undone, empty_or, positive}
 use Rattle.padata_core.proofs.Padata.is_done.Goals as goal
 

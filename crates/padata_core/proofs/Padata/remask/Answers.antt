@@ -1,5 +1,5 @@
-use Rattle.std.proofs.Common.{arith, refl, ap, sym, subst, length, ◌∙◌, ◌+◌, ◌-◌, ◌≤◌, ◌<◌, ◌*◌, ◌≡◌}
-use Rattle.padata_core.specs.Pad.{Pad, kept_at, running_of, outcomes_from}
+use Rattle.std.proofs.Common.{arith, ap, sym, subst, length, ◌∙◌, ◌+◌, ◌-◌, ◌≡◌}
+use Rattle.padata_core.specs.Pad.{Pad, kept_at, running_of}
 use Rattle.padata_core.proofs.Tables.{length-outcomes, outcomes-same}
 use Rattle.padata_core.proofs.Making.{share_enough}
 use Rattle.padata_core.proofs.Padata.remask.Goals as goal

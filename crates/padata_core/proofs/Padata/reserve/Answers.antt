@@ -1,12 +1,11 @@
-use Rattle.std.proofs.Common.{arith, refl, ap, sym, length, ◌∙◌, ◌+◌, ◌-◌, ◌≤◌, ◌<◌, ◌*◌, ◌≡◌}
-use Rattle.std.specs.VecDeque.{deque_len, deque_capacity}
-use Rattle.padata_core.specs.Pad.{Pad, kept_at, running_of, outcomes_from}
+use Rattle.std.proofs.Common.{arith, refl, ap, sym, length, ◌∙◌, ◌+◌, ◌-◌}
+use Rattle.padata_core.specs.Pad.{Pad, kept_at, running_of}
 use Rattle.padata_core.proofs.Tables.{length-outcomes}
 use Rattle.padata_core.proofs.Making.{more_rows, more_outcomes, share_enough}
 use Rattle.padata_core.proofs.Padata.reserve.Goals as goal
 
-pub invariant_of-self-3 : goal.invariant_of-self-3
-invariant_of-self-3 g c =
+pub invariant_of-self-2 : goal.invariant_of-self-2
+invariant_of-self-2 g c =
     (let s = c.self.inside in
     let i = c.self.invariant in
     let m = c.reserve_rows.ensures in
@@ -18,7 +17,8 @@ invariant_of-self-3 g c =
     let enough = share_enough c.in-Some.total s.lists a.some in
     let same = c.reserve.ensures in
     let all = i.4 in
-    let asked = c.uncollected.ensures in
+    let asked = c.uncollected-uncollected.ensures in
+    let viewed = ap (λ (pad : Pad _ _). length pad.outcomes + length pad.waiting) c.self.view_is in
     let few = i.3 in
     let count = m.more.count ∙ a.count in
     let fits = c.in_ok-reserve.ensures.ok in
@@ -28,7 +28,7 @@ invariant_of-self-3 g c =
       i.2 ∙ ap running_of (sym more),
       omega (arith, same.len),
       fits,
-      rw share.1 (omega (arith, same.len, asked, q)),
+      rw share.1 (omega (arith, same.len, asked, viewed, len, q)),
     ))
 
 pub returns-clause-same : goal.returns-clause-same

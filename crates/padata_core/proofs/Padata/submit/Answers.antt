@@ -1,4 +1,4 @@
-use Rattle.std.proofs.Common.{rules, arith, ap, sym, subst, length, ◌∙◌, ◌-◌, ◌≤◌, ◌<◌, ◌^◌, ◌+◌}
+use Rattle.std.proofs.Common.{arith, sym, subst, ◌-◌, ◌≤◌, ◌<◌, ◌^◌, ◌+◌}
 use Rattle.padata_core.specs.Pad.{Pad, kept_at, submitted_of}
 use Rattle.padata_core.proofs.Tables.{length-outcomes}
 use Rattle.std.specs.VecDeque.{deque_len, deque_capacity}

@@ -1,4 +1,4 @@
-use Rattle.std.proofs.Common.{arith, ap, length, ◌∙◌, ◌-◌}
+use Rattle.std.proofs.Common.{arith, ◌-◌}
 use Rattle.padata_core.specs.Pad.{kept_at}
 use Rattle.padata_core.proofs.Tables.{length-outcomes}
 use Rattle.padata_core.proofs.Padata.submitted.Goals as goal

@@ -1,5 +1,5 @@
-use Rattle.std.proofs.Common.{rules, arith, ap, refl, length, ◌∙◌, ◌-◌, ◌+◌}
-use Rattle.padata_core.specs.Pad.{kept_at, outcomes_from, running_of}
+use Rattle.std.proofs.Common.{arith, ap, ◌-◌, ◌+◌}
+use Rattle.padata_core.specs.Pad.{kept_at, outcomes_from}
 use Rattle.padata_core.proofs.Sorted.{rows_more}
 use Rattle.padata_core.proofs.Tables.{length-outcomes, running-le, running-more}
 use Rattle.padata_core.proofs.Finishing.{take_outcomes}

@@ -1,5 +1,5 @@
-use Rattle.std.proofs.Common.{arith, ap, length, ◌∙◌, ◌≡◌, ◌-◌}
-use Rattle.padata_core.specs.Pad.{Pad, kept_at}
+use Rattle.std.proofs.Common.{arith, ◌-◌}
+use Rattle.padata_core.specs.Pad.{kept_at}
 use Rattle.padata_core.proofs.Tables.{length-outcomes}
 use Rattle.padata_core.proofs.Padata.uncollected.Goals as goal
 

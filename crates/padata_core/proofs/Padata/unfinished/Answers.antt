@@ -1,4 +1,4 @@
-use Rattle.std.proofs.Common.{rules, arith, ap, length, ◌∙◌, ◌-◌}
+use Rattle.std.proofs.Common.{arith, ◌-◌}
 use Rattle.padata_core.specs.Pad.{kept_at, outcomes_from}
 use Rattle.padata_core.proofs.Tables.{length-outcomes, running-le}
 use Rattle.padata_core.proofs.Padata.unfinished.Goals as goal

@@ -1,4 +1,4 @@
-use Rattle.std.proofs.Common.{rules, arith, subst, ◌-◌, ◌+◌, ◌/◌, ◌≤◌, ◌<◌, length, slice_index_or, ℕ}
+use Rattle.std.proofs.Common.{arith, subst, ◌-◌, ◌+◌, ◌/◌, ◌≤◌, slice_index_or}
 use Rattle.padata_core.proofs.Putting.{rising_less}
 use Rattle.padata_core.proofs.row.place_for.Goals as goal
 

@@ -1,6 +1,5 @@
-use Rattle.std.proofs.Common.{arith, ap, sym, ◌∙◌, ◌+◌, ◌-◌, ◌≤◌, ◌<◌, ◌*◌, ◌≡◌, ◌%◌, slice_index_or, length}
+use Rattle.std.proofs.Common.{ap, sym, ◌∙◌}
 use Rattle.padata_core.specs.Rows.{Held, put, first_is}
-use Rattle.padata_core.proofs.Sorted.{empty_held, rows_more}
 use Rattle.padata_core.proofs.Finishing.{row_at, finish_rising}
 use Rattle.padata_core.proofs.Moving.{moved_none, moved_some, moved_room}
 use Rattle.padata_core.proofs.rows.move_rows.Goals.{in-Some, in_default}

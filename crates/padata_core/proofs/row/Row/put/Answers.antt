@@ -1,4 +1,4 @@
-use Rattle.std.proofs.Common.{rules, arith, refl, sym, subst, ◌∙◌, ◌<◌, ◌≤◌, ap, length}
+use Rattle.std.proofs.Common.{arith, refl, sym, subst, ◌<◌, ◌≤◌, length}
 use Rattle.std.specs.VecDeque.{deque_capacity}
 use Rattle.padata_core.proofs.Putting.{put_at, on_ok}
 use Rattle.padata_core.proofs.row.Row.put.Goals as goal
