@@ -1,15 +1,19 @@
 -- What the held entries show is what all entries show.
-use Rattle.std.proofs.Common.{◌≡◌, ℕ, ◌+◌, Bool, true, false, cond, ◌&&◌, ◌||◌, ltb, List, [], ◌∷◌, ◌++◌, length, Option, Some, None, refl, sym, ap, ◌∙◌, arith, append_assoc, length-append}
-use Rattle.std.specs.Prelude.{slice_get, count_by}
+use Rattle.std.proofs.Common.{◌≡◌, ℕ, suc, ◌+◌, ◌<◌, take, drop, Bool, true, false, cond, ◌&&◌, ◌||◌, ltb, List, [], ◌∷◌, ◌++◌, length, Option, Some, None, refl, sym, ap, ◌∙◌, arith, append_assoc, length-append}
+use Rattle.std.proofs.Math.ListN.{get_or}
+use Rattle.std.proofs.Math.Seq.{drop-cons}
+use Rattle.std.proofs.lemmas.List.{take-append-drop}
+use Rattle.std.specs.Prelude.{slice_get, count_by, is_some}
 use Rattle.std.specs.List.{list_any, find, filter_map, cons_option, position_from}
 use Rattle.std.specs.Option.{option_map_or, option_and_then, option_or}
 use Rattle.std.specs.Str.{bytes_eq}
 use Rattle.std.proofs.lemmas.List.Sums.{sum_by-append}
+use Rattle.alg_registry.specs.declared.entry.RefAnswer.{RefAnswer}
 use Rattle.alg_registry.specs.declared.spec.Spec.{Spec}
 use Rattle.alg_registry.specs.declared.row.Row.{Row}
 use Rattle.alg_registry.specs.Rows.{is_held}
 use Rattle.alg_registry.specs.Answers.{clashes_with, held_count, driver_place, may_find, better}
-use Rattle.alg_registry.specs.Calls.{refs_answer, shown, listing}
+use Rattle.alg_registry.specs.Calls.{own_refs, refs_answer, shown, listing}
 use Rattle.alg_registry.specs.Larvals.{best_by}
 use Rattle.alg_registry.specs.Held.{held_from, passes, decided, better_by, best_among, refs_by, refs_among, made_at, is_plain_driver, is_listed_driver}
 use Rattle.alg_registry.proofs.Steps.{or_none}
@@ -139,6 +143,38 @@ refs-held driver rows =
     decided-held (refs_by driver) None
     (λ n row found e. ap (λ b. option_or found (cond (b && bytes_eq row.spec.driver driver) (Some (record { count = row.references; listed = row.listed })) None)) e ∙ or_none found) rows
     ∙ refs_folded driver 0 rows
+
+-- where newer ones decide nothing, the next does
+pub refs-next : (driver : List ℕ) (rows : List Row) (id : ℕ) (newer : List ℕ) → refs_among driver rows newer ≡ None → refs_among driver rows (id ∷ newer) ≡ made_at (own_refs driver) rows id
+refs-next driver rows id newer none = (λ i. option_map_or (λ row. refs_by driver id row (none i)) (slice_get rows id) (none i)) ∙ own (slice_get rows id)
+  where
+    own : (o : Option Row) → option_map_or (λ row. refs_by driver id row None) o None ≡ option_and_then (own_refs driver) o
+    own None = refl
+    own (Some row) = refl
+
+-- what newer ones decide, older ones leave
+pub refs-newest : (driver : List ℕ) (rows : List Row) (older newer : List ℕ) (answer : RefAnswer) → refs_among driver rows newer ≡ Some answer → refs_among driver rows (older ++ newer) ≡ Some answer
+refs-newest driver rows [] newer answer found = found
+refs-newest driver rows (id ∷ older) newer answer found = kept (refs-newest driver rows older newer answer found)
+  where
+    left : (o : Option Row) → option_map_or (λ row. refs_by driver id row (Some answer)) o (Some answer) ≡ Some answer
+    left None = refl
+    left (Some row) = refl
+
+    kept : refs_among driver rows (older ++ newer) ≡ Some answer → refs_among driver rows (id ∷ older ++ newer) ≡ Some answer
+    kept rest = (λ i. option_map_or (λ row. refs_by driver id row (rest i)) (slice_get rows id) (rest i)) ∙ left (slice_get rows id)
+
+-- who goes from the last entry on stops at the first that decides
+pub refs-stop : (driver : List ℕ) (rows : List Row) (held : List ℕ) (i n d : ℕ) (found : Option RefAnswer) → n < length held → suc n ≡ i → None ≡ refs_among driver rows (drop i held) → found ≡ made_at (own_refs driver) rows (get_or held n d) → is_some found ≡ true → found ≡ refs_among driver rows held
+refs-stop driver rows held i n d None within next none own some = absurd cc
+refs-stop driver rows held i n d (Some answer) within next none own some =
+    sym ((λ j. refs_among driver rows (sym (take-append-drop n held) j)) ∙ refs-newest driver rows (take n held) (drop n held) answer at)
+  where
+    empty : refs_among driver rows (drop (suc n) held) ≡ None
+    empty = ap (λ k. refs_among driver rows (drop k held)) next ∙ sym none
+
+    at : refs_among driver rows (drop n held) ≡ Some answer
+    at = (λ j. refs_among driver rows (drop-cons held n d within j)) ∙ (refs-next driver rows (get_or held n d) (drop (suc n) held) empty ∙ sym own)
 
 map_at : {B : Type 0} (make : Row → Option B) (o : Option Row) (rest : List B) → cons_option (option_and_then make o) rest ≡ option_map_or (λ row. cons_option (make row) rest) o rest
 map_at make None rest = refl

@@ -2,9 +2,8 @@
 
 ghost use Rattle.std.specs.Prelude.{◌≡◌, ℕ, ◌<◌, ◌≤◌, ◌++◌, [], length, drop, take, slice_get, IfOk, OnOk};
 ghost use Rattle.std.specs.List.{cons_option, filter_map};
-ghost use Rattle.std.specs.Option.{option_map_or};
 ghost use Rattle.alg_registry.specs.Calls.{own_refs, refs_answer, shown, listing};
-ghost use Rattle.alg_registry.specs.Held.{made_at, refs_by, refs_among};
+ghost use Rattle.alg_registry.specs.Held.{made_at, refs_among};
 
 use crate::entry::RefAnswer;
 use crate::row::Row;
@@ -60,26 +59,28 @@ fn refs_of(row: &Row, driver: &[u8]) -> Option<RefAnswer>
     }
 }
 
-/// The references of the entry of the id, where it has the driver and no newer one was found.
-fn refs_at(all: &[Row], id: u64, driver: &[u8], found: Option<RefAnswer>) -> Option<RefAnswer>
-    ensures { result ≡ option_map_or (λ row. refs_by driver.now id row found) (slice_get all.now id) found }
+/// The references of the entry of the id, where it has the driver.
+fn refs_at(all: &[Row], id: u64, driver: &[u8]) -> Option<RefAnswer>
+    ensures { result ≡ made_at (own_refs driver.now) all.now id }
 {
     match all.get(id as usize) {
-        Some(row) => found.or(refs_of(row, driver)),
-        None => found,
+        Some(row) => refs_of(row, driver),
+        None => None,
     }
 }
 
 fn newest_among(all: &[Row], held: &[u64], driver: &[u8]) -> Option<RefAnswer>
     ensures { result ≡ refs_among driver.now all.now held.now }
 {
-    let mut found = None;
     let mut i = held.len();
     while i > 0 {
         i -= 1;
-        found = refs_at(all, held[i], driver, found);
+        let found = refs_at(all, held[i], driver);
+        if found.is_some() {
+            return found;
+        }
     }
-    found
+    None
 }
 
 /// The references of the newest held entry of the driver.

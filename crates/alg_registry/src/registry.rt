@@ -24,7 +24,7 @@ use std::marker::Model;
 /// How many entries the registry holds at most.
 const MOST_HELD: usize = 4096;
 
-/// The registry. Contracts see it as its history, which is legal.
+/// The registry. Contracts see it as its history, which is legal. The callers 1 to 16 are workers.
 #[derive(Drop)]
 pub struct Registry {
     alloc: Global,
@@ -231,10 +231,10 @@ impl Registry {
 
     /// Looks for what answers to the text. With `plain` only entries that are not wrapped count; without it the caller is no worker.
     ///
-    /// An entry whose driver is the text is found. Otherwise, of the entries whose name is the text, or with which a
-    /// larval of the text ended, the one of greatest priority is found, and of equal priorities the newest. Where there
-    /// is none, a larval of the text is pending, or begins where the text has a parenthesis. `Memory` is the only
-    /// refusal, and leaves all as it was.
+    /// A listed entry whose driver is the text is found. Otherwise, of the listed entries whose name is the text, or with
+    /// which a larval of the text ended, the one of greatest priority is found, and of equal priorities the newest. Where
+    /// there is none, a larval of the text is pending, or begins where the text has a `(`. `Memory` is the only refusal,
+    /// and leaves all as it was.
     pub fn look(&mut self, caller: u32, text: &[u8], plain: bool) -> Result<Looked, RegErr>
         requires { IsTrue (plain || not (is_worker caller)) }
         ensures answer { IfOk result (λ answer. answer ≡ look_answer (rows_of self.old) (larvals_of self.old) text.now plain) }
@@ -339,7 +339,7 @@ impl Registry {
     /// Of an instance the answer is `Failed(EAGAIN)` where an entry below it is no longer listed; otherwise `Joined`
     /// where an entry of its driver is listed; then `Failed(EEXIST)` and `Failed(ENFILE)` as in `enlist`; otherwise
     /// `Built`. `NoMemory` comes where it was handed in, or in place of `Built` for want of memory. Each is recorded, and
-    /// the entry itself takes no memory.
+    /// recording takes no memory.
     pub fn end(&mut self, caller: u32, larval: u64, built: Result<Spec, Ended>) -> Ended
         requires claimed { claimer self.old larval ≡ Some caller }
         requires unended { ended_as self.old larval ≡ None }

@@ -8,6 +8,7 @@ use std::sync::Arc;
 #[derive(Drop)]
 pub struct Ask {
     pub keyed: Arc<Keyed>,
+    /// The size of the tag in bytes.
     pub authsize: u32,
     pub request: Request,
     pub client: u32,
