@@ -1,6 +1,6 @@
 //! Sealing and opening.
 
-ghost use Rattle.std.specs.Prelude.{◌≡◌, ◌≤◌, length};
+ghost use Rattle.std.specs.Prelude.{◌≡◌, ◌≤◌, ◌<◌, length};
 ghost use Rattle.std_defs.specs.Authenc.{authenc_seal, authenc_open};
 ghost use Rattle.aes_block.specs.Opened.{Opens};
 ghost use Rattle.aes_block.specs.Outcome.{Becomes};
@@ -60,7 +60,7 @@ impl<S: Skcipher + Drop> Authenc<S> {
         Ok(())
     }
 
-    /// Opens the text `b` in place under an IV of the cipher's length and a tag of at most 32 bytes. The tag is compared
+    /// Opens the text `b` in place under an IV of the cipher's length and a tag of 1 to 32 bytes. The tag is compared
     /// first: `EBADMSG` exactly where it isn't the front of the MAC of the associated bytes and `b`. Then `EINVAL` exactly
     /// where the cipher doesn't take a text of that length. `b` is unchanged after both.
     pub fn unseal(
@@ -71,7 +71,7 @@ impl<S: Skcipher + Drop> Authenc<S> {
         tag: &[u8],
     ) -> Result<(), Errno>
         requires iv_fits { length iv.now ≡ S.iv_size self.now.1 }
-        requires tag_fits { length tag.now ≤ 32 }
+        requires tag_fits { (0 < length tag.now) × (length tag.now ≤ 32) }
         ensures { Opens result (authenc_open self.now.0 (S.unseals self.now.1 iv.now) associated.now b.old tag.now) b.old b.new }
     {
         let full = self.mac.mac(associated, b);
@@ -101,7 +101,7 @@ impl<S: SegCipher + Drop> Authenc<S> {
         Ok(())
     }
 
-    /// Opens the text in place as `unseal` does, under a tag of at most 32 bytes: `EBADMSG` exactly where it isn't the front of
+    /// Opens the text in place as `unseal` does, under a tag of 1 to 32 bytes: `EBADMSG` exactly where it isn't the front of
     /// the MAC of the associated bytes and the text, then `EINVAL` exactly where the cipher doesn't take a text of that length.
     /// The text is unchanged after both. Each segment keeps its length.
     pub fn unseal_segs(
@@ -112,7 +112,7 @@ impl<S: SegCipher + Drop> Authenc<S> {
         tag: &[u8],
     ) -> Result<(), Errno>
         requires iv_fits { length iv.now ≡ S.iv_size self.now.1 }
-        requires tag_fits { length tag.now ≤ 32 }
+        requires tag_fits { (0 < length tag.now) × (length tag.now ≤ 32) }
         ensures text { Opens result (authenc_open self.now.0 (S.unseals self.now.1 iv.now) associated.now b.old.text tag.now) b.old.text b.new.text }
         ensures sizes { b.new.sizes ≡ b.old.sizes }
     {

@@ -1,12 +1,13 @@
-//! Texts in segments: every cut gives what the whole gives, and the whole gives the vectors of SP 800-38A.
+//! Texts in segments: every cut gives what the whole gives, and the whole gives the vectors of SP 800-38A,
+//! and else of python's `cryptography`.
 
 ghost use Rattle.std.specs.Prelude.{◌≡◌};
 
 use aes_block::Aes;
 use authenc::Authenc;
 use cbc_mode::Cbc;
-use ctr_mode::Ctr;
-use gcm_mode::Gcm;
+use ctr_mode::{Ctr, Rfc3686};
+use gcm_mode::{Gcm, Rfc4106};
 use ghash_field::BitGhash;
 use hmac_sha::Mac;
 use kc_base::Bytes;
@@ -92,27 +93,27 @@ trait Sealing {
 
 /// A mode with no tag, and an IV.
 #[derive(Drop)]
-struct Untagged<M> {
+struct Untagged<'a, M> {
     mode: M,
-    iv: [u8; 16],
+    iv: &'a [u8],
 }
 
-impl<M: SegCipher> Sealing for Untagged<M> {
+impl<'a, M: SegCipher> Sealing for Untagged<'a, M> {
     fn seals<R: Abort>(&self, rt: &R, text: &mut [u8]) -> [u8; 32] {
-        assert!(rt; self.mode.iv_len() == 16);
-        assert!(rt; self.mode.seal(&self.iv, text).is_ok());
+        assert!(rt; self.mode.iv_len() == self.iv.len());
+        assert!(rt; self.mode.seal(self.iv, text).is_ok());
         [0; 32]
     }
 
     fn seals_segs<R: Abort>(&self, rt: &R, segs: &mut Segs) -> [u8; 32] {
-        assert!(rt; self.mode.iv_len() == 16);
-        assert!(rt; self.mode.seal_segs(&self.iv, segs).is_ok());
+        assert!(rt; self.mode.iv_len() == self.iv.len());
+        assert!(rt; self.mode.seal_segs(self.iv, segs).is_ok());
         [0; 32]
     }
 
     fn opens_segs<R: Abort>(&self, rt: &R, segs: &mut Segs, _tag: &[u8; 32]) {
-        assert!(rt; self.mode.iv_len() == 16);
-        assert!(rt; self.mode.unseal_segs(&self.iv, segs).is_ok());
+        assert!(rt; self.mode.iv_len() == self.iv.len());
+        assert!(rt; self.mode.unseal_segs(self.iv, segs).is_ok());
     }
 }
 
@@ -142,6 +143,30 @@ impl Sealing for Gcm<Aes, BitGhash> {
         assert!(rt; segs.len() < 1000);
         assert!(rt;
             self.unseal_segs(&[7; 12], ASSOCIATED, segs, &tag[..16])
+                .is_ok()
+        );
+    }
+}
+
+impl Sealing for Rfc4106<Aes, BitGhash> {
+    fn seals<R: Abort>(&self, rt: &R, text: &mut [u8]) -> [u8; 32] {
+        let mut tag = [0u8; 16];
+        assert!(rt; text.len() < 1000);
+        assert!(rt; self.seal(&[7; 8], ASSOCIATED, text, &mut tag).is_ok());
+        padded(&tag)
+    }
+
+    fn seals_segs<R: Abort>(&self, rt: &R, segs: &mut Segs) -> [u8; 32] {
+        let mut tag = [0u8; 16];
+        assert!(rt; segs.len() < 1000);
+        assert!(rt; self.seal_segs(&[7; 8], ASSOCIATED, segs, &mut tag).is_ok());
+        padded(&tag)
+    }
+
+    fn opens_segs<R: Abort>(&self, rt: &R, segs: &mut Segs, tag: &[u8; 32]) {
+        assert!(rt; segs.len() < 1000);
+        assert!(rt;
+            self.unseal_segs(&[7; 8], ASSOCIATED, segs, &tag[..16])
                 .is_ok()
         );
     }
@@ -205,7 +230,7 @@ fn every_cut_gives_the_whole<S: Sealing>(rt: &impl Abort, alloc: Global, mode: &
 fn cbc_seals_every_cut_as_the_whole(rt: HostRuntime) {
     let mode = Untagged {
         mode: Cbc::new(aes(&rt, rt.alloc())),
-        iv: [0, 1, 2, 3, 4, 5, 6, 7, 8, 9, 10, 11, 12, 13, 14, 15],
+        iv: &[0, 1, 2, 3, 4, 5, 6, 7, 8, 9, 10, 11, 12, 13, 14, 15],
     };
     let first =
         "7649abac8119b246cee98e9b12e9197d5086cb9b507219ee95db113a917678b273bed6b8e3c1743b7116e69e222295163ff1caa1681fac09120eca307586e1a7";
@@ -216,7 +241,7 @@ fn cbc_seals_every_cut_as_the_whole(rt: HostRuntime) {
 fn ctr_seals_every_cut_as_the_whole(rt: HostRuntime) {
     let mode = Untagged {
         mode: Ctr::new(aes(&rt, rt.alloc())),
-        iv: 0xf0f1f2f3f4f5f6f7f8f9fafbfcfdfeffu128.to_be_bytes(),
+        iv: &0xf0f1f2f3f4f5f6f7f8f9fafbfcfdfeffu128.to_be_bytes(),
     };
     let first =
         "874d6191b620e3261bef6864990db6ce9806f66b7970fdff8617187bb9fffdff5ae4df3edbd5d35e5b4f09020db03eab1e031dda2fbe03d1792170a0f3009cee";
@@ -227,6 +252,26 @@ fn ctr_seals_every_cut_as_the_whole(rt: HostRuntime) {
 fn gcm_seals_every_cut_as_the_whole(rt: HostRuntime) {
     let mode = Gcm::<Aes, BitGhash>::new(aes(&rt, rt.alloc()));
     every_cut_gives_the_whole(&rt, rt.alloc(), &mode, "-");
+}
+
+#[test]
+fn rfc3686_seals_every_cut_as_the_whole(rt: HostRuntime) {
+    let mode = Untagged {
+        mode: Rfc3686::new(aes(&rt, rt.alloc()), [0xf0, 0xf1, 0xf2, 0xf3]),
+        iv: &[7; 8],
+    };
+    let first =
+        "3ba1a6e8efd7c4bb55a0d6aef0145c122af216ded78b1d2b02e09772082be3654bd6ecfebc52feb3e9726938b0818b2537a53dc9975efe6cffe836a5ae7273611f1a218d55954f73240ed973e1bbd574";
+    every_cut_gives_the_whole(&rt, rt.alloc(), &mode, first);
+}
+
+#[test]
+fn rfc4106_seals_every_cut_as_the_whole(rt: HostRuntime) {
+    let gcm = Gcm::<Aes, BitGhash>::new(aes(&rt, rt.alloc()));
+    let mode = Rfc4106::new(gcm, [1, 2, 3, 4]);
+    let first =
+        "023e1817c3cbb769f48ff38d2af174a087bd77a3520423b4ccda0464c4a31faa62dea890b0cd3006a633d37fa0e763e5c8c8077a5ba5d4a91f0bebeec7cbab702f07551e23864422be3658f368bb07e1";
+    every_cut_gives_the_whole(&rt, rt.alloc(), &mode, first);
 }
 
 #[test]

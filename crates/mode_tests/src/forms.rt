@@ -46,7 +46,7 @@ fn agree<A: Skcipher, B: Skcipher>(rt: &impl Abort, one: &A, other: &B, length: 
     let mut text = [1u8; 300];
     assert!(rt; length <= 300 && iv.len() == one.iv_len() && iv.len() == other.iv_len());
     assert!(rt; one.seal(iv, &mut text[..length]).is_ok());
-    assert!(rt; other.seal(iv, &mut text[..length]).is_ok());
+    assert!(rt; other.unseal(iv, &mut text[..length]).is_ok());
     assert!(rt; text == [1u8; 300], "{length} bytes");
 }
 

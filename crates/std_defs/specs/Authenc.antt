@@ -12,7 +12,8 @@ use Rattle.std_defs.specs.Value.Value.{bad_message}
 unfoldable pub authenc_seal : List ℕ → (List ℕ → Option (List ℕ)) → List ℕ → List ℕ → Option (List ℕ × List ℕ)
 authenc_seal block seals associated text = option_map (λ c. (c, hmac_under block (associated ++ c))) (seals text)
 
--- the plaintext of a ciphertext: a tag that isn't the front of its MAC is refused first, then a length
+-- the plaintext of a ciphertext under a tag of 1 to 32 bytes: one that isn't the front of its MAC is refused first, then a
+-- length
 unfoldable pub authenc_open : List ℕ → (List ℕ → Option (List ℕ)) → List ℕ → List ℕ → List ℕ → Value
 authenc_open block unseals associated text tag =
     if bytes_eq (take (length tag) (hmac_under block (associated ++ text))) tag then or_invalid (unseals text) else bad_message

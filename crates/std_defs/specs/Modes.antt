@@ -42,6 +42,8 @@ ctr_stream sealed t j = sealed (block_bytes ((t + j) % 2 ^ 128))
 abbrev pub ctr : (List ℕ → List ℕ) → List ℕ → List ℕ → List ℕ
 ctr sealed t text = with_stream (ctr_stream sealed (block_number t)) text
 
--- the first counter block of a text: the nonce, the IV and a block counter of 1 (RFC 3686, 4)
+-- the first counter block of a text: the nonce, the IV and a block counter of 1 (RFC 3686, 4). `ctr` counts on from it over
+-- all 128 bits, as the kernel does. The RFC's counter has 32, so beyond 2^32 - 1 blocks under one IV this isn't the RFC's, and
+-- runs into the next IV's blocks
 abbrev pub rfc3686_counter : List ℕ → List ℕ → List ℕ
 rfc3686_counter nonce iv = nonce ++ iv ++ 0 ∷ 0 ∷ 0 ∷ 1 ∷ []
