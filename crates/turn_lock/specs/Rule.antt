@@ -1,6 +1,6 @@
 -- The rule of the lock's table, and what each step tells.
--- Word 0 is the next ticket, word 1 the ticket that is served, word 2 the length of the history. The slot holds the value.
-use Rattle.std.specs.Prelude.{◌≡◌, ◌≢◌, ℕ, ◌+◌, ◌-◌, ◌%◌, ◌^◌, ◌<◌, ◌≤◌, List, [], ◌∷◌, ◌++◌, length, Option, Some, None, Bool, true, false, zero, suc}
+-- Word 0 is the next ticket, word 1 the ticket that is served. The slot holds the value.
+use Rattle.std.specs.Prelude.{◌≡◌, ◌≢◌, ℕ, ◌+◌, ◌-◌, ◌%◌, ◌^◌, ◌<◌, ◌≤◌, List, [], ◌∷◌, ◌++◌, Option, Some, None, Bool, true, false, zero, suc}
 use mathlib.Core.Option.{some, none}
 use lib.ListN.{get_elem?}
 use Rattle.std.specs.Global.{Box}
@@ -109,7 +109,7 @@ module _ {E : Type 0} where
       pub log : List E
       pub drawn : ℕ
       pub serving : ℕ
-      pub words : s.words ≡ drawn % 2 ^ 64 ∷ serving % 2 ^ 64 ∷ length log % 2 ^ 64 ∷ []
+      pub words : s.words ≡ drawn % 2 ^ 64 ∷ serving % 2 ^ 64 ∷ []
       pub queue : drawn ≡ serving + total waiting s.views
       pub roomy : total room s.views ≤ 2 ^ 32
       pub home : (x : Option T) → s.homes ≡ some x ∷ [] → (y : T) × (x ≡ Some y) × (told y ≡ log)

@@ -32,7 +32,7 @@ impl<T: Told> TurnLock<T> {
         let boxed = Box::new(alloc, value)?;
         let mut slots = Vec::with_capacity(alloc, 1)?;
         slots.push(Some(boxed))?;
-        match Table::new(alloc, &[0, 0, 0], slots, &()) {
+        match Table::new(alloc, &[0, 0], slots, &()) {
             Ok((table, seat)) => Ok((TurnLock { table }, seated(0, 1, seat))),
             Err(Refused { slots: _ }) => Err(AllocError),
         }
@@ -186,7 +186,7 @@ impl<'a, T: Told> Turn<'a, T> {
             None => {}
             Some(_) => unreachable!(),
         }
-        shared.fetch_add::<Appends<T>>(&mut seat, 2, 1);
+        shared.load::<Appends<T>>(&mut seat, 1);
         let value = shared.exchange(&mut seat, 0, None).unwrap();
         Turn {
             lock,
@@ -217,7 +217,7 @@ impl<'a, T: Told> Turn<'a, T> {
             Some(_) => unreachable!(),
         }
         if added {
-            shared.fetch_add::<Appends<T>>(&mut seat, 2, 1);
+            shared.load::<Appends<T>>(&mut seat, 1);
         }
         shared.fetch_add::<Serves>(&mut seat, 1, 1);
         seated(number, next, seat)

@@ -15,7 +15,7 @@ use std::alloc::Global;
 pub struct TurnLock<T: Told> {
     /// The value stands in a piece of memory of its own, so that a turn moves no more than its address.
     pub(crate) table: Table<Option<Box<T>>, View<T::Entry>, (), Turns<T>, Global>,
-    ghost shape: { (table.shared.table_id.words ≡ 3) × (table.shared.table_id.slots ≡ 1) },
+    ghost shape: { (table.shared.table_id.words ≡ 2) × (table.shared.table_id.slots ≡ 1) },
 }
 
 /// What one caller knows of a lock's history, and its right to take a turn.
