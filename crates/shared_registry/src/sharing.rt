@@ -76,8 +76,8 @@ impl SharedRegistry {
         self.bells.watch_ends()
     }
 
-    /// Whether there may be a larval that nobody has claimed: a hint that takes no turn. It is no fact, and while a
-    /// larval stands that nobody claims it is true from soon after its look on.
+    /// Whether there may be a larval that nobody has claimed: a hint that takes no turn. It is no fact. While a larval
+    /// stands that nobody has claimed it is true, from before its look gives the turn back.
     pub fn may_build(&self) -> bool {
         self.bells.may_build()
     }
@@ -144,12 +144,11 @@ impl SharedRegistry {
         let by = pass.number();
         let mut turn = self.turn(rt, pass);
         let answer = turn.get().look(by, text, plain);
-        let added = answer.is_ok();
-        let pass = turn.give(added);
         if let Ok(Looked::Began(_)) = answer {
             self.bells.note_begin();
         }
-        (pass, answer)
+        let added = answer.is_ok();
+        (turn.give(added), answer)
     }
 
     /// Claims the larval of this number, or the oldest one that nobody has claimed.
