@@ -39,7 +39,7 @@ impl<W: Work> BoardCore<W> {
         ensures other { IfErr result (λ e. e ≢ BoardErr.NoWorker) }
         ensures legal { LegalBoard self.new }
     {
-        let Admitted { ask, size } = self.admit(caller, &job)?;
+        let Admitted { ask, used } = self.admit(caller, &job)?;
         reserve_entries(&mut self.log, self.owed, 4)?;
         let place = &self.pipes[&pipe];
         let had_job = place.stage.may_serve();
@@ -47,7 +47,7 @@ impl<W: Work> BoardCore<W> {
         let place = self.pipes.get_mut(&pipe).unwrap();
         place.reserve()?;
         let accepted = place.stage.accepts(backlog);
-        spend(&mut self.used, caller, size, accepted)?;
+        spend(&mut self.used, caller, used, accepted)?;
         let answer = place.enqueue(caller, job, backlog);
         let more = place.stage.work_entries(answer);
         let has_job = place.stage.may_serve();

@@ -1,7 +1,8 @@
 use Rattle.std.specs.Prelude.{IsSome}
-use Rattle.std.proofs.Common.{arith, inr, ◌≡◌, sym, ◌∙◌, ap, subst, refl}
+use Rattle.std.proofs.Common.{arith, inr, ◌≡◌, ◌+◌, sym, ◌∙◌, ap, subst, refl}
 use Rattle.board.specs.declared.entry.BoardEntry.TheVariants.{Enq}
 use Rattle.board.specs.Entries.{entries_of, verdict}
+use Rattle.board.specs.Allowance.{used_at}
 use Rattle.board.specs.Ready.{HasJob, IsNoQueue}
 use Rattle.board.specs.Legal.{MaySubmit, IsOpenQueue}
 use Rattle.board.specs.Places.{places}
@@ -96,12 +97,13 @@ invariant_of-self-2 g c =
     let s = enqueue_step g.W.Work.asked g.W.Work.meaning c.self.inside.pipes c.self.inside.born c.self.inside.log.items c.args.pipe c.unwrap-place.result.now c.self.invariant.0 here next c.args.caller c.in_ok-ask.field-0.ask c.enqueue-answer.new.self c.args.job c.args.backlog answer set c.in_ok-ask.ensures.ask said noting e c.enqueue-answer.ensures.placed may open_ in
     let item = same_item (places c.self.inside.pipes c.args.pipe) c.index-place.result.now c.unwrap-place.result.now c.index-place.ensures here in
     let spent = c.accepts-accepted.ensures ∙ (accepts_is c.reserve.new.self.stage c.args.backlog ∙ ap is_accepted (sym c.enqueue-answer.ensures.answer)) in
+    let used : c.in_ok-ask.field-0.used ≡ record { requests = (used_at c.self.inside.used c.args.caller).requests + 1; bytes = (used_at c.self.inside.used c.args.caller).bytes + g.W.Work.weight (g.W.Work.asked c.args.job) } = rw (c.self.invariant.4 c.args.caller, c.self.view_is) c.in_ok-ask.ensures.used in
     let more : c.work_entries-more.result ≡ work_after c.unwrap-place.result.now.stage answer = c.work_entries-more.ensures ∙ work_same c.enqueue-answer.new.self.stage c.unwrap-place.result.now.stage c.args.job answer e in (
       rw (c.push_reserved.ensures.items, c.in_ok-reserve_entries.ensures.items) s.0,
       rw (c.push_reserved.ensures.items, c.in_ok-reserve_entries.ensures.items) (shut-same c.self.inside.log.items (Enq c.args.caller c.args.pipe c.in_ok-ask.field-0.ask c.args.backlog answer) refl ∙ c.self.invariant.1),
       omega (arith, more, few_entries c.unwrap-place.result.now.stage answer, c.push_reserved.ensures.len, c.push_reserved.ensures.capacity, c.in_ok-reserve_entries.ensures.ok),
       omega (arith, more, s.1, c.self.invariant.3),
-      rw (c.push_reserved.ensures.items, c.in_ok-reserve_entries.ensures.items) (used_answer g.W.Work.weight c.self.inside.used c.spend.new.used c.self.inside.log.items c.args.caller c.args.pipe c.in_ok-ask.field-0.ask c.args.backlog answer (g.W.Work.asked c.args.job) c.in_ok-ask.field-0.size c.in_ok-ask.ensures.ask c.in_ok-ask.ensures.size c.self.invariant.4 (rw spent at c.in_ok-spend.ensures.ok)),
+      rw (c.push_reserved.ensures.items, c.in_ok-reserve_entries.ensures.items) (used_answer g.W.Work.weight c.self.inside.used c.spend.new.used c.self.inside.log.items c.args.caller c.args.pipe c.in_ok-ask.field-0.ask c.args.backlog answer (g.W.Work.asked c.args.job) _ c.in_ok-ask.ensures.ask refl c.self.invariant.4 (rw (spent, used) at c.in_ok-spend.ensures.ok)),
       lines_asked c.self.inside.pipes next c.admit-2.new.self c.tell.new.self c.args.pipe c.unwrap-place.result.now c.enqueue-answer.new.self c.args.caller _ c.may_serve-had_job.result c.may_serve-has_job.result (lines_kept c.self.inside.pipes c.self.inside.ready c.admit-2.new.self c.self.invariant.5 c.in_ok-admit.ensures.kept) set (λ q. c.in_ok-admit.ensures.joined (subst (λ x. IsNoQueue x) (sym item) q)) (λ q h. c.in_ok-admit.ensures.in_line (subst (λ x. IsNoQueue x) (sym item) q) (subst (λ x. HasJob x) (sym item) h)) c.tell.ensures noting (enqueued_queue c.unwrap-place.result.now.stage c.enqueue-answer.new.self.stage c.args.job answer e) (λ h. subst (λ x. HasJob x) item (serves c.index-place.result.now.stage c.may_serve-had_job.result c.may_serve-had_job.ensures h)) (says c.enqueue-answer.new.self.stage c.may_serve-has_job.result c.may_serve-has_job.ensures),
       passing_told c.self.inside.pipes next c.self.inside.passing c.args.pipe c.unwrap-place.result.now c.enqueue-answer.new.self c.self.invariant.6 set c.set.new.self c.may_pass-may_pass.result c.set.ensures (enqueued_chain c.unwrap-place.result.now.stage c.enqueue-answer.new.self.stage c.args.job answer e) (says_passing c.enqueue-answer.new.self.stage c.may_pass-may_pass.result c.may_pass-may_pass.ensures),
     )

@@ -1,9 +1,10 @@
 use Rattle.std.specs.Prelude.{IsSome}
 use Rattle.board.specs.declared.pipeline.Pipeline.{Pipeline}
-use Rattle.std.proofs.Common.{arith, inl, true, ◌≡◌, ◌<◌, length, Some, sym, ◌∙◌, ap, subst, refl}
+use Rattle.std.proofs.Common.{arith, inl, true, ◌≡◌, ◌+◌, ◌<◌, length, Some, sym, ◌∙◌, ap, subst, refl}
 use Rattle.std.proofs.lemmas.Result.{err_from_is_err_and}
 use Rattle.board.specs.declared.entry.BoardEntry.TheVariants.{Submit}
 use Rattle.board.specs.Entries.{entries_of, submissions, mask}
+use Rattle.board.specs.Allowance.{used_at}
 use Rattle.board.specs.Ready.{HasJob, IsNoQueue}
 use Rattle.board.specs.Legal.{MaySubmit, IsOpenPad}
 use Rattle.board.proofs.KeptUsed.{used_more}
@@ -94,12 +95,13 @@ invariant_of-self-2 g c =
     let z = c.if-place-eq0.false in
     let m = ap (λ (x : Pipeline _ _). x.mask) item in
     let some : 0 < c.unwrap-place.result.now.mask = omega arith in
+    let used : c.in_ok-ask.field-0.used ≡ record { requests = (used_at c.self.inside.used c.args.caller).requests + 1; bytes = (used_at c.self.inside.used c.args.caller).bytes + g.W.Work.weight (g.W.Work.asked c.args.job) } = rw (c.self.invariant.4 c.args.caller, c.self.view_is) c.in_ok-ask.ensures.used in
     let s = submit_step g.W.Work.asked g.W.Work.meaning c.self.inside.pipes c.self.inside.born c.self.inside.log.items c.args.pipe c.unwrap-place.result.now c.self.invariant.0 here next c.submit-number.result c.args.caller c.in_ok-ask.field-0.ask c.submit-number.new.self c.args.job set c.in_ok-ask.ensures.ask noting e may open_ n some in (
       rw (c.push_reserved.ensures.items, c.in_ok-reserve_entries.ensures.items) s.0,
       rw (c.push_reserved.ensures.items, c.in_ok-reserve_entries.ensures.items) (shut-same c.self.inside.log.items (Submit c.args.caller c.args.pipe c.submit-number.result c.in_ok-ask.field-0.ask) refl ∙ c.self.invariant.1),
       omega (arith, c.push_reserved.ensures.len, c.push_reserved.ensures.capacity, c.in_ok-reserve_entries.ensures.ok),
       omega (arith, s.1, c.self.invariant.3),
-      rw (c.push_reserved.ensures.items, c.in_ok-reserve_entries.ensures.items) (used_more g.W.Work.weight c.self.inside.used c.spend.new.used c.self.inside.log.items (Submit c.args.caller c.args.pipe c.submit-number.result c.in_ok-ask.field-0.ask) (g.W.Work.asked c.args.job) c.in_ok-ask.field-0.size (ap Some c.in_ok-ask.ensures.ask) c.in_ok-ask.ensures.size c.self.invariant.4 c.in_ok-spend.ensures.ok),
+      rw (c.push_reserved.ensures.items, c.in_ok-reserve_entries.ensures.items) (used_more g.W.Work.weight c.self.inside.used c.spend.new.used c.self.inside.log.items (Submit c.args.caller c.args.pipe c.submit-number.result c.in_ok-ask.field-0.ask) (g.W.Work.asked c.args.job) _ (ap Some c.in_ok-ask.ensures.ask) refl c.self.invariant.4 (rw used at c.in_ok-spend.ensures.ok)),
       lines_asked c.self.inside.pipes next c.admit-2.new.self c.tell.new.self c.args.pipe c.unwrap-place.result.now c.submit-number.new.self c.args.caller true c.may_serve-had_job.result true (lines_kept c.self.inside.pipes c.self.inside.ready c.admit-2.new.self c.self.invariant.5 c.in_ok-admit.ensures.kept) set (λ q. c.in_ok-admit.ensures.joined (subst (λ x. IsNoQueue x) (sym item2) q)) (λ q h. c.in_ok-admit.ensures.in_line (subst (λ x. IsNoQueue x) (sym item2) q) (subst (λ x. HasJob x) (sym item2) h)) c.tell.ensures noting (submitted_queue c.unwrap-place.result.now.stage c.submit-number.new.self.stage c.args.job e) (λ h. subst (λ x. HasJob x) item2 (serves c.index-place-2.result.now.stage c.may_serve-had_job.result c.may_serve-had_job.ensures h)) (λ m. refl),
       passing_same c.self.inside.pipes next c.self.inside.passing c.args.pipe c.unwrap-place.result.now c.submit-number.new.self c.self.invariant.6 set (submitted_chain c.unwrap-place.result.now.stage c.submit-number.new.self.stage c.args.job e) (job_passes c.unwrap-place.result.now.stage c.submit-number.new.self.stage c.args.job e),
     )
