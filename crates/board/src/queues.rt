@@ -41,10 +41,9 @@ impl<W: Work> BoardCore<W> {
     {
         let Admitted { ask, used } = self.admit(caller, &job)?;
         reserve_entries(&mut self.log, self.owed, 4)?;
-        let place = &self.pipes[&pipe];
+        let place = self.pipes.get_mut(&pipe).unwrap();
         let had_job = place.stage.may_serve();
         self.ready.admit(caller, pipe, place)?;
-        let place = self.pipes.get_mut(&pipe).unwrap();
         place.reserve()?;
         let accepted = place.stage.accepts(backlog);
         spend(&mut self.used, caller, used, accepted)?;
