@@ -143,12 +143,6 @@ abbrev pub pass_entry : {A : Type 0} → List (BoardEntry A) → ℕ → ℕ →
 pass_entry h caller pipe =
     Deq caller pipe (dequeued (entries_of pipe h)) (starts (entries_of pipe h) (dequeued (entries_of pipe h)))
 
--- how many entries of work follow on a queue's answer
-abbrev pub work_of : Entered → ℕ
-work_of (InProgress number) = 2
-work_of (Busy number) = 2
-work_of NoSpace = 0
-
 -- what a pipeline tells of its requests, by their numbers
 pub data Notice : Type 0 where
   Starts : (number : ℕ) → Notice

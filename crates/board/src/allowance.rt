@@ -1,6 +1,6 @@
 //! What each caller has used of its allowance.
 
-ghost use Rattle.std.specs.Prelude.{◌≡◌, ℕ, ◌+◌, ◌<◌, ◌==◌, ◌^◌, if◌then◌else◌, OnOk, OnErr, IsTrue, ◌↔◌, ◌≤◌};
+ghost use Rattle.std.specs.Prelude.{◌≡◌, ℕ, ◌+◌, ◌<◌, ◌==◌, ◌^◌, if◌then◌else◌, OnOk, OnErr, IsSome, IfSome, ◌↔◌, ◌≤◌};
 ghost use Rattle.board.specs.Allowance.{used_at};
 
 use std::alloc::AllocError;
@@ -32,37 +32,35 @@ fn used_by(used: &BTreeMap<u32, Used>, caller: u32) -> Used
     }
 }
 
-/// Whether the caller's allowance has room for one more request of `size` bytes.
-pub(crate) fn is_allowed(used: &BTreeMap<u32, Used>, caller: u32, size: u64) -> bool
-    ensures { IsTrue result ↔ (((used_at used.now caller).requests < 2 ^ 20) × ((used_at used.now caller).bytes + size ≤ 2 ^ 26)) }
+/// What the caller has used with one more request of `size` bytes, where its allowance has room for it.
+pub(crate) fn used_with(used: &BTreeMap<u32, Used>, caller: u32, size: u64) -> Option<Used>
+    ensures room { IsSome result ↔ (((used_at used.now caller).requests < 2 ^ 20) × ((used_at used.now caller).bytes + size ≤ 2 ^ 26)) }
+    ensures more { IfSome result (λ more. more ≡ record { requests = (used_at used.now caller).requests + 1; bytes = (used_at used.now caller).bytes + size }) }
 {
     let Used { requests, bytes } = used_by(used, caller);
-    match bytes.checked_add(size) {
-        Some(bytes) => requests < MOST_REQUESTS && bytes <= MOST_BYTES,
-        None => false,
+    let bytes = bytes.checked_add(size)?;
+    if requests < MOST_REQUESTS && bytes <= MOST_BYTES {
+        Some(Used {
+            requests: requests + 1,
+            bytes,
+        })
+    } else {
+        None
     }
 }
 
-/// Adds a request of `size` bytes to what the caller has used, where it is accepted. Want of memory changes nothing.
+/// Notes what the caller has used with a request, where it is accepted. Want of memory changes nothing.
 pub(crate) fn spend(
     used: &mut BTreeMap<u32, Used>,
     caller: u32,
-    size: u64,
+    more: Used,
     accepted: bool,
 ) -> Result<(), AllocError>
-    requires requests { (used_at used.old caller).requests < 2 ^ 32 }
-    requires bytes { (used_at used.old caller).bytes + size < 2 ^ 32 }
-    ensures ok { OnOk result ((c : ℕ) → used_at used.new c ≡ (if accepted then (if c == caller then record { requests = (used_at used.old caller).requests + 1; bytes = (used_at used.old caller).bytes + size } else used_at used.old c) else used_at used.old c)) }
+    ensures ok { OnOk result ((c : ℕ) → used_at used.new c ≡ (if accepted then (if c == caller then more else used_at used.old c) else used_at used.old c)) }
     ensures err { OnErr result ((c : ℕ) → used_at used.new c ≡ used_at used.old c) }
 {
-    if !accepted {
-        return Ok(());
+    if accepted {
+        used.insert(caller, more)?;
     }
-    let Used { requests, bytes } = used_by(used, caller);
-    let more = Used {
-        requests: requests + 1,
-        bytes: bytes + size,
-    };
-    used.insert(caller, more)?;
     Ok(())
 }

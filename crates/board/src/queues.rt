@@ -39,15 +39,14 @@ impl<W: Work> BoardCore<W> {
         ensures other { IfErr result (λ e. e ≢ BoardErr.NoWorker) }
         ensures legal { LegalBoard self.new }
     {
-        let Admitted { ask, size } = self.admit(caller, &job)?;
+        let Admitted { ask, used } = self.admit(caller, &job)?;
         reserve_entries(&mut self.log, self.owed, 4)?;
-        let place = &self.pipes[&pipe];
+        let place = self.pipes.get_mut(&pipe).unwrap();
         let had_job = place.stage.may_serve();
         self.ready.admit(caller, pipe, place)?;
-        let place = self.pipes.get_mut(&pipe).unwrap();
         place.reserve()?;
         let accepted = place.stage.accepts(backlog);
-        spend(&mut self.used, caller, size, accepted)?;
+        spend(&mut self.used, caller, used, accepted)?;
         let answer = place.enqueue(caller, job, backlog);
         let more = place.stage.work_entries(answer);
         let has_job = place.stage.may_serve();

@@ -48,7 +48,7 @@ impl Ready {
         ensures kept { Keeps self.old self.new }
         ensures joined { OnOk result (IsMember self.new pipe) }
     {
-        if let Some(_) = place_of(&self.members, pipe) {
+        if place_of(&self.members, pipe).is_some() {
             return Ok(());
         }
         self.members.insert(pipe)?;

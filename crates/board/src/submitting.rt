@@ -1,16 +1,16 @@
 //! How a board admits requests, and a pad of it accepts them.
 
-ghost use Rattle.std.specs.Prelude.{◌≡◌, ◌≢◌, ◌<◌, [], ◌∷◌, ◌++◌, length, IfOk, IfErr, OnOk, ◌↔◌, MatchResult};
+ghost use Rattle.std.specs.Prelude.{◌≡◌, ◌≢◌, ◌+◌, ◌<◌, [], ◌∷◌, ◌++◌, length, IfOk, IfErr, OnOk, ◌↔◌, MatchResult};
 ghost use Rattle.std.specs.Arc.{arc_value};
 ghost use Rattle.std.specs.declared.sync.Arc.{Arc};
 ghost use Rattle.std.specs.declared.alloc.Global.{Global as GlobalMemory};
 ghost use Rattle.board.specs.declared.entry.BoardEntry.TheVariants as Entry;
 ghost use Rattle.board.specs.declared.board_core.BoardErr.TheVariants as BoardErr;
 ghost use Rattle.board.specs.Entries.{entries_of, submissions, mask};
-ghost use Rattle.board.specs.Allowance.{IsAllowed};
+ghost use Rattle.board.specs.Allowance.{IsAllowed, used_in};
 ghost use Rattle.board.specs.Legal.{MaySubmit, IsOpenPad, LegalBoard};
 
-use crate::allowance::{is_allowed, spend};
+use crate::allowance::{Used, spend, used_with};
 use crate::board_core::{BoardCore, BoardErr};
 use crate::entry::BoardEntry;
 use crate::log::reserve_entries;
@@ -18,10 +18,10 @@ use crate::work::Work;
 use std::alloc::Global;
 use std::sync::Arc;
 
-/// What a job that is accepted is asked, and how many bytes of its caller's allowance it takes.
+/// What a job that is accepted is asked, and what its caller has used of its allowance with it.
 pub(crate) struct Admitted<A> {
     pub(crate) ask: Arc<A, Global>,
-    pub(crate) size: u64,
+    pub(crate) used: Used,
 }
 
 impl<W: Work> BoardCore<W> {
@@ -43,14 +43,13 @@ impl<W: Work> BoardCore<W> {
         if place.mask == 0 {
             return Err(BoardErr::NoWorker);
         }
-        let Admitted { ask, size } = self.admit(caller, &job)?;
+        let Admitted { ask, used } = self.admit(caller, &job)?;
         reserve_entries(&mut self.log, self.owed, 3)?;
-        let place = &self.pipes[&pipe];
+        let place = self.pipes.get_mut(&pipe).unwrap();
         let had_job = place.stage.may_serve();
         self.ready.admit(caller, pipe, place)?;
-        let place = self.pipes.get_mut(&pipe).unwrap();
         place.reserve()?;
-        spend(&mut self.used, caller, size, true)?;
+        spend(&mut self.used, caller, used, true)?;
         let number = place.submit(caller, job);
         self.log.push_reserved(BoardEntry::Submit {
             caller,
@@ -63,20 +62,19 @@ impl<W: Work> BoardCore<W> {
         Ok(number)
     }
 
-    /// What the job is asked and its size, where the caller's allowance has room for it: otherwise `TooBig`. Want of memory
-    /// comes after that.
+    /// What the job is asked, and what the caller has used with it, where its allowance has room for it: otherwise `TooBig`.
+    /// Want of memory comes after that.
     pub(crate) fn admit(&self, caller: u32, job: &W) -> Result<Admitted<W::Ask>, BoardErr>
         ensures ask { IfOk result (λ admitted. arc_value admitted.ask ≡ W.asked job.now) }
-        ensures size { IfOk result (λ admitted. admitted.size ≡ W.weight (W.asked job.now)) }
+        ensures used { IfOk result (λ admitted. admitted.used ≡ record { requests = (used_in W.weight self.now caller).requests + 1; bytes = (used_in W.weight self.now caller).bytes + W.weight (W.asked job.now) }) }
         ensures allowed { OnOk result (IsAllowed W.weight self.now caller (W.asked job.now)) }
         ensures refused { IfErr result (λ e. (e ≡ BoardErr.TooBig) ↔ (IsAllowed W.weight self.now caller (W.asked job.now) → ⊥)) }
         ensures other { IfErr result (λ e. e ≢ BoardErr.NoWorker) }
     {
-        let size = job.size();
-        if !is_allowed(&self.used, caller, size) {
+        let Some(used) = used_with(&self.used, caller, job.size()) else {
             return Err(BoardErr::TooBig);
-        }
+        };
         let ask = job.ask(self.alloc)?;
-        Ok(Admitted { ask, size })
+        Ok(Admitted { ask, used })
     }
 }

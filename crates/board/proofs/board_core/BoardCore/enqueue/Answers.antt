@@ -1,24 +1,17 @@
-use Rattle.std.specs.Prelude.{IsSome}
-use Rattle.std.proofs.Common.{arith, inr, ◌≡◌, sym, ◌∙◌, ap, subst, refl}
+use Rattle.std.proofs.Common.{arith, inr, ◌≡◌, ◌+◌, sym, ◌∙◌, ap, subst, refl}
 use Rattle.board.specs.declared.entry.BoardEntry.TheVariants.{Enq}
 use Rattle.board.specs.Entries.{entries_of, verdict}
-use Rattle.board.specs.Ready.{HasJob, IsNoQueue}
+use Rattle.board.specs.Allowance.{used_at}
 use Rattle.board.specs.Legal.{MaySubmit, IsOpenQueue}
 use Rattle.board.specs.Places.{places}
 use Rattle.board.proofs.Kept.{shut-same, loan_here, loan_some, set_here}
 use Rattle.board.proofs.KeptRoom.{serve_same, pass_same, notes_same, after_same, answer_same, line_same}
-use Rattle.board.proofs.KeptCalls.{kept_open, line_here, room_step, same_item}
-use Rattle.board.specs.Pipelines.{is_accepted, work_after}
+use Rattle.board.proofs.KeptCalls.{kept_open, line_here, room_step}
+use Rattle.board.specs.Pipelines.{IsSame, is_accepted, work_after}
 use Rattle.board.proofs.KeptRequests.{work_same, few_submissions, few_entries, accepts_is, used_answer, accepted_here, enqueue_step}
 use Rattle.board.proofs.KeptLines.{serves, says, says_passing, passing_same, passing_told, enqueued_queue, enqueued_chain}
 use Rattle.board.proofs.LinesHold.{chain_same, room_admits, lines_kept, lines_same, lines_asked}
 use Rattle.board.proofs.board_core.BoardCore.enqueue.Goals as goal
-
-pub index-place-requires : goal.index-place-requires
-index-place-requires g c =
-    let open_ : IsOpenQueue (entries_of c.args.pipe c.self.inside.log.items) = subst (λ h. IsOpenQueue (entries_of c.args.pipe h)) (sym c.self.view_is) c.requires.pipe in
-    let there = kept_open g.W.Work.asked g.W.Work.meaning (places c.self.inside.pipes) c.self.inside.born c.self.inside.log.items c.args.pipe c.self.invariant.0 (inr open_) in
-    subst (λ o. IsSome o) (sym there.1) refl
 
 pub unwrap-place-requires : goal.unwrap-place-requires
 unwrap-place-requires g c =
@@ -43,15 +36,21 @@ invariant_of-self-in_err-reserve g c =
     )
 
 pub invariant_of-self-in_err-admit : goal.invariant_of-self-in_err-admit
-invariant_of-self-in_err-admit g c = (
-  rw c.in_ok-reserve_entries.ensures.items c.self.invariant.0,
-  rw c.in_ok-reserve_entries.ensures.items c.self.invariant.1,
-  omega (arith, c.self.invariant.2, c.in_ok-reserve_entries.ensures.len, c.in_ok-reserve_entries.ensures.capacity),
-  c.self.invariant.3,
-  rw c.in_ok-reserve_entries.ensures.items c.self.invariant.4,
-  lines_kept c.self.inside.pipes c.self.inside.ready c.admit-2.new.self c.self.invariant.5 c.in_err-admit.ensures.kept,
-  c.self.invariant.6,
-)
+invariant_of-self-in_err-admit g c =
+    let pipe = c.unwrap-place.result.now in
+    let here = loan_here (places c.self.inside.pipes c.args.pipe) c.get_mut.result c.unwrap-place.result c.get_mut.ensures.value c.unwrap-place.ensures in
+    let next = c.get_mut.follows.lender pipe in
+    let set = set_here c.self.inside.pipes next c.args.pipe pipe pipe here (c.get_mut.follows.holds pipe) in
+    let same : IsSame pipe pipe = record { maker = refl; shared = refl; mask = refl; submitters = refl; collected = refl; stage = refl } in
+    let s = room_step g.W.Work.asked g.W.Work.meaning c.self.inside.pipes c.self.inside.born c.self.inside.log.items c.args.pipe pipe c.self.invariant.0 here next pipe set same (λ h. h) in (
+      rw c.in_ok-reserve_entries.ensures.items s.0,
+      rw c.in_ok-reserve_entries.ensures.items c.self.invariant.1,
+      omega (arith, c.self.invariant.2, c.in_ok-reserve_entries.ensures.len, c.in_ok-reserve_entries.ensures.capacity),
+      omega (arith, s.1, c.self.invariant.3),
+      rw c.in_ok-reserve_entries.ensures.items c.self.invariant.4,
+      lines_same c.self.inside.pipes next c.admit-2.new.self c.args.pipe pipe pipe (lines_kept c.self.inside.pipes c.self.inside.ready c.admit-2.new.self c.self.invariant.5 c.in_err-admit.ensures.kept) set (λ h. h) (room_admits pipe pipe same),
+      passing_same c.self.inside.pipes next c.self.inside.passing c.args.pipe pipe pipe c.self.invariant.6 set refl (λ h. h),
+    )
 
 pub invariant_of-self-in_err-spend : goal.invariant_of-self-in_err-spend
 invariant_of-self-in_err-spend g c =
@@ -94,15 +93,15 @@ invariant_of-self-2 g c =
     let said = c.enqueue-answer.ensures.answer ∙ answer_same c.reserve.new.self.stage c.unwrap-place.result.now.stage c.args.backlog c.in_ok-reserve.ensures.same.stage in
     let noting = notes_same c.unwrap-place.result.now c.reserve.new.self c.enqueue-answer.new.self c.args.caller _ c.in_ok-reserve.ensures.same c.enqueue-answer.ensures.notes in
     let s = enqueue_step g.W.Work.asked g.W.Work.meaning c.self.inside.pipes c.self.inside.born c.self.inside.log.items c.args.pipe c.unwrap-place.result.now c.self.invariant.0 here next c.args.caller c.in_ok-ask.field-0.ask c.enqueue-answer.new.self c.args.job c.args.backlog answer set c.in_ok-ask.ensures.ask said noting e c.enqueue-answer.ensures.placed may open_ in
-    let item = same_item (places c.self.inside.pipes c.args.pipe) c.index-place.result.now c.unwrap-place.result.now c.index-place.ensures here in
     let spent = c.accepts-accepted.ensures ∙ (accepts_is c.reserve.new.self.stage c.args.backlog ∙ ap is_accepted (sym c.enqueue-answer.ensures.answer)) in
+    let used : c.in_ok-ask.field-0.used ≡ record { requests = (used_at c.self.inside.used c.args.caller).requests + 1; bytes = (used_at c.self.inside.used c.args.caller).bytes + g.W.Work.weight (g.W.Work.asked c.args.job) } = rw (c.self.invariant.4 c.args.caller, c.self.view_is) c.in_ok-ask.ensures.used in
     let more : c.work_entries-more.result ≡ work_after c.unwrap-place.result.now.stage answer = c.work_entries-more.ensures ∙ work_same c.enqueue-answer.new.self.stage c.unwrap-place.result.now.stage c.args.job answer e in (
       rw (c.push_reserved.ensures.items, c.in_ok-reserve_entries.ensures.items) s.0,
       rw (c.push_reserved.ensures.items, c.in_ok-reserve_entries.ensures.items) (shut-same c.self.inside.log.items (Enq c.args.caller c.args.pipe c.in_ok-ask.field-0.ask c.args.backlog answer) refl ∙ c.self.invariant.1),
       omega (arith, more, few_entries c.unwrap-place.result.now.stage answer, c.push_reserved.ensures.len, c.push_reserved.ensures.capacity, c.in_ok-reserve_entries.ensures.ok),
       omega (arith, more, s.1, c.self.invariant.3),
-      rw (c.push_reserved.ensures.items, c.in_ok-reserve_entries.ensures.items) (used_answer g.W.Work.weight c.self.inside.used c.spend.new.used c.self.inside.log.items c.args.caller c.args.pipe c.in_ok-ask.field-0.ask c.args.backlog answer (g.W.Work.asked c.args.job) c.in_ok-ask.field-0.size c.in_ok-ask.ensures.ask c.in_ok-ask.ensures.size c.self.invariant.4 (rw spent at c.in_ok-spend.ensures.ok)),
-      lines_asked c.self.inside.pipes next c.admit-2.new.self c.tell.new.self c.args.pipe c.unwrap-place.result.now c.enqueue-answer.new.self c.args.caller _ c.may_serve-had_job.result c.may_serve-has_job.result (lines_kept c.self.inside.pipes c.self.inside.ready c.admit-2.new.self c.self.invariant.5 c.in_ok-admit.ensures.kept) set (λ q. c.in_ok-admit.ensures.joined (subst (λ x. IsNoQueue x) (sym item) q)) (λ q h. c.in_ok-admit.ensures.in_line (subst (λ x. IsNoQueue x) (sym item) q) (subst (λ x. HasJob x) (sym item) h)) c.tell.ensures noting (enqueued_queue c.unwrap-place.result.now.stage c.enqueue-answer.new.self.stage c.args.job answer e) (λ h. subst (λ x. HasJob x) item (serves c.index-place.result.now.stage c.may_serve-had_job.result c.may_serve-had_job.ensures h)) (says c.enqueue-answer.new.self.stage c.may_serve-has_job.result c.may_serve-has_job.ensures),
+      rw (c.push_reserved.ensures.items, c.in_ok-reserve_entries.ensures.items) (used_answer g.W.Work.weight c.self.inside.used c.spend.new.used c.self.inside.log.items c.args.caller c.args.pipe c.in_ok-ask.field-0.ask c.args.backlog answer (g.W.Work.asked c.args.job) _ c.in_ok-ask.ensures.ask refl c.self.invariant.4 (rw (spent, used) at c.in_ok-spend.ensures.ok)),
+      lines_asked c.self.inside.pipes next c.admit-2.new.self c.tell.new.self c.args.pipe c.unwrap-place.result.now c.enqueue-answer.new.self c.args.caller _ c.may_serve-had_job.result c.may_serve-has_job.result (lines_kept c.self.inside.pipes c.self.inside.ready c.admit-2.new.self c.self.invariant.5 c.in_ok-admit.ensures.kept) set c.in_ok-admit.ensures.joined c.in_ok-admit.ensures.in_line c.tell.ensures noting (enqueued_queue c.unwrap-place.result.now.stage c.enqueue-answer.new.self.stage c.args.job answer e) (serves c.unwrap-place.result.now.stage c.may_serve-had_job.result c.may_serve-had_job.ensures) (says c.enqueue-answer.new.self.stage c.may_serve-has_job.result c.may_serve-has_job.ensures),
       passing_told c.self.inside.pipes next c.self.inside.passing c.args.pipe c.unwrap-place.result.now c.enqueue-answer.new.self c.self.invariant.6 set c.set.new.self c.may_pass-may_pass.result c.set.ensures (enqueued_chain c.unwrap-place.result.now.stage c.enqueue-answer.new.self.stage c.args.job answer e) (says_passing c.enqueue-answer.new.self.stage c.may_pass-may_pass.result c.may_pass-may_pass.ensures),
     )
 

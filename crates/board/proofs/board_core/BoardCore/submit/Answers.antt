@@ -1,12 +1,13 @@
 use Rattle.std.specs.Prelude.{IsSome}
 use Rattle.board.specs.declared.pipeline.Pipeline.{Pipeline}
-use Rattle.std.proofs.Common.{arith, inl, true, ◌≡◌, ◌<◌, length, Some, sym, ◌∙◌, ap, subst, refl}
+use Rattle.std.proofs.Common.{arith, inl, true, ◌≡◌, ◌+◌, ◌<◌, length, Some, sym, ◌∙◌, ap, subst, refl}
 use Rattle.std.proofs.lemmas.Result.{err_from_is_err_and}
 use Rattle.board.specs.declared.entry.BoardEntry.TheVariants.{Submit}
 use Rattle.board.specs.Entries.{entries_of, submissions, mask}
-use Rattle.board.specs.Ready.{HasJob, IsNoQueue}
+use Rattle.board.specs.Allowance.{used_at}
 use Rattle.board.specs.Legal.{MaySubmit, IsOpenPad}
 use Rattle.board.proofs.KeptUsed.{used_more}
+use Rattle.board.specs.Pipelines.{IsSame}
 use Rattle.board.specs.Places.{places}
 use Rattle.board.proofs.Kept.{shut-same, loan_here, loan_some, set_here}
 use Rattle.board.proofs.KeptRoom.{serve_same, pass_same, notes_same, job_same, is_pad_same}
@@ -18,12 +19,6 @@ use Rattle.board.proofs.board_core.BoardCore.submit.Goals as goal
 
 pub index-place-requires : goal.index-place-requires
 index-place-requires g c =
-    let open_ : IsOpenPad (entries_of c.args.pipe c.self.inside.log.items) = subst (λ h. IsOpenPad (entries_of c.args.pipe h)) (sym c.self.view_is) c.requires.pipe in
-    let there = kept_open g.W.Work.asked g.W.Work.meaning (places c.self.inside.pipes) c.self.inside.born c.self.inside.log.items c.args.pipe c.self.invariant.0 (inl open_) in
-    subst (λ o. IsSome o) (sym there.1) refl
-
-pub index-place-requires-2 : goal.index-place-requires-2
-index-place-requires-2 g c =
     let open_ : IsOpenPad (entries_of c.args.pipe c.self.inside.log.items) = subst (λ h. IsOpenPad (entries_of c.args.pipe h)) (sym c.self.view_is) c.requires.pipe in
     let there = kept_open g.W.Work.asked g.W.Work.meaning (places c.self.inside.pipes) c.self.inside.born c.self.inside.log.items c.args.pipe c.self.invariant.0 (inl open_) in
     subst (λ o. IsSome o) (sym there.1) refl
@@ -90,17 +85,17 @@ invariant_of-self-2 g c =
     let n = c.submit-number.ensures.number ∙ accepted_here g.W.Work.asked g.W.Work.meaning c.self.inside.pipes c.self.inside.born c.self.inside.log.items c.args.pipe c.unwrap-place.result.now c.self.invariant.0 here c.reserve.new.self c.in_ok-reserve.ensures.same in
     let noting = notes_same c.unwrap-place.result.now c.reserve.new.self c.submit-number.new.self c.args.caller _ c.in_ok-reserve.ensures.same c.submit-number.ensures.notes in
     let item = same_item (places c.self.inside.pipes c.args.pipe) c.index-place.result.now c.unwrap-place.result.now c.index-place.ensures here in
-    let item2 = same_item (places c.self.inside.pipes c.args.pipe) c.index-place-2.result.now c.unwrap-place.result.now c.index-place-2.ensures here in
     let z = c.if-place-eq0.false in
     let m = ap (λ (x : Pipeline _ _). x.mask) item in
     let some : 0 < c.unwrap-place.result.now.mask = omega arith in
+    let used : c.in_ok-ask.field-0.used ≡ record { requests = (used_at c.self.inside.used c.args.caller).requests + 1; bytes = (used_at c.self.inside.used c.args.caller).bytes + g.W.Work.weight (g.W.Work.asked c.args.job) } = rw (c.self.invariant.4 c.args.caller, c.self.view_is) c.in_ok-ask.ensures.used in
     let s = submit_step g.W.Work.asked g.W.Work.meaning c.self.inside.pipes c.self.inside.born c.self.inside.log.items c.args.pipe c.unwrap-place.result.now c.self.invariant.0 here next c.submit-number.result c.args.caller c.in_ok-ask.field-0.ask c.submit-number.new.self c.args.job set c.in_ok-ask.ensures.ask noting e may open_ n some in (
       rw (c.push_reserved.ensures.items, c.in_ok-reserve_entries.ensures.items) s.0,
       rw (c.push_reserved.ensures.items, c.in_ok-reserve_entries.ensures.items) (shut-same c.self.inside.log.items (Submit c.args.caller c.args.pipe c.submit-number.result c.in_ok-ask.field-0.ask) refl ∙ c.self.invariant.1),
       omega (arith, c.push_reserved.ensures.len, c.push_reserved.ensures.capacity, c.in_ok-reserve_entries.ensures.ok),
       omega (arith, s.1, c.self.invariant.3),
-      rw (c.push_reserved.ensures.items, c.in_ok-reserve_entries.ensures.items) (used_more g.W.Work.weight c.self.inside.used c.spend.new.used c.self.inside.log.items (Submit c.args.caller c.args.pipe c.submit-number.result c.in_ok-ask.field-0.ask) (g.W.Work.asked c.args.job) c.in_ok-ask.field-0.size (ap Some c.in_ok-ask.ensures.ask) c.in_ok-ask.ensures.size c.self.invariant.4 c.in_ok-spend.ensures.ok),
-      lines_asked c.self.inside.pipes next c.admit-2.new.self c.tell.new.self c.args.pipe c.unwrap-place.result.now c.submit-number.new.self c.args.caller true c.may_serve-had_job.result true (lines_kept c.self.inside.pipes c.self.inside.ready c.admit-2.new.self c.self.invariant.5 c.in_ok-admit.ensures.kept) set (λ q. c.in_ok-admit.ensures.joined (subst (λ x. IsNoQueue x) (sym item2) q)) (λ q h. c.in_ok-admit.ensures.in_line (subst (λ x. IsNoQueue x) (sym item2) q) (subst (λ x. HasJob x) (sym item2) h)) c.tell.ensures noting (submitted_queue c.unwrap-place.result.now.stage c.submit-number.new.self.stage c.args.job e) (λ h. subst (λ x. HasJob x) item2 (serves c.index-place-2.result.now.stage c.may_serve-had_job.result c.may_serve-had_job.ensures h)) (λ m. refl),
+      rw (c.push_reserved.ensures.items, c.in_ok-reserve_entries.ensures.items) (used_more g.W.Work.weight c.self.inside.used c.spend.new.used c.self.inside.log.items (Submit c.args.caller c.args.pipe c.submit-number.result c.in_ok-ask.field-0.ask) (g.W.Work.asked c.args.job) _ (ap Some c.in_ok-ask.ensures.ask) refl c.self.invariant.4 (rw used at c.in_ok-spend.ensures.ok)),
+      lines_asked c.self.inside.pipes next c.admit-2.new.self c.tell.new.self c.args.pipe c.unwrap-place.result.now c.submit-number.new.self c.args.caller true c.may_serve-had_job.result true (lines_kept c.self.inside.pipes c.self.inside.ready c.admit-2.new.self c.self.invariant.5 c.in_ok-admit.ensures.kept) set c.in_ok-admit.ensures.joined c.in_ok-admit.ensures.in_line c.tell.ensures noting (submitted_queue c.unwrap-place.result.now.stage c.submit-number.new.self.stage c.args.job e) (serves c.unwrap-place.result.now.stage c.may_serve-had_job.result c.may_serve-had_job.ensures) (λ m. refl),
       passing_same c.self.inside.pipes next c.self.inside.passing c.args.pipe c.unwrap-place.result.now c.submit-number.new.self c.self.invariant.6 set (submitted_chain c.unwrap-place.result.now.stage c.submit-number.new.self.stage c.args.job e) (job_passes c.unwrap-place.result.now.stage c.submit-number.new.self.stage c.args.job e),
     )
 
@@ -121,15 +116,21 @@ pub returns-clause-legal : goal.returns-clause-legal
 returns-clause-legal g c = (invariant_of-self-2 g c).0.legal
 
 pub invariant_of-self-in_err-admit : goal.invariant_of-self-in_err-admit
-invariant_of-self-in_err-admit g c = (
-  rw c.in_ok-reserve_entries.ensures.items c.self.invariant.0,
-  rw c.in_ok-reserve_entries.ensures.items c.self.invariant.1,
-  omega (arith, c.self.invariant.2, c.in_ok-reserve_entries.ensures.len, c.in_ok-reserve_entries.ensures.capacity),
-  c.self.invariant.3,
-  rw c.in_ok-reserve_entries.ensures.items c.self.invariant.4,
-  lines_kept c.self.inside.pipes c.self.inside.ready c.admit-2.new.self c.self.invariant.5 c.in_err-admit.ensures.kept,
-  c.self.invariant.6,
-)
+invariant_of-self-in_err-admit g c =
+    let pipe = c.unwrap-place.result.now in
+    let here = loan_here (places c.self.inside.pipes c.args.pipe) c.get_mut.result c.unwrap-place.result c.get_mut.ensures.value c.unwrap-place.ensures in
+    let next = c.get_mut.follows.lender pipe in
+    let set = set_here c.self.inside.pipes next c.args.pipe pipe pipe here (c.get_mut.follows.holds pipe) in
+    let same : IsSame pipe pipe = record { maker = refl; shared = refl; mask = refl; submitters = refl; collected = refl; stage = refl } in
+    let s = room_step g.W.Work.asked g.W.Work.meaning c.self.inside.pipes c.self.inside.born c.self.inside.log.items c.args.pipe pipe c.self.invariant.0 here next pipe set same (λ h. h) in (
+      rw c.in_ok-reserve_entries.ensures.items s.0,
+      rw c.in_ok-reserve_entries.ensures.items c.self.invariant.1,
+      omega (arith, c.self.invariant.2, c.in_ok-reserve_entries.ensures.len, c.in_ok-reserve_entries.ensures.capacity),
+      omega (arith, s.1, c.self.invariant.3),
+      rw c.in_ok-reserve_entries.ensures.items c.self.invariant.4,
+      lines_same c.self.inside.pipes next c.admit-2.new.self c.args.pipe pipe pipe (lines_kept c.self.inside.pipes c.self.inside.ready c.admit-2.new.self c.self.invariant.5 c.in_err-admit.ensures.kept) set (λ h. h) (room_admits pipe pipe same),
+      passing_same c.self.inside.pipes next c.self.inside.passing c.args.pipe pipe pipe c.self.invariant.6 set refl (λ h. h),
+    )
 
 pub returns-then-place-eq0-clause-unmasked : goal.returns-then-place-eq0-clause-unmasked
 returns-then-place-eq0-clause-unmasked g c =

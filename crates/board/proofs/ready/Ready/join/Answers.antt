@@ -1,11 +1,16 @@
-use Rattle.std.proofs.Common.{sym, subst}
+use Rattle.std.specs.Prelude.{slice_get, nat_eq, position}
+use Rattle.std.proofs.Common.{◌≡◌, ℕ, true, List, Option, Some, None, is_some, sym, ◌∙◌, subst}
 use Rattle.board.specs.Ready.{IsMember, KeepsPipe}
 use Rattle.board.proofs.InLine.{inserted_member, inserted_place, found_place}
 use Rattle.board.proofs.ready.Ready.join.Goals as goal
 
-pub returns-in-Some-clause-joined : goal.returns-in-Some-clause-joined
-returns-in-Some-clause-joined c =
-    subst (λ line. IsMember line c.args.pipe) c.self.view_is (c.in-Some.field-0, found_place c.self.inside.members.keys c.args.pipe c.in-Some.field-0 (sym c.in-Some.ensures.index))
+found : (xs : List ℕ) (q : ℕ) (o : Option ℕ) → o ≡ position (nat_eq q) xs → is_some o ≡ true → (i : ℕ) × (slice_get xs i ≡ Some q)
+found xs q None e s = cc
+found xs q (Some i) e s = (i, found_place xs q i (sym e))
+
+pub returns-then-is_some-clause-joined : goal.returns-then-is_some-clause-joined
+returns-then-is_some-clause-joined c =
+    subst (λ line. IsMember line c.args.pipe) c.self.view_is (found c.self.inside.members.keys c.args.pipe c.place_of.result c.place_of.ensures.index (sym c.is_some.ensures ∙ c.if-is_some.true))
 
 pub returns-clause-kept : goal.returns-clause-kept
 returns-clause-kept c p =
