@@ -209,7 +209,9 @@ impl<W: Work> SharedBoard<W> {
         let answer = turn.get().mask(caller, pipe, mask);
         let added = answer.is_ok();
         let pass = turn.give(added);
-        self.bells.ring_mask();
+        if added {
+            self.bells.ring_mask();
+        }
         (pass, answer)
     }
 
@@ -237,7 +239,9 @@ impl<W: Work> SharedBoard<W> {
         let answer = turn.get().submit(caller, pipe, job);
         let added = answer.is_ok();
         let pass = turn.give(added);
-        self.bells.ring_job();
+        if added {
+            self.bells.ring_job();
+        }
         (pass, answer)
     }
 
@@ -266,7 +270,9 @@ impl<W: Work> SharedBoard<W> {
         let answer = turn.get().enqueue(caller, pipe, job, backlog);
         let added = answer.is_ok();
         let pass = turn.give(added);
-        self.bells.ring_job();
+        if is_accepted(&answer) {
+            self.bells.ring_job();
+        }
         (pass, answer)
     }
 
@@ -566,5 +572,13 @@ fn is_true(answer: &Result<bool, BoardErr>) -> bool
     match answer {
         Ok(all) => *all,
         Err(_) => false,
+    }
+}
+
+/// Whether the answer is that a job came.
+fn is_accepted(answer: &Result<Entered, BoardErr>) -> bool {
+    match answer {
+        Ok(Entered::InProgress(_) | Entered::Busy(_)) => true,
+        Ok(Entered::NoSpace) | Err(_) => false,
     }
 }
