@@ -142,8 +142,9 @@ impl Bells {
         false
     }
 
-    /// Stays awake for a while, where any worker may take any job. True where a job came. A further one that came meanwhile may have
-    /// been left to this worker too, so it wakes another for that.
+    /// Stays awake for a while, where any worker may take any job. True where a job came. Further ones that came meanwhile may have
+    /// been left to this worker too, so it wakes another where more are unnoticed than others stay awake: who was still awake here
+    /// looks later, since each looks at the board after it is no longer counted.
     pub(crate) fn linger(&self) -> bool {
         if self.masked.load(Ordering::SeqCst) {
             return false;
@@ -151,7 +152,7 @@ impl Bells {
         self.awake.fetch_add(1, Ordering::SeqCst);
         let came = self.notice_soon();
         self.awake.fetch_sub(1, Ordering::SeqCst);
-        if came && self.unnoticed() > 0 {
+        if came && self.unnoticed() > self.awake.load(Ordering::SeqCst) {
             self.jobs.notify_one();
         }
         came
