@@ -107,9 +107,11 @@ impl Bells {
             .is_ok()
     }
 
-    /// There was no job at a turn, so those that were unnoticed before it are taken. If one came meanwhile, nothing is forgotten.
-    pub(crate) fn forget(&self, unnoticed: u64) {
-        if unnoticed > 0 {
+    /// A worker found no job at a turn, so those that were unnoticed before it are taken. If one came meanwhile, nothing is forgotten.
+    /// Only a worker forgets (the callers 1 to 16): another finds none for itself, where some may be left to a worker that stays
+    /// awake. What is counted though it was taken does no harm, since the next worker that finds nothing forgets it.
+    pub(crate) fn forget(&self, caller: u32, unnoticed: u64) {
+        if 1 <= caller && caller <= 16 && unnoticed > 0 {
             let _ = self.lower(unnoticed, unnoticed);
         }
     }

@@ -295,7 +295,7 @@ impl<W: Work> SharedBoard<W> {
         let added = answer.is_some();
         let pass = turn.give(added);
         if !added {
-            self.bells.forget(unnoticed);
+            self.bells.forget(caller, unnoticed);
         }
         (pass, answer)
     }
@@ -353,7 +353,7 @@ impl<W: Work> SharedBoard<W> {
         if added {
             self.bells.notice();
         } else {
-            self.bells.forget(unnoticed);
+            self.bells.forget(caller, unnoticed);
         }
         (pass, next)
     }
