@@ -87,7 +87,8 @@ impl<W: Work> SharedBoard<W> {
 
     /// Makes a pad of `lists` reorder lists, 1 to 16, from which the workers 1 to `lists` may take, and answers its number.
     /// The caller is no worker. Only want of memory refuses. Until a pad is masked a job wakes at most one worker that sleeps,
-    /// whichever it is: beside more workers than lists it may be one that may not take it.
+    /// or wakes none and is left to one that stays awake, whichever it is: beside more workers than lists it may be one that may
+    /// not take it.
     pub fn born_pad<R: Wait>(
         &self,
         rt: &R,
@@ -136,7 +137,9 @@ impl<W: Work> SharedBoard<W> {
 
     /// Makes a chain, and answers its number: a queue of which so many requests wait before its backlog begins, at least 1,
     /// and a pad of `lists` reorder lists, 1 to 16, to which they go on, and from which the workers 1 to `lists` may take.
-    /// The caller is no worker. Only want of memory refuses.
+    /// The caller is no worker. Only want of memory refuses. Until a pad is masked a request that comes or goes on wakes at most
+    /// one worker that sleeps, or wakes none and is left to one that stays awake, whichever it is: beside more workers than
+    /// lists it may be one that may not take its job.
     pub fn born_chain<R: Wait>(
         &self,
         rt: &R,
