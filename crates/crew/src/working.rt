@@ -115,7 +115,8 @@ fn work_while<W: Work, G: Gate, R: Wait>(
 
 /// Works until each request of the pipeline is finished, and hands out what no call handed out before. A caller that finds
 /// nothing to do sleeps until another has finished a job or passed a request on. The caller made the pipeline, which isn't
-/// closed. Only want of memory refuses, and hands out nothing.
+/// closed. On a queue or chain that is held while a request waits it never returns, since only its maker may let it go. Only
+/// want of memory refuses, and hands out nothing.
 pub fn drain<W: Work, G: Gate, R: Wait>(
     rt: &R,
     board: &SharedBoard<W>,

@@ -107,9 +107,11 @@ impl Bells {
             .is_ok()
     }
 
-    /// There was no job at a turn, so those that were unnoticed before it are taken. If one came meanwhile, nothing is forgotten.
-    pub(crate) fn forget(&self, unnoticed: u64) {
-        if unnoticed > 0 {
+    /// A worker found no job at a turn, so those that were unnoticed before it are taken. If one came meanwhile, nothing is forgotten.
+    /// Only a worker forgets (the callers 1 to 16): another finds none for itself, where some may be left to a worker that stays
+    /// awake. What is counted though it was taken does no harm, since the next worker that finds nothing forgets it.
+    pub(crate) fn forget(&self, caller: u32, unnoticed: u64) {
+        if 1 <= caller && caller <= 16 && unnoticed > 0 {
             let _ = self.lower(unnoticed, unnoticed);
         }
     }
@@ -142,8 +144,9 @@ impl Bells {
         false
     }
 
-    /// Stays awake for a while, where any worker may take any job. True where a job came. A further one that came meanwhile may have
-    /// been left to this worker too, so it wakes another for that.
+    /// Stays awake for a while, where any worker may take any job. True where a job came. Further ones that came meanwhile may have
+    /// been left to this worker too, so it wakes another where more are unnoticed than others stay awake: who was still awake here
+    /// looks later, since each looks at the board after it is no longer counted.
     pub(crate) fn linger(&self) -> bool {
         if self.masked.load(Ordering::SeqCst) {
             return false;
@@ -151,7 +154,7 @@ impl Bells {
         self.awake.fetch_add(1, Ordering::SeqCst);
         let came = self.notice_soon();
         self.awake.fetch_sub(1, Ordering::SeqCst);
-        if came && self.unnoticed() > 0 {
+        if came && self.unnoticed() > self.awake.load(Ordering::SeqCst) {
             self.jobs.notify_one();
         }
         came

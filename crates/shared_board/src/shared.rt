@@ -87,7 +87,8 @@ impl<W: Work> SharedBoard<W> {
 
     /// Makes a pad of `lists` reorder lists, 1 to 16, from which the workers 1 to `lists` may take, and answers its number.
     /// The caller is no worker. Only want of memory refuses. Until a pad is masked a job wakes at most one worker that sleeps,
-    /// whichever it is: beside more workers than lists it may be one that may not take it.
+    /// or wakes none and is left to one that stays awake, whichever it is: beside more workers than lists it may be one that may
+    /// not take it.
     pub fn born_pad<R: Wait>(
         &self,
         rt: &R,
@@ -136,7 +137,9 @@ impl<W: Work> SharedBoard<W> {
 
     /// Makes a chain, and answers its number: a queue of which so many requests wait before its backlog begins, at least 1,
     /// and a pad of `lists` reorder lists, 1 to 16, to which they go on, and from which the workers 1 to `lists` may take.
-    /// The caller is no worker. Only want of memory refuses.
+    /// The caller is no worker. Only want of memory refuses. Until a pad is masked a request that comes or goes on wakes at most
+    /// one worker that sleeps, or wakes none and is left to one that stays awake, whichever it is: beside more workers than
+    /// lists it may be one that may not take its job.
     pub fn born_chain<R: Wait>(
         &self,
         rt: &R,
@@ -209,7 +212,9 @@ impl<W: Work> SharedBoard<W> {
         let answer = turn.get().mask(caller, pipe, mask);
         let added = answer.is_ok();
         let pass = turn.give(added);
-        self.bells.ring_mask();
+        if added {
+            self.bells.ring_mask();
+        }
         (pass, answer)
     }
 
@@ -237,7 +242,9 @@ impl<W: Work> SharedBoard<W> {
         let answer = turn.get().submit(caller, pipe, job);
         let added = answer.is_ok();
         let pass = turn.give(added);
-        self.bells.ring_job();
+        if added {
+            self.bells.ring_job();
+        }
         (pass, answer)
     }
 
@@ -266,7 +273,9 @@ impl<W: Work> SharedBoard<W> {
         let answer = turn.get().enqueue(caller, pipe, job, backlog);
         let added = answer.is_ok();
         let pass = turn.give(added);
-        self.bells.ring_job();
+        if is_accepted(&answer) {
+            self.bells.ring_job();
+        }
         (pass, answer)
     }
 
@@ -289,7 +298,7 @@ impl<W: Work> SharedBoard<W> {
         let added = answer.is_some();
         let pass = turn.give(added);
         if !added {
-            self.bells.forget(unnoticed);
+            self.bells.forget(caller, unnoticed);
         }
         (pass, answer)
     }
@@ -347,7 +356,7 @@ impl<W: Work> SharedBoard<W> {
         if added {
             self.bells.notice();
         } else {
-            self.bells.forget(unnoticed);
+            self.bells.forget(caller, unnoticed);
         }
         (pass, next)
     }
@@ -566,5 +575,13 @@ fn is_true(answer: &Result<bool, BoardErr>) -> bool
     match answer {
         Ok(all) => *all,
         Err(_) => false,
+    }
+}
+
+/// Whether the answer is that a job came.
+fn is_accepted(answer: &Result<Entered, BoardErr>) -> bool {
+    match answer {
+        Ok(Entered::InProgress(_) | Entered::Busy(_)) => true,
+        Ok(Entered::NoSpace) | Err(_) => false,
     }
 }
