@@ -422,7 +422,9 @@ impl<W: Work> SharedBoard<W> {
         let answer = turn.get().go(caller, pipe);
         let added = answer.is_ok();
         let pass = turn.give(added);
-        self.bells.ring_job();
+        if added {
+            self.bells.ring_job();
+        }
         (pass, answer)
     }
 
