@@ -20,11 +20,13 @@ use kc_base::{Bytes, Errno};
 use reply_text::Answer;
 use script_text::Texts;
 use session_calls::{Look, RegistryCaller, Stop};
+use shared_board::SharedBoard;
 use shared_registry::SharedRegistry;
 use std::alloc::Global;
 use std::marker::Model;
 use std::sync::Wait;
 use templates::BuildErr;
+use transforms::Job;
 
 /// A name of a `probe`, with the look that was made for it, or why it is no name.
 #[derive(Drop)]
@@ -83,6 +85,16 @@ fn look_for_all<R: Wait>(
         searches.push(Search { text: copy, look })?;
     }
     Ok(searches)
+}
+
+// Wakes a worker for each search but the first, where something waits to be built: the caller begins with the first itself. No turn is
+// taken.
+fn call_workers(board: &SharedBoard<Job>, registry: &SharedRegistry, searches: usize) {
+    for _ in 1..searches {
+        if registry.may_build() {
+            board.call_worker();
+        }
+    }
 }
 
 fn found_answer(line: u32, name: Bytes, found: Result<Spec, Errno>) -> Answer
@@ -148,10 +160,11 @@ fn settle_all<R: Wait>(
 }
 
 impl Session {
-    // `probe NAME ..`
+    // `probe NAME ..`. Workers that sleep are woken for what it leaves to them.
     pub(crate) fn probe<R: Wait>(
         &mut self,
         rt: &R,
+        board: &SharedBoard<Job>,
         registry: &SharedRegistry,
         number: u32,
         names: &Texts,
@@ -172,6 +185,7 @@ impl Session {
             &mut self.registry,
             names.as_slice(),
         )?;
+        call_workers(board, registry, searches.len());
         settle_all(
             rt,
             self.alloc,

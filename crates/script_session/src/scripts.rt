@@ -119,7 +119,7 @@ impl Session {
             Command::Unregister { driver } => {
                 self.unregister(rt, registry, number, &driver, answers)
             }
-            Command::Probe { names } => self.probe(rt, registry, number, &names, answers),
+            Command::Probe { names } => self.probe(rt, board, registry, number, &names, answers),
             Command::Alloc {
                 label,
                 name,
