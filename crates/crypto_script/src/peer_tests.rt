@@ -8,6 +8,7 @@ use kc_base::{ReadAnswer, Sink, SinkError, Source, WriteAnswer};
 use std::sync::atomic::{AtomicUsize, Ordering};
 
 /// What the peer sends: a line a read. A read fails where the answers to the lines before haven't reached the peer.
+#[derive(Drop)]
 struct Lines<'a> {
     left: u32,
     owed: usize,
@@ -16,6 +17,7 @@ struct Lines<'a> {
 }
 
 /// Where the answers go. They reach the peer when they are flushed.
+#[derive(Drop)]
 struct Answers<'a> {
     kept: usize,
     reached: &'a AtomicUsize,

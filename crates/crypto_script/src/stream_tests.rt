@@ -10,6 +10,7 @@ use crate::worked_tests::WORKED;
 use crew::NoGate;
 use kc_base::{MemSink, MemSource, RepeatSource, SureSink};
 use std::alloc::Global;
+use std::io::BufWriter;
 use std::process::Abort;
 use std::sync::Wait;
 use std::thread::Threads;
@@ -241,9 +242,12 @@ fn the_input_has_a_limit(rt: HostRuntime) {
 #[test]
 fn std_streams_are_a_source_and_a_sink(rt: HostRuntime) {
     let mut src = StdSource::new(LINE.as_bytes());
-    let mut out = StdSink::new(Vec::new(rt.alloc()));
+    let writer = BufWriter::new(rt.alloc(), Vec::new(rt.alloc())).expect(&rt, "memory");
+    let mut out = StdSink::new(writer);
     // four workers, where no word says how many
     let ended = run_line(&rt, rt.alloc(), "", &NoGate, &mut src, &mut out);
     assert!(rt; ended.status == 0);
-    assert!(rt; out.into_inner().as_slice() == ANSWER.as_bytes());
+    let (written, kept) = out.into_inner().into_parts();
+    assert!(rt; written.as_slice() == ANSWER.as_bytes());
+    assert!(rt; kept.is_empty());
 }
