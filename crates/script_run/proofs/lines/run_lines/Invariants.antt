@@ -2,8 +2,8 @@ use Rattle.std.proofs.Common.{◌≤◌, ◌-◌, ◌^◌}
 use Rattle.script_run.proofs.Exits.{Running}
 use Rattle.script_run.proofs.lines.run_lines.Given as goal
 
-abbrev pub invariant-loop-reader : goal.invariant-loop-reader
-invariant-loop-reader g l =
+abbrev pub invariant-loop-reply : goal.invariant-loop-reply
+invariant-loop-reply g l =
     let held = g.K.Sink.held in
     let left = g.S.Source.left in
     record {
@@ -12,5 +12,5 @@ invariant-loop-reader g l =
       written_later : g.K.Sink.faults l.fn.out ≤ g.K.Sink.faults l.out;
     }
 
-abbrev pub decreases-loop-reader : goal.decreases-loop-reader
-decreases-loop-reader g l = 2 ^ 32 - l.number
+abbrev pub decreases-loop-reply : goal.decreases-loop-reply
+decreases-loop-reply g l = 2 ^ 32 - l.number
