@@ -113,11 +113,3 @@ pub in_turn-on : Laws → (width : ℕ) (k : Known RegEntry) (h : List RegEntry)
 in_turn-on laws width k h calls zero others turns =
     subst (λ cs. AreInTurnBy width 0 cs [] h) (append-nil calls)
     (laws.later_calls width 0 calls [] [] k.seen h turns (laws.any_width width 0 [] k.seen h (others.0, others.1, unasked k others.0 zero others.2)))
-
--- ---- a dialogue that nothing follows
-
-pub followed-ends : (d : Dialogue) → followed d Ends ≡ d
-followed-ends (Ends after) = refl
-followed-ends (Says answers next) = ap (Says answers) (followed-ends next)
-followed-ends (Asks question next) = λ i. Asks question (λ answer. followed-ends (next answer) i)
-followed-ends (Posts question next) = λ i. Posts question (λ answer. followed-ends (next answer) i)
