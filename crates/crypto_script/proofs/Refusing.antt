@@ -1,18 +1,18 @@
 -- What holds where words are refused, or want memory: nothing is written.
-use Rattle.std.proofs.Common.{ℕ, List, [], Option, Some, None, refl, inl}
+use Rattle.std.proofs.Common.{ℕ, List, [], Option, Some, None, inl}
 use Rattle.std.specs.Prelude.{IfSome}
 use Rattle.std.proofs.KnownBytes.{Appends-nil}
 use Rattle.alg_registry.specs.declared.entry.RegEntry.{RegEntry}
 use Rattle.board.specs.declared.entry.BoardEntry.{BoardEntry}
-use Rattle.dialogues.specs.Texts.{IsText, IsFrontText, turn_in}
-use Rattle.dialogues.specs.Turns.{text_in}
+use Rattle.dialogues.specs.Leading.{NothingIsFront}
+use Rattle.dialogues.specs.Texts.{IsText, IsFrontText}
 use Rattle.dialogues.specs.Walk.{start}
 use Rattle.script_text.specs.Script.{script_of}
 use Rattle.script_run.specs.Runs.{GainsFront}
 use Rattle.transforms.specs.declared.ask.Ask.{Ask}
 
 -- nothing is a front of each text
-pub nothing_traced : (workers : ℕ) (left held : Option (List ℕ)) (r : List RegEntry) (b : List (BoardEntry Ask)) (trace : List ℕ)
+pub nothing_traced : NothingIsFront → (workers : ℕ) (left held : Option (List ℕ)) (r : List RegEntry) (b : List (BoardEntry Ask)) (trace : List ℕ)
     → IfSome left (λ script. GainsFront held held (IsFrontText workers (start 0) 0 (script_of script) r b) (IsText workers (start 0) 0 (script_of script) r b) trace)
-nothing_traced workers None held r b trace = tt
-nothing_traced workers (Some script) held r b trace = inl ([], (text_in (turn_in workers (start 0) 0 (script_of script) r b), refl), Appends-nil held)
+nothing_traced nothing workers None held r b trace = tt
+nothing_traced nothing workers (Some script) held r b trace = inl ([], nothing workers (start 0) 0 (script_of script) r b, Appends-nil held)

@@ -28,6 +28,7 @@ use alg_registry::RegLog;
 use board::BoardLog;
 use command_line::{CommandLineError, parse_words};
 use crew::Gate;
+use dialogues::lines_lead;
 use kc_base::{Sink, Source};
 use run_options::Mode;
 use script_run::{Ran, RunError, run_load, run_traced, status_by};
@@ -169,6 +170,7 @@ pub fn run<S: Source, K: Sink, G: Gate + Sync, R: Threads + Wait + Sync>(
     ensures complete { IsSome (script_asked (map string_bytes words.now)) → ¬ (Rose (S.faults src.old) (S.faults src.new)) → ¬ (Rose (K.faults out.old) (K.faults out.new))
         → IfSome (S.left src.old) (λ script. length script ≤ 2 ^ 28 → (result.status ≤ 1) ⊎ (result.status ≡ 5)) }
 {
+    lines_lead();
     let mode = match mode_for(alloc, words) {
         Ok(mode) => mode,
         Err(error) => return outcome_of(Ran::not_at_all(alloc, error)),

@@ -42,19 +42,25 @@ lines-after workers n walk (line ∷ first) later rest =
 abbrev IsDone : Turn → Type 0
 IsDone t = IsSome t.after
 
--- the first turn is done where the second is, and prints a front of it
+-- the first turn is done where the second is, and calls and prints a front of it
 pub record IsFrontTurn (t u : Turn) : Type 0 where
+  pub registry : (more : List RegCall) × (t.registry ++ more ≡ u.registry)
+  pub board : (more : List BoardCall) × (t.board ++ more ≡ u.board)
   pub ended : IsSome t.after
   pub front : IsPrefix (text_in t) (text_in u)
 
 front-turn : (d : Dialogue) (later : Walk → Dialogue) (r : List RegCall) (b : List BoardCall) → IsSome (turn_of (followed d later) r b).after
     → IsFrontTurn (turn_of d r b) (turn_of (followed d later) r b)
-front-turn (Ends after) later r b some = record { ended = refl; front = (text_in (turn_of (later after) r b), refl) }
+front-turn (Ends after) later r b some =
+    let u = turn_of (later after) r b in
+    record { registry = (u.registry, refl); board = (u.board, refl); ended = refl; front = (text_in u, refl) }
 front-turn (Says answers next) later r b some =
     let t = turn_of next r b in
     let u = turn_of (followed next later) r b in
     let on = front-turn next later r b some in
     record {
+      registry = on.registry;
+      board = on.board;
       ended = on.ended;
       front = (
         on.front.0,
@@ -72,7 +78,9 @@ front-turn (Asks question next) later (call ∷ r) b some = by_answer (reg_answe
         → IsFrontTurn (elim o [ Some answer ↦ asking (reg_call question answer) (turn_of (next answer) r b) | None ↦ broken ])
         (elim o [ Some answer ↦ asking (reg_call question answer) (turn_of (followed (next answer) later) r b) | None ↦ broken ])
     by_answer None done go = absurd cc
-    by_answer (Some answer) done go = let on = go answer done in record { ended = on.ended; front = on.front }
+    by_answer (Some answer) done go =
+        let on = go answer done in
+        record { registry = (on.registry.0, ap (λ cs. reg_call question answer ∷ cs) on.registry.1); board = on.board; ended = on.ended; front = on.front }
 front-turn (Posts question next) later r [] some = absurd cc
 front-turn (Posts question next) later r (call ∷ b) some = by_answer (board_answer question call) some (λ answer done. front-turn (next answer) later r b done)
   where
@@ -82,7 +90,9 @@ front-turn (Posts question next) later r (call ∷ b) some = by_answer (board_an
         → IsFrontTurn (elim o [ Some answer ↦ posting (board_call question answer) (turn_of (next answer) r b) | None ↦ broken ])
         (elim o [ Some answer ↦ posting (board_call question answer) (turn_of (followed (next answer) later) r b) | None ↦ broken ])
     by_answer None done go = absurd cc
-    by_answer (Some answer) done go = let on = go answer done in record { ended = on.ended; front = on.front }
+    by_answer (Some answer) done go =
+        let on = go answer done in
+        record { registry = on.registry; board = (on.board.0, ap (λ cs. board_call question answer ∷ cs) on.board.1); ended = on.ended; front = on.front }
 
 pub front-lines : (workers n : ℕ) (walk : Walk) (first later : List Line) (r : List RegCall) (b : List BoardCall) → IsSome (turn_of (lines_dialogue workers walk n (first ++ later) Ends) r b).after
     → IsFrontTurn (turn_of (lines_dialogue workers walk n first Ends) r b) (turn_of (lines_dialogue workers walk n (first ++ later) Ends) r b)

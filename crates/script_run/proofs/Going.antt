@@ -10,11 +10,11 @@ use Rattle.board.specs.declared.entry.BoardEntry.{BoardEntry}
 use Rattle.dialogues.specs.BoardCalls.{BoardCall, board_calls, board_calls_from}
 use Rattle.dialogues.specs.Dialogues.{Dialogue, Ends as Done}
 use Rattle.dialogues.specs.InTurn.{AreInTurnBy}
-use Rattle.dialogues.specs.Leading.{Leads}
-use Rattle.dialogues.specs.Lines.{line_dialogue, lines_dialogue, script}
+use Rattle.dialogues.specs.Leading.{Leads, NothingIsFront}
+use Rattle.dialogues.specs.Lines.{line_dialogue, lines_dialogue}
 use Rattle.dialogues.specs.Piping.{end}
 use Rattle.dialogues.specs.RegistryCalls.{RegCall, reg_calls, reg_calls_from, AllSettled}
-use Rattle.dialogues.specs.Texts.{IsText, IsFrontText, turn_in}
+use Rattle.dialogues.specs.Texts.{IsText, IsFrontText}
 use Rattle.dialogues.specs.Turns.{Turn, IsTurn, ended, joined, text_in, turn_of}
 use Rattle.dialogues.specs.Walk.{start}
 use Rattle.dialogues.specs.Widths.{width_of, widest}
@@ -40,7 +40,7 @@ use Rattle.script_run.specs.Laws.{Laws}
 use Rattle.script_session.specs.Holding.{HasSeenMore}
 use Rattle.script_run.specs.Runs.{Gains, GoesOn, IsFresh, Writes, Breaks, IsTextAfter, IsFrontAfter, InTurnAfter}
 use Rattle.script_run.proofs.Fronts.{front-lines, widest-front, widest-last}
-use Rattle.script_run.proofs.Following.{starts-trans, sees-same, sees-then, reg_calls-on, board_calls-on, reg_calls-same, board_calls-same, in_turn-on, followed-ends}
+use Rattle.script_run.proofs.Following.{starts-trans, sees-same, sees-then, reg_calls-on, board_calls-on, reg_calls-same, board_calls-same, in_turn-on}
 
 -- ---- a session goes on
 
@@ -250,7 +250,12 @@ module _ (laws : Laws) (first : State) where
         let ones_are = front-lines first.workers 1 (start 0) ones are.0 (reg_calls 0 r) (board_calls 0 b) (ap (λ (u : Turn). is_some u.after) is) in
         let whole : text_in (turn_of (lines_dialogue first.workers (start 0) 1 (ones ++ are.0) Done) (reg_calls 0 r) (board_calls 0 b)) ≡ text_in t = ap text_in is ∙ alone-text in
         let text_is : text_in (lines_turn first.workers ones r b) ++ ones_are.front.0 ≡ text_in t = ones_are.front.1 ∙ whole in
+        let one = lines_turn first.workers ones r b in
+        let one_r : one.registry ++ ones_are.registry.0 ≡ t.registry = ones_are.registry.1 ∙ (ap (λ (u : Turn). u.registry) is ∙ append-nil t.registry) in
+        let one_b : one.board ++ ones_are.board.0 ≡ t.board = ones_are.board.1 ∙ (ap (λ (u : Turn). u.board) is ∙ append-nil t.board) in
         record {
+          registry = (ones_are.registry.0 ++ more_r, sym (append_assoc one.registry ones_are.registry.0 more_r) ∙ (ap (λ cs. cs ++ more_r) one_r ∙ sym calls_r));
+          board = (ones_are.board.0 ++ more_b, sym (append_assoc one.board ones_are.board.0 more_b) ∙ (ap (λ cs. cs ++ more_b) one_b ∙ sym calls_b));
           ended = ones_are.ended;
           front = (
             ones_are.front.0 ++ front.0,
@@ -300,15 +305,13 @@ module _ (laws : Laws) (first : State) where
           reg_calls-on laws k'.seen r (settled-all 1 k' u.registry e.asked) from_r ∙ (ap (λ cs. cs ++ more_r) (asked-all 1 k' u.registry e.asked) ∙ append_assoc t.registry u.registry more_r) in
           let calls_b : board_calls 0 b ≡ t.board ++ (u.board ++ more_b) =
           board_calls-on laws l'.seen b from_b ∙ (ap (λ cs. cs ++ more_b) (called-all l' u.board e.called) ∙ append_assoc t.board u.board more_b) in
-          let last : turn_of (end s.walk) (u.registry ++ more_r) (u.board ++ more_b) ≡ joined u (ended s.walk) =
-          ap (λ d. turn_of d (u.registry ++ more_r) (u.board ++ more_b)) (sym (followed-ends (end s.walk))) ∙ laws.follow (end s.walk) Done u s.walk more_r more_b e.is e.ends in
-          let whole : turn_in first.workers (start 0) 0 lines r b ≡ joined t (joined u (ended s.walk)) =
-          ap (λ cs. turn_of (script first.workers (start 0) lines) cs (board_calls 0 b)) calls_r
-          ∙ (ap (λ cs. turn_of (script first.workers (start 0) lines) (t.registry ++ (u.registry ++ more_r)) cs) calls_b
-          ∙ (leads-end end (u.registry ++ more_r) (u.board ++ more_b) ∙ ap (joined t) last)) in
-          let text_is : text_in (turn_in first.workers (start 0) 0 lines r b) ≡ text_in t ++ reply =
-          ap text_in whole ∙ (texts-joined t (joined u (ended s.walk)) ∙ (ap (λ x. text_in t ++ x) (texts-joined u (ended s.walk) ∙ append-nil (text_in u)) ∙ sym reply-is)) in
-          (front.0, front.1 ∙ sym text_is)
+          record {
+            turn = joined t u;
+            is = leads-end end u.registry u.board ∙ ap (joined t) e.is;
+            registry = (more_r, append_assoc t.registry u.registry more_r ∙ sym calls_r);
+            board = (more_b, append_assoc t.board u.board more_b ∙ sym calls_b);
+            front = (front.0, front.1 ∙ (reply-is ∙ sym (texts-joined t u)));
+          }
 
   -- ---- the loop
 
@@ -412,6 +415,6 @@ module _ (laws : Laws) (first : State) where
 -- ---- nothing is written
 
 -- nothing is a front of the text of any script
-pub nothing_fronted : (workers : ℕ) (left held : Option (List ℕ)) (r : List RegEntry) (b : List (BoardEntry Ask)) → IfSome left (λ script. Gains held held (IsFrontText workers (start 0) 0 (script_of script) r b))
-nothing_fronted workers None held r b = tt
-nothing_fronted workers (Some script) held r b = ([], (text_in (turn_in workers (start 0) 0 (script_of script) r b), refl), appends-none held)
+pub nothing_fronted : NothingIsFront → (workers : ℕ) (left held : Option (List ℕ)) (r : List RegEntry) (b : List (BoardEntry Ask)) → IfSome left (λ script. Gains held held (IsFrontText workers (start 0) 0 (script_of script) r b))
+nothing_fronted nothing workers None held r b = tt
+nothing_fronted nothing workers (Some script) held r b = ([], nothing workers (start 0) 0 (script_of script) r b, appends-none held)

@@ -19,6 +19,8 @@ use Rattle.script_run.proofs.Going.{keeps-text}
 -- what is written after a text is no matter to the lines that it begins with
 begins-more : (workers : ℕ) (lines : List Line) (r : List RegEntry) (b : List (BoardEntry Ask)) (text more : List ℕ) → BeginsWithText workers lines r b text → BeginsWithText workers lines r b (text ++ more)
 begins-more workers lines r b text more x = record {
+  registry = x.registry;
+  board = x.board;
   ended = x.ended;
   front = (x.front.0 ++ more, sym (append_assoc _ x.front.0 more) ∙ ap (λ xs. xs ++ more) x.front.1);
 }

@@ -11,7 +11,7 @@ use Rattle.crew.specs.declared.passes.Passes.{Passes}
 use Rattle.dialogues.specs.BoardCalls.{BoardCall, Shuts, board_calls}
 use Rattle.dialogues.specs.Dialogues.{Ends}
 use Rattle.dialogues.specs.Lines.{lines_dialogue}
-use Rattle.dialogues.specs.RegistryCalls.{reg_calls, AllSettled}
+use Rattle.dialogues.specs.RegistryCalls.{RegCall, reg_calls, AllSettled}
 use Rattle.dialogues.specs.Turns.{Turn, turn_of, text_in}
 use Rattle.dialogues.specs.Walk.{start}
 use Rattle.kc_base.specs.Streams.{IsPrefix}
@@ -47,8 +47,10 @@ pub record AreAnswered (workers : ℕ) (lines : List Line) (r : List RegEntry) (
   pub ended : IsSome (lines_turn workers lines r b).after
   pub text_is : text ≡ text_in (lines_turn workers lines r b)
 
--- The histories hold the calls of these lines, and the text begins with what they print.
+-- The first calls of the script in the histories are those of these lines, and the text begins with what they print.
 pub record BeginsWithText (workers : ℕ) (lines : List Line) (r : List RegEntry) (b : List (BoardEntry Ask)) (text : List ℕ) : Type 0 where
+  pub registry : (more : List RegCall) × ((lines_turn workers lines r b).registry ++ more ≡ reg_calls 0 r)
+  pub board : (more : List BoardCall) × ((lines_turn workers lines r b).board ++ more ≡ board_calls 0 b)
   pub ended : IsSome (lines_turn workers lines r b).after
   pub front : IsPrefix (text_in (lines_turn workers lines r b)) text
 
