@@ -1,30 +1,27 @@
 -- What words are read as is an event: its numbers are within their types, and its names are among the words.
-use Rattle.std.proofs.Common.{◌≡◌, ℕ, ◌+◌, ◌*◌, ◌-◌, ◌%◌, ◌^◌, ◌<◌, Bool, true, false, cond, ◌&&◌, List, [], ◌∷◌, length, map, Option, Some, None, refl, sym, ◌∙◌, ap, subst, arith}
-use Rattle.std.specs.Prelude.{◌==◌, nat_lt, nat_le, codes, unwrap_or, MatchOption, ⊤}
+use Rattle.std.proofs.Common.{◌≡◌, ℕ, ◌+◌, ◌*◌, ◌-◌, ◌^◌, ◌<◌, Bool, true, false, cond, ◌&&◌, List, [], ◌∷◌, map, Option, Some, None, refl, ap, subst, arith}
+use Rattle.std.specs.Prelude.{nat_le, codes, unwrap_or, MatchOption, ⊤}
 use Rattle.std.specs.List.{list_all, slice_split}
 use Rattle.std.specs.Option.{option_map}
 use Rattle.std.specs.Str.{bytes_eq}
 use Rattle.std.proofs.lemmas.Bool.{and_parts, and_from, lt-ltb}
-use Rattle.alg_registry.specs.declared.spec.Spec.{Spec}
 use Rattle.alg_registry.specs.declared.entry.Looked.TheVariants.{Found, Pending, Began}
-use Rattle.alg_registry.specs.declared.entry.Enlisted.{Enlisted}
 use Rattle.alg_registry.specs.declared.entry.Enlisted.TheVariants.{Exist, NFile}
 use Rattle.alg_registry.specs.declared.entry.EndAnswer.{EndAnswer}
-use Rattle.alg_registry.specs.declared.entry.EndAnswer.TheVariants.{Built, Joined, Failed, NoMemory}
+use Rattle.alg_registry.specs.declared.entry.EndAnswer.TheVariants.{NoMemory}
 use Rattle.alg_registry.specs.declared.entry.RegEntry.{RegEntry}
 use Rattle.alg_registry.specs.declared.entry.RegEntry.TheVariants.{Enlist, Look, Claim, End, Waited, Unlist, Get, Put, Refs}
 use Rattle.alg_registry.specs.declared.entry.RegEntry.TheVariants as reg
-use Rattle.board.specs.declared.entry.Shape.{Shape}
 use Rattle.board.specs.declared.entry.Shape.TheVariants.{Pad, Queue}
 use Rattle.board.specs.declared.entry.Entered.TheVariants.{InProgress, Busy}
 use Rattle.board.specs.declared.entry.BoardEntry.{BoardEntry}
 use Rattle.board.specs.declared.entry.BoardEntry.TheVariants as says
-use Rattle.trace_text.specs.Trace.{is_word, has_words, end_has_text, has_text, is_u16, is_u32, is_u64, spec_fits, enlisted_fits, looked_fits, end_fits, option_fits, fits, shape_fits, entered_fits, is_event, board_fits}
+use Rattle.trace_text.specs.Trace.{is_word, end_has_text, has_text, is_u16, is_u32, is_u64, spec_fits, enlisted_fits, looked_fits, end_fits, option_fits, shape_fits, entered_fits, is_event, board_fits}
 use Rattle.trace_check.specs.declared.lines.Event.{Event}
 use Rattle.trace_check.specs.declared.lines.Event.TheVariants as event
 use Rattle.trace_check.specs.declared.lines.Known.{Known}
 use Rattle.trace_check.specs.Lines.{line_of}
-use Rattle.trace_check.specs.Guessing.{digit_after, number_at, number_of, small_of, is_comma, ids_of, kind_of, wrap_of, enlisted_of, plain_spec, enlist_of, looked_of, look_of, spec_of, built_with, built_of, joined_of, failed_of, ending_of, end_of, unlist_of, get_of, refs_of, lone_number, pair_in, numbered_of, registry_of, shape_of, born_of, submit_of, entered_of, enq_of, started_of, deq_of, counted_of, piped_of, short_of, hex_value, mask_in, mask_of, board_of, event_in}
+use Rattle.trace_check.specs.Guessing.{digit_after, number_at, number_of, small_of, is_comma, ids_of, kind_of, enlisted_of, plain_spec, enlist_of, looked_of, look_of, built_of, joined_of, failed_of, ending_of, end_of, unlist_of, get_of, refs_of, lone_number, pair_in, numbered_of, registry_of, shape_of, born_of, submit_of, entered_of, enq_of, started_of, deq_of, short_of, hex_value, mask_in, mask_of, board_of, event_in}
 
 abbrev AreWords : List (List ℕ) → Type 0
 AreWords words = list_all is_word words ≡ true

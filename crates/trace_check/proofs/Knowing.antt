@@ -1,14 +1,13 @@
 -- Whether a board's events are legal depends on nothing of an ask, and their trace on its line alone.
 use Rattle.std.proofs.Common.{◌≡◌, ℕ, Bool, false, ◌&&◌, List, [], ◌∷◌, ◌++◌, Option, Some, None, refl, sym, ◌∙◌, ap, subst, append-nil, append_assoc}
-use Rattle.std.specs.Prelude.{⊤, slice_get}
+use Rattle.std.specs.Prelude.{⊤}
 use Rattle.std.specs.List.{list_all, flat_map}
 use Rattle.board.specs.declared.entry.BoardEntry.{BoardEntry}
-use Rattle.board.specs.declared.entry.BoardEntry.TheVariants.{Born, Submit, Take, Finish, Enq, Deq, Done, Hold, Go, Collect, Close, Share, Mask, Shut}
 use Rattle.board.specs.Legal.{IsRight, AreRightAfter, LegalBoard, pipelines}
 use Rattle.board.specs.Entries.{entries_of}
 use Rattle.alg_registry.specs.declared.entry.RegEntry.{RegEntry}
 use Rattle.trace_check.specs.declared.reason.Reason.{Reason}
-use Rattle.trace_check.specs.Pipes.{PipeState, judged_on, judged_at, judged, pipes_after, is_shut_by}
+use Rattle.trace_check.specs.Pipes.{PipeState, judged, pipes_after, is_shut_by}
 use Rattle.trace_text.specs.Text.{sentence, reg_words, board_words}
 use Rattle.trace_text.specs.Trace.{trace_of, board_fits, AreEvents}
 use Rattle.trace_check.specs.Lines.{line_of}

@@ -1,6 +1,6 @@
 -- An event's words are printed, and its line is cut into them again.
-use Rattle.std.proofs.Common.{◌≡◌, ℕ, ◌<◌, Bool, true, false, ◌&&◌, List, [], ◌∷◌, ◌++◌, length, Option, Some, None, refl, sym, ◌∙◌, ap, subst, arith}
-use Rattle.std.specs.Prelude.{◌==◌, nat_lt, codes}
+use Rattle.std.proofs.Common.{◌≡◌, ℕ, ◌<◌, Bool, true, false, ◌&&◌, List, [], ◌∷◌, ◌++◌, length, Option, Some, None, refl, sym, ◌∙◌, ap, arith}
+use Rattle.std.specs.Prelude.{◌==◌, codes}
 use Rattle.std.specs.Fmt.{decimal}
 use Rattle.std.specs.List.{list_all, join_with_byte, slice_split}
 use Rattle.std.proofs.lemmas.Bool.{and_parts, and_from}
@@ -29,7 +29,7 @@ use Rattle.board.specs.declared.entry.BoardEntry.TheVariants.{Born, Submit, Take
 use Rattle.std.specs.Arc.{arc_value}
 use Rattle.trace_check.specs.declared.lines.Known.{Known}
 use Rattle.trace_text.specs.Text.{sentence, kind_word, wrap_word, ids_word, plain_word, get_word, enlisted_words, looked_words, end_words, unlisted_words, reg_words, shape_words, backlog_word, entered_words, started_words, mask_word, board_words}
-use Rattle.trace_text.specs.Trace.{is_visible, is_word, has_words, is_unwrapped, end_has_text, has_text, is_u16, is_u32, is_u64, spec_fits, enlisted_fits, looked_fits, end_fits, option_fits, fits, shape_fits, entered_fits, is_event, board_fits}
+use Rattle.trace_text.specs.Trace.{is_word, has_words, is_unwrapped, end_has_text, has_text, is_u16, is_u32, is_u64, spec_fits, enlisted_fits, looked_fits, end_fits, option_fits, fits, shape_fits, entered_fits, board_fits}
 use Rattle.trace_check.specs.Guessing.{event_in}
 use Rattle.trace_check.proofs.Numerals.{word_decimal, word_small, word_ids, word_mask}
 use Rattle.std.proofs.lemmas.List.{length_push}

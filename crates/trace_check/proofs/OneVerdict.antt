@@ -10,7 +10,6 @@ use Rattle.std.specs.Arc.{arc_value}
 use Rattle.alg_registry.specs.declared.entry.RegEntry.{RegEntry}
 use Rattle.alg_registry.specs.Legal as registry
 use Rattle.board.specs.declared.entry.BoardEntry.{BoardEntry}
-use Rattle.board.specs.declared.entry.BoardEntry.TheVariants.{Born, Submit, Take, Finish, Enq, Deq, Done, Hold, Go, Collect, Close, Share, Mask, Shut}
 use Rattle.board.specs.Legal.{AreRightAfter}
 use Rattle.trace_text.specs.Text.{sentence, reg_words, board_words}
 use Rattle.trace_text.specs.Trace.{is_event, board_fits, AreEvents}

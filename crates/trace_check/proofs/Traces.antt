@@ -9,7 +9,7 @@ use Rattle.board.specs.declared.entry.BoardEntry.{BoardEntry}
 use Rattle.trace_check.specs.declared.lines.Known.{Known}
 use Rattle.trace_check.specs.declared.lines.Event.TheVariants as event
 use Rattle.trace_text.specs.Text.{sentence, reg_words, board_words}
-use Rattle.trace_text.specs.Trace.{trace_of, has_text, fits, board_fits, is_event, is_visible, AreEvents}
+use Rattle.trace_text.specs.Trace.{trace_of, has_text, fits, board_fits, is_event, AreEvents}
 use Rattle.trace_check.specs.Lines.{line_of, IsLineOf}
 use Rattle.trace_check.specs.Verdicts.{IsTraceOf, HasFront}
 use Rattle.trace_check.specs.Reading.{IsOneLine, IsCut}

@@ -1,10 +1,10 @@
 -- Marks of ids: of the entries that are held, and of those with which larvals ended.
-use Rattle.std.specs.Prelude.{◌≡◌, ◌==◌, ◌<◌, ℕ, Bool, ◌||◌, nat_lt, List, [], ◌∷◌, length, slice_index_or, Option, Some, None}
+use Rattle.std.specs.Prelude.{◌≡◌, ◌==◌, ◌<◌, ℕ, Bool, ◌||◌, nat_lt, List, [], ◌∷◌, length, slice_index_or, Option, Some}
 use Rattle.std.specs.List.{list_any}
 use Rattle.alg_registry.specs.Answers.{ended_with}
 use Rattle.alg_registry.specs.declared.row.Larval.{Larval}
 use Rattle.alg_registry.specs.declared.entry.Ended.{Ended}
-use Rattle.alg_registry.specs.declared.entry.Ended.TheVariants.{Built, Joined, Failed, NoMemory}
+use Rattle.alg_registry.specs.declared.entry.Ended.TheVariants.{Built, Joined}
 use Rattle.trace_check.specs.declared.register.Entry.{Entry}
 
 -- the places of these ids are marked too
