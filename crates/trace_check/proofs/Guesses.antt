@@ -1,4 +1,4 @@
--- An event's own words are read as that event.
+-- An event's own words are read as that event, wherever its ask lies in memory.
 use Rattle.std.proofs.Common.{◌≡◌, ℕ, Bool, true, false, ◌&&◌, List, [], ◌∷◌, length, Option, Some, None, refl, sym, ◌∙◌, ap, arith}
 use Rattle.std.specs.Prelude.{◌==◌, codes}
 use Rattle.std.specs.Fmt.{decimal}
@@ -30,14 +30,13 @@ use Rattle.board.specs.declared.entry.Entered.{Entered}
 use Rattle.board.specs.declared.entry.Entered.TheVariants.{InProgress, Busy, NoSpace}
 use Rattle.board.specs.declared.entry.BoardEntry.{BoardEntry}
 use Rattle.board.specs.declared.entry.BoardEntry.TheVariants.{Born, Submit, Take, Finish, Enq, Deq, Done, Hold, Go, Collect, Close, Share, Mask, Shut}
-use Rattle.trace_check.specs.declared.guessing.Plain.{Plain as PlainEvent}
-use Rattle.trace_check.specs.declared.guessing.Plain.TheVariants as says
-use Rattle.trace_check.specs.declared.lines.Guess.TheVariants as guess
+use Rattle.trace_check.specs.declared.lines.Event.TheVariants as event
 use Rattle.trace_check.specs.declared.lines.Known.{Known}
 use Rattle.trace_text.specs.Text.{kind_word, wrap_word, ids_word, plain_word, get_word, enlisted_words, looked_words, reg_words, shape_words, backlog_word, entered_words, started_words, board_words}
 use Rattle.trace_text.specs.Trace.{has_words, is_unwrapped, has_text, is_u16, is_u32, is_u64, spec_fits, enlisted_fits, looked_fits, end_fits, option_fits, fits, shape_fits, entered_fits, board_fits}
-use Rattle.trace_check.specs.Guessing.{number_of, small_of, ids_of, kind_of, wrap_of, errno_of, enlisted_of, looked_of, entered_of, started_of, board_of, plain_words}
-use Rattle.trace_check.specs.Lines.{line_of, guess_of, plain_fits}
+use Rattle.trace_check.specs.Guessing.{number_of, small_of, ids_of, kind_of, wrap_of, errno_of, enlisted_of, looked_of, entered_of, started_of, board_of, event_in}
+use Rattle.trace_check.specs.Lines.{line_of}
+use Rattle.trace_check.specs.Known.{ask_of, unplaced}
 use Rattle.trace_check.proofs.Numerals.{number_again, small_again, ids_again, mask_again}
 
 kind_again : (kind : Kind) → kind_of (kind_word kind) ≡ kind
@@ -104,7 +103,7 @@ spec_is : (name driver : List ℕ) (kind kind' : Kind) (wrap wrap' : Wrap) (prio
     → (let s : Spec = record { name = name; driver = driver; kind = kind; wrap = wrap; priority = priority; below = below } in s) ≡ record { name = name; driver = driver; kind = kind'; wrap = wrap'; priority = priority'; below = below' }
 spec_is name driver kind kind' wrap wrap' priority priority' below below' k w p b = λ i. record { name = name; driver = driver; kind = k i; wrap = w i; priority = p i; below = b i }
 
-pub registry_again : (e : RegEntry) → has_text e ≡ true → fits e ≡ true → guess_of (reg_words e) ≡ Some (guess.Registry e)
+pub registry_again : (e : RegEntry) → has_text e ≡ true → fits e ≡ true → event_in (reg_words e) ≡ Some (event.Registry e)
 registry_again (Enlist caller spec answer) t f =
     let tt1 = and_parts (has_words spec && (length spec.below == 0)) (is_unwrapped spec.wrap) t in
     let below : spec.below ≡ [] = no_ids spec.below (and_parts (has_words spec) (length spec.below == 0) tt1.0).1 in
@@ -115,53 +114,53 @@ registry_again (Enlist caller spec answer) t f =
     let c : small_of (decimal caller) ≡ caller = small_again caller ff.0 in
     let a : enlisted_of (enlisted_words answer) ≡ answer = enlisted_again answer fs.1 in
     let k = spec_is spec.name spec.driver (kind_of (kind_word spec.kind)) spec.kind Plain spec.wrap (small_of (decimal spec.priority)) spec.priority [] spec.below (kind_again spec.kind) (sym wrap) priority (sym below) in
-    λ i. Some (guess.Registry (Enlist (c i) (k i) (a i)))
+    λ i. Some (event.Registry (Enlist (c i) (k i) (a i)))
 registry_again (Look caller text plain answer) t f =
     let ff = and_parts (is_u32 caller) (looked_fits answer) f in
-    λ i. Some (guess.Registry (Look (small_again caller ff.0 i) text (plain_again plain i) (looked_again answer ff.1 i)))
+    λ i. Some (event.Registry (Look (small_again caller ff.0 i) text (plain_again plain i) (looked_again answer ff.1 i)))
 registry_again (Claim caller larval) t f =
     let ff = and_parts (is_u32 caller) (is_u64 larval) f in
-    λ i. Some (guess.Registry (Claim (small_again caller ff.0 i) (number_again larval ff.1 i)))
+    λ i. Some (event.Registry (Claim (small_again caller ff.0 i) (number_again larval ff.1 i)))
 registry_again (End caller larval answer) t f =
     let ff = and_parts (is_u32 caller) (is_u64 larval && end_fits answer) f in
     let fe = and_parts (is_u64 larval) (end_fits answer) ff.1 in
     ending caller larval answer (small_again caller ff.0) (number_again larval fe.0) fe.1
   where
-    ending : (caller larval : ℕ) (answer : EndAnswer) → small_of (decimal caller) ≡ caller → number_of (decimal larval) ≡ larval → end_fits answer ≡ true → guess_of (reg_words (End caller larval answer)) ≡ Some (guess.Registry (End caller larval answer))
+    ending : (caller larval : ℕ) (answer : EndAnswer) → small_of (decimal caller) ≡ caller → number_of (decimal larval) ≡ larval → end_fits answer ≡ true → event_in (reg_words (End caller larval answer)) ≡ Some (event.Registry (End caller larval answer))
     ending caller larval (Built id spec) c l f =
         let ff = and_parts (is_u64 id) (spec_fits spec) f in
         let fs = and_parts (is_u32 spec.priority) (list_all is_u64 spec.below) ff.1 in
         let k = spec_is spec.name spec.driver (kind_of (kind_word spec.kind)) spec.kind (wrap_of (wrap_word spec.wrap)) spec.wrap (small_of (decimal spec.priority)) spec.priority (ids_of (ids_word spec.below)) spec.below (kind_again spec.kind) (wrap_again spec.wrap) (small_again spec.priority fs.0) (ids_again spec.below fs.1) in
-        λ i. Some (guess.Registry (End (c i) (l i) (Built (number_again id ff.0 i) (k i))))
+        λ i. Some (event.Registry (End (c i) (l i) (Built (number_again id ff.0 i) (k i))))
     ending caller larval (Joined id below) c l f =
         let ff = and_parts (is_u64 id) (list_all is_u64 below) f in
-        λ i. Some (guess.Registry (End (c i) (l i) (Joined (number_again id ff.0 i) (ids_again below ff.1 i))))
-    ending caller larval (Failed errno) c l f = λ i. Some (guess.Registry (End (c i) (l i) (Failed (errno_again errno i))))
-    ending caller larval NoMemory c l f = λ i. Some (guess.Registry (End (c i) (l i) NoMemory))
+        λ i. Some (event.Registry (End (c i) (l i) (Joined (number_again id ff.0 i) (ids_again below ff.1 i))))
+    ending caller larval (Failed errno) c l f = λ i. Some (event.Registry (End (c i) (l i) (Failed (errno_again errno i))))
+    ending caller larval NoMemory c l f = λ i. Some (event.Registry (End (c i) (l i) NoMemory))
 registry_again (Waited caller larval) t f =
     let ff = and_parts (is_u32 caller) (is_u64 larval) f in
-    λ i. Some (guess.Registry (Waited (small_again caller ff.0 i) (number_again larval ff.1 i)))
+    λ i. Some (event.Registry (Waited (small_again caller ff.0 i) (number_again larval ff.1 i)))
 registry_again (Unlist caller driver (Some id)) t f =
     let ff = and_parts (is_u32 caller) (is_u64 id) f in
-    λ i. Some (guess.Registry (Unlist (small_again caller ff.0 i) driver (Some (number_again id ff.1 i))))
+    λ i. Some (event.Registry (Unlist (small_again caller ff.0 i) driver (Some (number_again id ff.1 i))))
 registry_again (Unlist caller driver None) t f =
     let ff = and_parts (is_u32 caller) true f in
-    λ i. Some (guess.Registry (Unlist (small_again caller ff.0 i) driver None))
+    λ i. Some (event.Registry (Unlist (small_again caller ff.0 i) driver None))
 registry_again (Get caller id ok) t f =
     let ff = and_parts (is_u32 caller) (is_u64 id) f in
-    λ i. Some (guess.Registry (Get (small_again caller ff.0 i) (number_again id ff.1 i) (get_again ok i)))
+    λ i. Some (event.Registry (Get (small_again caller ff.0 i) (number_again id ff.1 i) (get_again ok i)))
 registry_again (Put caller id) t f =
     let ff = and_parts (is_u32 caller) (is_u64 id) f in
-    λ i. Some (guess.Registry (Put (small_again caller ff.0 i) (number_again id ff.1 i)))
-registry_again (Refs caller driver) t f = λ i. Some (guess.Registry (Refs (small_again caller f i) driver))
-registry_again (reg.List caller) t f = λ i. Some (guess.Registry (reg.List (small_again caller f i)))
+    λ i. Some (event.Registry (Put (small_again caller ff.0 i) (number_again id ff.1 i)))
+registry_again (Refs caller driver) t f = λ i. Some (event.Registry (Refs (small_again caller f i) driver))
+registry_again (reg.List caller) t f = λ i. Some (event.Registry (reg.List (small_again caller f i)))
 
-shape_again : (shape : Shape) → shape_fits shape ≡ true → (caller pipe : ℕ) → board_of caller (codes "born") (decimal pipe ∷ shape_words shape) ≡ Some (says.Born caller (number_of (decimal pipe)) shape)
-shape_again (Pad lists) f caller pipe = λ i. Some (says.Born caller (number_of (decimal pipe)) (Pad (small_again lists f i)))
-shape_again (Queue max) f caller pipe = λ i. Some (says.Born caller (number_of (decimal pipe)) (Queue (small_again max f i)))
+shape_again : (shape : Shape) → shape_fits shape ≡ true → (caller pipe : ℕ) → board_of caller (codes "born") (decimal pipe ∷ shape_words shape) ≡ Some (Born caller (number_of (decimal pipe)) shape)
+shape_again (Pad lists) f caller pipe = λ i. Some (Born caller (number_of (decimal pipe)) (Pad (small_again lists f i)))
+shape_again (Queue max) f caller pipe = λ i. Some (Born caller (number_of (decimal pipe)) (Queue (small_again max f i)))
 shape_again (Chain max lists) f caller pipe =
     let ff = and_parts (is_u32 max) (is_u32 lists) f in
-    λ i. Some (says.Born caller (number_of (decimal pipe)) (Chain (small_again max ff.0 i) (small_again lists ff.1 i)))
+    λ i. Some (Born caller (number_of (decimal pipe)) (Chain (small_again max ff.0 i) (small_again lists ff.1 i)))
 
 entered_again : (answer : Entered) → entered_fits answer ≡ true → entered_of (entered_words answer) ≡ answer
 entered_again (InProgress number) f = ap InProgress (number_again number f)
@@ -172,90 +171,57 @@ started_again : (started : Option ℕ) → option_fits started ≡ true → star
 started_again (Some n) f = ap Some (number_again n f)
 started_again None f = refl
 
-pub plain_event_again : (p : PlainEvent) → plain_fits p ≡ true → guess_of (plain_words p) ≡ Some (guess.Board p)
-plain_event_again (says.Born caller pipe shape) f =
+pub board_again : (e : BoardEntry Known) → board_fits line_of e ≡ true → event_in (board_words line_of e) ≡ Some (event.Board (unplaced e))
+board_again (Born caller pipe shape) f =
     let ff = and_parts (is_u32 caller) (is_u64 pipe && shape_fits shape) f in
     let fp = and_parts (is_u64 pipe) (shape_fits shape) ff.1 in
-    ap (option_map guess.Board) (shape_again shape fp.1 (small_of (decimal caller)) pipe)
-    ∙ (λ i. Some (guess.Board (says.Born (small_again caller ff.0 i) (number_again pipe fp.0 i) shape)))
-plain_event_again (says.Submit caller pipe number line) f =
-    let ff = and_parts (is_u32 caller) (is_u64 pipe && (is_u64 number && is_u32 line)) f in
-    let fp = and_parts (is_u64 pipe) (is_u64 number && is_u32 line) ff.1 in
-    let fn = and_parts (is_u64 number) (is_u32 line) fp.1 in
-    λ i. Some (guess.Board (says.Submit (small_again caller ff.0 i) (number_again pipe fp.0 i) (number_again number fn.0 i) (small_again line fn.1 i)))
-plain_event_again (says.Enq caller pipe line backlog answer) f =
-    let ff = and_parts (is_u32 caller) (is_u64 pipe && (is_u32 line && entered_fits answer)) f in
-    let fp = and_parts (is_u64 pipe) (is_u32 line && entered_fits answer) ff.1 in
-    let fn = and_parts (is_u32 line) (entered_fits answer) fp.1 in
-    λ i. Some (guess.Board (says.Enq (small_again caller ff.0 i) (number_again pipe fp.0 i) (small_again line fn.0 i) (backlog_again backlog i) (entered_again answer fn.1 i)))
-plain_event_again (says.Deq caller pipe number started) f =
+    ap (option_map event.Board) (shape_again shape fp.1 (small_of (decimal caller)) pipe)
+    ∙ (λ i. Some (event.Board (Born (small_again caller ff.0 i) (number_again pipe fp.0 i) shape)))
+board_again (Submit caller pipe number ask) f =
+    let ff = and_parts (is_u32 caller) (is_u64 pipe && (is_u64 number && is_u32 (line_of (arc_value ask)))) f in
+    let fp = and_parts (is_u64 pipe) (is_u64 number && is_u32 (line_of (arc_value ask))) ff.1 in
+    let fn = and_parts (is_u64 number) (is_u32 (line_of (arc_value ask))) fp.1 in
+    λ i. Some (event.Board (Submit (small_again caller ff.0 i) (number_again pipe fp.0 i) (number_again number fn.0 i) (ask_of (small_again (line_of (arc_value ask)) fn.1 i))))
+board_again (Enq caller pipe ask backlog answer) f =
+    let ff = and_parts (is_u32 caller) (is_u64 pipe && (is_u32 (line_of (arc_value ask)) && entered_fits answer)) f in
+    let fp = and_parts (is_u64 pipe) (is_u32 (line_of (arc_value ask)) && entered_fits answer) ff.1 in
+    let fn = and_parts (is_u32 (line_of (arc_value ask))) (entered_fits answer) fp.1 in
+    λ i. Some (event.Board (Enq (small_again caller ff.0 i) (number_again pipe fp.0 i) (ask_of (small_again (line_of (arc_value ask)) fn.0 i)) (backlog_again backlog i) (entered_again answer fn.1 i)))
+board_again (Deq caller pipe number started) f =
     let ff = and_parts (is_u32 caller) (is_u64 pipe && (is_u64 number && option_fits started)) f in
     let fp = and_parts (is_u64 pipe) (is_u64 number && option_fits started) ff.1 in
     let fn = and_parts (is_u64 number) (option_fits started) fp.1 in
-    λ i. Some (guess.Board (says.Deq (small_again caller ff.0 i) (number_again pipe fp.0 i) (number_again number fn.0 i) (started_again started fn.1 i)))
-plain_event_again (says.Take caller pipe number) f =
+    λ i. Some (event.Board (Deq (small_again caller ff.0 i) (number_again pipe fp.0 i) (number_again number fn.0 i) (started_again started fn.1 i)))
+board_again (Take caller pipe number) f =
     let ff = and_parts (is_u32 caller) (is_u64 pipe && is_u64 number) f in
     let fp = and_parts (is_u64 pipe) (is_u64 number) ff.1 in
-    λ i. Some (guess.Board (says.Take (small_again caller ff.0 i) (number_again pipe fp.0 i) (number_again number fp.1 i)))
-plain_event_again (says.Finish caller pipe number) f =
+    λ i. Some (event.Board (Take (small_again caller ff.0 i) (number_again pipe fp.0 i) (number_again number fp.1 i)))
+board_again (Finish caller pipe number) f =
     let ff = and_parts (is_u32 caller) (is_u64 pipe && is_u64 number) f in
     let fp = and_parts (is_u64 pipe) (is_u64 number) ff.1 in
-    λ i. Some (guess.Board (says.Finish (small_again caller ff.0 i) (number_again pipe fp.0 i) (number_again number fp.1 i)))
-plain_event_again (says.Done caller pipe number) f =
+    λ i. Some (event.Board (Finish (small_again caller ff.0 i) (number_again pipe fp.0 i) (number_again number fp.1 i)))
+board_again (Done caller pipe number) f =
     let ff = and_parts (is_u32 caller) (is_u64 pipe && is_u64 number) f in
     let fp = and_parts (is_u64 pipe) (is_u64 number) ff.1 in
-    λ i. Some (guess.Board (says.Done (small_again caller ff.0 i) (number_again pipe fp.0 i) (number_again number fp.1 i)))
-plain_event_again (says.Collect caller pipe to) f =
+    λ i. Some (event.Board (Done (small_again caller ff.0 i) (number_again pipe fp.0 i) (number_again number fp.1 i)))
+board_again (Collect caller pipe to) f =
     let ff = and_parts (is_u32 caller) (is_u64 pipe && is_u64 to) f in
     let fp = and_parts (is_u64 pipe) (is_u64 to) ff.1 in
-    λ i. Some (guess.Board (says.Collect (small_again caller ff.0 i) (number_again pipe fp.0 i) (number_again to fp.1 i)))
-plain_event_again (says.Hold caller pipe) f =
+    λ i. Some (event.Board (Collect (small_again caller ff.0 i) (number_again pipe fp.0 i) (number_again to fp.1 i)))
+board_again (Hold caller pipe) f =
     let ff = and_parts (is_u32 caller) (is_u64 pipe) f in
-    λ i. Some (guess.Board (says.Hold (small_again caller ff.0 i) (number_again pipe ff.1 i)))
-plain_event_again (says.Go caller pipe) f =
+    λ i. Some (event.Board (Hold (small_again caller ff.0 i) (number_again pipe ff.1 i)))
+board_again (Go caller pipe) f =
     let ff = and_parts (is_u32 caller) (is_u64 pipe) f in
-    λ i. Some (guess.Board (says.Go (small_again caller ff.0 i) (number_again pipe ff.1 i)))
-plain_event_again (says.Close caller pipe) f =
+    λ i. Some (event.Board (Go (small_again caller ff.0 i) (number_again pipe ff.1 i)))
+board_again (Close caller pipe) f =
     let ff = and_parts (is_u32 caller) (is_u64 pipe) f in
-    λ i. Some (guess.Board (says.Close (small_again caller ff.0 i) (number_again pipe ff.1 i)))
-plain_event_again (says.Share caller pipe) f =
+    λ i. Some (event.Board (Close (small_again caller ff.0 i) (number_again pipe ff.1 i)))
+board_again (Share caller pipe) f =
     let ff = and_parts (is_u32 caller) (is_u64 pipe) f in
-    λ i. Some (guess.Board (says.Share (small_again caller ff.0 i) (number_again pipe ff.1 i)))
-plain_event_again (says.Mask caller pipe mask) f =
+    λ i. Some (event.Board (Share (small_again caller ff.0 i) (number_again pipe ff.1 i)))
+board_again (Mask caller pipe mask) f =
     let ff = and_parts (is_u32 caller) (is_u64 pipe && is_u16 mask) f in
     let fp = and_parts (is_u64 pipe) (is_u16 mask) ff.1 in
-    λ i. Some (guess.Board (says.Mask (small_again caller ff.0 i) (number_again pipe fp.0 i) (mask_again mask fp.1 i)))
-plain_event_again (says.Shut caller) f = λ i. Some (guess.Board (says.Shut (small_again caller f i)))
-
--- a board's event without its ask
-abbrev pub plain_of : BoardEntry Known → PlainEvent
-plain_of (Born caller pipe shape) = says.Born caller pipe shape
-plain_of (Submit caller pipe number ask) = says.Submit caller pipe number (line_of (arc_value ask))
-plain_of (Take caller pipe number) = says.Take caller pipe number
-plain_of (Finish caller pipe number) = says.Finish caller pipe number
-plain_of (Enq caller pipe ask backlog answer) = says.Enq caller pipe (line_of (arc_value ask)) backlog answer
-plain_of (Deq caller pipe number started) = says.Deq caller pipe number started
-plain_of (Done caller pipe number) = says.Done caller pipe number
-plain_of (Hold caller pipe) = says.Hold caller pipe
-plain_of (Go caller pipe) = says.Go caller pipe
-plain_of (Collect caller pipe to) = says.Collect caller pipe to
-plain_of (Close caller pipe) = says.Close caller pipe
-plain_of (Share caller pipe) = says.Share caller pipe
-plain_of (Mask caller pipe mask) = says.Mask caller pipe mask
-plain_of (Shut caller) = says.Shut caller
-
-pub plain_is : (e : BoardEntry Known) → (plain_words (plain_of e) ≡ board_words line_of e) × (plain_fits (plain_of e) ≡ board_fits line_of e)
-plain_is (Born caller pipe shape) = (refl, refl)
-plain_is (Submit caller pipe number ask) = (refl, refl)
-plain_is (Take caller pipe number) = (refl, refl)
-plain_is (Finish caller pipe number) = (refl, refl)
-plain_is (Enq caller pipe ask backlog answer) = (refl, refl)
-plain_is (Deq caller pipe number started) = (refl, refl)
-plain_is (Done caller pipe number) = (refl, refl)
-plain_is (Hold caller pipe) = (refl, refl)
-plain_is (Go caller pipe) = (refl, refl)
-plain_is (Collect caller pipe to) = (refl, refl)
-plain_is (Close caller pipe) = (refl, refl)
-plain_is (Share caller pipe) = (refl, refl)
-plain_is (Mask caller pipe mask) = (refl, refl)
-plain_is (Shut caller) = (refl, refl)
+    λ i. Some (event.Board (Mask (small_again caller ff.0 i) (number_again pipe fp.0 i) (mask_again mask fp.1 i)))
+board_again (Shut caller) f = λ i. Some (event.Board (Shut (small_again caller f i)))

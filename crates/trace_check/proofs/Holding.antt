@@ -1,12 +1,11 @@
 -- Which entries are held, from the newest to the oldest.
-use Rattle.std.proofs.Common.{◌≡◌, ℕ, zero, suc, ◌+◌, ◌<◌, ◌≤◌, Bool, true, false, cond, ◌&&◌, ◌||◌, List, [], ◌∷◌, length, map, take, drop, get_or, set, refl, sym, ◌∙◌, ap, arith}
+use Rattle.std.proofs.Common.{◌≡◌, ℕ, zero, suc, ◌+◌, ◌<◌, ◌≤◌, Bool, true, false, cond, ◌&&◌, ◌||◌, List, [], ◌∷◌, length, map, drop, get_or, refl, sym, ◌∙◌, ap, arith}
 use Rattle.std.specs.Prelude.{◌==◌, nat_lt, count_by}
 use Rattle.std.specs.List.{list_any}
-use Rattle.std.proofs.lemmas.Bool.{lt-ltb, eqb-true, eq-eqb}
-use Rattle.std.proofs.lemmas.List.{drop_more, get_or-set_same, get_or-set_other, length-set}
-use Rattle.std.proofs.lemmas.List.Folds.{list_any_more}
+use Rattle.std.proofs.lemmas.Bool.{lt-ltb}
+use Rattle.std.proofs.lemmas.List.{drop_more}
 use Rattle.std.proofs.lemmas.List.Recursion.{is_count_by}
-use Rattle.std.proofs.Math.Bool.{or_comm, or_assoc}
+use Rattle.std.proofs.Math.Bool.{or_comm}
 use Rattle.alg_registry.specs.declared.row.Row.{Row}
 use Rattle.alg_registry.specs.Rows.{counted, is_held, holders, stands_on}
 use Rattle.alg_registry.specs.Answers.{held_count}
@@ -35,44 +34,6 @@ some_counted p (x ∷ xs) = some_first (p x) (list_any p xs) (counts p xs) (some
 
 pub any_counted : {X : Type 0} (p : X → Bool) (xs : List X) → nat_lt 0 (count_by p xs) ≡ list_any p xs
 any_counted p xs = ap (nat_lt 0) (sym (counts_is p xs)) ∙ some_counted p xs
-
--- The marks of ids.
-or_none : (b : Bool) → b ≡ (b || false)
-or_none true = refl
-or_none false = refl
-
-or_all : (b : Bool) → true ≡ (b || true)
-or_all true = refl
-or_all false = refl
-
-mark_there : (marks : List Bool) (child id : ℕ) (d c : Bool) → (child == id) ≡ c → child < length marks → get_or (set marks child true) id d ≡ (get_or marks id d || c)
-mark_there marks child id d true e within =
-    ap (λ i. get_or (set marks child true) i d) (sym (eqb-true child id e)) ∙ (get_or-set_same marks child true d within ∙ or_all (get_or marks id d))
-mark_there marks child id d false e within =
-    get_or-set_other marks child id true d (λ s. (let t = eq-eqb child id (sym s) in cc)) ∙ or_none (get_or marks id d)
-
-mark_past : (marks : List Bool) (child id : ℕ) (d c : Bool) → (child == id) ≡ c → length marks ≤ child → id < length marks → get_or marks id d ≡ (get_or marks id d || c)
-mark_past marks child id d true e past within = absurd (let s = eqb-true child id e in omega arith)
-mark_past marks child id d false e past within = or_none (get_or marks id d)
-
-one_more : (old a b c : Bool) (new : Bool) → new ≡ (a || c) → a ≡ (old || b) → new ≡ (old || (b || c))
-one_more old a b c new h k = h ∙ (ap (λ x. x || c) k ∙ or_assoc old b c)
-
-pub marked_there : (old marks : List Bool) (ids : List ℕ) (i d : ℕ) → i < length ids → get_or ids i d < length marks → AreMarked old marks (take i ids) → AreMarked old (set marks (get_or ids i d) true) (take (i + 1) ids)
-marked_there old marks ids i d within there m = record {
-  len = length-set marks (get_or ids i d) true ∙ m.len;
-  each = λ id b in'.
-      one_more (get_or old id b) (get_or marks id b) (list_any (λ child. child == id) (take i ids)) (get_or ids i d == id) _ (mark_there marks (get_or ids i d) id b (get_or ids i d == id) refl there) (m.each id b in')
-      ∙ ap (λ x. get_or old id b || x) (sym (list_any_more (λ child. child == id) ids i d within));
-}
-
-pub marked_past : (old marks : List Bool) (ids : List ℕ) (i d : ℕ) → i < length ids → length marks ≤ get_or ids i d → AreMarked old marks (take i ids) → AreMarked old marks (take (i + 1) ids)
-marked_past old marks ids i d within past m = record {
-  len = m.len;
-  each = λ id b in'.
-      one_more (get_or old id b) (get_or marks id b) (list_any (λ child. child == id) (take i ids)) (get_or ids i d == id) _ (mark_past marks (get_or ids i d) id b (get_or ids i d == id) refl past (let l = m.len in omega arith)) (m.each id b in')
-      ∙ ap (λ x. get_or old id b || x) (sym (list_any_more (λ child. child == id) ids i d within));
-}
 
 -- What the newer entries make of the older.
 abbrev pub newer : List Entry → ℕ → List Row

@@ -1,19 +1,19 @@
 -- Whether a board's events are legal depends on nothing of an ask, and their trace on its line alone.
 use Rattle.std.proofs.Common.{◌≡◌, ℕ, Bool, false, ◌&&◌, List, [], ◌∷◌, ◌++◌, Option, Some, None, refl, sym, ◌∙◌, ap, subst, append-nil, append_assoc}
-use Rattle.std.specs.Prelude.{⊤, slice_get}
+use Rattle.std.specs.Prelude.{⊤}
 use Rattle.std.specs.List.{list_all, flat_map}
 use Rattle.board.specs.declared.entry.BoardEntry.{BoardEntry}
-use Rattle.board.specs.declared.entry.BoardEntry.TheVariants.{Born, Submit, Take, Finish, Enq, Deq, Done, Hold, Go, Collect, Close, Share, Mask, Shut}
 use Rattle.board.specs.Legal.{IsRight, AreRightAfter, LegalBoard, pipelines}
 use Rattle.board.specs.Entries.{entries_of}
 use Rattle.alg_registry.specs.declared.entry.RegEntry.{RegEntry}
 use Rattle.trace_check.specs.declared.reason.Reason.{Reason}
-use Rattle.trace_check.specs.Pipes.{PipeState, judged_on, judged_at, judged, pipes_after, is_shut_by}
+use Rattle.trace_check.specs.Pipes.{PipeState, judged, pipes_after, is_shut_by}
 use Rattle.trace_text.specs.Text.{sentence, reg_words, board_words}
 use Rattle.trace_text.specs.Trace.{trace_of, board_fits, AreEvents}
 use Rattle.trace_check.specs.Lines.{line_of}
 use Rattle.trace_check.specs.declared.lines.Known.{Known}
-use Rattle.trace_check.specs.Known.{with_line, with_lines}
+use Rattle.trace_check.specs.Known.{known_by, with_line, with_lines}
+use Rattle.trace_check.proofs.Asks.{judged_same, after_same, shut_same, words_same, fits_same}
 use Rattle.trace_check.proofs.Judging.{IsBoard}
 use Rattle.trace_check.proofs.Parts.{judged_right, judged_wrong, wrong_not_right, next_is_new}
 use Rattle.trace_check.proofs.Boarding.{board_step, board_empty}
@@ -40,79 +40,11 @@ right_passes ps shut before (e ∷ h) k r = (
   right_passes (pipes_after ps e) (is_shut_by shut e) (before ++ e ∷ []) h (board_step ps shut before e r.0 k) r.1,
 )
 
-on_same : {A : Type 0} (line : A → ℕ) (s : PipeState) (e : BoardEntry A) → judged_on s (with_line line e) ≡ judged_on s e
-on_same line s (Born caller pipe shape) = refl
-on_same line s (Submit caller pipe number ask) = refl
-on_same line s (Take caller pipe number) = refl
-on_same line s (Finish caller pipe number) = refl
-on_same line s (Enq caller pipe ask backlog answer) = refl
-on_same line s (Deq caller pipe number started) = refl
-on_same line s (Done caller pipe number) = refl
-on_same line s (Hold caller pipe) = refl
-on_same line s (Go caller pipe) = refl
-on_same line s (Collect caller pipe to) = refl
-on_same line s (Close caller pipe) = refl
-on_same line s (Share caller pipe) = refl
-on_same line s (Mask caller pipe mask) = refl
-on_same line s (Shut caller) = refl
-
-at_same : {A : Type 0} (line : A → ℕ) (p : Option PipeState) (e : BoardEntry A) → judged_at p (with_line line e) ≡ judged_at p e
-at_same line None e = refl
-at_same line (Some s) e = on_same line s e
-
-judged_same : {A : Type 0} (line : A → ℕ) (ps : List PipeState) (shut : Bool) (e : BoardEntry A) → judged ps shut (with_line line e) ≡ judged ps shut e
-judged_same line ps shut (Born caller pipe shape) = refl
-judged_same line ps shut (Submit caller pipe number ask) = at_same line (slice_get ps pipe) (Submit caller pipe number ask)
-judged_same line ps shut (Take caller pipe number) = at_same line (slice_get ps pipe) (Take caller pipe number)
-judged_same line ps shut (Finish caller pipe number) = at_same line (slice_get ps pipe) (Finish caller pipe number)
-judged_same line ps shut (Enq caller pipe ask backlog answer) = at_same line (slice_get ps pipe) (Enq caller pipe ask backlog answer)
-judged_same line ps shut (Deq caller pipe number started) = at_same line (slice_get ps pipe) (Deq caller pipe number started)
-judged_same line ps shut (Done caller pipe number) = at_same line (slice_get ps pipe) (Done caller pipe number)
-judged_same line ps shut (Hold caller pipe) = at_same line (slice_get ps pipe) (Hold caller pipe)
-judged_same line ps shut (Go caller pipe) = at_same line (slice_get ps pipe) (Go caller pipe)
-judged_same line ps shut (Collect caller pipe to) = at_same line (slice_get ps pipe) (Collect caller pipe to)
-judged_same line ps shut (Close caller pipe) = at_same line (slice_get ps pipe) (Close caller pipe)
-judged_same line ps shut (Share caller pipe) = at_same line (slice_get ps pipe) (Share caller pipe)
-judged_same line ps shut (Mask caller pipe mask) = at_same line (slice_get ps pipe) (Mask caller pipe mask)
-judged_same line ps shut (Shut caller) = refl
-
-after_same : {A : Type 0} (line : A → ℕ) (ps : List PipeState) (e : BoardEntry A) → pipes_after ps (with_line line e) ≡ pipes_after ps e
-after_same line ps (Born caller pipe shape) = refl
-after_same line ps (Submit caller pipe number ask) = refl
-after_same line ps (Take caller pipe number) = refl
-after_same line ps (Finish caller pipe number) = refl
-after_same line ps (Enq caller pipe ask backlog answer) = refl
-after_same line ps (Deq caller pipe number started) = refl
-after_same line ps (Done caller pipe number) = refl
-after_same line ps (Hold caller pipe) = refl
-after_same line ps (Go caller pipe) = refl
-after_same line ps (Collect caller pipe to) = refl
-after_same line ps (Close caller pipe) = refl
-after_same line ps (Share caller pipe) = refl
-after_same line ps (Mask caller pipe mask) = refl
-after_same line ps (Shut caller) = refl
-
-shut_same : {A : Type 0} (line : A → ℕ) (shut : Bool) (e : BoardEntry A) → is_shut_by shut (with_line line e) ≡ is_shut_by shut e
-shut_same line shut (Born caller pipe shape) = refl
-shut_same line shut (Submit caller pipe number ask) = refl
-shut_same line shut (Take caller pipe number) = refl
-shut_same line shut (Finish caller pipe number) = refl
-shut_same line shut (Enq caller pipe ask backlog answer) = refl
-shut_same line shut (Deq caller pipe number started) = refl
-shut_same line shut (Done caller pipe number) = refl
-shut_same line shut (Hold caller pipe) = refl
-shut_same line shut (Go caller pipe) = refl
-shut_same line shut (Collect caller pipe to) = refl
-shut_same line shut (Close caller pipe) = refl
-shut_same line shut (Share caller pipe) = refl
-shut_same line shut (Mask caller pipe mask) = refl
-shut_same line shut (Shut caller) = refl
-
 passes_there : {A : Type 0} (line : A → ℕ) (ps : List PipeState) (shut : Bool) (h : List (BoardEntry A)) → Passes ps shut h → Passes ps shut (with_lines line h)
 passes_there line ps shut [] p = tt
 passes_there line ps shut (e ∷ h) p = (
-  judged_same line ps shut e ∙ p.0,
-  rw (after_same line ps e, shut_same line shut e) (passes_there line (pipes_after ps e) (is_shut_by shut e) h p.1),
+  judged_same (known_by line) ps shut e ∙ p.0,
+  rw (after_same (known_by line) ps e, shut_same (known_by line) shut e) (passes_there line (pipes_after ps e) (is_shut_by shut e) h p.1),
 )
 
 pass_on : {A : Type 0} (line : A → ℕ) (ps qs : List PipeState) (shut shut' : Bool) (h : List (BoardEntry Known)) → ps ≡ qs → shut ≡ shut' → Passes ps shut h → Passes qs shut' h
@@ -121,8 +53,8 @@ pass_on line ps qs shut shut' h e f p = subst (λ b. Passes qs b h) f (subst (λ
 passes_back : {A : Type 0} (line : A → ℕ) (ps : List PipeState) (shut : Bool) (h : List (BoardEntry A)) → Passes ps shut (with_lines line h) → Passes ps shut h
 passes_back line ps shut [] p = tt
 passes_back line ps shut (e ∷ h) p = (
-  sym (judged_same line ps shut e) ∙ p.0,
-  passes_back line (pipes_after ps e) (is_shut_by shut e) h (pass_on line (pipes_after ps (with_line line e)) (pipes_after ps e) (is_shut_by shut (with_line line e)) (is_shut_by shut e) (with_lines line h) (after_same line ps e) (shut_same line shut e) p.1),
+  sym (judged_same (known_by line) ps shut e) ∙ p.0,
+  passes_back line (pipes_after ps e) (is_shut_by shut e) h (pass_on line (pipes_after ps (with_line line e)) (pipes_after ps e) (is_shut_by shut (with_line line e)) (is_shut_by shut e) (with_lines line h) (after_same (known_by line) ps e) (shut_same (known_by line) shut e) p.1),
 )
 
 pub legal_there : {A : Type 0} (line : A → ℕ) (h : List (BoardEntry A)) → LegalBoard h → LegalBoard (with_lines line h)
@@ -131,48 +63,16 @@ legal_there line h l = passes_right [] false [] (with_lines line h) board_empty 
 pub legal_back : {A : Type 0} (line : A → ℕ) (h : List (BoardEntry A)) → LegalBoard (with_lines line h) → LegalBoard h
 legal_back line h l = passes_right [] false [] h board_empty (passes_back line [] false h (right_passes [] false [] (with_lines line h) board_empty l))
 
-words_same : {A : Type 0} (line : A → ℕ) (e : BoardEntry A) → board_words line_of (with_line line e) ≡ board_words line e
-words_same line (Born caller pipe shape) = refl
-words_same line (Submit caller pipe number ask) = refl
-words_same line (Take caller pipe number) = refl
-words_same line (Finish caller pipe number) = refl
-words_same line (Enq caller pipe ask backlog answer) = refl
-words_same line (Deq caller pipe number started) = refl
-words_same line (Done caller pipe number) = refl
-words_same line (Hold caller pipe) = refl
-words_same line (Go caller pipe) = refl
-words_same line (Collect caller pipe to) = refl
-words_same line (Close caller pipe) = refl
-words_same line (Share caller pipe) = refl
-words_same line (Mask caller pipe mask) = refl
-words_same line (Shut caller) = refl
-
-fits_same : {A : Type 0} (line : A → ℕ) (e : BoardEntry A) → board_fits line_of (with_line line e) ≡ board_fits line e
-fits_same line (Born caller pipe shape) = refl
-fits_same line (Submit caller pipe number ask) = refl
-fits_same line (Take caller pipe number) = refl
-fits_same line (Finish caller pipe number) = refl
-fits_same line (Enq caller pipe ask backlog answer) = refl
-fits_same line (Deq caller pipe number started) = refl
-fits_same line (Done caller pipe number) = refl
-fits_same line (Hold caller pipe) = refl
-fits_same line (Go caller pipe) = refl
-fits_same line (Collect caller pipe to) = refl
-fits_same line (Close caller pipe) = refl
-fits_same line (Share caller pipe) = refl
-fits_same line (Mask caller pipe mask) = refl
-fits_same line (Shut caller) = refl
-
 board_same : {A : Type 0} (line : A → ℕ) (h : List (BoardEntry A)) → flat_map (λ e. sentence (board_words line_of e)) (with_lines line h) ≡ flat_map (λ e. sentence (board_words line e)) h
 board_same line [] = refl
-board_same line (e ∷ h) = ap (λ ws. sentence ws ++ flat_map (λ x. sentence (board_words line_of x)) (with_lines line h)) (words_same line e) ∙ ap (λ t. sentence (board_words line e) ++ t) (board_same line h)
+board_same line (e ∷ h) = ap (λ ws. sentence ws ++ flat_map (λ x. sentence (board_words line_of x)) (with_lines line h)) (words_same line (known_by line) e (λ ask. refl)) ∙ ap (λ t. sentence (board_words line e) ++ t) (board_same line h)
 
 pub trace_same : {A : Type 0} (line : A → ℕ) (r : List RegEntry) (h : List (BoardEntry A)) → trace_of line_of r (with_lines line h) ≡ trace_of line r h
 trace_same line r h = ap (λ t. flat_map (λ e. sentence (reg_words e)) r ++ t) (board_same line h)
 
 all_fit : {A : Type 0} (line : A → ℕ) (h : List (BoardEntry A)) → list_all (board_fits line_of) (with_lines line h) ≡ list_all (board_fits line) h
 all_fit line [] = refl
-all_fit line (e ∷ h) = ap (λ b. b && list_all (board_fits line_of) (with_lines line h)) (fits_same line e) ∙ ap (λ b. board_fits line e && b) (all_fit line h)
+all_fit line (e ∷ h) = ap (λ b. b && list_all (board_fits line_of) (with_lines line h)) (fits_same line (known_by line) e (λ ask. refl)) ∙ ap (λ b. board_fits line e && b) (all_fit line h)
 
 pub events_same : {A : Type 0} (line : A → ℕ) (r : List RegEntry) (h : List (BoardEntry A)) → AreEvents line r h → AreEvents line_of r (with_lines line h)
 events_same line r h k = (k.0, all_fit line h ∙ k.1)

@@ -11,6 +11,8 @@ pub mod Boarding
 pub mod Numerals
 pub mod Guesses
 pub mod LineWords
+pub mod Asks
+pub mod Fitting
 pub mod ReadLemmas
 pub mod Cuts
 pub mod Traces
@@ -20,7 +22,6 @@ pub mod Knowing
 pub mod RegTable
 pub mod RegJudging
 pub mod RegStepping
-pub mod Mapped
 pub mod Few
 pub mod RegLoop
 pub mod Holding

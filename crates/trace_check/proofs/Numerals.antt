@@ -6,7 +6,7 @@ use Rattle.std.specs.List.{list_all, join_with_byte, slice_split, onto_first}
 use Rattle.std.specs.Str.{bytes_eq}
 use Rattle.std.proofs.lemmas.Bool.{lt-ltb, le-leb, lt-leb, cases_lt, ltb-true, leb-true, and_parts, and_from, ne_eqb, eq-eqb, not-true}
 use Rattle.std.proofs.lemmas.Fmt.{decimal_by_steps, decimal_nonempty}
-use Rattle.trace_text.specs.Trace.{is_visible, is_u16, is_u32, is_u64}
+use Rattle.trace_text.specs.Trace.{is_visible, is_word, is_u16, is_u32, is_u64}
 use Rattle.trace_check.specs.Guessing.{digit_after, number_at, number_from, number_of, small_of, ids_of, is_comma, hex_value, mask_in}
 use Rattle.trace_text.specs.Text.{ids_word, hex_digit, mask_word}
 
@@ -111,9 +111,6 @@ digits_all p each n h =
 pub visible_decimal : (n : ℕ) → is_u64 n ≡ true → list_all is_visible (decimal n) ≡ true
 visible_decimal n f = digits_all is_visible visible_digit n (ltb-true n (2 ^ 64) f)
 
-pub visible_small : (n : ℕ) → is_u32 n ≡ true → list_all is_visible (decimal n) ≡ true
-visible_small n f = visible_decimal n (let l : n < 2 ^ 32 = ltb-true n (2 ^ 32) f in lt-ltb n (2 ^ 64) (omega arith))
-
 abbrev pub is_not : ℕ → ℕ → Bool
 is_not c b = not (b == c)
 
@@ -215,8 +212,32 @@ visible_unlike c (b ∷ word) low h =
     let k = and_parts (is_visible b) (list_all is_visible word) h in
     and_from (is_not c b) (list_all (is_not c) word) (unlike c b low k.0) (visible_unlike c word low k.1)
 
-pub words_unlike : (c : ℕ) (words : List (List ℕ)) → c < 33 → list_all (list_all is_visible) words ≡ true → list_all (list_all (is_not c)) words ≡ true
+pub words_unlike : (c : ℕ) (words : List (List ℕ)) → c < 33 → list_all is_word words ≡ true → list_all (list_all (is_not c)) words ≡ true
 words_unlike c [] low h = refl
 words_unlike c (word ∷ words) low h =
-    let k = and_parts (list_all is_visible word) (list_all (list_all is_visible) words) h in
-    and_from (list_all (is_not c) word) (list_all (list_all (is_not c)) words) (visible_unlike c word low k.0) (words_unlike c words low k.1)
+    let k = and_parts (is_word word) (list_all is_word words) h in
+    let v = and_parts (nat_lt 0 (length word)) (list_all is_visible word) k.0 in
+    and_from (list_all (is_not c) word) (list_all (list_all (is_not c)) words) (visible_unlike c word low v.1) (words_unlike c words low k.1)
+
+-- Each is a word.
+pub word_decimal : (n : ℕ) → is_u64 n ≡ true → is_word (decimal n) ≡ true
+word_decimal n f =
+    and_from (nat_lt 0 (length (decimal n))) (list_all is_visible (decimal n)) (lt-ltb 0 (length (decimal n)) (decimal_nonempty n (ltb-true n (2 ^ 64) f))) (visible_decimal n f)
+
+pub word_small : (n : ℕ) → is_u32 n ≡ true → is_word (decimal n) ≡ true
+word_small n f = word_decimal n (let l : n < 2 ^ 32 = ltb-true n (2 ^ 32) f in lt-ltb n (2 ^ 64) (omega arith))
+
+pub word_mask : (mask : ℕ) → is_word (mask_word mask) ≡ true
+word_mask mask = visible_mask mask
+
+some_joined : (first : List ℕ) (words : List (List ℕ)) → 0 < length first → 0 < length (join_with_byte 44 (first ∷ words))
+some_joined [] words n = absurd (omega arith)
+some_joined (b ∷ bs) [] n = n
+some_joined (b ∷ bs) (next ∷ words) n = omega arith
+
+pub word_ids : (ids : List ℕ) → list_all is_u64 ids ≡ true → is_word (ids_word ids) ≡ true
+word_ids [] h = refl
+word_ids (id ∷ ids) h =
+    let k = and_parts (is_u64 id) (list_all is_u64 ids) h in
+    let some = some_joined (decimal id) (map decimal ids) (decimal_nonempty id (ltb-true id (2 ^ 64) k.0)) in
+    and_from (nat_lt 0 (length (ids_word (id ∷ ids)))) (list_all is_visible (ids_word (id ∷ ids))) (lt-ltb 0 (length (ids_word (id ∷ ids))) some) (visible_ids (id ∷ ids) h)

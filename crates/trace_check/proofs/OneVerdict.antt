@@ -6,28 +6,27 @@ use Rattle.std.proofs.lemmas.Bool.{and_parts}
 use Rattle.std.proofs.lemmas.List.{map-append}
 use Rattle.std.specs.declared.sync.Arc.{Arc}
 use Rattle.std.specs.declared.alloc.Global.{Global}
-use denote.RawPtr.{null_ptr}
+use Rattle.std.specs.Arc.{arc_value}
 use Rattle.alg_registry.specs.declared.entry.RegEntry.{RegEntry}
 use Rattle.alg_registry.specs.Legal as registry
 use Rattle.board.specs.declared.entry.BoardEntry.{BoardEntry}
-use Rattle.board.specs.declared.entry.BoardEntry.TheVariants.{Born, Submit, Take, Finish, Enq, Deq, Done, Hold, Go, Collect, Close, Share, Mask, Shut}
 use Rattle.board.specs.Legal.{AreRightAfter}
-use Rattle.trace_text.specs.Text.{sentence}
+use Rattle.trace_text.specs.Text.{sentence, reg_words, board_words}
 use Rattle.trace_text.specs.Trace.{is_event, board_fits, AreEvents}
 use Rattle.trace_check.specs.declared.reason.Reason.{Reason}
 use Rattle.trace_check.specs.declared.reason.Reason.TheVariants.{State, Caller, Number, Answer}
 use Rattle.trace_check.specs.declared.lines.Known.{Known}
-use Rattle.trace_check.specs.declared.lines.Guess.{Guess}
-use Rattle.trace_check.specs.declared.lines.Guess.TheVariants as guess
-use Rattle.trace_check.specs.declared.guessing.Plain.{Plain as PlainEvent}
-use Rattle.trace_check.specs.declared.guessing.Plain.TheVariants as says
+use Rattle.trace_check.specs.declared.lines.Event.{Event}
+use Rattle.trace_check.specs.declared.lines.Event.TheVariants as event
 use Rattle.trace_check.specs.declared.verdict.TraceVerdict.{TraceVerdict}
 use Rattle.trace_check.specs.declared.verdict.TraceVerdict.TheVariants.{Legal, Illegal, NoTrace}
 use Rattle.trace_check.specs.Reasons.{IsFirstMissing}
 use Rattle.trace_check.specs.RegReasons as reg
 use Rattle.trace_check.specs.BoardReasons as brd
-use Rattle.trace_check.specs.Pipes.{PipeState, judged_on, judged_at, judged, pipes_after, is_shut_by}
-use Rattle.trace_check.specs.Lines.{line_of, guess_of}
+use Rattle.trace_check.specs.Pipes.{PipeState, judged, pipes_after, is_shut_by}
+use Rattle.trace_check.specs.Lines.{line_of}
+use Rattle.trace_check.specs.Known.{ask_of, unplaced}
+use Rattle.trace_check.specs.Guessing.{event_in}
 use Rattle.trace_check.specs.Verdicts.{IsTraceOf, BeginsWith, IsFirstBad, IsVerdict, AreJudged}
 use Rattle.trace_check.proofs.Judging.{IsBoard}
 use Rattle.trace_check.proofs.Parts.{judged_right, judged_wrong, wrong_not_right}
@@ -35,8 +34,8 @@ use Rattle.trace_check.proofs.RegParts as reg_parts
 use Rattle.trace_check.proofs.Boarding.{board_step, board_empty}
 use Rattle.trace_check.proofs.Cuts.{text_of, AreLines, same_cut, feed_then, some_fed}
 use Rattle.trace_check.proofs.Traces.{reg_line, board_line, lines, trace_lines, are_lines}
-use Rattle.trace_check.proofs.Guesses.{plain_of, plain_is}
-use Rattle.trace_check.proofs.LineWords.{registry_guessed, plain_guessed}
+use Rattle.trace_check.proofs.LineWords.{event_read}
+use Rattle.trace_check.proofs.Asks.{judged_same, after_same, shut_same}
 use Rattle.trace_check.proofs.Bads.{begins_less}
 use Rattle.trace_check.proofs.Knowing.{Passes, none_judged, right_passes}
 
@@ -150,112 +149,21 @@ found_is h None l = none_found 0 [] false h (right_passes [] false [] h board_em
 found_is h (Some x) w = one_found 0 [] false [] h x.0 x.1 board_empty w.0 w.1 ∙ ap (λ m. Some (m, x.1)) (let z : 0 + x.0 ≡ x.0 = omega arith in z)
 
 -- It looks at nothing of an ask.
-abbrev same_ask : Arc Known Global → ℕ → Arc Known Global
-same_ask ask line = record ask { value = record { line = line } }
+found_anywhere : (n : ℕ) (ps : List PipeState) (shut : Bool) (h : List (BoardEntry Known)) → first_judged n ps shut (map unplaced h) ≡ first_judged n ps shut h
+found_anywhere n ps shut [] = refl
+found_anywhere n ps shut (e ∷ h) =
+    let f : Arc Known Global → Arc Known Global = λ ask. ask_of (arc_value ask).line in
+    ap (λ o. first_from n o (first_judged (n + 1) (pipes_after ps (unplaced e)) (is_shut_by shut (unplaced e)) (map unplaced h))) (judged_same f ps shut e)
+    ∙ (ap (λ qs. first_from n (judged ps shut e) (first_judged (n + 1) qs (is_shut_by shut (unplaced e)) (map unplaced h))) (after_same f ps e)
+    ∙ (ap (λ t. first_from n (judged ps shut e) (first_judged (n + 1) (pipes_after ps e) t (map unplaced h))) (shut_same f shut e)
+    ∙ ap (first_from n (judged ps shut e)) (found_anywhere (n + 1) (pipes_after ps e) (is_shut_by shut e) h)))
 
-abbrev entry_of : Arc Known Global → PlainEvent → BoardEntry Known
-entry_of ask (says.Born caller pipe shape) = Born caller pipe shape
-entry_of ask (says.Submit caller pipe number line) = Submit caller pipe number (same_ask ask line)
-entry_of ask (says.Take caller pipe number) = Take caller pipe number
-entry_of ask (says.Finish caller pipe number) = Finish caller pipe number
-entry_of ask (says.Enq caller pipe line backlog answer) = Enq caller pipe (same_ask ask line) backlog answer
-entry_of ask (says.Deq caller pipe number started) = Deq caller pipe number started
-entry_of ask (says.Done caller pipe number) = Done caller pipe number
-entry_of ask (says.Hold caller pipe) = Hold caller pipe
-entry_of ask (says.Go caller pipe) = Go caller pipe
-entry_of ask (says.Collect caller pipe to) = Collect caller pipe to
-entry_of ask (says.Close caller pipe) = Close caller pipe
-entry_of ask (says.Share caller pipe) = Share caller pipe
-entry_of ask (says.Mask caller pipe mask) = Mask caller pipe mask
-entry_of ask (says.Shut caller) = Shut caller
-
-an_ask : Arc Known Global
-an_ask = record { ptr = null_ptr; value = record { line = 0 } }
-
-on_bare : (a : Arc Known Global) (s : PipeState) (e : BoardEntry Known) → judged_on s (entry_of a (plain_of e)) ≡ judged_on s e
-on_bare a s (Born caller pipe shape) = refl
-on_bare a s (Submit caller pipe number ask) = refl
-on_bare a s (Take caller pipe number) = refl
-on_bare a s (Finish caller pipe number) = refl
-on_bare a s (Enq caller pipe ask backlog answer) = refl
-on_bare a s (Deq caller pipe number started) = refl
-on_bare a s (Done caller pipe number) = refl
-on_bare a s (Hold caller pipe) = refl
-on_bare a s (Go caller pipe) = refl
-on_bare a s (Collect caller pipe to) = refl
-on_bare a s (Close caller pipe) = refl
-on_bare a s (Share caller pipe) = refl
-on_bare a s (Mask caller pipe mask) = refl
-on_bare a s (Shut caller) = refl
-
-at_bare : (a : Arc Known Global) (p : Option PipeState) (e : BoardEntry Known) → judged_at p (entry_of a (plain_of e)) ≡ judged_at p e
-at_bare a None e = refl
-at_bare a (Some s) e = on_bare a s e
-
-judged_bare : (a : Arc Known Global) (ps : List PipeState) (shut : Bool) (e : BoardEntry Known) → judged ps shut (entry_of a (plain_of e)) ≡ judged ps shut e
-judged_bare a ps shut (Born caller pipe shape) = refl
-judged_bare a ps shut (Submit caller pipe number ask) = at_bare a (slice_get ps pipe) (Submit caller pipe number ask)
-judged_bare a ps shut (Take caller pipe number) = at_bare a (slice_get ps pipe) (Take caller pipe number)
-judged_bare a ps shut (Finish caller pipe number) = at_bare a (slice_get ps pipe) (Finish caller pipe number)
-judged_bare a ps shut (Enq caller pipe ask backlog answer) = at_bare a (slice_get ps pipe) (Enq caller pipe ask backlog answer)
-judged_bare a ps shut (Deq caller pipe number started) = at_bare a (slice_get ps pipe) (Deq caller pipe number started)
-judged_bare a ps shut (Done caller pipe number) = at_bare a (slice_get ps pipe) (Done caller pipe number)
-judged_bare a ps shut (Hold caller pipe) = at_bare a (slice_get ps pipe) (Hold caller pipe)
-judged_bare a ps shut (Go caller pipe) = at_bare a (slice_get ps pipe) (Go caller pipe)
-judged_bare a ps shut (Collect caller pipe to) = at_bare a (slice_get ps pipe) (Collect caller pipe to)
-judged_bare a ps shut (Close caller pipe) = at_bare a (slice_get ps pipe) (Close caller pipe)
-judged_bare a ps shut (Share caller pipe) = at_bare a (slice_get ps pipe) (Share caller pipe)
-judged_bare a ps shut (Mask caller pipe mask) = at_bare a (slice_get ps pipe) (Mask caller pipe mask)
-judged_bare a ps shut (Shut caller) = refl
-
-after_bare : (a : Arc Known Global) (ps : List PipeState) (e : BoardEntry Known) → pipes_after ps (entry_of a (plain_of e)) ≡ pipes_after ps e
-after_bare a ps (Born caller pipe shape) = refl
-after_bare a ps (Submit caller pipe number ask) = refl
-after_bare a ps (Take caller pipe number) = refl
-after_bare a ps (Finish caller pipe number) = refl
-after_bare a ps (Enq caller pipe ask backlog answer) = refl
-after_bare a ps (Deq caller pipe number started) = refl
-after_bare a ps (Done caller pipe number) = refl
-after_bare a ps (Hold caller pipe) = refl
-after_bare a ps (Go caller pipe) = refl
-after_bare a ps (Collect caller pipe to) = refl
-after_bare a ps (Close caller pipe) = refl
-after_bare a ps (Share caller pipe) = refl
-after_bare a ps (Mask caller pipe mask) = refl
-after_bare a ps (Shut caller) = refl
-
-shut_bare : (a : Arc Known Global) (shut : Bool) (e : BoardEntry Known) → is_shut_by shut (entry_of a (plain_of e)) ≡ is_shut_by shut e
-shut_bare a shut (Born caller pipe shape) = refl
-shut_bare a shut (Submit caller pipe number ask) = refl
-shut_bare a shut (Take caller pipe number) = refl
-shut_bare a shut (Finish caller pipe number) = refl
-shut_bare a shut (Enq caller pipe ask backlog answer) = refl
-shut_bare a shut (Deq caller pipe number started) = refl
-shut_bare a shut (Done caller pipe number) = refl
-shut_bare a shut (Hold caller pipe) = refl
-shut_bare a shut (Go caller pipe) = refl
-shut_bare a shut (Collect caller pipe to) = refl
-shut_bare a shut (Close caller pipe) = refl
-shut_bare a shut (Share caller pipe) = refl
-shut_bare a shut (Mask caller pipe mask) = refl
-shut_bare a shut (Shut caller) = refl
-
-found_bare : (a : Arc Known Global) (n : ℕ) (ps : List PipeState) (shut : Bool) (h : List (BoardEntry Known)) → first_judged n ps shut (map (entry_of a) (map plain_of h)) ≡ first_judged n ps shut h
-found_bare a n ps shut [] = refl
-found_bare a n ps shut (e ∷ h) =
-    let e' = entry_of a (plain_of e) in
-    let h' = map (entry_of a) (map plain_of h) in
-    ap (λ o. first_from n o (first_judged (n + 1) (pipes_after ps e') (is_shut_by shut e') h')) (judged_bare a ps shut e)
-    ∙ (ap (λ qs. first_from n (judged ps shut e) (first_judged (n + 1) qs (is_shut_by shut e') h')) (after_bare a ps e)
-    ∙ (ap (λ t. first_from n (judged ps shut e) (first_judged (n + 1) (pipes_after ps e) t h')) (shut_bare a shut e)
-    ∙ ap (first_from n (judged ps shut e)) (found_bare a (n + 1) (pipes_after ps e) (is_shut_by shut e) h)))
-
-one_board : (h h' : List (BoardEntry Known)) (a b : Option (ℕ × Reason)) → map plain_of h ≡ map plain_of h' → brd.IsFirstWrong h a → brd.IsFirstWrong h' b → a ≡ b
+one_board : (h h' : List (BoardEntry Known)) (a b : Option (ℕ × Reason)) → map unplaced h ≡ map unplaced h' → brd.IsFirstWrong h a → brd.IsFirstWrong h' b → a ≡ b
 one_board h h' a b same p q =
     sym (found_is h a p)
-    ∙ (sym (found_bare an_ask 0 [] false h)
-    ∙ (ap (λ ps. first_judged 0 [] false (map (entry_of an_ask) ps)) same
-    ∙ (found_bare an_ask 0 [] false h' ∙ found_is h' b q)))
+    ∙ (sym (found_anywhere 0 [] false h)
+    ∙ (ap (first_judged 0 [] false) same
+    ∙ (found_anywhere 0 [] false h' ∙ found_is h' b q)))
 
 -- A text is the trace of one list of events, but for where its asks lie in memory.
 one_text : (ls ms : List (List ℕ)) → AreLines ls → AreLines ms → text_of ls ≡ text_of ms → ls ≡ ms
@@ -268,64 +176,65 @@ one_text (l ∷ ls) (m ∷ ms) p q e =
     let c = same_cut l m (text_of ls) (text_of ms) pl.0 qm.0 (sym (feed_then l (text_of ls)) ∙ (e ∙ feed_then m (text_of ms))) in
     ap (λ x. x ∷ ls) c.line ∙ ap (λ xs. m ∷ xs) (one_text ls ms pl.1 qm.1 c.rest)
 
-guess_at : List ℕ → Option Guess
-guess_at line = guess_of (slice_split (λ b. b == 32) line)
+event_at : List ℕ → Option Event
+event_at line = event_in (slice_split (λ b. b == 32) line)
 
-abbrev reg_guess : RegEntry → Option Guess
-reg_guess e = Some (guess.Registry e)
+abbrev reg_event : RegEntry → Option Event
+reg_event e = Some (event.Registry e)
 
-abbrev board_guess : BoardEntry Known → Option Guess
-board_guess e = Some (guess.Board (plain_of e))
+abbrev board_event : BoardEntry Known → Option Event
+board_event e = Some (event.Board (unplaced e))
 
-reg_guesses : (r : List RegEntry) → list_all is_event r ≡ true → map guess_at (map reg_line r) ≡ map reg_guess r
-unfolding guess_at
-reg_guesses [] k = refl
-reg_guesses (e ∷ r) k =
+reg_events : (r : List RegEntry) → list_all is_event r ≡ true → map event_at (map reg_line r) ≡ map reg_event r
+unfolding event_at
+reg_events [] k = refl
+reg_events (e ∷ r) k =
     let p = and_parts (is_event e) (list_all is_event r) k in
-    ap (λ g. g ∷ map guess_at (map reg_line r)) (registry_guessed (reg_line e) 10 e p.0 refl) ∙ ap (λ gs. reg_guess e ∷ gs) (reg_guesses r p.1)
+    let g = (event_read (reg_line e) 10 (sentence (reg_words e)) (event.Registry e) refl (p.0, refl)).1 in
+    ap (λ g. g ∷ map event_at (map reg_line r)) g ∙ ap (λ gs. reg_event e ∷ gs) (reg_events r p.1)
 
-board_guesses : (b : List (BoardEntry Known)) → list_all (board_fits line_of) b ≡ true → map guess_at (map board_line b) ≡ map board_guess b
-unfolding guess_at
-board_guesses [] k = refl
-board_guesses (e ∷ b) k =
+board_events : (b : List (BoardEntry Known)) → list_all (board_fits line_of) b ≡ true → map event_at (map board_line b) ≡ map board_event b
+unfolding event_at
+board_events [] k = refl
+board_events (e ∷ b) k =
     let p = and_parts (board_fits line_of e) (list_all (board_fits line_of) b) k in
-    let i = plain_is e in
-    ap (λ g. g ∷ map guess_at (map board_line b)) (plain_guessed (board_line e) 10 (plain_of e) (i.1 ∙ p.0) (ap sentence (sym i.0))) ∙ ap (λ gs. board_guess e ∷ gs) (board_guesses b p.1)
+    let g = (event_read (board_line e) 10 (sentence (board_words line_of e)) (event.Board e) refl (p.0, refl)).1 in
+    ap (λ g. g ∷ map event_at (map board_line b)) g ∙ ap (λ gs. board_event e ∷ gs) (board_events b p.1)
 
-guesses : (r : List RegEntry) (b : List (BoardEntry Known)) → AreEvents line_of r b → map guess_at (lines r b) ≡ map reg_guess r ++ map board_guess b
-guesses r b k =
-    map-append guess_at (map reg_line r) (map board_line b)
-    ∙ (ap (λ gs. gs ++ map guess_at (map board_line b)) (reg_guesses r k.0) ∙ ap (λ gs. map reg_guess r ++ gs) (board_guesses b k.1))
+all_events : (r : List RegEntry) (b : List (BoardEntry Known)) → AreEvents line_of r b → map event_at (lines r b) ≡ map reg_event r ++ map board_event b
+all_events r b k =
+    map-append event_at (map reg_line r) (map board_line b)
+    ∙ (ap (λ gs. gs ++ map event_at (map board_line b)) (reg_events r k.0) ∙ ap (λ gs. map reg_event r ++ gs) (board_events b k.1))
 
-abbrev reg_in : Option Guess → Option RegEntry
-reg_in (Some (guess.Registry e)) = Some e
+abbrev reg_in : Option Event → Option RegEntry
+reg_in (Some (event.Registry e)) = Some e
 reg_in _ = None
 
-abbrev board_in : Option Guess → Option PlainEvent
-board_in (Some (guess.Board p)) = Some p
+abbrev board_in : Option Event → Option (BoardEntry Known)
+board_in (Some (event.Board e)) = Some e
 board_in _ = None
 
-regs_again : (r : List RegEntry) (b : List (BoardEntry Known)) → filter_map reg_in (map reg_guess r ++ map board_guess b) ≡ r
+regs_again : (r : List RegEntry) (b : List (BoardEntry Known)) → filter_map reg_in (map reg_event r ++ map board_event b) ≡ r
 regs_again [] [] = refl
 regs_again [] (e ∷ b) = regs_again [] b
 regs_again (e ∷ r) b = ap (λ es. e ∷ es) (regs_again r b)
 
-plains_again : (r : List RegEntry) (b : List (BoardEntry Known)) → filter_map board_in (map reg_guess r ++ map board_guess b) ≡ map plain_of b
-plains_again [] [] = refl
-plains_again [] (e ∷ b) = ap (λ ps. plain_of e ∷ ps) (plains_again [] b)
-plains_again (e ∷ r) b = plains_again r b
+boards_again : (r : List RegEntry) (b : List (BoardEntry Known)) → filter_map board_in (map reg_event r ++ map board_event b) ≡ map unplaced b
+boards_again [] [] = refl
+boards_again [] (e ∷ b) = ap (λ ps. unplaced e ∷ ps) (boards_again [] b)
+boards_again (e ∷ r) b = boards_again r b
 
 record AreAlike (r r' : List RegEntry) (b b' : List (BoardEntry Known)) : Type 0 where
   pub registry : r ≡ r'
-  pub board : map plain_of b ≡ map plain_of b'
+  pub board : map unplaced b ≡ map unplaced b'
 
 alike : (text : List ℕ) (r r' : List RegEntry) (b b' : List (BoardEntry Known)) → IsTraceOf text r b → IsTraceOf text r' b' → AreAlike r r' b b'
 alike text r r' b b' p q =
     let l : lines r b ≡ lines r' b' = one_text (lines r b) (lines r' b') (are_lines r b p.0) (are_lines r' b' q.0) (sym (trace_lines r b) ∙ (sym p.1 ∙ (q.1 ∙ trace_lines r' b'))) in
-    let g = sym (guesses r b p.0) ∙ (ap (map guess_at) l ∙ guesses r' b' q.0) in
+    let g = sym (all_events r b p.0) ∙ (ap (map event_at) l ∙ all_events r' b' q.0) in
     record {
       registry = sym (regs_again r b) ∙ (ap (filter_map reg_in) g ∙ regs_again r' b');
-      board = sym (plains_again r b) ∙ (ap (filter_map board_in) g ∙ plains_again r' b');
+      board = sym (boards_again r b) ∙ (ap (filter_map board_in) g ∙ boards_again r' b');
     }
 
 -- Verdicts.
@@ -333,7 +242,7 @@ abbrev illegal_at : (ℕ → ℕ) → Option (ℕ × Reason) → TraceVerdict
 illegal_at f None = Legal
 illegal_at f (Some x) = Illegal (f x.0) x.1
 
-one_judged : (r : List RegEntry) (b b' : List (BoardEntry Known)) (v w : TraceVerdict) → map plain_of b ≡ map plain_of b' → AreJudged r b v → AreJudged r b' w → v ≡ w
+one_judged : (r : List RegEntry) (b b' : List (BoardEntry Known)) (v w : TraceVerdict) → map unplaced b ≡ map unplaced b' → AreJudged r b v → AreJudged r b' w → v ≡ w
 one_judged r b b' Legal Legal s p q = refl
 one_judged r b b' Legal (Illegal k t) s p (inl q) = ap (illegal_at (λ n. n)) (one_registry r None (Some (k, t)) p.0 q)
 one_judged r b b' Legal (Illegal k t) s p (inr q) = absurd (let e = one_board b b' None (Some (k - length r, t)) s p.1 q.2 in cc)

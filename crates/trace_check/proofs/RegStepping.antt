@@ -30,7 +30,7 @@ use Rattle.alg_registry.proofs.Keeping.{kept-look, kept-began, kept-unlist, kept
 use Rattle.alg_registry.proofs.Registering.{kept-made, kept-refused, kept-end, kept-built, kept-waited, kept-refs, kept-list}
 use Rattle.alg_registry.proofs.Changing.{a_row}
 use Rattle.trace_check.specs.Registers.{change_at, table_after, larvals_after, without_first, references_after}
-use Rattle.trace_check.proofs.RegTable.{table_unlisted, table_taken, table_put, table_added}
+use Rattle.trace_check.proofs.RegTable.{table_unlisted, table_counted, table_added}
 use Rattle.trace_check.proofs.RegParts.{built_known}
 use Rattle.trace_check.proofs.RegJudging.{IsRegister, AreReferences, times}
 
@@ -178,12 +178,12 @@ register_step h table larvals references (Unlist caller driver None) r t c k =
     stays h table larvals references _ k (kept-no_unlist h _ (rows_of h) larvals caller driver (kept_now h table larvals references k) r.0 (sym r.1) refl) (λ c i. refl) (λ c i. refl)
 register_step h table larvals references (Get caller id true) r t c k =
     stepped h _ (standing (set (rows_of h) id (taken_row (get_or (rows_of h) id a_row)))) larvals _ _ (kept-get h _ (rows_of h) _ larvals caller id a_row (kept_now h table larvals references k) r.0 (sym r.1) refl refl)
-    (ap (λ tb. marked [] (change_at taken_row tb id)) k.marks ∙ (ap (marked []) (change_table taken_row (rows_of h) id a_row) ∙ table_taken (rows_of h) (map unreferred (rows_of h)) id a_row refl)) (references_get references h caller id k.owed)
+    (ap (λ tb. change_at taken_row tb id) k.marks ∙ (change_table taken_row (rows_of h) id a_row ∙ table_counted h taken_row id a_row (λ row. refl) (λ row. refl))) (references_get references h caller id k.owed)
 register_step h table larvals references (Get caller id false) r t c k =
     stays h table larvals references _ k (kept-no_get h _ (rows_of h) larvals caller id (kept_now h table larvals references k) r.0 (sym r.1) refl) (λ c i. refl) (λ c i. refl)
 register_step h table larvals references (Put caller id) r t c k =
     stepped h _ (standing (set (rows_of h) id (put_row_of (get_or (rows_of h) id a_row)))) larvals _ _ (kept-put h _ (rows_of h) _ larvals caller id a_row (kept_now h table larvals references k) r.0 r.1 refl refl)
-    (ap (λ tb. marked [] (change_at put_row_of tb id)) k.marks ∙ (ap (marked []) (change_table put_row_of (rows_of h) id a_row) ∙ table_put (rows_of h) (map unreferred (rows_of h)) id a_row refl)) (references_put references h caller id (and_parts (not (is_worker caller)) (list_any (is_of caller id) references) c).1 k.owed)
+    (ap (λ tb. change_at put_row_of tb id) k.marks ∙ (change_table put_row_of (rows_of h) id a_row ∙ table_counted h put_row_of id a_row (λ row. refl) (λ row. refl))) (references_put references h caller id (and_parts (not (is_worker caller)) (list_any (is_of caller id) references) c).1 k.owed)
 register_step h table larvals references (Refs caller driver) r t c k =
     stays h table larvals references _ k (kept-refs h _ (rows_of h) larvals caller driver (kept_now h table larvals references k) r refl) (λ c i. refl) (λ c i. refl)
 register_step h table larvals references (reg.List caller) r t c k =

@@ -1,7 +1,7 @@
 -- A light table of a registry: its entries with their marks, and without their references.
-use Rattle.std.proofs.Common.{◌≡◌, ℕ, ◌+◌, Bool, false, cond, ◌&&◌, ◌||◌, List, [], ◌∷◌, ◌++◌, length, map, Option, Some, None, get_or, refl, sym, ◌∙◌, ap}
+use Rattle.std.proofs.Common.{◌≡◌, ℕ, zero, suc, ◌+◌, Bool, false, not, cond, ◌&&◌, ◌||◌, List, [], ◌∷◌, ◌++◌, length, map, Option, Some, None, get_or, refl, sym, ◌∙◌, ap, append-nil, append_assoc}
 use Rattle.std.specs.Prelude.{slice_get, slice_set}
-use Rattle.std.specs.List.{list_any, position_from}
+use Rattle.std.specs.List.{list_any, list_all, position_from}
 use Rattle.std.specs.Option.{option_map, option_map_or}
 use Rattle.std.specs.Str.{bytes_eq}
 use Rattle.std.proofs.lemmas.List.{map-set, map-append, length-map}
@@ -12,11 +12,11 @@ use Rattle.alg_registry.specs.declared.row.Larval.{Larval}
 use Rattle.alg_registry.specs.declared.entry.RegEntry.{RegEntry}
 use Rattle.alg_registry.specs.Rows.{stays_listed, marked, counted, standing, listed_at, rows_of}
 use Rattle.alg_registry.specs.Answers.{may_find, answers_to, better, best_from, found_best, found_driver, look_answer, clashes_with, driver_place, held_count}
-use Rattle.alg_registry.specs.Calls.{new_row, put_row_of, unlisted_row, taken_row}
+use Rattle.alg_registry.specs.Calls.{new_row, unlisted_row}
 use Rattle.alg_registry.specs.Kept.{IsKept}
 use Rattle.trace_check.specs.Registers.{unreferred}
 use Rattle.alg_registry.proofs.Standing.{bare, marked-bare}
-use Rattle.alg_registry.proofs.Restanding.{mark, same_stays, standing-rows_of}
+use Rattle.alg_registry.proofs.Restanding.{Stands, mark, same_stays, same_push, stands-from, standing-rows_of}
 
 -- the marks of the entries, by what was done to each
 abbrev pub marks_of : List Row → List Row
@@ -72,11 +72,52 @@ table_set rows table change p d alike marks =
 pub table_unlisted : (rows table : List Row) (p : ℕ) (d : Row) → table ≡ map unreferred rows → marks_of (slice_set table p (unlisted_row (unreferred (get_or rows p d)))) ≡ map unreferred (standing (slice_set rows p (unlisted_row (get_or rows p d))))
 table_unlisted rows table p d marks = table_set rows table unlisted_row p d (λ row. refl) marks
 
-pub table_taken : (rows table : List Row) (p : ℕ) (d : Row) → table ≡ map unreferred rows → marks_of (slice_set table p (taken_row (unreferred (get_or rows p d)))) ≡ map unreferred (standing (slice_set rows p (taken_row (get_or rows p d))))
-table_taken rows table p d marks = table_set rows table taken_row p d (λ row. refl) marks
+-- A mark depends on what stands on what, and on what was unlisted: where references of an entry are taken or given back, marks stay.
+abbrev key : Row → Bool × Bool × List ℕ
+key row = (row.listed, row.unlisted, row.spec.below)
 
-pub table_put : (rows table : List Row) (p : ℕ) (d : Row) → table ≡ map unreferred rows → marks_of (slice_set table p (put_row_of (unreferred (get_or rows p d)))) ≡ map unreferred (standing (slice_set rows p (put_row_of (get_or rows p d))))
-table_put rows table p d marks = table_set rows table put_row_of p d (λ row. refl) marks
+abbrev IsMarked : List Row → List Row → Type 0
+IsMarked older [] = Unit {0}
+IsMarked older (row ∷ rows) = (row.listed ≡ stays_listed older row) × IsMarked (older ++ row ∷ []) rows
+
+marked-from : (older rows : List Row) → Stands older rows → IsMarked older rows
+marked-from older [] s = tt
+marked-from older (row ∷ rows) s = (s.0, marked-from (older ++ row ∷ []) rows s.2)
+
+marked-is : (older older' rows : List Row) → map mark older' ≡ map mark older → IsMarked older rows → marked older' rows ≡ older' ++ map unreferred rows
+marked-is older older' [] same m = sym (append-nil older')
+marked-is older older' (row ∷ rows) same m =
+    let e : stays_listed older' row ≡ row.listed = same_stays older older' row same ∙ sym m.0 in
+    let first : older' ++ record row { listed = stays_listed older' row; references = 0 } ∷ [] ≡ older' ++ unreferred row ∷ [] = λ i. older' ++ record row { listed = e i; references = 0 } ∷ [] in
+    ap (λ (o : List Row). marked o rows) first
+    ∙ (marked-is (older ++ row ∷ []) (older' ++ unreferred row ∷ []) rows (same_push older older' row (unreferred row) same refl) m.1
+    ∙ append_assoc older' (unreferred row ∷ []) (map unreferred rows))
+
+marked-alike : (older older' rows rows' : List Row) → map mark older' ≡ map mark older → map key rows' ≡ map key rows → IsMarked older rows → IsMarked older' rows'
+marked-alike older older' rows [] same keys m = tt
+marked-alike older older' [] (q ∷ qs) same keys m = cc
+marked-alike older older' (r ∷ rs) (q ∷ qs) same keys m =
+    let head : key q ≡ key r = cc in
+    let rest : map key qs ≡ map key rs = cc in
+    let listed : q.listed ≡ r.listed = ap (λ (k : Bool × Bool × List ℕ). k.0) head in (
+      listed ∙ (m.0 ∙ (sym (same_stays older older' r same) ∙ ap (λ (k : Bool × Bool × List ℕ). not k.1 && list_all (listed_at older') k.2) (sym head))),
+      marked-alike (older ++ r ∷ []) (older' ++ q ∷ []) rs qs (same_push older older' r q same listed) rest m.1,
+    )
+
+keys-set : (rows : List Row) (p : ℕ) (d x : Row) → key x ≡ key (get_or rows p d) → map key (slice_set rows p x) ≡ map key rows
+keys-set [] p d x e = refl
+keys-set (row ∷ rows) zero d x e = ap (λ k. k ∷ map key rows) e
+keys-set (row ∷ rows) (suc p) d x e = ap (λ ks. key row ∷ ks) (keys-set rows p d x e)
+
+pub table_counted : (h : List RegEntry) (change : Row → Row) (p : ℕ) (d : Row) → ((row : Row) → key (change row) ≡ key row) → ((row : Row) → unreferred (change row) ≡ change (unreferred row))
+    → slice_set (map unreferred (rows_of h)) p (change (unreferred (get_or (rows_of h) p d))) ≡ map unreferred (standing (slice_set (rows_of h) p (change (get_or (rows_of h) p d))))
+table_counted h change p d alike bare =
+    let rows = rows_of h in
+    let new = change (get_or rows p d) in
+    let stood : IsMarked [] rows = marked-from [] rows (stands-from rows (standing-rows_of h rows refl)) in
+    let stand : IsMarked [] (slice_set rows p new) = marked-alike [] [] rows (slice_set rows p new) refl (keys-set rows p d new (alike (get_or rows p d))) stood in
+    ap (λ r. slice_set (map unreferred rows) p r) (sym (bare (get_or rows p d)))
+    ∙ (sym (map-set unreferred rows p new) ∙ (sym (marked-is [] [] (slice_set rows p new) refl stand) ∙ sym (unreferred-standing (slice_set rows p new))))
 
 -- and so where one is added
 pub table_added : (rows table : List Row) (spec : Spec) → table ≡ map unreferred rows → marks_of (table ++ new_row spec ∷ []) ≡ map unreferred (standing (rows ++ new_row spec ∷ []))

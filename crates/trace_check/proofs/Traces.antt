@@ -9,13 +9,12 @@ use Rattle.board.specs.declared.entry.BoardEntry.{BoardEntry}
 use Rattle.trace_check.specs.declared.lines.Known.{Known}
 use Rattle.trace_check.specs.declared.lines.Event.TheVariants as event
 use Rattle.trace_text.specs.Text.{sentence, reg_words, board_words}
-use Rattle.trace_text.specs.Trace.{trace_of, has_text, fits, board_fits, is_event, is_visible, AreEvents}
+use Rattle.trace_text.specs.Trace.{trace_of, has_text, fits, board_fits, is_event, AreEvents}
 use Rattle.trace_check.specs.Lines.{line_of, IsLineOf}
 use Rattle.trace_check.specs.Verdicts.{IsTraceOf, HasFront}
 use Rattle.trace_check.specs.Reading.{IsOneLine, IsCut}
 use Rattle.trace_check.proofs.Numerals.{words_unlike, is_not}
-use Rattle.trace_check.proofs.LineWords.{registry_visible, plain_visible}
-use Rattle.trace_check.proofs.Guesses.{plain_of, plain_is}
+use Rattle.trace_check.proofs.LineWords.{registry_are, board_are}
 use Rattle.trace_check.proofs.Cuts.{fed, text_of, AreLines}
 
 pub record IsSoFar (text : List ℕ) (registry : List RegEntry) (board : List (BoardEntry Known)) (rest : List ℕ) (count : ℕ) : Type 0 where
@@ -65,13 +64,10 @@ joined_all p (word ∷ next ∷ words) s h =
 pub one_reg : (e : RegEntry) → is_event e ≡ true → IsOneLine (reg_line e)
 one_reg e k =
     let p = and_parts (has_text e) (fits e) k in
-    joined_all (is_not 10) (reg_words e) refl (words_unlike 10 (reg_words e) (omega arith) (let v = registry_visible e p.0 p.1 in v.all))
+    joined_all (is_not 10) (reg_words e) refl (words_unlike 10 (reg_words e) (omega arith) (let v = registry_are e p.0 p.1 in v.all))
 
 pub one_board : (e : BoardEntry Known) → board_fits line_of e ≡ true → IsOneLine (board_line e)
-one_board e k =
-    let i = plain_is e in
-    let v = plain_visible (plain_of e) (i.1 ∙ k) in
-    joined_all (is_not 10) (board_words line_of e) refl (words_unlike 10 (board_words line_of e) (omega arith) (subst (λ ws. list_all (list_all is_visible) ws ≡ true) i.0 v.all))
+one_board e k = joined_all (is_not 10) (board_words line_of e) refl (words_unlike 10 (board_words line_of e) (omega arith) (let v = board_are e k in v.all))
 
 all_lists : (p : List ℕ → Bool) (xs ys : List (List ℕ)) → list_all p xs ≡ true → list_all p ys ≡ true → list_all p (xs ++ ys) ≡ true
 all_lists p [] ys a b = b

@@ -1,9 +1,10 @@
 -- A loose reading of a line's words: of an event's own words it gives that event, and of other words anything. What it gives is
--- printed again and compared with the line, so that this reading decides nothing.
+-- printed again and compared with the line, so that this reading decides nothing, and no public clause rests on it.
 use Rattle.std.specs.Prelude.{ℕ, ◌+◌, ◌-◌, ◌*◌, ◌%◌, ◌^◌, Bool, ◌&&◌, ◌==◌, nat_lt, nat_le, if◌then◌else◌, List, [], ◌∷◌, map, codes, Option, Some, None, unwrap_or}
-use Rattle.std.specs.Fmt.{decimal}
 use Rattle.std.specs.List.{slice_split}
+use Rattle.std.specs.Option.{option_map}
 use Rattle.std.specs.Str.{bytes_eq}
+use Rattle.kc_base.specs.Errno.{name_of}
 use Rattle.kc_base.specs.declared.error_numbers.Errno.{Errno}
 use Rattle.kc_base.specs.declared.error_numbers.Errno.TheVariants.{ENOENT, E2BIG, EAGAIN, EBUSY, EEXIST, EINVAL, ENFILE, EMFILE, ENOSPC, ENAMETOOLONG, EBADMSG, EINPROGRESS, ENOKEY}
 use Rattle.alg_registry.specs.declared.spec.Kind.{Kind}
@@ -24,9 +25,13 @@ use Rattle.board.specs.declared.entry.Shape.{Shape}
 use Rattle.board.specs.declared.entry.Shape.TheVariants.{Pad, Queue, Chain}
 use Rattle.board.specs.declared.entry.Entered.{Entered}
 use Rattle.board.specs.declared.entry.Entered.TheVariants.{InProgress, Busy, NoSpace}
-use Rattle.trace_check.specs.declared.guessing.Plain.{Plain as PlainEvent}
-use Rattle.trace_check.specs.declared.guessing.Plain.TheVariants as says
-use Rattle.trace_text.specs.Text.{shape_words, backlog_word, entered_words, started_words, mask_word}
+use Rattle.board.specs.declared.entry.BoardEntry.{BoardEntry}
+use Rattle.board.specs.declared.entry.BoardEntry.TheVariants as says
+use Rattle.trace_check.specs.declared.lines.Known.{Known}
+use Rattle.trace_check.specs.declared.lines.Event.{Event}
+use Rattle.trace_check.specs.declared.lines.Event.TheVariants as event
+use Rattle.trace_check.specs.Known.{ask_of}
+use Rattle.trace_text.specs.Text.{kind_word, wrap_word}
 
 -- a number with one digit more, where it stays below 2^64
 abbrev pub digit_after : ℕ → ℕ → Option ℕ
@@ -54,21 +59,20 @@ is_comma b = b == 44
 abbrev pub ids_of : List ℕ → List ℕ
 ids_of word = if bytes_eq word (codes "-") then [] else map number_of (slice_split is_comma word)
 
+-- the first of these whose word this is, and another where it is none's
+abbrev pub first_named : {X : Type 0} → (X → List ℕ) → List X → X → List ℕ → X
+first_named name [] other word = other
+first_named name (x ∷ xs) other word = if bytes_eq word (name x) then x else first_named name xs other word
+
 abbrev pub kind_of : List ℕ → Kind
-kind_of word =
-    if bytes_eq word (codes "cipher") then Cipher else if bytes_eq word (codes "hash") then Hash else if bytes_eq word (codes "ghash") then Ghash
-    else if bytes_eq word (codes "skcipher") then Skcipher else if bytes_eq word (codes "aead") then Aead else Mac
+kind_of word = first_named kind_word (Cipher ∷ Hash ∷ Ghash ∷ Skcipher ∷ Aead ∷ []) Mac word
 
 abbrev pub wrap_of : List ℕ → Wrap
-wrap_of word = if bytes_eq word (codes "plain") then Plain else if bytes_eq word (codes "pcrypt") then Pcrypt else Cryptd
+wrap_of word = first_named wrap_word (Plain ∷ Pcrypt ∷ []) Cryptd word
 
 abbrev pub errno_of : List ℕ → Errno
 errno_of word =
-    if bytes_eq word (codes "ENOENT") then ENOENT else if bytes_eq word (codes "E2BIG") then E2BIG else if bytes_eq word (codes "EAGAIN") then EAGAIN
-    else if bytes_eq word (codes "EBUSY") then EBUSY else if bytes_eq word (codes "EEXIST") then EEXIST else if bytes_eq word (codes "EINVAL") then EINVAL
-    else if bytes_eq word (codes "ENFILE") then ENFILE else if bytes_eq word (codes "EMFILE") then EMFILE else if bytes_eq word (codes "ENOSPC") then ENOSPC
-    else if bytes_eq word (codes "ENAMETOOLONG") then ENAMETOOLONG else if bytes_eq word (codes "EBADMSG") then EBADMSG
-    else if bytes_eq word (codes "EINPROGRESS") then EINPROGRESS else ENOKEY
+    first_named name_of (ENOENT ∷ E2BIG ∷ EAGAIN ∷ EBUSY ∷ EEXIST ∷ EINVAL ∷ ENFILE ∷ EMFILE ∷ ENOSPC ∷ ENAMETOOLONG ∷ EBADMSG ∷ EINPROGRESS ∷ []) ENOKEY word
 
 -- A registry's events: their words behind the caller and the event's name.
 abbrev pub enlisted_of : List (List ℕ) → Enlisted
@@ -141,65 +145,66 @@ abbrev pub refs_of : ℕ → List (List ℕ) → Option RegEntry
 refs_of caller (driver ∷ []) = Some (Refs caller driver)
 refs_of caller other = None
 
--- an event of one number
-abbrev pub numbered_of : (ℕ → RegEntry) → List (List ℕ) → Option RegEntry
-numbered_of event (number ∷ []) = Some (event (number_of number))
-numbered_of event other = None
+-- one number, and two
+abbrev pub lone_number : List (List ℕ) → Option ℕ
+lone_number (number ∷ []) = Some (number_of number)
+lone_number other = None
+
+abbrev pub pair_in : List (List ℕ) → Option (ℕ × ℕ)
+pair_in (first ∷ second ∷ []) = Some (number_of first, number_of second)
+pair_in other = None
+
+abbrev pub numbered_of : ℕ → List ℕ → Option ℕ → Option RegEntry
+numbered_of caller name None = None
+numbered_of caller name (Some number) =
+    if bytes_eq name (codes "claim") then Some (Claim caller number)
+    else if bytes_eq name (codes "waited") then Some (Waited caller number)
+    else if bytes_eq name (codes "put") then Some (Put caller number)
+    else None
 
 abbrev pub registry_of : ℕ → List ℕ → List (List ℕ) → Option RegEntry
 registry_of caller name args =
     if bytes_eq name (codes "enlist") then enlist_of caller args
     else if bytes_eq name (codes "look") then look_of caller args
-    else if bytes_eq name (codes "claim") then numbered_of (Claim caller) args
     else if bytes_eq name (codes "end") then end_of caller args
-    else if bytes_eq name (codes "waited") then numbered_of (Waited caller) args
     else if bytes_eq name (codes "unlist") then unlist_of caller args
     else if bytes_eq name (codes "get") then get_of caller args
-    else if bytes_eq name (codes "put") then numbered_of (Put caller) args
     else if bytes_eq name (codes "refs") then refs_of caller args
     else if bytes_eq name (codes "list") then Some (reg.List caller)
-    else None
+    else numbered_of caller name (lone_number args)
 
 -- A board's events, in the same way.
 abbrev pub shape_of : List ℕ → ℕ → Shape
 shape_of word size = if bytes_eq word (codes "pad") then Pad size else Queue size
 
-abbrev pub born_of : ℕ → List (List ℕ) → Option PlainEvent
+abbrev pub born_of : ℕ → List (List ℕ) → Option (BoardEntry Known)
 born_of caller (pipe ∷ word ∷ size ∷ []) = Some (says.Born caller (number_of pipe) (shape_of word (small_of size)))
 born_of caller (pipe ∷ word ∷ max ∷ lists ∷ []) = Some (says.Born caller (number_of pipe) (Chain (small_of max) (small_of lists)))
 born_of caller other = None
 
-abbrev pub submit_of : ℕ → List (List ℕ) → Option PlainEvent
-submit_of caller (pipe ∷ number ∷ line ∷ []) = Some (says.Submit caller (number_of pipe) (number_of number) (small_of line))
+abbrev pub submit_of : ℕ → List (List ℕ) → Option (BoardEntry Known)
+submit_of caller (pipe ∷ number ∷ line ∷ []) = Some (says.Submit caller (number_of pipe) (number_of number) (ask_of (small_of line)))
 submit_of caller other = None
 
 abbrev pub entered_of : List (List ℕ) → Entered
 entered_of (word ∷ number ∷ []) = if bytes_eq word (codes "EBUSY") then Busy (number_of number) else InProgress (number_of number)
 entered_of other = NoSpace
 
-abbrev pub enq_of : ℕ → List (List ℕ) → Option PlainEvent
+abbrev pub enq_of : ℕ → List (List ℕ) → Option (BoardEntry Known)
 enq_of caller (pipe ∷ line ∷ backlog ∷ answer) =
-    Some (says.Enq caller (number_of pipe) (small_of line) (bytes_eq backlog (codes "backlog")) (entered_of answer))
+    Some (says.Enq caller (number_of pipe) (ask_of (small_of line)) (bytes_eq backlog (codes "backlog")) (entered_of answer))
 enq_of caller other = None
 
 abbrev pub started_of : List (List ℕ) → Option ℕ
 started_of (word ∷ number ∷ []) = Some (number_of number)
 started_of other = None
 
-abbrev pub deq_of : ℕ → List (List ℕ) → Option PlainEvent
+abbrev pub deq_of : ℕ → List (List ℕ) → Option (BoardEntry Known)
 deq_of caller (pipe ∷ number ∷ answer) = Some (says.Deq caller (number_of pipe) (number_of number) (started_of answer))
 deq_of caller other = None
 
--- an event of a pipeline, and one of a pipeline and a number
-abbrev pub pipe_in : List (List ℕ) → Option ℕ
-pipe_in (pipe ∷ []) = Some (number_of pipe)
-pipe_in other = None
-
-abbrev pub pair_in : List (List ℕ) → Option (ℕ × ℕ)
-pair_in (pipe ∷ number ∷ []) = Some (number_of pipe, number_of number)
-pair_in other = None
-
-abbrev pub counted_of : ℕ → List ℕ → ℕ → ℕ → Option PlainEvent
+-- an event of a pipeline and a number, and one of a pipeline
+abbrev pub counted_of : ℕ → List ℕ → ℕ → ℕ → Option (BoardEntry Known)
 counted_of caller name pipe number =
     if bytes_eq name (codes "take") then Some (says.Take caller pipe number)
     else if bytes_eq name (codes "finish") then Some (says.Finish caller pipe number)
@@ -207,7 +212,7 @@ counted_of caller name pipe number =
     else if bytes_eq name (codes "collect") then Some (says.Collect caller pipe number)
     else None
 
-abbrev pub piped_of : ℕ → List ℕ → ℕ → Option PlainEvent
+abbrev pub piped_of : ℕ → List ℕ → ℕ → Option (BoardEntry Known)
 piped_of caller name pipe =
     if bytes_eq name (codes "hold") then Some (says.Hold caller pipe)
     else if bytes_eq name (codes "go") then Some (says.Go caller pipe)
@@ -215,16 +220,10 @@ piped_of caller name pipe =
     else if bytes_eq name (codes "share") then Some (says.Share caller pipe)
     else None
 
-abbrev pub pair_of : ℕ → List ℕ → Option (ℕ × ℕ) → Option PlainEvent
-pair_of caller name (Some pair) = counted_of caller name pair.0 pair.1
-pair_of caller name None = None
-
-abbrev pub lone_or_pair : ℕ → List ℕ → List (List ℕ) → Option ℕ → Option PlainEvent
-lone_or_pair caller name args (Some pipe) = piped_of caller name pipe
-lone_or_pair caller name args None = pair_of caller name (pair_in args)
-
-abbrev pub short_of : ℕ → List ℕ → List (List ℕ) → Option PlainEvent
-short_of caller name args = lone_or_pair caller name args (pipe_in args)
+abbrev pub short_of : ℕ → List ℕ → Option ℕ → Option (ℕ × ℕ) → Option (BoardEntry Known)
+short_of caller name (Some pipe) pair = piped_of caller name pipe
+short_of caller name None (Some pair) = counted_of caller name pair.0 pair.1
+short_of caller name None None = None
 
 -- the number that a hexadecimal digit writes
 abbrev pub hex_value : ℕ → ℕ
@@ -234,11 +233,11 @@ abbrev pub mask_in : List ℕ → ℕ
 mask_in (a ∷ b ∷ c ∷ d ∷ []) = hex_value a * 4096 + hex_value b * 256 + hex_value c * 16 + hex_value d
 mask_in other = 0
 
-abbrev pub mask_of : ℕ → List (List ℕ) → Option PlainEvent
+abbrev pub mask_of : ℕ → List (List ℕ) → Option (BoardEntry Known)
 mask_of caller (pipe ∷ mask ∷ []) = Some (says.Mask caller (number_of pipe) (mask_in mask))
 mask_of caller other = None
 
-abbrev pub board_of : ℕ → List ℕ → List (List ℕ) → Option PlainEvent
+abbrev pub board_of : ℕ → List ℕ → List (List ℕ) → Option (BoardEntry Known)
 board_of caller name args =
     if bytes_eq name (codes "born") then born_of caller args
     else if bytes_eq name (codes "submit") then submit_of caller args
@@ -246,22 +245,11 @@ board_of caller name args =
     else if bytes_eq name (codes "deq") then deq_of caller args
     else if bytes_eq name (codes "mask") then mask_of caller args
     else if bytes_eq name (codes "shut") then Some (says.Shut caller)
-    else short_of caller name args
+    else short_of caller name (lone_number args) (pair_in args)
 
--- the words of such an event
-abbrev pub plain_words : PlainEvent → List (List ℕ)
-plain_words (says.Born caller pipe shape) = codes "b" ∷ decimal caller ∷ codes "born" ∷ decimal pipe ∷ shape_words shape
-plain_words (says.Submit caller pipe number line) = codes "b" ∷ decimal caller ∷ codes "submit" ∷ decimal pipe ∷ decimal number ∷ decimal line ∷ []
-plain_words (says.Take caller pipe number) = codes "b" ∷ decimal caller ∷ codes "take" ∷ decimal pipe ∷ decimal number ∷ []
-plain_words (says.Finish caller pipe number) = codes "b" ∷ decimal caller ∷ codes "finish" ∷ decimal pipe ∷ decimal number ∷ []
-plain_words (says.Enq caller pipe line backlog answer) =
-    codes "b" ∷ decimal caller ∷ codes "enq" ∷ decimal pipe ∷ decimal line ∷ backlog_word backlog ∷ entered_words answer
-plain_words (says.Deq caller pipe number started) = codes "b" ∷ decimal caller ∷ codes "deq" ∷ decimal pipe ∷ decimal number ∷ started_words started
-plain_words (says.Done caller pipe number) = codes "b" ∷ decimal caller ∷ codes "done" ∷ decimal pipe ∷ decimal number ∷ []
-plain_words (says.Hold caller pipe) = codes "b" ∷ decimal caller ∷ codes "hold" ∷ decimal pipe ∷ []
-plain_words (says.Go caller pipe) = codes "b" ∷ decimal caller ∷ codes "go" ∷ decimal pipe ∷ []
-plain_words (says.Collect caller pipe to) = codes "b" ∷ decimal caller ∷ codes "collect" ∷ decimal pipe ∷ decimal to ∷ []
-plain_words (says.Close caller pipe) = codes "b" ∷ decimal caller ∷ codes "close" ∷ decimal pipe ∷ []
-plain_words (says.Share caller pipe) = codes "b" ∷ decimal caller ∷ codes "share" ∷ decimal pipe ∷ []
-plain_words (says.Mask caller pipe mask) = codes "b" ∷ decimal caller ∷ codes "mask" ∷ decimal pipe ∷ mask_word mask ∷ []
-plain_words (says.Shut caller) = codes "b" ∷ decimal caller ∷ codes "shut" ∷ []
+-- the event of these words
+abbrev pub event_in : List (List ℕ) → Option Event
+event_in (kind ∷ caller ∷ name ∷ args) =
+    if bytes_eq kind (codes "r") then option_map event.Registry (registry_of (small_of caller) name args)
+    else option_map event.Board (board_of (small_of caller) name args)
+event_in other = None

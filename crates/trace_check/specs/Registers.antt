@@ -163,13 +163,13 @@ change_at f [] p = []
 change_at f (x ∷ xs) zero = f x ∷ xs
 change_at f (x ∷ xs) (suc p) = x ∷ change_at f xs p
 
--- the entries after a right event, all marked again where one was changed or added
+-- the entries after a right event, all marked again where one was added or unlisted
 abbrev pub table_after : List Row → RegEntry → List Row
 table_after table (Enlist caller spec (Made id)) = marked [] (table ++ new_row spec ∷ [])
 table_after table (End caller larval (Built id spec)) = marked [] (table ++ new_row spec ∷ [])
 table_after table (Unlist caller driver (Some id)) = marked [] (change_at unlisted_row table id)
-table_after table (Get caller id true) = marked [] (change_at taken_row table id)
-table_after table (Put caller id) = marked [] (change_at put_row_of table id)
+table_after table (Get caller id true) = change_at taken_row table id
+table_after table (Put caller id) = change_at put_row_of table id
 table_after table _ = table
 
 abbrev pub new_larval : List ℕ → Larval

@@ -43,7 +43,7 @@ fn put_entry(entries: &mut [Entry], id: u64)
     }
 }
 
-/// Goes on by the entries. All marks are made again where one was changed or added.
+/// Goes on by the entries. All marks are made again where one was added or unlisted.
 pub(crate) fn advance_entries(
     alloc: Global,
     entries: &mut Vec<Entry>,
@@ -69,14 +69,8 @@ pub(crate) fn advance_entries(
             unlist_entry(entries, *id);
             mark_all(entries);
         }
-        RegEntry::Get { id, ok: true, .. } => {
-            take_entry(entries, *id);
-            mark_all(entries);
-        }
-        RegEntry::Put { id, .. } => {
-            put_entry(entries, *id);
-            mark_all(entries);
-        }
+        RegEntry::Get { id, ok: true, .. } => take_entry(entries, *id),
+        RegEntry::Put { id, .. } => put_entry(entries, *id),
         _ => {}
     }
     Ok(())

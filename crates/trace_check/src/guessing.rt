@@ -2,87 +2,18 @@
 
 ghost use Rattle.std.specs.Prelude.{◌≡◌, ◌<◌, ◌==◌, Some, map, IfOk};
 ghost use Rattle.std.specs.List.{slice_split};
+ghost use Rattle.std.specs.Option.{option_map};
 ghost use Rattle.std.specs.Str.{bytes_eq};
 ghost use Rattle.alg_registry.specs.declared.entry.RegEntry.TheVariants as Entry;
-ghost use Rattle.trace_check.specs.Guessing.{digit_after, number_from, number_of, small_of, ids_of, kind_of, wrap_of, errno_of, enlisted_of, plain_spec, enlist_of, looked_of, look_of, spec_of, built_of, joined_of, failed_of, ending_of, end_of, unlist_of, get_of, refs_of, numbered_of, registry_of, shape_of, born_of, submit_of, entered_of, enq_of, started_of, deq_of, hex_value, mask_in, mask_of, pipe_in, pair_in, counted_of, piped_of, short_of, board_of};
+ghost use Rattle.trace_check.specs.Known.{unplaced};
+ghost use Rattle.trace_check.specs.Guessing.{digit_after, number_from, number_of, small_of, ids_of, kind_of, wrap_of, errno_of, enlisted_of, plain_spec, enlist_of, looked_of, look_of, spec_of, built_of, joined_of, failed_of, ending_of, end_of, unlist_of, get_of, refs_of, lone_number, pair_in, numbered_of, registry_of, shape_of, born_of, submit_of, entered_of, enq_of, started_of, deq_of, hex_value, mask_in, mask_of, counted_of, piped_of, short_of, board_of};
 
+use crate::lines::Known;
 use alg_registry::{EndAnswer, Enlisted, Ids, Kind, Looked, RegEntry, Spec, Wrap};
-use board::{Entered, Shape};
+use board::{BoardEntry, Entered, Shape};
 use kc_base::{Bytes, Errno};
 use std::alloc::{AllocError, Global};
-
-/// A board's event as a trace has it, with the line of an ask in its place.
-#[derive(Clone, Copy)]
-pub(crate) enum Plain {
-    Born {
-        caller: u32,
-        pipe: u64,
-        shape: Shape,
-    },
-    Submit {
-        caller: u32,
-        pipe: u64,
-        number: u64,
-        line: u32,
-    },
-    Take {
-        caller: u32,
-        pipe: u64,
-        number: u64,
-    },
-    Finish {
-        caller: u32,
-        pipe: u64,
-        number: u64,
-    },
-    Enq {
-        caller: u32,
-        pipe: u64,
-        line: u32,
-        backlog: bool,
-        answer: Entered,
-    },
-    Deq {
-        caller: u32,
-        pipe: u64,
-        number: u64,
-        started: Option<u64>,
-    },
-    Done {
-        caller: u32,
-        pipe: u64,
-        number: u64,
-    },
-    Hold {
-        caller: u32,
-        pipe: u64,
-    },
-    Go {
-        caller: u32,
-        pipe: u64,
-    },
-    Collect {
-        caller: u32,
-        pipe: u64,
-        to: u64,
-    },
-    Close {
-        caller: u32,
-        pipe: u64,
-    },
-    Share {
-        caller: u32,
-        pipe: u64,
-    },
-    Mask {
-        caller: u32,
-        pipe: u64,
-        mask: u16,
-    },
-    Shut {
-        caller: u32,
-    },
-}
+use std::sync::Arc;
 
 pub(crate) fn is_word(word: &[u8], name: &[u8]) -> bool
     ensures { result ≡ bytes_eq word.now name.now }
@@ -421,39 +352,44 @@ fn refs_of(alloc: Global, caller: u32, words: &[&[u8]]) -> Result<Option<RegEntr
     }
 }
 
-fn claim_of(caller: u32, words: &[&[u8]]) -> Option<RegEntry>
-    ensures { result ≡ numbered_of (Entry.Claim caller) (map (λ word. word.now) words.now) }
+// The number that these words are, where they are one.
+fn lone_number(words: &[&[u8]]) -> Option<u64>
+    ensures { result ≡ lone_number (map (λ word. word.now) words.now) }
 {
     match words {
-        [larval] => Some(RegEntry::Claim {
-            caller,
-            larval: number_of(larval),
-        }),
+        [number] => Some(number_of(number)),
         _ => None,
     }
 }
 
-fn waited_of(caller: u32, words: &[&[u8]]) -> Option<RegEntry>
-    ensures { result ≡ numbered_of (Entry.Waited caller) (map (λ word. word.now) words.now) }
+// And the two that they are.
+fn pair_in(words: &[&[u8]]) -> Option<(u64, u64)>
+    ensures { result ≡ pair_in (map (λ word. word.now) words.now) }
 {
     match words {
-        [larval] => Some(RegEntry::Waited {
-            caller,
-            larval: number_of(larval),
-        }),
+        [first, second] => Some((number_of(first), number_of(second))),
         _ => None,
     }
 }
 
-fn put_of(caller: u32, words: &[&[u8]]) -> Option<RegEntry>
-    ensures { result ≡ numbered_of (Entry.Put caller) (map (λ word. word.now) words.now) }
+fn numbered_of(caller: u32, name: &[u8], number: Option<u64>) -> Option<RegEntry>
+    ensures { result ≡ numbered_of caller name.now number }
 {
-    match words {
-        [id] => Some(RegEntry::Put {
+    let number = number?;
+    if is_word(name, b"claim") {
+        Some(RegEntry::Claim {
             caller,
-            id: number_of(id),
-        }),
-        _ => None,
+            larval: number,
+        })
+    } else if is_word(name, b"waited") {
+        Some(RegEntry::Waited {
+            caller,
+            larval: number,
+        })
+    } else if is_word(name, b"put") {
+        Some(RegEntry::Put { caller, id: number })
+    } else {
+        None
     }
 }
 
@@ -470,24 +406,18 @@ pub(crate) fn registry_of(
         enlist_of(alloc, caller, words)
     } else if is_word(name, b"look") {
         look_of(alloc, caller, words)
-    } else if is_word(name, b"claim") {
-        Ok(claim_of(caller, words))
     } else if is_word(name, b"end") {
         end_of(alloc, caller, words)
-    } else if is_word(name, b"waited") {
-        Ok(waited_of(caller, words))
     } else if is_word(name, b"unlist") {
         unlist_of(alloc, caller, words)
     } else if is_word(name, b"get") {
         Ok(get_of(caller, words))
-    } else if is_word(name, b"put") {
-        Ok(put_of(caller, words))
     } else if is_word(name, b"refs") {
         refs_of(alloc, caller, words)
     } else if is_word(name, b"list") {
         Ok(Some(RegEntry::List { caller }))
     } else {
-        Ok(None)
+        Ok(numbered_of(caller, name, lone_number(words)))
     }
 }
 
@@ -501,16 +431,16 @@ fn shape_of(word: &[u8], size: u32) -> Shape
     }
 }
 
-fn born_of(caller: u32, words: &[&[u8]]) -> Option<Plain>
-    ensures { result ≡ born_of caller (map (λ word. word.now) words.now) }
+fn born_of(caller: u32, words: &[&[u8]]) -> Option<BoardEntry<Known>>
+    ensures { option_map unplaced result ≡ born_of caller (map (λ word. word.now) words.now) }
 {
     match words {
-        [pipe, word, size] => Some(Plain::Born {
+        [pipe, word, size] => Some(BoardEntry::Born {
             caller,
             pipe: number_of(pipe),
             shape: shape_of(word, small_of(size)),
         }),
-        [pipe, _word, max, lists] => Some(Plain::Born {
+        [pipe, _word, max, lists] => Some(BoardEntry::Born {
             caller,
             pipe: number_of(pipe),
             shape: Shape::Chain(small_of(max), small_of(lists)),
@@ -519,18 +449,24 @@ fn born_of(caller: u32, words: &[&[u8]]) -> Option<Plain>
     }
 }
 
-fn submit_of(caller: u32, words: &[&[u8]]) -> Option<Plain>
-    ensures { result ≡ submit_of caller (map (λ word. word.now) words.now) }
+fn submit_of(
+    alloc: Global,
+    caller: u32,
+    words: &[&[u8]],
+) -> Result<Option<BoardEntry<Known>>, AllocError>
+    ensures { IfOk result (λ event. option_map unplaced event ≡ submit_of caller (map (λ word. word.now) words.now)) }
 {
-    match words {
-        [pipe, number, line] => Some(Plain::Submit {
-            caller,
-            pipe: number_of(pipe),
-            number: number_of(number),
-            line: small_of(line),
-        }),
-        _ => None,
-    }
+    let [pipe, number, line] = words else {
+        return Ok(None);
+    };
+    let line = small_of(line);
+    let ask = Arc::new(alloc, Known { line })?;
+    Ok(Some(BoardEntry::Submit {
+        caller,
+        pipe: number_of(pipe),
+        number: number_of(number),
+        ask,
+    }))
 }
 
 fn entered_of(words: &[&[u8]]) -> Entered
@@ -543,19 +479,25 @@ fn entered_of(words: &[&[u8]]) -> Entered
     }
 }
 
-fn enq_of(caller: u32, words: &[&[u8]]) -> Option<Plain>
-    ensures { result ≡ enq_of caller (map (λ word. word.now) words.now) }
+fn enq_of(
+    alloc: Global,
+    caller: u32,
+    words: &[&[u8]],
+) -> Result<Option<BoardEntry<Known>>, AllocError>
+    ensures { IfOk result (λ event. option_map unplaced event ≡ enq_of caller (map (λ word. word.now) words.now)) }
 {
-    match words {
-        [pipe, line, backlog, answer @ ..] => Some(Plain::Enq {
-            caller,
-            pipe: number_of(pipe),
-            line: small_of(line),
-            backlog: is_word(backlog, b"backlog"),
-            answer: entered_of(answer),
-        }),
-        _ => None,
-    }
+    let [pipe, line, backlog, answer @ ..] = words else {
+        return Ok(None);
+    };
+    let line = small_of(line);
+    let ask = Arc::new(alloc, Known { line })?;
+    Ok(Some(BoardEntry::Enq {
+        caller,
+        pipe: number_of(pipe),
+        ask,
+        backlog: is_word(backlog, b"backlog"),
+        answer: entered_of(answer),
+    }))
 }
 
 fn started_of(words: &[&[u8]]) -> Option<u64>
@@ -567,11 +509,11 @@ fn started_of(words: &[&[u8]]) -> Option<u64>
     }
 }
 
-fn deq_of(caller: u32, words: &[&[u8]]) -> Option<Plain>
-    ensures { result ≡ deq_of caller (map (λ word. word.now) words.now) }
+fn deq_of(caller: u32, words: &[&[u8]]) -> Option<BoardEntry<Known>>
+    ensures { option_map unplaced result ≡ deq_of caller (map (λ word. word.now) words.now) }
 {
     match words {
-        [pipe, number, answer @ ..] => Some(Plain::Deq {
+        [pipe, number, answer @ ..] => Some(BoardEntry::Deq {
             caller,
             pipe: number_of(pipe),
             number: number_of(number),
@@ -605,11 +547,11 @@ fn mask_in(word: &[u8]) -> u16
     }
 }
 
-fn mask_of(caller: u32, words: &[&[u8]]) -> Option<Plain>
-    ensures { result ≡ mask_of caller (map (λ word. word.now) words.now) }
+fn mask_of(caller: u32, words: &[&[u8]]) -> Option<BoardEntry<Known>>
+    ensures { option_map unplaced result ≡ mask_of caller (map (λ word. word.now) words.now) }
 {
     match words {
-        [pipe, mask] => Some(Plain::Mask {
+        [pipe, mask] => Some(BoardEntry::Mask {
             caller,
             pipe: number_of(pipe),
             mask: mask_in(mask),
@@ -618,49 +560,29 @@ fn mask_of(caller: u32, words: &[&[u8]]) -> Option<Plain>
     }
 }
 
-// The words of an event of a pipeline.
-fn pipe_in(words: &[&[u8]]) -> Option<u64>
-    ensures { result ≡ pipe_in (map (λ word. word.now) words.now) }
-{
-    match words {
-        [pipe] => Some(number_of(pipe)),
-        _ => None,
-    }
-}
-
-// And of one with a number.
-fn pair_in(words: &[&[u8]]) -> Option<(u64, u64)>
-    ensures { result ≡ pair_in (map (λ word. word.now) words.now) }
-{
-    match words {
-        [pipe, number] => Some((number_of(pipe), number_of(number))),
-        _ => None,
-    }
-}
-
-fn counted_of(caller: u32, name: &[u8], pipe: u64, number: u64) -> Option<Plain>
-    ensures { result ≡ counted_of caller name.now pipe number }
+fn counted_of(caller: u32, name: &[u8], pipe: u64, number: u64) -> Option<BoardEntry<Known>>
+    ensures { option_map unplaced result ≡ counted_of caller name.now pipe number }
 {
     if is_word(name, b"take") {
-        Some(Plain::Take {
+        Some(BoardEntry::Take {
             caller,
             pipe,
             number,
         })
     } else if is_word(name, b"finish") {
-        Some(Plain::Finish {
+        Some(BoardEntry::Finish {
             caller,
             pipe,
             number,
         })
     } else if is_word(name, b"done") {
-        Some(Plain::Done {
+        Some(BoardEntry::Done {
             caller,
             pipe,
             number,
         })
     } else if is_word(name, b"collect") {
-        Some(Plain::Collect {
+        Some(BoardEntry::Collect {
             caller,
             pipe,
             to: number,
@@ -670,52 +592,60 @@ fn counted_of(caller: u32, name: &[u8], pipe: u64, number: u64) -> Option<Plain>
     }
 }
 
-fn piped_of(caller: u32, name: &[u8], pipe: u64) -> Option<Plain>
-    ensures { result ≡ piped_of caller name.now pipe }
+fn piped_of(caller: u32, name: &[u8], pipe: u64) -> Option<BoardEntry<Known>>
+    ensures { option_map unplaced result ≡ piped_of caller name.now pipe }
 {
     if is_word(name, b"hold") {
-        Some(Plain::Hold { caller, pipe })
+        Some(BoardEntry::Hold { caller, pipe })
     } else if is_word(name, b"go") {
-        Some(Plain::Go { caller, pipe })
+        Some(BoardEntry::Go { caller, pipe })
     } else if is_word(name, b"close") {
-        Some(Plain::Close { caller, pipe })
+        Some(BoardEntry::Close { caller, pipe })
     } else if is_word(name, b"share") {
-        Some(Plain::Share { caller, pipe })
+        Some(BoardEntry::Share { caller, pipe })
     } else {
         None
     }
 }
 
 // An event of a pipeline alone, or of a pipeline and a number.
-fn short_of(caller: u32, name: &[u8], words: &[&[u8]]) -> Option<Plain>
-    ensures { result ≡ short_of caller name.now (map (λ word. word.now) words.now) }
+fn short_of(
+    caller: u32,
+    name: &[u8],
+    lone: Option<u64>,
+    pair: Option<(u64, u64)>,
+) -> Option<BoardEntry<Known>>
+    ensures { option_map unplaced result ≡ short_of caller name.now lone pair }
 {
-    match pipe_in(words) {
-        Some(pipe) => piped_of(caller, name, pipe),
-        None => match pair_in(words) {
-            Some((pipe, number)) => counted_of(caller, name, pipe, number),
-            None => None,
-        },
+    match (lone, pair) {
+        (Some(pipe), _) => piped_of(caller, name, pipe),
+        (None, Some((pipe, number))) => counted_of(caller, name, pipe, number),
+        (None, None) => None,
     }
 }
 
 /// The board's event of this name, with these words.
-pub(crate) fn board_of(caller: u32, name: &[u8], words: &[&[u8]]) -> Option<Plain>
-    ensures { result ≡ board_of caller name.now (map (λ word. word.now) words.now) }
+pub(crate) fn board_of(
+    alloc: Global,
+    caller: u32,
+    name: &[u8],
+    words: &[&[u8]],
+) -> Result<Option<BoardEntry<Known>>, AllocError>
+    ensures { IfOk result (λ event. option_map unplaced event ≡ board_of caller name.now (map (λ word. word.now) words.now)) }
 {
     if is_word(name, b"born") {
-        born_of(caller, words)
+        Ok(born_of(caller, words))
     } else if is_word(name, b"submit") {
-        submit_of(caller, words)
+        submit_of(alloc, caller, words)
     } else if is_word(name, b"enq") {
-        enq_of(caller, words)
+        enq_of(alloc, caller, words)
     } else if is_word(name, b"deq") {
-        deq_of(caller, words)
+        Ok(deq_of(caller, words))
     } else if is_word(name, b"mask") {
-        mask_of(caller, words)
+        Ok(mask_of(caller, words))
     } else if is_word(name, b"shut") {
-        Some(Plain::Shut { caller })
+        Ok(Some(BoardEntry::Shut { caller }))
     } else {
-        short_of(caller, name, words)
+        Ok(short_of(caller, name, lone_number(words), pair_in(words)))
     }
 }

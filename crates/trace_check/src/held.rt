@@ -12,7 +12,8 @@ use std::alloc::{AllocError, Global};
 /// How many entries may be held.
 const MAX_HELD: usize = 4096;
 
-fn mark_ids(marks: &mut Vec<bool>, ids: &[u64])
+/// Marks the places of these ids.
+pub(crate) fn mark_ids(marks: &mut Vec<bool>, ids: &[u64])
     ensures { AreMarked marks.old.items marks.new.items ids.now }
 {
     for id in ids {

@@ -1,9 +1,10 @@
 //! What the checker keeps of one pipeline.
 
-ghost use Rattle.std.specs.Prelude.{◌≡◌, ◌+◌, ◌<◌, ◌≤◌, ◌^◌, not, ◌&&◌, if◌then◌else◌, length, slice_set, drop, true, false, OnOk, IfOk};
+ghost use Rattle.std.specs.Prelude.{◌≡◌, ◌+◌, ◌≤◌, ◌&&◌, nat_lt, if◌then◌else◌, length, slice_set, drop, true, OnOk};
 ghost use Rattle.board.specs.Shapes.{is_pad, has_line, has_lists, is_serial, bound_of, lists_of};
-ghost use Rattle.trace_check.specs.Pipes.{state_of, new_pipe, full_mask, are_lists, is_shape, is_open_as, waits, runs, runs_by, has_ended, passes, backlog_of, passed_by, starts_by, may_serve, may_close, is_worker, may_manage, may_submit, is_masked, may_take, has_bits, same_number, is_numbered, is_answered, has_state, has_caller, has_number, has_answer, ended_run, notices_in, with_request, with_entered, with_taken, with_ended, with_dequeued, with_finished, with_done, after, CanCount};
+ghost use Rattle.trace_check.specs.Pipes.{state_of, new_pipe, full_mask, are_lists, is_shape, is_open_as, waits, runs, runs_by, has_ended, passes, backlog_of, passed_by, starts_by, may_serve, may_close, is_worker, may_manage, may_submit, is_masked, may_take, has_bits, same_number, is_numbered, is_answered, reason_of, judged_on, ended_run, notices_in, with_request, with_entered, with_taken, with_ended, with_dequeued, with_finished, with_done, after, CanCount};
 
+use crate::reason::{Reason, reason_of};
 use board::{BoardEntry, Entered, Shape};
 use std::alloc::{AllocError, Global};
 use std::collections::BTreeSet;
@@ -139,33 +140,6 @@ fn is_masked(mask: u16, caller: u32) -> bool
     is_worker(caller) && (u32::from(mask) >> (caller - 1)) & 1 == 1
 }
 
-fn waits(progress: Progress) -> bool
-    ensures { result ≡ waits progress }
-{
-    match progress {
-        Progress::Waits => true,
-        Progress::Runs(_) | Progress::Ended => false,
-    }
-}
-
-fn runs(progress: Progress) -> bool
-    ensures { result ≡ runs progress }
-{
-    match progress {
-        Progress::Runs(_) => true,
-        Progress::Waits | Progress::Ended => false,
-    }
-}
-
-fn runs_by(caller: u32, progress: Progress) -> bool
-    ensures { result ≡ runs_by caller progress }
-{
-    match progress {
-        Progress::Runs(taker) => taker == caller,
-        Progress::Waits | Progress::Ended => false,
-    }
-}
-
 fn has_ended(progress: Progress) -> bool
     ensures { result ≡ has_ended progress }
 {
@@ -270,8 +244,8 @@ impl Pipe {
         ensures { result ≡ passes waits (state_of self.now) number }
     {
         match self.requests.get(number as usize) {
-            Some(progress) => waits(*progress),
-            None => false,
+            Some(Progress::Waits) => true,
+            Some(Progress::Runs(_)) | Some(Progress::Ended) | None => false,
         }
     }
 
@@ -279,8 +253,8 @@ impl Pipe {
         ensures { result ≡ passes runs (state_of self.now) number }
     {
         match self.requests.get(number as usize) {
-            Some(progress) => runs(*progress),
-            None => false,
+            Some(Progress::Runs(_)) => true,
+            Some(Progress::Waits) | Some(Progress::Ended) | None => false,
         }
     }
 
@@ -288,8 +262,8 @@ impl Pipe {
         ensures { result ≡ passes (runs_by caller) (state_of self.now) number }
     {
         match self.requests.get(number as usize) {
-            Some(progress) => runs_by(caller, *progress),
-            None => false,
+            Some(Progress::Runs(taker)) => *taker == caller,
+            Some(Progress::Waits) | Some(Progress::Ended) | None => false,
         }
     }
 
@@ -376,87 +350,91 @@ impl Pipe {
         }
     }
 
-    /// Whether the state that the event needs is there.
-    pub(crate) fn has_state<A>(&self, event: &BoardEntry<A>) -> bool
-        ensures { result ≡ has_state (state_of self.now) event.now }
+    // An event that is left to who made the pipeline.
+    fn judge_managed(&self, caller: u32, state: bool, number: bool) -> Option<Reason>
+        ensures { result ≡ reason_of state (may_manage (state_of self.now) caller) number true }
     {
-        match event {
-            BoardEntry::Born { .. } | BoardEntry::Shut { .. } => false,
-            BoardEntry::Submit { .. } => self.is_open_pad() && 0 < self.mask,
-            BoardEntry::Take { number, .. } => {
-                self.has_open_lists() && (*number < self.passed() && self.waits(*number))
-            }
-            BoardEntry::Finish { number, .. } => has_lists(self.shape) && self.runs(*number),
-            BoardEntry::Enq { .. } | BoardEntry::Hold { .. } | BoardEntry::Go { .. } => {
-                self.is_open_queue()
-            }
-            BoardEntry::Deq { .. } => self.is_open_queue() && self.may_serve(),
-            BoardEntry::Done { number, .. } => is_serial(self.shape) && self.runs(*number),
-            BoardEntry::Collect { .. } | BoardEntry::Share { .. } => !self.closed,
-            BoardEntry::Close { .. } => !self.closed && self.may_close(),
-            BoardEntry::Mask { .. } => self.is_open_pad() && !self.shared,
-        }
+        reason_of(state, self.may_manage(caller), number, true)
     }
 
-    /// Whether its caller may make it.
-    pub(crate) fn has_caller<A>(&self, event: &BoardEntry<A>) -> bool
-        ensures { result ≡ has_caller (state_of self.now) event.now }
+    // The end of a request that runs.
+    fn judge_end(&self, caller: u32, number: u64, such: bool) -> Option<Reason>
+        ensures { result ≡ reason_of (such && passes runs (state_of self.now) number) (passes (runs_by caller) (state_of self.now) number) true true }
     {
-        match event {
-            BoardEntry::Submit { caller, .. } | BoardEntry::Enq { caller, .. } => {
-                self.may_submit(*caller)
-            }
-            BoardEntry::Take { caller, .. } => self.may_take(*caller),
-            BoardEntry::Finish { caller, number, .. } | BoardEntry::Done { caller, number, .. } => {
-                self.runs_by(*caller, *number)
-            }
-            BoardEntry::Hold { caller, .. }
-            | BoardEntry::Go { caller, .. }
-            | BoardEntry::Collect { caller, .. }
-            | BoardEntry::Close { caller, .. }
-            | BoardEntry::Share { caller, .. }
-            | BoardEntry::Mask { caller, .. } => self.may_manage(*caller),
-            BoardEntry::Born { .. } | BoardEntry::Deq { .. } | BoardEntry::Shut { .. } => true,
-        }
+        reason_of(
+            such && self.runs(number),
+            self.runs_by(caller, number),
+            true,
+            true,
+        )
     }
 
-    /// Whether its numbers are the right ones.
-    pub(crate) fn has_number<A>(&self, event: &BoardEntry<A>) -> bool
-        ensures { result ≡ has_number (state_of self.now) event.now }
+    fn judge_take(&self, caller: u32, number: u64) -> Option<Reason>
+        ensures { result ≡ reason_of (is_open_as has_lists (state_of self.now) && (nat_lt number (passed_by (state_of self.now)) && passes waits (state_of self.now) number)) (may_take (state_of self.now) caller) true true }
+    {
+        reason_of(
+            self.has_open_lists() && (number < self.passed() && self.waits(number)),
+            self.may_take(caller),
+            true,
+            true,
+        )
+    }
+
+    /// The first reason against an event of the pipeline.
+    pub(crate) fn judge<A>(&self, event: &BoardEntry<A>) -> Option<Reason>
+        ensures { result ≡ judged_on (state_of self.now) event.now }
     {
         match event {
-            BoardEntry::Submit { number, .. } => *number == self.len(),
-            BoardEntry::Enq { answer, .. } => self.is_numbered(*answer),
+            BoardEntry::Born { .. } | BoardEntry::Shut { .. } => Some(Reason::State),
+            BoardEntry::Submit { caller, number, .. } => reason_of(
+                self.is_open_pad() && 0 < self.mask,
+                self.may_submit(*caller),
+                *number == self.len(),
+                true,
+            ),
+            BoardEntry::Take { caller, number, .. } => self.judge_take(*caller, *number),
+            BoardEntry::Finish { caller, number, .. } => {
+                self.judge_end(*caller, *number, has_lists(self.shape))
+            }
+            BoardEntry::Enq {
+                caller,
+                backlog,
+                answer,
+                ..
+            } => reason_of(
+                self.is_open_queue(),
+                self.may_submit(*caller),
+                self.is_numbered(*answer),
+                self.is_answered(*backlog, *answer),
+            ),
             BoardEntry::Deq {
                 number,
                 started,
                 ..
-            } => *number == self.dequeued && same_number(*started, self.starts(*number)),
-            BoardEntry::Collect { to, .. } => *to == self.told,
-            BoardEntry::Mask { mask, .. } => has_bits(lists_of(self.shape), *mask),
-            BoardEntry::Born { .. }
-            | BoardEntry::Take { .. }
-            | BoardEntry::Finish { .. }
-            | BoardEntry::Done { .. }
-            | BoardEntry::Hold { .. }
-            | BoardEntry::Go { .. }
-            | BoardEntry::Close { .. }
-            | BoardEntry::Share { .. }
-            | BoardEntry::Shut { .. } => true,
-        }
-    }
-
-    /// Whether its answer is the right word.
-    pub(crate) fn has_answer<A>(&self, event: &BoardEntry<A>) -> bool
-        ensures { result ≡ has_answer (state_of self.now) event.now }
-    {
-        match event {
-            BoardEntry::Enq {
-                backlog,
-                answer,
-                ..
-            } => self.is_answered(*backlog, *answer),
-            _ => true,
+            } => reason_of(
+                self.is_open_queue() && self.may_serve(),
+                true,
+                *number == self.dequeued && same_number(*started, self.starts(*number)),
+                true,
+            ),
+            BoardEntry::Done { caller, number, .. } => {
+                self.judge_end(*caller, *number, is_serial(self.shape))
+            }
+            BoardEntry::Hold { caller, .. } | BoardEntry::Go { caller, .. } => {
+                self.judge_managed(*caller, self.is_open_queue(), true)
+            }
+            BoardEntry::Collect { caller, to, .. } => {
+                self.judge_managed(*caller, !self.closed, *to == self.told)
+            }
+            BoardEntry::Close { caller, .. } => {
+                self.judge_managed(*caller, !self.closed && self.may_close(), true)
+            }
+            BoardEntry::Share { caller, .. } => self.judge_managed(*caller, !self.closed, true),
+            BoardEntry::Mask { caller, mask, .. } => self.judge_managed(
+                *caller,
+                self.is_open_pad() && !self.shared,
+                has_bits(lists_of(self.shape), *mask),
+            ),
         }
     }
 

@@ -1,17 +1,19 @@
 //! What the checker keeps of a registry.
 
-ghost use Rattle.std.specs.Prelude.{◌≡◌, ◌&&◌, ◌<◌, ◌++◌, ◌∷◌, [], OnOk, map, take, length, slice_index_or};
+ghost use Rattle.std.specs.Prelude.{◌≡◌, ◌&&◌, ◌||◌, ◌<◌, ◌++◌, ◌∷◌, [], IfOk, OnOk, true, map, take, length, slice_index_or};
 ghost use Rattle.std.specs.List.{list_any, list_all, position_from};
 ghost use Rattle.std.specs.Str.{bytes_eq};
 ghost use Rattle.alg_registry.specs.Rows.{listed_at, stays_listed, marked};
-ghost use Rattle.alg_registry.specs.Answers.{may_find, is_end_at, ended_with, answers_to, better, best_from, clashes_with, is_pending, is_template, look_answer, driver_place};
-ghost use Rattle.trace_check.specs.declared.register.Entry.{Entry};
-ghost use Rattle.trace_check.specs.Registers.{row_of, larval_of, is_to, is_of, is_free, is_being_built, has_ended, is_claimed_by, passes, same_made, alike_made, same_found, alike_found, same_place, alike_place, same_flag};
+ghost use Rattle.alg_registry.specs.Answers.{may_find, better, best_from, not_found, clashes_with, is_pending, is_template, look_answer, driver_place};
 ghost use Rattle.alg_registry.specs.Calls.{new_row};
-ghost use Rattle.trace_check.specs.Pipes.{same_number};
+ghost use Rattle.trace_check.specs.declared.register.Entry.{Entry};
+ghost use Rattle.trace_check.specs.Held.{AreMarked, end_ids, AreJoined};
+ghost use Rattle.trace_check.specs.Registers.{row_of, larval_of, is_to, is_of, is_free, is_being_built, has_ended, is_claimed_by, passes, same_made, alike_made, same_found, alike_found, same_place, alike_place, same_flag};
+ghost use Rattle.trace_check.specs.Pipes.{reason_of};
 
 use crate::guessing::is_word;
-use crate::pipe::same_number;
+use crate::held::mark_ids;
+use crate::reason::{Reason, reason_of};
 use alg_registry::{Ended, Enlisted, Looked, Spec, Wrap};
 use kc_base::Bytes;
 use std::alloc::{AllocError, Global};
@@ -111,49 +113,12 @@ pub(crate) fn are_listed(entries: &[Entry], ids: &[u64]) -> bool
     ids.iter().all(|id| is_listed(entries, *id))
 }
 
-fn is_end_at(id: u64, ended: Option<Ended>) -> bool
-    ensures { result ≡ is_end_at id ended }
-{
-    match ended {
-        Some(Ended::Built(built)) => built == id,
-        Some(Ended::Joined(joined)) => joined == id,
-        _ => false,
-    }
-}
-
-fn is_free(larva: &Larva) -> bool
-    ensures { result ≡ is_free (larval_of larva.now) }
-{
-    larva.ended.is_none() && larva.claimed.is_none()
-}
-
-fn is_being_built(larva: &Larva) -> bool
-    ensures { result ≡ is_being_built (larval_of larva.now) }
-{
-    larva.claimed.is_some() && larva.ended.is_none()
-}
-
-fn has_ended(larva: &Larva) -> bool
-    ensures { result ≡ has_ended (larval_of larva.now) }
-{
-    larva.ended.is_some()
-}
-
-fn is_claimed_by(caller: u32, larva: &Larva) -> bool
-    ensures { result ≡ is_claimed_by caller (larval_of larva.now) }
-{
-    match larva.claimed {
-        Some(claimer) => claimer == caller,
-        None => false,
-    }
-}
-
 /// Whether the larval is pending, and nobody claimed it.
 pub(crate) fn is_free_at(larvals: &[Larva], number: u64) -> bool
     ensures { result ≡ passes is_free (map larval_of larvals.now) number }
 {
     match larvals.get(number as usize) {
-        Some(larva) => is_free(larva),
+        Some(larva) => larva.ended.is_none() && larva.claimed.is_none(),
         None => false,
     }
 }
@@ -163,7 +128,7 @@ pub(crate) fn is_being_built_at(larvals: &[Larva], number: u64) -> bool
     ensures { result ≡ passes is_being_built (map larval_of larvals.now) number }
 {
     match larvals.get(number as usize) {
-        Some(larva) => is_being_built(larva),
+        Some(larva) => larva.claimed.is_some() && larva.ended.is_none(),
         None => false,
     }
 }
@@ -172,7 +137,7 @@ pub(crate) fn has_ended_at(larvals: &[Larva], number: u64) -> bool
     ensures { result ≡ passes has_ended (map larval_of larvals.now) number }
 {
     match larvals.get(number as usize) {
-        Some(larva) => has_ended(larva),
+        Some(larva) => larva.ended.is_some(),
         None => false,
     }
 }
@@ -181,8 +146,13 @@ pub(crate) fn is_claimed_at(larvals: &[Larva], caller: u32, number: u64) -> bool
     ensures { result ≡ passes (is_claimed_by caller) (map larval_of larvals.now) number }
 {
     match larvals.get(number as usize) {
-        Some(larva) => is_claimed_by(caller, larva),
-        None => false,
+        Some(
+            Larva {
+                claimed: Some(claimer),
+                ..
+            },
+        ) => *claimer == caller,
+        _ => false,
     }
 }
 
@@ -214,64 +184,38 @@ pub(crate) fn has_reference(references: &[Reference], caller: u32, id: u64) -> b
         .any(|reference| is_of(caller, id, *reference))
 }
 
-pub(crate) fn same_made(answer: Enlisted, right: Enlisted) -> bool
-    ensures { result ≡ same_made answer right }
+/// The reason against an answer where this is the right one, if there is any.
+pub(crate) fn against_made(answer: Enlisted, right: Enlisted) -> Option<Reason>
+    ensures { result ≡ reason_of true true (same_made answer right) (alike_made answer right) }
 {
     match (answer, right) {
-        (Enlisted::Made(id), Enlisted::Made(right)) => id == right,
-        _ => true,
+        (Enlisted::Made(id), Enlisted::Made(right)) => reason_of(true, true, id == right, true),
+        (Enlisted::Exist, Enlisted::Exist) | (Enlisted::NFile, Enlisted::NFile) => None,
+        _ => Some(Reason::Answer),
     }
 }
 
-pub(crate) fn alike_made(answer: Enlisted, right: Enlisted) -> bool
-    ensures { result ≡ alike_made answer right }
-{
-    match (answer, right) {
-        (Enlisted::Made(_), Enlisted::Made(_))
-        | (Enlisted::Exist, Enlisted::Exist)
-        | (Enlisted::NFile, Enlisted::NFile) => true,
-        _ => false,
-    }
-}
-
-pub(crate) fn same_found(answer: Looked, right: Looked) -> bool
-    ensures { result ≡ same_found answer right }
+pub(crate) fn against_found(answer: Looked, right: Looked) -> Option<Reason>
+    ensures { result ≡ reason_of true true (same_found answer right) (alike_found answer right) }
 {
     match (answer, right) {
         (Looked::Found(number), Looked::Found(right))
         | (Looked::Pending(number), Looked::Pending(right))
-        | (Looked::Began(number), Looked::Began(right)) => number == right,
-        _ => true,
+        | (Looked::Began(number), Looked::Began(right)) => {
+            reason_of(true, true, number == right, true)
+        }
+        (Looked::Absent, Looked::Absent) => None,
+        _ => Some(Reason::Answer),
     }
 }
 
-pub(crate) fn alike_found(answer: Looked, right: Looked) -> bool
-    ensures { result ≡ alike_found answer right }
+pub(crate) fn against_place(answer: Option<u64>, right: Option<u64>) -> Option<Reason>
+    ensures { result ≡ reason_of true true (same_place answer right) (alike_place answer right) }
 {
     match (answer, right) {
-        (Looked::Found(_), Looked::Found(_))
-        | (Looked::Pending(_), Looked::Pending(_))
-        | (Looked::Began(_), Looked::Began(_))
-        | (Looked::Absent, Looked::Absent) => true,
-        _ => false,
-    }
-}
-
-pub(crate) fn same_place(answer: Option<u64>, right: Option<u64>) -> bool
-    ensures { result ≡ same_place answer right }
-{
-    match (answer, right) {
-        (Some(id), Some(right)) => id == right,
-        _ => true,
-    }
-}
-
-pub(crate) fn alike_place(answer: Option<u64>, right: Option<u64>) -> bool
-    ensures { result ≡ alike_place answer right }
-{
-    match (answer, right) {
-        (Some(_), Some(_)) | (None, None) => true,
-        _ => false,
+        (Some(id), Some(right)) => reason_of(true, true, id == right, true),
+        (None, None) => None,
+        _ => Some(Reason::Answer),
     }
 }
 
@@ -301,22 +245,37 @@ pub(crate) fn mark_all(entries: &mut [Entry])
     }
 }
 
-// Whether a larval of the text ended with the entry.
-fn has_joined(larvals: &[Larva], text: &[u8], id: u64) -> bool
-    ensures { result ≡ list_any (ended_with text.now id) (map larval_of larvals.now) }
+fn mark_end(marks: &mut Vec<bool>, ended: Option<Ended>)
+    ensures { AreMarked marks.old.items marks.new.items (end_ids ended) }
 {
-    for place in 0..larvals.len() {
-        if is_end_at(id, larvals[place].ended) && is_word(larvals[place].text.as_slice(), text) {
-            return true;
-        }
+    match ended {
+        Some(Ended::Built(id)) | Some(Ended::Joined(id)) => mark_ids(marks, &[id]),
+        Some(Ended::Failed(_)) | Some(Ended::NoMemory) | None => {}
     }
-    false
 }
 
-fn answers_to(entry: &Entry, larvals: &[Larva], text: &[u8], plain: bool, id: u64) -> bool
-    ensures { result ≡ answers_to (map larval_of larvals.now) text.now plain id (row_of entry.now) }
+// Of each id below the count, whether a larval of the text ended with it.
+fn joined_marks(
+    alloc: Global,
+    larvals: &[Larva],
+    text: &[u8],
+    count: usize,
+) -> Result<Vec<bool>, AllocError>
+    ensures { IfOk result (λ marks. AreJoined (map larval_of larvals.now) text.now count marks.items) }
 {
-    may_find(entry, plain) && (has_name(entry, text) || has_joined(larvals, text, id))
+    let mut marks = vec![in alloc; false; count]?;
+    for larva in larvals {
+        if is_word(larva.text.as_slice(), text) {
+            mark_end(&mut marks, larva.ended);
+        }
+    }
+    Ok(marks)
+}
+
+fn answers_to(entry: &Entry, text: &[u8], plain: bool, joined: bool) -> bool
+    ensures { result ≡ (may_find plain (row_of entry.now) && (bytes_eq entry.now.spec.name text.now || joined)) }
+{
+    may_find(entry, plain) && (has_name(entry, text) || joined)
 }
 
 fn better(id: u64, entry: &Entry, best: Option<(u64, u32)>) -> Option<(u64, u32)>
@@ -335,18 +294,25 @@ fn better(id: u64, entry: &Entry, best: Option<(u64, u32)>) -> Option<(u64, u32)
 }
 
 // The best entry that answers to the text.
-fn best_of(entries: &[Entry], larvals: &[Larva], text: &[u8], plain: bool) -> Option<(u64, u32)>
-    ensures { result ≡ best_from (map larval_of larvals.now) text.now plain 0 (map row_of entries.now) }
+fn best_of(
+    alloc: Global,
+    entries: &[Entry],
+    larvals: &[Larva],
+    text: &[u8],
+    plain: bool,
+) -> Result<Option<(u64, u32)>, AllocError>
+    ensures { IfOk result (λ best. best ≡ best_from (map larval_of larvals.now) text.now plain 0 (map row_of entries.now)) }
 {
+    let joined = joined_marks(alloc, larvals, text, entries.len())?;
     let mut best = None;
     let mut place = entries.len();
     while place > 0 {
         place -= 1;
-        if answers_to(&entries[place], larvals, text, plain, place as u64) {
+        if answers_to(&entries[place], text, plain, joined[place]) {
             best = better(place as u64, &entries[place], best);
         }
     }
-    best
+    Ok(best)
 }
 
 fn plain_driver(entries: &[Entry], text: &[u8], plain: bool) -> Option<u64>
@@ -377,23 +343,33 @@ fn is_template(text: &[u8]) -> bool
     text.iter().any(|byte| *byte == b'(')
 }
 
-/// What a look is answered.
-pub(crate) fn look(entries: &[Entry], larvals: &[Larva], text: &[u8], plain: bool) -> Looked
-    ensures { result ≡ look_answer (map row_of entries.now) (map larval_of larvals.now) text.now plain }
+// What a look is answered that finds no entry.
+fn not_found(larvals: &[Larva], text: &[u8]) -> Looked
+    ensures { result ≡ not_found (map larval_of larvals.now) text.now (position_from (is_pending text.now) 0 (map larval_of larvals.now)) }
+{
+    match pending(larvals, text) {
+        Some(number) => Looked::Pending(number),
+        None if is_template(text) => Looked::Began(larvals.len() as u64),
+        None => Looked::Absent,
+    }
+}
+
+/// What a look is answered, in one pass over the entries and the larvals.
+pub(crate) fn look(
+    alloc: Global,
+    entries: &[Entry],
+    larvals: &[Larva],
+    text: &[u8],
+    plain: bool,
+) -> Result<Looked, AllocError>
+    ensures { IfOk result (λ answer. answer ≡ look_answer (map row_of entries.now) (map larval_of larvals.now) text.now plain) }
 {
     if let Some(id) = plain_driver(entries, text, plain) {
-        return Looked::Found(id);
+        return Ok(Looked::Found(id));
     }
-    if let Some((id, _priority)) = best_of(entries, larvals, text, plain) {
-        return Looked::Found(id);
-    }
-    if let Some(number) = pending(larvals, text) {
-        return Looked::Pending(number);
-    }
-    if is_template(text) {
-        Looked::Began(larvals.len() as u64)
-    } else {
-        Looked::Absent
+    match best_of(alloc, entries, larvals, text, plain)? {
+        Some((id, _priority)) => Ok(Looked::Found(id)),
+        None => Ok(not_found(larvals, text)),
     }
 }
 

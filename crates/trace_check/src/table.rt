@@ -45,12 +45,7 @@ fn judge_at<A>(pipes: &[Pipe], event: &BoardEntry<A>) -> Option<Reason>
     ensures { result ≡ judged_at (slice_get (map state_of pipes.now) (pipe_of event.now)) event.now }
 {
     match pipes.get(pipe_of(event) as usize) {
-        Some(pipe) => reason_of(
-            pipe.has_state(event),
-            pipe.has_caller(event),
-            pipe.has_number(event),
-            pipe.has_answer(event),
-        ),
+        Some(pipe) => pipe.judge(event),
         None => Some(Reason::State),
     }
 }

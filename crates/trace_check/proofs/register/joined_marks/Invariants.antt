@@ -1,0 +1,7 @@
+use Rattle.std.proofs.Common.{map, take}
+use Rattle.trace_check.specs.Registers.{larval_of}
+use Rattle.trace_check.specs.Held.{AreJoined}
+use Rattle.trace_check.proofs.register.joined_marks.Given as goal
+
+abbrev pub invariant-loop-larva : goal.invariant-loop-larva
+invariant-loop-larva l = AreJoined (map larval_of (take l.larva-index l.larvals)) l.text l.count l.marks.items
