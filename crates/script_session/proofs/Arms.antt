@@ -47,6 +47,10 @@ pub or-stops : {S A : Type 0} (result : Result A S) {Says Holds Stops : Type 0} 
 or-stops (Ok done) says holds stops = holds says
 or-stops (Err stop) says holds stops = stops
 
+pub on-ok : {S A : Type 0} (result : Result A S) {Says Holds : Type 0} → OnOk result Says → (Says → Holds) → OnOk result Holds
+on-ok (Ok done) says holds = holds says
+on-ok (Err stop) says holds = tt
+
 pub sees-same : (k : Known (BoardEntry Ask)) → SeesOn k k
 sees-same k = record { more = record { number = refl; next = refl; seen = starts-same k.seen }; unshut = λ zero_is. refl }
 

@@ -14,7 +14,7 @@ use Rattle.transforms.specs.declared.ask.Ask.{Ask}
 use Rattle.transforms.specs.AskValue.{ask_size}
 use Rattle.turn_lock.specs.Turns.{Known}
 use Rattle.dialogues.specs.BoardCalls.{BoardCall}
-use Rattle.dialogues.specs.Dialogues.{Dialogue, for_live, with_label}
+use Rattle.dialogues.specs.Dialogues.{Dialogue}
 use Rattle.dialogues.specs.Turns.{Turn, IsTurn}
 use Rattle.dialogues.specs.Walk.{Walk, Live, Pipe, is_of, live_of, with_live, replaced, without}
 use Rattle.script_session.specs.States.{HasPipe, Posted, Stands, is_at, owners}
@@ -187,17 +187,17 @@ changes-kept live k l on kept =
     stays None on = tt
     stays (Some pipe) on = kept.pipes pipe on
 
--- ---- the dialogue of a transform is one of its label
+-- ---- a dialogue that is held with a transform
 
-pub live-done : (walk : Walk) (n : ℕ) (label : List ℕ) (place : ℕ) (s : Split label walk.lives 0 place) (live' : Live) (r : Known RegEntry) (k l : Known (BoardEntry Ask)) (asks : List Ask) (answers answers' : List Answer) (rest : Walk → Live → Dialogue) (d : Walk → Dialogue) → rest walk s.live ≡ d walk
+pub live-done : (walk : Walk) (label : List ℕ) (place : ℕ) (s : Split label walk.lives 0 place) (live' : Live) (r : Known RegEntry) (k l : Known (BoardEntry Ask)) (asks : List Ask) (answers answers' : List Answer) (whole : Dialogue) (d : Walk → Dialogue) → whole ≡ d walk
     → Stands walk.lives r → Posted walk k → HoldsFor d s.live live' k l asks answers answers'
-    → Done (with_label walk n label (rest walk)) r k r l (counting (with_live walk live') asks) answers answers'
-live-done walk n label place s live' r k l asks answers answers' rest d same_d stands posted holds =
+    → Done whole r k r l (counting (with_live walk live') asks) answers answers'
+live-done walk label place s live' r k l asks answers answers' whole d same_d stands posted holds =
     let turn : Turn = record { registry = []; board = holds.calls; answers = holds.said; after = Some (counting (with_live walk live') asks) } in
     let same : live'.label ≡ s.live.label = holds.changes.label in
     record {
       turn = turn;
-      is = subst (λ o. IsTurn (for_live walk n o (rest walk)) turn) (sym s.found) (subst (λ x. IsTurn x turn) (sym same_d) (holds.is walk (found-by_own walk label place s) posted));
+      is = subst (λ x. IsTurn x turn) (sym same_d) (holds.is walk (found-by_own walk label place s) posted);
       asked = asked-nothing r stands.caller;
       called = holds.changes.called;
       ends = refl;

@@ -92,6 +92,11 @@ pub ready : {W : Type 0} {width : ℕ} (registry : SharedRegistry) (board : Shar
 ready {W} {width} registry board d s s' answers answers' is held =
     record { calls_registry = held.locks.registry ∙ is.calls_registry; calls_board = held.locks.board ∙ is.calls_board; stands = held.done.stands; posted = held.done.posted; few = subst (λ w. w ≤ 16) (sym held.locks.workers) is.few; wide = held.wide is.wide }
 
+pub answered-ready : {S A W : Type 0} (width : ℕ) (result : Result A S) (Broken : Type 0) (registry : SharedRegistry) (board : SharedBoard W Ask Finished) (d : Dialogue) (s s' : State) (answers answers' : List Answer) → IsReady registry board s
+    → MatchResult result (λ _. HoldsBy width d s s' answers answers') (λ _. Broken) → OnOk result (IsReady registry board s')
+answered-ready width (Ok done) Broken registry board d s s' answers answers' is held = ready registry board d s s' answers answers' is held
+answered-ready width (Err stop) Broken registry board d s s' answers answers' is broken = tt
+
 -- ---- lines whose text goes straight into the reply
 
 pub line-replies : {S A : Type 0} (width : ℕ) (result : Result A S) (d : Dialogue) (s s' : State) (text text' : List ℕ) → MatchResult result (λ _. SaysBy width d s s' text text') (λ _. BreaksOff s s' text text')

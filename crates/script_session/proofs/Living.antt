@@ -16,7 +16,7 @@ use Rattle.transforms.specs.declared.ask.Ask.{Ask}
 use Rattle.transforms.specs.AskValue.{ask_size}
 use Rattle.turn_lock.specs.Turns.{Known}
 use Rattle.dialogues.specs.Allocating.{lists_beside}
-use Rattle.dialogues.specs.Dialogues.{Dialogue, with_label}
+use Rattle.dialogues.specs.Dialogues.{Dialogue, for_live, with_label}
 use Rattle.dialogues.specs.Walk.{Walk, Live, is_of, live_of, with_live, replaced, removed}
 use Rattle.script_session.specs.States.{State, counted, HasPipe, Posted, Stands, MadeWide}
 use Rattle.session_calls.specs.Passes.{RegPass, BoardPass, known, lock_of}
@@ -93,16 +93,20 @@ module _ {ws c q v : ℕ} {r : Option RegPass} {b : Option BoardPass} (s : State
   taken number at next gone =
       ap values_of gone ∙ (removed-found label number entries filed.ascend (numbered number at) ∙ ap (λ (x : State). removed label x.walk.lives) view)
 
-  -- the dialogue of the transform is that of the label
-  pub live-holds : (n number : ℕ) (at : Some number ≡ number_of name entries) (old new : Live) (items' : List Live) (rest : Walk → Live → Dialogue) (d : Walk → Dialogue) (q' v' : ℕ) (b' : Option BoardPass) (asks : List Ask) (answers answers' : List Answer)
-      → rest s.walk old ≡ d s.walk → get nat_cmp lives.transforms number ≡ Some old → items' ≡ replaced new s.walk.lives → lock_of b' ≡ lock_of b → q' ≡ q + length asks → v' ≡ v + sum_by ask_size asks → Stands s.walk.lives (known s.registry) → Posted s.walk (known s.board)
-      → HoldsFor d old new (known b) (known b') asks answers answers' → Holds (with_label s.walk n label (rest s.walk)) s (viewed ws c items' q' v' r b') answers answers'
-  live-holds n number at old new items' rest d q' v' b' asks answers answers' same_d is set_is lock more_q more_v stands posted holds =
+  -- it has the label
+  label-is : (number : ℕ) (at : Some number ≡ number_of name entries) (old : Live) → get nat_cmp lives.transforms number ≡ Some old → old.label ≡ label
+  label-is number at old is = ap (λ (l : Live). l.label) (is-live number at old is) ∙ label-of label s.walk.lives (place number at) (live-at number at)
+
+  -- the dialogue that is held with the transform is the session's
+  pub live-holds : (number : ℕ) (at : Some number ≡ number_of name entries) (old new : Live) (items' : List Live) (whole : Dialogue) (d : Walk → Dialogue) (q' v' : ℕ) (b' : Option BoardPass) (asks : List Ask) (answers answers' : List Answer)
+      → whole ≡ d s.walk → get nat_cmp lives.transforms number ≡ Some old → items' ≡ replaced new s.walk.lives → lock_of b' ≡ lock_of b → q' ≡ q + length asks → v' ≡ v + sum_by ask_size asks → Stands s.walk.lives (known s.registry) → Posted s.walk (known s.board)
+      → HoldsFor d old new (known b) (known b') asks answers answers' → Holds whole s (viewed ws c items' q' v' r b') answers answers'
+  live-holds number at old new items' whole d q' v' b' asks answers answers' same_d is set_is lock more_q more_v stands posted holds =
       let split = live-at number at in
       let was = is-live number at old is in
       let here : HoldsFor d split.live new (known b) (known b') asks answers answers' = subst (λ l. HoldsFor d l new (known b) (known b') asks answers answers') was holds in
       let there : HoldsFor d split.live new (known s.board) (known b') asks answers answers' = subst (λ (x : State). HoldsFor d split.live new (known x.board) (known b') asks answers answers') view here in
-      let done = live-done s.walk n label (place number at) split new (known s.registry) (known s.board) (known b') asks answers answers' rest d (ap (rest s.walk) (sym was) ∙ same_d) stands posted there in
+      let done = live-done s.walk label (place number at) split new (known s.registry) (known s.board) (known b') asks answers answers' whole d same_d stands posted there in
       let walk_is : record { client = c; lives = items'; requests = q'; bytes = v' } ≡ counting (with_live s.walk new) asks =
       ap (λ ls. let x : Walk = record { client = c; lives = ls; requests = q'; bytes = v' } in x) set_is
       ∙ (ap (λ m. let x : Walk = record { client = c; lives = replaced new s.walk.lives; requests = m; bytes = v' } in x) more_q
@@ -113,8 +117,8 @@ module _ {ws c q v : ℕ} {r : Option RegPass} {b : Option BoardPass} (s : State
         wide = λ wide.
             subst (λ n. MadeWide (lists_beside n) (known b')) (sym (ap (λ (x : State). x.workers) view))
             (wide-changes (lists_beside s.workers) split.live new (known s.board) (known b') there.calls asks (rests-at s.walk label (place number at) (known s.board) split posted) there.changes wide);
-        done = subst (λ x. Done (with_label s.walk n label (rest s.walk)) (known s.registry) (known s.board) (known r) (known b') x answers answers') (sym walk_is)
-            (subst (λ (x : State). Done (with_label s.walk n label (rest s.walk)) (known s.registry) (known s.board) (known x.registry) (known b') (counting (with_live s.walk new) asks) answers answers') (sym view) done);
+        done = subst (λ x. Done whole (known s.registry) (known s.board) (known r) (known b') x answers answers') (sym walk_is)
+            (subst (λ (x : State). Done whole (known s.registry) (known s.board) (known x.registry) (known b') (counting (with_live s.walk new) asks) answers answers') (sym view) done);
       }
 
   -- memory was wanting
@@ -128,40 +132,45 @@ module _ {ws c q v : ℕ} {r : Option RegPass} {b : Option BoardPass} (s : State
       }
 
   -- the same of an arm that hands nothing in
-  pub live-arm : {S A : Type 0} (n number : ℕ) (at : Some number ≡ number_of name entries) (old new : Live) (items' : List Live) (rest : Walk → Live → Dialogue) (b' : Option BoardPass) (answers answers' : List Answer) (result : Result A S)
+  pub live-arm : {S A : Type 0} (number : ℕ) (at : Some number ≡ number_of name entries) (old new : Live) (items' : List Live) (d : List ℕ → Walk → Dialogue) (b' : Option BoardPass) (answers answers' : List Answer) (result : Result A S)
       → get nat_cmp lives.transforms number ≡ Some old → items' ≡ replaced new s.walk.lives → lock_of b' ≡ lock_of b → Stands s.walk.lives (known s.registry) → Posted s.walk (known s.board)
-      → MatchResult result (λ _. HoldsFor (λ walk. rest walk old) old new (known b) (known b') [] answers answers') (λ _. SeesOn (known b) (known b'))
-      → MatchResult result (λ _. Holds (with_label s.walk n label (rest s.walk)) s (viewed ws c items' q v r b') answers answers') (λ _. Stops s (viewed ws c items' q v r b'))
-  live-arm n number at old new items' rest b' answers answers' (Ok a) is set_is lock stands posted held = live-holds n number at old new items' rest (λ walk. rest walk old) q v b' [] answers answers' refl is set_is lock (omega arith) (omega arith) stands posted held
-  live-arm n number at old new items' rest b' answers answers' (Err e) is set_is lock stands posted held = live-stops items' q v b' lock stands held
+      → MatchResult result (λ _. HoldsFor (d old.label) old new (known b) (known b') [] answers answers') (λ _. SeesOn (known b) (known b'))
+      → MatchResult result (λ _. Holds (d label s.walk) s (viewed ws c items' q v r b') answers answers') (λ _. Stops s (viewed ws c items' q v r b'))
+  live-arm number at old new items' d b' answers answers' (Ok a) is set_is lock stands posted held =
+      live-holds number at old new items' (d label s.walk) (d old.label) q v b' [] answers answers' (ap (λ l. d l s.walk) (sym (label-is number at old is))) is set_is lock (omega arith) (omega arith) stands posted held
+  live-arm number at old new items' d b' answers answers' (Err e) is set_is lock stands posted held = live-stops items' q v b' lock stands held
 
   -- the same of an arm that hands a request in, which is counted where it was accepted
   pub request-arm : (n number : ℕ) (at : Some number ≡ number_of name entries) (old new : Live) (items' : List Live) (rest : Walk → Live → Dialogue) (d : Walk → Dialogue) (s' : State) (b' : Option BoardPass) (accepted : Bool) (size : ℕ) (ask : Ask) (answers answers' : List Answer)
       → rest s.walk old ≡ d s.walk → get nat_cmp lives.transforms number ≡ Some old → items' ≡ replaced new s.walk.lives → lock_of b' ≡ lock_of b → Stands s.walk.lives (known s.registry) → Posted s.walk (known s.board) → size ≡ ask_size ask
       → HoldsFor d old new (known b) (known b') (asks_if accepted ask) answers answers' → s' ≡ counted (viewed ws c items' q v r b') accepted size → Holds (with_label s.walk n label (rest s.walk)) s s' answers answers'
-  request-arm n number at old new items' rest d s' b' true size ask answers answers' same_d is set_is lock stands posted sized held e =
-      subst (λ x. Holds (with_label s.walk n label (rest s.walk)) s x answers answers') (sym e)
-      (live-holds n number at old new items' rest d (q + 1) (v + size) b' (ask ∷ []) answers answers' same_d is set_is lock refl (ap (λ m. v + m) (sized ∙ sym (zero-add (ask_size ask)))) stands posted held)
-  request-arm n number at old new items' rest d s' b' false size ask answers answers' same_d is set_is lock stands posted sized held e =
-      subst (λ x. Holds (with_label s.walk n label (rest s.walk)) s x answers answers') (sym e)
-      (live-holds n number at old new items' rest d q v b' [] answers answers' same_d is set_is lock (omega arith) (omega arith) stands posted held)
+  request-arm n number at old new items' rest d s' b' accepted size ask answers answers' same_d is set_is lock stands posted sized held e =
+      let same : with_label s.walk n label (rest s.walk) ≡ d s.walk = ap (λ o. for_live s.walk n o (rest s.walk)) (live-at number at).found ∙ (ap (rest s.walk) (sym (is-live number at old is)) ∙ same_d) in
+      subst (λ x. Holds (with_label s.walk n label (rest s.walk)) s x answers answers') (sym e) (by_accepted accepted same held)
+    where
+      by_accepted : (accepted : Bool) → with_label s.walk n label (rest s.walk) ≡ d s.walk → HoldsFor d old new (known b) (known b') (asks_if accepted ask) answers answers'
+          → Holds (with_label s.walk n label (rest s.walk)) s (counted (viewed ws c items' q v r b') accepted size) answers answers'
+      by_accepted true same held =
+          live-holds number at old new items' (with_label s.walk n label (rest s.walk)) d (q + 1) (v + size) b' (ask ∷ []) answers answers' same is set_is lock refl (ap (λ m. v + m) (sized ∙ sym (zero-add (ask_size ask)))) stands posted held
+      by_accepted false same held =
+          live-holds number at old new items' (with_label s.walk n label (rest s.walk)) d q v b' [] answers answers' same is set_is lock (omega arith) (omega arith) stands posted held
 
   -- what the session has counted is what was accepted from it
   pub bytes-at : Posted s.walk (known s.board) → sum_by ask_size (accepted_by (known b).number (known b).seen) ≡ v
   bytes-at posted = subst (λ (x : State). sum_by ask_size (accepted_by (known x.board).number (known x.board).seen) ≡ x.walk.bytes) (sym view) posted.bytes
 
   -- the same of an arm whose text is added to a reply
-  pub text-arm : {S A : Type 0} (n number : ℕ) (at : Some number ≡ number_of name entries) (old new : Live) (items' : List Live) (rest : Walk → Live → Dialogue) (b' : Option BoardPass) (text text' : List ℕ) (result : Result A S)
+  pub text-arm : {S A : Type 0} (number : ℕ) (at : Some number ≡ number_of name entries) (old new : Live) (items' : List Live) (d : List ℕ → Walk → Dialogue) (b' : Option BoardPass) (text text' : List ℕ) (result : Result A S)
       → get nat_cmp lives.transforms number ≡ Some old → items' ≡ replaced new s.walk.lives → lock_of b' ≡ lock_of b → Stands s.walk.lives (known s.registry) → Posted s.walk (known s.board)
-      → MatchResult result (λ _. SaysFor (λ walk. rest walk old) old new (known b) (known b') text text') (λ _. BreaksFor (known b) (known b') text text')
-      → MatchResult result (λ _. SaysBy 1 (with_label s.walk n label (rest s.walk)) s (viewed ws c items' q v r b') text text') (λ _. BreaksOff s (viewed ws c items' q v r b') text text')
-  text-arm n number at old new items' rest b' text text' (Ok a) is set_is lock stands posted says =
+      → MatchResult result (λ _. SaysFor (d old.label) old new (known b) (known b') text text') (λ _. BreaksFor (known b) (known b') text text')
+      → MatchResult result (λ _. SaysBy 1 (d label s.walk) s (viewed ws c items' q v r b') text text') (λ _. BreaksOff s (viewed ws c items' q v r b') text text')
+  text-arm number at old new items' d b' text text' (Ok a) is set_is lock stands posted says =
       record {
         said = says.said;
-        held = live-holds n number at old new items' rest (λ walk. rest walk old) q v b' [] [] says.said refl is set_is lock (omega arith) (omega arith) stands posted says.held;
+        held = live-holds number at old new items' (d label s.walk) (d old.label) q v b' [] [] says.said (ap (λ l. d l s.walk) (sym (label-is number at old is))) is set_is lock (omega arith) (omega arith) stands posted says.held;
         says = says.says;
       }
-  text-arm n number at old new items' rest b' text text' (Err e) is set_is lock stands posted breaks =
+  text-arm number at old new items' d b' text text' (Err e) is set_is lock stands posted breaks =
       record {
         stops = live-stops items' q v b' lock stands (called-sees (known b) (known b') [] breaks.called breaks.unshut);
         called = subst (λ (x : State). Called (known x.board) (known b') []) view breaks.called;

@@ -1,16 +1,18 @@
 -- What lines do with the pipeline of one transform.
-use Rattle.std.proofs.Common.{◌≡◌, ◌⊎◌, inl, inr, ℕ, suc, ◌+◌, ◌^◌, ◌<◌, ◌≤◌, Bool, true, false, cond, List, [], ◌∷◌, ◌++◌, length, map, Option, Some, None, refl, sym, ap, subst, ◌∙◌, append-nil, add-zero, zero-add, arith}
-use Rattle.std.specs.Prelude.{◌==◌, is_some, find, if◌then◌else◌, ◌||◌, nat_le, nat_lt, not}
+use Rattle.std.proofs.Common.{◌≡◌, ◌⊎◌, inl, inr, ℕ, suc, ◌+◌, ◌^◌, ◌<◌, ◌≤◌, Bool, true, false, cond, List, [], ◌∷◌, ◌++◌, length, map, Option, Some, None, Result, Ok, Err, refl, sym, ap, subst, ◌∙◌, append-nil, add-zero, zero-add, arith}
+use Rattle.std.specs.Prelude.{MatchResult, ◌==◌, is_some, find, if◌then◌else◌, ◌&&◌, ◌||◌, nat_le, nat_lt, not}
 use Rattle.std.specs.Option.{option_map}
 use Rattle.kc_base.specs.Handed.{Handed}
 use Rattle.kc_base.specs.declared.callback_list.Callback.{Callback}
 use Rattle.kc_base.specs.declared.callback_list.Callback.TheVariants as callback
 use Rattle.kc_base.specs.declared.error_numbers.Errno.{Errno}
-use Rattle.kc_base.specs.declared.error_numbers.Errno.TheVariants.{EINVAL, E2BIG, EBUSY, EINPROGRESS, ENOSPC}
+use Rattle.kc_base.specs.declared.error_numbers.Errno.TheVariants.{EINVAL, E2BIG, EBUSY, EINPROGRESS, ENOENT, ENOSPC}
 use Rattle.board.specs.declared.entry.BoardEntry.{BoardEntry}
 use Rattle.board.specs.Entries.{entries_of, submissions}
 use Rattle.board.specs.Handing.{HandsOutAtMost, completions}
 use Rattle.board.specs.Legal.{LegalBoard}
+use Rattle.board.specs.declared.board_core.BoardErr.{BoardErr}
+use Rattle.board.specs.declared.board_core.BoardErr.TheVariants as board_err
 use Rattle.transforms.specs.declared.ask.Ask.{Ask}
 use Rattle.transforms.specs.declared.request.Finished.{Finished}
 use Rattle.reply_text.specs.declared.answers.Answer.{Answer}
@@ -23,17 +25,22 @@ use Rattle.board.specs.declared.entry.Entered.{Entered}
 use Rattle.board.specs.declared.entry.Entered.TheVariants.{InProgress, Busy, NoSpace}
 use Rattle.transforms.specs.AskValue.{ask_size}
 use Rattle.dialogues.specs.BoardCalls.{Asked, asked_by, Collects, Submits, Enqueues, Masks, BoardCall}
-use Rattle.dialogues.specs.Requesting.{value_said, requests_in, hands_in, is_too_big, accepting, value_of}
-use Rattle.script_session.specs.Keyed.{sizes_live, manned_as, held_as, masks_in, keys_live, delivering, with_line, MayDeliver}
+use Rattle.dialogues.specs.Requesting.{set_key, set_tag_size, value_said, requests_in, hands_in, is_too_big, accepting, value_of}
+use Rattle.script_session.specs.Keyed.{manned_as, held_as, delivering, with_line, MayDeliver}
+use Rattle.script_session.specs.Saying.{collects, collected_said}
+use Rattle.script_session.specs.Holding.{SeesOn}
+use Rattle.script_session.specs.Settings.{holds_or_goes, hold_call, sets}
+use Rattle.script_session.specs.declared.settings.Setting.{Setting}
+use Rattle.script_session.specs.declared.settings.Setting.TheVariants as set
 use Rattle.script_session.specs.Offering.{IsAnswerOf, Offered, offer_call, entered_said}
 use Rattle.session_calls.specs.Pipelines.{IsPad, IsQueue, Polled, entered_pipe, entered_asks, with_ask, line_of, Kept, Changed, notice_by, Drained}
 use Rattle.transforms.specs.Plans.{takes_key, takes_tag}
 use Rattle.transforms.specs.declared.tfm_err.TfmErr.{TfmErr}
 use Rattle.transforms.specs.declared.tfm_err.TfmErr.TheVariants.{Inval, Memory as OfMemory}
 use Rattle.script_session.specs.Telling.{callback_said}
-use Rattle.dialogues.specs.Dialogues.{Dialogue, says, refuses, Posts}
-use Rattle.dialogues.specs.Questions.{Drain}
-use Rattle.dialogues.specs.Piping.{masks, kept_bits, with_pad, if_pad, with_queue, if_queue, polls_in, notice_said, tells, drains_in, completions as completed_in}
+use Rattle.dialogues.specs.Dialogues.{Dialogue, says, refuses, for_live, with_label, Posts}
+use Rattle.dialogues.specs.Questions.{Drain, Hold, Go}
+use Rattle.dialogues.specs.Piping.{mask, masks, kept_bits, with_pad, if_pad, with_queue, if_queue, poll, polls_in, notice_said, tells, drain, drains_in, completions as completed_in}
 use Rattle.dialogues.specs.Turns.{Turn, IsTurn}
 use Rattle.dialogues.specs.Walk.{Walk, Live, Pipe, is_of, live_of, with_live, with_pipe, replaced}
 use Rattle.script_session.specs.States.{HasPipe, Posted, is_at}
@@ -63,14 +70,14 @@ abbrev answered : Walk → Answer → Turn
 answered walk answer = record { registry = []; board = []; answers = answer ∷ []; after = Some walk }
 
 pub says-for : (d : Walk → Dialogue) (live : Live) (k : Known (BoardEntry Ask)) (answer : Answer) (answers answers' : List Answer) → HasPipe k live.pipe → LegalBoard k.seen
-    → ((walk : Walk) → Posted walk k → d walk ≡ says walk answer) → answers' ≡ answers ++ answer ∷ [] → HoldsFor d live live k k [] answers answers'
+    → ((walk : Walk) → live_of walk live.label ≡ Some live → Posted walk k → d walk ≡ says walk answer) → answers' ≡ answers ++ answer ∷ [] → HoldsFor d live live k k [] answers answers'
 says-for d live k answer answers answers' on legal is e =
     record {
       calls = [];
       said = answer ∷ [];
       changes = changes-kept live k k on (kept-same k legal);
       is = λ walk found posted.
-          subst (λ w. IsTurn (d walk) (answered w answer)) (sym (kept-live walk live found)) (subst (λ x. IsTurn x (answered walk answer)) (sym (is walk posted)) refl);
+          subst (λ w. IsTurn (d walk) (answered w answer)) (sym (kept-live walk live found)) (subst (λ x. IsTurn x (answered walk answer)) (sym (is walk found posted)) refl);
       says = e;
     }
 
@@ -92,39 +99,45 @@ pub delivered-live : (live live' : Live) (pipe : Pipe) (count : ℕ) (callbacks 
 delivered-live live live' pipe count callbacks has counts is =
     is ∙ (ap (λ o. record live { pipe = option_map (λ (p : Pipe). record p { delivered = p.delivered + count }) o }) has ∙ ap (λ c. record live { pipe = Some (record pipe { delivered = pipe.delivered + c }) }) counts)
 
--- ---- `drain T`
+-- ---- `drain T` and `poll T`
 
-abbrev drain_with : Walk → ℕ → Live → Option Pipe → Dialogue
-drain_with walk n live pipe = drains_in walk n live pipe
+pub drain-at : (walk : Walk) (n : ℕ) (live : Live) → live_of walk live.label ≡ Some live → drain walk n live.label ≡ drains_in walk n live live.pipe
+drain-at walk n live found = ap (λ o. for_live walk n o (λ (l : Live). drains_in walk n l l.pipe)) found
 
-pub drain-none : (walk : Walk) (n : ℕ) (live : Live) → live.pipe ≡ None → drains_in walk n live live.pipe ≡ says walk (said.Drained n 0)
-drain-none walk n live none = ap (drains_in walk n live) none
+pub poll-at : (walk : Walk) (n : ℕ) (live : Live) → live_of walk live.label ≡ Some live → poll walk n live.label ≡ polls_in walk n live live.pipe
+poll-at walk n live found = ap (λ o. for_live walk n o (λ (l : Live). polls_in walk n l l.pipe)) found
+
+-- without a pipeline there is nothing to collect
+pub collect-none : (waits : Bool) (walk : Walk) (n : ℕ) (live : Live) → live.pipe ≡ None → live_of walk live.label ≡ Some live → collects waits walk n live.label ≡ says walk (collected_said n waits 0)
+collect-none true walk n live none found = drain-at walk n live found ∙ ap (drains_in walk n live) none
+collect-none false walk n live none found = poll-at walk n live found ∙ ap (polls_in walk n live) none
 
 abbrev if_held : Walk → ℕ → Live → Pipe → Bool → Dialogue
 if_held walk n live pipe held = if held then refuses walk n EINVAL else (Posts (Drain pipe.number) λ notices. tells walk live pipe notices (said.Drained n (completed_in notices)))
 
-pub drain-held : (walk : Walk) (n : ℕ) (live : Live) (pipe : Pipe) → live.pipe ≡ Some pipe → pipe.held ≡ true → drains_in walk n live live.pipe ≡ refuses walk n EINVAL
-drain-held walk n live pipe has held = ap (drains_in walk n live) has ∙ ap (if_held walk n live pipe) held
+drain-asks : (walk : Walk) (n : ℕ) (live : Live) (pipe : Pipe) (held : Bool) → live.pipe ≡ Some pipe → pipe.held ≡ held → live_of walk live.label ≡ Some live → drain walk n live.label ≡ if_held walk n live pipe held
+drain-asks walk n live pipe held has is found = drain-at walk n live found ∙ (ap (drains_in walk n live) has ∙ ap (if_held walk n live pipe) is)
 
-drain-asks : (walk : Walk) (n : ℕ) (live : Live) (pipe : Pipe) → live.pipe ≡ Some pipe → pipe.held ≡ false
-    → drains_in walk n live live.pipe ≡ (Posts (Drain pipe.number) λ notices. tells walk live pipe notices (said.Drained n (completed_in notices)))
-drain-asks walk n live pipe has held = ap (drains_in walk n live) has ∙ ap (if_held walk n live pipe) held
+-- a held queue isn't drained
+pub collect-held : (waits : Bool) (walk : Walk) (n : ℕ) (live : Live) (pipe : Pipe) → live.pipe ≡ Some pipe → (waits && pipe.held) ≡ true → live_of walk live.label ≡ Some live → collects waits walk n live.label ≡ refuses walk n EINVAL
+collect-held true walk n live pipe has held found = drain-asks walk n live pipe true has held found
+collect-held false walk n live pipe has held found = absurd cc
 
-pub drain-holds : (k l : Known (BoardEntry Ask)) (live live' : Live) (pipe : Pipe) (n count : ℕ) (callbacks : List (Callback Finished)) (answers answers' : List Answer)
+drain-holds : (k l : Known (BoardEntry Ask)) (live live' : Live) (pipe : Pipe) (n count : ℕ) (callbacks : List (Callback Finished)) (answers answers' : List Answer)
     → live.pipe ≡ Some pipe → pipe.held ≡ false → Drained k l pipe callbacks → count ≡ completions callbacks → live' ≡ delivering live count
-    → answers' ≡ answers ++ (map (callback_said pipe.lines) callbacks ++ said.Drained n count ∷ []) → HoldsFor (λ walk. drains_in walk n live live.pipe) live live' k l [] answers answers'
+    → answers' ≡ answers ++ (map (callback_said pipe.lines) callbacks ++ said.Drained n count ∷ []) → HoldsFor (λ walk. drain walk n live.label) live live' k l [] answers answers'
 drain-holds k l live live' pipe n count callbacks answers answers' has free drained counts live_is e =
     let notices = map (notice_by pipe.lines) callbacks in
     let pipe' : Pipe = record pipe { delivered = pipe.delivered + completions callbacks } in
     let new : Live = record live { pipe = Some pipe' } in
     let call : BoardCall = Collects pipe.number (record { notices = notices; all_done = true }) in
     let live-is : live' ≡ new = delivered-live live live' pipe count callbacks has counts live_is in
-    subst (λ x. HoldsFor (λ walk. drains_in walk n live live.pipe) live x k l [] answers answers') (sym live-is) (record {
+    subst (λ x. HoldsFor (λ walk. drain walk n live.label) live x k l [] answers answers') (sym live-is) (record {
       calls = call ∷ [];
       said = (map notice_said notices ++ said.Drained n (completed_in notices) ∷ []) ++ [];
       changes = changes-pipe live k l pipe pipe' (call ∷ []) [] has drained;
       is = λ walk found posted.
-          subst (λ d. IsTurn d (record { registry = []; board = call ∷ []; answers = (map notice_said notices ++ said.Drained n (completed_in notices) ∷ []) ++ []; after = Some (counting (with_live walk new) []) })) (sym (drain-asks walk n live pipe has free))
+          subst (λ d. IsTurn d (record { registry = []; board = call ∷ []; answers = (map notice_said notices ++ said.Drained n (completed_in notices) ∷ []) ++ []; after = Some (counting (with_live walk new) []) })) (sym (drain-asks walk n live pipe false has free found))
           (subst (λ w. IsTurn (Posts (Drain pipe.number) λ notices. tells walk live pipe notices (said.Drained n (completed_in notices))) (record { registry = []; board = call ∷ []; answers = (map notice_said notices ++ said.Drained n (completed_in notices) ∷ []) ++ []; after = Some w })) (sym (counting-none (with_live walk new)))
           (ap (λ c. record { registry = []; board = call ∷ []; answers = (map notice_said notices ++ said.Drained n (completed_in notices) ∷ []) ++ []; after = Some (with_pipe walk live (record pipe { delivered = pipe.delivered + c })) }) (count-is pipe.lines callbacks)));
       says =
@@ -244,7 +257,7 @@ accepted-live live live' pipe ask line has same is =
 
 -- nothing is asked, and the transform changes, but not its pipeline
 pub says-changed : (d : Walk → Dialogue) (live live' : Live) (k : Known (BoardEntry Ask)) (answer : Answer) (answers answers' : List Answer) → HasPipe k live.pipe → LegalBoard k.seen
-    → live'.label ≡ live.label → live'.id ≡ live.id → live'.pipe ≡ live.pipe → ((walk : Walk) → d walk ≡ says (with_live walk live') answer) → answers' ≡ answers ++ answer ∷ []
+    → live'.label ≡ live.label → live'.id ≡ live.id → live'.pipe ≡ live.pipe → ((walk : Walk) → live_of walk live.label ≡ Some live → d walk ≡ says (with_live walk live') answer) → answers' ≡ answers ++ answer ∷ []
     → HoldsFor d live live' k k [] answers answers'
 says-changed d live live' k answer answers answers' on legal label id pipe is e =
     let none = changes-kept live k k on (kept-same k legal) in
@@ -264,25 +277,28 @@ says-changed d live live' k answer answers answers' on legal label id pipe is e 
         unshut = none.unshut;
       };
       is = λ walk found posted.
-          subst (λ w. IsTurn (d walk) (answered w answer)) (sym (counting-none (with_live walk live'))) (subst (λ x. IsTurn x (answered (with_live walk live') answer)) (sym (is walk)) refl);
+          subst (λ w. IsTurn (d walk) (answered w answer)) (sym (counting-none (with_live walk live'))) (subst (λ x. IsTurn x (answered (with_live walk live') answer)) (sym (is walk found)) refl);
       says = e;
     }
 
 abbrev if_taken : Walk → ℕ → Live → List ℕ → Bool → Dialogue
 if_taken walk n live key taken = if not taken then refuses walk n EINVAL else says (with_live walk (record live { key = Some key })) (said.Ok n)
 
+key-at : (walk : Walk) (n : ℕ) (live : Live) (key : List ℕ) (taken : Bool) → takes_key live.plan key ≡ taken → live_of walk live.label ≡ Some live → set_key walk n live.label key ≡ if_taken walk n live key taken
+key-at walk n live key taken is found = ap (λ o. for_live walk n o (λ (l : Live). if_taken walk n l key (takes_key l.plan key))) found ∙ ap (if_taken walk n live key) is
+
 pub key-taken : (live live' : Live) (k : Known (BoardEntry Ask)) (n : ℕ) (key : List ℕ) (answers answers' : List Answer) → takes_key live.plan key ≡ true → live' ≡ record live { key = Some key }
-    → answers' ≡ answers ++ said.Ok n ∷ [] → HasPipe k live.pipe → LegalBoard k.seen → HoldsFor (λ walk. keys_live walk n live key) live live' k k [] answers answers'
+    → answers' ≡ answers ++ said.Ok n ∷ [] → HasPipe k live.pipe → LegalBoard k.seen → HoldsFor (λ walk. set_key walk n live.label key) live live' k k [] answers answers'
 key-taken live live' k n key answers answers' taken is e on legal =
-    subst (λ x. HoldsFor (λ walk. keys_live walk n live key) live x k k [] answers answers') (sym is)
-    (says-changed (λ walk. keys_live walk n live key) live (record live { key = Some key }) k (said.Ok n) answers answers' on legal refl refl refl (λ walk. ap (if_taken walk n live key) taken) e)
+    subst (λ x. HoldsFor (λ walk. set_key walk n live.label key) live x k k [] answers answers') (sym is)
+    (says-changed (λ walk. set_key walk n live.label key) live (record live { key = Some key }) k (said.Ok n) answers answers' on legal refl refl refl (λ walk found. key-at walk n live key true taken found) e)
 
 pub key-refused : (live live' : Live) (k : Known (BoardEntry Ask)) (n : ℕ) (key : List ℕ) (error : TfmErr) (answers answers' : List Answer) → error ≡ Inval
     → ((error ≡ OfMemory) ⊎ ((error ≡ Inval) × (takes_key live.plan key ≡ false))) × (live' ≡ live)
-    → answers' ≡ answers ++ said.Refused n EINVAL ∷ [] → HasPipe k live.pipe → LegalBoard k.seen → HoldsFor (λ walk. keys_live walk n live key) live live' k k [] answers answers'
+    → answers' ≡ answers ++ said.Refused n EINVAL ∷ [] → HasPipe k live.pipe → LegalBoard k.seen → HoldsFor (λ walk. set_key walk n live.label key) live live' k k [] answers answers'
 key-refused live live' k n key error answers answers' inval why e on legal =
-    subst (λ x. HoldsFor (λ walk. keys_live walk n live key) live x k k [] answers answers') (sym why.1)
-    (says-for (λ walk. keys_live walk n live key) live k (said.Refused n EINVAL) answers answers' on legal (λ walk posted. ap (if_taken walk n live key) (not_taken why.0)) e)
+    subst (λ x. HoldsFor (λ walk. set_key walk n live.label key) live x k k [] answers answers') (sym why.1)
+    (says-for (λ walk. set_key walk n live.label key) live k (said.Refused n EINVAL) answers answers' on legal (λ walk found posted. key-at walk n live key false (not_taken why.0) found) e)
   where
     not_taken : (error ≡ OfMemory) ⊎ ((error ≡ Inval) × (takes_key live.plan key ≡ false)) → takes_key live.plan key ≡ false
     not_taken (inl memory) = absurd (let bad : Inval ≡ OfMemory = sym inval ∙ memory in cc)
@@ -291,18 +307,21 @@ key-refused live live' k n key error answers answers' inval why e on legal =
 abbrev if_sized : Walk → ℕ → Live → ℕ → Bool → Dialogue
 if_sized walk n live size taken = if not taken then refuses walk n EINVAL else says (with_live walk (record live { tag_size = size })) (said.Ok n)
 
+size-at : (walk : Walk) (n : ℕ) (live : Live) (size : ℕ) (taken : Bool) → takes_tag live.plan size ≡ taken → live_of walk live.label ≡ Some live → set_tag_size walk n live.label size ≡ if_sized walk n live size taken
+size-at walk n live size taken is found = ap (λ o. for_live walk n o (λ (l : Live). if_sized walk n l size (takes_tag l.plan size))) found ∙ ap (if_sized walk n live size) is
+
 pub size-taken : (live live' : Live) (k : Known (BoardEntry Ask)) (n size : ℕ) (answers answers' : List Answer) → takes_tag live.plan size ≡ true → live' ≡ record live { tag_size = size }
-    → answers' ≡ answers ++ said.Ok n ∷ [] → HasPipe k live.pipe → LegalBoard k.seen → HoldsFor (λ walk. sizes_live walk n live size) live live' k k [] answers answers'
+    → answers' ≡ answers ++ said.Ok n ∷ [] → HasPipe k live.pipe → LegalBoard k.seen → HoldsFor (λ walk. set_tag_size walk n live.label size) live live' k k [] answers answers'
 size-taken live live' k n size answers answers' taken is e on legal =
-    subst (λ x. HoldsFor (λ walk. sizes_live walk n live size) live x k k [] answers answers') (sym is)
-    (says-changed (λ walk. sizes_live walk n live size) live (record live { tag_size = size }) k (said.Ok n) answers answers' on legal refl refl refl (λ walk. ap (if_sized walk n live size) taken) e)
+    subst (λ x. HoldsFor (λ walk. set_tag_size walk n live.label size) live x k k [] answers answers') (sym is)
+    (says-changed (λ walk. set_tag_size walk n live.label size) live (record live { tag_size = size }) k (said.Ok n) answers answers' on legal refl refl refl (λ walk found. size-at walk n live size true taken found) e)
 
 pub size-refused : (live live' : Live) (k : Known (BoardEntry Ask)) (n size : ℕ) (errno : Errno) (answers answers' : List Answer)
     → (errno ≡ EINVAL) × (takes_tag live.plan size ≡ false) × (live' ≡ live)
-    → answers' ≡ answers ++ said.Refused n errno ∷ [] → HasPipe k live.pipe → LegalBoard k.seen → HoldsFor (λ walk. sizes_live walk n live size) live live' k k [] answers answers'
+    → answers' ≡ answers ++ said.Refused n errno ∷ [] → HasPipe k live.pipe → LegalBoard k.seen → HoldsFor (λ walk. set_tag_size walk n live.label size) live live' k k [] answers answers'
 size-refused live live' k n size errno answers answers' why e on legal =
-    subst (λ x. HoldsFor (λ walk. sizes_live walk n live size) live x k k [] answers answers') (sym why.2)
-    (says-for (λ walk. sizes_live walk n live size) live k (said.Refused n EINVAL) answers answers' on legal (λ walk posted. ap (if_sized walk n live size) why.1)
+    subst (λ x. HoldsFor (λ walk. set_tag_size walk n live.label size) live x k k [] answers answers') (sym why.2)
+    (says-for (λ walk. set_tag_size walk n live.label size) live k (said.Refused n EINVAL) answers answers' on legal (λ walk found posted. size-at walk n live size false why.1 found)
     (e ∙ ap (λ x. answers ++ said.Refused n x ∷ []) why.0))
 
 -- ---- `hold T` and `go T`
@@ -315,12 +334,22 @@ pub queue-of : (o : Option ℕ) → is_some o ≡ true → IsQueue o
 queue-of None e = absurd cc
 queue-of (Some n) e = tt
 
--- only a queue is held and let go
-pub queue-none : (walk : Walk) (n : ℕ) (live : Live) (rest : Pipe → Dialogue) → live.pipe ≡ None → with_queue walk n live.pipe rest ≡ refuses walk n EINVAL
-queue-none walk n live rest none = ap (λ o. with_queue walk n o rest) none
+-- what is done with a queue
+abbrev switches : Walk → ℕ → Live → Bool → Pipe → Dialogue
+switches walk n live true pipe = Posts (Hold pipe.number) λ done. says (with_pipe walk live (record pipe { held = true })) (said.Ok n)
+switches walk n live false pipe = Posts (Go pipe.number) λ done. says (with_pipe walk live (record pipe { held = false })) (said.Ok n)
 
-pub queue-pad : (walk : Walk) (n : ℕ) (live : Live) (pipe : Pipe) (rest : Pipe → Dialogue) → live.pipe ≡ Some pipe → pipe.bound ≡ None → with_queue walk n live.pipe rest ≡ refuses walk n EINVAL
-queue-pad walk n live pipe rest has none = ap (λ o. with_queue walk n o rest) has ∙ ap (λ o. if_queue walk n o (rest pipe)) none
+hold-at : (held : Bool) (walk : Walk) (n : ℕ) (live : Live) → live_of walk live.label ≡ Some live → holds_or_goes walk n live.label held ≡ with_queue walk n live.pipe (switches walk n live held)
+hold-at true walk n live found = ap (λ o. for_live walk n o (λ (l : Live). with_queue walk n l.pipe (switches walk n l true))) found
+hold-at false walk n live found = ap (λ o. for_live walk n o (λ (l : Live). with_queue walk n l.pipe (switches walk n l false))) found
+
+-- only a queue is held and let go
+pub hold-none : (held : Bool) (walk : Walk) (n : ℕ) (live : Live) → live.pipe ≡ None → live_of walk live.label ≡ Some live → holds_or_goes walk n live.label held ≡ refuses walk n EINVAL
+hold-none held walk n live none found = hold-at held walk n live found ∙ ap (λ o. with_queue walk n o (switches walk n live held)) none
+
+pub hold-pad : (held : Bool) (walk : Walk) (n : ℕ) (live : Live) (pipe : Pipe) → live.pipe ≡ Some pipe → pipe.bound ≡ None → live_of walk live.label ≡ Some live → holds_or_goes walk n live.label held ≡ refuses walk n EINVAL
+hold-pad held walk n live pipe has none found =
+    hold-at held walk n live found ∙ (ap (λ o. with_queue walk n o (switches walk n live held)) has ∙ ap (λ o. if_queue walk n o (switches walk n live held pipe)) none)
 
 queue-bound : (walk : Walk) (n : ℕ) (live : Live) (pipe : Pipe) (bound : Option ℕ) (rest : Pipe → Dialogue) → live.pipe ≡ Some pipe → pipe.bound ≡ bound → IsQueue bound → with_queue walk n live.pipe rest ≡ rest pipe
 queue-bound walk n live pipe None rest has is queue = absurd queue
@@ -328,7 +357,7 @@ queue-bound walk n live pipe (Some max) rest has is queue = ap (λ o. with_queue
 
 -- a call on the pipeline of a transform, and then an answer
 call-holds : (k l : Known (BoardEntry Ask)) (live live' : Live) (pipe pipe' : Pipe) (n : ℕ) (call : BoardCall) (d rest : Walk → Dialogue) (answers answers' : List Answer)
-    → live.pipe ≡ Some pipe → ((walk : Walk) → d walk ≡ rest walk) → Changed k l pipe pipe' (call ∷ []) []
+    → live.pipe ≡ Some pipe → ((walk : Walk) → live_of walk live.label ≡ Some live → d walk ≡ rest walk) → Changed k l pipe pipe' (call ∷ []) []
     → ((walk : Walk) → IsTurn (rest walk) (record { registry = []; board = call ∷ []; answers = said.Ok n ∷ []; after = Some (with_pipe walk live pipe') }))
     → live' ≡ record live { pipe = Some pipe' } → answers' ≡ answers ++ said.Ok n ∷ [] → HoldsFor d live live' k l [] answers answers'
 call-holds k l live live' pipe pipe' n call d rest answers answers' has opens changed turns live_is e =
@@ -338,32 +367,47 @@ call-holds k l live live' pipe pipe' n call d rest answers answers' has opens ch
       said = said.Ok n ∷ [];
       changes = changes-pipe live k l pipe pipe' (call ∷ []) [] has changed;
       is = λ walk found posted.
-          subst (λ x. IsTurn x (record { registry = []; board = call ∷ []; answers = said.Ok n ∷ []; after = Some (counting (with_live walk new) []) })) (sym (opens walk))
+          subst (λ x. IsTurn x (record { registry = []; board = call ∷ []; answers = said.Ok n ∷ []; after = Some (counting (with_live walk new) []) })) (sym (opens walk found))
           (subst (λ w. IsTurn (rest walk) (record { registry = []; board = call ∷ []; answers = said.Ok n ∷ []; after = Some w })) (sym (counting-none (with_live walk new))) (turns walk));
       says = e;
     })
 
-pub switch-holds : (k l : Known (BoardEntry Ask)) (live live' : Live) (pipe pipe' : Pipe) (n : ℕ) (call : BoardCall) (rest : Walk → Pipe → Dialogue) (answers answers' : List Answer)
-    → live.pipe ≡ Some pipe → IsQueue pipe.bound → Changed k l pipe pipe' (call ∷ []) []
-    → ((walk : Walk) → IsTurn (rest walk pipe) (record { registry = []; board = call ∷ []; answers = said.Ok n ∷ []; after = Some (with_pipe walk live pipe') }))
-    → live' ≡ record live { pipe = Some pipe' } → answers' ≡ answers ++ said.Ok n ∷ [] → HoldsFor (λ walk. with_queue walk n live.pipe (rest walk)) live live' k l [] answers answers'
-switch-holds k l live live' pipe pipe' n call rest answers answers' has queue changed turns live_is e =
-    call-holds k l live live' pipe pipe' n call (λ walk. with_queue walk n live.pipe (rest walk)) (λ walk. rest walk pipe) answers answers' has
-    (λ walk. queue-bound walk n live pipe pipe.bound (rest walk) has refl queue) changed turns live_is e
-
 pub held-live : (live live' : Live) (pipe : Pipe) (held : Bool) → live.pipe ≡ Some pipe → live' ≡ held_as live held → live' ≡ record live { pipe = Some (record pipe { held = held }) }
 held-live live live' pipe held has is = is ∙ ap (λ o. record live { pipe = option_map (λ (p : Pipe). record p { held = held }) o }) has
 
+switched : (held : Bool) (walk : Walk) (n : ℕ) (live : Live) (pipe : Pipe)
+    → IsTurn (switches walk n live held pipe) (record { registry = []; board = hold_call held pipe.number ∷ []; answers = said.Ok n ∷ []; after = Some (with_pipe walk live (record pipe { held = held })) })
+switched true walk n live pipe = refl
+switched false walk n live pipe = refl
+
+pub hold-holds : (held : Bool) (k l : Known (BoardEntry Ask)) (live live' : Live) (pipe : Pipe) (n : ℕ) (answers answers' : List Answer)
+    → live.pipe ≡ Some pipe → IsQueue pipe.bound → Changed k l pipe (record pipe { held = held }) (hold_call held pipe.number ∷ []) []
+    → live' ≡ held_as live held → answers' ≡ answers ++ said.Ok n ∷ [] → HoldsFor (λ walk. holds_or_goes walk n live.label held) live live' k l [] answers answers'
+hold-holds held k l live live' pipe n answers answers' has queue changed live_is e =
+    call-holds k l live live' pipe (record pipe { held = held }) n (hold_call held pipe.number) (λ walk. holds_or_goes walk n live.label held) (λ walk. switches walk n live held pipe) answers answers' has
+    (λ walk found. hold-at held walk n live found ∙ queue-bound walk n live pipe pipe.bound (switches walk n live held) has refl queue) changed (λ walk. switched held walk n live pipe)
+    (held-live live live' pipe held has live_is) e
+
+-- the call that holds a queue, or lets it go
+pub held-changed : {A : Type 0} (result : Result A BoardErr) (k l : Known (BoardEntry Ask)) (pipe : Pipe) (given held : Bool) → given ≡ held
+    → MatchResult result (λ _. Changed k l pipe (record pipe { held = held }) (hold_call held pipe.number ∷ []) []) (λ e. (e ≡ board_err.Memory) × Kept k l)
+    → MatchResult result (λ _. Changed k l pipe (record pipe { held = given }) (hold_call given pipe.number ∷ []) []) (λ _. Kept k l)
+held-changed (Ok done) k l pipe given held is changed = subst (λ x. Changed k l pipe (record pipe { held = x }) (hold_call x pipe.number ∷ []) []) (sym is) changed
+held-changed (Err e) k l pipe given held is kept = kept.1
+
 -- ---- `mask T MASK`
 
--- only a pad is masked
-pub pad-none : (walk : Walk) (n : ℕ) (live : Live) (rest : Pipe → Dialogue) → live.pipe ≡ None → with_pad walk n live.pipe rest ≡ refuses walk n EINVAL
-pad-none walk n live rest none = ap (λ o. with_pad walk n o rest) none
+mask-at : (workers : ℕ) (walk : Walk) (n bits : ℕ) (live : Live) → live_of walk live.label ≡ Some live → mask workers walk n live.label bits ≡ with_pad walk n live.pipe (masks workers walk n bits live)
+mask-at workers walk n bits live found = ap (λ o. for_live walk n o (λ (l : Live). with_pad walk n l.pipe (masks workers walk n bits l))) found
 
-pub pad-queue : (walk : Walk) (n : ℕ) (live : Live) (pipe : Pipe) (rest : Pipe → Dialogue) → live.pipe ≡ Some pipe → is_some pipe.bound ≡ true → with_pad walk n live.pipe rest ≡ refuses walk n EINVAL
-pad-queue walk n live pipe rest has some = ap (λ o. with_pad walk n o rest) has ∙ by_bound pipe.bound some
+-- only a pad is masked
+pub mask-none : (workers : ℕ) (walk : Walk) (n bits : ℕ) (live : Live) → live.pipe ≡ None → live_of walk live.label ≡ Some live → mask workers walk n live.label bits ≡ refuses walk n EINVAL
+mask-none workers walk n bits live none found = mask-at workers walk n bits live found ∙ ap (λ o. with_pad walk n o (masks workers walk n bits live)) none
+
+pub mask-queue : (workers : ℕ) (walk : Walk) (n bits : ℕ) (live : Live) (pipe : Pipe) → live.pipe ≡ Some pipe → is_some pipe.bound ≡ true → live_of walk live.label ≡ Some live → mask workers walk n live.label bits ≡ refuses walk n EINVAL
+mask-queue workers walk n bits live pipe has some found = mask-at workers walk n bits live found ∙ (ap (λ o. with_pad walk n o (masks workers walk n bits live)) has ∙ by_bound pipe.bound some)
   where
-    by_bound : (bound : Option ℕ) → is_some bound ≡ true → if_pad walk n bound (rest pipe) ≡ refuses walk n EINVAL
+    by_bound : (bound : Option ℕ) → is_some bound ≡ true → if_pad walk n bound (masks workers walk n bits live pipe) ≡ refuses walk n EINVAL
     by_bound None e = absurd cc
     by_bound (Some max) e = refl
 
@@ -373,10 +417,10 @@ pad-of (Some n) e = absurd cc
 
 pub mask-holds : (k l : Known (BoardEntry Ask)) (live live' : Live) (pipe : Pipe) (workers n bits kept : ℕ) (answers answers' : List Answer)
     → live.pipe ≡ Some pipe → is_some pipe.bound ≡ false → kept ≡ kept_bits workers bits → Changed k l pipe (record pipe { unmanned = kept == 0 }) (Masks pipe.number kept ∷ []) []
-    → live' ≡ record live { pipe = Some (record pipe { unmanned = kept == 0 }) } → answers' ≡ answers ++ said.Ok n ∷ [] → HoldsFor (λ walk. masks_in workers walk n bits live) live live' k l [] answers answers'
+    → live' ≡ record live { pipe = Some (record pipe { unmanned = kept == 0 }) } → answers' ≡ answers ++ said.Ok n ∷ [] → HoldsFor (λ walk. mask workers walk n live.label bits) live live' k l [] answers answers'
 mask-holds k l live live' pipe workers n bits kept answers answers' has none is changed live_is e =
-    call-holds k l live live' pipe (record pipe { unmanned = kept == 0 }) n (Masks pipe.number kept) (λ walk. masks_in workers walk n bits live) (λ walk. masks workers walk n bits live pipe) answers answers' has
-    (λ walk. ap (λ o. with_pad walk n o (masks workers walk n bits live)) has ∙ ap (λ o. if_pad walk n o (masks workers walk n bits live pipe)) (none-of pipe.bound none))
+    call-holds k l live live' pipe (record pipe { unmanned = kept == 0 }) n (Masks pipe.number kept) (λ walk. mask workers walk n live.label bits) (λ walk. masks workers walk n bits live pipe) answers answers' has
+    (λ walk found. mask-at workers walk n bits live found ∙ (ap (λ o. with_pad walk n o (masks workers walk n bits live)) has ∙ ap (λ o. if_pad walk n o (masks workers walk n bits live pipe)) (none-of pipe.bound none)))
     changed
     (λ walk. subst (λ m. IsTurn (masks workers walk n bits live pipe) (record { registry = []; board = Masks pipe.number m ∷ []; answers = said.Ok n ∷ []; after = Some (with_pipe walk live (record pipe { unmanned = m == 0 })) })) (sym is) refl)
     live_is e
@@ -386,24 +430,21 @@ manned-live live live' pipe unmanned has is = is ∙ ap (λ o. record live { pip
 
 -- ---- `poll T`
 
-pub poll-none : (walk : Walk) (n : ℕ) (live : Live) → live.pipe ≡ None → polls_in walk n live live.pipe ≡ says walk (said.Polled n 0)
-poll-none walk n live none = ap (polls_in walk n live) none
-
-pub poll-holds : (k l : Known (BoardEntry Ask)) (live live' : Live) (pipe : Pipe) (n count : ℕ) (callbacks : List (Callback Finished)) (all : Bool) (answers answers' : List Answer)
+poll-holds : (k l : Known (BoardEntry Ask)) (live live' : Live) (pipe : Pipe) (n count : ℕ) (callbacks : List (Callback Finished)) (all : Bool) (answers answers' : List Answer)
     → live.pipe ≡ Some pipe → Polled k l pipe callbacks all → count ≡ completions callbacks → live' ≡ delivering live count
-    → answers' ≡ answers ++ (map (callback_said pipe.lines) callbacks ++ said.Polled n count ∷ []) → HoldsFor (λ walk. polls_in walk n live live.pipe) live live' k l [] answers answers'
+    → answers' ≡ answers ++ (map (callback_said pipe.lines) callbacks ++ said.Polled n count ∷ []) → HoldsFor (λ walk. poll walk n live.label) live live' k l [] answers answers'
 poll-holds k l live live' pipe n count callbacks all answers answers' has polled counts live_is e =
     let notices = map (notice_by pipe.lines) callbacks in
     let pipe' : Pipe = record pipe { delivered = pipe.delivered + completions callbacks } in
     let new : Live = record live { pipe = Some pipe' } in
     let call : BoardCall = Collects pipe.number (record { notices = notices; all_done = all }) in
     let live-is : live' ≡ new = delivered-live live live' pipe count callbacks has counts live_is in
-    subst (λ x. HoldsFor (λ walk. polls_in walk n live live.pipe) live x k l [] answers answers') (sym live-is) (record {
+    subst (λ x. HoldsFor (λ walk. poll walk n live.label) live x k l [] answers answers') (sym live-is) (record {
       calls = call ∷ [];
       said = (map notice_said notices ++ said.Polled n (completed_in notices) ∷ []) ++ [];
       changes = changes-pipe live k l pipe pipe' (call ∷ []) [] has polled;
       is = λ walk found posted.
-          subst (λ d. IsTurn d (record { registry = []; board = call ∷ []; answers = (map notice_said notices ++ said.Polled n (completed_in notices) ∷ []) ++ []; after = Some (counting (with_live walk new) []) })) (sym (ap (polls_in walk n live) has))
+          subst (λ d. IsTurn d (record { registry = []; board = call ∷ []; answers = (map notice_said notices ++ said.Polled n (completed_in notices) ∷ []) ++ []; after = Some (counting (with_live walk new) []) })) (sym (poll-at walk n live found ∙ ap (polls_in walk n live) has))
           (subst (λ w. IsTurn (polls_in walk n live (Some pipe)) (record { registry = []; board = call ∷ []; answers = (map notice_said notices ++ said.Polled n (completed_in notices) ∷ []) ++ []; after = Some w })) (sym (counting-none (with_live walk new)))
           (ap (λ c. record { registry = []; board = call ∷ []; answers = (map notice_said notices ++ said.Polled n (completed_in notices) ∷ []) ++ []; after = Some (with_pipe walk live (record pipe { delivered = pipe.delivered + c })) }) (count-is pipe.lines callbacks)));
       says =
@@ -411,6 +452,14 @@ poll-holds k l live live' pipe n count callbacks all answers answers' has polled
           (ap (λ x. x ++ said.Polled n count ∷ []) (sym (said-is pipe.lines callbacks))
           ∙ (ap (λ c. map notice_said notices ++ said.Polled n c ∷ []) (counts ∙ sym (count-is pipe.lines callbacks)) ∙ sym (append-nil (map notice_said notices ++ said.Polled n (completed_in notices) ∷ []))));
     })
+
+pub collect-holds : (waits : Bool) (k l : Known (BoardEntry Ask)) (live live' : Live) (pipe : Pipe) (n count : ℕ) (callbacks : List (Callback Finished)) (all : Bool) (answers answers' : List Answer)
+    → live.pipe ≡ Some pipe → (waits && pipe.held) ≡ false → (waits ≡ true → all ≡ true) → Polled k l pipe callbacks all → count ≡ completions callbacks → live' ≡ delivering live count
+    → answers' ≡ answers ++ (map (callback_said pipe.lines) callbacks ++ collected_said n waits count ∷ []) → HoldsFor (λ walk. collects waits walk n live.label) live live' k l [] answers answers'
+collect-holds true k l live live' pipe n count callbacks all answers answers' has free whole polled counts live_is e =
+    drain-holds k l live live' pipe n count callbacks answers answers' has free (subst (Polled k l pipe callbacks) (whole refl) polled) counts live_is e
+collect-holds false k l live live' pipe n count callbacks all answers answers' has free whole polled counts live_is e =
+    poll-holds k l live live' pipe n count callbacks all answers answers' has polled counts live_is e
 
 -- it hands out no more than it accepted
 pub may-deliver-polled : ((h : List (BoardEntry Ask)) (p : ℕ) → HandsOutAtMost h p) → (k l : Known (BoardEntry Ask)) (live : Live) (pipe : Pipe) (count : ℕ) (callbacks : List (Callback Finished)) (all : Bool) → live.pipe ≡ Some pipe → Polled k l pipe callbacks all → count ≡ completions callbacks → MayDeliver count live.pipe
@@ -425,3 +474,26 @@ may-deliver-polled law k l live pipe count callbacks all has polled counts =
 -- what is added to nothing is all
 pub from-empty : (into : Handed Finished) (more xs : List (Callback Finished)) → into ≡ record { list = []; spare = 0 } → xs ≡ into.list ++ more → xs ≡ more
 from-empty into more xs new e = e ∙ ap (λ (handed : Handed Finished). handed.list ++ more) new
+
+-- ---- whatever a line sets
+
+-- a label that no transform has
+label-free : (walk : Walk) (n : ℕ) (label : List ℕ) (rest : Live → Dialogue) → live_of walk label ≡ None → with_label walk n label rest ≡ refuses walk n ENOENT
+label-free walk n label rest none = ap (λ o. for_live walk n o rest) none
+
+pub set-free : (workers : ℕ) (walk : Walk) (n : ℕ) (label : List ℕ) (setting : Setting) → live_of walk label ≡ None → sets workers walk n label setting ≡ refuses walk n ENOENT
+set-free workers walk n label (set.Key key) none = label-free walk n label (λ live. if_taken walk n live key (takes_key live.plan key)) none
+set-free workers walk n label (set.TagSize size) none = label-free walk n label (λ live. if_sized walk n live size (takes_tag live.plan size)) none
+set-free workers walk n label (set.Mask bits) none = label-free walk n label (λ live. with_pad walk n live.pipe (masks workers walk n bits live)) none
+set-free workers walk n label (set.Held true) none = label-free walk n label (λ live. with_queue walk n live.pipe (switches walk n live true)) none
+set-free workers walk n label (set.Held false) none = label-free walk n label (λ live. with_queue walk n live.pipe (switches walk n live false)) none
+
+pub collect-free : (waits : Bool) (walk : Walk) (n : ℕ) (label : List ℕ) → live_of walk label ≡ None → collects waits walk n label ≡ refuses walk n ENOENT
+collect-free true walk n label none = label-free walk n label (λ live. drains_in walk n live live.pipe) none
+collect-free false walk n label none = label-free walk n label (λ live. polls_in walk n live live.pipe) none
+
+pub setting-arm : {S A : Type 0} (result : Result A S) (workers n : ℕ) (live live' : Live) (k l : Known (BoardEntry Ask)) (setting given : Setting) (answers answers' : List Answer) → setting ≡ given
+    → MatchResult result (λ _. HoldsFor (λ walk. sets workers walk n live.label given) live live' k l [] answers answers') (λ _. SeesOn k l)
+    → MatchResult result (λ _. HoldsFor (λ walk. sets workers walk n live.label setting) live live' k l [] answers answers') (λ _. SeesOn k l)
+setting-arm result workers n live live' k l setting given answers answers' is held =
+    subst (λ x. MatchResult result (λ _. HoldsFor (λ walk. sets workers walk n live.label x) live live' k l [] answers answers') (λ _. SeesOn k l)) (sym is) held

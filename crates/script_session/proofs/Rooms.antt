@@ -1,5 +1,5 @@
 -- The text of what is handed out fits into its room.
-use Rattle.std.proofs.Common.{◌≡◌, ℕ, ◌+◌, ◌*◌, ◌^◌, ◌<◌, ◌≤◌, List, [], ◌∷◌, ◌++◌, length, map, take, refl, ap, ◌∙◌, append-nil, length-append, arith, codes, get_or}
+use Rattle.std.proofs.Common.{◌≡◌, ℕ, ◌+◌, ◌*◌, ◌^◌, ◌<◌, ◌≤◌, Bool, true, false, List, [], ◌∷◌, ◌++◌, length, map, take, refl, ap, ◌∙◌, append-nil, length-append, arith, codes, get_or}
 use Rattle.std.specs.Prelude.{sum_by}
 use Rattle.std.specs.Fmt.{decimal}
 use Rattle.std.specs.List.{flat_map}
@@ -19,7 +19,7 @@ use Rattle.reply_text.specs.Answers.{hex_text, sentence, text_of}
 use Rattle.reply_text.specs.declared.answers.Answer.{Answer}
 use Rattle.reply_text.specs.declared.answers.Answer.TheVariants as said
 use Rattle.session_calls.specs.Bounds.{callback_length, AreWithin}
-use Rattle.script_session.specs.Saying.{callback_room}
+use Rattle.script_session.specs.Saying.{callback_room, collected_said}
 use Rattle.script_session.specs.Telling.{callback_said}
 
 -- ---- lines
@@ -52,11 +52,15 @@ bad-length line small = omega (arith, three-words (decimal line) (codes "fail") 
 pub invalid-length : (line : ℕ) → line < 2 ^ 32 → length (text_of (said.Failed line EINVAL)) ≤ 24
 invalid-length line small = omega (arith, three-words (decimal line) (codes "fail") (codes "EINVAL"), line-length line small)
 
-pub polled-length : (line count : ℕ) → line < 2 ^ 32 → count < 2 ^ 64 → length (text_of (said.Polled line count)) ≤ 64
+polled-length : (line count : ℕ) → line < 2 ^ 32 → count < 2 ^ 64 → length (text_of (said.Polled line count)) ≤ 64
 polled-length line count small few = omega (arith, three-words (decimal line) (codes "polled") (decimal count), line-length line small, count-length count few)
 
-pub drained-length : (line count : ℕ) → line < 2 ^ 32 → count < 2 ^ 64 → length (text_of (said.Drained line count)) ≤ 64
+drained-length : (line count : ℕ) → line < 2 ^ 32 → count < 2 ^ 64 → length (text_of (said.Drained line count)) ≤ 64
 drained-length line count small few = omega (arith, three-words (decimal line) (codes "drained") (decimal count), line-length line small, count-length count few)
+
+pub collected-length : (waits : Bool) (line count : ℕ) → line < 2 ^ 32 → count < 2 ^ 64 → length (text_of (collected_said line waits count)) ≤ 64
+collected-length true line count small few = drained-length line count small few
+collected-length false line count small few = polled-length line count small few
 
 pub end-length : (label : List ℕ) (count : ℕ) → count < 2 ^ 64 → length (text_of (said.End label count)) ≤ length label + 64
 end-length label count few = omega (arith, three-words (codes "end") label (decimal count), count-length count few)

@@ -1,6 +1,6 @@
 -- Lines, and the end of input, whose text goes straight into a reply.
 use Rattle.std.proofs.Common.{◌≡◌, ℕ, ◌+◌, ◌<◌, ◌≤◌, Bool, true, false, List, [], ◌∷◌, ◌++◌, length, map, Some, Result, Ok, Err, OnOk, refl, sym, ap, ◌∙◌, append-nil, append_assoc, slice_index_or}
-use Rattle.std.specs.Prelude.{◌==◌, if◌then◌else◌, filter, OnErr, MatchResult}
+use Rattle.std.specs.Prelude.{◌==◌, ◌&&◌, if◌then◌else◌, filter, OnErr, MatchResult}
 use Rattle.std.specs.List.{flat_map}
 use Rattle.std.proofs.Math.ListN.{set}
 use Rattle.std.proofs.lemmas.Grind.{flat_map-append}
@@ -8,7 +8,10 @@ use Rattle.std.proofs.lemmas.List.Elements.{filter-append}
 use Rattle.kc_base.specs.declared.callback_list.Callback.{Callback}
 use Rattle.kc_base.specs.declared.callback_list.Callback.TheVariants as callback
 use Rattle.board.specs.declared.entry.BoardEntry.{BoardEntry}
+use Rattle.board.specs.Allowance.{accepted_by}
 use Rattle.board.specs.Handing.{completions}
+use Rattle.board.specs.declared.board_core.BoardErr.{BoardErr}
+use Rattle.board.specs.declared.board_core.BoardErr.TheVariants as board_err
 use Rattle.board.specs.Legal.{LegalBoard}
 use Rattle.transforms.specs.declared.ask.Ask.{Ask}
 use Rattle.transforms.specs.declared.request.Finished.{Finished}
@@ -19,22 +22,23 @@ use Rattle.reply_text.specs.declared.answers.Answer.TheVariants as said
 use Rattle.turn_lock.specs.Turns.{Known}
 use Rattle.dialogues.specs.BoardCalls.{Goes, Collects}
 use Rattle.dialogues.specs.Dialogues.{Dialogue, says}
-use Rattle.dialogues.specs.Piping.{polls_in, drains_in, drains_at_end, drain_all, notice_said}
-use Rattle.dialogues.specs.Walk.{Walk, Live, Pipe}
+use Rattle.dialogues.specs.Piping.{drains_at_end, drain_all, notice_said}
+use Rattle.dialogues.specs.Walk.{Walk, Live, Pipe, live_of}
+use Rattle.session_calls.specs.Bounds.{AreWithin}
 use Rattle.session_calls.specs.Passes.{known}
 use Rattle.session_calls.specs.Pipelines.{Called, Changed, Kept, Polled, Drained, notice_by}
 use Rattle.session_calls.proofs.Boarding.{kept-same, called-more}
 use Rattle.script_session.specs.Ending.{Moves, ArePosted, end_said}
 use Rattle.script_session.specs.Holding.{SeesOn, Holds}
 use Rattle.script_session.specs.Keyed.{delivering}
-use Rattle.script_session.specs.Saying.{SaysFor, BreaksFor, SaysBy, BreaksOff, SaysMove, SaysMoves, is_told, call_says, Tells, SaysTold}
+use Rattle.script_session.specs.Saying.{SaysFor, BreaksFor, SaysBy, BreaksOff, SaysMove, SaysMoves, is_told, call_says, Tells, SaysTold, collects, collected_said, Collected}
 use Rattle.script_session.specs.States.{State, HasPipe, Stands, Posted}
 use Rattle.script_session.specs.Telling.{callback_said}
 use Rattle.script_session.proofs.Arms.{called-sees, stops-same}
 use Rattle.script_session.proofs.Ended.{drains-last}
 use Rattle.script_session.proofs.Leading.{drain-more}
 use Rattle.script_session.proofs.Moving.{OnTheWay, sets-out, goes-further, all-moved}
-use Rattle.script_session.proofs.Piped.{says-for, said-is, poll-holds, drain-holds}
+use Rattle.script_session.proofs.Piped.{says-for, said-is, collect-holds}
 use Rattle.script_session.proofs.Rooms.{flat-one, flat-more}
 
 -- it says what is left to say, or memory is wanting and it says nothing
@@ -58,7 +62,7 @@ breaks-see k l text text' breaks = called-sees k l [] breaks.called breaks.unshu
 -- ---- one answer
 
 pub one-says : (d : Walk → Dialogue) (live : Live) (k : Known (BoardEntry Ask)) (answer : Answer) (text text' : List ℕ) → HasPipe k live.pipe → LegalBoard k.seen
-    → ((walk : Walk) → Posted walk k → d walk ≡ says walk answer) → text' ≡ text ++ text_of answer → SaysFor d live live k k text text'
+    → ((walk : Walk) → live_of walk live.label ≡ Some live → Posted walk k → d walk ≡ says walk answer) → text' ≡ text ++ text_of answer → SaysFor d live live k k text text'
 one-says d live k answer text text' on legal is e =
     record { said = answer ∷ []; held = says-for d live k answer [] (answer ∷ []) on legal is refl; says = e ∙ ap (λ x. text ++ x) (sym (flat-one answer)) }
 
@@ -72,29 +76,31 @@ told-text lines callbacks answer text a b c first middle last =
     ∙ (ap (λ x. x ++ text_of answer) (middle ∙ ap (λ x. x ++ flat_map text_of told) first)
     ∙ (append_assoc text (flat_map text_of told) (text_of answer) ∙ ap (λ x. text ++ x) (sym (flat-more told answer))))
 
-pub poll-says : (k l : Known (BoardEntry Ask)) (live live' : Live) (pipe : Pipe) (n count : ℕ) (callbacks : List (Callback Finished)) (all : Bool) (text a b text' : List ℕ)
-    → live.pipe ≡ Some pipe → Polled k l pipe callbacks all → count ≡ completions callbacks → live' ≡ delivering live count
-    → a ≡ text → b ≡ a ++ flat_map text_of (map (callback_said pipe.lines) callbacks) → text' ≡ b ++ text_of (said.Polled n count)
-    → SaysFor (λ walk. polls_in walk n live live.pipe) live live' k l text text'
-poll-says k l live live' pipe n count callbacks all text a b text' has polled counts live_is first middle last =
-    let answers : List Answer = map (callback_said pipe.lines) callbacks ++ said.Polled n count ∷ [] in
+pub collect-says : (waits : Bool) (k l : Known (BoardEntry Ask)) (live live' : Live) (pipe : Pipe) (n count : ℕ) (callbacks : List (Callback Finished)) (all : Bool) (text a b text' : List ℕ)
+    → live.pipe ≡ Some pipe → (waits && pipe.held) ≡ false → (waits ≡ true → all ≡ true) → Polled k l pipe callbacks all → count ≡ completions callbacks → live' ≡ delivering live count
+    → a ≡ text → b ≡ a ++ flat_map text_of (map (callback_said pipe.lines) callbacks) → text' ≡ b ++ text_of (collected_said n waits count)
+    → SaysFor (λ walk. collects waits walk n live.label) live live' k l text text'
+collect-says waits k l live live' pipe n count callbacks all text a b text' has free whole polled counts live_is first middle last =
+    let answers : List Answer = map (callback_said pipe.lines) callbacks ++ collected_said n waits count ∷ [] in
     record {
       said = answers;
-      held = poll-holds k l live live' pipe n count callbacks all [] answers has polled counts live_is refl;
-      says = told-text pipe.lines callbacks (said.Polled n count) text a b text' first middle last;
+      held = collect-holds waits k l live live' pipe n count callbacks all [] answers has free whole polled counts live_is refl;
+      says = told-text pipe.lines callbacks (collected_said n waits count) text a b text' first middle last;
     }
 
-pub drain-says : (k l : Known (BoardEntry Ask)) (live live' : Live) (pipe : Pipe) (n count : ℕ) (callbacks : List (Callback Finished)) (text a b text' : List ℕ)
-    → live.pipe ≡ Some pipe → pipe.held ≡ false → Drained k l pipe callbacks → count ≡ completions callbacks → live' ≡ delivering live count
-    → a ≡ text → b ≡ a ++ flat_map text_of (map (callback_said pipe.lines) callbacks) → text' ≡ b ++ text_of (said.Drained n count)
-    → SaysFor (λ walk. drains_in walk n live live.pipe) live live' k l text text'
-drain-says k l live live' pipe n count callbacks text a b text' has free drained counts live_is first middle last =
-    let answers : List Answer = map (callback_said pipe.lines) callbacks ++ said.Drained n count ∷ [] in
-    record {
-      said = answers;
-      held = drain-holds k l live live' pipe n count callbacks [] answers has free drained counts live_is refl;
-      says = told-text pipe.lines callbacks (said.Drained n count) text a b text' first middle last;
-    }
+-- what a poll collects, and what a drain does
+pub polled-collected : {A : Type 0} (result : Result A BoardErr) (waits : Bool) (k l : Known (BoardEntry Ask)) (pipe : Pipe) (had has : List (Callback Finished)) → waits ≡ false
+    → MatchResult result (λ _. (callbacks : List (Callback Finished)) × (all : Bool) × (has ≡ had ++ callbacks) × Polled k l pipe callbacks all × AreWithin (length pipe.lines) (accepted_by k.number k.seen) callbacks) (λ e. (e ≡ board_err.Memory) × Kept k l)
+    → MatchResult result (λ _. Collected waits k l pipe had has) (λ _. Kept k l)
+polled-collected (Ok done) waits k l pipe had has off d =
+    record { callbacks = d.0; all = d.1; whole = λ yes. absurd (let both : true ≡ false = sym yes ∙ off in cc); added = d.2; polled = d.3; within = d.4 }
+polled-collected (Err e) waits k l pipe had has off kept = kept.1
+
+pub drained-collected : {A : Type 0} (result : Result A BoardErr) (waits : Bool) (k l : Known (BoardEntry Ask)) (pipe : Pipe) (had has : List (Callback Finished))
+    → MatchResult result (λ _. (callbacks : List (Callback Finished)) × (has ≡ had ++ callbacks) × Drained k l pipe callbacks × (pipe.delivered + completions callbacks ≡ length pipe.lines) × AreWithin (length pipe.lines) (accepted_by k.number k.seen) callbacks) (λ e. (e ≡ board_err.Memory) × Kept k l)
+    → MatchResult result (λ _. Collected waits k l pipe had has) (λ _. Kept k l)
+drained-collected (Ok done) waits k l pipe had has d = record { callbacks = d.0; all = true; whole = λ yes. refl; added = d.1; polled = d.2; within = d.4 }
+drained-collected (Err e) waits k l pipe had has kept = kept.1
 
 -- ---- the last drain
 

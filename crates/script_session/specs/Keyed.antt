@@ -1,21 +1,15 @@
 -- The key that a transform holds, and the jobs that it makes under it.
-use Rattle.std.specs.Prelude.{ℕ, not, ◌+◌, ◌≤◌, ◌≡◌, Bool, true, false, List, [], ◌∷◌, ◌++◌, length, Option, Some, None, ⊤}
+use Rattle.std.specs.Prelude.{ℕ, ◌+◌, ◌≤◌, ◌≡◌, Bool, true, false, List, [], ◌∷◌, ◌++◌, length, Option, Some, None, ⊤}
 use Rattle.std.specs.Option.{option_map}
 use Rattle.std.specs.Arc.{arc_value}
 use Rattle.std.specs.declared.sync.Arc.{Arc}
 use Rattle.templates.specs.declared.driver_plans.Plan.{Plan}
 use Rattle.transforms.specs.declared.request.Request.{Request}
 use Rattle.transforms.specs.Asked.{takes}
-use Rattle.script_session.specs.declared.transform.JobErr.{JobErr}
-use Rattle.script_session.specs.declared.transform.JobErr.TheVariants.{NoKey, Inval, Memory}
+use Rattle.transforms.specs.declared.tfm_err.TfmErr.{TfmErr}
+use Rattle.transforms.specs.declared.tfm_err.TfmErr.TheVariants.{Inval, Memory}
 use Rattle.dialogues.specs.BoardCalls.{Asked}
-use Rattle.kc_base.specs.declared.error_numbers.Errno.TheVariants.{EINVAL}
-use Rattle.reply_text.specs.declared.answers.Answer.TheVariants as said
-use Rattle.transforms.specs.Plans.{takes_key, takes_tag}
-use Rattle.dialogues.specs.Dialogues.{Dialogue, Posts, unless, says}
-use Rattle.dialogues.specs.Piping.{with_pad, masks, with_queue}
-use Rattle.dialogues.specs.Questions.{Hold, Go}
-use Rattle.dialogues.specs.Walk.{Walk, Live, Pipe, with_live, with_pipe}
+use Rattle.dialogues.specs.Walk.{Live, Pipe}
 
 module _ {Z : Type 0} where
   -- the bytes of the key
@@ -43,9 +37,8 @@ abbrev pub IsNotTaken : Live → Request → Option (List ℕ) → Type 0
 IsNotTaken live request None = ⊥
 IsNotTaken live request (Some key) = takes live.plan live.tag_size request ≡ false
 
--- why there is no job
-abbrev pub IsNoJob : Live → Request → JobErr → Type 0
-IsNoJob live request NoKey = live.key ≡ None
+-- why there is no job under a key
+abbrev pub IsNoJob : Live → Request → TfmErr → Type 0
 IsNoJob live request Inval = IsNotTaken live request live.key
 IsNoJob live request Memory = ⊤
 
@@ -74,22 +67,3 @@ delivering live count = on_pipe (λ pipe. record pipe { delivered = pipe.deliver
 abbrev pub MayDeliver : ℕ → Option Pipe → Type 0
 MayDeliver count None = ⊤
 MayDeliver count (Some pipe) = pipe.delivered + count ≤ length pipe.lines
-
--- what a key comes to, at a line
-abbrev pub keys_live : Walk → ℕ → Live → List ℕ → Dialogue
-keys_live walk n live key = unless walk n ((not (takes_key live.plan key), EINVAL) ∷ []) (says (with_live walk (record live { key = Some key })) (said.Ok n))
-
--- what a tag size comes to
-abbrev pub sizes_live : Walk → ℕ → Live → ℕ → Dialogue
-sizes_live walk n live size = unless walk n ((not (takes_tag live.plan size), EINVAL) ∷ []) (says (with_live walk (record live { tag_size = size })) (said.Ok n))
-
--- what a mask comes to, at a line
-abbrev pub masks_in : ℕ → Walk → ℕ → ℕ → Live → Dialogue
-masks_in workers walk n bits live = with_pad walk n live.pipe (masks workers walk n bits live)
-
--- what a hold, and a go, come to at a line
-abbrev pub holds_in : Walk → ℕ → Live → Dialogue
-holds_in walk n live = with_queue walk n live.pipe λ pipe. Posts (Hold pipe.number) λ done. says (with_pipe walk live (record pipe { held = true })) (said.Ok n)
-
-abbrev pub gos_in : Walk → ℕ → Live → Dialogue
-gos_in walk n live = with_queue walk n live.pipe λ pipe. Posts (Go pipe.number) λ done. says (with_pipe walk live (record pipe { held = false })) (said.Ok n)

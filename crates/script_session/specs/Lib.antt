@@ -9,5 +9,6 @@ pub mod Filed
 pub mod Finding
 pub mod Probing
 pub mod Running
+pub mod Settings
 pub mod Ending
 pub mod Saying

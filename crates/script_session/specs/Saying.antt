@@ -1,8 +1,9 @@
 -- Text that goes straight into a reply, and the room that is taken for it first.
-use Rattle.std.specs.Prelude.{ℕ, ◌+◌, ◌*◌, ◌≡◌, Bool, true, false, List, [], ◌++◌, filter, map}
+use Rattle.std.specs.Prelude.{ℕ, ◌+◌, ◌*◌, ◌≡◌, Bool, true, false, List, [], ◌++◌, filter, length, map}
 use Rattle.std.specs.List.{flat_map}
 use Rattle.kc_base.specs.declared.callback_list.Callback.{Callback}
 use Rattle.board.specs.declared.entry.BoardEntry.{BoardEntry}
+use Rattle.board.specs.Allowance.{accepted_by}
 use Rattle.board.specs.Legal.{is_shut}
 use Rattle.script_text.specs.declared.commands.Command.TheVariants.{Poll, Drain}
 use Rattle.script_text.specs.declared.commands.Line.{Line}
@@ -15,11 +16,11 @@ use Rattle.reply_text.specs.declared.answers.Answer.TheVariants as said
 use Rattle.turn_lock.specs.Turns.{Known}
 use Rattle.dialogues.specs.BoardCalls.{BoardCall, Collects}
 use Rattle.dialogues.specs.Dialogues.{Dialogue}
-use Rattle.dialogues.specs.Piping.{notice_said}
-use Rattle.dialogues.specs.Walk.{Walk, Live}
-use Rattle.session_calls.specs.Bounds.{callback_length}
+use Rattle.dialogues.specs.Piping.{poll, drain, notice_said}
+use Rattle.dialogues.specs.Walk.{Walk, Live, Pipe}
+use Rattle.session_calls.specs.Bounds.{AreWithin, callback_length}
 use Rattle.session_calls.specs.Passes.{known}
-use Rattle.session_calls.specs.Pipelines.{Called}
+use Rattle.session_calls.specs.Pipelines.{Called, Polled}
 use Rattle.script_session.specs.Changing.{HoldsFor}
 use Rattle.script_session.specs.Ending.{Moves, MovesAll}
 use Rattle.script_session.specs.Holding.{HoldsBy, Stops}
@@ -37,6 +38,27 @@ abbrev pub hands_out : Line → Bool
 hands_out (Cmd (Poll label)) = true
 hands_out (Cmd (Drain label)) = true
 hands_out other = false
+
+-- ---- `drain T` and `poll T`
+
+-- `drain T` waits for what isn't done, and `poll T` doesn't
+abbrev pub collects : Bool → Walk → ℕ → List ℕ → Dialogue
+collects true walk n label = drain walk n label
+collects false walk n label = poll walk n label
+
+-- their last answer
+abbrev pub collected_said : ℕ → Bool → ℕ → Answer
+collected_said n true count = said.Drained n count
+collected_said n false count = said.Polled n count
+
+-- The caller collected these callbacks, and they were added to those that were there. A drain collects when all is done.
+pub record Collected (waits : Bool) (k l : Known (BoardEntry Ask)) (pipe : Pipe) (had has : List (Callback Finished)) : Type 0 where
+  pub callbacks : List (Callback Finished)
+  pub all : Bool
+  pub whole : waits ≡ true → all ≡ true
+  pub added : has ≡ had ++ callbacks
+  pub polled : Polled k l pipe callbacks all
+  pub within : AreWithin (length pipe.lines) (accepted_by k.number k.seen) callbacks
 
 -- ---- what a line adds
 

@@ -1,15 +1,17 @@
 //! Lines, and their end, whose answers are handed out as they are, and not as text.
 
-ghost use Rattle.std.specs.Prelude.{◌≡◌, OnOk, MatchResult};
+ghost use Rattle.std.specs.Prelude.{◌≡◌, false, OnOk, MatchResult};
 ghost use Rattle.script_text.specs.Sizes.{IsShortLine};
 ghost use Rattle.dialogues.specs.Lines.{line_dialogue};
 ghost use Rattle.dialogues.specs.Widths.{width_of};
 ghost use Rattle.script_session.specs.Ending.{EndsWith, EndsShut};
 ghost use Rattle.script_session.specs.Holding.{HoldsBy, Stops};
 ghost use Rattle.script_session.specs.Running.{IsReady};
+ghost use Rattle.script_session.specs.Saying.{hands_out};
 ghost use Rattle.script_session.specs.States.{Stands, Posted};
 ghost use Rattle.session_calls.specs.Passes.{known, CallsBoard};
 
+use crate::answers::say;
 use crate::ending::{drain_last_all, release_all};
 use crate::scripts::Session;
 use board::only_collects_hand_out;
@@ -24,29 +26,31 @@ use std::thread::Threads;
 use transforms::{Ask, Job};
 
 impl Session {
-    /// Answers a line as `line` does, and adds its answers, not their text, to those that are there. `Stop` comes for want of memory
-    /// alone: what `answers` has then isn't told, and what a `poll` or a `drain` handed out may be lost. The session takes no line
-    /// after it.
-    pub fn answer_line<R: Threads + Wait + Sync, G: Gate>(
+    /// Answers a line other than `poll` and `drain` as `line` does, and adds its answers, not their text, to those that are there.
+    /// `Stop` comes for want of memory alone: what `answers` has then isn't told, and the session takes no line after it.
+    pub fn answer_line<R: Threads + Wait + Sync>(
         &mut self,
         rt: &R,
         board: &SharedBoard<Job>,
         registry: &SharedRegistry,
-        gate: &G,
         number: u32,
         line: Line,
         answers: &mut Vec<Answer>,
     ) -> Result<(), Stop>
         requires ready { IsReady registry.now board.now self.old }
         requires short { IsShortLine line }
+        requires no_collect { hands_out line ≡ false }
         ensures done { MatchResult result
             (λ _. HoldsBy (width_of line) (line_dialogue self.old.workers self.old.walk number line) self.old self.new answers.old.items answers.new.items)
             (λ _. Stops self.old self.new) }
         // It is ready for the next line.
         ensures ready { OnOk result (IsReady registry.now board.now self.new) }
     {
-        self.answer(rt, board, registry, gate, number, line, answers)?;
-        Ok(())
+        match line {
+            Line::Nothing => Ok(()),
+            Line::Malformed => say(answers, Answer::Malformed { line: number }),
+            Line::Cmd(command) => self.command(rt, board, registry, number, command, answers),
+        }
     }
 
     /// Does what `end` does, and adds its answers, not their text, to those that are there. `Stop` comes for want of memory alone:

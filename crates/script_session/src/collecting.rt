@@ -1,78 +1,87 @@
 //! Collects whose text goes straight into a reply. The room for the whole text is taken before the call on the board, from what the
 //! script's requests asked: whatever a pipeline handed out is in the reply.
 
-ghost use Rattle.std.specs.Prelude.{◌≡◌, ◌+◌, ◌≤◌, ◌++◌, length, MatchResult, OnOk, sum_by};
+ghost use Rattle.std.specs.Prelude.{◌≡◌, ◌+◌, ◌≤◌, ◌++◌, ◌&&◌, length, MatchResult, OnOk, sum_by};
 ghost use Rattle.std.specs.List.{flat_map};
 ghost use Rattle.board.specs.Allowance.{accepted_by};
 ghost use Rattle.board.specs.Legal.{LegalBoard};
 ghost use Rattle.reply_text.specs.Answers.{text_of};
-ghost use Rattle.dialogues.specs.Piping.{polls_in, drains_in, drains_at_end, drain_all};
+ghost use Rattle.dialogues.specs.Piping.{drains_at_end, drain_all};
 ghost use Rattle.script_session.specs.Ending.{ArePosted, AreAllPaid, IsPaid, end_said};
 ghost use Rattle.script_session.specs.Holding.{SeesOn};
-ghost use Rattle.script_session.specs.Saying.{SaysFor, BreaksFor, SaysMove, SaysMoves, SaysTold};
-ghost use Rattle.script_session.specs.States.{HasPipe};
+ghost use Rattle.script_session.specs.Saying.{SaysFor, SaysBy, BreaksFor, BreaksOff, SaysMove, SaysMoves, SaysTold, collects, collected_said, Collected};
+ghost use Rattle.script_session.specs.States.{HasPipe, Stands, Posted};
 ghost use Rattle.session_calls.specs.Passes.{known, lock_of, CallsBoard};
+ghost use Rattle.session_calls.specs.Pipelines.{KnowsPipe, Kept};
 ghost use Rattle.transforms.specs.AskValue.{ask_size};
 
 use crate::answers::put_one;
 use crate::callbacks::{count_completions, put_callbacks, put_short};
 use crate::room::collected_room;
+use crate::scripts::Session;
 use crate::transform::Transform;
-use board::only_collects_hand_out;
+use board::{BoardErr, only_collects_hand_out};
 use crew::Gate;
-use kc_base::{Callbacks, Errno};
+use kc_base::{Bytes, Callbacks, Errno};
 use reply_text::{Answer, Reply};
-use session_calls::{BoardCaller, Stop};
+use session_calls::{BoardCaller, Pipe, Stop};
 use shared_board::SharedBoard;
 use std::alloc::Global;
 use std::sync::Wait;
-use transforms::{Ask, Job};
+use transforms::{Ask, Finished, Job};
 
-/// `poll T` of a transform, as `poll_live`, whose text is added to a reply, where all requests of the script ask so many
-/// bytes. Where it stops, the board wasn't called.
-pub fn poll_said<R: Wait>(
+// Collects what a pipeline hands out. With `waits` it does what jobs there are until those of the pipeline are done.
+fn collect_pipe<R: Wait, G: Gate>(
     rt: &R,
-    alloc: Global,
     board: &SharedBoard<Job>,
+    gate: &G,
     caller: &mut BoardCaller,
-    line: u32,
-    bytes: u64,
-    live: &mut Transform,
-    reply: &mut Reply,
-) -> Result<(), Stop>
+    pipe: &Pipe,
+    waits: bool,
+    into: &mut Callbacks<Finished>,
+) -> Result<(), BoardErr>
     requires at { CallsBoard board.now caller.old }
     requires legal { LegalBoard (known caller.old).seen }
-    requires pipe { HasPipe (known caller.old) live.old.pipe }
-    requires bytes { sum_by ask_size (accepted_by (known caller.old).number (known caller.old).seen) ≡ bytes }
-    ensures named { live.new.label ≡ live.old.label }
+    requires pipe { KnowsPipe (known caller.old) pipe.now }
     ensures lock { lock_of caller.new ≡ lock_of caller.old }
-    ensures held { MatchResult result
-        (λ _. SaysFor (λ walk. polls_in walk line live.old live.old.pipe) live.old live.new (known caller.old) (known caller.new) reply.old.text reply.new.text)
-        (λ _. BreaksFor (known caller.old) (known caller.new) reply.old.text reply.new.text) }
+    ensures collected { MatchResult result
+        (λ _. Collected waits (known caller.old) (known caller.new) pipe.now into.old.list into.new.list)
+        (λ _. Kept (known caller.old) (known caller.new)) }
 {
-    only_collects_hand_out::<Ask>();
-    let Some(pipe) = live.pipe() else {
-        return put_one(reply, Answer::Polled { line, count: 0 });
-    };
-    reply.reserve(collected_room(pipe.lines.count(), bytes, 0))?;
-    let mut into = Callbacks::new(alloc);
-    caller.poll(rt, board, pipe, &mut into)?;
-    let count = count_completions(into.as_slice());
-    put_callbacks(reply, &pipe.lines, into.as_slice());
-    put_short(reply, Answer::Polled { line, count });
-    live.deliver(count);
-    Ok(())
+    if waits {
+        caller.drain(rt, board, gate, pipe, into)
+    } else {
+        caller.poll(rt, board, pipe, into)
+    }
 }
 
-/// `drain T` of a transform, as `drain_live`, whose text is added to a reply. Where it stops, the board wasn't called, but jobs that
-/// there were may have been done.
-pub fn drain_said<R: Wait, G: Gate>(
+// A drain of a held queue would not end.
+fn never_ends(waits: bool, pipe: &Pipe) -> bool
+    ensures { result ≡ (waits && pipe.now.held) }
+{
+    waits && pipe.held
+}
+
+fn collected(line: u32, waits: bool, count: u64) -> Answer
+    ensures { result ≡ collected_said line waits count }
+{
+    if waits {
+        Answer::Drained { line, count }
+    } else {
+        Answer::Polled { line, count }
+    }
+}
+
+// `drain T` of a transform, or `poll T` without `waits`, whose text is added to a reply, where all requests of the script ask so
+// many bytes. Where it stops, the board wasn't called, but jobs that there were may have been done.
+fn collect_live<R: Wait, G: Gate>(
     rt: &R,
     alloc: Global,
     board: &SharedBoard<Job>,
     gate: &G,
     caller: &mut BoardCaller,
     line: u32,
+    waits: bool,
     bytes: u64,
     live: &mut Transform,
     reply: &mut Reply,
@@ -84,24 +93,70 @@ pub fn drain_said<R: Wait, G: Gate>(
     ensures named { live.new.label ≡ live.old.label }
     ensures lock { lock_of caller.new ≡ lock_of caller.old }
     ensures held { MatchResult result
-        (λ _. SaysFor (λ walk. drains_in walk line live.old live.old.pipe) live.old live.new (known caller.old) (known caller.new) reply.old.text reply.new.text)
+        (λ _. SaysFor (λ walk. collects waits walk line live.old.label) live.old live.new (known caller.old) (known caller.new) reply.old.text reply.new.text)
         (λ _. BreaksFor (known caller.old) (known caller.new) reply.old.text reply.new.text) }
 {
+    only_collects_hand_out::<Ask>();
     let Some(pipe) = live.pipe() else {
-        return put_one(reply, Answer::Drained { line, count: 0 });
+        return put_one(reply, collected(line, waits, 0));
     };
-    if pipe.held {
+    if never_ends(waits, pipe) {
         let errno = Errno::EINVAL;
         return put_one(reply, Answer::Refused { line, errno });
     }
     reply.reserve(collected_room(pipe.lines.count(), bytes, 0))?;
     let mut into = Callbacks::new(alloc);
-    caller.drain(rt, board, gate, pipe, &mut into)?;
+    collect_pipe(rt, board, gate, caller, pipe, waits, &mut into)?;
     let count = count_completions(into.as_slice());
     put_callbacks(reply, &pipe.lines, into.as_slice());
-    put_short(reply, Answer::Drained { line, count });
+    put_short(reply, collected(line, waits, count));
     live.deliver(count);
     Ok(())
+}
+
+impl Session {
+    // `drain T`, or `poll T` without `waits`, whose text is added. Where it stops, the board wasn't called.
+    pub(crate) fn collect<R: Wait, G: Gate>(
+        &mut self,
+        rt: &R,
+        board: &SharedBoard<Job>,
+        gate: &G,
+        number: u32,
+        label: &Bytes,
+        waits: bool,
+        reply: &mut Reply,
+    ) -> Result<(), Stop>
+        requires at { CallsBoard board.now self.old.board }
+        requires stands { Stands self.old.walk.lives (known self.old.registry) }
+        requires posted { Posted self.old.walk (known self.old.board) }
+        ensures { MatchResult result
+            (λ _. SaysBy 1 (collects waits self.old.walk number label.now) self.old self.new reply.old.text reply.new.text)
+            (λ _. BreaksOff self.old self.new reply.old.text reply.new.text) }
+    {
+        let Some(place) = self.lives.place_of(label.as_slice()) else {
+            let errno = Errno::ENOENT;
+            return put_one(
+                reply,
+                Answer::Refused {
+                    line: number,
+                    errno,
+                },
+            );
+        };
+        let live = self.lives.transforms.get_mut(&place).unwrap();
+        collect_live(
+            rt,
+            self.alloc,
+            board,
+            gate,
+            &mut self.board,
+            number,
+            waits,
+            self.bytes,
+            live,
+            reply,
+        )
+    }
 }
 
 // Adds the line `end`, where a transform's last callbacks have completions. There is room for it.

@@ -9,17 +9,16 @@ mod callbacks;
 mod collecting;
 mod drivers;
 mod ending;
-mod keying;
 mod listing;
 mod lives;
 mod naming;
-mod pipelines;
 mod piping;
 mod probing;
 mod registering;
 mod requesting;
 mod room;
 mod scripts;
+mod settings;
 mod transform;
 
 pub use scripts::Session;

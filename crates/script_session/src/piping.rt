@@ -1,6 +1,6 @@
 //! What lines do with the pipeline of one transform.
 
-ghost use Rattle.std.specs.Prelude.{◌≡◌, ◌≢◌, ◌↔◌, ◌≤◌, ◌∷◌, [], Some, MatchResult, IfOk, IfErr, IsTrue, true, false};
+ghost use Rattle.std.specs.Prelude.{◌≡◌, ◌≢◌, ◌↔◌, ◌≤◌, Some, MatchResult, IfOk, IfErr, IsTrue, true, false};
 ghost use Rattle.board.specs.declared.board_core.BoardErr.TheVariants as BoardErr;
 ghost use Rattle.script_session.specs.Holding.{SeesOn};
 ghost use Rattle.script_session.specs.Offering.{Offered};
@@ -14,63 +14,24 @@ ghost use Rattle.std.specs.Arc.{arc_value};
 ghost use Rattle.dialogues.specs.BoardCalls.{asked_by};
 ghost use Rattle.board.specs.Allowance.{IsAllowed};
 ghost use Rattle.transforms.specs.AskValue.{ask_size};
-ghost use Rattle.dialogues.specs.Piping.{drains_in, polls_in, kept_bits};
-ghost use Rattle.script_session.specs.Keyed.{masks_in, holds_in, gos_in};
 ghost use Rattle.dialogues.specs.Requesting.{requests_in};
 ghost use Rattle.session_calls.specs.Passes.{known, lock_of, CallsBoard};
 ghost use Rattle.session_calls.specs.Pipelines.{line_of};
-ghost use Rattle.script_session.specs.States.{HasPipe, MadeWide};
+ghost use Rattle.script_session.specs.States.{HasPipe};
 ghost use Rattle.script_session.specs.Changing.{HoldsFor, Released, asks_if, owes};
 
 use crate::answers::{refuse, say, value_answer};
-use crate::callbacks::{count_completions, tell};
 use crate::naming::is_chained_driver;
 use crate::transform::Transform;
 use alg_registry::{Spec, Wrap};
 use board::{BoardErr, Entered, only_collects_hand_out};
-use crew::Gate;
-use kc_base::{Callbacks, Errno};
+use kc_base::Errno;
 use reply_text::Answer;
 use session_calls::{BoardCaller, Lines, Pipe, Stop};
 use shared_board::SharedBoard;
 use std::alloc::Global;
 use std::sync::Wait;
 use transforms::{Ask, Job};
-
-/// `drain T` of a transform. It does what jobs there are until those of the pipeline are done.
-pub fn drain_live<R: Wait, G: Gate>(
-    rt: &R,
-    alloc: Global,
-    board: &SharedBoard<Job>,
-    gate: &G,
-    caller: &mut BoardCaller,
-    line: u32,
-    live: &mut Transform,
-    answers: &mut Vec<Answer>,
-) -> Result<(), Stop>
-    requires at { CallsBoard board.now caller.old }
-    requires legal { LegalBoard (known caller.old).seen }
-    requires pipe { HasPipe (known caller.old) live.old.pipe }
-    ensures named { live.new.label ≡ live.old.label }
-    ensures lock { lock_of caller.new ≡ lock_of caller.old }
-    ensures held { MatchResult result
-        (λ _. HoldsFor (λ walk. drains_in walk line live.old live.old.pipe) live.old live.new (known caller.old) (known caller.new) [] answers.old.items answers.new.items)
-        (λ _. SeesOn (known caller.old) (known caller.new)) }
-{
-    let Some(pipe) = live.pipe() else {
-        return say(answers, Answer::Drained { line, count: 0 });
-    };
-    if pipe.held {
-        return refuse(answers, line, Errno::EINVAL);
-    }
-    let mut into = Callbacks::new(alloc);
-    caller.drain(rt, board, gate, pipe, &mut into)?;
-    let count = count_completions(into.as_slice());
-    tell(&pipe.lines, into, answers)?;
-    say(answers, Answer::Drained { line, count })?;
-    live.deliver(count);
-    Ok(())
-}
 
 // Hands a job in to a pipeline that isn't unmanned. A pad takes each that the caller's allowance has room for.
 fn offer<R: Wait>(
@@ -157,141 +118,6 @@ pub fn take_job<R: Wait>(
     }
 }
 
-// The bits of the workers that there are.
-fn bits_beside_workers(workers: u32, bits: u16) -> u16
-    requires few { workers ≤ 16 }
-    ensures { result ≡ kept_bits workers bits }
-{
-    (u32::from(bits) % (1u32 << lists_beside_workers(workers))) as u16
-}
-
-/// `mask T MASK` of a transform, beside so many workers. Only a pad is masked.
-pub fn mask_live<R: Wait>(
-    rt: &R,
-    board: &SharedBoard<Job>,
-    caller: &mut BoardCaller,
-    workers: u32,
-    line: u32,
-    bits: u16,
-    live: &mut Transform,
-    answers: &mut Vec<Answer>,
-) -> Result<(), Stop>
-    requires at { CallsBoard board.now caller.old }
-    requires legal { LegalBoard (known caller.old).seen }
-    requires pipe { HasPipe (known caller.old) live.old.pipe }
-    requires few { workers ≤ 16 }
-    requires wide { MadeWide (lists_beside workers) (known caller.old) }
-    ensures named { live.new.label ≡ live.old.label }
-    ensures lock { lock_of caller.new ≡ lock_of caller.old }
-    ensures held { MatchResult result
-        (λ _. HoldsFor (λ walk. masks_in workers walk line bits live.old) live.old live.new (known caller.old) (known caller.new) [] answers.old.items answers.new.items)
-        (λ _. SeesOn (known caller.old) (known caller.new)) }
-{
-    let Some(pipe) = live.pipe() else {
-        return refuse(answers, line, Errno::EINVAL);
-    };
-    if pipe.bound.is_some() {
-        return refuse(answers, line, Errno::EINVAL);
-    }
-    let kept = bits_beside_workers(workers, bits);
-    caller.mask(rt, board, pipe, kept)?;
-    say(answers, Answer::Ok { line })?;
-    live.set_unmanned(kept == 0);
-    Ok(())
-}
-
-/// `hold T` of a transform. Only a queue is held.
-pub fn hold_live<R: Wait>(
-    rt: &R,
-    board: &SharedBoard<Job>,
-    caller: &mut BoardCaller,
-    line: u32,
-    live: &mut Transform,
-    answers: &mut Vec<Answer>,
-) -> Result<(), Stop>
-    requires at { CallsBoard board.now caller.old }
-    requires legal { LegalBoard (known caller.old).seen }
-    requires pipe { HasPipe (known caller.old) live.old.pipe }
-    ensures named { live.new.label ≡ live.old.label }
-    ensures lock { lock_of caller.new ≡ lock_of caller.old }
-    ensures held { MatchResult result
-        (λ _. HoldsFor (λ walk. holds_in walk line live.old) live.old live.new (known caller.old) (known caller.new) [] answers.old.items answers.new.items)
-        (λ _. SeesOn (known caller.old) (known caller.new)) }
-{
-    let Some(pipe) = live.pipe() else {
-        return refuse(answers, line, Errno::EINVAL);
-    };
-    if pipe.bound.is_none() {
-        return refuse(answers, line, Errno::EINVAL);
-    }
-    caller.hold(rt, board, pipe)?;
-    say(answers, Answer::Ok { line })?;
-    live.set_held(true);
-    Ok(())
-}
-
-/// `go T` of a transform. Only a queue is let go.
-pub fn go_live<R: Wait>(
-    rt: &R,
-    board: &SharedBoard<Job>,
-    caller: &mut BoardCaller,
-    line: u32,
-    live: &mut Transform,
-    answers: &mut Vec<Answer>,
-) -> Result<(), Stop>
-    requires at { CallsBoard board.now caller.old }
-    requires legal { LegalBoard (known caller.old).seen }
-    requires pipe { HasPipe (known caller.old) live.old.pipe }
-    ensures named { live.new.label ≡ live.old.label }
-    ensures lock { lock_of caller.new ≡ lock_of caller.old }
-    ensures held { MatchResult result
-        (λ _. HoldsFor (λ walk. gos_in walk line live.old) live.old live.new (known caller.old) (known caller.new) [] answers.old.items answers.new.items)
-        (λ _. SeesOn (known caller.old) (known caller.new)) }
-{
-    let Some(pipe) = live.pipe() else {
-        return refuse(answers, line, Errno::EINVAL);
-    };
-    if pipe.bound.is_none() {
-        return refuse(answers, line, Errno::EINVAL);
-    }
-    caller.go(rt, board, pipe)?;
-    say(answers, Answer::Ok { line })?;
-    live.set_held(false);
-    Ok(())
-}
-
-/// `poll T` of a transform.
-pub fn poll_live<R: Wait>(
-    rt: &R,
-    alloc: Global,
-    board: &SharedBoard<Job>,
-    caller: &mut BoardCaller,
-    line: u32,
-    live: &mut Transform,
-    answers: &mut Vec<Answer>,
-) -> Result<(), Stop>
-    requires at { CallsBoard board.now caller.old }
-    requires legal { LegalBoard (known caller.old).seen }
-    requires pipe { HasPipe (known caller.old) live.old.pipe }
-    ensures named { live.new.label ≡ live.old.label }
-    ensures lock { lock_of caller.new ≡ lock_of caller.old }
-    ensures held { MatchResult result
-        (λ _. HoldsFor (λ walk. polls_in walk line live.old live.old.pipe) live.old live.new (known caller.old) (known caller.new) [] answers.old.items answers.new.items)
-        (λ _. SeesOn (known caller.old) (known caller.new)) }
-{
-    only_collects_hand_out::<Ask>();
-    let Some(pipe) = live.pipe() else {
-        return say(answers, Answer::Polled { line, count: 0 });
-    };
-    let mut into = Callbacks::new(alloc);
-    caller.poll(rt, board, pipe, &mut into)?;
-    let count = count_completions(into.as_slice());
-    tell(&pipe.lines, into, answers)?;
-    say(answers, Answer::Polled { line, count })?;
-    live.deliver(count);
-    Ok(())
-}
-
 /// Whether completions of its requests are to come.
 pub fn is_owing(live: &Transform) -> bool
     ensures { result ≡ owes live.now.pipe }
@@ -326,8 +152,8 @@ pub fn close_live<R: Wait>(
 /// How many requests wait in a queue before it is full, where its line doesn't say.
 const QUEUE_LENGTH: u32 = 1000;
 
-// How many lists a pad has beside so many workers.
-fn lists_beside_workers(workers: u32) -> u32
+/// How many lists a pad has beside so many workers.
+pub fn lists_beside_workers(workers: u32) -> u32
     requires few { workers ≤ 16 }
     ensures lists { result ≡ lists_beside workers }
     ensures some { 1 ≤ result }

@@ -10,7 +10,6 @@ ghost use Rattle.script_session.specs.Holding.{Holds, Stops};
 use crate::answers::{refuse, say};
 use crate::piping::take_job;
 use crate::scripts::Session;
-use crate::transform::JobErr;
 use aes_block::{Aes, BlockCipher};
 use board::Work;
 use kc_base::{Bytes, Errno};
@@ -20,7 +19,7 @@ use sg_walk::Segs;
 use shared_board::SharedBoard;
 use std::alloc::Global;
 use std::sync::Wait;
-use transforms::{Dir, Job, Request};
+use transforms::{Dir, Job, Request, TfmErr};
 
 // The block sealed under the key. `EINVAL` exactly where the key hasn't 16, 24 or 32 bytes, or the block hasn't 16.
 fn sealed_block(key: &[u8], block: &[u8]) -> Result<[u8; 16], Errno>
@@ -119,10 +118,10 @@ impl Session {
             .get(place)
             .job(self.alloc, self.client, number, asked)
         {
-            Ok(job) => job,
-            Err(JobErr::NoKey) => return refuse(answers, number, Errno::ENOKEY),
-            Err(JobErr::Inval) => return refuse(answers, number, Errno::EINVAL),
-            Err(JobErr::Memory) => return Err(Stop::Memory),
+            Ok(Some(job)) => job,
+            Ok(None) => return refuse(answers, number, Errno::ENOKEY),
+            Err(TfmErr::Inval) => return refuse(answers, number, Errno::EINVAL),
+            Err(TfmErr::Memory) => return Err(Stop::Memory),
         };
         let size = job.size();
         let live = self.lives.transforms.get_mut(&place).unwrap();

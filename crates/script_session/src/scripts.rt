@@ -1,7 +1,8 @@
 //! One script over a registry and a board that others call too.
 
-ghost use Rattle.std.specs.Prelude.{◌≡◌, ◌≤◌, [], true, OnOk, OnErr, MatchResult, IsSome, Some};
+ghost use Rattle.std.specs.Prelude.{◌≡◌, ◌≤◌, [], true, false, OnOk, OnErr, MatchResult, IsSome, Some};
 ghost use Rattle.script_text.specs.Sizes.{IsShortCommand, IsShortLine};
+ghost use Rattle.script_text.specs.declared.commands.Line.TheVariants.{Cmd};
 ghost use Rattle.dialogues.specs.Walk.{start};
 ghost use Rattle.dialogues.specs.Lines.{command_dialogue, line_dialogue};
 ghost use Rattle.dialogues.specs.Widths.{command_width, width_of};
@@ -13,9 +14,10 @@ ghost use Rattle.script_session.specs.Saying.{SaysBy, hands_out};
 ghost use Rattle.session_calls.specs.Pipelines.{Called};
 
 use crate::allocating::Wanted;
-use crate::answers::{put_all, say};
+use crate::answers::put_all;
 use crate::lives::Lives;
 use crate::requesting::mac_request;
+use crate::settings::Setting;
 use crew::Gate;
 use reply_text::{Answer, Reply};
 use script_text::{Command, Line};
@@ -89,13 +91,12 @@ impl Session {
         (self.registry.into_pass(), self.board.into_pass())
     }
 
-    // A command's answers. A request takes the command's bytes.
-    fn command<R: Threads + Wait + Sync, G: Gate>(
+    // The answers of a command that collects nothing. A request takes the command's bytes.
+    pub(crate) fn command<R: Threads + Wait + Sync>(
         &mut self,
         rt: &R,
         board: &SharedBoard<Job>,
         registry: &SharedRegistry,
-        gate: &G,
         number: u32,
         command: Command,
         answers: &mut Vec<Answer>,
@@ -107,6 +108,7 @@ impl Session {
         requires few { self.old.workers ≤ 16 }
         requires wide { IsWide self.old }
         requires short { IsShortCommand command }
+        requires no_collect { hands_out (Cmd command) ≡ false }
         ensures { MatchResult result
             (λ _. HoldsBy (command_width command) (command_dialogue self.old.workers self.old.walk number command) self.old self.new answers.old.items answers.new.items)
             (λ _. Stops self.old self.new) }
@@ -131,8 +133,12 @@ impl Session {
                 };
                 self.alloc(rt, board, registry, number, &wanted, &name, answers)
             }
-            Command::Key { label, key } => self.key(number, &label, &key, answers),
-            Command::Authsize { label, size } => self.authsize(number, &label, size, answers),
+            Command::Key { label, key } => {
+                self.set(rt, board, number, &label, Setting::Key(key), answers)
+            }
+            Command::Authsize { label, size } => {
+                self.set(rt, board, number, &label, Setting::TagSize(size), answers)
+            }
             Command::Enc {
                 label,
                 iv,
@@ -166,66 +172,44 @@ impl Session {
             Command::Bulk { label, size, seed } => {
                 self.bulk(rt, number, &label, size, seed, answers)
             }
-            Command::Mask { label, mask } => self.mask(rt, board, number, &label, mask, answers),
-            Command::Hold { label } => self.hold(rt, board, number, &label, answers),
-            Command::Go { label } => self.go(rt, board, number, &label, answers),
-            Command::Poll { label } => self.poll(rt, board, number, &label, answers),
-            Command::Drain { label } => self.drain(rt, board, gate, number, &label, answers),
+            Command::Mask { label, mask } => {
+                self.set(rt, board, number, &label, Setting::Mask(mask), answers)
+            }
+            Command::Hold { label } => {
+                self.set(rt, board, number, &label, Setting::Held(true), answers)
+            }
+            Command::Go { label } => {
+                self.set(rt, board, number, &label, Setting::Held(false), answers)
+            }
+            // What they collect goes into a reply.
+            Command::Poll { .. } => unreachable!(),
+            Command::Drain { .. } => unreachable!(),
             Command::Free { label } => self.free(rt, board, registry, number, &label, answers),
             Command::Refs { driver } => self.refs(rt, registry, number, &driver, answers),
             Command::List => self.list(rt, registry, number, answers),
         }
     }
 
-    // A line's answers.
-    pub(crate) fn answer<R: Threads + Wait + Sync, G: Gate>(
-        &mut self,
-        rt: &R,
-        board: &SharedBoard<Job>,
-        registry: &SharedRegistry,
-        gate: &G,
-        number: u32,
-        line: Line,
-        answers: &mut Vec<Answer>,
-    ) -> Result<(), Stop>
-        requires at_registry { CallsRegistry registry.now self.old.registry }
-        requires at_board { CallsBoard board.now self.old.board }
-        requires stands { Stands self.old.walk.lives (known self.old.registry) }
-        requires posted { Posted self.old.walk (known self.old.board) }
-        requires few { self.old.workers ≤ 16 }
-        requires wide { IsWide self.old }
-        requires short { IsShortLine line }
-        ensures { MatchResult result
-            (λ _. HoldsBy (width_of line) (line_dialogue self.old.workers self.old.walk number line) self.old self.new answers.old.items answers.new.items)
-            (λ _. Stops self.old self.new) }
-    {
-        match line {
-            Line::Nothing => Ok(()),
-            Line::Malformed => say(answers, Answer::Malformed { line: number }),
-            Line::Cmd(command) => self.command(rt, board, registry, gate, number, command, answers),
-        }
-    }
-
     // A line whose answers are put into the reply together.
-    fn say_line<R: Threads + Wait + Sync, G: Gate>(
+    fn say_line<R: Threads + Wait + Sync>(
         &mut self,
         rt: &R,
         board: &SharedBoard<Job>,
         registry: &SharedRegistry,
-        gate: &G,
         number: u32,
         line: Line,
         reply: &mut Reply,
     ) -> Result<(), Stop>
         requires ready { IsReady registry.now board.now self.old }
         requires short { IsShortLine line }
+        requires no_collect { hands_out line ≡ false }
         ensures done { MatchResult result
             (λ _. SaysBy (width_of line) (line_dialogue self.old.workers self.old.walk number line) self.old self.new reply.old.text reply.new.text)
             (λ _. Stops self.old self.new) }
         ensures unwritten { OnErr result (reply.new.text ≡ reply.old.text) }
     {
         let mut answers = Vec::new(self.alloc);
-        self.answer(rt, board, registry, gate, number, line, &mut answers)?;
+        self.answer_line(rt, board, registry, number, line, &mut answers)?;
         put_all(reply, &answers)?;
         Ok(())
     }
@@ -259,11 +243,13 @@ impl Session {
         ensures uncalled { OnErr result (hands_out line ≡ true → Called (known self.old.board) (known self.new.board) []) }
     {
         match line {
-            Line::Cmd(Command::Poll { label }) => self.poll_into(rt, board, number, &label, reply),
-            Line::Cmd(Command::Drain { label }) => {
-                self.drain_into(rt, board, gate, number, &label, reply)
+            Line::Cmd(Command::Poll { label }) => {
+                self.collect(rt, board, gate, number, &label, false, reply)
             }
-            line => self.say_line(rt, board, registry, gate, number, line, reply),
+            Line::Cmd(Command::Drain { label }) => {
+                self.collect(rt, board, gate, number, &label, true, reply)
+            }
+            line => self.say_line(rt, board, registry, number, line, reply),
         }
     }
 }

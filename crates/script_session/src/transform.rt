@@ -10,7 +10,7 @@ ghost use Rattle.script_session.specs.Keyed.{with_line, held_as, manned_as, deli
 
 use kc_base::{Bytes, Errno};
 use session_calls::Pipe;
-use std::alloc::{AllocError, AllocFailed, Global};
+use std::alloc::{AllocError, Global};
 use std::marker::Model;
 use std::sync::Arc;
 use templates::Plan;
@@ -40,38 +40,6 @@ impl Model for Transform {
     ghost view = { λ t. record { label = t.label; id = t.id; plan = t.plan; key = key_in t.keyed; tag_size = t.tag_size; pipe = t.pipe } };
 
     ghost invariant = { λ t. IsKeyedBy t.plan t.keyed × (fits_tag t.plan t.tag_size ≡ true) };
-}
-
-/// Why a transform makes no job of a request.
-#[derive(Clone, Copy, Debug, PartialEq, Eq)]
-pub enum JobErr {
-    /// No key was set.
-    NoKey,
-    /// The transform doesn't take the request.
-    Inval,
-    Memory,
-}
-
-impl From<AllocError> for JobErr {
-    ghost use Rattle.std.specs.Prelude.{◌≡◌};
-    ghost use Rattle.script_session.specs.declared.transform.JobErr.{JobErr};
-
-    ghost from_gives = { λ _ e. e ≡ JobErr.Memory };
-
-    fn from(_: AllocError) -> JobErr {
-        JobErr::Memory
-    }
-}
-
-impl<T: Drop> From<AllocFailed<T>> for JobErr {
-    ghost use Rattle.std.specs.Prelude.{◌≡◌};
-    ghost use Rattle.script_session.specs.declared.transform.JobErr.{JobErr};
-
-    ghost from_gives = { λ _ e. e ≡ JobErr.Memory };
-
-    fn from(_: AllocFailed<T>) -> JobErr {
-        JobErr::Memory
-    }
 }
 
 // What is kept of a key, for its transform and the jobs made of it.
@@ -197,21 +165,23 @@ impl Transform {
         }
     }
 
-    /// The job of a request of a line, under the key that was set last, with all the memory that it needs. `NoKey` exactly
-    /// where none was set; otherwise `Inval` exactly where the mode doesn't take the request.
+    /// The job of a request of a line, under the key that was set last, with all the memory that it needs, or none where no key was
+    /// set. `Inval` exactly where the mode doesn't take the request.
     pub fn job(
         &self,
         alloc: Global,
         client: u32,
         line: u32,
         request: Request,
-    ) -> Result<Job, JobErr>
+    ) -> Result<Option<Job>, TfmErr>
         requires aad { length request.aad < 2 ^ 32 }
         requires text { length request.text.text < 2 ^ 32 }
-        ensures { MatchResult result (λ job. IsJob client line self.now request (asked_by (arc_value job.ask))) (λ e. IsNoJob self.now request e) }
+        ensures { MatchResult result
+            (λ made. MatchOption made (self.now.key ≡ None) (λ job. IsJob client line self.now request (asked_by (arc_value job.ask))))
+            (λ e. IsNoJob self.now request e) }
     {
         let Some(keyed) = &self.keyed else {
-            return Err(JobErr::NoKey);
+            return Ok(None);
         };
         let ask = Ask {
             keyed: keyed.clone()?,
@@ -221,9 +191,9 @@ impl Transform {
             line,
         };
         match prepare(alloc, Arc::new(alloc, ask)?) {
-            Ok(job) => Ok(job),
-            Err(TfmErr::Inval) => Err(JobErr::Inval),
-            Err(TfmErr::Memory) => Err(JobErr::Memory),
+            Ok(job) => Ok(Some(job)),
+            Err(TfmErr::Inval) => Err(TfmErr::Inval),
+            Err(TfmErr::Memory) => Err(TfmErr::Memory),
         }
     }
 }

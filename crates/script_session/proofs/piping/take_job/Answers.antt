@@ -11,13 +11,13 @@ use Rattle.script_session.proofs.piping.take_job.Goals as goal
 
 pub returns-in_default-clause-held : goal.returns-in_default-clause-held
 returns-in_default-clause-held g c =
-    says-for _ c.args.live.now (known c.args.caller.now) _ _ _ c.requires.pipe c.requires.legal (λ walk posted. request-plain walk c.args.line c.args.live.now _ c.args.backlog (sym c.in_default.ensures))
+    says-for _ c.args.live.now (known c.args.caller.now) _ _ _ c.requires.pipe c.requires.legal (λ walk found posted. request-plain walk c.args.line c.args.live.now _ c.args.backlog (sym c.in_default.ensures))
     (c.in_ok-say.ensures ∙ ap (λ a. c.args.answers.now.items ++ a ∷ []) (c.value_answer.ensures ∙ ap (value_said c.args.line) c.run.ensures))
 
 pub returns-then-pipe-clause-held : goal.returns-then-pipe-clause-held
 returns-then-pipe-clause-held g c =
     says-for _ c.args.live.now (known c.args.caller.now) _ _ _ c.requires.pipe c.requires.legal
-    (λ walk posted. request-unmanned walk c.args.line c.args.live.now c.in-Some.pipe.now _ c.args.backlog (sym c.in-Some.ensures) (sym (ap (λ (p : Pipe). p.unmanned) c.pipe-2.view_is) ∙ c.if-pipe.true))
+    (λ walk found posted. request-unmanned walk c.args.line c.args.live.now c.in-Some.pipe.now _ c.args.backlog (sym c.in-Some.ensures) (sym (ap (λ (p : Pipe). p.unmanned) c.pipe-2.view_is) ∙ c.if-pipe.true))
     c.in_ok-refuse.ensures
 
 pub offer-requires-clause-manned : goal.offer-requires-clause-manned

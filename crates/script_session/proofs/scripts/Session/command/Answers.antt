@@ -1,7 +1,9 @@
-use Rattle.std.proofs.Common.{[]}
+use Rattle.std.proofs.Common.{◌≡◌, ◌∙◌, true, false, [], ap, sym}
 use Rattle.script_text.specs.declared.commands.Command.TheVariants as command
+use Rattle.script_text.specs.declared.commands.Line.TheVariants.{Cmd}
 use Rattle.transforms.specs.declared.request.Dir.TheVariants as dir
 use Rattle.dialogues.specs.Requesting.{request_of}
+use Rattle.script_session.specs.Saying.{hands_out}
 use Rattle.script_session.proofs.Commands.{command-arm, request-arm-as}
 use Rattle.script_session.proofs.scripts.Session.command.Goals as goal
 
@@ -21,28 +23,25 @@ pub returns-in-Alloc : goal.returns-in-Alloc
 returns-in-Alloc g c = command-arm c.alloc.result c.args.self.now _ c.args.number c.args.command (command.Alloc c.in-Alloc.label c.in-Alloc.name c.in-Alloc.length) _ _ c.in-Alloc.is c.alloc.ensures
 
 pub returns-in-Key : goal.returns-in-Key
-returns-in-Key g c = command-arm c.key-in-Key-2.result c.args.self.now _ c.args.number c.args.command (command.Key c.in-Key.label c.in-Key.key) _ _ c.in-Key.is c.key-in-Key-2.ensures
+returns-in-Key g c = command-arm c.set.result c.args.self.now _ c.args.number c.args.command (command.Key c.in-Key.label c.in-Key.key) _ _ c.in-Key.is c.set.ensures
 
 pub returns-in-Authsize : goal.returns-in-Authsize
-returns-in-Authsize g c = command-arm c.authsize.result c.args.self.now _ c.args.number c.args.command (command.Authsize c.in-Authsize.label c.in-Authsize.size) _ _ c.in-Authsize.is c.authsize.ensures
+returns-in-Authsize g c = command-arm c.set-in-Authsize.result c.args.self.now _ c.args.number c.args.command (command.Authsize c.in-Authsize.label c.in-Authsize.size) _ _ c.in-Authsize.is c.set-in-Authsize.ensures
 
 pub returns-in-Bulk : goal.returns-in-Bulk
 returns-in-Bulk g c = command-arm c.bulk.result c.args.self.now _ c.args.number c.args.command (command.Bulk c.in-Bulk.label c.in-Bulk.size c.in-Bulk.seed) _ _ c.in-Bulk.is c.bulk.ensures
 
 pub returns-in-Mask : goal.returns-in-Mask
-returns-in-Mask g c = command-arm c.mask.result c.args.self.now _ c.args.number c.args.command (command.Mask c.in-Mask.label c.in-Mask.mask) _ _ c.in-Mask.is c.mask.ensures
+returns-in-Mask g c = command-arm c.set-in-Mask.result c.args.self.now _ c.args.number c.args.command (command.Mask c.in-Mask.label c.in-Mask.mask) _ _ c.in-Mask.is c.set-in-Mask.ensures
 
 pub returns-in-Hold : goal.returns-in-Hold
-returns-in-Hold g c = command-arm c.hold.result c.args.self.now _ c.args.number c.args.command (command.Hold c.in-Hold.label) _ _ c.in-Hold.is c.hold.ensures
+returns-in-Hold g c = command-arm c.set-in-Hold.result c.args.self.now _ c.args.number c.args.command (command.Hold c.in-Hold.label) _ _ c.in-Hold.is c.set-in-Hold.ensures
 
 pub returns-in-Go : goal.returns-in-Go
-returns-in-Go g c = command-arm c.go.result c.args.self.now _ c.args.number c.args.command (command.Go c.in-Go.label) _ _ c.in-Go.is c.go.ensures
+returns-in-Go g c = command-arm c.set-in-Go.result c.args.self.now _ c.args.number c.args.command (command.Go c.in-Go.label) _ _ c.in-Go.is c.set-in-Go.ensures
 
-pub returns-in-Poll : goal.returns-in-Poll
-returns-in-Poll g c = command-arm c.poll.result c.args.self.now _ c.args.number c.args.command (command.Poll c.in-Poll.label) _ _ c.in-Poll.is c.poll.ensures
-
-pub returns-in-Drain : goal.returns-in-Drain
-returns-in-Drain g c = command-arm c.drain.result c.args.self.now _ c.args.number c.args.command (command.Drain c.in-Drain.label) _ _ c.in-Drain.is c.drain.ensures
+pub unreachable-requires : goal.unreachable-requires
+unreachable-requires g c = absurd (let both : true ≡ false = sym (ap (λ x. hands_out (Cmd x)) c.in-Poll.is) ∙ c.requires.no_collect in cc)
 
 pub returns-in-Free : goal.returns-in-Free
 returns-in-Free g c = command-arm c.free.result c.args.self.now _ c.args.number c.args.command (command.Free c.in-Free.label) _ _ c.in-Free.is c.free.ensures

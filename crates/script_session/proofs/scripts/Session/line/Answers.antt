@@ -9,32 +9,32 @@ use Rattle.script_session.proofs.scripts.Session.line.Goals as goal
 pub returns-in-Cmd-Poll-clause-done : goal.returns-in-Cmd-Poll-clause-done
 returns-in-Cmd-Poll-clause-done g c =
     let s = c.args.self.now in
-    done-on c.poll_into.result s c.poll_into.new.self c.args.number c.args.line (line.Cmd (command.Poll c.in-Cmd-Poll.label)) _ _ (c.in-Cmd-Poll.is ∙ ap (λ x. line.Cmd x) c.in-Cmd-Poll.field-0-is)
-    (line-replies 1 c.poll_into.result (poll s.walk c.args.number c.in-Cmd-Poll.label) s c.poll_into.new.self _ _ c.poll_into.ensures)
+    done-on c.collect.result s c.collect.new.self c.args.number c.args.line (line.Cmd (command.Poll c.in-Cmd-Poll.label)) _ _ (c.in-Cmd-Poll.is ∙ ap (λ x. line.Cmd x) c.in-Cmd-Poll.field-0-is)
+    (line-replies 1 c.collect.result (poll s.walk c.args.number c.in-Cmd-Poll.label) s c.collect.new.self _ _ c.collect.ensures)
 
 pub returns-in-Cmd-Poll-clause-ready : goal.returns-in-Cmd-Poll-clause-ready
-returns-in-Cmd-Poll-clause-ready g c = line-ready 1 c.poll_into.result _ c.args.registry.now c.args.board.now _ c.args.self.now c.poll_into.new.self _ _ c.requires.ready c.poll_into.ensures
+returns-in-Cmd-Poll-clause-ready g c = line-ready 1 c.collect.result _ c.args.registry.now c.args.board.now _ c.args.self.now c.collect.new.self _ _ c.requires.ready c.collect.ensures
 
 pub returns-in-Cmd-Poll-clause-unwritten : goal.returns-in-Cmd-Poll-clause-unwritten
-returns-in-Cmd-Poll-clause-unwritten g c = line-unwritten c.poll_into.result _ c.args.self.now c.poll_into.new.self _ _ c.poll_into.ensures
+returns-in-Cmd-Poll-clause-unwritten g c = line-unwritten c.collect.result _ c.args.self.now c.collect.new.self _ _ c.collect.ensures
 
 pub returns-in-Cmd-Poll-clause-uncalled : goal.returns-in-Cmd-Poll-clause-uncalled
-returns-in-Cmd-Poll-clause-uncalled g c = line-uncalled c.poll_into.result _ _ c.args.self.now c.poll_into.new.self _ _ c.poll_into.ensures
+returns-in-Cmd-Poll-clause-uncalled g c = line-uncalled c.collect.result _ _ c.args.self.now c.collect.new.self _ _ c.collect.ensures
 
 pub returns-in-Cmd-Drain-clause-done : goal.returns-in-Cmd-Drain-clause-done
 returns-in-Cmd-Drain-clause-done g c =
     let s = c.args.self.now in
-    done-on c.drain_into.result s c.drain_into.new.self c.args.number c.args.line (line.Cmd (command.Drain c.in-Cmd-Drain.label)) _ _ (c.in-Cmd-Drain.is ∙ ap (λ x. line.Cmd x) c.in-Cmd-Drain.field-0-is)
-    (line-replies 1 c.drain_into.result (drain s.walk c.args.number c.in-Cmd-Drain.label) s c.drain_into.new.self _ _ c.drain_into.ensures)
+    done-on c.collect-in-Cmd-Drain.result s c.collect-in-Cmd-Drain.new.self c.args.number c.args.line (line.Cmd (command.Drain c.in-Cmd-Drain.label)) _ _ (c.in-Cmd-Drain.is ∙ ap (λ x. line.Cmd x) c.in-Cmd-Drain.field-0-is)
+    (line-replies 1 c.collect-in-Cmd-Drain.result (drain s.walk c.args.number c.in-Cmd-Drain.label) s c.collect-in-Cmd-Drain.new.self _ _ c.collect-in-Cmd-Drain.ensures)
 
 pub returns-in-Cmd-Drain-clause-ready : goal.returns-in-Cmd-Drain-clause-ready
-returns-in-Cmd-Drain-clause-ready g c = line-ready 1 c.drain_into.result _ c.args.registry.now c.args.board.now _ c.args.self.now c.drain_into.new.self _ _ c.requires.ready c.drain_into.ensures
+returns-in-Cmd-Drain-clause-ready g c = line-ready 1 c.collect-in-Cmd-Drain.result _ c.args.registry.now c.args.board.now _ c.args.self.now c.collect-in-Cmd-Drain.new.self _ _ c.requires.ready c.collect-in-Cmd-Drain.ensures
 
 pub returns-in-Cmd-Drain-clause-unwritten : goal.returns-in-Cmd-Drain-clause-unwritten
-returns-in-Cmd-Drain-clause-unwritten g c = line-unwritten c.drain_into.result _ c.args.self.now c.drain_into.new.self _ _ c.drain_into.ensures
+returns-in-Cmd-Drain-clause-unwritten g c = line-unwritten c.collect-in-Cmd-Drain.result _ c.args.self.now c.collect-in-Cmd-Drain.new.self _ _ c.collect-in-Cmd-Drain.ensures
 
 pub returns-in-Cmd-Drain-clause-uncalled : goal.returns-in-Cmd-Drain-clause-uncalled
-returns-in-Cmd-Drain-clause-uncalled g c = line-uncalled c.drain_into.result _ _ c.args.self.now c.drain_into.new.self _ _ c.drain_into.ensures
+returns-in-Cmd-Drain-clause-uncalled g c = line-uncalled c.collect-in-Cmd-Drain.result _ _ c.args.self.now c.collect-in-Cmd-Drain.new.self _ _ c.collect-in-Cmd-Drain.ensures
 
 pub returns-in_default-clause-done : goal.returns-in_default-clause-done
 returns-in_default-clause-done g c =

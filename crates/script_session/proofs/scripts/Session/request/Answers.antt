@@ -26,13 +26,13 @@ returns-in_default g c =
 pub get-requires : goal.get-requires
 get-requires g c = is-there c.args.self.now c.self.inside.lives c.self.invariant c.self.view_is c.args.label.now c.as_slice.result.now c.as_slice.ensures c.in-Some.place c.in-Some.ensures
 
-pub returns-in-Err-NoKey : goal.returns-in-Err-NoKey
-returns-in-Err-NoKey g c =
+pub returns-in-Ok-None : goal.returns-in-Ok-None
+returns-in-Ok-None g c =
     let s = c.args.self.now in
     let at = live-at c.args.self.now c.self.inside.lives c.self.invariant c.self.view_is c.args.label.now c.as_slice.result.now c.as_slice.ensures c.in-Some.place c.in-Some.ensures in
     let was = is-live c.args.self.now c.self.inside.lives c.self.invariant c.self.view_is c.args.label.now c.as_slice.result.now c.as_slice.ensures c.in-Some.place c.in-Some.ensures c.get.result.now c.get.ensures in
-    let why = rw c.in-Err-NoKey.field-0-is at c.in-Err-NoKey.ensures in
-    or-stops c.refuse-in-Err-NoKey.result c.refuse-in-Err-NoKey.ensures
+    let why = rw c.in-Ok-None.field-0-is at c.in-Ok-None.ensures in
+    or-stops c.refuse-in-Ok-None.result c.refuse-in-Ok-None.ensures
     (answer-holds _ s s _ _ _
     (ap (λ o. for_live s.walk c.args.number o (λ (live : Live). requests_under s.walk c.args.number live c.args.asked c.args.backlog live.key)) at.found
     ∙ no-key s.walk c.args.number at.live c.args.asked c.args.backlog (sym (ap (λ (l : Live). l.key) was) ∙ why))
@@ -77,12 +77,12 @@ pub returns : goal.returns
 returns g c =
     let s = c.args.self.now in
     let e = c.in_ok-accepted.ensures in
-    let ask = arc_value c.in-Ok.job.ask in
+    let ask = arc_value c.in-Ok-Some.job.ask in
     let old = c.unwrap-live.result.now in
     let is = loan_here (get nat_cmp c.self.inside.lives.transforms c.in-Some.place) c.get_mut.result c.unwrap-live.result c.get_mut.ensures.value c.unwrap-live.ensures in
     let first = is-live c.args.self.now c.self.inside.lives c.self.invariant c.self.view_is c.args.label.now c.as_slice.result.now c.as_slice.ensures c.in-Some.place c.in-Some.ensures c.get.result.now c.get.ensures in
     let then_is = is-live c.args.self.now c.self.inside.lives c.self.invariant c.self.view_is c.args.label.now c.as_slice.result.now c.as_slice.ensures c.in-Some.place c.in-Some.ensures old is in
-    let job = subst (λ (l : Live). IsJob c.self.inside.client c.args.number l c.args.asked (asked_by ask)) (first ∙ sym then_is) c.in-Ok.ensures in
+    let job = subst (λ (l : Live). IsJob c.self.inside.client c.args.number l c.args.asked (asked_by ask)) (first ∙ sym then_is) (rw c.in-Ok-Some.field-0-is at c.in-Ok-Some.ensures) in
     request-arm c.args.self.now c.self.inside.lives c.self.invariant c.self.view_is c.args.label.now c.as_slice.result.now c.as_slice.ensures c.args.number c.in-Some.place c.in-Some.ensures old c.take_job.new.live _
     (λ walk live. requests_under walk c.args.number live c.args.asked c.args.backlog live.key) (λ walk. requests_in walk c.args.number old (asked_by ask) c.args.backlog old.pipe) c.count.new.self c.take_job.new.caller c.in_ok-accepted.accepted c.size-size.result ask _ _
     (job-asks s.walk c.args.number c.self.inside.client old c.args.asked (asked_by ask) c.args.backlog old.key (ap (λ (x : State). x.walk.client) (sym c.self.view_is)) job)

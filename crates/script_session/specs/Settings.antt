@@ -1,0 +1,25 @@
+-- What a line sets of a transform.
+use Rattle.std.specs.Prelude.{ℕ, Bool, true, false, List}
+use Rattle.dialogues.specs.BoardCalls.{BoardCall, Holds, Goes}
+use Rattle.dialogues.specs.Dialogues.{Dialogue}
+use Rattle.dialogues.specs.Piping.{mask, hold, go}
+use Rattle.dialogues.specs.Requesting.{set_key, set_tag_size}
+use Rattle.dialogues.specs.Walk.{Walk}
+use Rattle.script_session.specs.declared.settings.Setting.{Setting}
+use Rattle.script_session.specs.declared.settings.Setting.TheVariants as set
+
+-- `hold T`, or `go T`, and the call that it makes
+abbrev pub holds_or_goes : Walk → ℕ → List ℕ → Bool → Dialogue
+holds_or_goes walk n label true = hold walk n label
+holds_or_goes walk n label false = go walk n label
+
+abbrev pub hold_call : Bool → ℕ → BoardCall
+hold_call true pipe = Holds pipe
+hold_call false pipe = Goes pipe
+
+-- the line that sets it
+abbrev pub sets : ℕ → Walk → ℕ → List ℕ → Setting → Dialogue
+sets workers walk n label (set.Key key) = set_key walk n label key
+sets workers walk n label (set.TagSize size) = set_tag_size walk n label size
+sets workers walk n label (set.Mask bits) = mask workers walk n label bits
+sets workers walk n label (set.Held held) = holds_or_goes walk n label held
