@@ -7,7 +7,9 @@ use Rattle.std.proofs.KnownBytes.{Consumes-nil}
 use Rattle.std.proofs.lemmas.List.Folds.{list_any-append}
 use Rattle.board.specs.Legal.{is_shut}
 use Rattle.dialogues.specs.Lines.{line_dialogue}
+use Rattle.dialogues.specs.Texts.{turn_in}
 use Rattle.dialogues.specs.Turns.{text_in}
+use Rattle.dialogues.specs.Walk.{start}
 use Rattle.dialogues.specs.Widths.{width_of}
 use Rattle.kc_base.specs.declared.transfer.InputError.{InputError}
 use Rattle.kc_base.specs.declared.transfer.InputError.TheVariants as input
@@ -32,7 +34,7 @@ use Rattle.script_run.specs.Laws.{Laws}
 use Rattle.script_run.specs.Runs.{Gains, IsFresh, IsUnshutOrEnds, Writes, Breaks, IsFrontAfter}
 use Rattle.script_run.specs.Statuses.{of_input, of_output}
 use Rattle.script_run.specs.Text.{is_malformed}
-use Rattle.script_run.proofs.Going.{Going, goes-same, keeps-same, going-begins, going-more, going-breaks, going-end_breaks, going-begun, going-end_begun, going-ends, going-ends_front, going-ends_in_turn, going-ends_own, line_broken-goes, end_broken-goes, end-goes, stopped, led-answered}
+use Rattle.script_run.proofs.Going.{Going, goes-same, keeps-same, appends-none, going-begins, going-more, going-breaks, going-end_breaks, going-begun, going-end_begun, going-ends, going-ends_front, going-ends_in_turn, going-ends_own, line_broken-goes, end_broken-goes, end-goes, stopped, led-answered}
 use Rattle.script_run.proofs.Readings.{Reading, cut-told, told-whole, cut-all, after-read, after-behind, after-short, failed-whole, too_long-is, too_long-whole, reading-begins, reading-line, reading-end}
 
 -- ---- causes
@@ -63,6 +65,25 @@ wrote_too_long output.NoMemory is = cc
 error-is : (a b : RunError) → IsErrOf {T = Bool} (Err a) b → a ≡ b
 error-is a b e = cc
 
+-- nothing was read
+pub runs-nothing : {W : Type 0} (registry : SharedRegistry) (board : SharedBoard W Ask Finished) (first : State) (left held : Option (List ℕ)) → IsReady registry board first → IsFresh first → RunsSource left left first first (Err NoMemory) held held
+runs-nothing registry board first left held ready fresh = record {
+  given = [];
+  reads = record { read = Consumes-nil left; at_end = tt };
+  lines = record {
+    goes_on = goes-same first;
+    front = ([], (λ r b from_r from_b. (text_in (turn_in first.workers (start 0) 0 (script_of (script_in left [])) r b), refl)), appends-none held);
+    whole = tt;
+    in_turn = tt;
+    own = tt;
+    shut = tt;
+    unshut = inl (ready.posted.unshut fresh.board.0);
+    malformed = tt;
+    first = record { failed = λ e. absurd cc; too_long = (λ e. absurd cc, λ lt. absurd (omega arith)); up_to = λ e. absurd cc; written = λ e. absurd cc; whole = tt };
+    own_reads = λ e. elim e [ inl is ↦ absurd cc | inr is ↦ absurd cc ];
+  };
+}
+
 -- ---- what stands at the head of the loop
 
 pub record Running {W : Type 0} (registry : SharedRegistry) (board : SharedBoard W Ask Finished) (first : State) (number : ℕ) (place : Place) (left left' held held' : Option (List ℕ)) (malformed : Bool) (s : State) : Type 0 where
@@ -87,27 +108,6 @@ module _ (laws : Laws) (stay : WholeLinesStay) (none : NoWholeLine) (first : Sta
     going = going-begins laws first registry board held ready fresh;
     malformed_is = refl;
   }
-
-  -- nothing was read
-  pub runs-nothing : (left held : Option (List ℕ)) → IsReady registry board first → IsFresh first → RunsSource left left first first (Err NoMemory) held held
-  runs-nothing left held ready fresh =
-      let going = going-begins laws first registry board held ready fresh in
-      record {
-        given = [];
-        reads = record { read = Consumes-nil left; at_end = tt };
-        lines = record {
-          goes_on = goes-same first;
-          front = stopped laws first registry board [] 1 held held held first first going (script_of (script_in left [])) (goes-same first) (keeps-same held);
-          whole = tt;
-          in_turn = tt;
-          own = tt;
-          shut = tt;
-          unshut = inl (ready.posted.unshut fresh.board.0);
-          malformed = tt;
-          first = record { failed = λ e. absurd cc; too_long = (λ e. absurd cc, λ lt. absurd (omega arith)); up_to = λ e. absurd cc; written = λ e. absurd cc; whole = tt };
-          own_reads = λ e. elim e [ inl is ↦ absurd cc | inr is ↦ absurd cc ];
-        };
-      }
 
   module _ (number : ℕ) (place place' : Place) (left left' left'' x y : Option (List ℕ)) (malformed : Bool) (s : State) (at : At number place left left' x y malformed s) where
     -- ---- the next line wasn't found

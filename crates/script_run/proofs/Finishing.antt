@@ -1,5 +1,5 @@
 -- How a script's part begins and ends beside workers.
-use Rattle.std.proofs.Common.{◌≡◌, ℕ, zero, suc, ◌+◌, ◌≤◌, ◌⊎◌, Bool, true, false, ◌&&◌, List, [], ◌∷◌, ◌++◌, Some, refl, sym, ap, subst, ◌∙◌, append-nil, append_assoc, arith, inl, inr}
+use Rattle.std.proofs.Common.{◌≡◌, ℕ, zero, suc, ◌+◌, ◌≤◌, ◌⊎◌, Bool, true, false, ◌&&◌, List, [], ◌∷◌, ◌++◌, Some, refl, sym, ap, subst, ◌∙◌, append-nil, append_assoc, arith, inl, inr, rules}
 use Rattle.std.specs.Prelude.{◌==◌, if◌then◌else◌, Result, Ok, Err, Option, None, OnOk, IfOk, IfSome, All, length, take, ◌-◌}
 use Rattle.std.specs.List.{list_all, list_any}
 use Rattle.std.specs.Io.KnownBytes.{Consumes, IsAtEnd}
@@ -35,7 +35,7 @@ use Rattle.script_text.specs.Whole.{whole_script}
 use Rattle.settled_scripts.specs.Printing.{PrintsPlain}
 use Rattle.settled_scripts.specs.Settled.{IsSettled, plain_text}
 use Rattle.templates.specs.Table.{table}
-use Rattle.session_calls.specs.Passes.{known, RegPass, BoardPass}
+use Rattle.session_calls.specs.Passes.{known, BoardPass}
 use Rattle.shared_board.specs.declared.shared.SharedBoard.{SharedBoard}
 use Rattle.shared_registry.specs.declared.sharing.SharedRegistry.{SharedRegistry}
 use Rattle.transforms.specs.declared.ask.Ask.{Ask}
@@ -48,10 +48,12 @@ use Rattle.script_run.specs.declared.errors.RunError.TheVariants.{NoMemory}
 use Rattle.script_run.specs.Answered.{AreAnswered, BeginsWithText, AreAnsweredAfter, AreAnsweredOn, BeginsWithTextAfter, IsShutAlone, ShutsAlone, RunsSource, AnswersSource, RanSource, script_in}
 use Rattle.script_run.specs.Laws.{Laws, CrewLaws}
 use Rattle.script_run.specs.Endings.{AreCallers, EndsShut as ShutLast, IsShutOnce}
-use Rattle.script_run.specs.Runs.{Gains, GoesOn, OthersFollow, IsTextAfter, IsFrontAfter, InTurn, InTurnAfter, IsShutIn, IsUnshutOrEnds, WasShut, AreNew, Ended, Answers}
+use Rattle.script_run.specs.Beside.{AreHistories, ScriptRan}
+use Rattle.script_run.specs.Runs.{Gains, GoesOn, OthersFollow, IsTextAfter, IsFrontAfter, InTurn, InTurnAfter, IsShutIn, IsUnshutOrEnds, WasShut, AreNew, HasShut, Ended}
 use Rattle.script_run.specs.Text.{is_malformed}
 use Rattle.shared_registry.specs.Building.{is_building}
 use Rattle.script_run.proofs.Following.{none-pass, starts-trans, sees-then, others-then, board_calls-same}
+use Rattle.script_run.proofs.Going.{nothing_fronted}
 
 map_ok : {A B : Type 0} (result : Result Bool RunError) → (A → B) → OnOk result A → OnOk result B
 map_ok (Ok bad) f holds = f holds
@@ -194,108 +196,128 @@ shut-in k l first e others = record {
   finished = λ p may open_. e.finished p (subst (λ n. MayManage (entries_of p e.before) n) (sym first) may) open_;
 }
 
-module _ (workers : ℕ) (lines : List Line) (p : Passes Ask) (qr : RegPass) (qb qb' : BoardPass) (s s' : State) (held held' : Option (List ℕ))
-    (was : s ≡ record { workers = workers; walk = start 0; registry = Some p.registry; board = Some p.board }) (now : (s'.registry ≡ Some qr) × (s'.board ≡ Some qb)) (goes : GoesOn s s') (new : AreNew p)
-    (more : HasSeenMore (knows qb) (knows qb')) (shut : is_shut (knows qb).seen ≡ true → OthersFollow board_caller (knows qb) (knows qb').seen) where
-  at_registry : known s'.registry ≡ knows qr
-  at_registry = ap (λ o. known o) now.0
+-- A session began with the passes p and gave back those of q, but that the board's was qb until the board was shut.
+pub record IsSessionOf (workers : ℕ) (p q : Passes Ask) (qb : BoardPass) (s s' : State) : Type 0 where
+  pub was : s ≡ record { workers = workers; walk = start 0; registry = Some p.registry; board = Some p.board }
+  pub now : (s'.registry ≡ Some q.registry) × (s'.board ≡ Some qb)
+  pub goes : GoesOn s s'
+  pub new : AreNew p
+  pub more : HasSeenMore (knows qb) (knows q.board)
+  pub shut : is_shut (knows qb).seen ≡ true → OthersFollow board_caller (knows qb) (knows q.board).seen
+  pub own : IsOwn board_caller (knows q.board)
+  pub closed : IsUnshutOrEnds (knows qb) → WasShut (knows q.board).seen
 
-  at_board : known s'.board ≡ knows qb
-  at_board = ap (λ o. known o) now.1
+module _ (workers : ℕ) (p q : Passes Ask) (qb : BoardPass) (s s' : State) (of_ : IsSessionOf workers p q qb s s') where
+  pub same-workers : s.workers ≡ workers
+  same-workers = ap (λ (x : State). x.workers) of_.was
 
-  goes-registry : HasSeenMore (knows p.registry) (knows qr)
-  goes-registry = subst (λ x. HasSeenMore x (knows qr)) (ap (λ (x : State). known x.registry) was) (subst (λ x. HasSeenMore (known s.registry) x) at_registry goes.registry)
+  pub at_registry : known s'.registry ≡ knows q.registry
+  at_registry = ap (λ o. known o) of_.now.0
+
+  pub at_board : known s'.board ≡ knows qb
+  at_board = ap (λ o. known o) of_.now.1
 
   goes-board : HasSeenMore (knows p.board) (knows qb)
-  goes-board = subst (λ x. HasSeenMore x (knows qb)) (ap (λ (x : State). known x.board) was) (subst (λ x. HasSeenMore (known s.board) x) at_board goes.board)
-
-  front-on : Gains held held' (IsFrontAfter s.workers lines (known s'.registry) (known s'.board)) → Gains held held' (IsFrontAfter workers lines (knows qr) (knows qb'))
-  front-on g = (
-    g.0,
-    λ r b from_r from_b.
-        subst (λ w. IsFrontText w (start 0) 0 lines r b g.0) (ap (λ (x : State). x.workers) was)
-        (g.1 r b (subst (λ x. StartsWith r x.seen) (sym at_registry) from_r) (subst (λ x. StartsWith b x.seen) (sym at_board) (starts-trans (knows qb).seen (knows qb').seen b more.seen from_b))),
-    g.2,
-  )
-
-  ended-on : Gains held held' (IsTextAfter s.workers lines (known s'.registry) (known s'.board)) → InTurnAfter lines (known s'.registry) → IsOwn reg_caller (known s'.registry) → EndsShut (known s'.board)
-      → Ended workers lines (record { registry = qr; board = qb' }) held held'
-  ended-on g in_turn own ends =
-      let ends' : EndsShut (knows qb) = subst EndsShut at_board ends in
-      let follow = shut (ends-shut (knows qb) ends') in
-      record {
-        text = (
-          g.0,
-          λ r b from_r from_b.
-              subst (λ w. IsText w (start 0) 0 lines r b g.0) (ap (λ (x : State). x.workers) was)
-              (g.1 r b (subst (λ x. OthersFollow reg_caller x r) (sym at_registry) from_r) (subst (λ x. OthersFollow board_caller x b) (sym at_board) (others-then board_caller (knows qb) (knows qb') b more.number follow from_b))),
-          g.2,
-        );
-        in_turn = subst (InTurnAfter lines) at_registry in_turn;
-        own = subst (λ x. IsOwn reg_caller x) at_registry own;
-        shut = shut-in (knows qb) (knows qb') (goes-board.number ∙ new.board.0) ends' follow;
-      }
-
-  ended-ok : {F : Type 0} (r : Result Bool F) → OnOk r (Gains held held' (IsTextAfter s.workers lines (known s'.registry) (known s'.board))) → OnOk r (InTurnAfter lines (known s'.registry)) → OnOk r (IsOwn reg_caller (known s'.registry)) → OnOk r (EndsShut (known s'.board))
-      → OnOk r (Ended workers lines (record { registry = qr; board = qb' }) held held')
-  ended-ok (Ok bad) g in_turn own ends = ended-on g in_turn own ends
-  ended-ok (Err e) g in_turn own ends = tt
-
-  pub answered : {F : Type 0} (r : Result Bool F) → OnOk r (Gains held held' (IsTextAfter s.workers lines (known s'.registry) (known s'.board))) → Gains held held' (IsFrontAfter s.workers lines (known s'.registry) (known s'.board))
-      → OnOk r (InTurnAfter lines (known s'.registry)) → OnOk r (IsOwn reg_caller (known s'.registry)) → OnOk r (EndsShut (known s'.board)) → IfOk r (λ bad. bad ≡ list_any is_malformed lines) → IsOwn board_caller (knows qb') → WasShut (knows qb').seen
-      → Answers workers lines p (record { registry = qr; board = qb' }) r held held'
-  answered r whole front in_turn own ends malformed own_board closed = record {
-    registry = goes-registry;
-    board = sees-then (knows p.board) (knows qb) (knows qb') goes-board more;
-    own = own_board;
-    shut = closed;
-    front = front-on front;
-    ended = ended-ok r whole in_turn own ends;
-    malformed = malformed;
-  }
-
--- ---- a script out of a source
-
-module _ (laws : Laws) (workers : ℕ) (left left' : Option (List ℕ)) (p : Passes Ask) (qr : RegPass) (qb qb' : BoardPass) (s s' : State) (result : Result Bool RunError) (held held' : Option (List ℕ))
-    (was : s ≡ record { workers = workers; walk = start 0; registry = Some p.registry; board = Some p.board }) (now : (s'.registry ≡ Some qr) × (s'.board ≡ Some qb)) (new : AreNew p)
-    (more : HasSeenMore (knows qb) (knows qb')) (shut : is_shut (knows qb).seen ≡ true → OthersFollow board_caller (knows qb) (knows qb').seen) (alone : ShutsAlone board_caller (knows qb) (knows qb'))
-    (run : RunsSource left left' s s' result held held') where
-  same-workers : s.workers ≡ workers
-  same-workers = ap (λ (x : State). x.workers) was
+  goes-board = subst (λ x. HasSeenMore x (knows qb)) (ap (λ (x : State). known x.board) of_.was) (subst (λ x. HasSeenMore (known s.board) x) at_board of_.goes.board)
 
   zero-then : (knows qb).number ≡ 0
-  zero-then = (goes-board workers [] p qr qb qb' s s' held held' was now run.lines.goes_on new more shut).number ∙ new.board.0
+  zero-then = goes-board.number ∙ of_.new.board.0
 
-  answered-on : (lines : List Line) (text : List ℕ) → AreAnsweredAfter s.workers lines (known s'.registry) (known s'.board) text → AreAnsweredOn workers lines (knows qr) (knows qb') text
-  answered-on lines text after = λ r b from_r from_b.
-      let calls = calls-shut laws (knows qb) (knows qb') zero-then alone in
-      let on_b : board_calls 0 b ≡ board_calls 0 (known s'.board).seen ++ calls.0 =
-      board_calls-same laws (knows qb') b (more.number ∙ zero-then) from_b ∙ (calls.2 ∙ ap (λ (o : Option BoardPass). board_calls 0 (known o).seen ++ calls.0) (sym now.1)) in
-      subst (λ w. AreAnswered w lines r b text) same-workers
-      (after r b calls.0 (subst (λ (o : Option RegPass). OthersFollow reg_caller (known o) r) (sym now.0) from_r) on_b calls.1)
-
-  begins-on : (lines : List Line) (text : List ℕ) → BeginsWithTextAfter s.workers lines (known s'.registry) (known s'.board) text → BeginsWithTextAfter workers lines (knows qr) (knows qb') text
-  begins-on lines text after = λ r b from_r from_b.
-      subst (λ w. BeginsWithText w lines r b text) same-workers
-      (after r b (subst (λ (o : Option RegPass). StartsWith r (known o).seen) (sym now.0) from_r)
-      (subst (λ (o : Option BoardPass). StartsWith b (known o).seen) (sym now.1) (starts-trans (knows qb).seen (knows qb').seen b more.seen from_b)))
-
-  pub answered-source : IsOwn board_caller (knows qb') → (IsUnshutOrEnds (knows qb) → WasShut (knows qb').seen) → AnswersSource workers left left' p (record { registry = qr; board = qb' }) result held held'
-  answered-source own closed = record {
-    given = run.given;
-    reads = run.reads;
-    answers =
-        answered workers (script_of (script_in left run.given)) p qr qb qb' s s' held held' was now run.lines.goes_on new more shut
-        result run.lines.whole run.lines.front run.lines.in_turn run.lines.own run.lines.shut run.lines.malformed own (closed (subst IsUnshutOrEnds (ap (λ (o : Option BoardPass). known o) now.1) run.lines.unshut));
-    first = record {
-      failed = λ is. let g = run.lines.first.failed is in (g.0, answered-on (whole_script run.given) g.0 g.1, g.2);
-      too_long = run.lines.first.too_long;
-      up_to = λ is. let u = run.lines.first.up_to is in let g = u.3 in (u.0, u.1, u.2, (g.0, answered-on (whole_script (take u.0 run.given)) g.0 g.1, g.2));
-      written = λ is. let g = run.lines.first.written is in (g.0, begins-on (whole_script (take (length run.given - 65536) run.given)) g.0 g.1, g.2);
-      whole = map_ok result (λ g. (g.0, begins-on (whole_script (take (length run.given - 65536) run.given)) g.0 g.1, g.2)) run.lines.first.whole;
-    };
-    own_reads = λ is. subst (λ (o : Option RegPass). IsOwn reg_caller (known o)) now.0 (run.lines.own_reads is);
+  pub part-of : IsUnshutOrEnds (known s'.board) → HasShut p q
+  part-of unshut = record {
+    registry = subst (λ x. HasSeenMore x (knows q.registry)) (ap (λ (x : State). known x.registry) of_.was) (subst (λ x. HasSeenMore (known s.registry) x) at_registry of_.goes.registry);
+    board = sees-then (knows p.board) (knows qb) (knows q.board) goes-board of_.more;
+    own = of_.own;
+    shut = of_.closed (subst IsUnshutOrEnds at_board unshut);
   }
+
+  -- what follows on the passes given back follows on what the session knew
+  pub from-registry : (r : List RegEntry) → StartsWith r (knows q.registry).seen → StartsWith r (known s'.registry).seen
+  from-registry r = subst (λ x. StartsWith r x.seen → StartsWith r (known s'.registry).seen) at_registry (λ starts. starts)
+
+  pub from-board : (b : List (BoardEntry Ask)) → StartsWith b (knows q.board).seen → StartsWith b (known s'.board).seen
+  from-board b starts = subst (λ x. StartsWith b x.seen) (sym at_board) (starts-trans (knows qb).seen (knows q.board).seen b of_.more.seen starts)
+
+  pub others-registry : (r : List RegEntry) → OthersFollow reg_caller (knows q.registry) r → OthersFollow reg_caller (known s'.registry) r
+  others-registry r = subst (λ x. OthersFollow reg_caller x r → OthersFollow reg_caller (known s'.registry) r) at_registry (λ others. others)
+
+  module _ (ends : EndsShut (known s'.board)) where
+    ends-then : EndsShut (knows qb)
+    ends-then = subst EndsShut at_board ends
+
+    followed-then : OthersFollow board_caller (knows qb) (knows q.board).seen
+    followed-then = of_.shut (ends-shut (knows qb) ends-then)
+
+    pub others-board : (b : List (BoardEntry Ask)) → OthersFollow board_caller (knows q.board) b → OthersFollow board_caller (known s'.board) b
+    others-board b others = subst (λ x. OthersFollow board_caller x b) (sym at_board) (others-then board_caller (knows qb) (knows q.board) b of_.more.number followed-then others)
+
+    pub was-shut_in : IsShutIn (knows q.board).seen
+    was-shut_in = shut-in (knows qb) (knows q.board) zero-then ends-then followed-then
+
+  -- ---- a script's
+
+  module _ (lines : List Line) (held held' : Option (List ℕ)) where
+    front-on : Gains held held' (IsFrontAfter s.workers lines (known s'.registry) (known s'.board)) → Gains held held' (IsFrontAfter workers lines (knows q.registry) (knows q.board))
+    front-on g = (
+      g.0,
+      λ r b from_r from_b. subst (λ w. IsFrontText w (start 0) 0 lines r b g.0) same-workers (g.1 r b (from-registry r from_r) (from-board b from_b)),
+      g.2,
+    )
+
+    ended-on : Gains held held' (IsTextAfter s.workers lines (known s'.registry) (known s'.board)) → InTurnAfter lines (known s'.registry) → IsOwn reg_caller (known s'.registry) → EndsShut (known s'.board)
+        → Ended workers lines q held held'
+    ended-on g in_turn own ends = record {
+      text = (
+        g.0,
+        λ r b from_r from_b. subst (λ w. IsText w (start 0) 0 lines r b g.0) same-workers (g.1 r b (others-registry r from_r) (others-board ends b from_b)),
+        g.2,
+      );
+      in_turn = subst (InTurnAfter lines) at_registry in_turn;
+      own = subst (λ x. IsOwn reg_caller x) at_registry own;
+      shut = was-shut_in ends;
+    }
+
+    ended-ok : (r : Result Bool RunError) → OnOk r (Gains held held' (IsTextAfter s.workers lines (known s'.registry) (known s'.board))) → OnOk r (InTurnAfter lines (known s'.registry)) → OnOk r (IsOwn reg_caller (known s'.registry)) → OnOk r (EndsShut (known s'.board))
+        → OnOk r (Ended workers lines q held held')
+    ended-ok (Ok bad) g in_turn own ends = ended-on g in_turn own ends
+    ended-ok (Err e) g in_turn own ends = tt
+
+  module _ (laws : Laws) (alone : ShutsAlone board_caller (knows qb) (knows q.board)) (left left' held held' : Option (List ℕ)) (result : Result Bool RunError) (run : RunsSource left left' s s' result held held') where
+    answered-on : (lines : List Line) (text : List ℕ) → AreAnsweredAfter s.workers lines (known s'.registry) (known s'.board) text → AreAnsweredOn workers lines (knows q.registry) (knows q.board) text
+    answered-on lines text after = λ r b from_r from_b.
+        let calls = calls-shut laws (knows qb) (knows q.board) zero-then alone in
+        let on_b : board_calls 0 b ≡ board_calls 0 (known s'.board).seen ++ calls.0 =
+        board_calls-same laws (knows q.board) b (of_.more.number ∙ zero-then) from_b ∙ (calls.2 ∙ ap (λ k. board_calls 0 k.seen ++ calls.0) (sym at_board)) in
+        subst (λ w. AreAnswered w lines r b text) same-workers (after r b calls.0 (others-registry r from_r) on_b calls.1)
+
+    begins-on : (lines : List Line) (text : List ℕ) → BeginsWithTextAfter s.workers lines (known s'.registry) (known s'.board) text → BeginsWithTextAfter workers lines (knows q.registry) (knows q.board) text
+    begins-on lines text after = λ r b from_r from_b. subst (λ w. BeginsWithText w lines r b text) same-workers (after r b (from-registry r from_r) (from-board b from_b))
+
+    abbrev first-ones : List Line
+    first-ones = whole_script (take (length run.given - 65536) run.given)
+
+    pub answered-source : AnswersSource workers left left' p q result held held'
+    answered-source =
+        let lines = script_of (script_in left run.given) in
+        let did = run.lines in
+        record {
+          given = run.given;
+          reads = run.reads;
+          answers = record {
+            part = part-of did.unshut;
+            front = front-on lines held held' did.front;
+            ended = ended-ok lines held held' result did.whole did.in_turn did.own did.shut;
+            malformed = did.malformed;
+          };
+          first = record {
+            failed = λ is. let g = did.first.failed is in (g.0, answered-on (whole_script run.given) g.0 g.1, g.2);
+            too_long = did.first.too_long;
+            up_to = λ is. let u = did.first.up_to is in let g = u.3 in (u.0, u.1, u.2, (g.0, answered-on (whole_script (take u.0 run.given)) g.0 g.1, g.2));
+            written = λ is. let g = did.first.written is in (g.0, begins-on first-ones g.0 g.1, g.2);
+            whole = map_ok result (λ g. (g.0, begins-on first-ones g.0 g.1, g.2)) did.first.whole;
+          };
+          own_reads = λ is. subst (λ k. IsOwn reg_caller k) at_registry (did.own_reads is);
+        }
 
 -- ---- what a crew leaves
 
@@ -374,6 +396,130 @@ others-beside workers (e ∷ es) each none =
     work not (inl zero_is) = let bad : true ≡ false = sym (eq-eqb (board_caller e) 0 zero_is) ∙ not in cc
     work not (inr works) = works
 
+-- The passes that a run of a crew began with, those that its script was given and gave back, those that came back, and the histories
+-- that both locks then handed out.
+pub record IsRunOf (workers : ℕ) (first p q l : Passes Ask) (r : List RegEntry) (b : List (BoardEntry Ask)) : Type 0 where
+  pub new : (knows first.board ≡ newcomer) × (knows first.registry ≡ newcomer)
+  pub next : HaveNext workers first p
+  pub crewed : CrewedOnBoth workers first q l
+  pub shows_r : Shows reg_caller (knows l.registry) r
+  pub shows_b : Shows board_caller (knows l.board) b
+  pub legal : LegalReg r
+  pub made : Made table r
+  pub legal_board : LegalBoard b
+
+module _ (laws : CrewLaws) (workers : ℕ) (first p q l : Passes Ask) (r : List RegEntry) (b : List (BoardEntry Ask)) (run : IsRunOf workers first p q l r b) (part : HasShut p q) where
+  starts-registry : StartsWith r (knows q.registry).seen
+  starts-registry = starts-trans (knows q.registry).seen (knows l.registry).seen r run.crewed.registry.seen run.shows_r.seen
+
+  starts-board : StartsWith b (knows q.board).seen
+  starts-board = starts-trans (knows q.board).seen (knows l.board).seen b run.crewed.board.seen run.shows_b.seen
+
+  pub follow-registry : IsOwn reg_caller (knows q.registry) → OthersFollow reg_caller (knows q.registry) r
+  follow-registry own = laws.registry_ends is_building (knows first.registry).next workers (knows q.registry) (knows l.registry) r own run.crewed.registry run.shows_r
+
+  pub follow-board : OthersFollow board_caller (knows q.board) b
+  follow-board = laws.board_ends is_work (knows first.board).next workers (knows q.board) (knows l.board) b part.own run.crewed.board run.shows_b
+
+  -- each entry of the histories is the script's or a worker's
+  zero-registry : (knows q.registry).number ≡ 0
+  zero-registry = part.registry.number ∙ (next-new workers first p run.new run.next).registry.0
+
+  zero-board : (knows q.board).number ≡ 0
+  zero-board = part.board.number ∙ (next-new workers first p run.new run.next).board.0
+
+  next-registry : (knows q.registry).next ≡ workers + 1
+  next-registry = let a = part.registry.next in let n = ap (λ x. x.next) run.next.registry in let f = ap (λ x. x.next) run.new.1 in omega arith
+
+  next-board : (knows q.board).next ≡ workers + 1
+  next-board = let a = part.board.next in let n = ap (λ x. x.next) run.next.board in let f = ap (λ x. x.next) run.new.0 in omega arith
+
+  either-board : Each (IsEither workers) b
+  either-board = laws.board_works is_work workers (knows q.board) (knows l.board) b zero-board next-board
+      (subst (λ n. Crewed is_work n workers (knows q.board) (knows l.board)) (ap (λ x. x.next) run.new.0) run.crewed.board) run.shows_b
+
+  few-callers : AreCallers workers r b
+  few-callers = (
+    all_each _ (λ e. reg_caller e ≤ workers) (λ e x. x.0) r
+        (laws.registry_works is_building workers (knows q.registry) (knows l.registry) r zero-registry next-registry
+        (subst (λ n. Crewed is_building n workers (knows q.registry) (knows l.registry)) (ap (λ x. x.next) run.new.1) run.crewed.registry) run.shows_r),
+    all_each (IsEither workers) (λ e. board_caller e ≤ workers) (λ e x. x.0) b either-board,
+  )
+
+  pub few-enough : workers ≤ 16 → All (λ e. reg_caller e ≤ 16) r × All (λ e. board_caller e ≤ 16) b
+  few-enough few = (
+    All-weaker (λ e. reg_caller e ≤ workers) (λ e. reg_caller e ≤ 16) (λ e le. omega arith) r few-callers.0,
+    All-weaker (λ e. board_caller e ≤ workers) (λ e. board_caller e ≤ 16) (λ e le. omega arith) b few-callers.1,
+  )
+
+  -- where the script shut the board, the crew alone worked after that
+  module _ (before after : List (BoardEntry Ask)) (seen : (knows q.board).seen ≡ before ++ Shut 0 ∷ after) (others : of board_caller 0 after ≡ []) where
+    abbrev later : List (BoardEntry Ask)
+    later = after ++ follow-board.0
+
+    later-history : b ≡ before ++ Shut 0 ∷ later
+    later-history = follow-board.1 ∙ (ap (λ h. h ++ follow-board.0) seen ∙ append_assoc before (Shut 0 ∷ after) follow-board.0)
+
+    later-none : of board_caller 0 later ≡ []
+    later-none = filter-append (λ e. board_caller e == 0) after follow-board.0 ∙ (λ i. others i ++ subst (λ n. of board_caller n follow-board.0 ≡ []) zero-board follow-board.2 i)
+
+    later-either : Each (IsEither workers) (before ++ Shut 0 ∷ later)
+    later-either = subst (Each (IsEither workers)) later-history either-board
+
+    pub shut-once : IsShutOnce workers b
+    shut-once = record { before = before; after = later; history = later-history; work = others-beside workers later (each_right (IsEither workers) before (Shut 0 ∷ later) later-either).1 later-none }
+
+  -- the shut is last
+  pub shut-ends : IsShutIn (knows q.board).seen → ShutLast b
+  shut-ends s =
+      let more = later s.before s.after s.history s.others in
+      let history = later-history s.before s.after s.history s.others in
+      let all = later-either s.before s.after s.history s.others in
+      let right : LegalBoard (s.before ++ Shut 0 ∷ more) = subst LegalBoard history run.legal_board in
+      let works = others-work workers more (each_right (IsEither workers) s.before (Shut 0 ∷ more) all).1 (later-none s.before s.after s.history s.others) in
+      let finished =
+      laws.all_finished s.before 0 (legal-front [] s.before (Shut 0 ∷ more) right)
+      (each_each (IsEither workers) (λ e. (board_caller e ≡ 0) ⊎ (is_work e ≡ true)) (λ e x. x.1) s.before (each_left (IsEither workers) s.before (Shut 0 ∷ more) all))
+      s.finished in
+      (s.before, history ∙ ap (λ es. s.before ++ Shut 0 ∷ es) (laws.shut_last s.before 0 more right finished works))
+
+  pub histories-of : AreHistories workers r b
+  histories-of = record {
+    closed = inr (shut-once part.shut.before part.shut.after part.shut.history part.shut.others);
+    callers = few-callers;
+    legal = run.legal;
+    legal_board = run.legal_board;
+    faithful = run.made;
+  }
+
+-- ---- a script that nothing was run of
+
+-- nothing was read or written
+nothing-read : (workers : ℕ) (left held : Option (List ℕ)) (r : List RegEntry) (b : List (BoardEntry Ask)) → RanSource workers left left r b (Err NoMemory) held held
+nothing-read workers left held r b = record {
+  given = [];
+  reads = record { read = Consumes-nil left; at_end = tt };
+  first = record { failed = λ e. absurd cc; too_long = (λ e. absurd cc, λ lt. absurd (omega arith)); up_to = λ e. absurd cc; written = λ e. absurd cc; whole = tt };
+}
+
+pub no-histories : (workers : ℕ) → AreHistories workers [] []
+no-histories workers = record { closed = inl refl; callers = (All-nil _, All-nil _); legal = search rules; legal_board = search rules; faithful = search rules }
+
+pub not-ran : (workers : ℕ) (left held : Option (List ℕ)) → ScriptRan workers left left [] [] (Err NoMemory) held held
+not-ran workers left held = record {
+  ended = tt;
+  whole = tt;
+  in_turn = tt;
+  settled = tt;
+  shut = tt;
+  front = nothing_fronted workers left held [] [];
+  first = nothing-read workers left held [] [];
+  malformed = tt;
+  histories = no-histories workers;
+}
+
+-- ---- a script beside workers
+
 -- what holds of the script that the source tells, or else of what it gave
 if_told : (P : List ℕ → Type 0) (left : Option (List ℕ)) (given : List ℕ) → P (script_in left given) → IfSome left P
 if_told P None given holds = tt
@@ -384,154 +530,71 @@ told_end None left' given read at_end = tt
 told_end (Some script) None given read at_end = absurd read
 told_end (Some script) (Some rest) given read at_end = ap (λ xs. Some xs) at_end
 
--- nothing was read or written
-pub nothing_ran : (workers : ℕ) (left held : Option (List ℕ)) (r : List RegEntry) (b : List (BoardEntry Ask)) → RanSource workers left left r b (Err NoMemory) held held
-nothing_ran workers left held r b = record {
-  given = [];
-  reads = record { read = Consumes-nil left; at_end = tt };
-  first = record { failed = λ e. absurd cc; too_long = (λ e. absurd cc, λ lt. absurd (omega arith)); up_to = λ e. absurd cc; written = λ e. absurd cc; whole = tt };
-}
+if-ok : (Q R : Bool → Type 0) (a : Result Bool RunError) → ((bad : Bool) → Q bad → R bad) → IfOk a Q → IfOk a R
+if-ok Q R (Ok bad) f holds = f bad holds
+if-ok Q R (Err e) f holds = tt
 
 module _ (laws : CrewLaws) (workers : ℕ) (left left' : Option (List ℕ)) (first p q l : Passes Ask) (result : Result Bool RunError) (held held' : Option (List ℕ)) (r : List RegEntry) (b : List (BoardEntry Ask))
-    (new : (knows first.board ≡ newcomer) × (knows first.registry ≡ newcomer)) (next : HaveNext workers first p) (source : AnswersSource workers left left' p q result held held') (crewed : CrewedOnBoth workers first q l)
-    (shows_r : Shows reg_caller (knows l.registry) r) (shows_b : Shows board_caller (knows l.board) b) where
+    (run : IsRunOf workers first p q l r b) (source : AnswersSource workers left left' p q result held held') (plain : PrintsPlain) (few : workers ≤ 16) where
   abbrev lines : List Line
   lines = script_of (script_in left source.given)
 
-  abbrev answers : Answers workers lines p q result held held'
-  answers = source.answers
+  abbrev part : HasShut p q
+  part = source.answers.part
 
-  starts-registry : StartsWith r (knows q.registry).seen
-  starts-registry = starts-trans (knows q.registry).seen (knows l.registry).seen r crewed.registry.seen shows_r.seen
+  from-r : StartsWith r (knows q.registry).seen
+  from-r = starts-registry laws workers first p q l r b run part
 
-  starts-board : StartsWith b (knows q.board).seen
-  starts-board = starts-trans (knows q.board).seen (knows l.board).seen b crewed.board.seen shows_b.seen
+  from-b : StartsWith b (knows q.board).seen
+  from-b = starts-board laws workers first p q l r b run part
 
-  pub front-whole : IfSome left (λ script. Gains held held' (IsFrontText workers (start 0) 0 (script_of script) r b))
-  front-whole =
-      if_told (λ script. Gains held held' (IsFrontText workers (start 0) 0 (script_of script) r b)) left source.given
-      (answers.front.0, answers.front.1 r b starts-registry starts-board, answers.front.2)
+  on-r : IsOwn reg_caller (knows q.registry) → OthersFollow reg_caller (knows q.registry) r
+  on-r = follow-registry laws workers first p q l r b run part
 
-  pub follow-board : OthersFollow board_caller (knows q.board) b
-  follow-board = laws.board_ends is_work (knows first.board).next workers (knows q.board) (knows l.board) b answers.own crewed.board shows_b
-
-  -- each entry of the histories is the script's or a worker's
-  zero-registry : (knows q.registry).number ≡ 0
-  zero-registry = answers.registry.number ∙ (next-new workers first p new next).registry.0
-
-  zero-board : (knows q.board).number ≡ 0
-  zero-board = answers.board.number ∙ (next-new workers first p new next).board.0
-
-  next-registry : (knows q.registry).next ≡ workers + 1
-  next-registry = let a = answers.registry.next in let n = ap (λ x. x.next) next.registry in let f = ap (λ x. x.next) new.1 in omega arith
-
-  next-board : (knows q.board).next ≡ workers + 1
-  next-board = let a = answers.board.next in let n = ap (λ x. x.next) next.board in let f = ap (λ x. x.next) new.0 in omega arith
-
-  either-board : Each (IsEither workers) b
-  either-board = laws.board_works is_work workers (knows q.board) (knows l.board) b zero-board next-board
-      (subst (λ n. Crewed is_work n workers (knows q.board) (knows l.board)) (ap (λ x. x.next) new.0) crewed.board) shows_b
-
-  pub few-callers : AreCallers workers r b
-  few-callers = (
-    all_each _ (λ e. reg_caller e ≤ workers) (λ e x. x.0) r
-        (laws.registry_works is_building workers (knows q.registry) (knows l.registry) r zero-registry next-registry
-        (subst (λ n. Crewed is_building n workers (knows q.registry) (knows l.registry)) (ap (λ x. x.next) new.1) crewed.registry) shows_r),
-    all_each (IsEither workers) (λ e. board_caller e ≤ workers) (λ e x. x.0) b either-board,
-  )
-
-  -- however the script's part ended, it shut the board, and after that the crew alone worked
-  pub whole-closed : IsShutOnce workers b
-  whole-closed =
-      let s = answers.shut in
-      let later = s.after ++ follow-board.0 in
-      let history : b ≡ s.before ++ Shut 0 ∷ later = follow-board.1 ∙ (ap (λ h. h ++ follow-board.0) s.history ∙ append_assoc s.before (Shut 0 ∷ s.after) follow-board.0) in
-      let none : of board_caller 0 later ≡ [] =
-      filter-append (λ e. board_caller e == 0) s.after follow-board.0 ∙ (λ i. s.others i ++ subst (λ n. of board_caller n follow-board.0 ≡ []) zero-board follow-board.2 i) in
-      let all : Each (IsEither workers) (s.before ++ Shut 0 ∷ later) = subst (Each (IsEither workers)) history either-board in
-      record { before = s.before; after = later; history = history; work = others-beside workers later (each_right (IsEither workers) s.before (Shut 0 ∷ later) all).1 none }
-
-  -- the shut is last
-  pub shut-ends : LegalBoard b → IsShutIn (knows q.board).seen → ShutLast b
-  shut-ends legal s =
-      let later = s.after ++ follow-board.0 in
-      let history : b ≡ s.before ++ Shut 0 ∷ later = follow-board.1 ∙ (ap (λ h. h ++ follow-board.0) s.history ∙ append_assoc s.before (Shut 0 ∷ s.after) follow-board.0) in
-      let none : of board_caller 0 later ≡ [] =
-      filter-append (λ e. board_caller e == 0) s.after follow-board.0 ∙ (λ i. s.others i ++ subst (λ n. of board_caller n follow-board.0 ≡ []) zero-board follow-board.2 i) in
-      let all : Each (IsEither workers) (s.before ++ Shut 0 ∷ later) = subst (Each (IsEither workers)) history either-board in
-      let right : LegalBoard (s.before ++ Shut 0 ∷ later) = subst LegalBoard history legal in
-      let works = others-work workers later (each_right (IsEither workers) s.before (Shut 0 ∷ later) all).1 none in
-      let finished =
-      laws.all_finished s.before 0 (legal-front [] s.before (Shut 0 ∷ later) right)
-      (each_each (IsEither workers) (λ e. (board_caller e ≡ 0) ⊎ (is_work e ≡ true)) (λ e x. x.1) s.before (each_left (IsEither workers) s.before (Shut 0 ∷ later) all))
-      s.finished in
-      (s.before, history ∙ ap (λ es. s.before ++ Shut 0 ∷ es) (laws.shut_last s.before 0 later right finished works))
-
-  follow-registry : IsOwn reg_caller (knows q.registry) → OthersFollow reg_caller (knows q.registry) r
-  follow-registry own = laws.registry_ends is_building (knows first.registry).next workers (knows q.registry) (knows l.registry) r own crewed.registry shows_r
+  on-b : OthersFollow board_caller (knows q.board) b
+  on-b = follow-board laws workers first p q l r b run part
 
   -- what was answered where the source or the sink failed, or too much came
-  pub ran : RanSource workers left left' r b result held held'
-  ran = record {
+  ran-source : RanSource workers left left' r b result held held'
+  ran-source = record {
     given = source.given;
     reads = source.reads;
     first = record {
-      failed = λ is. let g = source.first.failed is in (g.0, g.1 r b (follow-registry (source.own_reads (inl is))) follow-board, g.2);
+      failed = λ is. let g = source.first.failed is in (g.0, g.1 r b (on-r (source.own_reads (inl is))) on-b, g.2);
       too_long = source.first.too_long;
-      up_to = λ is. let u = source.first.up_to is in let g = u.3 in (u.0, u.1, u.2, (g.0, g.1 r b (follow-registry (source.own_reads (inr is))) follow-board, g.2));
-      written = λ is. let g = source.first.written is in (g.0, g.1 r b starts-registry starts-board, g.2);
-      whole = map_ok result (λ g. (g.0, g.1 r b starts-registry starts-board, g.2)) source.first.whole;
+      up_to = λ is. let u = source.first.up_to is in let g = u.3 in (u.0, u.1, u.2, (g.0, g.1 r b (on-r (source.own_reads (inr is))) on-b, g.2));
+      written = λ is. let g = source.first.written is in (g.0, g.1 r b from-r from-b, g.2);
+      whole = map_ok result (λ g. (g.0, g.1 r b from-r from-b, g.2)) source.first.whole;
     };
   }
 
-  whole-on : Ended workers lines q held held' → LegalBoard b → Gains held held' (IsText workers (start 0) 0 lines r b) × InTurn lines r × ShutLast b
-  whole-on ended legal =
-      let follow = follow-registry ended.own in
-      ((ended.text.0, ended.text.1 r b follow follow-board, ended.text.2), ended.in_turn r follow, shut-ends legal ended.shut)
+  whole-text : Ended workers lines q held held' → Gains held held' (IsText workers (start 0) 0 lines r b)
+  whole-text ended = (ended.text.0, ended.text.1 r b (on-r ended.own) on-b, ended.text.2)
 
-  on-ok : (A : Type 0) (a : Result Bool RunError) → (Ended workers lines q held held' → A) → OnOk a (Ended workers lines q held held') → OnOk a A
-  on-ok A (Ok bad) f ended = f ended
-  on-ok A (Err e) f ended = tt
-
-  pub whole-text : LegalBoard b → OnOk result (IfSome left (λ script. Gains held held' (IsText workers (start 0) 0 (script_of script) r b)))
-  whole-text legal = on-ok _ result (λ e. if_told (λ script. Gains held held' (IsText workers (start 0) 0 (script_of script) r b)) left source.given (whole-on e legal).0) answers.ended
-
-  pub whole-in_turn : LegalBoard b → OnOk result (IfSome left (λ script. InTurn (script_of script) r))
-  whole-in_turn legal = on-ok _ result (λ e. if_told (λ script. InTurn (script_of script) r) left source.given (whole-on e legal).1) answers.ended
-
-  pub few-enough : workers ≤ 16 → All (λ e. reg_caller e ≤ 16) r × All (λ e. board_caller e ≤ 16) b
-  few-enough few = (
-    All-weaker (λ e. reg_caller e ≤ workers) (λ e. reg_caller e ≤ 16) (λ e le. omega arith) r few-callers.0,
-    All-weaker (λ e. board_caller e ≤ workers) (λ e. board_caller e ≤ 16) (λ e le. omega arith) b few-callers.1,
-  )
+  whole-shut : Ended workers lines q held held' → ShutLast b
+  whole-shut ended = shut-ends laws workers first p q l r b run part ended.shut
 
   -- what a settled script writes is plain
-  pub whole-settled : PrintsPlain → workers ≤ 16 → LegalReg r → Made table r → LegalBoard b
-      → OnOk result (IfSome left (λ script. IsSettled (script_of script) → Gains held held' (λ text. text ≡ plain_text (script_of script))))
-  whole-settled plain few legal_r made legal =
-      let callers = few-enough few in
-      on-ok _ result
-      (λ e. if_told (λ script. IsSettled (script_of script) → Gains held held' (λ text. text ≡ plain_text (script_of script))) left source.given
-      (λ settled.
-      let whole = whole-on e legal in
-      (whole.0.0, plain workers lines r b whole.0.0 settled legal_r made callers.0 legal callers.1 whole.1 whole.0.1, whole.0.2)))
-      answers.ended
+  whole-plain : Ended workers lines q held held' → IsSettled lines → Gains held held' (λ text. text ≡ plain_text lines)
+  whole-plain ended settled =
+      let callers = few-enough laws workers first p q l r b run part few in
+      let text = whole-text ended in
+      (text.0, plain workers lines r b text.0 settled run.legal run.made callers.0 run.legal_board callers.1 (ended.in_turn r (on-r ended.own)) text.1, text.2)
 
-  pub whole-shut : LegalBoard b → OnOk result (ShutLast b)
-  whole-shut legal = on-ok _ result (λ e. (whole-on e legal).2) answers.ended
+  -- of the script that is told, where it reached its end
+  on-told : (P : List ℕ → Type 0) → (Ended workers lines q held held' → P (script_in left source.given)) → OnOk result (IfSome left P)
+  on-told P f = map_ok result (λ ended. if_told P left source.given (f ended)) source.answers.ended
 
-  if-ok : (Q R : Bool → Type 0) (a : Result Bool RunError) → ((bad : Bool) → Q bad → R bad) → IfOk a Q → IfOk a R
-  if-ok Q R (Ok bad) f holds = f bad holds
-  if-ok Q R (Err e) f holds = tt
-
-  pub whole-malformed : IfOk result (λ bad. IfSome left (λ script. bad ≡ list_any is_malformed (script_of script)))
-  whole-malformed =
-      if-ok (λ bad. bad ≡ list_any is_malformed lines) (λ bad. IfSome left (λ script. bad ≡ list_any is_malformed (script_of script))) result
-      (λ bad is. if_told (λ script. bad ≡ list_any is_malformed (script_of script)) left source.given is) answers.malformed
-
-  then-end : (a : Result Bool RunError) → OnOk a (IsAtEnd left') → OnOk a (IfSome left (λ _. left' ≡ Some []))
-  then-end (Ok bad) at_end = told_end left left' source.given source.reads.read at_end
-  then-end (Err e) at_end = tt
-
-  pub whole-ended : OnOk result (IfSome left (λ _. left' ≡ Some []))
-  whole-ended = then-end result source.reads.at_end
+  pub script-ran : ScriptRan workers left left' r b result held held'
+  script-ran = record {
+    ended = map_ok result (told_end left left' source.given source.reads.read) source.reads.at_end;
+    whole = on-told (λ script. Gains held held' (IsText workers (start 0) 0 (script_of script) r b)) whole-text;
+    in_turn = on-told (λ script. InTurn (script_of script) r) (λ ended. ended.in_turn r (on-r ended.own));
+    settled = on-told (λ script. IsSettled (script_of script) → Gains held held' (λ text. text ≡ plain_text (script_of script))) whole-plain;
+    shut = map_ok result whole-shut source.answers.ended;
+    front = if_told (λ script. Gains held held' (IsFrontText workers (start 0) 0 (script_of script) r b)) left source.given (source.answers.front.0, source.answers.front.1 r b from-r from-b, source.answers.front.2);
+    first = ran-source;
+    malformed = if-ok (λ bad. bad ≡ list_any is_malformed lines) (λ bad. IfSome left (λ script. bad ≡ list_any is_malformed (script_of script))) result
+        (λ bad is. if_told (λ script. bad ≡ list_any is_malformed (script_of script)) left source.given is) source.answers.malformed;
+    histories = histories-of laws workers first p q l r b run part;
+  }

@@ -5,3 +5,4 @@ pub mod Loads
 pub mod Answered
 pub mod Endings
 pub mod Statuses
+pub mod Beside

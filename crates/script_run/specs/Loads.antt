@@ -17,14 +17,13 @@ use Rattle.dialogues.specs.Turns.{Turn, turn_of, joined}
 use Rattle.dialogues.specs.Walk.{Walk}
 use Rattle.load_mode.specs.Lines.{opening}
 use Rattle.load_mode.specs.Turns.{bytes_told, IsLoadTurn}
-use Rattle.script_session.specs.Holding.{HasSeenMore}
 use Rattle.script_session.specs.States.{State}
 use Rattle.session_calls.specs.Passes.{known}
 use Rattle.transforms.specs.declared.ask.Ask.{Ask}
 use Rattle.turn_lock.specs.Meeting.{IsOwn}
 use Rattle.turn_lock.specs.Passes.{knows}
 use Rattle.turn_lock.specs.Turns.{Known}
-use Rattle.script_run.specs.Runs.{OthersFollow, IsShutIn, WasShut}
+use Rattle.script_run.specs.Runs.{OthersFollow, HasShut, IsShutIn}
 
 -- ---- a session that holds it
 
@@ -65,8 +64,5 @@ pub record LoadEnds (workers seed count : ℕ) (p : Passes Ask) (digest : List �
 
 -- What a load has done whose passes were p and are now q, and its digest, if it reached its end.
 pub record Loads {F : Type 0} (workers seed count : ℕ) (p q : Passes Ask) (result : Result (List ℕ) F) : Type 0 where
-  pub registry : HasSeenMore (knows p.registry) (knows q.registry)
-  pub board : HasSeenMore (knows p.board) (knows q.board)
-  pub own : IsOwn board_caller (knows q.board)
-  pub shut : WasShut (knows q.board).seen
+  pub part : HasShut p q
   pub ended : IfOk result (LoadEnds workers seed count q)

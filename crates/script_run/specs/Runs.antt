@@ -119,6 +119,13 @@ pub record AreNew (p : Passes Ask) : Type 0 where
   pub registry : ((knows p.registry).number ≡ 0) × ((knows p.registry).seen ≡ []) × ((knows p.registry).made ≡ [])
   pub board : ((knows p.board).number ≡ 0) × ((knows p.board).seen ≡ []) × ((knows p.board).made ≡ [])
 
+-- What a script or a load has done whose passes were p and are now q: both have seen more, and it shut the board.
+pub record HasShut (p q : Passes Ask) : Type 0 where
+  pub registry : HasSeenMore (knows p.registry) (knows q.registry)
+  pub board : HasSeenMore (knows p.board) (knows q.board)
+  pub own : IsOwn board_caller (knows q.board)
+  pub shut : WasShut (knows q.board).seen
+
 -- what a script that reached its end has written
 pub record Ended (workers : ℕ) (lines : List Line) (p : Passes Ask) (held held' : Option (List ℕ)) : Type 0 where
   pub text : Gains held held' (IsTextAfter workers lines (knows p.registry) (knows p.board))
@@ -128,10 +135,7 @@ pub record Ended (workers : ℕ) (lines : List Line) (p : Passes Ask) (held held
 
 -- What a script has done whose passes were p and are now q, and whether a line was malformed, if it reached its end.
 pub record Answers {F : Type 0} (workers : ℕ) (lines : List Line) (p q : Passes Ask) (result : Result Bool F) (held held' : Option (List ℕ)) : Type 0 where
-  pub registry : HasSeenMore (knows p.registry) (knows q.registry)
-  pub board : HasSeenMore (knows p.board) (knows q.board)
-  pub own : IsOwn board_caller (knows q.board)
-  pub shut : WasShut (knows q.board).seen
+  pub part : HasShut p q
   pub front : Gains held held' (IsFrontAfter workers lines (knows q.registry) (knows q.board))
   pub ended : OnOk result (Ended workers lines q held held')
   pub malformed : IfOk result (λ bad. bad ≡ list_any is_malformed lines)

@@ -1,28 +1,19 @@
 //! A whole script beside workers.
 
-ghost use Rattle.std.specs.Prelude.{OnOk, ◌≡◌, ◌+◌, ◌≤◌, ◌⊎◌, [], Err, Some, true, IfOk, IfSome, IsErrOf};
-ghost use Rattle.std.specs.List.{list_any};
-ghost use Rattle.alg_registry.specs.Legal.{LegalReg};
-ghost use Rattle.alg_registry.specs.Made.{Made};
+ghost use Rattle.std.specs.Prelude.{◌≡◌, ◌≤◌, [], Err, true, IfOk, IsErrOf};
 ghost use Rattle.board.specs.Entries.{caller_of};
-ghost use Rattle.board.specs.Legal.{LegalBoard, is_shut};
+ghost use Rattle.board.specs.Legal.{is_shut};
 ghost use Rattle.crew.specs.Both.{ArePassesOn, HaveNext, CrewedOnBoth};
-ghost use Rattle.dialogues.specs.Texts.{IsText, IsFrontText};
-ghost use Rattle.dialogues.specs.Walk.{start};
 ghost use Rattle.kc_base.specs.Streams.{Rose};
-ghost use Rattle.script_text.specs.Script.{script_of};
-ghost use Rattle.settled_scripts.specs.Settled.{IsSettled, plain_text};
 ghost use Rattle.script_session.specs.Holding.{HasSeenMore};
 ghost use Rattle.shared_board.specs.Passes.{IsPassOn};
-ghost use Rattle.templates.specs.Table.{table};
 ghost use Rattle.turn_lock.specs.Meeting.{IsOwn};
 ghost use Rattle.turn_lock.specs.Passes.{knows};
 ghost use Rattle.turn_lock.specs.Turns.{newcomer};
-ghost use Rattle.script_run.specs.Answered.{AnswersSource, RanSource, ShutsAlone};
-ghost use Rattle.script_run.specs.Endings.{AreCallers, EndsShut, IsShutOnce};
+ghost use Rattle.script_run.specs.Answered.{AnswersSource, ShutsAlone};
+ghost use Rattle.script_run.specs.Beside.{ScriptRan};
 ghost use Rattle.script_run.specs.Laws.{CrewLaws};
-ghost use Rattle.script_run.specs.Runs.{Gains, OthersFollow, InTurn, AreNew, IsUnshutOrEnds, WasShut};
-ghost use Rattle.script_run.specs.Text.{is_malformed};
+ghost use Rattle.script_run.specs.Runs.{OthersFollow, AreNew, IsUnshutOrEnds, WasShut};
 
 use crate::errors::RunError;
 use crate::lines::{laws, run_lines};
@@ -34,7 +25,7 @@ use script_session::Session;
 use settled_scripts::settled_scripts_print_plain;
 use shared_board::{BoardPass, SharedBoard};
 use shared_registry::{RegPass, SharedRegistry};
-use std::alloc::Global;
+use std::alloc::{AllocError, Global};
 use std::sync::Wait;
 use std::thread::Threads;
 use transforms::{Ask, Finished, Job};
@@ -155,12 +146,6 @@ fn crew_script<S: Source, K: Sink, G: Gate + Sync, R: Threads + Wait + Sync>(
         requires lock { ArePassesOn board.now registry.now passes }
         requires few { workers ≤ 16 }
         requires new { AreNew passes }
-        ensures lock { ArePassesOn board.entry.now registry.entry.now result.0 }
-        ensures answers { AnswersSource workers (S.left src.entry.now) (S.left src.exit.now) passes result.0 result.1 (K.held out.entry.now) (K.held out.exit.now) }
-        ensures read_fault { IsErrOf result.1 RunError.ReadFault → Rose (S.faults src.entry.now) (S.faults src.exit.now) }
-        ensures write_fault { IsErrOf result.1 RunError.WriteFault → Rose (K.faults out.entry.now) (K.faults out.exit.now) }
-        ensures later { K.faults out.entry.now ≤ K.faults out.exit.now }
-        ensures usage { IsErrOf result.1 RunError.Usage → ⊥ }
     { answer_script(rt, alloc, workers, board, registry, gate, passes, src, out) };
     run_crew(rt, alloc, workers, board, registry, passes, gate, &mut main)
 }
@@ -180,19 +165,7 @@ fn run_beside<S: Source, K: Sink, G: Gate + Sync, R: Threads + Wait + Sync>(
     requires few { workers ≤ 16 }
     requires lock { ArePassesOn board registry passes }
     requires first { (knows passes.board ≡ newcomer) × (knows passes.registry ≡ newcomer) }
-    ensures ended { OnOk result.answer (IfSome (S.left src.old) (λ _. S.left src.new ≡ Some [])) }
-    ensures whole { OnOk result.answer (IfSome (S.left src.old) (λ script. Gains (K.held out.old) (K.held out.new) (IsText workers (start 0) 0 (script_of script) result.registry result.board))) }
-    ensures in_turn { OnOk result.answer (IfSome (S.left src.old) (λ script. InTurn (script_of script) result.registry)) }
-    ensures settled { OnOk result.answer (IfSome (S.left src.old) (λ script. IsSettled (script_of script) → Gains (K.held out.old) (K.held out.new) (λ text. text ≡ plain_text (script_of script)))) }
-    ensures shut { OnOk result.answer (EndsShut result.board) }
-    ensures front { IfSome (S.left src.old) (λ script. Gains (K.held out.old) (K.held out.new) (IsFrontText workers (start 0) 0 (script_of script) result.registry result.board)) }
-    ensures first { RanSource workers (S.left src.old) (S.left src.new) result.registry result.board result.answer (K.held out.old) (K.held out.new) }
-    ensures closed { IsShutOnce workers result.board }
-    ensures callers { AreCallers workers result.registry result.board }
-    ensures legal { LegalReg result.registry }
-    ensures legal_board { LegalBoard result.board }
-    ensures faithful { Made table result.registry }
-    ensures malformed { IfOk result.answer (λ bad. IfSome (S.left src.old) (λ script. bad ≡ list_any is_malformed (script_of script))) }
+    ensures ran { ScriptRan workers (S.left src.old) (S.left src.new) result.registry result.board result.answer (K.held out.old) (K.held out.new) }
     ensures read_fault { IsErrOf result.answer RunError.ReadFault → Rose (S.faults src.old) (S.faults src.new) }
     ensures write_fault { IsErrOf result.answer RunError.WriteFault → Rose (K.faults out.old) (K.faults out.new) }
     ensures later { K.faults out.old ≤ K.faults out.new }
@@ -214,8 +187,22 @@ fn run_beside<S: Source, K: Sink, G: Gate + Sync, R: Threads + Wait + Sync>(
     }
 }
 
+/// Both locks, with their first passes.
+pub fn first_locks(
+    alloc: Global,
+) -> Result<(SharedBoard<Job>, SharedRegistry, Passes<Ask>), AllocError>
+    ensures { IfOk result (λ r. ArePassesOn r.0 r.1 r.2 × (knows r.2.board ≡ newcomer) × (knows r.2.registry ≡ newcomer)) }
+{
+    let (registry, on_registry) = SharedRegistry::new(alloc)?;
+    let (board, on_board) = SharedBoard::new(alloc)?;
+    let passes = Passes {
+        board: on_board,
+        registry: on_registry,
+    };
+    Ok((board, registry, passes))
+}
+
 /// Runs the script out of the source beside so many workers, on a board and a registry of its own.
-#[tactic(auto, using(crate::proofs::Going::nothing_fronted, crate::proofs::Finishing::nothing_ran))]
 pub fn run_script<S: Source, K: Sink, G: Gate + Sync, R: Threads + Wait + Sync>(
     rt: &R,
     alloc: Global,
@@ -225,33 +212,14 @@ pub fn run_script<S: Source, K: Sink, G: Gate + Sync, R: Threads + Wait + Sync>(
     out: &mut K,
 ) -> Ran
     requires few { workers ≤ 16 }
-    ensures ended { OnOk result.answer (IfSome (S.left src.old) (λ _. S.left src.new ≡ Some [])) }
-    ensures whole { OnOk result.answer (IfSome (S.left src.old) (λ script. Gains (K.held out.old) (K.held out.new) (IsText workers (start 0) 0 (script_of script) result.registry result.board))) }
-    ensures in_turn { OnOk result.answer (IfSome (S.left src.old) (λ script. InTurn (script_of script) result.registry)) }
-    ensures settled { OnOk result.answer (IfSome (S.left src.old) (λ script. IsSettled (script_of script) → Gains (K.held out.old) (K.held out.new) (λ text. text ≡ plain_text (script_of script)))) }
-    ensures shut { OnOk result.answer (EndsShut result.board) }
-    ensures front { IfSome (S.left src.old) (λ script. Gains (K.held out.old) (K.held out.new) (IsFrontText workers (start 0) 0 (script_of script) result.registry result.board)) }
-    ensures first { RanSource workers (S.left src.old) (S.left src.new) result.registry result.board result.answer (K.held out.old) (K.held out.new) }
-    ensures closed { (result.board ≡ []) ⊎ IsShutOnce workers result.board }
-    ensures callers { AreCallers workers result.registry result.board }
-    ensures legal { LegalReg result.registry }
-    ensures legal_board { LegalBoard result.board }
-    ensures faithful { Made table result.registry }
-    ensures malformed { IfOk result.answer (λ bad. IfSome (S.left src.old) (λ script. bad ≡ list_any is_malformed (script_of script))) }
+    ensures ran { ScriptRan workers (S.left src.old) (S.left src.new) result.registry result.board result.answer (K.held out.old) (K.held out.new) }
     ensures read_fault { IsErrOf result.answer RunError.ReadFault → Rose (S.faults src.old) (S.faults src.new) }
     ensures write_fault { IsErrOf result.answer RunError.WriteFault → Rose (K.faults out.old) (K.faults out.new) }
     ensures later { K.faults out.old ≤ K.faults out.new }
     ensures usage { IsErrOf result.answer RunError.Usage → ⊥ }
 {
-    let Ok((registry, on_registry)) = SharedRegistry::new(alloc) else {
+    let Ok((board, registry, passes)) = first_locks(alloc) else {
         return Ran::not_at_all(alloc, RunError::NoMemory);
-    };
-    let Ok((board, on_board)) = SharedBoard::new(alloc) else {
-        return Ran::not_at_all(alloc, RunError::NoMemory);
-    };
-    let passes = Passes {
-        board: on_board,
-        registry: on_registry,
     };
     run_beside(rt, alloc, workers, board, registry, gate, passes, src, out)
 }

@@ -1,6 +1,6 @@
 //! A script's lines, answered by its session and written one by one. The sink is flushed before more is read.
 
-ghost use Rattle.std.specs.Prelude.{OnOk, ◌≡◌, ◌+◌, ◌^◌, ◌≤◌, [], length, MatchResult, IfOk, IsErrOf, false};
+ghost use Rattle.std.specs.Prelude.{OnOk, ◌≡◌, ◌+◌, ◌^◌, ◌≤◌, [], Some, length, MatchResult, IfOk, IsErrOf, false};
 ghost use Rattle.board.specs.Legal.{is_shut};
 ghost use Rattle.kc_base.specs.Streams.{Rose, AppendsFront};
 ghost use Rattle.std.specs.Io.KnownBytes.{Appends};
@@ -173,6 +173,43 @@ fn run_end<K: Sink, G: Gate, R: Wait>(
     write_and_flush(out, reply.as_slice())
 }
 
+// Answers each line that the reader finds, and then the end of input.
+fn run_read<S: Source, K: Sink, G: Gate, R: Threads + Wait + Sync>(
+    rt: &R,
+    alloc: Global,
+    board: &SharedBoard<Job>,
+    registry: &SharedRegistry,
+    gate: &G,
+    session: &mut Session,
+    reader: &mut LineReader,
+    reply: &mut Reply,
+    src: &mut S,
+    out: &mut K,
+) -> Result<bool, RunError>
+    requires ready { IsReady registry.now board.now session.old }
+    requires fresh { IsFresh session.old }
+    requires unread { reader.old ≡ record { kept = record { begun = Some []; unseen = [] }; room = 268435456; ended = false } }
+    ensures run { RunsSource (S.left src.old) (S.left src.new) session.old session.new result (K.held out.old) (K.held out.new) }
+    ensures read_fault { IsErrOf result RunError.ReadFault → Rose (S.faults src.old) (S.faults src.new) }
+    ensures write_fault { IsErrOf result RunError.WriteFault → Rose (K.faults out.old) (K.faults out.new) }
+    ensures later { K.faults out.old ≤ K.faults out.new }
+    ensures usage { IsErrOf result RunError.Usage → ⊥ }
+{
+    laws();
+    whole_lines_stay();
+    let mut number = 1u32;
+    let mut malformed = false;
+    while let Some(line) = reader.next(src)? {
+        let bad = run_line(
+            rt, board, registry, gate, session, reader, number, line, reply, out,
+        )?;
+        malformed |= bad;
+        number += 1;
+    }
+    run_end(rt, alloc, board, registry, gate, session, out)?;
+    Ok(malformed)
+}
+
 /// Answers each line out of the source and its end, each in one piece, and says whether a line is malformed. It reads on only
 /// where each whole line of what was read is answered, and the sink flushed. A failed read, more bytes than `MAX_INPUT`, a failed
 /// write and want of memory stop it.
@@ -194,19 +231,18 @@ pub fn run_lines<S: Source, K: Sink, G: Gate, R: Threads + Wait + Sync>(
     ensures later { K.faults out.old ≤ K.faults out.new }
     ensures usage { IsErrOf result RunError.Usage → ⊥ }
 {
-    laws();
-    whole_lines_stay();
     let mut reader = LineReader::new(alloc, MAX_INPUT)?;
     let mut reply = Reply::new(alloc);
-    let mut number = 1u32;
-    let mut malformed = false;
-    while let Some(line) = reader.next(src)? {
-        let bad = run_line(
-            rt, board, registry, gate, session, &reader, number, line, &mut reply, out,
-        )?;
-        malformed |= bad;
-        number += 1;
-    }
-    run_end(rt, alloc, board, registry, gate, session, out)?;
-    Ok(malformed)
+    run_read(
+        rt,
+        alloc,
+        board,
+        registry,
+        gate,
+        session,
+        &mut reader,
+        &mut reply,
+        src,
+        out,
+    )
 }

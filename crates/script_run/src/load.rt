@@ -14,10 +14,11 @@ ghost use Rattle.templates.specs.Table.{table};
 ghost use Rattle.turn_lock.specs.Passes.{knows};
 ghost use Rattle.turn_lock.specs.Turns.{newcomer};
 ghost use Rattle.script_run.specs.Endings.{AreCallers, EndsShut, IsShutOnce};
+ghost use Rattle.script_run.specs.Beside.{LoadRan};
 ghost use Rattle.script_run.specs.Loads.{Loads};
 ghost use Rattle.script_run.specs.Runs.{AreNew};
 
-use crate::beside::{Ran, crew_laws, shut_board};
+use crate::beside::{Ran, crew_laws, first_locks, shut_board};
 use crate::errors::RunError;
 use crate::loading::hold_load;
 use alg_registry::RegLog;
@@ -93,8 +94,6 @@ fn crew_load<G: Gate + Sync, R: Threads + Wait + Sync>(
         requires lock { ArePassesOn board.now registry.now passes }
         requires few { options.now.workers ≤ 16 }
         requires new { AreNew passes }
-        ensures lock { ArePassesOn board.entry.now registry.entry.now result.0 }
-        ensures loads { Loads options.entry.now.workers options.entry.now.seed options.entry.now.count passes result.0 result.1 }
     { answer_load(rt, alloc, options, board, registry, gate, passes) };
     run_crew(
         rt,
@@ -130,14 +129,7 @@ fn load_beside<G: Gate + Sync, R: Threads + Wait + Sync>(
     requires count { options.now.count ≤ 100000 }
     requires lock { ArePassesOn board registry passes }
     requires first { (knows passes.board ≡ newcomer) × (knows passes.registry ≡ newcomer) }
-    ensures digest { IfOk result.digest (λ digest. digest ≡ digest_of (load_requests options.now.seed options.now.count)) }
-    ensures loaded { OnOk result.digest (AreLoaded options.now.seed options.now.count result.board) }
-    ensures shut { OnOk result.digest (EndsShut result.board) }
-    ensures closed { IsShutOnce options.now.workers result.board }
-    ensures callers { AreCallers options.now.workers result.registry result.board }
-    ensures legal { LegalReg result.registry }
-    ensures legal_board { LegalBoard result.board }
-    ensures faithful { Made table result.registry }
+    ensures { LoadRan options.now.workers options.now.seed options.now.count result.registry result.board result.digest }
 {
     crew_laws();
     loads_come_to();
@@ -212,15 +204,8 @@ pub fn run_load<K: Sink, G: Gate + Sync, R: Threads + Wait + Sync>(
     ensures write_fault { IsErrOf result.answer RunError.WriteFault → Rose (K.faults out.old) (K.faults out.new) }
     ensures causes { IfErr result.answer (λ e. (e ≡ RunError.WriteFault) ⊎ (e ≡ RunError.NoMemory)) }
 {
-    let Ok((registry, on_registry)) = SharedRegistry::new(alloc) else {
+    let Ok((board, registry, passes)) = first_locks(alloc) else {
         return Ran::not_at_all(alloc, RunError::NoMemory);
-    };
-    let Ok((board, on_board)) = SharedBoard::new(alloc) else {
-        return Ran::not_at_all(alloc, RunError::NoMemory);
-    };
-    let passes = Passes {
-        board: on_board,
-        registry: on_registry,
     };
     let loaded = load_beside(rt, alloc, options, board, registry, gate, passes);
     Ran {

@@ -9,7 +9,9 @@ pub returns-clause-answers : goal.returns-clause-answers
 returns-clause-answers g c =
     let held = g.K.Sink.held in
     let left = g.S.Source.left in
-    answered-source c.laws.ensures c.args.workers (left c.args.src.now) (left c.run_lines-answer.new.src) c.args.passes c.into_passes-on_registry.result.0 c.into_passes-on_registry.result.1 c.shut_board.result
-    c.new-session.result c.run_lines-answer.new.session c.run_lines-answer.result (held c.args.out.now) (held c.run_lines-answer.new.out)
-    c.new-session.ensures c.into_passes-on_registry.ensures c.requires.new c.shut_board.ensures.more c.shut_board.ensures.shut c.shut_board.ensures.alone
-    c.run_lines-answer.ensures.run c.shut_board.ensures.own c.shut_board.ensures.once
+    let run = c.run_lines-answer.ensures.run in
+    let given = c.into_passes-on_registry in
+    let shut = c.shut_board.ensures in
+    answered-source c.args.workers c.args.passes (record { board = c.shut_board.result; registry = given.result.0 }) given.result.1 c.new-session.result c.run_lines-answer.new.session
+    (record { was = c.new-session.ensures; now = given.ensures; goes = run.lines.goes_on; new = c.requires.new; more = shut.more; shut = shut.shut; own = shut.own; closed = shut.once })
+    c.laws.ensures shut.alone (left c.args.src.now) (left c.run_lines-answer.new.src) (held c.args.out.now) (held c.run_lines-answer.new.out) c.run_lines-answer.result run

@@ -1,77 +1,8 @@
-use Rattle.std.proofs.Common.{Ok, ap, subst, arith}
 use Rattle.std.proofs.lemmas.Result.{err_from_is_err_and}
-use Rattle.script_text.specs.NextLine.{FindsNext}
-use Rattle.script_run.proofs.Exits.{running-begins, running-more, runs-nothing, runs-unread, runs-broken, runs-end_broken, runs-whole}
+use Rattle.script_run.proofs.Exits.{runs-nothing}
 use Rattle.script_run.proofs.lines.run_lines.Goals as goal
 
 pub returns-in_err-reader-clause-run : goal.returns-in_err-reader-clause-run
 returns-in_err-reader-clause-run g c =
-    let held = g.K.Sink.held in
-    let left = g.S.Source.left in
     let p = err_from_is_err_and c.from_residual.result c.from_residual.ensures.1 in
-    rw (p.1, p.2) (runs-nothing c.laws.ensures c.whole_lines_stay.ensures.stay c.whole_lines_stay.ensures.none c.args.session.now c.args.registry.now c.args.board.now (left c.args.src.now) (held c.args.out.now) c.requires.ready c.requires.fresh)
-
-pub loop-reply-init : goal.loop-reply-init
-loop-reply-init g c =
-    let held = g.K.Sink.held in
-    let left = g.S.Source.left in
-    record {
-      at = running-begins c.laws.ensures c.whole_lines_stay.ensures.stay c.whole_lines_stay.ensures.none c.args.session.now c.args.registry.now c.args.board.now c.in_ok-reader.reader (left c.args.src.now) (held c.args.out.now) c.in_ok-reader.ensures c.requires.ready c.requires.fresh;
-      read_later = omega arith;
-      written_later = omega arith;
-    }
-
-pub returns-in_err-line-clause-run : goal.returns-in_err-line-clause-run
-returns-in_err-line-clause-run g c =
-    let held = g.K.Sink.held in
-    let left = g.S.Source.left in
-    let at = c.loop-reply.invariant.at in
-    let p = err_from_is_err_and c.from_residual-in_err-line.result c.from_residual-in_err-line.ensures.1 in
-    rw (p.1, p.2)
-    (runs-unread c.laws.ensures c.whole_lines_stay.ensures.stay c.whole_lines_stay.ensures.none c.args.session.now c.args.registry.now c.args.board.now
-    c.loop-reply.number c.loop-reply.reader c.next.new.self (left c.args.src.now) (left c.loop-reply.src) (left c.next.new.src) (held c.args.out.now) (held c.loop-reply.out) c.loop-reply.malformed c.loop-reply.session at c.in_err-line.field-0.0 (c.in_err-line.ensures.line at.pending at.reading.stands))
-
-pub returns-in_err-bad-clause-run : goal.returns-in_err-bad-clause-run
-returns-in_err-bad-clause-run g c =
-    let held = g.K.Sink.held in
-    let left = g.S.Source.left in
-    let at = c.loop-reply.invariant.at in
-    let found = subst (FindsNext at.pending c.loop-reply.reader c.next.new.self (left c.loop-reply.src) (left c.next.new.src)) (ap (λ o. Ok o) c.in-Some.is) (c.in_ok-line.ensures.line at.pending at.reading.stands) in
-    let p = err_from_is_err_and c.from_residual-in_err-bad.result c.from_residual-in_err-bad.ensures.1 in
-    rw (p.1, p.2)
-    (runs-broken c.laws.ensures c.whole_lines_stay.ensures.stay c.whole_lines_stay.ensures.none c.args.session.now c.args.registry.now c.args.board.now
-    c.loop-reply.number c.loop-reply.reader c.next.new.self (left c.args.src.now) (left c.loop-reply.src) (left c.next.new.src) (held c.args.out.now) (held c.loop-reply.out) c.loop-reply.malformed c.loop-reply.session at c.in-Some.line found (held c.run_line.new.out) c.run_line.new.session c.in_err-bad.field-0.0 c.in_err-bad.ensures.done c.run_line.ensures.unshut)
-
-pub loop-reply-preserved : goal.loop-reply-preserved
-loop-reply-preserved g c =
-    let held = g.K.Sink.held in
-    let left = g.S.Source.left in
-    let at = c.loop-reply.invariant.at in
-    let found = subst (FindsNext at.pending c.loop-reply.reader c.next.new.self (left c.loop-reply.src) (left c.next.new.src)) (ap (λ o. Ok o) c.in-Some.is) (c.in_ok-line.ensures.line at.pending at.reading.stands) in
-    record {
-      at =
-          running-more c.laws.ensures c.whole_lines_stay.ensures.stay c.whole_lines_stay.ensures.none c.args.session.now c.args.registry.now c.args.board.now
-          c.loop-reply.number c.loop-reply.reader c.next.new.self (left c.args.src.now) (left c.loop-reply.src) (left c.next.new.src) (held c.args.out.now) (held c.loop-reply.out) c.loop-reply.malformed c.loop-reply.session at c.in-Some.line found (held c.run_line.new.out) c.run_line.new.session c.in_ok-bad.bad c.in_ok-bad.ensures.malformed c.in_ok-bad.ensures.done c.in_ok-bad.ensures.ready;
-      read_later = omega arith;
-      written_later = omega arith;
-    }
-
-pub returns-in_err-run_end-clause-run : goal.returns-in_err-run_end-clause-run
-returns-in_err-run_end-clause-run g c =
-    let held = g.K.Sink.held in
-    let left = g.S.Source.left in
-    let at = c.loop-reply.invariant.at in
-    let found = subst (FindsNext at.pending c.loop-reply.reader c.next.new.self (left c.loop-reply.src) (left c.next.new.src)) (ap (λ o. Ok o) c.in_default.is) (c.in_ok-line.ensures.line at.pending at.reading.stands) in
-    let p = err_from_is_err_and c.from_residual-in_err-run_end.result c.from_residual-in_err-run_end.ensures.1 in
-    rw (p.1, p.2)
-    (runs-end_broken c.laws.ensures c.whole_lines_stay.ensures.stay c.whole_lines_stay.ensures.none c.args.session.now c.args.registry.now c.args.board.now
-    c.loop-reply.number c.loop-reply.reader c.next.new.self (left c.args.src.now) (left c.loop-reply.src) (left c.next.new.src) (held c.args.out.now) (held c.loop-reply.out) c.loop-reply.malformed c.loop-reply.session at found (held c.run_end.new.out) c.run_end.new.session c.in_err-run_end.field-0.0 c.in_err-run_end.ensures.done c.run_end.ensures.unshut)
-
-pub returns-clause-run : goal.returns-clause-run
-returns-clause-run g c =
-    let held = g.K.Sink.held in
-    let left = g.S.Source.left in
-    let at = c.loop-reply.invariant.at in
-    let found = subst (FindsNext at.pending c.loop-reply.reader c.next.new.self (left c.loop-reply.src) (left c.next.new.src)) (ap (λ o. Ok o) c.in_default.is) (c.in_ok-line.ensures.line at.pending at.reading.stands) in
-    runs-whole c.laws.ensures c.whole_lines_stay.ensures.stay c.whole_lines_stay.ensures.none c.args.session.now c.args.registry.now c.args.board.now
-    c.loop-reply.number c.loop-reply.reader c.next.new.self (left c.args.src.now) (left c.loop-reply.src) (left c.next.new.src) (held c.args.out.now) (held c.loop-reply.out) c.loop-reply.malformed c.loop-reply.session at found (held c.run_end.new.out) c.run_end.new.session c.in_ok-run_end.ensures.done c.in_ok-run_end.ensures.shut
+    rw (p.1, p.2) (runs-nothing c.args.registry.now c.args.board.now c.args.session.now (g.S.Source.left c.args.src.now) (g.K.Sink.held c.args.out.now) c.requires.ready c.requires.fresh)

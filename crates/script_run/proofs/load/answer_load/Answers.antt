@@ -10,6 +10,8 @@ pub returns-clause-loads : goal.returns-clause-loads
 returns-clause-loads g c =
     let held = c.hold_load-digest.ensures in
     let options = c.args.options.now in
-    loads options.workers options.seed options.count c.args.passes c.into_passes-on_registry.result.0 c.into_passes-on_registry.result.1 c.shut_board.result c.new-session.result c.hold_load-digest.new.session
-    c.new-session.ensures c.into_passes-on_registry.ensures held.goes_on c.requires.new c.shut_board.ensures.more c.shut_board.ensures.shut
-    c.hold_load-digest.result held.loaded held.own held.shut held.unshut c.shut_board.ensures.own c.shut_board.ensures.once
+    let given = c.into_passes-on_registry in
+    let shut = c.shut_board.ensures in
+    loads options.workers options.seed options.count c.args.passes (record { board = c.shut_board.result; registry = given.result.0 }) given.result.1 c.new-session.result c.hold_load-digest.new.session
+    (record { was = c.new-session.ensures; now = given.ensures; goes = held.goes_on; new = c.requires.new; more = shut.more; shut = shut.shut; own = shut.own; closed = shut.once })
+    c.hold_load-digest.result held.loaded held.own held.shut held.unshut

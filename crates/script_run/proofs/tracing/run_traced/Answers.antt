@@ -4,7 +4,7 @@ use Rattle.dialogues.specs.Walk.{start}
 use Rattle.script_text.specs.Script.{script_of}
 use Rattle.settled_scripts.specs.Settled.{IsSettled, plain_text}
 use Rattle.script_run.specs.Endings.{traced}
-use Rattle.script_run.proofs.Traced.{then-gains, then-gains_if, then-front, then-ran}
+use Rattle.script_run.proofs.Traced.{then-ok, then-if, then-gains, then-gains_if, then-front, then-ran}
 use Rattle.script_run.proofs.tracing.run_traced.Goals as goal
 
 pub returns-clause-whole : goal.returns-clause-whole
@@ -14,7 +14,7 @@ returns-clause-whole g c =
     let workers = c.args.options.now.workers in
     then-gains ran.answer c.answer_traced-answer.result (held c.args.out.now) (held c.run_script-answer.new.out) (held c.answer_traced-answer.new.out)
     (traced c.args.options.now.trace ran.registry ran.board) c.answer_traced-answer.ensures.whole (g.S.Source.left c.args.src.now)
-    (λ script text. IsText workers (start 0) 0 (script_of script) ran.registry ran.board text) c.run_script-answer.ensures.whole
+    (λ script text. IsText workers (start 0) 0 (script_of script) ran.registry ran.board text) c.run_script-answer.ensures.ran.whole
 
 pub returns-clause-settled : goal.returns-clause-settled
 returns-clause-settled g c =
@@ -22,7 +22,7 @@ returns-clause-settled g c =
     let ran = c.run_script-answer.result in
     then-gains_if ran.answer c.answer_traced-answer.result (held c.args.out.now) (held c.run_script-answer.new.out) (held c.answer_traced-answer.new.out)
     (traced c.args.options.now.trace ran.registry ran.board) c.answer_traced-answer.ensures.whole (g.S.Source.left c.args.src.now)
-    (λ script. IsSettled (script_of script)) (λ script text. text ≡ plain_text (script_of script)) c.run_script-answer.ensures.settled
+    (λ script. IsSettled (script_of script)) (λ script text. text ≡ plain_text (script_of script)) c.run_script-answer.ensures.ran.settled
 
 pub returns-clause-front : goal.returns-clause-front
 returns-clause-front g c =
@@ -33,7 +33,7 @@ returns-clause-front g c =
     (traced c.args.options.now.trace ran.registry ran.board) c.answer_traced-answer.ensures.whole c.answer_traced-answer.ensures.front (g.S.Source.left c.args.src.now)
     (λ script text. IsFrontText workers (start 0) 0 (script_of script) ran.registry ran.board text)
     (λ script text. IsText workers (start 0) 0 (script_of script) ran.registry ran.board text)
-    c.run_script-answer.ensures.front c.run_script-answer.ensures.whole
+    c.run_script-answer.ensures.ran.front c.run_script-answer.ensures.ran.whole
 
 pub returns-clause-first : goal.returns-clause-first
 returns-clause-first g c =
@@ -42,4 +42,47 @@ returns-clause-first g c =
     let ran = c.run_script-answer.result in
     then-ran ran.answer c.answer_traced-answer.result (held c.args.out.now) (held c.run_script-answer.new.out) (held c.answer_traced-answer.new.out)
     (traced c.args.options.now.trace ran.registry ran.board) c.answer_traced-answer.ensures.whole c.answer_traced-answer.ensures.front c.answer_traced-answer.ensures.causes
-    c.args.options.now.workers (left c.args.src.now) (left c.run_script-answer.new.src) ran.registry ran.board c.run_script-answer.ensures.first
+    c.args.options.now.workers (left c.args.src.now) (left c.run_script-answer.new.src) ran.registry ran.board c.run_script-answer.ensures.ran.first
+
+pub returns-clause-ended : goal.returns-clause-ended
+returns-clause-ended g c =
+    let held = g.K.Sink.held in
+    let ran = c.run_script-answer in
+    let traced_ = c.answer_traced-answer in
+    then-ok ran.result.answer traced_.result (held c.args.out.now) (held ran.new.out) (held traced_.new.out) (traced c.args.options.now.trace ran.result.registry ran.result.board) traced_.ensures.whole _ ran.ensures.ran.ended
+
+pub returns-clause-in_turn : goal.returns-clause-in_turn
+returns-clause-in_turn g c =
+    let held = g.K.Sink.held in
+    let ran = c.run_script-answer in
+    let traced_ = c.answer_traced-answer in
+    then-ok ran.result.answer traced_.result (held c.args.out.now) (held ran.new.out) (held traced_.new.out) (traced c.args.options.now.trace ran.result.registry ran.result.board) traced_.ensures.whole _ ran.ensures.ran.in_turn
+
+pub returns-clause-shut : goal.returns-clause-shut
+returns-clause-shut g c =
+    let held = g.K.Sink.held in
+    let ran = c.run_script-answer in
+    let traced_ = c.answer_traced-answer in
+    then-ok ran.result.answer traced_.result (held c.args.out.now) (held ran.new.out) (held traced_.new.out) (traced c.args.options.now.trace ran.result.registry ran.result.board) traced_.ensures.whole _ ran.ensures.ran.shut
+
+pub returns-clause-malformed : goal.returns-clause-malformed
+returns-clause-malformed g c =
+    let held = g.K.Sink.held in
+    let ran = c.run_script-answer in
+    let traced_ = c.answer_traced-answer in
+    then-if ran.result.answer traced_.result (held c.args.out.now) (held ran.new.out) (held traced_.new.out) (traced c.args.options.now.trace ran.result.registry ran.result.board) traced_.ensures.whole _ ran.ensures.ran.malformed
+
+pub returns-clause-closed : goal.returns-clause-closed
+returns-clause-closed g c = c.run_script-answer.ensures.ran.histories.closed
+
+pub returns-clause-callers : goal.returns-clause-callers
+returns-clause-callers g c = c.run_script-answer.ensures.ran.histories.callers
+
+pub returns-clause-legal : goal.returns-clause-legal
+returns-clause-legal g c = c.run_script-answer.ensures.ran.histories.legal
+
+pub returns-clause-legal_board : goal.returns-clause-legal_board
+returns-clause-legal_board g c = c.run_script-answer.ensures.ran.histories.legal_board
+
+pub returns-clause-faithful : goal.returns-clause-faithful
+returns-clause-faithful g c = c.run_script-answer.ensures.ran.histories.faithful

@@ -1,9 +1,9 @@
 use Rattle.std.proofs.Common.{◌≤◌, ◌-◌, ◌^◌}
 use Rattle.script_run.proofs.Exits.{Running}
-use Rattle.script_run.proofs.lines.run_lines.Given as goal
+use Rattle.script_run.proofs.lines.run_read.Given as goal
 
-abbrev pub invariant-loop-reply : goal.invariant-loop-reply
-invariant-loop-reply g l =
+abbrev pub invariant-loop-line : goal.invariant-loop-line
+invariant-loop-line g l =
     let held = g.K.Sink.held in
     let left = g.S.Source.left in
     record {
@@ -12,5 +12,5 @@ invariant-loop-reply g l =
       written_later : g.K.Sink.faults l.fn.out ≤ g.K.Sink.faults l.out;
     }
 
-abbrev pub decreases-loop-reply : goal.decreases-loop-reply
-decreases-loop-reply g l = 2 ^ 32 - l.number
+abbrev pub decreases-loop-line : goal.decreases-loop-line
+decreases-loop-line g l = 2 ^ 32 - l.number
