@@ -1,8 +1,8 @@
 //! What stands between the taking of a job and its run.
 
-/// Where a worker, or the script in its drain, passes with each job that it took.
+/// Where a worker passes with each job that it took.
 pub trait Gate {
-    /// The caller is inside a job.
+    /// The worker is inside a job.
     fn inside(&self);
 }
 

@@ -4,8 +4,8 @@ use Rattle.std.specs.Prelude.{IfSome}
 use Rattle.std.proofs.KnownBytes.{Appends-nil}
 use Rattle.alg_registry.specs.declared.entry.RegEntry.{RegEntry}
 use Rattle.board.specs.declared.entry.BoardEntry.{BoardEntry}
-use Rattle.dialogues.specs.Leading.{NothingIsFront}
-use Rattle.dialogues.specs.Texts.{IsText, IsFrontText}
+use Rattle.dialogues.specs.Texts.{IsText}
+use Rattle.script_run.specs.Fronts.{IsFrontText, NothingIsFront}
 use Rattle.dialogues.specs.Walk.{start}
 use Rattle.script_text.specs.Script.{script_of}
 use Rattle.script_run.specs.Runs.{GainsFront}

@@ -12,7 +12,8 @@ ghost use Rattle.settled_scripts.specs.Settled.{IsSettled, plain_text};
 ghost use Rattle.alg_registry.specs.Legal.{LegalReg};
 ghost use Rattle.alg_registry.specs.Made.{Made};
 ghost use Rattle.board.specs.Legal.{LegalBoard};
-ghost use Rattle.dialogues.specs.Texts.{IsText, IsFrontText};
+ghost use Rattle.dialogues.specs.Texts.{IsText};
+ghost use Rattle.script_run.specs.Fronts.{IsFrontText};
 ghost use Rattle.dialogues.specs.Walk.{start};
 ghost use Rattle.templates.specs.Table.{table};
 ghost use Rattle.script_run.specs.Answered.{Gives, AreAnswered, BeginsWithText};
@@ -28,10 +29,9 @@ use alg_registry::RegLog;
 use board::BoardLog;
 use command_line::{CommandLineError, parse_words};
 use crew::Gate;
-use dialogues::lines_lead;
 use kc_base::{Sink, Source};
 use run_options::Mode;
-use script_run::{Ran, RunError, run_load, run_traced, status_by};
+use script_run::{Ran, RunError, nothing_is_front, run_load, run_traced, status_by};
 use std::alloc::Global;
 use std::sync::Wait;
 use std::thread::Threads;
@@ -170,7 +170,7 @@ pub fn run<S: Source, K: Sink, G: Gate + Sync, R: Threads + Wait + Sync>(
     ensures complete { IsSome (script_asked (map string_bytes words.now)) → ¬ (Rose (S.faults src.old) (S.faults src.new)) → ¬ (Rose (K.faults out.old) (K.faults out.new))
         → IfSome (S.left src.old) (λ script. length script ≤ 2 ^ 28 → (result.status ≤ 1) ⊎ (result.status ≡ 5)) }
 {
-    lines_lead();
+    nothing_is_front();
     let mode = match mode_for(alloc, words) {
         Ok(mode) => mode,
         Err(error) => return outcome_of(Ran::not_at_all(alloc, error)),

@@ -1,5 +1,5 @@
 -- A script, line by line.
-use Rattle.std.proofs.Common.{◌≡◌, ℕ, ◌+◌, List, [], ◌∷◌, ◌++◌, Some, refl, sym, ap, subst, ◌∙◌, append_assoc, append-nil, IsSome}
+use Rattle.std.proofs.Common.{◌≡◌, ℕ, ◌+◌, List, [], ◌∷◌, ◌++◌, Some, refl, sym, ap, subst, ◌∙◌, append_assoc, IsSome}
 use Rattle.std.proofs.lemmas.Grind.{flat_map-append}
 use Rattle.alg_registry.specs.declared.entry.RegEntry.{RegEntry}
 use Rattle.board.specs.declared.entry.BoardEntry.{BoardEntry}
@@ -9,7 +9,7 @@ use Rattle.script_text.specs.declared.commands.Line.{Line}
 use Rattle.transforms.specs.declared.ask.Ask.{Ask}
 use Rattle.dialogues.specs.RegistryCalls.{RegCall, reg_calls}
 use Rattle.dialogues.specs.BoardCalls.{BoardCall, board_calls}
-use Rattle.dialogues.specs.Dialogues.{Dialogue, Ends, Says, Asks, Posts, followed}
+use Rattle.dialogues.specs.Dialogues.{Dialogue, followed}
 use Rattle.dialogues.specs.Piping.{end}
 use Rattle.dialogues.specs.Leading.{Leads}
 use Rattle.dialogues.specs.Lines.{line_dialogue, lines_dialogue, script}
@@ -57,39 +57,13 @@ leads-on workers walk now after n m lines left line t u leads is to = λ rest r 
 
 -- ---- texts
 
--- where none of its calls is recorded, a dialogue makes none
-uncalled : (d : Dialogue) → ((turn_of d [] []).registry ≡ []) × ((turn_of d [] []).board ≡ [])
-uncalled (Ends after) = (refl, refl)
-uncalled (Says answers next) = uncalled next
-uncalled (Asks question next) = (refl, refl)
-uncalled (Posts question next) = (refl, refl)
-
 -- what is done so far is a front of the text
 pub front-text : (workers : ℕ) (walk now : Walk) (caller m : ℕ) (lines left : List Line) (t : Turn) (r : List RegEntry) (b : List (BoardEntry Ask)) (more_r : List RegCall) (more_b : List BoardCall) (text : List ℕ)
     → Leads workers walk 1 lines t now m left → reg_calls caller r ≡ t.registry ++ more_r → board_calls caller b ≡ t.board ++ more_b → IsPrefix text (text_in t) → IsFrontText workers walk caller lines r b text
 front-text workers walk now caller m lines left t r b more_r more_b text leads at_r at_b front =
-    let d = lines_dialogue workers now m left end in
-    let rest : Turn = turn_of d [] [] in
-    let whole : Turn = joined t rest in
-    let same_r : whole.registry ≡ t.registry ++ [] = ap (λ cs. t.registry ++ cs) (uncalled d).0 in
-    let same_b : whole.board ≡ t.board ++ [] = ap (λ cs. t.board ++ cs) (uncalled d).1 in
-    record {
-      turn = whole;
-      is =
-          ap (λ cs. turn_of (script workers walk lines) cs whole.board) same_r
-          ∙ (ap (turn_of (script workers walk lines) (t.registry ++ [])) same_b ∙ leads end [] []);
-      registry = (more_r, ap (λ cs. cs ++ more_r) (same_r ∙ append-nil t.registry) ∙ sym at_r);
-      board = (more_b, ap (λ cs. cs ++ more_b) (same_b ∙ append-nil t.board) ∙ sym at_b);
-      front = (
-        front.0 ++ text_in rest,
-        sym (append_assoc text front.0 (text_in rest)) ∙ (ap (λ x. x ++ text_in rest) front.1 ∙ sym (text-joined t rest)),
-      );
-    }
-
--- before the first line it is nothing
-pub nothing-front : (workers : ℕ) (walk : Walk) (caller : ℕ) (lines : List Line) (r : List RegEntry) (b : List (BoardEntry Ask)) → IsFrontText workers walk caller lines r b []
-nothing-front workers walk caller lines r b =
-    front-text workers walk walk caller 1 lines lines (ended walk) r b (reg_calls caller r) (board_calls caller b) [] (leads-nowhere workers walk 1 lines) refl refl ([], refl)
+    let rest : Turn = turn_of (lines_dialogue workers now m left end) more_r more_b in
+    let is : turn_in workers walk caller lines r b ≡ joined t rest = ap (λ cs. turn_of (script workers walk lines) cs (board_calls caller b)) at_r ∙ (ap (turn_of (script workers walk lines) (t.registry ++ more_r)) at_b ∙ leads end more_r more_b) in
+    (front.0 ++ text_in rest, sym (append_assoc text front.0 (text_in rest)) ∙ (ap (λ x. x ++ text_in rest) front.1 ∙ (sym (text-joined t rest) ∙ sym (ap text_in is))))
 
 -- with the end of input it is the text
 pub whole-text : (workers : ℕ) (walk now after : Walk) (caller m : ℕ) (lines : List Line) (t u : Turn) (r : List RegEntry) (b : List (BoardEntry Ask))

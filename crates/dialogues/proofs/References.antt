@@ -4,12 +4,11 @@ use Rattle.std.specs.Prelude.{◌&&◌, ◌==◌, if◌then◌else◌, count_by,
 use Rattle.alg_registry.specs.declared.entry.RegEntry.{RegEntry}
 use Rattle.alg_registry.specs.declared.entry.RegEntry.TheVariants as entry
 use Rattle.alg_registry.specs.Legal.{gets_as, puts_as}
-use Rattle.alg_registry.specs.Lifetimes.{HeldByCaller}
 use Rattle.alg_registry.proofs.Steps.{count_by-push}
 use Rattle.alg_registry.specs.Rows.{caller_of}
 use Rattle.std.proofs.lemmas.List.Sums.{length-filter}
 use Rattle.dialogues.specs.RegistryCalls.{RegCall, Gets, Puts, reg_calls, reg_calls_from, reg_call_of, prepend}
-use Rattle.dialogues.specs.References.{is_get, is_put, got, given, ReferencesFollow, HeldWhileGot}
+use Rattle.dialogues.specs.References.{is_get, is_put, got, given, ReferencesFollow}
 
 -- a call that is no get, whoever makes it
 no-get : (id : ℕ) (b : Bool) (call : RegCall) (rest : List RegCall) → is_get id call ≡ false → got id (prepend (if b then Some call else None) rest) ≡ got id rest
@@ -130,7 +129,3 @@ references-follow caller id h less =
     let a : count_by (gets_as caller id) (filter q h) ≡ got id (reg_calls caller h) = count-own (gets_as caller id) q (gets-own caller id) h ∙ got-all caller id h in
     let b : count_by (puts_as caller id) (filter q h) ≡ given id (reg_calls caller h) = count-own (puts_as caller id) q (puts-own caller id) h ∙ given-all caller id h in
     omega (arith, a, b, less)
-
--- by what the caller holds
-pub held-while_got : HeldByCaller → HeldWhileGot
-held-while_got held caller id h legal less = held h caller id legal (let a = got-all caller id h in let b = given-all caller id h in omega (arith, a, b, less))

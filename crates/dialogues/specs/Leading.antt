@@ -31,10 +31,6 @@ LeadsOn =
     (workers : ℕ) (walk now after : Walk) (n m : ℕ) (lines left : List Line) (line : Line) (t u : Turn) → Leads workers walk n lines t now m (line ∷ left)
     → IsTurn (line_dialogue workers now m line) u → u.after ≡ Some after → Leads workers walk n lines (joined t u) after (m + 1) left
 
--- nothing is a front of the text of any script
-abbrev pub NothingIsFront : Type 0
-NothingIsFront = (workers : ℕ) (walk : Walk) (caller : ℕ) (lines : List Line) (r : List RegEntry) (b : List (BoardEntry Ask)) → IsFrontText workers walk caller lines r b []
-
 -- what the lines so far print is a front of the text
 abbrev pub LeadsFront : Type 0
 LeadsFront =

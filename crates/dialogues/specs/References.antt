@@ -1,8 +1,8 @@
 -- The references of entries that a caller has, counted over its calls.
-use Rattle.std.specs.Prelude.{ℕ, ◌≡◌, ◌+◌, ◌<◌, ◌==◌, Bool, true, false, ◌&&◌, if◌then◌else◌, List, [], ◌∷◌, filter}
+use Rattle.std.specs.Prelude.{ℕ, ◌+◌, ◌<◌, ◌==◌, Bool, false, ◌&&◌, if◌then◌else◌, List, [], ◌∷◌, filter}
 use Rattle.alg_registry.specs.declared.entry.RegEntry.{RegEntry}
-use Rattle.alg_registry.specs.Legal.{HasReference, LegalReg}
-use Rattle.alg_registry.specs.Rows.{caller_of, is_held_at}
+use Rattle.alg_registry.specs.Legal.{HasReference}
+use Rattle.alg_registry.specs.Rows.{caller_of}
 use Rattle.dialogues.specs.RegistryCalls.{RegCall, Gets, Puts, reg_calls}
 
 abbrev pub is_get : ℕ → RegCall → Bool
@@ -27,8 +27,3 @@ abbrev pub ReferencesFollow : Type 0
 ReferencesFollow =
     (caller id : ℕ) (h : List RegEntry) → given id (reg_calls caller h) < got id (reg_calls caller h)
     → HasReference (filter (λ e. caller_of e == caller) h) caller id
-
--- Law: the entry is held then, as that of a live transform is from its Get to its Put.
-abbrev pub HeldWhileGot : Type 0
-HeldWhileGot =
-    (caller id : ℕ) (h : List RegEntry) → LegalReg h → given id (reg_calls caller h) < got id (reg_calls caller h) → is_held_at h id ≡ true

@@ -1,14 +1,14 @@
 -- The text of a script over the histories of its registry and its board.
-use Rattle.std.specs.Prelude.{ℕ, ◌≡◌, List, ◌++◌, IsSome}
+use Rattle.std.specs.Prelude.{ℕ, ◌≡◌, List, IsSome}
 use Rattle.kc_base.specs.Streams.{IsPrefix}
 use Rattle.alg_registry.specs.declared.entry.RegEntry.{RegEntry}
 use Rattle.board.specs.declared.entry.BoardEntry.{BoardEntry}
 use Rattle.script_text.specs.declared.commands.Line.{Line}
 use Rattle.transforms.specs.declared.ask.Ask.{Ask}
-use Rattle.dialogues.specs.BoardCalls.{BoardCall, board_calls}
+use Rattle.dialogues.specs.BoardCalls.{board_calls}
 use Rattle.dialogues.specs.Lines.{script}
-use Rattle.dialogues.specs.RegistryCalls.{RegCall, reg_calls}
-use Rattle.dialogues.specs.Turns.{Turn, IsTurn, turn_of, text_in}
+use Rattle.dialogues.specs.RegistryCalls.{reg_calls}
+use Rattle.dialogues.specs.Turns.{Turn, turn_of, text_in}
 use Rattle.dialogues.specs.Walk.{Walk}
 
 -- the turn that a caller's calls in the histories make of a script
@@ -22,10 +22,6 @@ pub record IsText (workers : ℕ) (walk : Walk) (caller : ℕ) (lines : List Lin
   pub ended : IsSome (turn_in workers walk caller lines r b).after
   pub text_is : text ≡ text_in (turn_in workers walk caller lines r b)
 
--- The first calls of the caller are those of a turn of the script, which may break off, and this is a front of what it prints.
-pub record IsFrontText (workers : ℕ) (walk : Walk) (caller : ℕ) (lines : List Line) (r : List RegEntry) (b : List (BoardEntry Ask)) (text : List ℕ) : Type 0 where
-  pub turn : Turn
-  pub is : IsTurn (script workers walk lines) turn
-  pub registry : (more : List RegCall) × (turn.registry ++ more ≡ reg_calls caller r)
-  pub board : (more : List BoardCall) × (turn.board ++ more ≡ board_calls caller b)
-  pub front : IsPrefix text (text_in turn)
+-- This is a front of what the lines print whose calls are all in the histories.
+abbrev pub IsFrontText : ℕ → Walk → ℕ → List Line → List RegEntry → List (BoardEntry Ask) → List ℕ → Type 0
+IsFrontText workers walk caller lines r b text = IsPrefix text (text_in (turn_in workers walk caller lines r b))

@@ -8,14 +8,12 @@ ghost use Rattle.transforms.specs.declared.ask.Ask.{Ask};
 ghost use Rattle.dialogues.specs.BoardCalls.{BoardCall};
 ghost use Rattle.dialogues.specs.Dialogues.{Dialogue, followed};
 ghost use Rattle.dialogues.specs.GoingOn.{RegisteredStays, FoundStays, RegistryCallsGoOn, RegistryCallsJoin, RegistryUnasked, BoardCallsGoOn, BoardCallsJoin, BoardUncalled, NoCall, OneCall, OneLook, NothingThenCalls, CallsThenCalls, CallsInTurnAre, InTurnByAny, InTurnByOne, InTurnByMore, LooksAtOnce, NothingThenCallsBy, CallsThenCallsBy, CallsByAre};
-ghost use Rattle.dialogues.specs.Leading.{LeadsNowhere, LeadsOn, NothingIsFront, LeadsFront, LeadsToEnd};
-ghost use Rattle.dialogues.specs.References.{ReferencesFollow, HeldWhileGot};
+ghost use Rattle.dialogues.specs.Leading.{LeadsNowhere, LeadsOn, LeadsFront, LeadsToEnd};
+ghost use Rattle.dialogues.specs.References.{ReferencesFollow};
 ghost use Rattle.dialogues.specs.RegistryCalls.{RegCall};
 ghost use Rattle.dialogues.specs.Texts.{IsText};
 ghost use Rattle.dialogues.specs.Turns.{Turn, IsTurn, joined, turn_of};
 ghost use Rattle.dialogues.specs.Walk.{Walk};
-
-use alg_registry::lifetimes;
 
 /// A script has one text over two histories.
 pub fn one_text()
@@ -71,7 +69,6 @@ pub fn calls_at_once()
 pub fn lines_lead()
     ensures nowhere { LeadsNowhere }
     ensures on { LeadsOn }
-    ensures nothing { NothingIsFront }
     ensures front { LeadsFront }
     ensures end { LeadsToEnd }
 {}
@@ -80,10 +77,3 @@ pub fn lines_lead()
 pub fn references_follow()
     ensures { ReferencesFollow }
 {}
-
-/// An entry is held while a caller got more references of it than it gave back: that of a live transform from its Get to its Put.
-pub fn held_while_got()
-    ensures { HeldWhileGot }
-{
-    lifetimes();
-}

@@ -4,6 +4,6 @@
 mod laws;
 
 pub use laws::{
-    board_calls_go_on, calls_at_once, calls_in_turn, held_while_got, lines_lead, one_text,
-    references_follow, registry_calls_go_on, turns_follow,
+    board_calls_go_on, calls_at_once, calls_in_turn, lines_lead, one_text, references_follow,
+    registry_calls_go_on, turns_follow,
 };

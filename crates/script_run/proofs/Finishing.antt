@@ -23,7 +23,8 @@ use Rattle.crew.specs.Crews.{Crewed, with_next}
 use Rattle.dialogues.specs.Allocating.{lists_beside}
 use Rattle.dialogues.specs.BoardCalls.{BoardCall, Shuts, board_calls, board_calls_from}
 use Rattle.dialogues.specs.RegistryCalls.{reg_calls}
-use Rattle.dialogues.specs.Texts.{IsText, IsFrontText}
+use Rattle.dialogues.specs.Texts.{IsText}
+use Rattle.script_run.specs.Fronts.{IsFrontText}
 use Rattle.dialogues.specs.Walk.{start}
 use Rattle.script_session.specs.Ending.{EndsShut}
 use Rattle.script_session.specs.Holding.{HasSeenMore}

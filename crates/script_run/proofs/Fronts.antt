@@ -1,19 +1,25 @@
 -- The first lines of more lines: their dialogue, and its turn.
-use Rattle.std.proofs.Common.{◌≡◌, ℕ, ◌+◌, ◌≤◌, List, [], ◌∷◌, ◌++◌, length, Option, Some, None, refl, sym, ap, subst, ◌∙◌, append_assoc, arith}
+use Rattle.std.proofs.Common.{◌≡◌, ℕ, ◌+◌, ◌≤◌, List, [], ◌∷◌, ◌++◌, length, Option, Some, None, refl, sym, ap, subst, ◌∙◌, append_assoc, append-nil, arith}
 use Rattle.std.specs.Prelude.{IsSome}
 use Rattle.std.specs.List.{flat_map}
 use Rattle.std.proofs.lemmas.Grind.{flat_map-append}
-use Rattle.dialogues.specs.BoardCalls.{BoardCall}
+use Rattle.alg_registry.specs.declared.entry.RegEntry.{RegEntry}
+use Rattle.board.specs.declared.entry.BoardEntry.{BoardEntry}
+use Rattle.dialogues.specs.BoardCalls.{BoardCall, board_calls}
 use Rattle.dialogues.specs.Dialogues.{Dialogue, Ends, Says, Asks, Posts, followed}
-use Rattle.dialogues.specs.Lines.{line_dialogue, lines_dialogue}
+use Rattle.dialogues.specs.Leading.{Leads}
+use Rattle.dialogues.specs.Lines.{line_dialogue, lines_dialogue, script}
+use Rattle.dialogues.specs.Piping.{end}
 use Rattle.dialogues.specs.Questions.{RegAnswer, reg_call, reg_answer, BoardAnswer, board_call, board_answer}
-use Rattle.dialogues.specs.RegistryCalls.{RegCall}
-use Rattle.dialogues.specs.Turns.{Turn, broken, asking, posting, turn_of, text_in}
+use Rattle.dialogues.specs.RegistryCalls.{RegCall, reg_calls}
+use Rattle.dialogues.specs.Turns.{Turn, ended, joined, broken, asking, posting, turn_of, text_in}
 use Rattle.dialogues.specs.Walk.{Walk}
 use Rattle.dialogues.specs.Widths.{width_of, widest}
 use Rattle.kc_base.specs.Streams.{IsPrefix}
 use Rattle.reply_text.specs.Answers.{text_of}
 use Rattle.script_text.specs.declared.commands.Line.{Line}
+use Rattle.transforms.specs.declared.ask.Ask.{Ask}
+use Rattle.script_run.specs.Fronts.{IsFrontText, NothingIsFront}
 
 -- ---- dialogues
 
@@ -101,6 +107,41 @@ front-lines workers n walk first later r b some =
     let d = lines_dialogue workers walk n first Ends in
     let rest = rest_from workers (n + length first) later Ends in
     subst (λ x. IsFrontTurn (turn_of d r b) (turn_of x r b)) (sym is) (front-turn d rest r b (subst (λ x. IsSome (turn_of x r b).after) is some))
+
+-- ---- a script that breaks off
+
+-- where none of its calls is recorded, a dialogue makes none
+uncalled : (d : Dialogue) → ((turn_of d [] []).registry ≡ []) × ((turn_of d [] []).board ≡ [])
+uncalled (Ends after) = (refl, refl)
+uncalled (Says answers next) = uncalled next
+uncalled (Asks question next) = (refl, refl)
+uncalled (Posts question next) = (refl, refl)
+
+-- the turn of first lines, and what is said after them without a call
+pub front-text : (workers : ℕ) (walk now : Walk) (caller m : ℕ) (lines left : List Line) (t : Turn) (r : List RegEntry) (b : List (BoardEntry Ask)) (more_r : List RegCall) (more_b : List BoardCall) (text : List ℕ)
+    → Leads workers walk 1 lines t now m left → reg_calls caller r ≡ t.registry ++ more_r → board_calls caller b ≡ t.board ++ more_b → IsPrefix text (text_in t) → IsFrontText workers walk caller lines r b text
+front-text workers walk now caller m lines left t r b more_r more_b text leads at_r at_b front =
+    let d = lines_dialogue workers now m left end in
+    let rest : Turn = turn_of d [] [] in
+    let whole : Turn = joined t rest in
+    let same_r : whole.registry ≡ t.registry ++ [] = ap (λ cs. t.registry ++ cs) (uncalled d).0 in
+    let same_b : whole.board ≡ t.board ++ [] = ap (λ cs. t.board ++ cs) (uncalled d).1 in
+    record {
+      turn = whole;
+      is =
+          ap (λ cs. turn_of (script workers walk lines) cs whole.board) same_r
+          ∙ (ap (turn_of (script workers walk lines) (t.registry ++ [])) same_b ∙ leads end [] []);
+      registry = (more_r, ap (λ cs. cs ++ more_r) (same_r ∙ append-nil t.registry) ∙ sym at_r);
+      board = (more_b, ap (λ cs. cs ++ more_b) (same_b ∙ append-nil t.board) ∙ sym at_b);
+      front = (
+        front.0 ++ text_in rest,
+        sym (append_assoc text front.0 (text_in rest)) ∙ (ap (λ x. x ++ text_in rest) front.1 ∙ sym (flat_map-append text_of t.answers rest.answers)),
+      );
+    }
+
+pub nothing-front : NothingIsFront
+nothing-front workers walk caller lines r b =
+    front-text workers walk walk caller 1 lines lines (ended walk) r b (reg_calls caller r) (board_calls caller b) [] (λ rest r b. refl) refl refl ([], refl)
 
 -- ---- how many looks at once
 

@@ -10,11 +10,12 @@ use Rattle.board.specs.declared.entry.BoardEntry.{BoardEntry}
 use Rattle.dialogues.specs.BoardCalls.{BoardCall, board_calls, board_calls_from}
 use Rattle.dialogues.specs.Dialogues.{Dialogue, Ends as Done}
 use Rattle.dialogues.specs.InTurn.{AreInTurnBy}
-use Rattle.dialogues.specs.Leading.{Leads, NothingIsFront}
+use Rattle.dialogues.specs.Leading.{Leads}
 use Rattle.dialogues.specs.Lines.{line_dialogue, lines_dialogue}
 use Rattle.dialogues.specs.Piping.{end}
 use Rattle.dialogues.specs.RegistryCalls.{RegCall, reg_calls, reg_calls_from, AllSettled}
-use Rattle.dialogues.specs.Texts.{IsText, IsFrontText}
+use Rattle.dialogues.specs.Texts.{IsText}
+use Rattle.script_run.specs.Fronts.{IsFrontText}
 use Rattle.dialogues.specs.Turns.{Turn, IsTurn, ended, joined, text_in, turn_of}
 use Rattle.dialogues.specs.Walk.{start}
 use Rattle.dialogues.specs.Widths.{width_of, widest}
@@ -39,7 +40,7 @@ use Rattle.script_run.specs.Answered.{AreAnsweredAfter, BeginsWithTextAfter, lin
 use Rattle.script_run.specs.Laws.{Laws}
 use Rattle.script_session.specs.Holding.{HasSeenMore}
 use Rattle.script_run.specs.Runs.{Gains, GoesOn, IsFresh, Writes, Breaks, IsTextAfter, IsFrontAfter, InTurnAfter}
-use Rattle.script_run.proofs.Fronts.{front-lines, widest-front, widest-last}
+use Rattle.script_run.proofs.Fronts.{front-lines, front-text, nothing-front, widest-front, widest-last}
 use Rattle.script_run.proofs.Following.{starts-trans, sees-same, sees-then, reg_calls-on, board_calls-on, reg_calls-same, board_calls-same, in_turn-on}
 
 -- ---- a session goes on
@@ -200,7 +201,7 @@ module _ (laws : Laws) (first : State) where
         let brd = starts-trans l.seen (known s'.board).seen b goes.board.seen from_b in
         let more_r = reg_calls_from (k.seen ++ reg.0) 0 k.seen reg.0 in
         let more_b = board_calls_from 0 l.seen brd.0 in
-        laws.front first.workers (start 0) s.walk 0 number (done ++ left) left led.turn r b more_r more_b text (led.leads left)
+        front-text first.workers (start 0) s.walk 0 number (done ++ left) left led.turn r b more_r more_b text (led.leads left)
         (reg_calls-on laws k.seen r led.settled reg ∙ ap (λ cs. cs ++ more_r) led.asked)
         (board_calls-on laws l.seen b brd ∙ ap (λ cs. cs ++ more_b) led.called)
         front
@@ -415,6 +416,6 @@ module _ (laws : Laws) (first : State) where
 -- ---- nothing is written
 
 -- nothing is a front of the text of any script
-pub nothing_fronted : NothingIsFront → (workers : ℕ) (left held : Option (List ℕ)) (r : List RegEntry) (b : List (BoardEntry Ask)) → IfSome left (λ script. Gains held held (IsFrontText workers (start 0) 0 (script_of script) r b))
-nothing_fronted nothing workers None held r b = tt
-nothing_fronted nothing workers (Some script) held r b = ([], nothing workers (start 0) 0 (script_of script) r b, appends-none held)
+pub nothing_fronted : (workers : ℕ) (left held : Option (List ℕ)) (r : List RegEntry) (b : List (BoardEntry Ask)) → IfSome left (λ script. Gains held held (IsFrontText workers (start 0) 0 (script_of script) r b))
+nothing_fronted workers None held r b = tt
+nothing_fronted workers (Some script) held r b = ([], nothing-front workers (start 0) 0 (script_of script) r b, appends-none held)

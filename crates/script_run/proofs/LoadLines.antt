@@ -1,5 +1,6 @@
 -- A load, line by line, and what it leaves.
-use Rattle.std.proofs.Common.{◌≡◌, ℕ, suc, ◌+◌, ◌-◌, ◌<◌, List, [], ◌∷◌, ◌++◌, drop, map, Some, None, refl, sym, ap, subst, ◌∙◌, append_assoc, append-nil, arith}
+use Rattle.std.proofs.Common.{◌≡◌, ℕ, Bool, false, Option, zero, suc, ◌+◌, ◌-◌, ◌<◌, List, [], ◌∷◌, ◌++◌, drop, map, Some, None, refl, sym, ap, subst, ◌∙◌, append_assoc, append-nil, arith}
+use Rattle.std.specs.Prelude.{slice_get}
 use Rattle.std.specs.List.{flat_map}
 use Rattle.std.proofs.lemmas.Grind.{flat_map-append}
 use Rattle.sha2.specs.Sha256.{sha256}
@@ -21,6 +22,7 @@ use Rattle.load_mode.specs.Turns.{bytes_told}
 use Rattle.reply_text.specs.declared.answers.Answer.{Answer}
 use Rattle.script_session.specs.Ending.{EndsWith}
 use Rattle.script_session.specs.Holding.{HoldsBy, Stops}
+use Rattle.script_session.specs.Saying.{hands_out}
 use Rattle.script_session.specs.States.{State}
 use Rattle.script_text.specs.declared.commands.Line.{Line}
 use Rattle.session_calls.specs.Asking.{AskedBy}
@@ -128,6 +130,22 @@ pub end-on : Laws → (s s' : State) (x y : Sha256) (none answers : List Answer)
 end-on laws s s' x y none answers empty e hashes = λ whole held.
     turned laws whole (end s.walk) Ends s s' x y s.walk e.turn answers e.is e.asked e.called e.ends (e.says ∙ ap (λ xs. xs ++ e.turn.answers) empty) hashes
     (subst (λ d. IsHeld whole d s x) (sym (followed-ends (end s.walk))) held)
+
+-- ---- no line of a load collects
+
+abbrev collects_at : Option Line → Bool
+collects_at None = false
+collects_at (Some line) = hands_out line
+
+opening-collects : (number : ℕ) → collects_at (slice_get opening number) ≡ false
+opening-collects zero = refl
+opening-collects (suc zero) = refl
+opening-collects (suc (suc zero)) = refl
+opening-collects (suc (suc (suc zero))) = refl
+opening-collects (suc (suc (suc (suc number)))) = refl
+
+pub no_opening_collects : (number : ℕ) (line : Line) → slice_get opening number ≡ Some line → hands_out line ≡ false
+no_opening_collects number line at = sym (ap collects_at at) ∙ opening-collects number
 
 -- ---- the requests
 

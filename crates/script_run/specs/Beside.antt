@@ -6,7 +6,8 @@ use Rattle.alg_registry.specs.Legal.{LegalReg}
 use Rattle.alg_registry.specs.Made.{Made}
 use Rattle.board.specs.declared.entry.BoardEntry.{BoardEntry}
 use Rattle.board.specs.Legal.{LegalBoard}
-use Rattle.dialogues.specs.Texts.{IsText, IsFrontText}
+use Rattle.dialogues.specs.Texts.{IsText}
+use Rattle.script_run.specs.Fronts.{IsFrontText}
 use Rattle.dialogues.specs.Walk.{start}
 use Rattle.load_mode.specs.Requests.{digest_of, load_requests}
 use Rattle.load_mode.specs.Turns.{AreLoaded}

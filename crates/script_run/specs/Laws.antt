@@ -9,7 +9,7 @@ use Rattle.board.specs.Ends.{AllIsFinished, ShutIsLast}
 use Rattle.dialogues.specs.BoardCalls.{BoardCall}
 use Rattle.dialogues.specs.Dialogues.{Dialogue, followed}
 use Rattle.dialogues.specs.GoingOn.{RegistryCallsGoOn, RegistryUnasked, BoardCallsGoOn, BoardUncalled, NoCall, InTurnByAny, InTurnByMore, CallsThenCallsBy}
-use Rattle.dialogues.specs.Leading.{LeadsNowhere, LeadsOn, LeadsFront, LeadsToEnd}
+use Rattle.dialogues.specs.Leading.{LeadsNowhere, LeadsOn, LeadsToEnd}
 use Rattle.dialogues.specs.RegistryCalls.{RegCall}
 use Rattle.dialogues.specs.Turns.{Turn, IsTurn, joined, turn_of}
 use Rattle.dialogues.specs.Walk.{Walk}
@@ -19,7 +19,6 @@ use Rattle.turn_lock.specs.Turns.{Known}
 pub record Laws : Type 0 where
   pub nowhere : LeadsNowhere
   pub on : LeadsOn
-  pub front : LeadsFront
   pub end_ : LeadsToEnd
   pub registry_calls : RegistryCallsGoOn
   pub unasked : RegistryUnasked

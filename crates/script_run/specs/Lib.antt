@@ -1,5 +1,6 @@
 pub mod Laws
 pub mod Text
+pub mod Fronts
 pub mod Runs
 pub mod Loads
 pub mod Answered

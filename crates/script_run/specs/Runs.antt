@@ -11,7 +11,8 @@ use Rattle.board.specs.Legal.{MayManage, is_shut}
 use Rattle.crew.specs.declared.passes.Passes.{Passes}
 use Rattle.dialogues.specs.InTurn.{AreInTurnBy}
 use Rattle.dialogues.specs.RegistryCalls.{reg_calls}
-use Rattle.dialogues.specs.Texts.{IsText, IsFrontText}
+use Rattle.dialogues.specs.Texts.{IsText}
+use Rattle.script_run.specs.Fronts.{IsFrontText}
 use Rattle.dialogues.specs.Walk.{start}
 use Rattle.dialogues.specs.Widths.{widest}
 use Rattle.kc_base.specs.Streams.{AppendsFront, IsPrefix}

@@ -14,6 +14,7 @@ ghost use Rattle.load_mode.specs.Requests.{asked_for, drawn_request};
 ghost use Rattle.script_text.specs.Sizes.{IsShortLine};
 ghost use Rattle.script_session.specs.Ending.{EndsShut};
 ghost use Rattle.script_session.specs.Running.{IsReady};
+ghost use Rattle.script_session.specs.Saying.{hands_out};
 ghost use Rattle.session_calls.specs.Passes.{known};
 ghost use Rattle.turn_lock.specs.Meeting.{IsOwn};
 ghost use Rattle.script_run.specs.Laws.{Laws};
@@ -35,13 +36,12 @@ use std::sync::Wait;
 use std::thread::Threads;
 use transforms::Job;
 
-// Answers one line, which makes at most one look at once.
-fn hold_line<G: Gate, R: Threads + Wait + Sync>(
+// Answers one line, which makes at most one look at once and collects nothing.
+fn hold_line<R: Threads + Wait + Sync>(
     rt: &R,
     alloc: Global,
     board: &SharedBoard<Job>,
     registry: &SharedRegistry,
-    gate: &G,
     session: &mut Session,
     hasher: &mut Sha256,
     number: u32,
@@ -50,6 +50,7 @@ fn hold_line<G: Gate, R: Threads + Wait + Sync>(
     requires ready { IsReady registry.now board.now session.old }
     requires short { IsShortLine line }
     requires narrow { width_of line ≡ 1 }
+    requires no_collect { hands_out line ≡ false }
     ensures on { OnOk result ((later : Made → Dialogue) → HoldsOn (followed (line_dialogue session.old.workers session.old.walk number line) later) later session.old session.new hasher.old hasher.new) }
     ensures ready { OnOk result (IsReady registry.now board.now session.new) }
     ensures goes_on { GoesOn session.old session.new }
@@ -57,7 +58,7 @@ fn hold_line<G: Gate, R: Threads + Wait + Sync>(
 {
     laws();
     let mut answers = Vec::new(alloc);
-    match session.answer_line(rt, board, registry, gate, number, line, &mut answers) {
+    match session.answer_line(rt, board, registry, number, line, &mut answers) {
         Ok(()) => {
             hash_completions(hasher, &answers);
             Ok(())
@@ -67,12 +68,12 @@ fn hold_line<G: Gate, R: Threads + Wait + Sync>(
 }
 
 // Answers the line of this number among those that make both transforms.
-fn hold_opening_line<G: Gate, R: Threads + Wait + Sync>(
+#[tactic(auto, using(crate::proofs::LoadLines::no_opening_collects))]
+fn hold_opening_line<R: Threads + Wait + Sync>(
     rt: &R,
     alloc: Global,
     board: &SharedBoard<Job>,
     registry: &SharedRegistry,
-    gate: &G,
     session: &mut Session,
     hasher: &mut Sha256,
     number: u32,
@@ -86,17 +87,16 @@ fn hold_opening_line<G: Gate, R: Threads + Wait + Sync>(
 {
     let line = opening_line(alloc, number)?;
     hold_line(
-        rt, alloc, board, registry, gate, session, hasher, number, line,
+        rt, alloc, board, registry, session, hasher, number, line,
     )
 }
 
 // Makes both transforms.
-fn hold_opening<G: Gate, R: Threads + Wait + Sync>(
+fn hold_opening<R: Threads + Wait + Sync>(
     rt: &R,
     alloc: Global,
     board: &SharedBoard<Job>,
     registry: &SharedRegistry,
-    gate: &G,
     session: &mut Session,
     hasher: &mut Sha256,
 ) -> Result<(), AllocError>
@@ -106,20 +106,19 @@ fn hold_opening<G: Gate, R: Threads + Wait + Sync>(
     ensures goes_on { GoesOn session.old session.new }
     ensures unshut { (known session.new.board).number ≡ 0 → is_shut (known session.new.board).seen ≡ false }
 {
-    hold_opening_line(rt, alloc, board, registry, gate, session, hasher, 0)?;
-    hold_opening_line(rt, alloc, board, registry, gate, session, hasher, 1)?;
-    hold_opening_line(rt, alloc, board, registry, gate, session, hasher, 2)?;
-    hold_opening_line(rt, alloc, board, registry, gate, session, hasher, 3)?;
+    hold_opening_line(rt, alloc, board, registry, session, hasher, 0)?;
+    hold_opening_line(rt, alloc, board, registry, session, hasher, 1)?;
+    hold_opening_line(rt, alloc, board, registry, session, hasher, 2)?;
+    hold_opening_line(rt, alloc, board, registry, session, hasher, 3)?;
     Ok(())
 }
 
 // Draws a request and hands it in.
-fn hold_request<G: Gate, R: Threads + Wait + Sync>(
+fn hold_request<R: Threads + Wait + Sync>(
     rt: &R,
     alloc: Global,
     board: &SharedBoard<Job>,
     registry: &SharedRegistry,
-    gate: &G,
     session: &mut Session,
     hasher: &mut Sha256,
     generator: &mut Generator,
@@ -134,17 +133,16 @@ fn hold_request<G: Gate, R: Threads + Wait + Sync>(
 {
     let line = draw_request(alloc, generator, number)?;
     hold_line(
-        rt, alloc, board, registry, gate, session, hasher, number, line,
+        rt, alloc, board, registry, session, hasher, number, line,
     )
 }
 
 // Hands the requests in.
-fn hold_requests<G: Gate, R: Threads + Wait + Sync>(
+fn hold_requests<R: Threads + Wait + Sync>(
     rt: &R,
     alloc: Global,
     board: &SharedBoard<Job>,
     registry: &SharedRegistry,
-    gate: &G,
     session: &mut Session,
     hasher: &mut Sha256,
     seed: u64,
@@ -163,7 +161,6 @@ fn hold_requests<G: Gate, R: Threads + Wait + Sync>(
             alloc,
             board,
             registry,
-            gate,
             session,
             hasher,
             &mut generator,
@@ -224,13 +221,12 @@ pub fn hold_load<G: Gate, R: Threads + Wait + Sync>(
 {
     laws();
     let mut hasher = Sha256::new();
-    hold_opening(rt, alloc, board, registry, gate, session, &mut hasher)?;
+    hold_opening(rt, alloc, board, registry, session, &mut hasher)?;
     hold_requests(
         rt,
         alloc,
         board,
         registry,
-        gate,
         session,
         &mut hasher,
         seed,

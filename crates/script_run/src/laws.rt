@@ -1,0 +1,8 @@
+//! A law of what is written.
+
+ghost use Rattle.script_run.specs.Fronts.{NothingIsFront};
+
+/// Nothing is a front of the text of any script, over any histories.
+pub fn nothing_is_front()
+    ensures { NothingIsFront }
+{}
