@@ -8,8 +8,6 @@ mod checked_traces;
 #[cfg(test)]
 mod digits;
 #[cfg(test)]
-mod hostile_lines;
-#[cfg(test)]
 mod replies;
 #[cfg(test)]
 mod script_lines;

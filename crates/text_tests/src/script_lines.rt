@@ -1,33 +1,34 @@
-//! What the lines of a script say, and lines out of pieces.
+//! What the lines of a script say.
 
-ghost use Rattle.std.specs.Prelude.{◌<◌};
-
-use kc_base::{Bytes, MemSource};
-use script_text::{Command, Line, LineCutter, LineReader, read_line};
+use script_text::{Command, Line, MAX_LINE, read_line};
 use std::alloc::Global;
 use std::process::Abort;
 
 // What a line says, in a form that a table can hold.
-#[derive(Clone, Copy, Debug, PartialEq, Eq)]
-enum Said {
+#[derive(Clone, Copy, PartialEq, Eq)]
+pub(crate) enum Said {
     Nothing,
     Malformed,
     // `aes` with so many bytes of key and of block
     Aes(usize, usize),
+    // `key` with these bytes
+    ThisKey,
     Another,
 }
 
-fn seen(line: &Line) -> Said {
+fn seen(line: &Line, bytes: &[u8]) -> Said {
     match line {
         Line::Nothing => Said::Nothing,
         Line::Malformed => Said::Malformed,
         Line::Cmd(Command::Aes { key, block }) => Said::Aes(key.len(), block.len()),
+        Line::Cmd(Command::Key { key, .. }) if key.as_slice() == bytes => Said::ThisKey,
         Line::Cmd(_) => Said::Another,
     }
 }
 
-fn read_said(rt: &impl Abort, alloc: Global, line: &[u8]) -> Said {
-    seen(&read_line(alloc, line).expect(rt, "memory"))
+// What a line says, where it may be a key of these bytes.
+pub(crate) fn read_said(rt: &impl Abort, alloc: Global, line: &[u8], bytes: &[u8]) -> Said {
+    seen(&read_line(alloc, line).expect(rt, "memory"), bytes)
 }
 
 const LINES: [(&[u8], Said); 24] = [
@@ -63,7 +64,7 @@ const LINES: [(&[u8], Said); 24] = [
 
 /// A line says this.
 fn says(rt: &impl Abort, alloc: Global, line: &[u8], want: Said) {
-    assert!(rt; read_said(rt, alloc, line) == want, "{line:?}");
+    assert!(rt; read_said(rt, alloc, line, b"not read") == want, "{line:?}");
 }
 
 #[test]
@@ -164,7 +165,20 @@ list a
 List
 lists
 DRAIN t
-encrypt t 00 00 00";
+encrypt t 00 00 00
+key t 000
+mac t 00\x0000
+mac t\r00
+drain abcdefghijklmnopqrstuvwxyzabcdefg
+enc t - - 00|00|00|00|00|00|00|00|00|00|00|00|00|00|00|00|00
+dec t - - 00|00|00|00|00|00|00|00|00|00|00|00|00|00|00|00|00
+enc t - - 00||00
+dec t - - 00|
+mac t |00
+mac t 00|-
+enc t - 00|00 00
+mask p 000
+mask p -";
 
 // Each line of a script says this.
 fn each_says(rt: &impl Abort, alloc: Global, script: &str, want: Said) {
@@ -179,78 +193,26 @@ fn commands_are_read_and_nothing_else(rt: HostRuntime) {
     each_says(&rt, rt.alloc(), MALFORMED, Said::Malformed);
 }
 
-// Adds what a line says, if there is one.
-fn add(rt: &impl Abort, found: &mut Vec<Said>, line: Option<Line>) {
-    if let Some(line) = line {
-        found.push(seen(&line)).expect(rt, "memory");
-    }
+// 17 parts of a text, of a byte each.
+const PARTS: &[u8] = b"00|00|00|00|00|00|00|00|00|00|00|00|00|00|00|00|00";
+
+// A `mac` of this text, of so many bytes in all, by blanks at its end.
+fn mac_of(rt: &impl Abort, alloc: Global, text: &[u8], count: usize) -> Vec<u8> {
+    let mut line = Vec::from_slice(alloc, b"mac t ").expect(rt, "memory");
+    line.extend_from_slice(text).expect(rt, "memory");
+    line.resize(count, b' ').expect(rt, "memory");
+    line
 }
 
-// Adds what the lines say that have come so far. A piece ends no more lines than it has bytes.
-fn add_lines(rt: &impl Abort, found: &mut Vec<Said>, cutter: &mut LineCutter, piece: &[u8]) {
-    for _ in piece {
-        add(rt, found, cutter.next().expect(rt, "memory"));
-    }
-}
-
-// What a script says that comes in pieces of so many bytes.
-fn said_in_pieces(rt: &impl Abort, alloc: Global, script: &[u8], size: usize) -> Vec<Said>
-    requires { 0 < size }
-{
-    let mut cutter = LineCutter::new(alloc);
-    let mut found = Vec::new(alloc);
-    for piece in script.chunks(size) {
-        cutter.feed(piece).expect(rt, "memory");
-        add_lines(rt, &mut found, &mut cutter, piece);
-    }
-    add(rt, &mut found, cutter.last().expect(rt, "memory"));
-    found
-}
-
-// A script that is read so many bytes at once.
-fn source_of(rt: &impl Abort, alloc: Global, script: &[u8], step: usize) -> MemSource
-    requires { 0 < step }
-{
-    let bytes = Bytes::copy_of(alloc, script).expect(rt, "memory");
-    MemSource::new(bytes, step, Vec::new(alloc))
-}
-
-// What a script says that is read from a source, so many bytes at once. It has no more lines than bytes.
-fn said_by_reader(rt: &impl Abort, alloc: Global, script: &[u8], step: usize) -> Vec<Said>
-    requires { 0 < step }
-{
-    let mut source = source_of(rt, alloc, script, step);
-    let mut reader = LineReader::new(alloc, script.len()).expect(rt, "memory");
-    let mut found = Vec::new(alloc);
-    for _ in script {
-        add(rt, &mut found, reader.next(&mut source).unwrap_or(None));
-    }
-    found
-}
-
-const CUT: &[u8] = b"# note\r\naes 00 0001\nfrob\n\naes 00 -";
-
-// What it says.
-const CUT_SAYS: [Said; 5] = [
-    Said::Nothing,
-    Said::Aes(1, 2),
-    Said::Malformed,
-    Said::Nothing,
-    Said::Aes(1, 0),
-];
-
+// What is a byte too long or a part too many, beside what is as long as a line may be, or has as many parts.
 #[test]
-fn pieces_make_lines_wherever_they_are_cut(rt: HostRuntime) {
-    for size in 1..12usize {
-        let cut = said_in_pieces(&rt, rt.alloc(), CUT, size);
-        assert!(rt;
-            cut.as_slice() == CUT_SAYS.as_slice(),
-            "pieces of {size} bytes"
-        );
-        let read = said_by_reader(&rt, rt.alloc(), CUT, size);
-        assert!(rt;
-            read.as_slice() == CUT_SAYS.as_slice(),
-            "read {size} bytes at once"
-        );
+fn lines_have_a_longest_length_and_most_parts(rt: HostRuntime) {
+    for (text, count, want) in [
+        (&PARTS[..2], MAX_LINE, Said::Another),
+        (&PARTS[..2], MAX_LINE + 1, Said::Malformed),
+        (PARTS, 100, Said::Malformed),
+        (&PARTS[3..], 100, Said::Another),
+    ] {
+        says(&rt, rt.alloc(), &mac_of(&rt, rt.alloc(), text, count), want);
     }
 }
