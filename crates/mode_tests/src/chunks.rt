@@ -1,8 +1,7 @@
-//! Jobs by example, and CTR in many threads against CTR in one.
+//! Jobs by example, and CTR in many threads.
 
 use crate::given::{aes, array, bytes};
-use aes_block::{Aes, Skcipher};
-use ctr_mode::Ctr;
+use aes_block::Aes;
 use mt_jobs::{MtJob, chunk_of, ctr_chunked, range_of};
 use std::alloc::Global;
 use std::process::Abort;
@@ -98,27 +97,5 @@ fn sp_800_38a_f5_1_in_chunks(rt: HostRuntime) {
     );
     for blocks in [1usize, 2, 3, 4] {
         seals_in_chunks(&rt, alloc, &cipher, &iv, &plain, &sealed, 16 * blocks);
-    }
-}
-
-/// A text of a length in chunks of several lengths, against one thread; under a counter that wraps.
-fn is_as_in_one_thread<R: Threads + Sync + Abort>(rt: &R, alloc: Global, size: usize) {
-    let key = [7u8; 32].as_slice();
-    let cipher = Aes::new(key).expect(rt, "a key");
-    let mode = Ctr::new(Aes::new(key).expect(rt, "a key"));
-    let iv = [0xffu8; 16];
-    let plain = vec![in alloc; 5u8; size].expect(rt, "memory");
-    let mut sealed = plain.clone().expect(rt, "memory");
-    assert!(rt; mode.seal(&iv, &mut sealed).is_ok());
-    for chunk in [16usize, 48, 1_024, 4_096, 8_192] {
-        seals_in_chunks(rt, alloc, &cipher, &iv, &plain, &sealed, chunk);
-    }
-}
-
-/// Texts about a block and about a page.
-#[test]
-fn each_size_against_one_thread(rt: HostRuntime) {
-    for size in [0usize, 1, 15, 16, 17, 4_095, 4_096, 4_097] {
-        is_as_in_one_thread(&rt, rt.alloc(), size);
     }
 }

@@ -1,9 +1,8 @@
-//! The forms against each other.
+//! Each form of AES 1,000 times over, with values of another library.
 
-use aes_block::{Aes, BlockCipher, Skcipher};
+use aes_block::{Aes, BlockCipher};
 use aes_lanes::LaneAes;
 use aes_table::TableAes;
-use ctr_mode::Ctr;
 use std::process::Abort;
 
 // 00 01 02 .. 1f
@@ -12,17 +11,20 @@ const KEY: [u8; 32] = [
     26, 27, 28, 29, 30, 31,
 ];
 
-/// Seals a block of zeros 1,000 times over, and unseals it again.
-fn chains<C: BlockCipher>(rt: &impl Abort, cipher: &C, sealed: u128) {
+/// A block of zeros that is sealed 1,000 times over.
+fn chained<C: BlockCipher>(cipher: &C) -> u128 {
     let mut block = [0u8; 16];
     for _ in 0..1000u32 {
         cipher.seal_block(&mut block);
     }
-    assert_eq!(rt; block, sealed.to_be_bytes());
-    for _ in 0..1000u32 {
-        cipher.unseal_block(&mut block);
-    }
-    assert_eq!(rt; block, [0u8; 16]);
+    u128::from_be_bytes(block)
+}
+
+/// What it comes to by each form.
+fn chain_to(rt: &impl Abort, key: &[u8], sealed: u128) {
+    assert!(rt; chained(&Aes::new(key).expect(rt, "a key")) == sealed);
+    assert!(rt; chained(&TableAes::new(key).expect(rt, "a key")) == sealed);
+    assert!(rt; chained(&LaneAes::new(key).expect(rt, "a key")) == sealed);
 }
 
 #[test]
@@ -33,31 +35,6 @@ fn a_thousand_chained_blocks(rt: HostRuntime) {
         (32, 0xa5ee6799c190df6c5be35ef1efc5db1b),
     ] {
         assert!(rt; length <= 32);
-        let key = &KEY[..length];
-        chains(&rt, &Aes::new(key).expect(&rt, "a key"), sealed);
-        chains(&rt, &TableAes::new(key).expect(&rt, "a key"), sealed);
-        chains(&rt, &LaneAes::new(key).expect(&rt, "a key"), sealed);
-    }
-}
-
-/// What one form seals in a text's front of that length, the other unseals.
-fn agree<A: Skcipher, B: Skcipher>(rt: &impl Abort, one: &A, other: &B, length: usize) {
-    let iv = [0xffu8; 16].as_slice();
-    let mut text = [1u8; 300];
-    assert!(rt; length <= 300 && iv.len() == one.iv_len() && iv.len() == other.iv_len());
-    assert!(rt; one.seal(iv, &mut text[..length]).is_ok());
-    assert!(rt; other.unseal(iv, &mut text[..length]).is_ok());
-    assert!(rt; text == [1u8; 300], "{length} bytes");
-}
-
-#[test]
-fn texts_of_each_length(rt: HostRuntime) {
-    let key = [7u8; 16].as_slice();
-    let generic = Ctr::new(Aes::new(key).expect(&rt, "a key"));
-    let table = Ctr::new(TableAes::new(key).expect(&rt, "a key"));
-    let lanes = Ctr::new(LaneAes::new(key).expect(&rt, "a key"));
-    for length in 0..=300usize {
-        agree(&rt, &generic, &table, length);
-        agree(&rt, &table, &lanes, length);
+        chain_to(&rt, &KEY[..length], sealed);
     }
 }

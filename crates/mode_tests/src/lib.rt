@@ -1,4 +1,4 @@
-//! Tests of AES, its modes and GHASH, with the vectors of the standards, over what these make public.
+//! Tests of AES, of GHASH's product and of jobs in chunks, over what these make public. The modes' vectors stand in cipher_tests.
 //!
 //! They stand apart, since a crate that has tests is proved a second time for them.
 #![tactic(auto)]
@@ -10,10 +10,6 @@ mod chunks;
 #[cfg(test)]
 mod forms;
 #[cfg(test)]
-mod gcm;
-#[cfg(test)]
 mod ghash;
 #[cfg(test)]
 mod given;
-#[cfg(test)]
-mod skciphers;
