@@ -319,3 +319,46 @@ fn a_worker_outside_the_mask_takes_nothing(rt: HostRuntime) {
     let text = printed(&rt, rt.alloc(), "--workers 8 --trace", script.as_str(), 0);
     expect_masked(&rt, text.as_str());
 }
+
+const PROBED: &str = "\
+probe pcrypt(gcm(aes)) cryptd(gcm(aes))
+list
+";
+
+// What the probe prints.
+const PROBED_TEXT: &str = "\
+1 probed pcrypt(gcm(aes)) pcrypt(gcm_base(ctr(aes-generic),ghash-generic))
+1 probed cryptd(gcm(aes)) cryptd(gcm_base(ctr(aes-generic),ghash-generic))
+";
+
+// How many lines hold both.
+fn count_lines(text: &str, part: &str, other: &str) -> u64 {
+    let mut count = 0u64;
+    for line in text.lines() {
+        if line.contains(part) && line.contains(other) {
+            count = count.saturating_add(1);
+        }
+    }
+    count
+}
+
+// One instance stands below both, and was built once.
+fn expect_one_below(rt: &impl Abort, text: &str) {
+    check(rt, text.starts_with(PROBED_TEXT), text);
+    check(rt, text.contains("\n2 listed 7\n"), text);
+    let instance = " gcm(aes) gcm_base(ctr(aes-generic),ghash-generic) ";
+    check(rt, count_lines(text, "2 alg ", instance) == 1, text);
+    check(rt, count_lines(text, instance, " 100 2") == 1, text);
+    check(rt, count_lines(text, " built ", instance) == 1, text);
+}
+
+#[test]
+fn two_names_stand_on_one_instance(rt: HostRuntime) {
+    for line in [
+        "--workers 0 --trace",
+        "--workers 1 --trace",
+        "--workers 8 --trace",
+    ] {
+        expect_one_below(&rt, printed(&rt, rt.alloc(), line, PROBED, 0).as_str());
+    }
+}

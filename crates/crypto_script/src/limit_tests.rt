@@ -146,3 +146,17 @@ fn the_registry_holds_4096_entries(rt: HostRuntime) {
         text.as_str(),
     );
 }
+
+// Lines that say nothing or are no commands, the last of them too long.
+fn unread_lines(rt: &impl Abort, alloc: Global) -> String {
+    let mut script = string_of(rt, alloc, "# note\n\nfrob x\nalloc\n");
+    push_times(rt, &mut script, "a", 65_537);
+    script
+}
+
+#[test]
+fn what_is_no_command_is_malformed(rt: HostRuntime) {
+    let script = unread_lines(&rt, rt.alloc());
+    let text = "3 malformed\n4 malformed\n5 malformed\n";
+    expect_line(&rt, rt.alloc(), "--workers 1", script.as_str(), 1, text);
+}

@@ -17,6 +17,9 @@ const LOADS: &str = "\
 --workers 1 --load 7 --count 200 = load 200 383dd23f76fa08af079887206c1121b483e72c1821f977f34eed2e294cadc593
 --workers 4 --load 7 --count 200 = load 200 383dd23f76fa08af079887206c1121b483e72c1821f977f34eed2e294cadc593
 --workers 16 --load 7 --count 200 = load 200 383dd23f76fa08af079887206c1121b483e72c1821f977f34eed2e294cadc593
+--workers 0 --load 7 = load 1000 66ebe6e6e38c7369b5b4f5d7c6c30fb54bcd5f8cd23d2e5ee1bd52dacb8d85c0
+--workers 1 --load 7 = load 1000 66ebe6e6e38c7369b5b4f5d7c6c30fb54bcd5f8cd23d2e5ee1bd52dacb8d85c0
+--workers 8 --load 7 = load 1000 66ebe6e6e38c7369b5b4f5d7c6c30fb54bcd5f8cd23d2e5ee1bd52dacb8d85c0
 ";
 
 // The words of this row have its line, whatever the source holds.

@@ -45,6 +45,24 @@ enc t f0f1f2f3f4f5f6f7f8f9fafbfcfdfeff - 6bc1bee22e
 2 ok
 3 ok 874d6191b6
 %
+a counter block of all ones, after which the counter is 0
+alloc t ctr(aes)
+key t 00000000000000000000000000000000
+enc t ffffffffffffffffffffffffffffffff - 0000000000000000000000000000000000000000000000000000000000000000
+= 0
+1 ok ctr(aes-generic)
+2 ok
+3 ok 3f5b8cc9ea855a0afa7347d23e8d664e66e94bd4ef8a2c3b884cfa59ca342b2e
+%
+RFC 4231, 4.7
+alloc h hmac(sha256)
+key h aaaaaaaaaaaaaaaaaaaaaaaaaaaaaaaaaaaaaaaaaaaaaaaaaaaaaaaaaaaaaaaaaaaaaaaaaaaaaaaaaaaaaaaaaaaaaaaaaaaaaaaaaaaaaaaaaaaaaaaaaaaaaaaaaaaaaaaaaaaaaaaaaaaaaaaaaaaaaaaaaaaaaaaaaaaaaaaaaaaaaaaaaaaaaaaaaaaaaaaaaaaaaaaaaaaaaaaaaaaaaaaaaaaaaaaaaaaaaaaaaaaaaaaaaaaaaaaaaaaaaa
+mac h 54657374205573696e67204c6172676572205468616e20426c6f636b2d53697a65204b6579202d2048617368204b6579204669727374
+= 0
+1 ok hmac(sha256-generic)
+2 ok
+3 ok 60e431591ee0b67f0d8a26aacbf5b77f8e0bc6213728c5140546040f0ee37f54
+%
 GCM of no text, with tags of 16 and of 12 bytes
 alloc g gcm(aes)
 key g 00000000000000000000000000000000
