@@ -34,6 +34,7 @@ use Rattle.script_run.specs.Laws.{Laws}
 use Rattle.script_run.specs.Runs.{Gains, IsFresh, IsUnshutOrEnds, Writes, Breaks, IsFrontAfter}
 use Rattle.script_run.specs.Statuses.{of_input, of_output}
 use Rattle.script_run.specs.Text.{is_malformed}
+use Rattle.script_run.proofs.Fronts.{nothing-front}
 use Rattle.script_run.proofs.Going.{Going, goes-same, keeps-same, appends-none, going-begins, going-more, going-breaks, going-end_breaks, going-begun, going-end_begun, going-ends, going-ends_front, going-ends_in_turn, going-ends_own, line_broken-goes, end_broken-goes, end-goes, stopped, led-answered}
 use Rattle.script_run.proofs.Readings.{Reading, cut-told, told-whole, cut-all, after-read, after-behind, after-short, failed-whole, too_long-is, too_long-whole, reading-begins, reading-line, reading-end}
 
@@ -72,7 +73,7 @@ runs-nothing registry board first left held ready fresh = record {
   reads = record { read = Consumes-nil left; at_end = tt };
   lines = record {
     goes_on = goes-same first;
-    front = ([], (λ r b from_r from_b. (text_in (turn_in first.workers (start 0) 0 (script_of (script_in left [])) r b), refl)), appends-none held);
+    front = ([], (λ r b from_r from_b. nothing-front first.workers (start 0) 0 (script_of (script_in left [])) r b), appends-none held);
     whole = tt;
     in_turn = tt;
     own = tt;

@@ -9,6 +9,7 @@ use Rattle.board.specs.declared.entry.BoardEntry.{BoardEntry}
 use Rattle.board.specs.declared.entry.BoardEntry.TheVariants as event
 use Rattle.board.specs.Entries.{caller_of as board_caller}
 use Rattle.dialogues.specs.BoardCalls.{board_calls, board_calls_from, is_called}
+use Rattle.dialogues.specs.Dialogues.{Dialogue, Ends, Says, Asks, Posts, followed}
 use Rattle.dialogues.specs.InTurn.{AreInTurnBy}
 use Rattle.dialogues.specs.RegistryCalls.{RegCall, reg_calls, reg_calls_from, AllSettled}
 use Rattle.templates.specs.Looking.{is_asked}
@@ -112,3 +113,11 @@ pub in_turn-on : Laws → (width : ℕ) (k : Known RegEntry) (h : List RegEntry)
 in_turn-on laws width k h calls zero others turns =
     subst (λ cs. AreInTurnBy width 0 cs [] h) (append-nil calls)
     (laws.later_calls width 0 calls [] [] k.seen h turns (laws.any_width width 0 [] k.seen h (others.0, others.1, unasked k others.0 zero others.2)))
+
+-- ---- a dialogue that nothing follows
+
+pub followed-ends : (d : Dialogue) → followed d Ends ≡ d
+followed-ends (Ends after) = refl
+followed-ends (Says answers next) = ap (Says answers) (followed-ends next)
+followed-ends (Asks question next) = λ i. Asks question (λ answer. followed-ends (next answer) i)
+followed-ends (Posts question next) = λ i. Posts question (λ answer. followed-ends (next answer) i)
