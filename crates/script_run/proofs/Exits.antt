@@ -7,7 +7,6 @@ use Rattle.std.proofs.KnownBytes.{Consumes-nil}
 use Rattle.std.proofs.lemmas.List.Folds.{list_any-append}
 use Rattle.board.specs.Legal.{is_shut}
 use Rattle.dialogues.specs.Lines.{line_dialogue}
-use Rattle.dialogues.specs.Texts.{turn_in}
 use Rattle.dialogues.specs.Turns.{text_in}
 use Rattle.dialogues.specs.Walk.{start}
 use Rattle.dialogues.specs.Widths.{width_of}
