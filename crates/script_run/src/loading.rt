@@ -86,9 +86,7 @@ fn hold_opening_line<R: Threads + Wait + Sync>(
     ensures unshut { (known session.new.board).number ≡ 0 → is_shut (known session.new.board).seen ≡ false }
 {
     let line = opening_line(alloc, number)?;
-    hold_line(
-        rt, alloc, board, registry, session, hasher, number, line,
-    )
+    hold_line(rt, alloc, board, registry, session, hasher, number, line)
 }
 
 // Makes both transforms.
@@ -132,9 +130,7 @@ fn hold_request<R: Threads + Wait + Sync>(
     ensures unshut { (known session.new.board).number ≡ 0 → is_shut (known session.new.board).seen ≡ false }
 {
     let line = draw_request(alloc, generator, number)?;
-    hold_line(
-        rt, alloc, board, registry, session, hasher, number, line,
-    )
+    hold_line(rt, alloc, board, registry, session, hasher, number, line)
 }
 
 // Hands the requests in.
