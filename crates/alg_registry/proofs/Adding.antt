@@ -9,7 +9,7 @@ use Rattle.alg_registry.specs.declared.row.Row.{Row}
 use Rattle.alg_registry.specs.Calls.{new_row, listed_row_of}
 use Rattle.alg_registry.specs.Rows.{is_held, stands_on, holders, listed_at, stays_listed, standing}
 use Rattle.alg_registry.specs.Counting.{referred}
-use Rattle.alg_registry.specs.Held.{held_from}
+use Rattle.alg_registry.specs.Held.{held_from, listed_from}
 use Rattle.alg_registry.proofs.Standing.{bare, map-push}
 use Rattle.alg_registry.proofs.Restanding.{Stands, mark, same_stays, same_push, same_length, stands-from, standing-stands, standing-bare, weight, holders-cons, held_listed}
 use Rattle.alg_registry.proofs.Tallies.{more, bit}
@@ -113,6 +113,19 @@ held_added below n (row ∷ rows) last id listed held at =
 pub held-added : (below : List ℕ) (rows : List Row) (last : Row) (id : ℕ) → list_all (listed_at rows) below ≡ true → is_held last ≡ true → id ≡ length rows
     → held_from 0 (referred 0 below rows ++ last ∷ []) ≡ held_from 0 rows ++ id ∷ []
 held-added below rows last id all held at = held_added below 0 rows last id (children-listed below rows all) held (omega (arith, at))
+
+listed_added : (below : List ℕ) (n : ℕ) (rows : List Row) (last : Row) (id : ℕ) → last.listed ≡ true → id ≡ n + length rows → listed_from n (referred n below rows ++ last ∷ []) ≡ listed_from n rows ++ id ∷ []
+listed_added below n [] last id listed at = let e : n ≡ id = omega (arith, at) in λ i. cond (listed i) (e i ∷ []) []
+listed_added below n (row ∷ rows) last id listed at =
+    let rest = listed_added below (n + 1) rows last id listed (omega (arith, at)) in
+    (λ i. cond row.listed (n ∷ rest i) (rest i)) ∙ here row.listed
+  where
+    here : (c : Bool) → cond c (n ∷ listed_from (n + 1) rows ++ id ∷ []) (listed_from (n + 1) rows ++ id ∷ []) ≡ cond c (n ∷ listed_from (n + 1) rows) (listed_from (n + 1) rows) ++ id ∷ []
+    here true = refl
+    here false = refl
+
+pub listed-added : (below : List ℕ) (rows : List Row) (last : Row) (id : ℕ) → last.listed ≡ true → id ≡ length rows → listed_from 0 (referred 0 below rows ++ last ∷ []) ≡ listed_from 0 rows ++ id ∷ []
+listed-added below rows last id listed at = listed_added below 0 rows last id listed (omega (arith, at))
 
 pub length-referred : (n : ℕ) (below : List ℕ) (rows : List Row) → length (referred n below rows) ≡ length rows
 length-referred n below [] = refl

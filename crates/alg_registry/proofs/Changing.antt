@@ -11,10 +11,10 @@ use Rattle.alg_registry.specs.Rows.{is_held, stands_on, listed_at, stays_listed,
 use Rattle.alg_registry.specs.Alone.{unlists_alone, puts_alone}
 use Rattle.alg_registry.specs.Calls.{unlisted_row, taken_row, put_row_of}
 use Rattle.alg_registry.specs.Counting.{remarked_all, restood}
-use Rattle.alg_registry.specs.Held.{held_from, passes, IsRowTable}
+use Rattle.alg_registry.specs.Held.{held_from, listed_from, is_row_listed, passes, IsRowTable}
 use Rattle.alg_registry.proofs.Fresh.{is_listed-within}
 use Rattle.alg_registry.proofs.Restanding.{Stands, standing-twice, any_default, listed_at-get, unlist-alone, take-alone, put-alone, stands-from, stands-at, held_listed, held_referenced}
-use Rattle.alg_registry.proofs.Restood.{AreChanged, changed-set, restands, few-remarked, AreFewer, fewer, filter-held, held-same}
+use Rattle.alg_registry.proofs.Restood.{AreChanged, changed-set, restands, few-remarked, AreFewer, fewer, fewer-listed, filter-ids, ids-same}
 use Rattle.alg_registry.proofs.Seen.{length-filter}
 use Rattle.alg_registry.proofs.Tallies.{HasFewer}
 
@@ -103,19 +103,47 @@ length-marked older (row ∷ rows) =
 pub length-standing : (rows : List Row) → length (standing rows) ≡ length rows
 length-standing rows = omega (arith, length-counted' 0 (marked [] rows), length-marked [] rows)
 
--- after a change, those are let go that are held no more
-pub kept-fewer : (old changed new : List Row) (held held' : List ℕ) (spare room held_room : ℕ) (spare' room' held_room' : ℕ)
-    → IsRowTable old held spare room held_room → AreChanged old changed → new ≡ standing changed → length changed ≡ length old
-    → held' ≡ filter (passes is_held new) held → spare' ≡ spare → room ≤ room' → held_room ≤ held_room'
-    → IsRowTable new held' spare' room' held_room'
-kept-fewer old changed new held held' spare room held_room spare' room' held_room' table change is len letgo se re he =
-    let rest : filter (passes is_held new) (held_from 0 old) ≡ held_from 0 new = filter-held old new (subst (AreFewer old) (sym is) (fewer old changed table.stands change)) in
+-- after a change, those are let go that are held, or listed, no more
+pub kept-fewer : (old changed new : List Row) (held held' listed listed' : List ℕ) (spare room held_room listed_room : ℕ) (spare' room' held_room' listed_room' : ℕ)
+    → IsRowTable old held listed spare room held_room listed_room → AreChanged old changed → new ≡ standing changed → length changed ≡ length old
+    → held' ≡ filter (passes is_held new) held → listed' ≡ filter (passes is_row_listed new) listed
+    → spare' ≡ spare → room ≤ room' → held_room ≤ held_room' → listed_room ≤ listed_room'
+    → IsRowTable new held' listed' spare' room' held_room' listed_room'
+kept-fewer old changed new held held' listed listed' spare room held_room listed_room spare' room' held_room' listed_room' table change is len letgo struck se re he le =
+    let rest : filter (passes is_held new) (held_from 0 old) ≡ held_from 0 new = filter-ids is_held old new (subst (AreFewer is_held old) (sym is) (fewer old changed table.stands change)) in
+    let left : filter (passes is_row_listed new) (listed_from 0 old) ≡ listed_from 0 new = filter-ids is_row_listed old new (subst (AreFewer is_row_listed old) (sym is) (fewer-listed old changed table.stands change)) in
     record {
       stands = ap standing is ∙ (standing-twice changed ∙ sym is);
       held_are = letgo ∙ (ap (λ (ids : List ℕ). filter (passes is_held new) ids) table.held_are ∙ rest);
+      listed_are = struck ∙ (ap (λ (ids : List ℕ). filter (passes is_row_listed new) ids) table.listed_are ∙ left);
       fits = omega (arith, table.fits, se, re, ap length is, length-standing changed, len);
       held_fits = omega (arith, table.held_fits, se, he, ap length letgo, length-filter (passes is_held new) held);
+      listed_fits = omega (arith, table.listed_fits, se, le, ap length struck, length-filter (passes is_row_listed new) listed);
     }
+
+-- after a change that lets none go
+pub kept-same : (old changed new : List Row) (held listed : List ℕ) (spare room held_room listed_room : ℕ)
+    → IsRowTable old held listed spare room held_room listed_room → new ≡ standing changed → length changed ≡ length old
+    → (held_from 0 new ≡ held_from 0 old) × (listed_from 0 new ≡ listed_from 0 old)
+    → IsRowTable new held listed spare room held_room listed_room
+kept-same old changed new held listed spare room held_room listed_room table is len same = record {
+  stands = ap standing is ∙ (standing-twice changed ∙ sym is);
+  held_are = table.held_are ∙ sym same.0;
+  listed_are = table.listed_are ∙ sym same.1;
+  fits = omega (arith, table.fits, ap length is, length-standing changed, len);
+  held_fits = table.held_fits;
+  listed_fits = table.listed_fits;
+}
+
+-- an entry that stays held when a reference to it is given back
+pub put-same : (rows : List Row) (p : ℕ) (x : Row) → p < length rows → standing rows ≡ rows → 0 < (let r : Row = get_or rows p x in r.taken)
+    → is_held (let r : Row = get_or rows p x in record r { taken = r.taken - 1; references = r.references - 1 }) ≡ true
+    → (held_from 0 (set rows p (let r : Row = get_or rows p x in record r { taken = r.taken - 1; references = r.references - 1 })) ≡ held_from 0 rows)
+    × (listed_from 0 (set rows p (let r : Row = get_or rows p x in record r { taken = r.taken - 1; references = r.references - 1 })) ≡ listed_from 0 rows)
+put-same rows p x lt stands some held =
+    let r : Row = get_or rows p x in
+    let put : Row = record r { taken = r.taken - 1; references = r.references - 1 } in
+    (ids-same is_held 0 rows p put x (held ∙ sym (referenced rows p x lt stands some)), ids-same is_row_listed 0 rows p put x refl)
 
 -- ---- a reference is taken
 
@@ -140,7 +168,11 @@ take-held rows p x listed =
     let lt : p < length rows = is_listed-within rows p listed in
     let r : Row = get_or rows p x in
     let is : r.listed ≡ true = sym (listed_at-get rows p x lt) ∙ listed in
-    held-same 0 rows p (record r { taken = r.taken + 1; references = r.references + 1 }) x (held_listed (record r { taken = r.taken + 1; references = r.references + 1 }) is ∙ sym (held_listed r is))
+    ids-same is_held 0 rows p (record r { taken = r.taken + 1; references = r.references + 1 }) x (held_listed (record r { taken = r.taken + 1; references = r.references + 1 }) is ∙ sym (held_listed r is))
+
+pub take-listed : (rows : List Row) (p : ℕ) (x : Row)
+    → listed_from 0 (set rows p (let r : Row = get_or rows p x in record r { taken = r.taken + 1; references = r.references + 1 })) ≡ listed_from 0 rows
+take-listed rows p x = let r : Row = get_or rows p x in ids-same is_row_listed 0 rows p (record r { taken = r.taken + 1; references = r.references + 1 }) x refl
 
 -- what a call leaves in a slice of the whole is the whole
 pub whole : (n : ℕ) (new items : List Row) → length new ≡ n → take n (new ++ drop (length new) items) ≡ new

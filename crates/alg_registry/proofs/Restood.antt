@@ -8,7 +8,7 @@ use Rattle.std.proofs.lemmas.Bool.Decides.{nat_tests}
 use Rattle.alg_registry.specs.declared.row.Row.{Row}
 use Rattle.alg_registry.specs.Rows.{is_held, stands_on, holders, listed_at, stays_listed, counted_first, counted, standing}
 use Rattle.alg_registry.specs.Counting.{remarked, remarked_by, remarked_at, remarked_all, gave, gave_all, restood}
-use Rattle.alg_registry.specs.Held.{held_from, passes}
+use Rattle.alg_registry.specs.Held.{ids_of, held_from, is_row_listed, passes}
 use Rattle.alg_registry.proofs.Restanding.{Stands, mark, same_stays, same_push, stands-from, marks, marked-marks, weight, holders-cons, held_listed}
 use Rattle.alg_registry.proofs.Tallies.{HasFewer, uncounted, tallied, tallied-none, tally, gave-tally, skip-tally}
 
@@ -237,13 +237,14 @@ gave-held olds (old ∷ os) before (row ∷ rows) n at at' stands kin =
         rest ∙ skip-tally n before row rows at (first_dead n old row (counted (n + 1) rows) os e (kin.1 e) under (at_length n olds os old at' stands.1))
 
 -- what wasn't held isn't held again
-abbrev pub AreFewer : List Row → List Row → Type 0
-AreFewer [] [] = Unit {0}
-AreFewer [] (row ∷ rows) = ⊥
-AreFewer (old ∷ olds) [] = ⊥
-AreFewer (old ∷ olds) (row ∷ rows) = (is_held old ≡ false → is_held row ≡ false) × AreFewer olds rows
+-- those that didn't pass the test still don't
+abbrev pub AreFewer : (Row → Bool) → List Row → List Row → Type 0
+AreFewer test [] [] = Unit {0}
+AreFewer test [] (row ∷ rows) = ⊥
+AreFewer test (old ∷ olds) [] = ⊥
+AreFewer test (old ∷ olds) (row ∷ rows) = (test old ≡ false → test row ≡ false) × AreFewer test olds rows
 
-counted-fewer : (olds os rows : List Row) (n : ℕ) → n ≡ length olds → Stands olds os → AreKin os rows → AreFewer os (counted n rows)
+counted-fewer : (olds os rows : List Row) (n : ℕ) → n ≡ length olds → Stands olds os → AreKin os rows → AreFewer is_held os (counted n rows)
 counted-fewer olds [] [] n at stands kin = tt
 counted-fewer olds [] (row ∷ rows) n at stands kin = absurd kin
 counted-fewer olds (old ∷ os) [] n at stands kin = absurd kin
@@ -261,10 +262,21 @@ restands old rows stands change =
     ap (λ rs. gave_all (held_from 0 old) rs) (is.all ∙ sym (uncounted-remarks [] rows))
     ∙ (gave-held [] old [] (remarks [] rows) 0 refl refl (stands-from old stands) is.kin ∙ sym (standing-remarks rows))
 
-pub fewer : (old rows : List Row) → standing old ≡ old → AreChanged old rows → AreFewer old (standing rows)
+pub fewer : (old rows : List Row) → standing old ≡ old → AreChanged old rows → AreFewer is_held old (standing rows)
 fewer old rows stands change =
     let is = remarks-held [] [] old rows (stands-from old stands) tt change in
-    subst (AreFewer old) (sym (standing-remarks rows)) (counted-fewer [] old (remarks [] rows) 0 refl (stands-from old stands) is.kin)
+    subst (AreFewer is_held old) (sym (standing-remarks rows)) (counted-fewer [] old (remarks [] rows) 0 refl (stands-from old stands) is.kin)
+
+under_fewer : (n : ℕ) (olds rows : List Row) → Under olds rows → AreFewer is_row_listed olds (counted n rows)
+under_fewer n [] [] under = tt
+under_fewer n [] (row ∷ rows) under = absurd under
+under_fewer n (old ∷ olds) [] under = absurd under
+under_fewer n (old ∷ olds) (row ∷ rows) under = (λ e. only_false row.listed old.listed under.0 e, under_fewer (n + 1) olds rows under.1)
+
+pub fewer-listed : (old rows : List Row) → standing old ≡ old → AreChanged old rows → AreFewer is_row_listed old (standing rows)
+fewer-listed old rows stands change =
+    let is = remarks-held [] [] old rows (stands-from old stands) tt change in
+    subst (AreFewer is_row_listed old) (sym (standing-remarks rows)) (under_fewer 0 old (remarks [] rows) is.under)
 
 few_remarks : (m : ℕ) (older rows : List Row) → AllByRecursion (λ (row : Row). row.taken < m) rows → AllByRecursion (HasFewer m) (remarks older rows)
 few_remarks m older [] all = tt
@@ -281,31 +293,31 @@ at_place : (before : List Row) (row : Row) (rows : List Row) (test : Row → Boo
 at_place [] row rows test = refl
 at_place (x ∷ before) row rows test = at_place before row rows test
 
-filter_held : (before olds rows : List Row) → AreFewer olds rows → filter (passes is_held (before ++ rows)) (held_from (length before) olds) ≡ held_from (length before) rows
-filter_held before [] [] few = refl
-filter_held before [] (row ∷ rows) few = absurd few
-filter_held before (old ∷ olds) [] few = absurd few
-filter_held before (old ∷ olds) (row ∷ rows) few =
-    here (ap (λ rs. filter (passes is_held rs) (held_from (length before + 1) olds)) (sym (append_assoc before (row ∷ []) rows))
-    ∙ (ap (λ (n : ℕ). filter (passes is_held ((before ++ row ∷ []) ++ rows)) (held_from n olds)) (sym next)
-    ∙ (filter_held (before ++ row ∷ []) olds rows few.1 ∙ ap (λ (n : ℕ). held_from n rows) next)))
-    (is_held old) refl (is_held row) refl
+filter_ids : (test : Row → Bool) (before olds rows : List Row) → AreFewer test olds rows → filter (passes test (before ++ rows)) (ids_of test (length before) olds) ≡ ids_of test (length before) rows
+filter_ids test before [] [] few = refl
+filter_ids test before [] (row ∷ rows) few = absurd few
+filter_ids test before (old ∷ olds) [] few = absurd few
+filter_ids test before (old ∷ olds) (row ∷ rows) few =
+    here (ap (λ rs. filter (passes test rs) (ids_of test (length before + 1) olds)) (sym (append_assoc before (row ∷ []) rows))
+    ∙ (ap (λ (n : ℕ). filter (passes test ((before ++ row ∷ []) ++ rows)) (ids_of test n olds)) (sym next)
+    ∙ (filter_ids test (before ++ row ∷ []) olds rows few.1 ∙ ap (λ (n : ℕ). ids_of test n rows) next)))
+    (test old) refl (test row) refl
   where
     next : length (before ++ row ∷ []) ≡ length before + 1
     next = omega (arith, length-append before (row ∷ []))
 
-    this : (b : Bool) → is_held row ≡ b → passes is_held (before ++ row ∷ rows) (length before) ≡ b
-    this b e = at_place before row rows is_held ∙ e
+    this : (b : Bool) → test row ≡ b → passes test (before ++ row ∷ rows) (length before) ≡ b
+    this b e = at_place before row rows test ∙ e
 
-    here : filter (passes is_held (before ++ row ∷ rows)) (held_from (length before + 1) olds) ≡ held_from (length before + 1) rows
-        → (a : Bool) → is_held old ≡ a → (b : Bool) → is_held row ≡ b
-        → filter (passes is_held (before ++ row ∷ rows)) (cond a (length before ∷ held_from (length before + 1) olds) (held_from (length before + 1) olds))
-        ≡ cond (is_held row) (length before ∷ held_from (length before + 1) rows) (held_from (length before + 1) rows)
-    here rest true e b f = (λ i. cond (this b f i) (length before ∷ rest i) (rest i)) ∙ (λ i. cond (sym f i) (length before ∷ held_from (length before + 1) rows) (held_from (length before + 1) rows))
-    here rest false e b f = rest ∙ (λ i. cond (sym (few.0 e) i) (length before ∷ held_from (length before + 1) rows) (held_from (length before + 1) rows))
+    here : filter (passes test (before ++ row ∷ rows)) (ids_of test (length before + 1) olds) ≡ ids_of test (length before + 1) rows
+        → (a : Bool) → test old ≡ a → (b : Bool) → test row ≡ b
+        → filter (passes test (before ++ row ∷ rows)) (cond a (length before ∷ ids_of test (length before + 1) olds) (ids_of test (length before + 1) olds))
+        ≡ cond (test row) (length before ∷ ids_of test (length before + 1) rows) (ids_of test (length before + 1) rows)
+    here rest true e b f = (λ i. cond (this b f i) (length before ∷ rest i) (rest i)) ∙ (λ i. cond (sym f i) (length before ∷ ids_of test (length before + 1) rows) (ids_of test (length before + 1) rows))
+    here rest false e b f = rest ∙ (λ i. cond (sym (few.0 e) i) (length before ∷ ids_of test (length before + 1) rows) (ids_of test (length before + 1) rows))
 
-pub filter-held : (olds rows : List Row) → AreFewer olds rows → filter (passes is_held rows) (held_from 0 olds) ≡ held_from 0 rows
-filter-held olds rows few = filter_held [] olds rows few
+pub filter-ids : (test : Row → Bool) (olds rows : List Row) → AreFewer test olds rows → filter (passes test rows) (ids_of test 0 olds) ≡ ids_of test 0 rows
+filter-ids test olds rows few = filter_ids test [] olds rows few
 
 held_within : (n m : ℕ) (rows : List Row) → n + length rows ≤ m → AllByRecursion (λ (id : ℕ). id < m) (held_from n rows)
 held_within n m [] le = tt
@@ -318,19 +330,11 @@ held_within n m (row ∷ rows) le = here (is_held row) (held_within (n + 1) m ro
 pub held-within : (rows : List Row) → All (λ (id : ℕ). id < length rows) (held_from 0 rows)
 held-within rows = All-from_recursion (λ (id : ℕ). id < length rows) (held_from 0 rows) (held_within 0 (length rows) rows (omega arith))
 
-pub length-held : (n : ℕ) (rows : List Row) → length (held_from n rows) ≤ length rows
-length-held n [] = omega arith
-length-held n (row ∷ rows) = here (is_held row) (length-held (n + 1) rows)
-  where
-    here : (b : Bool) → length (held_from (n + 1) rows) ≤ length rows → length (cond b (n ∷ held_from (n + 1) rows) (held_from (n + 1) rows)) ≤ suc (length rows)
-    here true le = omega (arith, le)
-    here false le = omega (arith, le)
-
--- a change of one entry that leaves it as held as it was
-pub held-same : (n : ℕ) (rows : List Row) (p : ℕ) (row d : Row) → is_held row ≡ is_held (get_or rows p d) → held_from n (set rows p row) ≡ held_from n rows
-held-same n [] p row d same = refl
-held-same n (x ∷ rows) zero row d same = ap (λ b. cond b (n ∷ held_from (n + 1) rows) (held_from (n + 1) rows)) same
-held-same n (x ∷ rows) (suc p) row d same = ap (λ ns. cond (is_held x) (n ∷ ns) ns) (held-same (n + 1) rows p row d same)
+-- a change of one entry that passes the test where it did
+pub ids-same : (test : Row → Bool) (n : ℕ) (rows : List Row) (p : ℕ) (row d : Row) → test row ≡ test (get_or rows p d) → ids_of test n (set rows p row) ≡ ids_of test n rows
+ids-same test n [] p row d same = refl
+ids-same test n (x ∷ rows) zero row d same = ap (λ b. cond b (n ∷ ids_of test (n + 1) rows) (ids_of test (n + 1) rows)) same
+ids-same test n (x ∷ rows) (suc p) row d same = ap (λ ns. cond (test x) (n ∷ ns) ns) (ids-same test (n + 1) rows p row d same)
 
 listed_counted : (n : ℕ) (rows : List Row) (id : ℕ) → listed_at (counted n rows) id ≡ listed_at rows id
 listed_counted n [] id = refl

@@ -1,5 +1,5 @@
--- What the held entries show is what all entries show.
-use Rattle.std.proofs.Common.{◌≡◌, ℕ, suc, ◌+◌, ◌<◌, take, drop, Bool, true, false, cond, ◌&&◌, ◌||◌, ltb, List, [], ◌∷◌, ◌++◌, length, Option, Some, None, refl, sym, ap, ◌∙◌, arith, append_assoc, length-append}
+-- What the listed, or the held, entries show is what all entries show.
+use Rattle.std.proofs.Common.{◌≡◌, ℕ, suc, ◌+◌, ◌<◌, take, drop, Bool, true, false, cond, ◌&&◌, ◌||◌, List, [], ◌∷◌, ◌++◌, length, Option, Some, None, refl, sym, ap, ◌∙◌, arith, append_assoc, length-append}
 use Rattle.std.proofs.Math.ListN.{get_or}
 use Rattle.std.proofs.Math.Seq.{drop-cons}
 use Rattle.std.proofs.lemmas.List.{take-append-drop}
@@ -15,7 +15,7 @@ use Rattle.alg_registry.specs.Rows.{is_held}
 use Rattle.alg_registry.specs.Answers.{clashes_with, held_count, driver_place, may_find, better}
 use Rattle.alg_registry.specs.Calls.{own_refs, refs_answer, shown, listing}
 use Rattle.alg_registry.specs.Larvals.{best_by}
-use Rattle.alg_registry.specs.Held.{held_from, passes, decided, better_by, best_among, refs_by, refs_among, made_at, is_plain_driver, is_listed_driver}
+use Rattle.alg_registry.specs.Held.{ids_of, held_from, listed_from, is_row_listed, passes, decided, better_by, best_among, refs_by, refs_among, made_at, is_plain_driver, is_listed_driver}
 use Rattle.alg_registry.proofs.Steps.{or_none}
 
 -- what all entries decide, one after the other from the last
@@ -27,31 +27,24 @@ at_place : (before : List Row) (row : Row) (rows : List Row) → slice_get (befo
 at_place [] row rows = refl
 at_place (x ∷ before) row rows = at_place before row rows
 
-decided_held : {B : Type 0} (f : ℕ → Row → B → B) (start : B) → ((n : ℕ) (row : Row) (b : B) → is_held row ≡ false → f n row b ≡ b) → (before rows : List Row) (n : ℕ) → n ≡ length before
-    → decided f start (before ++ rows) (held_from n rows) ≡ folded f start n rows
-decided_held f start dead before [] n at = refl
-decided_held {B} f start dead before (row ∷ rows) n at =
-    here (is_held row) refl
-    (ap (λ (w : List Row). decided f start w (held_from (n + 1) rows)) (sym (append_assoc before (row ∷ []) rows))
-    ∙ decided_held f start dead (before ++ row ∷ []) rows (n + 1) (omega (arith, at, length-append before (row ∷ []))))
+decided_ids : {B : Type 0} (test : Row → Bool) (f : ℕ → Row → B → B) (start : B) → ((n : ℕ) (row : Row) (b : B) → test row ≡ false → f n row b ≡ b) → (before rows : List Row) (n : ℕ) → n ≡ length before
+    → decided f start (before ++ rows) (ids_of test n rows) ≡ folded f start n rows
+decided_ids test f start dead before [] n at = refl
+decided_ids {B} test f start dead before (row ∷ rows) n at =
+    here (test row) refl
+    (ap (λ (w : List Row). decided f start w (ids_of test (n + 1) rows)) (sym (append_assoc before (row ∷ []) rows))
+    ∙ decided_ids test f start dead (before ++ row ∷ []) rows (n + 1) (omega (arith, at, length-append before (row ∷ []))))
   where
     this : slice_get (before ++ row ∷ rows) n ≡ Some row
     this = ap (λ (k : ℕ). slice_get (before ++ row ∷ rows) k) at ∙ at_place before row rows
 
-    here : (b : Bool) → is_held row ≡ b → decided f start (before ++ row ∷ rows) (held_from (n + 1) rows) ≡ folded f start (n + 1) rows
-        → decided f start (before ++ row ∷ rows) (cond b (n ∷ held_from (n + 1) rows) (held_from (n + 1) rows)) ≡ f n row (folded f start (n + 1) rows)
+    here : (b : Bool) → test row ≡ b → decided f start (before ++ row ∷ rows) (ids_of test (n + 1) rows) ≡ folded f start (n + 1) rows
+        → decided f start (before ++ row ∷ rows) (cond b (n ∷ ids_of test (n + 1) rows) (ids_of test (n + 1) rows)) ≡ f n row (folded f start (n + 1) rows)
     here true e rest = (λ i. option_map_or (λ r. f n r (rest i)) (this i) (rest i))
     here false e rest = rest ∙ sym (dead n row (folded f start (n + 1) rows) e)
 
-decided-held : {B : Type 0} (f : ℕ → Row → B → B) (start : B) → ((n : ℕ) (row : Row) (b : B) → is_held row ≡ false → f n row b ≡ b) → (rows : List Row) → decided f start rows (held_from 0 rows) ≡ folded f start 0 rows
-decided-held f start dead rows = decided_held f start dead [] rows 0 refl
-
-not_listed : (a b : Bool) → (a || b) ≡ false → a ≡ false
-not_listed true b e = absurd cc
-not_listed false b e = refl
-
-unlisted : (row : Row) → is_held row ≡ false → row.listed ≡ false
-unlisted row e = not_listed row.listed (ltb 0 row.references) e
+decided-ids : {B : Type 0} (test : Row → Bool) (f : ℕ → Row → B → B) (start : B) → ((n : ℕ) (row : Row) (b : B) → test row ≡ false → f n row b ≡ b) → (rows : List Row) → decided f start rows (ids_of test 0 rows) ≡ folded f start 0 rows
+decided-ids test f start dead rows = decided_ids test f start dead [] rows 0 refl
 
 -- ---- whether one passes a test
 
@@ -68,14 +61,14 @@ any_folded : (test : Row → Bool) (n : ℕ) (rows : List Row) → folded (λ n 
 any_folded test n [] = refl
 any_folded test n (row ∷ rows) = ap (λ b. test row || b) (any_folded test (n + 1) rows)
 
-any-held : (test : Row → Bool) → ((row : Row) → is_held row ≡ false → test row ≡ false) → (rows : List Row) → list_any (passes test rows) (held_from 0 rows) ≡ list_any test rows
-any-held test dead rows =
-    any_decided test rows (held_from 0 rows)
-    ∙ (decided-held (λ n row b. test row || b) false (λ n row b e. ap (λ a. a || b) (dead row e)) rows ∙ any_folded test 0 rows)
+any-listed : (test : Row → Bool) → ((row : Row) → row.listed ≡ false → test row ≡ false) → (rows : List Row) → list_any (passes test rows) (listed_from 0 rows) ≡ list_any test rows
+any-listed test dead rows =
+    any_decided test rows (listed_from 0 rows)
+    ∙ (decided-ids is_row_listed (λ n row b. test row || b) false (λ n row b e. ap (λ a. a || b) (dead row e)) rows ∙ any_folded test 0 rows)
 
-pub clashes-held : (spec : Spec) (rows : List Row) → list_any (passes (clashes_with spec) rows) (held_from 0 rows) ≡ list_any (clashes_with spec) rows
-clashes-held spec rows =
-    any-held (clashes_with spec) (λ row e. ap (λ a. a && (bytes_eq row.spec.name spec.driver || bytes_eq row.spec.driver spec.driver || bytes_eq row.spec.driver spec.name)) (unlisted row e)) rows
+pub clashes-listed : (spec : Spec) (rows : List Row) → list_any (passes (clashes_with spec) rows) (listed_from 0 rows) ≡ list_any (clashes_with spec) rows
+clashes-listed spec rows =
+    any-listed (clashes_with spec) (λ row e. ap (λ a. a && (bytes_eq row.spec.name spec.driver || bytes_eq row.spec.driver spec.driver || bytes_eq row.spec.driver spec.name)) e) rows
 
 -- ---- the first that passes a test
 
@@ -95,19 +88,19 @@ find_folded : (test : Row → Bool) (n : ℕ) (rows : List Row) → folded (firs
 find_folded test n [] = refl
 find_folded test n (row ∷ rows) = ap (λ o. cond (test row) (Some n) o) (find_folded test (n + 1) rows)
 
-find-held : (test : Row → Bool) → ((row : Row) → is_held row ≡ false → test row ≡ false) → (rows : List Row) → find (passes test rows) (held_from 0 rows) ≡ position_from test 0 rows
-find-held test dead rows =
-    find_decided test rows (held_from 0 rows)
-    ∙ (decided-held (first test) None (λ n row b e. ap (λ a. cond a (Some n) b) (dead row e)) rows ∙ find_folded test 0 rows)
+find-listed : (test : Row → Bool) → ((row : Row) → row.listed ≡ false → test row ≡ false) → (rows : List Row) → find (passes test rows) (listed_from 0 rows) ≡ position_from test 0 rows
+find-listed test dead rows =
+    find_decided test rows (listed_from 0 rows)
+    ∙ (decided-ids is_row_listed (first test) None (λ n row b e. ap (λ a. cond a (Some n) b) (dead row e)) rows ∙ find_folded test 0 rows)
 
-pub driver-held : (driver : List ℕ) (rows : List Row) → find (passes (is_listed_driver driver) rows) (held_from 0 rows) ≡ driver_place rows driver
-driver-held driver rows = find-held (is_listed_driver driver) (λ row e. ap (λ a. a && bytes_eq row.spec.driver driver) (unlisted row e)) rows
+pub driver-listed : (driver : List ℕ) (rows : List Row) → find (passes (is_listed_driver driver) rows) (listed_from 0 rows) ≡ driver_place rows driver
+driver-listed driver rows = find-listed (is_listed_driver driver) (λ row e. ap (λ a. a && bytes_eq row.spec.driver driver) e) rows
 
-unfound : (plain : Bool) (row : Row) → is_held row ≡ false → may_find plain row ≡ false
-unfound plain row e = let l : row.listed ≡ false = unlisted row e in cc
+unfound : (plain : Bool) (row : Row) → row.listed ≡ false → may_find plain row ≡ false
+unfound plain row e = cc
 
-pub plain_driver-held : (text : List ℕ) (plain : Bool) (rows : List Row) → find (passes (is_plain_driver text plain) rows) (held_from 0 rows) ≡ position_from (λ row. may_find plain row && bytes_eq row.spec.driver text) 0 rows
-plain_driver-held text plain rows = find-held (is_plain_driver text plain) (λ row e. ap (λ a. a && bytes_eq row.spec.driver text) (unfound plain row e)) rows
+pub plain_driver-listed : (text : List ℕ) (plain : Bool) (rows : List Row) → find (passes (is_plain_driver text plain) rows) (listed_from 0 rows) ≡ position_from (λ row. may_find plain row && bytes_eq row.spec.driver text) 0 rows
+plain_driver-listed text plain rows = find-listed (is_plain_driver text plain) (λ row e. ap (λ a. a && bytes_eq row.spec.driver text) (unfound plain row e)) rows
 
 -- ---- how many are held
 
@@ -128,9 +121,9 @@ best_folded : (joined text : List ℕ) (plain : Bool) (n : ℕ) (rows : List Row
 best_folded joined text plain n [] = refl
 best_folded joined text plain n (row ∷ rows) = ap (λ best. better_by joined text plain n row best) (best_folded joined text plain (n + 1) rows)
 
-pub best-held : (joined text : List ℕ) (plain : Bool) (rows : List Row) → best_among joined text plain rows (held_from 0 rows) ≡ best_by joined text plain 0 rows
-best-held joined text plain rows =
-    decided-held (better_by joined text plain) None
+pub best-listed : (joined text : List ℕ) (plain : Bool) (rows : List Row) → best_among joined text plain rows (listed_from 0 rows) ≡ best_by joined text plain 0 rows
+best-listed joined text plain rows =
+    decided-ids is_row_listed (better_by joined text plain) None
     (λ n row b e. ap (λ a. cond (a && (bytes_eq row.spec.name text || list_any (λ other. Rattle.std.specs.Bool.◌==◌ other n) joined)) (better n row b) b) (unfound plain row e)) rows
     ∙ best_folded joined text plain 0 rows
 
@@ -140,7 +133,7 @@ refs_folded driver n (row ∷ rows) = ap (λ found. refs_by driver n row found) 
 
 pub refs-held : (driver : List ℕ) (rows : List Row) → refs_among driver rows (held_from 0 rows) ≡ refs_answer rows driver
 refs-held driver rows =
-    decided-held (refs_by driver) None
+    decided-ids is_held (refs_by driver) None
     (λ n row found e. ap (λ b. option_or found (cond (b && bytes_eq row.spec.driver driver) (Some (record { count = row.references; listed = row.listed })) None)) e ∙ or_none found) rows
     ∙ refs_folded driver 0 rows
 
@@ -192,9 +185,9 @@ map_folded : {B : Type 0} (make : Row → Option B) (n : ℕ) (rows : List Row) 
 map_folded make n [] = refl
 map_folded make n (row ∷ rows) = ap (λ rest. cons_option (make row) rest) (map_folded make (n + 1) rows)
 
-pub shown-held : (rows : List Row) → filter_map (made_at shown rows) (held_from 0 rows) ≡ listing rows
-shown-held rows =
-    map_decided shown rows (held_from 0 rows)
-    ∙ (decided-held (shows shown) []
-    (λ n row rest e. ap (λ b. cons_option (cond b (Some (record { name = row.spec.name; driver = row.spec.driver; priority = row.spec.priority; refs = row.references })) None) rest) (unlisted row e)) rows
+pub shown-listed : (rows : List Row) → filter_map (made_at shown rows) (listed_from 0 rows) ≡ listing rows
+shown-listed rows =
+    map_decided shown rows (listed_from 0 rows)
+    ∙ (decided-ids is_row_listed (shows shown) []
+    (λ n row rest e. ap (λ b. cons_option (cond b (Some (record { name = row.spec.name; driver = row.spec.driver; priority = row.spec.priority; refs = row.references })) None) rest) e) rows
     ∙ map_folded shown 0 rows)

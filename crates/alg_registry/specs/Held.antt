@@ -14,17 +14,29 @@ pub record RowTable : Type 0 where
   pub list : List Row
   pub spare : ℕ
 
--- the ids of these entries that are held, where the first has this id
-abbrev pub held_from : ℕ → List Row → List ℕ
-held_from id [] = []
-held_from id (row ∷ rows) = if is_held row then id ∷ held_from (id + 1) rows else held_from (id + 1) rows
+-- the ids of these entries that pass the test, where the first has this id
+abbrev pub ids_of : (Row → Bool) → ℕ → List Row → List ℕ
+ids_of test id [] = []
+ids_of test id (row ∷ rows) = if test row then id ∷ ids_of test (id + 1) rows else ids_of test (id + 1) rows
 
--- what a table keeps: its entries stand as they should, the held ids are all that are held, and there is room for more
-pub record IsRowTable (all : List Row) (held : List ℕ) (spare room held_room : ℕ) : Type 0 where
+abbrev pub held_from : ℕ → List Row → List ℕ
+held_from id rows = ids_of is_held id rows
+
+abbrev pub is_row_listed : Row → Bool
+is_row_listed row = row.listed
+
+abbrev pub listed_from : ℕ → List Row → List ℕ
+listed_from id rows = ids_of is_row_listed id rows
+
+-- What a table keeps: its entries stand as they should, the held ids are all that are held, the listed ids all that are listed, and
+-- there is room for more.
+pub record IsRowTable (all : List Row) (held listed : List ℕ) (spare room held_room listed_room : ℕ) : Type 0 where
   pub stands : standing all ≡ all
   pub held_are : held ≡ held_from 0 all
+  pub listed_are : listed ≡ listed_from 0 all
   pub fits : length all + spare ≤ room
   pub held_fits : length held + spare ≤ held_room
+  pub listed_fits : length listed + spare ≤ listed_room
 
 -- the entry of the id passes the test
 abbrev pub passes : (Row → Bool) → List Row → ℕ → Bool

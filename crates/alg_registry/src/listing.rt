@@ -124,11 +124,11 @@ fn shown_at(alloc: Global, all: &[Row], id: u64) -> Result<Option<ListRow>, Allo
     }
 }
 
-fn shown_among(alloc: Global, all: &[Row], held: &[u64]) -> Result<Vec<ListRow>, AllocError>
-    ensures { IfOk result (λ found. found.items ≡ filter_map (made_at shown all.now) held.now) }
+fn shown_among(alloc: Global, all: &[Row], listed: &[u64]) -> Result<Vec<ListRow>, AllocError>
+    ensures { IfOk result (λ found. found.items ≡ filter_map (made_at shown all.now) listed.now) }
 {
     let mut found = Vec::new(alloc);
-    for id in held {
+    for id in listed {
         let answer = shown_at(alloc, all, *id)?;
         push_shown(&mut found, answer)?;
     }
@@ -139,6 +139,6 @@ fn shown_among(alloc: Global, all: &[Row], held: &[u64]) -> Result<Vec<ListRow>,
 pub fn listing_of(alloc: Global, rows: &Rows) -> Result<Listing, AllocError>
     ensures { IfOk result (λ answer. answer ≡ listing rows.now.list) }
 {
-    let found = shown_among(alloc, rows.all(), rows.held())?;
+    let found = shown_among(alloc, rows.all(), rows.listed())?;
     Ok(Listing { rows: found })
 }

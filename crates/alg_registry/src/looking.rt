@@ -66,21 +66,21 @@ fn better_at(
     }
 }
 
-/// The best of the held entries that answer to the text, where larvals of it ended with those of the ids.
+/// The best of the listed entries that answer to the text, where larvals of it ended with those of the ids `joined`.
 fn best_of(
     all: &[Row],
-    held: &[u64],
+    listed: &[u64],
     joined: &[u64],
     text: &[u8],
     plain: bool,
 ) -> Option<(u64, u32)>
-    ensures { result ≡ best_among joined.now text.now plain all.now held.now }
+    ensures { result ≡ best_among joined.now text.now plain all.now listed.now }
 {
     let mut best = None;
-    let mut i = held.len();
+    let mut i = listed.len();
     while i > 0 {
         i -= 1;
-        best = better_at(all, held[i], joined, text, plain, best);
+        best = better_at(all, listed[i], joined, text, plain, best);
     }
     best
 }
@@ -94,10 +94,11 @@ fn is_plain_driver_at(all: &[Row], id: u64, text: &[u8], plain: bool) -> bool
     }
 }
 
-fn find_plain_driver(all: &[Row], held: &[u64], text: &[u8], plain: bool) -> Option<u64>
-    ensures { result ≡ find (passes (is_plain_driver text.now plain) all.now) held.now }
+fn find_plain_driver(all: &[Row], listed: &[u64], text: &[u8], plain: bool) -> Option<u64>
+    ensures { result ≡ find (passes (is_plain_driver text.now plain) all.now) listed.now }
 {
-    held.iter()
+    listed
+        .iter()
         .copied()
         .find(|id| is_plain_driver_at(all, *id, text, plain))
 }
@@ -136,11 +137,11 @@ pub fn look_up(
     ensures ok { IfOk result (λ answer. answer ≡ look_answer rows.now.list larvals.now.list text.now plain) }
     ensures err { IfErr result (λ e. e ≡ RegErr.Memory) }
 {
-    if let Some(id) = find_plain_driver(rows.all(), rows.held(), text, plain) {
+    if let Some(id) = find_plain_driver(rows.all(), rows.listed(), text, plain) {
         return Ok(Looked::Found(id));
     }
     let joined = larvals.joined(alloc, text)?;
-    match best_of(rows.all(), rows.held(), &joined, text, plain) {
+    match best_of(rows.all(), rows.listed(), &joined, text, plain) {
         Some((id, _priority)) => Ok(Looked::Found(id)),
         None => Ok(answer_unfound(larvals, text)),
     }

@@ -1,6 +1,6 @@
-//! The table of entries: scans over those that are held, and what calls change in it.
+//! The table of entries: scans over those that are listed, and what calls change in it.
 
-ghost use Rattle.std.specs.Prelude.{◌≡◌, ℕ, ◌+◌, ◌-◌, ◌^◌, ◌<◌, ◌≤◌, ◌&&◌, ◌++◌, ◌∷◌, [], true, length, vec_capacity, slice_set, slice_index_or, All, OnOk, IfErr};
+ghost use Rattle.std.specs.Prelude.{◌≡◌, ℕ, ◌+◌, ◌-◌, ◌^◌, ◌<◌, ◌≤◌, ◌&&◌, ◌++◌, ◌∷◌, [], true, false, length, vec_capacity, slice_set, slice_index_or, All, OnOk, IfErr};
 ghost use Rattle.std.specs.List.{list_any, list_all, find, filter, position_from};
 ghost use Rattle.std.specs.Str.{bytes_eq};
 ghost use Rattle.alg_registry.specs.declared.row.Row.{Row};
@@ -8,9 +8,9 @@ ghost use Rattle.alg_registry.specs.Rows.{listed_at, standing, is_held};
 ghost use Rattle.alg_registry.specs.Answers.{clashes_with, held_count, driver_place};
 ghost use Rattle.alg_registry.specs.Alone.{stands_on_nothing, unlists_alone, puts_alone};
 ghost use Rattle.alg_registry.specs.Calls.{unlisted_row, taken_row, put_row_of, new_row, listed_row_of};
-ghost use Rattle.alg_registry.specs.Held.{RowTable, held_from, passes, is_listed_driver};
+ghost use Rattle.alg_registry.specs.Held.{RowTable, held_from, listed_from, is_row_listed, passes, is_listed_driver};
 
-use crate::counting::{add_references, is_row_held, restand};
+use crate::counting::{add_references, is_listed_at, is_row_held, restand};
 use crate::entry::RegErr;
 use crate::row::Row;
 use crate::spec::Spec;
@@ -43,10 +43,10 @@ fn does_clash_at(all: &[Row], id: u64, spec: &Spec) -> bool
     }
 }
 
-fn do_clash(all: &[Row], held: &[u64], spec: &Spec) -> bool
-    ensures { result ≡ list_any (passes (clashes_with spec.now) all.now) held.now }
+fn do_clash(all: &[Row], listed: &[u64], spec: &Spec) -> bool
+    ensures { result ≡ list_any (passes (clashes_with spec.now) all.now) listed.now }
 {
-    held.iter().any(|id| does_clash_at(all, *id, spec))
+    listed.iter().any(|id| does_clash_at(all, *id, spec))
 }
 
 fn is_driver_at(all: &[Row], id: u64, driver: &[u8]) -> bool
@@ -58,10 +58,11 @@ fn is_driver_at(all: &[Row], id: u64, driver: &[u8]) -> bool
     }
 }
 
-fn find_driver(all: &[Row], held: &[u64], driver: &[u8]) -> Option<u64>
-    ensures { result ≡ find (passes (is_listed_driver driver.now) all.now) held.now }
+fn find_driver(all: &[Row], listed: &[u64], driver: &[u8]) -> Option<u64>
+    ensures { result ≡ find (passes (is_listed_driver driver.now) all.now) listed.now }
 {
-    held.iter()
+    listed
+        .iter()
         .copied()
         .find(|id| is_driver_at(all, *id, driver))
 }
@@ -81,6 +82,14 @@ fn let_go(held: &mut Vec<u64>, all: &[Row])
     ensures capacity { vec_capacity held.old ≤ vec_capacity held.new }
 {
     held.retain(|id| is_held_at(all, *id));
+}
+
+/// Takes those off the list that are listed no more.
+fn strike_unlisted(listed: &mut Vec<u64>, all: &[Row])
+    ensures items { listed.new.items ≡ filter (passes is_row_listed all.now) listed.old.items }
+    ensures capacity { vec_capacity listed.old ≤ vec_capacity listed.new }
+{
+    listed.retain(|id| is_listed_at(all, *id));
 }
 
 fn does_stand_on_nothing(row: &Row) -> bool
@@ -123,22 +132,26 @@ fn unlist_row(rows: &mut [Row], held: &[u64], place: usize)
     }
 }
 
-fn put_row(rows: &mut [Row], held: &[u64], place: usize)
+/// Gives a reference back that was taken, and says whether an entry may be held no more.
+fn put_row(rows: &mut [Row], held: &[u64], place: usize) -> bool
     requires within { place < length rows.old }
     requires taken { (d : Row) → 0 < (slice_index_or rows.old place d).taken }
     requires few { All (λ row. row.taken < 2 ^ 61) rows.old }
     requires stands { standing rows.old ≡ rows.old }
     requires held { held.now ≡ held_from 0 rows.old }
-    ensures { (d : Row) → rows.new ≡ standing (slice_set rows.old place (put_row_of (slice_index_or rows.old place d))) }
+    ensures rows { (d : Row) → rows.new ≡ standing (slice_set rows.old place (put_row_of (slice_index_or rows.old place d))) }
+    ensures same { result ≡ false → (held_from 0 rows.new ≡ held_from 0 rows.old) × (listed_from 0 rows.new ≡ listed_from 0 rows.old) }
 {
     if does_put_alone(&rows[place]) {
         let row = &mut rows[place];
         row.taken -= 1;
         row.references -= 1;
+        !is_row_held(row)
     } else {
         let row = &mut rows[place];
         row.taken -= 1;
         restand(rows, held);
+        true
     }
 }
 
@@ -149,6 +162,8 @@ pub struct Rows {
     all: Vec<Row>,
     /// The ids of those that are held, ascending. No other changes ever again.
     held: Vec<u64>,
+    /// The ids of those that are listed, ascending. No other is found, nor clashes with a new one.
+    listed: Vec<u64>,
     spare: usize,
 }
 
@@ -160,7 +175,7 @@ impl Model for Rows {
 
     ghost view = { λ r. record { list = r.all.items; spare = r.spare } };
 
-    ghost invariant = { λ r. IsRowTable r.all.items r.held.items r.spare (vec_capacity r.all) (vec_capacity r.held) };
+    ghost invariant = { λ r. IsRowTable r.all.items r.held.items r.listed.items r.spare (vec_capacity r.all) (vec_capacity r.held) (vec_capacity r.listed) };
 }
 
 impl Rows {
@@ -171,6 +186,7 @@ impl Rows {
         Rows {
             all: Vec::new(alloc),
             held: Vec::new(alloc),
+            listed: Vec::new(alloc),
             spare: 0,
         }
     }
@@ -188,6 +204,13 @@ impl Rows {
         ensures { result.now ≡ held_from 0 self.now.list }
     {
         self.held.as_slice()
+    }
+
+    /// The ids of those that are listed, ascending.
+    pub fn listed(&self) -> &[u64]
+        ensures { result.now ≡ listed_from 0 self.now.list }
+    {
+        self.listed.as_slice()
     }
 
     /// How many entries there ever were.
@@ -208,14 +231,14 @@ impl Rows {
     pub fn clashes(&self, spec: &Spec) -> bool
         ensures { result ≡ list_any (clashes_with spec.now) self.now.list }
     {
-        do_clash(&self.all, &self.held, spec)
+        do_clash(&self.all, &self.listed, spec)
     }
 
     /// The listed entry of the driver.
     pub fn place_of_driver(&self, driver: &[u8]) -> Option<u64>
         ensures { result ≡ driver_place self.now.list driver.now }
     {
-        find_driver(&self.all, &self.held, driver)
+        find_driver(&self.all, &self.listed, driver)
     }
 
     /// Makes room for one more entry. Want of memory leaves the entries as they were.
@@ -224,7 +247,10 @@ impl Rows {
         ensures room { OnOk result (0 < self.new.spare) }
         ensures memory { IfErr result (λ e. e ≡ RegErr.Memory) }
     {
-        if self.all.reserve(1).is_err() || self.held.reserve(1).is_err() {
+        if self.all.reserve(1).is_err()
+            || self.held.reserve(1).is_err()
+            || self.listed.reserve(1).is_err()
+        {
             return Err(RegErr::Memory);
         }
         self.spare = self.spare.max(1);
@@ -240,7 +266,9 @@ impl Rows {
         ensures room { self.new.spare ≡ self.old.spare - 1 }
     {
         add_references(&mut self.all, spec.below.as_slice());
-        self.held.push_reserved(self.all.len() as u64);
+        let id = self.all.len() as u64;
+        self.held.push_reserved(id);
+        self.listed.push_reserved(id);
         self.all.push_reserved(Row {
             spec,
             unlisted: false,
@@ -260,6 +288,7 @@ impl Rows {
     {
         unlist_row(&mut self.all, &self.held, place);
         let_go(&mut self.held, &self.all);
+        strike_unlisted(&mut self.listed, &self.all);
     }
 
     /// Takes a reference to a listed entry.
@@ -282,7 +311,9 @@ impl Rows {
         ensures list { (d : Row) → self.new.list ≡ standing (slice_set self.old.list place (put_row_of (slice_index_or self.old.list place d))) }
         ensures room { self.new.spare ≡ self.old.spare }
     {
-        put_row(&mut self.all, &self.held, place);
-        let_go(&mut self.held, &self.all);
+        if put_row(&mut self.all, &self.held, place) {
+            let_go(&mut self.held, &self.all);
+            strike_unlisted(&mut self.listed, &self.all);
+        }
     }
 }

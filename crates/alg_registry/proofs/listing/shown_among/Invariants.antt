@@ -5,4 +5,4 @@ use Rattle.alg_registry.specs.Held.{made_at}
 use Rattle.alg_registry.proofs.listing.shown_among.Given as goal
 
 abbrev pub invariant-loop-id : goal.invariant-loop-id
-invariant-loop-id l = l.found.items ≡ filter_map (made_at shown l.all) (take l.id-index l.held)
+invariant-loop-id l = l.found.items ≡ filter_map (made_at shown l.all) (take l.id-index l.listed)

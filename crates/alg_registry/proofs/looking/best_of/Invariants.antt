@@ -5,8 +5,8 @@ use Rattle.alg_registry.proofs.looking.best_of.Given as goal
 -- the best of the entries whose ids stand from i on
 abbrev pub invariant-loop-i : goal.invariant-loop-i
 invariant-loop-i l = record {
-  within : l.i ≤ length l.held;
-  best : l.best ≡ best_among l.joined l.text l.plain l.all (drop l.i l.held);
+  within : l.i ≤ length l.listed;
+  best : l.best ≡ best_among l.joined l.text l.plain l.all (drop l.i l.listed);
 }
 
 abbrev pub decreases-loop-i : goal.decreases-loop-i

@@ -4,11 +4,11 @@ use Rattle.alg_registry.specs.declared.row.Row.{Row}
 use Rattle.alg_registry.specs.Rows.{listed_at, standing}
 use Rattle.alg_registry.specs.Calls.{new_row, listed_row_of}
 use Rattle.alg_registry.specs.Counting.{referred}
-use Rattle.alg_registry.specs.Held.{RowTable, held_from}
+use Rattle.alg_registry.specs.Held.{RowTable, held_from, listed_from}
 use Rattle.alg_registry.proofs.Restanding.{standing-twice}
 use Rattle.alg_registry.proofs.Tallies.{HasFewer}
 use Rattle.alg_registry.proofs.Changing.{whole, few-standing}
-use Rattle.alg_registry.proofs.Adding.{add-standing, held-added, length-referred}
+use Rattle.alg_registry.proofs.Adding.{add-standing, held-added, listed-added, length-referred}
 use Rattle.alg_registry.proofs.rows.Rows.add.Goals as goal
 
 pub add_references-requires : goal.add_references-requires
@@ -30,16 +30,20 @@ invariant_of-self c =
     let listed : list_all (listed_at rows) below ≡ true = ap (λ (rs : List Row). list_all (listed_at rs) below) list ∙ c.requires.listed in
     let all : take c.self.inside.all.len (older ++ drop (length older) rows) ≡ older = whole c.self.inside.all.len older rows (omega (arith, c.add_references.auto.older, c.deref_mut.ensures.len)) in
     let gave : older ≡ referred 0 below rows = c.add_references.ensures ∙ (λ i. referred 0 (c.as_slice.ensures i) (c.deref_mut.ensures.value i)) in
-    let new : c.push_reserved-2.new.self.items ≡ referred 0 below rows ++ last ∷ [] = c.push_reserved-2.ensures.items ∙ ap (λ (rs : List Row). rs ++ last ∷ []) (all ∙ gave) in
-    let is : c.push_reserved-2.new.self.items ≡ standing (rows ++ new_row c.args.spec ∷ []) = new ∙ add-standing rows c.args.spec c.self.invariant.stands listed in
-    let id : c.len.result ≡ length rows = omega (arith, c.len.ensures, c.deref_mut.ensures.len, ap length c.deref_mut.ensures.value) in
+    let new : c.push_reserved-3.new.self.items ≡ referred 0 below rows ++ last ∷ [] = c.push_reserved-3.ensures.items ∙ ap (λ (rs : List Row). rs ++ last ∷ []) (all ∙ gave) in
+    let is : c.push_reserved-3.new.self.items ≡ standing (rows ++ new_row c.args.spec ∷ []) = new ∙ add-standing rows c.args.spec c.self.invariant.stands listed in
+    let id : c.len-id.result ≡ length rows = omega (arith, c.len-id.ensures, c.deref_mut.ensures.len, ap length c.deref_mut.ensures.value) in
     record {
       stands = ap standing is ∙ (standing-twice (rows ++ new_row c.args.spec ∷ []) ∙ sym is);
       held_are = c.push_reserved.ensures.items
-          ∙ (ap (λ (ids : List ℕ). ids ++ c.len.result ∷ []) c.self.invariant.held_are
-          ∙ (sym (held-added below rows last c.len.result listed refl id) ∙ ap (λ (rs : List Row). held_from 0 rs) (sym new)));
-      fits = omega (arith, c.self.invariant.fits, c.requires.room, spare, ap length new, length-append (referred 0 below rows) (last ∷ []), length-referred 0 below rows, c.push_reserved-2.ensures.capacity);
-      held_fits = omega (arith, c.self.invariant.held_fits, c.requires.room, spare, ap length c.push_reserved.ensures.items, length-append c.self.inside.held.items (c.len.result ∷ []), c.push_reserved.ensures.capacity);
+          ∙ (ap (λ (ids : List ℕ). ids ++ c.len-id.result ∷ []) c.self.invariant.held_are
+          ∙ (sym (held-added below rows last c.len-id.result listed refl id) ∙ ap (λ (rs : List Row). held_from 0 rs) (sym new)));
+      listed_are = c.push_reserved-2.ensures.items
+          ∙ (ap (λ (ids : List ℕ). ids ++ c.len-id.result ∷ []) c.self.invariant.listed_are
+          ∙ (sym (listed-added below rows last c.len-id.result refl id) ∙ ap (λ (rs : List Row). listed_from 0 rs) (sym new)));
+      fits = omega (arith, c.self.invariant.fits, c.requires.room, spare, ap length new, length-append (referred 0 below rows) (last ∷ []), length-referred 0 below rows, c.push_reserved-3.ensures.capacity);
+      held_fits = omega (arith, c.self.invariant.held_fits, c.requires.room, spare, ap length c.push_reserved.ensures.items, length-append c.self.inside.held.items (c.len-id.result ∷ []), c.push_reserved.ensures.capacity);
+      listed_fits = omega (arith, c.self.invariant.listed_fits, c.requires.room, spare, ap length c.push_reserved-2.ensures.items, length-append c.self.inside.listed.items (c.len-id.result ∷ []), c.push_reserved-2.ensures.capacity);
     }
 
 pub returns-clause-list : goal.returns-clause-list
@@ -52,5 +56,5 @@ returns-clause-list c =
     let listed : list_all (listed_at rows) below ≡ true = ap (λ (rs : List Row). list_all (listed_at rs) below) list ∙ c.requires.listed in
     let all : take c.self.inside.all.len (older ++ drop (length older) rows) ≡ older = whole c.self.inside.all.len older rows (omega (arith, c.add_references.auto.older, c.deref_mut.ensures.len)) in
     let gave : older ≡ referred 0 below rows = c.add_references.ensures ∙ (λ i. referred 0 (c.as_slice.ensures i) (c.deref_mut.ensures.value i)) in
-    let new : c.push_reserved-2.new.self.items ≡ referred 0 below rows ++ last ∷ [] = c.push_reserved-2.ensures.items ∙ ap (λ (rs : List Row). rs ++ last ∷ []) (all ∙ gave) in
+    let new : c.push_reserved-3.new.self.items ≡ referred 0 below rows ++ last ∷ [] = c.push_reserved-3.ensures.items ∙ ap (λ (rs : List Row). rs ++ last ∷ []) (all ∙ gave) in
     new ∙ (add-standing rows c.args.spec c.self.invariant.stands listed ∙ ap (λ (rs : List Row). standing (rs ++ new_row c.args.spec ∷ [])) list)

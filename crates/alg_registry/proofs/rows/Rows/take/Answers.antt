@@ -4,11 +4,11 @@ use Rattle.std.specs.List.{All}
 use Rattle.alg_registry.specs.declared.row.Row.{Row}
 use Rattle.alg_registry.specs.Rows.{listed_at, standing}
 use Rattle.alg_registry.specs.Calls.{taken_row}
-use Rattle.alg_registry.specs.Held.{RowTable, held_from}
+use Rattle.alg_registry.specs.Held.{RowTable, held_from, listed_from}
 use Rattle.alg_registry.proofs.Fresh.{is_listed-within}
 use Rattle.alg_registry.proofs.Restanding.{standing-twice}
 use Rattle.alg_registry.proofs.Tallies.{HasFewer}
-use Rattle.alg_registry.proofs.Changing.{a_row, take-lone, take-held, few-standing}
+use Rattle.alg_registry.proofs.Changing.{a_row, take-lone, take-held, take-listed, few-standing}
 use Rattle.alg_registry.proofs.rows.Rows.take.Goals as goal
 
 pub overflow_add-row-2 : goal.overflow_add-row-2
@@ -36,11 +36,15 @@ invariant_of-self c =
     let is = same rows c.args.place row a_row e listed c.self.invariant.stands in
     let held : held_from 0 (set rows c.args.place (record row { taken = row.taken + 1; references = row.references + 1 })) ≡ held_from 0 rows =
     (λ i. held_from 0 (set rows c.args.place (let r : Row = e i in record r { taken = r.taken + 1; references = r.references + 1 }))) ∙ take-held rows c.args.place row listed in
+    let others : listed_from 0 (set rows c.args.place (record row { taken = row.taken + 1; references = row.references + 1 })) ≡ listed_from 0 rows =
+    (λ i. listed_from 0 (set rows c.args.place (let r : Row = e i in record r { taken = r.taken + 1; references = r.references + 1 }))) ∙ take-listed rows c.args.place row in
     record {
       stands = ap standing is ∙ (standing-twice (set rows c.args.place (taken_row (get_or rows c.args.place a_row))) ∙ sym is);
       held_are = c.self.invariant.held_are ∙ sym held;
+      listed_are = c.self.invariant.listed_are ∙ sym others;
       fits = omega (arith, c.self.invariant.fits, length-set rows c.args.place (record row { taken = row.taken + 1; references = row.references + 1 }));
       held_fits = c.self.invariant.held_fits;
+      listed_fits = c.self.invariant.listed_fits;
     }
 
 pub returns-clause-list : goal.returns-clause-list
