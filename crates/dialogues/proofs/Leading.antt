@@ -3,7 +3,6 @@ use Rattle.std.proofs.Common.{◌≡◌, ℕ, ◌+◌, List, [], ◌∷◌, ◌+
 use Rattle.std.proofs.lemmas.Grind.{flat_map-append}
 use Rattle.alg_registry.specs.declared.entry.RegEntry.{RegEntry}
 use Rattle.board.specs.declared.entry.BoardEntry.{BoardEntry}
-use Rattle.kc_base.specs.Streams.{IsPrefix}
 use Rattle.reply_text.specs.Answers.{text_of}
 use Rattle.script_text.specs.declared.commands.Line.{Line}
 use Rattle.transforms.specs.declared.ask.Ask.{Ask}
@@ -13,7 +12,7 @@ use Rattle.dialogues.specs.Dialogues.{Dialogue, followed}
 use Rattle.dialogues.specs.Piping.{end}
 use Rattle.dialogues.specs.Leading.{Leads}
 use Rattle.dialogues.specs.Lines.{line_dialogue, lines_dialogue, script}
-use Rattle.dialogues.specs.Texts.{turn_in, IsText, IsFrontText}
+use Rattle.dialogues.specs.Texts.{turn_in, IsText}
 use Rattle.dialogues.specs.Turns.{Turn, ended, joined, turn_of, text_in, IsTurn}
 use Rattle.dialogues.specs.Walk.{Walk}
 use Rattle.dialogues.proofs.Following.{Takes, goes-on}
@@ -56,14 +55,6 @@ leads-on workers walk now after n m lines left line t u leads is to = λ rest r 
     ∙ sym (joined-assoc t u (turn_of (rest_of after) r b)))))
 
 -- ---- texts
-
--- what is done so far is a front of the text
-pub front-text : (workers : ℕ) (walk now : Walk) (caller m : ℕ) (lines left : List Line) (t : Turn) (r : List RegEntry) (b : List (BoardEntry Ask)) (more_r : List RegCall) (more_b : List BoardCall) (text : List ℕ)
-    → Leads workers walk 1 lines t now m left → reg_calls caller r ≡ t.registry ++ more_r → board_calls caller b ≡ t.board ++ more_b → IsPrefix text (text_in t) → IsFrontText workers walk caller lines r b text
-front-text workers walk now caller m lines left t r b more_r more_b text leads at_r at_b front =
-    let rest : Turn = turn_of (lines_dialogue workers now m left end) more_r more_b in
-    let is : turn_in workers walk caller lines r b ≡ joined t rest = ap (λ cs. turn_of (script workers walk lines) cs (board_calls caller b)) at_r ∙ (ap (turn_of (script workers walk lines) (t.registry ++ more_r)) at_b ∙ leads end more_r more_b) in
-    (front.0 ++ text_in rest, sym (append_assoc text front.0 (text_in rest)) ∙ (ap (λ x. x ++ text_in rest) front.1 ∙ (sym (text-joined t rest) ∙ sym (ap text_in is))))
 
 -- with the end of input it is the text
 pub whole-text : (workers : ℕ) (walk now after : Walk) (caller m : ℕ) (lines : List Line) (t u : Turn) (r : List RegEntry) (b : List (BoardEntry Ask))

@@ -1,6 +1,5 @@
 -- Laws: how first lines lead to what is left of a script.
 use Rattle.std.specs.Prelude.{ℕ, ◌+◌, ◌≡◌, List, [], ◌∷◌, ◌++◌, Some}
-use Rattle.kc_base.specs.Streams.{IsPrefix}
 use Rattle.alg_registry.specs.declared.entry.RegEntry.{RegEntry}
 use Rattle.board.specs.declared.entry.BoardEntry.{BoardEntry}
 use Rattle.script_text.specs.declared.commands.Line.{Line}
@@ -10,7 +9,7 @@ use Rattle.dialogues.specs.Dialogues.{Dialogue}
 use Rattle.dialogues.specs.Lines.{line_dialogue, lines_dialogue}
 use Rattle.dialogues.specs.Piping.{end}
 use Rattle.dialogues.specs.RegistryCalls.{RegCall, reg_calls}
-use Rattle.dialogues.specs.Texts.{IsText, IsFrontText}
+use Rattle.dialogues.specs.Texts.{IsText}
 use Rattle.dialogues.specs.Turns.{Turn, ended, joined, turn_of, text_in, IsTurn}
 use Rattle.dialogues.specs.Walk.{Walk}
 
@@ -30,13 +29,6 @@ abbrev pub LeadsOn : Type 0
 LeadsOn =
     (workers : ℕ) (walk now after : Walk) (n m : ℕ) (lines left : List Line) (line : Line) (t u : Turn) → Leads workers walk n lines t now m (line ∷ left)
     → IsTurn (line_dialogue workers now m line) u → u.after ≡ Some after → Leads workers walk n lines (joined t u) after (m + 1) left
-
--- what the lines so far print is a front of the text
-abbrev pub LeadsFront : Type 0
-LeadsFront =
-    (workers : ℕ) (walk now : Walk) (caller m : ℕ) (lines left : List Line) (t : Turn) (r : List RegEntry) (b : List (BoardEntry Ask)) (more_r : List RegCall) (more_b : List BoardCall) (text : List ℕ)
-    → Leads workers walk 1 lines t now m left → reg_calls caller r ≡ t.registry ++ more_r → board_calls caller b ≡ t.board ++ more_b
-    → IsPrefix text (text_in t) → IsFrontText workers walk caller lines r b text
 
 -- with the end of input it is the text
 abbrev pub LeadsToEnd : Type 0

@@ -1,6 +1,5 @@
 -- The text of a script over the histories of its registry and its board.
 use Rattle.std.specs.Prelude.{ℕ, ◌≡◌, List, IsSome}
-use Rattle.kc_base.specs.Streams.{IsPrefix}
 use Rattle.alg_registry.specs.declared.entry.RegEntry.{RegEntry}
 use Rattle.board.specs.declared.entry.BoardEntry.{BoardEntry}
 use Rattle.script_text.specs.declared.commands.Line.{Line}
@@ -21,7 +20,3 @@ pub record IsText (workers : ℕ) (walk : Walk) (caller : ℕ) (lines : List Lin
   pub board : (turn_in workers walk caller lines r b).board ≡ board_calls caller b
   pub ended : IsSome (turn_in workers walk caller lines r b).after
   pub text_is : text ≡ text_in (turn_in workers walk caller lines r b)
-
--- This is a front of what the lines print whose calls are all in the histories.
-abbrev pub IsFrontText : ℕ → Walk → ℕ → List Line → List RegEntry → List (BoardEntry Ask) → List ℕ → Type 0
-IsFrontText workers walk caller lines r b text = IsPrefix text (text_in (turn_in workers walk caller lines r b))

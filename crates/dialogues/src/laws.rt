@@ -8,7 +8,7 @@ ghost use Rattle.transforms.specs.declared.ask.Ask.{Ask};
 ghost use Rattle.dialogues.specs.BoardCalls.{BoardCall};
 ghost use Rattle.dialogues.specs.Dialogues.{Dialogue, followed};
 ghost use Rattle.dialogues.specs.GoingOn.{RegisteredStays, FoundStays, RegistryCallsGoOn, RegistryCallsJoin, RegistryUnasked, BoardCallsGoOn, BoardCallsJoin, BoardUncalled, NoCall, OneCall, OneLook, NothingThenCalls, CallsThenCalls, CallsInTurnAre, InTurnByAny, InTurnByOne, InTurnByMore, LooksAtOnce, NothingThenCallsBy, CallsThenCallsBy, CallsByAre};
-ghost use Rattle.dialogues.specs.Leading.{LeadsNowhere, LeadsOn, LeadsFront, LeadsToEnd};
+ghost use Rattle.dialogues.specs.Leading.{LeadsNowhere, LeadsOn, LeadsToEnd};
 ghost use Rattle.dialogues.specs.References.{ReferencesFollow};
 ghost use Rattle.dialogues.specs.RegistryCalls.{RegCall};
 ghost use Rattle.dialogues.specs.Texts.{IsText};
@@ -69,7 +69,6 @@ pub fn calls_at_once()
 pub fn lines_lead()
     ensures nowhere { LeadsNowhere }
     ensures on { LeadsOn }
-    ensures front { LeadsFront }
     ensures end { LeadsToEnd }
 {}
 

@@ -1,5 +1,5 @@
-use Rattle.dialogues.proofs.Leading.{leads-nowhere, leads-on, front-text, whole-text}
+use Rattle.dialogues.proofs.Leading.{leads-nowhere, leads-on, whole-text}
 use Rattle.dialogues.proofs.laws.lines_lead.Goals as goal
 
 pub returns : goal.returns
-returns c = record { nowhere = leads-nowhere; on = leads-on; front = front-text; end = whole-text }
+returns c = record { nowhere = leads-nowhere; on = leads-on; end = whole-text }
