@@ -153,9 +153,9 @@ pub fn run<S: Source, K: Sink, G: Gate + Sync, R: Threads + Wait + Sync>(
     ensures faithful { Made table result.registry }
     ensures callers { AreCallers (workers_in (map string_bytes words.now)) result.registry result.board }
 
-    // Whatever ended the run, once anything was recorded on the board it was shut; after that the workers alone made entries, and all
-    // of these are work. So beside no workers the shut is last.
-    ensures closed { (result.board ≡ []) ⊎ IsShutOnce (workers_in (map string_bytes words.now)) result.board }
+    // Whatever ended the run, the board was shut once; after that the workers alone made entries, and all of these are work. So
+    // beside no workers the shut is last. Only under 2 and 5 may there be no board; then nothing was recorded.
+    ensures closed { IsShutOnce (workers_in (map string_bytes words.now)) result.board ⊎ (((result.status ≡ 2) ⊎ (result.status ≡ 5)) × (result.registry ≡ []) × (result.board ≡ [])) }
 
     // Each other status has its cause. That of 5 is want of memory.
     ensures usage { result.status ≡ 2 → (script_asked (map string_bytes words.now) ≡ None) × (load_asked (map string_bytes words.now) ≡ None) }

@@ -25,18 +25,80 @@ pub const LINE: &str = "aes 000102030405060708090a0b0c0d0e0f 0011223344556677889
 pub const ANSWER: &str = "1 ok 69c4e0d86a7b0430d8cdb78070b4c55a\n";
 
 // Three lines, of which the last has no line feed, and their text.
-pub const SCRIPT: &str =
-    "aes 000102030405060708090a0b0c0d0e0f 00112233445566778899aabbccddeeff\naes 000102030405060708090a0b0c0d0e 00112233445566778899aabbccddeeff\naes 000 00";
+pub const SCRIPT: &str = "\
+aes 000102030405060708090a0b0c0d0e0f 00112233445566778899aabbccddeeff
+aes 000102030405060708090a0b0c0d0e 00112233445566778899aabbccddeeff
+aes 000 00";
 
-pub const TEXT: &str = "1 ok 69c4e0d86a7b0430d8cdb78070b4c55a\n2 EINVAL\n3 malformed\n";
+pub const TEXT: &str = "\
+1 ok 69c4e0d86a7b0430d8cdb78070b4c55a
+2 EINVAL
+3 malformed
+";
 
 // A script that uses a plain transform, a pad and a queue, and its text. The bytes are those of SP 800-38A, F.2.1, of GCM's
 // second test case, and of python's `hmac`.
-pub const MIXED_SCRIPT: &str =
-    "alloc c cbc(aes)\nkey c 2b7e151628aed2a6abf7158809cf4f3c\nenc c 000102030405060708090a0b0c0d0e0f - 6bc1bee22e409f96e93d7e117393172a\nalloc p pcrypt(gcm(aes))\nkey p 00000000000000000000000000000000\nenc p 000000000000000000000000 - 00000000000000000000000000000000\nalloc q cryptd(hmac(sha256)) 1\nkey q 4a656665\nhold q\nmac q 00\nmac q 01 backlog\nmac q 02\npoll q\ngo q\ndrain p\nfree c\nrefs aes-generic\nregister aes-generic 1\nunregister nosuch\nlist\nfrob\n";
+pub const MIXED_SCRIPT: &str = "\
+alloc c cbc(aes)
+key c 2b7e151628aed2a6abf7158809cf4f3c
+enc c 000102030405060708090a0b0c0d0e0f - 6bc1bee22e409f96e93d7e117393172a
+alloc p pcrypt(gcm(aes))
+key p 00000000000000000000000000000000
+enc p 000000000000000000000000 - 00000000000000000000000000000000
+alloc q cryptd(hmac(sha256)) 1
+key q 4a656665
+hold q
+mac q 00
+mac q 01 backlog
+mac q 02
+poll q
+go q
+drain p
+free c
+refs aes-generic
+register aes-generic 1
+unregister nosuch
+list
+frob
+";
 
-pub const MIXED_TEXT: &str =
-    "1 ok cbc(aes-generic)\n2 ok\n3 ok 7649abac8119b246cee98e9b12e9197d\n4 ok pcrypt(gcm_base(ctr(aes-generic),ghash-generic))\n5 ok\n6 EINPROGRESS\n7 ok cryptd(hmac(sha256-generic))\n8 ok\n9 ok\n10 EINPROGRESS\n11 EBUSY\n12 ENOSPC\n13 polled 0\n14 ok\n6 done 0388dace60b6a392f328c2b971b2fe78ab6e47d42cec13bdf53a67b21257bddf\n15 drained 1\n16 ok\n17 refs 2 listed\n18 EEXIST\n19 ENOENT\n20 alg aes aes-generic 100 2\n20 alg sha256 sha256-generic 100 1\n20 alg ghash ghash-generic 100 1\n20 alg cbc(aes) cbc(aes-generic) 100 0\n20 alg ctr(aes) ctr(aes-generic) 100 1\n20 alg gcm(aes) gcm_base(ctr(aes-generic),ghash-generic) 100 1\n20 alg gcm(aes) pcrypt(gcm_base(ctr(aes-generic),ghash-generic)) 200 1\n20 alg hmac(sha256) hmac(sha256-generic) 100 1\n20 alg hmac(sha256) cryptd(hmac(sha256-generic)) 150 1\n20 listed 9\n21 malformed\n11 started\n10 done b673dc17f22b360d267af4bf852334fa37e194200550ac22ff29d55ee5fc8e90\n11 done 14bb1f33c7785963bdedd1590090429b931e2a765971dd1cf87bc96d2c22ff3d\nend q 2\n";
+pub const MIXED_TEXT: &str = "\
+1 ok cbc(aes-generic)
+2 ok
+3 ok 7649abac8119b246cee98e9b12e9197d
+4 ok pcrypt(gcm_base(ctr(aes-generic),ghash-generic))
+5 ok
+6 EINPROGRESS
+7 ok cryptd(hmac(sha256-generic))
+8 ok
+9 ok
+10 EINPROGRESS
+11 EBUSY
+12 ENOSPC
+13 polled 0
+14 ok
+6 done 0388dace60b6a392f328c2b971b2fe78ab6e47d42cec13bdf53a67b21257bddf
+15 drained 1
+16 ok
+17 refs 2 listed
+18 EEXIST
+19 ENOENT
+20 alg aes aes-generic 100 2
+20 alg sha256 sha256-generic 100 1
+20 alg ghash ghash-generic 100 1
+20 alg cbc(aes) cbc(aes-generic) 100 0
+20 alg ctr(aes) ctr(aes-generic) 100 1
+20 alg gcm(aes) gcm_base(ctr(aes-generic),ghash-generic) 100 1
+20 alg gcm(aes) pcrypt(gcm_base(ctr(aes-generic),ghash-generic)) 200 1
+20 alg hmac(sha256) hmac(sha256-generic) 100 1
+20 alg hmac(sha256) cryptd(hmac(sha256-generic)) 150 1
+20 listed 9
+21 malformed
+11 started
+10 done b673dc17f22b360d267af4bf852334fa37e194200550ac22ff29d55ee5fc8e90
+11 done 14bb1f33c7785963bdedd1590090429b931e2a765971dd1cf87bc96d2c22ff3d
+end q 2
+";
 
 /// How a run ended: its status, and whether the board was shut.
 #[derive(Clone, Copy)]

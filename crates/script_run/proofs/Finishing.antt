@@ -484,9 +484,11 @@ module _ (laws : CrewLaws) (workers : ℕ) (first p q l : Passes Ask) (r : List 
       s.finished in
       (s.before, history ∙ ap (λ es. s.before ++ Shut 0 ∷ es) (laws.shut_last s.before 0 more right finished works))
 
+  pub closed-once : IsShutOnce workers b
+  closed-once = shut-once part.shut.before part.shut.after part.shut.history part.shut.others
+
   pub histories-of : AreHistories workers r b
   histories-of = record {
-    closed = inr (shut-once part.shut.before part.shut.after part.shut.history part.shut.others);
     callers = few-callers;
     legal = run.legal;
     legal_board = run.legal_board;
@@ -504,7 +506,7 @@ nothing-read workers left held r b = record {
 }
 
 pub no-histories : (workers : ℕ) → AreHistories workers [] []
-no-histories workers = record { closed = inl refl; callers = (All-nil _, All-nil _); legal = search rules; legal_board = search rules; faithful = search rules }
+no-histories workers = record { callers = (All-nil _, All-nil _); legal = search rules; legal_board = search rules; faithful = search rules }
 
 pub not-ran : (workers : ℕ) (left held : Option (List ℕ)) → ScriptRan workers left left [] [] (Err NoMemory) held held
 not-ran workers left held = record {
@@ -516,6 +518,7 @@ not-ran workers left held = record {
   front = nothing_fronted workers left held [] [];
   first = nothing-read workers left held [] [];
   malformed = tt;
+  closed = inr (refl, refl, refl);
   histories = no-histories workers;
 }
 
@@ -597,5 +600,6 @@ module _ (laws : CrewLaws) (workers : ℕ) (left left' : Option (List ℕ)) (fir
     first = ran-source;
     malformed = if-ok (λ bad. bad ≡ list_any is_malformed lines) (λ bad. IfSome left (λ script. bad ≡ list_any is_malformed (script_of script))) result
         (λ bad is. if_told (λ script. bad ≡ list_any is_malformed (script_of script)) left source.given is) source.answers.malformed;
+    closed = inl (closed-once laws workers first p q l r b run part);
     histories = histories-of laws workers first p q l r b run part;
   }

@@ -18,7 +18,7 @@ use Rattle.script_run.specs.Laws.{CrewLaws}
 use Rattle.script_run.specs.Loads.{Loads, LoadEnds, IsLoadTurnAfter}
 use Rattle.script_run.specs.Beside.{LoadRan}
 use Rattle.script_run.specs.Runs.{IsUnshutOrEnds}
-use Rattle.script_run.proofs.Finishing.{IsSessionOf, IsRunOf, same-workers, at_registry, part-of, others-registry, others-board, was-shut_in, follow-registry, follow-board, few-enough, shut-ends, histories-of}
+use Rattle.script_run.proofs.Finishing.{IsSessionOf, IsRunOf, same-workers, at_registry, part-of, others-registry, others-board, was-shut_in, follow-registry, follow-board, few-enough, shut-ends, closed-once, histories-of}
 
 -- ---- its own part
 
@@ -61,7 +61,7 @@ module _ (crew : CrewLaws) {F : Type 0} (workers seed count : ℕ) (first p q l 
   leaves (Err e) ends = (tt, tt, tt)
 
   pub load-ran : LoadRan workers seed count r b result
-  load-ran = let left = leaves result loads.ended in record { digest = left.0; loaded = left.1; shut = left.2; histories = histories-of crew workers first p q l r b run loads.part }
+  load-ran = let left = leaves result loads.ended in record { digest = left.0; loaded = left.1; shut = left.2; closed = closed-once crew workers first p q l r b run loads.part; histories = histories-of crew workers first p q l r b run loads.part }
 
 -- ---- its line
 

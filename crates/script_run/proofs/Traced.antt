@@ -122,7 +122,7 @@ module _ (before after : Result Bool RunError) (held held' held'' : Option (List
       ]
 
       -- and it stays
-      stays : (e : RunError) → before ≡ Err e → after ≡ Err e
+      pub stays : (e : RunError) → before ≡ Err e → after ≡ Err e
       stays e is = by after whole front
         where
           by : (r : Result Bool RunError) → IsWhole r → IfErr r IsPart → r ≡ Err e

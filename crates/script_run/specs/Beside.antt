@@ -1,5 +1,5 @@
 -- What a whole run beside workers leaves.
-use Rattle.std.specs.Prelude.{◌≡◌, ◌⊎◌, ℕ, Bool, List, [], Option, Some, Result, OnOk, IfOk, IfSome}
+use Rattle.std.specs.Prelude.{◌≡◌, ◌⊎◌, ℕ, Bool, List, [], Option, Some, Result, Err, OnOk, IfOk, IfSome}
 use Rattle.std.specs.List.{list_any}
 use Rattle.alg_registry.specs.declared.entry.RegEntry.{RegEntry}
 use Rattle.alg_registry.specs.Legal.{LegalReg}
@@ -16,14 +16,14 @@ use Rattle.settled_scripts.specs.Settled.{IsSettled, plain_text}
 use Rattle.templates.specs.Table.{table}
 use Rattle.transforms.specs.declared.ask.Ask.{Ask}
 use Rattle.script_run.specs.declared.errors.RunError.{RunError}
+use Rattle.script_run.specs.declared.errors.RunError.TheVariants.{NoMemory}
 use Rattle.script_run.specs.Answered.{RanSource}
 use Rattle.script_run.specs.Endings.{AreCallers, EndsShut, IsShutOnce}
 use Rattle.script_run.specs.Runs.{Gains, InTurn}
 use Rattle.script_run.specs.Text.{is_malformed}
 
--- The histories are right, their entries the script's and so many workers', and the script shut the board, if there was one.
+-- The histories are right, and their entries the script's and so many workers'.
 pub record AreHistories (workers : ℕ) (r : List RegEntry) (b : List (BoardEntry Ask)) : Type 0 where
-  pub closed : (b ≡ []) ⊎ IsShutOnce workers b
   pub callers : AreCallers workers r b
   pub legal : LegalReg r
   pub legal_board : LegalBoard b
@@ -39,6 +39,7 @@ pub record ScriptRan (workers : ℕ) (left left' : Option (List ℕ)) (r : List 
   pub front : IfSome left (λ script. Gains held held' (IsFrontText workers (start 0) 0 (script_of script) r b))
   pub first : RanSource workers left left' r b result held held'
   pub malformed : IfOk result (λ bad. IfSome left (λ script. bad ≡ list_any is_malformed (script_of script)))
+  pub closed : IsShutOnce workers b ⊎ ((result ≡ Err NoMemory) × (r ≡ []) × (b ≡ []))
   pub histories : AreHistories workers r b
 
 -- What a load came to, and the histories that its run left.
@@ -46,4 +47,5 @@ pub record LoadRan {F : Type 0} (workers seed count : ℕ) (r : List RegEntry) (
   pub digest : IfOk result (λ digest. digest ≡ digest_of (load_requests seed count))
   pub loaded : OnOk result (AreLoaded seed count b)
   pub shut : OnOk result (EndsShut b)
+  pub closed : IsShutOnce workers b
   pub histories : AreHistories workers r b

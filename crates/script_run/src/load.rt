@@ -1,6 +1,6 @@
 //! A whole load beside workers.
 
-ghost use Rattle.std.specs.Prelude.{OnOk, ◌≡◌, ◌≤◌, ◌⊎◌, [], Ok, false, MatchResult, IfOk, IfErr, IsErrOf};
+ghost use Rattle.std.specs.Prelude.{OnOk, ◌≡◌, ◌≤◌, ◌⊎◌, [], Ok, Err, false, MatchResult, IfOk, IfErr, IsErrOf};
 ghost use Rattle.std.specs.Result.{IsOk};
 ghost use Rattle.std.specs.Io.KnownBytes.{Appends};
 ghost use Rattle.alg_registry.specs.Legal.{LegalReg};
@@ -196,7 +196,7 @@ pub fn run_load<K: Sink, G: Gate + Sync, R: Threads + Wait + Sync>(
     ensures fine { IfOk result.answer (λ bad. bad ≡ false) }
     ensures loaded { OnOk result.answer (AreLoaded options.now.seed options.now.count result.board) }
     ensures shut { OnOk result.answer (EndsShut result.board) }
-    ensures closed { (result.board ≡ []) ⊎ IsShutOnce options.now.workers result.board }
+    ensures closed { IsShutOnce options.now.workers result.board ⊎ ((result.answer ≡ Err RunError.NoMemory) × (result.registry ≡ []) × (result.board ≡ [])) }
     ensures callers { AreCallers options.now.workers result.registry result.board }
     ensures legal { LegalReg result.registry }
     ensures legal_board { LegalBoard result.board }

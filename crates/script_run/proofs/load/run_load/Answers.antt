@@ -1,3 +1,4 @@
+use Rattle.std.proofs.Common.{inl}
 use Rattle.script_run.proofs.Loaded.{reached-on}
 use Rattle.script_run.proofs.load.run_load.Goals as goal
 
@@ -8,7 +9,7 @@ pub returns-clause-shut : goal.returns-clause-shut
 returns-clause-shut g c = reached-on c.write_line.result c.load_beside-loaded.result.digest _ c.write_line.ensures.reached c.load_beside-loaded.ensures.shut
 
 pub returns-clause-closed : goal.returns-clause-closed
-returns-clause-closed g c = c.load_beside-loaded.ensures.histories.closed
+returns-clause-closed g c = inl c.load_beside-loaded.ensures.closed
 
 pub returns-clause-callers : goal.returns-clause-callers
 returns-clause-callers g c = c.load_beside-loaded.ensures.histories.callers

@@ -1,11 +1,12 @@
-use Rattle.std.specs.Prelude.{◌≡◌}
+use Rattle.std.proofs.Common.{◌≡◌, inl, inr}
 use Rattle.dialogues.specs.Texts.{IsText}
 use Rattle.script_run.specs.Fronts.{IsFrontText}
 use Rattle.dialogues.specs.Walk.{start}
 use Rattle.script_text.specs.Script.{script_of}
 use Rattle.settled_scripts.specs.Settled.{IsSettled, plain_text}
 use Rattle.script_run.specs.Endings.{traced}
-use Rattle.script_run.proofs.Traced.{then-ok, then-if, then-gains, then-gains_if, then-front, then-ran}
+use Rattle.script_run.specs.declared.errors.RunError.TheVariants.{NoMemory}
+use Rattle.script_run.proofs.Traced.{then-ok, then-if, then-gains, then-gains_if, then-front, then-ran, stays}
 use Rattle.script_run.proofs.tracing.run_traced.Goals as goal
 
 pub returns-clause-whole : goal.returns-clause-whole
@@ -74,7 +75,19 @@ returns-clause-malformed g c =
     then-if ran.result.answer traced_.result (held c.args.out.now) (held ran.new.out) (held traced_.new.out) (traced c.args.options.now.trace ran.result.registry ran.result.board) traced_.ensures.whole _ ran.ensures.ran.malformed
 
 pub returns-clause-closed : goal.returns-clause-closed
-returns-clause-closed g c = c.run_script-answer.ensures.ran.histories.closed
+returns-clause-closed g c =
+    let held = g.K.Sink.held in
+    let ran = c.run_script-answer in
+    let traced_ = c.answer_traced-answer in
+    elim ran.ensures.ran.closed [
+      | inl once ↦ inl once
+      | inr none ↦ inr (
+        stays ran.result.answer traced_.result (held c.args.out.now) (held ran.new.out) (held traced_.new.out) (traced c.args.options.now.trace ran.result.registry ran.result.board)
+        traced_.ensures.whole traced_.ensures.front traced_.ensures.causes NoMemory none.0,
+        none.1,
+        none.2,
+      )
+    ]
 
 pub returns-clause-callers : goal.returns-clause-callers
 returns-clause-callers g c = c.run_script-answer.ensures.ran.histories.callers
