@@ -83,7 +83,7 @@ returns-clause-closed g c =
       | inl once ↦ inl once
       | inr none ↦ inr (
         stays ran.result.answer traced_.result (held c.args.out.now) (held ran.new.out) (held traced_.new.out) (traced c.args.options.now.trace ran.result.registry ran.result.board)
-        traced_.ensures.whole traced_.ensures.front traced_.ensures.causes NoMemory none.0,
+            traced_.ensures.whole traced_.ensures.front traced_.ensures.causes NoMemory none.0,
         none.1,
         none.2,
       )
