@@ -142,7 +142,8 @@ impl<J: Drop, F: Drop> Padata<J, F> {
 
     /// How many are finished and not collected: as many as a collect hands out, at most.
     pub fn finished(&self) -> usize
-        ensures { length (ready self.now.outcomes) ≤ result }
+        ensures exact { result + running_of self.now.outcomes ≡ length self.now.outcomes }
+        ensures enough { length (ready self.now.outcomes) ≤ result }
     {
         (self.taken - self.collected) as usize - self.running
     }
