@@ -1,8 +1,8 @@
 -- Entries of the history that register, and those that end a larval.
 use Rattle.std.proofs.Common.{◌≡◌, ◌≢◌, ℕ, suc, ◌+◌, ◌-◌, ◌<◌, Bool, true, false, cond, ◌&&◌, eqb, leb, List, [], ◌∷◌, ◌++◌, length, map, get_or, set, Option, Some, None, refl, sym, ap, ◌∙◌, subst, arith}
-use Rattle.std.specs.Prelude.{count_by, slice_get, is_some}
+use Rattle.std.specs.Prelude.{count_by, slice_get, is_some, is_none}
 use Rattle.std.specs.List.{list_any, list_all, cons_option, position_from}
-use Rattle.std.specs.Option.{option_and_then}
+use Rattle.std.specs.Option.{option_and_then, option_map_or}
 use Rattle.std.specs.Str.{bytes_eq}
 use Rattle.std.proofs.lemmas.Bool.Decides.{nat_tests}
 use Rattle.kc_base.specs.declared.error_numbers.Errno.TheVariants.{EAGAIN, EEXIST, ENFILE}
@@ -21,7 +21,8 @@ use Rattle.alg_registry.specs.declared.entry.RegEntry.TheVariants as entry
 use Rattle.alg_registry.specs.Rows.{noted_at, noted, registered_by, registered, unlists, gets, puts, standing, rows_of, first_of, claims, ends, end_of, larvals_of, listed_at}
 use Rattle.alg_registry.specs.Answers.{driver_place, enlist_answer, clashes_with, held_count, built_answer, joined_or_built}
 use Rattle.alg_registry.specs.Legal.{IsRight, LegalReg, is_worker, claimer, ended_as, MayEnd}
-use Rattle.alg_registry.specs.Calls.{ended_larval, new_row}
+use Rattle.alg_registry.specs.Calls.{ended_larval, new_row, is_unclaimed}
+use Rattle.alg_registry.specs.Larvals.{passes_at}
 use Rattle.alg_registry.specs.Room.{owed}
 use Rattle.alg_registry.specs.Kept.{IsKept}
 use Rattle.alg_registry.proofs.Standing.{bare, bare-rows_of, standing-from_bare, map-push}
@@ -78,12 +79,25 @@ kept-refused h log rows larvals caller spec answer kept out below plain is other
 pub claimer-within : (h : List RegEntry) (larvals : List Larval) (caller n : ℕ) → larvals ≡ larvals_of h → claimer h n ≡ Some caller → n < length larvals
 claimer-within h larvals caller n are claimed = larval-within larvals n (λ larval. larval.claimed) caller (ap (λ ls. option_and_then (λ (l : Larval). l.claimed) (slice_get ls n)) are ∙ claimed)
 
+-- what somebody has claimed isn't unclaimed
+taken-at : (larvals : List Larval) (n caller : ℕ) → option_and_then (λ (l : Larval). l.claimed) (slice_get larvals n) ≡ Some caller → passes_at is_unclaimed larvals n ≡ false
+taken-at larvals n caller claimed = here (slice_get larvals n) claimed
+  where
+    by_end : (b : Bool) → (b && false) ≡ false
+    by_end true = refl
+    by_end false = refl
+
+    here : (o : Option Larval) → option_and_then (λ (l : Larval). l.claimed) o ≡ Some caller → option_map_or is_unclaimed o false ≡ false
+    here None claimed = refl
+    here (Some larval) claimed = ap (λ (c : Option ℕ). is_none larval.ended && is_none c) claimed ∙ by_end (is_none larval.ended)
+
 -- the caller may end the larval: room was kept, the larval is there, and it is pending
 pub record IsToEnd (h : List RegEntry) (larvals : List Larval) (caller n : ℕ) : Type 0 where
   pub claimed : claimer h n ≡ Some caller
   pub unended : ended_as h n ≡ None
   pub room : 0 < owed h
   pub within : n < length larvals
+  pub taken : passes_at is_unclaimed larvals n ≡ false
   pub pending : option_and_then (λ (larval : Larval). larval.ended) (slice_get larvals n) ≡ None
 
 pub to_end : (h h' : List RegEntry) (rows : List Row) (larvals : List Larval) (caller n : ℕ) → IsKept h rows larvals → h ≡ h' → claimer h' n ≡ Some caller → ended_as h' n ≡ None → IsToEnd h larvals caller n
@@ -95,6 +109,7 @@ to_end h h' rows larvals caller n kept same claimed' unended' =
       unended = unended;
       room = owed-end h caller n kept.legal claimed unended;
       within = claimer-within h larvals caller n kept.larvals_are claimed;
+      taken = taken-at larvals n caller (ap (λ ls. option_and_then (λ (l : Larval). l.claimed) (slice_get ls n)) kept.larvals_are ∙ claimed);
       pending = ap (λ (ls : List Larval). option_and_then (λ (larval : Larval). larval.ended) (slice_get ls n)) kept.larvals_are ∙ unended;
     }
 

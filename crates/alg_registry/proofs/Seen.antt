@@ -95,6 +95,12 @@ numbers-same test k [] j larval d same = refl
 numbers-same test k (x ∷ larvals) zero larval d same = ap (λ b. cond b (k ∷ numbers_of test (k + 1) larvals) (numbers_of test (k + 1) larvals)) same
 numbers-same test k (x ∷ larvals) (suc j) larval d same = ap (λ ns. cond (test x) (k ∷ ns) ns) (numbers-same test (k + 1) larvals j larval d same)
 
+-- whether the larval of a number passes
+pub passes-there : (test : Larval → Bool) (larvals : List Larval) (j : ℕ) (d : Larval) → j < length larvals → passes_at test larvals j ≡ test (get_or larvals j d)
+passes-there test [] j d lt = absurd (omega (arith, lt))
+passes-there test (x ∷ larvals) zero d lt = refl
+passes-there test (x ∷ larvals) (suc j) d lt = passes-there test larvals j d (omega (arith, lt))
+
 -- a larval with no end is seen
 pub pending-is_seen : (rows : List Row) (larvals : List Larval) (j : ℕ) (d : Larval) → j < length larvals → option_and_then (λ (larval : Larval). larval.ended) (slice_get larvals j) ≡ None → is_seen rows (get_or larvals j d) ≡ true
 pending-is_seen rows [] j d lt none = absurd (omega (arith, lt))

@@ -50,7 +50,7 @@ impl<T: Drop> From<AllocFailed<T>> for RegErr {
 pub enum Looked {
     /// The entry of this id answers to the text.
     Found(u64),
-    /// The larval of this number is being built for the text.
+    /// A larval of this number began for the text and hasn't ended, whether it is claimed or not.
     Pending(u64),
     /// A larval of this number began for the text.
     Began(u64),
@@ -65,25 +65,34 @@ pub enum Ended {
     Built(u64),
     /// The entry of this id has the instance's driver already.
     Joined(u64),
+    /// There is no instance, for this reason: the one that was handed in; or `EAGAIN`, where an entry on which it would stand isn't
+    /// listed, `EEXIST`, where it would be confused with a listed one, `ENFILE`, where the registry holds as many as it may.
     Failed(Errno),
+    /// Memory ran out, of who built it or of the registry.
     NoMemory,
 }
 
 /// The answer of an enlisting.
 #[derive(Clone, Copy, Debug, PartialEq, Eq)]
 pub enum Enlisted {
+    /// The new entry has this id.
     Made(u64),
+    /// As `RegErr::Exist`.
     Exist,
+    /// As `RegErr::NFile`.
     NFile,
 }
 
 /// The answer of the end of a larval, with what the history keeps of the instance.
 #[derive(Debug, Drop)]
 pub enum EndAnswer {
+    /// With the instance, which is the new entry of this id.
     Built(u64, Spec),
     /// With the ids on which the instance would have stood.
     Joined(u64, Ids),
+    /// As `Ended::Failed`.
     Failed(Errno),
+    /// As `Ended::NoMemory`.
     NoMemory,
 }
 
@@ -104,26 +113,31 @@ pub struct Claimed {
 /// One call of the registry, with its caller and its answer.
 #[derive(Debug, Drop)]
 pub enum RegEntry {
+    /// An entry was to be enlisted.
     Enlist {
         caller: u32,
         spec: Spec,
         answer: Enlisted,
     },
+    /// A name was looked up, `plain` among the entries that run no others' work alone.
     Look {
         caller: u32,
         text: Bytes,
         plain: bool,
         answer: Looked,
     },
+    /// The caller builds the larval from here on.
     Claim {
         caller: u32,
         larval: u64,
     },
+    /// The larval ended.
     End {
         caller: u32,
         larval: u64,
         answer: EndAnswer,
     },
+    /// The caller saw that the larval had ended.
     Waited {
         caller: u32,
         larval: u64,
@@ -134,20 +148,23 @@ pub enum RegEntry {
         driver: Bytes,
         answer: Option<u64>,
     },
-    /// `ok` is false where no listed entry has the id.
+    /// A reference was to be taken; `ok` is false where no listed entry has the id.
     Get {
         caller: u32,
         id: u64,
         ok: bool,
     },
+    /// A reference was given back.
     Put {
         caller: u32,
         id: u64,
     },
+    /// The references of a driver's entry were asked for.
     Refs {
         caller: u32,
         driver: Bytes,
     },
+    /// The listed entries were asked for.
     List {
         caller: u32,
     },

@@ -1,6 +1,6 @@
 //! The table of larvals.
 
-ghost use Rattle.std.specs.Prelude.{◌≡◌, ℕ, ◌+◌, ◌-◌, ◌<◌, ◌≤◌, ◌∷◌, ◌++◌, [], length, IfOk, IfErr, OnOk, None, Some, not, ◌==◌, vec_capacity, slice_set, slice_index_or, slice_get};
+ghost use Rattle.std.specs.Prelude.{◌≡◌, ℕ, ◌+◌, ◌-◌, ◌<◌, ◌≤◌, ◌∷◌, ◌++◌, [], length, IfOk, IfErr, OnOk, None, Some, false, not, ◌==◌, vec_capacity, slice_set, slice_index_or, slice_get};
 ghost use Rattle.std.specs.List.{position_from, find, filter, filter_map, cons_option};
 ghost use Rattle.std.specs.Option.{option_and_then};
 ghost use Rattle.std.specs.Str.{bytes_eq};
@@ -269,16 +269,16 @@ impl Larvals {
         forget(&mut self.unclaimed, number);
     }
 
-    /// Ends the larval.
+    /// Ends the larval, which somebody has claimed.
     pub fn end(&mut self, number: u64, ended: Ended)
-        requires { number < length self.old.list }
+        requires within { number < length self.old.list }
+        requires claimed { passes_at is_unclaimed self.old.list number ≡ false }
         ensures list { (d : Larval) → self.new.list ≡ slice_set self.old.list number (ended_larval ended (slice_index_or self.old.list number d)) }
         ensures seen { self.new.seen ≡ seen_after ended number self.old.seen }
         ensures room { self.new.spare ≡ self.old.spare }
     {
         let larval = &mut self.all[number as usize];
         larval.ended = Some(ended);
-        forget(&mut self.unclaimed, number);
         if !ends_with(ended) {
             forget(&mut self.seen, number);
         }

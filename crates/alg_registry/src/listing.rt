@@ -5,6 +5,7 @@ ghost use Rattle.std.specs.List.{cons_option, filter_map};
 ghost use Rattle.alg_registry.specs.Calls.{own_refs, refs_answer, shown, listing};
 ghost use Rattle.alg_registry.specs.Held.{made_at, refs_among};
 
+use crate::counting::is_row_held;
 use crate::entry::RefAnswer;
 use crate::row::Row;
 use crate::rows::{Rows, is_same};
@@ -49,7 +50,7 @@ impl Listing {
 fn refs_of(row: &Row, driver: &[u8]) -> Option<RefAnswer>
     ensures { result ≡ own_refs driver.now row.now }
 {
-    if (row.listed || 0 < row.references) && is_same(row.spec.driver.as_slice(), driver) {
+    if is_row_held(row) && is_same(row.spec.driver.as_slice(), driver) {
         Some(RefAnswer {
             count: row.references,
             listed: row.listed,

@@ -7,7 +7,7 @@ ghost use Rattle.alg_registry.specs.Answers.{driver_place, look_answer, enlist_a
 ghost use Rattle.alg_registry.specs.Legal.{LegalReg, is_worker, HasReference, claimer, ended_as, MayEnd};
 ghost use Rattle.alg_registry.specs.Calls.{UnlessMemory, OnMemory, UnlessNoMemory, OnNoMemory, MayLack, Judges, IsFailure, enlist_result, end_given, unless_memory, unlist_result, get_result, claimed_number, claimed_answer, claim_entries, waited_entries, listing, refs_answer, refs_result, held_spec, new_row};
 
-use crate::counting::{are_listed, is_listed_at};
+use crate::counting::{are_listed, is_listed_at, is_row_held};
 use crate::entry::{Claimed, EndAnswer, Ended, Enlisted, Looked, RefAnswer, RegEntry, RegErr};
 use crate::history::RegLog;
 use crate::ids::Ids;
@@ -71,7 +71,7 @@ fn held_spec_at(rows: &[Row], id: u64) -> Option<&Spec>
 {
     match rows.get(id as usize) {
         Some(row) => {
-            if row.listed || 0 < row.references {
+            if is_row_held(row) {
                 Some(&row.spec)
             } else {
                 None

@@ -5,7 +5,7 @@ ghost use Rattle.alg_registry.specs.declared.spec.Wrap.TheVariants.{Plain};
 
 use crate::given::{bytes_of, new_registry, number_in, words_of};
 use alg_registry::{Ended, Ids, Kind, Looked, RegErr, Registry, Spec, Wrap};
-use kc_base::Bytes;
+use kc_base::{Bytes, Errno};
 use std::alloc::Global;
 use std::process::Abort;
 
@@ -102,7 +102,7 @@ fn said_of_end(rt: &impl Abort, ended: Ended) -> Said {
 /// Looks the text up, and builds `cbc(aes-generic)` where a larval of it began.
 fn build(rt: &impl Abort, registry: &mut Registry, alloc: Global, text: &str) -> Said {
     match look(rt, registry, text) {
-        Looked::Found(id) => Said("joined", id),
+        Looked::Found(id) => Said("found", id),
         _ => said_of_end(rt, build_next(rt, registry, alloc)),
     }
 }
@@ -246,10 +246,29 @@ fn a_larval_that_is_claimed_has_not_ended(rt: HostRuntime) {
     assert!(rt; registry.history().entries().len() == 2);
 }
 
+/// The larval that waits longest comes to nothing.
+fn fail_next(rt: &impl Abort, registry: &mut Registry) -> Ended {
+    match registry.claim(1, None).expect(rt, "memory") {
+        Some(claimed) => registry.end(1, claimed.larval, Err(Ended::Failed(Errno::ENOENT))),
+        None => panic!(rt; "no larval"),
+    }
+}
+
+#[test]
+fn a_failure_is_waited_for(rt: HostRuntime) {
+    let mut registry = new_registry(&rt, rt.alloc());
+    registry.look(0, b"cbc(des)", false).expect(&rt, "memory");
+    let ended = fail_next(&rt, &mut registry);
+    let waited = registry.waited(0, 0).expect(&rt, "memory");
+    assert!(rt; ended == Ended::Failed(Errno::ENOENT) && waited == Some(ended));
+    assert!(rt; registry.history().entries().len() == 4);
+}
+
 #[test]
 fn a_reference_is_given_back(rt: HostRuntime) {
     let mut registry = new_registry(&rt, rt.alloc());
     registry.take_ref(0, 0).expect(&rt, "an entry");
     registry.put_ref(0, 0);
-    assert!(rt; registry.history().entries().len() == 2);
+    assert!(rt; refs(&rt, &mut registry, "aes-generic") == Said("listed", 0));
+    assert!(rt; registry.history().entries().len() == 3);
 }

@@ -11,8 +11,11 @@ use Rattle.alg_registry.proofs.registry.Registry.end_with.Goals as goal
 pub settle-requires-clause-owed : goal.settle-requires-clause-owed
 settle-requires-clause-owed c = (to_end _ _ _ _ c.args.caller c.args.larval c.self.invariant.kept c.self.view_is c.requires.claimed c.requires.unended).room
 
-pub end-requires : goal.end-requires
-end-requires c = (to_end _ _ _ _ c.args.caller c.args.larval c.self.invariant.kept c.self.view_is c.requires.claimed c.requires.unended).within
+pub end-requires-clause-claimed : goal.end-requires-clause-claimed
+end-requires-clause-claimed c = (to_end _ _ _ _ c.args.caller c.args.larval c.self.invariant.kept c.self.view_is c.requires.claimed c.requires.unended).taken
+
+pub end-requires-clause-within : goal.end-requires-clause-within
+end-requires-clause-within c = (to_end _ _ _ _ c.args.caller c.args.larval c.self.invariant.kept c.self.view_is c.requires.claimed c.requires.unended).within
 
 pub invariant_of-self : goal.invariant_of-self
 invariant_of-self c = record {
