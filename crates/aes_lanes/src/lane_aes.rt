@@ -13,7 +13,8 @@ use kc_base::Errno;
 use std::marker::Model;
 use std::simd::prelude::*;
 
-/// AES under a key, with the key's whole schedule in vectors. Contracts see the key.
+/// AES (FIPS 197, 5.1 and 5.3) under a key of 16, 24 or 32 bytes, with the key's whole schedule in vectors. Sealing and
+/// unsealing read no table at a place that the key or a text chooses; the key schedule does. Contracts see the key.
 #[derive(Drop)]
 pub struct LaneAes {
     schedule: LaneSchedule,

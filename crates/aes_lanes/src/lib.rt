@@ -1,4 +1,5 @@
-//! AES by vectors: eight blocks by their rows in four vectors of 32 bytes, or one block in one of 16.
+//! AES by vectors: eight blocks by their rows in four vectors of 32 bytes; one block is sealed in a vector of 16 bytes, and
+//! unsealed in one of 32 that has it twice.
 #![tactic(auto)]
 
 mod columns;

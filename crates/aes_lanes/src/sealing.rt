@@ -1,4 +1,4 @@
-//! Sealing eight blocks by rows.
+//! Sealing eight blocks by rows, and one block.
 
 ghost use Rattle.std.specs.Prelude.{◌≡◌, ◌<◌, map};
 ghost use Rattle.std_defs.specs.Aes.{seal, add_round_key, sub_bytes, shift_rows, mix_columns, sbox};

@@ -1,11 +1,11 @@
-//! SHA-256 by lanes: the digests of the standard's examples, and those of `sha2` for each length.
+//! SHA-256 by lanes: the digests of NIST's example values, and those of `sha2` for each length.
 
 ghost use Rattle.std.specs.Prelude.{◌<◌};
 
 use crate::segments::bytes;
 use sha2::Digest;
 
-/// Messages of the examples of FIPS 180-4, and their digests.
+/// Messages of NIST's example values for SHA-256, and the empty one, with their digests.
 const EXAMPLES: [(&str, &str); 4] = [
     (
         "",

@@ -1,5 +1,5 @@
-//! Texts in segments: every cut gives what the whole gives, and the whole gives the vectors of SP 800-38A,
-//! and else of python's `cryptography`.
+//! Texts in segments: every cut gives what the whole gives, and the whole begins with the vector of SP 800-38A under CBC and
+//! CTR, and is what python's `cryptography` gives under the others.
 
 ghost use Rattle.std.specs.Prelude.{◌≡◌};
 
@@ -251,7 +251,9 @@ fn ctr_seals_every_cut_as_the_whole(rt: HostRuntime) {
 #[test]
 fn gcm_seals_every_cut_as_the_whole(rt: HostRuntime) {
     let mode = Gcm::<Aes, BitGhash>::new(aes(&rt, rt.alloc()));
-    every_cut_gives_the_whole(&rt, rt.alloc(), &mode, "-");
+    let first =
+        "6e602ce51aae98ccd9bbd5845c50c949b4623d1ba74ab596349d7bfc009765d7333cbd6f879a890644c43990eda7ab82e351cf8644fca2d1f36b8b3b34bfeb897008fc25cfa08c9c234a2e8d42642da0";
+    every_cut_gives_the_whole(&rt, rt.alloc(), &mode, first);
 }
 
 #[test]
@@ -277,7 +279,9 @@ fn rfc4106_seals_every_cut_as_the_whole(rt: HostRuntime) {
 #[test]
 fn authenc_seals_every_cut_as_the_whole(rt: HostRuntime) {
     let mode = Authenc::new(Mac::new(b"key"), Cbc::new(aes(&rt, rt.alloc())));
-    every_cut_gives_the_whole(&rt, rt.alloc(), &mode, "-");
+    let first =
+        "c16dc6711e05569495d23a31b5d7a9e2786cc3039f355c8a4ea0907e2f2ba51997fabd227d41e7914de40feac1fee2d19c3e97f0757effe550f46d388005993fea8c718401d98bd44523e40b83e48b90";
+    every_cut_gives_the_whole(&rt, rt.alloc(), &mode, first);
 }
 
 #[test]

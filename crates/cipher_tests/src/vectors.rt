@@ -464,7 +464,7 @@ fn requests_have_their_values_in_each_form(rt: HostRuntime) {
 }
 
 /// In a row stand a driver, a key, an IV, associated bytes, a text, its ciphertext and its longest tag, by python's
-/// `cryptography`; then the sizes that its tag may have.
+/// `cryptography`; then sizes of its tag.
 const TAGGED: &str = "\
 gcm_base(ctr(aes-generic),ghash-generic) feffe9928665731c6d6a8f9467308308 cafebabefacedbaddecaf888 000102030405060708090a0b0c0d0e0f1011121314151617 28292a2b2c2d2e2f303132333435363738393a3b b39b06ccf5de5ceede1a1a411f10c4315d34b247 abf8c25799a7d930c73c188e13a11f1e 4,8,12,13,14,15,16
 rfc4106(gcm_base(ctr(aes-generic),ghash-generic)) feffe9928665731c6d6a8f94673083080a0b0c0d 4956ed7e3b244cfe 00004321876543214956ed7e3b244cfe 28292a2b2c2d2e2f303132333435363738393a3b 656903b16b4065ae138f7aaf4a44f50ce77a3a60 9747215cde5b16863d510aed579e471d 8,12,16
@@ -524,7 +524,7 @@ fn tags_hold(rt: &impl Abort, alloc: Global, row: &'static str) {
 }
 
 #[test]
-fn each_size_of_a_tag_is_taken_and_no_other_tag(rt: HostRuntime) {
+fn tags_of_these_sizes_open_and_with_a_wrong_bit_do_not(rt: HostRuntime) {
     for row in TAGGED.lines() {
         tags_hold(&rt, rt.alloc(), row);
     }

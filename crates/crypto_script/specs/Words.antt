@@ -1,5 +1,5 @@
 -- What words ask for.
-use Rattle.std.specs.Prelude.{ℕ, Bool, false, List, Option, Some, None, Result, Ok, Err}
+use Rattle.std.specs.Prelude.{ℕ, List, Option, Some, None, Result, Ok, Err}
 use Rattle.command_line.specs.CommandLine.{mode_of}
 use Rattle.command_line.specs.declared.errors.CommandLineError.{CommandLineError}
 use Rattle.run_options.specs.declared.options.LoadOptions.{LoadOptions}
@@ -33,11 +33,3 @@ workers_by None None = 0
 -- beside how many workers the words ask for a script or a load: 0 where they ask for neither
 abbrev pub workers_in : List (List ℕ) → ℕ
 workers_in words = workers_by (script_asked words) (load_asked words)
-
-abbrev pub traces_by : Option ScriptOptions → Bool
-traces_by (Some script) = script.trace
-traces_by None = false
-
--- whether they ask for the trace of a script's run
-abbrev pub traces_in : List (List ℕ) → Bool
-traces_in words = traces_by (script_asked words)

@@ -1,7 +1,9 @@
 //! Runs of which one read, or one write, fails.
 
+use crate::pipeline_tests::ROWS as PIPELINES;
 use crate::stream_tests::{Fault, run_slow};
-use crate::tests::{Row, check, decimal, row_of};
+use crate::tests::{Row, check, decimal, row_named};
+use crate::worked_tests::WORKED;
 use std::alloc::Global;
 use std::process::Abort;
 use std::sync::Wait;
@@ -9,56 +11,11 @@ use std::thread::Threads;
 
 const CREWS: [&str; 3] = ["--workers 0", "--workers 1", "--workers 4"];
 
-// The bytes are those of GCM's second test case.
-const PAD: &str = "\
-three requests to a pad
-alloc p pcrypt(gcm(aes))
-key p 00000000000000000000000000000000
-enc p 000000000000000000000000 - 00000000000000000000000000000000
-enc p 000000000000000000000000 - 00000000000000000000000000000000
-enc p 000000000000000000000000 - 00000000000000000000000000000000
-drain p
-= 0
-1 ok pcrypt(gcm_base(ctr(aes-generic),ghash-generic))
-2 ok
-3 EINPROGRESS
-4 EINPROGRESS
-5 EINPROGRESS
-3 done 0388dace60b6a392f328c2b971b2fe78ab6e47d42cec13bdf53a67b21257bddf
-4 done 0388dace60b6a392f328c2b971b2fe78ab6e47d42cec13bdf53a67b21257bddf
-5 done 0388dace60b6a392f328c2b971b2fe78ab6e47d42cec13bdf53a67b21257bddf
-6 drained 3
-";
+// Three requests to a pad.
+const PAD: &str = "GCM's second test case three times under pcrypt";
 
-// The bytes are those of SP 800-38A, F.2.1.
-const QUEUE: &str = "\
-a queue that is held with a request in its backlog
-alloc q cryptd(cbc(aes)) 2
-key q 2b7e151628aed2a6abf7158809cf4f3c
-hold q
-enc q 000102030405060708090a0b0c0d0e0f - 6bc1bee22e409f96e93d7e117393172a
-enc q 000102030405060708090a0b0c0d0e0f - 6bc1bee22e409f96e93d7e117393172a
-enc q 000102030405060708090a0b0c0d0e0f - 6bc1bee22e409f96e93d7e117393172a backlog
-enc q 000102030405060708090a0b0c0d0e0f - 6bc1bee22e409f96e93d7e117393172a
-drain q
-go q
-drain q
-= 0
-1 ok cryptd(cbc(aes-generic))
-2 ok
-3 ok
-4 EINPROGRESS
-5 EINPROGRESS
-6 EBUSY
-7 ENOSPC
-8 EINVAL
-9 ok
-6 started
-4 done 7649abac8119b246cee98e9b12e9197d
-5 done 7649abac8119b246cee98e9b12e9197d
-6 done 7649abac8119b246cee98e9b12e9197d
-10 drained 3
-";
+// A queue that is held with a request in its backlog.
+const QUEUE: &str = "a held queue takes in no more than fits";
 
 fn number_of(fault: Fault) -> u64 {
     match fault {
@@ -110,14 +67,14 @@ fn fail_each_write<R: Abort + Threads + Wait + Sync>(
 #[test]
 fn each_read_of_requests_to_a_pad_fails_in_turn(rt: HostRuntime) {
     for line in CREWS {
-        fail_each_read(&rt, rt.alloc(), line, row_of(&rt, PAD));
+        fail_each_read(&rt, rt.alloc(), line, row_named(&rt, WORKED, PAD));
     }
 }
 
 #[test]
 fn each_read_of_requests_to_a_queue_fails_in_turn(rt: HostRuntime) {
     for line in CREWS {
-        fail_each_read(&rt, rt.alloc(), line, row_of(&rt, QUEUE));
+        fail_each_read(&rt, rt.alloc(), line, row_named(&rt, PIPELINES, QUEUE));
     }
 }
 
@@ -125,7 +82,7 @@ fn each_read_of_requests_to_a_queue_fails_in_turn(rt: HostRuntime) {
 fn each_write_fails_in_turn(rt: HostRuntime) {
     for line in CREWS {
         // three bytes of a line's answers a write
-        fail_each_write(&rt, rt.alloc(), line, row_of(&rt, PAD), 111);
-        fail_each_write(&rt, rt.alloc(), line, row_of(&rt, QUEUE), 83);
+        fail_each_write(&rt, rt.alloc(), line, row_named(&rt, WORKED, PAD), 111);
+        fail_each_write(&rt, rt.alloc(), line, row_named(&rt, PIPELINES, QUEUE), 83);
     }
 }

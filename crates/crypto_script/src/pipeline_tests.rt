@@ -9,7 +9,7 @@ use std::sync::Wait;
 use std::thread::Threads;
 
 // Scripts, their status and their text. The bytes are those of GCM's second test case, and of SP 800-38A, F.2.1.
-const ROWS: &str = "\
+pub const ROWS: &str = "\
 a held queue takes in no more than fits
 alloc q cryptd(cbc(aes)) 2
 key q 2b7e151628aed2a6abf7158809cf4f3c

@@ -23,7 +23,7 @@ ghost use Rattle.script_run.specs.Runs.{ReadsUpTo, Gains, GainsThen, GainsFront,
 ghost use Rattle.script_run.specs.Statuses.{status_of};
 ghost use Rattle.script_run.specs.Text.{is_malformed};
 ghost use Rattle.crypto_script.specs.Refusals.{of_words};
-ghost use Rattle.crypto_script.specs.Words.{script_asked, script_in_mode, load_asked, load_in_mode, workers_in, traces_in};
+ghost use Rattle.crypto_script.specs.Words.{script_asked, script_in_mode, load_asked, load_in_mode, workers_in};
 
 use alg_registry::RegLog;
 use board::BoardLog;
@@ -115,17 +115,20 @@ pub fn run<S: Source, K: Sink, G: Gate + Sync, R: Threads + Wait + Sync>(
     // A run that reaches the end has read the script whole, written its text, then the trace where the words ask for it, and shut
     // the board last. The script has called the registry in turn, with as many looks at once as a probe has names.
     ensures ended { IsSome (script_asked (map string_bytes words.now)) → result.status ≤ 1 → IfSome (S.left src.old) (λ _. S.left src.new ≡ Some []) }
-    ensures whole { IsSome (script_asked (map string_bytes words.now)) → result.status ≤ 1 → IfSome (S.left src.old) (λ script. GainsThen (K.held out.old) (K.held out.new) (IsText (workers_in (map string_bytes words.now)) (start 0) 0 (script_of script) result.registry result.board) (traced (traces_in (map string_bytes words.now)) result.registry result.board)) }
+    ensures whole { IfSome (script_asked (map string_bytes words.now)) (λ options. result.status ≤ 1 → IfSome (S.left src.old) (λ script. GainsThen (K.held out.old) (K.held out.new)
+        (IsText options.workers (start 0) 0 (script_of script) result.registry result.board) (traced options.trace result.registry result.board))) }
     ensures shut { IsSome (script_asked (map string_bytes words.now)) → result.status ≤ 1 → EndsShut result.board }
     ensures in_turn { IsSome (script_asked (map string_bytes words.now)) → result.status ≤ 1 → IfSome (S.left src.old) (λ script. InTurn (script_of script) result.registry) }
     ensures malformed { IsSome (script_asked (map string_bytes words.now)) → result.status ≤ 1 → IfSome (S.left src.old) (λ script. (result.status ≡ 1) ↔ IsTrue (list_any is_malformed (script_of script))) }
 
     // What a settled script writes is a function of its lines alone: the same beside every number of workers.
-    ensures settled { IsSome (script_asked (map string_bytes words.now)) → result.status ≤ 1 → IfSome (S.left src.old) (λ script. IsSettled (script_of script) → GainsThen (K.held out.old) (K.held out.new) (λ text. text ≡ plain_text (script_of script)) (traced (traces_in (map string_bytes words.now)) result.registry result.board)) }
+    ensures settled { IfSome (script_asked (map string_bytes words.now)) (λ options. result.status ≤ 1 → IfSome (S.left src.old) (λ script. IsSettled (script_of script) → GainsThen (K.held out.old) (K.held out.new)
+        (λ text. text ≡ plain_text (script_of script)) (traced options.trace result.registry result.board))) }
 
     // However a run ends, what it has written is a front of the text; or the whole text, and a front of the trace.
-    ensures front { IsSome (script_asked (map string_bytes words.now)) → IfSome (S.left src.old) (λ script. GainsFront (K.held out.old) (K.held out.new) (IsFrontText (workers_in (map string_bytes words.now)) (start 0) 0 (script_of script) result.registry result.board)
-        (IsText (workers_in (map string_bytes words.now)) (start 0) 0 (script_of script) result.registry result.board) (traced (traces_in (map string_bytes words.now)) result.registry result.board)) }
+    ensures front { IfSome (script_asked (map string_bytes words.now)) (λ options. IfSome (S.left src.old) (λ script. GainsFront (K.held out.old) (K.held out.new)
+        (IsFrontText options.workers (start 0) 0 (script_of script) result.registry result.board)
+        (IsText options.workers (start 0) 0 (script_of script) result.registry result.board) (traced options.trace result.registry result.board))) }
 
     // A load that reaches the end has written its line, pads 0 and 1 have accepted its requests and handed each out, and the board
     // was shut last. It reads nothing, and what it has written is a front of its line however it ends.
@@ -139,12 +142,12 @@ pub fn run<S: Source, K: Sink, G: Gate + Sync, R: Threads + Wait + Sync>(
     // Where the source fails, the lines whose line feed stood in what it gave are answered whole, and nothing else is written.
     // Where it gives too much, so are those of a front that is at most a read shorter than the limit. Where the sink fails, it has
     // gained the text of those that stood before the last 65,536 bytes, or more.
-    ensures answered { IsSome (script_asked (map string_bytes words.now)) → result.status ≡ 3 → Gives (S.left src.old) (S.left src.new) (λ given. Gains (K.held out.old) (K.held out.new)
-        (AreAnswered (workers_in (map string_bytes words.now)) (whole_script given) result.registry result.board)) }
-    ensures answered_up_to { IsSome (script_asked (map string_bytes words.now)) → result.status ≡ 6 → Gives (S.left src.old) (S.left src.new) (λ given. (m : ℕ) × (2 ^ 28 - 65535 ≤ m) × (m ≤ 2 ^ 28) × Gains (K.held out.old) (K.held out.new)
-        (AreAnswered (workers_in (map string_bytes words.now)) (whole_script (take m given)) result.registry result.board)) }
-    ensures answered_front { IsSome (script_asked (map string_bytes words.now)) → result.status ≡ 4 → Gives (S.left src.old) (S.left src.new) (λ given. Gains (K.held out.old) (K.held out.new)
-        (BeginsWithText (workers_in (map string_bytes words.now)) (whole_script (take (length given - 65536) given)) result.registry result.board)) }
+    ensures answered { IfSome (script_asked (map string_bytes words.now)) (λ options. result.status ≡ 3 → Gives (S.left src.old) (S.left src.new) (λ given. Gains (K.held out.old) (K.held out.new)
+        (AreAnswered options.workers (whole_script given) result.registry result.board))) }
+    ensures answered_up_to { IfSome (script_asked (map string_bytes words.now)) (λ options. result.status ≡ 6 → Gives (S.left src.old) (S.left src.new) (λ given. (m : ℕ) × (2 ^ 28 - 65535 ≤ m) × (m ≤ 2 ^ 28) × Gains (K.held out.old) (K.held out.new)
+        (AreAnswered options.workers (whole_script (take m given)) result.registry result.board))) }
+    ensures answered_front { IfSome (script_asked (map string_bytes words.now)) (λ options. result.status ≡ 4 → Gives (S.left src.old) (S.left src.new) (λ given. Gains (K.held out.old) (K.held out.new)
+        (BeginsWithText options.workers (whole_script (take (length given - 65536) given)) result.registry result.board))) }
 
     // Whatever ended the run, each entry of a history is right for those before it, each instance is what its template makes of
     // its children, and only the script, or the load, and the workers made entries.

@@ -200,7 +200,7 @@ const IN_TURN: [&str; 4] = ["--workers 0", "--workers 1", "--workers 2", "--work
 
 #[test]
 fn each_read_and_each_write_fails_in_turn(rt: HostRuntime) {
-    for number in 0..110u32 {
+    for number in 0..150u32 {
         let line = IN_TURN[number as usize % 4];
         fail_read(&rt, rt.alloc(), line, 1, number);
         fail_read(&rt, rt.alloc(), line, 7, number);

@@ -279,6 +279,16 @@ pub fn row_of(rt: &impl Abort, row: &'static str) -> Row {
     }
 }
 
+/// The row of this name.
+pub fn row_named(rt: &impl Abort, rows: &'static str, name: &str) -> Row {
+    for row in rows.split("%\n") {
+        if row.starts_with(name) {
+            return row_of(rt, row);
+        }
+    }
+    panic!(rt; "{name}")
+}
+
 /// Each row holds beside each number of workers.
 pub fn expect_rows<R: Abort + Threads + Wait + Sync>(rt: &R, alloc: Global, rows: &'static str) {
     for row in rows.split("%\n") {

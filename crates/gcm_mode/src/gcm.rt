@@ -75,7 +75,7 @@ impl<C: BlockCipher + Drop, H: GhashKey + Drop> Gcm<C, H> {
     }
 
     /// Makes the plaintext of `text` in its place (7.2). `associated` and `text` have fewer than 2^32 bytes each, `tag` has 4, 8 or
-    /// 12 to 16. `EBADMSG` exactly where `tag` isn't the front of the full tag: the text is then unchanged.
+    /// 12 to 16 bytes. `EBADMSG` exactly where `tag` isn't the front of the full tag: the text is then unchanged.
     pub fn unseal(
         &self,
         iv: &[u8; 12],

@@ -11,7 +11,7 @@ use std_defs::block_number;
 const FOLD: u128 = 0xe1 << 120;
 
 /// The products of each half byte at each place with the hash subkey: `tables[p][n]` is that of the block which has `n` at
-/// place `p`, counted from the right, and zeros else.
+/// place `p`, counted from the right, and zeros else. They take 8 KiB; which are read depends on the subkey and on what is hashed.
 #[derive(Drop)]
 pub struct NibbleGhash {
     h: u128,

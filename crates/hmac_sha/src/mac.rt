@@ -29,7 +29,7 @@ fn hasher_of(block: &[u8; 64], pad: u8) -> Sha256
     hasher
 }
 
-/// A key of HMAC, seen as a block of 64 bytes (K0). Both hashers have taken their padded block already, so a MAC hashes
+/// A key of HMAC (FIPS 198-1, 4) of any length, seen as a block of 64 bytes (K0). Both hashers have taken their padded block already, so a MAC hashes
 /// no block of the key again.
 #[derive(Drop)]
 pub struct Mac {

@@ -90,17 +90,17 @@ collect-says waits k l live live' pipe n count callbacks all text a b text' has 
 
 -- what a poll collects, and what a drain does
 pub polled-collected : {A : Type 0} (result : Result A BoardErr) (waits : Bool) (k l : Known (BoardEntry Ask)) (pipe : Pipe) (had has : List (Callback Finished)) → waits ≡ false
-    → MatchResult result (λ _. (callbacks : List (Callback Finished)) × (all : Bool) × (has ≡ had ++ callbacks) × Polled k l pipe callbacks all × AreWithin (length pipe.lines) (accepted_by k.number k.seen) callbacks) (λ e. (e ≡ board_err.Memory) × Kept k l)
+    → MatchResult result (λ _. (callbacks : List (Callback Finished)) × (all : Bool) × (has ≡ had ++ callbacks) × Polled k l pipe callbacks all × AreWithin (length pipe.lines) (accepted_by k.number k.seen) callbacks) (λ e. (e ≡ board_err.Memory) × (has ≡ had) × Kept k l)
     → MatchResult result (λ _. Collected waits k l pipe had has) (λ _. Kept k l)
 polled-collected (Ok done) waits k l pipe had has off d =
     record { callbacks = d.0; all = d.1; whole = λ yes. absurd (let both : true ≡ false = sym yes ∙ off in cc); added = d.2; polled = d.3; within = d.4 }
-polled-collected (Err e) waits k l pipe had has off kept = kept.1
+polled-collected (Err e) waits k l pipe had has off kept = kept.2
 
 pub drained-collected : {A : Type 0} (result : Result A BoardErr) (waits : Bool) (k l : Known (BoardEntry Ask)) (pipe : Pipe) (had has : List (Callback Finished))
-    → MatchResult result (λ _. (callbacks : List (Callback Finished)) × (has ≡ had ++ callbacks) × Drained k l pipe callbacks × (pipe.delivered + completions callbacks ≡ length pipe.lines) × AreWithin (length pipe.lines) (accepted_by k.number k.seen) callbacks) (λ e. (e ≡ board_err.Memory) × Kept k l)
+    → MatchResult result (λ _. (callbacks : List (Callback Finished)) × (has ≡ had ++ callbacks) × Drained k l pipe callbacks × (pipe.delivered + completions callbacks ≡ length pipe.lines) × AreWithin (length pipe.lines) (accepted_by k.number k.seen) callbacks) (λ e. (e ≡ board_err.Memory) × (has ≡ had) × Kept k l)
     → MatchResult result (λ _. Collected waits k l pipe had has) (λ _. Kept k l)
 drained-collected (Ok done) waits k l pipe had has d = record { callbacks = d.0; all = true; whole = λ yes. refl; added = d.1; polled = d.2; within = d.4 }
-drained-collected (Err e) waits k l pipe had has kept = kept.1
+drained-collected (Err e) waits k l pipe had has kept = kept.2
 
 -- ---- the last drain
 

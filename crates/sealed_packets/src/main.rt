@@ -9,7 +9,7 @@ use kc_base::Errno;
 use packets::{gcm_under, mac_of, open_esp, open_packet, seal_and_open, seal_esp, seal_packet};
 use std::alloc::Global;
 
-/// An IP packet with a UDP datagram of SIP.
+/// An IP packet that asks DNS for the SRV record of a SIP service.
 const DATAGRAM: &[u8; 72] = b"\x45\x00\x00\x48\x69\x9a\x00\x00\x80\x11\x4d\xb7\xc0\xa8\x01\x02\
     \xc0\xa8\x01\x01\x0a\x9b\xf1\x56\x38\xd3\x01\x00\x00\x01\x00\x00\x00\x00\x00\x00\
     \x04_sip\x04_udp\x03sip\x09cybercity\x02dk\x00\x00\x21\x00\x01\x01\x02\x02\x01";

@@ -363,8 +363,8 @@ pub poll-changed : Laws → (k l : Known (BoardEntry Ask)) (pipe : Pipe) (into i
     → AtTurn caller_of LegalBoard k (λ h. let es = entries_of pipe.number h in MatchResult r
     (λ _. (into' ≡ into ++ delivered outcome es (length (told es))) × Enters LegalBoard k h (event.Collect k.number pipe.number (length (told es))) l)
     (λ e. (e ≡ Memory) × (into' ≡ into) × Leaves k h l))
-    → MatchResult r (λ _. (callbacks : List (Callback Finished)) × (all : Bool) × (into' ≡ into ++ callbacks) × Polled k l pipe callbacks all × AreWithin (length pipe.lines) (accepted_by k.number k.seen) callbacks) (λ e. (e ≡ Memory) × Kept k l)
-poll-changed laws k l pipe into into' (Err e) on turn = (turn.2.0, leaves-kept laws k l turn.0 turn.1 turn.2.2)
+    → MatchResult r (λ _. (callbacks : List (Callback Finished)) × (all : Bool) × (into' ≡ into ++ callbacks) × Polled k l pipe callbacks all × AreWithin (length pipe.lines) (accepted_by k.number k.seen) callbacks) (λ e. (e ≡ Memory) × (into' ≡ into) × Kept k l)
+poll-changed laws k l pipe into into' (Err e) on turn = (turn.2.0, turn.2.1, leaves-kept laws k l turn.0 turn.1 turn.2.2)
 poll-changed laws k l pipe into into' (Ok done) on turn =
     let h = turn.0 in
     let es = entries_of pipe.number h in
@@ -472,10 +472,10 @@ drained-within laws k m pipe h to worked on met =
 
 pub crew-drained : Laws → (k l : Known (BoardEntry Ask)) (pipe : Pipe) (into into' : List (Callback Finished)) (r : Result (Unit {0}) BoardErr) → LegalBoard k.seen → KnowsPipe k pipe
     → MatchResult r (λ _. CrewDrained outcome pipe.number k l into into') (λ e. (e ≡ Memory) × (into' ≡ into) × Worked k l)
-    → MatchResult r (λ _. (callbacks : List (Callback Finished)) × (into' ≡ into ++ callbacks) × Drained k l pipe callbacks × (pipe.delivered + completions callbacks ≡ length pipe.lines) × AreWithin (length pipe.lines) (accepted_by k.number k.seen) callbacks) (λ e. (e ≡ Memory) × Kept k l)
+    → MatchResult r (λ _. (callbacks : List (Callback Finished)) × (into' ≡ into ++ callbacks) × Drained k l pipe callbacks × (pipe.delivered + completions callbacks ≡ length pipe.lines) × AreWithin (length pipe.lines) (accepted_by k.number k.seen) callbacks) (λ e. (e ≡ Memory) × (into' ≡ into) × Kept k l)
 crew-drained laws k l pipe into into' (Err e) legal on did =
     let w = did.2 in
-    (did.0, goes-kept laws k l w.own w.goes w.work (still_kept caller_of LegalBoard k l w.own w.goes legal))
+    (did.0, did.1, goes-kept laws k l w.own w.goes w.work (still_kept caller_of LegalBoard k l w.own w.goes legal))
 crew-drained laws k l pipe into into' (Ok done) legal on did =
     let m = did.0 in
     let w = did.1 in

@@ -308,7 +308,8 @@ impl BoardCaller {
     }
 
     /// Hands out what a pipeline of the caller's has told and no call handed out before: at most a start and a completion of
-    /// each of its requests, with at most 64 bytes more for each than was asked. Only want of memory refuses.
+    /// each of its requests, with at most 64 bytes more for each than was asked. Only want of memory refuses, and hands
+    /// out nothing.
     pub fn poll<R: Wait>(
         &mut self,
         rt: &R,
@@ -321,7 +322,7 @@ impl BoardCaller {
         ensures lock { lock_of self.new ≡ lock_of self.old }
         ensures polled { MatchResult result
             (λ _. (callbacks : List (Told Outcome)) × (all : Bool) × (into.new.list ≡ into.old.list ++ callbacks) × Polled (known self.old) (known self.new) pipe.now callbacks all × AreWithin (length pipe.now.lines) (accepted_by (known self.old).number (known self.old).seen) callbacks)
-            (λ e. (e ≡ BoardErr.Memory) × Kept (known self.old) (known self.new)) }
+            (λ e. (e ≡ BoardErr.Memory) × (into.new.list ≡ into.old.list) × Kept (known self.old) (known self.new)) }
     {
         board_laws();
         let pass = self.pass.take().unwrap();
@@ -331,7 +332,8 @@ impl BoardCaller {
     }
 
     /// Does what jobs there are until each of a pipeline of the caller's is done, and hands out what no call handed out before, as
-    /// `poll` does: with it all is handed out. Only want of memory refuses.
+    /// `poll` does: with it all is handed out. Only want of memory refuses, and hands out
+    /// nothing.
     pub fn drain<R: Wait, G: Gate>(
         &mut self,
         rt: &R,
@@ -346,7 +348,7 @@ impl BoardCaller {
         ensures lock { lock_of self.new ≡ lock_of self.old }
         ensures drained { MatchResult result
             (λ _. (callbacks : List (Told Outcome)) × (into.new.list ≡ into.old.list ++ callbacks) × Drained (known self.old) (known self.new) pipe.now callbacks × (pipe.now.delivered + completions callbacks ≡ length pipe.now.lines) × AreWithin (length pipe.now.lines) (accepted_by (known self.old).number (known self.old).seen) callbacks)
-            (λ e. (e ≡ BoardErr.Memory) × Kept (known self.old) (known self.new)) }
+            (λ e. (e ≡ BoardErr.Memory) × (into.new.list ≡ into.old.list) × Kept (known self.old) (known self.new)) }
     {
         board_laws();
         let pass = self.pass.take().unwrap();

@@ -167,8 +167,9 @@ impl Segs {
         self.len = len;
     }
 
-    /// Has the walker go over the text from its front: over the whole blocks of 16 bytes that lie in one segment where they
-    /// are, and over what lies in several in pieces of eight blocks, or of what is left. Each segment keeps its length.
+    /// Has the walker go over the text from its front: over a segment's whole blocks of 16 bytes where they lie, and, where a
+    /// segment ends within a block, over a copy of the next 128 bytes, or of what is left of the text, which is written back;
+    /// then on from there. Each segment keeps its length.
     pub fn walk<W: Walker>(&mut self, walker: &mut W)
         ensures text { W.makes walker.old self.old.text self.new.text walker.new }
         ensures sizes { self.new.sizes ≡ self.old.sizes }

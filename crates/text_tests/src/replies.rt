@@ -1,4 +1,4 @@
-//! The text of answers of which script_tests has no line.
+//! Answers with the greatest numbers, and their text.
 
 use kc_base::Errno;
 use reply_text::{Answer, Reply};

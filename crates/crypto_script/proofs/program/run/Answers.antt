@@ -1,6 +1,6 @@
 use Rattle.std.proofs.Common.{◌≡◌, ap, ◌∙◌, Some, Ok}
 use Rattle.std.specs.Prelude.{map, string_bytes}
-use Rattle.crypto_script.specs.Words.{script_asked, script_in_mode, load_asked, workers_in, workers_by, traces_in, traces_by}
+use Rattle.crypto_script.specs.Words.{script_asked, script_in_mode}
 use Rattle.crypto_script.proofs.Stopping.{load-reads, reaches-end}
 use Rattle.crypto_script.proofs.program.run.Goals as goal
 
@@ -16,9 +16,7 @@ returns-clause-complete g c =
     ran.usage (λ e. no_read (ran.read_fault e)) (λ e. no_write (ran.write_fault e)) c.outcome_of-2.ensures.status
 
 pub returns-clause-front : goal.returns-clause-front
-returns-clause-front g c some =
+returns-clause-front g c =
     let words = map string_bytes c.args.words.now in
     let asked : script_asked words ≡ Some c.in-Script.options = c.in-Ok.ensures.script ∙ ap (λ m. script_in_mode (Ok m)) c.in-Script.is in
-    let workers : workers_in words ≡ c.in-Script.options.workers = ap (λ o. workers_by o (load_asked words)) asked in
-    let trace : traces_in words ≡ c.in-Script.options.trace = ap traces_by asked in
-    rw (workers, trace, c.outcome_of-2.ensures.registry, c.outcome_of-2.ensures.board) c.run_traced.ensures.front
+    rw (asked, c.outcome_of-2.ensures.registry, c.outcome_of-2.ensures.board) c.run_traced.ensures.front

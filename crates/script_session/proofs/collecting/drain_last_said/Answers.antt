@@ -35,10 +35,10 @@ returns-in_err-reserve-clause-told g c = told-nothing (known c.args.caller.now) 
 
 pub returns-in_err-drain-clause-moved : goal.returns-in_err-drain-clause-moved
 returns-in_err-drain-clause-moved g c =
-    fails c.from_residual-in_err-drain.result _ c.from_residual-in_err-drain.ensures.0 (kept-sees (known c.args.caller.now) (known c.drain.new.self) c.in_err-drain.ensures.drained.1)
+    fails c.from_residual-in_err-drain.result _ c.from_residual-in_err-drain.ensures.0 (kept-sees (known c.args.caller.now) (known c.drain.new.self) c.in_err-drain.ensures.drained.2)
 
 pub returns-in_err-drain-clause-told : goal.returns-in_err-drain-clause-told
-returns-in_err-drain-clause-told g c = told-nothing (known c.args.caller.now) (known c.drain.new.self) _ _ c.in_err-drain.ensures.drained.1.called c.reserve.ensures.text
+returns-in_err-drain-clause-told g c = told-nothing (known c.args.caller.now) (known c.drain.new.self) _ _ c.in_err-drain.ensures.drained.2.called c.reserve.ensures.text
 
 pub put_callbacks-requires : goal.put_callbacks-requires
 put_callbacks-requires g c =

@@ -31,6 +31,6 @@ returns-clause-drained g c =
     let into' = c.drain-pass.new.into.list in
     let before = known (Some c.unwrap-pass.result) in
     let after = known (Some c.drain-pass.result.0) in
-    subst (λ o. MatchResult c.drain-pass.result.1 (λ _. (callbacks : List (Callback Finished)) × (into' ≡ into ++ callbacks) × Drained (known o) after c.args.pipe.now callbacks × (c.args.pipe.now.delivered + completions callbacks ≡ length c.args.pipe.now.lines) × AreWithin (length c.args.pipe.now.lines) (accepted_by (known o).number (known o).seen) callbacks) (λ e. (e ≡ Memory) × Kept (known o) after)) (sym at_hand)
-    (subst (λ (p : Pipe). MatchResult c.drain-pass.result.1 (λ _. (callbacks : List (Callback Finished)) × (into' ≡ into ++ callbacks) × Drained before after p callbacks × (p.delivered + completions callbacks ≡ length p.lines) × AreWithin (length p.lines) (accepted_by before.number before.seen) callbacks) (λ e. (e ≡ Memory) × Kept before after)) c.pipe.view_is
+    subst (λ o. MatchResult c.drain-pass.result.1 (λ _. (callbacks : List (Callback Finished)) × (into' ≡ into ++ callbacks) × Drained (known o) after c.args.pipe.now callbacks × (c.args.pipe.now.delivered + completions callbacks ≡ length c.args.pipe.now.lines) × AreWithin (length c.args.pipe.now.lines) (accepted_by (known o).number (known o).seen) callbacks) (λ e. (e ≡ Memory) × (into' ≡ into) × Kept (known o) after)) (sym at_hand)
+    (subst (λ (p : Pipe). MatchResult c.drain-pass.result.1 (λ _. (callbacks : List (Callback Finished)) × (into' ≡ into ++ callbacks) × Drained before after p callbacks × (p.delivered + completions callbacks ≡ length p.lines) × AreWithin (length p.lines) (accepted_by before.number before.seen) callbacks) (λ e. (e ≡ Memory) × (into' ≡ into) × Kept before after)) c.pipe.view_is
     (crew-drained c.board_laws.ensures before after p into into' c.drain-pass.result.1 (subst (λ o. LegalBoard (known o).seen) at_hand c.requires.legal) on c.drain-pass.ensures.drained))

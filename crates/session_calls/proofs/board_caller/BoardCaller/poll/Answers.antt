@@ -29,6 +29,6 @@ returns-clause-polled g c =
     let into' = c.poll-pass.new.into.list in
     let before = known (Some c.unwrap-pass.result) in
     let after = known (Some c.poll-pass.result.0) in
-    subst (λ o. MatchResult c.poll-pass.result.1 (λ _. (callbacks : List (Callback Finished)) × (all : Bool) × (into' ≡ into ++ callbacks) × Polled (known o) after c.args.pipe.now callbacks all × AreWithin (length c.args.pipe.now.lines) (accepted_by (known o).number (known o).seen) callbacks) (λ e. (e ≡ Memory) × Kept (known o) after)) (sym at_hand)
-    (subst (λ (p : Pipe). MatchResult c.poll-pass.result.1 (λ _. (callbacks : List (Callback Finished)) × (all : Bool) × (into' ≡ into ++ callbacks) × Polled before after p callbacks all × AreWithin (length p.lines) (accepted_by before.number before.seen) callbacks) (λ e. (e ≡ Memory) × Kept before after)) c.pipe.view_is
+    subst (λ o. MatchResult c.poll-pass.result.1 (λ _. (callbacks : List (Callback Finished)) × (all : Bool) × (into' ≡ into ++ callbacks) × Polled (known o) after c.args.pipe.now callbacks all × AreWithin (length c.args.pipe.now.lines) (accepted_by (known o).number (known o).seen) callbacks) (λ e. (e ≡ Memory) × (into' ≡ into) × Kept (known o) after)) (sym at_hand)
+    (subst (λ (p : Pipe). MatchResult c.poll-pass.result.1 (λ _. (callbacks : List (Callback Finished)) × (all : Bool) × (into' ≡ into ++ callbacks) × Polled before after p callbacks all × AreWithin (length p.lines) (accepted_by before.number before.seen) callbacks) (λ e. (e ≡ Memory) × (into' ≡ into) × Kept before after)) c.pipe.view_is
     (poll-changed c.board_laws.ensures before after p into into' c.poll-pass.result.1 on c.poll-pass.ensures.turn))
