@@ -106,10 +106,13 @@ abbrev pub lets_go : Option Pipe → Dialogue → Dialogue
 lets_go None rest = rest
 lets_go (Some pipe) rest = if pipe.held then (Posts (Go pipe.number) λ done. rest) else rest
 
+-- how many completions a transform's last callbacks have, where there is one
+abbrev pub end_said : List ℕ → ℕ → List Answer
+end_said label count = if count == 0 then [] else said.End label count ∷ []
+
 -- what is told, and then how many completions are among it, if any
 abbrev pub said_at_end : List ℕ → List Notice → List Answer
-said_at_end label notices =
-    map notice_said notices ++ (if completions notices == 0 then [] else said.End label (completions notices) ∷ [])
+said_at_end label notices = map notice_said notices ++ end_said label (completions notices)
 
 abbrev pub drains_at_end : List ℕ → Option Pipe → Dialogue → Dialogue
 drains_at_end label None rest = rest

@@ -20,7 +20,7 @@ use Rattle.transforms.specs.declared.request.Finished.{Finished}
 use Rattle.turn_lock.specs.Turns.{Known, sees}
 use Rattle.dialogues.specs.BoardCalls.{BoardCall, Goes, Collects, Shuts}
 use Rattle.dialogues.specs.Dialogues.{Dialogue, Ends, Posts}
-use Rattle.dialogues.specs.Piping.{lets_go, let_all_go, drains_at_end, drain_all, end, said_at_end, notice_said}
+use Rattle.dialogues.specs.Piping.{lets_go, let_all_go, drains_at_end, drain_all, end, end_said, said_at_end, notice_said}
 use Rattle.dialogues.specs.Questions.{Shut}
 use Rattle.dialogues.specs.Turns.{IsTurn, ended, joined, posting}
 use Rattle.dialogues.specs.Walk.{Walk, Live, Pipe}
@@ -29,7 +29,7 @@ use Rattle.session_calls.specs.Passes.{RegPass, BoardPass, known, lock_of}
 use Rattle.session_calls.specs.Pipelines.{KnowsPipe, Called, Changed, Drained, IsShut, notice_by, line_of}
 use Rattle.session_calls.proofs.Boarding.{kept-same, called-more, starts-same}
 use Rattle.script_session.specs.Changing.{Changes}
-use Rattle.script_session.specs.Ending.{LeadsBy, part, Moves, MovesAll, ArePosted, AreAllPaid, IsPaid, end_said, place_of, EndsWith, AnswersEnd, EndsShut}
+use Rattle.script_session.specs.Ending.{LeadsBy, part, Moves, MovesAll, ArePosted, AreAllPaid, IsPaid, place_of, EndsWith, AnswersEnd, EndsShut}
 use Rattle.script_session.specs.Holding.{HasSeenMore, SeesOn, Stops}
 use Rattle.script_session.specs.Keyed.{held_as, delivering}
 use Rattle.script_session.specs.States.{State, SameLocks, Stands, HasPipe, is_at, owners}

@@ -22,13 +22,13 @@ use Rattle.reply_text.specs.declared.answers.Answer.TheVariants as said
 use Rattle.turn_lock.specs.Turns.{Known}
 use Rattle.dialogues.specs.BoardCalls.{Goes, Collects}
 use Rattle.dialogues.specs.Dialogues.{Dialogue, says}
-use Rattle.dialogues.specs.Piping.{drains_at_end, drain_all, notice_said}
+use Rattle.dialogues.specs.Piping.{drains_at_end, drain_all, notice_said, end_said}
 use Rattle.dialogues.specs.Walk.{Walk, Live, Pipe, live_of}
 use Rattle.session_calls.specs.Bounds.{AreWithin}
 use Rattle.session_calls.specs.Passes.{known}
 use Rattle.session_calls.specs.Pipelines.{Called, Changed, Kept, Polled, Drained, notice_by}
 use Rattle.session_calls.proofs.Boarding.{kept-same, called-more}
-use Rattle.script_session.specs.Ending.{Moves, ArePosted, end_said}
+use Rattle.script_session.specs.Ending.{Moves, ArePosted}
 use Rattle.script_session.specs.Holding.{SeesOn, Holds}
 use Rattle.script_session.specs.Keyed.{delivering}
 use Rattle.script_session.specs.Saying.{SaysFor, BreaksFor, SaysBy, BreaksOff, SaysMove, SaysMoves, is_told, call_says, Tells, SaysTold, collects, collected_said, Collected}

@@ -1,5 +1,5 @@
 -- The end of input: held pipelines are let go, each is drained, and then the board is shut.
-use Rattle.std.specs.Prelude.{ℕ, ◌==◌, if◌then◌else◌, ◌≡◌, false, List, [], ◌∷◌, ◌++◌, length, map, Option, Some, None, ⊤, All}
+use Rattle.std.specs.Prelude.{ℕ, ◌≡◌, false, List, [], ◌∷◌, ◌++◌, length, map, Option, Some, None, ⊤, All}
 use Rattle.std.specs.Option.{option_map}
 use Rattle.board.specs.declared.entry.BoardEntry.{BoardEntry}
 use Rattle.board.specs.declared.entry.BoardEntry.TheVariants.{Shut}
@@ -8,7 +8,6 @@ use Rattle.board.specs.Entries.{entries_of, submissions, front, is_closed}
 use Rattle.board.specs.Legal.{MayManage}
 use Rattle.transforms.specs.declared.ask.Ask.{Ask}
 use Rattle.reply_text.specs.declared.answers.Answer.{Answer}
-use Rattle.reply_text.specs.declared.answers.Answer.TheVariants as said
 use Rattle.turn_lock.specs.Turns.{Known}
 use Rattle.dialogues.specs.BoardCalls.{BoardCall}
 use Rattle.dialogues.specs.Dialogues.{Dialogue}
@@ -52,10 +51,6 @@ pub record Moves (dialogue : Dialogue → Dialogue) (live live' : Live) (k l : K
 abbrev pub IsPaid : Option Pipe → Type 0
 IsPaid None = ⊤
 IsPaid (Some pipe) = pipe.delivered ≡ length pipe.lines
-
--- how many completions a transform's last callbacks have, where there is one
-abbrev pub end_said : List ℕ → ℕ → List Answer
-end_said label count = if count == 0 then [] else said.End label count ∷ []
 
 -- ---- all of them
 

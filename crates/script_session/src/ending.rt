@@ -2,8 +2,8 @@
 
 ghost use Rattle.std.specs.Prelude.{◌≡◌, ◌++◌, [], OnOk, OnErr, MatchResult};
 ghost use Rattle.board.specs.Legal.{LegalBoard};
-ghost use Rattle.dialogues.specs.Piping.{lets_go, let_all_go, drains_at_end, drain_all};
-ghost use Rattle.script_session.specs.Ending.{Moves, MovesAll, ArePosted, AreAllPaid, IsPaid, end_said, AnswersEnd, EndsShut};
+ghost use Rattle.dialogues.specs.Piping.{lets_go, let_all_go, drains_at_end, drain_all, end_said};
+ghost use Rattle.script_session.specs.Ending.{Moves, MovesAll, ArePosted, AreAllPaid, IsPaid, AnswersEnd, EndsShut};
 ghost use Rattle.script_session.specs.Holding.{SeesOn, Stops};
 ghost use Rattle.script_session.specs.Saying.{SaysTold, Tells};
 ghost use Rattle.script_session.specs.States.{HasPipe, Stands, Posted};

@@ -7,7 +7,7 @@ use Rattle.dialogues.specs.Walk.{Pipe}
 use Rattle.reply_text.specs.Answers.{text_of}
 use Rattle.session_calls.specs.Passes.{known}
 use Rattle.session_calls.proofs.Boarding.{kept-same}
-use Rattle.script_session.specs.Ending.{end_said}
+use Rattle.dialogues.specs.Piping.{end_said}
 use Rattle.script_session.specs.Saying.{callback_room}
 use Rattle.script_session.specs.Telling.{callback_said}
 use Rattle.script_session.proofs.Arms.{sees-same, kept-sees}

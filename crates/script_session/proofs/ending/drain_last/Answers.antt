@@ -2,7 +2,7 @@ use Rattle.std.proofs.Common.{ap, sym, ◌∙◌, ◌++◌, map, append_assoc}
 use Rattle.board.specs.Handing.{completions}
 use Rattle.dialogues.specs.Walk.{Pipe}
 use Rattle.session_calls.specs.Passes.{known}
-use Rattle.script_session.specs.Ending.{end_said}
+use Rattle.dialogues.specs.Piping.{end_said}
 use Rattle.script_session.specs.Telling.{callback_said}
 use Rattle.script_session.proofs.Ended.{stays-put, drains-last}
 use Rattle.script_session.proofs.Leading.{drains-none}
