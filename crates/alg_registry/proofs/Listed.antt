@@ -26,10 +26,10 @@ use Rattle.alg_registry.proofs.Changing.{a_row}
 
 -- ---- an entry stands on older ones
 
-abbrev Older : ℕ → List ℕ → Type 0
+abbrev pub Older : ℕ → List ℕ → Type 0
 Older m ids = AllByRecursion (λ c. c < m) ids
 
-abbrev ChildrenOlder : List RegEntry → Type 0
+abbrev pub ChildrenOlder : List RegEntry → Type 0
 ChildrenOlder h = (id : ℕ) (spec : Spec) → slice_get (registered h) id ≡ Some spec → Older id spec.below
 
 at_push : (xs : List Spec) (x : Spec) (k : ℕ) (y : Spec) → slice_get (xs ++ x ∷ []) k ≡ Some y → (slice_get xs k ≡ Some y) ⊎ ((k ≡ length xs) × (x ≡ y))
@@ -94,7 +94,7 @@ older_step h e older right id spec at = by_new (registered_by e) refl (ap (λ (s
       | inr new ↦ subst (λ (m : ℕ). Older m spec.below) (sym new.0) (subst (λ (x : Spec). Older (length (registered h)) x.below) new.1 (older_new h e s right is))
     ]
 
-children-older : (h : List RegEntry) → LegalReg h → ChildrenOlder h
+pub children-older : (h : List RegEntry) → LegalReg h → ChildrenOlder h
 children-older h legal = legal_along ChildrenOlder older_step [] h older_start legal
 
 -- ---- so being listed goes up from the oldest

@@ -1,7 +1,7 @@
 //! What holds of every history that a registry can have, and what such histories are.
 
 ghost use Rattle.alg_registry.specs.Legal.{LegalReg};
-ghost use Rattle.alg_registry.specs.Lifetimes.{NeverHandedOutAgain, HeldWhileReferenced, HeldByCaller, HeldFromGetToPut, ListedIs, BestAnswers, BestIsGreatest};
+ghost use Rattle.alg_registry.specs.Lifetimes.{NeverHandedOutAgain, HeldWhileReferenced, HeldByCaller, HeldFromGetToPut, ListedIs, ReferencesAre, BestAnswers, BestIsGreatest};
 ghost use Rattle.alg_registry.specs.Made.{Made};
 ghost use Rattle.alg_registry.specs.Naming.{LooksName, EndsName};
 ghost use Rattle.alg_registry.specs.OwnCalls.{AllStays, BuildingIsOwn, OpenIsClaimed, LooksAreOwn, ReferencesAreOwn, AllHaveEnded, AllHaveEndedFor};
@@ -11,6 +11,7 @@ ghost use Rattle.alg_registry.specs.Trial.{run, after_unlist, asked_by_worker, c
 pub fn lifetimes()
     ensures never_handed_out { NeverHandedOutAgain }
     ensures listed { ListedIs }
+    ensures references { ReferencesAre }
     ensures held { HeldWhileReferenced }
     ensures held_by_caller { HeldByCaller }
     ensures held_to_put { HeldFromGetToPut }
