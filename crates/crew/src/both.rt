@@ -39,7 +39,7 @@ fn build_if_any<R: Wait>(
 /// Does what jobs wait for this caller, otherwise passes a request on where a chain has one, and otherwise builds one larval where
 /// one waits. False where none was found. Where memory runs out while it builds it answers true, and a larval that was
 /// claimed is ended with `NoMemory`.
-pub fn work_or_build<W: Work, G: Gate, R: Wait>(
+fn work_or_build<W: Work, G: Gate, R: Wait>(
     rt: &R,
     alloc: Global,
     board: &SharedBoard<W>,

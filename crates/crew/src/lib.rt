@@ -8,7 +8,7 @@ mod laws;
 mod passes;
 mod working;
 
-pub use both::{work_on, work_or_build};
+pub use both::work_on;
 pub use crew::run_crew;
 pub use gate::{Gate, NoGate};
 pub use laws::{crew_works, crews_end};

@@ -40,7 +40,8 @@ pub(crate) struct Bells {
     over: AtomicBool,
     /// Whether some pad was masked: then one worker that is woken may not be one that may take the job.
     masked: AtomicBool,
-    /// Whether some queue or chain was made: the end of its job lets the next be taken, and nothing rings for that.
+    /// Whether some queue or chain was made: then a job may be ready that was never counted, as a queue's next is once the one
+    /// before it is finished.
     queues: AtomicBool,
     /// How many jobs came that no worker has noticed. Some may have been taken all the same.
     unnoticed: CachePadded<AtomicU64>,
@@ -79,6 +80,16 @@ impl Bells {
         if self.masked.load(Ordering::SeqCst) {
             self.jobs.notify_all();
         } else if before >= self.awake.load(Ordering::SeqCst) {
+            self.jobs.notify_one();
+        }
+    }
+
+    /// A job was taken, or finished with no look for the next. Where there are queues another may be ready for which no call
+    /// rings, and it wakes a worker that sleeps, unless some stay awake: each of these looks at the board by a turn before it
+    /// sleeps, and comes here again where it takes a job. So two that became ready are not left to one worker for longer than it
+    /// stays awake. It counts nothing, since more often than not there is none.
+    pub(crate) fn ring_next(&self) {
+        if self.queues.load(Ordering::SeqCst) && self.awake.load(Ordering::SeqCst) == 0 {
             self.jobs.notify_one();
         }
     }

@@ -190,6 +190,8 @@ impl<W: Work> SharedBoard<W> {
     /// From now on the workers whose bits are set may take from the pad, besides its maker and who submits to it: bit i stands
     /// for worker i + 1. What was submitted before stays, and is completed in order. The caller made the pad, which is neither
     /// closed nor shared, and no bit stands at or above the number of lists that it was made with. Only want of memory refuses.
+    /// From then on, whatever masks come later, each job of the board wakes all workers that sleep, and none stays awake
+    /// (`linger`).
     pub fn mask<R: Wait>(
         &self,
         rt: &R,
@@ -281,7 +283,8 @@ impl<W: Work> SharedBoard<W> {
 
     /// Hands out a job that this caller may take: of a pad, or of the pad within a chain, the first that nobody has taken,
     /// where the caller made the pipeline, submitted to it, or is a worker in its mask; of a queue the first that waits, where
-    /// it is neither held nor busy. `None` exactly where there is none. No memory is taken.
+    /// it is neither held nor busy. `None` exactly where there is none. No memory is taken. Once a queue or a chain was made, a
+    /// take that found a job wakes a worker that sleeps, unless one stays awake, since another may be ready.
     pub fn take<R: Wait>(&self, rt: &R, pass: BoardPass<W>) -> (BoardPass<W>, Option<Taken<W>>)
         requires { IsPassOn self.now pass }
         ensures lock { IsPassOn self.now result.0 }
@@ -297,13 +300,17 @@ impl<W: Work> SharedBoard<W> {
         let answer = turn.get().take(caller);
         let added = answer.is_some();
         let pass = turn.give(added);
-        if !added {
+        if added {
+            self.bells.ring_next();
+        } else {
             self.bells.forget(caller, unnoticed);
         }
         (pass, answer)
     }
 
-    /// Records the outcome of a job that this caller took and hasn't finished: what the job's ask means. No memory is taken.
+    /// Records the outcome of a job that this caller took and hasn't finished: what the job's ask means. No memory is taken. It
+    /// wakes all who wait for an end (`watch_ends`), and, once a queue or a chain was made, a worker that sleeps, unless one stays
+    /// awake, since a queue's next request may be ready then.
     pub fn finish<R: Wait>(
         &self,
         rt: &R,
@@ -321,11 +328,13 @@ impl<W: Work> SharedBoard<W> {
         turn.get().finish(caller, slip, out);
         let pass = turn.give(true);
         self.bells.ring_end();
+        self.bells.ring_next();
         pass
     }
 
     /// Records the outcome of a job that this caller took and hasn't finished, as `finish` does, and at the same turn hands out the
-    /// next, as `take` does. No memory is taken.
+    /// next, as `take` does. No memory is taken. It wakes as `finish` does, but no worker where it hands out none, since then no
+    /// queue has a request that is ready.
     pub fn finish_and_take<R: Wait>(
         &self,
         rt: &R,
@@ -355,6 +364,7 @@ impl<W: Work> SharedBoard<W> {
         self.bells.ring_end();
         if added {
             self.bells.notice();
+            self.bells.ring_next();
         } else {
             self.bells.forget(caller, unnoticed);
         }
@@ -541,14 +551,16 @@ impl<W: Work> SharedBoard<W> {
         self.bells.ring_job();
     }
 
-    /// Whether a worker that did a job may find another: a hint that takes no turn. Who gets false stays awake for a while (`linger`), or
-    /// announces a wait and looks at the board once more.
+    /// Whether a worker that did a job may find another: a hint that takes no turn. True may have noticed a job that came, for which
+    /// nobody else then stays awake or is woken: who gets it has to look at the board by a turn. Who gets false stays awake for a
+    /// while (`linger`), or announces a wait and looks at the board once more.
     pub fn may_have_job(&self) -> bool {
         self.bells.may_have_job()
     }
 
-    /// Stays awake for a while for a job to come: a hint that takes no turn. Who gets false has to announce a wait, and to look at the
-    /// board once more, before it sleeps.
+    /// Stays awake for a while for a job to come: a hint that takes no turn. Jobs are left to who stays awake, and wake nobody else, so
+    /// it has to look at the board by a turn afterwards: who gets true at once, since that has noticed a job, and who gets false once
+    /// it has announced a wait, before it sleeps.
     pub fn linger(&self) -> bool {
         self.bells.linger()
     }
