@@ -153,7 +153,7 @@ module _ {J O A : Type 0} (asked : J → A) (meaning : A → O) where
   -- a request that the line took in
   queue_entered : (x : Server J O) (es : List (BoardEntry A)) (e : BoardEntry A) (place : ℕ) (job : J) (given : List Notice) → IsKeptStage asked meaning (stage.Queue x) place es → IsOrderly es given → is_some (birth es) ≡ true → accepted_in e ≡ Some (asked job) → dequeued_in e ≡ None → finished_in e ≡ None → tells es e ≡ [] → held_in e ≡ None
       → IsKeptCore asked meaning (stage.Queue (record x { line = record x.line { waiting = x.line.waiting ++ job ∷ [] } })) place (es ++ e ∷ [])
-  queue_entered x es e place job given k o b a d f t h = (line_accepted asked meaning x es e place job given k.0 o b a d t h, rw (filter_map-none finished_in es e f) k.1)
+  queue_entered x es e place job given k o b a d f t h = (line_accepted asked meaning x es e place job given k.0 o b a d t h, rw (filter_map-none finished_in es e f) k.1, k.2)
 
   chain_entered : (x : Chained J O) (es : List (BoardEntry A)) (e : BoardEntry A) (place : ℕ) (job : J) (given : List Notice) → IsKeptStage asked meaning (stage.Chain x) place es → IsOrderly es given → is_some (birth es) ≡ true → line_born (birth es) ≡ true → accepted_in e ≡ Some (asked job) → dequeued_in e ≡ None → taken_in e ≡ None → finished_in e ≡ None → tells es e ≡ [] → held_in e ≡ None
       → IsKeptCore asked meaning (stage.Chain (record x { line = record x.line { line = record x.line.line { waiting = x.line.line.waiting ++ job ∷ [] } } })) place (es ++ e ∷ [])
@@ -166,7 +166,7 @@ module _ {J O A : Type 0} (asked : J → A) (meaning : A → O) where
   entered_kept (stage.Queue x) es place p caller ask job backlog (InProgress n) given k h o b lb a = queue_entered x es (Enq caller p ask backlog (InProgress n)) place job given k o b (ap Some a) refl refl refl refl
   entered_kept (stage.Queue x) es place p caller ask job backlog (Busy n) given k h o b lb a = queue_entered x es (Enq caller p ask backlog (Busy n)) place job given k o b (ap Some a) refl refl refl refl
   entered_kept (stage.Queue x) es place p caller ask job backlog NoSpace given k h o b lb a =
-      (line_quiet asked meaning x es (Enq caller p ask backlog NoSpace) place k.0 b refl refl refl refl, rw (filter_map-none finished_in es (Enq caller p ask backlog NoSpace) refl) k.1)
+      (line_quiet asked meaning x es (Enq caller p ask backlog NoSpace) place k.0 b refl refl refl refl, rw (filter_map-none finished_in es (Enq caller p ask backlog NoSpace) refl) k.1, k.2)
   entered_kept (stage.Chain x) es place p caller ask job backlog (InProgress n) given k h o b lb a = chain_entered x es (Enq caller p ask backlog (InProgress n)) place job given k o b lb (ap Some a) refl refl refl refl refl
   entered_kept (stage.Chain x) es place p caller ask job backlog (Busy n) given k h o b lb a = chain_entered x es (Enq caller p ask backlog (Busy n)) place job given k o b lb (ap Some a) refl refl refl refl refl
   entered_kept (stage.Chain x) es place p caller ask job backlog NoSpace given k h o b lb a =

@@ -169,12 +169,12 @@ placed_core asked meaning (stage.Chain x) place es k l = (k.0, k.1, k.2, l, k.3,
 
 core_to : {J O A : Type 0} (asked : J → A) (meaning : A → O) (s : Stage J O) (place : ℕ) (es : List (BoardEntry A)) → IsKeptCore asked meaning s place es → IsKeptCore asked meaning (without_room s) place es
 core_to asked meaning (stage.Pad x) place es k = (pad_like asked meaning x es x.lists 0 k.0, k.1)
-core_to asked meaning (stage.Queue x) place es k = (line_room asked meaning x place es 0 0 k.0, k.1)
+core_to asked meaning (stage.Queue x) place es k = (line_room asked meaning x place es 0 0 k.0, k.1, k.2)
 core_to asked meaning (stage.Chain x) place es k = (line_room asked meaning x.line place es 0 0 k.0, pad_like asked meaning x.pad es x.pad.lists 0 k.1, k.2, k.3, k.4)
 
 core_from : {J O A : Type 0} (asked : J → A) (meaning : A → O) (s : Stage J O) (place : ℕ) (es : List (BoardEntry A)) → IsKeptCore asked meaning (without_room s) place es → IsKeptCore asked meaning s place es
 core_from asked meaning (stage.Pad x) place es k = (pad_back asked meaning x es 0 k.0, k.1)
-core_from asked meaning (stage.Queue x) place es k = (line_back asked meaning x place es 0 0 k.0, k.1)
+core_from asked meaning (stage.Queue x) place es k = (line_back asked meaning x place es 0 0 k.0, k.1, k.2)
 core_from asked meaning (stage.Chain x) place es k = (line_back asked meaning x.line place es 0 0 k.0, pad_back asked meaning x.pad es 0 k.1, k.2, k.3, k.4)
 
 pub core_same : {J O A : Type 0} (asked : J → A) (meaning : A → O) (a b : Stage J O) (place : ℕ) (es : List (BoardEntry A)) → without_room a ≡ without_room b → IsPlaced a → IsKeptCore asked meaning b place es → IsKeptStage asked meaning a place es
