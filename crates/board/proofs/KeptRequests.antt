@@ -26,6 +26,7 @@ use Rattle.board.specs.Entries.{Notice, is_of, entries_of, birth, accepted_in, s
 use Rattle.board.specs.Legal.{IsRight, MaySubmit, IsOpenPad, IsOpenQueue}
 use Rattle.board.specs.Allowance.{used_at, IsKeptUsed}
 use Rattle.board.specs.Places.{places}
+use Rattle.board.specs.Ready.{IsNoQueue}
 use Rattle.board.specs.Kept.{IsKeptLine, IsKeptStage, IsKeptPipe, IsKeptBoard, shape_of, work_owed, owed_by}
 use Rattle.board.proofs.Lists.{filter_map-none}
 use Rattle.board.proofs.Keeping.{IsOrderly, orderly, passed-le}
@@ -173,11 +174,11 @@ module _ {J O A : Type 0} (asked : J → A) (meaning : A → O) where
       (line_quiet asked meaning x.line es (Enq caller p ask backlog NoSpace) place k.0 b refl refl refl refl, pad_quiet asked meaning x.pad es (Enq caller p ask backlog NoSpace) k.1 b refl refl refl refl, k.2, k.4, k.5)
 
   -- who submitted, after an answer
-  entered_noted : (pipe : Pipeline J O) (es : List (BoardEntry A)) (p caller : ℕ) (ask : Arc A Global) (backlog : Bool) (answer : Entered) (after : List ℕ) → IsKeptPipe asked meaning pipe es → ((c : ℕ) → c ≢ pipe.maker → has c after ≡ (has c pipe.submitters.items || (is_accepted answer && caller == c)))
-      → (c : ℕ) → c ≢ pipe.maker → has c after ≡ has c (submitters (es ++ Enq caller p ask backlog answer ∷ []))
+  entered_noted : (pipe : Pipeline J O) (es : List (BoardEntry A)) (p caller : ℕ) (ask : Arc A Global) (backlog : Bool) (answer : Entered) (after : List ℕ) → IsKeptPipe asked meaning pipe es → (IsNoQueue pipe → (c : ℕ) → c ≢ pipe.maker → has c after ≡ (has c pipe.submitters.items || (is_accepted answer && caller == c)))
+      → IsNoQueue pipe → (c : ℕ) → c ≢ pipe.maker → has c after ≡ has c (submitters (es ++ Enq caller p ask backlog answer ∷ []))
   entered_noted pipe es p caller ask backlog (InProgress n) after k more = noted_more asked meaning pipe es (Enq caller p ask backlog (InProgress n)) caller after k refl more
   entered_noted pipe es p caller ask backlog (Busy n) after k more = noted_more asked meaning pipe es (Enq caller p ask backlog (Busy n)) caller after k refl more
-  entered_noted pipe es p caller ask backlog NoSpace after k more = λ c h. more c h ∙ (or-false (has c pipe.submitters.items) ∙ noted_same asked meaning pipe es (Enq caller p ask backlog NoSpace) k refl c h)
+  entered_noted pipe es p caller ask backlog NoSpace after k more = λ q c h. more q c h ∙ (or-false (has c pipe.submitters.items) ∙ noted_same asked meaning pipe es (Enq caller p ask backlog NoSpace) k refl q c h)
 
   module _ (pipes : Pipes J O) (born : ℕ) (log : List (BoardEntry A)) (p : ℕ) (pipe : Pipeline J O) (k : IsKeptBoard asked meaning (places pipes) born log) (here : places pipes p ≡ Some pipe) where
     -- how many requests a pipeline with room accepted
