@@ -12,7 +12,8 @@ use Rattle.board.specs.Ready.{ReadyLine, HasRequest, IsChain, IsReadyFor, NoneIs
 use Rattle.board.proofs.Searching.{not_quiet}
 use Rattle.board.proofs.Kept.{Pipes, IsSet}
 use Rattle.board.proofs.KeptPassOn.{not_none}
-use Rattle.board.proofs.LinesHold.{ready_same, ready_told, ready_searched, member_here, queue_same, chain_same}
+use Rattle.board.proofs.KeptRoom.{queue_same}
+use Rattle.board.proofs.LinesHold.{ready_same, ready_told, ready_searched, member_here, chain_same}
 
 -- ---- what the call says of a stage
 

@@ -11,9 +11,11 @@ use Rattle.board.specs.declared.pipeline.Pipeline.{Pipeline}
 use Rattle.board.specs.declared.stage.Stage.{Stage}
 use Rattle.board.specs.Shapes.{width_born}
 use Rattle.board.specs.Entries.{birth, is_close, is_closed, is_share, is_shared, collected, collected_in, masked_in, mask, submitter_in, submitters, has, last_or, maker_is, IsMaker}
+use Rattle.board.specs.Ready.{IsNoQueue}
 use Rattle.board.specs.Kept.{IsKeptStage, IsKeptPipe, shape_of}
 use Rattle.board.proofs.Lists.{filter_map-none, filter_map-some, last_or-append, has-more}
 use Rattle.board.proofs.Keeping.{birth_stays}
+use Rattle.board.proofs.Admitting.{queue_shape}
 use Rattle.board.proofs.Kept.{closed-same, shared-same, collected-same}
 
 pub mask-same : {A : Type 0} (es : List (BoardEntry A)) (e : BoardEntry A) → is_some (birth es) ≡ true → masked_in e ≡ None → mask (es ++ e ∷ []) ≡ mask es
@@ -38,18 +40,18 @@ noted_cases : {J O A : Type 0} (asked : J → A) (meaning : A → O) (pipe : Pip
 noted_cases asked meaning pipe es caller k n (inl m) = absurd (n (sym (subst (λ b. maker_is b caller) k.born m)))
 noted_cases asked meaning pipe es caller k n (inr e) = e
 
-pub noted : {J O A : Type 0} (asked : J → A) (meaning : A → O) (pipe : Pipeline J O) (es : List (BoardEntry A)) (caller : ℕ) → IsKeptPipe asked meaning pipe es → caller ≢ pipe.maker → has caller pipe.submitters.items ≡ has caller (submitters es)
-noted asked meaning pipe es caller k n = noted_cases asked meaning pipe es caller k n (k.submitting caller)
+pub noted : {J O A : Type 0} (asked : J → A) (meaning : A → O) (pipe : Pipeline J O) (es : List (BoardEntry A)) (caller : ℕ) → IsKeptPipe asked meaning pipe es → IsNoQueue pipe → caller ≢ pipe.maker → has caller pipe.submitters.items ≡ has caller (submitters es)
+noted asked meaning pipe es caller k q n = noted_cases asked meaning pipe es caller k n (k.submitting q caller)
 
 -- after an entry that accepts nothing
-pub noted_same : {J O A : Type 0} (asked : J → A) (meaning : A → O) (pipe : Pipeline J O) (es : List (BoardEntry A)) (e : BoardEntry A) → IsKeptPipe asked meaning pipe es → submitter_in e ≡ None → (caller : ℕ) → caller ≢ pipe.maker → has caller pipe.submitters.items ≡ has caller (submitters (es ++ e ∷ []))
-noted_same asked meaning pipe es e k s caller n = noted asked meaning pipe es caller k n ∙ ap (has caller) (sym (filter_map-none submitter_in es e s))
+pub noted_same : {J O A : Type 0} (asked : J → A) (meaning : A → O) (pipe : Pipeline J O) (es : List (BoardEntry A)) (e : BoardEntry A) → IsKeptPipe asked meaning pipe es → submitter_in e ≡ None → IsNoQueue pipe → (caller : ℕ) → caller ≢ pipe.maker → has caller pipe.submitters.items ≡ has caller (submitters (es ++ e ∷ []))
+noted_same asked meaning pipe es e k s q caller n = noted asked meaning pipe es caller k q n ∙ ap (has caller) (sym (filter_map-none submitter_in es e s))
 
 -- and after one that accepts a request of this caller's
-pub noted_more : {J O A : Type 0} (asked : J → A) (meaning : A → O) (pipe : Pipeline J O) (es : List (BoardEntry A)) (e : BoardEntry A) (by : ℕ) (after : List ℕ) → IsKeptPipe asked meaning pipe es → submitter_in e ≡ Some by → ((c : ℕ) → c ≢ pipe.maker → has c after ≡ (has c pipe.submitters.items || by == c)) → (caller : ℕ) → caller ≢ pipe.maker → has caller after ≡ has caller (submitters (es ++ e ∷ []))
-noted_more asked meaning pipe es e by after k s more caller n =
-    more caller n
-    ∙ (ap (λ b. b || by == caller) (noted asked meaning pipe es caller k n)
+pub noted_more : {J O A : Type 0} (asked : J → A) (meaning : A → O) (pipe : Pipeline J O) (es : List (BoardEntry A)) (e : BoardEntry A) (by : ℕ) (after : List ℕ) → IsKeptPipe asked meaning pipe es → submitter_in e ≡ Some by → (IsNoQueue pipe → (c : ℕ) → c ≢ pipe.maker → has c after ≡ (has c pipe.submitters.items || by == c)) → IsNoQueue pipe → (caller : ℕ) → caller ≢ pipe.maker → has caller after ≡ has caller (submitters (es ++ e ∷ []))
+noted_more asked meaning pipe es e by after k s more q caller n =
+    more q caller n
+    ∙ (ap (λ b. b || by == caller) (noted asked meaning pipe es caller k q n)
     ∙ (ap (λ b. has caller (submitters es) || b) (sym (or-false (by == caller)))
     ∙ (sym (has-more (submitters es) by caller) ∙ ap (has caller) (sym (filter_map-some submitter_in es e by s)))))
 
@@ -65,7 +67,7 @@ made_same h e = rw (h, e) refl
 pub pipe_more : {J O A : Type 0} (asked : J → A) (meaning : A → O) (pipe new : Pipeline J O) (es : List (BoardEntry A)) (e : BoardEntry A) → IsKeptPipe asked meaning pipe es
     → new.maker ≡ pipe.maker → ((w : ℕ) → shape_of new.stage w ≡ shape_of pipe.stage w)
     → is_closed (es ++ e ∷ []) ≡ false → is_shared (es ++ e ∷ []) ≡ new.shared → mask (es ++ e ∷ []) ≡ new.mask
-    → ((caller : ℕ) → caller ≢ pipe.maker → has caller new.submitters.items ≡ has caller (submitters (es ++ e ∷ [])))
+    → (IsNoQueue pipe → (caller : ℕ) → caller ≢ pipe.maker → has caller new.submitters.items ≡ has caller (submitters (es ++ e ∷ [])))
     → collected (es ++ e ∷ []) ≡ new.collected → IsKeptStage asked meaning new.stage new.collected (es ++ e ∷ [])
     → IsKeptPipe asked meaning new (es ++ e ∷ [])
 pipe_more asked meaning pipe new es e k m s cl sh ma su co st =
@@ -75,7 +77,7 @@ pipe_more asked meaning pipe new es e k m s cl sh ma su co st =
       closing = cl;
       sharing = sh;
       masking = ma;
-      submitting = λ caller. by_cases asked meaning pipe es (es ++ e ∷ []) new.submitters.items k be su caller (cases_eq caller pipe.maker);
+      submitting = λ q caller. by_cases asked meaning pipe es (es ++ e ∷ []) new.submitters.items k be (su (sym (queue_shape new.stage pipe.stage s) ∙ q)) caller (cases_eq caller pipe.maker);
       place = co;
       stage = st;
     }

@@ -10,7 +10,7 @@ use Rattle.board.specs.declared.stage.Chained.{Chained}
 use Rattle.board.specs.declared.stage.Stage.{Stage}
 use Rattle.board.specs.declared.stage.Stage.TheVariants as stage
 use Rattle.board.specs.Shapes.{is_born, is_chain, queue_born, line_born, width_born}
-use Rattle.board.specs.Stages.{MayPass, PassesNone, IsPlaced, IsLinked, after_passed, next_in_line, starts_at, accepted_of}
+use Rattle.board.specs.Stages.{MayPass, PassesNone, IsPlaced, IsLinked, IsApart, after_passed, next_in_line, starts_at, accepted_of}
 use Rattle.board.specs.Entries.{entries_of, birth, submissions, dequeued, waiting, is_held, is_closed, starts, pass_entry, NonePasses}
 use Rattle.board.specs.Legal.{IsRightFor, Is}
 use Rattle.board.specs.Places.{Places, places}
@@ -84,6 +84,15 @@ stage_linked asked meaning (stage.Chain c) es place k = (k.3, k.2)
 
 pub linked_here : {J O A : Type 0} (asked : J → A) (meaning : A → O) (pipes : Pipes J O) (born : ℕ) (log : List (BoardEntry A)) (p : ℕ) (pipe : Pipeline J O) → IsKeptBoard asked meaning (places pipes) born log → places pipes p ≡ Some pipe → IsPlaced pipe.stage × IsLinked pipe.stage
 linked_here asked meaning pipes born log p pipe k here = stage_linked asked meaning pipe.stage (entries_of p log) pipe.collected (k.each p pipe here).stage
+
+-- and a queue's requests are served, a chain's passed on
+stage_apart : {J O A : Type 0} (asked : J → A) (meaning : A → O) (s : Stage J O) (es : List (BoardEntry A)) (place : ℕ) → IsKeptStage asked meaning s place es → IsApart s
+stage_apart asked meaning (stage.Pad pad) es place k = tt
+stage_apart asked meaning (stage.Queue line) es place k = k.2
+stage_apart asked meaning (stage.Chain c) es place k = k.5
+
+pub apart_here : {J O A : Type 0} (asked : J → A) (meaning : A → O) (pipes : Pipes J O) (born : ℕ) (log : List (BoardEntry A)) (p : ℕ) (pipe : Pipeline J O) → IsKeptBoard asked meaning (places pipes) born log → places pipes p ≡ Some pipe → IsApart pipe.stage
+apart_here asked meaning pipes born log p pipe k here = stage_apart asked meaning pipe.stage (entries_of p log) pipe.collected (k.each p pipe here).stage
 
 pub pass_step : {J O A : Type 0} (asked : J → A) (meaning : A → O) (pipes : Pipes J O) (born : ℕ) (log : List (BoardEntry A)) (p caller : ℕ) (pipe : Pipeline J O) (after : Stage J O) (next : Pipes J O) → IsKeptBoard asked meaning (places pipes) born log → IsSet pipes next p pipe (record pipe { stage = after }) → HasRequest pipe → after ≡ after_passed pipe.stage
     → IsKeptBoard asked meaning (places next) born (log ++ passed_entry pipe.stage caller p ∷ [])

@@ -42,7 +42,7 @@ queue_taken {J} {O} {A} asked meaning line es place p caller job rest k b idle w
     let e : BoardEntry A = Deq caller p line.line.served (number_at_bound line.line) in
     let after : Server J O = record line { line = record line.line { served = line.line.served + 1; waiting = rest }; busy = true; pending = line.pending ++ started_callback (number_at_bound line.line) } in
     let fins : finished (es ++ e ∷ []) ≡ finished es = filter_map-none finished_in es e refl in
-    (line_like asked meaning (passed line rest) after place (es ++ e ∷ []) (line_passed asked meaning line es place p caller job rest k.0 b w) refl refl refl, rw fins (busy_now line.busy (length (finished es)) line.line.served idle k.1))
+    (line_like asked meaning (passed line rest) after place (es ++ e ∷ []) (line_passed asked meaning line es place p caller job rest k.0 b w) refl refl refl, rw fins (busy_now line.busy (length (finished es)) line.line.served idle k.1), k.2)
 
 done_now : (b : Bool) (f s : ℕ) → b ≡ true → f + cond b 1 0 ≡ s → f + 1 + 0 ≡ s
 done_now true f s h e = omega arith
@@ -83,6 +83,7 @@ queue_done {J} {O} {A} asked meaning line es place p n caller out k b busy m =
             ∙ ap (λ asks. filter_map (callback_of meaning asks) (drop place (told (es ++ e ∷ [])))) (sym subs)))));
       },
       rw (fins, fl) (done_now line.busy (length (finished es)) line.line.served busy k.1),
+      k.2,
     )
 
 -- ---- pipelines that were just made
@@ -97,7 +98,7 @@ pub pad_made : {J O A : Type 0} (asked : J → A) (meaning : A → O) (caller p 
 pad_made asked meaning caller p lists = (record { submitted = refl; waiting = refl; taken = λ n l. absurd (omega arith); untaken = λ n l. refl; outcomes = λ n d l. absurd (omega arith); passed = λ n l. absurd (omega arith); running = λ n l. refl }, refl)
 
 pub queue_made : {J O A : Type 0} (asked : J → A) (meaning : A → O) (caller p max : ℕ) → IsKeptStage {J = J} {O = O} {A = A} asked meaning (stage.Queue (new_line max)) 0 (Born caller p (shape.Queue max) ∷ [])
-queue_made asked meaning caller p max = (record { bound = refl; holding = refl; submitted = refl; served = refl; waiting = refl; telling = refl; pending = refl }, refl)
+queue_made asked meaning caller p max = (record { bound = refl; holding = refl; submitted = refl; served = refl; waiting = refl; telling = refl; pending = refl }, refl, refl)
 
 pub chain_made : {J O A : Type 0} (asked : J → A) (meaning : A → O) (caller p max lists : ℕ) → IsKeptStage {J = J} {O = O} {A = A} asked meaning (stage.Chain (record { line = new_line max; pad = new_pad lists })) 0 (Born caller p (shape.Chain max lists) ∷ [])
 chain_made asked meaning caller p max lists = (

@@ -26,6 +26,7 @@ use Rattle.board.specs.Entries.{Notice, is_of, entries_of, birth, accepted_in, s
 use Rattle.board.specs.Legal.{IsRight, MaySubmit, IsOpenPad, IsOpenQueue}
 use Rattle.board.specs.Allowance.{used_at, IsKeptUsed}
 use Rattle.board.specs.Places.{places}
+use Rattle.board.specs.Ready.{IsNoQueue}
 use Rattle.board.specs.Kept.{IsKeptLine, IsKeptStage, IsKeptPipe, IsKeptBoard, shape_of, work_owed, owed_by}
 use Rattle.board.proofs.Lists.{filter_map-none}
 use Rattle.board.proofs.Keeping.{IsOrderly, orderly, passed-le}
@@ -153,7 +154,7 @@ module _ {J O A : Type 0} (asked : J → A) (meaning : A → O) where
   -- a request that the line took in
   queue_entered : (x : Server J O) (es : List (BoardEntry A)) (e : BoardEntry A) (place : ℕ) (job : J) (given : List Notice) → IsKeptStage asked meaning (stage.Queue x) place es → IsOrderly es given → is_some (birth es) ≡ true → accepted_in e ≡ Some (asked job) → dequeued_in e ≡ None → finished_in e ≡ None → tells es e ≡ [] → held_in e ≡ None
       → IsKeptCore asked meaning (stage.Queue (record x { line = record x.line { waiting = x.line.waiting ++ job ∷ [] } })) place (es ++ e ∷ [])
-  queue_entered x es e place job given k o b a d f t h = (line_accepted asked meaning x es e place job given k.0 o b a d t h, rw (filter_map-none finished_in es e f) k.1)
+  queue_entered x es e place job given k o b a d f t h = (line_accepted asked meaning x es e place job given k.0 o b a d t h, rw (filter_map-none finished_in es e f) k.1, k.2)
 
   chain_entered : (x : Chained J O) (es : List (BoardEntry A)) (e : BoardEntry A) (place : ℕ) (job : J) (given : List Notice) → IsKeptStage asked meaning (stage.Chain x) place es → IsOrderly es given → is_some (birth es) ≡ true → line_born (birth es) ≡ true → accepted_in e ≡ Some (asked job) → dequeued_in e ≡ None → taken_in e ≡ None → finished_in e ≡ None → tells es e ≡ [] → held_in e ≡ None
       → IsKeptCore asked meaning (stage.Chain (record x { line = record x.line { line = record x.line.line { waiting = x.line.line.waiting ++ job ∷ [] } } })) place (es ++ e ∷ [])
@@ -166,18 +167,18 @@ module _ {J O A : Type 0} (asked : J → A) (meaning : A → O) where
   entered_kept (stage.Queue x) es place p caller ask job backlog (InProgress n) given k h o b lb a = queue_entered x es (Enq caller p ask backlog (InProgress n)) place job given k o b (ap Some a) refl refl refl refl
   entered_kept (stage.Queue x) es place p caller ask job backlog (Busy n) given k h o b lb a = queue_entered x es (Enq caller p ask backlog (Busy n)) place job given k o b (ap Some a) refl refl refl refl
   entered_kept (stage.Queue x) es place p caller ask job backlog NoSpace given k h o b lb a =
-      (line_quiet asked meaning x es (Enq caller p ask backlog NoSpace) place k.0 b refl refl refl refl, rw (filter_map-none finished_in es (Enq caller p ask backlog NoSpace) refl) k.1)
+      (line_quiet asked meaning x es (Enq caller p ask backlog NoSpace) place k.0 b refl refl refl refl, rw (filter_map-none finished_in es (Enq caller p ask backlog NoSpace) refl) k.1, k.2)
   entered_kept (stage.Chain x) es place p caller ask job backlog (InProgress n) given k h o b lb a = chain_entered x es (Enq caller p ask backlog (InProgress n)) place job given k o b lb (ap Some a) refl refl refl refl refl
   entered_kept (stage.Chain x) es place p caller ask job backlog (Busy n) given k h o b lb a = chain_entered x es (Enq caller p ask backlog (Busy n)) place job given k o b lb (ap Some a) refl refl refl refl refl
   entered_kept (stage.Chain x) es place p caller ask job backlog NoSpace given k h o b lb a =
       (line_quiet asked meaning x.line es (Enq caller p ask backlog NoSpace) place k.0 b refl refl refl refl, pad_quiet asked meaning x.pad es (Enq caller p ask backlog NoSpace) k.1 b refl refl refl refl, k.2, k.4, k.5)
 
   -- who submitted, after an answer
-  entered_noted : (pipe : Pipeline J O) (es : List (BoardEntry A)) (p caller : ℕ) (ask : Arc A Global) (backlog : Bool) (answer : Entered) (after : List ℕ) → IsKeptPipe asked meaning pipe es → ((c : ℕ) → c ≢ pipe.maker → has c after ≡ (has c pipe.submitters.items || (is_accepted answer && caller == c)))
-      → (c : ℕ) → c ≢ pipe.maker → has c after ≡ has c (submitters (es ++ Enq caller p ask backlog answer ∷ []))
+  entered_noted : (pipe : Pipeline J O) (es : List (BoardEntry A)) (p caller : ℕ) (ask : Arc A Global) (backlog : Bool) (answer : Entered) (after : List ℕ) → IsKeptPipe asked meaning pipe es → (IsNoQueue pipe → (c : ℕ) → c ≢ pipe.maker → has c after ≡ (has c pipe.submitters.items || (is_accepted answer && caller == c)))
+      → IsNoQueue pipe → (c : ℕ) → c ≢ pipe.maker → has c after ≡ has c (submitters (es ++ Enq caller p ask backlog answer ∷ []))
   entered_noted pipe es p caller ask backlog (InProgress n) after k more = noted_more asked meaning pipe es (Enq caller p ask backlog (InProgress n)) caller after k refl more
   entered_noted pipe es p caller ask backlog (Busy n) after k more = noted_more asked meaning pipe es (Enq caller p ask backlog (Busy n)) caller after k refl more
-  entered_noted pipe es p caller ask backlog NoSpace after k more = λ c h. more c h ∙ (or-false (has c pipe.submitters.items) ∙ noted_same asked meaning pipe es (Enq caller p ask backlog NoSpace) k refl c h)
+  entered_noted pipe es p caller ask backlog NoSpace after k more = λ q c h. more q c h ∙ (or-false (has c pipe.submitters.items) ∙ noted_same asked meaning pipe es (Enq caller p ask backlog NoSpace) k refl q c h)
 
   module _ (pipes : Pipes J O) (born : ℕ) (log : List (BoardEntry A)) (p : ℕ) (pipe : Pipeline J O) (k : IsKeptBoard asked meaning (places pipes) born log) (here : places pipes p ≡ Some pipe) where
     -- how many requests a pipeline with room accepted

@@ -9,7 +9,7 @@ use Rattle.board.specs.declared.entry.BoardEntry.{BoardEntry}
 use Rattle.board.specs.declared.pipeline.Pipeline.{Pipeline}
 use Rattle.board.specs.declared.stage.Stage.{Stage}
 use Rattle.board.specs.declared.stage.Stage.TheVariants as stage
-use Rattle.board.specs.Stages.{is_pad, has_line, IsPlaced, IsJoined, bare, bare_pad, without_room, accepted_of, answer_of, with_waiting, after_entered, with_job, MayServe, MayPass}
+use Rattle.board.specs.Stages.{is_pad, has_line, is_queue, IsPlaced, IsJoined, bare, bare_pad, without_room, accepted_of, answer_of, with_waiting, after_entered, with_job, MayServe, MayPass}
 use Rattle.board.specs.Pipelines.{IsSame, NotesCaller, accepts, work_each}
 use Rattle.board.specs.Shapes.{width_born}
 use Rattle.board.specs.Entries.{birth, has, submitters, IsMaker}
@@ -27,6 +27,14 @@ is_pad_bare (stage.Chain x) = refl
 
 pub is_pad_same : {J O : Type 0} (a b : Stage J O) → without_room a ≡ without_room b → is_pad a ≡ is_pad b
 is_pad_same a b e = same_by is_pad a b is_pad_bare e
+
+queue_bare : {J O : Type 0} (s : Stage J O) → is_queue (without_room s) ≡ is_queue s
+queue_bare (stage.Pad x) = refl
+queue_bare (stage.Queue x) = refl
+queue_bare (stage.Chain x) = refl
+
+pub queue_same : {J O : Type 0} (a b : Stage J O) → without_room a ≡ without_room b → is_queue a ≡ is_queue b
+queue_same a b e = same_by is_queue a b queue_bare e
 
 line_bare : {J O : Type 0} (s : Stage J O) → has_line (without_room s) ≡ has_line s
 line_bare (stage.Pad x) = refl
@@ -169,12 +177,12 @@ placed_core asked meaning (stage.Chain x) place es k l = (k.0, k.1, k.2, l, k.3,
 
 core_to : {J O A : Type 0} (asked : J → A) (meaning : A → O) (s : Stage J O) (place : ℕ) (es : List (BoardEntry A)) → IsKeptCore asked meaning s place es → IsKeptCore asked meaning (without_room s) place es
 core_to asked meaning (stage.Pad x) place es k = (pad_like asked meaning x es x.lists 0 k.0, k.1)
-core_to asked meaning (stage.Queue x) place es k = (line_room asked meaning x place es 0 0 k.0, k.1)
+core_to asked meaning (stage.Queue x) place es k = (line_room asked meaning x place es 0 0 k.0, k.1, k.2)
 core_to asked meaning (stage.Chain x) place es k = (line_room asked meaning x.line place es 0 0 k.0, pad_like asked meaning x.pad es x.pad.lists 0 k.1, k.2, k.3, k.4)
 
 core_from : {J O A : Type 0} (asked : J → A) (meaning : A → O) (s : Stage J O) (place : ℕ) (es : List (BoardEntry A)) → IsKeptCore asked meaning (without_room s) place es → IsKeptCore asked meaning s place es
 core_from asked meaning (stage.Pad x) place es k = (pad_back asked meaning x es 0 k.0, k.1)
-core_from asked meaning (stage.Queue x) place es k = (line_back asked meaning x place es 0 0 k.0, k.1)
+core_from asked meaning (stage.Queue x) place es k = (line_back asked meaning x place es 0 0 k.0, k.1, k.2)
 core_from asked meaning (stage.Chain x) place es k = (line_back asked meaning x.line place es 0 0 k.0, pad_back asked meaning x.pad es 0 k.1, k.2, k.3, k.4)
 
 pub core_same : {J O A : Type 0} (asked : J → A) (meaning : A → O) (a b : Stage J O) (place : ℕ) (es : List (BoardEntry A)) → without_room a ≡ without_room b → IsPlaced a → IsKeptCore asked meaning b place es → IsKeptStage asked meaning a place es
@@ -201,7 +209,7 @@ notes_same old room new caller accepted s n = record {
   shared = n.shared ∙ s.shared;
   mask = n.mask ∙ s.mask;
   collected = n.collected ∙ s.collected;
-  submitters = λ c h. n.submitters c (λ q. h (q ∙ s.maker)) ∙ ap (λ xs. has c xs || (accepted && caller == c)) s.submitters;
+  submitters = λ q c h. n.submitters (queue_same room.stage old.stage s.stage ∙ q) c (λ m. h (m ∙ s.maker)) ∙ ap (λ xs. has c xs || (accepted && caller == c)) s.submitters;
 }
 
 has_items : {xs ys : List ℕ} (caller : ℕ) → xs ≡ ys → has caller xs ≡ has caller ys
@@ -218,7 +226,7 @@ pipe_same asked meaning old new es s placed k = record {
   closing = k.closing;
   sharing = k.sharing ∙ sym s.shared;
   masking = k.masking ∙ sym s.mask;
-  submitting = λ caller. room_cases old new es caller s (k.submitting caller);
+  submitting = λ q caller. room_cases old new es caller s (k.submitting (sym (queue_same new.stage old.stage s.stage) ∙ q) caller);
   place = k.place ∙ sym s.collected;
   stage = subst (λ n. IsKeptStage asked meaning new.stage n es) (sym s.collected) (stage_same asked meaning new.stage old.stage old.collected es s.stage (placed (placed_kept asked meaning old.stage old.collected es k.stage)) k.stage);
 }

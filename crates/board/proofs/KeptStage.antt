@@ -66,13 +66,13 @@ module _ {J O A : Type 0} (asked : J → A) (meaning : A → O) where
   -- an entry that neither accepts, lets out, takes, finishes, tells nor holds
   pub stage_quiet : (s : Stage J O) (es : List (BoardEntry A)) (e : BoardEntry A) (place : ℕ) → IsKeptStage asked meaning s place es → is_some (birth es) ≡ true → accepted_in e ≡ None → dequeued_in e ≡ None → taken_in e ≡ None → finished_in e ≡ None → tells es e ≡ [] → held_in e ≡ None → IsKeptStage asked meaning s place (es ++ e ∷ [])
   stage_quiet (stage.Pad x) es e place k b a d t f o h = (pad_quiet asked meaning x es e k.0 b a d t f, k.1)
-  stage_quiet (stage.Queue x) es e place k b a d t f o h = (line_quiet asked meaning x es e place k.0 b a d o h, rw (filter_map-none finished_in es e f) k.1)
+  stage_quiet (stage.Queue x) es e place k b a d t f o h = (line_quiet asked meaning x es e place k.0 b a d o h, rw (filter_map-none finished_in es e f) k.1, k.2)
   stage_quiet (stage.Chain x) es e place k b a d t f o h = (line_quiet asked meaning x.line es e place k.0 b a d o h, pad_quiet asked meaning x.pad es e k.1 b a d t f, k.2, k.3, k.4, k.5)
 
   -- a hold, or a go
   pub stage_held : (s : Stage J O) (es : List (BoardEntry A)) (e : BoardEntry A) (place : ℕ) (held : Bool) → IsKeptStage asked meaning s place es → has_line s ≡ true → is_some (birth es) ≡ true → accepted_in e ≡ None → dequeued_in e ≡ None → taken_in e ≡ None → finished_in e ≡ None → tells es e ≡ [] → held_in e ≡ Some held → IsKeptStage asked meaning (holding s held) place (es ++ e ∷ [])
   stage_held (stage.Pad x) es e place held k l b a d t f o h = cc
-  stage_held (stage.Queue x) es e place held k l b a d t f o h = (line_held asked meaning x es e place held k.0 b a d o h, rw (filter_map-none finished_in es e f) k.1)
+  stage_held (stage.Queue x) es e place held k l b a d t f o h = (line_held asked meaning x es e place held k.0 b a d o h, rw (filter_map-none finished_in es e f) k.1, k.2)
   stage_held (stage.Chain x) es e place held k l b a d t f o h = (line_held asked meaning x.line es e place held k.0 b a d o h, pad_quiet asked meaning x.pad es e k.1 b a d t f, k.2, k.3, k.4, k.5)
 
   -- other reorder lists
@@ -101,7 +101,7 @@ module _ {J O A : Type 0} (asked : J → A) (meaning : A → O) where
   pub stage_collected : (s : Stage J O) (es : List (BoardEntry A)) (place p to caller : ℕ) → IsKeptStage asked meaning s place es → is_some (birth es) ≡ true → AreRightForAfter [] es → to ≡ length (told es) → to ≡ place + length (callbacks_of s) → IsKeptStage asked meaning (collected_from s) to (es ++ Collect caller p to ∷ [])
   stage_collected (stage.Pad x) es place p to caller k b r t h =
       (pad_collected asked meaning x es p to caller k.0 b (passed-le es (orderly es r).numbered.in_line), (let q = k.1 in let l = length-done x.collected (ready x.outcomes) in omega arith))
-  stage_collected (stage.Queue x) es place p to caller k b r t h = (line_collected asked meaning x es place p to caller k.0 b t, rw (filter_map-none finished_in es (Collect caller p to) refl) k.1)
+  stage_collected (stage.Queue x) es place p to caller k b r t h = (line_collected asked meaning x es place p to caller k.0 b t, rw (filter_map-none finished_in es (Collect caller p to) refl) k.1, k.2)
   stage_collected (stage.Chain x) es place p to caller k b r t h = (line_collected asked meaning x.line es place p to caller k.0 b t, pad_quiet asked meaning x.pad es (Collect caller p to) k.1 b refl refl refl refl, k.2, k.3, k.4, k.5)
 
   -- ---- whether all is finished

@@ -13,6 +13,7 @@ use Rattle.board.specs.Pipelines.{IsSame, NotesCaller}
 use Rattle.board.specs.Stages.{is_queue, is_chain, without_room, holding, collected_from}
 use Rattle.board.specs.Places.{Places, places}
 use Rattle.board.proofs.Kept.{Pipes, IsSet, IsLeft, IsAdded, one_here}
+use Rattle.board.proofs.KeptRoom.{queue_same}
 use Rattle.board.specs.Ready.{ReadyLine, IsMember, IsInLine, no_pipelines, HasJob, HasJobFor, Admits, IsQueue, IsNoQueue, IsFor, IsReadyFor, NoneStands, IsOne, Finds, Keeps, KeepsOthers, KeepsSuch, IsTold}
 use Rattle.board.specs.Lines.{LinesOf, is_line_of, line_of, AreMade, IsMade, Joins, IsReadmitted, AreReady}
 
@@ -216,15 +217,7 @@ admits_same pipe new made subs masked queue = record {
   admits = admitted_same pipe new made subs masked queue;
 }
 
--- room alone makes no queue of a pad, and no chain
-bare_queue : {J O : Type 0} (s : Stage J O) → is_queue (without_room s) ≡ is_queue s
-bare_queue (stage.Pad x) = refl
-bare_queue (stage.Queue x) = refl
-bare_queue (stage.Chain x) = refl
-
-pub queue_same : {J O : Type 0} (new old : Stage J O) → without_room new ≡ without_room old → is_queue new ≡ is_queue old
-queue_same new old e = sym (bare_queue new) ∙ (ap is_queue e ∙ bare_queue old)
-
+-- room alone makes no chain of a pad
 bare_chain : {J O : Type 0} (s : Stage J O) → is_chain (without_room s) ≡ is_chain s
 bare_chain (stage.Pad x) = refl
 bare_chain (stage.Queue x) = refl
@@ -421,13 +414,17 @@ module _ {J O : Type 0} (pipes : Pipes J O) where
   noted_cases pipe new caller c accepted n queue a (inl made) = inl (inr (inl (sym made)))
   noted_cases pipe new caller c accepted n queue (inl q) (inr other) = inl (inl (sym queue ∙ q))
   noted_cases pipe new caller c accepted n queue (inr (inl m)) (inr other) = absurd (other (sym m ∙ n.maker))
-  noted_cases pipe new caller c accepted n queue (inr (inr (inl s))) (inr other) = noted (has c pipe.submitters.items) accepted (caller == c) refl refl (sym (n.submitters c other) ∙ s)
+  noted_cases pipe new caller c accepted n queue (inr (inr (inl s))) (inr other) = by_queue (is_queue pipe.stage) refl
     where
       noted : (a b e : Bool) → has c pipe.submitters.items ≡ a → (caller == c) ≡ e → (a || (b && e)) ≡ true → Admits pipe c ⊎ (caller ≡ c)
       noted true b e is same t = inl (inr (inr (inl is)))
       noted false true true is same t = inr (eqb-true caller c same)
       noted false true false is same t = cc
       noted false false e is same t = cc
+
+      by_queue : (b : Bool) → is_queue pipe.stage ≡ b → Admits pipe c ⊎ (caller ≡ c)
+      by_queue true q = inl (inl q)
+      by_queue false q = noted (has c pipe.submitters.items) accepted (caller == c) refl refl (sym (n.submitters q c other) ∙ s)
   noted_cases pipe new caller c accepted n queue (inr (inr (inr m))) (inr other) = inl (inr (inr (inr (subst (λ k. IsMasked k c) n.mask m))))
 
   asked_member : (own : List OwnLine) (p : ℕ) (pipe new : Pipeline J O) (caller c : ℕ) → IsReadyFor (IsFor c) HasJob (places pipes) (line_of c own) → places pipes p ≡ Some pipe → is_queue new.stage ≡ is_queue pipe.stage → (IsNoQueue pipe → IsMember (line_of caller own) p)

@@ -8,6 +8,7 @@ use Rattle.board.specs.declared.stage.Stage.{Stage}
 use Rattle.board.specs.declared.stage.Stage.TheVariants as stage
 use Rattle.board.specs.Entries.{has}
 use Rattle.board.specs.Stages.{without_room}
+use Rattle.board.specs.Ready.{IsNoQueue}
 
 -- all but the room that is kept for more requests is the same
 pub record IsSame {J O : Type 0} (old new : Pipeline J O) : Type 0 where
@@ -18,13 +19,14 @@ pub record IsSame {J O : Type 0} (old new : Pipeline J O) : Type 0 where
   pub collected : new.collected ≡ old.collected
   pub stage : without_room new.stage ≡ without_room old.stage
 
--- where the caller's request is accepted, it is noted among those who submitted, unless it made the pipeline
+-- where the caller's request is accepted, it is noted among those who submitted, unless it made the pipeline; of a queue, which
+-- everybody serves, that is no matter
 pub record NotesCaller {J O : Type 0} (old new : Pipeline J O) (caller : ℕ) (accepted : Bool) : Type 0 where
   pub maker : new.maker ≡ old.maker
   pub shared : new.shared ≡ old.shared
   pub mask : new.mask ≡ old.mask
   pub collected : new.collected ≡ old.collected
-  pub submitters : (c : ℕ) → c ≢ old.maker → has c new.submitters.items ≡ (has c old.submitters.items || (accepted && caller == c))
+  pub submitters : IsNoQueue old → (c : ℕ) → c ≢ old.maker → has c new.submitters.items ≡ (has c old.submitters.items || (accepted && caller == c))
 
 -- whether a line accepts
 abbrev pub is_accepted : Entered → Bool

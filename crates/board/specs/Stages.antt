@@ -114,6 +114,12 @@ IsLinked (stage.Chain c) = IsJoined c.line c.pad
 abbrev pub Runs : {J O : Type 0} → Pad J O → ℕ → Type 0
 Runs pad n = (pad.collected ≤ n) × (n < taken_of pad) × (slice_get pad.outcomes (n - pad.collected) ≡ Some None)
 
+-- a queue's requests are served, and a chain's are passed on
+abbrev pub IsApart : {J O : Type 0} → Stage J O → Type 0
+IsApart (stage.Pad pad) = Unit {0}
+IsApart (stage.Queue line) = line.passed ≡ 0
+IsApart (stage.Chain c) = c.line.busy ≡ false
+
 abbrev pub MayEnd : {J O : Type 0} → Stage J O → ℕ → Type 0
 MayEnd (stage.Pad pad) n = Runs pad n
 MayEnd (stage.Queue line) n = (line.busy ≡ true) × (n + 1 ≡ line.line.served)

@@ -38,7 +38,8 @@ impl<J: Drop, F: Drop> Pipeline<J, F> {
         number
     }
 
-    /// A queue or chain that has room for one answers a caller's request, and takes it in where it accepts it.
+    /// A queue or chain that has room for one answers a caller's request, and takes it in where it accepts it. Who submitted to a queue
+    /// isn't noted, since everybody serves it.
     pub(crate) fn enqueue(&mut self, caller: u32, job: J, backlog: bool) -> Entered
         requires line { has_line self.old.stage ≡ true }
         requires room { HasRoom self.old.stage }
@@ -49,8 +50,9 @@ impl<J: Drop, F: Drop> Pipeline<J, F> {
         ensures entered { without_room self.new.stage ≡ without_room (after_entered self.old.stage job result) }
         ensures placed { IsPlaced self.new.stage }
     {
+        let is_queue = self.stage.is_queue();
         let answer = self.stage.enqueue(job, backlog);
-        if is_accepted(answer) {
+        if is_accepted(answer) && !is_queue {
             note_caller(&mut self.submitters, self.maker, caller);
         }
         answer

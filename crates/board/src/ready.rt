@@ -16,7 +16,7 @@ pub(crate) struct Ready {
     members: IndexSet<u64>,
     /// So many of the first members stand in line.
     ready: usize,
-    /// The place that is looked at next, so that the members in line take turns.
+    /// The place that is looked at next, or past the line's end, where the first one is: so the members in line take turns.
     turn: usize,
 }
 
@@ -118,7 +118,8 @@ impl Ready {
         }
     }
 
-    /// One of the members that stand in line. They take turns.
+    /// One of the members that stand in line. They take turns: each sweep goes over all places, and a member's place only gets less
+    /// while it stands in line, so it waits for at most so many turns as the square of the members.
     pub(crate) fn next(&mut self) -> Option<u64>
         ensures same { self.new ≡ self.old }
         ensures next { MatchOption result ((p : ℕ) → IsInLine self.old p → ⊥) (λ pipe. IsInLine self.old pipe) }
@@ -126,7 +127,7 @@ impl Ready {
         if self.ready == 0 {
             return None;
         }
-        let place = self.turn % self.ready;
+        let place = if self.turn < self.ready { self.turn } else { 0 };
         let pipe = *self.members.get_index(place)?;
         self.turn = place + 1;
         Some(pipe)
@@ -145,7 +146,6 @@ impl Ready {
         }
         self.ready -= 1;
         self.members.swap_indices(place, self.ready);
-        self.turn = turn_after(self.turn, place);
         self.ready
     }
 }
@@ -159,13 +159,4 @@ fn place_of(members: &IndexSet<u64>, pipe: u64) -> Option<usize>
         return members.iter().position(|member| *member == pipe);
     }
     members.get_index_of(&pipe)
-}
-
-/// Whose turn it is when the last in line has come to this place: its own, where the place had the last turn.
-fn turn_after(turn: usize, place: usize) -> usize {
-    if turn.saturating_sub(1) == place {
-        place
-    } else {
-        turn
-    }
 }

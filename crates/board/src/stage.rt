@@ -4,7 +4,7 @@ ghost use Rattle.std.specs.Prelude.{◌≡◌, ℕ, ◌+◌, ◌-◌, ◌<◌, �
 ghost use Rattle.request_queue.specs.Line.{number_at_bound, accepted};
 ghost use Rattle.padata_core.specs.Pad.{ready, taken_of};
 ghost use Rattle.board.specs.declared.entry.BoardEntry.TheVariants as Entry;
-ghost use Rattle.board.specs.Stages.{is_queue, is_chain, MayServe, MayPass, PassesNone, IsLinked, next_in_line, starts_at, after_passed, with_passed, is_pad, has_line, HasRoom, IsPlaced, without_room, accepted_of, answer_of, after_entered, entered_on, with_waiting, bare, passed, IsJoined, MayEnd, emptied, released, ended, unfinished_of, jobs_of, IsQuiet, next_of, started_by, with_taken, without_first, with_job, holding, callbacks_of, collected_from};
+ghost use Rattle.board.specs.Stages.{is_queue, is_chain, MayServe, MayPass, PassesNone, IsLinked, IsApart, next_in_line, starts_at, after_passed, with_passed, is_pad, has_line, HasRoom, IsPlaced, without_room, accepted_of, answer_of, after_entered, entered_on, with_waiting, bare, passed, IsJoined, MayEnd, emptied, released, ended, unfinished_of, jobs_of, IsQuiet, next_of, started_by, with_taken, without_first, with_job, holding, callbacks_of, collected_from};
 
 use crate::entry::{BoardEntry, Entered};
 use cryptd::Cryptd;
@@ -98,6 +98,7 @@ impl<J: Drop, F: Drop> Stage<J, F> {
     /// Hands out the first job that is ready to be run, with its number, and with the number that has left the backlog by
     /// that.
     pub(crate) fn take(&mut self) -> Option<Served<J>>
+        requires { IsApart self.old }
         ensures { MatchOption result (IsQuiet self.old × (self.new ≡ self.old)) (λ s. (s.number ≡ next_of self.old) × (s.started ≡ started_by self.old) × (jobs_of self.old ≡ s.item ∷ jobs_of self.new) × (self.new ≡ without_first self.old (jobs_of self.new))) }
     {
         match self {
@@ -135,6 +136,7 @@ impl<J: Drop, F: Drop> Stage<J, F> {
         requires placed { IsPlaced self.old }
         requires few { accepted_of self.old ≤ 2 ^ 63 }
         requires linked { IsLinked self.old }
+        requires apart { IsApart self.old }
         ensures { MatchOption result (PassesNone self.old × (self.new ≡ self.old)) (λ r. (r.0 ≡ next_in_line self.old) × (r.1 ≡ starts_at self.old) × (self.new ≡ after_passed self.old)) }
     {
         match self {
@@ -302,6 +304,7 @@ fn pass_on<J: Drop, F: Drop>(
     requires placed { length line.old.line.waiting ≤ pad.old.spare }
     requires few { accepted line.old.line ≤ 2 ^ 63 }
     requires joined { IsJoined line.old pad.old }
+    requires apart { line.old.busy ≡ false }
     ensures { MatchOption result (((line.old.held ≡ true) ⊎ (line.old.line.waiting ≡ [])) × (line.new ≡ line.old) × (pad.new ≡ pad.old)) (λ r. (r.0 ≡ line.old.line.served) × (r.1 ≡ number_at_bound line.old.line) × (line.new ≡ passed line.old (drop 1 line.old.line.waiting)) × (pad.new ≡ with_passed pad.old (take 1 line.old.line.waiting))) }
 {
     let served = line.pass_on()?;

@@ -271,6 +271,53 @@ fn the_allowance_comes_before_the_verdict(rt: HostRuntime) {
     assert!(rt; are_limited(&mut board, queue, &OFFERED));
 }
 
+/// Makes a queue with three requests of a letter, two of them in its backlog.
+fn make_backlogged(board: &mut BoardCore<Echo>, letter: char) -> Result<(), BoardErr> {
+    let queue = make(board, 0, 1)?;
+    offer(board, 0, queue, saying(letter, 1), true)?;
+    offer(board, 0, queue, saying(letter, 1), true)?;
+    offer(board, 0, queue, saying(letter, 1), true)?;
+    Ok(())
+}
+
+/// Takes a job, runs it and finishes it, if one may be taken: the letter that it says.
+fn serve_next(board: &mut BoardCore<Echo>) -> Option<char> {
+    let Taken { slip, job } = board.take(1)?;
+    let letter = job.run();
+    board.finish(1, slip, letter);
+    Some(letter)
+}
+
+/// The letters of the jobs that a worker takes and finishes one after another.
+fn served(rt: &impl Abort, alloc: Global, board: &mut BoardCore<Echo>, times: u32) -> Vec<char> {
+    let mut letters = Vec::new(alloc);
+    for _ in 0..times {
+        let letter = serve_next(board).expect(rt, "a job");
+        letters.push(letter).expect(rt, "memory");
+    }
+    letters
+}
+
+const NINE: [char; 9] = ['a', 'b', 'c', 'd', 'e', 'f', 'g', 'h', 'i'];
+
+/// A board of nine backlogged queues.
+fn new_nine(rt: &impl Abort, alloc: Global) -> BoardCore<Echo> {
+    let mut board = new_board(rt, alloc);
+    for letter in NINE {
+        make_backlogged(&mut board, letter).expect(rt, "memory");
+    }
+    board
+}
+
+#[test]
+fn nine_queues_take_turns(rt: HostRuntime) {
+    let mut board = new_nine(&rt, rt.alloc());
+    let letters = served(&rt, rt.alloc(), &mut board, 11);
+    for queue in NINE {
+        assert!(rt; letters.iter().any(|letter| *letter == queue), "{queue}");
+    }
+}
+
 #[test]
 fn a_new_queue_is_closed(rt: HostRuntime) {
     let mut board = new_board(&rt, rt.alloc());

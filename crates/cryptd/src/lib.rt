@@ -13,11 +13,10 @@ use std::alloc::{AllocError, Global};
 use std::collections::VecDeque;
 use std::marker::Model;
 
-/// A bounded queue that is served one job after another, and tells of each backlogged job when it has started, and of each
-/// job its outcome.
+/// A bounded queue that is served one job after another, or whose jobs are passed on to others that run them, and that tells of each
+/// backlogged job when it has started, and of each job its outcome.
 #[derive(Drop)]
 pub struct Cryptd<J, F> {
-    alloc: Global,
     queue: Queue<J>,
     held: bool,
     busy: bool,
@@ -46,7 +45,6 @@ impl<J: Drop, F: Drop> Cryptd<J, F> {
         ensures { IfOk result (λ server. server ≡ record { line = record { max = max; served = 0; waiting = []; spare = 0 }; held = false; busy = false; passed = 0; pending = []; spare = 0 }) }
     {
         Ok(Cryptd {
-            alloc,
             queue: Queue::new(alloc, max)?,
             held: false,
             busy: false,
@@ -128,22 +126,24 @@ impl<J: Drop, F: Drop> Cryptd<J, F> {
         verdict
     }
 
-    /// From now on no job is served.
+    /// From now on no job is served or passed on.
     pub fn hold(&mut self)
         ensures { self.new ≡ record self.old { held = true } }
     {
         self.held = true;
     }
 
-    /// Jobs are served again.
+    /// Jobs are served or passed on again.
     pub fn go(&mut self)
         ensures { self.new ≡ record self.old { held = false } }
     {
         self.held = false;
     }
 
-    /// Hands out the first job, or `None` exactly where the queue is held, busy or empty. It is busy from then on.
+    /// Hands out the first job, or `None` exactly where the queue is held, busy or empty. It is busy from then on. A queue is either
+    /// served or passed on: none may be passed on that isn't released.
     pub fn serve(&mut self) -> Option<Served<J>>
+        requires apart { self.old.passed ≡ 0 }
         ensures { MatchOption result (((self.old.held ≡ true) ⊎ ((self.old.busy ≡ true) ⊎ (self.old.line.waiting ≡ []))) × (self.new ≡ self.old)) (λ s. (self.old.held ≡ false) × (self.old.busy ≡ false) × (s.number ≡ self.old.line.served) × (s.started ≡ number_at_bound self.old.line) × (self.old.line.waiting ≡ s.item ∷ self.new.line.waiting) × (self.new ≡ record self.old { line = record self.old.line { served = self.old.line.served + 1; waiting = self.new.line.waiting }; busy = true; pending = self.old.pending ++ started_callback s.started })) }
     {
         if self.held || self.busy {
@@ -166,8 +166,9 @@ impl<J: Drop, F: Drop> Cryptd<J, F> {
     }
 
     /// Passes the first job on, or `None` exactly where the queue is held or empty. Others run it; its outcome comes back by
-    /// `release`, in its turn among those that were passed on.
+    /// `release`, in its turn among those that were passed on. A queue is either served or passed on: it may not be busy.
     pub fn pass_on(&mut self) -> Option<Served<J>>
+        requires apart { self.old.busy ≡ false }
         ensures { MatchOption result (((self.old.held ≡ true) ⊎ (self.old.line.waiting ≡ [])) × (self.new ≡ self.old)) (λ s. (self.old.held ≡ false) × (s.number ≡ self.old.line.served) × (s.started ≡ number_at_bound self.old.line) × (self.old.line.waiting ≡ s.item ∷ self.new.line.waiting) × (self.new ≡ record self.old { line = record self.old.line { served = self.old.line.served + 1; waiting = self.new.line.waiting }; passed = self.old.passed + 1; pending = self.old.pending ++ started_callback s.started })) }
     {
         if self.held {

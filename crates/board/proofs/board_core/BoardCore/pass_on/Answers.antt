@@ -7,7 +7,7 @@ use Rattle.board.proofs.KeptUsed.{used_same}
 use Rattle.board.specs.declared.pipeline.Pipeline.{Pipeline}
 use Rattle.board.specs.Places.{places}
 use Rattle.board.proofs.Kept.{shut-same, loan_here, loan_some, one_here, set_here}
-use Rattle.board.proofs.KeptPassOn.{passed_entry, pass_step, pass_none, few_here, linked_here, entry_made}
+use Rattle.board.proofs.KeptPassOn.{passed_entry, pass_step, pass_none, few_here, linked_here, apart_here, entry_made}
 use Rattle.board.proofs.LinesHold.{admits_same, lines_told}
 use Rattle.board.proofs.board_core.BoardCore.pass_on.Goals as goal
 
@@ -43,6 +43,12 @@ pass_on-requires-clause-linked g c =
     let pipe = c.unwrap-place.result.now in
     let here = loan_here (places c.self.inside.pipes c.in-Some.pipe) c.get_mut.result c.unwrap-place.result c.get_mut.ensures.value c.unwrap-place.ensures in
     (linked_here g.W.Work.asked g.W.Work.meaning c.self.inside.pipes c.self.inside.born c.self.inside.log.items c.in-Some.pipe pipe c.self.invariant.0 here).1
+
+pub pass_on-requires-clause-apart : goal.pass_on-requires-clause-apart
+pass_on-requires-clause-apart g c =
+    let pipe = c.unwrap-place.result.now in
+    let here = loan_here (places c.self.inside.pipes c.in-Some.pipe) c.get_mut.result c.unwrap-place.result c.get_mut.ensures.value c.unwrap-place.ensures in
+    apart_here g.W.Work.asked g.W.Work.meaning c.self.inside.pipes c.self.inside.born c.self.inside.log.items c.in-Some.pipe pipe c.self.invariant.0 here
 
 pub pass_on-requires-clause-few : goal.pass_on-requires-clause-few
 pass_on-requires-clause-few g c =

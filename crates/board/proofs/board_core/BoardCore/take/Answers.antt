@@ -9,11 +9,18 @@ use Rattle.board.specs.declared.pipeline.Pipeline.{Pipeline}
 use Rattle.board.specs.Places.{places}
 use Rattle.board.proofs.Kept.{shut-same, loan_here, loan_some, one_here, set_here}
 use Rattle.board.proofs.KeptWork.{first_taken, first_made, first_is_queue, first_quiet, take_step, take_none, take_passes, take_entry_is}
+use Rattle.board.proofs.KeptPassOn.{apart_here}
 use Rattle.board.proofs.LinesHold.{admits_same, lines_told}
 use Rattle.board.proofs.board_core.BoardCore.take.Goals as goal
 
 pub unwrap-place-requires : goal.unwrap-place-requires
 unwrap-place-requires g c = loan_some c.get_mut.result (places c.self.inside.pipes c.in_ok-pipe.pipe) c.in_ok-pipe.ensures.next.0 c.get_mut.ensures.value c.in_ok-pipe.ensures.next.1
+
+pub take-requires : goal.take-requires
+take-requires g c =
+    let pipe = c.unwrap-place.result.now in
+    let here = loan_here (places c.self.inside.pipes c.in_ok-pipe.pipe) c.get_mut.result c.unwrap-place.result c.get_mut.ensures.value c.unwrap-place.ensures in
+    apart_here g.W.Work.asked g.W.Work.meaning c.self.inside.pipes c.self.inside.born c.self.inside.log.items c.in_ok-pipe.pipe pipe c.self.invariant.0 here
 
 pub returns-in_err-pipe-clause-taken : goal.returns-in_err-pipe-clause-taken
 returns-in_err-pipe-clause-taken g c = rw c.from_residual.ensures (
