@@ -246,21 +246,17 @@ fn a_larval_that_is_claimed_has_not_ended(rt: HostRuntime) {
     assert!(rt; registry.history().entries().len() == 2);
 }
 
-/// The larval that waits longest comes to nothing.
-fn fail_next(rt: &impl Abort, registry: &mut Registry) -> Ended {
-    match registry.claim(1, None).expect(rt, "memory") {
-        Some(claimed) => registry.end(1, claimed.larval, Err(Ended::Failed(Errno::ENOENT))),
-        None => panic!(rt; "no larval"),
-    }
-}
-
 #[test]
 fn a_failure_is_waited_for(rt: HostRuntime) {
     let mut registry = new_registry(&rt, rt.alloc());
     registry.look(0, b"cbc(des)", false).expect(&rt, "memory");
-    let ended = fail_next(&rt, &mut registry);
+    let Some(claimed) = registry.claim(1, Some(0)).expect(&rt, "memory") else {
+        panic!(rt; "no larval")
+    };
+    let failed = Ended::Failed(Errno::ENOENT);
+    let ended = registry.end(1, claimed.larval, Err(failed));
     let waited = registry.waited(0, 0).expect(&rt, "memory");
-    assert!(rt; ended == Ended::Failed(Errno::ENOENT) && waited == Some(ended));
+    assert!(rt; ended == failed && waited == Some(failed));
     assert!(rt; registry.history().entries().len() == 4);
 }
 
