@@ -1,0 +1,5 @@
+//! The trace of a run can be read back.
+#![tactic(auto)]
+
+/// Nothing yet.
+pub fn nothing() {}
