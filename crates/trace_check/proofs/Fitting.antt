@@ -161,9 +161,8 @@ enlist_good caller (a ∷ b ∷ x ∷ []) c h = tt
 enlist_good caller (name ∷ driver ∷ kind ∷ priority ∷ answer) c h =
     let w = both (is_word name) (is_word driver) (first_word name (driver ∷ kind ∷ priority ∷ answer) h) (first_word driver (kind ∷ priority ∷ answer) (more_words name (driver ∷ kind ∷ priority ∷ answer) h)) in
     let t : has_text (Enlist caller (plain_spec name driver (kind_of kind) (small_of priority)) (enlisted_of answer)) ≡ true = ap (λ b. b && true && true) w in
-    let s : spec_fits (plain_spec name driver (kind_of kind) (small_of priority)) ≡ true = both (is_u32 (small_of priority)) true (small_fits priority) refl in
     both (has_text (Enlist caller (plain_spec name driver (kind_of kind) (small_of priority)) (enlisted_of answer))) _ t
-    (both (is_u32 caller) _ c (both (spec_fits (plain_spec name driver (kind_of kind) (small_of priority))) (enlisted_fits (enlisted_of answer)) s (enlisted_fit answer)))
+    (both (is_u32 caller) _ c (both (is_u32 (small_of priority)) (enlisted_fits (enlisted_of answer)) (small_fits priority) (enlisted_fit answer)))
 
 look_good : (caller : ℕ) (words : List (List ℕ)) → is_u32 caller ≡ true → AreWords words → IsReg (look_of caller words)
 unfolding IsReg

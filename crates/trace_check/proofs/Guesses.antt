@@ -108,9 +108,9 @@ registry_again (Enlist caller spec answer) t f =
     let tt1 = and_parts (has_words spec && (length spec.below == 0)) (is_unwrapped spec.wrap) t in
     let below : spec.below ≡ [] = no_ids spec.below (and_parts (has_words spec) (length spec.below == 0) tt1.0).1 in
     let wrap : spec.wrap ≡ Plain = unwrapped spec.wrap tt1.1 in
-    let ff = and_parts (is_u32 caller) (spec_fits spec && enlisted_fits answer) f in
-    let fs = and_parts (spec_fits spec) (enlisted_fits answer) ff.1 in
-    let priority : small_of (decimal spec.priority) ≡ spec.priority = small_again spec.priority (and_parts (is_u32 spec.priority) (list_all is_u64 spec.below) fs.0).0 in
+    let ff = and_parts (is_u32 caller) (is_u32 spec.priority && enlisted_fits answer) f in
+    let fs = and_parts (is_u32 spec.priority) (enlisted_fits answer) ff.1 in
+    let priority : small_of (decimal spec.priority) ≡ spec.priority = small_again spec.priority fs.0 in
     let c : small_of (decimal caller) ≡ caller = small_again caller ff.0 in
     let a : enlisted_of (enlisted_words answer) ≡ answer = enlisted_again answer fs.1 in
     let k = spec_is spec.name spec.driver (kind_of (kind_word spec.kind)) spec.kind Plain spec.wrap (small_of (decimal spec.priority)) spec.priority [] spec.below (kind_again spec.kind) (sym wrap) priority (sym below) in

@@ -135,13 +135,12 @@ alone n f = one_more (decimal n) [] (word_decimal n f) none_more
 
 pub registry_are : (e : RegEntry) → has_text e ≡ true → fits e ≡ true → AreWords (reg_words e)
 registry_are (Enlist caller spec answer) t f =
-    let ff = and_parts (is_u32 caller) (spec_fits spec && enlisted_fits answer) f in
-    let fa = and_parts (spec_fits spec) (enlisted_fits answer) ff.1 in
-    let fs = and_parts (is_u32 spec.priority) (list_all is_u64 spec.below) fa.0 in
+    let ff = and_parts (is_u32 caller) (is_u32 spec.priority && enlisted_fits answer) f in
+    let fs = and_parts (is_u32 spec.priority) (enlisted_fits answer) ff.1 in
     let tt1 = and_parts (has_words spec && (length spec.below == 0)) (is_unwrapped spec.wrap) t in
     let tw = and_parts (is_word spec.name) (is_word spec.driver) (and_parts (has_words spec) (length spec.below == 0) tt1.0).0 in
     headed (codes "r") (codes "enlist") caller _ refl refl ff.0 (one_more spec.name _ tw.0 (one_more spec.driver _ tw.1
-    (one_more (kind_word spec.kind) _ (word_kind spec.kind) (one_more (decimal spec.priority) _ (word_small spec.priority fs.0) (words_enlisted answer fa.1)))))
+    (one_more (kind_word spec.kind) _ (word_kind spec.kind) (one_more (decimal spec.priority) _ (word_small spec.priority fs.0) (words_enlisted answer fs.1)))))
 registry_are (Look caller text plain answer) t f =
     let ff = and_parts (is_u32 caller) (looked_fits answer) f in
     headed (codes "r") (codes "look") caller _ refl refl ff.0 (one_more text _ t (one_more (plain_word plain) _ (word_plain plain) (words_looked answer ff.1)))

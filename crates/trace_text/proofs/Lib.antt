@@ -1,1 +1,2 @@
+mod FittingIds
 mod SentenceLemmas

@@ -54,7 +54,7 @@ has_text (Unlist caller driver answer) = is_word driver
 has_text (Refs caller driver) = is_word driver
 has_text _ = true
 
--- Each number of the event is within its type.
+-- Each number that the event's line has is within its type.
 abbrev pub is_u16 : ℕ → Bool
 is_u16 n = nat_lt n (2 ^ 16)
 
@@ -89,7 +89,7 @@ option_fits (Some n) = is_u64 n
 option_fits None = true
 
 abbrev pub fits : RegEntry → Bool
-fits (Enlist caller spec answer) = is_u32 caller && (spec_fits spec && enlisted_fits answer)
+fits (Enlist caller spec answer) = is_u32 caller && (is_u32 spec.priority && enlisted_fits answer)
 fits (Look caller text plain answer) = is_u32 caller && looked_fits answer
 fits (Claim caller larval) = is_u32 caller && is_u64 larval
 fits (End caller larval answer) = is_u32 caller && (is_u64 larval && end_fits answer)
@@ -125,6 +125,10 @@ board_fits line (Close caller pipe) = is_u32 caller && is_u64 pipe
 board_fits line (Share caller pipe) = is_u32 caller && is_u64 pipe
 board_fits line (Mask caller pipe mask) = is_u32 caller && (is_u64 pipe && is_u16 mask)
 board_fits line (Shut caller) = is_u32 caller
+
+-- the numbers of the lists' events are within their types
+abbrev pub FitTypes : {A : Type 0} → (A → ℕ) → List RegEntry → List (BoardEntry A) → Type 0
+FitTypes line registry board = (list_all fits registry ≡ true) × (list_all (board_fits line) board ≡ true)
 
 -- the event can be printed, and its numbers are within their types
 abbrev pub is_event : RegEntry → Bool

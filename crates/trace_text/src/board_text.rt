@@ -1,9 +1,10 @@
 //! The lines of a board's events.
 
-ghost use Rattle.std.specs.Prelude.{◌≡◌, ◌∷◌, [], ℕ, codes, IfOk};
+ghost use Rattle.std.specs.Prelude.{◌≡◌, ◌∷◌, [], ℕ, codes, true, IfOk, OnOk};
 ghost use Rattle.std.specs.Fmt.{decimal};
 ghost use Rattle.std.specs.Arc.{arc_value};
 ghost use Rattle.trace_text.specs.Text.{sentence, board_words, shape_words, started_words, entered_words, backlog_word, mask_word};
+ghost use Rattle.trace_text.specs.Trace.{shape_fits, entered_fits, option_fits, board_fits};
 
 use crate::words::{backlog_word, mask_word, sentence_of};
 use board::{BoardEntry, Entered, Shape};
@@ -110,7 +111,8 @@ fn chain_text(
 }
 
 fn born_text(alloc: Global, caller: u32, pipe: u64, shape: Shape) -> Result<Bytes, AllocError>
-    ensures { IfOk result (λ text. text ≡ sentence (codes "b" ∷ decimal caller ∷ codes "born" ∷ decimal pipe ∷ shape_words shape)) }
+    ensures text { IfOk result (λ text. text ≡ sentence (codes "b" ∷ decimal caller ∷ codes "born" ∷ decimal pipe ∷ shape_words shape)) }
+    ensures fits { OnOk result (shape_fits shape ≡ true) }
 {
     match shape {
         Shape::Pad(lists) => shape_text(alloc, caller, pipe, b"pad", lists),
@@ -184,7 +186,8 @@ fn enq_text(
     backlog: bool,
     answer: Entered,
 ) -> Result<Bytes, AllocError>
-    ensures { IfOk result (λ text. text ≡ sentence (codes "b" ∷ decimal caller ∷ codes "enq" ∷ decimal pipe ∷ decimal line ∷ backlog_word backlog ∷ entered_words answer)) }
+    ensures text { IfOk result (λ text. text ≡ sentence (codes "b" ∷ decimal caller ∷ codes "enq" ∷ decimal pipe ∷ decimal line ∷ backlog_word backlog ∷ entered_words answer)) }
+    ensures fits { OnOk result (entered_fits answer ≡ true) }
 {
     let word = backlog_word(backlog);
     match answer {
@@ -221,7 +224,8 @@ fn deq_text(
     number: u64,
     started: Option<u64>,
 ) -> Result<Bytes, AllocError>
-    ensures { IfOk result (λ text. text ≡ sentence (codes "b" ∷ decimal caller ∷ codes "deq" ∷ decimal pipe ∷ decimal number ∷ started_words started)) }
+    ensures text { IfOk result (λ text. text ≡ sentence (codes "b" ∷ decimal caller ∷ codes "deq" ∷ decimal pipe ∷ decimal number ∷ started_words started)) }
+    ensures fits { OnOk result (option_fits started ≡ true) }
 {
     let caller = caller.to_string(alloc)?;
     let pipe = pipe.to_string(alloc)?;
@@ -274,9 +278,10 @@ fn mask_text(alloc: Global, caller: u32, pipe: u64, mask: u16) -> Result<Bytes, 
     )
 }
 
-/// The line of a board's event.
+/// The line of a board's event, whose numbers are within their types.
 pub fn board_line<A: Lined>(alloc: Global, event: &BoardEntry<A>) -> Result<Bytes, AllocError>
-    ensures { IfOk result (λ text. text ≡ sentence (board_words A.line event.now)) }
+    ensures text { IfOk result (λ text. text ≡ sentence (board_words A.line event.now)) }
+    ensures fits { OnOk result (board_fits A.line event.now ≡ true) }
 {
     match event {
         BoardEntry::Born {

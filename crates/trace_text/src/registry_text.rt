@@ -1,9 +1,11 @@
 //! The lines of a registry's events.
 
-ghost use Rattle.std.specs.Prelude.{◌≡◌, ◌∷◌, [], codes, IfOk};
+ghost use Rattle.std.specs.Prelude.{◌≡◌, ◌∷◌, ◌&&◌, [], codes, true, IfOk, OnOk};
+ghost use Rattle.std.specs.List.{list_all};
 ghost use Rattle.std.specs.Fmt.{decimal};
 ghost use Rattle.alg_registry.specs.declared.entry.RegEntry.TheVariants as Entry;
 ghost use Rattle.trace_text.specs.Text.{sentence, reg_words};
+ghost use Rattle.trace_text.specs.Trace.{is_u32, is_u64, spec_fits, enlisted_fits, looked_fits, end_fits, option_fits, fits};
 
 use crate::words::{get_word, ids_word, kind_word, plain_word, sentence_of, wrap_word};
 use alg_registry::{EndAnswer, Enlisted, Looked, RegEntry, Spec};
@@ -75,7 +77,8 @@ fn enlist_text(
     spec: &Spec,
     answer: Enlisted,
 ) -> Result<Bytes, AllocError>
-    ensures { IfOk result (λ text. text ≡ sentence (reg_words (Entry.Enlist caller spec.now answer))) }
+    ensures text { IfOk result (λ text. text ≡ sentence (reg_words (Entry.Enlist caller spec.now answer))) }
+    ensures fits { OnOk result ((is_u32 spec.now.priority && enlisted_fits answer) ≡ true) }
 {
     let name = spec.name.as_slice();
     let driver = spec.driver.as_slice();
@@ -147,7 +150,8 @@ fn look_text(
     plain: bool,
     answer: Looked,
 ) -> Result<Bytes, AllocError>
-    ensures { IfOk result (λ line. line ≡ sentence (reg_words (Entry.Look caller text.now plain answer))) }
+    ensures text { IfOk result (λ line. line ≡ sentence (reg_words (Entry.Look caller text.now plain answer))) }
+    ensures fits { OnOk result (looked_fits answer ≡ true) }
 {
     let sight = plain_word(plain);
     match answer {
@@ -203,7 +207,8 @@ fn built_text(
     id: u64,
     spec: &Spec,
 ) -> Result<Bytes, AllocError>
-    ensures { IfOk result (λ text. text ≡ sentence (reg_words (Entry.End caller larval (EndAnswer.Built id spec.now)))) }
+    ensures text { IfOk result (λ text. text ≡ sentence (reg_words (Entry.End caller larval (EndAnswer.Built id spec.now)))) }
+    ensures fits { OnOk result ((is_u64 id && spec_fits spec.now) ≡ true) }
 {
     let below = ids_word(alloc, spec.below.as_slice())?;
     built_as(
@@ -227,7 +232,8 @@ fn joined_text(
     id: u64,
     below: &[u64],
 ) -> Result<Bytes, AllocError>
-    ensures { IfOk result (λ text. text ≡ sentence (reg_words (Entry.End caller larval (EndAnswer.Joined id below.now)))) }
+    ensures text { IfOk result (λ text. text ≡ sentence (reg_words (Entry.End caller larval (EndAnswer.Joined id below.now)))) }
+    ensures fits { OnOk result ((is_u64 id && list_all is_u64 below.now) ≡ true) }
 {
     let caller = caller.to_string(alloc)?;
     let larval = larval.to_string(alloc)?;
@@ -253,7 +259,8 @@ fn end_text(
     larval: u64,
     answer: &EndAnswer,
 ) -> Result<Bytes, AllocError>
-    ensures { IfOk result (λ text. text ≡ sentence (reg_words (Entry.End caller larval answer.now))) }
+    ensures text { IfOk result (λ text. text ≡ sentence (reg_words (Entry.End caller larval answer.now))) }
+    ensures fits { OnOk result (end_fits answer.now ≡ true) }
 {
     match answer {
         EndAnswer::Built(id, spec) => built_text(alloc, caller, larval, *id, spec),
@@ -296,7 +303,8 @@ fn unlist_text(
     driver: &[u8],
     answer: Option<u64>,
 ) -> Result<Bytes, AllocError>
-    ensures { IfOk result (λ text. text ≡ sentence (reg_words (Entry.Unlist caller driver.now answer))) }
+    ensures text { IfOk result (λ text. text ≡ sentence (reg_words (Entry.Unlist caller driver.now answer))) }
+    ensures fits { OnOk result (option_fits answer ≡ true) }
 {
     let caller = caller.to_string(alloc)?;
     match answer {
@@ -371,9 +379,10 @@ fn list_text(alloc: Global, caller: u32) -> Result<Bytes, AllocError>
     sentence_of(alloc, b"r", &[caller.as_bytes(), b"list".as_slice()])
 }
 
-/// The line of a registry's event.
+/// The line of a registry's event, whose numbers are within their types.
 pub fn registry_line(alloc: Global, event: &RegEntry) -> Result<Bytes, AllocError>
-    ensures { IfOk result (λ text. text ≡ sentence (reg_words event.now)) }
+    ensures text { IfOk result (λ text. text ≡ sentence (reg_words event.now)) }
+    ensures fits { OnOk result (fits event.now ≡ true) }
 {
     match event {
         RegEntry::Enlist {

@@ -1,7 +1,9 @@
 //! The words of events.
 
-ghost use Rattle.std.specs.Prelude.{◌≡◌, ◌<◌, ◌∷◌, map, IfOk};
+ghost use Rattle.std.specs.Prelude.{◌≡◌, ◌<◌, ◌∷◌, true, map, IfOk, OnOk};
+ghost use Rattle.std.specs.List.{list_all};
 ghost use Rattle.trace_text.specs.Text.{sentence, kind_word, wrap_word, ids_word, plain_word, get_word, backlog_word, hex_digit, mask_word};
+ghost use Rattle.trace_text.specs.Trace.{is_u64};
 
 use alg_registry::{Kind, Wrap};
 use kc_base::Bytes;
@@ -106,7 +108,8 @@ fn more_ids(alloc: Global, first: u64, others: &[u64]) -> Result<Bytes, AllocErr
 
 /// Ids as one word.
 pub(crate) fn ids_word(alloc: Global, ids: &[u64]) -> Result<Bytes, AllocError>
-    ensures { IfOk result (λ text. text ≡ ids_word ids.now) }
+    ensures text { IfOk result (λ text. text ≡ ids_word ids.now) }
+    ensures fits { OnOk result (list_all is_u64 ids.now ≡ true) }
 {
     match ids {
         [] => Bytes::copy_of(alloc, b"-"),

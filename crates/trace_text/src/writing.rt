@@ -1,9 +1,9 @@
 //! The trace of a run.
 
-ghost use Rattle.std.specs.Prelude.{◌≡◌, ◌++◌, IfOk, OnOk};
-ghost use Rattle.std.specs.List.{flat_map};
+ghost use Rattle.std.specs.Prelude.{◌≡◌, ◌++◌, true, IfOk, OnOk};
+ghost use Rattle.std.specs.List.{flat_map, list_all};
 ghost use Rattle.trace_text.specs.Text.{sentence, reg_words, board_words};
-ghost use Rattle.trace_text.specs.Trace.{trace_of};
+ghost use Rattle.trace_text.specs.Trace.{trace_of, fits, board_fits, FitTypes};
 
 use crate::board_text::{Lined, board_line};
 use crate::registry_text::registry_line;
@@ -22,7 +22,8 @@ impl Lined for Ask {
 }
 
 fn put_registry(alloc: Global, text: &mut Bytes, events: &[RegEntry]) -> Result<(), AllocError>
-    ensures { OnOk result (text.new ≡ text.old ++ flat_map (λ e. sentence (reg_words e)) events.now) }
+    ensures text { OnOk result (text.new ≡ text.old ++ flat_map (λ e. sentence (reg_words e)) events.now) }
+    ensures fits { OnOk result (list_all fits events.now ≡ true) }
 {
     for event in events {
         text.append(registry_line(alloc, event)?.as_slice())?;
@@ -35,7 +36,8 @@ fn put_board<A: Lined>(
     text: &mut Bytes,
     events: &[BoardEntry<A>],
 ) -> Result<(), AllocError>
-    ensures { OnOk result (text.new ≡ text.old ++ flat_map (λ e. sentence (board_words A.line e)) events.now) }
+    ensures text { OnOk result (text.new ≡ text.old ++ flat_map (λ e. sentence (board_words A.line e)) events.now) }
+    ensures fits { OnOk result (list_all (board_fits A.line) events.now ≡ true) }
 {
     for event in events {
         text.append(board_line(alloc, event)?.as_slice())?;
@@ -44,12 +46,14 @@ fn put_board<A: Lined>(
 }
 
 /// The trace of what a registry and a board recorded: an event a line, all of the registry's first. docs/TRACE.md has the format.
+/// Each number in it is within its type.
 pub fn write_trace(
     alloc: Global,
     registry: &RegLog,
     board: &BoardLog<Ask>,
 ) -> Result<Bytes, AllocError>
-    ensures { IfOk result (λ text. text ≡ trace_of (λ ask. ask.line) registry.now board.now) }
+    ensures text { IfOk result (λ text. text ≡ trace_of (λ ask. ask.line) registry.now board.now) }
+    ensures fits { OnOk result (FitTypes (λ ask. ask.line) registry.now board.now) }
 {
     let mut text = Bytes::new(alloc);
     put_registry(alloc, &mut text, registry.entries())?;

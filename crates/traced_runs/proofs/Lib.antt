@@ -1,0 +1,4 @@
+pub mod Words
+pub mod Registered
+pub mod Asking
+pub mod Events

@@ -1,5 +1,6 @@
-//! The trace of a run can be read back.
+//! The trace of a script's run can be read back.
 #![tactic(auto)]
 
-/// Nothing yet.
-pub fn nothing() {}
+mod laws;
+
+pub use laws::events_have_text;

@@ -1,0 +1,51 @@
+-- Each event of a run's registry can be printed.
+use Rattle.std.proofs.Common.{◌≡◌, ◌≤◌, ℕ, true, false, ◌&&◌, List, [], ◌∷◌, ◌++◌, refl, subst, arith}
+use Rattle.std.specs.Prelude.{◌==◌, nat_le, IsFalse}
+use Rattle.std.specs.List.{All, list_all}
+use Rattle.std.proofs.lemmas.Bool.{and_from}
+use Rattle.std.proofs.lemmas.Bool.Decides.{nat_tests}
+use Rattle.std.proofs.lemmas.List.Elements.{All-head, All-tail}
+use Rattle.alg_registry.specs.declared.entry.RegEntry.{RegEntry}
+use Rattle.alg_registry.specs.declared.entry.RegEntry.TheVariants as entry
+use Rattle.alg_registry.specs.Legal.{MayFollow, IsRight, is_worker}
+use Rattle.alg_registry.specs.Made.{MadeAfter, IsMade}
+use Rattle.alg_registry.specs.Rows.{registered, caller_of}
+use Rattle.dialogues.specs.RegistryCalls.{reg_calls}
+use Rattle.dialogues.specs.Texts.{turn_in}
+use Rattle.dialogues.specs.Walk.{start}
+use Rattle.script_text.specs.Script.{script_of}
+use Rattle.templates.specs.Table.{table}
+use Rattle.trace_text.specs.Trace.{has_words, has_text}
+use Rattle.traced_runs.specs.Printed.{EventsHaveText, AsksOfWord}
+use Rattle.traced_runs.proofs.Asking.{EntryOf, entries_of_calls, script_asks_of_words}
+use Rattle.traced_runs.proofs.Registered.{registered_have_words, enlisted_has_text, end_has_words}
+use Rattle.traced_runs.proofs.Words.{name_is_word, lines_name_words}
+
+-- who isn't a worker is the script
+script_alone : (caller : ℕ) → IsFalse (is_worker caller) → caller ≤ 16 → caller ≡ 0
+script_alone caller other few = grind (arith, nat_tests)
+
+event_has_text : (before : List RegEntry) (e : RegEntry) → list_all has_words (registered before) ≡ true → IsRight before e → IsMade table before e → caller_of e ≤ 16 → EntryOf 0 e → has_text e ≡ true
+event_has_text before (entry.Enlist caller spec answer) words right made few own = enlisted_has_text before caller spec answer right made
+event_has_text before (entry.Look caller text false answer) words right made few own = name_is_word text made
+event_has_text before (entry.Look caller text true answer) words right made few own = name_is_word text made.0
+event_has_text before (entry.End caller larval answer) words right made few own = end_has_words before caller larval answer words made
+event_has_text before (entry.Unlist caller driver answer) words right made few own = own (script_alone caller right.0 few)
+event_has_text before (entry.Refs caller driver) words right made few own = own (script_alone caller right few)
+event_has_text before (entry.Claim caller larval) words right made few own = refl
+event_has_text before (entry.Waited caller larval) words right made few own = refl
+event_has_text before (entry.Get caller id ok) words right made few own = refl
+event_has_text before (entry.Put caller id) words right made few own = refl
+event_has_text before (entry.List caller) words right made few own = refl
+
+events_have_text : (before h : List RegEntry) → list_all has_words (registered before) ≡ true → MayFollow before h → MadeAfter table before h → All (λ e. caller_of e ≤ 16) h → All (EntryOf 0) h → list_all has_text h ≡ true
+events_have_text before [] words legal made few own = refl
+events_have_text before (e ∷ h) words legal made few own =
+    and_from (has_text e) (list_all has_text h)
+    (event_has_text before e words legal.0 made.0 (All-head (λ e. caller_of e ≤ 16) e h few) (All-head (EntryOf 0) e h own))
+    (events_have_text (before ++ e ∷ []) h (registered_have_words before e words made.0) legal.1 made.1 (All-tail (λ e. caller_of e ≤ 16) e h few) (All-tail (EntryOf 0) e h own))
+
+pub runs_have_text : EventsHaveText
+runs_have_text workers script r b text legal made few is =
+    let asked : All AsksOfWord (turn_in workers (start 0) 0 (script_of script) r b).registry = script_asks_of_words workers (start 0) (script_of script) _ _ (lines_name_words script) in
+    events_have_text [] r refl legal made few (entries_of_calls 0 r (subst (All AsksOfWord) is.registry asked))
