@@ -317,7 +317,7 @@ fn each_caller_has_1048576_requests(rt: HostRuntime) {
     let mut board = new_board(&rt, rt.alloc());
     let pipe = open_pad(&rt, &mut board, 0);
     for number in 0..1_048_577u64 {
-        let found = submit(&mut board, 0, pipe, saying('a', 64));
+        let found = submit(&mut board, 0, pipe, saying('a', 0));
         assert!(rt; found == wanted_number(number));
     }
 }

@@ -1,6 +1,6 @@
 //! The whole program, from the words and the bytes read to the bytes written.
 
-ghost use Rattle.std.specs.Prelude.{◌≡◌, ◌+◌, ◌-◌, ◌^◌, ◌<◌, ◌≤◌, ◌↔◌, ◌⊎◌, ℕ, [], Some, None, length, take, map, IfOk, IfErr, IfSome, IsSome, IsTrue, Ok, string_bytes};
+ghost use Rattle.std.specs.Prelude.{◌≡◌, ◌+◌, ◌-◌, ◌^◌, ◌<◌, ◌≤◌, ◌↔◌, ◌⊎◌, ℕ, [], true, Some, None, length, take, map, IfOk, IfErr, IfSome, IsSome, IsTrue, Ok, string_bytes};
 ghost use Rattle.std.specs.List.{list_any};
 ghost use Rattle.std.specs.Io.KnownBytes.{Appends};
 ghost use Rattle.kc_base.specs.Streams.{AppendsFront, Rose};
@@ -18,7 +18,7 @@ ghost use Rattle.dialogues.specs.Walk.{start};
 ghost use Rattle.templates.specs.Table.{table};
 ghost use Rattle.script_run.specs.Answered.{Gives, AreAnswered, BeginsWithText};
 ghost use Rattle.command_line.specs.CommandLine.{IsWithinLimits};
-ghost use Rattle.script_run.specs.Endings.{traced, AreCallers, EndsShut, IsShutOnce};
+ghost use Rattle.script_run.specs.Endings.{traced, CanBeRead, AreCallers, EndsShut, IsShutOnce};
 ghost use Rattle.script_run.specs.Runs.{ReadsUpTo, Gains, GainsThen, GainsFront, InTurn};
 ghost use Rattle.script_run.specs.Statuses.{status_of};
 ghost use Rattle.script_run.specs.Text.{is_malformed};
@@ -112,11 +112,13 @@ pub fn run<S: Source, K: Sink, G: Gate + Sync, R: Threads + Wait + Sync>(
     src: &mut S,
     out: &mut K,
 ) -> Outcome
-    // A run that reaches the end has read the script whole, written its text, then the trace where the words ask for it, and shut
-    // the board last. The script has called the registry in turn, with as many looks at once as a probe has names.
+    // A run that reaches the end has read the script whole, written its text, then the trace where the words ask for it, which can
+    // be read back, and shut the board last. The script has called the registry in turn, with as many looks at once as a probe has
+    // names.
     ensures ended { IsSome (script_asked (map string_bytes words.now)) → result.status ≤ 1 → IfSome (S.left src.old) (λ _. S.left src.new ≡ Some []) }
     ensures whole { IfSome (script_asked (map string_bytes words.now)) (λ options. result.status ≤ 1 → IfSome (S.left src.old) (λ script. GainsThen (K.held out.old) (K.held out.new)
         (IsText options.workers (start 0) 0 (script_of script) result.registry result.board) (traced options.trace result.registry result.board))) }
+    ensures readable { IfSome (script_asked (map string_bytes words.now)) (λ options. options.trace ≡ true → result.status ≤ 1 → IfSome (S.left src.old) (λ _. CanBeRead result.registry result.board)) }
     ensures shut { IsSome (script_asked (map string_bytes words.now)) → result.status ≤ 1 → EndsShut result.board }
     ensures in_turn { IsSome (script_asked (map string_bytes words.now)) → result.status ≤ 1 → IfSome (S.left src.old) (λ script. InTurn (script_of script) result.registry) }
     ensures malformed { IsSome (script_asked (map string_bytes words.now)) → result.status ≤ 1 → IfSome (S.left src.old) (λ script. (result.status ≡ 1) ↔ IsTrue (list_any is_malformed (script_of script))) }

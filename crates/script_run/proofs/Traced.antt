@@ -43,6 +43,18 @@ module _ (before after : Result Bool RunError) (held held' held'' : Option (List
       by (Ok bad) w = subst (λ x. OnOk x A) w.0 on
       by (Err e) w = tt
 
+  -- what holds of a script and of the trace holds of both together
+  pub then-both : (left : Option (List ℕ)) (A C : Type 0) (B : List ℕ → Type 0) → OnOk before (IfSome left B) → OnOk after A → ((script : List ℕ) → B script → A → C) → OnOk after (IfSome left (λ _. C))
+  then-both left A C B on has joins = by after (then-ok (IfSome left B) on) has
+    where
+      told : (o : Option (List ℕ)) → IfSome o B → A → IfSome o (λ _. C)
+      told None is a = tt
+      told (Some script) is a = joins script is a
+
+      by : (r : Result Bool RunError) → OnOk r (IfSome left B) → OnOk r A → OnOk r (IfSome left (λ _. C))
+      by (Ok bad) is a = told left is a
+      by (Err e) is a = tt
+
   pub then-if : (P : Bool → Type 0) → IfOk before P → IfOk after P
   then-if P on = by after whole
     where

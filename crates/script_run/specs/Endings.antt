@@ -6,7 +6,7 @@ use Rattle.board.specs.declared.entry.BoardEntry.{BoardEntry}
 use Rattle.board.specs.declared.entry.BoardEntry.TheVariants.{Shut}
 use Rattle.board.specs.Entries.{caller_of as board_caller}
 use Rattle.board.specs.Staying.{is_work}
-use Rattle.trace_text.specs.Trace.{trace_of}
+use Rattle.trace_text.specs.Trace.{trace_of, AreEvents}
 use Rattle.transforms.specs.declared.ask.Ask.{Ask}
 
 -- ---- the trace
@@ -15,6 +15,10 @@ use Rattle.transforms.specs.declared.ask.Ask.{Ask}
 abbrev pub traced : Bool → List RegEntry → List (BoardEntry Ask) → List ℕ
 traced true r b = trace_of (λ ask. ask.line) r b
 traced false r b = []
+
+-- the trace of these histories can be read back
+abbrev pub CanBeRead : List RegEntry → List (BoardEntry Ask) → Type 0
+CanBeRead r b = AreEvents (λ ask. ask.line) r b
 
 -- ---- histories
 

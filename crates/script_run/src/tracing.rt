@@ -1,6 +1,6 @@
 //! A script beside workers, and then the trace of its run.
 
-ghost use Rattle.std.specs.Prelude.{OnOk, ◌≡◌, ◌≤◌, ◌⊎◌, Bool, [], Err, Ok, IfOk, IfErr, IfSome, IsErrOf, MatchResult};
+ghost use Rattle.std.specs.Prelude.{OnOk, ◌≡◌, ◌≤◌, ◌⊎◌, Bool, true, [], Err, Ok, IfOk, IfErr, IfSome, IsErrOf, MatchResult};
 ghost use Rattle.std.specs.List.{list_any};
 ghost use Rattle.std.specs.Io.KnownBytes.{Appends, Keeps};
 ghost use Rattle.alg_registry.specs.Legal.{LegalReg};
@@ -13,9 +13,9 @@ ghost use Rattle.kc_base.specs.Streams.{AppendsFront, Rose};
 ghost use Rattle.script_text.specs.Script.{script_of};
 ghost use Rattle.settled_scripts.specs.Settled.{IsSettled, plain_text};
 ghost use Rattle.templates.specs.Table.{table};
-ghost use Rattle.trace_text.specs.Trace.{trace_of};
+ghost use Rattle.trace_text.specs.Trace.{trace_of, FitTypes};
 ghost use Rattle.script_run.specs.Answered.{RanSource};
-ghost use Rattle.script_run.specs.Endings.{AreCallers, EndsShut, IsShutOnce, traced};
+ghost use Rattle.script_run.specs.Endings.{AreCallers, CanBeRead, EndsShut, IsShutOnce, traced};
 ghost use Rattle.script_run.specs.Runs.{GainsThen, GainsFront, InTurn};
 ghost use Rattle.script_run.specs.Text.{is_malformed};
 
@@ -30,6 +30,7 @@ use std::alloc::Global;
 use std::sync::Wait;
 use std::thread::Threads;
 use trace_text::write_trace;
+use traced_runs::traces_can_be_read;
 use transforms::Ask;
 
 // Writes the trace of these histories in one piece.
@@ -42,6 +43,7 @@ fn put_trace<K: Sink>(
     ensures bytes { MatchResult result
         (λ _. Appends (K.held out.old) (K.held out.new) (trace_of (λ ask. ask.line) registry.now board.now))
         (λ _. AppendsFront (K.held out.old) (K.held out.new) (trace_of (λ ask. ask.line) registry.now board.now)) }
+    ensures fits { OnOk result (FitTypes (λ ask. ask.line) registry.now board.now) }
     ensures later { K.faults out.old ≤ K.faults out.new }
     ensures cause { IsErrOf result RunError.WriteFault → Rose (K.faults out.old) (K.faults out.new) }
     ensures causes { IfErr result (λ e. (e ≡ RunError.WriteFault) ⊎ (e ≡ RunError.NoMemory)) }
@@ -61,6 +63,7 @@ fn answer_traced<K: Sink>(
     out: &mut K,
 ) -> Result<bool, RunError>
     ensures whole { IfOk result (λ bad. (answer ≡ Ok bad) × Appends (K.held out.old) (K.held out.new) (traced trace registry.now board.now)) }
+    ensures fits { trace ≡ true → OnOk result (FitTypes (λ ask. ask.line) registry.now board.now) }
     ensures front { IfErr result (λ e. ((answer ≡ Err e) × Keeps (K.held out.old) (K.held out.new))
         ⊎ ((bad : Bool) × (answer ≡ Ok bad) × AppendsFront (K.held out.old) (K.held out.new) (traced trace registry.now board.now))) }
     ensures later { K.faults out.old ≤ K.faults out.new }
@@ -88,6 +91,7 @@ pub fn run_traced<S: Source, K: Sink, G: Gate + Sync, R: Threads + Wait + Sync>(
     requires few { options.now.workers ≤ 16 }
     ensures ended { OnOk result.answer (IfSome (S.left src.old) (λ _. S.left src.new ≡ Some [])) }
     ensures whole { OnOk result.answer (IfSome (S.left src.old) (λ script. GainsThen (K.held out.old) (K.held out.new) (IsText options.now.workers (start 0) 0 (script_of script) result.registry result.board) (traced options.now.trace result.registry result.board))) }
+    ensures readable { options.now.trace ≡ true → OnOk result.answer (IfSome (S.left src.old) (λ _. CanBeRead result.registry result.board)) }
     ensures in_turn { OnOk result.answer (IfSome (S.left src.old) (λ script. InTurn (script_of script) result.registry)) }
     ensures settled { OnOk result.answer (IfSome (S.left src.old) (λ script. IsSettled (script_of script) → GainsThen (K.held out.old) (K.held out.new) (λ text. text ≡ plain_text (script_of script)) (traced options.now.trace result.registry result.board))) }
     ensures shut { OnOk result.answer (EndsShut result.board) }
@@ -104,6 +108,7 @@ pub fn run_traced<S: Source, K: Sink, G: Gate + Sync, R: Threads + Wait + Sync>(
     ensures write_fault { IsErrOf result.answer RunError.WriteFault → Rose (K.faults out.old) (K.faults out.new) }
     ensures usage { IsErrOf result.answer RunError.Usage → ⊥ }
 {
+    traces_can_be_read();
     let Ran {
         answer,
         registry,

@@ -183,6 +183,8 @@ state 0 r 0 end 0 nomemory;
 caller 2 r 0 look cbc(aes) any began 0;r 0 claim 0;r 1 end 0 nomemory;
 number 2 r 0 look cbc(aes) any began 0;r 0 claim 0;r 0 end 0 joined 3 0;
 answer 2 r 0 look cbc(aes) any began 0;r 0 claim 0;r 0 end 0 joined 0 3;
+number 2 r 0 look cbc(aes) any began 0;r 0 claim 0;r 0 end 0 built 9 cbc(aes) aes-generic skcipher plain 100 0;
+answer 2 r 0 look cbc(aes) any began 0;r 0 claim 0;r 0 end 0 built 3 cbc(aes) aes-generic skcipher plain 100 0;
 state 1 r 0 look cbc(aes) any began 0;r 0 waited 0;
 caller 0 r 16 unlist aes-generic ok 0;
 number 0 r 0 unlist aes-generic ok 1;

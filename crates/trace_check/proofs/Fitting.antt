@@ -16,7 +16,7 @@ use Rattle.board.specs.declared.entry.Shape.TheVariants.{Pad, Queue}
 use Rattle.board.specs.declared.entry.Entered.TheVariants.{InProgress, Busy}
 use Rattle.board.specs.declared.entry.BoardEntry.{BoardEntry}
 use Rattle.board.specs.declared.entry.BoardEntry.TheVariants as says
-use Rattle.trace_text.specs.Trace.{is_word, end_has_text, has_text, is_u16, is_u32, is_u64, spec_fits, enlisted_fits, looked_fits, end_fits, option_fits, shape_fits, entered_fits, is_event, board_fits}
+use Rattle.trace_text.specs.Trace.{is_word, end_has_text, has_text, is_u16, is_u32, is_u64, enlisted_fits, looked_fits, end_fits, option_fits, shape_fits, entered_fits, is_event, board_fits}
 use Rattle.trace_check.specs.declared.lines.Event.{Event}
 use Rattle.trace_check.specs.declared.lines.Event.TheVariants as event
 use Rattle.trace_check.specs.declared.lines.Known.{Known}

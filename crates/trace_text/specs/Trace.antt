@@ -1,5 +1,5 @@
 -- The trace of a run, and which lists of events have one.
-use Rattle.std.specs.Prelude.{ℕ, Bool, true, false, ◌&&◌, ◌≡◌, ◌==◌, ◌^◌, nat_lt, nat_le, List, [], ◌∷◌, ◌++◌, length, Option, Some, None}
+use Rattle.std.specs.Prelude.{ℕ, Bool, true, false, ◌&&◌, ◌≡◌, ◌==◌, ◌^◌, nat_lt, nat_le, List, ◌++◌, length, Option, Some, None}
 use Rattle.std.specs.List.{flat_map, list_all}
 use Rattle.std.specs.Arc.{arc_value}
 use Rattle.alg_registry.specs.declared.spec.Wrap.{Wrap}

@@ -36,7 +36,7 @@ use Rattle.dialogues.specs.RegistryCalls.{RegCall, Unlists, Counts, reg_call_of,
 use Rattle.dialogues.specs.Requesting.{is_too_big, entered, hands_in, requests_in, requests_under, request}
 use Rattle.dialogues.specs.Turns.{Turn, broken, asking, posting, turn_of}
 use Rattle.dialogues.specs.Walk.{Walk, Live, Pipe, live_of}
-use Rattle.traced_runs.specs.Printed.{NamesWords, AsksOfWord}
+use Rattle.traced_runs.specs.Naming.{NamesWords, AsksOfWord}
 
 -- ---- dialogues
 

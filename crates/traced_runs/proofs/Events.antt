@@ -1,22 +1,22 @@
--- Each event of a run's registry can be printed.
-use Rattle.std.proofs.Common.{◌≡◌, ◌≤◌, ℕ, true, false, ◌&&◌, List, [], ◌∷◌, ◌++◌, refl, subst, arith}
-use Rattle.std.specs.Prelude.{◌==◌, nat_le, IsFalse}
+-- The events of a run can be read back.
+use Rattle.std.proofs.Common.{◌≡◌, ◌≤◌, ℕ, true, false, List, [], ◌∷◌, ◌++◌, refl, subst, arith}
+use Rattle.std.specs.Prelude.{IsFalse}
 use Rattle.std.specs.List.{All, list_all}
-use Rattle.std.proofs.lemmas.Bool.{and_from}
+use Rattle.std.proofs.lemmas.Bool.{and_from, and_parts}
 use Rattle.std.proofs.lemmas.Bool.Decides.{nat_tests}
-use Rattle.std.proofs.lemmas.List.Elements.{All-head, All-tail}
+use Rattle.std.proofs.lemmas.List.Elements.{All-head, All-tail, All-weaker}
 use Rattle.alg_registry.specs.declared.entry.RegEntry.{RegEntry}
 use Rattle.alg_registry.specs.declared.entry.RegEntry.TheVariants as entry
 use Rattle.alg_registry.specs.Legal.{MayFollow, IsRight, is_worker}
 use Rattle.alg_registry.specs.Made.{MadeAfter, IsMade}
 use Rattle.alg_registry.specs.Rows.{registered, caller_of}
-use Rattle.dialogues.specs.RegistryCalls.{reg_calls}
 use Rattle.dialogues.specs.Texts.{turn_in}
 use Rattle.dialogues.specs.Walk.{start}
 use Rattle.script_text.specs.Script.{script_of}
 use Rattle.templates.specs.Table.{table}
-use Rattle.trace_text.specs.Trace.{has_words, has_text}
-use Rattle.traced_runs.specs.Printed.{EventsHaveText, AsksOfWord}
+use Rattle.trace_text.specs.Trace.{has_words, has_text, fits, is_event}
+use Rattle.traced_runs.specs.Naming.{AsksOfWord}
+use Rattle.traced_runs.specs.Readable.{TracesCanBeRead}
 use Rattle.traced_runs.proofs.Asking.{EntryOf, entries_of_calls, script_asks_of_words}
 use Rattle.traced_runs.proofs.Registered.{registered_have_words, enlisted_has_text, end_has_words}
 use Rattle.traced_runs.proofs.Words.{name_is_word, lines_name_words}
@@ -45,7 +45,16 @@ events_have_text before (e ∷ h) words legal made few own =
     (event_has_text before e words legal.0 made.0 (All-head (λ e. caller_of e ≤ 16) e h few) (All-head (EntryOf 0) e h own))
     (events_have_text (before ++ e ∷ []) h (registered_have_words before e words made.0) legal.1 made.1 (All-tail (λ e. caller_of e ≤ 16) e h few) (All-tail (EntryOf 0) e h own))
 
-pub runs_have_text : EventsHaveText
-runs_have_text workers script r b text legal made few is =
+-- what can be printed and fits its types can be read back
+are_events : (h : List RegEntry) → list_all has_text h ≡ true → list_all fits h ≡ true → list_all is_event h ≡ true
+are_events [] text fit = refl
+are_events (e ∷ h) text fit =
+    let texts = and_parts (has_text e) (list_all has_text h) text in
+    let fitting = and_parts (fits e) (list_all fits h) fit in
+    and_from (is_event e) (list_all is_event h) (and_from (has_text e) (fits e) texts.0 fitting.0) (are_events h texts.1 fitting.1)
+
+pub traces_can_be_read : TracesCanBeRead
+traces_can_be_read workers script r b text at_most legal made few is fit =
     let asked : All AsksOfWord (turn_in workers (start 0) 0 (script_of script) r b).registry = script_asks_of_words workers (start 0) (script_of script) _ _ (lines_name_words script) in
-    events_have_text [] r refl legal made few (entries_of_calls 0 r (subst (All AsksOfWord) is.registry asked))
+    let few_callers : All (λ e. caller_of e ≤ 16) r = All-weaker (λ e. caller_of e ≤ workers) (λ e. caller_of e ≤ 16) (λ e le. omega arith) r few in
+    (are_events r (events_have_text [] r refl legal made few_callers (entries_of_calls 0 r (subst (All AsksOfWord) is.registry asked))) fit.0, fit.1)

@@ -4,7 +4,7 @@ use Rattle.std.specs.Prelude.{◌-◌, ◌==◌, slice_get, nat_lt, nat_le, IsTr
 use Rattle.std.specs.List.{filter_map, cons_option, list_any, list_all}
 use Rattle.std.specs.Option.{option_and_then, option_map, option_map_or}
 use Rattle.std.specs.Str.{bytes_eq}
-use Rattle.std.proofs.lemmas.Bool.{lt-ltb}
+use Rattle.std.proofs.lemmas.Bool.{and_from, and_parts, lt-ltb}
 use Rattle.std.proofs.lemmas.List.{length-append}
 use Rattle.std.proofs.lemmas.List.Folds.{list_all-append}
 use Rattle.std.proofs.lemmas.Slice.Eq.{bytes_eq-Decides}
@@ -21,7 +21,7 @@ use Rattle.alg_registry.specs.declared.entry.RegEntry.TheVariants.{Enlist, End}
 use Rattle.alg_registry.specs.Rows.{registered, registered_by, begun_by, rows_of, listed_at}
 use Rattle.alg_registry.specs.Answers.{built_answer, joined_or_built, driver_place, clashes_with, held_count}
 use Rattle.alg_registry.specs.Legal.{IsRight}
-use Rattle.alg_registry.specs.Made.{Made, IsMade, looks_for, outcomes, made_answer, by_children, by_outcomes, by_spec, with_spec}
+use Rattle.alg_registry.specs.Made.{IsMade, looks_for, outcomes, made_answer, by_children, by_outcomes, by_spec, with_spec}
 use Rattle.alg_registry.proofs.Steps.{registered-push}
 use Rattle.alg_names.specs.Name.{Tree, word_of, args_of}
 use Rattle.alg_names.specs.Spelled.{tree_of}
@@ -32,17 +32,11 @@ use Rattle.trace_text.specs.Trace.{is_visible, is_word, has_words, is_unwrapped,
 
 -- ---- tests that hold together
 
-both : (a b : Bool) → a ≡ true → b ≡ true → (a && b) ≡ true
-both true b p q = q
-both false b p q = absurd cc
-
 left : (a b : Bool) → (a && b) ≡ true → a ≡ true
-left true b p = refl
-left false b p = absurd cc
+left a b p = (and_parts a b p).0
 
 right : (a b : Bool) → (a && b) ≡ true → b ≡ true
-right true b p = p
-right false b p = absurd cc
+right a b p = (and_parts a b p).1
 
 -- ---- texts of printed characters
 
@@ -56,12 +50,12 @@ printed : (text : List ℕ) → IsWord text → IsPrinted text
 printed text word = right (nat_lt 0 (length text)) (list_all is_visible text) word
 
 appended : (xs ys : List ℕ) → IsPrinted xs → IsPrinted ys → IsPrinted (xs ++ ys)
-appended xs ys p q = list_all-append is_visible xs ys ∙ both (list_all is_visible xs) (list_all is_visible ys) p q
+appended xs ys p q = list_all-append is_visible xs ys ∙ and_from (list_all is_visible xs) (list_all is_visible ys) p q
 
 taken : (n : ℕ) (xs : List ℕ) → IsPrinted xs → IsPrinted (take n xs)
 taken zero xs p = refl
 taken (suc n) [] p = refl
-taken (suc n) (x ∷ xs) p = both (is_visible x) (list_all is_visible (take n xs)) (left (is_visible x) (list_all is_visible xs) p) (taken n xs (right (is_visible x) (list_all is_visible xs) p))
+taken (suc n) (x ∷ xs) p = and_from (is_visible x) (list_all is_visible (take n xs)) (left (is_visible x) (list_all is_visible xs) p) (taken n xs (right (is_visible x) (list_all is_visible xs) p))
 
 dropped : (n : ℕ) (xs : List ℕ) → IsPrinted xs → IsPrinted (drop n xs)
 dropped zero xs p = p
@@ -71,7 +65,7 @@ dropped (suc n) (x ∷ xs) p = dropped n xs (right (is_visible x) (list_all is_v
 -- a text that ends with a parenthesis isn't empty
 closed : (xs : List ℕ) → IsPrinted xs → IsWord (xs ++ 41 ∷ [])
 closed xs p =
-    both (nat_lt 0 (length (xs ++ 41 ∷ []))) (list_all is_visible (xs ++ 41 ∷ []))
+    and_from (nat_lt 0 (length (xs ++ 41 ∷ []))) (list_all is_visible (xs ++ 41 ∷ []))
     (lt-ltb 0 (length (xs ++ 41 ∷ [])) (omega (arith, length-append xs (41 ∷ []))))
     (appended xs (41 ∷ []) p refl)
 
@@ -142,7 +136,7 @@ driver_over-word _ word driver w d = enclosed-word word driver (printed word w) 
 
 over_one-words : (t : Template) (word : List ℕ) (id : ℕ) (x : Spec) → IsWord word → has_words x ≡ true → has_words (over_one t word id x) ≡ true
 over_one-words t word id x w p =
-    both (is_word (name_over t word x.name)) (is_word (driver_over t word x.driver)) (name_over-word t word x.name w (name_of x p)) (driver_over-word t word x.driver w (driver_of x p))
+    and_from (is_word (name_over t word x.name)) (is_word (driver_over t word x.driver)) (name_over-word t word x.name w (name_of x p)) (driver_over-word t word x.driver w (driver_of x p))
 
 name_over_two-word : (t : Template) (word : List ℕ) (a e : Spec) → IsWord word → has_words a ≡ true → has_words e ≡ true → IsWord (name_over_two t word a e)
 name_over_two-word Authenc word a e w p q = enclosed_two-word word a.name e.name (printed word w) (printed a.name (name_of a p)) (printed e.name (name_of e q))
@@ -154,7 +148,7 @@ driver_over_two-word _ word a e w p q = enclosed_two-word (codes "gcm_base") a.d
 
 over_two-words : (t : Template) (word : List ℕ) (x y : ℕ × Spec) → IsWord word → has_words x.1 ≡ true → has_words y.1 ≡ true → has_words (over_two t word x y) ≡ true
 over_two-words t word x y w p q =
-    both (is_word (name_over_two t word x.1 y.1)) (is_word (driver_over_two t word x.1 y.1)) (name_over_two-word t word x.1 y.1 w p q) (driver_over_two-word t word x.1 y.1 w p q)
+    and_from (is_word (name_over_two t word x.1 y.1)) (is_word (driver_over_two t word x.1 y.1)) (name_over_two-word t word x.1 y.1 w p q) (driver_over_two-word t word x.1 y.1 w p q)
 
 -- what was derived, if anything, has words
 abbrev result_has_words : Result Spec Errno → Bool
@@ -214,7 +208,7 @@ at-words specs id rest p q = by_spec_at (slice_get specs id) (there specs id p)
 
     by_spec_at : (o : Option Spec) → option_map_or has_words o true ≡ true → list_all part_has_words (cons_option (option_and_then (λ spec. Some (id, spec)) o) rest) ≡ true
     by_spec_at None e = q
-    by_spec_at (Some spec) e = both (has_words spec) (list_all part_has_words rest) e q
+    by_spec_at (Some spec) e = and_from (has_words spec) (list_all part_has_words rest) e q
 
 below-words : (specs : List Spec) (ids : List ℕ) → list_all has_words specs ≡ true → list_all part_has_words (filter_map (with_spec specs) ids) ≡ true
 below-words specs [] p = refl
@@ -281,7 +275,7 @@ same_driver-words driver spec p e =
     let same_name : Bool = bytes_eq spec.name driver.name in
     let same_text : Bool = bytes_eq spec.driver driver.driver in
     let same : (same_name && same_text) ≡ true = left (same_name && same_text) (is_same_kind driver.kind spec.kind) e in
-    both (is_word spec.name) (is_word spec.driver)
+    and_from (is_word spec.name) (is_word spec.driver)
     (ap is_word ((bytes_eq-Decides spec.name driver.name).0 (left same_name same_text same)) ∙ name_of driver p)
     (ap is_word ((bytes_eq-Decides spec.driver driver.driver).0 (right same_name same_text same)) ∙ driver_of driver p)
 
@@ -301,16 +295,16 @@ driver-words spec is = one_of-words drivers spec refl is
 pub enlisted_has_text : (before : List RegEntry) (caller : ℕ) (spec : Spec) (answer : Enlisted) → IsRight before (Enlist caller spec answer) → IsMade table before (Enlist caller spec answer)
     → has_text (Enlist caller spec answer) ≡ true
 enlisted_has_text before caller spec answer right_for made =
-    both (has_words spec && (length spec.below == 0)) (is_unwrapped spec.wrap)
-    (both (has_words spec) (length spec.below == 0) (driver-words spec made) (ap (λ ids. length ids == 0) right_for.1))
+    and_from (has_words spec && (length spec.below == 0)) (is_unwrapped spec.wrap)
+    (and_from (has_words spec) (length spec.below == 0) (driver-words spec made) (ap (λ ids. length ids == 0) right_for.1))
     (ap is_unwrapped right_for.2)
 
 -- ---- along a history
 
 next-words : (before : List RegEntry) (e : RegEntry) → list_all has_words (registered before) ≡ true → IsMade table before e → list_all has_words (cons_option (registered_by e) []) ≡ true
-next-words before (Enlist caller spec (enlisted.Made id)) p made = both (has_words spec) true (driver-words spec made) refl
+next-words before (Enlist caller spec (enlisted.Made id)) p made = and_from (has_words spec) true (driver-words spec made) refl
 next-words before (Enlist caller spec _) p made = refl
-next-words before (End caller larval (Built id spec)) p made = both (has_words spec) true (end_has_words before caller larval (Built id spec) p made) refl
+next-words before (End caller larval (Built id spec)) p made = and_from (has_words spec) true (end_has_words before caller larval (Built id spec) p made) refl
 next-words before (End caller larval _) p made = refl
 next-words before _ p made = refl
 
@@ -319,4 +313,4 @@ pub registered_have_words : (before : List RegEntry) (e : RegEntry) → list_all
 registered_have_words before e p made =
     ap (list_all has_words) (registered-push before e)
     ∙ (list_all-append has_words (registered before) (cons_option (registered_by e) [])
-    ∙ both (list_all has_words (registered before)) (list_all has_words (cons_option (registered_by e) [])) p (next-words before e p made))
+    ∙ and_from (list_all has_words (registered before)) (list_all has_words (cons_option (registered_by e) [])) p (next-words before e p made))

@@ -1,8 +1,8 @@
 //! The law of a run's trace.
 
-ghost use Rattle.traced_runs.specs.Printed.{EventsHaveText};
+ghost use Rattle.traced_runs.specs.Readable.{TracesCanBeRead};
 
-/// Each event that a script's run records of its registry can be printed, so that its line can be read back.
-pub fn events_have_text()
-    ensures { EventsHaveText }
+/// What the registry and the board of a script's run recorded can be read back from its trace.
+pub fn traces_can_be_read()
+    ensures { TracesCanBeRead }
 {}

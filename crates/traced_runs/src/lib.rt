@@ -3,4 +3,4 @@
 
 mod laws;
 
-pub use laws::events_have_text;
+pub use laws::traces_can_be_read;

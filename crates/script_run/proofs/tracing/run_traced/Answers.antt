@@ -4,9 +4,10 @@ use Rattle.script_run.specs.Fronts.{IsFrontText}
 use Rattle.dialogues.specs.Walk.{start}
 use Rattle.script_text.specs.Script.{script_of}
 use Rattle.settled_scripts.specs.Settled.{IsSettled, plain_text}
-use Rattle.script_run.specs.Endings.{traced}
+use Rattle.trace_text.specs.Trace.{FitTypes}
+use Rattle.script_run.specs.Endings.{CanBeRead, traced}
 use Rattle.script_run.specs.declared.errors.RunError.TheVariants.{NoMemory}
-use Rattle.script_run.proofs.Traced.{then-ok, then-if, then-gains, then-gains_if, then-front, then-ran, stays}
+use Rattle.script_run.proofs.Traced.{then-ok, then-both, then-if, then-gains, then-gains_if, then-front, then-ran, stays}
 use Rattle.script_run.proofs.tracing.run_traced.Goals as goal
 
 pub returns-clause-whole : goal.returns-clause-whole
@@ -17,6 +18,18 @@ returns-clause-whole g c =
     then-gains ran.answer c.answer_traced-answer.result (held c.args.out.now) (held c.run_script-answer.new.out) (held c.answer_traced-answer.new.out)
     (traced c.args.options.now.trace ran.registry ran.board) c.answer_traced-answer.ensures.whole (g.S.Source.left c.args.src.now)
     (λ script text. IsText workers (start 0) 0 (script_of script) ran.registry ran.board text) c.run_script-answer.ensures.ran.whole
+
+pub returns-clause-readable : goal.returns-clause-readable
+returns-clause-readable g c =
+    let held = g.K.Sink.held in
+    let ran = c.run_script-answer.result in
+    let histories = c.run_script-answer.ensures.ran.histories in
+    let workers = c.args.options.now.workers in
+    λ asked. then-both ran.answer c.answer_traced-answer.result (held c.args.out.now) (held c.run_script-answer.new.out) (held c.answer_traced-answer.new.out)
+    (traced c.args.options.now.trace ran.registry ran.board) c.answer_traced-answer.ensures.whole (g.S.Source.left c.args.src.now)
+    (FitTypes (λ ask. ask.line) ran.registry ran.board) (CanBeRead ran.registry ran.board) _
+    c.run_script-answer.ensures.ran.whole (c.answer_traced-answer.ensures.fits asked)
+    (λ script gained fit. c.traces_can_be_read.ensures workers script ran.registry ran.board gained.0 c.requires.few histories.legal histories.faithful histories.callers.0 gained.1 fit)
 
 pub returns-clause-settled : goal.returns-clause-settled
 returns-clause-settled g c =
