@@ -219,8 +219,5 @@ pub none_left : {X : Type 0} (o : Option X) → ((x : X) → o ≡ Some x → �
 none_left None n = refl
 none_left (Some x) n = absurd (n x refl)
 
-pub all_checked : {A : Type 0} (ps : List PipeState) (shut : Bool) (h : List (BoardEntry A)) (k : ℕ) → length h ≤ k → IsBoard ps shut (take k h) → LegalBoard h
-all_checked ps shut h k l b = subst LegalBoard (take_all k h l) b.legal
-
 pub counts_at : {A : Type 0} (ps : List PipeState) (shut : Bool) (h : List (BoardEntry A)) (k : ℕ) → k < length h → length h < 2 ^ 64 → IsBoard ps shut (take k h) → AllCanCount ps
 counts_at ps shut h k within short b = can_count ps shut (take k h) (let l = length-take k h in omega arith) b

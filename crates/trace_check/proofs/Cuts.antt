@@ -6,27 +6,6 @@ use Rattle.std.proofs.lemmas.Bool.{and_parts, and_from, ne_eqb}
 use Rattle.std.proofs.lemmas.List.{take_more, take_all}
 use Rattle.trace_check.specs.Reading.{IsOneLine}
 
-is_unfed : ℕ → Bool
-is_unfed b = not (b == 10)
-
-all_push : (p : ℕ → Bool) (ds : List ℕ) (d : ℕ) → list_all p ds ≡ true → p d ≡ true → list_all p (ds ++ d ∷ []) ≡ true
-all_push p [] d h e = and_from (p d) true e refl
-all_push p (x ∷ ds) d h e =
-    let k = and_parts (p x) (list_all p ds) h in
-    and_from (p x) (list_all p (ds ++ d ∷ [])) k.0 (all_push p ds d k.1 e)
-
--- one byte more that is no line feed
-pub line_on : (text : List ℕ) (k b : ℕ) → k < length text → b ≡ get_or text k 0 → (b ≡ 10 → ⊥) → IsOneLine (take k text) → IsOneLine (take (k + 1) text)
-line_on text k b within here apart one =
-    subst (λ t. list_all (λ x. not (x == 10)) t ≡ true) (sym (take_more text k 0 within))
-    (all_push (λ x. not (x == 10)) (take k text) (get_or text k 0) one (ap not (ne_eqb (get_or text k 0) 10 (λ e. apart (here ∙ e)))))
-
-pub line_whole : (text : List ℕ) (k : ℕ) → length text ≤ k → IsOneLine (take k text) → IsOneLine text
-line_whole text k le one = subst IsOneLine (take_all k text le) one
-
-pub line_cut : (text front : List ℕ) (k b : ℕ) → k < length text → b ≡ get_or text k 0 → b ≡ 10 → front ≡ take (k + 1) text → front ≡ take k text ++ 10 ∷ []
-line_cut text front k b within here feed f = f ∙ (take_more text k 0 within ∙ ap (λ x. take k text ++ x ∷ []) (sym here ∙ feed))
-
 -- Lines, each with a line feed behind it.
 abbrev pub fed : List ℕ → List ℕ
 fed line = line ++ 10 ∷ []

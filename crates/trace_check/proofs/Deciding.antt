@@ -6,6 +6,7 @@ use Rattle.std.specs.Option.{option_map_or}
 use Rattle.std.specs.Int.{bit_at}
 use Rattle.std.proofs.lemmas.Bool.{cases_lt, le-leb, lt-leb, leb-true}
 use Rattle.std.proofs.lemmas.Bool.Decides.{Decides-eqb, Decides-ltb, Decides-and, Decides-or, Decides-like}
+use Rattle.alg_registry.specs.Legal.{is_worker}
 use Rattle.board.specs.declared.entry.Shape.{Shape}
 use Rattle.board.specs.declared.entry.Shape.TheVariants.{Pad, Queue, Chain}
 use Rattle.board.specs.declared.entry.Entered.{Entered}
@@ -17,7 +18,7 @@ use Rattle.board.specs.Legal.{IsNoWorker, MaySubmit, MayManage, Is, IsOpenAs, Is
 use Rattle.trace_check.specs.declared.pipe.Progress.{Progress}
 use Rattle.trace_check.specs.declared.pipe.Progress.TheVariants.{Waits, Runs, Ended}
 use Rattle.trace_check.specs.BoardReasons.{IsUntaken, IsRunning, MayServe, MayClose, IsNumbered, verdict_word}
-use Rattle.trace_check.specs.Pipes.{PipeState, are_lists, is_shape, is_open_as, waits, runs, runs_by, passes, backlog_of, passed_by, starts_by, may_serve, may_close, is_worker, may_manage, may_submit, has_submitted, is_masked, may_take, has_bits, same_number, is_numbered, is_answered}
+use Rattle.trace_check.specs.Pipes.{PipeState, are_lists, is_shape, is_open_as, waits, runs, runs_by, passes, backlog_of, passed_by, starts_by, may_serve, may_close, may_manage, may_submit, has_submitted, is_masked, may_take, has_bits, same_number, is_numbered, is_answered}
 use Rattle.trace_check.proofs.Standing.{IsAt, IsPipe}
 use Rattle.trace_check.proofs.Requests.{front_is}
 
@@ -82,7 +83,7 @@ either_open : {A : Type 0} (es : List (BoardEntry A)) (s : PipeState) → (is_pa
 either_open es s (inl pad) k c = inl ((dec_is is_pad es s k).0 pad, c)
 either_open es s (inr line) k c = inr ((dec_is has_line es s k).0 line, c)
 
-open_unclosed : {A : Type 0} (es : List (BoardEntry A)) → IsOpen es → is_closed es ≡ false
+pub open_unclosed : {A : Type 0} (es : List (BoardEntry A)) → IsOpen es → is_closed es ≡ false
 open_unclosed es (inl pad) = pad.1
 open_unclosed es (inr queue) = queue.1
 
@@ -242,7 +243,7 @@ dec_bits es s bits k =
     subst (λ w. Decides (has_bits (lists_of s.shape) bits) (bits < 2 ^ w)) (sym (ap width_born k.marks.born)) (dec_bits_at (lists_of s.shape) bits (few_lists s.shape k.marks.shaped))
 
 -- Its answers.
-abbrev verdict_by : Bool → Bool → ℕ → Entered
+abbrev pub verdict_by : Bool → Bool → ℕ → Entered
 verdict_by within backlog next = cond within (InProgress next) (cond backlog (Busy next) NoSpace)
 
 abbrev answers : Bool → Bool → Entered → Bool

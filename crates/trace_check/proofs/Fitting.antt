@@ -148,10 +148,6 @@ ending_good word words h =
 IsReg : Option RegEntry → Type 0
 IsReg o = MatchOption o ⊤ (λ e. is_event e ≡ true)
 
-no_reg : IsReg None
-unfolding IsReg
-no_reg = tt
-
 enlist_good : (caller : ℕ) (words : List (List ℕ)) → is_u32 caller ≡ true → AreWords words → IsReg (enlist_of caller words)
 unfolding IsReg
 enlist_good caller [] c h = tt

@@ -38,6 +38,7 @@ use Rattle.trace_check.specs.Guessing.{number_of, small_of, ids_of, kind_of, wra
 use Rattle.trace_check.specs.Lines.{line_of}
 use Rattle.trace_check.specs.Known.{ask_of, unplaced}
 use Rattle.trace_check.proofs.Numerals.{number_again, small_again, ids_again, mask_again}
+use Rattle.trace_check.proofs.RegParts.{no_ids, unwrapped}
 
 kind_again : (kind : Kind) → kind_of (kind_word kind) ≡ kind
 kind_again Cipher = refl
@@ -89,15 +90,6 @@ looked_again (Found id) f = ap Found (number_again id f)
 looked_again (Pending larval) f = ap Pending (number_again larval f)
 looked_again (Began larval) f = ap Began (number_again larval f)
 looked_again Absent f = refl
-
-no_ids : (ids : List ℕ) → (length ids == 0) ≡ true → ids ≡ []
-no_ids [] h = refl
-no_ids (id ∷ ids) h = absurd (let e = eqb-true (length (id ∷ ids)) 0 h in omega arith)
-
-unwrapped : (wrap : Wrap) → is_unwrapped wrap ≡ true → wrap ≡ Plain
-unwrapped Plain h = refl
-unwrapped Pcrypt h = cc
-unwrapped Cryptd h = cc
 
 spec_is : (name driver : List ℕ) (kind kind' : Kind) (wrap wrap' : Wrap) (priority priority' : ℕ) (below below' : List ℕ) → kind ≡ kind' → wrap ≡ wrap' → priority ≡ priority' → below ≡ below'
     → (let s : Spec = record { name = name; driver = driver; kind = kind; wrap = wrap; priority = priority; below = below } in s) ≡ record { name = name; driver = driver; kind = kind'; wrap = wrap'; priority = priority'; below = below' }

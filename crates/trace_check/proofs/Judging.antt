@@ -4,6 +4,7 @@ use Rattle.std.specs.Prelude.{◌==◌, slice_get}
 use Rattle.std.specs.Bool.{Decides}
 use Rattle.std.proofs.lemmas.Bool.{and_parts}
 use Rattle.std.proofs.lemmas.Bool.Decides.{Decides-eqb, Decides-and, Decides-like}
+use Rattle.alg_registry.specs.Legal.{is_worker}
 use Rattle.board.specs.declared.entry.Shape.{Shape}
 use Rattle.board.specs.declared.entry.BoardEntry.{BoardEntry}
 use Rattle.board.specs.declared.entry.BoardEntry.TheVariants.{Born, Submit, Take, Finish, Enq, Deq, Done, Hold, Go, Collect, Close, Share, Mask, Shut}
@@ -14,7 +15,7 @@ use Rattle.trace_check.specs.declared.reason.Reason.{Reason}
 use Rattle.trace_check.specs.declared.reason.Reason.TheVariants.{State, Caller, Number, Answer}
 use Rattle.trace_check.specs.Reasons.{IsFirstMissing}
 use Rattle.trace_check.specs.BoardReasons.{HasState, HasCaller, HasNumber, HasAnswer, IsWrong}
-use Rattle.trace_check.specs.Pipes.{PipeState, is_shape, is_worker, passes, runs, has_state, has_caller, has_number, has_answer, reason_of, judged_on, judged_at, pipe_of, judged}
+use Rattle.trace_check.specs.Pipes.{PipeState, is_shape, passes, runs, has_state, has_caller, has_number, has_answer, reason_of, judged_on, judged_at, pipe_of, judged}
 use Rattle.trace_check.proofs.Standing.{IsPipe}
 use Rattle.trace_check.proofs.Deciding.{decides_true, decides_false, dec_shape, dec_is, dec_unshared, dec_open_as, dec_open, dec_untaken, dec_running, dec_taker, dec_may_serve, dec_may_close, dec_masked, dec_no_worker, dec_may_manage, dec_may_submit, dec_may_take, dec_next, dec_numbered, dec_dequeued, dec_collected, dec_bits, dec_answered}
 

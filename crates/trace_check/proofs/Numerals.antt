@@ -29,9 +29,6 @@ ends_at : (o : Option ℕ) → number_at o [] ≡ o
 ends_at None = refl
 ends_at (Some v) = refl
 
-ReadsAs : ℕ → List ℕ → Type 0
-ReadsAs n ds = n < 2 ^ 64 → number_from 0 ds ≡ Some n
-
 one_digit : (n : ℕ) → n < 10 → n < 2 ^ 64 → number_from 0 ((48 + n) ∷ []) ≡ Some n
 one_digit n lt h =
     let e : 0 * 10 + n ≡ n = omega arith in

@@ -14,7 +14,9 @@ use Rattle.trace_check.specs.declared.reason.Reason.{Reason}
 use Rattle.trace_check.specs.declared.reason.Reason.TheVariants.{State, Caller, Number, Answer}
 use Rattle.trace_check.specs.BoardReasons.{IsNumbered, verdict_word, IsWrong}
 use Rattle.trace_check.specs.Pipes.{PipeState, judged}
+use Rattle.trace_check.proofs.Deciding.{open_unclosed, verdict_by}
 use Rattle.trace_check.proofs.Judging.{IsBoard, IsPlace, HasAll, IsJudged, judged_is}
+use Rattle.trace_check.proofs.Requests.{some_taker}
 
 maker_some : (b : Option (ℕ × Shape)) (caller : ℕ) → maker_is b caller → (pad_born b ≡ true) ⊎ (line_born b ≡ true)
 maker_some None caller m = absurd m
@@ -28,16 +30,6 @@ either_open es c (inr q) = inr (q, c)
 
 managed_open : {A : Type 0} (es : List (BoardEntry A)) (caller : ℕ) → MayManage es caller → is_closed es ≡ false → IsOpen es
 managed_open es caller m c = either_open es c (maker_some (birth es) caller m.1)
-
-open_unclosed : {A : Type 0} (es : List (BoardEntry A)) → IsOpen es → is_closed es ≡ false
-open_unclosed es (inl pad) = pad.1
-open_unclosed es (inr queue) = queue.1
-
-taken_by_one : {A : Type 0} (es : List (BoardEntry A)) (n caller : ℕ) → takers n es ≡ caller ∷ [] → takers n es ≢ []
-taken_by_one es n caller h none = cc
-
-abbrev verdict_by : Bool → Bool → ℕ → Entered
-verdict_by within backlog next = cond within (InProgress next) (cond backlog (Busy next) NoSpace)
 
 -- a verdict has the next number, where it has one
 abbrev IsNext : ℕ → Entered → Type 0
@@ -80,10 +72,10 @@ pub right_has_all : {A : Type 0} (h : List (BoardEntry A)) (e : BoardEntry A) �
 right_has_all h (Born caller pipe shape) (n, r) = (tt, r.0, (n, r.2), tt)
 right_has_all h (Submit caller pipe number ask) (n, r) = ((r.1, r.3), r.0, r.2, tt)
 right_has_all h (Take caller pipe number) (n, r) = ((r.0, (r.1, r.2)), r.3, tt, tt)
-right_has_all h (Finish caller pipe number) (n, r) = ((r.0, (taken_by_one (entries_of pipe h) number caller r.1, r.2)), r.1, tt, tt)
+right_has_all h (Finish caller pipe number) (n, r) = ((r.0, (some_taker (entries_of pipe h) number caller r.1, r.2)), r.1, tt, tt)
 right_has_all h (Enq caller pipe ask backlog answer) (n, r) = (r.1, r.0, verdict_numbered (entries_of pipe h) backlog answer r.2, ap verdict_word r.2)
 right_has_all h (Deq caller pipe number started) (n, r) = ((r.0, (r.1, r.2, r.3)), tt, (r.4, r.5), tt)
-right_has_all h (Done caller pipe number) (n, r) = ((r.0, (taken_by_one (entries_of pipe h) number caller r.1, r.2)), r.1, tt, tt)
+right_has_all h (Done caller pipe number) (n, r) = ((r.0, (some_taker (entries_of pipe h) number caller r.1, r.2)), r.1, tt, tt)
 right_has_all h (Hold caller pipe) (n, r) = (r.1, r.0, tt, tt)
 right_has_all h (Go caller pipe) (n, r) = (r.1, r.0, tt, tt)
 right_has_all h (Collect caller pipe to) (n, r) = (managed_open (entries_of pipe h) caller r.0 r.1, r.0, r.2, tt)

@@ -22,11 +22,11 @@ use Rattle.alg_registry.specs.declared.entry.RegEntry.TheVariants as reg
 use Rattle.alg_registry.specs.Rows.{rows_of, larvals_of, listed_at}
 use Rattle.alg_registry.specs.Answers.{look_answer, enlist_answer, built_answer, joined_or_built, driver_place, clashes_with, held_count}
 use Rattle.alg_registry.specs.Legal as legal
-use Rattle.alg_registry.specs.Legal.{IsPending, claimer, ended_as, gets_as, puts_as, HasReference}
+use Rattle.alg_registry.specs.Legal.{is_worker, IsPending, claimer, ended_as, gets_as, puts_as, HasReference}
 use Rattle.trace_check.specs.declared.reason.Reason.{Reason}
 use Rattle.trace_check.specs.declared.register.Reference.{Reference}
 use Rattle.trace_check.specs.RegReasons.{IsReferenced, HasState, HasCaller, SameFound, SameMade, SameUnlisted, IsEndNumbered, HasNumber, made_word, found_word, builds, IsEndAnswered, HasAnswer, IsWrong}
-use Rattle.trace_check.specs.Pipes.{is_worker, same_number}
+use Rattle.trace_check.specs.Pipes.{same_number}
 use Rattle.trace_check.specs.Registers.{unreferred, is_free, is_being_built, has_ended, is_claimed_by, passes, is_to, is_of, is_full, enlisted_by, builds_by, same_made, alike_made, same_found, alike_found, same_place, alike_place, same_flag, has_state, has_caller, end_numbered, has_number, end_answered, has_answer, judged}
 use Rattle.trace_check.proofs.Deciding.{decides_true, decides_false}
 use Rattle.trace_check.proofs.RegTable.{look-table, clash-table, driver-table, listed-table, length-table, held-table}

@@ -24,9 +24,6 @@ use Rattle.trace_check.proofs.RegJudging.{IsRegister, judged_is}
 use Rattle.trace_check.proofs.RegStepping.{register_step}
 use Rattle.trace_check.specs.Pipes.{reason_of}
 
-pub register_empty : IsRegister [] opening_table [] []
-register_empty = record { legal = tt; marks = refl; larvals_are = refl; owed = record { each = λ caller id. refl } }
-
 none_parts : (a b c d : Bool) → reason_of a b c d ≡ None → (a ≡ true) × (b ≡ true)
 none_parts true true c d h = (refl, refl)
 none_parts false b c d h = cc
@@ -53,9 +50,6 @@ pub wrong_entry_at : (h : List RegEntry) (k : ℕ) (e : RegEntry) (r : Reason) (
     → k < length h → e ≡ get_or h k e → judged table larvals references e ≡ Some r → IsRegister (take k h) table larvals references → IsFirstWrong h (Some (k, r))
 wrong_entry_at h k e r table larvals references within here j s =
     (s.legal, subst (λ o. MatchOption o ⊥ (λ x. IsWrong (take k h) x r)) (sym (slice_get-get_or h k e within ∙ ap Some (sym here))) (judged_is (take k h) table larvals references e (Some r) s j))
-
-pub all_entries_checked : (h : List RegEntry) (k : ℕ) (table : List Row) (larvals : List Larval) (references : List Reference) → length h ≤ k → IsRegister (take k h) table larvals references → LegalReg h
-all_entries_checked h k table larvals references l s = subst LegalReg (take_all k h l) s.legal
 
 -- No entry has more references than there were events.
 few_at : (entries : List Entry) (table : List Row) → map row_of entries ≡ table → All (λ (row : Row). row.taken < 2 ^ 63) table → All (λ (entry : Entry). entry.taken < 2 ^ 63) entries

@@ -126,11 +126,11 @@ end_answered h NoMemory m = tt
 some_claimer : (o : Option ℕ) (caller : ℕ) → o ≡ Some caller → IsSome o
 some_claimer o caller e = subst IsSome (sym e) refl
 
-no_ids : (ids : List ℕ) → (length ids == 0) ≡ true → ids ≡ []
+pub no_ids : (ids : List ℕ) → (length ids == 0) ≡ true → ids ≡ []
 no_ids [] h = refl
 no_ids (id ∷ ids) h = absurd (let e = eqb-true (length (id ∷ ids)) 0 h in omega arith)
 
-unwrapped : (wrap : Wrap) → is_unwrapped wrap ≡ true → wrap ≡ Plain
+pub unwrapped : (wrap : Wrap) → is_unwrapped wrap ≡ true → wrap ≡ Plain
 unwrapped Plain h = refl
 unwrapped Pcrypt h = cc
 unwrapped Cryptd h = cc

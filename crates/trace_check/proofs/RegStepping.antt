@@ -16,11 +16,10 @@ use Rattle.alg_registry.specs.declared.entry.RegEntry.TheVariants as reg
 use Rattle.alg_registry.specs.Rows.{rows_of, larvals_of}
 use Rattle.alg_registry.specs.Answers.{look_answer, built_answer}
 use Rattle.alg_registry.specs.Legal as legal
-use Rattle.alg_registry.specs.Legal.{IsPending, claimer, ended_as, gets_as, puts_as, HasReference}
+use Rattle.alg_registry.specs.Legal.{is_worker, IsPending, claimer, ended_as, gets_as, puts_as, HasReference}
 use Rattle.alg_registry.specs.Kept.{IsKept}
 use Rattle.trace_check.specs.declared.register.Reference.{Reference}
 use Rattle.trace_check.specs.RegReasons.{builds}
-use Rattle.trace_check.specs.Pipes.{is_worker}
 use Rattle.trace_check.specs.Registers.{unreferred, is_of, has_state, has_caller}
 use Rattle.std.proofs.Common.{get_or, set}
 use Rattle.alg_registry.specs.Rows.{marked, standing, end_of}
@@ -117,9 +116,6 @@ no_worker caller h = h
 
 a_larval : Larval
 a_larval = record { text = []; claimed = None; ended = None }
-
-listed_flag : (ok b : Bool) → ok ≡ b → b ≡ ok
-listed_flag ok b e = sym e
 
 -- an event that changes nothing that is kept
 pub stays : (h : List RegEntry) (table : List Row) (larvals : List Larval) (references : List Reference) (e : RegEntry) → IsRegister h table larvals references → IsKept (h ++ e ∷ []) (rows_of h) larvals → ((c i : ℕ) → gets_as c i e ≡ false) → ((c i : ℕ) → puts_as c i e ≡ false) → IsRegister (h ++ e ∷ []) table larvals references

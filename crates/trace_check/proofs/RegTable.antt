@@ -51,12 +51,6 @@ bare-unreferred (row ∷ rows) = ap (λ rs. bare row ∷ rs) (bare-unreferred ro
 pub same_marks : (xs ys : List Row) → map bare xs ≡ map bare ys → marks_of xs ≡ marks_of ys
 same_marks xs ys e = sym (marked-bare [] xs) ∙ (ap (λ rs. marked [] rs) e ∙ marked-bare [] ys)
 
--- The table of a history.
-pub record IsMarkTable (h : List RegEntry) (table : List Row) (larvals : List Larval) : Type 0 where
-  pub rows : List Row
-  pub kept : IsKept h rows larvals
-  pub marks : table ≡ map unreferred rows
-
 -- one entry of the table is changed, and all are marked again
 pub table_set : (rows table : List Row) (change : Row → Row) (p : ℕ) (d : Row) → ((row : Row) → bare (change (unreferred row)) ≡ bare (change row)) → table ≡ map unreferred rows
     → marks_of (slice_set table p (change (unreferred (get_or rows p d)))) ≡ map unreferred (standing (slice_set rows p (change (get_or rows p d))))

@@ -132,7 +132,7 @@ requests_taken es e maker shape n caller rs b s t f w k = record {
 has_now : {A : Type 0} (es : List (BoardEntry A)) (e : BoardEntry A) (n m : ℕ) → finished_in e ≡ Some n → has m (finished (es ++ e ∷ [])) ≡ (has m (finished es) || (n == m || false))
 has_now es e n m f = ap (has m) (filter_map-some finished_in es e n f) ∙ has-more (finished es) n m
 
-some_taker : {A : Type 0} (es : List (BoardEntry A)) (n caller : ℕ) → takers n es ≡ caller ∷ [] → takers n es ≢ []
+pub some_taker : {A : Type 0} (es : List (BoardEntry A)) (n caller : ℕ) → takers n es ≡ caller ∷ [] → takers n es ≢ []
 some_taker es n caller h none = cc
 
 ended_each : {A : Type 0} (es : List (BoardEntry A)) (e : BoardEntry A) (maker : ℕ) (shape : Shape) (n caller m : ℕ) (rs : List Progress) → birth es ≡ Some (maker, shape) → taking (is_serial shape) e ≡ None → finished_in e ≡ Some n → slice_get rs n ≡ Some (Runs caller) → (m ≡ n) ⊎ (m ≡ n → ⊥) → ((l : ℕ) → IsAt es l (slice_get rs l)) → IsAt (es ++ e ∷ []) m (slice_get (slice_set rs n Ended) m)

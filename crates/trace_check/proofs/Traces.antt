@@ -127,43 +127,6 @@ none_yet : (b : List (BoardEntry Known)) → length b ≡ 0 → b ≡ []
 none_yet [] h = refl
 none_yet (e ∷ b) h = absurd (omega arith)
 
-pub so_far_start : (text : List ℕ) → IsSoFar text [] [] text 0
-so_far_start text = record { front = record { events = (refl, refl); front = refl }; counted = refl; short = omega arith }
-
 shorter : (text rest line more body : List ℕ) (count : ℕ) → count + length rest ≤ length text → line ≡ body ++ 10 ∷ [] → rest ≡ line ++ more → (count + 1) + length more ≤ length text
 shorter text rest line more body count h l r =
     (let a = ap length r in let b = length-append line more in let c = ap length l in let d = length_push body 10 in omega arith)
-
-pub so_far_registry : (text : List ℕ) (r : List RegEntry) (b : List (BoardEntry Known)) (rest : List ℕ) (count : ℕ) (line more : Bor (List ℕ)) (e : RegEntry) → length b ≡ 0 → IsSoFar text r b rest count → IsCut rest (Some (line, more)) → IsLineOf line.now (event.Registry e) → IsSoFar text (r ++ e ∷ []) b more.now (count + 1)
-so_far_registry text r b rest count line more e none k cut is =
-    let n = none_yet b none in
-    let f = k.front in
-    let same : text ≡ trace_of line_of r b ++ rest = f.front in
-    let at : text ≡ trace_of line_of (r ++ e ∷ []) [] ++ more.now =
-    same ∙ (ap (λ c. trace_of line_of r c ++ rest) n ∙ (ap (λ t. trace_of line_of r [] ++ t) (cut.3 ∙ ap (λ t. t ++ more.now) is.1)
-    ∙ (sym (append_assoc (trace_of line_of r []) (sentence (reg_words e)) more.now) ∙ ap (λ t. t ++ more.now) (sym (reg_more r e))))) in
-    record {
-      front = record {
-        events = (let v = f.events in (all_more is_event r e v.0 is.0, v.1));
-        front = subst (λ c. text ≡ trace_of line_of (r ++ e ∷ []) c ++ more.now) (sym n) at;
-      };
-      counted = (let p = length_push r e in let q = k.counted in omega arith);
-      short = shorter text rest line.now more.now cut.0 count k.short cut.2 cut.3;
-    }
-
-pub so_far_board : (text : List ℕ) (r : List RegEntry) (b : List (BoardEntry Known)) (rest : List ℕ) (count : ℕ) (line more : Bor (List ℕ)) (e : BoardEntry Known) → IsSoFar text r b rest count → IsCut rest (Some (line, more)) → IsLineOf line.now (event.Board e) → IsSoFar text r (b ++ e ∷ []) more.now (count + 1)
-so_far_board text r b rest count line more e k cut is =
-    let f = k.front in
-    record {
-      front = record {
-        events = (let v = f.events in (v.0, all_more (board_fits line_of) b e v.1 is.0));
-        front =
-            f.front ∙ (ap (λ t. trace_of line_of r b ++ t) (cut.3 ∙ ap (λ t. t ++ more.now) is.1)
-            ∙ (sym (append_assoc (trace_of line_of r b) (sentence (board_words line_of e)) more.now) ∙ ap (λ t. t ++ more.now) (sym (board_more r b e))));
-      };
-      counted = (let p = length_push b e in let q = k.counted in omega arith);
-      short = shorter text rest line.now more.now cut.0 count k.short cut.2 cut.3;
-    }
-
-pub so_far_done : (text : List ℕ) (r : List RegEntry) (b : List (BoardEntry Known)) (rest : List ℕ) (count : ℕ) → rest ≡ [] → IsSoFar text r b rest count → IsTraceOf text r b
-so_far_done text r b rest count none k = (let f = k.front in (f.events, f.front ∙ (ap (λ t. trace_of line_of r b ++ t) none ∙ append-nil (trace_of line_of r b))))

@@ -6,6 +6,7 @@ use Rattle.std.specs.Int.{bit_at}
 use Rattle.std.specs.Ordering.{nat_cmp}
 use Rattle.std.specs.BTreeMap.{is_at}
 use Rattle.std.specs.BTreeSet.{insert_key}
+use Rattle.alg_registry.specs.Legal.{is_worker}
 use Rattle.board.specs.declared.entry.Shape.{Shape}
 use Rattle.board.specs.declared.entry.Shape.TheVariants.{Pad, Queue, Chain}
 use Rattle.board.specs.Shapes.{is_pad, has_line, has_lists, is_serial, bound_of, lists_of}
@@ -122,9 +123,6 @@ may_serve s = not s.held && ((not (is_serial s.shape) || s.finished == s.dequeue
 
 abbrev pub may_close : PipeState → Bool
 may_close s = not s.shared && (s.front == length s.requests && (s.collected == s.told))
-
-abbrev pub is_worker : ℕ → Bool
-is_worker caller = nat_le 1 caller && nat_le caller 16
 
 abbrev pub may_manage : PipeState → ℕ → Bool
 may_manage s caller = not (is_worker caller) && (s.maker == caller)
@@ -308,11 +306,6 @@ after s _ = s
 abbrev pub is_shut_by : {A : Type 0} → Bool → BoardEntry A → Bool
 is_shut_by shut (Shut caller) = true
 is_shut_by shut _ = shut
-
--- one pipeline gives way to another
-abbrev pub pipes_with : List PipeState → ℕ → Option PipeState → List PipeState
-pipes_with ps pipe None = ps
-pipes_with ps pipe (Some s) = slice_set ps pipe s
 
 abbrev pub after_at : {A : Type 0} → List PipeState → BoardEntry A → Option PipeState → List PipeState
 after_at ps e None = ps

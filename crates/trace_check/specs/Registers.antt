@@ -17,11 +17,12 @@ use Rattle.alg_registry.specs.declared.entry.RegEntry.TheVariants as reg
 use Rattle.alg_registry.specs.Rows.{rows_of, listed_at, counted, marked, end_of}
 use Rattle.alg_registry.specs.Calls.{new_row, unlisted_row, taken_row, put_row_of, claimed_larval, ended_larval}
 use Rattle.alg_registry.specs.Answers.{look_answer, clashes_with, driver_place, held_count}
+use Rattle.alg_registry.specs.Legal.{is_worker}
 use Rattle.trace_check.specs.declared.reason.Reason.{Reason}
 use Rattle.trace_check.specs.declared.register.Entry.{Entry}
 use Rattle.trace_check.specs.declared.register.Larva.{Larva}
 use Rattle.trace_check.specs.declared.register.Reference.{Reference}
-use Rattle.trace_check.specs.Pipes.{is_worker, same_number, reason_of}
+use Rattle.trace_check.specs.Pipes.{same_number, reason_of}
 
 abbrev pub row_of : Entry → Row
 row_of e = record { spec = e.spec; unlisted = e.unlisted; taken = e.taken; listed = e.listed; references = 0 }

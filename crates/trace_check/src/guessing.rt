@@ -15,7 +15,7 @@ use kc_base::{Bytes, Errno};
 use std::alloc::{AllocError, Global};
 use std::sync::Arc;
 
-pub(crate) fn is_word(word: &[u8], name: &[u8]) -> bool
+pub(crate) fn is_same(word: &[u8], name: &[u8]) -> bool
     ensures { result ≡ bytes_eq word.now name.now }
 {
     word == name
@@ -79,7 +79,7 @@ fn numbers_of(alloc: Global, words: &[&[u8]]) -> Result<Ids, AllocError>
 fn ids_of(alloc: Global, word: &[u8]) -> Result<Ids, AllocError>
     ensures { IfOk result (λ ids. ids ≡ ids_of word.now) }
 {
-    if is_word(word, b"-") {
+    if is_same(word, b"-") {
         return Ok(Ids::new(alloc));
     }
     let parts = parts_of(alloc, word, b',')?;
@@ -89,15 +89,15 @@ fn ids_of(alloc: Global, word: &[u8]) -> Result<Ids, AllocError>
 fn kind_of(word: &[u8]) -> Kind
     ensures { result ≡ kind_of word.now }
 {
-    if is_word(word, b"cipher") {
+    if is_same(word, b"cipher") {
         Kind::Cipher
-    } else if is_word(word, b"hash") {
+    } else if is_same(word, b"hash") {
         Kind::Hash
-    } else if is_word(word, b"ghash") {
+    } else if is_same(word, b"ghash") {
         Kind::Ghash
-    } else if is_word(word, b"skcipher") {
+    } else if is_same(word, b"skcipher") {
         Kind::Skcipher
-    } else if is_word(word, b"aead") {
+    } else if is_same(word, b"aead") {
         Kind::Aead
     } else {
         Kind::Mac
@@ -107,9 +107,9 @@ fn kind_of(word: &[u8]) -> Kind
 fn wrap_of(word: &[u8]) -> Wrap
     ensures { result ≡ wrap_of word.now }
 {
-    if is_word(word, b"plain") {
+    if is_same(word, b"plain") {
         Wrap::Plain
-    } else if is_word(word, b"pcrypt") {
+    } else if is_same(word, b"pcrypt") {
         Wrap::Pcrypt
     } else {
         Wrap::Cryptd
@@ -119,29 +119,29 @@ fn wrap_of(word: &[u8]) -> Wrap
 fn errno_of(word: &[u8]) -> Errno
     ensures { result ≡ errno_of word.now }
 {
-    if is_word(word, b"ENOENT") {
+    if is_same(word, b"ENOENT") {
         Errno::ENOENT
-    } else if is_word(word, b"E2BIG") {
+    } else if is_same(word, b"E2BIG") {
         Errno::E2BIG
-    } else if is_word(word, b"EAGAIN") {
+    } else if is_same(word, b"EAGAIN") {
         Errno::EAGAIN
-    } else if is_word(word, b"EBUSY") {
+    } else if is_same(word, b"EBUSY") {
         Errno::EBUSY
-    } else if is_word(word, b"EEXIST") {
+    } else if is_same(word, b"EEXIST") {
         Errno::EEXIST
-    } else if is_word(word, b"EINVAL") {
+    } else if is_same(word, b"EINVAL") {
         Errno::EINVAL
-    } else if is_word(word, b"ENFILE") {
+    } else if is_same(word, b"ENFILE") {
         Errno::ENFILE
-    } else if is_word(word, b"EMFILE") {
+    } else if is_same(word, b"EMFILE") {
         Errno::EMFILE
-    } else if is_word(word, b"ENOSPC") {
+    } else if is_same(word, b"ENOSPC") {
         Errno::ENOSPC
-    } else if is_word(word, b"ENAMETOOLONG") {
+    } else if is_same(word, b"ENAMETOOLONG") {
         Errno::ENAMETOOLONG
-    } else if is_word(word, b"EBADMSG") {
+    } else if is_same(word, b"EBADMSG") {
         Errno::EBADMSG
-    } else if is_word(word, b"EINPROGRESS") {
+    } else if is_same(word, b"EINPROGRESS") {
         Errno::EINPROGRESS
     } else {
         Errno::ENOKEY
@@ -153,7 +153,7 @@ fn enlisted_of(words: &[&[u8]]) -> Enlisted
 {
     match words {
         [_word, id] => Enlisted::Made(number_of(id)),
-        [word] if is_word(word, b"EEXIST") => Enlisted::Exist,
+        [word] if is_same(word, b"EEXIST") => Enlisted::Exist,
         _ => Enlisted::NFile,
     }
 }
@@ -196,8 +196,8 @@ fn looked_of(words: &[&[u8]]) -> Looked
     ensures { result ≡ looked_of (map (λ word. word.now) words.now) }
 {
     match words {
-        [word, number] if is_word(word, b"found") => Looked::Found(number_of(number)),
-        [word, number] if is_word(word, b"pending") => Looked::Pending(number_of(number)),
+        [word, number] if is_same(word, b"found") => Looked::Found(number_of(number)),
+        [word, number] if is_same(word, b"pending") => Looked::Pending(number_of(number)),
         [_word, number] => Looked::Began(number_of(number)),
         _ => Looked::Absent,
     }
@@ -213,7 +213,7 @@ fn look_of(alloc: Global, caller: u32, words: &[&[u8]]) -> Result<Option<RegEntr
     Ok(Some(RegEntry::Look {
         caller,
         text,
-        plain: is_word(sight, b"plain"),
+        plain: is_same(sight, b"plain"),
         answer: looked_of(answer),
     }))
 }
@@ -276,11 +276,11 @@ fn failed_of(words: &[&[u8]]) -> EndAnswer
 fn ending_of(alloc: Global, word: &[u8], words: &[&[u8]]) -> Result<EndAnswer, AllocError>
     ensures { IfOk result (λ answer. answer ≡ ending_of word.now (map (λ word. word.now) words.now)) }
 {
-    if is_word(word, b"built") {
+    if is_same(word, b"built") {
         built_of(alloc, words)
-    } else if is_word(word, b"joined") {
+    } else if is_same(word, b"joined") {
         joined_of(alloc, words)
-    } else if is_word(word, b"failed") {
+    } else if is_same(word, b"failed") {
         Ok(failed_of(words))
     } else {
         Ok(EndAnswer::NoMemory)
@@ -334,7 +334,7 @@ fn get_of(caller: u32, words: &[&[u8]]) -> Option<RegEntry>
         [id, word] => Some(RegEntry::Get {
             caller,
             id: number_of(id),
-            ok: is_word(word, b"ok"),
+            ok: is_same(word, b"ok"),
         }),
         _ => None,
     }
@@ -376,17 +376,17 @@ fn numbered_of(caller: u32, name: &[u8], number: Option<u64>) -> Option<RegEntry
     ensures { result ≡ numbered_of caller name.now number }
 {
     let number = number?;
-    if is_word(name, b"claim") {
+    if is_same(name, b"claim") {
         Some(RegEntry::Claim {
             caller,
             larval: number,
         })
-    } else if is_word(name, b"waited") {
+    } else if is_same(name, b"waited") {
         Some(RegEntry::Waited {
             caller,
             larval: number,
         })
-    } else if is_word(name, b"put") {
+    } else if is_same(name, b"put") {
         Some(RegEntry::Put { caller, id: number })
     } else {
         None
@@ -402,19 +402,19 @@ pub(crate) fn registry_of(
 ) -> Result<Option<RegEntry>, AllocError>
     ensures { IfOk result (λ event. event ≡ registry_of caller name.now (map (λ word. word.now) words.now)) }
 {
-    if is_word(name, b"enlist") {
+    if is_same(name, b"enlist") {
         enlist_of(alloc, caller, words)
-    } else if is_word(name, b"look") {
+    } else if is_same(name, b"look") {
         look_of(alloc, caller, words)
-    } else if is_word(name, b"end") {
+    } else if is_same(name, b"end") {
         end_of(alloc, caller, words)
-    } else if is_word(name, b"unlist") {
+    } else if is_same(name, b"unlist") {
         unlist_of(alloc, caller, words)
-    } else if is_word(name, b"get") {
+    } else if is_same(name, b"get") {
         Ok(get_of(caller, words))
-    } else if is_word(name, b"refs") {
+    } else if is_same(name, b"refs") {
         refs_of(alloc, caller, words)
-    } else if is_word(name, b"list") {
+    } else if is_same(name, b"list") {
         Ok(Some(RegEntry::List { caller }))
     } else {
         Ok(numbered_of(caller, name, lone_number(words)))
@@ -424,7 +424,7 @@ pub(crate) fn registry_of(
 fn shape_of(word: &[u8], size: u32) -> Shape
     ensures { result ≡ shape_of word.now size }
 {
-    if is_word(word, b"pad") {
+    if is_same(word, b"pad") {
         Shape::Pad(size)
     } else {
         Shape::Queue(size)
@@ -473,7 +473,7 @@ fn entered_of(words: &[&[u8]]) -> Entered
     ensures { result ≡ entered_of (map (λ word. word.now) words.now) }
 {
     match words {
-        [word, number] if is_word(word, b"EBUSY") => Entered::Busy(number_of(number)),
+        [word, number] if is_same(word, b"EBUSY") => Entered::Busy(number_of(number)),
         [_word, number] => Entered::InProgress(number_of(number)),
         _ => Entered::NoSpace,
     }
@@ -495,7 +495,7 @@ fn enq_of(
         caller,
         pipe: number_of(pipe),
         ask,
-        backlog: is_word(backlog, b"backlog"),
+        backlog: is_same(backlog, b"backlog"),
         answer: entered_of(answer),
     }))
 }
@@ -563,25 +563,25 @@ fn mask_of(caller: u32, words: &[&[u8]]) -> Option<BoardEntry<Known>>
 fn counted_of(caller: u32, name: &[u8], pipe: u64, number: u64) -> Option<BoardEntry<Known>>
     ensures { option_map unplaced result ≡ counted_of caller name.now pipe number }
 {
-    if is_word(name, b"take") {
+    if is_same(name, b"take") {
         Some(BoardEntry::Take {
             caller,
             pipe,
             number,
         })
-    } else if is_word(name, b"finish") {
+    } else if is_same(name, b"finish") {
         Some(BoardEntry::Finish {
             caller,
             pipe,
             number,
         })
-    } else if is_word(name, b"done") {
+    } else if is_same(name, b"done") {
         Some(BoardEntry::Done {
             caller,
             pipe,
             number,
         })
-    } else if is_word(name, b"collect") {
+    } else if is_same(name, b"collect") {
         Some(BoardEntry::Collect {
             caller,
             pipe,
@@ -595,13 +595,13 @@ fn counted_of(caller: u32, name: &[u8], pipe: u64, number: u64) -> Option<BoardE
 fn piped_of(caller: u32, name: &[u8], pipe: u64) -> Option<BoardEntry<Known>>
     ensures { option_map unplaced result ≡ piped_of caller name.now pipe }
 {
-    if is_word(name, b"hold") {
+    if is_same(name, b"hold") {
         Some(BoardEntry::Hold { caller, pipe })
-    } else if is_word(name, b"go") {
+    } else if is_same(name, b"go") {
         Some(BoardEntry::Go { caller, pipe })
-    } else if is_word(name, b"close") {
+    } else if is_same(name, b"close") {
         Some(BoardEntry::Close { caller, pipe })
-    } else if is_word(name, b"share") {
+    } else if is_same(name, b"share") {
         Some(BoardEntry::Share { caller, pipe })
     } else {
         None
@@ -633,17 +633,17 @@ pub(crate) fn board_of(
 ) -> Result<Option<BoardEntry<Known>>, AllocError>
     ensures { IfOk result (λ event. option_map unplaced event ≡ board_of caller name.now (map (λ word. word.now) words.now)) }
 {
-    if is_word(name, b"born") {
+    if is_same(name, b"born") {
         Ok(born_of(caller, words))
-    } else if is_word(name, b"submit") {
+    } else if is_same(name, b"submit") {
         submit_of(alloc, caller, words)
-    } else if is_word(name, b"enq") {
+    } else if is_same(name, b"enq") {
         enq_of(alloc, caller, words)
-    } else if is_word(name, b"deq") {
+    } else if is_same(name, b"deq") {
         Ok(deq_of(caller, words))
-    } else if is_word(name, b"mask") {
+    } else if is_same(name, b"mask") {
         Ok(mask_of(caller, words))
-    } else if is_word(name, b"shut") {
+    } else if is_same(name, b"shut") {
         Ok(Some(BoardEntry::Shut { caller }))
     } else {
         Ok(short_of(caller, name, lone_number(words), pair_in(words)))

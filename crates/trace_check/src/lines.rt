@@ -9,7 +9,7 @@ ghost use Rattle.trace_text.specs.Trace.{is_visible, is_word};
 ghost use Rattle.trace_check.specs.Guessing.{event_in};
 ghost use Rattle.trace_check.specs.Lines.{words_of, anywhere, IsReadAs};
 
-use crate::guessing::{board_of, is_word as is_same, parts_of, registry_of, small_of};
+use crate::guessing::{board_of, is_same, parts_of, registry_of, small_of};
 use alg_registry::RegEntry;
 use board::BoardEntry;
 use std::alloc::{AllocError, Global};

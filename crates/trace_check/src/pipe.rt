@@ -1,8 +1,9 @@
 //! What the checker keeps of one pipeline.
 
 ghost use Rattle.std.specs.Prelude.{◌≡◌, ◌+◌, ◌≤◌, ◌&&◌, nat_lt, if◌then◌else◌, length, slice_set, drop, true, OnOk};
+ghost use Rattle.alg_registry.specs.Legal.{is_worker};
 ghost use Rattle.board.specs.Shapes.{is_pad, has_line, has_lists, is_serial, bound_of, lists_of};
-ghost use Rattle.trace_check.specs.Pipes.{state_of, new_pipe, full_mask, are_lists, is_shape, is_open_as, waits, runs, runs_by, has_ended, passes, backlog_of, passed_by, starts_by, may_serve, may_close, is_worker, may_manage, may_submit, is_masked, may_take, has_bits, same_number, is_numbered, is_answered, reason_of, judged_on, ended_run, notices_in, with_request, with_entered, with_taken, with_ended, with_dequeued, with_finished, with_done, after, CanCount};
+ghost use Rattle.trace_check.specs.Pipes.{state_of, new_pipe, full_mask, are_lists, is_shape, is_open_as, waits, runs, runs_by, has_ended, passes, backlog_of, passed_by, starts_by, may_serve, may_close, may_manage, may_submit, is_masked, may_take, has_bits, same_number, is_numbered, is_answered, reason_of, judged_on, ended_run, notices_in, with_request, with_entered, with_taken, with_ended, with_dequeued, with_finished, with_done, after, CanCount};
 
 use crate::reason::{Reason, reason_of};
 use board::{BoardEntry, Entered, Shape};

@@ -11,7 +11,7 @@ ghost use Rattle.trace_check.specs.Held.{AreMarked, end_ids, AreJoined};
 ghost use Rattle.trace_check.specs.Registers.{row_of, larval_of, is_to, is_of, is_free, is_being_built, has_ended, is_claimed_by, passes, same_made, alike_made, same_found, alike_found, same_place, alike_place, same_flag};
 ghost use Rattle.trace_check.specs.Pipes.{reason_of};
 
-use crate::guessing::is_word;
+use crate::guessing::is_same;
 use crate::held::mark_ids;
 use crate::reason::{Reason, reason_of};
 use alg_registry::{Ended, Enlisted, Looked, Spec, Wrap};
@@ -51,13 +51,13 @@ fn may_find(entry: &Entry, plain: bool) -> bool
 fn has_driver(entry: &Entry, driver: &[u8]) -> bool
     ensures { result ≡ bytes_eq entry.now.spec.driver driver.now }
 {
-    is_word(entry.spec.driver.as_slice(), driver)
+    is_same(entry.spec.driver.as_slice(), driver)
 }
 
 fn has_name(entry: &Entry, name: &[u8]) -> bool
     ensures { result ≡ bytes_eq entry.now.spec.name name.now }
 {
-    is_word(entry.spec.name.as_slice(), name)
+    is_same(entry.spec.name.as_slice(), name)
 }
 
 fn does_clash(entry: &Entry, spec: &Spec) -> bool
@@ -265,7 +265,7 @@ fn joined_marks(
 {
     let mut marks = vec![in alloc; false; count]?;
     for larva in larvals {
-        if is_word(larva.text.as_slice(), text) {
+        if is_same(larva.text.as_slice(), text) {
             mark_end(&mut marks, larva.ended);
         }
     }
@@ -330,7 +330,7 @@ fn pending(larvals: &[Larva], text: &[u8]) -> Option<u64>
     ensures { result ≡ position_from (is_pending text.now) 0 (map larval_of larvals.now) }
 {
     for place in 0..larvals.len() {
-        if larvals[place].ended.is_none() && is_word(larvals[place].text.as_slice(), text) {
+        if larvals[place].ended.is_none() && is_same(larvals[place].text.as_slice(), text) {
             return Some(place as u64);
         }
     }

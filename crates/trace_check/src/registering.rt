@@ -2,7 +2,8 @@
 
 ghost use Rattle.std.specs.Prelude.{◌≡◌, true, not, map, IfOk};
 ghost use Rattle.alg_registry.specs.Answers.{look_answer, driver_place};
-ghost use Rattle.trace_check.specs.Pipes.{is_worker, reason_of};
+ghost use Rattle.alg_registry.specs.Legal.{is_worker};
+ghost use Rattle.trace_check.specs.Pipes.{reason_of};
 ghost use Rattle.trace_check.specs.Registers.{row_of, larval_of, enlisted_by, builds_by, same_made, alike_made, same_place, alike_place, end_numbered, end_answered, judged};
 
 use crate::held::is_full;
