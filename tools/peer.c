@@ -1,8 +1,8 @@
-// Answers scripts as crypto_script does, by libcrypto, for tools/speed to time beside it: `alloc`, `key`, `authsize`, `enc` and
+// Answers scripts as crypto_script does, by libcrypto, for tools/time-program to time beside it: `alloc`, `key`, `authsize`, `enc` and
 // `dec`, of cbc(aes), ctr(aes), xts(aes), gcm(aes) and authenc(hmac(sha256),cbc(aes)). Its `alloc` names no driver. It takes what
-// tools/speed gives it, and is no judge of scripts: what it doesn't know it answers by `malformed`.
+// tools/time-program gives it, and is no judge of scripts: what it doesn't know it answers by `malformed`.
 //
-// built by tools/speed: cc -O2 -o peer tools/peer.c -lcrypto
+// built by tools/time-program: cc -O2 -o peer tools/peer.c -lcrypto
 #include <openssl/core_names.h>
 #include <openssl/evp.h>
 #include <openssl/params.h>

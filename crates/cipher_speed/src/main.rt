@@ -1,4 +1,4 @@
-//! Works on 64 KiB again and again, for tools/speed to time: `cipher_speed WORK FORM COUNT` does COUNT times what WORK says
+//! Works on 64 KiB again and again, for tools/time-program to time: `cipher_speed WORK FORM COUNT` does COUNT times what WORK says
 //! (`ctr`, `cbc`, `cbc-open`, `xts`, `xts-open`, `gcm`, `gcm-open` or `hmac`) with AES in the form FORM (`generic`, `table` or `lanes`), and prints
 //! the first bytes of what came of it, so that no turn can be left out. `cipher_speed chunks FORM COUNT THREADS` does the same with
 //! CTR of 16 MiB, in chunks for so many threads. Without words it prints nothing.

@@ -1,4 +1,4 @@
-//! Whole loads. Each line is that of tools/load-line, which takes nothing of the program.
+//! Whole loads. Each line is that of tools/check-load-line, which takes nothing of the program.
 
 use crate::stream_tests::{Fault, expect_slow};
 use crate::tests::{cut, expect_line, joined};
