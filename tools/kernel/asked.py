@@ -4,6 +4,7 @@ import collections
 import case as cases
 import draw
 import fixed
+import habits
 import judge
 import machine
 import runs
@@ -29,6 +30,7 @@ class Asked:
 
     def first_list(self, by_bound):
         listed = Listed()
+        listed.habits = [listed.add(line) for line in habits.ASKS]
         listed.table = [listed.add(line) for line in table.asks()]
         for case in self.cases:
             listed.add_case(case)
@@ -60,7 +62,8 @@ class Listed:
     """A list for the guest, and at which lines its cases and runs are answered."""
 
     def __init__(self):
-        self.lines, self.cases, self.runs, self.table, self.answers = [], [], [], [], []
+        self.lines, self.cases, self.runs, self.answers = [], [], [], []
+        self.habits, self.table = [], []
 
     def add(self, line):
         self.lines.append(line)
@@ -107,16 +110,16 @@ def judged_runs(asked, made, text):
     return tally
 
 
-def judged_table(asked, text):
-    tally = Tally()
-    for verdict, what in table.judged(kernel_rows(asked), table.program_rows(text)):
+def judged_table(asked, answer):
+    """By what answers a script."""
+    tally, first = Tally(), asked.lists[0]
+    kernel = table.kernel_rows(first.answers[at] for at in first.table)
+    for verdict, what in table.judged(kernel, table.program_rows(answer(table.script()))):
+        tally.note(verdict, what)
+    here = set(table.program_rows(answer("\n".join(habits.LINES) + "\n")))
+    for verdict, what in habits.judged([first.answers[at] for at in first.habits], here):
         tally.note(verdict, what)
     return tally
-
-
-def kernel_rows(asked):
-    first = asked.lists[0]
-    return table.kernel_rows(first.answers[at] for at in first.table)
 
 
 def shortened(text):

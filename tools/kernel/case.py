@@ -1,4 +1,4 @@
-"""One case: a transform with its keys, tag sizes and one request, as lines of the script and as a line of the guest's list."""
+"""One case: a transform with keys, tag sizes and a request, as lines of the script and as a line of the guest's list."""
 import dataclasses
 
 from forms import Form
@@ -78,7 +78,7 @@ def shown(data):
 
 @dataclasses.dataclass(frozen=True)
 class Answer:
-    """What was answered to the name, to each key, to each tag size and to the request: `ok`, digits, or an error number's name."""
+    """What came of the name, of each key and tag size, and of the request: `ok`, digits, or an error number's name."""
 
     name: str
     keys: tuple = ()

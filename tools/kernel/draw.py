@@ -32,7 +32,7 @@ def some_block(draw):
 
 
 def some_name(draw, form):
-    """What is asked for here and there, plain or under a wrapper. The kernel finds a wrapped one by its driver alone."""
+    """What is asked for here and there. The kernel finds what is under a wrapper by its driver alone."""
     driver = form.over(draw.choice(forms.AES), draw.choice(forms.GHASH))
     name = draw.choice([form.name, driver])
     wrap = draw.choice(["", "", "", "cryptd", "cryptd", "pcrypt", "pcrypt", "chain" if draw.random() < 0.5 else ""])
@@ -86,8 +86,10 @@ def some_sealed(draw, form, key, tag, iv, aad, text):
     what = draw.random()
     if what < 0.05:
         return text[: draw.randrange(tag)]
+    if not plan.takes(tag, "enc", iv, aad, text):
+        return text + bytes(tag)
     try:
-        sealed = plan.value(key, tag, "enc", iv, aad, text) if plan.takes(tag, "enc", iv, aad, text) else text + bytes(tag)
+        sealed = plan.value(key, tag, "enc", iv, aad, text)
     except settled.Refused:
         sealed = text + bytes(tag)
         if form.word == "authenc":

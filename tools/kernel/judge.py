@@ -1,4 +1,4 @@
-"""Whether the program's answer and the kernel's agree, differ by choice, or differ. A choice has a rule that no wrong value passes."""
+"""Whether two answers agree, differ by choice, or differ. A choice has a rule that no wrong value passes."""
 from case import CHAIN, MIDDLE_KEY, OTHER_TEXT, REFUSED_KEY, REFUSED_NAME, TAKEN_NAME
 
 AGREE, DIFFER = "agree", "differ"
@@ -6,7 +6,7 @@ REFUSALS = ("ENOENT", "EINVAL", "ENAMETOOLONG")
 
 
 def keeps_the_earlier_key(case, ours, kernel, companion):
-    """Both refuse the key. Here the value is what the kernel gives under the earlier key alone; there it is so too, or no key is left."""
+    """Both refuse the key. The value is the kernel's under the earlier key alone; there it is so too, or no key is left."""
     refused = ours.keys == kernel.keys and ours.keys[-1] == "EINVAL" and ours.tags == kernel.tags
     kept = companion.keys == ("ok",) and ours.tags == companion.tags and ours.value == companion.value
     return refused and kept and kernel.value in ("ENOKEY", ours.value)
@@ -17,7 +17,7 @@ def takes_no_middle_key(case, ours, kernel, companion):
 
 
 def is_as_its_form(case, ours, kernel, companion):
-    """The kernel refuses the text, and the whole answer is what the kernel gives for the driver that the text leads to here."""
+    """The kernel refuses the text, and the whole answer is the kernel's for the driver that the text leads to here."""
     return kernel.name in REFUSALS and ours.name == "ok" and ours == companion
 
 

@@ -14,8 +14,8 @@ GUEST = f"{CACHE}/guest"
 MODULE = f"{CACHE}/module/pipelines.ko"
 LIBRARIES = f"{ROOT}/usr/lib/x86_64-linux-gnu:{ROOT}/lib/x86_64-linux-gnu"
 # in the order in which they are loaded; the generic C forms alone
-MODULES = """virtio_ring virtio virtio_pci_legacy_dev virtio_pci_modern_dev virtio_pci virtio_console af_alg algif_hash algif_skcipher
-algif_aead ecb ctr gf128mul ghash-generic gcm xts ccm cmac authenc cryptd pcrypt""".split()
+MODULES = """virtio_ring virtio virtio_pci_legacy_dev virtio_pci_modern_dev virtio_pci virtio_console af_alg algif_hash
+algif_skcipher algif_aead ecb ctr gf128mul ghash-generic gcm xts ccm cmac authenc cryptd pcrypt""".split()
 
 
 class NotBooted(Exception):
@@ -32,7 +32,14 @@ def release():
 
 
 def is_set_up():
-    return all(map(os.path.exists, (kernel(), GUEST, MODULE, f"{ROOT}/usr/bin/qemu-system-x86_64")))
+    unpacked = os.path.exists(kernel()) and os.path.exists(f"{ROOT}/usr/bin/qemu-system-x86_64")
+    return unpacked and is_newest(GUEST, "guest") and is_newest(MODULE, "module")
+
+
+def is_newest(made, folder):
+    """Whether no source is newer than what was made of it."""
+    sources = glob.glob(f"{HERE}/{folder}/*")
+    return os.path.exists(made) and all(os.path.getmtime(source) <= os.path.getmtime(made) for source in sources)
 
 
 def read(path):
@@ -59,7 +66,8 @@ def initramfs(lines):
 
 
 def command(work, processors):
-    """No accelerator, no network, no screen. cryptomgr.notests=1: with the kernel's own self tests 6.1 refuses cryptd over an AEAD."""
+    """No accelerator, no network, no screen."""
+    # with the kernel's own self tests 6.1 refuses cryptd over an AEAD, and a boot takes minutes
     words = "console=ttyS0 quiet panic=-1 cryptomgr.notests=1"
     return [f"{ROOT}/usr/bin/qemu-system-x86_64", "-L", f"{ROOT}/usr/share/qemu", "-L", f"{ROOT}/usr/share/seabios", "-accel", "tcg",
             "-m", "768", "-smp", str(processors), "-nodefaults", "-no-user-config", "-display", "none", "-no-reboot",
@@ -84,7 +92,8 @@ def boot(lines, processors, seconds=900):
         os.unlink(f"{work}/{name}")
     os.rmdir(work)
     load = os.getloadavg()[0]
-    print(f"booted {release()} on {processors}: {len(lines)} lines in {time.monotonic() - begun:.0f} s (load {load:.1f})", file=sys.stderr)
+    told = f"{len(lines)} lines in {time.monotonic() - begun:.0f} s (load {load:.1f})"
+    print(f"booted {release()} on {processors}: {told}", file=sys.stderr)
     return answers
 
 

@@ -9,6 +9,7 @@ from judge import AGREE, DIFFER
 
 MASK = "/sys/kernel/pcrypt/{}/parallel_cpumask"
 ONE_ORDER = "seals and opens of one pcrypt: each direction in order in the kernel, both in one order here"
+ONE_QUEUE = "two transforms under cryptd: one queue of their processor in the kernel, as of one transform here"
 EMPTY_MASK = "an empty mask: of one direction in the kernel, of the transform here"
 
 
@@ -62,7 +63,7 @@ class QueueRun:
 
 @dataclasses.dataclass(frozen=True)
 class AeadRun:
-    """Requests to one transform under cryptd, whose queue is held meanwhile, or under pcrypt, by masks of its two directions."""
+    """Requests to a transform under cryptd, whose queue is held meanwhile, or under pcrypt, by masks of its two directions."""
 
     form: Form
     wrap: str
@@ -71,17 +72,23 @@ class AeadRun:
     requests: tuple
     bound: int = 0
     masks: tuple = ("f", "f")
+    # of the kernel, every other request is asked of a second transform
+    is_shared: bool = False
 
     def asks(self):
-        words = f"{self.wrap}({self.form.kernel}) {self.tag} {shown(self.key)} {'held' if self.bound else 'free'}"
+        words = f"{self.wrap}({self.form.kernel}) {self.tag} {shown(self.key)} {self.how()}"
         asks = [f"run aead {words} {' '.join(request.word() for request in self.requests)}"]
         if self.bound:
             return asks
         return [f"put {MASK.format(name)} {mask}" for name, mask in zip(("pencrypt", "pdecrypt"), self.masks)] + asks
 
+    def how(self):
+        return "shared" if self.is_shared else "held" if self.bound else "free"
+
     def lines(self):
         name = f"{self.wrap}({self.form.over('aes-generic', 'ghash-generic')})"
-        lines = [(f"alloc p {name} {self.bound or ''}".rstrip(), False), (f"key p {shown(self.key)}", False), (f"authsize p {self.tag}", False)]
+        lines = [(f"alloc p {name} {self.bound or ''}".rstrip(), False)]
+        lines += [(f"key p {shown(self.key)}", False), (f"authsize p {self.tag}", False)]
         lines += [("hold p", False)] * bool(self.bound)
         is_empty = False
         for request in self.requests:
@@ -96,6 +103,8 @@ class AeadRun:
 
     def judged(self, ours, kernel):
         """Under cryptd all is one order. Under pcrypt each direction is, and of both together the program tells one."""
+        if self.is_shared:
+            return ONE_QUEUE if ours == kernel else DIFFER
         if ours == kernel:
             # the script emptied and filled its one mask, where the kernel has a mask of each direction
             return EMPTY_MASK if self.is_masked("enc") != self.is_masked("dec") else AGREE
@@ -118,6 +127,8 @@ def is_in_order(words):
 
 # ---- draws
 
+BOTH = ("enc", "dec")
+
 
 def queue_runs(seed, count):
     return [some_queue_run(random.Random(f"{seed} queue {number}")) for number in range(count)]
@@ -130,17 +141,23 @@ def some_queue_run(draw):
 
 
 def cryptd_runs(seed, bound, count):
-    draws = [random.Random(f"{seed} cryptd {bound} {number}") for number in range(count)]
-    return [some_run(draw, "cryptd", draw.randrange(1, 13), ("enc", "dec"), bound=bound) for draw in draws]
+    """Of the kernel, each tenth is shared out to two transforms."""
+    runs = []
+    for number in range(count):
+        draw = random.Random(f"{seed} cryptd {bound} {number}")
+        runs.append(some_run(draw, "cryptd", draw.randrange(1, 13), BOTH, bound=bound, is_shared=number % 10 == 9))
+    return runs
+
+
+# directions, and the masks of both: of all four processors, of one, of some, of none
+PLANS = [(("enc",), ("f", "f")), (("dec",), ("f", "f")), (BOTH, ("f", "f")), (("enc",), ("1", "1")), (("dec",), ("6", "6")),
+         (BOTH, ("c", "3")), (("enc",), ("0", "0")), (("dec",), ("0", "0")), (BOTH, ("0", "f")), (BOTH, ("f", "0"))]
 
 
 def pcrypt_runs(seed, count):
-    """Both directions, one alone, and with masks: of one processor, of several, of none."""
-    plans = [(("enc",), ("f", "f")), (("dec",), ("f", "f")), (("enc", "dec"), ("f", "f")), (("enc",), ("1", "1")), (("dec",), ("6", "6")),
-             (("enc", "dec"), ("c", "3")), (("enc",), ("0", "0")), (("dec",), ("0", "0")), (("enc", "dec"), ("0", "f")), (("enc", "dec"), ("f", "0"))]
     runs = []
     for number in range(count):
-        directions, masks = plans[number % len(plans)]
+        directions, masks = PLANS[number % len(PLANS)]
         runs.append(some_run(random.Random(f"{seed} pcrypt {number}"), "pcrypt", 60, directions, masks=masks))
     return runs
 

@@ -7,7 +7,7 @@ import forms
 
 
 class Script:
-    """The lines, and where each case and each run begins. Drivers that compute the same in less time are listed at low priority."""
+    """The lines, and where each case and each run begins. The drivers that are registered stand at low priority."""
 
     def __init__(self, all_cases, all_runs):
         self.lines = [f"register {driver} 50" for driver in forms.REGISTERED]

@@ -7,14 +7,16 @@ OTHER_DRIVERS = "drivers of xts, ccm, and what stands on them: other texts"
 
 
 def asks():
-    """Has the kernel build each form, and then each under a wrapper, of which one that is made takes others off the list."""
-    plain = [f"ask {form.kind} {form.name} none none {direction(form)} - - -" for form in forms.FORMS]
-    wrapped = [[f"ask {form.kind} {wrap}({form.kernel}) none none {direction(form)} - - -", "rows"] for form in forms.FORMS for wrap in wraps(form)]
-    return [*plain, "rows", *(line for lines in wrapped for line in lines)]
+    """Has the kernel build each form, and then each under a wrapper, whose making takes others off the list."""
+    lines = [ask(form, form.name) for form in forms.FORMS] + ["rows"]
+    for form in forms.FORMS:
+        for wrap in wraps(form):
+            lines += [ask(form, f"{wrap}({form.kernel})"), "rows"]
+    return lines
 
 
-def direction(form):
-    return "mac" if form.kind == "hash" else "enc"
+def ask(form, name):
+    return f"ask {form.kind} {name} none none {'mac' if form.kind == 'hash' else 'enc'} - - -"
 
 
 def wraps(form):

@@ -173,7 +173,9 @@ int main(void)
 {
     mkdir("/proc", 0755);
     mkdir("/sys", 0755);
-    if (mount("none", "/dev", "devtmpfs", 0, NULL) || mount("none", "/proc", "proc", 0, NULL) || mount("none", "/sys", "sysfs", 0, NULL))
+    if (mount("none", "/dev", "devtmpfs", 0, NULL) || mount("none", "/proc", "proc", 0, NULL))
+        fail("mount");
+    if (mount("none", "/sys", "sysfs", 0, NULL))
         fail("mount");
     /* nobody else may bring a module in */
     put("/proc/sys/kernel/modprobe", "\n");

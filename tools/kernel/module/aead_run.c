@@ -33,7 +33,10 @@ struct event {
 };
 
 struct run {
-	struct crypto_aead *transform;
+	/* the second one for every other request, where they are shared out */
+	struct crypto_aead *transforms[2];
+	bool shares;
+	bool held;
 	unsigned int tag;
 	unsigned int count;
 	unsigned int told;
@@ -87,9 +90,9 @@ static int read_request(struct run *run, char *word)
 	char *direction = strsep(&word, ":");
 	int aad, text;
 
-	run->count++;
 	request->bytes = kzalloc(room, GFP_KERNEL);
-	request->asked = aead_request_alloc(run->transform, GFP_KERNEL);
+	request->asked = aead_request_alloc(run->transforms[run->shares ? run->count % 2 : 0], GFP_KERNEL);
+	run->count++;
 	if (!request->bytes || !request->asked)
 		return -ENOMEM;
 	request->run = run;
@@ -113,12 +116,12 @@ static int read_request(struct run *run, char *word)
 }
 
 /* Hands all requests in. While one is held this processor runs nothing else, so nothing leaves its queue. */
-static void submit_all(struct run *run, bool held)
+static void submit_all(struct run *run)
 {
 	unsigned long flags;
 	unsigned int at, accepted = 0;
 
-	if (held)
+	if (run->held)
 		preempt_disable();
 	for (at = 0; at < run->count; at++) {
 		struct request *request = &run->requests[at];
@@ -126,7 +129,7 @@ static void submit_all(struct run *run, bool held)
 		request->answer = request->encrypts ? crypto_aead_encrypt(request->asked) : crypto_aead_decrypt(request->asked);
 		accepted += request->answer == -EINPROGRESS || request->answer == -EBUSY;
 	}
-	if (held)
+	if (run->held)
 		preempt_enable();
 	spin_lock_irqsave(&run->lock, flags);
 	run->accepted = accepted;
@@ -165,21 +168,42 @@ static void tell(struct run *run, struct answer *answer)
 	}
 }
 
-static int set_up(struct run *run, char *line, bool *held)
+static int set_up_transforms(struct run *run, const char *name, const u8 *key, unsigned int length)
 {
-	u8 key[256];
+	unsigned int at;
+	int error;
+
+	for (at = 0; at < ARRAY_SIZE(run->transforms); at++) {
+		struct crypto_aead *transform = crypto_alloc_aead(name, 0, 0);
+
+		if (IS_ERR(transform))
+			return PTR_ERR(transform);
+		run->transforms[at] = transform;
+		error = crypto_aead_setkey(transform, key, length);
+		if (!error)
+			error = crypto_aead_setauthsize(transform, run->tag);
+		if (error)
+			return error;
+	}
+	return 0;
+}
+
+static int set_up(struct run *run, char *line)
+{
+	char *name = strsep(&line, " ");
 	char *word;
+	u8 key[256];
 	int length, error;
 
-	if (kstrtouint(strsep(&line, " "), 10, &run->tag) || !line)
+	if (!line || kstrtouint(strsep(&line, " "), 10, &run->tag) || !line)
 		return -EINVAL;
 	length = read_digits(strsep(&line, " "), key, sizeof(key));
 	if (length < 0 || !line)
 		return -EINVAL;
-	error = crypto_aead_setkey(run->transform, key, length);
-	if (!error)
-		error = crypto_aead_setauthsize(run->transform, run->tag);
-	*held = !strcmp(strsep(&line, " "), "held");
+	error = set_up_transforms(run, name, key, length);
+	word = strsep(&line, " ");
+	run->shares = !strcmp(word, "shared");
+	run->held = run->shares || !strcmp(word, "held");
 	while (!error && (word = strsep(&line, " ")))
 		error = run->count == MAX_REQUESTS ? -E2BIG : read_request(run, word);
 	return error;
@@ -193,14 +217,15 @@ static void tear_down(struct run *run)
 		aead_request_free(run->requests[at].asked);
 		kfree(run->requests[at].bytes);
 	}
-	crypto_free_aead(run->transform);
+	for (at = 0; at < ARRAY_SIZE(run->transforms); at++)
+		if (run->transforms[at])
+			crypto_free_aead(run->transforms[at]);
 	vfree(run);
 }
 
 void run_aead(char *line, struct answer *answer)
 {
 	struct run *run = vzalloc(sizeof(*run));
-	bool held;
 	int error;
 
 	if (!run)
@@ -208,23 +233,18 @@ void run_aead(char *line, struct answer *answer)
 	run->accepted = UINT_MAX;
 	spin_lock_init(&run->lock);
 	init_completion(&run->all_done);
-	run->transform = crypto_alloc_aead(strsep(&line, " "), 0, 0);
-	if (IS_ERR(run->transform)) {
-		say_error(answer, PTR_ERR(run->transform));
-		vfree(run);
+	error = set_up(run, line);
+	if (error) {
+		say_error(answer, error);
+		tear_down(run);
 		return;
 	}
-	error = line ? set_up(run, line, &held) : -EINVAL;
-	if (!error) {
-		submit_all(run, held);
-		/* what still runs may not be let go */
-		if (!wait_for_completion_timeout(&run->all_done, SECONDS * HZ)) {
-			say_error(answer, -ETIMEDOUT);
-			return;
-		}
+	submit_all(run);
+	if (wait_for_completion_timeout(&run->all_done, SECONDS * HZ)) {
 		tell(run, answer);
+		tear_down(run);
 	} else {
-		say_error(answer, error);
+		/* what still runs may not be let go */
+		say_error(answer, -ETIMEDOUT);
 	}
-	tear_down(run);
 }

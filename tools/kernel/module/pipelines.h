@@ -19,7 +19,10 @@ void say_error(struct answer *answer, int error);
 /* `BOUND STEPS`: crypto_enqueue_request and crypto_dequeue_request, on a queue of this length. */
 void run_queue(char *line, struct answer *answer);
 
-/* `NAME TAG KEY HELD REQUEST..`: requests to one transform, which may be one of cryptd's or pcrypt's. */
+/*
+ * `NAME TAG KEY HOW REQUEST..`: requests to a transform of cryptd's or pcrypt's. HOW is `free`; or `held`: nothing is
+ * done before all are handed in; or `shared`: the same, and every other request goes to a second transform.
+ */
 void run_aead(char *line, struct answer *answer);
 
 #endif

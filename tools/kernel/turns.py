@@ -1,0 +1,24 @@
+"""Rules of the second program, which tools/check-settled is, that are turned one at a time."""
+
+TURNS = []
+
+
+def turn(change):
+    """A change to a copy of the second program."""
+    TURNS.append(change)
+    return change
+
+
+def around(of, name, wrap):
+    """Has a function of the second program called by another one."""
+    old = getattr(of, name)
+    setattr(of, name, lambda *words: wrap(old, *words))
+
+
+def change_value(settled, word, change):
+    """Has the value of a transform of this word come of other words."""
+
+    def value(old, plan, *words):
+        return old(plan, *(change(*words) if plan.word == word else words))
+
+    around(settled.Plan, "value", value)
