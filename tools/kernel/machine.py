@@ -1,5 +1,6 @@
 """The virtual machine: where its parts lie, and a boot that answers a list."""
 import glob
+import hashlib
 import os
 import subprocess
 import sys
@@ -33,13 +34,17 @@ def release():
 
 def is_set_up():
     unpacked = os.path.exists(kernel()) and os.path.exists(f"{ROOT}/usr/bin/qemu-system-x86_64")
-    return unpacked and is_newest(GUEST, "guest") and is_newest(MODULE, "module")
+    return unpacked and is_made(GUEST, "guest") and is_made(MODULE, "module")
 
 
-def is_newest(made, folder):
-    """Whether no source is newer than what was made of it."""
-    sources = glob.glob(f"{HERE}/{folder}/*")
-    return os.path.exists(made) and all(os.path.getmtime(source) <= os.path.getmtime(made) for source in sources)
+def is_made(made, folder):
+    """Whether this was made of the sources as they are, which a sum beside it tells."""
+    return os.path.exists(made) and os.path.exists(f"{made}.sum") and read(f"{made}.sum").decode() == sum_of(folder)
+
+
+def sum_of(folder):
+    sources = sorted(glob.glob(f"{HERE}/{folder}/*"))
+    return hashlib.sha256(b"".join(os.path.basename(source).encode() + b"\0" + read(source) for source in sources)).hexdigest()
 
 
 def read(path):
