@@ -47,11 +47,14 @@ class Asked:
         """Both boots: pcrypt's needs several processors."""
         for listed, processors in zip(self.lists, (1, 4)):
             listed.answers = machine.boot(listed.lines, processors)
+            for line, answer in zip(listed.lines, listed.answers, strict=True):
+                if line.startswith(("load", "unload", "put")) and answer != "ok":
+                    raise machine.NotBooted(f"{line}: {answer}")
 
     def kernel_cases(self):
         """Of each case the kernel's answer, and that to its companion."""
         first = self.lists[0]
-        for case, (at, besides) in zip(self.cases, first.cases):
+        for case, (at, besides) in zip(self.cases, first.cases, strict=True):
             yield case, cases.kernel_answer(first.answers[at]), besides and cases.kernel_answer(first.answers[besides])
 
     def kernel_runs(self):
@@ -96,7 +99,7 @@ def tallies(asked, made, text):
 
 def judged_cases(asked, made, text):
     tally = Tally()
-    for (case, kernel, companion), ours in zip(asked.kernel_cases(), made.case_answers(text)):
+    for (case, kernel, companion), ours in zip(asked.kernel_cases(), made.case_answers(text), strict=True):
         told = f"{case.lines()}\n  here    {ours}\n  kernel  {kernel}\n  besides {companion}"
         tally.note(judge.judged(case, ours, kernel, companion), told)
     return tally
@@ -104,14 +107,14 @@ def judged_cases(asked, made, text):
 
 def judged_runs(asked, made, text):
     tally = Tally()
-    for run, kernel, ours in zip(asked.runs, asked.kernel_runs(), made.run_answers(text)):
+    for run, kernel, ours in zip(asked.runs, asked.kernel_runs(), made.run_answers(text), strict=True):
         told = f"{[line for line, _ in run.lines()]}\n  here   {' '.join(ours)}\n  kernel {' '.join(kernel)}"
         tally.note(run.judged(ours, kernel), told)
     return tally
 
 
 def judged_table(asked, answer):
-    """By what answers a script."""
+    """Of names, drivers and priorities, by what answers a script."""
     tally, first = Tally(), asked.lists[0]
     kernel = table.kernel_rows(first.answers[at] for at in first.table)
     for verdict, what in table.judged(kernel, table.program_rows(answer(table.script()))):

@@ -5,7 +5,7 @@ from forms import Form
 
 # ---- how the kernel differs by choice; judge.py has the rule of each
 
-REFUSED_KEY = "a refused key after a good one: the kernel keeps none, here the earlier one stays"
+REFUSED_KEY = "a refused key after a good one: no key is left in the kernel, here the earlier one stays"
 MIDDLE_KEY = "XTS under 48 bytes of key: taken by the kernel, refused here"
 CHAIN = "cryptd(pcrypt(X)): refused by the kernel, a chain here"
 OTHER_TEXT = "a template's text that is neither name nor driver of what it makes: ENOENT of the kernel, found here"
@@ -62,6 +62,11 @@ class Case:
     def has_equal_halves(self):
         """Whether both keys of an XTS are the same, which OpenSSL takes for a mistake."""
         return self.form.word == "xts" and any(key[: len(key) // 2] == key[len(key) // 2 :] != b"" for key in self.keys)
+
+    def is_refused_by_length(self):
+        """Whether the last key is shorter or longer than any of a cipher mode's, which the kernel tells before it drops a key."""
+        taken = [length for length in range(100) if self.form.plan().takes_key(bytes(length))]
+        return self.form.kind == "skcipher" and not min(taken) <= len(self.keys[-1]) <= max(taken)
 
     def companion(self):
         """What the kernel is asked besides, where it differs by choice: the same transform, in a way that it takes."""

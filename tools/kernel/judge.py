@@ -6,10 +6,10 @@ REFUSALS = ("ENOENT", "EINVAL", "ENAMETOOLONG")
 
 
 def keeps_the_earlier_key(case, ours, kernel, companion):
-    """Both refuse the key. The value is the kernel's under the earlier key alone; there it is so too, or no key is left."""
+    """Both refuse the key. The value is the kernel's under the earlier key alone, and the kernel has no key left, or that one."""
     refused = ours.keys == kernel.keys and ours.keys[-1] == "EINVAL" and ours.tags == kernel.tags
     kept = companion.keys == ("ok",) and ours.tags == companion.tags and ours.value == companion.value
-    return refused and kept and kernel.value in ("ENOKEY", ours.value)
+    return refused and kept and kernel.value == (ours.value if case.is_refused_by_length() else "ENOKEY")
 
 
 def takes_no_middle_key(case, ours, kernel, companion):

@@ -2,9 +2,8 @@
 import forms
 import turned_rules
 import turned_values
-from turns import TURNS
 
-assert turned_rules and turned_values and TURNS
+TURNS = turned_values.TURNS + turned_rules.TURNS
 
 
 def name_of(change):

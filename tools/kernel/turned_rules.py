@@ -1,5 +1,8 @@
 """Turned rules of keys, sizes, names, queues and pipelines."""
-from turns import around, change_value, turn
+from turns import around, change_value, into
+
+TURNS = []
+turn = into(TURNS)
 
 # ---- keys, sizes, names
 

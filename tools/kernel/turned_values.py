@@ -2,7 +2,10 @@
 import hashlib
 import hmac
 
-from turns import around, change_value, turn
+from turns import around, change_value, into
+
+TURNS = []
+turn = into(TURNS)
 
 # ---- modes
 

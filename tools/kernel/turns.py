@@ -1,12 +1,14 @@
-"""Rules of the second program, which tools/check-settled is, that are turned one at a time."""
-
-TURNS = []
+"""How rules of the second program, which tools/check-settled is, are turned one at a time."""
 
 
-def turn(change):
-    """A change to a copy of the second program."""
-    TURNS.append(change)
-    return change
+def into(turns):
+    """What marks a function as one of these: a change to a copy of the second program."""
+
+    def turn(change):
+        turns.append(change)
+        return change
+
+    return turn
 
 
 def around(of, name, wrap):

@@ -1,4 +1,11 @@
-/* The one program of the guest: answers each line of /list, and switches the machine off. */
+/*
+ * The one program of the guest: answers each line of /list, and switches the machine off.
+ *
+ *   ask ..                                          a transform by AF_ALG (ask.h)
+ *   run ..                                          a run of our module (../module/pipelines.h)
+ *   load MODULE WORDS, unload MODULE, put PATH TEXT `ok`, or an error number's name
+ *   rows                                            names, drivers and priorities of /proc/crypto
+ */
 #define _GNU_SOURCE
 #include <errno.h>
 #include <fcntl.h>
