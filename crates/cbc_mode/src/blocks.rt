@@ -16,7 +16,8 @@ fn sum_of(a: &[u8; 16], b: &[u8; 16]) -> [u8; 16]
     sum
 }
 
-/// Adds the block `b` to the chain, which stays where it is: as a value of its own it would go from block to block in single bytes.
+/// Adds the block `b` to the chain, which stays where it is: as a value of its own it would go from block to block in
+/// single bytes.
 fn add_block(chain: &mut [u8; 16], b: &[u8; 16])
     ensures { chain.new ≡ xor_blocks b.now chain.old }
 {

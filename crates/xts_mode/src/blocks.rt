@@ -157,8 +157,8 @@ fn exchange(text: &mut [u8])
     text[16..].copy_from_slice(&block[..stolen]);
 }
 
-/// Turns the last whole block of a data unit, at the place of the first tweak; its front goes behind it, in place of the bytes
-/// there, and what then stands in its place is turned at that of the second tweak.
+/// Turns the last whole block of a data unit, at the place of the first tweak; its front goes behind it, in place of
+/// the bytes there, and what then stands in its place is turned at that of the second tweak.
 pub(crate) fn steal<D: Direction>(direction: &D, first: &Tweak, second: &Tweak, text: &mut [u8])
     requires block { 16 ≤ length text.old }
     requires less_than_two { length text.old < 32 }
