@@ -14,8 +14,12 @@ use kc_base::Errno;
 use std::marker::Model;
 use std::simd::prelude::*;
 
-/// From so many blocks on eight at once take no longer than one after another.
-const WORTH_EIGHT: usize = 3;
+/// From so many blocks on all eight are sealed at once. That takes as long as three blocks by themselves on x86-64-v3, and
+/// as seven on x86-64-v2, whose vectors are half as long.
+const WORTH_SEALING_EIGHT: usize = 5;
+
+/// From so many blocks on all eight are unsealed at once: as long as two blocks, and as four.
+const WORTH_UNSEALING_EIGHT: usize = 4;
 
 /// AES (FIPS 197, 5.1 and 5.3) under a key of 16, 24 or 32 bytes, with the key's whole schedule in vectors. No table is
 /// read at a place that the key or a text chooses. Contracts see the key.
@@ -79,7 +83,7 @@ impl BlockCipher for LaneAes {
     }
 
     fn seal_some(&self, b: &mut [[u8; 16]; 8], count: usize) {
-        if count < WORTH_EIGHT {
+        if count < WORTH_SEALING_EIGHT {
             for j in 0..count {
                 self.seal_block(&mut b[j]);
             }
@@ -93,7 +97,7 @@ impl BlockCipher for LaneAes {
     }
 
     fn unseal_some(&self, b: &mut [[u8; 16]; 8], count: usize) {
-        if count < WORTH_EIGHT {
+        if count < WORTH_UNSEALING_EIGHT {
             for j in 0..count {
                 self.unseal_block(&mut b[j]);
             }
