@@ -5,7 +5,7 @@ ghost use Rattle.std_defs.specs.Authenc.{authenc_seal, authenc_open};
 ghost use Rattle.aes_block.specs.Opened.{Opens};
 ghost use Rattle.aes_block.specs.Outcome.{Becomes};
 
-use aes_block::Skcipher;
+use aes_block::{Skcipher, tags_differ};
 use hmac_sha::Mac;
 use kc_base::Errno;
 use seg_modes::SegCipher;
@@ -13,6 +13,11 @@ use sg_walk::Segs;
 use std::marker::Model;
 
 /// A cipher and a MAC, each under its key, seen as the MAC's key block and the cipher. No call takes memory.
+///
+/// The two keys are independent of each other. An IV serves once under a key, and for CBC nobody can foretell it: see
+/// the cipher. A forger's guess at a tag of n bytes is right once in 256^n tries, so one of 12 to 32 bytes is taken,
+/// and a shorter one only where each try is seen and few are let in. The tag says nothing of order: a packet that is
+/// sent again opens again.
 #[derive(Drop)]
 pub struct Authenc<S: Skcipher + Drop> {
     mac: Mac,
@@ -43,8 +48,9 @@ impl<S: Skcipher + Drop> Authenc<S> {
     }
 
     /// Seals the text `b` in place under an IV of the cipher's length, and writes the whole MAC of the associated bytes
-    /// and behind them the ciphertext into `tag`. The IV is covered only where it stands among the associated bytes, as in ESP. `EINVAL` exactly where the cipher doesn't take a text of that length; `b` and
-    /// `tag` are then unchanged.
+    /// and behind them the ciphertext into `tag`. The IV is covered only where it stands among the associated bytes, as
+    /// in ESP: where it doesn't, a changed IV changes the text unseen. `EINVAL` exactly where the cipher doesn't take a
+    /// text of that length; `b` and `tag` are then unchanged.
     pub fn seal(
         &self,
         iv: &[u8],
@@ -61,8 +67,8 @@ impl<S: Skcipher + Drop> Authenc<S> {
     }
 
     /// Opens the text `b` in place under an IV of the cipher's length and a tag of 1 to 32 bytes. The tag is compared
-    /// first: `EBADMSG` exactly where it isn't the front of the MAC of the associated bytes and `b`. Then `EINVAL` exactly
-    /// where the cipher doesn't take a text of that length. `b` is unchanged after both.
+    /// first: `EBADMSG` exactly where it isn't the front of the MAC of the associated bytes and `b`. Then `EINVAL`
+    /// exactly where the cipher doesn't take a text of that length. `b` is unchanged after both.
     pub fn unseal(
         &self,
         iv: &[u8],
@@ -75,7 +81,7 @@ impl<S: Skcipher + Drop> Authenc<S> {
         ensures { Opens result (authenc_open self.now.0 (S.unseals self.now.1 iv.now) associated.now b.old tag.now) b.old b.new }
     {
         let full = self.mac.mac(associated, b);
-        if &full[..tag.len()] != tag {
+        if tags_differ(&full, tag) {
             return Err(Errno::EBADMSG);
         }
         self.cipher.unseal(iv, b)
@@ -83,8 +89,8 @@ impl<S: Skcipher + Drop> Authenc<S> {
 }
 
 impl<S: SegCipher + Drop> Authenc<S> {
-    /// Seals the text in place as `seal` does. `EINVAL` exactly where the cipher doesn't take a text of that length; the
-    /// text and `tag` are then unchanged. Each segment keeps its length.
+    /// Seals the text in place as `seal` does. `EINVAL` exactly where the cipher doesn't take a text of that length;
+    /// the text and `tag` are then unchanged. Each segment keeps its length.
     pub fn seal_segs(
         &self,
         iv: &[u8],
@@ -101,9 +107,9 @@ impl<S: SegCipher + Drop> Authenc<S> {
         Ok(())
     }
 
-    /// Opens the text in place as `unseal` does, under a tag of 1 to 32 bytes: `EBADMSG` exactly where it isn't the front of
-    /// the MAC of the associated bytes and the text, then `EINVAL` exactly where the cipher doesn't take a text of that length.
-    /// The text is unchanged after both. Each segment keeps its length.
+    /// Opens the text in place as `unseal` does, under a tag of 1 to 32 bytes: `EBADMSG` exactly where it isn't the
+    /// front of the MAC of the associated bytes and the text, then `EINVAL` exactly where the cipher doesn't take a
+    /// text of that length. The text is unchanged after both. Each segment keeps its length.
     pub fn unseal_segs(
         &self,
         iv: &[u8],
@@ -117,7 +123,7 @@ impl<S: SegCipher + Drop> Authenc<S> {
         ensures sizes { b.new.sizes ≡ b.old.sizes }
     {
         let whole = self.mac.mac_segs(associated, b);
-        if &whole[..tag.len()] != tag {
+        if tags_differ(&whole, tag) {
             return Err(Errno::EBADMSG);
         }
         self.cipher.unseal_segs(iv, b)

@@ -1,6 +1,6 @@
 //! Chains of whole blocks, in place.
 
-ghost use Rattle.std.specs.Prelude.{◌≡◌, map, suc, ◌+◌, ◌*◌, ◌/◌, ◌%◌, ◌≤◌, length};
+ghost use Rattle.std.specs.Prelude.{◌≡◌, ℕ, map, suc, ◌+◌, ◌*◌, ◌/◌, ◌%◌, ◌<◌, ◌≤◌, [], length, slice_index_or};
 ghost use Rattle.std.specs.List.{range_with_len};
 ghost use Rattle.std_defs.specs.Blocks.{xor_blocks, text_block, joined};
 ghost use Rattle.std_defs.specs.Modes.{cbc_block, cbc_before, cbc_plain_block};
@@ -16,7 +16,8 @@ fn sum_of(a: &[u8; 16], b: &[u8; 16]) -> [u8; 16]
     sum
 }
 
-/// Adds the block `b` to the chain, which stays where it is: as a value of its own it would go from block to block in single bytes.
+/// Adds the block `b` to the chain, which stays where it is: as a value of its own it would go from block to block in
+/// single bytes.
 fn add_block(chain: &mut [u8; 16], b: &[u8; 16])
     ensures { chain.new ≡ xor_blocks b.now chain.old }
 {
@@ -82,24 +83,37 @@ fn unseal_eight<C: BlockCipher>(cipher: &C, before: &[u8; 16], text: &mut [u8]) 
     before
 }
 
-/// Unseals each block of a text of whole blocks, one after another, behind the ciphertext block `before`.
-fn unseal_each<C: BlockCipher>(cipher: &C, before: &[u8; 16], text: &mut [u8])
-    requires { length text.old % 16 ≡ 0 }
+/// The blocks of a text of at most eight, and blocks of no meaning behind them.
+fn some_blocks(text: &[u8]) -> [[u8; 16]; 8]
+    requires { length text.now ≤ 128 }
+    ensures { (j : ℕ) → j < length text.now / 16 → slice_index_or result j [] ≡ text_block text.now j }
+{
+    let mut some = [[0u8; 16]; 8];
+    for j in 0..text.len() / 16 {
+        some[j] = block_at(text, j);
+    }
+    some
+}
+
+/// Unseals a text of at most eight blocks, behind the ciphertext block `before`.
+fn unseal_some<C: BlockCipher>(cipher: &C, before: &[u8; 16], text: &mut [u8])
+    requires whole { length text.old % 16 ≡ 0 }
+    requires short { length text.old ≤ 128 }
     ensures { text.new ≡ joined (cbc_plain_block (C.unsealed cipher.now) before.now text.old) (length text.old / 16) }
 {
-    let mut before = *before;
-    for i in 0..text.len() / 16 {
-        let sealed = block_at(text, i);
-        let mut block = sealed;
-        cipher.unseal_block(&mut block);
-        let plain = sum_of(&block, &before);
-        text[16 * i..16 * i + 16].copy_from_slice(&plain);
-        // the ciphertext block, which no longer stands in the text
-        before = sealed;
+    let count = text.len() / 16;
+    let sealed = some_blocks(text);
+    let mut blocks = sealed;
+    cipher.unseal_some(&mut blocks, count);
+    let mut previous = *before;
+    for j in 0..count {
+        let plain = sum_of(&blocks[j], &previous);
+        text[16 * j..16 * j + 16].copy_from_slice(&plain);
+        previous = sealed[j];
     }
 }
 
-/// Unseals each block of a text of whole blocks, eight at a time, and those that are left one after another.
+/// Unseals each block of a text of whole blocks, eight at a time.
 pub fn unseal_blocks<C: BlockCipher>(cipher: &C, iv: &[u8; 16], text: &mut [u8])
     requires { length text.old % 16 ≡ 0 }
     ensures { text.new ≡ joined (cbc_plain_block (C.unsealed cipher.now) iv.now text.old) (length text.old / 16) }
@@ -109,5 +123,5 @@ pub fn unseal_blocks<C: BlockCipher>(cipher: &C, iv: &[u8; 16], text: &mut [u8])
     for i in 0..eights {
         before = unseal_eight(cipher, &before, &mut text[128 * i..128 * i + 128]);
     }
-    unseal_each(cipher, &before, &mut text[128 * eights..]);
+    unseal_some(cipher, &before, &mut text[128 * eights..]);
 }

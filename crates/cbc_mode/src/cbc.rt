@@ -9,8 +9,13 @@ use aes_block::{BlockCipher, Skcipher};
 use kc_base::Errno;
 use std::marker::Model;
 
-/// CBC under a key, seen as its block cipher. An IV has 16 bytes. Texts of whole blocks of 16 bytes are taken, the empty
-/// one among them.
+/// CBC under a key, seen as its block cipher. An IV has 16 bytes. Texts of whole blocks of 16 bytes are taken, the
+/// empty one among them.
+///
+/// Nobody may be able to foretell an IV (SP 800-38A, appendix C): draw it at random for each text. A counter or the
+/// last ciphertext block won't do. Two texts under one IV show where they begin alike; so do equal ciphertext blocks,
+/// which come up once the blocks under a key are near 2^64. No tag is made. Compare a MAC over IV and ciphertext before
+/// anything is opened: who can tell whether a changed ciphertext opened to a well-formed text can read texts.
 #[derive(Drop)]
 pub struct Cbc<C: BlockCipher + Drop> {
     cipher: C,

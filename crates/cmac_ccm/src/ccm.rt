@@ -7,7 +7,7 @@ ghost use Rattle.aes_block.specs.Opened.{Opens};
 
 use crate::chain::{add_block, chain_block, chain_padded};
 use crate::formatting::{Counter, chain_associated, counter_block, first_block};
-use aes_block::BlockCipher;
+use aes_block::{BlockCipher, tags_differ};
 use ctr_mode::apply_key_stream;
 use kc_base::Errno;
 use std::marker::Model;
@@ -26,8 +26,13 @@ fn takes_iv(iv: &[u8; 16]) -> bool
     1 <= iv[0] && iv[0] <= 7
 }
 
-/// CCM under a key, seen as its block cipher. An IV has 16 bytes: q - 1, the nonce of 15 - q bytes, and bytes that aren't
-/// used; q is the length in bytes of the field of the text's length.
+/// CCM under a key, seen as its block cipher. An IV has 16 bytes: q - 1, the nonce of 15 - q bytes, and bytes that
+/// aren't used; q is the length in bytes of the field of the text's length.
+///
+/// A nonce serves once under a key (SP 800-38C, 5.3). Two texts under one nonce give away the sum of both, and forgers
+/// learn from them. A guess at a tag of n bytes is right once in 256^n tries: 4 and 6 bytes are for callers that see
+/// each wrong tag and let in few, others take 8 or more (appendix B). All texts under a key have fewer than 2^60 blocks
+/// together.
 #[derive(Drop)]
 pub struct Ccm<C: BlockCipher + Drop> {
     cipher: C,
@@ -54,9 +59,9 @@ impl<C: BlockCipher + Drop> Ccm<C> {
         &self.cipher
     }
 
-    /// Makes the ciphertext of `b` in its place, and the tag of as many bytes as `tag` has (6.1): 4, 6, 8, 10, 12, 14 or 16. `aad`
-    /// has fewer than 65,280 bytes, `b` fewer than 65,536. The tag covers the nonce, `aad`, the plaintext and their lengths.
-    /// `EINVAL` exactly where byte 0 of the IV isn't 1 to 7: all is then unchanged.
+    /// Makes the ciphertext of `b` in its place, and the tag of as many bytes as `tag` has (6.1): 4, 6, 8, 10, 12, 14
+    /// or 16. `aad` has fewer than 65,280 bytes, `b` fewer than 65,536. The tag covers the nonce, `aad`, the plaintext
+    /// and their lengths. `EINVAL` exactly where byte 0 of the IV isn't 1 to 7: all is then unchanged.
     pub fn seal(&self, iv: &[u8; 16], aad: &[u8], b: &mut [u8], tag: &mut [u8]) -> Result<(), Errno>
         requires aad_short { length aad.now < 65280 }
         requires text_short { length b.old < 65536 }
@@ -73,9 +78,9 @@ impl<C: BlockCipher + Drop> Ccm<C> {
         Ok(())
     }
 
-    /// Makes the plaintext of `b` in its place (6.2), under a tag of 4, 6, 8, 10, 12, 14 or 16 bytes. `aad` has fewer than 65,280
-    /// bytes, `b` fewer than 65,536. `EINVAL` exactly where byte 0 of the IV isn't 1 to 7, and then `EBADMSG` exactly where the
-    /// tag isn't the plaintext's: `b` is unchanged in both cases.
+    /// Makes the plaintext of `b` in its place (6.2), under a tag of 4, 6, 8, 10, 12, 14 or 16 bytes. `aad` has fewer
+    /// than 65,280 bytes, `b` fewer than 65,536. `EINVAL` exactly where byte 0 of the IV isn't 1 to 7, and then
+    /// `EBADMSG` exactly where the tag isn't the plaintext's: `b` is unchanged in both cases.
     pub fn unseal(&self, iv: &[u8; 16], aad: &[u8], b: &mut [u8], tag: &[u8]) -> Result<(), Errno>
         requires aad_short { length aad.now < 65280 }
         requires text_short { length b.old < 65536 }
@@ -87,7 +92,7 @@ impl<C: BlockCipher + Drop> Ccm<C> {
         }
         self.apply(iv, b);
         let full = self.full_tag(iv, tag.len(), aad, b);
-        if &full[..tag.len()] != tag {
+        if tags_differ(&full, tag) {
             // back to the ciphertext: what no tag vouches for isn't given out
             self.apply(iv, b);
             return Err(Errno::EBADMSG);

@@ -9,19 +9,19 @@ use aes_block::BlockCipher;
 use std::marker::Model;
 use std_defs::{block_bytes, block_number};
 
-/// The block moved left by one bit, and the constant added where a 1 falls out (6.1).
-#[tactic(auto, unfolding(std_defs::specs::Cmac::doubled))]
+/// The block moved left by one bit, and the constant added where a 1 falls out (6.1). Both cases take the same steps,
+/// since the block tells of the key.
 fn double(block: u128) -> u128
     ensures { result ≡ doubled block }
 {
-    if block < 0x8000_0000_0000_0000_0000_0000_0000_0000 {
-        block * 2
-    } else {
-        (block << 1) ^ 0x87
-    }
+    (block << 1) ^ (0x87 * (block >> 127))
 }
 
 /// CMAC under a key, seen as its block cipher.
+///
+/// The key is for this alone. The front of a MAC may serve as a tag: a guess at n bytes is right once in 256^n tries,
+/// so take 8 or more (SP 800-38B, appendix A), and compare them by `tags_differ`. Take a new key after 2^48 texts at
+/// most (appendix B). A MAC says nothing of order: against a text that is sent again put a number into it (appendix C).
 #[derive(Drop)]
 pub struct Cmac<C: BlockCipher + Drop> {
     cipher: C,

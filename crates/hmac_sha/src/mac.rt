@@ -29,8 +29,12 @@ fn hasher_of(block: &[u8; 64], pad: u8) -> Sha256
     hasher
 }
 
-/// A key of HMAC (FIPS 198-1, 4) of any length, seen as a block of 64 bytes (K0). Both hashers have taken their padded block already, so a MAC hashes
-/// no block of the key again.
+/// A key of HMAC (FIPS 198-1, 4) of any length, seen as a block of 64 bytes (K0). Both hashers have taken their padded
+/// block already, so a MAC hashes no block of the key again.
+///
+/// Draw a key of 32 bytes at random; a shorter one is worth no more than its guess. The front of a MAC may serve as a
+/// tag: a guess at n bytes is right once in 256^n tries, so take 12 or more, and compare them by `tags_differ` of
+/// `aes_block`. A MAC says nothing of order: against a text that is sent again put a number into it.
 #[derive(Drop)]
 pub struct Mac {
     block: [u8; 64],
@@ -65,7 +69,7 @@ impl Mac {
         }
     }
 
-    /// The whole MAC of the two pieces as one message. It takes no memory.
+    /// The whole MAC, of 32 bytes, of the two pieces as one message: where they meet isn't covered. It takes no memory.
     pub fn mac(&self, first: &[u8], second: &[u8]) -> [u8; 32]
         ensures { result ≡ hmac_under self.now (first.now ++ second.now) }
     {
@@ -76,7 +80,7 @@ impl Mac {
         self.finish(inner)
     }
 
-    /// The whole MAC of the piece and the text behind it as one message. It takes no memory.
+    /// The whole MAC, of 32 bytes, of the piece and the text behind it as one message. It takes no memory.
     pub fn mac_segs(&self, first: &[u8], second: &Segs) -> [u8; 32]
         ensures { result ≡ hmac_under self.now (first.now ++ second.now.text) }
     {

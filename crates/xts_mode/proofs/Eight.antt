@@ -1,7 +1,7 @@
 -- Eight blocks that are made one after the other.
-use Rattle.std.proofs.Common.{◌≡◌, ◌≢◌, ℕ, ◌+◌, ◌<◌, ◌≤◌, ◌∙◌, ap, ap₂, arith, List, [], length, map, slice_index_or, zero-add, set, get_or-set_other, get_or-set_same, below_more, length-set}
+use Rattle.std.proofs.Common.{◌≡◌, ◌≢◌, ℕ, ◌+◌, ◌<◌, ◌≤◌, ◌∙◌, ap, ap₂, arith, List, [], length, map, take, length-take, sym, get_or, slice_index_or, zero-add, set, get_or-set_other, get_or-set_same, below_more, length-set}
 use Rattle.std.specs.List.{range_with_len}
-use Rattle.std.proofs.lemmas.List.{get_or-map}
+use Rattle.std.proofs.lemmas.List.{get_or-map, get_or-take}
 use Rattle.std.proofs.lemmas.List.FromFn.{fill_by_all, get_or-map-range_with_len, length-map-range_with_len}
 use Rattle.std_defs.specs.Blocks.{xor_blocks, text_block, joined}
 use Rattle.std_defs.specs.Xts.{times_alpha_power, xts_block, xts_blocks}
@@ -43,3 +43,17 @@ eight_turned f first text masks masked turned is_masks is_masked is_turned =
     ap₂ xor_blocks
     (ap (λ (v : List (List ℕ)). slice_index_or v j []) is_turned ∙ get_or-map f masked j [] [] (omega arith)
     ∙ ap f (block ∙ ap (xor_blocks (text_block text j)) mask)) mask)
+
+-- the first blocks of eight, each added to its mask, turned and added again
+pub some_turned : (f : List ℕ → List ℕ) (first text : List ℕ) (count : ℕ) (masks masked turned : List (List ℕ)) → count ≤ 8 → length masked ≡ 8
+    → ((j : ℕ) → j < count → slice_index_or masks j [] ≡ times_alpha_power first j)
+    → ((j : ℕ) → j < count → slice_index_or masked j [] ≡ xor_blocks (text_block text j) (slice_index_or masks j [])) → take count turned ≡ map f (take count masked)
+    → joined (λ j. xor_blocks (slice_index_or turned j []) (slice_index_or masks j [])) count ≡ xts_blocks (xts_block f first) text count
+unfolding xts_block
+some_turned f first text count masks masked turned few long is_masks is_masked is_turned =
+    joined_same (λ j. xor_blocks (slice_index_or turned j []) (slice_index_or masks j [])) (λ j. xts_block f first j (text_block text j)) count
+    (λ j below.
+    ap₂ xor_blocks
+    (sym (get_or-take count turned j [] below) ∙ ap (λ (v : List (List ℕ)). get_or v j []) is_turned
+    ∙ get_or-map f (take count masked) j [] [] (omega (arith, length-take count masked))
+    ∙ ap f (get_or-take count masked j [] below ∙ is_masked j below ∙ ap (xor_blocks (text_block text j)) (is_masks j below))) (is_masks j below))

@@ -1,5 +1,5 @@
 -- A data unit of which the first blocks are made, and its end.
-use Rattle.std.proofs.Common.{◌≡◌, ℕ, zero, suc, ◌+◌, ◌*◌, ◌<◌, ◌≤◌, refl, sym, ap, ap₂, ◌∙◌, arith, List, ◌++◌, length, take, drop, add-zero, add-suc, length-append, length-drop}
+use Rattle.std.proofs.Common.{◌≡◌, ℕ, zero, suc, ◌+◌, ◌-◌, ◌*◌, ◌/◌, ◌<◌, ◌≤◌, refl, sym, ap, ap₂, ◌∙◌, arith, List, ◌++◌, length, take, drop, add-zero, add-suc, length-append, length-drop, length-take}
 use Rattle.std.proofs.lemmas.List.{take_all, drop_all, append-nil}
 use borrow.Rule.Slice.PartMut.{put_mid}
 use Rattle.std_defs.specs.Blocks.{xor_blocks, text_block, joined}
@@ -66,6 +66,20 @@ pub made_all : (f : List ℕ → List ℕ) (first orig text tweak : List ℕ) (n
 made_all f first orig text tweak n k m at all =
     m.made ∙ ap (λ (t : List ℕ). xts_blocks (xts_block f first) orig n ++ t) (drop_all (16 * n) orig all)
     ∙ append-nil (xts_blocks (xts_block f first) orig n) ∙ ap (xts_blocks (xts_block f first) orig) at
+
+-- the rest of a text is made in its place
+pub made_rest : (f : List ℕ → List ℕ) (first orig text tweak : List ℕ) (n a w count : ℕ) (piece tweak' : List ℕ) → Made f first orig text tweak n
+    → a ≡ 16 * n → length text ≡ length orig → w ≡ length text - a → length orig ≡ 16 * count
+    → piece ≡ xts_blocks (xts_block f tweak) (take w (drop a text)) (length (take w (drop a text)) / 16)
+    → tweak' ≡ times_alpha_power tweak (length (take w (drop a text)) / 16)
+    → (put_mid a w text piece ≡ xts_blocks (xts_block f first) orig count) × (tweak' ≡ times_alpha_power first count)
+made_rest f first orig text tweak n a w count piece tweak' done at long wide whole made on =
+    let k : ℕ = length (take w (drop a text)) / 16 in
+    let cut : length (take w (drop a text)) ≡ w = omega (arith, length-take w (drop a text), length-drop a text) in
+    let count_is : n + k ≡ count = omega (arith, done.within) in
+    let more : Made f first orig (put_mid a w text piece) tweak' (n + k) =
+    made_more f first orig text tweak n k (n + k) a w piece tweak' done at (omega (arith, done.within)) refl (omega arith) made on in
+    (made_all f first orig (put_mid a w text piece) tweak' (n + k) count more count_is (omega arith), more.place ∙ ap (times_alpha_power first) count_is)
 
 pub power_one : (t : List ℕ) → times_alpha t ≡ times_alpha_power t 1
 unfolding times_alpha_power

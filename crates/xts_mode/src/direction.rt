@@ -1,6 +1,6 @@
 //! The two directions of a block cipher.
 
-ghost use Rattle.std.specs.Prelude.{◌≡◌, ℕ, List, map};
+ghost use Rattle.std.specs.Prelude.{◌≡◌, ◌≤◌, ℕ, List, map, take};
 
 use aes_block::BlockCipher;
 
@@ -13,6 +13,11 @@ pub(crate) trait Direction {
 
     fn turn_eight(&self, b: &mut [[u8; 16]; 8])
         ensures { b.new ≡ map (turned self.now) b.old };
+
+    /// Turns the first `count` of eight blocks. The others may change.
+    fn turn_some(&self, b: &mut [[u8; 16]; 8], count: usize)
+        requires { count ≤ 8 }
+        ensures { take count b.new ≡ map (turned self.now) (take count b.old) };
 }
 
 /// The forward cipher function.
@@ -31,6 +36,10 @@ impl<'a, C: BlockCipher> Direction for Sealing<'a, C> {
     fn turn_eight(&self, b: &mut [[u8; 16]; 8]) {
         self.cipher.seal_eight(b);
     }
+
+    fn turn_some(&self, b: &mut [[u8; 16]; 8], count: usize) {
+        self.cipher.seal_some(b, count);
+    }
 }
 
 /// The inverse cipher function.
@@ -48,5 +57,9 @@ impl<'a, C: BlockCipher> Direction for Unsealing<'a, C> {
 
     fn turn_eight(&self, b: &mut [[u8; 16]; 8]) {
         self.cipher.unseal_eight(b);
+    }
+
+    fn turn_some(&self, b: &mut [[u8; 16]; 8], count: usize) {
+        self.cipher.unseal_some(b, count);
     }
 }

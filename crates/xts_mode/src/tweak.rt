@@ -1,6 +1,6 @@
 //! Tweaks: blocks of the field of 2^128 elements (5.2).
 
-ghost use Rattle.std.specs.Prelude.{◌≡◌, length, map};
+ghost use Rattle.std.specs.Prelude.{◌≡◌, ◌<◌, ◌≤◌, ℕ, [], length, map, slice_index_or};
 ghost use Rattle.std.specs.List.{range_with_len};
 ghost use Rattle.std_defs.specs.Xts.{times_alpha, times_alpha_power};
 
@@ -72,5 +72,20 @@ impl Tweak {
             *self = self.next();
         }
         eight
+    }
+
+    /// The blocks of this place and of those after it, `count` in all, and blocks of no meaning behind them. The tweak
+    /// becomes that of the place behind these.
+    pub(crate) fn take_some(&mut self, count: usize) -> [[u8; 16]; 8]
+        requires { count ≤ 8 }
+        ensures blocks { (j : ℕ) → j < count → slice_index_or result j [] ≡ times_alpha_power self.old j }
+        ensures tweak { self.new ≡ times_alpha_power self.old count }
+    {
+        let mut some = [[0u8; 16]; 8];
+        for j in 0..count {
+            some[j] = self.block();
+            *self = self.next();
+        }
+        some
     }
 }

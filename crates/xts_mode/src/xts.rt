@@ -18,8 +18,13 @@ fn is_data_unit(text: &[u8]) -> bool
     text.len() >= 16
 }
 
-/// XTS under two keys, seen as the cipher of Key1, for the data, and that of Key2, for the tweaks. An IV is a tweak value
-/// of 16 bytes, the lowest first; a text is a data unit of 16 bytes or more.
+/// XTS under two keys, seen as the cipher of Key1, for the data, and that of Key2, for the tweaks. An IV is a tweak
+/// value of 16 bytes, the lowest first; a text is a data unit of 16 bytes or more.
+///
+/// The two keys differ, each place of a store has a tweak value of its own, and a data unit has at most 2^20 blocks, so
+/// 16 MiB (SP 800-38E, 4). A place that is written again under the same keys keeps its tweak value, and who sees both
+/// ciphertexts learns which blocks changed. No tag is made: a changed or an old ciphertext block opens to some text,
+/// and nobody sees it. So it is for stores whose sectors have no room for a tag, and not for packets.
 #[derive(Drop)]
 pub struct Xts<C: BlockCipher + Drop> {
     body: C,

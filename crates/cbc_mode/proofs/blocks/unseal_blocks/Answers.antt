@@ -28,6 +28,6 @@ returns g c =
     rw (← at) c.loop-i.invariant in
     let piece : List ℕ = take m (drop a c.loop-i.text) in
     let count : length piece / 16 ≡ m / 16 = ap (λ (n : ℕ). n / 16) (piece_long c.loop-i.text a m (omega (arith, c.loop-i.auto.text))) in
-    opened_all (g.C.BlockCipher.unsealed c.args.cipher.now) c.args.iv.now c.args.text.now c.loop-i.text c.loop-i.before _ c.unseal_each.new.text a k (m / 16) m
-    o (omega arith) (omega (arith, c.requires, c.loop-i.auto.text)) (omega (arith, c.loop-i.auto.text)) refl (c.unseal_each.ensures ∙ ap (joined (cbc_plain_block (g.C.BlockCipher.unsealed c.args.cipher.now) c.loop-i.before piece)) count)
+    opened_all (g.C.BlockCipher.unsealed c.args.cipher.now) c.args.iv.now c.args.text.now c.loop-i.text c.loop-i.before _ c.unseal_some.new.text a k (m / 16) m
+    o (omega arith) (omega (arith, c.requires, c.loop-i.auto.text)) (omega (arith, c.loop-i.auto.text)) refl (c.unseal_some.ensures ∙ ap (joined (cbc_plain_block (g.C.BlockCipher.unsealed c.args.cipher.now) c.loop-i.before piece)) count)
     (omega (arith, c.requires, c.loop-i.auto.text))

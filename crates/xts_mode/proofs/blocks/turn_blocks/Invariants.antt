@@ -4,6 +4,3 @@ use Rattle.xts_mode.proofs.blocks.turn_blocks.Given as goal
 
 abbrev pub invariant-loop-i : goal.invariant-loop-i
 invariant-loop-i g l = Made (g.D.Direction.turned l.direction) l.fn.tweak l.fn.text l.text l.tweak (8 * l.i)
-
-abbrev pub invariant-loop-i-2 : goal.invariant-loop-i-2
-invariant-loop-i-2 g l = Made (g.D.Direction.turned l.direction) l.fn.tweak l.fn.text l.text l.tweak l.i

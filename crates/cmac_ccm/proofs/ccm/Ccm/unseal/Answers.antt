@@ -10,19 +10,19 @@ returns-then-not-takes_iv g c = (
   refl,
 )
 
-pub returns-then-ne : goal.returns-then-ne
-returns-then-ne g c =
+pub returns-then-tags_differ : goal.returns-then-tags_differ
+returns-then-tags_differ g c =
     let f = g.C.BlockCipher.sealed c.args.self.now in (
       inl (
         refl,
         wrong_tag f c.args.iv.now c.args.aad.now c.args.b.now c.args.tag.now c.full_tag-full.result c.apply.new.text (sym c.takes_iv.ensures ∙ c.if-not-takes_iv.false)
-            c.apply.ensures c.full_tag-full.ensures (not-true (bytes_eq (take (length c.args.tag.now) c.full_tag-full.result) c.args.tag.now) (sym c.ne.ensures ∙ c.if-ne.true)),
+            c.apply.ensures c.full_tag-full.ensures (not-true (bytes_eq (take (length c.args.tag.now) c.full_tag-full.result) c.args.tag.now) (sym c.tags_differ.ensures ∙ c.if-tags_differ.true)),
       ),
-      c.apply-then-ne.ensures ∙ ap (ccm_text f c.args.iv.now) c.apply.ensures ∙ text-twice f c.args.iv.now c.args.aad.now c.args.b.now,
+      c.apply-then-tags_differ.ensures ∙ ap (ccm_text f c.args.iv.now) c.apply.ensures ∙ text-twice f c.args.iv.now c.args.aad.now c.args.b.now,
     )
 
 pub returns : goal.returns
 returns g c =
     let f = g.C.BlockCipher.sealed c.args.self.now in
     right_tag f c.args.iv.now c.args.aad.now c.args.b.now c.args.tag.now c.full_tag-full.result c.apply.new.text (sym c.takes_iv.ensures ∙ c.if-not-takes_iv.false)
-    c.apply.ensures c.full_tag-full.ensures (not-false (bytes_eq (take (length c.args.tag.now) c.full_tag-full.result) c.args.tag.now) (sym c.ne.ensures ∙ c.if-ne.false))
+    c.apply.ensures c.full_tag-full.ensures (not-false (bytes_eq (take (length c.args.tag.now) c.full_tag-full.result) c.args.tag.now) (sym c.tags_differ.ensures ∙ c.if-tags_differ.false))
