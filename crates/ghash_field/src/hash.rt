@@ -14,7 +14,11 @@ pub fn absorb<K: GhashKey>(key: &K, y: u128, bytes: &[u8]) -> u128
         result ≡ bit_xor (field_product y (field_power h (length blocks))) (ghash h blocks) }
 {
     let mut y = y;
-    for i in 0..bytes.len().div_ceil(16) {
+    let eights = bytes.len() / 128;
+    for i in 0..eights {
+        y = key.absorb_eight(y, &bytes[128 * i..128 * i + 128]);
+    }
+    for i in 8 * eights..bytes.len().div_ceil(16) {
         y = key.product(y ^ block_at(bytes, i));
     }
     y

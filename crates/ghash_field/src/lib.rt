@@ -3,13 +3,17 @@
 
 mod bit_ghash;
 mod block;
+mod byte_rows;
+mod carrying;
 mod hash;
 mod key;
-mod nibble_ghash;
+mod lane_ghash;
+mod multiples;
 mod product;
+mod transposition;
 
 pub use bit_ghash::BitGhash;
 pub use hash::absorb;
 pub use key::GhashKey;
-pub use nibble_ghash::NibbleGhash;
+pub use lane_ghash::LaneGhash;
 pub use product::multiply;
