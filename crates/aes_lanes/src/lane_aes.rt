@@ -4,17 +4,21 @@ ghost use Rattle.std.specs.Prelude.{◌≡◌, MatchResult, length};
 ghost use Rattle.std_defs.specs.Aes.{IsKeyLength};
 
 use crate::lane_schedule::LaneSchedule;
+use crate::lane_words::ByLanes;
 use crate::pairs::{first_of, joined, paired, parted};
 use crate::round_keys::round_keys;
 use crate::row_keys::{sealing_keys, unsealing_keys};
 use crate::tower_keys::tower_keys;
-use aes_block::{BlockCipher, expand_key};
+use aes_block::{BlockCipher, expand_key_by};
 use kc_base::Errno;
 use std::marker::Model;
 use std::simd::prelude::*;
 
-/// AES (FIPS 197, 5.1 and 5.3) under a key of 16, 24 or 32 bytes, with the key's whole schedule in vectors. Sealing and
-/// unsealing read no table at a place that the key or a text chooses; the key schedule does. Contracts see the key.
+/// From so many blocks on eight at once take no longer than one after another.
+const WORTH_EIGHT: usize = 3;
+
+/// AES (FIPS 197, 5.1 and 5.3) under a key of 16, 24 or 32 bytes, with the key's whole schedule in vectors. No table is
+/// read at a place that the key or a text chooses. Contracts see the key.
 #[derive(Drop)]
 pub struct LaneAes {
     schedule: LaneSchedule,
@@ -39,7 +43,7 @@ impl LaneAes {
         if !matches!(key.len(), 16 | 24 | 32) {
             return Err(Errno::EINVAL);
         }
-        let keys = round_keys(&expand_key(key));
+        let keys = round_keys(&expand_key_by::<ByLanes>(key));
         Ok(LaneAes {
             schedule: LaneSchedule {
                 rounds: key.len() / 4 + 6,
@@ -74,7 +78,27 @@ impl BlockCipher for LaneAes {
         *b = parted(self.schedule.seal_four(paired(b)));
     }
 
+    fn seal_some(&self, b: &mut [[u8; 16]; 8], count: usize) {
+        if count < WORTH_EIGHT {
+            for j in 0..count {
+                self.seal_block(&mut b[j]);
+            }
+        } else {
+            self.seal_eight(b);
+        }
+    }
+
     fn unseal_eight(&self, b: &mut [[u8; 16]; 8]) {
         *b = parted(self.schedule.unseal_four(paired(b)));
+    }
+
+    fn unseal_some(&self, b: &mut [[u8; 16]; 8], count: usize) {
+        if count < WORTH_EIGHT {
+            for j in 0..count {
+                self.unseal_block(&mut b[j]);
+            }
+        } else {
+            self.unseal_eight(b);
+        }
     }
 }

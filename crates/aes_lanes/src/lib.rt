@@ -5,6 +5,7 @@
 mod columns;
 mod lane_aes;
 mod lane_schedule;
+mod lane_words;
 mod lookup;
 mod one_block;
 mod pairs;

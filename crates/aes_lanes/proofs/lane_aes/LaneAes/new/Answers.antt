@@ -14,10 +14,10 @@ invariant_of-result c =
     let h : IsKeyLength (length k) = search rules in
     let some : 0 < key_words k = ⊎_elim (λ a. omega arith) (λ o. ⊎_elim (λ a. omega arith) (λ a. omega arith) o) h in
     let within : 4 * (rounds k + 1) ≤ 60 = ⊎_elim (λ a. omega arith) (λ o. ⊎_elim (λ a. omega arith) (λ a. omega arith) o) h in
-    let front : take (4 * (rounds k + 1)) (sixty_words c.expand_key.result) ≡ words k (4 * (rounds k + 1)) = front_is k c.expand_key.result (4 * (rounds k + 1)) some within c.expand_key.ensures in
+    let front : take (4 * (rounds k + 1)) (sixty_words c.expand_key_by.result) ≡ words k (4 * (rounds k + 1)) = front_is k c.expand_key_by.result (4 * (rounds k + 1)) some within c.expand_key_by.ensures in
     record {
       scheduled = subst (IsSchedule (length k / 4 + 6)) (sym c.round_keys-keys.ensures.schedule)
-          (is_schedule k (sixty_words c.expand_key.result) (h, λ i d l. omega (arith, get_or_default k i d 0 l, c.type_inv.key i)) front);
+          (is_schedule k (sixty_words c.expand_key_by.result) (h, λ i d l. omega (arith, get_or_default k i d 0 l, c.type_inv.key i)) front);
       twice = c.round_keys-keys.ensures.twice;
       in_tower = c.tower_keys.ensures;
       sealing = c.sealing_keys.ensures;
@@ -30,5 +30,5 @@ returns c =
     let h : IsKeyLength (length k) = search rules in
     let some : 0 < key_words k = ⊎_elim (λ a. omega arith) (λ o. ⊎_elim (λ a. omega arith) (λ a. omega arith) o) h in
     let within : 4 * (rounds k + 1) ≤ 60 = ⊎_elim (λ a. omega arith) (λ o. ⊎_elim (λ a. omega arith) (λ a. omega arith) o) h in
-    let front : take (4 * (rounds k + 1)) (sixty_words c.expand_key.result) ≡ words k (4 * (rounds k + 1)) = front_is k c.expand_key.result (4 * (rounds k + 1)) some within c.expand_key.ensures in
-    (h, ap (key_of (length k / 4 + 6)) c.round_keys-keys.ensures.schedule ∙ key_is k (sixty_words c.expand_key.result) h front)
+    let front : take (4 * (rounds k + 1)) (sixty_words c.expand_key_by.result) ≡ words k (4 * (rounds k + 1)) = front_is k c.expand_key_by.result (4 * (rounds k + 1)) some within c.expand_key_by.ensures in
+    (h, ap (key_of (length k / 4 + 6)) c.round_keys-keys.ensures.schedule ∙ key_is k (sixty_words c.expand_key_by.result) h front)
