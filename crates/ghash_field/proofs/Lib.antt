@@ -6,3 +6,4 @@ pub mod BlockLanes
 pub mod LaneRows
 pub mod EightBlocks
 pub mod Transposed
+pub mod LastBlocks

@@ -13,7 +13,7 @@ mod product;
 mod transposition;
 
 pub use bit_ghash::BitGhash;
-pub use hash::absorb;
+pub use hash::{absorb, ghash_of};
 pub use key::GhashKey;
 pub use lane_ghash::LaneGhash;
 pub use product::multiply;
