@@ -1,14 +1,14 @@
 -- a text that is changed piece by piece, and a stream that goes on
-use Rattle.std.specs.Prelude.{◌≡◌, ℕ, ◌+◌, ◌-◌, ◌/◌, ◌%◌, ◌<◌, ◌≤◌, List, [], length, map, take, drop, slice_index, slice_index_or, bit_xor, refl}
+use Rattle.std.specs.Prelude.{◌≡◌, ℕ, ◌+◌, ◌-◌, ◌*◌, ◌/◌, ◌%◌, ◌<◌, ◌≤◌, List, [], length, map, take, drop, slice_index, slice_index_or, bit_xor, refl}
 use Rattle.std.specs.List.{range_with_len}
 use Rattle.std.proofs.Common.{sym, ◌∙◌, ap, ap₂, arith, rules, get_or, ⊎_elim, zero-add, subst, ◌++◌}
 use Rattle.std.proofs.lemmas.Bool.{cases_lt}
 use Rattle.std.proofs.lemmas.Grind.{common_steps}
-use Rattle.std.proofs.lemmas.List.{places, get_or-map, get_or_append_left, get_or-append_right, length-append}
+use Rattle.std.proofs.lemmas.List.{places, get_or-map, get_or-take, get_or-drop, get_or_append_left, get_or-append_right, length-append, length-take}
 use Rattle.std.proofs.lemmas.List.FromFn.{fill_by_all, get_or-map-range_with_len, length-map-range_with_len}
 use borrow.Rule.Slice.PartMut.{put_mid}
 use Rattle.std_defs.specs.Blocks.{with_stream}
-use Rattle.ctr_mode.specs.Streams.{with_bytes, key_byte, IsOn}
+use Rattle.ctr_mode.specs.Streams.{with_bytes, key_byte, IsOn, AreFirst}
 
 -- ---- a piece of a text
 
@@ -159,6 +159,26 @@ eight_blocks sealed row used rows blocks text new start is e d long made =
     (ap (λ (v : List (List ℕ)). slice_index_or v (k / 16) []) d ∙ get_or-map sealed rows (k / 16) [] [] (omega arith)
     ∙ ap sealed (ap (λ (v : List (List ℕ)). slice_index_or v (k / 16) []) e ∙ get_or-map-range_with_len row 0 8 (k / 16) (k / 16) [] below (zero-add (k / 16)) ∙ ap row row_at)) place))
 
+-- of eight blocks the first ones are sealed
+pub some_sealed : (sealed : List ℕ → List ℕ) (row : ℕ → List ℕ) (rows blocks : List (List ℕ)) (count j : ℕ) → rows ≡ map row (range_with_len 0 8)
+    → take count blocks ≡ map sealed (take count rows) → count ≤ 8 → j < count → get_or blocks j [] ≡ sealed (row j)
+some_sealed sealed row rows blocks count j e d within below =
+    let eight : length rows ≡ 8 = ap length e ∙ length-map-range_with_len row 0 8 in
+    sym (get_or-take count blocks j [] below)
+    ∙ ap (λ (v : List (List ℕ)). get_or v j []) d
+    ∙ get_or-map sealed (take count rows) j [] [] (omega (arith, length-take count rows))
+    ∙ ap sealed (get_or-take count rows j [] below ∙ ap (λ (v : List (List ℕ)). get_or v j []) e ∙ get_or-map-range_with_len row 0 8 j j [] (omega arith) (zero-add j))
+
+pub some_blocks : (sealed : List ℕ → List ℕ) (row : ℕ → List ℕ) (used count : ℕ) (rows blocks : List (List ℕ)) (text new : List ℕ) → used ≡ 0 → length text ≤ 16 * count → count ≤ 8
+    → rows ≡ map row (range_with_len 0 8) → take count blocks ≡ map sealed (take count rows) → length new ≡ length text
+    → ((k : ℕ) → k < length text → slice_index new k ≡ bit_xor (slice_index text k) (slice_index (slice_index_or blocks (k / 16) []) (k % 16))) → new ≡ with_bytes (key_byte sealed row used) text
+some_blocks sealed row used count rows blocks text new start room within e d long made =
+    with_bytes_is (key_byte sealed row used) text new long (λ k h.
+    let row_at : k / 16 ≡ (used + k) / 16 = omega arith in
+    let place : k % 16 ≡ (used + k) % 16 = omega arith in
+    made k h ∙ ap (bit_xor (slice_index text k))
+    (ap₂ (λ (v : List ℕ) (i : ℕ). slice_index v i) (some_sealed sealed row rows blocks count (k / 16) e d within (omega arith) ∙ ap sealed (ap row row_at)) place))
+
 pub no_bytes : (stream : ℕ → ℕ) (text : List ℕ) → length text ≡ 0 → text ≡ with_bytes stream text
 no_bytes stream text h = with_bytes_is stream text text refl (λ k l. absurd (omega arith))
 
@@ -187,3 +207,42 @@ with_bytes-append stream stream' xs ys e =
     ∙ with_bytes-at stream' ys (k - length xs) (omega (arith, length-append xs ys))
     ∙ ap₂ bit_xor (sym (get_or-append_right xs ys (length xs) k 0 refl l)) (e (k - length xs) ∙ ap stream place))
     (cases_lt k (length xs))))
+
+-- ---- the ciphers behind the first
+
+-- the front of a text under those that stand ready, and its rest under the row behind them
+pub behind_first : (sealed : List ℕ → List ℕ) (block behind : ℕ → List ℕ) (ciphers others : List (List ℕ)) (text front rest : List ℕ) (m k : ℕ)
+    → m ≤ 112 → m + k ≡ length text → (0 < k → m ≡ 112) → others ≡ take 7 (drop 1 ciphers)
+    → ((j : ℕ) → behind j ≡ block (j + 8)) → AreFirst sealed block (length text) ciphers → length front ≡ m
+    → ((i : ℕ) → i < m → slice_index front i ≡ bit_xor (slice_index (take m text) i) (slice_index (slice_index_or others (i / 16) []) (i % 16)))
+    → rest ≡ with_stream (λ n. sealed (behind n)) (take k (drop m (front ++ drop m text)))
+    → put_mid m k (front ++ drop m text) rest ≡ with_stream (λ n. sealed (block (n + 1))) text
+behind_first sealed block behind ciphers others text front rest m k near whole full is_others on ready long made is_rest =
+    let stream : ℕ → ℕ = key_byte sealed (λ n. block (n + 1)) 0 in
+    let half : List ℕ = front ++ drop m text in
+    let none : 0 + m ≡ m = zero-add m in
+    let begun : Xored stream text (put_mid 0 m text front) (0 + m) =
+    xored_more stream text text front 0 m (omega arith) long
+    (λ j h.
+    let row : 1 + j / 16 ≡ (0 + (0 + j)) / 16 + 1 = omega arith in
+    let place : j % 16 ≡ (0 + (0 + j)) % 16 = omega arith in
+    made j h ∙ ap (bit_xor (slice_index (take m text) j))
+    (ap₂ (λ (v : List ℕ) (i : ℕ). slice_index v i)
+    (ap (λ (v : List (List ℕ)). get_or v (j / 16) []) is_others ∙ get_or-take 7 (drop 1 ciphers) (j / 16) [] (omega arith) ∙ get_or-drop 1 ciphers (j / 16) []
+    ∙ ready (1 + j / 16) (omega arith) (omega arith) ∙ ap sealed (ap block row)) place))
+    (xored_none stream text) in
+    let first : Xored stream text half m =
+    subst (Xored stream text half) none (subst (λ (t : List ℕ). Xored stream text t (0 + m)) (front_mid text front m (omega arith) long) begun) in
+    let piece : List ℕ = take k (drop m half) in
+    let piece_long : length piece ≡ k = piece-length half m k (omega (arith, first.long)) in
+    let made_rest : rest ≡ with_bytes (key_byte sealed behind 0) piece = is_rest ∙ sym (from_start sealed behind piece) in
+    let both : Xored stream text (put_mid m k half rest) (m + k) =
+    xored_more stream text half rest m k (omega (arith, first.long)) (ap length made_rest ∙ length-with_bytes (key_byte sealed behind 0) piece ∙ piece_long)
+    (λ j h.
+    let at : m ≡ 112 = full (omega arith) in
+    let row : (0 + j) / 16 + 8 ≡ (0 + (m + j)) / 16 + 1 = omega arith in
+    let place : (0 + j) % 16 ≡ (0 + (m + j)) % 16 = omega arith in
+    ap (λ (v : List ℕ). get_or v j 0) made_rest ∙ with_bytes-at (key_byte sealed behind 0) piece j (omega arith)
+    ∙ ap (bit_xor (get_or piece j 0)) (ap₂ (λ (b : List ℕ) (i : ℕ). slice_index (sealed b) i) (on ((0 + j) / 16) ∙ ap block row) place))
+    first in
+    xored_all stream text _ (m + k) both (omega arith) ∙ from_start sealed (λ n. block (n + 1)) text

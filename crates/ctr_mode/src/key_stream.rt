@@ -1,9 +1,9 @@
 //! Key streams: the ciphers of a row of counter blocks, over a text or over its pieces.
 
-ghost use Rattle.std.specs.Prelude.{◌≡◌, ◌+◌, ◌/◌, ◌%◌, ◌<◌, ◌≤◌, ℕ, List, length, map, slice_index, slice_index_or, bit_xor, []};
+ghost use Rattle.std.specs.Prelude.{◌≡◌, ◌+◌, ◌*◌, ◌/◌, ◌%◌, ◌<◌, ◌≤◌, ℕ, List, length, map, slice_index, slice_index_or, bit_xor, []};
 ghost use Rattle.std.specs.List.{range_with_len};
 ghost use Rattle.std_defs.specs.Blocks.{with_stream};
-ghost use Rattle.ctr_mode.specs.Streams.{with_bytes, key_byte, IsOn};
+ghost use Rattle.ctr_mode.specs.Streams.{with_bytes, key_byte, IsOn, AreFirst};
 
 use aes_block::{BlockCipher, xor_block};
 use std::marker::Model;
@@ -75,13 +75,11 @@ impl<B: CounterBlocks> KeyStream<B> {
             self.apply_eight(cipher, &mut text[start..start + 128]);
         }
         let rest = front + 128 * eights;
-        let blocks = (text.len() - rest) / 16;
-        for i in 0..blocks {
-            let start = rest + 16 * i;
-            self.apply_within(cipher, &mut text[start..start + 16]);
+        if text.len() - rest <= 16 {
+            self.apply_within(cipher, &mut text[rest..]);
+        } else {
+            self.apply_some(cipher, &mut text[rest..]);
         }
-        let last = rest + 16 * blocks;
-        self.apply_within(cipher, &mut text[last..]);
     }
 
     /// Applies the stream to a piece that ends in the block in which the stream stands.
@@ -116,6 +114,20 @@ impl<B: CounterBlocks> KeyStream<B> {
         xor_eight(eight, &blocks);
         self.counters.skip(8);
     }
+
+    /// Applies the stream, which stands between two blocks, to at most eight blocks, of which the last may be partial.
+    fn apply_some<C: BlockCipher>(&mut self, cipher: &C, text: &mut [u8])
+        requires between { self.old.1 ≡ 0 }
+        requires short { length text.old ≤ 128 }
+        ensures text { text.new ≡ with_bytes (key_byte (C.sealed cipher.now) (B.block self.old.0) self.old.1) text.old }
+        ensures on { IsOn (B.block self.old.0) self.old.1 (length text.old) (B.block self.new.0) self.new.1 }
+    {
+        let mut blocks = self.counters.first_eight();
+        cipher.seal_some(&mut blocks, text.len().div_ceil(16));
+        xor_some(text, &blocks);
+        self.counters.skip((text.len() / 16) as u64);
+        self.used = text.len() % 16;
+    }
 }
 
 /// Xors each byte of the text with that of the same place.
@@ -135,6 +147,20 @@ fn xor_eight(text: &mut [u8], blocks: &[[u8; 16]; 8])
 {
     for j in 0..8usize {
         xor_block(&mut text[16 * j..16 * j + 16], &blocks[j]);
+    }
+}
+
+/// Xors blocks into a text of no more bytes than they have.
+fn xor_some(text: &mut [u8], blocks: &[[u8; 16]])
+    requires { length text.old ≤ 16 * length blocks.now }
+    ensures { (k : ℕ) → k < length text.old → slice_index text.new k ≡ bit_xor (slice_index text.old k) (slice_index (slice_index_or blocks.now (k / 16) []) (k % 16)) }
+{
+    let whole = text.len() / 16;
+    for j in 0..whole {
+        xor_block(&mut text[16 * j..16 * j + 16], &blocks[j]);
+    }
+    if text.len() % 16 != 0 {
+        xor_bytes(&mut text[16 * whole..], &blocks[whole]);
     }
 }
 
@@ -158,4 +184,36 @@ pub fn apply_key_stream<C: BlockCipher, B: CounterBlocks>(cipher: &C, counters: 
     ensures { text.new ≡ with_stream (λ n. C.sealed cipher.now (B.block counters n)) text.old }
 {
     KeyStream::new(counters).apply(cipher, text);
+}
+
+/// The ciphers of the first counter block and, up to seven, of those behind it that a text of `text_len` bytes takes, made at
+/// once. The first is the caller's own; `apply_behind_first` takes the others. What stands behind them has no meaning.
+pub fn first_ciphers<C: BlockCipher, B: CounterBlocks>(
+    cipher: &C,
+    counters: &B,
+    text_len: usize,
+) -> [[u8; 16]; 8]
+    ensures { AreFirst (C.sealed cipher.now) (B.block counters.now) text_len result }
+{
+    let mut blocks = counters.first_eight();
+    cipher.seal_some(&mut blocks, 1 + text_len.div_ceil(16).min(7));
+    blocks
+}
+
+/// Xors each byte of the text with that of the ciphers of the counter blocks from the second on. `first` is what
+/// `first_ciphers` gave for as long a text.
+pub fn apply_behind_first<C: BlockCipher, B: CounterBlocks>(
+    cipher: &C,
+    counters: B,
+    first: &[[u8; 16]; 8],
+    text: &mut [u8],
+)
+    requires { AreFirst (C.sealed cipher.now) (B.block counters) (length text.old) first.now }
+    ensures { text.new ≡ with_stream (λ n. C.sealed cipher.now (B.block counters (n + 1))) text.old }
+{
+    let front = text.len().min(112);
+    xor_some(&mut text[..front], &first[1..]);
+    let mut behind = counters;
+    behind.skip(8);
+    apply_key_stream(cipher, behind, &mut text[front..]);
 }

@@ -7,5 +7,7 @@ mod key_stream;
 mod rfc3686;
 
 pub use ctr::Ctr;
-pub use key_stream::{CounterBlocks, KeyStream, apply_in_two, apply_key_stream};
+pub use key_stream::{
+    CounterBlocks, KeyStream, apply_behind_first, apply_in_two, apply_key_stream, first_ciphers,
+};
 pub use rfc3686::Rfc3686;

@@ -18,25 +18,28 @@ loop-i-preserved g c =
     c.args.text.now c.loop-i.text c.apply_eight.new.eight a a (a + 128 - a) (c.min-front.result + 128 * (c.loop-i.i + 1)) (omega arith) (omega (arith, c.loop-i.auto.text)) (omega arith)
     c.apply_eight.ensures.text c.apply_eight.ensures.on c.loop-i.invariant
 
-pub loop-i-2-preserved : goal.loop-i-2-preserved
-loop-i-2-preserved g c =
-    let row = g.B.CounterBlocks.block in
-    let rest : ℕ = c.min-front.result + 128 * ((length (c.apply_within.new.piece ++ drop c.min-front.result c.args.text.now) - c.min-front.result) / 128) in
-    let a : ℕ = rest + 16 * c.loop-i-2.i in
-    applied_more (g.C.BlockCipher.sealed c.args.cipher.now) (row c.args.self.now.0) (row c.loop-i-2.self.0) (row c.apply_within-in-loop-i-2.new.self.0) c.args.self.now.1 c.loop-i-2.self.1 c.apply_within-in-loop-i-2.new.self.1
-    c.args.text.now c.loop-i-2.text c.apply_within-in-loop-i-2.new.piece a a (a + 16 - a) (rest + 16 * (c.loop-i-2.i + 1)) (omega arith) (omega (arith, c.loop-i.auto.text, c.loop-i-2.auto.text)) (omega arith)
-    c.apply_within-in-loop-i-2.ensures.text c.apply_within-in-loop-i-2.ensures.on c.loop-i-2.invariant
-
-pub returns-clause-text : goal.returns-clause-text
-returns-clause-text g c =
+pub returns-then-text-rest-le16-clause-text : goal.returns-then-text-rest-le16-clause-text
+returns-then-text-rest-le16-clause-text g c =
     let row = g.B.CounterBlocks.block in
     let sealed = g.C.BlockCipher.sealed c.args.cipher.now in
     let s = c.args.self.now in
     let rest : ℕ = c.min-front.result + 128 * ((length (c.apply_within.new.piece ++ drop c.min-front.result c.args.text.now) - c.min-front.result) / 128) in
-    let last : ℕ = rest + 16 * ((length c.loop-i.text - rest) / 16) in
-    let from : ℕ = rest + 16 * c.loop-i-2.i in
-    let all = applied_more sealed (row s.0) (row c.loop-i-2.self.0) (row c.apply_within-2.new.self.0) s.1 c.loop-i-2.self.1 c.apply_within-2.new.self.1
-    c.args.text.now c.loop-i-2.text c.apply_within-2.new.piece from last (length c.loop-i-2.text - last) (length c.loop-i-2.text)
-    (omega (arith, c.loop-i.auto.text, c.loop-i-2.auto.text)) (omega (arith, c.loop-i.auto.text, c.loop-i-2.auto.text)) (omega (arith, c.loop-i.auto.text, c.loop-i-2.auto.text))
-    c.apply_within-2.ensures.text c.apply_within-2.ensures.on c.loop-i-2.invariant in
-    xored_all (key_byte sealed (row s.0) s.1) c.args.text.now _ (length c.loop-i-2.text) all.xored (omega (arith, c.loop-i-2.invariant.xored.long))
+    let from : ℕ = c.min-front.result + 128 * c.loop-i.i in
+    let all = applied_more sealed (row s.0) (row c.loop-i.self.0) (row c.apply_within-then-text-rest-le16.new.self.0) s.1 c.loop-i.self.1 c.apply_within-then-text-rest-le16.new.self.1
+    c.args.text.now c.loop-i.text c.apply_within-then-text-rest-le16.new.piece from rest (length c.loop-i.text - rest) (length c.loop-i.text)
+    (omega (arith, c.loop-i.auto.text)) (omega (arith, c.loop-i.auto.text)) (omega (arith, c.loop-i.auto.text))
+    c.apply_within-then-text-rest-le16.ensures.text c.apply_within-then-text-rest-le16.ensures.on c.loop-i.invariant in
+    xored_all (key_byte sealed (row s.0) s.1) c.args.text.now _ (length c.loop-i.text) all.xored (omega (arith, c.loop-i.invariant.xored.long))
+
+pub returns-else-text-rest-le16-clause-text : goal.returns-else-text-rest-le16-clause-text
+returns-else-text-rest-le16-clause-text g c =
+    let row = g.B.CounterBlocks.block in
+    let sealed = g.C.BlockCipher.sealed c.args.cipher.now in
+    let s = c.args.self.now in
+    let rest : ℕ = c.min-front.result + 128 * ((length (c.apply_within.new.piece ++ drop c.min-front.result c.args.text.now) - c.min-front.result) / 128) in
+    let from : ℕ = c.min-front.result + 128 * c.loop-i.i in
+    let all = applied_more sealed (row s.0) (row c.loop-i.self.0) (row c.apply_some.new.self.0) s.1 c.loop-i.self.1 c.apply_some.new.self.1
+    c.args.text.now c.loop-i.text c.apply_some.new.text from rest (length c.loop-i.text - rest) (length c.loop-i.text)
+    (omega (arith, c.loop-i.auto.text)) (omega (arith, c.loop-i.auto.text)) (omega (arith, c.loop-i.auto.text))
+    c.apply_some.ensures.text c.apply_some.ensures.on c.loop-i.invariant in
+    xored_all (key_byte sealed (row s.0) s.1) c.args.text.now _ (length c.loop-i.text) all.xored (omega (arith, c.loop-i.invariant.xored.long))
