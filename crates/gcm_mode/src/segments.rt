@@ -9,7 +9,7 @@ ghost use Rattle.gcm_mode.specs.Segments.{Counts, counts_none, counts_on, Hashes
 
 use crate::counter::{apply_key_stream, counter_after, first_counter};
 use crate::gcm::Gcm;
-use aes_block::BlockCipher;
+use aes_block::{BlockCipher, tags_differ};
 use ghash_field::{GhashKey, absorb};
 use kc_base::Errno;
 use sg_walk::{Segs, Walker};
@@ -133,7 +133,7 @@ impl<C: BlockCipher + Drop, H: GhashKey + Drop> Gcm<C, H> {
         ensures sizes { text.new.sizes ≡ text.old.sizes }
     {
         let full = self.tag_of_segs(iv, associated, text);
-        if &full[..tag.len()] != tag {
+        if tags_differ(&full, tag) {
             return Err(Errno::EBADMSG);
         }
         count_over(self.cipher(), first_counter(iv), text);
