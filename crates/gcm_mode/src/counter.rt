@@ -89,7 +89,8 @@ pub(crate) fn first_ciphers<C: BlockCipher>(
     ctr_mode::first_ciphers(cipher, &counters, text_len)
 }
 
-/// Xors the text with the ciphers of the counter blocks behind J0 (7.1, step 3), of which `first_ciphers` gave the first.
+/// Xors the text with the ciphers of the counter blocks behind J0 (7.1, step 3), of which `first_ciphers` gave the
+/// first.
 pub(crate) fn apply_behind_first<C: BlockCipher>(
     cipher: &C,
     iv: &[u8; 12],

@@ -14,7 +14,8 @@ use kc_base::Errno;
 use std::marker::Model;
 use std_defs::block_bytes;
 
-/// Whether a tag of `len` bytes is taken: 4, 8, or 12 to 16 of them (5.2.1.2).
+/// Whether a tag of `len` bytes is taken: 4, 8, or 12 to 16 of them (5.2.1.2). Those of 4 and 8 are for uses that
+/// appendix C allows.
 pub fn takes_gcm_tag(len: usize) -> bool
     ensures { result ≡ gcm_takes_tag len }
 {
@@ -70,8 +71,9 @@ impl<C: BlockCipher + Drop, H: GhashKey + Drop> Gcm<C, H> {
         12
     }
 
-    /// Makes the ciphertext of `text` in its place, and its full tag (7.1), which covers `associated` and the ciphertext. Both have
-    /// fewer than 2^32 bytes. What is sealed opens again, under the whole tag and under each front of it.
+    /// Makes the ciphertext of `text` in its place, and its full tag (7.1), which covers `associated` and the
+    /// ciphertext. Both have fewer than 2^32 bytes. What is sealed opens again, under the whole tag and under each
+    /// front of it. `iv` must be new under this key (8), and at most 2^32 texts may have IVs drawn at random (8.3).
     pub fn seal(&self, iv: &[u8; 12], associated: &[u8], text: &mut [u8], tag: &mut [u8; 16])
         requires associated_short { length associated.now < 2 ^ 32 }
         requires text_short { length text.old < 2 ^ 32 }
@@ -84,8 +86,10 @@ impl<C: BlockCipher + Drop, H: GhashKey + Drop> Gcm<C, H> {
         *tag = self.tag(&first[0], associated, text);
     }
 
-    /// Makes the plaintext of `text` in its place (7.2). `associated` and `text` have fewer than 2^32 bytes each, `tag` has 4, 8 or
-    /// 12 to 16 bytes. `EBADMSG` exactly where `tag` isn't the front of the full tag: the text is then unchanged.
+    /// Makes the plaintext of `text` in its place (7.2). `associated` and `text` have fewer than 2^32 bytes each, `tag`
+    /// has 4, 8 or 12 to 16 bytes. `EBADMSG` exactly where `tag` isn't the front of the full tag: the text is then
+    /// unchanged. Each byte of the tag is compared, wherever the first difference is. A tag of 4 or 8 bytes is within a
+    /// forger's reach (appendix C).
     pub fn unseal(
         &self,
         iv: &[u8; 12],
@@ -107,8 +111,8 @@ impl<C: BlockCipher + Drop, H: GhashKey + Drop> Gcm<C, H> {
         Ok(())
     }
 
-    /// The full tag of a ciphertext: GHASH of the associated bytes, the ciphertext and their lengths in bits, and the cipher of J0
-    /// (7.1, steps 4 to 6).
+    /// The full tag of a ciphertext: GHASH of the associated bytes, the ciphertext and their lengths in bits, and the
+    /// cipher of J0 (7.1, steps 4 to 6).
     fn tag(&self, sealed: &[u8; 16], associated: &[u8], text: &[u8]) -> [u8; 16]
         requires associated_short { length associated.now < 2 ^ 32 }
         requires text_short { length text.now < 2 ^ 32 }

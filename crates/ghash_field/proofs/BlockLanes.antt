@@ -1,6 +1,6 @@
 -- The bytes of a block, and how lanes have them.
-use Rattle.std.proofs.Common.{◌≡◌, ℕ, zero, suc, ◌+◌, ◌-◌, ◌*◌, ◌/◌, ◌%◌, ◌^◌, ◌<◌, refl, sym, ap, ap₂, ◌∙◌, arith, List, [], ◌∷◌, ◌++◌, get_or, length, pow-suc, slice_index, bit_and}
-use Rattle.std.specs.Int.{bytes_high_first, byte_at, to_le_bytes, swap_bytes, w64}
+use Rattle.std.proofs.Common.{◌≡◌, ℕ, zero, suc, ◌+◌, ◌-◌, ◌*◌, ◌/◌, ◌%◌, ◌^◌, ◌<◌, refl, sym, ap, ap₂, ◌∙◌, arith, List, [], ◌∷◌, get_or, length, pow-suc, bit_and}
+use Rattle.std.specs.Int.{bytes_high_first, byte_at}
 use Rattle.std.proofs.lemmas.Nat.{pow-add, and_mask}
 use Rattle.std_defs.specs.Blocks.{block_bytes}
 use Rattle.ghash_field.specs.ByteRows.{byte_of}

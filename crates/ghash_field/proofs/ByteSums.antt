@@ -1,10 +1,9 @@
 -- Blocks as sums over their bytes: byte j of sixteen, at the front of a block, times x^(8j).
-use Rattle.std.proofs.Common.{◌≡◌, ℕ, zero, suc, ◌+◌, ◌-◌, ◌*◌, ◌/◌, ◌%◌, ◌^◌, ◌<◌, ◌≤◌, bit_xor, refl, sym, ap, ap₂, ◌∙◌, arith, add-one, List, ◌∷◌, get_or, slice_index, pow-suc, lit<, mul_assoc, subst}
-use Rattle.std.specs.Int.{byte_worth, sum_through}
+use Rattle.std.proofs.Common.{◌≡◌, ℕ, zero, suc, ◌+◌, ◌*◌, ◌^◌, ◌<◌, bit_xor, refl, sym, ap, ap₂, ◌∙◌, arith, List, get_or, pow-suc, lit<, mul_assoc, subst}
 use Rattle.std.specs.Int.Bits.{xor_zero_r, xor_comm, xor_assoc, xor_shifted}
-use Rattle.std.proofs.lemmas.Nat.{pow-add, pow_pos, shl_below, xor_block, mul-add-lt}
+use Rattle.std.proofs.lemmas.Nat.{pow-add, shl_below, xor_block, mul-add-lt}
 use Rattle.std_defs.specs.Blocks.{block_number}
-use Rattle.std_defs.specs.GhashField.{Polynomial, polynomial_of, field_product}
+use Rattle.std_defs.specs.GhashField.{Polynomial}
 use Rattle.std_defs.proofs.Multiples.{times_x, times_power, times_power-xor, times_power-zero, times_power-add, multiple, multiple-xor, multiple-zero, multiple-times_power, xor_swap}
 use Rattle.ghash_field.specs.ByteRows.{front, spread}
 use Rattle.ghash_field.proofs.HalfBytes.{times_x-even}
@@ -143,6 +142,6 @@ pub spread-bytes : (bytes : List ℕ) → ((i : ℕ) → get_or bytes i 0 < 256)
 spread-bytes bytes small none = (
   number 15 (λ i. get_or bytes i 0),
   block_number-spread bytes small
-  ∙ spread-number 16 0 (λ i. get_or bytes i 0) small refl
-  ∙ (let e : number 16 (λ i. get_or bytes i 0) ≡ number 15 (λ i. get_or bytes i 0) * 2 ^ 8 + get_or bytes 15 0 = number-last 15 (λ i. get_or bytes i 0) in omega arith),
+      ∙ spread-number 16 0 (λ i. get_or bytes i 0) small refl
+      ∙ (let e : number 16 (λ i. get_or bytes i 0) ≡ number 15 (λ i. get_or bytes i 0) * 2 ^ 8 + get_or bytes 15 0 = number-last 15 (λ i. get_or bytes i 0) in omega arith),
 )

@@ -1,13 +1,13 @@
 -- Horner's form over blocks of a text that are taken several at a time.
-use Rattle.std.proofs.Common.{◌≡◌, ℕ, zero, suc, ◌+◌, ◌-◌, ◌*◌, ◌/◌, ◌^◌, ◌<◌, ◌≤◌, bit_xor, refl, sym, ap, ap₂, ◌∙◌, arith, List, [], ◌∷◌, get_or, take, drop, length, lit<, All}
+use Rattle.std.proofs.Common.{◌≡◌, ℕ, zero, suc, ◌+◌, ◌-◌, ◌*◌, ◌^◌, ◌<◌, ◌≤◌, bit_xor, refl, sym, ap, ap₂, ◌∙◌, arith, List, [], ◌∷◌, get_or, take, drop, length, All}
 use Rattle.std.specs.Int.{div_ceil}
-use Rattle.std.specs.Int.Bits.{xor_zero_r, xor_assoc, xor_lt}
+use Rattle.std.specs.Int.Bits.{xor_zero_r, xor_assoc}
 use Rattle.std.proofs.lemmas.List.{take_all, take-take, drop-take}
 use Rattle.std.proofs.lemmas.Grind.{common_steps}
 use Rattle.std_defs.specs.Blocks.{block_number, text_block}
 use Rattle.std_defs.specs.Gcm.{padded_blocks}
 use Rattle.std_defs.specs.GhashField.{field_product, field_power, ghash}
-use Rattle.std_defs.proofs.Field.{field_product-xor_left, field_product-assoc, field_product-comm, field_product-lt, field_power-lt}
+use Rattle.std_defs.proofs.Field.{field_product-xor_left, field_power-lt}
 use Rattle.std_defs.proofs.Horner.{horner, horner-ghash}
 use Rattle.std_defs.proofs.PaddedBlocks.{horner_more, padded_blocks-length}
 use Rattle.std_defs.proofs.FieldBytes.{block_number-lt}
@@ -142,4 +142,3 @@ part_is i text = ap (λ (n : ℕ). take n (drop (128 * i) text)) (let e : 128 * 
 
 pub part_long : (i : ℕ) (text : List ℕ) → 128 * i + 128 ≤ length text → length (take (128 * i + 128 - 128 * i) (drop (128 * i) text)) ≡ 128
 part_long i text h = ap length (part_is i text) ∙ long 128 (128 * i) text (omega arith)
-

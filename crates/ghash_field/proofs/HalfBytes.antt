@@ -1,10 +1,9 @@
 -- the products of half bytes
-use Rattle.std.proofs.Common.{◌≡◌, ℕ, zero, suc, ◌+◌, ◌-◌, ◌*◌, ◌/◌, ◌%◌, ◌^◌, ◌<◌, ◌≤◌, ◌≢◌, bit_and, bit_xor, refl, sym, ap, ap₂, ◌∙◌, arith, List, [], length, set, get_or-set_other, get_or-set_same, slice_index, slice_index_or, lit<, subst, add-mul, mul_assoc, cond, ⊎_elim}
-use Rattle.std.specs.Int.Bits.{xor_zero_r, xor_shifted, xor_comm}
+use Rattle.std.proofs.Common.{◌≡◌, ℕ, zero, suc, ◌+◌, ◌-◌, ◌*◌, ◌/◌, ◌%◌, ◌^◌, ◌<◌, ◌≤◌, bit_and, bit_xor, refl, sym, ap, ap₂, ◌∙◌, arith, slice_index, lit<, add-mul, mul_assoc, cond, ⊎_elim}
+use Rattle.std.specs.Int.Bits.{xor_zero_r, xor_shifted}
 use Rattle.std.proofs.Math.Pow.{pow_mono}
-use Rattle.std.proofs.Math.Nat.{div-div-eq-div-mul}
-use Rattle.std.proofs.lemmas.Nat.{and_mask, mod-pow-add, pow-add, shl_below, pow_pos, mod_below, pow_below}
-use Rattle.std.proofs.lemmas.Bool.{eq-eqb, ne_eqb, cases_lt, cases_eq}
+use Rattle.std.proofs.lemmas.Nat.{and_mask, pow-add, shl_below, pow_below}
+use Rattle.std.proofs.lemmas.Bool.{eq-eqb, ne_eqb, cases_eq}
 use Rattle.std_defs.specs.GhashField.{polynomial_of, field_product, field_one}
 use Rattle.std_defs.proofs.Multiples.{times_x, fold, multiple, multiple-times_x}
 use Rattle.std_defs.proofs.Field.{field_product-multiple, field_product-comm, field_product-xor_left, field_product-zero, field_product-one}

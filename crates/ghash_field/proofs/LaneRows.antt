@@ -1,12 +1,12 @@
 -- Rows of bytes, as the lanes of vectors have them.
-use Rattle.std.proofs.Common.{length-take, replicate, ◌≢◌, get_or-set_same, get_or-set_other, ◌≡◌, ℕ, zero, suc, ◌+◌, ◌-◌, ◌*◌, ◌/◌, ◌%◌, ◌^◌, ◌<◌, ◌≤◌, bit_and, bit_xor, refl, sym, ap, ap₂, ◌∙◌, arith, List, [], ◌∷◌, ◌++◌, map, get_or, set, take, length, lit<, subst, ⊎_elim, w8, Fits, slice_index, add-zero, zero-add, add-one}
+use Rattle.std.proofs.Common.{length-take, replicate, ◌≡◌, ℕ, zero, suc, ◌+◌, ◌-◌, ◌*◌, ◌/◌, ◌%◌, ◌^◌, ◌<◌, ◌≤◌, bit_and, bit_xor, refl, sym, ap, ap₂, ◌∙◌, arith, List, [], ◌∷◌, ◌++◌, map, get_or, take, length, lit<, subst, ⊎_elim, w8, Fits, slice_index, zero-add, add-one}
 use Rattle.std.specs.List.{range_with_len}
-use Rattle.std.specs.Int.Bits.{xor_zero_r, xor_comm, xor_assoc, xor_shifted, xor_lt, xor_shr, xor_mod}
-use Rattle.std.proofs.lemmas.Nat.{pow-add, and_mask, mod_below, shl_below, mod-pow-add, shr-shr}
-use Rattle.std.proofs.lemmas.Bool.{cases_lt, cases_eq}
+use Rattle.std.specs.Int.Bits.{xor_shifted, xor_lt, xor_shr, xor_mod}
+use Rattle.std.proofs.lemmas.Nat.{and_mask, mod_below, shl_below, mod-pow-add}
+use Rattle.std.proofs.lemmas.Bool.{cases_lt}
 use Rattle.std.proofs.lemmas.List.{length-replicate, get_or-replicate, get_or_past, get_or-take, get_or-map, length-map, get_or_append_left, get_or-append_right, length-append}
-use Rattle.std.proofs.lemmas.List.FromFn.{get_or-map-range_with_len, length-map-range_with_len}
-use Rattle.std.proofs.lemmas.Simd.{get_or-zip2, length-zip2, Each1-get_or, Each1-from_get_or, SwzOk, SwzOk-from_below, swz_l, length-swz_l, get_or-swz_l_below, pick_l_whole}
+use Rattle.std.proofs.lemmas.List.FromFn.{get_or-map-range_with_len}
+use Rattle.std.proofs.lemmas.Simd.{get_or-zip2, length-zip2, Each1-get_or, Each1-from_get_or, SwzOk, SwzOk-from_below, swz_l, get_or-swz_l_below, pick_l_whole}
 use lib.Lanes.{zip2, Each1, pick_l}
 use Rattle.std_defs.specs.Blocks.{block_number, block_bytes}
 use Rattle.std_defs.specs.GhashField.{field_product, polynomial_of, field_power}
@@ -90,12 +90,11 @@ pub halves_are : (x hs ls : List ℕ) → IsVector 16 x → hs ≡ map (λ b. b 
 halves_are x hs ls fits eh el j h =
     let lh : length hs ≡ 16 = ap length eh ∙ length-map x (λ b. b / 16) ∙ fits.0 in
     let ll : length ls ≡ 16 = ap length el ∙ length-map x (λ b. bit_and b 15) ∙ fits.0 in
-    let whole : pick_l 0 (hs ++ ls) (range_with_len 0 32) ≡ hs ++ ls = pick_l_whole 0 (hs ++ ls) 32 (length-append hs ls ∙ ap₂ (λ (a b : ℕ). a + b) lh ll) in
-    (
+    let whole : pick_l 0 (hs ++ ls) (range_with_len 0 32) ≡ hs ++ ls = pick_l_whole 0 (hs ++ ls) 32 (length-append hs ls ∙ ap₂ (λ (a b : ℕ). a + b) lh ll) in (
       ap (λ v. get_or v j 0) whole ∙ get_or_append_left hs ls 0 j (omega arith)
-      ∙ ap (λ v. get_or v j 0) eh ∙ get_or-map (λ b. b / 16) x j 0 0 (omega (arith, fits.0)),
+          ∙ ap (λ v. get_or v j 0) eh ∙ get_or-map (λ b. b / 16) x j 0 0 (omega (arith, fits.0)),
       ap (λ v. get_or v (16 + j) 0) whole ∙ ap (λ (n : ℕ). get_or (hs ++ ls) (n + j) 0) (sym lh) ∙ behind hs ls j
-      ∙ ap (λ v. get_or v j 0) el ∙ get_or-map (λ b. bit_and b 15) x j 0 0 (omega (arith, fits.0)) ∙ and_mask (get_or x j 0) 4,
+          ∙ ap (λ v. get_or v j 0) el ∙ get_or-map (λ b. bit_and b 15) x j 0 0 (omega (arith, fits.0)) ∙ and_mask (get_or x j 0) 4,
     )
   where
     behind : (xs ys : List ℕ) (i : ℕ) → get_or (xs ++ ys) (length xs + i) 0 ≡ get_or ys i 0

@@ -1,5 +1,5 @@
 -- A polynomial of 32 bytes: a block, and a second one whose place is x^128 on. Times x^8 it moves on by a byte.
-use Rattle.std.proofs.Common.{◌≡◌, ℕ, zero, suc, ◌+◌, ◌-◌, ◌*◌, ◌/◌, ◌%◌, ◌^◌, ◌<◌, ◌≤◌, bit_xor, refl, sym, ap, ap₂, ◌∙◌, arith, List, ◌∷◌, get_or, take, length, lit<, pow-suc, ⊎_elim, length-take}
+use Rattle.std.proofs.Common.{◌≡◌, ℕ, zero, suc, ◌+◌, ◌*◌, ◌/◌, ◌^◌, ◌<◌, ◌≤◌, bit_xor, refl, sym, ap, ap₂, ◌∙◌, arith, List, ◌∷◌, get_or, take, length, lit<, ⊎_elim, length-take}
 use Rattle.std.specs.Int.Bits.{xor_zero_r, xor_comm, xor_assoc}
 use Rattle.std.proofs.lemmas.Nat.{pow-add, shl-shr}
 use Rattle.std.proofs.lemmas.Grind.{common_steps}
@@ -12,7 +12,7 @@ use Rattle.std_defs.specs.GhashField.{Polynomial, polynomial_of, field_one}
 use Rattle.std_defs.proofs.Multiples.{times_x, times_power, times_power-xor, times_power-zero, times_power-add, multiple, multiple-xor, multiple-times_power}
 use Rattle.std_defs.proofs.Product.{multiple-one}
 use Rattle.ghash_field.specs.ByteRows.{front, spread, whole}
-use Rattle.ghash_field.proofs.ByteSums.{shift, spread-same, spread-zero, spread-xor, spread-last, front-xor, times_power-down, block_number-spread, spread-bytes}
+use Rattle.ghash_field.proofs.ByteSums.{shift, spread-same, spread-xor, spread-last, front-xor, times_power-down, block_number-spread, spread-bytes}
 
 -- ---- x^128
 

@@ -1,8 +1,6 @@
 -- Four rounds of lanes in turn transpose sixteen rows: each moves the last digit of a lane's number to the front of its row's.
-use Rattle.std.proofs.Common.{◌≡◌, ℕ, ◌+◌, ◌-◌, ◌*◌, ◌/◌, ◌%◌, ◌^◌, ◌<◌, ◌≤◌, ◌≢◌, Bool, true, false, cond, eqb, refl, sym, ap, ap₂, ◌∙◌, arith, List, ◌∷◌, ◌++◌, get_or, set, length, slice_index, lit<, ⊎_elim, zero-add, get_or-set_same, get_or-set_other, length-set}
-use Rattle.std.specs.List.{range_with_len}
-use Rattle.std.specs.Int.{bytes_high_first, byte_at}
-use Rattle.std.proofs.lemmas.Bool.{eq-eqb, ne_eqb, cases_lt, cases_eq}
+use Rattle.std.proofs.Common.{◌≡◌, ℕ, ◌+◌, ◌*◌, ◌/◌, ◌%◌, ◌<◌, ◌≢◌, Bool, true, false, cond, eqb, refl, sym, ap, ap₂, ◌∙◌, arith, List, get_or, set, length, slice_index, ⊎_elim, zero-add, get_or-set_same, get_or-set_other, length-set}
+use Rattle.std.proofs.lemmas.Bool.{eq-eqb, ne_eqb, cases_eq}
 use Rattle.std.proofs.lemmas.List.{get_or_default}
 use Rattle.std.proofs.lemmas.List.FromFn.{get_or-map-range_with_len}
 use Rattle.ghash_field.specs.declared.byte_rows.Row.{Row}
@@ -147,17 +145,15 @@ pub done_more : (count : ℕ) (rows turned : List Row) (low high d0 : Row) → l
     → Done (count + 1) rows (set (set turned (2 * count) low) (2 * count + 1) high)
 done_more count rows turned low high d0 wide long below done is_low is_high i d l =
     ⊎_elim
-    (λ (q : i ≡ count).
-    (
+    (λ (q : i ≡ count). (
       ap (λ (j : ℕ). (get_or (set once (2 * count + 1) high) (2 * j) d).lanes) q
-      ∙ ap (λ (r : Row). r.lanes) (get_or-set_other once (2 * count + 1) (2 * count) high d (omega arith) ∙ get_or-set_same turned (2 * count) low d (omega arith))
-      ∙ is_low ∙ ap₂ (λ (x y : Row). low_lanes x.lanes y.lanes) (first i q) (second i q),
+          ∙ ap (λ (r : Row). r.lanes) (get_or-set_other once (2 * count + 1) (2 * count) high d (omega arith) ∙ get_or-set_same turned (2 * count) low d (omega arith))
+          ∙ is_low ∙ ap₂ (λ (x y : Row). low_lanes x.lanes y.lanes) (first i q) (second i q),
       ap (λ (j : ℕ). (get_or (set once (2 * count + 1) high) (2 * j + 1) d).lanes) q
-      ∙ ap (λ (r : Row). r.lanes) (get_or-set_same once (2 * count + 1) high d (omega (arith, length-set turned (2 * count) low)))
-      ∙ is_high ∙ ap₂ (λ (x y : Row). high_lanes x.lanes y.lanes) (first i q) (second i q),
+          ∙ ap (λ (r : Row). r.lanes) (get_or-set_same once (2 * count + 1) high d (omega (arith, length-set turned (2 * count) low)))
+          ∙ is_high ∙ ap₂ (λ (x y : Row). high_lanes x.lanes y.lanes) (first i q) (second i q),
     ))
-    (λ (q : i ≢ count).
-    (
+    (λ (q : i ≢ count). (
       ap (λ (r : Row). r.lanes) (get_or-set_other once (2 * count + 1) (2 * i) high d (omega arith) ∙ get_or-set_other turned (2 * count) (2 * i) low d (omega arith)) ∙ (done i d (omega arith)).0,
       ap (λ (r : Row). r.lanes) (get_or-set_other once (2 * count + 1) (2 * i + 1) high d (omega arith) ∙ get_or-set_other turned (2 * count) (2 * i + 1) low d (omega arith)) ∙ (done i d (omega arith)).1,
     ))

@@ -1,5 +1,5 @@
-//! Products by rows of bytes: row `k` has byte `k` of the product of each half byte. A shuffle reads it for all bytes of a block
-//! at once, whatever they are.
+//! Products by rows of bytes: row `k` has byte `k` of the product of each half byte. A shuffle reads it for all bytes
+//! of a block at once, whatever they are.
 
 ghost use Rattle.std.specs.Prelude.{◌≡◌, ◌<◌, ◌^◌, ◌++◌, ◌/◌, ℕ, map, bit_and, slice_index, bit_xor, length};
 ghost use Rattle.std_defs.specs.Blocks.{block_number as number_of, block_bytes as bytes_of};

@@ -11,8 +11,8 @@ use crate::block::block_at;
 use crate::key::GhashKey;
 use std_defs::block_bytes;
 
-/// GHASH carried on from `y`, its value so far, over the blocks of `bytes` with zeros behind them (NIST SP 800-38D, 6.4).
-/// What comes is the sum of powers: `y` times H to the number of these blocks, and their own GHASH.
+/// GHASH carried on from `y`, its value so far, over the blocks of `bytes` with zeros behind them (NIST SP 800-38D,
+/// 6.4). What comes is the sum of powers: `y` times H to the number of these blocks, and their own GHASH.
 pub fn absorb<K: GhashKey>(key: &K, y: u128, bytes: &[u8]) -> u128
     ensures { let h = K.block key.now in let blocks = padded_blocks bytes.now in
         result ≡ bit_xor (field_product y (field_power h (length blocks))) (ghash h blocks) }
@@ -20,8 +20,9 @@ pub fn absorb<K: GhashKey>(key: &K, y: u128, bytes: &[u8]) -> u128
     carried_on(key, y, bytes)
 }
 
-/// GHASH of the blocks of `associated` with zeros behind them, of those of `text` with zeros behind them, and of the block `last` (NIST
-/// SP 800-38D, 6.4 and 7.1, step 5). The last blocks are multiplied together, as eight are, so that short packets take one or two steps.
+/// GHASH of the blocks of `associated` with zeros behind them, of those of `text` with zeros behind them, and of the
+/// block `last` (NIST SP 800-38D, 6.4 and 7.1, step 5). Up to eight last blocks are multiplied at once, so a short
+/// packet takes one step.
 pub fn ghash_of<K: GhashKey>(key: &K, associated: &[u8], text: &[u8], last: u128) -> u128
     ensures { result ≡ ghash (K.block key.now) (padded_blocks associated.now ++ padded_blocks text.now ++ last ∷ []) }
 {
@@ -56,7 +57,11 @@ fn front_len(len: usize) -> usize
     ensures rest { len - result ≤ 112 }
 {
     let rest = len % 128;
-    if rest > 112 { len - rest + 16 } else { len - rest }
+    if rest > 112 {
+        len - rest + 16
+    } else {
+        len - rest
+    }
 }
 
 /// The hash carried on from `y` over at most seven blocks and the last.
@@ -71,7 +76,8 @@ fn finish<K: GhashKey>(key: &K, y: u128, rest: &[u8], last: u128) -> u128
     hash_last(key, y ^ block_at(rest, 0), behind, last)
 }
 
-/// The hash of the block `first`, of at most six blocks and of the block `last`, with blocks of zeros before them, which change nothing.
+/// The hash of the block `first`, of at most six blocks and of the block `last`. Blocks of zeros before them change
+/// nothing.
 fn hash_last<K: GhashKey>(key: &K, first: u128, rest: &[u8], last: u128) -> u128
     requires { length rest.now ≤ 96 }
     ensures { result ≡ horner (K.block key.now) 0 (first ∷ padded_blocks rest.now ++ last ∷ []) }

@@ -6,13 +6,13 @@ ghost use Rattle.std_defs.specs.GhashField.{field_product, field_power};
 ghost use Rattle.ghash_field.specs.ByteRows.{column, sum_of_eight};
 
 use crate::byte_rows::{Halves, Rows, halves_of, lanes_of, sum, together};
-use crate::carrying::{carried, moved, reduced};
 use crate::key::GhashKey;
+use crate::wide_sum::{carried, moved, reduced};
 use std::simd::prelude::*;
 use std_defs::block_number;
 
-/// The hash subkey and its powers up to the eighth, each with the rows of its products (4 KiB). No place that is read and no branch depends on
-/// the subkey or on what is hashed.
+/// The hash subkey H and its powers up to the eighth, each with the rows of its products (4 KiB): eight blocks are
+/// multiplied by H^8 to H and added. No address and no branch depends on the subkey or on what is hashed.
 #[derive(Drop)]
 pub struct LaneGhash {
     first: Rows,

@@ -4,7 +4,8 @@ ghost use Rattle.std.specs.Prelude.{◌≡◌};
 ghost use Rattle.std_defs.proofs.Multiples.{times_x};
 ghost use Rattle.ghash_field.specs.ByteRows.{row_of};
 
-/// The digits 11100001 and 120 zeros (NIST SP 800-38D, 6.3: R), by which a 1 that falls out on the right is folded back.
+/// The digits 11100001 and 120 zeros (NIST SP 800-38D, 6.3: R), by which a 1 that falls out on the right is folded
+/// back.
 const FOLD: u128 = 0xe1 << 120;
 
 /// The block times x.

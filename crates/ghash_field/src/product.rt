@@ -9,7 +9,8 @@ use crate::multiples::halved;
 pub fn multiply(x: u128, y: u128) -> u128
     ensures product { result ≡ field_product x y }
 
-    // It is the block that is congruent to the product of the polynomials, modulo x^128 + x^7 + x^2 + x + 1, and the only one.
+    // It is the block that is congruent to the product of the polynomials, modulo x^128 + x^7 + x^2 + x + 1, and the
+    // only one.
     ensures congruent { IsCongruent (product (polynomial_of x) (polynomial_of y)) (polynomial_of result) }
     ensures only { (r : ℕ) → r < 2 ^ 128 → IsCongruent (product (polynomial_of x) (polynomial_of y)) (polynomial_of r) → r ≡ result }
 

@@ -49,8 +49,8 @@ fn interleaved(rows: &[Row; 16]) -> [Row; 16]
     turned
 }
 
-/// Lane `k` of row `n` becomes lane `n` of row `k`, in each half of the rows. Each of the four rounds moves one digit of the row's
-/// number to the lane's, and one back.
+/// Lane `k` of row `n` becomes lane `n` of row `k`, in each half of the rows. Each of the four rounds moves one digit
+/// of the row's number to the lane's, and one back.
 pub(crate) fn transposed(rows: &[Row; 16]) -> [Row; 16]
     ensures { AreTransposed rows.now result }
 {

@@ -1,9 +1,9 @@
-use Rattle.std.proofs.Common.{◌≤◌, ◌*◌, length, ◌∙◌, refl, ap, arith, bit_xor}
+use Rattle.std.proofs.Common.{◌≤◌, length, ◌∙◌, refl, ap, arith, bit_xor}
 use Rattle.std.proofs.lemmas.List.{take_all}
 use Rattle.std_defs.specs.GhashField.{field_product}
 use Rattle.std_defs.specs.Gcm.{padded_blocks}
-use Rattle.std_defs.proofs.Horner.{horner, horner-ghash}
-use Rattle.std_defs.proofs.PaddedBlocks.{horner_more, padded_blocks-length, padded_blocks-fit}
+use Rattle.std_defs.proofs.Horner.{horner}
+use Rattle.std_defs.proofs.PaddedBlocks.{horner_more, padded_blocks-length}
 use Rattle.ghash_field.proofs.EightBlocks.{eight_more, part_is, part_long}
 use Rattle.ghash_field.proofs.hash.carried_on.Goals as goal
 

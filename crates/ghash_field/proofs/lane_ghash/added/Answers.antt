@@ -1,4 +1,4 @@
-use Rattle.ghash_field.proofs.LaneRows.{small_lanes, sum_number}
+use Rattle.ghash_field.proofs.LaneRows.{sum_number}
 use Rattle.ghash_field.proofs.lane_ghash.added.Goals as goal
 
 pub returns : goal.returns

@@ -1,4 +1,4 @@
-use Rattle.std.proofs.Common.{ℕ, arith, ◌∙◌}
+use Rattle.std.proofs.Common.{arith, ◌∙◌}
 use Rattle.ghash_field.specs.ByteRows.{column}
 use Rattle.ghash_field.proofs.LaneRows.{turn, none_after, none_first, whole_start, spread_all, product_columns}
 use Rattle.ghash_field.proofs.lane_ghash.product_by.Goals as goal

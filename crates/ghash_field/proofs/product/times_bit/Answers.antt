@@ -1,4 +1,4 @@
-use Rattle.std.proofs.Common.{◌≡◌, ℕ, ◌*◌, ◌<◌, ◌^◌, Bool, cond, eqb, sym, ap, ◌∙◌, arith, ⊎_elim, subst, Fits}
+use Rattle.std.proofs.Common.{◌≡◌, ℕ, ◌*◌, ◌<◌, Bool, cond, eqb, sym, ap, ◌∙◌, arith, ⊎_elim, subst, Fits}
 use Rattle.std.specs.Int.{w128}
 use Rattle.std.proofs.lemmas.Bool.{eq-eqb, ne_eqb, cases_eq}
 use Rattle.ghash_field.proofs.product.times_bit.Goals as goal

@@ -1,4 +1,4 @@
-use Rattle.std.proofs.Common.{ℕ, arith, ◌∙◌, ap₂, bit_xor}
+use Rattle.std.proofs.Common.{arith, ◌∙◌, ap₂, bit_xor}
 use Rattle.ghash_field.specs.ByteRows.{column, sum_of_eight}
 use Rattle.ghash_field.proofs.LaneRows.{turn, none_after, none_first, whole_start, spread_all, spread_of_eight, product_columns}
 use Rattle.ghash_field.proofs.lane_ghash.LaneGhash.sum_of_products.Goals as goal

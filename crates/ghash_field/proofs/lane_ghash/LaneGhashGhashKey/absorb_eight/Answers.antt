@@ -1,4 +1,4 @@
-use Rattle.std.proofs.Common.{ℕ, List, ◌∙◌, ap, ap₂, bit_xor, arith}
+use Rattle.std.proofs.Common.{ℕ, List, ◌∙◌, ap, ap₂, bit_xor}
 use Rattle.std_defs.specs.Blocks.{block_number}
 use Rattle.std_defs.specs.GhashField.{field_product}
 use Rattle.std_defs.proofs.FieldBytes.{block_number-block_bytes}

@@ -1,6 +1,6 @@
-use Rattle.std.proofs.Common.{ℕ, ◌∙◌, ap, ap₂, sym, List}
+use Rattle.std.proofs.Common.{ℕ, ◌∙◌, ap, sym, List}
 use Rattle.std_defs.specs.Blocks.{block_number, block_bytes}
-use Rattle.std_defs.specs.GhashField.{field_product, field_power}
+use Rattle.std_defs.specs.GhashField.{field_product}
 use Rattle.ghash_field.proofs.LaneRows.{next_field_power, first_field_power}
 use Rattle.ghash_field.proofs.lane_ghash.LaneGhashGhashKey.new.Goals as goal
 

@@ -1,4 +1,4 @@
-use Rattle.std.proofs.Common.{ℕ, ◌∙◌, ap, arith}
+use Rattle.std.proofs.Common.{ℕ, ◌∙◌, ap}
 use Rattle.std_defs.specs.Blocks.{block_number}
 use Rattle.std_defs.specs.GhashField.{field_product}
 use Rattle.std_defs.proofs.FieldBytes.{block_number-block_bytes}

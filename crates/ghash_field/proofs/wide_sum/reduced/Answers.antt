@@ -1,6 +1,6 @@
 use Rattle.std.proofs.Common.{ap₂, bit_xor}
 use Rattle.ghash_field.proofs.LaneRows.{reduced_is, small_lanes}
-use Rattle.ghash_field.proofs.carrying.reduced.Goals as goal
+use Rattle.ghash_field.proofs.wide_sum.reduced.Goals as goal
 
 pub returns : goal.returns
 returns c =

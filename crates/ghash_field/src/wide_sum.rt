@@ -1,4 +1,4 @@
-//! A polynomial of 32 bytes, which is moved on byte by byte and then reduced.
+//! A sum of 32 bytes, which is moved on byte by byte and then reduced to a block.
 
 ghost use Rattle.std.specs.Prelude.{◌≡◌, ◌<◌, ◌≤◌, ◌∷◌, ℕ, length, take, slice_index, bit_xor};
 ghost use Rattle.std.specs.Simd.Lanes.{zip2};
