@@ -1,13 +1,8 @@
 -- GCM on its way over a text in segments
-use Rattle.std.specs.Prelude.{◌≡◌, ℕ, zero, suc, ◌+◌, ◌-◌, ◌*◌, ◌/◌, ◌%◌, ◌<◌, ◌≤◌, All, List, [], ◌++◌, length, take, drop, map, replicate}
-use Rattle.std.specs.List.{range_with_len}
-use Rattle.std.proofs.Common.{refl, sym, ap, ap₂, ◌∙◌, arith, ⊎_elim, zero-add, add-zero, add-suc, append_assoc, append-nil, length-append, length-drop}
-use Rattle.std.proofs.Math.Seq.{drop-append-add, drop-append-le, take-append-le}
-use Rattle.std.proofs.lemmas.Bool.{cases_lt}
-use Rattle.std.proofs.lemmas.List.{get_or_append_left, get_or-append_right}
+use Rattle.std.specs.Prelude.{◌≡◌, ℕ, zero, suc, ◌+◌, ◌/◌, ◌%◌, ◌<◌, All, List, [], ◌++◌, length}
+use Rattle.std.proofs.Common.{refl, sym, ap, ap₂, ◌∙◌, arith, add-zero, add-suc, length-append}
 use Rattle.std.proofs.lemmas.List.Elements.{All-append, All-nil}
-use Rattle.std.proofs.lemmas.List.FromFn.{fill_by_all, get_or-map-range_with_len, length-map-range_with_len}
-use Rattle.std_defs.specs.Blocks.{block_number, block_bytes, text_block, with_stream}
+use Rattle.std_defs.specs.Blocks.{block_bytes, with_stream}
 use Rattle.std_defs.specs.Gcm.{BlockFunction, inc32, counter_block, key_stream_block, gctr, padded, padded_blocks}
 use Rattle.std_defs.proofs.Horner.{horner, horner-append}
 use Rattle.ctr_mode.specs.Laws.{with_stream-append}
