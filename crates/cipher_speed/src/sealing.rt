@@ -8,7 +8,7 @@ use aes_table::TableAes;
 use cbc_mode::Cbc;
 use ctr_mode::Ctr;
 use gcm_mode::Gcm;
-use ghash_field::{BitGhash, GhashKey, NibbleGhash};
+use ghash_field::{BitGhash, GhashKey, LaneGhash};
 use hmac_sha::Mac;
 use xts_mode::Xts;
 
@@ -25,7 +25,7 @@ pub enum Work {
     Hmac,
 }
 
-/// The form of AES, and of GHASH beside it: bit by bit, or by tables of half bytes.
+/// The form of AES, and of GHASH beside it: bit by bit, or by shuffled rows.
 #[derive(Clone, Copy, Debug, PartialEq, Eq)]
 pub enum Form {
     Generic,
@@ -176,12 +176,12 @@ pub fn repeat(work: Work, form: Form, count: u32, text: &mut [u8], copy: &mut [u
         Form::Table => {
             let cipher = TableAes::new(&key).unwrap();
             let tweak = TableAes::new(&tweak_key).unwrap();
-            repeat_under::<TableAes, NibbleGhash>(work, cipher, tweak, count, text, copy);
+            repeat_under::<TableAes, LaneGhash>(work, cipher, tweak, count, text, copy);
         }
         Form::Lanes => {
             let cipher = LaneAes::new(&key).unwrap();
             let tweak = LaneAes::new(&tweak_key).unwrap();
-            repeat_under::<LaneAes, NibbleGhash>(work, cipher, tweak, count, text, copy);
+            repeat_under::<LaneAes, LaneGhash>(work, cipher, tweak, count, text, copy);
         }
     }
 }

@@ -1,8 +1,10 @@
 -- The tag's block: GHASH carried on over the associated bytes, the ciphertext and the lengths.
-use Rattle.std.proofs.Common.{◌≡◌, ℕ, zero, ◌^◌, ◌<◌, sym, ap, ◌∙◌, arith, List, [], ◌∷◌, ◌++◌, length, get_or, bit_xor, All, lit<}
+use Rattle.std.proofs.Common.{◌≡◌, ℕ, zero, ◌+◌, ◌*◌, ◌/◌, ◌%◌, ◌^◌, ◌<◌, refl, sym, ap, ap₂, ◌∙◌, arith, List, [], ◌∷◌, ◌++◌, length, get_or, bit_xor, All, lit<}
 use Rattle.std.proofs.lemmas.List.Elements.{All-append}
+use Rattle.std.proofs.lemmas.List.FromFn.{fill_by_all}
+use Rattle.std_defs.specs.Blocks.{block_bytes, with_stream}
 use Rattle.std_defs.specs.GhashField.{field_product, field_power, ghash}
-use Rattle.std_defs.specs.Gcm.{BlockFunction, hash_subkey, padded_blocks, lengths_block, gcm_hash}
+use Rattle.std_defs.specs.Gcm.{BlockFunction, hash_subkey, padded_blocks, lengths_block, gcm_hash, gctr, key_stream_block, counter_block}
 use Rattle.std_defs.proofs.Horner.{horner, horner-ghash, horner-is_ghash, ghash-append, ghash-push}
 use Rattle.std_defs.proofs.Bytes.{bytes_from_all}
 use Rattle.std_defs.proofs.PaddedBlocks.{padded_blocks-fit}
@@ -58,3 +60,33 @@ hashed-gcm_hash cipher h first second associated text is fits small_a bytes shor
 -- what `absorb` ensures of a piece
 pub absorbed : (h y r : ℕ) (piece : List ℕ) → h < 2 ^ 128 → y < 2 ^ 128 → All (λ x. x < 256) piece → r ≡ carried h y (padded_blocks piece) → r ≡ horner h y (padded_blocks piece)
 absorbed h y r piece fits range bytes is = is ∙ sym (horner-ghash h y (padded_blocks piece) fits range (padded_blocks-fit piece (bytes_from_all piece bytes).at))
+
+-- ---- the cipher of J0
+
+-- a block with the cipher of another added is the block under the key stream from there
+pub under_cipher : (cipher : BlockFunction) (first s : ℕ) (tag sealed : List ℕ) → sealed ≡ cipher (block_bytes first) → length tag ≡ 16
+    → ((k : ℕ) → k < 16 → get_or tag k zero ≡ bit_xor (get_or (block_bytes s) k zero) (get_or sealed k zero))
+    → tag ≡ gctr cipher first (block_bytes s)
+unfolding gctr key_stream_block with_stream counter_block block_bytes
+under_cipher cipher first s tag sealed e long at =
+    fill_by_all (λ i. bit_xor (get_or (block_bytes s) i zero) (get_or (cipher (block_bytes (counter_block first (i / 16)))) (i % 16) zero)) tag 16 zero long
+    (λ k within.
+    at k within
+    ∙ ap (λ (v : List ℕ). bit_xor (get_or (block_bytes s) k zero) (get_or v k zero)) e
+    ∙ ap₂ (λ (a b : ℕ). bit_xor (get_or (block_bytes s) k zero) (get_or (cipher (block_bytes (counter_block first a))) b zero))
+    (let z : 0 ≡ k / 16 = omega arith in z) (let z : k ≡ k % 16 = omega arith in z))
+
+pub length-block_bytes : (s : ℕ) → length (block_bytes s) ≡ 16
+unfolding block_bytes
+length-block_bytes s = refl
+
+-- the hash of all, whose last block is that of the lengths
+pub whole-gcm_hash : (cipher : BlockFunction) (h lengths : ℕ) (associated text : List ℕ) → h ≡ hash_subkey cipher
+    → lengths ≡ length associated * 8 * 2 ^ 64 + length text * 8
+    → ghash h (padded_blocks associated ++ padded_blocks text ++ lengths ∷ []) ≡ gcm_hash cipher associated text
+unfolding gcm_hash lengths_block
+whole-gcm_hash cipher h lengths associated text is e =
+    ap₂ (λ (k l : ℕ). ghash k (padded_blocks associated ++ padded_blocks text ++ l ∷ [])) is (e ∙ turned (length associated) (length text))
+  where
+    turned : (a b : ℕ) → a * 8 * 2 ^ 64 + b * 8 ≡ 8 * a * 2 ^ 64 + 8 * b
+    turned a b = omega arith

@@ -1,8 +1,9 @@
 //! The counter blocks of an IV, and the key stream that their ciphers are.
 
-ghost use Rattle.std.specs.Prelude.{◌≡◌};
+ghost use Rattle.std.specs.Prelude.{◌≡◌, length};
 ghost use Rattle.std_defs.specs.Blocks.{block_bytes as bytes_of};
-ghost use Rattle.std_defs.specs.Gcm.{pre_counter_block, inc32, counter_block, gctr};
+ghost use Rattle.std_defs.specs.Gcm.{pre_counter_block, inc32, counter_block, gctr, gcm_text};
+ghost use Rattle.ctr_mode.specs.Streams.{AreFirst};
 
 use aes_block::BlockCipher;
 use ctr_mode::CounterBlocks;
@@ -72,6 +73,37 @@ impl CounterBlocks for Counter {
     fn skip(&mut self, count: u64) {
         self.next = counter_after(self.next, count);
     }
+}
+
+/// The ciphers of J0 and of the counter blocks behind it, as many of the eight as a text of that length takes.
+pub(crate) fn first_ciphers<C: BlockCipher>(
+    cipher: &C,
+    iv: &[u8; 12],
+    text_len: usize,
+) -> [[u8; 16]; 8]
+    ensures { AreFirst (C.sealed cipher.now) (λ n. bytes_of (counter_block (pre_counter_block iv.now) n)) text_len result }
+{
+    let counters = Counter {
+        next: pre_counter(iv),
+    };
+    ctr_mode::first_ciphers(cipher, &counters, text_len)
+}
+
+/// Xors the text with the ciphers of the counter blocks behind J0 (7.1, step 3), of which `first_ciphers` gave the
+/// first.
+pub(crate) fn apply_behind_first<C: BlockCipher>(
+    cipher: &C,
+    iv: &[u8; 12],
+    first: &[[u8; 16]; 8],
+    text: &mut [u8],
+)
+    requires { AreFirst (C.sealed cipher.now) (λ n. bytes_of (counter_block (pre_counter_block iv.now) n)) (length text.old) first.now }
+    ensures { text.new ≡ gcm_text (C.sealed cipher.now) iv.now text.old }
+{
+    let counters = Counter {
+        next: pre_counter(iv),
+    };
+    ctr_mode::apply_behind_first(cipher, counters, first, text);
 }
 
 /// Xors the text with the ciphers of the counter blocks from `initial` on (6.5).

@@ -1,24 +1,34 @@
 //! GCM under a key.
 
-ghost use Rattle.std.specs.Prelude.{◌≡◌, ◌+◌, ◌*◌, ◌^◌, ◌<◌, ◌≤◌, ℕ, length, take, IsTrue, Some, bit_xor};
+ghost use Rattle.std.specs.Prelude.{◌≡◌, ◌+◌, ◌*◌, ◌^◌, ◌<◌, ◌≤◌, ℕ, List, length, take, IsTrue, Some, bit_xor};
 ghost use Rattle.std_defs.specs.Blocks.{block_bytes as bytes_of};
 ghost use Rattle.std_defs.specs.GhashField.{field_product};
 ghost use Rattle.std_defs.specs.Gcm.{hash_subkey, pre_counter_block, gctr, gcm_tag, gcm_seal, gcm_open, gcm_takes_tag};
 ghost use Rattle.std_defs.specs.Value.{or_bad_message};
 ghost use Rattle.aes_block.specs.Opened.{Opens};
 
-use crate::counter::{apply_key_stream, first_counter, pre_counter};
-use aes_block::BlockCipher;
-use ghash_field::{GhashKey, absorb};
+use crate::counter::{apply_behind_first, apply_key_stream, first_ciphers, pre_counter};
+use aes_block::{BlockCipher, tags_differ, xor_block};
+use ghash_field::{GhashKey, ghash_of};
 use kc_base::Errno;
 use std::marker::Model;
 use std_defs::block_bytes;
 
-/// Whether a tag of `len` bytes is taken: 4, 8, or 12 to 16 of them (5.2.1.2).
+/// Whether a tag of `len` bytes is taken: 4, 8, or 12 to 16 of them (5.2.1.2). Those of 4 and 8 are for uses that
+/// appendix C allows.
 pub fn takes_gcm_tag(len: usize) -> bool
     ensures { result ≡ gcm_takes_tag len }
 {
     matches!(len, 4 | 8 | 12..=16)
+}
+
+/// The block of the two lengths, in bits (7.1, step 5).
+fn lengths_of(associated_len: usize, text_len: usize) -> u128
+    requires associated_short { associated_len < 2 ^ 32 }
+    requires text_short { text_len < 2 ^ 32 }
+    ensures { result ≡ associated_len * 8 * 2 ^ 64 + text_len * 8 }
+{
+    (associated_len as u128 * 8) * 0x1_0000_0000_0000_0000 + text_len as u128 * 8
 }
 
 /// A block cipher under a key, and the hash subkey that it gives. Contracts see it as the cipher.
@@ -61,8 +71,9 @@ impl<C: BlockCipher + Drop, H: GhashKey + Drop> Gcm<C, H> {
         12
     }
 
-    /// Makes the ciphertext of `text` in its place, and its full tag (7.1), which covers `associated` and the ciphertext. Both have
-    /// fewer than 2^32 bytes. What is sealed opens again, under the whole tag and under each front of it.
+    /// Makes the ciphertext of `text` in its place, and its full tag (7.1), which covers `associated` and the
+    /// ciphertext. Both have fewer than 2^32 bytes. What is sealed opens again, under the whole tag and under each
+    /// front of it. `iv` must be new under this key (8), and at most 2^32 texts may have IVs drawn at random (8.3).
     pub fn seal(&self, iv: &[u8; 12], associated: &[u8], text: &mut [u8], tag: &mut [u8; 16])
         requires associated_short { length associated.now < 2 ^ 32 }
         requires text_short { length text.old < 2 ^ 32 }
@@ -70,12 +81,15 @@ impl<C: BlockCipher + Drop, H: GhashKey + Drop> Gcm<C, H> {
         ensures opens_whole { gcm_open (C.sealed self.now) iv.now associated.now text.new tag.new ≡ Some text.old }
         ensures opens { (n : ℕ) → n ≤ 16 → gcm_open (C.sealed self.now) iv.now associated.now text.new (take n tag.new) ≡ Some text.old }
     {
-        apply_key_stream(&self.cipher, first_counter(iv), text);
-        *tag = self.tag(iv, associated, text);
+        let first = first_ciphers(&self.cipher, iv, text.len());
+        apply_behind_first(&self.cipher, iv, &first, text);
+        *tag = self.tag(&first[0], associated, text);
     }
 
-    /// Makes the plaintext of `text` in its place (7.2). `associated` and `text` have fewer than 2^32 bytes each, `tag` has 4, 8 or
-    /// 12 to 16 bytes. `EBADMSG` exactly where `tag` isn't the front of the full tag: the text is then unchanged.
+    /// Makes the plaintext of `text` in its place (7.2). `associated` and `text` have fewer than 2^32 bytes each, `tag`
+    /// has 4, 8 or 12 to 16 bytes. `EBADMSG` exactly where `tag` isn't the front of the full tag: the text is then
+    /// unchanged. Each byte of the tag is compared, wherever the first difference is. A tag of 4 or 8 bytes is within a
+    /// forger's reach (appendix C).
     pub fn unseal(
         &self,
         iv: &[u8; 12],
@@ -88,24 +102,26 @@ impl<C: BlockCipher + Drop, H: GhashKey + Drop> Gcm<C, H> {
         requires tag_taken { IsTrue (gcm_takes_tag (length tag.now)) }
         ensures { Opens result (or_bad_message (gcm_open (C.sealed self.now) iv.now associated.now text.old tag.now)) text.old text.new }
     {
-        let full = self.tag(iv, associated, text);
-        if &full[..tag.len()] != tag {
+        let first = first_ciphers(&self.cipher, iv, text.len());
+        let full = self.tag(&first[0], associated, text);
+        if tags_differ(&full, tag) {
             return Err(Errno::EBADMSG);
         }
-        apply_key_stream(&self.cipher, first_counter(iv), text);
+        apply_behind_first(&self.cipher, iv, &first, text);
         Ok(())
     }
 
-    /// The full tag of a ciphertext: GHASH of the associated bytes, the ciphertext and their lengths in bits, sealed from J0
-    /// (7.1, steps 4 to 6).
-    fn tag(&self, iv: &[u8; 12], associated: &[u8], text: &[u8]) -> [u8; 16]
+    /// The full tag of a ciphertext: GHASH of the associated bytes, the ciphertext and their lengths in bits, and the
+    /// cipher of J0 (7.1, steps 4 to 6).
+    fn tag(&self, sealed: &[u8; 16], associated: &[u8], text: &[u8]) -> [u8; 16]
         requires associated_short { length associated.now < 2 ^ 32 }
         requires text_short { length text.now < 2 ^ 32 }
-        ensures { result ≡ gcm_tag (C.sealed self.now) iv.now associated.now text.now }
+        ensures { (iv : List ℕ) → sealed.now ≡ C.sealed self.now (bytes_of (pre_counter_block iv)) → result ≡ gcm_tag (C.sealed self.now) iv associated.now text.now }
     {
-        let after_associated = absorb(&self.key, 0, associated);
-        let after_text = absorb(&self.key, after_associated, text);
-        self.seal_hash(iv, after_text, associated.len(), text.len())
+        let lengths = lengths_of(associated.len(), text.len());
+        let mut tag = block_bytes(ghash_of(&self.key, associated, text, lengths));
+        xor_block(&mut tag, sealed);
+        tag
     }
 
     /// The tag, from GHASH of the associated bytes and the ciphertext, and their lengths.
@@ -120,7 +136,7 @@ impl<C: BlockCipher + Drop, H: GhashKey + Drop> Gcm<C, H> {
         requires text_short { text_len < 2 ^ 32 }
         ensures { result ≡ gctr (C.sealed self.now) (pre_counter_block iv.now) (bytes_of (field_product (bit_xor hash (associated_len * 8 * 2 ^ 64 + text_len * 8)) (hash_subkey (C.sealed self.now)))) }
     {
-        let lengths = (associated_len as u128 * 8) * 0x1_0000_0000_0000_0000 + text_len as u128 * 8;
+        let lengths = lengths_of(associated_len, text_len);
         let mut tag = block_bytes(self.key.product(hash ^ lengths));
         apply_key_stream(&self.cipher, pre_counter(iv), &mut tag);
         tag

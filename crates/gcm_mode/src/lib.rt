@@ -1,4 +1,8 @@
 //! GCM (NIST SP 800-38D) with IVs of 96 bits, and its form in ESP (RFC 4106).
+//!
+//! No IV may be used for two texts under a key (8): whoever has both ciphertexts learns the sum of the texts, and can
+//! forge tags. IVs that are drawn at random end at 2^32 texts under a key (8.3); a counter has no such limit. A tag of
+//! 16 bytes is the one to take: one of 4 or 8 bytes bounds how many texts a key may open (appendix C).
 #![tactic(auto)]
 
 mod counter;

@@ -56,9 +56,10 @@ impl<C: BlockCipher + Drop, H: GhashKey + Drop> Rfc4106<C, H> {
         8
     }
 
-    /// Makes the ciphertext of `text`, of fewer than 2^32 bytes, in its place, and its full tag. The last eight bytes of
-    /// `associated`, where ESP's caller puts the IV, are ignored: the nonce of GCM has the salt and `iv` (RFC 4106, 4 and 5).
-    /// `EINVAL` exactly where `associated` hasn't 16 or 20 bytes: all is then unchanged.
+    /// Makes the ciphertext of `text`, of fewer than 2^32 bytes, in its place, and its full tag. The last eight bytes
+    /// of `associated`, where ESP's caller puts the IV, are ignored: the nonce of GCM has the salt and `iv` (RFC 4106,
+    /// 4 and 5). `EINVAL` exactly where `associated` hasn't 16 or 20 bytes: all is then unchanged. `iv` must be new
+    /// under this key and salt (RFC 4106, 3.1).
     pub fn seal(
         &self,
         iv: &[u8; 8],
@@ -80,9 +81,9 @@ impl<C: BlockCipher + Drop, H: GhashKey + Drop> Rfc4106<C, H> {
         Ok(())
     }
 
-    /// Makes the plaintext of `text`, of fewer than 2^32 bytes, in its place, under a tag of 8, 12 or 16 bytes. `EINVAL` exactly
-    /// where `associated` hasn't 16 or 20 bytes, and then `EBADMSG` exactly where `tag` isn't the front of the full tag: the text
-    /// is unchanged in both cases.
+    /// Makes the plaintext of `text`, of fewer than 2^32 bytes, in its place, under a tag of 8, 12 or 16 bytes.
+    /// `EINVAL` exactly where `associated` hasn't 16 or 20 bytes, and then `EBADMSG` exactly where `tag` isn't the
+    /// front of the full tag: the text is unchanged in both cases.
     pub fn unseal(
         &self,
         iv: &[u8; 8],
@@ -102,8 +103,8 @@ impl<C: BlockCipher + Drop, H: GhashKey + Drop> Rfc4106<C, H> {
             .unseal(&nonce, authenticated(associated), text, tag)
     }
 
-    /// Makes the ciphertext of `text`, of fewer than 2^32 bytes, in its place, and its full tag, as `seal` does. `EINVAL` exactly
-    /// where `associated` hasn't 16 or 20 bytes: all is then unchanged. Each segment keeps its length.
+    /// Makes the ciphertext of `text`, of fewer than 2^32 bytes, in its place, and its full tag, as `seal` does.
+    /// `EINVAL` exactly where `associated` hasn't 16 or 20 bytes: all is then unchanged. Each segment keeps its length.
     pub fn seal_segs(
         &self,
         iv: &[u8; 8],
@@ -125,9 +126,9 @@ impl<C: BlockCipher + Drop, H: GhashKey + Drop> Rfc4106<C, H> {
         Ok(())
     }
 
-    /// Makes the plaintext of `text`, of fewer than 2^32 bytes, in its place, as `unseal` does, under a tag of 8, 12 or 16 bytes.
-    /// `EINVAL` exactly where `associated` hasn't 16 or 20 bytes, and then `EBADMSG` exactly where `tag` isn't the front of the full tag: no segment is opened in both cases. Each segment
-    /// keeps its length.
+    /// Makes the plaintext of `text`, of fewer than 2^32 bytes, in its place, as `unseal` does, under a tag of 8, 12 or
+    /// 16 bytes. `EINVAL` exactly where `associated` hasn't 16 or 20 bytes, and then `EBADMSG` exactly where `tag`
+    /// isn't the front of the full tag: no segment is opened in both cases. Each segment keeps its length.
     pub fn unseal_segs(
         &self,
         iv: &[u8; 8],

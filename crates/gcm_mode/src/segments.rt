@@ -9,13 +9,14 @@ ghost use Rattle.gcm_mode.specs.Segments.{Counts, counts_none, counts_on, Hashes
 
 use crate::counter::{apply_key_stream, counter_after, first_counter};
 use crate::gcm::Gcm;
-use aes_block::BlockCipher;
+use aes_block::{BlockCipher, tags_differ};
 use ghash_field::{GhashKey, absorb};
 use kc_base::Errno;
 use sg_walk::{Segs, Walker};
 use std::marker::Model;
 
-/// The key stream on its way over a text: contracts see the cipher and the counter block of what comes next, as a number.
+/// The key stream on its way over a text: contracts see the cipher and the counter block of what comes next, as a
+/// number.
 #[derive(Drop)]
 struct Counting<'a, C: BlockCipher + Drop> {
     cipher: &'a C,
@@ -104,8 +105,8 @@ fn hash_over<H: GhashKey + Drop>(key: &H, hash: u128, text: &mut Segs) -> u128
 }
 
 impl<C: BlockCipher + Drop, H: GhashKey + Drop> Gcm<C, H> {
-    /// Makes the ciphertext of `text` in its place, and its full tag, as `seal` does. `associated` and `text` have fewer than 2^32
-    /// bytes each. Each segment keeps its length.
+    /// Makes the ciphertext of `text` in its place, and its full tag, as `seal` does. `associated` and `text` have
+    /// fewer than 2^32 bytes each. Each segment keeps its length. `iv` must be new under this key.
     pub fn seal_segs(&self, iv: &[u8; 12], associated: &[u8], text: &mut Segs, tag: &mut [u8; 16])
         requires associated_short { length associated.now < 2 ^ 32 }
         requires text_short { length text.old.text < 2 ^ 32 }
@@ -116,9 +117,9 @@ impl<C: BlockCipher + Drop, H: GhashKey + Drop> Gcm<C, H> {
         *tag = self.tag_of_segs(iv, associated, text);
     }
 
-    /// Makes the plaintext of `text` in its place, as `unseal` does, under a tag of 4, 8 or 12 to 16 bytes. `associated` and `text`
-    /// have fewer than 2^32 bytes each. `EBADMSG` exactly where `tag` isn't the front of the full tag: no segment is opened then.
-    /// Each segment keeps its length.
+    /// Makes the plaintext of `text` in its place, as `unseal` does, under a tag of 4, 8 or 12 to 16 bytes.
+    /// `associated` and `text` have fewer than 2^32 bytes each. `EBADMSG` exactly where `tag` isn't the front of the
+    /// full tag: no segment is opened then. Each segment keeps its length.
     pub fn unseal_segs(
         &self,
         iv: &[u8; 12],
@@ -133,7 +134,7 @@ impl<C: BlockCipher + Drop, H: GhashKey + Drop> Gcm<C, H> {
         ensures sizes { text.new.sizes ≡ text.old.sizes }
     {
         let full = self.tag_of_segs(iv, associated, text);
-        if &full[..tag.len()] != tag {
+        if tags_differ(&full, tag) {
             return Err(Errno::EBADMSG);
         }
         count_over(self.cipher(), first_counter(iv), text);

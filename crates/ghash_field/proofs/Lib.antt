@@ -1,2 +1,9 @@
 pub mod ShiftAndFold
-pub mod NibbleTables
+pub mod HalfBytes
+pub mod ByteSums
+pub mod MovedOn
+pub mod BlockLanes
+pub mod LaneRows
+pub mod EightBlocks
+pub mod Transposed
+pub mod LastBlocks

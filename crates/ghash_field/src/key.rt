@@ -1,9 +1,12 @@
 //! What a hash needs of a key.
 
-ghost use Rattle.std.specs.Prelude.{◌≡◌, ◌<◌, ◌^◌, ℕ};
+ghost use Rattle.std.specs.Prelude.{◌≡◌, ◌<◌, ◌^◌, ℕ, length};
 ghost use Rattle.std_defs.specs.Blocks.{block_number as number_of, block_bytes as bytes_of};
 ghost use Rattle.std_defs.specs.GhashField.{field_product};
+ghost use Rattle.std_defs.specs.Gcm.{padded_blocks};
+ghost use Rattle.std_defs.proofs.Horner.{horner};
 
+use crate::block::block_at;
 use std_defs::{block_bytes, block_number};
 
 /// The hash subkey H, prepared for products by it (NIST SP 800-38D, 6.4).
@@ -25,6 +28,18 @@ pub trait GhashKey {
         ensures fits { block self.now < 2 ^ 128 }
     {
         block_bytes(self.product(block_number(x)))
+    }
+
+    /// The hash carried on from `y` over eight blocks: each is added, and the sum is multiplied by H.
+    fn absorb_eight(&self, y: u128, eight: &[u8]) -> u128
+        requires { length eight.now ≡ 128 }
+        ensures { result ≡ horner (block self.now) y (padded_blocks eight.now) }
+    {
+        let mut y = y;
+        for i in 0..8usize {
+            y = self.product(y ^ block_at(eight, i));
+        }
+        y
     }
 
     /// H is a block.

@@ -1,16 +1,16 @@
 //! The product of the field.
 
-ghost use Rattle.std.specs.Prelude.{◌≡◌, ◌<◌, ◌^◌, ℕ, bit_xor};
+ghost use Rattle.std.specs.Prelude.{◌≡◌, ◌<◌, ◌^◌, ◌==◌, ℕ, bit_xor, if◌then◌else◌};
 ghost use Rattle.std_defs.specs.GhashField.{polynomial_of, product, IsCongruent, field_one, field_product};
 
-/// The digits 11100001 and 120 zeros (6.3: R), by which a 1 that falls out on the right is folded back.
-const FOLD: u128 = 0xe1 << 120;
+use crate::multiples::halved;
 
 /// The product of two blocks, given by their numbers (NIST SP 800-38D, 6.3).
 pub fn multiply(x: u128, y: u128) -> u128
     ensures product { result ≡ field_product x y }
 
-    // It is the block that is congruent to the product of the polynomials, modulo x^128 + x^7 + x^2 + x + 1, and the only one.
+    // It is the block that is congruent to the product of the polynomials, modulo x^128 + x^7 + x^2 + x + 1, and the
+    // only one.
     ensures congruent { IsCongruent (product (polynomial_of x) (polynomial_of y)) (polynomial_of result) }
     ensures only { (r : ℕ) → r < 2 ^ 128 → IsCongruent (product (polynomial_of x) (polynomial_of y)) (polynomial_of r) → r ≡ result }
 
@@ -23,7 +23,15 @@ pub fn multiply(x: u128, y: u128) -> u128
     shift_and_fold(x, y)
 }
 
-/// The product, bit by bit: the sum of `y` times x^i for each bit i of `x`.
+/// The block where the bit is 1, and zeros where it is 0, without a branch.
+fn times_bit(bit: u128, v: u128) -> u128
+    requires { bit < 2 }
+    ensures { result ≡ (if bit == 1 then v else 0) }
+{
+    bit * v
+}
+
+/// The product, bit by bit: the sum of `y` times x^i for each bit i of `x`. No branch depends on the blocks.
 #[tactic(auto, using(crate::proofs::ShiftAndFold::shift_and_fold))]
 fn shift_and_fold(x: u128, y: u128) -> u128
     ensures { result ≡ field_product x y }
@@ -31,14 +39,8 @@ fn shift_and_fold(x: u128, y: u128) -> u128
     let mut z = 0u128;
     let mut v = y;
     for i in 0..128u32 {
-        if (x >> (127 - i)) & 1 == 1 {
-            z ^= v;
-        }
-        let falls_out = v & 1 == 1;
-        v >>= 1;
-        if falls_out {
-            v ^= FOLD;
-        }
+        z ^= times_bit((x >> (127 - i)) & 1, v);
+        v = halved(v);
     }
     z
 }

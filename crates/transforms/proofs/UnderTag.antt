@@ -25,7 +25,7 @@ use Rattle.transforms.specs.declared.any_aes.AnyAes.{AnyAes}
 use Rattle.transforms.specs.declared.any_cipher.AnyCipher.{AnyCipher}
 use Rattle.transforms.specs.declared.any_cipher.CipherMode.{CipherMode}
 use Rattle.transforms.specs.declared.any_cipher.CipherMode.TheVariants as mode
-use Rattle.transforms.specs.declared.any_aead.AnyAead.TheVariants.{BitGcm, NibbleGcm, BitRfc4106, NibbleRfc4106, Ccm, Authenc}
+use Rattle.transforms.specs.declared.any_aead.AnyAead.TheVariants.{BitGcm, LaneGcm, BitRfc4106, LaneRfc4106, Ccm, Authenc}
 
 some : List ℕ → Option (List ℕ)
 some x = Some x
@@ -44,9 +44,9 @@ under_bits a form ghash key e f = record {
   gives = λ n q. ap (λ k. aead_value (gcm_seals k) (gcm_opens k) n q) e;
 }
 
-pub under_nibbles : (a : Box AnyAes Global) (form : AesForm) (ghash : GhashForm) (key : List ℕ) → key_of a.value ≡ key → form_of a.value ≡ form → IsAead (NibbleGcm a) (plan.Gcm form ghash) key
+pub under_lanes : (a : Box AnyAes Global) (form : AesForm) (ghash : GhashForm) (key : List ℕ) → key_of a.value ≡ key → form_of a.value ≡ form → IsAead (LaneGcm a) (plan.Gcm form ghash) key
 unfolding some some_form request_value template_named
-under_nibbles a form ghash key e f = record {
+under_lanes a form ghash key e f = record {
   form = ap some_form f;
   aes_key = ap some e;
   iv = refl;
@@ -77,9 +77,9 @@ under_bits_salted m form ghash key e f d = record {
   gives = λ n q. ap₂ (λ k s. aead_value (rfc4106_seals k s) (rfc4106_opens k s) n q) e d ∙ salted _ q.dir n _ _;
 }
 
-pub under_nibbles_salted : (m : Box (AnyAes × List ℕ) Global) (form : AesForm) (ghash : GhashForm) (key : List ℕ) → key_of m.value.0 ≡ front_key key → form_of m.value.0 ≡ form → m.value.1 ≡ last_four key → IsAead (NibbleRfc4106 m) (plan.Rfc4106 form ghash) key
+pub under_lanes_salted : (m : Box (AnyAes × List ℕ) Global) (form : AesForm) (ghash : GhashForm) (key : List ℕ) → key_of m.value.0 ≡ front_key key → form_of m.value.0 ≡ form → m.value.1 ≡ last_four key → IsAead (LaneRfc4106 m) (plan.Rfc4106 form ghash) key
 unfolding some some_form request_value template_named
-under_nibbles_salted m form ghash key e f d = record {
+under_lanes_salted m form ghash key e f d = record {
   form = ap some_form f;
   aes_key = ap some e;
   iv = refl;

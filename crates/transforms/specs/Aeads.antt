@@ -15,29 +15,29 @@ use Rattle.transforms.specs.RequestValue.{request_value}
 use Rattle.transforms.specs.declared.request.Request.{Request}
 use Rattle.transforms.specs.declared.any_aes.AnyAes.{AnyAes}
 use Rattle.transforms.specs.declared.any_aead.AnyAead.{AnyAead}
-use Rattle.transforms.specs.declared.any_aead.AnyAead.TheVariants.{BitGcm, NibbleGcm, BitRfc4106, NibbleRfc4106, Ccm, Authenc}
+use Rattle.transforms.specs.declared.any_aead.AnyAead.TheVariants.{BitGcm, LaneGcm, BitRfc4106, LaneRfc4106, Ccm, Authenc}
 
 abbrev pub iv_size_of : AnyAead → ℕ
 iv_size_of (BitGcm aes) = 12
-iv_size_of (NibbleGcm boxed) = 12
+iv_size_of (LaneGcm boxed) = 12
 iv_size_of (BitRfc4106 salted) = 8
-iv_size_of (NibbleRfc4106 boxed) = 8
+iv_size_of (LaneRfc4106 boxed) = 8
 iv_size_of (Ccm aes) = 16
 iv_size_of (Authenc mode) = ciphers.iv_size_of mode.1
 
 abbrev pub tag_size_of : AnyAead → ℕ
 tag_size_of (BitGcm aes) = 16
-tag_size_of (NibbleGcm boxed) = 16
+tag_size_of (LaneGcm boxed) = 16
 tag_size_of (BitRfc4106 salted) = 16
-tag_size_of (NibbleRfc4106 boxed) = 16
+tag_size_of (LaneRfc4106 boxed) = 16
 tag_size_of (Ccm aes) = 16
 tag_size_of (Authenc mode) = 32
 
 abbrev pub takes_tag_of : AnyAead → ℕ → Bool
 takes_tag_of (BitGcm aes) n = gcm_takes_tag n
-takes_tag_of (NibbleGcm boxed) n = gcm_takes_tag n
+takes_tag_of (LaneGcm boxed) n = gcm_takes_tag n
 takes_tag_of (BitRfc4106 salted) n = rfc4106_takes_tag n
-takes_tag_of (NibbleRfc4106 boxed) n = rfc4106_takes_tag n
+takes_tag_of (LaneRfc4106 boxed) n = rfc4106_takes_tag n
 takes_tag_of (Ccm aes) n = ccm_takes_tag n
 takes_tag_of (Authenc mode) n = authenc_takes_tag n
 
@@ -47,26 +47,26 @@ takes_input_of _ iv associated text = true
 
 abbrev pub seals_of : AnyAead → Seals
 seals_of (BitGcm aes) = gcm_seals (key_of aes)
-seals_of (NibbleGcm boxed) = gcm_seals (key_of boxed.value)
+seals_of (LaneGcm boxed) = gcm_seals (key_of boxed.value)
 seals_of (BitRfc4106 salted) = rfc4106_seals (key_of salted.0) salted.1
-seals_of (NibbleRfc4106 boxed) = rfc4106_seals (key_of boxed.value.0) boxed.value.1
+seals_of (LaneRfc4106 boxed) = rfc4106_seals (key_of boxed.value.0) boxed.value.1
 seals_of (Ccm aes) = ccm_seals (key_of aes)
 seals_of (Authenc mode) = authenc_seals mode.0 (ciphers.seals_of mode.1)
 
 abbrev pub opens_of : AnyAead → Opens
 opens_of (BitGcm aes) = gcm_opens (key_of aes)
-opens_of (NibbleGcm boxed) = gcm_opens (key_of boxed.value)
+opens_of (LaneGcm boxed) = gcm_opens (key_of boxed.value)
 opens_of (BitRfc4106 salted) = rfc4106_opens (key_of salted.0) salted.1
-opens_of (NibbleRfc4106 boxed) = rfc4106_opens (key_of boxed.value.0) boxed.value.1
+opens_of (LaneRfc4106 boxed) = rfc4106_opens (key_of boxed.value.0) boxed.value.1
 opens_of (Ccm aes) = ccm_opens (key_of aes)
 opens_of (Authenc mode) = authenc_opens mode.0 (ciphers.unseals_of mode.1)
 
 -- its cipher, where it has one alone
 abbrev pub aes_of : AnyAead → Option AnyAes
 aes_of (BitGcm aes) = Some aes
-aes_of (NibbleGcm boxed) = Some boxed.value
+aes_of (LaneGcm boxed) = Some boxed.value
 aes_of (BitRfc4106 salted) = Some salted.0
-aes_of (NibbleRfc4106 boxed) = Some boxed.value.0
+aes_of (LaneRfc4106 boxed) = Some boxed.value.0
 aes_of (Ccm aes) = Some aes
 aes_of (Authenc mode) = ciphers.aes_of mode.1
 

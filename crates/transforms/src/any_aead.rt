@@ -13,19 +13,19 @@ use crate::tfm_err::TfmErr;
 use authenc::{Authenc, read_blob};
 use cmac_ccm::Ccm;
 use gcm_mode::{Gcm, Rfc4106};
-use ghash_field::{BitGhash, NibbleGhash};
+use ghash_field::{BitGhash, LaneGhash};
 use hmac_sha::Mac;
 use kc_base::Errno;
 use std::alloc::Global;
 use templates::{AesForm, GhashForm};
 
-/// A mode with a tag, in each of its forms. Those with tables of GHASH stand in a box.
+/// A mode with a tag, in each of its forms. Those whose GHASH key has rows of products (4 KiB) stand in a box.
 #[derive(Drop)]
 pub enum AnyAead {
     BitGcm(Gcm<AnyAes, BitGhash>),
-    NibbleGcm(Box<Gcm<AnyAes, NibbleGhash>>),
+    LaneGcm(Box<Gcm<AnyAes, LaneGhash>>),
     BitRfc4106(Rfc4106<AnyAes, BitGhash>),
-    NibbleRfc4106(Box<Rfc4106<AnyAes, NibbleGhash>>),
+    LaneRfc4106(Box<Rfc4106<AnyAes, LaneGhash>>),
     Ccm(Ccm<AnyAes>),
     Authenc(Authenc<AnyCipher>),
 }
@@ -48,9 +48,9 @@ impl Aead for AnyAead {
     fn iv_len(&self) -> usize {
         match self {
             AnyAead::BitGcm(mode) => mode.iv_len(),
-            AnyAead::NibbleGcm(mode) => mode.iv_len(),
+            AnyAead::LaneGcm(mode) => mode.iv_len(),
             AnyAead::BitRfc4106(mode) => mode.iv_len(),
-            AnyAead::NibbleRfc4106(mode) => mode.iv_len(),
+            AnyAead::LaneRfc4106(mode) => mode.iv_len(),
             AnyAead::Ccm(mode) => mode.iv_len(),
             AnyAead::Authenc(mode) => mode.iv_len(),
         }
@@ -59,9 +59,9 @@ impl Aead for AnyAead {
     fn takes(&self, iv: &[u8], aad: usize, text: usize) -> bool {
         match self {
             AnyAead::BitGcm(mode) => mode.takes(iv, aad, text),
-            AnyAead::NibbleGcm(mode) => mode.takes(iv, aad, text),
+            AnyAead::LaneGcm(mode) => mode.takes(iv, aad, text),
             AnyAead::BitRfc4106(mode) => mode.takes(iv, aad, text),
-            AnyAead::NibbleRfc4106(mode) => mode.takes(iv, aad, text),
+            AnyAead::LaneRfc4106(mode) => mode.takes(iv, aad, text),
             AnyAead::Ccm(mode) => mode.takes(iv, aad, text),
             AnyAead::Authenc(mode) => mode.takes(iv, aad, text),
         }
@@ -70,9 +70,9 @@ impl Aead for AnyAead {
     fn seal(&self, iv: &[u8], aad: &[u8], b: &mut [u8], tag: &mut [u8]) -> Result<(), Errno> {
         match self {
             AnyAead::BitGcm(mode) => Aead::seal(mode, iv, aad, b, tag),
-            AnyAead::NibbleGcm(mode) => Aead::seal(&**mode, iv, aad, b, tag),
+            AnyAead::LaneGcm(mode) => Aead::seal(&**mode, iv, aad, b, tag),
             AnyAead::BitRfc4106(mode) => Aead::seal(mode, iv, aad, b, tag),
-            AnyAead::NibbleRfc4106(mode) => Aead::seal(&**mode, iv, aad, b, tag),
+            AnyAead::LaneRfc4106(mode) => Aead::seal(&**mode, iv, aad, b, tag),
             AnyAead::Ccm(mode) => Aead::seal(mode, iv, aad, b, tag),
             AnyAead::Authenc(mode) => Aead::seal(mode, iv, aad, b, tag),
         }
@@ -81,9 +81,9 @@ impl Aead for AnyAead {
     fn unseal(&self, iv: &[u8], aad: &[u8], b: &mut [u8], tag: &[u8]) -> Result<(), Errno> {
         match self {
             AnyAead::BitGcm(mode) => Aead::unseal(mode, iv, aad, b, tag),
-            AnyAead::NibbleGcm(mode) => Aead::unseal(&**mode, iv, aad, b, tag),
+            AnyAead::LaneGcm(mode) => Aead::unseal(&**mode, iv, aad, b, tag),
             AnyAead::BitRfc4106(mode) => Aead::unseal(mode, iv, aad, b, tag),
-            AnyAead::NibbleRfc4106(mode) => Aead::unseal(&**mode, iv, aad, b, tag),
+            AnyAead::LaneRfc4106(mode) => Aead::unseal(&**mode, iv, aad, b, tag),
             AnyAead::Ccm(mode) => Aead::unseal(mode, iv, aad, b, tag),
             AnyAead::Authenc(mode) => Aead::unseal(mode, iv, aad, b, tag),
         }
@@ -99,9 +99,9 @@ impl AnyAead {
     {
         match self {
             AnyAead::BitGcm(mode) => Some(mode.cipher()),
-            AnyAead::NibbleGcm(mode) => Some(mode.cipher()),
+            AnyAead::LaneGcm(mode) => Some(mode.cipher()),
             AnyAead::BitRfc4106(mode) => Some(mode.cipher()),
-            AnyAead::NibbleRfc4106(mode) => Some(mode.cipher()),
+            AnyAead::LaneRfc4106(mode) => Some(mode.cipher()),
             AnyAead::Ccm(mode) => Some(mode.cipher()),
             AnyAead::Authenc(mode) => mode.cipher().aes(),
         }
@@ -121,7 +121,7 @@ impl AnyAead {
         let aes = AnyAes::new(alloc, form, key)?;
         match ghash {
             GhashForm::GhashGeneric => Ok(AnyAead::BitGcm(Gcm::new(aes))),
-            GhashForm::GhashTable => Ok(AnyAead::NibbleGcm(Box::new(alloc, Gcm::new(aes))?)),
+            GhashForm::GhashTable => Ok(AnyAead::LaneGcm(Box::new(alloc, Gcm::new(aes))?)),
         }
     }
 
@@ -142,7 +142,7 @@ impl AnyAead {
             GhashForm::GhashGeneric => Ok(AnyAead::BitRfc4106(Rfc4106::new(Gcm::new(aes), salt))),
             GhashForm::GhashTable => {
                 let mode = Rfc4106::new(Gcm::new(aes), salt);
-                Ok(AnyAead::NibbleRfc4106(Box::new(alloc, mode)?))
+                Ok(AnyAead::LaneRfc4106(Box::new(alloc, mode)?))
             }
         }
     }

@@ -1,26 +1,11 @@
-use Rattle.std.proofs.Common.{◌≤◌, length, ◌∙◌, refl, ap, arith, bit_xor}
-use Rattle.std.proofs.lemmas.List.{take_all}
-use Rattle.std_defs.specs.GhashField.{field_product}
+use Rattle.std.proofs.Common.{◌∙◌}
 use Rattle.std_defs.specs.Gcm.{padded_blocks}
-use Rattle.std_defs.proofs.Horner.{horner, horner-ghash}
-use Rattle.std_defs.proofs.PaddedBlocks.{horner_more, padded_blocks-length, padded_blocks-fit}
+use Rattle.std_defs.proofs.Horner.{horner-ghash}
+use Rattle.std_defs.proofs.PaddedBlocks.{padded_blocks-fit}
 use Rattle.ghash_field.proofs.hash.absorb.Goals as goal
-
-pub loop-i-init : goal.loop-i-init
-unfolding horner
-loop-i-init g c = refl
-
-pub loop-i-preserved : goal.loop-i-preserved
-loop-i-preserved g c =
-    c.product-y.ensures
-    ∙ ap (λ b. field_product (bit_xor c.loop-i.y b) (g.K.GhashKey.block c.args.key.now)) c.block_at.ensures
-    ∙ horner_more (g.K.GhashKey.block c.args.key.now) c.args.y c.loop-i.y c.args.bytes.now c.loop-i.i
-    (omega (arith, c.div_ceil-i-end.ensures)) c.loop-i.invariant
 
 pub returns : goal.returns
 returns g c =
-    let all : length (padded_blocks c.args.bytes.now) ≤ c.loop-i.i = omega (arith, padded_blocks-length c.args.bytes.now, c.div_ceil-i-end.ensures) in
-    c.loop-i.invariant
-    ∙ ap (horner (g.K.GhashKey.block c.args.key.now) c.args.y) (take_all c.loop-i.i (padded_blocks c.args.bytes.now) all)
+    c.carried_on.ensures
     ∙ horner-ghash (g.K.GhashKey.block c.args.key.now) c.args.y (padded_blocks c.args.bytes.now)
     (g.met.K.GhashKey.fits c.args.key.now) c.ranges.y.fits (padded_blocks-fit c.args.bytes.now (λ i. (c.type_inv.bytes i).fits))

@@ -1,7 +1,0 @@
-use Rattle.std.proofs.Common.{◌≡◌, take}
-use Rattle.std_defs.specs.Gcm.{padded_blocks}
-use Rattle.std_defs.proofs.Horner.{horner}
-use Rattle.ghash_field.proofs.hash.absorb.Given as goal
-
-abbrev pub invariant-loop-i : goal.invariant-loop-i
-invariant-loop-i g l = l.y ≡ horner (g.K.GhashKey.block l.key) l.fn.y (take l.i (padded_blocks l.bytes))
