@@ -8,6 +8,7 @@ pub mod Drivers
 pub mod Finish
 pub mod Forms
 pub mod Kept
+pub mod InPlace
 pub mod Keys
 pub mod Laws
 pub mod Macs

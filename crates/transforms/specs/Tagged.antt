@@ -13,6 +13,7 @@ tagged n sealed = sealed.0 ++ take n sealed.1
 abbrev pub joined : List ℕ × List ℕ → List ℕ
 joined sealed = sealed.0 ++ sealed.1
 
--- the text and the tag become the value's bytes, or the value is a refusal
-abbrev pub SealsInto : Result (Unit {0}) Errno → Value → List ℕ → List ℕ → Type 0
-SealsInto result value text tag = MatchResult result (λ _. value ≡ bytes (text ++ tag)) (λ e. (e ≡ EINVAL) × (value ≡ invalid))
+-- the text and the tag become the value's bytes, or the value is a refusal and both stay
+abbrev pub SealsInto : Result (Unit {0}) Errno → Value → List ℕ → List ℕ → List ℕ → List ℕ → Type 0
+SealsInto result value old old_tag text tag =
+    MatchResult result (λ _. value ≡ bytes (text ++ tag)) (λ e. (e ≡ EINVAL) × (value ≡ invalid) × (text ≡ old) × (tag ≡ old_tag))

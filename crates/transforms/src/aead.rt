@@ -46,7 +46,7 @@ pub trait Aead {
         requires input_taken { IsTrue (takes_input self.now iv.now (length aad.now) (length b.old)) }
         requires aad_short { length aad.now < 2 ^ 32 }
         requires text_short { length b.old < 2 ^ 32 }
-        ensures { SealsInto result (seals self.now (length tag.old) iv.now aad.now b.old) b.new tag.new };
+        ensures { SealsInto result (seals self.now (length tag.old) iv.now aad.now b.old) b.old tag.old b.new tag.new };
 
     fn unseal(&self, iv: &[u8], aad: &[u8], b: &mut [u8], tag: &[u8]) -> Result<(), Errno>
         requires iv_fits { length iv.now ≡ iv_size self.now }

@@ -47,6 +47,7 @@ impl Model for Keyed {
 
 impl Keyed {
     ghost use Rattle.transforms.specs.Forms.{form_of, key_of};
+    ghost use Rattle.transforms.specs.Keys.{IsKeyed};
 
     /// Sets a key. Unless memory ran out (`Memory`), `Inval` exactly where the plan doesn't take it: AES takes 16, 24 or 32 bytes, RFC
     /// 3686 and RFC 4106 4 bytes more, XTS 32 or 64, HMAC any number, and authenc a blob with a cipher key that its cipher takes.
@@ -75,6 +76,13 @@ impl Keyed {
             Inner::Mac(mac) => mac.aes(),
             Inner::Aead(aead) => aead.aes(),
         }
+    }
+
+    /// What is kept of the key.
+    pub(crate) fn inner(&self) -> &Inner
+        ensures { IsKeyed result.now self.now.0 self.now.1 }
+    {
+        &self.inner
     }
 
     /// Whether a request is taken, for a tag size.

@@ -7,6 +7,7 @@ mod any_aes;
 mod any_cipher;
 mod any_mac;
 mod ask;
+mod in_place;
 mod inner;
 mod job;
 mod keyed;

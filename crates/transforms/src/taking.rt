@@ -36,7 +36,7 @@ pub fn takes_mac(request: &Request) -> bool
 }
 
 /// Whether a mode with a tag takes an IV of any size, with so many associated bytes and so many bytes of text.
-fn takes_input<A: Aead>(aead: &A, iv: &[u8], aad: usize, text: usize) -> bool
+pub fn takes_input<A: Aead>(aead: &A, iv: &[u8], aad: usize, text: usize) -> bool
     ensures { result ≡ (length iv.now == A.iv_size aead.now && A.takes_input aead.now iv.now aad text) }
 {
     if iv.len() == aead.iv_len() {
