@@ -15,9 +15,10 @@ use Rattle.transforms.specs.Plans.{takes_key, takes_tag}
 use Rattle.transforms.specs.RequestValue.{request_value}
 use Rattle.reply_text.specs.declared.answers.Answer.{Answer}
 use Rattle.reply_text.specs.declared.answers.Answer.TheVariants as said
+use Rattle.reply_text.specs.declared.origin.Origin.{Origin}
 use Rattle.dialogues.specs.BoardCalls.{Asked}
 use Rattle.dialogues.specs.Questions.{Submit, Enqueue}
-use Rattle.dialogues.specs.Dialogues.{Dialogue, Posts, says, refuses, unless, with_label}
+use Rattle.dialogues.specs.Dialogues.{Dialogue, Posts, says, refuses, unless, with_label, with_either}
 use Rattle.dialogues.specs.Walk.{Walk, Live, Pipe, with_live, with_pipe}
 
 -- ---- `aes KEY BLOCK`
@@ -71,10 +72,14 @@ size_of request = length request.iv + length request.aad + length request.text.t
 abbrev pub is_too_big : Walk → Request → Bool
 is_too_big walk request = nat_le (2 ^ 20) walk.requests || nat_lt (2 ^ 26) (walk.bytes + size_of request)
 
+-- a line of the script
+abbrev pub here : Walk → ℕ → Origin
+here walk n = record { client = walk.client; line = n }
+
 -- the pipeline has accepted a request
 abbrev pub accepting : Walk → ℕ → Live → Pipe → Request → Walk
 accepting walk n live pipe request =
-    record (with_pipe walk live (record pipe { lines = pipe.lines ++ n ∷ [] })) { requests = walk.requests + 1; bytes = walk.bytes + size_of request }
+    record (with_pipe walk live (record pipe { lines = pipe.lines ++ here walk n ∷ [] })) { requests = walk.requests + 1; bytes = walk.bytes + size_of request }
 
 abbrev pub entered : Walk → ℕ → Live → Pipe → Request → Entered → Dialogue
 entered walk n live pipe request (InProgress number) = refuses (accepting walk n live pipe request) n EINPROGRESS
@@ -101,4 +106,4 @@ requests_under walk n live request backlog (Some key) =
     (requests_in walk n live (asked_of walk n live key request) backlog live.pipe)
 
 abbrev pub request : Walk → ℕ → List ℕ → Request → Bool → Dialogue
-request walk n label asked backlog = with_label walk n label λ live. requests_under walk n live asked backlog live.key
+request walk n label asked backlog = with_either walk n label λ live. requests_under walk n live asked backlog live.key
