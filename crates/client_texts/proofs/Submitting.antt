@@ -235,15 +235,15 @@ closes_once : (walk : Walk) (n : ℕ) (live : Live) (pipe : Option Pipe) → Onc
 closes_once walk n live None = λ done. refl
 closes_once walk n live (Some pipe) = if_once walk.client n (nat_lt pipe.delivered (length pipe.lines)) _ _ refl (λ closed done. refl)
 
-entered_quiet : (walk : Walk) (n : ℕ) (live : Live) (pipe : Pipe) (request : Request) (answer : Entered) → Quiet walk.client (entered walk n live pipe request answer)
-entered_quiet walk n live pipe request (InProgress number) = refl
-entered_quiet walk n live pipe request (Busy number) = refl
-entered_quiet walk n live pipe request NoSpace = refl
+entered_quiet : (walk : Walk) (n : ℕ) (live : Live) (pipe : Pipe) (asked : Asked) (answer : Entered) → Quiet walk.client (entered walk n live pipe asked answer)
+entered_quiet walk n live pipe asked (InProgress number) = refl
+entered_quiet walk n live pipe asked (Busy number) = refl
+entered_quiet walk n live pipe asked NoSpace = refl
 
 hands_once : (walk : Walk) (n : ℕ) (live : Live) (pipe : Pipe) (asked : Asked) (backlog : Bool) (bound : Option ℕ) → asked.client ≡ walk.client → asked.line ≡ n
     → Once walk.client n (hands_in walk n live pipe asked backlog bound)
 hands_once walk n live pipe asked backlog None client line = (client, line, λ number. refl)
-hands_once walk n live pipe asked backlog (Some max) client line = (client, line, λ answer. entered_quiet walk n live pipe asked.request answer)
+hands_once walk n live pipe asked backlog (Some max) client line = (client, line, λ answer. entered_quiet walk n live pipe asked answer)
 
 requests_once : (walk : Walk) (n : ℕ) (live : Live) (asked : Asked) (backlog : Bool) (pipe : Option Pipe) → asked.client ≡ walk.client → asked.line ≡ n
     → Once walk.client n (requests_in walk n live asked backlog pipe)

@@ -1,3 +1,3 @@
 pub mod Sharing
 pub mod Outputs
-pub mod Runs
+pub mod Laws

@@ -1,19 +1,14 @@
 -- What several scripts at once print.
-use Rattle.std.specs.Prelude.{ℕ, ◌+◌, ◌≡◌, List, [], ◌∷◌, ◌++◌, map, codes}
-use Rattle.std.specs.Fmt.{decimal}
+use Rattle.std.specs.Prelude.{ℕ, ◌+◌, ◌≡◌, List, [], ◌∷◌, ◌++◌, map}
 use Rattle.alg_registry.specs.declared.entry.RegEntry.{RegEntry}
 use Rattle.board.specs.declared.entry.BoardEntry.{BoardEntry}
-use Rattle.reply_text.specs.Answers.{sentence}
+use Rattle.reply_text.specs.Answers.{heading}
 use Rattle.script_text.specs.declared.commands.Line.{Line}
 use Rattle.script_text.specs.Parts.{parts_of}
 use Rattle.script_text.specs.Script.{script_of}
 use Rattle.transforms.specs.declared.ask.Ask.{Ask}
 use Rattle.dialogues.specs.Texts.{IsClientText, AreFirstTexts}
 use Rattle.dialogues.specs.Walk.{Walk, Live}
-
--- the line above a client's text
-abbrev pub heading : ℕ → List ℕ
-heading client = sentence (codes "client" ∷ decimal client ∷ [])
 
 -- the texts of the clients from this one on, each under its line
 abbrev pub under_headings : ℕ → List (List ℕ) → List ℕ

@@ -45,13 +45,13 @@ number_or default most (Some text) = number_up_to most text
 abbrev pub workers_of : Option Text → Option ℕ
 workers_of = number_or 4 16
 
-abbrev pub if_some : Option ℕ → Option ℕ
-if_some None = None
-if_some (Some number) = if number == 0 then None else Some number
+abbrev pub from_one : Option ℕ → Option ℕ
+from_one None = None
+from_one (Some number) = if number == 0 then None else Some number
 
 -- at least 1 and at most 8
 abbrev pub clients_of : Text → Option ℕ
-clients_of text = if_some (number_up_to 8 text)
+clients_of text = from_one (number_up_to 8 text)
 
 abbrev pub seed_of : Text → Option ℕ
 seed_of = number_up_to 18446744073709551615

@@ -5,7 +5,7 @@ ghost use Rattle.clap.specs.Words.{found_of, rows_of};
 ghost use Rattle.command_line.specs.CommandLine.{IsWithinLimits, clients_mode, clients_of, count_of, is_true_text, load_mode, mode_by, mode_of_rows, script_mode, scripts_mode, seed_of, workers_of};
 
 use crate::CommandLineError;
-use crate::number::{number_at_most, number_given, some_at_most};
+use crate::number::{number_at_most, number_given, number_from_one};
 use clap::ArgMatches;
 use run_options::{ClientOptions, LoadOptions, Mode, ScriptOptions};
 
@@ -38,7 +38,7 @@ fn clients_given(
     ensures bounds { IfOk result IsWithinLimits }
 {
     let workers = number_given(DEFAULT_WORKERS, MAX_WORKERS, workers);
-    let clients = some_at_most(clients, MAX_CLIENTS);
+    let clients = number_from_one(clients, MAX_CLIENTS);
     match (workers, clients) {
         (Some(workers), Some(clients)) => Ok(Mode::Clients(ClientOptions {
             workers,

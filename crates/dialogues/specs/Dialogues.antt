@@ -5,7 +5,7 @@ use Rattle.kc_base.specs.declared.error_numbers.Errno.TheVariants.{ENOENT, EINVA
 use Rattle.reply_text.specs.declared.answers.Answer.{Answer}
 use Rattle.reply_text.specs.declared.answers.Answer.TheVariants as said
 use Rattle.dialogues.specs.Questions.{RegQuestion, RegAnswer, BoardQuestion, BoardAnswer}
-use Rattle.dialogues.specs.Walk.{Walk, Live, live_of, shared_of, either}
+use Rattle.dialogues.specs.Walk.{Walk, Live, live_of, shared_of, either_of}
 
 -- It ends, with what the script has made; or it answers; or it asks, and goes on by what comes of it.
 pub data Dialogue : Type 0 where
@@ -50,4 +50,4 @@ with_label walk n label rest = for_live walk n (live_of walk label) (missing (sh
 
 -- and what with its own or the shared one
 abbrev pub with_either : Walk → ℕ → List ℕ → (Live → Dialogue) → Dialogue
-with_either walk n label rest = for_live walk n (either (live_of walk label) (shared_of walk label)) ENOENT rest
+with_either walk n label rest = for_live walk n (either_of walk label) ENOENT rest

@@ -53,10 +53,13 @@ live_of walk label = find (is_of label) walk.lives
 abbrev pub shared_of : Walk → List ℕ → Option Live
 shared_of walk label = find (is_of label) walk.shared
 
--- its own, or else the shared one
 abbrev pub either : Option Live → Option Live → Option Live
 either (Some own) shared = Some own
 either None shared = shared
+
+-- its own, or else the shared one
+abbrev pub either_of : Walk → List ℕ → Option Live
+either_of walk label = either (live_of walk label) (shared_of walk label)
 
 -- the transform of the same label is now this one
 abbrev pub replaced : Live → List Live → List Live

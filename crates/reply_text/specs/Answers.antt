@@ -20,6 +20,10 @@ listed_word listed = if listed then codes "listed" else codes "unlisted"
 abbrev pub sentence : List (List ℕ) → List ℕ
 sentence words = join_with_byte 32 words ++ codes "\n"
 
+-- the line above a client's text
+abbrev pub heading : ℕ → List ℕ
+heading client = sentence (codes "client" ∷ decimal client ∷ [])
+
 -- the line that an answer prints
 abbrev pub text_of : Answer → List ℕ
 text_of (Ok line) = sentence (decimal line ∷ codes "ok" ∷ [])

@@ -3,7 +3,8 @@
 use crate::origin::Origin;
 use kc_base::{Bytes, Errno};
 
-/// An answer, by the number of the line that it answers. What comes of a request later says from which line of which client it is.
+/// An answer, by the number of the line that it answers. What comes of a request later has the line that
+/// made the request, and its client.
 #[derive(Debug, Drop)]
 pub enum Answer {
     /// All went well.

@@ -7,7 +7,7 @@ ghost use Rattle.reply_text.specs.Origins.{origin_word};
 use itoa::write_digits;
 use std::marker::Model;
 
-/// A line, and the client in whose script it stands: 0 where that is the only one, or the first.
+/// A line of a script, and the client whose script it is: 0 for the first, or the only one.
 #[derive(Clone, Copy, Debug, PartialEq, Eq)]
 pub struct Origin {
     pub client: u32,

@@ -2,7 +2,7 @@
 
 ghost use Rattle.std.specs.Prelude.{◌≡◌, ◌+◌, ◌≤◌, ◌∷◌, ◌++◌, [], codes, length, IsOk, OnOk, OnErr};
 ghost use Rattle.std.specs.Fmt.{decimal};
-ghost use Rattle.reply_text.specs.Answers.{sentence, listed_word, text_of};
+ghost use Rattle.reply_text.specs.Answers.{sentence, heading, listed_word, text_of};
 ghost use Rattle.reply_text.specs.Written.{Puts};
 
 use crate::answers::Answer;
@@ -77,6 +77,23 @@ fn say_end(reply: &mut Reply, label: &[u8], count: u64) -> Result<(), AllocError
 {
     let mut number = Buffer::new();
     say(reply, b"end", &[label, number.format(count).as_bytes()])
+}
+
+// The line above a client's text.
+fn say_heading(reply: &mut Reply, client: u32) -> Result<(), AllocError>
+    ensures { Puts (heading client) reply.old reply.new result }
+{
+    let mut number = Buffer::new();
+    say(reply, b"client", &[number.format(client).as_bytes()])
+}
+
+// A text as it is.
+fn say_text(reply: &mut Reply, text: &[u8]) -> Result<(), AllocError>
+    ensures { Puts text.now reply.old reply.new result }
+{
+    reply.reserve(text.len())?;
+    reply.append(text);
+    Ok(())
 }
 
 fn say_answer(reply: &mut Reply, answer: &Answer) -> Result<(), AllocError>
@@ -159,5 +176,25 @@ impl Reply {
         ensures left { self.old.spare ≤ self.new.spare + length (text_of (Answer.End label.now count)) }
     {
         say_end(self, label, count)
+    }
+
+    /// Adds the line `client K`, which stands above the text of client K. Want of memory comes as for [`Reply::put`].
+    pub fn put_heading(&mut self, client: u32) -> Result<(), AllocError>
+        ensures ok { OnOk result (self.new.text ≡ self.old.text ++ heading client) }
+        ensures err { OnErr result (self.new ≡ self.old) }
+        ensures room { length (heading client) ≤ self.old.spare → IsOk result }
+        ensures left { self.old.spare ≤ self.new.spare + length (heading client) }
+    {
+        say_heading(self, client)
+    }
+
+    /// Adds a text as it is. Want of memory comes as for [`Reply::put`].
+    pub fn put_text(&mut self, text: &[u8]) -> Result<(), AllocError>
+        ensures ok { OnOk result (self.new.text ≡ self.old.text ++ text.now) }
+        ensures err { OnErr result (self.new ≡ self.old) }
+        ensures room { length text.now ≤ self.old.spare → IsOk result }
+        ensures left { self.old.spare ≤ self.new.spare + length text.now }
+    {
+        say_text(self, text)
     }
 }

@@ -54,3 +54,11 @@ fn answers_of_great_numbers_have_their_text(rt: HostRuntime) {
         );
     }
 }
+
+#[test]
+fn texts_stand_under_their_headings(rt: HostRuntime) {
+    let mut reply = Reply::new(rt.alloc());
+    reply.put_heading(8).expect(&rt, "memory");
+    reply.put_text(b"1 ok\n").expect(&rt, "memory");
+    assert!(rt; reply.as_slice() == b"client 8\n1 ok\n".as_slice());
+}

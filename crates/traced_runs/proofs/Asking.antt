@@ -124,14 +124,14 @@ closes_words : (walk : Walk) (n : ℕ) (live : Live) (pipe : Option Pipe) → As
 closes_words walk n live None = λ done. (tt, tt)
 closes_words walk n live (Some pipe) = if_words (nat_lt pipe.delivered (length pipe.lines)) _ _ tt (λ closed done. (tt, tt))
 
-entered_words : (walk : Walk) (n : ℕ) (live : Live) (pipe : Pipe) (request : Request) (answer : Entered) → AsksWords (entered walk n live pipe request answer)
-entered_words walk n live pipe request (InProgress number) = tt
-entered_words walk n live pipe request (Busy number) = tt
-entered_words walk n live pipe request NoSpace = tt
+entered_words : (walk : Walk) (n : ℕ) (live : Live) (pipe : Pipe) (asked : Asked) (answer : Entered) → AsksWords (entered walk n live pipe asked answer)
+entered_words walk n live pipe asked (InProgress number) = tt
+entered_words walk n live pipe asked (Busy number) = tt
+entered_words walk n live pipe asked NoSpace = tt
 
 hands_words : (walk : Walk) (n : ℕ) (live : Live) (pipe : Pipe) (asked : Asked) (backlog : Bool) (bound : Option ℕ) → AsksWords (hands_in walk n live pipe asked backlog bound)
 hands_words walk n live pipe asked backlog None = λ number. tt
-hands_words walk n live pipe asked backlog (Some max) = λ answer. entered_words walk n live pipe asked.request answer
+hands_words walk n live pipe asked backlog (Some max) = λ answer. entered_words walk n live pipe asked answer
 
 requests_words : (walk : Walk) (n : ℕ) (live : Live) (asked : Asked) (backlog : Bool) (pipe : Option Pipe) → AsksWords (requests_in walk n live asked backlog pipe)
 requests_words walk n live asked backlog None = tt

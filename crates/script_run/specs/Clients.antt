@@ -1,41 +1,20 @@
 -- What a run of several scripts at once leaves.
-use Rattle.std.specs.Prelude.{ℕ, ◌+◌, ◌≡◌, ◌≤◌, ◌⊎◌, ◌↔◌, Bool, true, false, List, [], ◌∷◌, ◌++◌, Option, Some, IfSome, IsTrue}
-use Rattle.std.specs.Io.KnownBytes.{Appends, Keeps}
+use Rattle.std.specs.Prelude.{ℕ, ◌≡◌, ◌≤◌, ◌⊎◌, ◌↔◌, Bool, true, List, [], ◌++◌, Option, Some, IfSome, IsTrue}
+use Rattle.std.specs.Io.KnownBytes.{Keeps}
 use Rattle.std.specs.List.{list_any}
 use Rattle.alg_registry.specs.declared.entry.RegEntry.{RegEntry}
 use Rattle.alg_registry.specs.Legal.{LegalReg}
 use Rattle.alg_registry.specs.Made.{Made}
 use Rattle.board.specs.declared.entry.BoardEntry.{BoardEntry}
-use Rattle.board.specs.declared.entry.BoardEntry.TheVariants.{Shut}
 use Rattle.board.specs.Legal.{LegalBoard}
 use Rattle.kc_base.specs.Streams.{AppendsFront}
-use Rattle.script_text.specs.declared.commands.Line.{Line}
-use Rattle.script_text.specs.declared.commands.Line.TheVariants as line
 use Rattle.templates.specs.Table.{table}
-use Rattle.trace_text.specs.Asks.{ask_origin}
-use Rattle.trace_text.specs.Trace.{trace_of, AreEvents}
 use Rattle.transforms.specs.declared.ask.Ask.{Ask}
 use Rattle.client_texts.specs.Outputs.{IsOutput, scripts_of}
 use Rattle.client_texts.specs.Sharing.{AreOneList, AreCallersBeside}
-
--- In client_run these six are script_run's (Runs, Endings, Text): `GainsThen`, `traced`, `CanBeRead`, `EndsShut`, `is_malformed`.
-abbrev pub GainsThen : Option (List ℕ) → Option (List ℕ) → (List ℕ → Type 0) → List ℕ → Type 0
-GainsThen old new P trace = (gained : List ℕ) × P gained × Appends old new (gained ++ trace)
-
-abbrev pub traced : Bool → List RegEntry → List (BoardEntry Ask) → List ℕ
-traced true r b = trace_of ask_origin r b
-traced false r b = []
-
-abbrev pub CanBeRead : List RegEntry → List (BoardEntry Ask) → Type 0
-CanBeRead r b = AreEvents ask_origin r b
-
-abbrev pub EndsShut : List (BoardEntry Ask) → Type 0
-EndsShut b = (before : List (BoardEntry Ask)) × (b ≡ before ++ Shut 0 ∷ [])
-
-abbrev pub is_malformed : Line → Bool
-is_malformed line.Nothing = false
-is_malformed line.Malformed = true
-is_malformed (line.Cmd command) = false
+use Rattle.script_run.specs.Endings.{traced, CanBeRead, EndsShut}
+use Rattle.script_run.specs.Runs.{GainsThen}
+use Rattle.script_run.specs.Text.{is_malformed}
 
 -- a line of any part of the input
 abbrev pub has_malformed : ℕ → List ℕ → Bool
