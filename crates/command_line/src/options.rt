@@ -5,7 +5,7 @@ ghost use Rattle.clap.specs.Words.{found_of, rows_of};
 ghost use Rattle.command_line.specs.CommandLine.{IsWithinLimits, clients_mode, clients_of, count_of, is_true_text, load_mode, mode_by, mode_of_rows, script_mode, scripts_mode, seed_of, workers_of};
 
 use crate::CommandLineError;
-use crate::number::{number_at_most, number_given, number_from_one};
+use crate::number::{number_at_most, number_from_one, number_given};
 use clap::ArgMatches;
 use run_options::{ClientOptions, LoadOptions, Mode, ScriptOptions};
 

@@ -1,5 +1,5 @@
 -- Lines up to a mark, and behind it.
-use Rattle.std.proofs.Common.{◌≡◌, ℕ, suc, ◌+◌, ◌-◌, ◌<◌, ◌≤◌, Bool, true, false, cond, List, [], ◌∷◌, ◌++◌, length, take, drop, refl, sym, ap, subst, ◌∙◌, append_assoc, append-nil, length-append, arith}
+use Rattle.std.proofs.Common.{◌≡◌, ℕ, suc, ◌+◌, ◌-◌, ◌<◌, ◌≤◌, Bool, true, false, cond, List, [], ◌∷◌, ◌++◌, length, take, drop, refl, sym, ap, ◌∙◌, append_assoc, append-nil, length-append, arith}
 use Rattle.std.specs.List.{Contains}
 use Rattle.std.specs.List.{onto_first}
 use Rattle.std.proofs.lemmas.List.{take_at, length-take-le, length-drop, drop-drop}
@@ -17,7 +17,7 @@ line-to-feed bytes place found =
     let rest = drop (place + 1) bytes in
     let long : length (text ++ 10 ∷ []) ≡ place + 1 = omega (arith, length-append text (10 ∷ []), length-take-le place bytes (omega (arith, found.below))) in
     let first : take (place + 1) bytes ≡ text ++ 10 ∷ [] =
-      ap (take (place + 1)) (found.bytes_are ∙ sym (append_assoc text (10 ∷ []) rest)) ∙ take_at (text ++ 10 ∷ []) rest (place + 1) long in
+    ap (take (place + 1)) (found.bytes_are ∙ sym (append_assoc text (10 ∷ []) rest)) ∙ take_at (text ++ 10 ∷ []) rest (place + 1) long in
     ap lines_of found.bytes_are ∙ (lines_cut text rest found.no_feed ∙ ap (λ line. line ∷ lines_of rest) (sym first))
 
 -- or with the bytes
@@ -69,9 +69,9 @@ passes-line bytes at len was short first other =
     record {
       within = omega (arith, was.within, short, length-drop at bytes);
       before = was.before ∙ (ap (λ lines. take at bytes ++ before_mark lines) first
-        ∙ (ap (λ more. take at bytes ++ more) (before-other line (lines_of rest) other)
-        ∙ (sym (append_assoc (take at bytes) line (before_mark (lines_of rest)))
-        ∙ (ap (λ front. front ++ before_mark (lines_of rest)) (sym taken) ∙ ap (λ r. take (at + len) bytes ++ before_mark (lines_of r)) (sym there)))));
+          ∙ (ap (λ more. take at bytes ++ more) (before-other line (lines_of rest) other)
+          ∙ (sym (append_assoc (take at bytes) line (before_mark (lines_of rest)))
+          ∙ (ap (λ front. front ++ before_mark (lines_of rest)) (sym taken) ∙ ap (λ r. take (at + len) bytes ++ before_mark (lines_of r)) (sym there)))));
       behind = was.behind ∙ (ap behind_mark first ∙ (behind-other line (lines_of rest) other ∙ ap (λ r. behind_mark (lines_of r)) (sym there)));
     }
 
@@ -81,18 +81,20 @@ pub meets-mark : (bytes : List ℕ) (at len : ℕ) → IsPassed bytes at → lin
     → (take at bytes ≡ before_mark (lines_of bytes)) × (lines_of (drop (at + len) bytes) ≡ behind_mark (lines_of bytes))
 meets-mark bytes at len was first mark =
     let line = take len (drop at bytes) in
-    let rest = drop len (drop at bytes) in
-    ( sym (was.before ∙ (ap (λ lines. take at bytes ++ before_mark lines) first
-        ∙ (ap (λ more. take at bytes ++ more) (before-mark line (lines_of rest) mark) ∙ append-nil (take at bytes))))
-    , sym (was.behind ∙ (ap behind_mark first ∙ (behind-mark line (lines_of rest) mark ∙ ap lines_of (drop-drop len at bytes)))) )
+    let rest = drop len (drop at bytes) in (
+      sym (was.before ∙ (ap (λ lines. take at bytes ++ before_mark lines) first
+          ∙ (ap (λ more. take at bytes ++ more) (before-mark line (lines_of rest) mark) ∙ append-nil (take at bytes)))),
+      sym (was.behind ∙ (ap behind_mark first ∙ (behind-mark line (lines_of rest) mark ∙ ap lines_of (drop-drop len at bytes)))),
+    )
 
 -- or there is none
 pub meets-end : (bytes : List ℕ) → IsPassed bytes (length bytes)
     → (bytes ≡ before_mark (lines_of bytes)) × (lines_of (drop (length bytes) bytes) ≡ behind_mark (lines_of bytes))
 meets-end bytes was =
-    let none : drop (length bytes) bytes ≡ [] = drop-length bytes in
-    ( sym (was.before ∙ (ap (λ r. take (length bytes) bytes ++ before_mark (lines_of r)) none ∙ (append-nil (take (length bytes) bytes) ∙ take-length bytes)))
-    , sym (was.behind ∙ (ap (λ r. behind_mark (lines_of r)) none ∙ ap lines_of (sym none))) )
+    let none : drop (length bytes) bytes ≡ [] = drop-length bytes in (
+      sym (was.before ∙ (ap (λ r. take (length bytes) bytes ++ before_mark (lines_of r)) none ∙ (append-nil (take (length bytes) bytes) ∙ take-length bytes))),
+      sym (was.behind ∙ (ap (λ r. behind_mark (lines_of r)) none ∙ ap lines_of (sym none))),
+    )
 
 pub cut-on : (clients at : ℕ) (lines : List (List ℕ)) → at < clients
     → cut_lines (clients - at) lines ≡ before_mark lines ∷ cut_lines (clients - (at + 1)) (behind_mark lines)

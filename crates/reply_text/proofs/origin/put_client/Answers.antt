@@ -1,4 +1,4 @@
-use Rattle.std.proofs.Common.{rules, arith}
+use Rattle.std.proofs.Common.{rules}
 use Rattle.reply_text.proofs.OriginLemmas.{ten-digits}
 use Rattle.reply_text.proofs.origin.put_client.Goals as goal
 

@@ -1,6 +1,4 @@
-use Rattle.std.proofs.Common.{rules, arith, ◌≡◌, ◌+◌, ◌≤◌, [], ◌∷◌, ◌++◌, ◌∙◌, length, ap, subst}
-use Rattle.std.specs.Fmt.{decimal}
-use Rattle.reply_text.specs.Answers.{hex_text, sentence}
+use Rattle.std.proofs.Common.{rules, arith, ◌≡◌, [], ◌++◌, ◌∙◌, ap}
 use Rattle.reply_text.proofs.SentenceLemmas.{digits_said, digits_line_length}
 use Rattle.reply_text.proofs.sentences.say_bytes.Goals as goal
 

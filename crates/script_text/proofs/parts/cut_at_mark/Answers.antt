@@ -1,4 +1,4 @@
-use Rattle.std.proofs.Common.{rules, ◌∷◌, ◌≡◌, ◌≤◌, false, length, take, drop, subst, sym, ◌∙◌}
+use Rattle.std.proofs.Common.{rules, ◌∷◌, ◌≡◌, ◌≤◌, false, length, take, drop, subst}
 use Rattle.script_text.specs.Lines.{lines_of}
 use Rattle.script_text.specs.Parts.{is_mark}
 use Rattle.script_text.proofs.CuttingLemmas.{passes-line}

@@ -1,6 +1,6 @@
-use Rattle.std.proofs.Common.{rules, arith, ◌≡◌, ◌∷◌, ◌<◌, [], ◌++◌, ◌+◌, ◌-◌, ◌∙◌, ap, sym, append_assoc, ℕ, zero, List, refl}
+use Rattle.std.proofs.Common.{rules, arith, ◌≡◌, ◌∷◌, ◌<◌, [], ◌++◌, ◌+◌, ◌-◌, ◌∙◌, ap, sym, append_assoc}
 use Rattle.script_text.specs.Lines.{lines_of}
-use Rattle.script_text.specs.Parts.{cut_lines, before_mark, behind_mark, parts_of}
+use Rattle.script_text.specs.Parts.{cut_lines, before_mark, behind_mark}
 use Rattle.script_text.proofs.CuttingLemmas.{cut-on, all-lines}
 use Rattle.script_text.proofs.parts.cut_parts.Goals as goal
 
@@ -10,12 +10,13 @@ loop-preserved c =
     let lines = lines_of c.loop.rest.now in
     let left = c.args.clients - (c.loop.counter + 1) in
     let part : c.push.new.self.items ≡ c.loop.parts.items ++ before_mark lines ∷ [] = search rules in
-    let behind : lines_of c.in_ok-part.behind.now ≡ behind_mark lines = c.in_ok-part.ensures.behind in
-    ( omega (arith, below)
-    , c.loop.invariant.1
-      ∙ (ap (λ more. c.loop.parts.items ++ more) (cut-on c.args.clients c.loop.counter lines below)
-      ∙ (sym (append_assoc c.loop.parts.items (before_mark lines ∷ []) (cut_lines left (behind_mark lines)))
-      ∙ (ap (λ items. items ++ cut_lines left (behind_mark lines)) (sym part) ∙ ap (λ ls. c.push.new.self.items ++ cut_lines left ls) (sym behind)))) )
+    let behind : lines_of c.in_ok-part.behind.now ≡ behind_mark lines = c.in_ok-part.ensures.behind in (
+      omega (arith, below),
+      c.loop.invariant.1
+          ∙ (ap (λ more. c.loop.parts.items ++ more) (cut-on c.args.clients c.loop.counter lines below)
+          ∙ (sym (append_assoc c.loop.parts.items (before_mark lines ∷ []) (cut_lines left (behind_mark lines)))
+          ∙ (ap (λ items. items ++ cut_lines left (behind_mark lines)) (sym part) ∙ ap (λ ls. c.push.new.self.items ++ cut_lines left ls) (sym behind)))),
+    )
 
 pub returns : goal.returns
 returns c =
