@@ -46,8 +46,13 @@ origin-length : (of : Origin) → of.client < 2 ^ 32 → of.line < 2 ^ 32 → le
 origin-length of few small = by_client (of.client == 0)
   where
     by_client : (first : Bool) → length (if first then decimal of.line else decimal of.client ++ codes "." ++ decimal of.line) ≤ 21
-    by_client true = omega (arith, line-length of.line small)
-    by_client false = omega (arith, length-append (decimal of.client) (46 ∷ decimal of.line), line-length of.client few, line-length of.line small)
+    by_client true =
+        let alone : length (decimal of.line) ≤ 21 = omega (arith, line-length of.line small) in
+        alone
+    by_client false =
+        let both : length (decimal of.client ++ codes "." ++ decimal of.line) ≤ 21 =
+            omega (arith, length-append (decimal of.client ++ codes ".") (decimal of.line), length-append (decimal of.client) (codes "."), line-length of.client few, line-length of.line small) in
+        both
 
 pub started-length : (of : Origin) → of.client < 2 ^ 32 → of.line < 2 ^ 32 → length (text_of (said.Started of)) ≤ 36
 started-length of few small = omega (arith, two-words (origin_word of) (codes "started"), origin-length of few small)
