@@ -64,8 +64,9 @@ class Case:
         return self.form.word == "xts" and any(key[: len(key) // 2] == key[len(key) // 2 :] != b"" for key in self.keys)
 
     def is_refused_by_length(self):
-        """Whether the last key is shorter or longer than any of a cipher mode's, which the kernel tells before it drops a key."""
-        taken = [length for length in range(100) if self.form.plan().takes_key(bytes(length))]
+        """Whether the last key is shorter or longer than any of a cipher mode's: the kernel drops no key for that."""
+        plan = self.form.plan()
+        taken = [length for length in range(100) if plan.takes_key(bytes(length))]
         return self.form.kind == "skcipher" and not min(taken) <= len(self.keys[-1]) <= max(taken)
 
     def companion(self):

@@ -72,7 +72,8 @@ def some_tags(draw, form):
         return (), 0
     if draw.random() < 0.3:
         return (), sizes[0]
-    tags = tuple(draw.choice(sizes) if draw.random() < 0.85 else draw.randrange(36) for _ in range(draw.choice([1, 1, 1, 2])))
+    count = draw.choice([1, 1, 1, 2])
+    tags = tuple(draw.choice(sizes) if draw.random() < 0.85 else draw.randrange(36) for _ in range(count))
     return tags, ([sizes[0]] + [size for size in tags if size in sizes])[-1]
 
 

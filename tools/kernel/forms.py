@@ -59,8 +59,8 @@ TAGGED = [
     plain("ccm", "aead", "ccm(aes)", "ccm(AES)", "ccm_base(ctr(aes-generic),cbcmac(aes-generic))"),
 ]
 for cipher in CIPHERS:
-    TAGGED.append(plain("authenc", "aead", f"authenc(hmac(sha256),{cipher.name})", f"authenc(hmac(sha256-generic),{cipher.driver})",
-                        f"authenc(hmac(sha256-generic),{cipher.kernel})"))
+    below = [f"authenc(hmac(sha256-generic),{driver})" for driver in (cipher.driver, cipher.kernel)]
+    TAGGED.append(plain("authenc", "aead", f"authenc(hmac(sha256),{cipher.name})", *below))
 MACS = [
     plain("hmac", "hash", "hmac(sha256)", "hmac(sha256-generic)"),
     plain("cmac", "hash", "cmac(aes)", "cmac(AES)"),
@@ -98,6 +98,9 @@ def bad_key(draw, form):
             return key
 
 
+WRONG_BEGINNINGS = ["00080001", "08000200", "09000100", "0c000100", "07000100", "08000000"]
+
+
 def bad_blob(draw, form):
     """A blob that is too short, begins otherwise, counts more bytes than there are, or has no key of the cipher's."""
     good = good_key(draw, form)
@@ -105,7 +108,7 @@ def bad_blob(draw, form):
     if what == 0:
         return good[: draw.randrange(8)]
     if what == 1:
-        return bytes.fromhex(draw.choice(["00080001", "08000200", "09000100", "0c000100", "07000100", "08000000"])) + good[4:]
+        return bytes.fromhex(draw.choice(WRONG_BEGINNINGS)) + good[4:]
     if what == 2:
         return good[:4] + (len(good) - 8 + draw.choice([1, 2, 2**16, 2**31])).to_bytes(4, "big") + good[8:]
     return blob(draw.randbytes(20), bad_key(draw, cipher_of(form)))

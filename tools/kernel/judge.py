@@ -6,7 +6,7 @@ REFUSALS = ("ENOENT", "EINVAL", "ENAMETOOLONG")
 
 
 def keeps_the_earlier_key(case, ours, kernel, companion):
-    """Both refuse the key. The value is the kernel's under the earlier key alone, and the kernel has no key left, or that one."""
+    """Both refuse the key. The value is the kernel's under the earlier one alone, and there none is left, or that one."""
     refused = ours.keys == kernel.keys and ours.keys[-1] == "EINVAL" and ours.tags == kernel.tags
     kept = companion.keys == ("ok",) and ours.tags == companion.tags and ours.value == companion.value
     return refused and kept and kernel.value == (ours.value if case.is_refused_by_length() else "ENOKEY")
@@ -29,8 +29,14 @@ def is_refused_here(case, ours, kernel, companion):
     return ours.name == case.refusal and kernel.name == "ok"
 
 
-RULES = {REFUSED_KEY: keeps_the_earlier_key, MIDDLE_KEY: takes_no_middle_key, CHAIN: is_as_its_form, OTHER_TEXT: is_as_its_form,
-         REFUSED_NAME: is_refused_with_its_cause, TAKEN_NAME: is_refused_here}
+RULES = {
+    REFUSED_KEY: keeps_the_earlier_key,
+    MIDDLE_KEY: takes_no_middle_key,
+    CHAIN: is_as_its_form,
+    OTHER_TEXT: is_as_its_form,
+    REFUSED_NAME: is_refused_with_its_cause,
+    TAKEN_NAME: is_refused_here,
+}
 
 
 def judged(case, ours, kernel, companion):

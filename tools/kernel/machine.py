@@ -72,15 +72,18 @@ def initramfs(lines):
 
 def command(work, processors):
     """No accelerator, no network, no screen."""
-    # with the kernel's own self tests 6.1 refuses cryptd over an AEAD, and a boot takes minutes
-    words = "console=ttyS0 quiet panic=-1 cryptomgr.notests=1"
-    return [f"{ROOT}/usr/bin/qemu-system-x86_64", "-L", f"{ROOT}/usr/share/qemu", "-L", f"{ROOT}/usr/share/seabios", "-accel", "tcg",
-            "-m", "768", "-smp", str(processors), "-nodefaults", "-no-user-config", "-display", "none", "-no-reboot",
-            "-serial", f"file:{work}/console", "-device", "virtio-serial-pci", "-chardev", f"file,id=answers,path={work}/answers",
-            "-device", "virtserialport,chardev=answers", "-kernel", kernel(), "-initrd", f"{work}/initramfs", "-append", words]
+    # with the kernel's own self tests 6.1 refuses cryptd over an AEAD, and a boot takes minutes; and where the host is
+    # busy, a timer that comes late isn't one that doesn't come
+    words = "console=ttyS0 quiet panic=-1 no_timer_check cryptomgr.notests=1"
+    qemu = [f"{ROOT}/usr/bin/qemu-system-x86_64", "-L", f"{ROOT}/usr/share/qemu", "-L", f"{ROOT}/usr/share/seabios"]
+    qemu += ["-nodefaults", "-no-user-config", "-display", "none", "-no-reboot"]
+    qemu += ["-accel", "tcg", "-m", "768", "-smp", str(processors), "-serial", f"file:{work}/console"]
+    qemu += ["-device", "virtio-serial-pci", "-chardev", f"file,id=answers,path={work}/answers"]
+    qemu += ["-device", "virtserialport,chardev=answers"]
+    return qemu + ["-kernel", kernel(), "-initrd", f"{work}/initramfs", "-append", words]
 
 
-def boot(lines, processors, seconds=900):
+def boot(lines, processors, seconds=1800):
     """The guest's answers, one for each line of its list."""
     work = f"{CACHE}/boot.{os.getpid()}"
     os.makedirs(work, exist_ok=True)

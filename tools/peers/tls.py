@@ -81,11 +81,13 @@ def long_turns(suite, length):
 
 
 def conversations(share):
-    """What is said, by which client, in which suite; `share` takes every third suite, and so much less text."""
+    """What is said, by which client, in which suite; `share` takes every third suite, and of each a small conversation alone."""
     short = SHORT // share
     for suite in SUITES[:: 3 if share > 1 else 1]:
-        long = (FILE if suite is SUITES[0] else LONG) // share
+        long = FILE if suite is SUITES[0] else LONG
         yield "openssl, small records", suite, small_turns(suite, short, True), False, ["-max_send_frag", str(FRAGMENT)]
+        if share > 1:
+            continue
         yield "openssl, records of 16 KB", suite, long_turns(suite, long), False, []
         if suite.version == "1.3":
             padded = ["-record_padding", "256", "-max_send_frag", "1024"]

@@ -70,11 +70,27 @@ impl BlockCipher for AnyAes {
         }
     }
 
+    fn seal_some(&self, b: &mut [[u8; 16]; 8], count: usize) {
+        match self {
+            AnyAes::Generic(aes) => aes.seal_some(b, count),
+            AnyAes::Table(aes) => aes.seal_some(b, count),
+            AnyAes::Lanes(aes) => aes.seal_some(b, count),
+        }
+    }
+
     fn unseal_eight(&self, b: &mut [[u8; 16]; 8]) {
         match self {
             AnyAes::Generic(aes) => aes.unseal_eight(b),
             AnyAes::Table(aes) => aes.unseal_eight(b),
             AnyAes::Lanes(aes) => aes.unseal_eight(b),
+        }
+    }
+
+    fn unseal_some(&self, b: &mut [[u8; 16]; 8], count: usize) {
+        match self {
+            AnyAes::Generic(aes) => aes.unseal_some(b, count),
+            AnyAes::Table(aes) => aes.unseal_some(b, count),
+            AnyAes::Lanes(aes) => aes.unseal_some(b, count),
         }
     }
 }

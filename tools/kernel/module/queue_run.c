@@ -1,4 +1,4 @@
-// SPDX-License-Identifier: GPL-2.0
+/* A queue of crypto/algapi.c by itself. */
 #include <crypto/algapi.h>
 #include <linux/slab.h>
 

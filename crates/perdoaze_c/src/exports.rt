@@ -1,0 +1,151 @@
+//! What C calls. No pointer is NULL here, not even beside the length 0: the header's inline functions see to that.
+
+ghost use Rattle.std.specs.Prelude.{◌≡◌, None};
+ghost use Rattle.perdoaze_calls.specs.Infos.{ListsTo, TellsTo};
+ghost use Rattle.perdoaze_calls.specs.Names.{BeginsTo};
+ghost use Rattle.perdoaze_calls.specs.Requests.{Encrypts, Decrypts, EncryptsWithin, DecryptsWithin, Digests, OnPlaceTo};
+ghost use Rattle.perdoaze_calls.specs.Settings.{KeySetTo, SizeSetTo, DuplicatesTo};
+
+use perdoaze_calls::{Info, Slot, calls, init, list, tell};
+use std::alloc::Global;
+
+/// Makes the transform of a name in the place, in place of the one that was there.
+#[unsafe(no_mangle)]
+pub extern "C" fn perdoaze_raw_init(slot: &mut Slot, alloc: Global, name: &[u8]) -> i32
+    ensures { BeginsTo slot.new.handle.value name.now result }
+{
+    init(slot, alloc, name).code()
+}
+
+/// Sets the key.
+#[unsafe(no_mangle)]
+pub extern "C" fn perdoaze_raw_setkey(slot: &mut Slot, alloc: Global, key: &[u8]) -> i32
+    ensures { KeySetTo slot.old.handle.value slot.new.handle.value key.now result }
+{
+    calls::set_key(slot, alloc, key).code()
+}
+
+/// Sets the size of the tag in bytes.
+#[unsafe(no_mangle)]
+pub extern "C" fn perdoaze_raw_setauthsize(slot: &mut Slot, alloc: Global, n: u32) -> i32
+    ensures { SizeSetTo slot.old.handle.value slot.new.handle.value n result }
+{
+    calls::set_tag_size(slot, alloc, n).code()
+}
+
+/// Encrypts. Where there is a tag, it stands behind the ciphertext.
+#[unsafe(no_mangle)]
+pub extern "C" fn perdoaze_raw_encrypt(
+    slot: &mut Slot,
+    alloc: Global,
+    iv: &[u8],
+    aad: &[u8],
+    text: &[u8],
+    out: &mut [u8],
+    written: &mut usize,
+) -> i32
+    ensures kept { slot.new.handle.value ≡ slot.old.handle.value }
+    ensures came { OnPlaceTo slot.old.handle.value (λ t. Encrypts t iv.now aad.now text.now) result out.old out.new written.new }
+{
+    calls::encrypt(slot, alloc, iv, aad, text, out, written).code()
+}
+
+/// Decrypts. Where there is a tag, it stands behind the ciphertext.
+#[unsafe(no_mangle)]
+pub extern "C" fn perdoaze_raw_decrypt(
+    slot: &mut Slot,
+    alloc: Global,
+    iv: &[u8],
+    aad: &[u8],
+    text: &[u8],
+    out: &mut [u8],
+    written: &mut usize,
+) -> i32
+    ensures kept { slot.new.handle.value ≡ slot.old.handle.value }
+    ensures came { OnPlaceTo slot.old.handle.value (λ t. Decrypts t iv.now aad.now text.now) result out.old out.new written.new }
+{
+    calls::decrypt(slot, alloc, iv, aad, text, out, written).code()
+}
+
+/// Encrypts the first `n` bytes of a buffer in their place.
+#[unsafe(no_mangle)]
+pub extern "C" fn perdoaze_raw_encrypt_in_place(
+    slot: &mut Slot,
+    alloc: Global,
+    iv: &[u8],
+    aad: &[u8],
+    buffer: &mut [u8],
+    n: usize,
+    written: &mut usize,
+) -> i32
+    ensures kept { slot.new.handle.value ≡ slot.old.handle.value }
+    ensures came { OnPlaceTo slot.old.handle.value (λ t. EncryptsWithin t iv.now aad.now n) result buffer.old buffer.new written.new }
+{
+    calls::encrypt_within(slot, alloc, iv, aad, buffer, n, written).code()
+}
+
+/// Decrypts the first `n` bytes of a buffer in their place.
+#[unsafe(no_mangle)]
+pub extern "C" fn perdoaze_raw_decrypt_in_place(
+    slot: &mut Slot,
+    alloc: Global,
+    iv: &[u8],
+    aad: &[u8],
+    buffer: &mut [u8],
+    n: usize,
+    written: &mut usize,
+) -> i32
+    ensures kept { slot.new.handle.value ≡ slot.old.handle.value }
+    ensures came { OnPlaceTo slot.old.handle.value (λ t. DecryptsWithin t iv.now aad.now n) result buffer.old buffer.new written.new }
+{
+    calls::decrypt_within(slot, alloc, iv, aad, buffer, n, written).code()
+}
+
+/// Makes the MAC of a text.
+#[unsafe(no_mangle)]
+pub extern "C" fn perdoaze_raw_digest(
+    slot: &mut Slot,
+    alloc: Global,
+    text: &[u8],
+    out: &mut [u8],
+    written: &mut usize,
+) -> i32
+    ensures kept { slot.new.handle.value ≡ slot.old.handle.value }
+    ensures came { OnPlaceTo slot.old.handle.value (λ t. Digests t text.now) result out.old out.new written.new }
+{
+    calls::digest(slot, alloc, text, out, written).code()
+}
+
+/// Makes a second transform of the one in the place `from`, which shares its key, in the place `into`.
+#[unsafe(no_mangle)]
+pub extern "C" fn perdoaze_raw_dup(from: &mut Slot, alloc: Global, into: &mut Slot) -> i32
+    ensures kept { from.new.handle.value ≡ from.old.handle.value }
+    ensures made { DuplicatesTo from.old.handle.value into.new.handle.value result }
+{
+    calls::dup(from, alloc, into).code()
+}
+
+/// What is told of the transform in the place.
+#[unsafe(no_mangle)]
+pub extern "C" fn perdoaze_raw_info(slot: &mut Slot, alloc: Global, info: &mut Info) -> i32
+    ensures kept { slot.new.handle.value ≡ slot.old.handle.value }
+    ensures told { TellsTo slot.old.handle.value result info.old info.new }
+{
+    tell(slot, alloc, info).code()
+}
+
+/// What is told of the driver at a place of the list of all drivers.
+#[unsafe(no_mangle)]
+pub extern "C" fn perdoaze_raw_list(index: usize, info: &mut Info) -> i32
+    ensures { ListsTo index result info.old info.new }
+{
+    list(index, info).code()
+}
+
+/// Frees what is in the place.
+#[unsafe(no_mangle)]
+pub extern "C" fn perdoaze_raw_free(slot: &mut Slot, alloc: Global)
+    ensures { slot.new.handle.value ≡ None }
+{
+    calls::free(slot, alloc);
+}

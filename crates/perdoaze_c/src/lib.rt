@@ -1,0 +1,4 @@
+//! The transforms, for C and for all that calls C: include/perdoaze.h declares what is exported here.
+#![tactic(auto)]
+
+mod exports;

@@ -1,0 +1,168 @@
+//! The calls of C, each on a place for a transform.
+
+ghost use Rattle.std.specs.Prelude.{◌≡◌, None};
+ghost use Rattle.perdoaze_calls.specs.Requests.{Encrypts, Decrypts, EncryptsWithin, DecryptsWithin, Digests, OnPlace};
+ghost use Rattle.perdoaze_calls.specs.Settings.{KeySet, SizeSet, Duplicates};
+
+use crate::slot::Slot;
+use crate::status::Status;
+use std::alloc::Global;
+
+/// Encrypts.
+pub fn encrypt(
+    slot: &mut Slot,
+    alloc: Global,
+    iv: &[u8],
+    aad: &[u8],
+    text: &[u8],
+    out: &mut [u8],
+    written: &mut usize,
+) -> Status
+    ensures kept { slot.new.handle.value ≡ slot.old.handle.value }
+    ensures came { OnPlace slot.old.handle.value (λ t. Encrypts t iv.now aad.now text.now) result out.old out.new written.new }
+{
+    *written = 0;
+    let Some(held) = slot.take(alloc) else {
+        return Status::Invalid;
+    };
+    let status = held.encrypt(iv, aad, text, out, written);
+    slot.fill(held);
+    status
+}
+
+/// Decrypts.
+pub fn decrypt(
+    slot: &mut Slot,
+    alloc: Global,
+    iv: &[u8],
+    aad: &[u8],
+    text: &[u8],
+    out: &mut [u8],
+    written: &mut usize,
+) -> Status
+    ensures kept { slot.new.handle.value ≡ slot.old.handle.value }
+    ensures came { OnPlace slot.old.handle.value (λ t. Decrypts t iv.now aad.now text.now) result out.old out.new written.new }
+{
+    *written = 0;
+    let Some(held) = slot.take(alloc) else {
+        return Status::Invalid;
+    };
+    let status = held.decrypt(iv, aad, text, out, written);
+    slot.fill(held);
+    status
+}
+
+/// Encrypts the front of a buffer in its place.
+pub fn encrypt_within(
+    slot: &mut Slot,
+    alloc: Global,
+    iv: &[u8],
+    aad: &[u8],
+    buffer: &mut [u8],
+    n: usize,
+    written: &mut usize,
+) -> Status
+    ensures kept { slot.new.handle.value ≡ slot.old.handle.value }
+    ensures came { OnPlace slot.old.handle.value (λ t. EncryptsWithin t iv.now aad.now n) result buffer.old buffer.new written.new }
+{
+    *written = 0;
+    let Some(held) = slot.take(alloc) else {
+        return Status::Invalid;
+    };
+    let status = held.encrypt_within(iv, aad, buffer, n, written);
+    slot.fill(held);
+    status
+}
+
+/// Decrypts the front of a buffer in its place.
+pub fn decrypt_within(
+    slot: &mut Slot,
+    alloc: Global,
+    iv: &[u8],
+    aad: &[u8],
+    buffer: &mut [u8],
+    n: usize,
+    written: &mut usize,
+) -> Status
+    ensures kept { slot.new.handle.value ≡ slot.old.handle.value }
+    ensures came { OnPlace slot.old.handle.value (λ t. DecryptsWithin t iv.now aad.now n) result buffer.old buffer.new written.new }
+{
+    *written = 0;
+    let Some(held) = slot.take(alloc) else {
+        return Status::Invalid;
+    };
+    let status = held.decrypt_within(iv, aad, buffer, n, written);
+    slot.fill(held);
+    status
+}
+
+/// Makes the MAC of a text.
+pub fn digest(
+    slot: &mut Slot,
+    alloc: Global,
+    text: &[u8],
+    out: &mut [u8],
+    written: &mut usize,
+) -> Status
+    ensures kept { slot.new.handle.value ≡ slot.old.handle.value }
+    ensures came { OnPlace slot.old.handle.value (λ t. Digests t text.now) result out.old out.new written.new }
+{
+    *written = 0;
+    let Some(held) = slot.take(alloc) else {
+        return Status::Invalid;
+    };
+    let status = held.digest(text, out, written);
+    slot.fill(held);
+    status
+}
+
+/// Sets the key of the transform in the place.
+pub fn set_key(slot: &mut Slot, alloc: Global, key: &[u8]) -> Status
+    ensures { KeySet slot.old.handle.value slot.new.handle.value key.now result }
+{
+    let Some(mut held) = slot.take(alloc) else {
+        return Status::Invalid;
+    };
+    let status = held.set_key(alloc, key);
+    slot.fill(held);
+    status
+}
+
+/// Sets the tag size of the transform in the place.
+pub fn set_tag_size(slot: &mut Slot, alloc: Global, n: u32) -> Status
+    ensures { SizeSet slot.old.handle.value slot.new.handle.value n result }
+{
+    let Some(mut held) = slot.take(alloc) else {
+        return Status::Invalid;
+    };
+    let status = held.set_tag_size(n);
+    slot.fill(held);
+    status
+}
+
+/// Makes a second transform of the one in the place `from`, which shares its key, in the place `into`.
+pub fn dup(from: &mut Slot, alloc: Global, into: &mut Slot) -> Status
+    ensures kept { from.new.handle.value ≡ from.old.handle.value }
+    ensures made { Duplicates from.old.handle.value into.new.handle.value result }
+{
+    drop(into.take(alloc));
+    let Some(held) = from.take(alloc) else {
+        return Status::Invalid;
+    };
+    let made = held.duplicate(alloc);
+    from.fill(held);
+    match made {
+        Ok(second) => {
+            into.fill(second);
+            Status::Done
+        }
+        Err(status) => status,
+    }
+}
+
+/// Frees what is in the place.
+pub fn free(slot: &mut Slot, alloc: Global)
+    ensures { slot.new.handle.value ≡ None }
+{
+    drop(slot.take(alloc));
+}

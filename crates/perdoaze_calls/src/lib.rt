@@ -1,0 +1,23 @@
+//! The transforms as C calls them: places for a transform, and what each call does to one. `perdoaze_c` exports the calls.
+#![tactic(auto)]
+
+pub mod calls;
+mod duplicate;
+mod handle;
+mod info;
+pub mod laws;
+mod loose;
+mod naming;
+mod requests;
+mod setting;
+mod slot;
+mod status;
+mod telling;
+mod transform;
+
+pub use info::Info;
+pub use naming::init;
+pub use slot::Slot;
+pub use status::Status;
+pub use telling::{list, tell};
+pub use transform::Transform;

@@ -1,0 +1,273 @@
+/* perdoaze: the ciphers and MACs of the Linux kernel's Crypto API, proved, for C11 and C++. docs/C.md has a first program.
+ *
+ * A transform is an algorithm under a key. It is made by the name of an algorithm, as "gcm(aes)", or by the name of a driver, as
+ * "gcm_base(ctr(aes-table),ghash-generic)". It is given a key, and maybe a tag size. Then it answers requests.
+ *
+ * RESULTS. 0, or the negative of one of Linux's error numbers, which are the same on every system here:
+ *     -ENOENT (2)     no transform has that name           -EINVAL (22)     a name, key, length, tag size or place isn't taken
+ *     -ENOMEM (12)    malloc gave nothing                  -EOVERFLOW (75)  the answer has no room
+ *     -EBADMSG (74)   the tag is wrong                     -ENOKEY (126)    no key was set
+ * A call that fails leaves the key and the tag size as they were, and `*written` is 0.
+ *
+ * BYTES. A pointer and the number of bytes behind it. NULL is taken beside the number 0. NULL beside another number, or a number of
+ * 2^63 or more, is -EINVAL. `written` may be NULL. What a call writes overlaps nothing else that it is passed.
+ *
+ * OWNERSHIP. `struct perdoaze` is the caller's. It begins with all bytes 0 (PERDOAZE_NONE), and these functions alone change it.
+ * It may be moved, but never copied: perdoaze_dup makes a second transform under the same key. perdoaze_free frees what it holds.
+ * A struct that was never begun, was copied, or is used after its bytes were changed can't be told from another: the call's
+ * behaviour is then undefined. What is passed to a call isn't kept, but for a copy of the key.
+ *
+ * THREADS. Calls on different structs may run at a time, also where one was made of the other by perdoaze_dup. Two calls on one
+ * struct may not. A struct may go from a thread to another through a lock, or a thread's start or join. No call blocks, starts a
+ * thread or aborts. No call is made from a signal handler, or in a forked child of a process with threads.
+ *
+ * NONCES. Never encrypt two texts under one key and one IV with CTR, RFC 3686, GCM, RFC 4106 or CCM.
+ *
+ * The functions are inline: they test what the library's own functions, perdoaze_raw_.., leave to their caller.
+ */
+#ifndef PERDOAZE_H
+#define PERDOAZE_H
+
+#include <stdbool.h>
+#include <stddef.h>
+#include <stdint.h>
+#include <string.h>
+#include <sys/uio.h>
+
+#ifdef __cplusplus
+extern "C" {
+#endif
+
+/** A place for a transform. Its fields are private. */
+struct perdoaze {
+	bool full_;
+	void *at_;
+};
+
+/** A place that has none. */
+#define PERDOAZE_NONE { false, NULL }
+
+/** The bytes of a name in struct perdoaze_info, with a zero at least behind it. */
+#define PERDOAZE_NAME_SIZE 128
+
+/** What a transform computes: a cipher without a tag, a cipher with a tag, a MAC. */
+#define PERDOAZE_SKCIPHER 1
+#define PERDOAZE_AEAD 2
+#define PERDOAZE_MAC 3
+
+/** A transform, as /proc/crypto shows one. */
+struct perdoaze_info {
+	uint8_t name[PERDOAZE_NAME_SIZE];   /**< of the algorithm: ASCII, with zeros behind it */
+	uint8_t driver[PERDOAZE_NAME_SIZE]; /**< of the driver: ASCII, with zeros behind it */
+	uint32_t priority;                  /**< of two drivers of an algorithm, the one with more is taken */
+	uint32_t kind;                      /**< PERDOAZE_SKCIPHER, PERDOAZE_AEAD or PERDOAZE_MAC */
+	uint32_t block_size;                /**< in bytes: 1 where texts of every length are taken in pieces of any length */
+	uint32_t iv_size;                   /**< in bytes */
+	uint32_t max_tag_size;              /**< in bytes: the greatest tag, of a MAC its MAC, and 0 without a tag */
+	uint32_t min_key_size;              /**< in bytes */
+	uint32_t max_key_size;              /**< in bytes: UINT32_MAX where there is no limit */
+};
+
+/* ---- what the library exports. No pointer is NULL here, and no number of bytes is 2^63 or more. */
+
+int32_t perdoaze_raw_init(struct perdoaze *tfm, const uint8_t *name, size_t name_len);
+int32_t perdoaze_raw_setkey(struct perdoaze *tfm, const uint8_t *key, size_t key_len);
+int32_t perdoaze_raw_setauthsize(struct perdoaze *tfm, uint32_t authsize);
+int32_t perdoaze_raw_encrypt(struct perdoaze *tfm, const uint8_t *iv, size_t iv_len, const uint8_t *aad, size_t aad_len,
+			     const uint8_t *text, size_t text_len, uint8_t *out, size_t out_len, size_t *written);
+int32_t perdoaze_raw_decrypt(struct perdoaze *tfm, const uint8_t *iv, size_t iv_len, const uint8_t *aad, size_t aad_len,
+			     const uint8_t *text, size_t text_len, uint8_t *out, size_t out_len, size_t *written);
+int32_t perdoaze_raw_encrypt_in_place(struct perdoaze *tfm, const uint8_t *iv, size_t iv_len, const uint8_t *aad, size_t aad_len,
+				      uint8_t *buffer, size_t buffer_len, size_t n, size_t *written);
+int32_t perdoaze_raw_decrypt_in_place(struct perdoaze *tfm, const uint8_t *iv, size_t iv_len, const uint8_t *aad, size_t aad_len,
+				      uint8_t *buffer, size_t buffer_len, size_t n, size_t *written);
+int32_t perdoaze_raw_digest(struct perdoaze *tfm, const uint8_t *text, size_t text_len, uint8_t *out, size_t out_len,
+			    size_t *written);
+int32_t perdoaze_raw_dup(struct perdoaze *from, struct perdoaze *into);
+int32_t perdoaze_raw_info(struct perdoaze *tfm, struct perdoaze_info *info);
+int32_t perdoaze_raw_list(size_t index, struct perdoaze_info *info);
+void perdoaze_raw_free(struct perdoaze *tfm);
+
+/* ---- for the functions below */
+
+/* The library's numbers: Linux's, also where errno.h has others. */
+#define PERDOAZE_EINVAL_ 22
+#define PERDOAZE_EOVERFLOW_ 75
+
+/* Whether these are no bytes that the library takes. */
+static inline bool perdoaze_wrong_(const void *bytes, size_t n)
+{
+	return (!bytes && n) || n > PTRDIFF_MAX;
+}
+
+/* The bytes, and some other pointer in the place of NULL. */
+static inline const uint8_t *perdoaze_bytes_(const void *bytes, const uint8_t *none)
+{
+	return bytes ? (const uint8_t *)bytes : none;
+}
+
+/* Whether two pieces of memory have a byte in common. */
+static inline bool perdoaze_overlap_(const void *a, size_t n, const void *b, size_t m)
+{
+	uintptr_t x = (uintptr_t)a, y = (uintptr_t)b;
+	return n && m && (x < y ? y - x < n : x - y < m);
+}
+
+/* ---- the functions */
+
+/** Makes the transform of that name, with no key and the greatest tag, in the place of the one that was there. By the name of an
+ *  algorithm it is that of the driver of greatest priority, whose memory accesses depend on no key and no text. By the name of a
+ *  driver it is exactly that one. -ENOENT: no driver has the name. -EINVAL: `name` is NULL, or no name of at most 127 bytes, 8
+ *  levels and 4 arguments. -ENOMEM. Where the call fails, the place has none. */
+static inline int perdoaze_init(struct perdoaze *tfm, const char *name)
+{
+	size_t n = name ? strlen(name) : 0;
+	if (!tfm || n > PTRDIFF_MAX)
+		return -PERDOAZE_EINVAL_;
+	return perdoaze_raw_init(tfm, (const uint8_t *)(name ? name : ""), n);
+}
+
+/** Sets the key. -EINVAL: the transform doesn't take it, or the place has none. -ENOMEM. */
+static inline int perdoaze_setkey(struct perdoaze *tfm, const void *key, size_t key_len)
+{
+	const uint8_t none = 0;
+	if (!tfm || perdoaze_wrong_(key, key_len))
+		return -PERDOAZE_EINVAL_;
+	return perdoaze_raw_setkey(tfm, perdoaze_bytes_(key, &none), key_len);
+}
+
+/** Sets the tag size in bytes. -EINVAL: the transform doesn't take it, or the place has none. GCM takes 4, 8 and 12 to 16, RFC 4106
+ *  8, 12 and 16, CCM 4, 6, 8, 10, 12, 14 and 16, authenc 1 to 32. Tags of 4 bytes are weak. */
+static inline int perdoaze_setauthsize(struct perdoaze *tfm, uint32_t authsize)
+{
+	return tfm ? perdoaze_raw_setauthsize(tfm, authsize) : -PERDOAZE_EINVAL_;
+}
+
+/** Encrypts the first `n` bytes of `buffer` in their place. With a tag, it goes behind the ciphertext. `*written` is the number of
+ *  bytes of both. -EOVERFLOW: `buffer` has fewer than these bytes. -ENOKEY. -EINVAL: the place has no transform, or that doesn't
+ *  encrypt; the IV has a wrong length; there are associated bytes and no tag; the text isn't taken (CBC takes whole blocks, XTS 16
+ *  bytes and more, CCM fewer than 65,536); RFC 4106's associated bytes aren't 16 or 20, CCM's aren't fewer than 65,280; or `aad` or
+ *  the text has 2^32 bytes or more. Where the call fails, `buffer` is as it was. */
+static inline int perdoaze_encrypt_in_place(struct perdoaze *tfm, const void *iv, size_t iv_len, const void *aad, size_t aad_len,
+					    void *buffer, size_t buffer_len, size_t n, size_t *written)
+{
+	uint8_t none = 0;
+	size_t unread = 0;
+	if (written)
+		*written = 0;
+	if (!tfm || perdoaze_wrong_(iv, iv_len) || perdoaze_wrong_(aad, aad_len) || perdoaze_wrong_(buffer, buffer_len)
+	    || perdoaze_overlap_(iv, iv_len, buffer, buffer_len) || perdoaze_overlap_(aad, aad_len, buffer, buffer_len))
+		return -PERDOAZE_EINVAL_;
+	return perdoaze_raw_encrypt_in_place(tfm, perdoaze_bytes_(iv, &none), iv_len, perdoaze_bytes_(aad, &none), aad_len,
+					     buffer ? (uint8_t *)buffer : &none, buffer_len, n, written ? written : &unread);
+}
+
+/** Decrypts the first `n` bytes of `buffer` in their place, of which the last are the tag, where there is one. `*written` is the
+ *  number of bytes of the plaintext. -EBADMSG: the tag is wrong. -EOVERFLOW: `buffer` has fewer than `n` bytes. -ENOKEY. -EINVAL as
+ *  perdoaze_encrypt_in_place has it, and where `n` is less than the tag size. Where the call fails, `buffer` is as it was. */
+static inline int perdoaze_decrypt_in_place(struct perdoaze *tfm, const void *iv, size_t iv_len, const void *aad, size_t aad_len,
+					    void *buffer, size_t buffer_len, size_t n, size_t *written)
+{
+	uint8_t none = 0;
+	size_t unread = 0;
+	if (written)
+		*written = 0;
+	if (!tfm || perdoaze_wrong_(iv, iv_len) || perdoaze_wrong_(aad, aad_len) || perdoaze_wrong_(buffer, buffer_len)
+	    || perdoaze_overlap_(iv, iv_len, buffer, buffer_len) || perdoaze_overlap_(aad, aad_len, buffer, buffer_len))
+		return -PERDOAZE_EINVAL_;
+	return perdoaze_raw_decrypt_in_place(tfm, perdoaze_bytes_(iv, &none), iv_len, perdoaze_bytes_(aad, &none), aad_len,
+					     buffer ? (uint8_t *)buffer : &none, buffer_len, n, written ? written : &unread);
+}
+
+/** Encrypts `text` into `out`. With a tag, it goes behind the ciphertext. `*written` is the number of bytes of both. Errors as
+ *  perdoaze_encrypt_in_place has them. `out` is other memory than `text`, or begins where `text` does: the text is then encrypted
+ *  in its place. Where the call fails, `out` is as it was, or its first `text_len` bytes are 0. */
+static inline int perdoaze_encrypt(struct perdoaze *tfm, const void *iv, size_t iv_len, const void *aad, size_t aad_len,
+				   const void *text, size_t text_len, void *out, size_t out_len, size_t *written)
+{
+	uint8_t none = 0;
+	const uint8_t no_text = 0;
+	size_t unread = 0;
+	if (text == out)
+		return perdoaze_encrypt_in_place(tfm, iv, iv_len, aad, aad_len, out, out_len, text_len, written);
+	if (written)
+		*written = 0;
+	if (!tfm || perdoaze_wrong_(iv, iv_len) || perdoaze_wrong_(aad, aad_len) || perdoaze_wrong_(text, text_len)
+	    || perdoaze_wrong_(out, out_len) || perdoaze_overlap_(iv, iv_len, out, out_len)
+	    || perdoaze_overlap_(aad, aad_len, out, out_len) || perdoaze_overlap_(text, text_len, out, out_len))
+		return -PERDOAZE_EINVAL_;
+	return perdoaze_raw_encrypt(tfm, perdoaze_bytes_(iv, &no_text), iv_len, perdoaze_bytes_(aad, &no_text), aad_len,
+				    perdoaze_bytes_(text, &no_text), text_len, out ? (uint8_t *)out : &none, out_len,
+				    written ? written : &unread);
+}
+
+/** Decrypts `text` into `out`. With a tag, it is the last bytes of `text`. `*written` is the number of bytes of the plaintext.
+ *  Errors as perdoaze_decrypt_in_place has them, but -EOVERFLOW: `out` has no room for the plaintext. `out` is other memory than
+ *  `text`, or begins where `text` does. Where the call fails, `out` is as it was, or its front is 0, and it has no byte of the
+ *  plaintext. */
+static inline int perdoaze_decrypt(struct perdoaze *tfm, const void *iv, size_t iv_len, const void *aad, size_t aad_len,
+				   const void *text, size_t text_len, void *out, size_t out_len, size_t *written)
+{
+	uint8_t none = 0;
+	const uint8_t no_text = 0;
+	size_t unread = 0;
+	if (text == out && text_len <= out_len)
+		return perdoaze_decrypt_in_place(tfm, iv, iv_len, aad, aad_len, out, out_len, text_len, written);
+	if (written)
+		*written = 0;
+	if (!tfm || perdoaze_wrong_(iv, iv_len) || perdoaze_wrong_(aad, aad_len) || perdoaze_wrong_(text, text_len)
+	    || perdoaze_wrong_(out, out_len) || perdoaze_overlap_(iv, iv_len, out, out_len)
+	    || perdoaze_overlap_(aad, aad_len, out, out_len) || perdoaze_overlap_(text, text_len, out, out_len))
+		return -PERDOAZE_EINVAL_;
+	return perdoaze_raw_decrypt(tfm, perdoaze_bytes_(iv, &no_text), iv_len, perdoaze_bytes_(aad, &no_text), aad_len,
+				    perdoaze_bytes_(text, &no_text), text_len, out ? (uint8_t *)out : &none, out_len,
+				    written ? written : &unread);
+}
+
+/** Writes the MAC of `text` into `out`: 32 bytes of HMAC with SHA-256, 16 of CMAC. -EINVAL: the place has no MAC, or the text has
+ *  2^32 bytes or more. -EOVERFLOW: `out` has no room. -ENOKEY. Where the call fails, `out` is as it was. */
+static inline int perdoaze_digest(struct perdoaze *tfm, const void *text, size_t text_len, void *out, size_t out_len, size_t *written)
+{
+	uint8_t none = 0;
+	const uint8_t no_text = 0;
+	size_t unread = 0;
+	if (written)
+		*written = 0;
+	if (!tfm || perdoaze_wrong_(text, text_len) || perdoaze_wrong_(out, out_len) || perdoaze_overlap_(text, text_len, out, out_len))
+		return -PERDOAZE_EINVAL_;
+	return perdoaze_raw_digest(tfm, perdoaze_bytes_(text, &no_text), text_len, out ? (uint8_t *)out : &none, out_len,
+				   written ? written : &unread);
+}
+
+/** Makes a second transform, of the same driver, tag size and key, in the place `into`, in the place of the one that was there. Both
+ *  share the key, and may be used by two threads at a time. -EINVAL: `from` has none, or is `into`. -ENOMEM. Where the call fails,
+ *  `into` has none. */
+static inline int perdoaze_dup(struct perdoaze *from, struct perdoaze *into)
+{
+	return from && into && from != into ? perdoaze_raw_dup(from, into) : -PERDOAZE_EINVAL_;
+}
+
+/** Tells of the transform. -EINVAL: the place has none: `*info` is then as it was. */
+static inline int perdoaze_info(struct perdoaze *tfm, struct perdoaze_info *info)
+{
+	return tfm && info ? perdoaze_raw_info(tfm, info) : -PERDOAZE_EINVAL_;
+}
+
+/** Tells of the driver at a place of the list of all drivers, from 0 on: an algorithm's drivers stand together, those of greatest
+ *  priority first. -ENOENT: behind the end of the list: `*info` is then as it was. */
+static inline int perdoaze_list(size_t index, struct perdoaze_info *info)
+{
+	return info ? perdoaze_raw_list(index, info) : -PERDOAZE_EINVAL_;
+}
+
+/** Frees the transform, and leaves none. A place that has none may be freed again, and so may NULL. */
+static inline void perdoaze_free(struct perdoaze *tfm)
+{
+	if (tfm)
+		perdoaze_raw_free(tfm);
+}
+
+#ifdef __cplusplus
+}
+#endif
+#endif

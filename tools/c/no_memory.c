@@ -1,0 +1,80 @@
+/* Each malloc failing in turn: the call answers -ENOMEM and changes nothing but what it says, and the next call works. Linked with
+ * --wrap=malloc. */
+#include <errno.h>
+#include <perdoaze.h>
+#include <stdio.h>
+#include <stdlib.h>
+
+#define DRIVER "authenc(hmac(sha256-generic),cbc(aes-lanes))"
+
+void *__real_malloc(size_t n);
+void *__wrap_malloc(size_t n);
+
+static long left = -1, used;
+
+void *__wrap_malloc(size_t n)
+{
+	used++;
+	return left >= 0 && left-- == 0 ? NULL : __real_malloc(n);
+}
+
+static int fail(const char *what, long at)
+{
+	printf("%s: malloc %ld\n", what, at);
+	return 1;
+}
+
+/* The key of authenc: an attribute of 8 bytes, the number of bytes of the cipher's key, the MAC's key, the cipher's. */
+static const uint8_t key[56] = { 8, 0, 1, 0, 0, 0, 0, 16, 5 }, other[56] = { 8, 0, 1, 0, 0, 0, 0, 16, 6 };
+
+static const uint8_t iv[16] = { 2 }, text[32] = { 3 };
+
+static bool answers(struct perdoaze *tfm, const uint8_t *want)
+{
+	uint8_t out[64];
+	size_t n = 0;
+
+	return !perdoaze_encrypt(tfm, iv, 16, text, 20, text, 32, out, 64, &n) && n == 64 && !memcmp(out, want, 64);
+}
+
+int main(void)
+{
+	struct perdoaze t = PERDOAZE_NONE, u = PERDOAZE_NONE;
+	uint8_t want[64];
+	long inits, keys, dups, requests;
+
+	if (perdoaze_init(&t, DRIVER))
+		return fail("init", -1);
+	inits = used;
+	used = 0;
+	if (perdoaze_setkey(&t, key, sizeof key))
+		return fail("setkey", -1);
+	keys = used;
+	used = 0;
+	if (perdoaze_encrypt(&t, iv, 16, text, 20, text, 32, want, 64, NULL))
+		return fail("encrypt", -1);
+	requests = used;
+	used = 0;
+	if (perdoaze_dup(&t, &u))
+		return fail("dup", -1);
+	dups = used;
+	for (long i = 0; i < keys; i++) {
+		left = i;
+		if (perdoaze_setkey(&t, other, sizeof other) != -ENOMEM || (left = -1, !answers(&t, want)))
+			return fail("setkey", i);
+	}
+	for (long i = 0; i < dups; i++) {
+		left = i;
+		if (perdoaze_dup(&t, &u) != -ENOMEM || (left = -1, !answers(&t, want)) || perdoaze_setauthsize(&u, 32) != -EINVAL)
+			return fail("dup", i);
+	}
+	for (long i = 0; i < inits; i++) {
+		left = i;
+		if (perdoaze_init(&t, DRIVER) != -ENOMEM || (left = -1, perdoaze_setauthsize(&t, 32)) != -EINVAL)
+			return fail("init", i);
+	}
+	perdoaze_free(&t);
+	perdoaze_free(&u);
+	printf("mallocs: init %ld, setkey %ld, dup %ld, encrypt %ld\n", inits, keys, dups, requests);
+	return requests ? fail("encrypt takes memory", requests) : 0;
+}

@@ -1,0 +1,146 @@
+/* What each call refuses, and what it leaves then. Ends with status 1 at the first check that fails, and says which. */
+#include <errno.h>
+#include <perdoaze.h>
+#include <stdio.h>
+
+#define CHECK(holds) \
+	do { \
+		if (!(holds)) { \
+			printf("line %d: %s\n", __LINE__, #holds); \
+			return 1; \
+		} \
+	} while (0)
+
+static int is_all(const uint8_t *bytes, size_t n, uint8_t value)
+{
+	for (size_t i = 0; i < n; i++)
+		if (bytes[i] != value)
+			return 0;
+	return 1;
+}
+
+static int names(void)
+{
+	struct perdoaze t = PERDOAZE_NONE;
+
+	CHECK(perdoaze_init(&t, "gcm(aes)") == 0);
+	CHECK(perdoaze_init(&t, "no such name") == -EINVAL);
+	CHECK(perdoaze_setkey(&t, "0123456789abcdef", 16) == -EINVAL);
+	CHECK(perdoaze_init(&t, "no-such-name") == -ENOENT);
+	CHECK(perdoaze_init(&t, "") == -EINVAL && perdoaze_init(&t, NULL) == -EINVAL && perdoaze_init(NULL, "gcm(aes)") == -EINVAL);
+	CHECK(perdoaze_init(&t, "aes-lanes") == -ENOENT);
+	CHECK(perdoaze_init(&t, "pcrypt(gcm_base(ctr(aes-table),ghash-generic))") == 0);
+	perdoaze_free(&t);
+	perdoaze_free(&t);
+	perdoaze_free(NULL);
+	return 0;
+}
+
+static int settings(void)
+{
+	struct perdoaze t = PERDOAZE_NONE;
+	uint8_t key[64] = { 0 }, out[64];
+	size_t n = 7;
+
+	CHECK(perdoaze_setkey(&t, key, 16) == -EINVAL && perdoaze_setauthsize(&t, 16) == -EINVAL);
+	CHECK(perdoaze_encrypt(&t, key, 12, NULL, 0, key, 16, out, 64, &n) == -EINVAL && n == 0);
+	CHECK(perdoaze_init(&t, "gcm(aes)") == 0);
+	CHECK(perdoaze_encrypt(&t, key, 12, NULL, 0, key, 16, out, 64, &n) == -ENOKEY);
+	CHECK(perdoaze_setkey(&t, key, 15) == -EINVAL && perdoaze_setkey(&t, NULL, 16) == -EINVAL);
+	CHECK(perdoaze_setkey(&t, NULL, 0) == -EINVAL && perdoaze_setkey(&t, key, SIZE_MAX) == -EINVAL);
+	CHECK(perdoaze_setkey(&t, key, 16) == 0);
+	CHECK(perdoaze_setauthsize(&t, 7) == -EINVAL && perdoaze_setauthsize(&t, 17) == -EINVAL);
+	CHECK(perdoaze_encrypt(&t, key, 12, NULL, 0, key, 16, out, 64, &n) == 0 && n == 32);
+	CHECK(perdoaze_setauthsize(&t, 4) == 0);
+	CHECK(perdoaze_encrypt(&t, key, 12, NULL, 0, key, 16, out, 64, &n) == 0 && n == 20);
+	CHECK(perdoaze_init(&t, "ctr(aes)") == 0 && perdoaze_setauthsize(&t, 0) == -EINVAL);
+	CHECK(perdoaze_init(&t, "hmac(sha256)") == 0 && perdoaze_setkey(&t, NULL, 0) == 0);
+	CHECK(perdoaze_digest(&t, NULL, 0, out, 32, &n) == 0 && n == 32);
+	CHECK(perdoaze_digest(&t, NULL, 0, out, 31, &n) == -EOVERFLOW && n == 0);
+	CHECK(perdoaze_digest(&t, NULL, 1, out, 32, &n) == -EINVAL);
+	CHECK(perdoaze_encrypt(&t, NULL, 0, NULL, 0, key, 16, out, 64, &n) == -EINVAL);
+	perdoaze_free(&t);
+	return 0;
+}
+
+static int requests(void)
+{
+	struct perdoaze t = PERDOAZE_NONE;
+	uint8_t key[64] = { 0 }, iv[16] = { 1 }, sealed[80], out[80];
+	const char text[] = "forty-eight bytes of text that anybody may read";
+	size_t n = 7;
+
+	CHECK(perdoaze_init(&t, "gcm(aes)") == 0 && perdoaze_setkey(&t, key, 32) == 0);
+	CHECK(perdoaze_encrypt(&t, iv, 12, key, 20, text, 48, sealed, 80, NULL) == 0);
+	memset(out, 0x55, 80);
+	CHECK(perdoaze_encrypt(&t, iv, 12, key, 20, text, 48, out, 63, &n) == -EOVERFLOW && n == 0 && is_all(out, 80, 0x55));
+	CHECK(perdoaze_encrypt(&t, NULL, 12, key, 20, text, 48, out, 80, &n) == -EINVAL && is_all(out, 80, 0x55));
+	CHECK(perdoaze_encrypt(&t, iv, 12, NULL, 20, text, 48, out, 80, &n) == -EINVAL && is_all(out, 80, 0x55));
+	CHECK(perdoaze_encrypt(&t, iv, 12, key, 20, NULL, 48, out, 80, &n) == -EINVAL && is_all(out, 80, 0x55));
+	CHECK(perdoaze_encrypt(&t, iv, 12, key, 20, text, 48, NULL, 80, &n) == -EINVAL);
+	CHECK(perdoaze_encrypt(&t, iv, 11, key, 20, text, 48, out, 80, &n) == -EINVAL && n == 0 && is_all(out + 48, 32, 0x55));
+	CHECK(perdoaze_encrypt(&t, iv, 12, key, 20, out + 8, 48, out, 80, &n) == -EINVAL);
+	CHECK(perdoaze_encrypt(&t, out, 12, key, 20, text, 48, out, 80, &n) == -EINVAL);
+	CHECK(perdoaze_decrypt(&t, iv, 12, key, 20, sealed, 15, out, 80, &n) == -EINVAL);
+	CHECK(perdoaze_decrypt(&t, iv, 12, key, 20, sealed, 64, out, 47, &n) == -EOVERFLOW);
+	CHECK(perdoaze_digest(&t, text, 48, out, 80, &n) == -EINVAL);
+	sealed[3] ^= 1;
+	memset(out, 0x55, 80);
+	CHECK(perdoaze_decrypt(&t, iv, 12, key, 20, sealed, 64, out, 80, &n) == -EBADMSG && n == 0);
+	CHECK(is_all(out, 48, 0) && is_all(out + 48, 32, 0x55));
+	memcpy(out, sealed, 64);
+	CHECK(perdoaze_decrypt_in_place(&t, iv, 12, key, 20, out, 80, 64, &n) == -EBADMSG && n == 0 && !memcmp(out, sealed, 64));
+	CHECK(perdoaze_decrypt_in_place(&t, iv, 12, key, 20, out, 63, 64, &n) == -EOVERFLOW);
+	CHECK(perdoaze_encrypt_in_place(&t, iv, 12, key, 20, out, 63, 48, &n) == -EOVERFLOW && !memcmp(out, sealed, 64));
+	CHECK(perdoaze_encrypt_in_place(&t, iv, 12, key, 20, out, 80, SIZE_MAX, &n) == -EOVERFLOW);
+	CHECK(perdoaze_init(&t, "cbc(aes)") == 0 && perdoaze_setkey(&t, key, 16) == 0);
+	CHECK(perdoaze_encrypt(&t, iv, 16, NULL, 0, text, 47, out, 80, &n) == -EINVAL && is_all(out, 47, 0));
+	CHECK(perdoaze_encrypt(&t, iv, 16, key, 1, text, 48, out, 80, &n) == -EINVAL);
+	perdoaze_free(&t);
+	return 0;
+}
+
+static int duplicates(void)
+{
+	struct perdoaze t = PERDOAZE_NONE, u = PERDOAZE_NONE;
+	uint8_t key[32] = { 3 }, iv[12] = { 1 }, a[48], b[48];
+	size_t n = 0, m = 0;
+
+	CHECK(perdoaze_dup(&t, &u) == -EINVAL && perdoaze_dup(&t, &t) == -EINVAL && perdoaze_dup(&t, NULL) == -EINVAL);
+	CHECK(perdoaze_init(&t, "gcm(aes)") == 0 && perdoaze_dup(&t, &u) == 0);
+	CHECK(perdoaze_encrypt(&u, iv, 12, NULL, 0, key, 32, b, 48, &n) == -ENOKEY);
+	CHECK(perdoaze_setkey(&t, key, 32) == 0 && perdoaze_setauthsize(&t, 12) == 0 && perdoaze_dup(&t, &u) == 0);
+	CHECK(perdoaze_encrypt(&t, iv, 12, NULL, 0, key, 32, a, 48, &n) == 0 && n == 44);
+	perdoaze_free(&t);
+	CHECK(perdoaze_encrypt(&u, iv, 12, NULL, 0, key, 32, b, 48, &m) == 0 && m == 44 && !memcmp(a, b, 44));
+	CHECK(perdoaze_dup(&t, &u) == -EINVAL);
+	CHECK(perdoaze_encrypt(&u, iv, 12, NULL, 0, key, 32, b, 48, &m) == -EINVAL);
+	return 0;
+}
+
+static int infos(void)
+{
+	struct perdoaze t = PERDOAZE_NONE;
+	struct perdoaze_info info, listed;
+	size_t n = 0;
+
+	CHECK(perdoaze_info(&t, &info) == -EINVAL && perdoaze_info(NULL, &info) == -EINVAL && perdoaze_info(&t, NULL) == -EINVAL);
+	for (; perdoaze_list(n, &listed) == 0; n++) {
+		const char *driver = (const char *)listed.driver;
+
+		CHECK(perdoaze_init(&t, driver) == 0 && perdoaze_info(&t, &info) == 0 && !memcmp(&info, &listed, sizeof info));
+		CHECK(perdoaze_init(&t, (const char *)listed.name) == 0 && perdoaze_info(&t, &info) == 0);
+		CHECK(!memcmp(info.name, listed.name, sizeof info.name) && info.priority >= listed.priority);
+	}
+	CHECK(n == 43 && perdoaze_list(SIZE_MAX, &listed) == -ENOENT && perdoaze_list(0, NULL) == -EINVAL);
+	CHECK(perdoaze_init(&t, "gcm(aes)") == 0 && perdoaze_info(&t, &info) == 0);
+	CHECK(!strcmp((const char *)info.driver, "gcm_base(ctr(aes-lanes),ghash-table)") && info.kind == PERDOAZE_AEAD);
+	CHECK(info.iv_size == 12 && info.max_tag_size == 16 && info.min_key_size == 16 && info.max_key_size == 32 && info.block_size == 1);
+	perdoaze_free(&t);
+	return 0;
+}
+
+int main(void)
+{
+	return names() || settings() || requests() || duplicates() || infos();
+}
