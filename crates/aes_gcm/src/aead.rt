@@ -10,7 +10,8 @@ use gcm_mode::Gcm;
 use ghash_field::LaneGhash;
 use std::marker::Model;
 
-/// AES-GCM under a key of 16, 24 or 32 bytes. It is about 7 KiB large, and takes no memory beside. Contracts see the key.
+/// AES-GCM under a key of 16, 24 or 32 bytes. It is about 7 KiB large, and takes no memory beside. Contracts see the
+/// key.
 #[derive(Drop)]
 pub struct AesGcm {
     mode: Gcm<LaneAes, LaneGhash>,
@@ -39,8 +40,8 @@ impl AesGcm {
         }
     }
 
-    /// Makes the ciphertext of `text` in its place, and gives the tag, which covers `associated` and the ciphertext (7.1).
-    /// `nonce` must be new under this key. Both `associated` and `text` have fewer than 2^32 bytes.
+    /// Makes the ciphertext of `text` in its place, and gives the tag, which covers `associated` and the ciphertext
+    /// (7.1). `nonce` must be new under this key. Both `associated` and `text` have fewer than 2^32 bytes.
     pub fn seal(&self, nonce: &[u8; 12], associated: &[u8], text: &mut [u8]) -> [u8; 16]
         requires associated_short { length associated.now < 2 ^ 32 }
         requires text_short { length text.old < 2 ^ 32 }
@@ -53,8 +54,8 @@ impl AesGcm {
     }
 
     /// Makes the plaintext of `text` in its place (7.2). `WrongTag` exactly where `tag` isn't the tag of the nonce, the
-    /// associated bytes and the ciphertext: the text is then unchanged. Both `associated` and `text` have fewer than 2^32
-    /// bytes.
+    /// associated bytes and the ciphertext: the text is then unchanged. Both `associated` and `text` have fewer than
+    /// 2^32 bytes.
     pub fn open(
         &self,
         nonce: &[u8; 12],

@@ -1,5 +1,5 @@
-//! Seals packets by AES-GCM and as ESP does, opens them again, and prints what came of it. It is a caller from outside: it
-//! knows the cipher crates by their public contracts alone.
+//! Seals packets by AES-GCM and as ESP does, opens them again, and prints what came of it. It is a caller from outside:
+//! it knows the cipher crates by their public contracts alone.
 #![tactic(auto)]
 
 mod packets;

@@ -32,8 +32,8 @@ pub fn seal_packet(key: &[u8; 16], iv: &[u8; 12], header: &[u8], text: &mut [u8]
     gcm_under(key).seal(iv, header, text)
 }
 
-/// Makes the plaintext of `text` in its place. `WrongTag` exactly where the tag isn't that of the header and the text, and
-/// the text is then unchanged.
+/// Makes the plaintext of `text` in its place. `WrongTag` exactly where the tag isn't that of the header and the text,
+/// and the text is then unchanged.
 pub fn open_packet(
     key: &[u8; 16],
     iv: &[u8; 12],
@@ -84,7 +84,8 @@ fn associated_of(header: &[u8; 12], iv: &[u8; 8]) -> [u8; 20]
     whole
 }
 
-/// Makes the ciphertext of `text` in its place as ESP has it under an extended sequence number (RFC 4106), and gives its tag.
+/// Makes the ciphertext of `text` in its place as ESP has it under an extended sequence number (RFC 4106), and gives
+/// its tag.
 pub fn seal_esp(
     mode: &Rfc4106<LaneAes, LaneGhash>,
     iv: &[u8; 8],
@@ -101,8 +102,8 @@ pub fn seal_esp(
     tag
 }
 
-/// Makes the plaintext of `text` in its place as ESP has it. `EBADMSG` exactly where the tag isn't that of the header and
-/// the text, and the text is then unchanged.
+/// Makes the plaintext of `text` in its place as ESP has it. `EBADMSG` exactly where the tag isn't that of the header
+/// and the text, and the text is then unchanged.
 pub fn open_esp(
     mode: &Rfc4106<LaneAes, LaneGhash>,
     iv: &[u8; 8],
