@@ -1,12 +1,12 @@
-//! Seals packets by GCM and as ESP does, opens them again, and prints what came of it. It is a caller from outside: it knows the
-//! cipher crates by their public contracts alone.
+//! Seals packets by AES-GCM and as ESP does, opens them again, and prints what came of it. It is a caller from outside:
+//! it knows the cipher crates by their public contracts alone.
 #![tactic(auto)]
 
 mod packets;
 
-use gcm_mode::Rfc4106;
+use aes_gcm::AesGcmError;
 use kc_base::Errno;
-use packets::{gcm_under, mac_of, open_esp, open_packet, seal_and_open, seal_esp, seal_packet};
+use packets::{esp_under, mac_of, open_esp, open_packet, seal_and_open, seal_esp, seal_packet};
 use std::alloc::Global;
 
 /// An IP packet that asks DNS for the SRV record of a SIP service.
@@ -20,7 +20,15 @@ fn print_bytes(rt: &impl Print, alloc: Global, what: &str, bytes: &[u8]) -> anyh
     Ok(())
 }
 
-fn print_opening(rt: &impl Print, opened: Result<(), Errno>) -> anyhow::Result<()> {
+fn print_opening(rt: &impl Print, opened: Result<(), AesGcmError>) -> anyhow::Result<()> {
+    match opened {
+        Ok(()) => println!(rt; "opened")?,
+        Err(error) => println!(rt; "refused: {error}")?,
+    }
+    Ok(())
+}
+
+fn print_opening_of_esp(rt: &impl Print, opened: Result<(), Errno>) -> anyhow::Result<()> {
     match opened {
         Ok(()) => println!(rt; "opened")?,
         Err(error) => println!(rt; "refused {}", error.name())?,
@@ -46,7 +54,7 @@ fn zeros(rt: &impl Print, alloc: Global) -> anyhow::Result<()> {
 /// A datagram in ESP, with an extended sequence number.
 fn esp(rt: &impl Print, alloc: Global) -> anyhow::Result<()> {
     let key = *b"\x4c\x80\xcd\xef\xbb\x5d\x10\xda\x90\x6a\xc7\x3c\x36\x13\xa6\x34";
-    let mode = Rfc4106::new(gcm_under(&key), *b"\x2e\x44\x3b\x68");
+    let mode = esp_under(&key, *b"\x2e\x44\x3b\x68");
     let iv = *b"\x49\x56\xed\x7e\x3b\x24\x4c\xfe";
     let header = *b"\x00\x00\x43\x21\x87\x65\x43\x21\x00\x00\x00\x00";
     let mut text = *DATAGRAM;
@@ -55,8 +63,8 @@ fn esp(rt: &impl Print, alloc: Global) -> anyhow::Result<()> {
     print_bytes(rt, alloc, "esp tag", &tag)?;
     let mut changed = header;
     changed[7] ^= 1;
-    print_opening(rt, open_esp(&mode, &iv, &changed, &mut text, &tag))?;
-    print_opening(rt, open_esp(&mode, &iv, &header, &mut text, &tag))?;
+    print_opening_of_esp(rt, open_esp(&mode, &iv, &changed, &mut text, &tag))?;
+    print_opening_of_esp(rt, open_esp(&mode, &iv, &header, &mut text, &tag))?;
     print_bytes(rt, alloc, "esp plaintext", &text)
 }
 
