@@ -2,8 +2,8 @@
 use Rattle.std.proofs.Common.{◌≡◌, refl, codes, [], ◌∷◌, Ok, Err, true, false}
 use Rattle.clap.proofs.OnLiterals.{clap_on_literals}
 use Rattle.command_line.specs.CommandLine.{mode_of}
-use Rattle.command_line.specs.declared.errors.CommandLineError.TheVariants.{Syntax, CountWithoutLoad}
-use Rattle.run_options.specs.declared.options.Mode.TheVariants.{Script, Load}
+use Rattle.command_line.specs.declared.errors.CommandLineError.TheVariants.{Syntax, CountWithoutLoad, LoadWithClients, InvalidNumber}
+use Rattle.run_options.specs.declared.options.Mode.TheVariants.{Script, Clients, Load}
 
 no_words : mode_of [] ≡ Ok (Script (record { workers = 4; trace = false }))
 unfolding clap_on_literals
@@ -16,6 +16,18 @@ many_workers = refl
 loads : mode_of (codes "--load=7" ∷ codes "--count" ∷ codes "0" ∷ codes "--workers=1" ∷ []) ≡ Ok (Load (record { workers = 1; seed = 7; count = 0 }))
 unfolding clap_on_literals
 loads = refl
+
+two_clients : mode_of (codes "--clients" ∷ codes "2" ∷ codes "--workers=0" ∷ []) ≡ Ok (Clients (record { workers = 0; trace = false; clients = 2 }))
+unfolding clap_on_literals
+two_clients = refl
+
+no_clients : mode_of (codes "--clients" ∷ codes "0" ∷ []) ≡ Err InvalidNumber
+unfolding clap_on_literals
+no_clients = refl
+
+loading_clients : mode_of (codes "--clients" ∷ codes "2" ∷ codes "--load" ∷ codes "1" ∷ []) ≡ Err LoadWithClients
+unfolding clap_on_literals
+loading_clients = refl
 
 lone_count : mode_of (codes "--count" ∷ codes "5" ∷ []) ≡ Err CountWithoutLoad
 unfolding clap_on_literals

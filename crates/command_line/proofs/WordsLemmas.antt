@@ -9,6 +9,6 @@ script_is_free = refl
 pub script_is_simple : is_simple script_app ≡ true
 script_is_simple = refl
 
-pub same_mode : {w x l m c d : Option Text} {t u : Bool} → w ≡ x → t ≡ u → l ≡ m → c ≡ d → mode_by w t l c ≡ mode_by x u m d
-same_mode {w} {x} {l} {m} {c} {d} {t} {u} a b e f =
-    ap (λ y. mode_by y t l c) a ∙ (ap (λ y. mode_by x y l c) b ∙ (ap (λ y. mode_by x u y c) e ∙ ap (λ y. mode_by x u m y) f))
+pub same_mode : {w x n o l m c d : Option Text} {t u : Bool} → w ≡ x → t ≡ u → n ≡ o → l ≡ m → c ≡ d → mode_by w t n l c ≡ mode_by x u o m d
+same_mode {w} {x} {n} {o} {l} {m} {c} {d} {t} {u} a b g e f =
+    ap (λ y. mode_by y t n l c) a ∙ (ap (λ y. mode_by x y n l c) b ∙ (ap (λ y. mode_by x u y l c) g ∙ (ap (λ y. mode_by x u o y c) e ∙ ap (λ y. mode_by x u o m y) f)))

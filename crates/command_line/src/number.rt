@@ -1,7 +1,7 @@
 //! Numbers as the command line writes them.
 
 ghost use Rattle.std.specs.Prelude.{◌≡◌, ◌≤◌, IfSome, option_map};
-ghost use Rattle.command_line.specs.CommandLine.{number_or};
+ghost use Rattle.command_line.specs.CommandLine.{number_or, from_one};
 ghost use Rattle.command_line.specs.Number.{number_up_to};
 ghost use Rattle.command_line.specs.Steps.{has_plain_start};
 
@@ -22,6 +22,17 @@ pub(crate) fn number_at_most(text: &str, most: u64) -> Option<u64>
     match text.parse::<u64>() {
         Ok(n) => if is_plain && n <= most { Some(n) } else { None },
         Err(_) => None,
+    }
+}
+
+// The number that a text writes, if it is at least 1 and at most `most`.
+pub(crate) fn number_from_one(text: &str, most: u32) -> Option<u32>
+    ensures value { result ≡ from_one (number_up_to most text.now) }
+    ensures bound { IfSome result (λ n. (1 ≤ n) × (n ≤ most)) }
+{
+    match number_at_most(text, most as u64) {
+        Some(n) => if n == 0 { None } else { Some(n as u32) },
+        None => None,
     }
 }
 

@@ -40,6 +40,7 @@ pub(crate) fn script_command<'a>(alloc: Global) -> Result<Command<'a>, AllocErro
     let command = bare_command(alloc)
         .arg(option(alloc, "workers"))?
         .arg(flag(alloc, "trace"))?
+        .arg(option(alloc, "clients"))?
         .arg(option(alloc, "load"))?
         .arg(option(alloc, "count"))?;
     Ok(command)

@@ -37,4 +37,5 @@ module _ (words : List (List ℕ)) where
   refuses command.Syntax is = usage command.Syntax (is (λ same. let x : command.Syntax ≡ command.NoMemory = same in cc))
   refuses command.CountWithoutLoad is = usage command.CountWithoutLoad (is (λ same. let x : command.CountWithoutLoad ≡ command.NoMemory = same in cc))
   refuses command.LoadWithTrace is = usage command.LoadWithTrace (is (λ same. let x : command.LoadWithTrace ≡ command.NoMemory = same in cc))
+  refuses command.LoadWithClients is = usage command.LoadWithClients (is (λ same. let x : command.LoadWithClients ≡ command.NoMemory = same in cc))
   refuses command.InvalidNumber is = usage command.InvalidNumber (is (λ same. let x : command.InvalidNumber ≡ command.NoMemory = same in cc))

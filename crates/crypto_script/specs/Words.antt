@@ -4,11 +4,12 @@ use Rattle.command_line.specs.CommandLine.{mode_of}
 use Rattle.command_line.specs.declared.errors.CommandLineError.{CommandLineError}
 use Rattle.run_options.specs.declared.options.LoadOptions.{LoadOptions}
 use Rattle.run_options.specs.declared.options.Mode.{Mode}
-use Rattle.run_options.specs.declared.options.Mode.TheVariants.{Script, Load}
+use Rattle.run_options.specs.declared.options.Mode.TheVariants.{Script, Clients, Load}
 use Rattle.run_options.specs.declared.options.ScriptOptions.{ScriptOptions}
 
 abbrev pub script_in_mode : Result Mode CommandLineError → Option ScriptOptions
 script_in_mode (Ok (Script options)) = Some options
+script_in_mode (Ok (Clients options)) = None
 script_in_mode (Ok (Load options)) = None
 script_in_mode (Err error) = None
 
@@ -18,6 +19,7 @@ script_asked words = script_in_mode (mode_of words)
 
 abbrev pub load_in_mode : Result Mode CommandLineError → Option LoadOptions
 load_in_mode (Ok (Script options)) = None
+load_in_mode (Ok (Clients options)) = None
 load_in_mode (Ok (Load options)) = Some options
 load_in_mode (Err error) = None
 

@@ -99,7 +99,7 @@ fn outcome_of(ran: Ran) -> Outcome
 /// |---|---|
 /// | 0 | the run reached the end, and no line is malformed; or the load's line is written |
 /// | 1 | the run reached the end, and a line is malformed |
-/// | 2 | the words are no command |
+/// | 2 | the words are no command, or ask for several scripts at once, which this program doesn't run |
 /// | 3, 4 | the source, the sink failed |
 /// | 5 | memory is wanting |
 /// | 6 | the source has more than 2^28 bytes |
@@ -183,6 +183,8 @@ pub fn run<S: Source, K: Sink, G: Gate + Sync, R: Threads + Wait + Sync>(
     let options = match mode {
         Mode::Script(options) => options,
         Mode::Load(options) => return outcome_of(run_load(rt, alloc, &options, gate, out)),
+        // The words are read; several scripts at once aren't run.
+        Mode::Clients(_) => return outcome_of(Ran::not_at_all(alloc, RunError::Usage)),
     };
     outcome_of(run_traced(rt, alloc, &options, gate, src, out))
 }

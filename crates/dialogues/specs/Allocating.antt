@@ -15,7 +15,7 @@ use Rattle.reply_text.specs.declared.answers.Answer.TheVariants as said
 use Rattle.dialogues.specs.Names.{name_read, is_queue_length, plan_for}
 use Rattle.dialogues.specs.Questions.{Look, Get, Put, Create, Close}
 use Rattle.dialogues.specs.Dialogues.{Dialogue, Asks, Posts, says, refuses, unless, with_label}
-use Rattle.dialogues.specs.Walk.{Walk, Live, Pipe, live_of, without}
+use Rattle.dialogues.specs.Walk.{Walk, Live, Pipe, either_of, without}
 
 -- ---- `alloc T NAME [NUM]`
 
@@ -79,7 +79,7 @@ fault_of (Err errno) = (true, errno) ∷ []
 abbrev pub alloc : ℕ → Walk → ℕ → List ℕ → List ℕ → Option ℕ → Dialogue
 alloc workers walk n label name len =
     unless walk n (
-    (is_some (live_of walk label), EEXIST)
+    (is_some (either_of walk label), EEXIST)
     ∷ (nat_le 4096 (length walk.lives), EMFILE)
     ∷ fault_of (name_read name)
     ++ (not (is_queue_length len), EINVAL)

@@ -14,6 +14,7 @@ use Rattle.transforms.specs.declared.request.Finished.{Finished}
 use Rattle.transforms.specs.declared.request.Request.{Request}
 use Rattle.transforms.specs.AskValue.{ask_value}
 use Rattle.transforms.specs.Finish.{finished_of}
+use Rattle.reply_text.specs.declared.origin.Origin.{Origin}
 use Rattle.dialogues.specs.RegistryCalls.{if_own, prepend}
 
 -- what a request asks: what its transform computes, under which key and tag size, and of which line it is
@@ -33,19 +34,26 @@ asked_by ask =
 abbrev pub outcome : Ask → Finished
 outcome ask = finished_of (ask_value ask)
 
--- what is told of the request of a line: that it has started, or how it ended
+-- what is told of a request: that it has started, or how it ended
 pub data Notice : Type 0 where
-  Started : (line : ℕ) → Notice
-  Completed : (line : ℕ) → (finished : Finished) → Notice
+  Started : (of : Origin) → Notice
+  Completed : (of : Origin) → (finished : Finished) → Notice
 
--- the line of the request of this number
-abbrev pub line_in : Option Ask → ℕ
-line_in (Some ask) = ask.line
-line_in None = 0
+-- from which line of which client's script a request is
+abbrev pub origin_by : Asked → Origin
+origin_by asked = record { client = asked.client; line = asked.line }
+
+abbrev pub origin_of : Ask → Origin
+origin_of ask = origin_by (asked_by ask)
+
+-- the request of this number
+abbrev pub origin_in : Option Ask → Origin
+origin_in (Some ask) = origin_of ask
+origin_in None = record { client = 0; line = 0 }
 
 abbrev pub notice_of : List Ask → Callback Finished → Notice
-notice_of asks (callback.Started number) = Started (line_in (slice_get asks number))
-notice_of asks (callback.Done number finished) = Completed (line_in (slice_get asks number)) finished
+notice_of asks (callback.Started number) = Started (origin_in (slice_get asks number))
+notice_of asks (callback.Done number finished) = Completed (origin_in (slice_get asks number)) finished
 
 -- what a collect hands out, and whether each accepted request was done before it
 pub record Collected : Type 0 where

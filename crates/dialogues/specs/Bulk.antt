@@ -9,7 +9,7 @@ use Rattle.templates.specs.declared.driver_plans.Plan.{Plan}
 use Rattle.templates.specs.declared.driver_plans.Plan.TheVariants.{Ctr}
 use Rattle.reply_text.specs.declared.answers.Answer.{Answer}
 use Rattle.reply_text.specs.declared.answers.Answer.TheVariants as said
-use Rattle.dialogues.specs.Dialogues.{Dialogue, says, with_label}
+use Rattle.dialogues.specs.Dialogues.{Dialogue, says, with_either}
 use Rattle.dialogues.specs.Walk.{Walk, Live, Pipe}
 
 -- the root of its driver's name is `ctr`: it computes CTR, and neither `pcrypt` nor `cryptd` stands over it
@@ -44,4 +44,4 @@ abbrev pub bulk_said : ℕ → Live → ℕ → ℕ → Answer
 bulk_said n live size seed = bulk_under n live size seed live.key
 
 abbrev pub bulk : Walk → ℕ → List ℕ → ℕ → ℕ → Dialogue
-bulk walk n label size seed = with_label walk n label λ live. says walk (bulk_said n live size seed)
+bulk walk n label size seed = with_either walk n label λ live. says walk (bulk_said n live size seed)

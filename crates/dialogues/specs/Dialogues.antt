@@ -1,11 +1,11 @@
 -- A dialogue: what a script asks of its registry and its board, by turns, and what it answers.
 use Rattle.std.specs.Prelude.{ℕ, Bool, if◌then◌else◌, List, [], ◌∷◌, Option, Some, None}
 use Rattle.kc_base.specs.declared.error_numbers.Errno.{Errno}
-use Rattle.kc_base.specs.declared.error_numbers.Errno.TheVariants.{ENOENT}
+use Rattle.kc_base.specs.declared.error_numbers.Errno.TheVariants.{ENOENT, EINVAL}
 use Rattle.reply_text.specs.declared.answers.Answer.{Answer}
 use Rattle.reply_text.specs.declared.answers.Answer.TheVariants as said
 use Rattle.dialogues.specs.Questions.{RegQuestion, RegAnswer, BoardQuestion, BoardAnswer}
-use Rattle.dialogues.specs.Walk.{Walk, Live, live_of}
+use Rattle.dialogues.specs.Walk.{Walk, Live, live_of, shared_of, either_of}
 
 -- It ends, with what the script has made; or it answers; or it asks, and goes on by what comes of it.
 pub data Dialogue : Type 0 where
@@ -34,10 +34,20 @@ abbrev pub unless : Walk → ℕ → List (Bool × Errno) → Dialogue → Dialo
 unless walk n [] rest = rest
 unless walk n (refusal ∷ refusals) rest = if refusal.0 then refuses walk n refusal.1 else unless walk n refusals rest
 
--- what a line does with the live transform of a label; without one it is refused
-abbrev pub for_live : Walk → ℕ → Option Live → (Live → Dialogue) → Dialogue
-for_live walk n (Some live) rest = rest live
-for_live walk n None rest = refuses walk n ENOENT
+-- what a line does with a live transform; without one it is refused so
+abbrev pub for_live : Walk → ℕ → Option Live → Errno → (Live → Dialogue) → Dialogue
+for_live walk n (Some live) errno rest = rest live
+for_live walk n None errno rest = refuses walk n errno
 
+-- why a script has no live transform of its own under a label: it may not change the shared one
+abbrev pub missing : Option Live → Errno
+missing (Some shared) = EINVAL
+missing None = ENOENT
+
+-- what a line does with its script's own live transform of a label
 abbrev pub with_label : Walk → ℕ → List ℕ → (Live → Dialogue) → Dialogue
-with_label walk n label rest = for_live walk n (live_of walk label) rest
+with_label walk n label rest = for_live walk n (live_of walk label) (missing (shared_of walk label)) rest
+
+-- and what with its own or the shared one
+abbrev pub with_either : Walk → ℕ → List ℕ → (Live → Dialogue) → Dialogue
+with_either walk n label rest = for_live walk n (either_of walk label) ENOENT rest

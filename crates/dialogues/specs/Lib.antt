@@ -9,6 +9,7 @@ pub mod Registering
 pub mod Allocating
 pub mod Requesting
 pub mod Piping
+pub mod Sharing
 pub mod Probing
 pub mod Bulk
 pub mod Lines

@@ -9,7 +9,7 @@ use Rattle.reply_text.specs.declared.answers.Answer.TheVariants as said
 use Rattle.dialogues.specs.Allocating.{alloc, free}
 use Rattle.dialogues.specs.Bulk.{bulk}
 use Rattle.dialogues.specs.Dialogues.{Dialogue, Ends, followed, says}
-use Rattle.dialogues.specs.Piping.{mask, hold, go, poll, drain, end}
+use Rattle.dialogues.specs.Piping.{mask, hold, go, poll, drain, end, end_beside}
 use Rattle.dialogues.specs.Probing.{probe}
 use Rattle.dialogues.specs.Registering.{register, unregister, refs, listed}
 use Rattle.dialogues.specs.Requesting.{aes, set_key, set_tag_size, request, request_of}
@@ -50,3 +50,7 @@ lines_dialogue workers walk n (next ∷ lines) rest = followed (line_dialogue wo
 -- a whole script, and the end of its input
 abbrev pub script : ℕ → Walk → List Line → Dialogue
 script workers walk lines = lines_dialogue workers walk 1 lines end
+
+-- a whole script beside others, who go on at its end
+abbrev pub script_beside : ℕ → Walk → List Line → Dialogue
+script_beside workers walk lines = lines_dialogue workers walk 1 lines end_beside

@@ -5,6 +5,7 @@ use Rattle.transforms.specs.declared.request.Finished.{Finished}
 use Rattle.transforms.specs.declared.request.Finished.TheVariants.{Bytes, BadMsg, Invalid}
 use Rattle.reply_text.specs.declared.answers.Answer.{Answer}
 use Rattle.reply_text.specs.declared.answers.Answer.TheVariants as said
+use Rattle.reply_text.specs.declared.origin.Origin.{Origin}
 use Rattle.dialogues.specs.BoardCalls.{Notice, Started, Completed}
 use Rattle.dialogues.specs.Allocating.{lists_beside}
 use Rattle.dialogues.specs.Questions.{Mask, Hold, Go, Poll, Drain, Shut}
@@ -13,18 +14,18 @@ use Rattle.dialogues.specs.Walk.{Walk, Live, Pipe, with_pipe}
 
 -- ---- what is told
 
-abbrev pub completion_said : ℕ → Finished → Answer
-completion_said line (Bytes made) = said.Done line made
-completion_said line BadMsg = said.Failed line EBADMSG
-completion_said line Invalid = said.Failed line EINVAL
+abbrev pub completion_said : Origin → Finished → Answer
+completion_said of (Bytes made) = said.Done of made
+completion_said of BadMsg = said.Failed of EBADMSG
+completion_said of Invalid = said.Failed of EINVAL
 
 abbrev pub notice_said : Notice → Answer
-notice_said (Started line) = said.Started line
-notice_said (Completed line finished) = completion_said line finished
+notice_said (Started of) = said.Started of
+notice_said (Completed of finished) = completion_said of finished
 
 abbrev pub is_completion : Notice → Bool
-is_completion (Started line) = false
-is_completion (Completed line finished) = true
+is_completion (Started of) = false
+is_completion (Completed of finished) = true
 
 -- how many completions are among these
 abbrev pub completions : List Notice → ℕ
@@ -127,6 +128,14 @@ abbrev pub drain_all : List Live → Dialogue → Dialogue
 drain_all [] rest = rest
 drain_all (live ∷ lives) rest = drains_at_end live.label live.pipe (drain_all lives rest)
 
--- Held queues are let go, each live transform is drained in order of allocation, and then the board is shut.
+-- Held queues are let go, and each of the script's own live transforms is drained, in order of allocation.
+abbrev pub drains_own : Walk → Dialogue → Dialogue
+drains_own walk rest = let_all_go walk.lives (drain_all walk.lives rest)
+
+-- and then the board is shut
 abbrev pub end : Walk → Dialogue
-end walk = let_all_go walk.lives (drain_all walk.lives (Posts Shut λ done. Ends walk))
+end walk = drains_own walk (Posts Shut λ done. Ends walk)
+
+-- where others go on, it stays open
+abbrev pub end_beside : Walk → Dialogue
+end_beside walk = drains_own walk (Ends walk)

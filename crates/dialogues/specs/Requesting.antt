@@ -15,9 +15,9 @@ use Rattle.transforms.specs.Plans.{takes_key, takes_tag}
 use Rattle.transforms.specs.RequestValue.{request_value}
 use Rattle.reply_text.specs.declared.answers.Answer.{Answer}
 use Rattle.reply_text.specs.declared.answers.Answer.TheVariants as said
-use Rattle.dialogues.specs.BoardCalls.{Asked}
+use Rattle.dialogues.specs.BoardCalls.{Asked, origin_by}
 use Rattle.dialogues.specs.Questions.{Submit, Enqueue}
-use Rattle.dialogues.specs.Dialogues.{Dialogue, Posts, says, refuses, unless, with_label}
+use Rattle.dialogues.specs.Dialogues.{Dialogue, Posts, says, refuses, unless, with_label, with_either}
 use Rattle.dialogues.specs.Walk.{Walk, Live, Pipe, with_live, with_pipe}
 
 -- ---- `aes KEY BLOCK`
@@ -72,21 +72,21 @@ abbrev pub is_too_big : Walk → Request → Bool
 is_too_big walk request = nat_le (2 ^ 20) walk.requests || nat_lt (2 ^ 26) (walk.bytes + size_of request)
 
 -- the pipeline has accepted a request
-abbrev pub accepting : Walk → ℕ → Live → Pipe → Request → Walk
-accepting walk n live pipe request =
-    record (with_pipe walk live (record pipe { lines = pipe.lines ++ n ∷ [] })) { requests = walk.requests + 1; bytes = walk.bytes + size_of request }
+abbrev pub accepting : Walk → Live → Pipe → Asked → Walk
+accepting walk live pipe asked =
+    record (with_pipe walk live (record pipe { lines = pipe.lines ++ origin_by asked ∷ [] })) { requests = walk.requests + 1; bytes = walk.bytes + size_of asked.request }
 
-abbrev pub entered : Walk → ℕ → Live → Pipe → Request → Entered → Dialogue
-entered walk n live pipe request (InProgress number) = refuses (accepting walk n live pipe request) n EINPROGRESS
-entered walk n live pipe request (Busy number) = refuses (accepting walk n live pipe request) n EBUSY
-entered walk n live pipe request NoSpace = refuses walk n ENOSPC
+abbrev pub entered : Walk → ℕ → Live → Pipe → Asked → Entered → Dialogue
+entered walk n live pipe asked (InProgress number) = refuses (accepting walk live pipe asked) n EINPROGRESS
+entered walk n live pipe asked (Busy number) = refuses (accepting walk live pipe asked) n EBUSY
+entered walk n live pipe asked NoSpace = refuses walk n ENOSPC
 
 -- to a pad each request, and to a queue what it has room for
 abbrev pub hands_in : Walk → ℕ → Live → Pipe → Asked → Bool → Option ℕ → Dialogue
 hands_in walk n live pipe asked backlog None =
-    Posts (Submit pipe.number asked) λ number. refuses (accepting walk n live pipe asked.request) n EINPROGRESS
+    Posts (Submit pipe.number asked) λ number. refuses (accepting walk live pipe asked) n EINPROGRESS
 hands_in walk n live pipe asked backlog (Some max) =
-    Posts (Enqueue pipe.number asked backlog) λ answer. entered walk n live pipe asked.request answer
+    Posts (Enqueue pipe.number asked backlog) λ answer. entered walk n live pipe asked answer
 
 -- A transform without a pipeline answers at once. One that no worker serves takes nothing.
 abbrev pub requests_in : Walk → ℕ → Live → Asked → Bool → Option Pipe → Dialogue
@@ -101,4 +101,4 @@ requests_under walk n live request backlog (Some key) =
     (requests_in walk n live (asked_of walk n live key request) backlog live.pipe)
 
 abbrev pub request : Walk → ℕ → List ℕ → Request → Bool → Dialogue
-request walk n label asked backlog = with_label walk n label λ live. requests_under walk n live asked backlog live.key
+request walk n label asked backlog = with_either walk n label λ live. requests_under walk n live asked backlog live.key

@@ -1,17 +1,18 @@
 -- What a script has made so far: its live transforms, and what its pipelines have accepted.
-use Rattle.std.specs.Prelude.{ℕ, Bool, if◌then◌else◌, List, [], ◌∷◌, find, Option, Some}
+use Rattle.std.specs.Prelude.{ℕ, Bool, if◌then◌else◌, List, [], ◌∷◌, find, Option, Some, None}
 use Rattle.std.specs.Str.{bytes_eq}
+use Rattle.reply_text.specs.declared.origin.Origin.{Origin}
 use Rattle.templates.specs.declared.driver_plans.Plan.{Plan}
 
 -- A pipeline: its number on the board; how many requests may wait in a queue before it is full (none for a pad); whether it is
--- held; whether no worker may take from it, which is so of a pad whose mask is empty; the lines of the requests that it accepted;
--- and how many of their completions it has handed out.
+-- held; whether no worker may take from it, which is so of a pad whose mask is empty; which requests of the script it accepted, by
+-- their lines; and how many of their completions it has handed out.
 pub record Pipe : Type 0 where
   pub number : ℕ
   pub bound : Option ℕ
   pub held : Bool
   pub unmanned : Bool
-  pub lines : List ℕ
+  pub lines : List Origin
   pub delivered : ℕ
 
 -- A live transform: its label, the entry on which it stands, what it computes, the key that was set last, and its tag size.
@@ -24,24 +25,41 @@ pub record Live : Type 0 where
   pub tag_size : ℕ
   pub pipe : Option Pipe
 
--- As which client the script runs; its live transforms, in order of allocation; and of all requests that pipelines accepted, how
--- many and of how many bytes.
+-- As which client the script runs; the live transforms that it shares with others, which none of them changes; its own, in order
+-- of allocation; and of all its requests that pipelines accepted, how many and of how many bytes.
 pub record Walk : Type 0 where
   pub client : ℕ
+  pub shared : List Live
   pub lives : List Live
   pub requests : ℕ
   pub bytes : ℕ
 
--- before the first line
+-- before the first line, beside others with whom it shares these transforms
+abbrev pub start_beside : ℕ → List Live → Walk
+start_beside client shared = record { client = client; shared = shared; lives = []; requests = 0; bytes = 0 }
+
+-- before the first line of a script that shares none
 abbrev pub start : ℕ → Walk
-start client = record { client = client; lives = []; requests = 0; bytes = 0 }
+start client = start_beside client []
 
 abbrev pub is_of : List ℕ → Live → Bool
 is_of label live = bytes_eq live.label label
 
--- the live transform of the label
+-- its own live transform of the label
 abbrev pub live_of : Walk → List ℕ → Option Live
 live_of walk label = find (is_of label) walk.lives
+
+-- and the shared one
+abbrev pub shared_of : Walk → List ℕ → Option Live
+shared_of walk label = find (is_of label) walk.shared
+
+abbrev pub either : Option Live → Option Live → Option Live
+either (Some own) shared = Some own
+either None shared = shared
+
+-- its own, or else the shared one
+abbrev pub either_of : Walk → List ℕ → Option Live
+either_of walk label = either (live_of walk label) (shared_of walk label)
 
 -- the transform of the same label is now this one
 abbrev pub replaced : Live → List Live → List Live

@@ -19,7 +19,8 @@ use Rattle.transforms.specs.declared.request.Request.{Request}
 use Rattle.transforms.specs.Asked.{takes}
 use Rattle.transforms.specs.Finish.{finished_of}
 use Rattle.reply_text.specs.declared.answers.Answer.TheVariants as said
-use Rattle.dialogues.specs.BoardCalls.{Asked}
+use Rattle.reply_text.specs.declared.origin.Origin.{Origin}
+use Rattle.dialogues.specs.BoardCalls.{origin_by, Asked}
 use Rattle.dialogues.specs.Dialogues.{Dialogue, Says, Posts, followed, refuses, unless}
 use Rattle.dialogues.specs.Lines.{line_dialogue, lines_dialogue}
 use Rattle.dialogues.specs.Piping.{end, completion_said, notice_said, completions, said_at_end}
@@ -37,17 +38,21 @@ use Rattle.load_mode.proofs.Summing.{Summary, asked_more, summary}
 
 -- ---- the two transforms, and their pads
 
-abbrev pipe_at : ℕ → List ℕ → Pipe
+-- a line of the load, whose client is the first
+abbrev at_line : ℕ → Origin
+at_line n = record { client = 0; line = n }
+
+abbrev pipe_at : ℕ → List Origin → Pipe
 pipe_at number lines = record { number = number; bound = None; held = false; unmanned = false; lines = lines; delivered = 0 }
 
-abbrev live_a : ℕ → List ℕ → Live
+abbrev live_a : ℕ → List Origin → Live
 live_a id lines = record { label = label_of_a; id = id; plan = AuthencCbc AesGeneric; key = Some key_of_a; tag_size = 32; pipe = Some (pipe_at 0 lines) }
 
-abbrev live_g : ℕ → List ℕ → Live
+abbrev live_g : ℕ → List Origin → Live
 live_g id lines = record { label = label_of_g; id = id; plan = Gcm AesGeneric GhashGeneric; key = Some cipher_key; tag_size = 16; pipe = Some (pipe_at 1 lines) }
 
-abbrev pub walk_at : ℕ → ℕ → List ℕ → List ℕ → ℕ → ℕ → Walk
-walk_at i j la lg q v = record { client = 0; lives = live_a i la ∷ live_g j lg ∷ []; requests = q; bytes = v }
+abbrev pub walk_at : ℕ → ℕ → List Origin → List Origin → ℕ → ℕ → Walk
+walk_at i j la lg q v = record { client = 0; shared = []; lives = live_a i la ∷ live_g j lg ∷ []; requests = q; bytes = v }
 
 abbrev pad_with : List Asked → Pipeline
 pad_with asks = record { bound = None; chained = false; delivered = 0; undelivered = asks; held_throughout = false }
@@ -63,21 +68,21 @@ unless-none walk n c errno rest e = ap (λ t. if t then refuses walk n errno els
 fits : (q v : ℕ) → q < 2 ^ 20 → v ≤ 2 ^ 26 → (nat_le (2 ^ 20) q || nat_lt (2 ^ 26) v) ≡ false
 fits q v few small = grind (few, small, arith, nat_tests)
 
-module _ (workers i j : ℕ) (la lg : List ℕ) (q v n : ℕ) (iv aad text : List ℕ) (few : q < 2 ^ 20) (small : v + (length iv + length aad + length text) ≤ 2 ^ 26) where
+module _ (workers i j : ℕ) (la lg : List Origin) (q v n : ℕ) (iv aad text : List ℕ) (few : q < 2 ^ 20) (small : v + (length iv + length aad + length text) ≤ 2 ^ 26) where
   abbrev walk : Walk
   walk = walk_at i j la lg q v
 
   abbrev asks : Request
   asks = request_of Enc iv aad (in_one text)
 
-  dialogue-a : length iv ≡ 16 → line_dialogue workers walk n (Cmd (command.Enc label_of_a iv aad (in_one text) false)) ≡ Posts (Submit 0 (asked_of walk n (live_a i la) key_of_a asks)) λ number. refuses (walk_at i j (la ++ n ∷ []) lg (q + 1) (v + size_of asks)) n EINPROGRESS
+  dialogue-a : length iv ≡ 16 → line_dialogue workers walk n (Cmd (command.Enc label_of_a iv aad (in_one text) false)) ≡ Posts (Submit 0 (asked_of walk n (live_a i la) key_of_a asks)) λ number. refuses (walk_at i j (la ++ at_line n ∷ []) lg (q + 1) (v + size_of asks)) n EINPROGRESS
   dialogue-a sized =
       let live = live_a i la in
       let asked = asked_of walk n live key_of_a asks in
       unless-none walk n (not (takes live.plan live.tag_size asks)) EINVAL (requests_in walk n live asked false live.pipe) (ap (λ t. not (t && true)) (eq-eqb (length iv) 16 sized))
       ∙ unless-none walk n (is_too_big walk asks) E2BIG (hands_in walk n live (pipe_at 0 la) asked false None) (fits q (v + size_of asks) few small)
 
-  dialogue-g : length iv ≡ 12 → line_dialogue workers walk n (Cmd (command.Enc label_of_g iv aad (in_one text) false)) ≡ Posts (Submit 1 (asked_of walk n (live_g j lg) cipher_key asks)) λ number. refuses (walk_at i j la (lg ++ n ∷ []) (q + 1) (v + size_of asks)) n EINPROGRESS
+  dialogue-g : length iv ≡ 12 → line_dialogue workers walk n (Cmd (command.Enc label_of_g iv aad (in_one text) false)) ≡ Posts (Submit 1 (asked_of walk n (live_g j lg) cipher_key asks)) λ number. refuses (walk_at i j la (lg ++ at_line n ∷ []) (q + 1) (v + size_of asks)) n EINPROGRESS
   dialogue-g sized =
       let live = live_g j lg in
       let asked = asked_of walk n live cipher_key asks in
@@ -88,7 +93,7 @@ module _ (workers i j : ℕ) (la lg : List ℕ) (q v n : ℕ) (iv aad text : Lis
 
 -- of one request
 abbrev pub told_of : Asked → List ℕ
-told_of asked = bytes_told (completion_said asked.line (finished_of (value_of asked)))
+told_of asked = bytes_told (completion_said (origin_by asked) (finished_of (value_of asked)))
 
 drain-told : (xs : List Asked) → flat_map bytes_told (map notice_said (drained None xs)) ≡ flat_map told_of xs
 drain-told [] = refl
@@ -127,7 +132,7 @@ module _ (registry : PlainRegistry) where
   abbrev with_asks : Summary → List Asked → Summary
   with_asks s asks = record { is_pad = s.is_pad; asks = asks; all = true }
 
-  ends : (i j : ℕ) (la lg : List ℕ) (q v : ℕ) (xs ys : List Asked) → Comes (end (walk_at i j la lg q v)) xs ys [] []
+  ends : (i j : ℕ) (la lg : List Origin) (q v : ℕ) (xs ys : List Asked) → Comes (end (walk_at i j la lg q v)) xs ys [] []
   ends i j la lg q v xs ys = record {
     told =
         flat_map-append bytes_told (said_at_end label_of_a (drained None xs)) (said_at_end label_of_g (drained None ys) ++ [])
@@ -158,11 +163,11 @@ module _ (registry : PlainRegistry) where
   }
 
   module _ (workers i j : ℕ) where
-    abbrev left_at : List ℕ → List ℕ → ℕ → ℕ → ℕ → List Asked → Dialogue
+    abbrev left_at : List Origin → List Origin → ℕ → ℕ → ℕ → List Asked → Dialogue
     left_at la lg q v n asks = lines_dialogue workers (walk_at i j la lg q v) n (map request_line asks) end
 
     -- a request and what follows on it
-    module _ (d : Drawn) (ds : List Drawn) (n q v : ℕ) (la lg : List ℕ) (xs ys : List Asked) (first : IsSized d) (few : q + suc (length ds) ≤ 100000) (small : v + 280 * suc (length ds) ≤ 28000000) where
+    module _ (d : Drawn) (ds : List Drawn) (n q v : ℕ) (la lg : List Origin) (xs ys : List Asked) (first : IsSized d) (few : q + suc (length ds) ≤ 100000) (small : v + 280 * suc (length ds) ≤ 28000000) where
       abbrev later : Walk → Dialogue
       later after = lines_dialogue workers after (n + 1) (map request_line (asked_from (n + 1) ds)) end
 
@@ -176,32 +181,32 @@ module _ (registry : PlainRegistry) where
       CameOut asked = Comes (followed (line_dialogue workers here n (request_line asked)) later) xs ys (of_a (asked ∷ rest)) (of_g (asked ∷ rest))
 
       abbrev Later : Type 0
-      Later = (q' v' : ℕ) (la' lg' : List ℕ) (xs' ys' : List Asked) → q' + length ds ≤ 100000 → v' + 280 * length ds ≤ 28000000 → Comes (left_at la' lg' q' v' (n + 1) rest) xs' ys' (of_a rest) (of_g rest)
+      Later = (q' v' : ℕ) (la' lg' : List Origin) (xs' ys' : List Asked) → q' + length ds ≤ 100000 → v' + 280 * length ds ≤ 28000000 → Comes (left_at la' lg' q' v' (n + 1) rest) xs' ys' (of_a rest) (of_g rest)
 
       came-a : Later → is_on_a n ≡ true → CameOut (asked_on_a n d)
       came-a go is =
           let asked = asked_on_a n d in
           let v' = v + (length d.iv + length d.associated + length d.text) in
-          let more = go (q + 1) v' (la ++ n ∷ []) lg (xs ++ asked ∷ []) ys (omega arith) (omega (arith, first.iv, first.associated, first.text)) in
+          let more = go (q + 1) v' (la ++ at_line n ∷ []) lg (xs ++ asked ∷ []) ys (omega arith) (omega (arith, first.iv, first.associated, first.text)) in
           subst (λ t. Comes (followed (line_dialogue workers here n (Cmd (command.Enc (if t then label_of_a else label_of_g) d.iv d.associated (in_one d.text) false))) later) xs ys (if t then asked ∷ of_a rest else of_a rest) (if not t then asked ∷ of_g rest else of_g rest)) (sym is)
           (subst (λ D. Comes (followed D later) xs ys (asked ∷ of_a rest) (of_g rest)) (sym (dialogue-a workers i j la lg q v n d.iv d.associated d.text (omega arith) (omega (arith, first.iv, first.associated, first.text)) first.iv))
-          (asks-a n (later (walk_at i j (la ++ n ∷ []) lg (q + 1) v')) asked xs ys (of_a rest) (of_g rest) more))
+          (asks-a n (later (walk_at i j (la ++ at_line n ∷ []) lg (q + 1) v')) asked xs ys (of_a rest) (of_g rest) more))
 
       came-g : Later → is_on_a n ≡ false → CameOut (asked_on_g n d)
       came-g go is =
           let asked = asked_on_g n d in
           let iv = take 12 d.iv in
           let v' = v + (length iv + length d.associated + length d.text) in
-          let more = go (q + 1) v' la (lg ++ n ∷ []) xs (ys ++ asked ∷ []) (omega arith) (omega (arith, first.iv_of_g, first.associated, first.text)) in
+          let more = go (q + 1) v' la (lg ++ at_line n ∷ []) xs (ys ++ asked ∷ []) (omega arith) (omega (arith, first.iv_of_g, first.associated, first.text)) in
           subst (λ t. Comes (followed (line_dialogue workers here n (Cmd (command.Enc (if t then label_of_a else label_of_g) iv d.associated (in_one d.text) false))) later) xs ys (if t then asked ∷ of_a rest else of_a rest) (if not t then asked ∷ of_g rest else of_g rest)) (sym is)
           (subst (λ D. Comes (followed D later) xs ys (of_a rest) (asked ∷ of_g rest)) (sym (dialogue-g workers i j la lg q v n iv d.associated d.text (omega arith) (omega (arith, first.iv_of_g, first.associated, first.text)) first.iv_of_g))
-          (asks-g n (later (walk_at i j la (lg ++ n ∷ []) (q + 1) v')) asked xs ys (of_a rest) (of_g rest) more))
+          (asks-g n (later (walk_at i j la (lg ++ at_line n ∷ []) (q + 1) v')) asked xs ys (of_a rest) (of_g rest) more))
 
       came : Later → (t : Bool) → is_on_a n ≡ t → CameOut (asked_for n d)
       came go true is = subst (λ t. CameOut (if t then asked_on_a n d else asked_on_g n d)) (sym is) (came-a go is)
       came go false is = subst (λ t. CameOut (if t then asked_on_a n d else asked_on_g n d)) (sym is) (came-g go is)
 
-    pub come : (ds : List Drawn) (n q v : ℕ) (la lg : List ℕ) (xs ys : List Asked) → All IsSized ds → q + length ds ≤ 100000 → v + 280 * length ds ≤ 28000000
+    pub come : (ds : List Drawn) (n q v : ℕ) (la lg : List Origin) (xs ys : List Asked) → All IsSized ds → q + length ds ≤ 100000 → v + 280 * length ds ≤ 28000000
         → Comes (left_at la lg q v n (asked_from n ds)) xs ys (of_a (asked_from n ds)) (of_g (asked_from n ds))
     come [] n q v la lg xs ys sized few small = ends i j la lg q v xs ys
     come (d ∷ ds) n q v la lg xs ys sized few small =

@@ -16,7 +16,7 @@ use Rattle.templates.specs.Table.{template_named}
 use Rattle.transforms.specs.Finish.{finished_of}
 use Rattle.transforms.specs.RequestValue.{request_value, with_mac}
 use Rattle.std_defs.specs.Hmac.{hmac}
-use Rattle.dialogues.specs.BoardCalls.{Asked}
+use Rattle.dialogues.specs.BoardCalls.{origin_by, Asked}
 use Rattle.dialogues.specs.Piping.{completion_said}
 use Rattle.load_mode.specs.Requests.{Drawn, drawn_request, drawn_requests, mac_key, cipher_key, is_on_a, asked_on_a, asked_on_g, asked_for, asked_from, of_a, of_g, with_hmac, sealed_on_a, sealed_on_g}
 use Rattle.load_mode.specs.Turns.{bytes_told}
@@ -28,7 +28,7 @@ told_on_a : (n : ℕ) (d : Drawn) → told_of (asked_on_a n d) ≡ sealed_on_a (
 unfolding request_value template_named blob is_blob blob_keys cipher_key_length mac_key_length
 told_on_a n d = by (cbc_seal (seal cipher_key) d.iv d.text)
   where
-    by : (o : Option (List ℕ)) → bytes_told (completion_said n (finished_of (with_mac (λ made. hmac mac_key (d.associated ++ made)) 32 (or_invalid o)))) ≡ option_map_or (with_hmac d.associated) o []
+    by : (o : Option (List ℕ)) → bytes_told (completion_said (origin_by (asked_on_a n d)) (finished_of (with_mac (λ made. hmac mac_key (d.associated ++ made)) 32 (or_invalid o)))) ≡ option_map_or (with_hmac d.associated) o []
     by (Some c) = refl
     by None = refl
 

@@ -9,7 +9,7 @@ use Rattle.transforms.specs.declared.ask.Ask.{Ask}
 use Rattle.transforms.specs.Finish.{finished_of}
 use Rattle.dialogues.specs.BoardCalls.{asked_by}
 use Rattle.dialogues.specs.Requesting.{value_of}
-use Rattle.dialogues.specs.BoardCalls.{Started as StartedLine, Completed, line_in, notice_of}
+use Rattle.dialogues.specs.BoardCalls.{Started as StartedLine, Completed, origin_in, notice_of}
 use Rattle.plain_calls.proofs.Callbacks.{starts_at, drained as drained_by_number}
 use Rattle.plain_calls.specs.Pipelines.{started_of, started_in, drained}
 
@@ -58,7 +58,7 @@ starts_line subs n max a rest is = by (slice_get (a ∷ rest) max) refl ∙ sym 
     by (Some x) e =
         let lt : max < suc (length rest) = some_within (a ∷ rest) max x e in
         ap (λ b. map (notice_of subs) (cond b (Started (n + max) ∷ []) [])) (is_le max (length (map asked_by rest)) (omega (arith, lt, length_map rest)))
-        ∙ (ap (λ o. StartedLine (line_in o) ∷ []) (there ∙ e) ∙ sym (ap (λ o. started_of (option_map asked_by o)) e))
+        ∙ (ap (λ o. StartedLine (origin_in o) ∷ []) (there ∙ e) ∙ sym (ap (λ o. started_of (option_map asked_by o)) e))
 
 head_there : (subs : List Ask) (n : ℕ) (a : Ask) (rest : List Ask) → drop n subs ≡ a ∷ rest → (slice_get subs n ≡ Some a) × (drop (n + 1) subs ≡ rest)
 head_there [] zero a rest e = absurd cc
@@ -82,4 +82,4 @@ drained_lines subs bound n [] is = refl
 drained_lines subs bound n (a ∷ rest) is =
     let h = head_there subs n a rest is in
     map-append (notice_of subs) (starts_at n (length (map asked_by rest)) bound) (Done n (finished_of (value_of (asked_by a))) ∷ drained_by_number bound (n + 1) (map asked_by rest))
-    ∙ (λ i. starts_in subs n bound a rest is i ++ Completed (line_in (h.0 i)) (finished_of (value_of (asked_by a))) ∷ drained_lines subs bound (n + 1) rest h.1 i)
+    ∙ (λ i. starts_in subs n bound a rest is i ++ Completed (origin_in (h.0 i)) (finished_of (value_of (asked_by a))) ∷ drained_lines subs bound (n + 1) rest h.1 i)

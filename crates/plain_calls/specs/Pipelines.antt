@@ -7,7 +7,7 @@ use Rattle.board.specs.declared.entry.Shape.{Shape}
 use Rattle.board.specs.Shapes.{is_chain}
 use Rattle.transforms.specs.Finish.{finished_of}
 use Rattle.dialogues.specs.Allocating.{bound_of}
-use Rattle.dialogues.specs.BoardCalls.{Asked, Notice, Started, Completed, BoardCall, Creates, Submits, Enqueues, Holds, Goes, Collects, Closes, Shares, Masks, Shuts}
+use Rattle.dialogues.specs.BoardCalls.{Asked, origin_by, Notice, Started, Completed, BoardCall, Creates, Submits, Enqueues, Holds, Goes, Collects, Closes, Shares, Masks, Shuts}
 use Rattle.dialogues.specs.Questions.{BoardQuestion, BoardAnswer, Create, Submit, Enqueue, Hold, Go, Poll, Drain, Close, Share, Mask, Shut}
 use Rattle.dialogues.specs.Requesting.{value_of}
 
@@ -49,7 +49,7 @@ has_room backlog pipeline =
 -- ---- drains
 
 abbrev pub started_of : Option Asked → List Notice
-started_of (Some asked) = Started asked.line ∷ []
+started_of (Some asked) = Started (origin_by asked) ∷ []
 started_of None = []
 
 -- the request so many places behind the first of these has started, if there is one
@@ -60,7 +60,7 @@ started_in None asks = []
 -- of each request in turn: who has started then, and its completion
 abbrev pub drained : Option ℕ → List Asked → List Notice
 drained bound [] = []
-drained bound (asked ∷ later) = started_in bound (asked ∷ later) ++ Completed asked.line (finished_of (value_of asked)) ∷ drained bound later
+drained bound (asked ∷ later) = started_in bound (asked ∷ later) ++ Completed (origin_by asked) (finished_of (value_of asked)) ∷ drained bound later
 
 abbrev pub drained_from : Pipeline → List Notice
 drained_from pipeline = drained pipeline.bound pipeline.undelivered

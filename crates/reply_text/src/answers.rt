@@ -1,8 +1,10 @@
 //! What a line may be answered.
 
+use crate::origin::Origin;
 use kc_base::{Bytes, Errno};
 
-/// An answer, by the number of the line that it answers. What comes of a request later has the number of its line.
+/// An answer, by the number of the line that it answers. What comes of a request later has the line that
+/// made the request, and its client.
 #[derive(Debug, Drop)]
 pub enum Answer {
     /// All went well.
@@ -59,18 +61,18 @@ pub enum Answer {
         line: u32,
         count: u64,
     },
-    /// The request of this line left its queue's backlog.
+    /// This request left its queue's backlog.
     Started {
-        line: u32,
+        of: Origin,
     },
-    /// The request of this line is done, with these bytes.
+    /// This request is done, with these bytes.
     Done {
-        line: u32,
+        of: Origin,
         bytes: Bytes,
     },
-    /// The request of this line failed.
+    /// This request failed.
     Failed {
-        line: u32,
+        of: Origin,
         errno: Errno,
     },
     /// The end of a poll, after so many answers `Done` and `Failed`.

@@ -2,12 +2,13 @@
 
 ghost use Rattle.std.specs.Prelude.{◌≡◌, ◌+◌, ◌≤◌, ◌∷◌, ◌++◌, [], codes, length, IsOk, OnOk, OnErr};
 ghost use Rattle.std.specs.Fmt.{decimal};
-ghost use Rattle.reply_text.specs.Answers.{sentence, listed_word, text_of};
+ghost use Rattle.reply_text.specs.Answers.{sentence, heading, listed_word, text_of};
 ghost use Rattle.reply_text.specs.Written.{Puts};
 
 use crate::answers::Answer;
+use crate::origin::Origin;
 use crate::reply::Reply;
-use crate::sentences::{say, say_bytes, say_numbered};
+use crate::sentences::{say, say_done, say_numbered, say_told, say_value};
 use itoa::Buffer;
 use std::alloc::AllocError;
 
@@ -78,12 +79,29 @@ fn say_end(reply: &mut Reply, label: &[u8], count: u64) -> Result<(), AllocError
     say(reply, b"end", &[label, number.format(count).as_bytes()])
 }
 
+// The line above a client's text.
+fn say_heading(reply: &mut Reply, client: u32) -> Result<(), AllocError>
+    ensures { Puts (heading client) reply.old reply.new result }
+{
+    let mut number = Buffer::new();
+    say(reply, b"client", &[number.format(client).as_bytes()])
+}
+
+// A text as it is.
+fn say_text(reply: &mut Reply, text: &[u8]) -> Result<(), AllocError>
+    ensures { Puts text.now reply.old reply.new result }
+{
+    reply.reserve(text.len())?;
+    reply.append(text);
+    Ok(())
+}
+
 fn say_answer(reply: &mut Reply, answer: &Answer) -> Result<(), AllocError>
     ensures { Puts (text_of answer.now) reply.old reply.new result }
 {
     match answer {
         Answer::Ok { line } => say_numbered(reply, *line, &[b"ok".as_slice()]),
-        Answer::Value { line, bytes } => say_bytes(reply, *line, b"ok", bytes.as_slice()),
+        Answer::Value { line, bytes } => say_value(reply, *line, bytes.as_slice()),
         Answer::Made { line, driver } => {
             say_numbered(reply, *line, &[b"ok".as_slice(), driver.as_slice()])
         }
@@ -116,10 +134,10 @@ fn say_answer(reply: &mut Reply, answer: &Answer) -> Result<(), AllocError>
             *refs,
         ),
         Answer::Listed { line, count } => say_count(reply, *line, b"listed", *count),
-        Answer::Started { line } => say_numbered(reply, *line, &[b"started".as_slice()]),
-        Answer::Done { line, bytes } => say_bytes(reply, *line, b"done", bytes.as_slice()),
-        Answer::Failed { line, errno } => {
-            say_numbered(reply, *line, &[b"fail".as_slice(), errno.name().as_bytes()])
+        Answer::Started { of } => say_told(reply, *of, &[b"started".as_slice()]),
+        Answer::Done { of, bytes } => say_done(reply, *of, bytes.as_slice()),
+        Answer::Failed { of, errno } => {
+            say_told(reply, *of, &[b"fail".as_slice(), errno.name().as_bytes()])
         }
         Answer::Polled { line, count } => say_count(reply, *line, b"polled", *count),
         Answer::Drained { line, count } => say_count(reply, *line, b"drained", *count),
@@ -140,14 +158,14 @@ impl Reply {
         say_answer(self, answer)
     }
 
-    /// Adds what a request of this line gave, as [`Reply::put`] adds `Answer::Done`, without a copy of the bytes.
-    pub fn put_done(&mut self, line: u32, bytes: &[u8]) -> Result<(), AllocError>
-        ensures ok { OnOk result (self.new.text ≡ self.old.text ++ text_of (Answer.Done line bytes.now)) }
+    /// Adds what a request gave, as [`Reply::put`] adds `Answer::Done`, without a copy of the bytes.
+    pub fn put_done(&mut self, of: Origin, bytes: &[u8]) -> Result<(), AllocError>
+        ensures ok { OnOk result (self.new.text ≡ self.old.text ++ text_of (Answer.Done of bytes.now)) }
         ensures err { OnErr result (self.new ≡ self.old) }
-        ensures room { length (text_of (Answer.Done line bytes.now)) ≤ self.old.spare → IsOk result }
-        ensures left { self.old.spare ≤ self.new.spare + length (text_of (Answer.Done line bytes.now)) }
+        ensures room { length (text_of (Answer.Done of bytes.now)) ≤ self.old.spare → IsOk result }
+        ensures left { self.old.spare ≤ self.new.spare + length (text_of (Answer.Done of bytes.now)) }
     {
-        say_bytes(self, line, b"done", bytes)
+        say_done(self, of, bytes)
     }
 
     /// Adds the line `end` of this label, as [`Reply::put`] adds `Answer::End`, without a copy of the label.
@@ -158,5 +176,25 @@ impl Reply {
         ensures left { self.old.spare ≤ self.new.spare + length (text_of (Answer.End label.now count)) }
     {
         say_end(self, label, count)
+    }
+
+    /// Adds the line `client K`, which stands above the text of client K. Want of memory comes as for [`Reply::put`].
+    pub fn put_heading(&mut self, client: u32) -> Result<(), AllocError>
+        ensures ok { OnOk result (self.new.text ≡ self.old.text ++ heading client) }
+        ensures err { OnErr result (self.new ≡ self.old) }
+        ensures room { length (heading client) ≤ self.old.spare → IsOk result }
+        ensures left { self.old.spare ≤ self.new.spare + length (heading client) }
+    {
+        say_heading(self, client)
+    }
+
+    /// Adds a text as it is. Want of memory comes as for [`Reply::put`].
+    pub fn put_text(&mut self, text: &[u8]) -> Result<(), AllocError>
+        ensures ok { OnOk result (self.new.text ≡ self.old.text ++ text.now) }
+        ensures err { OnErr result (self.new ≡ self.old) }
+        ensures room { length text.now ≤ self.old.spare → IsOk result }
+        ensures left { self.old.spare ≤ self.new.spare + length text.now }
+    {
+        say_text(self, text)
     }
 }

@@ -1,11 +1,13 @@
 //! Words in a line.
 
-ghost use Rattle.std.specs.Prelude.{◌≡◌, ◌+◌, ◌*◌, ◌^◌, ◌≤◌, ◌∷◌, [], ◌++◌, map, length, ◌<◌};
+ghost use Rattle.std.specs.Prelude.{◌≡◌, ◌+◌, ◌*◌, ◌^◌, ◌≤◌, ◌∷◌, [], ◌++◌, map, length, ◌<◌, codes};
 ghost use Rattle.std.specs.Fmt.{decimal};
 ghost use Rattle.std.specs.List.{join_with_byte};
 ghost use Rattle.reply_text.specs.Answers.{hex_text, sentence};
+ghost use Rattle.reply_text.specs.Origins.{origin_word};
 ghost use Rattle.reply_text.specs.Written.{Puts};
 
+use crate::origin::{Origin, OriginWord};
 use crate::reply::Reply;
 use itoa::Buffer;
 use std::alloc::AllocError;
@@ -66,21 +68,46 @@ fn digits_line_len(number: &[u8], word: &[u8], bytes: usize) -> usize
         .saturating_add(3)
 }
 
-/// Adds a line of a number, a word and bytes in hexadecimal digits, `-` for no bytes.
-pub fn say_bytes(reply: &mut Reply, line: u32, word: &[u8], bytes: &[u8]) -> Result<(), AllocError>
-    ensures { Puts (sentence (decimal line ∷ word.now ∷ hex_text bytes.now ∷ [])) reply.old reply.new result }
+/// Adds a line of a first word, another one and bytes in hexadecimal digits, `-` for no bytes.
+pub fn say_bytes(
+    reply: &mut Reply,
+    first: &[u8],
+    word: &[u8],
+    bytes: &[u8],
+) -> Result<(), AllocError>
+    ensures { Puts (sentence (first.now ∷ word.now ∷ hex_text bytes.now ∷ [])) reply.old reply.new result }
 {
     if bytes.is_empty() {
-        return say_numbered(reply, line, &[word, b"-".as_slice()]);
+        return say(reply, first, &[word, b"-".as_slice()]);
     }
-    let mut number = Buffer::new();
-    let number = number.format(line).as_bytes();
-    reply.reserve(digits_line_len(number, word, bytes.len()))?;
-    reply.append(number);
+    reply.reserve(digits_line_len(first, word, bytes.len()))?;
+    reply.append(first);
     reply.append(b" ");
     reply.append(word);
     reply.append(b" ");
     reply.append_digits(bytes);
     reply.append(b"\n");
     Ok(())
+}
+
+/// Adds a line of a number, `ok` and bytes in hexadecimal digits, `-` for no bytes.
+pub fn say_value(reply: &mut Reply, line: u32, bytes: &[u8]) -> Result<(), AllocError>
+    ensures { Puts (sentence (decimal line ∷ codes "ok" ∷ hex_text bytes.now ∷ [])) reply.old reply.new result }
+{
+    let mut number = Buffer::new();
+    say_bytes(reply, number.format(line).as_bytes(), b"ok", bytes)
+}
+
+/// Adds a line that begins with an origin.
+pub fn say_told(reply: &mut Reply, of: Origin, words: &[&[u8]]) -> Result<(), AllocError>
+    ensures { Puts (sentence (origin_word of ∷ map (λ word. word.now) words.now)) reply.old reply.new result }
+{
+    say(reply, OriginWord::of(of).as_slice(), words)
+}
+
+/// Adds a line of an origin, `done` and bytes in hexadecimal digits, `-` for no bytes.
+pub fn say_done(reply: &mut Reply, of: Origin, bytes: &[u8]) -> Result<(), AllocError>
+    ensures { Puts (sentence (origin_word of ∷ codes "done" ∷ hex_text bytes.now ∷ [])) reply.old reply.new result }
+{
+    say_bytes(reply, OriginWord::of(of).as_slice(), b"done", bytes)
 }

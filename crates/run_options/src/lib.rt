@@ -3,4 +3,4 @@
 
 mod options;
 
-pub use options::{LoadOptions, Mode, ScriptOptions};
+pub use options::{ClientOptions, LoadOptions, Mode, ScriptOptions};

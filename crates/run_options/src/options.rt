@@ -34,11 +34,24 @@ pub struct LoadOptions {
     pub count: u32,
 }
 
+/// The program as it answers several scripts at once, behind a first part whose transforms they share.
+#[derive(Clone, Copy, Debug, PartialEq, Eq)]
+pub struct ClientOptions {
+    /// How many threads work beside the scripts: 0 to 16, 4 where none are given.
+    pub workers: u32,
+    /// Whether the trace is written after the answers.
+    pub trace: bool,
+    /// How many scripts run at once: 1 to 8.
+    pub clients: u32,
+}
+
 /// What a run is asked for.
 #[derive(Clone, Copy, Debug, PartialEq, Eq)]
 pub enum Mode {
     /// A script is read and answered.
     Script(ScriptOptions),
+    /// Several scripts are read, and answered at once.
+    Clients(ClientOptions),
     /// Requests are made from a seed, and no input is read.
     Load(LoadOptions),
 }

@@ -6,6 +6,7 @@ use Rattle.board.specs.declared.entry.BoardEntry.{BoardEntry}
 use Rattle.board.specs.declared.entry.BoardEntry.TheVariants.{Shut}
 use Rattle.board.specs.Entries.{caller_of as board_caller}
 use Rattle.board.specs.Staying.{is_work}
+use Rattle.trace_text.specs.Asks.{ask_origin}
 use Rattle.trace_text.specs.Trace.{trace_of, AreEvents}
 use Rattle.transforms.specs.declared.ask.Ask.{Ask}
 
@@ -13,12 +14,12 @@ use Rattle.transforms.specs.declared.ask.Ask.{Ask}
 
 -- what is written of these histories after the text: their trace, where it is asked for
 abbrev pub traced : Bool → List RegEntry → List (BoardEntry Ask) → List ℕ
-traced true r b = trace_of (λ ask. ask.line) r b
+traced true r b = trace_of ask_origin r b
 traced false r b = []
 
 -- the trace of these histories can be read back
 abbrev pub CanBeRead : List RegEntry → List (BoardEntry Ask) → Type 0
-CanBeRead r b = AreEvents (λ ask. ask.line) r b
+CanBeRead r b = AreEvents ask_origin r b
 
 -- ---- histories
 

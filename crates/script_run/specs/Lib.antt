@@ -7,3 +7,4 @@ pub mod Answered
 pub mod Endings
 pub mod Statuses
 pub mod Beside
+pub mod Clients

@@ -13,6 +13,7 @@ ghost use Rattle.kc_base.specs.Streams.{AppendsFront, Rose};
 ghost use Rattle.script_text.specs.Script.{script_of};
 ghost use Rattle.settled_scripts.specs.Settled.{IsSettled, plain_text};
 ghost use Rattle.templates.specs.Table.{table};
+ghost use Rattle.trace_text.specs.Asks.{ask_origin};
 ghost use Rattle.trace_text.specs.Trace.{trace_of, FitTypes};
 ghost use Rattle.script_run.specs.Answered.{RanSource};
 ghost use Rattle.script_run.specs.Endings.{AreCallers, CanBeRead, EndsShut, IsShutOnce, traced};
@@ -41,9 +42,9 @@ fn put_trace<K: Sink>(
     out: &mut K,
 ) -> Result<(), RunError>
     ensures bytes { MatchResult result
-        (λ _. Appends (K.held out.old) (K.held out.new) (trace_of (λ ask. ask.line) registry.now board.now))
-        (λ _. AppendsFront (K.held out.old) (K.held out.new) (trace_of (λ ask. ask.line) registry.now board.now)) }
-    ensures fits { OnOk result (FitTypes (λ ask. ask.line) registry.now board.now) }
+        (λ _. Appends (K.held out.old) (K.held out.new) (trace_of ask_origin registry.now board.now))
+        (λ _. AppendsFront (K.held out.old) (K.held out.new) (trace_of ask_origin registry.now board.now)) }
+    ensures fits { OnOk result (FitTypes ask_origin registry.now board.now) }
     ensures later { K.faults out.old ≤ K.faults out.new }
     ensures cause { IsErrOf result RunError.WriteFault → Rose (K.faults out.old) (K.faults out.new) }
     ensures causes { IfErr result (λ e. (e ≡ RunError.WriteFault) ⊎ (e ≡ RunError.NoMemory)) }
@@ -63,7 +64,7 @@ fn answer_traced<K: Sink>(
     out: &mut K,
 ) -> Result<bool, RunError>
     ensures whole { IfOk result (λ bad. (answer ≡ Ok bad) × Appends (K.held out.old) (K.held out.new) (traced trace registry.now board.now)) }
-    ensures fits { trace ≡ true → OnOk result (FitTypes (λ ask. ask.line) registry.now board.now) }
+    ensures fits { trace ≡ true → OnOk result (FitTypes ask_origin registry.now board.now) }
     ensures front { IfErr result (λ e. ((answer ≡ Err e) × Keeps (K.held out.old) (K.held out.new))
         ⊎ ((bad : Bool) × (answer ≡ Ok bad) × AppendsFront (K.held out.old) (K.held out.new) (traced trace registry.now board.now))) }
     ensures later { K.faults out.old ≤ K.faults out.new }

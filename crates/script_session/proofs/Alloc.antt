@@ -10,7 +10,7 @@ use Rattle.dialogues.specs.Names.{name_read, is_queue_length}
 use Rattle.dialogues.specs.Allocating.{alloc, binds, fault_of}
 use Rattle.dialogues.specs.Dialogues.{Asks, refuses, unless}
 use Rattle.dialogues.specs.Questions.{Look}
-use Rattle.dialogues.specs.Walk.{Walk, Live, live_of}
+use Rattle.dialogues.specs.Walk.{Walk, Live, either, either_of}
 use Rattle.session_calls.specs.Passes.{RegPass, BoardPass}
 use Rattle.script_session.specs.Finding.{looks}
 use Rattle.script_session.specs.Filed.{AreFiled, lives_of, number_of}
@@ -18,41 +18,41 @@ use Rattle.script_session.specs.declared.lives.Lives.{Lives}
 use Rattle.script_session.specs.Holding.{Holds, Stops}
 use Rattle.script_session.specs.States.{State}
 use Rattle.script_session.proofs.Arms.{viewed, unless-not, unless-so}
-use Rattle.script_session.proofs.Living.{live-at, no-live}
+use Rattle.script_session.proofs.Living.{no-either, either-at}
 
 -- whether the label has a transform
 module _ {ws c q v : ℕ} {r : Option RegPass} {b : Option BoardPass} (s : State) (lives : Lives) (filed : AreFiled lives) (view : viewed ws c (lives_of lives) q v r b ≡ s) (label name : List ℕ) (same : name ≡ label) where
-  pub live-there : (o : Option ℕ) → o ≡ number_of name lives.transforms.entries → is_some (live_of s.walk label) ≡ is_some o
-  live-there (Some number) at = ap is_some (live-at s lives filed view label name same number at).found
-  live-there None at = ap is_some (no-live s lives filed view label name same at)
+  pub live-there : (o : Option ℕ) → o ≡ number_of name lives.transforms.entries → is_some (either_of s.walk label) ≡ is_some o
+  live-there (Some number) at = ap is_some (either-at s lives filed view label name same number at)
+  live-there None at = ap is_some (no-either s lives filed view label name same at)
 
-pub nobody : (o : Option Live) → is_some o ≡ false → o ≡ None
-nobody None e = refl
-nobody (Some live) e = absurd cc
+pub nobody : (own shared : Option Live) → is_some (either own shared) ≡ false → own ≡ None
+nobody None shared e = refl
+nobody (Some live) shared e = absurd cc
 
 module _ (workers : ℕ) (walk : Walk) (n : ℕ) (label name : List ℕ) (len : Option ℕ) where
-  pub alloc-live : is_some (live_of walk label) ≡ true → alloc workers walk n label name len ≡ refuses walk n EEXIST
-  alloc-live there = unless-so walk n (is_some (live_of walk label)) EEXIST ((nat_le 4096 (length walk.lives), EMFILE) ∷ (fault_of (name_read name) ++ (not (is_queue_length len), EINVAL) ∷ [])) (Asks (Look name) (λ found. binds workers walk n label len found)) there
+  pub alloc-live : is_some (either_of walk label) ≡ true → alloc workers walk n label name len ≡ refuses walk n EEXIST
+  alloc-live there = unless-so walk n (is_some (either_of walk label)) EEXIST ((nat_le 4096 (length walk.lives), EMFILE) ∷ (fault_of (name_read name) ++ (not (is_queue_length len), EINVAL) ∷ [])) (Asks (Look name) (λ found. binds workers walk n label len found)) there
 
-  pub alloc-full : is_some (live_of walk label) ≡ false → 4096 ≤ length walk.lives → alloc workers walk n label name len ≡ refuses walk n EMFILE
+  pub alloc-full : is_some (either_of walk label) ≡ false → 4096 ≤ length walk.lives → alloc workers walk n label name len ≡ refuses walk n EMFILE
   alloc-full free full =
-      unless-not walk n (is_some (live_of walk label)) EEXIST ((nat_le 4096 (length walk.lives), EMFILE) ∷ (fault_of (name_read name) ++ (not (is_queue_length len), EINVAL) ∷ [])) (Asks (Look name) (λ found. binds workers walk n label len found)) free ∙ unless-so walk n (nat_le 4096 (length walk.lives)) EMFILE (fault_of (name_read name) ++ (not (is_queue_length len), EINVAL) ∷ []) (Asks (Look name) (λ found. binds workers walk n label len found)) (grind (arith, nat_tests))
+      unless-not walk n (is_some (either_of walk label)) EEXIST ((nat_le 4096 (length walk.lives), EMFILE) ∷ (fault_of (name_read name) ++ (not (is_queue_length len), EINVAL) ∷ [])) (Asks (Look name) (λ found. binds workers walk n label len found)) free ∙ unless-so walk n (nat_le 4096 (length walk.lives)) EMFILE (fault_of (name_read name) ++ (not (is_queue_length len), EINVAL) ∷ []) (Asks (Look name) (λ found. binds workers walk n label len found)) (grind (arith, nat_tests))
 
-  named : is_some (live_of walk label) ≡ false → length walk.lives < 4096 → alloc workers walk n label name len ≡ unless walk n (fault_of (name_read name) ++ (not (is_queue_length len), EINVAL) ∷ []) (Asks (Look name) (λ found. binds workers walk n label len found))
+  named : is_some (either_of walk label) ≡ false → length walk.lives < 4096 → alloc workers walk n label name len ≡ unless walk n (fault_of (name_read name) ++ (not (is_queue_length len), EINVAL) ∷ []) (Asks (Look name) (λ found. binds workers walk n label len found))
   named free room =
-      unless-not walk n (is_some (live_of walk label)) EEXIST ((nat_le 4096 (length walk.lives), EMFILE) ∷ (fault_of (name_read name) ++ (not (is_queue_length len), EINVAL) ∷ [])) (Asks (Look name) (λ found. binds workers walk n label len found)) free ∙ unless-not walk n (nat_le 4096 (length walk.lives)) EMFILE (fault_of (name_read name) ++ (not (is_queue_length len), EINVAL) ∷ []) (Asks (Look name) (λ found. binds workers walk n label len found)) (grind (arith, nat_tests))
+      unless-not walk n (is_some (either_of walk label)) EEXIST ((nat_le 4096 (length walk.lives), EMFILE) ∷ (fault_of (name_read name) ++ (not (is_queue_length len), EINVAL) ∷ [])) (Asks (Look name) (λ found. binds workers walk n label len found)) free ∙ unless-not walk n (nat_le 4096 (length walk.lives)) EMFILE (fault_of (name_read name) ++ (not (is_queue_length len), EINVAL) ∷ []) (Asks (Look name) (λ found. binds workers walk n label len found)) (grind (arith, nat_tests))
 
-  pub alloc-faulty : (errno : Errno) → is_some (live_of walk label) ≡ false → length walk.lives < 4096 → name_read name ≡ Err errno → alloc workers walk n label name len ≡ refuses walk n errno
+  pub alloc-faulty : (errno : Errno) → is_some (either_of walk label) ≡ false → length walk.lives < 4096 → name_read name ≡ Err errno → alloc workers walk n label name len ≡ refuses walk n errno
   alloc-faulty errno free room read =
       named free room ∙ ap (λ o. unless walk n (fault_of o ++ (not (is_queue_length len), EINVAL) ∷ []) (Asks (Look name) (λ found. binds workers walk n label len found))) read
 
-  pub alloc-unfit : (tree : Tree) → is_some (live_of walk label) ≡ false → length walk.lives < 4096 → name_read name ≡ Ok tree → is_queue_length len ≡ false → alloc workers walk n label name len ≡ refuses walk n EINVAL
+  pub alloc-unfit : (tree : Tree) → is_some (either_of walk label) ≡ false → length walk.lives < 4096 → name_read name ≡ Ok tree → is_queue_length len ≡ false → alloc workers walk n label name len ≡ refuses walk n EINVAL
   alloc-unfit tree free room read unfit =
       named free room
       ∙ (ap (λ o. unless walk n (fault_of o ++ (not (is_queue_length len), EINVAL) ∷ []) (Asks (Look name) (λ found. binds workers walk n label len found))) read
       ∙ unless-so walk n (not (is_queue_length len)) EINVAL [] (Asks (Look name) (λ found. binds workers walk n label len found)) (ap not unfit))
 
-  alloc-looks : (tree : Tree) → is_some (live_of walk label) ≡ false → length walk.lives < 4096 → name_read name ≡ Ok tree → is_queue_length len ≡ true → alloc workers walk n label name len ≡ looks workers walk n label name len
+  alloc-looks : (tree : Tree) → is_some (either_of walk label) ≡ false → length walk.lives < 4096 → name_read name ≡ Ok tree → is_queue_length len ≡ true → alloc workers walk n label name len ≡ looks workers walk n label name len
   alloc-looks tree free room read fits =
       named free room
       ∙ (ap (λ o. unless walk n (fault_of o ++ (not (is_queue_length len), EINVAL) ∷ []) (Asks (Look name) (λ found. binds workers walk n label len found))) read
@@ -60,7 +60,7 @@ module _ (workers : ℕ) (walk : Walk) (n : ℕ) (label name : List ℕ) (len : 
 
 -- past its refusals it is a look
 pub looks-arm : {S A : Type 0} (s s' : State) (n : ℕ) (label name text : List ℕ) (len : Option ℕ) (tree : Tree) (answers answers' : List Answer) (result : Result A S)
-    → is_some (live_of s.walk label) ≡ false → length s.walk.lives < 4096 → name_read name ≡ Ok tree → is_queue_length len ≡ true → text ≡ name
+    → is_some (either_of s.walk label) ≡ false → length s.walk.lives < 4096 → name_read name ≡ Ok tree → is_queue_length len ≡ true → text ≡ name
     → MatchResult result (λ _. Holds (looks s.workers s.walk n label text len) s s' answers answers') (λ _. Stops s s')
     → MatchResult result (λ _. Holds (alloc s.workers s.walk n label name len) s s' answers answers') (λ _. Stops s s')
 looks-arm s s' n label name text len tree answers answers' (Ok a) free room read fits same held =

@@ -134,7 +134,7 @@ asks-named {before} {after} call a b same asks = subst (λ x. Asks before after 
 -- ---- a session as it is seen
 
 abbrev pub viewed : ℕ → ℕ → List Live → ℕ → ℕ → Option RegPass → Option BoardPass → State
-viewed ws c lives q v r b = record { workers = ws; walk = record { client = c; lives = lives; requests = q; bytes = v }; registry = r; board = b }
+viewed ws c lives q v r b = record { workers = ws; walk = record { client = c; shared = []; lives = lives; requests = q; bytes = v }; registry = r; board = b }
 
 -- the same, where its registry's caller asked
 module _ {ws c : ℕ} {lives : List Live} {q v : ℕ} {r r' : Option RegPass} {b : Option BoardPass} (s : State) (view : viewed ws c lives q v r b ≡ s) where

@@ -13,12 +13,12 @@ use Rattle.reply_text.specs.declared.answers.Answer.{Answer}
 use Rattle.transforms.specs.declared.ask.Ask.{Ask}
 use Rattle.transforms.specs.AskValue.{ask_size}
 use Rattle.turn_lock.specs.Turns.{Known}
-use Rattle.dialogues.specs.BoardCalls.{BoardCall}
+use Rattle.dialogues.specs.BoardCalls.{BoardCall, origin_of}
 use Rattle.dialogues.specs.Dialogues.{Dialogue}
 use Rattle.dialogues.specs.Turns.{Turn, IsTurn}
 use Rattle.dialogues.specs.Walk.{Walk, Live, Pipe, is_of, live_of, with_live, replaced, without}
 use Rattle.script_session.specs.States.{HasPipe, Posted, Stands, is_at, owners}
-use Rattle.session_calls.specs.Pipelines.{Called, Owns, KnowsPipe, Kept, Changed, Closed, line_of}
+use Rattle.session_calls.specs.Pipelines.{Called, Owns, KnowsPipe, Kept, Changed, Closed}
 use Rattle.script_session.specs.Changing.{AreApart, Changes, HoldsFor, counting, close_calls, owes, Released}
 use Rattle.script_session.specs.Holding.{Done}
 use Rattle.script_session.proofs.Standing.{stands-more}
@@ -271,7 +271,7 @@ nothing-owed law k live pipe has legal on paid =
     let es = entries_of pipe.number k.seen in
     let most = law k.seen pipe.number legal in
     let given = on.delivered in
-    let had : length (submissions es) ≡ length pipe.lines = sym (length-map (submissions es) line_of) ∙ ap length on.lines in
+    let had : length (submissions es) ≡ length pipe.lines = sym (length-map (submissions es) origin_of) ∙ ap length on.lines in
     let test : nat_lt pipe.delivered (length pipe.lines) ≡ false = ap owes (sym has) ∙ paid in
     let not_less = ltb-false pipe.delivered (length pipe.lines) test in
     omega (arith, most, given, had, not_less)

@@ -18,7 +18,7 @@ use Rattle.reply_text.specs.declared.answers.Answer.{Answer}
 use Rattle.transforms.specs.declared.ask.Ask.{Ask}
 use Rattle.transforms.specs.declared.request.Finished.{Finished}
 use Rattle.turn_lock.specs.Turns.{Known, sees}
-use Rattle.dialogues.specs.BoardCalls.{BoardCall, Goes, Collects, Shuts}
+use Rattle.dialogues.specs.BoardCalls.{BoardCall, Goes, Collects, Shuts, origin_of}
 use Rattle.dialogues.specs.Dialogues.{Dialogue, Ends, Posts}
 use Rattle.dialogues.specs.Piping.{lets_go, let_all_go, drains_at_end, drain_all, end, end_said, said_at_end, notice_said}
 use Rattle.dialogues.specs.Questions.{Shut}
@@ -26,7 +26,7 @@ use Rattle.dialogues.specs.Turns.{IsTurn, ended, joined, posting}
 use Rattle.dialogues.specs.Walk.{Walk, Live, Pipe}
 use Rattle.session_calls.specs.Asking.{Asked}
 use Rattle.session_calls.specs.Passes.{RegPass, BoardPass, known, lock_of}
-use Rattle.session_calls.specs.Pipelines.{KnowsPipe, Called, Changed, Drained, IsShut, notice_by, line_of}
+use Rattle.session_calls.specs.Pipelines.{KnowsPipe, Called, Changed, Drained, IsShut, notice_by}
 use Rattle.session_calls.proofs.Boarding.{kept-same, called-more, starts-same}
 use Rattle.script_session.specs.Changing.{Changes}
 use Rattle.script_session.specs.Ending.{LeadsBy, part, Moves, MovesAll, ArePosted, AreAllPaid, IsPaid, place_of, EndsWith, AnswersEnd, EndsShut}
@@ -190,7 +190,7 @@ HandingAllDrains = (h : List (BoardEntry Ask)) (p : ℕ) → AllHandedOutIsDrain
 paid-drained : HandingAllDrains → (k : Known (BoardEntry Ask)) (pipe : Pipe) → LegalBoard k.seen → KnowsPipe k pipe → pipe.delivered ≡ length pipe.lines → IsDrained (entries_of pipe.number k.seen)
 paid-drained law k pipe legal on paid =
     let es = entries_of pipe.number k.seen in
-    law k.seen pipe.number legal (on.delivered ∙ (paid ∙ (ap length (sym on.lines) ∙ length-map (submissions es) line_of)))
+    law k.seen pipe.number legal (on.delivered ∙ (paid ∙ (ap length (sym on.lines) ∙ length-map (submissions es) origin_of)))
 
 pub ends-shut : HandingAllDrains → (lives : List Live) (k l : Known (BoardEntry Ask)) → ArePosted lives k → AreAllPaid lives → IsShut k l → EndsShut l
 ends-shut law lives k l are paid shut =

@@ -185,7 +185,7 @@ module _ {ws c : ℕ} {lives : List Live} {q v : ℕ} {r : Option RegPass} {b : 
       (λ stands0 posted0. record {
         locks = record { registry = got.lock; board = lock; workers = refl };
         wide = wide-created ws (is_chained spec.driver) spec.wrap len pipe (known b) (known b') created;
-        done = subst (λ ls. Done d (known r) (known b) (known r2) (known b') (record { client = c; lives = ls; requests = q; bytes = v }) answers answers') (sym more)
+        done = subst (λ ls. Done d (known r) (known b) (known r2) (known b') (record { client = c; shared = []; lives = ls; requests = q; bytes = v }) answers answers') (sym more)
             (taken-done ws from.walk n label len id spec plan pipe (known r) (known r2) (known b) (known b') answers answers' got.asked created stands0 posted0 e);
       }) stands posted
 
@@ -223,7 +223,7 @@ module _ {ws c : ℕ} {lives : List Live} {q v : ℕ} {r : Option RegPass} {b : 
   -- what an entry's plan comes to
   pub bound-arm : {S A : Type 0} {r' : Option RegPass} (s' : State) (n : ℕ) (label : List ℕ) (len : Option ℕ) (id : ℕ) (spec : Spec) (plan : Plan) (answers answers' : List Answer) (result : Result A S)
       → Asks r r' [] → slice_get (registered (known r).seen) id ≡ Some spec → plan_for spec len ≡ Some plan
-      → MatchResult result (λ _. Holds (binds_plan ws (record { client = c; lives = lives; requests = q; bytes = v }) n label len id spec (Some plan)) (viewed ws c lives q v r' b) s' answers answers') (λ _. Stops (viewed ws c lives q v r' b) s')
+      → MatchResult result (λ _. Holds (binds_plan ws (record { client = c; shared = []; lives = lives; requests = q; bytes = v }) n label len id spec (Some plan)) (viewed ws c lives q v r' b) s' answers answers') (λ _. Stops (viewed ws c lives q v r' b) s')
       → MatchResult result (λ _. Bound s s' n label len id answers answers') (λ _. Stops s s')
   bound-arm {r' = r'} s' n label len id spec plan answers answers' (Ok a) origin there plans held =
       let from : State = viewed ws c lives q v r b in

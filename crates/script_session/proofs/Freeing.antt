@@ -1,7 +1,7 @@
 -- `free`: a close and a reference given back are its dialogue.
 use Rattle.std.proofs.Common.{◌≡◌, ℕ, true, false, List, [], ◌∷◌, ◌++◌, length, Option, Some, None, sym, ap, subst, ◌∙◌}
 use Rattle.std.specs.Prelude.{nat_lt}
-use Rattle.kc_base.specs.declared.error_numbers.Errno.TheVariants.{EBUSY}
+use Rattle.kc_base.specs.declared.error_numbers.Errno.TheVariants.{EBUSY, ENOENT}
 use Rattle.alg_registry.specs.declared.entry.RegEntry.{RegEntry}
 use Rattle.board.specs.declared.entry.BoardEntry.{BoardEntry}
 use Rattle.reply_text.specs.declared.answers.Answer.{Answer}
@@ -10,9 +10,9 @@ use Rattle.transforms.specs.declared.ask.Ask.{Ask}
 use Rattle.turn_lock.specs.Turns.{Known}
 use Rattle.dialogues.specs.RegistryCalls.{Puts}
 use Rattle.dialogues.specs.Allocating.{free, closes, releases}
-use Rattle.dialogues.specs.Dialogues.{Dialogue, Posts, says, refuses, for_live}
+use Rattle.dialogues.specs.Dialogues.{Dialogue, Posts, says, refuses, for_live, missing}
 use Rattle.dialogues.specs.Questions.{Put, Close}
-use Rattle.dialogues.specs.Walk.{Walk, Live, Pipe, live_of, without}
+use Rattle.dialogues.specs.Walk.{Walk, Live, Pipe, live_of, shared_of, without}
 use Rattle.board.specs.Legal.{LegalBoard}
 use Rattle.script_session.specs.Changing.{close_calls, owes, Released}
 use Rattle.session_calls.proofs.Boarding.{called-more}
@@ -54,7 +54,7 @@ free-done walk n label live k k' b b' answers answers' found same paid legal rel
     let posted' : Posted after b' = subst (λ l. Posted (without walk l) b') (sym same) posted in
     let rest = releases-done walk n live k k' b' answers answers' put stands' posted' e in
     subst (λ l. Done (free walk n label) k b k' b' (without walk l) answers answers') same
-    (subst (λ o. Done (for_live walk n o (λ l. closes walk n l l.pipe)) k b k' b' after answers answers') (sym found)
+    (subst (λ o. Done (for_live walk n o (missing (shared_of walk label)) (λ l. closes walk n l l.pipe)) k b k' b' after answers answers') (sym found)
     (by_pipe live.pipe paid released.called rest))
   where
     by_pipe : (pipe : Option Pipe) → owes pipe ≡ false → Called b b' (close_calls pipe) → Done (releases walk n live) k b' k' b' (without walk live.label) answers answers'
@@ -65,8 +65,12 @@ free-done walk n label live k k' b b' answers answers' found same paid legal rel
         (posts-done k k' b b' b' (Close pipe.number) tt (λ done. releases walk n live) (without walk live.label) answers answers' called rest)
 
 -- the refusals of a label without a transform, and of one that owes
+pub free-nobody : (walk : Walk) (n : ℕ) (label : List ℕ) → live_of walk label ≡ None → shared_of walk label ≡ None → free walk n label ≡ refuses walk n ENOENT
+free-nobody walk n label none unshared =
+    ap (λ o. for_live walk n o (missing (shared_of walk label)) (λ l. closes walk n l l.pipe)) none ∙ ap (λ o. refuses walk n (missing o)) unshared
+
 pub free-owing : (walk : Walk) (n : ℕ) (label : List ℕ) (live : Live) → live_of walk label ≡ Some live → owes live.pipe ≡ true → free walk n label ≡ refuses walk n EBUSY
-free-owing walk n label live found owed = ap (λ o. for_live walk n o (λ l. closes walk n l l.pipe)) found ∙ by_pipe live.pipe owed
+free-owing walk n label live found owed = ap (λ o. for_live walk n o (missing (shared_of walk label)) (λ l. closes walk n l l.pipe)) found ∙ by_pipe live.pipe owed
   where
     by_pipe : (pipe : Option Pipe) → owes pipe ≡ true → closes walk n live pipe ≡ refuses walk n EBUSY
     by_pipe None e = absurd cc

@@ -23,9 +23,9 @@ module _ {ws c : ℕ} {items items' : List Live} {q v : ℕ} {r r' : Option RegP
   free-at n answers answers' gone lock released asks paid stands posted e =
       let released' : Released at.live (known s.board) (known b') = subst (λ (x : State). Released at.live (known x.board) (known b')) view released in
       let asks' : Asks s.registry r' (Puts at.live.id ∷ []) = subst (λ (x : State). Asks x.registry r' (Puts at.live.id ∷ [])) view asks in
-      let walk_is : record { client = c; lives = items'; requests = q; bytes = v } ≡ without s.walk label =
-      ap (λ ls. let x : Walk = record { client = c; lives = ls; requests = q; bytes = v } in x) gone
-      ∙ ap (λ (x : State). let y : Walk = record { client = x.walk.client; lives = removed label s.walk.lives; requests = x.walk.requests; bytes = x.walk.bytes } in y) view in
+      let walk_is : record { client = c; shared = []; lives = items'; requests = q; bytes = v } ≡ without s.walk label =
+      ap (λ ls. let x : Walk = record { client = c; shared = []; lives = ls; requests = q; bytes = v } in x) gone
+      ∙ ap (λ (x : State). let y : Walk = record { client = x.walk.client; shared = x.walk.shared; lives = removed label s.walk.lives; requests = x.walk.requests; bytes = x.walk.bytes } in y) view in
       let left : Stands (removed label s.walk.lives) (known r') =
       stands-more s.walk.lives (removed label s.walk.lives) (known s.registry) (known r') (Puts at.live.id ∷ []) stands asks'.asked
       (λ id. let u = uses-removed label s.walk.lives place id at in omega (arith, u)) in

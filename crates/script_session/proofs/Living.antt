@@ -8,6 +8,7 @@ use Rattle.std.specs.BTreeMap.{get, is_at}
 use Rattle.std.specs.Map.{remove_entry, set_value, values_of}
 use Rattle.std.specs.Ordering.{nat_cmp}
 use Rattle.std.proofs.lemmas.List.Elements.{All-head}
+use Rattle.kc_base.specs.declared.error_numbers.Errno.TheVariants.{ENOENT}
 use Rattle.board.specs.Allowance.{accepted_by}
 use Rattle.board.proofs.Kept.{loan_some}
 use Rattle.board.specs.declared.entry.BoardEntry.{BoardEntry}
@@ -16,8 +17,8 @@ use Rattle.transforms.specs.declared.ask.Ask.{Ask}
 use Rattle.transforms.specs.AskValue.{ask_size}
 use Rattle.turn_lock.specs.Turns.{Known}
 use Rattle.dialogues.specs.Allocating.{lists_beside}
-use Rattle.dialogues.specs.Dialogues.{Dialogue, for_live, with_label}
-use Rattle.dialogues.specs.Walk.{Walk, Live, is_of, live_of, with_live, replaced, removed}
+use Rattle.dialogues.specs.Dialogues.{Dialogue, for_live, with_either}
+use Rattle.dialogues.specs.Walk.{Walk, Live, is_of, live_of, shared_of, either, either_of, with_live, replaced, removed}
 use Rattle.script_session.specs.States.{State, counted, HasPipe, Posted, Stands, MadeWide}
 use Rattle.session_calls.specs.Passes.{RegPass, BoardPass, known, lock_of}
 use Rattle.session_calls.specs.Pipelines.{Called}
@@ -57,6 +58,16 @@ module _ {ws c q v : ℕ} {r : Option RegPass} {b : Option BoardPass} (s : State
   pub no-live : None ≡ number_of name entries → live_of s.walk label ≡ None
   no-live at =
       sym (ap (λ (x : State). live_of x.walk label) view) ∙ nobody-at label entries (ap (λ l. number_of l entries) (sym same) ∙ sym at)
+
+  -- no transform is shared
+  pub none-shared : shared_of s.walk label ≡ None
+  none-shared = sym (ap (λ (x : State). shared_of x.walk label) view)
+
+  pub no-either : None ≡ number_of name entries → either_of s.walk label ≡ None
+  no-either at = ap (λ o. either o (shared_of s.walk label)) (no-live at) ∙ none-shared
+
+  pub either-at : (number : ℕ) (at : Some number ≡ number_of name entries) → either_of s.walk label ≡ Some (live-at number at).live
+  either-at number at = ap (λ o. either o (shared_of s.walk label)) (live-at number at).found
 
   -- the number has it
   pub has-live : (number : ℕ) (at : Some number ≡ number_of name entries) → get nat_cmp lives.transforms number ≡ Some (live-at number at).live
@@ -107,11 +118,11 @@ module _ {ws c q v : ℕ} {r : Option RegPass} {b : Option BoardPass} (s : State
       let here : HoldsFor d split.live new (known b) (known b') asks answers answers' = subst (λ l. HoldsFor d l new (known b) (known b') asks answers answers') was holds in
       let there : HoldsFor d split.live new (known s.board) (known b') asks answers answers' = subst (λ (x : State). HoldsFor d split.live new (known x.board) (known b') asks answers answers') view here in
       let done = live-done s.walk label (place number at) split new (known s.registry) (known s.board) (known b') asks answers answers' whole d same_d stands posted there in
-      let walk_is : record { client = c; lives = items'; requests = q'; bytes = v' } ≡ counting (with_live s.walk new) asks =
-      ap (λ ls. let x : Walk = record { client = c; lives = ls; requests = q'; bytes = v' } in x) set_is
-      ∙ (ap (λ m. let x : Walk = record { client = c; lives = replaced new s.walk.lives; requests = m; bytes = v' } in x) more_q
-      ∙ (ap (λ m. let x : Walk = record { client = c; lives = replaced new s.walk.lives; requests = q + length asks; bytes = m } in x) more_v
-      ∙ ap (λ (x : State). let y : Walk = record { client = x.walk.client; lives = replaced new s.walk.lives; requests = x.walk.requests + length asks; bytes = x.walk.bytes + sum_by ask_size asks } in y) view)) in
+      let walk_is : record { client = c; shared = []; lives = items'; requests = q'; bytes = v' } ≡ counting (with_live s.walk new) asks =
+      ap (λ ls. let x : Walk = record { client = c; shared = []; lives = ls; requests = q'; bytes = v' } in x) set_is
+      ∙ (ap (λ m. let x : Walk = record { client = c; shared = []; lives = replaced new s.walk.lives; requests = m; bytes = v' } in x) more_q
+      ∙ (ap (λ m. let x : Walk = record { client = c; shared = []; lives = replaced new s.walk.lives; requests = q + length asks; bytes = m } in x) more_v
+      ∙ ap (λ (x : State). let y : Walk = record { client = x.walk.client; shared = x.walk.shared; lives = replaced new s.walk.lives; requests = x.walk.requests + length asks; bytes = x.walk.bytes + sum_by ask_size asks } in y) view)) in
       record {
         locks = record { registry = ap (λ (x : State). lock_of x.registry) view; board = lock ∙ ap (λ (x : State). lock_of x.board) view; workers = ap (λ (x : State). x.workers) view };
         wide = λ wide.
@@ -143,17 +154,17 @@ module _ {ws c q v : ℕ} {r : Option RegPass} {b : Option BoardPass} (s : State
   -- the same of an arm that hands a request in, which is counted where it was accepted
   pub request-arm : (n number : ℕ) (at : Some number ≡ number_of name entries) (old new : Live) (items' : List Live) (rest : Walk → Live → Dialogue) (d : Walk → Dialogue) (s' : State) (b' : Option BoardPass) (accepted : Bool) (size : ℕ) (ask : Ask) (answers answers' : List Answer)
       → rest s.walk old ≡ d s.walk → get nat_cmp lives.transforms number ≡ Some old → items' ≡ replaced new s.walk.lives → lock_of b' ≡ lock_of b → Stands s.walk.lives (known s.registry) → Posted s.walk (known s.board) → size ≡ ask_size ask
-      → HoldsFor d old new (known b) (known b') (asks_if accepted ask) answers answers' → s' ≡ counted (viewed ws c items' q v r b') accepted size → Holds (with_label s.walk n label (rest s.walk)) s s' answers answers'
+      → HoldsFor d old new (known b) (known b') (asks_if accepted ask) answers answers' → s' ≡ counted (viewed ws c items' q v r b') accepted size → Holds (with_either s.walk n label (rest s.walk)) s s' answers answers'
   request-arm n number at old new items' rest d s' b' accepted size ask answers answers' same_d is set_is lock stands posted sized held e =
-      let same : with_label s.walk n label (rest s.walk) ≡ d s.walk = ap (λ o. for_live s.walk n o (rest s.walk)) (live-at number at).found ∙ (ap (rest s.walk) (sym (is-live number at old is)) ∙ same_d) in
-      subst (λ x. Holds (with_label s.walk n label (rest s.walk)) s x answers answers') (sym e) (by_accepted accepted same held)
+      let same : with_either s.walk n label (rest s.walk) ≡ d s.walk = ap (λ o. for_live s.walk n o ENOENT (rest s.walk)) (either-at number at) ∙ (ap (rest s.walk) (sym (is-live number at old is)) ∙ same_d) in
+      subst (λ x. Holds (with_either s.walk n label (rest s.walk)) s x answers answers') (sym e) (by_accepted accepted same held)
     where
-      by_accepted : (accepted : Bool) → with_label s.walk n label (rest s.walk) ≡ d s.walk → HoldsFor d old new (known b) (known b') (asks_if accepted ask) answers answers'
-          → Holds (with_label s.walk n label (rest s.walk)) s (counted (viewed ws c items' q v r b') accepted size) answers answers'
+      by_accepted : (accepted : Bool) → with_either s.walk n label (rest s.walk) ≡ d s.walk → HoldsFor d old new (known b) (known b') (asks_if accepted ask) answers answers'
+          → Holds (with_either s.walk n label (rest s.walk)) s (counted (viewed ws c items' q v r b') accepted size) answers answers'
       by_accepted true same held =
-          live-holds number at old new items' (with_label s.walk n label (rest s.walk)) d (q + 1) (v + size) b' (ask ∷ []) answers answers' same is set_is lock refl (ap (λ m. v + m) (sized ∙ sym (zero-add (ask_size ask)))) stands posted held
+          live-holds number at old new items' (with_either s.walk n label (rest s.walk)) d (q + 1) (v + size) b' (ask ∷ []) answers answers' same is set_is lock refl (ap (λ m. v + m) (sized ∙ sym (zero-add (ask_size ask)))) stands posted held
       by_accepted false same held =
-          live-holds number at old new items' (with_label s.walk n label (rest s.walk)) d q v b' [] answers answers' same is set_is lock (omega arith) (omega arith) stands posted held
+          live-holds number at old new items' (with_either s.walk n label (rest s.walk)) d q v b' [] answers answers' same is set_is lock (omega arith) (omega arith) stands posted held
 
   -- what the session has counted is what was accepted from it
   pub bytes-at : Posted s.walk (known s.board) → sum_by ask_size (accepted_by (known b).number (known b).seen) ≡ v

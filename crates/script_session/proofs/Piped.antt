@@ -17,6 +17,7 @@ use Rattle.transforms.specs.declared.ask.Ask.{Ask}
 use Rattle.transforms.specs.declared.request.Finished.{Finished}
 use Rattle.reply_text.specs.declared.answers.Answer.{Answer}
 use Rattle.reply_text.specs.declared.answers.Answer.TheVariants as said
+use Rattle.reply_text.specs.declared.origin.Origin.{Origin}
 use Rattle.std.proofs.lemmas.List.{length-map}
 use Rattle.turn_lock.specs.Turns.{Known}
 use Rattle.std.proofs.lemmas.Bool.{ltb-false, lt-leb, le-ltb, leb-false}
@@ -24,7 +25,7 @@ use Rattle.board.specs.Allowance.{IsAllowed}
 use Rattle.board.specs.declared.entry.Entered.{Entered}
 use Rattle.board.specs.declared.entry.Entered.TheVariants.{InProgress, Busy, NoSpace}
 use Rattle.transforms.specs.AskValue.{ask_size}
-use Rattle.dialogues.specs.BoardCalls.{Asked, asked_by, Collects, Submits, Enqueues, Masks, BoardCall}
+use Rattle.dialogues.specs.BoardCalls.{Asked, asked_by, origin_of, Collects, Submits, Enqueues, Masks, BoardCall}
 use Rattle.dialogues.specs.Requesting.{set_key, set_tag_size, value_said, requests_in, hands_in, is_too_big, accepting, value_of}
 use Rattle.script_session.specs.Keyed.{manned_as, held_as, delivering, with_line, MayDeliver}
 use Rattle.script_session.specs.Saying.{collects, collected_said}
@@ -33,16 +34,16 @@ use Rattle.script_session.specs.Settings.{holds_or_goes, hold_call, sets}
 use Rattle.script_session.specs.declared.settings.Setting.{Setting}
 use Rattle.script_session.specs.declared.settings.Setting.TheVariants as set
 use Rattle.script_session.specs.Offering.{IsAnswerOf, Offered, offer_call, entered_said}
-use Rattle.session_calls.specs.Pipelines.{IsPad, IsQueue, Polled, entered_pipe, entered_asks, with_ask, line_of, Kept, Changed, notice_by, Drained}
+use Rattle.session_calls.specs.Pipelines.{IsPad, IsQueue, Polled, entered_pipe, entered_asks, with_ask, Kept, Changed, notice_by, Drained}
 use Rattle.transforms.specs.Plans.{takes_key, takes_tag}
 use Rattle.transforms.specs.declared.tfm_err.TfmErr.{TfmErr}
 use Rattle.transforms.specs.declared.tfm_err.TfmErr.TheVariants.{Inval, Memory as OfMemory}
 use Rattle.script_session.specs.Telling.{callback_said}
-use Rattle.dialogues.specs.Dialogues.{Dialogue, says, refuses, for_live, with_label, Posts}
+use Rattle.dialogues.specs.Dialogues.{Dialogue, says, refuses, for_live, missing, with_label, Posts}
 use Rattle.dialogues.specs.Questions.{Drain, Hold, Go}
 use Rattle.dialogues.specs.Piping.{mask, masks, kept_bits, with_pad, if_pad, with_queue, if_queue, poll, polls_in, notice_said, tells, drain, drains_in, completions as completed_in}
 use Rattle.dialogues.specs.Turns.{Turn, IsTurn}
-use Rattle.dialogues.specs.Walk.{Walk, Live, Pipe, is_of, live_of, with_live, with_pipe, replaced}
+use Rattle.dialogues.specs.Walk.{Walk, Live, Pipe, is_of, live_of, shared_of, with_live, with_pipe, replaced}
 use Rattle.script_session.specs.States.{HasPipe, Posted, is_at}
 use Rattle.script_session.specs.Changing.{HoldsFor, counting}
 use Rattle.session_calls.proofs.Boarding.{kept-same}
@@ -83,12 +84,12 @@ says-for d live k answer answers answers' on legal is e =
 
 -- ---- what is told
 
-pub said-is : (lines : List ℕ) (callbacks : List (Callback Finished)) → map notice_said (map (notice_by lines) callbacks) ≡ map (callback_said lines) callbacks
+pub said-is : (lines : List Origin) (callbacks : List (Callback Finished)) → map notice_said (map (notice_by lines) callbacks) ≡ map (callback_said lines) callbacks
 said-is lines [] = refl
 said-is lines (callback.Started n ∷ xs) = ap (λ rest. callback_said lines (callback.Started n) ∷ rest) (said-is lines xs)
 said-is lines (callback.Done n f ∷ xs) = ap (λ rest. callback_said lines (callback.Done n f) ∷ rest) (said-is lines xs)
 
-pub count-is : (lines : List ℕ) (callbacks : List (Callback Finished)) → completed_in (map (notice_by lines) callbacks) ≡ completions callbacks
+pub count-is : (lines : List Origin) (callbacks : List (Callback Finished)) → completed_in (map (notice_by lines) callbacks) ≡ completions callbacks
 count-is lines [] = refl
 count-is lines (callback.Started n ∷ xs) = count-is lines xs
 count-is lines (callback.Done n f ∷ xs) = ap (λ n. suc n) (count-is lines xs)
@@ -102,10 +103,10 @@ delivered-live live live' pipe count callbacks has counts is =
 -- ---- `drain T` and `poll T`
 
 pub drain-at : (walk : Walk) (n : ℕ) (live : Live) → live_of walk live.label ≡ Some live → drain walk n live.label ≡ drains_in walk n live live.pipe
-drain-at walk n live found = ap (λ o. for_live walk n o (λ (l : Live). drains_in walk n l l.pipe)) found
+drain-at walk n live found = ap (λ o. for_live walk n o (missing (shared_of walk live.label)) (λ (l : Live). drains_in walk n l l.pipe)) found
 
 pub poll-at : (walk : Walk) (n : ℕ) (live : Live) → live_of walk live.label ≡ Some live → poll walk n live.label ≡ polls_in walk n live live.pipe
-poll-at walk n live found = ap (λ o. for_live walk n o (λ (l : Live). polls_in walk n l l.pipe)) found
+poll-at walk n live found = ap (λ o. for_live walk n o (missing (shared_of walk live.label)) (λ (l : Live). polls_in walk n l l.pipe)) found
 
 -- without a pipeline there is nothing to collect
 pub collect-none : (waits : Bool) (walk : Walk) (n : ℕ) (live : Live) → live.pipe ≡ None → live_of walk live.label ≡ Some live → collects waits walk n live.label ≡ says walk (collected_said n waits 0)
@@ -214,28 +215,26 @@ counting-one walk ask = ap (λ n. record walk { requests = walk.requests + 1; by
 abbrev turn_with : BoardCall → Answer → Walk → Turn
 turn_with call answer after = record { registry = []; board = call ∷ []; answers = answer ∷ []; after = Some after }
 
-accepted-is : (walk : Walk) (n : ℕ) (live : Live) (pipe : Pipe) (ask : Ask) → line_of ask ≡ n → (call : BoardCall) (errno : Errno)
-    → turn_with call (said.Refused n errno) (accepting walk n live pipe ask.request) ≡ turn_with call (said.Refused n errno) (counting (with_live walk (record live { pipe = Some (with_ask pipe ask) })) (ask ∷ []))
-accepted-is walk n live pipe ask line call errno =
-    ap (turn_with call (said.Refused n errno))
-    (ap (λ m. let w : Walk = record (with_live walk (record live { pipe = Some (record pipe { lines = pipe.lines ++ m ∷ [] }) })) { requests = walk.requests + 1; bytes = walk.bytes + ask_size ask } in w) (sym line)
-    ∙ counting-one (with_live walk (record live { pipe = Some (with_ask pipe ask) })) ask)
+accepted-is : (walk : Walk) (n : ℕ) (live : Live) (pipe : Pipe) (ask : Ask) (call : BoardCall) (errno : Errno)
+    → turn_with call (said.Refused n errno) (accepting walk live pipe (asked_by ask)) ≡ turn_with call (said.Refused n errno) (counting (with_live walk (record live { pipe = Some (with_ask pipe ask) })) (ask ∷ []))
+accepted-is walk n live pipe ask call errno =
+    ap (turn_with call (said.Refused n errno)) (counting-one (with_live walk (record live { pipe = Some (with_ask pipe ask) })) ask)
 
 -- the turn of a request that a pipeline answered
-enters-is : (walk : Walk) (n : ℕ) (live : Live) (pipe : Pipe) (ask : Ask) (backlog : Bool) (answer : Entered) (bound : Option ℕ) → IsAnswerOf bound answer → line_of ask ≡ n → live_of walk live.label ≡ Some live → live.pipe ≡ Some pipe
+enters-is : (walk : Walk) (n : ℕ) (live : Live) (pipe : Pipe) (ask : Ask) (backlog : Bool) (answer : Entered) (bound : Option ℕ) → IsAnswerOf bound answer → live_of walk live.label ≡ Some live → live.pipe ≡ Some pipe
     → IsTurn (hands_in walk n live pipe (asked_by ask) backlog bound) (turn_with (offer_call pipe ask backlog answer bound) (entered_said n answer) (counting (with_live walk (record live { pipe = Some (entered_pipe pipe ask answer) })) (entered_asks ask answer)))
-enters-is walk n live pipe ask backlog (InProgress number) None ok line found has = accepted-is walk n live pipe ask line (Submits pipe.number number (asked_by ask)) EINPROGRESS
-enters-is walk n live pipe ask backlog (InProgress number) (Some max) ok line found has = accepted-is walk n live pipe ask line (Enqueues pipe.number (asked_by ask) backlog (InProgress number)) EINPROGRESS
-enters-is walk n live pipe ask backlog (Busy number) (Some max) ok line found has = accepted-is walk n live pipe ask line (Enqueues pipe.number (asked_by ask) backlog (Busy number)) EBUSY
-enters-is walk n live pipe ask backlog NoSpace (Some max) ok line found has =
+enters-is walk n live pipe ask backlog (InProgress number) None ok found has = accepted-is walk n live pipe ask (Submits pipe.number number (asked_by ask)) EINPROGRESS
+enters-is walk n live pipe ask backlog (InProgress number) (Some max) ok found has = accepted-is walk n live pipe ask (Enqueues pipe.number (asked_by ask) backlog (InProgress number)) EINPROGRESS
+enters-is walk n live pipe ask backlog (Busy number) (Some max) ok found has = accepted-is walk n live pipe ask (Enqueues pipe.number (asked_by ask) backlog (Busy number)) EBUSY
+enters-is walk n live pipe ask backlog NoSpace (Some max) ok found has =
     ap (λ w. turn_with (Enqueues pipe.number (asked_by ask) backlog NoSpace) (said.Refused n ENOSPC) w) (sym (ap (λ l. counting (with_live walk l) []) (ap (λ o. record live { pipe = o }) (sym has)) ∙ kept-live walk live found))
-enters-is walk n live pipe ask backlog (Busy number) None ok line found has = absurd ok
-enters-is walk n live pipe ask backlog NoSpace None ok line found has = absurd ok
+enters-is walk n live pipe ask backlog (Busy number) None ok found has = absurd ok
+enters-is walk n live pipe ask backlog NoSpace None ok found has = absurd ok
 
 pub request-holds : (k l : Known (BoardEntry Ask)) (live live' : Live) (pipe : Pipe) (n : ℕ) (ask : Ask) (backlog : Bool) (answer : Entered) (answers answers' : List Answer)
-    → live.pipe ≡ Some pipe → pipe.unmanned ≡ false → Offered k l pipe ask backlog answer → IsAllowed ask_size k.seen k.number ask → line_of ask ≡ n → live' ≡ record live { pipe = Some (entered_pipe pipe ask answer) } → answers' ≡ answers ++ entered_said n answer ∷ []
+    → live.pipe ≡ Some pipe → pipe.unmanned ≡ false → Offered k l pipe ask backlog answer → IsAllowed ask_size k.seen k.number ask → live' ≡ record live { pipe = Some (entered_pipe pipe ask answer) } → answers' ≡ answers ++ entered_said n answer ∷ []
     → HoldsFor (λ walk. requests_in walk n live (asked_by ask) backlog live.pipe) live live' k l (entered_asks ask answer) answers answers'
-request-holds k l live live' pipe n ask backlog answer answers answers' has manned offered allowed line live_is e =
+request-holds k l live live' pipe n ask backlog answer answers answers' has manned offered allowed live_is e =
     let new : Live = record live { pipe = Some (entered_pipe pipe ask answer) } in
     subst (λ x. HoldsFor (λ walk. requests_in walk n live (asked_by ask) backlog live.pipe) live x k l (entered_asks ask answer) answers answers') (sym live_is) (record {
       calls = offer_call pipe ask backlog answer pipe.bound ∷ [];
@@ -243,15 +242,15 @@ request-holds k l live live' pipe n ask backlog answer answers answers' has mann
       changes = changes-pipe live k l pipe (entered_pipe pipe ask answer) (offer_call pipe ask backlog answer pipe.bound ∷ []) (entered_asks ask answer) has offered.1;
       is = λ walk found posted.
           subst (λ d. IsTurn d (turn_with (offer_call pipe ask backlog answer pipe.bound) (entered_said n answer) (counting (with_live walk new) (entered_asks ask answer)))) (sym (request-enters walk k n live pipe ask backlog has manned allowed posted))
-          (enters-is walk n live pipe ask backlog answer pipe.bound offered.0 line found has);
+          (enters-is walk n live pipe ask backlog answer pipe.bound offered.0 found has);
       says = e;
     })
 
-pub accepted-live : (live live' : Live) (pipe : Pipe) (ask : Ask) (line : ℕ) → live.pipe ≡ Some pipe → line_of ask ≡ line → live' ≡ with_line live line → live' ≡ record live { pipe = Some (with_ask pipe ask) }
-accepted-live live live' pipe ask line has same is =
+pub accepted-live : (live live' : Live) (pipe : Pipe) (ask : Ask) (of : Origin) → live.pipe ≡ Some pipe → origin_of ask ≡ of → live' ≡ with_line live of → live' ≡ record live { pipe = Some (with_ask pipe ask) }
+accepted-live live live' pipe ask of has same is =
     is
-    ∙ (ap (λ o. record live { pipe = option_map (λ (p : Pipe). record p { lines = p.lines ++ line ∷ [] }) o }) has
-    ∙ ap (λ n. record live { pipe = Some (record pipe { lines = pipe.lines ++ n ∷ [] }) }) (sym same))
+    ∙ (ap (λ o. record live { pipe = option_map (λ (p : Pipe). record p { lines = p.lines ++ of ∷ [] }) o }) has
+    ∙ ap (λ at. record live { pipe = Some (record pipe { lines = pipe.lines ++ at ∷ [] }) }) (sym same))
 
 -- ---- lines that set what a transform computes with
 
@@ -285,7 +284,7 @@ abbrev if_taken : Walk → ℕ → Live → List ℕ → Bool → Dialogue
 if_taken walk n live key taken = if not taken then refuses walk n EINVAL else says (with_live walk (record live { key = Some key })) (said.Ok n)
 
 key-at : (walk : Walk) (n : ℕ) (live : Live) (key : List ℕ) (taken : Bool) → takes_key live.plan key ≡ taken → live_of walk live.label ≡ Some live → set_key walk n live.label key ≡ if_taken walk n live key taken
-key-at walk n live key taken is found = ap (λ o. for_live walk n o (λ (l : Live). if_taken walk n l key (takes_key l.plan key))) found ∙ ap (if_taken walk n live key) is
+key-at walk n live key taken is found = ap (λ o. for_live walk n o (missing (shared_of walk live.label)) (λ (l : Live). if_taken walk n l key (takes_key l.plan key))) found ∙ ap (if_taken walk n live key) is
 
 pub key-taken : (live live' : Live) (k : Known (BoardEntry Ask)) (n : ℕ) (key : List ℕ) (answers answers' : List Answer) → takes_key live.plan key ≡ true → live' ≡ record live { key = Some key }
     → answers' ≡ answers ++ said.Ok n ∷ [] → HasPipe k live.pipe → LegalBoard k.seen → HoldsFor (λ walk. set_key walk n live.label key) live live' k k [] answers answers'
@@ -308,7 +307,7 @@ abbrev if_sized : Walk → ℕ → Live → ℕ → Bool → Dialogue
 if_sized walk n live size taken = if not taken then refuses walk n EINVAL else says (with_live walk (record live { tag_size = size })) (said.Ok n)
 
 size-at : (walk : Walk) (n : ℕ) (live : Live) (size : ℕ) (taken : Bool) → takes_tag live.plan size ≡ taken → live_of walk live.label ≡ Some live → set_tag_size walk n live.label size ≡ if_sized walk n live size taken
-size-at walk n live size taken is found = ap (λ o. for_live walk n o (λ (l : Live). if_sized walk n l size (takes_tag l.plan size))) found ∙ ap (if_sized walk n live size) is
+size-at walk n live size taken is found = ap (λ o. for_live walk n o (missing (shared_of walk live.label)) (λ (l : Live). if_sized walk n l size (takes_tag l.plan size))) found ∙ ap (if_sized walk n live size) is
 
 pub size-taken : (live live' : Live) (k : Known (BoardEntry Ask)) (n size : ℕ) (answers answers' : List Answer) → takes_tag live.plan size ≡ true → live' ≡ record live { tag_size = size }
     → answers' ≡ answers ++ said.Ok n ∷ [] → HasPipe k live.pipe → LegalBoard k.seen → HoldsFor (λ walk. set_tag_size walk n live.label size) live live' k k [] answers answers'
@@ -340,8 +339,8 @@ switches walk n live true pipe = Posts (Hold pipe.number) λ done. says (with_pi
 switches walk n live false pipe = Posts (Go pipe.number) λ done. says (with_pipe walk live (record pipe { held = false })) (said.Ok n)
 
 hold-at : (held : Bool) (walk : Walk) (n : ℕ) (live : Live) → live_of walk live.label ≡ Some live → holds_or_goes walk n live.label held ≡ with_queue walk n live.pipe (switches walk n live held)
-hold-at true walk n live found = ap (λ o. for_live walk n o (λ (l : Live). with_queue walk n l.pipe (switches walk n l true))) found
-hold-at false walk n live found = ap (λ o. for_live walk n o (λ (l : Live). with_queue walk n l.pipe (switches walk n l false))) found
+hold-at true walk n live found = ap (λ o. for_live walk n o (missing (shared_of walk live.label)) (λ (l : Live). with_queue walk n l.pipe (switches walk n l true))) found
+hold-at false walk n live found = ap (λ o. for_live walk n o (missing (shared_of walk live.label)) (λ (l : Live). with_queue walk n l.pipe (switches walk n l false))) found
 
 -- only a queue is held and let go
 pub hold-none : (held : Bool) (walk : Walk) (n : ℕ) (live : Live) → live.pipe ≡ None → live_of walk live.label ≡ Some live → holds_or_goes walk n live.label held ≡ refuses walk n EINVAL
@@ -398,7 +397,7 @@ held-changed (Err e) k l pipe given held is kept = kept.1
 -- ---- `mask T MASK`
 
 mask-at : (workers : ℕ) (walk : Walk) (n bits : ℕ) (live : Live) → live_of walk live.label ≡ Some live → mask workers walk n live.label bits ≡ with_pad walk n live.pipe (masks workers walk n bits live)
-mask-at workers walk n bits live found = ap (λ o. for_live walk n o (λ (l : Live). with_pad walk n l.pipe (masks workers walk n bits l))) found
+mask-at workers walk n bits live found = ap (λ o. for_live walk n o (missing (shared_of walk live.label)) (λ (l : Live). with_pad walk n l.pipe (masks workers walk n bits l))) found
 
 -- only a pad is masked
 pub mask-none : (workers : ℕ) (walk : Walk) (n bits : ℕ) (live : Live) → live.pipe ≡ None → live_of walk live.label ≡ Some live → mask workers walk n live.label bits ≡ refuses walk n EINVAL
@@ -467,7 +466,7 @@ may-deliver-polled law k l live pipe count callbacks all has polled counts =
     let es = entries_of pipe.number l.seen in
     let most = law l.seen pipe.number polled.legal in
     let given = polled.now.delivered in
-    let had : length (submissions es) ≡ length pipe.lines = sym (length-map (submissions es) line_of) ∙ ap length polled.now.lines in
+    let had : length (submissions es) ≡ length pipe.lines = sym (length-map (submissions es) origin_of) ∙ ap length polled.now.lines in
     let le : pipe.delivered + count ≤ length pipe.lines = omega (arith, most, given, had, counts) in
     subst (MayDeliver count) (sym has) le
 
@@ -478,19 +477,19 @@ from-empty into more xs new e = e ∙ ap (λ (handed : Handed Finished). handed.
 -- ---- whatever a line sets
 
 -- a label that no transform has
-label-free : (walk : Walk) (n : ℕ) (label : List ℕ) (rest : Live → Dialogue) → live_of walk label ≡ None → with_label walk n label rest ≡ refuses walk n ENOENT
-label-free walk n label rest none = ap (λ o. for_live walk n o rest) none
+label-free : (walk : Walk) (n : ℕ) (label : List ℕ) (rest : Live → Dialogue) → live_of walk label ≡ None → shared_of walk label ≡ None → with_label walk n label rest ≡ refuses walk n ENOENT
+label-free walk n label rest none unshared = ap (λ o. for_live walk n o (missing (shared_of walk label)) rest) none ∙ ap (λ o. refuses walk n (missing o)) unshared
 
-pub set-free : (workers : ℕ) (walk : Walk) (n : ℕ) (label : List ℕ) (setting : Setting) → live_of walk label ≡ None → sets workers walk n label setting ≡ refuses walk n ENOENT
-set-free workers walk n label (set.Key key) none = label-free walk n label (λ live. if_taken walk n live key (takes_key live.plan key)) none
-set-free workers walk n label (set.TagSize size) none = label-free walk n label (λ live. if_sized walk n live size (takes_tag live.plan size)) none
-set-free workers walk n label (set.Mask bits) none = label-free walk n label (λ live. with_pad walk n live.pipe (masks workers walk n bits live)) none
-set-free workers walk n label (set.Held true) none = label-free walk n label (λ live. with_queue walk n live.pipe (switches walk n live true)) none
-set-free workers walk n label (set.Held false) none = label-free walk n label (λ live. with_queue walk n live.pipe (switches walk n live false)) none
+pub set-free : (workers : ℕ) (walk : Walk) (n : ℕ) (label : List ℕ) (setting : Setting) → live_of walk label ≡ None → shared_of walk label ≡ None → sets workers walk n label setting ≡ refuses walk n ENOENT
+set-free workers walk n label (set.Key key) none unshared = label-free walk n label (λ live. if_taken walk n live key (takes_key live.plan key)) none unshared
+set-free workers walk n label (set.TagSize size) none unshared = label-free walk n label (λ live. if_sized walk n live size (takes_tag live.plan size)) none unshared
+set-free workers walk n label (set.Mask bits) none unshared = label-free walk n label (λ live. with_pad walk n live.pipe (masks workers walk n bits live)) none unshared
+set-free workers walk n label (set.Held true) none unshared = label-free walk n label (λ live. with_queue walk n live.pipe (switches walk n live true)) none unshared
+set-free workers walk n label (set.Held false) none unshared = label-free walk n label (λ live. with_queue walk n live.pipe (switches walk n live false)) none unshared
 
-pub collect-free : (waits : Bool) (walk : Walk) (n : ℕ) (label : List ℕ) → live_of walk label ≡ None → collects waits walk n label ≡ refuses walk n ENOENT
-collect-free true walk n label none = label-free walk n label (λ live. drains_in walk n live live.pipe) none
-collect-free false walk n label none = label-free walk n label (λ live. polls_in walk n live live.pipe) none
+pub collect-free : (waits : Bool) (walk : Walk) (n : ℕ) (label : List ℕ) → live_of walk label ≡ None → shared_of walk label ≡ None → collects waits walk n label ≡ refuses walk n ENOENT
+collect-free true walk n label none unshared = label-free walk n label (λ live. drains_in walk n live live.pipe) none unshared
+collect-free false walk n label none unshared = label-free walk n label (λ live. polls_in walk n live live.pipe) none unshared
 
 pub setting-arm : {S A : Type 0} (result : Result A S) (workers n : ℕ) (live live' : Live) (k l : Known (BoardEntry Ask)) (setting given : Setting) (answers answers' : List Answer) → setting ≡ given
     → MatchResult result (λ _. HoldsFor (λ walk. sets workers walk n live.label given) live live' k l [] answers answers') (λ _. SeesOn k l)

@@ -348,4 +348,4 @@ module _ (looks_law : LooksAtOnce) (are_law : CallsByAre) where
   probe-arm {S} {ws} {c} {lives} {q} {v} {r} {b} s view r1 r2 result n texts searches answers answers' stands posted first then =
       subst (λ (x : State). Stands x.walk.lives (known x.registry) → Posted x.walk (known x.board)
       → MatchResult result (λ _. HoldsBy (length texts) (probe x.walk n texts) x (viewed ws c lives q v r2 b) answers answers') (λ _. Stops x (viewed ws c lives q v r2 b))) view
-      (λ st po. probe-at r r1 r2 ws (record { client = c; lives = lives; requests = q; bytes = v }) b result n texts searches answers answers' st po first then) stands posted
+      (λ st po. probe-at r r1 r2 ws (record { client = c; shared = []; lives = lives; requests = q; bytes = v }) b result n texts searches answers answers' st po first then) stands posted

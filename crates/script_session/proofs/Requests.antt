@@ -3,7 +3,7 @@ use Rattle.std.proofs.Common.{◌≡◌, ℕ, Bool, List, Option, Some, None, sy
 use Rattle.std.specs.Prelude.{if◌then◌else◌, not}
 use Rattle.kc_base.specs.declared.error_numbers.Errno.TheVariants.{EINVAL, ENOKEY}
 use Rattle.transforms.specs.declared.request.Request.{Request}
-use Rattle.dialogues.specs.BoardCalls.{Asked}
+use Rattle.dialogues.specs.BoardCalls.{Asked, origin_by}
 use Rattle.dialogues.specs.Dialogues.{Dialogue, refuses}
 use Rattle.dialogues.specs.Requesting.{requests_in, requests_under, asked_of}
 use Rattle.dialogues.specs.Walk.{Walk, Live}
@@ -18,6 +18,11 @@ no-key walk n live request backlog none = ap (requests_under walk n live request
 pub not-taken : (walk : Walk) (n : ℕ) (live : Live) (request : Request) (backlog : Bool) (key : Option (List ℕ)) → IsNotTaken live request key → requests_under walk n live request backlog key ≡ refuses walk n EINVAL
 not-taken walk n live request backlog None no_job = absurd no_job
 not-taken walk n live request backlog (Some key) refused = ap (if_takes walk n live request backlog key) refused
+
+-- the job is of this line of the client's script
+pub job-origin : (n client : ℕ) (live : Live) (request : Request) (asked : Asked) (key : Option (List ℕ)) → IsJobUnder client n live request asked key → origin_by asked ≡ record { client = client; line = n }
+job-origin n client live request asked None job = absurd job
+job-origin n client live request asked (Some key) job = ap origin_by job.1
 
 pub job-asks : (walk : Walk) (n client : ℕ) (live : Live) (request : Request) (asked : Asked) (backlog : Bool) (key : Option (List ℕ)) → walk.client ≡ client → IsJobUnder client n live request asked key
     → requests_under walk n live request backlog key ≡ requests_in walk n live asked backlog live.pipe

@@ -1,6 +1,6 @@
 -- The text of what is handed out fits into its room.
 use Rattle.std.proofs.Common.{◌≡◌, ℕ, ◌+◌, ◌*◌, ◌^◌, ◌<◌, ◌≤◌, Bool, true, false, List, [], ◌∷◌, ◌++◌, length, map, take, refl, ap, ◌∙◌, append-nil, length-append, arith, codes, get_or}
-use Rattle.std.specs.Prelude.{sum_by}
+use Rattle.std.specs.Prelude.{◌==◌, if◌then◌else◌, sum_by}
 use Rattle.std.specs.Fmt.{decimal}
 use Rattle.std.specs.List.{flat_map}
 use Rattle.std.proofs.lemmas.Fmt.{length-decimal-le}
@@ -18,6 +18,8 @@ use Rattle.transforms.specs.declared.request.Finished.{Finished}
 use Rattle.reply_text.specs.Answers.{hex_text, sentence, text_of}
 use Rattle.reply_text.specs.declared.answers.Answer.{Answer}
 use Rattle.reply_text.specs.declared.answers.Answer.TheVariants as said
+use Rattle.reply_text.specs.declared.origin.Origin.{Origin}
+use Rattle.reply_text.specs.Origins.{origin_word}
 use Rattle.session_calls.specs.Bounds.{callback_length, AreWithin}
 use Rattle.script_session.specs.Saying.{callback_room, collected_said}
 use Rattle.script_session.specs.Telling.{callback_said}
@@ -40,17 +42,29 @@ digits-length : (bytes : List ℕ) → length (hex_text bytes) ≤ 2 * length by
 digits-length [] = omega arith
 digits-length (b ∷ bytes) = omega (arith, length-encode_with lower_digits (b ∷ bytes))
 
-pub started-length : (line : ℕ) → line < 2 ^ 32 → length (text_of (said.Started line)) ≤ 24
-started-length line small = omega (arith, two-words (decimal line) (codes "started"), line-length line small)
+origin-length : (of : Origin) → of.client < 2 ^ 32 → of.line < 2 ^ 32 → length (origin_word of) ≤ 21
+origin-length of few small = by_client (of.client == 0)
+  where
+    by_client : (first : Bool) → length (if first then decimal of.line else decimal of.client ++ codes "." ++ decimal of.line) ≤ 21
+    by_client true =
+        let alone : length (decimal of.line) ≤ 21 = omega (arith, line-length of.line small) in
+        alone
+    by_client false =
+        let both : length (decimal of.client ++ codes "." ++ decimal of.line) ≤ 21 =
+        omega (arith, length-append (decimal of.client ++ codes ".") (decimal of.line), length-append (decimal of.client) (codes "."), line-length of.client few, line-length of.line small) in
+        both
 
-pub done-length : (line : ℕ) (bytes : List ℕ) → line < 2 ^ 32 → length (text_of (said.Done line bytes)) ≤ 24 + 2 * length bytes
-done-length line bytes small = omega (arith, three-words (decimal line) (codes "done") (hex_text bytes), line-length line small, digits-length bytes)
+pub started-length : (of : Origin) → of.client < 2 ^ 32 → of.line < 2 ^ 32 → length (text_of (said.Started of)) ≤ 36
+started-length of few small = omega (arith, two-words (origin_word of) (codes "started"), origin-length of few small)
 
-pub bad-length : (line : ℕ) → line < 2 ^ 32 → length (text_of (said.Failed line EBADMSG)) ≤ 24
-bad-length line small = omega (arith, three-words (decimal line) (codes "fail") (codes "EBADMSG"), line-length line small)
+pub done-length : (of : Origin) (bytes : List ℕ) → of.client < 2 ^ 32 → of.line < 2 ^ 32 → length (text_of (said.Done of bytes)) ≤ 36 + 2 * length bytes
+done-length of bytes few small = omega (arith, three-words (origin_word of) (codes "done") (hex_text bytes), origin-length of few small, digits-length bytes)
 
-pub invalid-length : (line : ℕ) → line < 2 ^ 32 → length (text_of (said.Failed line EINVAL)) ≤ 24
-invalid-length line small = omega (arith, three-words (decimal line) (codes "fail") (codes "EINVAL"), line-length line small)
+pub bad-length : (of : Origin) → of.client < 2 ^ 32 → of.line < 2 ^ 32 → length (text_of (said.Failed of EBADMSG)) ≤ 36
+bad-length of few small = omega (arith, three-words (origin_word of) (codes "fail") (codes "EBADMSG"), origin-length of few small)
+
+pub invalid-length : (of : Origin) → of.client < 2 ^ 32 → of.line < 2 ^ 32 → length (text_of (said.Failed of EINVAL)) ≤ 36
+invalid-length of few small = omega (arith, three-words (origin_word of) (codes "fail") (codes "EINVAL"), origin-length of few small)
 
 polled-length : (line count : ℕ) → line < 2 ^ 32 → count < 2 ^ 64 → length (text_of (said.Polled line count)) ≤ 64
 polled-length line count small few = omega (arith, three-words (decimal line) (codes "polled") (decimal count), line-length line small, count-length count few)
@@ -67,13 +81,13 @@ end-length label count few = omega (arith, three-words (codes "end") label (deci
 
 -- ---- callbacks
 
-rooms-are : (callbacks : List (Callback Finished)) → sum_by callback_room callbacks ≡ 24 * length callbacks + 2 * sum_by callback_length callbacks
+rooms-are : (callbacks : List (Callback Finished)) → sum_by callback_room callbacks ≡ 36 * length callbacks + 2 * sum_by callback_length callbacks
 rooms-are [] = refl
 rooms-are (callback ∷ callbacks) = omega (arith, sum_by-cons callback_room callback callbacks, sum_by-cons callback_length callback callbacks, rooms-are callbacks)
 
 -- what is handed out has its room, and behind it a line of 64 bytes and so many more
 pub room-enough : (requests bytes more room spare lines : ℕ) (asks : List Ask) (callbacks : List (Callback Finished))
-    → (room < 2 ^ 63 → 2 * bytes + 176 * requests + more + 64 ≤ room) → room < 2 ^ 63 → room ≤ spare → requests ≡ lines → sum_by ask_size asks ≡ bytes → AreWithin lines asks callbacks
+    → (room < 2 ^ 63 → 2 * bytes + 200 * requests + more + 64 ≤ room) → room < 2 ^ 63 → room ≤ spare → requests ≡ lines → sum_by ask_size asks ≡ bytes → AreWithin lines asks callbacks
     → sum_by callback_room callbacks + more + 64 ≤ spare
 room-enough requests bytes more room spare lines asks callbacks is small within many sized few =
     let enough = is small in
@@ -97,7 +111,7 @@ flat-one answer = flat_map-cons text_of answer [] ∙ append-nil (text_of answer
 pub flat-more : (answers : List Answer) (answer : Answer) → flat_map text_of (answers ++ answer ∷ []) ≡ flat_map text_of answers ++ text_of answer
 flat-more answers answer = flat_map-append text_of answers (answer ∷ []) ∙ ap (λ x. flat_map text_of answers ++ x) (flat-one answer)
 
-pub said-more : (lines : List ℕ) (callbacks : List (Callback Finished)) (i : ℕ) (d : Callback Finished) → i < length callbacks
+pub said-more : (lines : List Origin) (callbacks : List (Callback Finished)) (i : ℕ) (d : Callback Finished) → i < length callbacks
     → flat_map text_of (map (callback_said lines) (take (i + 1) callbacks)) ≡ flat_map text_of (map (callback_said lines) (take i callbacks)) ++ text_of (callback_said lines (get_or callbacks i d))
 said-more lines callbacks i d lt =
     ap (λ cs. flat_map text_of (map (callback_said lines) cs)) (take_more callbacks i d lt)

@@ -2,7 +2,6 @@
 use Rattle.std.proofs.Common.{◌≡◌, ℕ, Bool, true, false, List, [], ◌∷◌, ◌++◌, Some, None, refl, sym, ap, subst, ◌∙◌, append_assoc, append-nil}
 use Rattle.std.specs.Prelude.{if◌then◌else◌}
 use Rattle.kc_base.specs.declared.error_numbers.Errno.{Errno}
-use Rattle.kc_base.specs.declared.error_numbers.Errno.TheVariants.{ENOENT}
 use Rattle.alg_registry.specs.declared.entry.RegEntry.{RegEntry}
 use Rattle.board.specs.declared.entry.BoardEntry.{BoardEntry}
 use Rattle.reply_text.specs.declared.answers.Answer.{Answer}
@@ -12,10 +11,10 @@ use Rattle.turn_lock.specs.Turns.{Known}
 use Rattle.dialogues.specs.RegistryCalls.{RegCall, reg_calls}
 use Rattle.dialogues.proofs.Taking.{AllSettled-append}
 use Rattle.dialogues.specs.BoardCalls.{board_calls}
-use Rattle.dialogues.specs.Dialogues.{Dialogue, Ends, Says, Asks, Posts, refuses, unless, for_live, with_label}
+use Rattle.dialogues.specs.Dialogues.{Dialogue, Ends, Says, Asks, Posts, refuses, unless}
 use Rattle.dialogues.specs.Questions.{RegQuestion, Enlist, Look, Unlist, Get, Put, Count, ListAll, RegAnswer, reg_call, reg_answer, BoardQuestion, Create, Submit, Enqueue, Hold, Go, Poll, Drain, Close, Share, Mask, Shut, BoardAnswer, board_call, board_answer}
 use Rattle.dialogues.specs.Turns.{Turn, ended, broken, saying, asking, posting, turn_of}
-use Rattle.dialogues.specs.Walk.{Walk, Live, live_of}
+use Rattle.dialogues.specs.Walk.{Walk}
 use Rattle.dialogues.specs.InTurn.{AreInTurnBy, AreCalls}
 use Rattle.dialogues.proofs.Taking.{no_call}
 use Rattle.dialogues.proofs.Grouping.{in_turn-by, by-after}
@@ -103,14 +102,6 @@ module _ {k k' : Known RegEntry} {b b' : Known (BoardEntry Ask)} {after : Walk} 
       → Done (unless walk n ((test, errno) ∷ refusals) rest) k b k' b' after answers answers'
   unless-so walk n test errno refusals rest e done =
       subst (λ t. Done (if t then refuses walk n errno else unless walk n refusals rest) k b k' b' after answers answers') (sym e) done
-
-  pub label-live : (walk : Walk) (n : ℕ) (label : List ℕ) (rest : Live → Dialogue) (live : Live) → live_of walk label ≡ Some live → Done (rest live) k b k' b' after answers answers'
-      → Done (with_label walk n label rest) k b k' b' after answers answers'
-  label-live walk n label rest live e done = subst (λ o. Done (for_live walk n o rest) k b k' b' after answers answers') (sym e) done
-
-  pub label-free : (walk : Walk) (n : ℕ) (label : List ℕ) (rest : Live → Dialogue) → live_of walk label ≡ None → Done (refuses walk n ENOENT) k b k' b' after answers answers'
-      → Done (with_label walk n label rest) k b k' b' after answers answers'
-  label-free walk n label rest e done = subst (λ o. Done (for_live walk n o rest) k b k' b' after answers answers') (sym e) done
 
 -- it ends with answers
 pub says-done : (k : Known RegEntry) (b : Known (BoardEntry Ask)) (after : Walk) (said answers answers' : List Answer) → Stands after.lives k → Posted after b → answers' ≡ answers ++ said

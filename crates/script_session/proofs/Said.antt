@@ -19,6 +19,7 @@ use Rattle.transforms.specs.declared.request.Finished.TheVariants.{Bytes, BadMsg
 use Rattle.reply_text.specs.Answers.{text_of}
 use Rattle.reply_text.specs.declared.answers.Answer.{Answer}
 use Rattle.reply_text.specs.declared.answers.Answer.TheVariants as said
+use Rattle.reply_text.specs.declared.origin.Origin.{Origin}
 use Rattle.turn_lock.specs.Turns.{Known}
 use Rattle.dialogues.specs.BoardCalls.{Goes, Collects}
 use Rattle.dialogues.specs.Dialogues.{Dialogue, says}
@@ -68,7 +69,7 @@ one-says d live k answer text text' on legal is e =
 
 -- ---- callbacks, and an answer behind them
 
-pub told-text : (lines : List ℕ) (callbacks : List (Callback Finished)) (answer : Answer) (text a b c : List ℕ) → a ≡ text → b ≡ a ++ flat_map text_of (map (callback_said lines) callbacks) → c ≡ b ++ text_of answer
+pub told-text : (lines : List Origin) (callbacks : List (Callback Finished)) (answer : Answer) (text a b c : List ℕ) → a ≡ text → b ≡ a ++ flat_map text_of (map (callback_said lines) callbacks) → c ≡ b ++ text_of answer
     → c ≡ text ++ flat_map text_of (map (callback_said lines) callbacks ++ answer ∷ [])
 told-text lines callbacks answer text a b c first middle last =
     let told = map (callback_said lines) callbacks in
@@ -131,7 +132,7 @@ tells-nothing k l called = record { calls = []; called = called; whole = refl }
 pub tells-go : (k l : Known (BoardEntry Ask)) (pipe pipe' : Pipe) → Changed k l pipe pipe' (Goes pipe.number ∷ []) [] → Tells k l []
 tells-go k l pipe pipe' changed = record { calls = Goes pipe.number ∷ []; called = changed.called; whole = refl }
 
-all-told : (lines : List ℕ) (callbacks : List (Callback Finished)) → filter is_told (map (callback_said lines) callbacks) ≡ map (callback_said lines) callbacks
+all-told : (lines : List Origin) (callbacks : List (Callback Finished)) → filter is_told (map (callback_said lines) callbacks) ≡ map (callback_said lines) callbacks
 all-told lines [] = refl
 all-told lines (callback.Started n ∷ xs) = ap (λ rest. callback_said lines (callback.Started n) ∷ rest) (all-told lines xs)
 all-told lines (callback.Done n (Bytes made) ∷ xs) = ap (λ rest. callback_said lines (callback.Done n (Bytes made)) ∷ rest) (all-told lines xs)

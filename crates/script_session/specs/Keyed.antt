@@ -8,6 +8,7 @@ use Rattle.transforms.specs.declared.request.Request.{Request}
 use Rattle.transforms.specs.Asked.{takes}
 use Rattle.transforms.specs.declared.tfm_err.TfmErr.{TfmErr}
 use Rattle.transforms.specs.declared.tfm_err.TfmErr.TheVariants.{Inval, Memory}
+use Rattle.reply_text.specs.declared.origin.Origin.{Origin}
 use Rattle.dialogues.specs.BoardCalls.{Asked}
 use Rattle.dialogues.specs.Walk.{Live, Pipe}
 
@@ -48,8 +49,8 @@ abbrev pub on_pipe : (Pipe → Pipe) → Live → Live
 on_pipe f live = record live { pipe = option_map f live.pipe }
 
 -- it accepted a request of this line
-abbrev pub with_line : Live → ℕ → Live
-with_line live line = on_pipe (λ pipe. record pipe { lines = pipe.lines ++ line ∷ [] }) live
+abbrev pub with_line : Live → Origin → Live
+with_line live of = on_pipe (λ pipe. record pipe { lines = pipe.lines ++ of ∷ [] }) live
 
 -- it is held, or let go
 abbrev pub held_as : Live → Bool → Live

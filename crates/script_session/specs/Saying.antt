@@ -28,10 +28,10 @@ use Rattle.script_session.specs.States.{State}
 
 -- ---- room
 
--- The text of a callback is no longer: a number of ten digits, a word of four to seven letters and an error's name of seven or two
--- digits a byte, with a blank between each two and a line feed.
+-- The text of a callback is no longer: a client and a line of ten digits each with a dot between them, a word of four to seven letters
+-- and an error's name of seven or two digits a byte, with a blank between each two and a line feed.
 abbrev pub callback_room : Callback Finished → ℕ
-callback_room callback = 24 + 2 * callback_length callback
+callback_room callback = 36 + 2 * callback_length callback
 
 -- a line that collects
 abbrev pub hands_out : Line → Bool
@@ -100,9 +100,9 @@ pub record SaysMoves (dialogue : Dialogue → Dialogue) (lives lives' : List Liv
 
 -- an answer that tells of a request after its own line
 abbrev pub is_told : Answer → Bool
-is_told (said.Started line) = true
-is_told (said.Done line made) = true
-is_told (said.Failed line errno) = true
+is_told (said.Started of) = true
+is_told (said.Done of made) = true
+is_told (said.Failed of errno) = true
 is_told other = false
 
 -- the answers that a call hands out

@@ -10,22 +10,22 @@ ghost use Rattle.script_session.specs.Saying.{callback_room};
 ghost use Rattle.script_session.specs.Telling.{callback_said};
 
 use kc_base::{Callback, Callbacks, Errno};
-use reply_text::{Answer, Reply};
+use reply_text::{Answer, Origin, Reply};
 use session_calls::Lines;
 use std::alloc::AllocError;
 use transforms::Finished;
 
-fn completed(line: u32, finished: Finished) -> Answer
-    ensures { result ≡ completion_said line finished }
+fn completed(of: Origin, finished: Finished) -> Answer
+    ensures { result ≡ completion_said of finished }
 {
     match finished {
-        Finished::Bytes(bytes) => Answer::Done { line, bytes },
+        Finished::Bytes(bytes) => Answer::Done { of, bytes },
         Finished::BadMsg => Answer::Failed {
-            line,
+            of,
             errno: Errno::EBADMSG,
         },
         Finished::Invalid => Answer::Failed {
-            line,
+            of,
             errno: Errno::EINVAL,
         },
     }
@@ -36,7 +36,7 @@ fn told(lines: &Lines, callback: Callback<Finished>) -> Answer
 {
     match callback {
         Callback::Started(number) => Answer::Started {
-            line: lines.at(number),
+            of: lines.at(number),
         },
         Callback::Done(number, finished) => completed(lines.at(number), finished),
     }
@@ -76,28 +76,28 @@ pub fn put_short(reply: &mut Reply, answer: Answer)
 }
 
 // The same of bytes, which aren't copied.
-fn put_bytes(reply: &mut Reply, line: u32, bytes: &[u8])
-    requires { 24 + 2 * length bytes.now ≤ reply.old.spare }
-    ensures text { reply.new.text ≡ reply.old.text ++ text_of (Answer.Done line bytes.now) }
-    ensures left { reply.old.spare ≤ reply.new.spare + (24 + 2 * length bytes.now) }
+fn put_bytes(reply: &mut Reply, of: Origin, bytes: &[u8])
+    requires { 36 + 2 * length bytes.now ≤ reply.old.spare }
+    ensures text { reply.new.text ≡ reply.old.text ++ text_of (Answer.Done of bytes.now) }
+    ensures left { reply.old.spare ≤ reply.new.spare + (36 + 2 * length bytes.now) }
 {
-    let _ = reply.put_done(line, bytes);
+    let _ = reply.put_done(of, bytes);
 }
 
-fn put_completed(reply: &mut Reply, line: u32, finished: &Finished)
-    requires { 24 + 2 * finished_length finished.now ≤ reply.old.spare }
-    ensures text { reply.new.text ≡ reply.old.text ++ text_of (completion_said line finished.now) }
-    ensures left { reply.old.spare ≤ reply.new.spare + (24 + 2 * finished_length finished.now) }
+fn put_completed(reply: &mut Reply, of: Origin, finished: &Finished)
+    requires { 36 + 2 * finished_length finished.now ≤ reply.old.spare }
+    ensures text { reply.new.text ≡ reply.old.text ++ text_of (completion_said of finished.now) }
+    ensures left { reply.old.spare ≤ reply.new.spare + (36 + 2 * finished_length finished.now) }
 {
     match finished {
-        Finished::Bytes(bytes) => put_bytes(reply, line, bytes.as_slice()),
+        Finished::Bytes(bytes) => put_bytes(reply, of, bytes.as_slice()),
         Finished::BadMsg => {
             let errno = Errno::EBADMSG;
-            put_short(reply, Answer::Failed { line, errno })
+            put_short(reply, Answer::Failed { of, errno })
         }
         Finished::Invalid => {
             let errno = Errno::EINVAL;
-            put_short(reply, Answer::Failed { line, errno })
+            put_short(reply, Answer::Failed { of, errno })
         }
     }
 }
@@ -109,8 +109,8 @@ fn put_callback(reply: &mut Reply, lines: &Lines, callback: &Callback<Finished>)
 {
     match callback {
         Callback::Started(number) => {
-            let line = lines.at(*number);
-            put_short(reply, Answer::Started { line })
+            let of = lines.at(*number);
+            put_short(reply, Answer::Started { of })
         }
         Callback::Done(number, finished) => put_completed(reply, lines.at(*number), finished),
     }

@@ -11,12 +11,11 @@ ghost use Rattle.script_session.specs.Creating.{Created, unasked};
 ghost use Rattle.board.specs.Legal.{IsNoWorker};
 ghost use Rattle.board.specs.Legal.{LegalBoard};
 ghost use Rattle.std.specs.Arc.{arc_value};
-ghost use Rattle.dialogues.specs.BoardCalls.{asked_by};
+ghost use Rattle.dialogues.specs.BoardCalls.{asked_by, origin_of};
 ghost use Rattle.board.specs.Allowance.{IsAllowed};
 ghost use Rattle.transforms.specs.AskValue.{ask_size};
 ghost use Rattle.dialogues.specs.Requesting.{requests_in};
 ghost use Rattle.session_calls.specs.Passes.{known, lock_of, CallsBoard};
-ghost use Rattle.session_calls.specs.Pipelines.{line_of};
 ghost use Rattle.script_session.specs.States.{HasPipe};
 ghost use Rattle.script_session.specs.Changing.{HoldsFor, Released, asks_if, owes};
 
@@ -26,7 +25,7 @@ use crate::transform::Transform;
 use alg_registry::{Spec, Wrap};
 use board::{BoardErr, Entered, only_collects_hand_out};
 use kc_base::Errno;
-use reply_text::Answer;
+use reply_text::{Answer, Origin};
 use session_calls::{BoardCaller, Lines, Pipe, Stop};
 use shared_board::SharedBoard;
 use std::alloc::Global;
@@ -63,12 +62,12 @@ fn offer<R: Wait>(
     }
 }
 
-/// Does a job of a line: at once, or in its transform's pipeline. It says whether a pipeline accepted it.
+/// Does a job of a line of the script: at once, or in its transform's pipeline. It says whether a pipeline accepted it.
 pub fn take_job<R: Wait>(
     rt: &R,
     board: &SharedBoard<Job>,
     caller: &mut BoardCaller,
-    line: u32,
+    of: Origin,
     live: &mut Transform,
     job: Job,
     backlog: bool,
@@ -77,39 +76,39 @@ pub fn take_job<R: Wait>(
     requires at { CallsBoard board.now caller.old }
     requires legal { LegalBoard (known caller.old).seen }
     requires pipe { HasPipe (known caller.old) live.old.pipe }
-    requires line { line_of (arc_value job.ask) ≡ line }
+    requires line { origin_of (arc_value job.ask) ≡ of }
     ensures named { live.new.label ≡ live.old.label }
     ensures lock { lock_of caller.new ≡ lock_of caller.old }
     ensures held { MatchResult result
-        (λ accepted. HoldsFor (λ walk. requests_in walk line live.old (asked_by (arc_value job.ask)) backlog live.old.pipe) live.old live.new (known caller.old) (known caller.new) (asks_if accepted (arc_value job.ask)) answers.old.items answers.new.items)
+        (λ accepted. HoldsFor (λ walk. requests_in walk of.line live.old (asked_by (arc_value job.ask)) backlog live.old.pipe) live.old live.new (known caller.old) (known caller.new) (asks_if accepted (arc_value job.ask)) answers.old.items answers.new.items)
         (λ _. SeesOn (known caller.old) (known caller.new)) }
     ensures allowed { IfOk result (λ accepted. IsTrue accepted → IsAllowed ask_size (known caller.old).seen (known caller.old).number (arc_value job.ask)) }
 {
     let Some(pipe) = live.pipe() else {
-        say(answers, value_answer(line, job.run()))?;
+        say(answers, value_answer(of.line, job.run()))?;
         return Ok(false);
     };
     if pipe.unmanned {
-        refuse(answers, line, Errno::EINVAL)?;
+        refuse(answers, of.line, Errno::EINVAL)?;
         return Ok(false);
     }
     match offer(rt, board, caller, pipe, job, backlog) {
         Ok(Entered::InProgress(_)) => {
-            refuse(answers, line, Errno::EINPROGRESS)?;
-            live.accept(line)?;
+            refuse(answers, of.line, Errno::EINPROGRESS)?;
+            live.accept(of)?;
             Ok(true)
         }
         Ok(Entered::Busy(_)) => {
-            refuse(answers, line, Errno::EBUSY)?;
-            live.accept(line)?;
+            refuse(answers, of.line, Errno::EBUSY)?;
+            live.accept(of)?;
             Ok(true)
         }
         Ok(Entered::NoSpace) => {
-            refuse(answers, line, Errno::ENOSPC)?;
+            refuse(answers, of.line, Errno::ENOSPC)?;
             Ok(false)
         }
         Err(BoardErr::TooBig) => {
-            refuse(answers, line, Errno::E2BIG)?;
+            refuse(answers, of.line, Errno::E2BIG)?;
             Ok(false)
         }
         Err(BoardErr::Memory) => Err(Stop::Memory),

@@ -13,7 +13,7 @@ use crate::scripts::Session;
 use aes_block::{Aes, BlockCipher};
 use board::Work;
 use kc_base::{Bytes, Errno};
-use reply_text::Answer;
+use reply_text::{Answer, Origin};
 use session_calls::Stop;
 use sg_walk::Segs;
 use shared_board::SharedBoard;
@@ -124,17 +124,12 @@ impl Session {
             Err(TfmErr::Memory) => return Err(Stop::Memory),
         };
         let size = job.size();
+        let of = Origin {
+            client: self.client,
+            line: number,
+        };
         let live = self.lives.transforms.get_mut(&place).unwrap();
-        let accepted = take_job(
-            rt,
-            board,
-            &mut self.board,
-            number,
-            live,
-            job,
-            backlog,
-            answers,
-        )?;
+        let accepted = take_job(rt, board, &mut self.board, of, live, job, backlog, answers)?;
         self.count(accepted, size);
         Ok(())
     }

@@ -45,6 +45,7 @@ pub struct Session {
 }
 
 impl Model for Session {
+    ghost use Rattle.std.specs.Prelude.{[]};
     ghost use Rattle.script_session.specs.Filed.{AreFiled, lives_of};
     ghost use Rattle.script_session.specs.States.{State};
 
@@ -52,7 +53,7 @@ impl Model for Session {
 
     ghost view = { λ s. record {
       workers = s.workers;
-      walk = record { client = s.client; lives = lives_of s.lives; requests = s.requests; bytes = s.bytes };
+      walk = record { client = s.client; shared = []; lives = lives_of s.lives; requests = s.requests; bytes = s.bytes };
       registry = s.registry;
       board = s.board;
     } };

@@ -9,6 +9,7 @@ ghost use Rattle.dialogues.specs.BoardCalls.{asked_by};
 ghost use Rattle.script_session.specs.Keyed.{with_line, held_as, manned_as, delivering, MayDeliver, IsJob, IsNoJob};
 
 use kc_base::{Bytes, Errno};
+use reply_text::Origin;
 use session_calls::Pipe;
 use std::alloc::{AllocError, Global};
 use std::marker::Model;
@@ -125,12 +126,12 @@ impl Transform {
     }
 
     /// Its pipeline accepted a request of this line. Want of memory leaves all as it was.
-    pub fn accept(&mut self, line: u32) -> Result<(), AllocError>
-        ensures ok { OnOk result (self.new ≡ with_line self.old line) }
+    pub fn accept(&mut self, of: Origin) -> Result<(), AllocError>
+        ensures ok { OnOk result (self.new ≡ with_line self.old of) }
         ensures err { OnErr result (self.new ≡ self.old) }
     {
         if let Some(pipe) = &mut self.pipe {
-            pipe.lines.push(line)?;
+            pipe.lines.push(of)?;
         }
         Ok(())
     }

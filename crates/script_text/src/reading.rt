@@ -43,7 +43,7 @@ fn read_parts(alloc: Global, tokens: &[&[u8]]) -> Result<Line, AllocError>
 }
 
 // What stands before the line feed, and before a carriage return there.
-fn text_before_feed(line: &[u8]) -> &[u8]
+pub(crate) fn text_before_feed(line: &[u8]) -> &[u8]
     ensures { result.now ≡ without_return line.now }
 {
     match line {

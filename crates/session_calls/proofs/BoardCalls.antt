@@ -34,10 +34,11 @@ use Rattle.turn_lock.specs.Meeting.{AtTurn, Enters, Leaves, IsOwn}
 use Rattle.turn_lock.specs.Going.{still_kept, own_entered}
 use Rattle.crew.specs.Working.{Worked, Drained as CrewDrained}
 use Rattle.dialogues.specs.RegistryCalls.{if_own}
-use Rattle.dialogues.specs.BoardCalls.{BoardCall, Creates, Submits, Enqueues, Holds, Goes, Collects, Closes, Masks, Shuts, Started, Completed, asked_by, outcome, board_calls, notice_of, line_in, collected_to}
+use Rattle.reply_text.specs.declared.origin.Origin.{Origin}
+use Rattle.dialogues.specs.BoardCalls.{BoardCall, Creates, Submits, Enqueues, Holds, Goes, Collects, Closes, Masks, Shuts, Started, Completed, asked_by, outcome, board_calls, notice_of, origin_in, origin_of, collected_to}
 use Rattle.dialogues.specs.Walk.{Pipe}
 use Rattle.session_calls.specs.Bounds.{AreWithin}
-use Rattle.session_calls.specs.Pipelines.{Laws, IsPipeIn, line_of, line_at, made_so, KnowsPipe, Kept, Changed, Closed, IsPad, IsQueue, entered_pipe, entered_asks, with_ask, notice_by, IsShut, Owns, Drained, Polled, Opened}
+use Rattle.session_calls.specs.Pipelines.{Laws, IsPipeIn, origin_at, made_so, KnowsPipe, Kept, Changed, Closed, IsPad, IsQueue, entered_pipe, entered_asks, with_ask, notice_by, IsShut, Owns, Drained, Polled, Opened}
 use Rattle.session_calls.proofs.HandedOut.{hands-within}
 use Rattle.dialogues.specs.Allocating.{new_pipe}
 use Rattle.board.specs.declared.entry.Entered.{Entered}
@@ -167,23 +168,23 @@ enqueue-changed laws k l pipe asked backlog V (Ok answer) on turn = by_answer an
 
 -- ---- what is told, by the lines of the requests
 
-line-of-some : (o : Option Ask) → line_in o ≡ unwrap_or (option_map line_of o) 0
-line-of-some (Some ask) = refl
-line-of-some None = refl
+origin-of-some : (o : Option Ask) → origin_in o ≡ unwrap_or (option_map origin_of o) (record { client = 0; line = 0 })
+origin-of-some (Some ask) = refl
+origin-of-some None = refl
 
-get-map : (asks : List Ask) (n : ℕ) → option_map line_of (slice_get asks n) ≡ slice_get (map line_of asks) n
+get-map : (asks : List Ask) (n : ℕ) → option_map origin_of (slice_get asks n) ≡ slice_get (map origin_of asks) n
 get-map [] n = refl
 get-map (x ∷ xs) zero = refl
 get-map (x ∷ xs) (suc n) = get-map xs n
 
-line-is : (asks : List Ask) (n : ℕ) → line_in (slice_get asks n) ≡ line_at (map line_of asks) n
-line-is asks n = line-of-some (slice_get asks n) ∙ ap (λ o. unwrap_or o 0) (get-map asks n)
+origin-is : (asks : List Ask) (n : ℕ) → origin_in (slice_get asks n) ≡ origin_at (map origin_of asks) n
+origin-is asks n = origin-of-some (slice_get asks n) ∙ ap (λ o. unwrap_or o (record { client = 0; line = 0 })) (get-map asks n)
 
-notice-is : (asks : List Ask) (told : Callback Finished) → notice_of asks told ≡ notice_by (map line_of asks) told
-notice-is asks (callback.Started n) = ap Started (line-is asks n)
-notice-is asks (callback.Done n finished) = ap (λ line. Completed line finished) (line-is asks n)
+notice-is : (asks : List Ask) (told : Callback Finished) → notice_of asks told ≡ notice_by (map origin_of asks) told
+notice-is asks (callback.Started n) = ap Started (origin-is asks n)
+notice-is asks (callback.Done n finished) = ap (λ line. Completed line finished) (origin-is asks n)
 
-pub notices-are : (asks : List Ask) (lines : List ℕ) (callbacks : List (Callback Finished)) → map line_of asks ≡ lines → map (notice_of asks) callbacks ≡ map (notice_by lines) callbacks
+pub notices-are : (asks : List Ask) (lines : List Origin) (callbacks : List (Callback Finished)) → map origin_of asks ≡ lines → map (notice_of asks) callbacks ≡ map (notice_by lines) callbacks
 notices-are asks lines [] e = refl
 notices-are asks lines (x ∷ xs) e =
     ap (λ first. first ∷ map (notice_of asks) xs) (notice-is asks x ∙ ap (λ ls. notice_by ls x) e) ∙ ap (λ rest. notice_by lines x ∷ rest) (notices-are asks lines xs e)
@@ -224,7 +225,7 @@ drained-all laws k pipe h on meets all legal =
     sym now.delivered
     ∙ (ap length (laws.steps.all h p k.number to legal (laws.steps.finished (entries_of p h) all))
     ∙ (length-numbers (length (submissions (entries_of p h)))
-    ∙ (sym (length-map (submissions (entries_of p h)) line_of) ∙ ap length here.lines)))
+    ∙ (sym (length-map (submissions (entries_of p h)) origin_of) ∙ ap length here.lines)))
 
 -- ---- `close`
 
@@ -232,7 +233,7 @@ pub all-drained : Laws → (k : Known (BoardEntry Ask)) (pipe : Pipe) → LegalB
 all-drained laws k pipe legal on paid =
     let es = entries_of pipe.number k.seen in
     laws.steps.drained k.seen pipe.number legal
-    (on.delivered ∙ (paid ∙ (ap length (sym on.lines) ∙ length-map (submissions es) line_of)))
+    (on.delivered ∙ (paid ∙ (ap length (sym on.lines) ∙ length-map (submissions es) origin_of)))
 
 or-true : (b : Bool) → (b || true) ≡ true
 or-true true = refl
@@ -354,7 +355,7 @@ knows-within : Laws → (n : ℕ) (h : List (BoardEntry Ask)) (pipe : Pipe) (to 
     → AreWithin (length pipe.lines) (accepted_by n h) (delivered outcome (entries_of pipe.number h) to)
 knows-within laws n h pipe to legal on =
     let asks = submissions (entries_of pipe.number h) in
-    subst (λ many. AreWithin many (accepted_by n h) (delivered outcome (entries_of pipe.number h) to)) (sym (length-map asks line_of) ∙ ap length on.lines)
+    subst (λ many. AreWithin many (accepted_by n h) (delivered outcome (entries_of pipe.number h) to)) (sym (length-map asks origin_of) ∙ ap length on.lines)
     (hands-within laws n h pipe.number to legal on.managed.1 on.unshared)
 
 -- ---- `poll`

@@ -20,9 +20,9 @@ use Rattle.turn_lock.specs.Turns.{Known, StartsWith, sees, adds, of}
 use Rattle.turn_lock.specs.Meeting.{Meets, GoesOn, Enters, Leaves}
 use Rattle.turn_lock.specs.Going.{goes_left, goes_entered}
 use Rattle.dialogues.specs.RegistryCalls.{prepend}
-use Rattle.dialogues.specs.BoardCalls.{BoardCall, outcome, is_called, board_call_of, board_calls}
+use Rattle.dialogues.specs.BoardCalls.{BoardCall, origin_of, outcome, is_called, board_call_of, board_calls}
 use Rattle.dialogues.specs.Walk.{Pipe}
-use Rattle.session_calls.specs.Pipelines.{Laws, IsPad, IsPipeIn, Called, line_of, made_so, KnowsPipe, Kept, Changed}
+use Rattle.session_calls.specs.Pipelines.{Laws, IsPad, IsPipeIn, Called, made_so, KnowsPipe, Kept, Changed}
 
 -- ---- calls
 
@@ -189,7 +189,7 @@ goes-kept laws k l own goes works legal =
             masked = λ pad. ap (λ m. m == 0) known.masked ∙ on.masked pad;
             held = known.held ∙ on.held;
             queue = on.queue;
-            lines = ap (map line_of) (known.accepted on.unshared) ∙ on.lines;
+            lines = ap (map origin_of) (known.accepted on.unshared) ∙ on.lines;
             delivered = ap (λ x. length (completed x)) known.handed ∙ on.delivered;
           } in
           subst (λ n. IsPipeIn n (entries_of pipe.number l.seen) pipe) (sym goes.number) (subst (λ g. IsPipeIn k.number (entries_of pipe.number g) pipe) (sym goes.seen) now);
@@ -321,8 +321,8 @@ module _ (laws : Laws) (n : ℕ) (h : List (BoardEntry Ask)) (e : BoardEntry Ask
   pub delivered-more : is_collect e ≡ false → length (completed (handed_out later)) ≡ pipe.delivered
   delivered-more hands = ap (λ ns. length (completed ns)) (laws.steps.nothing h e p hands) ∙ on.delivered
 
-  pub lines-more : accepted_in e ≡ None → map line_of (submissions later) ≡ pipe.lines
-  lines-more none = ap (map line_of) (asks-same laws h e p none) ∙ on.lines
+  pub lines-more : accepted_in e ≡ None → map origin_of (submissions later) ≡ pipe.lines
+  lines-more none = ap (map origin_of) (asks-same laws h e p none) ∙ on.lines
 
   -- it accepts nothing, hands nothing out, and holds nothing
   pub pipe-stays : IsMaskless e → accepted_in e ≡ None → is_collect e ≡ false → held_in e ≡ None → IsPipeIn n later pipe
@@ -339,7 +339,7 @@ module _ (laws : Laws) (n : ℕ) (h : List (BoardEntry Ask)) (e : BoardEntry Ask
       }
 
   -- it accepts a request
-  pub pipe-accepts : IsMaskless e → (ask : Ask) → is_of p e ≡ true → accepted_in e ≡ Some ask → is_collect e ≡ false → held_in e ≡ None → IsPipeIn n later (record pipe { lines = pipe.lines ++ line_of ask ∷ [] })
+  pub pipe-accepts : IsMaskless e → (ask : Ask) → is_of p e ≡ true → accepted_in e ≡ Some ask → is_collect e ≡ false → held_in e ≡ None → IsPipeIn n later (record pipe { lines = pipe.lines ++ origin_of ask ∷ [] })
   pipe-accepts maskless ask of some hands holds =
       record {
         opened = opened-more;
@@ -349,9 +349,9 @@ module _ (laws : Laws) (n : ℕ) (h : List (BoardEntry Ask)) (e : BoardEntry Ask
         held = laws.steps.held h e p holds ∙ on.held;
         queue = on.queue;
         lines =
-            ap (λ es. map line_of (submissions es)) (laws.steps.joins h e p of)
-            ∙ (ap (map line_of) (filter_map-append accepted_in (entries_of p h) (e ∷ []) ∙ ap (λ o. submissions (entries_of p h) ++ cons_option o []) some)
-            ∙ (map-append line_of (submissions (entries_of p h)) (ask ∷ []) ∙ ap (λ ls. ls ++ line_of ask ∷ []) on.lines));
+            ap (λ es. map origin_of (submissions es)) (laws.steps.joins h e p of)
+            ∙ (ap (map origin_of) (filter_map-append accepted_in (entries_of p h) (e ∷ []) ∙ ap (λ o. submissions (entries_of p h) ++ cons_option o []) some)
+            ∙ (map-append origin_of (submissions (entries_of p h)) (ask ∷ []) ∙ ap (λ ls. ls ++ origin_of ask ∷ []) on.lines));
         delivered = delivered-more hands;
       }
 

@@ -15,6 +15,7 @@ use Rattle.board.specs.Legal.{IsOpenAs, MayManage, LegalBoard, is_shut}
 use Rattle.board.specs.Order.{handed_out, completed, HandsOutAll, FrontIsAll, KeepsOrder}
 use Rattle.board.specs.Shapes.{is_pad, has_line}
 use Rattle.board.specs.Staying.{Joins, LeavesOthers, BeginsAlone, StaysOpen, StaysManaged, Holds as IsHeldSo, StaysHeld, Masks as IsMaskedSo, StaysMasked}
+use Rattle.reply_text.specs.declared.origin.Origin.{Origin}
 use Rattle.transforms.specs.AskValue.{ask_size}
 use Rattle.transforms.specs.Finish.{finished_length}
 use Rattle.transforms.specs.declared.ask.Ask.{Ask}
@@ -23,7 +24,7 @@ use Rattle.turn_lock.specs.Turns.{Known, StartsWith, sees}
 use Rattle.turn_lock.specs.Meeting.{IsOwn}
 use Rattle.board.specs.Others.{WorkLeavesKnown, WorkLeavesOwn}
 use Rattle.dialogues.specs.Allocating.{new_pipe}
-use Rattle.dialogues.specs.BoardCalls.{BoardCall, Creates, Collects, Closes, Shuts, Notice, Started, Completed, board_calls, outcome}
+use Rattle.dialogues.specs.BoardCalls.{BoardCall, Creates, Collects, Closes, Shuts, Notice, Started, Completed, board_calls, origin_of, outcome}
 use Rattle.dialogues.specs.GoingOn.{BoardCallsGoOn, BoardUncalled}
 use Rattle.dialogues.specs.Walk.{Pipe}
 
@@ -62,9 +63,6 @@ pub record Laws : Type 0 where
 
 -- ---- one pipeline
 
-abbrev pub line_of : Ask → ℕ
-line_of ask = ask.line
-
 abbrev pub IsPad : Option ℕ → Type 0
 IsPad None = ⊤
 IsPad (Some max) = ⊥
@@ -87,7 +85,7 @@ pub record IsPipeIn (caller : ℕ) (es : List (BoardEntry Ask)) (pipe : Pipe) : 
   pub masked : IsPad pipe.bound → (mask es == 0) ≡ pipe.unmanned
   pub held : is_held es ≡ pipe.held
   pub queue : pipe.held ≡ true → IsQueue pipe.bound
-  pub lines : map line_of (submissions es) ≡ pipe.lines
+  pub lines : map origin_of (submissions es) ≡ pipe.lines
   pub delivered : length (completed (handed_out es)) ≡ pipe.delivered
 
 abbrev pub KnowsPipe : Known (BoardEntry Ask) → Pipe → Type 0
@@ -154,7 +152,7 @@ pub record Opened (k l : Known (BoardEntry Ask)) (number : ℕ) (shape : Shape) 
 
 -- the pipeline has accepted the ask
 abbrev pub with_ask : Pipe → Ask → Pipe
-with_ask pipe ask = record pipe { lines = pipe.lines ++ line_of ask ∷ [] }
+with_ask pipe ask = record pipe { lines = pipe.lines ++ origin_of ask ∷ [] }
 
 -- a queue gave this answer
 abbrev pub entered_pipe : Pipe → Ask → Entered → Pipe
@@ -167,14 +165,14 @@ entered_asks ask (InProgress number) = ask ∷ []
 entered_asks ask (Busy number) = ask ∷ []
 entered_asks ask NoSpace = []
 
--- the line of the request of this number
-abbrev pub line_at : List ℕ → ℕ → ℕ
-line_at lines number = unwrap_or (slice_get lines number) 0
+-- from which line of which client's script the request of this number is
+abbrev pub origin_at : List Origin → ℕ → Origin
+origin_at lines number = unwrap_or (slice_get lines number) (record { client = 0; line = 0 })
 
 -- what a callback tells, by the lines of the requests
-abbrev pub notice_by : List ℕ → Callback Finished → Notice
-notice_by lines (callback.Started number) = Started (line_at lines number)
-notice_by lines (callback.Done number finished) = Completed (line_at lines number) finished
+abbrev pub notice_by : List Origin → Callback Finished → Notice
+notice_by lines (callback.Started number) = Started (origin_at lines number)
+notice_by lines (callback.Done number finished) = Completed (origin_at lines number) finished
 
 -- the pipeline was drained: it handed these callbacks out
 abbrev pub Drained : Known (BoardEntry Ask) → Known (BoardEntry Ask) → Pipe → List (Callback Finished) → Type 0

@@ -1,21 +1,23 @@
 //! The pipelines of a script, as it knows them.
 
 ghost use Rattle.std.specs.Prelude.{◌≡◌, ◌++◌, ◌∷◌, [], length, OnOk, OnErr};
-ghost use Rattle.session_calls.specs.Pipelines.{line_at};
+ghost use Rattle.session_calls.specs.Pipelines.{origin_at};
 
+use reply_text::Origin;
 use std::alloc::{AllocError, Global};
 use std::marker::Model;
 
-/// The lines of the requests that a pipeline accepted, by the requests' numbers. Contracts see them as a list of numbers.
+/// From which line of which client's script each request is that a pipeline accepted, by the requests' numbers.
 #[derive(Drop)]
 pub struct Lines {
-    inner: Vec<u32>,
+    inner: Vec<Origin>,
 }
 
 impl Model for Lines {
-    ghost use Rattle.std.specs.Prelude.{List, ℕ};
+    ghost use Rattle.std.specs.Prelude.{List};
+    ghost use Rattle.reply_text.specs.declared.origin.Origin.{Origin};
 
-    ghost Value = { List ℕ };
+    ghost Value = { List Origin };
 
     ghost view = { λ lines. lines.inner.items };
 }
@@ -31,7 +33,7 @@ impl Lines {
     }
 
     /// Adds the line of the next request. Want of memory leaves the lines as they were.
-    pub fn push(&mut self, line: u32) -> Result<(), AllocError>
+    pub fn push(&mut self, line: Origin) -> Result<(), AllocError>
         ensures ok { OnOk result (self.new ≡ self.old ++ line ∷ []) }
         ensures err { OnErr result (self.new ≡ self.old) }
     {
@@ -39,13 +41,13 @@ impl Lines {
         Ok(())
     }
 
-    /// The line of a request, and 0 where no request has the number.
-    pub fn at(&self, number: u64) -> u32
-        ensures { result ≡ line_at self.now number }
+    /// The line of a request, and line 0 of client 0 where no request has the number.
+    pub fn at(&self, number: u64) -> Origin
+        ensures { result ≡ origin_at self.now number }
     {
         match self.inner.get(number as usize) {
             Some(line) => *line,
-            None => 0,
+            None => Origin { client: 0, line: 0 },
         }
     }
 

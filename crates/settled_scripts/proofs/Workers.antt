@@ -20,11 +20,11 @@ use Rattle.reply_text.specs.declared.answers.Answer.TheVariants as said
 use Rattle.dialogues.specs.Names.{name_read, is_queue_length, plan_for}
 use Rattle.dialogues.specs.RegistryCalls.{Looks, Gets}
 use Rattle.dialogues.specs.Allocating.{lists_beside, binds, binds_plan, creates, is_chained, shape_for, new_live, and_live, fault_of}
-use Rattle.dialogues.specs.Dialogues.{Dialogue, Asks, unless, refuses, says, for_live}
+use Rattle.dialogues.specs.Dialogues.{Dialogue, Asks, unless, refuses, says, for_live, missing}
 use Rattle.dialogues.specs.Piping.{kept_bits, if_pad, with_pad, masks}
 use Rattle.dialogues.specs.Questions.{Look}
 use Rattle.dialogues.specs.Lines.{command_dialogue, line_dialogue}
-use Rattle.dialogues.specs.Walk.{Walk, Live, Pipe, live_of, with_pipe}
+use Rattle.dialogues.specs.Walk.{Walk, Live, Pipe, live_of, shared_of, either, with_pipe}
 use Rattle.plain_calls.specs.Registry.{PlainRegistry, look_found, look_up, registry_after}
 use Rattle.plain_calls.specs.Pipelines.{Pipeline}
 use Rattle.settled_scripts.specs.Settled.{is_settled_line, pass}
@@ -94,19 +94,19 @@ mask_same workers walk n bits live (Some pipe) registry pipelines same = by pipe
     by None = ap (λ c. pass (says (with_pipe walk live (record pipe { unmanned = c })) (said.Ok n)) registry pipelines) same
     by (Some max) = refl
 
-label_mask_same : (workers : ℕ) (walk : Walk) (n bits : ℕ) (o : Option Live) (registry : PlainRegistry) (pipelines : List Pipeline) → (kept_bits workers bits == 0) ≡ (kept_bits 0 bits == 0)
-    → pass (for_live walk n o (λ live. with_pad walk n live.pipe (masks workers walk n bits live))) registry pipelines ≡ pass (for_live walk n o (λ live. with_pad walk n live.pipe (masks 0 walk n bits live))) registry pipelines
-label_mask_same workers walk n bits None registry pipelines same = refl
-label_mask_same workers walk n bits (Some live) registry pipelines same = mask_same workers walk n bits live live.pipe registry pipelines same
+label_mask_same : (workers : ℕ) (walk : Walk) (n bits : ℕ) (o : Option Live) (errno : Errno) (registry : PlainRegistry) (pipelines : List Pipeline) → (kept_bits workers bits == 0) ≡ (kept_bits 0 bits == 0)
+    → pass (for_live walk n o errno (λ live. with_pad walk n live.pipe (masks workers walk n bits live))) registry pipelines ≡ pass (for_live walk n o errno (λ live. with_pad walk n live.pipe (masks 0 walk n bits live))) registry pipelines
+label_mask_same workers walk n bits None errno registry pipelines same = refl
+label_mask_same workers walk n bits (Some live) errno registry pipelines same = mask_same workers walk n bits live live.pipe registry pipelines same
 
 command_same : (workers : ℕ) (walk : Walk) (n : ℕ) (c : Command) → is_settled_line (line.Cmd c) ≡ true → (registry : PlainRegistry) (pipelines : List Pipeline) → pass (command_dialogue workers walk n c) registry pipelines ≡ pass (command_dialogue 0 walk n c) registry pipelines
 command_same workers walk n (command.Mask label bits) settled registry pipelines =
-    label_mask_same workers walk n bits (live_of walk label) registry pipelines (kept_same workers bits settled)
+    label_mask_same workers walk n bits (live_of walk label) (missing (shared_of walk label)) registry pipelines (kept_same workers bits settled)
 command_same workers walk n (command.Alloc label name len) settled registry pipelines =
     let found : Found = look_found (look_up registry name) in
     let asks : ℕ → Dialogue = λ beside. Asks (Look name) λ found. binds beside walk n label len found in
     unless_same walk n
-    ((is_some (live_of walk label), EEXIST) ∷ (nat_le 4096 (length walk.lives), EMFILE) ∷ fault_of (name_read name) ++ (not (is_queue_length len), EINVAL) ∷ [])
+    ((is_some (either (live_of walk label) (shared_of walk label)), EEXIST) ∷ (nat_le 4096 (length walk.lives), EMFILE) ∷ fault_of (name_read name) ++ (not (is_queue_length len), EINVAL) ∷ [])
     (asks workers) (asks 0) registry pipelines
     (binds_same workers walk n label len found (registry_after registry (Looks name (Some found))) pipelines)
 command_same workers walk n c settled registry pipelines = refl

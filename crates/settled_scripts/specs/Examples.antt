@@ -107,8 +107,8 @@ pub data Kind : Type 0 where
   Other : Kind
 
 abbrev pub kind_of : Answer → Kind
-kind_of (said.Started line) = Started line
-kind_of (said.Done line bytes) = Done line
+kind_of (said.Started of) = Started of.line
+kind_of (said.Done of bytes) = Done of.line
 kind_of (said.Drained line count) = Drained line count
 kind_of (said.Refused line errno) = Refused line errno
 kind_of answer = Other

@@ -8,6 +8,8 @@ mod checked_traces;
 #[cfg(test)]
 mod digits;
 #[cfg(test)]
+mod parts;
+#[cfg(test)]
 mod replies;
 #[cfg(test)]
 mod script_lines;

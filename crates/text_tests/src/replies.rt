@@ -1,7 +1,7 @@
 //! Answers with the greatest numbers, and their text.
 
 use kc_base::Errno;
-use reply_text::{Answer, Reply};
+use reply_text::{Answer, Origin, Reply};
 use std::alloc::Global;
 use std::process::Abort;
 
@@ -15,7 +15,7 @@ pub(crate) fn is_put(rt: &impl Abort, alloc: Global, answer: &Answer, line: &str
 /// The lines of the answers below.
 const PLAIN: &str = "\
 4294967295 ENAMETOOLONG
-4294967295 started
+4294967295.4294967295 started
 1 drained 18446744073709551615
 5 refs 18446744073709551615 unlisted
 ";
@@ -27,7 +27,12 @@ fn plain_answer(place: usize) -> Answer {
             line: u32::MAX,
             errno: Errno::ENAMETOOLONG,
         },
-        1 => Answer::Started { line: u32::MAX },
+        1 => Answer::Started {
+            of: Origin {
+                client: u32::MAX,
+                line: u32::MAX,
+            },
+        },
         2 => Answer::Drained {
             line: 1,
             count: u64::MAX,
@@ -48,4 +53,12 @@ fn answers_of_great_numbers_have_their_text(rt: HostRuntime) {
             "{line}"
         );
     }
+}
+
+#[test]
+fn texts_stand_under_their_headings(rt: HostRuntime) {
+    let mut reply = Reply::new(rt.alloc());
+    reply.put_heading(8).expect(&rt, "memory");
+    reply.put_text(b"1 ok\n").expect(&rt, "memory");
+    assert!(rt; reply.as_slice() == b"client 8\n1 ok\n".as_slice());
 }

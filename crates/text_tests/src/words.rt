@@ -19,6 +19,9 @@ fn words_of(rt: &impl Abort, alloc: Global, line: &str) -> Vec<String> {
 fn asked(rt: &impl Abort, alloc: Global, words: &[String]) -> String {
     let asked = match parse_words(alloc, words) {
         Ok(Mode::Script(it)) => format!(in alloc; "script {} {}", it.workers, it.trace),
+        Ok(Mode::Clients(it)) => {
+            format!(in alloc; "clients {} {} {}", it.clients, it.workers, it.trace)
+        }
         Ok(Mode::Load(it)) => format!(in alloc; "load {} {} {}", it.workers, it.seed, it.count),
         Err(error) => format!(in alloc; "{error:?}"),
     };
@@ -34,8 +37,8 @@ fn no_words_ask_for_a_script(rt: HostRuntime) {
     assert!(rt; parse_words(rt.alloc(), &[]) == Ok(Mode::Script(options)));
 }
 
-/// In a row stand words, and what they ask for: a script beside so many workers, and whether its trace; a load beside so many, its seed
-/// and its count; or the error.
+/// In a row stand words, and what they ask for: a script beside so many workers, and whether its trace; so many clients beside so many
+/// workers, and whether their trace; a load beside so many, its seed and its count; or the error.
 const ROWS: &str = "\
 --|script 4 false
 --workers 0|script 0 false
@@ -51,7 +54,10 @@ help|Syntax
 --help|Syntax
 -h|Syntax
 --version|Syntax
---clients 2|Syntax
+--clients 1|clients 1 4 false
+--trace --clients=8 --workers 0|clients 8 0 true
+--clients|Syntax
+--clients 2 --clients 2|Syntax
 --work 4|Syntax
 --Workers 4|Syntax
 -workers 4|Syntax
@@ -65,10 +71,16 @@ help|Syntax
 --trace |Syntax
 -- --trace|Syntax
 --count 5|CountWithoutLoad
+--clients 2 --count 5|CountWithoutLoad
 --workers 17 --count x|CountWithoutLoad
 --load 7 --trace|LoadWithTrace
 --trace --count 5 --load x|LoadWithTrace
+--clients 2 --load 1|LoadWithClients
+--load 1 --count 5 --clients x|LoadWithClients
 --workers 17|InvalidNumber
+--clients 0|InvalidNumber
+--clients 9|InvalidNumber
+--clients 02|InvalidNumber
 --workers 04|InvalidNumber
 --workers 00|InvalidNumber
 --workers +4|InvalidNumber

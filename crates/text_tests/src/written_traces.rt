@@ -2,19 +2,20 @@
 
 use alg_registry::Registry;
 use board::{BoardEntry, BoardLog, Entered, Shape};
+use reply_text::Origin;
 use std::alloc::Global;
 use std::process::Abort;
 use std::sync::Arc;
 use trace_text::{Lined, board_line, write_trace};
 
-/// An ask that is nothing but its line.
+/// An ask that is nothing but its line and its client.
 #[derive(Drop)]
-struct Line(u32);
+struct Line(Origin);
 
 impl Lined for Line {
-    ghost line = { λ ask. ask.0 };
+    ghost origin = { λ ask. ask.0 };
 
-    fn line(&self) -> u32 {
+    fn origin(&self) -> Origin {
         self.0
     }
 }
@@ -23,15 +24,15 @@ impl Lined for Line {
 const LINES: &str = "\
 b 0 born 0 queue 2
 b 0 enq 0 6 backlog EBUSY 2
-b 0 enq 0 7 plain ENOSPC
+b 0 enq 0 8.7 plain ENOSPC
 b 16 deq 0 0 started 2
 b 0 born 1 chain 2 16
 b 0 mask 2 1a0f
 b 0 shut
 ";
 
-fn asked(rt: &impl Abort, alloc: Global, line: u32) -> Arc<Line, Global> {
-    Arc::new(alloc, Line(line)).expect(rt, "memory")
+fn asked(rt: &impl Abort, alloc: Global, client: u32, line: u32) -> Arc<Line, Global> {
+    Arc::new(alloc, Line(Origin { client, line })).expect(rt, "memory")
 }
 
 /// One entry, by its place among those lines.
@@ -45,14 +46,14 @@ fn entry_at(rt: &impl Abort, alloc: Global, place: usize) -> BoardEntry<Line> {
         1 => BoardEntry::Enq {
             caller: 0,
             pipe: 0,
-            ask: asked(rt, alloc, 6),
+            ask: asked(rt, alloc, 0, 6),
             backlog: true,
             answer: Entered::Busy(2),
         },
         2 => BoardEntry::Enq {
             caller: 0,
             pipe: 0,
-            ask: asked(rt, alloc, 7),
+            ask: asked(rt, alloc, 8, 7),
             backlog: false,
             answer: Entered::NoSpace,
         },

@@ -8,9 +8,11 @@ use Rattle.std.specs.Arc.{arc_value}
 use Rattle.board.specs.declared.entry.BoardEntry.{BoardEntry}
 use Rattle.board.specs.declared.entry.BoardEntry.TheVariants.{Born, Submit, Take, Finish, Enq, Deq, Done, Hold, Go, Collect, Close, Share, Mask, Shut}
 use Rattle.trace_text.specs.Text.{board_words, backlog_word, entered_words}
-use Rattle.trace_text.specs.Trace.{board_fits, is_u32, is_u64, entered_fits}
+use Rattle.trace_text.specs.Trace.{board_fits, is_u32, is_u64, entered_fits, origin_fits}
+use Rattle.reply_text.specs.Origins.{origin_word}
+use Rattle.reply_text.specs.declared.origin.Origin.{Origin}
 use Rattle.trace_check.specs.Pipes.{PipeState, judged_on, judged_at, judged, pipes_after, is_shut_by}
-use Rattle.trace_check.specs.Lines.{line_of}
+use Rattle.trace_check.specs.Lines.{origin_of}
 use Rattle.trace_check.specs.declared.lines.Known.{Known}
 use Rattle.trace_check.specs.Known.{with_asks}
 
@@ -82,12 +84,12 @@ shut_same f shut (Share caller pipe) = refl
 shut_same f shut (Mask caller pipe mask) = refl
 shut_same f shut (Shut caller) = refl
 
-pub words_same : {A : Type 0} (line : A → ℕ) (f : Arc A Global → Arc Known Global) (e : BoardEntry A) → ((ask : Arc A Global) → line_of (arc_value (f ask)) ≡ line (arc_value ask)) → board_words line_of (with_asks f e) ≡ board_words line e
+pub words_same : {A : Type 0} (line : A → Origin) (f : Arc A Global → Arc Known Global) (e : BoardEntry A) → ((ask : Arc A Global) → origin_of (arc_value (f ask)) ≡ line (arc_value ask)) → board_words origin_of (with_asks f e) ≡ board_words line e
 words_same line f (Born caller pipe shape) same = refl
-words_same line f (Submit caller pipe number ask) same = ap (λ l. codes "b" ∷ decimal caller ∷ codes "submit" ∷ decimal pipe ∷ decimal number ∷ decimal l ∷ []) (same ask)
+words_same line f (Submit caller pipe number ask) same = ap (λ l. codes "b" ∷ decimal caller ∷ codes "submit" ∷ decimal pipe ∷ decimal number ∷ origin_word l ∷ []) (same ask)
 words_same line f (Take caller pipe number) same = refl
 words_same line f (Finish caller pipe number) same = refl
-words_same line f (Enq caller pipe ask backlog answer) same = ap (λ l. codes "b" ∷ decimal caller ∷ codes "enq" ∷ decimal pipe ∷ decimal l ∷ backlog_word backlog ∷ entered_words answer) (same ask)
+words_same line f (Enq caller pipe ask backlog answer) same = ap (λ l. codes "b" ∷ decimal caller ∷ codes "enq" ∷ decimal pipe ∷ origin_word l ∷ backlog_word backlog ∷ entered_words answer) (same ask)
 words_same line f (Deq caller pipe number started) same = refl
 words_same line f (Done caller pipe number) same = refl
 words_same line f (Hold caller pipe) same = refl
@@ -98,12 +100,12 @@ words_same line f (Share caller pipe) same = refl
 words_same line f (Mask caller pipe mask) same = refl
 words_same line f (Shut caller) same = refl
 
-pub fits_same : {A : Type 0} (line : A → ℕ) (f : Arc A Global → Arc Known Global) (e : BoardEntry A) → ((ask : Arc A Global) → line_of (arc_value (f ask)) ≡ line (arc_value ask)) → board_fits line_of (with_asks f e) ≡ board_fits line e
+pub fits_same : {A : Type 0} (line : A → Origin) (f : Arc A Global → Arc Known Global) (e : BoardEntry A) → ((ask : Arc A Global) → origin_of (arc_value (f ask)) ≡ line (arc_value ask)) → board_fits origin_of (with_asks f e) ≡ board_fits line e
 fits_same line f (Born caller pipe shape) same = refl
-fits_same line f (Submit caller pipe number ask) same = ap (λ l. is_u32 caller && (is_u64 pipe && (is_u64 number && is_u32 l))) (same ask)
+fits_same line f (Submit caller pipe number ask) same = ap (λ l. is_u32 caller && (is_u64 pipe && (is_u64 number && origin_fits l))) (same ask)
 fits_same line f (Take caller pipe number) same = refl
 fits_same line f (Finish caller pipe number) same = refl
-fits_same line f (Enq caller pipe ask backlog answer) same = ap (λ l. is_u32 caller && (is_u64 pipe && (is_u32 l && entered_fits answer))) (same ask)
+fits_same line f (Enq caller pipe ask backlog answer) same = ap (λ l. is_u32 caller && (is_u64 pipe && (origin_fits l && entered_fits answer))) (same ask)
 fits_same line f (Deq caller pipe number started) same = refl
 fits_same line f (Done caller pipe number) same = refl
 fits_same line f (Hold caller pipe) same = refl

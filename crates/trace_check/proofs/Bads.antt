@@ -12,7 +12,7 @@ use Rattle.board.specs.declared.entry.BoardEntry.TheVariants.{Born, Submit, Take
 use Rattle.trace_check.specs.declared.lines.Known.{Known}
 use Rattle.trace_check.specs.declared.lines.Event.TheVariants as event
 use Rattle.trace_text.specs.Trace.{trace_of, board_fits, is_event, AreEvents}
-use Rattle.trace_check.specs.Lines.{line_of, IsLineOf, IsReadAs}
+use Rattle.trace_check.specs.Lines.{origin_of, IsLineOf, IsReadAs}
 use Rattle.trace_check.specs.Verdicts.{IsTraceOf, HasFront, BeginsWith, IsFirstBad}
 use Rattle.trace_check.specs.Reading.{IsOneLine, IsCut}
 use Rattle.trace_check.proofs.Cuts.{fed, text_of, same_cut, NextLine, next_line, none_behind}
@@ -22,7 +22,7 @@ use Rattle.trace_check.proofs.Traces.{IsSoFar, reg_line, board_line, lines, trac
 pub record NextBoard (rest : List ℕ) : Type 0 where
   pub event : BoardEntry Known
   pub more : List ℕ
-  pub fits : board_fits line_of event ≡ true
+  pub fits : board_fits origin_of event ≡ true
   pub is : rest ≡ fed (board_line event) ++ more
 
 pub record NextRegistry (r : List RegEntry) (b : List (BoardEntry Known)) (rest : List ℕ) : Type 0 where
@@ -33,7 +33,7 @@ pub record NextRegistry (r : List RegEntry) (b : List (BoardEntry Known)) (rest 
   pub is : rest ≡ fed (reg_line event) ++ more
   pub same : lines r b ≡ lines before []
 
-both_fronts : (text : List ℕ) (r : List RegEntry) (b : List (BoardEntry Known)) (rest : List ℕ) (r' : List RegEntry) (b' : List (BoardEntry Known)) (line rest' : List ℕ) → text ≡ trace_of line_of r b ++ rest → text ≡ (trace_of line_of r' b' ++ fed line) ++ rest' → AreEvents line_of r b → AreEvents line_of r' b' → length r + length b ≡ length r' + length b' → NextLine (lines r b) rest (lines r' b') line rest'
+both_fronts : (text : List ℕ) (r : List RegEntry) (b : List (BoardEntry Known)) (rest : List ℕ) (r' : List RegEntry) (b' : List (BoardEntry Known)) (line rest' : List ℕ) → text ≡ trace_of origin_of r b ++ rest → text ≡ (trace_of origin_of r' b' ++ fed line) ++ rest' → AreEvents origin_of r b → AreEvents origin_of r' b' → length r + length b ≡ length r' + length b' → NextLine (lines r b) rest (lines r' b') line rest'
 both_fronts text r b rest r' b' line rest' f g k k' n =
     next_line (lines r b) (lines r' b') line rest rest' (are_lines r b k) (are_lines r' b' k') (count_lines r b ∙ (n ∙ sym (count_lines r' b')))
     (ap (λ t. t ++ rest) (sym (trace_lines r b)) ∙ (sym f ∙ (g ∙ (ap (λ t. (t ++ fed line) ++ rest') (trace_lines r' b') ∙ append_assoc (text_of (lines r' b')) (fed line) rest'))))
@@ -42,8 +42,8 @@ next_board : (text : List ℕ) (r : List RegEntry) (b : List (BoardEntry Known))
 next_board text r b rest count r' b' init e rest' k n is h =
     let f = k.front in
     let v = h.events in
-    let a = all_front (board_fits line_of) init e (subst (λ c. list_all (board_fits line_of) c ≡ true) is v.1) in
-    let g : text ≡ (trace_of line_of r' init ++ fed (board_line e)) ++ rest' = h.front ∙ ap (λ t. t ++ rest') (ap (trace_of line_of r') is ∙ board_more r' init e) in
+    let a = all_front (board_fits origin_of) init e (subst (λ c. list_all (board_fits origin_of) c ≡ true) is v.1) in
+    let g : text ≡ (trace_of origin_of r' init ++ fed (board_line e)) ++ rest' = h.front ∙ ap (λ t. t ++ rest') (ap (trace_of origin_of r') is ∙ board_more r' init e) in
     let m : length r + length b ≡ length r' + length init = (let q = k.counted in let l = ap length is in let p = length_push init e in omega arith) in
     let x = both_fronts text r b rest r' init (board_line e) rest' f.front g f.events (v.0, a.0) m in
     record { event = e; more = rest'; fits = a.1; is = x.rest }
@@ -53,7 +53,7 @@ next_registry text r b rest count r' init e rest' k n is h =
     let f = k.front in
     let v = h.events in
     let a = all_front is_event init e (subst (λ c. list_all is_event c ≡ true) is v.0) in
-    let g : text ≡ (trace_of line_of init [] ++ fed (reg_line e)) ++ rest' = h.front ∙ ap (λ t. t ++ rest') (ap (λ c. trace_of line_of c []) is ∙ reg_more init e) in
+    let g : text ≡ (trace_of origin_of init [] ++ fed (reg_line e)) ++ rest' = h.front ∙ ap (λ t. t ++ rest') (ap (λ c. trace_of origin_of c []) is ∙ reg_more init e) in
     let m : length r + length b ≡ length init + 0 = (let q = k.counted in let l = ap length is in let p = length_push init e in omega arith) in
     let x = both_fronts text r b rest init [] (reg_line e) rest' f.front g f.events (a.0, refl) m in
     record { event = e; more = rest'; before = init; known = a.1; is = x.rest; same = x.lines }
@@ -67,16 +67,16 @@ next_of text r b rest count (x ∷ xs) [] rest' k n h = (let e = ends_of x xs in
 cut_board : (text : List ℕ) (n : ℕ) (r : List RegEntry) (b init : List (BoardEntry Known)) (e : BoardEntry Known) (rest : List ℕ) → length r + length b ≡ suc n → b ≡ init ++ e ∷ [] → HasFront text r b rest → BeginsWith text n
 cut_board text n r b init e rest c is h =
     let v = h.events in
-    let a = all_front (board_fits line_of) init e (subst (λ x. list_all (board_fits line_of) x ≡ true) is v.1) in
-    let g : text ≡ (trace_of line_of r init ++ fed (board_line e)) ++ rest = h.front ∙ ap (λ t. t ++ rest) (ap (trace_of line_of r) is ∙ board_more r init e) in
-    (r, init, fed (board_line e) ++ rest, (let l = ap length is in let p = length_push init e in omega arith), record { events = (v.0, a.0); front = g ∙ append_assoc (trace_of line_of r init) (fed (board_line e)) rest })
+    let a = all_front (board_fits origin_of) init e (subst (λ x. list_all (board_fits origin_of) x ≡ true) is v.1) in
+    let g : text ≡ (trace_of origin_of r init ++ fed (board_line e)) ++ rest = h.front ∙ ap (λ t. t ++ rest) (ap (trace_of origin_of r) is ∙ board_more r init e) in
+    (r, init, fed (board_line e) ++ rest, (let l = ap length is in let p = length_push init e in omega arith), record { events = (v.0, a.0); front = g ∙ append_assoc (trace_of origin_of r init) (fed (board_line e)) rest })
 
 cut_registry : (text : List ℕ) (n : ℕ) (r init : List RegEntry) (e : RegEntry) (rest : List ℕ) → length r ≡ suc n → r ≡ init ++ e ∷ [] → HasFront text r [] rest → BeginsWith text n
 cut_registry text n r init e rest c is h =
     let v = h.events in
     let a = all_front is_event init e (subst (λ x. list_all is_event x ≡ true) is v.0) in
-    let g : text ≡ (trace_of line_of init [] ++ fed (reg_line e)) ++ rest = h.front ∙ ap (λ t. t ++ rest) (ap (λ x. trace_of line_of x []) is ∙ reg_more init e) in
-    (init, [], fed (reg_line e) ++ rest, (let l = ap length is in let p = length_push init e in omega arith), record { events = (a.0, refl); front = g ∙ append_assoc (trace_of line_of init []) (fed (reg_line e)) rest })
+    let g : text ≡ (trace_of origin_of init [] ++ fed (reg_line e)) ++ rest = h.front ∙ ap (λ t. t ++ rest) (ap (λ x. trace_of origin_of x []) is ∙ reg_more init e) in
+    (init, [], fed (reg_line e) ++ rest, (let l = ap length is in let p = length_push init e in omega arith), record { events = (a.0, refl); front = g ∙ append_assoc (trace_of origin_of init []) (fed (reg_line e)) rest })
 
 one_less : (text : List ℕ) (n : ℕ) (r : List RegEntry) (b : List (BoardEntry Known)) (rest : List ℕ) → length r + length b ≡ suc n → HasFront text r b rest → BeginsWith text n
 one_less text n r (x ∷ xs) rest c h = (let e = ends_of x xs in cut_board text n r (x ∷ xs) e.front e.last rest c e.is h)
@@ -99,7 +99,7 @@ no_trace text r b rest count r' b' k some here t (inl few) = some (rest_of text 
 no_trace text r b rest count r' b' k some here t (inr many) =
     let n = length r' + length b' in
     let e : length r' + length b' ≡ (n - (count + 1)) + (count + 1) = omega arith in
-    here (begins_less text (n - (count + 1)) (count + 1) (r', b', [], e, record { events = t.0; front = t.1 ∙ sym (append-nil (trace_of line_of r' b')) }))
+    here (begins_less text (n - (count + 1)) (count + 1) (r', b', [], e, record { events = t.0; front = t.1 ∙ sym (append-nil (trace_of origin_of r' b')) }))
 
 first_bad : (text : List ℕ) (r : List RegEntry) (b : List (BoardEntry Known)) (rest : List ℕ) (count : ℕ) → IsSoFar text r b rest count → (rest ≡ [] → ⊥) → (NextBoard rest → ⊥) → (NextRegistry r b rest → ⊥) → IsFirstBad text (count + 1)
 first_bad text r b rest count k some nb nr =

@@ -16,12 +16,12 @@ use Rattle.board.specs.declared.entry.Shape.TheVariants.{Pad, Queue}
 use Rattle.board.specs.declared.entry.Entered.TheVariants.{InProgress, Busy}
 use Rattle.board.specs.declared.entry.BoardEntry.{BoardEntry}
 use Rattle.board.specs.declared.entry.BoardEntry.TheVariants as says
-use Rattle.trace_text.specs.Trace.{is_word, end_has_text, has_text, is_u16, is_u32, is_u64, enlisted_fits, looked_fits, end_fits, option_fits, shape_fits, entered_fits, is_event, board_fits}
+use Rattle.trace_text.specs.Trace.{is_word, end_has_text, has_text, is_u16, is_u32, is_u64, enlisted_fits, looked_fits, end_fits, option_fits, shape_fits, entered_fits, is_event, board_fits, origin_fits}
 use Rattle.trace_check.specs.declared.lines.Event.{Event}
 use Rattle.trace_check.specs.declared.lines.Event.TheVariants as event
 use Rattle.trace_check.specs.declared.lines.Known.{Known}
-use Rattle.trace_check.specs.Lines.{line_of}
-use Rattle.trace_check.specs.Guessing.{digit_after, number_at, number_of, small_of, is_comma, ids_of, kind_of, enlisted_of, plain_spec, enlist_of, looked_of, look_of, built_of, joined_of, failed_of, ending_of, end_of, unlist_of, get_of, refs_of, lone_number, pair_in, numbered_of, registry_of, shape_of, born_of, submit_of, entered_of, enq_of, started_of, deq_of, short_of, hex_value, mask_in, mask_of, board_of, event_in}
+use Rattle.trace_check.specs.Lines.{origin_of}
+use Rattle.trace_check.specs.Guessing.{digit_after, number_at, number_of, small_of, is_comma, ids_of, kind_of, enlisted_of, plain_spec, enlist_of, looked_of, look_of, built_of, joined_of, failed_of, ending_of, end_of, unlist_of, get_of, refs_of, lone_number, pair_in, numbered_of, registry_of, shape_of, born_of, submit_of, entered_of, enq_of, started_of, deq_of, short_of, hex_value, mask_in, mask_of, board_of, event_in, origin_in, origin_read, is_dot}
 
 abbrev AreWords : List (List ℕ) → Type 0
 AreWords words = list_all is_word words ≡ true
@@ -220,7 +220,7 @@ registry_good caller name words c h =
 
 -- Events of a board.
 IsBrd : Option (BoardEntry Known) → Type 0
-IsBrd o = MatchOption o ⊤ (λ e. board_fits line_of e ≡ true)
+IsBrd o = MatchOption o ⊤ (λ e. board_fits origin_of e ≡ true)
 
 shape_fit : (word : List ℕ) (size : ℕ) → is_u32 size ≡ true → shape_fits (shape_of word size) ≡ true
 shape_fit word size f = either (λ s. shape_fits s ≡ true) (bytes_eq word (codes "pad")) (Pad size) (Queue size) f f
@@ -236,6 +236,15 @@ started_fit [] = refl
 started_fit (word ∷ []) = refl
 started_fit (word ∷ number ∷ []) = number_fits number
 started_fit (word ∷ number ∷ x ∷ more) = refl
+
+origin_in_fits : (parts : List (List ℕ)) → origin_fits (origin_in parts) ≡ true
+origin_in_fits [] = refl
+origin_in_fits (line ∷ []) = small_fits line
+origin_in_fits (client ∷ line ∷ []) = both (is_u32 (small_of client)) (is_u32 (small_of line)) (small_fits client) (small_fits line)
+origin_in_fits (a ∷ b ∷ x ∷ more) = refl
+
+origin_read_fits : (word : List ℕ) → origin_fits (origin_read word) ≡ true
+origin_read_fits word = origin_in_fits (slice_split is_dot word)
 
 born_good : (caller : ℕ) (words : List (List ℕ)) → is_u32 caller ≡ true → IsBrd (born_of caller words)
 unfolding IsBrd
@@ -253,7 +262,7 @@ submit_good caller [] c = tt
 submit_good caller (a ∷ []) c = tt
 submit_good caller (a ∷ b ∷ []) c = tt
 submit_good caller (pipe ∷ number ∷ line ∷ []) c =
-    both (is_u32 caller) _ c (both (is_u64 (number_of pipe)) _ (number_fits pipe) (both (is_u64 (number_of number)) (is_u32 (small_of line)) (number_fits number) (small_fits line)))
+    both (is_u32 caller) _ c (both (is_u64 (number_of pipe)) _ (number_fits pipe) (both (is_u64 (number_of number)) (origin_fits (origin_read line)) (number_fits number) (origin_read_fits line)))
 submit_good caller (a ∷ b ∷ x ∷ y ∷ more) c = tt
 
 enq_good : (caller : ℕ) (words : List (List ℕ)) → is_u32 caller ≡ true → IsBrd (enq_of caller words)
@@ -262,7 +271,7 @@ enq_good caller [] c = tt
 enq_good caller (a ∷ []) c = tt
 enq_good caller (a ∷ b ∷ []) c = tt
 enq_good caller (pipe ∷ line ∷ backlog ∷ answer) c =
-    both (is_u32 caller) _ c (both (is_u64 (number_of pipe)) _ (number_fits pipe) (both (is_u32 (small_of line)) (entered_fits (entered_of answer)) (small_fits line) (entered_fit answer)))
+    both (is_u32 caller) _ c (both (is_u64 (number_of pipe)) _ (number_fits pipe) (both (origin_fits (origin_read line)) (entered_fits (entered_of answer)) (origin_read_fits line) (entered_fit answer)))
 
 deq_good : (caller : ℕ) (words : List (List ℕ)) → is_u32 caller ≡ true → IsBrd (deq_of caller words)
 unfolding IsBrd
@@ -287,11 +296,11 @@ unfolding IsBrd
 short_good caller name [] c = tt
 short_good caller name (pipe ∷ []) c =
     let f = both (is_u32 caller) (is_u64 (number_of pipe)) c (number_fits pipe) in
-    let P : Option (BoardEntry Known) → Type 0 = λ o. MatchOption o ⊤ (λ e. board_fits line_of e ≡ true) in
+    let P : Option (BoardEntry Known) → Type 0 = λ o. MatchOption o ⊤ (λ e. board_fits origin_of e ≡ true) in
     either P (bytes_eq name (codes "hold")) _ _ f (either P (bytes_eq name (codes "go")) _ _ f (either P (bytes_eq name (codes "close")) _ _ f (either P (bytes_eq name (codes "share")) _ _ f tt)))
 short_good caller name (pipe ∷ number ∷ []) c =
     let f = both (is_u32 caller) _ c (both (is_u64 (number_of pipe)) (is_u64 (number_of number)) (number_fits pipe) (number_fits number)) in
-    let P : Option (BoardEntry Known) → Type 0 = λ o. MatchOption o ⊤ (λ e. board_fits line_of e ≡ true) in
+    let P : Option (BoardEntry Known) → Type 0 = λ o. MatchOption o ⊤ (λ e. board_fits origin_of e ≡ true) in
     either P (bytes_eq name (codes "take")) _ _ f (either P (bytes_eq name (codes "finish")) _ _ f (either P (bytes_eq name (codes "done")) _ _ f (either P (bytes_eq name (codes "collect")) _ _ f tt)))
 short_good caller name (a ∷ b ∷ x ∷ more) c = tt
 
@@ -308,7 +317,7 @@ board_good caller name words c =
 abbrev pub IsFit : Option Event → Type 0
 IsFit None = ⊤
 IsFit (Some (event.Registry e)) = is_event e ≡ true
-IsFit (Some (event.Board e)) = board_fits line_of e ≡ true
+IsFit (Some (event.Board e)) = board_fits origin_of e ≡ true
 
 fit_reg : (o : Option RegEntry) → IsReg o → IsFit (option_map event.Registry o)
 unfolding IsReg

@@ -33,11 +33,11 @@ use Rattle.board.specs.declared.entry.BoardEntry.TheVariants.{Born, Submit, Take
 use Rattle.trace_check.specs.declared.lines.Event.TheVariants as event
 use Rattle.trace_check.specs.declared.lines.Known.{Known}
 use Rattle.trace_text.specs.Text.{kind_word, wrap_word, ids_word, plain_word, get_word, enlisted_words, looked_words, reg_words, shape_words, backlog_word, entered_words, started_words, board_words}
-use Rattle.trace_text.specs.Trace.{has_words, is_unwrapped, has_text, is_u16, is_u32, is_u64, spec_fits, enlisted_fits, looked_fits, end_fits, option_fits, fits, shape_fits, entered_fits, board_fits}
+use Rattle.trace_text.specs.Trace.{has_words, is_unwrapped, has_text, is_u16, is_u32, is_u64, spec_fits, enlisted_fits, looked_fits, end_fits, option_fits, fits, shape_fits, entered_fits, board_fits, origin_fits}
 use Rattle.trace_check.specs.Guessing.{number_of, small_of, ids_of, kind_of, wrap_of, errno_of, enlisted_of, looked_of, entered_of, started_of, board_of, event_in}
-use Rattle.trace_check.specs.Lines.{line_of}
+use Rattle.trace_check.specs.Lines.{origin_of}
 use Rattle.trace_check.specs.Known.{ask_of, unplaced}
-use Rattle.trace_check.proofs.Numerals.{number_again, small_again, ids_again, mask_again}
+use Rattle.trace_check.proofs.Numerals.{number_again, small_again, ids_again, mask_again, origin_again}
 use Rattle.trace_check.proofs.RegParts.{no_ids, unwrapped}
 
 kind_again : (kind : Kind) → kind_of (kind_word kind) ≡ kind
@@ -163,22 +163,22 @@ started_again : (started : Option ℕ) → option_fits started ≡ true → star
 started_again (Some n) f = ap Some (number_again n f)
 started_again None f = refl
 
-pub board_again : (e : BoardEntry Known) → board_fits line_of e ≡ true → event_in (board_words line_of e) ≡ Some (event.Board (unplaced e))
+pub board_again : (e : BoardEntry Known) → board_fits origin_of e ≡ true → event_in (board_words origin_of e) ≡ Some (event.Board (unplaced e))
 board_again (Born caller pipe shape) f =
     let ff = and_parts (is_u32 caller) (is_u64 pipe && shape_fits shape) f in
     let fp = and_parts (is_u64 pipe) (shape_fits shape) ff.1 in
     ap (option_map event.Board) (shape_again shape fp.1 (small_of (decimal caller)) pipe)
     ∙ (λ i. Some (event.Board (Born (small_again caller ff.0 i) (number_again pipe fp.0 i) shape)))
 board_again (Submit caller pipe number ask) f =
-    let ff = and_parts (is_u32 caller) (is_u64 pipe && (is_u64 number && is_u32 (line_of (arc_value ask)))) f in
-    let fp = and_parts (is_u64 pipe) (is_u64 number && is_u32 (line_of (arc_value ask))) ff.1 in
-    let fn = and_parts (is_u64 number) (is_u32 (line_of (arc_value ask))) fp.1 in
-    λ i. Some (event.Board (Submit (small_again caller ff.0 i) (number_again pipe fp.0 i) (number_again number fn.0 i) (ask_of (small_again (line_of (arc_value ask)) fn.1 i))))
+    let ff = and_parts (is_u32 caller) (is_u64 pipe && (is_u64 number && origin_fits (origin_of (arc_value ask)))) f in
+    let fp = and_parts (is_u64 pipe) (is_u64 number && origin_fits (origin_of (arc_value ask))) ff.1 in
+    let fn = and_parts (is_u64 number) (origin_fits (origin_of (arc_value ask))) fp.1 in
+    λ i. Some (event.Board (Submit (small_again caller ff.0 i) (number_again pipe fp.0 i) (number_again number fn.0 i) (ask_of (origin_again (origin_of (arc_value ask)) fn.1 i))))
 board_again (Enq caller pipe ask backlog answer) f =
-    let ff = and_parts (is_u32 caller) (is_u64 pipe && (is_u32 (line_of (arc_value ask)) && entered_fits answer)) f in
-    let fp = and_parts (is_u64 pipe) (is_u32 (line_of (arc_value ask)) && entered_fits answer) ff.1 in
-    let fn = and_parts (is_u32 (line_of (arc_value ask))) (entered_fits answer) fp.1 in
-    λ i. Some (event.Board (Enq (small_again caller ff.0 i) (number_again pipe fp.0 i) (ask_of (small_again (line_of (arc_value ask)) fn.0 i)) (backlog_again backlog i) (entered_again answer fn.1 i)))
+    let ff = and_parts (is_u32 caller) (is_u64 pipe && (origin_fits (origin_of (arc_value ask)) && entered_fits answer)) f in
+    let fp = and_parts (is_u64 pipe) (origin_fits (origin_of (arc_value ask)) && entered_fits answer) ff.1 in
+    let fn = and_parts (origin_fits (origin_of (arc_value ask))) (entered_fits answer) fp.1 in
+    λ i. Some (event.Board (Enq (small_again caller ff.0 i) (number_again pipe fp.0 i) (ask_of (origin_again (origin_of (arc_value ask)) fn.0 i)) (backlog_again backlog i) (entered_again answer fn.1 i)))
 board_again (Deq caller pipe number started) f =
     let ff = and_parts (is_u32 caller) (is_u64 pipe && (is_u64 number && option_fits started)) f in
     let fp = and_parts (is_u64 pipe) (is_u64 number && option_fits started) ff.1 in

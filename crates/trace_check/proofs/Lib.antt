@@ -23,6 +23,7 @@ pub mod RegTable
 pub mod RegJudging
 pub mod RegStepping
 pub mod Few
+pub mod FewWords
 pub mod RegLoop
 pub mod Holding
 pub mod Changes

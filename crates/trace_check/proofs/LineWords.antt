@@ -28,14 +28,15 @@ use Rattle.board.specs.declared.entry.BoardEntry.{BoardEntry}
 use Rattle.board.specs.declared.entry.BoardEntry.TheVariants.{Born, Submit, Take, Finish, Enq, Deq, Done, Hold, Go, Collect, Close, Share, Mask, Shut}
 use Rattle.std.specs.Arc.{arc_value}
 use Rattle.trace_check.specs.declared.lines.Known.{Known}
+use Rattle.reply_text.specs.Origins.{origin_word}
 use Rattle.trace_text.specs.Text.{sentence, kind_word, wrap_word, ids_word, plain_word, get_word, enlisted_words, looked_words, end_words, unlisted_words, reg_words, shape_words, backlog_word, entered_words, started_words, mask_word, board_words}
-use Rattle.trace_text.specs.Trace.{is_word, has_words, is_unwrapped, end_has_text, has_text, is_u16, is_u32, is_u64, spec_fits, enlisted_fits, looked_fits, end_fits, option_fits, fits, shape_fits, entered_fits, board_fits}
+use Rattle.trace_text.specs.Trace.{is_word, has_words, is_unwrapped, end_has_text, has_text, is_u16, is_u32, is_u64, spec_fits, enlisted_fits, looked_fits, end_fits, option_fits, fits, shape_fits, entered_fits, board_fits, origin_fits}
 use Rattle.trace_check.specs.Guessing.{event_in}
-use Rattle.trace_check.proofs.Numerals.{word_decimal, word_small, word_ids, word_mask}
+use Rattle.trace_check.proofs.Numerals.{word_decimal, word_small, word_ids, word_mask, word_origin}
 use Rattle.std.proofs.lemmas.List.{length_push}
 use Rattle.trace_check.specs.declared.lines.Event.{Event}
 use Rattle.trace_check.specs.declared.lines.Event.TheVariants as event
-use Rattle.trace_check.specs.Lines.{line_of, anywhere, IsLineOf}
+use Rattle.trace_check.specs.Lines.{origin_of, anywhere, IsLineOf}
 use Rattle.trace_check.proofs.Numerals.{cut_joined, words_unlike}
 use Rattle.trace_check.proofs.Guesses.{registry_again, board_again}
 
@@ -188,23 +189,23 @@ paired name caller pipe number n f =
     let fp = and_parts (is_u64 pipe) (is_u64 number) ff.1 in
     headed (codes "b") name caller _ refl n ff.0 (one_more (decimal pipe) _ (word_decimal pipe fp.0) (alone number fp.1))
 
-pub board_are : (e : BoardEntry Known) → board_fits line_of e ≡ true → AreWords (board_words line_of e)
+pub board_are : (e : BoardEntry Known) → board_fits origin_of e ≡ true → AreWords (board_words origin_of e)
 board_are (Born caller pipe shape) f =
     let ff = and_parts (is_u32 caller) (is_u64 pipe && shape_fits shape) f in
     let fp = and_parts (is_u64 pipe) (shape_fits shape) ff.1 in
     headed (codes "b") (codes "born") caller _ refl refl ff.0 (one_more (decimal pipe) _ (word_decimal pipe fp.0) (words_shape shape fp.1))
 board_are (Submit caller pipe number ask) f =
-    let ff = and_parts (is_u32 caller) (is_u64 pipe && (is_u64 number && is_u32 (line_of (arc_value ask)))) f in
-    let fp = and_parts (is_u64 pipe) (is_u64 number && is_u32 (line_of (arc_value ask))) ff.1 in
-    let fn = and_parts (is_u64 number) (is_u32 (line_of (arc_value ask))) fp.1 in
-    headed (codes "b") (codes "submit") caller _ refl refl ff.0 (one_more (decimal pipe) _ (word_decimal pipe fp.0) (one_more (decimal number) _ (word_decimal number fn.0) (one_more (decimal (line_of (arc_value ask))) [] (word_small (line_of (arc_value ask)) fn.1) none_more)))
+    let ff = and_parts (is_u32 caller) (is_u64 pipe && (is_u64 number && origin_fits (origin_of (arc_value ask)))) f in
+    let fp = and_parts (is_u64 pipe) (is_u64 number && origin_fits (origin_of (arc_value ask))) ff.1 in
+    let fn = and_parts (is_u64 number) (origin_fits (origin_of (arc_value ask))) fp.1 in
+    headed (codes "b") (codes "submit") caller _ refl refl ff.0 (one_more (decimal pipe) _ (word_decimal pipe fp.0) (one_more (decimal number) _ (word_decimal number fn.0) (one_more (origin_word (origin_of (arc_value ask))) [] (word_origin (origin_of (arc_value ask)) fn.1) none_more)))
 board_are (Take caller pipe number) f = paired (codes "take") caller pipe number refl f
 board_are (Finish caller pipe number) f = paired (codes "finish") caller pipe number refl f
 board_are (Enq caller pipe ask backlog answer) f =
-    let ff = and_parts (is_u32 caller) (is_u64 pipe && (is_u32 (line_of (arc_value ask)) && entered_fits answer)) f in
-    let fp = and_parts (is_u64 pipe) (is_u32 (line_of (arc_value ask)) && entered_fits answer) ff.1 in
-    let fn = and_parts (is_u32 (line_of (arc_value ask))) (entered_fits answer) fp.1 in
-    headed (codes "b") (codes "enq") caller _ refl refl ff.0 (one_more (decimal pipe) _ (word_decimal pipe fp.0) (one_more (decimal (line_of (arc_value ask))) _ (word_small (line_of (arc_value ask)) fn.0) (one_more (backlog_word backlog) _ (word_backlog backlog) (words_entered answer fn.1))))
+    let ff = and_parts (is_u32 caller) (is_u64 pipe && (origin_fits (origin_of (arc_value ask)) && entered_fits answer)) f in
+    let fp = and_parts (is_u64 pipe) (origin_fits (origin_of (arc_value ask)) && entered_fits answer) ff.1 in
+    let fn = and_parts (origin_fits (origin_of (arc_value ask))) (entered_fits answer) fp.1 in
+    headed (codes "b") (codes "enq") caller _ refl refl ff.0 (one_more (decimal pipe) _ (word_decimal pipe fp.0) (one_more (origin_word (origin_of (arc_value ask))) _ (word_origin (origin_of (arc_value ask)) fn.0) (one_more (backlog_word backlog) _ (word_backlog backlog) (words_entered answer fn.1))))
 board_are (Deq caller pipe number started) f =
     let ff = and_parts (is_u32 caller) (is_u64 pipe && (is_u64 number && option_fits started)) f in
     let fp = and_parts (is_u64 pipe) (is_u64 number && option_fits started) ff.1 in
@@ -250,7 +251,7 @@ some_registry (Put caller id) = omega arith
 some_registry (Refs caller driver) = omega arith
 some_registry (reg.List caller) = omega arith
 
-some_board : (e : BoardEntry Known) → 0 < length (board_words line_of e)
+some_board : (e : BoardEntry Known) → 0 < length (board_words origin_of e)
 some_board (Born caller pipe shape) = omega arith
 some_board (Submit caller pipe number ask) = omega arith
 some_board (Take caller pipe number) = omega arith
@@ -276,5 +277,5 @@ event_read body last line (event.Registry e) cut k =
     (ap (list_all is_word) w ∙ v.all, ap event_in w ∙ registry_again e p.0 p.1)
 event_read body last line (event.Board e) cut k =
     let v = board_are e k.0 in
-    let w = split_first body last (board_words line_of e) v (sym cut ∙ k.1) (some_board e) in
+    let w = split_first body last (board_words origin_of e) v (sym cut ∙ k.1) (some_board e) in
     (ap (list_all is_word) w ∙ v.all, ap event_in w ∙ board_again e k.0)

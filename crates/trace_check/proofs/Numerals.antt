@@ -1,13 +1,15 @@
 -- A number's digits, read again.
-use Rattle.std.proofs.Common.{◌≡◌, ℕ, suc, ◌+◌, ◌-◌, ◌*◌, ◌/◌, ◌%◌, ◌^◌, ◌<◌, ◌≤◌, Bool, true, false, not, cond, ◌&&◌, List, [], ◌∷◌, ◌++◌, append-nil, length, map, Option, Some, None, refl, sym, ◌∙◌, ap, arith, inl, inr, ◌⊎◌}
+use Rattle.std.proofs.Common.{codes, ◌≡◌, ℕ, suc, ◌+◌, ◌-◌, ◌*◌, ◌/◌, ◌%◌, ◌^◌, ◌<◌, ◌≤◌, Bool, true, false, not, cond, ◌&&◌, List, [], ◌∷◌, ◌++◌, append-nil, append_assoc, length-append, subst, length, map, Option, Some, None, refl, sym, ◌∙◌, ap, arith, inl, inr, ◌⊎◌}
 use Rattle.std.specs.Prelude.{◌==◌, nat_lt, nat_le, unwrap_or}
 use Rattle.std.specs.Fmt.{decimal}
 use Rattle.std.specs.List.{list_all, join_with_byte, slice_split, onto_first}
 use Rattle.std.specs.Str.{bytes_eq}
-use Rattle.std.proofs.lemmas.Bool.{lt-ltb, le-leb, lt-leb, cases_lt, ltb-true, leb-true, and_parts, and_from, ne_eqb, eq-eqb, not-true}
+use Rattle.std.proofs.lemmas.Bool.{eqb-true, lt-ltb, le-leb, lt-leb, cases_lt, ltb-true, leb-true, and_parts, and_from, ne_eqb, eq-eqb, not-true}
 use Rattle.std.proofs.lemmas.Fmt.{decimal_by_steps, decimal_nonempty}
-use Rattle.trace_text.specs.Trace.{is_visible, is_word, is_u16, is_u32, is_u64}
-use Rattle.trace_check.specs.Guessing.{digit_after, number_at, number_from, number_of, small_of, ids_of, is_comma, hex_value, mask_in}
+use Rattle.trace_text.specs.Trace.{is_visible, is_word, is_u16, is_u32, is_u64, origin_fits}
+use Rattle.trace_check.specs.Guessing.{digit_after, number_at, number_from, number_of, small_of, ids_of, is_comma, hex_value, mask_in, origin_in, origin_read}
+use Rattle.reply_text.specs.Origins.{origin_word}
+use Rattle.reply_text.specs.declared.origin.Origin.{Origin}
 use Rattle.trace_text.specs.Text.{ids_word, hex_digit, mask_word}
 
 digit_ok : (v d : ℕ) → v * 10 + d < 2 ^ 64 → digit_after v (48 + d) ≡ Some (v * 10 + d)
@@ -238,3 +240,45 @@ word_ids (id ∷ ids) h =
     let k = and_parts (is_u64 id) (list_all is_u64 ids) h in
     let some = some_joined (decimal id) (map decimal ids) (decimal_nonempty id (ltb-true id (2 ^ 64) k.0)) in
     and_from (nat_lt 0 (length (ids_word (id ∷ ids)))) (list_all is_visible (ids_word (id ∷ ids))) (lt-ltb 0 (length (ids_word (id ∷ ids))) some) (visible_ids (id ∷ ids) h)
+
+-- Where an ask comes from is read again.
+undot_digit : (d : ℕ) → d < 10 → is_not 46 (48 + d) ≡ true
+undot_digit d h = ap not (ne_eqb (48 + d) 46 (λ e. omega arith))
+
+undot_decimal : (n : ℕ) → is_u32 n ≡ true → list_all (is_not 46) (decimal n) ≡ true
+undot_decimal n f = digits_all (is_not 46) undot_digit n (let l : n < 2 ^ 32 = ltb-true n (2 ^ 32) f in omega arith)
+
+origin_by : (client line : ℕ) (first : Bool) → (client == 0) ≡ first → is_u32 client ≡ true → is_u32 line ≡ true
+    → origin_read (cond first (decimal line) (decimal client ++ codes "." ++ decimal line)) ≡ record { client = client; line = line }
+origin_by client line true none c l =
+    ap origin_in (cut_last 46 (decimal line) (undot_decimal line l))
+    ∙ (ap (λ n. let x : Origin = record { client = 0; line = n } in x) (small_again line l)
+    ∙ ap (λ k. let x : Origin = record { client = k; line = line } in x) (sym (eqb-true client 0 none)))
+origin_by client line false none c l =
+    ap origin_read (append_assoc (decimal client) (46 ∷ []) (decimal line))
+    ∙ (ap origin_in (cut_first 46 (decimal client) (decimal line) (undot_decimal client c) ∙ ap (λ ws. decimal client ∷ ws) (cut_last 46 (decimal line) (undot_decimal line l)))
+    ∙ (ap (λ k. let x : Origin = record { client = k; line = small_of (decimal line) } in x) (small_again client c)
+    ∙ ap (λ n. let x : Origin = record { client = client; line = n } in x) (small_again line l)))
+
+pub origin_again : (of : Origin) → origin_fits of ≡ true → origin_read (origin_word of) ≡ of
+origin_again of f =
+    let ff = and_parts (is_u32 of.client) (is_u32 of.line) f in
+    origin_by of.client of.line (of.client == 0) refl ff.0 ff.1
+
+word_by : (client line : ℕ) (first : Bool) → is_u32 client ≡ true → is_u32 line ≡ true
+    → is_word (cond first (decimal line) (decimal client ++ codes "." ++ decimal line)) ≡ true
+word_by client line true c l = word_small line l
+word_by client line false c l =
+    let wide : is_u64 client ≡ true = (let l : client < 2 ^ 32 = ltb-true client (2 ^ 32) c in lt-ltb client (2 ^ 64) (omega arith)) in
+    let wide' : is_u64 line ≡ true = (let m : line < 2 ^ 32 = ltb-true line (2 ^ 32) l in lt-ltb line (2 ^ 64) (omega arith)) in
+    let word : List ℕ = decimal client ++ 46 ∷ decimal line in
+    subst (λ w. is_word w ≡ true) (sym (append_assoc (decimal client) (46 ∷ []) (decimal line)))
+    (and_from (nat_lt 0 (length word)) (list_all is_visible word)
+    (lt-ltb 0 (length word) (omega (arith, length-append (decimal client) (46 ∷ decimal line))))
+    (all_append is_visible (decimal client) (46 ∷ decimal line) (visible_decimal client wide) (and_from true (list_all is_visible (decimal line)) refl (visible_decimal line wide'))))
+
+-- and it is a word
+pub word_origin : (of : Origin) → origin_fits of ≡ true → is_word (origin_word of) ≡ true
+word_origin of f =
+    let ff = and_parts (is_u32 of.client) (is_u32 of.line) f in
+    word_by of.client of.line (of.client == 0) ff.0 ff.1

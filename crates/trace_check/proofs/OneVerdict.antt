@@ -24,7 +24,7 @@ use Rattle.trace_check.specs.Reasons.{IsFirstMissing}
 use Rattle.trace_check.specs.RegReasons as reg
 use Rattle.trace_check.specs.BoardReasons as brd
 use Rattle.trace_check.specs.Pipes.{PipeState, judged, pipes_after, is_shut_by}
-use Rattle.trace_check.specs.Lines.{line_of}
+use Rattle.trace_check.specs.Lines.{origin_of}
 use Rattle.trace_check.specs.Known.{ask_of, unplaced}
 use Rattle.trace_check.specs.Guessing.{event_in}
 use Rattle.trace_check.specs.Verdicts.{IsTraceOf, BeginsWith, IsFirstBad, IsVerdict, AreJudged}
@@ -152,7 +152,7 @@ found_is h (Some x) w = one_found 0 [] false [] h x.0 x.1 board_empty w.0 w.1 �
 found_anywhere : (n : ℕ) (ps : List PipeState) (shut : Bool) (h : List (BoardEntry Known)) → first_judged n ps shut (map unplaced h) ≡ first_judged n ps shut h
 found_anywhere n ps shut [] = refl
 found_anywhere n ps shut (e ∷ h) =
-    let f : Arc Known Global → Arc Known Global = λ ask. ask_of (arc_value ask).line in
+    let f : Arc Known Global → Arc Known Global = λ ask. ask_of (arc_value ask).origin in
     ap (λ o. first_from n o (first_judged (n + 1) (pipes_after ps (unplaced e)) (is_shut_by shut (unplaced e)) (map unplaced h))) (judged_same f ps shut e)
     ∙ (ap (λ qs. first_from n (judged ps shut e) (first_judged (n + 1) qs (is_shut_by shut (unplaced e)) (map unplaced h))) (after_same f ps e)
     ∙ (ap (λ t. first_from n (judged ps shut e) (first_judged (n + 1) (pipes_after ps e) t (map unplaced h))) (shut_same f shut e)
@@ -193,15 +193,15 @@ reg_events (e ∷ r) k =
     let g = (event_read (reg_line e) 10 (sentence (reg_words e)) (event.Registry e) refl (p.0, refl)).1 in
     ap (λ g. g ∷ map event_at (map reg_line r)) g ∙ ap (λ gs. reg_event e ∷ gs) (reg_events r p.1)
 
-board_events : (b : List (BoardEntry Known)) → list_all (board_fits line_of) b ≡ true → map event_at (map board_line b) ≡ map board_event b
+board_events : (b : List (BoardEntry Known)) → list_all (board_fits origin_of) b ≡ true → map event_at (map board_line b) ≡ map board_event b
 unfolding event_at
 board_events [] k = refl
 board_events (e ∷ b) k =
-    let p = and_parts (board_fits line_of e) (list_all (board_fits line_of) b) k in
-    let g = (event_read (board_line e) 10 (sentence (board_words line_of e)) (event.Board e) refl (p.0, refl)).1 in
+    let p = and_parts (board_fits origin_of e) (list_all (board_fits origin_of) b) k in
+    let g = (event_read (board_line e) 10 (sentence (board_words origin_of e)) (event.Board e) refl (p.0, refl)).1 in
     ap (λ g. g ∷ map event_at (map board_line b)) g ∙ ap (λ gs. board_event e ∷ gs) (board_events b p.1)
 
-all_events : (r : List RegEntry) (b : List (BoardEntry Known)) → AreEvents line_of r b → map event_at (lines r b) ≡ map reg_event r ++ map board_event b
+all_events : (r : List RegEntry) (b : List (BoardEntry Known)) → AreEvents origin_of r b → map event_at (lines r b) ≡ map reg_event r ++ map board_event b
 all_events r b k =
     map-append event_at (map reg_line r) (map board_line b)
     ∙ (ap (λ gs. gs ++ map event_at (map board_line b)) (reg_events r k.0) ∙ ap (λ gs. map reg_event r ++ gs) (board_events b k.1))

@@ -13,14 +13,14 @@ use Rattle.trace_check.specs.declared.lines.Event.TheVariants as event
 use Rattle.trace_check.specs.Guessing.{event_in}
 use Rattle.trace_check.specs.Known.{ask_of}
 use Rattle.std.specs.Arc.{arc_value}
-use Rattle.trace_check.specs.Lines.{line_of, words_of, anywhere, IsLineOf, IsReadAs}
+use Rattle.trace_check.specs.Lines.{origin_of, words_of, anywhere, IsLineOf, IsReadAs}
 use Rattle.trace_check.proofs.Asks.{words_same, fits_same}
 use Rattle.trace_check.proofs.LineWords.{event_read}
 use Rattle.trace_check.proofs.Fitting.{IsFit, event_fits}
 
 words_anywhere : (e : Event) → words_of (anywhere e) ≡ words_of e
 words_anywhere (event.Registry e) = refl
-words_anywhere (event.Board e) = words_same line_of (λ ask. ask_of (arc_value ask).line) e (λ ask. refl)
+words_anywhere (event.Board e) = words_same origin_of (λ ask. ask_of (arc_value ask).origin) e (λ ask. refl)
 
 line_sentence : (line : List ℕ) (e : Event) → IsLineOf line e → sentence (words_of e) ≡ line
 line_sentence line (event.Registry e) k = sym k.1
@@ -28,7 +28,7 @@ line_sentence line (event.Board e) k = sym k.1
 
 line_from : (line : List ℕ) (e : Event) → IsFit (Some (anywhere e)) → sentence (words_of e) ≡ line → IsLineOf line e
 line_from line (event.Registry e) f w = (f, sym w)
-line_from line (event.Board e) f w = (sym (fits_same line_of (λ ask. ask_of (arc_value ask).line) e (λ ask. refl)) ∙ f, sym w)
+line_from line (event.Board e) f w = (sym (fits_same origin_of (λ ask. ask_of (arc_value ask).origin) e (λ ask. refl)) ∙ f, sym w)
 
 -- what words are read as, where they are the parts of a line
 pub read_as : (o x : Option Event) (words parts : List (List ℕ)) → option_map anywhere o ≡ event_in words → words ≡ parts → o ≡ x → event_in parts ≡ option_map anywhere x

@@ -27,6 +27,7 @@ use Rattle.board.specs.declared.entry.Entered.{Entered}
 use Rattle.board.specs.declared.entry.Entered.TheVariants.{InProgress, Busy, NoSpace}
 use Rattle.board.specs.declared.entry.BoardEntry.{BoardEntry}
 use Rattle.board.specs.declared.entry.BoardEntry.TheVariants as says
+use Rattle.reply_text.specs.declared.origin.Origin.{Origin}
 use Rattle.trace_check.specs.declared.lines.Known.{Known}
 use Rattle.trace_check.specs.declared.lines.Event.{Event}
 use Rattle.trace_check.specs.declared.lines.Event.TheVariants as event
@@ -173,6 +174,18 @@ registry_of caller name args =
     else if bytes_eq name (codes "list") then Some (reg.List caller)
     else numbered_of caller name (lone_number args)
 
+-- where an ask comes from, by the words before and behind a dot
+abbrev pub is_dot : ℕ → Bool
+is_dot b = b == 46
+
+abbrev pub origin_in : List (List ℕ) → Origin
+origin_in (line ∷ []) = record { client = 0; line = small_of line }
+origin_in (client ∷ line ∷ []) = record { client = small_of client; line = small_of line }
+origin_in other = record { client = 0; line = 0 }
+
+abbrev pub origin_read : List ℕ → Origin
+origin_read word = origin_in (slice_split is_dot word)
+
 -- A board's events, in the same way.
 abbrev pub shape_of : List ℕ → ℕ → Shape
 shape_of word size = if bytes_eq word (codes "pad") then Pad size else Queue size
@@ -183,7 +196,7 @@ born_of caller (pipe ∷ word ∷ max ∷ lists ∷ []) = Some (says.Born caller
 born_of caller other = None
 
 abbrev pub submit_of : ℕ → List (List ℕ) → Option (BoardEntry Known)
-submit_of caller (pipe ∷ number ∷ line ∷ []) = Some (says.Submit caller (number_of pipe) (number_of number) (ask_of (small_of line)))
+submit_of caller (pipe ∷ number ∷ line ∷ []) = Some (says.Submit caller (number_of pipe) (number_of number) (ask_of (origin_read line)))
 submit_of caller other = None
 
 abbrev pub entered_of : List (List ℕ) → Entered
@@ -192,7 +205,7 @@ entered_of other = NoSpace
 
 abbrev pub enq_of : ℕ → List (List ℕ) → Option (BoardEntry Known)
 enq_of caller (pipe ∷ line ∷ backlog ∷ answer) =
-    Some (says.Enq caller (number_of pipe) (ask_of (small_of line)) (bytes_eq backlog (codes "backlog")) (entered_of answer))
+    Some (says.Enq caller (number_of pipe) (ask_of (origin_read line)) (bytes_eq backlog (codes "backlog")) (entered_of answer))
 enq_of caller other = None
 
 abbrev pub started_of : List (List ℕ) → Option ℕ

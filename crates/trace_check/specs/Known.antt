@@ -1,4 +1,4 @@
--- A board's events with asks that are known by their lines alone.
+-- A board's events with asks that are known by their lines and clients alone.
 use Rattle.std.specs.Prelude.{ℕ, List, map}
 use Rattle.std.specs.declared.sync.Arc.{Arc}
 use Rattle.std.specs.declared.alloc.Global.{Global}
@@ -6,6 +6,7 @@ use Rattle.std.specs.Arc.{arc_value}
 use denote.RawPtr.{null_ptr}
 use Rattle.board.specs.declared.entry.BoardEntry.{BoardEntry}
 use Rattle.board.specs.declared.entry.BoardEntry.TheVariants.{Born, Submit, Take, Finish, Enq, Deq, Done, Hold, Go, Collect, Close, Share, Mask, Shut}
+use Rattle.reply_text.specs.declared.origin.Origin.{Origin}
 use Rattle.trace_check.specs.declared.lines.Known.{Known}
 
 -- an event with another ask in place of its ask
@@ -25,21 +26,21 @@ with_asks f (Share caller pipe) = Share caller pipe
 with_asks f (Mask caller pipe mask) = Mask caller pipe mask
 with_asks f (Shut caller) = Shut caller
 
--- the ask's line in place of the ask, where it lies in memory
-abbrev pub known_by : {A : Type 0} → (A → ℕ) → Arc A Global → Arc Known Global
-known_by line ask = record { ptr = ask.ptr; value = record { line = line (arc_value ask) } }
+-- where the ask comes from in place of the ask, where it lies in memory
+abbrev pub known_by : {A : Type 0} → (A → Origin) → Arc A Global → Arc Known Global
+known_by line ask = record { ptr = ask.ptr; value = record { origin = line (arc_value ask) } }
 
-abbrev pub with_line : {A : Type 0} → (A → ℕ) → BoardEntry A → BoardEntry Known
+abbrev pub with_line : {A : Type 0} → (A → Origin) → BoardEntry A → BoardEntry Known
 with_line line e = with_asks (known_by line) e
 
--- an ask of this line, wherever it lies in memory
-abbrev pub ask_of : ℕ → Arc Known Global
-ask_of line = record { ptr = null_ptr; value = record { line = line } }
+-- an ask that comes from there, wherever it lies in memory
+abbrev pub ask_of : Origin → Arc Known Global
+ask_of of = record { ptr = null_ptr; value = record { origin = of } }
 
 -- the event, wherever its ask lies
 abbrev pub unplaced : BoardEntry Known → BoardEntry Known
-unplaced e = with_asks (λ ask. ask_of (arc_value ask).line) e
+unplaced e = with_asks (λ ask. ask_of (arc_value ask).origin) e
 
--- of each ask its line
-abbrev pub with_lines : {A : Type 0} → (A → ℕ) → List (BoardEntry A) → List (BoardEntry Known)
+-- of each ask where it comes from
+abbrev pub with_lines : {A : Type 0} → (A → Origin) → List (BoardEntry A) → List (BoardEntry Known)
 with_lines line h = map (with_line line) h

@@ -11,11 +11,11 @@ use Rattle.trace_check.specs.BoardReasons as board_reasons
 use Rattle.trace_text.specs.Trace.{trace_of, AreEvents}
 use Rattle.trace_check.specs.declared.verdict.TraceVerdict.{TraceVerdict}
 use Rattle.trace_check.specs.declared.verdict.TraceVerdict.TheVariants.{Legal, Illegal, NoTrace}
-use Rattle.trace_check.specs.Lines.{line_of}
+use Rattle.trace_check.specs.Lines.{origin_of}
 
 -- the text is the trace of these lists
 abbrev pub IsTraceOf : List ℕ → List RegEntry → List (BoardEntry Known) → Type 0
-IsTraceOf text registry board = AreEvents line_of registry board × (text ≡ trace_of line_of registry board)
+IsTraceOf text registry board = AreEvents origin_of registry board × (text ≡ trace_of origin_of registry board)
 
 -- it is a trace
 abbrev pub IsTrace : List ℕ → Type 0
@@ -23,8 +23,8 @@ IsTrace text = (registry : List RegEntry) × (board : List (BoardEntry Known)) �
 
 -- these lists' trace is a front of the text, with this rest
 pub record HasFront (text : List ℕ) (registry : List RegEntry) (board : List (BoardEntry Known)) (rest : List ℕ) : Type 0 where
-  pub events : AreEvents line_of registry board
-  pub front : text ≡ trace_of line_of registry board ++ rest
+  pub events : AreEvents origin_of registry board
+  pub front : text ≡ trace_of origin_of registry board ++ rest
 
 -- it begins with the trace of so many events
 abbrev pub BeginsWith : List ℕ → ℕ → Type 0

@@ -6,12 +6,13 @@ ghost use Rattle.std.specs.Option.{option_map};
 ghost use Rattle.std.specs.Str.{bytes_eq};
 ghost use Rattle.alg_registry.specs.declared.entry.RegEntry.TheVariants as Entry;
 ghost use Rattle.trace_check.specs.Known.{unplaced};
-ghost use Rattle.trace_check.specs.Guessing.{digit_after, number_from, number_of, small_of, ids_of, kind_of, wrap_of, errno_of, enlisted_of, plain_spec, enlist_of, looked_of, look_of, spec_of, built_of, joined_of, failed_of, ending_of, end_of, unlist_of, get_of, refs_of, lone_number, pair_in, numbered_of, registry_of, shape_of, born_of, submit_of, entered_of, enq_of, started_of, deq_of, hex_value, mask_in, mask_of, counted_of, piped_of, short_of, board_of};
+ghost use Rattle.trace_check.specs.Guessing.{digit_after, number_from, number_of, small_of, ids_of, kind_of, wrap_of, errno_of, enlisted_of, plain_spec, enlist_of, looked_of, look_of, spec_of, built_of, joined_of, failed_of, ending_of, end_of, unlist_of, get_of, refs_of, lone_number, pair_in, numbered_of, registry_of, origin_in, origin_read, shape_of, born_of, submit_of, entered_of, enq_of, started_of, deq_of, hex_value, mask_in, mask_of, counted_of, piped_of, short_of, board_of};
 
 use crate::lines::Known;
 use alg_registry::{EndAnswer, Enlisted, Ids, Kind, Looked, RegEntry, Spec, Wrap};
 use board::{BoardEntry, Entered, Shape};
 use kc_base::{Bytes, Errno};
+use reply_text::Origin;
 use std::alloc::{AllocError, Global};
 use std::sync::Arc;
 
@@ -449,6 +450,30 @@ fn born_of(caller: u32, words: &[&[u8]]) -> Option<BoardEntry<Known>>
     }
 }
 
+// Where an ask comes from, by the words before and behind a dot.
+fn origin_in(parts: &[&[u8]]) -> Origin
+    ensures { result ≡ origin_in (map (λ part. part.now) parts.now) }
+{
+    match parts {
+        [line] => Origin {
+            client: 0,
+            line: small_of(line),
+        },
+        [client, line] => Origin {
+            client: small_of(client),
+            line: small_of(line),
+        },
+        _ => Origin { client: 0, line: 0 },
+    }
+}
+
+fn origin_read(alloc: Global, word: &[u8]) -> Result<Origin, AllocError>
+    ensures { IfOk result (λ of. of ≡ origin_read word.now) }
+{
+    let parts = parts_of(alloc, word, b'.')?;
+    Ok(origin_in(&parts))
+}
+
 fn submit_of(
     alloc: Global,
     caller: u32,
@@ -459,8 +484,8 @@ fn submit_of(
     let [pipe, number, line] = words else {
         return Ok(None);
     };
-    let line = small_of(line);
-    let ask = Arc::new(alloc, Known { line })?;
+    let origin = origin_read(alloc, line)?;
+    let ask = Arc::new(alloc, Known { origin })?;
     Ok(Some(BoardEntry::Submit {
         caller,
         pipe: number_of(pipe),
@@ -489,8 +514,8 @@ fn enq_of(
     let [pipe, line, backlog, answer @ ..] = words else {
         return Ok(None);
     };
-    let line = small_of(line);
-    let ask = Arc::new(alloc, Known { line })?;
+    let origin = origin_read(alloc, line)?;
+    let ask = Arc::new(alloc, Known { origin })?;
     Ok(Some(BoardEntry::Enq {
         caller,
         pipe: number_of(pipe),

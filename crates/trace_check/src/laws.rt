@@ -19,8 +19,8 @@ use trace_text::Lined;
 /// Whether a board's events are legal depends on nothing of an ask, and their trace on its line alone. So the trace of legal
 /// histories is a legal trace.
 pub fn asks_are_lines<A: Lined>()
-    ensures legal { (h : List (BoardEntry A)) → LegalBoard h ↔ LegalBoard (with_lines A.line h) }
-    ensures traced { (r : List RegEntry) (h : List (BoardEntry A)) → AreEvents A.line r h → LegalReg r → LegalBoard h → IsLegalTrace (trace_of A.line r h) }
+    ensures legal { (h : List (BoardEntry A)) → LegalBoard h ↔ LegalBoard (with_lines A.origin h) }
+    ensures traced { (r : List RegEntry) (h : List (BoardEntry A)) → AreEvents A.origin r h → LegalReg r → LegalBoard h → IsLegalTrace (trace_of A.origin r h) }
 {}
 
 /// A text has one verdict.

@@ -12,20 +12,21 @@ ghost use Rattle.trace_check.specs.Lines.{words_of, anywhere, IsReadAs};
 use crate::guessing::{board_of, is_same, parts_of, registry_of, small_of};
 use alg_registry::RegEntry;
 use board::BoardEntry;
+use reply_text::Origin;
 use std::alloc::{AllocError, Global};
 use trace_text::{Lined, board_line, registry_line};
 
-/// An ask of which nothing is known but its line.
+/// An ask of which nothing is known but from which line of which client's script it comes.
 #[derive(Clone, Copy, Debug, PartialEq, Eq)]
 pub struct Known {
-    pub line: u32,
+    pub origin: Origin,
 }
 
 impl Lined for Known {
-    ghost line = { λ known. known.line };
+    ghost origin = { λ known. known.origin };
 
-    fn line(&self) -> u32 {
-        self.line
+    fn origin(&self) -> Origin {
+        self.origin
     }
 }
 

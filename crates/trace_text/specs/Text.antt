@@ -4,6 +4,8 @@ use Rattle.std.specs.Fmt.{decimal}
 use Rattle.std.specs.List.{join_with_byte}
 use Rattle.std.specs.Arc.{arc_value}
 use Rattle.kc_base.specs.Errno.{name_of}
+use Rattle.reply_text.specs.Origins.{origin_word}
+use Rattle.reply_text.specs.declared.origin.Origin.{Origin}
 use Rattle.alg_registry.specs.declared.spec.Kind.{Kind}
 use Rattle.alg_registry.specs.declared.spec.Kind.TheVariants.{Cipher, Hash, Ghash, Skcipher, Aead, Mac}
 use Rattle.alg_registry.specs.declared.spec.Wrap.{Wrap}
@@ -113,20 +115,20 @@ hex_digit n = if nat_lt n 10 then 48 + n else 87 + n
 abbrev pub mask_word : ℕ → List ℕ
 mask_word mask = hex_digit (mask / 4096 % 16) ∷ hex_digit (mask / 256 % 16) ∷ hex_digit (mask / 16 % 16) ∷ hex_digit (mask % 16) ∷ []
 
--- the words of a board's event, where an ask is known by its line alone
-abbrev pub board_words : {A : Type 0} → (A → ℕ) → BoardEntry A → List (List ℕ)
-board_words line (Born caller pipe shape) = codes "b" ∷ decimal caller ∷ codes "born" ∷ decimal pipe ∷ shape_words shape
-board_words line (Submit caller pipe number ask) = codes "b" ∷ decimal caller ∷ codes "submit" ∷ decimal pipe ∷ decimal number ∷ decimal (line (arc_value ask)) ∷ []
-board_words line (Take caller pipe number) = codes "b" ∷ decimal caller ∷ codes "take" ∷ decimal pipe ∷ decimal number ∷ []
-board_words line (Finish caller pipe number) = codes "b" ∷ decimal caller ∷ codes "finish" ∷ decimal pipe ∷ decimal number ∷ []
-board_words line (Enq caller pipe ask backlog answer) =
-    codes "b" ∷ decimal caller ∷ codes "enq" ∷ decimal pipe ∷ decimal (line (arc_value ask)) ∷ backlog_word backlog ∷ entered_words answer
-board_words line (Deq caller pipe number started) = codes "b" ∷ decimal caller ∷ codes "deq" ∷ decimal pipe ∷ decimal number ∷ started_words started
-board_words line (Done caller pipe number) = codes "b" ∷ decimal caller ∷ codes "done" ∷ decimal pipe ∷ decimal number ∷ []
-board_words line (Hold caller pipe) = codes "b" ∷ decimal caller ∷ codes "hold" ∷ decimal pipe ∷ []
-board_words line (Go caller pipe) = codes "b" ∷ decimal caller ∷ codes "go" ∷ decimal pipe ∷ []
-board_words line (Collect caller pipe to) = codes "b" ∷ decimal caller ∷ codes "collect" ∷ decimal pipe ∷ decimal to ∷ []
-board_words line (Close caller pipe) = codes "b" ∷ decimal caller ∷ codes "close" ∷ decimal pipe ∷ []
-board_words line (Share caller pipe) = codes "b" ∷ decimal caller ∷ codes "share" ∷ decimal pipe ∷ []
-board_words line (Mask caller pipe mask) = codes "b" ∷ decimal caller ∷ codes "mask" ∷ decimal pipe ∷ mask_word mask ∷ []
-board_words line (Shut caller) = codes "b" ∷ decimal caller ∷ codes "shut" ∷ []
+-- the words of a board's event, where an ask is known by its line alone, and its client
+abbrev pub board_words : {A : Type 0} → (A → Origin) → BoardEntry A → List (List ℕ)
+board_words of (Born caller pipe shape) = codes "b" ∷ decimal caller ∷ codes "born" ∷ decimal pipe ∷ shape_words shape
+board_words of (Submit caller pipe number ask) = codes "b" ∷ decimal caller ∷ codes "submit" ∷ decimal pipe ∷ decimal number ∷ origin_word (of (arc_value ask)) ∷ []
+board_words of (Take caller pipe number) = codes "b" ∷ decimal caller ∷ codes "take" ∷ decimal pipe ∷ decimal number ∷ []
+board_words of (Finish caller pipe number) = codes "b" ∷ decimal caller ∷ codes "finish" ∷ decimal pipe ∷ decimal number ∷ []
+board_words of (Enq caller pipe ask backlog answer) =
+    codes "b" ∷ decimal caller ∷ codes "enq" ∷ decimal pipe ∷ origin_word (of (arc_value ask)) ∷ backlog_word backlog ∷ entered_words answer
+board_words of (Deq caller pipe number started) = codes "b" ∷ decimal caller ∷ codes "deq" ∷ decimal pipe ∷ decimal number ∷ started_words started
+board_words of (Done caller pipe number) = codes "b" ∷ decimal caller ∷ codes "done" ∷ decimal pipe ∷ decimal number ∷ []
+board_words of (Hold caller pipe) = codes "b" ∷ decimal caller ∷ codes "hold" ∷ decimal pipe ∷ []
+board_words of (Go caller pipe) = codes "b" ∷ decimal caller ∷ codes "go" ∷ decimal pipe ∷ []
+board_words of (Collect caller pipe to) = codes "b" ∷ decimal caller ∷ codes "collect" ∷ decimal pipe ∷ decimal to ∷ []
+board_words of (Close caller pipe) = codes "b" ∷ decimal caller ∷ codes "close" ∷ decimal pipe ∷ []
+board_words of (Share caller pipe) = codes "b" ∷ decimal caller ∷ codes "share" ∷ decimal pipe ∷ []
+board_words of (Mask caller pipe mask) = codes "b" ∷ decimal caller ∷ codes "mask" ∷ decimal pipe ∷ mask_word mask ∷ []
+board_words of (Shut caller) = codes "b" ∷ decimal caller ∷ codes "shut" ∷ []

@@ -20,11 +20,12 @@ use Rattle.board.specs.declared.entry.Entered.{Entered}
 use Rattle.board.specs.declared.entry.Entered.TheVariants.{InProgress, Busy, NoSpace}
 use Rattle.board.specs.declared.entry.BoardEntry.{BoardEntry}
 use Rattle.board.specs.declared.entry.BoardEntry.TheVariants.{Born, Submit, Take, Finish, Enq, Deq, Done, Hold, Go, Collect, Close, Share, Mask, Shut}
+use Rattle.reply_text.specs.declared.origin.Origin.{Origin}
 use Rattle.trace_text.specs.Text.{sentence, reg_words, board_words}
 
 -- the registry's events, and then the board's, a line each
-abbrev pub trace_of : {A : Type 0} → (A → ℕ) → List RegEntry → List (BoardEntry A) → List ℕ
-trace_of line registry board = flat_map (λ e. sentence (reg_words e)) registry ++ flat_map (λ e. sentence (board_words line e)) board
+abbrev pub trace_of : {A : Type 0} → (A → Origin) → List RegEntry → List (BoardEntry A) → List ℕ
+trace_of of registry board = flat_map (λ e. sentence (reg_words e)) registry ++ flat_map (λ e. sentence (board_words of e)) board
 
 -- a printed character of ASCII
 abbrev pub is_visible : ℕ → Bool
@@ -110,30 +111,33 @@ entered_fits (InProgress number) = is_u64 number
 entered_fits (Busy number) = is_u64 number
 entered_fits NoSpace = true
 
-abbrev pub board_fits : {A : Type 0} → (A → ℕ) → BoardEntry A → Bool
-board_fits line (Born caller pipe shape) = is_u32 caller && (is_u64 pipe && shape_fits shape)
-board_fits line (Submit caller pipe number ask) = is_u32 caller && (is_u64 pipe && (is_u64 number && is_u32 (line (arc_value ask))))
-board_fits line (Take caller pipe number) = is_u32 caller && (is_u64 pipe && is_u64 number)
-board_fits line (Finish caller pipe number) = is_u32 caller && (is_u64 pipe && is_u64 number)
-board_fits line (Enq caller pipe ask backlog answer) = is_u32 caller && (is_u64 pipe && (is_u32 (line (arc_value ask)) && entered_fits answer))
-board_fits line (Deq caller pipe number started) = is_u32 caller && (is_u64 pipe && (is_u64 number && option_fits started))
-board_fits line (Done caller pipe number) = is_u32 caller && (is_u64 pipe && is_u64 number)
-board_fits line (Hold caller pipe) = is_u32 caller && is_u64 pipe
-board_fits line (Go caller pipe) = is_u32 caller && is_u64 pipe
-board_fits line (Collect caller pipe to) = is_u32 caller && (is_u64 pipe && is_u64 to)
-board_fits line (Close caller pipe) = is_u32 caller && is_u64 pipe
-board_fits line (Share caller pipe) = is_u32 caller && is_u64 pipe
-board_fits line (Mask caller pipe mask) = is_u32 caller && (is_u64 pipe && is_u16 mask)
-board_fits line (Shut caller) = is_u32 caller
+abbrev pub origin_fits : Origin → Bool
+origin_fits of = is_u32 of.client && is_u32 of.line
+
+abbrev pub board_fits : {A : Type 0} → (A → Origin) → BoardEntry A → Bool
+board_fits of (Born caller pipe shape) = is_u32 caller && (is_u64 pipe && shape_fits shape)
+board_fits of (Submit caller pipe number ask) = is_u32 caller && (is_u64 pipe && (is_u64 number && origin_fits (of (arc_value ask))))
+board_fits of (Take caller pipe number) = is_u32 caller && (is_u64 pipe && is_u64 number)
+board_fits of (Finish caller pipe number) = is_u32 caller && (is_u64 pipe && is_u64 number)
+board_fits of (Enq caller pipe ask backlog answer) = is_u32 caller && (is_u64 pipe && (origin_fits (of (arc_value ask)) && entered_fits answer))
+board_fits of (Deq caller pipe number started) = is_u32 caller && (is_u64 pipe && (is_u64 number && option_fits started))
+board_fits of (Done caller pipe number) = is_u32 caller && (is_u64 pipe && is_u64 number)
+board_fits of (Hold caller pipe) = is_u32 caller && is_u64 pipe
+board_fits of (Go caller pipe) = is_u32 caller && is_u64 pipe
+board_fits of (Collect caller pipe to) = is_u32 caller && (is_u64 pipe && is_u64 to)
+board_fits of (Close caller pipe) = is_u32 caller && is_u64 pipe
+board_fits of (Share caller pipe) = is_u32 caller && is_u64 pipe
+board_fits of (Mask caller pipe mask) = is_u32 caller && (is_u64 pipe && is_u16 mask)
+board_fits of (Shut caller) = is_u32 caller
 
 -- the numbers of the lists' events are within their types
-abbrev pub FitTypes : {A : Type 0} → (A → ℕ) → List RegEntry → List (BoardEntry A) → Type 0
-FitTypes line registry board = (list_all fits registry ≡ true) × (list_all (board_fits line) board ≡ true)
+abbrev pub FitTypes : {A : Type 0} → (A → Origin) → List RegEntry → List (BoardEntry A) → Type 0
+FitTypes of registry board = (list_all fits registry ≡ true) × (list_all (board_fits of) board ≡ true)
 
 -- the event can be printed, and its numbers are within their types
 abbrev pub is_event : RegEntry → Bool
 is_event e = has_text e && fits e
 
 -- the lists have a trace, and their numbers are within their types
-abbrev pub AreEvents : {A : Type 0} → (A → ℕ) → List RegEntry → List (BoardEntry A) → Type 0
-AreEvents line registry board = (list_all is_event registry ≡ true) × (list_all (board_fits line) board ≡ true)
+abbrev pub AreEvents : {A : Type 0} → (A → Origin) → List RegEntry → List (BoardEntry A) → Type 0
+AreEvents of registry board = (list_all is_event registry ≡ true) × (list_all (board_fits of) board ≡ true)

@@ -1,23 +1,41 @@
 //! The lines of a board's events.
 
-ghost use Rattle.std.specs.Prelude.{◌≡◌, ◌∷◌, [], ℕ, codes, true, IfOk, OnOk};
+ghost use Rattle.std.specs.Prelude.{◌≡◌, ◌∷◌, [], ◌&&◌, codes, true, IfOk, OnOk};
 ghost use Rattle.std.specs.Fmt.{decimal};
 ghost use Rattle.std.specs.Arc.{arc_value};
+ghost use Rattle.reply_text.specs.Origins.{origin_word};
 ghost use Rattle.trace_text.specs.Text.{sentence, board_words, shape_words, started_words, entered_words, backlog_word, mask_word};
-ghost use Rattle.trace_text.specs.Trace.{shape_fits, entered_fits, option_fits, board_fits};
+ghost use Rattle.trace_text.specs.Trace.{shape_fits, entered_fits, option_fits, origin_fits, board_fits};
 
 use crate::words::{backlog_word, mask_word, sentence_of};
 use board::{BoardEntry, Entered, Shape};
 use kc_base::Bytes;
+use reply_text::Origin;
 use std::alloc::{AllocError, Global};
 
-/// What knows the line of a script that asked for it.
+/// What knows from which line of which client's script it is.
 pub trait Lined {
-    ghost line: { Self → ℕ };
+    ghost use Rattle.reply_text.specs.declared.origin.Origin.{Origin};
 
-    /// The line.
-    fn line(&self) -> u32
-        ensures { result ≡ line self.now };
+    ghost origin: { Self → Origin };
+
+    /// The line and the client.
+    fn origin(&self) -> Origin
+        ensures { result ≡ origin self.now };
+}
+
+// A line as one word, behind its client and a dot where that isn't the first.
+fn line_word(alloc: Global, client: u32, line: u32) -> Result<Bytes, AllocError>
+    ensures text { IfOk result (λ word. word ≡ origin_word (record { client = client; line = line })) }
+    ensures fits { OnOk result (origin_fits (record { client = client; line = line }) ≡ true) }
+{
+    let mut word = Bytes::new(alloc);
+    if client != 0 {
+        word.append(client.to_string(alloc)?.as_bytes())?;
+        word.push(b'.')?;
+    }
+    word.append(line.to_string(alloc)?.as_bytes())?;
+    Ok(word)
 }
 
 // An event with no numbers.
@@ -126,14 +144,15 @@ fn submit_text(
     caller: u32,
     pipe: u64,
     number: u64,
-    line: u32,
+    of: Origin,
 ) -> Result<Bytes, AllocError>
-    ensures { IfOk result (λ text. text ≡ sentence (codes "b" ∷ decimal caller ∷ codes "submit" ∷ decimal pipe ∷ decimal number ∷ decimal line ∷ [])) }
+    ensures text { IfOk result (λ text. text ≡ sentence (codes "b" ∷ decimal caller ∷ codes "submit" ∷ decimal pipe ∷ decimal number ∷ origin_word of ∷ [])) }
+    ensures fits { OnOk result (origin_fits of ≡ true) }
 {
     let caller = caller.to_string(alloc)?;
     let pipe = pipe.to_string(alloc)?;
     let number = number.to_string(alloc)?;
-    let line = line.to_string(alloc)?;
+    let line = line_word(alloc, of.client, of.line)?;
     sentence_of(
         alloc,
         b"b",
@@ -142,26 +161,25 @@ fn submit_text(
             b"submit".as_slice(),
             pipe.as_bytes(),
             number.as_bytes(),
-            line.as_bytes(),
+            line.as_slice(),
         ],
     )
 }
 
 // An answer of a queue that accepts.
-fn accepted_text(
+fn accepted_text<'a>(
     alloc: Global,
     caller: u32,
     pipe: u64,
-    line: u32,
-    backlog: &[u8],
-    word: &[u8],
+    line: &'a [u8],
+    backlog: &'a [u8],
+    word: &'a [u8],
     number: u64,
 ) -> Result<Bytes, AllocError>
-    ensures { IfOk result (λ text. text ≡ sentence (codes "b" ∷ decimal caller ∷ codes "enq" ∷ decimal pipe ∷ decimal line ∷ backlog.now ∷ word.now ∷ decimal number ∷ [])) }
+    ensures { IfOk result (λ text. text ≡ sentence (codes "b" ∷ decimal caller ∷ codes "enq" ∷ decimal pipe ∷ line.now ∷ backlog.now ∷ word.now ∷ decimal number ∷ [])) }
 {
     let caller = caller.to_string(alloc)?;
     let pipe = pipe.to_string(alloc)?;
-    let line = line.to_string(alloc)?;
     let number = number.to_string(alloc)?;
     sentence_of(
         alloc,
@@ -170,7 +188,7 @@ fn accepted_text(
             caller.as_bytes(),
             b"enq".as_slice(),
             pipe.as_bytes(),
-            line.as_bytes(),
+            line,
             backlog,
             word,
             number.as_bytes(),
@@ -182,13 +200,15 @@ fn enq_text(
     alloc: Global,
     caller: u32,
     pipe: u64,
-    line: u32,
+    of: Origin,
     backlog: bool,
     answer: Entered,
 ) -> Result<Bytes, AllocError>
-    ensures text { IfOk result (λ text. text ≡ sentence (codes "b" ∷ decimal caller ∷ codes "enq" ∷ decimal pipe ∷ decimal line ∷ backlog_word backlog ∷ entered_words answer)) }
-    ensures fits { OnOk result (entered_fits answer ≡ true) }
+    ensures text { IfOk result (λ text. text ≡ sentence (codes "b" ∷ decimal caller ∷ codes "enq" ∷ decimal pipe ∷ origin_word of ∷ backlog_word backlog ∷ entered_words answer)) }
+    ensures fits { OnOk result ((origin_fits of && entered_fits answer) ≡ true) }
 {
+    let line = line_word(alloc, of.client, of.line)?;
+    let line = line.as_slice();
     let word = backlog_word(backlog);
     match answer {
         Entered::InProgress(number) => {
@@ -200,7 +220,6 @@ fn enq_text(
         Entered::NoSpace => {
             let caller = caller.to_string(alloc)?;
             let pipe = pipe.to_string(alloc)?;
-            let line = line.to_string(alloc)?;
             sentence_of(
                 alloc,
                 b"b",
@@ -208,7 +227,7 @@ fn enq_text(
                     caller.as_bytes(),
                     b"enq".as_slice(),
                     pipe.as_bytes(),
-                    line.as_bytes(),
+                    line,
                     word,
                     b"ENOSPC".as_slice(),
                 ],
@@ -280,8 +299,8 @@ fn mask_text(alloc: Global, caller: u32, pipe: u64, mask: u16) -> Result<Bytes, 
 
 /// The line of a board's event, whose numbers are within their types.
 pub fn board_line<A: Lined>(alloc: Global, event: &BoardEntry<A>) -> Result<Bytes, AllocError>
-    ensures text { IfOk result (λ text. text ≡ sentence (board_words A.line event.now)) }
-    ensures fits { OnOk result (board_fits A.line event.now ≡ true) }
+    ensures text { IfOk result (λ text. text ≡ sentence (board_words A.origin event.now)) }
+    ensures fits { OnOk result (board_fits A.origin event.now ≡ true) }
 {
     match event {
         BoardEntry::Born {
@@ -294,7 +313,7 @@ pub fn board_line<A: Lined>(alloc: Global, event: &BoardEntry<A>) -> Result<Byte
             pipe,
             number,
             ask,
-        } => submit_text(alloc, *caller, *pipe, *number, ask.line()),
+        } => submit_text(alloc, *caller, *pipe, *number, ask.origin()),
         BoardEntry::Take {
             caller,
             pipe,
@@ -311,7 +330,7 @@ pub fn board_line<A: Lined>(alloc: Global, event: &BoardEntry<A>) -> Result<Byte
             ask,
             backlog,
             answer,
-        } => enq_text(alloc, *caller, *pipe, ask.line(), *backlog, *answer),
+        } => enq_text(alloc, *caller, *pipe, ask.origin(), *backlog, *answer),
         BoardEntry::Deq {
             caller,
             pipe,

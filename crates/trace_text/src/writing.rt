@@ -3,6 +3,7 @@
 ghost use Rattle.std.specs.Prelude.{◌≡◌, ◌++◌, true, IfOk, OnOk};
 ghost use Rattle.std.specs.List.{flat_map, list_all};
 ghost use Rattle.trace_text.specs.Text.{sentence, reg_words, board_words};
+ghost use Rattle.trace_text.specs.Asks.{ask_origin};
 ghost use Rattle.trace_text.specs.Trace.{trace_of, fits, board_fits, FitTypes};
 
 use crate::board_text::{Lined, board_line};
@@ -10,14 +11,20 @@ use crate::registry_text::registry_line;
 use alg_registry::{RegEntry, RegLog};
 use board::{BoardEntry, BoardLog};
 use kc_base::Bytes;
+use reply_text::Origin;
 use std::alloc::{AllocError, Global};
 use transforms::Ask;
 
 impl Lined for Ask {
-    ghost line = { λ ask. ask.line };
+    ghost use Rattle.trace_text.specs.Asks.{ask_origin};
 
-    fn line(&self) -> u32 {
-        self.line
+    ghost origin = { ask_origin };
+
+    fn origin(&self) -> Origin {
+        Origin {
+            client: self.client,
+            line: self.line,
+        }
     }
 }
 
@@ -36,8 +43,8 @@ fn put_board<A: Lined>(
     text: &mut Bytes,
     events: &[BoardEntry<A>],
 ) -> Result<(), AllocError>
-    ensures text { OnOk result (text.new ≡ text.old ++ flat_map (λ e. sentence (board_words A.line e)) events.now) }
-    ensures fits { OnOk result (list_all (board_fits A.line) events.now ≡ true) }
+    ensures text { OnOk result (text.new ≡ text.old ++ flat_map (λ e. sentence (board_words A.origin e)) events.now) }
+    ensures fits { OnOk result (list_all (board_fits A.origin) events.now ≡ true) }
 {
     for event in events {
         text.append(board_line(alloc, event)?.as_slice())?;
@@ -52,8 +59,8 @@ pub fn write_trace(
     registry: &RegLog,
     board: &BoardLog<Ask>,
 ) -> Result<Bytes, AllocError>
-    ensures text { IfOk result (λ text. text ≡ trace_of (λ ask. ask.line) registry.now board.now) }
-    ensures fits { OnOk result (FitTypes (λ ask. ask.line) registry.now board.now) }
+    ensures text { IfOk result (λ text. text ≡ trace_of ask_origin registry.now board.now) }
+    ensures fits { OnOk result (FitTypes ask_origin registry.now board.now) }
 {
     let mut text = Bytes::new(alloc);
     put_registry(alloc, &mut text, registry.entries())?;

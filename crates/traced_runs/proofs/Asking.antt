@@ -5,7 +5,7 @@ use Rattle.std.specs.List.{All}
 use Rattle.std.proofs.lemmas.Bool.{eq-eqb}
 use Rattle.std.proofs.lemmas.List.Elements.{All-nil, All-cons, All-head, All-tail}
 use Rattle.kc_base.specs.declared.error_numbers.Errno.{Errno}
-use Rattle.kc_base.specs.declared.error_numbers.Errno.TheVariants.{EEXIST, EINVAL, EMFILE}
+use Rattle.kc_base.specs.declared.error_numbers.Errno.TheVariants.{ENOENT, EEXIST, EINVAL, EMFILE}
 use Rattle.alg_names.specs.Name.{Tree}
 use Rattle.alg_registry.specs.declared.entry.RegEntry.{RegEntry}
 use Rattle.alg_registry.specs.declared.entry.RegEntry.TheVariants as entry
@@ -25,17 +25,18 @@ use Rattle.script_text.specs.declared.commands.Line.{Line}
 use Rattle.script_text.specs.declared.commands.Line.TheVariants as line
 use Rattle.dialogues.specs.Allocating.{is_chained, shape_for, fault_of, creates, binds, binds_plan, alloc, closes}
 use Rattle.dialogues.specs.BoardCalls.{BoardCall, Asked}
-use Rattle.dialogues.specs.Dialogues.{Dialogue, Ends, Says, Asks, Posts, followed, unless, for_live}
-use Rattle.dialogues.specs.Lines.{command_dialogue, line_dialogue, lines_dialogue, script}
+use Rattle.dialogues.specs.Dialogues.{Dialogue, Ends, Says, Asks, Posts, followed, unless, for_live, missing}
+use Rattle.dialogues.specs.Lines.{command_dialogue, line_dialogue, lines_dialogue, script, script_beside}
 use Rattle.dialogues.specs.Names.{name_read, is_queue_length, plan_for, driver_spec}
-use Rattle.dialogues.specs.Piping.{if_pad, with_pad, if_queue, with_queue, polls_in, drains_in, lets_go, drains_at_end, let_all_go, drain_all, end}
+use Rattle.dialogues.specs.Piping.{if_pad, with_pad, if_queue, with_queue, polls_in, drains_in, lets_go, drains_at_end, let_all_go, drain_all, end, end_beside}
 use Rattle.dialogues.specs.Probing.{found_said, looks_up, looks_all}
 use Rattle.dialogues.specs.Questions.{RegAnswer, reg_call, reg_answer, BoardAnswer, board_call, board_answer}
 use Rattle.dialogues.specs.Registering.{enlist_spec}
 use Rattle.dialogues.specs.RegistryCalls.{RegCall, Unlists, Counts, reg_call_of, reg_calls, reg_calls_from, prepend}
 use Rattle.dialogues.specs.Requesting.{is_too_big, entered, hands_in, requests_in, requests_under, request}
+use Rattle.dialogues.specs.Sharing.{shares, share_all, closing}
 use Rattle.dialogues.specs.Turns.{Turn, broken, asking, posting, turn_of}
-use Rattle.dialogues.specs.Walk.{Walk, Live, Pipe, live_of}
+use Rattle.dialogues.specs.Walk.{Walk, Live, Pipe, live_of, shared_of, either}
 use Rattle.traced_runs.specs.Naming.{NamesWords, AsksOfWord}
 
 -- ---- dialogues
@@ -82,9 +83,9 @@ unless_words : (walk : Walk) (n : ℕ) (refusals : List (Bool × Errno)) (rest :
 unless_words walk n [] rest words = words
 unless_words walk n (refusal ∷ refusals) rest words = if_words refusal.0 _ _ tt (unless_words walk n refusals rest words)
 
-label_words : (walk : Walk) (n : ℕ) (o : Option Live) (rest : Live → Dialogue) → ((live : Live) → AsksWords (rest live)) → AsksWords (for_live walk n o rest)
-label_words walk n None rest words = tt
-label_words walk n (Some live) rest words = words live
+label_words : (walk : Walk) (n : ℕ) (o : Option Live) (errno : Errno) (rest : Live → Dialogue) → ((live : Live) → AsksWords (rest live)) → AsksWords (for_live walk n o errno rest)
+label_words walk n None errno rest words = tt
+label_words walk n (Some live) errno rest words = words live
 
 -- ---- commands
 
@@ -116,21 +117,21 @@ binds_words workers walk n label len (Entry id spec) = plan_words workers walk n
 alloc_words : (workers : ℕ) (walk : Walk) (n : ℕ) (label name : List ℕ) (len : Option ℕ) → AsksWords (alloc workers walk n label name len)
 alloc_words workers walk n label name len =
     unless_words walk n
-    ((is_some (live_of walk label), EEXIST) ∷ (nat_le 4096 (length walk.lives), EMFILE) ∷ fault_of (name_read name) ++ (not (is_queue_length len), EINVAL) ∷ [])
+    ((is_some (either (live_of walk label) (shared_of walk label)), EEXIST) ∷ (nat_le 4096 (length walk.lives), EMFILE) ∷ fault_of (name_read name) ++ (not (is_queue_length len), EINVAL) ∷ [])
     _ (λ found. (tt, binds_words workers walk n label len found))
 
 closes_words : (walk : Walk) (n : ℕ) (live : Live) (pipe : Option Pipe) → AsksWords (closes walk n live pipe)
 closes_words walk n live None = λ done. (tt, tt)
 closes_words walk n live (Some pipe) = if_words (nat_lt pipe.delivered (length pipe.lines)) _ _ tt (λ closed done. (tt, tt))
 
-entered_words : (walk : Walk) (n : ℕ) (live : Live) (pipe : Pipe) (request : Request) (answer : Entered) → AsksWords (entered walk n live pipe request answer)
-entered_words walk n live pipe request (InProgress number) = tt
-entered_words walk n live pipe request (Busy number) = tt
-entered_words walk n live pipe request NoSpace = tt
+entered_words : (walk : Walk) (n : ℕ) (live : Live) (pipe : Pipe) (asked : Asked) (answer : Entered) → AsksWords (entered walk n live pipe asked answer)
+entered_words walk n live pipe asked (InProgress number) = tt
+entered_words walk n live pipe asked (Busy number) = tt
+entered_words walk n live pipe asked NoSpace = tt
 
 hands_words : (walk : Walk) (n : ℕ) (live : Live) (pipe : Pipe) (asked : Asked) (backlog : Bool) (bound : Option ℕ) → AsksWords (hands_in walk n live pipe asked backlog bound)
 hands_words walk n live pipe asked backlog None = λ number. tt
-hands_words walk n live pipe asked backlog (Some max) = λ answer. entered_words walk n live pipe asked.request answer
+hands_words walk n live pipe asked backlog (Some max) = λ answer. entered_words walk n live pipe asked answer
 
 requests_words : (walk : Walk) (n : ℕ) (live : Live) (asked : Asked) (backlog : Bool) (pipe : Option Pipe) → AsksWords (requests_in walk n live asked backlog pipe)
 requests_words walk n live asked backlog None = tt
@@ -141,7 +142,7 @@ key_words walk n live request backlog None = tt
 key_words walk n live request backlog (Some key) = if_words (not (takes live.plan live.tag_size request)) _ _ tt (requests_words walk n live _ backlog live.pipe)
 
 request_words : (walk : Walk) (n : ℕ) (label : List ℕ) (asked : Request) (backlog : Bool) → AsksWords (request walk n label asked backlog)
-request_words walk n label asked backlog = label_words walk n (live_of walk label) _ (λ live. key_words walk n live asked backlog live.key)
+request_words walk n label asked backlog = label_words walk n (either (live_of walk label) (shared_of walk label)) ENOENT _ (λ live. key_words walk n live asked backlog live.key)
 
 if_pad_words : (walk : Walk) (n : ℕ) (bound : Option ℕ) (rest : Dialogue) → AsksWords rest → AsksWords (if_pad walk n bound rest)
 if_pad_words walk n None rest words = words
@@ -173,18 +174,18 @@ command_words workers walk n (command.Register driver priority) word = register_
 command_words workers walk n (command.Unregister driver) word = λ id. (word, tt)
 command_words workers walk n (command.Probe names) word = looks_words n names _ (λ answers. tt)
 command_words workers walk n (command.Alloc label name len) word = alloc_words workers walk n label name len
-command_words workers walk n (command.Key label key) word = label_words walk n (live_of walk label) _ (λ live. if_words (not (takes_key live.plan key)) _ _ tt tt)
-command_words workers walk n (command.Authsize label size) word = label_words walk n (live_of walk label) _ (λ live. if_words (not (takes_tag live.plan size)) _ _ tt tt)
+command_words workers walk n (command.Key label key) word = label_words walk n (live_of walk label) (missing (shared_of walk label)) _ (λ live. if_words (not (takes_key live.plan key)) _ _ tt tt)
+command_words workers walk n (command.Authsize label size) word = label_words walk n (live_of walk label) (missing (shared_of walk label)) _ (λ live. if_words (not (takes_tag live.plan size)) _ _ tt tt)
 command_words workers walk n (command.Enc label iv aad text backlog) word = request_words walk n label _ backlog
 command_words workers walk n (command.Dec label iv aad text backlog) word = request_words walk n label _ backlog
 command_words workers walk n (command.Mac label text backlog) word = request_words walk n label _ backlog
-command_words workers walk n (command.Bulk label size seed) word = label_words walk n (live_of walk label) _ (λ live. tt)
-command_words workers walk n (command.Mask label bits) word = label_words walk n (live_of walk label) _ (λ live. pad_words walk n live.pipe _ (λ pipe done. tt))
-command_words workers walk n (command.Hold label) word = label_words walk n (live_of walk label) _ (λ live. queue_words walk n live.pipe _ (λ pipe done. tt))
-command_words workers walk n (command.Go label) word = label_words walk n (live_of walk label) _ (λ live. queue_words walk n live.pipe _ (λ pipe done. tt))
-command_words workers walk n (command.Poll label) word = label_words walk n (live_of walk label) _ (λ live. polls_words walk n live live.pipe)
-command_words workers walk n (command.Drain label) word = label_words walk n (live_of walk label) _ (λ live. drains_words walk n live live.pipe)
-command_words workers walk n (command.Free label) word = label_words walk n (live_of walk label) _ (λ live. closes_words walk n live live.pipe)
+command_words workers walk n (command.Bulk label size seed) word = label_words walk n (either (live_of walk label) (shared_of walk label)) ENOENT _ (λ live. tt)
+command_words workers walk n (command.Mask label bits) word = label_words walk n (live_of walk label) (missing (shared_of walk label)) _ (λ live. pad_words walk n live.pipe _ (λ pipe done. tt))
+command_words workers walk n (command.Hold label) word = label_words walk n (live_of walk label) (missing (shared_of walk label)) _ (λ live. queue_words walk n live.pipe _ (λ pipe done. tt))
+command_words workers walk n (command.Go label) word = label_words walk n (live_of walk label) (missing (shared_of walk label)) _ (λ live. queue_words walk n live.pipe _ (λ pipe done. tt))
+command_words workers walk n (command.Poll label) word = label_words walk n (live_of walk label) (missing (shared_of walk label)) _ (λ live. polls_words walk n live live.pipe)
+command_words workers walk n (command.Drain label) word = label_words walk n (live_of walk label) (missing (shared_of walk label)) _ (λ live. drains_words walk n live live.pipe)
+command_words workers walk n (command.Free label) word = label_words walk n (live_of walk label) (missing (shared_of walk label)) _ (λ live. closes_words walk n live live.pipe)
 command_words workers walk n (command.Refs driver) word = λ answer. (word, tt)
 command_words workers walk n command.List word = λ rows. (tt, tt)
 
@@ -214,16 +215,40 @@ drain_all_words (live ∷ lives) rest words = last_words live.label live.pipe (d
 end_words : (walk : Walk) → AsksWords (end walk)
 end_words walk = all_go_words walk.lives _ (drain_all_words walk.lives _ (λ done. tt))
 
-lines_words : (workers : ℕ) (walk : Walk) (n : ℕ) (lines : List Line) → All NamesWords lines → AsksWords (lines_dialogue workers walk n lines end)
-lines_words workers walk n [] words = end_words walk
-lines_words workers walk n (next ∷ lines) words =
+end_beside_words : (walk : Walk) → AsksWords (end_beside walk)
+end_beside_words walk = all_go_words walk.lives _ (drain_all_words walk.lives _ tt)
+
+shares_words : (pipe : Option Pipe) (rest : Dialogue) → AsksWords rest → AsksWords (shares pipe rest)
+shares_words None rest words = words
+shares_words (Some pipe) rest words = λ done. words
+
+share_all_words : (lives : List Live) (rest : Dialogue) → AsksWords rest → AsksWords (share_all lives rest)
+share_all_words [] rest words = words
+share_all_words (live ∷ lives) rest words = shares_words live.pipe (share_all lives rest) (share_all_words lives rest words)
+
+-- lines, and then what names words
+lines_words : (workers : ℕ) (walk : Walk) (n : ℕ) (lines : List Line) (rest : Walk → Dialogue) → ((walk : Walk) → AsksWords (rest walk)) → All NamesWords lines → AsksWords (lines_dialogue workers walk n lines rest)
+lines_words workers walk n [] rest last words = last walk
+lines_words workers walk n (next ∷ lines) rest last words =
     followed_words (line_dialogue workers walk n next) _ (line_words workers walk n next (All-head NamesWords next lines words))
-    (λ after. lines_words workers after (n + 1) lines (All-tail NamesWords next lines words))
+    (λ after. lines_words workers after (n + 1) lines rest last (All-tail NamesWords next lines words))
 
 -- the calls that a script makes of its registry name words
 pub script_asks_of_words : (workers : ℕ) (walk : Walk) (lines : List Line) (r : List RegCall) (b : List BoardCall) → All NamesWords lines
     → All AsksOfWord (turn_of (script workers walk lines) r b).registry
-script_asks_of_words workers walk lines r b words = turn_calls_words (script workers walk lines) r b (lines_words workers walk 1 lines words)
+script_asks_of_words workers walk lines r b words = turn_calls_words (script workers walk lines) r b (lines_words workers walk 1 lines end end_words words)
+
+-- beside others, and a first part with what follows on it
+pub beside_asks_of_words : (workers : ℕ) (walk : Walk) (lines : List Line) (r : List RegCall) (b : List BoardCall) → All NamesWords lines
+    → All AsksOfWord (turn_of (script_beside workers walk lines) r b).registry
+beside_asks_of_words workers walk lines r b words = turn_calls_words (script_beside workers walk lines) r b (lines_words workers walk 1 lines end_beside end_beside_words words)
+
+pub part_asks_of_words : (workers : ℕ) (walk : Walk) (lines : List Line) (r : List RegCall) (b : List BoardCall) → All NamesWords lines
+    → All AsksOfWord (turn_of (lines_dialogue workers walk 1 lines Ends) r b).registry
+part_asks_of_words workers walk lines r b words = turn_calls_words (lines_dialogue workers walk 1 lines Ends) r b (lines_words workers walk 1 lines Ends (λ after. tt) words)
+
+pub closing_asks_of_words : (walk : Walk) (r : List RegCall) (b : List BoardCall) → All AsksOfWord (turn_of (closing walk) r b).registry
+closing_asks_of_words walk r b = turn_calls_words (closing walk) r b (share_all_words walk.lives _ (end_words walk))
 
 -- ---- histories
 

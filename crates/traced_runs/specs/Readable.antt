@@ -9,6 +9,7 @@ use Rattle.dialogues.specs.Texts.{IsText}
 use Rattle.dialogues.specs.Walk.{start}
 use Rattle.script_text.specs.Script.{script_of}
 use Rattle.templates.specs.Table.{table}
+use Rattle.trace_text.specs.Asks.{ask_origin}
 use Rattle.trace_text.specs.Trace.{FitTypes, AreEvents}
 use Rattle.transforms.specs.declared.ask.Ask.{Ask}
 
@@ -19,4 +20,4 @@ TracesCanBeRead =
     (workers : ℕ) (script : List ℕ) (r : List RegEntry) (b : List (BoardEntry Ask)) (text : List ℕ)
     → workers ≤ 16 → LegalReg r → Made table r → All (λ e. caller_of e ≤ workers) r
     → IsText workers (start 0) 0 (script_of script) r b text
-    → FitTypes (λ ask. ask.line) r b → AreEvents (λ ask. ask.line) r b
+    → FitTypes ask_origin r b → AreEvents ask_origin r b

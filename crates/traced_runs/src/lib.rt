@@ -3,4 +3,4 @@
 
 mod laws;
 
-pub use laws::traces_can_be_read;
+pub use laws::{client_traces_can_be_read, traces_can_be_read};

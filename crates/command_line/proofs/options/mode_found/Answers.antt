@@ -9,7 +9,8 @@ pub returns-clause-value : goal.returns-clause-value
 returns-clause-value c =
     let found = found_of c.args.matches.now in
     let workers = c.get_str-2.ensures ∙ first_value-rows found (codes "workers") in
-    let load = c.get_str-3.ensures ∙ first_value-rows found (codes "load") in
-    let count = c.get_str-4.ensures ∙ first_value-rows found (codes "count") in
+    let clients = c.get_str-3.ensures ∙ first_value-rows found (codes "clients") in
+    let load = c.get_str-4.ensures ∙ first_value-rows found (codes "load") in
+    let count = c.get_str-5.ensures ∙ first_value-rows found (codes "count") in
     let trace = c.is_set-trace.ensures ∙ ap is_true_text (c.get_str.ensures ∙ first_value-rows found (codes "trace")) in
-    c.mode_given.ensures.value ∙ same_mode workers trace load count
+    c.mode_given.ensures.value ∙ same_mode workers trace clients load count

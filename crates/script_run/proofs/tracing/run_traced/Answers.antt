@@ -4,6 +4,7 @@ use Rattle.script_run.specs.Fronts.{IsFrontText}
 use Rattle.dialogues.specs.Walk.{start}
 use Rattle.script_text.specs.Script.{script_of}
 use Rattle.settled_scripts.specs.Settled.{IsSettled, plain_text}
+use Rattle.trace_text.specs.Asks.{ask_origin}
 use Rattle.trace_text.specs.Trace.{FitTypes}
 use Rattle.script_run.specs.Endings.{CanBeRead, traced}
 use Rattle.script_run.specs.declared.errors.RunError.TheVariants.{NoMemory}
@@ -27,7 +28,7 @@ returns-clause-readable g c =
     let workers = c.args.options.now.workers in
     λ asked. then-both ran.answer c.answer_traced-answer.result (held c.args.out.now) (held c.run_script-answer.new.out) (held c.answer_traced-answer.new.out)
     (traced c.args.options.now.trace ran.registry ran.board) c.answer_traced-answer.ensures.whole (g.S.Source.left c.args.src.now)
-    (FitTypes (λ ask. ask.line) ran.registry ran.board) (CanBeRead ran.registry ran.board) _
+    (FitTypes ask_origin ran.registry ran.board) (CanBeRead ran.registry ran.board) _
     c.run_script-answer.ensures.ran.whole (c.answer_traced-answer.ensures.fits asked)
     (λ script gained fit. c.traces_can_be_read.ensures workers script ran.registry ran.board gained.0 c.requires.few histories.legal histories.faithful histories.callers.0 gained.1 fit)
 

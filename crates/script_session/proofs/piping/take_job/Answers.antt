@@ -11,13 +11,13 @@ use Rattle.script_session.proofs.piping.take_job.Goals as goal
 
 pub returns-in_default-clause-held : goal.returns-in_default-clause-held
 returns-in_default-clause-held g c =
-    says-for _ c.args.live.now (known c.args.caller.now) _ _ _ c.requires.pipe c.requires.legal (λ walk found posted. request-plain walk c.args.line c.args.live.now _ c.args.backlog (sym c.in_default.ensures))
-    (c.in_ok-say.ensures ∙ ap (λ a. c.args.answers.now.items ++ a ∷ []) (c.value_answer.ensures ∙ ap (value_said c.args.line) c.run.ensures))
+    says-for _ c.args.live.now (known c.args.caller.now) _ _ _ c.requires.pipe c.requires.legal (λ walk found posted. request-plain walk c.args.of.line c.args.live.now _ c.args.backlog (sym c.in_default.ensures))
+    (c.in_ok-say.ensures ∙ ap (λ a. c.args.answers.now.items ++ a ∷ []) (c.value_answer.ensures ∙ ap (value_said c.args.of.line) c.run.ensures))
 
 pub returns-then-pipe-clause-held : goal.returns-then-pipe-clause-held
 returns-then-pipe-clause-held g c =
     says-for _ c.args.live.now (known c.args.caller.now) _ _ _ c.requires.pipe c.requires.legal
-    (λ walk found posted. request-unmanned walk c.args.line c.args.live.now c.in-Some.pipe.now _ c.args.backlog (sym c.in-Some.ensures) (sym (ap (λ (p : Pipe). p.unmanned) c.pipe-2.view_is) ∙ c.if-pipe.true))
+    (λ walk found posted. request-unmanned walk c.args.of.line c.args.live.now c.in-Some.pipe.now _ c.args.backlog (sym c.in-Some.ensures) (sym (ap (λ (p : Pipe). p.unmanned) c.pipe-2.view_is) ∙ c.if-pipe.true))
     c.in_ok-refuse.ensures
 
 pub offer-requires-clause-manned : goal.offer-requires-clause-manned
@@ -29,9 +29,9 @@ returns-in_ok-accept-in-Ok-InProgress-clause-held g c =
     let pipe = c.in-Some.pipe.now in
     let ask = arc_value c.args.job.ask in
     let has = sym c.in-Some.ensures in
-    request-holds (known c.args.caller.now) (known c.offer.new.caller) c.args.live.now c.accept.new.self pipe c.args.line ask c.args.backlog (InProgress c.in-Ok-InProgress.field-0-0) _ _ has (sym (ap (λ (p : Pipe). p.unmanned) c.pipe-2.view_is) ∙ c.if-pipe.false)
-    (subst (λ (x : Entered). Offered (known c.args.caller.now) (known c.offer.new.caller) pipe ask c.args.backlog x) c.in-Ok-InProgress.field-0-is e.offered) e.allowed c.requires.line
-    (let a = c.in_ok-accept-in-Ok-InProgress.ensures in accepted-live c.args.live.now c.accept.new.self pipe ask c.args.line has c.requires.line a.ok) c.in_ok-refuse-in-Ok-InProgress.ensures
+    request-holds (known c.args.caller.now) (known c.offer.new.caller) c.args.live.now c.accept.new.self pipe c.args.of.line ask c.args.backlog (InProgress c.in-Ok-InProgress.field-0-0) _ _ has (sym (ap (λ (p : Pipe). p.unmanned) c.pipe-2.view_is) ∙ c.if-pipe.false)
+    (subst (λ (x : Entered). Offered (known c.args.caller.now) (known c.offer.new.caller) pipe ask c.args.backlog x) c.in-Ok-InProgress.field-0-is e.offered) e.allowed
+    (let a = c.in_ok-accept-in-Ok-InProgress.ensures in accepted-live c.args.live.now c.accept.new.self pipe ask c.args.of has c.requires.line a.ok) c.in_ok-refuse-in-Ok-InProgress.ensures
 
 pub returns-in_ok-accept-in-Ok-Busy-clause-held : goal.returns-in_ok-accept-in-Ok-Busy-clause-held
 returns-in_ok-accept-in-Ok-Busy-clause-held g c =
@@ -39,9 +39,9 @@ returns-in_ok-accept-in-Ok-Busy-clause-held g c =
     let pipe = c.in-Some.pipe.now in
     let ask = arc_value c.args.job.ask in
     let has = sym c.in-Some.ensures in
-    request-holds (known c.args.caller.now) (known c.offer.new.caller) c.args.live.now c.accept-in-Ok-Busy.new.self pipe c.args.line ask c.args.backlog (Busy c.in-Ok-Busy.field-0-0) _ _ has (sym (ap (λ (p : Pipe). p.unmanned) c.pipe-2.view_is) ∙ c.if-pipe.false)
-    (subst (λ (x : Entered). Offered (known c.args.caller.now) (known c.offer.new.caller) pipe ask c.args.backlog x) c.in-Ok-Busy.field-0-is e.offered) e.allowed c.requires.line
-    (let a = c.in_ok-accept-in-Ok-Busy.ensures in accepted-live c.args.live.now c.accept-in-Ok-Busy.new.self pipe ask c.args.line has c.requires.line a.ok) c.in_ok-refuse-in-Ok-Busy.ensures
+    request-holds (known c.args.caller.now) (known c.offer.new.caller) c.args.live.now c.accept-in-Ok-Busy.new.self pipe c.args.of.line ask c.args.backlog (Busy c.in-Ok-Busy.field-0-0) _ _ has (sym (ap (λ (p : Pipe). p.unmanned) c.pipe-2.view_is) ∙ c.if-pipe.false)
+    (subst (λ (x : Entered). Offered (known c.args.caller.now) (known c.offer.new.caller) pipe ask c.args.backlog x) c.in-Ok-Busy.field-0-is e.offered) e.allowed
+    (let a = c.in_ok-accept-in-Ok-Busy.ensures in accepted-live c.args.live.now c.accept-in-Ok-Busy.new.self pipe ask c.args.of has c.requires.line a.ok) c.in_ok-refuse-in-Ok-Busy.ensures
 
 pub returns-in_ok-refuse-in-Ok-NoSpace-clause-held : goal.returns-in_ok-refuse-in-Ok-NoSpace-clause-held
 returns-in_ok-refuse-in-Ok-NoSpace-clause-held g c =
@@ -49,13 +49,13 @@ returns-in_ok-refuse-in-Ok-NoSpace-clause-held g c =
     let pipe = c.in-Some.pipe.now in
     let ask = arc_value c.args.job.ask in
     let has = sym c.in-Some.ensures in
-    request-holds (known c.args.caller.now) (known c.offer.new.caller) c.args.live.now c.args.live.now pipe c.args.line ask c.args.backlog NoSpace _ _ has (sym (ap (λ (p : Pipe). p.unmanned) c.pipe-2.view_is) ∙ c.if-pipe.false)
-    (subst (λ (x : Entered). Offered (known c.args.caller.now) (known c.offer.new.caller) pipe ask c.args.backlog x) c.in-Ok-NoSpace.field-0-is e.offered) e.allowed c.requires.line
+    request-holds (known c.args.caller.now) (known c.offer.new.caller) c.args.live.now c.args.live.now pipe c.args.of.line ask c.args.backlog NoSpace _ _ has (sym (ap (λ (p : Pipe). p.unmanned) c.pipe-2.view_is) ∙ c.if-pipe.false)
+    (subst (λ (x : Entered). Offered (known c.args.caller.now) (known c.offer.new.caller) pipe ask c.args.backlog x) c.in-Ok-NoSpace.field-0-is e.offered) e.allowed
     (ap (λ o. let l : Live = record c.args.live.now { pipe = o } in l) has) c.in_ok-refuse-in-Ok-NoSpace.ensures
 
 pub returns-in_ok-refuse-in-Err-TooBig-clause-held : goal.returns-in_ok-refuse-in-Err-TooBig-clause-held
 returns-in_ok-refuse-in-Err-TooBig-clause-held g c =
     let e = c.in-Err-TooBig.ensures in
     says-kept _ c.args.live.now (known c.args.caller.now) (known c.offer.new.caller) _ _ _ c.requires.pipe e.offered
-    (λ walk posted. request-big walk (known c.args.caller.now) c.args.line c.args.live.now c.in-Some.pipe.now (arc_value c.args.job.ask) c.args.backlog (sym c.in-Some.ensures) (sym (ap (λ (p : Pipe). p.unmanned) c.pipe-2.view_is) ∙ c.if-pipe.false) (e.allowed.0 c.in-Err-TooBig.field-0-is) posted)
+    (λ walk posted. request-big walk (known c.args.caller.now) c.args.of.line c.args.live.now c.in-Some.pipe.now (arc_value c.args.job.ask) c.args.backlog (sym c.in-Some.ensures) (sym (ap (λ (p : Pipe). p.unmanned) c.pipe-2.view_is) ∙ c.if-pipe.false) (e.allowed.0 c.in-Err-TooBig.field-0-is) posted)
     c.in_ok-refuse-in-Err-TooBig.ensures

@@ -4,7 +4,7 @@ use Rattle.std.proofs.Common.{sym}
 use Rattle.trace_check.proofs.laws.asks_are_lines.Goals as goal
 
 pub returns-clause-legal : goal.returns-clause-legal
-returns-clause-legal g c = λ h. (legal_there g.A.Lined.line h, legal_back g.A.Lined.line h)
+returns-clause-legal g c = λ h. (legal_there g.A.Lined.origin h, legal_back g.A.Lined.origin h)
 
 pub returns-clause-traced : goal.returns-clause-traced
-returns-clause-traced g c = λ r h k lr lb. (r, with_lines g.A.Lined.line h, (events_same g.A.Lined.line r h k, sym (trace_same g.A.Lined.line r h)), lr, legal_there g.A.Lined.line h lb)
+returns-clause-traced g c = λ r h k lr lb. (r, with_lines g.A.Lined.origin h, (events_same g.A.Lined.origin r h k, sym (trace_same g.A.Lined.origin r h)), lr, legal_there g.A.Lined.origin h lb)

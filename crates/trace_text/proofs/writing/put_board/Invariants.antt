@@ -6,5 +6,5 @@ use Rattle.trace_text.proofs.writing.put_board.Given as goal
 
 abbrev pub invariant-loop-event : goal.invariant-loop-event
 invariant-loop-event g l =
-    (l.text ≡ l.fn.text ++ flat_map (λ e. sentence (board_words g.A.Lined.line e)) (take l.event-index l.events))
-    × (list_all (board_fits g.A.Lined.line) (take l.event-index l.events) ≡ true)
+    (l.text ≡ l.fn.text ++ flat_map (λ e. sentence (board_words g.A.Lined.origin e)) (take l.event-index l.events))
+    × (list_all (board_fits g.A.Lined.origin) (take l.event-index l.events) ≡ true)

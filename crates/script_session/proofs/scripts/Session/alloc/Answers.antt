@@ -1,7 +1,7 @@
 use Rattle.std.proofs.Common.{refl, sym, ap, ◌∙◌, arith, length}
 use Rattle.alg_names.specs.Name.{spelling}
 use Rattle.dialogues.specs.Names.{name_read}
-use Rattle.dialogues.specs.Walk.{live_of}
+use Rattle.dialogues.specs.Walk.{live_of, shared_of}
 use Rattle.script_session.specs.States.{State}
 use Rattle.script_session.proofs.Arms.{or-stops, stops-same, answer-holds}
 use Rattle.script_session.proofs.Alloc.{live-there, nobody, alloc-live, alloc-full, alloc-faulty, alloc-unfit, looks-arm}
@@ -52,7 +52,7 @@ returns-then-not-fits_queue g c =
 pub find-requires-clause-free : goal.find-requires-clause-free
 find-requires-clause-free g c =
     let s = c.args.self.now in
-    nobody (live_of s.walk c.args.wanted.now.label.now)
+    nobody (live_of s.walk c.args.wanted.now.label.now) (shared_of s.walk c.args.wanted.now.label.now)
     (live-there s c.self.inside.lives c.self.invariant c.self.view_is c.args.wanted.now.label.now c.as_slice.result.now c.as_slice.ensures c.place_of.result c.place_of.ensures ∙ (sym c.is_some.ensures ∙ c.if-is_some.false))
 
 pub returns : goal.returns

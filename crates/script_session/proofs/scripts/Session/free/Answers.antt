@@ -1,6 +1,4 @@
 use Rattle.std.proofs.Common.{ap, sym, ◌∙◌, refl, subst}
-use Rattle.dialogues.specs.Allocating.{closes}
-use Rattle.dialogues.specs.Dialogues.{for_live}
 use Rattle.dialogues.specs.Walk.{Live}
 use Rattle.script_session.specs.Changing.{owes}
 use Rattle.script_session.specs.States.{State}
@@ -9,8 +7,8 @@ use Rattle.session_calls.specs.Passes.{known}
 use Rattle.script_session.proofs.Frees.{free-arm}
 use Rattle.script_session.proofs.Standing.{may-give}
 use Rattle.script_session.proofs.Arms.{or-stops, stops-same, answer-holds}
-use Rattle.script_session.proofs.Freeing.{free-owing}
-use Rattle.script_session.proofs.Living.{live-at, no-live, is-live, is-there, pipe-there, taken}
+use Rattle.script_session.proofs.Freeing.{free-nobody, free-owing}
+use Rattle.script_session.proofs.Living.{live-at, no-live, none-shared, is-live, is-there, pipe-there, taken}
 use Rattle.script_session.proofs.scripts.Session.free.Goals as goal
 
 pub returns-in_default : goal.returns-in_default
@@ -18,7 +16,7 @@ returns-in_default g c =
     let s = c.args.self.now in
     let none = no-live c.args.self.now c.self.inside.lives c.self.invariant c.self.view_is c.args.label.now c.as_slice.result.now c.as_slice.ensures c.in_default.ensures in
     or-stops c.refuse.result c.refuse.ensures
-    (answer-holds _ s s _ _ _ (ap (λ o. for_live s.walk c.args.number o (λ (live : Live). closes s.walk c.args.number live live.pipe)) none) refl refl refl c.requires.stands c.requires.posted)
+    (answer-holds _ s s _ _ _ (free-nobody s.walk c.args.number c.args.label.now none (none-shared s c.self.inside.lives c.self.invariant c.self.view_is c.args.label.now c.as_slice.result.now c.as_slice.ensures)) refl refl refl c.requires.stands c.requires.posted)
     (stops-same s c.requires.stands)
 
 pub get-requires : goal.get-requires

@@ -1,4 +1,5 @@
 use Rattle.std.proofs.Common.{ap, sym, ◌∙◌, refl, subst}
+use Rattle.kc_base.specs.declared.error_numbers.Errno.TheVariants.{ENOENT}
 use Rattle.dialogues.specs.Dialogues.{for_live}
 use Rattle.std.specs.Arc.{arc_value}
 use Rattle.dialogues.specs.BoardCalls.{asked_by}
@@ -11,16 +12,16 @@ use Rattle.std.specs.BTreeMap.{get}
 use Rattle.std.specs.Ordering.{nat_cmp}
 use Rattle.board.proofs.Kept.{loan_here}
 use Rattle.script_session.proofs.Filed.{filed-set}
-use Rattle.script_session.proofs.Living.{live-at, no-live, is-live, is-there, loan-there, pipe-there, request-arm, written}
-use Rattle.script_session.proofs.Requests.{no-key, not-taken, job-asks}
+use Rattle.script_session.proofs.Living.{live-at, no-either, either-at, is-live, is-there, loan-there, pipe-there, request-arm, written}
+use Rattle.script_session.proofs.Requests.{no-key, not-taken, job-asks, job-origin}
 use Rattle.script_session.proofs.scripts.Session.request.Goals as goal
 
 pub returns-in_default : goal.returns-in_default
 returns-in_default g c =
     let s = c.args.self.now in
-    let none = no-live s c.self.inside.lives c.self.invariant c.self.view_is c.args.label.now c.as_slice.result.now c.as_slice.ensures c.in_default.ensures in
+    let none = no-either s c.self.inside.lives c.self.invariant c.self.view_is c.args.label.now c.as_slice.result.now c.as_slice.ensures c.in_default.ensures in
     or-stops c.refuse.result c.refuse.ensures
-    (answer-holds _ s s _ _ _ (ap (λ o. for_live s.walk c.args.number o (λ (live : Live). requests_under s.walk c.args.number live c.args.asked c.args.backlog live.key)) none) refl refl refl c.requires.stands c.requires.posted)
+    (answer-holds _ s s _ _ _ (ap (λ o. for_live s.walk c.args.number o ENOENT (λ (live : Live). requests_under s.walk c.args.number live c.args.asked c.args.backlog live.key)) none) refl refl refl c.requires.stands c.requires.posted)
     (stops-same s c.requires.stands)
 
 pub get-requires : goal.get-requires
@@ -34,7 +35,7 @@ returns-in-Ok-None g c =
     let why = rw c.in-Ok-None.field-0-is at c.in-Ok-None.ensures in
     or-stops c.refuse-in-Ok-None.result c.refuse-in-Ok-None.ensures
     (answer-holds _ s s _ _ _
-    (ap (λ o. for_live s.walk c.args.number o (λ (live : Live). requests_under s.walk c.args.number live c.args.asked c.args.backlog live.key)) at.found
+    (ap (λ o. for_live s.walk c.args.number o ENOENT (λ (live : Live). requests_under s.walk c.args.number live c.args.asked c.args.backlog live.key)) (either-at s c.self.inside.lives c.self.invariant c.self.view_is c.args.label.now c.as_slice.result.now c.as_slice.ensures c.in-Some.place c.in-Some.ensures)
     ∙ no-key s.walk c.args.number at.live c.args.asked c.args.backlog (sym (ap (λ (l : Live). l.key) was) ∙ why))
     refl refl refl c.requires.stands c.requires.posted)
     (stops-same s c.requires.stands)
@@ -47,7 +48,7 @@ returns-in-Err-Inval g c =
     let why = rw c.in-Err-Inval.field-0-is at c.in-Err-Inval.ensures in
     or-stops c.refuse-in-Err-Inval.result c.refuse-in-Err-Inval.ensures
     (answer-holds _ s s _ _ _
-    (ap (λ o. for_live s.walk c.args.number o (λ (live : Live). requests_under s.walk c.args.number live c.args.asked c.args.backlog live.key)) at.found
+    (ap (λ o. for_live s.walk c.args.number o ENOENT (λ (live : Live). requests_under s.walk c.args.number live c.args.asked c.args.backlog live.key)) (either-at s c.self.inside.lives c.self.invariant c.self.view_is c.args.label.now c.as_slice.result.now c.as_slice.ensures c.in-Some.place c.in-Some.ensures)
     ∙ not-taken s.walk c.args.number at.live c.args.asked c.args.backlog at.live.key (subst (λ (l : Live). IsNotTaken l c.args.asked l.key) was why))
     refl refl refl c.requires.stands c.requires.posted)
     (stops-same s c.requires.stands)
@@ -72,6 +73,11 @@ pub take_job-requires-clause-pipe : goal.take_job-requires-clause-pipe
 take_job-requires-clause-pipe g c =
     let is = loan_here (get nat_cmp c.self.inside.lives.transforms c.in-Some.place) c.get_mut.result c.unwrap-live.result c.get_mut.ensures.value c.unwrap-live.ensures in
     pipe-there c.args.self.now c.self.inside.lives c.self.invariant c.self.view_is c.args.label.now c.as_slice.result.now c.as_slice.ensures c.in-Some.place c.in-Some.ensures c.unwrap-live.result.now is c.requires.posted
+
+pub take_job-requires-clause-line : goal.take_job-requires-clause-line
+take_job-requires-clause-line g c =
+    let live = c.get.result.now in
+    job-origin c.args.number c.self.inside.client live c.args.asked (asked_by (arc_value c.in-Ok-Some.job.ask)) live.key (rw c.in-Ok-Some.field-0-is at c.in-Ok-Some.ensures)
 
 pub returns : goal.returns
 returns g c =

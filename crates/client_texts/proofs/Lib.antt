@@ -1,0 +1,3 @@
+pub mod Submitting
+pub mod Ordered
+pub mod OneOutput
