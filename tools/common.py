@@ -13,6 +13,12 @@ def need_program(tool, program):
         sys.exit(f"{tool}: no program at {program}: run tools/build")
 
 
+def origin(word):
+    """From which client's script a request is, and its line there: `L` of client 0, `K.L` of client K."""
+    client, dot, line = word.rpartition(".")
+    return (int(client) if dot else 0), int(line)
+
+
 class SplitMix64:
     """The generator of Steele, Lea and Flood (2014)."""
 
