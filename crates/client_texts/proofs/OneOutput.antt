@@ -73,15 +73,15 @@ pub one-output : Follows → (workers : ℕ) (parts : List (List Line)) (r : Lis
 one-output follows workers [] r b x y is also = absurd is
 one-output follows workers (lines ∷ parts) r b x y is also =
     let walk : is.made ≡ also.made =
-      same-some is.made also.made (sym (walk-is follows workers lines r b is.made is.opening is.ending is.alone) ∙ walk-is follows workers lines r b also.made also.opening also.ending also.alone) in
+    same-some is.made also.made (sym (walk-is follows workers lines r b is.made is.opening is.ending is.alone) ∙ walk-is follows workers lines r b also.made also.opening also.ending also.alone) in
     let first : is.alone.first ≡ also.alone.first =
-      sym (first-is follows workers lines r b is.made is.opening is.ending is.alone) ∙ first-is follows workers lines r b also.made also.opening also.ending also.alone in
+    sym (first-is follows workers lines r b is.made is.opening is.ending is.alone) ∙ first-is follows workers lines r b also.made also.opening also.ending also.alone in
     let last : is.alone.last ≡ also.alone.last =
-      sym (last-is follows workers lines r b is.made is.opening is.ending is.alone)
-      ∙ (ap (λ w. last_by (first_by workers lines (reg_calls 0 r) (board_calls 0 b)) w (reg_calls 0 r) (board_calls 0 b)) walk
-      ∙ last-is follows workers lines r b also.made also.opening also.ending also.alone) in
+    sym (last-is follows workers lines r b is.made is.opening is.ending is.alone)
+    ∙ (ap (λ w. last_by (first_by workers lines (reg_calls 0 r) (board_calls 0 b)) w (reg_calls 0 r) (board_calls 0 b)) walk
+    ∙ last-is follows workers lines r b also.made also.opening also.ending also.alone) in
     let opening : is.opening ≡ also.opening = is.alone.opening_is ∙ (ap text_in first ∙ sym also.alone.opening_is) in
     let ending : is.ending ≡ also.ending = is.alone.ending_is ∙ (ap text_in last ∙ sym also.alone.ending_is) in
     let texts : is.texts ≡ also.texts =
-      same-texts workers 1 also.made.lives parts r b is.texts also.texts (subst (λ (w : Walk). AreClientTexts workers 1 w.lives parts r b is.texts) walk is.clients) also.clients in
+    same-texts workers 1 also.made.lives parts r b is.texts also.texts (subst (λ (w : Walk). AreClientTexts workers 1 w.lives parts r b is.texts) walk is.clients) also.clients in
     is.output_is ∙ ((λ i. opening i ++ under_headings 1 (texts i) ++ ending i) ∙ sym also.output_is)

@@ -115,10 +115,10 @@ pub first-in-order : (workers : ℕ) (lines : List Line) (walk : Walk) (r : List
     → AreFirstTexts workers lines walk r b opening ending → AreInOrder 0 1 (accepted_by 0 (entries_of p b))
 first-in-order workers lines walk r b opening ending p is =
     let first : Ascends 0 1 (accepted_calls is.first.board) =
-      subst (λ (t : Turn). Ascends 0 1 (accepted_calls t.board)) is.is_first
-      (lines-ascend workers 0 (start 0) 1 lines Ends refl (λ w n same r b. tt) is.first.registry is.first.board) in
+    subst (λ (t : Turn). Ascends 0 1 (accepted_calls t.board)) is.is_first
+    (lines-ascend workers 0 (start 0) 1 lines Ends refl (λ w n same r b. tt) is.first.registry is.first.board) in
     let last : accepted_calls is.last.board ≡ [] =
-      nothing-ascends walk.client (accepted_calls is.last.board)
-      (λ n. subst (λ (t : Turn). Ascends walk.client n (accepted_calls t.board)) is.is_last (closing-ascends walk.client n walk refl is.last.registry is.last.board)) in
+    nothing-ascends walk.client (accepted_calls is.last.board)
+    (λ n. subst (λ (t : Turn). Ascends walk.client n (accepted_calls t.board)) is.is_last (closing-ascends walk.client n walk refl is.last.registry is.last.board)) in
     of-calls 0 1 0 b p _ is.board
     (subst (Ascends 0 1) (sym (filter_map-append accepted_call is.first.board is.last.board ∙ (ap (λ l. accepted_calls is.first.board ++ l) last ∙ append-nil (accepted_calls is.first.board)))) first)

@@ -51,7 +51,7 @@ origin-length of few small = by_client (of.client == 0)
         alone
     by_client false =
         let both : length (decimal of.client ++ codes "." ++ decimal of.line) ≤ 21 =
-            omega (arith, length-append (decimal of.client ++ codes ".") (decimal of.line), length-append (decimal of.client) (codes "."), line-length of.client few, line-length of.line small) in
+        omega (arith, length-append (decimal of.client ++ codes ".") (decimal of.line), length-append (decimal of.client) (codes "."), line-length of.client few, line-length of.line small) in
         both
 
 pub started-length : (of : Origin) → of.client < 2 ^ 32 → of.line < 2 ^ 32 → length (text_of (said.Started of)) ≤ 36

@@ -129,16 +129,7 @@ impl Session {
             line: number,
         };
         let live = self.lives.transforms.get_mut(&place).unwrap();
-        let accepted = take_job(
-            rt,
-            board,
-            &mut self.board,
-            of,
-            live,
-            job,
-            backlog,
-            answers,
-        )?;
+        let accepted = take_job(rt, board, &mut self.board, of, live, job, backlog, answers)?;
         self.count(accepted, size);
         Ok(())
     }

@@ -50,9 +50,9 @@ first_named : (workers : ℕ) (part : List ℕ) (walk : Walk) (r : List RegEntry
     → AreFirstTexts workers (script_of part) walk r b opening ending → All (EntryOf 0) r
 first_named workers part walk r b opening ending is =
     let first : All AsksOfWord is.first.registry =
-      subst (λ (t : Turn). All AsksOfWord t.registry) is.is_first (part_asks_of_words workers (start 0) (script_of part) is.first.registry is.first.board (lines_name_words part)) in
+    subst (λ (t : Turn). All AsksOfWord t.registry) is.is_first (part_asks_of_words workers (start 0) (script_of part) is.first.registry is.first.board (lines_name_words part)) in
     let last : All AsksOfWord is.last.registry =
-      subst (λ (t : Turn). All AsksOfWord t.registry) is.is_last (closing_asks_of_words walk is.last.registry is.last.board) in
+    subst (λ (t : Turn). All AsksOfWord t.registry) is.is_last (closing_asks_of_words walk is.last.registry is.last.board) in
     entries_of_calls 0 r (subst (All AsksOfWord) is.registry (All-append AsksOfWord is.first.registry is.last.registry first last))
 
 named_one : (workers clients : ℕ) (e : RegEntry) → workers ≤ 16 → IsOneOf workers clients (caller_of e) → EntryOf 0 e
