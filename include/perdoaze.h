@@ -83,6 +83,10 @@ int32_t perdoaze_raw_decrypt_in_place(struct perdoaze *tfm, const uint8_t *iv, s
 				      uint8_t *buffer, size_t buffer_len, size_t n, size_t *written);
 int32_t perdoaze_raw_digest(struct perdoaze *tfm, const uint8_t *text, size_t text_len, uint8_t *out, size_t out_len,
 			    size_t *written);
+int32_t perdoaze_raw_encryptv(struct perdoaze *tfm, const uint8_t *iv, size_t iv_len, const uint8_t *aad, size_t aad_len,
+			      const struct iovec *text, size_t pieces, uint8_t *out, size_t out_len, size_t *written);
+int32_t perdoaze_raw_decryptv(struct perdoaze *tfm, const uint8_t *iv, size_t iv_len, const uint8_t *aad, size_t aad_len,
+			      const struct iovec *text, size_t pieces, uint8_t *out, size_t out_len, size_t *written);
 int32_t perdoaze_raw_dup(struct perdoaze *from, struct perdoaze *into);
 int32_t perdoaze_raw_info(struct perdoaze *tfm, struct perdoaze_info *info);
 int32_t perdoaze_raw_list(size_t index, struct perdoaze_info *info);
@@ -237,6 +241,53 @@ static inline int perdoaze_digest(struct perdoaze *tfm, const void *text, size_t
 		return -PERDOAZE_EINVAL_;
 	return perdoaze_raw_digest(tfm, perdoaze_bytes_(text, &no_text), text_len, out ? (uint8_t *)out : &none, out_len,
 				   written ? written : &unread);
+}
+
+/* Whether these are no pieces that the library takes, or one of them lies in `out`. */
+static inline bool perdoaze_wrong_pieces_(const struct iovec *text, size_t pieces, const void *out, size_t out_len)
+{
+	if (perdoaze_wrong_(text, pieces) || pieces > PTRDIFF_MAX / sizeof *text)
+		return true;
+	for (size_t i = 0; i < pieces; i++)
+		if (!text[i].iov_base || text[i].iov_len > PTRDIFF_MAX || perdoaze_overlap_(text[i].iov_base, text[i].iov_len, out, out_len))
+			return true;
+	return false;
+}
+
+/** As perdoaze_encrypt, of a text in pieces. No piece is NULL, and none lies in `out`. */
+static inline int perdoaze_encryptv(struct perdoaze *tfm, const void *iv, size_t iv_len, const void *aad, size_t aad_len,
+				    const struct iovec *text, size_t pieces, void *out, size_t out_len, size_t *written)
+{
+	const struct iovec no_pieces = { NULL, 0 };
+	const uint8_t no_text = 0;
+	uint8_t none = 0;
+	size_t unread = 0;
+	if (written)
+		*written = 0;
+	if (!tfm || perdoaze_wrong_(iv, iv_len) || perdoaze_wrong_(aad, aad_len) || perdoaze_wrong_(out, out_len)
+	    || perdoaze_overlap_(iv, iv_len, out, out_len) || perdoaze_overlap_(aad, aad_len, out, out_len)
+	    || perdoaze_wrong_pieces_(text, pieces, out, out_len))
+		return -PERDOAZE_EINVAL_;
+	return perdoaze_raw_encryptv(tfm, perdoaze_bytes_(iv, &no_text), iv_len, perdoaze_bytes_(aad, &no_text), aad_len,
+				     text ? text : &no_pieces, pieces, out ? (uint8_t *)out : &none, out_len, written ? written : &unread);
+}
+
+/** As perdoaze_decrypt, of a text in pieces. -EOVERFLOW: `out` has no room for the whole text, the tag too. */
+static inline int perdoaze_decryptv(struct perdoaze *tfm, const void *iv, size_t iv_len, const void *aad, size_t aad_len,
+				    const struct iovec *text, size_t pieces, void *out, size_t out_len, size_t *written)
+{
+	const struct iovec no_pieces = { NULL, 0 };
+	const uint8_t no_text = 0;
+	uint8_t none = 0;
+	size_t unread = 0;
+	if (written)
+		*written = 0;
+	if (!tfm || perdoaze_wrong_(iv, iv_len) || perdoaze_wrong_(aad, aad_len) || perdoaze_wrong_(out, out_len)
+	    || perdoaze_overlap_(iv, iv_len, out, out_len) || perdoaze_overlap_(aad, aad_len, out, out_len)
+	    || perdoaze_wrong_pieces_(text, pieces, out, out_len))
+		return -PERDOAZE_EINVAL_;
+	return perdoaze_raw_decryptv(tfm, perdoaze_bytes_(iv, &no_text), iv_len, perdoaze_bytes_(aad, &no_text), aad_len,
+				     text ? text : &no_pieces, pieces, out ? (uint8_t *)out : &none, out_len, written ? written : &unread);
 }
 
 /** Makes a second transform, of the same driver, tag size and key, in the place `into`, in the place of the one that was there. Both

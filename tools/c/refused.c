@@ -100,6 +100,35 @@ static int requests(void)
 	return 0;
 }
 
+static int pieces(void)
+{
+	struct perdoaze t = PERDOAZE_NONE;
+	uint8_t key[16] = { 4 }, iv[12] = { 1 }, sealed[80], out[80];
+	char text[48] = "forty-eight bytes of text that anybody may read";
+	const struct iovec two[2] = { { text, 20 }, { text + 20, 28 } }, wrong[1] = { { NULL, 1 } }, within[1] = { { out + 9, 1 } };
+	const struct iovec huge[2] = { { text, PTRDIFF_MAX }, { text, PTRDIFF_MAX } };
+	size_t n = 7;
+
+	CHECK(perdoaze_init(&t, "gcm(aes)") == 0 && perdoaze_setkey(&t, key, 16) == 0);
+	CHECK(perdoaze_encrypt(&t, iv, 12, NULL, 0, text, 48, sealed, 80, NULL) == 0);
+	memset(out, 0x55, 80);
+	CHECK(perdoaze_encryptv(&t, iv, 12, NULL, 0, two, 2, out, 80, &n) == 0 && n == 64 && !memcmp(out, sealed, 64) && out[64] == 0x55);
+	CHECK(perdoaze_encryptv(&t, iv, 12, NULL, 0, NULL, 0, out, 80, &n) == 0 && n == 16);
+	CHECK(perdoaze_encryptv(&t, iv, 12, NULL, 0, NULL, 1, out, 80, &n) == -EINVAL && n == 0);
+	CHECK(perdoaze_encryptv(&t, iv, 12, NULL, 0, wrong, 1, out, 80, &n) == -EINVAL);
+	CHECK(perdoaze_encryptv(&t, iv, 12, NULL, 0, within, 1, out, 80, &n) == -EINVAL);
+	CHECK(perdoaze_encryptv(&t, iv, 12, NULL, 0, huge, 2, NULL, 0, &n) == -EINVAL);
+	CHECK(perdoaze_encryptv(&t, iv, 12, NULL, 0, two, 2, out, 63, &n) == -EOVERFLOW);
+	const struct iovec cut[2] = { { sealed, 60 }, { sealed + 60, 4 } };
+	CHECK(perdoaze_decryptv(&t, iv, 12, NULL, 0, cut, 2, out, 64, &n) == 0 && n == 48 && !memcmp(out, text, 48));
+	CHECK(perdoaze_decryptv(&t, iv, 12, NULL, 0, cut, 2, out, 63, &n) == -EOVERFLOW);
+	sealed[63] ^= 1;
+	CHECK(perdoaze_decryptv(&t, iv, 12, NULL, 0, cut, 2, out, 64, &n) == -EBADMSG && n == 0 && is_all(out, 64, 0));
+	CHECK(perdoaze_decryptv(&t, iv, 12, NULL, 0, cut + 1, 1, out, 64, &n) == -EINVAL);
+	perdoaze_free(&t);
+	return 0;
+}
+
 static int duplicates(void)
 {
 	struct perdoaze t = PERDOAZE_NONE, u = PERDOAZE_NONE;
@@ -142,5 +171,5 @@ static int infos(void)
 
 int main(void)
 {
-	return names() || settings() || requests() || duplicates() || infos();
+	return names() || settings() || requests() || pieces() || duplicates() || infos();
 }

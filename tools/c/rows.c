@@ -104,6 +104,21 @@ static void in_place(struct perdoaze *tfm, const struct row *row, uint8_t *out, 
 	see("in place", row, got, out, size, n);
 }
 
+/* The text in three pieces, of which the second has no bytes. A decryption wants room for the tag, too. */
+static void in_pieces(struct perdoaze *tfm, const struct row *row, uint8_t *out, size_t size)
+{
+	size_t n = 7, third = row->text.n / 3;
+	const struct iovec text[3] = { { row->text.at, third }, { row->text.at, 0 }, { row->text.at + third, row->text.n - third } };
+	int got;
+
+	memset(out, 0x5a, size + SPARE);
+	if (row->dir == 'e')
+		got = perdoaze_encryptv(tfm, row->iv.at, row->iv.n, row->aad.at, row->aad.n, text, 3, out, size, &n);
+	else
+		got = perdoaze_decryptv(tfm, row->iv.at, row->iv.n, row->aad.at, row->aad.n, text, 3, out, size, &n);
+	see("in pieces", row, got, out, size, n);
+}
+
 /* With a byte less than the answer has. */
 static void without_room(struct perdoaze *tfm, const struct row *row, uint8_t *out)
 {
@@ -164,8 +179,10 @@ static void answer(char **fields)
 			fail("dup", 0);
 		whole(&tfm, &row, out, size);
 		whole(&second, &row, out, size);
-		if (row.dir != 'm')
+		if (row.dir != 'm') {
 			in_place(&tfm, &row, out, size);
+			in_pieces(&second, &row, out, size);
+		}
 		if (!row.status && row.want.n)
 			without_room(&second, &row, out);
 	}

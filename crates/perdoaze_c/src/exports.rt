@@ -3,10 +3,11 @@
 ghost use Rattle.std.specs.Prelude.{◌≡◌, None};
 ghost use Rattle.perdoaze_calls.specs.Infos.{ListsTo, TellsTo};
 ghost use Rattle.perdoaze_calls.specs.Names.{BeginsTo};
-ghost use Rattle.perdoaze_calls.specs.Requests.{Encrypts, Decrypts, EncryptsWithin, DecryptsWithin, Digests, OnPlaceTo};
+ghost use Rattle.perdoaze_calls.specs.Pieces.{text_in};
+ghost use Rattle.perdoaze_calls.specs.Requests.{Encrypts, Decrypts, EncryptsWithin, DecryptsWithin, DecryptsGathered, Digests, OnPlaceTo};
 ghost use Rattle.perdoaze_calls.specs.Settings.{KeySetTo, SizeSetTo, DuplicatesTo};
 
-use perdoaze_calls::{Info, Slot, calls, init, list, tell};
+use perdoaze_calls::{Info, Piece, Slot, calls, init, list, tell};
 use std::alloc::Global;
 
 /// Makes the transform of a name in the place, in place of the one that was there.
@@ -99,6 +100,40 @@ pub extern "C" fn perdoaze_raw_decrypt_in_place(
     ensures came { OnPlaceTo slot.old.handle.value (λ t. DecryptsWithin t iv.now aad.now n) result buffer.old buffer.new written.new }
 {
     calls::decrypt_within(slot, alloc, iv, aad, buffer, n, written).code()
+}
+
+/// Encrypts a text in pieces.
+#[unsafe(no_mangle)]
+pub extern "C" fn perdoaze_raw_encryptv(
+    slot: &mut Slot,
+    alloc: Global,
+    iv: &[u8],
+    aad: &[u8],
+    text: &[Piece<'_>],
+    out: &mut [u8],
+    written: &mut usize,
+) -> i32
+    ensures kept { slot.new.handle.value ≡ slot.old.handle.value }
+    ensures came { OnPlaceTo slot.old.handle.value (λ t. Encrypts t iv.now aad.now (text_in text.now)) result out.old out.new written.new }
+{
+    calls::encrypt_pieces(slot, alloc, iv, aad, text, out, written).code()
+}
+
+/// Decrypts a text in pieces.
+#[unsafe(no_mangle)]
+pub extern "C" fn perdoaze_raw_decryptv(
+    slot: &mut Slot,
+    alloc: Global,
+    iv: &[u8],
+    aad: &[u8],
+    text: &[Piece<'_>],
+    out: &mut [u8],
+    written: &mut usize,
+) -> i32
+    ensures kept { slot.new.handle.value ≡ slot.old.handle.value }
+    ensures came { OnPlaceTo slot.old.handle.value (λ t. DecryptsGathered t iv.now aad.now (text_in text.now)) result out.old out.new written.new }
+{
+    calls::decrypt_pieces(slot, alloc, iv, aad, text, out, written).code()
 }
 
 /// Makes the MAC of a text.

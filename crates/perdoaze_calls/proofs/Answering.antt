@@ -1,6 +1,6 @@
 -- What a request comes to, by what was kept of the key.
 use Rattle.std.proofs.Common.{◌≡◌, ℕ, ◌+◌, ◌-◌, ◌≤◌, ◌⊎◌, true, false, List, ◌++◌, length, take, drop, replicate, refl, sym, ap, ap₂, subst, ◌∙◌, arith, inl, inr, ⊎_elim, Option, Some, Result, Ok, Err, MatchResult, length-append, length-take, length-drop}
-use Rattle.std.proofs.lemmas.List.{take-append-drop, take-append-le, length-take-le}
+use Rattle.std.proofs.lemmas.List.{drop-drop, take-append-drop, take-append-le, length-take-le}
 use Rattle.std.proofs.lemmas.Slice.{drop-append-drop}
 use Rattle.std.proofs.Math.Seq.{take-append_seam, drop-append_seam}
 use Rattle.std_defs.specs.Value.{Value}
@@ -13,7 +13,7 @@ use Rattle.transforms.specs.InPlace as kept
 use Rattle.transforms.specs.InPlace.{sealing, unsealing}
 use Rattle.transforms.specs.RequestValue.{request_value}
 use Rattle.transforms.specs.declared.request.Request.{Request}
-use Rattle.perdoaze_calls.specs.Requests.{HasValue, IsNotTaken, Gave, Cleared, Answers, refusal}
+use Rattle.perdoaze_calls.specs.Requests.{HasValue, IsNotTaken, Gave, GaveWithin, Cleared, Answers, refusal}
 use Rattle.perdoaze_calls.specs.Under.{key_within}
 use Rattle.perdoaze_calls.specs.declared.status.Status.{Status}
 use Rattle.perdoaze_calls.specs.declared.status.Status.TheVariants.{Invalid}
@@ -126,6 +126,37 @@ decryption_refused t k iv aad text sealed tag out mid after new e status i long 
     (refused t k (unsealing iv aad text) (length text - t.authsize) (length text - t.authsize) e out new i
     (subst (λ x. kept.IsRefused e k t.authsize (unsealing iv aad x)) whole_text right)
     (subst (λ n. Cleared n out new 0) size (cleared sealed out mid after new m d c)))
+
+-- a text that was copied to the front of `out`, and sealed there
+pub gave_copied : (t : Transform) (k : Plan × List ℕ) (iv aad text out mid new : List ℕ) (n : ℕ) → IsKey t k → n ≡ length text → n + t.authsize ≤ length out
+    → mid ≡ text ++ drop (length text) out
+    → kept.HasValue k t.authsize (sealing iv aad (take n mid)) (bytes (take (n + t.authsize) new))
+    → drop (n + t.authsize) new ≡ drop (n + t.authsize) mid → length new ≡ length mid
+    → Gave t (sealing iv aad text) out new (n + t.authsize)
+gave_copied t k iv aad text out mid new n i s room m h rest long =
+    let copied : take n mid ≡ text = ap (λ m. take m mid) s ∙ text_copied text out mid m in
+    record {
+      value = has_value t k _ _ i (subst (λ x. kept.HasValue k t.authsize (sealing iv aad x) (bytes (take (n + t.authsize) new))) copied h);
+      fits = omega (arith, s, long, ap length m, length-append text (drop (length text) out), length-drop (length text) out);
+      rest = rest ∙ behind_copied text out mid (n + t.authsize) (omega arith) m;
+    }
+
+-- and one that was opened there
+pub gave_within : (t : Transform) (k : Plan × List ℕ) (iv aad text out mid new : List ℕ) (n : ℕ) → IsKey t k → n ≡ length text → t.authsize ≤ n
+    → mid ≡ text ++ drop (length text) out
+    → kept.HasValue k t.authsize (unsealing iv aad (take n mid)) (bytes (take (n - t.authsize) new))
+    → drop (n - t.authsize) new ≡ drop (n - t.authsize) mid
+    → GaveWithin t (unsealing iv aad text) (length text) out new (n - t.authsize)
+gave_within t k iv aad text out mid new n i s tag m h rest =
+    let copied : take n mid ≡ text = ap (λ m. take m mid) s ∙ text_copied text out mid m in
+    let whole_size : n - t.authsize + t.authsize ≡ length text = omega (arith, s) in
+    record {
+      value = has_value t k _ _ i (subst (λ x. kept.HasValue k t.authsize (unsealing iv aad x) (bytes (take (n - t.authsize) new))) copied h);
+      fits = omega (arith, s);
+      rest = subst (λ j. drop j new ≡ drop j mid) whole_size
+          (sym (drop-drop t.authsize (n - t.authsize) new) ∙ (ap (drop t.authsize) rest ∙ drop-drop t.authsize (n - t.authsize) mid))
+          ∙ behind_copied text out mid (length text) (omega arith) m;
+    }
 
 -- a text is its front and the rest
 pub ruleset whole = take-append-drop

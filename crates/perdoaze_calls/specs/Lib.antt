@@ -1,5 +1,6 @@
 pub mod Infos
 pub mod Names
+pub mod Pieces
 pub mod Requests
 pub mod Settings
 pub mod Slots

@@ -31,6 +31,12 @@ pub record Gave (t : Transform) (q : Request) (old new : List ℕ) (written : �
   pub fits : written ≤ length new
   pub rest : drop written new ≡ drop written old
 
+-- the same, where the first n bytes of the place were used
+pub record GaveWithin (t : Transform) (q : Request) (n : ℕ) (old new : List ℕ) (written : ℕ) : Type 0 where
+  pub value : HasValue t q (bytes (take written new))
+  pub fits : written ≤ n
+  pub rest : drop n new ≡ drop n old
+
 -- nothing went out
 abbrev pub GaveNothing : List ℕ → List ℕ → ℕ → Type 0
 GaveNothing old new written = (new ≡ old) × (written ≡ 0)
@@ -61,6 +67,11 @@ EncryptsWithin t iv aad n status old new written = Answers t (sealing iv aad (ta
 
 abbrev pub DecryptsWithin : Transform → List ℕ → List ℕ → ℕ → Status → List ℕ → List ℕ → ℕ → Type 0
 DecryptsWithin t iv aad n status old new written = Answers t (unsealing iv aad (take n old)) n 0 status old new written
+
+-- a decryption of a text that is gathered in `out` first, with its tag: out has room for all of it, and what lies behind that stays
+abbrev pub DecryptsGathered : Transform → List ℕ → List ℕ → List ℕ → Status → List ℕ → List ℕ → ℕ → Type 0
+DecryptsGathered t iv aad text Done old new written = GaveWithin t (unsealing iv aad text) (length text) old new written
+DecryptsGathered t iv aad text status old new written = Answers t (unsealing iv aad text) (length text) (length text) status old new written
 
 -- the MAC of a text
 abbrev pub Digests : Transform → List ℕ → Status → List ℕ → List ℕ → ℕ → Type 0

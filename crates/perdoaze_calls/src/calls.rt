@@ -1,9 +1,11 @@
 //! The calls of C, each on a place for a transform.
 
 ghost use Rattle.std.specs.Prelude.{◌≡◌, None};
-ghost use Rattle.perdoaze_calls.specs.Requests.{Encrypts, Decrypts, EncryptsWithin, DecryptsWithin, Digests, OnPlace};
+ghost use Rattle.perdoaze_calls.specs.Pieces.{text_in};
+ghost use Rattle.perdoaze_calls.specs.Requests.{Encrypts, Decrypts, EncryptsWithin, DecryptsWithin, DecryptsGathered, Digests, OnPlace};
 ghost use Rattle.perdoaze_calls.specs.Settings.{KeySet, SizeSet, Duplicates};
 
+use crate::pieces::Piece;
 use crate::slot::Slot;
 use crate::status::Status;
 use std::alloc::Global;
@@ -92,6 +94,50 @@ pub fn decrypt_within(
         return Status::Invalid;
     };
     let status = held.decrypt_within(iv, aad, buffer, n, written);
+    slot.fill(held);
+    status
+}
+
+/// Encrypts a text in pieces.
+pub fn encrypt_pieces(
+    slot: &mut Slot,
+    alloc: Global,
+    iv: &[u8],
+    aad: &[u8],
+    pieces: &[Piece<'_>],
+    out: &mut [u8],
+    written: &mut usize,
+) -> Status
+    ensures kept { slot.new.handle.value ≡ slot.old.handle.value }
+    ensures came { OnPlace slot.old.handle.value (λ t. Encrypts t iv.now aad.now (text_in pieces.now)) result out.old out.new written.new }
+{
+    *written = 0;
+    let Some(held) = slot.take(alloc) else {
+        return Status::Invalid;
+    };
+    let status = held.encrypt_pieces(iv, aad, pieces, out, written);
+    slot.fill(held);
+    status
+}
+
+/// Decrypts a text in pieces.
+pub fn decrypt_pieces(
+    slot: &mut Slot,
+    alloc: Global,
+    iv: &[u8],
+    aad: &[u8],
+    pieces: &[Piece<'_>],
+    out: &mut [u8],
+    written: &mut usize,
+) -> Status
+    ensures kept { slot.new.handle.value ≡ slot.old.handle.value }
+    ensures came { OnPlace slot.old.handle.value (λ t. DecryptsGathered t iv.now aad.now (text_in pieces.now)) result out.old out.new written.new }
+{
+    *written = 0;
+    let Some(held) = slot.take(alloc) else {
+        return Status::Invalid;
+    };
+    let status = held.decrypt_pieces(iv, aad, pieces, out, written);
     slot.fill(held);
     status
 }

@@ -8,6 +8,7 @@ mod info;
 pub mod laws;
 mod loose;
 mod naming;
+mod pieces;
 mod requests;
 mod setting;
 mod slot;
@@ -17,6 +18,7 @@ mod transform;
 
 pub use info::Info;
 pub use naming::init;
+pub use pieces::Piece;
 pub use slot::Slot;
 pub use status::Status;
 pub use telling::{list, tell};

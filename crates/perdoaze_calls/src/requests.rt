@@ -5,9 +5,11 @@ ghost use Rattle.std_defs.specs.Value.Value.{bytes};
 ghost use Rattle.transforms.specs.InPlace as kept;
 ghost use Rattle.transforms.specs.InPlace.{sealing, unsealing, opening};
 ghost use Rattle.transforms.specs.Plans.{fits_tag};
-ghost use Rattle.perdoaze_calls.specs.Requests.{Encrypts, Decrypts, EncryptsWithin, DecryptsWithin, Digests, refusal};
+ghost use Rattle.perdoaze_calls.specs.Pieces.{text_in};
+ghost use Rattle.perdoaze_calls.specs.Requests.{Encrypts, Decrypts, EncryptsWithin, DecryptsWithin, DecryptsGathered, Digests, refusal};
 ghost use Rattle.perdoaze_calls.specs.Under.{key_within};
 
+use crate::pieces::{Piece, gather, total_len};
 use crate::status::Status;
 use crate::transform::Transform;
 use kc_base::Errno;
@@ -286,6 +288,81 @@ impl Transform {
             }
             Err(error) => {
                 clear_front(out, sealed.len());
+                status_of(error)
+            }
+        }
+    }
+
+    /// Encrypts a text in pieces into `out`, and writes the tag behind the ciphertext.
+    pub fn encrypt_pieces(
+        &self,
+        iv: &[u8],
+        aad: &[u8],
+        pieces: &[Piece<'_>],
+        out: &mut [u8],
+        written: &mut usize,
+    ) -> Status
+        ensures { Encrypts self.now iv.now aad.now (text_in pieces.now) result out.old out.new written.new }
+    {
+        *written = 0;
+        let Some(n) = total_len(pieces) else {
+            return Status::Invalid;
+        };
+        let keyed = match self.ready(aad.len(), n) {
+            Ok(keyed) => keyed,
+            Err(status) => return status,
+        };
+        let size = n + self.authsize as usize;
+        if out.len() < size {
+            return Status::NoRoom;
+        }
+        gather(pieces, out);
+        match seal_front(keyed, iv, aad, out, n, self.authsize as usize) {
+            Ok(()) => {
+                *written = size;
+                Status::Done
+            }
+            Err(_) => {
+                clear_front(out, n);
+                Status::Invalid
+            }
+        }
+    }
+
+    /// Decrypts a text in pieces, of which the last bytes are the tag. It is gathered in `out`, which has room for all of it.
+    pub fn decrypt_pieces(
+        &self,
+        iv: &[u8],
+        aad: &[u8],
+        pieces: &[Piece<'_>],
+        out: &mut [u8],
+        written: &mut usize,
+    ) -> Status
+        ensures { DecryptsGathered self.now iv.now aad.now (text_in pieces.now) result out.old out.new written.new }
+    {
+        *written = 0;
+        let Some(n) = total_len(pieces) else {
+            return Status::Invalid;
+        };
+        let keyed = match self.ready(aad.len(), n) {
+            Ok(keyed) => keyed,
+            Err(status) => return status,
+        };
+        let tag_size = self.authsize as usize;
+        if n < tag_size {
+            return Status::Invalid;
+        }
+        if out.len() < n {
+            return Status::NoRoom;
+        }
+        gather(pieces, out);
+        match open_front(keyed, iv, aad, out, n, tag_size) {
+            Ok(()) => {
+                *written = n - tag_size;
+                Status::Done
+            }
+            Err(error) => {
+                clear_front(out, n);
                 status_of(error)
             }
         }

@@ -1,0 +1,8 @@
+-- Texts in pieces.
+use Rattle.std.specs.Prelude.{ℕ, List, [], ◌∷◌, ◌++◌}
+use Rattle.perdoaze_calls.specs.declared.pieces.Piece.{Piece}
+
+-- the bytes of all pieces, one behind the other
+abbrev pub text_in : List Piece → List ℕ
+text_in [] = []
+text_in (p ∷ ps) = p.bytes.now ++ text_in ps
