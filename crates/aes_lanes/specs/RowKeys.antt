@@ -6,6 +6,7 @@ use Rattle.aes_lanes.specs.Tower.{state_byte}
 use Rattle.aes_lanes.specs.Pairs.{each_half}
 use Rattle.aes_lanes.specs.RoundKeys.{vectors_of}
 use Rattle.aes_lanes.specs.declared.round_keys.RoundKey.{RoundKey}
+use Rattle.aes_lanes.specs.declared.pair_keys.PairKey.{PairKey}
 use Rattle.aes_lanes.specs.declared.row_keys.RowKey.{RowKey}
 use Rattle.aes_lanes.specs.declared.tower_keys.TowerKey.{TowerKey}
 
@@ -35,6 +36,10 @@ less_constant x = bit_xor x 0x63
 -- each is the block of its round with the constant, in the tower, arranged as the state of its round
 abbrev pub AreTowerKeys : List RoundKey → List TowerKey → Type 0
 AreTowerKeys keys tower = (r : ℕ) → r < 15 → ordered r (slice_index_or (map (λ k. k.elements) tower) r []) ≡ map less_constant (take 16 (slice_index_or (vectors_of keys) r []))
+
+-- each is the vector of its round with the constant, in the tower
+abbrev pub ArePairKeys : List RoundKey → List PairKey → Type 0
+ArePairKeys keys pairs = (r : ℕ) → r < 15 → map tower_byte (slice_index_or (map (λ k. k.elements) pairs) r []) ≡ map less_constant (slice_index_or (vectors_of keys) r [])
 
 abbrev pub AreSealingKeys : List RoundKey → List RowKey → Type 0
 AreSealingKeys keys rows = StandFor tower_byte (map less_constant) keys rows

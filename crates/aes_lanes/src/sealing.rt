@@ -19,7 +19,7 @@ use std::simd::prelude::*;
 impl LaneSchedule {
     /// Two blocks, to which the first round key is added, in the tower.
     #[inline(always)]
-    fn sealing_entered(&self, x: u8x32) -> u8x32
+    pub(crate) fn sealing_entered(&self, x: u8x32) -> u8x32
         ensures { map tower_byte result ≡ each_half (add_round_key (schedule_of self.now.keys) 0) x }
     {
         in_sealing_tower(sum(x, self.keys[0].twice))
@@ -38,7 +38,7 @@ impl LaneSchedule {
 
     /// Two blocks after the S-box, and the last round key added.
     #[inline(always)]
-    fn sealing_left(&self, y: u8x32) -> u8x32
+    pub(crate) fn sealing_left(&self, y: u8x32) -> u8x32
         ensures { result ≡ each_half (add_round_key (schedule_of self.now.keys) self.now.rounds) (map (λ y. sbox (tower_byte y)) y) }
     {
         sum(made_last(y), self.keys[self.rounds].twice)

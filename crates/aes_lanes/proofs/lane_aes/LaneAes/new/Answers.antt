@@ -20,6 +20,7 @@ invariant_of-result c =
           (is_schedule k (sixty_words c.expand_key_by.result) (h, λ i d l. omega (arith, get_or_default k i d 0 l, c.type_inv.key i)) front);
       twice = c.round_keys-keys.ensures.twice;
       in_tower = c.tower_keys.ensures;
+      in_pairs = c.pair_keys.ensures;
       sealing = c.sealing_keys.ensures;
       unsealing = c.unsealing_keys.ensures;
     }
