@@ -1,5 +1,5 @@
 -- round keys of pairs, in an array
-use Rattle.std.specs.Prelude.{◌≡◌, ℕ, ◌+◌, ◌<◌, List, [], map, length}
+use Rattle.std.specs.Prelude.{◌≡◌, ℕ, ◌+◌, ◌<◌, ◌≤◌, List, [], map, length}
 use Rattle.std.proofs.Common.{sym, ◌∙◌, ap, arith, get_or, set, ◌≢◌, below_more, get_or-set_other, get_or-set_same}
 use Rattle.std.proofs.lemmas.List.{get_or-map}
 use Rattle.aes_lanes.specs.RowKeys.{less_constant, ArePairKeys}
@@ -20,7 +20,7 @@ pairs_more keys pairs round key within here done r d h =
     (ap (λ (k : PairKey). map tower_byte k.elements) (get_or-set_same pairs round key d within) ∙ here)
     r h
 
-pub pairs_all : (keys : List RoundKey) (pairs : List PairKey) → length keys ≡ 15 → length pairs ≡ 15 → InPairsBelow 15 keys pairs → ArePairKeys keys pairs
-pairs_all keys pairs long pairs_long done r h =
+pub pairs_all : (n : ℕ) (keys : List RoundKey) (pairs : List PairKey) → n ≤ 15 → length keys ≡ 15 → length pairs ≡ 15 → InPairsBelow n keys pairs → ArePairKeys n keys pairs
+pairs_all n keys pairs few long pairs_long done r h =
     ap (map tower_byte) (get_or-map (λ k. k.elements) pairs r (record { elements = [] }) [] (omega arith)) ∙ done r (record { elements = [] }) h
     ∙ ap (map less_constant) (sym (get_or-map (λ k. k.twice) keys r none [] (omega arith)))

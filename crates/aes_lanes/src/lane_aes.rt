@@ -15,8 +15,8 @@ use kc_base::Errno;
 use std::marker::Model;
 use std::simd::prelude::*;
 
-/// From so many blocks on all eight are sealed at once. That takes as long as three pairs on x86-64-v3, and as three and a
-/// half on x86-64-v2, whose vectors are half as long.
+/// From so many blocks on all eight are sealed at once. That takes as long as three pairs on x86-64-v3, and as three
+/// and a half on x86-64-v2, whose vectors are half as long.
 const WORTH_SEALING_EIGHT: usize = 7;
 
 /// From so many blocks on all eight are unsealed at once: as long as two pairs, and as two and a half.
@@ -48,15 +48,16 @@ impl LaneAes {
         if !matches!(key.len(), 16 | 24 | 32) {
             return Err(Errno::EINVAL);
         }
+        let rounds = key.len() / 4 + 6;
         let keys = round_keys(&expand_key_by::<ByLanes>(key));
         Ok(LaneAes {
             schedule: LaneSchedule {
-                rounds: key.len() / 4 + 6,
+                rounds,
                 keys,
-                tower_keys: tower_keys(&keys),
-                pair_keys: pair_keys(&keys),
-                sealing_keys: sealing_keys(&keys),
-                unsealing_keys: unsealing_keys(&keys),
+                tower_keys: tower_keys(&keys, rounds + 1),
+                pair_keys: pair_keys(&keys, rounds + 1),
+                sealing_keys: sealing_keys(&keys, rounds + 1),
+                unsealing_keys: unsealing_keys(&keys, rounds + 1),
             },
         })
     }

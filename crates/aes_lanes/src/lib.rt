@@ -1,5 +1,5 @@
-//! AES by vectors: eight blocks by their rows in four vectors of 32 bytes; two side by side in one of them. One block is
-//! sealed in a vector of 16 bytes, and unsealed in one of 32 that has it twice.
+//! AES by vectors: eight blocks by their rows in four vectors of 32 bytes; two side by side in one of them. One block
+//! is sealed in a vector of 16 bytes, and unsealed in one of 32 that has it twice.
 #![tactic(auto)]
 
 mod columns;

@@ -1,6 +1,6 @@
 //! Round keys as they are added to two blocks side by side while these are sealed.
 
-ghost use Rattle.std.specs.Prelude.{◌≡◌, map};
+ghost use Rattle.std.specs.Prelude.{◌≡◌, ◌≤◌, map};
 ghost use Rattle.aes_lanes.specs.RowKeys.{less_constant, ArePairKeys};
 ghost use Rattle.aes_lanes.specs.SealingTower.{tower_byte};
 
@@ -22,14 +22,15 @@ fn pair_key(key: u8x32) -> PairKey
     }
 }
 
-/// All round keys for sealing two blocks.
-pub(crate) fn pair_keys(keys: &[RoundKey; 15]) -> [PairKey; 15]
-    ensures { ArePairKeys keys.now result }
+/// The first `count` round keys for sealing two blocks, and keys of no meaning behind them.
+pub(crate) fn pair_keys(keys: &[RoundKey; 15], count: usize) -> [PairKey; 15]
+    requires { count ≤ 15 }
+    ensures { ArePairKeys count keys.now result }
 {
     let mut pairs = [PairKey {
         elements: u8x32::splat(0),
     }; 15];
-    for round in 0..15usize {
+    for round in 0..count {
         pairs[round] = pair_key(keys[round].twice);
     }
     pairs

@@ -1,6 +1,6 @@
 //! Sealing eight blocks by rows, and one block.
 
-ghost use Rattle.std.specs.Prelude.{◌≡◌, ◌<◌, map};
+ghost use Rattle.std.specs.Prelude.{◌≡◌, ◌≤◌, map};
 ghost use Rattle.std_defs.specs.Aes.{seal, add_round_key, sub_bytes, shift_rows, mix_columns, sbox};
 ghost use Rattle.aes_lanes.specs.Key.{lane_key};
 ghost use Rattle.aes_lanes.specs.Pairs.{each_half, blocks_of};
@@ -28,7 +28,7 @@ impl LaneSchedule {
     /// A round of eight blocks.
     #[inline(always)]
     fn sealed_rows(&self, s: Rows, round: usize) -> Rows
-        requires { round < 15 }
+        requires { round ≤ self.now.rounds }
         ensures { tower_blocks result ≡ map (λ b. add_round_key (schedule_of self.now.keys) round (mix_columns (shift_rows (sub_bytes b)))) (tower_blocks s) }
     {
         let t = shifted_rows(s);

@@ -26,8 +26,8 @@ pub trait CounterBlocks: Drop {
         ensures { (n : ℕ) → block self.new n ≡ block self.old (n + count) };
 }
 
-/// A key stream that goes on where it stopped, also within a block. Contracts see its counter blocks and how many bytes of
-/// the first are used.
+/// A key stream that goes on where it stopped, also within a block. Contracts see its counter blocks and how many bytes
+/// of the first are used.
 #[derive(Drop)]
 pub struct KeyStream<B: CounterBlocks> {
     counters: B,
@@ -186,8 +186,9 @@ pub fn apply_key_stream<C: BlockCipher, B: CounterBlocks>(cipher: &C, counters: 
     KeyStream::new(counters).apply(cipher, text);
 }
 
-/// The ciphers of the first counter block and, up to seven, of those behind it that a text of `text_len` bytes takes, made at
-/// once. The first is the caller's own; `apply_behind_first` takes the others. What stands behind them has no meaning.
+/// The ciphers of the first counter block and, up to seven, of those behind it that a text of `text_len` bytes takes,
+/// made at once. The first is the caller's own; `apply_behind_first` takes the others. What stands behind them has no
+/// meaning.
 pub fn first_ciphers<C: BlockCipher, B: CounterBlocks>(
     cipher: &C,
     counters: &B,

@@ -9,4 +9,4 @@ loop-round-preserved c = record {
 }
 
 pub returns : goal.returns
-returns c = pairs_all c.args.keys.now c.loop-round.pairs c.told-keys c.loop-round.invariant.long (λ r d h. c.loop-round.invariant.done r d (omega arith))
+returns c = pairs_all c.args.count c.args.keys.now c.loop-round.pairs c.requires c.told-keys c.loop-round.invariant.long (λ r d h. c.loop-round.invariant.done r d (omega arith))

@@ -25,7 +25,7 @@ loop-round-preserved c =
     }
 
 pub sealed_rows-state-requires : goal.sealed_rows-state-requires
-sealed_rows-state-requires c = omega (arith, at_most_fourteen c.args.self.now.rounds (schedule_of c.args.self.now.keys) c.args.self.now.scheduled)
+sealed_rows-state-requires c = omega arith
 
 pub returns : goal.returns
 returns c =

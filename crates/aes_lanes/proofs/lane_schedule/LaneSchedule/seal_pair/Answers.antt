@@ -19,7 +19,7 @@ loop-round-preserved c =
     let i = c.loop-round.round in
     let within : i < 15 = omega (arith, at_most_fourteen s.rounds (schedule_of s.keys) s.scheduled) in
     pair_more s.rounds (schedule_of s.keys) i c.args.x c.loop-round.state _ _ _ s.scheduled (omega arith) (omega arith) (omega arith)
-    (ap (map tower_byte) (sym (get_or-map (λ k. k.elements) s.pair_keys i (record { elements = [] }) [] (omega arith))) ∙ s.in_pairs i within ∙ ap (map less_constant) (s.twice i within))
+    (ap (map tower_byte) (sym (get_or-map (λ k. k.elements) s.pair_keys i (record { elements = [] }) [] (omega arith))) ∙ s.in_pairs i (omega arith) ∙ ap (map less_constant) (s.twice i within))
     c.loop-round.invariant c.shifted.ensures c.pair_mixed-state.ensures
 
 pub returns : goal.returns

@@ -26,7 +26,7 @@ loop-round-preserved c =
     }
 
 pub unsealed_rows-state-requires : goal.unsealed_rows-state-requires
-unsealed_rows-state-requires c = omega (arith, at_most_fourteen c.args.self.now.rounds (schedule_of c.args.self.now.keys) c.args.self.now.scheduled)
+unsealed_rows-state-requires c = omega arith
 
 pub returns : goal.returns
 returns c =
