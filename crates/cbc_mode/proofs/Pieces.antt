@@ -1,7 +1,7 @@
 -- A ciphertext in pieces: what is opened of a piece, behind the block before it, is what is opened of the whole there.
-use Rattle.std.proofs.Common.{◌≡◌, ℕ, zero, suc, ◌+◌, ◌-◌, ◌*◌, ◌/◌, ◌<◌, ◌≤◌, sym, ap, ap₂, ◌∙◌, arith, List, ◌++◌, length, take, drop, refl, add-suc, add-zero, lt-suc_self}
+use Rattle.std.proofs.Common.{◌≡◌, ℕ, zero, suc, ◌+◌, ◌-◌, ◌*◌, ◌/◌, ◌≤◌, sym, ap, ap₂, ◌∙◌, arith, List, ◌++◌, length, take, drop, refl, add-suc, add-zero}
 use Rattle.std.proofs.lemmas.Grind.{common_steps}
-use Rattle.std.proofs.lemmas.List.{take-take, drop_all, drop-take, drop-drop, append-nil, append_assoc}
+use Rattle.std.proofs.lemmas.List.{take-take, drop_all, drop-take, drop-drop, append-nil}
 use borrow.Rule.Slice.PartMut.{put_mid}
 use Rattle.std_defs.specs.Blocks.{xor_blocks, text_block, joined}
 use Rattle.std_defs.specs.Modes.{cbc_before, cbc_plain_block}

@@ -7,14 +7,14 @@ ghost use Rattle.std_defs.specs.Xts.{times_alpha_power, xts_block, xts_blocks, w
 
 use crate::direction::Direction;
 use crate::tweak::Tweak;
-use aes_block::xor_block;
+use std::simd::prelude::*;
 
-/// Adds the mask to the block.
+/// Adds the mask to the block, in a vector.
 #[inline(always)]
 fn add_mask(block: &mut [u8; 16], mask: &[u8; 16])
     ensures { block.new ≡ xor_blocks block.old mask.now }
 {
-    xor_block(block, mask);
+    *block = (u8x16::from_array(*block) ^ u8x16::from_array(*mask)).to_array();
 }
 
 /// Eight blocks of a text, each with its mask added.

@@ -1,6 +1,5 @@
 use Rattle.std.specs.Prelude.{◌-◌}
 use Rattle.std.proofs.Common.{arith}
-use Rattle.aes_block.proofs.Rounds.{at_most_fourteen}
 use Rattle.aes_lanes.specs.Pairs.{blocks_of}
 use Rattle.aes_lanes.specs.Rows.{blocks_in, state_blocks}
 use Rattle.aes_lanes.specs.RoundKeys.{schedule_of}
