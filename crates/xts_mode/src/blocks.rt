@@ -60,6 +60,7 @@ fn turn_eight<D: Direction>(direction: &D, tweak: &mut Tweak, text: &mut [u8])
 }
 
 /// The blocks of a text of at most eight, each with its mask added, and blocks of no meaning behind them.
+#[inline(always)]
 #[tactic(auto, unfolding(std_defs::specs::Blocks::text_block))]
 fn some_masked(text: &[u8], masks: &[[u8; 16]; 8]) -> [[u8; 16]; 8]
     requires { length text.now ≤ 128 }
@@ -76,6 +77,7 @@ fn some_masked(text: &[u8], masks: &[[u8; 16]; 8]) -> [[u8; 16]; 8]
 }
 
 /// Writes blocks into a text of at most eight, each with its mask added.
+#[inline(always)]
 fn write_some_masked(text: &mut [u8], blocks: &[[u8; 16]; 8], masks: &[[u8; 16]; 8])
     requires whole { length text.old % 16 ≡ 0 }
     requires short { length text.old ≤ 128 }
