@@ -15,8 +15,8 @@ use kc_base::Errno;
 use std::marker::Model;
 use std::simd::prelude::*;
 
-/// From so many blocks on all eight are sealed at once. That takes as long as three pairs on x86-64-v3, and as three
-/// and a half on x86-64-v2, whose vectors are half as long.
+/// From so many blocks on all eight are sealed at once. That takes as long as three pairs on x86-64-v3, and as four on
+/// x86-64-v2, whose vectors are half as long.
 const WORTH_SEALING_EIGHT: usize = 7;
 
 /// From so many blocks on all eight are unsealed at once: as long as two pairs, and as two and a half.
