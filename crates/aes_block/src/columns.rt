@@ -15,7 +15,8 @@ fn double(a: u8) -> u8
     }
 }
 
-/// A column, from its top, after MixColumns (5.1.3). Three times a byte is twice it and the byte, so a sum of two is doubled.
+/// A column, from its top, after MixColumns (5.1.3). Three times a byte is twice it and the byte, so a sum of two is
+/// doubled.
 pub fn mixed_column(a: u8, b: u8, c: u8, d: u8) -> [u8; 4]
     ensures { result ≡ map (mixed_byte (0x02 ∷ 0x03 ∷ 0x01 ∷ 0x01 ∷ []) (a ∷ b ∷ c ∷ d ∷ [])) (range_with_len 0 4) }
 {
@@ -31,8 +32,8 @@ pub fn mixed_column(a: u8, b: u8, c: u8, d: u8) -> [u8; 4]
     ]
 }
 
-/// A column, from its top, after InvMixColumns (5.3.3): MixColumns of the column to which four times the sum of each byte and
-/// the one two below it is added.
+/// A column, from its top, after InvMixColumns (5.3.3): MixColumns of the column to which four times the sum of each
+/// byte and the one two below it is added.
 pub fn inverse_mixed_column(a: u8, b: u8, c: u8, d: u8) -> [u8; 4]
     ensures { result ≡ map (mixed_byte (0x0e ∷ 0x0b ∷ 0x0d ∷ 0x09 ∷ []) (a ∷ b ∷ c ∷ d ∷ [])) (range_with_len 0 4) }
 {

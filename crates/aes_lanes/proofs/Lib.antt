@@ -13,3 +13,5 @@ mod SealingTerms
 mod Shifted
 mod RowsSealed
 mod OneSealed
+mod PairKeyVectors
+mod PairSealed

@@ -40,12 +40,12 @@ terms_moved a b c d k =
     ∙ ap (λ v. bit_xor (bit_xor (bit_xor v b) (bit_xor c d)) k) (sym (mul8-xor 2 a b))
 
 -- what the function `one_round` adds up, of the bytes s behind the S-box and the key k, both in order
-mixed_with : List ℕ → List ℕ → List ℕ
+unfoldable pub mixed_with : List ℕ → List ℕ → List ℕ
 mixed_with s k =
     let front : List ℕ = zip2 bit_xor (map (mul8 2) s) (turned 1 s) in
     zip2 bit_xor (zip2 bit_xor (zip2 bit_xor (turned 3 s) k) front) (turned 1 front)
 
-lanes_moved : (s k : List ℕ) → length s ≡ 16 → length k ≡ 16 → mixed_with s k ≡ zip2 bit_xor (mixed_lanes s) k
+pub lanes_moved : (s k : List ℕ) → length s ≡ 16 → length k ≡ 16 → mixed_with s k ≡ zip2 bit_xor (mixed_lanes s) k
 unfolding mixed_with mixed_lanes
 lanes_moved s k long key_long =
     of_places 16 (λ s. mixed_with s k ≡ zip2 bit_xor (mixed_lanes s) k) (λ z.
@@ -92,7 +92,7 @@ sum_in_order x y r h k e n =
     ap (ordered n) e ∙ ap (iterate shift_rows n) (all_added x y h.1 k.1)
     ∙ shifts_sum n (map tower_byte x) (map tower_byte y) (length-map x tower_byte ∙ h.0) (length-map y tower_byte ∙ k.0)
 
-keyed_state : (ws : List (List ℕ)) (r : ℕ) (s : List ℕ) → length s ≡ 16
+pub keyed_state : (ws : List (List ℕ)) (r : ℕ) (s : List ℕ) → length s ≡ 16
     → zip2 bit_xor (mix_columns (shift_rows (map less_sbox s))) (map less_constant (key_block ws r)) ≡ add_round_key ws r (mix_columns (shift_rows (sub_bytes s)))
 keyed_state ws r = of_places 16 (λ s. zip2 bit_xor (mix_columns (shift_rows (map less_sbox s))) (map less_constant (key_block ws r)) ≡ add_round_key ws r (mix_columns (shift_rows (sub_bytes s)))) (keyed_block ws r)
 

@@ -1,5 +1,5 @@
 -- round keys by rows, in an array
-use Rattle.std.specs.Prelude.{◌≡◌, ℕ, ◌+◌, ◌<◌, List, [], ◌∷◌, map, length, refl}
+use Rattle.std.specs.Prelude.{◌≡◌, ℕ, ◌+◌, ◌<◌, ◌≤◌, List, [], ◌∷◌, map, length, refl}
 use Rattle.std.proofs.Common.{sym, ◌∙◌, ap, arith, get_or, set, ◌≢◌, below_more, get_or-set_other, get_or-set_same}
 use Rattle.std.proofs.lemmas.List.{get_or-map}
 use Rattle.aes_lanes.specs.RowKeys.{row_of, bytes_by, four_rows, StandFor}
@@ -23,9 +23,9 @@ rows_more f g keys rows round key within here done r d h =
     (ap (bytes_by f) (get_or-set_same rows round key d within) ∙ here)
     r h
 
-pub rows_all : (f : ℕ → ℕ) (g : List ℕ → List ℕ) (keys : List RoundKey) (rows : List RowKey) → length keys ≡ 15 → length rows ≡ 15
-    → StandBelow 15 f g keys rows → StandFor f g keys rows
-rows_all f g keys rows long rows_long done r h =
+pub rows_all : (n : ℕ) (f : ℕ → ℕ) (g : List ℕ → List ℕ) (keys : List RoundKey) (rows : List RowKey) → n ≤ 15 → length keys ≡ 15 → length rows ≡ 15
+    → StandBelow n f g keys rows → StandFor n f g keys rows
+rows_all n f g keys rows few long rows_long done r h =
     get_or-map (bytes_by f) rows r (record { first = []; second = []; third = []; fourth = [] }) [] (omega arith)
     ∙ done r (record { first = []; second = []; third = []; fourth = [] }) h
     ∙ ap (λ v. four_rows (g v)) (sym (get_or-map (λ k. k.twice) keys r none [] (omega arith)))

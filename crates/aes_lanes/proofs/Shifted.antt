@@ -16,7 +16,7 @@ use Rattle.aes_lanes.proofs.RowsMixed.{AreBytes}
 
 -- ---- once
 
-shift_long : (s : List ℕ) → length (shift_rows s) ≡ 16
+pub shift_long : (s : List ℕ) → length (shift_rows s) ≡ 16
 unfolding shift_rows
 shift_long s = refl
 

@@ -1,8 +1,9 @@
 -- steps of a cipher on two blocks side by side
-use Rattle.std.specs.Prelude.{◌≡◌, ℕ, zero, suc, ◌-◌, ◌<◌, List, [], ◌∷◌, ◌++◌, map, take, drop, length, bit_xor, refl}
+use Rattle.std.specs.Prelude.{◌≡◌, ℕ, zero, suc, ◌+◌, ◌*◌, ◌-◌, ◌<◌, List, [], ◌∷◌, ◌++◌, map, take, drop, length, bit_xor, refl}
 use Rattle.std.specs.List.{range_with_len}
-use Rattle.std.proofs.Common.{◌∙◌, ap, ap₂, subst, arith}
-use Rattle.std.proofs.lemmas.List.{take-map, drop-map, map-append, length-append, length-map}
+use Rattle.std.proofs.Common.{◌∙◌, ap, ap₂, subst, arith, sym, get_or, set, ◌≢◌, get_or-set_other, length-set}
+use Rattle.std.proofs.lemmas.List.{take-map, drop-map, map-append, length-append, length-map, get_or_default}
+use Rattle.std.proofs.lemmas.List.Edits.{map_over_more}
 use lib.Lanes.{zip2}
 use Rattle.std_defs.specs.Aes.{add_round_key, sub_bytes, shift_rows, mix_columns, inverse_sub_bytes, inverse_shift_rows, inverse_mix_columns, after_rounds, before_rounds, key_schedule, seal, unseal, cipher, inverse_cipher, rounds, inverse_sbox}
 use Rattle.aes_block.specs.Schedule.{IsSchedule, key_of}
@@ -41,7 +42,7 @@ shift_back_long : (s : List ℕ) → length (inverse_shift_rows s) ≡ 16
 unfolding inverse_shift_rows
 shift_back_long s = refl
 
-mix_long : (s : List ℕ) → length (mix_columns s) ≡ 16
+pub mix_long : (s : List ℕ) → length (mix_columns s) ≡ 16
 unfolding mix_columns
 mix_long s = refl
 
@@ -49,7 +50,7 @@ mix_back_long : (s : List ℕ) → length (inverse_mix_columns s) ≡ 16
 unfolding inverse_mix_columns
 mix_back_long s = refl
 
-key_long : (ws : List (List ℕ)) (r : ℕ) (s : List ℕ) → length (add_round_key ws r s) ≡ 16
+pub key_long : (ws : List (List ℕ)) (r : ℕ) (s : List ℕ) → length (add_round_key ws r s) ≡ 16
 unfolding add_round_key
 key_long ws r s = refl
 
@@ -58,7 +59,7 @@ unfolding after_rounds
 rounds_long ws zero b = key_long ws 0 b
 rounds_long ws (suc n) b = key_long ws (suc n) (mix_columns (shift_rows (sub_bytes (after_rounds ws b n))))
 
-both_long : (f : List ℕ → List ℕ) → ((s : List ℕ) → length (f s) ≡ 16) → (x : List ℕ) → length (each_half f x) ≡ 32
+pub both_long : (f : List ℕ → List ℕ) → ((s : List ℕ) → length (f s) ≡ 16) → (x : List ℕ) → length (each_half f x) ≡ 32
 both_long f long x = omega (arith, length-append (f (take 16 x)) (f (drop 16 x)), long (take 16 x), long (drop 16 x))
 
 -- ---- rounds of both blocks
@@ -153,3 +154,27 @@ pub blocks_of_each : (f : List ℕ → List ℕ) → ((s : List ℕ) → length 
 blocks_of_each f long [] = refl
 blocks_of_each f long (x ∷ xs) = λ i.
     front (f (take 16 x)) (f (drop 16 x)) (long (take 16 x)) i ∷ back (f (take 16 x)) (f (drop 16 x)) (long (take 16 x)) i ∷ blocks_of_each f long xs i
+
+-- ---- the first blocks of a row, two and two
+
+pub first_of_pair : (f : List ℕ → List ℕ) → ((s : List ℕ) → length (f s) ≡ 16) → (b x y r : List ℕ) → take 16 x ≡ b → y ≡ each_half f x → r ≡ take 16 y → r ≡ f b
+first_of_pair f long b x y r is e h = h ∙ ap (take 16) e ∙ front (f (take 16 x)) (f (drop 16 x)) (long (take 16 x)) ∙ ap f is
+
+pub second_of_pair : (f : List ℕ → List ℕ) → ((s : List ℕ) → length (f s) ≡ 16) → (b x y r : List ℕ) → drop 16 x ≡ b → y ≡ each_half f x → r ≡ drop 16 y → r ≡ f b
+second_of_pair f long b x y r is e h = h ∙ ap (drop 16) e ∙ back (f (take 16 x)) (f (drop 16 x)) (long (take 16 x)) ∙ ap f is
+
+pub two_more : (f : List ℕ → List ℕ) (xs ys : List (List ℕ)) (n : ℕ) (v w : List ℕ) → length ys ≡ length xs → 2 * n + 1 < length xs → ys ≡ map f (take (2 * n) xs) ++ drop (2 * n) xs
+    → v ≡ f (get_or ys (2 * n) []) → w ≡ f (get_or ys (2 * n + 1) []) → set (set ys (2 * n) v) (2 * n + 1) w ≡ map f (take (2 * (n + 1)) xs) ++ drop (2 * (n + 1)) xs
+two_more f xs ys n v w long within done ev ew =
+    ap₂ (λ (a b : List ℕ). set (set ys (2 * n) a) (2 * n + 1) b) ev (ew ∙ ap f (sym (get_or-set_other ys (2 * n) (2 * n + 1) (f (get_or ys (2 * n) [])) [] ne)))
+    ∙ map_over_more f xs (set ys (2 * n) (f (get_or ys (2 * n) []))) (2 * n + 1) (get_or (set ys (2 * n) (f (get_or ys (2 * n) []))) (2 * n + 1) []) within
+    (map_over_more f xs ys (2 * n) (get_or ys (2 * n) []) (omega arith) done (get_or_default ys (2 * n) [] (get_or ys (2 * n) []) (omega arith)))
+    (get_or_default (set ys (2 * n) (f (get_or ys (2 * n) []))) (2 * n + 1) [] (get_or (set ys (2 * n) (f (get_or ys (2 * n) []))) (2 * n + 1) [])
+    (omega (arith, length-set ys (2 * n) (f (get_or ys (2 * n) [])))))
+    ∙ ap (λ (m : ℕ). map f (take m xs) ++ drop m xs) next
+  where
+    ne : 2 * n + 1 ≢ 2 * n
+    ne = omega arith
+
+    next : 2 * n + 1 + 1 ≡ 2 * (n + 1)
+    next = omega arith

@@ -1,5 +1,5 @@
 -- round keys in the tower, in an array
-use Rattle.std.specs.Prelude.{◌≡◌, ℕ, ◌+◌, ◌<◌, List, [], map, take, length}
+use Rattle.std.specs.Prelude.{◌≡◌, ℕ, ◌+◌, ◌<◌, ◌≤◌, List, [], map, take, length}
 use Rattle.std.proofs.Common.{sym, ◌∙◌, ap, arith, get_or, set, ◌≢◌, below_more, get_or-set_other, get_or-set_same}
 use Rattle.std.proofs.lemmas.List.{get_or-map}
 use Rattle.aes_lanes.specs.RowKeys.{less_constant, AreTowerKeys}
@@ -20,7 +20,7 @@ tower_more keys tower round key within here done r d h =
     (ap (λ (k : TowerKey). ordered round k.elements) (get_or-set_same tower round key d within) ∙ here)
     r h
 
-pub tower_all : (keys : List RoundKey) (tower : List TowerKey) → length keys ≡ 15 → length tower ≡ 15 → InTowerBelow 15 keys tower → AreTowerKeys keys tower
-tower_all keys tower long tower_long done r h =
+pub tower_all : (n : ℕ) (keys : List RoundKey) (tower : List TowerKey) → n ≤ 15 → length keys ≡ 15 → length tower ≡ 15 → InTowerBelow n keys tower → AreTowerKeys n keys tower
+tower_all n keys tower few long tower_long done r h =
     ap (ordered r) (get_or-map (λ k. k.elements) tower r (record { elements = [] }) [] (omega arith)) ∙ done r (record { elements = [] }) h
     ∙ ap (λ (v : List ℕ). map less_constant (take 16 v)) (sym (get_or-map (λ k. k.twice) keys r none [] (omega arith)))

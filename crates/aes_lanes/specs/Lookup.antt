@@ -42,12 +42,6 @@ second_part y = bit_xor (inv (q_of y)) (high y)
 
 -- ---- between bytes and the tower
 
-abbrev pub to_tower : ℕ → ℕ
-to_tower x = bit_xor (look (0 ∷ 112 ∷ 42 ∷ 90 ∷ 152 ∷ 232 ∷ 178 ∷ 194 ∷ 8 ∷ 120 ∷ 34 ∷ 82 ∷ 144 ∷ 224 ∷ 186 ∷ 202 ∷ []) (low x)) (look (0 ∷ 77 ∷ 124 ∷ 49 ∷ 125 ∷ 48 ∷ 1 ∷ 76 ∷ 129 ∷ 204 ∷ 253 ∷ 176 ∷ 252 ∷ 177 ∷ 128 ∷ 205 ∷ []) (high x))
-
-abbrev pub from_tower : ℕ → ℕ → ℕ
-from_tower r s = bit_xor (look (0 ∷ 199 ∷ 189 ∷ 111 ∷ 23 ∷ 109 ∷ 210 ∷ 208 ∷ 120 ∷ 168 ∷ 2 ∷ 197 ∷ 122 ∷ 191 ∷ 170 ∷ 21 ∷ []) r) (look (0 ∷ 106 ∷ 187 ∷ 95 ∷ 165 ∷ 116 ∷ 228 ∷ 207 ∷ 250 ∷ 53 ∷ 43 ∷ 65 ∷ 209 ∷ 144 ∷ 30 ∷ 142 ∷ []) s)
-
 abbrev pub inverse_to_tower : ℕ → ℕ
 inverse_to_tower x = bit_xor (look (232 ∷ 183 ∷ 188 ∷ 227 ∷ 236 ∷ 179 ∷ 184 ∷ 231 ∷ 242 ∷ 173 ∷ 166 ∷ 249 ∷ 246 ∷ 169 ∷ 162 ∷ 253 ∷ []) (low x)) (look (0 ∷ 101 ∷ 5 ∷ 96 ∷ 230 ∷ 131 ∷ 227 ∷ 134 ∷ 148 ∷ 241 ∷ 145 ∷ 244 ∷ 114 ∷ 23 ∷ 119 ∷ 18 ∷ []) (high x))
 

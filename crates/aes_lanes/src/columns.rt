@@ -1,11 +1,16 @@
-//! InvShiftRows, MixColumns and its inverse on two blocks side by side.
+//! ShiftRows and its inverse, MixColumns and its inverse on two blocks side by side.
 
 ghost use Rattle.std.specs.Prelude.{◌≡◌, map};
-ghost use Rattle.std_defs.specs.Aes.{mul8, inverse_shift_rows, mix_columns, inverse_mix_columns};
+ghost use Rattle.std_defs.specs.Aes.{mul8, shift_rows, inverse_shift_rows, mix_columns, inverse_mix_columns};
 ghost use Rattle.aes_lanes.specs.Pairs.{each_half, turned};
 
 use crate::lookup::sum;
 use std::simd::prelude::*;
+
+const SHIFTED: [usize; 32] = [
+    0, 5, 10, 15, 4, 9, 14, 3, 8, 13, 2, 7, 12, 1, 6, 11, 16, 21, 26, 31, 20, 25, 30, 19, 24, 29,
+    18, 23, 28, 17, 22, 27,
+];
 
 const SHIFTED_BACK: [usize; 32] = [
     0, 13, 10, 7, 4, 1, 14, 11, 8, 5, 2, 15, 12, 9, 6, 3, 16, 29, 26, 23, 20, 17, 30, 27, 24, 21,
@@ -22,6 +27,19 @@ const TWO_ON: [usize; 32] = [
     24, 25, 30, 31, 28, 29,
 ];
 
+const THREE_ON: [usize; 32] = [
+    3, 0, 1, 2, 7, 4, 5, 6, 11, 8, 9, 10, 15, 12, 13, 14, 19, 16, 17, 18, 23, 20, 21, 22, 27, 24,
+    25, 26, 31, 28, 29, 30,
+];
+
+/// ShiftRows of both blocks.
+#[inline(always)]
+pub(crate) fn shifted(x: u8x32) -> u8x32
+    ensures { result ≡ each_half shift_rows x }
+{
+    x.swizzle(SHIFTED)
+}
+
 /// InvShiftRows of both blocks.
 #[inline(always)]
 pub(crate) fn shifted_back(x: u8x32) -> u8x32
@@ -32,7 +50,7 @@ pub(crate) fn shifted_back(x: u8x32) -> u8x32
 
 /// Each byte's next in its column.
 #[inline(always)]
-fn one_on(x: u8x32) -> u8x32
+pub(crate) fn one_on(x: u8x32) -> u8x32
     ensures { result ≡ each_half (turned 1) x }
 {
     x.swizzle(ONE_ON)
@@ -43,6 +61,13 @@ fn two_on(x: u8x32) -> u8x32
     ensures { result ≡ each_half (turned 2) x }
 {
     x.swizzle(TWO_ON)
+}
+
+#[inline(always)]
+pub(crate) fn three_on(x: u8x32) -> u8x32
+    ensures { result ≡ each_half (turned 3) x }
+{
+    x.swizzle(THREE_ON)
 }
 
 /// Twice each byte in the field.

@@ -1,11 +1,12 @@
 //! AES by vectors.
 
-ghost use Rattle.std.specs.Prelude.{◌≡◌, MatchResult, length};
+ghost use Rattle.std.specs.Prelude.{◌≡◌, ◌≤◌, MatchResult, length, map, take};
 ghost use Rattle.std_defs.specs.Aes.{IsKeyLength};
 
 use crate::lane_schedule::LaneSchedule;
 use crate::lane_words::ByLanes;
-use crate::pairs::{first_of, joined, paired, parted};
+use crate::pair_keys::pair_keys;
+use crate::pairs::{first_of, joined, paired, parted, second_of};
 use crate::round_keys::round_keys;
 use crate::row_keys::{sealing_keys, unsealing_keys};
 use crate::tower_keys::tower_keys;
@@ -14,12 +15,12 @@ use kc_base::Errno;
 use std::marker::Model;
 use std::simd::prelude::*;
 
-/// From so many blocks on all eight are sealed at once. That takes as long as three blocks by themselves on x86-64-v3, and
-/// as seven on x86-64-v2, whose vectors are half as long.
-const WORTH_SEALING_EIGHT: usize = 5;
+/// From so many blocks on all eight are sealed at once. That takes as long as three pairs on x86-64-v3, and as four on
+/// x86-64-v2, whose vectors are half as long.
+const WORTH_SEALING_EIGHT: usize = 7;
 
-/// From so many blocks on all eight are unsealed at once: as long as two blocks, and as four.
-const WORTH_UNSEALING_EIGHT: usize = 4;
+/// From so many blocks on all eight are unsealed at once: as long as two pairs, and as two and a half.
+const WORTH_UNSEALING_EIGHT: usize = 5;
 
 /// AES (FIPS 197, 5.1 and 5.3) under a key of 16, 24 or 32 bytes, with the key's whole schedule in vectors. No table is
 /// read at a place that the key or a text chooses. Contracts see the key.
@@ -47,16 +48,52 @@ impl LaneAes {
         if !matches!(key.len(), 16 | 24 | 32) {
             return Err(Errno::EINVAL);
         }
+        let rounds = key.len() / 4 + 6;
         let keys = round_keys(&expand_key_by::<ByLanes>(key));
         Ok(LaneAes {
             schedule: LaneSchedule {
-                rounds: key.len() / 4 + 6,
+                rounds,
                 keys,
-                tower_keys: tower_keys(&keys),
-                sealing_keys: sealing_keys(&keys),
-                unsealing_keys: unsealing_keys(&keys),
+                tower_keys: tower_keys(&keys, rounds + 1),
+                pair_keys: pair_keys(&keys, rounds + 1),
+                sealing_keys: sealing_keys(&keys, rounds + 1),
+                unsealing_keys: unsealing_keys(&keys, rounds + 1),
             },
         })
+    }
+}
+
+impl LaneAes {
+    ghost use Rattle.std_defs.specs.Aes.{seal, unseal};
+
+    /// Seals the first `count` of eight blocks, two and two, and leaves the others.
+    fn seal_few(&self, b: &mut [[u8; 16]; 8], count: usize)
+        requires { count ≤ 8 }
+        ensures { take count b.new ≡ map (seal self.now.bytes) (take count b.old) }
+    {
+        for j in 0..count / 2 {
+            let pair = self.schedule.seal_pair(joined(b[2 * j], b[2 * j + 1]));
+            b[2 * j] = first_of(pair);
+            b[2 * j + 1] = second_of(pair);
+        }
+        if count % 2 == 1 {
+            self.seal_block(&mut b[count - 1]);
+        }
+    }
+
+    /// Unseals the first `count` of eight blocks, two and two, and leaves the others.
+    fn unseal_few(&self, b: &mut [[u8; 16]; 8], count: usize)
+        requires { count ≤ 8 }
+        ensures { take count b.new ≡ map (unseal self.now.bytes) (take count b.old) }
+    {
+        for j in 0..count / 2 {
+            let pair = self.schedule.unseal_pair(joined(b[2 * j], b[2 * j + 1]));
+            b[2 * j] = first_of(pair);
+            b[2 * j + 1] = second_of(pair);
+        }
+        if count % 2 == 1 {
+            self.unseal_block(&mut b[count - 1]);
+        }
     }
 }
 
@@ -84,9 +121,7 @@ impl BlockCipher for LaneAes {
 
     fn seal_some(&self, b: &mut [[u8; 16]; 8], count: usize) {
         if count < WORTH_SEALING_EIGHT {
-            for j in 0..count {
-                self.seal_block(&mut b[j]);
-            }
+            self.seal_few(b, count);
         } else {
             self.seal_eight(b);
         }
@@ -98,9 +133,7 @@ impl BlockCipher for LaneAes {
 
     fn unseal_some(&self, b: &mut [[u8; 16]; 8], count: usize) {
         if count < WORTH_UNSEALING_EIGHT {
-            for j in 0..count {
-                self.unseal_block(&mut b[j]);
-            }
+            self.unseal_few(b, count);
         } else {
             self.unseal_eight(b);
         }

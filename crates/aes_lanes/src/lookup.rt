@@ -1,5 +1,5 @@
-//! The inverse S-box by look-ups of half bytes, and the tables of both directions. A byte becomes an element of the field over sixteen, whose inverse
-//! takes look-ups in tables of sixteen alone.
+//! The inverse S-box by look-ups of half bytes, and the tables of both directions. A byte becomes an element of the
+//! field over sixteen, whose inverse takes look-ups in tables of sixteen alone.
 
 ghost use Rattle.std.specs.Prelude.{◌≡◌, length, map, bit_xor};
 ghost use Rattle.std.specs.Simd.Lanes.{zip2};

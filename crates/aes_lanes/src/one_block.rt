@@ -1,7 +1,8 @@
 //! The look-ups and steps of sealing on one block, in a vector of 16 bytes.
 //!
-//! The S-box takes bytes one by one, so ShiftRows is left undone: the state after round n is one that ShiftRows, done n times, puts in order, and
-//! MixColumns takes the bytes of a column from where they then lie. Four times leave each byte in its place, so there are four arrangements.
+//! The S-box takes bytes one by one, so ShiftRows is left undone: the state after round n is one that ShiftRows, done n
+//! times, puts in order, and MixColumns takes the bytes of a column from where they then lie. Four times leave each
+//! byte in its place, so there are four arrangements.
 
 ghost use Rattle.std.specs.Prelude.{◌≡◌, ℕ, length, map, take, bit_xor};
 ghost use Rattle.std.specs.Fn.{iterate};
@@ -171,8 +172,8 @@ fn three_on(x: u8x16, round: usize) -> u8x16
     looked_up(x.to_array(), u8x16::from_array(THREE_ON[round % 4]))
 }
 
-/// A round of one block, under a key in the tower to which the constant of the S-box was added. The next round waits for the last shuffle alone,
-/// since the key and the other terms are added before.
+/// A round of one block, under a key in the tower to which the constant of the S-box was added. The next round waits
+/// for the last shuffle alone, since the key and the other terms are added before.
 #[inline(always)]
 pub(crate) fn one_round(y: u8x16, key: u8x16, round: usize) -> u8x16
     ensures { ordered round result ≡ zip2 bit_xor (mix_columns (map less_sbox (ordered round y))) (ordered round key) }

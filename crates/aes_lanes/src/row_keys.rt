@@ -1,6 +1,6 @@
 //! Round keys as they are added to rows.
 
-ghost use Rattle.std.specs.Prelude.{◌≡◌, map};
+ghost use Rattle.std.specs.Prelude.{◌≡◌, ◌≤◌, map};
 ghost use Rattle.std_defs.specs.Aes.{inverse_mix_columns};
 ghost use Rattle.aes_lanes.specs.Pairs.{each_half};
 ghost use Rattle.aes_lanes.specs.SealingTower.{tower_byte};
@@ -98,23 +98,25 @@ fn no_keys() -> [RowKey; 15] {
     }; 15]
 }
 
-/// All round keys for sealing.
-pub(crate) fn sealing_keys(keys: &[RoundKey; 15]) -> [RowKey; 15]
-    ensures { AreSealingKeys keys.now result }
+/// The first `count` round keys for sealing, and keys of no meaning behind them.
+pub(crate) fn sealing_keys(keys: &[RoundKey; 15], count: usize) -> [RowKey; 15]
+    requires { count ≤ 15 }
+    ensures { AreSealingKeys count keys.now result }
 {
     let mut rows = no_keys();
-    for round in 0..15usize {
+    for round in 0..count {
         rows[round] = sealing_key(keys[round].twice);
     }
     rows
 }
 
-/// All round keys for unsealing.
-pub(crate) fn unsealing_keys(keys: &[RoundKey; 15]) -> [RowKey; 15]
-    ensures { AreUnsealingKeys keys.now result }
+/// The first `count` round keys for unsealing, and keys of no meaning behind them.
+pub(crate) fn unsealing_keys(keys: &[RoundKey; 15], count: usize) -> [RowKey; 15]
+    requires { count ≤ 15 }
+    ensures { AreUnsealingKeys count keys.now result }
 {
     let mut rows = no_keys();
-    for round in 0..15usize {
+    for round in 0..count {
         rows[round] = unsealing_key(keys[round].twice);
     }
     rows

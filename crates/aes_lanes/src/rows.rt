@@ -1,4 +1,5 @@
-//! Eight blocks by rows: in each of four vectors the same row of all of them, so that MixColumns moves no byte within a vector.
+//! Eight blocks by rows: in each of four vectors the same row of all of them, so that MixColumns moves no byte within a
+//! vector.
 
 ghost use Rattle.std.specs.Prelude.{◌≡◌, [], ◌∷◌, ◌++◌, map};
 ghost use Rattle.std_defs.specs.Aes.{inverse_shift_rows, inverse_sub_bytes, mix_columns, inverse_mix_columns};
@@ -11,8 +12,8 @@ use crate::row_keys::RowKey;
 use crate::tower::{four_times_term, state_added, terms_added, twice_term, undone};
 use std::simd::prelude::*;
 
-/// Four vectors, from the top row. The first half of each has blocks 0, 2, 4 and 6, and the second 1, 3, 5 and 7, with four bytes of a
-/// block beside one another.
+/// Four vectors, from the top row. The first half of each has blocks 0, 2, 4 and 6, and the second 1, 3, 5 and 7, with
+/// four bytes of a block beside one another.
 #[derive(Clone, Copy)]
 pub(crate) struct Rows {
     pub(crate) first: u8x32,
@@ -215,7 +216,8 @@ fn mixed(a: u8x32, b: u8x32, c: u8x32, d: u8x32) -> Rows
     }
 }
 
-/// InvMixColumns of all blocks, as terms, from the rows: MixColumns, where four times each byte and the one two below it are added first.
+/// InvMixColumns of all blocks, as terms, from the rows: MixColumns, where four times each byte and the one two below
+/// it are added first.
 #[inline(always)]
 pub(crate) fn mixed_back(a: u8x32, b: u8x32, c: u8x32, d: u8x32) -> Rows
     ensures { term_blocks result ≡ map inverse_mix_columns (map (map term_byte) (eight_blocks (a ∷ b ∷ c ∷ d ∷ []))) }

@@ -1,6 +1,6 @@
 //! Sealing eight blocks by rows, and one block.
 
-ghost use Rattle.std.specs.Prelude.{◌≡◌, ◌<◌, map};
+ghost use Rattle.std.specs.Prelude.{◌≡◌, ◌≤◌, map};
 ghost use Rattle.std_defs.specs.Aes.{seal, add_round_key, sub_bytes, shift_rows, mix_columns, sbox};
 ghost use Rattle.aes_lanes.specs.Key.{lane_key};
 ghost use Rattle.aes_lanes.specs.Pairs.{each_half, blocks_of};
@@ -19,7 +19,7 @@ use std::simd::prelude::*;
 impl LaneSchedule {
     /// Two blocks, to which the first round key is added, in the tower.
     #[inline(always)]
-    fn sealing_entered(&self, x: u8x32) -> u8x32
+    pub(crate) fn sealing_entered(&self, x: u8x32) -> u8x32
         ensures { map tower_byte result ≡ each_half (add_round_key (schedule_of self.now.keys) 0) x }
     {
         in_sealing_tower(sum(x, self.keys[0].twice))
@@ -28,7 +28,7 @@ impl LaneSchedule {
     /// A round of eight blocks.
     #[inline(always)]
     fn sealed_rows(&self, s: Rows, round: usize) -> Rows
-        requires { round < 15 }
+        requires { round ≤ self.now.rounds }
         ensures { tower_blocks result ≡ map (λ b. add_round_key (schedule_of self.now.keys) round (mix_columns (shift_rows (sub_bytes b)))) (tower_blocks s) }
     {
         let t = shifted_rows(s);
@@ -38,7 +38,7 @@ impl LaneSchedule {
 
     /// Two blocks after the S-box, and the last round key added.
     #[inline(always)]
-    fn sealing_left(&self, y: u8x32) -> u8x32
+    pub(crate) fn sealing_left(&self, y: u8x32) -> u8x32
         ensures { result ≡ each_half (add_round_key (schedule_of self.now.keys) self.now.rounds) (map (λ y. sbox (tower_byte y)) y) }
     {
         sum(made_last(y), self.keys[self.rounds].twice)

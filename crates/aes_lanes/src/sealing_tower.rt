@@ -1,5 +1,5 @@
-//! Bytes in the tower, as sealing carries them from round to round: a state is kept as the elements whose inverses the S-box looks up.
-//! The constant that the S-box adds is left to the round keys, since MixColumns leaves it as it is.
+//! Bytes in the tower, as sealing carries them from round to round: a state is kept as the elements whose inverses the
+//! S-box looks up. The constant that the S-box adds is left to the round keys, since MixColumns leaves it as it is.
 
 ghost use Rattle.std.specs.Prelude.{◌≡◌, map, bit_xor};
 ghost use Rattle.std.specs.Simd.Lanes.{zip2};

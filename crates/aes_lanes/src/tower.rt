@@ -1,5 +1,6 @@
-//! Bytes in the tower, as unsealing carries them from round to round: a state is kept as the elements whose inverses the inverse S-box
-//! looks up. A term is an element that is only added up: a sum of terms and of one byte of a state is a byte of a state.
+//! Bytes in the tower, as unsealing carries them from round to round: a state is kept as the elements whose inverses
+//! the inverse S-box looks up. A term is an element that is only added up: a sum of terms and of one byte of a state is
+//! a byte of a state.
 
 ghost use Rattle.std.specs.Prelude.{◌≡◌, length, map, bit_xor};
 ghost use Rattle.std.specs.Simd.Lanes.{zip2};

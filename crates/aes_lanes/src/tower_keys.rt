@@ -1,6 +1,6 @@
 //! Round keys as they are added to one block, in the tower.
 
-ghost use Rattle.std.specs.Prelude.{◌≡◌, ◌<◌, map};
+ghost use Rattle.std.specs.Prelude.{◌≡◌, ◌≤◌, ◌<◌, map};
 ghost use Rattle.aes_lanes.specs.SealingTower.{ordered};
 ghost use Rattle.aes_lanes.specs.RowKeys.{less_constant, AreTowerKeys};
 
@@ -24,14 +24,15 @@ fn tower_key(key: u8x16, round: usize) -> TowerKey
     }
 }
 
-/// All round keys for sealing one block.
-pub(crate) fn tower_keys(keys: &[RoundKey; 15]) -> [TowerKey; 15]
-    ensures { AreTowerKeys keys.now result }
+/// The first `count` round keys for sealing one block, and keys of no meaning behind them.
+pub(crate) fn tower_keys(keys: &[RoundKey; 15], count: usize) -> [TowerKey; 15]
+    requires { count ≤ 15 }
+    ensures { AreTowerKeys count keys.now result }
 {
     let mut in_tower = [TowerKey {
         elements: u8x16::splat(0),
     }; 15];
-    for round in 0..15usize {
+    for round in 0..count {
         in_tower[round] = tower_key(front_of(keys[round].twice), round);
     }
     in_tower

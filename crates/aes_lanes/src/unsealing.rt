@@ -1,7 +1,7 @@
-//! Unsealing eight blocks by rows, in the order of the equivalent inverse cipher (FIPS 197, 5.3.5): a round adds its key after
-//! InvMixColumns, and the keys went through InvMixColumns too.
+//! Unsealing eight blocks by rows, in the order of the equivalent inverse cipher (FIPS 197, 5.3.5): a round adds its
+//! key after InvMixColumns, and the keys went through InvMixColumns too.
 
-ghost use Rattle.std.specs.Prelude.{◌≡◌, ◌<◌, [], ◌∷◌, map};
+ghost use Rattle.std.specs.Prelude.{◌≡◌, ◌≤◌, [], ◌∷◌, map};
 ghost use Rattle.std_defs.specs.Aes.{unseal, add_round_key, inverse_sub_bytes, inverse_shift_rows, inverse_mix_columns, inverse_sbox};
 ghost use Rattle.aes_lanes.specs.Key.{lane_key};
 ghost use Rattle.aes_lanes.specs.Pairs.{each_half, blocks_of};
@@ -27,7 +27,7 @@ impl LaneSchedule {
     /// A round of eight blocks, undone, up to where InvShiftRows comes next.
     #[inline(always)]
     fn unsealed_rows(&self, s: Rows, round: usize) -> Rows
-        requires { round < 15 }
+        requires { round ≤ self.now.rounds }
         ensures { state_blocks result ≡ map (λ b. inverse_mix_columns (add_round_key (schedule_of self.now.keys) round (inverse_sub_bytes (inverse_shift_rows b)))) (state_blocks s) }
     {
         let t = all_undone(shifted_back(s));

@@ -1,24 +1,12 @@
 -- A ciphertext in pieces: what is opened of a piece, behind the block before it, is what is opened of the whole there.
-use Rattle.std.proofs.Common.{◌≡◌, ℕ, zero, suc, ◌+◌, ◌-◌, ◌*◌, ◌/◌, ◌<◌, ◌≤◌, sym, ap, ap₂, ◌∙◌, arith, List, ◌++◌, length, take, drop, refl, add-suc, add-zero, lt-suc_self}
+use Rattle.std.proofs.Common.{◌≡◌, ℕ, zero, suc, ◌+◌, ◌-◌, ◌*◌, ◌/◌, ◌≤◌, sym, ap, ap₂, ◌∙◌, arith, List, ◌++◌, length, take, drop, refl, add-suc, add-zero}
 use Rattle.std.proofs.lemmas.Grind.{common_steps}
-use Rattle.std.proofs.lemmas.List.{take-take, drop_all, drop-take, drop-drop, append-nil, append_assoc}
+use Rattle.std.proofs.lemmas.List.{take-take, drop_all, drop-take, drop-drop, append-nil}
 use borrow.Rule.Slice.PartMut.{put_mid}
 use Rattle.std_defs.specs.Blocks.{xor_blocks, text_block, joined}
 use Rattle.std_defs.specs.Modes.{cbc_before, cbc_plain_block}
+use Rattle.std_defs.proofs.Joined.{joined_same, joined-add}
 use Rattle.cbc_mode.proofs.InPlace.{unread, written}
-
-pub joined_same : (f g : ℕ → List ℕ) (n : ℕ) → ((j : ℕ) → j < n → f j ≡ g j) → joined f n ≡ joined g n
-unfolding joined
-joined_same f g zero e = refl
-joined_same f g (suc n) e = ap₂ (λ (xs ys : List ℕ). xs ++ ys) (joined_same f g n (λ j h. e j (omega arith))) (e n (lt-suc_self n))
-
-pub joined_more : (f : ℕ → List ℕ) (m n : ℕ) → joined f (m + n) ≡ joined f m ++ joined (λ j. f (m + j)) n
-unfolding joined
-joined_more f m zero = ap (joined f) (add-zero m) ∙ sym (append-nil (joined f m))
-joined_more f m (suc n) =
-    ap (joined f) (add-suc m n)
-    ∙ ap (λ (xs : List ℕ). xs ++ f (m + n)) (joined_more f m n)
-    ∙ append_assoc (joined f m) (joined (λ j. f (m + j)) n) (f (m + n))
 
 -- a piece of m bytes that begins with block k
 module _ (orig piece : List ℕ) (k m : ℕ) (is : piece ≡ take m (drop (16 * k) orig)) where
@@ -73,7 +61,7 @@ module _ (u : List ℕ → List ℕ) (iv orig now before piece new : List ℕ) (
       written orig now (joined (cbc_plain_block u iv orig) k) a m made_at o.long within new m (16 * (k + n)) refl (omega arith)
       ∙ ap (λ (xs : List ℕ). xs ++ drop (16 * (k + n)) orig)
       (ap (λ (xs : List ℕ). joined (cbc_plain_block u iv orig) k ++ xs) (e ∙ opened_of_piece orig piece k m piece_is iv before o.last u n (omega arith))
-      ∙ sym (joined_more (cbc_plain_block u iv orig) k n))
+      ∙ sym (joined-add (cbc_plain_block u iv orig) k n))
 
   pub opened_more : (last : List ℕ) (k' : ℕ) → last ≡ cbc_before before piece n → length new ≡ m → k' ≡ k + n → Opened u iv orig (put_mid a m now new) last k'
   opened_more last k' f long_new to = record {

@@ -1,84 +1,18 @@
 -- the law of CBC
-use Rattle.std.specs.Prelude.{◌≡◌, ◌+◌, ◌*◌, ◌/◌, ◌%◌, ◌<◌, ◌≤◌, ◌==◌, ℕ, zero, suc, List, ◌++◌, length, take, drop, All, Some, None, Bool, true, false, if◌then◌else◌, bit_xor, slice_index}
-use Rattle.std.proofs.Common.{refl, sym, ap, ap₂, ◌∙◌, arith, ⊎_elim, get_or, zero-add, length-append, length-take, length-drop}
-use Rattle.std.specs.Int.Bits.{xor_assoc, xor_self, xor_zero_r}
-use Rattle.std.proofs.Math.Seq.{take-add, drop-append_seam}
-use Rattle.std.proofs.lemmas.Bool.{cases_lt, cond-true, eqb-true, eq-eqb}
-use Rattle.std.proofs.lemmas.List.{take_all, take-append-le, drop-append-le}
-use Rattle.std.proofs.lemmas.List.Elements.{All-take, All-drop}
-use Rattle.std.proofs.lemmas.List.FromFn.{fill_by_all, get_or-map-range_with_len}
+use Rattle.std.specs.Prelude.{◌≡◌, ◌*◌, ◌/◌, ◌%◌, ◌<◌, ◌≤◌, ◌==◌, ℕ, zero, suc, List, [], length, All, Some, None, Bool, true, false, if◌then◌else◌}
+use Rattle.std.proofs.Common.{refl, sym, ap, ap₂, ◌∙◌, arith}
+use Rattle.std.proofs.lemmas.Bool.{cond-true, eqb-true, eq-eqb}
+use Rattle.std.proofs.lemmas.List.{take_all, append-nil}
 use Rattle.std_defs.specs.Aes.{IsBlock}
 use Rattle.std_defs.specs.Blocks.{xor_blocks, text_block, joined}
 use Rattle.std_defs.specs.Modes.{cbc_block, cbc_before, cbc_plain_block, cbc_seal, cbc_unseal}
-use Rattle.std_defs.proofs.Bytes.{bytes_from_all, block_of, xor_byte}
+use Rattle.std_defs.proofs.Joined.{length-joined, joined_same, text_block-joined, joined-text_block, text_block-bytes, text_block-length, xor_blocks_is_block, xor_blocks-twice}
 use Rattle.aes_block.specs.Cipher.{AreInverse}
 use Rattle.aes_block.specs.Mode.{UndoesSealing}
-
--- ---- joined blocks
-
-length-joined : (blocks : ℕ → List ℕ) (n : ℕ) → ((j : ℕ) → length (blocks j) ≡ 16) → length (joined blocks n) ≡ 16 * n
-unfolding joined
-length-joined blocks zero long = refl
-length-joined blocks (suc n) long = omega (arith, length-append (joined blocks n) (blocks n), length-joined blocks n long, long n)
-
-joined_same : (f g : ℕ → List ℕ) (n : ℕ) → ((j : ℕ) → j < n → f j ≡ g j) → joined f n ≡ joined g n
-unfolding joined
-joined_same f g zero same = refl
-joined_same f g (suc n) same = ap₂ (λ (xs ys : List ℕ). xs ++ ys) (joined_same f g n (λ j below. same j (omega arith))) (same n (omega arith))
-
--- block j of the first n is block j
-text_block-joined : (blocks : ℕ → List ℕ) (n j : ℕ) → ((i : ℕ) → length (blocks i) ≡ 16) → j < n → text_block (joined blocks n) j ≡ blocks j
-unfolding joined text_block
-text_block-joined blocks zero j long below = absurd (omega arith)
-text_block-joined blocks (suc n) j long below =
-    ⊎_elim
-    (λ (h : j < n).
-    let room : 16 * j ≤ length (joined blocks n) = omega (arith, length-joined blocks n long) in
-    let whole : 16 ≤ length (drop (16 * j) (joined blocks n)) = omega (arith, length-joined blocks n long, length-drop (16 * j) (joined blocks n)) in
-    ap (take 16) (drop-append-le (16 * j) (joined blocks n) (blocks n) room)
-    ∙ take-append-le 16 (drop (16 * j) (joined blocks n)) (blocks n) whole
-    ∙ text_block-joined blocks n j long h)
-    (λ (h : n ≤ j).
-    let here : j ≡ n = omega arith in
-    let seam : 16 * j ≡ length (joined blocks n) = omega (arith, length-joined blocks n long) in
-    ap (λ (k : ℕ). take 16 (drop k (joined blocks n ++ blocks n))) seam
-    ∙ ap (take 16) (drop-append_seam (joined blocks n) (blocks n))
-    ∙ take_all 16 (blocks n) (omega (arith, long n))
-    ∙ ap blocks (sym here))
-    (cases_lt j n)
-
--- the first n blocks of a text are its front
-joined-text_block : (text : List ℕ) (n : ℕ) → joined (text_block text) n ≡ take (16 * n) text
-unfolding joined text_block
-joined-text_block text zero = refl
-joined-text_block text (suc n) =
-    ap (λ (front : List ℕ). front ++ take 16 (drop (16 * n) text)) (joined-text_block text n)
-    ∙ sym (take-add (16 * n) 16 text)
-    ∙ ap (λ (k : ℕ). take k text) (let e : 16 * n + 16 ≡ 16 * suc n = omega arith in e)
-
--- ---- sums of blocks
-
-xor_blocks_is_block : (a b : List ℕ) → All (λ x. x < 256) a → All (λ x. x < 256) b → IsBlock (xor_blocks a b)
-unfolding xor_blocks
-xor_blocks_is_block a b of_a of_b =
-    block_of (λ i. bit_xor (slice_index a i) (slice_index b i))
-    (λ i. xor_byte (slice_index a i) (slice_index b i) ((bytes_from_all a of_a).at i) ((bytes_from_all b of_b).at i))
-
-xor_blocks-twice : (a b : List ℕ) → length a ≡ 16 → xor_blocks (xor_blocks a b) b ≡ a
-unfolding xor_blocks
-xor_blocks-twice a b long =
-    let undone : (k : ℕ) → k < 16 → get_or a k zero ≡ bit_xor (get_or (xor_blocks a b) k zero) (get_or b k zero) =
-    λ k below. sym (ap (λ (x : ℕ). bit_xor x (get_or b k zero)) (get_or-map-range_with_len (λ i. bit_xor (get_or a i zero) (get_or b i zero)) 0 16 k k zero below (zero-add k))
-    ∙ xor_assoc (get_or a k zero) (get_or b k zero) (get_or b k zero) ∙ ap (bit_xor (get_or a k zero)) (xor_self (get_or b k zero)) ∙ xor_zero_r (get_or a k zero)) in
-    sym (fill_by_all (λ k. bit_xor (get_or (xor_blocks a b) k zero) (get_or b k zero)) a 16 zero long undone)
 
 -- ---- a text of n blocks, sealed
 
 module _ (sealed unsealed : List ℕ → List ℕ) (inverse : AreInverse sealed unsealed) (iv text : List ℕ) (iv_is : IsBlock iv) (of_text : All (λ x. x < 256) text) where
-  plain_of_bytes : (j : ℕ) → All (λ x. x < 256) (text_block text j)
-  unfolding text_block
-  plain_of_bytes j = All-take (λ x. x < 256) 16 (drop (16 * j) text) (All-drop (λ x. x < 256) (16 * j) text of_text)
-
   -- the ciphertext's blocks, the IV first
   chain : ℕ → List ℕ
   chain j = cbc_block sealed iv text j
@@ -87,7 +21,7 @@ module _ (sealed unsealed : List ℕ → List ℕ) (inverse : AreInverse sealed 
   unfolding chain cbc_block
   chain_is_block zero = iv_is
   chain_is_block (suc j) =
-      inverse.sealed_is_block (xor_blocks (text_block text j) (chain j)) (xor_blocks_is_block (text_block text j) (chain j) (plain_of_bytes j) (chain_is_block j).1)
+      inverse.sealed_is_block (xor_blocks (text_block text j) (chain j)) (xor_blocks_is_block (text_block text j) (chain j) (text_block-bytes text j of_text) (chain_is_block j).1)
 
   -- the ciphertext of the first n blocks
   made : ℕ → List ℕ
@@ -95,23 +29,27 @@ module _ (sealed unsealed : List ℕ → List ℕ) (inverse : AreInverse sealed 
 
   made-length : (n : ℕ) → length (made n) ≡ 16 * n
   unfolding made
-  made-length n = length-joined (λ j. chain (suc j)) n (λ j. (chain_is_block (suc j)).0)
+  made-length n = length-joined (λ j. chain (suc j)) n (λ j below. (chain_is_block (suc j)).0)
+
+  made_at : (n j : ℕ) → j < n → text_block (made n) j ≡ chain (suc j)
+  unfolding made
+  made_at n j below =
+      ap (λ (t : List ℕ). text_block t j) (sym (append-nil (joined (λ j. chain (suc j)) n)))
+      ∙ text_block-joined (λ i. chain (suc i)) [] n j (λ i h. (chain_is_block (suc i)).0) below
 
   -- the chain is read back from the ciphertext
   chain_read : (n j : ℕ) → j ≤ n → cbc_before iv (made n) j ≡ chain j
   unfolding cbc_before chain cbc_block made
   chain_read n zero below = refl
-  chain_read n (suc j) below = text_block-joined (λ i. chain (suc i)) n j (λ i. (chain_is_block (suc i)).0) (omega arith)
+  chain_read n (suc j) below = made_at n j (omega arith)
 
   block_back : (n j : ℕ) → 16 * n ≤ length text → j < n → cbc_plain_block unsealed iv (made n) j ≡ text_block text j
-  unfolding cbc_plain_block text_block chain cbc_block made
+  unfolding cbc_plain_block chain cbc_block
   block_back n j room below =
-      let whole : length (text_block text j) ≡ 16 = omega (arith, length-take 16 (drop (16 * j) text), length-drop (16 * j) text) in
-      let read : text_block (made n) j ≡ chain (suc j) = text_block-joined (λ i. chain (suc i)) n j (λ i. (chain_is_block (suc i)).0) below in
       ap₂ xor_blocks
-      (ap unsealed read ∙ inverse.unseals (xor_blocks (text_block text j) (chain j)) (xor_blocks_is_block (text_block text j) (chain j) (plain_of_bytes j) (chain_is_block j).1))
+      (ap unsealed (made_at n j below) ∙ inverse.unseals (xor_blocks (text_block text j) (chain j)) (xor_blocks_is_block (text_block text j) (chain j) (text_block-bytes text j of_text) (chain_is_block j).1))
       (chain_read n j (omega arith))
-      ∙ xor_blocks-twice (text_block text j) (chain j) whole
+      ∙ xor_blocks-twice (text_block text j) (chain j) (text_block-length text j (omega arith))
 
   all_back : (n : ℕ) → length text ≡ 16 * n → joined (cbc_plain_block unsealed iv (made n)) n ≡ text
   all_back n long =

@@ -4,7 +4,7 @@ use Rattle.std.specs.List.{range_with_len}
 use Rattle.std.proofs.Common.{sym, ◌∙◌, ap, ap₂, arith, rules, get_or, ⊎_elim, zero-add, subst, ◌++◌}
 use Rattle.std.proofs.lemmas.Bool.{cases_lt}
 use Rattle.std.proofs.lemmas.Grind.{common_steps}
-use Rattle.std.proofs.lemmas.List.{places, get_or-map, get_or-take, get_or-drop, get_or_append_left, get_or-append_right, length-append, length-take}
+use Rattle.std.proofs.lemmas.List.{places, get_or-map, get_or-take, get_or-drop, length-take}
 use Rattle.std.proofs.lemmas.List.FromFn.{fill_by_all, get_or-map-range_with_len, length-map-range_with_len}
 use borrow.Rule.Slice.PartMut.{put_mid}
 use Rattle.std_defs.specs.Blocks.{with_stream}
@@ -188,25 +188,6 @@ pub from_start : (sealed : List ℕ → List ℕ) (block : ℕ → List ℕ) (te
 unfolding with_bytes with_stream
 from_start sealed block text = ap (λ (f : ℕ → ℕ). map (λ i. bit_xor (slice_index text i) (f i)) (range_with_len 0 (length text)))
     (λ j k. slice_index (sealed (block (zero-add k j / 16))) (zero-add k j % 16))
-
--- ---- parts of a text, each under its own stream
-
--- two parts that were changed each by itself make the text that was changed whole
-pub with_bytes-append : (stream stream' : ℕ → ℕ) (xs ys : List ℕ) → ((k : ℕ) → stream' k ≡ stream (length xs + k))
-    → with_bytes stream (xs ++ ys) ≡ with_bytes stream xs ++ with_bytes stream' ys
-with_bytes-append stream stream' xs ys e =
-    sym (with_bytes_is stream (xs ++ ys) (with_bytes stream xs ++ with_bytes stream' ys)
-    (length-append (with_bytes stream xs) (with_bytes stream' ys) ∙ ap₂ (λ (m n : ℕ). m + n) (length-with_bytes stream xs) (length-with_bytes stream' ys) ∙ sym (length-append xs ys))
-    (λ k h. ⊎_elim
-    (λ (l : k < length xs).
-    get_or_append_left (with_bytes stream xs) (with_bytes stream' ys) 0 k (omega (arith, length-with_bytes stream xs))
-    ∙ with_bytes-at stream xs k l ∙ ap (λ (t : ℕ). bit_xor t (stream k)) (sym (get_or_append_left xs ys 0 k l)))
-    (λ (l : length xs ≤ k).
-    let place : length xs + (k - length xs) ≡ k = omega arith in
-    get_or-append_right (with_bytes stream xs) (with_bytes stream' ys) (length xs) k 0 (length-with_bytes stream xs) l
-    ∙ with_bytes-at stream' ys (k - length xs) (omega (arith, length-append xs ys))
-    ∙ ap₂ bit_xor (sym (get_or-append_right xs ys (length xs) k 0 refl l)) (e (k - length xs) ∙ ap stream place))
-    (cases_lt k (length xs))))
 
 -- ---- the ciphers behind the first
 

@@ -13,10 +13,10 @@ use std::marker::Model;
 /// CTR under a key, seen as its block cipher. An IV is the first counter block, of 16 bytes; a text of any length is
 /// taken.
 ///
-/// Under one key no counter block may serve twice (SP 800-38A, appendix B): a text of n bytes takes its IV and the blocks
-/// behind it, n / 16 of them rounded up in all. Two texts under one block give away the sum of both. IVs that are drawn at
-/// random keep apart only while the blocks under a key stay far fewer than 2^64. No tag is made: who changes a bit of a
-/// ciphertext changes that bit of the text, and nobody sees it, so a MAC belongs to it.
+/// Under one key no counter block may serve twice (SP 800-38A, appendix B): a text of n bytes takes its IV and the
+/// blocks behind it, n / 16 of them rounded up in all. Two texts under one block give away the sum of both. IVs that
+/// are drawn at random keep apart only while the blocks under a key stay far fewer than 2^64. No tag is made: who
+/// changes a bit of a ciphertext changes that bit of the text, and nobody sees it, so a MAC belongs to it.
 #[derive(Drop)]
 pub struct Ctr<C: BlockCipher + Drop> {
     cipher: C,

@@ -5,8 +5,9 @@ ghost use Rattle.std.specs.List.{range_with_len};
 ghost use Rattle.std_defs.specs.Blocks.{with_stream};
 ghost use Rattle.ctr_mode.specs.Streams.{with_bytes, key_byte, IsOn, AreFirst};
 
-use aes_block::{BlockCipher, xor_block};
+use aes_block::BlockCipher;
 use std::marker::Model;
+use std::simd::prelude::*;
 
 /// A row of counter blocks, which a mode counts in its own way.
 pub trait CounterBlocks: Drop {
@@ -26,8 +27,8 @@ pub trait CounterBlocks: Drop {
         ensures { (n : ℕ) → block self.new n ≡ block self.old (n + count) };
 }
 
-/// A key stream that goes on where it stopped, also within a block. Contracts see its counter blocks and how many bytes of
-/// the first are used.
+/// A key stream that goes on where it stopped, also within a block. Contracts see its counter blocks and how many bytes
+/// of the first are used.
 #[derive(Drop)]
 pub struct KeyStream<B: CounterBlocks> {
     counters: B,
@@ -140,13 +141,24 @@ fn xor_bytes(text: &mut [u8], bytes: &[u8])
     }
 }
 
+/// Xors a block into a text of as many bytes, in a vector: a loop over bytes may stay one where the compiler can't know
+/// that the two lie apart.
+#[inline(always)]
+fn xor_whole(text: &mut [u8], block: &[u8; 16])
+    requires { length text.old ≡ 16 }
+    ensures { (k : ℕ) → k < length text.old → slice_index text.new k ≡ bit_xor (slice_index text.old k) (slice_index block.now k) }
+{
+    let sum = u8x16::from_slice(text) ^ u8x16::from_array(*block);
+    text.copy_from_slice(&sum.to_array());
+}
+
 /// Xors eight blocks into a text of as many bytes.
 fn xor_eight(text: &mut [u8], blocks: &[[u8; 16]; 8])
     requires { length text.old ≡ 128 }
     ensures { (k : ℕ) → k < 128 → slice_index text.new k ≡ bit_xor (slice_index text.old k) (slice_index (slice_index_or blocks.now (k / 16) []) (k % 16)) }
 {
     for j in 0..8usize {
-        xor_block(&mut text[16 * j..16 * j + 16], &blocks[j]);
+        xor_whole(&mut text[16 * j..16 * j + 16], &blocks[j]);
     }
 }
 
@@ -157,7 +169,7 @@ fn xor_some(text: &mut [u8], blocks: &[[u8; 16]])
 {
     let whole = text.len() / 16;
     for j in 0..whole {
-        xor_block(&mut text[16 * j..16 * j + 16], &blocks[j]);
+        xor_whole(&mut text[16 * j..16 * j + 16], &blocks[j]);
     }
     if text.len() % 16 != 0 {
         xor_bytes(&mut text[16 * whole..], &blocks[whole]);
@@ -186,8 +198,9 @@ pub fn apply_key_stream<C: BlockCipher, B: CounterBlocks>(cipher: &C, counters: 
     KeyStream::new(counters).apply(cipher, text);
 }
 
-/// The ciphers of the first counter block and, up to seven, of those behind it that a text of `text_len` bytes takes, made at
-/// once. The first is the caller's own; `apply_behind_first` takes the others. What stands behind them has no meaning.
+/// The ciphers of the first counter block and, up to seven, of those behind it that a text of `text_len` bytes takes,
+/// made at once. The first is the caller's own; `apply_behind_first` takes the others. What stands behind them has no
+/// meaning.
 pub fn first_ciphers<C: BlockCipher, B: CounterBlocks>(
     cipher: &C,
     counters: &B,

@@ -10,8 +10,9 @@ use kc_base::Errno;
 use std::marker::Model;
 
 /// CTR whose first counter block is a nonce of 4 bytes, an IV of 8 and a block counter of 1 (RFC 3686, 4), seen as its
-/// block cipher and the nonce. A text of any length is taken. It counts over all 128 bits, as the kernel does. The RFC's
-/// counter has 32, so beyond 2^32 - 1 blocks under one IV this isn't the RFC's, and runs into the next IV's blocks.
+/// block cipher and the nonce. A text of any length is taken. It counts over all 128 bits, as the kernel does. The
+/// RFC's counter has 32, so beyond 2^32 - 1 blocks under one IV this isn't the RFC's, and runs into the next IV's
+/// blocks.
 ///
 /// Under one key and nonce an IV may serve once (RFC 3686, 3.1): count the packets, and take a new key before the count
 /// comes round. Two texts under one IV give away the sum of both. No tag is made, so a MAC belongs to it.

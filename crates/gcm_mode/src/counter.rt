@@ -57,6 +57,7 @@ impl CounterBlocks for Counter {
         block_bytes(self.next)
     }
 
+    #[inline(always)]
     fn first_eight(&self) -> [[u8; 16]; 8] {
         [
             block_bytes(self.next),

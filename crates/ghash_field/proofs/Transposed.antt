@@ -1,5 +1,5 @@
 -- Four rounds of lanes in turn transpose sixteen rows: each moves the last digit of a lane's number to the front of its row's.
-use Rattle.std.proofs.Common.{◌≡◌, ℕ, ◌+◌, ◌*◌, ◌/◌, ◌%◌, ◌<◌, ◌≢◌, Bool, true, false, cond, eqb, refl, sym, ap, ap₂, ◌∙◌, arith, List, get_or, set, length, slice_index, ⊎_elim, zero-add, get_or-set_same, get_or-set_other, length-set}
+use Rattle.std.proofs.Common.{◌≡◌, ℕ, ◌+◌, ◌*◌, ◌/◌, ◌%◌, ◌<◌, ◌≢◌, Bool, cond, eqb, sym, ap, ap₂, ◌∙◌, arith, List, get_or, set, length, slice_index, ⊎_elim, zero-add, get_or-set_same, get_or-set_other, length-set}
 use Rattle.std.proofs.lemmas.Bool.{eq-eqb, ne_eqb, cases_eq}
 use Rattle.std.proofs.lemmas.List.{get_or_default}
 use Rattle.std.proofs.lemmas.List.FromFn.{get_or-map-range_with_len}
@@ -7,14 +7,6 @@ use Rattle.ghash_field.specs.declared.byte_rows.Row.{Row}
 use Rattle.ghash_field.specs.Transposition.{low_lanes, high_lanes, AreInterleaved, AreTransposed}
 
 -- ---- lanes in turn
-
-chosen : (x y : List ℕ) (i m : ℕ) → slice_index (cond (eqb (i % 2) 0) x y) m ≡ cond (eqb (i % 2) 0) (slice_index x m) (slice_index y m)
-chosen x y i m = each (eqb (i % 2) 0)
-  where
-    each : (b : Bool) → slice_index (cond b x y) m ≡ cond b (slice_index x m) (slice_index y m)
-    each true = refl
-    each false = refl
-
 low_at : (x y : List ℕ) (i m : ℕ) → i < 32 → 16 * (i / 16) + i % 16 / 2 ≡ m → slice_index (low_lanes x y) i ≡ slice_index (cond (eqb (i % 2) 0) x y) m
 low_at x y i m h e =
     get_or-map-range_with_len (λ i. slice_index (cond (eqb (i % 2) 0) x y) (16 * (i / 16) + i % 16 / 2)) 0 32 i i 0 h (zero-add i)

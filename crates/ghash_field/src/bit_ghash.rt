@@ -6,8 +6,9 @@ use crate::key::GhashKey;
 use crate::product::multiply;
 use std_defs::block_number;
 
-/// The hash subkey as it is: each product goes over its 128 bits, and no branch or address depends on them. It has no
-/// `Debug`, which would print the subkey.
+/// The hash subkey as it is: each product goes over its 128 bits. The source has no branch and no address that depends
+/// on them, but LLVM makes branches of it for x86-64-v2: where secrets matter, take `LaneGhash`. It has no `Debug`,
+/// which would print the subkey.
 #[derive(Clone, Copy, Drop)]
 pub struct BitGhash {
     h: u128,

@@ -1,8 +1,9 @@
 //! GHASH (NIST SP 800-38D): products in its field, keys, and the hash carried on over bytes.
 //!
 //! Two forms of a key: `LaneGhash` multiplies eight blocks at a time by shuffled rows of products, `BitGhash` one block
-//! bit by bit. In both no branch and no address depends on the hash subkey or on what is hashed, as the source is
-//! written; no proof speaks of that, and tools/check-secrets tests it in the built code.
+//! bit by bit. The source of both has no branch and no address that depends on the hash subkey or on what is hashed. No
+//! proof speaks of that. In the built code tools/check-secrets finds none for `LaneGhash`; of `BitGhash` LLVM makes
+//! branches for x86-64-v2.
 #![tactic(auto)]
 
 mod bit_ghash;

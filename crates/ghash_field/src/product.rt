@@ -23,7 +23,7 @@ pub fn multiply(x: u128, y: u128) -> u128
     shift_and_fold(x, y)
 }
 
-/// The block where the bit is 1, and zeros where it is 0, without a branch.
+/// The block where the bit is 1, and zeros where it is 0, by a product. A compiler may make a branch of it.
 fn times_bit(bit: u128, v: u128) -> u128
     requires { bit < 2 }
     ensures { result ≡ (if bit == 1 then v else 0) }
@@ -31,7 +31,7 @@ fn times_bit(bit: u128, v: u128) -> u128
     bit * v
 }
 
-/// The product, bit by bit: the sum of `y` times x^i for each bit i of `x`. No branch depends on the blocks.
+/// The product, bit by bit: the sum of `y` times x^i for each bit i of `x`.
 #[tactic(auto, using(crate::proofs::ShiftAndFold::shift_and_fold))]
 fn shift_and_fold(x: u128, y: u128) -> u128
     ensures { result ≡ field_product x y }

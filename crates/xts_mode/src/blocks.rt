@@ -7,14 +7,14 @@ ghost use Rattle.std_defs.specs.Xts.{times_alpha_power, xts_block, xts_blocks, w
 
 use crate::direction::Direction;
 use crate::tweak::Tweak;
-use aes_block::xor_block;
+use std::simd::prelude::*;
 
-/// Adds the mask to the block.
+/// Adds the mask to the block, in a vector.
 #[inline(always)]
 fn add_mask(block: &mut [u8; 16], mask: &[u8; 16])
     ensures { block.new ≡ xor_blocks block.old mask.now }
 {
-    xor_block(block, mask);
+    *block = (u8x16::from_array(*block) ^ u8x16::from_array(*mask)).to_array();
 }
 
 /// Eight blocks of a text, each with its mask added.
@@ -60,6 +60,7 @@ fn turn_eight<D: Direction>(direction: &D, tweak: &mut Tweak, text: &mut [u8])
 }
 
 /// The blocks of a text of at most eight, each with its mask added, and blocks of no meaning behind them.
+#[inline(always)]
 #[tactic(auto, unfolding(std_defs::specs::Blocks::text_block))]
 fn some_masked(text: &[u8], masks: &[[u8; 16]; 8]) -> [[u8; 16]; 8]
     requires { length text.now ≤ 128 }
@@ -76,6 +77,7 @@ fn some_masked(text: &[u8], masks: &[[u8; 16]; 8]) -> [[u8; 16]; 8]
 }
 
 /// Writes blocks into a text of at most eight, each with its mask added.
+#[inline(always)]
 fn write_some_masked(text: &mut [u8], blocks: &[[u8; 16]; 8], masks: &[[u8; 16]; 8])
     requires whole { length text.old % 16 ≡ 0 }
     requires short { length text.old ≤ 128 }

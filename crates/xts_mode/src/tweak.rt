@@ -76,6 +76,7 @@ impl Tweak {
 
     /// The blocks of this place and of those after it, `count` in all, and blocks of no meaning behind them. The tweak
     /// becomes that of the place behind these.
+    #[inline(always)]
     pub(crate) fn take_some(&mut self, count: usize) -> [[u8; 16]; 8]
         requires { count ≤ 8 }
         ensures blocks { (j : ℕ) → j < count → slice_index_or result j [] ≡ times_alpha_power self.old j }

@@ -12,4 +12,4 @@ loop-round-preserved c = record {
 }
 
 pub returns : goal.returns
-returns c = rows_all state_byte (each_half inverse_mix_columns) c.args.keys.now c.loop-round.rows c.told-keys c.loop-round.invariant.long (λ r d h. c.loop-round.invariant.done r d (omega arith))
+returns c = rows_all c.args.count state_byte (each_half inverse_mix_columns) c.args.keys.now c.loop-round.rows c.requires c.told-keys c.loop-round.invariant.long (λ r d h. c.loop-round.invariant.done r d (omega arith))

@@ -12,4 +12,4 @@ loop-round-preserved c = record {
 }
 
 pub returns : goal.returns
-returns c = tower_all c.args.keys.now c.loop-round.in_tower c.told-keys c.loop-round.invariant.long (λ r d h. c.loop-round.invariant.done r d (omega arith))
+returns c = tower_all c.args.count c.args.keys.now c.loop-round.in_tower c.requires c.told-keys c.loop-round.invariant.long (λ r d h. c.loop-round.invariant.done r d (omega arith))

@@ -1,4 +1,4 @@
-use Rattle.std.specs.Prelude.{◌≡◌, ◌<◌, ◌≤◌, ◌*◌}
+use Rattle.std.specs.Prelude.{◌≡◌, ◌<◌, ◌≤◌, ◌*◌, ℕ}
 use Rattle.std.proofs.Common.{arith, rules, length, subst, sym, ap, ◌∙◌, ◌+◌, ◌/◌, take, ⊎_elim}
 use Rattle.std.proofs.lemmas.List.{get_or_default}
 use Rattle.std_defs.specs.Aes.{IsKeyLength, key_words, rounds, words}
@@ -7,6 +7,21 @@ use Rattle.aes_block.proofs.Rounds.{key_is, is_schedule}
 use Rattle.aes_lanes.specs.KeyBlock.{sixty_words}
 use Rattle.aes_lanes.proofs.KeyVectors.{front_is}
 use Rattle.aes_lanes.proofs.lane_aes.LaneAes.new.Goals as goal
+
+few : (n : ℕ) → IsKeyLength n → n / 4 + 6 + 1 ≤ 15
+few n h = ⊎_elim (λ a. omega arith) (λ o. ⊎_elim (λ a. omega arith) (λ a. omega arith) o) h
+
+pub tower_keys-requires : goal.tower_keys-requires
+tower_keys-requires c = few (length c.args.key.now) (search rules)
+
+pub pair_keys-requires : goal.pair_keys-requires
+pair_keys-requires c = few (length c.args.key.now) (search rules)
+
+pub sealing_keys-requires : goal.sealing_keys-requires
+sealing_keys-requires c = few (length c.args.key.now) (search rules)
+
+pub unsealing_keys-requires : goal.unsealing_keys-requires
+unsealing_keys-requires c = few (length c.args.key.now) (search rules)
 
 pub invariant_of-result : goal.invariant_of-result
 invariant_of-result c =
@@ -20,6 +35,7 @@ invariant_of-result c =
           (is_schedule k (sixty_words c.expand_key_by.result) (h, λ i d l. omega (arith, get_or_default k i d 0 l, c.type_inv.key i)) front);
       twice = c.round_keys-keys.ensures.twice;
       in_tower = c.tower_keys.ensures;
+      in_pairs = c.pair_keys.ensures;
       sealing = c.sealing_keys.ensures;
       unsealing = c.unsealing_keys.ensures;
     }

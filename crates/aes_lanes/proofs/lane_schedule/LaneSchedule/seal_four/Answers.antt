@@ -1,7 +1,7 @@
 use Rattle.std.specs.Prelude.{◌≡◌}
 use Rattle.std.proofs.Common.{arith}
 use Rattle.std_defs.specs.Aes.{sbox}
-use Rattle.aes_block.proofs.Rounds.{at_least_ten, at_most_fourteen}
+use Rattle.aes_block.proofs.Rounds.{at_least_ten}
 use Rattle.aes_lanes.specs.Pairs.{blocks_of}
 use Rattle.aes_lanes.specs.Rows.{blocks_in, tower_blocks}
 use Rattle.aes_lanes.specs.RoundKeys.{schedule_of}
@@ -25,7 +25,7 @@ loop-round-preserved c =
     }
 
 pub sealed_rows-state-requires : goal.sealed_rows-state-requires
-sealed_rows-state-requires c = omega (arith, at_most_fourteen c.args.self.now.rounds (schedule_of c.args.self.now.keys) c.args.self.now.scheduled)
+sealed_rows-state-requires c = omega arith
 
 pub returns : goal.returns
 returns c =

@@ -21,7 +21,7 @@ loop-round-preserved c =
     let i = c.loop-round.round in
     let within : i < 15 = omega (arith, at_most_fourteen s.rounds (schedule_of s.keys) s.scheduled) in
     one_more s.rounds (schedule_of s.keys) i c.args.b c.loop-round.state _ _ s.scheduled (omega arith) (omega arith) (omega arith)
-    (ap (ordered i) (sym (get_or-map (λ k. k.elements) s.tower_keys i (record { elements = [] }) [] (omega arith))) ∙ s.in_tower i within ∙ ap (map less_constant) (front_key (schedule_of s.keys) i _ _ refl (s.twice i within)))
+    (ap (ordered i) (sym (get_or-map (λ k. k.elements) s.tower_keys i (record { elements = [] }) [] (omega arith))) ∙ s.in_tower i (omega arith) ∙ ap (map less_constant) (front_key (schedule_of s.keys) i _ _ refl (s.twice i within)))
     c.loop-round.invariant c.one_round-state.ensures
 
 pub returns : goal.returns

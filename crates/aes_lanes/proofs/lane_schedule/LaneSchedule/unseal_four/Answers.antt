@@ -1,6 +1,5 @@
 use Rattle.std.specs.Prelude.{◌-◌}
 use Rattle.std.proofs.Common.{arith}
-use Rattle.aes_block.proofs.Rounds.{at_most_fourteen}
 use Rattle.aes_lanes.specs.Pairs.{blocks_of}
 use Rattle.aes_lanes.specs.Rows.{blocks_in, state_blocks}
 use Rattle.aes_lanes.specs.RoundKeys.{schedule_of}
@@ -26,7 +25,7 @@ loop-round-preserved c =
     }
 
 pub unsealed_rows-state-requires : goal.unsealed_rows-state-requires
-unsealed_rows-state-requires c = omega (arith, at_most_fourteen c.args.self.now.rounds (schedule_of c.args.self.now.keys) c.args.self.now.scheduled)
+unsealed_rows-state-requires c = omega arith
 
 pub returns : goal.returns
 returns c =
