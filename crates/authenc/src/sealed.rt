@@ -40,6 +40,13 @@ impl<S: Skcipher + Drop> Authenc<S> {
         Authenc { mac, cipher }
     }
 
+    /// The MAC that it was made with.
+    pub fn mac(&self) -> &Mac
+        ensures { result.now ≡ self.now.0 }
+    {
+        &self.mac
+    }
+
     /// The cipher that it was made with.
     pub fn cipher(&self) -> &S
         ensures { result.now ≡ self.now.1 }

@@ -3,5 +3,6 @@
 
 mod key_block;
 mod mac;
+mod padded_key;
 
 pub use mac::Mac;

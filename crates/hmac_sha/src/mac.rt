@@ -38,8 +38,8 @@ fn hasher_of(block: &[u8; 64], pad: u8) -> Sha256
 #[derive(Drop)]
 pub struct Mac {
     block: [u8; 64],
-    inner: Sha256,
-    outer: Sha256,
+    pub(crate) inner: Sha256,
+    pub(crate) outer: Sha256,
 }
 
 impl Model for Mac {

@@ -1,4 +1,5 @@
-mod HashedBlocks
+pub mod HashedBlocks
+mod InStep
 mod Majority
 mod Messages
 mod Rows

@@ -12,7 +12,7 @@ use std::simd::prelude::*;
 
 /// Each lane, rotated.
 #[inline(always)]
-fn rotated(x: u32x8, by: u32) -> u32x8
+pub(crate) fn rotated(x: u32x8, by: u32) -> u32x8
     requires low { 1 ≤ by }
     requires high { by < 32 }
     ensures { result ≡ map (λ w. rotate_right w32 w by) x }

@@ -128,7 +128,7 @@ fn all_steps(state: [u32; 8], block: &[u8]) -> [u32; 8]
 
 /// The hash value behind a block (6.2.2).
 #[tactic(auto, unfolding(sha2::specs::Sha256::compress))]
-pub(crate) fn compressed(state: [u32; 8], block: &[u8]) -> [u32; 8]
+pub fn compressed(state: [u32; 8], block: &[u8]) -> [u32; 8]
     requires { length block.now ≡ 64 }
     ensures { result ≡ compress state block.now }
 {

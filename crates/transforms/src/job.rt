@@ -32,6 +32,19 @@ impl Job {
         ask.keyed.fill(authsize, &ask.request, &mut buffer);
         ask.keyed.run(authsize, &ask.request, buffer)
     }
+
+    /// The ask, which is taken, and the buffer with what the answer begins with. No memory is taken.
+    pub fn into_parts(self) -> (Arc<Ask>, Vec<u8>)
+        ensures ask { result.0 ≡ self.ask }
+        ensures buffer { result.1.items ≡ ask_room (arc_value self.ask) }
+        ensures taken { ask_takes (arc_value self.ask) ≡ true }
+        ensures fit { IsFit (arc_value self.ask) }
+    {
+        let Job { ask, mut buffer } = self;
+        ask.keyed
+            .fill(ask.authsize as usize, &ask.request, &mut buffer);
+        (ask, buffer)
+    }
 }
 
 /// Takes a request, and all the memory that its job will ever need. The ask's tag size is one that the plan takes, or 0 where it

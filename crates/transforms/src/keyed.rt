@@ -26,8 +26,8 @@ use templates::Plan;
 /// `pcrypt` and `cryptd`.
 #[derive(Drop)]
 pub struct Keyed {
-    plan: Plan,
-    key: Bytes,
+    pub(crate) plan: Plan,
+    pub(crate) key: Bytes,
     /// On cache lines of its own: each job that is made counts a reference beside it, and each that is run reads it.
     inner: CachePadded<Inner>,
 }
@@ -79,7 +79,7 @@ impl Keyed {
     }
 
     /// What is kept of the key.
-    pub(crate) fn inner(&self) -> &Inner
+    pub fn inner(&self) -> &Inner
         ensures { IsKeyed result.now self.now.0 self.now.1 }
     {
         &self.inner

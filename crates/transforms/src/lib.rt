@@ -15,13 +15,18 @@ pub mod laws;
 mod request;
 mod room;
 mod running;
+mod same_key;
 mod tags;
 mod taking;
 mod tfm_err;
 mod work;
 
+pub use any_aead::AnyAead;
 pub use any_aes::AnyAes;
+pub use any_cipher::AnyCipher;
+pub use any_mac::AnyMac;
 pub use ask::Ask;
+pub use inner::Inner;
 pub use job::{Job, prepare};
 pub use keyed::Keyed;
 pub use request::{Dir, Finished, Request};

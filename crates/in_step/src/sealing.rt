@@ -1,0 +1,60 @@
+//! authenc over CBC, of eight texts.
+
+ghost use Rattle.std.specs.Prelude.{◌≡◌, ℕ, List, [], Some, ◌<◌, ◌≤◌, ◌++◌, length, take, drop, slice_index, slice_index_or};
+ghost use Rattle.std_defs.specs.Authenc.{authenc_seal};
+ghost use Rattle.std_defs.specs.Modes.{cbc_seal};
+ghost use Rattle.in_step.specs.Pieces.{piece};
+ghost use Rattle.in_step.specs.Texts.{AreWhole, ArePackets, text_in};
+
+use crate::cbc::seal_cbc_in_step;
+use crate::macs::macs_in_step;
+use aes_block::BlockCipher;
+use cbc_mode::Cbc;
+use hmac_sha::Mac;
+
+/// The first bytes of a text.
+fn front<'a>(texts: &'a [Vec<u8>; 8], lengths: &[usize; 8], n: usize) -> &'a [u8]
+    requires lane { n < 8 }
+    requires within { slice_index lengths.now n ≤ length (text_in texts.now n) }
+    ensures { result.now ≡ take (slice_index lengths.now n) (text_in texts.now n) }
+{
+    &texts[n][..lengths[n]]
+}
+
+/// The first bytes of each text.
+fn fronts<'a>(texts: &'a [Vec<u8>; 8], lengths: &[usize; 8]) -> [&'a [u8]; 8]
+    requires { AreWhole lengths.now texts.now }
+    ensures { (n : ℕ) → n < 8 → piece result n ≡ take (slice_index lengths.now n) (text_in texts.now n) }
+{
+    [
+        front(texts, lengths, 0),
+        front(texts, lengths, 1),
+        front(texts, lengths, 2),
+        front(texts, lengths, 3),
+        front(texts, lengths, 4),
+        front(texts, lengths, 5),
+        front(texts, lengths, 6),
+        front(texts, lengths, 7),
+    ]
+}
+
+/// Seals the front of each of eight texts in place, under an IV of its own: the first `lengths[n]` bytes of text `n`, which are whole
+/// blocks. What stands behind them stays as it is. The whole MACs of the associated bytes and behind them the ciphertext. Those have fewer
+/// than 2^63 bytes together. No memory is taken.
+pub fn seal_authenc_in_step<C: BlockCipher + Drop>(
+    mac: &Mac,
+    mode: &Cbc<C>,
+    ivs: &[[u8; 16]; 8],
+    aads: &[&[u8]; 8],
+    texts: &mut [Vec<u8>; 8],
+    lengths: &[usize; 8],
+) -> [[u8; 32]; 8]
+    requires { ArePackets lengths.now aads.now texts.old }
+    ensures sealed { (n : ℕ) → n < 8
+        → authenc_seal mac.now (cbc_seal (C.sealed mode.now) (slice_index_or ivs.now n [])) (piece aads.now n) (take (slice_index lengths.now n) (text_in texts.old n))
+        ≡ Some (take (slice_index lengths.now n) (text_in texts.new n), slice_index_or result n []) }
+    ensures rest { (n : ℕ) → n < 8 → drop (slice_index lengths.now n) (text_in texts.new n) ≡ drop (slice_index lengths.now n) (text_in texts.old n) }
+{
+    seal_cbc_in_step(mode, ivs, texts, lengths);
+    macs_in_step(mac, aads, &fronts(texts, lengths))
+}
