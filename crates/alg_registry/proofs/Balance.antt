@@ -309,10 +309,6 @@ opens_are h = count_split opens (gets_where (λ c i. true)) (claims_where (λ m.
 closes_are : (h : List RegEntry) → count_by closes h ≡ count_by (puts_where (λ c i. true)) h + count_by (ends_where (λ m. true)) h
 closes_are h = count_split closes (puts_where (λ c i. true)) (ends_where (λ m. true)) closes_split h
 
--- no more is closed than was opened
-pub closes-le : (h : List RegEntry) → LegalReg h → count_by closes h ≤ count_by opens h
-closes-le h legal = omega (arith, opens_are h, closes_are h, balanced h legal (λ c i. true), finished h legal (λ m. true))
-
 -- and less where a reference may be given back
 pub closes-lt-put : (h : List RegEntry) (caller id : ℕ) → LegalReg h → HasReference h caller id → count_by closes h < count_by opens h
 closes-lt-put h caller id legal has = omega (arith, opens_are h, closes_are h, balanced_put h caller id (λ c i. true) (balanced h legal) has refl, finished h legal (λ m. true))

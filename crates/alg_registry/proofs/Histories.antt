@@ -12,7 +12,7 @@ use Rattle.alg_registry.specs.declared.entry.Looked.TheVariants.{Found, Pending,
 use Rattle.alg_registry.specs.declared.entry.RegEntry.{RegEntry}
 use Rattle.alg_registry.specs.Rows.{texts, registered, begun_by, registered_by, opening}
 use Rattle.alg_registry.specs.Legal.{MayFollow, ended_as, claimer}
-use Rattle.alg_registry.specs.Made.{Templates, MadeAfter, outcome, outcome_of, outcomes, all_outcomes}
+use Rattle.alg_registry.specs.Made.{outcome, outcome_of, outcomes, all_outcomes}
 use Rattle.alg_registry.proofs.Stack.{ended-stays, claimed-stays}
 
 module _ {A : Type 0} where
@@ -24,10 +24,6 @@ module _ {A : Type 0} where
 pub legal_front : (before h more : List RegEntry) → MayFollow before (h ++ more) → MayFollow before h
 legal_front before [] more legal = tt
 legal_front before (e ∷ h) more legal = (legal.0, legal_front (before ++ e ∷ []) h more legal.1)
-
-pub made_front : (t : Templates) (before h more : List RegEntry) → MadeAfter t before (h ++ more) → MadeAfter t before h
-made_front t before [] more made = tt
-made_front t before (e ∷ h) more made = (made.0, made_front t (before ++ e ∷ []) h more made.1)
 
 pub ended_more : (h more : List RegEntry) (n : ℕ) (e : Ended) → ended_as h n ≡ Some e → ended_as (h ++ more) n ≡ Some e
 ended_more h [] n e q = ap (λ x. ended_as x n) (append-nil h) ∙ q

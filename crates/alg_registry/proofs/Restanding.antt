@@ -369,25 +369,3 @@ pub any_default : (rows : List Row) (p : ℕ) (x d : Row) → p < length rows �
 any_default [] p x d lt = absurd (omega (arith, lt))
 any_default (row ∷ rows) zero x d lt = refl
 any_default (row ∷ rows) (suc p) x d lt = any_default rows p x d (omega (arith, lt))
-
--- the entry that was tested and the one that is changed are the one at the place
-pub unlist-at : (rows : List Row) (p : ℕ) (x r d : Row) → p < length rows → standing rows ≡ rows → x ≡ get_or rows p x → r ≡ get_or rows p r → unlists_alone x ≡ true
-    → set rows p (record r { unlisted = true; listed = false }) ≡ standing (set rows p (unlisted_row (get_or rows p d)))
-unlist-at rows p x r d lt stands ex er test =
-    let e : r ≡ get_or rows p d = er ∙ any_default rows p r d lt in
-    (λ i. set rows p (record (e i) { unlisted = true; listed = false }))
-    ∙ unlist-alone rows p d lt stands (subst (λ (t : Row). unlists_alone t ≡ true) (ex ∙ any_default rows p x d lt) test)
-
-pub take-at : (rows : List Row) (p : ℕ) (r d : Row) → p < length rows → standing rows ≡ rows → r ≡ get_or rows p r → listed_at rows p ≡ true
-    → set rows p (record r { taken = r.taken + 1; references = r.references + 1 }) ≡ standing (set rows p (taken_row (get_or rows p d)))
-take-at rows p r d lt stands er listed =
-    let e : r ≡ get_or rows p d = er ∙ any_default rows p r d lt in
-    (λ i. set rows p (let t : Row = e i in record t { taken = t.taken + 1; references = t.references + 1 }))
-    ∙ take-alone rows p d lt stands (sym (listed_at-get rows p d lt) ∙ listed)
-
-pub put-at : (rows : List Row) (p : ℕ) (x r d : Row) → p < length rows → standing rows ≡ rows → x ≡ get_or rows p x → r ≡ get_or rows p r → puts_alone x ≡ true
-    → set rows p (record r { taken = r.taken - 1; references = r.references - 1 }) ≡ standing (set rows p (put_row_of (get_or rows p d)))
-put-at rows p x r d lt stands ex er test =
-    let e : r ≡ get_or rows p d = er ∙ any_default rows p r d lt in
-    (λ i. set rows p (let t : Row = e i in record t { taken = t.taken - 1; references = t.references - 1 }))
-    ∙ put-alone rows p d lt stands (subst (λ (t : Row). puts_alone t ≡ true) (ex ∙ any_default rows p x d lt) test)

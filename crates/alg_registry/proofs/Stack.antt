@@ -63,19 +63,11 @@ at_within b [] n lt = absurd (omega (arith, lt))
 at_within b (t ∷ ts) zero lt = refl
 at_within b (t ∷ ts) (suc n) lt = at_within b ts n (omega (arith, lt))
 
-pub at_past : {B : Type 0} (b : Option B) (ts : List (List ℕ)) (n : ℕ) → length ts ≤ n → option_and_then (λ _. b) (slice_get ts n) ≡ None
-at_past b [] n le = refl
-at_past b (t ∷ ts) zero le = absurd (omega (arith, le))
-at_past b (t ∷ ts) (suc n) le = at_past b ts n (omega (arith, le))
-
 pub ended-within : (h : List RegEntry) (n : ℕ) → n < length (texts h) → ended_as h n ≡ first_of (ends n) h
 ended-within h n lt = ended-by h n ∙ at_within (first_of (ends n) h) (texts h) n lt
 
 pub claimed-within : (h : List RegEntry) (n : ℕ) → n < length (texts h) → claimer h n ≡ first_of (claims n) h
 claimed-within h n lt = claimed-by h n ∙ at_within (first_of (claims n) h) (texts h) n lt
-
-pub ended-past : (h : List RegEntry) (n : ℕ) → length (texts h) ≤ n → ended_as h n ≡ None
-ended-past h n le = ended-by h n ∙ at_past (first_of (ends n) h) (texts h) n le
 
 more_texts : (h : List RegEntry) (e : RegEntry) (n : ℕ) → n < length (texts h) → n < length (texts (h ++ e ∷ []))
 more_texts h e n lt = omega (arith, length-texts h e)

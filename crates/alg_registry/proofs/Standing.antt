@@ -1,8 +1,6 @@
 -- Marks and references depend on what was done to each entry by its id alone.
-use Rattle.std.proofs.Common.{◌≡◌, ℕ, ◌+◌, ◌<◌, ◌^◌, false, List, [], ◌∷◌, ◌++◌, map, refl, sym, ap, ◌∙◌, append_assoc}
-use Rattle.std.specs.List.{All, AllByRecursion}
+use Rattle.std.proofs.Common.{◌≡◌, ℕ, ◌+◌, false, List, [], ◌∷◌, ◌++◌, map, refl, sym, ap, ◌∙◌, append_assoc}
 use Rattle.std.proofs.lemmas.List.{append-nil}
-use Rattle.std.proofs.lemmas.List.Elements.{recursion_from_All, All-from_recursion}
 use Rattle.alg_registry.specs.declared.spec.Spec.{Spec}
 use Rattle.alg_registry.specs.declared.row.Row.{Row}
 use Rattle.alg_registry.specs.declared.entry.RegEntry.{RegEntry}
@@ -11,21 +9,6 @@ use Rattle.alg_registry.specs.Rows.{noted_at, noted, stays_listed, marked, count
 -- an entry without mark and references
 abbrev pub bare : Row → Row
 bare row = record row { listed = false; references = 0 }
-
-abbrev pub IsFew : Row → Type 0
-IsFew row = row.taken < 2 ^ 62
-
-few_push : (rows : List Row) (row : Row) → AllByRecursion IsFew rows → IsFew row → AllByRecursion IsFew (rows ++ row ∷ [])
-few_push [] row all few = (few, tt)
-few_push (r ∷ rows) row all few = (all.0, few_push rows row all.1 few)
-
-few_marked : (older rows : List Row) → AllByRecursion IsFew older → AllByRecursion IsFew rows → AllByRecursion IsFew (marked older rows)
-few_marked older [] a b = a
-few_marked older (row ∷ rows) a b = few_marked (older ++ record row { listed = stays_listed older row; references = 0 } ∷ []) rows (few_push older (record row { listed = stays_listed older row; references = 0 }) a b.0) b.1
-
--- marking keeps the references that callers have few
-pub few-marked : (rows : List Row) → All IsFew rows → All IsFew (marked [] rows)
-few-marked rows all = All-from_recursion IsFew (marked [] rows) (few_marked [] rows tt (recursion_from_All IsFew rows all))
 
 pub marked-bare : (older rows : List Row) → marked older (map bare rows) ≡ marked older rows
 marked-bare older [] = refl

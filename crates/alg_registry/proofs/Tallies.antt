@@ -1,11 +1,10 @@
 -- References that are given on from the newest entry to the oldest are the references that entries have.
-use Rattle.std.proofs.Common.{◌≡◌, ◌≢◌, ℕ, zero, suc, ◌+◌, ◌<◌, ◌≤◌, Bool, true, false, cond, ◌||◌, ◌&&◌, eqb, List, [], ◌∷◌, ◌++◌, length, take, drop, get_or, set, map, refl, sym, ap, ◌∙◌, subst, arith, append_assoc, drop-cons}
+use Rattle.std.proofs.Common.{◌≡◌, ◌≢◌, ℕ, zero, suc, ◌+◌, ◌<◌, ◌≤◌, Bool, true, false, cond, ◌||◌, ◌&&◌, eqb, List, [], ◌∷◌, ◌++◌, length, take, drop, get_or, set, map, refl, sym, ap, ◌∙◌, subst, arith, append_assoc}
 use Rattle.std.specs.List.{All, AllByRecursion, list_any}
 use Rattle.std.proofs.Math.Seq.{take-append_seam, drop-append_seam}
 use Rattle.std.proofs.lemmas.List.{take_more}
 use Rattle.std.proofs.lemmas.List.Elements.{recursion_from_All, All-from_recursion}
 use Rattle.std.proofs.lemmas.List.Folds.{list_any-append}
-use Rattle.std.proofs.lemmas.List.Sums.{count_by-le-length}
 use Rattle.std.proofs.lemmas.Bool.Decides.{nat_tests}
 use Rattle.alg_registry.specs.declared.row.Row.{Row}
 use Rattle.alg_registry.specs.Rows.{is_held, stands_on, holders, counted}
@@ -181,30 +180,6 @@ gave-tally place before row rest at =
     ap (λ rs. rs ++ newer) (tallied-push 0 place newer before row (omega (arith, at))) ∙ append_assoc (tallied 0 newer before) (first ∷ []) newer in
     ap (λ rs. gave place rs) split
     ∙ (gave-seam place (tallied 0 newer before) (first ∷ newer) (omega (arith, at, length-tallied 0 newer before)) ∙ tallied-gives first newer before)
-
-pub gave-next : (place : ℕ) (rows : List Row) (d : Row) → place < length rows
-    → gave place (tally (place + 1) (take (place + 1) rows) (drop (place + 1) rows)) ≡ tally place (take place rows) (drop place rows)
-gave-next place rows d lt =
-    let next : place + 1 ≡ suc place = omega arith in
-    let rest : drop place rows ≡ get_or rows place d ∷ drop (place + 1) rows = drop-cons rows place d lt ∙ ap (λ (n : ℕ). get_or rows place d ∷ drop n rows) (sym next) in
-    ap (λ rs. gave place (tally (place + 1) rs (drop (place + 1) rows))) (take_more rows place d lt)
-    ∙ (gave-tally place (take place rows) (get_or rows place d) (drop (place + 1) rows) (length_front place rows lt) ∙ ap (λ rs. tally place (take place rows) rs) (sym rest))
-  where
-    length_front : (n : ℕ) (rs : List Row) → n < length rs → n ≡ length (take n rs)
-    length_front zero rs l = refl
-    length_front (suc n) [] l = absurd (omega (arith, l))
-    length_front (suc n) (r ∷ rs) l = ap suc (length_front n rs (omega (arith, l)))
-
-few_tallied : (m k id : ℕ) (newer rows : List Row) → m + length newer ≤ k → AllByRecursion (λ (row : Row). row.taken < m) rows → AllByRecursion (HasFewer k) (tallied id newer rows)
-few_tallied m k id newer [] le all = tt
-few_tallied m k id newer (row ∷ rows) le all = (omega (arith, all.0, le, count_by-le-length (λ r. is_held r && stands_on id r) newer), few_tallied m k (id + 1) newer rows le all.1)
-
-pub few-tallied : (m k : ℕ) (newer rows : List Row) → m + length newer ≤ k → All (λ (row : Row). row.taken < m) rows → All (HasFewer k) (tallied 0 newer rows)
-few-tallied m k newer rows le all = All-from_recursion (HasFewer k) (tallied 0 newer rows) (few_tallied m k 0 newer rows le (recursion_from_All (λ (row : Row). row.taken < m) rows all))
-
-pub length-counted : (id : ℕ) (rows : List Row) → length (counted id rows) ≡ length rows
-length-counted id [] = refl
-length-counted id (row ∷ rows) = ap suc (length-counted (id + 1) rows)
 
 all_taken : (P : Row → Type 0) (n : ℕ) (rows : List Row) → AllByRecursion P rows → AllByRecursion P (take n rows)
 all_taken P zero rows all = tt

@@ -16,7 +16,7 @@ use Rattle.board.specs.Stages.{IsPlaced, unfinished_of, holding, callbacks_of, c
 use Rattle.board.specs.Stages as stages
 use Rattle.board.specs.Pipelines.{IsSame, with_lists}
 use Rattle.board.specs.Places.{Places, places}
-use Rattle.board.specs.Entries.{is_of, entries_of, birth_in, birth, submissions, front, told, delivered, collected_in, collected, last_or, is_close, is_closed, is_shared}
+use Rattle.board.specs.Entries.{is_of, entries_of, birth_in, birth, submissions, front, told, delivered, collected_in, collected, last_or, is_close, is_closed, is_shared, lists_for}
 use Rattle.board.specs.Legal.{IsRight, MayManage, IsOpenPad, IsOpenQueue, IsOpen, is_shut_entry, is_shut}
 use Rattle.board.specs.Order.{AreRightForAfter}
 use Rattle.board.specs.Kept.{IsKeptPipe, IsKeptBoard, shape_of, work_owed, owes, owed_by}
@@ -27,6 +27,7 @@ use Rattle.board.proofs.KeptMarks.{mask-same, mask-new, closed-now, shared-now, 
 use Rattle.board.proofs.KeptRoom.{pipe_same, owes_same}
 use Rattle.board.proofs.Counting.{filter-at_most, told_twice}
 use Rattle.board.proofs.KeptStage.{stage_quiet, stage_held, stage_lists, told_is, delivered_is, stage_collected, stage_done, stage_undone, stage_spent, spent_owed}
+use Rattle.board.proofs.KeptLists.{lists_like, new_lists, held_lists, collected_lists}
 
 -- ---- what a pipeline is, as its entries say
 
@@ -62,22 +63,6 @@ same_item o x y a b = (let z : Some x ≡ Some y = sym a ∙ b in cc)
 
 -- ---- whether there is work, after a call
 
-held_serves : {J O : Type 0} (s : Stage J O) → MayServe (holding s true) → MayServe s
-held_serves (stage.Pad x) m = m
-held_serves (stage.Queue x) m = cc
-held_serves (stage.Chain x) m = m
-
-pub hold_serves : {J O : Type 0} (s after : Stage J O) → after ≡ holding s true → MayServe after → MayServe s
-hold_serves s after e m = held_serves s (subst (λ x. MayServe x) e m)
-
-held_passes : {J O : Type 0} (s : Stage J O) → MayPass (holding s true) → MayPass s
-held_passes (stage.Pad x) m = m
-held_passes (stage.Queue x) m = m
-held_passes (stage.Chain x) m = cc
-
-pub hold_passes : {J O : Type 0} (s after : Stage J O) → after ≡ holding s true → MayPass after → MayPass s
-hold_passes s after e m = held_passes s (subst (λ x. MayPass x) e m)
-
 from_serves : {J O : Type 0} (s : Stage J O) → MayServe (collected_from s) → MayServe s
 from_serves (stage.Pad x) m = m
 from_serves (stage.Queue x) m = m
@@ -93,14 +78,6 @@ from_passes (stage.Chain x) m = m
 
 pub collected_passes : {J O : Type 0} (pipe after : Pipeline J O) (to : ℕ) → after ≡ record pipe { collected = to; stage = collected_from pipe.stage } → MayPass after.stage → MayPass pipe.stage
 collected_passes pipe after to e m = from_passes pipe.stage (subst (λ (x : Pipeline _ _). MayPass x.stage) e m)
-
-with_serves : {J O : Type 0} (s : Stage J O) (lists : ℕ) → MayServe (with_lists s lists) → MayServe s
-with_serves (stage.Pad x) lists m = m
-with_serves (stage.Queue x) lists m = m
-with_serves (stage.Chain x) lists m = m
-
-pub lists_serves : {J O : Type 0} (s after : Stage J O) (lists : ℕ) → after ≡ with_lists s lists → MayServe after → MayServe s
-lists_serves s after lists e m = with_serves s lists (subst (λ x. MayServe x) e m)
 
 with_passes : {J O : Type 0} (s : Stage J O) (lists : ℕ) → MayPass (with_lists s lists) → MayPass s
 with_passes (stage.Pad x) lists m = m
@@ -146,7 +123,7 @@ module _ {J O A : Type 0} (asked : J → A) (meaning : A → O) where
         let kp = k.each p pipe here in
         let b = ap is_some kp.born in
         let right : IsRight log e = (tt, (may, not_closed es opened)) in
-        let kept = pipe_more asked meaning pipe (record pipe { shared = true }) es e kp refl (λ w. refl) (closed-same es e refl ∙ kp.closing) (shared-now es e refl) (mask-same es e b refl ∙ kp.masking) (noted_same asked meaning pipe es e kp refl) (collected-same es e refl ∙ kp.place) (stage_quiet asked meaning pipe.stage es e pipe.collected kp.stage b refl refl refl refl refl refl) in
+        let kept = pipe_more asked meaning pipe (record pipe { shared = true }) es e kp refl (λ w. refl) kp.lists (closed-same es e refl ∙ kp.closing) (shared-now es e refl) (mask-same es e b refl ∙ kp.masking) (noted_same asked meaning pipe es e kp refl) (collected-same es e refl ∙ kp.place) (stage_quiet asked meaning pipe.stage es e pipe.collected kp.stage b refl refl refl refl refl refl) in
         let s = place_step asked meaning pipes next born log p pipe (record pipe { shared = true }) e k set (eq-eqb p p refl) refl right kept in
         (s.0, omega (arith, s.1))
 
@@ -162,16 +139,16 @@ module _ {J O A : Type 0} (asked : J → A) (meaning : A → O) where
     lists_owed (stage.Queue x) lists = refl
     lists_owed (stage.Chain x) lists = refl
 
-    pub mask_step : (next : Pipes J O) (caller lists m : ℕ) (after : Pipeline J O) → IsSet pipes next p pipe after → MayManage (entries_of p log) caller → IsOpenPad (entries_of p log) → is_shared (entries_of p log) ≡ false → m < 2 ^ width_born (birth (entries_of p log)) → after ≡ record pipe { mask = m; stage = with_lists pipe.stage lists }
+    pub mask_step : (next : Pipes J O) (caller lists m : ℕ) (after : Pipeline J O) → IsSet pipes next p pipe after → MayManage (entries_of p log) caller → IsOpenPad (entries_of p log) → is_shared (entries_of p log) ≡ false → m < 2 ^ width_born (birth (entries_of p log)) → lists ≡ lists_for m → after ≡ record pipe { mask = m; stage = with_lists pipe.stage lists }
         → IsKeptBoard asked meaning (places next) born (log ++ Mask caller p m ∷ []) × (owed_by next ≡ owed_by pipes)
-    mask_step next caller lists m after set may opened alone bits q =
+    mask_step next caller lists m after set may opened alone bits asked_for q =
         let es = entries_of p log in
         let e : BoardEntry A = Mask caller p m in
         let kp = k.each p pipe here in
         let b = ap is_some kp.born in
         let now : Pipeline J O = record pipe { mask = m; stage = with_lists pipe.stage lists } in
         let right : IsRight log e = (tt, (may, opened, alone, bits)) in
-        let kept = pipe_more asked meaning pipe now es e kp refl (lists_shape pipe.stage lists) (closed-same es e refl ∙ kp.closing) (shared-same es e refl ∙ kp.sharing) (mask-new es e m refl) (noted_same asked meaning pipe es e kp refl) (collected-same es e refl ∙ kp.place) (stage_quiet asked meaning (with_lists pipe.stage lists) es e pipe.collected (stage_lists asked meaning pipe.stage es pipe.collected lists kp.stage) b refl refl refl refl refl refl) in
+        let kept = pipe_more asked meaning pipe now es e kp refl (lists_shape pipe.stage lists) (λ q. new_lists pipe.stage lists (pad_kept pipe es kp opened.0) ∙ asked_for) (closed-same es e refl ∙ kp.closing) (shared-same es e refl ∙ kp.sharing) (mask-new es e m refl) (noted_same asked meaning pipe es e kp refl) (collected-same es e refl ∙ kp.place) (stage_quiet asked meaning (with_lists pipe.stage lists) es e pipe.collected (stage_lists asked meaning pipe.stage es pipe.collected lists kp.stage) b refl refl refl refl refl refl) in
         let s = place_step asked meaning pipes next born log p pipe after e k set (eq-eqb p p refl) refl right (subst (λ x. IsKeptPipe asked meaning x (es ++ e ∷ [])) (sym q) kept) in
         let o = lists_owed pipe.stage lists in
         let z : owes after ≡ owes pipe = ap owes q ∙ ap (λ n. n + 1) o in
@@ -200,7 +177,7 @@ module _ {J O A : Type 0} (asked : J → A) (meaning : A → O) where
         let kp = k.each p pipe here in
         let b = ap is_some kp.born in
         let right : IsRight log e = (tt, (may, opened)) in
-        let kept = stage_more asked meaning pipe (holding pipe.stage true) es e kp (held_shape pipe.stage true) refl refl refl refl refl (stage_held asked meaning pipe.stage es e pipe.collected true kp.stage (line_kept pipe es kp opened.0) b refl refl refl refl refl refl) in
+        let kept = stage_more asked meaning pipe (holding pipe.stage true) es e kp (held_shape pipe.stage true) (held_lists pipe.stage true) refl refl refl refl refl (stage_held asked meaning pipe.stage es e pipe.collected true kp.stage (line_kept pipe es kp opened.0) b refl refl refl refl refl refl) in
         let s = place_step asked meaning pipes next born log p pipe after e k set (eq-eqb p p refl) refl right (subst (λ x. IsKeptPipe asked meaning x (es ++ e ∷ [])) (sym q) kept) in
         let z = held_owes true after q in
         (s.0, omega (arith, s.1, z))
@@ -213,7 +190,7 @@ module _ {J O A : Type 0} (asked : J → A) (meaning : A → O) where
         let kp = k.each p pipe here in
         let b = ap is_some kp.born in
         let right : IsRight log e = (tt, (may, opened)) in
-        let kept = stage_more asked meaning pipe (holding pipe.stage false) es e kp (held_shape pipe.stage false) refl refl refl refl refl (stage_held asked meaning pipe.stage es e pipe.collected false kp.stage (line_kept pipe es kp opened.0) b refl refl refl refl refl refl) in
+        let kept = stage_more asked meaning pipe (holding pipe.stage false) es e kp (held_shape pipe.stage false) (held_lists pipe.stage false) refl refl refl refl refl (stage_held asked meaning pipe.stage es e pipe.collected false kp.stage (line_kept pipe es kp opened.0) b refl refl refl refl refl refl) in
         let s = place_step asked meaning pipes next born log p pipe after e k set (eq-eqb p p refl) refl right (subst (λ x. IsKeptPipe asked meaning x (es ++ e ∷ [])) (sym q) kept) in
         let z = held_owes false after q in
         (s.0, omega (arith, s.1, z))
@@ -252,7 +229,7 @@ module _ {J O A : Type 0} (asked : J → A) (meaning : A → O) where
         let now : Pipeline J O = record pipe { collected = to; stage = collected_from pipe.stage } in
         let all : to ≡ length (told es) = t ∙ sym (told_is asked meaning pipe.stage es pipe.collected w kp.stage right_here (pipe.maker, kp.born)) in
         let right : IsRight log e = (tt, (may, not_closed es opened, all)) in
-        let kept = pipe_more asked meaning pipe now es e kp refl (collected_shape pipe.stage) (closed-same es e refl ∙ kp.closing) (shared-same es e refl ∙ kp.sharing) (mask-same es e b refl ∙ kp.masking) (noted_same asked meaning pipe es e kp refl) (collected-new es caller p to) (stage_collected asked meaning pipe.stage es pipe.collected p to caller kp.stage b right_here all t) in
+        let kept = pipe_more asked meaning pipe now es e kp refl (collected_shape pipe.stage) (lists_like pipe now refl (collected_lists pipe.stage) (collected_shape pipe.stage) kp.lists) (closed-same es e refl ∙ kp.closing) (shared-same es e refl ∙ kp.sharing) (mask-same es e b refl ∙ kp.masking) (noted_same asked meaning pipe es e kp refl) (collected-new es caller p to) (stage_collected asked meaning pipe.stage es pipe.collected p to caller kp.stage b right_here all t) in
         let s = place_step asked meaning pipes next born log p pipe after e k set (eq-eqb p p refl) refl right (subst (λ x. IsKeptPipe asked meaning x (es ++ e ∷ [])) (sym q) kept) in
         let z : owes after ≡ owes pipe = ap owes q ∙ ap (λ n. n + 1) (collected_owed pipe.stage) in
         (s.0, omega (arith, s.1, z), all, delivered_is asked meaning pipe.stage es pipe.collected w kp.stage kp.place right_here (pipe.maker, kp.born))

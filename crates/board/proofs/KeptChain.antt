@@ -9,18 +9,14 @@ use Rattle.board.specs.declared.entry.BoardEntry.{BoardEntry}
 use Rattle.board.specs.declared.entry.BoardEntry.TheVariants.{Finish}
 use Rattle.board.specs.declared.stage.Chained.{Chained}
 use Rattle.board.specs.declared.stage.Stage.TheVariants as stage
-use Rattle.board.specs.Stages.{with_outcome, released, MayEnd, ended}
+use Rattle.board.specs.Stages.{with_outcome, released, ended}
 use Rattle.board.specs.Shapes.{max_born}
 use Rattle.board.specs.Entries.{birth, accepted_in, submissions, dequeued_in, dequeues, passed_on, takers, finished, has, front, completes_from, tells, told, held_in, is_held, last_or, callback_of, meaning_at}
 use Rattle.board.specs.Kept.{IsKeptLine, IsKeptPad, IsKeptStage}
 use Rattle.board.proofs.Lists.{filter_map-none}
 use Rattle.board.proofs.Keeping.{birth_stays, told-more}
 use Rattle.board.proofs.Callbacks.{length-done}
-use Rattle.board.proofs.KeptPad.{ready_short, front_is, finish_low, finish_high, finish_runs, finish_kept, emptied_kept, finish_tells}
-
--- who took a number may end it
-pub chain_may_end : {J O A : Type 0} (asked : J → A) (meaning : A → O) (c : Chained J O) (es : List (BoardEntry A)) (place n caller : ℕ) → IsKeptStage asked meaning (stage.Chain c) place es → takers n es ≡ caller ∷ [] → has n (finished es) ≡ false → MayEnd (stage.Chain c) n
-chain_may_end asked meaning c es place n caller k t f = ((finish_low asked meaning c.pad es n k.1 f, finish_high asked meaning c.pad es n caller k.1 t, finish_runs asked meaning c.pad es n caller k.1 t f), k.2)
+use Rattle.board.proofs.KeptPad.{ready_short, front_is, finish_kept, emptied_kept, finish_tells}
 
 length-completes : (n many : ℕ) → length (completes_from n many) ≡ many
 length-completes n zero = refl

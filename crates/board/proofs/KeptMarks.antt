@@ -12,10 +12,11 @@ use Rattle.board.specs.declared.stage.Stage.{Stage}
 use Rattle.board.specs.Shapes.{width_born}
 use Rattle.board.specs.Entries.{birth, is_close, is_closed, is_share, is_shared, collected, collected_in, masked_in, mask, submitter_in, submitters, has, last_or, maker_is, IsMaker}
 use Rattle.board.specs.Ready.{IsNoQueue}
-use Rattle.board.specs.Kept.{IsKeptStage, IsKeptPipe, shape_of}
+use Rattle.board.specs.Kept.{IsKeptStage, IsKeptPipe, HasLists, lists_in, shape_of}
 use Rattle.board.proofs.Lists.{filter_map-none, filter_map-some, last_or-append, has-more}
 use Rattle.board.proofs.Keeping.{birth_stays}
 use Rattle.board.proofs.Admitting.{queue_shape}
+use Rattle.board.proofs.KeptLists.{lists_like}
 use Rattle.board.proofs.Kept.{closed-same, shared-same, collected-same}
 
 pub mask-same : {A : Type 0} (es : List (BoardEntry A)) (e : BoardEntry A) → is_some (birth es) ≡ true → masked_in e ≡ None → mask (es ++ e ∷ []) ≡ mask es
@@ -31,9 +32,6 @@ closed-now es e h = list_any-append is_close es (e ∷ []) ∙ or_right (is_clos
 
 pub shared-now : {A : Type 0} (es : List (BoardEntry A)) (e : BoardEntry A) → is_share e ≡ true → is_shared (es ++ e ∷ []) ≡ true
 shared-now es e h = list_any-append is_share es (e ∷ []) ∙ or_right (is_shared es) (is_share e || false) (ap (λ b. b || false) h)
-
-pub born_here : {J O A : Type 0} (asked : J → A) (meaning : A → O) (pipe : Pipeline J O) (es : List (BoardEntry A)) → IsKeptPipe asked meaning pipe es → is_some (birth es) ≡ true
-born_here asked meaning pipe es k = ap is_some k.born
 
 -- who submitted, but for the maker
 noted_cases : {J O A : Type 0} (asked : J → A) (meaning : A → O) (pipe : Pipeline J O) (es : List (BoardEntry A)) (caller : ℕ) → IsKeptPipe asked meaning pipe es → caller ≢ pipe.maker → IsMaker es caller ⊎ (has caller pipe.submitters.items ≡ has caller (submitters es)) → has caller pipe.submitters.items ≡ has caller (submitters es)
@@ -65,12 +63,12 @@ made_same h e = rw (h, e) refl
 
 -- a pipeline after one more entry
 pub pipe_more : {J O A : Type 0} (asked : J → A) (meaning : A → O) (pipe new : Pipeline J O) (es : List (BoardEntry A)) (e : BoardEntry A) → IsKeptPipe asked meaning pipe es
-    → new.maker ≡ pipe.maker → ((w : ℕ) → shape_of new.stage w ≡ shape_of pipe.stage w)
+    → new.maker ≡ pipe.maker → ((w : ℕ) → shape_of new.stage w ≡ shape_of pipe.stage w) → HasLists new
     → is_closed (es ++ e ∷ []) ≡ false → is_shared (es ++ e ∷ []) ≡ new.shared → mask (es ++ e ∷ []) ≡ new.mask
     → (IsNoQueue pipe → (caller : ℕ) → caller ≢ pipe.maker → has caller new.submitters.items ≡ has caller (submitters (es ++ e ∷ [])))
     → collected (es ++ e ∷ []) ≡ new.collected → IsKeptStage asked meaning new.stage new.collected (es ++ e ∷ [])
     → IsKeptPipe asked meaning new (es ++ e ∷ [])
-pipe_more asked meaning pipe new es e k m s cl sh ma su co st =
+pipe_more asked meaning pipe new es e k m s li cl sh ma su co st =
     let be = birth_stays es e (ap is_some k.born) in
     record {
       born = be ∙ (k.born ∙ made_same m (ap (λ b. shape_of new.stage (width_born b)) be ∙ s (width_born (birth es))));
@@ -80,13 +78,14 @@ pipe_more asked meaning pipe new es e k m s cl sh ma su co st =
       submitting = λ q caller. by_cases asked meaning pipe es (es ++ e ∷ []) new.submitters.items k be (su (sym (queue_shape new.stage pipe.stage s) ∙ q)) caller (cases_eq caller pipe.maker);
       place = co;
       stage = st;
+      lists = li;
     }
 
 -- after an entry that leaves the marks: the stage alone is another
 pub stage_more : {J O A : Type 0} (asked : J → A) (meaning : A → O) (pipe : Pipeline J O) (after : Stage J O) (es : List (BoardEntry A)) (e : BoardEntry A) → IsKeptPipe asked meaning pipe es
-    → ((w : ℕ) → shape_of after w ≡ shape_of pipe.stage w)
+    → ((w : ℕ) → shape_of after w ≡ shape_of pipe.stage w) → lists_in after ≡ lists_in pipe.stage
     → is_close e ≡ false → is_share e ≡ false → masked_in e ≡ None → submitter_in e ≡ None → collected_in e ≡ None
     → IsKeptStage asked meaning after pipe.collected (es ++ e ∷ [])
     → IsKeptPipe asked meaning (record pipe { stage = after }) (es ++ e ∷ [])
-stage_more asked meaning pipe after es e k s cl sh ma su co st =
-    pipe_more asked meaning pipe (record pipe { stage = after }) es e k refl s (closed-same es e cl ∙ k.closing) (shared-same es e sh ∙ k.sharing) (mask-same es e (ap is_some k.born) ma ∙ k.masking) (noted_same asked meaning pipe es e k su) (collected-same es e co ∙ k.place) st
+stage_more asked meaning pipe after es e k s li cl sh ma su co st =
+    pipe_more asked meaning pipe (record pipe { stage = after }) es e k refl s (lists_like pipe (record pipe { stage = after }) refl li s k.lists) (closed-same es e cl ∙ k.closing) (shared-same es e sh ∙ k.sharing) (mask-same es e (ap is_some k.born) ma ∙ k.masking) (noted_same asked meaning pipe es e k su) (collected-same es e co ∙ k.place) st

@@ -23,6 +23,7 @@ use Rattle.board.proofs.Closed.{ended_line}
 use Rattle.board.proofs.KeptMarks.{stage_more}
 use Rattle.board.proofs.KeptPassing.{line_passed, pad_passed}
 use Rattle.board.proofs.KeptEntering.{starts_is}
+use Rattle.board.proofs.KeptLists.{passed_lists}
 
 -- the entry by which a chain's first request goes on
 abbrev pub passed_entry : {J O A : Type 0} → Stage J O → ℕ → ℕ → BoardEntry A
@@ -104,7 +105,7 @@ pass_step {J} {O} {A} asked meaning pipes born log p caller pipe after next k se
     let kp = k.each p pipe set.here in
     let open_ : is_closed es ≡ false = kp.closing in
     let d = stage_passed asked meaning pipe.stage es pipe.collected caller p pipe.maker (width_born (birth es)) kp.stage kp.born open_ m in
-    let moved = stage_more asked meaning pipe (after_passed pipe.stage) es en kp (passed_shape pipe.stage) refl refl refl refl refl d.kept in
+    let moved = stage_more asked meaning pipe (after_passed pipe.stage) es en kp (passed_shape pipe.stage) (passed_lists pipe.stage) refl refl refl refl refl d.kept in
     let kept : IsKeptPipe asked meaning (record pipe { stage = after }) (es ++ en ∷ []) = subst (λ s. IsKeptPipe asked meaning (record pipe { stage = s }) (es ++ en ∷ [])) (sym e) moved in
     let s = place_step asked meaning pipes next born log p pipe (record pipe { stage = after }) en k set (eq-eqb p p refl) refl (tt, d.right) kept in
     let pays : work_owed after + 1 ≡ work_owed pipe.stage = subst (λ x. work_owed x + 1 ≡ work_owed pipe.stage) (sym e) d.pays in

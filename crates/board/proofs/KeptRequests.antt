@@ -38,6 +38,7 @@ use Rattle.board.proofs.KeptMarks.{mask-same, noted_same, noted_more, pipe_more}
 use Rattle.board.proofs.KeptRoom.{IsKeptCore, core_same, stage_same, is_pad_same, placed_pad, accepted_same, shape_same, owed_same, each_same, pass_same}
 use Rattle.board.proofs.KeptEntering.{line_quiet, pad_quiet, line_accepted, within_accepted, submit_kept}
 use Rattle.board.proofs.KeptCalls.{pad_kept, line_kept, right_here}
+use Rattle.board.proofs.KeptLists.{lists_like, lists_same, job_lists, entered_lists}
 
 -- a pipeline has no more submissions than there are entries
 pub few_submissions : {A : Type 0} (p : ℕ) (log : List (BoardEntry A)) → length (submissions (entries_of p log)) ≤ length log
@@ -205,7 +206,7 @@ module _ {J O A : Type 0} (asked : J → A) (meaning : A → O) where
         let is_pad_after : is_pad after.stage ≡ true = is_pad_same after.stage (with_job pipe.stage job) e ∙ (job_pad pipe.stage job ∙ pad) in
         let st = job_kept pipe.stage es pipe.collected p n caller ask job kp.stage pad b (pad_no_line (birth es) opened.0) a in
         let st2 = stage_same asked meaning after.stage (with_job pipe.stage job) pipe.collected (es ++ x ∷ []) e (placed_pad after.stage is_pad_after) st in
-        let kept = pipe_more asked meaning pipe after es x kp noting.maker (λ w. shape_same after.stage (with_job pipe.stage job) e w ∙ job_shape pipe.stage job w) (closed-same es x refl ∙ kp.closing) (shared-same es x refl ∙ (kp.sharing ∙ sym noting.shared)) (mask-same es x b refl ∙ (kp.masking ∙ sym noting.mask)) (noted_more asked meaning pipe es x caller after.submitters.items kp refl noting.submitters) (collected-same es x refl ∙ (kp.place ∙ sym noting.collected)) (subst (λ m. IsKeptStage asked meaning after.stage m (es ++ x ∷ [])) (sym noting.collected) st2) in
+        let kept = pipe_more asked meaning pipe after es x kp noting.maker (λ w. shape_same after.stage (with_job pipe.stage job) e w ∙ job_shape pipe.stage job w) (lists_like pipe after noting.mask (lists_same after.stage (with_job pipe.stage job) e ∙ job_lists pipe.stage job) (λ w. shape_same after.stage (with_job pipe.stage job) e w ∙ job_shape pipe.stage job w) kp.lists) (closed-same es x refl ∙ kp.closing) (shared-same es x refl ∙ (kp.sharing ∙ sym noting.shared)) (mask-same es x b refl ∙ (kp.masking ∙ sym noting.mask)) (noted_more asked meaning pipe es x caller after.submitters.items kp refl noting.submitters) (collected-same es x refl ∙ (kp.place ∙ sym noting.collected)) (subst (λ m. IsKeptStage asked meaning after.stage m (es ++ x ∷ [])) (sym noting.collected) st2) in
         let s = place_step asked meaning pipes next born log p pipe after x k set (eq-eqb p p refl) refl right kept in
         let o : work_owed after.stage ≡ work_owed pipe.stage + 2 = owed_same after.stage (with_job pipe.stage job) e ∙ job_owed pipe.stage job pad in
         (s.0, omega (arith, s.1, o))
@@ -224,7 +225,7 @@ module _ {J O A : Type 0} (asked : J → A) (meaning : A → O) where
         let right : IsRight log x = (tt, (may, opened, v)) in
         let st = entered_kept pipe.stage es pipe.collected p caller ask job backlog answer _ kp.stage line (orderly es (right_here asked meaning pipes born log p pipe k here)) b opened.0 a in
         let st2 = core_same asked meaning after.stage (after_entered pipe.stage job answer) pipe.collected (es ++ x ∷ []) e placed st in
-        let kept = pipe_more asked meaning pipe after es x kp noting.maker (λ w. shape_same after.stage (after_entered pipe.stage job answer) e w ∙ entered_shape pipe.stage job answer w) (closed-same es x refl ∙ kp.closing) (shared-same es x refl ∙ (kp.sharing ∙ sym noting.shared)) (mask-same es x b refl ∙ (kp.masking ∙ sym noting.mask)) (entered_noted pipe es p caller ask backlog answer after.submitters.items kp noting.submitters) (collected-same es x refl ∙ (kp.place ∙ sym noting.collected)) (subst (λ m. IsKeptStage asked meaning after.stage m (es ++ x ∷ [])) (sym noting.collected) st2) in
+        let kept = pipe_more asked meaning pipe after es x kp noting.maker (λ w. shape_same after.stage (after_entered pipe.stage job answer) e w ∙ entered_shape pipe.stage job answer w) (lists_like pipe after noting.mask (lists_same after.stage (after_entered pipe.stage job answer) e ∙ entered_lists pipe.stage job answer) (λ w. shape_same after.stage (after_entered pipe.stage job answer) e w ∙ entered_shape pipe.stage job answer w) kp.lists) (closed-same es x refl ∙ kp.closing) (shared-same es x refl ∙ (kp.sharing ∙ sym noting.shared)) (mask-same es x b refl ∙ (kp.masking ∙ sym noting.mask)) (entered_noted pipe es p caller ask backlog answer after.submitters.items kp noting.submitters) (collected-same es x refl ∙ (kp.place ∙ sym noting.collected)) (subst (λ m. IsKeptStage asked meaning after.stage m (es ++ x ∷ [])) (sym noting.collected) st2) in
         let s = place_step asked meaning pipes next born log p pipe after x k set (eq-eqb p p refl) refl right kept in
         let o : work_owed after.stage ≡ work_owed pipe.stage + work_after pipe.stage answer = owed_same after.stage (after_entered pipe.stage job answer) e ∙ entered_owed pipe.stage job answer line in
         (s.0, omega (arith, s.1, o), v)

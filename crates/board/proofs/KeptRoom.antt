@@ -10,11 +10,12 @@ use Rattle.board.specs.declared.pipeline.Pipeline.{Pipeline}
 use Rattle.board.specs.declared.stage.Stage.{Stage}
 use Rattle.board.specs.declared.stage.Stage.TheVariants as stage
 use Rattle.board.specs.Stages.{is_pad, has_line, is_queue, IsPlaced, IsJoined, bare, bare_pad, without_room, accepted_of, answer_of, with_waiting, after_entered, with_job, MayServe, MayPass}
-use Rattle.board.specs.Pipelines.{IsSame, NotesCaller, accepts, work_each}
+use Rattle.board.specs.Pipelines.{IsSame, NotesCaller, work_each}
 use Rattle.board.specs.Shapes.{width_born}
 use Rattle.board.specs.Entries.{birth, has, submitters, IsMaker}
 use Rattle.board.specs.Kept.{IsKeptLine, IsKeptPad, IsKeptStage, IsKeptPipe, shape_of, work_owed, owes}
 use Rattle.board.proofs.KeptMarks.{made_same}
+use Rattle.board.proofs.KeptLists.{lists_like, lists_same}
 
 -- what doesn't see the room is the same of two stages that differ in it alone
 pub same_by : {J O X : Type 0} (f : Stage J O → X) (a b : Stage J O) → ((s : Stage J O) → f (without_room s) ≡ f s) → without_room a ≡ without_room b → f a ≡ f b
@@ -51,14 +52,6 @@ accepted_bare (stage.Chain x) = refl
 
 pub accepted_same : {J O : Type 0} (a b : Stage J O) → without_room a ≡ without_room b → accepted_of a ≡ accepted_of b
 accepted_same a b e = same_by accepted_of a b accepted_bare e
-
-accepts_bare : {J O : Type 0} (backlog : Bool) (s : Stage J O) → accepts (without_room s) backlog ≡ accepts s backlog
-accepts_bare backlog (stage.Pad x) = refl
-accepts_bare backlog (stage.Queue x) = refl
-accepts_bare backlog (stage.Chain x) = refl
-
-pub accepts_same : {J O : Type 0} (a b : Stage J O) (backlog : Bool) → without_room a ≡ without_room b → accepts a backlog ≡ accepts b backlog
-accepts_same a b backlog e = same_by (λ s. accepts s backlog) a b (accepts_bare backlog) e
 
 answer_bare : {J O : Type 0} (backlog : Bool) (s : Stage J O) → answer_of (without_room s) backlog ≡ answer_of s backlog
 answer_bare backlog (stage.Pad x) = refl
@@ -229,6 +222,7 @@ pipe_same asked meaning old new es s placed k = record {
   submitting = λ q caller. room_cases old new es caller s (k.submitting (sym (queue_same new.stage old.stage s.stage) ∙ q) caller);
   place = k.place ∙ sym s.collected;
   stage = subst (λ n. IsKeptStage asked meaning new.stage n es) (sym s.collected) (stage_same asked meaning new.stage old.stage old.collected es s.stage (placed (placed_kept asked meaning old.stage old.collected es k.stage)) k.stage);
+  lists = lists_like old new s.mask (lists_same new.stage old.stage s.stage) (shape_same new.stage old.stage s.stage) k.lists;
 }
 
 pub owes_same : {J O : Type 0} (old new : Pipeline J O) → IsSame old new → owes new ≡ owes old

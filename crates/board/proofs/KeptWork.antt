@@ -35,6 +35,7 @@ use Rattle.board.proofs.KeptPassing.{drop_head}
 use Rattle.board.proofs.KeptTaking.{takers-taken, take_kept}
 use Rattle.board.proofs.KeptEntering.{line_quiet, starts_is}
 use Rattle.board.proofs.KeptQueue.{queue_taken}
+use Rattle.board.proofs.KeptLists.{first_lists}
 
 -- the entry by which the first job of a pipeline is taken
 abbrev pub first_taken : {J O A : Type 0} → Stage J O → ℕ → ℕ → BoardEntry A
@@ -58,9 +59,6 @@ ready_more : {O : Type 0} (outs : List (Option O)) → ready outs ≡ [] → rea
 ready_more [] h = refl
 ready_more (None ∷ outs) h = refl
 ready_more (Some x ∷ outs) h = cc
-
-idle_cases : {X : Type 0} (c : Bool) (xs : List X) (x : X) (ys : List X) → (c ≡ true → xs ≡ []) → xs ≡ x ∷ ys → c ≡ false
-idle_cases c xs x ys i w = false_from_ne_true c (λ h. (let l = i h in cc))
 
 none_step : (b : Bool) (t : ℕ × ℕ) (ts : List (ℕ × ℕ)) (h : Bool) → (b || h) ≡ false → (h ≡ false → map (λ (u : ℕ × ℕ). u.1) ts ≡ []) → map (λ (u : ℕ × ℕ). u.1) (cond b (t ∷ ts) ts) ≡ []
 none_step true t ts h e rest = cc
@@ -131,9 +129,6 @@ pad_low asked meaning pad es job rest k w = (let l = ap length w in let s = k.su
 
 taken_pays : {J O : Type 0} (pad : Pad J O) (job : J) (rest : List J) → pad.waiting ≡ job ∷ rest → 2 * length rest + running_of (pad.outcomes ++ None ∷ []) + 1 ≡ 2 * length pad.waiting + running_of pad.outcomes
 taken_pays pad job rest w = (let l = ap length w in let r = running_more pad.outcomes in omega arith)
-
-no_wait : {X : Type 0} (xs : List X) (x : X) (ys : List X) → xs ≡ x ∷ ys → 0 < length xs
-no_wait xs x ys w = (let l = ap length w in omega arith)
 
 not_busy : (b : Bool) (f s : ℕ) → b ≡ false → f + cond b 1 0 ≡ s → f ≡ s
 not_busy true f s h e = cc
@@ -247,7 +242,7 @@ take_step {J} {O} {A} asked meaning pipes born log p caller pipe after job next 
     let t = stage_taken asked meaning pipe.stage es pipe.collected caller p pipe.maker (width_born (birth es)) job rest kp.stage kp.born (numbered_here log p k.legal) kp.closing (λ q. may_take asked meaning pipe es caller kp q a) m w in
     let ch = first_changes A pipe.stage caller p in
     let f = first_of A pipe.stage caller p in
-    let moved = stage_more asked meaning pipe (without_first pipe.stage rest) es en kp (first_shape pipe.stage rest) ch.close ch.share ch.mask ch.submitter ch.collect t.kept in
+    let moved = stage_more asked meaning pipe (without_first pipe.stage rest) es en kp (first_shape pipe.stage rest) (first_lists pipe.stage rest) ch.close ch.share ch.mask ch.submitter ch.collect t.kept in
     let kept : IsKeptPipe asked meaning (record pipe { stage = after }) (es ++ en ∷ []) = subst (λ s. IsKeptPipe asked meaning (record pipe { stage = s }) (es ++ en ∷ [])) (sym e) moved in
     let s = place_step asked meaning pipes next born log p pipe (record pipe { stage = after }) en k set f.0 f.1 (first_right log pipe.stage caller p t.right) kept in
     let pays : work_owed after + 1 ≡ work_owed pipe.stage = subst (λ x. work_owed x + 1 ≡ work_owed pipe.stage) (sym e) t.pays in

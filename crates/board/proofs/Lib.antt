@@ -25,6 +25,7 @@ pub mod KeptWork
 pub mod KeptFinish
 pub mod KeptPassOn
 pub mod KeptLines
+pub mod KeptLists
 pub mod KeptMarks
 pub mod KeptRoom
 pub mod KeptStage

@@ -167,28 +167,6 @@ pub ok_map : {T E A B : Type 0} (o : Result T E) → (A → B) → OnOk o A → 
 ok_map (Ok x) f h = f h
 ok_map (Err e) f h = tt
 
-pub none_told : (p : ℕ) (had has : Bool) → IsTold p had has no_pipelines no_pipelines
-none_told p had has = record {
-  others = λ q n. same_keeps no_pipelines q;
-  member = λ m. m;
-  in_line = λ r w m. absurd (no_member p m);
-}
-
-pub none_readmitted : {J O : Type 0} (p : ℕ) (new : Pipeline J O) (c : ℕ) → IsReadmitted p new c no_pipelines no_pipelines
-none_readmitted p new c = record {
-  others = λ q n. same_keeps no_pipelines q;
-  member = λ a m. m;
-  in_line = λ a h m. absurd (no_member p m);
-}
-
--- a line that is told nothing new
-pub told_same : (p : ℕ) (had has : Bool) (line : ReadyLine) → had ≡ has → IsTold p had has line line
-told_same p had has line e = record {
-  others = λ q n. same_keeps line q;
-  member = λ m. m;
-  in_line = λ r w m. w (e ∙ r);
-}
-
 -- and one that is told anew
 pub told_anew : (p : ℕ) (had has : Bool) (line after : ReadyLine) → IsTold p false has line after → IsTold p had has line after
 told_anew p had has line after t = record {

@@ -1,4 +1,4 @@
-use Rattle.std.specs.Prelude.{◌≡◌, ◌≢◌, ◌⊎◌, ℕ, zero, suc, ◌+◌, ◌-◌, ◌^◌, ◌<◌, ◌≤◌, Bool, true, false, ◌==◌, nat_lt, if◌then◌else◌, List, [], ◌∷◌, ◌++◌, length, filter, map, take, drop, Option, Some, None, slice_get}
+use Rattle.std.specs.Prelude.{◌≡◌, ◌≢◌, ◌⊎◌, ℕ, zero, suc, ◌+◌, ◌-◌, ◌^◌, ◌<◌, ◌≤◌, max, count_ones, Bool, true, false, ◌==◌, nat_lt, if◌then◌else◌, List, [], ◌∷◌, ◌++◌, length, filter, map, take, drop, Option, Some, None, slice_get}
 use Rattle.std.specs.List.{filter_map, list_any}
 use Rattle.std.specs.Int.{bit_at}
 use Rattle.std.specs.Arc.{arc_value}
@@ -197,6 +197,10 @@ masked_in _ = None
 
 abbrev pub mask : {A : Type 0} → List (BoardEntry A) → ℕ
 mask es = last_or (2 ^ width_born (birth es) - 1) (filter_map masked_in es)
+
+-- a pad has so many reorder lists: one for each worker in its mask, and one at least
+abbrev pub lists_for : ℕ → ℕ
+lists_for mask = max (count_ones mask) 1
 
 -- bit i stands for caller i + 1
 abbrev pub IsMasked : ℕ → ℕ → Type 0

@@ -46,7 +46,7 @@ impl<W: Work> BoardCore<W> {
         ensures refused { IfErr result (λ e. e ≡ BoardErr.Memory) }
         ensures legal { LegalBoard self.new }
     {
-        let queue = Cryptd::new(self.alloc, max)?;
+        let queue = Cryptd::new(self.alloc, max);
         self.born(caller, Shape::Queue(max), full_mask(0), Stage::Queue(queue))
     }
 
@@ -62,7 +62,7 @@ impl<W: Work> BoardCore<W> {
         ensures refused { IfErr result (λ e. e ≡ BoardErr.Memory) }
         ensures legal { LegalBoard self.new }
     {
-        let line = Cryptd::new(self.alloc, max)?;
+        let line = Cryptd::new(self.alloc, max);
         let pad = Padata::new(self.alloc, lists)?;
         let chain = Chained { line, pad };
         self.born(

@@ -2,6 +2,7 @@
 
 ghost use Rattle.std.specs.Prelude.{◌≡◌, ◌≤◌, true, OnOk, OnErr};
 ghost use Rattle.board.specs.Stages.{is_pad};
+ghost use Rattle.board.specs.Kept.{lists_in};
 ghost use Rattle.board.specs.Pipelines.{accepts, work_after, with_lists};
 
 use crate::entering::is_accepted;
@@ -32,6 +33,17 @@ impl<J: Drop, F: Drop> Stage<J, F> {
         match self {
             Stage::Pad(_) | Stage::Queue(_) => 2,
             Stage::Chain(_) => 3,
+        }
+    }
+
+    /// How many reorder lists there are; a queue has none.
+    pub(crate) fn lists(&self) -> u32
+        ensures { result ≡ lists_in self.now }
+    {
+        match self {
+            Stage::Pad(pad) => pad.lists(),
+            Stage::Queue(_) => 0,
+            Stage::Chain(chain) => chain.pad.lists(),
         }
     }
 

@@ -4,7 +4,7 @@ ghost use Rattle.std.specs.Prelude.{◌≡◌, ◌<◌, ◌^◌, false, [], ◌�
 ghost use Rattle.board.specs.declared.entry.BoardEntry.TheVariants as Entry;
 ghost use Rattle.board.specs.declared.board_core.BoardErr.TheVariants as BoardErr;
 ghost use Rattle.board.specs.Shapes.{width_born};
-ghost use Rattle.board.specs.Entries.{entries_of, birth, is_shared};
+ghost use Rattle.board.specs.Entries.{entries_of, birth, is_shared, mask, lists_for};
 ghost use Rattle.board.specs.Legal.{MayManage, IsOpenPad, LegalBoard};
 
 use crate::board_core::{BoardCore, BoardErr};
@@ -13,6 +13,15 @@ use crate::log::reserve_entries;
 use crate::work::Work;
 
 impl<W: Work> BoardCore<W> {
+    /// How many reorder lists an open pad has: one for each worker that its mask names, and one where it names none.
+    pub fn lists(&self, pipe: u64) -> u32
+        requires { IsOpenPad (entries_of pipe self.now) }
+        ensures { result ≡ lists_for (mask (entries_of pipe self.now)) }
+    {
+        let place = &self.pipes[&pipe];
+        place.stage.lists()
+    }
+
     /// From now on the workers whose bits are set may take from the pad, besides its maker and who submits to it: bit i stands for
     /// caller i + 1. What was submitted before stays, and is completed in order. The caller made the pad, which is neither closed nor
     /// shared, and no bit stands at or above the number of lists that it was made with. Only want of memory refuses, and

@@ -1,7 +1,7 @@
 //! cryptd: a bounded queue whose jobs are served one at a time, in order, and that can be held.
 #![tactic(auto)]
 
-ghost use Rattle.std.specs.Prelude.{◌≡◌, ℕ, ◌+◌, ◌-◌, ◌*◌, ◌^◌, ◌<◌, ◌≤◌, nat_lt, Bool, true, false, ◌||◌, List, [], ◌∷◌, ◌++◌, length, IfOk, OnOk, MatchBool, MatchOption, ◌⊎◌};
+ghost use Rattle.std.specs.Prelude.{◌≡◌, ℕ, ◌+◌, ◌-◌, ◌*◌, ◌^◌, ◌<◌, ◌≤◌, nat_lt, Bool, true, false, ◌||◌, List, [], ◌∷◌, ◌++◌, length, OnOk, MatchBool, MatchOption, ◌⊎◌};
 ghost use Rattle.kc_base.specs.declared.callback_list.Callback.TheVariants as Callback;
 ghost use Rattle.request_queue.specs.Line.{accepted, verdict_on, line_after, number_at_bound};
 ghost use Rattle.std.specs.VecDeque.{deque_len, deque_capacity};
@@ -40,18 +40,19 @@ impl<J, F> Model for Cryptd<J, F> {
 
 impl<J: Drop, F: Drop> Cryptd<J, F> {
     /// An empty queue of bound `max`, at least 1, with room for no job, neither held nor busy.
-    pub fn new(alloc: Global, max: u32) -> Result<Cryptd<J, F>, AllocError>
+    pub fn new(alloc: Global, max: u32) -> Cryptd<J, F>
         requires { 1 ≤ max }
-        ensures { IfOk result (λ server. server ≡ record { line = record { max = max; served = 0; waiting = []; spare = 0 }; held = false; busy = false; passed = 0; pending = []; spare = 0 }) }
+        ensures line { result.line ≡ record { max = max; served = 0; waiting = []; spare = 0 } }
+        ensures server { result ≡ record { line = result.line; held = false; busy = false; passed = 0; pending = []; spare = 0 } }
     {
-        Ok(Cryptd {
-            queue: Queue::new(alloc, max)?,
+        Cryptd {
+            queue: Queue::new(alloc, max),
             held: false,
             busy: false,
             passed: 0,
             pending: VecDeque::new(alloc),
             spare: 0,
-        })
+        }
     }
 
     /// How many were accepted.

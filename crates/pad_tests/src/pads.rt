@@ -3,6 +3,7 @@ ghost use Rattle.std.specs.Prelude.{◌≡◌, [], ◌∷◌, None, length, IfOk
 use kc_base::{Callback, Callbacks};
 use padata_core::Padata;
 use std::alloc::Global;
+use std::collections::VecDeque;
 use std::test::Fail;
 
 // The completions of a list: numbers with outcomes.
@@ -44,7 +45,7 @@ fn outcomes_come_in_the_order_of_submission(rt: HostRuntime) -> Result<(), Fail>
 
 // Five jobs that were all taken.
 fn five_taken(alloc: Global) -> Result<Padata<char, char>, Fail>
-    ensures { IfOk result (λ pad. (pad.collected ≡ 0) × (pad.outcomes ≡ None ∷ None ∷ None ∷ None ∷ None ∷ [])) }
+    ensures { IfOk result (λ pad. (pad.lists ≡ 3) × (pad.collected ≡ 0) × (pad.outcomes ≡ None ∷ None ∷ None ∷ None ∷ None ∷ [])) }
 {
     let mut pad = Padata::new(alloc, 3)?;
     pad.reserve(5)?;
@@ -60,7 +61,8 @@ fn five_taken(alloc: Global) -> Result<Padata<char, char>, Fail>
 // Takes each of five.
 fn take_five(pad: &mut Padata<char, char>)
     requires { (pad.old.collected ≡ 0) × (pad.old.outcomes ≡ []) × (length pad.old.waiting ≡ 5) }
-    ensures { (pad.new.collected ≡ 0) × (pad.new.outcomes ≡ None ∷ None ∷ None ∷ None ∷ None ∷ []) }
+    ensures lists { pad.new.lists ≡ pad.old.lists }
+    ensures taken { (pad.new.collected ≡ 0) × (pad.new.outcomes ≡ None ∷ None ∷ None ∷ None ∷ None ∷ []) }
 {
     let _ = (pad.take(), pad.take(), pad.take(), pad.take(), pad.take());
 }
@@ -85,6 +87,37 @@ fn each_collect_hands_out_what_is_ready(rt: HostRuntime) -> Result<(), Fail> {
     assert!(rt; before == 0 && after == 2 && unfinished == 1);
     let want = [(0, 'y'), (1, 'w'), (2, 'z'), (3, 'x'), (4, 'v')];
     assert_eq!(rt; completions(rt.alloc(), &into)?.as_slice(), want.as_slice());
+    Ok(())
+}
+
+// A reorder list has these numbers with their outcomes.
+fn is_list(list: &VecDeque<(u64, char)>, want: &[(u64, char)]) -> bool {
+    if list.len() != want.len() {
+        return false;
+    }
+    for k in 0..want.len() {
+        if list[k] != want[k] {
+            return false;
+        }
+    }
+    true
+}
+
+// Of five numbers 1, 3 and 4 are finished, on three lists and then on two.
+#[test]
+fn each_number_waits_on_the_list_of_its_rest(rt: HostRuntime) -> Result<(), Fail> {
+    let mut pad = five_taken(rt.alloc())?;
+    pad.finish(4, 'e');
+    pad.finish(1, 'b');
+    pad.finish(3, 'd');
+    let first = is_list(pad.list(0), &[(3, 'd')]);
+    let second = is_list(pad.list(1), &[(1, 'b'), (4, 'e')]);
+    let third = is_list(pad.list(2), &[]);
+    assert!(rt; first && second && third);
+    pad.remask(2)?;
+    let first = is_list(pad.list(0), &[(4, 'e')]);
+    let second = is_list(pad.list(1), &[(1, 'b'), (3, 'd')]);
+    assert!(rt; first && second && pad.lists() == 2);
     Ok(())
 }
 

@@ -3,7 +3,7 @@ use std::test::Fail;
 
 #[test]
 fn a_queue_of_one_takes_one_item(rt: HostRuntime) -> Result<(), Fail> {
-    let mut queue = Queue::new(rt.alloc(), 1)?;
+    let mut queue = Queue::new(rt.alloc(), 1);
     queue.reserve(3)?;
     let verdicts = (
         queue.enqueue(0, 'a', false),

@@ -5,7 +5,7 @@ use std::test::Fail;
 
 #[test]
 fn a_held_queue_serves_its_backlog_in_order(rt: HostRuntime) -> Result<(), Fail> {
-    let mut queue = Cryptd::new(rt.alloc(), 2)?;
+    let mut queue = Cryptd::new(rt.alloc(), 2);
     queue.reserve(4)?;
     queue.hold();
     let verdicts = (
@@ -56,7 +56,7 @@ fn a_held_queue_serves_its_backlog_in_order(rt: HostRuntime) -> Result<(), Fail>
 
 #[test]
 fn what_is_passed_on_is_told_in_order(rt: HostRuntime) -> Result<(), Fail> {
-    let mut queue = Cryptd::new(rt.alloc(), 1)?;
+    let mut queue = Cryptd::new(rt.alloc(), 1);
     queue.reserve(2)?;
     let verdicts = (queue.enqueue(0, 'a', false), queue.enqueue(1, 'b', true));
     let passes = (queue.pass_on().is_some(), queue.pass_on().is_some());

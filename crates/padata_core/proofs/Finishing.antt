@@ -1,5 +1,5 @@
 -- What finishing, releasing and taking do to the lists.
-use Rattle.std.proofs.Common.{◌≡◌, ◌≢◌, ℕ, zero, suc, ◌+◌, ◌-◌, ◌*◌, ◌<◌, ◌≤◌, ◌%◌, false, cond, List, [], ◌∷◌, ◌++◌, length, Option, Some, None, refl, sym, ◌∙◌, ap, subst, arith, inl, inr, ◌⊎◌}
+use Rattle.std.proofs.Common.{◌≡◌, ◌≢◌, ℕ, zero, suc, ◌+◌, ◌-◌, ◌*◌, ◌<◌, ◌≤◌, ◌%◌, false, cond, List, [], ◌∷◌, ◌++◌, length, Option, Some, None, refl, sym, ◌∙◌, ap, subst, arith}
 use Rattle.std.specs.Prelude.{◌==◌, slice_get, slice_index_or, slice_set}
 use Rattle.std.proofs.lemmas.Bool.{eqb-true, eq-eqb, false_from_ne_true}
 use Rattle.std.proofs.lemmas.List.{get_or_default}
@@ -50,10 +50,6 @@ finish_outcomes {F} rows lists low to room n out a l g f =
     kept_change rows lists (n % lists) m (put_row rows lists n out) (kept_at rows lists m) (omega arith) (λ e. found_put m n out es f ∙ (other_number n m out (found m es) (λ p. o (p ∙ at)) ∙ ap (λ k. found m (slice_index_or rows k empty_held).entries) (sym e))) (λ e. refl))
 
 -- ---- the first number that isn't collected
-
-many_cases : (low to : ℕ) → low ≤ to → (low < to) ⊎ (to ≤ low) → (to - low ≡ 0) ⊎ ((m : ℕ) × (to - low ≡ suc m))
-many_cases low to l (inl s) = inr (to - low - 1, (let q : to - low ≡ suc (to - low - 1) = omega arith in q))
-many_cases low to l (inr g) = inl (omega arith)
 
 none_step : {F : Type 0} (at : ℕ → Option F) (low many : ℕ) → at low ≡ None → ready (outcomes_from at low many) ≡ []
 none_step at low zero h = refl

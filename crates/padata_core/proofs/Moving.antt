@@ -16,9 +16,6 @@ pub record AreMoved {F : Type 0} (first old new : List (Held F)) (lists more fro
   pub rest : (m : ℕ) → n ≤ m → kept_at old lists m ≡ kept_at first lists m
   pub done : (m : ℕ) → from ≤ m → m < n → kept_at new more m ≡ kept_at first lists m
 
-pub moved_start : {F : Type 0} (old new : List (Held F)) (lists more from to room share : ℕ) → from ≤ to → AreRows old lists from to room → AreRows new more from from share → AreMoved old old new lists more from from to room share
-moved_start old new lists more from to room share l a b = record { order = omega arith; most = l; left = a; moved = b; rest = λ m g. refl; done = λ m g h. absurd (omega arith) }
-
 below_apart : (m n : ℕ) → m < n + 1 → m ≢ n → (m < n) ⊎ (n ≤ m) → m < n
 below_apart m n l o (inl s) = s
 below_apart m n l o (inr g) = absurd (o (let e : m ≡ n = omega arith in e))

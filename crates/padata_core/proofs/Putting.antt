@@ -7,10 +7,6 @@ use Rattle.std.specs.declared.result.Result.TheVariants.{Ok, Err}
 use Rattle.std.specs.List.{insert}
 use Rattle.padata_core.specs.Rows.{put, IsRising}
 
--- the number at a place of a list
-abbrev pub IsAt : {F : Type 0} → List (ℕ × F) → ℕ → (ℕ → Type 0) → Type 0
-IsAt {F} es i P = (d : ℕ × F) → P (slice_index_or es i d).0
-
 before_step : {F : Type 0} (n : ℕ) (out : F) (e : ℕ × F) (es : List (ℕ × F)) (b : Bool) → nat_lt n e.0 ≡ b → n < e.0 → insert (e ∷ es) 0 (n, out) ≡ cond b ((n, out) ∷ e ∷ es) (e ∷ put n out es)
 before_step n out e es true h l = refl
 before_step n out e es false h l = absurd (grind arith)

@@ -123,15 +123,6 @@ after_long lists k n to (e ∷ es) r m l =
     let s = suc-mul (length es) lists in
     omega arith
 
--- a list has its share of the numbers
-pub row_long : {F : Type 0} (lists k low to : ℕ) (es : List (ℕ × F)) → IsRow lists k low to es → low ≤ to → length es * lists ≤ (to - low) + lists
-row_long lists k low to [] r l = omega arith
-row_long lists k low to (e ∷ es) r l =
-    let h = r.0 in
-    let a = after_long lists k e.0 to es r.3 r.2 r.1 in
-    let s = suc-mul (length es) lists in
-    omega arith
-
 long_strict : {F : Type 0} (lists k low to : ℕ) (e : ℕ × F) (es : List (ℕ × F)) → IsRow lists k low to (e ∷ es) → length (e ∷ es) * lists < (to - low) + lists
 long_strict lists k low to e es r =
     let h = r.0 in

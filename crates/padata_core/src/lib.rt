@@ -7,7 +7,7 @@ mod rows;
 
 ghost use Rattle.std.specs.Prelude.{◌≡◌, ℕ, ◌+◌, ◌-◌, ◌^◌, ◌<◌, ◌≤◌, List, [], ◌∷◌, ◌++◌, drop, length, slice_get, slice_set, Some, None, IfOk, OnOk, OnErr, IfSome, MatchOption, MatchBool, nat_lt};
 ghost use Rattle.std.specs.VecDeque.{deque_len, deque_capacity};
-ghost use Rattle.padata_core.specs.Pad.{taken_of, submitted_of, ready, done_from, running_of};
+ghost use Rattle.padata_core.specs.Pad.{taken_of, submitted_of, ready, done_from, running_of, on_list};
 
 use crate::row::Row;
 use crate::rows::{empty_rows, move_rows, reserve_rows};
@@ -174,6 +174,23 @@ impl<J: Drop, F: Drop> Padata<J, F> {
         ensures { result ≡ self.now.collected }
     {
         self.collected
+    }
+
+    /// How many reorder lists there are.
+    pub fn lists(&self) -> u32
+        ensures { result ≡ self.now.lists }
+    {
+        self.lists
+    }
+
+    /// The reorder list `k`, below `lists`: the numbers n that are finished and not collected, of which n mod lists is k, in
+    /// rising order, each with its outcome.
+    pub fn list(&self, k: u32) -> &VecDeque<(u64, F)>
+        requires { k < self.now.lists }
+        ensures { result.now.items ≡ on_list self.now k }
+    {
+        let row = &self.rows[k as usize];
+        row.entries()
     }
 
     /// Hands out the outcome of the first number that isn't collected, where its job is done.

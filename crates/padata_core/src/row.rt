@@ -38,6 +38,13 @@ impl<F: Drop> Row<F> {
         }
     }
 
+    /// The outcomes with their numbers, in rising order.
+    pub(crate) fn entries(&self) -> &VecDeque<(u64, F)>
+        ensures { result.now.items ≡ self.now.entries }
+    {
+        &self.entries
+    }
+
     /// Makes room for `room` outcomes in all at least. Want of memory leaves the list as it was.
     pub(crate) fn reserve(&mut self, room: usize) -> Result<(), AllocError>
         ensures same { self.new.entries ≡ self.old.entries }

@@ -1,7 +1,7 @@
 //! A bounded queue of requests, with a backlog past its bound.
 #![tactic(auto)]
 
-ghost use Rattle.std.specs.Prelude.{◌≡◌, ℕ, ◌+◌, ◌-◌, ◌^◌, ◌<◌, ◌≤◌, nat_lt, ◌||◌, List, [], ◌∷◌, ◌++◌, length, IfOk, OnOk, MatchOption};
+ghost use Rattle.std.specs.Prelude.{◌≡◌, ℕ, ◌+◌, ◌-◌, ◌^◌, ◌<◌, ◌≤◌, nat_lt, ◌||◌, List, [], ◌∷◌, ◌++◌, length, OnOk, MatchOption};
 ghost use Rattle.request_queue.specs.Line.{accepted, verdict_on, line_after, number_at_bound};
 
 use std::alloc::{AllocError, Global};
@@ -51,17 +51,17 @@ impl<T> Model for Queue<T> {
 
 impl<T: Drop> Queue<T> {
     /// An empty queue of bound `max`, at least 1, with room for no item.
-    pub fn new(alloc: Global, max: u32) -> Result<Queue<T>, AllocError>
+    pub fn new(alloc: Global, max: u32) -> Queue<T>
         requires { 1 ≤ max }
-        ensures { IfOk result (λ line. line ≡ record { max = max; served = 0; waiting = []; spare = 0 }) }
+        ensures { result ≡ record { max = max; served = 0; waiting = []; spare = 0 } }
     {
-        Ok(Queue {
+        Queue {
             alloc,
             max,
             served: 0,
             waiting: VecDeque::new(alloc),
             spare: 0,
-        })
+        }
     }
 
     /// How many wait.

@@ -18,7 +18,7 @@ use Rattle.alg_names.specs.Name.{Tree, spelling}
 use Rattle.templates.specs.Names.{IsKnown}
 use Rattle.templates.specs.Table.{table, children_of, derived_of, FaultIs}
 use Rattle.templates.specs.Resolving.{weight, AreAbove, Grows, CameTo, IsOpen, LooksCome, Builds, EndsWith, Resolves}
-use Rattle.templates.proofs.Growth.{came_now, grows_none}
+use Rattle.templates.proofs.Growth.{came_now}
 use Rattle.alg_registry.proofs.Looks.{began_new}
 use Rattle.templates.proofs.Looks.{any_answer, claimable, opened, resolved, grows_look, grows_of_builds}
 use Rattle.templates.proofs.ChildLooks.{derives, derives_not}
@@ -66,9 +66,6 @@ resolved_at h h1 h2 h3 h4 caller text plain k a built r legal made next f e1 q e
 pub grows_at : (h h1 h2 : List RegEntry) (caller : ℕ) (text : List ℕ) (plain : Bool) (k : ℕ) (a : Looked) → Made table h → IsMade table h (Look caller text plain Absent) → h1 ≡ h ++ Look caller text plain a ∷ [] → a ≡ Began k → h2 ≡ h1 → Grows caller h h2
 grows_at h h1 h2 caller text plain k a made next e1 q e2 =
     subst (λ x. Grows caller h x) (sym (e2 ∙ (e1 ∙ ap (λ b. h ++ Look caller text plain b ∷ []) q))) (grows_look caller k h text plain made (any_answer h caller text plain Absent (Began k) next))
-
-pub grows_same : (h h1 : List RegEntry) (caller : ℕ) → Made table h → h1 ≡ h → Grows caller h h1
-grows_same h h1 caller made e = subst (λ x. Grows caller h x) (sym e) (grows_none caller h made)
 
 pub derives_so : (caller larval : ℕ) (name : Tree) (names : List Tree) (ids : List ℕ) (below : List (ℕ × Spec)) (h h' : List RegEntry) (r : Result Spec BuildErr) → IsOpen caller larval name h → IsKnown name → children_of name ≡ Ok names
     → LooksCome caller larval (Ok ids) h h' → length ids ≡ length names → below ≡ filter_map (with_spec (registered h')) ids

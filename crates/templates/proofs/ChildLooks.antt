@@ -150,9 +150,6 @@ child_failure caller larval errno name text ids h0 h h' o sofar came =
           ∙ outcomes_fail caller h h' (looks_for larval [] h) ids came.answer errno came.grows sofar.come came.comes;
     }
 
-pub looks_none : (caller larval : ℕ) (name : Tree) (h : List RegEntry) → IsOpen caller larval name h → LooksCome caller larval (Ok []) h h
-looks_none caller larval name h o = record { within = within_none caller larval h o.made; come = ap (λ ls. outcomes h ls) o.no_looks }
-
 pub stopped : (caller larval : ℕ) (text : List ℕ) (ids : List ℕ) (name : Tree) (h0 h h' : List RegEntry) (e : BuildErr) → IsOpen caller larval name h0 → LooksCome caller larval (Ok ids) h0 h → Resolves caller text true h h' (Err e) → ChildFailed caller larval h0 h' e
 stopped caller larval text ids name h0 h h' (Fault errno) o sofar r = child_failure caller larval errno name text ids h0 h h' o sofar r
 stopped caller larval text ids name h0 h h' Memory o sofar r = grows_on caller h0 h h' sofar.within.grows r

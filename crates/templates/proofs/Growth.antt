@@ -12,7 +12,7 @@ use Rattle.alg_registry.specs.declared.entry.Looked.{Looked}
 use Rattle.alg_registry.specs.declared.entry.Looked.TheVariants.{Began}
 use Rattle.alg_registry.specs.declared.entry.EndAnswer.{EndAnswer}
 use Rattle.alg_registry.specs.declared.entry.RegEntry.{RegEntry}
-use Rattle.alg_registry.specs.declared.entry.RegEntry.TheVariants.{Enlist, Look, Claim, End, Waited, Unlist, Get, Put, Refs}
+use Rattle.alg_registry.specs.declared.entry.RegEntry.TheVariants.{Look, Claim, End}
 use Rattle.alg_registry.specs.declared.entry.RegEntry.TheVariants as entry
 use Rattle.alg_registry.specs.Rows.{texts, begun_by, ends, claims, end_of}
 use Rattle.alg_registry.specs.Legal.{ended_as, claimer, LegalReg}
@@ -45,9 +45,6 @@ grows_on caller h h' h'' a b = record {
   ends_stay = λ n e q. b.ends_stay n e (a.ends_stay n e q);
   own_kept = λ n q. let p = a.own_kept n q in let r = b.own_kept n p.0 in (r.0, r.1 ∙ p.1);
 }
-
-is_some_along : {A : Type 0} (o p : Option A) → p ≡ o → IsSome o → IsSome p
-is_some_along o p e s = subst (λ (x : Option _). IsSome x) (sym e) s
 
 pub within_none : (caller larval : ℕ) (h : List RegEntry) → Made table h → Within caller larval h h
 within_none caller larval h made = record { grows = grows_none caller h made; work = []; went = sym (append-nil h); all_work = refl; all_ended = λ n le lt. absurd (omega (arith, le, lt)); others = λ n lt ne. refl }
@@ -85,19 +82,6 @@ within_on caller larval h h' h'' a b = record {
 pub none_after : {B : Type 0} (o p q : Option B) → o ≡ option_or p q → q ≡ None → o ≡ p
 none_after o p q e f = e ∙ (ap (λ x. option_or p x) f ∙ or_none p)
 
-own_of_work : (caller : ℕ) (e : RegEntry) → is_work caller e ≡ true → is_by caller e ≡ true
-own_of_work caller (Look by text true answer) w = w
-own_of_work caller (Look by text false answer) w = absurd cc
-own_of_work caller (Claim by larval) w = w
-own_of_work caller (End by larval answer) w = w
-own_of_work caller (Enlist by spec answer) w = absurd cc
-own_of_work caller (Waited by larval) w = absurd cc
-own_of_work caller (Unlist by driver answer) w = absurd cc
-own_of_work caller (Get by id ok) w = absurd cc
-own_of_work caller (Put by id) w = absurd cc
-own_of_work caller (Refs by driver) w = absurd cc
-own_of_work caller (entry.List by) w = absurd cc
-
 pub first_true : (a b : Bool) → (a && b) ≡ true → a ≡ true
 first_true true b h = refl
 first_true false b h = h
@@ -105,13 +89,6 @@ first_true false b h = h
 pub second_true : (a b : Bool) → (a && b) ≡ true → b ≡ true
 second_true true b h = h
 second_true false b h = absurd cc
-
-own_all : (caller : ℕ) (es : List RegEntry) → list_all (is_work caller) es ≡ true → list_all (is_by caller) es ≡ true
-own_all caller [] w = refl
-own_all caller (e ∷ es) w = both_true (is_by caller e) (list_all (is_by caller) es) (own_of_work caller e (first_true (is_work caller e) (list_all (is_work caller) es) w)) (own_all caller es (second_true (is_work caller e) (list_all (is_work caller) es) w))
-
-own_work : (caller : ℕ) (es : List RegEntry) → list_all (is_work caller) es ≡ true → (e : RegEntry) → is_by caller e ≡ true → list_all (is_by caller) (e ∷ es) ≡ true
-own_work caller es w e own = both_true (is_by caller e) (list_all (is_by caller) es) own (own_all caller es w)
 
 some_or : {B : Type 0} (o p : Option B) → IsSome o → IsSome (option_or o p)
 some_or None p s = absurd cc

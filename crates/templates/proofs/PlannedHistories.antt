@@ -33,10 +33,8 @@ use Rattle.alg_registry.proofs.Existing.{if_some}
 use Rattle.alg_registry.proofs.Stack.{texts-push, looks-push, ended-push, ended-new}
 use Rattle.alg_names.specs.Name.{Tree, node, end, IsName, a_word, a_template, one, word_of, args_of, list_of, spelling}
 use Rattle.alg_names.specs.Spelled.{tree_of}
-use Rattle.alg_names.specs.Built.{args_from, args_from-list_of}
 use Rattle.templates.specs.declared.driver_plans.AesForm.TheVariants.{AesGeneric, AesTable, AesLanes}
 use Rattle.templates.specs.declared.driver_plans.GhashForm.TheVariants.{GhashGeneric, GhashTable}
-use Rattle.templates.specs.declared.template_words.Template.TheVariants.{Gcm}
 use Rattle.templates.specs.Nesting.{is_nested_well, is_wrapper_word, has_wrapper, any_wrapper}
 use Rattle.templates.specs.Table.{table, template_at, children_of, derived_of, spellings, is_allowed, is_bare, begins_with}
 use Rattle.templates.proofs.Growth.{split}
@@ -73,11 +71,6 @@ get_either (y ∷ xs) ys (suc n) x e = get_either xs ys n x e
 get_last : {A : Type 0} (xs : List A) (x : A) (n : ℕ) → n ≡ length xs → slice_get (xs ++ x ∷ []) n ≡ Some x
 get_last [] x n e = ap (λ m. slice_get (x ∷ []) m) e
 get_last (y ∷ xs) x n e = ap (λ m. slice_get (y ∷ (xs ++ x ∷ [])) m) e ∙ get_last xs x (length xs) refl
-
-get_in : {A : Type 0} (xs : List A) (n : ℕ) (x : A) → slice_get xs n ≡ Some x → (n < length xs) × (x ≡ get_or xs n x)
-get_in [] n x e = absurd cc
-get_in (y ∷ xs) zero x e = (omega arith, let f : x ≡ y = cc in f)
-get_in (y ∷ xs) (suc n) x e = let r = get_in xs n x e in (omega (arith, r.0), r.1)
 
 same_some : {A : Type 0} {x y : A} → Some x ≡ Some y → x ≡ y
 same_some e = cc
@@ -601,14 +594,6 @@ quiet_adds h e r b n l = record {
   ending = λ k id t q. absurd (none_ends (ends k e) id (n k) q);
   look = λ k a q. absurd (let f : None ≡ Some a = sym (l k) ∙ q in cc);
 }
-
--- the larval that the entry ends
-ended_larval : (n larval : ℕ) (e x : Ended) → (if eqb larval n then Some e else None) ≡ Some x → (larval ≡ n) × (e ≡ x)
-ended_larval n larval e x q = by_test (eqb larval n) refl q
-  where
-    by_test : (b : Bool) → eqb larval n ≡ b → (if b then Some e else None) ≡ Some x → (larval ≡ n) × (e ≡ x)
-    by_test true f g = (eqb-true larval n f, same_some g)
-    by_test false f g = absurd cc
 
 outcome_id : (n larval : ℕ) (answer : EndAnswer) (id : ℕ) → outcome_of (if eqb larval n then Some (end_of answer) else None) ≡ Some (Ok id) → (larval ≡ n) × (outcome_of (Some (end_of answer)) ≡ Some (Ok id))
 outcome_id n larval answer id q = by_test (eqb larval n) refl q

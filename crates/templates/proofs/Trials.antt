@@ -16,10 +16,6 @@ abbrev first_byte : List ℕ → ℕ
 first_byte [] = 0
 first_byte (x ∷ xs) = x
 
-abbrev name_first : Option EndAnswer → ℕ
-name_first (Some (Built id spec)) = first_byte spec.driver
-name_first _ = 8
-
 b_not_t : (let n : ℕ = 98 in n) ≡ 116 → ⊥
 b_not_t e = absurd (omega (arith, e))
 

@@ -52,7 +52,7 @@ invariant_of-self-2 g c =
     let may : MayManage (entries_of c.args.pipe c.self.inside.log.items) c.args.caller = subst (λ h. MayManage (entries_of c.args.pipe h) c.args.caller) (sym c.self.view_is) c.requires.caller in
     let alone = subst (λ h. is_shared (entries_of c.args.pipe h) ≡ false) (sym c.self.view_is) c.requires.alone in
     let bits = subst (λ h. c.args.mask < 2 ^ width_born (birth (entries_of c.args.pipe h))) (sym c.self.view_is) c.requires.bits in
-    let s = mask_step g.W.Work.asked g.W.Work.meaning c.self.inside.pipes c.self.inside.born c.self.inside.log.items c.args.pipe c.unwrap-place.result.now c.self.invariant.0 here next c.args.caller c.max.result c.args.mask (record c.unwrap-place.result.now { mask = c.args.mask; stage = c.remask.new.self }) set may open_ alone bits (ap (λ x. record c.unwrap-place.result.now { mask = c.args.mask; stage = x }) c.in_ok-remask.ensures.ok) in (
+    let s = mask_step g.W.Work.asked g.W.Work.meaning c.self.inside.pipes c.self.inside.born c.self.inside.log.items c.args.pipe c.unwrap-place.result.now c.self.invariant.0 here next c.args.caller c.max.result c.args.mask (record c.unwrap-place.result.now { mask = c.args.mask; stage = c.remask.new.self }) set may open_ alone bits c.max.ensures (ap (λ x. record c.unwrap-place.result.now { mask = c.args.mask; stage = x }) c.in_ok-remask.ensures.ok) in (
       rw (c.push_reserved.ensures.items, c.in_ok-reserve_entries.ensures.items) s.0,
       rw (c.push_reserved.ensures.items, c.in_ok-reserve_entries.ensures.items) (shut-same c.self.inside.log.items (Mask c.args.caller c.args.pipe c.args.mask) refl ∙ c.self.invariant.1),
       omega (arith, c.push_reserved.ensures.len, c.push_reserved.ensures.capacity, c.in_ok-reserve_entries.ensures.ok),
