@@ -1,14 +1,14 @@
 -- What work leaves of a pass.
-use Rattle.std.proofs.Common.{◌≡◌, ℕ, Option, Some, None, Bool, true, false, ◌&&◌, List, [], ◌∷◌, ◌++◌, refl, sym, ◌∙◌, ap, subst, ◌⊎◌, inl, inr}
+use Rattle.std.proofs.Common.{◌≡◌, ℕ, Option, Some, None, Bool, true, false, ◌&&◌, List, [], ◌∷◌, ◌++◌, append-nil, refl, sym, ◌∙◌, ap, subst, ◌⊎◌, inl, inr}
 use Rattle.std.specs.Prelude.{MatchBool, MatchOption}
 use Rattle.std.specs.List.{list_all}
 use Rattle.std.proofs.lemmas.List.Folds.{list_all-append}
-use Rattle.turn_lock.specs.Turns.{Known}
-use Rattle.turn_lock.specs.Meeting.{AtTurn, Enters, Leaves}
+use Rattle.turn_lock.specs.Turns.{Known, sees}
+use Rattle.turn_lock.specs.Meeting.{Meets, AtTurn, Enters, Leaves}
 use Rattle.turn_lock.specs.Going.{stays, goes_left, goes_entered, goes_added, goes_then}
 use Rattle.board.specs.declared.entry.BoardEntry.{BoardEntry}
 use Rattle.board.specs.Shapes.{is_pad, is_chain, has_line}
-use Rattle.board.specs.Entries.{entries_of, caller_of, take_entry, finish_entry, pass_entry, NonePasses}
+use Rattle.board.specs.Entries.{entries_of, caller_of, take_entry, finish_entry, pass_entry, NoneFor, NonePasses}
 use Rattle.board.specs.Legal.{Is, MayManage, IsOpen, LegalBoard}
 use Rattle.board.specs.Staying.{is_work, TakingIsWork, FinishingIsWork, PassingIsWork}
 use Rattle.board.specs.Others.{StaysKnown, WorkLeavesKnown}
@@ -73,17 +73,36 @@ module _ {A : Type 0} where
       (finished_worked finishing w.0 l w.1 w.2 w.4)
 
   -- the turn after one that found no job
-  abbrev Passes : (m l : Known (BoardEntry A)) → Bool → Type 0
+  abbrev pub Passes : (m l : Known (BoardEntry A)) → Bool → Type 0
   Passes m l passed =
       AtTurn caller_of Legal m (λ h. MatchBool passed ((p : ℕ) × Is is_chain (entries_of p h) × Enters Legal m h (pass_entry h m.number p) l) (NonePasses h × Leaves m h l))
 
-  passes_worked : ((h : List (BoardEntry A)) (caller p : ℕ) → PassingIsWork h caller p) → (m l : Known (BoardEntry A)) (passed : Bool) → Passes m l passed → Worked m l
+  pub passes_worked : ((h : List (BoardEntry A)) (caller p : ℕ) → PassingIsWork h caller p) → (m l : Known (BoardEntry A)) (passed : Bool) → Passes m l passed → Worked m l
   passes_worked passing m l true t =
       worked_entry m l (λ h. pass_entry h m.number t.2.0) (λ h. let w = passing h m.number t.2.0 in (w.0, w.1)) (t.0, t.1, t.2.2)
   passes_worked passing m l false t = worked_none m l (t.0, t.1, t.2.1)
 
   pub passed_worked : ((h : List (BoardEntry A)) (caller p : ℕ) → PassingIsWork h caller p) → (k m l : Known (BoardEntry A)) (passed : Bool) → FindsNoJob k m → Passes m l passed → Worked k l
   passed_worked passing k m l passed t u = worked_on k m l (worked_none k m (t.0, t.1, t.2.1)) (passes_worked passing m l passed u)
+
+  -- one turn that found no job, and a request to pass on or none
+  abbrev pub Turned : (k l : Known (BoardEntry A)) → Bool → Type 0
+  Turned k l passed =
+      AtTurn caller_of Legal k (λ h. MatchBool passed ((p : ℕ) × Is is_chain (entries_of p h) × NoneFor h k.number × Enters Legal k h (pass_entry h k.number p) l) (NonePasses h × NoneFor h k.number × Leaves k h l))
+
+  again : (k : Known (BoardEntry A)) (h : List (BoardEntry A)) → Meets caller_of Legal k h → Meets caller_of Legal (sees k h) h
+  again k h m = record {
+    others = [];
+    goes_on = sym (append-nil h);
+    apart = refl;
+    kept = m.kept;
+    shows = record { seen = ([], sym (append-nil h)); made = m.shows.made; own = m.shows.made; ended = m.shows.ended; next = m.shows.next; below = m.shows.below };
+  }
+
+  -- is two turns on one history
+  pub two_turns : (k l : Known (BoardEntry A)) (passed : Bool) → Turned k l passed → (m : Known (BoardEntry A)) × FindsNoJob k m × Passes m l passed
+  two_turns k l true t = (sees k t.0, (t.0, t.1, (t.2.2, refl)), (t.0, again k t.0 t.1, (t.2.0, t.2.1, t.2.3)))
+  two_turns k l false t = (sees k t.0, (t.0, t.1, (t.2.1, refl)), (t.0, again k t.0 t.1, (t.2.0, t.2.2)))
 
   pub passed_some : (k m l : Known (BoardEntry A)) (passed : Bool) → FindsNoJob k m → Passes m l passed → MatchBool passed (WorksSome k l) (FindsNone k l)
   passed_some k m l true t u = inr (m, t, u)

@@ -9,36 +9,51 @@ ghost use Rattle.crew.specs.Both.{ArePassesOn, WorkedOnBoth};
 
 use crate::gate::Gate;
 use crate::passes::Passes;
-use crate::working::work_some;
+use crate::working::{wait, work_in_turn};
 use board::Work;
+use job_bells::{Lingered, Watch};
 use shared_board::SharedBoard;
 use shared_registry::laws::building_goes_on;
 use shared_registry::{RegPass, SharedRegistry, build_one};
 use std::alloc::Global;
 use std::sync::Wait;
 
-/// Claims and builds one larval, where one may wait. False where none does. Where memory runs out the larval that was claimed
-/// is ended with that.
-fn build_if_any<R: Wait>(
+/// What one look of a worker came to.
+#[derive(Clone, Copy)]
+struct Looked {
+    found: bool,
+    /// It looks again, whatever the hints say.
+    again: bool,
+}
+
+/// Claims and builds one larval, where one may wait, and ends an announced wait before. False where none does. Where memory runs out
+/// the larval that was claimed is ended with that, and it pauses for a millisecond.
+fn build_if_any<W: Work, R: Wait>(
     rt: &R,
     alloc: Global,
+    board: &SharedBoard<W>,
     registry: &SharedRegistry,
     pass: RegPass,
+    watch: &mut Option<Watch<'_>>,
 ) -> (RegPass, bool)
     requires { IsRegPassOn registry.now pass }
     ensures lock { IsRegPassOn registry.now result.0 }
     ensures works { Works (knows pass) (knows result.0) }
 {
+    building_goes_on();
     if !registry.may_build() {
         return (pass, false);
     }
+    drop(watch.take());
     let (pass, built) = build_one(rt, alloc, registry, pass);
-    (pass, built.unwrap_or(true))
+    if built.is_err() {
+        board.pause(rt);
+    }
+    (pass, true)
 }
 
-/// Does what jobs wait for this caller, otherwise passes a request on where a chain has one, and otherwise builds one larval where
-/// one waits. False where none was found. Where memory runs out while it builds it answers true, and a larval that was
-/// claimed is ended with `NoMemory`.
+/// Does what jobs wait for this caller, some sixty at most, passes a request on where a chain has one, and builds one larval where
+/// one waits. Where memory runs out while it builds, a larval that was claimed is ended with `NoMemory`.
 fn work_or_build<W: Work, G: Gate, R: Wait>(
     rt: &R,
     alloc: Global,
@@ -46,7 +61,8 @@ fn work_or_build<W: Work, G: Gate, R: Wait>(
     registry: &SharedRegistry,
     passes: Passes<W::Ask>,
     gate: &G,
-) -> (Passes<W::Ask>, bool)
+    watch: &mut Option<Watch<'_>>,
+) -> (Passes<W::Ask>, Looked)
     requires { ArePassesOn board.now registry.now passes }
     ensures lock { ArePassesOn board.now registry.now result.0 }
     ensures worked { WorkedOnBoth passes result.0 }
@@ -56,25 +72,28 @@ fn work_or_build<W: Work, G: Gate, R: Wait>(
         board: on_board,
         registry: on_registry,
     } = passes;
-    let (on_board, worked) = work_some(rt, board, on_board, gate);
-    if worked {
-        let passes = Passes {
-            board: on_board,
-            registry: on_registry,
-        };
-        return (passes, true);
-    }
-    let (on_registry, built) = build_if_any(rt, alloc, registry, on_registry);
+    let (on_board, worked, more) = work_in_turn(rt, board, on_board, gate, watch);
+    let (on_registry, built) = build_if_any(rt, alloc, board, registry, on_registry, watch);
     let passes = Passes {
         board: on_board,
         registry: on_registry,
     };
-    (passes, built)
+    let looked = Looked {
+        found: worked || built,
+        again: more || built,
+    };
+    (passes, looked)
 }
 
 /// Whether a worker that found something may find more: a hint that takes no turn.
-fn may_find_more<W: Work>(board: &SharedBoard<W>, registry: &SharedRegistry) -> bool {
-    !board.may_be_shut() && (board.may_have_job() || registry.may_build())
+fn may_find_more<W: Work>(
+    board: &SharedBoard<W>,
+    registry: &SharedRegistry,
+    looked: Looked,
+) -> bool {
+    looked.found
+        && !board.may_be_shut()
+        && (looked.again || board.may_have_job() || registry.may_build())
 }
 
 /// Works until nothing is found, or nothing more is expected.
@@ -93,13 +112,20 @@ fn work_both_while<W: Work, G: Gate, R: Wait>(
     building_goes_on();
     let mut mine = passes;
     for _ in rt.forever() {
-        let (worked, found) = work_or_build(rt, alloc, board, registry, mine, gate);
-        if !found || !may_find_more(board, registry) {
+        let (worked, looked) = work_or_build(rt, alloc, board, registry, mine, gate, &mut None);
+        if !may_find_more(board, registry, looked) {
             return worked;
         }
         mine = worked;
     }
     unreachable!()
+}
+
+/// From now on a look that begins a larval wakes a worker of this board.
+fn meet<W: Work>(board: &SharedBoard<W>, registry: &SharedRegistry) {
+    if let Ok(bells) = board.job_bells() {
+        registry.note_workers(bells);
+    }
 }
 
 /// Whether the board is shut, with both passes kept together.
@@ -127,8 +153,8 @@ fn look_at_end<W: Work, R: Wait>(
     (passes, shut)
 }
 
-/// Works until the board is shut: does what jobs wait, otherwise passes a request on, and otherwise builds a larval. A
-/// worker that finds nothing stays awake for a while, and then sleeps until a job comes or it is called.
+/// Works until the board is shut: does what jobs wait, passes requests on, and builds larvals. After some sixty jobs the other two have
+/// their turn. A worker that finds nothing stays awake for a while, and then sleeps until a job comes, a larval begins or it is called.
 pub fn work_on<W: Work, G: Gate, R: Wait>(
     rt: &R,
     alloc: Global,
@@ -143,22 +169,30 @@ pub fn work_on<W: Work, G: Gate, R: Wait>(
     ensures shut { is_shut (knows result.board).seen ≡ true }
 {
     building_goes_on();
+    meet(board, registry);
     let mut mine = passes;
     for _ in rt.forever() {
         let worked = work_both_while(rt, alloc, board, registry, mine, gate);
-        if board.linger() {
-            mine = worked;
+        let tired = match board.linger() {
+            Lingered::Tired(tired) => tired,
+            Lingered::Roused => {
+                mine = worked;
+                continue;
+            }
+        };
+        let mut watch = Some(board.watch_jobs(tired));
+        if board.may_be_shut() {
+            let (seen, shut) = look_at_end(rt, board, registry, worked);
+            if shut {
+                return seen;
+            }
+            mine = seen;
             continue;
         }
-        let watch = board.watch_jobs();
-        let (looked, shut) = look_at_end(rt, board, registry, worked);
-        if shut {
-            return looked;
-        }
-        let (tried, found) = work_or_build(rt, alloc, board, registry, looked, gate);
+        let (tried, looked) = work_or_build(rt, alloc, board, registry, worked, gate, &mut watch);
         mine = tried;
-        if !found {
-            watch.wait(rt);
+        if !looked.found {
+            wait(rt, watch);
         }
     }
     unreachable!()

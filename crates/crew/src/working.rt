@@ -10,9 +10,13 @@ ghost use Rattle.crew.specs.Working.{HasTaken, FinishesFirst, WorksSome, FindsNo
 
 use crate::gate::Gate;
 use board::{BoardErr, Taken, Work, others_leave, pipelines_stay};
+use job_bells::Watch;
 use kc_base::Callbacks;
 use shared_board::{BoardPass, SharedBoard};
 use std::sync::Wait;
+
+/// So many jobs a caller does at most before it looks for something else.
+const IN_A_ROW: u32 = 64;
 
 /// Runs a job that the pass took, finishes it, and takes the next at the same turn, where there is one for this caller and the board
 /// isn't to be shut. No memory is taken.
@@ -39,36 +43,59 @@ fn run_and_take<W: Work, G: Gate, R: Wait>(
     board.finish_and_take(rt, pass, slip, out)
 }
 
-/// Runs the job that the pass took, if it took one, and each that it can take when it finishes one. No memory is taken.
+/// Runs a job that the pass took and finishes it. No memory is taken.
+fn run_and_finish<W: Work, G: Gate, R: Wait>(
+    rt: &R,
+    board: &SharedBoard<W>,
+    pass: BoardPass<W>,
+    gate: &G,
+    taken: Taken<W>,
+) -> BoardPass<W>
+    requires lock { IsPassOn board.now pass }
+    requires took { HasTaken W.meaning (knows pass) taken.slip.pipe taken.slip.number (W.asked taken.job) }
+    ensures lock { IsPassOn board.now result }
+    ensures finished { FinishesFirst (knows pass) taken.slip.pipe taken.slip.number (knows result) }
+{
+    let Taken { slip, job } = taken;
+    gate.inside();
+    let out = job.run();
+    board.finish(rt, pass, slip, out)
+}
+
+/// Runs the job that the pass took, if it took one, and of those that it can take when it finishes one at most so many. True where it
+/// left off at so many: then it finished the last without a look for the next. No memory is taken.
 fn run_on<W: Work, G: Gate, R: Wait>(
     rt: &R,
     board: &SharedBoard<W>,
     pass: BoardPass<W>,
     gate: &G,
     taken: Option<Taken<W>>,
-) -> BoardPass<W>
+) -> (BoardPass<W>, bool)
     requires lock { IsPassOn board.now pass }
     requires took { IfSome taken (λ next. HasTaken W.meaning (knows pass) next.slip.pipe next.slip.number (W.asked next.job)) }
-    ensures lock { IsPassOn board.now result }
-    ensures worked { Worked (knows pass) (knows result) }
+    ensures lock { IsPassOn board.now result.0 }
+    ensures worked { Worked (knows pass) (knows result.0) }
 {
     pipelines_stay::<W::Ask>();
     let mut mine = pass;
     let mut next = taken;
-    for _ in rt.forever() {
+    for _ in 0..IN_A_ROW {
         let Some(job) = next else {
-            return mine;
+            return (mine, false);
         };
         let (worked, found) = run_and_take(rt, board, mine, gate, job);
         mine = worked;
         next = found;
     }
-    unreachable!()
+    match next {
+        Some(job) => (run_and_finish(rt, board, mine, gate, job), true),
+        None => (mine, false),
+    }
 }
 
-/// Takes a job, runs it and finishes it, and goes on with each that is to be had at the turn at which it finishes one. Where there
-/// was none for this caller, it passes a request of a chain on. False exactly where at the first turn there was no such job, and at
-/// the second no such request. No memory is taken.
+/// Takes a job, runs it and finishes it, and goes on with those that are to be had at the turn at which it finishes one, some sixty at
+/// most. Where there was none for this caller, it passes a request of a chain on. False exactly where at the first turn there was no
+/// such job, and at the second no such request. No memory is taken.
 pub fn work_some<W: Work, G: Gate, R: Wait>(
     rt: &R,
     board: &SharedBoard<W>,
@@ -80,15 +107,57 @@ pub fn work_some<W: Work, G: Gate, R: Wait>(
     ensures some { MatchBool result.1 (WorksSome (knows pass) (knows result.0)) (FindsNone (knows pass) (knows result.0)) }
     ensures worked { Worked (knows pass) (knows result.0) }
 {
+    let (pass, found, _) = work_watched(rt, board, pass, gate, &mut None);
+    (pass, found)
+}
+
+/// The same of a caller that may have announced a wait. Where it took a job, the wait is over before the job runs. It answers also
+/// whether it left off with no look for the next job.
+fn work_watched<W: Work, G: Gate, R: Wait>(
+    rt: &R,
+    board: &SharedBoard<W>,
+    pass: BoardPass<W>,
+    gate: &G,
+    watch: &mut Option<Watch<'_>>,
+) -> (BoardPass<W>, bool, bool)
+    requires { IsPassOn board.now pass }
+    ensures lock { IsPassOn board.now result.0 }
+    ensures some { MatchBool result.1 (WorksSome (knows pass) (knows result.0)) (FindsNone (knows pass) (knows result.0)) }
+    ensures worked { Worked (knows pass) (knows result.0) }
+{
     pipelines_stay::<W::Ask>();
-    let (pass, taken) = board.take(rt, pass);
+    let (pass, taken, passed) = board.take_or_pass_on(rt, pass);
     match taken {
         Some(job) => {
+            drop(watch.take());
             let (pass, next) = run_and_take(rt, board, pass, gate, job);
-            (run_on(rt, board, pass, gate, next), true)
+            let (pass, more) = run_on(rt, board, pass, gate, next);
+            (pass, true, more)
         }
-        None => board.pass_on(rt, pass),
+        None => (pass, passed, passed),
     }
+}
+
+/// Works some, and passes a request of a chain on also where it did jobs, so that a steady load of these doesn't keep chains waiting.
+/// Answers whether it found anything, and whether it has to look again.
+pub(crate) fn work_in_turn<W: Work, G: Gate, R: Wait>(
+    rt: &R,
+    board: &SharedBoard<W>,
+    pass: BoardPass<W>,
+    gate: &G,
+    watch: &mut Option<Watch<'_>>,
+) -> (BoardPass<W>, bool, bool)
+    requires { IsPassOn board.now pass }
+    ensures lock { IsPassOn board.now result.0 }
+    ensures worked { Worked (knows pass) (knows result.0) }
+{
+    pipelines_stay::<W::Ask>();
+    let (pass, found, more) = work_watched(rt, board, pass, gate, watch);
+    if !found || !board.may_have_chains() {
+        return (pass, found, more);
+    }
+    let (pass, passed) = board.pass_on(rt, pass);
+    (pass, true, more || passed)
 }
 
 /// Does one job after another, and passes requests on, until there is none to be had or the board may be shut. No memory is taken.
@@ -142,11 +211,19 @@ pub fn drain<W: Work, G: Gate, R: Wait>(
             Ok(false) => {}
             Err(error) => return (drained, Err(error)),
         }
-        let (tried, found) = work_some(rt, board, drained, gate);
+        let mut watch = Some(watch);
+        let (tried, found, _) = work_watched(rt, board, drained, gate, &mut watch);
         mine = tried;
         if !found {
-            watch.wait(rt);
+            wait(rt, watch);
         }
     }
     unreachable!()
+}
+
+/// Sleeps until something has happened since the wait was announced, if one was.
+pub(crate) fn wait<R: Wait>(rt: &R, watch: Option<Watch<'_>>) {
+    if let Some(watch) = watch {
+        watch.wait(rt);
+    }
 }

@@ -42,10 +42,16 @@ fn ask_until<R: Wait>(
     (mine, None)
 }
 
-/// Looks for `cbc(aes)`, calls a worker, claims nothing and asks how the larval ended.
+/// Leaves the processor to others so many times: after some thousand times workers without work sleep.
+fn let_others_run(times: u32) {
+    for _ in 0..times {
+        yield_now();
+    }
+}
+
+/// Looks for `cbc(aes)`, claims nothing and asks how the larval ended.
 fn look_and_ask<R: Wait>(
     rt: &R,
-    board: &SharedBoard<Load>,
     registry: &SharedRegistry,
     pass: RegPass,
 ) -> (RegPass, Option<Ended>)
@@ -55,7 +61,6 @@ fn look_and_ask<R: Wait>(
 {
     names_exist();
     let (pass, looked) = registry.look(rt, pass, b"cbc(aes)", false);
-    board.call_worker();
     let answer = match looked {
         Ok(answer) => answer,
         Err(_) => return (pass, None),
@@ -66,12 +71,13 @@ fn look_and_ask<R: Wait>(
     }
 }
 
-/// The caller's part: it asks only, and then shuts the board.
+/// The caller's part: it leaves the processor so many times, asks only, and then shuts the board.
 fn ask_only<R: Wait>(
     rt: &R,
     board: &SharedBoard<Load>,
     registry: &SharedRegistry,
     passes: Passes<u64>,
+    times: u32,
 ) -> (Passes<u64>, Option<Ended>)
     requires lock { ArePassesOn board.now registry.now passes }
     requires first { IsFirst (knows passes.board) }
@@ -82,7 +88,8 @@ fn ask_only<R: Wait>(
         board: on_board,
         registry: on_registry,
     } = passes;
-    let (on_registry, ended) = look_and_ask(rt, board, registry, on_registry);
+    let_others_run(times);
+    let (on_registry, ended) = look_and_ask(rt, registry, on_registry);
     let passes = Passes {
         board: board.shut(rt, on_board),
         registry: on_registry,
@@ -90,10 +97,12 @@ fn ask_only<R: Wait>(
     (passes, ended)
 }
 
-/// How what the caller asked for ended beside one worker, and the registry's history.
+/// How what the caller asked for ended beside one worker, after it left the processor to others so many times, and the registry's
+/// history.
 pub(crate) fn asked_beside_worker<R: Threads + Wait + Sync>(
     rt: &R,
     alloc: Global,
+    times: u32,
 ) -> Option<(Option<Ended>, RegLog)> {
     let (board, board_pass) = SharedBoard::new(alloc).ok()?;
     let (registry, registry_pass) = SharedRegistry::new(alloc).ok()?;
@@ -108,7 +117,7 @@ pub(crate) fn asked_beside_worker<R: Threads + Wait + Sync>(
         requires first { IsFirst (knows passes.board) }
         requires caller { (knows passes.registry).number ≡ 0 }
         ensures { ArePassesOn shared.entry.now known.entry.now result.0 }
-    { ask_only(rt, shared, known, passes) };
+    { ask_only(rt, shared, known, passes, times) };
     let (passes, ended) = run_crew(rt, alloc, 1, shared, known, passes, &NoGate, &mut main);
     let Passes {
         board: board_pass,

@@ -10,18 +10,29 @@ use std::sync::atomic::{AtomicU64, Ordering};
 use std::test::Fail;
 use std::thread;
 
-/// Holds the first that is inside a job until another is inside one too.
+/// Holds those that are inside a job until so many have been inside one.
 #[derive(Drop)]
 struct Meet {
+    many: u64,
     inside: AtomicU64,
     gave_up: AtomicU64,
+}
+
+impl Meet {
+    fn of(many: u64) -> Meet {
+        Meet {
+            many,
+            inside: AtomicU64::new(0),
+            gave_up: AtomicU64::new(0),
+        }
+    }
 }
 
 impl Gate for Meet {
     fn inside(&self) {
         self.inside.fetch_add(1, Ordering::SeqCst);
         for _ in 0..10_000_000u64 {
-            if self.inside.load(Ordering::SeqCst) >= 2 {
+            if self.inside.load(Ordering::SeqCst) >= self.many {
                 return;
             }
             thread::yield_now();
@@ -32,10 +43,7 @@ impl Gate for Meet {
 
 #[test]
 fn two_are_inside_at_once(rt: HostRuntime) -> Result<(), Fail> {
-    let gate = Meet {
-        inside: AtomicU64::new(0),
-        gave_up: AtomicU64::new(0),
-    };
+    let gate = Meet::of(2);
     assert!(rt; crew_of(&rt, rt.alloc(), 2, 2, 10, &gate).is_some());
     assert_eq!(rt; gate.gave_up.load(Ordering::SeqCst), 0);
     assert_eq!(rt; gate.inside.load(Ordering::SeqCst), 2);
@@ -67,17 +75,32 @@ fn another_submits_to_a_shared_pad(rt: HostRuntime) -> Result<(), Fail> {
 
 #[test]
 fn eight_callers_see_their_own_order(rt: HostRuntime) -> Result<(), Fail> {
-    assert_eq!(rt; callers_see_their_own(&rt, rt.alloc(), 8, 50), Some(true));
+    let seen = callers_see_their_own(&rt, rt.alloc(), 8, 50, &NoGate);
+    assert_eq!(rt; seen, Some(true));
     Ok(())
 }
 
+/// The gate holds each caller inside a job of its own until all eight drain.
+#[test]
+fn eight_callers_drain_at_once(rt: HostRuntime) -> Result<(), Fail> {
+    let gate = Meet::of(8);
+    let seen = callers_see_their_own(&rt, rt.alloc(), 8, 50, &gate);
+    assert_eq!(rt; seen, Some(true));
+    assert_eq!(rt; gate.gave_up.load(Ordering::SeqCst), 0);
+    Ok(())
+}
+
+/// Nobody calls a worker, and whoever asks builds nothing: the look alone has one build.
 #[test]
 fn a_worker_builds_what_another_asks_for(rt: HostRuntime) -> Result<(), Fail> {
-    let asked = asked_beside_worker(&rt, rt.alloc());
-    assert!(rt; asked.is_some());
-    if let Some((ended, log)) = asked {
-        assert!(rt; ended == Some(Ended::Built(3)));
-        assert_eq!(rt; count_built_by(&log, 1), 1);
+    // at the second the worker sleeps before the look
+    for times in [0u32, 100_000] {
+        let asked = asked_beside_worker(&rt, rt.alloc(), times);
+        assert!(rt; asked.is_some());
+        if let Some((ended, log)) = asked {
+            assert!(rt; ended == Some(Ended::Built(3)), "{times}");
+            assert_eq!(rt; count_built_by(&log, 1), 1);
+        }
     }
     Ok(())
 }

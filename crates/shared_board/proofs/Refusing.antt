@@ -25,3 +25,11 @@ module _ {E : Type 0} (by : E → ℕ) (Kept : List E → Type 0) {T : Type 0} (
   passed_turn true f C N did gave =
       (h, met, (did.0, subst (λ xs. C xs did.0) from did.1, one by Kept told k m l h old y n own from same met kept (f did.0) true refl did.2 gave))
   passed_turn false f C N did gave = (h, met, (subst N from did.0, leaves by Kept told k m l h y same false refl gave))
+
+  -- the same, at a turn at which something else was found to be so
+  pub passed_after : (F : List E → Type 0) → F old → (r : Bool) (f : ℕ → ℕ → List E → E) (C : List E → ℕ → Type 0) (N : List E → Type 0)
+      → MatchBool r ((p : ℕ) × C old p × (told y ≡ old ++ f p n old ∷ [])) (N old × (told y ≡ old)) → Added told by m y r l
+      → AtTurn by Kept k (λ x. MatchBool r ((p : ℕ) × C x p × F x × Enters Kept k x (f p k.number x) l) (N x × F x × Leaves k x l))
+  passed_after F so true f C N did gave =
+      (h, met, (did.0, subst (λ xs. C xs did.0) from did.1, subst F from so, one by Kept told k m l h old y n own from same met kept (f did.0) true refl did.2 gave))
+  passed_after F so false f C N did gave = (h, met, (subst N from did.0, subst F from so, leaves by Kept told k m l h y same false refl gave))

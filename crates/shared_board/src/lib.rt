@@ -6,6 +6,5 @@ mod laws;
 mod sent;
 mod shared;
 
-pub use bells::Watch;
 pub use laws::known_holds;
 pub use shared::{BoardPass, SharedBoard};

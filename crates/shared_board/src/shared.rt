@@ -19,12 +19,13 @@ ghost use Rattle.turn_lock.specs.Meeting.{Meets, AtTurn, Enters, Leaves};
 ghost use Rattle.shared_board.specs.Passes.{IsPassOn};
 ghost use Rattle.shared_board.specs.Meeting.{HoldsAt};
 
-use crate::bells::{Bells, Watch};
+use crate::bells::Bells;
 use crate::laws::known_holds;
 use board::{BoardCore, BoardEntry, BoardErr, BoardLog, Entered, Slip, Taken, Work};
+use job_bells::{JobBells, Lingered, Tired, Watch};
 use kc_base::Callbacks;
 use std::alloc::{AllocError, Global};
-use std::sync::Wait;
+use std::sync::{Arc, Wait};
 use turn_lock::{Pass, Turn, TurnLock};
 
 /// What one caller knows of a board, and its right to take a turn on it.
@@ -44,7 +45,7 @@ impl<W: Work> SharedBoard<W> {
     {
         let board = BoardCore::new(alloc)?;
         let (lock, pass) = TurnLock::new(alloc, board)?;
-        let bells = Bells::new();
+        let bells = Bells::new(alloc)?;
         Ok((SharedBoard { lock, bells }, pass))
     }
 
@@ -127,7 +128,7 @@ impl<W: Work> SharedBoard<W> {
             (λ pipe. (pipe ≡ pipelines h) × Enters LegalBoard (knows pass) h (Entry.Born (knows pass).number pipe (Shaped.Queue max)) (knows result.0))
             (λ e. (e ≡ BoardErr.Memory) × Leaves (knows pass) h (knows result.0))) }
     {
-        self.bells.note_queue();
+        self.bells.jobs().note_queue();
         let caller = pass.number();
         let mut turn = self.turn(rt, pass);
         let answer = turn.get().born_queue(caller, max);
@@ -157,7 +158,7 @@ impl<W: Work> SharedBoard<W> {
             (λ pipe. (pipe ≡ pipelines h) × Enters LegalBoard (knows pass) h (Entry.Born (knows pass).number pipe (Shaped.Chain max lists)) (knows result.0))
             (λ e. (e ≡ BoardErr.Memory) × Leaves (knows pass) h (knows result.0))) }
     {
-        self.bells.note_queue();
+        self.bells.note_chain();
         let caller = pass.number();
         let mut turn = self.turn(rt, pass);
         let answer = turn.get().born_chain(caller, max, lists);
@@ -215,7 +216,7 @@ impl<W: Work> SharedBoard<W> {
         let added = answer.is_ok();
         let pass = turn.give(added);
         if added {
-            self.bells.ring_mask();
+            self.bells.jobs().ring_mask();
         }
         (pass, answer)
     }
@@ -245,7 +246,7 @@ impl<W: Work> SharedBoard<W> {
         let added = answer.is_ok();
         let pass = turn.give(added);
         if added {
-            self.bells.ring_job();
+            self.bells.jobs().ring_job();
         }
         (pass, answer)
     }
@@ -276,7 +277,7 @@ impl<W: Work> SharedBoard<W> {
         let added = answer.is_ok();
         let pass = turn.give(added);
         if is_accepted(&answer) {
-            self.bells.ring_job();
+            self.bells.jobs().ring_job();
         }
         (pass, answer)
     }
@@ -295,17 +296,54 @@ impl<W: Work> SharedBoard<W> {
             × MayFinish W.meaning (entries_of t.slip.pipe (knows result.0).seen) (knows pass).number t.slip.number (W.meaning (W.asked t.job)))) }
     {
         let caller = pass.number();
-        let unnoticed = self.bells.unnoticed();
+        let seen = self.bells.jobs().seen();
         let mut turn = self.turn(rt, pass);
         let answer = turn.get().take(caller);
         let added = answer.is_some();
         let pass = turn.give(added);
         if added {
-            self.bells.ring_next();
+            self.bells.jobs().ring_next();
         } else {
-            self.bells.forget(caller, unnoticed);
+            self.bells.jobs().forget(caller, seen);
         }
         (pass, answer)
+    }
+
+    /// Hands out a job that this caller may take, as `take` does, and where there is none passes a request of a chain on at the same turn,
+    /// as `pass_on` does. The answer says whether it did the latter. No memory is taken. It wakes as these two do.
+    pub fn take_or_pass_on<R: Wait>(
+        &self,
+        rt: &R,
+        pass: BoardPass<W>,
+    ) -> (BoardPass<W>, Option<Taken<W>>, bool)
+        requires { IsPassOn self.now pass }
+        ensures lock { IsPassOn self.now result.0 }
+        ensures turn { AtTurn caller_of LegalBoard (knows pass) (λ h. MatchOption result.1
+            (MatchBool result.2
+            ((p : ℕ) × Is is_chain (entries_of p h) × NoneFor h (knows pass).number × Enters LegalBoard (knows pass) h (pass_entry h (knows pass).number p) (knows result.0))
+            (NonePasses h × NoneFor h (knows pass).number × Leaves (knows pass) h (knows result.0)))
+            (λ t. (slice_get (submissions (entries_of t.slip.pipe h)) t.slip.number ≡ Some (W.asked t.job))
+            × Enters LegalBoard (knows pass) h (take_entry h (knows pass).number t.slip.pipe t.slip.number) (knows result.0)
+            × MayFinish W.meaning (entries_of t.slip.pipe (knows result.0).seen) (knows pass).number t.slip.number (W.meaning (W.asked t.job)))) }
+    {
+        let caller = pass.number();
+        let seen = self.bells.jobs().seen();
+        let mut turn = self.turn(rt, pass);
+        let taken = turn.get().take(caller);
+        match taken {
+            Some(job) => {
+                let pass = turn.give(true);
+                self.bells.jobs().ring_next();
+                (pass, Some(job), false)
+            }
+            None => {
+                let passed = turn.get().pass_on(caller);
+                let pass = turn.give(passed);
+                self.bells.jobs().forget(caller, seen);
+                self.bells.ring_passed(passed);
+                (pass, None, passed)
+            }
+        }
     }
 
     /// Records the outcome of a job that this caller took and hasn't finished: what the job's ask means. No memory is taken. It
@@ -328,7 +366,7 @@ impl<W: Work> SharedBoard<W> {
         turn.get().finish(caller, slip, out);
         let pass = turn.give(true);
         self.bells.ring_end();
-        self.bells.ring_next();
+        self.bells.jobs().ring_next();
         pass
     }
 
@@ -354,7 +392,7 @@ impl<W: Work> SharedBoard<W> {
             × MayFinish W.meaning (entries_of t.slip.pipe (knows result.0).seen) m.number t.slip.number (W.meaning (W.asked t.job))) }
     {
         let caller = pass.number();
-        let unnoticed = self.bells.unnoticed();
+        let seen = self.bells.jobs().seen();
         let mut turn = self.turn(rt, pass);
         turn.get().finish(caller, slip, out);
         let mut turn = turn.note();
@@ -363,10 +401,10 @@ impl<W: Work> SharedBoard<W> {
         let pass = turn.give(added);
         self.bells.ring_end();
         if added {
-            self.bells.notice();
-            self.bells.ring_next();
+            self.bells.jobs().notice_taken(seen);
+            self.bells.jobs().ring_next();
         } else {
-            self.bells.forget(caller, unnoticed);
+            self.bells.jobs().forget(caller, seen);
         }
         (pass, next)
     }
@@ -433,7 +471,7 @@ impl<W: Work> SharedBoard<W> {
         let added = answer.is_ok();
         let pass = turn.give(added);
         if added {
-            self.bells.ring_job();
+            self.bells.jobs().ring_job();
         }
         (pass, answer)
     }
@@ -535,9 +573,9 @@ impl<W: Work> SharedBoard<W> {
         (turn.give(false), answer)
     }
 
-    /// Announces a wait for a job to be taken, or for the end of the board.
-    pub fn watch_jobs(&self) -> Watch<'_> {
-        self.bells.watch_jobs()
+    /// Announces a wait for a job to be taken, or for the end of the board, of a worker that stays awake no longer.
+    pub fn watch_jobs(&self, tired: Tired) -> Watch<'_> {
+        self.bells.jobs().watch_jobs(tired)
     }
 
     /// Announces a wait for a job to be finished, a request to be passed on, or the end of the board.
@@ -548,26 +586,41 @@ impl<W: Work> SharedBoard<W> {
     /// Counts as a job that came, since something else than a job may be there for a worker: wakes one that sleeps, unless enough
     /// stay awake, and all of them once a pad was masked.
     pub fn call_worker(&self) {
-        self.bells.ring_job();
+        self.bells.jobs().ring_job();
+    }
+
+    /// The bells of the board's workers, for another who has something for them to find. The error is that memory was refused.
+    pub fn job_bells(&self) -> Result<Arc<JobBells, Global>, AllocError> {
+        self.bells.share_jobs()
     }
 
     /// Whether a worker that did a job may find another: a hint that takes no turn. True may have noticed a job that came, for which
     /// nobody else then stays awake or is woken: who gets it has to look at the board by a turn. Who gets false stays awake for a
-    /// while (`linger`), or announces a wait and looks at the board once more.
+    /// while (`linger`), and announces a wait and looks at the board once more.
     pub fn may_have_job(&self) -> bool {
-        self.bells.may_have_job()
+        self.bells.jobs().may_have_job()
     }
 
     /// Stays awake for a while for a job to come: a hint that takes no turn. Jobs are left to who stays awake, and wake nobody else, so
-    /// it has to look at the board by a turn afterwards: who gets true at once, since that has noticed a job, and who gets false once
-    /// it has announced a wait, before it sleeps.
-    pub fn linger(&self) -> bool {
-        self.bells.linger()
+    /// it has to look at the board by a turn afterwards: who is roused at once, since that has noticed a job, and who is tired once
+    /// it has announced a wait (`watch_jobs`), before it sleeps.
+    pub fn linger(&self) -> Lingered {
+        self.bells.jobs().linger()
+    }
+
+    /// Sleeps for a millisecond, as a worker does that lacks memory before it tries again.
+    pub fn pause<R: Wait>(&self, rt: &R) {
+        self.bells.jobs().pause(rt);
     }
 
     /// Whether the board may be shut: a hint that takes no turn.
     pub fn may_be_shut(&self) -> bool {
-        self.bells.is_over()
+        self.bells.jobs().is_over()
+    }
+
+    /// Whether some chain may have been made: a hint that takes no turn.
+    pub fn may_have_chains(&self) -> bool {
+        self.bells.has_chains()
     }
 
     /// The history, at the board's end: it begins with all that the pass has seen, and has of the pass's number, and of each

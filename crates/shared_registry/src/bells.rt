@@ -1,22 +1,10 @@
 //! What wakes those who wait for the registry. It holds no fact: who is woken looks again.
 
-use crossbeam_utils::sync::{EventCount, Key};
-use std::sync::Wait;
+use crossbeam_utils::sync::EventCount;
+use job_bells::{JobBells, Watch};
+use std::alloc::Global;
 use std::sync::atomic::{AtomicUsize, Ordering};
-
-/// A wait that is announced. Whoever announced it looks at the registry once more, and waits only if nothing changed.
-#[derive(Drop)]
-pub struct Watch<'a> {
-    key: Key<'a>,
-}
-
-impl<'a> Watch<'a> {
-    /// Sleeps until something has happened since the wait was announced.
-    pub fn wait<R: Wait>(self, rt: &R) {
-        let Watch { key } = self;
-        key.wait(rt);
-    }
-}
+use std::sync::{Arc, OnceLock};
 
 /// The bells of a registry.
 #[derive(Drop)]
@@ -26,6 +14,8 @@ pub(crate) struct Bells {
     /// How many larvals began, and how many were claimed: a hint, for those who look before they take a turn.
     begun: AtomicUsize,
     claimed: AtomicUsize,
+    /// Those of the workers that build, once there are any.
+    workers: OnceLock<Arc<JobBells, Global>>,
 }
 
 impl Bells {
@@ -34,18 +24,29 @@ impl Bells {
             ends: EventCount::new(),
             begun: AtomicUsize::new(0),
             claimed: AtomicUsize::new(0),
+            workers: OnceLock::new(),
         }
     }
 
     pub(crate) fn watch_ends(&self) -> Watch<'_> {
-        Watch {
-            key: self.ends.prepare_wait(),
-        }
+        Watch::on(&self.ends)
     }
 
-    /// A larval began.
+    /// Workers look here before they sleep, and are woken by these bells. The first that are given stay.
+    pub(crate) fn note_workers(&self, workers: Arc<JobBells, Global>) {
+        let _ = self.workers.try_set(workers);
+    }
+
+    /// A larval began, at a turn that isn't given back yet.
     pub(crate) fn note_begin(&self) {
         self.begun.fetch_add(1, Ordering::SeqCst);
+    }
+
+    /// A larval began, at a turn that is given back. It wakes a worker that sleeps, unless enough stay awake.
+    pub(crate) fn ring_begin(&self) {
+        if let Some(workers) = self.workers.get() {
+            workers.ring_job();
+        }
     }
 
     /// A larval was claimed.

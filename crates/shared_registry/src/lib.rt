@@ -10,7 +10,6 @@ mod sharing;
 #[cfg(test)]
 mod tests;
 
-pub use bells::Watch;
 pub use building::{build_one, resolve, settle};
 pub use faithful_registry::FaithfulRegistry;
 pub use sharing::{RegPass, SharedRegistry};

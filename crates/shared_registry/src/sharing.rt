@@ -16,14 +16,15 @@ ghost use Rattle.shared_registry.specs.Passes.{IsSound, EntersIf, recorded, give
 ghost use Rattle.shared_registry.specs.Learned.{RegistryLaws};
 ghost use Rattle.shared_registry.specs.Own.{IsOpen, MayHand, MayLook};
 
-use crate::bells::{Bells, Watch};
+use crate::bells::Bells;
 use crate::faithful_registry::FaithfulRegistry;
 use crate::laws::registry_laws;
 use alg_registry::{
     Claimed, Ended, Listing, Looked, RefAnswer, RegEntry, RegErr, RegLog, Spec, Wrap,
 };
+use job_bells::{JobBells, Watch};
 use std::alloc::{AllocError, Global};
-use std::sync::Wait;
+use std::sync::{Arc, Wait};
 use turn_lock::{Pass, Turn, TurnLock};
 
 /// What one caller knows of the registry's history, and its right to take a turn. Its number is the caller; 1 to 16 are
@@ -58,6 +59,11 @@ fn is_given<A>(answer: &Result<Option<A>, RegErr>) -> bool
     }
 }
 
+/// Whether a larval began.
+fn has_begun(answer: &Result<Looked, RegErr>) -> bool {
+    matches!(answer, Ok(Looked::Began(_)))
+}
+
 impl SharedRegistry {
     ghost use Rattle.shared_registry.specs.Passes.{IsPassOn};
 
@@ -74,6 +80,12 @@ impl SharedRegistry {
     /// Announces a wait for a larval to end.
     pub fn watch_ends(&self) -> Watch<'_> {
         self.bells.watch_ends()
+    }
+
+    /// From now on a look that begins a larval wakes a worker by these bells, which wake those that sleep on a board and build
+    /// for this registry. The first that are given stay.
+    pub fn note_workers(&self, workers: Arc<JobBells, Global>) {
+        self.bells.note_workers(workers);
     }
 
     /// Whether there may be a larval that nobody has claimed: a hint that takes no turn. It is no fact. While a larval
@@ -127,7 +139,8 @@ impl SharedRegistry {
     /// `plain`, which no worker may do, for any entry; with it, for an entry that isn't wrapped, where the text is the next child of
     /// what the caller claimed last.
     ///
-    /// A larval begins where nothing is found and the text has a parenthesis. `Memory` is the only refusal.
+    /// A larval begins where nothing is found and the text has a parenthesis. That wakes a worker, where workers build for this
+    /// registry (`note_workers`). `Memory` is the only refusal.
     pub fn look<R: Wait>(
         &self,
         rt: &R,
@@ -144,11 +157,16 @@ impl SharedRegistry {
         let by = pass.number();
         let mut turn = self.turn(rt, pass);
         let answer = turn.get().look(by, text, plain);
-        if let Ok(Looked::Began(_)) = answer {
+        let began = has_begun(&answer);
+        if began {
             self.bells.note_begin();
         }
         let added = answer.is_ok();
-        (turn.give(added), answer)
+        let pass = turn.give(added);
+        if began {
+            self.bells.ring_begin();
+        }
+        (pass, answer)
     }
 
     /// Claims the larval of this number, or the oldest one that nobody has claimed.

@@ -1,5 +1,5 @@
 use Rattle.turn_lock.specs.Passes.{knows}
 use Rattle.crew.proofs.both.work_or_build.Goals as goal
 
-pub returns-then-worked-clause-worked : goal.returns-then-worked-clause-worked
-returns-then-worked-clause-worked g c = record { board = c.work_some-on_board.ensures.worked; registry = c.building_goes_on.ensures.still (knows c.args.passes.registry) }
+pub returns-clause-worked : goal.returns-clause-worked
+returns-clause-worked g c = record { board = c.work_in_turn-on_board.ensures.worked; registry = c.build_if_any-on_registry.ensures.works }

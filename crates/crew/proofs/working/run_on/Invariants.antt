@@ -6,6 +6,5 @@ use Rattle.crew.proofs.working.run_on.Given as goal
 
 abbrev pub invariant-loop : goal.invariant-loop
 invariant-loop g l =
-    (goal.iterator-loop g).can_next l.iterator' × (goal.iterator-loop g).is_finite l.iterator'
-    × IsPassOn l.fn.board l.mine × Worked (knows l.fn.pass) (knows l.mine)
+    IsPassOn l.fn.board l.mine × Worked (knows l.fn.pass) (knows l.mine)
     × IfSome l.next (λ next. HasTaken g.W.Work.meaning (knows l.mine) next.slip.pipe next.slip.number (g.W.Work.asked next.job))

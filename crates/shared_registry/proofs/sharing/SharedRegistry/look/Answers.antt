@@ -28,7 +28,7 @@ returns-clause-turn g c =
     let kept = subst IsFaithful (sym v) t.faithful in
     let met = meets caller_of IsFaithful (knows c.args.pass) h shows kept in
     let same = t.sees ∙ ap (sees (knows c.args.pass)) (sym v) in
-    (h, met, ok_gave (knows c.args.pass) _ h c.look-answer.new.self _ same c.look-answer.ensures.faithful _ c.look-answer.result (λ n x. Look n c.args.text.now c.args.plain x) _ _ c.number-by.ensures c.is_ok-added.ensures.value c.look-answer.ensures.answer c.look-answer.ensures.history c.look-answer.ensures.memory c.give.ensures.view)
+    (h, met, ok_gave (knows c.args.pass) _ h c.look-answer.new.self _ same c.look-answer.ensures.faithful _ c.look-answer.result (λ n x. Look n c.args.text.now c.args.plain x) _ _ c.number-by.ensures c.is_ok-added.ensures.value c.look-answer.ensures.answer c.look-answer.ensures.history c.look-answer.ensures.memory c.give-pass.ensures.view)
 
 pub returns-clause-sound : goal.returns-clause-sound
 returns-clause-sound g c =
@@ -38,4 +38,4 @@ returns-clause-sound g c =
     let met = meets caller_of IsFaithful (knows c.args.pass) h shows kept in
     let same = t.sees ∙ ap (sees (knows c.args.pass)) (sym v) in
     sound_ok (knows c.args.pass) _ h (λ x. Look (knows c.args.pass).number c.args.text.now c.args.plain x) _ c.look-answer.result (λ x. refl) met
-    (ok_gave (knows c.args.pass) _ h c.look-answer.new.self _ same c.look-answer.ensures.faithful _ c.look-answer.result (λ n x. Look n c.args.text.now c.args.plain x) _ _ c.number-by.ensures c.is_ok-added.ensures.value c.look-answer.ensures.answer c.look-answer.ensures.history c.look-answer.ensures.memory c.give.ensures.view)
+    (ok_gave (knows c.args.pass) _ h c.look-answer.new.self _ same c.look-answer.ensures.faithful _ c.look-answer.result (λ n x. Look n c.args.text.now c.args.plain x) _ _ c.number-by.ensures c.is_ok-added.ensures.value c.look-answer.ensures.answer c.look-answer.ensures.history c.look-answer.ensures.memory c.give-pass.ensures.view)

@@ -1,0 +1,212 @@
+//! The bells, and those who stand at them.
+
+use crate::counted::{Counted, Seen};
+use crossbeam_utils::sync::{EventCount, Key};
+use crossbeam_utils::{Backoff, CachePadded};
+use std::sync::Wait;
+use std::sync::atomic::{AtomicBool, AtomicU64, Ordering};
+use std::time::Duration;
+
+/// How often a worker that stays awake looks for a job that came: some 50 microseconds. From the eighth time on it leaves the processor
+/// to others in between.
+const PATIENCE: u32 = 100;
+
+/// The callers 1 to so many are workers.
+const WORKERS: u32 = 16;
+
+/// A worker that gave up staying awake. It can only announce a wait (`watch_jobs`): a value that is let go is refused. So whoever jobs
+/// were left to while it stayed awake looks once more before it sleeps.
+pub struct Tired {
+    awake: bool,
+}
+
+/// What staying awake came to.
+pub enum Lingered {
+    /// A job came, and nobody else may have been woken for it: the worker looks at the board.
+    Roused,
+    /// None came.
+    Tired(Tired),
+}
+
+/// A wait that is announced. Whoever announced it looks at the board once more, and waits only if there is nothing.
+#[derive(Drop)]
+pub struct Watch<'a> {
+    key: Key<'a>,
+}
+
+impl<'a> Watch<'a> {
+    /// A wait on an event count.
+    pub fn on(event: &'a EventCount) -> Watch<'a> {
+        Watch {
+            key: event.prepare_wait(),
+        }
+    }
+
+    /// Sleeps until something has happened since the wait was announced.
+    pub fn wait<R: Wait>(self, rt: &R) {
+        let Watch { key } = self;
+        key.wait(rt);
+    }
+}
+
+/// The bells of a board's workers. What each job changes has cache lines of its own, since the rest is read at each turn.
+#[derive(Drop)]
+pub struct JobBells {
+    /// Rings where a job may be taken.
+    jobs: CachePadded<EventCount>,
+    /// How many jobs came, and how many of these are unnoticed.
+    counted: Counted,
+    /// How many workers stay awake for a job.
+    awake: CachePadded<AtomicU64>,
+    /// Whether the board may be shut: a hint, for those who look before they take a turn.
+    over: AtomicBool,
+    /// Whether some pad was masked: then one worker that is woken may not be one that may take the job.
+    masked: AtomicBool,
+    /// Whether some queue or chain was made: then a job may be ready that was never counted, as a queue's next is once the one
+    /// before it is finished.
+    queues: AtomicBool,
+    /// Nobody changes it or wakes who sleeps on it.
+    pause: AtomicU64,
+}
+
+impl JobBells {
+    pub fn new() -> JobBells {
+        JobBells {
+            jobs: CachePadded::new(EventCount::new()),
+            counted: Counted::new(),
+            awake: CachePadded::new(AtomicU64::new(0)),
+            over: AtomicBool::new(false),
+            masked: AtomicBool::new(false),
+            queues: AtomicBool::new(false),
+            pause: AtomicU64::new(0),
+        }
+    }
+
+    /// A job came, or something else for which a worker has to look. It wakes a worker that sleeps, where fewer stay awake than are
+    /// unnoticed. (`Count` or `Call`, then `Leave` or `Ring`.)
+    pub fn ring_job(&self) {
+        let before = self.counted.count();
+        if self.masked.load(Ordering::SeqCst) {
+            self.jobs.notify_all();
+        } else if before >= self.awake.load(Ordering::SeqCst) {
+            self.jobs.notify_one();
+        }
+    }
+
+    /// A job was taken, or finished with no look for the next. Where there are queues another may be ready for which no call
+    /// rings, and it wakes a worker that sleeps, unless some stay awake: each of these looks at the board by a turn before it
+    /// sleeps, and comes here again where it takes a job. So two that became ready are not left to one worker for longer than it
+    /// stays awake. It counts nothing, since more often than not there is none. (`Leave_next` or `Ring_next`.)
+    pub fn ring_next(&self) {
+        if self.queues.load(Ordering::SeqCst) && self.awake.load(Ordering::SeqCst) == 0 {
+            self.jobs.notify_one();
+        }
+    }
+
+    /// A queue or a chain is made.
+    pub fn note_queue(&self) {
+        self.queues.store(true, Ordering::SeqCst);
+    }
+
+    /// The counted word, to be read before a turn.
+    pub fn seen(&self) -> Seen {
+        self.counted.seen()
+    }
+
+    /// A worker found no job at a turn, so those that were unnoticed before it are taken. If one came meanwhile, nothing is forgotten.
+    /// Only a worker forgets (the callers 1 to 16): another finds none for itself, where some may be left to a worker that stays
+    /// awake. What is counted though it was taken does no harm, since the next worker that finds nothing forgets it. (`Forget` or
+    /// `Keep`.)
+    pub fn forget(&self, caller: u32, seen: Seen) {
+        if 1 <= caller && caller <= WORKERS {
+            self.counted.forget(seen);
+        }
+    }
+
+    /// A job was taken at the turn at which another was finished: it is noticed, where none came since before that turn.
+    /// (`Notice_taken` or `Run_on`.)
+    pub fn notice_taken(&self, seen: Seen) {
+        let _ = self.counted.notice_seen(seen);
+    }
+
+    /// Notices a job, if one is unnoticed.
+    fn notice(&self) -> bool {
+        self.counted.notice_seen(self.seen())
+    }
+
+    /// Whether a worker that did a job may find another, which it has then noticed. Who gets true looks at the board.
+    /// (`Notice_between`, `Look_anyway` or `Notice_none`.)
+    pub fn may_have_job(&self) -> bool {
+        let is_rung_for_each = !self.queues.load(Ordering::SeqCst)
+            && !self.masked.load(Ordering::SeqCst);
+        !is_rung_for_each || self.notice()
+    }
+
+    /// Notices a job that comes within a while, unless the board may be shut first. (`Notice_while_awake`.)
+    fn notice_soon(&self) -> bool {
+        let backoff = Backoff::new();
+        for _ in 0..PATIENCE {
+            if self.is_over() {
+                return false;
+            }
+            if self.notice() {
+                return true;
+            }
+            backoff.snooze();
+        }
+        false
+    }
+
+    /// Whether more are unnoticed than workers stay awake. The order of the two reads matters.
+    fn is_left_over(&self) -> bool {
+        let unnoticed = self.counted.unnoticed();
+        unnoticed > self.awake.load(Ordering::SeqCst)
+    }
+
+    /// Stays awake for a while, where any worker may take any job. Further ones that came meanwhile may have been left to this
+    /// worker too, so it wakes another where more are unnoticed than others stay awake: who was still awake here looks later, since
+    /// each looks at the board after it is no longer counted. (`Linger`, then `Rouse` and `Read_unnoticed`, or `Give_up`.)
+    pub fn linger(&self) -> Lingered {
+        if self.masked.load(Ordering::SeqCst) {
+            return Lingered::Tired(Tired { awake: false });
+        }
+        self.awake.fetch_add(1, Ordering::SeqCst);
+        let came = self.notice_soon();
+        self.awake.fetch_sub(1, Ordering::SeqCst);
+        if !came {
+            return Lingered::Tired(Tired { awake: false });
+        }
+        if self.is_left_over() {
+            self.jobs.notify_one();
+        }
+        Lingered::Roused
+    }
+
+    /// Announces a wait for a job to be taken, or for the end of the board. (`Announce` and `Read_epoch`.)
+    pub fn watch_jobs(&self, tired: Tired) -> Watch<'_> {
+        let Tired { awake: _ } = tired;
+        Watch::on(&self.jobs)
+    }
+
+    /// Sleeps for a millisecond, as one does who lacks memory before it tries again.
+    pub fn pause<R: Wait>(&self, rt: &R) {
+        self.pause.park_timeout(rt, 0, Duration::from_millis(1));
+    }
+
+    /// Other workers may take a pad's jobs.
+    pub fn ring_mask(&self) {
+        self.masked.store(true, Ordering::SeqCst);
+        self.jobs.notify_all();
+    }
+
+    /// The board is shut.
+    pub fn ring_over(&self) {
+        self.over.store(true, Ordering::SeqCst);
+        self.jobs.notify_all();
+    }
+
+    /// Whether the board may be shut.
+    pub fn is_over(&self) -> bool {
+        self.over.load(Ordering::SeqCst)
+    }
+}

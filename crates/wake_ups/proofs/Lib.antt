@@ -1,0 +1,5 @@
+pub mod Keeps
+pub mod Runs
+pub mod QueuedRuns
+pub mod Words
+pub mod Examples
