@@ -3,7 +3,6 @@ use Rattle.std.proofs.Common.{◌≡◌, ℕ, ◌-◌, ◌^◌, ◌≤◌, max, 
 use Rattle.std.proofs.Math.Nat.{max-eq_left}
 use lib.Count.{ones-ones}
 use Rattle.board.specs.declared.entry.Entered.{Entered}
-use Rattle.board.specs.declared.entry.Entered.TheVariants.{InProgress, Busy, NoSpace}
 use Rattle.board.specs.declared.entry.Shape.{Shape}
 use Rattle.board.specs.declared.entry.Shape.TheVariants as shape
 use Rattle.board.specs.declared.pipeline.Pipeline.{Pipeline}

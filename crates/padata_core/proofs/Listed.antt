@@ -35,8 +35,8 @@ first_cases lists k low to many at (e ∷ es) r h ih (inl m) true f =
     let rest : IsRow lists k (low + 1) to es = subst (λ n. IsRow lists k (n + 1) to es) same r.3 in
     taken lists k low (at low) e.1 (outcomes_from at (suc low) many) (eq-eqb (low % lists) k m) first
     ∙ (ap (λ xs. (low, e.1) ∷ xs) (ih es rest (λ n l q. (
-        let other : (e.0 == n) ≡ false = false_from_ne_true (e.0 == n) (λ p. (let z : e.0 ≡ n = eqb-true e.0 n p in absurd (omega arith))) in
-        h n (omega arith) q ∙ rw other refl)))
+    let other : (e.0 == n) ≡ false = false_from_ne_true (e.0 == n) (λ p. (let z : e.0 ≡ n = eqb-true e.0 n p in absurd (omega arith))) in
+    h n (omega arith) q ∙ rw other refl)))
     ∙ subst (λ n. (n, e.1) ∷ es ≡ e ∷ es) same refl)
 
 -- a sorted list of numbers of one rest is what is read off the outcomes that it holds
@@ -45,10 +45,10 @@ listed lists k low to zero at [] q r h = refl
 listed lists k low to zero at (e ∷ es) q r h = (let a = r.0 in let b = r.1 in absurd (omega arith))
 listed lists k low to (suc many) at es q r h =
     first_cases lists k low to many at es r h (λ rest s g. (
-        let next : suc low ≡ low + 1 = omega arith in
-        let back : low + 1 ≡ suc low = omega arith in
-        subst (λ m. with_rest lists k m (outcomes_from at (suc low) many) ≡ rest) next
-        (listed lists k (suc low) to many at rest (omega arith) (subst (λ m. IsRow lists k m to rest) back s) (λ n l m. g n (omega arith) m))))
+    let next : suc low ≡ low + 1 = omega arith in
+    let back : low + 1 ≡ suc low = omega arith in
+    subst (λ m. with_rest lists k m (outcomes_from at (suc low) many) ≡ rest) next
+    (listed lists k (suc low) to many at rest (omega arith) (subst (λ m. IsRow lists k m to rest) back s) (λ n l m. g n (omega arith) m))))
     (cases_eq (low % lists) k) (first_is low es) refl
 
 -- a list of a pipeline

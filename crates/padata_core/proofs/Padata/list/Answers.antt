@@ -1,4 +1,4 @@
-use Rattle.std.proofs.Common.{◌≡◌, ◌<◌, sym, subst, ◌∙◌}
+use Rattle.std.proofs.Common.{◌<◌, sym, subst, ◌∙◌}
 use Rattle.padata_core.specs.Pad.{Pad}
 use Rattle.padata_core.proofs.Listed.{list_is}
 use Rattle.padata_core.proofs.Padata.list.Goals as goal

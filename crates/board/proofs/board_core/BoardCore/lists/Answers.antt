@@ -1,5 +1,5 @@
 use Rattle.std.specs.Prelude.{IsSome}
-use Rattle.std.proofs.Common.{inl, true, refl, sym, ◌∙◌, ap, subst}
+use Rattle.std.proofs.Common.{inl, refl, sym, ◌∙◌, ap, subst}
 use Rattle.board.specs.Entries.{entries_of, lists_for}
 use Rattle.board.specs.Legal.{IsOpenPad}
 use Rattle.board.specs.Places.{places}
