@@ -7,8 +7,9 @@ use Rattle.std.proofs.lemmas.List.{drop-drop, get_or-map, get_or-set_other, get_
 use Rattle.std.specs.Global.{Vec}
 use Rattle.std_defs.specs.Blocks.{xor_blocks, text_block, joined}
 use Rattle.std_defs.specs.Modes.{cbc_block, cbc_seal}
+use Rattle.std_defs.proofs.Joined.{joined_same, joined-add}
 use Rattle.cbc_mode.proofs.InPlace.{next_block, unread}
-use Rattle.cbc_mode.proofs.Pieces.{block_of_piece, joined_more, joined_same}
+use Rattle.cbc_mode.proofs.Pieces.{block_of_piece}
 
 -- the ciphertext blocks of a text, from the first on
 abbrev pub blocks_of : (List ℕ → List ℕ) → List ℕ → List ℕ → ℕ → List ℕ
@@ -82,7 +83,7 @@ sealed_rest s iv orig now new chain k n len held whole within was e =
     ap (λ (a : ℕ). drop a now) (sym place) ∙ sym (drop-drop (16 * n) (16 * k) now) ∙ ap (drop (16 * n)) behind ∙ drop-drop (16 * n) (16 * k) orig ∙ ap (λ (a : ℕ). drop a orig) place in
     let sealed : joined (blocks_of s chain piece) n ≡ joined (λ j. f (k + j)) n =
     sealed_of_piece s iv orig piece chain k (len - 16 * k) (ap (take (len - 16 * k)) behind) was n (omega arith) in
-    e ∙ ap₂ (λ (a b : List ℕ). a ++ b) (ap₂ (λ (a b : List ℕ). a ++ b) front sealed) back ∙ ap (λ (xs : List ℕ). xs ++ drop len orig) (sym (joined_more f k n))
+    e ∙ ap₂ (λ (a b : List ℕ). a ++ b) (ap₂ (λ (a b : List ℕ). a ++ b) front sealed) back ∙ ap (λ (xs : List ℕ). xs ++ drop len orig) (sym (joined-add f k n))
 
 plain : (j : ℕ) → 0 + j ≡ j
 plain j = omega arith
