@@ -11,13 +11,13 @@ use Rattle.dialogues.specs.Names.{driver_spec}
 use Rattle.dialogues.specs.Registering.{enlist_said, register, enlist_spec}
 use Rattle.dialogues.specs.Dialogues.{Dialogue, Ends, Says, Asks as AsksFor, says, refuses, unless}
 use Rattle.dialogues.specs.Questions.{RegQuestion, RegAnswer, Enlist, reg_call, ListAll}
-use Rattle.dialogues.specs.Walk.{Walk, Live, Pipe}
+use Rattle.dialogues.specs.Walk.{Walk, Live}
 use Rattle.alg_registry.specs.declared.listing.ListRow.{ListRow}
 use Rattle.dialogues.specs.RegistryCalls.{RegCall, Lists}
 use Rattle.script_session.specs.States.{State, Stands, Posted}
 use Rattle.session_calls.specs.Passes.{RegPass, BoardPass, known, lock_of}
 use Rattle.session_calls.specs.Asking.{Asked, Asks}
-use Rattle.session_calls.specs.Pipelines.{Called, Kept, Changed}
+use Rattle.session_calls.specs.Pipelines.{Called, Kept}
 use Rattle.turn_lock.specs.Turns.{Known}
 use Rattle.alg_registry.specs.declared.entry.RegEntry.{RegEntry}
 use Rattle.board.specs.declared.entry.BoardEntry.{BoardEntry}
@@ -63,9 +63,6 @@ called-sees k l calls called unshut = record { more = record { number = called.n
 
 pub kept-sees : (k l : Known (BoardEntry Ask)) → Kept k l → SeesOn k l
 kept-sees k l kept = called-sees k l [] kept.called kept.unshut
-
-pub changed-sees : (k l : Known (BoardEntry Ask)) (pipe pipe' : Pipe) (calls : List BoardCall) (asks : List Ask) → Changed k l pipe pipe' calls asks → SeesOn k l
-changed-sees k l pipe pipe' calls asks changed = called-sees k l calls changed.called changed.unshut
 
 asked-more-seen : (k l : Known RegEntry) (calls : List RegCall) → Asked k l calls → HasSeenMore k l
 asked-more-seen k l calls asked = record { number = asked.number; next = asked.next; seen = (asked.are.more, asked.are.goes_on) }

@@ -42,9 +42,6 @@ rest-free : (b : Bool) (n : ℕ) → cond b 1 0 + n ≡ 0 → n ≡ 0
 rest-free true n e = absurd (omega (arith, e))
 rest-free false n e = omega (arith, e)
 
-All-one : {X : Type 0} (P : X → Type 0) (x : X) → P x → All P (x ∷ [])
-All-one P x p = All-cons P x [] p (All-nil P)
-
 pub All-left : {X : Type 0} (P : X → Type 0) (xs ys : List X) → All P (xs ++ ys) → All P xs
 All-left P [] ys all = All-nil P
 All-left P (x ∷ xs) ys all = All-cons P x xs (All-head P x (xs ++ ys) all) (All-left P xs ys (All-tail P x (xs ++ ys) all))

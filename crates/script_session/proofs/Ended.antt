@@ -94,12 +94,6 @@ drains-last k l live live' pipe count callbacks answers answers' has drained cou
           ∙ ap (λ c. map notice_said notices ++ end_said live.label c) (counts ∙ sym (count-is pipe.lines callbacks)));
     }
 
--- it has handed all out
-pub paid-last : (live live' : Live) (pipe : Pipe) (count : ℕ) (callbacks : List (Callback Finished)) → live.pipe ≡ Some pipe → count ≡ completions callbacks → live' ≡ delivering live count
-    → pipe.delivered + completions callbacks ≡ length pipe.lines → IsPaid live'.pipe
-paid-last live live' pipe count callbacks has counts is all =
-    subst (λ (x : Live). IsPaid x.pipe) (sym (delivered-live live live' pipe count callbacks has counts is)) all
-
 -- ---- the whole end
 
 leads-end : (walk : Walk) (a c : List BoardCall) (x y : List Answer) → LeadsBy (let_all_go walk.lives) a x → LeadsBy (drain_all walk.lives) c y

@@ -99,9 +99,6 @@ has-seen-more more = record { number = more.number; next = more.next; seen = mor
 pub seen-more-then : {E : Type 0} (k l m : Known E) → HasSeenMore k l → HasSeenMore l m → HasSeenMore k m
 seen-more-then k l m a b = record { number = b.number ∙ a.number; next = b.next ∙ a.next; seen = starts-trans k.seen l.seen m.seen a.seen b.seen }
 
-pub sees-then : {r r1 r2 : Option RegPass} → SeesMore r r1 → SeesMore r1 r2 → SeesMore r r2
-sees-then {r} {r1} {r2} a b = record { lock = b.lock ∙ a.lock; number = b.number ∙ a.number; next = b.next ∙ a.next; seen = starts-trans (known r).seen (known r1).seen (known r2).seen a.seen b.seen }
-
 pub created-sees : (shape : Option Shape) (pipe : Option Pipe) (k l : Known (BoardEntry Ask)) → Created shape pipe k l → SeesOn k l
 created-sees None pipe k l created = subst (SeesOn k) (sym created.1) (sees-same k)
 created-sees (Some shape) pipe k l created = called-sees k l _ created.2.changed.called created.2.changed.unshut
@@ -265,9 +262,6 @@ module _ {ws c : ℕ} {lives : List Live} {q v : ℕ} {r : Option RegPass} {b : 
   look-stands {r'} text id stands found =
       let stands0 : Stands lives (known r) = subst (λ (x : State). Stands x.walk.lives (known x.registry)) (sym view) stands in
       stands-more lives lives (known r) (known r') (Looks text (Some (Entry id found.0)) ∷ []) stands0 found.1.asked (λ other. refl)
-
-  pub look-there : {r' : Option RegPass} (text : List ℕ) (id : ℕ) → Finds r r' text (Ok id) → (spec : Spec) × (slice_get (registered (known r').seen) id ≡ Some spec)
-  look-there text id found = (found.0, found.2)
 
   found-holds : {r' : Option RegPass} (s' : State) (n : ℕ) (label text : List ℕ) (len : Option ℕ) (id : ℕ) (answers answers' : List Answer) → Finds r r' text (Ok id)
       → Bound (viewed ws c lives q v r' b) s' n label len id answers answers' → Holds (looks s.workers s.walk n label text len) s s' answers answers'

@@ -1,5 +1,5 @@
 -- Parts of the end of input, one after another.
-use Rattle.std.proofs.Common.{◌≡◌, ℕ, Bool, true, false, List, [], ◌∷◌, ◌++◌, map, Option, Some, None, refl, sym, ap, ◌∙◌, append_assoc}
+use Rattle.std.proofs.Common.{◌≡◌, ℕ, true, false, List, [], ◌∷◌, ◌++◌, map, Option, Some, None, refl, sym, ap, ◌∙◌, append_assoc}
 use Rattle.std.specs.Prelude.{if◌then◌else◌}
 use Rattle.reply_text.specs.declared.answers.Answer.{Answer}
 use Rattle.dialogues.specs.BoardCalls.{BoardCall, Notice, Goes, Collects}
@@ -23,9 +23,6 @@ pub leads-same : (d e : Dialogue → Dialogue) (calls : List BoardCall) (said : 
 leads-same d e calls said same leads = λ rest r b. ap (λ x. turn_of x r (calls ++ b)) (same rest) ∙ leads rest r b
 
 -- ---- one transform
-
-if_held : Pipe → Bool → Dialogue → Dialogue
-if_held pipe held rest = if held then (Posts (Go pipe.number) λ done. rest) else rest
 
 pub goes-none : (pipe : Option Pipe) → pipe ≡ None → LeadsBy (lets_go pipe) [] []
 goes-none pipe none = leads-same (λ rest. rest) (lets_go pipe) [] [] (λ rest. ap (λ p. lets_go p rest) none) leads-nothing

@@ -147,12 +147,6 @@ drain-holds k l live live' pipe n count callbacks answers answers' has free drai
           ∙ (ap (λ c. map notice_said notices ++ said.Drained n c ∷ []) (counts ∙ sym (count-is pipe.lines callbacks)) ∙ sym (append-nil (map notice_said notices ++ said.Drained n (completed_in notices) ∷ []))));
     })
 
--- it hands out no more than it accepted
-pub may-deliver : (live : Live) (pipe : Pipe) (count : ℕ) (callbacks : List (Callback Finished)) → live.pipe ≡ Some pipe → pipe.delivered + completions callbacks ≡ length pipe.lines → count ≡ completions callbacks → MayDeliver count live.pipe
-may-deliver live pipe count callbacks has all counts =
-    let le : pipe.delivered + count ≤ length pipe.lines = omega (arith, all, counts) in
-    subst (MayDeliver count) (sym has) le
-
 -- ---- requests
 
 -- nothing is asked, while others go on

@@ -76,9 +76,6 @@ settle-on k l own (Err errno) goes may = tt
 goes-nowhere : (r : Option RegPass) → Goes r r []
 goes-nowhere r = record { lock = refl; goes = stays caller_of IsFaithful (known r) }
 
-pub more-nowhere : (r : Option RegPass) → SeesMore r r
-more-nowhere r = goes-more [] (goes-nowhere r)
-
 -- what is said of a look that was made, or not
 abbrev pub LooksFor : Option RegPass → Option RegPass → List ℕ → Result Sought Errno → Type 0
 LooksFor before after text look = IsRead text look × Goes before after (entry_of (known before).number look) × MaySettle (known after) look
@@ -94,9 +91,6 @@ look-made {before} {after} text name look read spelled same goes sound = (
         (has-last (IsLook (known after).number look.text look.looked) (known before).made (look_entry (known before).number look) (sym goes.goes.number, refl, refl)),
   ),
 )
-
-pub look-refused : (r : Option RegPass) (text : List ℕ) (errno : Errno) → name_read text ≡ Err errno → LooksFor r r text (Err errno)
-look-refused r text errno read = (read, goes-nowhere r, tt)
 
 pub look-seen : {before after : Option RegPass} → (text : List ℕ) (look : Result Sought Errno) → LooksFor before after text look → SeesMore before after
 look-seen {before} text look one = goes-more (entry_of (known before).number look) one.1
@@ -157,22 +151,6 @@ seen-then {before} {middle} {after} a b = record {
 }
 
 -- ---- what one comes to
-
-pub settles-found : {before after : Option RegPass} → (n : ℕ) (search : Searched) (look : Sought) (result : Result Spec Errno) (name : List ℕ) (answer : Answer) → search.look ≡ Ok look → Settles before after look.looked result → name ≡ search.text
-    → ((came : Found) → result ≡ found_result came → answer ≡ found_said n name came) → SettlesThen before after n (search ∷ []) (answer ∷ [])
-settles-found {before} {after} n search look result name answer is settles named said = record {
-  work = settles.work;
-  goes = settles.goes;
-  all_work = settles.all_work;
-  said_are = (
-    (
-      settles.found,
-      ap (comes_to (known after).seen) is ∙ settles.found_is,
-      said settles.found settles.result_is ∙ ap (λ t. found_said n t settles.found) named,
-    ),
-    tt,
-  );
-}
 
 pub settles-refused : (r : Option RegPass) (n : ℕ) (search : Searched) (errno : Errno) (result : Result Spec Errno) (name : List ℕ) (answer : Answer) → search.look ≡ Err errno → result ≡ Err errno → name ≡ search.text
     → ((came : Found) → result ≡ found_result came → answer ≡ found_said n name came) → SettlesThen r r n (search ∷ []) (answer ∷ [])

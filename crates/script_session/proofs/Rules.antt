@@ -1,17 +1,14 @@
 -- Rules by which a dialogue is held, one for each way in which it begins.
-use Rattle.std.proofs.Common.{◌≡◌, ℕ, Bool, true, false, List, [], ◌∷◌, ◌++◌, Some, None, refl, sym, ap, subst, ◌∙◌, append_assoc, append-nil}
-use Rattle.std.specs.Prelude.{if◌then◌else◌}
-use Rattle.kc_base.specs.declared.error_numbers.Errno.{Errno}
+use Rattle.std.proofs.Common.{◌≡◌, true, false, List, [], ◌∷◌, ◌++◌, Some, None, refl, sym, ap, subst, ◌∙◌, append_assoc, append-nil}
 use Rattle.alg_registry.specs.declared.entry.RegEntry.{RegEntry}
 use Rattle.board.specs.declared.entry.BoardEntry.{BoardEntry}
 use Rattle.reply_text.specs.declared.answers.Answer.{Answer}
-use Rattle.reply_text.specs.declared.answers.Answer.TheVariants.{Refused}
 use Rattle.transforms.specs.declared.ask.Ask.{Ask}
 use Rattle.turn_lock.specs.Turns.{Known}
 use Rattle.dialogues.specs.RegistryCalls.{RegCall, reg_calls}
 use Rattle.dialogues.proofs.Taking.{AllSettled-append}
 use Rattle.dialogues.specs.BoardCalls.{board_calls}
-use Rattle.dialogues.specs.Dialogues.{Dialogue, Ends, Says, Asks, Posts, refuses, unless}
+use Rattle.dialogues.specs.Dialogues.{Dialogue, Ends, Says, Asks, Posts}
 use Rattle.dialogues.specs.Questions.{RegQuestion, Enlist, Look, Unlist, Get, Put, Count, ListAll, RegAnswer, reg_call, reg_answer, BoardQuestion, Create, Submit, Enqueue, Hold, Go, Poll, Drain, Close, Share, Mask, Shut, BoardAnswer, board_call, board_answer}
 use Rattle.dialogues.specs.Turns.{Turn, ended, broken, saying, asking, posting, turn_of}
 use Rattle.dialogues.specs.Walk.{Walk}
@@ -91,18 +88,6 @@ board_answer-itself Shut answer = refl
 
 -- ---- the rules
 
-module _ {k k' : Known RegEntry} {b b' : Known (BoardEntry Ask)} {after : Walk} {answers answers' : List Answer} where
-  -- it is refused under the first condition, or goes on without it
-  pub unless-not : (walk : Walk) (n : ℕ) (test : Bool) (errno : Errno) (refusals : List (Bool × Errno)) (rest : Dialogue) → test ≡ false → Done (unless walk n refusals rest) k b k' b' after answers answers'
-      → Done (unless walk n ((test, errno) ∷ refusals) rest) k b k' b' after answers answers'
-  unless-not walk n test errno refusals rest e done =
-      subst (λ t. Done (if t then refuses walk n errno else unless walk n refusals rest) k b k' b' after answers answers') (sym e) done
-
-  pub unless-so : (walk : Walk) (n : ℕ) (test : Bool) (errno : Errno) (refusals : List (Bool × Errno)) (rest : Dialogue) → test ≡ true → Done (refuses walk n errno) k b k' b' after answers answers'
-      → Done (unless walk n ((test, errno) ∷ refusals) rest) k b k' b' after answers answers'
-  unless-so walk n test errno refusals rest e done =
-      subst (λ t. Done (if t then refuses walk n errno else unless walk n refusals rest) k b k' b' after answers answers') (sym e) done
-
 -- it ends with answers
 pub says-done : (k : Known RegEntry) (b : Known (BoardEntry Ask)) (after : Walk) (said answers answers' : List Answer) → Stands after.lives k → Posted after b → answers' ≡ answers ++ said
     → Done (Says said (Ends after)) k b k b after answers answers'
@@ -153,8 +138,3 @@ posts-done k k' b c b' question answer next after answers answers' called done =
       stands = done.stands;
       posted = done.posted;
     }
-
--- a line that is refused, or answered, and nothing more
-pub refuses-done : (k : Known RegEntry) (b : Known (BoardEntry Ask)) (walk : Walk) (n : ℕ) (errno : Errno) (answers answers' : List Answer) → Stands walk.lives k → Posted walk b → answers' ≡ answers ++ Refused n errno ∷ []
-    → Done (refuses walk n errno) k b k b walk answers answers'
-refuses-done k b walk n errno answers answers' stands posted e = says-done k b walk (Refused n errno ∷ []) answers answers' stands posted e

@@ -30,12 +30,12 @@ use Rattle.session_calls.specs.Passes.{known}
 use Rattle.session_calls.specs.Pipelines.{Called, Changed, Kept, Polled, Drained, notice_by}
 use Rattle.session_calls.proofs.Boarding.{kept-same, called-more}
 use Rattle.script_session.specs.Ending.{Moves, ArePosted}
-use Rattle.script_session.specs.Holding.{SeesOn, Holds}
+use Rattle.script_session.specs.Holding.{Holds}
 use Rattle.script_session.specs.Keyed.{delivering}
 use Rattle.script_session.specs.Saying.{SaysFor, BreaksFor, SaysBy, BreaksOff, SaysMove, SaysMoves, is_told, call_says, Tells, SaysTold, collects, collected_said, Collected}
 use Rattle.script_session.specs.States.{State, HasPipe, Stands, Posted}
 use Rattle.script_session.specs.Telling.{callback_said}
-use Rattle.script_session.proofs.Arms.{called-sees, stops-same}
+use Rattle.script_session.proofs.Arms.{stops-same}
 use Rattle.script_session.proofs.Ended.{drains-last}
 use Rattle.script_session.proofs.Leading.{drain-more}
 use Rattle.script_session.proofs.Moving.{OnTheWay, sets-out, goes-further, all-moved}
@@ -56,9 +56,6 @@ breaks-same k text text' legal e = record { called = (kept-same k legal).called;
 
 pub breaks-kept : (k l : Known (BoardEntry Ask)) (text text' : List ℕ) → Kept k l → text' ≡ text → BreaksFor k l text text'
 breaks-kept k l text text' kept e = record { called = kept.called; unshut = kept.unshut; says = e }
-
-pub breaks-see : (k l : Known (BoardEntry Ask)) (text text' : List ℕ) → BreaksFor k l text text' → SeesOn k l
-breaks-see k l text text' breaks = called-sees k l [] breaks.called breaks.unshut
 
 -- ---- one answer
 

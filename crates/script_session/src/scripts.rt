@@ -218,6 +218,7 @@ impl Session {
     /// Answers a line: it holds the line's dialogue with the registry and the board, and adds the text of what was answered to
     /// `reply`. Entries of others may lie between its calls.
     ///
+    /// `number` is the line's place in the script, counted from 1. Its answers bear it, and completions of its request.
     /// Each list of bytes in the line is shorter than 2^32. `drain` does what jobs there are while it waits, `probe` builds, and `bulk`
     /// starts threads, which end in this call. A request keeps the line's bytes. `Stop` comes for want of memory alone, with the
     /// reply as it was; `poll` and `drain` have made no call on the board then, but jobs may have been done. The session takes no

@@ -68,12 +68,14 @@ impl Transform {
         }
     }
 
+    /// The script's name for it: 1 to 32 bytes.
     pub fn label(&self) -> &[u8]
         ensures { result.now ≡ self.now.label }
     {
         self.label.as_slice()
     }
 
+    /// The number of the registry's entry that it stands on.
     pub fn id(&self) -> u64
         ensures { result ≡ self.now.id }
     {
@@ -119,6 +121,7 @@ impl Transform {
         Ok(())
     }
 
+    /// Its pipeline, where its driver's outermost template has one.
     pub fn pipe(&self) -> Option<&Pipe>
         ensures { option_copied result ≡ self.now.pipe }
     {

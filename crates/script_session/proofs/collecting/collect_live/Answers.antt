@@ -41,7 +41,7 @@ pub put_callbacks-requires : goal.put_callbacks-requires
 put_callbacks-requires g c =
     let d = c.in_ok-collect_pipe.ensures.collected in
     let are = c.as_slice-2.ensures ∙ from-empty c.new-into.result _ _ c.new-into.ensures d.added in
-    let room = room-enough c.count.result c.args.bytes 0 c.collected_room.result c.reserve.new.self.spare (length c.in-Some.pipe.now.lines) (accepted_by (known c.args.caller.now).number (known c.args.caller.now).seen) d.callbacks c.collected_room.ensures c.in_ok-reserve.ensures.most c.in_ok-reserve.ensures.room
+    let room = room-enough c.count.result c.args.bytes 0 c.collected_room.result c.reserve.new.self.spare (length c.in-Some.pipe.now.lines) (accepted_by (known c.args.caller.now).number (known c.args.caller.now).seen) d.callbacks c.collected_room.ensures.enough c.in_ok-reserve.ensures.most c.in_ok-reserve.ensures.room
     (c.count.ensures ∙ ap (λ (p : Pipe). length p.lines) c.pipe-2.view_is) c.requires.bytes d.within in
     omega (arith, room, ap (sum_by callback_room) are)
 
@@ -49,7 +49,7 @@ pub put_short-requires : goal.put_short-requires
 put_short-requires g c =
     let d = c.in_ok-collect_pipe.ensures.collected in
     let are = c.as_slice-2.ensures ∙ from-empty c.new-into.result _ _ c.new-into.ensures d.added in
-    let room = room-enough c.count.result c.args.bytes 0 c.collected_room.result c.reserve.new.self.spare (length c.in-Some.pipe.now.lines) (accepted_by (known c.args.caller.now).number (known c.args.caller.now).seen) d.callbacks c.collected_room.ensures c.in_ok-reserve.ensures.most c.in_ok-reserve.ensures.room
+    let room = room-enough c.count.result c.args.bytes 0 c.collected_room.result c.reserve.new.self.spare (length c.in-Some.pipe.now.lines) (accepted_by (known c.args.caller.now).number (known c.args.caller.now).seen) d.callbacks c.collected_room.ensures.enough c.in_ok-reserve.ensures.most c.in_ok-reserve.ensures.room
     (c.count.ensures ∙ ap (λ (p : Pipe). length p.lines) c.pipe-2.view_is) c.requires.bytes d.within in
     let line = collected-length c.args.waits c.args.line c.count_completions-count.result (omega arith) (omega arith) in
     omega (arith, room, line, c.put_callbacks.ensures.left, ap (sum_by callback_room) are, ap (λ a. length (text_of a)) c.collected-2.ensures)

@@ -44,7 +44,7 @@ pub put_callbacks-requires : goal.put_callbacks-requires
 put_callbacks-requires g c =
     let d = c.in_ok-drain.ensures.drained in
     let are = c.as_slice-2.ensures ∙ from-empty c.new-into.result _ _ c.new-into.ensures d.1 in
-    let room = room-enough c.count.result c.args.bytes (length c.label-more.result.now) c.collected_room.result c.reserve.new.self.spare (length c.in-Some.pipe.now.lines) (accepted_by (known c.args.caller.now).number (known c.args.caller.now).seen) d.0 c.collected_room.ensures c.in_ok-reserve.ensures.most c.in_ok-reserve.ensures.room
+    let room = room-enough c.count.result c.args.bytes (length c.label-more.result.now) c.collected_room.result c.reserve.new.self.spare (length c.in-Some.pipe.now.lines) (accepted_by (known c.args.caller.now).number (known c.args.caller.now).seen) d.0 c.collected_room.ensures.enough c.in_ok-reserve.ensures.most c.in_ok-reserve.ensures.room
     (c.count.ensures ∙ ap (λ (p : Pipe). length p.lines) c.pipe-2.view_is) c.requires.bytes d.4 in
     omega (arith, room, ap (sum_by callback_room) are)
 
@@ -52,7 +52,7 @@ pub put_end-requires : goal.put_end-requires
 put_end-requires g c =
     let d = c.in_ok-drain.ensures.drained in
     let are = c.as_slice-2.ensures ∙ from-empty c.new-into.result _ _ c.new-into.ensures d.1 in
-    let room = room-enough c.count.result c.args.bytes (length c.label-more.result.now) c.collected_room.result c.reserve.new.self.spare (length c.in-Some.pipe.now.lines) (accepted_by (known c.args.caller.now).number (known c.args.caller.now).seen) d.0 c.collected_room.ensures c.in_ok-reserve.ensures.most c.in_ok-reserve.ensures.room
+    let room = room-enough c.count.result c.args.bytes (length c.label-more.result.now) c.collected_room.result c.reserve.new.self.spare (length c.in-Some.pipe.now.lines) (accepted_by (known c.args.caller.now).number (known c.args.caller.now).seen) d.0 c.collected_room.ensures.enough c.in_ok-reserve.ensures.most c.in_ok-reserve.ensures.room
     (c.count.ensures ∙ ap (λ (p : Pipe). length p.lines) c.pipe-2.view_is) c.requires.bytes d.4 in
     omega (arith, room, c.put_callbacks.ensures.left, ap (sum_by callback_room) are, ap length c.label-more.ensures, ap length c.label.ensures)
 
