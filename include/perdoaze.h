@@ -54,7 +54,7 @@ struct perdoaze {
 #define PERDOAZE_MAX_PIECES 1024
 
 /** The most bytes of stack that a call takes. */
-#define PERDOAZE_STACK_SIZE 65536
+#define PERDOAZE_STACK_SIZE 49152
 
 /** The bytes of a name in struct perdoaze_info, with a zero at least behind it. */
 #define PERDOAZE_NAME_SIZE 128

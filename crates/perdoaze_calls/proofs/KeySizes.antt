@@ -87,7 +87,7 @@ pub record Between (low high n : ℕ) : Type 0 where
   pub below : n ≤ high
 
 exactly : (low high n k : ℕ) → low ≤ k → k ≤ high → (n == k) ≡ true → Between low high n
-exactly low high n k l h e = let x : n ≡ k = eqb-true n k e in record { above = omega (arith, x, l); below = omega (arith, x, h); }
+exactly low high n k l h e = let x : n ≡ k = eqb-true n k e in record { above = omega (arith, x, l); below = omega (arith, x, h) }
 
 plain_key : (n : ℕ) → is_key_length n ≡ true → Between 16 32 n
 plain_key n e =
@@ -99,7 +99,7 @@ salted_key : (n : ℕ) → is_salted_length n ≡ true → Between 20 36 n
 salted_key n e =
     let four : 4 ≤ n = leb-true 4 n (first (nat_le 4 n) (is_key_length (n - 4)) e) in
     let inner = plain_key (n - 4) (second (nat_le 4 n) (is_key_length (n - 4)) e) in
-    record { above = omega (arith, inner.above, four); below = omega (arith, inner.below, four); }
+    record { above = omega (arith, inner.above, four); below = omega (arith, inner.below, four) }
 
 doubled_key : (n : ℕ) → is_doubled_length n ≡ true → Between 32 64 n
 doubled_key n e = ⊎_elim (exactly 32 64 n 32 (lit≤ tt) (lit≤ tt)) (exactly 32 64 n 64 (lit≤ tt) (lit≤ tt)) (either (n == 32) (n == 64) e)
