@@ -21,6 +21,9 @@
  * struct may not. A struct may go from a thread to another through a lock, or a thread's start or join. No call blocks, starts a
  * thread or aborts. No call is made from a signal handler, or in a forked child of a process with threads.
  *
+ * SECRETS. Keys, and what is made of them, lie in blocks of malloc that are wiped before they are freed. The stack is wiped by
+ * perdoaze_wipe_stack alone, since that takes longer than a short request. Registers and swapped pages aren't wiped.
+ *
  * NONCES. Never encrypt two texts under one key and one IV with CTR, RFC 3686, GCM, RFC 4106 or CCM.
  *
  * The functions are inline: they test what the library's own functions, perdoaze_raw_.., leave to their caller.
@@ -46,6 +49,12 @@ struct perdoaze {
 
 /** A place that has none. */
 #define PERDOAZE_NONE { false, NULL }
+
+/** The most pieces that a text may lie in. readv has the same limit. */
+#define PERDOAZE_MAX_PIECES 1024
+
+/** The most bytes of stack that a call takes. */
+#define PERDOAZE_STACK_SIZE 49152
 
 /** The bytes of a name in struct perdoaze_info, with a zero at least behind it. */
 #define PERDOAZE_NAME_SIZE 128
@@ -87,6 +96,12 @@ int32_t perdoaze_raw_encryptv(struct perdoaze *tfm, const uint8_t *iv, size_t iv
 			      const struct iovec *text, size_t pieces, uint8_t *out, size_t out_len, size_t *written);
 int32_t perdoaze_raw_decryptv(struct perdoaze *tfm, const uint8_t *iv, size_t iv_len, const uint8_t *aad, size_t aad_len,
 			      const struct iovec *text, size_t pieces, uint8_t *out, size_t out_len, size_t *written);
+int32_t perdoaze_raw_encryptv_in_place(struct perdoaze *tfm, const uint8_t *iv, size_t iv_len, const uint8_t *aad, size_t aad_len,
+				       struct iovec *text, size_t pieces, size_t n, size_t *written);
+int32_t perdoaze_raw_decryptv_in_place(struct perdoaze *tfm, const uint8_t *iv, size_t iv_len, const uint8_t *aad, size_t aad_len,
+				       struct iovec *text, size_t pieces, size_t n, size_t *written);
+int32_t perdoaze_raw_digestv(struct perdoaze *tfm, const struct iovec *text, size_t pieces, uint8_t *out, size_t out_len,
+			     size_t *written);
 int32_t perdoaze_raw_dup(struct perdoaze *from, struct perdoaze *into);
 int32_t perdoaze_raw_info(struct perdoaze *tfm, struct perdoaze_info *info);
 int32_t perdoaze_raw_list(size_t index, struct perdoaze_info *info);
@@ -243,51 +258,123 @@ static inline int perdoaze_digest(struct perdoaze *tfm, const void *text, size_t
 				   written ? written : &unread);
 }
 
-/* Whether these are no pieces that the library takes, or one of them lies in `out`. */
-static inline bool perdoaze_wrong_pieces_(const struct iovec *text, size_t pieces, const void *out, size_t out_len)
+/* Whether one of the pieces has a byte of these. */
+static inline bool perdoaze_touch_(const struct iovec *text, size_t pieces, const void *bytes, size_t n)
 {
-	if (perdoaze_wrong_(text, pieces) || pieces > PTRDIFF_MAX / sizeof *text)
-		return true;
 	for (size_t i = 0; i < pieces; i++)
-		if (!text[i].iov_base || text[i].iov_len > PTRDIFF_MAX || perdoaze_overlap_(text[i].iov_base, text[i].iov_len, out, out_len))
+		if (perdoaze_overlap_(text[i].iov_base, text[i].iov_len, bytes, n))
 			return true;
 	return false;
 }
 
-/** As perdoaze_encrypt, of a text in pieces. No piece is NULL, and none lies in `out`. */
+/* Whether two of the pieces have a byte in common. */
+static inline bool perdoaze_tangled_(const struct iovec *text, size_t pieces)
+{
+	for (size_t i = 1; i < pieces; i++)
+		if (perdoaze_touch_(text, i, text[i].iov_base, text[i].iov_len))
+			return true;
+	return false;
+}
+
+/* Puts the pieces that aren't NULL into `kept`, and how many they are into `*count`. Whether these are no pieces that the library
+ * takes. */
+static inline bool perdoaze_wrong_pieces_(const struct iovec *text, size_t pieces, struct iovec *kept, size_t *count)
+{
+	*count = 0;
+	if ((!text && pieces) || pieces > PERDOAZE_MAX_PIECES)
+		return true;
+	for (size_t i = 0; i < pieces; i++) {
+		if (perdoaze_wrong_(text[i].iov_base, text[i].iov_len))
+			return true;
+		if (text[i].iov_base)
+			kept[(*count)++] = text[i];
+	}
+	return false;
+}
+
+/** As perdoaze_encrypt, of a text in pieces, PERDOAZE_MAX_PIECES at most. A piece of 0 bytes may be NULL. No piece lies in `out`. */
 static inline int perdoaze_encryptv(struct perdoaze *tfm, const void *iv, size_t iv_len, const void *aad, size_t aad_len,
 				    const struct iovec *text, size_t pieces, void *out, size_t out_len, size_t *written)
 {
-	const struct iovec no_pieces = { NULL, 0 };
+	struct iovec kept[PERDOAZE_MAX_PIECES];
 	const uint8_t no_text = 0;
 	uint8_t none = 0;
-	size_t unread = 0;
+	size_t unread = 0, count;
 	if (written)
 		*written = 0;
 	if (!tfm || perdoaze_wrong_(iv, iv_len) || perdoaze_wrong_(aad, aad_len) || perdoaze_wrong_(out, out_len)
 	    || perdoaze_overlap_(iv, iv_len, out, out_len) || perdoaze_overlap_(aad, aad_len, out, out_len)
-	    || perdoaze_wrong_pieces_(text, pieces, out, out_len))
+	    || perdoaze_wrong_pieces_(text, pieces, kept, &count) || perdoaze_touch_(kept, count, out, out_len))
 		return -PERDOAZE_EINVAL_;
-	return perdoaze_raw_encryptv(tfm, perdoaze_bytes_(iv, &no_text), iv_len, perdoaze_bytes_(aad, &no_text), aad_len,
-				     text ? text : &no_pieces, pieces, out ? (uint8_t *)out : &none, out_len, written ? written : &unread);
+	return perdoaze_raw_encryptv(tfm, perdoaze_bytes_(iv, &no_text), iv_len, perdoaze_bytes_(aad, &no_text), aad_len, kept, count,
+				     out ? (uint8_t *)out : &none, out_len, written ? written : &unread);
 }
 
-/** As perdoaze_decrypt, of a text in pieces. -EOVERFLOW: `out` has no room for the whole text, the tag too. */
+/** As perdoaze_decrypt, of a text in pieces, PERDOAZE_MAX_PIECES at most. */
 static inline int perdoaze_decryptv(struct perdoaze *tfm, const void *iv, size_t iv_len, const void *aad, size_t aad_len,
 				    const struct iovec *text, size_t pieces, void *out, size_t out_len, size_t *written)
 {
-	const struct iovec no_pieces = { NULL, 0 };
+	struct iovec kept[PERDOAZE_MAX_PIECES];
 	const uint8_t no_text = 0;
 	uint8_t none = 0;
-	size_t unread = 0;
+	size_t unread = 0, count;
 	if (written)
 		*written = 0;
 	if (!tfm || perdoaze_wrong_(iv, iv_len) || perdoaze_wrong_(aad, aad_len) || perdoaze_wrong_(out, out_len)
 	    || perdoaze_overlap_(iv, iv_len, out, out_len) || perdoaze_overlap_(aad, aad_len, out, out_len)
-	    || perdoaze_wrong_pieces_(text, pieces, out, out_len))
+	    || perdoaze_wrong_pieces_(text, pieces, kept, &count) || perdoaze_touch_(kept, count, out, out_len))
 		return -PERDOAZE_EINVAL_;
-	return perdoaze_raw_decryptv(tfm, perdoaze_bytes_(iv, &no_text), iv_len, perdoaze_bytes_(aad, &no_text), aad_len,
-				     text ? text : &no_pieces, pieces, out ? (uint8_t *)out : &none, out_len, written ? written : &unread);
+	return perdoaze_raw_decryptv(tfm, perdoaze_bytes_(iv, &no_text), iv_len, perdoaze_bytes_(aad, &no_text), aad_len, kept, count,
+				     out ? (uint8_t *)out : &none, out_len, written ? written : &unread);
+}
+
+/** As perdoaze_encrypt_in_place, where the buffer lies in pieces: its first `n` bytes are encrypted, and the tag goes behind them. No two
+ *  pieces have a byte in common. -ENOMEM: malloc gave nothing for a copy of all pieces, which this call makes. */
+static inline int perdoaze_encryptv_in_place(struct perdoaze *tfm, const void *iv, size_t iv_len, const void *aad, size_t aad_len,
+					     const struct iovec *buffer, size_t pieces, size_t n, size_t *written)
+{
+	struct iovec kept[PERDOAZE_MAX_PIECES];
+	const uint8_t none = 0;
+	size_t unread = 0, count;
+	if (written)
+		*written = 0;
+	if (!tfm || perdoaze_wrong_(iv, iv_len) || perdoaze_wrong_(aad, aad_len) || perdoaze_wrong_pieces_(buffer, pieces, kept, &count)
+	    || perdoaze_tangled_(kept, count) || perdoaze_touch_(kept, count, iv, iv_len) || perdoaze_touch_(kept, count, aad, aad_len))
+		return -PERDOAZE_EINVAL_;
+	return perdoaze_raw_encryptv_in_place(tfm, perdoaze_bytes_(iv, &none), iv_len, perdoaze_bytes_(aad, &none), aad_len, kept, count, n,
+					      written ? written : &unread);
+}
+
+/** As perdoaze_decrypt_in_place, where the buffer lies in pieces. -ENOMEM as perdoaze_encryptv_in_place has it. */
+static inline int perdoaze_decryptv_in_place(struct perdoaze *tfm, const void *iv, size_t iv_len, const void *aad, size_t aad_len,
+					     const struct iovec *buffer, size_t pieces, size_t n, size_t *written)
+{
+	struct iovec kept[PERDOAZE_MAX_PIECES];
+	const uint8_t none = 0;
+	size_t unread = 0, count;
+	if (written)
+		*written = 0;
+	if (!tfm || perdoaze_wrong_(iv, iv_len) || perdoaze_wrong_(aad, aad_len) || perdoaze_wrong_pieces_(buffer, pieces, kept, &count)
+	    || perdoaze_tangled_(kept, count) || perdoaze_touch_(kept, count, iv, iv_len) || perdoaze_touch_(kept, count, aad, aad_len))
+		return -PERDOAZE_EINVAL_;
+	return perdoaze_raw_decryptv_in_place(tfm, perdoaze_bytes_(iv, &none), iv_len, perdoaze_bytes_(aad, &none), aad_len, kept, count, n,
+					      written ? written : &unread);
+}
+
+/** As perdoaze_digest, of a text in pieces, PERDOAZE_MAX_PIECES at most. -ENOMEM: malloc gave nothing for a copy of the text, which this
+ *  call makes. */
+static inline int perdoaze_digestv(struct perdoaze *tfm, const struct iovec *text, size_t pieces, void *out, size_t out_len,
+				   size_t *written)
+{
+	struct iovec kept[PERDOAZE_MAX_PIECES];
+	uint8_t none = 0;
+	size_t unread = 0, count;
+	if (written)
+		*written = 0;
+	if (!tfm || perdoaze_wrong_(out, out_len) || perdoaze_wrong_pieces_(text, pieces, kept, &count)
+	    || perdoaze_touch_(kept, count, out, out_len))
+		return -PERDOAZE_EINVAL_;
+	return perdoaze_raw_digestv(tfm, kept, count, out ? (uint8_t *)out : &none, out_len, written ? written : &unread);
 }
 
 /** Makes a second transform, of the same driver, tag size and key, in the place `into`, in the place of the one that was there. Both
@@ -317,6 +404,10 @@ static inline void perdoaze_free(struct perdoaze *tfm)
 	if (tfm)
 		perdoaze_raw_free(tfm);
 }
+
+/** Overwrites PERDOAZE_STACK_SIZE bytes of the stack below its caller's frame. Made by the function that made other calls of the library,
+ *  it leaves nothing there of what these computed with. Registers aren't wiped. */
+void perdoaze_wipe_stack(void);
 
 #ifdef __cplusplus
 }

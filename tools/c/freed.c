@@ -30,6 +30,7 @@ static int use(const char *driver)
 	struct perdoaze t = PERDOAZE_NONE, u = PERDOAZE_NONE;
 	struct perdoaze_info info;
 	uint8_t key[64] = { 8, 0, 1, 0, 0, 0, 0, 16 }, iv[16] = { 1 }, text[4096] = { 7 }, out[4200];
+	const struct iovec pieces[2] = { { text, 96 }, { text + 96, 4000 } };
 	size_t n = 0;
 
 	memset(key + 8, 0xa5, 56);
@@ -44,6 +45,10 @@ static int use(const char *driver)
 	if (info.kind == PERDOAZE_MAC ? perdoaze_digest(&t, text, 4096, out, 4200, NULL)
 				      : perdoaze_encrypt(&t, iv, info.iv_size, text, info.kind == PERDOAZE_AEAD ? 16 : 0, text, 4096, out, 4200,
 							 NULL))
+		return 1;
+	if (info.kind == PERDOAZE_MAC ? perdoaze_digestv(&t, pieces, 2, out, 4200, NULL)
+				      : perdoaze_encryptv_in_place(&t, iv, info.iv_size, iv, info.kind == PERDOAZE_AEAD ? 16 : 0, pieces, 2, 4000,
+								   NULL))
 		return 1;
 	perdoaze_free(&t);
 	perdoaze_free(&u);

@@ -105,26 +105,72 @@ static int pieces(void)
 	struct perdoaze t = PERDOAZE_NONE;
 	uint8_t key[16] = { 4 }, iv[12] = { 1 }, sealed[80], out[80];
 	char text[48] = "forty-eight bytes of text that anybody may read";
-	const struct iovec two[2] = { { text, 20 }, { text + 20, 28 } }, wrong[1] = { { NULL, 1 } }, within[1] = { { out + 9, 1 } };
-	const struct iovec huge[2] = { { text, PTRDIFF_MAX }, { text, PTRDIFF_MAX } };
+	const struct iovec some[4] = { { NULL, 0 }, { text, 20 }, { NULL, 0 }, { text + 20, 28 } }, wrong[1] = { { NULL, 1 } };
+	const struct iovec within[1] = { { out + 9, 1 } }, huge[2] = { { text, PTRDIFF_MAX }, { text, PTRDIFF_MAX } };
+	static struct iovec many[PERDOAZE_MAX_PIECES + 1];
 	size_t n = 7;
 
 	CHECK(perdoaze_init(&t, "gcm(aes)") == 0 && perdoaze_setkey(&t, key, 16) == 0);
 	CHECK(perdoaze_encrypt(&t, iv, 12, NULL, 0, text, 48, sealed, 80, NULL) == 0);
 	memset(out, 0x55, 80);
-	CHECK(perdoaze_encryptv(&t, iv, 12, NULL, 0, two, 2, out, 80, &n) == 0 && n == 64 && !memcmp(out, sealed, 64) && out[64] == 0x55);
+	CHECK(perdoaze_encryptv(&t, iv, 12, NULL, 0, some, 4, out, 80, &n) == 0 && n == 64 && !memcmp(out, sealed, 64) && out[64] == 0x55);
 	CHECK(perdoaze_encryptv(&t, iv, 12, NULL, 0, NULL, 0, out, 80, &n) == 0 && n == 16);
+	CHECK(perdoaze_encryptv(&t, iv, 12, NULL, 0, many, PERDOAZE_MAX_PIECES, out, 80, &n) == 0 && n == 16);
+	CHECK(perdoaze_encryptv(&t, iv, 12, NULL, 0, many, PERDOAZE_MAX_PIECES + 1, out, 80, &n) == -EINVAL && n == 0);
 	CHECK(perdoaze_encryptv(&t, iv, 12, NULL, 0, NULL, 1, out, 80, &n) == -EINVAL && n == 0);
 	CHECK(perdoaze_encryptv(&t, iv, 12, NULL, 0, wrong, 1, out, 80, &n) == -EINVAL);
 	CHECK(perdoaze_encryptv(&t, iv, 12, NULL, 0, within, 1, out, 80, &n) == -EINVAL);
 	CHECK(perdoaze_encryptv(&t, iv, 12, NULL, 0, huge, 2, NULL, 0, &n) == -EINVAL);
-	CHECK(perdoaze_encryptv(&t, iv, 12, NULL, 0, two, 2, out, 63, &n) == -EOVERFLOW);
-	const struct iovec cut[2] = { { sealed, 60 }, { sealed + 60, 4 } };
-	CHECK(perdoaze_decryptv(&t, iv, 12, NULL, 0, cut, 2, out, 64, &n) == 0 && n == 48 && !memcmp(out, text, 48));
-	CHECK(perdoaze_decryptv(&t, iv, 12, NULL, 0, cut, 2, out, 63, &n) == -EOVERFLOW);
+	CHECK(perdoaze_encryptv(&t, iv, 12, NULL, 0, some, 4, out, 63, &n) == -EOVERFLOW);
+	const struct iovec cut[3] = { { sealed, 40 }, { sealed + 40, 20 }, { sealed + 60, 4 } };
+	memset(out, 0x55, 80);
+	CHECK(perdoaze_decryptv(&t, iv, 12, NULL, 0, cut, 3, out, 48, &n) == 0 && n == 48 && !memcmp(out, text, 48) && out[48] == 0x55);
+	CHECK(perdoaze_decryptv(&t, iv, 12, NULL, 0, cut, 3, out, 47, &n) == -EOVERFLOW && !memcmp(out, text, 48));
 	sealed[63] ^= 1;
-	CHECK(perdoaze_decryptv(&t, iv, 12, NULL, 0, cut, 2, out, 64, &n) == -EBADMSG && n == 0 && is_all(out, 64, 0));
-	CHECK(perdoaze_decryptv(&t, iv, 12, NULL, 0, cut + 1, 1, out, 64, &n) == -EINVAL);
+	CHECK(perdoaze_decryptv(&t, iv, 12, NULL, 0, cut, 3, out, 80, &n) == -EBADMSG && n == 0 && is_all(out, 48, 0) && out[48] == 0x55);
+	CHECK(perdoaze_decryptv(&t, iv, 12, NULL, 0, cut + 2, 1, out, 64, &n) == -EINVAL);
+	CHECK(perdoaze_init(&t, "hmac(sha256)") == 0 && perdoaze_setkey(&t, key, 16) == 0);
+	CHECK(perdoaze_digest(&t, text, 48, sealed, 32, NULL) == 0);
+	CHECK(perdoaze_digestv(&t, some, 4, out, 32, &n) == 0 && n == 32 && !memcmp(out, sealed, 32));
+	CHECK(perdoaze_digestv(&t, some, 4, out, 31, &n) == -EOVERFLOW && n == 0 && perdoaze_digestv(&t, wrong, 1, out, 32, &n) == -EINVAL);
+	CHECK(perdoaze_digestv(&t, within, 1, out, 32, &n) == -EINVAL && perdoaze_digestv(&t, NULL, 0, out, 32, &n) == 0 && n == 32);
+	CHECK(perdoaze_encryptv(&t, NULL, 0, NULL, 0, some, 4, out, 80, &n) == -EINVAL);
+	perdoaze_free(&t);
+	return 0;
+}
+
+static int pieces_in_place(void)
+{
+	struct perdoaze t = PERDOAZE_NONE;
+	uint8_t key[16] = { 4 }, iv[12] = { 1 }, sealed[64], a[20], b[28], c[20];
+	char text[48] = "forty-eight bytes of text that anybody may read";
+	const struct iovec buffer[4] = { { a, 20 }, { b, 28 }, { NULL, 0 }, { c, 20 } };
+	const struct iovec twice[2] = { { a, 20 }, { a + 19, 1 } }, on_iv[1] = { { iv + 11, 1 } }, wrong[1] = { { NULL, 1 } };
+	size_t n = 7;
+
+	CHECK(perdoaze_init(&t, "gcm(aes)") == 0);
+	CHECK(perdoaze_encryptv_in_place(&t, iv, 12, NULL, 0, buffer, 4, 48, &n) == -ENOKEY && n == 0);
+	CHECK(perdoaze_setkey(&t, key, 16) == 0 && perdoaze_encrypt(&t, iv, 12, key, 16, text, 48, sealed, 64, NULL) == 0);
+	memcpy(a, text, 20);
+	memcpy(b, text + 20, 28);
+	memset(c, 0x55, 20);
+	CHECK(perdoaze_encryptv_in_place(&t, iv, 12, key, 16, buffer, 3, 48, &n) == -EOVERFLOW && n == 0 && !memcmp(a, text, 20));
+	CHECK(perdoaze_encryptv_in_place(&t, iv, 11, key, 16, buffer, 4, 48, &n) == -EINVAL && !memcmp(a, text, 20));
+	CHECK(perdoaze_encryptv_in_place(&t, iv, 12, key, 16, buffer, 4, 48, &n) == 0 && n == 64);
+	CHECK(!memcmp(a, sealed, 20) && !memcmp(b, sealed + 20, 28) && !memcmp(c, sealed + 48, 16) && is_all(c + 16, 4, 0x55));
+	c[15] ^= 1;
+	CHECK(perdoaze_decryptv_in_place(&t, iv, 12, key, 16, buffer, 4, 64, &n) == -EBADMSG && n == 0 && !memcmp(a, sealed, 20));
+	c[15] ^= 1;
+	CHECK(perdoaze_decryptv_in_place(&t, iv, 12, key, 16, buffer, 4, 69, &n) == -EOVERFLOW);
+	CHECK(perdoaze_decryptv_in_place(&t, iv, 12, key, 16, buffer, 4, 15, &n) == -EINVAL && !memcmp(a, sealed, 20));
+	CHECK(perdoaze_decryptv_in_place(&t, iv, 12, key, 16, buffer, 4, 64, &n) == 0 && n == 48);
+	CHECK(!memcmp(a, text, 20) && !memcmp(b, text + 20, 28) && is_all(c + 16, 4, 0x55));
+	CHECK(perdoaze_encryptv_in_place(&t, iv, 12, NULL, 0, twice, 2, 4, &n) == -EINVAL);
+	CHECK(perdoaze_encryptv_in_place(&t, iv, 12, NULL, 0, on_iv, 1, 0, &n) == -EINVAL);
+	CHECK(perdoaze_decryptv_in_place(&t, iv, 12, NULL, 0, wrong, 1, 0, &n) == -EINVAL);
+	CHECK(perdoaze_decryptv_in_place(&t, iv, 12, NULL, 0, NULL, 0, 0, &n) == -EINVAL);
+	CHECK(perdoaze_init(&t, "ctr(aes)") == 0 && perdoaze_setkey(&t, key, 16) == 0);
+	CHECK(perdoaze_encryptv_in_place(&t, key, 16, NULL, 0, NULL, 0, 0, &n) == 0 && n == 0);
 	perdoaze_free(&t);
 	return 0;
 }
@@ -171,5 +217,5 @@ static int infos(void)
 
 int main(void)
 {
-	return names() || settings() || requests() || pieces() || duplicates() || infos();
+	return names() || settings() || requests() || pieces() || pieces_in_place() || duplicates() || infos();
 }

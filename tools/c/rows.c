@@ -104,19 +104,39 @@ static void in_place(struct perdoaze *tfm, const struct row *row, uint8_t *out, 
 	see("in place", row, got, out, size, n);
 }
 
-/* The text in three pieces, of which the second has no bytes. A decryption wants room for the tag, too. */
+/* The text in four pieces, of which two have no bytes. */
 static void in_pieces(struct perdoaze *tfm, const struct row *row, uint8_t *out, size_t size)
 {
 	size_t n = 7, third = row->text.n / 3;
-	const struct iovec text[3] = { { row->text.at, third }, { row->text.at, 0 }, { row->text.at + third, row->text.n - third } };
+	const struct iovec text[4] = { { row->text.at, third }, { row->text.at, 0 }, { NULL, 0 }, { row->text.at + third, row->text.n - third } };
 	int got;
 
 	memset(out, 0x5a, size + SPARE);
-	if (row->dir == 'e')
-		got = perdoaze_encryptv(tfm, row->iv.at, row->iv.n, row->aad.at, row->aad.n, text, 3, out, size, &n);
+	if (row->dir == 'm')
+		got = perdoaze_digestv(tfm, text, 4, out, size, &n);
+	else if (row->dir == 'e')
+		got = perdoaze_encryptv(tfm, row->iv.at, row->iv.n, row->aad.at, row->aad.n, text, 4, out, size, &n);
 	else
-		got = perdoaze_decryptv(tfm, row->iv.at, row->iv.n, row->aad.at, row->aad.n, text, 3, out, size, &n);
+		got = perdoaze_decryptv(tfm, row->iv.at, row->iv.n, row->aad.at, row->aad.n, text, 4, out, size, &n);
 	see("in pieces", row, got, out, size, n);
+}
+
+/* The buffer in three pieces. */
+static void in_place_in_pieces(struct perdoaze *tfm, const struct row *row, uint8_t *out, size_t size)
+{
+	size_t n = 7, third = row->text.n / 3;
+	const struct iovec buffer[3] = { { out, third }, { out + third, 7 }, { out + third + 7, size - third - 7 } };
+	int got;
+
+	memset(out, 0x5a, size + SPARE);
+	memcpy(out, row->text.at, row->text.n);
+	if (row->dir == 'e')
+		got = perdoaze_encryptv_in_place(tfm, row->iv.at, row->iv.n, row->aad.at, row->aad.n, buffer, 3, row->text.n, &n);
+	else
+		got = perdoaze_decryptv_in_place(tfm, row->iv.at, row->iv.n, row->aad.at, row->aad.n, buffer, 3, row->text.n, &n);
+	if (got && memcmp(out, row->text.at, row->text.n))
+		fail("in place in pieces, refused: the buffer changed", got);
+	see("in place in pieces", row, got, out, size, n);
 }
 
 /* With a byte less than the answer has. */
@@ -179,9 +199,10 @@ static void answer(char **fields)
 			fail("dup", 0);
 		whole(&tfm, &row, out, size);
 		whole(&second, &row, out, size);
+		in_pieces(&second, &row, out, size);
 		if (row.dir != 'm') {
 			in_place(&tfm, &row, out, size);
-			in_pieces(&second, &row, out, size);
+			in_place_in_pieces(&second, &row, out, size);
 		}
 		if (!row.status && row.want.n)
 			without_room(&second, &row, out);

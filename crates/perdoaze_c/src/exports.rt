@@ -1,13 +1,13 @@
 //! What C calls. No pointer is NULL here, not even beside the length 0: the header's inline functions see to that.
 
-ghost use Rattle.std.specs.Prelude.{◌≡◌, None};
+ghost use Rattle.std.specs.Prelude.{◌≡◌, map, None};
 ghost use Rattle.perdoaze_calls.specs.Infos.{ListsTo, TellsTo};
 ghost use Rattle.perdoaze_calls.specs.Names.{BeginsTo};
-ghost use Rattle.perdoaze_calls.specs.Pieces.{text_in};
-ghost use Rattle.perdoaze_calls.specs.Requests.{Encrypts, Decrypts, EncryptsWithin, DecryptsWithin, DecryptsGathered, Digests, OnPlaceTo};
+ghost use Rattle.perdoaze_calls.specs.Pieces.{text_in, text_over, size_of};
+ghost use Rattle.perdoaze_calls.specs.Requests.{Encrypts, Decrypts, EncryptsWithin, DecryptsWithin, Digests, OnPlaceTo, OrNoMemory};
 ghost use Rattle.perdoaze_calls.specs.Settings.{KeySetTo, SizeSetTo, DuplicatesTo};
 
-use perdoaze_calls::{Info, Piece, Slot, calls, init, list, tell};
+use perdoaze_calls::{Info, Piece, PieceMut, Slot, calls, init, list, tell};
 use std::alloc::Global;
 
 /// Makes the transform of a name in the place, in place of the one that was there.
@@ -131,9 +131,45 @@ pub extern "C" fn perdoaze_raw_decryptv(
     written: &mut usize,
 ) -> i32
     ensures kept { slot.new.handle.value ≡ slot.old.handle.value }
-    ensures came { OnPlaceTo slot.old.handle.value (λ t. DecryptsGathered t iv.now aad.now (text_in text.now)) result out.old out.new written.new }
+    ensures came { OnPlaceTo slot.old.handle.value (λ t. Decrypts t iv.now aad.now (text_in text.now)) result out.old out.new written.new }
 {
     calls::decrypt_pieces(slot, alloc, iv, aad, text, out, written).code()
+}
+
+/// Encrypts the first `n` bytes of a text in pieces in their place.
+#[unsafe(no_mangle)]
+pub extern "C" fn perdoaze_raw_encryptv_in_place(
+    slot: &mut Slot,
+    alloc: Global,
+    iv: &[u8],
+    aad: &[u8],
+    text: &mut [PieceMut<'_>],
+    n: usize,
+    written: &mut usize,
+) -> i32
+    ensures kept { slot.new.handle.value ≡ slot.old.handle.value }
+    ensures came { OnPlaceTo slot.old.handle.value (λ t. OrNoMemory (EncryptsWithin t iv.now aad.now n)) result (text_over text.old) (text_over text.new) written.new }
+    ensures sizes { map size_of text.new ≡ map size_of text.old }
+{
+    calls::encrypt_pieces_within(slot, alloc, iv, aad, text, n, written).code()
+}
+
+/// Decrypts the first `n` bytes of a text in pieces in their place.
+#[unsafe(no_mangle)]
+pub extern "C" fn perdoaze_raw_decryptv_in_place(
+    slot: &mut Slot,
+    alloc: Global,
+    iv: &[u8],
+    aad: &[u8],
+    text: &mut [PieceMut<'_>],
+    n: usize,
+    written: &mut usize,
+) -> i32
+    ensures kept { slot.new.handle.value ≡ slot.old.handle.value }
+    ensures came { OnPlaceTo slot.old.handle.value (λ t. OrNoMemory (DecryptsWithin t iv.now aad.now n)) result (text_over text.old) (text_over text.new) written.new }
+    ensures sizes { map size_of text.new ≡ map size_of text.old }
+{
+    calls::decrypt_pieces_within(slot, alloc, iv, aad, text, n, written).code()
 }
 
 /// Makes the MAC of a text.
@@ -149,6 +185,21 @@ pub extern "C" fn perdoaze_raw_digest(
     ensures came { OnPlaceTo slot.old.handle.value (λ t. Digests t text.now) result out.old out.new written.new }
 {
     calls::digest(slot, alloc, text, out, written).code()
+}
+
+/// Makes the MAC of a text in pieces.
+#[unsafe(no_mangle)]
+pub extern "C" fn perdoaze_raw_digestv(
+    slot: &mut Slot,
+    alloc: Global,
+    text: &[Piece<'_>],
+    out: &mut [u8],
+    written: &mut usize,
+) -> i32
+    ensures kept { slot.new.handle.value ≡ slot.old.handle.value }
+    ensures came { OnPlaceTo slot.old.handle.value (λ t. OrNoMemory (Digests t (text_in text.now))) result out.old out.new written.new }
+{
+    calls::digest_pieces(slot, alloc, text, out, written).code()
 }
 
 /// Makes a second transform of the one in the place `from`, which shares its key, in the place `into`.

@@ -1,6 +1,6 @@
 -- What a request comes to, by what was kept of the key.
 use Rattle.std.proofs.Common.{◌≡◌, ℕ, ◌+◌, ◌-◌, ◌≤◌, ◌⊎◌, true, false, List, ◌++◌, length, take, drop, replicate, refl, sym, ap, ap₂, subst, ◌∙◌, arith, inl, inr, ⊎_elim, Option, Some, Result, Ok, Err, MatchResult, length-append, length-take, length-drop}
-use Rattle.std.proofs.lemmas.List.{drop-drop, take-append-drop, take-append-le, length-take-le}
+use Rattle.std.proofs.lemmas.List.{drop-drop, take-append-drop, take-append-le, length-take-le, take_all}
 use Rattle.std.proofs.lemmas.Slice.{drop-append-drop}
 use Rattle.std.proofs.Math.Seq.{take-append_seam, drop-append_seam}
 use Rattle.std_defs.specs.Value.{Value}
@@ -13,7 +13,7 @@ use Rattle.transforms.specs.InPlace as kept
 use Rattle.transforms.specs.InPlace.{sealing, unsealing}
 use Rattle.transforms.specs.RequestValue.{request_value}
 use Rattle.transforms.specs.declared.request.Request.{Request}
-use Rattle.perdoaze_calls.specs.Requests.{HasValue, IsNotTaken, Gave, GaveWithin, Cleared, Answers, refusal}
+use Rattle.perdoaze_calls.specs.Requests.{HasValue, IsNotTaken, Gave, Cleared, Answers, refusal}
 use Rattle.perdoaze_calls.specs.Under.{key_within}
 use Rattle.perdoaze_calls.specs.declared.status.Status.{Status}
 use Rattle.perdoaze_calls.specs.declared.status.Status.TheVariants.{Invalid}
@@ -141,22 +141,52 @@ gave_copied t k iv aad text out mid new n i s room m h rest long =
       rest = rest ∙ behind_copied text out mid (n + t.authsize) (omega arith) m;
     }
 
--- and one that was opened there
-pub gave_within : (t : Transform) (k : Plan × List ℕ) (iv aad text out mid new : List ℕ) (n : ℕ) → IsKey t k → n ≡ length text → t.authsize ≤ n
-    → mid ≡ text ++ drop (length text) out
-    → kept.HasValue k t.authsize (unsealing iv aad (take n mid)) (bytes (take (n - t.authsize) new))
-    → drop (n - t.authsize) new ≡ drop (n - t.authsize) mid
-    → GaveWithin t (unsealing iv aad text) (length text) out new (n - t.authsize)
-gave_within t k iv aad text out mid new n i s tag m h rest =
-    let copied : take n mid ≡ text = ap (λ m. take m mid) s ∙ text_copied text out mid m in
-    let whole_size : n - t.authsize + t.authsize ≡ length text = omega (arith, s) in
+-- the pieces of a text that were gathered at the front of `out`
+pub whole_gathered : (text out mid : List ℕ) (n : ℕ) → n ≡ length text → mid ≡ take n (drop 0 text) ++ drop n out → mid ≡ text ++ drop (length text) out
+whole_gathered text out mid n s m = m ∙ ap₂ (λ a b. a ++ b) (take_all n text (omega (arith, s))) (ap (λ k. drop k out) s)
+
+-- the tag that was gathered at the front of its room
+pub tag_gathered : (text room made : List ℕ) (n size : ℕ) → n + size ≡ length text → made ≡ take size (drop n text) ++ drop size room → take size made ≡ drop n text
+tag_gathered text room made n size e m =
+    let long : length (drop n text) ≡ size = omega (arith, length-drop n text, e) in
+    ap (take size) m ∙ front_is (take size (drop n text)) room size (length-take-le size (drop n text) (omega (arith, long))) ∙ take_all size (drop n text) (omega (arith, long))
+
+-- a ciphertext that was gathered at the front of `out`, and opened there under a tag
+pub gave_opened : (t : Transform) (k : Plan × List ℕ) (iv aad text out mid new tag : List ℕ) (n : ℕ)
+    → IsKey t k → t.authsize ≤ length text → n ≡ length text - t.authsize → n ≤ length out
+    → mid ≡ take n (drop 0 text) ++ drop n out → tag ≡ drop n text
+    → kept.HasValue k (length tag) (unsealing iv aad (take n mid ++ tag)) (bytes (take n new))
+    → drop n new ≡ drop n mid → length new ≡ length mid
+    → Gave t (unsealing iv aad text) out new n
+gave_opened t k iv aad text out mid new tag n i within s room m back h rest long =
+    let front : length (take n text) ≡ n = length-take-le n text (omega (arith, s)) in
+    let copied : take n mid ≡ take n text = ap (take n) m ∙ front_is (take n text) out n front in
+    let whole_text : take n mid ++ tag ≡ text = ap₂ (λ a b. a ++ b) copied back ∙ take-append-drop n text in
+    let tag_size : length tag ≡ t.authsize = omega (arith, ap length back, length-drop n text, s, within) in
+    let under = subst (λ j. kept.HasValue k j (unsealing iv aad (take n mid ++ tag)) (bytes (take n new))) tag_size h in
     record {
-      value = has_value t k _ _ i (subst (λ x. kept.HasValue k t.authsize (unsealing iv aad x) (bytes (take (n - t.authsize) new))) copied h);
-      fits = omega (arith, s);
-      rest = subst (λ j. drop j new ≡ drop j mid) whole_size
-          (sym (drop-drop t.authsize (n - t.authsize) new) ∙ (ap (drop t.authsize) rest ∙ drop-drop t.authsize (n - t.authsize) mid))
-          ∙ behind_copied text out mid (length text) (omega arith) m;
+      value = has_value t k _ _ i (subst (λ x. kept.HasValue k t.authsize (unsealing iv aad x) (bytes (take n new))) whole_text under);
+      fits = omega (arith, long, ap length m, length-append (take n text) (drop n out), front, length-drop n out, room);
+      rest = rest ∙ (ap (drop n) m ∙ rest_is (take n text) out n front);
     }
+
+-- one that is refused
+pub gathered_refused : (t : Transform) (k : Plan × List ℕ) (iv aad text out mid after new tag : List ℕ) (n : ℕ) (e : Errno) (status : Status)
+    → IsKey t k → t.authsize ≤ length text → n ≡ length text - t.authsize
+    → mid ≡ take n (drop 0 text) ++ drop n out → tag ≡ drop n text
+    → kept.IsRefused e k (length tag) (unsealing iv aad (take n mid ++ tag))
+    → drop n after ≡ drop n mid → new ≡ replicate n 0 ++ drop n after → status ≡ refusal e
+    → Answers t (unsealing iv aad text) (length text - t.authsize) (length text - t.authsize) status out new 0
+gathered_refused t k iv aad text out mid after new tag n e status i within s m back r rest clear same =
+    let size : n ≡ length (take n text) = sym (length-take-le n text (omega (arith, s))) in
+    decryption_refused t k iv aad text (take n text) tag out mid after new e status i within
+    (ap (λ j. take j text) s)
+    (back ∙ ap (λ j. drop j text) s)
+    (m ∙ ap (λ j. take n text ++ drop j out) size)
+    (subst (λ j. kept.IsRefused e k (length tag) (unsealing iv aad (take j mid ++ tag))) size r)
+    (subst (λ j. drop j after ≡ drop j mid) size rest)
+    (subst (λ j. new ≡ replicate j 0 ++ drop j after) size clear)
+    same
 
 -- a text is its front and the rest
 pub ruleset whole = take-append-drop

@@ -1,3 +1,5 @@
 pub mod Answering
 pub mod Filled
 pub mod Gathering
+pub mod KeySizes
+pub mod Listing

@@ -13,7 +13,7 @@ use Rattle.kc_base.specs.declared.error_numbers.Errno.TheVariants.{EBADMSG}
 use Rattle.perdoaze_calls.specs.Status.{code_of}
 use Rattle.perdoaze_calls.specs.Under.{key_within}
 use Rattle.perdoaze_calls.specs.declared.status.Status.{Status}
-use Rattle.perdoaze_calls.specs.declared.status.Status.TheVariants.{Done, Invalid, NoRoom, BadMessage, NoKey}
+use Rattle.perdoaze_calls.specs.declared.status.Status.TheVariants.{Done, NoMemory, Invalid, NoRoom, BadMessage, NoKey}
 use Rattle.perdoaze_calls.specs.declared.transform.Transform.{Transform}
 
 -- the request is taken, and under the key that was set it has that value
@@ -30,12 +30,6 @@ pub record Gave (t : Transform) (q : Request) (old new : List ℕ) (written : �
   pub value : HasValue t q (bytes (take written new))
   pub fits : written ≤ length new
   pub rest : drop written new ≡ drop written old
-
--- the same, where the first n bytes of the place were used
-pub record GaveWithin (t : Transform) (q : Request) (n : ℕ) (old new : List ℕ) (written : ℕ) : Type 0 where
-  pub value : HasValue t q (bytes (take written new))
-  pub fits : written ≤ n
-  pub rest : drop n new ≡ drop n old
 
 -- nothing went out
 abbrev pub GaveNothing : List ℕ → List ℕ → ℕ → Type 0
@@ -68,14 +62,14 @@ EncryptsWithin t iv aad n status old new written = Answers t (sealing iv aad (ta
 abbrev pub DecryptsWithin : Transform → List ℕ → List ℕ → ℕ → Status → List ℕ → List ℕ → ℕ → Type 0
 DecryptsWithin t iv aad n status old new written = Answers t (unsealing iv aad (take n old)) n 0 status old new written
 
--- a decryption of a text that is gathered in `out` first, with its tag: out has room for all of it, and what lies behind that stays
-abbrev pub DecryptsGathered : Transform → List ℕ → List ℕ → List ℕ → Status → List ℕ → List ℕ → ℕ → Type 0
-DecryptsGathered t iv aad text Done old new written = GaveWithin t (unsealing iv aad text) (length text) old new written
-DecryptsGathered t iv aad text status old new written = Answers t (unsealing iv aad text) (length text) (length text) status old new written
-
 -- the MAC of a text
 abbrev pub Digests : Transform → List ℕ → Status → List ℕ → List ℕ → ℕ → Type 0
 Digests t text = Answers t (making text) (mac_size t.plan) 0
+
+-- the same of a call that takes memory: where that is wanting, nothing went out
+abbrev pub OrNoMemory : (Status → List ℕ → List ℕ → ℕ → Type 0) → Status → List ℕ → List ℕ → ℕ → Type 0
+OrNoMemory answers NoMemory old new written = GaveNothing old new written
+OrNoMemory answers status old new written = answers status old new written
 
 -- what a call comes to on a place: where there is no transform, it is invalid
 abbrev pub OnPlace : Option Transform → (Transform → Status → List ℕ → List ℕ → ℕ → Type 0) → Status → List ℕ → List ℕ → ℕ → Type 0

@@ -1,11 +1,11 @@
 //! The calls of C, each on a place for a transform.
 
-ghost use Rattle.std.specs.Prelude.{◌≡◌, None};
-ghost use Rattle.perdoaze_calls.specs.Pieces.{text_in};
-ghost use Rattle.perdoaze_calls.specs.Requests.{Encrypts, Decrypts, EncryptsWithin, DecryptsWithin, DecryptsGathered, Digests, OnPlace};
+ghost use Rattle.std.specs.Prelude.{◌≡◌, map, None};
+ghost use Rattle.perdoaze_calls.specs.Pieces.{text_in, text_over, size_of};
+ghost use Rattle.perdoaze_calls.specs.Requests.{Encrypts, Decrypts, EncryptsWithin, DecryptsWithin, Digests, OnPlace, OrNoMemory};
 ghost use Rattle.perdoaze_calls.specs.Settings.{KeySet, SizeSet, Duplicates};
 
-use crate::pieces::Piece;
+use crate::pieces::{Piece, PieceMut};
 use crate::slot::Slot;
 use crate::status::Status;
 use std::alloc::Global;
@@ -131,13 +131,59 @@ pub fn decrypt_pieces(
     written: &mut usize,
 ) -> Status
     ensures kept { slot.new.handle.value ≡ slot.old.handle.value }
-    ensures came { OnPlace slot.old.handle.value (λ t. DecryptsGathered t iv.now aad.now (text_in pieces.now)) result out.old out.new written.new }
+    ensures came { OnPlace slot.old.handle.value (λ t. Decrypts t iv.now aad.now (text_in pieces.now)) result out.old out.new written.new }
 {
     *written = 0;
     let Some(held) = slot.take(alloc) else {
         return Status::Invalid;
     };
     let status = held.decrypt_pieces(iv, aad, pieces, out, written);
+    slot.fill(held);
+    status
+}
+
+/// Encrypts the front of a text in pieces in its place.
+pub fn encrypt_pieces_within(
+    slot: &mut Slot,
+    alloc: Global,
+    iv: &[u8],
+    aad: &[u8],
+    pieces: &mut [PieceMut<'_>],
+    n: usize,
+    written: &mut usize,
+) -> Status
+    ensures kept { slot.new.handle.value ≡ slot.old.handle.value }
+    ensures came { OnPlace slot.old.handle.value (λ t. OrNoMemory (EncryptsWithin t iv.now aad.now n)) result (text_over pieces.old) (text_over pieces.new) written.new }
+    ensures sizes { map size_of pieces.new ≡ map size_of pieces.old }
+{
+    *written = 0;
+    let Some(held) = slot.take(alloc) else {
+        return Status::Invalid;
+    };
+    let status = held.encrypt_pieces_within(alloc, iv, aad, pieces, n, written);
+    slot.fill(held);
+    status
+}
+
+/// Decrypts the front of a text in pieces in its place.
+pub fn decrypt_pieces_within(
+    slot: &mut Slot,
+    alloc: Global,
+    iv: &[u8],
+    aad: &[u8],
+    pieces: &mut [PieceMut<'_>],
+    n: usize,
+    written: &mut usize,
+) -> Status
+    ensures kept { slot.new.handle.value ≡ slot.old.handle.value }
+    ensures came { OnPlace slot.old.handle.value (λ t. OrNoMemory (DecryptsWithin t iv.now aad.now n)) result (text_over pieces.old) (text_over pieces.new) written.new }
+    ensures sizes { map size_of pieces.new ≡ map size_of pieces.old }
+{
+    *written = 0;
+    let Some(held) = slot.take(alloc) else {
+        return Status::Invalid;
+    };
+    let status = held.decrypt_pieces_within(alloc, iv, aad, pieces, n, written);
     slot.fill(held);
     status
 }
@@ -158,6 +204,26 @@ pub fn digest(
         return Status::Invalid;
     };
     let status = held.digest(text, out, written);
+    slot.fill(held);
+    status
+}
+
+/// Makes the MAC of a text in pieces.
+pub fn digest_pieces(
+    slot: &mut Slot,
+    alloc: Global,
+    pieces: &[Piece<'_>],
+    out: &mut [u8],
+    written: &mut usize,
+) -> Status
+    ensures kept { slot.new.handle.value ≡ slot.old.handle.value }
+    ensures came { OnPlace slot.old.handle.value (λ t. OrNoMemory (Digests t (text_in pieces.now))) result out.old out.new written.new }
+{
+    *written = 0;
+    let Some(held) = slot.take(alloc) else {
+        return Status::Invalid;
+    };
+    let status = held.digest_pieces(alloc, pieces, out, written);
     slot.fill(held);
     status
 }

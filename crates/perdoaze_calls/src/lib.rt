@@ -15,10 +15,11 @@ mod slot;
 mod status;
 mod telling;
 mod transform;
+mod vectored;
 
 pub use info::Info;
 pub use naming::init;
-pub use pieces::Piece;
+pub use pieces::{Piece, PieceMut};
 pub use slot::Slot;
 pub use status::Status;
 pub use telling::{list, tell};

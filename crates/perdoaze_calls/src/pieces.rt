@@ -1,14 +1,21 @@
 //! Texts in pieces.
 
-ghost use Rattle.std.specs.Prelude.{◌≡◌, ◌≤◌, ◌<◌, ◌^◌, ◌+◌, ◌++◌, length, take, drop, MatchOption};
-ghost use Rattle.perdoaze_calls.specs.Pieces.{text_in};
+ghost use Rattle.std.specs.Prelude.{◌≡◌, ◌≤◌, ◌<◌, ◌^◌, ◌+◌, ◌++◌, length, map, take, drop, MatchOption, IfOk};
+ghost use Rattle.perdoaze_calls.specs.Pieces.{text_in, text_over, size_of};
 
 use crate::requests::copy_front;
+use std::alloc::{AllocError, Global};
 
 /// A piece of a text, as POSIX's `struct iovec`.
 #[repr(C)]
 pub struct Piece<'a> {
     pub bytes: &'a [u8],
+}
+
+/// A piece of a text that is changed in its place: a `struct iovec`, too.
+#[repr(C)]
+pub struct PieceMut<'a> {
+    pub bytes: &'a mut [u8],
 }
 
 /// How many bytes the pieces have together, where they are fewer than 2^32.
@@ -34,14 +41,62 @@ fn put_behind(piece: &[u8], done: usize, into: &mut [u8])
     copy_front(piece, behind);
 }
 
-/// Copies the pieces, one behind the other, to the front of `into`.
-pub fn gather(pieces: &[Piece<'_>], into: &mut [u8])
-    requires { length (text_in pieces.now) ≤ length into.old }
-    ensures { into.new ≡ text_in pieces.now ++ drop (length (text_in pieces.now)) into.old }
+/// Copies `n` bytes of the pieces, from their byte `at` on, to the front of `into`.
+pub fn gather(pieces: &[Piece<'_>], at: usize, n: usize, into: &mut [u8])
+    requires within { at + n ≤ length (text_in pieces.now) }
+    requires room { n ≤ length into.old }
+    ensures { into.new ≡ take n (drop at (text_in pieces.now)) ++ drop n into.old }
 {
+    let mut skip = at;
     let mut done = 0;
     for piece in pieces {
-        put_behind(piece.bytes, done, into);
+        let begin = skip.min(piece.bytes.len());
+        let count = (piece.bytes.len() - begin).min(n - done);
+        put_behind(&piece.bytes[begin..begin + count], done, into);
+        skip -= begin;
+        done += count;
+    }
+}
+
+/// The bytes of all pieces. Only want of memory is an error.
+pub fn joined(alloc: Global, pieces: &[Piece<'_>]) -> Result<Vec<u8>, AllocError>
+    ensures { IfOk result (λ whole. whole.items ≡ text_in pieces.now) }
+{
+    let mut whole = Vec::new(alloc);
+    for piece in pieces {
+        whole.extend_from_slice(piece.bytes)?;
+    }
+    Ok(whole)
+}
+
+/// The bytes of all pieces. Only want of memory is an error.
+pub fn joined_over(alloc: Global, pieces: &[PieceMut<'_>]) -> Result<Vec<u8>, AllocError>
+    ensures { IfOk result (λ whole. whole.items ≡ text_over pieces.now) }
+{
+    let mut whole = Vec::new(alloc);
+    for piece in pieces {
+        whole.extend_from_slice(piece.bytes)?;
+    }
+    Ok(whole)
+}
+
+/// Copies as many bytes as `into` has, from the byte `at` on.
+fn copy_from(from: &[u8], at: usize, into: &mut [u8])
+    requires { at + length into.old ≤ length from.now }
+    ensures { into.new ≡ take (length into.old) (drop at from.now) }
+{
+    into.copy_from_slice(&from[at..at + into.len()]);
+}
+
+/// Writes `from`, which has as many bytes as the pieces, over them.
+pub fn scatter(from: &[u8], pieces: &mut [PieceMut<'_>])
+    requires { length from.now ≡ length (text_over pieces.old) }
+    ensures text { text_over pieces.new ≡ from.now }
+    ensures sizes { map size_of pieces.new ≡ map size_of pieces.old }
+{
+    let mut done = 0;
+    for piece in pieces.iter_mut() {
+        copy_from(from, done, piece.bytes);
         done += piece.bytes.len();
     }
 }

@@ -5,11 +5,9 @@ ghost use Rattle.std_defs.specs.Value.Value.{bytes};
 ghost use Rattle.transforms.specs.InPlace as kept;
 ghost use Rattle.transforms.specs.InPlace.{sealing, unsealing, opening};
 ghost use Rattle.transforms.specs.Plans.{fits_tag};
-ghost use Rattle.perdoaze_calls.specs.Pieces.{text_in};
-ghost use Rattle.perdoaze_calls.specs.Requests.{Encrypts, Decrypts, EncryptsWithin, DecryptsWithin, DecryptsGathered, Digests, refusal};
+ghost use Rattle.perdoaze_calls.specs.Requests.{Encrypts, Decrypts, EncryptsWithin, DecryptsWithin, Digests, refusal};
 ghost use Rattle.perdoaze_calls.specs.Under.{key_within};
 
-use crate::pieces::{Piece, gather, total_len};
 use crate::status::Status;
 use crate::transform::Transform;
 use kc_base::Errno;
@@ -24,7 +22,7 @@ pub fn copy_front(from: &[u8], into: &mut [u8])
 }
 
 /// Makes zeros of the first `n` bytes.
-fn clear_front(bytes: &mut [u8], n: usize)
+pub(crate) fn clear_front(bytes: &mut [u8], n: usize)
     requires { n ≤ length bytes.old }
     ensures { bytes.new ≡ replicate n 0 ++ drop n bytes.old }
 {
@@ -32,7 +30,7 @@ fn clear_front(bytes: &mut [u8], n: usize)
 }
 
 /// Why a request was refused.
-fn status_of(error: Errno) -> Status
+pub(crate) fn status_of(error: Errno) -> Status
     ensures { result ≡ refusal error }
 {
     match error {
@@ -74,7 +72,7 @@ fn open_whole(keyed: &Keyed, iv: &[u8], aad: &[u8], whole: &mut [u8], n: usize) 
 }
 
 /// Seals the first `n` bytes of `buffer` in their place, and writes a tag of `tag_size` bytes behind them.
-fn seal_front(
+pub(crate) fn seal_front(
     keyed: &Keyed,
     iv: &[u8],
     aad: &[u8],
@@ -121,7 +119,7 @@ fn open_front(
 }
 
 /// Opens the first `n` bytes of `buffer` in their place, under a tag that lies elsewhere.
-fn open_under(
+pub(crate) fn open_under(
     keyed: &Keyed,
     iv: &[u8],
     aad: &[u8],
@@ -145,7 +143,7 @@ fn open_under(
 
 impl Transform {
     /// The key. `NoKey` where none was set, and `Invalid` where there are 2^32 bytes or more.
-    fn ready(&self, aad: usize, text: usize) -> Result<&Keyed, Status>
+    pub(crate) fn ready(&self, aad: usize, text: usize) -> Result<&Keyed, Status>
         ensures { MatchResult result
             (λ k. (k.now.0 ≡ self.now.plan) × (key_within self.now.keyed ≡ Some k.now.1) × (aad < 2 ^ 32) × (text < 2 ^ 32))
             (λ e. ((e ≡ Status.NoKey) × (key_within self.now.keyed ≡ None)) ⊎ ((e ≡ Status.Invalid) × ((2 ^ 32 ≤ aad) ⊎ (2 ^ 32 ≤ text)))) }
@@ -288,81 +286,6 @@ impl Transform {
             }
             Err(error) => {
                 clear_front(out, sealed.len());
-                status_of(error)
-            }
-        }
-    }
-
-    /// Encrypts a text in pieces into `out`, and writes the tag behind the ciphertext.
-    pub fn encrypt_pieces(
-        &self,
-        iv: &[u8],
-        aad: &[u8],
-        pieces: &[Piece<'_>],
-        out: &mut [u8],
-        written: &mut usize,
-    ) -> Status
-        ensures { Encrypts self.now iv.now aad.now (text_in pieces.now) result out.old out.new written.new }
-    {
-        *written = 0;
-        let Some(n) = total_len(pieces) else {
-            return Status::Invalid;
-        };
-        let keyed = match self.ready(aad.len(), n) {
-            Ok(keyed) => keyed,
-            Err(status) => return status,
-        };
-        let size = n + self.authsize as usize;
-        if out.len() < size {
-            return Status::NoRoom;
-        }
-        gather(pieces, out);
-        match seal_front(keyed, iv, aad, out, n, self.authsize as usize) {
-            Ok(()) => {
-                *written = size;
-                Status::Done
-            }
-            Err(_) => {
-                clear_front(out, n);
-                Status::Invalid
-            }
-        }
-    }
-
-    /// Decrypts a text in pieces, of which the last bytes are the tag. It is gathered in `out`, which has room for all of it.
-    pub fn decrypt_pieces(
-        &self,
-        iv: &[u8],
-        aad: &[u8],
-        pieces: &[Piece<'_>],
-        out: &mut [u8],
-        written: &mut usize,
-    ) -> Status
-        ensures { DecryptsGathered self.now iv.now aad.now (text_in pieces.now) result out.old out.new written.new }
-    {
-        *written = 0;
-        let Some(n) = total_len(pieces) else {
-            return Status::Invalid;
-        };
-        let keyed = match self.ready(aad.len(), n) {
-            Ok(keyed) => keyed,
-            Err(status) => return status,
-        };
-        let tag_size = self.authsize as usize;
-        if n < tag_size {
-            return Status::Invalid;
-        }
-        if out.len() < n {
-            return Status::NoRoom;
-        }
-        gather(pieces, out);
-        match open_front(keyed, iv, aad, out, n, tag_size) {
-            Ok(()) => {
-                *written = n - tag_size;
-                Status::Done
-            }
-            Err(error) => {
-                clear_front(out, n);
                 status_of(error)
             }
         }

@@ -16,11 +16,14 @@
 //! ```
 
 use std::fmt;
+use std::io::{IoSlice, IoSliceMut};
 use std::ptr;
 
-/// The C functions. Their pointers are never NULL, and their lengths below 2^63, as those of slices are.
+/// The C functions. Their pointers are never NULL, and their lengths below 2^63, as those of slices are. An `IoSlice` is a
+/// `struct iovec`.
 pub mod ffi {
     use std::ffi::c_void;
+    use std::io::{IoSlice, IoSliceMut};
 
     #[repr(C)]
     pub struct Perdoaze {
@@ -100,10 +103,65 @@ pub mod ffi {
             out_len: usize,
             written: *mut usize,
         ) -> i32;
+        pub fn perdoaze_raw_encryptv(
+            tfm: *mut Perdoaze,
+            iv: *const u8,
+            iv_len: usize,
+            aad: *const u8,
+            aad_len: usize,
+            text: *const IoSlice<'_>,
+            pieces: usize,
+            out: *mut u8,
+            out_len: usize,
+            written: *mut usize,
+        ) -> i32;
+        pub fn perdoaze_raw_decryptv(
+            tfm: *mut Perdoaze,
+            iv: *const u8,
+            iv_len: usize,
+            aad: *const u8,
+            aad_len: usize,
+            text: *const IoSlice<'_>,
+            pieces: usize,
+            out: *mut u8,
+            out_len: usize,
+            written: *mut usize,
+        ) -> i32;
+        pub fn perdoaze_raw_encryptv_in_place(
+            tfm: *mut Perdoaze,
+            iv: *const u8,
+            iv_len: usize,
+            aad: *const u8,
+            aad_len: usize,
+            text: *mut IoSliceMut<'_>,
+            pieces: usize,
+            n: usize,
+            written: *mut usize,
+        ) -> i32;
+        pub fn perdoaze_raw_decryptv_in_place(
+            tfm: *mut Perdoaze,
+            iv: *const u8,
+            iv_len: usize,
+            aad: *const u8,
+            aad_len: usize,
+            text: *mut IoSliceMut<'_>,
+            pieces: usize,
+            n: usize,
+            written: *mut usize,
+        ) -> i32;
+        pub fn perdoaze_raw_digestv(
+            tfm: *mut Perdoaze,
+            text: *const IoSlice<'_>,
+            pieces: usize,
+            out: *mut u8,
+            out_len: usize,
+            written: *mut usize,
+        ) -> i32;
         pub fn perdoaze_raw_dup(from: *mut Perdoaze, into: *mut Perdoaze) -> i32;
         pub fn perdoaze_raw_info(tfm: *mut Perdoaze, info: *mut Info) -> i32;
         pub fn perdoaze_raw_list(index: usize, info: *mut Info) -> i32;
         pub fn perdoaze_raw_free(tfm: *mut Perdoaze);
+        pub fn perdoaze_wipe_stack();
     }
 }
 
@@ -311,6 +369,108 @@ impl Transform {
         Ok(written)
     }
 
+    /// As [`Transform::encrypt`], of a text in pieces.
+    pub fn encrypt_vectored(
+        &mut self,
+        iv: &[u8],
+        aad: &[u8],
+        text: &[IoSlice<'_>],
+        out: &mut [u8],
+    ) -> Result<usize, Errno> {
+        let mut n = 0;
+        done(unsafe {
+            ffi::perdoaze_raw_encryptv(
+                &mut self.0,
+                iv.as_ptr(),
+                iv.len(),
+                aad.as_ptr(),
+                aad.len(),
+                text.as_ptr(),
+                text.len(),
+                out.as_mut_ptr(),
+                out.len(),
+                &mut n,
+            )
+        })?;
+        Ok(n)
+    }
+
+    /// As [`Transform::decrypt`], of a text in pieces.
+    pub fn decrypt_vectored(
+        &mut self,
+        iv: &[u8],
+        aad: &[u8],
+        text: &[IoSlice<'_>],
+        out: &mut [u8],
+    ) -> Result<usize, Errno> {
+        let mut n = 0;
+        done(unsafe {
+            ffi::perdoaze_raw_decryptv(
+                &mut self.0,
+                iv.as_ptr(),
+                iv.len(),
+                aad.as_ptr(),
+                aad.len(),
+                text.as_ptr(),
+                text.len(),
+                out.as_mut_ptr(),
+                out.len(),
+                &mut n,
+            )
+        })?;
+        Ok(n)
+    }
+
+    /// As [`Transform::encrypt_in_place`], where the buffer lies in pieces. It takes memory for a copy of all of them: `ENOMEM`.
+    pub fn encrypt_vectored_in_place(
+        &mut self,
+        iv: &[u8],
+        aad: &[u8],
+        buffer: &mut [IoSliceMut<'_>],
+        n: usize,
+    ) -> Result<usize, Errno> {
+        let mut written = 0;
+        done(unsafe {
+            ffi::perdoaze_raw_encryptv_in_place(
+                &mut self.0,
+                iv.as_ptr(),
+                iv.len(),
+                aad.as_ptr(),
+                aad.len(),
+                buffer.as_mut_ptr(),
+                buffer.len(),
+                n,
+                &mut written,
+            )
+        })?;
+        Ok(written)
+    }
+
+    /// As [`Transform::decrypt_in_place`], where the buffer lies in pieces. It takes memory for a copy of all of them: `ENOMEM`.
+    pub fn decrypt_vectored_in_place(
+        &mut self,
+        iv: &[u8],
+        aad: &[u8],
+        buffer: &mut [IoSliceMut<'_>],
+        n: usize,
+    ) -> Result<usize, Errno> {
+        let mut written = 0;
+        done(unsafe {
+            ffi::perdoaze_raw_decryptv_in_place(
+                &mut self.0,
+                iv.as_ptr(),
+                iv.len(),
+                aad.as_ptr(),
+                aad.len(),
+                buffer.as_mut_ptr(),
+                buffer.len(),
+                n,
+                &mut written,
+            )
+        })?;
+        Ok(written)
+    }
+
     /// Writes the MAC of `text` to the front of `out`, and gives how many bytes it has.
     pub fn digest(&mut self, text: &[u8], out: &mut [u8]) -> Result<usize, Errno> {
         let mut n = 0;
@@ -319,6 +479,20 @@ impl Transform {
         })?;
         Ok(n)
     }
+
+    /// As [`Transform::digest`], of a text in pieces. It takes memory for a copy of the text: `ENOMEM`.
+    pub fn digest_vectored(&mut self, text: &[IoSlice<'_>], out: &mut [u8]) -> Result<usize, Errno> {
+        let mut n = 0;
+        done(unsafe {
+            ffi::perdoaze_raw_digestv(&mut self.0, text.as_ptr(), text.len(), out.as_mut_ptr(), out.len(), &mut n)
+        })?;
+        Ok(n)
+    }
+}
+
+/// Overwrites the stack below the caller's frame, where calls of the library have been.
+pub fn wipe_stack() {
+    unsafe { ffi::perdoaze_wipe_stack() }
 }
 
 impl Drop for Transform {
@@ -350,6 +524,28 @@ mod tests {
     }
 
     #[test]
+    fn texts_lie_in_pieces() {
+        let mut gcm = Transform::new("gcm(aes)").unwrap();
+        gcm.set_key(&[0; 16]).unwrap();
+        let pieces = [IoSlice::new(&[0; 5]), IoSlice::new(&[]), IoSlice::new(&[0; 11])];
+        let mut out = [0; 32];
+        assert_eq!(gcm.encrypt_vectored(&[0; 12], &[], &pieces, &mut out), Ok(32));
+        assert_eq!(out, SEALED);
+        let (front, back) = SEALED.split_at(20);
+        let mut opened = [9; 16];
+        let sealed = [IoSlice::new(front), IoSlice::new(back)];
+        assert_eq!(gcm.decrypt_vectored(&[0; 12], &[], &sealed, &mut opened), Ok(16));
+        assert_eq!(opened, [0; 16]);
+        let (mut first, mut second) = ([0; 7], [0; 25]);
+        let mut buffer = [IoSliceMut::new(&mut first), IoSliceMut::new(&mut second)];
+        assert_eq!(gcm.encrypt_vectored_in_place(&[0; 12], &[], &mut buffer, 16), Ok(32));
+        assert_eq!([&buffer[0][..], &buffer[1][..]].concat(), SEALED);
+        assert_eq!(gcm.decrypt_vectored_in_place(&[0; 12], &[], &mut buffer, 32), Ok(16));
+        assert_eq!([&first[..], &second[..9]].concat(), [0; 16]);
+        wipe_stack();
+    }
+
+    #[test]
     fn threads_share_a_key() {
         let mut gcm = Transform::new("gcm_base(ctr(aes-lanes),ghash-table)").unwrap();
         gcm.set_key(&[0; 16]).unwrap();
@@ -371,6 +567,9 @@ mod tests {
         let mut out = [0; 32];
         assert_eq!(hmac.digest(b"Hi There", &mut out), Ok(32));
         assert_eq!(out[..4], [0xb0, 0x34, 0x4c, 0x61]);
+        let mut again = [0; 32];
+        assert_eq!(hmac.digest_vectored(&[IoSlice::new(b"Hi "), IoSlice::new(b"There")], &mut again), Ok(32));
+        assert_eq!(again, out);
         assert_eq!(hmac.encrypt(&[], &[], b"Hi There", &mut out), Err(Errno::EINVAL));
     }
 

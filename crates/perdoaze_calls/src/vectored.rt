@@ -1,0 +1,152 @@
+//! Requests whose text lies in pieces.
+
+ghost use Rattle.std.specs.Prelude.{◌≡◌, map};
+ghost use Rattle.perdoaze_calls.specs.Pieces.{text_in, text_over, size_of};
+ghost use Rattle.perdoaze_calls.specs.Requests.{Encrypts, Decrypts, EncryptsWithin, DecryptsWithin, Digests, OrNoMemory};
+
+use crate::pieces::{Piece, PieceMut, gather, joined, joined_over, scatter, total_len};
+use crate::requests::{clear_front, open_under, seal_front, status_of};
+use crate::status::Status;
+use crate::transform::Transform;
+use std::alloc::Global;
+
+impl Transform {
+    /// Encrypts a text in pieces into `out`, and writes the tag behind the ciphertext.
+    pub fn encrypt_pieces(
+        &self,
+        iv: &[u8],
+        aad: &[u8],
+        pieces: &[Piece<'_>],
+        out: &mut [u8],
+        written: &mut usize,
+    ) -> Status
+        ensures { Encrypts self.now iv.now aad.now (text_in pieces.now) result out.old out.new written.new }
+    {
+        *written = 0;
+        let Some(n) = total_len(pieces) else {
+            return Status::Invalid;
+        };
+        let keyed = match self.ready(aad.len(), n) {
+            Ok(keyed) => keyed,
+            Err(status) => return status,
+        };
+        let size = n + self.authsize as usize;
+        if out.len() < size {
+            return Status::NoRoom;
+        }
+        gather(pieces, 0, n, out);
+        match seal_front(keyed, iv, aad, out, n, self.authsize as usize) {
+            Ok(()) => {
+                *written = size;
+                Status::Done
+            }
+            Err(_) => {
+                clear_front(out, n);
+                Status::Invalid
+            }
+        }
+    }
+
+    /// Decrypts a text in pieces, of which the last bytes are the tag, into `out`.
+    pub fn decrypt_pieces(
+        &self,
+        iv: &[u8],
+        aad: &[u8],
+        pieces: &[Piece<'_>],
+        out: &mut [u8],
+        written: &mut usize,
+    ) -> Status
+        ensures { Decrypts self.now iv.now aad.now (text_in pieces.now) result out.old out.new written.new }
+    {
+        *written = 0;
+        let Some(n) = total_len(pieces) else {
+            return Status::Invalid;
+        };
+        let keyed = match self.ready(aad.len(), n) {
+            Ok(keyed) => keyed,
+            Err(status) => return status,
+        };
+        let tag_size = self.authsize as usize;
+        if n < tag_size {
+            return Status::Invalid;
+        }
+        let size = n - tag_size;
+        if out.len() < size {
+            return Status::NoRoom;
+        }
+        let mut tag = [0u8; 32];
+        gather(pieces, size, tag_size, &mut tag);
+        gather(pieces, 0, size, out);
+        match open_under(keyed, iv, aad, out, size, &tag[..tag_size]) {
+            Ok(()) => {
+                *written = size;
+                Status::Done
+            }
+            Err(error) => {
+                clear_front(out, size);
+                status_of(error)
+            }
+        }
+    }
+
+    /// Encrypts the first `n` bytes of the pieces in their place, and writes the tag behind them. It takes memory for all of them.
+    pub fn encrypt_pieces_within(
+        &self,
+        alloc: Global,
+        iv: &[u8],
+        aad: &[u8],
+        pieces: &mut [PieceMut<'_>],
+        n: usize,
+        written: &mut usize,
+    ) -> Status
+        ensures came { OrNoMemory (EncryptsWithin self.now iv.now aad.now n) result (text_over pieces.old) (text_over pieces.new) written.new }
+        ensures sizes { map size_of pieces.new ≡ map size_of pieces.old }
+    {
+        *written = 0;
+        let Ok(mut whole) = joined_over(alloc, pieces) else {
+            return Status::NoMemory;
+        };
+        let status = self.encrypt_within(iv, aad, whole.as_mut_slice(), n, written);
+        scatter(whole.as_slice(), pieces);
+        status
+    }
+
+    /// Decrypts the first `n` bytes of the pieces in their place, of which the last are the tag. It takes memory for all of them.
+    pub fn decrypt_pieces_within(
+        &self,
+        alloc: Global,
+        iv: &[u8],
+        aad: &[u8],
+        pieces: &mut [PieceMut<'_>],
+        n: usize,
+        written: &mut usize,
+    ) -> Status
+        ensures came { OrNoMemory (DecryptsWithin self.now iv.now aad.now n) result (text_over pieces.old) (text_over pieces.new) written.new }
+        ensures sizes { map size_of pieces.new ≡ map size_of pieces.old }
+    {
+        *written = 0;
+        let Ok(mut whole) = joined_over(alloc, pieces) else {
+            return Status::NoMemory;
+        };
+        let status = self.decrypt_within(iv, aad, whole.as_mut_slice(), n, written);
+        scatter(whole.as_slice(), pieces);
+        status
+    }
+
+    /// Writes the MAC of a text in pieces into `out`. It takes memory for the text.
+    pub fn digest_pieces(
+        &self,
+        alloc: Global,
+        pieces: &[Piece<'_>],
+        out: &mut [u8],
+        written: &mut usize,
+    ) -> Status
+        ensures { OrNoMemory (Digests self.now (text_in pieces.now)) result out.old out.new written.new }
+    {
+        *written = 0;
+        match joined(alloc, pieces) {
+            Ok(whole) => self.digest(whole.as_slice(), out, written),
+            Err(_) => Status::NoMemory,
+        }
+    }
+}
