@@ -1,15 +1,18 @@
 //! Works on 64 KiB again and again, for tools/time-program to time: `cipher_speed WORK FORM COUNT` does COUNT times what WORK says
 //! (`ctr`, `cbc`, `cbc-open`, `xts`, `xts-open`, `gcm`, `gcm-open` or `hmac`) with AES in the form FORM (`generic`, `table` or `lanes`), and prints
 //! the first bytes of what came of it, so that no turn can be left out. `cipher_speed chunks FORM COUNT THREADS` does the same with
-//! CTR of 16 MiB, in chunks for so many threads. Without words it prints nothing.
+//! CTR of 16 MiB, in chunks for so many threads. `cipher_speed packets WAY SIZE COUNT` seals eight packets under authenc over CBC, WAY being
+//! `together` or `singly`, and SIZE a number of bytes or `mixed`. Without words it prints nothing.
 #![tactic(auto)]
 
 ghost use Rattle.std.specs.Prelude.{◌≡◌, ◌<◌, IfOk, vec_len};
 
 mod chunked;
+mod packets;
 mod sealing;
 
 use chunked::repeat_chunked;
+use packets::{Way, repeat_packets, sizes_named, way_named};
 use sealing::{Form, Work, form_named, repeat, work_named};
 use std::alloc::{AllocError, Global};
 use std::process::ExitCode;
@@ -25,6 +28,7 @@ const LONG: usize = 16_777_216;
 enum Order {
     Whole(Work, Form, u32),
     Chunked(Form, u32, u32),
+    Packets(Way, [usize; 8], u32),
 }
 
 fn zeros(alloc: Global, length: usize) -> Result<Vec<u8>, AllocError>
@@ -54,6 +58,11 @@ fn order_of(words: &[String]) -> Option<Order> {
             let count = count.parse::<u32>().ok()?;
             Some(Order::Chunked(form, count, threads.parse::<u32>().ok()?))
         }
+        [packets, way, sizes, count] if packets.as_str() == "packets" => {
+            let way = way_named(way.as_str())?;
+            let sizes = sizes_named(sizes.as_str())?;
+            Some(Order::Packets(way, sizes, count.parse::<u32>().ok()?))
+        }
         _ => None,
     }
 }
@@ -77,9 +86,14 @@ fn main(rt: HostRuntime) -> io::Result<ExitCode> {
             println!(rt; "{:?}", &text[..16])?;
             Ok(ExitCode::SUCCESS)
         }
+        Some(Order::Packets(way, sizes, count)) => {
+            let tags = repeat_packets(rt.alloc(), way, &sizes, count)?;
+            println!(rt; "{:?}", &tags[7][..16])?;
+            Ok(ExitCode::SUCCESS)
+        }
         None => {
             eprintln!(rt;
-                "cipher_speed: the words are a work (ctr, cbc, cbc-open, xts, xts-open, gcm, gcm-open or hmac), a form of AES (generic, table or lanes) and a count, or chunks, a form, a count and a number of threads"
+                "cipher_speed: the words are a work (ctr, cbc, cbc-open, xts, xts-open, gcm, gcm-open or hmac), a form of AES (generic, table or lanes) and a count, or chunks, a form, a count and a number of threads, or packets, together or singly, a size and a count"
             )?;
             Ok(ExitCode::from(2))
         }

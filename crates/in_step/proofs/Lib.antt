@@ -1,2 +1,2 @@
-mod Behind
-mod Chains
+pub mod Behind
+pub mod Chains

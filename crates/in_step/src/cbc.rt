@@ -9,7 +9,7 @@ use aes_block::{BlockCipher, Skcipher, xor_block};
 use cbc_mode::Cbc;
 
 /// Fewer chains than these are sealed sooner one by one: eight blocks side by side take as long as so many by themselves.
-const LEAST_CHAINS: usize = 5;
+const LEAST_CHAINS: usize = 4;
 
 /// Block `i` of the text.
 #[tactic(auto, unfolding(std_defs::specs::Blocks::text_block))]

@@ -11,7 +11,7 @@ use sha_lanes::{Sha256, compress_in_step, compressed, digest_of};
 use std::simd::prelude::*;
 
 /// Fewer messages than these are hashed sooner one by one: a step costs as much as so many blocks.
-const LEAST_LANES: usize = 5;
+const LEAST_LANES: usize = 4;
 
 /// The hash value in each lane.
 fn in_all_lanes(value: &[u32; 8]) -> [u32x8; 8]

@@ -22,13 +22,17 @@ pub(crate) fn count_of(first: &[u8], second: &[u8]) -> usize
 
 /// Copies what the piece has behind its first `skip` bytes to the place behind the first `used` of the block, as far as
 /// there is room. How many bytes of the block are used then.
+#[inline(always)]
 fn add_piece(block: &mut [u8], used: usize, piece: &[u8], skip: usize) -> usize
     requires block { length block.old ≡ 64 }
     requires within { used ≤ 64 }
     ensures used { result ≡ used + min (64 - used) (length piece.now - skip) }
     ensures bytes { take result block.new ≡ take used block.old ++ take (64 - used) (drop skip piece.now) }
 {
-    let rest = &piece[skip.min(piece.len())..];
+    if skip >= piece.len() {
+        return used;
+    }
+    let rest = &piece[skip..];
     let count = rest.len().min(64 - used);
     block[used..used + count].copy_from_slice(&rest[..count]);
     used + count

@@ -54,6 +54,7 @@ pub fn seal_authenc_in_step<C: BlockCipher + Drop>(
         → authenc_seal mac.now (cbc_seal (C.sealed mode.now) (slice_index_or ivs.now n [])) (piece aads.now n) (take (slice_index lengths.now n) (text_in texts.old n))
         ≡ Some (take (slice_index lengths.now n) (text_in texts.new n), slice_index_or result n []) }
     ensures rest { (n : ℕ) → n < 8 → drop (slice_index lengths.now n) (text_in texts.new n) ≡ drop (slice_index lengths.now n) (text_in texts.old n) }
+    ensures length { (n : ℕ) → n < 8 → length (text_in texts.new n) ≡ length (text_in texts.old n) }
 {
     seal_cbc_in_step(mode, ivs, texts, lengths);
     macs_in_step(mac, aads, &fronts(texts, lengths))

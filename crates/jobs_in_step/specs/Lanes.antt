@@ -1,0 +1,43 @@
+-- What stands in a lane.
+use Rattle.std.specs.Prelude.{◌≡◌, ⊤, ℕ, Option, Some, None, List, [], length}
+use Rattle.std.specs.Arc.{arc_value}
+use Rattle.std.specs.Global.{Global}
+use Rattle.std.specs.declared.sync.Arc.{Arc}
+use Rattle.std_defs.specs.Value.{Value}
+use Rattle.std_defs.specs.Value.Value.{bytes}
+use Rattle.transforms.specs.AskValue.{ask_room, ask_value, IsFit}
+use Rattle.transforms.specs.declared.ask.Ask.{Ask}
+use Rattle.transforms.specs.declared.job.Job.{Job}
+use Rattle.transforms.specs.declared.request.Request.{Request}
+use Rattle.jobs_in_step.specs.Steps.{Fits}
+
+-- the ask of its job, where there is one
+abbrev pub Asked : Type 0
+Asked = Option (Arc Ask Global)
+
+abbrev pub text_length : Asked → ℕ
+text_length None = 0
+text_length (Some a) = length (arc_value a).request.text.text
+
+abbrev pub aad_in : Asked → List ℕ
+aad_in None = []
+aad_in (Some a) = (arc_value a).request.aad
+
+-- the value of a lane's job
+abbrev pub job_value : Job → Value
+job_value j = ask_value (arc_value j.ask)
+
+-- the lane's job taken apart: its ask, and what its buffer begins with
+abbrev pub IsPart : Option Job → Asked → List ℕ → Type 0
+IsPart None asked text = (asked ≡ None) × (text ≡ [])
+IsPart (Some j) asked text = (asked ≡ Some j.ask) × (text ≡ ask_room (arc_value j.ask)) × IsFit (arc_value j.ask)
+
+-- the lane holds no job, or one that fits, with the room for its answer as its text
+abbrev pub IsReady : (ℕ → Request → List ℕ) → Asked → List ℕ → Type 0
+IsReady room None text = text ≡ []
+IsReady room (Some a) text = Fits (arc_value a) × (text ≡ room (arc_value a).authsize (arc_value a).request) × IsFit (arc_value a)
+
+-- the text is the value of the lane's ask, where there is one
+abbrev pub IsAnswer : (ℕ → Request → Value) → Asked → List ℕ → Type 0
+IsAnswer value None text = ⊤
+IsAnswer value (Some a) text = bytes text ≡ value (arc_value a).authsize (arc_value a).request

@@ -1,0 +1,45 @@
+-- What of a key seals eight texts in step, and the sealings that it takes.
+use Rattle.std.specs.Prelude.{◌≡◌, ◌≤◌, ◌%◌, ℕ, ◌++◌, List, length, replicate}
+use Rattle.std.specs.Option.{option_map}
+use Rattle.std_defs.specs.Aes.{seal}
+use Rattle.std_defs.specs.Authenc.{authenc_seal}
+use Rattle.std_defs.specs.Modes.{cbc_seal}
+use Rattle.std_defs.specs.Value.{Value, or_invalid}
+use Rattle.transforms.specs.Forms.{key_of}
+use Rattle.transforms.specs.Tagged.{tagged}
+use Rattle.transforms.specs.declared.any_aes.AnyAes.{AnyAes}
+use Rattle.transforms.specs.declared.ask.Ask.{Ask}
+use Rattle.transforms.specs.declared.request.Dir.TheVariants.{Enc}
+use Rattle.transforms.specs.declared.request.Request.{Request}
+use Rattle.jobs_in_step.specs.declared.step_key.StepKey.{StepKey}
+use Rattle.jobs_in_step.specs.declared.step_key.StepKey.TheVariants.{Cbc, Authenc}
+
+-- the value of a request to seal under CBC, or under authenc over it with a tag of n bytes
+abbrev pub cbc_gives : AnyAes → ℕ → Request → Value
+cbc_gives aes n q = or_invalid (cbc_seal (seal (key_of aes)) q.iv q.text.text)
+
+abbrev pub authenc_gives : List ℕ → AnyAes → ℕ → Request → Value
+authenc_gives block aes n q = or_invalid (option_map (tagged n) (authenc_seal block (cbc_seal (seal (key_of aes)) q.iv) q.aad q.text.text))
+
+-- what the buffer of such a request begins with
+abbrev pub plain_room : ℕ → Request → List ℕ
+plain_room n q = q.text.text
+
+abbrev pub tagged_room : ℕ → Request → List ℕ
+tagged_room n q = q.text.text ++ replicate n 0
+
+-- by what is kept of a key
+abbrev pub sealed_by : StepKey → ℕ → Request → Value
+sealed_by (Cbc mode) = cbc_gives mode.now
+sealed_by (Authenc mac mode) = authenc_gives mac.now mode.now
+
+abbrev pub room_by : StepKey → ℕ → Request → List ℕ
+room_by (Cbc mode) = plain_room
+room_by (Authenc mac mode) = tagged_room
+
+-- a request to seal whole blocks, for a tag of at most 32 bytes
+pub record Fits (a : Ask) : Type 0 where
+  pub dir : a.request.dir ≡ Enc
+  pub iv : length a.request.iv ≡ 16
+  pub blocks : length a.request.text.text % 16 ≡ 0
+  pub tag : a.authsize ≤ 32

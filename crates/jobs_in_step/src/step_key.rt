@@ -1,0 +1,36 @@
+//! What of a key seals eight texts in step.
+
+ghost use Rattle.std.specs.Prelude.{◌≡◌, ℕ, ⊤, MatchOption};
+ghost use Rattle.transforms.specs.Asked.{room_of};
+ghost use Rattle.transforms.specs.Drivers.{driver_of};
+ghost use Rattle.transforms.specs.RequestValue.{request_value};
+ghost use Rattle.transforms.specs.declared.request.Dir.TheVariants.{Enc};
+ghost use Rattle.transforms.specs.declared.request.Request.{Request};
+
+use cbc_mode::Cbc;
+use hmac_sha::Mac;
+use transforms::{AnyAead, AnyAes, AnyCipher, Inner, Keyed};
+
+/// CBC, or authenc over it.
+#[derive(Clone, Copy)]
+pub enum StepKey<'a> {
+    Cbc(&'a Cbc<AnyAes>),
+    Authenc(&'a Mac, &'a Cbc<AnyAes>),
+}
+
+ghost use Rattle.jobs_in_step.specs.Steps.{sealed_by, room_by};
+
+/// What of a key seals eight texts in step, or none where its plan is another than CBC and authenc over it.
+pub fn step_key(key: &Keyed) -> Option<StepKey<'_>>
+    ensures values { MatchOption result ⊤ (λ k. (n : ℕ) (q : Request) → q.dir ≡ Enc → sealed_by k n q ≡ request_value (driver_of key.now.0) key.now.1 n q) }
+    ensures rooms { MatchOption result ⊤ (λ k. (n : ℕ) (q : Request) → q.dir ≡ Enc → room_by k n q ≡ room_of key.now.0 n q) }
+{
+    match key.inner() {
+        Inner::Skcipher(AnyCipher::Cbc(mode)) => Some(StepKey::Cbc(mode)),
+        Inner::Aead(AnyAead::Authenc(both)) => match both.cipher() {
+            AnyCipher::Cbc(mode) => Some(StepKey::Authenc(both.mac(), mode)),
+            _ => None,
+        },
+        _ => None,
+    }
+}
