@@ -30,11 +30,11 @@ use Rattle.script_run.specs.declared.errors.RunError.{RunError}
 use Rattle.script_run.specs.declared.errors.RunError.TheVariants.{ReadFault, WriteFault, TooLong, NoMemory}
 use Rattle.script_run.specs.Answered.{AreAnsweredAfter, BeginsWithTextAfter, AnswersFirst, RunsSource, script_in}
 use Rattle.script_run.specs.Laws.{Laws}
-use Rattle.script_run.specs.Runs.{Gains, IsFresh, IsUnshutOrEnds, Writes, Breaks, IsFrontAfter}
+use Rattle.script_run.specs.Runs.{Gains, IsFresh, IsUnshutOrEnds, Writes, Breaks, IsFrontAfter, IsByLinesAfter}
 use Rattle.script_run.specs.Statuses.{of_input, of_output}
 use Rattle.script_run.specs.Text.{is_malformed}
 use Rattle.script_run.proofs.Fronts.{nothing-front}
-use Rattle.script_run.proofs.Going.{Going, goes-same, keeps-same, appends-none, going-begins, going-more, going-breaks, going-end_breaks, going-begun, going-end_begun, going-ends, going-ends_front, going-ends_in_turn, going-ends_own, line_broken-goes, end_broken-goes, end-goes, stopped, led-answered}
+use Rattle.script_run.proofs.Going.{Going, goes-same, keeps-same, appends-none, going-begins, going-more, going-breaks, going-end_breaks, going-begun, going-end_begun, going-ends, going-ends_front, going-ends_in_turn, going-ends_own, line_broken-goes, end_broken-goes, end-goes, stopped, stopped-by_lines, going-by_lines, going-end_by_lines, going-ends_by_lines, nothing-by_lines, led-answered}
 use Rattle.script_run.proofs.Readings.{Reading, cut-told, told-whole, cut-all, after-read, after-behind, after-short, failed-whole, too_long-is, too_long-whole, reading-begins, reading-line, reading-end}
 
 -- ---- causes
@@ -73,6 +73,7 @@ runs-nothing registry board first left held ready fresh = record {
   lines = record {
     goes_on = goes-same first;
     front = ([], (λ r b from_r from_b. nothing-front first.workers (start 0) 0 (script_of (script_in left [])) r b), appends-none held);
+    by_lines = ([], (λ r b from_r from_b. nothing-by_lines first.workers (script_of (script_in left [])) r b), appends-none held);
     whole = tt;
     in_turn = tt;
     own = tt;
@@ -150,6 +151,9 @@ module _ (laws : Laws) (stay : WholeLinesStay) (none : NoWholeLine) (first : Sta
               front =
                   subst (λ ls. Gains x y (IsFrontAfter first.workers ls (known s.registry) (known s.board))) (sym told.1)
                   (stopped laws first registry board at.done number x y y s s at.going told.0 (goes-same s) (keeps-same y));
+              by_lines =
+                  subst (λ ls. Gains x y (IsByLinesAfter first.workers ls (known s.registry) (known s.board))) (sym told.1)
+                  (stopped-by_lines laws first registry board at.done number x y y s s at.going told.0 (goes-same s) (keeps-same y));
               whole = tt;
               in_turn = tt;
               own = tt;
@@ -201,6 +205,9 @@ module _ (laws : Laws) (stay : WholeLinesStay) (none : NoWholeLine) (first : Sta
               front =
                   subst (λ ls. Gains x z (IsFrontAfter first.workers ls (known s'.registry) (known s'.board))) (sym told.1)
                   (going-breaks laws first registry board at.done number x y z s s' at.going said told.0 breaks);
+              by_lines =
+                  subst (λ ls. Gains x z (IsByLinesAfter first.workers ls (known s'.registry) (known s'.board))) (sym told.1)
+                  (going-by_lines laws first registry board at.done number x y z s s' at.going said told.0 breaks);
               whole = tt;
               in_turn = tt;
               own = tt;
@@ -251,6 +258,7 @@ module _ (laws : Laws) (stay : WholeLinesStay) (none : NoWholeLine) (first : Sta
         lines = record {
           goes_on = end_broken-goes laws first registry board at.done number x y z s s' at.going breaks;
           front = going-end_breaks laws first registry board at.done number x y z s s' at.going (script_of (script_in left end_at)) all-lines breaks;
+          by_lines = going-end_by_lines laws first registry board at.done number x y z s s' at.going (script_of (script_in left end_at)) all-lines breaks;
           whole = tt;
           in_turn = tt;
           own = tt;
@@ -281,6 +289,7 @@ module _ (laws : Laws) (stay : WholeLinesStay) (none : NoWholeLine) (first : Sta
             lines = record {
               goes_on = end-goes laws first registry board at.done number x y z s s' at.going step;
               front = going-ends_front laws first registry board at.done number x y z s s' at.going lines all-lines step;
+              by_lines = going-ends_by_lines laws first registry board at.done number x y z s s' at.going lines all-lines step;
               whole = going-ends laws first registry board at.done number x y z s s' at.going lines all-lines step;
               in_turn = going-ends_in_turn laws first registry board at.done number x y z s s' at.going lines all-lines step;
               own = going-ends_own laws first registry board at.done number x y z s s' at.going lines all-lines step;

@@ -24,6 +24,7 @@ use Rattle.dialogues.specs.Allocating.{lists_beside}
 use Rattle.dialogues.specs.BoardCalls.{BoardCall, Shuts, board_calls, board_calls_from}
 use Rattle.dialogues.specs.RegistryCalls.{reg_calls}
 use Rattle.dialogues.specs.Texts.{IsText}
+use Rattle.script_run.specs.ByLines.{IsTextByLines}
 use Rattle.script_run.specs.Fronts.{IsFrontText}
 use Rattle.dialogues.specs.Walk.{start}
 use Rattle.script_session.specs.Ending.{EndsShut}
@@ -50,11 +51,11 @@ use Rattle.script_run.specs.Answered.{AreAnswered, BeginsWithText, AreAnsweredAf
 use Rattle.script_run.specs.Laws.{Laws, CrewLaws}
 use Rattle.script_run.specs.Endings.{AreCallers, EndsShut as ShutLast, IsShutOnce}
 use Rattle.script_run.specs.Beside.{AreHistories, ScriptRan}
-use Rattle.script_run.specs.Runs.{Gains, GoesOn, OthersFollow, IsTextAfter, IsFrontAfter, InTurn, InTurnAfter, IsShutIn, IsUnshutOrEnds, WasShut, AreNew, HasShut, Ended}
+use Rattle.script_run.specs.Runs.{Gains, GoesOn, OthersFollow, IsTextAfter, IsFrontAfter, IsByLinesAfter, InTurn, InTurnAfter, IsShutIn, IsUnshutOrEnds, WasShut, AreNew, HasShut, Ended}
 use Rattle.script_run.specs.Text.{is_malformed}
 use Rattle.shared_registry.specs.Building.{is_building}
 use Rattle.script_run.proofs.Following.{none-pass, starts-trans, sees-then, others-then, board_calls-same}
-use Rattle.script_run.proofs.Going.{nothing_fronted}
+use Rattle.script_run.proofs.Going.{nothing_fronted, nothing_by_lines}
 
 map_ok : {A B : Type 0} (result : Result Bool RunError) → (A → B) → OnOk result A → OnOk result B
 map_ok (Ok bad) f holds = f holds
@@ -265,6 +266,13 @@ module _ (workers : ℕ) (p q : Passes Ask) (qb : BoardPass) (s s' : State) (of_
       g.2,
     )
 
+    by_lines-on : Gains held held' (IsByLinesAfter s.workers lines (known s'.registry) (known s'.board)) → Gains held held' (IsByLinesAfter workers lines (knows q.registry) (knows q.board))
+    by_lines-on g = (
+      g.0,
+      λ r b from_r from_b. subst (λ w. IsTextByLines w lines r b g.0) same-workers (g.1 r b (from-registry r from_r) (from-board b from_b)),
+      g.2,
+    )
+
     ended-on : Gains held held' (IsTextAfter s.workers lines (known s'.registry) (known s'.board)) → InTurnAfter lines (known s'.registry) → IsOwn reg_caller (known s'.registry) → EndsShut (known s'.board)
         → Ended workers lines q held held'
     ended-on g in_turn own ends = record {
@@ -307,6 +315,7 @@ module _ (workers : ℕ) (p q : Passes Ask) (qb : BoardPass) (s s' : State) (of_
           answers = record {
             part = part-of did.unshut;
             front = front-on lines held held' did.front;
+            by_lines = by_lines-on lines held held' did.by_lines;
             ended = ended-ok lines held held' result did.whole did.in_turn did.own did.shut;
             malformed = did.malformed;
           };
@@ -516,6 +525,7 @@ not-ran workers left held = record {
   settled = tt;
   shut = tt;
   front = nothing_fronted workers left held [] [];
+  by_lines = nothing_by_lines workers left held [] [];
   first = nothing-read workers left held [] [];
   malformed = tt;
   closed = inr (refl, refl, refl);
@@ -597,6 +607,7 @@ module _ (laws : CrewLaws) (workers : ℕ) (left left' : Option (List ℕ)) (fir
     settled = on-told (λ script. IsSettled (script_of script) → Gains held held' (λ text. text ≡ plain_text (script_of script))) whole-plain;
     shut = map_ok result whole-shut source.answers.ended;
     front = if_told (λ script. Gains held held' (IsFrontText workers (start 0) 0 (script_of script) r b)) left source.given (source.answers.front.0, source.answers.front.1 r b from-r from-b, source.answers.front.2);
+    by_lines = if_told (λ script. Gains held held' (IsTextByLines workers (script_of script) r b)) left source.given (source.answers.by_lines.0, source.answers.by_lines.1 r b from-r from-b, source.answers.by_lines.2);
     first = ran-source;
     malformed = if-ok (λ bad. bad ≡ list_any is_malformed lines) (λ bad. IfSome left (λ script. bad ≡ list_any is_malformed (script_of script))) result
         (λ bad is. if_told (λ script. bad ≡ list_any is_malformed (script_of script)) left source.given is) source.answers.malformed;

@@ -15,6 +15,7 @@ use Rattle.dialogues.specs.Lines.{line_dialogue, lines_dialogue}
 use Rattle.dialogues.specs.Piping.{end}
 use Rattle.dialogues.specs.RegistryCalls.{RegCall, reg_calls, reg_calls_from, AllSettled}
 use Rattle.dialogues.specs.Texts.{IsText}
+use Rattle.script_run.specs.ByLines.{IsTextByLines, LinesTell, ScriptTells, NothingIsByLines, told_by}
 use Rattle.script_run.specs.Fronts.{IsFrontText}
 use Rattle.dialogues.specs.Turns.{Turn, IsTurn, ended, joined, text_in, turn_of}
 use Rattle.dialogues.specs.Walk.{start}
@@ -35,11 +36,11 @@ use Rattle.shared_registry.specs.declared.sharing.SharedRegistry.{SharedRegistry
 use Rattle.transforms.specs.declared.ask.Ask.{Ask}
 use Rattle.transforms.specs.declared.request.Finished.{Finished}
 use Rattle.turn_lock.specs.Meeting.{IsOwn}
-use Rattle.turn_lock.specs.Turns.{Known}
+use Rattle.turn_lock.specs.Turns.{Known, StartsWith}
 use Rattle.script_run.specs.Answered.{AreAnsweredAfter, BeginsWithTextAfter, lines_turn}
 use Rattle.script_run.specs.Laws.{Laws}
 use Rattle.script_session.specs.Holding.{HasSeenMore}
-use Rattle.script_run.specs.Runs.{Gains, GoesOn, IsFresh, Writes, Breaks, IsTextAfter, IsFrontAfter, InTurnAfter}
+use Rattle.script_run.specs.Runs.{Gains, GoesOn, IsFresh, Writes, Breaks, IsTextAfter, IsFrontAfter, IsByLinesAfter, InTurnAfter}
 use Rattle.script_run.proofs.Fronts.{front-lines, front-text, nothing-front, widest-front, widest-last}
 use Rattle.script_run.proofs.Following.{starts-trans, sees-same, sees-then, reg_calls-on, board_calls-on, reg_calls-same, board_calls-same, in_turn-on}
 
@@ -234,6 +235,26 @@ module _ (laws : Laws) (first : State) where
           text_is = sym (ap text_in is ∙ alone-text);
         }
 
+    -- however the session goes on, they print this text
+    pub led-tells : (s' : State) → GoesOn s s' → (r : List RegEntry) (b : List (BoardEntry Ask)) → StartsWith r (known s'.registry).seen → StartsWith b (known s'.board).seen → LinesTell first.workers done r b (text_in led.turn)
+    led-tells s' goes r b from_r from_b =
+        let t = led.turn in
+        let reg = starts-trans k.seen (known s'.registry).seen r goes.registry.seen from_r in
+        let brd = starts-trans l.seen (known s'.board).seen b goes.board.seen from_b in
+        let more_r = reg_calls_from (k.seen ++ reg.0) 0 k.seen reg.0 in
+        let more_b = board_calls_from 0 l.seen brd.0 in
+        let calls_r : reg_calls 0 r ≡ t.registry ++ more_r = reg_calls-on laws k.seen r led.settled reg ∙ ap (λ cs. cs ++ more_r) led.asked in
+        let calls_b : board_calls 0 b ≡ t.board ++ more_b = board_calls-on laws l.seen b brd ∙ ap (λ cs. cs ++ more_b) led.called in
+        let is : told_by first.workers done r b ≡ joined t (ended s.walk) =
+        ap (λ cs. turn_of (lines_dialogue first.workers (start 0) 1 done Done) cs (board_calls 0 b)) calls_r
+        ∙ (ap (turn_of (lines_dialogue first.workers (start 0) 1 done Done) (t.registry ++ more_r)) calls_b ∙ leads-alone more_r more_b) in
+        record {
+          registry = (more_r, ap (λ (u : Turn). u.registry ++ more_r) is ∙ (ap (λ cs. cs ++ more_r) (append-nil t.registry) ∙ sym calls_r));
+          board = (more_b, ap (λ (u : Turn). u.board ++ more_b) is ∙ (ap (λ cs. cs ++ more_b) (append-nil t.board) ∙ sym calls_b));
+          ended = ap (λ (u : Turn). is_some u.after) is;
+          text_is = sym (ap text_in is ∙ alone-text);
+        }
+
     -- however the session goes on, what is written begins with the text of the first of them
     led-begins_with : (ones : List Line) (s' : State) (text : List ℕ) → AreFirst ones done → GoesOn s s' → IsPrefix (text_in led.turn) text → BeginsWithTextAfter first.workers ones (known s'.registry) (known s'.board) text
     led-begins_with ones s' text are goes front = λ r b from_r from_b.
@@ -314,6 +335,36 @@ module _ (laws : Laws) (first : State) where
             front = (front.0, front.1 ∙ (reply-is ∙ sym (texts-joined t u)));
           }
 
+      -- and all of it is printed, whatever comes
+      end-tells : (r : List RegEntry) (b : List (BoardEntry Ask)) → StartsWith r k'.seen → StartsWith b l'.seen → ScriptTells first.workers lines r b (text_in led.turn ++ reply)
+      end-tells r b from_r from_b =
+          let more_r = reg_calls_from (k'.seen ++ from_r.0) 0 k'.seen from_r.0 in
+          let more_b = board_calls_from 0 l'.seen from_b.0 in
+          let t = led.turn in
+          let calls_r : reg_calls 0 r ≡ t.registry ++ (u.registry ++ more_r) =
+          reg_calls-on laws k'.seen r (settled-all 1 k' u.registry e.asked) from_r ∙ (ap (λ cs. cs ++ more_r) (asked-all 1 k' u.registry e.asked) ∙ append_assoc t.registry u.registry more_r) in
+          let calls_b : board_calls 0 b ≡ t.board ++ (u.board ++ more_b) =
+          board_calls-on laws l'.seen b from_b ∙ (ap (λ cs. cs ++ more_b) (called-all l' u.board e.called) ∙ append_assoc t.board u.board more_b) in
+          record {
+            turn = joined t u;
+            is = leads-end end u.registry u.board ∙ ap (joined t) e.is;
+            registry = (more_r, append_assoc t.registry u.registry more_r ∙ sym calls_r);
+            board = (more_b, append_assoc t.board u.board more_b ∙ sym calls_b);
+            ended = ap is_some e.ends;
+            text_is = reply-is ∙ sym (texts-joined t u);
+          }
+
+      -- so a front of it that goes behind the lines is the text of all lines, and a front of what the end prints
+      end-by_lines : (text : List ℕ) → GoesOn s s' → IsPrefix (text_in led.turn) text → IsPrefix text (text_in led.turn ++ reply) → IsByLinesAfter first.workers lines k' l' text
+      end-by_lines text goes begins front = λ r b from_r from_b. record {
+        first = lines;
+        left = [];
+        lines_are = sym (append-nil lines);
+        before = text_in led.turn;
+        told = subst (λ ls. LinesTell first.workers ls r b (text_in led.turn)) (sym none) (led-tells s' goes r b from_r from_b);
+        last = inr (text_in led.turn ++ reply, end-tells r b from_r from_b, begins, front);
+      }
+
   -- ---- the loop
 
   module _ {W : Type 0} (registry : SharedRegistry) (board : SharedBoard W Ask Finished) where
@@ -330,6 +381,9 @@ module _ (laws : Laws) (first : State) where
 
       abbrev Broken : List Line → Type 0
       Broken lines = Gains x z (IsFrontAfter first.workers lines (known s'.registry) (known s'.board))
+
+      abbrev ByLines : List Line → Type 0
+      ByLines lines = Gains x z (IsByLinesAfter first.workers lines (known s'.registry) (known s'.board))
 
       abbrev Begun : List Line → Type 0
       Begun ones = Gains x z (BeginsWithTextAfter first.workers ones (known s'.registry) (known s'.board))
@@ -350,6 +404,46 @@ module _ (laws : Laws) (first : State) where
           let written = part.2 in (
             text_in t ++ written.0,
             led-front (done ++ line ∷ []) (number + 1) s' m.0 left s' (text_in t ++ written.0) (goes-same s') (subst (IsPrefix (text_in t ++ written.0)) (sym m.1) (front-later (text_in t) part.0 written.0 written.1)),
+            Appends-trans x y z (text_in t) written.0 going.written written.2,
+          )
+
+      pub stopped-by_lines : (left : List Line) → GoesOn s s' → Keeps y z → ByLines (done ++ left)
+      stopped-by_lines left goes kept = (
+        text_in t,
+        λ r b from_r from_b. record { first = done; left = left; lines_are = refl; before = text_in t; told = led-tells done number s going.led s' goes r b from_r from_b; last = inl refl },
+        keeps-text x y z (text_in t) going.written kept,
+      )
+
+      pub going-by_lines : (line : Line) (left : List Line) → Breaks s s' (Replies (width_of line) (line_dialogue s.workers s.walk number line) s s' []) y z → ByLines ((done ++ line ∷ []) ++ left)
+      going-by_lines line left (inl stop) = subst ByLines (sym (append_assoc done (line ∷ []) left)) (stopped-by_lines (line ∷ left) stop.0 stop.1)
+      going-by_lines line left (inr part) =
+          let m = led-more done number s going.led line s' part.0 part.1 in
+          let goes = replied-goes (width_of line) (line_dialogue s.workers s.walk number line) s s' [] part.0 part.1 in
+          let written = part.2 in
+          let text = text_in t ++ written.0 in (
+            text,
+            λ r b from_r from_b. record {
+              first = done;
+              left = line ∷ left;
+              lines_are = append_assoc done (line ∷ []) left;
+              before = text_in t;
+              told = led-tells done number s going.led s' goes r b from_r from_b;
+              last = inr (
+                text_in m.0.turn,
+                led-tells (done ++ line ∷ []) (number + 1) s' m.0 s' (goes-same s') r b from_r from_b,
+                (written.0, refl),
+                subst (IsPrefix text) (sym m.1) (front-later (text_in t) part.0 written.0 written.1),
+              );
+            },
+            Appends-trans x y z (text_in t) written.0 going.written written.2,
+          )
+
+      pub going-end_by_lines : (lines : List Line) → lines ≡ done → Breaks s s' (AnswersEnd s s' []) y z → ByLines lines
+      going-end_by_lines lines none (inl stop) = subst ByLines (append-nil done ∙ sym none) (stopped-by_lines [] stop.0 stop.1)
+      going-end_by_lines lines none (inr part) =
+          let written = part.2 in (
+            text_in t ++ written.0,
+            end-by_lines done number s going.led lines s' part.0 none part.1 (text_in t ++ written.0) (ended-goes s s' [] part.0 part.1) (written.0, refl) (front-later (text_in t) part.0 written.0 written.1),
             Appends-trans x y z (text_in t) written.0 going.written written.2,
           )
 
@@ -392,6 +486,9 @@ module _ (laws : Laws) (first : State) where
           Appends-trans x y z (text_in t) step.0 going.written step.2,
         )
 
+        pub going-ends_by_lines : ByLines lines
+        going-ends_by_lines = going-end_by_lines lines none (inr (step.0, step.1, (step.0, ([], append-nil step.0), step.2)))
+
         pub going-ends_own : IsOwn reg_caller (known s'.registry)
         going-ends_own = step.1.asked.caller.own
 
@@ -414,6 +511,21 @@ module _ (laws : Laws) (first : State) where
       end-goes step = goes-then first s s' going.led.goes (ended-goes s s' [] step.0 step.1)
 
 -- ---- nothing is written
+
+-- nothing is the text of no line
+pub nothing-by_lines : NothingIsByLines
+nothing-by_lines workers lines r b = record {
+  first = [];
+  left = lines;
+  lines_are = refl;
+  before = [];
+  told = record { registry = (reg_calls 0 r, refl); board = (board_calls 0 b, refl); ended = refl; text_is = refl };
+  last = inl refl;
+}
+
+pub nothing_by_lines : (workers : ℕ) (left held : Option (List ℕ)) (r : List RegEntry) (b : List (BoardEntry Ask)) → IfSome left (λ script. Gains held held (IsTextByLines workers (script_of script) r b))
+nothing_by_lines workers None held r b = tt
+nothing_by_lines workers (Some script) held r b = ([], nothing-by_lines workers (script_of script) r b, appends-none held)
 
 -- nothing is a front of the text of any script
 pub nothing_fronted : (workers : ℕ) (left held : Option (List ℕ)) (r : List RegEntry) (b : List (BoardEntry Ask)) → IfSome left (λ script. Gains held held (IsFrontText workers (start 0) 0 (script_of script) r b))

@@ -21,7 +21,7 @@ use Rattle.load_mode.specs.Lines.{opening, request_line, request_lines, load_dia
 use Rattle.load_mode.specs.Turns.{bytes_told}
 use Rattle.reply_text.specs.declared.answers.Answer.{Answer}
 use Rattle.script_session.specs.Ending.{EndsWith}
-use Rattle.script_session.specs.Holding.{HoldsBy, Stops}
+use Rattle.script_session.specs.Holding.{HoldsBy}
 use Rattle.script_session.specs.Saying.{hands_out}
 use Rattle.script_session.specs.States.{State}
 use Rattle.script_text.specs.declared.commands.Line.{Line}
@@ -36,23 +36,6 @@ use Rattle.script_run.specs.Runs.{GoesOn, IsFresh}
 use Rattle.script_run.proofs.Following.{reg_calls-same, board_calls-same, in_turn-on, followed-ends}
 
 -- ---- a session goes on
-
-pub held-goes : (width : ℕ) (d : Dialogue) (s s' : State) (answers answers' : List Answer) → HoldsBy width d s s' answers answers' → GoesOn s s'
-held-goes width d s s' answers answers' h = record {
-  locks = h.locks;
-  registry = record { number = h.done.asked.number; next = h.done.asked.next; seen = (h.done.asked.are.more, h.done.asked.are.goes_on) };
-  board = record { number = h.done.called.number; next = h.done.called.next; seen = h.done.called.seen };
-}
-
-pub ended-goes : (s s' : State) (answers answers' : List Answer) → EndsWith s s' answers answers' → GoesOn s s'
-ended-goes s s' answers answers' e = record {
-  locks = e.locks;
-  registry = record { number = e.asked.number; next = e.asked.next; seen = (e.asked.are.more, e.asked.are.goes_on) };
-  board = record { number = e.called.number; next = e.called.next; seen = e.called.seen };
-}
-
-pub stopped-goes : (s s' : State) → Stops s s' → GoesOn s s'
-stopped-goes s s' stop = record { locks = stop.locks; registry = stop.registry; board = stop.board.more }
 
 -- ---- a part of a dialogue
 
@@ -158,9 +141,6 @@ lines-next count number state below =
     let one : count - number ≡ suc (count - (number + 1)) = omega arith in
     ap (λ n. lines_from number state n) one
 
-pub lines-none : (count number state : ℕ) → number ≡ count → lines_from number state (count - number) ≡ []
-lines-none count number state all = let none : count - number ≡ 0 = omega arith in ap (λ n. lines_from number state n) none
-
 -- ---- lines, one after another
 
 abbrev LineOn : ℕ → ℕ → Line → State → State → Sha256 → Sha256 → Type 0
@@ -194,11 +174,6 @@ opening-on s s1 s2 s3 s4 x x1 x2 x3 x4 g1 g2 g3 on1 on2 on3 on4 later =
 abbrev pub LeftAt : ℕ → ℕ → ℕ → ℕ → Walk → Dialogue
 LeftAt workers count number state walk = lines_dialogue workers walk number (lines_from number state (count - number)) end
 
-pub requests-begin : (workers seed count state : ℕ) (s : State) (x : Sha256) → s.workers ≡ workers → state ≡ seed → HoldsOn (lines_dialogue workers s.walk 0 (request_lines seed count) end) (LeftAt workers count 0 state) s s x x
-requests-begin workers seed count state s x same seeded = λ whole held.
-    let all : count - 0 ≡ count = omega arith in
-    subst (λ lines. IsHeld whole (lines_dialogue workers s.walk 0 lines end) s x) (λ i. lines_from 0 (sym seeded i) (sym all i)) held
-
 pub requests-more : (workers count n state state' : ℕ) (first : Dialogue) (s s1 s2 : State) (x x1 x2 : Sha256) (line : Line) → n < count → s1.workers ≡ workers → line ≡ request_line (asked_for n (drawn_request state)) → state' ≡ (drawn_request state).after
     → HoldsOn first (LeftAt workers count n state) s s1 x x1 → LineOn s1.workers n line s1 s2 x1 x2 → HoldsOn first (LeftAt workers count (n + 1) state') s s2 x x2
 requests-more workers count n state state' first s s1 s2 x x1 x2 line below same is after before on = λ whole held.
@@ -208,10 +183,6 @@ requests-more workers count n state state' first s s1 s2 x x1 x2 line below same
     subst (λ ls. IsHeld whole (lines_dialogue workers s1.walk n ls end) s1 x1) lines (before whole held) in
     subst (λ g. IsHeld whole (LeftAt workers count (n + 1) g s2.walk) s2 x2) (sym after)
     (line-with workers n line s1 s2 x1 x2 same on (λ walk. lines_dialogue workers walk (n + 1) rest end) whole now)
-
-pub requests-end : (workers count n state : ℕ) (first : Dialogue) (s s1 : State) (x x1 : Sha256) → n ≡ count → HoldsOn first (LeftAt workers count n state) s s1 x x1 → HoldsOn first end s s1 x x1
-requests-end workers count n state first s s1 x x1 all before = λ whole held.
-    subst (λ ls. IsHeld whole (lines_dialogue workers s1.walk n ls end) s1 x1) (lines-none count n state all) (before whole held)
 
 -- ---- what it leaves
 

@@ -27,7 +27,7 @@ use Rattle.turn_lock.specs.Passes.{knows}
 use Rattle.turn_lock.specs.Turns.{Known, StartsWith, of}
 use Rattle.script_run.specs.declared.errors.RunError.{RunError}
 use Rattle.script_run.specs.declared.errors.RunError.TheVariants.{ReadFault, WriteFault, TooLong}
-use Rattle.script_run.specs.Runs.{Gains, GoesOn, OthersFollow, IsTextAfter, IsFrontAfter, InTurnAfter, IsUnshutOrEnds, Answers}
+use Rattle.script_run.specs.Runs.{Gains, GoesOn, OthersFollow, IsTextAfter, IsFrontAfter, IsByLinesAfter, InTurnAfter, IsUnshutOrEnds, Answers}
 use Rattle.script_run.specs.Text.{is_malformed}
 
 -- the turn that the script's calls in the histories make of its first lines
@@ -105,6 +105,7 @@ pub record HasRead (left left' : Option (List ℕ)) (given : List ℕ) (result :
 pub record RunsLines (lines : List Line) (given : List ℕ) (s s' : State) (result : Result Bool RunError) (held held' : Option (List ℕ)) : Type 0 where
   pub goes_on : GoesOn s s'
   pub front : Gains held held' (IsFrontAfter s.workers lines (known s'.registry) (known s'.board))
+  pub by_lines : Gains held held' (IsByLinesAfter s.workers lines (known s'.registry) (known s'.board))
   pub whole : OnOk result (Gains held held' (IsTextAfter s.workers lines (known s'.registry) (known s'.board)))
   pub in_turn : OnOk result (InTurnAfter lines (known s'.registry))
   pub own : OnOk result (IsOwn reg_caller (known s'.registry))

@@ -18,6 +18,7 @@ use Rattle.transforms.specs.declared.ask.Ask.{Ask}
 use Rattle.script_run.specs.declared.errors.RunError.{RunError}
 use Rattle.script_run.specs.declared.errors.RunError.TheVariants.{NoMemory}
 use Rattle.script_run.specs.Answered.{RanSource}
+use Rattle.script_run.specs.ByLines.{IsTextByLines}
 use Rattle.script_run.specs.Endings.{AreCallers, EndsShut, IsShutOnce}
 use Rattle.script_run.specs.Runs.{Gains, InTurn}
 use Rattle.script_run.specs.Text.{is_malformed}
@@ -37,6 +38,7 @@ pub record ScriptRan (workers : ℕ) (left left' : Option (List ℕ)) (r : List 
   pub settled : OnOk result (IfSome left (λ script. IsSettled (script_of script) → Gains held held' (λ text. text ≡ plain_text (script_of script))))
   pub shut : OnOk result (EndsShut b)
   pub front : IfSome left (λ script. Gains held held' (IsFrontText workers (start 0) 0 (script_of script) r b))
+  pub by_lines : IfSome left (λ script. Gains held held' (IsTextByLines workers (script_of script) r b))
   pub first : RanSource workers left left' r b result held held'
   pub malformed : IfOk result (λ bad. IfSome left (λ script. bad ≡ list_any is_malformed (script_of script)))
   pub closed : IsShutOnce workers b ⊎ ((result ≡ Err NoMemory) × (r ≡ []) × (b ≡ []))

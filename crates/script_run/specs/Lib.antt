@@ -1,6 +1,7 @@
 pub mod Laws
 pub mod Text
 pub mod Fronts
+pub mod ByLines
 pub mod Runs
 pub mod Loads
 pub mod Answered

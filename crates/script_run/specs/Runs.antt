@@ -12,6 +12,7 @@ use Rattle.crew.specs.declared.passes.Passes.{Passes}
 use Rattle.dialogues.specs.InTurn.{AreInTurnBy}
 use Rattle.dialogues.specs.RegistryCalls.{reg_calls}
 use Rattle.dialogues.specs.Texts.{IsText}
+use Rattle.script_run.specs.ByLines.{IsTextByLines}
 use Rattle.script_run.specs.Fronts.{IsFrontText}
 use Rattle.dialogues.specs.Walk.{start}
 use Rattle.dialogues.specs.Widths.{widest}
@@ -81,6 +82,11 @@ abbrev pub IsTextAfter : ℕ → List Line → Known RegEntry → Known (BoardEn
 IsTextAfter workers lines k l text =
     (r : List RegEntry) (b : List (BoardEntry Ask)) → OthersFollow reg_caller k r → OthersFollow board_caller l b → IsText workers (start 0) 0 lines r b text
 
+-- the text of first lines, and maybe a front of what one more prints, over all histories that begin with what the passes have seen
+abbrev pub IsByLinesAfter : ℕ → List Line → Known RegEntry → Known (BoardEntry Ask) → List ℕ → Type 0
+IsByLinesAfter workers lines k l text =
+    (r : List RegEntry) (b : List (BoardEntry Ask)) → StartsWith r k.seen → StartsWith b l.seen → IsTextByLines workers lines r b text
+
 -- a front of the text over all histories that begin with what the passes have seen
 abbrev pub IsFrontAfter : ℕ → List Line → Known RegEntry → Known (BoardEntry Ask) → List ℕ → Type 0
 IsFrontAfter workers lines k l text =
@@ -138,5 +144,6 @@ pub record Ended (workers : ℕ) (lines : List Line) (p : Passes Ask) (held held
 pub record Answers {F : Type 0} (workers : ℕ) (lines : List Line) (p q : Passes Ask) (result : Result Bool F) (held held' : Option (List ℕ)) : Type 0 where
   pub part : HasShut p q
   pub front : Gains held held' (IsFrontAfter workers lines (knows q.registry) (knows q.board))
+  pub by_lines : Gains held held' (IsByLinesAfter workers lines (knows q.registry) (knows q.board))
   pub ended : OnOk result (Ended workers lines q held held')
   pub malformed : IfOk result (λ bad. bad ≡ list_any is_malformed lines)

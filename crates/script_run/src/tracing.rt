@@ -7,6 +7,7 @@ ghost use Rattle.alg_registry.specs.Legal.{LegalReg};
 ghost use Rattle.alg_registry.specs.Made.{Made};
 ghost use Rattle.board.specs.Legal.{LegalBoard};
 ghost use Rattle.dialogues.specs.Texts.{IsText};
+ghost use Rattle.script_run.specs.ByLines.{IsTextByLines};
 ghost use Rattle.script_run.specs.Fronts.{IsFrontText};
 ghost use Rattle.dialogues.specs.Walk.{start};
 ghost use Rattle.kc_base.specs.Streams.{AppendsFront, Rose};
@@ -97,6 +98,8 @@ pub fn run_traced<S: Source, K: Sink, G: Gate + Sync, R: Threads + Wait + Sync>(
     ensures settled { OnOk result.answer (IfSome (S.left src.old) (λ script. IsSettled (script_of script) → GainsThen (K.held out.old) (K.held out.new) (λ text. text ≡ plain_text (script_of script)) (traced options.now.trace result.registry result.board))) }
     ensures shut { OnOk result.answer (EndsShut result.board) }
     ensures front { IfSome (S.left src.old) (λ script. GainsFront (K.held out.old) (K.held out.new) (IsFrontText options.now.workers (start 0) 0 (script_of script) result.registry result.board)
+        (IsText options.now.workers (start 0) 0 (script_of script) result.registry result.board) (traced options.now.trace result.registry result.board)) }
+    ensures by_lines { IfSome (S.left src.old) (λ script. GainsFront (K.held out.old) (K.held out.new) (IsTextByLines options.now.workers (script_of script) result.registry result.board)
         (IsText options.now.workers (start 0) 0 (script_of script) result.registry result.board) (traced options.now.trace result.registry result.board)) }
     ensures first { RanSource options.now.workers (S.left src.old) (S.left src.new) result.registry result.board result.answer (K.held out.old) (K.held out.new) }
     ensures closed { IsShutOnce options.now.workers result.board ⊎ ((result.answer ≡ Err RunError.NoMemory) × (result.registry ≡ []) × (result.board ≡ [])) }

@@ -1,5 +1,6 @@
 use Rattle.std.proofs.Common.{◌≡◌, inl, inr}
 use Rattle.dialogues.specs.Texts.{IsText}
+use Rattle.script_run.specs.ByLines.{IsTextByLines}
 use Rattle.script_run.specs.Fronts.{IsFrontText}
 use Rattle.dialogues.specs.Walk.{start}
 use Rattle.script_text.specs.Script.{script_of}
@@ -50,6 +51,17 @@ returns-clause-front g c =
     (λ script text. IsFrontText workers (start 0) 0 (script_of script) ran.registry ran.board text)
     (λ script text. IsText workers (start 0) 0 (script_of script) ran.registry ran.board text)
     c.run_script-answer.ensures.ran.front c.run_script-answer.ensures.ran.whole
+
+pub returns-clause-by_lines : goal.returns-clause-by_lines
+returns-clause-by_lines g c =
+    let held = g.K.Sink.held in
+    let ran = c.run_script-answer.result in
+    let workers = c.args.options.now.workers in
+    then-front ran.answer c.answer_traced-answer.result (held c.args.out.now) (held c.run_script-answer.new.out) (held c.answer_traced-answer.new.out)
+    (traced c.args.options.now.trace ran.registry ran.board) c.answer_traced-answer.ensures.whole c.answer_traced-answer.ensures.front (g.S.Source.left c.args.src.now)
+    (λ script text. IsTextByLines workers (script_of script) ran.registry ran.board text)
+    (λ script text. IsText workers (start 0) 0 (script_of script) ran.registry ran.board text)
+    c.run_script-answer.ensures.ran.by_lines c.run_script-answer.ensures.ran.whole
 
 pub returns-clause-first : goal.returns-clause-first
 returns-clause-first g c =
