@@ -37,3 +37,6 @@ pub mod Drained
 pub mod Others
 pub mod Ends
 pub mod Closed
+pub mod Sharing
+pub mod Alone
+pub mod Accepting

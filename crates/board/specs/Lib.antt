@@ -17,3 +17,5 @@ pub mod Handing
 pub mod Others
 pub mod Ends
 pub mod Following
+pub mod Sharing
+pub mod Alone

@@ -5,6 +5,8 @@
 #![tactic(auto)]
 
 mod allowance;
+mod asks;
+mod beside;
 mod births;
 mod board_core;
 mod closing;
@@ -27,6 +29,7 @@ mod submitting;
 mod work;
 mod working;
 
+pub use beside::{shared_pipelines_stay, workers_are_left, workers_finish};
 pub use board_core::{BoardCore, BoardErr};
 pub use entry::{BoardEntry, Entered, Shape};
 pub use following::{entries_leave, histories_go_on, numbers_in_order};

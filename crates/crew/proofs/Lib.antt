@@ -1,3 +1,4 @@
 pub mod Works
 pub mod Crews
 pub mod OnBoth
+pub mod Peering

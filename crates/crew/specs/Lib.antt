@@ -1,3 +1,4 @@
 pub mod Working
 pub mod Crews
 pub mod Both
+pub mod Peers

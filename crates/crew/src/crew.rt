@@ -56,7 +56,7 @@ fn split_both<W: Work>(
 }
 
 /// A worker's passes, joined into a caller's on both locks.
-fn join_both<W: Work>(
+pub(crate) fn join_both<W: Work>(
     board: &SharedBoard<W>,
     registry: &SharedRegistry,
     a: Passes<W::Ask>,

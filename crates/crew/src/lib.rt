@@ -6,6 +6,8 @@ mod crew;
 mod gate;
 mod laws;
 mod passes;
+mod peer_laws;
+mod peers;
 mod working;
 
 pub use both::work_on;
@@ -13,4 +15,6 @@ pub use crew::run_crew;
 pub use gate::{Gate, NoGate};
 pub use laws::{crew_works, crews_end};
 pub use passes::Passes;
+pub use peer_laws::peers_end;
+pub use peers::{Peer, run_peers};
 pub use working::{drain, work_some};

@@ -209,7 +209,7 @@ drained-changed laws k l pipe h on meets all enters =
     ∙ ap (λ b. Some (Collects pipe.number (record { notices = map (notice_by pipe.lines) callbacks; all_done = b }))) (eq-eqb (front es) (length (submissions es)) all)))
     (accepted-none k.number h (event.Collect k.number pipe.number to) refl) refl (pipe-collected laws k.number h pipe to enters.1 here))
 
-length-numbers : (n : ℕ) → length (numbers_below n) ≡ n
+pub length-numbers : (n : ℕ) → length (numbers_below n) ≡ n
 length-numbers zero = refl
 length-numbers (suc n) = let all = length-append (numbers_below n) (n ∷ []) in let rest = length-numbers n in omega (arith, all, rest)
 

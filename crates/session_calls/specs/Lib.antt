@@ -3,3 +3,4 @@ pub mod Passes
 pub mod Asking
 pub mod Looking
 pub mod Pipelines
+pub mod Sharing

@@ -4,6 +4,7 @@ ghost use Rattle.std.specs.Prelude.{◌≡◌, ◌≢◌, ◌↔◌, ◌<◌, �
 ghost use Rattle.std.specs.Arc.{arc_value};
 ghost use Rattle.kc_base.specs.declared.callback_list.Callback.{Callback as Told};
 ghost use Rattle.board.specs.Allowance.{IsAllowed, accepted_by};
+ghost use Rattle.board.specs.Alone.{PeersGone};
 ghost use Rattle.board.specs.Entries.{entries_of, birth};
 ghost use Rattle.board.specs.Handing.{completions};
 ghost use Rattle.board.specs.Legal.{IsNoWorker, LegalBoard, is_shut};
@@ -13,11 +14,14 @@ ghost use Rattle.board.specs.Shapes.{width_born};
 ghost use Rattle.transforms.specs.AskValue.{ask_size};
 ghost use Rattle.transforms.specs.declared.request.Finished.{Finished as Outcome};
 ghost use Rattle.dialogues.specs.BoardCalls.{Submits, Enqueues, Holds, Goes, Masks, asked_by};
+ghost use Rattle.dialogues.specs.Walk.{Pipe as KnownPipe};
 ghost use Rattle.session_calls.specs.Bounds.{AreWithin};
 ghost use Rattle.session_calls.specs.Passes.{CallsBoard, known, lock_of};
 ghost use Rattle.session_calls.specs.Pipelines.{Laws, Steps, IsPad, IsQueue, KnowsPipe, Kept, Changed, Closed, IsShut, Opened, with_ask, entered_pipe, entered_asks, Drained, Polled};
+ghost use Rattle.session_calls.specs.Sharing.{KnowsGathered};
 
 use crate::pipe::Pipe;
+use crate::sharing::sharing_laws;
 use board::{
     BoardErr, Entered, collects_hand_out, collects_hand_out_all, completions_in_order,
     entries_join, entries_leave, fronts_tell_all, histories_go_on, masks_stay, numbers_in_order,
@@ -35,7 +39,7 @@ use transforms::{Ask, Finished, Job};
 /// Who calls the board for a script. Its pass is at hand between two calls; contracts see it.
 #[derive(Drop)]
 pub struct BoardCaller {
-    pass: Option<BoardPass<Job>>,
+    pub(crate) pass: Option<BoardPass<Job>>,
 }
 
 impl Model for BoardCaller {
@@ -66,7 +70,7 @@ fn entry_laws()
 }
 
 // what others leave of what a caller knows of the board, what it does itself, and that values are short
-fn board_laws()
+pub(crate) fn board_laws()
     ensures { Laws }
 {
     others_leave::<Ask, Finished>();
@@ -357,15 +361,18 @@ impl BoardCaller {
         answer
     }
 
-    /// Shuts the board, which isn't shut yet, by the caller with the number 0. No memory is taken.
+    /// Shuts the board, which isn't shut yet, by the caller with the number 0. No memory is taken. What it knows of pipelines that it
+    /// shares stays, where workers alone are left beside it.
     pub fn shut<R: Wait>(&mut self, rt: &R, board: &SharedBoard<Job>)
         requires at { CallsBoard board.now self.old }
         requires first { (known self.old).number ≡ 0 }
         requires once { is_shut (known self.old).seen ≡ false }
         ensures lock { lock_of self.new ≡ lock_of self.old }
         ensures shut { IsShut (known self.old) (known self.new) }
+        ensures ended { (known self.new).ended ≡ (known self.old).ended }
+        ensures gathered { PeersGone (known self.old) → (pipe : KnownPipe) → KnowsGathered (known self.old) pipe → KnowsGathered (known self.new) pipe }
     {
-        board_laws();
+        sharing_laws();
         let pass = self.pass.take().unwrap();
         self.pass = Some(board.shut(rt, pass));
     }

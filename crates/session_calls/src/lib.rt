@@ -5,10 +5,12 @@ mod board_caller;
 mod look;
 mod pipe;
 mod registry_caller;
+mod sharing;
 mod stop;
 
 pub use board_caller::BoardCaller;
 pub use look::Look;
 pub use pipe::{Lines, Pipe};
 pub use registry_caller::RegistryCaller;
+pub use sharing::{gathered_hand_out_all, shared_is_known};
 pub use stop::Stop;

@@ -1,6 +1,7 @@
 //! The board of many threads: each call is a turn at one lock, so that all they do is one history.
 #![tactic(auto)]
 
+mod asks;
 mod bells;
 mod laws;
 mod sent;

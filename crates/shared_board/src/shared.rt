@@ -50,7 +50,7 @@ impl<W: Work> SharedBoard<W> {
     }
 
     /// Waits for the pass's turn.
-    fn turn<'a, R: Wait>(&'a self, rt: &R, pass: BoardPass<W>) -> Turn<'a, BoardCore<W>>
+    pub(crate) fn turn<'a, R: Wait>(&'a self, rt: &R, pass: BoardPass<W>) -> Turn<'a, BoardCore<W>>
         requires { IsPassOn self.now pass }
         ensures lock { turn_lock result ≡ self.now.lock }
         ensures sees { turn_knows result ≡ sees (knows pass) (turn_value result) }
