@@ -8,6 +8,8 @@ mod blobs;
 #[cfg(test)]
 mod digests;
 #[cfg(test)]
+mod in_step;
+#[cfg(test)]
 mod segments;
 #[cfg(test)]
 mod vectors;

@@ -274,7 +274,7 @@ ctr(aes-generic) 00000000000000000000000000000000 0 dec ffffffffffffffffffffffff
 ";
 
 /// The wanted tag size, or 0 on a plan that has no tag.
-fn size_for(plan: &Plan, wanted: u32) -> Result<u32, Errno>
+pub(crate) fn size_for(plan: &Plan, wanted: u32) -> Result<u32, Errno>
     ensures { IfOk result (λ n. fits_tag plan.now n ≡ true) }
 {
     let largest = largest_tag_size(plan);
@@ -344,7 +344,7 @@ fn is_as_said(rt: &impl Abort, alloc: Global, outcome: &Outcome, want: &str) -> 
 }
 
 /// The plan of a driver.
-fn plan_named(rt: &impl Abort, alloc: Global, driver: &str) -> Plan {
+pub(crate) fn plan_named(rt: &impl Abort, alloc: Global, driver: &str) -> Plan {
     let name = parse_name(alloc, driver.as_bytes()).expect(rt, "a name");
     plan_of(&name).expect(rt, "a driver")
 }

@@ -3,7 +3,7 @@
 ghost use Rattle.std.specs.Prelude.{◌≡◌, ℕ, List, [], Some, suc, ◌+◌, ◌-◌, ◌*◌, ◌/◌, ◌%◌, ◌<◌, ◌≤◌, ◌++◌, min, length, take, drop, slice_index, slice_index_or};
 ghost use Rattle.std_defs.specs.Blocks.{xor_blocks, text_block, joined};
 ghost use Rattle.std_defs.specs.Modes.{cbc_block, cbc_seal};
-ghost use Rattle.in_step.specs.Texts.{text_in, AreWhole};
+ghost use Rattle.in_step.specs.Texts.{text_in, front_in, rest_in, block_in, AreWhole};
 
 use aes_block::{BlockCipher, Skcipher, xor_block};
 use cbc_mode::Cbc;
@@ -168,9 +168,9 @@ pub fn seal_cbc_in_step<C: BlockCipher + Drop>(
     lengths: &[usize; 8],
 )
     requires { AreWhole lengths.now texts.old }
-    ensures sealed { (n : ℕ) → n < 8 → cbc_seal (C.sealed mode.now) (slice_index_or ivs.now n []) (take (slice_index lengths.now n) (text_in texts.old n))
-        ≡ Some (take (slice_index lengths.now n) (text_in texts.new n)) }
-    ensures rest { (n : ℕ) → n < 8 → drop (slice_index lengths.now n) (text_in texts.new n) ≡ drop (slice_index lengths.now n) (text_in texts.old n) }
+    ensures sealed { (n : ℕ) → n < 8 → cbc_seal (C.sealed mode.now) (block_in ivs.now n) (front_in lengths.now texts.old n)
+        ≡ Some (front_in lengths.now texts.new n) }
+    ensures rest { (n : ℕ) → n < 8 → rest_in lengths.now texts.new n ≡ rest_in lengths.now texts.old n }
     ensures length { (n : ℕ) → n < 8 → length (text_in texts.new n) ≡ length (text_in texts.old n) }
 {
     let steps = steps_of(lengths);

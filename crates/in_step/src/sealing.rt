@@ -4,7 +4,7 @@ ghost use Rattle.std.specs.Prelude.{◌≡◌, ℕ, List, [], Some, ◌<◌, ◌
 ghost use Rattle.std_defs.specs.Authenc.{authenc_seal};
 ghost use Rattle.std_defs.specs.Modes.{cbc_seal};
 ghost use Rattle.in_step.specs.Pieces.{piece};
-ghost use Rattle.in_step.specs.Texts.{AreWhole, ArePackets, text_in};
+ghost use Rattle.in_step.specs.Texts.{AreWhole, ArePackets, text_in, front_in, rest_in, block_in};
 
 use crate::cbc::seal_cbc_in_step;
 use crate::macs::macs_in_step;
@@ -51,9 +51,9 @@ pub fn seal_authenc_in_step<C: BlockCipher + Drop>(
 ) -> [[u8; 32]; 8]
     requires { ArePackets lengths.now aads.now texts.old }
     ensures sealed { (n : ℕ) → n < 8
-        → authenc_seal mac.now (cbc_seal (C.sealed mode.now) (slice_index_or ivs.now n [])) (piece aads.now n) (take (slice_index lengths.now n) (text_in texts.old n))
-        ≡ Some (take (slice_index lengths.now n) (text_in texts.new n), slice_index_or result n []) }
-    ensures rest { (n : ℕ) → n < 8 → drop (slice_index lengths.now n) (text_in texts.new n) ≡ drop (slice_index lengths.now n) (text_in texts.old n) }
+        → authenc_seal mac.now (cbc_seal (C.sealed mode.now) (block_in ivs.now n)) (piece aads.now n) (front_in lengths.now texts.old n)
+        ≡ Some (front_in lengths.now texts.new n, block_in result n) }
+    ensures rest { (n : ℕ) → n < 8 → rest_in lengths.now texts.new n ≡ rest_in lengths.now texts.old n }
     ensures length { (n : ℕ) → n < 8 → length (text_in texts.new n) ≡ length (text_in texts.old n) }
 {
     seal_cbc_in_step(mode, ivs, texts, lengths);

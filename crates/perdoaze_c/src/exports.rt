@@ -148,7 +148,8 @@ pub extern "C" fn perdoaze_raw_encryptv_in_place(
     written: &mut usize,
 ) -> i32
     ensures kept { slot.new.handle.value ≡ slot.old.handle.value }
-    ensures came { OnPlaceTo slot.old.handle.value (λ t. OrNoMemory (EncryptsWithin t iv.now aad.now n)) result (text_over text.old) (text_over text.new) written.new }
+    ensures came { OnPlaceTo slot.old.handle.value (λ t. OrNoMemory (EncryptsWithin t iv.now aad.now n))
+        result (text_over text.old) (text_over text.new) written.new }
     ensures sizes { map size_of text.new ≡ map size_of text.old }
 {
     calls::encrypt_pieces_within(slot, alloc, iv, aad, text, n, written).code()
@@ -166,7 +167,8 @@ pub extern "C" fn perdoaze_raw_decryptv_in_place(
     written: &mut usize,
 ) -> i32
     ensures kept { slot.new.handle.value ≡ slot.old.handle.value }
-    ensures came { OnPlaceTo slot.old.handle.value (λ t. OrNoMemory (DecryptsWithin t iv.now aad.now n)) result (text_over text.old) (text_over text.new) written.new }
+    ensures came { OnPlaceTo slot.old.handle.value (λ t. OrNoMemory (DecryptsWithin t iv.now aad.now n))
+        result (text_over text.old) (text_over text.new) written.new }
     ensures sizes { map size_of text.new ≡ map size_of text.old }
 {
     calls::decrypt_pieces_within(slot, alloc, iv, aad, text, n, written).code()

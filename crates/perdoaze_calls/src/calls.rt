@@ -153,7 +153,8 @@ pub fn encrypt_pieces_within(
     written: &mut usize,
 ) -> Status
     ensures kept { slot.new.handle.value ≡ slot.old.handle.value }
-    ensures came { OnPlace slot.old.handle.value (λ t. OrNoMemory (EncryptsWithin t iv.now aad.now n)) result (text_over pieces.old) (text_over pieces.new) written.new }
+    ensures came { OnPlace slot.old.handle.value (λ t. OrNoMemory (EncryptsWithin t iv.now aad.now n))
+        result (text_over pieces.old) (text_over pieces.new) written.new }
     ensures sizes { map size_of pieces.new ≡ map size_of pieces.old }
 {
     *written = 0;
@@ -176,7 +177,8 @@ pub fn decrypt_pieces_within(
     written: &mut usize,
 ) -> Status
     ensures kept { slot.new.handle.value ≡ slot.old.handle.value }
-    ensures came { OnPlace slot.old.handle.value (λ t. OrNoMemory (DecryptsWithin t iv.now aad.now n)) result (text_over pieces.old) (text_over pieces.new) written.new }
+    ensures came { OnPlace slot.old.handle.value (λ t. OrNoMemory (DecryptsWithin t iv.now aad.now n))
+        result (text_over pieces.old) (text_over pieces.new) written.new }
     ensures sizes { map size_of pieces.new ≡ map size_of pieces.old }
 {
     *written = 0;

@@ -99,7 +99,8 @@ impl Transform {
         n: usize,
         written: &mut usize,
     ) -> Status
-        ensures came { OrNoMemory (EncryptsWithin self.now iv.now aad.now n) result (text_over pieces.old) (text_over pieces.new) written.new }
+        ensures came { OrNoMemory (EncryptsWithin self.now iv.now aad.now n)
+            result (text_over pieces.old) (text_over pieces.new) written.new }
         ensures sizes { map size_of pieces.new ≡ map size_of pieces.old }
     {
         *written = 0;
@@ -121,7 +122,8 @@ impl Transform {
         n: usize,
         written: &mut usize,
     ) -> Status
-        ensures came { OrNoMemory (DecryptsWithin self.now iv.now aad.now n) result (text_over pieces.old) (text_over pieces.new) written.new }
+        ensures came { OrNoMemory (DecryptsWithin self.now iv.now aad.now n)
+            result (text_over pieces.old) (text_over pieces.new) written.new }
         ensures sizes { map size_of pieces.new ≡ map size_of pieces.old }
     {
         *written = 0;
