@@ -8,7 +8,7 @@ mod blobs;
 #[cfg(test)]
 mod digests;
 #[cfg(test)]
-mod in_step;
+mod eight_packets;
 #[cfg(test)]
 mod segments;
 #[cfg(test)]
