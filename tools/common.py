@@ -1,4 +1,4 @@
-"""What several of the tools share: where the program is, and draws that are the same in every run."""
+"""What several of the tools share: where the program is, the crates, and draws that are the same in every run."""
 import hashlib
 import os
 import sys
@@ -11,6 +11,26 @@ def need_program(tool, program):
     """Ends the tool where the program isn't there."""
     if not os.access(program, os.X_OK):
         sys.exit(f"{tool}: no program at {program}: run tools/build")
+
+
+def crates():
+    """The libraries that each crate names, the repository's and the kit's."""
+    named = {}
+    with open(f"{TOP}/crates.txt", encoding="utf-8") as lines:
+        for line in lines:
+            name, colon, libraries = line.partition("#")[0].partition(":")
+            if colon:
+                named[name.split()[0]] = libraries.split()
+    return named
+
+
+def below(name, named):
+    """The repository's crates below one."""
+    found = []
+    for library in named[name]:
+        if library in named:
+            found += [library, *below(library, named)]
+    return [*dict.fromkeys(found)]
 
 
 def origin(word):
