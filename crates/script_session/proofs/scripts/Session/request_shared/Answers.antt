@@ -9,6 +9,7 @@ use Rattle.script_session.specs.Keyed.{IsJob}
 use Rattle.script_session.specs.States.{State}
 use Rattle.script_session.proofs.Arms.{or-stops, stops-same, answer-holds}
 use Rattle.script_session.proofs.Gives.{either-shared, shared-at, pipe-at, give-arm, gives-stops}
+use Rattle.script_session.proofs.Moving.{fails}
 use Rattle.script_session.proofs.Requests.{no-key, not-taken, job-asks}
 use Rattle.script_session.proofs.scripts.Session.request_shared.Goals as goal
 
@@ -48,8 +49,10 @@ pub give_job-requires-clause-pipe : goal.give_job-requires-clause-pipe
 give_job-requires-clause-pipe g c =
     pipe-at c.args.self.now c.self.view_is c.args.label.now c.as_slice.result.now c.as_slice.ensures c.in-Some.live.now c.in-Some.ensures c.requires.shared
 
-pub returns-in_err-give_job : goal.returns-in_err-give_job
-returns-in_err-give_job g c = gives-stops c.args.self.now c.self.view_is c.args.label.now c.as_slice.result.now c.as_slice.ensures c.give_job.new.caller c.give_job.ensures.lock c.in_err-give_job.ensures.held
+pub returns-in_err-accepted : goal.returns-in_err-accepted
+returns-in_err-accepted g c =
+    fails c.from_residual.result _ c.from_residual.ensures.0
+    (gives-stops c.args.self.now c.self.view_is c.args.label.now c.as_slice.result.now c.as_slice.ensures c.give_job.new.caller c.give_job.ensures.lock c.in_err-accepted.ensures.held)
 
 pub returns : goal.returns
 returns g c =

@@ -1,4 +1,4 @@
-use Rattle.std.proofs.Common.{[], ap, sym, refl, subst}
+use Rattle.std.proofs.Common.{◌∙◌, [], ap, sym, refl, subst}
 use Rattle.std.specs.Prelude.{MatchResult}
 use Rattle.script_session.specs.Changing.{HoldsFor}
 use Rattle.script_session.specs.Holding.{SeesOn}
