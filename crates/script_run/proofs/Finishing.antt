@@ -102,6 +102,7 @@ new-ready registry board workers p s at new few is =
       posted = subst (Posted (start 0)) (is-empty (knows p.board) new.board.0 new.board.1 new.board.2) (empty-posted (knows p.board));
       few = few;
       wide = subst (MadeWide (lists_beside workers)) (is-empty (knows p.board) new.board.0 new.board.1 new.board.2) (empty-wide (lists_beside workers) (knows p.board));
+      shared = All-nil _;
     })
 
 -- ---- the board is shut

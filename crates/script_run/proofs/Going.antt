@@ -48,14 +48,14 @@ use Rattle.script_run.proofs.Following.{starts-trans, sees-same, sees-then, reg_
 
 pub goes-same : (s : State) → GoesOn s s
 goes-same s = record {
-  locks = record { registry = refl; board = refl; workers = refl };
+  locks = record { registry = refl; board = refl; workers = refl; shared = refl };
   registry = sees-same (known s.registry);
   board = sees-same (known s.board);
 }
 
 pub goes-then : (s t u : State) → GoesOn s t → GoesOn t u → GoesOn s u
 goes-then s t u a b = record {
-  locks = record { registry = b.locks.registry ∙ a.locks.registry; board = b.locks.board ∙ a.locks.board; workers = b.locks.workers ∙ a.locks.workers };
+  locks = record { registry = b.locks.registry ∙ a.locks.registry; board = b.locks.board ∙ a.locks.board; workers = b.locks.workers ∙ a.locks.workers; shared = b.locks.shared ∙ a.locks.shared };
   registry = sees-then (known s.registry) (known t.registry) (known u.registry) a.registry b.registry;
   board = sees-then (known s.board) (known t.board) (known u.board) a.board b.board;
 }

@@ -11,20 +11,10 @@ use Rattle.dialogues.specs.Allocating.{alloc, binds, fault_of}
 use Rattle.dialogues.specs.Dialogues.{Asks, refuses, unless}
 use Rattle.dialogues.specs.Questions.{Look}
 use Rattle.dialogues.specs.Walk.{Walk, Live, either, either_of}
-use Rattle.session_calls.specs.Passes.{RegPass, BoardPass}
 use Rattle.script_session.specs.Finding.{looks}
-use Rattle.script_session.specs.Filed.{AreFiled, lives_of, number_of}
-use Rattle.script_session.specs.declared.lives.Lives.{Lives}
 use Rattle.script_session.specs.Holding.{Holds, Stops}
 use Rattle.script_session.specs.States.{State}
-use Rattle.script_session.proofs.Arms.{viewed, unless-not, unless-so}
-use Rattle.script_session.proofs.Living.{no-either, either-at}
-
--- whether the label has a transform
-module _ {ws c q v : ℕ} {r : Option RegPass} {b : Option BoardPass} (s : State) (lives : Lives) (filed : AreFiled lives) (view : viewed ws c (lives_of lives) q v r b ≡ s) (label name : List ℕ) (same : name ≡ label) where
-  pub live-there : (o : Option ℕ) → o ≡ number_of name lives.transforms.entries → is_some (either_of s.walk label) ≡ is_some o
-  live-there (Some number) at = ap is_some (either-at s lives filed view label name same number at)
-  live-there None at = ap is_some (no-either s lives filed view label name same at)
+use Rattle.script_session.proofs.Arms.{unless-not, unless-so}
 
 pub nobody : (own shared : Option Live) → is_some (either own shared) ≡ false → own ≡ None
 nobody None shared e = refl

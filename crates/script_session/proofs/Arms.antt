@@ -69,22 +69,22 @@ asked-more-seen k l calls asked = record { number = asked.number; next = asked.n
 
 pub stops-same : (s : State) → Stands s.walk.lives (known s.registry) → Stops s s
 stops-same s stands =
-    record { locks = record { registry = refl; board = refl; workers = refl }; registry = record { number = refl; next = refl; seen = starts-same _ }; board = sees-none (known s.board) (known s.board) refl }
+    record { locks = record { registry = refl; board = refl; workers = refl; shared = refl }; registry = record { number = refl; next = refl; seen = starts-same _ }; board = sees-none (known s.board) (known s.board) refl }
 
-pub stops-asked : (s s' : State) (calls : _) → Asks s.registry s'.registry calls → s'.board ≡ s.board → s'.workers ≡ s.workers → Stops s s'
-stops-asked s s' calls asks same same_w =
+pub stops-asked : (s s' : State) (calls : _) → Asks s.registry s'.registry calls → s'.board ≡ s.board → s'.workers ≡ s.workers → s'.walk.shared ≡ s.walk.shared → Stops s s'
+stops-asked s s' calls asks same same_w same_s =
     record {
-      locks = record { registry = asks.lock; board = ap lock_of same; workers = same_w };
+      locks = record { registry = asks.lock; board = ap lock_of same; workers = same_w; shared = same_s };
       registry = asked-more-seen (known s.registry) (known s'.registry) calls asks.asked;
       board = sees-none (known s.board) (known s'.board) (ap known same);
     }
 
 -- nothing is asked
-pub answer-holds : (d : Dialogue) (s s' : State) (answer : Answer) (answers answers' : List Answer) → d ≡ says s'.walk answer → s'.registry ≡ s.registry → s'.board ≡ s.board → s'.workers ≡ s.workers
+pub answer-holds : (d : Dialogue) (s s' : State) (answer : Answer) (answers answers' : List Answer) → d ≡ says s'.walk answer → s'.registry ≡ s.registry → s'.board ≡ s.board → s'.workers ≡ s.workers → s'.walk.shared ≡ s.walk.shared
     → Stands s'.walk.lives (known s.registry) → Posted s'.walk (known s.board) → answers' ≡ answers ++ answer ∷ [] → Holds d s s' answers answers'
-answer-holds d s s' answer answers answers' is same_r same_b same_n stands posted e =
+answer-holds d s s' answer answers answers' is same_r same_b same_n same_s stands posted e =
     record {
-      locks = record { registry = ap lock_of same_r; board = ap lock_of same_b; workers = same_n };
+      locks = record { registry = ap lock_of same_r; board = ap lock_of same_b; workers = same_n; shared = same_s };
       wide = wide-same s s' same_n same_b;
       done = subst (λ x. Done x (known s.registry) (known s.board) (known s'.registry) (known s'.board) s'.walk answers answers') (sym is)
           (subst (λ r. Done (says s'.walk answer) (known s.registry) (known s.board) (known r) (known s'.board) s'.walk answers answers') (sym same_r)
@@ -98,7 +98,7 @@ pub asking-holds : (d : Dialogue) (question : RegQuestion) (answer : RegAnswer q
     → ((id : ℕ) → got id (reg_call question answer ∷ []) ≡ given id (reg_call question answer ∷ [])) → answers' ≡ answers ++ said answer ∷ [] → Holds d s s' answers answers'
 asking-holds d question answer said s s' answers answers' is stands posted asks same_w same_b same_n balanced e =
     record {
-      locks = record { registry = asks.lock; board = ap lock_of same_b; workers = same_n };
+      locks = record { registry = asks.lock; board = ap lock_of same_b; workers = same_n; shared = ap (λ (w : Walk). w.shared) same_w };
       wide = wide-same s s' same_n same_b;
       done = subst (λ x. Done x (known s.registry) (known s.board) (known s'.registry) (known s'.board) s'.walk answers answers') (sym is)
           (subst (λ w. Done (AsksFor question (λ a. says s.walk (said a))) (known s.registry) (known s.board) (known s'.registry) (known s'.board) w answers answers') (sym same_w)
@@ -114,7 +114,7 @@ pub listing-holds : (d : Dialogue) (rows : List ListRow) (said : List ListRow �
     → answers' ≡ answers ++ said rows → Holds d s s' answers answers'
 listing-holds d rows said s s' answers answers' is stands posted asks same_w same_b same_n e =
     record {
-      locks = record { registry = asks.lock; board = ap lock_of same_b; workers = same_n };
+      locks = record { registry = asks.lock; board = ap lock_of same_b; workers = same_n; shared = ap (λ (w : Walk). w.shared) same_w };
       wide = wide-same s s' same_n same_b;
       done = subst (λ x. Done x (known s.registry) (known s.board) (known s'.registry) (known s'.board) s'.walk answers answers') (sym is)
           (subst (λ w. Done (AsksFor ListAll (λ a. Says (said a) (Ends s.walk))) (known s.registry) (known s.board) (known s'.registry) (known s'.board) w answers answers') (sym same_w)
@@ -130,29 +130,29 @@ asks-named {before} {after} call a b same asks = subst (λ x. Asks before after 
 
 -- ---- a session as it is seen
 
-abbrev pub viewed : ℕ → ℕ → List Live → ℕ → ℕ → Option RegPass → Option BoardPass → State
-viewed ws c lives q v r b = record { workers = ws; walk = record { client = c; shared = []; lives = lives; requests = q; bytes = v }; registry = r; board = b }
+abbrev pub viewed : ℕ → ℕ → List Live → List Live → ℕ → ℕ → Option RegPass → Option BoardPass → State
+viewed ws c sh lives q v r b = record { workers = ws; walk = record { client = c; shared = sh; lives = lives; requests = q; bytes = v }; registry = r; board = b }
 
 -- the same, where its registry's caller asked
-module _ {ws c : ℕ} {lives : List Live} {q v : ℕ} {r r' : Option RegPass} {b : Option BoardPass} (s : State) (view : viewed ws c lives q v r b ≡ s) where
+module _ {ws c : ℕ} {sh lives : List Live} {q v : ℕ} {r r' : Option RegPass} {b : Option BoardPass} (s : State) (view : viewed ws c sh lives q v r b ≡ s) where
   asks-of : (calls : List RegCall) → Asks r r' calls → Asks s.registry r' calls
   asks-of calls asks = subst (λ (x : State). Asks x.registry r' calls) view asks
 
   pub asking-arm : (d : Dialogue) (question : RegQuestion) (answer : RegAnswer question) (said : RegAnswer question → Answer) (answers answers' : List Answer) → d ≡ AsksFor question (λ a. says s.walk (said a))
       → Stands s.walk.lives (known s.registry) → Posted s.walk (known s.board) → Asks r r' (reg_call question answer ∷ [])
-      → ((id : ℕ) → got id (reg_call question answer ∷ []) ≡ given id (reg_call question answer ∷ [])) → answers' ≡ answers ++ said answer ∷ [] → Holds d s (viewed ws c lives q v r' b) answers answers'
+      → ((id : ℕ) → got id (reg_call question answer ∷ []) ≡ given id (reg_call question answer ∷ [])) → answers' ≡ answers ++ said answer ∷ [] → Holds d s (viewed ws c sh lives q v r' b) answers answers'
   asking-arm d question answer said answers answers' is stands posted asks balanced e =
-      asking-holds d question answer said s (viewed ws c lives q v r' b) answers answers' is stands posted (asks-of (reg_call question answer ∷ []) asks)
+      asking-holds d question answer said s (viewed ws c sh lives q v r' b) answers answers' is stands posted (asks-of (reg_call question answer ∷ []) asks)
       (ap (λ (x : State). x.walk) view) (ap (λ (x : State). x.board) view) (ap (λ (x : State). x.workers) view) balanced e
 
   pub listing-arm : (d : Dialogue) (rows : List ListRow) (said : List ListRow → List Answer) (answers answers' : List Answer) → d ≡ AsksFor ListAll (λ a. Says (said a) (Ends s.walk))
-      → Stands s.walk.lives (known s.registry) → Posted s.walk (known s.board) → Asks r r' (Lists rows ∷ []) → answers' ≡ answers ++ said rows → Holds d s (viewed ws c lives q v r' b) answers answers'
+      → Stands s.walk.lives (known s.registry) → Posted s.walk (known s.board) → Asks r r' (Lists rows ∷ []) → answers' ≡ answers ++ said rows → Holds d s (viewed ws c sh lives q v r' b) answers answers'
   listing-arm d rows said answers answers' is stands posted asks e =
-      listing-holds d rows said s (viewed ws c lives q v r' b) answers answers' is stands posted (asks-of (Lists rows ∷ []) asks)
+      listing-holds d rows said s (viewed ws c sh lives q v r' b) answers answers' is stands posted (asks-of (Lists rows ∷ []) asks)
       (ap (λ (x : State). x.walk) view) (ap (λ (x : State). x.board) view) (ap (λ (x : State). x.workers) view) e
 
-  pub stops-arm : (calls : List RegCall) → Asks r r' calls → Stops s (viewed ws c lives q v r' b)
-  stops-arm calls asks = stops-asked s (viewed ws c lives q v r' b) calls (asks-of calls asks) (ap (λ (x : State). x.board) view) (ap (λ (x : State). x.workers) view)
+  pub stops-arm : (calls : List RegCall) → Asks r r' calls → Stops s (viewed ws c sh lives q v r' b)
+  stops-arm calls asks = stops-asked s (viewed ws c sh lives q v r' b) calls (asks-of calls asks) (ap (λ (x : State). x.board) view) (ap (λ (x : State). x.workers) view) (ap (λ (x : State). x.walk.shared) view)
 
 -- ---- `register`
 

@@ -54,7 +54,7 @@ abbrev pub IsOn : Known (BoardEntry Ask) → Live → Type 0
 IsOn k live = HasPipe k live.pipe
 
 -- the pipelines of transforms that have others stay
-others-stay : (k l : Known (BoardEntry Ask)) (pipe : Option Pipe) (lives : List Live)
+pub others-stay : (k l : Known (BoardEntry Ask)) (pipe : Option Pipe) (lives : List Live)
     → ((other : Option Pipe) → AreApart pipe other → HasPipe k other → HasPipe l other)
     → ((number : ℕ) → is_at number pipe ≡ true → owners number lives ≡ 0) → All (IsOn k) lives → All (IsOn l) lives
 others-stay k l pipe [] stay free all = All-nil (IsOn l)
@@ -64,7 +64,7 @@ others-stay k l pipe (x ∷ xs) stay free all =
     (others-stay k l pipe xs stay (λ number at. rest-free (is_at number x.pipe) (owners number xs) (free number at)) (All-tail (IsOn k) x xs all))
 
 -- beside the one transform nobody has its pipeline
-beside : (number : ℕ) (before later : List Live) (live : Live) → owners number (before ++ live ∷ later) ≤ 1 → is_at number live.pipe ≡ true
+pub beside : (number : ℕ) (before later : List Live) (live : Live) → owners number (before ++ live ∷ later) ≤ 1 → is_at number live.pipe ≡ true
     → (owners number before ≡ 0) × (owners number later ≡ 0)
 beside number before later live most at =
     let split = owners-append number before (live ∷ later) in
@@ -138,7 +138,7 @@ eq-swap a b apart = by_test (b == a) refl
     by_test false same = refl
     by_test true same = let yes : (a == b) ≡ true = eq-eqb a b (sym (eqb-true b a same)) in sym yes ∙ apart
 
-apart-of : (pipe other : Pipe) → AreApart (Some pipe) (Some other) → (other.number == pipe.number) ≡ false
+pub apart-of : (pipe other : Pipe) → AreApart (Some pipe) (Some other) → (other.number == pipe.number) ≡ false
 apart-of pipe other apart = by_test (other.number == pipe.number) refl
   where
     by_test : (t : Bool) → (other.number == pipe.number) ≡ t → (other.number == pipe.number) ≡ false

@@ -21,7 +21,12 @@ use Rattle.script_session.specs.Holding.{HoldsBy, Holds, Stops}
 use Rattle.session_calls.specs.Pipelines.{Called}
 use Rattle.script_session.specs.Running.{IsReady, Replies}
 use Rattle.script_session.specs.Saying.{SaysBy, BreaksOff}
-use Rattle.script_session.specs.States.{State, Stands, Posted}
+use Rattle.board.specs.declared.entry.BoardEntry.{BoardEntry}
+use Rattle.turn_lock.specs.Turns.{Known}
+use Rattle.dialogues.specs.Walk.{Pipe}
+use Rattle.session_calls.specs.Sharing.{SharedStaysKnown}
+use Rattle.script_session.specs.States.{State, AreShared, Stands, Posted}
+use Rattle.script_session.proofs.Gives.{shared-stay}
 use Rattle.script_session.proofs.Rules.{asked-nothing, called-nothing}
 use Rattle.std.proofs.Common.{append-nil}
 
@@ -50,7 +55,7 @@ request-arm-as result s s' n label asked given backlog answers answers' is held 
 pub nothing-holds : (s : State) (answers : List Answer) → Stands s.walk.lives (known s.registry) → Posted s.walk (known s.board) → Holds (Ends s.walk) s s answers answers
 nothing-holds s answers stands posted =
     record {
-      locks = record { registry = refl; board = refl; workers = refl };
+      locks = record { registry = refl; board = refl; workers = refl; shared = refl };
       done = record {
         turn = ended s.walk;
         is = refl;
@@ -88,14 +93,23 @@ replies {width} d s s' answers text text' held e =
       says = e ∙ ap (λ a. text ++ flat_map text_of a) held.done.says;
     }
 
-pub ready : {W : Type 0} {width : ℕ} (registry : SharedRegistry) (board : SharedBoard W Ask Finished) (d : Dialogue) (s s' : State) (answers answers' : List Answer) → IsReady registry board s → HoldsBy width d s s' answers answers' → IsReady registry board s'
-ready {W} {width} registry board d s s' answers answers' is held =
-    record { calls_registry = held.locks.registry ∙ is.calls_registry; calls_board = held.locks.board ∙ is.calls_board; stands = held.done.stands; posted = held.done.posted; few = subst (λ w. w ≤ 16) (sym held.locks.workers) is.few; wide = held.wide is.wide }
+pub ready : {W : Type 0} {width : ℕ} → ((k l : Known (BoardEntry Ask)) (pipe : Pipe) → SharedStaysKnown k l pipe) → (registry : SharedRegistry) (board : SharedBoard W Ask Finished) (d : Dialogue) (s s' : State) (answers answers' : List Answer) → IsReady registry board s → HoldsBy width d s s' answers answers' → IsReady registry board s'
+ready {W} {width} law registry board d s s' answers answers' is held =
+    record {
+      calls_registry = held.locks.registry ∙ is.calls_registry;
+      calls_board = held.locks.board ∙ is.calls_board;
+      stands = held.done.stands;
+      posted = held.done.posted;
+      few = subst (λ w. w ≤ 16) (sym held.locks.workers) is.few;
+      wide = held.wide is.wide;
+      shared = subst (λ ls. AreShared ls (known s'.board)) (sym held.locks.shared)
+          (shared-stay law (known s.board) (known s'.board) s.walk.shared held.done.called.number held.done.called.seen held.done.posted.legal is.shared);
+    }
 
-pub answered-ready : {S A W : Type 0} (width : ℕ) (result : Result A S) (Broken : Type 0) (registry : SharedRegistry) (board : SharedBoard W Ask Finished) (d : Dialogue) (s s' : State) (answers answers' : List Answer) → IsReady registry board s
+pub answered-ready : {S A W : Type 0} → ((k l : Known (BoardEntry Ask)) (pipe : Pipe) → SharedStaysKnown k l pipe) → (width : ℕ) (result : Result A S) (Broken : Type 0) (registry : SharedRegistry) (board : SharedBoard W Ask Finished) (d : Dialogue) (s s' : State) (answers answers' : List Answer) → IsReady registry board s
     → MatchResult result (λ _. HoldsBy width d s s' answers answers') (λ _. Broken) → OnOk result (IsReady registry board s')
-answered-ready width (Ok done) Broken registry board d s s' answers answers' is held = ready registry board d s s' answers answers' is held
-answered-ready width (Err stop) Broken registry board d s s' answers answers' is broken = tt
+answered-ready law width (Ok done) Broken registry board d s s' answers answers' is held = ready law registry board d s s' answers answers' is held
+answered-ready law width (Err stop) Broken registry board d s s' answers answers' is broken = tt
 
 -- ---- lines whose text goes straight into the reply
 
@@ -104,10 +118,10 @@ pub line-replies : {S A : Type 0} (width : ℕ) (result : Result A S) (d : Dialo
 line-replies width (Ok done) d s s' text text' says = replies d s s' says.said text text' says.held says.says
 line-replies width (Err stop) d s s' text text' breaks = breaks.stops
 
-pub line-ready : {S A W : Type 0} (width : ℕ) (result : Result A S) (Broken : Type 0) (registry : SharedRegistry) (board : SharedBoard W Ask Finished) (d : Dialogue) (s s' : State) (text text' : List ℕ) → IsReady registry board s
+pub line-ready : {S A W : Type 0} → ((k l : Known (BoardEntry Ask)) (pipe : Pipe) → SharedStaysKnown k l pipe) → (width : ℕ) (result : Result A S) (Broken : Type 0) (registry : SharedRegistry) (board : SharedBoard W Ask Finished) (d : Dialogue) (s s' : State) (text text' : List ℕ) → IsReady registry board s
     → MatchResult result (λ _. SaysBy width d s s' text text') (λ _. Broken) → OnOk result (IsReady registry board s')
-line-ready width (Ok done) Broken registry board d s s' text text' is says = ready registry board d s s' [] says.said is says.held
-line-ready width (Err stop) Broken registry board d s s' text text' is breaks = tt
+line-ready law width (Ok done) Broken registry board d s s' text text' is says = ready law registry board d s s' [] says.said is says.held
+line-ready law width (Err stop) Broken registry board d s s' text text' is breaks = tt
 
 pub line-unwritten : {S A : Type 0} (result : Result A S) (Said : Type 0) (s s' : State) (text text' : List ℕ) → MatchResult result (λ _. Said) (λ _. BreaksOff s s' text text') → OnErr result (text' ≡ text)
 line-unwritten (Ok done) Said s s' text text' says = tt

@@ -9,7 +9,7 @@ use Rattle.std.proofs.lemmas.List.Elements.{All-head, All-tail}
 use Rattle.kc_base.specs.declared.callback_list.Callback.{Callback}
 use Rattle.board.specs.declared.entry.BoardEntry.{BoardEntry}
 use Rattle.board.specs.declared.entry.BoardEntry.TheVariants as event
-use Rattle.board.specs.Entries.{entries_of, submissions, front}
+use Rattle.board.specs.Entries.{entries_of, submissions, front, is_shared, caller_of}
 use Rattle.board.specs.Handing.{AllHandedOutIsDrained, completions}
 use Rattle.board.specs.Legal.{MayManage, LegalBoard}
 use Rattle.board.specs.Staying.{IsDrained}
@@ -17,6 +17,7 @@ use Rattle.reply_text.specs.Answers.{text_of}
 use Rattle.reply_text.specs.declared.answers.Answer.{Answer}
 use Rattle.transforms.specs.declared.ask.Ask.{Ask}
 use Rattle.transforms.specs.declared.request.Finished.{Finished}
+use Rattle.turn_lock.specs.Meeting.{IsOwn}
 use Rattle.turn_lock.specs.Turns.{Known, sees}
 use Rattle.dialogues.specs.BoardCalls.{BoardCall, Goes, Collects, Shuts, origin_of}
 use Rattle.dialogues.specs.Dialogues.{Dialogue, Ends, Posts}
@@ -26,10 +27,10 @@ use Rattle.dialogues.specs.Turns.{IsTurn, ended, joined, posting}
 use Rattle.dialogues.specs.Walk.{Walk, Live, Pipe}
 use Rattle.session_calls.specs.Asking.{Asked}
 use Rattle.session_calls.specs.Passes.{RegPass, BoardPass, known, lock_of}
-use Rattle.session_calls.specs.Pipelines.{KnowsPipe, Called, Changed, Drained, IsShut, notice_by}
+use Rattle.session_calls.specs.Pipelines.{KnowsPipe, Owns, Kept, Called, Changed, Drained, IsShut, notice_by}
 use Rattle.session_calls.proofs.Boarding.{kept-same, called-more, starts-same}
 use Rattle.script_session.specs.Changing.{Changes}
-use Rattle.script_session.specs.Ending.{LeadsBy, part, Moves, MovesAll, ArePosted, AreAllPaid, IsPaid, place_of, EndsWith, AnswersEnd, EndsShut}
+use Rattle.script_session.specs.Ending.{LeadsBy, part, Moves, MovesAll, ArePosted, AreAllPaid, IsPaid, place_of, EndsWith, AnswersEnd, AnswersEndBeside, EndsPaid, EndsShut}
 use Rattle.script_session.specs.Holding.{HasSeenMore, SeesOn, Stops}
 use Rattle.script_session.specs.Keyed.{held_as, delivering}
 use Rattle.script_session.specs.States.{State, SameLocks, Stands, HasPipe, is_at, owners}
@@ -127,39 +128,68 @@ end-answers s s' gone lives' k l answers text text' locks same stands lets drain
     let e = end-with s s' gone lives' k l [] answers locks same stands lets drains shuts in
     record { locks = e.locks; turn = e.turn; is = e.is; asked = e.asked; called = e.called; ends = e.ends; says = put ∙ ap (λ xs. text ++ flat_map text_of xs) e.says }
 
-module _ {ws c : ℕ} {items left : List Live} {q v : ℕ} {r : Option RegPass} {b b' : Option BoardPass} (s : State) (view : viewed ws c items q v r b ≡ s) where
+module _ {ws c : ℕ} {sh items left : List Live} {q v : ℕ} {r : Option RegPass} {b b' : Option BoardPass} (s : State) (view : viewed ws c sh items q v r b ≡ s) where
   -- the lists that the two loops go over are the session's own
   pub end_with-arm : (first first' second second' : List Live) (k l : Known (BoardEntry Ask)) (answers answers' : List Answer) → first ≡ items → second ≡ first' → lock_of b' ≡ lock_of b
       → Stands s.walk.lives (known s.registry) → MovesAll (let_all_go first) first first' (known b) k [] [] → MovesAll (drain_all second) second second' k l answers answers' → Called l (known b') (Shuts ∷ [])
-      → EndsWith s (viewed ws c left q v r b') answers answers'
+      → EndsWith s (viewed ws c sh left q v r b') answers answers'
   end_with-arm first first' second second' k l answers answers' at_first at_second lock stands lets drains shuts =
       let lives_are : first ≡ s.walk.lives = at_first ∙ ap (λ (x : State). x.walk.lives) view in
       let lets' : MovesAll (let_all_go s.walk.lives) s.walk.lives first' (known s.board) k [] [] =
       subst (λ (x : State). MovesAll (let_all_go s.walk.lives) s.walk.lives first' (known x.board) k [] []) view (subst (λ ls. MovesAll (let_all_go ls) ls first' (known b) k [] []) lives_are lets) in
       let drains' : MovesAll (drain_all first') first' second' k l answers answers' = subst (λ ls. MovesAll (drain_all ls) ls second' k l answers answers') at_second drains in
-      end-with s (viewed ws c left q v r b') first' second' k l answers answers'
-      (record { registry = ap (λ (x : State). lock_of x.registry) view; board = lock ∙ ap (λ (x : State). lock_of x.board) view; workers = ap (λ (x : State). x.workers) view })
+      end-with s (viewed ws c sh left q v r b') first' second' k l answers answers'
+      (record { registry = ap (λ (x : State). lock_of x.registry) view; board = lock ∙ ap (λ (x : State). lock_of x.board) view; workers = ap (λ (x : State). x.workers) view; shared = ap (λ (x : State). x.walk.shared) view })
       (ap (λ (x : State). x.registry) view) stands lets' drains' shuts
 
   pub end-arm : (first first' second second' : List Live) (k l : Known (BoardEntry Ask)) (none answers slice : List Answer) (text text' : List ℕ) → first ≡ items → second ≡ first' → none ≡ [] → slice ≡ answers → lock_of b' ≡ lock_of b
       → Stands s.walk.lives (known s.registry) → MovesAll (let_all_go first) first first' (known b) k [] [] → MovesAll (drain_all second) second second' k l none answers → Called l (known b') (Shuts ∷ [])
-      → text' ≡ text ++ flat_map text_of slice → AnswersEnd s (viewed ws c left q v r b') text text'
+      → text' ≡ text ++ flat_map text_of slice → AnswersEnd s (viewed ws c sh left q v r b') text text'
   end-arm first first' second second' k l none answers slice text text' at_first at_second empty same lock stands lets drains shuts put =
       let lives_are : first ≡ s.walk.lives = at_first ∙ ap (λ (x : State). x.walk.lives) view in
       let lets' : MovesAll (let_all_go s.walk.lives) s.walk.lives first' (known s.board) k [] [] =
       subst (λ (x : State). MovesAll (let_all_go s.walk.lives) s.walk.lives first' (known x.board) k [] []) view (subst (λ ls. MovesAll (let_all_go ls) ls first' (known b) k [] []) lives_are lets) in
       let drains' : MovesAll (drain_all first') first' second' k l [] answers =
       subst (λ a. MovesAll (drain_all first') first' second' k l a answers) empty (subst (λ ls. MovesAll (drain_all ls) ls second' k l none answers) at_second drains) in
-      end-answers s (viewed ws c left q v r b') first' second' k l answers text text'
-      (record { registry = ap (λ (x : State). lock_of x.registry) view; board = lock ∙ ap (λ (x : State). lock_of x.board) view; workers = ap (λ (x : State). x.workers) view })
+      end-answers s (viewed ws c sh left q v r b') first' second' k l answers text text'
+      (record { registry = ap (λ (x : State). lock_of x.registry) view; board = lock ∙ ap (λ (x : State). lock_of x.board) view; workers = ap (λ (x : State). x.workers) view; shared = ap (λ (x : State). x.walk.shared) view })
       (ap (λ (x : State). x.registry) view) stands lets' drains' shuts (put ∙ ap (λ a. text ++ flat_map text_of a) same)
 
+-- ---- a client's end
+
+module _ {ws c : ℕ} {sh items left : List Live} {q v : ℕ} {r : Option RegPass} {b b' : Option BoardPass} (s : State) (view : viewed ws c sh items q v r b ≡ s) where
+  pub client-arm : (first first' second second' : List Live) (k l : Known (BoardEntry Ask)) (none answers slice : List Answer) (text text' : List ℕ) → first ≡ items → second ≡ first' → none ≡ [] → slice ≡ answers → lock_of b' ≡ lock_of b
+      → Stands s.walk.lives (known s.registry) → MovesAll (let_all_go first) first first' (known b) k [] [] → MovesAll (drain_all second) second second' k l none answers → Called l (known b') []
+      → text' ≡ text ++ flat_map text_of slice → AnswersEndBeside s (viewed ws c sh left q v r b') text text'
+  client-arm first first' second second' k l none answers slice text text' at_first at_second empty same lock stands lets_at drains_at met put =
+      let walk = s.walk in
+      let lives_are : first ≡ walk.lives = at_first ∙ ap (λ (x : State). x.walk.lives) view in
+      let lets : MovesAll (let_all_go walk.lives) walk.lives first' (known s.board) k [] [] =
+      subst (λ (x : State). MovesAll (let_all_go walk.lives) walk.lives first' (known x.board) k [] []) view (subst (λ ls. MovesAll (let_all_go ls) ls first' (known b) k [] []) lives_are lets_at) in
+      let drains : MovesAll (drain_all first') first' second' k l [] answers =
+      subst (λ a. MovesAll (drain_all first') first' second' k l a answers) empty (subst (λ ls. MovesAll (drain_all ls) ls second' k l none answers) at_second drains_at) in
+      let x = lets.calls in
+      let y = drains.calls in
+      let drains_here : LeadsBy (drain_all walk.lives) y drains.said =
+      leads-same (drain_all first') (drain_all walk.lives) y drains.said (λ rest. sym (drains-same walk.lives first' rest lets.places)) drains.leads in
+      record {
+        locks = record { registry = ap (λ (x : State). lock_of x.registry) view; board = lock ∙ ap (λ (x : State). lock_of x.board) view; workers = ap (λ (x : State). x.workers) view; shared = ap (λ (x : State). x.walk.shared) view };
+        turn = joined (part x lets.said) (joined (part y drains.said) (ended walk));
+        is = lets.leads (drain_all walk.lives (Ends walk)) [] (y ++ []) ∙ ap (joined (part x lets.said)) (drains_here (Ends walk) [] []);
+        asked = subst (λ (z : State). Asked (known s.registry) (known z.registry) []) (sym view) (asked-nothing (known s.registry) stands.caller);
+        called = called-more (known s.board) k (known b') x (y ++ []) lets.called (called-more k l (known b') y [] drains.called met);
+        ends = refl;
+        says =
+            put ∙ ap (λ a. text ++ flat_map text_of a)
+            (same ∙ (drains.says ∙ (sym (append-nil drains.said) ∙ ap (λ xs. xs ++ (drains.said ++ [])) lets.says)));
+      }
+
 -- memory was wanting before anything was called
-module _ {ws c : ℕ} {items : List Live} {q v : ℕ} {r : Option RegPass} {b : Option BoardPass} (s : State) (view : viewed ws c items q v r b ≡ s) where
-  pub stops-here : (left : List Live) → Stops s (viewed ws c left q v r b)
+module _ {ws c : ℕ} {sh items : List Live} {q v : ℕ} {r : Option RegPass} {b : Option BoardPass} (s : State) (view : viewed ws c sh items q v r b ≡ s) where
+  pub stops-here : (left : List Live) → Stops s (viewed ws c sh left q v r b)
   stops-here left =
       record {
-        locks = record { registry = ap (λ (x : State). lock_of x.registry) view; board = ap (λ (x : State). lock_of x.board) view; workers = ap (λ (x : State). x.workers) view };
+        locks = record { registry = ap (λ (x : State). lock_of x.registry) view; board = ap (λ (x : State). lock_of x.board) view; workers = ap (λ (x : State). x.workers) view; shared = ap (λ (x : State). x.walk.shared) view };
         registry = subst (λ (x : State). HasSeenMore (known x.registry) (known r)) view (record { number = refl; next = refl; seen = starts-same (known r).seen });
         board = subst (λ (x : State). SeesOn (known x.board) (known b)) view (sees-same (known b));
       }
@@ -201,4 +231,15 @@ ends-shut law lives k l are paid shut =
           let pipe = one.0 in
           let drained = paid-drained law m pipe shut.kept.legal (shut.kept.pipes pipe one.2) one.3 in
           subst (λ n. front (entries_of n before) ≡ length (submissions (entries_of n before))) one.1 drained.0;
+    }
+
+pub ends-paid : HandingAllDrains → (lives : List Live) (k l : Known (BoardEntry Ask)) → ArePosted lives k → AreAllPaid lives → Kept k l → IsOwn caller_of l → EndsPaid l
+ends-paid law lives k l are paid kept own =
+    let one : (p : ℕ) → Owns l p → (pipe : Pipe) × (pipe.number ≡ p) × KnowsPipe k pipe × (pipe.delivered ≡ length pipe.lines) =
+    λ p owns. among lives p k (subst (λ ls. 1 ≤ owners p ls) are.1 (are.2.owned p (kept.owned p owns))) (subst (All (IsOn k)) are.1 are.2.pipes) paid in
+    record {
+      legal = kept.legal;
+      own = own;
+      unshared = λ p owns. let x = one p owns in subst (λ n. is_shared (entries_of n l.seen) ≡ false) x.1 (kept.pipes x.0 x.2).unshared;
+      drained = λ p owns. let x = one p owns in subst (λ n. IsDrained (entries_of n l.seen)) x.1 (paid-drained law l x.0 kept.legal (kept.pipes x.0 x.2) x.3);
     }

@@ -118,7 +118,7 @@ finds-as r r' text a b is found = subst (Finds r r' text) is found
 made-stops : (label : List ℕ) (len : Option ℕ) (id : ℕ) (spec : Spec) (plan : Plan) (s s' : State) → MakesLive label len id spec plan s s' → Stops s s'
 made-stops label len id spec plan s s' made =
     record {
-      locks = record { registry = ap (λ (x : State). lock_of x.registry) made.added; board = made.lock; workers = ap (λ (x : State). x.workers) made.added };
+      locks = record { registry = ap (λ (x : State). lock_of x.registry) made.added; board = made.lock; workers = ap (λ (x : State). x.workers) made.added; shared = ap (λ (x : State). x.walk.shared) made.added };
       registry = subst (λ (x : State). HasSeenMore (known s.registry) (known x.registry)) (sym made.added) (record { number = refl; next = refl; seen = starts-same (known s.registry).seen });
       board = created-live-sees s.workers label len id spec plan made.live (known s.board) (known s'.board) made.created;
     }
@@ -140,56 +140,56 @@ Bound s s' n label len id answers answers' =
 some-same : {A : Type 0} (a b : A) (o : Option A) → o ≡ Some a → o ≡ Some b → a ≡ b
 some-same a b o first second = ap (λ x. unwrap_or x a) (sym first ∙ second)
 
-module _ {ws c : ℕ} {lives : List Live} {q v : ℕ} {r : Option RegPass} {b : Option BoardPass} (s : State) (view : viewed ws c lives q v r b ≡ s) where
+module _ {ws c : ℕ} {sh lives : List Live} {q v : ℕ} {r : Option RegPass} {b : Option BoardPass} (s : State) (view : viewed ws c sh lives q v r b ≡ s) where
   -- memory was wanting
-  pub further : {r' : Option RegPass} {b' : Option BoardPass} (lives' : List Live) → SeesMore r r' → lock_of b' ≡ lock_of b → SeesOn (known b) (known b') → Stops s (viewed ws c lives' q v r' b')
+  pub further : {r' : Option RegPass} {b' : Option BoardPass} (lives' : List Live) → SeesMore r r' → lock_of b' ≡ lock_of b → SeesOn (known b) (known b') → Stops s (viewed ws c sh lives' q v r' b')
   further {r'} {b'} lives' more lock on =
       record {
-        locks = record { registry = more.lock ∙ ap (λ (x : State). lock_of x.registry) view; board = lock ∙ ap (λ (x : State). lock_of x.board) view; workers = ap (λ (x : State). x.workers) view };
+        locks = record { registry = more.lock ∙ ap (λ (x : State). lock_of x.registry) view; board = lock ∙ ap (λ (x : State). lock_of x.board) view; workers = ap (λ (x : State). x.workers) view; shared = ap (λ (x : State). x.walk.shared) view };
         registry = subst (λ (x : State). HasSeenMore (known x.registry) (known r')) view (has-seen-more more);
         board = subst (λ (x : State). SeesOn (known x.board) (known b')) view on;
       }
 
   -- the same where the registry wasn't asked
-  pub further-on : {b' : Option BoardPass} (lives' : List Live) → lock_of b' ≡ lock_of b → SeesOn (known b) (known b') → Stops s (viewed ws c lives' q v r b')
+  pub further-on : {b' : Option BoardPass} (lives' : List Live) → lock_of b' ≡ lock_of b → SeesOn (known b) (known b') → Stops s (viewed ws c sh lives' q v r b')
   further-on lives' lock on = further lives' (record { lock = refl; number = refl; next = refl; seen = starts-same (known r).seen }) lock on
 
   -- the same after the registry was asked
-  pub further-still : {r' : Option RegPass} (s' : State) → SeesMore r r' → Stops (viewed ws c lives q v r' b) s' → Stops s s'
+  pub further-still : {r' : Option RegPass} (s' : State) → SeesMore r r' → Stops (viewed ws c sh lives q v r' b) s' → Stops s s'
   further-still {r'} s' more stops =
       record {
-        locks = record { registry = stops.locks.registry ∙ (more.lock ∙ ap (λ (x : State). lock_of x.registry) view); board = stops.locks.board ∙ ap (λ (x : State). lock_of x.board) view; workers = stops.locks.workers ∙ ap (λ (x : State). x.workers) view };
+        locks = record { registry = stops.locks.registry ∙ (more.lock ∙ ap (λ (x : State). lock_of x.registry) view); board = stops.locks.board ∙ ap (λ (x : State). lock_of x.board) view; workers = stops.locks.workers ∙ ap (λ (x : State). x.workers) view; shared = stops.locks.shared ∙ ap (λ (x : State). x.walk.shared) view };
         registry = subst (λ (x : State). HasSeenMore (known x.registry) (known s'.registry)) view (seen-more-then (known r) (known r') (known s'.registry) (has-seen-more more) stops.registry);
         board = subst (λ (x : State). SeesOn (known x.board) (known s'.board)) view stops.board;
       }
 
   -- a transform was made and added
   pub makes-arm : (b' : Option BoardPass) (items : List Live) (label : List ℕ) (len : Option ℕ) (id : ℕ) (spec : Spec) (plan : Plan) (live : Live)
-      → lock_of b' ≡ lock_of b → CreatedLive ws label len id spec plan live (known b) (known b') → items ≡ lives ++ live ∷ [] → MakesLive label len id spec plan s (viewed ws c items q v r b')
+      → lock_of b' ≡ lock_of b → CreatedLive ws label len id spec plan live (known b) (known b') → items ≡ lives ++ live ∷ [] → MakesLive label len id spec plan s (viewed ws c sh items q v r b')
   makes-arm b' items label len id spec plan live lock created more =
-      subst (λ (x : State). MakesLive label len id spec plan x (viewed ws c items q v r b')) view
-      (record { live = live; created = created; lock = lock; added = ap (λ ls. viewed ws c ls q v r b') more })
+      subst (λ (x : State). MakesLive label len id spec plan x (viewed ws c sh items q v r b')) view
+      (record { live = live; created = created; lock = lock; added = ap (λ ls. viewed ws c sh ls q v r b') more })
 
   taken-holds : {r2 : Option RegPass} {b' : Option BoardPass} {items : List Live} (n : ℕ) (label : List ℕ) (len : Option ℕ) (id : ℕ) (spec : Spec) (plan : Plan) (pipe : Option Pipe) (answers answers' : List Answer)
       → Asks r r2 (Gets id true ∷ []) → lock_of b' ≡ lock_of b → Created (shape_for ws (is_chained spec.driver) spec.wrap len) pipe (known b) (known b')
       → items ≡ lives ++ new_live label id plan pipe ∷ [] → Stands s.walk.lives (known s.registry) → Posted s.walk (known s.board) → answers' ≡ answers ++ said.Made n spec.driver ∷ []
-      → Holds (binds_plan s.workers s.walk n label len id spec (Some plan)) s (viewed ws c items q v r2 b') answers answers'
+      → Holds (binds_plan s.workers s.walk n label len id spec (Some plan)) s (viewed ws c sh items q v r2 b') answers answers'
   taken-holds {r2} {b'} {items} n label len id spec plan pipe answers answers' got lock created more stands posted e =
-      let from : State = viewed ws c lives q v r b in
-      let to : State = viewed ws c items q v r2 b' in
+      let from : State = viewed ws c sh lives q v r b in
+      let to : State = viewed ws c sh items q v r2 b' in
       let d : Dialogue = binds_plan ws from.walk n label len id spec (Some plan) in
       subst (λ (x : State). Stands x.walk.lives (known x.registry) → Posted x.walk (known x.board) → Holds (binds_plan x.workers x.walk n label len id spec (Some plan)) x to answers answers') view
       (λ stands0 posted0. record {
-        locks = record { registry = got.lock; board = lock; workers = refl };
+        locks = record { registry = got.lock; board = lock; workers = refl; shared = refl };
         wide = wide-created ws (is_chained spec.driver) spec.wrap len pipe (known b) (known b') created;
-        done = subst (λ ls. Done d (known r) (known b) (known r2) (known b') (record { client = c; shared = []; lives = ls; requests = q; bytes = v }) answers answers') (sym more)
+        done = subst (λ ls. Done d (known r) (known b) (known r2) (known b') (record { client = c; shared = sh; lives = ls; requests = q; bytes = v }) answers answers') (sym more)
             (taken-done ws from.walk n label len id spec plan pipe (known r) (known r2) (known b) (known b') answers answers' got.asked created stands0 posted0 e);
       }) stands posted
 
   -- the same where another call made the transform and added it
   pub taken-arm : {S A : Type 0} {r2 : Option RegPass} (s' : State) (n : ℕ) (label : List ℕ) (len : Option ℕ) (id : ℕ) (spec : Spec) (plan : Plan) (answers answers' : List Answer) (result : Result A S)
       → Asks r r2 (Gets id true ∷ []) → Stands s.walk.lives (known s.registry) → Posted s.walk (known s.board)
-      → MatchResult result (λ _. AddsLive n label len id spec plan (viewed ws c lives q v r2 b) s' answers answers') (λ _. Stops (viewed ws c lives q v r2 b) s')
+      → MatchResult result (λ _. AddsLive n label len id spec plan (viewed ws c sh lives q v r2 b) s' answers answers') (λ _. Stops (viewed ws c sh lives q v r2 b) s')
       → MatchResult result (λ _. Holds (binds_plan s.workers s.walk n label len id spec (Some plan)) s s' answers answers') (λ _. Stops s s')
   taken-arm {r2 = r2} s' n label len id spec plan answers answers' (Ok a) got stands posted adds =
       let made = adds.made in
@@ -200,13 +200,13 @@ module _ {ws c : ℕ} {lives : List Live} {q v : ℕ} {r : Option RegPass} {b : 
 
   pub lost-arm : {r2 : Option RegPass} (n : ℕ) (label : List ℕ) (len : Option ℕ) (id : ℕ) (spec : Spec) (plan : Plan) (answers answers' : List Answer)
       → Asks r r2 (Gets id false ∷ []) → Stands s.walk.lives (known s.registry) → Posted s.walk (known s.board) → answers' ≡ answers ++ said.Refused n EAGAIN ∷ []
-      → Holds (binds_plan s.workers s.walk n label len id spec (Some plan)) s (viewed ws c lives q v r2 b) answers answers'
+      → Holds (binds_plan s.workers s.walk n label len id spec (Some plan)) s (viewed ws c sh lives q v r2 b) answers answers'
   lost-arm {r2} n label len id spec plan answers answers' got stands posted e =
-      let from : State = viewed ws c lives q v r b in
-      let to : State = viewed ws c lives q v r2 b in
+      let from : State = viewed ws c sh lives q v r b in
+      let to : State = viewed ws c sh lives q v r2 b in
       subst (λ (x : State). Stands x.walk.lives (known x.registry) → Posted x.walk (known x.board) → Holds (binds_plan x.workers x.walk n label len id spec (Some plan)) x to answers answers') view
       (λ stands0 posted0. record {
-        locks = record { registry = got.lock; board = refl; workers = refl };
+        locks = record { registry = got.lock; board = refl; workers = refl; shared = refl };
         wide = λ wide. wide;
         done = lost-done ws from.walk n label len id spec plan (known r) (known r2) (known b) answers answers' got.asked stands0 posted0 e;
       }) stands posted
@@ -220,15 +220,15 @@ module _ {ws c : ℕ} {lives : List Live} {q v : ℕ} {r : Option RegPass} {b : 
   -- what an entry's plan comes to
   pub bound-arm : {S A : Type 0} {r' : Option RegPass} (s' : State) (n : ℕ) (label : List ℕ) (len : Option ℕ) (id : ℕ) (spec : Spec) (plan : Plan) (answers answers' : List Answer) (result : Result A S)
       → Asks r r' [] → slice_get (registered (known r).seen) id ≡ Some spec → plan_for spec len ≡ Some plan
-      → MatchResult result (λ _. Holds (binds_plan ws (record { client = c; shared = []; lives = lives; requests = q; bytes = v }) n label len id spec (Some plan)) (viewed ws c lives q v r' b) s' answers answers') (λ _. Stops (viewed ws c lives q v r' b) s')
+      → MatchResult result (λ _. Holds (binds_plan ws (record { client = c; shared = sh; lives = lives; requests = q; bytes = v }) n label len id spec (Some plan)) (viewed ws c sh lives q v r' b) s' answers answers') (λ _. Stops (viewed ws c sh lives q v r' b) s')
       → MatchResult result (λ _. Bound s s' n label len id answers answers') (λ _. Stops s s')
   bound-arm {r' = r'} s' n label len id spec plan answers answers' (Ok a) origin there plans held =
-      let from : State = viewed ws c lives q v r b in
+      let from : State = viewed ws c sh lives q v r b in
       subst (λ (x : State). Bound x s' n label len id answers answers') view (
         spec,
         there,
         record {
-          locks = record { registry = held.locks.registry ∙ origin.lock; board = held.locks.board; workers = held.locks.workers };
+          locks = record { registry = held.locks.registry ∙ origin.lock; board = held.locks.board; workers = held.locks.workers; shared = held.locks.shared };
           wide = held.wide;
           done = subst (λ p. Done (binds_plan ws from.walk n label len id spec p) (known r) (known b) (known s'.registry) (known s'.board) s'.walk answers answers') (sym plans)
               (asked-none-done (binds_plan ws from.walk n label len id spec (Some plan)) (known r) (known r') (known s'.registry) (known b) (known s'.board) s'.walk answers answers' origin.asked held.done);
@@ -239,17 +239,17 @@ module _ {ws c : ℕ} {lives : List Live} {q v : ℕ} {r : Option RegPass} {b : 
   pub unplanned-arm : {r' : Option RegPass} (n : ℕ) (label : List ℕ) (len : Option ℕ) (id : ℕ) (spec : Spec) (answers answers' : List Answer)
       → Asks r r' [] → slice_get (registered (known r).seen) id ≡ Some spec → plan_for spec len ≡ None
       → Stands s.walk.lives (known s.registry) → Posted s.walk (known s.board) → answers' ≡ answers ++ said.Refused n EINVAL ∷ []
-      → Bound s (viewed ws c lives q v r' b) n label len id answers answers'
+      → Bound s (viewed ws c sh lives q v r' b) n label len id answers answers'
   unplanned-arm {r'} n label len id spec answers answers' origin there plans stands posted e =
-      let from : State = viewed ws c lives q v r b in
-      let to : State = viewed ws c lives q v r' b in
+      let from : State = viewed ws c sh lives q v r b in
+      let to : State = viewed ws c sh lives q v r' b in
       let d : Dialogue = binds ws from.walk n label len (Entry id spec) in
       subst (λ (x : State). Stands x.walk.lives (known x.registry) → Posted x.walk (known x.board) → Bound x to n label len id answers answers') view
       (λ stands0 posted0. (
         spec,
         there,
         record {
-          locks = record { registry = origin.lock; board = refl; workers = refl };
+          locks = record { registry = origin.lock; board = refl; workers = refl; shared = refl };
           wide = λ wide. wide;
           done = asked-none-done d (known r) (known r') (known r') (known b) (known b) from.walk answers answers' origin.asked
               (subst (λ p. Done (binds_plan ws from.walk n label len id spec p) (known r') (known b) (known r') (known b) from.walk answers answers') (sym plans)
@@ -264,35 +264,35 @@ module _ {ws c : ℕ} {lives : List Live} {q v : ℕ} {r : Option RegPass} {b : 
       stands-more lives lives (known r) (known r') (Looks text (Some (Entry id found.0)) ∷ []) stands0 found.1.asked (λ other. refl)
 
   found-holds : {r' : Option RegPass} (s' : State) (n : ℕ) (label text : List ℕ) (len : Option ℕ) (id : ℕ) (answers answers' : List Answer) → Finds r r' text (Ok id)
-      → Bound (viewed ws c lives q v r' b) s' n label len id answers answers' → Holds (looks s.workers s.walk n label text len) s s' answers answers'
+      → Bound (viewed ws c sh lives q v r' b) s' n label len id answers answers' → Holds (looks s.workers s.walk n label text len) s s' answers answers'
   found-holds {r'} s' n label text len id answers answers' found bound =
-      let from : State = viewed ws c lives q v r b in
+      let from : State = viewed ws c sh lives q v r b in
       let spec = found.0 in
       let same : bound.0 ≡ spec = some-same bound.0 spec (slice_get (registered (known r').seen) id) bound.1 found.2 in
       let held = bound.2 in
       subst (λ (x : State). Holds (looks x.workers x.walk n label text len) x s' answers answers') view
       (record {
-        locks = record { registry = held.locks.registry ∙ found.1.lock; board = held.locks.board; workers = held.locks.workers };
+        locks = record { registry = held.locks.registry ∙ found.1.lock; board = held.locks.board; workers = held.locks.workers; shared = held.locks.shared };
         wide = held.wide;
         done = asks-done (known r) (known r') (known s'.registry) (known b) (known s'.board) (Look text) (Entry id spec) (λ f. binds ws from.walk n label len f) s'.walk answers answers' found.1.asked
             (subst (λ sp. Done (binds ws from.walk n label len (Entry id sp)) (known r') (known b) (known s'.registry) (known s'.board) s'.walk answers answers') same held.done);
       })
 
   pub found-arm : {S A : Type 0} {r' : Option RegPass} (s' : State) (n : ℕ) (label text : List ℕ) (len : Option ℕ) (id : ℕ) (answers answers' : List Answer) (result : Result A S) → Finds r r' text (Ok id)
-      → MatchResult result (λ _. Bound (viewed ws c lives q v r' b) s' n label len id answers answers') (λ _. Stops (viewed ws c lives q v r' b) s')
+      → MatchResult result (λ _. Bound (viewed ws c sh lives q v r' b) s' n label len id answers answers') (λ _. Stops (viewed ws c sh lives q v r' b) s')
       → MatchResult result (λ _. Holds (looks s.workers s.walk n label text len) s s' answers answers') (λ _. Stops s s')
   found-arm s' n label text len id answers answers' (Ok a) found bound = found-holds s' n label text len id answers answers' found bound
   found-arm s' n label text len id answers answers' (Err e) found stops = further-still s' (sees-asked (Looks text (Some (Entry id found.0)) ∷ []) found.1) stops
 
   -- the look came to an error number
   pub fault-holds : {r' : Option RegPass} (n : ℕ) (label text : List ℕ) (len : Option ℕ) (errno : Errno) (answers answers' : List Answer) → Finds r r' text (Err errno)
-      → Stands s.walk.lives (known s.registry) → Posted s.walk (known s.board) → answers' ≡ answers ++ said.Refused n errno ∷ [] → Holds (looks s.workers s.walk n label text len) s (viewed ws c lives q v r' b) answers answers'
+      → Stands s.walk.lives (known s.registry) → Posted s.walk (known s.board) → answers' ≡ answers ++ said.Refused n errno ∷ [] → Holds (looks s.workers s.walk n label text len) s (viewed ws c sh lives q v r' b) answers answers'
   fault-holds {r'} n label text len errno answers answers' found stands posted e =
-      let from : State = viewed ws c lives q v r b in
-      let to : State = viewed ws c lives q v r' b in
+      let from : State = viewed ws c sh lives q v r b in
+      let to : State = viewed ws c sh lives q v r' b in
       subst (λ (x : State). Stands x.walk.lives (known x.registry) → Posted x.walk (known x.board) → Holds (looks x.workers x.walk n label text len) x to answers answers') view
       (λ stands0 posted0. record {
-        locks = record { registry = found.lock; board = refl; workers = refl };
+        locks = record { registry = found.lock; board = refl; workers = refl; shared = refl };
         wide = λ wide. wide;
         done = asks-done (known r) (known r') (known r') (known b) (known b) (Look text) (Fault errno) (λ f. binds ws from.walk n label len f) from.walk answers answers' found.asked
             (says-done (known r') (known b) from.walk (said.Refused n errno ∷ []) answers answers' (stands-more lives lives (known r) (known r') (Looks text (Some (Fault errno)) ∷ []) stands0 found.asked (λ other. refl)) posted0 e);

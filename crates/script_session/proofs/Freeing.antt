@@ -1,6 +1,7 @@
 -- `free`: a close and a reference given back are its dialogue.
 use Rattle.std.proofs.Common.{◌≡◌, ℕ, true, false, List, [], ◌∷◌, ◌++◌, length, Option, Some, None, sym, ap, subst, ◌∙◌}
 use Rattle.std.specs.Prelude.{nat_lt}
+use Rattle.kc_base.specs.declared.error_numbers.Errno.{Errno}
 use Rattle.kc_base.specs.declared.error_numbers.Errno.TheVariants.{EBUSY, ENOENT}
 use Rattle.alg_registry.specs.declared.entry.RegEntry.{RegEntry}
 use Rattle.board.specs.declared.entry.BoardEntry.{BoardEntry}
@@ -65,9 +66,9 @@ free-done walk n label live k k' b b' answers answers' found same paid legal rel
         (posts-done k k' b b' b' (Close pipe.number) tt (λ done. releases walk n live) (without walk live.label) answers answers' called rest)
 
 -- the refusals of a label without a transform, and of one that owes
-pub free-nobody : (walk : Walk) (n : ℕ) (label : List ℕ) → live_of walk label ≡ None → shared_of walk label ≡ None → free walk n label ≡ refuses walk n ENOENT
-free-nobody walk n label none unshared =
-    ap (λ o. for_live walk n o (missing (shared_of walk label)) (λ l. closes walk n l l.pipe)) none ∙ ap (λ o. refuses walk n (missing o)) unshared
+pub free-nobody : (walk : Walk) (n : ℕ) (label : List ℕ) (errno : Errno) → live_of walk label ≡ None → errno ≡ missing (shared_of walk label) → free walk n label ≡ refuses walk n errno
+free-nobody walk n label errno none why =
+    ap (λ o. for_live walk n o (missing (shared_of walk label)) (λ l. closes walk n l l.pipe)) none ∙ ap (λ e. refuses walk n e) (sym why)
 
 pub free-owing : (walk : Walk) (n : ℕ) (label : List ℕ) (live : Live) → live_of walk label ≡ Some live → owes live.pipe ≡ true → free walk n label ≡ refuses walk n EBUSY
 free-owing walk n label live found owed = ap (λ o. for_live walk n o (missing (shared_of walk label)) (λ l. closes walk n l l.pipe)) found ∙ by_pipe live.pipe owed

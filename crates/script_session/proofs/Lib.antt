@@ -22,3 +22,5 @@ pub mod Moving
 pub mod Ended
 pub mod Rooms
 pub mod Said
+pub mod Gives
+pub mod Lends

@@ -38,7 +38,7 @@ use Rattle.session_calls.proofs.Boarding.{starts-same}
 pub rests-at : (walk : Walk) (label : List ℕ) (place : ℕ) (k : Known (BoardEntry Ask)) (s : Split label walk.lives 0 place) → Posted walk k → HasPipe k s.live.pipe
 rests-at walk label place k s posted = All-head (IsOn k) s.live s.later (All-right (IsOn k) s.before (s.live ∷ s.later) (subst (All (IsOn k)) s.lives_is posted.pipes))
 
-module _ {ws c q v : ℕ} {r : Option RegPass} {b : Option BoardPass} (s : State) (lives : Lives) (filed : AreFiled lives) (view : viewed ws c (lives_of lives) q v r b ≡ s) (label name : List ℕ) (same : name ≡ label) where
+module _ {ws c q v : ℕ} {sh : List Live} {r : Option RegPass} {b : Option BoardPass} (s : State) (lives : Lives) (filed : AreFiled lives) (view : viewed ws c sh (lives_of lives) q v r b ≡ s) (label name : List ℕ) (same : name ≡ label) where
   abbrev entries : List (ℕ × Live)
   entries = lives.transforms.entries
 
@@ -59,12 +59,8 @@ module _ {ws c q v : ℕ} {r : Option RegPass} {b : Option BoardPass} (s : State
   no-live at =
       sym (ap (λ (x : State). live_of x.walk label) view) ∙ nobody-at label entries (ap (λ l. number_of l entries) (sym same) ∙ sym at)
 
-  -- no transform is shared
-  pub none-shared : shared_of s.walk label ≡ None
-  none-shared = sym (ap (λ (x : State). shared_of x.walk label) view)
-
-  pub no-either : None ≡ number_of name entries → either_of s.walk label ≡ None
-  no-either at = ap (λ o. either o (shared_of s.walk label)) (no-live at) ∙ none-shared
+  pub no-either : None ≡ number_of name entries → either_of s.walk label ≡ shared_of s.walk label
+  no-either at = ap (λ o. either o (shared_of s.walk label)) (no-live at)
 
   pub either-at : (number : ℕ) (at : Some number ≡ number_of name entries) → either_of s.walk label ≡ Some (live-at number at).live
   either-at number at = ap (λ o. either o (shared_of s.walk label)) (live-at number at).found
@@ -111,20 +107,20 @@ module _ {ws c q v : ℕ} {r : Option RegPass} {b : Option BoardPass} (s : State
   -- the dialogue that is held with the transform is the session's
   pub live-holds : (number : ℕ) (at : Some number ≡ number_of name entries) (old new : Live) (items' : List Live) (whole : Dialogue) (d : Walk → Dialogue) (q' v' : ℕ) (b' : Option BoardPass) (asks : List Ask) (answers answers' : List Answer)
       → whole ≡ d s.walk → get nat_cmp lives.transforms number ≡ Some old → items' ≡ replaced new s.walk.lives → lock_of b' ≡ lock_of b → q' ≡ q + length asks → v' ≡ v + sum_by ask_size asks → Stands s.walk.lives (known s.registry) → Posted s.walk (known s.board)
-      → HoldsFor d old new (known b) (known b') asks answers answers' → Holds whole s (viewed ws c items' q' v' r b') answers answers'
+      → HoldsFor d old new (known b) (known b') asks answers answers' → Holds whole s (viewed ws c sh items' q' v' r b') answers answers'
   live-holds number at old new items' whole d q' v' b' asks answers answers' same_d is set_is lock more_q more_v stands posted holds =
       let split = live-at number at in
       let was = is-live number at old is in
       let here : HoldsFor d split.live new (known b) (known b') asks answers answers' = subst (λ l. HoldsFor d l new (known b) (known b') asks answers answers') was holds in
       let there : HoldsFor d split.live new (known s.board) (known b') asks answers answers' = subst (λ (x : State). HoldsFor d split.live new (known x.board) (known b') asks answers answers') view here in
       let done = live-done s.walk label (place number at) split new (known s.registry) (known s.board) (known b') asks answers answers' whole d same_d stands posted there in
-      let walk_is : record { client = c; shared = []; lives = items'; requests = q'; bytes = v' } ≡ counting (with_live s.walk new) asks =
-      ap (λ ls. let x : Walk = record { client = c; shared = []; lives = ls; requests = q'; bytes = v' } in x) set_is
-      ∙ (ap (λ m. let x : Walk = record { client = c; shared = []; lives = replaced new s.walk.lives; requests = m; bytes = v' } in x) more_q
-      ∙ (ap (λ m. let x : Walk = record { client = c; shared = []; lives = replaced new s.walk.lives; requests = q + length asks; bytes = m } in x) more_v
+      let walk_is : record { client = c; shared = sh; lives = items'; requests = q'; bytes = v' } ≡ counting (with_live s.walk new) asks =
+      ap (λ ls. let x : Walk = record { client = c; shared = sh; lives = ls; requests = q'; bytes = v' } in x) set_is
+      ∙ (ap (λ m. let x : Walk = record { client = c; shared = sh; lives = replaced new s.walk.lives; requests = m; bytes = v' } in x) more_q
+      ∙ (ap (λ m. let x : Walk = record { client = c; shared = sh; lives = replaced new s.walk.lives; requests = q + length asks; bytes = m } in x) more_v
       ∙ ap (λ (x : State). let y : Walk = record { client = x.walk.client; shared = x.walk.shared; lives = replaced new s.walk.lives; requests = x.walk.requests + length asks; bytes = x.walk.bytes + sum_by ask_size asks } in y) view)) in
       record {
-        locks = record { registry = ap (λ (x : State). lock_of x.registry) view; board = lock ∙ ap (λ (x : State). lock_of x.board) view; workers = ap (λ (x : State). x.workers) view };
+        locks = record { registry = ap (λ (x : State). lock_of x.registry) view; board = lock ∙ ap (λ (x : State). lock_of x.board) view; workers = ap (λ (x : State). x.workers) view; shared = ap (λ (x : State). x.walk.shared) view };
         wide = λ wide.
             subst (λ n. MadeWide (lists_beside n) (known b')) (sym (ap (λ (x : State). x.workers) view))
             (wide-changes (lists_beside s.workers) split.live new (known s.board) (known b') there.calls asks (rests-at s.walk label (place number at) (known s.board) split posted) there.changes wide);
@@ -134,10 +130,10 @@ module _ {ws c q v : ℕ} {r : Option RegPass} {b : Option BoardPass} (s : State
 
   -- memory was wanting
   pub live-stops : (items' : List Live) (q' v' : ℕ) (b' : Option BoardPass) → lock_of b' ≡ lock_of b → Stands s.walk.lives (known s.registry) → SeesOn (known b) (known b')
-      → Stops s (viewed ws c items' q' v' r b')
+      → Stops s (viewed ws c sh items' q' v' r b')
   live-stops items' q' v' b' lock stands more =
       record {
-        locks = record { registry = ap (λ (x : State). lock_of x.registry) view; board = lock ∙ ap (λ (x : State). lock_of x.board) view; workers = ap (λ (x : State). x.workers) view };
+        locks = record { registry = ap (λ (x : State). lock_of x.registry) view; board = lock ∙ ap (λ (x : State). lock_of x.board) view; workers = ap (λ (x : State). x.workers) view; shared = ap (λ (x : State). x.walk.shared) view };
         registry = subst (λ (x : State). HasSeenMore (known x.registry) (known r)) view (record { number = refl; next = refl; seen = starts-same (known r).seen });
         board = subst (λ (x : State). SeesOn (known x.board) (known b')) view more;
       }
@@ -146,7 +142,7 @@ module _ {ws c q v : ℕ} {r : Option RegPass} {b : Option BoardPass} (s : State
   pub live-arm : {S A : Type 0} (number : ℕ) (at : Some number ≡ number_of name entries) (old new : Live) (items' : List Live) (d : List ℕ → Walk → Dialogue) (b' : Option BoardPass) (answers answers' : List Answer) (result : Result A S)
       → get nat_cmp lives.transforms number ≡ Some old → items' ≡ replaced new s.walk.lives → lock_of b' ≡ lock_of b → Stands s.walk.lives (known s.registry) → Posted s.walk (known s.board)
       → MatchResult result (λ _. HoldsFor (d old.label) old new (known b) (known b') [] answers answers') (λ _. SeesOn (known b) (known b'))
-      → MatchResult result (λ _. Holds (d label s.walk) s (viewed ws c items' q v r b') answers answers') (λ _. Stops s (viewed ws c items' q v r b'))
+      → MatchResult result (λ _. Holds (d label s.walk) s (viewed ws c sh items' q v r b') answers answers') (λ _. Stops s (viewed ws c sh items' q v r b'))
   live-arm number at old new items' d b' answers answers' (Ok a) is set_is lock stands posted held =
       live-holds number at old new items' (d label s.walk) (d old.label) q v b' [] answers answers' (ap (λ l. d l s.walk) (sym (label-is number at old is))) is set_is lock (omega arith) (omega arith) stands posted held
   live-arm number at old new items' d b' answers answers' (Err e) is set_is lock stands posted held = live-stops items' q v b' lock stands held
@@ -154,13 +150,13 @@ module _ {ws c q v : ℕ} {r : Option RegPass} {b : Option BoardPass} (s : State
   -- the same of an arm that hands a request in, which is counted where it was accepted
   pub request-arm : (n number : ℕ) (at : Some number ≡ number_of name entries) (old new : Live) (items' : List Live) (rest : Walk → Live → Dialogue) (d : Walk → Dialogue) (s' : State) (b' : Option BoardPass) (accepted : Bool) (size : ℕ) (ask : Ask) (answers answers' : List Answer)
       → rest s.walk old ≡ d s.walk → get nat_cmp lives.transforms number ≡ Some old → items' ≡ replaced new s.walk.lives → lock_of b' ≡ lock_of b → Stands s.walk.lives (known s.registry) → Posted s.walk (known s.board) → size ≡ ask_size ask
-      → HoldsFor d old new (known b) (known b') (asks_if accepted ask) answers answers' → s' ≡ counted (viewed ws c items' q v r b') accepted size → Holds (with_either s.walk n label (rest s.walk)) s s' answers answers'
+      → HoldsFor d old new (known b) (known b') (asks_if accepted ask) answers answers' → s' ≡ counted (viewed ws c sh items' q v r b') accepted size → Holds (with_either s.walk n label (rest s.walk)) s s' answers answers'
   request-arm n number at old new items' rest d s' b' accepted size ask answers answers' same_d is set_is lock stands posted sized held e =
       let same : with_either s.walk n label (rest s.walk) ≡ d s.walk = ap (λ o. for_live s.walk n o ENOENT (rest s.walk)) (either-at number at) ∙ (ap (rest s.walk) (sym (is-live number at old is)) ∙ same_d) in
       subst (λ x. Holds (with_either s.walk n label (rest s.walk)) s x answers answers') (sym e) (by_accepted accepted same held)
     where
       by_accepted : (accepted : Bool) → with_either s.walk n label (rest s.walk) ≡ d s.walk → HoldsFor d old new (known b) (known b') (asks_if accepted ask) answers answers'
-          → Holds (with_either s.walk n label (rest s.walk)) s (counted (viewed ws c items' q v r b') accepted size) answers answers'
+          → Holds (with_either s.walk n label (rest s.walk)) s (counted (viewed ws c sh items' q v r b') accepted size) answers answers'
       by_accepted true same held =
           live-holds number at old new items' (with_either s.walk n label (rest s.walk)) d (q + 1) (v + size) b' (ask ∷ []) answers answers' same is set_is lock refl (ap (λ m. v + m) (sized ∙ sym (zero-add (ask_size ask)))) stands posted held
       by_accepted false same held =
@@ -174,7 +170,7 @@ module _ {ws c q v : ℕ} {r : Option RegPass} {b : Option BoardPass} (s : State
   pub text-arm : {S A : Type 0} (number : ℕ) (at : Some number ≡ number_of name entries) (old new : Live) (items' : List Live) (d : List ℕ → Walk → Dialogue) (b' : Option BoardPass) (text text' : List ℕ) (result : Result A S)
       → get nat_cmp lives.transforms number ≡ Some old → items' ≡ replaced new s.walk.lives → lock_of b' ≡ lock_of b → Stands s.walk.lives (known s.registry) → Posted s.walk (known s.board)
       → MatchResult result (λ _. SaysFor (d old.label) old new (known b) (known b') text text') (λ _. BreaksFor (known b) (known b') text text')
-      → MatchResult result (λ _. SaysBy 1 (d label s.walk) s (viewed ws c items' q v r b') text text') (λ _. BreaksOff s (viewed ws c items' q v r b') text text')
+      → MatchResult result (λ _. SaysBy 1 (d label s.walk) s (viewed ws c sh items' q v r b') text text') (λ _. BreaksOff s (viewed ws c sh items' q v r b') text text')
   text-arm number at old new items' d b' text text' (Ok a) is set_is lock stands posted says =
       record {
         said = says.said;

@@ -67,7 +67,7 @@ kept-live walk live found = counting-none (with_live walk live) ∙ ap (λ ls. r
 
 -- ---- nothing is asked
 
-abbrev answered : Walk → Answer → Turn
+abbrev pub answered : Walk → Answer → Turn
 answered walk answer = record { registry = []; board = []; answers = answer ∷ []; after = Some walk }
 
 pub says-for : (d : Walk → Dialogue) (live : Live) (k : Known (BoardEntry Ask)) (answer : Answer) (answers answers' : List Answer) → HasPipe k live.pipe → LegalBoard k.seen
@@ -199,17 +199,17 @@ pub request-big : (walk : Walk) (k : Known (BoardEntry Ask)) (n : ℕ) (live : L
     → requests_in walk n live (asked_by ask) backlog live.pipe ≡ refuses walk n E2BIG
 request-big walk k n live pipe ask backlog has manned never posted = request-manned walk n live pipe (asked_by ask) backlog has manned ∙ ap (if_big walk n live pipe (asked_by ask) backlog) (big walk k ask posted never)
 
-request-enters : (walk : Walk) (k : Known (BoardEntry Ask)) (n : ℕ) (live : Live) (pipe : Pipe) (ask : Ask) (backlog : Bool) → live.pipe ≡ Some pipe → pipe.unmanned ≡ false → IsAllowed ask_size k.seen k.number ask → Posted walk k
+pub request-enters : (walk : Walk) (k : Known (BoardEntry Ask)) (n : ℕ) (live : Live) (pipe : Pipe) (ask : Ask) (backlog : Bool) → live.pipe ≡ Some pipe → pipe.unmanned ≡ false → IsAllowed ask_size k.seen k.number ask → Posted walk k
     → requests_in walk n live (asked_by ask) backlog live.pipe ≡ hands_in walk n live pipe (asked_by ask) backlog pipe.bound
 request-enters walk k n live pipe ask backlog has manned allowed posted = request-manned walk n live pipe (asked_by ask) backlog has manned ∙ ap (if_big walk n live pipe (asked_by ask) backlog) (not-big walk k ask posted allowed)
 
 counting-one : (walk : Walk) (ask : Ask) → record walk { requests = walk.requests + 1; bytes = walk.bytes + ask_size ask } ≡ counting walk (ask ∷ [])
 counting-one walk ask = ap (λ n. record walk { requests = walk.requests + 1; bytes = walk.bytes + n }) (sym (zero-add (ask_size ask)))
 
-abbrev turn_with : BoardCall → Answer → Walk → Turn
+abbrev pub turn_with : BoardCall → Answer → Walk → Turn
 turn_with call answer after = record { registry = []; board = call ∷ []; answers = answer ∷ []; after = Some after }
 
-accepted-is : (walk : Walk) (n : ℕ) (live : Live) (pipe : Pipe) (ask : Ask) (call : BoardCall) (errno : Errno)
+pub accepted-is : (walk : Walk) (n : ℕ) (live : Live) (pipe : Pipe) (ask : Ask) (call : BoardCall) (errno : Errno)
     → turn_with call (said.Refused n errno) (accepting walk live pipe (asked_by ask)) ≡ turn_with call (said.Refused n errno) (counting (with_live walk (record live { pipe = Some (with_ask pipe ask) })) (ask ∷ []))
 accepted-is walk n live pipe ask call errno =
     ap (turn_with call (said.Refused n errno)) (counting-one (with_live walk (record live { pipe = Some (with_ask pipe ask) })) ask)
@@ -471,19 +471,19 @@ from-empty into more xs new e = e ∙ ap (λ (handed : Handed Finished). handed.
 -- ---- whatever a line sets
 
 -- a label that no transform has
-label-free : (walk : Walk) (n : ℕ) (label : List ℕ) (rest : Live → Dialogue) → live_of walk label ≡ None → shared_of walk label ≡ None → with_label walk n label rest ≡ refuses walk n ENOENT
-label-free walk n label rest none unshared = ap (λ o. for_live walk n o (missing (shared_of walk label)) rest) none ∙ ap (λ o. refuses walk n (missing o)) unshared
+label-free : (walk : Walk) (n : ℕ) (label : List ℕ) (rest : Live → Dialogue) (errno : Errno) → live_of walk label ≡ None → errno ≡ missing (shared_of walk label) → with_label walk n label rest ≡ refuses walk n errno
+label-free walk n label rest errno none why = ap (λ o. for_live walk n o (missing (shared_of walk label)) rest) none ∙ ap (λ e. refuses walk n e) (sym why)
 
-pub set-free : (workers : ℕ) (walk : Walk) (n : ℕ) (label : List ℕ) (setting : Setting) → live_of walk label ≡ None → shared_of walk label ≡ None → sets workers walk n label setting ≡ refuses walk n ENOENT
-set-free workers walk n label (set.Key key) none unshared = label-free walk n label (λ live. if_taken walk n live key (takes_key live.plan key)) none unshared
-set-free workers walk n label (set.TagSize size) none unshared = label-free walk n label (λ live. if_sized walk n live size (takes_tag live.plan size)) none unshared
-set-free workers walk n label (set.Mask bits) none unshared = label-free walk n label (λ live. with_pad walk n live.pipe (masks workers walk n bits live)) none unshared
-set-free workers walk n label (set.Held true) none unshared = label-free walk n label (λ live. with_queue walk n live.pipe (switches walk n live true)) none unshared
-set-free workers walk n label (set.Held false) none unshared = label-free walk n label (λ live. with_queue walk n live.pipe (switches walk n live false)) none unshared
+pub set-free : (workers : ℕ) (walk : Walk) (n : ℕ) (label : List ℕ) (setting : Setting) (errno : Errno) → live_of walk label ≡ None → errno ≡ missing (shared_of walk label) → sets workers walk n label setting ≡ refuses walk n errno
+set-free workers walk n label (set.Key key) errno none why = label-free walk n label (λ live. if_taken walk n live key (takes_key live.plan key)) errno none why
+set-free workers walk n label (set.TagSize size) errno none why = label-free walk n label (λ live. if_sized walk n live size (takes_tag live.plan size)) errno none why
+set-free workers walk n label (set.Mask bits) errno none why = label-free walk n label (λ live. with_pad walk n live.pipe (masks workers walk n bits live)) errno none why
+set-free workers walk n label (set.Held true) errno none why = label-free walk n label (λ live. with_queue walk n live.pipe (switches walk n live true)) errno none why
+set-free workers walk n label (set.Held false) errno none why = label-free walk n label (λ live. with_queue walk n live.pipe (switches walk n live false)) errno none why
 
-pub collect-free : (waits : Bool) (walk : Walk) (n : ℕ) (label : List ℕ) → live_of walk label ≡ None → shared_of walk label ≡ None → collects waits walk n label ≡ refuses walk n ENOENT
-collect-free true walk n label none unshared = label-free walk n label (λ live. drains_in walk n live live.pipe) none unshared
-collect-free false walk n label none unshared = label-free walk n label (λ live. polls_in walk n live live.pipe) none unshared
+pub collect-free : (waits : Bool) (walk : Walk) (n : ℕ) (label : List ℕ) (errno : Errno) → live_of walk label ≡ None → errno ≡ missing (shared_of walk label) → collects waits walk n label ≡ refuses walk n errno
+collect-free true walk n label errno none why = label-free walk n label (λ live. drains_in walk n live live.pipe) errno none why
+collect-free false walk n label errno none why = label-free walk n label (λ live. polls_in walk n live live.pipe) errno none why
 
 pub setting-arm : {S A : Type 0} (result : Result A S) (workers n : ℕ) (live live' : Live) (k l : Known (BoardEntry Ask)) (setting given : Setting) (answers answers' : List Answer) → setting ≡ given
     → MatchResult result (λ _. HoldsFor (λ walk. sets workers walk n live.label given) live live' k l [] answers answers') (λ _. SeesOn k l)

@@ -312,18 +312,18 @@ module _ (looks_law : LooksAtOnce) (are_law : CallsByAre) where
       → MatchResult result (λ _. HoldsBy (length texts) (probe walk n texts) (record { workers = ws; walk = walk; registry = r; board = b }) (record { workers = ws; walk = walk; registry = r2; board = b }) answers answers')
       (λ _. Stops (record { workers = ws; walk = walk; registry = r; board = b }) (record { workers = ws; walk = walk; registry = r2; board = b }))
   probe-at r r1 r2 ws walk b (Ok done) n texts searches answers answers' stands posted first then = record {
-    locks = record { registry = then.2.goes.lock ∙ first.goes.lock; board = refl; workers = refl };
+    locks = record { registry = then.2.goes.lock ∙ first.goes.lock; board = refl; workers = refl; shared = refl };
     wide = λ wide. wide;
     done = probe-done walk (known b) n texts searches then.0 answers answers' stands posted first then.2 then.1;
   }
   probe-at r r1 r2 ws walk b (Err stop) n texts searches answers answers' stands posted first more =
       let all = seen-then (looks-seen texts searches first) more in
-      record { locks = record { registry = all.lock; board = refl; workers = refl }; registry = has-seen-more all; board = sees-same (known b) }
+      record { locks = record { registry = all.lock; board = refl; workers = refl; shared = refl }; registry = has-seen-more all; board = sees-same (known b) }
 
-  pub probe-arm : {S : Type 0} {ws c : ℕ} {lives : List Live} {q v : ℕ} {r : Option RegPass} {b : Option BoardPass} → (s : State) (view : viewed ws c lives q v r b ≡ s) (r1 r2 : Option RegPass) (result : Result (Unit {0}) S) (n : ℕ) (texts : List (List ℕ)) (searches : List Searched) (answers answers' : List Answer)
+  pub probe-arm : {S : Type 0} {ws c : ℕ} {sh lives : List Live} {q v : ℕ} {r : Option RegPass} {b : Option BoardPass} → (s : State) (view : viewed ws c sh lives q v r b ≡ s) (r1 r2 : Option RegPass) (result : Result (Unit {0}) S) (n : ℕ) (texts : List (List ℕ)) (searches : List Searched) (answers answers' : List Answer)
       → Stands s.walk.lives (known s.registry) → Posted s.walk (known s.board) → LooksFirst r r1 texts searches → MatchResult result (λ _. (said : List Answer) × (answers' ≡ answers ++ said) × SettlesThen r1 r2 n searches said) (λ _. SeesMore r1 r2)
-      → MatchResult result (λ _. HoldsBy (length texts) (probe s.walk n texts) s (viewed ws c lives q v r2 b) answers answers') (λ _. Stops s (viewed ws c lives q v r2 b))
-  probe-arm {S} {ws} {c} {lives} {q} {v} {r} {b} s view r1 r2 result n texts searches answers answers' stands posted first then =
+      → MatchResult result (λ _. HoldsBy (length texts) (probe s.walk n texts) s (viewed ws c sh lives q v r2 b) answers answers') (λ _. Stops s (viewed ws c sh lives q v r2 b))
+  probe-arm {S} {ws} {c} {sh} {lives} {q} {v} {r} {b} s view r1 r2 result n texts searches answers answers' stands posted first then =
       subst (λ (x : State). Stands x.walk.lives (known x.registry) → Posted x.walk (known x.board)
-      → MatchResult result (λ _. HoldsBy (length texts) (probe x.walk n texts) x (viewed ws c lives q v r2 b) answers answers') (λ _. Stops x (viewed ws c lives q v r2 b))) view
-      (λ st po. probe-at r r1 r2 ws (record { client = c; shared = []; lives = lives; requests = q; bytes = v }) b result n texts searches answers answers' st po first then) stands posted
+      → MatchResult result (λ _. HoldsBy (length texts) (probe x.walk n texts) x (viewed ws c sh lives q v r2 b) answers answers') (λ _. Stops x (viewed ws c sh lives q v r2 b))) view
+      (λ st po. probe-at r r1 r2 ws (record { client = c; shared = sh; lives = lives; requests = q; bytes = v }) b result n texts searches answers answers' st po first then) stands posted

@@ -21,6 +21,7 @@ use Rattle.dialogues.specs.Piping.{kept_bits}
 use Rattle.dialogues.specs.Walk.{Live, Pipe}
 use Rattle.session_calls.specs.Passes.{known}
 use Rattle.session_calls.specs.Pipelines.{IsPad, KnowsPipe, Opened, Owns}
+use Rattle.session_calls.specs.Sharing.{Gave}
 use Rattle.session_calls.proofs.BoardCalls.{open-pad}
 use Rattle.script_session.specs.Changing.{Changes, Released}
 use Rattle.script_session.specs.Creating.{Created}
@@ -61,6 +62,9 @@ wide-changes lists live live' k l calls asks on changes wide p owns pad = wide-a
 
 pub wide-released : (lists : ℕ) (live : Live) (k l : Known (BoardEntry Ask)) → Released live k l → MadeWide lists k → MadeWide lists l
 wide-released lists live k l released wide p owns pad = wide-at lists k l p released.called.seen (released.owned p owns).0 wide pad
+
+pub wide-gave : (lists : ℕ) (k l : Known (BoardEntry Ask)) (calls : List BoardCall) (asks : List Ask) → Gave k l calls asks → MadeWide lists k → MadeWide lists l
+wide-gave lists k l calls asks gave wide p owns pad = wide-at lists k l p gave.called.seen (gave.owned p owns) wide pad
 
 wide-opened : (lists : ℕ) (k l : Known (BoardEntry Ask)) (number : ℕ) (shape : Shape) → (is_pad shape ≡ true → lists_of shape ≡ lists) → Opened k l number shape → MadeWide lists k → MadeWide lists l
 wide-opened lists k l number shape fits opened wide p owns pad = by_number (p == number) refl

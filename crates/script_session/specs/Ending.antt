@@ -4,20 +4,22 @@ use Rattle.std.specs.Option.{option_map}
 use Rattle.board.specs.declared.entry.BoardEntry.{BoardEntry}
 use Rattle.board.specs.declared.entry.BoardEntry.TheVariants.{Shut}
 use Rattle.board.specs.Allowance.{accepted_by}
-use Rattle.board.specs.Entries.{entries_of, submissions, front, is_closed}
-use Rattle.board.specs.Legal.{MayManage}
+use Rattle.board.specs.Entries.{entries_of, submissions, front, is_closed, is_shared, caller_of}
+use Rattle.board.specs.Legal.{MayManage, LegalBoard}
+use Rattle.board.specs.Staying.{IsDrained}
 use Rattle.transforms.specs.declared.ask.Ask.{Ask}
 use Rattle.reply_text.specs.declared.answers.Answer.{Answer}
+use Rattle.turn_lock.specs.Meeting.{IsOwn}
 use Rattle.turn_lock.specs.Turns.{Known}
 use Rattle.dialogues.specs.BoardCalls.{BoardCall}
 use Rattle.dialogues.specs.Dialogues.{Dialogue}
 use Rattle.dialogues.specs.RegistryCalls.{RegCall}
-use Rattle.dialogues.specs.Piping.{end}
+use Rattle.dialogues.specs.Piping.{end, end_beside}
 use Rattle.dialogues.specs.Turns.{Turn, IsTurn, joined, turn_of, text_in}
 use Rattle.dialogues.specs.Walk.{Walk, Live, Pipe}
 use Rattle.session_calls.specs.Asking.{Asked}
 use Rattle.session_calls.specs.Passes.{known}
-use Rattle.session_calls.specs.Pipelines.{Called}
+use Rattle.session_calls.specs.Pipelines.{Called, Owns}
 use Rattle.script_session.specs.Changing.{Changes}
 use Rattle.script_session.specs.States.{State, SameLocks, Posted}
 
@@ -101,3 +103,22 @@ pub record EndsShut (k : Known (BoardEntry Ask)) : Type 0 where
   pub before : List (BoardEntry Ask)
   pub shut : k.seen ≡ before ++ Shut k.number ∷ []
   pub finished : (p : ℕ) → MayManage (entries_of p before) k.number → is_closed (entries_of p before) ≡ false → front (entries_of p before) ≡ length (submissions (entries_of p before))
+
+-- ---- the end of a client beside others
+
+-- A turn of its end was done, and the text of its answers was added.
+pub record AnswersEndBeside (s s' : State) (text text' : List ℕ) : Type 0 where
+  pub locks : SameLocks s s'
+  pub turn : Turn
+  pub is : IsTurn (end_beside s.walk) turn
+  pub asked : Asked (known s.registry) (known s'.registry) turn.registry
+  pub called : Called (known s.board) (known s'.board) turn.board
+  pub ends : turn.after ≡ Some s.walk
+  pub says : text' ≡ text ++ text_in turn
+
+-- The caller has seen each entry that it made. Each pipeline that it made and hasn't closed is drained, and shared with nobody.
+pub record EndsPaid (k : Known (BoardEntry Ask)) : Type 0 where
+  pub legal : LegalBoard k.seen
+  pub own : IsOwn caller_of k
+  pub unshared : (p : ℕ) → Owns k p → is_shared (entries_of p k.seen) ≡ false
+  pub drained : (p : ℕ) → Owns k p → IsDrained (entries_of p k.seen)

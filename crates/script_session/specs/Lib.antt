@@ -12,3 +12,5 @@ pub mod Running
 pub mod Settings
 pub mod Ending
 pub mod Saying
+pub mod Sharing
+pub mod Lending

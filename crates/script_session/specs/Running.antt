@@ -9,10 +9,10 @@ use Rattle.dialogues.specs.Turns.{Turn, IsTurn, text_in}
 use Rattle.session_calls.specs.Asking.{AskedBy}
 use Rattle.session_calls.specs.Passes.{known, CallsRegistry, CallsBoard}
 use Rattle.session_calls.specs.Pipelines.{Called}
-use Rattle.script_session.specs.States.{State, SameLocks, Stands, Posted, IsWide}
+use Rattle.script_session.specs.States.{State, SameLocks, Stands, Posted, IsWide, AreShared}
 
--- The session's passes are those of the two locks, what it knows of them is its walk's, and at most 16 workers stand beside it,
--- for each of which its pads have a list.
+-- The session's passes are those of the two locks, what it knows of them is its walk's, at most 16 workers stand beside it, for each of
+-- which its pads have a list, and what it shares is shared.
 pub record IsReady {W : Type 0} (registry : SharedRegistry) (board : SharedBoard W Ask Finished) (s : State) : Type 0 where
   pub calls_registry : CallsRegistry registry s.registry
   pub calls_board : CallsBoard board s.board
@@ -20,6 +20,7 @@ pub record IsReady {W : Type 0} (registry : SharedRegistry) (board : SharedBoard
   pub posted : Posted s.walk (known s.board)
   pub few : s.workers ≤ 16
   pub wide : IsWide s
+  pub shared : AreShared s.walk.shared (known s.board)
 
 -- A turn of the dialogue was done, with at most so many looks at once, and its text was added.
 pub record Replies (width : ℕ) (dialogue : Dialogue) (s s' : State) (text text' : List ℕ) : Type 0 where

@@ -16,6 +16,7 @@ use Rattle.dialogues.specs.Walk.{Walk, Live, Pipe}
 use Rattle.session_calls.specs.Asking.{IsCaller}
 use Rattle.session_calls.specs.Passes.{RegPass, BoardPass, known, lock_of}
 use Rattle.session_calls.specs.Pipelines.{KnowsPipe, Owns}
+use Rattle.session_calls.specs.Sharing.{KnowsShared}
 
 -- how many live transforms stand on the entry
 abbrev pub uses : ℕ → List Live → ℕ
@@ -31,6 +32,14 @@ pub record Stands (lives : List Live) (k : Known RegEntry) : Type 0 where
 abbrev pub HasPipe : Known (BoardEntry Ask) → Option Pipe → Type 0
 HasPipe k None = ⊤
 HasPipe k (Some pipe) = KnowsPipe k pipe
+
+-- a transform that is shared: its pipeline is, if it has one
+abbrev pub HasShared : Known (BoardEntry Ask) → Option Pipe → Type 0
+HasShared k None = ⊤
+HasShared k (Some pipe) = KnowsShared k pipe
+
+abbrev pub AreShared : List Live → Known (BoardEntry Ask) → Type 0
+AreShared lives k = All (λ (live : Live). HasShared k live.pipe) lives
 
 abbrev pub is_at : ℕ → Option Pipe → Bool
 is_at number None = false
@@ -68,11 +77,12 @@ pub record State : Type 0 where
 abbrev pub IsWide : State → Type 0
 IsWide s = MadeWide (lists_beside s.workers) (known s.board)
 
--- both passes are still of their locks, and as many workers stand beside the script
+-- both passes are still of their locks, as many workers stand beside the script, and it shares the same
 pub record SameLocks (s s' : State) : Type 0 where
   pub registry : lock_of s'.registry ≡ lock_of s.registry
   pub board : lock_of s'.board ≡ lock_of s.board
   pub workers : s'.workers ≡ s.workers
+  pub shared : s'.walk.shared ≡ s.walk.shared
 
 -- with one more request of so many bytes, where it was accepted
 abbrev pub counted : State → Bool → ℕ → State

@@ -254,7 +254,7 @@ impl Session {
             (λ _. Holds (alloc self.old.workers self.old.walk number wanted.now.label.now name.now wanted.now.length) self.old self.new answers.old.items answers.new.items)
             (λ _. Stops self.old self.new) }
     {
-        if self.lives.place_of(wanted.label.as_slice()).is_some() {
+        if self.has_label(wanted.label.as_slice()) {
             return refuse(answers, number, Errno::EEXIST);
         }
         if self.lives.len() >= MOST_LIVE {
@@ -290,7 +290,8 @@ impl Session {
             (λ _. Stops self.old self.new) }
     {
         let Some(place) = self.lives.place_of(label.as_slice()) else {
-            return refuse(answers, number, Errno::ENOENT);
+            let errno = self.missing(label.as_slice());
+            return refuse(answers, number, errno);
         };
         if is_owing(self.lives.get(place)) {
             return refuse(answers, number, Errno::EBUSY);

@@ -18,7 +18,7 @@ use board::only_collects_hand_out;
 use crew::Gate;
 use reply_text::Answer;
 use script_text::Line;
-use session_calls::Stop;
+use session_calls::{Stop, shared_is_known};
 use shared_board::SharedBoard;
 use shared_registry::SharedRegistry;
 use std::sync::Wait;
@@ -46,6 +46,7 @@ impl Session {
         // It is ready for the next line.
         ensures ready { OnOk result (IsReady registry.now board.now self.new) }
     {
+        shared_is_known();
         match line {
             Line::Nothing => Ok(()),
             Line::Malformed => say(answers, Answer::Malformed { line: number }),

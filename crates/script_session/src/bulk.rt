@@ -127,11 +127,10 @@ impl Session {
             (λ _. Holds (bulk self.old.walk number label.now size seed) self.old self.new answers.old.items answers.new.items)
             (λ _. Stops self.old self.new) }
     {
-        let Some(place) = self.lives.place_of(label.as_slice()) else {
+        let threads = self.workers.max(1);
+        let Some(live) = self.either_of(label.as_slice()) else {
             return refuse(answers, number, Errno::ENOENT);
         };
-        let threads = self.workers.max(1);
-        let live = self.lives.get(place);
         let answer = bulk_answer(rt, self.alloc, threads, number, live, size, seed)?;
         say(answers, answer)
     }

@@ -134,7 +134,7 @@ impl Session {
             (λ _. BreaksOff self.old self.new reply.old.text reply.new.text) }
     {
         let Some(place) = self.lives.place_of(label.as_slice()) else {
-            let errno = Errno::ENOENT;
+            let errno = self.missing(label.as_slice());
             return put_one(
                 reply,
                 Answer::Refused {

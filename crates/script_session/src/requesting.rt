@@ -4,7 +4,7 @@ ghost use Rattle.std.specs.Prelude.{◌≡◌, ◌+◌, ◌<◌, ◌≤◌, ◌^
 ghost use Rattle.std_defs.specs.Aes.{IsKeyLength, seal};
 ghost use Rattle.dialogues.specs.Requesting.{aes_said, request_of, aes, request};
 ghost use Rattle.session_calls.specs.Passes.{known, CallsBoard};
-ghost use Rattle.script_session.specs.States.{Stands, Posted, counted};
+ghost use Rattle.script_session.specs.States.{Stands, Posted, AreShared, counted};
 ghost use Rattle.script_session.specs.Holding.{Holds, Stops};
 
 use crate::answers::{refuse, say};
@@ -80,7 +80,7 @@ impl Session {
     }
 
     // Counts a request of so many bytes, where a pipeline accepted it.
-    fn count(&mut self, accepted: bool, size: u64)
+    pub(crate) fn count(&mut self, accepted: bool, size: u64)
         requires { IsTrue accepted → (self.old.walk.requests < 2 ^ 20) × (self.old.walk.bytes + size ≤ 2 ^ 26) }
         ensures { self.new ≡ counted self.old accepted size }
     {
@@ -104,6 +104,7 @@ impl Session {
         requires at { CallsBoard board.now self.old.board }
         requires stands { Stands self.old.walk.lives (known self.old.registry) }
         requires posted { Posted self.old.walk (known self.old.board) }
+        requires shared { AreShared self.old.walk.shared (known self.old.board) }
         requires aad { length asked.aad < 2 ^ 32 }
         requires text { length asked.text.text < 2 ^ 32 }
         ensures { MatchResult result
@@ -111,7 +112,7 @@ impl Session {
             (λ _. Stops self.old self.new) }
     {
         let Some(place) = self.lives.place_of(label.as_slice()) else {
-            return refuse(answers, number, Errno::ENOENT);
+            return self.request_shared(rt, board, number, label, asked, backlog, answers);
         };
         let job = match self
             .lives

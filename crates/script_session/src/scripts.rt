@@ -8,7 +8,7 @@ ghost use Rattle.dialogues.specs.Lines.{command_dialogue, line_dialogue};
 ghost use Rattle.dialogues.specs.Widths.{command_width, width_of};
 ghost use Rattle.script_session.specs.Running.{IsReady, Replies};
 ghost use Rattle.session_calls.specs.Passes.{CallsRegistry, known, CallsBoard};
-ghost use Rattle.script_session.specs.States.{Stands, Posted, IsWide};
+ghost use Rattle.script_session.specs.States.{Stands, Posted, IsWide, AreShared};
 ghost use Rattle.script_session.specs.Holding.{HoldsBy, Stops};
 ghost use Rattle.script_session.specs.Saying.{SaysBy, hands_out};
 ghost use Rattle.session_calls.specs.Pipelines.{Called};
@@ -18,15 +18,16 @@ use crate::answers::put_all;
 use crate::lives::Lives;
 use crate::requesting::mac_request;
 use crate::settings::Setting;
+use crate::sharing::Shared;
 use crew::Gate;
 use reply_text::{Answer, Reply};
 use script_text::{Command, Line};
-use session_calls::{BoardCaller, RegistryCaller, Stop};
+use session_calls::{BoardCaller, RegistryCaller, Stop, shared_is_known};
 use shared_board::{BoardPass, SharedBoard};
 use shared_registry::{RegPass, SharedRegistry};
 use std::alloc::Global;
 use std::marker::Model;
-use std::sync::Wait;
+use std::sync::{Arc, Wait};
 use std::thread::Threads;
 use transforms::{Dir, Job, Request};
 
@@ -36,6 +37,8 @@ pub struct Session {
     pub(crate) alloc: Global,
     pub(crate) workers: u32,
     pub(crate) client: u32,
+    /// What it shares with other scripts, where there are any.
+    pub(crate) shared: Option<Arc<Shared, Global>>,
     pub(crate) lives: Lives,
     /// How many requests pipelines accepted, and of how many bytes.
     pub(crate) requests: u64,
@@ -45,15 +48,15 @@ pub struct Session {
 }
 
 impl Model for Session {
-    ghost use Rattle.std.specs.Prelude.{[]};
     ghost use Rattle.script_session.specs.Filed.{AreFiled, lives_of};
+    ghost use Rattle.script_session.specs.Sharing.{shared_in};
     ghost use Rattle.script_session.specs.States.{State};
 
     ghost Value = { State };
 
     ghost view = { λ s. record {
       workers = s.workers;
-      walk = record { client = s.client; shared = []; lives = lives_of s.lives; requests = s.requests; bytes = s.bytes };
+      walk = record { client = s.client; shared = shared_in s.shared; lives = lives_of s.lives; requests = s.requests; bytes = s.bytes };
       registry = s.registry;
       board = s.board;
     } };
@@ -76,6 +79,7 @@ impl Session {
             alloc,
             workers,
             client,
+            shared: None,
             lives: Lives::new(alloc),
             requests: 0,
             bytes: 0,
@@ -108,6 +112,7 @@ impl Session {
         requires posted { Posted self.old.walk (known self.old.board) }
         requires few { self.old.workers ≤ 16 }
         requires wide { IsWide self.old }
+        requires shared { AreShared self.old.walk.shared (known self.old.board) }
         requires short { IsShortCommand command }
         requires no_collect { hands_out (Cmd command) ≡ false }
         ensures { MatchResult result
@@ -244,6 +249,7 @@ impl Session {
         // What a pipeline hands out is in the reply, or was not handed out.
         ensures uncalled { OnErr result (hands_out line ≡ true → Called (known self.old.board) (known self.new.board) []) }
     {
+        shared_is_known();
         match line {
             Line::Cmd(Command::Poll { label }) => {
                 self.collect(rt, board, gate, number, &label, false, reply)

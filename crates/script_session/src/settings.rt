@@ -224,7 +224,8 @@ impl Session {
             (λ _. Stops self.old self.new) }
     {
         let Some(place) = self.lives.place_of(label.as_slice()) else {
-            return refuse(answers, number, Errno::ENOENT);
+            let errno = self.missing(label.as_slice());
+            return refuse(answers, number, errno);
         };
         let live = self.lives.transforms.get_mut(&place).unwrap();
         set_live(

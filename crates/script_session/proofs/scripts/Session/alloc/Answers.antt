@@ -1,19 +1,20 @@
 use Rattle.std.proofs.Common.{refl, sym, ap, ◌∙◌, arith, length}
 use Rattle.alg_names.specs.Name.{spelling}
 use Rattle.dialogues.specs.Names.{name_read}
-use Rattle.dialogues.specs.Walk.{live_of, shared_of}
+use Rattle.std.specs.Prelude.{is_some}
+use Rattle.dialogues.specs.Walk.{live_of, shared_of, either_of}
 use Rattle.script_session.specs.States.{State}
 use Rattle.script_session.proofs.Arms.{or-stops, stops-same, answer-holds}
-use Rattle.script_session.proofs.Alloc.{live-there, nobody, alloc-live, alloc-full, alloc-faulty, alloc-unfit, looks-arm}
+use Rattle.script_session.proofs.Alloc.{nobody, alloc-live, alloc-full, alloc-faulty, alloc-unfit, looks-arm}
 use Rattle.script_session.proofs.scripts.Session.alloc.Goals as goal
 
-pub returns-then-is_some : goal.returns-then-is_some
-returns-then-is_some g c =
+pub returns-then-has_label : goal.returns-then-has_label
+returns-then-has_label g c =
     let s = c.args.self.now in
     or-stops c.refuse.result c.refuse.ensures
     (answer-holds _ s s _ _ _
     (alloc-live s.workers s.walk c.args.number c.args.wanted.now.label.now c.args.name.now c.args.wanted.now.length
-    (live-there s c.self.inside.lives c.self.invariant c.self.view_is c.args.wanted.now.label.now c.as_slice.result.now c.as_slice.ensures c.place_of.result c.place_of.ensures ∙ (sym c.is_some.ensures ∙ c.if-is_some.true))) refl refl refl c.requires.stands c.requires.posted)
+    (ap (λ l. is_some (either_of s.walk l)) (sym c.as_slice.ensures) ∙ (sym c.has_label.ensures ∙ c.if-has_label.true))) refl refl refl refl c.requires.stands c.requires.posted)
     (stops-same s c.requires.stands)
 
 pub returns-then-len-ge-MOST_LIVE : goal.returns-then-len-ge-MOST_LIVE
@@ -22,8 +23,8 @@ returns-then-len-ge-MOST_LIVE g c =
     or-stops c.refuse-then-len-ge-MOST_LIVE.result c.refuse-then-len-ge-MOST_LIVE.ensures
     (answer-holds _ s s _ _ _
     (alloc-full s.workers s.walk c.args.number c.args.wanted.now.label.now c.args.name.now c.args.wanted.now.length
-    (live-there s c.self.inside.lives c.self.invariant c.self.view_is c.args.wanted.now.label.now c.as_slice.result.now c.as_slice.ensures c.place_of.result c.place_of.ensures ∙ (sym c.is_some.ensures ∙ c.if-is_some.false))
-    (let view = ap (λ (x : State). length x.walk.lives) c.self.view_is in omega (arith, view, c.if-len-ge-MOST_LIVE.true, c.len.ensures))) refl refl refl c.requires.stands c.requires.posted)
+    (ap (λ l. is_some (either_of s.walk l)) (sym c.as_slice.ensures) ∙ (sym c.has_label.ensures ∙ c.if-has_label.false))
+    (let view = ap (λ (x : State). length x.walk.lives) c.self.view_is in omega (arith, view, c.if-len-ge-MOST_LIVE.true, c.len.ensures))) refl refl refl refl c.requires.stands c.requires.posted)
     (stops-same s c.requires.stands)
 
 pub returns-in-Err-Fault : goal.returns-in-Err-Fault
@@ -33,9 +34,9 @@ returns-in-Err-Fault g c =
     or-stops c.refuse-in-Err-Fault.result (rw c.in-Err-Fault.errno-is at c.refuse-in-Err-Fault.ensures)
     (answer-holds _ s s _ _ _
     (alloc-faulty s.workers s.walk c.args.number c.args.wanted.now.label.now c.args.name.now c.args.wanted.now.length c.in-Err-Fault.errno
-    (live-there s c.self.inside.lives c.self.invariant c.self.view_is c.args.wanted.now.label.now c.as_slice.result.now c.as_slice.ensures c.place_of.result c.place_of.ensures ∙ (sym c.is_some.ensures ∙ c.if-is_some.false))
+    (ap (λ l. is_some (either_of s.walk l)) (sym c.as_slice.ensures) ∙ (sym c.has_label.ensures ∙ c.if-has_label.false))
     (let view = ap (λ (x : State). length x.walk.lives) c.self.view_is in omega (arith, view, c.if-len-ge-MOST_LIVE.false, c.len.ensures))
-    (ap name_read (sym c.as_slice-2.ensures) ∙ read.err)) refl refl refl c.requires.stands c.requires.posted)
+    (ap name_read (sym c.as_slice-2.ensures) ∙ read.err)) refl refl refl refl c.requires.stands c.requires.posted)
     (stops-same s c.requires.stands)
 
 pub returns-then-not-fits_queue : goal.returns-then-not-fits_queue
@@ -44,21 +45,21 @@ returns-then-not-fits_queue g c =
     or-stops c.refuse-then-not-fits_queue.result c.refuse-then-not-fits_queue.ensures
     (answer-holds _ s s _ _ _
     (alloc-unfit s.workers s.walk c.args.number c.args.wanted.now.label.now c.args.name.now c.args.wanted.now.length c.in-Ok.name
-    (live-there s c.self.inside.lives c.self.invariant c.self.view_is c.args.wanted.now.label.now c.as_slice.result.now c.as_slice.ensures c.place_of.result c.place_of.ensures ∙ (sym c.is_some.ensures ∙ c.if-is_some.false))
+    (ap (λ l. is_some (either_of s.walk l)) (sym c.as_slice.ensures) ∙ (sym c.has_label.ensures ∙ c.if-has_label.false))
     (let view = ap (λ (x : State). length x.walk.lives) c.self.view_is in omega (arith, view, c.if-len-ge-MOST_LIVE.false, c.len.ensures))
-    (ap name_read (sym c.as_slice-2.ensures) ∙ c.in-Ok.ensures.ok) (sym c.fits_queue.ensures ∙ c.if-not-fits_queue.true)) refl refl refl c.requires.stands c.requires.posted)
+    (ap name_read (sym c.as_slice-2.ensures) ∙ c.in-Ok.ensures.ok) (sym c.fits_queue.ensures ∙ c.if-not-fits_queue.true)) refl refl refl refl c.requires.stands c.requires.posted)
     (stops-same s c.requires.stands)
 
 pub find-requires-clause-free : goal.find-requires-clause-free
 find-requires-clause-free g c =
     let s = c.args.self.now in
     nobody (live_of s.walk c.args.wanted.now.label.now) (shared_of s.walk c.args.wanted.now.label.now)
-    (live-there s c.self.inside.lives c.self.invariant c.self.view_is c.args.wanted.now.label.now c.as_slice.result.now c.as_slice.ensures c.place_of.result c.place_of.ensures ∙ (sym c.is_some.ensures ∙ c.if-is_some.false))
+    (ap (λ l. is_some (either_of s.walk l)) (sym c.as_slice.ensures) ∙ (sym c.has_label.ensures ∙ c.if-has_label.false))
 
 pub returns : goal.returns
 returns g c =
     let s = c.args.self.now in
     looks-arm s _ c.args.number c.args.wanted.now.label.now c.args.name.now (spelling c.in-Ok.name) c.args.wanted.now.length c.in-Ok.name _ _ c.find.result
-    (live-there s c.self.inside.lives c.self.invariant c.self.view_is c.args.wanted.now.label.now c.as_slice.result.now c.as_slice.ensures c.place_of.result c.place_of.ensures ∙ (sym c.is_some.ensures ∙ c.if-is_some.false))
+    (ap (λ l. is_some (either_of s.walk l)) (sym c.as_slice.ensures) ∙ (sym c.has_label.ensures ∙ c.if-has_label.false))
     (let view = ap (λ (x : State). length x.walk.lives) c.self.view_is in omega (arith, view, c.if-len-ge-MOST_LIVE.false, c.len.ensures))
     (ap name_read (sym c.as_slice-2.ensures) ∙ c.in-Ok.ensures.ok) (sym c.fits_queue.ensures ∙ c.if-not-fits_queue.false) (c.in-Ok.ensures.spelled ∙ c.as_slice-2.ensures) c.find.ensures

@@ -1,4 +1,4 @@
-use Rattle.std.proofs.Common.{[], refl}
+use Rattle.std.proofs.Common.{◌∙◌, [], ap, refl}
 use Rattle.script_session.proofs.Arms.{answer-holds}
 use Rattle.std.specs.BTreeMap.{get}
 use Rattle.std.specs.Ordering.{nat_cmp}
@@ -6,7 +6,9 @@ use Rattle.board.proofs.Kept.{loan_here}
 use Rattle.script_session.proofs.Filed.{filed-set}
 use Rattle.script_session.specs.Saying.{collects}
 use Rattle.script_session.proofs.Piped.{collect-free}
-use Rattle.script_session.proofs.Living.{no-live, none-shared, loan-there, pipe-there, bytes-at, text-arm, written}
+use Rattle.dialogues.specs.Dialogues.{missing}
+use Rattle.dialogues.specs.Walk.{shared_of}
+use Rattle.script_session.proofs.Living.{no-live, loan-there, pipe-there, bytes-at, text-arm, written}
 use Rattle.script_session.proofs.Said.{or-breaks, says-by, breaks-off_same}
 use Rattle.script_session.proofs.scripts.Session.collect.Goals as goal
 
@@ -15,7 +17,7 @@ returns-in_default g c =
     let s = c.args.self.now in
     let none = no-live s c.self.inside.lives c.self.invariant c.self.view_is c.args.label.now c.as_slice.result.now c.as_slice.ensures c.in_default.ensures in
     or-breaks c.put_one.result c.put_one.ensures.ok c.put_one.ensures.err
-    (says-by _ s s _ _ _ (answer-holds _ s s _ [] _ (collect-free c.args.waits s.walk c.args.number c.args.label.now none (none-shared s c.self.inside.lives c.self.invariant c.self.view_is c.args.label.now c.as_slice.result.now c.as_slice.ensures)) refl refl refl c.requires.stands c.requires.posted refl))
+    (says-by _ s s _ _ _ (answer-holds _ s s _ [] _ (collect-free c.args.waits s.walk c.args.number c.args.label.now _ none (c.missing-errno.ensures ∙ ap (λ l. missing (shared_of s.walk l)) c.as_slice-in_default.ensures)) refl refl refl refl c.requires.stands c.requires.posted refl))
     (breaks-off_same s _ _ c.requires.stands c.requires.posted)
 
 pub unwrap-live-requires : goal.unwrap-live-requires

@@ -8,7 +8,9 @@ use Rattle.script_session.proofs.Frees.{free-arm}
 use Rattle.script_session.proofs.Standing.{may-give}
 use Rattle.script_session.proofs.Arms.{or-stops, stops-same, answer-holds}
 use Rattle.script_session.proofs.Freeing.{free-nobody, free-owing}
-use Rattle.script_session.proofs.Living.{live-at, no-live, none-shared, is-live, is-there, pipe-there, taken}
+use Rattle.dialogues.specs.Dialogues.{missing}
+use Rattle.dialogues.specs.Walk.{shared_of}
+use Rattle.script_session.proofs.Living.{live-at, no-live, is-live, is-there, pipe-there, taken}
 use Rattle.script_session.proofs.scripts.Session.free.Goals as goal
 
 pub returns-in_default : goal.returns-in_default
@@ -16,7 +18,7 @@ returns-in_default g c =
     let s = c.args.self.now in
     let none = no-live c.args.self.now c.self.inside.lives c.self.invariant c.self.view_is c.args.label.now c.as_slice.result.now c.as_slice.ensures c.in_default.ensures in
     or-stops c.refuse.result c.refuse.ensures
-    (answer-holds _ s s _ _ _ (free-nobody s.walk c.args.number c.args.label.now none (none-shared s c.self.inside.lives c.self.invariant c.self.view_is c.args.label.now c.as_slice.result.now c.as_slice.ensures)) refl refl refl c.requires.stands c.requires.posted)
+    (answer-holds _ s s _ _ _ (free-nobody s.walk c.args.number c.args.label.now _ none (c.missing-errno.ensures ∙ ap (λ l. missing (shared_of s.walk l)) c.as_slice-in_default.ensures)) refl refl refl refl c.requires.stands c.requires.posted)
     (stops-same s c.requires.stands)
 
 pub get-requires : goal.get-requires
@@ -28,7 +30,7 @@ returns-then-is_owing g c =
     let at = live-at c.args.self.now c.self.inside.lives c.self.invariant c.self.view_is c.args.label.now c.as_slice.result.now c.as_slice.ensures c.in-Some.place c.in-Some.ensures in
     let was = is-live c.args.self.now c.self.inside.lives c.self.invariant c.self.view_is c.args.label.now c.as_slice.result.now c.as_slice.ensures c.in-Some.place c.in-Some.ensures c.get.result.now c.get.ensures in
     or-stops c.refuse-then-is_owing.result c.refuse-then-is_owing.ensures
-    (answer-holds _ s s _ _ _ (free-owing s.walk c.args.number c.args.label.now at.live at.found (ap (λ (l : Live). owes l.pipe) (sym was) ∙ (sym c.is_owing.ensures ∙ c.if-is_owing.true))) refl refl refl c.requires.stands c.requires.posted)
+    (answer-holds _ s s _ _ _ (free-owing s.walk c.args.number c.args.label.now at.live at.found (ap (λ (l : Live). owes l.pipe) (sym was) ∙ (sym c.is_owing.ensures ∙ c.if-is_owing.true))) refl refl refl refl c.requires.stands c.requires.posted)
     (stops-same s c.requires.stands)
 
 pub remove-live-requires-clause-there : goal.remove-live-requires-clause-there

@@ -13,7 +13,7 @@ returns-in-Cmd-Poll-clause-done g c =
     (line-replies 1 c.collect.result (poll s.walk c.args.number c.in-Cmd-Poll.label) s c.collect.new.self _ _ c.collect.ensures)
 
 pub returns-in-Cmd-Poll-clause-ready : goal.returns-in-Cmd-Poll-clause-ready
-returns-in-Cmd-Poll-clause-ready g c = line-ready 1 c.collect.result _ c.args.registry.now c.args.board.now _ c.args.self.now c.collect.new.self _ _ c.requires.ready c.collect.ensures
+returns-in-Cmd-Poll-clause-ready g c = line-ready c.shared_is_known.ensures.stays 1 c.collect.result _ c.args.registry.now c.args.board.now _ c.args.self.now c.collect.new.self _ _ c.requires.ready c.collect.ensures
 
 pub returns-in-Cmd-Poll-clause-unwritten : goal.returns-in-Cmd-Poll-clause-unwritten
 returns-in-Cmd-Poll-clause-unwritten g c = line-unwritten c.collect.result _ c.args.self.now c.collect.new.self _ _ c.collect.ensures
@@ -28,7 +28,7 @@ returns-in-Cmd-Drain-clause-done g c =
     (line-replies 1 c.collect-in-Cmd-Drain.result (drain s.walk c.args.number c.in-Cmd-Drain.label) s c.collect-in-Cmd-Drain.new.self _ _ c.collect-in-Cmd-Drain.ensures)
 
 pub returns-in-Cmd-Drain-clause-ready : goal.returns-in-Cmd-Drain-clause-ready
-returns-in-Cmd-Drain-clause-ready g c = line-ready 1 c.collect-in-Cmd-Drain.result _ c.args.registry.now c.args.board.now _ c.args.self.now c.collect-in-Cmd-Drain.new.self _ _ c.requires.ready c.collect-in-Cmd-Drain.ensures
+returns-in-Cmd-Drain-clause-ready g c = line-ready c.shared_is_known.ensures.stays 1 c.collect-in-Cmd-Drain.result _ c.args.registry.now c.args.board.now _ c.args.self.now c.collect-in-Cmd-Drain.new.self _ _ c.requires.ready c.collect-in-Cmd-Drain.ensures
 
 pub returns-in-Cmd-Drain-clause-unwritten : goal.returns-in-Cmd-Drain-clause-unwritten
 returns-in-Cmd-Drain-clause-unwritten g c = line-unwritten c.collect-in-Cmd-Drain.result _ c.args.self.now c.collect-in-Cmd-Drain.new.self _ _ c.collect-in-Cmd-Drain.ensures
@@ -46,4 +46,4 @@ returns-in_default-clause-done g c =
     ]
 
 pub returns-in_default-clause-ready : goal.returns-in_default-clause-ready
-returns-in_default-clause-ready g c = line-ready _ c.say_line.result _ c.args.registry.now c.args.board.now _ c.args.self.now c.say_line.new.self _ _ c.requires.ready c.say_line.ensures.done
+returns-in_default-clause-ready g c = line-ready c.shared_is_known.ensures.stays _ c.say_line.result _ c.args.registry.now c.args.board.now _ c.args.self.now c.say_line.new.self _ _ c.requires.ready c.say_line.ensures.done

@@ -9,7 +9,7 @@ pub returns-in_default : goal.returns-in_default
 returns-in_default g c =
     or-stops c.refuse.result c.refuse.ensures
     (answer-holds _ c.args.self.now c.args.self.now _ _ _
-    (register-unknown c.args.self.now.walk c.args.number c.args.priority c.as_slice.result.now c.args.driver.now c.in_ok-spec.field-0 c.as_slice.ensures c.in_ok-spec.ensures c.in_default.is) refl refl refl c.requires.stands c.requires.posted)
+    (register-unknown c.args.self.now.walk c.args.number c.args.priority c.as_slice.result.now c.args.driver.now c.in_ok-spec.field-0 c.as_slice.ensures c.in_ok-spec.ensures c.in_default.is) refl refl refl refl c.requires.stands c.requires.posted)
     (stops-same c.args.self.now c.requires.stands)
 
 pub returns-then-priority-gt-MOST_PRIORITY : goal.returns-then-priority-gt-MOST_PRIORITY
@@ -17,7 +17,7 @@ returns-then-priority-gt-MOST_PRIORITY g c =
     or-stops c.refuse-then-priority-gt-MOST_PRIORITY.result c.refuse-then-priority-gt-MOST_PRIORITY.ensures
     (answer-holds _ c.args.self.now c.args.self.now _ _ _
     (register-high c.args.self.now.walk c.args.number c.args.priority c.as_slice.result.now c.args.driver.now c.in_ok-spec.field-0 c.in-Some.spec c.as_slice.ensures c.in_ok-spec.ensures c.in-Some.is c.if-priority-gt-MOST_PRIORITY.true)
-    refl refl refl c.requires.stands c.requires.posted)
+    refl refl refl refl c.requires.stands c.requires.posted)
     (stops-same c.args.self.now c.requires.stands)
 
 pub enlist-requires-clause-driver : goal.enlist-requires-clause-driver

@@ -12,17 +12,12 @@ use Rattle.std.specs.BTreeMap.{get}
 use Rattle.std.specs.Ordering.{nat_cmp}
 use Rattle.board.proofs.Kept.{loan_here}
 use Rattle.script_session.proofs.Filed.{filed-set}
-use Rattle.script_session.proofs.Living.{live-at, no-either, either-at, is-live, is-there, loan-there, pipe-there, request-arm, written}
+use Rattle.script_session.proofs.Living.{live-at, no-live, either-at, is-live, is-there, loan-there, pipe-there, request-arm, written}
 use Rattle.script_session.proofs.Requests.{no-key, not-taken, job-asks, job-origin}
 use Rattle.script_session.proofs.scripts.Session.request.Goals as goal
 
-pub returns-in_default : goal.returns-in_default
-returns-in_default g c =
-    let s = c.args.self.now in
-    let none = no-either s c.self.inside.lives c.self.invariant c.self.view_is c.args.label.now c.as_slice.result.now c.as_slice.ensures c.in_default.ensures in
-    or-stops c.refuse.result c.refuse.ensures
-    (answer-holds _ s s _ _ _ (ap (λ o. for_live s.walk c.args.number o ENOENT (λ (live : Live). requests_under s.walk c.args.number live c.args.asked c.args.backlog live.key)) none) refl refl refl c.requires.stands c.requires.posted)
-    (stops-same s c.requires.stands)
+pub request_shared-requires-clause-none : goal.request_shared-requires-clause-none
+request_shared-requires-clause-none g c = no-live c.args.self.now c.self.inside.lives c.self.invariant c.self.view_is c.args.label.now c.as_slice.result.now c.as_slice.ensures c.in_default.ensures
 
 pub get-requires : goal.get-requires
 get-requires g c = is-there c.args.self.now c.self.inside.lives c.self.invariant c.self.view_is c.args.label.now c.as_slice.result.now c.as_slice.ensures c.in-Some.place c.in-Some.ensures
@@ -33,11 +28,11 @@ returns-in-Ok-None g c =
     let at = live-at c.args.self.now c.self.inside.lives c.self.invariant c.self.view_is c.args.label.now c.as_slice.result.now c.as_slice.ensures c.in-Some.place c.in-Some.ensures in
     let was = is-live c.args.self.now c.self.inside.lives c.self.invariant c.self.view_is c.args.label.now c.as_slice.result.now c.as_slice.ensures c.in-Some.place c.in-Some.ensures c.get.result.now c.get.ensures in
     let why = rw c.in-Ok-None.field-0-is at c.in-Ok-None.ensures in
-    or-stops c.refuse-in-Ok-None.result c.refuse-in-Ok-None.ensures
+    or-stops c.refuse.result c.refuse.ensures
     (answer-holds _ s s _ _ _
     (ap (λ o. for_live s.walk c.args.number o ENOENT (λ (live : Live). requests_under s.walk c.args.number live c.args.asked c.args.backlog live.key)) (either-at s c.self.inside.lives c.self.invariant c.self.view_is c.args.label.now c.as_slice.result.now c.as_slice.ensures c.in-Some.place c.in-Some.ensures)
     ∙ no-key s.walk c.args.number at.live c.args.asked c.args.backlog (sym (ap (λ (l : Live). l.key) was) ∙ why))
-    refl refl refl c.requires.stands c.requires.posted)
+    refl refl refl refl c.requires.stands c.requires.posted)
     (stops-same s c.requires.stands)
 
 pub returns-in-Err-Inval : goal.returns-in-Err-Inval
@@ -50,7 +45,7 @@ returns-in-Err-Inval g c =
     (answer-holds _ s s _ _ _
     (ap (λ o. for_live s.walk c.args.number o ENOENT (λ (live : Live). requests_under s.walk c.args.number live c.args.asked c.args.backlog live.key)) (either-at s c.self.inside.lives c.self.invariant c.self.view_is c.args.label.now c.as_slice.result.now c.as_slice.ensures c.in-Some.place c.in-Some.ensures)
     ∙ not-taken s.walk c.args.number at.live c.args.asked c.args.backlog at.live.key (subst (λ (l : Live). IsNotTaken l c.args.asked l.key) was why))
-    refl refl refl c.requires.stands c.requires.posted)
+    refl refl refl refl c.requires.stands c.requires.posted)
     (stops-same s c.requires.stands)
 
 pub unwrap-live-requires : goal.unwrap-live-requires

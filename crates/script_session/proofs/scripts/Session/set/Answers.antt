@@ -1,4 +1,4 @@
-use Rattle.std.proofs.Common.{[], ap, sym, refl, subst}
+use Rattle.std.proofs.Common.{◌∙◌, [], ap, sym, refl, subst}
 use Rattle.std.specs.Prelude.{MatchResult}
 use Rattle.script_session.specs.Changing.{HoldsFor}
 use Rattle.script_session.specs.Holding.{SeesOn}
@@ -11,7 +11,9 @@ use Rattle.std.specs.Ordering.{nat_cmp}
 use Rattle.board.proofs.Kept.{loan_here}
 use Rattle.script_session.proofs.Filed.{filed-set}
 use Rattle.script_session.proofs.Piped.{set-free}
-use Rattle.script_session.proofs.Living.{no-live, none-shared, loan-there, pipe-there, live-arm, written}
+use Rattle.dialogues.specs.Dialogues.{missing}
+use Rattle.dialogues.specs.Walk.{shared_of}
+use Rattle.script_session.proofs.Living.{no-live, loan-there, pipe-there, live-arm, written}
 use Rattle.script_session.proofs.scripts.Session.set.Goals as goal
 
 pub returns-in_default : goal.returns-in_default
@@ -19,7 +21,7 @@ returns-in_default g c =
     let s = c.args.self.now in
     let none = no-live s c.self.inside.lives c.self.invariant c.self.view_is c.args.label.now c.as_slice.result.now c.as_slice.ensures c.in_default.ensures in
     or-stops c.refuse.result c.refuse.ensures
-    (answer-holds _ s s _ _ _ (set-free s.workers s.walk c.args.number c.args.label.now c.args.setting none (none-shared s c.self.inside.lives c.self.invariant c.self.view_is c.args.label.now c.as_slice.result.now c.as_slice.ensures)) refl refl refl c.requires.stands c.requires.posted)
+    (answer-holds _ s s _ _ _ (set-free s.workers s.walk c.args.number c.args.label.now c.args.setting _ none (c.missing-errno.ensures ∙ ap (λ l. missing (shared_of s.walk l)) c.as_slice-in_default.ensures)) refl refl refl refl c.requires.stands c.requires.posted)
     (stops-same s c.requires.stands)
 
 pub unwrap-live-requires : goal.unwrap-live-requires

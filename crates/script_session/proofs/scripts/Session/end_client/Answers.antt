@@ -1,0 +1,43 @@
+use Rattle.std.proofs.Common.{◌≡◌, ◌∙◌, [], ap, refl, sym, subst, arith, length}
+use Rattle.std.specs.Prelude.{sum_by}
+use Rattle.std.proofs.lemmas.List.{with_items_is}
+use Rattle.std.proofs.lemmas.Result.{err_from_is_err_and}
+use Rattle.board.specs.Allowance.{accepted_by}
+use Rattle.session_calls.specs.Passes.{known}
+use Rattle.transforms.specs.AskValue.{ask_size}
+use Rattle.script_session.specs.States.{State, Posted}
+use Rattle.script_session.proofs.Ended.{client-arm, ends-paid, stops-here}
+use Rattle.script_session.proofs.scripts.Session.end_client.Goals as goal
+
+pub release_all-requires-clause-posted : goal.release_all-requires-clause-posted
+release_all-requires-clause-posted g c =
+    let s = c.args.self.now in (
+      s.walk,
+      sym (c.deref_mut.ensures.value ∙ (c.in_ok-lives.ensures.all ∙ ap (λ (x : State). x.walk.lives) c.self.view_is)),
+      subst (λ (x : State). Posted s.walk (known x.board)) (sym c.self.view_is) c.requires.posted,
+    )
+
+pub drain_last_said_all-requires-clause-bytes : goal.drain_last_said_all-requires-clause-bytes
+drain_last_said_all-requires-clause-bytes g c =
+    ap (sum_by ask_size) c.in_ok-release_all.ensures.moved.accepted
+    ∙ subst (λ (x : State). sum_by ask_size (accepted_by (known x.board).number (known x.board).seen) ≡ x.walk.bytes) (sym c.self.view_is) c.requires.posted.bytes
+
+pub returns-clause-done : goal.returns-clause-done
+returns-clause-done g c =
+    let says = c.in_ok-drain_last_said_all.ensures.moved in
+    client-arm c.args.self.now c.self.view_is c.deref_mut.result.now c.release_all.new.lives c.deref_mut-2.result.now c.drain_last_said_all.new.lives (known c.release_all.new.caller) (known c.drain_last_said_all.new.caller)
+    [] says.said says.said c.args.reply.now.text c.drain_last_said_all.new.reply.text
+    (c.deref_mut.ensures.value ∙ c.in_ok-lives.ensures.all)
+    (c.deref_mut-2.ensures.value ∙ with_items_is c.in_ok-lives.lives c.release_all.new.lives (omega (arith, c.release_all.auto.lives, c.deref_mut.ensures.len, ap length c.deref_mut.ensures.value))) refl refl
+    (c.meet.ensures.lock ∙ (c.drain_last_said_all.ensures.lock ∙ c.release_all.ensures.lock)) c.requires.stands
+    c.in_ok-release_all.ensures.moved says.moves c.meet.ensures.kept.called says.says
+
+pub returns-clause-paid : goal.returns-clause-paid
+returns-clause-paid g c =
+    ends-paid c.only_collects_hand_out.ensures.drained c.drain_last_said_all.new.lives (known c.drain_last_said_all.new.caller) (known c.meet.new.self) c.in_ok-drain_last_said_all.ensures.moved.moves.posted c.in_ok-drain_last_said_all.ensures.paid c.meet.ensures.kept c.meet.ensures.own
+
+-- memory was wanting before anything was called
+pub returns-in_err-lives-clause-done : goal.returns-in_err-lives-clause-done
+returns-in_err-lives-clause-done g c =
+    let p = err_from_is_err_and c.from_residual.result c.from_residual.ensures.1 in
+    rw (p.1) (stops-here c.args.self.now c.self.view_is _)

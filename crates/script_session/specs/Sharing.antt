@@ -1,0 +1,37 @@
+-- Transforms that several scripts share, and what a line does with one of them.
+use Rattle.std.specs.Prelude.{ℕ, ◌≡◌, Bool, List, [], ◌∷◌, ◌++◌, Option, Some, None}
+use Rattle.std.specs.Arc.{arc_value}
+use Rattle.std.specs.declared.sync.Arc.{Arc}
+use Rattle.board.specs.declared.entry.BoardEntry.{BoardEntry}
+use Rattle.board.specs.declared.entry.Entered.{Entered}
+use Rattle.transforms.specs.declared.ask.Ask.{Ask}
+use Rattle.reply_text.specs.declared.answers.Answer.{Answer}
+use Rattle.turn_lock.specs.Turns.{Known}
+use Rattle.dialogues.specs.BoardCalls.{BoardCall}
+use Rattle.dialogues.specs.Dialogues.{Dialogue}
+use Rattle.dialogues.specs.Turns.{IsTurn}
+use Rattle.dialogues.specs.Walk.{Walk, Live, Pipe, live_of}
+use Rattle.session_calls.specs.Pipelines.{entered_asks}
+use Rattle.session_calls.specs.Sharing.{Gave}
+use Rattle.script_session.specs.Changing.{counting}
+use Rattle.script_session.specs.Offering.{IsAnswerOf, offer_call}
+use Rattle.script_session.specs.States.{Posted}
+
+-- what a script shares with others, if there are any
+abbrev pub shared_in : {Z : Type 0} → Option (Arc (List Live) Z) → List Live
+shared_in None = []
+shared_in (Some shared) = arc_value shared
+
+-- the shared pipeline gave this answer
+abbrev pub OffersShared : Known (BoardEntry Ask) → Known (BoardEntry Ask) → Pipe → Ask → Bool → Entered → Type 0
+OffersShared k l pipe ask backlog answer =
+    IsAnswerOf pipe.bound answer × Gave k l (offer_call pipe ask backlog answer pipe.bound ∷ []) (entered_asks ask answer)
+
+-- The dialogue was held with a transform that is shared: this is its turn for any walk that has none of its own under that label.
+pub record GivesFor (dialogue : Walk → Dialogue) (live : Live) (k l : Known (BoardEntry Ask)) (asks : List Ask) (answers answers' : List Answer) : Type 0 where
+  pub calls : List BoardCall
+  pub said : List Answer
+  pub gave : Gave k l calls asks
+  pub is : (walk : Walk) → live_of walk live.label ≡ None → Posted walk k
+      → IsTurn (dialogue walk) (record { registry = []; board = calls; answers = said; after = Some (counting walk asks) })
+  pub says : answers' ≡ answers ++ said

@@ -1,0 +1,87 @@
+//! The script of a client beside others.
+
+ghost use Rattle.std.specs.Prelude.{◌≡◌, Some, OnOk, MatchResult};
+ghost use Rattle.std.specs.Arc.{arc_value};
+ghost use Rattle.dialogues.specs.Walk.{start_beside};
+ghost use Rattle.script_session.specs.Ending.{AnswersEndBeside, EndsPaid};
+ghost use Rattle.script_session.specs.Holding.{Stops};
+ghost use Rattle.script_session.specs.States.{Stands, Posted};
+ghost use Rattle.session_calls.specs.Passes.{known, CallsBoard};
+
+use crate::collecting::drain_last_said_all;
+use crate::ending::release_all;
+use crate::lives::Lives;
+use crate::scripts::Session;
+use crate::sharing::Shared;
+use board::only_collects_hand_out;
+use crew::Gate;
+use reply_text::Reply;
+use session_calls::{BoardCaller, RegistryCaller, Stop};
+use shared_board::{BoardPass, SharedBoard};
+use shared_registry::RegPass;
+use std::alloc::Global;
+use std::sync::{Arc, Wait};
+use transforms::{Ask, Job};
+
+impl Session {
+    /// The script of a client beside others, with whom it shares these transforms; it has made nothing. So many workers stand beside
+    /// it. No memory is taken.
+    pub fn client(
+        alloc: Global,
+        workers: u32,
+        client: u32,
+        shared: Arc<Shared, Global>,
+        registry: RegPass,
+        board: BoardPass<Job>,
+    ) -> Session
+        ensures { result ≡ record { workers = workers; walk = start_beside client (arc_value shared); registry = Some registry; board = Some board } }
+    {
+        Session {
+            alloc,
+            workers,
+            client,
+            shared: Some(shared),
+            lives: Lives::new(alloc),
+            requests: 0,
+            bytes: 0,
+            registry: RegistryCaller::new(registry),
+            board: BoardCaller::new(board),
+        }
+    }
+
+    /// Answers the end of input of a client, as `end` does but that the board stays open for the others: held queues are let go, and
+    /// each live transform of the client's own is drained, both in order of allocation. No line comes after it. `Stop` comes for want
+    /// of memory alone.
+    pub fn end_client<R: Wait, G: Gate>(
+        &mut self,
+        rt: &R,
+        board: &SharedBoard<Job>,
+        gate: &G,
+        reply: &mut Reply,
+    ) -> Result<(), Stop>
+        requires at { CallsBoard board.now self.old.board }
+        requires stands { Stands self.old.walk.lives (known self.old.registry) }
+        requires posted { Posted self.old.walk (known self.old.board) }
+        ensures done { MatchResult result
+            (λ _. AnswersEndBeside self.old self.new reply.old.text reply.new.text)
+            (λ _. Stops self.old self.new) }
+        ensures paid { OnOk result (EndsPaid (known self.new.board)) }
+    {
+        only_collects_hand_out::<Ask>();
+        let mut lives = self.lives.take_all(self.alloc)?;
+        release_all(rt, board, &mut self.board, &mut lives)?;
+        drain_last_said_all(
+            rt,
+            self.alloc,
+            board,
+            gate,
+            &mut self.board,
+            self.bytes,
+            &mut lives,
+            reply,
+        )?;
+        // It has seen all that it did.
+        self.board.meet(rt, board);
+        Ok(())
+    }
+}
