@@ -1,7 +1,0 @@
-use Rattle.board.specs.Staying.{IsOpenFor}
-use Rattle.board.specs.Shapes.{is_pad}
-use Rattle.board_tests.proofs.pads.are_limited.Given as goal
-
--- the pad stays open to the caller
-abbrev pub invariant-loop-bytes : goal.invariant-loop-bytes
-invariant-loop-bytes l = IsOpenFor is_pad l.board l.pipe l.caller

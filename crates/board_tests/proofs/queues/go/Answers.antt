@@ -1,7 +1,0 @@
-use Rattle.std.proofs.Common.{refl}
-use Rattle.board.specs.Shapes.{has_line}
-use Rattle.board_tests.proofs.Staying.{done, open_after}
-use Rattle.board_tests.proofs.queues.go.Goals as goal
-
-pub returns : goal.returns
-returns g c = open_after has_line c.pipelines_stay.ensures.managed (c.pipelines_stay.ensures.stays_open has_line) _ _ _ c.args.pipe 0 (done _ _ _ c.go.result c.go.ensures.going) refl c.requires
