@@ -7,6 +7,7 @@ pub mod Starting
 pub mod PadsAndQueues
 pub mod InLine
 pub mod LinesHold
+pub mod LinesMade
 pub mod Searching
 pub mod Callbacks
 pub mod Releasing

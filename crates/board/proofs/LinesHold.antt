@@ -19,7 +19,7 @@ use Rattle.board.specs.Lines.{LinesOf, is_line_of, line_of, AreMade, IsMade, Joi
 
 -- ---- the callers' lines
 
-abbrev Made : Type 1
+abbrev pub Made : Type 1
 Made = ℕ → ReadyLine → ReadyLine → Type 0
 
 either_made : (made : Made) (c : ℕ) (line after rest rests : ReadyLine) (b : Bool) → (b ≡ true → made c line after) → made c rest rests → made c (cond b line rest) (cond b after rests)

@@ -1,5 +1,5 @@
 -- The lines of a board's callers: one of all queues, for everybody, and one of pads and chains for each caller that may take from any.
-use Rattle.std.specs.Prelude.{ℕ, Bool, ◌==◌, if◌then◌else◌, List, [], ◌∷◌}
+use Rattle.std.specs.Prelude.{ℕ, nat_le, Bool, not, ◌||◌, ◌==◌, if◌then◌else◌, List, [], ◌∷◌, length}
 use Rattle.board.specs.declared.pipeline.Pipeline.{Pipeline}
 use Rattle.board.specs.declared.lines.OwnLine.{OwnLine}
 use Rattle.board.specs.Entries.{IsMasked}
@@ -13,6 +13,10 @@ pub record LinesOf : Type 0 where
 
 abbrev pub is_line_of : ℕ → OwnLine → Bool
 is_line_of caller own = own.caller == caller
+
+-- whether a caller's line stays though nothing is a member of it: a worker's does, the callers 1 to 16 being workers
+abbrev pub is_kept : OwnLine → Bool
+is_kept own = nat_le own.caller 16 || not (length own.line.members == 0)
 
 -- the caller's own line, which has no members where it was given none
 abbrev pub line_of : ℕ → List OwnLine → ReadyLine

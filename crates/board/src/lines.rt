@@ -6,7 +6,7 @@ ghost use Rattle.board.specs.declared.pipeline.Pipeline.{Pipeline};
 ghost use Rattle.board.specs.Entries.{IsMasked};
 ghost use Rattle.board.specs.Places.{places};
 ghost use Rattle.board.specs.Ready.{IsMember, IsInLine, no_pipelines, HasJob, IsNoQueue, HasJobFor, Keeps, KeepsOthers, IsTold, KeepsSuch, Finds, FindsInBoth};
-ghost use Rattle.board.specs.Lines.{is_line_of, line_of, AreMade, IsMade, Joins, IsReadmitted, AreReady};
+ghost use Rattle.board.specs.Lines.{is_line_of, is_kept, line_of, AreMade, IsMade, Joins, IsReadmitted, AreReady};
 
 use crate::mask::is_masked;
 use crate::pipeline::Pipeline;
@@ -26,6 +26,15 @@ pub(crate) struct OwnLine {
     pub(crate) line: Ready,
     /// Whether the caller looked for a queue first when it last looked for a job.
     pub(crate) queue_first: bool,
+}
+
+impl OwnLine {
+    /// Whether the line is kept though its caller's last pipeline was closed: a worker's is, since the next pad needs it again.
+    fn is_kept(&self) -> bool
+        ensures { result ≡ is_kept self.now }
+    {
+        self.caller <= WORKERS || !self.line.is_empty()
+    }
 }
 
 /// The lines of all callers: in one stand the queues, which everybody serves, and each caller that may take from a pad or a chain
@@ -155,6 +164,7 @@ impl JobLines {
     {
         self.queues.leave(pipe);
         leave_all(&mut self.own, pipe);
+        give_back(&mut self.own);
     }
 
     /// Tells the lines whether the pipeline has a job now, where it had one before or not. No memory is taken.
@@ -226,19 +236,24 @@ fn place_of(own: &[OwnLine], caller: u32) -> Option<usize>
 fn leave_all(own: &mut [OwnLine], pipe: u64)
     ensures { AreMade (KeepsOthers pipe) own.old own.new }
 {
-    if let Some((first, rest)) = own.split_first_mut() {
-        first.line.leave(pipe);
-        leave_all(rest, pipe);
+    for each in own.iter_mut() {
+        each.line.leave(pipe);
     }
+}
+
+/// Gives back the lines that aren't kept. The others stay in their order.
+fn give_back(own: &mut Vec<OwnLine>)
+    ensures { AreMade Keeps own.old.items own.new.items }
+{
+    own.retain(OwnLine::is_kept);
 }
 
 /// Sets the pipeline in each line of which it is a member where it has a job, and otherwise takes it out.
 fn set_all(own: &mut [OwnLine], pipe: u64, has_job: bool)
     ensures { AreMade (IsTold pipe false has_job) own.old own.new }
 {
-    if let Some((first, rest)) = own.split_first_mut() {
-        first.line.set(pipe, has_job);
-        set_all(rest, pipe, has_job);
+    for each in own.iter_mut() {
+        each.line.set(pipe, has_job);
     }
 }
 
@@ -246,9 +261,8 @@ fn set_all(own: &mut [OwnLine], pipe: u64, has_job: bool)
 fn readmit_all<J: Drop, F: Drop>(own: &mut [OwnLine], pipe: u64, place: &Pipeline<J, F>)
     ensures { (caller : ℕ) → IsReadmitted pipe place.now caller (line_of caller own.old) (line_of caller own.new) }
 {
-    if let Some((first, rest)) = own.split_first_mut() {
-        readmit(first, pipe, place);
-        readmit_all(rest, pipe, place);
+    for each in own.iter_mut() {
+        readmit(each, pipe, place);
     }
 }
 

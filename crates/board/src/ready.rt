@@ -1,6 +1,6 @@
 //! Lines of pipelines that may have a job to run, or a request to pass on.
 
-ghost use Rattle.std.specs.Prelude.{◌≡◌, ℕ, ◌<◌, ◌≤◌, true, false, length, slice_get, Some, OnOk, IfSome, MatchOption, nat_eq, position};
+ghost use Rattle.std.specs.Prelude.{◌≡◌, ◌==◌, ℕ, ◌<◌, ◌≤◌, true, false, length, slice_get, Some, OnOk, IfSome, MatchOption, nat_eq, position};
 ghost use Rattle.board.specs.Ready.{IsMember, IsInLine, no_pipelines, Keeps, KeepsPipe, KeepsOthers, IsTold};
 
 use indexmap::IndexSet;
@@ -41,6 +41,13 @@ impl Ready {
             ready: 0,
             turn: 0,
         }
+    }
+
+    /// Whether it has no members.
+    pub(crate) fn is_empty(&self) -> bool
+        ensures { result ≡ (length self.now.members == 0) }
+    {
+        self.members.is_empty()
     }
 
     /// From now on the pipeline is a member. A new one doesn't stand in line. Want of memory changes nothing.

@@ -27,6 +27,15 @@ impl Model for Slip {
     ghost view = { λ s. record { pipe = s.pipe; number = s.number } };
 }
 
+impl Slip {
+    /// The job's pipeline.
+    pub fn pipe(&self) -> u64
+        ensures { result ≡ self.now.pipe }
+    {
+        self.pipe
+    }
+}
+
 /// A job to be run, and the slip that is spent on its outcome.
 pub struct Taken<W> {
     pub slip: Slip,

@@ -60,8 +60,13 @@ pub struct JobBells {
     awake: CachePadded<AtomicU64>,
     /// Whether the board may be shut: a hint, for those who look before they take a turn.
     over: AtomicBool,
-    /// Whether some pad was masked: then one worker that is woken may not be one that may take the job.
+    /// Whether some pad was masked, or made with fewer lists than there are workers: then one worker that is woken may not be one
+    /// that may take the job.
     masked: AtomicBool,
+    /// The fewest lists that a pad or a chain was made with.
+    fewest_lists: AtomicU64,
+    /// The highest number of a worker that found nothing.
+    highest_worker: AtomicU64,
     /// Whether some queue or chain was made: then a job may be ready that was never counted, as a queue's next is once the one
     /// before it is finished.
     queues: AtomicBool,
@@ -77,6 +82,8 @@ impl JobBells {
             awake: CachePadded::new(AtomicU64::new(0)),
             over: AtomicBool::new(false),
             masked: AtomicBool::new(false),
+            fewest_lists: AtomicU64::new(u64::from(WORKERS)),
+            highest_worker: AtomicU64::new(0),
             queues: AtomicBool::new(false),
             pause: AtomicU64::new(0),
         }
@@ -108,6 +115,32 @@ impl JobBells {
         self.queues.store(true, Ordering::SeqCst);
     }
 
+    /// A pad or a chain is made, from which the workers 1 to `lists` may take. Beside a worker of a higher number each job wakes all
+    /// from then on, as after a mask.
+    pub fn note_lists(&self, lists: u32) {
+        self.fewest_lists
+            .fetch_min(u64::from(lists), Ordering::SeqCst);
+        self.ring_if_few();
+    }
+
+    /// A worker found nothing, and may sleep soon.
+    fn note_worker(&self, worker: u64) {
+        if self.highest_worker.load(Ordering::SeqCst) < worker {
+            self.highest_worker.fetch_max(worker, Ordering::SeqCst);
+            self.ring_if_few();
+        }
+    }
+
+    /// Some worker may not take from some pad: those who sleep look at the board, and each job wakes all. Both words are changed before
+    /// they are compared, so of two that change one each the later finds it so.
+    fn ring_if_few(&self) {
+        let lists = self.fewest_lists.load(Ordering::SeqCst);
+        let is_few = lists < self.highest_worker.load(Ordering::SeqCst);
+        if is_few && !self.masked.load(Ordering::SeqCst) {
+            self.ring_mask();
+        }
+    }
+
     /// The counted word, to be read before a turn.
     pub fn seen(&self) -> Seen {
         self.counted.seen()
@@ -119,6 +152,7 @@ impl JobBells {
     /// `Keep`.)
     pub fn forget(&self, caller: u32, seen: Seen) {
         if 1 <= caller && caller <= WORKERS {
+            self.note_worker(u64::from(caller));
             self.counted.forget(seen);
         }
     }

@@ -4,16 +4,20 @@ use crossbeam_utils::CachePadded;
 use crossbeam_utils::sync::EventCount;
 use job_bells::{JobBells, Watch};
 use std::alloc::{AllocError, Global};
+use std::array;
 use std::sync::Arc;
 use std::sync::atomic::{AtomicBool, Ordering};
+
+/// So many bells ring for those who drain. Pipelines whose numbers differ by a multiple of it share one.
+const ENDS: usize = 16;
 
 /// The bells of a board.
 #[derive(Drop)]
 pub(crate) struct Bells {
     /// Those of its workers, which others may ring too.
     jobs: Arc<JobBells, Global>,
-    /// Rings where a job is finished.
-    ends: CachePadded<EventCount>,
+    /// Each rings where a job of its pipelines is finished.
+    ends: [CachePadded<EventCount>; ENDS],
     /// Whether some chain was made: a hint, for those who look before they take a turn.
     chains: AtomicBool,
 }
@@ -22,7 +26,7 @@ impl Bells {
     pub(crate) fn new(alloc: Global) -> Result<Bells, AllocError> {
         Ok(Bells {
             jobs: Arc::new(alloc, JobBells::new())?,
-            ends: CachePadded::new(EventCount::new()),
+            ends: array::from_fn(|_| CachePadded::new(EventCount::new())),
             chains: AtomicBool::new(false),
         })
     }
@@ -37,14 +41,20 @@ impl Bells {
         self.jobs.clone()
     }
 
-    pub(crate) fn watch_ends(&self) -> Watch<'_> {
-        Watch::on(&self.ends)
+    /// The bell of those who drain the pipeline.
+    fn end_of(&self, pipe: u64) -> &EventCount {
+        &self.ends[pipe as usize % ENDS]
     }
 
-    /// A chain is made.
-    pub(crate) fn note_chain(&self) {
+    pub(crate) fn watch_ends(&self, pipe: u64) -> Watch<'_> {
+        Watch::on(self.end_of(pipe))
+    }
+
+    /// A chain of so many lists is made.
+    pub(crate) fn note_chain(&self, lists: u32) {
         self.chains.store(true, Ordering::SeqCst);
         self.jobs.note_queue();
+        self.jobs.note_lists(lists);
     }
 
     /// Whether some chain was made.
@@ -56,18 +66,25 @@ impl Bells {
     pub(crate) fn ring_passed(&self, passed: bool) {
         if passed {
             self.jobs.ring_job();
-            self.ring_end();
+            self.ring_ends();
         }
     }
 
-    /// A job was finished.
-    pub(crate) fn ring_end(&self) {
-        self.ends.notify_all();
+    /// A job of the pipeline was finished.
+    pub(crate) fn ring_end(&self, pipe: u64) {
+        self.end_of(pipe).notify_all();
+    }
+
+    /// Whoever drains looks again.
+    fn ring_ends(&self) {
+        for end in self.ends.iter() {
+            end.notify_all();
+        }
     }
 
     /// The board is shut.
     pub(crate) fn ring_over(&self) {
         self.jobs.ring_over();
-        self.ends.notify_all();
+        self.ring_ends();
     }
 }

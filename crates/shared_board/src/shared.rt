@@ -87,9 +87,9 @@ impl<W: Work> SharedBoard<W> {
     }
 
     /// Makes a pad of `lists` reorder lists, 1 to 16, from which the workers 1 to `lists` may take, and answers its number.
-    /// The caller is no worker. Only want of memory refuses. Until a pad is masked a job wakes at most one worker that sleeps,
-    /// or wakes none and is left to one that stays awake, whichever it is: beside more workers than lists it may be one that may
-    /// not take it.
+    /// The caller is no worker. Only want of memory refuses. A job wakes at most one worker that sleeps, or none and is left to
+    /// one that stays awake, whichever it is. Beside a worker of a number above `lists` each job of the board wakes all that sleep
+    /// instead, as after a mask.
     pub fn born_pad<R: Wait>(
         &self,
         rt: &R,
@@ -105,6 +105,7 @@ impl<W: Work> SharedBoard<W> {
             (λ pipe. (pipe ≡ pipelines h) × Enters LegalBoard (knows pass) h (Entry.Born (knows pass).number pipe (Shaped.Pad lists)) (knows result.0))
             (λ e. (e ≡ BoardErr.Memory) × Leaves (knows pass) h (knows result.0))) }
     {
+        self.bells.jobs().note_lists(lists);
         let caller = pass.number();
         let mut turn = self.turn(rt, pass);
         let answer = turn.get().born_pad(caller, lists);
@@ -138,9 +139,8 @@ impl<W: Work> SharedBoard<W> {
 
     /// Makes a chain, and answers its number: a queue of which so many requests wait before its backlog begins, at least 1,
     /// and a pad of `lists` reorder lists, 1 to 16, to which they go on, and from which the workers 1 to `lists` may take.
-    /// The caller is no worker. Only want of memory refuses. Until a pad is masked a request that comes or goes on wakes at most
-    /// one worker that sleeps, or wakes none and is left to one that stays awake, whichever it is: beside more workers than
-    /// lists it may be one that may not take its job.
+    /// The caller is no worker. Only want of memory refuses. Workers are woken for what comes or goes on as for a pad's jobs
+    /// (`born_pad`).
     pub fn born_chain<R: Wait>(
         &self,
         rt: &R,
@@ -158,7 +158,7 @@ impl<W: Work> SharedBoard<W> {
             (λ pipe. (pipe ≡ pipelines h) × Enters LegalBoard (knows pass) h (Entry.Born (knows pass).number pipe (Shaped.Chain max lists)) (knows result.0))
             (λ e. (e ≡ BoardErr.Memory) × Leaves (knows pass) h (knows result.0))) }
     {
-        self.bells.note_chain();
+        self.bells.note_chain(lists);
         let caller = pass.number();
         let mut turn = self.turn(rt, pass);
         let answer = turn.get().born_chain(caller, max, lists);
@@ -347,8 +347,8 @@ impl<W: Work> SharedBoard<W> {
     }
 
     /// Records the outcome of a job that this caller took and hasn't finished: what the job's ask means. No memory is taken. It
-    /// wakes all who wait for an end (`watch_ends`), and, once a queue or a chain was made, a worker that sleeps, unless one stays
-    /// awake, since a queue's next request may be ready then.
+    /// wakes who waits for an end of the pipeline (`watch_ends`), and, once a queue or a chain was made, a worker that sleeps, unless
+    /// one stays awake, since a queue's next request may be ready then.
     pub fn finish<R: Wait>(
         &self,
         rt: &R,
@@ -362,10 +362,11 @@ impl<W: Work> SharedBoard<W> {
         ensures turn { AtTurn caller_of LegalBoard (knows pass) (λ h. Enters LegalBoard (knows pass) h (finish_entry h (knows pass).number slip.pipe slip.number) (knows result)) }
     {
         let caller = pass.number();
+        let pipe = slip.pipe();
         let mut turn = self.turn(rt, pass);
         turn.get().finish(caller, slip, out);
         let pass = turn.give(true);
-        self.bells.ring_end();
+        self.bells.ring_end(pipe);
         self.bells.jobs().ring_next();
         pass
     }
@@ -392,6 +393,7 @@ impl<W: Work> SharedBoard<W> {
             × MayFinish W.meaning (entries_of t.slip.pipe (knows result.0).seen) m.number t.slip.number (W.meaning (W.asked t.job))) }
     {
         let caller = pass.number();
+        let pipe = slip.pipe();
         let seen = self.bells.jobs().seen();
         let mut turn = self.turn(rt, pass);
         turn.get().finish(caller, slip, out);
@@ -399,7 +401,7 @@ impl<W: Work> SharedBoard<W> {
         let next = turn.get().take(caller);
         let added = next.is_some();
         let pass = turn.give(added);
-        self.bells.ring_end();
+        self.bells.ring_end(pipe);
         if added {
             self.bells.jobs().notice_taken(seen);
             self.bells.jobs().ring_next();
@@ -578,9 +580,10 @@ impl<W: Work> SharedBoard<W> {
         self.bells.jobs().watch_jobs(tired)
     }
 
-    /// Announces a wait for a job to be finished, a request to be passed on, or the end of the board.
-    pub fn watch_ends(&self) -> Watch<'_> {
-        self.bells.watch_ends()
+    /// Announces a wait for a job of the pipeline to be finished, a request to be passed on, or the end of the board. It may be over
+    /// where a job of another pipeline is finished, whose number differs by a multiple of 16.
+    pub fn watch_ends(&self, pipe: u64) -> Watch<'_> {
+        self.bells.watch_ends(pipe)
     }
 
     /// Counts as a job that came, since something else than a job may be there for a worker: wakes one that sleeps, unless enough

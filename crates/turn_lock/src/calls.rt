@@ -14,12 +14,14 @@ use crate::plays::{Appends, Compares, Draws, Ends, Finds, Gives, Number, Serves}
 use crate::told::Told;
 use crate::view::View;
 use atomic_table::{Refused, Seat, Table};
-use crossbeam_utils::Backoff;
+use crossbeam_utils::sync::EventCount;
+use crossbeam_utils::{Backoff, CachePadded};
 use std::alloc::{AllocError, Global};
 use std::marker::Brand;
 use std::sync::Wait;
 
-/// How often a caller that finds the lock taken looks again before it draws a ticket.
+/// How often a caller that finds the lock taken looks again before it draws a ticket, and how often again before it sleeps: some
+/// hundred microseconds each.
 const PATIENCE: u32 = 1000;
 
 impl<T: Told> TurnLock<T> {
@@ -33,7 +35,10 @@ impl<T: Told> TurnLock<T> {
         let mut slots = Vec::with_capacity(alloc, 1)?;
         slots.push(Some(boxed))?;
         match Table::new(alloc, &[0, 0], slots, &()) {
-            Ok((table, seat)) => Ok((TurnLock { table }, seated(0, 1, seat))),
+            Ok((table, seat)) => {
+                let ends = CachePadded::new(EventCount::new());
+                Ok((TurnLock { table, ends }, seated(0, 1, seat)))
+            }
             Err(Refused { slots: _ }) => Err(AllocError),
         }
     }
@@ -130,8 +135,16 @@ impl<T: Told> TurnLock<T> {
         }
     }
 
-    // Draws a ticket, waits until it is served, and takes the value out. A waiter spins for a short while, and then leaves
-    // the processor to others between two looks.
+    // Sleeps until a turn ends, unless the ticket is served. Whoever ends one changes the word before it looks for sleepers.
+    fn sleep<R: Wait>(&self, rt: &R, ticket: u64) {
+        let key = self.ends.prepare_wait();
+        if self.table.shared.peek(1) != ticket {
+            key.wait(rt);
+        }
+    }
+
+    // Draws a ticket, waits until it is served, and takes the value out. A waiter spins for a short while, then leaves the
+    // processor to others between two looks, and at last sleeps.
     fn wait<R: Wait>(
         &self,
         rt: &R,
@@ -146,12 +159,18 @@ impl<T: Told> TurnLock<T> {
         let shared = &self.table.shared;
         let ticket = shared.fetch_add::<Draws>(&mut seat, 0, 1);
         let backoff = Backoff::new();
+        let mut looks = 0;
         for _ in rt.forever() {
             if shared.load::<Finds<T>>(&mut seat, 1) == ticket {
                 let value = shared.exchange(&mut seat, 0, None).unwrap();
                 return (value, seat);
             }
-            backoff.snooze();
+            if looks < PATIENCE {
+                looks += 1;
+                backoff.snooze();
+            } else {
+                self.sleep(rt, ticket);
+            }
         }
         unreachable!()
     }
@@ -220,6 +239,7 @@ impl<'a, T: Told> Turn<'a, T> {
             shared.load::<Appends<T>>(&mut seat, 1);
         }
         shared.fetch_add::<Serves>(&mut seat, 1, 1);
+        lock.ends.notify_all();
         seated(number, next, seat)
     }
 }

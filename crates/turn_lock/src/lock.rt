@@ -8,6 +8,8 @@ use crate::plays::Turns;
 use crate::told::Told;
 use crate::view::View;
 use atomic_table::{Badge, Seat, Table};
+use crossbeam_utils::CachePadded;
+use crossbeam_utils::sync::EventCount;
 use std::alloc::Global;
 
 /// A lock round a value that stands for a history.
@@ -15,6 +17,8 @@ use std::alloc::Global;
 pub struct TurnLock<T: Told> {
     /// The value stands in a piece of memory of its own, so that a turn moves no more than its address.
     pub(crate) table: Table<Option<Box<T>>, View<T::Entry>, (), Turns<T>, Global>,
+    /// Rings where a turn ends, for those who wait for longer than a while.
+    pub(crate) ends: CachePadded<EventCount>,
     ghost shape: { (table.shared.table_id.words ≡ 2) × (table.shared.table_id.slots ≡ 1) },
 }
 
