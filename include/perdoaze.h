@@ -77,6 +77,30 @@ struct perdoaze_info {
 	uint32_t max_key_size;              /**< in bytes: UINT32_MAX where there is no limit */
 };
 
+/** A request of perdoaze_encrypt_many: what perdoaze_encrypt_in_place is passed, and what it answers. */
+struct perdoaze_request {
+	const void *iv;
+	size_t iv_len;
+	const void *aad;
+	size_t aad_len;
+	void *buffer; /**< its first `n` bytes are the text */
+	size_t buffer_len;
+	size_t n;
+	size_t written; /**< is set: the number of bytes of the ciphertext and the tag */
+	int status;     /**< is set: 0, or why the request failed */
+};
+
+/* A request as the library has it. Its buffer stands beside it. */
+struct perdoaze_encryption_ {
+	const uint8_t *iv;
+	size_t iv_len;
+	const uint8_t *aad;
+	size_t aad_len;
+	size_t len;
+	size_t written;
+	int32_t status;
+};
+
 /* ---- what the library exports. No pointer is NULL here, and no number of bytes is 2^63 or more. */
 
 int32_t perdoaze_raw_init(struct perdoaze *tfm, const uint8_t *name, size_t name_len);
@@ -100,6 +124,8 @@ int32_t perdoaze_raw_encryptv_in_place(struct perdoaze *tfm, const uint8_t *iv, 
 				       struct iovec *text, size_t pieces, size_t n, size_t *written);
 int32_t perdoaze_raw_decryptv_in_place(struct perdoaze *tfm, const uint8_t *iv, size_t iv_len, const uint8_t *aad, size_t aad_len,
 				       struct iovec *text, size_t pieces, size_t n, size_t *written);
+void perdoaze_raw_encrypt_many(struct perdoaze *tfm, struct perdoaze_encryption_ *asked, size_t count, struct iovec *buffers,
+			       size_t pieces);
 int32_t perdoaze_raw_digestv(struct perdoaze *tfm, const struct iovec *text, size_t pieces, uint8_t *out, size_t out_len,
 			     size_t *written);
 int32_t perdoaze_raw_dup(struct perdoaze *from, struct perdoaze *into);
@@ -359,6 +385,81 @@ static inline int perdoaze_decryptv_in_place(struct perdoaze *tfm, const void *i
 		return -PERDOAZE_EINVAL_;
 	return perdoaze_raw_decryptv_in_place(tfm, perdoaze_bytes_(iv, &none), iv_len, perdoaze_bytes_(aad, &none), aad_len, kept, count, n,
 					      written ? written : &unread);
+}
+
+/* How many requests go to the library at once. */
+#define PERDOAZE_GROUP_ 8
+
+/* Whether request i has bytes that the library takes, and writes over no memory of it and of those before it. */
+static inline bool perdoaze_stands_apart_(const struct perdoaze_request *group, size_t i)
+{
+	const struct perdoaze_request *r = &group[i];
+	if (perdoaze_wrong_(r->iv, r->iv_len) || perdoaze_wrong_(r->aad, r->aad_len) || perdoaze_wrong_(r->buffer, r->buffer_len)
+	    || perdoaze_overlap_(r->iv, r->iv_len, r->buffer, r->buffer_len)
+	    || perdoaze_overlap_(r->aad, r->aad_len, r->buffer, r->buffer_len))
+		return false;
+	for (const struct perdoaze_request *q = group; q < r; q++)
+		if (perdoaze_overlap_(q->buffer, q->buffer_len, r->buffer, r->buffer_len)
+		    || perdoaze_overlap_(q->buffer, q->buffer_len, r->iv, r->iv_len)
+		    || perdoaze_overlap_(q->buffer, q->buffer_len, r->aad, r->aad_len)
+		    || perdoaze_overlap_(q->iv, q->iv_len, r->buffer, r->buffer_len)
+		    || perdoaze_overlap_(q->aad, q->aad_len, r->buffer, r->buffer_len))
+			return false;
+	return true;
+}
+
+/* At most PERDOAZE_GROUP_ requests that stand apart. */
+static inline void perdoaze_encrypt_group_(struct perdoaze *tfm, struct perdoaze_request *group, size_t count)
+{
+	struct perdoaze_encryption_ asked[PERDOAZE_GROUP_];
+	struct iovec buffers[PERDOAZE_GROUP_];
+	const uint8_t none = 0;
+	uint8_t no_buffer = 0;
+	for (size_t i = 0; i < count; i++) {
+		asked[i].iv = perdoaze_bytes_(group[i].iv, &none);
+		asked[i].iv_len = group[i].iv_len;
+		asked[i].aad = perdoaze_bytes_(group[i].aad, &none);
+		asked[i].aad_len = group[i].aad_len;
+		asked[i].len = group[i].n;
+		asked[i].written = 0;
+		asked[i].status = 0;
+		buffers[i].iov_base = group[i].buffer ? group[i].buffer : &no_buffer;
+		buffers[i].iov_len = group[i].buffer_len;
+	}
+	perdoaze_raw_encrypt_many(tfm, asked, count, buffers, count);
+	for (size_t i = 0; i < count; i++) {
+		group[i].written = asked[i].written;
+		group[i].status = asked[i].status;
+	}
+}
+
+/** Calls perdoaze_encrypt_in_place for each request in turn, and sets its `written` and `status`. The first status that isn't 0, or 0
+ *  where there is none. -EINVAL: `requests` is NULL, and `count` isn't 0. Under CBC, and authenc over it, eight requests at a time are
+ *  encrypted side by side: that takes a third of the time. They go one after another where one of the eight isn't taken, or where one's
+ *  buffer overlaps what another one has. */
+static inline int perdoaze_encrypt_many(struct perdoaze *tfm, struct perdoaze_request *requests, size_t count)
+{
+	int first = 0;
+	if (!requests && count)
+		return -PERDOAZE_EINVAL_;
+	for (size_t at = 0, n; at < count; at += n) {
+		struct perdoaze_request *group = requests + at;
+		bool apart = tfm != NULL;
+		n = count - at < PERDOAZE_GROUP_ ? count - at : PERDOAZE_GROUP_;
+		for (size_t i = 0; i < n && apart; i++)
+			apart = perdoaze_stands_apart_(group, i);
+		if (apart)
+			perdoaze_encrypt_group_(tfm, group, n);
+		for (size_t i = 0; i < n; i++) {
+			struct perdoaze_request *r = &group[i];
+			if (!apart)
+				r->status = perdoaze_encrypt_in_place(tfm, r->iv, r->iv_len, r->aad, r->aad_len, r->buffer, r->buffer_len,
+								      r->n, &r->written);
+			if (!first)
+				first = r->status;
+		}
+	}
+	return first;
 }
 
 /** As perdoaze_digest, of a text in pieces, PERDOAZE_MAX_PIECES at most. -ENOMEM: malloc gave nothing for a copy of the text, which this

@@ -91,7 +91,7 @@ static bool answers(struct perdoaze *tfm, const uint8_t *want)
 int main(void)
 {
 	struct perdoaze t = PERDOAZE_NONE, u = PERDOAZE_NONE;
-	uint8_t want[64];
+	uint8_t want[64], out[64] = { 0 };
 	long inits, keys, dups, requests, pieces, macs;
 
 	if (perdoaze_init(&t, DRIVER))
@@ -104,6 +104,8 @@ int main(void)
 	used = 0;
 	if (perdoaze_encrypt(&t, iv, 16, text, 20, text, 32, want, 64, NULL))
 		return fail("encrypt", -1);
+	if (perdoaze_encrypt_many(&t, &(struct perdoaze_request){ iv, 16, text, 20, out, 64, 32, 0, 0 }, 1))
+		return fail("encrypt_many", -1);
 	requests = used;
 	used = 0;
 	if (perdoaze_dup(&t, &u))

@@ -1,4 +1,5 @@
-/* The C library beside OpenSSL's, in one run: each request with what a caller does for it, under a key that is set.
+/* The C library beside OpenSSL's, in one run: each request with what a caller does for it, under a key that is set. "Eight at once" are
+ * eight requests of perdoaze_encrypt_many in their places, where OpenSSL answers one after another.
  *
  * It prints a line for each algorithm and length: its name, the bytes, this library's microseconds and OpenSSL's, and whether the bytes
  * were the same. OpenSSL uses the processor's instructions for AES and GHASH unless OPENSSL_ia32cap forbids it. */
@@ -13,6 +14,8 @@
 #define GREATEST (1 << 20)
 #define ROUNDS 7
 #define ENOUGH 0.02
+#define EIGHT 8
+#define GREATEST_OF_EIGHT 16384
 
 static const uint8_t key[64] = { 1, 2, 3, 4, 5 }, aad[20] = { 8 };
 /* byte 0 is what CCM wants there for a nonce of 13 bytes */
@@ -26,8 +29,11 @@ struct algorithm {
 	const char *name, *ours;
 	const EVP_CIPHER *(*theirs)(void);
 	size_t key_size, iv_size, aad_size, tag_size;
-	bool opens;
+	bool opens, eight;
 };
+
+static uint8_t eight[EIGHT][GREATEST_OF_EIGHT + 64];
+static struct perdoaze_request requests[EIGHT];
 
 static double now(void)
 {
@@ -41,6 +47,11 @@ static int ask_ours(const struct algorithm *a, size_t n)
 {
 	size_t written;
 
+	if (a->eight) {
+		for (int i = 0; i < EIGHT; i++)
+			requests[i] = (struct perdoaze_request){ iv, a->iv_size, aad, a->aad_size, eight[i], sizeof eight[i], n, 0, 0 };
+		return perdoaze_encrypt_many(&tfm, requests, EIGHT);
+	}
 	if (a->opens)
 		return perdoaze_decrypt(&tfm, iv, a->iv_size, aad, a->aad_size, sealed, n, ours, sizeof ours, &written);
 	return perdoaze_encrypt(&tfm, iv, a->iv_size, aad, a->aad_size, text, n, ours, sizeof ours, &written);
@@ -57,7 +68,7 @@ static int add_mac(size_t n)
 		       : 1;
 }
 
-static int ask_theirs(const struct algorithm *a, size_t n)
+static int ask_theirs_once(const struct algorithm *a, size_t n)
 {
 	int made = 0, more = 0, is_ccm = !strcmp(a->name, "CCM");
 
@@ -76,6 +87,27 @@ static int ask_theirs(const struct algorithm *a, size_t n)
 	if (a->tag_size == 32)
 		return add_mac(n);
 	return a->tag_size && !EVP_CIPHER_CTX_ctrl(context, EVP_CTRL_AEAD_GET_TAG, 16, theirs + n);
+}
+
+static int ask_theirs(const struct algorithm *a, size_t n)
+{
+	for (int i = 1; a->eight && i < EIGHT; i++)
+		if (ask_theirs_once(a, n))
+			return 1;
+	return ask_theirs_once(a, n);
+}
+
+/* Whether each of eight requests, of the text that theirs were of, came to the same bytes. */
+static bool eight_are_same(const struct algorithm *a, size_t n)
+{
+	for (int i = 0; i < EIGHT; i++)
+		memcpy(eight[i], text, n);
+	if (ask_ours(a, n))
+		return false;
+	for (int i = 0; i < EIGHT; i++)
+		if (requests[i].written != n + a->tag_size || memcmp(eight[i], theirs, n + a->tag_size))
+			return false;
+	return true;
 }
 
 /* The least microseconds of a request. */
@@ -127,15 +159,17 @@ static void begin(const struct algorithm *a)
 int main(void)
 {
 	static const struct algorithm all[] = {
-		{ "GCM", "gcm(aes)", EVP_aes_128_gcm, 16, 12, 20, 16, false },
-		{ "CTR", "ctr(aes)", EVP_aes_128_ctr, 16, 16, 0, 0, false },
-		{ "CBC sealing", "cbc(aes)", EVP_aes_128_cbc, 16, 16, 0, 0, false },
-		{ "CBC opening", "cbc(aes)", EVP_aes_128_cbc, 16, 16, 0, 0, true },
-		{ "XTS", "xts(aes)", EVP_aes_128_xts, 32, 16, 0, 0, false },
-		{ "CCM", "ccm(aes)", EVP_aes_128_ccm, 16, 16, 20, 16, false },
-		{ "authenc", "authenc(hmac(sha256),cbc(aes))", EVP_aes_128_cbc, 16, 16, 20, 32, false },
+		{ "GCM", "gcm(aes)", EVP_aes_128_gcm, 16, 12, 20, 16, false, false },
+		{ "CTR", "ctr(aes)", EVP_aes_128_ctr, 16, 16, 0, 0, false, false },
+		{ "CBC sealing", "cbc(aes)", EVP_aes_128_cbc, 16, 16, 0, 0, false, false },
+		{ "CBC opening", "cbc(aes)", EVP_aes_128_cbc, 16, 16, 0, 0, true, false },
+		{ "XTS", "xts(aes)", EVP_aes_128_xts, 32, 16, 0, 0, false, false },
+		{ "CCM", "ccm(aes)", EVP_aes_128_ccm, 16, 16, 20, 16, false, false },
+		{ "authenc", "authenc(hmac(sha256),cbc(aes))", EVP_aes_128_cbc, 16, 16, 20, 32, false, false },
+		{ "CBC sealing, eight at once", "cbc(aes)", EVP_aes_128_cbc, 16, 16, 0, 0, false, true },
+		{ "authenc, eight at once", "authenc(hmac(sha256),cbc(aes))", EVP_aes_128_cbc, 16, 16, 20, 32, false, true },
 	};
-	static const size_t lengths[] = { 16, 64, 256, 1400, 16384, GREATEST };
+	static const size_t lengths[] = { 16, 64, 256, 1400, 16384, 65536, GREATEST };
 	OSSL_PARAM digest[] = { OSSL_PARAM_construct_utf8_string(OSSL_MAC_PARAM_DIGEST, (char *)"SHA256", 0), OSSL_PARAM_construct_end() };
 
 	context = EVP_CIPHER_CTX_new();
@@ -150,11 +184,12 @@ int main(void)
 			/* CBC takes whole blocks, and CCM fewer than 65,536 bytes */
 			size_t n = !strncmp(a->name, "CBC", 3) || a->tag_size == 32 ? lengths[j] / 16 * 16 : lengths[j];
 
-			if (!strcmp(a->name, "CCM") && n > 65535)
+			if ((!strcmp(a->name, "CCM") && n > 65535) || (a->eight && n > GREATEST_OF_EIGHT))
 				continue;
 			begin(a);
 			double us = time_of(ask_ours, a, n), them = time_of(ask_theirs, a, n);
-			printf("%s\t%zu\t%.3f\t%.3f\t%s\n", a->name, n, us, them, memcmp(ours, theirs, n + a->tag_size) ? "DIFFER" : "same");
+			bool same = a->eight ? eight_are_same(a, n) : !memcmp(ours, theirs, n + a->tag_size);
+			printf("%s\t%zu\t%.3f\t%.3f\t%s\n", a->name, n, us, them, same ? "same" : "DIFFER");
 			fflush(stdout);
 		}
 	return 0;

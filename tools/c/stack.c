@@ -22,6 +22,7 @@ static __attribute__((noinline)) int calls(void)
 	struct perdoaze_info info;
 	uint8_t key[64] = { 8, 0, 1, 0, 0, 0, 0, 16 }, iv[16] = { 1 };
 	struct iovec pieces[2] = { { text, 1024 }, { text + 1024, 3072 } };
+	struct perdoaze_request many[8];
 	size_t n, aad;
 
 	memset(key + 8, 0xa5, 56);
@@ -36,6 +37,10 @@ static __attribute__((noinline)) int calls(void)
 				      : perdoaze_encrypt(&t, iv, info.iv_size, iv, aad, text, 4096, out, sizeof out, &n)
 						|| perdoaze_decrypt_in_place(&t, iv, info.iv_size, iv, aad, out, n, n, NULL)
 						|| perdoaze_encryptv(&t, iv, info.iv_size, iv, aad, pieces, 2, out, sizeof out, NULL))
+		return 1;
+	for (int i = 0; i < 8; i++)
+		many[i] = (struct perdoaze_request){ iv, info.iv_size, key, aad, out + 96 * i, 96, 64, 0, 0 };
+	if (info.kind != PERDOAZE_MAC && perdoaze_encrypt_many(&t, many, 8))
 		return 1;
 	perdoaze_free(&t);
 	perdoaze_free(&u);

@@ -1,11 +1,12 @@
 //! Eight texts, sealed side by side.
 
-ghost use Rattle.std.specs.Prelude.{◌≡◌, ℕ, List, [], Some, suc, ◌+◌, ◌-◌, ◌*◌, ◌/◌, ◌%◌, ◌<◌, ◌≤◌, ◌++◌, min, length, take, drop, slice_index, slice_index_or};
-ghost use Rattle.std_defs.specs.Blocks.{xor_blocks, text_block, joined};
+ghost use Rattle.std.specs.Prelude.{◌≡◌, ◌≢◌, ℕ, List, [], Some, ◌+◌, ◌*◌, ◌/◌, ◌<◌, ◌≤◌, ◌++◌, min, length, take, drop, slice_index, slice_index_or};
+ghost use Rattle.std_defs.specs.Blocks.{xor_blocks, text_block};
 ghost use Rattle.std_defs.specs.Modes.{cbc_block, cbc_seal};
-ghost use Rattle.in_step.specs.Texts.{text_in, front_in, rest_in, block_in, AreWhole};
+ghost use Rattle.in_step.specs.Texts.{text_in, front_in, rest_in, block_in, AreWhole, Sealed};
 
-use aes_block::{BlockCipher, Skcipher, xor_block};
+use crate::text::{Text, bytes_at, write_at};
+use aes_block::{BlockCipher, xor_block};
 use cbc_mode::Cbc;
 
 /// Fewer chains than these are sealed sooner one by one: eight blocks side by side take as long as so many by themselves.
@@ -55,58 +56,61 @@ fn add_next(chain: &mut [u8; 16], text: &[u8], len: usize, i: usize)
     }
 }
 
-/// Writes the chain over block `i` of the text, where it has one in its first bytes.
-fn put_next(text: &mut Vec<u8>, chain: &[u8; 16], len: usize, i: usize)
-    requires { len ≤ length text.old.items }
-    ensures put { i < len / 16 → text.new.items ≡ take (16 * i) text.old.items ++ chain.now ++ drop (16 * i + 16) text.old.items }
-    ensures kept { len / 16 ≤ i → text.new.items ≡ text.old.items }
-    ensures same { length text.new.items ≡ length text.old.items }
+/// Writes the chain over block `i` of text `n`, where it has one in its first bytes.
+fn put_next<T: Text>(texts: &mut [T], n: usize, chain: &[u8; 16], len: usize, i: usize)
+    requires { len ≤ length (text_in T.bytes_of texts.old n) }
+    ensures put { i < len / 16 → text_in T.bytes_of texts.new n
+        ≡ take (16 * i) (text_in T.bytes_of texts.old n) ++ chain.now ++ drop (16 * i + 16) (text_in T.bytes_of texts.old n) }
+    ensures kept { len / 16 ≤ i → text_in T.bytes_of texts.new n ≡ text_in T.bytes_of texts.old n }
+    ensures others { (k : ℕ) → k ≢ n → text_in T.bytes_of texts.new k ≡ text_in T.bytes_of texts.old k }
+    ensures same { length (text_in T.bytes_of texts.new n) ≡ length (text_in T.bytes_of texts.old n) }
+    ensures count { length texts.new ≡ length texts.old }
 {
     if i < len / 16 {
-        text[16 * i..16 * i + 16].copy_from_slice(chain);
+        write_at(texts, n, 16 * i, chain);
     }
 }
 
 /// Adds block `i` of each text that has it to its chain.
-fn add_blocks(chains: &mut [[u8; 16]; 8], texts: &[Vec<u8>; 8], lengths: &[usize; 8], i: usize)
-    requires { AreWhole lengths.now texts.now }
+fn add_blocks<T: Text>(chains: &mut [[u8; 16]; 8], texts: &[T], lengths: &[usize; 8], i: usize)
+    requires { AreWhole T.bytes_of lengths.now texts.now }
     ensures { (n : ℕ) → n < 8 → i < slice_index lengths.now n / 16
-        → slice_index_or chains.new n [] ≡ xor_blocks (text_block (text_in texts.now n) i) (slice_index_or chains.old n []) }
+        → slice_index_or chains.new n [] ≡ xor_blocks (text_block (text_in T.bytes_of texts.now n) i) (slice_index_or chains.old n []) }
 {
     for n in 0..8usize {
-        add_next(&mut chains[n], texts[n].as_slice(), lengths[n], i);
+        add_next(&mut chains[n], bytes_at(texts, n), lengths[n], i);
     }
 }
 
 /// Writes each chain over block `i` of its text, where there is one.
-fn put_blocks(texts: &mut [Vec<u8>; 8], chains: &[[u8; 16]; 8], lengths: &[usize; 8], i: usize)
-    requires { AreWhole lengths.now texts.old }
-    ensures put { (n : ℕ) → n < 8 → i < slice_index lengths.now n / 16 → text_in texts.new n
-        ≡ take (16 * i) (text_in texts.old n) ++ slice_index_or chains.now n [] ++ drop (16 * i + 16) (text_in texts.old n) }
-    ensures kept { (n : ℕ) → n < 8 → slice_index lengths.now n / 16 ≤ i → text_in texts.new n ≡ text_in texts.old n }
-    ensures same { (n : ℕ) → length (text_in texts.new n) ≡ length (text_in texts.old n) }
+fn put_blocks<T: Text>(texts: &mut [T], chains: &[[u8; 16]; 8], lengths: &[usize; 8], i: usize)
+    requires { AreWhole T.bytes_of lengths.now texts.old }
+    ensures put { (n : ℕ) → n < 8 → i < slice_index lengths.now n / 16 → text_in T.bytes_of texts.new n
+        ≡ take (16 * i) (text_in T.bytes_of texts.old n) ++ slice_index_or chains.now n [] ++ drop (16 * i + 16) (text_in T.bytes_of texts.old n) }
+    ensures kept { (n : ℕ) → n < 8 → slice_index lengths.now n / 16 ≤ i → text_in T.bytes_of texts.new n ≡ text_in T.bytes_of texts.old n }
+    ensures same { (n : ℕ) → length (text_in T.bytes_of texts.new n) ≡ length (text_in T.bytes_of texts.old n) }
+    ensures count { length texts.new ≡ length texts.old }
 {
     for n in 0..8usize {
-        put_next(&mut texts[n], &chains[n], lengths[n], i);
+        put_next(texts, n, &chains[n], lengths[n], i);
     }
 }
 
 /// Seals the first `steps` blocks of each text, or all where there are fewer. The chains behind them, which mean nothing where all
 /// are sealed.
-fn seal_steps<C: BlockCipher>(
+fn seal_steps<C: BlockCipher, T: Text>(
     cipher: &C,
     ivs: &[[u8; 16]; 8],
-    texts: &mut [Vec<u8>; 8],
+    texts: &mut [T],
     lengths: &[usize; 8],
     steps: usize,
 ) -> [[u8; 16]; 8]
-    requires { AreWhole lengths.now texts.old }
-    ensures texts { (n : ℕ) → n < 8 → text_in texts.new n
-        ≡ joined (λ j. cbc_block (C.sealed cipher.now) (slice_index_or ivs.now n []) (text_in texts.old n) (suc j)) (min steps (slice_index lengths.now n / 16))
-        ++ drop (16 * min steps (slice_index lengths.now n / 16)) (text_in texts.old n) }
-    ensures lengths { (n : ℕ) → n < 8 → length (text_in texts.new n) ≡ length (text_in texts.old n) }
+    requires { AreWhole T.bytes_of lengths.now texts.old }
+    ensures texts { (n : ℕ) → n < 8 → Sealed (C.sealed cipher.now) (block_in ivs.now n) (text_in T.bytes_of texts.old n)
+        (text_in T.bytes_of texts.new n) (min steps (slice_index lengths.now n / 16)) }
     ensures chains { (n : ℕ) → n < 8 → steps ≤ slice_index lengths.now n / 16
-        → slice_index_or result n [] ≡ cbc_block (C.sealed cipher.now) (slice_index_or ivs.now n []) (text_in texts.old n) steps }
+        → block_in result n ≡ cbc_block (C.sealed cipher.now) (block_in ivs.now n) (text_in T.bytes_of texts.old n) steps }
+    ensures count { length texts.new ≡ length texts.old }
 {
     let mut chains = *ivs;
     for i in 0..steps {
@@ -117,63 +121,67 @@ fn seal_steps<C: BlockCipher>(
     chains
 }
 
-/// Seals what the first bytes of the text have behind its first `steps` blocks, where the chain is the last of these.
-fn seal_rest<C: BlockCipher + Drop>(
-    mode: &Cbc<C>,
+/// Seals what the first bytes of text `n` have behind its first `steps` blocks, where the chain is the last of these.
+fn seal_rest<C: BlockCipher, T: Text>(
+    cipher: &C,
     chain: &[u8; 16],
-    text: &mut Vec<u8>,
+    texts: &mut [T],
+    n: usize,
     len: usize,
     steps: usize,
 )
-    requires whole { len % 16 ≡ 0 }
-    requires within { len ≤ length text.old.items }
-    ensures more { steps < len / 16 → text.new.items ≡ take (16 * steps) text.old.items
-        ++ joined (λ j. cbc_block (C.sealed mode.now) chain.now (take (len - 16 * steps) (drop (16 * steps) text.old.items)) (suc j)) (len / 16 - steps)
-        ++ drop len text.old.items }
-    ensures kept { len / 16 ≤ steps → text.new.items ≡ text.old.items }
-    ensures same { length text.new.items ≡ length text.old.items }
+    requires { len ≤ length (text_in T.bytes_of texts.old n) }
+    ensures sealed { (iv orig : List ℕ) → Sealed (C.sealed cipher.now) iv orig (text_in T.bytes_of texts.old n) (min steps (len / 16))
+        → (steps ≤ len / 16 → chain.now ≡ cbc_block (C.sealed cipher.now) iv orig steps)
+        → Sealed (C.sealed cipher.now) iv orig (text_in T.bytes_of texts.new n) (len / 16) }
+    ensures others { (k : ℕ) → k ≢ n → text_in T.bytes_of texts.new k ≡ text_in T.bytes_of texts.old k }
+    ensures count { length texts.new ≡ length texts.old }
 {
-    if steps < len / 16 {
-        let _ = mode.seal(chain, &mut text[16 * steps..len]);
+    let mut chain = *chain;
+    for i in steps..len / 16 {
+        add_block(&mut chain, &block_at(bytes_at(texts, n), i));
+        cipher.seal_block(&mut chain);
+        write_at(texts, n, 16 * i, &chain);
     }
 }
 
 /// Seals what each text has behind its first `steps` blocks.
-fn seal_rests<C: BlockCipher + Drop>(
-    mode: &Cbc<C>,
+fn seal_rests<C: BlockCipher, T: Text>(
+    cipher: &C,
     chains: &[[u8; 16]; 8],
-    texts: &mut [Vec<u8>; 8],
+    texts: &mut [T],
     lengths: &[usize; 8],
     steps: usize,
 )
-    requires { AreWhole lengths.now texts.old }
-    ensures more { (n : ℕ) → n < 8 → steps < slice_index lengths.now n / 16 → text_in texts.new n
-        ≡ take (16 * steps) (text_in texts.old n)
-        ++ joined (λ j. cbc_block (C.sealed mode.now) (slice_index_or chains.now n []) (take (slice_index lengths.now n - 16 * steps) (drop (16 * steps) (text_in texts.old n))) (suc j)) (slice_index lengths.now n / 16 - steps)
-        ++ drop (slice_index lengths.now n) (text_in texts.old n) }
-    ensures kept { (n : ℕ) → n < 8 → slice_index lengths.now n / 16 ≤ steps → text_in texts.new n ≡ text_in texts.old n }
-    ensures same { (n : ℕ) → length (text_in texts.new n) ≡ length (text_in texts.old n) }
+    requires { AreWhole T.bytes_of lengths.now texts.old }
+    ensures sealed { (n : ℕ) (iv orig : List ℕ) → n < 8
+        → Sealed (C.sealed cipher.now) iv orig (text_in T.bytes_of texts.old n) (min steps (slice_index lengths.now n / 16))
+        → (steps ≤ slice_index lengths.now n / 16 → block_in chains.now n ≡ cbc_block (C.sealed cipher.now) iv orig steps)
+        → Sealed (C.sealed cipher.now) iv orig (text_in T.bytes_of texts.new n) (slice_index lengths.now n / 16) }
+    ensures count { length texts.new ≡ length texts.old }
 {
     for n in 0..8usize {
-        seal_rest(mode, &chains[n], &mut texts[n], lengths[n], steps);
+        seal_rest(cipher, &chains[n], texts, n, lengths[n], steps);
     }
 }
 
-/// Seals the front of each of eight texts in place, under an IV of its own: the first `lengths[n]` bytes of text `n`, which are whole
-/// blocks. What stands behind them stays as it is. Chains that go on alone are sealed one by one. No memory is taken.
-pub fn seal_cbc_in_step<C: BlockCipher + Drop>(
+/// Seals the front of each of at most eight texts in place, under an IV of its own: the first `lengths[n]` bytes of text `n`, which are
+/// whole blocks. What stands behind them stays as it is. Chains that go on alone are sealed one by one. No memory is taken.
+pub fn seal_cbc_in_step<C: BlockCipher + Drop, T: Text>(
     mode: &Cbc<C>,
     ivs: &[[u8; 16]; 8],
-    texts: &mut [Vec<u8>; 8],
+    texts: &mut [T],
     lengths: &[usize; 8],
 )
-    requires { AreWhole lengths.now texts.old }
-    ensures sealed { (n : ℕ) → n < 8 → cbc_seal (C.sealed mode.now) (block_in ivs.now n) (front_in lengths.now texts.old n)
-        ≡ Some (front_in lengths.now texts.new n) }
-    ensures rest { (n : ℕ) → n < 8 → rest_in lengths.now texts.new n ≡ rest_in lengths.now texts.old n }
-    ensures length { (n : ℕ) → n < 8 → length (text_in texts.new n) ≡ length (text_in texts.old n) }
+    requires { AreWhole T.bytes_of lengths.now texts.old }
+    ensures sealed { (n : ℕ) → n < 8 → cbc_seal (C.sealed mode.now) (block_in ivs.now n) (front_in T.bytes_of lengths.now texts.old n)
+        ≡ Some (front_in T.bytes_of lengths.now texts.new n) }
+    ensures rest { (n : ℕ) → n < 8 → rest_in T.bytes_of lengths.now texts.new n ≡ rest_in T.bytes_of lengths.now texts.old n }
+    ensures length { (n : ℕ) → n < 8 → length (text_in T.bytes_of texts.new n) ≡ length (text_in T.bytes_of texts.old n) }
+    ensures count { length texts.new ≡ length texts.old }
 {
     let steps = steps_of(lengths);
-    let chains = seal_steps(mode.cipher(), ivs, texts, lengths, steps);
-    seal_rests(mode, &chains, texts, lengths, steps);
+    let cipher = mode.cipher();
+    let chains = seal_steps(cipher, ivs, texts, lengths, steps);
+    seal_rests(cipher, &chains, texts, lengths, steps);
 }

@@ -7,9 +7,11 @@ mod macs;
 mod packets;
 mod padding;
 mod sealing;
+mod text;
 
 pub use cbc::seal_cbc_in_step;
 pub use digests::digests_in_step;
 pub use macs::macs_in_step;
 pub use packets::fit_in_step;
 pub use sealing::seal_authenc_in_step;
+pub use text::{Text, bytes_at, write_at};

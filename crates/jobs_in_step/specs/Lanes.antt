@@ -1,8 +1,9 @@
 -- What stands in a lane.
 use Rattle.std.specs.Prelude.{◌≡◌, ⊤, ℕ, Option, Some, None, List, [], length}
 use Rattle.std.specs.Arc.{arc_value}
-use Rattle.std.specs.Global.{Global}
+use Rattle.std.specs.Global.{Global, Vec}
 use Rattle.std.specs.declared.sync.Arc.{Arc}
+use Rattle.in_step.specs.Texts as in_step
 use Rattle.std_defs.specs.Value.{Value}
 use Rattle.std_defs.specs.Value.Value.{bytes}
 use Rattle.transforms.specs.AskValue.{ask_room, ask_value, IsFit}
@@ -10,6 +11,13 @@ use Rattle.transforms.specs.declared.ask.Ask.{Ask}
 use Rattle.transforms.specs.declared.job.Job.{Job}
 use Rattle.transforms.specs.declared.request.Request.{Request}
 use Rattle.jobs_in_step.specs.Steps.{Fits}
+
+-- the bytes of a lane's text
+abbrev pub items_of : Vec ℕ → List ℕ
+items_of text = text.items
+
+abbrev pub text_in : List (Vec ℕ) → ℕ → List ℕ
+text_in texts lane = in_step.text_in items_of texts lane
 
 -- the ask of its job, where there is one
 abbrev pub Asked : Type 0

@@ -1,6 +1,9 @@
 -- What of a key seals eight texts in step, and the sealings that it takes.
-use Rattle.std.specs.Prelude.{◌≡◌, ◌≤◌, ◌%◌, ℕ, ◌++◌, List, length, replicate}
+use Rattle.std.specs.Prelude.{◌≡◌, ◌≤◌, ◌<◌, ◌+◌, ◌^◌, ◌%◌, ◌==◌, nat_le, Bool, true, ℕ, ◌++◌, List, length, replicate, slice_index}
+use Rattle.std.specs.Borrow.{Bor}
 use Rattle.std.specs.Option.{option_map}
+use Rattle.in_step.specs.Pieces.{piece}
+use Rattle.in_step.specs.Texts as lanes
 use Rattle.std_defs.specs.Aes.{seal}
 use Rattle.std_defs.specs.Authenc.{authenc_seal}
 use Rattle.std_defs.specs.Modes.{cbc_seal}
@@ -11,8 +14,8 @@ use Rattle.transforms.specs.declared.any_aes.AnyAes.{AnyAes}
 use Rattle.transforms.specs.declared.ask.Ask.{Ask}
 use Rattle.transforms.specs.declared.request.Dir.TheVariants.{Enc}
 use Rattle.transforms.specs.declared.request.Request.{Request}
-use Rattle.jobs_in_step.specs.declared.step_key.StepKey.{StepKey}
-use Rattle.jobs_in_step.specs.declared.step_key.StepKey.TheVariants.{Cbc, Authenc}
+use Rattle.jobs_in_step.specs.declared.keys.StepKey.{StepKey}
+use Rattle.jobs_in_step.specs.declared.keys.StepKey.TheVariants.{Cbc, Authenc}
 
 -- the value of a request to seal under CBC, or under authenc over it with a tag of n bytes
 abbrev pub cbc_gives : AnyAes → ℕ → Request → Value
@@ -43,3 +46,20 @@ pub record Fits (a : Ask) : Type 0 where
   pub iv : length a.request.iv ≡ 16
   pub blocks : length a.request.text.text % 16 ≡ 0
   pub tag : a.authsize ≤ 32
+
+-- the greatest tag
+abbrev pub tag_room : StepKey → ℕ
+tag_room (Cbc mode) = 0
+tag_room (Authenc mac mode) = 32
+
+-- the number of associated bytes is taken: none where there is no tag
+abbrev pub takes_associated : StepKey → ℕ → Bool
+takes_associated (Cbc mode) n = n == 0
+takes_associated (Authenc mac mode) n = true
+
+-- each lane's length is one of whole blocks within its text, and of fewer than 2^63 bytes with the associated bytes; a tag fits behind it
+abbrev pub AreFronts : {A : Type 0} → (A → List ℕ) → List ℕ → List (Bor (List ℕ)) → ℕ → List A → Type 0
+AreFronts {A} bytes_of lengths aads tag_size texts =
+    (n : ℕ) → n < 8
+    → (slice_index lengths n % 16 ≡ 0) × (slice_index lengths n ≤ length (lanes.text_in bytes_of texts n)) × (length (piece aads n) + slice_index lengths n < 2 ^ 63)
+    × (n < length texts → slice_index lengths n + tag_size ≤ length (lanes.text_in bytes_of texts n))

@@ -7,10 +7,9 @@ ghost use Rattle.std.specs.Option.{option_map};
 ghost use Rattle.std.specs.declared.sync.Arc.{Arc as ArcValue};
 ghost use Rattle.std_defs.specs.Value.Value.{bytes};
 ghost use Rattle.in_step.specs.Pieces.{piece};
-ghost use Rattle.in_step.specs.Texts.{text_in};
 ghost use Rattle.transforms.specs.Finish.{finished_value};
 ghost use Rattle.transforms.specs.declared.ask.Ask.{Ask as AskValue};
-ghost use Rattle.jobs_in_step.specs.Lanes.{text_length, aad_in};
+ghost use Rattle.jobs_in_step.specs.Lanes.{text_in, text_length, aad_in};
 
 use kc_base::Bytes;
 use std::alloc::Global;

@@ -1,11 +1,14 @@
-//! Jobs of one key, run at once where they are sealings under CBC or under authenc over it.
+//! Jobs of one key, or texts in their places, sealed at once under CBC or under authenc over it.
 #![tactic(auto)]
 
 mod fitting;
+mod fronts;
+mod keys;
 mod lanes;
 mod parts;
 mod sealing;
-mod step_key;
 mod together;
 
+pub use fronts::seal_fronts;
+pub use keys::{StepKey, step_key};
 pub use together::run_together;

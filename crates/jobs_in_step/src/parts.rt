@@ -1,8 +1,7 @@
 //! Jobs taken apart, a lane each.
 
 ghost use Rattle.std.specs.Prelude.{◌≡◌, ◌<◌, ℕ, None, slice_index_or};
-ghost use Rattle.in_step.specs.Texts.{text_in};
-ghost use Rattle.jobs_in_step.specs.Lanes.{IsPart};
+ghost use Rattle.jobs_in_step.specs.Lanes.{text_in, IsPart};
 
 use std::alloc::Global;
 use std::sync::Arc;

@@ -1,12 +1,11 @@
 //! Eight texts sealed where they lie.
 
 ghost use Rattle.std.specs.Prelude.{◌≡◌, ◌+◌, ◌-◌, ◌<◌, ◌≤◌, ◌++◌, ℕ, List, [], None, length, take, slice_index, slice_index_or};
-ghost use Rattle.in_step.specs.Texts.{text_in};
-ghost use Rattle.jobs_in_step.specs.Lanes.{IsReady, IsAnswer};
+ghost use Rattle.jobs_in_step.specs.Lanes.{text_in, IsReady, IsAnswer};
 ghost use Rattle.jobs_in_step.specs.Steps.{plain_room, tagged_room, cbc_gives, authenc_gives, room_by, sealed_by};
 
+use crate::keys::StepKey;
 use crate::lanes::{aads_of, ivs_of, lengths_of};
-use crate::step_key::StepKey;
 use cbc_mode::Cbc;
 use hmac_sha::Mac;
 use in_step::{seal_authenc_in_step, seal_cbc_in_step};

@@ -13,10 +13,10 @@ ghost use Rattle.jobs_in_step.specs.Lanes.{job_value};
 ghost use Rattle.jobs_in_step.specs.Steps.{sealed_by, room_by, Fits};
 
 use crate::fitting::all_fit;
+use crate::keys::{StepKey, step_key};
 use crate::lanes::answers_of;
 use crate::parts::parts_of;
 use crate::sealing::seal_by;
-use crate::step_key::{StepKey, step_key};
 use std::alloc::Global;
 use transforms::{Finished, Job, Keyed};
 

@@ -1,13 +1,14 @@
 //! What C calls. No pointer is NULL here, not even beside the length 0: the header's inline functions see to that.
 
-ghost use Rattle.std.specs.Prelude.{◌≡◌, map, None};
+ghost use Rattle.std.specs.Prelude.{◌≡◌, ◌<◌, ℕ, length, map, None};
 ghost use Rattle.perdoaze_calls.specs.Infos.{ListsTo, TellsTo};
+ghost use Rattle.perdoaze_calls.specs.Many.{CameTo, question_of};
 ghost use Rattle.perdoaze_calls.specs.Names.{BeginsTo};
 ghost use Rattle.perdoaze_calls.specs.Pieces.{text_in, text_over, size_of};
 ghost use Rattle.perdoaze_calls.specs.Requests.{Encrypts, Decrypts, EncryptsWithin, DecryptsWithin, Digests, OnPlaceTo, OrNoMemory};
 ghost use Rattle.perdoaze_calls.specs.Settings.{KeySetTo, SizeSetTo, DuplicatesTo};
 
-use perdoaze_calls::{Info, Piece, PieceMut, Slot, calls, init, list, tell};
+use perdoaze_calls::{Encryption, Info, Piece, PieceMut, Slot, calls, init, list, tell};
 use std::alloc::Global;
 
 /// Makes the transform of a name in the place, in place of the one that was there.
@@ -172,6 +173,23 @@ pub extern "C" fn perdoaze_raw_decryptv_in_place(
     ensures sizes { map size_of text.new ≡ map size_of text.old }
 {
     calls::decrypt_pieces_within(slot, alloc, iv, aad, text, n, written).code()
+}
+
+/// Encrypts each of several texts in the buffer beside it.
+#[unsafe(no_mangle)]
+pub extern "C" fn perdoaze_raw_encrypt_many(
+    slot: &mut Slot,
+    alloc: Global,
+    asked: &mut [Encryption<'_>],
+    buffers: &mut [PieceMut<'_>],
+)
+    ensures kept { slot.new.handle.value ≡ slot.old.handle.value }
+    ensures came { (i : ℕ) → i < length asked.old → i < length buffers.old
+        → CameTo slot.old.handle.value asked.old asked.new buffers.old buffers.new i }
+    ensures questions { map question_of asked.new ≡ map question_of asked.old }
+    ensures sizes { map size_of buffers.new ≡ map size_of buffers.old }
+{
+    calls::encrypt_many(slot, alloc, asked, buffers);
 }
 
 /// Makes the MAC of a text.

@@ -3,3 +3,4 @@ pub mod Filled
 pub mod Gathering
 pub mod KeySizes
 pub mod Listing
+pub mod Encryptions

@@ -1,5 +1,6 @@
 pub mod Infos
 pub mod Laws
+pub mod Many
 pub mod Names
 pub mod Pieces
 pub mod Requests

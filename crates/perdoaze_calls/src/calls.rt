@@ -1,10 +1,13 @@
 //! The calls of C, each on a place for a transform.
 
-ghost use Rattle.std.specs.Prelude.{◌≡◌, map, None};
+ghost use Rattle.std.specs.Prelude.{◌≡◌, ◌<◌, ℕ, length, map, None};
+ghost use Rattle.perdoaze_calls.specs.Many.{CameTo, question_of};
 ghost use Rattle.perdoaze_calls.specs.Pieces.{text_in, text_over, size_of};
 ghost use Rattle.perdoaze_calls.specs.Requests.{Encrypts, Decrypts, EncryptsWithin, DecryptsWithin, Digests, OnPlace, OrNoMemory};
 ghost use Rattle.perdoaze_calls.specs.Settings.{KeySet, SizeSet, Duplicates};
 
+use crate::encryption::Encryption;
+use crate::many::refuse_each;
 use crate::pieces::{Piece, PieceMut};
 use crate::slot::Slot;
 use crate::status::Status;
@@ -188,6 +191,26 @@ pub fn decrypt_pieces_within(
     let status = held.decrypt_pieces_within(alloc, iv, aad, pieces, n, written);
     slot.fill(held);
     status
+}
+
+/// Encrypts each of several texts in the buffer beside it.
+pub fn encrypt_many(
+    slot: &mut Slot,
+    alloc: Global,
+    asked: &mut [Encryption<'_>],
+    buffers: &mut [PieceMut<'_>],
+)
+    ensures kept { slot.new.handle.value ≡ slot.old.handle.value }
+    ensures came { (i : ℕ) → i < length asked.old → i < length buffers.old → CameTo slot.old.handle.value asked.old asked.new buffers.old buffers.new i }
+    ensures questions { map question_of asked.new ≡ map question_of asked.old }
+    ensures sizes { map size_of buffers.new ≡ map size_of buffers.old }
+{
+    let Some(held) = slot.take(alloc) else {
+        refuse_each(asked);
+        return;
+    };
+    held.encrypt_many(asked, buffers);
+    slot.fill(held);
 }
 
 /// Makes the MAC of a text.

@@ -3,10 +3,12 @@
 
 pub mod calls;
 mod duplicate;
+mod encryption;
 mod handle;
 mod info;
 pub mod laws;
 mod loose;
+mod many;
 mod naming;
 mod pieces;
 mod requests;
@@ -17,6 +19,7 @@ mod telling;
 mod transform;
 mod vectored;
 
+pub use encryption::Encryption;
 pub use info::Info;
 pub use naming::init;
 pub use pieces::{Piece, PieceMut};

@@ -4,6 +4,7 @@ ghost use Rattle.std.specs.Prelude.{◌≡◌, ◌≤◌, ◌<◌, ◌^◌, ◌+
 ghost use Rattle.perdoaze_calls.specs.Pieces.{text_in, text_over, size_of};
 
 use crate::requests::copy_front;
+use in_step::Text;
 use std::alloc::{AllocError, Global};
 
 /// A piece of a text, as POSIX's `struct iovec`.
@@ -16,6 +17,18 @@ pub struct Piece<'a> {
 #[repr(C)]
 pub struct PieceMut<'a> {
     pub bytes: &'a mut [u8],
+}
+
+impl Text for PieceMut<'_> {
+    ghost bytes_of = { λ p. p.bytes.now };
+
+    fn bytes(&self) -> &[u8] {
+        self.bytes
+    }
+
+    fn write(&mut self, at: usize, from: &[u8]) {
+        self.bytes[at..at + from.len()].copy_from_slice(from);
+    }
 }
 
 /// How many bytes the pieces have together, where they are fewer than 2^32.

@@ -8,6 +8,7 @@ use Rattle.std_defs.specs.Value.Value.{bytes}
 use Rattle.in_step.proofs.Chains.{text_at, text_others}
 use Rattle.transforms.specs.Finish.{finished_value}
 use Rattle.transforms.specs.declared.ask.Ask.{Ask}
+use Rattle.jobs_in_step.specs.Lanes.{items_of}
 use Rattle.jobs_in_step.proofs.lanes.answers_of.Goals as goal
 
 pub loop-n-preserved : goal.loop-n-preserved
@@ -18,7 +19,7 @@ loop-n-preserved c =
     let texts = c.loop-n.texts in
     let answers = c.loop-n.answers in
     let within : n < length texts = omega (arith, held.long) in
-    let was = text_at texts n _ within ∙ held.left n (omega arith) in
+    let was = text_at items_of texts n _ within ∙ held.left n (omega arith) in
     record {
       long = length-set texts n _ ∙ held.long;
       filled = length-set answers n _ ∙ held.filled;
@@ -30,5 +31,5 @@ loop-n-preserved c =
             ∙ ap (option_map (λ (a : Arc Ask Global). bytes (slice_index_or texts n _).items)) (get_or_default asks n _ None (omega arith))
             ∙ ap (λ (t : List ℕ). option_map (λ (a : Arc Ask Global). bytes t) (slice_index_or asks n None)) was)
       ];
-      left = λ k from. text_others texts n k _ (omega (arith, from)) ∙ held.left k (omega (arith, from));
+      left = λ k from. text_others items_of texts n k _ (omega (arith, from)) ∙ held.left k (omega (arith, from));
     }

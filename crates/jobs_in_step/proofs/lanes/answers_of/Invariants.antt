@@ -3,7 +3,7 @@ use Rattle.std.specs.Global.{Global}
 use Rattle.std.specs.Option.{option_map}
 use Rattle.std.specs.declared.sync.Arc.{Arc}
 use Rattle.std_defs.specs.Value.Value.{bytes}
-use Rattle.in_step.specs.Texts.{text_in}
+use Rattle.jobs_in_step.specs.Lanes.{text_in}
 use Rattle.transforms.specs.Finish.{finished_value}
 use Rattle.transforms.specs.declared.ask.Ask.{Ask}
 use Rattle.jobs_in_step.proofs.lanes.answers_of.Given as goal

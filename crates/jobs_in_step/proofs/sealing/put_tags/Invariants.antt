@@ -1,5 +1,5 @@
 use Rattle.std.proofs.Common.{◌≡◌, ◌+◌, ◌-◌, ◌<◌, ◌≤◌, ◌++◌, ℕ, [], length, take, slice_index, slice_index_or}
-use Rattle.in_step.specs.Texts.{text_in}
+use Rattle.jobs_in_step.specs.Lanes.{text_in}
 use Rattle.jobs_in_step.proofs.sealing.put_tags.Given as goal
 
 abbrev pub invariant-loop-n : goal.invariant-loop-n

@@ -1,5 +1,5 @@
 use Rattle.std.proofs.Common.{None, slice_index, slice_index_or, []}
-use Rattle.in_step.specs.Texts.{text_in}
+use Rattle.jobs_in_step.specs.Lanes.{text_in}
 use Rattle.jobs_in_step.proofs.Answering.{answered, whole}
 use Rattle.jobs_in_step.proofs.sealing.seal_plain.Goals as goal
 

@@ -1,6 +1,6 @@
 use Rattle.std.proofs.Common.{arith, None, slice_index, slice_index_or, []}
 use Rattle.in_step.specs.Pieces.{piece}
-use Rattle.in_step.specs.Texts.{text_in}
+use Rattle.jobs_in_step.specs.Lanes.{text_in}
 use Rattle.jobs_in_step.proofs.Answering.{answered_tagged, packet}
 use Rattle.jobs_in_step.proofs.sealing.seal_tagged.Goals as goal
 

@@ -1,5 +1,5 @@
 use Rattle.std.proofs.Common.{◌∙◌, None, slice_index_or}
-use Rattle.in_step.specs.Texts.{text_in}
+use Rattle.jobs_in_step.specs.Lanes.{text_in}
 use Rattle.jobs_in_step.specs.Steps.{room_by, sealed_by}
 use Rattle.jobs_in_step.proofs.Answering.{as_answer, ready}
 use Rattle.jobs_in_step.proofs.together.run_in_step.Goals as goal
