@@ -13,7 +13,7 @@ use Rattle.turn_lock.specs.Meeting.{IsOwn}
 use Rattle.turn_lock.specs.Turns.{Known}
 use Rattle.dialogues.specs.BoardCalls.{BoardCall}
 use Rattle.dialogues.specs.Dialogues.{Dialogue}
-use Rattle.dialogues.specs.Piping.{end}
+use Rattle.dialogues.specs.Piping.{let_all_go, drain_all, end}
 use Rattle.dialogues.specs.Turns.{Turn, IsTurn}
 use Rattle.dialogues.specs.Walk.{Walk, Live, Pipe}
 use Rattle.session_calls.specs.Pipelines.{Called, Owns}
@@ -107,3 +107,21 @@ pub record MovesAllLent (After : Known (BoardEntry Ask) → Option Pipe → Type
   pub leads : LeadsBy dialogue calls said
   pub now : All (λ (live : Live). After l live.pipe) lives
   pub says : answers' ≡ answers ++ said
+
+-- ---- all up to the shut
+
+-- Beside workers alone the caller knows these transforms' pipelines so, and no two share one.
+pub record AreToMove (Before : Known (BoardEntry Ask) → Option Pipe → Type 0) (lives : List Live) (k : Known (BoardEntry Ask)) : Type 0 where
+  pub legal : LegalBoard k.seen
+  pub gone : PeersGone k
+  pub pipes : All (λ (live : Live). Before k live.pipe) lives
+  pub apart : (p : ℕ) → owners p lives ≤ 1
+
+-- all was let go and drained, and the text of the answers was added
+pub record EndsLent (lives : List Live) (k l : Known (BoardEntry Ask)) (text text' : List ℕ) : Type 0 where
+  pub calls : List BoardCall
+  pub said : List Answer
+  pub goes : GoesBeside k l calls
+  pub leads : LeadsBy (λ rest. let_all_go lives (drain_all lives rest)) calls said
+  pub paid : All (λ (live : Live). HasPaid l live.pipe) lives
+  pub says : text' ≡ text ++ flat_map text_of said
