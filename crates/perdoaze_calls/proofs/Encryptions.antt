@@ -1,5 +1,5 @@
 -- Several encryptions, of which one comes to its answer.
-use Rattle.std.proofs.Common.{◌≡◌, ◌≢◌, ℕ, ℤ, pos, true, ◌<◌, ◌≤◌, ◌+◌, ◌%◌, ◌^◌, List, [], map, take, drop, length, get_or, set, slice_index_or, Some, refl, sym, ap, subst, ◌∙◌, arith, inl, inr}
+use Rattle.std.proofs.Common.{◌≡◌, ◌≢◌, ℕ, ℤ, true, ◌<◌, ◌≤◌, ◌+◌, ◌%◌, ◌^◌, List, [], map, take, drop, length, get_or, set, slice_index_or, Some, refl, sym, ap, subst, ◌∙◌, arith, inl, inr}
 use Rattle.std.proofs.lemmas.Bool.{cases_lt}
 use Rattle.std.proofs.Math.ListN.{get_or-map as get_or_of-map}
 use Rattle.std.proofs.lemmas.List.{ext_get_or, get_or_past, get_or-map, get_or-set_other, get_or-set_same, length-map, map-set}

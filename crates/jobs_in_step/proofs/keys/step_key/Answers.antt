@@ -2,7 +2,7 @@ use Rattle.std.proofs.Common.{◌≡◌, ◌∙◌, true, length, sym, ap}
 use Rattle.transforms.specs.Asked.{TakesInput}
 use Rattle.transforms.specs.Ciphers.{iv_size_of}
 use Rattle.transforms.specs.Keys.{kind_in, iv_size_in, takes_input_in}
-use Rattle.transforms.specs.Plans.{PlanKind, kind_of, iv_size, takes_input}
+use Rattle.transforms.specs.Plans.{kind_of, iv_size, takes_input}
 use Rattle.transforms.specs.Plans.PlanKind.{aead}
 use Rattle.transforms.specs.declared.inner.Inner.{Inner}
 use Rattle.transforms.specs.declared.inner.Inner.TheVariants.{Aead}

@@ -1,4 +1,4 @@
-use Rattle.std.proofs.Common.{◌≡◌, ◌∙◌, Option, Some, None, refl, ap, subst}
+use Rattle.std.proofs.Common.{◌≡◌, ◌∙◌, Option, Some, refl, ap, subst}
 use Rattle.perdoaze_calls.specs.Many.{CameTo}
 use Rattle.perdoaze_calls.specs.declared.status.Status.TheVariants.{Invalid}
 use Rattle.perdoaze_calls.specs.declared.transform.Transform.{Transform}

@@ -1,4 +1,4 @@
-use Rattle.std.proofs.Common.{◌≡◌, ◌<◌, ℕ, length}
+use Rattle.std.proofs.Common.{◌<◌, ℕ, length}
 use Rattle.perdoaze_calls.specs.Many.{FitsInStep, iv_in, aad_in, len_in, bytes_in}
 use Rattle.perdoaze_calls.proofs.many.all_fit.Given as goal
 

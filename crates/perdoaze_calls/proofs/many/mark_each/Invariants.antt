@@ -1,4 +1,4 @@
-use Rattle.std.proofs.Common.{◌≡◌, ◌<◌, ◌≤◌, ◌+◌, ℕ, length, map}
+use Rattle.std.proofs.Common.{◌≡◌, ◌<◌, ◌+◌, ℕ, length, map}
 use Rattle.perdoaze_calls.specs.Many.{question_of, len_in, status_in, written_in}
 use Rattle.perdoaze_calls.specs.Status.{code_of}
 use Rattle.perdoaze_calls.specs.declared.status.Status.TheVariants.{Done}

@@ -1,5 +1,5 @@
-use Rattle.std.proofs.Common.{◌≡◌, ◌<◌, ◌≤◌, ◌+◌, ℕ, length, map}
-use Rattle.perdoaze_calls.specs.Many.{question_of, len_in, status_in, written_in}
+use Rattle.std.proofs.Common.{◌≡◌, ◌<◌, ℕ, length, map}
+use Rattle.perdoaze_calls.specs.Many.{question_of, status_in, written_in}
 use Rattle.perdoaze_calls.specs.Status.{code_of}
 use Rattle.perdoaze_calls.specs.declared.status.Status.TheVariants.{Invalid}
 use Rattle.perdoaze_calls.proofs.many.refuse_each.Given as goal

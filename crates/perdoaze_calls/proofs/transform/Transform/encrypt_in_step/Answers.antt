@@ -1,4 +1,4 @@
-use Rattle.std.proofs.Common.{◌<◌, ℕ, [], arith, slice_index, slice_index_or}
+use Rattle.std.proofs.Common.{◌<◌, [], arith, slice_index, slice_index_or}
 use Rattle.in_step.specs.Pieces.{piece}
 use Rattle.perdoaze_calls.proofs.Answering.{IsKey}
 use Rattle.perdoaze_calls.proofs.Encryptions.{came_in_step, front_ready, sizes_same}
