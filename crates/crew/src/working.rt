@@ -183,7 +183,7 @@ fn work_while<W: Work, G: Gate, R: Wait>(
 }
 
 /// Works until each request of the pipeline is finished, and hands out what no call handed out before. A caller that finds
-/// nothing to do sleeps until another has finished a job or passed a request on. The caller made the pipeline, which isn't
+/// nothing to do sleeps until another has finished a job of the pipeline or passed a request on. The caller made the pipeline, which isn't
 /// closed. On a queue or chain that is held while a request waits it never returns, since only its maker may let it go. Only
 /// want of memory refuses, and hands out nothing.
 pub fn drain<W: Work, G: Gate, R: Wait>(
@@ -204,7 +204,7 @@ pub fn drain<W: Work, G: Gate, R: Wait>(
     let mut mine = pass;
     for _ in rt.forever() {
         let worked = work_while(rt, board, mine, gate);
-        let watch = board.watch_ends();
+        let watch = board.watch_ends(pipe);
         let (drained, answer) = board.try_drain(rt, worked, pipe, into);
         match answer {
             Ok(true) => return (drained, Ok(())),
