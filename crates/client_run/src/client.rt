@@ -81,7 +81,14 @@ impl<'a, G: Gate, R: Threads + Wait + Sync> ClientRun<'a, G, R> {
         laws();
         let mut reply = Reply::new(self.alloc);
         let malformed = answer_part(
-            self.rt, self.alloc, self.board, self.registry, self.gate, session, part, &mut reply,
+            self.rt,
+            self.alloc,
+            self.board,
+            self.registry,
+            self.gate,
+            session,
+            part,
+            &mut reply,
         )?;
         session.end_client(self.rt, self.board, self.gate, &mut reply)?;
         Ok(ClientText { reply, malformed })
