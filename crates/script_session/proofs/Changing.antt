@@ -34,11 +34,11 @@ pub owners-append : (number : ℕ) (xs ys : List Live) → owners number (xs ++ 
 owners-append number [] ys = omega arith
 owners-append number (x ∷ xs) ys = let h = owners-append number xs ys in omega (arith, h)
 
-first-free : (b : Bool) (n : ℕ) → cond b 1 0 + n ≡ 0 → b ≡ false
+pub first-free : (b : Bool) (n : ℕ) → cond b 1 0 + n ≡ 0 → b ≡ false
 first-free true n e = absurd (omega (arith, e))
 first-free false n e = refl
 
-rest-free : (b : Bool) (n : ℕ) → cond b 1 0 + n ≡ 0 → n ≡ 0
+pub rest-free : (b : Bool) (n : ℕ) → cond b 1 0 + n ≡ 0 → n ≡ 0
 rest-free true n e = absurd (omega (arith, e))
 rest-free false n e = omega (arith, e)
 

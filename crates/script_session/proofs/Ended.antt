@@ -207,7 +207,7 @@ among (x ∷ xs) p k some on paid = by_pipe x.pipe (is_at p x.pipe) refl some (A
     by_pipe (Some pipe) true at some on paid rest = (pipe, eqb-true pipe.number p at, on, paid)
     by_pipe pipe false at some on paid rest = rest (omega (arith, some))
 
-abbrev HandingAllDrains : Type 0
+abbrev pub HandingAllDrains : Type 0
 HandingAllDrains = (h : List (BoardEntry Ask)) (p : ℕ) → AllHandedOutIsDrained h p
 
 -- a pipeline that handed out as much as it accepted is drained

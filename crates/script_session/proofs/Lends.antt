@@ -87,7 +87,7 @@ share-more : (before : List Live) (live : Live) (rest : Dialogue) → share_all 
 share-more [] live rest = refl
 share-more (x ∷ before) live rest = ap (shares x.pipe) (share-more before live rest)
 
-lent-stay : (k l : Known (BoardEntry Ask)) (lives : List Live) → ((other : Option Pipe) → HasLent k other → HasLent l other) → All (λ (x : Live). HasLent k x.pipe) lives → All (λ (x : Live). HasLent l x.pipe) lives
+pub lent-stay : (k l : Known (BoardEntry Ask)) (lives : List Live) → ((other : Option Pipe) → HasLent k other → HasLent l other) → All (λ (x : Live). HasLent k x.pipe) lives → All (λ (x : Live). HasLent l x.pipe) lives
 lent-stay k l [] stays all = All-nil (λ (x : Live). HasLent l x.pipe)
 lent-stay k l (x ∷ xs) stays all =
     All-cons (λ (x : Live). HasLent l x.pipe) x xs (stays x.pipe (All-head (λ (x : Live). HasLent k x.pipe) x xs all)) (lent-stay k l xs stays (All-tail (λ (x : Live). HasLent k x.pipe) x xs all))

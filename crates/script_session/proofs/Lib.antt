@@ -24,3 +24,4 @@ pub mod Rooms
 pub mod Said
 pub mod Gives
 pub mod Lends
+pub mod Joined

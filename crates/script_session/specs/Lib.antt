@@ -14,3 +14,4 @@ pub mod Ending
 pub mod Saying
 pub mod Sharing
 pub mod Lending
+pub mod Gathering

@@ -50,8 +50,8 @@ fn release_live<R: Wait>(
     Ok(())
 }
 
-// Adds how many completions a transform's last callbacks have, where there is one.
-fn say_end(
+/// Adds how many completions a transform's last callbacks have, where there is one.
+pub fn say_end(
     alloc: Global,
     label: &[u8],
     count: u64,

@@ -10,6 +10,7 @@ mod client;
 mod collecting;
 mod drivers;
 mod ending;
+mod gathering;
 mod giving;
 mod lending;
 mod listing;
@@ -25,5 +26,6 @@ mod settings;
 mod sharing;
 mod transform;
 
+pub use gathering::end_first;
 pub use scripts::Session;
 pub use sharing::Shared;
