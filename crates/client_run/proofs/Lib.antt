@@ -1,0 +1,10 @@
+mod Ended
+mod Makers
+mod ShutLast
+mod Paid
+mod Calls
+mod FirstText
+mod Cut
+mod Gathered
+mod Rest
+mod AtEnd
