@@ -1,6 +1,6 @@
 -- The end of input of the first script, when the others have ended.
 use Rattle.std.proofs.Common.{◌≡◌, ℕ, ◌+◌, ◌<◌, ◌≤◌, Bool, true, false, cond, arith, List, [], ◌∷◌, ◌++◌, length, map, Option, Some, None, refl, sym, ap, subst, ◌∙◌, append-nil, append_assoc, take, drop, slice_index_or}
-use Rattle.std.specs.Prelude.{◌==◌, All, filter}
+use Rattle.std.specs.Prelude.{◌==◌, All}
 use Rattle.std.specs.List.{flat_map}
 use Rattle.std.proofs.lemmas.Bool.{eqb-true}
 use Rattle.std.proofs.lemmas.List.{length-map, take_more, drop_more, take-append-drop, take_all}
@@ -8,7 +8,7 @@ use Rattle.std.proofs.lemmas.List.Elements.{All-nil, All-cons, All-head, All-tai
 use Rattle.kc_base.specs.declared.callback_list.Callback.{Callback}
 use Rattle.board.specs.declared.entry.BoardEntry.{BoardEntry}
 use Rattle.board.specs.declared.entry.BoardEntry.TheVariants as event
-use Rattle.board.specs.Alone.{PeersGone, HasEntries}
+use Rattle.board.specs.Alone.{PeersGone}
 use Rattle.board.specs.Entries.{is_of, entries_of, submissions, front, is_closed, caller_of}
 use Rattle.board.specs.Handing.{completions}
 use Rattle.board.specs.Legal.{MayManage, LegalBoard, is_shut}
@@ -22,21 +22,20 @@ use Rattle.turn_lock.specs.Meeting.{AtTurn, Enters, Leaves, IsOwn}
 use Rattle.turn_lock.specs.Turns.{Known, Has, sees}
 use Rattle.dialogues.specs.BoardCalls.{BoardCall, Goes, Collects, Shuts, origin_of}
 use Rattle.dialogues.specs.Dialogues.{Dialogue, Ends, Posts}
-use Rattle.dialogues.specs.Piping.{lets_go, let_all_go, drains_at_end, drain_all, end, end_said, said_at_end, notice_said}
+use Rattle.dialogues.specs.Piping.{lets_go, let_all_go, drains_at_end, drain_all, end_said, said_at_end, notice_said}
 use Rattle.dialogues.specs.Questions.{Shut}
 use Rattle.dialogues.specs.Turns.{IsTurn}
-use Rattle.dialogues.specs.Walk.{Walk, Live, Pipe}
-use Rattle.session_calls.specs.Pipelines.{Called, Owns, Kept, IsShut, notice_by}
+use Rattle.dialogues.specs.Walk.{Live, Pipe}
+use Rattle.session_calls.specs.Pipelines.{Owns, Kept, IsShut, notice_by}
 use Rattle.session_calls.specs.Sharing.{SharingLaws, KnowsLent, KnowsGathered, HaveEnded, Rejoined, Rejoins, Beside, Gathers, DrainedLent, GatheredHandsAll}
 use Rattle.session_calls.proofs.Boarding.{kept-same, called-more}
 use Rattle.script_session.specs.Changing.{AreApart}
 use Rattle.script_session.specs.Ending.{LeadsBy, EndsShut}
-use Rattle.script_session.specs.Gathering.{IsJoined, EndsFirst, StopsFirst, GoesBeside, SeesBeside, let_go, HasFreed, HasPaid, MovesLent, MovesAllLent, AreToMove, EndsLent}
-use Rattle.script_session.specs.Holding.{SeesOn}
+use Rattle.script_session.specs.Gathering.{IsJoined, EndsFirst, StopsFirst, GoesBeside, SeesBeside, HasFreed, HasPaid, MovesLent, MovesAllLent, AreToMove, EndsLent}
 use Rattle.script_session.specs.Lending.{HasLent}
 use Rattle.script_session.specs.States.{is_at, owners}
 use Rattle.script_session.specs.Telling.{callback_said}
-use Rattle.script_session.proofs.Arms.{sees-same, called-sees, kept-sees}
+use Rattle.script_session.proofs.Arms.{called-sees, kept-sees}
 use Rattle.script_session.proofs.Changing.{first-free, rest-free, apart-of, beside}
 use Rattle.script_session.proofs.Ended.{HandingAllDrains}
 use Rattle.script_session.proofs.Leading.{leads-nothing, leads-then, leads-same, goes-none, goes-free, goes-held, drains-none, drains-some}

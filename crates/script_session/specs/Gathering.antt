@@ -1,5 +1,5 @@
 -- The end of input of the first script, when those have ended that shared its transforms.
-use Rattle.std.specs.Prelude.{ℕ, ◌≡◌, ◌≤◌, false, List, [], ◌∷◌, ◌++◌, length, Option, Some, None, ⊤, All}
+use Rattle.std.specs.Prelude.{ℕ, ◌≡◌, ◌≤◌, false, List, [], ◌++◌, length, Option, Some, None, ⊤, All}
 use Rattle.std.specs.List.{flat_map}
 use Rattle.board.specs.declared.entry.BoardEntry.{BoardEntry}
 use Rattle.board.specs.Alone.{PeersGone}
@@ -14,7 +14,7 @@ use Rattle.turn_lock.specs.Turns.{Known}
 use Rattle.dialogues.specs.BoardCalls.{BoardCall}
 use Rattle.dialogues.specs.Dialogues.{Dialogue}
 use Rattle.dialogues.specs.Piping.{let_all_go, drain_all, end}
-use Rattle.dialogues.specs.Turns.{Turn, IsTurn}
+use Rattle.dialogues.specs.Turns.{IsTurn}
 use Rattle.dialogues.specs.Walk.{Walk, Live, Pipe}
 use Rattle.session_calls.specs.Pipelines.{Called, Owns}
 use Rattle.session_calls.specs.Sharing.{KnowsGathered, HaveEnded, Rejoined}

@@ -1,20 +1,18 @@
 //! The end of input of the first script, when those have ended that shared its transforms.
 
 ghost use Rattle.std.specs.Prelude.{◌≡◌, [], false, MatchResult};
-ghost use Rattle.std.specs.List.{flat_map};
 ghost use Rattle.board.specs.Alone.{PeersGone};
 ghost use Rattle.board.specs.Legal.{LegalBoard, is_shut};
 ghost use Rattle.turn_lock.specs.Passes.{knows};
 ghost use Rattle.dialogues.specs.Piping.{lets_go, let_all_go, drains_at_end, drain_all};
 ghost use Rattle.dialogues.specs.Walk.{Pipe as KnownPipe};
-ghost use Rattle.reply_text.specs.Answers.{text_of};
 ghost use Rattle.shared_board.specs.Passes.{IsPassOn};
 ghost use Rattle.session_calls.specs.Passes.{known, lock_of, CallsBoard};
 ghost use Rattle.session_calls.specs.Pipelines.{Steps, Laws, IsShut};
 ghost use Rattle.session_calls.specs.Sharing.{SharingLaws, KnowsGathered};
 ghost use Rattle.script_session.specs.Gathering.{IsJoined, EndsFirst, StopsFirst, SeesBeside, HasFreed, HasPaid, MovesLent, MovesAllLent, EndsLent, AreToMove};
 ghost use Rattle.script_session.specs.Holding.{HasSeenMore};
-ghost use Rattle.script_session.specs.Lending.{HasLent, AreLent};
+ghost use Rattle.script_session.specs.Lending.{HasLent};
 
 use crate::answers::put_all;
 use crate::callbacks::{count_completions, tell};
@@ -217,11 +215,7 @@ fn end_shared<R: Wait, G: Gate>(
 }
 
 // Shuts the board, beside workers alone. No memory is taken.
-fn shut_beside<R: Wait>(
-    rt: &R,
-    board: &SharedBoard<Job>,
-    pass: BoardPass<Job>,
-) -> BoardPass<Job>
+fn shut_beside<R: Wait>(rt: &R, board: &SharedBoard<Job>, pass: BoardPass<Job>) -> BoardPass<Job>
     requires lock { IsPassOn board.now pass }
     requires gone { PeersGone (knows pass) }
     requires once { is_shut (knows pass).seen ≡ false }

@@ -1,4 +1,4 @@
-use Rattle.std.proofs.Common.{◌∙◌, refl, sym, subst}
+use Rattle.std.proofs.Common.{◌∙◌, refl}
 use Rattle.dialogues.specs.Piping.{drains_at_end, drain_all}
 use Rattle.dialogues.specs.Walk.{Live}
 use Rattle.session_calls.specs.Passes.{known}

@@ -1,4 +1,4 @@
-use Rattle.std.proofs.Common.{◌≡◌, ap, sym, ◌∙◌, subst, false}
+use Rattle.std.proofs.Common.{◌≡◌, sym, ◌∙◌, subst, false}
 use Rattle.board.specs.Entries.{caller_of}
 use Rattle.board.specs.Legal.{is_shut}
 use Rattle.board.specs.declared.entry.BoardEntry.{BoardEntry}

@@ -1,4 +1,4 @@
-use Rattle.std.proofs.Common.{◌∷◌, [], ap, sym, subst, ◌∙◌}
+use Rattle.std.proofs.Common.{ap, sym, subst, ◌∙◌}
 use Rattle.dialogues.specs.Walk.{Pipe}
 use Rattle.session_calls.specs.Passes.{known}
 use Rattle.session_calls.specs.Sharing.{KnowsLent}

@@ -1,8 +1,8 @@
-use Rattle.std.proofs.Common.{◌∙◌, [], refl, sym, subst}
+use Rattle.std.proofs.Common.{◌∙◌, [], refl}
 use Rattle.dialogues.specs.Piping.{lets_go, let_all_go}
 use Rattle.dialogues.specs.Walk.{Live}
 use Rattle.session_calls.specs.Passes.{known}
-use Rattle.script_session.specs.Gathering.{HasFreed, MovesLent}
+use Rattle.script_session.specs.Gathering.{HasFreed}
 use Rattle.script_session.specs.Lending.{HasLent}
 use Rattle.script_session.proofs.Joined.{lent-sets-out, next-lent, lent-further, all-lent, goes-sees, beside-then}
 use Rattle.script_session.proofs.Leading.{let-more}

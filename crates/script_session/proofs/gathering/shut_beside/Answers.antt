@@ -1,5 +1,3 @@
-use Rattle.std.proofs.Common.{sym, subst}
-use Rattle.board.specs.Alone.{PeersGone}
 use Rattle.turn_lock.specs.Passes.{knows}
 use Rattle.session_calls.proofs.BoardCalls.{shut-changed}
 use Rattle.session_calls.proofs.Gathers.{shut-ended, shut-gathered}
