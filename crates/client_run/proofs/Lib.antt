@@ -1,10 +1,16 @@
-mod Ended
-mod Makers
-mod ShutLast
-mod Paid
-mod Calls
-mod FirstText
-mod Cut
-mod Gathered
-mod Rest
-mod AtEnd
+pub mod NextLines
+pub mod Following
+pub mod Turns
+pub mod Answering
+pub mod Fresh
+pub mod Opening
+pub mod Clients
+pub mod Ended
+pub mod Makers
+pub mod ShutLast
+pub mod Paid
+pub mod FirstText
+pub mod Cut
+pub mod Gathered
+pub mod Rest
+pub mod AtEnd

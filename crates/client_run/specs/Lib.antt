@@ -1,4 +1,5 @@
 pub mod Laws
+pub mod Lines
 pub mod Parts
 pub mod Meets
 pub mod Beside

@@ -1,5 +1,5 @@
 -- How a client begins with its passes, and what it does with its part.
-use Rattle.std.specs.Prelude.{ℕ, ◌-◌, ◌≤◌, ◌≡◌, Bool, List, [], ◌++◌, Option, Some, slice_get}
+use Rattle.std.specs.Prelude.{ℕ, ◌-◌, ◌≤◌, ◌≡◌, Bool, List, [], ◌++◌, Option, Some, IsSome, slice_get}
 use Rattle.std.specs.List.{list_any}
 use Rattle.alg_registry.specs.declared.entry.RegEntry.{RegEntry}
 use Rattle.alg_registry.specs.Rows.{caller_of as reg_caller}
@@ -44,7 +44,7 @@ pub record AnswersPart (lines : List Line) (s s' : State) (text : List ℕ) (bad
   pub is : IsTurn (script_beside s.workers s.walk lines) turn
   pub asked : AskedBy (widest lines) (known s.registry) (known s'.registry) turn.registry
   pub called : Called (known s.board) (known s'.board) turn.board
-  pub ends : (turn.after ≡ Some s'.walk) 
+  pub ended : IsSome turn.after
   pub text_is : text ≡ text_in turn
   pub malformed : bad ≡ list_any is_malformed lines
   pub paid : EndsPaid (known s'.board)

@@ -1,6 +1,6 @@
 //! The lines of one part of an input, which is in memory, answered by its session.
 
-ghost use Rattle.std.specs.Prelude.{◌≡◌, ◌∷◌, ◌<◌, ◌≤◌, ◌^◌, [], ℕ, List, length, IfOk, IfSome, OnOk, MatchResult, MatchOption};
+ghost use Rattle.std.specs.Prelude.{◌≡◌, ◌≤◌, ◌^◌, ℕ, List, length, IfOk, IfSome, OnOk, MatchResult};
 ghost use Rattle.std.specs.List.{list_any};
 ghost use Rattle.dialogues.specs.Dialogues.{Ends as Stands};
 ghost use Rattle.dialogues.specs.Lines.{lines_dialogue};
@@ -11,6 +11,7 @@ ghost use Rattle.script_session.specs.Running.{IsReady, Replies};
 ghost use Rattle.script_text.specs.Pending.{IsPending};
 ghost use Rattle.script_text.specs.Script.{script_of};
 ghost use Rattle.script_text.specs.Sizes.{IsShortLine};
+ghost use Rattle.client_run.specs.Lines.{FindsLine};
 ghost use Rattle.client_run.specs.Laws.{Laws};
 
 use crew::Gate;
@@ -48,9 +49,7 @@ fn is_malformed_line(line: &Line) -> bool
 
 // The next line of what was fed, or `None` at its end: the last line may have no line feed.
 fn next_line(cutter: &mut LineCutter) -> Result<Option<Line>, AllocError>
-    ensures line { (bytes : List ℕ) → IsPending bytes cutter.old → IfOk result (λ answer. MatchOption answer
-        (bytes ≡ [])
-        (λ said. (rest : List ℕ) × (script_of bytes ≡ said ∷ script_of rest) × (length rest < length bytes) × IsPending rest cutter.new)) }
+    ensures line { (bytes : List ℕ) → IsPending bytes cutter.old → IfOk result (FindsLine bytes cutter.new) }
     ensures short { IfOk result (λ answer. IfSome answer IsShortLine) }
 {
     if let Some(line) = cutter.next()? {
