@@ -211,7 +211,7 @@ module _ (laws : EndLaws) (workers clients : ℕ) (few : workers ≤ 16) (q : Pa
     first-are : AreFirstTexts workers first all.opens.walk r b all.opening (flat_map text_of rest.ends.said)
     first-are =
         let o = all.opens in
-        first-texts laws.texts.registry_calls laws.texts.unasked laws.texts.board_calls laws.texts.uncalled workers first r b or_ ob rest.met kb o.walk all.shared o.turn o.shares rest.ends.calls rest.ends.said all.opening (flat_map text_of rest.ends.said)
+        first-texts laws.calls workers first r b or_ ob rest.met kb o.walk all.shared o.turn o.shares rest.ends.calls rest.ends.said all.opening (flat_map text_of rest.ends.said)
         o.is o.makes o.lives o.text_is o.registry o.settled all.registry_zero
         (first-alone reg_caller kr r hr laws.registry.first or_ o.own_registry (ap (λ (x : Known RegEntry). x.number) rest.registry ∙ left-r.0) (ap (λ (x : Known RegEntry). x.made) rest.registry ∙ left-r.1) (subst (λ x. StartsWith x.seen or_.seen) (sym rest.registry) left-r.2))
         o.leads o.board all.board_zero others-met met-zero number-b rest.ends.called.calls_are whole (rest.ends.is o.walk o.lives) refl
@@ -233,10 +233,10 @@ module _ (laws : EndLaws) (workers clients : ℕ) (few : workers ≤ 16) (q : Pa
     -- ---- the one list of each pipeline that is shared
 
     ordered : (p client : ℕ) → client ≤ clients → AreInOrder client 1 (accepted_by (caller_for client) (entries_of p b))
-    ordered p zero le = laws.texts.first_in_order workers first all.opens.walk r b all.opening (flat_map text_of rest.ends.said) p first-are
+    ordered p zero le = laws.first_in_order workers first all.opens.walk r b all.opening (flat_map text_of rest.ends.said) p first-are
     ordered p (suc client) le =
         let one = one-text workers 1 (suc client) all.shared (map script_of parts) r b (texts_in rest.said) said-all.texts (omega arith) (let e = length-of-map script_of parts in omega arith) in
-        laws.texts.clients_in_order workers (suc client) all.shared one.lines r b one.text p one.is
+        laws.clients_in_order workers (suc client) all.shared one.lines r b one.text p one.is
 
     pub one-lists : AreOneList clients b
     one-lists p shared =

@@ -9,7 +9,6 @@ use Rattle.board.specs.Entries.{caller_of as board_caller}
 use Rattle.crew.specs.Peers.{OthersFollow}
 use Rattle.dialogues.specs.BoardCalls.{BoardCall, board_calls, board_calls_from, is_called}
 use Rattle.dialogues.specs.Dialogues.{Dialogue, Ends}
-use Rattle.dialogues.specs.GoingOn.{RegistryCallsGoOn, RegistryUnasked, BoardCallsGoOn, BoardUncalled}
 use Rattle.dialogues.specs.Lines.{lines_dialogue}
 use Rattle.dialogues.specs.Piping.{end as ending_of}
 use Rattle.dialogues.specs.RegistryCalls.{RegCall, reg_calls, reg_calls_from, AllSettled}
@@ -23,7 +22,8 @@ use Rattle.script_text.specs.declared.commands.Line.{Line}
 use Rattle.script_session.specs.Ending.{part, LeadsBy}
 use Rattle.transforms.specs.declared.ask.Ask.{Ask}
 use Rattle.turn_lock.specs.Turns.{Known, of}
-use Rattle.client_run.proofs.Calls.{board_calls-same, reg_calls-same}
+use Rattle.client_run.specs.Laws.{Laws}
+use Rattle.client_run.proofs.Following.{board_calls-same, reg_calls-same}
 
 -- the end of the first one's input, which shares first
 module _ (walk : Walk) (shared : List Live) (shares calls : List BoardCall) (said : List Answer) (lives : walk.lives ≡ shared) (leads : LeadsBy (share_all shared) shares [])
@@ -36,7 +36,13 @@ module _ (walk : Walk) (shared : List Live) (shares calls : List BoardCall) (sai
       ap (λ ls. turn_of (share_all ls (ending_of walk)) [] (shares ++ calls)) lives
       ∙ (leads (ending_of walk) [] calls ∙ ap (λ t. joined (part shares []) t) is)
 
-module _ (on_r : RegistryCallsGoOn) (un_r : RegistryUnasked) (on_b : BoardCallsGoOn) (un_b : BoardUncalled) (workers : ℕ) (lines : List Line) (r : List RegEntry) (b : List (BoardEntry Ask)) (kr : Known RegEntry) (kb m l : Known (BoardEntry Ask)) where
+module _ (laws : Laws) (workers : ℕ) (lines : List Line) (r : List RegEntry) (b : List (BoardEntry Ask)) (kr : Known RegEntry) (kb m l : Known (BoardEntry Ask)) where
+  registry-zero : kr.number ≡ 0 → AllSettled (reg_calls 0 kr.seen) → OthersFollow reg_caller kr r → reg_calls 0 r ≡ reg_calls 0 kr.seen
+  registry-zero is settled others = subst (λ n. AllSettled (reg_calls n kr.seen) → reg_calls n r ≡ reg_calls n kr.seen) is (λ s. reg_calls-same laws kr r s others) settled
+
+  board-zero : kb.number ≡ 0 → OthersFollow board_caller kb m.seen → board_calls 0 m.seen ≡ board_calls 0 kb.seen
+  board-zero is others = subst (λ n. board_calls n m.seen ≡ board_calls n kb.seen) is (board_calls-same laws kb m.seen others)
+
   pub first-texts : (walk : Walk) (shared : List Live) (turn : Turn) (shares calls : List BoardCall) (said : List Answer) (opening ending : List ℕ)
       → IsTurn (lines_dialogue workers (start 0) 1 lines Ends) turn → turn.after ≡ Some walk → walk.lives ≡ shared → opening ≡ text_in turn
       → turn.registry ≡ reg_calls 0 kr.seen → AllSettled (reg_calls 0 kr.seen) → kr.number ≡ 0 → OthersFollow reg_caller kr r
@@ -51,10 +57,10 @@ module _ (on_r : RegistryCallsGoOn) (un_r : RegistryUnasked) (on_b : BoardCallsG
     makes = makes;
     is_last = closes walk shared shares calls said lives leads ends;
     ended = refl;
-    registry = append-nil turn.registry ∙ (registry ∙ sym (reg_calls-same on_r un_r kr r kr_zero settled others_r));
+    registry = append-nil turn.registry ∙ (registry ∙ sym (registry-zero kr_zero settled others_r));
     board =
         sym (append_assoc turn.board shares calls)
-        ∙ (ap (λ cs. cs ++ calls) (board ∙ (sym (board_calls-same on_b un_b kb m.seen kb_zero others_b) ∙ ap (λ n. board_calls n m.seen) (sym m_zero)))
+        ∙ (ap (λ cs. cs ++ calls) (board ∙ (sym (board-zero kb_zero others_b) ∙ ap (λ n. board_calls n m.seen) (sym m_zero)))
         ∙ (sym called ∙ ((λ i. board_calls (l_zero i) (sym whole i)))));
     opening_is = opening_is;
     ending_is = ending_is;

@@ -1,5 +1,5 @@
 -- What a run of several scripts at once leaves.
-use Rattle.std.specs.Prelude.{ℕ, ◌^◌, ◌≡◌, ◌≤◌, ◌⊎◌, ◌↔◌, Bool, true, List, [], ◌++◌, length, map, Option, Some, IfSome, IsTrue, Result, OnOk, OnErr, IfOk, IfErr}
+use Rattle.std.specs.Prelude.{ℕ, ◌^◌, ◌≡◌, ◌≤◌, ◌⊎◌, ◌↔◌, Bool, true, List, [], ◌++◌, length, map, Option, Some, IfSome, IsTrue, Result, Err, OnOk, OnErr, IfOk, IfErr}
 use Rattle.std.specs.Io.KnownBytes.{Keeps, Consumes, IsAtEnd}
 use Rattle.std.specs.List.{list_any}
 use Rattle.alg_registry.specs.declared.entry.RegEntry.{RegEntry}
@@ -37,7 +37,7 @@ pub record RanClients (workers clients : ℕ) (trace : Bool) (status : ℕ) (lef
   pub legal_board : LegalBoard b
   pub faithful : Made table r
   pub callers : AreCallersBeside workers clients r b
-  pub closed : IsShutOnce workers b ⊎ ((2 ≤ status) × (r ≡ []) × (b ≡ []))
+  pub closed : IsShutOnce workers b ⊎ (((status ≡ 3) ⊎ (status ≡ 5) ⊎ (status ≡ 6)) × (r ≡ []) × (b ≡ []))
   -- where it reached the end: all was read, the whole output was written and then the trace, the board was shut last, and each shared
   -- pipeline had one list of requests, in which those of each client stand in order, and of which each was handed out
   pub ended : status ≤ 1 → IfSome left (λ input. left' ≡ Some [])
@@ -60,7 +60,7 @@ pub record RanParts (workers clients : ℕ) (trace : Bool) (parts : List (List �
   pub malformed : IfOk answer (λ bad. bad ≡ list_any (list_any is_malformed) (map script_of parts))
   pub shut : OnOk answer (EndsShut b)
   pub one_list : OnOk answer (AreOneList clients b)
-  pub closed : IsShutOnce workers b ⊎ (OnOk answer ⊥ × (r ≡ []) × (b ≡ []))
+  pub closed : IsShutOnce workers b ⊎ ((answer ≡ Err NoMemory) × (r ≡ []) × (b ≡ []))
   pub callers : AreCallersBeside workers clients r b
   pub legal : LegalReg r
   pub legal_board : LegalBoard b

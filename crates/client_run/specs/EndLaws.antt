@@ -9,9 +9,9 @@ use Rattle.board.specs.Others.{OthersAlone, WorkLeavesKnown, WorkLeavesDrained, 
 use Rattle.board.specs.Sharing.{MakersFinish}
 use Rattle.client_texts.specs.Laws.{ClientsInOrder, FirstInOrder}
 use Rattle.crew.specs.Peers.{PeersLeave, PeersTakeNumbers, PeersHaveEnded, EndedStays, EndedAreAlone, FirstIsAlone, CallersAre}
-use Rattle.dialogues.specs.GoingOn.{RegistryCallsGoOn, RegistryUnasked, BoardCallsGoOn, BoardUncalled}
 use Rattle.transforms.specs.declared.ask.Ask.{Ask}
 use Rattle.turn_lock.specs.Turns.{Known}
+use Rattle.client_run.specs.Laws.{Laws}
 
 -- what is known of passes that were split off a first one
 pub record PeerLaws (E : Type 0) : Type 0 where
@@ -36,17 +36,10 @@ pub record ShutLaws : Type 0 where
   pub own : (h es : List (BoardEntry Ask)) (caller : ℕ) → WorkLeavesOwn h es caller
   pub right : (h : List (BoardEntry Ask)) (p : ℕ) → AreRightAlone h p
 
--- what is known of texts and calls where histories go on
-pub record TextLaws : Type 0 where
-  pub registry_calls : RegistryCallsGoOn
-  pub unasked : RegistryUnasked
-  pub board_calls : BoardCallsGoOn
-  pub uncalled : BoardUncalled
-  pub clients_in_order : ClientsInOrder
-  pub first_in_order : FirstInOrder
-
 pub record EndLaws : Type 0 where
   pub registry : PeerLaws RegEntry
   pub board : PeerLaws (BoardEntry Ask)
   pub shut : ShutLaws
-  pub texts : TextLaws
+  pub calls : Laws
+  pub clients_in_order : ClientsInOrder
+  pub first_in_order : FirstInOrder

@@ -13,7 +13,7 @@ ghost use Rattle.shared_board.specs.Passes.{IsPassOn};
 ghost use Rattle.turn_lock.specs.Passes.{knows};
 ghost use Rattle.turn_lock.specs.Turns.{newcomer};
 ghost use Rattle.client_run.specs.Beside.{HasShutLast, HaveLeft, GaveWorkers, PutsTexts, EndsRest, AnswersRest, AnswersParts, PartsRan};
-ghost use Rattle.client_run.specs.EndLaws.{PeerLaws, ShutLaws, TextLaws, EndLaws};
+ghost use Rattle.client_run.specs.EndLaws.{PeerLaws, ShutLaws, EndLaws};
 ghost use Rattle.client_run.specs.Parts.{FirstOpens};
 ghost use Rattle.transforms.specs.declared.ask.Ask.{Ask};
 ghost use Rattle.alg_registry.specs.declared.entry.RegEntry.{RegEntry};
@@ -21,13 +21,13 @@ ghost use Rattle.board.specs.declared.entry.BoardEntry.{BoardEntry};
 
 use crate::client::{ClientRun, ClientText};
 use crate::first::{Opened, open_first};
+use crate::part::laws;
 use alg_registry::{RegEntry, RegLog};
 use board::{
     BoardEntry, BoardLog, histories_go_on, others_leave, shared_pipelines_stay, work_ends, workers_are_left,
 };
 use client_texts::requests_in_order;
 use crew::{Gate, Passes, peers_end, run_crew, run_peers};
-use dialogues::{board_calls_go_on, registry_calls_go_on};
 use kc_base::Bytes;
 use reply_text::Reply;
 use script_session::{Shared, end_first};
@@ -74,21 +74,14 @@ fn shut_laws()
     histories_go_on::<Ask>();
 }
 
-// what is known of texts and calls where histories go on
-fn text_laws()
-    ensures { TextLaws }
-{
-    registry_calls_go_on();
-    board_calls_go_on();
-    requests_in_order();
-}
-
+// what is known at the end
 fn end_laws()
     ensures { EndLaws }
 {
     peer_laws();
     shut_laws();
-    text_laws();
+    laws();
+    requests_in_order();
 }
 
 // Adds the texts of at most 8 clients to the first part's, each under its heading. The last client's stands first among these.

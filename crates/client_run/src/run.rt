@@ -1,7 +1,7 @@
 //! A whole run of several scripts at once: all input is read first, then the scripts run, and then the whole output is written, and the
 //! trace.
 
-ghost use Rattle.std.specs.Prelude.{◌≡◌, ◌≤◌, ◌<◌, ◌+◌, ◌^◌, ◌++◌, ◌⊎◌, All, Bool, true, length, IfOk, IfErr, IsOk, OnOk, OnErr, IsErrOf, MatchResult};
+ghost use Rattle.std.specs.Prelude.{◌≡◌, ◌≤◌, ◌<◌, ◌+◌, ◌^◌, ◌++◌, ◌⊎◌, All, Err, true, length, IfOk, IfErr, IsOk, OnOk, OnErr, IsErrOf, MatchResult};
 ghost use Rattle.std.specs.Io.KnownBytes.{Appends, Keeps};
 ghost use Rattle.kc_base.specs.Streams.{AppendsFront, Rose};
 ghost use Rattle.script_run.specs.Endings.{traced};
@@ -105,6 +105,7 @@ fn write_output<K: Sink>(
     out: &mut K,
 ) -> Result<bool, RunError>
     ensures whole { IfOk result (λ bad. IsOk output × IfOk output (λ o. (bad ≡ o.malformed) × Appends (K.held out.old) (K.held out.new) (o.reply.text ++ traced trace registry.now board.now))) }
+    ensures nothing { OnErr output (result ≡ Err RunError.NoMemory) }
     ensures fits { trace ≡ true → OnOk result (FitTypes ask_origin registry.now board.now) }
     ensures front { OnErr result (Keeps (K.held out.old) (K.held out.new) ⊎ (IsOk output × IfOk output (λ o. AppendsFront (K.held out.old) (K.held out.new) (o.reply.text ++ traced trace registry.now board.now)))) }
     ensures cause { IsErrOf result RunError.WriteFault → Rose (K.faults out.old) (K.faults out.new) }
