@@ -236,7 +236,8 @@ module _ (laws : EndLaws) (workers clients : ℕ) (few : workers ≤ 16) (q : Pa
     ordered p zero le = laws.first_in_order workers first all.opens.walk r b all.opening (flat_map text_of rest.ends.said) p first-are
     ordered p (suc client) le =
         let one = one-text workers 1 (suc client) all.shared (map script_of parts) r b (texts_in rest.said) said-all.texts (omega arith) (let e = length-of-map script_of parts in omega arith) in
-        laws.clients_in_order workers (suc client) all.shared one.lines r b one.text p one.is
+        let same : 16 + suc client ≡ 17 + client = omega arith in
+        subst (λ n. AreInOrder (suc client) 1 (accepted_by n (entries_of p b))) same (laws.clients_in_order workers (suc client) all.shared one.lines r b one.text p one.is)
 
     pub one-lists : AreOneList clients b
     one-lists p shared =

@@ -1,9 +1,15 @@
 -- The parts of an input: as many as there are clients and one more, and none longer than the input.
 use Rattle.std.proofs.Common.{◌≡◌, ◌≤◌, ◌+◌, ℕ, zero, suc, Bool, true, false, List, [], ◌∷◌, ◌++◌, length, refl, sym, ap, subst, ◌∙◌, arith}
-use Rattle.std.specs.Prelude.{All, if◌then◌else◌}
+use Rattle.std.specs.Prelude.{All, if◌then◌else◌, ◌^◌, Option, Result}
 use Rattle.std.specs.List.{onto_first}
 use Rattle.std.proofs.lemmas.List.{length-append}
-use Rattle.std.proofs.lemmas.List.Elements.{All-nil, All-cons, All-weaker}
+use Rattle.std.proofs.lemmas.List.Elements.{All-nil, All-cons, All-head, All-tail}
+use Rattle.alg_registry.specs.declared.entry.RegEntry.{RegEntry}
+use Rattle.board.specs.declared.entry.BoardEntry.{BoardEntry}
+use Rattle.transforms.specs.declared.ask.Ask.{Ask}
+use Rattle.client_run.specs.declared.beside.Output.{Output}
+use Rattle.client_run.specs.Beside.{PartsRan}
+use Rattle.client_run.specs.Clients.{IsCut}
 use Rattle.script_text.specs.Lines.{lines_of, is_feed}
 use Rattle.script_text.specs.Parts.{is_mark, before_mark, behind_mark, all_bytes, cut_lines, parts_of}
 
@@ -48,3 +54,21 @@ cut-short (suc clients) most lines le =
 
 pub parts-short : (clients most : ℕ) (input : List ℕ) → length input ≤ most → All (λ part. length part ≤ most) (parts_of clients input)
 parts-short clients most input le = cut-short clients most (lines_of input) (let e = all-length input in omega arith)
+
+pub cut-count : (clients : ℕ) (left left' : Option (List ℕ)) (parts : List (List ℕ)) → IsCut clients left left' parts → length parts ≡ clients + 1
+cut-count clients left left' parts c = ap (λ ps. length ps) c.cut ∙ count-parts clients (lines_of c.input)
+
+pub cut-most : (clients : ℕ) (left left' : Option (List ℕ)) (parts : List (List ℕ)) → IsCut clients left left' parts → All (λ part. length part ≤ 2 ^ 28) parts
+cut-most clients left left' parts c = subst (λ ps. All (λ part. length part ≤ 2 ^ 28) ps) (sym c.cut) (parts-short clients (2 ^ 28) c.input c.short)
+
+-- the first part and the others
+pub cut-first : (parts rest : List (List ℕ)) (first : List ℕ) → parts ≡ first ∷ rest → All (λ part. length part ≤ 2 ^ 28) parts → (length first ≤ 2 ^ 28) × All (λ part. length part ≤ 2 ^ 28) rest
+cut-first parts rest first is all =
+    let each = subst (λ ps. All (λ part. length part ≤ 2 ^ 28) ps) is all in
+    (All-head (λ part. length part ≤ 2 ^ 28) first rest each, All-tail (λ part. length part ≤ 2 ^ 28) first rest each)
+
+pub cut-ran : {F : Type 0} (workers clients : ℕ) (parts rest : List (List ℕ)) (first : List ℕ) (r : List RegEntry) (b : List (BoardEntry Ask)) (output : Result Output F) → parts ≡ first ∷ rest → length rest + 1 ≡ length parts → length parts ≡ clients + 1
+    → PartsRan workers (length rest) (first ∷ rest) r b output → PartsRan workers clients parts r b output
+cut-ran workers clients parts rest first r b output is count whole ran =
+    let n : length rest ≡ clients = omega arith in
+    subst (λ ps. PartsRan workers clients ps r b output) (sym is) (subst (λ m. PartsRan workers m (first ∷ rest) r b output) n ran)

@@ -14,3 +14,5 @@ pub mod Cut
 pub mod Gathered
 pub mod Rest
 pub mod AtEnd
+pub mod Joins
+pub mod Written

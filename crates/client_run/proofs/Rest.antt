@@ -225,6 +225,7 @@ module _ (workers : ℕ) (shared : List Live) (parts : List (List ℕ)) (o : Pas
 
   pub all-said : (before ps : List (List ℕ)) (n client : ℕ) (rs : List One) (said : List ClientText) → n ≡ 17 + length before → client ≡ 1 + length before → parts ≡ before ++ ps → length rs ≡ length ps
       → RunsOnBoth (λ n p q x. ClientRan workers shared parts n p q x) n o rs → map (λ x. x.1) rs ≡ map (λ x. Ok x) said → Each EndedIn rs → SaidAll client ps rs said
+  unfolding head-or tail-of
   all-said before [] n client [] [] n_is c_is cut count runs all ended = record { texts = refl; malformed = refl; paid = tt }
   all-said before [] n client [] (s ∷ said) n_is c_is cut count runs all ended = absurd cc
   all-said before [] n client (x ∷ rs) said n_is c_is cut count runs all ended = absurd (omega arith)
