@@ -1,8 +1,7 @@
-use Rattle.std.proofs.Common.{◌≡◌, ◌+◌, ◌^◌, ◌≤◌, All, length, sym, subst}
+use Rattle.std.proofs.Common.{◌≡◌, ◌+◌, ◌^◌, ◌≤◌, All, Err, length, sym, subst}
 use Rattle.script_run.specs.Statuses.{status_of}
 use Rattle.client_run.proofs.Cut.{cut-count, cut-most}
 use Rattle.client_run.proofs.Written.{ran-clients, nothing-ran, read-status}
-use Rattle.client_run.proofs.Joins.{err-of}
 use Rattle.client_run.specs.Clients.{RanParts}
 use Rattle.client_run.proofs.run.run_clients.Goals as goal
 
@@ -25,7 +24,7 @@ returns-in-Err-clause-ran g c =
     let o = c.args.options.now in
     let none = c.not_at_all.ensures in
     rw (none.0, none.1, none.2)
-    (nothing-ran o.workers o.clients o.trace (status_of c.not_at_all.result.answer) (left c.args.src.now) (left c.read_parts.new.src) (held c.args.out.now) ?)
+    (nothing-ran o.workers o.clients o.trace (status_of (Err c.in-Err.error)) (left c.args.src.now) (left c.read_parts.new.src) (held c.args.out.now) (read-status c.in-Err.error c.in-Err.ensures.causes))
 
 pub returns-clause-ran : goal.returns-clause-ran
 returns-clause-ran g c =
