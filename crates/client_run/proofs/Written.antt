@@ -1,6 +1,6 @@
 -- What a run writes, and what it leaves.
 use Rattle.std.proofs.Common.{◌≡◌, ◌≤◌, ◌⊎◌, ◌+◌, ℕ, zero, suc, Bool, true, false, List, [], ◌∷◌, ◌++◌, length, map, Option, Some, None, Result, Ok, Err, sym, refl, ap, ◌∙◌, subst, inl, inr, append-nil, append_assoc, arith, rules}
-use Rattle.std.specs.Prelude.{IfOk, IfErr, IfSome, IsOk, IsTrue, OnOk, OnErr, All}
+use Rattle.std.specs.Prelude.{IfOk, IfErr, IfSome, IsOk, IsTrue, OnOk, OnErr, All, ⊤}
 use Rattle.std.specs.List.{list_any}
 use Rattle.std.specs.Io.KnownBytes.{Appends, Keeps, Consumes, IsAtEnd}
 use Rattle.std.proofs.KnownBytes.{Appends-trans}
@@ -88,7 +88,7 @@ module _ (workers clients : ℕ) (trace : Bool) (parts : List (List ℕ)) (held 
     causes = causes;
   }
     where
-      by_front : Keeps held held' ⊎ (IsOk {E = F} (Ok o) × AppendsFront held held' (o.reply.text ++ traced trace r b)) → GainsFrontOrNone held held' (IsOutputBy workers (map script_of parts) r b) (traced trace r b)
+      by_front : Keeps held held' ⊎ ((true ≡ true) × AppendsFront held held' (o.reply.text ++ traced trace r b)) → GainsFrontOrNone held held' (IsOutputBy workers (map script_of parts) r b) (traced trace r b)
       by_front (inl kept) = inl kept
       by_front (inr grown) = inr (o.reply.text, ran.printed, grown.1)
 
