@@ -49,6 +49,9 @@ front-then a b c text trace grown f = (text ++ f.0, (f.1.0, append_assoc text f.
 -- ---- the parts
 
 module _ (workers clients : ℕ) (trace : Bool) (parts : List (List ℕ)) (held held' : Option (List ℕ)) (r : List RegEntry) (b : List (BoardEntry Ask)) where
+  abbrev Closed : Result Bool RunError → Type 0
+  Closed answer = IsShutOnce workers b ⊎ ((answer ≡ Err NoMemory) × (r ≡ []) × (b ≡ []))
+
   pub ran-parts : {F : Type 0} (output : Result Output F) (answer : Result Bool RunError) → PartsRan workers clients parts r b output
       → IfOk answer (λ bad. IsOk output × IfOk output (λ o. (bad ≡ o.malformed) × Appends held held' (o.reply.text ++ traced trace r b)))
       → OnErr output (answer ≡ Err NoMemory)
@@ -70,7 +73,7 @@ module _ (workers clients : ℕ) (trace : Bool) (parts : List (List ℕ)) (held 
     causes = tt;
   }
     where
-      by_closed : IsShutOnce workers b ⊎ (⊥ × (r ≡ []) × (b ≡ [])) → IsShutOnce workers b ⊎ ((Ok bad ≡ Err NoMemory) × (r ≡ []) × (b ≡ []))
+      by_closed : IsShutOnce workers b ⊎ (⊥ × (r ≡ []) × (b ≡ [])) → Closed (Ok bad)
       by_closed (inl once) = inl once
       by_closed (inr none) = absurd none.0
   ran-parts (Ok o) (Err e) ran whole nothing fits front causes = record {
@@ -92,7 +95,7 @@ module _ (workers clients : ℕ) (trace : Bool) (parts : List (List ℕ)) (held 
       by_front (inl kept) = inl kept
       by_front (inr grown) = inr (o.reply.text, ran.printed, grown.1)
 
-      by_closed : IsShutOnce workers b ⊎ (⊥ × (r ≡ []) × (b ≡ [])) → IsShutOnce workers b ⊎ ((Err e ≡ Err NoMemory) × (r ≡ []) × (b ≡ []))
+      by_closed : IsShutOnce workers b ⊎ (⊥ × (r ≡ []) × (b ≡ [])) → Closed (Err e)
       by_closed (inl once) = inl once
       by_closed (inr none) = absurd none.0
   ran-parts (Err f) (Ok bad) ran whole nothing fits front causes = (let not : false ≡ true = whole.0 in absurd cc)
@@ -115,7 +118,7 @@ module _ (workers clients : ℕ) (trace : Bool) (parts : List (List ℕ)) (held 
       by_front (inl kept) = inl kept
       by_front (inr grown) = (let not : false ≡ true = grown.0 in absurd cc)
 
-      by_closed : IsShutOnce workers b ⊎ (⊤ × (r ≡ []) × (b ≡ [])) → IsShutOnce workers b ⊎ ((Err e ≡ Err NoMemory) × (r ≡ []) × (b ≡ []))
+      by_closed : IsShutOnce workers b ⊎ (⊤ × (r ≡ []) × (b ≡ [])) → Closed (Err e)
       by_closed (inl once) = inl once
       by_closed (inr none) = inr (nothing, none.1, none.2)
 
