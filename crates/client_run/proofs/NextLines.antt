@@ -58,7 +58,7 @@ whole_found old new said cuts bytes pending =
     let line = cut.1 in (
       rest,
       ap script_of line.bytes_are
-      ∙ (ap (map line_of) (cut_line line.text rest line.no_feed) ∙ ap (λ l. l ∷ script_of rest) (sym line.said_is)),
+          ∙ (ap (map line_of) (cut_line line.text rest line.no_feed) ∙ ap (λ l. l ∷ script_of rest) (sym line.said_is)),
       (let n = ap length line.bytes_are in let m = length-append line.text (10 ∷ rest) in omega arith),
       cut.2,
     )
