@@ -3,7 +3,6 @@ use Rattle.std.proofs.Common.{◌≡◌, ℕ, ◌+◌, ◌≤◌, ◌||◌, Bool
 use Rattle.std.specs.Prelude.{Result, Ok, Err, IsErr, MatchResult}
 use Rattle.std.specs.List.{list_any}
 use Rattle.std.proofs.lemmas.List.Folds.{list_any-append}
-use Rattle.board.specs.Legal.{is_shut}
 use Rattle.dialogues.specs.Dialogues.{Ends}
 use Rattle.dialogues.specs.Leading.{Leads}
 use Rattle.dialogues.specs.Lines.{line_dialogue, lines_dialogue}
@@ -25,7 +24,7 @@ use Rattle.transforms.specs.declared.ask.Ask.{Ask}
 use Rattle.transforms.specs.declared.request.Finished.{Finished}
 use Rattle.client_run.specs.Laws.{Laws}
 use Rattle.client_run.proofs.Following.{sees-then}
-use Rattle.client_run.proofs.Turns.{texts-joined, asked-none, asked-then, asked-more, called-none, called-then, called-more, locks-same, locks-then, widest-some, widest-front, widest-last}
+use Rattle.client_run.proofs.Turns.{texts-joined, asked-none, asked-then, asked-more, called-none, called-then, called-more, locks-same, locks-then, widest-front, widest-last}
 
 -- What a script has done since its session was this one: the turn of these lines, whatever comes after them.
 pub record Led (first : State) (text : List ℕ) (done : List Line) (number : ℕ) (s : State) (text' : List ℕ) : Type 0 where

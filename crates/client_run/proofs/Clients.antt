@@ -1,5 +1,5 @@
 -- What a client's script leaves.
-use Rattle.std.proofs.Common.{◌≡◌, ℕ, ◌+◌, ◌-◌, ◌≤◌, ◌<◌, Bool, true, List, [], ◌++◌, Option, Some, None, refl, sym, ap, subst, ◌∙◌, arith}
+use Rattle.std.proofs.Common.{◌≡◌, ℕ, ◌+◌, ◌-◌, ◌≤◌, Bool, true, List, [], ◌++◌, Option, Some, None, refl, sym, ap, subst, ◌∙◌, arith}
 use Rattle.std.specs.Prelude.{is_some, slice_get, All, Contains, Result, Ok, Err, IfOk, MatchResult}
 use Rattle.std.specs.List.{list_any}
 use Rattle.std.proofs.lemmas.List.Elements.{All-contains, All-weaker, Contains-get_or}
@@ -26,7 +26,7 @@ use Rattle.script_run.specs.Text.{is_malformed}
 use Rattle.script_session.specs.Ending.{AnswersEndBeside, EndsPaid}
 use Rattle.script_session.specs.Holding.{Stops}
 use Rattle.script_session.specs.Running.{IsReady, Replies}
-use Rattle.script_session.specs.States.{State, AreShared, HasShared}
+use Rattle.script_session.specs.States.{State, HasShared}
 use Rattle.script_text.specs.declared.commands.Line.{Line}
 use Rattle.session_calls.specs.Asking.{IsCaller}
 use Rattle.session_calls.specs.Passes.{known}

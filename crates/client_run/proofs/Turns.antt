@@ -7,7 +7,7 @@ use Rattle.dialogues.specs.BoardCalls.{BoardCall, board_calls}
 use Rattle.dialogues.specs.Dialogues.{Dialogue, Ends, Says, Asks, Posts, followed}
 use Rattle.dialogues.specs.InTurn.{AreInTurnBy}
 use Rattle.dialogues.specs.Lines.{line_dialogue, lines_dialogue}
-use Rattle.dialogues.specs.RegistryCalls.{RegCall, reg_calls, AllSettled}
+use Rattle.dialogues.specs.RegistryCalls.{RegCall}
 use Rattle.dialogues.specs.Turns.{Turn, joined, text_in}
 use Rattle.dialogues.specs.Walk.{Walk}
 use Rattle.dialogues.specs.Widths.{width_of, widest}

@@ -1,7 +1,6 @@
 -- How a client begins with its passes, and what it does with its part.
-use Rattle.std.specs.Prelude.{ℕ, ◌-◌, ◌≤◌, ◌≡◌, Bool, List, [], ◌++◌, Option, Some, IsSome, slice_get}
+use Rattle.std.specs.Prelude.{ℕ, ◌-◌, ◌≤◌, ◌≡◌, Bool, List, Option, Some, IsSome, slice_get}
 use Rattle.std.specs.List.{list_any}
-use Rattle.alg_registry.specs.declared.entry.RegEntry.{RegEntry}
 use Rattle.alg_registry.specs.Rows.{caller_of as reg_caller}
 use Rattle.board.specs.Entries.{caller_of as board_caller}
 use Rattle.board.specs.Legal.{LegalBoard}
@@ -16,7 +15,6 @@ use Rattle.session_calls.specs.Asking.{AskedBy}
 use Rattle.session_calls.specs.Passes.{known}
 use Rattle.session_calls.specs.Pipelines.{Called}
 use Rattle.transforms.specs.declared.ask.Ask.{Ask}
-use Rattle.turn_lock.specs.Meeting.{Meets, AtTurn, Leaves}
 use Rattle.turn_lock.specs.Passes.{knows}
 use Rattle.turn_lock.specs.Turns.{Known, StartsWith, of}
 use Rattle.dialogues.specs.Widths.{widest}

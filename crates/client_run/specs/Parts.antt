@@ -1,5 +1,5 @@
 -- What the scripts in the parts of an input do, each with passes of its own.
-use Rattle.std.specs.Prelude.{ℕ, ◌+◌, ◌-◌, ◌^◌, ◌<◌, ◌≤◌, ◌≡◌, Bool, false, List, [], ◌++◌, length, Some, Result, IfOk, slice_get, All}
+use Rattle.std.specs.Prelude.{ℕ, ◌-◌, ◌^◌, ◌≤◌, ◌≡◌, Bool, false, List, [], ◌++◌, length, Some, Result, IfOk, slice_get, All}
 use Rattle.std.specs.List.{list_any}
 use Rattle.alg_registry.specs.declared.entry.RegEntry.{RegEntry}
 use Rattle.alg_registry.specs.Rows.{caller_of as reg_caller}

@@ -1,6 +1,4 @@
-use Rattle.std.proofs.Common.{ap, subst, sym, ◌∙◌, Ok, Some, arith}
-use Rattle.std.specs.Prelude.{IfOk}
-use Rattle.script_text.specs.Pending.{Kept}
+use Rattle.std.proofs.Common.{subst, arith}
 use Rattle.client_run.specs.Lines.{FindsLine}
 use Rattle.client_run.proofs.Answering.{stopped, stops-then, answering-begins, answering-stops, answering-more, answering-ends, answering-malformed}
 use Rattle.client_run.proofs.NextLines.{fed}

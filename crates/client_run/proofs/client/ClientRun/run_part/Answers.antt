@@ -1,7 +1,6 @@
-use Rattle.std.proofs.Common.{◌≡◌, ◌-◌, Some, ap, ◌∙◌}
+use Rattle.std.proofs.Common.{◌-◌, Some, ap, ◌∙◌}
 use Rattle.std.specs.Arc.{arc_value}
 use Rattle.dialogues.specs.Walk.{start_beside}
-use Rattle.script_session.specs.States.{State}
 use Rattle.script_text.specs.Script.{script_of}
 use Rattle.client_run.proofs.Clients.{client-ready, if-answered}
 use Rattle.client_run.proofs.client.ClientRun.run_part.Goals as goal

@@ -1,4 +1,4 @@
-use Rattle.std.proofs.Common.{◌≤◌, ◌-◌, ◌^◌, List, ℕ, length, ap}
+use Rattle.std.proofs.Common.{◌≤◌, ◌-◌, ◌^◌, length, ap}
 use Rattle.std.specs.Option.{option_copied}
 use Rattle.client_run.proofs.Clients.{all-at}
 use Rattle.client_run.proofs.client.ClientRunPeerPassesAsk.run.Goals as goal
