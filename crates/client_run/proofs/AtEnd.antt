@@ -237,7 +237,7 @@ module _ (laws : EndLaws) (workers clients : ℕ) (few : workers ≤ 16) (q : Pa
     pub one-lists : AreOneList clients b
     one-lists p shared =
         let first_ = shared-is-first b kb hb left.shut legal-seen laws.shut.others laws.shut.mine laws.shut.drained legal workers clients few beside-seen next-b ws-b (numbers-of 17 ws-b ob jb rest.ran.2) rs-count paid laws.shut.right p
-            (subst (λ xs. is_shared (entries_of p xs) ≡ true) whole shared) in
+        (subst (λ xs. is_shared (entries_of p xs) ≡ true) whole shared) in
         record {
           ordered = ordered p;
           handed = subst (λ xs. completed (handed_out (entries_of p xs)) ≡ numbers_below (length (submissions (entries_of p xs)))) (sym whole)

@@ -16,7 +16,7 @@ under-one-more n (t ∷ texts) text =
     let e : n + 1 + length texts ≡ n + length (t ∷ texts) = omega arith in
     let under = under_headings (n + 1) texts in
     ap (λ x. (heading n ++ t) ++ x) (later ∙ ap (λ m. under ++ (heading m ++ text)) e)
-        ∙ sym (append_assoc (heading n ++ t) under (heading (n + length (t ∷ texts)) ++ text))
+    ∙ sym (append_assoc (heading n ++ t) under (heading (n + length (t ∷ texts)) ++ text))
 
 or-false : (b : Bool) → (b || false) ≡ b
 or-false true = refl

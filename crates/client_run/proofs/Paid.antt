@@ -52,7 +52,6 @@ module _ {A : Type 0} where
       (mine : (xs es : List (BoardEntry A)) (p caller : ℕ) → WorkLeavesKnown xs es p caller)
       (stays : (xs es : List (BoardEntry A)) (p caller : ℕ) → WorkLeavesDrained xs es p caller)
       (legal_log : LegalBoard log) where
-
     -- what a client made is finished, and shared with nobody
     client-paid : (w : Known (BoardEntry A)) → HasEnded w k → HasPaid w → 17 ≤ w.number → w.number < k.next → (p : ℕ) → MayManage (entries_of p k.seen) w.number → is_closed (entries_of p k.seen) ≡ false
         → (front (entries_of p k.seen) ≡ length (submissions (entries_of p k.seen))) × (is_shared (entries_of p k.seen) ≡ false)
