@@ -1,12 +1,10 @@
 -- What the histories of several scripts at once are.
-use Rattle.std.proofs.Common.{◌≡◌, ◌≢◌, ◌<◌, ◌≤◌, ◌⊎◌, ◌+◌, ◌-◌, ℕ, zero, suc, Bool, true, false, ◌||◌, List, [], ◌∷◌, ◌++◌, length, map, Option, Some, None, sym, refl, ap, ◌∙◌, subst, arith, inl, inr, append-nil, append_assoc}
-use Rattle.std.specs.Prelude.{IfOk, OnOk, Result, Ok, Err, All}
+use Rattle.std.proofs.Common.{◌≡◌, ◌<◌, ◌≤◌, ◌⊎◌, ◌+◌, ℕ, zero, suc, Bool, true, false, ◌||◌, List, [], ◌∷◌, ◌++◌, length, map, sym, refl, ap, ◌∙◌, subst, arith, inl, inr, append-nil}
+use Rattle.std.specs.Prelude.{All}
 use Rattle.std.specs.List.{list_any}
 use Rattle.std.proofs.lemmas.List.Elements.{All-nil, All-cons, filter-append}
 use Rattle.std.proofs.Math.Nat.{eq-or-lt_of_le}
 use Rattle.alg_registry.specs.declared.entry.RegEntry.{RegEntry}
-use Rattle.alg_registry.specs.Legal.{LegalReg}
-use Rattle.alg_registry.specs.Made.{Made}
 use Rattle.alg_registry.specs.Rows.{caller_of as reg_caller}
 use Rattle.board.specs.declared.entry.BoardEntry.{BoardEntry}
 use Rattle.board.specs.declared.entry.BoardEntry.TheVariants.{Shut}
@@ -14,30 +12,27 @@ use Rattle.board.specs.Allowance.{accepted_by}
 use Rattle.board.specs.Entries.{is_of, entries_of, submissions, front, is_closed, is_shared, caller_of as board_caller}
 use Rattle.board.specs.Legal.{MayManage, LegalBoard}
 use Rattle.board.specs.Order.{completed, handed_out, numbers_below}
-use Rattle.client_texts.specs.Outputs.{AreClientTexts, IsOutputOf, under_headings}
-use Rattle.client_texts.specs.Sharing.{AreInOrder, IsOneList, AreOneList, AreCallersBeside, IsOneOf, caller_for}
+use Rattle.client_texts.specs.Outputs.{AreClientTexts, IsOutputOf}
+use Rattle.client_texts.specs.Sharing.{AreInOrder, AreOneList, AreCallersBeside, IsOneOf, caller_for}
 use Rattle.crew.specs.declared.passes.Passes.{Passes}
-use Rattle.crew.specs.Peers.{HasEnded, Peered, OthersFollow}
+use Rattle.crew.specs.Peers.{HasEnded, OthersFollow}
 use Rattle.dialogues.specs.Texts.{IsClientText, AreFirstTexts}
-use Rattle.dialogues.specs.Walk.{Walk, Live}
+use Rattle.dialogues.specs.Walk.{Live}
 use Rattle.reply_text.specs.Answers.{text_of}
 use Rattle.script_run.specs.Endings.{EndsShut, IsShutOnce}
 use Rattle.script_run.specs.Text.{is_malformed}
 use Rattle.script_text.specs.declared.commands.Line.{Line}
 use Rattle.script_text.specs.Script.{script_of}
-use Rattle.session_calls.specs.Pipelines.{Owns}
 use Rattle.std.specs.List.{flat_map}
 use Rattle.transforms.specs.declared.ask.Ask.{Ask}
 use Rattle.turn_lock.specs.Going.{starts_through}
-use Rattle.turn_lock.specs.Meeting.{IsOwn}
 use Rattle.turn_lock.specs.Passes.{knows}
 use Rattle.turn_lock.specs.Turns.{Known, Each, StartsWith}
-use Rattle.client_run.specs.Beside.{IsHistoryOf, GaveNumbers, HasShutLast, HaveLeft, AnswersParts, AnswersRest, texts_in, is_bad}
+use Rattle.client_run.specs.Beside.{IsHistoryOf, HaveLeft, AnswersParts, AnswersRest, texts_in}
 use Rattle.client_run.specs.EndLaws.{EndLaws}
-use Rattle.client_run.specs.Parts.{ClientRan}
-use Rattle.client_run.proofs.Ended.{each-map, each-right, each-left, begins, client-alone, first-alone, callers-beside}
+use Rattle.client_run.proofs.Ended.{each-map, each-left, begins, client-alone, first-alone, callers-beside}
 use Rattle.client_run.proofs.FirstText.{first-texts}
-use Rattle.client_run.proofs.Paid.{HasPaid, Numbered, numbers-of, finished-by, shared-is-first}
+use Rattle.client_run.proofs.Paid.{HasPaid, numbers-of, finished-by, shared-is-first}
 use Rattle.client_run.proofs.Rest.{each-of-map, length-of-map, met-others, have-ended, next-of, SaidAll, all-said}
 use Rattle.client_run.proofs.ShutLast.{IsBeside, crews-follow, shut-is-last, seen-whole, goes-on, legal-front}
 
@@ -242,7 +237,7 @@ module _ (laws : EndLaws) (workers clients : ℕ) (few : workers ≤ 16) (q : Pa
     pub one-lists : AreOneList clients b
     one-lists p shared =
         let first_ = shared-is-first b kb hb left.shut legal-seen laws.shut.others laws.shut.mine laws.shut.drained legal workers clients few beside-seen next-b ws-b (numbers-of 17 ws-b ob jb rest.ran.2) rs-count paid laws.shut.right p
-            (subst (λ xs. is_shared (entries_of p xs) ≡ true) whole shared) in
+        (subst (λ xs. is_shared (entries_of p xs) ≡ true) whole shared) in
         record {
           ordered = ordered p;
           handed = subst (λ xs. completed (handed_out (entries_of p xs)) ≡ numbers_below (length (submissions (entries_of p xs)))) (sym whole)

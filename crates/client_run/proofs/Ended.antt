@@ -1,10 +1,8 @@
 -- What follows at the end from what the scripts left.
-use Rattle.std.proofs.Common.{◌≡◌, ◌≢◌, ◌<◌, ◌≤◌, ◌⊎◌, ◌+◌, ℕ, zero, suc, Bool, true, false, ◌&&◌, List, [], ◌∷◌, ◌++◌, length, sym, refl, ap, ◌∙◌, subst, arith, inl, inr, append-nil, append_assoc}
+use Rattle.std.proofs.Common.{◌≡◌, ◌<◌, ◌≤◌, ◌⊎◌, ◌+◌, ℕ, Bool, true, false, List, [], ◌∷◌, ◌++◌, sym, ap, ◌∙◌, subst, arith, inl, inr}
 use Rattle.std.specs.Prelude.{◌==◌, if◌then◌else◌}
-use Rattle.std.specs.List.{list_all}
-use Rattle.std.proofs.lemmas.Bool.{eq-eqb, cases_lt}
-use Rattle.std.proofs.lemmas.List.Elements.{filter-append}
-use Rattle.turn_lock.specs.Going.{none_after, starts_through}
+use Rattle.std.proofs.lemmas.Bool.{eq-eqb}
+use Rattle.turn_lock.specs.Going.{starts_through}
 use Rattle.turn_lock.specs.Turns.{Known, Each, Has, StartsWith, Shows, of}
 use Rattle.turn_lock.specs.Meeting.{IsOwn}
 use Rattle.crew.specs.Peers.{HasEnded, OthersFollow, EndedStays, EndedAreAlone, FirstIsAlone, CallersAre}

@@ -1,17 +1,16 @@
 -- What the first part and the end of its input print.
-use Rattle.std.proofs.Common.{◌≡◌, ℕ, Bool, List, [], ◌∷◌, ◌++◌, Option, Some, None, refl, sym, ap, subst, ◌∙◌, append-nil, append_assoc}
-use Rattle.std.specs.Prelude.{filter, IsSome}
+use Rattle.std.proofs.Common.{◌≡◌, ℕ, List, [], ◌++◌, Some, refl, sym, ap, subst, ◌∙◌, append-nil, append_assoc}
 use Rattle.std.specs.List.{flat_map}
 use Rattle.alg_registry.specs.declared.entry.RegEntry.{RegEntry}
 use Rattle.alg_registry.specs.Rows.{caller_of as reg_caller}
 use Rattle.board.specs.declared.entry.BoardEntry.{BoardEntry}
 use Rattle.board.specs.Entries.{caller_of as board_caller}
 use Rattle.crew.specs.Peers.{OthersFollow}
-use Rattle.dialogues.specs.BoardCalls.{BoardCall, board_calls, board_calls_from, is_called}
-use Rattle.dialogues.specs.Dialogues.{Dialogue, Ends}
+use Rattle.dialogues.specs.BoardCalls.{BoardCall, board_calls}
+use Rattle.dialogues.specs.Dialogues.{Ends}
 use Rattle.dialogues.specs.Lines.{lines_dialogue}
 use Rattle.dialogues.specs.Piping.{end as ending_of}
-use Rattle.dialogues.specs.RegistryCalls.{RegCall, reg_calls, reg_calls_from, AllSettled}
+use Rattle.dialogues.specs.RegistryCalls.{reg_calls, AllSettled}
 use Rattle.dialogues.specs.Sharing.{share_all, closing}
 use Rattle.dialogues.specs.Texts.{AreFirstTexts}
 use Rattle.dialogues.specs.Turns.{Turn, IsTurn, joined, turn_of, text_in}
@@ -21,7 +20,7 @@ use Rattle.reply_text.specs.declared.answers.Answer.{Answer}
 use Rattle.script_text.specs.declared.commands.Line.{Line}
 use Rattle.script_session.specs.Ending.{part, LeadsBy}
 use Rattle.transforms.specs.declared.ask.Ask.{Ask}
-use Rattle.turn_lock.specs.Turns.{Known, of}
+use Rattle.turn_lock.specs.Turns.{Known}
 use Rattle.client_run.specs.Laws.{Laws}
 use Rattle.client_run.proofs.Following.{board_calls-same, reg_calls-same}
 

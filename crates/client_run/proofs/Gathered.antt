@@ -1,5 +1,5 @@
 -- Texts under their headings.
-use Rattle.std.proofs.Common.{◌≡◌, ℕ, ◌+◌, zero, suc, Bool, true, false, ◌||◌, List, [], ◌∷◌, ◌++◌, length, map, Option, Some, None, Ok, refl, sym, ap, subst, ◌∙◌, arith, append-nil, append_assoc, ◌≤◌}
+use Rattle.std.proofs.Common.{◌≡◌, ℕ, ◌+◌, Bool, true, false, ◌||◌, List, [], ◌∷◌, ◌++◌, length, map, Ok, refl, sym, ap, ◌∙◌, arith, append-nil, append_assoc, ◌≤◌}
 use Rattle.std.specs.Prelude.{reverse, Result, Err, IsOk, IfOk}
 use Rattle.std.specs.List.{list_any}
 use Rattle.std.proofs.lemmas.List.{reverse-reverse, reverse-append, map-append, length-append, length-reverse, length-map}
@@ -16,7 +16,7 @@ under-one-more n (t ∷ texts) text =
     let e : n + 1 + length texts ≡ n + length (t ∷ texts) = omega arith in
     let under = under_headings (n + 1) texts in
     ap (λ x. (heading n ++ t) ++ x) (later ∙ ap (λ m. under ++ (heading m ++ text)) e)
-        ∙ sym (append_assoc (heading n ++ t) under (heading (n + length (t ∷ texts)) ++ text))
+    ∙ sym (append_assoc (heading n ++ t) under (heading (n + length (t ∷ texts)) ++ text))
 
 or-false : (b : Bool) → (b || false) ≡ b
 or-false true = refl

@@ -1,6 +1,6 @@
 -- What is known when the clients have ended, for what follows.
-use Rattle.std.proofs.Common.{◌≡◌, ◌≤◌, ◌+◌, ℕ, zero, suc, Bool, true, false, List, [], ◌∷◌, ◌++◌, length, map, Ok, Err, sym, refl, ap, ◌∙◌, subst, inl, inr}
-use Rattle.std.specs.Prelude.{Result, IfOk, IsOk, MatchResult, OnErr, reverse}
+use Rattle.std.proofs.Common.{◌≡◌, ◌≤◌, ◌+◌, ℕ, suc, Bool, true, false, List, [], ◌∷◌, ◌++◌, length, map, Ok, Err, sym, refl, ap, ◌∙◌, subst, inl}
+use Rattle.std.specs.Prelude.{Result, IfOk, IsOk, MatchResult, reverse}
 use Rattle.std.proofs.lemmas.List.{reverse-reverse}
 use Rattle.alg_registry.specs.declared.entry.RegEntry.{RegEntry}
 use Rattle.alg_registry.specs.Legal.{LegalReg}
@@ -36,7 +36,7 @@ use Rattle.client_run.specs.Beside.{GaveNumbers, GaveWorkers, HasShutLast, HaveL
 use Rattle.client_run.specs.EndLaws.{EndLaws, ShutLaws}
 use Rattle.client_run.specs.Parts.{FirstOpens, ClientRan}
 use Rattle.client_run.proofs.AtEnd.{callers-are, shut-once, ends-shut, printed, malformed-is, one-lists}
-use Rattle.client_run.proofs.Rest.{history-of, numbers-after, numbers-then, length-of-map, have-ended, met-joined, met-gone, met-unshut, shut-last, shut-next, shut-ended, none-began}
+use Rattle.client_run.proofs.Rest.{history-of, numbers-after, numbers-then, length-of-map, have-ended, met-joined, met-gone, met-unshut, shut-last, shut-next, none-began}
 
 pub ok-map : {X E : Type 0} (P Q : X → Type 0) (r : Result X E) → ((x : X) → P x → Q x) → IfOk r P → IfOk r Q
 ok-map P Q (Ok x) f holds = f x holds

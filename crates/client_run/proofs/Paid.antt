@@ -1,11 +1,9 @@
 -- Each maker has finished what it made, and what is shared the first one made.
-use Rattle.std.proofs.Common.{◌≡◌, ◌≢◌, ◌<◌, ◌≤◌, ◌⊎◌, ◌+◌, ℕ, zero, suc, Bool, true, false, List, [], ◌∷◌, ◌++◌, length, sym, refl, ap, ◌∙◌, subst, arith, inl, inr}
-use Rattle.std.specs.List.{list_all}
+use Rattle.std.proofs.Common.{◌≡◌, ◌<◌, ◌≤◌, ◌⊎◌, ◌+◌, ℕ, suc, Bool, true, false, List, [], ◌∷◌, length, sym, ap, ◌∙◌, subst, arith, inl, inr}
 use Rattle.std.proofs.Math.Nat.{eq-or-lt_of_le}
-use Rattle.turn_lock.specs.Turns.{Known, Each, of}
+use Rattle.turn_lock.specs.Turns.{Known, Each}
 use Rattle.turn_lock.specs.Meeting.{IsOwn}
 use Rattle.board.specs.declared.entry.BoardEntry.{BoardEntry}
-use Rattle.board.specs.declared.entry.BoardEntry.TheVariants.{Shut}
 use Rattle.board.specs.Entries.{entries_of, submissions, front, is_closed, is_shared, caller_of}
 use Rattle.board.specs.Following.{AreRightAlone}
 use Rattle.board.specs.Legal.{MayManage, LegalBoard}
@@ -13,7 +11,6 @@ use Rattle.board.specs.Others.{OthersAlone, WorkLeavesKnown, WorkLeavesDrained}
 use Rattle.board.specs.Staying.{IsDrained}
 use Rattle.crew.specs.Peers.{HasEnded, Peered}
 use Rattle.client_run.specs.Beside.{IsHistoryOf, HasShutLast}
-use Rattle.client_run.proofs.Ended.{each-right, each-left}
 use Rattle.client_run.proofs.Makers.{IsHad, made-before, open-before, maker-of, shared-had}
 use Rattle.client_run.proofs.ShutLast.{IsBeside, client-follow}
 
@@ -55,7 +52,6 @@ module _ {A : Type 0} where
       (mine : (xs es : List (BoardEntry A)) (p caller : ℕ) → WorkLeavesKnown xs es p caller)
       (stays : (xs es : List (BoardEntry A)) (p caller : ℕ) → WorkLeavesDrained xs es p caller)
       (legal_log : LegalBoard log) where
-
     -- what a client made is finished, and shared with nobody
     client-paid : (w : Known (BoardEntry A)) → HasEnded w k → HasPaid w → 17 ≤ w.number → w.number < k.next → (p : ℕ) → MayManage (entries_of p k.seen) w.number → is_closed (entries_of p k.seen) ≡ false
         → (front (entries_of p k.seen) ≡ length (submissions (entries_of p k.seen))) × (is_shared (entries_of p k.seen) ≡ false)

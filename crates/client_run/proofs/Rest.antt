@@ -1,6 +1,6 @@
 -- What is known once the clients have ended, and once the board is shut.
-use Rattle.std.proofs.Common.{◌≡◌, ◌≢◌, ◌<◌, ◌≤◌, ◌⊎◌, ◌+◌, ◌-◌, ℕ, zero, suc, Bool, true, false, ◌||◌, List, [], ◌∷◌, ◌++◌, length, map, Option, Some, None, Ok, sym, refl, ap, ◌∙◌, subst, arith, inl, inr, append-nil, append_assoc}
-use Rattle.std.specs.Prelude.{◌==◌, if◌then◌else◌, Result, IfOk, slice_get, All}
+use Rattle.std.proofs.Common.{◌≡◌, ◌<◌, ◌≤◌, ◌+◌, ◌-◌, ℕ, suc, Bool, false, ◌||◌, List, [], ◌∷◌, ◌++◌, length, map, Option, Some, None, Ok, sym, refl, ap, ◌∙◌, subst, arith, inl, inr, append_assoc}
+use Rattle.std.specs.Prelude.{◌==◌, if◌then◌else◌, Result, IfOk, slice_get}
 use Rattle.std.specs.List.{list_any}
 use Rattle.std.proofs.lemmas.Bool.{eq-eqb}
 use Rattle.std.proofs.lemmas.List.{length-append}
@@ -9,14 +9,13 @@ use Rattle.alg_registry.specs.declared.entry.RegEntry.{RegEntry}
 use Rattle.alg_registry.specs.Rows.{caller_of as reg_caller}
 use Rattle.board.specs.declared.entry.BoardEntry.{BoardEntry}
 use Rattle.board.specs.declared.entry.BoardEntry.TheVariants.{Shut}
-use Rattle.board.specs.Alone.{HasEntries, PeersGone}
+use Rattle.board.specs.Alone.{PeersGone}
 use Rattle.board.specs.Entries.{caller_of as board_caller}
 use Rattle.board.specs.Legal.{LegalBoard, is_shut}
 use Rattle.client_texts.specs.Outputs.{AreClientTexts}
 use Rattle.crew.specs.Crews.{Crewed}
 use Rattle.crew.specs.declared.passes.Passes.{Passes}
 use Rattle.crew.specs.Peers.{HasEnded, Peered, OthersFollow, RunsOnBoth}
-use Rattle.dialogues.specs.Texts.{IsClientText}
 use Rattle.dialogues.specs.Walk.{Live, Pipe}
 use Rattle.script_run.specs.Text.{is_malformed}
 use Rattle.script_session.specs.Ending.{EndsPaid}
@@ -26,17 +25,17 @@ use Rattle.script_session.specs.States.{AreShared, HasShared, owners}
 use Rattle.script_text.specs.Script.{script_of}
 use Rattle.session_calls.specs.declared.stop.Stop.{Stop}
 use Rattle.session_calls.specs.Pipelines.{Owns}
-use Rattle.session_calls.specs.Sharing.{HaveEnded, Rejoined, LentIsShared}
+use Rattle.session_calls.specs.Sharing.{HaveEnded, LentIsShared}
 use Rattle.transforms.specs.declared.ask.Ask.{Ask}
 use Rattle.turn_lock.specs.Going.{starts_through}
 use Rattle.turn_lock.specs.Meeting.{AtTurn, Enters, Leaves, IsOwn}
 use Rattle.turn_lock.specs.Passes.{knows}
-use Rattle.turn_lock.specs.Turns.{Known, Each, Has, StartsWith, Shows, of, sees, adds}
+use Rattle.turn_lock.specs.Turns.{Known, Each, Has, StartsWith, Shows}
 use Rattle.client_run.specs.declared.client.ClientText.{ClientText}
 use Rattle.client_run.specs.Beside.{IsHistoryOf, GaveNumbers, HasShutLast, texts_in, is_bad}
 use Rattle.client_run.specs.EndLaws.{PeerLaws, ShutLaws}
-use Rattle.client_run.specs.Parts.{FirstOpens, ClientRan, ClientAnswers}
-use Rattle.client_run.proofs.Paid.{HasPaid, Numbered, numbers-of, pick}
+use Rattle.client_run.specs.Parts.{ClientRan, ClientAnswers}
+use Rattle.client_run.proofs.Paid.{HasPaid, numbers-of, pick}
 
 -- ---- passes
 

@@ -1,25 +1,22 @@
 -- The board's history ends with the shut, and each pipeline's requests are all finished then.
 use Rattle.std.proofs.Common.{◌≡◌, ◌≢◌, ◌<◌, ◌≤◌, ◌⊎◌, ◌+◌, ℕ, zero, suc, Bool, true, false, ◌&&◌, List, [], ◌∷◌, ◌++◌, length, sym, refl, ap, ◌∙◌, subst, arith, inl, inr, append-nil, append_assoc}
-use Rattle.std.specs.Prelude.{◌==◌, if◌then◌else◌, All}
-use Rattle.std.specs.List.{list_all, filter}
-use Rattle.std.proofs.lemmas.Bool.{eq-eqb, cases_lt}
+use Rattle.std.specs.Prelude.{All}
+use Rattle.std.specs.List.{list_all}
 use Rattle.std.proofs.lemmas.List.Elements.{filter-append, All-nil, All-cons}
-use Rattle.turn_lock.specs.Going.{none_after, starts_through}
-use Rattle.turn_lock.specs.Turns.{Known, Each, Has, StartsWith, Shows, of}
+use Rattle.turn_lock.specs.Going.{none_after}
+use Rattle.turn_lock.specs.Turns.{Known, Each, Shows, of}
 use Rattle.turn_lock.specs.Meeting.{IsOwn}
 use Rattle.board.specs.declared.entry.BoardEntry.{BoardEntry}
 use Rattle.board.specs.declared.entry.BoardEntry.TheVariants.{Shut}
-use Rattle.board.specs.Alone.{PeersGone, WorkAlone}
+use Rattle.board.specs.Alone.{WorkAlone}
 use Rattle.board.specs.Ends.{IsAllFinished, ShutIsLast}
-use Rattle.board.specs.Entries.{is_of, entries_of, submissions, front, is_closed, is_shared, caller_of}
+use Rattle.board.specs.Entries.{is_of, entries_of, submissions, front, is_closed, caller_of}
 use Rattle.board.specs.Legal.{AreRightAfter, MayManage, LegalBoard}
-use Rattle.board.specs.Others.{OthersAlone, WorkLeavesKnown, WorkLeavesDrained}
 use Rattle.board.specs.Sharing.{MakersFinish}
-use Rattle.board.specs.Staying.{IsDrained, is_work}
+use Rattle.board.specs.Staying.{is_work}
 use Rattle.crew.specs.Peers.{HasEnded}
 use Rattle.client_run.specs.Beside.{IsHistoryOf, HasShutLast}
-use Rattle.client_run.proofs.Ended.{each-left, each-right, each-map, kept-of, none-here, none-later, begins, shows-own, ended-made}
-use Rattle.client_run.proofs.Makers.{made-before, open-before, maker-of}
+use Rattle.client_run.proofs.Ended.{each-right, none-here, none-later, begins, shows-own, ended-made}
 
 above-zero : (n : ℕ) → n ≢ 0 → 1 ≤ n
 above-zero zero not = absurd (not refl)

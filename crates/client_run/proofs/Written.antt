@@ -1,6 +1,6 @@
 -- What a run writes, and what it leaves.
-use Rattle.std.proofs.Common.{◌≡◌, ◌≤◌, ◌⊎◌, ◌+◌, ℕ, zero, suc, Bool, true, false, List, [], ◌∷◌, ◌++◌, length, map, Option, Some, None, Result, Ok, Err, sym, refl, ap, ◌∙◌, subst, inl, inr, append-nil, append_assoc, arith, rules}
-use Rattle.std.specs.Prelude.{IfOk, IfErr, IfSome, IsOk, IsTrue, OnOk, OnErr, All, ⊤}
+use Rattle.std.proofs.Common.{◌≡◌, ◌≤◌, ◌⊎◌, ℕ, Bool, true, false, List, [], ◌++◌, map, Option, Some, None, Result, Ok, Err, sym, refl, ap, ◌∙◌, subst, inl, inr, append-nil, append_assoc, arith, rules}
+use Rattle.std.specs.Prelude.{IfOk, IfErr, IfSome, IsOk, IsTrue, OnOk, OnErr, ⊤}
 use Rattle.std.specs.List.{list_any}
 use Rattle.std.specs.Io.KnownBytes.{Appends, Keeps, Consumes, IsAtEnd}
 use Rattle.std.proofs.KnownBytes.{Appends-trans}
@@ -15,7 +15,6 @@ use Rattle.script_run.specs.Statuses.{status_of}
 use Rattle.script_run.specs.Text.{is_malformed}
 use Rattle.script_run.specs.declared.errors.RunError.{RunError}
 use Rattle.script_run.specs.declared.errors.RunError.TheVariants.{Usage, ReadFault, WriteFault, NoMemory, TooLong}
-use Rattle.script_text.specs.Parts.{parts_of}
 use Rattle.script_text.specs.Script.{script_of}
 use Rattle.trace_text.specs.Asks.{ask_origin}
 use Rattle.trace_text.specs.Trace.{FitTypes}

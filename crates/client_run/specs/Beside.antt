@@ -32,8 +32,8 @@ use Rattle.client_run.specs.Parts.{FirstOpens, ClientRan}
 -- ---- the first one's passes
 
 module _ {E : Type 0} where
-  -- The pass was this when its caller had done all that it did, and this is the history at the lock's end. Between them workers' passes
-  -- were joined into it.
+  -- The pass was this when its caller had done all that it did, and this is the history at the lock's end. Between them
+  -- workers' passes were joined into it.
   pub record IsHistoryOf (by : E → ℕ) (k : Known E) (log : List E) : Type 0 where
     pub last : Known E
     pub number : last.number ≡ k.number
@@ -43,7 +43,8 @@ module _ {E : Type 0} where
     pub ended : StartsWith last.ended k.ended
     pub shows : Shows by last log
 
-  -- The pass gave the workers' numbers and no others, or those of so many clients too: what it passed over has ended without an entry.
+  -- The pass gave the workers' numbers and no others, or those of so many clients too: what it passed over has ended
+  -- without an entry.
   abbrev pub GaveNumbers : ℕ → ℕ → Known E → Type 0
   GaveNumbers workers clients k =
       (k.next ≡ workers + 1) ⊎ ((k.next ≡ 17 + clients) × ((j : ℕ) → workers + 1 ≤ j → j < 17 → Has (λ x. x ≡ (j, [])) k.ended))
@@ -90,8 +91,8 @@ pub record EndsRest {F : Type 0} (shared : List Live) (k l : Known (BoardEntry A
   pub ends : EndsFirst shared k l (text ++ under_headings 1 (texts_in said)) text'
   pub malformed : bad' ≡ bad || list_any is_bad said
 
--- The clients ran beside one another from the passes p, and then the first one's script ended: the passes are q now. What all said stands
--- behind the text that there was.
+-- The clients ran beside one another from the passes p, and then the first one's script ended: the passes are q now.
+-- What all said stands behind the text that there was.
 pub record AnswersRest (workers : ℕ) (shared : List Live) (parts : List (List ℕ)) (p q : Passes Ask) (text text' : List ℕ) (bad bad' : Bool) : Type 0 where
   pub rs : List (Passes Ask × Result ClientText Stop)
   pub joined : Passes Ask
@@ -117,7 +118,8 @@ pub record AnswersParts (workers : ℕ) (first : List Line) (parts : List (List 
 
 -- ---- the histories
 
--- What the scripts of an input's parts printed, the first part's and one for each client, and the histories that their run left.
+-- What the scripts of an input's parts printed, the first part's and one for each client, and the histories that their
+-- run left.
 pub record PartsRan {F : Type 0} (workers clients : ℕ) (parts : List (List ℕ)) (r : List RegEntry) (b : List (BoardEntry Ask)) (result : Result Output F) : Type 0 where
   pub printed : IfOk result (λ output. IsOutputBy workers (map script_of parts) r b output.reply.text)
   pub malformed : IfOk result (λ output. output.malformed ≡ list_any (list_any is_malformed) (map script_of parts))

@@ -38,15 +38,17 @@ pub record RanClients (workers clients : ℕ) (trace : Bool) (status : ℕ) (lef
   pub faithful : Made table r
   pub callers : AreCallersBeside workers clients r b
   pub closed : IsShutOnce workers b ⊎ (((status ≡ 3) ⊎ (status ≡ 5) ⊎ (status ≡ 6)) × (r ≡ []) × (b ≡ []))
-  -- where it reached the end: all was read, the whole output was written and then the trace, the board was shut last, and each shared
-  -- pipeline had one list of requests, in which those of each client stand in order, and of which each was handed out
+  -- where it reached the end: all was read, the whole output was written and then the trace, the board was shut last,
+  -- and each shared pipeline had one list of requests, in which those of each client stand in order, and of which each
+  -- was handed out
   pub ended : status ≤ 1 → IfSome left (λ input. left' ≡ Some [])
   pub whole : status ≤ 1 → IfSome left (λ input. GainsThen held held' (IsOutput workers clients input r b) (traced trace r b))
   pub readable : trace ≡ true → status ≤ 1 → IfSome left (λ input. CanBeRead r b)
   pub shut : status ≤ 1 → EndsShut b
   pub one_list : status ≤ 1 → AreOneList clients b
   pub malformed : status ≤ 1 → IfSome left (λ input. (status ≡ 1) ↔ IsTrue (has_malformed clients input))
-  -- where the source failed or gave too much nothing was written; where the sink failed or memory was wanting, nothing, or a front
+  -- where the source failed or gave too much nothing was written; where the sink failed or memory was wanting, nothing,
+  -- or a front
   pub unwritten : (status ≡ 3) ⊎ (status ≡ 6) → Keeps held held'
   pub front : (status ≡ 4) ⊎ (status ≡ 5) → IfSome left (λ input. GainsFrontOrNone held held' (IsOutput workers clients input r b) (traced trace r b))
 

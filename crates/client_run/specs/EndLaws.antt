@@ -1,5 +1,6 @@
--- Laws by which several scripts at once end: of passes that were split off and joined, of a board that is shut, and of texts.
-use Rattle.std.specs.Prelude.{ℕ, Bool, List}
+-- Laws by which several scripts at once end: of passes that were split off and joined, of a board that is shut, and of
+-- texts.
+use Rattle.std.specs.Prelude.{ℕ, List}
 use Rattle.alg_registry.specs.declared.entry.RegEntry.{RegEntry}
 use Rattle.board.specs.declared.entry.BoardEntry.{BoardEntry}
 use Rattle.board.specs.Alone.{PeersAreGone, PeersStayGone, WorkAlone}

@@ -1,4 +1,5 @@
-//! All parts of an input beside workers: the first part alone, then the clients at once, and then the end of the first one's input.
+//! All parts of an input beside workers: the first part alone, then the clients at once, and then the end of the first
+//! one's input.
 
 ghost use Rattle.std.specs.Prelude.{◌≡◌, ◌≤◌, ◌∷◌, ◌^◌, All, List, length, false, IfOk, IsOk};
 ghost use Rattle.std.specs.Arc.{arc_value};
@@ -24,7 +25,8 @@ use crate::first::{Opened, open_first};
 use crate::part::laws;
 use alg_registry::{RegEntry, RegLog};
 use board::{
-    BoardEntry, BoardLog, histories_go_on, others_leave, shared_pipelines_stay, work_ends, workers_are_left,
+    BoardEntry, BoardLog, histories_go_on, others_leave, shared_pipelines_stay, work_ends,
+    workers_are_left,
 };
 use client_texts::requests_in_order;
 use crew::{Gate, Passes, peers_end, run_crew, run_peers};
@@ -84,7 +86,8 @@ fn end_laws()
     requests_in_order();
 }
 
-// Adds the texts of at most 8 clients to the first part's, each under its heading. The last client's stands first among these.
+// Adds the texts of at most 8 clients to the first part's, each under its heading. The last client's stands first among
+// these.
 fn put_texts(
     outs: Result<Vec<Result<ClientText, Stop>>, AllocError>,
     output: Output,
@@ -141,7 +144,8 @@ fn end_all<G: Gate, R: Wait>(
     }
 }
 
-// Runs the clients at once behind the first part, and then the end of the first one's input. The board is shut last, however it ends.
+// Runs the clients at once behind the first part, and then the end of the first one's input. The board is shut last,
+// however it ends.
 fn answer_rest<G: Gate + Sync, R: Threads + Wait + Sync>(
     rt: &R,
     alloc: Global,
@@ -198,8 +202,8 @@ fn answer_rest<G: Gate + Sync, R: Threads + Wait + Sync>(
     (passes, output)
 }
 
-// Answers all parts with passes of both locks: the first part, the clients' and the end of the first one's input. The board is shut last,
-// however it ends.
+// Answers all parts with passes of both locks: the first part, the clients' and the end of the first one's input. The
+// board is shut last, however it ends.
 fn answer_parts<G: Gate + Sync, R: Threads + Wait + Sync>(
     rt: &R,
     alloc: Global,
@@ -268,7 +272,11 @@ fn crew_parts<G: Gate + Sync, R: Threads + Wait + Sync>(
         requires short { (length first.now ≤ 2 ^ 28) × All (λ part. length part ≤ 2 ^ 28) parts.now }
         requires new { AreNew passes }
         requires gave { GaveWorkers workers passes }
-    { answer_parts(rt, alloc, workers, board, registry, gate, passes, first, parts) };
+    {
+        answer_parts(
+            rt, alloc, workers, board, registry, gate, passes, first, parts,
+        )
+    };
     run_crew(rt, alloc, workers, board, registry, passes, gate, &mut main)
 }
 
@@ -307,9 +315,7 @@ fn parts_beside<G: Gate + Sync, R: Threads + Wait + Sync>(
 }
 
 // Both locks, with their first passes.
-fn first_locks(
-    alloc: Global,
-) -> Result<(SharedBoard<Job>, SharedRegistry, Passes<Ask>), AllocError>
+fn first_locks(alloc: Global) -> Result<(SharedBoard<Job>, SharedRegistry, Passes<Ask>), AllocError>
     ensures { IfOk result (λ r. ArePassesOn r.0 r.1 r.2 × (knows r.2.board ≡ newcomer) × (knows r.2.registry ≡ newcomer)) }
 {
     let (registry, on_registry) = SharedRegistry::new(alloc)?;
@@ -321,8 +327,9 @@ fn first_locks(
     Ok((board, registry, passes))
 }
 
-/// Answers all parts of an input, of at most 2^28 bytes each, beside at most 16 workers, on a board and a registry of its own: the first
-/// part alone, those of one to eight clients at once, and then the end of the first one's input. Only want of memory ends it before.
+/// Answers all parts of an input, of at most 2^28 bytes each, beside at most 16 workers, on a board and a registry of
+/// its own: the first part alone, those of one to eight clients at once, and then the end of the first one's input.
+/// Only want of memory ends it before.
 pub fn run_parts<G: Gate + Sync, R: Threads + Wait + Sync>(
     rt: &R,
     alloc: Global,
@@ -343,5 +350,7 @@ pub fn run_parts<G: Gate + Sync, R: Threads + Wait + Sync>(
             board: BoardLog::empty(alloc),
         };
     };
-    parts_beside(rt, alloc, workers, board, registry, gate, passes, first, parts)
+    parts_beside(
+        rt, alloc, workers, board, registry, gate, passes, first, parts,
+    )
 }

@@ -1,5 +1,5 @@
-//! A whole run of several scripts at once: all input is read first, then the scripts run, and then the whole output is written, and the
-//! trace.
+//! A whole run of several scripts at once: all input is read first, then the scripts run, and then the whole output is
+//! written, and the trace.
 
 ghost use Rattle.std.specs.Prelude.{◌≡◌, ◌≤◌, ◌<◌, ◌+◌, ◌^◌, ◌++◌, ◌⊎◌, All, Err, true, length, IfOk, IfErr, IsOk, OnOk, OnErr, IsErrOf, MatchResult};
 ghost use Rattle.std.specs.Io.KnownBytes.{Appends, Keeps};
@@ -37,11 +37,7 @@ fn zeros(alloc: Global, count: usize) -> Result<Vec<u8>, AllocError>
 }
 
 // Reads all that the source has, at most `MAX_INPUT` bytes, and cuts it into the first part and one for each client.
-fn read_parts<S: Source>(
-    alloc: Global,
-    clients: u32,
-    src: &mut S,
-) -> Result<Vec<Bytes>, RunError>
+fn read_parts<S: Source>(alloc: Global, clients: u32, src: &mut S) -> Result<Vec<Bytes>, RunError>
     ensures whole { IfOk result (λ parts. IsCut clients (S.left src.old) (S.left src.new) parts.items) }
     ensures read { ReadsUpTo (S.left src.old) (S.left src.new) (IsErrOf result RunError.TooLong) }
     ensures cause { IsErrOf result RunError.ReadFault → Rose (S.faults src.old) (S.faults src.new) }
@@ -95,7 +91,8 @@ fn put_traced<K: Sink>(
     Ok(())
 }
 
-// Writes the whole output, and then the trace where it is asked for. Where memory was wanting for the output, nothing is written.
+// Writes the whole output, and then the trace where it is asked for. Where memory was wanting for the output, nothing
+// is written.
 fn write_output<K: Sink>(
     alloc: Global,
     trace: bool,
@@ -149,16 +146,12 @@ fn run_cut<K: Sink, G: Gate + Sync, R: Threads + Wait + Sync>(
     }
 }
 
-/// Runs several scripts at once as the options ask, beside at most 16 workers, on a board and a registry of its own: all input is read
-/// first, at most `MAX_INPUT` bytes, and cut into a first part and one for each of one to eight clients. The whole output is written when
-/// all have ended, and then the trace of what was recorded, where the options ask for it. `ReadFault` and `TooLong` end it before any
-/// script runs, and `NoMemory` and `WriteFault` at any time; `Usage` never comes.
-pub fn run_clients<
-    S: Source,
-    K: Sink,
-    G: Gate + Sync,
-    R: Threads + Wait + Sync,
->(
+/// Runs several scripts at once as the options ask, beside at most 16 workers, on a board and a registry of its own:
+/// all input is read first, at most `MAX_INPUT` bytes, and cut into a first part and one for each of one to eight
+/// clients. The whole output is written when all have ended, and then the trace of what was recorded, where the options
+/// ask for it. `ReadFault` and `TooLong` end it before any script runs, and `NoMemory` and `WriteFault` at any time;
+/// `Usage` never comes.
+pub fn run_clients<S: Source, K: Sink, G: Gate + Sync, R: Threads + Wait + Sync>(
     rt: &R,
     alloc: Global,
     options: &ClientOptions,

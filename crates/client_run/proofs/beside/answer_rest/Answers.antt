@@ -43,6 +43,6 @@ returns-clause-answers g c =
     let ends = c.end_all-on_board in
     ok-map _ _ ends.result.1
     (λ now holds. rest-answers c.end_laws.ensures c.args.workers (arc_value o.shared) c.args.parts.now c.args.passes c.run_peers-passes.result.0 c.requires.opens.0 o.reply.text o.malformed c.requires.opens.1
-        c.requires.first.0 c.requires.first.1 c.requires.gave c.requires.clients.0 _ ran.0 ran.2 (knows c.is_shut-on_board.result.0) c.is_shut-on_board.ensures.turn
-        (λ n p q x gives. gives.1) (record { board = ends.result.0; registry = c.run_peers-passes.result.0.registry }) refl (λ outs. outs.items) c.run_peers-passes.result.1 ran.1 now.reply.text now.malformed c.deref.result.now c.deref.ensures holds)
+    c.requires.first.0 c.requires.first.1 c.requires.gave c.requires.clients.0 _ ran.0 ran.2 (knows c.is_shut-on_board.result.0) c.is_shut-on_board.ensures.turn
+    (λ n p q x gives. gives.1) (record { board = ends.result.0; registry = c.run_peers-passes.result.0.registry }) refl (λ outs. outs.items) c.run_peers-passes.result.1 ran.1 now.reply.text now.malformed c.deref.result.now c.deref.ensures holds)
     ends.ensures.done
