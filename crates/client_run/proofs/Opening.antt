@@ -1,0 +1,197 @@
+-- What the first part leaves.
+use Rattle.std.proofs.Common.{◌≡◌, ℕ, ◌≤◌, Bool, List, [], ◌++◌, Some, inl, refl, sym, ap, subst, ◌∙◌, arith}
+use Rattle.std.specs.List.{list_any}
+use Rattle.std.proofs.lemmas.List.Elements.{All-nil}
+use Rattle.alg_registry.specs.declared.entry.RegEntry.{RegEntry}
+use Rattle.alg_registry.specs.Rows.{caller_of as reg_caller}
+use Rattle.board.specs.declared.entry.BoardEntry.{BoardEntry}
+use Rattle.board.specs.Entries.{caller_of as board_caller}
+use Rattle.crew.specs.declared.passes.Passes.{Passes}
+use Rattle.crew.specs.Both.{ArePassesOn}
+use Rattle.dialogues.specs.Allocating.{lists_beside}
+use Rattle.dialogues.specs.BoardCalls.{board_calls}
+use Rattle.dialogues.specs.Dialogues.{Ends}
+use Rattle.dialogues.specs.Lines.{lines_dialogue}
+use Rattle.dialogues.specs.RegistryCalls.{reg_calls, AllSettled}
+use Rattle.dialogues.specs.Sharing.{share_all}
+use Rattle.dialogues.specs.Turns.{IsTurn}
+use Rattle.dialogues.specs.Walk.{Live, start}
+use Rattle.dialogues.specs.Widths.{widest}
+use Rattle.script_run.specs.Runs.{AreNew}
+use Rattle.script_run.specs.Text.{is_malformed}
+use Rattle.script_session.specs.Ending.{LeadsBy}
+use Rattle.script_session.specs.Holding.{HasSeenMore, SeesOn, Stops}
+use Rattle.script_session.specs.Lending.{AreLent, SharesAll}
+use Rattle.script_session.specs.Running.{IsReady, Replies}
+use Rattle.script_session.specs.States.{State, Stands, Posted, MadeWide, owners}
+use Rattle.script_text.specs.declared.commands.Line.{Line}
+use Rattle.session_calls.specs.Passes.{known}
+use Rattle.session_calls.specs.Pipelines.{Called}
+use Rattle.shared_board.specs.declared.shared.SharedBoard.{SharedBoard}
+use Rattle.shared_registry.specs.declared.sharing.SharedRegistry.{SharedRegistry}
+use Rattle.transforms.specs.declared.ask.Ask.{Ask}
+use Rattle.transforms.specs.declared.request.Finished.{Finished}
+use Rattle.turn_lock.specs.Meeting.{IsOwn}
+use Rattle.turn_lock.specs.Passes.{knows}
+use Rattle.turn_lock.specs.Turns.{Known}
+use Rattle.client_run.specs.Parts.{FirstOpens}
+use Rattle.client_run.proofs.Following.{sees-then}
+use Rattle.client_run.proofs.Turns.{asked-more, called-then, called-more}
+
+-- ---- before the first line
+
+-- a pass that has seen nothing
+empty : {E : Type 0} → Known E → Known E
+empty k = record { number = 0; next = k.next; seen = []; made = []; ended = k.ended }
+
+is-empty : {E : Type 0} (k : Known E) → k.number ≡ 0 → k.seen ≡ [] → k.made ≡ [] → empty k ≡ k
+unfolding empty
+is-empty k n s m = λ i. record { number = sym n i; next = k.next; seen = sym s i; made = sym m i; ended = k.ended }
+
+empty-stands : (k : Known RegEntry) → Stands [] (empty k)
+unfolding empty reg_calls
+empty-stands k = record { caller = record { outsider = refl; own = refl; settled = tt }; referenced = λ id. refl }
+
+empty-posted : (k : Known (BoardEntry Ask)) → Posted (start 0) (empty k)
+unfolding empty
+empty-posted k = record {
+  outsider = inl (omega arith);
+  legal = tt;
+  pipes = All-nil _;
+  apart = λ number. omega arith;
+  owned = λ number owns. absurd owns.0.1;
+  requests = refl;
+  bytes = refl;
+  unshut = λ first. refl;
+}
+
+empty-wide : (lists : ℕ) (k : Known (BoardEntry Ask)) → MadeWide lists (empty k)
+unfolding empty
+empty-wide lists k p owns pad = absurd owns.0.1
+
+pub first-ready : {W : Type 0} (registry : SharedRegistry) (board : SharedBoard W Ask Finished) (workers : ℕ) (p : Passes Ask) (s : State) → ArePassesOn board registry p → AreNew p → workers ≤ 16
+    → s ≡ record { workers = workers; walk = start 0; registry = Some p.registry; board = Some p.board } → IsReady registry board s
+first-ready registry board workers p s at new few is =
+    subst (IsReady registry board) (sym is) (record {
+      calls_registry = ap (λ n. Some n) at.1;
+      calls_board = ap (λ n. Some n) at.0;
+      stands = subst (Stands []) (is-empty (knows p.registry) new.registry.0 new.registry.1 new.registry.2) (empty-stands (knows p.registry));
+      posted = subst (Posted (start 0)) (is-empty (knows p.board) new.board.0 new.board.1 new.board.2) (empty-posted (knows p.board));
+      few = few;
+      wide = subst (MadeWide (lists_beside workers)) (is-empty (knows p.board) new.board.0 new.board.1 new.board.2) (empty-wide (lists_beside workers) (knows p.board));
+      shared = All-nil _;
+    })
+
+-- ---- when its transforms are shared
+
+no-reg-calls : reg_calls 0 [] ≡ []
+unfolding reg_calls
+no-reg-calls = refl
+
+no-board-calls : board_calls 0 [] ≡ []
+unfolding board_calls
+no-board-calls = refl
+
+-- a caller of the board has seen more, and then more
+sees_on-then : (k l m : Known (BoardEntry Ask)) → SeesOn k l → SeesOn l m → SeesOn k m
+sees_on-then k l m a b = record {
+  more = sees-then k l m a.more b.more;
+  unshut = λ zero_is. b.unshut (a.more.number ∙ zero_is) ∙ a.unshut zero_is;
+}
+
+shares-sees : (lives : List Live) (k l : Known (BoardEntry Ask)) → SharesAll lives k l → SeesOn k l
+shares-sees lives k l shares = record { more = called-more k l shares.calls shares.called; unshut = shares.unshut }
+
+-- The session s of these passes went on, and was s' then.
+module _ (workers : ℕ) (p q : Passes Ask) (s s' : State) (is : s ≡ record { workers = workers; walk = start 0; registry = Some p.registry; board = Some p.board }) (registry_is : s'.registry ≡ Some q.registry) where
+  first-registry : known s.registry ≡ knows p.registry
+  first-registry = ap (λ x. known x.registry) is
+
+  first-board : known s.board ≡ knows p.board
+  first-board = ap (λ x. known x.board) is
+
+  last-registry : known s'.registry ≡ knows q.registry
+  last-registry = ap known registry_is
+
+  more-registry : HasSeenMore (known s.registry) (known s'.registry) → HasSeenMore (knows p.registry) (knows q.registry)
+  more-registry more = subst (λ k. HasSeenMore k (knows q.registry)) first-registry (subst (HasSeenMore (known s.registry)) last-registry more)
+
+  pub stopped-registry : Stops s s' → HasSeenMore (knows p.registry) (knows q.registry)
+  stopped-registry stops = more-registry stops.registry
+
+  pub stopped-board : Stops s s' → s'.board ≡ Some q.board → SeesOn (knows p.board) (knows q.board)
+  stopped-board stops board_is = subst (λ k. SeesOn k (knows q.board)) first-board (subst (SeesOn (known s.board)) (ap known board_is) stops.board)
+
+  -- the lines were answered
+  module _ (lines : List Line) (text : List ℕ) (replies : Replies (widest lines) (lines_dialogue s.workers s.walk 1 lines Ends) s s' [] text) where
+    pub replied-registry : HasSeenMore (knows p.registry) (knows q.registry)
+    replied-registry = more-registry (asked-more (widest lines) (known s.registry) (known s'.registry) replies.turn.registry replies.asked)
+
+    module _ {W : Type 0} (registry : SharedRegistry) (board : SharedBoard W Ask Finished) (before : IsReady registry board s) (ready : IsReady registry board s') where
+      replied-sees : SeesOn (known s.board) (known s'.board)
+      replied-sees =
+          let more = called-more (known s.board) (known s'.board) replies.turn.board replies.called in
+          record { more = more; unshut = λ zero_is. ready.posted.unshut (more.number ∙ zero_is) ∙ sym (before.posted.unshut zero_is) }
+
+      -- and then its board's caller saw more
+      pub replied-board : SeesOn (known s'.board) (knows q.board) → SeesOn (knows p.board) (knows q.board)
+      replied-board on = subst (λ k. SeesOn k (knows q.board)) first-board (sees_on-then (known s.board) (known s'.board) (knows q.board) replied-sees on)
+
+      -- its transforms are shared
+      module _ (new : AreNew p) (shared : List Live) (shares : SharesAll s'.walk.lives (known s'.board) (knows q.board)) (same : shared ≡ s'.walk.lives) (own : IsOwn board_caller (knows q.board)) where
+        pub shared-board : SeesOn (knows p.board) (knows q.board)
+        shared-board = replied-board (shares-sees s'.walk.lives (known s'.board) (knows q.board) shares)
+
+        registry-zero : (known s.registry).number ≡ 0
+        registry-zero = ap (λ k. k.number) first-registry ∙ new.registry.0
+
+        registry-none : reg_calls (known s.registry).number (known s.registry).seen ≡ []
+        registry-none = (λ i. reg_calls (registry-zero i) ((ap (λ k. k.seen) first-registry ∙ new.registry.1) i)) ∙ no-reg-calls
+
+        board-zero : (known s.board).number ≡ 0
+        board-zero = ap (λ k. k.number) first-board ∙ new.board.0
+
+        board-none : board_calls (known s.board).number (known s.board).seen ≡ []
+        board-none = (λ i. board_calls (board-zero i) ((ap (λ k. k.seen) first-board ∙ new.board.1) i)) ∙ no-board-calls
+
+        registry-calls : reg_calls 0 (known s'.registry).seen ≡ replies.turn.registry
+        registry-calls =
+            ap (λ n. reg_calls n (known s'.registry).seen) (sym registry-zero)
+            ∙ (replies.asked.are.calls_are ∙ ap (λ cs. cs ++ replies.turn.registry) registry-none)
+
+        registry-settled : AllSettled (reg_calls 0 (known s'.registry).seen)
+        registry-settled = subst (λ n. AllSettled (reg_calls n (known s'.registry).seen)) registry-zero replies.asked.are.all_settled
+
+        board-called : Called (known s.board) (knows q.board) (replies.turn.board ++ shares.calls)
+        board-called = called-then (known s.board) (known s'.board) (knows q.board) replies.turn.board shares.calls replies.called shares.called
+
+        board-calls : board_calls 0 (knows q.board).seen ≡ replies.turn.board ++ shares.calls
+        board-calls =
+            ap (λ n. board_calls n (knows q.board).seen) (sym (board-called.number ∙ board-zero))
+            ∙ (board-called.calls_are ∙ ap (λ cs. cs ++ (replies.turn.board ++ shares.calls)) board-none)
+
+        session-zero : (known s'.board).number ≡ 0
+        session-zero = replies.called.number ∙ board-zero
+
+        pub opens : (bad : Bool) → bad ≡ list_any is_malformed lines → FirstOpens workers lines shared q text bad
+        opens bad bad_is = record {
+          walk = s'.walk;
+          turn = replies.turn;
+          is = subst (λ (x : State). IsTurn (lines_dialogue x.workers x.walk 1 lines Ends) replies.turn) is replies.is;
+          makes = replies.ends;
+          lives = sym same;
+          text_is = replies.says;
+          malformed = bad_is;
+          registry = sym registry-calls ∙ ap (λ k. reg_calls 0 k.seen) last-registry;
+          settled = subst (λ k. AllSettled (reg_calls 0 k.seen)) last-registry registry-settled;
+          own_registry = subst (IsOwn reg_caller) last-registry replies.asked.caller.own;
+          shares = shares.calls;
+          leads = subst (λ ls. LeadsBy (share_all ls) shares.calls []) (sym same) shares.leads;
+          board = sym board-calls;
+          own_board = own;
+          legal = shares.legal;
+          lent = subst (λ ls. AreLent ls (knows q.board)) (sym same) shares.lent;
+          apart = λ number. subst (λ ls. owners number ls ≤ 1) (sym same) (ready.posted.apart number);
+          owned = λ number owns. subst (λ ls. 1 ≤ owners number ls) (sym same) (ready.posted.owned number (shares.owned number owns));
+          unshut = shares.unshut session-zero ∙ ready.posted.unshut session-zero;
+        }
