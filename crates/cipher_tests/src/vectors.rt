@@ -454,6 +454,7 @@ fn requests_have_their_values_in_each_form(rt: HostRuntime) {
             ("aes-generic", "ghash-generic"),
             ("aes-table", "ghash-table"),
             ("aes-lanes", "ghash-generic"),
+            ("aes-lanes", "ghash-table"),
         ] {
             for lies in [Lies::Whole, Lies::InThree, Lies::WithinOne] {
                 let right = holds(&rt, rt.alloc(), row, (aes, ghash), lies);

@@ -13,6 +13,7 @@ ghost use Rattle.alg_registry.specs.Legal.{LegalReg};
 ghost use Rattle.alg_registry.specs.Made.{Made};
 ghost use Rattle.board.specs.Legal.{LegalBoard};
 ghost use Rattle.dialogues.specs.Texts.{IsText};
+ghost use Rattle.script_run.specs.ByLines.{IsTextByLines};
 ghost use Rattle.script_run.specs.Fronts.{IsFrontText};
 ghost use Rattle.dialogues.specs.Walk.{start};
 ghost use Rattle.templates.specs.Table.{table};
@@ -35,7 +36,9 @@ use command_line::{CommandLineError, parse_words};
 use crew::Gate;
 use kc_base::{Sink, Source};
 use run_options::Mode;
-use script_run::{Ran, RunError, nothing_is_front, run_load, run_traced, status_by};
+use script_run::{
+    Ran, RunError, nothing_is_by_lines, nothing_is_front, run_load, run_traced, status_by,
+};
 use std::alloc::Global;
 use std::sync::Wait;
 use std::thread::Threads;
@@ -109,7 +112,7 @@ fn outcome_of(ran: Ran) -> Outcome
 /// | 3, 4 | the source, the sink failed |
 /// | 5 | memory is wanting |
 /// | 6 | the source has more than 2^28 bytes |
-#[tactic(auto, using(crate::proofs::Refusing::nothing_traced))]
+#[tactic(auto, using(crate::proofs::Refusing::nothing_traced, crate::proofs::Refusing::nothing_by_lines_traced))]
 pub fn run<S: Source, K: Sink, G: Gate + Sync, R: Threads + Wait + Sync>(
     rt: &R,
     alloc: Global,
@@ -133,7 +136,11 @@ pub fn run<S: Source, K: Sink, G: Gate + Sync, R: Threads + Wait + Sync>(
     ensures settled { IfSome (script_asked (map string_bytes words.now)) (λ options. result.status ≤ 1 → IfSome (S.left src.old) (λ script. IsSettled (script_of script) → GainsThen (K.held out.old) (K.held out.new)
         (λ text. text ≡ plain_text (script_of script)) (traced options.trace result.registry result.board))) }
 
-    // However a run ends, what it has written is a front of the text; or the whole text, and a front of the trace.
+    // However a run ends, what it has written is a front of the text; or the whole text, and a front of the trace. It goes by lines:
+    // only the answers to the last line that was answered may stand there in part, and nothing of a line that wasn't answered.
+    ensures by_lines { IfSome (script_asked (map string_bytes words.now)) (λ options. IfSome (S.left src.old) (λ script. GainsFront (K.held out.old) (K.held out.new)
+        (IsTextByLines options.workers (script_of script) result.registry result.board)
+        (IsText options.workers (start 0) 0 (script_of script) result.registry result.board) (traced options.trace result.registry result.board))) }
     ensures front { IfSome (script_asked (map string_bytes words.now)) (λ options. IfSome (S.left src.old) (λ script. GainsFront (K.held out.old) (K.held out.new)
         (IsFrontText options.workers (start 0) 0 (script_of script) result.registry result.board)
         (IsText options.workers (start 0) 0 (script_of script) result.registry result.board) (traced options.trace result.registry result.board))) }
@@ -201,6 +208,7 @@ pub fn run<S: Source, K: Sink, G: Gate + Sync, R: Threads + Wait + Sync>(
         → IfSome (S.left src.old) (λ script. length script ≤ 2 ^ 28 → (result.status ≤ 1) ⊎ (result.status ≡ 5)) }
 {
     nothing_is_front();
+    nothing_is_by_lines();
     let mode = match mode_for(alloc, words) {
         Ok(mode) => mode,
         Err(error) => return outcome_of(Ran::not_at_all(alloc, error)),

@@ -22,6 +22,12 @@ returns-clause-front g c =
     let asked : script_asked words ≡ Some c.in-Script.options = c.in-Ok.ensures.script ∙ ap (λ m. script_in_mode (Ok m)) c.in-Script.is in
     rw (asked, c.outcome_of-2.ensures.registry, c.outcome_of-2.ensures.board) c.run_traced.ensures.front
 
+pub returns-clause-by_lines : goal.returns-clause-by_lines
+returns-clause-by_lines g c =
+    let words = map string_bytes c.args.words.now in
+    let asked : script_asked words ≡ Some c.in-Script.options = c.in-Ok.ensures.script ∙ ap (λ m. script_in_mode (Ok m)) c.in-Script.is in
+    rw (asked, c.outcome_of-2.ensures.registry, c.outcome_of-2.ensures.board) c.run_traced.ensures.by_lines
+
 pub returns-clause-answered : goal.returns-clause-answered
 returns-clause-answered g c =
     let words = map string_bytes c.args.words.now in
