@@ -1,5 +1,6 @@
 -- The lines of a part, answered one by one.
 use Rattle.std.proofs.Common.{◌≡◌, ℕ, ◌+◌, ◌≤◌, ◌||◌, Bool, true, false, List, [], ◌∷◌, ◌++◌, length, refl, sym, ap, subst, ◌∙◌, append_assoc, append-nil, arith}
+use Rattle.std.specs.Prelude.{Result, Ok, Err, IsErr, MatchResult}
 use Rattle.std.specs.List.{list_any}
 use Rattle.std.proofs.lemmas.List.Folds.{list_any-append}
 use Rattle.board.specs.Legal.{is_shut}
@@ -87,6 +88,10 @@ module _ (laws : Laws) (first : State) (caller : IsCaller (known first.registry)
         })
 
 -- ---- a session that goes no further
+
+pub stopped : {A F : Type 0} (result : Result A F) (Done : A → Type 0) {Stopped : Type 0} → IsErr result → Stopped → MatchResult result Done (λ _. Stopped)
+stopped (Ok done) Done is stop = absurd cc
+stopped (Err error) Done is stop = stop
 
 pub stops-same : (s : State) → Stops s s
 stops-same s = record {

@@ -1,8 +1,9 @@
 -- What a client's script leaves.
 use Rattle.std.proofs.Common.{◌≡◌, ℕ, ◌+◌, ◌-◌, ◌≤◌, ◌<◌, Bool, true, List, [], ◌++◌, Option, Some, None, refl, sym, ap, subst, ◌∙◌, arith}
-use Rattle.std.specs.Prelude.{is_some}
+use Rattle.std.specs.Prelude.{is_some, slice_get, All, Contains, Result, Ok, Err, IfOk, MatchResult}
 use Rattle.std.specs.List.{list_any}
-use Rattle.std.proofs.lemmas.List.Elements.{All-weaker}
+use Rattle.std.proofs.lemmas.List.Elements.{All-contains, All-weaker, Contains-get_or}
+use Rattle.std.proofs.lemmas.Option.{get_or_from_slice_get, slice_get_within}
 use Rattle.alg_registry.specs.declared.entry.RegEntry.{RegEntry}
 use Rattle.alg_registry.specs.Rows.{caller_of as reg_caller}
 use Rattle.board.specs.declared.entry.BoardEntry.{BoardEntry}
@@ -10,7 +11,7 @@ use Rattle.board.specs.Entries.{caller_of as board_caller}
 use Rattle.board.specs.Legal.{LegalBoard}
 use Rattle.crew.specs.declared.passes.Passes.{Passes}
 use Rattle.crew.specs.Both.{ArePassesOn}
-use Rattle.crew.specs.Peers.{KeepNumbers, OthersFollow}
+use Rattle.crew.specs.Peers.{OthersFollow}
 use Rattle.dialogues.specs.Allocating.{lists_beside}
 use Rattle.dialogues.specs.BoardCalls.{board_calls}
 use Rattle.dialogues.specs.Dialogues.{Dialogue, Ends}
@@ -37,12 +38,13 @@ use Rattle.transforms.specs.declared.request.Finished.{Finished}
 use Rattle.turn_lock.specs.Meeting.{AtTurn, Leaves, IsOwn}
 use Rattle.turn_lock.specs.Passes.{knows}
 use Rattle.turn_lock.specs.Turns.{Known, of}
+use Rattle.client_run.specs.declared.client.ClientText.{ClientText}
 use Rattle.client_run.specs.Laws.{Laws}
 use Rattle.client_run.specs.Meets.{HasMet, HaveMet, AnswersPart}
 use Rattle.client_run.specs.Parts.{MayRun, ClientAnswers}
 use Rattle.client_run.proofs.Following.{uncalled, unasked, reg_calls-same, board_calls-same}
 use Rattle.client_run.proofs.Fresh.{fresh-posted, fresh-wide, fresh-stands}
-use Rattle.client_run.proofs.Turns.{texts-joined, asked-then, called-then, locks-then, lines-followed, widest-some}
+use Rattle.client_run.proofs.Turns.{texts-joined, asked-then, asked-more, called-then, called-more, locks-then, lines-followed, widest-some}
 
 -- ---- a turn at which nothing is done
 
@@ -84,6 +86,17 @@ client-ready laws registry board workers shared parts n p q s stays client may m
     })
 
 -- ---- its lines, and the end of its input
+
+-- where they were answered the session has only gone on
+pub replied-stops : {W : Type 0} (registry : SharedRegistry) (board : SharedBoard W Ask Finished) (width : ℕ) (d : Dialogue) (s t : State) (text text' : List ℕ) → IsReady registry board s → IsReady registry board t
+    → Replies width d s t text text' → Stops s t
+replied-stops registry board width d s t text text' before ready replies =
+    let more = called-more (known s.board) (known t.board) replies.turn.board replies.called in
+    record {
+      locks = replies.locks;
+      registry = asked-more width (known s.registry) (known t.registry) replies.turn.registry replies.asked;
+      board = record { more = more; unshut = λ zero_is. ready.posted.unshut (more.number ∙ zero_is) ∙ sym (before.posted.unshut zero_is) };
+    }
 
 pub answers-part : Laws → (lines : List Line) (s t u : State) (text text' : List ℕ) (bad : Bool) → IsCaller (known s.registry)
     → Replies (widest lines) (lines_dialogue s.workers s.walk 1 lines Ends) s t [] text → AnswersEndBeside t u text text' → bad ≡ list_any is_malformed lines → EndsPaid (known u.board)
@@ -142,21 +155,7 @@ module _ (laws : Laws) (workers : ℕ) (shared : List Live) (parts : List (List 
   board-number : (known s.board).number ≡ n
   board-number = ap (λ k. k.number) first-board ∙ (met.board.number ∙ may.board.0)
 
-  -- ---- its passes keep their numbers
-
-  kept-by : (known s'.registry).number ≡ (known s.registry).number → (known s'.board).number ≡ (known s.board).number → KeepNumbers p q'
-  kept-by registry board = record {
-    board = ap (λ k. k.number) (sym last-board) ∙ (board ∙ (ap (λ k. k.number) first-board ∙ met.board.number));
-    registry = ap (λ k. k.number) (sym last-registry) ∙ (registry ∙ (ap (λ k. k.number) first-registry ∙ met.registry.number));
-  }
-
-  pub stopped-keeps : Stops s s' → KeepNumbers p q'
-  stopped-keeps stops = kept-by stops.registry.number stops.board.more.number
-
   module _ (lines : List Line) (text : List ℕ) (bad : Bool) (part : AnswersPart lines s s' text bad) where
-    pub answered-keeps : KeepNumbers p q'
-    answered-keeps = kept-by part.asked.number part.called.number
-
     registry-none : reg_calls (known s.registry).number (known s.registry).seen ≡ []
     registry-none =
         subst (λ k. reg_calls k.number k.seen ≡ []) (sym first-registry)
@@ -188,7 +187,7 @@ module _ (laws : Laws) (workers : ℕ) (shared : List Live) (parts : List (List 
         subst (λ m. IsTextOf (script_beside workers (start_beside (n - 16) shared) lines) m r b text) (let same : n ≡ 16 + (n - 16) = omega (arith, client) in same)
         (text-of (script_beside workers (start_beside (n - 16) shared) lines) part.turn n r b text turn-is part.ended part.text_is (registry-calls r on_r) (board-calls b on_b))
 
-    pub client-answers : ClientAnswers workers (n - 16) shared lines q' text bad
+    client-answers : ClientAnswers workers (n - 16) shared lines q' text bad
     client-answers = record {
       text_after = λ r b on_r on_b. text-after r b (subst (λ k. OthersFollow reg_caller k r) (sym last-registry) on_r) (subst (λ k. OthersFollow board_caller k b) (sym last-board) on_b);
       malformed = part.malformed;
@@ -196,3 +195,13 @@ module _ (laws : Laws) (workers : ℕ) (shared : List Live) (parts : List (List 
       own_board = subst (IsOwn board_caller) last-board part.paid.own;
       paid = subst EndsPaid last-board part.paid;
     }
+
+  pub if-answered : {F : Type 0} (lines : List Line) (result : Result ClientText F) → MatchResult result (λ text. AnswersPart lines s s' text.reply.text text.malformed) (λ _. Stops s s')
+      → IfOk result (λ text. ClientAnswers workers (n - 16) shared lines q' text.reply.text text.malformed)
+  if-answered lines (Ok text) part = client-answers lines text.reply.text text.malformed part
+  if-answered lines (Err stop) part = tt
+
+-- ---- its part
+
+pub all-at : {A : Type 0} (P : A → Type 0) (xs : List A) (i : ℕ) (x : A) → All P xs → slice_get xs i ≡ Some x → P x
+all-at P xs i x all is = All-contains P xs x all (subst (Contains xs) (get_or_from_slice_get xs i x x is) (Contains-get_or xs i x (slice_get_within xs i x is)))

@@ -5,3 +5,14 @@ pub mod Answering
 pub mod Fresh
 pub mod Opening
 pub mod Clients
+pub mod Ended
+pub mod Makers
+pub mod ShutLast
+pub mod Paid
+pub mod FirstText
+pub mod Cut
+pub mod Gathered
+pub mod Rest
+pub mod AtEnd
+pub mod Joins
+pub mod Written

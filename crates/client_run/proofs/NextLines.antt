@@ -2,13 +2,17 @@
 use Rattle.std.proofs.Common.{◌≡◌, ℕ, ◌+◌, ◌<◌, Bool, true, false, cond, List, [], ◌∷◌, ◌++◌, length, Option, Some, None, Result, Ok, Err, inl, inr, refl, sym, ap, subst, ◌∙◌, arith, map, length-append}
 use Rattle.std.specs.Prelude.{◌==◌, IfOk, Contains}
 use Rattle.std.specs.List.{onto_first}
-use Rattle.std.proofs.lemmas.Bool.{cases_Bool, eqb-eq}
+use Rattle.std.proofs.lemmas.Bool.{cases_Bool}
+use Rattle.std.proofs.lemmas.Bool.Decides.{nat_tests}
 use Rattle.std.proofs.lemmas.List.Elements.{Contains-append_right, Contains-get_or}
 use Rattle.script_text.specs.Lines.{is_feed, lines_of}
 use Rattle.script_text.specs.Pending.{Kept, IsPending, EndsLine, CutsNext, CutsLast}
 use Rattle.script_text.specs.Script.{line_of, script_of}
 use Rattle.script_text.specs.declared.commands.Line.{Line}
 use Rattle.client_run.specs.Lines.{FindsLine}
+
+eqb-eq : (m n : ℕ) → (m == n) ≡ true → m ≡ n
+eqb-eq m n e = grind (arith, nat_tests)
 
 not_feed : (b : ℕ) (bytes : List ℕ) → (Contains (b ∷ bytes) 10 → ⊥) → is_feed b ≡ false
 not_feed b bytes none =
@@ -38,6 +42,12 @@ lone_line (b ∷ c ∷ bytes) some none =
 
 -- ---- what a cutter finds
 
+-- what was fed to a new cutter is pending
+pub fed : (part : List ℕ) (old new : Kept) → old ≡ record { begun = Some []; unseen = [] } → new ≡ record { begun = old.begun; unseen = old.unseen ++ part } → IsPending part new
+fed part old new old_is new_is =
+    subst (IsPending part) (sym (new_is ∙ ap (λ (o : Kept). record { begun = o.begun; unseen = o.unseen ++ part }) old_is))
+    (record { begun = []; no_feed = λ has. absurd (omega (arith, has.1)); kept_is = refl; bytes_are = refl })
+
 nothing_pending : (bytes : List ℕ) (now new : Kept) → IsPending bytes now → (Contains bytes 10 → ⊥) → CutsLast now new None → FindsLine bytes new None
 nothing_pending bytes now new pending none last = (last bytes pending none).1
 
@@ -48,7 +58,7 @@ whole_found old new said cuts bytes pending =
     let line = cut.1 in (
       rest,
       ap script_of line.bytes_are
-      ∙ (ap (map line_of) (cut_line line.text rest line.no_feed) ∙ ap (λ l. l ∷ script_of rest) (sym line.said_is)),
+          ∙ (ap (map line_of) (cut_line line.text rest line.no_feed) ∙ ap (λ l. l ∷ script_of rest) (sym line.said_is)),
       (let n = ap length line.bytes_are in let m = length-append line.text (10 ∷ rest) in omega arith),
       cut.2,
     )

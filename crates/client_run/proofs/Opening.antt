@@ -1,5 +1,6 @@
 -- What the first part leaves.
 use Rattle.std.proofs.Common.{◌≡◌, ℕ, ◌≤◌, Bool, List, [], ◌++◌, Some, inl, refl, sym, ap, subst, ◌∙◌, arith}
+use Rattle.std.specs.Prelude.{Result, Ok, MatchResult, OnOk}
 use Rattle.std.specs.List.{list_any}
 use Rattle.std.proofs.lemmas.List.Elements.{All-nil}
 use Rattle.alg_registry.specs.declared.entry.RegEntry.{RegEntry}
@@ -20,7 +21,7 @@ use Rattle.dialogues.specs.Widths.{widest}
 use Rattle.script_run.specs.Runs.{AreNew}
 use Rattle.script_run.specs.Text.{is_malformed}
 use Rattle.script_session.specs.Ending.{LeadsBy}
-use Rattle.script_session.specs.Holding.{HasSeenMore, SeesOn, Stops}
+use Rattle.script_session.specs.Holding.{SeesOn}
 use Rattle.script_session.specs.Lending.{AreLent, SharesAll}
 use Rattle.script_session.specs.Running.{IsReady, Replies}
 use Rattle.script_session.specs.States.{State, Stands, Posted, MadeWide, owners}
@@ -35,8 +36,7 @@ use Rattle.turn_lock.specs.Meeting.{IsOwn}
 use Rattle.turn_lock.specs.Passes.{knows}
 use Rattle.turn_lock.specs.Turns.{Known}
 use Rattle.client_run.specs.Parts.{FirstOpens}
-use Rattle.client_run.proofs.Following.{sees-then}
-use Rattle.client_run.proofs.Turns.{asked-more, called-then, called-more}
+use Rattle.client_run.proofs.Turns.{called-then}
 
 -- ---- before the first line
 
@@ -92,106 +92,78 @@ no-board-calls : board_calls 0 [] ≡ []
 unfolding board_calls
 no-board-calls = refl
 
--- a caller of the board has seen more, and then more
-sees_on-then : (k l m : Known (BoardEntry Ask)) → SeesOn k l → SeesOn l m → SeesOn k m
-sees_on-then k l m a b = record {
-  more = sees-then k l m a.more b.more;
-  unshut = λ zero_is. b.unshut (a.more.number ∙ zero_is) ∙ a.unshut zero_is;
-}
+-- what a session gave that shared its transforms
+pub shared-of : {A F : Type 0} (value : A → List Live) (lives : List Live) (k l : Known (BoardEntry Ask)) (result : Result A F) (x : A) → result ≡ Ok x
+    → MatchResult result (λ y. (value y ≡ lives) × SharesAll lives k l) (λ _. SeesOn k l) → (value x ≡ lives) × SharesAll lives k l
+shared-of value lives k l result x is shares = subst (λ r. MatchResult r (λ y. (value y ≡ lives) × SharesAll lives k l) (λ _. SeesOn k l)) is shares
 
-shares-sees : (lives : List Live) (k l : Known (BoardEntry Ask)) → SharesAll lives k l → SeesOn k l
-shares-sees lives k l shares = record { more = called-more k l shares.calls shares.called; unshut = shares.unshut }
+pub own-of : {A F : Type 0} (k : Known (BoardEntry Ask)) (result : Result A F) (x : A) → result ≡ Ok x → OnOk result (IsOwn board_caller k) → IsOwn board_caller k
+own-of k result x is own = subst (λ r. OnOk r (IsOwn board_caller k)) is own
 
--- The session s of these passes went on, and was s' then.
-module _ (workers : ℕ) (p q : Passes Ask) (s s' : State) (is : s ≡ record { workers = workers; walk = start 0; registry = Some p.registry; board = Some p.board }) (registry_is : s'.registry ≡ Some q.registry) where
+-- The session s of these passes answered the lines, and was s' then; and its transforms were shared.
+module _ {W : Type 0} (registry : SharedRegistry) (board : SharedBoard W Ask Finished) (workers : ℕ) (p q : Passes Ask) (new : AreNew p) (s s' : State)
+    (is : s ≡ record { workers = workers; walk = start 0; registry = Some p.registry; board = Some p.board }) (registry_is : s'.registry ≡ Some q.registry) (ready : IsReady registry board s')
+    (lines : List Line) (text : List ℕ) (replies : Replies (widest lines) (lines_dialogue s.workers s.walk 1 lines Ends) s s' [] text)
+    (shared : List Live) (shares : SharesAll s'.walk.lives (known s'.board) (knows q.board)) (same : shared ≡ s'.walk.lives) (own : IsOwn board_caller (knows q.board)) where
   first-registry : known s.registry ≡ knows p.registry
-  first-registry = ap (λ x. known x.registry) is
+  first-registry = ap (λ (x : State). known x.registry) is
 
   first-board : known s.board ≡ knows p.board
-  first-board = ap (λ x. known x.board) is
+  first-board = ap (λ (x : State). known x.board) is
 
   last-registry : known s'.registry ≡ knows q.registry
   last-registry = ap known registry_is
 
-  more-registry : HasSeenMore (known s.registry) (known s'.registry) → HasSeenMore (knows p.registry) (knows q.registry)
-  more-registry more = subst (λ k. HasSeenMore k (knows q.registry)) first-registry (subst (HasSeenMore (known s.registry)) last-registry more)
+  registry-zero : (known s.registry).number ≡ 0
+  registry-zero = ap (λ k. k.number) first-registry ∙ new.registry.0
 
-  pub stopped-registry : Stops s s' → HasSeenMore (knows p.registry) (knows q.registry)
-  stopped-registry stops = more-registry stops.registry
+  registry-none : reg_calls (known s.registry).number (known s.registry).seen ≡ []
+  registry-none = (λ i. reg_calls (registry-zero i) ((ap (λ k. k.seen) first-registry ∙ new.registry.1) i)) ∙ no-reg-calls
 
-  pub stopped-board : Stops s s' → s'.board ≡ Some q.board → SeesOn (knows p.board) (knows q.board)
-  stopped-board stops board_is = subst (λ k. SeesOn k (knows q.board)) first-board (subst (SeesOn (known s.board)) (ap known board_is) stops.board)
+  board-zero : (known s.board).number ≡ 0
+  board-zero = ap (λ k. k.number) first-board ∙ new.board.0
 
-  -- the lines were answered
-  module _ (lines : List Line) (text : List ℕ) (replies : Replies (widest lines) (lines_dialogue s.workers s.walk 1 lines Ends) s s' [] text) where
-    pub replied-registry : HasSeenMore (knows p.registry) (knows q.registry)
-    replied-registry = more-registry (asked-more (widest lines) (known s.registry) (known s'.registry) replies.turn.registry replies.asked)
+  board-none : board_calls (known s.board).number (known s.board).seen ≡ []
+  board-none = (λ i. board_calls (board-zero i) ((ap (λ k. k.seen) first-board ∙ new.board.1) i)) ∙ no-board-calls
 
-    module _ {W : Type 0} (registry : SharedRegistry) (board : SharedBoard W Ask Finished) (before : IsReady registry board s) (ready : IsReady registry board s') where
-      replied-sees : SeesOn (known s.board) (known s'.board)
-      replied-sees =
-          let more = called-more (known s.board) (known s'.board) replies.turn.board replies.called in
-          record { more = more; unshut = λ zero_is. ready.posted.unshut (more.number ∙ zero_is) ∙ sym (before.posted.unshut zero_is) }
+  registry-calls : reg_calls 0 (known s'.registry).seen ≡ replies.turn.registry
+  registry-calls =
+      ap (λ n. reg_calls n (known s'.registry).seen) (sym registry-zero)
+      ∙ (replies.asked.are.calls_are ∙ ap (λ cs. cs ++ replies.turn.registry) registry-none)
 
-      -- and then its board's caller saw more
-      pub replied-board : SeesOn (known s'.board) (knows q.board) → SeesOn (knows p.board) (knows q.board)
-      replied-board on = subst (λ k. SeesOn k (knows q.board)) first-board (sees_on-then (known s.board) (known s'.board) (knows q.board) replied-sees on)
+  registry-settled : AllSettled (reg_calls 0 (known s'.registry).seen)
+  registry-settled = subst (λ n. AllSettled (reg_calls n (known s'.registry).seen)) registry-zero replies.asked.are.all_settled
 
-      -- its transforms are shared
-      module _ (new : AreNew p) (shared : List Live) (shares : SharesAll s'.walk.lives (known s'.board) (knows q.board)) (same : shared ≡ s'.walk.lives) (own : IsOwn board_caller (knows q.board)) where
-        pub shared-board : SeesOn (knows p.board) (knows q.board)
-        shared-board = replied-board (shares-sees s'.walk.lives (known s'.board) (knows q.board) shares)
+  board-called : Called (known s.board) (knows q.board) (replies.turn.board ++ shares.calls)
+  board-called = called-then (known s.board) (known s'.board) (knows q.board) replies.turn.board shares.calls replies.called shares.called
 
-        registry-zero : (known s.registry).number ≡ 0
-        registry-zero = ap (λ k. k.number) first-registry ∙ new.registry.0
+  board-calls : board_calls 0 (knows q.board).seen ≡ replies.turn.board ++ shares.calls
+  board-calls =
+      ap (λ n. board_calls n (knows q.board).seen) (sym (board-called.number ∙ board-zero))
+      ∙ (board-called.calls_are ∙ ap (λ cs. cs ++ (replies.turn.board ++ shares.calls)) board-none)
 
-        registry-none : reg_calls (known s.registry).number (known s.registry).seen ≡ []
-        registry-none = (λ i. reg_calls (registry-zero i) ((ap (λ k. k.seen) first-registry ∙ new.registry.1) i)) ∙ no-reg-calls
+  session-zero : (known s'.board).number ≡ 0
+  session-zero = replies.called.number ∙ board-zero
 
-        board-zero : (known s.board).number ≡ 0
-        board-zero = ap (λ k. k.number) first-board ∙ new.board.0
-
-        board-none : board_calls (known s.board).number (known s.board).seen ≡ []
-        board-none = (λ i. board_calls (board-zero i) ((ap (λ k. k.seen) first-board ∙ new.board.1) i)) ∙ no-board-calls
-
-        registry-calls : reg_calls 0 (known s'.registry).seen ≡ replies.turn.registry
-        registry-calls =
-            ap (λ n. reg_calls n (known s'.registry).seen) (sym registry-zero)
-            ∙ (replies.asked.are.calls_are ∙ ap (λ cs. cs ++ replies.turn.registry) registry-none)
-
-        registry-settled : AllSettled (reg_calls 0 (known s'.registry).seen)
-        registry-settled = subst (λ n. AllSettled (reg_calls n (known s'.registry).seen)) registry-zero replies.asked.are.all_settled
-
-        board-called : Called (known s.board) (knows q.board) (replies.turn.board ++ shares.calls)
-        board-called = called-then (known s.board) (known s'.board) (knows q.board) replies.turn.board shares.calls replies.called shares.called
-
-        board-calls : board_calls 0 (knows q.board).seen ≡ replies.turn.board ++ shares.calls
-        board-calls =
-            ap (λ n. board_calls n (knows q.board).seen) (sym (board-called.number ∙ board-zero))
-            ∙ (board-called.calls_are ∙ ap (λ cs. cs ++ (replies.turn.board ++ shares.calls)) board-none)
-
-        session-zero : (known s'.board).number ≡ 0
-        session-zero = replies.called.number ∙ board-zero
-
-        pub opens : (bad : Bool) → bad ≡ list_any is_malformed lines → FirstOpens workers lines shared q text bad
-        opens bad bad_is = record {
-          walk = s'.walk;
-          turn = replies.turn;
-          is = subst (λ (x : State). IsTurn (lines_dialogue x.workers x.walk 1 lines Ends) replies.turn) is replies.is;
-          makes = replies.ends;
-          lives = sym same;
-          text_is = replies.says;
-          malformed = bad_is;
-          registry = sym registry-calls ∙ ap (λ k. reg_calls 0 k.seen) last-registry;
-          settled = subst (λ k. AllSettled (reg_calls 0 k.seen)) last-registry registry-settled;
-          own_registry = subst (IsOwn reg_caller) last-registry replies.asked.caller.own;
-          shares = shares.calls;
-          leads = subst (λ ls. LeadsBy (share_all ls) shares.calls []) (sym same) shares.leads;
-          board = sym board-calls;
-          own_board = own;
-          legal = shares.legal;
-          lent = subst (λ ls. AreLent ls (knows q.board)) (sym same) shares.lent;
-          apart = λ number. subst (λ ls. owners number ls ≤ 1) (sym same) (ready.posted.apart number);
-          owned = λ number owns. subst (λ ls. 1 ≤ owners number ls) (sym same) (ready.posted.owned number (shares.owned number owns));
-          unshut = shares.unshut session-zero ∙ ready.posted.unshut session-zero;
-        }
+  pub opens : (bad : Bool) → bad ≡ list_any is_malformed lines → FirstOpens workers lines shared q text bad
+  opens bad bad_is = record {
+    walk = s'.walk;
+    turn = replies.turn;
+    is = subst (λ (x : State). IsTurn (lines_dialogue x.workers x.walk 1 lines Ends) replies.turn) is replies.is;
+    makes = replies.ends;
+    lives = sym same;
+    text_is = replies.says;
+    malformed = bad_is;
+    registry = sym registry-calls ∙ ap (λ k. reg_calls 0 k.seen) last-registry;
+    settled = subst (λ k. AllSettled (reg_calls 0 k.seen)) last-registry registry-settled;
+    own_registry = subst (IsOwn reg_caller) last-registry replies.asked.caller.own;
+    shares = shares.calls;
+    leads = subst (λ ls. LeadsBy (share_all ls) shares.calls []) (sym same) shares.leads;
+    board = sym board-calls;
+    own_board = own;
+    legal = shares.legal;
+    lent = subst (λ ls. AreLent ls (knows q.board)) (sym same) shares.lent;
+    apart = λ number. subst (λ ls. owners number ls ≤ 1) (sym same) (ready.posted.apart number);
+    owned = λ number owns. subst (λ ls. 1 ≤ owners number ls) (sym same) (ready.posted.owned number (shares.owned number owns));
+    unshut = shares.unshut session-zero ∙ ready.posted.unshut session-zero;
+  }

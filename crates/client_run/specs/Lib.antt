@@ -2,3 +2,6 @@ pub mod Laws
 pub mod Lines
 pub mod Parts
 pub mod Meets
+pub mod Beside
+pub mod Clients
+pub mod EndLaws

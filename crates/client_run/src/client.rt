@@ -46,16 +46,16 @@ pub struct ClientRun<'a, G, R> {
     pub parts: &'a [Bytes],
 }
 
-impl<'a, G: Gate, R: Threads + Wait + Sync> ClientRun<'a, G, R> {
-    // The part of the client with this number on both locks.
-    fn part_of(&self, number: u32) -> Option<&[u8]>
-        ensures { IsPartAt self.now.parts.now number (option_copied result) }
-    {
-        let place = number.checked_sub(17)?;
-        let part = self.parts.get(place as usize)?;
-        Some(part.as_slice())
-    }
+// The part of the client with this number on both locks.
+fn part_of(parts: &[Bytes], number: u32) -> Option<&[u8]>
+    ensures { IsPartAt parts.now number (option_copied result) }
+{
+    let place = number.checked_sub(17)?;
+    let part = parts.get(place as usize)?;
+    Some(part.as_slice())
+}
 
+impl<'a, G: Gate, R: Threads + Wait + Sync> ClientRun<'a, G, R> {
     // Takes a turn on each lock, at which nothing is done. It shows that no entry was made under the passes' number.
     fn meet(&self, passes: Passes<Ask>) -> Passes<Ask>
         requires lock { ArePassesOn self.now.board.now self.now.registry.now passes }
@@ -81,7 +81,14 @@ impl<'a, G: Gate, R: Threads + Wait + Sync> ClientRun<'a, G, R> {
         laws();
         let mut reply = Reply::new(self.alloc);
         let malformed = answer_part(
-            self.rt, self.alloc, self.board, self.registry, self.gate, session, part, &mut reply,
+            self.rt,
+            self.alloc,
+            self.board,
+            self.registry,
+            self.gate,
+            session,
+            part,
+            &mut reply,
         )?;
         session.end_client(self.rt, self.board, self.gate, &mut reply)?;
         Ok(ClientText { reply, malformed })
@@ -137,15 +144,16 @@ impl<'a, G: Gate, R: Threads + Wait + Sync> Peer<Passes<Ask>> for ClientRun<'a, 
     type Out = Result<ClientText, Stop>;
 
     ghost use Rattle.std.specs.Arc.{arc_value};
+    ghost use Rattle.std.specs.Thread.{IsSync};
     ghost use Rattle.crew.specs.Both.{ArePassesOn};
     ghost use Rattle.client_run.specs.Parts.{MayRun, ClientRan};
 
-    ghost can_run = { λ run n p. ArePassesOn run.board.now run.registry.now p × (17 ≤ n → MayRun run.workers (arc_value run.shared) run.parts.now n p) };
+    ghost can_run = { λ run n p. IsSync R.row × ArePassesOn run.board.now run.registry.now p × (17 ≤ n → MayRun run.workers (arc_value run.shared) run.parts.now n p) };
 
     ghost gives = { λ run n p q x. ArePassesOn run.board.now run.registry.now q × ClientRan run.workers (arc_value run.shared) run.parts.now n p q x };
 
     fn run(&self, number: u32, passes: Passes<Ask>) -> (Passes<Ask>, Result<ClientText, Stop>) {
-        let Some(part) = self.part_of(number) else {
+        let Some(part) = part_of(self.parts, number) else {
             let nothing = ClientText {
                 reply: Reply::new(self.alloc),
                 malformed: false,

@@ -59,7 +59,14 @@ pub fn open_first<G: Gate, R: Threads + Wait + Sync>(
     let mut session = Session::new(alloc, workers, 0, on_registry, on_board);
     let mut reply = Reply::new(alloc);
     let answer = answer_part(
-        rt, alloc, board, registry, gate, &mut session, part, &mut reply,
+        rt,
+        alloc,
+        board,
+        registry,
+        gate,
+        &mut session,
+        part,
+        &mut reply,
     );
     match answer {
         Ok(malformed) => {

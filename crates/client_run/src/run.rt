@@ -1,0 +1,183 @@
+//! A whole run of several scripts at once: all input is read first, then the scripts run, and then the whole output is written, and the
+//! trace.
+
+ghost use Rattle.std.specs.Prelude.{◌≡◌, ◌≤◌, ◌<◌, ◌+◌, ◌^◌, ◌++◌, ◌⊎◌, All, Err, true, length, IfOk, IfErr, IsOk, OnOk, OnErr, IsErrOf, MatchResult};
+ghost use Rattle.std.specs.Io.KnownBytes.{Appends, Keeps};
+ghost use Rattle.kc_base.specs.Streams.{AppendsFront, Rose};
+ghost use Rattle.script_run.specs.Endings.{traced};
+ghost use Rattle.script_run.specs.Runs.{ReadsUpTo};
+ghost use Rattle.script_run.specs.Statuses.{status_of};
+ghost use Rattle.trace_text.specs.Asks.{ask_origin};
+ghost use Rattle.trace_text.specs.Trace.{trace_of, FitTypes};
+ghost use Rattle.client_run.specs.Clients.{RanClients, RanParts, IsCut};
+
+use crate::beside::{Output, PartsRun, run_parts};
+use alg_registry::RegLog;
+use board::BoardLog;
+use crew::Gate;
+use kc_base::{Bytes, Sink, Source, read_input, write_and_flush};
+use run_options::ClientOptions;
+use script_run::{MAX_INPUT, Ran, RunError};
+use script_text::cut_parts;
+use std::alloc::{AllocError, Global};
+use std::sync::Wait;
+use std::thread::Threads;
+use trace_text::write_trace;
+use traced_runs::client_traces_can_be_read;
+use transforms::Ask;
+
+// How many bytes are asked for at once.
+const PIECE: usize = 65_536;
+
+// A buffer. Its length is a parameter, so that no proof counts it out.
+fn zeros(alloc: Global, count: usize) -> Result<Vec<u8>, AllocError>
+    ensures { IfOk result (λ buffer. length buffer.items ≡ count) }
+{
+    vec![in alloc; 0u8; count]
+}
+
+// Reads all that the source has, at most `MAX_INPUT` bytes, and cuts it into the first part and one for each client.
+fn read_parts<S: Source>(
+    alloc: Global,
+    clients: u32,
+    src: &mut S,
+) -> Result<Vec<Bytes>, RunError>
+    ensures whole { IfOk result (λ parts. IsCut clients (S.left src.old) (S.left src.new) parts.items) }
+    ensures read { ReadsUpTo (S.left src.old) (S.left src.new) (IsErrOf result RunError.TooLong) }
+    ensures cause { IsErrOf result RunError.ReadFault → Rose (S.faults src.old) (S.faults src.new) }
+    ensures causes { IfErr result (λ e. (e ≡ RunError.ReadFault) ⊎ (e ≡ RunError.NoMemory) ⊎ (e ≡ RunError.TooLong)) }
+{
+    let mut buf = zeros(alloc, PIECE)?;
+    let input = read_input(alloc, src, &mut buf, MAX_INPUT)?;
+    let parts = cut_parts(alloc, input.as_slice(), clients)?;
+    Ok(parts)
+}
+
+// Writes the trace of these histories in one piece.
+fn put_trace<K: Sink>(
+    alloc: Global,
+    registry: &RegLog,
+    board: &BoardLog<Ask>,
+    out: &mut K,
+) -> Result<(), RunError>
+    ensures bytes { MatchResult result
+        (λ _. Appends (K.held out.old) (K.held out.new) (trace_of ask_origin registry.now board.now))
+        (λ _. AppendsFront (K.held out.old) (K.held out.new) (trace_of ask_origin registry.now board.now)) }
+    ensures fits { OnOk result (FitTypes ask_origin registry.now board.now) }
+    ensures later { K.faults out.old ≤ K.faults out.new }
+    ensures cause { IsErrOf result RunError.WriteFault → Rose (K.faults out.old) (K.faults out.new) }
+    ensures causes { IfErr result (λ e. (e ≡ RunError.WriteFault) ⊎ (e ≡ RunError.NoMemory)) }
+{
+    let text = write_trace(alloc, registry, board)?;
+    write_and_flush(out, text.as_slice())?;
+    Ok(())
+}
+
+// Writes the trace of these histories, if it is asked for.
+fn put_traced<K: Sink>(
+    alloc: Global,
+    trace: bool,
+    registry: &RegLog,
+    board: &BoardLog<Ask>,
+    out: &mut K,
+) -> Result<(), RunError>
+    ensures bytes { MatchResult result
+        (λ _. Appends (K.held out.old) (K.held out.new) (traced trace registry.now board.now))
+        (λ _. AppendsFront (K.held out.old) (K.held out.new) (traced trace registry.now board.now)) }
+    ensures fits { trace ≡ true → OnOk result (FitTypes ask_origin registry.now board.now) }
+    ensures later { K.faults out.old ≤ K.faults out.new }
+    ensures cause { IsErrOf result RunError.WriteFault → Rose (K.faults out.old) (K.faults out.new) }
+    ensures causes { IfErr result (λ e. (e ≡ RunError.WriteFault) ⊎ (e ≡ RunError.NoMemory)) }
+{
+    if trace {
+        return put_trace(alloc, registry, board, out);
+    }
+    Ok(())
+}
+
+// Writes the whole output, and then the trace where it is asked for. Where memory was wanting for the output, nothing is written.
+fn write_output<K: Sink>(
+    alloc: Global,
+    trace: bool,
+    output: Result<Output, AllocError>,
+    registry: &RegLog,
+    board: &BoardLog<Ask>,
+    out: &mut K,
+) -> Result<bool, RunError>
+    ensures whole { IfOk result (λ bad. IsOk output × IfOk output (λ o. (bad ≡ o.malformed) × Appends (K.held out.old) (K.held out.new) (o.reply.text ++ traced trace registry.now board.now))) }
+    ensures nothing { OnErr output (result ≡ Err RunError.NoMemory) }
+    ensures fits { trace ≡ true → OnOk result (FitTypes ask_origin registry.now board.now) }
+    ensures front { OnErr result (Keeps (K.held out.old) (K.held out.new) ⊎ (IsOk output × IfOk output (λ o. AppendsFront (K.held out.old) (K.held out.new) (o.reply.text ++ traced trace registry.now board.now)))) }
+    ensures cause { IsErrOf result RunError.WriteFault → Rose (K.faults out.old) (K.faults out.new) }
+    ensures causes { IfErr result (λ e. (e ≡ RunError.WriteFault) ⊎ (e ≡ RunError.NoMemory)) }
+{
+    let output = output?;
+    write_and_flush(out, output.reply.as_slice())?;
+    put_traced(alloc, trace, registry, board, out)?;
+    Ok(output.malformed)
+}
+
+// Runs the scripts of an input's parts, the first part's and one for each client, and writes what they print.
+fn run_cut<K: Sink, G: Gate + Sync, R: Threads + Wait + Sync>(
+    rt: &R,
+    alloc: Global,
+    options: &ClientOptions,
+    gate: &G,
+    parts: &[Bytes],
+    out: &mut K,
+) -> Ran
+    requires few { options.now.workers ≤ 16 }
+    requires clients { (1 ≤ options.now.clients) × (options.now.clients ≤ 8) }
+    requires count { length parts.now ≡ options.now.clients + 1 }
+    requires short { All (λ part. length part ≤ 2 ^ 28) parts.now }
+    ensures ran { RanParts options.now.workers options.now.clients options.now.trace parts.now (K.held out.old) (K.held out.new) result.registry result.board result.answer }
+    ensures write_fault { IsErrOf result.answer RunError.WriteFault → Rose (K.faults out.old) (K.faults out.new) }
+{
+    let Some((first, rest)) = parts.split_first() else {
+        return Ran::not_at_all(alloc, RunError::NoMemory);
+    };
+    let PartsRun {
+        output,
+        registry,
+        board,
+    } = run_parts(rt, alloc, options.workers, gate, first.as_slice(), rest);
+    let answer = write_output(alloc, options.trace, output, &registry, &board, out);
+    Ran {
+        answer,
+        registry,
+        board,
+    }
+}
+
+/// Runs several scripts at once as the options ask, beside at most 16 workers, on a board and a registry of its own: all input is read
+/// first, at most `MAX_INPUT` bytes, and cut into a first part and one for each of one to eight clients. The whole output is written when
+/// all have ended, and then the trace of what was recorded, where the options ask for it. `ReadFault` and `TooLong` end it before any
+/// script runs, and `NoMemory` and `WriteFault` at any time; `Usage` never comes.
+pub fn run_clients<
+    S: Source,
+    K: Sink,
+    G: Gate + Sync,
+    R: Threads + Wait + Sync,
+>(
+    rt: &R,
+    alloc: Global,
+    options: &ClientOptions,
+    gate: &G,
+    src: &mut S,
+    out: &mut K,
+) -> Ran
+    requires few { options.now.workers ≤ 16 }
+    requires clients { (1 ≤ options.now.clients) × (options.now.clients ≤ 8) }
+    ensures ran { RanClients options.now.workers options.now.clients options.now.trace (status_of result.answer) (S.left src.old) (S.left src.new) (K.held out.old) (K.held out.new) result.registry result.board }
+    ensures read_fault { IsErrOf result.answer RunError.ReadFault → Rose (S.faults src.old) (S.faults src.new) }
+    ensures write_fault { IsErrOf result.answer RunError.WriteFault → Rose (K.faults out.old) (K.faults out.new) }
+    ensures too_long { ReadsUpTo (S.left src.old) (S.left src.new) (IsErrOf result.answer RunError.TooLong) }
+    ensures usage { IsErrOf result.answer RunError.Usage → ⊥ }
+{
+    client_traces_can_be_read();
+    let parts = match read_parts(alloc, options.clients, src) {
+        Ok(parts) => parts,
+        Err(error) => return Ran::not_at_all(alloc, error),
+    };
+    run_cut(rt, alloc, options, gate, parts.as_slice(), out)
+}
