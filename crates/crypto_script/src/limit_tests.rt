@@ -28,15 +28,15 @@ key m -
 hold m
 ";
 
-// What its lines print.
-const HELD_TEXT: &str = "\
+/// What its lines print.
+pub const HELD_TEXT: &str = "\
 1 ok cryptd(hmac(sha256-generic))
 2 ok
 3 ok
 ";
 
-// It takes as many bytes as pipelines accept.
-fn held_bytes(rt: &impl Abort, alloc: Global) -> String {
+/// It takes as many bytes as pipelines accept.
+pub fn held_bytes(rt: &impl Abort, alloc: Global) -> String {
     let mut script = string_of(rt, alloc, HELD);
     // 2^12 requests, as many as the queue takes in
     push_times(rt, &mut script, long_request(rt, alloc).as_str(), 4096);
@@ -45,15 +45,15 @@ fn held_bytes(rt: &impl Abort, alloc: Global) -> String {
     script
 }
 
-// Adds this behind the number of each request.
-fn push_each(rt: &impl Abort, alloc: Global, text: &mut String, said: &str) {
+/// Adds this behind the number of each request.
+pub fn push_each(rt: &impl Abort, alloc: Global, text: &mut String, said: &str) {
     for line in 4..4100u32 {
         push_line(rt, alloc, text, line, said);
     }
 }
 
-// 16,384 zeros under a key of no bytes, by python's `hmac`.
-const DONE: &str = "done 75651b5b8dbc225aed4f7504e49b143e60506d006611885b5ef247bdf6ceae3b";
+/// 16,384 zeros under a key of no bytes, by python's `hmac`.
+pub const DONE: &str = "done 75651b5b8dbc225aed4f7504e49b143e60506d006611885b5ef247bdf6ceae3b";
 
 // What that script prints.
 fn held_text(rt: &impl Abort, alloc: Global) -> String {

@@ -1,6 +1,8 @@
-//! A script of the crypto API on standard input, whose lines are answered on standard output; or a load of requests.
+//! A script of the crypto API on standard input, or several at once, whose lines are answered on standard output; or a load of requests.
 #![tactic(auto)]
 
+#[cfg(test)]
+mod client_tests;
 #[cfg(test)]
 mod fault_tests;
 #[cfg(test)]

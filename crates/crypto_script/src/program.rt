@@ -2,7 +2,7 @@
 
 ghost use Rattle.std.specs.Prelude.{◌≡◌, ◌+◌, ◌-◌, ◌^◌, ◌<◌, ◌≤◌, ◌↔◌, ◌⊎◌, ℕ, [], true, Some, None, length, take, map, IfOk, IfErr, IfSome, IsSome, IsTrue, Ok, string_bytes};
 ghost use Rattle.std.specs.List.{list_any};
-ghost use Rattle.std.specs.Io.KnownBytes.{Appends};
+ghost use Rattle.std.specs.Io.KnownBytes.{Appends, Keeps};
 ghost use Rattle.kc_base.specs.Streams.{AppendsFront, Rose};
 ghost use Rattle.load_mode.specs.Requests.{load_line};
 ghost use Rattle.load_mode.specs.Turns.{AreLoaded};
@@ -19,15 +19,19 @@ ghost use Rattle.dialogues.specs.Walk.{start};
 ghost use Rattle.templates.specs.Table.{table};
 ghost use Rattle.script_run.specs.Answered.{Gives, AreAnswered, BeginsWithText};
 ghost use Rattle.command_line.specs.CommandLine.{IsWithinLimits};
-ghost use Rattle.script_run.specs.Endings.{traced, CanBeRead, AreCallers, EndsShut, IsShutOnce};
+ghost use Rattle.script_run.specs.Endings.{traced, CanBeRead, EndsShut, IsShutOnce};
 ghost use Rattle.script_run.specs.Runs.{ReadsUpTo, Gains, GainsThen, GainsFront, InTurn};
 ghost use Rattle.script_run.specs.Statuses.{status_of};
 ghost use Rattle.script_run.specs.Text.{is_malformed};
+ghost use Rattle.client_texts.specs.Outputs.{IsOutput};
+ghost use Rattle.client_texts.specs.Sharing.{AreOneList, AreCallersBeside};
+ghost use Rattle.client_run.specs.Clients.{has_malformed, GainsFrontOrNone};
 ghost use Rattle.crypto_script.specs.Refusals.{of_words};
-ghost use Rattle.crypto_script.specs.Words.{script_asked, script_in_mode, load_asked, load_in_mode, workers_in};
+ghost use Rattle.crypto_script.specs.Words.{script_asked, script_in_mode, clients_asked, clients_in_mode, load_asked, load_in_mode, workers_in, clients_in, MayBeUnbegun};
 
 use alg_registry::RegLog;
 use board::BoardLog;
+use client_run::run_clients;
 use command_line::{CommandLineError, parse_words};
 use crew::Gate;
 use kc_base::{Sink, Source};
@@ -64,9 +68,10 @@ fn refusal_of(error: CommandLineError) -> RunError
 // What the words ask for.
 fn mode_for(alloc: Global, words: &[String]) -> Result<Mode, RunError>
     ensures script { IfOk result (λ mode. script_asked (map string_bytes words.now) ≡ script_in_mode (Ok mode)) }
+    ensures clients { IfOk result (λ mode. clients_asked (map string_bytes words.now) ≡ clients_in_mode (Ok mode)) }
     ensures load { IfOk result (λ mode. load_asked (map string_bytes words.now) ≡ load_in_mode (Ok mode)) }
     ensures bounds { IfOk result IsWithinLimits }
-    ensures refused { IfErr result (λ e. (e ≡ RunError.NoMemory) ⊎ ((e ≡ RunError.Usage) × (script_asked (map string_bytes words.now) ≡ None) × (load_asked (map string_bytes words.now) ≡ None))) }
+    ensures refused { IfErr result (λ e. (e ≡ RunError.NoMemory) ⊎ ((e ≡ RunError.Usage) × (script_asked (map string_bytes words.now) ≡ None) × (clients_asked (map string_bytes words.now) ≡ None) × (load_asked (map string_bytes words.now) ≡ None))) }
 {
     match parse_words(alloc, words) {
         Ok(mode) => Ok(mode),
@@ -93,16 +98,17 @@ fn outcome_of(ran: Ran) -> Outcome
 }
 
 /// Does all that the program does: reads a script from the source, and writes the answers of its lines to the sink, and then the
-/// run's trace, where the words ask for it; or makes the requests of a load, and writes its line. It reads at most 65,536 bytes at
-/// once, and only where the answers to each whole line of what it has are written. The words are the program's arguments
-/// without its name. Beside the script, or the load, stand as many workers as the words ask for, which do its jobs and build its
-/// instances; they pass the gate with each job.
+/// run's trace, where the words ask for it; or reads several scripts, runs them at once behind a first part whose transforms they
+/// share, and writes their answers when all have ended; or makes the requests of a load, and writes its line. Of a script it reads at
+/// most 65,536 bytes at once, and only where the answers to each whole line of what it has are written. The words are the program's
+/// arguments without its name. Beside the scripts, or the load, stand as many workers as the words ask for, which do their jobs and
+/// build their instances; they pass the gate with each job.
 ///
 /// | status | comes |
 /// |---|---|
 /// | 0 | the run reached the end, and no line is malformed; or the load's line is written |
 /// | 1 | the run reached the end, and a line is malformed |
-/// | 2 | the words are no command, or ask for several scripts at once, which this program doesn't run |
+/// | 2 | the words are no command |
 /// | 3, 4 | the source, the sink failed |
 /// | 5 | memory is wanting |
 /// | 6 | the source has more than 2^28 bytes |
@@ -139,6 +145,24 @@ pub fn run<S: Source, K: Sink, G: Gate + Sync, R: Threads + Wait + Sync>(
         (IsFrontText options.workers (start 0) 0 (script_of script) result.registry result.board)
         (IsText options.workers (start 0) 0 (script_of script) result.registry result.board) (traced options.trace result.registry result.board))) }
 
+    // Several scripts at once that reach the end: all input was read, and the whole output was written, the first part's text, the
+    // clients' and that of the end; then the trace where the words ask for it, which can be read back. The board was shut last.
+    ensures clients_ended { IsSome (clients_asked (map string_bytes words.now)) → result.status ≤ 1 → IfSome (S.left src.old) (λ _. S.left src.new ≡ Some []) }
+    ensures clients_whole { IfSome (clients_asked (map string_bytes words.now)) (λ options. result.status ≤ 1 → IfSome (S.left src.old) (λ input. GainsThen (K.held out.old) (K.held out.new)
+        (IsOutput options.workers options.clients input result.registry result.board) (traced options.trace result.registry result.board))) }
+    ensures clients_readable { IfSome (clients_asked (map string_bytes words.now)) (λ options. options.trace ≡ true → result.status ≤ 1 → IfSome (S.left src.old) (λ _. CanBeRead result.registry result.board)) }
+    ensures clients_shut { IsSome (clients_asked (map string_bytes words.now)) → result.status ≤ 1 → EndsShut result.board }
+    ensures clients_malformed { IfSome (clients_asked (map string_bytes words.now)) (λ options. result.status ≤ 1 → IfSome (S.left src.old) (λ input. (result.status ≡ 1) ↔ IsTrue (has_malformed options.clients input))) }
+
+    // A pipeline that they share has one list of requests, in which those of each stand in the order of its lines; each was handed out.
+    ensures one_list { IfSome (clients_asked (map string_bytes words.now)) (λ options. result.status ≤ 1 → AreOneList options.clients result.board) }
+
+    // Where the source fails, or gives too much, nothing is written. Where the sink fails, or memory is wanting, nothing, or a front of
+    // the whole output and its trace.
+    ensures clients_unwritten { IsSome (clients_asked (map string_bytes words.now)) → (result.status ≡ 3) ⊎ (result.status ≡ 6) → Keeps (K.held out.old) (K.held out.new) }
+    ensures clients_front { IfSome (clients_asked (map string_bytes words.now)) (λ options. (result.status ≡ 4) ⊎ (result.status ≡ 5) → IfSome (S.left src.old) (λ input. GainsFrontOrNone (K.held out.old) (K.held out.new)
+        (IsOutput options.workers options.clients input result.registry result.board) (traced options.trace result.registry result.board))) }
+
     // A load that reaches the end has written its line, pads 0 and 1 have accepted its requests and handed each out, and the board
     // was shut last. It reads nothing, and what it has written is a front of its line however it ends.
     ensures load_line { IfSome (load_asked (map string_bytes words.now)) (λ load. result.status ≡ 0 → Appends (K.held out.old) (K.held out.new) (load_line load.seed load.count)) }
@@ -159,27 +183,28 @@ pub fn run<S: Source, K: Sink, G: Gate + Sync, R: Threads + Wait + Sync>(
         (BeginsWithText options.workers (whole_script (take (length given - 65536) given)) result.registry result.board))) }
 
     // Whatever ended the run, each entry of a history is right for those before it, each instance is what its template makes of
-    // its children, and only the script, or the load, and the workers made entries.
+    // its children, and only the first script, or the load, the workers and the clients made entries.
     ensures legal { LegalReg result.registry }
     ensures legal_board { LegalBoard result.board }
     ensures faithful { Made table result.registry }
-    ensures callers { AreCallers (workers_in (map string_bytes words.now)) result.registry result.board }
+    ensures callers { AreCallersBeside (workers_in (map string_bytes words.now)) (clients_in (map string_bytes words.now)) result.registry result.board }
 
     // Whatever ended the run, the board was shut once; after that the workers alone made entries, and all of these are work. So
-    // beside no workers the shut is last. Only under 2 and 5 may there be no board; then nothing was recorded.
-    ensures closed { IsShutOnce (workers_in (map string_bytes words.now)) result.board ⊎ (((result.status ≡ 2) ⊎ (result.status ≡ 5)) × (result.registry ≡ []) × (result.board ≡ [])) }
+    // beside no workers the shut is last. Only under 2 and 5, and with clients from 3 on, may there be no board; then nothing was
+    // recorded.
+    ensures closed { IsShutOnce (workers_in (map string_bytes words.now)) result.board ⊎ (MayBeUnbegun (clients_asked (map string_bytes words.now)) result.status × (result.registry ≡ []) × (result.board ≡ [])) }
 
     // Each other status has its cause. That of 5 is want of memory.
-    ensures usage { result.status ≡ 2 → (script_asked (map string_bytes words.now) ≡ None) × (load_asked (map string_bytes words.now) ≡ None) }
-    ensures refused { script_asked (map string_bytes words.now) ≡ None → load_asked (map string_bytes words.now) ≡ None → (result.status ≡ 2) ⊎ (result.status ≡ 5) }
-    ensures untouched { script_asked (map string_bytes words.now) ≡ None → load_asked (map string_bytes words.now) ≡ None → (src.new ≡ src.old) × (out.new ≡ out.old) × (result.registry ≡ []) × (result.board ≡ []) }
+    ensures usage { result.status ≡ 2 → (script_asked (map string_bytes words.now) ≡ None) × (clients_asked (map string_bytes words.now) ≡ None) × (load_asked (map string_bytes words.now) ≡ None) }
+    ensures refused { script_asked (map string_bytes words.now) ≡ None → clients_asked (map string_bytes words.now) ≡ None → load_asked (map string_bytes words.now) ≡ None → (result.status ≡ 2) ⊎ (result.status ≡ 5) }
+    ensures untouched { script_asked (map string_bytes words.now) ≡ None → clients_asked (map string_bytes words.now) ≡ None → load_asked (map string_bytes words.now) ≡ None → (src.new ≡ src.old) × (out.new ≡ out.old) × (result.registry ≡ []) × (result.board ≡ []) }
     ensures read_fault { result.status ≡ 3 → Rose (S.faults src.old) (S.faults src.new) }
     ensures write_fault { result.status ≡ 4 → Rose (K.faults out.old) (K.faults out.new) }
     ensures too_long { ReadsUpTo (S.left src.old) (S.left src.new) (result.status ≡ 6) }
     ensures known { result.status ≤ 6 }
 
-    // A command over streams that don't fail, and a script within the limit, reaches the end where memory suffices.
-    ensures complete { IsSome (script_asked (map string_bytes words.now)) → ¬ (Rose (S.faults src.old) (S.faults src.new)) → ¬ (Rose (K.faults out.old) (K.faults out.new))
+    // A command over streams that don't fail, and an input within the limit, reaches the end where memory suffices.
+    ensures complete { IsSome (script_asked (map string_bytes words.now)) ⊎ IsSome (clients_asked (map string_bytes words.now)) → ¬ (Rose (S.faults src.old) (S.faults src.new)) → ¬ (Rose (K.faults out.old) (K.faults out.new))
         → IfSome (S.left src.old) (λ script. length script ≤ 2 ^ 28 → (result.status ≤ 1) ⊎ (result.status ≡ 5)) }
 {
     nothing_is_front();
@@ -191,8 +216,9 @@ pub fn run<S: Source, K: Sink, G: Gate + Sync, R: Threads + Wait + Sync>(
     let options = match mode {
         Mode::Script(options) => options,
         Mode::Load(options) => return outcome_of(run_load(rt, alloc, &options, gate, out)),
-        // The words are read; several scripts at once aren't run.
-        Mode::Clients(_) => return outcome_of(Ran::not_at_all(alloc, RunError::Usage)),
+        Mode::Clients(options) => {
+            return outcome_of(run_clients(rt, alloc, &options, gate, src, out));
+        }
     };
     outcome_of(run_traced(rt, alloc, &options, gate, src, out))
 }

@@ -202,7 +202,7 @@ pub fn text_of(rt: &impl Abort, alloc: Global, bytes: &[u8]) -> String {
 }
 
 /// How a run past this gate ends, over streams that don't fail, and what it prints.
-fn printed_past<G: Gate + Sync, R: Abort + Threads + Wait + Sync>(
+pub fn printed_past<G: Gate + Sync, R: Abort + Threads + Wait + Sync>(
     rt: &R,
     alloc: Global,
     line: &str,
@@ -337,9 +337,21 @@ fn words_are_refused(rt: HostRuntime) {
 
 /// Holds the first that is inside a job until another is inside one too.
 #[derive(Drop)]
-struct Meet {
-    inside: AtomicU64,
-    gave_up: AtomicU64,
+pub struct Meet {
+    /// How many have been inside.
+    pub inside: AtomicU64,
+    /// How many of them went on alone.
+    pub gave_up: AtomicU64,
+}
+
+impl Meet {
+    /// Nobody has been inside.
+    pub fn new() -> Meet {
+        Meet {
+            inside: AtomicU64::new(0),
+            gave_up: AtomicU64::new(0),
+        }
+    }
 }
 
 impl Gate for Meet {
@@ -365,10 +377,7 @@ drain p
 
 #[test]
 fn two_are_inside_jobs_at_once(rt: HostRuntime) {
-    let gate = Meet {
-        inside: AtomicU64::new(0),
-        gave_up: AtomicU64::new(0),
-    };
+    let gate = Meet::new();
     let (ended, _) = printed_past(&rt, rt.alloc(), "--workers 2", &gate, TWO_JOBS);
     assert!(rt; ended.status == 0);
     assert!(rt; gate.gave_up.load(Ordering::SeqCst) == 0);

@@ -1,6 +1,6 @@
 use Rattle.std.proofs.Common.{◌≡◌, ap, ◌∙◌, Some, Ok}
 use Rattle.std.specs.Prelude.{map, string_bytes}
-use Rattle.crypto_script.specs.Words.{script_asked, script_in_mode}
+use Rattle.crypto_script.specs.Words.{script_asked, script_in_mode, clients_asked, clients_in_mode}
 use Rattle.crypto_script.proofs.Answering.{answered-read, answered-long, answered-written}
 use Rattle.crypto_script.proofs.Stopping.{load-reads, reaches-end}
 use Rattle.crypto_script.proofs.program.run.Goals as goal
@@ -48,3 +48,18 @@ returns-clause-answered_front g c =
     let asked : script_asked words ≡ Some c.in-Script.options = c.in-Ok.ensures.script ∙ ap (λ m. script_in_mode (Ok m)) c.in-Script.is in
     rw (asked, c.outcome_of-2.ensures.registry, c.outcome_of-2.ensures.board)
     (answered-written c.in-Script.options.workers c.outcome_of-2.result.status (g.S.Source.left c.args.src.now) (g.S.Source.left c.run_traced.new.src) c.run_traced.result.registry c.run_traced.result.board c.run_traced.result.answer (g.K.Sink.held c.args.out.now) (g.K.Sink.held c.run_traced.new.out) c.run_traced.ensures.first c.outcome_of-2.ensures.status)
+
+pub returns-in-Clients-clause-one_list : goal.returns-in-Clients-clause-one_list
+returns-in-Clients-clause-one_list g c =
+    let words = map string_bytes c.args.words.now in
+    let asked : clients_asked words ≡ Some c.in-Clients.options = c.in-Ok.ensures.clients ∙ ap (λ m. clients_in_mode (Ok m)) c.in-Clients.is in
+    rw (asked, c.outcome_of-in-Clients.ensures.status, c.outcome_of-in-Clients.ensures.board) c.run_clients.ensures.ran.one_list
+
+pub returns-in-Clients-clause-complete : goal.returns-in-Clients-clause-complete
+returns-in-Clients-clause-complete g c =
+    let left = g.S.Source.left in
+    let ran = c.run_clients.ensures in
+    let read = ran.too_long in
+    λ asked no_read no_write.
+    reaches-end (left c.args.src.now) (left c.run_clients.new.src) read.0 c.run_clients.result.answer c.outcome_of-in-Clients.result.status read.1 read.2.0
+    ran.usage (λ e. no_read (ran.read_fault e)) (λ e. no_write (ran.write_fault e)) c.outcome_of-in-Clients.ensures.status
