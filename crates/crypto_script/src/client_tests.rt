@@ -38,7 +38,12 @@ const MARKS: [Row; 3] = [
         "1 malformed\nclient 1\n2 malformed\n",
     ),
     ("1", " %%\t\r\n%%", 1, "client 1\n1 malformed\n"),
-    ("2", "%%\nfrob\n%%\n", 1, "client 1\n1 malformed\nclient 2\n"),
+    (
+        "2",
+        "%%\nfrob\n%%\n",
+        1,
+        "client 1\n1 malformed\nclient 2\n",
+    ),
 ];
 
 // Each client has labels of its own. The bytes are those of SP 800-38A, F.2.1.
@@ -248,8 +253,7 @@ client 2
 2 EEXIST
 ";
 
-const PAD_DONE: &str =
-    " done 0388dace60b6a392f328c2b971b2fe78ab6e47d42cec13bdf53a67b21257bddf\n";
+const PAD_DONE: &str = " done 0388dace60b6a392f328c2b971b2fe78ab6e47d42cec13bdf53a67b21257bddf\n";
 
 // The text where the request of this client came first.
 fn pad_text(rt: &impl Abort, alloc: Global, first: &str, second: &str) -> String {
