@@ -506,6 +506,133 @@ static inline void perdoaze_free(struct perdoaze *tfm)
 		perdoaze_raw_free(tfm);
 }
 
+/* ---- pipes: requests that run beside one another and come back in order
+ *
+ * A pipe takes requests to any transforms. Workers take them as jobs, run them beside one another without any lock, and finish them.
+ * The pipe tells that they are complete in the order in which it took them. It has no threads of its own: examples/c/perdoaze_threads.c has.
+ *
+ * KINDS. PERDOAZE_PCRYPT, the only one so far: jobs run in any order (padata).
+ *
+ * THREADS. Two calls on one pipe may not run at a time: the caller's mutex sees to that, and to a job's place within perdoaze_pipe_take and
+ * perdoaze_pipe_finish. perdoaze_job_run wants no lock: it uses the job's place alone.
+ *
+ * NUMBERS. Requests are numbered from 0 as a pipe accepts them. A pipe accepts 2^20 requests of 2^26 bytes together, and keeps them: then it
+ * answers -E2BIG. perdoaze_pipe_init begins it anew.
+ *
+ * More results: -EINPROGRESS (115), -EBUSY (16), -E2BIG (7). */
+
+/** A place for a pipe. Its fields are private. It begins with PERDOAZE_NONE, as a struct perdoaze. */
+struct perdoaze_pipe {
+	bool full_;
+	void *at_;
+};
+
+/** A place for a job. Its fields are private. It begins with PERDOAZE_NONE. A job may go from a thread to another through a lock. */
+struct perdoaze_job {
+	bool full_;
+	void *at_;
+};
+
+/** The kind of a pipe. */
+#define PERDOAZE_PCRYPT 1
+
+/** What a request asks for. */
+#define PERDOAZE_ENCRYPT 1
+#define PERDOAZE_DECRYPT 2
+#define PERDOAZE_DIGEST 3
+
+/** The most workers of a pipe. */
+#define PERDOAZE_MAX_WORKERS 16
+
+/** What a pipe tells of a request: it is complete. */
+#define PERDOAZE_COMPLETE 2
+
+/** What became of a request. */
+struct perdoaze_event {
+	uint64_t number; /**< the request's */
+	size_t size;     /**< in bytes, of its answer */
+	uint32_t kind;   /**< PERDOAZE_COMPLETE */
+	int32_t status;  /**< of a request that is complete: 0, -EBADMSG where the tag is wrong, or -EINVAL */
+};
+
+int32_t perdoaze_raw_pipe_init(struct perdoaze_pipe *pipe, uint64_t id, uint32_t kind, uint32_t workers);
+int32_t perdoaze_raw_pipe_submit(struct perdoaze_pipe *pipe, struct perdoaze *tfm, uint32_t direction, const uint8_t *iv, size_t iv_len,
+				 const uint8_t *aad, size_t aad_len, const uint8_t *text, size_t text_len, uint64_t *number);
+int32_t perdoaze_raw_pipe_take(struct perdoaze_pipe *pipe, uint32_t worker, struct perdoaze_job *job);
+int32_t perdoaze_raw_job_run(struct perdoaze_job *job);
+int32_t perdoaze_raw_pipe_finish(struct perdoaze_pipe *pipe, struct perdoaze_job *job);
+int32_t perdoaze_raw_pipe_poll(struct perdoaze_pipe *pipe, struct perdoaze_event *event, uint8_t *out, size_t out_len);
+void perdoaze_raw_pipe_free(struct perdoaze_pipe *pipe);
+void perdoaze_raw_job_free(struct perdoaze_job *job);
+uint64_t perdoaze_next_pipe_(void);
+
+/** Begins a pipe in the place, in the place of the one that was there. The workers 1 to `workers`, at most PERDOAZE_MAX_WORKERS, take from it.
+ *  -EINVAL: no such kind, no worker, or too many. -ENOMEM. Where the call fails, the place has none. */
+static inline int perdoaze_pipe_init(struct perdoaze_pipe *pipe, uint32_t kind, uint32_t workers)
+{
+	return pipe ? perdoaze_raw_pipe_init(pipe, perdoaze_next_pipe_(), kind, workers) : -PERDOAZE_EINVAL_;
+}
+
+/** Asks the transform, under the key and the tag size that it has now, for PERDOAZE_ENCRYPT, PERDOAZE_DECRYPT or PERDOAZE_DIGEST, the last
+ *  without `iv` and `aad`. All bytes are copied, and the transform may then be freed. -EINPROGRESS: it was accepted, as `*number`. -E2BIG.
+ *  -ENOKEY. -EINVAL: a place has none, or the request isn't taken. -ENOMEM. */
+static inline int perdoaze_pipe_submit(struct perdoaze_pipe *pipe, struct perdoaze *tfm, uint32_t direction, const void *iv, size_t iv_len,
+				       const void *aad, size_t aad_len, const void *text, size_t text_len, uint64_t *number)
+{
+	const uint8_t none = 0;
+	uint64_t unread = 0;
+	if (!pipe || !tfm || perdoaze_wrong_(iv, iv_len) || perdoaze_wrong_(aad, aad_len) || perdoaze_wrong_(text, text_len))
+		return -PERDOAZE_EINVAL_;
+	return perdoaze_raw_pipe_submit(pipe, tfm, direction, perdoaze_bytes_(iv, &none), iv_len, perdoaze_bytes_(aad, &none), aad_len,
+					perdoaze_bytes_(text, &none), text_len, number ? number : &unread);
+}
+
+/** Hands a job to the worker, 1 to PERDOAZE_MAX_WORKERS. 1: there is one, in the place `job`, which had none. 0: there is none for it now.
+ *  -EBUSY: this worker has a job of this pipe that isn't finished. -EINVAL: no worker has the number, a place has no pipe, or the
+ *  other has a job. -ENOMEM. */
+static inline int perdoaze_pipe_take(struct perdoaze_pipe *pipe, uint32_t worker, struct perdoaze_job *job)
+{
+	return pipe && job ? perdoaze_raw_pipe_take(pipe, worker, job) : -PERDOAZE_EINVAL_;
+}
+
+/** Does the work of the job. It needs no lock, and takes no memory. -EINVAL: there is no job, or it was run. */
+static inline int perdoaze_job_run(struct perdoaze_job *job)
+{
+	return job ? perdoaze_raw_job_run(job) : -PERDOAZE_EINVAL_;
+}
+
+/** Gives a job that was run back to its pipe; the place has none then. -EINVAL: it is another pipe's, wasn't run, or was finished: nothing
+ *  happened then. */
+static inline int perdoaze_pipe_finish(struct perdoaze_pipe *pipe, struct perdoaze_job *job)
+{
+	return pipe && job ? perdoaze_raw_pipe_finish(pipe, job) : -PERDOAZE_EINVAL_;
+}
+
+/** The next that the pipe tells, in its order: requests are complete in the order of their numbers. 1: there is one, in `*event`, and the
+ *  answer of a request that is complete in the first `event->size` bytes of `out`. 0: there is none now. -EOVERFLOW: `out` has no room for
+ *  these, and the next call tells the same. -EINVAL: the place has none. -ENOMEM. */
+static inline int perdoaze_pipe_poll(struct perdoaze_pipe *pipe, struct perdoaze_event *event, void *out, size_t out_len)
+{
+	uint8_t none = 0;
+	if (!pipe || !event || perdoaze_wrong_(out, out_len))
+		return -PERDOAZE_EINVAL_;
+	return perdoaze_raw_pipe_poll(pipe, event, out ? (uint8_t *)out : &none, out_len);
+}
+
+/** Frees the pipe with all that it holds, and leaves none. Jobs that workers hold stay theirs, and no pipe takes them back. */
+static inline void perdoaze_pipe_free(struct perdoaze_pipe *pipe)
+{
+	if (pipe)
+		perdoaze_raw_pipe_free(pipe);
+}
+
+/** Frees a job's place. A job that wasn't finished is lost: its pipe waits for it, and its worker takes no other. */
+static inline void perdoaze_job_free(struct perdoaze_job *job)
+{
+	if (job)
+		perdoaze_raw_job_free(job);
+}
+
 /** Overwrites PERDOAZE_STACK_SIZE bytes of the stack below its caller's frame. Made by the function that made other calls of the library,
  *  it leaves nothing there of what these computed with. Registers aren't wiped. */
 void perdoaze_wipe_stack(void);

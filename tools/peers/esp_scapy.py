@@ -17,6 +17,7 @@ from scapy.packet import Raw, raw
 from common import draw
 from peers.esp_forms import IV_LENGTHS, forms
 
+# the index of the first form; each other has the next
 SPI = 0x1001
 SIZES = [0, 1, 2, 3, 15, 16, 17, 64, 100, 555, 1300, 1400]
 
@@ -29,7 +30,7 @@ def association(form, shape):
         options |= {"esn_en": True, "esn": form.high}
     if form.in_udp:
         options["nat_t_header"] = UDP(sport=4500, dport=4500)
-    return SecurityAssociation(ESP, spi=SPI, crypt_algo=form.cipher, crypt_key=form.key(), tunnel_header=tunnel, **options)
+    return SecurityAssociation(ESP, spi=SPI + forms().index(form), crypt_algo=form.cipher, crypt_key=form.key(), tunnel_header=tunnel, **options)
 
 
 def packet(form, number):

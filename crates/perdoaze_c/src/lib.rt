@@ -2,3 +2,4 @@
 #![tactic(auto)]
 
 mod exports;
+mod pipe_exports;

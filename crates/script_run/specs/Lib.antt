@@ -8,4 +8,3 @@ pub mod Answered
 pub mod Endings
 pub mod Statuses
 pub mod Beside
-pub mod Clients

@@ -1,0 +1,4 @@
+pub mod Delivering
+pub mod Keeping
+pub mod PipeFilled
+pub mod TaskFilled

@@ -1,0 +1,13 @@
+pub mod Answers
+pub mod Calls
+pub mod Laws
+pub mod Orders
+pub mod Outcomes
+pub mod PipePlaces
+pub mod Polling
+pub mod Running
+pub mod Same
+pub mod Submitting
+pub mod TaskPlaces
+pub mod Tasks
+pub mod Working

@@ -1,0 +1,187 @@
+#include "perdoaze_threads.h"
+
+#include <errno.h>
+#include <stdlib.h>
+#include <time.h>
+
+/* Every function here but the last five holds the crew's lock. */
+
+/* Room for an answer of so many bytes. */
+static bool has_room(struct perdoaze_crew *crew, size_t size)
+{
+	uint8_t *bytes = size > crew->room ? realloc(crew->bytes, size) : crew->bytes;
+
+	if (size > crew->room && !bytes)
+		return false;
+	crew->bytes = bytes;
+	crew->room = size > crew->room ? size : crew->room;
+	return true;
+}
+
+/* Tells all that the pipe tells, without the lock meanwhile. One thread at a time does: so its order stays. */
+static void tell_all(struct perdoaze_crew *crew)
+{
+	struct perdoaze_event event;
+	int polled;
+
+	if (crew->is_telling)
+		return;
+	crew->is_telling = true;
+	while ((polled = perdoaze_pipe_poll(&crew->pipe, &event, crew->bytes, crew->room))) {
+		if (polled == -EOVERFLOW && has_room(crew, event.size))
+			continue;
+		if (polled < 0) {
+			crew->error = -ENOMEM;
+			break;
+		}
+		crew->told_count += event.kind == PERDOAZE_COMPLETE;
+		event.number += crew->before;
+		pthread_mutex_unlock(&crew->lock);
+		crew->told(crew->user, &event, crew->bytes);
+		pthread_mutex_lock(&crew->lock);
+	}
+	crew->is_telling = false;
+	pthread_cond_broadcast(&crew->idle);
+}
+
+/* Waits until all is told: each request that was accepted, since the pipe tells each once. */
+static int drain(struct perdoaze_crew *crew)
+{
+	for (;;) {
+		tell_all(crew);
+		if (crew->error)
+			return crew->error;
+		if (!crew->is_telling && crew->told_count == crew->accepted)
+			return 0;
+		pthread_cond_wait(&crew->idle, &crew->lock);
+	}
+}
+
+/* Begins the pipe anew, once all is told. */
+static int begin_anew(struct perdoaze_crew *crew)
+{
+	int err = drain(crew);
+
+	if (err)
+		return err;
+	crew->before += crew->accepted;
+	crew->accepted = crew->told_count = 0;
+	return perdoaze_pipe_init(&crew->pipe, crew->kind, crew->workers);
+}
+
+static void wait_a_moment(struct perdoaze_crew *crew)
+{
+	const struct timespec moment = { 0, 1000000 };
+
+	pthread_mutex_unlock(&crew->lock);
+	nanosleep(&moment, NULL);
+	pthread_mutex_lock(&crew->lock);
+}
+
+static void *work(void *given)
+{
+	struct perdoaze_crew *crew = given;
+	struct perdoaze_job job = PERDOAZE_NONE;
+	uint32_t me;
+
+	pthread_mutex_lock(&crew->lock);
+	me = ++crew->next;
+	for (;;) {
+		int took = perdoaze_pipe_take(&crew->pipe, me, &job);
+
+		if (took == 1) {
+			pthread_mutex_unlock(&crew->lock);
+			perdoaze_job_run(&job);
+			pthread_mutex_lock(&crew->lock);
+			perdoaze_pipe_finish(&crew->pipe, &job);
+			tell_all(crew);
+		} else if (took == -ENOMEM) {
+			wait_a_moment(crew);
+		} else if (crew->is_ending) {
+			break;
+		} else {
+			pthread_cond_wait(&crew->work, &crew->lock);
+		}
+	}
+	pthread_mutex_unlock(&crew->lock);
+	perdoaze_job_free(&job);
+	return NULL;
+}
+
+static void end(struct perdoaze_crew *crew, uint32_t started)
+{
+	pthread_mutex_lock(&crew->lock);
+	crew->is_ending = true;
+	pthread_cond_broadcast(&crew->work);
+	pthread_mutex_unlock(&crew->lock);
+	for (uint32_t i = 0; i < started; i++)
+		pthread_join(crew->threads[i], NULL);
+	perdoaze_pipe_free(&crew->pipe);
+	pthread_cond_destroy(&crew->work);
+	pthread_cond_destroy(&crew->idle);
+	pthread_mutex_destroy(&crew->lock);
+	free(crew->bytes);
+}
+
+int perdoaze_crew_start(struct perdoaze_crew *crew, uint32_t kind, uint32_t workers, perdoaze_told *told, void *user)
+{
+	int err;
+
+	memset(crew, 0, sizeof *crew);
+	crew->kind = kind;
+	crew->workers = workers;
+	crew->told = told;
+	crew->user = user;
+	if (!workers || workers > PERDOAZE_MAX_WORKERS)
+		return -EINVAL;
+	err = perdoaze_pipe_init(&crew->pipe, kind, workers);
+	if (err)
+		return err;
+	pthread_mutex_init(&crew->lock, NULL);
+	pthread_cond_init(&crew->work, NULL);
+	pthread_cond_init(&crew->idle, NULL);
+	for (uint32_t i = 0; i < workers && !err; i++) {
+		err = -pthread_create(&crew->threads[i], NULL, work, crew);
+		if (err)
+			end(crew, i);
+	}
+	return err;
+}
+
+int perdoaze_crew_submit(struct perdoaze_crew *crew, struct perdoaze *tfm, uint32_t direction, const void *iv, size_t iv_len,
+			 const void *aad, size_t aad_len, const void *text, size_t text_len, uint64_t *number)
+{
+	uint64_t n = 0;
+	int err;
+
+	pthread_mutex_lock(&crew->lock);
+	do
+		err = perdoaze_pipe_submit(&crew->pipe, tfm, direction, iv, iv_len, aad, aad_len, text, text_len, &n);
+	while (err == -E2BIG && crew->accepted && !begin_anew(crew));
+	if (err == -EINPROGRESS) {
+		crew->accepted = n + 1;
+		if (number)
+			*number = crew->before + n;
+		pthread_cond_signal(&crew->work);
+	}
+	pthread_mutex_unlock(&crew->lock);
+	return err;
+}
+
+int perdoaze_crew_drain(struct perdoaze_crew *crew)
+{
+	int err;
+
+	pthread_mutex_lock(&crew->lock);
+	err = drain(crew);
+	pthread_mutex_unlock(&crew->lock);
+	return err;
+}
+
+int perdoaze_crew_stop(struct perdoaze_crew *crew)
+{
+	int err = perdoaze_crew_drain(crew);
+
+	end(crew, crew->workers);
+	return err;
+}
