@@ -435,8 +435,8 @@ static inline void perdoaze_encrypt_group_(struct perdoaze *tfm, struct perdoaze
 
 /** Calls perdoaze_encrypt_in_place for each request in turn, and sets its `written` and `status`. The first status that isn't 0, or 0
  *  where there is none. -EINVAL: `requests` is NULL, and `count` isn't 0. Under CBC, and authenc over it, eight requests at a time are
- *  encrypted side by side: that takes a third of the time. They go one after another where one of the eight isn't taken, or where one's
- *  buffer overlaps what another one has. */
+ *  encrypted side by side, which is faster. They go one after another where one of the eight isn't taken, or where one's buffer overlaps
+ *  what another one has. */
 static inline int perdoaze_encrypt_many(struct perdoaze *tfm, struct perdoaze_request *requests, size_t count)
 {
 	int first = 0;

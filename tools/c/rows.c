@@ -12,6 +12,7 @@
 
 #define FIELDS 8
 #define SPARE 5
+#define SEVERAL 9
 
 struct bytes {
 	uint8_t *at;
@@ -139,6 +140,32 @@ static void in_place_in_pieces(struct perdoaze *tfm, const struct row *row, uint
 	see("in place in pieces", row, got, out, size, n);
 }
 
+/* The same request so many times at one call, each in a buffer of its own. */
+static void many(struct perdoaze *tfm, const struct row *row, size_t size)
+{
+	struct perdoaze_request requests[SEVERAL];
+	uint8_t *room = malloc(SEVERAL * (size + SPARE));
+	int first;
+
+	if (!room)
+		exit(2);
+	memset(room, 0x5a, SEVERAL * (size + SPARE));
+	for (size_t i = 0; i < SEVERAL; i++) {
+		requests[i] = (struct perdoaze_request){ row->iv.at, row->iv.n, row->aad.at, row->aad.n, room + i * (size + SPARE), size,
+							 row->text.n, 7, 7 };
+		memcpy(requests[i].buffer, row->text.at, row->text.n);
+	}
+	first = perdoaze_encrypt_many(tfm, requests, SEVERAL);
+	if (first != row->status)
+		fail("many", first);
+	for (size_t i = 0; i < SEVERAL; i++) {
+		if (first && memcmp(requests[i].buffer, row->text.at, row->text.n))
+			fail("many, refused: the buffer changed", first);
+		see("many", row, requests[i].status, requests[i].buffer, size, requests[i].written);
+	}
+	free(room);
+}
+
 /* With a byte less than the answer has. */
 static void without_room(struct perdoaze *tfm, const struct row *row, uint8_t *out)
 {
@@ -203,6 +230,9 @@ static void answer(char **fields)
 		if (row.dir != 'm') {
 			in_place(&tfm, &row, out, size);
 			in_place_in_pieces(&second, &row, out, size);
+		}
+		if (row.dir == 'e') {
+			many(&tfm, &row, size);
 		}
 		if (!row.status && row.want.n)
 			without_room(&second, &row, out);
