@@ -9,6 +9,8 @@ use Rattle.script_run.specs.ByLines.{IsTextByLines, NothingIsByLines}
 use Rattle.script_run.specs.Fronts.{IsFrontText, NothingIsFront}
 use Rattle.dialogues.specs.Walk.{start}
 use Rattle.script_text.specs.Script.{script_of}
+use Rattle.run_options.specs.declared.options.ScriptOptions.{ScriptOptions}
+use Rattle.script_run.specs.Endings.{traced}
 use Rattle.script_run.specs.Runs.{GainsFront}
 use Rattle.transforms.specs.declared.ask.Ask.{Ask}
 
@@ -23,3 +25,9 @@ pub nothing_by_lines_traced : NothingIsByLines → (workers : ℕ) (left held : 
     → IfSome left (λ script. GainsFront held held (IsTextByLines workers (script_of script) r b) (IsText workers (start 0) 0 (script_of script) r b) trace)
 nothing_by_lines_traced nothing workers None held r b trace = tt
 nothing_by_lines_traced nothing workers (Some script) held r b trace = inl ([], nothing workers (script_of script) r b, Appends-nil held)
+
+-- and so for whatever script the words ask for
+pub refused_by_lines : NothingIsByLines → (asked : Option ScriptOptions) (left held : Option (List ℕ)) (r : List RegEntry) (b : List (BoardEntry Ask))
+    → IfSome asked (λ options. IfSome left (λ script. GainsFront held held (IsTextByLines options.workers (script_of script) r b) (IsText options.workers (start 0) 0 (script_of script) r b) (traced options.trace r b)))
+refused_by_lines nothing None left held r b = tt
+refused_by_lines nothing (Some options) left held r b = nothing_by_lines_traced nothing options.workers left held r b (traced options.trace r b)

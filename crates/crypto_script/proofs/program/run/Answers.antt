@@ -2,6 +2,7 @@ use Rattle.std.proofs.Common.{◌≡◌, ap, ◌∙◌, Some, Ok}
 use Rattle.std.specs.Prelude.{map, string_bytes}
 use Rattle.crypto_script.specs.Words.{script_asked, script_in_mode, clients_asked, clients_in_mode}
 use Rattle.crypto_script.proofs.Answering.{answered-read, answered-long, answered-written}
+use Rattle.crypto_script.proofs.Refusing.{refused_by_lines}
 use Rattle.crypto_script.proofs.Stopping.{load-reads, reaches-end}
 use Rattle.crypto_script.proofs.program.run.Goals as goal
 
@@ -27,6 +28,11 @@ returns-clause-by_lines g c =
     let words = map string_bytes c.args.words.now in
     let asked : script_asked words ≡ Some c.in-Script.options = c.in-Ok.ensures.script ∙ ap (λ m. script_in_mode (Ok m)) c.in-Script.is in
     rw (asked, c.outcome_of-2.ensures.registry, c.outcome_of-2.ensures.board) c.run_traced.ensures.by_lines
+
+pub returns-in-Err-clause-by_lines : goal.returns-in-Err-clause-by_lines
+returns-in-Err-clause-by_lines g c =
+    refused_by_lines c.nothing_is_by_lines.ensures (script_asked (map string_bytes c.args.words.now)) (g.S.Source.left c.args.src.now) (g.K.Sink.held c.args.out.now)
+    c.outcome_of.result.registry c.outcome_of.result.board
 
 pub returns-clause-answered : goal.returns-clause-answered
 returns-clause-answered g c =
