@@ -52,8 +52,8 @@ pub(crate) fn mixed_back_all(words: &[u32; 60]) -> [u32; 60]
 impl TableSchedule {
     ghost use Rattle.aes_table.specs.Key.{table_key};
 
-    /// Seals a block. The rounds are an even number, and two go in a turn: so the columns need not be moved back to the registers
-    /// that a round took them from.
+    /// Seals a block. The rounds are an even number, and two go in a turn: so the columns need not be moved back to the
+    /// registers that a round took them from.
     #[inline(always)]
     pub(crate) fn seal(&self, b: &[u8; 16]) -> [u8; 16]
         ensures { result ≡ seal (table_key self.now) b.now }

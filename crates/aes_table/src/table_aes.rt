@@ -8,7 +8,8 @@ use aes_block::{BlockCipher, expand_key};
 use kc_base::Errno;
 use std::marker::Model;
 
-/// AES (FIPS 197, 5.1 and 5.3) under a key of 16, 24 or 32 bytes, with the key's whole schedule in words. Contracts see the key.
+/// AES (FIPS 197, 5.1 and 5.3) under a key of 16, 24 or 32 bytes, with the key's whole schedule in words. Contracts see
+/// the key.
 #[derive(Drop)]
 pub struct TableAes {
     schedule: TableSchedule,

@@ -1,12 +1,12 @@
-//! The tables: a byte's S-box, or its inverse, times each column of the matrix of MixColumns, or of InvMixColumns. An entry has
-//! its four bytes from the lowest on, as a column has them from its top.
+//! The tables: a byte's S-box, or its inverse, times each column of the matrix of MixColumns, or of InvMixColumns. An
+//! entry has its four bytes from the lowest on, as a column has them from its top.
 
 ghost use Rattle.std.specs.Prelude.{◌≡◌};
 ghost use Rattle.std_defs.specs.Aes.{sbox, inverse_sbox};
 ghost use Rattle.aes_table.specs.Words.{bytes_of, times};
 
-/// The S-box of a byte, times its column of MixColumns: the byte in row 0, then in rows 1, 2 and 3, with 256 entries each. One table
-/// leaves the processor's registers to the columns.
+/// The S-box of a byte, times its column of MixColumns: the byte in row 0, then in rows 1, 2 and 3, with 256 entries
+/// each. One table leaves the processor's registers to the columns.
 static SEALING: [u32; 1024] = [
     0xa56363c6, 0x847c7cf8, 0x997777ee, 0x8d7b7bf6, 0x0df2f2ff, 0xbd6b6bd6, 0xb16f6fde, 0x54c5c591,
     0x50303060, 0x03010102, 0xa96767ce, 0x7d2b2b56, 0x19fefee7, 0x62d7d7b5, 0xe6abab4d, 0x9a7676ec,

@@ -5,8 +5,8 @@ ghost use Rattle.alg_names.specs.declared.name_errors.NameErr.TheVariants.{Memor
 use std::alloc::{AllocError, AllocFailed};
 use thiserror::Error;
 
-/// Why a text wasn't read as a name within the limits. Where several hold, the first in this order is reported; `Memory` may come in
-/// place of any.
+/// Why a text wasn't read as a name within the limits. Where several hold, the first in this order is reported;
+/// `Memory` may come in place of any.
 #[derive(Clone, Copy, Debug, PartialEq, Eq, Error)]
 pub enum NameErr {
     /// The text has more than 127 bytes.

@@ -1,5 +1,5 @@
--- How entries get their marks and references again: marks from the oldest held entry to the newest, then references from
--- the newest to the oldest, each held one giving one to each entry below it.
+-- How entries get their marks and references again: marks from the oldest held entry to the newest, then references
+-- from the newest to the oldest, each held one giving one to each entry below it.
 use Rattle.std.specs.Prelude.{ℕ, ◌+◌, ◌==◌, if◌then◌else◌, List, [], ◌∷◌, ◌++◌, take, drop}
 use Rattle.std.specs.List.{list_any}
 use Rattle.alg_registry.specs.declared.row.Row.{Row}

@@ -28,8 +28,8 @@ is_row_listed row = row.listed
 abbrev pub listed_from : ℕ → List Row → List ℕ
 listed_from id rows = ids_of is_row_listed id rows
 
--- What a table keeps: its entries stand as they should, the held ids are all that are held, the listed ids all that are listed, and
--- there is room for more.
+-- What a table keeps: its entries stand as they should, the held ids are all that are held, the listed ids all that are
+-- listed, and there is room for more.
 pub record IsRowTable (all : List Row) (held listed : List ℕ) (spare room held_room listed_room : ℕ) : Type 0 where
   pub stands : standing all ≡ all
   pub held_are : held ≡ held_from 0 all

@@ -1,4 +1,5 @@
--- Which histories come of building each instance by its template, children first. The table of templates is a parameter here.
+-- Which histories come of building each instance by its template, children first. The table of templates is a parameter
+-- here.
 use Rattle.std.specs.Prelude.{ℕ, ◌≡◌, Bool, true, false, not, ◌==◌, if◌then◌else◌, List, [], ◌∷◌, ◌++◌, length, slice_get, Option, Some, None, Result, Ok, Err, IsTrue, ⊤, filter}
 use Rattle.std.specs.List.{filter_map, fold, cons_option}
 use Rattle.std.specs.Option.{option_and_then}

@@ -65,8 +65,9 @@ pub enum Ended {
     Built(u64),
     /// The entry of this id has the instance's driver already.
     Joined(u64),
-    /// There is no instance, for this reason: the one that was handed in; or `EAGAIN`, where an entry on which it would stand isn't
-    /// listed, `EEXIST`, where it would be confused with a listed one, `ENFILE`, where the registry holds as many as it may.
+    /// There is no instance, for this reason: the one that was handed in; or `EAGAIN`, where an entry on which it would
+    /// stand isn't listed, `EEXIST`, where it would be confused with a listed one, `ENFILE`, where the registry holds
+    /// as many as it may.
     Failed(Errno),
     /// Memory ran out, of who built it or of the registry.
     NoMemory,
@@ -99,6 +100,7 @@ pub enum EndAnswer {
 /// How many references an entry has, and whether it is listed.
 #[derive(Clone, Copy, Debug, PartialEq, Eq)]
 pub struct RefAnswer {
+    /// By callers, and by held entries that stand on it.
     pub count: u64,
     pub listed: bool,
 }
@@ -106,7 +108,9 @@ pub struct RefAnswer {
 /// A larval that was claimed, and its text.
 #[derive(Debug, Drop)]
 pub struct Claimed {
+    /// Its number, in the order of their beginnings, from 0.
     pub larval: u64,
+    /// The name that was looked up.
     pub text: Bytes,
 }
 

@@ -28,7 +28,8 @@ pub fn own_calls()
     ensures references { ReferencesAreOwn }
 {}
 
-/// Whatever the answer of a look or the end of a larval names is there: an entry with that id, a larval with the look's text.
+/// Whatever the answer of a look or the end of a larval names is there: an entry with that id, a larval with the look's
+/// text.
 pub fn names_exist()
     ensures looks { LooksName }
     ensures ends { EndsName }

@@ -229,12 +229,13 @@ impl Registry {
         result_of(answer)
     }
 
-    /// Looks for what answers to the text. With `plain` only entries that are not wrapped count; without it the caller is no worker.
+    /// Looks for what answers to the text. With `plain` only entries that are not wrapped count; without it the caller
+    /// is no worker.
     ///
-    /// A listed entry whose driver is the text is found. Otherwise, of the listed entries whose name is the text, or with
-    /// which a larval of the text ended, the one of greatest priority is found, and of equal priorities the newest. Where
-    /// there is none, a larval of the text is pending, or begins where the text has a `(`. `Memory` is the only refusal,
-    /// and leaves all as it was.
+    /// A listed entry whose driver is the text is found. Otherwise, of the listed entries whose name is the text, or
+    /// with which a larval of the text ended, the one of greatest priority is found, and of equal priorities the
+    /// newest. Where there is none, a larval of the text is pending, or begins where the text has a `(`. `Memory` is
+    /// the only refusal, and leaves all as it was.
     pub fn look(&mut self, caller: u32, text: &[u8], plain: bool) -> Result<Looked, RegErr>
         requires { IsTrue (plain || not (is_worker caller)) }
         ensures answer { IfOk result (λ answer. answer ≡ look_answer (rows_of self.old) (larvals_of self.old) text.now plain) }
@@ -338,8 +339,8 @@ impl Registry {
     ///
     /// Of an instance the answer is `Failed(EAGAIN)` where an entry below it is no longer listed; otherwise `Joined`
     /// where an entry of its driver is listed; then `Failed(EEXIST)` and `Failed(ENFILE)` as in `enlist`; otherwise
-    /// `Built`. `NoMemory` comes where it was handed in, or in place of `Built` for want of memory. Each is recorded, and
-    /// recording takes no memory.
+    /// `Built`. `NoMemory` comes where it was handed in, or in place of `Built` for want of memory. Each is recorded,
+    /// and recording takes no memory.
     pub fn end(&mut self, caller: u32, larval: u64, built: Result<Spec, Ended>) -> Ended
         requires claimed { claimer self.old larval ≡ Some caller }
         requires unended { ended_as self.old larval ≡ None }
@@ -376,8 +377,8 @@ impl Registry {
         }
     }
 
-    /// How the larval ended, which has begun. Answers `None`, and records nothing, while it is pending. `Memory` is the only refusal,
-    /// and leaves all as it was.
+    /// How the larval ended, which has begun. Answers `None`, and records nothing, while it is pending. `Memory` is the
+    /// only refusal, and leaves all as it was.
     pub fn waited(&mut self, caller: u32, larval: u64) -> Result<Option<Ended>, RegErr>
         requires { larval < length (larvals_of self.old) }
         ensures answer { IfOk result (λ ended. ended ≡ ended_as self.old larval) }
@@ -458,8 +459,8 @@ impl Registry {
         }
     }
 
-    /// Gives a reference of the caller back. An entry that is neither listed nor referenced is gone. No memory is taken.
-    /// The caller is no worker.
+    /// Gives a reference of the caller back. An entry that is neither listed nor referenced is gone. No memory is
+    /// taken. The caller is no worker.
     pub fn put_ref(&mut self, caller: u32, id: u64)
         requires outsider { IsFalse (is_worker caller) }
         requires has { HasReference self.old caller id }
@@ -514,8 +515,8 @@ impl Registry {
         held_spec_at(self.rows.all(), id)
     }
 
-    /// A copy of the entry as it came to be, held or not. `None` where no entry ever had the id. `Memory` is the only refusal.
-    /// Nothing is recorded.
+    /// A copy of the entry as it came to be, held or not. `None` where no entry ever had the id. `Memory` is the only
+    /// refusal. Nothing is recorded.
     pub fn origin(&self, id: u64) -> Result<Option<Spec>, RegErr>
         ensures answer { IfOk result (λ origin. origin ≡ slice_get (registered self.now) id) }
         ensures memory { IfErr result (λ e. e ≡ RegErr.Memory) }

@@ -106,7 +106,8 @@ impl<S: SegCipher + Drop> Authenc<S> {
         tag: &mut [u8; 32],
     ) -> Result<(), Errno>
         requires { length iv.now ≡ S.iv_size self.now.1 }
-        ensures text { Becomes result (authenc_seal self.now.0 (S.seals self.now.1 iv.now) associated.now b.old.text) (b.old.text, tag.old) (b.new.text, tag.new) }
+        ensures text { Becomes result (authenc_seal self.now.0 (S.seals self.now.1 iv.now) associated.now b.old.text)
+            (b.old.text, tag.old) (b.new.text, tag.new) }
         ensures sizes { b.new.sizes ≡ b.old.sizes }
     {
         self.cipher.seal_segs(iv, b)?;

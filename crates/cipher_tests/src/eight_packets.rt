@@ -1,5 +1,5 @@
-//! Eight packets sealed at once: each tag is what python's `cryptography` and `hmac` give for that packet by itself. A tag is that of
-//! the ciphertext, so it is right only where the ciphertext is.
+//! Eight packets sealed at once: each tag is what python's `cryptography` and `hmac` give for that packet by itself. A
+//! tag is that of the ciphertext, so it is right only where the ciphertext is.
 
 ghost use Rattle.std.specs.Prelude.{◌≡◌, true};
 ghost use Rattle.transforms.specs.Plans.{fits_tag};
@@ -29,8 +29,8 @@ const MAC_KEY: &str = "202122232425262728292a2b2c2d2e2f303132333435363738393a3b3
 const BLOB: &str =
     "0800010000000010202122232425262728292a2b2c2d2e2f303132333435363738393a3b3c3d3e3f000102030405060708090a0b0c0d0e0f";
 
-/// The lengths of eight texts, and the tags of the packets. Byte `j` of text `n` is j * j + 31 * n modulo 251, byte `k` of its IV is
-/// 16 * n + k, and byte `j` of its 9 * n associated bytes is 7 * j + n, both modulo 256.
+/// The lengths of eight texts, and the tags of the packets. Byte `j` of text `n` is j * j + 31 * n modulo 251, byte `k`
+/// of its IV is 16 * n + k, and byte `j` of its 9 * n associated bytes is 7 * j + n, both modulo 256.
 const CASES: [([usize; 8], [&str; 8]); 4] = [
     (
         [64, 1392, 256, 1024, 448, 832, 640, 1200],

@@ -1,5 +1,5 @@
-//! Texts in segments: every cut gives what the whole gives, and the whole begins with the vector of SP 800-38A under CBC and
-//! CTR, and is what python's `cryptography` gives under the others.
+//! Texts in segments: every cut gives what the whole gives, and the whole begins with the vector of SP 800-38A under
+//! CBC and CTR, and is what python's `cryptography` gives under the others.
 
 ghost use Rattle.std.specs.Prelude.{◌≡◌};
 

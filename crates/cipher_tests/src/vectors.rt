@@ -13,9 +13,9 @@ use std::sync::Arc;
 use templates::{Plan, plan_of};
 use transforms::{Ask, Dir, Finished, Keyed, Request, TfmErr, largest_tag_size, prepare, tag_size};
 
-/// In a row stand a driver, a key, a tag size, a direction, an IV, associated bytes, a text, and what comes of these. Bytes
-/// are in hexadecimal, and `-` is none. Values are those of FIPS 197, SP 800-38A, GCM's test cases, RFC 3686, RFC 4231, IEEE Std
-/// 1619, RFC 4493, SP 800-38B and SP 800-38C, and else of python's `cryptography`.
+/// In a row stand a driver, a key, a tag size, a direction, an IV, associated bytes, a text, and what comes of these.
+/// Bytes are in hexadecimal, and `-` is none. Values are those of FIPS 197, SP 800-38A, GCM's test cases, RFC 3686, RFC
+/// 4231, IEEE Std 1619, RFC 4493, SP 800-38B and SP 800-38C, and else of python's `cryptography`.
 const ROWS: &str = "\
 cbc(aes-generic) 2b7e151628aed2a6abf7158809cf4f3c 0 enc 000102030405060708090a0b0c0d0e0f - 6bc1bee22e409f96e93d7e117393172aae2d8a571e03ac9c9eb76fac45af8e51 7649abac8119b246cee98e9b12e9197d5086cb9b507219ee95db113a917678b2
 cbc(aes-generic) 2b7e151628aed2a6abf7158809cf4f3c 0 enc 000102030405060708090a0b0c0d0e0f - 00112233445566778899aabbccddee invalid

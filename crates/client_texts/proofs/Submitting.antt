@@ -1,4 +1,5 @@
--- A line submits at most one request, as its client and under its number; so a script's requests are in the order of its lines.
+-- A line submits at most one request, as its client and under its number; so a script's requests are in the order of
+-- its lines.
 use Rattle.std.proofs.Common.{◌≡◌, ℕ, ◌+◌, ◌≤◌, Bool, true, false, not, List, [], ◌∷◌, ◌++◌, length, Option, Some, None, is_some, refl, sym, ap, subst, ◌∙◌, arith, inl, inr, ◌⊎◌}
 use Rattle.std.specs.Prelude.{◌==◌, if◌then◌else◌, nat_le, nat_lt, Result, Ok, Err, ⊤}
 use Rattle.std.specs.List.{filter_map, cons_option}

@@ -22,8 +22,8 @@ AreClientTexts workers client shared (lines ∷ parts) r b [] = ⊥
 AreClientTexts workers client shared (lines ∷ parts) r b (text ∷ texts) =
     IsClientText workers client shared lines r b text × AreClientTexts workers (client + 1) shared parts r b texts
 
--- The first part runs alone, and what it has made then all clients share. Its text stands first; then the clients' texts, each under
--- its line; and then what the end of the first client's input prints, when the others have ended.
+-- The first part runs alone, and what it has made then all clients share. Its text stands first; then the clients'
+-- texts, each under its line; and then what the end of the first client's input prints, when the others have ended.
 pub record IsOutputOf (workers : ℕ) (first : List Line) (parts : List (List Line)) (r : List RegEntry) (b : List (BoardEntry Ask)) (output : List ℕ) : Type 0 where
   pub made : Walk
   pub opening : List ℕ

@@ -18,8 +18,8 @@ abbrev pub caller_for : ℕ → ℕ
 caller_for zero = 0
 caller_for (suc client) = 17 + client
 
--- A pipeline has one list of requests. In it those of each client stand in the order of its lines, and the collects have handed out
--- the completions of all of it, in order, each once.
+-- A pipeline has one list of requests. In it those of each client stand in the order of its lines, and the collects
+-- have handed out the completions of all of it, in order, each once.
 pub record IsOneList (clients : ℕ) (b : List (BoardEntry Ask)) (p : ℕ) : Type 0 where
   pub ordered : (client : ℕ) → client ≤ clients → AreInOrder client 1 (accepted_by (caller_for client) (entries_of p b))
   pub handed : completed (handed_out (entries_of p b)) ≡ numbers_below (length (submissions (entries_of p b)))

@@ -4,8 +4,8 @@ ghost use Rattle.client_texts.specs.Laws.{ClientsInOrder, FirstInOrder, OneOutpu
 
 use dialogues::turns_follow;
 
-/// In each pipeline's one list of requests those of a client stand in the order of its lines, at most one of each line, whatever
-/// other clients submit in between.
+/// In each pipeline's one list of requests those of a client stand in the order of its lines, at most one of each line,
+/// whatever other clients submit in between.
 pub fn requests_in_order()
     ensures client { ClientsInOrder }
     ensures first { FirstInOrder }

@@ -5,7 +5,8 @@ ghost use Rattle.command_line.specs.declared.errors.CommandLineError.TheVariants
 use std::alloc::AllocError;
 use thiserror::Error;
 
-/// Why words are no command. Where several hold, the first in this order is reported; `NoMemory` may come in place of any.
+/// Why words are no command. Where several hold, the first in this order is reported; `NoMemory` may come in place of
+/// any.
 #[derive(Clone, Copy, Debug, PartialEq, Eq, Error)]
 pub enum CommandLineError {
     /// An unknown option or word, an option that stands twice or lacks its value, or a flag with a value.

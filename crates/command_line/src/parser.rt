@@ -33,9 +33,9 @@ fn matches_in<'a>(alloc: Global, words: &'a [String]) -> Result<ArgMatches<'a>, 
 
 /// What the program's words ask for, its name not among them. Reads and writes nothing.
 ///
-/// In this order: `Syntax` where `clap` does not accept the words, `CountWithoutLoad`, `LoadWithTrace`, `LoadWithClients`, and
-/// `InvalidNumber` where the value of `--workers`, `--clients`, `--load` or `--count` is no number within its limit. `NoMemory` may
-/// come in place of any answer.
+/// In this order: `Syntax` where `clap` does not accept the words, `CountWithoutLoad`, `LoadWithTrace`,
+/// `LoadWithClients`, and `InvalidNumber` where the value of `--workers`, `--clients`, `--load` or `--count` is no
+/// number within its limit. `NoMemory` may come in place of any answer.
 pub fn parse_words(alloc: Global, words: &[String]) -> Result<Mode, CommandLineError>
     ensures mode { IfOk result (λ mode. mode_of (map string_bytes words.now) ≡ Ok mode) }
     ensures refused { IfErr result (λ e. e ≢ NoMemory → mode_of (map string_bytes words.now) ≡ Err e) }

@@ -97,8 +97,8 @@ fn ask_only<R: Wait>(
     (passes, ended)
 }
 
-/// How what the caller asked for ended beside one worker, after it left the processor to others so many times, and the registry's
-/// history.
+/// How what the caller asked for ended beside one worker, after it left the processor to others so many times, and the
+/// registry's history.
 pub(crate) fn asked_beside_worker<R: Threads + Wait + Sync>(
     rt: &R,
     alloc: Global,

@@ -148,8 +148,8 @@ fn main_part<G: Gate, R: Wait>(
     (passes, answer)
 }
 
-/// Does so many jobs of so many turns beside so many workers, on a board of its own and beside an empty registry. Answers one
-/// number of all that came out, or `None` where memory ran out.
+/// Does so many jobs of so many turns beside so many workers, on a board of its own and beside an empty registry.
+/// Answers one number of all that came out, or `None` where memory ran out.
 pub(crate) fn crew_of<G: Gate + Sync, R: Threads + Wait + Sync>(
     rt: &R,
     alloc: Global,

@@ -13,8 +13,8 @@ use std::alloc::{AllocError, Global};
 use std::collections::VecDeque;
 use std::marker::Model;
 
-/// A bounded queue that is served one job after another, or whose jobs are passed on to others that run them, and that tells of each
-/// backlogged job when it has started, and of each job its outcome.
+/// A bounded queue that is served one job after another, or whose jobs are passed on to others that run them, and that
+/// tells of each backlogged job when it has started, and of each job its outcome.
 #[derive(Drop)]
 pub struct Cryptd<J, F> {
     queue: Queue<J>,
@@ -110,8 +110,8 @@ impl<J: Drop, F: Drop> Cryptd<J, F> {
         Ok(())
     }
 
-    /// Accepts the job where fewer than `max` wait, and past that into the backlog where `backlog` permits it. Otherwise
-    /// hands it back. `number` is how many were accepted before, fewer than 2^63. There must be room for one.
+    /// Accepts the job where fewer than `max` wait, and past that into the backlog where `backlog` permits it.
+    /// Otherwise hands it back. `number` is how many were accepted before, fewer than 2^63. There must be room for one.
     pub fn enqueue(&mut self, number: u64, job: J, backlog: bool) -> Verdict<J>
         requires spare { 1 ≤ self.old.spare }
         requires number { number ≡ accepted self.old.line }
@@ -141,8 +141,8 @@ impl<J: Drop, F: Drop> Cryptd<J, F> {
         self.held = false;
     }
 
-    /// Hands out the first job, or `None` exactly where the queue is held, busy or empty. It is busy from then on. A queue is either
-    /// served or passed on: none may be passed on that isn't released.
+    /// Hands out the first job, or `None` exactly where the queue is held, busy or empty. It is busy from then on. A
+    /// queue is either served or passed on: none may be passed on that isn't released.
     pub fn serve(&mut self) -> Option<Served<J>>
         requires apart { self.old.passed ≡ 0 }
         ensures { MatchOption result (((self.old.held ≡ true) ⊎ ((self.old.busy ≡ true) ⊎ (self.old.line.waiting ≡ []))) × (self.new ≡ self.old)) (λ s. (self.old.held ≡ false) × (self.old.busy ≡ false) × (s.number ≡ self.old.line.served) × (s.started ≡ number_at_bound self.old.line) × (self.old.line.waiting ≡ s.item ∷ self.new.line.waiting) × (self.new ≡ record self.old { line = record self.old.line { served = self.old.line.served + 1; waiting = self.new.line.waiting }; busy = true; pending = self.old.pending ++ started_callback s.started })) }
@@ -166,8 +166,9 @@ impl<J: Drop, F: Drop> Cryptd<J, F> {
         self.busy = false;
     }
 
-    /// Passes the first job on, or `None` exactly where the queue is held or empty. Others run it; its outcome comes back by
-    /// `release`, in its turn among those that were passed on. A queue is either served or passed on: it may not be busy.
+    /// Passes the first job on, or `None` exactly where the queue is held or empty. Others run it; its outcome comes
+    /// back by `release`, in its turn among those that were passed on. A queue is either served or passed on: it may
+    /// not be busy.
     pub fn pass_on(&mut self) -> Option<Served<J>>
         requires apart { self.old.busy ≡ false }
         ensures { MatchOption result (((self.old.held ≡ true) ⊎ (self.old.line.waiting ≡ [])) × (self.new ≡ self.old)) (λ s. (self.old.held ≡ false) × (s.number ≡ self.old.line.served) × (s.started ≡ number_at_bound self.old.line) × (self.old.line.waiting ≡ s.item ∷ self.new.line.waiting) × (self.new ≡ record self.old { line = record self.old.line { served = self.old.line.served + 1; waiting = self.new.line.waiting }; passed = self.old.passed + 1; pending = self.old.pending ++ started_callback s.started })) }

@@ -10,6 +10,7 @@ use std_defs::{block_bytes, block_number};
 /// The counter blocks from one on, each one more than the one before as a number of 128 bits.
 #[derive(Drop)]
 pub struct Counter {
+    /// The first of them, its bytes read with the high one first.
     pub next: u128,
 }
 

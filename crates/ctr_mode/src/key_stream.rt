@@ -165,7 +165,8 @@ fn xor_eight(text: &mut [u8], blocks: &[[u8; 16]; 8])
 /// Xors blocks into a text of no more bytes than they have.
 fn xor_some(text: &mut [u8], blocks: &[[u8; 16]])
     requires { length text.old ≤ 16 * length blocks.now }
-    ensures { (k : ℕ) → k < length text.old → slice_index text.new k ≡ bit_xor (slice_index text.old k) (slice_index (slice_index_or blocks.now (k / 16) []) (k % 16)) }
+    ensures { (k : ℕ) → k < length text.old
+        → slice_index text.new k ≡ bit_xor (slice_index text.old k) (slice_index (slice_index_or blocks.now (k / 16) []) (k % 16)) }
 {
     let whole = text.len() / 16;
     for j in 0..whole {

@@ -17,7 +17,8 @@ bytes_in bad_message = []
 bytes_in invalid = []
 
 -- a call that opens to bytes answers Ok, and leaves them
-pub opened : (result : Result (Unit {0}) Errno) (value : Value) (text old new : List ℕ) → value ≡ bytes text → Opens result value old new → IsOk result × (new ≡ text)
+pub opened : (result : Result (Unit {0}) Errno) (value : Value) (text old new : List ℕ) → value ≡ bytes text
+    → Opens result value old new → IsOk result × (new ≡ text)
 unfolding is_bytes bytes_in
 opened (Ok x) value text old new is h = (refl, ap bytes_in (sym h ∙ is))
 opened (Err e) value text old new is ((inl r), same) = absurd (subst T (ap is_bytes (sym is ∙ r.1)) tt)

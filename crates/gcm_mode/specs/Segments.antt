@@ -8,7 +8,8 @@ use Rattle.std_defs.proofs.Horner.{horner, horner-append}
 use Rattle.ctr_mode.specs.Laws.{with_stream-append}
 use Rattle.ghash_field.specs.Laws.{padded_blocks-append}
 
--- From a cipher and the number of a counter block on, a text is under the key stream. The cipher stays, and the counter block goes on.
+-- From a cipher and the number of a counter block on, a text is under the key stream. The cipher stays, and the counter
+-- block goes on.
 pub record Counts {C : Type 0} (sealed : C → List ℕ → List ℕ) (before : C × ℕ) (text new : List ℕ) (after : C × ℕ) : Type 0 where
   pub same : after.0 ≡ before.0
   pub made : new ≡ gctr (sealed before.0) before.1 text
@@ -28,7 +29,8 @@ unfolding counter_block
 counter_block-add x m zero = ap (counter_block x) (sym (add-zero m))
 counter_block-add x m (suc n) = ap inc32 (counter_block-add x m n) ∙ ap (counter_block x) (sym (add-suc m n))
 
-gctr-append : (cipher : BlockFunction) (x : ℕ) (a b : List ℕ) → length a % 16 ≡ 0 → gctr cipher x (a ++ b) ≡ gctr cipher x a ++ gctr cipher (counter_block x (length a / 16)) b
+gctr-append : (cipher : BlockFunction) (x : ℕ) (a b : List ℕ) → length a % 16 ≡ 0
+    → gctr cipher x (a ++ b) ≡ gctr cipher x a ++ gctr cipher (counter_block x (length a / 16)) b
 unfolding gctr key_stream_block
 gctr-append cipher x a b whole =
     with_stream-append (key_stream_block cipher x) (key_stream_block cipher (counter_block x (length a / 16))) a b whole

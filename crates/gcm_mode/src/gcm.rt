@@ -32,6 +32,12 @@ fn lengths_of(associated_len: usize, text_len: usize) -> u128
 }
 
 /// A block cipher under a key, and the hash subkey that it gives. Contracts see it as the cipher.
+///
+/// An IV serves once under a key (8): two texts under one IV give away the sum of both and the hash subkey, by which
+/// anyone forges tags. A counter is such an IV; IVs drawn at random serve for at most 2^32 texts (8.3). A forger's
+/// chance at a tag of n bytes is 1 in 256^n or better: it grows with the length of the text, and a right guess at 4 or
+/// 8 bytes helps with the next (appendix C). So take 16. A tag says nothing of order: a text that is sent again opens
+/// again.
 #[derive(Drop)]
 pub struct Gcm<C: BlockCipher + Drop, H: GhashKey + Drop> {
     cipher: C,
@@ -116,7 +122,8 @@ impl<C: BlockCipher + Drop, H: GhashKey + Drop> Gcm<C, H> {
     fn tag(&self, sealed: &[u8; 16], associated: &[u8], text: &[u8]) -> [u8; 16]
         requires associated_short { length associated.now < 2 ^ 32 }
         requires text_short { length text.now < 2 ^ 32 }
-        ensures { (iv : List ℕ) → sealed.now ≡ C.sealed self.now (bytes_of (pre_counter_block iv)) → result ≡ gcm_tag (C.sealed self.now) iv associated.now text.now }
+        ensures { (iv : List ℕ) → sealed.now ≡ C.sealed self.now (bytes_of (pre_counter_block iv))
+            → result ≡ gcm_tag (C.sealed self.now) iv associated.now text.now }
     {
         let lengths = lengths_of(associated.len(), text.len());
         let mut tag = block_bytes(ghash_of(&self.key, associated, text, lengths));
@@ -134,7 +141,8 @@ impl<C: BlockCipher + Drop, H: GhashKey + Drop> Gcm<C, H> {
     ) -> [u8; 16]
         requires associated_short { associated_len < 2 ^ 32 }
         requires text_short { text_len < 2 ^ 32 }
-        ensures { result ≡ gctr (C.sealed self.now) (pre_counter_block iv.now) (bytes_of (field_product (bit_xor hash (associated_len * 8 * 2 ^ 64 + text_len * 8)) (hash_subkey (C.sealed self.now)))) }
+        ensures { result ≡ gctr (C.sealed self.now) (pre_counter_block iv.now)
+            (bytes_of (field_product (bit_xor hash (associated_len * 8 * 2 ^ 64 + text_len * 8)) (hash_subkey (C.sealed self.now)))) }
     {
         let lengths = lengths_of(associated_len, text_len);
         let mut tag = block_bytes(self.key.product(hash ^ lengths));

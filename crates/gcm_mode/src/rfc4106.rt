@@ -20,6 +20,10 @@ pub fn takes_rfc4106_tag(len: usize) -> bool
 }
 
 /// GCM and the salt of its IVs. Contracts see the cipher and the salt.
+///
+/// An IV serves once under a key and a salt (RFC 4106, 3.1): a packet's number is such an IV, and a key ends where the
+/// numbers do. `Gcm` has what a short tag is worth. A tag says nothing of order: against packets that are sent again
+/// the receiver keeps a window of numbers.
 #[derive(Drop)]
 pub struct Rfc4106<C: BlockCipher + Drop, H: GhashKey + Drop> {
     gcm: Gcm<C, H>,
@@ -69,9 +73,12 @@ impl<C: BlockCipher + Drop, H: GhashKey + Drop> Rfc4106<C, H> {
     ) -> Result<(), Errno>
         requires { length text.old < 2 ^ 32 }
         ensures sealed { let given = rfc4106_seal (C.sealed self.now.0) self.now.1 iv.now associated.now text.old in
-            MatchResult result (λ _. given ≡ Some (text.new, tag.new)) (λ e. (e ≡ Errno.EINVAL) × (given ≡ None) × (text.new ≡ text.old) × (tag.new ≡ tag.old)) }
+            MatchResult result
+            (λ _. given ≡ Some (text.new, tag.new))
+            (λ e. (e ≡ Errno.EINVAL) × (given ≡ None) × (text.new ≡ text.old) × (tag.new ≡ tag.old)) }
         ensures opens_whole { OnOk result (rfc4106_open (C.sealed self.now.0) self.now.1 iv.now associated.now text.new tag.new ≡ bytes text.old) }
-        ensures opens { OnOk result ((n : ℕ) → n ≤ 16 → rfc4106_open (C.sealed self.now.0) self.now.1 iv.now associated.now text.new (take n tag.new) ≡ bytes text.old) }
+        ensures opens { OnOk result ((n : ℕ) → n ≤ 16
+            → rfc4106_open (C.sealed self.now.0) self.now.1 iv.now associated.now text.new (take n tag.new) ≡ bytes text.old) }
     {
         if !is_taken(associated) {
             return Err(Errno::EINVAL);
@@ -114,7 +121,9 @@ impl<C: BlockCipher + Drop, H: GhashKey + Drop> Rfc4106<C, H> {
     ) -> Result<(), Errno>
         requires { length text.old.text < 2 ^ 32 }
         ensures sealed { let given = rfc4106_seal (C.sealed self.now.0) self.now.1 iv.now associated.now text.old.text in
-            MatchResult result (λ _. given ≡ Some (text.new.text, tag.new)) (λ e. (e ≡ Errno.EINVAL) × (given ≡ None) × (text.new.text ≡ text.old.text) × (tag.new ≡ tag.old)) }
+            MatchResult result
+            (λ _. given ≡ Some (text.new.text, tag.new))
+            (λ e. (e ≡ Errno.EINVAL) × (given ≡ None) × (text.new.text ≡ text.old.text) × (tag.new ≡ tag.old)) }
         ensures sizes { text.new.sizes ≡ text.old.sizes }
     {
         if !is_taken(associated) {

@@ -40,8 +40,8 @@ impl Generator {
         self.words.next_word()
     }
 
-    /// Overwrites the bytes with draws, each with its high byte first. Where the length is no multiple of 8, what the last
-    /// draw has over is dropped.
+    /// Overwrites the bytes with draws, each with its high byte first. Where the length is no multiple of 8, what the
+    /// last draw has over is dropped.
     pub fn fill(&mut self, bytes: &mut [u8])
         ensures { (bytes.new, self.new) ≡ drawn self.old (length bytes.old) }
     {

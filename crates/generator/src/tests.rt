@@ -4,8 +4,8 @@ use crate::Generator;
 use std::process::Abort;
 use std::test::Fail;
 
-/// The first draws of two seeds: those of seed 0 as the generator's authors' code gives them, those of seed 1234567 as the
-/// task "Pseudo-random numbers/Splitmix64" of Rosetta Code lists them.
+/// The first draws of two seeds: those of seed 0 as the generator's authors' code gives them, those of seed 1234567 as
+/// the task "Pseudo-random numbers/Splitmix64" of Rosetta Code lists them.
 #[test]
 fn first_draws_of_two_seeds(rt: HostRuntime) -> Result<(), Fail> {
     for (seed, draws) in [

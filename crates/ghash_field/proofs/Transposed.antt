@@ -1,4 +1,5 @@
--- Four rounds of lanes in turn transpose sixteen rows: each moves the last digit of a lane's number to the front of its row's.
+-- Four rounds of lanes in turn transpose sixteen rows: each moves the last digit of a lane's number to the front of its
+-- row's.
 use Rattle.std.proofs.Common.{◌≡◌, ℕ, ◌+◌, ◌*◌, ◌/◌, ◌%◌, ◌<◌, ◌≢◌, Bool, cond, eqb, sym, ap, ap₂, ◌∙◌, arith, List, get_or, set, length, slice_index, ⊎_elim, zero-add, get_or-set_same, get_or-set_other, length-set}
 use Rattle.std.proofs.lemmas.Bool.{eq-eqb, ne_eqb, cases_eq}
 use Rattle.std.proofs.lemmas.List.{get_or_default}

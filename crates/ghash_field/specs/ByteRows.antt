@@ -18,7 +18,8 @@ unfoldable pub spread : ℕ → (ℕ → ℕ) → ℕ
 spread zero f = 0
 spread (suc n) f = bit_xor (f 0) (times_power 8 (spread n (λ i. f (suc i))))
 
--- lane n of row k has byte k of the product of h and a half byte at the front: n as the high half of the first byte, or n - 16 as the low one
+-- lane n of row k has byte k of the product of h and a half byte at the front: n as the high half of the first byte, or
+-- n - 16 as the low one
 abbrev pub AreRows : List Row → ℕ → Type 0
 AreRows rows h = (k n : ℕ) (d : Row) → k < 16 → n < 32 → slice_index (get_or rows k d).lanes n ≡ byte_of (field_product (n % 16 * 2 ^ (124 - 4 * (n / 16))) h) k
 
@@ -53,4 +54,5 @@ row_of a =
     let c : ℕ = times_x b in
     let d : ℕ = times_x c in
     0 ∷ d ∷ c ∷ bit_xor c d ∷ b ∷ bit_xor b d ∷ bit_xor b c ∷ bit_xor (bit_xor b c) d
-    ∷ a ∷ bit_xor a d ∷ bit_xor a c ∷ bit_xor (bit_xor a c) d ∷ bit_xor a b ∷ bit_xor (bit_xor a b) d ∷ bit_xor (bit_xor a b) c ∷ bit_xor (bit_xor (bit_xor a b) c) d ∷ []
+    ∷ a ∷ bit_xor a d ∷ bit_xor a c ∷ bit_xor (bit_xor a c) d
+    ∷ bit_xor a b ∷ bit_xor (bit_xor a b) d ∷ bit_xor (bit_xor a b) c ∷ bit_xor (bit_xor (bit_xor a b) c) d ∷ []

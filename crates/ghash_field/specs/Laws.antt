@@ -1,4 +1,5 @@
--- bytes in pieces: where the first has whole blocks, the blocks of both are those of the one and then those of the other
+-- bytes in pieces: where the first has whole blocks, the blocks of both are those of the one and then those of the
+-- other
 use Rattle.std.specs.Prelude.{◌≡◌, ℕ, ◌+◌, ◌-◌, ◌*◌, ◌/◌, ◌%◌, ◌<◌, ◌≤◌, List, ◌++◌, length, take, drop, map, replicate}
 use Rattle.std.specs.List.{range_with_len}
 use Rattle.std.proofs.Common.{sym, ap, ap₂, ◌∙◌, arith, ⊎_elim, zero-add, append_assoc, append-nil, length-append, length-drop}

@@ -23,7 +23,8 @@ pub struct LaneGhash {
     sixth: Rows,
     seventh: Rows,
     eighth: Rows,
-    ghost powers: { (second.h ≡ field_power first.h 2) × (third.h ≡ field_power first.h 3) × (fourth.h ≡ field_power first.h 4) × (fifth.h ≡ field_power first.h 5)
+    ghost powers: { (second.h ≡ field_power first.h 2) × (third.h ≡ field_power first.h 3) × (fourth.h ≡ field_power first.h 4)
+        × (fifth.h ≡ field_power first.h 5)
         × (sixth.h ≡ field_power first.h 6) × (seventh.h ≡ field_power first.h 7) × (eighth.h ≡ field_power first.h 8) },
 }
 
@@ -78,8 +79,10 @@ impl LaneGhash {
     fn all_looked_up(&self, k: usize, x: Eight) -> u8x16
         requires { k < 16 }
         ensures { number_of result ≡ sum_of_eight
-            (column self.now.eighth.h k x.first.bytes) (column self.now.seventh.h k x.second.bytes) (column self.now.sixth.h k x.third.bytes) (column self.now.fifth.h k x.fourth.bytes)
-            (column self.now.fourth.h k x.fifth.bytes) (column self.now.third.h k x.sixth.bytes) (column self.now.second.h k x.seventh.bytes) (column self.now.first.h k x.eighth.bytes) }
+            (column self.now.eighth.h k x.first.bytes) (column self.now.seventh.h k x.second.bytes)
+            (column self.now.sixth.h k x.third.bytes) (column self.now.fifth.h k x.fourth.bytes)
+            (column self.now.fourth.h k x.fifth.bytes) (column self.now.third.h k x.sixth.bytes)
+            (column self.now.second.h k x.seventh.bytes) (column self.now.first.h k x.eighth.bytes) }
     {
         let a = sum(
             self.eighth.looked_up(k, x.first),

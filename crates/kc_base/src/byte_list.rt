@@ -43,7 +43,7 @@ impl Bytes {
         self.inner
     }
 
-    /// A copy of the part.
+    /// A copy of the part. An error where memory is wanting for it.
     pub fn copy_of(alloc: Global, part: &[u8]) -> Result<Bytes, AllocError>
         ensures { IfOk result (λ b. b ≡ part.now) }
     {
@@ -52,8 +52,8 @@ impl Bytes {
         })
     }
 
-    /// Takes the room for `more` further bytes at once, so that as many can be added without taking memory each time. The bytes
-    /// stay as they were, also where memory is wanting.
+    /// Takes the room for `more` further bytes at once, so that as many can be added without taking memory each time.
+    /// The bytes stay as they were, also where memory is wanting.
     pub fn reserve(&mut self, more: usize) -> Result<(), AllocError>
         ensures { self.new ≡ self.old }
     {
@@ -77,18 +77,21 @@ impl Bytes {
         Ok(())
     }
 
+    /// The bytes, lent.
     pub fn as_slice(&self) -> &[u8]
         ensures { result.now ≡ self.now }
     {
         &self.inner
     }
 
+    /// How many bytes there are.
     pub fn len(&self) -> usize
         ensures { result ≡ length self.now }
     {
         self.inner.len()
     }
 
+    /// Whether there are none.
     pub fn is_empty(&self) -> bool
         ensures { IsTrue result ↔ (self.now ≡ []) }
     {

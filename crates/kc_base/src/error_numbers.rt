@@ -2,26 +2,40 @@
 ghost use Rattle.std.specs.Prelude.{◌≡◌};
 ghost use Rattle.kc_base.specs.Errno.{number_of, name_of};
 
-/// An error number of the kernel.
+/// An error number of the kernel, each with what it stands for here. Which call answers it, and when, its docstring
+/// says.
 #[derive(Clone, Copy, Debug, PartialEq, Eq)]
 pub enum Errno {
+    /// No such entry, driver or transform.
     ENOENT,
+    /// A limit of all requests in pipelines, or of their bytes, is reached.
     E2BIG,
+    /// An entry was unlisted meanwhile. The same call may succeed later.
     EAGAIN,
+    /// Not now: what is asked for is in use. Or a request was accepted, but waits for a place in its queue.
     EBUSY,
+    /// There is one already.
     EEXIST,
+    /// An argument has a wrong value or length, or its kind doesn't fit.
     EINVAL,
+    /// The registry holds as many entries as it can.
     ENFILE,
+    /// As many transforms are live as may be.
     EMFILE,
+    /// The queue is full, and the request was not accepted.
     ENOSPC,
+    /// A name has more than 127 bytes.
     ENAMETOOLONG,
+    /// The tag isn't that of the text.
     EBADMSG,
+    /// A request was accepted. Its outcome comes later.
     EINPROGRESS,
+    /// No key was set.
     ENOKEY,
 }
 
 impl Errno {
-    /// Linux's number.
+    /// Linux's number: 2 to 126.
     pub fn number(self) -> u32
         ensures { result ≡ number_of self }
     {
@@ -42,7 +56,7 @@ impl Errno {
         }
     }
 
-    /// The name that an answer prints.
+    /// The name that an answer prints, in capital letters: `EINVAL`.
     pub fn name(self) -> &'static str
         ensures { result.now ≡ name_of self }
     {

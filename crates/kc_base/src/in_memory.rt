@@ -81,6 +81,7 @@ impl SureSink {
         }
     }
 
+    /// The bytes that it has taken, in order.
     pub fn bytes(&self) -> &[u8]
         ensures { result.now ≡ self.now }
     {
@@ -124,7 +125,8 @@ impl Model for MemSource {
 }
 
 impl MemSource {
-    /// A source of these bytes, at most `step` a read, which is above 0. Reads are counted from 0.
+    /// A source of these bytes, at most `step` a read, which is above 0. Reads are counted from 0, and those whose
+    /// numbers `failing` lists fail.
     pub fn new(bytes: Bytes, step: usize, failing: Vec<u64>) -> MemSource
         requires { 0 < step }
         ensures { result ≡ record { left = bytes; step = step; failing = failing.items; calls = 0; faults = 0 } }
@@ -191,7 +193,8 @@ impl Model for MemSink {
 }
 
 impl MemSink {
-    /// A sink that holds nothing yet, and takes at most `step` bytes a write, which is above 0. Writes are counted from 0.
+    /// A sink that holds nothing yet, and takes at most `step` bytes a write, which is above 0. Writes are counted from
+    /// 0, and those whose numbers `failing` lists fail.
     pub fn new(alloc: Global, step: usize, failing: Vec<u64>) -> MemSink
         requires { 0 < step }
         ensures { result ≡ record { held = []; step = step; failing = failing.items; calls = 0; faults = 0 } }
@@ -205,6 +208,7 @@ impl MemSink {
         }
     }
 
+    /// The bytes that it has taken, in order.
     pub fn bytes(&self) -> &[u8]
         ensures { result.now ≡ self.now.held }
     {
@@ -264,6 +268,7 @@ impl RepeatSource {
     }
 }
 
+// Fills as much as there is room for, up to a limit, and says how much.
 fn fill_front(into: &mut [u8], byte: u8, limit: u64) -> usize
     ensures count { result ≡ min (length into.new) limit }
     ensures bytes { take result into.new ≡ replicate result byte }

@@ -35,7 +35,8 @@ pub trait Source {
     /// How often a read has failed. It never falls, and stands still at 2 ^ 64 - 1.
     ghost faults: { Self → ℕ };
 
-    /// The next bytes, at the front of `buf`, which has a byte at least.
+    /// The next bytes, at the front of `buf`, which has a byte at least. What stands behind them in `buf` has no
+    /// meaning. `Ended` where none are left, `Failed` where reading failed: nothing was taken then.
     fn read(&mut self, buf: &mut [u8]) -> ReadAnswer
         requires { 0 < length buf.old }
         ensures count { IsReadCount result (length buf.new) }
@@ -52,7 +53,8 @@ pub trait Sink {
     /// How often a write or a flush has failed. It never falls, and stands still at 2 ^ 64 - 1.
     ghost faults: { Self → ℕ };
 
-    /// Takes a front of the piece, which has a byte at least.
+    /// Takes a front of the piece, which has a byte at least. `Failed` where writing failed, `NoMemory` where the sink
+    /// lacks memory: nothing was taken then.
     fn write(&mut self, piece: &[u8]) -> WriteAnswer
         requires { 0 < length piece.now }
         ensures count { IsWriteCount result (length piece.now) }
@@ -60,8 +62,8 @@ pub trait Sink {
         ensures later { faults self.old ≤ faults self.new }
         ensures cause { result ≡ WriteAnswer.Failed → Rose (faults self.old) (faults self.new) };
 
-    /// Passes on what it has taken and kept back so far. A sink that keeps nothing back has nothing to do. `Failed` where that failed,
-    /// `NoMemory` where memory is wanting. What it holds stays as it is.
+    /// Passes on what it has taken and kept back so far. A sink that keeps nothing back has nothing to do. `Failed`
+    /// where that failed, `NoMemory` where memory is wanting. What it holds stays as it is.
     fn flush(&mut self) -> Result<(), SinkError>
         ensures bytes { Keeps (held self.old) (held self.new) }
         ensures later { faults self.old ≤ faults self.new }

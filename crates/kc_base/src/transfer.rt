@@ -35,8 +35,8 @@ pub enum InputError {
     TooLong,
 }
 
-/// Hands the whole piece to the sink. What it does not take is offered again. `Failed` where a write failed, `NoMemory` where the sink
-/// lacks memory: it has taken a front of the piece then.
+/// Hands the whole piece to the sink. What it does not take is offered again. `Failed` where a write failed, `NoMemory`
+/// where the sink lacks memory: it has taken a front of the piece then.
 pub fn write_piece<K: Sink>(out: &mut K, piece: &[u8]) -> Result<(), SinkError>
     ensures bytes { MatchResult result
         (λ _. Appends (K.held out.old) (K.held out.new) piece.now)
@@ -55,7 +55,8 @@ pub fn write_piece<K: Sink>(out: &mut K, piece: &[u8]) -> Result<(), SinkError>
     Ok(())
 }
 
-/// Hands the whole piece to the sink as `write_piece` does, and flushes it. Where the flush fails, the sink has taken all of the piece.
+/// Hands the whole piece to the sink as `write_piece` does, and flushes it. Where the flush fails, the sink has taken
+/// all of the piece.
 pub fn write_and_flush<K: Sink>(out: &mut K, piece: &[u8]) -> Result<(), SinkError>
     ensures bytes { MatchResult result
         (λ _. Appends (K.held out.old) (K.held out.new) piece.now)
@@ -67,8 +68,8 @@ pub fn write_and_flush<K: Sink>(out: &mut K, piece: &[u8]) -> Result<(), SinkErr
     out.flush()
 }
 
-/// Reads to the end, by `buf`, which has a byte at least, and gives all of it. `TooLong` where more than `limit` bytes came, `Failed`
-/// where a read failed, `NoMemory`: what was read is lost then.
+/// Reads to the end, by `buf`, which has a byte at least, and gives all of it. `TooLong` where more than `limit` bytes
+/// came, `Failed` where a read failed, `NoMemory` where memory is wanting: what was read is lost then.
 pub fn read_input<S: Source>(
     alloc: Global,
     src: &mut S,

@@ -121,8 +121,8 @@ pub record IsSized (d : Drawn) : Type 0 where
   pub text : length d.text ≤ 256
 
 module _ (registry : PlainRegistry) where
-  -- What is left of a load comes to this, where its pads hold these requests already: the completions tell of those and of what is asked
-  -- yet, which is also what the calls ask; and the last collects hand all out.
+  -- What is left of a load comes to this, where its pads hold these requests already: the completions tell of those and
+  -- of what is asked yet, which is also what the calls ask; and the last collects hand all out.
   pub record Comes (d : Dialogue) (xs ys more_a more_g : List Asked) : Type 0 where
     pub told : flat_map bytes_told (pass d registry (pads xs ys)).answers ≡ flat_map told_of (xs ++ more_a) ++ flat_map told_of (ys ++ more_g)
     pub timeless : (pass d registry (pads xs ys)).timeless ≡ true

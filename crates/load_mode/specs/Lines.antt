@@ -34,8 +34,8 @@ request_line asked = Cmd (Enc (label_for asked.line) asked.request.iv asked.requ
 abbrev pub request_lines : ℕ → ℕ → List Line
 request_lines seed count = map request_line (load_requests seed count)
 
--- Both transforms are made; the requests, whose numbers are those of their lines, are handed in; and the end of input drains `a`, then
--- `g`, and shuts the board.
+-- Both transforms are made; the requests, whose numbers are those of their lines, are handed in; and the end of input
+-- drains `a`, then `g`, and shuts the board.
 abbrev pub load_dialogue : ℕ → ℕ → ℕ → Dialogue
 load_dialogue workers seed count =
     lines_dialogue workers (start 0) 0 opening λ walk. lines_dialogue workers walk 0 (request_lines seed count) end

@@ -30,8 +30,8 @@ pub record Drawn : Type 0 where
   pub text : List ℕ
   pub after : ℕ
 
--- A draw says how many blocks of 16 bytes the text has, 1 to 16. Then come two draws for the IV, one for 8 associated bytes, and two
--- for each block.
+-- A draw says how many blocks of 16 bytes the text has, 1 to 16. Then come two draws for the IV, one for 8 associated
+-- bytes, and two for each block.
 abbrev pub drawn_request : ℕ → Drawn
 drawn_request state =
     let size = mix_u64 state in
@@ -44,8 +44,8 @@ abbrev pub drawn_requests : ℕ → ℕ → List Drawn
 drawn_requests state zero = []
 drawn_requests state (suc more) = drawn_request state ∷ drawn_requests (drawn_request state).after more
 
--- ---- requests: those of even numbers on `a`, which is `pcrypt(authenc(hmac(sha256),cbc(aes)))`, and the others on `g`, which is
--- `pcrypt(gcm(aes))`
+-- ---- requests: those of even numbers on `a`, which is `pcrypt(authenc(hmac(sha256),cbc(aes)))`, and the others on
+-- `g`, which is `pcrypt(gcm(aes))`
 
 abbrev pub cipher_key : List ℕ
 cipher_key = replicate 16 0

@@ -29,8 +29,8 @@ bytes_told _ = []
 abbrev pub digest_told : List Answer → List ℕ
 digest_told answers = sha256 (flat_map bytes_told answers)
 
--- The load's turn is done: its calls are those of the histories and no more, made one after the other, and this is the hash of all
--- that the completions told.
+-- The load's turn is done: its calls are those of the histories and no more, made one after the other, and this is the
+-- hash of all that the completions told.
 pub record IsLoadTurn (workers seed count : ℕ) (r : List RegEntry) (b : List (BoardEntry Ask)) (digest : List ℕ) : Type 0 where
   pub turn : Turn
   pub is : IsTurn (load_dialogue workers seed count) turn
@@ -40,7 +40,8 @@ pub record IsLoadTurn (workers seed count : ℕ) (r : List RegEntry) (b : List (
   pub in_turn : AreInTurnBy 1 0 (reg_calls 0 r) [] r
   pub digest_is : digest ≡ digest_told turn.answers
 
--- the pipeline of this number has accepted these requests, in order, and handed out the completion of each, in order and once
+-- the pipeline of this number has accepted these requests, in order, and handed out the completion of each, in order
+-- and once
 pub record IsLoadedWith (asks : List Asked) (p : ℕ) (b : List (BoardEntry Ask)) : Type 0 where
   pub accepted : map asked_by (submissions (entries_of p b)) ≡ asks
   pub handed_out : handed_out (entries_of p b) ≡ completes_from 0 (length asks)
@@ -50,8 +51,8 @@ pub record AreLoaded (seed count : ℕ) (b : List (BoardEntry Ask)) : Type 0 whe
   pub on_a : IsLoadedWith (of_a (load_requests seed count)) 0 b
   pub on_g : IsLoadedWith (of_g (load_requests seed count)) 1 b
 
--- Over legal and faithful histories whose callers are the load and at most 16 workers, whatever these do, its hash is that of the
--- requests' values, and both pipelines are loaded.
+-- Over legal and faithful histories whose callers are the load and at most 16 workers, whatever these do, its hash is
+-- that of the requests' values, and both pipelines are loaded.
 abbrev pub LoadsComeTo : Type 0
 LoadsComeTo =
     (workers seed count : ℕ) (r : List RegEntry) (b : List (BoardEntry Ask)) (digest : List ℕ)

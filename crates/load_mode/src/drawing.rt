@@ -51,7 +51,8 @@ fn key_line(alloc: Global, label: &[u8], key: &[u8]) -> Result<Line, AllocError>
     }))
 }
 
-/// The line of this number, 0 to 3, among those that make both transforms and set their keys. Want of memory is the only error.
+/// The line of this number, 0 to 3, among those that make both transforms and set their keys. Want of memory is the
+/// only error.
 pub fn opening_line(alloc: Global, number: u32) -> Result<Line, AllocError>
     requires { number < length opening }
     ensures line { IfOk result (λ line. slice_get opening number ≡ Some line) }
@@ -102,9 +103,9 @@ fn enc_line(
     }))
 }
 
-/// Draws the request of this number, and gives its line: `enc` with 8 associated bytes and 16 to 256 bytes of text, a multiple of
-/// 16. One of even number is of `a` and has an IV of 16 bytes, another is of `g` and has the first 12 of them. Want of memory is the
-/// only error; what was drawn isn't told then.
+/// Draws the request of this number, and gives its line: `enc` with 8 associated bytes and 16 to 256 bytes of text, a
+/// multiple of 16. One of even number is of `a` and has an IV of 16 bytes, another is of `g` and has the first 12 of
+/// them. Want of memory is the only error; what was drawn isn't told then.
 pub fn draw_request(
     alloc: Global,
     generator: &mut Generator,

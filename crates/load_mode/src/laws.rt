@@ -6,8 +6,8 @@ use board::{completions_in_order, histories_go_on, only_collects_hand_out, pads_
 use settled_scripts::{passes_follow, turns_are_plain};
 use transforms::Ask;
 
-/// A load comes to the hash of its requests' values, and loads both pads with them, beside any number of workers and whatever they
-/// do.
+/// A load comes to the hash of its requests' values, and loads both pads with them, beside any number of workers and
+/// whatever they do.
 pub fn loads_come_to()
     ensures { LoadsComeTo }
 {

@@ -22,8 +22,8 @@ pub fn hash_completions(hasher: &mut Sha256, answers: &[Answer])
     }
 }
 
-/// `load COUNT HEX` and a line feed: the count in decimal digits, the digest in 64 hexadecimal digits of lower case. Want of memory
-/// is the only error.
+/// `load COUNT HEX` and a line feed: the count in decimal digits, the digest in 64 hexadecimal digits of lower case.
+/// Want of memory is the only error.
 pub fn load_text(alloc: Global, count: u32, digest: &[u8; 32]) -> Result<Bytes, AllocError>
     ensures { IfOk result (λ text. text ≡ line_of count digest.now) }
 {

@@ -7,7 +7,8 @@ use aes_table::TableAes;
 use std::alloc::Global;
 use std::process::Abort;
 
-/// In a row stand a key, a block and the block sealed: FIPS 197, appendices B and C, and a block of zeros under a key of zeros.
+/// In a row stand a key, a block and the block sealed: FIPS 197, appendices B and C, and a block of zeros under a key
+/// of zeros.
 const ROWS: &str = "\
 2b7e151628aed2a6abf7158809cf4f3c 3243f6a8885a308d313198a2e0370734 3925841d02dc09fbdc118597196a0b32
 000102030405060708090a0b0c0d0e0f 00112233445566778899aabbccddeeff 69c4e0d86a7b0430d8cdb78070b4c55a

@@ -1,4 +1,5 @@
-//! Tests of AES, of GHASH's product and of jobs in chunks, over what these make public. The modes' vectors stand in cipher_tests.
+//! Tests of AES, of GHASH's product and of jobs in chunks, over what these make public. The modes' vectors stand in
+//! cipher_tests.
 //!
 //! They stand apart, since a crate that has tests is proved a second time for them.
 #![tactic(auto)]

@@ -1,5 +1,5 @@
--- How a job is cut into chunks for several threads. The length of a chunk is that of the kernel's padata_do_multithreaded; chunks
--- are counted from the job's start. All quotients are rounded down.
+-- How a job is cut into chunks for several threads. The length of a chunk is that of the kernel's
+-- padata_do_multithreaded; chunks are counted from the job's start. All quotients are rounded down.
 use Rattle.std.specs.Prelude.{◌≡◌, ◌⊎◌, ◌<◌, ◌≤◌, ◌==◌, ℕ, ◌+◌, ◌-◌, ◌*◌, ◌/◌, ◌%◌, if◌then◌else◌, min, max}
 use Rattle.std.specs.Int.{next_multiple_of}
 use Rattle.std.specs.declared.ops.Range.{Range}
@@ -9,8 +9,8 @@ use Rattle.mt_jobs.specs.declared.job.MtJob.{MtJob}
 abbrev pub thread_count : MtJob → ℕ
 thread_count job = min job.max_threads (max (job.size / max job.min_chunk job.align) 1)
 
--- the length of a chunk: the whole job for one thread, else a quarter of a thread's share, so that a thread which ends early
--- finds more to do
+-- the length of a chunk: the whole job for one thread, else a quarter of a thread's share, so that a thread which ends
+-- early finds more to do
 abbrev pub chunk_len : MtJob → ℕ
 chunk_len job =
     if thread_count job == 1 then job.size

@@ -12,9 +12,9 @@ use std::thread;
 use std::thread::Threads;
 use std_defs::block_number;
 
-/// Seals the text in place by CTR, or unseals it, under the first counter block `iv`. It is cut into chunks of `chunk` bytes,
-/// a multiple of 16 above 0 or no fewer than the text has, each of which may have a thread of its own, and becomes what one thread
-/// makes of it. It takes no memory.
+/// Seals the text in place by CTR, or unseals it, under the first counter block `iv`. It is cut into chunks of `chunk`
+/// bytes, a multiple of 16 above 0 or no fewer than the text has, each of which may have a thread of its own, and
+/// becomes what one thread makes of it. It takes no memory.
 pub fn ctr_chunked<R: Threads + Sync, C: BlockCipher + Sync>(
     rt: &R,
     cipher: &C,

@@ -1,5 +1,5 @@
-//! Jobs that are cut into chunks for several threads, whose length is that of the kernel's `padata_do_multithreaded`, and CTR of a
-//! long text as such a job.
+//! Jobs that are cut into chunks for several threads, whose length is that of the kernel's `padata_do_multithreaded`,
+//! and CTR of a long text as such a job.
 #![tactic(auto)]
 
 mod chunks;

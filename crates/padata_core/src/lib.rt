@@ -16,8 +16,8 @@ use std::alloc::{AllocError, Global};
 use std::collections::VecDeque;
 use std::marker::Model;
 
-/// A pipeline. Its jobs are numbered from 0 as they are submitted, taken one by one, finished in any order, and collected
-/// in order. The outcome of number n waits on the list n mod lists, and each list is sorted.
+/// A pipeline. Its jobs are numbered from 0 as they are submitted, taken one by one, finished in any order, and
+/// collected in order. The outcome of number n waits on the list n mod lists, and each list is sorted.
 #[derive(Drop)]
 pub struct Padata<J, F> {
     alloc: Global,
@@ -63,8 +63,8 @@ impl<J: Drop, F: Drop> Padata<J, F> {
         })
     }
 
-    /// Makes room for `n` more jobs at least, on each list for its share of them: `submit`, `take`, `finish` and `collect`
-    /// of these take no memory. Want of memory leaves the pipeline as it was.
+    /// Makes room for `n` more jobs at least, on each list for its share of them: `submit`, `take`, `finish` and
+    /// `collect` of these take no memory. Want of memory leaves the pipeline as it was.
     pub fn reserve(&mut self, n: usize) -> Result<(), AllocError>
         ensures same { self.old ≡ record self.new { spare = self.old.spare } }
         ensures room { OnOk result (n ≤ self.new.spare) }
@@ -73,7 +73,8 @@ impl<J: Drop, F: Drop> Padata<J, F> {
         if n <= self.spare {
             return Ok(());
         }
-        // At least as many as there are, so that no list is looked at for most jobs: whoever finishes one writes to its list.
+        // At least as many as there are, so that no list is looked at for most jobs: whoever finishes one writes to its
+        // list.
         let uncollected = self.uncollected();
         let spare = n.max(uncollected);
         self.waiting.reserve(spare)?;
@@ -183,8 +184,8 @@ impl<J: Drop, F: Drop> Padata<J, F> {
         self.lists
     }
 
-    /// The reorder list `k`, below `lists`: the numbers n that are finished and not collected, of which n mod lists is k, in
-    /// rising order, each with its outcome.
+    /// The reorder list `k`, below `lists`: the numbers n that are finished and not collected, of which n mod lists is
+    /// k, in rising order, each with its outcome.
     pub fn list(&self, k: u32) -> &VecDeque<(u64, F)>
         requires { k < self.now.lists }
         ensures { result.now.items ≡ on_list self.now k }
@@ -220,8 +221,9 @@ impl<J: Drop, F: Drop> Padata<J, F> {
         }
     }
 
-    /// From now on the outcome of number n waits on the list n mod `lists`, at least 1, and the finished ones move there. There is room
-    /// for what is not collected and for as many further jobs as before. Want of memory changes nothing.
+    /// From now on the outcome of number n waits on the list n mod `lists`, at least 1, and the finished ones move
+    /// there. There is room for what is not collected and for as many further jobs as before. Want of memory changes
+    /// nothing.
     pub fn remask(&mut self, lists: u32) -> Result<(), AllocError>
         requires { 1 ≤ lists }
         ensures ok { OnOk result (self.new ≡ record self.old { lists = lists }) }

@@ -66,8 +66,8 @@ fn work_backwards<W: Work>(
     polled
 }
 
-/// One step on a chain: `h` a hold, `g` a go, `p` a passing on, `!` three workers that end in the other order, `.` a poll, and
-/// any other letter a request, a great one with leave to wait in the backlog.
+/// One step on a chain: `h` a hold, `g` a go, `p` a passing on, `!` three workers that end in the other order, `.` a
+/// poll, and any other letter a request, a great one with leave to wait in the backlog.
 fn chain_step(
     board: &mut BoardCore<Echo>,
     pipe: u64,

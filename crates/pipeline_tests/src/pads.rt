@@ -177,8 +177,8 @@ pub(crate) fn yes_or_no(yes: bool) -> Said {
     if yes { Said::Yes } else { Said::No }
 }
 
-/// One step on a pad: a digit is a worker that does a job, `!` two that end in the other order, `?` a drain, `.` a poll, and
-/// any other letter a request.
+/// One step on a pad: a digit is a worker that does a job, `!` two that end in the other order, `?` a drain, `.` a
+/// poll, and any other letter a request.
 fn pad_step(
     board: &mut BoardCore<Echo>,
     pipe: u64,

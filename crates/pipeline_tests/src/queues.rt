@@ -119,8 +119,8 @@ fn serve_twice<W: Work>(board: &mut BoardCore<W>, pipe: u64) -> bool
     found
 }
 
-/// One step on a queue: a digit is a worker that serves, `!` two that serve at once, `?` a drain, `.` a poll, `h` a hold, `g` a
-/// go, a small letter else a request, and a great one a request that may wait in the backlog.
+/// One step on a queue: a digit is a worker that serves, `!` two that serve at once, `?` a drain, `.` a poll, `h` a
+/// hold, `g` a go, a small letter else a request, and a great one a request that may wait in the backlog.
 fn queue_step(
     board: &mut BoardCore<Echo>,
     pipe: u64,

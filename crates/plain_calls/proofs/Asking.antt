@@ -11,8 +11,8 @@ use Rattle.plain_calls.specs.Laws.{AreAnsweredBy}
 use Rattle.plain_calls.specs.Registry.{PlainRegistry, registry_after}
 use Rattle.plain_calls.proofs.Agreeing.{IsRegistryOf, is_building}
 
--- The history went on by this call of the script, with building before and after it by whoever builds, and the call has come
--- to something.
+-- The history went on by this call of the script, with building before and after it by whoever builds, and the call has
+-- come to something.
 pub record Asks (call : RegCall) (r r' : List RegEntry) : Type 0 where
   pub before : List RegEntry
   pub entry : RegEntry

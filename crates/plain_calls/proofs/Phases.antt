@@ -27,9 +27,9 @@ abbrev pub AreLighter : Templates → (List ℕ → ℕ) → Type 0
 AreLighter t weigh =
     (text child : List ℕ) (children : List (List ℕ)) (i : ℕ) → t.is_name text ≡ true → t.children text ≡ Ok children → slice_get children i ≡ Some child → weigh child < weigh text
 
--- The larval of the look is being built: this larval is the one that nobody waits to see ended before it goes on, its looks
--- came to this, and the others that are pending wait for it, one for the other. What the plain builder gives is what it
--- gives from here on.
+-- The larval of the look is being built: this larval is the one that nobody waits to see ended before it goes on, its
+-- looks came to this, and the others that are pending wait for it, one for the other. What the plain builder gives is
+-- what it gives from here on.
 pub record Going (t : Templates) (weigh : List ℕ → ℕ) (g : List RegEntry) (first : ℕ) (came : LookedUp) : Type 0 where
   pub registry : PlainRegistry
   pub is : IsRegistryOf registry g

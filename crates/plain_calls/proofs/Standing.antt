@@ -28,7 +28,8 @@ abbrev pub notices : ℕ → ℕ → ℕ → ℕ → List Notice
 notices max total n zero = []
 notices max total n (suc k) = starts_of max total n ++ Completes n ∷ notices max total (n + 1) k
 
--- these are the notices of the requests from the first up to those that are done, and of the one that is being done, if one is
+-- these are the notices of the requests from the first up to those that are done, and of the one that is being done, if
+-- one is
 pub record IsUntold (max total first done taken : ℕ) (ns : List Notice) : Type 0 where
   pub many : ℕ
   pub up_to : first + many ≡ done
@@ -38,8 +39,8 @@ pub record IsUntold (max total first done taken : ℕ) (ns : List Notice) : Type
 
 -- ---- pipelines
 
--- The plain pipeline is the one with these entries. A chain accepted no more than fit its queue behind what was handed out, and
--- nothing into its backlog.
+-- The plain pipeline is the one with these entries. A chain accepted no more than fit its queue behind what was handed
+-- out, and nothing into its backlog.
 pub record IsPipelineOf (pipeline : Pipeline) (es : List (BoardEntry Ask)) : Type 0 where
   pub chained : is_born is_chain (birth es) ≡ pipeline.chained
   pub bound : bound_born (birth es) ≡ pipeline.bound

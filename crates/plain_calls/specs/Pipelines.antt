@@ -11,9 +11,9 @@ use Rattle.dialogues.specs.BoardCalls.{Asked, origin_by, Notice, Started, Comple
 use Rattle.dialogues.specs.Questions.{BoardQuestion, BoardAnswer, Create, Submit, Enqueue, Hold, Go, Poll, Drain, Close, Share, Mask, Shut}
 use Rattle.dialogues.specs.Requesting.{value_of}
 
--- How many requests may wait in a queue before it is full, none for a pad; whether its requests go on to a pad behind the queue; how
--- many of the requests that it accepted were handed out; those that weren't, the oldest first; and whether it has been held without
--- a break since before the oldest of them came.
+-- How many requests may wait in a queue before it is full, none for a pad; whether its requests go on to a pad behind
+-- the queue; how many of the requests that it accepted were handed out; those that weren't, the oldest first; and
+-- whether it has been held without a break since before the oldest of them came.
 pub record Pipeline : Type 0 where
   pub bound : Option ℕ
   pub chained : Bool
@@ -39,8 +39,9 @@ verdict_at number count backlog None = NoSpace
 abbrev pub verdict_of : Bool → Pipeline → Entered
 verdict_of backlog pipeline = verdict_at (next_number pipeline) (length pipeline.undelivered) backlog pipeline.bound
 
--- What a queue answers depends on time, unless it takes more than are undelivered, or is held since before the oldest of them
--- came. On a chain no request may go into the backlog then: what it tells first, that it started or completions, depends on time.
+-- What a queue answers depends on time, unless it takes more than are undelivered, or is held since before the oldest
+-- of them came. On a chain no request may go into the backlog then: what it tells first, that it started or
+-- completions, depends on time.
 abbrev pub has_room : Bool → Pipeline → Bool
 has_room backlog pipeline =
     (pipeline.held_throughout && not (pipeline.chained && backlog))

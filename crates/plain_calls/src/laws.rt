@@ -11,8 +11,8 @@ use board::{
 use templates::laws::names_in_the_table;
 use transforms::Ask;
 
-/// Calls of the registry, each made when the one before had come to something, come to what they come to where the script is
-/// alone, whoever builds.
+/// Calls of the registry, each made when the one before had come to something, come to what they come to where the
+/// script is alone, whoever builds.
 pub fn answers_are_plain()
     ensures { AnswersArePlain }
 {

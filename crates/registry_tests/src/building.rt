@@ -83,8 +83,8 @@ fn is_made(made: Result<Spec, BuildErr>, word: &str) -> bool {
     }
 }
 
-/// In a row stand a name, the name of an entry and how its requests are run, and what comes of it for each kind of the entry: a kind,
-/// or an error.
+/// In a row stand a name, the name of an entry and how its requests are run, and what comes of it for each kind of the
+/// entry: a kind, or an error.
 const OVER_ONE: &str = "\
 cbc(x) x plain skcipher EINVAL EINVAL EINVAL EINVAL EINVAL
 ctr(x) x plain skcipher EINVAL EINVAL EINVAL EINVAL EINVAL
@@ -198,8 +198,8 @@ fn has(spec: &Spec, name: &str, (driver, priority): (&str, u32), below: &[u64]) 
         && spec.below.as_slice() == below
 }
 
-/// In a row stand a name, the kind, the name and the priority of an entry with the driver `d`, and the name, the driver and the
-/// priority of what is made of it.
+/// In a row stand a name, the kind, the name and the priority of an entry with the driver `d`, and the name, the driver
+/// and the priority of what is made of it.
 const INSTANCES: &str = "\
 cbc(aes) cipher aes 100 cbc(aes) cbc(d) 100
 rfc3686(z) skcipher ctr(aes) 100 rfc3686(ctr(aes)) rfc3686(d) 100

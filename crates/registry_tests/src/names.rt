@@ -12,8 +12,8 @@ fn refusal(alloc: Global, text: &[u8]) -> Option<NameErr> {
     parse_name(alloc, text).err()
 }
 
-/// Texts, and what they are refused for: what is no name with how many bytes begin one, what passes the limits of depth and width,
-/// and what just doesn't.
+/// Texts, and what they are refused for: what is no name with how many bytes begin one, what passes the limits of depth
+/// and width, and what just doesn't.
 const TEXTS: [(&[u8], Option<NameErr>); 20] = [
     (b"", Some(NameErr::Bad(0))),
     (b"cbc(aes", Some(NameErr::Bad(7))),

@@ -155,9 +155,9 @@ fn come_of(
     }
 }
 
-/// In a row stand a call, what it is about, and what comes of it. Another text of the same name begins a larval of its own, which comes
-/// to the same instance. An instance over what is unlisted isn't found any more, and no other is built over it. Of equal
-/// priorities the newest is found.
+/// In a row stand a call, what it is about, and what comes of it. Another text of the same name begins a larval of its
+/// own, which comes to the same instance. An instance over what is unlisted isn't found any more, and no other is built
+/// over it. Of equal priorities the newest is found.
 const CALLS: &str = "\
 build|cbc(aes)|built|3
 build|cbc( aes)|joined|3

@@ -146,8 +146,8 @@ fn say_answer(reply: &mut Reply, answer: &Answer) -> Result<(), AllocError>
 }
 
 impl Reply {
-    /// Adds the text of an answer at the end. Want of memory comes only where the room is too small for the text, and leaves all as it
-    /// was.
+    /// Adds the text of an answer at the end. Want of memory comes only where the room is too small for the text, and
+    /// leaves all as it was.
     pub fn put(&mut self, answer: &Answer) -> Result<(), AllocError>
         ensures ok { OnOk result (self.new.text ≡ self.old.text ++ text_of answer.now) }
         ensures err { OnErr result (self.new ≡ self.old) }

@@ -59,8 +59,8 @@ impl Reply {
         self.text.truncate(len);
     }
 
-    /// Takes the room for `more` further bytes at least, where it isn't there; the text stays. Want of memory comes only where it
-    /// isn't there, always where it would be 2^63 bytes or more, and leaves all as it was.
+    /// Takes the room for `more` further bytes at least, where it isn't there; the text stays. Want of memory comes
+    /// only where it isn't there, always where it would be 2^63 bytes or more, and leaves all as it was.
     pub fn reserve(&mut self, more: usize) -> Result<(), AllocError>
         ensures text { self.new.text ≡ self.old.text }
         ensures room { OnOk result (more ≤ self.new.spare) }

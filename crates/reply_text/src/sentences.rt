@@ -55,7 +55,8 @@ pub fn say_numbered(reply: &mut Reply, line: u32, words: &[&[u8]]) -> Result<(),
     say(reply, number.format(line).as_bytes(), words)
 }
 
-// How many bytes a line has with this number, this word and the digits of so many bytes; more than any memory holds stand for as many.
+// How many bytes a line has with this number, this word and the digits of so many bytes; more than any memory holds
+// stand for as many.
 fn digits_line_len(number: &[u8], word: &[u8], bytes: usize) -> usize
     requires { bytes < 2 ^ 63 }
     ensures most { result ≤ length number.now + length word.now + 2 * bytes + 3 }

@@ -19,15 +19,18 @@ pub enum Verdict<T> {
     NoSpace(T),
 }
 
-/// An item that left the queue, with its number, and the number that has come out of the backlog by that.
+/// An item that left the queue.
 #[derive(Debug, Drop)]
 pub struct Served<T> {
+    /// The item's number, in the order of acceptance, from 0.
     pub number: u64,
     pub item: T,
+    /// The number of the item that has come out of the backlog by that, if one has.
     pub started: Option<u64>,
 }
 
-/// Items in the order in which they were accepted, numbered from 0. Up to `max` wait, at least 1, and more in the backlog.
+/// Items in the order in which they were accepted, numbered from 0. Up to `max` wait, at least 1, and more in the
+/// backlog.
 #[derive(Drop)]
 pub struct Queue<T> {
     alloc: Global,
@@ -85,7 +88,8 @@ impl<T: Drop> Queue<T> {
         self.waiting.len() < self.max as usize || backlog
     }
 
-    /// Makes room for `n` more items at least, which `enqueue` takes without memory. Want of memory leaves the queue as it was.
+    /// Makes room for `n` more items at least, which `enqueue` takes without memory. Want of memory leaves the queue as
+    /// it was.
     pub fn reserve(&mut self, n: usize) -> Result<(), AllocError>
         ensures same { self.old ≡ record self.new { spare = self.old.spare } }
         ensures room { OnOk result (n ≤ self.new.spare) }
@@ -99,8 +103,8 @@ impl<T: Drop> Queue<T> {
         Ok(())
     }
 
-    /// Accepts the item where fewer than `max` wait, and past that into the backlog where `backlog` permits it. Otherwise
-    /// hands it back. `number` is how many were accepted before, fewer than 2^63. There must be room for one.
+    /// Accepts the item where fewer than `max` wait, and past that into the backlog where `backlog` permits it.
+    /// Otherwise hands it back. `number` is how many were accepted before, fewer than 2^63. There must be room for one.
     pub fn enqueue(&mut self, number: u64, item: T, backlog: bool) -> Verdict<T>
         requires spare { 1 ≤ self.old.spare }
         requires number { number ≡ accepted self.old }
@@ -120,8 +124,8 @@ impl<T: Drop> Queue<T> {
         verdict
     }
 
-    /// The first item leaves, or `None` exactly where the queue is empty. The item at place `max`, if there is one, is then
-    /// out of the backlog.
+    /// The first item leaves, or `None` exactly where the queue is empty. The item at place `max`, if there is one, is
+    /// then out of the backlog.
     pub fn dequeue(&mut self) -> Option<Served<T>>
         ensures { MatchOption result ((self.old.waiting ≡ []) × (self.new ≡ self.old)) (λ s. (s.number ≡ self.old.served) × (s.started ≡ number_at_bound self.old) × (self.old.waiting ≡ s.item ∷ self.new.waiting) × (self.new ≡ record self.old { served = self.old.served + 1; waiting = self.new.waiting })) }
     {

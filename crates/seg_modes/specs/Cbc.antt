@@ -6,7 +6,8 @@ use Rattle.std_defs.specs.Blocks.{xor_blocks, text_block, joined}
 use Rattle.std_defs.specs.Modes.{cbc_block, cbc_before, cbc_plain_block}
 use Rattle.std_defs.proofs.Joined.{joined_same, joined-add}
 
--- From a cipher and a ciphertext block on, a text of whole blocks is sealed. The cipher stays, and the last ciphertext block follows.
+-- From a cipher and a ciphertext block on, a text of whole blocks is sealed. The cipher stays, and the last ciphertext
+-- block follows.
 pub record Seals {C : Type 0} (sealed : C → List ℕ → List ℕ) (before : C × List ℕ) (text new : List ℕ) (after : C × List ℕ) : Type 0 where
   pub same : after.0 ≡ before.0
   pub made : length text % 16 ≡ 0 → new ≡ joined (λ j. cbc_block (sealed before.0) before.1 text (suc j)) (length text / 16)

@@ -5,7 +5,8 @@ use Rattle.std_defs.specs.Blocks.{block_number, block_bytes, with_stream}
 use Rattle.std_defs.specs.Modes.{ctr, ctr_stream}
 use Rattle.ctr_mode.specs.Laws.{with_stream-append}
 
--- From a cipher and a counter block on, a text is sealed by CTR. The cipher stays, and the counter block goes on by one a block.
+-- From a cipher and a counter block on, a text is sealed by CTR. The cipher stays, and the counter block goes on by one
+-- a block.
 pub record Counts {C : Type 0} (sealed : C → List ℕ → List ℕ) (before : C × List ℕ) (text new : List ℕ) (after : C × List ℕ) : Type 0 where
   pub same : after.0 ≡ before.0
   pub made : new ≡ ctr (sealed before.0) before.1 text

@@ -27,7 +27,8 @@ fn last_block(before: [u8; 16], text: &[u8]) -> [u8; 16]
     block
 }
 
-/// Sealing on its way over a text of whole blocks: contracts see the cipher and the ciphertext block before what comes next.
+/// Sealing on its way over a text of whole blocks: contracts see the cipher and the ciphertext block before what comes
+/// next.
 #[derive(Drop)]
 struct Sealing<'a, C: BlockCipher + Drop> {
     mode: &'a Cbc<C>,

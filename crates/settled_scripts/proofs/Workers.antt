@@ -60,7 +60,8 @@ binds_same workers walk n label len (Entry id spec) registry pipelines = plan_sa
 odd_is_some : (q r : ℕ) → r ≡ 1 → q * 2 + r ≢ 0
 odd_is_some q r odd none = absurd (omega (arith, odd, none))
 
--- what is kept of an empty mask, and of one with the first worker's bit, is empty beside all numbers of workers or beside none
+-- what is kept of an empty mask, and of one with the first worker's bit, is empty beside all numbers of workers or
+-- beside none
 kept_same : (workers bits : ℕ) → (bits == 0 || bits % 2 == 1) ≡ true → (kept_bits workers bits == 0) ≡ (kept_bits 0 bits == 0)
 kept_same workers bits settled = by (or_cases (bits == 0) (bits % 2 == 1) settled)
   where

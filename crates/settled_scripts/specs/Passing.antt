@@ -53,8 +53,8 @@ pub record IsAsPassed (d : Dialogue) (registry : PlainRegistry) (pipelines : Lis
   pub answers : turn.answers ≡ (pass d registry pipelines).answers
   pub calls : turn.board ≡ posted d registry pipelines
 
--- Over legal and faithful histories whose callers are the script and at most 16 workers, in which the script called the registry in
--- turn, a whole turn of a dialogue whose answers don't depend on time is as it passes where it is alone.
+-- Over legal and faithful histories whose callers are the script and at most 16 workers, in which the script called the
+-- registry in turn, a whole turn of a dialogue whose answers don't depend on time is as it passes where it is alone.
 abbrev pub TurnsArePlain : Type 0
 TurnsArePlain =
     (d : Dialogue) (turn : Turn) (r : List RegEntry) (b : List (BoardEntry Ask))

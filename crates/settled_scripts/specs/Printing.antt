@@ -17,9 +17,9 @@ use Rattle.dialogues.specs.Walk.{start}
 use Rattle.dialogues.specs.Widths.{widest}
 use Rattle.settled_scripts.specs.Settled.{IsSettled, plain_text}
 
--- Over legal and faithful histories whose callers are the script and at most 16 workers, in which the script called the registry
--- in turn, with as many looks at once as a probe has names, the text of a settled script is the plain one, beside any number of
--- workers.
+-- Over legal and faithful histories whose callers are the script and at most 16 workers, in which the script called the
+-- registry in turn, with as many looks at once as a probe has names, the text of a settled script is the plain one,
+-- beside any number of workers.
 abbrev pub PrintsPlain : Type 0
 PrintsPlain =
     (workers : ℕ) (lines : List Line) (r : List RegEntry) (b : List (BoardEntry Ask)) (text : List ℕ)

@@ -45,15 +45,16 @@ passed lines = pass (script 0 (start 0) lines) first_registry []
 unfoldable pub plain_text : List Line → List ℕ
 plain_text lines = flat_map text_of (passed lines).answers
 
--- It is no `poll`, and no `probe` of several names; and a mask is empty or has the first worker's bit, which is there beside any
--- number of workers.
+-- It is no `poll`, and no `probe` of several names; and a mask is empty or has the first worker's bit, which is there
+-- beside any number of workers.
 abbrev pub is_settled_line : Line → Bool
 is_settled_line (line.Cmd (command.Poll label)) = false
 is_settled_line (line.Cmd (command.Probe names)) = nat_le (length names) 1
 is_settled_line (line.Cmd (command.Mask label bits)) = bits == 0 || bits % 2 == 1
 is_settled_line _ = true
 
--- No line polls or probes several names, and no answer depends on which jobs were done by then: a request finds its queue full, or not, whoever works.
+-- No line polls or probes several names, and no answer depends on which jobs were done by then: a request finds its
+-- queue full, or not, whoever works.
 pub record IsSettled (lines : List Line) : Type 0 where
   pub lines_settled : list_all is_settled_line lines ≡ true
   pub timeless : (passed lines).timeless ≡ true

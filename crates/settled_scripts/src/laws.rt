@@ -33,9 +33,10 @@ pub fn passes_follow()
     ensures posts { PostsFollow }
 {}
 
-/// What worked scripts are answered, by the definition itself. A queue that is held before its first request may be filled; one
-/// that isn't held may take what it has room for whatever was done. A chain that is held so may be filled too, but for its backlog.
-/// Under an empty mask a pad takes nothing, and a mask of the second worker alone isn't settled.
+/// What worked scripts are answered, by the definition itself. A queue that is held before its first request may be
+/// filled; one that isn't held may take what it has room for whatever was done. A chain that is held so may be filled
+/// too, but for its backlog. Under an empty mask a pad takes nothing, and a mask of the second worker alone isn't
+/// settled.
 pub fn worked_scripts()
     ensures sharing { answers_of sharing ≡ sharing_answers }
     ensures unregistering { answers_of unregistering ≡ unregistering_answers }

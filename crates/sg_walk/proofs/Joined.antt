@@ -89,7 +89,8 @@ same_sizes (x ∷ xs) (suc i) part e h = ap (λ (ns : List ℕ). length x ∷ ns
 
 -- ---- a piece of two segments
 
--- m bytes from byte `skip` on of a segment p and what lies behind it: `count` bytes of p from `begin` on, and the rest behind it
+-- m bytes from byte `skip` on of a segment p and what lies behind it: `count` bytes of p from `begin` on, and the rest
+-- behind it
 module _ (p r : List ℕ) (skip begin m count : ℕ) (from : begin ≡ min skip (length p)) (many : count ≡ min (length p - begin) m) where
   pub piece_first : take m (drop skip (p ++ r)) ≡ take count (drop begin p) ++ take (m - count) (drop (skip - begin) r)
   piece_first =
@@ -165,7 +166,8 @@ written_over at f g p r h =
     (sym (append-nil (take at p ++ f)) ∙ ap (λ (x : List ℕ). take at p ++ f ++ x) (sym (drop_all (at + length f) p (omega arith))))
     (ap (λ (k : ℕ). g ++ drop k r) (sym none))
 
--- a piece over a segment p and what lies behind it: its first `count` bytes over those of p from `begin` on, and the rest behind it
+-- a piece over a segment p and what lies behind it: its first `count` bytes over those of p from `begin` on, and the
+-- rest behind it
 module _ (p r f : List ℕ) (skip begin count : ℕ) (from : begin ≡ min skip (length p)) (many : count ≡ min (length p - begin) (length f)) where
   pub written_first : written skip f (p ++ r) ≡ written begin (take count f) p ++ written (skip - begin) (drop count f) r
   written_first =

@@ -8,7 +8,8 @@ use crate::parts::overwrite;
 use kc_base::Bytes;
 use std::alloc::Global;
 
-/// Copies the bytes from the byte `at` of the segment `first` on, as many as there are and `into` has room for. How many.
+/// Copies the bytes from the byte `at` of the segment `first` on, as many as there are and `into` has room for. How
+/// many.
 pub fn gather(parts: &[Bytes], first: usize, at: usize, into: &mut [u8]) -> usize
     requires { first ≤ length parts.now }
     ensures count { result ≡ min (length into.old) (length (concat (drop first parts.now)) - at) }

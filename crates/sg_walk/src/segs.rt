@@ -14,9 +14,10 @@ use kc_base::Bytes;
 use std::alloc::{AllocError, Global};
 use std::marker::Model;
 
-/// A text that lies in segments, as a scatterlist has it: each in a piece of memory of its own, or all one behind the other in a
-/// single piece, as entries of a scatterlist may share a page. Contracts see the text, which is the segments one after another,
-/// and how many bytes each segment has. A segment may be empty. Only `cut_from`, `join` and `copy` take memory.
+/// A text that lies in segments, as a scatterlist has it: each in a piece of memory of its own, or all one behind the
+/// other in a single piece, as entries of a scatterlist may share a page. Contracts see the text, which is the segments
+/// one after another, and how many bytes each segment has. A segment may be empty. Only `cut_from`, `join` and `copy`
+/// take memory.
 #[derive(Debug, Drop)]
 pub struct Segs {
     parts: Vec<Bytes>,
@@ -155,7 +156,8 @@ impl Segs {
         })
     }
 
-    /// Keeps the first `len` bytes of the text, which has as many: each segment keeps its front, and those behind are empty then.
+    /// Keeps the first `len` bytes of the text, which has as many: each segment keeps its front, and those behind are
+    /// empty then.
     pub fn cut(&mut self, len: usize)
         requires { len ≤ length self.old.text }
         ensures text { self.new.text ≡ take len self.old.text }
@@ -167,9 +169,9 @@ impl Segs {
         self.len = len;
     }
 
-    /// Has the walker go over the text from its front: over a segment's whole blocks of 16 bytes where they lie, and, where a
-    /// segment ends within a block, over a copy of the next 128 bytes, or of what is left of the text, which is written back;
-    /// then on from there. Each segment keeps its length.
+    /// Has the walker go over the text from its front: over a segment's whole blocks of 16 bytes where they lie, and,
+    /// where a segment ends within a block, over a copy of the next 128 bytes, or of what is left of the text, which is
+    /// written back; then on from there. Each segment keeps its length.
     pub fn walk<W: Walker>(&mut self, walker: &mut W)
         ensures text { W.makes walker.old self.old.text self.new.text walker.new }
         ensures sizes { self.new.sizes ≡ self.old.sizes }

@@ -2,8 +2,8 @@
 
 ghost use Rattle.std.specs.Prelude.{◌≡◌, ◌%◌, ◌++◌, ℕ, List, [], length};
 
-/// What goes over a text from its front, one piece after another, and changes each in its place. Every piece but the last is
-/// of whole blocks of 16 bytes.
+/// What goes over a text from its front, one piece after another, and changes each in its place. Every piece but the
+/// last is of whole blocks of 16 bytes.
 pub trait Walker {
     /// What it makes of a text: the walker in front of it, the text, what is made of it, and the walker behind it.
     ghost makes: { Self → List ℕ → List ℕ → Self → Type 0 };

@@ -24,8 +24,8 @@ fn step_within<W: Walker>(alloc: Global, part: &mut Bytes, at: usize, count: usi
     *part = Bytes::from_vec(bytes);
 }
 
-/// Goes over a piece that begins at the byte `at` of the segment `i`, and may go on in those behind it: eight blocks, which a
-/// cipher in lanes seals in the time of one, or what is left of the text. How many bytes it has.
+/// Goes over a piece that begins at the byte `at` of the segment `i`, and may go on in those behind it: eight blocks,
+/// which a cipher in lanes seals in the time of one, or what is left of the text. How many bytes it has.
 fn step_across<W: Walker>(
     alloc: Global,
     parts: &mut [Bytes],
@@ -45,8 +45,8 @@ fn step_across<W: Walker>(
     count
 }
 
-/// Goes over the segment `i` from its byte `skip` on: over its whole blocks where they are, and over what is left of it as one
-/// piece with what stands behind it. How many bytes of the segments behind it were gone over.
+/// Goes over the segment `i` from its byte `skip` on: over its whole blocks where they are, and over what is left of it
+/// as one piece with what stands behind it. How many bytes of the segments behind it were gone over.
 fn walk_part<W: Walker>(
     alloc: Global,
     parts: &mut [Bytes],

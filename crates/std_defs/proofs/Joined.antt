@@ -1,4 +1,5 @@
--- Laws of blocks that stand one behind the other, and of a text whose first blocks are made and whose rest is the original.
+-- Laws of blocks that stand one behind the other, and of a text whose first blocks are made and whose rest is the
+-- original.
 use Rattle.std.proofs.Common.{◌≡◌, ℕ, zero, suc, ◌+◌, ◌-◌, ◌*◌, ◌<◌, ◌≤◌, refl, sym, ap, ap₂, ◌∙◌, arith, ⊎_elim, List, ◌++◌, length, take, drop, get_or, bit_xor, zero-add, add-zero, add-suc, append_assoc, length-append, length-take, length-drop}
 use Rattle.std.specs.Prelude.{slice_index, All}
 use Rattle.std.specs.Int.Bits.{xor_assoc, xor_self, xor_zero_r}

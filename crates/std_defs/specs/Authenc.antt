@@ -1,6 +1,6 @@
--- authenc: a cipher, and HMAC with SHA-256 over the associated bytes and what the cipher made (encrypt, then MAC). `block`
--- is the MAC key as a block; `seals` and `unseals` are what the cipher makes of a text, or nothing where it doesn't take
--- the text's length.
+-- authenc: a cipher, and HMAC with SHA-256 over the associated bytes and what the cipher made (encrypt, then MAC).
+-- `block` is the MAC key as a block; `seals` and `unseals` are what the cipher makes of a text, or nothing where it
+-- doesn't take the text's length.
 use Rattle.std.specs.Prelude.{ℕ, ◌-◌, Bool, ◌&&◌, nat_le, bytes_eq, Option, Some, None, if◌then◌else◌, List, [], ◌∷◌, ◌++◌, length, take, drop}
 use Rattle.std.specs.Int.{w32, from_be_bytes}
 use Rattle.std.specs.Option.{option_map}
@@ -12,14 +12,15 @@ use Rattle.std_defs.specs.Value.Value.{bad_message}
 unfoldable pub authenc_seal : List ℕ → (List ℕ → Option (List ℕ)) → List ℕ → List ℕ → Option (List ℕ × List ℕ)
 authenc_seal block seals associated text = option_map (λ c. (c, hmac_under block (associated ++ c))) (seals text)
 
--- the plaintext of a ciphertext under a tag of 1 to 32 bytes: one that isn't the front of its MAC is refused first, then a
--- length
+-- the plaintext of a ciphertext under a tag of 1 to 32 bytes: one that isn't the front of its MAC is refused first,
+-- then a length
 unfoldable pub authenc_open : List ℕ → (List ℕ → Option (List ℕ)) → List ℕ → List ℕ → List ℕ → Value
 authenc_open block unseals associated text tag =
     if bytes_eq (take (length tag) (hmac_under block (associated ++ text))) tag then or_invalid (unseals text) else bad_message
 
--- ---- the key blob: a header of eight bytes, the MAC key and the cipher key. The header is an attribute's length, 8, and
--- type, 1, in two bytes each with the low one first, and then the cipher key's length in four, with the high one first.
+-- ---- the key blob: a header of eight bytes, the MAC key and the cipher key. The header is an attribute's length, 8,
+-- and type, 1, in two bytes each with the low one first, and then the cipher key's length in four, with the high one
+-- first.
 
 -- the length of the cipher key
 unfoldable pub cipher_key_length : List ℕ → ℕ

@@ -1,6 +1,6 @@
--- CCM (NIST SP 800-38C) over the forward cipher function of a key, with the formatting of its appendix A. Section numbers and
--- letters are the standard's: t is the tag's length in bytes, q that of the field of the text's length.
--- An IV has sixteen bytes: q - 1, the nonce N of 15 - q bytes, and bytes that aren't used.
+-- CCM (NIST SP 800-38C) over the forward cipher function of a key, with the formatting of its appendix A. Section
+-- numbers and letters are the standard's: t is the tag's length in bytes, q that of the field of the text's length. An
+-- IV has sixteen bytes: q - 1, the nonce N of 15 - q bytes, and bytes that aren't used.
 use Rattle.std.specs.Prelude.{ℕ, ◌+◌, ◌-◌, ◌*◌, ◌/◌, ◌==◌, ◌&&◌, ◌||◌, nat_le, Bool, Option, Some, None, if◌then◌else◌, List, [], ◌∷◌, ◌++◌, length, take, drop, slice_index, bytes_eq}
 use Rattle.std.specs.Int.{bytes_high_first}
 use Rattle.std_defs.specs.Blocks.{xor_blocks, with_stream}
@@ -33,8 +33,8 @@ ccm_flags t iv associated = (if length associated == 0 then 0 else 64) + 8 * ((t
 unfoldable pub ccm_first_block : ℕ → List ℕ → List ℕ → List ℕ → List ℕ
 ccm_first_block t iv associated text = ccm_flags t iv associated ∷ ccm_nonce iv ++ bytes_high_first (ccm_q iv) (length text)
 
--- associated bytes, where there are any: their length in two bytes and they themselves, and zeros to whole blocks. There are
--- fewer than 2^16 - 2^8 of them (A.2.2).
+-- associated bytes, where there are any: their length in two bytes and they themselves, and zeros to whole blocks.
+-- There are fewer than 2^16 - 2^8 of them (A.2.2).
 unfoldable pub ccm_associated : List ℕ → List ℕ
 ccm_associated associated = if length associated == 0 then [] else padded (bytes_high_first 2 (length associated) ++ associated)
 
@@ -56,8 +56,8 @@ ccm_counter iv i = (ccm_q iv - 1) ∷ ccm_nonce iv ++ bytes_high_first (ccm_q iv
 
 -- ---- sealing and opening
 
--- the text xor S 1, S 2 and so on, the ciphers of the counter blocks: the ciphertext of a plaintext (6.1, step 8), and the
--- plaintext of a ciphertext (6.2, step 5)
+-- the text xor S 1, S 2 and so on, the ciphers of the counter blocks: the ciphertext of a plaintext (6.1, step 8), and
+-- the plaintext of a ciphertext (6.2, step 5)
 unfoldable pub ccm_text : BlockFunction → List ℕ → List ℕ → List ℕ
 ccm_text cipher iv text = with_stream (λ i. cipher (ccm_counter iv (i + 1))) text
 
@@ -71,7 +71,8 @@ unfoldable pub ccm_seal : BlockFunction → ℕ → List ℕ → List ℕ → Li
 ccm_seal cipher t iv associated plaintext =
     if ccm_takes_iv iv then Some (ccm_text cipher iv plaintext, ccm_tag cipher t iv associated plaintext) else None
 
--- the plaintext of a ciphertext where the tag is its (6.2). An empty one is opened too, as by RFC 3610, where step 1 would refuse it.
+-- the plaintext of a ciphertext where the tag is its (6.2). An empty one is opened too, as by RFC 3610, where step 1
+-- would refuse it.
 unfoldable pub ccm_open : BlockFunction → List ℕ → List ℕ → List ℕ → List ℕ → Value
 ccm_open cipher iv associated ciphertext tag =
     let plaintext = ccm_text cipher iv ciphertext in

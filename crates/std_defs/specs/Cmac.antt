@@ -1,5 +1,5 @@
--- CMAC (NIST SP 800-38B) over the forward cipher function of a key, which takes blocks of sixteen bytes to such blocks. Section
--- numbers and letters are the standard's.
+-- CMAC (NIST SP 800-38B) over the forward cipher function of a key, which takes blocks of sixteen bytes to such blocks.
+-- Section numbers and letters are the standard's.
 use Rattle.std.specs.Prelude.{ℕ, zero, suc, ◌-◌, ◌*◌, ◌/◌, ◌%◌, ◌^◌, ◌==◌, nat_lt, if◌then◌else◌, List, ◌∷◌, ◌++◌, length, drop, replicate, bit_xor}
 use Rattle.std_defs.specs.Blocks.{block_number, block_bytes, xor_blocks, text_block}
 use Rattle.std_defs.specs.Gcm.{BlockFunction}
@@ -24,8 +24,8 @@ cmac_k1 cipher = doubled (block_number (cipher zero_block))
 unfoldable pub cmac_k2 : BlockFunction → ℕ
 cmac_k2 cipher = doubled (cmac_k1 cipher)
 
--- the last block M n of a message, from its last bytes, of which there are 1 to 16, or none where the message has none: whole
--- ones are added to K1; behind others come a 1 and zeros, and the block is added to K2 (6.2, step 4)
+-- the last block M n of a message, from its last bytes, of which there are 1 to 16, or none where the message has none:
+-- whole ones are added to K1; behind others come a 1 and zeros, and the block is added to K2 (6.2, step 4)
 unfoldable pub cmac_last : BlockFunction → List ℕ → List ℕ
 cmac_last cipher bytes =
     if length bytes == 16 then xor_blocks bytes (block_bytes (cmac_k1 cipher))

@@ -1,5 +1,5 @@
--- GCM (NIST SP 800-38D) with IVs of 96 bits, over the forward cipher function of a block cipher under a key, which takes
--- blocks of sixteen bytes to such blocks.
+-- GCM (NIST SP 800-38D) with IVs of 96 bits, over the forward cipher function of a block cipher under a key, which
+-- takes blocks of sixteen bytes to such blocks.
 use Rattle.std.specs.Prelude.{ℕ, zero, suc, ◌+◌, ◌-◌, ◌*◌, ◌/◌, ◌%◌, ◌^◌, ◌==◌, ◌&&◌, ◌||◌, nat_le, Bool, Option, Some, None, if◌then◌else◌, List, [], ◌∷◌, ◌++◌, length, take, replicate, map, bytes_eq}
 use Rattle.std.specs.List.{range_with_len}
 use Rattle.std_defs.specs.Blocks.{block_number, block_bytes, text_block, with_stream}

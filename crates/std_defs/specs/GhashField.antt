@@ -56,7 +56,8 @@ HasDegreeBelow n p = (place : ℕ) → n ≤ place → p place ≡ false
 abbrev pub IsCongruent : Polynomial → Polynomial → Type 0
 IsCongruent p r = (q : Polynomial) × (HasDegreeBelow 127 q × ((n : ℕ) → xor (p n) (product q modulus n) ≡ r n))
 
--- the product of two blocks in the field: a product of two polynomials of degree at most 127 has degree at most 254 (6.3)
+-- the product of two blocks in the field: a product of two polynomials of degree at most 127 has degree at most 254
+-- (6.3)
 unfoldable pub field_product : ℕ → ℕ → ℕ
 field_product x y = block_of (remainder 127 (product (polynomial_of x) (polynomial_of y)))
 

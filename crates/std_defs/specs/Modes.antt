@@ -5,7 +5,8 @@ use Rattle.std_defs.specs.Blocks.{block_number, block_bytes, xor_blocks, text_bl
 
 -- ---- CBC (6.2)
 
--- C j of a plaintext: the IV stands for C 0, and each further one is the cipher of the plaintext block xor the one before
+-- C j of a plaintext: the IV stands for C 0, and each further one is the cipher of the plaintext block xor the one
+-- before
 unfoldable pub cbc_block : (List ℕ → List ℕ) → List ℕ → List ℕ → ℕ → List ℕ
 cbc_block sealed iv text zero = iv
 cbc_block sealed iv text (suc j) = sealed (xor_blocks (text_block text j) (cbc_block sealed iv text j))
@@ -42,8 +43,8 @@ ctr_stream sealed t j = sealed (block_bytes ((t + j) % 2 ^ 128))
 abbrev pub ctr : (List ℕ → List ℕ) → List ℕ → List ℕ → List ℕ
 ctr sealed t text = with_stream (ctr_stream sealed (block_number t)) text
 
--- the first counter block of a text: the nonce, the IV and a block counter of 1 (RFC 3686, 4). `ctr` counts on from it over
--- all 128 bits, as the kernel does. The RFC's counter has 32, so beyond 2^32 - 1 blocks under one IV this isn't the RFC's, and
--- runs into the next IV's blocks
+-- the first counter block of a text: the nonce, the IV and a block counter of 1 (RFC 3686, 4). `ctr` counts on from it
+-- over all 128 bits, as the kernel does. The RFC's counter has 32, so beyond 2^32 - 1 blocks under one IV this isn't
+-- the RFC's, and runs into the next IV's blocks
 abbrev pub rfc3686_counter : List ℕ → List ℕ → List ℕ
 rfc3686_counter nonce iv = nonce ++ iv ++ 0 ∷ 0 ∷ 0 ∷ 1 ∷ []

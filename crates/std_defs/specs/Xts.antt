@@ -1,6 +1,6 @@
--- XTS (IEEE Std 1619) over two cipher functions on blocks of sixteen bytes: that of Key1, forward or inverse, and the forward
--- one of Key2, which makes the tweaks. Section numbers are the standard's, and so are the letters: a data unit of m whole
--- blocks and b further bytes (bits, in the standard), and its tweak value i, of sixteen bytes.
+-- XTS (IEEE Std 1619) over two cipher functions on blocks of sixteen bytes: that of Key1, forward or inverse, and the
+-- forward one of Key2, which makes the tweaks. Section numbers are the standard's, and so are the letters: a data unit
+-- of m whole blocks and b further bytes (bits, in the standard), and its tweak value i, of sixteen bytes.
 use Rattle.std.specs.Prelude.{ℕ, zero, suc, ◌-◌, ◌*◌, ◌/◌, ◌%◌, ◌==◌, nat_lt, Option, Some, None, if◌then◌else◌, List, ◌++◌, length, take, drop, map, slice_index, bit_xor}
 use Rattle.std.specs.List.{range_with_len}
 use Rattle.std_defs.specs.Blocks.{xor_blocks, text_block, joined}
@@ -32,8 +32,8 @@ xts_block cipher first j block =
 abbrev pub xts_blocks : (ℕ → List ℕ → List ℕ) → List ℕ → ℕ → List ℕ
 xts_blocks block text n = joined (λ q. block q (text_block text q)) n
 
--- ciphertext stealing, in the last whole block and the b bytes behind it: of the block CC that the whole block becomes, the
--- first b bytes go behind; the b bytes and the rest of CC make the block that is enciphered in its place
+-- ciphertext stealing, in the last whole block and the b bytes behind it: of the block CC that the whole block becomes,
+-- the first b bytes go behind; the b bytes and the rest of CC make the block that is enciphered in its place
 unfoldable pub with_stealing : (List ℕ → List ℕ) → (List ℕ → List ℕ) → List ℕ → List ℕ
 with_stealing first second text =
     let b = length text - 16 in
@@ -51,7 +51,8 @@ xts_unit block last place text =
 abbrev pub of_a_block_or_more : List ℕ → List ℕ → Option (List ℕ)
 of_a_block_or_more text made = if nat_lt (length text) 16 then None else Some made
 
--- encryption: the last whole block is under its own tweak m - 1, and what stands in its place then under tweak m (5.3.2)
+-- encryption: the last whole block is under its own tweak m - 1, and what stands in its place then under tweak m
+-- (5.3.2)
 unfoldable pub xts_seal : (List ℕ → List ℕ) → (List ℕ → List ℕ) → List ℕ → List ℕ → Option (List ℕ)
 xts_seal sealed tweak_sealed i text =
     let m = length text / 16 in

@@ -5,8 +5,8 @@ ghost use Rattle.std.specs.Prelude.{◌≡◌};
 use kc_base::{Sink, SinkError, WriteAnswer};
 use std::io::Write;
 
-/// A writer whose errors are counted. A write that takes no byte is one. It tells what the writer tells, and keeps back what the writer
-/// keeps back, as a `BufWriter` does.
+/// A writer whose errors are counted. A write that takes no byte is one. It tells what the writer tells, and keeps back
+/// what the writer keeps back, as a `BufWriter` does.
 #[derive(Drop)]
 pub struct StdSink<W> {
     inner: W,

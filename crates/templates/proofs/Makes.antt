@@ -139,7 +139,8 @@ pub record IsPlainAs (s : Spec) (m : Make) : Type 0 where
   pub begins_gcm : begins_with s.name (codes "gcm(") ≡ is_gcm m
   pub begins_hmac : begins_with s.name (codes "hmac(") ≡ is_hmac m
 
--- the word of a wrapper, and what stands in its parentheses over this name: the name itself, or `pcrypt` over it under `cryptd`
+-- the word of a wrapper, and what stands in its parentheses over this name: the name itself, or `pcrypt` over it under
+-- `cryptd`
 abbrev pub Wraps : List ℕ → Tree → Tree → Type 0
 Wraps word inner t = ((word ≡ codes "pcrypt") × (inner ≡ t)) ⊎ (((word ≡ codes "cryptd") × (inner ≡ t)) ⊎ ((word ≡ codes "cryptd") × (inner ≡ over (codes "pcrypt") t)))
 

@@ -44,8 +44,8 @@ Fits kind None = IsTrue (is_basic kind)
 abbrev pub root_wrap : Tree → Wrap
 root_wrap driver = option_map_or wrap_of (template_named (word_of driver)) wrap.Plain
 
--- the driver is the spelling of a name within the limits, its root says how the instance is wrapped, and the plan of that
--- name fits the kind
+-- the driver is the spelling of a name within the limits, its root says how the instance is wrapped, and the plan of
+-- that name fits the kind
 pub record IsPlanned (spec : Spec) : Type 0 where
   pub tree : Tree
   pub spelled : spec.driver ≡ spelling tree

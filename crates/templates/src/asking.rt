@@ -65,8 +65,8 @@ fn within(alloc: Global, args: &[Name]) -> Result<Vec<Name>, BuildErr>
 
 /// The names that the name's template asks for, in the order in which they are looked for.
 ///
-/// `Fault` is ENOENT where the word names no template, otherwise EINVAL where the name, or a `pcrypt` alone in a `cryptd`, has a
-/// wrong number of arguments. `Memory` where memory ran out.
+/// `Fault` is ENOENT where the word names no template, otherwise EINVAL where the name, or a `pcrypt` alone in a
+/// `cryptd`, has a wrong number of arguments. `Memory` where memory ran out.
 pub fn children(alloc: Global, name: &Name) -> Result<Vec<Name>, BuildErr>
     ensures ok { IfOk result (λ names. children_of name.now ≡ Ok names.items) }
     ensures err { IfErr result (λ e. FaultIs e (children_of name.now)) }

@@ -197,8 +197,8 @@ fn queued(name: &Name) -> Option<Plan>
 
 /// The plan of an instance, by the name of its driver. No memory is taken.
 ///
-/// EINVAL where the driver is that of a cipher, a hash or a GHASH: they have no plan. Of a name that no instance has as its
-/// driver the answer means nothing.
+/// EINVAL where the driver is that of a cipher, a hash or a GHASH: they have no plan. Of a name that no instance has as
+/// its driver the answer means nothing.
 pub fn plan_of(driver: &Name) -> Result<Plan, Errno>
     ensures { result ≡ or_invalid (plan_at driver.now) }
 {

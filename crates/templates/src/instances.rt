@@ -289,9 +289,9 @@ fn derive_over_two(
 /// The instance of the name over the entries that its children came to, each with its id, in the order in which
 /// `children` names them.
 ///
-/// `Fault` is ENOENT where the word names no template, otherwise EINVAL where the entries are not as many as the template takes or it
-/// doesn't take one by its kind, its name or its wrap, otherwise ENAMETOOLONG where the name or the driver of the instance has more
-/// than 127 bytes. `Memory` where memory ran out.
+/// `Fault` is ENOENT where the word names no template, otherwise EINVAL where the entries are not as many as the
+/// template takes or it doesn't take one by its kind, its name or its wrap, otherwise ENAMETOOLONG where the name or
+/// the driver of the instance has more than 127 bytes. `Memory` where memory ran out.
 pub fn derive(alloc: Global, name: &Name, below: &[(u64, Spec)]) -> Result<Spec, BuildErr>
     ensures ok { IfOk result (λ s. derived_of name.now below.now ≡ Ok s) }
     ensures err { IfErr result (λ e. FaultIs e (derived_of name.now below.now)) }

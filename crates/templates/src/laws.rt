@@ -22,14 +22,15 @@ pub fn faithful_ends()
     ensures failed { ¬ Made table (cbc_with (EndAnswer.Failed ENOENT)) }
 {}
 
-/// What the table says of a name is what the definitions say of its tree, and what a name asks for is less than the name.
+/// What the table says of a name is what the definitions say of its tree, and what a name asks for is less than the
+/// name.
 pub fn names_in_the_table()
     ensures table { (name : Tree) → IsKnown name → IsTableAt name }
     ensures less { (name : Tree) → AsksForLess name }
 {}
 
-/// Whatever was listed or built: its driver is a name within the limits, whose root says how it is wrapped, and the plan
-/// of that name is one of its kind.
+/// Whatever was listed or built: its driver is a name within the limits, whose root says how it is wrapped, and the
+/// plan of that name is one of its kind.
 pub fn planned_drivers()
     ensures { (h : List RegEntry) → LegalReg h → Made table h → All IsPlanned (registered h) }
 {

@@ -40,8 +40,8 @@ fn inner_args(name: &Name) -> &[Name]
     }
 }
 
-/// Refuses a name with `pcrypt` or `cryptd` below its root, but for a `pcrypt` alone in a root `cryptd`, by EINVAL. No memory is
-/// taken.
+/// Refuses a name with `pcrypt` or `cryptd` below its root, but for a `pcrypt` alone in a root `cryptd`, by EINVAL. No
+/// memory is taken.
 pub fn nesting(name: &Name) -> Result<(), Errno>
     ensures { result ≡ (if is_nested_well name.now then Ok tt else Err EINVAL) }
 {

@@ -194,10 +194,10 @@ fn resolve_within(
 /// Looks for the name, and builds it where it isn't there, children first from left to right: the id of the entry that
 /// answers to it.
 ///
-/// `nesting` takes the name. It may be called while the caller builds something heavier, for the next child of what it claimed
-/// last (`plain` is true); where `plain` is false the caller is no worker. `Fault` is what the look comes to where it comes to no
-/// entry: ENOENT where nothing answers to a word, or the number with which the name's building ended. `Memory` leaves a legal
-/// history of faithful builds, and maybe pending larvals.
+/// `nesting` takes the name. It may be called while the caller builds something heavier, for the next child of what it
+/// claimed last (`plain` is true); where `plain` is false the caller is no worker. `Fault` is what the look comes to
+/// where it comes to no entry: ENOENT where nothing answers to a word, or the number with which the name's building
+/// ended. `Memory` leaves a legal history of faithful builds, and maybe pending larvals.
 pub fn resolve_alone(
     alloc: Global,
     registry: &mut Registry,

@@ -46,8 +46,8 @@ const SHUT: &str = "\
 b 0 shut
 ";
 
-// A chain of one that waits, and two lists, whose second request is finished first; and a pad whose mask is emptied, and then has
-// the second worker alone.
+// A chain of one that waits, and two lists, whose second request is finished first; and a pad whose mask is emptied,
+// and then has the second worker alone.
 const CHAIN: &str = "\
 b 0 born 0 chain 1 2
 b 0 hold 0
@@ -126,8 +126,8 @@ fn joined(rt: &impl Abort, alloc: Global, letters: &str) -> Vec<u8> {
     text
 }
 
-/// What parts of traces come to: a held queue's, right, without its birth, with a collect of too few, and shut twice; and that of a
-/// chain and a mask.
+/// What parts of traces come to: a held queue's, right, without its birth, with a collect of too few, and shut twice;
+/// and that of a chain and a mask.
 const JOINED: &str = "\
 legal 0 RBW44S
 state 8 RW44S
@@ -167,10 +167,10 @@ line 2 b 0 mask 0 00ff;b 0 mask 0 00FF;
 line 1 b 0 mask 0 fff;
 ";
 
-/// In a row stand the reason why an event isn't right, how many before it are, and the events: each reason that an event of the
-/// registry can have. Only a claim, an end, a wait and a reference given back need a state; anybody may claim and wait; and a
-/// number stands in the answers of an enlist, a look, an end and an unlist alone, which with that of a get are all that are
-/// judged.
+/// In a row stand the reason why an event isn't right, how many before it are, and the events: each reason that an
+/// event of the registry can have. Only a claim, an end, a wait and a reference given back need a state; anybody may
+/// claim and wait; and a number stands in the answers of an enlist, a look, an end and an unlist alone, which with that
+/// of a get are all that are judged.
 const REGISTRY_ROWS: &str = "\
 caller 0 r 1 enlist x y cipher 1 made 3;
 number 0 r 0 enlist x y cipher 1 made 4;
@@ -197,9 +197,9 @@ caller 0 r 1 refs aes-generic;
 caller 0 r 1 list;
 ";
 
-/// The same of the board's events. A birth needs no state, anybody may let a request out of a line, an answer stands in what is put to
-/// a queue or a chain alone, and a number that isn't right for a take, a finish or a done is one without its state. In the last row
-/// the registry's events count too.
+/// The same of the board's events. A birth needs no state, anybody may let a request out of a line, an answer stands in
+/// what is put to a queue or a chain alone, and a number that isn't right for a take, a finish or a done is one without
+/// its state. In the last row the registry's events count too.
 const BOARD_ROWS: &str = "\
 caller 0 b 1 born 0 pad 1;
 number 0 b 0 born 1 pad 1;

@@ -1,4 +1,5 @@
-//! Hexadecimal digits by the loops that read and write many at once, beside those of `hex`, which take one after another.
+//! Hexadecimal digits by the loops that read and write many at once, beside those of `hex`, which take one after
+//! another.
 
 use crate::replies::is_put;
 use crate::script_lines::{Said, read_said};

@@ -37,8 +37,8 @@ fn no_words_ask_for_a_script(rt: HostRuntime) {
     assert!(rt; parse_words(rt.alloc(), &[]) == Ok(Mode::Script(options)));
 }
 
-/// In a row stand words, and what they ask for: a script beside so many workers, and whether its trace; so many clients beside so many
-/// workers, and whether their trace; a load beside so many, its seed and its count; or the error.
+/// In a row stand words, and what they ask for: a script beside so many workers, and whether its trace; so many clients
+/// beside so many workers, and whether their trace; a load beside so many, its seed and its count; or the error.
 const ROWS: &str = "\
 --|script 4 false
 --workers 0|script 0 false

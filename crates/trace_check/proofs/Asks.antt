@@ -1,4 +1,5 @@
--- What is judged of an event, and kept after it, is the same whatever its ask; its words depend on the ask's line alone.
+-- What is judged of an event, and kept after it, is the same whatever its ask; its words depend on the ask's line
+-- alone.
 use Rattle.std.proofs.Common.{◌≡◌, ℕ, Bool, ◌&&◌, List, [], ◌∷◌, Option, Some, None, refl, ap}
 use Rattle.std.specs.Prelude.{slice_get, codes}
 use Rattle.std.specs.Fmt.{decimal}

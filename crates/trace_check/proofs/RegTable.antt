@@ -66,7 +66,8 @@ table_set rows table change p d alike marks =
 pub table_unlisted : (rows table : List Row) (p : ℕ) (d : Row) → table ≡ map unreferred rows → marks_of (slice_set table p (unlisted_row (unreferred (get_or rows p d)))) ≡ map unreferred (standing (slice_set rows p (unlisted_row (get_or rows p d))))
 table_unlisted rows table p d marks = table_set rows table unlisted_row p d (λ row. refl) marks
 
--- A mark depends on what stands on what, and on what was unlisted: where references of an entry are taken or given back, marks stay.
+-- A mark depends on what stands on what, and on what was unlisted: where references of an entry are taken or given
+-- back, marks stay.
 abbrev key : Row → Bool × Bool × List ℕ
 key row = (row.listed, row.unlisted, row.spec.below)
 

@@ -1,4 +1,5 @@
--- What a board's event needs, in four parts: the state of its pipeline, its caller, its numbers, and the word of its answer.
+-- What a board's event needs, in four parts: the state of its pipeline, its caller, its numbers, and the word of its
+-- answer.
 use Rattle.std.specs.Prelude.{◌≡◌, ◌≢◌, ℕ, ◌<◌, ◌^◌, false, List, [], ◌∷◌, take, length, slice_get, codes, Option, Some, None, MatchOption, ⊤}
 use Rattle.board.specs.declared.entry.Entered.{Entered}
 use Rattle.board.specs.declared.entry.Entered.TheVariants.{InProgress, Busy, NoSpace}

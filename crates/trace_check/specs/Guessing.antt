@@ -1,5 +1,6 @@
--- A loose reading of a line's words: of an event's own words it gives that event, and of other words anything. What it gives is
--- printed again and compared with the line, so that this reading decides nothing, and no public clause rests on it.
+-- A loose reading of a line's words: of an event's own words it gives that event, and of other words anything. What it
+-- gives is printed again and compared with the line, so that this reading decides nothing, and no public clause rests
+-- on it.
 use Rattle.std.specs.Prelude.{ℕ, ◌+◌, ◌-◌, ◌*◌, ◌%◌, ◌^◌, Bool, ◌&&◌, ◌==◌, nat_lt, nat_le, if◌then◌else◌, List, [], ◌∷◌, map, codes, Option, Some, None, unwrap_or}
 use Rattle.std.specs.List.{slice_split}
 use Rattle.std.specs.Option.{option_map}

@@ -16,8 +16,8 @@ ghost use Rattle.trace_check.specs.BoardReasons as brd;
 
 use trace_text::Lined;
 
-/// Whether a board's events are legal depends on nothing of an ask, and their trace on its line alone. So the trace of legal
-/// histories is a legal trace.
+/// Whether a board's events are legal depends on nothing of an ask, and their trace on its line alone. So the trace of
+/// legal histories is a legal trace.
 pub fn asks_are_lines<A: Lined>()
     ensures legal { (h : List (BoardEntry A)) → LegalBoard h ↔ LegalBoard (with_lines A.origin h) }
     ensures traced { (r : List RegEntry) (h : List (BoardEntry A)) → AreEvents A.origin r h → LegalReg r → LegalBoard h → IsLegalTrace (trace_of A.origin r h) }

@@ -19,6 +19,7 @@ use trace_text::{Lined, board_line, registry_line};
 /// An ask of which nothing is known but from which line of which client's script it comes.
 #[derive(Clone, Copy, Debug, PartialEq, Eq)]
 pub struct Known {
+    /// The client, and the line of its script.
     pub origin: Origin,
 }
 
@@ -30,7 +31,7 @@ impl Lined for Known {
     }
 }
 
-/// An event of a trace.
+/// An event of a trace: a call of the registry or of the board, with its caller and its answer.
 #[derive(Debug, Drop)]
 pub enum Event {
     Registry(RegEntry),

@@ -19,8 +19,8 @@ pub(crate) enum Progress {
     Ended,
 }
 
-/// A pipeline: who made it, its requests by number, who submitted them, and how many of them left its line and are finished; all
-/// before `front` are finished. It has told so many callbacks.
+/// A pipeline: who made it, its requests by number, who submitted them, and how many of them left its line and are
+/// finished; all before `front` are finished. It has told so many callbacks.
 #[derive(Drop)]
 pub(crate) struct Pipe {
     pub(crate) maker: u32,

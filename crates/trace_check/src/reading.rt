@@ -13,7 +13,9 @@ use std::alloc::{AllocError, Global};
 /// The events of a trace.
 #[derive(Debug, Drop)]
 pub struct Events {
+    /// Those of the registry, in order. Their lines come first.
     pub registry: Vec<RegEntry>,
+    /// Those of the board, in order.
     pub board: Vec<BoardEntry<Known>>,
 }
 
@@ -38,7 +40,9 @@ fn cut_line(text: &[u8]) -> Option<(&[u8], &[u8])>
     None
 }
 
-/// Reads a trace.
+/// Reads a trace: an event a line, each as docs/TRACE.md has it and with its line feed, those of the registry before
+/// those of the board. `Bad` exactly where the text isn't one. The error is want of memory alone, of which it takes some
+/// in proportion to the text.
 pub fn read_trace(alloc: Global, text: &[u8]) -> Result<Reading, AllocError>
     ensures { IfOk result (λ reading. IsReading text.now reading) }
 {

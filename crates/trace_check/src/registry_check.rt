@@ -62,9 +62,9 @@ fn first_wrong_from(
     Ok(None)
 }
 
-/// The place, counted from 0, and the reason of the first event that isn't right after those before it; `None` where each is right.
-/// Names and drivers are words of visible ASCII, and what is enlisted stands on nothing and isn't wrapped. Only want of memory is an
-/// error.
+/// The place, counted from 0, and the reason of the first event that isn't right after those before it; `None` where
+/// each is right. Names and drivers are words of visible ASCII, and what is enlisted stands on nothing and isn't
+/// wrapped. Only want of memory is an error.
 pub fn first_wrong_entry(
     alloc: Global,
     events: &[RegEntry],

@@ -97,8 +97,8 @@ fn advance<A>(alloc: Global, pipes: &mut Vec<Pipe>, event: &BoardEntry<A>) -> Re
     Ok(())
 }
 
-/// The place, counted from 0, and the reason of the first event that isn't right after those before it; `None` where each is right.
-/// Only want of memory is an error.
+/// The place, counted from 0, and the reason of the first event that isn't right after those before it; `None` where
+/// each is right. Only want of memory is an error.
 pub fn first_wrong_event<A>(
     alloc: Global,
     events: &[BoardEntry<A>],

@@ -40,7 +40,8 @@ fn judged(alloc: Global, events: &Events) -> Result<TraceVerdict, AllocError>
     }
 }
 
-/// The verdict on a text.
+/// The verdict on a text (docs/TRACE.md): whether it is a trace, and then whether each event is right for those before
+/// it. Each text has one verdict. The error is want of memory alone: it says nothing of the text.
 pub fn check_trace(alloc: Global, text: &[u8]) -> Result<TraceVerdict, AllocError>
     ensures { IfOk result (λ verdict. IsVerdict text.now verdict) }
 {

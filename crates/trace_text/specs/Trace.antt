@@ -46,7 +46,8 @@ abbrev pub end_has_text : EndAnswer → Bool
 end_has_text (Built id spec) = has_words spec
 end_has_text _ = true
 
--- each name of the event can be printed, and what is enlisted stands on nothing and is plain, since its line doesn't say
+-- each name of the event can be printed, and what is enlisted stands on nothing and is plain, since its line doesn't
+-- say
 abbrev pub has_text : RegEntry → Bool
 has_text (Enlist caller spec answer) = has_words spec && (length spec.below == 0) && is_unwrapped spec.wrap
 has_text (Look caller text plain answer) = is_word text

@@ -52,8 +52,8 @@ fn put_board<A: Lined>(
     Ok(())
 }
 
-/// The trace of what a registry and a board recorded: an event a line, all of the registry's first. docs/TRACE.md has the format.
-/// Each number in it is within its type.
+/// The trace of what a registry and a board recorded: an event a line, all of the registry's first. docs/TRACE.md has
+/// the format. Each number in it is within its type.
 pub fn write_trace(
     alloc: Global,
     registry: &RegLog,

@@ -13,8 +13,9 @@ use Rattle.trace_text.specs.Asks.{ask_origin}
 use Rattle.trace_text.specs.Trace.{FitTypes, AreEvents}
 use Rattle.transforms.specs.declared.ask.Ask.{Ask}
 
--- Histories that a script has a text over, of the script as caller 0 and at most 16 workers, in which each instance is what its
--- template makes of its children, have a trace that can be read back, where their numbers are within their types.
+-- Histories that a script has a text over, of the script as caller 0 and at most 16 workers, in which each instance is
+-- what its template makes of its children, have a trace that can be read back, where their numbers are within their
+-- types.
 abbrev pub TracesCanBeRead : Type 0
 TracesCanBeRead =
     (workers : ℕ) (script : List ℕ) (r : List RegEntry) (b : List (BoardEntry Ask)) (text : List ℕ)

@@ -1,5 +1,5 @@
--- What a pass meets at its turn, and what it knows afterwards. `by` tells the number under which an entry was made; `Kept` is
--- what holds of every history of the lock.
+-- What a pass meets at its turn, and what it knows afterwards. `by` tells the number under which an entry was made;
+-- `Kept` is what holds of every history of the lock.
 use Rattle.std.specs.Prelude.{◌≡◌, ◌⊎◌, ℕ, List, [], ◌∷◌, ◌++◌}
 use Rattle.turn_lock.specs.Turns.{Known, Shows, of, sees, adds}
 

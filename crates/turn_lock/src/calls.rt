@@ -20,13 +20,13 @@ use std::alloc::{AllocError, Global};
 use std::marker::Brand;
 use std::sync::Wait;
 
-/// How often a caller that finds the lock taken looks again before it draws a ticket, and how often again before it sleeps: some
-/// hundred microseconds each.
+/// How often a caller that finds the lock taken looks again before it draws a ticket, and how often again before it
+/// sleeps: some hundred microseconds each.
 const PATIENCE: u32 = 1000;
 
 impl<T: Told> TurnLock<T> {
-    /// A free lock round a value with no entry, and its first pass, which has the number 0 and gives the others from 1 on.
-    /// The error is that memory was refused: the value is then dropped.
+    /// A free lock round a value with no entry, and its first pass, which has the number 0 and gives the others from 1
+    /// on. The error is that memory was refused: the value is then dropped.
     pub fn new(alloc: Global, value: T) -> Result<(TurnLock<T>, Pass<T::Entry>), AllocError>
         requires { T.told value ≡ [] }
         ensures { IfOk result (λ r. IsPassOf r.0 r.1 × (knows r.1 ≡ newcomer)) }
@@ -43,8 +43,9 @@ impl<T: Told> TurnLock<T> {
         }
     }
 
-    /// Waits for the pass's turn, in which the value is its own. The value's list then begins with what the pass has seen,
-    /// and has of the pass's number, and of each number that it keeps as ended, just the entries that were made under it.
+    /// Waits for the pass's turn, in which the value is its own. The value's list then begins with what the pass has
+    /// seen, and has of the pass's number, and of each number that it keeps as ended, just the entries that were made
+    /// under it.
     pub fn take<'a, R: Wait>(&'a self, rt: &R, pass: Pass<T::Entry>) -> Turn<'a, T>
         requires { IsPassOf self.now pass }
         ensures lock { turn_lock result ≡ self.now }
@@ -63,9 +64,9 @@ impl<T: Told> TurnLock<T> {
         }
     }
 
-    /// Two passes of one. The first keeps its number, and `number + 1` is the next that it may give; the second has `number`
-    /// and has seen as much. The numbers between, which nobody gets, are kept as ended without an entry. `number` is at
-    /// least the pass's `next`, and below 2^32 - 1: a pass that was itself given has no number to give.
+    /// Two passes of one. The first keeps its number, and `number + 1` is the next that it may give; the second has
+    /// `number` and has seen as much. The numbers between, which nobody gets, are kept as ended without an entry.
+    /// `number` is at least the pass's `next`, and below 2^32 - 1: a pass that was itself given has no number to give.
     pub fn split(&self, pass: Pass<T::Entry>, number: u32) -> (Pass<T::Entry>, Pass<T::Entry>)
         requires lock { IsPassOf self.now pass }
         requires number { ((knows pass).next ≤ number) × (number + 1 < 2 ^ 32) }
@@ -96,8 +97,8 @@ impl<T: Told> TurnLock<T> {
         self.table.shared.split_seat::<Gives<N>>(seat)
     }
 
-    /// One pass of two, which has seen the longer of what these have seen. It keeps the number of the first, and that of the
-    /// second as ended, with the entries that were made under it.
+    /// One pass of two, which has seen the longer of what these have seen. It keeps the number of the first, and that
+    /// of the second as ended, with the entries that were made under it.
     pub fn join(&self, a: Pass<T::Entry>, b: Pass<T::Entry>) -> Pass<T::Entry>
         requires { IsPassOf self.now a × IsPassOf self.now b }
         ensures lock { IsPassOf self.now result }
@@ -122,8 +123,8 @@ impl<T: Told> TurnLock<T> {
         Box::into_inner(self.wait(rt, pass.into_seat()).0)
     }
 
-    // Lets others have their turns first, for a while. Who draws a ticket where the lock is free has its turn at once; a thread
-    // that has a ticket and doesn't run keeps all behind it waiting.
+    // Lets others have their turns first, for a while. Who draws a ticket where the lock is free has its turn at once;
+    // a thread that has a ticket and doesn't run keeps all behind it waiting.
     fn hesitate(&self) {
         let shared = &self.table.shared;
         let backoff = Backoff::new();
@@ -135,7 +136,8 @@ impl<T: Told> TurnLock<T> {
         }
     }
 
-    // Sleeps until a turn ends, unless the ticket is served. Whoever ends one changes the word before it looks for sleepers.
+    // Sleeps until a turn ends, unless the ticket is served. Whoever ends one changes the word before it looks for
+    // sleepers.
     fn sleep<R: Wait>(&self, rt: &R, ticket: u64) {
         let key = self.ends.prepare_wait();
         if self.table.shared.peek(1) != ticket {
@@ -143,8 +145,8 @@ impl<T: Told> TurnLock<T> {
         }
     }
 
-    // Draws a ticket, waits until it is served, and takes the value out. A waiter spins for a short while, then leaves the
-    // processor to others between two looks, and at last sleeps.
+    // Draws a ticket, waits until it is served, and takes the value out. A waiter spins for a short while, then leaves
+    // the processor to others between two looks, and at last sleeps.
     fn wait<R: Wait>(
         &self,
         rt: &R,
@@ -185,8 +187,8 @@ impl<'a, T: Told> Turn<'a, T> {
         &mut self.value
     }
 
-    /// Notes that the value's list has one further entry than at the take, of this pass's number. The pass has then seen the whole
-    /// list, and keeps its turn, in which it may add another entry.
+    /// Notes that the value's list has one further entry than at the take, of this pass's number. The pass has then
+    /// seen the whole list, and keeps its turn, in which it may add another entry.
     pub fn note(self) -> Turn<'a, T>
         requires { Adds T.told T.by (turn_knows self) (turn_value self) true }
         ensures lock { turn_lock result ≡ turn_lock self.entry }
@@ -216,8 +218,8 @@ impl<'a, T: Told> Turn<'a, T> {
         }
     }
 
-    /// Puts the value back, and lets the next pass have its turn. `added` says whether the value's list has one further entry
-    /// than at the take, of this pass's number. The pass has then seen the whole list.
+    /// Puts the value back, and lets the next pass have its turn. `added` says whether the value's list has one further
+    /// entry than at the take, of this pass's number. The pass has then seen the whole list.
     pub fn give(self, added: bool) -> Pass<T::Entry>
         requires { Adds T.told T.by (turn_knows self) (turn_value self) added }
         ensures lock { IsPassOf (turn_lock self.entry) result }

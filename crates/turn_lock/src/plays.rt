@@ -1,6 +1,6 @@
-//! The steps of passes on the lock's table, each with what it tells. No value of these types is made.
-//! Word 0 of the table is the next ticket, word 1 the ticket that is served; the one slot holds the value, or nothing while a
-//! turn is held. The history is in no word: the rule alone tells of it.
+//! The steps of passes on the lock's table, each with what it tells. No value of these types is made. Word 0 of the
+//! table is the next ticket, word 1 the ticket that is served; the one slot holds the value, or nothing while a turn is
+//! held. The history is in no word: the rule alone tells of it.
 
 ghost use Rattle.std.specs.Prelude.{ℕ};
 ghost use Rattle.turn_lock.specs.Rule.{drew, found, appended, served, giver, receiver, joiner, spent, compared, boxed};

@@ -77,7 +77,8 @@ fn append_each<R: Wait>(rt: &R, lock: &TurnLock<Log>, pass: LogPass, count: u32)
     mine
 }
 
-/// Two threads append once each. Where a thread's entry was made, the log has it once under the thread's number, and no other.
+/// Two threads append once each. Where a thread's entry was made, the log has it once under the thread's number, and no
+/// other.
 fn two<R: Threads + Wait + Sync>(rt: &R, alloc: Global) -> Result<(Log, bool, bool), AllocError>
     ensures first { IfOk result (λ r. r.1 ≡ true → of (λ (e : Entry). e.by) 0 r.0.entries.items ≡ record { by = 0; place = 7 } ∷ []) }
     ensures second { IfOk result (λ r. r.2 ≡ true → of (λ (e : Entry). e.by) 1 r.0.entries.items ≡ record { by = 1; place = 8 } ∷ []) }

@@ -6,7 +6,8 @@ use Rattle.aes_block.specs.Cipher.{AreInverse}
 use Rattle.aes_block.specs.Mode.{UndoesSealing}
 
 -- XTS over two ciphers gives back what XTS over them sealed
-pub xts_unseals_what_it_sealed : (sealed unsealed tweak_sealed tweak_unsealed : List ℕ → List ℕ) → AreInverse sealed unsealed → AreInverse tweak_sealed tweak_unsealed
+pub xts_unseals_what_it_sealed : (sealed unsealed tweak_sealed tweak_unsealed : List ℕ → List ℕ)
+    → AreInverse sealed unsealed → AreInverse tweak_sealed tweak_unsealed
     → UndoesSealing 16 (xts_seal sealed tweak_sealed) (xts_unseal unsealed tweak_sealed)
 xts_unseals_what_it_sealed sealed unsealed tweak_sealed tweak_unsealed inverse tweak_inverse = record {
   unseals_sealed = λ iv text given iv_long iv_bytes text_bytes is.

@@ -64,7 +64,8 @@ impl<C: BlockCipher + Drop> Skcipher for Xts<C> {
 
     ghost unseals = { λ mode iv text. xts_unseal (C.unsealed mode.0) (C.sealed mode.1) iv text };
 
-    ghost inverse = { λ mode. xts_unseals_what_it_sealed (C.sealed mode.0) (C.unsealed mode.0) (C.sealed mode.1) (C.unsealed mode.1) (C.inverse mode.0) (C.inverse mode.1) };
+    ghost inverse = { λ mode. xts_unseals_what_it_sealed
+        (C.sealed mode.0) (C.unsealed mode.0) (C.sealed mode.1) (C.unsealed mode.1) (C.inverse mode.0) (C.inverse mode.1) };
 
     fn iv_len(&self) -> usize {
         16
