@@ -25,10 +25,6 @@ block_number-same xs ys same =
     sum_through-same (λ i. byte_worth (15 - i) (slice_index xs i)) (λ i. byte_worth (15 - i) (slice_index ys i)) 15
     (λ i h. ap (byte_worth (15 - i)) (same i (omega arith)))
 
-byte_worth-pow : (k b : ℕ) → byte_worth k b ≡ b * 256 ^ k
-byte_worth-pow zero b = omega arith
-byte_worth-pow (suc k) b = refl
-
 number_of-cons : (k b : ℕ) (bytes : List ℕ) → number_of (suc k) (b ∷ bytes) ≡ b * 256 ^ suc k + number_of k bytes
 number_of-cons k b bytes =
     sum_through-first (λ i. byte_worth (suc k - i) (slice_index (b ∷ bytes) i)) k
@@ -36,10 +32,6 @@ number_of-cons k b bytes =
     (ap (λ (t : ℕ). byte_worth t b) (let e : suc k - 0 ≡ suc k = omega arith in e))
     (sum_through-same (λ i. byte_worth (suc k - suc i) (slice_index (b ∷ bytes) (suc i))) (λ i. byte_worth (k - i) (slice_index bytes i)) k
     (λ i h. ap (λ (t : ℕ). byte_worth t (slice_index bytes i)) (let e : suc k - suc i ≡ k - i = omega arith in e)))
-
-byte_at-pow : (k n : ℕ) → byte_at k n ≡ n / 256 ^ k % 256
-byte_at-pow zero n = omega arith
-byte_at-pow (suc k) n = refl
 
 top_byte : (n p : ℕ) → 0 < p → n / p % 256 * p + n % p ≡ n % (p * 256)
 top_byte n p pos = sym (mod-mul n {m = 256} (lit< tt) pos) ∙ ap (λ (t : ℕ). n % t) (mul_comm 256 p)

@@ -1,11 +1,8 @@
 -- Opening undoes sealing.
-use Rattle.std.proofs.Common.{◌≡◌, ℕ, ◌≤◌, true, Bool, cond, sym, ap, ◌∙◌, List, length, take, Some, None, arith, length-take}
+use Rattle.std.proofs.Common.{◌≡◌, ℕ, ◌≤◌, Bool, cond, sym, ap, ◌∙◌, List, length, take, Some, None, arith, length-take}
 use Rattle.std.proofs.lemmas.Slice.Eq.{bytes_eq-Decides}
 use Rattle.std_defs.specs.Blocks.{block_bytes}
 use Rattle.std_defs.specs.Gcm.{BlockFunction, gctr, gcm_text, gcm_tag, gcm_open}
-use Rattle.std_defs.specs.Rfc4106.{rfc4106_takes, rfc4106_associated, rfc4106_iv, rfc4106_open}
-use Rattle.std_defs.specs.Value.{or_bad_message}
-use Rattle.std_defs.specs.Value.Value.{bytes, invalid}
 use Rattle.std_defs.proofs.KeyStream.{length-with_stream, with_stream-twice}
 
 pub gcm_text-twice : (cipher : BlockFunction) (iv text : List ℕ) → gcm_text cipher iv (gcm_text cipher iv text) ≡ text
@@ -31,12 +28,3 @@ gcm_open-seal cipher iv associated text sealed tag n is_sealed is_tag short =
 
     long : length (take n tag) ≡ n
     long = omega (arith, length-take n tag, ap length is_tag, length-gcm_tag cipher iv associated sealed)
-
--- the same of RFC 4106, where the associated bytes are taken
-pub rfc4106_open-seal : (cipher : BlockFunction) (salt iv associated text sealed tag : List ℕ) (n : ℕ) → rfc4106_takes associated ≡ true
-    → sealed ≡ gcm_text cipher (rfc4106_iv salt iv) text
-    → tag ≡ gcm_tag cipher (rfc4106_iv salt iv) (rfc4106_associated associated) sealed → n ≤ 16
-    → rfc4106_open cipher salt iv associated sealed (take n tag) ≡ bytes text
-rfc4106_open-seal cipher salt iv associated text sealed tag n taken is_sealed is_tag short =
-    ap (λ (b : Bool). cond b (or_bad_message (gcm_open cipher (rfc4106_iv salt iv) (rfc4106_associated associated) sealed (take n tag))) invalid) taken
-    ∙ ap or_bad_message (gcm_open-seal cipher (rfc4106_iv salt iv) (rfc4106_associated associated) text sealed tag n is_sealed is_tag short)
