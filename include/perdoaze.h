@@ -511,7 +511,8 @@ static inline void perdoaze_free(struct perdoaze *tfm)
  * A pipe takes requests to any transforms. Workers take them as jobs, run them beside one another without any lock, and finish them.
  * The pipe tells that they are complete in the order in which it took them. It has no threads of its own: examples/c/perdoaze_threads.c has.
  *
- * KINDS. PERDOAZE_PCRYPT, the only one so far: jobs run in any order (padata).
+ * KINDS. PERDOAZE_PCRYPT: jobs run in any order (padata). PERDOAZE_CRYPTD: a queue with a bound and a backlog, whose jobs run one at a time
+ * (cryptd). PERDOAZE_CRYPTD_PCRYPT: such a queue in front of such jobs.
  *
  * THREADS. Two calls on one pipe may not run at a time: the caller's mutex sees to that, and to a job's place within perdoaze_pipe_take and
  * perdoaze_pipe_finish. perdoaze_job_run wants no lock: it uses the job's place alone.
@@ -519,7 +520,7 @@ static inline void perdoaze_free(struct perdoaze *tfm)
  * NUMBERS. Requests are numbered from 0 as a pipe accepts them. A pipe accepts 2^20 requests of 2^26 bytes together, and keeps them: then it
  * answers -E2BIG. perdoaze_pipe_init begins it anew.
  *
- * More results: -EINPROGRESS (115), -EBUSY (16), -E2BIG (7). */
+ * More results: -EINPROGRESS (115), -EBUSY (16), -ENOSPC (28), -E2BIG (7). */
 
 /** A place for a pipe. Its fields are private. It begins with PERDOAZE_NONE, as a struct perdoaze. */
 struct perdoaze_pipe {
@@ -535,59 +536,77 @@ struct perdoaze_job {
 
 /** The kind of a pipe. */
 #define PERDOAZE_PCRYPT 1
+#define PERDOAZE_CRYPTD 2
+#define PERDOAZE_CRYPTD_PCRYPT 3
 
 /** What a request asks for. */
 #define PERDOAZE_ENCRYPT 1
 #define PERDOAZE_DECRYPT 2
 #define PERDOAZE_DIGEST 3
 
+/** With one of these by `|`: the request may wait in the backlog of a queue that is full. */
+#define PERDOAZE_MAY_BACKLOG 0x100
+
 /** The most workers of a pipe. */
 #define PERDOAZE_MAX_WORKERS 16
 
-/** What a pipe tells of a request: it is complete. */
+/** What a pipe tells of a request: it left the backlog, and is among those that the queue has room for; it is complete. */
+#define PERDOAZE_STARTED 1
 #define PERDOAZE_COMPLETE 2
 
 /** What became of a request. */
 struct perdoaze_event {
 	uint64_t number; /**< the request's */
 	size_t size;     /**< in bytes, of its answer */
-	uint32_t kind;   /**< PERDOAZE_COMPLETE */
+	uint32_t kind;   /**< PERDOAZE_STARTED or PERDOAZE_COMPLETE */
 	int32_t status;  /**< of a request that is complete: 0, -EBADMSG where the tag is wrong, or -EINVAL */
 };
 
-int32_t perdoaze_raw_pipe_init(struct perdoaze_pipe *pipe, uint64_t id, uint32_t kind, uint32_t workers);
-int32_t perdoaze_raw_pipe_submit(struct perdoaze_pipe *pipe, struct perdoaze *tfm, uint32_t direction, const uint8_t *iv, size_t iv_len,
-				 const uint8_t *aad, size_t aad_len, const uint8_t *text, size_t text_len, uint64_t *number);
+int32_t perdoaze_raw_pipe_init(struct perdoaze_pipe *pipe, uint64_t id, uint32_t kind, uint32_t max, uint32_t workers);
+int32_t perdoaze_raw_pipe_submit(struct perdoaze_pipe *pipe, struct perdoaze *tfm, uint32_t direction, bool backlog, const uint8_t *iv,
+				 size_t iv_len, const uint8_t *aad, size_t aad_len, const uint8_t *text, size_t text_len,
+				 uint64_t *number);
 int32_t perdoaze_raw_pipe_take(struct perdoaze_pipe *pipe, uint32_t worker, struct perdoaze_job *job);
 int32_t perdoaze_raw_job_run(struct perdoaze_job *job);
+void perdoaze_raw_jobs_run(struct perdoaze_job *a, struct perdoaze_job *b, struct perdoaze_job *c, struct perdoaze_job *d,
+			   struct perdoaze_job *e, struct perdoaze_job *f, struct perdoaze_job *g, struct perdoaze_job *h);
 int32_t perdoaze_raw_pipe_finish(struct perdoaze_pipe *pipe, struct perdoaze_job *job);
 int32_t perdoaze_raw_pipe_poll(struct perdoaze_pipe *pipe, struct perdoaze_event *event, uint8_t *out, size_t out_len);
+int32_t perdoaze_raw_pipe_drained(struct perdoaze_pipe *pipe);
+int32_t perdoaze_raw_pipe_hold(struct perdoaze_pipe *pipe);
+int32_t perdoaze_raw_pipe_go(struct perdoaze_pipe *pipe);
+int32_t perdoaze_raw_pipe_mask(struct perdoaze_pipe *pipe, uint32_t bits);
 void perdoaze_raw_pipe_free(struct perdoaze_pipe *pipe);
 void perdoaze_raw_job_free(struct perdoaze_job *job);
 uint64_t perdoaze_next_pipe_(void);
 
-/** Begins a pipe in the place, in the place of the one that was there. The workers 1 to `workers`, at most PERDOAZE_MAX_WORKERS, take from it.
- *  -EINVAL: no such kind, no worker, or too many. -ENOMEM. Where the call fails, the place has none. */
-static inline int perdoaze_pipe_init(struct perdoaze_pipe *pipe, uint32_t kind, uint32_t workers)
+/** Begins a pipe in the place, in the place of the one that was there. Of a queue `max` requests wait before its backlog begins, at least 1:
+ *  PERDOAZE_PCRYPT reads no `max`. The workers 1 to `workers`, at most PERDOAZE_MAX_WORKERS, take from it: from PERDOAZE_CRYPTD, which reads no
+ *  `workers`, any worker. -EINVAL: no such kind, or a number isn't taken. -ENOMEM. Where the call fails, the place has none. */
+static inline int perdoaze_pipe_init(struct perdoaze_pipe *pipe, uint32_t kind, uint32_t max, uint32_t workers)
 {
-	return pipe ? perdoaze_raw_pipe_init(pipe, perdoaze_next_pipe_(), kind, workers) : -PERDOAZE_EINVAL_;
+	return pipe ? perdoaze_raw_pipe_init(pipe, perdoaze_next_pipe_(), kind, max, workers) : -PERDOAZE_EINVAL_;
 }
 
 /** Asks the transform, under the key and the tag size that it has now, for PERDOAZE_ENCRYPT, PERDOAZE_DECRYPT or PERDOAZE_DIGEST, the last
- *  without `iv` and `aad`. All bytes are copied, and the transform may then be freed. -EINPROGRESS: it was accepted, as `*number`. -E2BIG.
- *  -ENOKEY. -EINVAL: a place has none, or the request isn't taken. -ENOMEM. */
-static inline int perdoaze_pipe_submit(struct perdoaze_pipe *pipe, struct perdoaze *tfm, uint32_t direction, const void *iv, size_t iv_len,
+ *  without `iv` and `aad`. All bytes are copied, and the transform may then be freed. -EINPROGRESS: it was accepted, as `*number`. -EBUSY: it
+ *  was accepted so into the backlog, under PERDOAZE_MAY_BACKLOG; the pipe tells PERDOAZE_STARTED once it leaves that, and the caller is to wait
+ *  for it. -ENOSPC: the queue is full, and it wasn't accepted. -E2BIG. -ENOKEY. -EINVAL: a place has none, the request isn't taken, or the
+ *  pipe's mask is 0. -ENOMEM. */
+static inline int perdoaze_pipe_submit(struct perdoaze_pipe *pipe, struct perdoaze *tfm, uint32_t what, const void *iv, size_t iv_len,
 				       const void *aad, size_t aad_len, const void *text, size_t text_len, uint64_t *number)
 {
 	const uint8_t none = 0;
 	uint64_t unread = 0;
 	if (!pipe || !tfm || perdoaze_wrong_(iv, iv_len) || perdoaze_wrong_(aad, aad_len) || perdoaze_wrong_(text, text_len))
 		return -PERDOAZE_EINVAL_;
-	return perdoaze_raw_pipe_submit(pipe, tfm, direction, perdoaze_bytes_(iv, &none), iv_len, perdoaze_bytes_(aad, &none), aad_len,
+	return perdoaze_raw_pipe_submit(pipe, tfm, what & ~(uint32_t)PERDOAZE_MAY_BACKLOG, (what & PERDOAZE_MAY_BACKLOG) != 0,
+					perdoaze_bytes_(iv, &none), iv_len, perdoaze_bytes_(aad, &none), aad_len,
 					perdoaze_bytes_(text, &none), text_len, number ? number : &unread);
 }
 
 /** Hands a job to the worker, 1 to PERDOAZE_MAX_WORKERS. 1: there is one, in the place `job`, which had none. 0: there is none for it now.
+ *  Where there is none, a request of PERDOAZE_CRYPTD_PCRYPT leaves the queue, if one may, and is the job.
  *  -EBUSY: this worker has a job of this pipe that isn't finished. -EINVAL: no worker has the number, a place has no pipe, or the
  *  other has a job. -ENOMEM. */
 static inline int perdoaze_pipe_take(struct perdoaze_pipe *pipe, uint32_t worker, struct perdoaze_job *job)
@@ -601,6 +620,22 @@ static inline int perdoaze_job_run(struct perdoaze_job *job)
 	return job ? perdoaze_raw_job_run(job) : -PERDOAZE_EINVAL_;
 }
 
+/** As perdoaze_job_run for each job of the array that wasn't run. Eight at a time go side by side where they seal whole blocks under one key of
+ *  CBC, or authenc over it. A thread that is to have several jobs takes each under a worker's number of its own. */
+static inline void perdoaze_jobs_run(struct perdoaze_job *jobs, size_t n)
+{
+	if (!jobs)
+		return;
+	for (size_t i = 0; i < n; i += 8) {
+		struct perdoaze_job none[8];
+		struct perdoaze_job *at[8];
+		memset(none, 0, sizeof none);
+		for (size_t k = 0; k < 8; k++)
+			at[k] = k < n - i ? &jobs[i + k] : &none[k];
+		perdoaze_raw_jobs_run(at[0], at[1], at[2], at[3], at[4], at[5], at[6], at[7]);
+	}
+}
+
 /** Gives a job that was run back to its pipe; the place has none then. -EINVAL: it is another pipe's, wasn't run, or was finished: nothing
  *  happened then. */
 static inline int perdoaze_pipe_finish(struct perdoaze_pipe *pipe, struct perdoaze_job *job)
@@ -610,13 +645,40 @@ static inline int perdoaze_pipe_finish(struct perdoaze_pipe *pipe, struct perdoa
 
 /** The next that the pipe tells, in its order: requests are complete in the order of their numbers. 1: there is one, in `*event`, and the
  *  answer of a request that is complete in the first `event->size` bytes of `out`. 0: there is none now. -EOVERFLOW: `out` has no room for
- *  these, and the next call tells the same. -EINVAL: the place has none. -ENOMEM. */
+ *  these, and the next call tells the same. -EINVAL: the place has none. -ENOMEM. PERDOAZE_STARTED comes before the request is complete. */
 static inline int perdoaze_pipe_poll(struct perdoaze_pipe *pipe, struct perdoaze_event *event, void *out, size_t out_len)
 {
 	uint8_t none = 0;
 	if (!pipe || !event || perdoaze_wrong_(out, out_len))
 		return -PERDOAZE_EINVAL_;
 	return perdoaze_raw_pipe_poll(pipe, event, out ? (uint8_t *)out : &none, out_len);
+}
+
+/** 1: each request that was accepted is complete, and perdoaze_pipe_poll handed out all that the pipe tells. 0: not yet. -EINVAL: the place has
+ *  none. -ENOMEM. */
+static inline int perdoaze_pipe_drained(struct perdoaze_pipe *pipe)
+{
+	return pipe ? perdoaze_raw_pipe_drained(pipe) : -PERDOAZE_EINVAL_;
+}
+
+/** From now on no request of the queue is run, or leaves it, until perdoaze_pipe_go. -EINVAL: the place has none, or PERDOAZE_PCRYPT, which has
+ *  no queue. -ENOMEM: nothing happened. */
+static inline int perdoaze_pipe_hold(struct perdoaze_pipe *pipe)
+{
+	return pipe ? perdoaze_raw_pipe_hold(pipe) : -PERDOAZE_EINVAL_;
+}
+
+/** The queue's requests are run again. Errors as perdoaze_pipe_hold has them. */
+static inline int perdoaze_pipe_go(struct perdoaze_pipe *pipe)
+{
+	return pipe ? perdoaze_raw_pipe_go(pipe) : -PERDOAZE_EINVAL_;
+}
+
+/** From now on the workers whose bits are set take from a PERDOAZE_PCRYPT: bit i stands for worker i + 1. Under 0 it accepts nothing; what it
+ *  accepted waits. -EINVAL: the place has none or another kind, or a bit stands above the pipe's workers. -ENOMEM: nothing happened. */
+static inline int perdoaze_pipe_mask(struct perdoaze_pipe *pipe, uint32_t bits)
+{
+	return pipe ? perdoaze_raw_pipe_mask(pipe, bits) : -PERDOAZE_EINVAL_;
 }
 
 /** Frees the pipe with all that it holds, and leaves none. Jobs that workers hold stay theirs, and no pipe takes them back. */

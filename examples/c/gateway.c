@@ -251,7 +251,7 @@ int main(int count, char **words)
 		die("usage: gateway seal|open WORKERS INDEX=NAME=KEY[=TAG] ..");
 	for (int i = 3; i < count; i++)
 		add_tunnel(words[i]);
-	if (perdoaze_crew_start(&crew, PERDOAZE_PCRYPT, (uint32_t)strtoul(words[2], NULL, 10), told, NULL))
+	if (perdoaze_crew_start(&crew, PERDOAZE_PCRYPT, 0, (uint32_t)strtoul(words[2], NULL, 10), told, NULL))
 		die("no crew");
 	read_packets(&crew, words[1][0] == 's' ? PERDOAZE_ENCRYPT : PERDOAZE_DECRYPT);
 	if (perdoaze_crew_stop(&crew))

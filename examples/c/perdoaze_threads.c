@@ -34,7 +34,6 @@ static void tell_all(struct perdoaze_crew *crew)
 			crew->error = -ENOMEM;
 			break;
 		}
-		crew->told_count += event.kind == PERDOAZE_COMPLETE;
 		event.number += crew->before;
 		pthread_mutex_unlock(&crew->lock);
 		crew->told(crew->user, &event, crew->bytes);
@@ -44,15 +43,19 @@ static void tell_all(struct perdoaze_crew *crew)
 	pthread_cond_broadcast(&crew->idle);
 }
 
-/* Waits until all is told: each request that was accepted, since the pipe tells each once. */
+/* Waits until each request is complete, and all is told. */
 static int drain(struct perdoaze_crew *crew)
 {
 	for (;;) {
+		int drained = 0;
+
 		tell_all(crew);
 		if (crew->error)
 			return crew->error;
-		if (!crew->is_telling && crew->told_count == crew->accepted)
-			return 0;
+		if (!crew->is_telling)
+			drained = perdoaze_pipe_drained(&crew->pipe);
+		if (drained)
+			return drained == 1 ? 0 : drained;
 		pthread_cond_wait(&crew->idle, &crew->lock);
 	}
 }
@@ -65,8 +68,8 @@ static int begin_anew(struct perdoaze_crew *crew)
 	if (err)
 		return err;
 	crew->before += crew->accepted;
-	crew->accepted = crew->told_count = 0;
-	return perdoaze_pipe_init(&crew->pipe, crew->kind, crew->workers);
+	crew->accepted = 0;
+	return perdoaze_pipe_init(&crew->pipe, crew->kind, crew->max, crew->workers);
 }
 
 static void wait_a_moment(struct perdoaze_crew *crew)
@@ -123,18 +126,19 @@ static void end(struct perdoaze_crew *crew, uint32_t started)
 	free(crew->bytes);
 }
 
-int perdoaze_crew_start(struct perdoaze_crew *crew, uint32_t kind, uint32_t workers, perdoaze_told *told, void *user)
+int perdoaze_crew_start(struct perdoaze_crew *crew, uint32_t kind, uint32_t max, uint32_t workers, perdoaze_told *told, void *user)
 {
 	int err;
 
 	memset(crew, 0, sizeof *crew);
 	crew->kind = kind;
+	crew->max = max;
 	crew->workers = workers;
 	crew->told = told;
 	crew->user = user;
 	if (!workers || workers > PERDOAZE_MAX_WORKERS)
 		return -EINVAL;
-	err = perdoaze_pipe_init(&crew->pipe, kind, workers);
+	err = perdoaze_pipe_init(&crew->pipe, kind, max, workers);
 	if (err)
 		return err;
 	pthread_mutex_init(&crew->lock, NULL);
@@ -148,7 +152,7 @@ int perdoaze_crew_start(struct perdoaze_crew *crew, uint32_t kind, uint32_t work
 	return err;
 }
 
-int perdoaze_crew_submit(struct perdoaze_crew *crew, struct perdoaze *tfm, uint32_t direction, const void *iv, size_t iv_len,
+int perdoaze_crew_submit(struct perdoaze_crew *crew, struct perdoaze *tfm, uint32_t what, const void *iv, size_t iv_len,
 			 const void *aad, size_t aad_len, const void *text, size_t text_len, uint64_t *number)
 {
 	uint64_t n = 0;
@@ -156,9 +160,9 @@ int perdoaze_crew_submit(struct perdoaze_crew *crew, struct perdoaze *tfm, uint3
 
 	pthread_mutex_lock(&crew->lock);
 	do
-		err = perdoaze_pipe_submit(&crew->pipe, tfm, direction, iv, iv_len, aad, aad_len, text, text_len, &n);
+		err = perdoaze_pipe_submit(&crew->pipe, tfm, what, iv, iv_len, aad, aad_len, text, text_len, &n);
 	while (err == -E2BIG && crew->accepted && !begin_anew(crew));
-	if (err == -EINPROGRESS) {
+	if (err == -EINPROGRESS || err == -EBUSY) {
 		crew->accepted = n + 1;
 		if (number)
 			*number = crew->before + n;

@@ -24,18 +24,19 @@ struct perdoaze_crew {
 	void *user;
 	uint8_t *bytes;
 	size_t room;
-	uint64_t before, accepted, told_count;
-	uint32_t kind, workers, next;
+	uint64_t before, accepted;
+	uint32_t kind, max, workers, next;
 	int error;
 	bool is_telling, is_ending;
 };
 
-/* Starts so many threads, 1 to PERDOAZE_MAX_WORKERS, for a pipe of that kind. Errors as perdoaze_pipe_init has them, and pthread_create's. */
-int perdoaze_crew_start(struct perdoaze_crew *crew, uint32_t kind, uint32_t workers, perdoaze_told *told, void *user);
+/* Starts so many threads, 1 to PERDOAZE_MAX_WORKERS, for a pipe of that kind and bound. Errors as perdoaze_pipe_init has them, and
+ * pthread_create's. */
+int perdoaze_crew_start(struct perdoaze_crew *crew, uint32_t kind, uint32_t max, uint32_t workers, perdoaze_told *told, void *user);
 
 /* As perdoaze_pipe_submit, from any thread, under a lock of `tfm` where others use that too. Where the pipe answers -E2BIG, it waits until all
  * is told, and begins the pipe anew; the numbers go on. */
-int perdoaze_crew_submit(struct perdoaze_crew *crew, struct perdoaze *tfm, uint32_t direction, const void *iv, size_t iv_len,
+int perdoaze_crew_submit(struct perdoaze_crew *crew, struct perdoaze *tfm, uint32_t what, const void *iv, size_t iv_len,
 			 const void *aad, size_t aad_len, const void *text, size_t text_len, uint64_t *number);
 
 /* Waits until each request is complete and told. -ENOMEM: malloc gave nothing for an answer. */

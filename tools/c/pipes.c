@@ -1,5 +1,6 @@
-/* Random calls on three pipes by eight threads: each pipe tells in order, with the values of each request, whatever else is
- * tried: jobs finished on another pipe, twice, or before they were run, and transforms that are freed while their jobs run.
+/* Random calls on five pipes of each kind by eight threads: each pipe tells in order, with the values of each request, whatever else
+ * is tried: jobs finished on another pipe, twice, or before they were run, transforms that are freed while their jobs run, queues that
+ * are held, and masks. Of a request that waited in a backlog it tells once that it started, before it is complete.
  *
  * usage: pipes CALLS SEED */
 #include <errno.h>
@@ -9,15 +10,19 @@
 #include <stdlib.h>
 
 #define THREADS 8
-#define PIPES 3
+#define PIPES 5
+#define BOUND 4
 #define LONGEST 80
 #define MOST (1 << 20)
+#define FULL_MASK ((1u << THREADS) - 1)
 
+/* `late` says of each request whether it waits in the backlog, until it started. */
 struct line {
 	pthread_mutex_t lock;
 	struct perdoaze_pipe pipe;
 	uint64_t next, accepted;
-	uint32_t *seeds;
+	uint32_t *seeds, kind, mask;
+	bool *late, is_held;
 };
 
 static struct line lines[PIPES];
@@ -30,7 +35,7 @@ struct worker {
 	struct perdoaze own;
 	uint64_t state;
 	uint32_t number;
-	long told, crossed;
+	long told, crossed, started, refused;
 	int line;
 };
 
@@ -68,19 +73,24 @@ static bool submit(struct worker *w, struct line *l)
 	uint8_t iv[12], text[LONGEST];
 	size_t n = request_of(of, iv, text);
 	uint64_t number = UINT64_MAX;
+	bool may_wait = draw(w, 2) == 0;
 	int err;
 
 	if (draw(w, 8) == 0) {
 		CHECK(w, !perdoaze_dup(&w->own, &brief));
 		tfm = &brief;
 	}
-	err = perdoaze_pipe_submit(&l->pipe, tfm, PERDOAZE_ENCRYPT, iv, 12, iv, 4, text, n, &number);
+	err = perdoaze_pipe_submit(&l->pipe, tfm, PERDOAZE_ENCRYPT | (may_wait ? PERDOAZE_MAY_BACKLOG : 0), iv, 12, iv, 4, text, n, &number);
 	perdoaze_free(&brief);
-	if (err == -E2BIG) {
+	if (err != -EINPROGRESS && err != -EBUSY) {
 		CHECK(w, number == UINT64_MAX);
+		CHECK(w, err == -E2BIG || (err == -ENOSPC && l->kind != PERDOAZE_PCRYPT && !may_wait) || (err == -EINVAL && !l->mask));
+		w->refused++;
 		return true;
 	}
-	CHECK(w, err == -EINPROGRESS && number == l->accepted && number < MOST);
+	CHECK(w, number == l->accepted && number < MOST && l->mask);
+	CHECK(w, err == -EINPROGRESS || (may_wait && l->kind != PERDOAZE_PCRYPT));
+	l->late[l->accepted] = err == -EBUSY;
 	l->seeds[l->accepted++] = of;
 	return true;
 }
@@ -94,6 +104,8 @@ static bool work(struct worker *w, struct line *l, struct line *other)
 
 	pthread_mutex_lock(&l->lock);
 	took = perdoaze_pipe_take(&l->pipe, w->number, &job);
+	if (took == 1 && ((l->is_held && l->kind == PERDOAZE_CRYPTD) || !(l->mask >> (w->number - 1) & 1)))
+		took = -EPERM;
 	if (took == 1 && is_bad)
 		is_bad = perdoaze_pipe_finish(&l->pipe, &job) != -EINVAL || perdoaze_pipe_take(&l->pipe, w->number, &job) != -EINVAL;
 	pthread_mutex_unlock(&l->lock);
@@ -103,7 +115,11 @@ static bool work(struct worker *w, struct line *l, struct line *other)
 		perdoaze_job_free(&job);
 		return true;
 	}
-	CHECK(w, !perdoaze_job_run(&job) && perdoaze_job_run(&job) == -EINVAL);
+	if (draw(w, 2))
+		perdoaze_jobs_run(&job, 1);
+	else
+		CHECK(w, !perdoaze_job_run(&job));
+	CHECK(w, perdoaze_job_run(&job) == -EINVAL);
 	pthread_mutex_lock(&other->lock);
 	took = perdoaze_pipe_finish(&other->pipe, &job);
 	pthread_mutex_unlock(&other->lock);
@@ -132,7 +148,14 @@ static bool poll(struct worker *w, struct line *l)
 	CHECK(w, polled == 0 || polled == 1);
 	if (!polled)
 		return true;
-	CHECK(w, event.kind == PERDOAZE_COMPLETE && event.number == l->next && !event.status && l->next < l->accepted);
+	CHECK(w, event.number < l->accepted && !event.status);
+	if (event.kind == PERDOAZE_STARTED) {
+		CHECK(w, event.number >= l->next && l->late[event.number] && !event.size);
+		l->late[event.number] = false;
+		w->started++;
+		return true;
+	}
+	CHECK(w, event.kind == PERDOAZE_COMPLETE && event.number == l->next && !l->late[l->next]);
 	n = request_of(l->seeds[l->next++], iv, text);
 	CHECK(w, !perdoaze_encrypt(&w->own, iv, 12, iv, 4, text, n, want, sizeof want, &made));
 	CHECK(w, made == event.size && !memcmp(want, out, made));
@@ -140,13 +163,33 @@ static bool poll(struct worker *w, struct line *l)
 	return true;
 }
 
-/* Begins a pipe anew that is drained. */
+/* Holds the queue or lets it go, or masks the pad. */
+static bool steer(struct worker *w, struct line *l, bool hold, uint32_t mask)
+{
+	bool is_pad = l->kind == PERDOAZE_PCRYPT;
+	int held = hold ? perdoaze_pipe_hold(&l->pipe) : perdoaze_pipe_go(&l->pipe);
+
+	CHECK(w, held == (is_pad ? -EINVAL : 0));
+	CHECK(w, perdoaze_pipe_mask(&l->pipe, mask) == (is_pad ? 0 : -EINVAL) && perdoaze_pipe_mask(&l->pipe, 1u << THREADS) == -EINVAL);
+	l->is_held = hold && !is_pad;
+	l->mask = is_pad ? mask : FULL_MASK;
+	return true;
+}
+
+/* Whether it is drained, which is so where all is told. Then it begins anew now and then. */
 static bool manage(struct worker *w, struct line *l)
 {
-	if (l->next == l->accepted && draw(w, 64) == 0) {
-		CHECK(w, !perdoaze_pipe_init(&l->pipe, PERDOAZE_PCRYPT, THREADS));
+	int drained = perdoaze_pipe_drained(&l->pipe);
+
+	CHECK(w, drained == (l->next == l->accepted));
+	if (drained && draw(w, 64) == 0) {
+		CHECK(w, !perdoaze_pipe_init(&l->pipe, l->kind, BOUND, THREADS));
 		l->next = l->accepted = 0;
+		l->mask = FULL_MASK;
+		l->is_held = false;
 	}
+	if (draw(w, 32) == 0)
+		return steer(w, l, draw(w, 4) == 0, draw(w, 8) ? draw(w, FULL_MASK) + 1 : 0);
 	return true;
 }
 
@@ -178,30 +221,79 @@ static bool end(struct worker *w, struct line *l)
 {
 	struct perdoaze_job job = PERDOAZE_NONE;
 
+	CHECK(w, steer(w, l, false, FULL_MASK));
 	while (l->next < l->accepted) {
 		CHECK(w, work(w, l, l == lines ? lines + 1 : lines));
 		CHECK(w, poll(w, l) && poll(w, l));
 	}
+	CHECK(w, perdoaze_pipe_drained(&l->pipe) == 1);
 	perdoaze_pipe_free(&l->pipe);
 	CHECK(w, perdoaze_pipe_take(&l->pipe, 1, &job) == -EINVAL);
 	return true;
 }
 
+/* A thread with as many jobs as there are workers: of one key, of two, and beside places that have none. */
+static bool together(const char *name, const char *other, size_t key_size, size_t iv_size)
+{
+	static const uint8_t key[56] = { 8, 0, 1, 0, 0, 0, 0, 16 }, iv[16] = { 3 };
+	struct perdoaze both[2] = { PERDOAZE_NONE, PERDOAZE_NONE };
+	struct perdoaze_pipe pipe = PERDOAZE_NONE;
+	struct perdoaze_job jobs[PERDOAZE_MAX_WORKERS + 3];
+	struct perdoaze_event event;
+	uint8_t text[64], out[96], want[96];
+	size_t made;
+	bool holds = true;
+
+	memset(jobs, 0, sizeof jobs);
+	if (perdoaze_init(&both[0], name) || perdoaze_setkey(&both[0], key, key_size) || perdoaze_init(&both[1], other)
+	    || perdoaze_setkey(&both[1], key, 16) || perdoaze_pipe_init(&pipe, PERDOAZE_PCRYPT, 0, PERDOAZE_MAX_WORKERS))
+		return false;
+	for (uint8_t i = 0; i < PERDOAZE_MAX_WORKERS; i++) {
+		memset(text, i, sizeof text);
+		holds &= perdoaze_pipe_submit(&pipe, &both[i == 13], PERDOAZE_ENCRYPT, iv, i == 13 ? 12 : iv_size, text, i, text, 16u * (i % 4), NULL) == -EINPROGRESS;
+	}
+	for (uint32_t i = 0; i < PERDOAZE_MAX_WORKERS; i++)
+		holds &= perdoaze_pipe_take(&pipe, i + 1, &jobs[i + (i > 9)]) == 1;
+	perdoaze_jobs_run(jobs, PERDOAZE_MAX_WORKERS + 3);
+	for (uint32_t i = PERDOAZE_MAX_WORKERS; i-- > 0;)
+		holds &= !perdoaze_pipe_finish(&pipe, &jobs[i + (i > 9)]);
+	for (uint8_t i = 0; i < PERDOAZE_MAX_WORKERS; i++) {
+		memset(text, i, sizeof text);
+		holds &= perdoaze_pipe_poll(&pipe, &event, out, sizeof out) == 1 && event.number == i && !event.status;
+		holds &= !perdoaze_encrypt(&both[i == 13], iv, i == 13 ? 12 : iv_size, text, i, text, 16u * (i % 4), want, sizeof want, &made);
+		holds &= made == event.size && !memcmp(out, want, made);
+	}
+	holds &= perdoaze_pipe_drained(&pipe) == 1;
+	for (uint32_t i = 0; i < PERDOAZE_MAX_WORKERS + 3; i++)
+		perdoaze_job_free(&jobs[i]);
+	perdoaze_pipe_free(&pipe);
+	perdoaze_free(&both[0]);
+	perdoaze_free(&both[1]);
+	return holds;
+}
+
 int main(int count, char **words)
 {
 	struct worker workers[THREADS];
-	long told = 0, crossed = 0;
+	long told = 0, crossed = 0, started = 0, refused = 0;
 	int bad = 0;
 
 	calls = count > 1 ? atol(words[1]) : 100000;
 	seed = count > 2 ? (unsigned)atol(words[2]) : 1;
 	memset(workers, 0, sizeof workers);
+	if (!together("authenc(hmac(sha256),cbc(aes))", "gcm(aes)", 56, 16) || !together("gcm(aes)", "gcm(aes)", 16, 12)) {
+		printf("jobs that one thread runs at once\n");
+		return 1;
+	}
 	if (perdoaze_init(&first, "gcm(aes)") || perdoaze_setkey(&first, "0123456789abcdef", 16))
 		return 1;
 	for (uint32_t i = 0; i < PIPES; i++) {
 		pthread_mutex_init(&lines[i].lock, NULL);
 		lines[i].seeds = calloc(MOST, sizeof *lines[i].seeds);
-		if (!lines[i].seeds || perdoaze_pipe_init(&lines[i].pipe, PERDOAZE_PCRYPT, THREADS))
+		lines[i].late = calloc(MOST, sizeof *lines[i].late);
+		lines[i].kind = PERDOAZE_PCRYPT + i % 3;
+		lines[i].mask = FULL_MASK;
+		if (!lines[i].seeds || !lines[i].late || perdoaze_pipe_init(&lines[i].pipe, lines[i].kind, BOUND, THREADS))
 			return 1;
 	}
 	for (uint32_t i = 0; i < THREADS; i++) {
@@ -223,10 +315,15 @@ int main(int count, char **words)
 			bad = printf("worker %d: line %d\n", i + 1, workers[i].line);
 		told += workers[i].told;
 		crossed += workers[i].crossed;
+		started += workers[i].started;
+		refused += workers[i].refused;
 		perdoaze_free(&workers[i].own);
 	}
-	for (int i = 0; i < PIPES; i++)
+	for (int i = 0; i < PIPES; i++) {
 		free(lines[i].seeds);
-	printf("%ld calls: %ld requests complete in order, %ld jobs refused by another pipe\n", calls, told, crossed);
-	return bad || !told || !crossed;
+		free(lines[i].late);
+	}
+	printf("%ld calls: %ld requests complete in order, %ld started, %ld refused, %ld jobs refused by another pipe\n", calls, told, started,
+	       refused, crossed);
+	return bad || !told || !crossed || !started || !refused;
 }

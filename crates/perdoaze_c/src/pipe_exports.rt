@@ -1,12 +1,14 @@
 //! What C calls of pipes. No pointer is NULL here: the header's inline functions see to that.
 
-ghost use Rattle.std.specs.Prelude.{◌≡◌, None};
-ghost use Rattle.perdoaze_pipes.specs.Calls.{OnPipe, TakesInto, RunsIn, FinishesFrom, SubmitsBy, To};
+ghost use Rattle.std.specs.Prelude.{◌≡◌, ⊤, None};
+ghost use Rattle.perdoaze_pipes.specs.Calls.{OnPipe, TakesInto, RunsIn, FinishesFrom, SubmitsBy, Drains, To};
+ghost use Rattle.perdoaze_pipes.specs.Managing.{Holds, Goes, Masks};
 ghost use Rattle.perdoaze_pipes.specs.Polling.{Polls};
 ghost use Rattle.perdoaze_pipes.specs.Submitting.{Begins, direction as direction_by};
+ghost use Rattle.perdoaze_pipes.specs.Together.{RunsThere};
 
 use perdoaze_calls::Slot;
-use perdoaze_pipes::{Event, PipePlace, TaskPlace, calls};
+use perdoaze_pipes::{Event, PipePlace, TaskPlace, calls, run_eight};
 use std::alloc::Global;
 
 /// Begins a pipe in the place, in place of the one that was there.
@@ -16,11 +18,12 @@ pub extern "C" fn perdoaze_raw_pipe_init(
     alloc: Global,
     id: u64,
     kind: u32,
+    max: u32,
     lists: u32,
 ) -> i32
-    ensures { To result (λ a. Begins place.new.handle.value id kind lists a) }
+    ensures { To result (λ a. Begins place.new.handle.value id kind max lists a) }
 {
-    calls::init(place, alloc, id, kind, lists).code()
+    calls::init(place, alloc, id, kind, max, lists).code()
 }
 
 /// Asks the transform in the slot.
@@ -30,6 +33,7 @@ pub extern "C" fn perdoaze_raw_pipe_submit(
     alloc: Global,
     slot: &mut Slot,
     direction: u32,
+    backlog: bool,
     iv: &[u8],
     aad: &[u8],
     text: &[u8],
@@ -37,9 +41,12 @@ pub extern "C" fn perdoaze_raw_pipe_submit(
 ) -> i32
     ensures kept { slot.new.handle.value ≡ slot.old.handle.value }
     ensures came { To result (λ a. OnPipe place.old.handle.value place.new.handle.value a (number.new ≡ number.old)
-        (λ p q. SubmitsBy p q slot.old.handle.value (direction_by direction) iv.now aad.now text.now a number.old number.new)) }
+        (λ p q. SubmitsBy p q slot.old.handle.value (direction_by direction) backlog iv.now aad.now text.now a number.old number.new)) }
 {
-    calls::submit(place, alloc, slot, direction, iv, aad, text, number).code()
+    calls::submit(
+        place, alloc, slot, direction, backlog, iv, aad, text, number,
+    )
+    .code()
 }
 
 /// Hands a job to a worker.
@@ -62,6 +69,31 @@ pub extern "C" fn perdoaze_raw_job_run(job: &mut TaskPlace, alloc: Global) -> i3
     ensures { To result (λ a. RunsIn job.old.handle.value job.new.handle.value a) }
 {
     calls::run(job, alloc).code()
+}
+
+/// Does the work of the jobs that wait in eight places.
+#[unsafe(no_mangle)]
+pub extern "C" fn perdoaze_raw_jobs_run(
+    alloc: Global,
+    a: &mut TaskPlace,
+    b: &mut TaskPlace,
+    c: &mut TaskPlace,
+    d: &mut TaskPlace,
+    e: &mut TaskPlace,
+    f: &mut TaskPlace,
+    g: &mut TaskPlace,
+    h: &mut TaskPlace,
+)
+    ensures a { RunsThere a.old.handle.value a.new.handle.value }
+    ensures b { RunsThere b.old.handle.value b.new.handle.value }
+    ensures c { RunsThere c.old.handle.value c.new.handle.value }
+    ensures d { RunsThere d.old.handle.value d.new.handle.value }
+    ensures e { RunsThere e.old.handle.value e.new.handle.value }
+    ensures f { RunsThere f.old.handle.value f.new.handle.value }
+    ensures g { RunsThere g.old.handle.value g.new.handle.value }
+    ensures h { RunsThere h.old.handle.value h.new.handle.value }
+{
+    run_eight(alloc, a, b, c, d, e, f, g, h);
 }
 
 /// Takes back a job that was run.
@@ -89,6 +121,38 @@ pub extern "C" fn perdoaze_raw_pipe_poll(
         (λ p q. Polls p q a event.old event.new out.old out.new)) }
 {
     calls::poll(place, alloc, event, out).code()
+}
+
+/// Whether each request is complete, and all that the pipe tells is handed out.
+#[unsafe(no_mangle)]
+pub extern "C" fn perdoaze_raw_pipe_drained(place: &mut PipePlace, alloc: Global) -> i32
+    ensures { To result (λ a. OnPipe place.old.handle.value place.new.handle.value a ⊤ (λ p q. Drains p q a)) }
+{
+    calls::drained(place, alloc).code()
+}
+
+/// Holds the queue.
+#[unsafe(no_mangle)]
+pub extern "C" fn perdoaze_raw_pipe_hold(place: &mut PipePlace, alloc: Global) -> i32
+    ensures { To result (λ a. OnPipe place.old.handle.value place.new.handle.value a ⊤ (λ p q. Holds p q a)) }
+{
+    calls::hold(place, alloc).code()
+}
+
+/// Lets the queue go.
+#[unsafe(no_mangle)]
+pub extern "C" fn perdoaze_raw_pipe_go(place: &mut PipePlace, alloc: Global) -> i32
+    ensures { To result (λ a. OnPipe place.old.handle.value place.new.handle.value a ⊤ (λ p q. Goes p q a)) }
+{
+    calls::go(place, alloc).code()
+}
+
+/// Names the workers that take from the pad.
+#[unsafe(no_mangle)]
+pub extern "C" fn perdoaze_raw_pipe_mask(place: &mut PipePlace, alloc: Global, bits: u32) -> i32
+    ensures { To result (λ a. OnPipe place.old.handle.value place.new.handle.value a ⊤ (λ p q. Masks p q bits a)) }
+{
+    calls::mask(place, alloc, bits).code()
 }
 
 /// Frees what is in the place.

@@ -1,5 +1,5 @@
 -- What entries add to all that is delivered.
-use Rattle.std.proofs.Common.{◌≡◌, ◌≢◌, ◌<◌, ◌≤◌, ◌+◌, inr, Result, Ok, Err, MatchResult, MatchBool, length-drop, ℕ, zero, suc, Bool, true, false, cond, arith, Option, Some, None, length, drop, List, [], ◌∷◌, ◌++◌, refl, sym, ◌∙◌, ap, subst}
+use Rattle.std.proofs.Common.{◌≡◌, ◌≢◌, ◌<◌, ◌≤◌, ◌+◌, ◌⊎◌, inl, inr, Result, Ok, Err, MatchResult, MatchBool, length-drop, ℕ, zero, suc, Bool, true, false, cond, arith, Option, Some, None, length, drop, List, [], ◌∷◌, ◌++◌, refl, sym, ◌∙◌, ap, subst}
 use Rattle.std.proofs.lemmas.List.{append-nil, append_assoc}
 use Rattle.std.specs.Prelude.{◌↔◌, IfErr}
 use Rattle.std.specs.Arc.{arc_value}
@@ -9,19 +9,23 @@ use Rattle.board.specs.Allowance.{IsAllowed}
 use Rattle.board.specs.declared.board_core.BoardErr.{BoardErr}
 use Rattle.board.specs.declared.board_core.BoardErr.TheVariants.{NoWorker, TooBig, Memory}
 use Rattle.transforms.specs.AskValue.{ask_size}
-use Rattle.perdoaze_pipes.specs.Submitting.{Accepts}
+use Rattle.perdoaze_pipes.specs.Submitting.{Accepts, Decides}
+use Rattle.perdoaze_pipes.specs.Turns.{ComesTo}
+use Rattle.perdoaze_pipes.specs.declared.turn.Turn.{Turn}
+use Rattle.perdoaze_pipes.specs.declared.turn.Turn.TheVariants as turns
 use Rattle.kc_base.specs.declared.callback_list.Callback.{Callback}
 use Rattle.board.specs.declared.entry.BoardEntry.{BoardEntry}
 use Rattle.std.specs.List.{filter_map}
-use Rattle.board.specs.declared.entry.BoardEntry.TheVariants.{Submit, Take, Finish, Deq, Done, Collect}
+use Rattle.board.specs.declared.entry.Entered.{Entered}
+use Rattle.board.specs.declared.entry.BoardEntry.TheVariants.{Submit, Take, Finish, Enq, Deq, Done, Collect}
 use Rattle.board.specs.Shapes.{queue_born}
-use Rattle.board.specs.Entries.{entries_of, birth, starts, is_of, submissions, mask, told, delivered, collected, collected_in, last_or, take_entry, finish_entry}
+use Rattle.board.specs.Entries.{entries_of, birth, starts, is_of, submissions, mask, told, delivered, collected, collected_in, last_or, take_entry, finish_entry, pass_entry, verdict}
 use Rattle.board.proofs.Keeping.{told-more}
 use Rattle.board.proofs.Lists.{filter_map-some, last_or-append}
 use Rattle.transforms.specs.declared.ask.Ask.{Ask}
 use Rattle.transforms.specs.declared.request.Finished.{Finished}
 use Rattle.perdoaze_pipes.specs.Laws.{Laws}
-use Rattle.perdoaze_pipes.specs.Orders.{OrderOf, TakenBy, finished_by}
+use Rattle.perdoaze_pipes.specs.Orders.{OrderOf, TakenBy, HasPassed, passed_by, finished_by}
 use Rattle.perdoaze_pipes.specs.Polling.{PipeOf, IsRefilled, collected_order, delivered_by, delivered_after, all_delivered, IsLeft, IsCollected}
 use Rattle.perdoaze_pipes.specs.Outcomes.{outcome}
 use Rattle.perdoaze_pipes.specs.Running.{RunOf}
@@ -61,6 +65,19 @@ take_left L old new w ask left t l =
     let es = entries_of 0 old.history in
     subst (λ (o : OrderOf). IsLeft o.history left) (sym t.2)
     (left_same L old.history (take_entry old.history w 0 t.0) left (take_here old.history w t.0) (take_nothing es (queue_born (birth es)) w t.0 (starts es t.0)) l)
+
+-- a request that goes on, and a worker's turn
+pub passed_left : Laws → (old mid : OrderOf) (w : ℕ) (left : List (Callback Finished)) → mid ≡ passed_by old w → IsLeft old.history left → IsLeft mid.history left
+passed_left L old mid w left is l = subst (λ (o : OrderOf). IsLeft o.history left) (sym is) (left_same L old.history (pass_entry old.history w 0) left refl refl l)
+
+before_left : Laws → (old mid : OrderOf) (w : ℕ) (left : List (Callback Finished)) → (mid ≡ old) ⊎ HasPassed old mid w → IsLeft old.history left → IsLeft mid.history left
+before_left L old mid w left (inl same) l = subst (λ (o : OrderOf). IsLeft o.history left) (sym same) l
+before_left L old mid w left (inr passed) l = passed_left L old mid w left passed.2 l
+
+pub turn_left : Laws → (old new : OrderOf) (w : ℕ) (turn : Turn) (left : List (Callback Finished)) → ComesTo old new w turn → IsLeft old.history left → IsLeft new.history left
+turn_left L old new w (turns.Job handed) left (mid, how, took) l = take_left L mid new w (arc_value handed.ask) left took (before_left L old mid w left how l)
+turn_left L old new w turns.Passed left (passed, none) l = passed_left L old new w left passed.2 l
+turn_left L old new w turns.Nothing left nothing l = subst (λ (o : OrderOf). IsLeft o.history left) (sym nothing.2) l
 
 finish_nothing : (es : List (BoardEntry Ask)) (c : Bool) (w n : ℕ) → delivered_by es (cond c (Done w 0 n) (Finish w 0 n)) ≡ []
 finish_nothing es true w n = refl
@@ -143,3 +160,19 @@ accepts_so id old new left ask (Ok n) s u t = (s.0, (s.1.0, s.1.1, λ k. record 
 accepts_so id old new left ask (Err NoWorker) s u t = (u.0 refl, λ k. record { id = id; order = s k; left = left })
 accepts_so id old new left ask (Err TooBig) s u t = ((t.0 refl).1, λ k. record { id = id; order = s k; left = left })
 accepts_so id old new left ask (Err Memory) s u t = λ k. record { id = id; order = s k; left = left }
+
+-- so does a queue's
+pub enqueue_left : {E : Type 0} → Laws → (old new : OrderOf) (left : List (Callback Finished)) (ask : Ask) (backlog : Bool) (v : Entered) (r : Result Entered E) → MatchResult r (λ said. (said ≡ v) × ((a : Arc Ask Global) × (arc_value a ≡ ask) × (new ≡ record { history = old.history ++ Enq 0 0 a backlog said ∷ []; running = old.running }))) (λ _. new ≡ old) → IsLeft old.history left → IsLeft new.history left
+enqueue_left L old new left ask backlog v (Ok said) p l = subst (λ (o : OrderOf). IsLeft o.history left) (sym p.1.2) (left_same L old.history (Enq 0 0 p.1.0 backlog said) left refl refl l)
+enqueue_left L old new left ask backlog v (Err e) p l = subst (λ (o : OrderOf). IsLeft o.history left) (sym p) l
+
+pub decides_so : (id : ℕ) (old new : OrderOf) (left : List (Callback Finished)) (ask : Ask) (backlog : Bool) (r : Result Entered BoardErr) → MatchResult r (λ said. (said ≡ verdict (entries_of 0 old.history) backlog) × ((a : Arc Ask Global) × (arc_value a ≡ ask) × (new ≡ record { history = old.history ++ Enq 0 0 a backlog said ∷ []; running = old.running }))) (λ _. new ≡ old) → IfErr r (λ e. (e ≡ TooBig) ↔ (IsAllowed ask_size old.history 0 ask → ⊥)) → IfErr r (λ e. e ≢ NoWorker) → Decides (record { id = id; order = old; left = left }) (record { id = id; order = new; left = left }) ask backlog r
+decides_so id old new left ask backlog (Ok said) s t u = (s.0, (s.1.0, s.1.1, λ k. record { id = id; order = s.1.2 k; left = left }))
+decides_so id old new left ask backlog (Err NoWorker) s t u = u refl
+decides_so id old new left ask backlog (Err TooBig) s t u = (t.0 refl, λ k. record { id = id; order = s k; left = left })
+decides_so id old new left ask backlog (Err Memory) s t u = λ k. record { id = id; order = s k; left = left }
+
+-- an entry that delivers nothing, unless it is refused
+pub made_left : {X E : Type 0} → Laws → (old new : OrderOf) (left : List (Callback Finished)) (e : BoardEntry Ask) (r : Result X E) → is_of 0 e ≡ true → delivered_by (entries_of 0 old.history) e ≡ [] → MatchResult r (λ _. new ≡ record { history = old.history ++ e ∷ []; running = old.running }) (λ _. new ≡ old) → IsLeft old.history left → IsLeft new.history left
+made_left L old new left e (Ok x) mine nothing p l = subst (λ (o : OrderOf). IsLeft o.history left) (sym p) (left_same L old.history e left mine nothing l)
+made_left L old new left e (Err x) mine nothing p l = subst (λ (o : OrderOf). IsLeft o.history left) (sym p) l

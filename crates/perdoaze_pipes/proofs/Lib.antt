@@ -1,4 +1,6 @@
+pub mod Beside
 pub mod Delivering
 pub mod Keeping
 pub mod PipeFilled
 pub mod TaskFilled
+pub mod ToldInOrder

@@ -41,10 +41,10 @@ FinishesFrom p q a (Some t) None = ⊥
 FinishesFrom p q a (Some t) (Some u) = Finishes p q a t u
 
 -- a request to the transform in a place, in a direction by its number
-abbrev pub SubmitsBy : PipeOf → PipeOf → Option Transform → Option Dir → List ℕ → List ℕ → List ℕ → Answer → ℕ → ℕ → Type 0
-SubmitsBy p q None dir iv aad text a old new = (a ≡ answer.Invalid) × (q ≡ p) × (new ≡ old)
-SubmitsBy p q (Some t) None iv aad text a old new = (a ≡ answer.Invalid) × (q ≡ p) × (new ≡ old)
-SubmitsBy p q (Some t) (Some dir) iv aad text a old new = Submits p q t (asking dir iv aad text) a old new
+abbrev pub SubmitsBy : PipeOf → PipeOf → Option Transform → Option Dir → Bool → List ℕ → List ℕ → List ℕ → Answer → ℕ → ℕ → Type 0
+SubmitsBy p q None dir backlog iv aad text a old new = (a ≡ answer.Invalid) × (q ≡ p) × (new ≡ old)
+SubmitsBy p q (Some t) None backlog iv aad text a old new = (a ≡ answer.Invalid) × (q ≡ p) × (new ≡ old)
+SubmitsBy p q (Some t) (Some dir) backlog iv aad text a old new = Submits p q t (asking dir iv aad text) backlog a old new
 
 -- each request is complete, and C was handed all; or not yet
 abbrev pub Drains : PipeOf → PipeOf → Answer → Type 0

@@ -1,6 +1,7 @@
 pub mod Answers
 pub mod Calls
 pub mod Laws
+pub mod Managing
 pub mod Orders
 pub mod Outcomes
 pub mod PipePlaces
@@ -10,4 +11,7 @@ pub mod Same
 pub mod Submitting
 pub mod TaskPlaces
 pub mod Tasks
+pub mod Telling
+pub mod Together
+pub mod Turns
 pub mod Working

@@ -5,10 +5,9 @@ use Rattle.std.specs.declared.sync.Arc.{Arc}
 use Rattle.std.specs.declared.alloc.Global.{Global}
 use Rattle.board.specs.declared.entry.BoardEntry.{BoardEntry}
 use Rattle.board.specs.declared.entry.Shape.{Shape}
-use Rattle.board.specs.declared.entry.Shape.TheVariants as shape
-use Rattle.board.specs.Shapes.{is_pad, has_line}
-use Rattle.board.specs.Entries.{entries_of, submissions, take_entry, finish_entry}
-use Rattle.board.specs.Legal.{IsOpenAs, MayManage, MayFinish, LegalBoard}
+use Rattle.board.specs.Shapes.{is_chain, IsShape}
+use Rattle.board.specs.Entries.{entries_of, birth, submissions, is_closed, is_shared, take_entry, finish_entry, pass_entry, NoneFor, NonePasses}
+use Rattle.board.specs.Legal.{Is, MayFinish, LegalBoard}
 use Rattle.transforms.specs.declared.ask.Ask.{Ask}
 use Rattle.perdoaze_pipes.specs.Outcomes.{outcome}
 use Rattle.perdoaze_pipes.specs.Running.{RunOf}
@@ -18,21 +17,18 @@ pub record OrderOf : Type 0 where
   pub history : List (BoardEntry Ask)
   pub running : List (Option RunOf)
 
--- a pad, or a pipeline in front of which a queue stands
-abbrev pub made_so : Bool → Shape → Bool
-made_so true = is_pad
-made_so false = has_line
-
 -- the worker took that job and hasn't finished it
 pub record Runs (h : List (BoardEntry Ask)) (worker : ℕ) (r : RunOf) : Type 0 where
   pub home : r.slip.pipe ≡ 0
   pub may : MayFinish outcome (entries_of 0 h) worker r.slip.number (outcome r.ask)
 
--- the history has one pipeline, which caller 0 made and which is open, and these jobs run
-pub record IsOrder (pad : Bool) (h : List (BoardEntry Ask)) (running : List (Option RunOf)) : Type 0 where
+-- the history has one pipeline, which caller 0 made so, keeps for itself and has open, and these jobs run
+pub record IsOrder (shape : Shape) (h : List (BoardEntry Ask)) (running : List (Option RunOf)) : Type 0 where
   pub legal : LegalBoard h
-  pub opened : IsOpenAs (made_so pad) (entries_of 0 h)
-  pub managed : MayManage (entries_of 0 h) 0
+  pub shaped : IsShape shape
+  pub born : birth (entries_of 0 h) ≡ Some (0, shape)
+  pub opened : is_closed (entries_of 0 h) ≡ false
+  pub alone : is_shared (entries_of 0 h) ≡ false
   pub only : (p : ℕ) → (p == 0) ≡ false → entries_of p h ≡ []
   pub size : length running ≡ 16
   pub runs : (i : ℕ) (r : RunOf) → get_or running i None ≡ Some r → Runs h (suc i) r
@@ -57,3 +53,15 @@ finished_by old worker (Some r) =
 
 abbrev pub FinishedBy : OrderOf → OrderOf → ℕ → Type 0
 FinishedBy old new worker = new ≡ finished_by old worker (get_or old.running (worker - 1) None)
+
+-- the first request of a chain's queue went on to its pad
+abbrev pub passed_by : OrderOf → ℕ → OrderOf
+passed_by old worker = record { history = old.history ++ pass_entry old.history worker 0 ∷ []; running = old.running }
+
+-- it did, since there was no job for the worker
+abbrev pub HasPassed : OrderOf → OrderOf → ℕ → Type 0
+HasPassed old new worker = NoneFor old.history worker × Is is_chain (entries_of 0 old.history) × (new ≡ passed_by old worker)
+
+-- there was neither a job for the worker, nor a request that may go on
+abbrev pub HasNothing : OrderOf → OrderOf → ℕ → Type 0
+HasNothing old new worker = NoneFor old.history worker × NonePasses old.history × (new ≡ old)

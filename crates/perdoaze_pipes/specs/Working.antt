@@ -2,7 +2,7 @@
 use Rattle.std.specs.Prelude.{◌≡◌, ◌≤◌, ◌<◌, ◌⊎◌, ⊤, ℕ, ◌-◌, Option, Some, None, get_or, MatchOption, IsSome}
 use Rattle.std.specs.Arc.{arc_value}
 use Rattle.board.specs.Entries.{NoneFor}
-use Rattle.perdoaze_pipes.specs.Orders.{TakenBy, FinishedBy}
+use Rattle.perdoaze_pipes.specs.Orders.{OrderOf, TakenBy, FinishedBy, HasPassed, HasNothing}
 use Rattle.perdoaze_pipes.specs.Polling.{PipeOf}
 use Rattle.perdoaze_pipes.specs.Same.{IsSame}
 use Rattle.perdoaze_pipes.specs.declared.answer.Answer.{Answer}
@@ -25,12 +25,14 @@ SameWith p q t u = (q ≡ p) × (u ≡ t)
 abbrev pub IsOrderAlone : PipeOf → PipeOf → Type 0
 IsOrderAlone p q = (q.id ≡ p.id) × (q.left ≡ p.left)
 
--- the worker took a job; there is none for it; it has one; it is no worker, or the place has a job
+-- the worker took a job, before which a request may have gone on to a chain's pad; there is none for it; it has one; it is no
+-- worker, or the place has a job
 abbrev pub Takes : PipeOf → PipeOf → ℕ → Answer → Task → Task → Type 0
 Takes p q worker answer.Yes Idle (Ready r) =
-    (1 ≤ worker) × (worker ≤ 16) × TakenBy p.order q.order worker (arc_value r.ask) × IsOrderAlone p q
-    × (r.ticket ≡ record { pipe = p.id; worker = worker })
-Takes p q worker answer.Done t u = NoneFor p.order.history worker × SameWith p q t u
+    (1 ≤ worker) × (worker ≤ 16) × IsOrderAlone p q × (r.ticket ≡ record { pipe = p.id; worker = worker })
+    × ((mid : OrderOf) × ((mid ≡ p.order) ⊎ HasPassed p.order mid worker) × TakenBy mid q.order worker (arc_value r.ask))
+Takes p q worker answer.Done t u =
+    NoneFor q.order.history worker × IsOrderAlone p q × (u ≡ t) × (HasNothing p.order q.order worker ⊎ HasPassed p.order q.order worker)
 Takes p q worker answer.Busy t u = IsSome (get_or p.order.running (worker - 1) None) × SameWith p q t u
 Takes p q worker answer.Invalid t u = ((worker < 1) ⊎ ((16 < worker) ⊎ IsFull t)) × SameWith p q t u
 Takes p q worker _ t u = ⊥

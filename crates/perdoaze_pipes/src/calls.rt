@@ -1,7 +1,8 @@
 //! The calls of C, each on places for a pipe and for a job.
 
-ghost use Rattle.std.specs.Prelude.{◌≡◌, None, MatchOption};
-ghost use Rattle.perdoaze_pipes.specs.Calls.{OnPipe, TakesInto, task_in, RunsIn, FinishesFrom, SubmitsBy};
+ghost use Rattle.std.specs.Prelude.{◌≡◌, ⊤, None, MatchOption};
+ghost use Rattle.perdoaze_pipes.specs.Calls.{OnPipe, TakesInto, task_in, RunsIn, FinishesFrom, SubmitsBy, Drains};
+ghost use Rattle.perdoaze_pipes.specs.Managing.{Holds, Goes, Masks};
 ghost use Rattle.perdoaze_pipes.specs.Polling.{Polls};
 ghost use Rattle.perdoaze_pipes.specs.Submitting.{Begins, direction as direction_by};
 
@@ -15,11 +16,18 @@ use perdoaze_calls::Slot;
 use std::alloc::Global;
 
 /// Begins a pipe in the place, in place of the one that was there.
-pub fn init(place: &mut PipePlace, alloc: Global, id: u64, kind: u32, lists: u32) -> Answer
-    ensures { Begins place.new.handle.value id kind lists result }
+pub fn init(
+    place: &mut PipePlace,
+    alloc: Global,
+    id: u64,
+    kind: u32,
+    max: u32,
+    lists: u32,
+) -> Answer
+    ensures { Begins place.new.handle.value id kind max lists result }
 {
     drop(place.take(alloc));
-    match Pipe::new(alloc, id, kind, lists) {
+    match Pipe::new(alloc, id, kind, max, lists) {
         Err(answer) => answer,
         Ok(pipe) => match Box::new(alloc, pipe) {
             Ok(made) => {
@@ -37,6 +45,7 @@ pub fn submit(
     alloc: Global,
     slot: &mut Slot,
     direction: u32,
+    backlog: bool,
     iv: &[u8],
     aad: &[u8],
     text: &[u8],
@@ -44,7 +53,7 @@ pub fn submit(
 ) -> Answer
     ensures kept { slot.new.handle.value ≡ slot.old.handle.value }
     ensures came { OnPipe place.old.handle.value place.new.handle.value result (number.new ≡ number.old)
-        (λ p q. SubmitsBy p q slot.old.handle.value (direction_by direction) iv.now aad.now text.now result number.old number.new) }
+        (λ p q. SubmitsBy p q slot.old.handle.value (direction_by direction) backlog iv.now aad.now text.now result number.old number.new) }
 {
     let Some(mut pipe) = place.take(alloc) else {
         return Answer::Invalid;
@@ -53,7 +62,7 @@ pub fn submit(
         place.fill(pipe);
         return Answer::Invalid;
     };
-    let answer = pipe.submit(&held, direction, iv, aad, text, number);
+    let answer = pipe.submit(&held, direction, backlog, iv, aad, text, number);
     slot.fill(held);
     place.fill(pipe);
     answer
@@ -130,6 +139,54 @@ pub fn poll(place: &mut PipePlace, alloc: Global, event: &mut Event, out: &mut [
         return Answer::Invalid;
     };
     let answer = pipe.poll(event, out);
+    place.fill(pipe);
+    answer
+}
+
+/// Whether each request is complete, and C was handed all that the pipe tells.
+pub fn drained(place: &mut PipePlace, alloc: Global) -> Answer
+    ensures { OnPipe place.old.handle.value place.new.handle.value result ⊤ (λ p q. Drains p q result) }
+{
+    let Some(mut pipe) = place.take(alloc) else {
+        return Answer::Invalid;
+    };
+    let answer = pipe.drained();
+    place.fill(pipe);
+    answer
+}
+
+/// Holds the queue.
+pub fn hold(place: &mut PipePlace, alloc: Global) -> Answer
+    ensures { OnPipe place.old.handle.value place.new.handle.value result ⊤ (λ p q. Holds p q result) }
+{
+    let Some(mut pipe) = place.take(alloc) else {
+        return Answer::Invalid;
+    };
+    let answer = pipe.hold();
+    place.fill(pipe);
+    answer
+}
+
+/// Lets the queue go.
+pub fn go(place: &mut PipePlace, alloc: Global) -> Answer
+    ensures { OnPipe place.old.handle.value place.new.handle.value result ⊤ (λ p q. Goes p q result) }
+{
+    let Some(mut pipe) = place.take(alloc) else {
+        return Answer::Invalid;
+    };
+    let answer = pipe.go();
+    place.fill(pipe);
+    answer
+}
+
+/// Names the workers that take from the pad.
+pub fn mask(place: &mut PipePlace, alloc: Global, bits: u32) -> Answer
+    ensures { OnPipe place.old.handle.value place.new.handle.value result ⊤ (λ p q. Masks p q bits result) }
+{
+    let Some(mut pipe) = place.take(alloc) else {
+        return Answer::Invalid;
+    };
+    let answer = pipe.mask(bits);
     place.fill(pipe);
     answer
 }

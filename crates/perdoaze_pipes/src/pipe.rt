@@ -12,6 +12,7 @@ use crate::answer::Answer;
 use crate::event::Event;
 use crate::laws::board_laws;
 use crate::requests::Requests;
+use crate::shapes::{is_shape, shape_of};
 use board::BoardErr;
 use kc_base::{Callback, Callbacks};
 use std::alloc::Global;
@@ -82,22 +83,20 @@ fn tell(callback: &Callback<Finished>, event: &mut Event, out: &mut [u8]) -> boo
 }
 
 impl Pipe {
-    /// A pipe of this kind, of which nothing was asked: 1 is a pad of `lists` reorder lists, 1 to 16.
-    pub fn new(alloc: Global, id: u64, kind: u32, lists: u32) -> Result<Pipe, Answer>
+    /// A pipe of this kind, of which nothing was asked: 1 is a pad of `lists` reorder lists, 1 to 16; 2 a queue of which `max` requests
+    /// wait before its backlog begins, at least 1; 3 such a queue whose requests go on to such a pad.
+    pub fn new(alloc: Global, id: u64, kind: u32, max: u32, lists: u32) -> Result<Pipe, Answer>
         ensures { MatchResult result
-            (λ p. Begins (Some p) id kind lists answers.Done)
-            (λ a. Begins None id kind lists a) }
+            (λ p. Begins (Some p) id kind max lists answers.Done)
+            (λ a. Begins None id kind max lists a) }
     {
-        if kind != 1 {
+        let Some(shape) = shape_of(kind, max, lists) else {
+            return Err(Answer::Invalid);
+        };
+        if !is_shape(shape) {
             return Err(Answer::Invalid);
         }
-        if lists < 1 {
-            return Err(Answer::Invalid);
-        }
-        if 16 < lists {
-            return Err(Answer::Invalid);
-        }
-        let Ok(requests) = Requests::pad(alloc, lists) else {
+        let Ok(requests) = Requests::new(alloc, shape) else {
             return Err(Answer::NoMemory);
         };
         Ok(Pipe {

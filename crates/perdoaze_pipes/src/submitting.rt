@@ -2,18 +2,20 @@
 
 ghost use Rattle.std.specs.Prelude.{◌≡◌, ◌^◌, ◌<◌, ◌⊎◌, ⊤, true, false, Some, MatchResult, length};
 ghost use Rattle.std.specs.Arc.{arc_value};
+ghost use Rattle.board.specs.Entries.{entries_of, birth};
+ghost use Rattle.board.specs.Shapes.{pad_born, line_born};
 ghost use Rattle.transforms.specs.Cuts.{in_one};
 ghost use Rattle.transforms.specs.Asked.{takes};
 ghost use Rattle.transforms.specs.Plans.{fits_tag};
 ghost use Rattle.transforms.specs.declared.tfm_err.TfmErr.TheVariants as TfmErr;
 ghost use Rattle.perdoaze_pipes.specs.Calls.{SubmitsBy};
-ghost use Rattle.perdoaze_pipes.specs.Submitting.{direction as direction_by, asking, IsAskOf, IsNoAsk, IsUnder, Accepts, Enters};
+ghost use Rattle.perdoaze_pipes.specs.Submitting.{direction as direction_by, asking, IsAskOf, IsNoAsk, IsUnder, Accepts, EntersPad, Decides, EntersQueue, Enters};
 
 use crate::answer::Answer;
 use crate::job::PipeJob;
 use crate::laws::board_laws;
 use crate::pipe::Pipe;
-use board::BoardErr;
+use board::{BoardErr, Entered};
 use kc_base::Bytes;
 use perdoaze_calls::Transform;
 use sg_walk::Segs;
@@ -119,29 +121,43 @@ pub(crate) fn job_of(
 }
 
 impl Pipe {
-    /// Asks the transform, under the key and the tag size that it has now, and answers whether the request is accepted.
+    /// Asks the transform, under the key and the tag size that it has now, and answers whether the request is accepted, and as which: within
+    /// the bound of a queue, or in its backlog, where `backlog` gives leave.
     pub fn submit(
         &mut self,
         transform: &Transform,
         direction: u32,
+        backlog: bool,
         iv: &[u8],
         aad: &[u8],
         text: &[u8],
         number: &mut u64,
     ) -> Answer
-        ensures { SubmitsBy self.old self.new (Some transform.now) (direction_by direction) iv.now aad.now text.now result number.old number.new }
+        ensures { SubmitsBy self.old self.new (Some transform.now) (direction_by direction) backlog iv.now aad.now text.now result number.old number.new }
     {
         let Some(dir) = direction_of(direction) else {
             return Answer::Invalid;
         };
         match job_of(transform, self.alloc, dir, iv, aad, text) {
-            Ok(job) => self.enter(job, number),
+            Ok(job) => self.enter(job, backlog, number),
             Err(answer) => answer,
         }
     }
 
-    /// Takes a job in.
+    /// Takes a job in, and answers so.
+    fn enter(&mut self, job: PipeJob, backlog: bool, number: &mut u64) -> Answer
+        ensures { Enters self.old self.new (arc_value job.job.ask) backlog result number.old number.new }
+    {
+        if self.requests.is_pad() {
+            self.enter_pad(job, number)
+        } else {
+            self.enter_queue(job, backlog, number)
+        }
+    }
+
+    /// Takes a job into the pad.
     fn accept(&mut self, job: PipeJob) -> Result<u64, BoardErr>
+        requires { pad_born (birth (entries_of 0 self.old.order.history)) ≡ true }
         ensures { Accepts self.old self.new (arc_value job.job.ask) result }
     {
         board_laws();
@@ -149,9 +165,10 @@ impl Pipe {
         self.requests.submit(job)
     }
 
-    /// Takes a job in, and answers so.
-    fn enter(&mut self, job: PipeJob, number: &mut u64) -> Answer
-        ensures { Enters self.old self.new (arc_value job.job.ask) result number.old number.new }
+    /// Takes a job into the pad, and answers so.
+    fn enter_pad(&mut self, job: PipeJob, number: &mut u64) -> Answer
+        requires { pad_born (birth (entries_of 0 self.old.order.history)) ≡ true }
+        ensures { EntersPad self.old self.new (arc_value job.job.ask) result number.old number.new }
     {
         match self.accept(job) {
             Ok(n) => {
@@ -159,6 +176,37 @@ impl Pipe {
                 Answer::InProgress
             }
             Err(BoardErr::NoWorker) => Answer::Invalid,
+            Err(BoardErr::TooBig) => Answer::TooBig,
+            Err(BoardErr::Memory) => Answer::NoMemory,
+        }
+    }
+
+    /// Offers a job to the queue.
+    fn decide(&mut self, job: PipeJob, backlog: bool) -> Result<Entered, BoardErr>
+        requires { line_born (birth (entries_of 0 self.old.order.history)) ≡ true }
+        ensures { Decides self.old self.new (arc_value job.job.ask) backlog result }
+    {
+        board_laws();
+        self.may_tell = true;
+        self.requests.enqueue(job, backlog)
+    }
+
+    /// Offers a job to the queue, and answers its verdict.
+    fn enter_queue(&mut self, job: PipeJob, backlog: bool, number: &mut u64) -> Answer
+        requires { line_born (birth (entries_of 0 self.old.order.history)) ≡ true }
+        ensures { EntersQueue self.old self.new (arc_value job.job.ask) backlog result number.old number.new }
+    {
+        match self.decide(job, backlog) {
+            Ok(Entered::InProgress(n)) => {
+                *number = n;
+                Answer::InProgress
+            }
+            Ok(Entered::Busy(n)) => {
+                *number = n;
+                Answer::Busy
+            }
+            Ok(Entered::NoSpace) => Answer::NoSpace,
+            Err(BoardErr::NoWorker) => unreachable!(),
             Err(BoardErr::TooBig) => Answer::TooBig,
             Err(BoardErr::Memory) => Answer::NoMemory,
         }

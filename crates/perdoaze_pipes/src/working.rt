@@ -11,6 +11,7 @@ use crate::pipe::Pipe;
 use crate::same::is_same;
 use crate::task::Task;
 use crate::ticket::{Ran, Ticket};
+use crate::turn::Turn;
 use std::mem;
 use transforms::laws::cuts_change_nothing;
 
@@ -21,7 +22,8 @@ fn is_worker(n: u32) -> bool
 }
 
 impl Pipe {
-    /// Hands a job to a worker, 1 to 16, that has none, into a place that has none. `Done` where there is none for it.
+    /// Hands a job to a worker, 1 to 16, that has none, into a place that has none. `Done` where there is none for it, also after a
+    /// request of a chain went on to its pad.
     pub fn take(&mut self, worker: u32, task: &mut Task) -> Answer
         ensures { Takes self.old self.new worker result task.old task.new }
     {
@@ -32,16 +34,22 @@ impl Pipe {
         if self.requests.run_by(worker).is_some() {
             return Answer::Busy;
         }
-        let Some(handed) = self.requests.take(worker) else {
-            return Answer::Done;
-        };
-        self.may_tell = true;
-        let ticket = Ticket {
-            pipe: self.id,
-            worker,
-        };
-        *task = Task::Ready(handed.into_ready(ticket));
-        Answer::Yes
+        match self.requests.take(worker) {
+            Turn::Job(handed) => {
+                self.may_tell = true;
+                let ticket = Ticket {
+                    pipe: self.id,
+                    worker,
+                };
+                *task = Task::Ready(handed.into_ready(ticket));
+                Answer::Yes
+            }
+            Turn::Passed => {
+                self.may_tell = true;
+                Answer::Done
+            }
+            Turn::Nothing => Answer::Done,
+        }
     }
 
     /// Whether this is the job that its worker runs for this pipe.

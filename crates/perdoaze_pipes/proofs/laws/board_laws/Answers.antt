@@ -6,10 +6,6 @@ returns c =
     record {
       joins = c.entries_join.ensures.joins;
       leaves = c.entries_join.ensures.leaves;
-      alone = c.entries_join.ensures.alone;
-      opens = c.pipelines_stay.ensures.born;
-      opened = c.pipelines_stay.ensures.stays_open;
-      managed = c.pipelines_stay.ensures.managed;
       slips = c.slips_stay.ensures outcome;
       taking = c.pipelines_stay.ensures.taking;
       finishing = c.pipelines_stay.ensures.finishing;

@@ -1,4 +1,4 @@
-use Rattle.std.proofs.Common.{true, ◌≡◌, ◌++◌, ◌∷◌, [], List, Option, Some, sym, ◌∙◌, subst}
+use Rattle.std.proofs.Common.{◌≡◌, ◌++◌, ◌∷◌, [], List, Option, Some, sym, ◌∙◌, subst}
 use Rattle.board.specs.Entries.{finish_entry}
 use Rattle.perdoaze_pipes.specs.Orders.{IsOrder}
 use Rattle.perdoaze_pipes.specs.Running.{RunOf}
@@ -9,8 +9,8 @@ pub invariant_of-self-2 : goal.invariant_of-self-2
 invariant_of-self-2 c =
     let i = c.self.inside in
     let r = c.in-Some.run' in
-    subst (λ (running : List (Option RunOf)). IsOrder true c.finish.new.self running) (sym c.put.ensures.put)
-    (finished_kept c.board_laws.ensures true i.board c.finish.new.self i.running c.args.worker r c.self.invariant c.requires.one c.requires.sixteen
+    subst (λ (running : List (Option RunOf)). IsOrder i.shape c.finish.new.self running) (sym c.put.ensures.put)
+    (finished_kept c.board_laws.ensures i.shape i.board c.finish.new.self i.running c.args.worker r c.self.invariant c.requires.one c.requires.sixteen
     (sym c.put.ensures.was ∙ c.in-Some.is)
     (subst (λ s. c.finish.new.self ≡ i.board ++ finish_entry i.board c.args.worker s.pipe s.number ∷ []) c.into_slip.ensures c.finish.ensures.finished)
     c.finish.ensures.legal)
