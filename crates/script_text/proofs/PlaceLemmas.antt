@@ -40,7 +40,7 @@ module _ (test : ℕ → Bool) (hay : List ℕ) (end : ℕ) (at : end ≡ positi
       slice_split_none test hay
       (All-from_get_or (λ b. test b ≡ false) hay 0 (λ k below. fails_before_first test hay k 0 (omega (arith, at))))
 
-positive : (n : ℕ) → 0 < n → (n == 0) ≡ false
+pub positive : (n : ℕ) → 0 < n → (n == 0) ≡ false
 positive n some = grind (arith, nat_tests)
 
 -- a fold over all of them
@@ -57,7 +57,7 @@ cond_not true x y = refl
 cond_not false x y = refl
 
 -- a part of so many bytes, among the tokens where it isn't empty
-part_first : (part : List ℕ) (rest : List (List ℕ)) → filter (λ p. not (length p == 0)) (part ∷ rest) ≡ cond (length part == 0) (filter (λ p. not (length p == 0)) rest) (part ∷ filter (λ p. not (length p == 0)) rest)
+pub part_first : (part : List ℕ) (rest : List (List ℕ)) → filter (λ p. not (length p == 0)) (part ∷ rest) ≡ cond (length part == 0) (filter (λ p. not (length p == 0)) rest) (part ∷ filter (λ p. not (length p == 0)) rest)
 part_first part rest = cond_not (length part == 0) (part ∷ filter (λ p. not (length p == 0)) rest) (filter (λ p. not (length p == 0)) rest)
 
 part_of : (part : List ℕ) (rest : List (List ℕ)) (n : ℕ) → length part ≡ n → filter (λ p. not (length p == 0)) (part ∷ rest) ≡ cond (n == 0) (filter (λ p. not (length p == 0)) rest) (part ∷ filter (λ p. not (length p == 0)) rest)

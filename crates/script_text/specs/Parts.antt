@@ -1,12 +1,17 @@
 -- The parts of a script for several clients.
-use Rattle.std.specs.Prelude.{ℕ, zero, suc, ◌-◌, Bool, false, nat_lt, if◌then◌else◌, List, [], ◌∷◌, ◌++◌, length, codes}
+use Rattle.std.specs.Prelude.{ℕ, zero, suc, ◌-◌, Bool, false, ◌||◌, ◌==◌, nat_lt, if◌then◌else◌, List, [], ◌∷◌, ◌++◌, length, codes}
 use Rattle.std.specs.Str.{bytes_eq}
 use Rattle.script_text.specs.Lines.{lines_of, ends_with, without_last, without_return}
-use Rattle.script_text.specs.Tokens.{tokens_of}
+use Rattle.script_text.specs.Tokens.{is_blank, tokens_of}
 
 abbrev pub is_mark_token : List (List ℕ) → Bool
 is_mark_token (token ∷ []) = bytes_eq token (codes "%%")
 is_mark_token tokens = false
+
+-- whether the first byte of a text allows that it is a mark
+abbrev pub may_be_mark : List ℕ → Bool
+may_be_mark [] = false
+may_be_mark (b ∷ bs) = (b == 37) || is_blank b
 
 -- by its text, and by how many bytes it has before its line feed
 abbrev pub is_mark_text : ℕ → List ℕ → Bool

@@ -1,14 +1,42 @@
 //! The parts of a script for several clients.
 
-ghost use Rattle.std.specs.Prelude.{◌≡◌, ◌∷◌, ◌<◌, ◌≤◌, length, map, take, drop, IfOk, OnOk, MatchResult};
+ghost use Rattle.std.specs.Prelude.{◌≡◌, ◌≤◌, length, map, drop, IfOk};
 ghost use Rattle.script_text.specs.Lines.{lines_of};
-ghost use Rattle.script_text.specs.Parts.{is_mark_token, is_mark_text, is_mark, before_mark, behind_mark, parts_of};
+ghost use Rattle.script_text.specs.Parts.{is_mark_token, may_be_mark, is_mark_text, is_mark, before_mark, behind_mark, parts_of};
 
 use crate::reading::{MAX_LINE, text_before_feed};
-use crate::split::feed_place;
-use crate::tokens::split_tokens;
-use kc_base::Bytes;
+use crate::split::line_len;
+use crate::tokens::{is_blank, split_tokens};
 use std::alloc::{AllocError, Global};
+use std::marker::Model;
+
+/// A part of an input: the bytes where they stand in it.
+#[derive(Drop)]
+pub struct Part<'a> {
+    bytes: &'a [u8],
+}
+
+impl<'a> Model for Part<'a> {
+    ghost use Rattle.std.specs.Prelude.{List, ℕ};
+
+    ghost Value = { List ℕ };
+
+    ghost view = { λ part. part.bytes.now };
+}
+
+impl<'a> Part<'a> {
+    fn new(bytes: &'a [u8]) -> Part<'a>
+        ensures { result ≡ bytes.now }
+    {
+        Part { bytes }
+    }
+
+    pub fn as_slice(&self) -> &[u8]
+        ensures { result.now ≡ self.now }
+    {
+        self.bytes
+    }
+}
 
 fn is_mark_token(tokens: &[&[u8]]) -> bool
     ensures { result ≡ is_mark_token (map (λ token. token.now) tokens.now) }
@@ -19,10 +47,24 @@ fn is_mark_token(tokens: &[&[u8]]) -> bool
     }
 }
 
+// Whether the first byte of a text allows that it is a mark. Most lines are told from marks by it.
+fn may_be_mark(text: &[u8]) -> bool
+    ensures { result ≡ may_be_mark text.now }
+{
+    match text {
+        [b, ..] => *b == b'%' || is_blank(*b),
+        [] => false,
+    }
+}
+
+#[tactic(auto, using(crate::proofs::MarkLemmas::unmarked))]
 fn is_mark_text(alloc: Global, length: usize, text: &[u8]) -> Result<bool, AllocError>
     ensures { IfOk result (λ mark. mark ≡ is_mark_text length text.now) }
 {
     if length > MAX_LINE {
+        return Ok(false);
+    }
+    if !may_be_mark(text) {
         return Ok(false);
     }
     let tokens = split_tokens(alloc, text)?;
@@ -36,18 +78,6 @@ fn is_mark(alloc: Global, line: &[u8]) -> Result<bool, AllocError>
     match line {
         [before @ .., b'\n'] => is_mark_text(alloc, before.len(), text_before_feed(before)),
         _ => is_mark_text(alloc, line.len(), line),
-    }
-}
-
-// How long the first line is, with its line feed.
-fn line_len(bytes: &[u8]) -> usize
-    requires { 0 < length bytes.now }
-    ensures within { (0 < result) × (result ≤ length bytes.now) }
-    ensures line { lines_of bytes.now ≡ take result bytes.now ∷ lines_of (drop result bytes.now) }
-{
-    match feed_place(bytes) {
-        Some(place) => place + 1,
-        None => bytes.len(),
     }
 }
 
@@ -76,18 +106,19 @@ fn cut_at_mark(alloc: Global, bytes: &[u8]) -> Result<(&[u8], &[u8]), AllocError
     Ok((bytes, from_place(bytes, bytes.len())))
 }
 
-/// The parts of an input for so many clients: it is cut at the first lines whose only token is `%%`, as many as there are clients,
-/// and a part that isn't there is empty. The first part stands before the first such line.
-pub fn cut_parts(alloc: Global, input: &[u8], clients: u32) -> Result<Vec<Bytes>, AllocError>
+/// The parts of an input for so many clients, where they stand in it: it is cut at the first lines whose only token is
+/// `%%`, as many as there are clients, and a part that isn't there is empty. The first part stands before the first such
+/// line.
+pub fn cut_parts(alloc: Global, input: &[u8], clients: u32) -> Result<Vec<Part<'_>>, AllocError>
     ensures { IfOk result (λ parts. parts.items ≡ parts_of clients input.now) }
 {
     let mut parts = Vec::new(alloc);
     let mut rest = input;
     for _ in 0..clients {
         let (part, behind) = cut_at_mark(alloc, rest)?;
-        parts.push(Bytes::copy_of(alloc, part)?)?;
+        parts.push(Part::new(part))?;
         rest = behind;
     }
-    parts.push(Bytes::copy_of(alloc, rest)?)?;
+    parts.push(Part::new(rest))?;
     Ok(parts)
 }

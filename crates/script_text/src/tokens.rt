@@ -10,6 +10,12 @@ use std::alloc::{AllocError, Global};
 /// The most tokens that most lines have.
 const FEW: usize = 8;
 
+pub fn is_blank(b: u8) -> bool
+    ensures { result ≡ is_blank b }
+{
+    b == b' ' || b == b'\t'
+}
+
 // Where the first blank is, or the length where there is none.
 fn end_of_token(line: &[u8]) -> usize
     ensures { result ≡ position_or_len is_blank line.now }

@@ -1,5 +1,5 @@
 use Rattle.script_text.proofs.CuttingLemmas.{line-to-feed, line-to-end}
-use Rattle.script_text.proofs.parts.line_len.Goals as goal
+use Rattle.script_text.proofs.split.line_len.Goals as goal
 
 pub returns-in-Some-clause-line : goal.returns-in-Some-clause-line
 returns-in-Some-clause-line c = line-to-feed c.args.bytes.now c.in-Some.place c.in-Some.ensures
