@@ -1,17 +1,16 @@
 -- Workers alone are left.
-use Rattle.std.proofs.Common.{◌≡◌, ◌⊎◌, ℕ, ◌<◌, ◌≤◌, ◌+◌, Bool, true, false, ◌&&◌, List, [], ◌∷◌, ◌++◌, refl, sym, ◌∙◌, ap, subst, arith, append-nil, append_assoc, inl, inr}
+use Rattle.std.proofs.Common.{◌≡◌, ◌⊎◌, ℕ, ◌<◌, ◌≤◌, Bool, true, false, ◌&&◌, List, [], ◌∷◌, ◌++◌, refl, sym, ◌∙◌, ap, subst, arith, append-nil, append_assoc, inl, inr}
 use Rattle.std.specs.Prelude.{◌==◌, if◌then◌else◌}
 use Rattle.std.specs.List.{list_all}
 use Rattle.std.proofs.lemmas.Bool.{eq-eqb, eqb-true, cases_lt, and_parts}
 use Rattle.std.proofs.lemmas.List.Elements.{filter-append}
-use Rattle.turn_lock.specs.Turns.{Known, Each, Has, Shows, of, sees, adds}
-use Rattle.turn_lock.specs.Meeting.{Meets}
+use Rattle.turn_lock.specs.Turns.{Known, Each, Has, Shows, of, sees}
 use Rattle.board.specs.declared.entry.BoardEntry.{BoardEntry}
 use Rattle.board.specs.declared.entry.BoardEntry.TheVariants.{Born, Submit, Take, Finish, Enq, Deq, Done, Hold, Go, Collect, Close, Share, Mask, Shut}
 use Rattle.board.specs.Entries.{caller_of}
-use Rattle.board.specs.Legal.{IsNoWorker, IsRight, AreRightAfter, LegalBoard}
+use Rattle.board.specs.Legal.{IsNoWorker, IsRight, AreRightAfter}
 use Rattle.board.specs.Staying.{is_work}
-use Rattle.board.specs.Alone.{IsGone, PeersGone, PeersAreGone, PeersStayGone, WorkersAreLeft, WorkAlone}
+use Rattle.board.specs.Alone.{IsGone, PeersAreGone, PeersStayGone, WorkersAreLeft, WorkAlone}
 
 no_worker : (n : ℕ) → 1 ≤ n → n ≤ 16 → IsNoWorker n → ⊥
 no_worker n low high (inl none) = (let l = none in absurd (omega arith))

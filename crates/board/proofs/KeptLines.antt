@@ -8,11 +8,12 @@ use Rattle.board.specs.declared.stage.Stage.TheVariants as stage
 use Rattle.board.specs.Stages.{is_queue, is_chain, without_room, after_entered, after_passed, ended, with_job, without_first, MayServe, MayPass, IsQuiet, PassesNone}
 use Rattle.board.specs.Pipelines.{with_lists}
 use Rattle.board.specs.Places.{places}
-use Rattle.board.specs.Ready.{ReadyLine, HasRequest, IsChain, IsReadyFor, NoneIs, NoneStands, KeepsSuch, IsTold}
+use Rattle.board.specs.Ready.{ReadyLine, IsMember, HasRequest, IsChain, IsReadyFor, NoneIs, NoneStands, KeepsSuch, IsTold}
 use Rattle.board.proofs.Searching.{not_quiet}
 use Rattle.board.proofs.Kept.{Pipes, IsSet}
 use Rattle.board.proofs.KeptPassOn.{not_none}
 use Rattle.board.proofs.KeptRoom.{queue_same}
+use Rattle.board.proofs.LinesMade.{told_set}
 use Rattle.board.proofs.LinesHold.{ready_same, ready_told, ready_searched, member_here, chain_same}
 
 -- ---- what the call says of a stage
@@ -135,9 +136,9 @@ module _ {J O : Type 0} (pipes next : Pipes J O) (line : ReadyLine) (p : ℕ) (p
   pub passing_same : is_chain new.stage ≡ is_chain pipe.stage → (HasRequest new → HasRequest pipe) → IsReadyFor IsChain HasRequest (places next) line
   passing_same chain serves = ready_same IsChain HasRequest pipes next line p pipe new r set (λ s. sym chain ∙ s) serves
 
-  pub passing_told : (after : ReadyLine) (is : Bool) → IsTold p false is line after → is_chain new.stage ≡ is_chain pipe.stage → (HasRequest new → is ≡ true) → IsReadyFor IsChain HasRequest (places next) after
+  pub passing_told : (after : ReadyLine) (is : Bool) → IsTold (IsMember line p) p false is line after → is_chain new.stage ≡ is_chain pipe.stage → (HasRequest new → is ≡ true) → IsReadyFor IsChain HasRequest (places next) after
   passing_told after is t chain says =
-      ready_told IsChain HasRequest pipes next line after p pipe new false is r set t
+      ready_told IsChain HasRequest pipes next line after p pipe new false is r set (told_set (IsChain new) p is line after t)
       (λ s. (member_here IsChain HasRequest pipes line p pipe r set.here).0 (sym chain ∙ s)) (λ h. cc) says
 
 -- what a search leaves of it

@@ -6,6 +6,7 @@ pub mod Handing
 pub mod Starting
 pub mod PadsAndQueues
 pub mod InLine
+pub mod OwnLines
 pub mod LinesHold
 pub mod LinesMade
 pub mod Searching

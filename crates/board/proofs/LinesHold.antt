@@ -1,11 +1,8 @@
 -- The lines of a board's callers, as pipelines change.
-use Rattle.std.proofs.Common.{◌≡◌, ◌≢◌, ℕ, zero, suc, ◌+◌, ◌<◌, ◌≤◌, Bool, true, false, cond, ◌&&◌, ◌||◌, take, drop, List, [], ◌∷◌, ◌++◌, length, refl, sym, ◌∙◌, ap, subst, arith, inl, inr, ◌⊎◌, get_or}
-use Rattle.std.specs.Prelude.{◌==◌, slice_set, MatchBool, MatchOption, Option, Some, None, Result, Ok, Err, OnOk}
-use Rattle.std.specs.List.{position_from}
-use Rattle.std.proofs.lemmas.Bool.{eqb-true, eq-eqb, cases_eq, cases_lt, both_ways}
-use Rattle.std.proofs.lemmas.Grind.{common_steps}
+use Rattle.std.proofs.Common.{◌≡◌, ◌≢◌, ℕ, ◌+◌, ◌<◌, ◌≤◌, Bool, true, false, ◌&&◌, ◌||◌, [], refl, sym, ◌∙◌, ap, subst, arith, inl, inr, ◌⊎◌}
+use Rattle.std.specs.Prelude.{◌==◌, MatchBool, MatchOption, Option, Some, None, Result, Ok, Err, OnOk}
+use Rattle.std.proofs.lemmas.Bool.{eqb-true, cases_eq, cases_lt, both_ways}
 use Rattle.board.specs.declared.pipeline.Pipeline.{Pipeline}
-use Rattle.board.specs.declared.lines.OwnLine.{OwnLine}
 use Rattle.board.specs.declared.stage.Stage.{Stage}
 use Rattle.board.specs.declared.stage.Stage.TheVariants as stage
 use Rattle.board.specs.Entries.{has, IsMasked}
@@ -15,103 +12,8 @@ use Rattle.board.specs.Places.{Places, places}
 use Rattle.board.proofs.Kept.{Pipes, IsSet, IsLeft, IsAdded, one_here}
 use Rattle.board.proofs.KeptRoom.{queue_same}
 use Rattle.board.specs.Ready.{ReadyLine, IsMember, IsInLine, no_pipelines, HasJob, HasJobFor, Admits, IsQueue, IsNoQueue, IsFor, IsReadyFor, NoneStands, IsOne, Finds, Keeps, KeepsOthers, KeepsSuch, IsTold}
-use Rattle.board.specs.Lines.{LinesOf, is_line_of, line_of, AreMade, IsMade, Joins, IsReadmitted, AreReady}
-
--- ---- the callers' lines
-
-abbrev pub Made : Type 1
-Made = ℕ → ReadyLine → ReadyLine → Type 0
-
-either_made : (made : Made) (c : ℕ) (line after rest rests : ReadyLine) (b : Bool) → (b ≡ true → made c line after) → made c rest rests → made c (cond b line rest) (cond b after rests)
-either_made made c line after rest rests true here there = here refl
-either_made made c line after rest rests false here there = there
-
--- one line more in front
-pub in_front : (made : Made) (own : OwnLine) (after : ReadyLine) (more afters : List OwnLine) → made own.caller own.line after → ((c : ℕ) → made c (line_of c more) (line_of c afters)) → (c : ℕ) → made c (line_of c (own ∷ more)) (cond (own.caller == c) after (line_of c afters))
-in_front made own after more afters here there c = either_made made c own.line after (line_of c more) (line_of c afters) (own.caller == c) (λ b. subst (λ n. made n own.line after) (eqb-true own.caller c b) here) (there c)
-
-pub first_made : (made : Made) (own after : OwnLine) (more afters : List OwnLine) → after.caller ≡ own.caller → made own.caller own.line after.line → ((c : ℕ) → made c (line_of c more) (line_of c afters)) → (c : ℕ) → made c (line_of c (own ∷ more)) (line_of c (after ∷ afters))
-first_made made own after more afters e here there c =
-    subst (λ n. made c (line_of c (own ∷ more)) (cond (n == c) after.line (line_of c afters))) (sym e) (in_front made own after.line more afters here there c)
-
--- the lines that a loan of all of them gives back
-pub given_back : (xs ys : List OwnLine) (n : ℕ) → length ys ≡ length xs → n ≡ length xs → take n (ys ++ drop (length ys) xs) ≡ ys
-given_back xs ys n e f = grind (arith, common_steps)
-
--- one line in another form
-pub set_made : (made : Made) → ((c : ℕ) (line : ReadyLine) → made c line line) → (own : List OwnLine) (j : ℕ) (new d : OwnLine) → j < length own → new.caller ≡ (get_or own j d).caller → made (get_or own j d).caller (get_or own j d).line new.line
-    → (c : ℕ) → made c (line_of c own) (line_of c (slice_set own j new))
-set_made made same [] j new d w e here c = absurd (omega arith)
-set_made made same (o ∷ own) zero new d w e here c = first_made made o new own own e here (λ n. same n (line_of n own)) c
-set_made made same (o ∷ own) (suc j) new d w e here c = first_made made o o own (slice_set own j new) refl (same o.caller o.line) (set_made made same own j new d (omega arith) e here) c
-
-end_first : (made : Made) (c : ℕ) (line : ReadyLine) (b : Bool) → (b ≡ true → made c no_pipelines line) → made c no_pipelines no_pipelines → made c no_pipelines (cond b line no_pipelines)
-end_first made c line true here none = here refl
-end_first made c line false here none = none
-
--- a line more at the end
-pub end_made : (made : Made) → ((c : ℕ) (line : ReadyLine) → made c line line) → (own : List OwnLine) (new : OwnLine) → made new.caller no_pipelines new.line → (c : ℕ) → made c (line_of c own) (line_of c (own ++ new ∷ []))
-end_made made same [] new here c = end_first made c new.line (new.caller == c) (λ b. subst (λ n. made n no_pipelines new.line) (eqb-true new.caller c b) here) (same c no_pipelines)
-end_made made same (o ∷ own) new here c = first_made made o o own (own ++ new ∷ []) refl (same o.caller o.line) (end_made made same own new here) c
-
--- ---- the place of a caller's line
-
-pub record IsLineAt (caller : ℕ) (own : List OwnLine) (j : ℕ) : Type 0 where
-  pub within : j < length own
-  pub caller_is : (d : OwnLine) → (get_or own j d).caller ≡ caller
-  pub line_is : (d : OwnLine) → line_of caller own ≡ (get_or own j d).line
-  pub set_is : (new : OwnLine) → new.caller ≡ caller → line_of caller (slice_set own j new) ≡ new.line
-
-line_here : (caller : ℕ) (o : OwnLine) (own : List OwnLine) → o.caller ≡ caller → line_of caller (o ∷ own) ≡ o.line
-line_here caller o own e = ap (λ b. cond b o.line (line_of caller own)) (eq-eqb o.caller caller e)
-
-place_step : (caller i place : ℕ) (o : OwnLine) (own : List OwnLine) (b : Bool) → (o.caller == caller) ≡ b → cond b (Some i) (position_from (is_line_of caller) (i + 1) own) ≡ Some place
-    → (position_from (is_line_of caller) (i + 1) own ≡ Some place → (j : ℕ) × (place ≡ i + 1 + j) × IsLineAt caller own j) → (j : ℕ) × (place ≡ i + j) × IsLineAt caller (o ∷ own) j
-place_step caller i place o own true e h more =
-    let same = eqb-true o.caller caller e in (
-      0,
-      (let p : i ≡ place = cc in omega arith),
-      record {
-        within = omega arith;
-        caller_is = λ d. same;
-        line_is = λ d. line_here caller o own same;
-        set_is = λ new n. line_here caller new own n;
-      },
-    )
-place_step caller i place o own false e h more =
-    let m = more h in
-    let at = m.2 in (
-      suc m.0,
-      (let p = m.1 in omega arith),
-      record {
-        within = (let w = at.within in omega arith);
-        caller_is = at.caller_is;
-        line_is = λ d. ap (λ b. cond b o.line (line_of caller own)) e ∙ at.line_is d;
-        set_is = λ new n. ap (λ b. cond b o.line (line_of caller (slice_set own m.0 new))) e ∙ at.set_is new n;
-      },
-    )
-
-place_from : (caller i place : ℕ) (own : List OwnLine) → position_from (is_line_of caller) i own ≡ Some place → (j : ℕ) × (place ≡ i + j) × IsLineAt caller own j
-place_from caller i place [] h = cc
-place_from caller i place (o ∷ own) h = place_step caller i place o own (o.caller == caller) refl h (place_from caller (i + 1) place own)
-
-pub place_at : (caller : ℕ) (own : List OwnLine) (place : ℕ) → position_from (is_line_of caller) 0 own ≡ Some place → IsLineAt caller own place
-place_at caller own place h = (let m = place_from caller 0 place own h in subst (IsLineAt caller own) (let e : m.0 ≡ place = (let p = m.1 in omega arith) in e) m.2)
-
-none_step : (i : ℕ) (o : Option ℕ) (line rest new : ReadyLine) (b : Bool) → cond b (Some i) o ≡ None → (o ≡ None → rest ≡ new) → cond b line rest ≡ new
-none_step i o line rest new true h more = cc
-none_step i o line rest new false h more = more h
-
--- a caller that has no line
-pub place_none : (caller i : ℕ) (own : List OwnLine) → position_from (is_line_of caller) i own ≡ None → line_of caller own ≡ no_pipelines
-place_none caller i [] h = refl
-place_none caller i (o ∷ own) h = none_step i (position_from (is_line_of caller) (i + 1) own) o.line (line_of caller own) no_pipelines (o.caller == caller) h (place_none caller (i + 1) own)
-
--- until it is given one
-pub place_given : (caller i : ℕ) (own : List OwnLine) (new : OwnLine) → position_from (is_line_of caller) i own ≡ None → new.caller ≡ caller → line_of caller (own ++ new ∷ []) ≡ new.line
-place_given caller i [] new h e = line_here caller new [] e
-place_given caller i (o ∷ own) new h e =
-    none_step i (position_from (is_line_of caller) (i + 1) own) o.line (line_of caller (own ++ new ∷ [])) new.line (o.caller == caller) h (λ n. place_given caller (i + 1) own new n e)
+use Rattle.board.specs.Lines.{LinesOf, OwnLines, line_of, AreMade, IsMade, Joins, AreTold, IsReadmitted, AreReady}
+use Rattle.board.proofs.OwnLines.{IsLineSet, set_made}
 
 -- ---- what a line keeps
 
@@ -133,7 +35,7 @@ keeps_on line next after k l p = (λ m. (l p).0 ((k p).0 m), λ s. (l p).1 ((k p
 pub others_on : (pipe : ℕ) (line next after : ReadyLine) → KeepsOthers pipe line next → KeepsOthers pipe next after → KeepsOthers pipe line after
 others_on pipe line next after k l p n = (λ m. (l p n).0 ((k p n).0 m), λ s. (l p n).1 ((k p n).1 s))
 
-worker_cases : (mask pipe before worker : ℕ) (own after : List OwnLine) → ((w : ℕ) → IsMasked mask w → w ≤ before → IsMember (line_of w own) pipe) → AreMade Keeps own after → (IsMasked mask (before + 1) → IsMember (line_of (before + 1) after) pipe) → IsMasked mask worker → (worker ≡ before + 1) ⊎ (worker ≡ before + 1 → ⊥) → worker ≤ before + 1
+worker_cases : (mask pipe before worker : ℕ) (own after : OwnLines) → ((w : ℕ) → IsMasked mask w → w ≤ before → IsMember (line_of w own) pipe) → AreMade Keeps own after → (IsMasked mask (before + 1) → IsMember (line_of (before + 1) after) pipe) → IsMasked mask worker → (worker ≡ before + 1) ⊎ (worker ≡ before + 1 → ⊥) → worker ≤ before + 1
     → IsMember (line_of worker after) pipe
 worker_cases mask pipe before worker own after so_far kept joined m (inl e) l = subst (λ n. IsMember (line_of n after) pipe) (sym e) (joined (subst (IsMasked mask) e m))
 worker_cases mask pipe before worker own after so_far kept joined m (inr n) l = (kept worker pipe).0 (so_far worker m (lower (cases_lt worker (before + 1))))
@@ -143,7 +45,7 @@ worker_cases mask pipe before worker own after so_far kept joined m (inr n) l = 
     lower (inr g) = absurd (n (omega arith))
 
 -- the next worker joined after those before
-pub next_worker : (mask pipe before : ℕ) (own after : List OwnLine) → ((w : ℕ) → IsMasked mask w → w ≤ before → IsMember (line_of w own) pipe) → AreMade Keeps own after → (IsMasked mask (before + 1) → IsMember (line_of (before + 1) after) pipe)
+pub next_worker : (mask pipe before : ℕ) (own after : OwnLines) → ((w : ℕ) → IsMasked mask w → w ≤ before → IsMember (line_of w own) pipe) → AreMade Keeps own after → (IsMasked mask (before + 1) → IsMember (line_of (before + 1) after) pipe)
     → (worker : ℕ) → IsMasked mask worker → worker ≤ before + 1 → IsMember (line_of worker after) pipe
 next_worker mask pipe before own after so_far kept joined worker m l = worker_cases mask pipe before worker own after so_far kept joined m (cases_eq worker (before + 1)) l
 
@@ -166,14 +68,6 @@ lines_but_on pipe lines next after k l = (
 pub ok_map : {T E A B : Type 0} (o : Result T E) → (A → B) → OnOk o A → OnOk o B
 ok_map (Ok x) f h = f h
 ok_map (Err e) f h = tt
-
--- and one that is told anew
-pub told_anew : (p : ℕ) (had has : Bool) (line after : ReadyLine) → IsTold p false has line after → IsTold p had has line after
-told_anew p had has line after t = record {
-  others = t.others;
-  member = t.member;
-  in_line = λ r w m. t.in_line r (λ f. cc) m;
-}
 
 -- ---- who may take
 
@@ -299,11 +193,11 @@ module _ {J O : Type 0} (such ready : Pipeline J O → Type 0) (pipes : Pipes J 
       ready_set next line line p pipe new r set (λ q n. same_keeps line q) (λ s. b.0 (belongs s), λ m s. b.1 (is m) (belongs s))
 
   -- of which the line is told
-  pub ready_told : (next : Pipes J O) (line after : ReadyLine) (p : ℕ) (pipe new : Pipeline J O) (had is : Bool) → IsReadyFor such ready (places pipes) line → IsSet pipes next p pipe new → IsTold p had is line after
+  pub ready_told : (next : Pipes J O) (line after : ReadyLine) (p : ℕ) (pipe new : Pipeline J O) (had is : Bool) → IsReadyFor such ready (places pipes) line → IsSet pipes next p pipe new → IsTold (such new) p had is line after
       → (such new → IsMember line p) → (had ≡ true → ready new → such new → IsInLine line p) → (ready new → is ≡ true) → IsReadyFor such ready (places next) after
   ready_told next line after p pipe new had is r set t member stood says =
       ready_set next line after p pipe new r set t.others
-      (λ s. t.member (member s), λ m s. t.in_line (says m) (λ h. stood h m s) (member s))
+      (λ s. t.member (member s), λ m s. t.in_line s (says m) (λ h. stood h m s) (member s))
 
   -- a pipeline that was just made is not ready
   pub ready_born : (next : Pipes J O) (line after : ReadyLine) (p : ℕ) (new : Pipeline J O) → IsReadyFor such ready (places pipes) line → IsAdded pipes next p new → KeepsOthers p line after → (such new → IsMember after p) → (ready new → ⊥) → IsReadyFor such ready (places next) after
@@ -377,15 +271,15 @@ module _ {J O : Type 0} (pipes : Pipes J O) where
   }
 
   -- of which the lines are told
-  pub lines_told : (next : Pipes J O) (lines after : LinesOf) (p : ℕ) (pipe new : Pipeline J O) (had is : Bool) → AreReady (places pipes) lines → IsSet pipes next p pipe new → IsMade (IsTold p had is) lines after → AdmitsNoMore pipe new
+  pub lines_told : (next : Pipes J O) (lines after : LinesOf) (p : ℕ) (pipe new : Pipeline J O) (had is : Bool) → AreReady (places pipes) lines → IsSet pipes next p pipe new → AreTold p new had is lines after → AdmitsNoMore pipe new
       → (had ≡ true → HasJob pipe) → (HasJob new → is ≡ true) → AreReady (places next) after
   lines_told next lines after p pipe new had is r set t a had_job says =
       let q = member_here IsQueue HasJob pipes lines.queues p pipe r.queues set.here in
       record {
-        queues = ready_told IsQueue HasJob pipes next lines.queues after.queues p pipe new had is r.queues set t.0 (λ s. q.0 (sym a.queue ∙ s)) (λ h m s. q.1 (had_job h) (sym a.queue ∙ s)) says;
+        queues = ready_told IsQueue HasJob pipes next lines.queues after.queues p pipe new had is r.queues set t.queues (λ s. q.0 (sym a.queue ∙ s)) (λ h m s. q.1 (had_job h) (sym a.queue ∙ s)) says;
         own = λ c.
             (let b = member_here (IsFor c) HasJob pipes (line_of c lines.own) p pipe (r.own c) set.here in
-            ready_told (IsFor c) HasJob pipes next (line_of c lines.own) (line_of c after.own) p pipe new had is (r.own c) set (t.1 c) (λ s. b.0 (no_queue pipe new a c s)) (λ h m s. b.1 (had_job h) (no_queue pipe new a c s)) says);
+            ready_told (IsFor c) HasJob pipes next (line_of c lines.own) (line_of c after.own) p pipe new had is (r.own c) set (t.own c) (λ s. b.0 (no_queue pipe new a c s)) (λ h m s. b.1 (had_job h) (no_queue pipe new a c s)) says);
       }
 
   noted_cases : (pipe new : Pipeline J O) (caller c : ℕ) (accepted : Bool) → NotesCaller pipe new caller accepted → is_queue new.stage ≡ is_queue pipe.stage → Admits new c → (c ≡ pipe.maker) ⊎ (c ≡ pipe.maker → ⊥) → Admits pipe c ⊎ (caller ≡ c)
@@ -405,26 +299,26 @@ module _ {J O : Type 0} (pipes : Pipes J O) where
       by_queue false q = noted (has c pipe.submitters.items) accepted (caller == c) refl refl (sym (n.submitters q c other) ∙ s)
   noted_cases pipe new caller c accepted n queue (inr (inr (inr m))) (inr other) = inl (inr (inr (inr (subst (λ k. IsMasked k c) n.mask m))))
 
-  asked_member : (own : List OwnLine) (p : ℕ) (pipe new : Pipeline J O) (caller c : ℕ) → IsReadyFor (IsFor c) HasJob (places pipes) (line_of c own) → places pipes p ≡ Some pipe → is_queue new.stage ≡ is_queue pipe.stage → (IsNoQueue pipe → IsMember (line_of caller own) p)
+  asked_member : (own : OwnLines) (p : ℕ) (pipe new : Pipeline J O) (caller c : ℕ) → IsReadyFor (IsFor c) HasJob (places pipes) (line_of c own) → places pipes p ≡ Some pipe → is_queue new.stage ≡ is_queue pipe.stage → (IsNoQueue pipe → IsMember (line_of caller own) p)
       → IsNoQueue new → Admits pipe c ⊎ (caller ≡ c) → IsMember (line_of c own) p
   asked_member own p pipe new caller c r here queue joined s (inl a) = (member_here (IsFor c) HasJob pipes (line_of c own) p pipe r here).0 (sym queue ∙ s, a)
   asked_member own p pipe new caller c r here queue joined s (inr e) = subst (λ n. IsMember (line_of n own) p) e (joined (sym queue ∙ s))
 
-  asked_stands : (own : List OwnLine) (p : ℕ) (pipe new : Pipeline J O) (caller c : ℕ) → IsReadyFor (IsFor c) HasJob (places pipes) (line_of c own) → places pipes p ≡ Some pipe → is_queue new.stage ≡ is_queue pipe.stage → (IsNoQueue pipe → HasJob pipe → IsInLine (line_of caller own) p)
+  asked_stands : (own : OwnLines) (p : ℕ) (pipe new : Pipeline J O) (caller c : ℕ) → IsReadyFor (IsFor c) HasJob (places pipes) (line_of c own) → places pipes p ≡ Some pipe → is_queue new.stage ≡ is_queue pipe.stage → (IsNoQueue pipe → HasJob pipe → IsInLine (line_of caller own) p)
       → HasJob pipe → IsNoQueue new → Admits pipe c ⊎ (caller ≡ c) → IsInLine (line_of c own) p
   asked_stands own p pipe new caller c r here queue stood h s (inl a) = (member_here (IsFor c) HasJob pipes (line_of c own) p pipe r here).1 h (sym queue ∙ s, a)
   asked_stands own p pipe new caller c r here queue stood h s (inr e) = subst (λ n. IsInLine (line_of n own) p) e (stood (sym queue ∙ s) h)
 
   -- a pipeline of which a caller who joined its line asked something
   pub lines_asked : (next : Pipes J O) (lines after : LinesOf) (p : ℕ) (pipe new : Pipeline J O) (caller : ℕ) (accepted had is : Bool) → AreReady (places pipes) lines → IsSet pipes next p pipe new → (IsNoQueue pipe → IsMember (line_of caller lines.own) p) → (IsNoQueue pipe → HasJob pipe → IsInLine (line_of caller lines.own) p)
-      → IsMade (IsTold p had is) lines after → NotesCaller pipe new caller accepted → is_queue new.stage ≡ is_queue pipe.stage → (had ≡ true → HasJob pipe) → (HasJob new → is ≡ true) → AreReady (places next) after
+      → AreTold p new had is lines after → NotesCaller pipe new caller accepted → is_queue new.stage ≡ is_queue pipe.stage → (had ≡ true → HasJob pipe) → (HasJob new → is ≡ true) → AreReady (places next) after
   lines_asked next lines after p pipe new caller accepted had is r set joined stood t n queue had_job says =
       let q = member_here IsQueue HasJob pipes lines.queues p pipe r.queues set.here in
       let may : (c : ℕ) → Admits new c → Admits pipe c ⊎ (caller ≡ c) = λ c a. noted_cases pipe new caller c accepted n queue a (cases_eq c pipe.maker) in
       record {
-        queues = ready_told IsQueue HasJob pipes next lines.queues after.queues p pipe new had is r.queues set t.0 (λ s. q.0 (sym queue ∙ s)) (λ h m s. q.1 (had_job h) (sym queue ∙ s)) says;
+        queues = ready_told IsQueue HasJob pipes next lines.queues after.queues p pipe new had is r.queues set t.queues (λ s. q.0 (sym queue ∙ s)) (λ h m s. q.1 (had_job h) (sym queue ∙ s)) says;
         own = λ c.
-            ready_told (IsFor c) HasJob pipes next (line_of c lines.own) (line_of c after.own) p pipe new had is (r.own c) set (t.1 c)
+            ready_told (IsFor c) HasJob pipes next (line_of c lines.own) (line_of c after.own) p pipe new had is (r.own c) set (t.own c)
             (λ s. asked_member lines.own p pipe new caller c (r.own c) set.here queue joined s.0 (may c s.1))
             (λ h m s. asked_stands lines.own p pipe new caller c (r.own c) set.here queue stood (had_job h) s.0 (may c s.1)) says;
       }
@@ -436,7 +330,7 @@ module _ {J O : Type 0} (pipes : Pipes J O) where
     own = λ c. ready_left (IsFor c) HasJob pipes next (line_of c lines.own) (line_of c after.own) p pipe (r.own c) left (k.1 c);
   }
 
-  masked_member : (own : List OwnLine) (p : ℕ) (pipe new : Pipeline J O) (c : ℕ) → IsReadyFor (IsFor c) HasJob (places pipes) (line_of c own) → places pipes p ≡ Some pipe → new.maker ≡ pipe.maker → new.submitters.items ≡ pipe.submitters.items → is_queue new.stage ≡ is_queue pipe.stage
+  masked_member : (own : OwnLines) (p : ℕ) (pipe new : Pipeline J O) (c : ℕ) → IsReadyFor (IsFor c) HasJob (places pipes) (line_of c own) → places pipes p ≡ Some pipe → new.maker ≡ pipe.maker → new.submitters.items ≡ pipe.submitters.items → is_queue new.stage ≡ is_queue pipe.stage
       → ((worker : ℕ) → IsMasked new.mask worker → IsMember (line_of worker own) p) → IsNoQueue new → Admits new c → IsMember (line_of c own) p
   masked_member own p pipe new c r here made subs queue workers s (inl q) = absurd (both_ways (is_queue new.stage) s q)
   masked_member own p pipe new c r here made subs queue workers s (inr (inl m)) = (member_here (IsFor c) HasJob pipes (line_of c own) p pipe r here).0 (sym queue ∙ s, inr (inl (sym made ∙ m)))
@@ -452,10 +346,10 @@ module _ {J O : Type 0} (pipes : Pipes J O) where
       record {
         queues = subst (IsReadyFor IsQueue HasJob (places next)) (sym queues) (ready_same IsQueue HasJob pipes next lines.queues p pipe new r.queues set (λ q. sym queue ∙ q) serves);
         own = λ c. ready_set (IsFor c) HasJob pipes next (line_of c lines.own) (line_of c after.own) p pipe new (r.own c) set (own c).others
-            (λ s. (own c).member s.1 (member c s.0 s.1), λ m s. (own c).in_line s.1 m (member c s.0 s.1));
+            (λ s. (own c).member s (member c s.0 s.1), λ m s. (own c).in_line s m (member c s.0 s.1));
       }
 
-  born_member : (own : List OwnLine) (p : ℕ) (new : Pipeline J O) (queues : ReadyLine) (c : ℕ) → Joins p new (record { queues = queues; own = own }) → new.submitters.items ≡ [] → IsNoQueue new → Admits new c → IsMember (line_of c own) p
+  born_member : (own : OwnLines) (p : ℕ) (new : Pipeline J O) (queues : ReadyLine) (c : ℕ) → Joins p new (record { queues = queues; own = own }) → new.submitters.items ≡ [] → IsNoQueue new → Admits new c → IsMember (line_of c own) p
   born_member own p new queues c j none s (inl q) = absurd (both_ways (is_queue new.stage) s q)
   born_member own p new queues c j none s (inr (inl m)) = subst (λ n. IsMember (line_of n own) p) m (j.maker s)
   born_member own p new queues c j none s (inr (inr (inl h))) = (let e : false ≡ true = ap (has c) (sym none) ∙ h in cc)
@@ -503,17 +397,16 @@ module _ {J O : Type 0} (pipes : Pipes J O) where
   found_queue lines caller (Some k) r none h = h
 
   -- the queues' line first, then the caller's own
-  pub found_queue_first : (lines : LinesOf) (caller place : ℕ) (own : OwnLine) (found : Option ℕ) → AreReady (places pipes) lines → IsLineAt caller lines.own place → own ≡ get_or lines.own place own
-      → MatchOption found (NoneStands (HasJobFor caller) (places pipes) lines.queues × NoneStands (HasJobFor caller) (places pipes) own.line) (IsOne (HasJobFor caller) (places pipes)) → Finds (HasJobFor caller) (places pipes) found
-  found_queue_first lines caller place own found r at here h =
+  pub found_queue_first : (lines : LinesOf) (caller : ℕ) (own : ReadyLine) (found : Option ℕ) → AreReady (places pipes) lines → line_of caller lines.own ≡ own
+      → MatchOption found (NoneStands (HasJobFor caller) (places pipes) lines.queues × NoneStands (HasJobFor caller) (places pipes) own) (IsOne (HasJobFor caller) (places pipes)) → Finds (HasJobFor caller) (places pipes) found
+  found_queue_first lines caller own found r here h =
       found_all lines caller found r
-      (subst (λ line. MatchOption found (NoneStands (HasJobFor caller) (places pipes) lines.queues × NoneStands (HasJobFor caller) (places pipes) line) (IsOne (HasJobFor caller) (places pipes)))
-      (ap (λ (o : OwnLine). o.line) here ∙ sym (at.line_is own)) h)
+      (subst (λ line. MatchOption found (NoneStands (HasJobFor caller) (places pipes) lines.queues × NoneStands (HasJobFor caller) (places pipes) line) (IsOne (HasJobFor caller) (places pipes))) (sym here) h)
 
   -- or the other way round
-  pub found_own_first : (lines : LinesOf) (caller place : ℕ) (own : OwnLine) (found : Option ℕ) → AreReady (places pipes) lines → IsLineAt caller lines.own place → own ≡ get_or lines.own place own
-      → MatchOption found (NoneStands (HasJobFor caller) (places pipes) own.line × NoneStands (HasJobFor caller) (places pipes) lines.queues) (IsOne (HasJobFor caller) (places pipes)) → Finds (HasJobFor caller) (places pipes) found
-  found_own_first lines caller place own found r at here h = found_queue_first lines caller place own found r at here (both_ways_round caller own.line lines.queues found h)
+  pub found_own_first : (lines : LinesOf) (caller : ℕ) (own : ReadyLine) (found : Option ℕ) → AreReady (places pipes) lines → line_of caller lines.own ≡ own
+      → MatchOption found (NoneStands (HasJobFor caller) (places pipes) own × NoneStands (HasJobFor caller) (places pipes) lines.queues) (IsOne (HasJobFor caller) (places pipes)) → Finds (HasJobFor caller) (places pipes) found
+  found_own_first lines caller own found r here h = found_queue_first lines caller own found r here (both_ways_round caller own lines.queues found h)
 
   -- what a search leaves of the lines
   pub line_searched : (lines : LinesOf) (caller : ℕ) (queues : ReadyLine) → AreReady (places pipes) lines → KeepsSuch (HasJobFor caller) (places pipes) lines.queues queues → AreReady (places pipes) (record lines { queues = queues })
@@ -522,15 +415,11 @@ module _ {J O : Type 0} (pipes : Pipes J O) where
     own = r.own;
   }
 
-  pub lines_searched : (lines : LinesOf) (caller place : ℕ) (own new : OwnLine) (queues : ReadyLine) → AreReady (places pipes) lines → IsLineAt caller lines.own place → own ≡ get_or lines.own place own → new.caller ≡ own.caller → KeepsSuch (HasJobFor caller) (places pipes) lines.queues queues
-      → KeepsSuch (HasJobFor caller) (places pipes) own.line new.line → AreReady (places pipes) (record { queues = queues; own = slice_set lines.own place new })
-  lines_searched lines caller place own new queues r at here e k l = record {
-    queues = queues_searched caller lines.queues queues r.queues k;
+  pub lines_searched : (lines after : LinesOf) (caller : ℕ) (line new : ReadyLine) → AreReady (places pipes) lines → IsLineSet caller lines.own after.own line new → KeepsSuch (HasJobFor caller) (places pipes) lines.queues after.queues → KeepsSuch (HasJobFor caller) (places pipes) line new
+      → AreReady (places pipes) after
+  lines_searched lines after caller line new r set k l = record {
+    queues = queues_searched caller lines.queues after.queues r.queues k;
     own = λ c.
-        set_made (λ n line after. IsReadyFor (IsFor n) HasJob (places pipes) line → IsReadyFor (IsFor n) HasJob (places pipes) after) (λ n line s. s) lines.own place new own at.within (e ∙ ap (λ (o : OwnLine). o.caller) here)
-        (subst (λ (o : OwnLine). IsReadyFor (IsFor o.caller) HasJob (places pipes) o.line → IsReadyFor (IsFor o.caller) HasJob (places pipes) new.line) here
-        (λ s. subst (λ n. IsReadyFor (IsFor n) HasJob (places pipes) new.line) (sym (mine own at here)) (own_searched caller own.line new.line (subst (λ n. IsReadyFor (IsFor n) HasJob (places pipes) own.line) (mine own at here) s) l))) c (r.own c);
+        set_made (λ n line after. IsReadyFor (IsFor n) HasJob (places pipes) line → IsReadyFor (IsFor n) HasJob (places pipes) after) lines.own after.own caller line new set (λ n d line s. s)
+        (λ s. own_searched caller line new s l) c (r.own c);
   }
-    where
-      mine : (own : OwnLine) → IsLineAt caller lines.own place → own ≡ get_or lines.own place own → own.caller ≡ caller
-      mine own at here = ap (λ (o : OwnLine). o.caller) here ∙ at.caller_is own

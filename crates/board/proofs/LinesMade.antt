@@ -1,92 +1,220 @@
--- The callers' lines, each in another form, and without those that are given back.
-use Rattle.std.proofs.Common.{◌≡◌, ℕ, zero, suc, ◌+◌, ◌<◌, ◌≤◌, Bool, true, false, cond, ◌&&◌, ◌||◌, List, [], ◌∷◌, length, Some, refl, sym, ◌∙◌, ap, subst, arith, get_or}
-use Rattle.std.specs.Prelude.{◌==◌, nat_le, not, slice_get, slice_set, filter}
-use Rattle.std.proofs.lemmas.Bool.{eqb-true}
+-- The callers' own lines, as they are told of a pipeline one after the other, and as it leaves them.
+use Rattle.std.proofs.Common.{◌≡◌, ◌≢◌, ℕ, ◌+◌, ◌<◌, ◌≤◌, Bool, true, false, ◌||◌, List, [], ◌∷◌, ◌++◌, length, Some, None, refl, sym, ◌∙◌, ap, subst, arith, inl, inr, ◌⊎◌}
+use Rattle.std.specs.Prelude.{◌==◌, slice_get}
+use Rattle.std.specs.Ordering.{nat_cmp}
+use Rattle.std.specs.Map.{lookup}
+use Rattle.std.specs.BTreeMap.{is_at}
+use Rattle.std.proofs.lemmas.Bool.{eqb-true, both_ways, cases_eq, cases_lt}
+use Rattle.std.proofs.lemmas.List.Folds.{list_any-append}
 use Rattle.board.specs.declared.pipeline.Pipeline.{Pipeline}
-use Rattle.board.specs.declared.lines.OwnLine.{OwnLine}
-use Rattle.board.specs.Ready.{ReadyLine, IsMember, IsInLine, no_pipelines, Keeps, IsTold}
-use Rattle.board.specs.Lines.{is_kept, line_of, AreMade, IsReadmitted}
-use Rattle.board.proofs.LinesHold.{Made, first_made, same_keeps, no_member}
+use Rattle.board.specs.Entries.{has, IsMasked}
+use Rattle.board.specs.Stages.{is_queue}
+use Rattle.board.specs.Ready.{ReadyLine, no_pipelines, IsMember, IsInLine, KeepsOthers, HasJob, IsQueue, IsFor, Admits, IsTold}
+use Rattle.board.specs.Lines.{LinesOf, line_in, line_of, AreTold, OwnAreTold, LetsGo, IsReadmitted}
+use Rattle.board.proofs.OwnLines.{IsLineSet, set_made}
+use Rattle.board.proofs.LinesHold.{no_member, others_on}
 
--- ---- each in turn
+-- ---- one line
 
--- the first so many lines became such others, each its caller's still
-abbrev pub MadeUpTo : Made → ℕ → List OwnLine → List OwnLine → Type 0
-MadeUpTo made zero own now = now ≡ own
-MadeUpTo made (suc i) [] now = now ≡ []
-MadeUpTo made (suc i) (x ∷ own) [] = ⊥
-MadeUpTo made (suc i) (x ∷ own) (y ∷ now) = (y.caller ≡ x.caller) × made x.caller x.line y.line × MadeUpTo made i own now
+module _ (such : Type 0) (pipe : ℕ) where
+  -- a line of which nothing is asked stays
+  pub told_same : (was is : Bool) (line : ReadyLine) → (such → ⊥) → IsTold such pipe was is line line
+  told_same was is line none = record {
+    others = λ p n. (λ m. m, λ s. s);
+    member = λ m. m;
+    stays = λ i s. s;
+    in_line = λ s i w m. absurd (none s);
+  }
 
-next_up : (made : Made) (i : ℕ) (own now : List OwnLine) (new d : OwnLine) → i < length own → MadeUpTo made i own now → new.caller ≡ (get_or now i d).caller → made (get_or now i d).caller (get_or now i d).line new.line
-    → MadeUpTo made (suc i) own (slice_set now i new)
-next_up made zero [] now new d w up e here = absurd (omega arith)
-next_up made zero (x ∷ own) [] new d w up e here = cc
-next_up made zero (x ∷ own) (y ∷ now) new d w up e here =
-    let same : y ≡ x = cc in
-    let rest : now ≡ own = cc in
-    (e ∙ ap (λ (o : OwnLine). o.caller) same, subst (λ (o : OwnLine). made o.caller o.line new.line) same here, rest)
-next_up made (suc i) [] now new d w up e here = absurd (omega arith)
-next_up made (suc i) (x ∷ own) [] new d w up e here = absurd up
-next_up made (suc i) (x ∷ own) (y ∷ now) new d w up e here = (up.0, up.1, next_up made i own now new d (omega arith) up.2 e here)
+  -- and one that was told the same
+  pub told_before : (had has : Bool) (line : ReadyLine) → had ≡ has → IsTold such pipe had has line line
+  told_before had has line e = record {
+    others = λ p n. (λ m. m, λ s. s);
+    member = λ m. m;
+    stays = λ i s. s;
+    in_line = λ s i w m. w (e ∙ i);
+  }
 
--- and the next one
-pub next_made : (made : Made) (i : ℕ) (own now : List OwnLine) (new d : OwnLine) → i < length own → MadeUpTo made i own now → new.caller ≡ (get_or now i d).caller → made (get_or now i d).caller (get_or now i d).line new.line
-    → MadeUpTo made (i + 1) own (slice_set now i new)
-next_made made i own now new d w up e here =
-    let more : suc i ≡ i + 1 = omega arith in
-    subst (λ k. MadeUpTo made k own (slice_set now i new)) more (next_up made i own now new d w up e here)
+  pub told_set : (is : Bool) (line after : ReadyLine) → IsTold (IsMember line pipe) pipe false is line after → IsTold such pipe false is line after
+  told_set is line after t = record {
+    others = t.others;
+    member = t.member;
+    stays = t.stays;
+    in_line = λ s i w m. t.in_line m i w m;
+  }
 
--- all of them
-pub all_made : (made : Made) → ((c : ℕ) → made c no_pipelines no_pipelines) → (i : ℕ) (own now : List OwnLine) → length own ≤ i → MadeUpTo made i own now → (c : ℕ) → made c (line_of c own) (line_of c now)
-all_made made none zero [] now l up c = subst (λ ys. made c no_pipelines (line_of c ys)) (sym up) (none c)
-all_made made none zero (x ∷ own) now l up c = absurd (omega arith)
-all_made made none (suc i) [] now l up c = subst (λ ys. made c no_pipelines (line_of c ys)) (sym up) (none c)
-all_made made none (suc i) (x ∷ own) [] l up c = absurd up
-all_made made none (suc i) (x ∷ own) (y ∷ now) l up c = first_made made x y own now up.0 up.1 (all_made made none i own now (omega arith) up.2) c
+  pub told_anew : (had has : Bool) (line after : ReadyLine) → IsTold such pipe false has line after → IsTold such pipe had has line after
+  told_anew had has line after t = record {
+    others = t.others;
+    member = t.member;
+    stays = t.stays;
+    in_line = λ s i w m. t.in_line s i (λ f. cc) m;
+  }
 
--- a line of nobody stays so
+  -- one told in fewer cases
+  pub told_less : (more : Type 0) (is : Bool) (line after : ReadyLine) → (such → more) → IsTold more pipe false is line after → IsTold such pipe false is line after
+  told_less more is line after to t = record {
+    others = t.others;
+    member = t.member;
+    stays = t.stays;
+    in_line = λ s i w m. t.in_line (to s) i w m;
+  }
 
-pub told_none : (pipe : ℕ) (was is : Bool) → IsTold pipe was is no_pipelines no_pipelines
-told_none pipe was is = record {
-  others = λ p d. (λ m. m, λ s. s);
-  member = λ m. m;
-  in_line = λ i w m. absurd (no_member pipe m);
+-- one told twice
+pub told_on : (first second : Type 0) (pipe : ℕ) (is : Bool) (line next after : ReadyLine) → IsTold first pipe false is line next → IsTold second pipe false is next after → IsTold (first ⊎ second) pipe false is line after
+told_on first second pipe is line next after t u = record {
+  others = others_on pipe line next after t.others u.others;
+  member = λ m. u.member (t.member m);
+  stays = λ i s. u.stays i (t.stays i s);
+  in_line = in_line;
 }
+  where
+    in_line : first ⊎ second → is ≡ true → (false ≡ true → IsInLine line pipe) → IsMember line pipe → IsInLine after pipe
+    in_line (inl s) i w m = u.stays i (t.in_line s i w m)
+    in_line (inr s) i w m = u.in_line s i (λ f. cc) (t.member m)
 
-pub readmitted_none : {J O : Type 0} (pipe : ℕ) (new : Pipeline J O) (c : ℕ) → IsReadmitted pipe new c no_pipelines no_pipelines
-readmitted_none pipe new c = record {
-  others = λ p d. (λ m. m, λ s. s);
-  member = λ a m. m;
-  in_line = λ a h m. absurd (no_member pipe m);
-}
-
--- ---- without those that are given back
+-- a line keeps all but the pipeline while it stays, or loses the pipeline alone
+pub same_but : (pipe : ℕ) (line : ReadyLine) → KeepsOthers pipe line line
+same_but pipe line p n = (λ m. m, λ s. s)
 
 -- a line without members keeps what any other has
-empty_keeps : (line after : ReadyLine) → length line.members ≡ 0 → Keeps line after
-empty_keeps line after e p = (λ m. absurd (none line.members m.0 e m.1), λ s. absurd (none line.members s.0 e s.2))
+pub empty_keeps : (pipe : ℕ) (line after : ReadyLine) → length line.members ≡ 0 → KeepsOthers pipe line after
+empty_keeps pipe line after e p d = (λ m. absurd (none line.members m.0 e m.1), λ s. absurd (none line.members s.0 e s.2))
   where
     none : (ms : List ℕ) (i : ℕ) → length ms ≡ 0 → slice_get ms i ≡ Some p → ⊥
     none [] i z g = cc
     none (m ∷ ms) i z g = cc
 
-none_left : (a b : Bool) (n : ℕ) → (n == 0) ≡ b → (a || not b) ≡ false → n ≡ 0
-none_left true b n e k = cc
-none_left false true n e k = eqb-true n 0 e
-none_left false false n e k = cc
+-- ---- such callers' lines
 
-no_members : (a : Bool) (n : ℕ) → (a || not (n == 0)) ≡ false → n ≡ 0
-no_members a n k = none_left a (n == 0) n refl k
+module _ (pipe : ℕ) (is : Bool) where
+  pub own_same : (such : ℕ → Type 0) (lines : LinesOf) → ((c : ℕ) → such c → ⊥) → OwnAreTold such pipe is lines lines
+  own_same such lines none = record {
+    queues = refl;
+    own = λ c. told_same (such c) pipe false is (line_of c lines.own) (none c);
+  }
 
-gone : (line rest after : ReadyLine) (b : Bool) → length line.members ≡ 0 → Keeps rest after → Keeps (cond b line rest) after
-gone line rest after true e k = empty_keeps line after e
-gone line rest after false e k = k
+  pub own_less : (such more : ℕ → Type 0) (lines after : LinesOf) → ((c : ℕ) → such c → more c) → OwnAreTold more pipe is lines after → OwnAreTold such pipe is lines after
+  own_less such more lines after to t = record {
+    queues = t.queues;
+    own = λ c. told_less (such c) pipe (more c) is (line_of c lines.own) (line_of c after.own) (to c) (t.own c);
+  }
 
-given_cases : (own : OwnLine) (more : List OwnLine) (b : Bool) → is_kept own ≡ b → AreMade Keeps more (filter is_kept more) → AreMade Keeps (own ∷ more) (cond b (own ∷ filter is_kept more) (filter is_kept more))
-given_cases own more true k rest c = first_made (λ n. Keeps) own own more (filter is_kept more) refl (same_keeps own.line) rest c
-given_cases own more false k rest c = gone own.line (line_of c more) (line_of c (filter is_kept more)) (own.caller == c) (no_members (nat_le own.caller 16) (length own.line.members) k) (rest c)
+  -- first some, and then others
+  pub own_on : (such first second : ℕ → Type 0) (lines next after : LinesOf) → ((c : ℕ) → such c → first c ⊎ second c) → OwnAreTold first pipe is lines next → OwnAreTold second pipe is next after → OwnAreTold such pipe is lines after
+  own_on such first second lines next after to t u = record {
+    queues = u.queues ∙ t.queues;
+    own = λ c.
+        told_less (such c) pipe (first c ⊎ second c) is (line_of c lines.own) (line_of c after.own) (to c)
+        (told_on (first c) (second c) pipe is (line_of c lines.own) (line_of c next.own) (line_of c after.own) (t.own c) (u.own c));
+  }
 
--- the lines that aren't kept have no members
-pub kept_made : (own : List OwnLine) → AreMade Keeps own (filter is_kept own)
-kept_made [] c = same_keeps no_pipelines
-kept_made (o ∷ own) c = given_cases o own (is_kept o) refl (kept_made own) c
+  -- one caller's line
+  pub own_set : (caller : ℕ) (lines after : LinesOf) (line new : ReadyLine) → after.queues ≡ lines.queues → IsLineSet caller lines.own after.own line new → IsTold (IsMember line pipe) pipe false is line new → OwnAreTold (λ c. c ≡ caller) pipe is lines after
+  own_set caller lines after line new queues set t = record {
+    queues = queues;
+    own = set_made (λ c line after. IsTold (c ≡ caller) pipe false is line after) lines.own after.own caller line new set (λ c n line. told_same (c ≡ caller) pipe false is line n) (told_set (caller ≡ caller) pipe is line new t);
+  }
+
+  -- one who has none
+  pub own_none : (caller : ℕ) (lines : LinesOf) → lookup (is_at (nat_cmp caller)) lines.own ≡ None → OwnAreTold (λ c. c ≡ caller) pipe is lines lines
+  own_none caller lines none = record {
+    queues = refl;
+    own = λ c. line (cases_eq c caller);
+  }
+    where
+      empty : (c : ℕ) → c ≡ caller → line_of c lines.own ≡ no_pipelines
+      empty c e = ap (λ n. line_of n lines.own) e ∙ ap line_in none
+
+      line : {c : ℕ} → (c ≡ caller) ⊎ (c ≡ caller → ⊥) → IsTold (c ≡ caller) pipe false is (line_of c lines.own) (line_of c lines.own)
+      line {c} (inl e) = record {
+        others = λ p n. (λ m. m, λ s. s);
+        member = λ m. m;
+        stays = λ i s. s;
+        in_line = λ s i w m. absurd (no_member pipe (subst (λ l. IsMember l pipe) (empty c e) m));
+      }
+      line {c} (inr n) = told_same (c ≡ caller) pipe false is (line_of c lines.own) n
+
+-- who is among callers and one more
+pub one_more : (cs : List ℕ) (x c : ℕ) → has c (cs ++ x ∷ []) ≡ true → (has c cs ≡ true) ⊎ (c ≡ x)
+one_more cs x c h = either (has c cs) (x == c) refl refl (sym (list_any-append (λ m. m == c) cs (x ∷ [])) ∙ h)
+  where
+    either : (a b : Bool) → has c cs ≡ a → (x == c) ≡ b → (a || (b || false)) ≡ true → (has c cs ≡ true) ⊎ (c ≡ x)
+    either true b e f t = inl e
+    either false true e f t = inr (sym (eqb-true x c f))
+    either false false e f t = cc
+
+-- a worker up to the next one is that one, or before it
+pub next_masked : (mask before c : ℕ) → IsMasked mask c × (c ≤ before + 1) → (IsMasked mask c × (c ≤ before)) ⊎ ((c ≡ before + 1) × IsMasked mask c)
+next_masked mask before c m = up_to (cases_lt before c)
+  where
+    up_to : (before < c) ⊎ (c ≤ before) → (IsMasked mask c × (c ≤ before)) ⊎ ((c ≡ before + 1) × IsMasked mask c)
+    up_to (inl l) = (let u = m.1 in inr (omega arith, m.0))
+    up_to (inr g) = inl (m.0, g)
+
+-- who may take is the maker, has submitted, or is a worker in the mask
+pub who_may : {J O : Type 0} (place : Pipeline J O) (c : ℕ) → IsFor c place → ((c ≡ place.maker) ⊎ (has c place.submitters.items ≡ true)) ⊎ IsMasked place.mask c
+who_may place c (f, inl q) = absurd (both_ways (is_queue place.stage) f q)
+who_may place c (f, inr (inl m)) = inl (inl (sym m))
+who_may place c (f, inr (inr (inl s))) = inl (inr s)
+who_may place c (f, inr (inr (inr m))) = inr m
+
+-- ---- all lines
+
+module _ {J O : Type 0} (pipe : ℕ) (place : Pipeline J O) (had has : Bool) (lines : LinesOf) where
+  -- nothing is told where nothing changed
+  pub all_before : had ≡ has → AreTold pipe place had has lines lines
+  all_before e = record {
+    queues = told_before (IsQueue place) pipe had has lines.queues e;
+    own = λ c. told_before (IsFor c place) pipe had has (line_of c lines.own) e;
+  }
+
+  -- a queue stands in no caller's own line
+  pub queue_told : (queues : ReadyLine) → is_queue place.stage ≡ true → IsTold (IsMember lines.queues pipe) pipe false has lines.queues queues → AreTold pipe place had has lines (record lines { queues = queues })
+  queue_told queues q t = record {
+    queues = told_anew (IsQueue place) pipe had has lines.queues queues (told_set (IsQueue place) pipe has lines.queues queues t);
+    own = λ c. told_same (IsFor c place) pipe had has (line_of c lines.own) (λ s. both_ways (is_queue place.stage) s.0 q);
+  }
+
+  -- and a pad or a chain not in the queues'
+  pub own_told : (after : LinesOf) → is_queue place.stage ≡ false → OwnAreTold (λ c. IsFor c place) pipe has lines after → AreTold pipe place had has lines after
+  own_told after f t = record {
+    queues = subst (IsTold (IsQueue place) pipe had has lines.queues) (sym t.queues) (told_same (IsQueue place) pipe had has lines.queues (λ q. both_ways (is_queue place.stage) f q));
+    own = λ c. told_anew (IsFor c place) pipe had has (line_of c lines.own) (line_of c after.own) (t.own c);
+  }
+
+-- ---- a pad under another mask
+
+module _ {J O : Type 0} (pipe : ℕ) (place : Pipeline J O) where
+  pub goes_same : (lines : LinesOf) → LetsGo pipe place lines lines
+  goes_same lines = record {
+    queues = refl;
+    others = λ c p n. (λ m. m, λ s. s);
+    admitted = λ c s. refl;
+  }
+
+  pub goes_on : (lines next after : LinesOf) → LetsGo pipe place lines next → LetsGo pipe place next after → LetsGo pipe place lines after
+  goes_on lines next after t u = record {
+    queues = u.queues ∙ t.queues;
+    others = λ c. others_on pipe (line_of c lines.own) (line_of c next.own) (line_of c after.own) (t.others c) (u.others c);
+    admitted = λ c s. u.admitted c s ∙ t.admitted c s;
+  }
+
+  -- it left the line of one whom it doesn't admit
+  pub goes_other : (worker : ℕ) (lines after : LinesOf) → (Admits place worker → ⊥) → after.queues ≡ lines.queues → ((c : ℕ) → KeepsOthers pipe (line_of c lines.own) (line_of c after.own)) → ((c : ℕ) → c ≢ worker → line_of c after.own ≡ line_of c lines.own) → LetsGo pipe place lines after
+  goes_other worker lines after not queues kept same = record {
+    queues = queues;
+    others = kept;
+    admitted = λ c s. same c (λ e. not (subst (Admits place) e s.1));
+  }
+
+  -- after that those that it admits are told
+  pub readmitted : (is : Bool) (lines next after : LinesOf) → (HasJob place → is ≡ true) → LetsGo pipe place lines next → OwnAreTold (λ c. IsFor c place) pipe is next after → (c : ℕ) → IsReadmitted pipe place c (line_of c lines.own) (line_of c after.own)
+  readmitted is lines next after says t u c = record {
+    others = others_on pipe (line_of c lines.own) (line_of c next.own) (line_of c after.own) (t.others c) (u.own c).others;
+    member = λ s m. (u.own c).member (there s m);
+    in_line = λ s h m. (u.own c).in_line s (says h) (λ f. cc) (there s m);
+  }
+    where
+      there : IsFor c place → IsMember (line_of c lines.own) pipe → IsMember (line_of c next.own) pipe
+      there s m = subst (λ line. IsMember line pipe) (sym (t.admitted c s)) m

@@ -1,7 +1,7 @@
 -- A shared pipeline, and makers that have finished.
 use Rattle.std.proofs.Common.{◌≡◌, ℕ, Bool, true, false, ◌||◌, List, [], ◌∷◌, ◌++◌, length, Option, Some, None, is_some, refl, sym, ◌∙◌, ap, subst, append-nil, append_assoc, inr}
 use Rattle.std.specs.Prelude.{◌-◌, ◌^◌}
-use Rattle.std.specs.List.{cons_option, filter_map, list_any}
+use Rattle.std.specs.List.{cons_option, filter_map}
 use Rattle.std.proofs.lemmas.Bool.{or_left}
 use Rattle.std.proofs.lemmas.List.Elements.{filter-append, filter_map-append}
 use Rattle.std.proofs.lemmas.List.Folds.{list_any-append}
@@ -10,9 +10,9 @@ use Rattle.board.specs.declared.entry.BoardEntry.{BoardEntry}
 use Rattle.board.specs.declared.entry.BoardEntry.TheVariants.{Born, Submit, Take, Finish, Enq, Deq, Done, Hold, Go, Collect, Close, Share, Mask, Shut}
 use Rattle.board.specs.Shapes.{is_born, width_born}
 use Rattle.board.specs.Entries.{is_of, entries_of, submissions, first, birth_in, birth, masked_in, mask, last_or, is_close, is_closed, is_share, is_shared, front, caller_of}
-use Rattle.board.specs.Legal.{IsRightFor, IsOpenAs, MayManage, LegalBoard}
+use Rattle.board.specs.Legal.{IsRightFor, IsOpenAs, MayManage}
 use Rattle.board.specs.Order.{AreRightForAfter}
-use Rattle.board.specs.Sharing.{StaysShared, SharedStays, MakersFinish}
+use Rattle.board.specs.Sharing.{SharedStays, MakersFinish}
 use Rattle.board.proofs.Transfer.{each_right}
 use Rattle.board.proofs.Closed.{closed_end}
 

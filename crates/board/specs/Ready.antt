@@ -73,11 +73,13 @@ Keeps line after = (p : ℕ) → KeepsPipe line after p
 abbrev pub KeepsOthers : ℕ → ReadyLine → ReadyLine → Type 0
 KeepsOthers pipe line after = (p : ℕ) → p ≢ pipe → KeepsPipe line after p
 
--- the line is told whether the pipeline is ready now, and was before: where it is, and is a member, it stands in line
-pub record IsTold (pipe : ℕ) (was is : Bool) (line after : ReadyLine) : Type 0 where
+-- The line is told whether the pipeline is ready now, and was before: where it is, and is a member, it stands in line. It is told at
+-- least in such a case, and otherwise keeps the pipeline as it was, or is told too.
+pub record IsTold (such : Type 0) (pipe : ℕ) (was is : Bool) (line after : ReadyLine) : Type 0 where
   pub others : KeepsOthers pipe line after
   pub member : IsMember line pipe → IsMember after pipe
-  pub in_line : is ≡ true → (was ≡ true → IsInLine line pipe) → IsMember line pipe → IsInLine after pipe
+  pub stays : is ≡ true → IsInLine line pipe → IsInLine after pipe
+  pub in_line : such → is ≡ true → (was ≡ true → IsInLine line pipe) → IsMember line pipe → IsInLine after pipe
 
 -- only pipelines that are not of such a kind left the line
 abbrev pub KeepsSuch : {P : Type 0} → (P → Type 0) → Places P → ReadyLine → ReadyLine → Type 0

@@ -99,7 +99,7 @@ impl<W: Work> BoardCore<W> {
         let pipe = self.born;
         enter_lines(&mut self.ready, &mut self.passing, pipe, &new)?;
         if self.pipes.insert(pipe, new).is_err() {
-            self.ready.leave(pipe);
+            self.ready.leave(caller, pipe);
             self.passing.leave(pipe);
             return Err(BoardErr::Memory);
         }
@@ -132,7 +132,7 @@ fn enter_lines<J: Drop, F: Drop>(
     }
     let joined = passing.join(pipe);
     if joined.is_err() {
-        ready.leave(pipe);
+        ready.leave(new.maker, pipe);
     }
     joined
 }

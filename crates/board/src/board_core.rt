@@ -139,7 +139,7 @@ impl<W: Work> BoardCore<W> {
         ensures legal { LegalBoard self.new }
     {
         self.pipes.remove(&pipe);
-        self.ready.leave(pipe);
+        self.ready.leave(caller, pipe);
         self.passing.leave(pipe);
         self.log.push_reserved(BoardEntry::Close { caller, pipe });
         self.owed -= 1;

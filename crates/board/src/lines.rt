@@ -1,12 +1,11 @@
 //! The lines in which callers find the pipelines whose jobs they may take.
 
-ghost use Rattle.std.specs.Prelude.{◌≡◌, ℕ, true, false, [], OnOk};
-ghost use Rattle.std.specs.List.{position_from};
+ghost use Rattle.std.specs.Prelude.{◌≡◌, ◌≢◌, ℕ, true, OnOk};
 ghost use Rattle.board.specs.declared.pipeline.Pipeline.{Pipeline};
-ghost use Rattle.board.specs.Entries.{IsMasked};
+ghost use Rattle.board.specs.Entries.{has, IsMasked};
 ghost use Rattle.board.specs.Places.{places};
-ghost use Rattle.board.specs.Ready.{IsMember, IsInLine, no_pipelines, HasJob, IsNoQueue, HasJobFor, Keeps, KeepsOthers, IsTold, KeepsSuch, Finds, FindsInBoth};
-ghost use Rattle.board.specs.Lines.{is_line_of, is_kept, line_of, AreMade, IsMade, Joins, IsReadmitted, AreReady};
+ghost use Rattle.board.specs.Ready.{IsMember, IsInLine, HasJob, IsNoQueue, IsFor, HasJobFor, Keeps, KeepsOthers, KeepsSuch, Finds, FindsInBoth};
+ghost use Rattle.board.specs.Lines.{line_of, AreMade, IsMade, Joins, AreTold, OwnAreTold, LetsGo, IsReadmitted, AreReady};
 
 use crate::mask::is_masked;
 use crate::pipeline::Pipeline;
@@ -22,28 +21,18 @@ const WORKERS: u32 = 16;
 /// A caller's own line. Its members are the pads and chains from which the caller may take.
 #[derive(Drop)]
 pub(crate) struct OwnLine {
-    pub(crate) caller: u32,
     pub(crate) line: Ready,
     /// Whether the caller looked for a queue first when it last looked for a job.
     pub(crate) queue_first: bool,
 }
 
-impl OwnLine {
-    /// Whether the line is kept though its caller's last pipeline was closed: a worker's is, since the next pad needs it again.
-    fn is_kept(&self) -> bool
-        ensures { result ≡ is_kept self.now }
-    {
-        self.caller <= WORKERS || !self.line.is_empty()
-    }
-}
-
 /// The lines of all callers: in one stand the queues, which everybody serves, and each caller that may take from a pad or a chain
-/// has its own.
+/// has its own. What a pipeline's job changes are the lines of its maker, its submitters and its workers alone.
 #[derive(Drop)]
 pub(crate) struct JobLines {
     alloc: Global,
     queues: Ready,
-    own: Vec<OwnLine>,
+    own: BTreeMap<u32, OwnLine>,
 }
 
 impl Model for JobLines {
@@ -51,18 +40,16 @@ impl Model for JobLines {
 
     ghost Value = { LinesOf };
 
-    ghost view = { λ l. record { queues = l.queues; own = l.own.items } };
+    ghost view = { λ l. record { queues = l.queues; own = l.own.entries } };
 }
 
 impl JobLines {
     /// Lines without members.
-    pub(crate) fn new(alloc: Global) -> JobLines
-        ensures { result ≡ record { queues = no_pipelines; own = [] } }
-    {
+    pub(crate) fn new(alloc: Global) -> JobLines {
         JobLines {
             alloc,
             queues: Ready::new(alloc),
-            own: Vec::new(alloc),
+            own: BTreeMap::new(alloc),
         }
     }
 
@@ -77,7 +64,7 @@ impl JobLines {
     {
         let joined = self.join_all(pipe, new);
         if joined.is_err() {
-            self.leave(pipe);
+            self.leave(new.maker, pipe);
         }
         joined
     }
@@ -105,17 +92,16 @@ impl JobLines {
         ensures joined { OnOk result (IsMember (line_of caller self.new.own) pipe) }
         ensures in_line { OnOk result (has_job ≡ true → IsInLine (line_of caller self.new.own) pipe) }
     {
-        if let Some(place) = place_of(&self.own, caller) {
-            return self.own[place].line.admit(pipe, has_job);
+        if let Some(own) = self.own.get_mut(&caller) {
+            return own.line.admit(pipe, has_job);
         }
-        self.own.reserve(1)?;
         let mut line = Ready::new(self.alloc);
         line.admit(pipe, has_job)?;
-        self.own.push_reserved(OwnLine {
-            caller,
+        let own = OwnLine {
             line,
             queue_first: false,
-        });
+        };
+        self.own.insert(caller, own)?;
         Ok(())
     }
 
@@ -158,23 +144,109 @@ impl JobLines {
         Ok(())
     }
 
-    /// Nobody takes from the pipeline any more. No memory is taken.
-    pub(crate) fn leave(&mut self, pipe: u64)
+    /// Nobody takes any more from a pipeline that this caller made and nobody else submitted to. No memory is taken.
+    pub(crate) fn leave(&mut self, maker: u32, pipe: u64)
         ensures { IsMade (KeepsOthers pipe) self.old self.new }
     {
         self.queues.leave(pipe);
-        leave_all(&mut self.own, pipe);
-        give_back(&mut self.own);
+        self.leave_own(maker, pipe);
+        self.leave_workers(pipe);
     }
 
-    /// Tells the lines whether the pipeline has a job now, where it had one before or not. No memory is taken.
-    pub(crate) fn tell(&mut self, pipe: u64, had_job: bool, has_job: bool)
-        ensures { IsMade (IsTold pipe had_job has_job) self.old self.new }
+    /// The pipeline is no member of the workers' lines any more.
+    fn leave_workers(&mut self, pipe: u64)
+        ensures queues { self.new.queues ≡ self.old.queues }
+        ensures made { AreMade (KeepsOthers pipe) self.old.own self.new.own }
     {
-        if had_job != has_job {
-            self.queues.set(pipe, has_job);
-            set_all(&mut self.own, pipe, has_job);
+        for before in 0..WORKERS {
+            self.leave_own(before + 1, pipe);
         }
+    }
+
+    /// The pipeline is no member of this caller's line any more. A line without members is given back, unless it is a worker's, since
+    /// the next pad needs that again.
+    fn leave_own(&mut self, caller: u32, pipe: u64)
+        ensures queues { self.new.queues ≡ self.old.queues }
+        ensures made { AreMade (KeepsOthers pipe) self.old.own self.new.own }
+        ensures others { (c : ℕ) → c ≢ caller → line_of c self.new.own ≡ line_of c self.old.own }
+    {
+        let Some(own) = self.own.get_mut(&caller) else {
+            return;
+        };
+        own.line.leave(pipe);
+        if caller <= WORKERS {
+            return;
+        }
+        if own.line.is_empty() {
+            drop(self.own.remove(&caller));
+        }
+    }
+
+    /// Tells the lines of those that may take from the pipeline whether it has a job now, where it had one before or not. No memory is
+    /// taken.
+    pub(crate) fn tell<J: Drop, F: Drop>(
+        &mut self,
+        pipe: u64,
+        place: &Pipeline<J, F>,
+        had_job: bool,
+        has_job: bool,
+    )
+        ensures { AreTold pipe place.now had_job has_job self.old self.new }
+    {
+        if had_job == has_job {
+            return;
+        }
+        if place.stage.is_queue() {
+            self.queues.set(pipe, has_job);
+        } else {
+            self.tell_own(pipe, place, has_job);
+        }
+    }
+
+    /// Tells the lines of the maker of a pad or a chain, of its submitters and of its workers whether it has a job.
+    fn tell_own<J: Drop, F: Drop>(&mut self, pipe: u64, place: &Pipeline<J, F>, has_job: bool)
+        ensures { OwnAreTold (λ c. IsFor c place.now) pipe has_job self.old self.new }
+    {
+        self.tell_one(place.maker, pipe, has_job);
+        self.tell_each(&place.submitters, pipe, has_job);
+        self.tell_workers(place.mask, pipe, has_job);
+    }
+
+    /// Tells the lines of these callers.
+    fn tell_each(&mut self, callers: &[u32], pipe: u64, has_job: bool)
+        ensures { OwnAreTold (λ c. has c callers.now ≡ true) pipe has_job self.old self.new }
+    {
+        for caller in callers {
+            self.tell_one(*caller, pipe, has_job);
+        }
+    }
+
+    /// Tells the lines of the workers whose bits are set.
+    fn tell_workers(&mut self, mask: u16, pipe: u64, has_job: bool)
+        ensures { OwnAreTold (λ c. IsMasked mask c) pipe has_job self.old self.new }
+    {
+        for before in 0..WORKERS {
+            self.tell_worker(before + 1, mask, pipe, has_job);
+        }
+    }
+
+    /// Tells the worker's line, where its bit is set.
+    fn tell_worker(&mut self, worker: u32, mask: u16, pipe: u64, has_job: bool)
+        ensures { OwnAreTold (λ c. (c ≡ worker) × IsMasked mask c) pipe has_job self.old self.new }
+    {
+        if is_masked(mask, worker) {
+            self.tell_one(worker, pipe, has_job);
+        }
+    }
+
+    /// Tells the caller's line.
+    fn tell_one(&mut self, caller: u32, pipe: u64, has_job: bool)
+        ensures { OwnAreTold (λ c. c ≡ caller) pipe has_job self.old self.new }
+    {
+        let Some(own) = self.own.get_mut(&caller) else {
+            return;
+        };
+        own.line.set(pipe, has_job);
     }
 
     /// Tells the callers' own lines which of them a pad with a new mask admits. No memory is taken.
@@ -182,7 +254,26 @@ impl JobLines {
         ensures queues { self.new.queues ≡ self.old.queues }
         ensures own { (caller : ℕ) → IsReadmitted pipe place.now caller (line_of caller self.old.own) (line_of caller self.new.own) }
     {
-        readmit_all(&mut self.own, pipe, place);
+        self.expel_workers(pipe, place);
+        self.tell_own(pipe, place, place.stage.may_serve());
+    }
+
+    /// A pad is no member any more of the lines of the workers that it doesn't admit.
+    fn expel_workers<J: Drop, F: Drop>(&mut self, pipe: u64, place: &Pipeline<J, F>)
+        ensures { LetsGo pipe place.now self.old self.new }
+    {
+        for before in 0..WORKERS {
+            self.expel(before + 1, pipe, place);
+        }
+    }
+
+    /// The pad is no member of the worker's line any more, where it doesn't admit that worker.
+    fn expel<J: Drop, F: Drop>(&mut self, worker: u32, pipe: u64, place: &Pipeline<J, F>)
+        ensures { LetsGo pipe place.now self.old self.new }
+    {
+        if !place.admits(worker) {
+            self.leave_own(worker, pipe);
+        }
     }
 
     /// Finds a pipeline of which this caller may take a job. Queues, and pads and chains, have their turns at being looked for first.
@@ -195,10 +286,9 @@ impl JobLines {
         ensures ready { AreReady (places pipes.now) self.new }
         ensures next { Finds (HasJobFor caller) (places pipes.now) result }
     {
-        let Some(place) = place_of(&self.own, caller) else {
+        let Some(own) = self.own.get_mut(&caller) else {
             return next_for(pipes, &mut self.queues, caller);
         };
-        let own = &mut self.own[place];
         own.queue_first = !own.queue_first;
         if own.queue_first {
             next_of(pipes, &mut self.queues, &mut own.line, caller)
@@ -223,57 +313,4 @@ fn next_of<J: Drop, F: Drop>(
         return Some(k);
     }
     next_for(pipes, second, caller)
-}
-
-/// Where a caller's own line stands.
-fn place_of(own: &[OwnLine], caller: u32) -> Option<usize>
-    ensures { result ≡ position_from (is_line_of caller) 0 own.now }
-{
-    own.iter().position(|line| line.caller == caller)
-}
-
-/// The pipeline is a member of no line any more.
-fn leave_all(own: &mut [OwnLine], pipe: u64)
-    ensures { AreMade (KeepsOthers pipe) own.old own.new }
-{
-    for each in own.iter_mut() {
-        each.line.leave(pipe);
-    }
-}
-
-/// Gives back the lines that aren't kept. The others stay in their order.
-fn give_back(own: &mut Vec<OwnLine>)
-    ensures { AreMade Keeps own.old.items own.new.items }
-{
-    own.retain(OwnLine::is_kept);
-}
-
-/// Sets the pipeline in each line of which it is a member where it has a job, and otherwise takes it out.
-fn set_all(own: &mut [OwnLine], pipe: u64, has_job: bool)
-    ensures { AreMade (IsTold pipe false has_job) own.old own.new }
-{
-    for each in own.iter_mut() {
-        each.line.set(pipe, has_job);
-    }
-}
-
-/// The pipeline stays a member of the lines of those that it admits, and stands there where it has a job.
-fn readmit_all<J: Drop, F: Drop>(own: &mut [OwnLine], pipe: u64, place: &Pipeline<J, F>)
-    ensures { (caller : ℕ) → IsReadmitted pipe place.now caller (line_of caller own.old) (line_of caller own.new) }
-{
-    for each in own.iter_mut() {
-        readmit(each, pipe, place);
-    }
-}
-
-/// The pipeline stays a member of the line where it admits the caller, and stands there where it has a job.
-fn readmit<J: Drop, F: Drop>(own: &mut OwnLine, pipe: u64, place: &Pipeline<J, F>)
-    ensures caller { own.new.caller ≡ own.old.caller }
-    ensures line { IsReadmitted pipe place.now own.old.caller own.old.line own.new.line }
-{
-    if place.admits(own.caller) {
-        own.line.set(pipe, place.stage.may_serve());
-    } else {
-        own.line.leave(pipe);
-    }
 }

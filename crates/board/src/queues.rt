@@ -59,7 +59,7 @@ impl<W: Work> BoardCore<W> {
             answer,
         });
         self.owed += more;
-        self.ready.tell(pipe, had_job, has_job);
+        self.ready.tell(pipe, place, had_job, has_job);
         self.passing.set(pipe, may_pass);
         Ok(answer)
     }
@@ -80,7 +80,7 @@ impl<W: Work> BoardCore<W> {
         let has_job = place.stage.may_serve();
         let may_pass = place.stage.may_pass();
         self.log.push_reserved(BoardEntry::Hold { caller, pipe });
-        self.ready.tell(pipe, had_job, has_job);
+        self.ready.tell(pipe, place, had_job, has_job);
         self.passing.set(pipe, may_pass);
         Ok(())
     }
@@ -101,7 +101,7 @@ impl<W: Work> BoardCore<W> {
         let has_job = place.stage.may_serve();
         let may_pass = place.stage.may_pass();
         self.log.push_reserved(BoardEntry::Go { caller, pipe });
-        self.ready.tell(pipe, had_job, has_job);
+        self.ready.tell(pipe, place, had_job, has_job);
         self.passing.set(pipe, may_pass);
         Ok(())
     }

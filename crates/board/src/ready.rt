@@ -116,7 +116,7 @@ impl Ready {
     /// so: while jobs are taken as soon as they come, no line changes then, and none has to pass from one processor to the next. No memory
     /// is taken.
     pub(crate) fn set(&mut self, pipe: u64, ready: bool)
-        ensures { IsTold pipe false ready self.old self.new }
+        ensures { IsTold (IsMember self.old pipe) pipe false ready self.old self.new }
     {
         if ready {
             self.add(pipe);

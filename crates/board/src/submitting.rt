@@ -58,7 +58,7 @@ impl<W: Work> BoardCore<W> {
             ask,
         });
         self.owed += 2;
-        self.ready.tell(pipe, had_job, true);
+        self.ready.tell(pipe, place, had_job, true);
         Ok(number)
     }
 

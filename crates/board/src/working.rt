@@ -62,7 +62,7 @@ impl<W: Work> BoardCore<W> {
         let has_job = place.stage.may_serve();
         self.log.push_reserved(entry);
         self.owed -= 1;
-        self.ready.tell(pipe, true, has_job);
+        self.ready.tell(pipe, place, true, has_job);
         Some(Taken {
             slip: Slip { pipe, number },
             job,
@@ -85,7 +85,7 @@ impl<W: Work> BoardCore<W> {
         let entry = place.stage.finish_entry(caller, pipe, number);
         self.log.push_reserved(entry);
         self.owed -= 1;
-        self.ready.tell(pipe, had_job, has_job);
+        self.ready.tell(pipe, place, had_job, has_job);
     }
 
     /// The first request of a chain's line goes on to its pad, where the chain isn't held. False exactly where there is no such
@@ -111,7 +111,7 @@ impl<W: Work> BoardCore<W> {
             started,
         });
         self.owed -= 1;
-        self.ready.tell(pipe, had_job, has_job);
+        self.ready.tell(pipe, place, had_job, has_job);
         self.passing.set(pipe, may_pass);
         true
     }

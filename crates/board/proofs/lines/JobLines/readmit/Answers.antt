@@ -1,8 +1,7 @@
-use Rattle.std.proofs.Common.{◌∙◌, ap, length}
-use Rattle.board.proofs.LinesHold.{given_back}
+use Rattle.board.proofs.KeptLines.{says}
+use Rattle.board.proofs.LinesMade.{readmitted}
 use Rattle.board.proofs.lines.JobLines.readmit.Goals as goal
 
 pub returns-clause-own : goal.returns-clause-own
 returns-clause-own g c caller =
-    let back = given_back c.self.inside.own.items c.readmit_all.new.own c.self.inside.own.len (c.readmit_all.auto.own ∙ ap length c.deref_mut.ensures.value) c.self.inside.own.ok.0 in
-    rw (← c.self.view_is, back, ← c.deref_mut.ensures.value) (c.readmit_all.ensures caller)
+    readmitted c.args.pipe c.args.place.now c.may_serve.result c.args.self.now c.expel_workers.new.self c.tell_own.new.self (says c.args.place.now.stage c.may_serve.result c.may_serve.ensures) c.expel_workers.ensures c.tell_own.ensures caller

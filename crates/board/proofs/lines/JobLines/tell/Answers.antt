@@ -1,12 +1,12 @@
-use Rattle.std.proofs.Common.{◌∙◌, ap, length}
-use Rattle.board.specs.Lines.{line_of}
-use Rattle.board.proofs.LinesHold.{told_anew, given_back}
+use Rattle.std.proofs.Common.{◌∙◌, sym}
+use Rattle.board.specs.Lines.{LinesOf}
+use Rattle.board.proofs.LinesMade.{queue_told, own_told}
 use Rattle.board.proofs.lines.JobLines.tell.Goals as goal
 
-pub returns-then-had_job-has_job : goal.returns-then-had_job-has_job
-returns-then-had_job-has_job c =
-    let back = given_back c.self.inside.own.items c.set_all.new.own c.self.inside.own.len (c.set_all.auto.own ∙ ap length c.deref_mut.ensures.value) c.self.inside.own.ok.0 in
-    rw (← c.self.view_is) (
-      told_anew c.args.pipe c.args.had_job c.args.has_job c.self.inside.queues c.set.new.self c.set.ensures,
-      λ caller. rw (back, ← c.deref_mut.ensures.value) (told_anew c.args.pipe c.args.had_job c.args.has_job (line_of caller c.deref_mut.result.now) (line_of caller c.set_all.new.own) (c.set_all.ensures caller)),
-    )
+pub returns-then-is_queue : goal.returns-then-is_queue
+returns-then-is_queue g c =
+    let lines : LinesOf = record { queues = c.self.inside.queues; own = c.self.inside.own.entries } in
+    rw (← c.self.view_is) (queue_told c.args.pipe c.args.place.now c.args.had_job c.args.has_job lines c.set.new.self (sym c.is_queue.ensures ∙ c.if-is_queue.true) c.set.ensures)
+
+pub returns-else-is_queue : goal.returns-else-is_queue
+returns-else-is_queue g c = own_told c.args.pipe c.args.place.now c.args.had_job c.args.has_job c.args.self.now c.tell_own.new.self (sym c.is_queue.ensures ∙ c.if-is_queue.false) c.tell_own.ensures

@@ -4,5 +4,6 @@ pub returns-then-ready : goal.returns-then-ready
 returns-then-ready c = record {
   others = λ p n. c.add.ensures.kept p;
   member = λ m. (c.add.ensures.kept c.args.pipe).0 m;
-  in_line = λ r w m. c.add.ensures.added m;
+  stays = λ r s. (c.add.ensures.kept c.args.pipe).1 s;
+  in_line = λ s r w m. c.add.ensures.added m;
 }
