@@ -1,10 +1,13 @@
 //! The rounds of eight blocks, of eight messages, each in a lane of vectors.
 
-ghost use Rattle.std.specs.Prelude.{◌≡◌, ℕ, ◌+◌, ◌*◌, ◌<◌, ◌≤◌, List, length, slice_index};
+ghost use Rattle.std.specs.Prelude.{◌≡◌, ℕ, ◌+◌, ◌<◌, ◌≤◌, List, length, slice_index};
 ghost use Rattle.sha2.specs.Sha256.{add32, add_state, big_sigma0, big_sigma1, ch, compress, maj, round, rounds, schedule};
-ghost use Rattle.sha_lanes.specs.Lanes.{block_at, in_lane, keyed_words};
+ghost use Rattle.sha_lanes.specs.Lanes.{block_at, in_lane};
+ghost use Rattle.sha_lanes.specs.Words.{IsRoundsAt};
 
-use crate::lanes::{rotated, write_eight};
+use crate::constants::ROUND_CONSTANTS;
+use crate::lanes::{next_row, rotated};
+use crate::transposed::eight_rows;
 use std::simd::prelude::*;
 
 /// The sum of each lane, with the carry dropped.
@@ -86,51 +89,92 @@ fn added(state: [u32x8; 8], v: [u32x8; 8]) -> [u32x8; 8]
     ]
 }
 
-/// Round `t` of all blocks.
+/// Round `t` of all blocks with the word of each, which is kept for the words behind it.
 #[inline(always)]
-fn step(rows: &[[u32; 8]; 64], v: [u32x8; 8], t: usize) -> [u32x8; 8]
+fn step(rows: &mut [[u32; 8]; 64], v: [u32x8; 8], t: usize, words: u32x8) -> [u32x8; 8]
     requires { t < 64 }
-    ensures { (n : ℕ) (h b : List ℕ) → n < 8 → in_lane rows.now n ≡ keyed_words b → in_lane v n ≡ rounds h (schedule b 48) t → in_lane result n ≡ rounds h (schedule b 48) (t + 1) }
+    ensures { (n : ℕ) (h b : List ℕ) → n < 8 → slice_index words n ≡ slice_index (schedule b 48) t
+        → IsRoundsAt h b (in_lane rows.old n) (in_lane v n) t → IsRoundsAt h b (in_lane rows.new n) (in_lane result n) (t + 1) }
 {
-    round(v, u32x8::from_array(rows[t]))
+    rows[t] = words.to_array();
+    round(v, sum(words, u32x8::splat(ROUND_CONSTANTS[t])))
 }
 
-/// Eight rounds from `t` on, after which each working variable is in its place again.
+/// One of the rounds behind the first 16, whose words come from those before them.
 #[inline(always)]
-fn eight_steps(rows: &[[u32; 8]; 64], v: [u32x8; 8], t: usize) -> [u32x8; 8]
-    requires { t + 8 ≤ 64 }
-    ensures { (n : ℕ) (h b : List ℕ) → n < 8 → in_lane rows.now n ≡ keyed_words b → in_lane v n ≡ rounds h (schedule b 48) t → in_lane result n ≡ rounds h (schedule b 48) (t + 8) }
+fn next_step(rows: &mut [[u32; 8]; 64], v: [u32x8; 8], t: usize) -> [u32x8; 8]
+    requires from { 16 ≤ t }
+    requires to { t < 64 }
+    ensures { (n : ℕ) (h b : List ℕ) → n < 8 → IsRoundsAt h b (in_lane rows.old n) (in_lane v n) t
+        → IsRoundsAt h b (in_lane rows.new n) (in_lane result n) (t + 1) }
 {
-    let v = step(rows, v, t);
-    let v = step(rows, v, t + 1);
-    let v = step(rows, v, t + 2);
-    let v = step(rows, v, t + 3);
-    let v = step(rows, v, t + 4);
-    let v = step(rows, v, t + 5);
-    let v = step(rows, v, t + 6);
-    step(rows, v, t + 7)
+    let words = next_row(rows, t);
+    step(rows, v, t, words)
 }
 
-/// The working variables behind all rounds.
+/// Eight of the first rounds from `t` on, whose words are the blocks'.
 #[inline(always)]
-fn all_steps(rows: &[[u32; 8]; 64], state: [u32x8; 8]) -> [u32x8; 8]
-    ensures { (n : ℕ) (b : List ℕ) → n < 8 → in_lane rows.now n ≡ keyed_words b → in_lane result n ≡ rounds (in_lane state n) (schedule b 48) 64 }
+fn eight_first_steps(
+    rows: &mut [[u32; 8]; 64],
+    blocks: &[u8],
+    v: [u32x8; 8],
+    t: usize,
+) -> [u32x8; 8]
+    requires blocks { length blocks.now ≡ 512 }
+    requires rounds { t + 8 ≤ 16 }
+    ensures { (n : ℕ) (h : List ℕ) → n < 8 → IsRoundsAt h (block_at blocks.now n) (in_lane rows.old n) (in_lane v n) t
+        → IsRoundsAt h (block_at blocks.now n) (in_lane rows.new n) (in_lane result n) (t + 8) }
 {
-    let mut v = state;
-    for turn in 0..8usize {
-        let next = eight_steps(rows, v, 8 * turn);
+    let words = eight_rows(blocks, t);
+    let v = step(rows, v, t, words[0]);
+    let v = step(rows, v, t + 1, words[1]);
+    let v = step(rows, v, t + 2, words[2]);
+    let v = step(rows, v, t + 3, words[3]);
+    let v = step(rows, v, t + 4, words[4]);
+    let v = step(rows, v, t + 5, words[5]);
+    let v = step(rows, v, t + 6, words[6]);
+    step(rows, v, t + 7, words[7])
+}
+
+/// Eight of the others, after which each working variable is in its place again.
+#[inline(always)]
+fn eight_next_steps(rows: &mut [[u32; 8]; 64], v: [u32x8; 8], t: usize) -> [u32x8; 8]
+    requires from { 16 ≤ t }
+    requires to { t + 8 ≤ 64 }
+    ensures { (n : ℕ) (h b : List ℕ) → n < 8 → IsRoundsAt h b (in_lane rows.old n) (in_lane v n) t
+        → IsRoundsAt h b (in_lane rows.new n) (in_lane result n) (t + 8) }
+{
+    let v = next_step(rows, v, t);
+    let v = next_step(rows, v, t + 1);
+    let v = next_step(rows, v, t + 2);
+    let v = next_step(rows, v, t + 3);
+    let v = next_step(rows, v, t + 4);
+    let v = next_step(rows, v, t + 5);
+    let v = next_step(rows, v, t + 6);
+    next_step(rows, v, t + 7)
+}
+
+/// The working variables behind all rounds, in room for the words.
+#[inline(always)]
+fn all_steps(rows: &mut [[u32; 8]; 64], blocks: &[u8], state: [u32x8; 8]) -> [u32x8; 8]
+    requires { length blocks.now ≡ 512 }
+    ensures { (n : ℕ) → n < 8 → in_lane result n ≡ rounds (in_lane state n) (schedule (block_at blocks.now n) 48) 64 }
+{
+    let v = eight_first_steps(rows, blocks, state, 0);
+    let mut v = eight_first_steps(rows, blocks, v, 8);
+    for turn in 2..8usize {
+        let next = eight_next_steps(rows, v, 8 * turn);
         v = next;
     }
     v
 }
 
-/// Takes a block into each of eight hash values (6.2.2): lane `n` has the value `n`, and the block `n` of the bytes.
+/// Takes a block into each of eight hash values (6.2.2): lane `n` has the value `n`, and the block `n` of the bytes. The words stand in `rows`.
 #[tactic(auto, unfolding(sha2::specs::Sha256::compress))]
 pub fn compress_in_step(state: [u32x8; 8], rows: &mut [[u32; 8]; 64], blocks: &[u8]) -> [u32x8; 8]
     requires { length blocks.now ≡ 512 }
     ensures { (n : ℕ) → n < 8 → in_lane result n ≡ compress (in_lane state n) (block_at blocks.now n) }
 {
-    write_eight(rows, blocks);
-    let v = all_steps(rows, state);
+    let v = all_steps(rows, blocks, state);
     added(state, v)
 }

@@ -66,16 +66,15 @@ fn vector(row: &[u32; 8]) -> u32x8
 
 /// Word `t` of each schedule from those before it.
 #[inline(always)]
-fn next_row(rows: &[[u32; 8]; 64], t: usize) -> [u32; 8]
+pub(crate) fn next_row(rows: &[[u32; 8]; 64], t: usize) -> u32x8
     requires from { 16 ≤ t }
     requires to { t < 64 }
     ensures { result ≡ next_row rows.now t }
 {
-    let sum = lower_sigma1(vector(&rows[t - 2]))
+    lower_sigma1(vector(&rows[t - 2]))
         + vector(&rows[t - 7])
         + lower_sigma0(vector(&rows[t - 15]))
-        + vector(&rows[t - 16]);
-    sum.to_array()
+        + vector(&rows[t - 16])
 }
 
 /// Writes the schedules of eight blocks, with the constants of the rounds added to them: row `t` has the word `t` of each.
@@ -87,7 +86,7 @@ pub(crate) fn write_eight(rows: &mut [[u32; 8]; 64], blocks: &[u8])
         rows[t] = first_row(blocks, t);
     }
     'next: for t in 16..64usize {
-        rows[t] = next_row(rows, t);
+        rows[t] = next_row(rows, t).to_array();
     }
     'keyed: for t in 0..64usize {
         rows[t] = (vector(&rows[t]) + u32x8::splat(ROUND_CONSTANTS[t])).to_array();

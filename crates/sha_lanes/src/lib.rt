@@ -11,6 +11,7 @@ mod lanes;
 mod one_block;
 mod rounds;
 mod standing;
+mod transposed;
 
 pub use hasher::{Sha256, digest_of};
 pub use in_step::compress_in_step;
