@@ -238,7 +238,7 @@ module _ (laws : Laws) (stay : WholeLinesStay) (none : NoWholeLine) (first : Sta
                   let part = cuts (wrote_failed e (error-is (of_output e) WriteFault is)) in (
                     part.1.asked.caller.own,
                     subst (λ ls. Gains x z (IsCutOffAfter first.workers ls (known s'.registry) (known s'.board))) (sym told.1)
-                    (going-cut laws first registry board at.done number x y z s s' at.going said told.0 part),
+                        (going-cut laws first registry board at.done number x y z s s' at.going said told.0 part),
                   );
             };
           }
