@@ -28,13 +28,13 @@ use Rattle.transforms.specs.declared.ask.Ask.{Ask}
 use Rattle.transforms.specs.declared.request.Finished.{Finished}
 use Rattle.script_run.specs.declared.errors.RunError.{RunError}
 use Rattle.script_run.specs.declared.errors.RunError.TheVariants.{ReadFault, WriteFault, TooLong, NoMemory}
-use Rattle.script_run.specs.Answered.{AreAnsweredAfter, BeginsWithTextAfter, AnswersFirst, RunsSource, script_in}
+use Rattle.script_run.specs.Answered.{AreAnsweredAfter, BeginsWithTextAfter, IsCutOffAfter, AnswersFirst, RunsSource, script_in}
 use Rattle.script_run.specs.Laws.{Laws}
-use Rattle.script_run.specs.Runs.{Gains, IsFresh, IsUnshutOrEnds, Writes, Breaks, IsFrontAfter, IsByLinesAfter}
+use Rattle.script_run.specs.Runs.{Gains, IsFresh, IsUnshutOrEnds, Writes, Cuts, Breaks, IsFrontAfter, IsByLinesAfter}
 use Rattle.script_run.specs.Statuses.{of_input, of_output}
 use Rattle.script_run.specs.Text.{is_malformed}
 use Rattle.script_run.proofs.Fronts.{nothing-front}
-use Rattle.script_run.proofs.Going.{Going, goes-same, keeps-same, appends-none, going-begins, going-more, going-breaks, going-end_breaks, going-begun, going-end_begun, going-ends, going-ends_front, going-ends_in_turn, going-ends_own, line_broken-goes, end_broken-goes, end-goes, stopped, stopped-by_lines, going-by_lines, going-end_by_lines, going-ends_by_lines, nothing-by_lines, led-answered}
+use Rattle.script_run.proofs.Going.{Going, goes-same, keeps-same, appends-none, going-begins, going-more, going-breaks, going-end_breaks, going-begun, going-end_begun, going-ends, going-ends_front, going-ends_in_turn, going-ends_own, line_broken-goes, end_broken-goes, end-goes, stopped, stopped-by_lines, going-by_lines, going-end_by_lines, going-ends_by_lines, nothing-by_lines, led-answered, going-cut, going-end_cut}
 use Rattle.script_run.proofs.Readings.{Reading, cut-told, told-whole, cut-all, after-read, after-behind, after-short, failed-whole, too_long-is, too_long-whole, reading-begins, reading-line, reading-end}
 
 -- ---- causes
@@ -53,6 +53,10 @@ read_wrote : (e : InputError) → of_input e ≡ WriteFault → ⊥
 read_wrote input.Failed is = cc
 read_wrote input.NoMemory is = cc
 read_wrote input.TooLong is = cc
+
+wrote_failed : (e : SinkError) → of_output e ≡ WriteFault → e ≡ output.Failed
+wrote_failed output.Failed is = refl
+wrote_failed output.NoMemory is = absurd cc
 
 wrote_read : (e : SinkError) → of_output e ≡ ReadFault → ⊥
 wrote_read output.Failed is = cc
@@ -82,6 +86,7 @@ runs-nothing registry board first left held ready fresh = record {
     malformed = tt;
     first = record { failed = λ e. absurd cc; too_long = (λ e. absurd cc, λ lt. absurd (omega arith)); up_to = λ e. absurd cc; written = λ e. absurd cc; whole = tt };
     own_reads = λ e. elim e [ inl is ↦ absurd cc | inr is ↦ absurd cc ];
+    cut = λ e. absurd cc;
   };
 }
 
@@ -162,6 +167,7 @@ module _ (laws : Laws) (stay : WholeLinesStay) (none : NoWholeLine) (first : Sta
               malformed = tt;
               first = not-read;
               own_reads = λ is. at.going.ready.stands.caller.own;
+              cut = λ is. absurd (read_wrote e (error-is (of_input e) WriteFault is));
             };
           }
 
@@ -193,8 +199,9 @@ module _ (laws : Laws) (stay : WholeLinesStay) (none : NoWholeLine) (first : Sta
           or_none true = refl
           or_none false = refl
 
-      pub runs-broken : (z : Option (List ℕ)) (s' : State) (e : SinkError) → Breaks s s' (Replies (width_of said) (line_dialogue s.workers s.walk number said) s s' []) y z → ((known s'.board).number ≡ 0 → is_shut (known s'.board).seen ≡ false) → RunsSource left left'' first s' (Err (of_output e)) x z
-      runs-broken z s' e breaks unshut =
+      pub runs-broken : (z : Option (List ℕ)) (s' : State) (e : SinkError) → Breaks s s' (Replies (width_of said) (line_dialogue s.workers s.walk number said) s s' []) y z → (e ≡ output.Failed → Cuts (Replies (width_of said) (line_dialogue s.workers s.walk number said) s s' []) y z)
+          → ((known s'.board).number ≡ 0 → is_shut (known s'.board).seen ≡ false) → RunsSource left left'' first s' (Err (of_output e)) x z
+      runs-broken z s' e breaks cuts unshut =
           let told = cut-told place'.ended left left'' all_at (at.done ++ said ∷ []) found.line.0 next-reading.cut in
           let short = after-short stay none place place' left left' left'' at.given at.done at.pending number (Ok (Some said)) at.reading found found.room in
           record {
@@ -227,6 +234,12 @@ module _ (laws : Laws) (stay : WholeLinesStay) (none : NoWholeLine) (first : Sta
                 | inl read ↦ absurd (wrote_read e (error-is (of_output e) ReadFault read))
                 | inr long ↦ absurd (wrote_too_long e (error-is (of_output e) TooLong long))
               ];
+              cut = λ is.
+                  let part = cuts (wrote_failed e (error-is (of_output e) WriteFault is)) in (
+                    part.1.asked.caller.own,
+                    subst (λ ls. Gains x z (IsCutOffAfter first.workers ls (known s'.registry) (known s'.board))) (sym told.1)
+                        (going-cut laws first registry board at.done number x y z s s' at.going said told.0 part),
+                  );
             };
           }
 
@@ -251,8 +264,8 @@ module _ (laws : Laws) (stay : WholeLinesStay) (none : NoWholeLine) (first : Sta
       short-end : 2 ^ 28 < length end_at → ⊥
       short-end = after-short stay none place place' left left' left'' at.given at.done at.pending number (Ok None) at.reading found found.room
 
-      pub runs-end_broken : (z : Option (List ℕ)) (s' : State) (e : SinkError) → Breaks s s' (AnswersEnd s s' []) y z → IsUnshutOrEnds (known s'.board) → RunsSource left left'' first s' (Err (of_output e)) x z
-      runs-end_broken z s' e breaks unshut = record {
+      pub runs-end_broken : (z : Option (List ℕ)) (s' : State) (e : SinkError) → Breaks s s' (AnswersEnd s s' []) y z → (e ≡ output.Failed → EndsShut (known s'.board) × Cuts (AnswersEnd s s' []) y z) → IsUnshutOrEnds (known s'.board) → RunsSource left left'' first s' (Err (of_output e)) x z
+      runs-end_broken z s' e breaks cuts unshut = record {
         given = end_at;
         reads = record { read = end-reading.cut.read; at_end = tt };
         lines = record {
@@ -277,6 +290,9 @@ module _ (laws : Laws) (stay : WholeLinesStay) (none : NoWholeLine) (first : Sta
             | inl read ↦ absurd (wrote_read e (error-is (of_output e) ReadFault read))
             | inr long ↦ absurd (wrote_too_long e (error-is (of_output e) TooLong long))
           ];
+          cut = λ is.
+              let did = cuts (wrote_failed e (error-is (of_output e) WriteFault is)) in
+              (did.1.1.asked.caller.own, going-end_cut laws first registry board at.done number x y z s s' at.going (script_of (script_in left end_at)) all-lines did);
         };
       }
 
@@ -306,5 +322,6 @@ module _ (laws : Laws) (stay : WholeLinesStay) (none : NoWholeLine) (first : Sta
                     (inr (step.0, step.1, (step.0, ([], append-nil step.0), step.2)));
               };
               own_reads = λ e. elim e [ inl is ↦ absurd cc | inr is ↦ absurd cc ];
+              cut = λ e. absurd cc;
             };
           }

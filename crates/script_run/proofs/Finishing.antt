@@ -47,7 +47,7 @@ use Rattle.turn_lock.specs.Passes.{knows}
 use Rattle.turn_lock.specs.Turns.{Known, StartsWith, Each, Shows, of, newcomer}
 use Rattle.script_run.specs.declared.errors.RunError.{RunError}
 use Rattle.script_run.specs.declared.errors.RunError.TheVariants.{NoMemory}
-use Rattle.script_run.specs.Answered.{AreAnswered, BeginsWithText, AreAnsweredAfter, AreAnsweredOn, BeginsWithTextAfter, IsShutAlone, ShutsAlone, RunsSource, AnswersSource, RanSource, script_in}
+use Rattle.script_run.specs.Answered.{AreAnswered, BeginsWithText, AreAnsweredAfter, AreAnsweredOn, BeginsWithTextAfter, IsShutAlone, ShutsAlone, IsCutOff, IsCutOffAfter, IsCutOffOn, RunsSource, AnswersSource, RanSource, script_in}
 use Rattle.script_run.specs.Laws.{Laws, CrewLaws}
 use Rattle.script_run.specs.Endings.{AreCallers, EndsShut as ShutLast, IsShutOnce}
 use Rattle.script_run.specs.Beside.{AreHistories, ScriptRan}
@@ -303,6 +303,26 @@ module _ (workers : ℕ) (p q : Passes Ask) (qb : BoardPass) (s s' : State) (of_
     begins-on : (lines : List Line) (text : List ℕ) → BeginsWithTextAfter s.workers lines (known s'.registry) (known s'.board) text → BeginsWithTextAfter workers lines (knows q.registry) (knows q.board) text
     begins-on lines text after = λ r b from_r from_b. subst (λ w. BeginsWithText w lines r b text) same-workers (after r b (from-registry r from_r) (from-board b from_b))
 
+    cut-on : (lines : List Line) (text : List ℕ) → IsCutOffAfter s.workers lines (known s'.registry) (known s'.board) text → IsCutOffOn workers lines (knows q.registry) (knows q.board) text
+    cut-on lines text (inl in_line) = inl (record {
+      first = in_line.first;
+      last = in_line.last;
+      left = in_line.left;
+      lines_are = in_line.lines_are;
+      whole = in_line.whole;
+      answered = answered-on (in_line.first ++ in_line.last ∷ []) in_line.whole in_line.answered;
+      begins = begins-on in_line.first text in_line.begins;
+      front = in_line.front;
+    })
+    cut-on lines text (inr at_end) =
+        let is = at_end.1 in
+        inr (record {
+          whole = is.whole;
+          is_whole = λ r b from_r from_b. subst (λ w. IsText w (start 0) 0 lines r b is.whole) same-workers (is.is_whole r b (others-registry r from_r) (others-board at_end.0 b from_b));
+          begins = begins-on lines text is.begins;
+          front = is.front;
+        })
+
     abbrev first-ones : List Line
     first-ones = whole_script (take (length run.given - 65536) run.given)
 
@@ -328,6 +348,7 @@ module _ (workers : ℕ) (p q : Passes Ask) (qb : BoardPass) (s s' : State) (of_
             whole = map_ok result (λ g. (g.0, begins-on first-ones g.0 g.1, g.2)) did.first.whole;
           };
           own_reads = λ is. subst (λ k. IsOwn reg_caller k) at_registry (did.own_reads is);
+          cut = λ is. let c = did.cut is in let g = c.1 in (subst (λ k. IsOwn reg_caller k) at_registry c.0, (g.0, cut-on lines g.0 g.1, g.2));
         }
 
 -- ---- what a crew leaves
@@ -528,6 +549,7 @@ not-ran workers left held = record {
   front = nothing_fronted workers left held [] [];
   by_lines = nothing_by_lines workers left held [] [];
   first = nothing-read workers left held [] [];
+  cut = λ e. absurd cc;
   malformed = tt;
   closed = inr (refl, refl, refl);
   histories = no-histories workers;
@@ -583,6 +605,25 @@ module _ (laws : CrewLaws) (workers : ℕ) (left left' : Option (List ℕ)) (fir
     };
   }
 
+  -- what was cut off where a write failed
+  cut-off : (text : List ℕ) → IsOwn reg_caller (knows q.registry) → IsCutOffOn workers lines (knows q.registry) (knows q.board) text → IsCutOff workers lines r b text
+  cut-off text own (inl in_line) = inl (record {
+    first = in_line.first;
+    last = in_line.last;
+    left = in_line.left;
+    lines_are = in_line.lines_are;
+    whole = in_line.whole;
+    answered = in_line.answered r b (on-r own) on-b;
+    begins = in_line.begins r b from-r from-b;
+    front = in_line.front;
+  })
+  cut-off text own (inr at_end) = inr (record {
+    whole = at_end.whole;
+    is_whole = at_end.is_whole r b (on-r own) on-b;
+    begins = at_end.begins r b from-r from-b;
+    front = at_end.front;
+  })
+
   whole-text : Ended workers lines q held held' → Gains held held' (IsText workers (start 0) 0 lines r b)
   whole-text ended = (ended.text.0, ended.text.1 r b (on-r ended.own) on-b, ended.text.2)
 
@@ -610,6 +651,10 @@ module _ (laws : CrewLaws) (workers : ℕ) (left left' : Option (List ℕ)) (fir
     front = if_told (λ script. Gains held held' (IsFrontText workers (start 0) 0 (script_of script) r b)) left source.given (source.answers.front.0, source.answers.front.1 r b from-r from-b, source.answers.front.2);
     by_lines = if_told (λ script. Gains held held' (IsTextByLines workers (script_of script) r b)) left source.given (source.answers.by_lines.0, source.answers.by_lines.1 r b from-r from-b, source.answers.by_lines.2);
     first = ran-source;
+    cut = λ is.
+        let c = source.cut is in
+        let g = c.1 in
+        if_told (λ script. Gains held held' (IsCutOff workers (script_of script) r b)) left source.given (g.0, cut-off g.0 c.0 g.1, g.2);
     malformed = if-ok (λ bad. bad ≡ list_any is_malformed lines) (λ bad. IfSome left (λ script. bad ≡ list_any is_malformed (script_of script))) result
         (λ bad is. if_told (λ script. bad ≡ list_any is_malformed (script_of script)) left source.given is) source.answers.malformed;
     closed = inl (closed-once laws workers first p q l r b run part);

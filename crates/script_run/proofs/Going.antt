@@ -22,7 +22,7 @@ use Rattle.dialogues.specs.Walk.{start}
 use Rattle.dialogues.specs.Widths.{width_of, widest}
 use Rattle.kc_base.specs.Streams.{IsPrefix}
 use Rattle.reply_text.specs.Answers.{text_of}
-use Rattle.script_session.specs.Ending.{AnswersEnd}
+use Rattle.script_session.specs.Ending.{AnswersEnd, EndsShut}
 use Rattle.script_session.specs.Running.{IsReady, Replies}
 use Rattle.script_session.specs.States.{State}
 use Rattle.script_text.specs.declared.commands.Line.{Line}
@@ -37,10 +37,10 @@ use Rattle.transforms.specs.declared.ask.Ask.{Ask}
 use Rattle.transforms.specs.declared.request.Finished.{Finished}
 use Rattle.turn_lock.specs.Meeting.{IsOwn}
 use Rattle.turn_lock.specs.Turns.{Known, StartsWith}
-use Rattle.script_run.specs.Answered.{AreAnsweredAfter, BeginsWithTextAfter, lines_turn}
+use Rattle.script_run.specs.Answered.{AreAnsweredAfter, BeginsWithTextAfter, IsCutOffAfter, lines_turn}
 use Rattle.script_run.specs.Laws.{Laws}
 use Rattle.script_session.specs.Holding.{HasSeenMore}
-use Rattle.script_run.specs.Runs.{Gains, GoesOn, IsFresh, Writes, Breaks, IsTextAfter, IsFrontAfter, IsByLinesAfter, InTurnAfter}
+use Rattle.script_run.specs.Runs.{Gains, GoesOn, IsFresh, Writes, Cuts, Breaks, IsTextAfter, IsFrontAfter, IsByLinesAfter, InTurnAfter}
 use Rattle.script_run.proofs.Fronts.{front-lines, front-text, nothing-front, widest-front, widest-last}
 use Rattle.script_run.proofs.Following.{starts-trans, sees-same, sees-then, reg_calls-on, board_calls-on, reg_calls-same, board_calls-same, in_turn-on}
 
@@ -444,6 +444,48 @@ module _ (laws : Laws) (first : State) where
           let written = part.2 in (
             text_in t ++ written.0,
             end-by_lines done number s going.led lines s' part.0 none part.1 (text_in t ++ written.0) (ended-goes s s' [] part.0 part.1) (written.0, refl) (front-later (text_in t) part.0 written.0 written.1),
+            Appends-trans x y z (text_in t) written.0 going.written written.2,
+          )
+
+      -- a write that failed cuts the text off in a line, or at the end of input
+      abbrev CutOff : List Line → Type 0
+      CutOff lines = Gains x z (IsCutOffAfter first.workers lines (known s'.registry) (known s'.board))
+
+      pub going-cut : (line : Line) (left : List Line) → Cuts (Replies (width_of line) (line_dialogue s.workers s.walk number line) s s' []) y z → CutOff ((done ++ line ∷ []) ++ left)
+      going-cut line left part =
+          let m = led-more done number s going.led line s' part.0 part.1 in
+          let goes = replied-goes (width_of line) (line_dialogue s.workers s.walk number line) s s' [] part.0 part.1 in
+          let written = part.2 in
+          let text = text_in t ++ written.0 in (
+            text,
+            inl (record {
+              first = done;
+              last = line;
+              left = left;
+              lines_are = refl;
+              whole = text_in m.0.turn;
+              answered = led-answered (done ++ line ∷ []) (number + 1) s' m.0;
+              begins = led-begins_with done number s going.led done s' text ([], sym (append-nil done)) goes (written.0, refl);
+              front = subst (IsPrefix text) (sym m.1) (front-later (text_in t) part.0 written.0 written.1);
+            }),
+            Appends-trans x y z (text_in t) written.0 going.written written.2,
+          )
+
+      pub going-end_cut : (lines : List Line) → lines ≡ done → EndsShut (known s'.board) × Cuts (AnswersEnd s s' []) y z → CutOff lines
+      going-end_cut lines none did =
+          let part = did.1 in
+          let written = part.2 in
+          let text = text_in t ++ written.0 in (
+            text,
+            inr (
+              did.0,
+              record {
+                whole = text_in t ++ part.0;
+                is_whole = end-text done number s going.led lines s' part.0 none part.1;
+                begins = led-begins_with done number s going.led lines s' text ([], sym none ∙ sym (append-nil lines)) (ended-goes s s' [] part.0 part.1) (written.0, refl);
+                front = front-later (text_in t) part.0 written.0 written.1;
+              },
+            ),
             Appends-trans x y z (text_in t) written.0 going.written written.2,
           )
 

@@ -12,6 +12,7 @@ use Rattle.dialogues.specs.BoardCalls.{BoardCall, Shuts, board_calls}
 use Rattle.dialogues.specs.Dialogues.{Ends}
 use Rattle.dialogues.specs.Lines.{lines_dialogue}
 use Rattle.dialogues.specs.RegistryCalls.{RegCall, reg_calls, AllSettled}
+use Rattle.dialogues.specs.Texts.{IsText}
 use Rattle.dialogues.specs.Turns.{Turn, turn_of, text_in}
 use Rattle.dialogues.specs.Walk.{start}
 use Rattle.kc_base.specs.Streams.{IsPrefix}
@@ -54,6 +55,34 @@ pub record BeginsWithText (workers : ℕ) (lines : List Line) (r : List RegEntry
   pub ended : IsSome (lines_turn workers lines r b).after
   pub front : IsPrefix (text_in (lines_turn workers lines r b)) text
 
+-- ---- where a write failed
+
+-- These lines are answered. Of the last one a front is written, and all of those before it.
+pub record CutInLine (AreAll : List Line → List ℕ → Type 0) (BeginsWith : List Line → List ℕ → Type 0) (lines : List Line) (text : List ℕ) : Type 0 where
+  pub first : List Line
+  pub last : Line
+  pub left : List Line
+  pub lines_are : lines ≡ (first ++ last ∷ []) ++ left
+  pub whole : List ℕ
+  pub answered : AreAll (first ++ last ∷ []) whole
+  pub begins : BeginsWith first text
+  pub front : IsPrefix text whole
+
+-- All lines and the end of input are answered. Of the end a front is written, and all of the lines.
+pub record CutInEnd (IsWhole : List ℕ → Type 0) (BeginsWith : List Line → List ℕ → Type 0) (lines : List Line) (text : List ℕ) : Type 0 where
+  pub whole : List ℕ
+  pub is_whole : IsWhole whole
+  pub begins : BeginsWith lines text
+  pub front : IsPrefix text whole
+
+-- The text was cut off in a line, or at the end of input. The script made the calls of what is answered, and no others but the shut.
+abbrev pub IsCutOff : ℕ → List Line → List RegEntry → List (BoardEntry Ask) → List ℕ → Type 0
+IsCutOff workers lines r b text =
+    CutInLine (λ first. AreAnswered workers first r b) (λ first. BeginsWithText workers first r b) lines text
+    ⊎ CutInEnd (IsText workers (start 0) 0 lines r b) (λ first. BeginsWithText workers first r b) lines text
+
+-- ---- a source
+
 -- the source has given bytes of which this holds
 abbrev pub Gives : Option (List ℕ) → Option (List ℕ) → (List ℕ → Type 0) → Type 0
 Gives old new P = (given : List ℕ) × P given × Consumes old new given
@@ -75,10 +104,21 @@ abbrev pub BeginsWithTextAfter : ℕ → List Line → Known RegEntry → Known 
 BeginsWithTextAfter workers lines k l text =
     (r : List RegEntry) (b : List (BoardEntry Ask)) → StartsWith r k.seen → StartsWith b l.seen → BeginsWithText workers lines r b text
 
+-- of a session: the board is shut after its lines, or it has shut it last
+abbrev pub IsCutOffAfter : ℕ → List Line → Known RegEntry → Known (BoardEntry Ask) → List ℕ → Type 0
+IsCutOffAfter workers lines k l text =
+    CutInLine (λ first. AreAnsweredAfter workers first k l) (λ first. BeginsWithTextAfter workers first k l) lines text
+    ⊎ (EndsShut l × CutInEnd (IsTextAfter workers lines k l) (λ first. BeginsWithTextAfter workers first k l) lines text)
+
 -- where others alone follow
 abbrev pub AreAnsweredOn : ℕ → List Line → Known RegEntry → Known (BoardEntry Ask) → List ℕ → Type 0
 AreAnsweredOn workers lines k l text =
     (r : List RegEntry) (b : List (BoardEntry Ask)) → OthersFollow reg_caller k r → OthersFollow board_caller l b → AreAnswered workers lines r b text
+
+abbrev pub IsCutOffOn : ℕ → List Line → Known RegEntry → Known (BoardEntry Ask) → List ℕ → Type 0
+IsCutOffOn workers lines k l text =
+    CutInLine (λ first. AreAnsweredOn workers first k l) (λ first. BeginsWithTextAfter workers first k l) lines text
+    ⊎ CutInEnd (IsTextAfter workers lines k l) (λ first. BeginsWithTextAfter workers first k l) lines text
 
 -- a pass has seen entries of others, and then maybe the shut of the board, its own
 abbrev pub ShutsAlone : (BoardEntry Ask → ℕ) → Known (BoardEntry Ask) → Known (BoardEntry Ask) → Type 0
@@ -114,6 +154,7 @@ pub record RunsLines (lines : List Line) (given : List ℕ) (s s' : State) (resu
   pub malformed : IfOk result (λ bad. bad ≡ list_any is_malformed lines)
   pub first : AnswersFirst (λ first. AreAnsweredAfter s.workers first (known s'.registry) (known s'.board)) (λ first. BeginsWithTextAfter s.workers first (known s'.registry) (known s'.board)) given result held held'
   pub own_reads : IsErrOf result ReadFault ⊎ IsErrOf result TooLong → IsOwn reg_caller (known s'.registry)
+  pub cut : IsErrOf result WriteFault → IsOwn reg_caller (known s'.registry) × Gains held held' (IsCutOffAfter s.workers lines (known s'.registry) (known s'.board))
 
 pub record RunsSource (left left' : Option (List ℕ)) (s s' : State) (result : Result Bool RunError) (held held' : Option (List ℕ)) : Type 0 where
   pub given : List ℕ
@@ -127,6 +168,7 @@ pub record AnswersSource (workers : ℕ) (left left' : Option (List ℕ)) (p q :
   pub answers : Answers workers (script_of (script_in left given)) p q result held held'
   pub first : AnswersFirst (λ first. AreAnsweredOn workers first (knows q.registry) (knows q.board)) (λ first. BeginsWithTextAfter workers first (knows q.registry) (knows q.board)) given result held held'
   pub own_reads : IsErrOf result ReadFault ⊎ IsErrOf result TooLong → IsOwn reg_caller (knows q.registry)
+  pub cut : IsErrOf result WriteFault → IsOwn reg_caller (knows q.registry) × Gains held held' (IsCutOffOn workers (script_of (script_in left given)) (knows q.registry) (knows q.board))
 
 -- The histories have what was answered of the bytes that a source gave.
 pub record RanSource (workers : ℕ) (left left' : Option (List ℕ)) (r : List RegEntry) (b : List (BoardEntry Ask)) (result : Result Bool RunError) (held held' : Option (List ℕ)) : Type 0 where

@@ -1,5 +1,5 @@
 -- What a whole run beside workers leaves.
-use Rattle.std.specs.Prelude.{◌≡◌, ◌⊎◌, ℕ, Bool, List, [], Option, Some, Result, Err, OnOk, IfOk, IfSome}
+use Rattle.std.specs.Prelude.{◌≡◌, ◌⊎◌, ℕ, Bool, List, [], Option, Some, Result, Err, OnOk, IfOk, IfSome, IsErrOf}
 use Rattle.std.specs.List.{list_any}
 use Rattle.alg_registry.specs.declared.entry.RegEntry.{RegEntry}
 use Rattle.alg_registry.specs.Legal.{LegalReg}
@@ -16,8 +16,8 @@ use Rattle.settled_scripts.specs.Settled.{IsSettled, plain_text}
 use Rattle.templates.specs.Table.{table}
 use Rattle.transforms.specs.declared.ask.Ask.{Ask}
 use Rattle.script_run.specs.declared.errors.RunError.{RunError}
-use Rattle.script_run.specs.declared.errors.RunError.TheVariants.{NoMemory}
-use Rattle.script_run.specs.Answered.{RanSource}
+use Rattle.script_run.specs.declared.errors.RunError.TheVariants.{NoMemory, WriteFault}
+use Rattle.script_run.specs.Answered.{RanSource, IsCutOff}
 use Rattle.script_run.specs.ByLines.{IsTextByLines}
 use Rattle.script_run.specs.Endings.{AreCallers, EndsShut, IsShutOnce}
 use Rattle.script_run.specs.Runs.{Gains, InTurn}
@@ -40,6 +40,7 @@ pub record ScriptRan (workers : ℕ) (left left' : Option (List ℕ)) (r : List 
   pub front : IfSome left (λ script. Gains held held' (IsFrontText workers (start 0) 0 (script_of script) r b))
   pub by_lines : IfSome left (λ script. Gains held held' (IsTextByLines workers (script_of script) r b))
   pub first : RanSource workers left left' r b result held held'
+  pub cut : IsErrOf result WriteFault → IfSome left (λ script. Gains held held' (IsCutOff workers (script_of script) r b))
   pub malformed : IfOk result (λ bad. IfSome left (λ script. bad ≡ list_any is_malformed (script_of script)))
   pub closed : IsShutOnce workers b ⊎ ((result ≡ Err NoMemory) × (r ≡ []) × (b ≡ []))
   pub histories : AreHistories workers r b

@@ -70,10 +70,13 @@ OthersFollow {E} by k h = (rest : List E) × (h ≡ k.seen ++ rest) × (of by k.
 abbrev pub Writes : (List ℕ → Type 0) → Option (List ℕ) → Option (List ℕ) → Type 0
 Writes IsReply held held' = (reply : List ℕ) × IsReply reply × Appends held held' reply
 
+-- such a reply was made, and written in part
+abbrev pub Cuts : (List ℕ → Type 0) → Option (List ℕ) → Option (List ℕ) → Type 0
+Cuts IsReply held held' = (reply : List ℕ) × IsReply reply × AppendsFront held held' reply
+
 -- the session went on, and nothing was written; or such a reply was made, and written in part
 abbrev pub Breaks : State → State → (List ℕ → Type 0) → Option (List ℕ) → Option (List ℕ) → Type 0
-Breaks s s' IsReply held held' =
-    (GoesOn s s' × Keeps held held') ⊎ ((reply : List ℕ) × IsReply reply × AppendsFront held held' reply)
+Breaks s s' IsReply held held' = (GoesOn s s' × Keeps held held') ⊎ Cuts IsReply held held'
 
 -- ---- the text, however the histories go on
 

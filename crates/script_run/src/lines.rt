@@ -13,7 +13,7 @@ ghost use Rattle.script_session.specs.Ending.{AnswersEnd, EndsShut};
 ghost use Rattle.script_run.specs.Text.{is_malformed};
 ghost use Rattle.script_run.specs.Laws.{Laws};
 ghost use Rattle.script_run.specs.Answered.{RunsSource};
-ghost use Rattle.script_run.specs.Runs.{GoesOn, Writes, Breaks, IsFresh, IsUnshutOrEnds};
+ghost use Rattle.script_run.specs.Runs.{GoesOn, Writes, Cuts, Breaks, IsFresh, IsUnshutOrEnds};
 
 use crate::errors::RunError;
 use crew::Gate;
@@ -138,6 +138,8 @@ fn run_line<K: Sink, G: Gate, R: Threads + Wait + Sync>(
     ensures done { MatchResult result
         (λ _. Writes (Replies (width_of line) (line_dialogue session.old.workers session.old.walk number line) session.old session.new []) (K.held out.old) (K.held out.new))
         (λ _. Breaks session.old session.new (Replies (width_of line) (line_dialogue session.old.workers session.old.walk number line) session.old session.new []) (K.held out.old) (K.held out.new)) }
+    ensures cut { IsErrOf result SinkError.Failed →
+        Cuts (Replies (width_of line) (line_dialogue session.old.workers session.old.walk number line) session.old session.new []) (K.held out.old) (K.held out.new) }
     ensures ready { OnOk result (IsReady registry.now board.now session.new) }
     ensures unshut { (known session.new.board).number ≡ 0 → is_shut (known session.new.board).seen ≡ false }
     ensures malformed { IfOk result (λ bad. bad ≡ is_malformed line) }
@@ -164,6 +166,8 @@ fn run_end<K: Sink, G: Gate, R: Wait>(
     ensures done { MatchResult result
         (λ _. Writes (AnswersEnd session.old session.new []) (K.held out.old) (K.held out.new))
         (λ _. Breaks session.old session.new (AnswersEnd session.old session.new []) (K.held out.old) (K.held out.new)) }
+    ensures cut { IsErrOf result SinkError.Failed →
+        EndsShut (known session.new.board) × Cuts (AnswersEnd session.old session.new []) (K.held out.old) (K.held out.new) }
     ensures shut { OnOk result (EndsShut (known session.new.board)) }
     ensures unshut { IsUnshutOrEnds (known session.new.board) }
     ensures later { K.faults out.old ≤ K.faults out.new }

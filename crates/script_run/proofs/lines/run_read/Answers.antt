@@ -1,4 +1,4 @@
-use Rattle.std.proofs.Common.{Ok, ap, subst, arith}
+use Rattle.std.proofs.Common.{Ok, Err, ap, subst, arith}
 use Rattle.std.proofs.lemmas.Result.{err_from_is_err_and}
 use Rattle.script_text.specs.NextLine.{FindsNext}
 use Rattle.script_run.proofs.Exits.{running-begins, running-more, runs-unread, runs-broken, runs-end_broken, runs-whole}
@@ -33,7 +33,7 @@ returns-in_err-bad-clause-run g c =
     let p = err_from_is_err_and c.from_residual-in_err-bad.result c.from_residual-in_err-bad.ensures.1 in
     rw (p.1, p.2)
     (runs-broken c.laws.ensures c.whole_lines_stay.ensures.stay c.whole_lines_stay.ensures.none c.args.session.now c.args.registry.now c.args.board.now
-    c.loop-line.number c.loop-line.reader c.next.new.self (left c.args.src.now) (left c.loop-line.src) (left c.next.new.src) (held c.args.out.now) (held c.loop-line.out) c.loop-line.malformed c.loop-line.session at c.in-Some.line found (held c.run_line.new.out) c.run_line.new.session c.in_err-bad.field-0.0 c.in_err-bad.ensures.done c.run_line.ensures.unshut)
+    c.loop-line.number c.loop-line.reader c.next.new.self (left c.args.src.now) (left c.loop-line.src) (left c.next.new.src) (held c.args.out.now) (held c.loop-line.out) c.loop-line.malformed c.loop-line.session at c.in-Some.line found (held c.run_line.new.out) c.run_line.new.session c.in_err-bad.field-0.0 c.in_err-bad.ensures.done (λ is. c.in_err-bad.ensures.cut (ap (λ x. Err x) is)) c.run_line.ensures.unshut)
 
 pub loop-line-preserved : goal.loop-line-preserved
 loop-line-preserved g c =
@@ -58,7 +58,7 @@ returns-in_err-run_end-clause-run g c =
     let p = err_from_is_err_and c.from_residual-in_err-run_end.result c.from_residual-in_err-run_end.ensures.1 in
     rw (p.1, p.2)
     (runs-end_broken c.laws.ensures c.whole_lines_stay.ensures.stay c.whole_lines_stay.ensures.none c.args.session.now c.args.registry.now c.args.board.now
-    c.loop-line.number c.loop-line.reader c.next.new.self (left c.args.src.now) (left c.loop-line.src) (left c.next.new.src) (held c.args.out.now) (held c.loop-line.out) c.loop-line.malformed c.loop-line.session at found (held c.run_end.new.out) c.run_end.new.session c.in_err-run_end.field-0.0 c.in_err-run_end.ensures.done c.run_end.ensures.unshut)
+    c.loop-line.number c.loop-line.reader c.next.new.self (left c.args.src.now) (left c.loop-line.src) (left c.next.new.src) (held c.args.out.now) (held c.loop-line.out) c.loop-line.malformed c.loop-line.session at found (held c.run_end.new.out) c.run_end.new.session c.in_err-run_end.field-0.0 c.in_err-run_end.ensures.done (λ is. c.in_err-run_end.ensures.cut (ap (λ x. Err x) is)) c.run_end.ensures.unshut)
 
 pub returns-clause-run : goal.returns-clause-run
 returns-clause-run g c =

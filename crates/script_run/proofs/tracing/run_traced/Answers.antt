@@ -1,5 +1,6 @@
 use Rattle.std.proofs.Common.{◌≡◌, inl, inr}
 use Rattle.dialogues.specs.Texts.{IsText}
+use Rattle.script_run.specs.Answered.{IsCutOff}
 use Rattle.script_run.specs.ByLines.{IsTextByLines}
 use Rattle.script_run.specs.Fronts.{IsFrontText}
 use Rattle.dialogues.specs.Walk.{start}
@@ -9,7 +10,7 @@ use Rattle.trace_text.specs.Asks.{ask_origin}
 use Rattle.trace_text.specs.Trace.{FitTypes}
 use Rattle.script_run.specs.Endings.{CanBeRead, traced}
 use Rattle.script_run.specs.declared.errors.RunError.TheVariants.{NoMemory}
-use Rattle.script_run.proofs.Traced.{then-ok, then-both, then-if, then-gains, then-gains_if, then-front, then-ran, stays}
+use Rattle.script_run.proofs.Traced.{then-ok, then-both, then-if, then-gains, then-gains_if, then-front, then-cut, then-ran, stays}
 use Rattle.script_run.proofs.tracing.run_traced.Goals as goal
 
 pub returns-clause-whole : goal.returns-clause-whole
@@ -62,6 +63,17 @@ returns-clause-by_lines g c =
     (λ script text. IsTextByLines workers (script_of script) ran.registry ran.board text)
     (λ script text. IsText workers (start 0) 0 (script_of script) ran.registry ran.board text)
     c.run_script-answer.ensures.ran.by_lines c.run_script-answer.ensures.ran.whole
+
+pub returns-clause-cut : goal.returns-clause-cut
+returns-clause-cut g c =
+    let held = g.K.Sink.held in
+    let ran = c.run_script-answer.result in
+    let workers = c.args.options.now.workers in
+    then-cut ran.answer c.answer_traced-answer.result (held c.args.out.now) (held c.run_script-answer.new.out) (held c.answer_traced-answer.new.out)
+    (traced c.args.options.now.trace ran.registry ran.board) c.answer_traced-answer.ensures.whole c.answer_traced-answer.ensures.front (g.S.Source.left c.args.src.now)
+    (λ script text. IsCutOff workers (script_of script) ran.registry ran.board text)
+    (λ script text. IsText workers (start 0) 0 (script_of script) ran.registry ran.board text)
+    c.run_script-answer.ensures.ran.cut c.run_script-answer.ensures.ran.whole
 
 pub returns-clause-first : goal.returns-clause-first
 returns-clause-first g c =
