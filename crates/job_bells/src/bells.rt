@@ -1,6 +1,7 @@
 //! The bells, and those who stand at them.
 
 use crate::counted::{Counted, Seen};
+use crate::masked::MaskedPads;
 use crossbeam_utils::sync::{EventCount, Key};
 use crossbeam_utils::{Backoff, CachePadded};
 use std::sync::Wait;
@@ -60,9 +61,12 @@ pub struct JobBells {
     awake: CachePadded<AtomicU64>,
     /// Whether the board may be shut: a hint, for those who look before they take a turn.
     over: AtomicBool,
-    /// Whether some pad was masked, or made with fewer lists than there are workers: then one worker that is woken may not be one
-    /// that may take the job.
-    masked: AtomicBool,
+    /// Whether each job wakes all: some pad was made with fewer lists than there are workers, or more pads were masked at once than
+    /// are told apart. Then one worker that is woken may not be one that may take the job.
+    wakes_all: AtomicBool,
+    masked: MaskedPads,
+    /// How often all were called for something that isn't counted: who stays awake looks then too.
+    called: AtomicU64,
     /// The fewest lists that a pad or a chain was made with.
     fewest_lists: AtomicU64,
     /// The highest number of a worker that found nothing.
@@ -81,7 +85,9 @@ impl JobBells {
             counted: Counted::new(),
             awake: CachePadded::new(AtomicU64::new(0)),
             over: AtomicBool::new(false),
-            masked: AtomicBool::new(false),
+            wakes_all: AtomicBool::new(false),
+            masked: MaskedPads::new(),
+            called: AtomicU64::new(0),
             fewest_lists: AtomicU64::new(u64::from(WORKERS)),
             highest_worker: AtomicU64::new(0),
             queues: AtomicBool::new(false),
@@ -93,10 +99,36 @@ impl JobBells {
     /// unnoticed. (`Count` or `Call`, then `Leave` or `Ring`.)
     pub fn ring_job(&self) {
         let before = self.counted.count();
-        if self.masked.load(Ordering::SeqCst) {
+        if self.wakes_all.load(Ordering::SeqCst) {
             self.jobs.notify_all();
         } else if before >= self.awake.load(Ordering::SeqCst) {
             self.jobs.notify_one();
+        }
+    }
+
+    /// A job of a pad came, which was masked or not as it was put there. Who stays awake may not be one that may take a masked pad's
+    /// job: so that one isn't counted, and all look.
+    pub fn ring_job_of(&self, masked: bool) {
+        if masked {
+            self.ring_all();
+        } else {
+            self.ring_job();
+        }
+    }
+
+    /// All look at the board, who sleep at once and who stay awake soon.
+    pub fn ring_all(&self) {
+        self.called.fetch_add(1, Ordering::SeqCst);
+        self.jobs.notify_all();
+    }
+
+    /// A caller that looked for a job took one, of a masked pad or not. A masked pad's was never counted: so a worker that looked since
+    /// it noticed another, or was woken for it, calls one in its place.
+    pub fn ring_taken(&self, caller: u32, masked: bool) {
+        if masked && is_worker(caller) {
+            self.ring_job();
+        } else {
+            self.ring_next();
         }
     }
 
@@ -116,18 +148,38 @@ impl JobBells {
     }
 
     /// A pad or a chain is made, from which the workers 1 to `lists` may take. Beside a worker of a higher number each job wakes all
-    /// from then on, as after a mask.
+    /// from then on.
     pub fn note_lists(&self, lists: u32) {
         self.fewest_lists
             .fetch_min(u64::from(lists), Ordering::SeqCst);
         self.ring_if_few();
     }
 
-    /// A worker found nothing, and may sleep soon.
+    /// Within a turn: the pad has this mask from now on. `ring_all` comes after the turn.
+    pub fn note_mask(&self, pad: u64, mask: u16) {
+        if !self.masked.set(pad, mask) {
+            self.wakes_all.store(true, Ordering::SeqCst);
+        }
+    }
+
+    /// Within a turn: the pad is closed.
+    pub fn note_close(&self, pad: u64) {
+        self.masked.leave(pad);
+    }
+
+    /// Within a turn, after a job was put into the pad or taken from it: whether its mask leaves some worker out.
+    pub fn is_masked(&self, pad: u64) -> bool {
+        self.masked
+            .is_masked(pad, self.highest_worker.load(Ordering::SeqCst))
+    }
+
+    /// A worker found nothing, and may sleep or stay awake soon. All look once where its number is the highest so far, since a pad's mask
+    /// may leave it out alone: a job that came just before may be left to it.
     fn note_worker(&self, worker: u64) {
         if self.highest_worker.load(Ordering::SeqCst) < worker {
             self.highest_worker.fetch_max(worker, Ordering::SeqCst);
             self.ring_if_few();
+            self.ring_all();
         }
     }
 
@@ -136,8 +188,9 @@ impl JobBells {
     fn ring_if_few(&self) {
         let lists = self.fewest_lists.load(Ordering::SeqCst);
         let is_few = lists < self.highest_worker.load(Ordering::SeqCst);
-        if is_few && !self.masked.load(Ordering::SeqCst) {
-            self.ring_mask();
+        if is_few && !self.wakes_all.load(Ordering::SeqCst) {
+            self.wakes_all.store(true, Ordering::SeqCst);
+            self.jobs.notify_all();
         }
     }
 
@@ -151,16 +204,18 @@ impl JobBells {
     /// awake. What is counted though it was taken does no harm, since the next worker that finds nothing forgets it. (`Forget` or
     /// `Keep`.)
     pub fn forget(&self, caller: u32, seen: Seen) {
-        if 1 <= caller && caller <= WORKERS {
+        if is_worker(caller) {
             self.note_worker(u64::from(caller));
             self.counted.forget(seen);
         }
     }
 
-    /// A job was taken at the turn at which another was finished: it is noticed, where none came since before that turn.
-    /// (`Notice_taken` or `Run_on`.)
-    pub fn notice_taken(&self, seen: Seen) {
-        let _ = self.counted.notice_seen(seen);
+    /// A job was taken at the turn at which another was finished, of a masked pad or not: it is noticed, where it was counted and none
+    /// came since before that turn. (`Notice_taken` or `Run_on`.)
+    pub fn notice_taken(&self, seen: Seen, masked: bool) {
+        if !masked {
+            let _ = self.counted.notice_seen(seen);
+        }
     }
 
     /// Notices a job, if one is unnoticed.
@@ -172,15 +227,16 @@ impl JobBells {
     /// (`Notice_between`, `Look_anyway` or `Notice_none`.)
     pub fn may_have_job(&self) -> bool {
         let is_rung_for_each = !self.queues.load(Ordering::SeqCst)
-            && !self.masked.load(Ordering::SeqCst);
+            && !self.wakes_all.load(Ordering::SeqCst);
         !is_rung_for_each || self.notice()
     }
 
-    /// Notices a job that comes within a while, unless the board may be shut first. (`Notice_while_awake`.)
+    /// Notices a job that comes within a while, unless the board may be shut or all are called first. (`Notice_while_awake`.)
     fn notice_soon(&self) -> bool {
+        let called = self.called.load(Ordering::SeqCst);
         let backoff = Backoff::new();
         for _ in 0..PATIENCE {
-            if self.is_over() {
+            if self.is_over() || self.called.load(Ordering::SeqCst) != called {
                 return false;
             }
             if self.notice() {
@@ -197,11 +253,11 @@ impl JobBells {
         unnoticed > self.awake.load(Ordering::SeqCst)
     }
 
-    /// Stays awake for a while, where any worker may take any job. Further ones that came meanwhile may have been left to this
+    /// Stays awake for a while, unless each job wakes all. Further ones that came meanwhile may have been left to this
     /// worker too, so it wakes another where more are unnoticed than others stay awake: who was still awake here looks later, since
     /// each looks at the board after it is no longer counted. (`Linger`, then `Rouse` and `Read_unnoticed`, or `Give_up`.)
     pub fn linger(&self) -> Lingered {
-        if self.masked.load(Ordering::SeqCst) {
+        if self.wakes_all.load(Ordering::SeqCst) {
             return Lingered::Tired(Tired { awake: false });
         }
         self.awake.fetch_add(1, Ordering::SeqCst);
@@ -227,12 +283,6 @@ impl JobBells {
         self.pause.park_timeout(rt, 0, Duration::from_millis(1));
     }
 
-    /// Other workers may take a pad's jobs.
-    pub fn ring_mask(&self) {
-        self.masked.store(true, Ordering::SeqCst);
-        self.jobs.notify_all();
-    }
-
     /// The board is shut.
     pub fn ring_over(&self) {
         self.over.store(true, Ordering::SeqCst);
@@ -243,4 +293,8 @@ impl JobBells {
     pub fn is_over(&self) -> bool {
         self.over.load(Ordering::SeqCst)
     }
+}
+
+fn is_worker(caller: u32) -> bool {
+    1 <= caller && caller <= WORKERS
 }

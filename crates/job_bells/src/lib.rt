@@ -9,6 +9,7 @@
 
 mod bells;
 mod counted;
+mod masked;
 mod sent;
 
 pub use bells::{JobBells, Lingered, Tired, Watch};

@@ -1,6 +1,7 @@
 //! What no clause says of a word that threads share.
 
 use crate::counted::Counted;
+use crate::masked::MaskedPads;
 use std::test::Fail;
 
 #[test]
@@ -36,5 +37,31 @@ fn those_that_were_seen_are_forgotten(rt: HostRuntime) -> Result<(), Fail> {
     counted.forget(counted.seen());
     assert_eq!(rt; counted.unnoticed(), 0);
     assert!(rt; !counted.notice_seen(counted.seen()));
+    Ok(())
+}
+
+#[test]
+fn a_pad_is_masked_until_it_admits_each_worker(rt: HostRuntime) -> Result<(), Fail> {
+    let pads = MaskedPads::new();
+    assert!(rt; pads.set(7, 0b1101));
+    assert!(rt; pads.is_masked(7, 2) && !pads.is_masked(7, 1));
+    assert!(rt; !pads.is_masked(8, 16));
+    assert!(rt; pads.set(7, 0b1111));
+    assert!(rt; pads.is_masked(7, 5) && !pads.is_masked(7, 4));
+    assert!(rt; pads.set(7, 0xffff));
+    assert!(rt; !pads.is_masked(7, 16));
+    Ok(())
+}
+
+#[test]
+fn sixteen_masked_pads_are_told_apart(rt: HostRuntime) -> Result<(), Fail> {
+    let pads = MaskedPads::new();
+    for pad in 0..16u64 {
+        assert!(rt; pads.set(pad, 0));
+    }
+    assert!(rt; !pads.set(16, 0));
+    pads.leave(3);
+    assert!(rt; pads.set(16, 0));
+    assert!(rt; pads.is_masked(16, 1) && !pads.is_masked(3, 1));
     Ok(())
 }

@@ -57,6 +57,13 @@ impl Bells {
         self.jobs.note_lists(lists);
     }
 
+    /// Within a turn: a pad has another mask, where that is so.
+    pub(crate) fn note_mask(&self, pad: u64, mask: u16, masked: bool) {
+        if masked {
+            self.jobs.note_mask(pad, mask);
+        }
+    }
+
     /// Whether some chain was made.
     pub(crate) fn has_chains(&self) -> bool {
         self.chains.load(Ordering::SeqCst)

@@ -89,7 +89,7 @@ impl<W: Work> SharedBoard<W> {
     /// Makes a pad of `lists` reorder lists, 1 to 16, from which the workers 1 to `lists` may take, and answers its number.
     /// The caller is no worker. Only want of memory refuses. A job wakes at most one worker that sleeps, or none and is left to
     /// one that stays awake, whichever it is. Beside a worker of a number above `lists` each job of the board wakes all that sleep
-    /// instead, as after a mask.
+    /// instead.
     pub fn born_pad<R: Wait>(
         &self,
         rt: &R,
@@ -191,8 +191,8 @@ impl<W: Work> SharedBoard<W> {
     /// From now on the workers whose bits are set may take from the pad, besides its maker and who submits to it: bit i stands
     /// for worker i + 1. What was submitted before stays, and is completed in order. The caller made the pad, which is neither
     /// closed nor shared, and no bit stands at or above the number of lists that it was made with. Only want of memory refuses.
-    /// From then on, whatever masks come later, each job of the board wakes all workers that sleep, and none stays awake
-    /// (`linger`).
+    /// While the mask leaves a worker out, each job of the pad wakes all workers that sleep. A job of another pad wakes one, or none, as
+    /// before, while at most 16 pads of the board are masked so at once.
     pub fn mask<R: Wait>(
         &self,
         rt: &R,
@@ -214,9 +214,10 @@ impl<W: Work> SharedBoard<W> {
         let mut turn = self.turn(rt, pass);
         let answer = turn.get().mask(caller, pipe, mask);
         let added = answer.is_ok();
+        self.bells.note_mask(pipe, mask, added);
         let pass = turn.give(added);
         if added {
-            self.bells.jobs().ring_mask();
+            self.bells.jobs().ring_all();
         }
         (pass, answer)
     }
@@ -244,9 +245,10 @@ impl<W: Work> SharedBoard<W> {
         let mut turn = self.turn(rt, pass);
         let answer = turn.get().submit(caller, pipe, job);
         let added = answer.is_ok();
+        let masked = self.bells.jobs().is_masked(pipe);
         let pass = turn.give(added);
         if added {
-            self.bells.jobs().ring_job();
+            self.bells.jobs().ring_job_of(masked);
         }
         (pass, answer)
     }
@@ -300,9 +302,10 @@ impl<W: Work> SharedBoard<W> {
         let mut turn = self.turn(rt, pass);
         let answer = turn.get().take(caller);
         let added = answer.is_some();
+        let masked = self.is_of_masked(&answer);
         let pass = turn.give(added);
         if added {
-            self.bells.jobs().ring_next();
+            self.bells.jobs().ring_taken(caller, masked);
         } else {
             self.bells.jobs().forget(caller, seen);
         }
@@ -332,8 +335,9 @@ impl<W: Work> SharedBoard<W> {
         let taken = turn.get().take(caller);
         match taken {
             Some(job) => {
+                let masked = self.bells.jobs().is_masked(job.slip.pipe());
                 let pass = turn.give(true);
-                self.bells.jobs().ring_next();
+                self.bells.jobs().ring_taken(caller, masked);
                 (pass, Some(job), false)
             }
             None => {
@@ -400,10 +404,11 @@ impl<W: Work> SharedBoard<W> {
         let mut turn = turn.note();
         let next = turn.get().take(caller);
         let added = next.is_some();
+        let masked = self.is_of_masked(&next);
         let pass = turn.give(added);
         self.bells.ring_end(pipe);
         if added {
-            self.bells.jobs().notice_taken(seen);
+            self.bells.jobs().notice_taken(seen, masked);
             self.bells.jobs().ring_next();
         } else {
             self.bells.jobs().forget(caller, seen);
@@ -543,6 +548,7 @@ impl<W: Work> SharedBoard<W> {
         let caller = pass.number();
         let mut turn = self.turn(rt, pass);
         turn.get().close(caller, pipe);
+        self.bells.jobs().note_close(pipe);
         turn.give(true)
     }
 
@@ -587,7 +593,7 @@ impl<W: Work> SharedBoard<W> {
     }
 
     /// Counts as a job that came, since something else than a job may be there for a worker: wakes one that sleeps, unless enough
-    /// stay awake, and all of them once a pad was masked.
+    /// stay awake.
     pub fn call_worker(&self) {
         self.bells.jobs().ring_job();
     }
@@ -624,6 +630,14 @@ impl<W: Work> SharedBoard<W> {
     /// Whether some chain may have been made: a hint that takes no turn.
     pub fn may_have_chains(&self) -> bool {
         self.bells.has_chains()
+    }
+
+    /// Whether a job was taken whose pad's mask leaves some worker out. It is asked within the turn.
+    fn is_of_masked(&self, taken: &Option<Taken<W>>) -> bool {
+        match taken {
+            Some(job) => self.bells.jobs().is_masked(job.slip.pipe()),
+            None => false,
+        }
     }
 
     /// The history, at the board's end: it begins with all that the pass has seen, and has of the pass's number, and of each
