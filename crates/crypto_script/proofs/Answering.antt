@@ -20,7 +20,7 @@ failed (Err WriteFault) code = absurd (omega (arith, code))
 failed (Err NoMemory) code = absurd (omega (arith, code))
 failed (Err TooLong) code = absurd (omega (arith, code))
 
-unwritten : (answer : Result Bool RunError) → status_of answer ≡ 4 → IsErrOf answer WriteFault
+pub unwritten : (answer : Result Bool RunError) → status_of answer ≡ 4 → IsErrOf answer WriteFault
 unwritten (Ok true) code = absurd (omega (arith, code))
 unwritten (Ok false) code = absurd (omega (arith, code))
 unwritten (Err Usage) code = absurd (omega (arith, code))

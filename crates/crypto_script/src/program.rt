@@ -17,7 +17,7 @@ ghost use Rattle.script_run.specs.ByLines.{IsTextByLines};
 ghost use Rattle.script_run.specs.Fronts.{IsFrontText};
 ghost use Rattle.dialogues.specs.Walk.{start};
 ghost use Rattle.templates.specs.Table.{table};
-ghost use Rattle.script_run.specs.Answered.{Gives, AreAnswered, BeginsWithText};
+ghost use Rattle.script_run.specs.Answered.{Gives, AreAnswered, BeginsWithText, IsCutOff};
 ghost use Rattle.command_line.specs.CommandLine.{IsWithinLimits};
 ghost use Rattle.script_run.specs.Endings.{traced, CanBeRead, EndsShut, IsShutOnce};
 ghost use Rattle.script_run.specs.Runs.{ReadsUpTo, Gains, GainsThen, GainsFront, InTurn};
@@ -181,6 +181,12 @@ pub fn run<S: Source, K: Sink, G: Gate + Sync, R: Threads + Wait + Sync>(
         (AreAnswered options.workers (whole_script (take m given)) result.registry result.board))) }
     ensures answered_front { IfSome (script_asked (map string_bytes words.now)) (λ options. result.status ≡ 4 → Gives (S.left src.old) (S.left src.new) (λ given. Gains (K.held out.old) (K.held out.new)
         (BeginsWithText options.workers (whole_script (take (length given - 65536) given)) result.registry result.board))) }
+
+    // Where the sink fails, the script has made the calls of the lines that are answered, and none besides but the shut. What was
+    // written is the text of all of them, but that the last one's may stand there in part, or that of the end of input.
+    ensures called { IfSome (script_asked (map string_bytes words.now)) (λ options. result.status ≡ 4 → IfSome (S.left src.old) (λ script. GainsFront (K.held out.old) (K.held out.new)
+        (IsCutOff options.workers (script_of script) result.registry result.board)
+        (IsText options.workers (start 0) 0 (script_of script) result.registry result.board) (traced options.trace result.registry result.board))) }
 
     // Whatever ended the run, each entry of a history is right for those before it, each instance is what its template makes of
     // its children, and only the first script, or the load, the workers and the clients made entries.

@@ -1,7 +1,7 @@
-use Rattle.std.proofs.Common.{◌≡◌, ap, ◌∙◌, Some, Ok}
+use Rattle.std.proofs.Common.{◌≡◌, ap, sym, ◌∙◌, Some, Ok}
 use Rattle.std.specs.Prelude.{map, string_bytes}
 use Rattle.crypto_script.specs.Words.{script_asked, script_in_mode, clients_asked, clients_in_mode}
-use Rattle.crypto_script.proofs.Answering.{answered-read, answered-long, answered-written}
+use Rattle.crypto_script.proofs.Answering.{answered-read, answered-long, answered-written, unwritten}
 use Rattle.crypto_script.proofs.Refusing.{refused_by_lines}
 use Rattle.crypto_script.proofs.Stopping.{load-reads, reaches-end}
 use Rattle.crypto_script.proofs.program.run.Goals as goal
@@ -54,6 +54,13 @@ returns-clause-answered_front g c =
     let asked : script_asked words ≡ Some c.in-Script.options = c.in-Ok.ensures.script ∙ ap (λ m. script_in_mode (Ok m)) c.in-Script.is in
     rw (asked, c.outcome_of-2.ensures.registry, c.outcome_of-2.ensures.board)
     (answered-written c.in-Script.options.workers c.outcome_of-2.result.status (g.S.Source.left c.args.src.now) (g.S.Source.left c.run_traced.new.src) c.run_traced.result.registry c.run_traced.result.board c.run_traced.result.answer (g.K.Sink.held c.args.out.now) (g.K.Sink.held c.run_traced.new.out) c.run_traced.ensures.first c.outcome_of-2.ensures.status)
+
+pub returns-clause-called : goal.returns-clause-called
+returns-clause-called g c =
+    let words = map string_bytes c.args.words.now in
+    let asked : script_asked words ≡ Some c.in-Script.options = c.in-Ok.ensures.script ∙ ap (λ m. script_in_mode (Ok m)) c.in-Script.is in
+    rw (asked, c.outcome_of-2.ensures.registry, c.outcome_of-2.ensures.board)
+    (λ is. c.run_traced.ensures.cut (unwritten c.run_traced.result.answer (sym c.outcome_of-2.ensures.status ∙ is)))
 
 pub returns-in-Clients-clause-one_list : goal.returns-in-Clients-clause-one_list
 returns-in-Clients-clause-one_list g c =
