@@ -253,7 +253,7 @@ impl JobBells {
         unnoticed > self.awake.load(Ordering::SeqCst)
     }
 
-    /// Stays awake for a while, unless each job wakes all. Further ones that came meanwhile may have been left to this
+    /// Stays awake for a while, where any worker may take any job. Further ones that came meanwhile may have been left to this
     /// worker too, so it wakes another where more are unnoticed than others stay awake: who was still awake here looks later, since
     /// each looks at the board after it is no longer counted. (`Linger`, then `Rouse` and `Read_unnoticed`, or `Give_up`.)
     pub fn linger(&self) -> Lingered {
