@@ -1,5 +1,5 @@
 -- The lines of a part, answered one by one.
-use Rattle.std.proofs.Common.{◌≡◌, ℕ, ◌+◌, ◌≤◌, ◌||◌, Bool, true, false, List, [], ◌∷◌, ◌++◌, length, refl, sym, ap, subst, ◌∙◌, append_assoc, append-nil, arith}
+use Rattle.std.proofs.Common.{◌≡◌, ℕ, ◌+◌, ◌<◌, ◌≤◌, ◌||◌, Bool, true, false, List, [], ◌∷◌, ◌++◌, length, map, refl, sym, ap, subst, ◌∙◌, append_assoc, append-nil, length-append, arith}
 use Rattle.std.specs.Prelude.{Result, Ok, Err, IsErr, MatchResult}
 use Rattle.std.specs.List.{list_any}
 use Rattle.std.proofs.lemmas.List.Folds.{list_any-append}
@@ -12,8 +12,8 @@ use Rattle.script_run.specs.Text.{is_malformed}
 use Rattle.script_session.specs.Holding.{Stops}
 use Rattle.script_session.specs.Running.{IsReady, Replies}
 use Rattle.script_session.specs.States.{State, SameLocks}
-use Rattle.script_text.specs.Pending.{Kept, IsPending}
-use Rattle.script_text.specs.Script.{script_of}
+use Rattle.script_text.specs.Lines.{lines_of}
+use Rattle.script_text.specs.Script.{line_of, script_of}
 use Rattle.script_text.specs.declared.commands.Line.{Line}
 use Rattle.session_calls.specs.Asking.{AskedBy, IsCaller}
 use Rattle.session_calls.specs.Passes.{known}
@@ -111,25 +111,21 @@ stops-then s t u a b = record {
 
 -- ---- what stands at the head of the loop
 
-pub record Answering {W : Type 0} (registry : SharedRegistry) (board : SharedBoard W Ask Finished) (first : State) (text : List ℕ) (part : List ℕ) (kept : Kept) (number : ℕ) (malformed : Bool) (s : State) (text' : List ℕ) : Type 0 where
+pub record Answering {W : Type 0} (registry : SharedRegistry) (board : SharedBoard W Ask Finished) (first : State) (text : List ℕ) (part : List ℕ) (rest : List ℕ) (number : ℕ) (malformed : Bool) (s : State) (text' : List ℕ) : Type 0 where
   pub done : List Line
-  pub pending : List ℕ
-  pub pending_is : IsPending pending kept
-  pub lines : script_of part ≡ done ++ script_of pending
-  pub counted : number + length pending ≤ length part + 1
+  pub lines : script_of part ≡ done ++ script_of rest
+  pub counted : number + length rest ≤ length part + 1
   pub led : Led first text done number s text'
   pub ready : IsReady registry board s
   pub malformed_is : malformed ≡ list_any is_malformed done
 
 module _ {W : Type 0} (laws : Laws) (registry : SharedRegistry) (board : SharedBoard W Ask Finished) (first : State) (begins : IsReady registry board first) (text part : List ℕ) where
-  abbrev At : Kept → ℕ → Bool → State → List ℕ → Type 0
-  At kept number malformed s text' = Answering registry board first text part kept number malformed s text'
+  abbrev At : List ℕ → ℕ → Bool → State → List ℕ → Type 0
+  At rest number malformed s text' = Answering registry board first text part rest number malformed s text'
 
-  pub answering-begins : (kept : Kept) → IsPending part kept → At kept 1 false first text
-  answering-begins kept pending = record {
+  pub answering-begins : At part 1 false first text
+  answering-begins = record {
     done = [];
-    pending = part;
-    pending_is = pending;
     lines = refl;
     counted = omega arith;
     led = led-begins laws first begins.stands.caller text;
@@ -137,7 +133,7 @@ module _ {W : Type 0} (laws : Laws) (registry : SharedRegistry) (board : SharedB
     malformed_is = refl;
   }
 
-  module _ (kept : Kept) (number : ℕ) (malformed : Bool) (s : State) (text' : List ℕ) (at : At kept number malformed s text') where
+  module _ (rest : List ℕ) (number : ℕ) (malformed : Bool) (s : State) (text' : List ℕ) (at : At rest number malformed s text') where
     -- so far it has only gone on
     pub answering-stops : Stops first s
     answering-stops =
@@ -151,15 +147,16 @@ module _ {W : Type 0} (laws : Laws) (registry : SharedRegistry) (board : SharedB
           };
         }
 
-    pub answering-more : (kept' : Kept) (said : Line) (rest : List ℕ) → script_of at.pending ≡ said ∷ script_of rest → length rest + 1 ≤ length at.pending → IsPending rest kept'
+    pub answering-more : (line behind : List ℕ) (said : Line) → lines_of rest ≡ line ∷ lines_of behind → (0 < length line) × (rest ≡ line ++ behind) → said ≡ line_of line
         → (bad : Bool) → bad ≡ is_malformed said → (s' : State) (text'' : List ℕ) → Replies (width_of said) (line_dialogue s.workers s.walk number said) s s' text' text'' → IsReady registry board s'
-        → At kept' (number + 1) (malformed || bad) s' text''
-    answering-more kept' said rest next shorter pending bad bad_is s' text'' replies ready = record {
+        → At behind (number + 1) (malformed || bad) s' text''
+    answering-more line behind said next cut said_is bad bad_is s' text'' replies ready = record {
       done = at.done ++ said ∷ [];
-      pending = rest;
-      pending_is = pending;
-      lines = at.lines ∙ (ap (λ ls. at.done ++ ls) next ∙ sym (append_assoc at.done (said ∷ []) (script_of rest)));
-      counted = let c = at.counted in omega arith;
+      lines =
+          at.lines
+          ∙ (ap (λ ls. at.done ++ map line_of ls) next
+          ∙ (ap (λ l. at.done ++ l ∷ script_of behind) (sym said_is) ∙ sym (append_assoc at.done (said ∷ []) (script_of behind))));
+      counted = let c = at.counted in let some = cut.0 in let n = ap length cut.1 in let m = length-append line behind in omega arith;
       led = led-more laws first begins.stands.caller text at.done number s text' at.led said s' text'' replies;
       ready = ready;
       malformed_is =
@@ -173,11 +170,11 @@ module _ {W : Type 0} (laws : Laws) (registry : SharedRegistry) (board : SharedB
         or_none false = refl
 
     -- at the end all lines are answered
-    all-lines : at.pending ≡ [] → script_of part ≡ at.done
+    all-lines : rest ≡ [] → script_of part ≡ at.done
     all-lines none = at.lines ∙ (ap (λ xs. at.done ++ script_of xs) none ∙ append-nil at.done)
 
-    pub answering-ends : at.pending ≡ [] → Replies (widest (script_of part)) (lines_dialogue first.workers first.walk 1 (script_of part) Ends) first s text text'
+    pub answering-ends : rest ≡ [] → Replies (widest (script_of part)) (lines_dialogue first.workers first.walk 1 (script_of part) Ends) first s text text'
     answering-ends none = led-ends laws first begins.stands.caller text at.done number s text' at.led (script_of part) (all-lines none)
 
-    pub answering-malformed : at.pending ≡ [] → malformed ≡ list_any is_malformed (script_of part)
+    pub answering-malformed : rest ≡ [] → malformed ≡ list_any is_malformed (script_of part)
     answering-malformed none = at.malformed_is ∙ ap (λ ls. list_any is_malformed ls) (sym (all-lines none))

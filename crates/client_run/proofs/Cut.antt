@@ -1,6 +1,7 @@
 -- The parts of an input: as many as there are clients and one more, and none longer than the input.
 use Rattle.std.proofs.Common.{◌≡◌, ◌≤◌, ◌+◌, ℕ, zero, suc, Bool, true, false, List, [], ◌∷◌, ◌++◌, length, refl, sym, ap, subst, ◌∙◌, arith}
 use Rattle.std.specs.Prelude.{All, if◌then◌else◌, ◌^◌, Option, Result}
+use Rattle.std.specs.Io.KnownBytes.{Consumes, IsAtEnd}
 use Rattle.std.specs.List.{onto_first}
 use Rattle.std.proofs.lemmas.List.{length-append}
 use Rattle.std.proofs.lemmas.List.Elements.{All-nil, All-cons, All-head, All-tail}
@@ -60,6 +61,17 @@ cut-count clients left left' parts c = ap (λ ps. length ps) c.cut ∙ count-par
 
 pub cut-most : (clients : ℕ) (left left' : Option (List ℕ)) (parts : List (List ℕ)) → IsCut clients left left' parts → All (λ part. length part ≤ 2 ^ 28) parts
 cut-most clients left left' parts c = subst (λ ps. All (λ part. length part ≤ 2 ^ 28) ps) (sym c.cut) (parts-short clients (2 ^ 28) c.input c.short)
+
+-- an input that was read whole, and its parts
+pub cut-of : (clients : ℕ) (left left' : Option (List ℕ)) (input text : List ℕ) (parts : List (List ℕ)) → Consumes left left' input × IsAtEnd left' × (length input ≤ 2 ^ 28) → text ≡ input → parts ≡ parts_of clients text
+    → IsCut clients left left' parts
+cut-of clients left left' input text parts read same cut = record {
+  input = input;
+  read = read.0;
+  at_end = read.1;
+  short = read.2;
+  cut = cut ∙ ap (parts_of clients) same;
+}
 
 -- the first part and the others
 pub cut-first : (parts rest : List (List ℕ)) (first : List ℕ) → parts ≡ first ∷ rest → All (λ part. length part ≤ 2 ^ 28) parts → (length first ≤ 2 ^ 28) × All (λ part. length part ≤ 2 ^ 28) rest

@@ -44,13 +44,13 @@ pub record Gathered {F : Type 0} (outs left : List (Result ClientText F)) (clien
   pub client_is : client ≡ 1 + length said
 
 module _ {F : Type 0} where
-  pub gathered-none : (outs : List (Result ClientText F)) (text : List ℕ) (bad : Bool) → length outs ≤ 8 → Gathered outs outs 1 text text bad bad
-  gathered-none outs text bad few = record {
+  pub gathered-none : (outs : List (Result ClientText F)) (text now : List ℕ) (bad bad' : Bool) → length outs ≤ 8 → now ≡ text → bad' ≡ bad → Gathered outs outs 1 text now bad bad'
+  gathered-none outs text now bad bad' few text_is bad_is = record {
     few = few;
     said = [];
     cut = sym (append-nil outs);
-    text_is = sym (append-nil text);
-    malformed = sym (or-false bad);
+    text_is = text_is ∙ sym (append-nil text);
+    malformed = bad_is ∙ sym (or-false bad);
     client_is = refl;
   }
 
@@ -72,9 +72,9 @@ module _ {F : Type 0} where
     malformed = g.malformed;
   }
 
-  pub gathered-more : (outs left rest : List (Result ClientText F)) (client : ℕ) (text now : List ℕ) (bad bad' : Bool) (x : ClientText) (now' : List ℕ) → Gathered outs left client text now bad bad'
-      → left ≡ rest ++ Ok x ∷ [] → now' ≡ (now ++ heading client) ++ x.reply.text → Gathered outs rest (client + 1) text now' bad (bad' || x.malformed)
-  gathered-more outs left rest client text now bad bad' x now' g popped grown = record {
+  pub gathered-more : (outs left rest : List (Result ClientText F)) (client : ℕ) (text now : List ℕ) (bad bad' : Bool) (x : ClientText) (now' : List ℕ) (bad'' : Bool) → Gathered outs left client text now bad bad'
+      → left ≡ rest ++ Ok x ∷ [] → now' ≡ (now ++ heading client) ++ x.reply.text → bad'' ≡ bad' || x.malformed → Gathered outs rest (client + 1) text now' bad bad''
+  gathered-more outs left rest client text now bad bad' x now' bad'' g popped grown worse = record {
     few = g.few;
     said = g.said ++ x ∷ [];
     cut =
@@ -90,7 +90,7 @@ module _ {F : Type 0} where
         ∙ ap (λ t. text ++ t) (sym (ap (λ ts. under_headings 1 ts) (map-append (λ (y : ClientText). y.reply.text) g.said (x ∷ []))
         ∙ (under-one-more 1 (texts_in g.said) x.reply.text ∙ ap (λ n. under_headings 1 (texts_in g.said) ++ (heading (1 + n) ++ x.reply.text)) (length-texts g.said)))))));
     malformed =
-        (λ i. g.malformed i || x.malformed)
+        (worse ∙ (λ i. g.malformed i || x.malformed))
         ∙ (or-assoc bad (list_any is_bad g.said) x.malformed
         ∙ ap (λ b. bad || b) (sym (list_any-append is_bad g.said (x ∷ []) ∙ ap (λ b. list_any is_bad g.said || b) (or-false x.malformed))));
     client_is = (let a = g.client_is in let b = length-append g.said (x ∷ []) in omega arith);

@@ -1,6 +1,7 @@
 -- What is known when the clients have ended, for what follows.
 use Rattle.std.proofs.Common.{◌≡◌, ◌≤◌, ◌+◌, ℕ, suc, Bool, true, false, List, [], ◌∷◌, ◌++◌, length, map, Ok, Err, sym, refl, ap, ◌∙◌, subst, inl}
 use Rattle.std.specs.Prelude.{Result, IfOk, IsOk, MatchResult, reverse}
+use Rattle.std.specs.List.{flat_map}
 use Rattle.std.proofs.lemmas.List.{reverse-reverse}
 use Rattle.alg_registry.specs.declared.entry.RegEntry.{RegEntry}
 use Rattle.alg_registry.specs.Legal.{LegalReg}
@@ -17,6 +18,7 @@ use Rattle.crew.specs.Both.{CrewedOnBoth}
 use Rattle.crew.specs.declared.passes.Passes.{Passes}
 use Rattle.crew.specs.Peers.{AreOuts, RanBeside, RunsOnBoth}
 use Rattle.dialogues.specs.Walk.{Live}
+use Rattle.reply_text.specs.Answers.{text_of}
 use Rattle.script_run.specs.Runs.{AreNew}
 use Rattle.script_session.specs.Gathering.{IsJoined, EndsFirst}
 use Rattle.script_session.specs.Holding.{HasSeenMore, SeesOn}
@@ -32,7 +34,7 @@ use Rattle.turn_lock.specs.Passes.{knows}
 use Rattle.turn_lock.specs.Turns.{Known, Shows, StartsWith}
 use Rattle.client_run.specs.declared.beside.Output.{Output}
 use Rattle.client_run.specs.declared.client.ClientText.{ClientText}
-use Rattle.client_run.specs.Beside.{GaveNumbers, GaveWorkers, HasShutLast, HaveLeft, EndsRest, AnswersRest, AnswersParts, PartsRan, texts_in}
+use Rattle.client_run.specs.Beside.{printed_by, GaveNumbers, GaveWorkers, HasShutLast, HaveLeft, EndsRest, AnswersRest, AnswersParts, PartsRan, texts_in}
 use Rattle.client_run.specs.EndLaws.{EndLaws, ShutLaws}
 use Rattle.client_run.specs.Parts.{FirstOpens, ClientRan}
 use Rattle.client_run.proofs.AtEnd.{callers-are, shut-once, ends-shut, printed, malformed-is, one-lists}
@@ -44,6 +46,9 @@ ok-map P Q (Err e) f holds = tt
 
 pub ok-of : {X E : Type 0} (P : X → Type 0) (r : Result X E) (x : X) → r ≡ Ok x → IfOk r P → P x
 ok-of P r x is holds = subst (λ y. IfOk y P) is holds
+
+pub ok-case : {X E : Type 0} (P : X → Type 0) (Q : E → Type 0) (r : Result X E) (x : X) → r ≡ Ok x → MatchResult r P Q → P x
+ok-case P Q r x is m = subst (λ y. MatchResult y P Q) is m
 
 -- what holds where an error came
 pub err-of : {X E : Type 0} (P : X → Type 0) (Q : E → Type 0) (r : Result X E) (e : E) → r ≡ Err e → MatchResult r P Q → Q e
@@ -114,6 +119,21 @@ module _ (laws : EndLaws) (workers : ℕ) (shared : List Live) (parts : List (Li
   }
   rest-answers gives q same Items (Err e) are text' bad' lent is holds = (let nothing : false ≡ true = holds.0 in absurd cc)
 
+-- behind other texts
+pub ends-behind : (before : List ℕ) (lives : List Live) (k l : Known (BoardEntry Ask)) (text none last all : List ℕ) → none ≡ [] → text ≡ before → all ≡ text ++ last → EndsFirst lives k l none last → EndsFirst lives k l before all
+ends-behind before lives k l text none last all none_is text_is all_is ends = record {
+  calls = ends.calls;
+  said = ends.said;
+  called = ends.called;
+  is = ends.is;
+  says = all_is ∙ ap (λ t. t ++ last) text_is ∙ ap (λ t. before ++ t) (ends.says ∙ ap (λ t. t ++ flat_map text_of ends.said) none_is);
+  own = ends.own;
+  ended = ends.ended;
+  shut = ends.shut;
+  gone = ends.gone;
+  handed = ends.handed;
+}
+
 -- what is left where no client began
 pub left-at-once : (shuts : ShutLaws) (workers clients : ℕ) (few : workers ≤ 16) (p o q : Passes Ask) → AreNew p → GaveWorkers workers p → HasSeenMore (knows p.registry) (knows o.registry) → SeesOn (knows p.board) (knows o.board)
     → knows q.registry ≡ knows o.registry → AtTurn board_caller LegalBoard (knows o.board) (λ h. Enters LegalBoard (knows o.board) h (Shut (knows o.board).number) (knows q.board)) → HaveLeft workers clients q
@@ -130,16 +150,16 @@ left-at-once shuts workers clients few p o q new gave more_r more_b same turn =
 
 -- the histories at the end
 pub parts-ran : {F : Type 0} (laws : EndLaws) (workers : ℕ) (few : workers ≤ 16) (first : List ℕ) (parts : List (List ℕ)) (some : 1 ≤ length parts) (p q l : Passes Ask) (r : List RegEntry) (b : List (BoardEntry Ask)) (result : Result Output F)
-    → HaveLeft workers (length parts) q → IfOk result (λ now. AnswersParts workers (script_of first) parts q now.reply.text now.malformed) → CrewedOnBoth workers p q l
+    → HaveLeft workers (length parts) q → IfOk result (λ now. AnswersParts workers (script_of first) parts q (printed_by now) now.malformed) → CrewedOnBoth workers p q l
     → Shows reg_caller (knows l.registry) r → Shows board_caller (knows l.board) b → LegalReg r → Made table r → LegalBoard b → PartsRan workers (length parts) (first ∷ parts) r b result
 parts-ran laws workers few first parts some p q l r b (Ok now) left all crewed shows_r shows_b legal made legal_b =
     let hr = history-of reg_caller is_building (knows p.registry).next workers (knows q.registry) (knows l.registry) r crewed.registry shows_r in
     let hb = history-of board_caller is_work (knows p.board).next workers (knows q.board) (knows l.board) b crewed.board shows_b in
     record {
-      printed = printed laws workers (length parts) few q left r b hr hb legal_b (script_of first) parts some refl now.reply.text now.malformed all;
-      malformed = malformed-is laws workers (length parts) few q left r b hr hb legal_b (script_of first) parts some refl now.reply.text now.malformed all;
-      shut = ends-shut laws workers (length parts) few q left r b hr hb legal_b (script_of first) parts some refl now.reply.text now.malformed all;
-      one_list = one-lists laws workers (length parts) few q left r b hr hb legal_b (script_of first) parts some refl now.reply.text now.malformed all;
+      printed = printed laws workers (length parts) few q left r b hr hb legal_b (script_of first) parts some refl (printed_by now) now.malformed all;
+      malformed = malformed-is laws workers (length parts) few q left r b hr hb legal_b (script_of first) parts some refl (printed_by now) now.malformed all;
+      shut = ends-shut laws workers (length parts) few q left r b hr hb legal_b (script_of first) parts some refl (printed_by now) now.malformed all;
+      one_list = one-lists laws workers (length parts) few q left r b hr hb legal_b (script_of first) parts some refl (printed_by now) now.malformed all;
       closed = inl (shut-once laws workers (length parts) few q left r b hr hb legal_b);
       callers = callers-are laws workers (length parts) few q left r b hr hb legal_b;
       legal = legal;

@@ -1,4 +1,3 @@
-pub mod NextLines
 pub mod Following
 pub mod Turns
 pub mod Answering
@@ -15,4 +14,5 @@ pub mod Gathered
 pub mod Rest
 pub mod AtEnd
 pub mod Joins
+pub mod Texts
 pub mod Written

@@ -21,7 +21,7 @@ use Rattle.trace_text.specs.Trace.{FitTypes}
 use Rattle.traced_runs.specs.Clients.{ClientTracesCanBeRead}
 use Rattle.transforms.specs.declared.ask.Ask.{Ask}
 use Rattle.client_run.specs.declared.beside.Output.{Output}
-use Rattle.client_run.specs.Beside.{PartsRan}
+use Rattle.client_run.specs.Beside.{PartsRan, printed_by}
 use Rattle.client_run.specs.Clients.{RanClients, RanParts, IsCut, GainsFrontOrNone, has_malformed}
 
 -- ---- what is written
@@ -52,13 +52,13 @@ module _ (workers clients : ℕ) (trace : Bool) (parts : List (List ℕ)) (held 
   Closed answer = IsShutOnce workers b ⊎ ((answer ≡ Err NoMemory) × (r ≡ []) × (b ≡ []))
 
   pub ran-parts : {F : Type 0} (output : Result Output F) (answer : Result Bool RunError) → PartsRan workers clients parts r b output
-      → IfOk answer (λ bad. IsOk output × IfOk output (λ o. (bad ≡ o.malformed) × Appends held held' (o.reply.text ++ traced trace r b)))
+      → IfOk answer (λ bad. IsOk output × IfOk output (λ o. (bad ≡ o.malformed) × Appends held held' (printed_by o ++ traced trace r b)))
       → OnErr output (answer ≡ Err NoMemory)
       → (trace ≡ true → OnOk answer (FitTypes ask_origin r b))
-      → OnErr answer (Keeps held held' ⊎ (IsOk output × IfOk output (λ o. AppendsFront held held' (o.reply.text ++ traced trace r b))))
+      → OnErr answer (Keeps held held' ⊎ (IsOk output × IfOk output (λ o. AppendsFront held held' (printed_by o ++ traced trace r b))))
       → IfErr answer (λ e. (e ≡ WriteFault) ⊎ (e ≡ NoMemory)) → RanParts workers clients trace parts held held' r b answer
   ran-parts (Ok o) (Ok bad) ran whole nothing fits front causes = record {
-    whole = (o.reply.text, ran.printed, whole.1.1);
+    whole = (printed_by o, ran.printed, whole.1.1);
     front = tt;
     fits = fits;
     malformed = whole.1.0 ∙ ran.malformed;
@@ -90,9 +90,9 @@ module _ (workers clients : ℕ) (trace : Bool) (parts : List (List ℕ)) (held 
     causes = causes;
   }
     where
-      by_front : Keeps held held' ⊎ ((true ≡ true) × AppendsFront held held' (o.reply.text ++ traced trace r b)) → GainsFrontOrNone held held' (IsOutputBy workers (map script_of parts) r b) (traced trace r b)
+      by_front : Keeps held held' ⊎ ((true ≡ true) × AppendsFront held held' (printed_by o ++ traced trace r b)) → GainsFrontOrNone held held' (IsOutputBy workers (map script_of parts) r b) (traced trace r b)
       by_front (inl kept) = inl kept
-      by_front (inr grown) = inr (o.reply.text, ran.printed, grown.1)
+      by_front (inr grown) = inr (printed_by o, ran.printed, grown.1)
 
       by_closed : IsShutOnce workers b ⊎ (⊥ × (r ≡ []) × (b ≡ [])) → Closed (Err e)
       by_closed (inl once) = inl once

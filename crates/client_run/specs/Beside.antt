@@ -1,6 +1,6 @@
 -- What several scripts at once leave: of the first one's passes, and of the histories at the end.
 use Rattle.std.specs.Prelude.{◌≡◌, ◌⊎◌, ℕ, ◌+◌, ◌<◌, ◌≤◌, Bool, ◌||◌, List, [], ◌∷◌, ◌++◌, length, map, reverse, Result, Ok, IfOk, OnOk}
-use Rattle.std.specs.List.{list_any}
+use Rattle.std.specs.List.{list_any, flat_map}
 use Rattle.alg_registry.specs.declared.entry.RegEntry.{RegEntry}
 use Rattle.alg_registry.specs.Legal.{LegalReg}
 use Rattle.alg_registry.specs.Made.{Made}
@@ -11,6 +11,7 @@ use Rattle.board.specs.Entries.{caller_of as board_caller}
 use Rattle.board.specs.Legal.{LegalBoard}
 use Rattle.crew.specs.declared.passes.Passes.{Passes}
 use Rattle.crew.specs.Peers.{RanBeside}
+use Rattle.reply_text.specs.Written.{Written}
 use Rattle.script_session.specs.Gathering.{EndsFirst}
 use Rattle.script_text.specs.declared.commands.Line.{Line}
 use Rattle.script_text.specs.Script.{script_of}
@@ -70,6 +71,13 @@ pub record GaveWorkers (workers : ℕ) (p : Passes Ask) : Type 0 where
 
 -- ---- the texts
 
+-- texts one behind the other
+abbrev pub in_one : List Written → List ℕ
+in_one texts = flat_map (λ (t : Written). t.text) texts
+
+abbrev pub printed_by : Output → List ℕ
+printed_by output = in_one output.texts.items
+
 -- the texts of clients, in order
 abbrev pub texts_in : List ClientText → List (List ℕ)
 texts_in said = map (λ (x : ClientText). x.reply.text) said
@@ -121,7 +129,7 @@ pub record AnswersParts (workers : ℕ) (first : List Line) (parts : List (List 
 -- What the scripts of an input's parts printed, the first part's and one for each client, and the histories that their
 -- run left.
 pub record PartsRan {F : Type 0} (workers clients : ℕ) (parts : List (List ℕ)) (r : List RegEntry) (b : List (BoardEntry Ask)) (result : Result Output F) : Type 0 where
-  pub printed : IfOk result (λ output. IsOutputBy workers (map script_of parts) r b output.reply.text)
+  pub printed : IfOk result (λ output. IsOutputBy workers (map script_of parts) r b (printed_by output))
   pub malformed : IfOk result (λ output. output.malformed ≡ list_any (list_any is_malformed) (map script_of parts))
   pub shut : OnOk result (EndsShut b)
   pub one_list : OnOk result (AreOneList clients b)

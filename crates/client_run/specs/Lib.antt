@@ -1,5 +1,4 @@
 pub mod Laws
-pub mod Lines
 pub mod Parts
 pub mod Meets
 pub mod Beside

@@ -1,10 +1,11 @@
 //! All parts of an input beside workers: the first part alone, then the clients at once, and then the end of the first
 //! one's input.
 
-ghost use Rattle.std.specs.Prelude.{◌≡◌, ◌≤◌, ◌∷◌, ◌^◌, All, List, length, false, IfOk, IsOk};
+ghost use Rattle.std.specs.Prelude.{◌≡◌, ◌≤◌, ◌∷◌, ◌++◌, ◌||◌, ◌^◌, All, List, length, false, IfOk, IsOk, OnOk};
 ghost use Rattle.std.specs.Arc.{arc_value};
 ghost use Rattle.board.specs.Alone.{PeersGone};
 ghost use Rattle.crew.specs.Both.{ArePassesOn, CrewedOnBoth};
+ghost use Rattle.reply_text.specs.Answers.{heading};
 ghost use Rattle.board.specs.Legal.{is_shut};
 ghost use Rattle.script_run.specs.Runs.{AreNew};
 ghost use Rattle.script_session.specs.Gathering.{IsJoined};
@@ -13,7 +14,7 @@ ghost use Rattle.script_text.specs.Script.{script_of};
 ghost use Rattle.shared_board.specs.Passes.{IsPassOn};
 ghost use Rattle.turn_lock.specs.Passes.{knows};
 ghost use Rattle.turn_lock.specs.Turns.{newcomer};
-ghost use Rattle.client_run.specs.Beside.{HasShutLast, HaveLeft, GaveWorkers, PutsTexts, EndsRest, AnswersRest, AnswersParts, PartsRan};
+ghost use Rattle.client_run.specs.Beside.{printed_by, HasShutLast, HaveLeft, GaveWorkers, PutsTexts, EndsRest, AnswersRest, AnswersParts, PartsRan};
 ghost use Rattle.client_run.specs.EndLaws.{PeerLaws, ShutLaws, EndLaws};
 ghost use Rattle.client_run.specs.Parts.{FirstOpens};
 ghost use Rattle.transforms.specs.declared.ask.Ask.{Ask};
@@ -30,9 +31,9 @@ use board::{
 };
 use client_texts::requests_in_order;
 use crew::{Gate, Passes, peers_end, run_crew, run_peers};
-use kc_base::Bytes;
 use reply_text::Reply;
 use script_session::{Shared, end_first};
+use script_text::Part;
 use session_calls::{Stop, shared_is_known};
 use shared_board::{BoardPass, SharedBoard};
 use shared_registry::SharedRegistry;
@@ -41,10 +42,10 @@ use std::sync::Wait;
 use std::thread::Threads;
 use transforms::{Ask, Finished, Job};
 
-/// What several scripts came to: all that they printed, and whether a line of any part is malformed.
+/// What several scripts came to: the texts that they printed, one behind the other, and whether a line of any part is malformed.
 #[derive(Drop)]
 pub struct Output {
-    pub reply: Reply,
+    pub texts: Vec<Reply>,
     pub malformed: bool,
 }
 
@@ -86,31 +87,75 @@ fn end_laws()
     requests_in_order();
 }
 
+impl Output {
+    // What the first script came to.
+    fn of(alloc: Global, first: ClientText) -> Result<Output, AllocError>
+        ensures { IfOk result (λ now. (printed_by now ≡ first.reply.text) × (now.malformed ≡ first.malformed)) }
+    {
+        let ClientText { reply, malformed } = first;
+        let mut texts = Vec::new(alloc);
+        texts.push(reply)?;
+        Ok(Output { texts, malformed })
+    }
+
+    // Adds a text at the end.
+    fn put(&mut self, text: Reply) -> Result<(), AllocError>
+        ensures text { OnOk result (printed_by self.new ≡ printed_by self.old ++ text.text) }
+        ensures malformed { self.new.malformed ≡ self.old.malformed }
+    {
+        self.texts.push(text)?;
+        Ok(())
+    }
+
+    // Adds what a client's script came to, its text under its heading.
+    fn put_client(&mut self, alloc: Global, client: u32, said: ClientText) -> Result<(), AllocError>
+        ensures text { OnOk result (printed_by self.new ≡ (printed_by self.old ++ heading client) ++ said.reply.text) }
+        ensures malformed { OnOk result (self.new.malformed ≡ self.old.malformed || said.malformed) }
+    {
+        let ClientText { reply, malformed } = said;
+        let mut above = Reply::new(alloc);
+        above.put_heading(client)?;
+        self.put(above)?;
+        self.put(reply)?;
+        self.malformed |= malformed;
+        Ok(())
+    }
+}
+
+// Adds the text of the end.
+fn ended_with(output: Output, last: Reply) -> Result<Output, AllocError>
+    ensures { IfOk result (λ now. (printed_by now ≡ printed_by output ++ last.text) × (now.malformed ≡ output.malformed)) }
+{
+    let mut output = output;
+    output.put(last)?;
+    Ok(output)
+}
+
 // Adds the texts of at most 8 clients to the first part's, each under its heading. The last client's stands first among
 // these.
 fn put_texts(
+    alloc: Global,
     outs: Result<Vec<Result<ClientText, Stop>>, AllocError>,
-    output: Output,
+    first: ClientText,
 ) -> Result<Output, AllocError>
     requires few { IfOk outs (λ outs. length outs.items ≤ 8) }
-    ensures texts { IfOk result (λ now. IsOk outs × IfOk outs (λ outs. PutsTexts outs.items output.reply.text now.reply.text output.malformed now.malformed)) }
+    ensures texts { IfOk result (λ now. IsOk outs × IfOk outs (λ outs. PutsTexts outs.items first.reply.text (printed_by now) first.malformed now.malformed)) }
 {
     let mut left = outs?;
-    let mut output = output;
+    let mut output = Output::of(alloc, first)?;
     let mut client = 1u32;
     while let Some(out) = left.pop() {
         let Ok(text) = out else {
             return Err(AllocError);
         };
-        output.reply.put_heading(client)?;
-        output.reply.put_text(text.reply.as_slice())?;
-        output.malformed |= text.malformed;
+        output.put_client(alloc, client, text)?;
         client += 1;
     }
     Ok(output)
 }
 
-// Puts all texts together, and adds the end of the first one's input; the board is shut last, however it ends.
+// Puts all texts one behind the other, and the end of the first one's input behind them; the board is shut last, however
+// it ends.
 fn end_all<G: Gate, R: Wait>(
     rt: &R,
     alloc: Global,
@@ -119,7 +164,7 @@ fn end_all<G: Gate, R: Wait>(
     shared: &Shared,
     pass: BoardPass<Job>,
     outs: Result<Vec<Result<ClientText, Stop>>, AllocError>,
-    output: Output,
+    first: ClientText,
 ) -> (BoardPass<Job>, Result<Output, AllocError>)
     requires lock { IsPassOn board.now pass }
     requires few { IfOk outs (λ outs. length outs.items ≤ 8) }
@@ -130,16 +175,17 @@ fn end_all<G: Gate, R: Wait>(
     ensures shut { HasShutLast (knows result.0) }
     ensures next { (knows result.0).next ≡ (knows pass).next }
     ensures ended { (knows result.0).ended ≡ (knows pass).ended }
-    ensures done { IfOk result.1 (λ now. IsOk outs × IfOk outs (λ outs. EndsRest shared.now (knows pass) (knows result.0) outs.items output.reply.text now.reply.text output.malformed now.malformed)) }
+    ensures done { IfOk result.1 (λ now. IsOk outs × IfOk outs (λ outs. EndsRest shared.now (knows pass) (knows result.0) outs.items first.reply.text (printed_by now) first.malformed now.malformed)) }
 {
     end_laws();
-    let mut output = match put_texts(outs, output) {
+    let output = match put_texts(alloc, outs, first) {
         Ok(output) => output,
         Err(error) => return (board.shut(rt, pass), Err(error)),
     };
-    let (pass, ended) = end_first(rt, alloc, board, gate, shared, pass, &mut output.reply);
+    let mut last = Reply::new(alloc);
+    let (pass, ended) = end_first(rt, alloc, board, gate, shared, pass, &mut last);
     match ended {
-        Ok(()) => (pass, Ok(output)),
+        Ok(()) => (pass, ended_with(output, last)),
         Err(Stop::Memory) => (board.shut(rt, pass), Err(AllocError)),
     }
 }
@@ -155,7 +201,7 @@ fn answer_rest<G: Gate + Sync, R: Threads + Wait + Sync>(
     gate: &G,
     passes: Passes<Ask>,
     opened: Opened,
-    parts: &[Bytes],
+    parts: &[Part<'_>],
 ) -> (Passes<Ask>, Result<Output, AllocError>)
     requires lock { ArePassesOn board.now registry.now passes }
     requires few { workers ≤ 16 }
@@ -166,7 +212,7 @@ fn answer_rest<G: Gate + Sync, R: Threads + Wait + Sync>(
     requires opens { (lines : List Line) × FirstOpens workers lines (arc_value opened.shared) passes opened.reply.text opened.malformed }
     ensures lock { ArePassesOn board.now registry.now result.0 }
     ensures left { HaveLeft workers (length parts.now) result.0 }
-    ensures answers { IfOk result.1 (λ now. AnswersRest workers (arc_value opened.shared) parts.now passes result.0 opened.reply.text now.reply.text opened.malformed now.malformed) }
+    ensures answers { IfOk result.1 (λ now. AnswersRest workers (arc_value opened.shared) parts.now passes result.0 opened.reply.text (printed_by now) opened.malformed now.malformed) }
 {
     end_laws();
     shared_is_known();
@@ -193,7 +239,7 @@ fn answer_rest<G: Gate + Sync, R: Threads + Wait + Sync>(
     } = passes;
     // A turn at which the pass has seen all that the clients did.
     let (on_board, _) = board.is_shut(rt, on_board);
-    let first = Output { reply, malformed };
+    let first = ClientText { reply, malformed };
     let (on_board, output) = end_all(rt, alloc, board, gate, &run.shared, on_board, outs, first);
     let passes = Passes {
         board: on_board,
@@ -213,7 +259,7 @@ fn answer_parts<G: Gate + Sync, R: Threads + Wait + Sync>(
     gate: &G,
     passes: Passes<Ask>,
     first: &[u8],
-    parts: &[Bytes],
+    parts: &[Part<'_>],
 ) -> (Passes<Ask>, Result<Output, AllocError>)
     requires lock { ArePassesOn board.now registry.now passes }
     requires few { workers ≤ 16 }
@@ -223,7 +269,7 @@ fn answer_parts<G: Gate + Sync, R: Threads + Wait + Sync>(
     requires gave { GaveWorkers workers passes }
     ensures lock { ArePassesOn board.now registry.now result.0 }
     ensures left { HaveLeft workers (length parts.now) result.0 }
-    ensures answers { IfOk result.1 (λ now. AnswersParts workers (script_of first.now) parts.now result.0 now.reply.text now.malformed) }
+    ensures answers { IfOk result.1 (λ now. AnswersParts workers (script_of first.now) parts.now result.0 (printed_by now) now.malformed) }
 {
     end_laws();
     let (passes, opened) = open_first(rt, alloc, workers, board, registry, gate, passes, first);
@@ -255,7 +301,7 @@ fn crew_parts<G: Gate + Sync, R: Threads + Wait + Sync>(
     gate: &G,
     passes: Passes<Ask>,
     first: &[u8],
-    parts: &[Bytes],
+    parts: &[Part<'_>],
 ) -> (Passes<Ask>, Result<Output, AllocError>)
     requires few { workers ≤ 16 }
     requires clients { (1 ≤ length parts.now) × (length parts.now ≤ 8) }
@@ -263,7 +309,7 @@ fn crew_parts<G: Gate + Sync, R: Threads + Wait + Sync>(
     requires lock { ArePassesOn board.now registry.now passes }
     requires first { (knows passes.board ≡ newcomer) × (knows passes.registry ≡ newcomer) }
     ensures lock { ArePassesOn board.now registry.now result.0 }
-    ensures crewed { (q : _) × HaveLeft workers (length parts.now) q × IfOk result.1 (λ now. AnswersParts workers (script_of first.now) parts.now q now.reply.text now.malformed) × CrewedOnBoth workers passes q result.0 }
+    ensures crewed { (q : _) × HaveLeft workers (length parts.now) q × IfOk result.1 (λ now. AnswersParts workers (script_of first.now) parts.now q (printed_by now) now.malformed) × CrewedOnBoth workers passes q result.0 }
 {
     let mut main = |passes: Passes<Ask>| -> (Passes<Ask>, Result<Output, AllocError>)
         requires lock { ArePassesOn board.now registry.now passes }
@@ -290,7 +336,7 @@ fn parts_beside<G: Gate + Sync, R: Threads + Wait + Sync>(
     gate: &G,
     passes: Passes<Ask>,
     first: &[u8],
-    parts: &[Bytes],
+    parts: &[Part<'_>],
 ) -> PartsRun
     requires few { workers ≤ 16 }
     requires clients { (1 ≤ length parts.now) × (length parts.now ≤ 8) }
@@ -336,7 +382,7 @@ pub fn run_parts<G: Gate + Sync, R: Threads + Wait + Sync>(
     workers: u32,
     gate: &G,
     first: &[u8],
-    parts: &[Bytes],
+    parts: &[Part<'_>],
 ) -> PartsRun
     requires few { workers ≤ 16 }
     requires clients { (1 ≤ length parts.now) × (length parts.now ≤ 8) }

@@ -13,9 +13,9 @@ ghost use Rattle.client_run.specs.Meets.{IsPartAt, HaveMet, AnswersPart};
 
 use crate::part::{answer_part, laws};
 use crew::{Gate, Passes, Peer};
-use kc_base::Bytes;
 use reply_text::Reply;
 use script_session::{Session, Shared};
+use script_text::Part;
 use session_calls::{Stop, shared_is_known};
 use shared_board::SharedBoard;
 use shared_registry::SharedRegistry;
@@ -43,11 +43,11 @@ pub struct ClientRun<'a, G, R> {
     /// What all share.
     pub shared: Arc<Shared, Global>,
     /// The clients' parts, that of client 1 first.
-    pub parts: &'a [Bytes],
+    pub parts: &'a [Part<'a>],
 }
 
 // The part of the client with this number on both locks.
-fn part_of(parts: &[Bytes], number: u32) -> Option<&[u8]>
+fn part_of<'a>(parts: &'a [Part<'a>], number: u32) -> Option<&'a [u8]>
     ensures { IsPartAt parts.now number (option_copied result) }
 {
     let place = number.checked_sub(17)?;

@@ -1,6 +1,6 @@
 //! The lines of one part of an input, which is in memory, answered by its session.
 
-ghost use Rattle.std.specs.Prelude.{◌≡◌, ◌≤◌, ◌^◌, ℕ, List, length, IfOk, IfSome, OnOk, MatchResult};
+ghost use Rattle.std.specs.Prelude.{◌≡◌, ◌≤◌, ◌^◌, length, IfOk, OnOk, MatchResult};
 ghost use Rattle.std.specs.List.{list_any};
 ghost use Rattle.dialogues.specs.Dialogues.{Ends as Stands};
 ghost use Rattle.dialogues.specs.Lines.{lines_dialogue};
@@ -8,10 +8,7 @@ ghost use Rattle.dialogues.specs.Widths.{widest};
 ghost use Rattle.script_run.specs.Text.{is_malformed};
 ghost use Rattle.script_session.specs.Holding.{Stops};
 ghost use Rattle.script_session.specs.Running.{IsReady, Replies};
-ghost use Rattle.script_text.specs.Pending.{IsPending};
 ghost use Rattle.script_text.specs.Script.{script_of};
-ghost use Rattle.script_text.specs.Sizes.{IsShortLine};
-ghost use Rattle.client_run.specs.Lines.{FindsLine};
 ghost use Rattle.client_run.specs.Laws.{Laws};
 
 use crew::Gate;
@@ -20,11 +17,11 @@ use dialogues::{
 };
 use reply_text::Reply;
 use script_session::Session;
-use script_text::{Line, LineCutter};
+use script_text::{Line, read_line, split_line};
 use session_calls::Stop;
 use shared_board::SharedBoard;
 use shared_registry::SharedRegistry;
-use std::alloc::{AllocError, Global};
+use std::alloc::Global;
 use std::sync::Wait;
 use std::thread::Threads;
 use transforms::Job;
@@ -45,17 +42,6 @@ fn is_malformed_line(line: &Line) -> bool
     ensures { result ≡ is_malformed line.now }
 {
     matches!(line, Line::Malformed)
-}
-
-// The next line of what was fed, or `None` at its end: the last line may have no line feed.
-fn next_line(cutter: &mut LineCutter) -> Result<Option<Line>, AllocError>
-    ensures line { (bytes : List ℕ) → IsPending bytes cutter.old → IfOk result (FindsLine bytes cutter.new) }
-    ensures short { IfOk result (λ answer. IfSome answer IsShortLine) }
-{
-    if let Some(line) = cutter.next()? {
-        return Ok(Some(line));
-    }
-    cutter.last()
 }
 
 /// Answers each line of a part of at most 2^28 bytes, adds the text of the answers to `reply`, and says whether a line is malformed.
@@ -79,15 +65,16 @@ pub fn answer_part<G: Gate, R: Threads + Wait + Sync>(
     ensures malformed { IfOk result (λ bad. bad ≡ list_any is_malformed (script_of part.now)) }
 {
     laws();
-    let mut cutter = LineCutter::new(alloc);
-    cutter.feed(part)?;
+    let mut rest = part;
     let mut number = 1u32;
     let mut malformed = false;
-    while let Some(line) = next_line(&mut cutter)? {
-        let bad = is_malformed_line(&line);
-        session.line(rt, board, registry, gate, number, line, reply)?;
+    while let Some((line, behind)) = split_line(rest) {
+        let said = read_line(alloc, line)?;
+        let bad = is_malformed_line(&said);
+        session.line(rt, board, registry, gate, number, said, reply)?;
         malformed |= bad;
         number += 1;
+        rest = behind;
     }
     Ok(malformed)
 }

@@ -2,23 +2,25 @@
 //! written, and the trace.
 
 ghost use Rattle.std.specs.Prelude.{◌≡◌, ◌≤◌, ◌<◌, ◌+◌, ◌^◌, ◌++◌, ◌⊎◌, All, Err, true, length, IfOk, IfErr, IsOk, OnOk, OnErr, IsErrOf, MatchResult};
-ghost use Rattle.std.specs.Io.KnownBytes.{Appends, Keeps};
+ghost use Rattle.std.specs.Io.KnownBytes.{Appends, Consumes, IsAtEnd, Keeps};
 ghost use Rattle.kc_base.specs.Streams.{AppendsFront, Rose};
 ghost use Rattle.script_run.specs.Endings.{traced};
 ghost use Rattle.script_run.specs.Runs.{ReadsUpTo};
 ghost use Rattle.script_run.specs.Statuses.{status_of};
 ghost use Rattle.trace_text.specs.Asks.{ask_origin};
 ghost use Rattle.trace_text.specs.Trace.{trace_of, FitTypes};
-ghost use Rattle.client_run.specs.Clients.{RanClients, RanParts, IsCut};
+ghost use Rattle.client_run.specs.Beside.{in_one, printed_by};
+ghost use Rattle.client_run.specs.Clients.{RanClients, RanParts};
 
 use crate::beside::{Output, PartsRun, run_parts};
 use alg_registry::RegLog;
 use board::BoardLog;
 use crew::Gate;
-use kc_base::{Bytes, Sink, Source, read_input, write_and_flush};
+use kc_base::{Bytes, Sink, SinkError, Source, read_input, write_and_flush, write_piece};
+use reply_text::Reply;
 use run_options::ClientOptions;
 use script_run::{MAX_INPUT, Ran, RunError};
-use script_text::cut_parts;
+use script_text::{Part, cut_parts};
 use std::alloc::{AllocError, Global};
 use std::sync::Wait;
 use std::thread::Threads;
@@ -36,17 +38,30 @@ fn zeros(alloc: Global, count: usize) -> Result<Vec<u8>, AllocError>
     vec![in alloc; 0u8; count]
 }
 
-// Reads all that the source has, at most `MAX_INPUT` bytes, and cuts it into the first part and one for each client.
-fn read_parts<S: Source>(alloc: Global, clients: u32, src: &mut S) -> Result<Vec<Bytes>, RunError>
-    ensures whole { IfOk result (λ parts. IsCut clients (S.left src.old) (S.left src.new) parts.items) }
+// Reads all that the source has, at most `MAX_INPUT` bytes.
+fn read_whole<S: Source>(alloc: Global, src: &mut S) -> Result<Bytes, RunError>
+    ensures whole { IfOk result (λ input. Consumes (S.left src.old) (S.left src.new) input × IsAtEnd (S.left src.new) × (length input ≤ 2 ^ 28)) }
     ensures read { ReadsUpTo (S.left src.old) (S.left src.new) (IsErrOf result RunError.TooLong) }
     ensures cause { IsErrOf result RunError.ReadFault → Rose (S.faults src.old) (S.faults src.new) }
     ensures causes { IfErr result (λ e. (e ≡ RunError.ReadFault) ⊎ (e ≡ RunError.NoMemory) ⊎ (e ≡ RunError.TooLong)) }
 {
     let mut buf = zeros(alloc, PIECE)?;
     let input = read_input(alloc, src, &mut buf, MAX_INPUT)?;
-    let parts = cut_parts(alloc, input.as_slice(), clients)?;
-    Ok(parts)
+    Ok(input)
+}
+
+// Writes texts, one behind the other.
+fn write_texts<K: Sink>(texts: &[Reply], out: &mut K) -> Result<(), SinkError>
+    ensures bytes { MatchResult result
+        (λ _. Appends (K.held out.old) (K.held out.new) (in_one texts.now))
+        (λ _. AppendsFront (K.held out.old) (K.held out.new) (in_one texts.now)) }
+    ensures later { K.faults out.old ≤ K.faults out.new }
+    ensures cause { IsErrOf result SinkError.Failed → Rose (K.faults out.old) (K.faults out.new) }
+{
+    for text in texts {
+        write_piece(out, text.as_slice())?;
+    }
+    out.flush()
 }
 
 // Writes the trace of these histories in one piece.
@@ -91,7 +106,7 @@ fn put_traced<K: Sink>(
     Ok(())
 }
 
-// Writes the whole output, and then the trace where it is asked for. Where memory was wanting for the output, nothing
+// Writes the whole output, text after text, and then the trace where it is asked for. Where memory was wanting for the output, nothing
 // is written.
 fn write_output<K: Sink>(
     alloc: Global,
@@ -101,15 +116,15 @@ fn write_output<K: Sink>(
     board: &BoardLog<Ask>,
     out: &mut K,
 ) -> Result<bool, RunError>
-    ensures whole { IfOk result (λ bad. IsOk output × IfOk output (λ o. (bad ≡ o.malformed) × Appends (K.held out.old) (K.held out.new) (o.reply.text ++ traced trace registry.now board.now))) }
+    ensures whole { IfOk result (λ bad. IsOk output × IfOk output (λ o. (bad ≡ o.malformed) × Appends (K.held out.old) (K.held out.new) (printed_by o ++ traced trace registry.now board.now))) }
     ensures nothing { OnErr output (result ≡ Err RunError.NoMemory) }
     ensures fits { trace ≡ true → OnOk result (FitTypes ask_origin registry.now board.now) }
-    ensures front { OnErr result (Keeps (K.held out.old) (K.held out.new) ⊎ (IsOk output × IfOk output (λ o. AppendsFront (K.held out.old) (K.held out.new) (o.reply.text ++ traced trace registry.now board.now)))) }
+    ensures front { OnErr result (Keeps (K.held out.old) (K.held out.new) ⊎ (IsOk output × IfOk output (λ o. AppendsFront (K.held out.old) (K.held out.new) (printed_by o ++ traced trace registry.now board.now)))) }
     ensures cause { IsErrOf result RunError.WriteFault → Rose (K.faults out.old) (K.faults out.new) }
     ensures causes { IfErr result (λ e. (e ≡ RunError.WriteFault) ⊎ (e ≡ RunError.NoMemory)) }
 {
     let output = output?;
-    write_and_flush(out, output.reply.as_slice())?;
+    write_texts(output.texts.as_slice(), out)?;
     put_traced(alloc, trace, registry, board, out)?;
     Ok(output.malformed)
 }
@@ -120,7 +135,7 @@ fn run_cut<K: Sink, G: Gate + Sync, R: Threads + Wait + Sync>(
     alloc: Global,
     options: &ClientOptions,
     gate: &G,
-    parts: &[Bytes],
+    parts: &[Part<'_>],
     out: &mut K,
 ) -> Ran
     requires few { options.now.workers ≤ 16 }
@@ -168,9 +183,12 @@ pub fn run_clients<S: Source, K: Sink, G: Gate + Sync, R: Threads + Wait + Sync>
     ensures usage { IsErrOf result.answer RunError.Usage → ⊥ }
 {
     client_traces_can_be_read();
-    let parts = match read_parts(alloc, options.clients, src) {
-        Ok(parts) => parts,
+    let input = match read_whole(alloc, src) {
+        Ok(input) => input,
         Err(error) => return Ran::not_at_all(alloc, error),
+    };
+    let Ok(parts) = cut_parts(alloc, input.as_slice(), options.clients) else {
+        return Ran::not_at_all(alloc, RunError::NoMemory);
     };
     run_cut(rt, alloc, options, gate, parts.as_slice(), out)
 }

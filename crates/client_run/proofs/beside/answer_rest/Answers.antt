@@ -2,6 +2,7 @@ use Rattle.std.proofs.Common.{refl, sym, subst}
 use Rattle.script_session.specs.Gathering.{IsJoined}
 use Rattle.std.specs.Arc.{arc_value}
 use Rattle.turn_lock.specs.Passes.{knows}
+use Rattle.client_run.specs.Beside.{printed_by}
 use Rattle.client_run.proofs.Joins.{ok-map, rest-joined, rest-gone, rest-unshut, rest-left, rest-answers}
 use Rattle.client_run.proofs.beside.answer_rest.Goals as goal
 
@@ -44,5 +45,5 @@ returns-clause-answers g c =
     ok-map _ _ ends.result.1
     (λ now holds. rest-answers c.end_laws.ensures c.args.workers (arc_value o.shared) c.args.parts.now c.args.passes c.run_peers-passes.result.0 c.requires.opens.0 o.reply.text o.malformed c.requires.opens.1
     c.requires.first.0 c.requires.first.1 c.requires.gave c.requires.clients.0 _ ran.0 ran.2 (knows c.is_shut-on_board.result.0) c.is_shut-on_board.ensures.turn
-    (λ n p q x gives. gives.1) (record { board = ends.result.0; registry = c.run_peers-passes.result.0.registry }) refl (λ outs. outs.items) c.run_peers-passes.result.1 ran.1 now.reply.text now.malformed c.deref.result.now c.deref.ensures holds)
+    (λ n p q x gives. gives.1) (record { board = ends.result.0; registry = c.run_peers-passes.result.0.registry }) refl (λ outs. outs.items) c.run_peers-passes.result.1 ran.1 (printed_by now) now.malformed c.deref.result.now c.deref.ensures holds)
     ends.ensures.done

@@ -1,52 +1,41 @@
-use Rattle.std.proofs.Common.{subst, arith}
-use Rattle.client_run.specs.Lines.{FindsLine}
+use Rattle.std.proofs.Common.{◌≡◌, ◌∷◌, ◌++◌, ◌<◌, length, subst}
 use Rattle.client_run.proofs.Answering.{stopped, stops-then, answering-begins, answering-stops, answering-more, answering-ends, answering-malformed}
-use Rattle.client_run.proofs.NextLines.{fed}
 use Rattle.client_run.proofs.part.answer_part.Goals as goal
 
-pub loop-cutter-init : goal.loop-cutter-init
-loop-cutter-init g c = record {
-  at =
-      answering-begins c.laws.ensures c.args.registry.now c.args.board.now c.args.session.now c.requires.ready c.args.reply.now.text c.args.part.now
-      c.feed.new.self (fed c.args.part.now c.new-cutter.result c.feed.new.self c.new-cutter.ensures c.in_ok-feed.ensures.ok);
+pub loop-line-init : goal.loop-line-init
+loop-line-init g c = record {
+  at = answering-begins c.laws.ensures c.args.registry.now c.args.board.now c.args.session.now c.requires.ready c.args.reply.now.text c.args.part.now;
 }
+
+pub returns-in_err-said-clause-done : goal.returns-in_err-said-clause-done
+returns-in_err-said-clause-done g c =
+    stopped c.from_residual.result _ c.from_residual.ensures.0
+    (answering-stops c.laws.ensures c.args.registry.now c.args.board.now c.args.session.now c.requires.ready c.args.reply.now.text c.args.part.now
+    c.loop-line.rest.now c.loop-line.number c.loop-line.malformed c.loop-line.session c.loop-line.reply.text c.loop-line.invariant.at)
 
 pub returns-in_err-line-clause-done : goal.returns-in_err-line-clause-done
 returns-in_err-line-clause-done g c =
     stopped c.from_residual-in_err-line.result _ c.from_residual-in_err-line.ensures.0
+    (stops-then c.args.session.now c.loop-line.session c.line.new.self
     (answering-stops c.laws.ensures c.args.registry.now c.args.board.now c.args.session.now c.requires.ready c.args.reply.now.text c.args.part.now
-    c.loop-cutter.cutter c.loop-cutter.number c.loop-cutter.malformed c.loop-cutter.session c.loop-cutter.reply.text c.loop-cutter.invariant.at)
+    c.loop-line.rest.now c.loop-line.number c.loop-line.malformed c.loop-line.session c.loop-line.reply.text c.loop-line.invariant.at)
+    c.in_err-line.ensures.done)
 
-pub returns-in_err-line-2-clause-done : goal.returns-in_err-line-2-clause-done
-returns-in_err-line-2-clause-done g c =
-    stopped c.from_residual-in_err-line-2.result _ c.from_residual-in_err-line-2.ensures.0
-    (stops-then c.args.session.now c.loop-cutter.session c.line.new.self
-    (answering-stops c.laws.ensures c.args.registry.now c.args.board.now c.args.session.now c.requires.ready c.args.reply.now.text c.args.part.now
-    c.loop-cutter.cutter c.loop-cutter.number c.loop-cutter.malformed c.loop-cutter.session c.loop-cutter.reply.text c.loop-cutter.invariant.at)
-    c.in_err-line-2.ensures.done)
-
-pub loop-cutter-preserved : goal.loop-cutter-preserved
-loop-cutter-preserved g c =
-    let at = c.loop-cutter.invariant.at in
-    let found = subst (FindsLine at.pending c.next_line.new.cutter) c.in-Some.is (c.in_ok-line.ensures.line at.pending at.pending_is) in
-    record {
-      at =
-          answering-more c.laws.ensures c.args.registry.now c.args.board.now c.args.session.now c.requires.ready c.args.reply.now.text c.args.part.now
-          c.loop-cutter.cutter c.loop-cutter.number c.loop-cutter.malformed c.loop-cutter.session c.loop-cutter.reply.text at
-          c.next_line.new.cutter c.in-Some.line found.0 found.1 (let shorter = found.2 in omega arith) found.3
-          c.is_malformed_line-bad.result c.is_malformed_line-bad.ensures c.line.new.self c.line.new.reply.text c.in_ok-line-2.ensures.done c.in_ok-line-2.ensures.ready;
-    }
+pub loop-line-preserved : goal.loop-line-preserved
+loop-line-preserved g c = record {
+  at =
+      answering-more c.laws.ensures c.args.registry.now c.args.board.now c.args.session.now c.requires.ready c.args.reply.now.text c.args.part.now
+      c.loop-line.rest.now c.loop-line.number c.loop-line.malformed c.loop-line.session c.loop-line.reply.text c.loop-line.invariant.at
+      c.in-Some.line.now c.in-Some.behind.now c.in_ok-said.said c.in-Some.ensures.line c.in-Some.ensures.bytes c.in_ok-said.ensures.line
+      c.is_malformed_line-bad.result c.is_malformed_line-bad.ensures c.line.new.self c.line.new.reply.text c.in_ok-line.ensures.done c.in_ok-line.ensures.ready;
+}
 
 pub returns-clause-done : goal.returns-clause-done
 returns-clause-done g c =
-    let at = c.loop-cutter.invariant.at in
-    let none = subst (FindsLine at.pending c.next_line.new.cutter) c.in_default.is (c.in_ok-line.ensures.line at.pending at.pending_is) in
     answering-ends c.laws.ensures c.args.registry.now c.args.board.now c.args.session.now c.requires.ready c.args.reply.now.text c.args.part.now
-    c.loop-cutter.cutter c.loop-cutter.number c.loop-cutter.malformed c.loop-cutter.session c.loop-cutter.reply.text at none
+    c.loop-line.rest.now c.loop-line.number c.loop-line.malformed c.loop-line.session c.loop-line.reply.text c.loop-line.invariant.at c.in_default.ensures.line
 
 pub returns-clause-malformed : goal.returns-clause-malformed
 returns-clause-malformed g c =
-    let at = c.loop-cutter.invariant.at in
-    let none = subst (FindsLine at.pending c.next_line.new.cutter) c.in_default.is (c.in_ok-line.ensures.line at.pending at.pending_is) in
     answering-malformed c.laws.ensures c.args.registry.now c.args.board.now c.args.session.now c.requires.ready c.args.reply.now.text c.args.part.now
-    c.loop-cutter.cutter c.loop-cutter.number c.loop-cutter.malformed c.loop-cutter.session c.loop-cutter.reply.text at none
+    c.loop-line.rest.now c.loop-line.number c.loop-line.malformed c.loop-line.session c.loop-line.reply.text c.loop-line.invariant.at c.in_default.ensures.line
