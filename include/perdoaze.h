@@ -53,6 +53,9 @@ struct perdoaze {
 /** The most pieces that a text may lie in. readv has the same limit. */
 #define PERDOAZE_MAX_PIECES 1024
 
+/** The most bytes that pieces have together which are changed in their place without memory of malloc. */
+#define PERDOAZE_ON_STACK 4160
+
 /** The most bytes of stack that a call takes. */
 #define PERDOAZE_STACK_SIZE 49152
 
@@ -355,7 +358,8 @@ static inline int perdoaze_decryptv(struct perdoaze *tfm, const void *iv, size_t
 }
 
 /** As perdoaze_encrypt_in_place, where the buffer lies in pieces: its first `n` bytes are encrypted, and the tag goes behind them. No two
- *  pieces have a byte in common. -ENOMEM: malloc gave nothing for a copy of all pieces, which this call makes. */
+ *  pieces have a byte in common. The pieces are copied, and copied back: to the stack where they have at most PERDOAZE_ON_STACK bytes
+ *  together. -ENOMEM: they have more, and malloc gave nothing for the copy. */
 static inline int perdoaze_encryptv_in_place(struct perdoaze *tfm, const void *iv, size_t iv_len, const void *aad, size_t aad_len,
 					     const struct iovec *buffer, size_t pieces, size_t n, size_t *written)
 {
@@ -462,8 +466,7 @@ static inline int perdoaze_encrypt_many(struct perdoaze *tfm, struct perdoaze_re
 	return first;
 }
 
-/** As perdoaze_digest, of a text in pieces, PERDOAZE_MAX_PIECES at most. -ENOMEM: malloc gave nothing for a copy of the text, which this
- *  call makes. */
+/** As perdoaze_digest, of a text in pieces, PERDOAZE_MAX_PIECES at most. They are read where they lie. */
 static inline int perdoaze_digestv(struct perdoaze *tfm, const struct iovec *text, size_t pieces, void *out, size_t out_len,
 				   size_t *written)
 {

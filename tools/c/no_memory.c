@@ -27,72 +27,73 @@ static int fail(const char *what, long at)
 /* The key of authenc: an attribute of 8 bytes, the number of bytes of the cipher's key, the MAC's key, the cipher's. */
 static const uint8_t key[56] = { 8, 0, 1, 0, 0, 0, 0, 16, 5 }, other[56] = { 8, 0, 1, 0, 0, 0, 0, 16, 6 };
 
-static const uint8_t iv[16] = { 2 }, text[32] = { 3 };
+static const uint8_t iv[16] = { 2 };
 
-/* Each malloc of a request over pieces in their place: where one fails, the pieces are as they were. How many there are, or -1. */
-static long in_pieces(struct perdoaze *tfm, const uint8_t *want)
+/* As many bytes as are copied to the stack, with their tag, and more. */
+#define FEW (PERDOAZE_ON_STACK - 32)
+#define MANY (PERDOAZE_ON_STACK - 16)
+
+static uint8_t text[MANY] = { 3 }, want[MANY + 32];
+
+/* Each malloc of a request over n bytes in two pieces in their place: where one fails, the pieces are as they were. How many there are,
+ * or -1. */
+static long in_pieces(struct perdoaze *tfm, size_t n)
 {
-	uint8_t a[20], b[44];
-	const struct iovec buffer[2] = { { a, 20 }, { b, 44 } };
-	size_t n = 7;
+	static uint8_t a[20], b[MANY + 12];
+	const struct iovec buffer[2] = { { a, 20 }, { b, n + 12 } };
+	size_t written = 7;
 
+	if (perdoaze_encrypt(tfm, iv, 16, text, 20, text, n, want, sizeof want, NULL))
+		return -1;
 	for (long i = 0;; i++) {
 		int got;
 
 		memcpy(a, text, 20);
-		memcpy(b, text + 20, 12);
+		memcpy(b, text + 20, n - 20);
 		left = i;
-		got = perdoaze_encryptv_in_place(tfm, iv, 16, text, 20, buffer, 2, 32, &n);
+		got = perdoaze_encryptv_in_place(tfm, iv, 16, text, 20, buffer, 2, n, &written);
 		if (!got && left >= 0) {
 			left = -1;
-			return n == 64 && !memcmp(a, want, 20) && !memcmp(b, want + 20, 44) ? i : -1;
+			return written == n + 32 && !memcmp(a, want, 20) && !memcmp(b, want + 20, n + 12) ? i : -1;
 		}
 		left = -1;
-		if (got != -ENOMEM || n || memcmp(a, text, 20) || memcmp(b, text + 20, 12))
+		if (got != -ENOMEM || written || memcmp(a, text, 20) || memcmp(b, text + 20, n - 20))
 			return -1;
 	}
 }
 
-/* The same of a MAC of a text in pieces. */
-static long digests(void)
+/* How many mallocs a MAC of a text in pieces takes, or -1. */
+static long digests(const char *name)
 {
-	struct perdoaze hmac = PERDOAZE_NONE;
-	const struct iovec pieces[2] = { { (void *)text, 20 }, { (void *)(text + 20), 12 } };
-	uint8_t out[32], want[32];
-	size_t n = 7;
-	long i = 0;
+	struct perdoaze tfm = PERDOAZE_NONE;
+	const struct iovec pieces[3] = { { text, 20 }, { text + 20, 1500 }, { text + 1520, MANY - 1520 } };
+	uint8_t out[32], same[32];
+	size_t n = 7, size;
+	long took;
 
-	if (perdoaze_init(&hmac, "hmac(sha256)") || perdoaze_setkey(&hmac, key, 16) || perdoaze_digest(&hmac, text, 32, want, 32, NULL))
+	if (perdoaze_init(&tfm, name) || perdoaze_setkey(&tfm, key, 16) || perdoaze_digest(&tfm, text, MANY, same, 32, &size))
 		return -1;
-	for (;; i++) {
-		int got;
-
-		left = i;
-		got = perdoaze_digestv(&hmac, pieces, 2, out, 32, &n);
-		if (!got && left >= 0)
-			break;
-		left = -1;
-		if (got != -ENOMEM || n)
-			return -1;
-	}
-	left = -1;
-	perdoaze_free(&hmac);
-	return n == 32 && !memcmp(out, want, 32) ? i : -1;
+	used = 0;
+	if (perdoaze_digestv(&tfm, pieces, 3, out, 32, &n) || n != size || memcmp(out, same, size))
+		return -1;
+	took = used;
+	perdoaze_free(&tfm);
+	return took;
 }
 
-static bool answers(struct perdoaze *tfm, const uint8_t *want)
+static bool answers(struct perdoaze *tfm, const uint8_t *first)
 {
 	uint8_t out[64];
 	size_t n = 0;
 
-	return !perdoaze_encrypt(tfm, iv, 16, text, 20, text, 32, out, 64, &n) && n == 64 && !memcmp(out, want, 64);
+	return !perdoaze_encrypt(tfm, iv, 16, text, 20, text, 32, out, 64, &n) && n == 64 && !memcmp(out, first, 64);
 }
 
 int main(void)
 {
 	struct perdoaze t = PERDOAZE_NONE, u = PERDOAZE_NONE;
-	uint8_t want[64], out[64] = { 0 };
-	long inits, keys, dups, requests, pieces, macs;
+	uint8_t first[64], out[64] = { 0 };
+	long inits, keys, dups, requests, few, many, macs;
 
 	if (perdoaze_init(&t, DRIVER))
 		return fail("init", -1);
@@ -102,7 +103,7 @@ int main(void)
 		return fail("setkey", -1);
 	keys = used;
 	used = 0;
-	if (perdoaze_encrypt(&t, iv, 16, text, 20, text, 32, want, 64, NULL))
+	if (perdoaze_encrypt(&t, iv, 16, text, 20, text, 32, first, 64, NULL))
 		return fail("encrypt", -1);
 	if (perdoaze_encrypt_many(&t, &(struct perdoaze_request){ iv, 16, text, 20, out, 64, 32, 0, 0 }, 1))
 		return fail("encrypt_many", -1);
@@ -111,18 +112,19 @@ int main(void)
 	if (perdoaze_dup(&t, &u))
 		return fail("dup", -1);
 	dups = used;
-	pieces = in_pieces(&t, want);
-	macs = digests();
-	if (pieces < 1 || macs < 1)
-		return fail("pieces", pieces);
+	few = in_pieces(&t, FEW);
+	many = in_pieces(&t, MANY);
+	macs = digests("hmac(sha256)") + digests("cmac(aes)");
+	if (few || many < 1 || macs)
+		return fail("pieces", many);
 	for (long i = 0; i < keys; i++) {
 		left = i;
-		if (perdoaze_setkey(&t, other, sizeof other) != -ENOMEM || (left = -1, !answers(&t, want)))
+		if (perdoaze_setkey(&t, other, sizeof other) != -ENOMEM || (left = -1, !answers(&t, first)))
 			return fail("setkey", i);
 	}
 	for (long i = 0; i < dups; i++) {
 		left = i;
-		if (perdoaze_dup(&t, &u) != -ENOMEM || (left = -1, !answers(&t, want)) || perdoaze_setauthsize(&u, 32) != -EINVAL)
+		if (perdoaze_dup(&t, &u) != -ENOMEM || (left = -1, !answers(&t, first)) || perdoaze_setauthsize(&u, 32) != -EINVAL)
 			return fail("dup", i);
 	}
 	for (long i = 0; i < inits; i++) {
@@ -132,7 +134,7 @@ int main(void)
 	}
 	perdoaze_free(&t);
 	perdoaze_free(&u);
-	printf("mallocs: init %ld, setkey %ld, dup %ld, encrypt %ld, encryptv_in_place %ld, digestv %ld\n", inits, keys, dups, requests, pieces,
-	       macs);
+	printf("mallocs: init %ld, setkey %ld, dup %ld, encrypt %ld, encryptv_in_place %ld and %ld, digestv %ld\n", inits, keys, dups, requests,
+	       few, many, macs);
 	return requests ? fail("encrypt takes memory", requests) : 0;
 }

@@ -12,7 +12,7 @@ from common import TOP, draw
 
 AES = ["aes-lanes", "aes-table", "aes-generic"]
 GHASH = ["ghash-table", "ghash-generic"]
-LENGTHS = [0, 1, 15, 16, 17, 31, 33, 64, 100, 127, 128, 129, 255, 256, 300, 511, 1000, 1400]
+LENGTHS = [0, 1, 15, 16, 17, 31, 33, 64, 100, 127, 128, 129, 255, 256, 300, 511, 1000, 1400, 4480]
 
 
 def hexed(data):

@@ -217,7 +217,7 @@ pub extern "C" fn perdoaze_raw_digestv(
     written: &mut usize,
 ) -> i32
     ensures kept { slot.new.handle.value ≡ slot.old.handle.value }
-    ensures came { OnPlaceTo slot.old.handle.value (λ t. OrNoMemory (Digests t (text_in text.now))) result out.old out.new written.new }
+    ensures came { OnPlaceTo slot.old.handle.value (λ t. Digests t (text_in text.now)) result out.old out.new written.new }
 {
     calls::digest_pieces(slot, alloc, text, out, written).code()
 }

@@ -13,6 +13,17 @@ text_from ps i d l =
     let next : suc i ≡ i + 1 = omega arith in
     ap text_in (drop-cons ps i d l) ∙ ap (λ j. (get_or ps i d).bytes.now ++ text_in (drop j ps)) next
 
+pub text_in-append : (ps qs : List Piece) → text_in (ps ++ qs) ≡ text_in ps ++ text_in qs
+text_in-append [] qs = refl
+text_in-append (p ∷ ps) qs = ap (λ x. p.bytes.now ++ x) (text_in-append ps qs) ∙ sym (append_assoc p.bytes.now (text_in ps) (text_in qs))
+
+-- the pieces up to the one at i
+pub text_in_more : (ps : List Piece) (i : ℕ) (d : Piece) → i < length ps → text_in (take (i + 1) ps) ≡ text_in (take i ps) ++ (get_or ps i d).bytes.now
+text_in_more ps i d l =
+    ap text_in (take_more ps i d l)
+    ∙ text_in-append (take i ps) (get_or ps i d ∷ [])
+    ∙ ap (λ x. text_in (take i ps) ++ x) (append-nil (get_or ps i d).bytes.now)
+
 -- once `done` of n bytes were copied, and `skip` bytes of what is left are to be passed over
 pub record IsGathered (ps : List Piece) (at n i skip done : ℕ) (old into : List ℕ) : Type 0 where
   pub copied : take done into ++ take (n - done) (drop skip (text_in (drop i ps))) ≡ take n (drop at (text_in ps))
@@ -82,6 +93,41 @@ pub text_over_from : (ps : List PieceMut) (i : ℕ) (d : PieceMut) → i < lengt
 text_over_from ps i d l =
     let next : suc i ≡ i + 1 = omega arith in
     ap text_over (drop-cons ps i d l) ∙ ap (λ j. (get_or ps i d).bytes.now ++ text_over (drop j ps)) next
+
+-- once `done` bytes of all were copied, those of the first i pieces
+pub record IsCopied (ps : List PieceMut) (i done : ℕ) (old into : List ℕ) : Type 0 where
+  pub copied : take done into ++ text_over (drop i ps) ≡ text_over ps
+  pub size : done + length (text_over (drop i ps)) ≡ length (text_over ps)
+  pub long : length into ≡ length old
+
+-- a piece more
+pub copied_more : (ps : List PieceMut) (i done : ℕ) (d : PieceMut) (old into new piece : List ℕ) → i < length ps → length (text_over ps) ≤ length old
+    → piece ≡ (get_or ps i d).bytes.now → IsCopied ps i done old into → new ≡ take done into ++ piece ++ drop (length piece) (drop done into)
+    → IsCopied ps (i + 1) (done + length piece) old new
+copied_more ps i done d old into new piece l fits part h made =
+    let front : List ℕ = take done into ++ piece in
+    let left = drop (length piece) (drop done into) in
+    let later = text_over (drop (i + 1) ps) in
+    let here : length (text_over (drop i ps)) ≡ length piece + length later =
+    ap length (text_over_from ps i d l ∙ ap (λ x. x ++ later) (sym part)) ∙ length-append piece later in
+    let within : done ≤ length into = omega (arith, h.size, h.long, fits) in
+    let long : length front ≡ done + length piece = length-append (take done into) piece ∙ ap (λ n. n + length piece) (length-take-le done into within) in
+    record {
+      copied = ap (λ x. x ++ later) (ap (take (done + length piece)) made ∙ subst (λ m. take m (front ++ left) ≡ front) long (take-append_seam front left))
+          ∙ append_assoc (take done into) piece later
+          ∙ ap (λ x. take done into ++ (x ++ later)) part
+          ∙ ap (λ x. take done into ++ x) (sym (text_over_from ps i d l))
+          ∙ h.copied;
+      size = omega (arith, h.size, here);
+      long = ap length made ∙ omega (arith, length-append front left, long, length-drop (length piece) (drop done into), length-drop done into, here, h.size, h.long, fits);
+    }
+
+-- at the end all are
+pub copied_all : (ps : List PieceMut) (i done : ℕ) (old into : List ℕ) → length ps ≤ i → IsCopied ps i done old into
+    → (done ≡ length (text_over ps)) × (take done into ≡ text_over ps) × (length into ≡ length old)
+copied_all ps i done old into past h =
+    let none : text_over (drop i ps) ≡ [] = ap text_over (drop_all i ps past) in
+    (omega (arith, h.size, ap length none), sym (append-nil (take done into)) ∙ ap (λ x. take done into ++ x) (sym none) ∙ h.copied, h.long)
 
 -- once the first i pieces have the first `done` bytes
 pub record IsScattered (old : List PieceMut) (from : List ℕ) (i done : ℕ) (ps : List PieceMut) : Type 0 where

@@ -4,3 +4,4 @@ pub mod Gathering
 pub mod KeySizes
 pub mod Listing
 pub mod Encryptions
+pub mod Chained

@@ -15,3 +15,7 @@ text_over (p ∷ ps) = p.bytes.now ++ text_over ps
 -- the bytes of a piece
 abbrev pub size_of : PieceMut → ℕ
 size_of p = length p.bytes.now
+
+-- pieces of no more bytes together are changed in their place without memory
+abbrev pub most_on_stack : ℕ
+most_on_stack = 4160

@@ -10,6 +10,7 @@ use Rattle.transforms.specs.RequestValue.{request_value}
 use Rattle.transforms.specs.declared.request.Request.{Request}
 use Rattle.kc_base.specs.declared.error_numbers.Errno.{Errno}
 use Rattle.kc_base.specs.declared.error_numbers.Errno.TheVariants.{EBADMSG}
+use Rattle.perdoaze_calls.specs.Pieces.{most_on_stack}
 use Rattle.perdoaze_calls.specs.Status.{code_of}
 use Rattle.perdoaze_calls.specs.Under.{key_within}
 use Rattle.perdoaze_calls.specs.declared.status.Status.{Status}
@@ -66,9 +67,9 @@ DecryptsWithin t iv aad n status old new written = Answers t (unsealing iv aad (
 abbrev pub Digests : Transform → List ℕ → Status → List ℕ → List ℕ → ℕ → Type 0
 Digests t text = Answers t (making text) (mac_size t.plan) 0
 
--- the same of a call that takes memory: where that is wanting, nothing went out
+-- the same of a call that takes memory for pieces of many bytes: where that is wanting, nothing went out
 abbrev pub OrNoMemory : (Status → List ℕ → List ℕ → ℕ → Type 0) → Status → List ℕ → List ℕ → ℕ → Type 0
-OrNoMemory answers NoMemory old new written = GaveNothing old new written
+OrNoMemory answers NoMemory old new written = (most_on_stack < length old) × GaveNothing old new written
 OrNoMemory answers status old new written = answers status old new written
 
 -- what a call comes to on a place: where there is no transform, it is invalid

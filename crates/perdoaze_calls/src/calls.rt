@@ -242,13 +242,13 @@ pub fn digest_pieces(
     written: &mut usize,
 ) -> Status
     ensures kept { slot.new.handle.value ≡ slot.old.handle.value }
-    ensures came { OnPlace slot.old.handle.value (λ t. OrNoMemory (Digests t (text_in pieces.now))) result out.old out.new written.new }
+    ensures came { OnPlace slot.old.handle.value (λ t. Digests t (text_in pieces.now)) result out.old out.new written.new }
 {
     *written = 0;
     let Some(held) = slot.take(alloc) else {
         return Status::Invalid;
     };
-    let status = held.digest_pieces(alloc, pieces, out, written);
+    let status = held.digest_pieces(pieces, out, written);
     slot.fill(held);
     status
 }

@@ -8,6 +8,7 @@ mod handle;
 mod info;
 pub mod laws;
 mod loose;
+mod macs;
 mod many;
 mod naming;
 mod pieces;
@@ -21,6 +22,7 @@ mod vectored;
 
 pub use encryption::Encryption;
 pub use info::Info;
+pub use loose::Loose;
 pub use naming::init;
 pub use pieces::{Piece, PieceMut};
 pub use slot::Slot;

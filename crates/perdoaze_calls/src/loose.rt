@@ -7,8 +7,8 @@ use std::marker::Model;
 
 /// A box as its pointer and its allocator.
 pub struct Loose<T, A: Allocator> {
-    pub(crate) ptr: *mut T,
-    pub(crate) alloc: A,
+    pub ptr: *mut T,
+    pub alloc: A,
     pub ghost value: { T },
 }
 

@@ -1,7 +1,7 @@
 //! Texts in pieces.
 
-ghost use Rattle.std.specs.Prelude.{◌≡◌, ◌≤◌, ◌<◌, ◌^◌, ◌+◌, ◌++◌, length, map, take, drop, MatchOption, IfOk};
-ghost use Rattle.perdoaze_calls.specs.Pieces.{text_in, text_over, size_of};
+ghost use Rattle.std.specs.Prelude.{◌≡◌, ◌≤◌, ◌<◌, ◌^◌, ◌+◌, ◌++◌, length, map, take, drop, IsTrue, IsFalse, MatchOption, IfOk};
+ghost use Rattle.perdoaze_calls.specs.Pieces.{text_in, text_over, size_of, most_on_stack};
 
 use crate::requests::copy_front;
 use in_step::Text;
@@ -71,15 +71,37 @@ pub fn gather(pieces: &[Piece<'_>], at: usize, n: usize, into: &mut [u8])
     }
 }
 
-/// The bytes of all pieces. Only want of memory is an error.
-pub fn joined(alloc: Global, pieces: &[Piece<'_>]) -> Result<Vec<u8>, AllocError>
-    ensures { IfOk result (λ whole. whole.items ≡ text_in pieces.now) }
+/// Pieces that are changed in their place are copied to the stack where they have no more bytes together.
+pub const MOST_ON_STACK: usize = 4160;
+
+/// Whether the pieces have at most 4,160 bytes together.
+pub fn are_few(pieces: &[PieceMut<'_>]) -> bool
+    ensures few { IsTrue result → length (text_over pieces.now) ≤ most_on_stack }
+    ensures many { IsFalse result → most_on_stack < length (text_over pieces.now) }
 {
-    let mut whole = Vec::new(alloc);
+    let mut left = MOST_ON_STACK;
     for piece in pieces {
-        whole.extend_from_slice(piece.bytes)?;
+        if piece.bytes.len() > left {
+            return false;
+        }
+        left -= piece.bytes.len();
     }
-    Ok(whole)
+    true
+}
+
+/// Copies the bytes of all pieces to the front of `into`. How many there are.
+pub fn gather_all(pieces: &[PieceMut<'_>], into: &mut [u8]) -> usize
+    requires { length (text_over pieces.now) ≤ length into.old }
+    ensures count { result ≡ length (text_over pieces.now) }
+    ensures copied { take result into.new ≡ text_over pieces.now }
+    ensures len { length into.new ≡ length into.old }
+{
+    let mut done = 0;
+    for piece in pieces {
+        put_behind(piece.bytes, done, into);
+        done += piece.bytes.len();
+    }
+    done
 }
 
 /// The bytes of all pieces. Only want of memory is an error.

@@ -1,11 +1,14 @@
 //! Requests whose text lies in pieces.
 
-ghost use Rattle.std.specs.Prelude.{◌≡◌, map};
-ghost use Rattle.perdoaze_calls.specs.Pieces.{text_in, text_over, size_of};
+ghost use Rattle.std.specs.Prelude.{◌≡◌, ◌≤◌, length, map};
+ghost use Rattle.perdoaze_calls.specs.Pieces.{text_in, text_over, size_of, most_on_stack};
 ghost use Rattle.perdoaze_calls.specs.Requests.{Encrypts, Decrypts, EncryptsWithin, DecryptsWithin, Digests, OrNoMemory};
 
-use crate::pieces::{Piece, PieceMut, gather, joined, joined_over, scatter, total_len};
-use crate::requests::{clear_front, open_under, seal_front, status_of};
+use crate::macs::make_of_pieces;
+use crate::pieces::{
+    MOST_ON_STACK, Piece, PieceMut, are_few, gather, gather_all, joined_over, scatter, total_len,
+};
+use crate::requests::{clear_front, copy_front, open_under, seal_front, status_of};
 use crate::status::Status;
 use crate::transform::Transform;
 use std::alloc::Global;
@@ -89,7 +92,48 @@ impl Transform {
         }
     }
 
-    /// Encrypts the first `n` bytes of the pieces in their place, and writes the tag behind them. It takes memory for all of them.
+    /// The same of `encrypt_within`, where the pieces have few bytes: these are copied to the stack.
+    fn encrypt_few_within(
+        &self,
+        iv: &[u8],
+        aad: &[u8],
+        pieces: &mut [PieceMut<'_>],
+        n: usize,
+        written: &mut usize,
+    ) -> Status
+        requires { length (text_over pieces.old) ≤ most_on_stack }
+        ensures came { EncryptsWithin self.now iv.now aad.now n result (text_over pieces.old) (text_over pieces.new) written.new }
+        ensures sizes { map size_of pieces.new ≡ map size_of pieces.old }
+    {
+        let mut room = [0u8; MOST_ON_STACK];
+        let total = gather_all(pieces, &mut room);
+        let status = self.encrypt_within(iv, aad, &mut room[..total], n, written);
+        scatter(&room[..total], pieces);
+        status
+    }
+
+    /// The same of `decrypt_within`.
+    fn decrypt_few_within(
+        &self,
+        iv: &[u8],
+        aad: &[u8],
+        pieces: &mut [PieceMut<'_>],
+        n: usize,
+        written: &mut usize,
+    ) -> Status
+        requires { length (text_over pieces.old) ≤ most_on_stack }
+        ensures came { DecryptsWithin self.now iv.now aad.now n result (text_over pieces.old) (text_over pieces.new) written.new }
+        ensures sizes { map size_of pieces.new ≡ map size_of pieces.old }
+    {
+        let mut room = [0u8; MOST_ON_STACK];
+        let total = gather_all(pieces, &mut room);
+        let status = self.decrypt_within(iv, aad, &mut room[..total], n, written);
+        scatter(&room[..total], pieces);
+        status
+    }
+
+    /// Encrypts the first `n` bytes of the pieces in their place, and writes the tag behind them. It takes memory for all of them where they
+    /// have more than 4,160 bytes together.
     pub fn encrypt_pieces_within(
         &self,
         alloc: Global,
@@ -103,6 +147,9 @@ impl Transform {
             result (text_over pieces.old) (text_over pieces.new) written.new }
         ensures sizes { map size_of pieces.new ≡ map size_of pieces.old }
     {
+        if are_few(pieces) {
+            return self.encrypt_few_within(iv, aad, pieces, n, written);
+        }
         *written = 0;
         let Ok(mut whole) = joined_over(alloc, pieces) else {
             return Status::NoMemory;
@@ -112,7 +159,8 @@ impl Transform {
         status
     }
 
-    /// Decrypts the first `n` bytes of the pieces in their place, of which the last are the tag. It takes memory for all of them.
+    /// Decrypts the first `n` bytes of the pieces in their place, of which the last are the tag. It takes memory for all of them where they
+    /// have more than 4,160 bytes together.
     pub fn decrypt_pieces_within(
         &self,
         alloc: Global,
@@ -126,6 +174,9 @@ impl Transform {
             result (text_over pieces.old) (text_over pieces.new) written.new }
         ensures sizes { map size_of pieces.new ≡ map size_of pieces.old }
     {
+        if are_few(pieces) {
+            return self.decrypt_few_within(iv, aad, pieces, n, written);
+        }
         *written = 0;
         let Ok(mut whole) = joined_over(alloc, pieces) else {
             return Status::NoMemory;
@@ -135,20 +186,34 @@ impl Transform {
         status
     }
 
-    /// Writes the MAC of a text in pieces into `out`. It takes memory for the text.
+    /// Writes the MAC of a text in pieces into `out`. No memory is taken.
     pub fn digest_pieces(
         &self,
-        alloc: Global,
         pieces: &[Piece<'_>],
         out: &mut [u8],
         written: &mut usize,
     ) -> Status
-        ensures { OrNoMemory (Digests self.now (text_in pieces.now)) result out.old out.new written.new }
+        ensures { Digests self.now (text_in pieces.now) result out.old out.new written.new }
     {
         *written = 0;
-        match joined(alloc, pieces) {
-            Ok(whole) => self.digest(whole.as_slice(), out, written),
-            Err(_) => Status::NoMemory,
+        let Some(n) = total_len(pieces) else {
+            return Status::Invalid;
+        };
+        let keyed = match self.ready(0, n) {
+            Ok(keyed) => keyed,
+            Err(status) => return status,
+        };
+        let mut room = [0u8; 32];
+        match make_of_pieces(keyed, pieces, n, &mut room) {
+            Ok(size) => {
+                if out.len() < size {
+                    return Status::NoRoom;
+                }
+                copy_front(&room[..size], out);
+                *written = size;
+                Status::Done
+            }
+            Err(_) => Status::Invalid,
         }
     }
 }

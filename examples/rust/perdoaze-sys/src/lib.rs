@@ -448,7 +448,8 @@ impl Transform {
         Ok(n)
     }
 
-    /// As [`Transform::encrypt_in_place`], where the buffer lies in pieces. It takes memory for a copy of all of them: `ENOMEM`.
+    /// As [`Transform::encrypt_in_place`], where the buffer lies in pieces. All of them are copied:
+    /// where they have more than 4,160 bytes together, it takes memory for that (`ENOMEM`).
     pub fn encrypt_vectored_in_place(
         &mut self,
         iv: &[u8],
@@ -473,7 +474,8 @@ impl Transform {
         Ok(written)
     }
 
-    /// As [`Transform::decrypt_in_place`], where the buffer lies in pieces. It takes memory for a copy of all of them: `ENOMEM`.
+    /// As [`Transform::decrypt_in_place`], where the buffer lies in pieces. All of them are copied:
+    /// where they have more than 4,160 bytes together, it takes memory for that (`ENOMEM`).
     pub fn decrypt_vectored_in_place(
         &mut self,
         iv: &[u8],
@@ -540,7 +542,7 @@ impl Transform {
         Ok(n)
     }
 
-    /// As [`Transform::digest`], of a text in pieces. It takes memory for a copy of the text: `ENOMEM`.
+    /// As [`Transform::digest`], of a text in pieces, which are read where they lie.
     pub fn digest_vectored(&mut self, text: &[IoSlice<'_>], out: &mut [u8]) -> Result<usize, Errno> {
         let mut n = 0;
         done(unsafe {
