@@ -45,7 +45,7 @@ past x y at lt =
     ap (λ (n : ℕ). take 64 (drop n (x ++ y))) split ∙ ap (take 64) (drop-append-add x y (at - length x))
     ∙ rw (drop_all at x (omega arith), all) refl
 
-parted : (x y : List ℕ) (at : ℕ) → take 64 (drop at (x ++ y)) ≡ take 64 (drop at x) ++ take (64 - min 64 (length x - at)) (drop (at - length x) y)
+pub parted : (x y : List ℕ) (at : ℕ) → take 64 (drop at (x ++ y)) ≡ take 64 (drop at x) ++ take (64 - min 64 (length x - at)) (drop (at - length x) y)
 parted x y at = elim (cases_lt (length x) at) [ inl lt ↦ past x y at lt | inr le ↦ within x y at le ]
 
 -- a piece more
@@ -96,10 +96,10 @@ put_length a k xs ys within long = grind (arith, common_steps)
 
 -- ---- the whole message
 
-to-bytes-long : (n : ℕ) → length (to_be_bytes w64 n) ≡ 8
+pub to-bytes-long : (n : ℕ) → length (to_be_bytes w64 n) ≡ 8
 to-bytes-long n = refl
 
-padding-long : (n : ℕ) → length (padding n) ≡ (119 - n % 64) % 64 + 9
+pub padding-long : (n : ℕ) → length (padding n) ≡ (119 - n % 64) % 64 + 9
 padding-long n =
     let z : ℕ = (119 - n % 64) % 64 in
     omega (arith, length-append (0x80 ∷ replicate z 0) (to_be_bytes w64 (n * 8 % 2 ^ 64)), length-replicate {A = ℕ} z 0, to-bytes-long (n * 8 % 2 ^ 64))
