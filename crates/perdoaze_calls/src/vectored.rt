@@ -187,12 +187,7 @@ impl Transform {
     }
 
     /// Writes the MAC of a text in pieces into `out`. No memory is taken.
-    pub fn digest_pieces(
-        &self,
-        pieces: &[Piece<'_>],
-        out: &mut [u8],
-        written: &mut usize,
-    ) -> Status
+    pub fn digest_pieces(&self, pieces: &[Piece<'_>], out: &mut [u8], written: &mut usize) -> Status
         ensures { Digests self.now (text_in pieces.now) result out.old out.new written.new }
     {
         *written = 0;
