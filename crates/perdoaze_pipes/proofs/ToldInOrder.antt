@@ -228,7 +228,7 @@ values_after before (e ∷ es) =
     let asks = submissions (before ++ e ∷ es) in
     let grown : asks ≡ submissions before ++ submissions (e ∷ es) = filter_map-append accepted_in before (e ∷ es) in
     let here : All (HasValue asks) (delivered_by before e) =
-    subst (λ (as : List Ask). All (HasValue as) (delivered_by before e)) (sym grown)
+    subst (λ (asks : List Ask). All (HasValue asks) (delivered_by before e)) (sym grown)
     (All-weaker (HasValue (submissions before)) (HasValue (submissions before ++ submissions (e ∷ es))) (λ c v. value_stays (submissions before) (submissions (e ∷ es)) c v) (delivered_by before e) (values_step before e)) in
     let rest : All (HasValue asks) (delivered_after (before ++ e ∷ []) es) =
     subst (λ (xs : List (BoardEntry Ask)). All (HasValue (submissions xs)) (delivered_after (before ++ e ∷ []) es)) (append_assoc before (e ∷ []) es) (values_after (before ++ e ∷ []) es) in
@@ -255,4 +255,4 @@ tells_all L hands all p q i (none, front, made, empty) legal =
     ∙ (delivers_handed_out q.order.history legal
     ∙ (ap (λ g. completed (handed_out (entries_of 0 g))) after
     ∙ (hands h 0 0 to (subst (λ (g : List (BoardEntry Ask)). LegalBoard g) after legal) (all es front)
-    ∙ ap (λ as. numbers_below (length as)) (sym subs))))
+    ∙ ap (λ xs. numbers_below (length xs)) (sym subs))))

@@ -1,5 +1,5 @@
 -- Jobs that are run at once.
-use Rattle.std.specs.Prelude.{◌≡◌, ⊤, ⊥, Option, Some, None}
+use Rattle.std.specs.Prelude.{◌≡◌, ⊤, Option, Some, None}
 use Rattle.std.specs.Arc.{arc_value}
 use Rattle.transforms.specs.declared.job.Job.{Job}
 use Rattle.transforms.specs.declared.request.Finished.{Finished}

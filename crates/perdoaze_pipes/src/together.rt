@@ -1,6 +1,6 @@
 //! Several jobs run at once.
 
-ghost use Rattle.std.specs.Prelude.{◌≡◌, ◌<◌, ℕ, Some, None, MatchOption, IsSome, slice_index_or};
+ghost use Rattle.std.specs.Prelude.{◌≡◌, ◌<◌, ◌+◌, ℕ, Some, None, MatchOption, IsSome, slice_index_or};
 ghost use Rattle.perdoaze_pipes.specs.Together.{RunsThere, IsUnready, IsRun, IsSplit, IsOutcome, IsJoined};
 ghost use Rattle.perdoaze_pipes.specs.declared.task.Task.TheVariants as tasks;
 
