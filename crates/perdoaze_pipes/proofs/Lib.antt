@@ -1,4 +1,3 @@
-pub mod Beside
 pub mod Delivering
 pub mod Keeping
 pub mod PipeFilled
