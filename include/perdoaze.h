@@ -571,8 +571,6 @@ int32_t perdoaze_raw_pipe_submit(struct perdoaze_pipe *pipe, struct perdoaze *tf
 				 uint64_t *number);
 int32_t perdoaze_raw_pipe_take(struct perdoaze_pipe *pipe, uint32_t worker, struct perdoaze_job *job);
 int32_t perdoaze_raw_job_run(struct perdoaze_job *job);
-void perdoaze_raw_jobs_run(struct perdoaze_job *a, struct perdoaze_job *b, struct perdoaze_job *c, struct perdoaze_job *d,
-			   struct perdoaze_job *e, struct perdoaze_job *f, struct perdoaze_job *g, struct perdoaze_job *h);
 int32_t perdoaze_raw_pipe_finish(struct perdoaze_pipe *pipe, struct perdoaze_job *job);
 int32_t perdoaze_raw_pipe_poll(struct perdoaze_pipe *pipe, struct perdoaze_event *event, uint8_t *out, size_t out_len);
 int32_t perdoaze_raw_pipe_drained(struct perdoaze_pipe *pipe);
@@ -621,22 +619,6 @@ static inline int perdoaze_pipe_take(struct perdoaze_pipe *pipe, uint32_t worker
 static inline int perdoaze_job_run(struct perdoaze_job *job)
 {
 	return job ? perdoaze_raw_job_run(job) : -PERDOAZE_EINVAL_;
-}
-
-/** As perdoaze_job_run for each job of the array that wasn't run. Eight at a time go side by side where they seal whole blocks under one key of
- *  CBC, or authenc over it. A thread that is to have several jobs takes each under a worker's number of its own. */
-static inline void perdoaze_jobs_run(struct perdoaze_job *jobs, size_t n)
-{
-	if (!jobs)
-		return;
-	for (size_t i = 0; i < n; i += 8) {
-		struct perdoaze_job none[8];
-		struct perdoaze_job *at[8];
-		memset(none, 0, sizeof none);
-		for (size_t k = 0; k < 8; k++)
-			at[k] = k < n - i ? &jobs[i + k] : &none[k];
-		perdoaze_raw_jobs_run(at[0], at[1], at[2], at[3], at[4], at[5], at[6], at[7]);
-	}
 }
 
 /** Gives a job that was run back to its pipe; the place has none then. -EINVAL: it is another pipe's, wasn't run, or was finished: nothing

@@ -115,11 +115,7 @@ static bool work(struct worker *w, struct line *l, struct line *other)
 		perdoaze_job_free(&job);
 		return true;
 	}
-	if (draw(w, 2))
-		perdoaze_jobs_run(&job, 1);
-	else
-		CHECK(w, !perdoaze_job_run(&job));
-	CHECK(w, perdoaze_job_run(&job) == -EINVAL);
+	CHECK(w, !perdoaze_job_run(&job) && perdoaze_job_run(&job) == -EINVAL);
 	pthread_mutex_lock(&other->lock);
 	took = perdoaze_pipe_finish(&other->pipe, &job);
 	pthread_mutex_unlock(&other->lock);
@@ -232,46 +228,6 @@ static bool end(struct worker *w, struct line *l)
 	return true;
 }
 
-/* A thread with as many jobs as there are workers: of one key, of two, and beside places that have none. */
-static bool together(const char *name, const char *other, size_t key_size, size_t iv_size)
-{
-	static const uint8_t key[56] = { 8, 0, 1, 0, 0, 0, 0, 16 }, iv[16] = { 3 };
-	struct perdoaze both[2] = { PERDOAZE_NONE, PERDOAZE_NONE };
-	struct perdoaze_pipe pipe = PERDOAZE_NONE;
-	struct perdoaze_job jobs[PERDOAZE_MAX_WORKERS + 3];
-	struct perdoaze_event event;
-	uint8_t text[64], out[96], want[96];
-	size_t made;
-	bool holds = true;
-
-	memset(jobs, 0, sizeof jobs);
-	if (perdoaze_init(&both[0], name) || perdoaze_setkey(&both[0], key, key_size) || perdoaze_init(&both[1], other)
-	    || perdoaze_setkey(&both[1], key, 16) || perdoaze_pipe_init(&pipe, PERDOAZE_PCRYPT, 0, PERDOAZE_MAX_WORKERS))
-		return false;
-	for (uint8_t i = 0; i < PERDOAZE_MAX_WORKERS; i++) {
-		memset(text, i, sizeof text);
-		holds &= perdoaze_pipe_submit(&pipe, &both[i == 13], PERDOAZE_ENCRYPT, iv, i == 13 ? 12 : iv_size, text, i, text, 16u * (i % 4), NULL) == -EINPROGRESS;
-	}
-	for (uint32_t i = 0; i < PERDOAZE_MAX_WORKERS; i++)
-		holds &= perdoaze_pipe_take(&pipe, i + 1, &jobs[i + (i > 9)]) == 1;
-	perdoaze_jobs_run(jobs, PERDOAZE_MAX_WORKERS + 3);
-	for (uint32_t i = PERDOAZE_MAX_WORKERS; i-- > 0;)
-		holds &= !perdoaze_pipe_finish(&pipe, &jobs[i + (i > 9)]);
-	for (uint8_t i = 0; i < PERDOAZE_MAX_WORKERS; i++) {
-		memset(text, i, sizeof text);
-		holds &= perdoaze_pipe_poll(&pipe, &event, out, sizeof out) == 1 && event.number == i && !event.status;
-		holds &= !perdoaze_encrypt(&both[i == 13], iv, i == 13 ? 12 : iv_size, text, i, text, 16u * (i % 4), want, sizeof want, &made);
-		holds &= made == event.size && !memcmp(out, want, made);
-	}
-	holds &= perdoaze_pipe_drained(&pipe) == 1;
-	for (uint32_t i = 0; i < PERDOAZE_MAX_WORKERS + 3; i++)
-		perdoaze_job_free(&jobs[i]);
-	perdoaze_pipe_free(&pipe);
-	perdoaze_free(&both[0]);
-	perdoaze_free(&both[1]);
-	return holds;
-}
-
 int main(int count, char **words)
 {
 	struct worker workers[THREADS];
@@ -281,10 +237,6 @@ int main(int count, char **words)
 	calls = count > 1 ? atol(words[1]) : 100000;
 	seed = count > 2 ? (unsigned)atol(words[2]) : 1;
 	memset(workers, 0, sizeof workers);
-	if (!together("authenc(hmac(sha256),cbc(aes))", "gcm(aes)", 56, 16) || !together("gcm(aes)", "gcm(aes)", 16, 12)) {
-		printf("jobs that one thread runs at once\n");
-		return 1;
-	}
 	if (perdoaze_init(&first, "gcm(aes)") || perdoaze_setkey(&first, "0123456789abcdef", 16))
 		return 1;
 	for (uint32_t i = 0; i < PIPES; i++) {

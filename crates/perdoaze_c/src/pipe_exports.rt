@@ -5,10 +5,9 @@ ghost use Rattle.perdoaze_pipes.specs.Calls.{OnPipe, TakesInto, RunsIn, Finishes
 ghost use Rattle.perdoaze_pipes.specs.Managing.{Holds, Goes, Masks};
 ghost use Rattle.perdoaze_pipes.specs.Polling.{Polls};
 ghost use Rattle.perdoaze_pipes.specs.Submitting.{Begins, direction as direction_by};
-ghost use Rattle.perdoaze_pipes.specs.Together.{RunsThere};
 
 use perdoaze_calls::Slot;
-use perdoaze_pipes::{Event, PipePlace, TaskPlace, calls, run_eight};
+use perdoaze_pipes::{Event, PipePlace, TaskPlace, calls};
 use std::alloc::Global;
 
 /// Begins a pipe in the place, in place of the one that was there.
@@ -69,31 +68,6 @@ pub extern "C" fn perdoaze_raw_job_run(job: &mut TaskPlace, alloc: Global) -> i3
     ensures { To result (λ a. RunsIn job.old.handle.value job.new.handle.value a) }
 {
     calls::run(job, alloc).code()
-}
-
-/// Does the work of the jobs that wait in eight places.
-#[unsafe(no_mangle)]
-pub extern "C" fn perdoaze_raw_jobs_run(
-    alloc: Global,
-    a: &mut TaskPlace,
-    b: &mut TaskPlace,
-    c: &mut TaskPlace,
-    d: &mut TaskPlace,
-    e: &mut TaskPlace,
-    f: &mut TaskPlace,
-    g: &mut TaskPlace,
-    h: &mut TaskPlace,
-)
-    ensures a { RunsThere a.old.handle.value a.new.handle.value }
-    ensures b { RunsThere b.old.handle.value b.new.handle.value }
-    ensures c { RunsThere c.old.handle.value c.new.handle.value }
-    ensures d { RunsThere d.old.handle.value d.new.handle.value }
-    ensures e { RunsThere e.old.handle.value e.new.handle.value }
-    ensures f { RunsThere f.old.handle.value f.new.handle.value }
-    ensures g { RunsThere g.old.handle.value g.new.handle.value }
-    ensures h { RunsThere h.old.handle.value h.new.handle.value }
-{
-    run_eight(alloc, a, b, c, d, e, f, g, h);
 }
 
 /// Takes back a job that was run.

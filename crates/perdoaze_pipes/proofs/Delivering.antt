@@ -11,6 +11,11 @@ use Rattle.board.specs.declared.board_core.BoardErr.TheVariants.{NoWorker, TooBi
 use Rattle.transforms.specs.AskValue.{ask_size}
 use Rattle.perdoaze_pipes.specs.Submitting.{Accepts, Decides}
 use Rattle.perdoaze_pipes.specs.Turns.{ComesTo}
+use Rattle.perdoaze_pipes.specs.Working.{Takes}
+use Rattle.perdoaze_pipes.specs.declared.answer.Answer.TheVariants as answer
+use Rattle.perdoaze_pipes.specs.declared.task.Task.{Task}
+use Rattle.perdoaze_pipes.specs.declared.task.Task.TheVariants as tasks
+use Rattle.perdoaze_pipes.specs.declared.ticket.Ready.{Ready}
 use Rattle.perdoaze_pipes.specs.declared.turn.Turn.{Turn}
 use Rattle.perdoaze_pipes.specs.declared.turn.Turn.TheVariants as turns
 use Rattle.kc_base.specs.declared.callback_list.Callback.{Callback}
@@ -66,6 +71,10 @@ take_left L old new w ask left t l =
     subst (λ (o : OrderOf). IsLeft o.history left) (sym t.2)
     (left_same L old.history (take_entry old.history w 0 t.0) left (take_here old.history w t.0) (take_nothing es (queue_born (birth es)) w t.0 (starts es t.0)) l)
 
+-- a job that was asked so was taken, before which a request may have gone on
+abbrev ComesGiven : OrderOf → OrderOf → ℕ → Ask → Type 0
+ComesGiven old new worker ask = (mid : OrderOf) × ((mid ≡ old) ⊎ HasPassed old mid worker) × TakenBy mid new worker ask
+
 -- a request that goes on, and a worker's turn
 pub passed_left : Laws → (old mid : OrderOf) (w : ℕ) (left : List (Callback Finished)) → mid ≡ passed_by old w → IsLeft old.history left → IsLeft mid.history left
 passed_left L old mid w left is l = subst (λ (o : OrderOf). IsLeft o.history left) (sym is) (left_same L old.history (pass_entry old.history w 0) left refl refl l)
@@ -78,6 +87,12 @@ pub turn_left : Laws → (old new : OrderOf) (w : ℕ) (turn : Turn) (left : Lis
 turn_left L old new w (turns.Job handed) left (mid, how, took) l = take_left L mid new w (arc_value handed.ask) left took (before_left L old mid w left how l)
 turn_left L old new w turns.Passed left (passed, none) l = passed_left L old new w left passed.2 l
 turn_left L old new w turns.Nothing left nothing l = subst (λ (o : OrderOf). IsLeft o.history left) (sym nothing.2) l
+
+-- a worker's job, in a place that had none
+pub takes_so : (id : ℕ) (old new : OrderOf) (left : List (Callback Finished)) (worker : ℕ) (t : Task) (r : Ready) (ask : Ask) → t ≡ tasks.Idle → 1 ≤ worker → worker ≤ 16 → r.ticket ≡ record { pipe = id; worker = worker } → arc_value r.ask ≡ ask → ComesGiven old new worker ask → Takes (record { id = id; order = old; left = left }) (record { id = id; order = new; left = left }) worker answer.Yes t (tasks.Ready r)
+takes_so id old new left worker t r ask idle one sixteen ticket same (mid, how, took) =
+    subst (λ (x : Task). Takes (record { id = id; order = old; left = left }) (record { id = id; order = new; left = left }) worker answer.Yes x (tasks.Ready r)) (sym idle)
+    (one, sixteen, (refl, refl), ticket, (mid, how, subst (λ (a : Ask). TakenBy mid new worker a) (sym same) took))
 
 finish_nothing : (es : List (BoardEntry Ask)) (c : Bool) (w n : ℕ) → delivered_by es (cond c (Done w 0 n) (Finish w 0 n)) ≡ []
 finish_nothing es true w n = refl

@@ -57,8 +57,7 @@ nobody_runs (suc n) zero r e = cc
 nobody_runs (suc n) (suc i) r e = nobody_runs n i r e
 
 none_other : (shape : Shape) (p : ℕ) → (p == 0) ≡ false → entries_of {A = Ask} p (Born 0 0 shape ∷ []) ≡ []
-none_other shape zero e = cc
-none_other shape (suc p) e = refl
+none_other shape p e = ap (λ (b : Bool). cond b (Born 0 0 shape ∷ []) []) (other_pipe p (Some 0) e refl)
 
 pub begun : (shape : Shape) (h : List (BoardEntry Ask)) (running : List (Option RunOf)) → IsShape shape → h ≡ Born 0 0 shape ∷ [] → LegalBoard h → running ≡ replicate 16 None → IsOrder shape h running
 begun shape h running shaped made legal none =

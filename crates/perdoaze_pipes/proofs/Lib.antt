@@ -1,6 +1,6 @@
-pub mod Beside
 pub mod Delivering
 pub mod Keeping
 pub mod PipeFilled
+pub mod Places
 pub mod TaskFilled
 pub mod ToldInOrder

@@ -1,20 +1,20 @@
 -- What a pipe told C from the beginning on.
-use Rattle.std.proofs.Common.{◌≡◌, ◌⊎◌, inl, inr, ℕ, zero, suc, ◌+◌, ◌-◌, ◌<◌, ◌≤◌, Bool, true, false, ◌||◌, Option, Some, None, List, [], ◌∷◌, ◌++◌, length, map, take, drop, slice_get, refl, sym, ◌∙◌, ap, subst, arith, append-nil, append_assoc, length-append}
+use Rattle.std.proofs.Common.{◌≡◌, ◌⊎◌, inl, inr, ℕ, zero, suc, ◌-◌, ◌<◌, ◌≤◌, Bool, true, false, ◌||◌, Option, Some, None, List, [], ◌∷◌, ◌++◌, length, map, take, drop, slice_get, refl, sym, ◌∙◌, ap, subst, arith, append-nil, append_assoc, length-append}
 use Rattle.std.specs.Prelude.{◌==◌}
 use Rattle.std.specs.List.{All, filter_map, cons_option}
 use Rattle.std.proofs.lemmas.Bool.{eq-eqb, or_left, or_right, or_cases, cases_lt}
 use Rattle.std.proofs.lemmas.List.{take-append-le, take_all, map-append}
-use Rattle.std.proofs.lemmas.List.Elements.{filter_map-append, All-nil, All-cons, All-append, All-weaker, All-same, All-take}
+use Rattle.std.proofs.lemmas.List.Elements.{filter_map-append, All-nil, All-cons, All-append, All-weaker, All-take}
 use Rattle.std.proofs.Math.Seq.{take-length}
 use Rattle.kc_base.specs.declared.callback_list.Callback.{Callback}
 use Rattle.kc_base.specs.declared.callback_list.Callback.TheVariants as callback
 use Rattle.board.specs.declared.entry.BoardEntry.{BoardEntry}
 use Rattle.board.specs.declared.entry.BoardEntry.TheVariants.{Born, Submit, Take, Finish, Enq, Deq, Done, Hold, Go, Collect, Close, Share, Mask, Shut}
-use Rattle.board.specs.Entries.{Notice, Starts, Completes, is_of, entries_of, accepted_in, submissions, finished, has, front, told, collected, completion, meaning_at, callback_of, delivered}
+use Rattle.board.specs.Entries.{Notice, Starts, Completes, entries_of, accepted_in, submissions, has, front, told, collected, completion, meaning_at, callback_of, delivered}
 use Rattle.board.specs.Handing.{is_collect}
 use Rattle.board.specs.Legal.{IsRightFor, LegalBoard}
 use Rattle.board.specs.Order.{handed_in, handed_after, handed_out, AreRightForAfter, completed_in, completed, numbers_below, HandsOutAll, FrontIsAll, HandsOutInOrder}
-use Rattle.board.proofs.Lists.{length-numbers, has_only_below}
+use Rattle.board.proofs.Lists.{length-numbers}
 use Rattle.board.proofs.Transfer.{each_right}
 use Rattle.board.proofs.Keeping.{orderly}
 use Rattle.board.proofs.KeptEntering.{completed_low}
@@ -22,8 +22,8 @@ use Rattle.transforms.specs.declared.ask.Ask.{Ask}
 use Rattle.transforms.specs.declared.request.Finished.{Finished}
 use Rattle.perdoaze_pipes.specs.Laws.{Laws}
 use Rattle.perdoaze_pipes.specs.Outcomes.{outcome}
-use Rattle.perdoaze_pipes.specs.Polling.{PipeOf, delivered_by, delivered_after, all_delivered, IsRefilled, collecting}
-use Rattle.perdoaze_pipes.specs.Telling.{IsPipe, delivered_of, told_by, TellsFront, PollAdds, RefillAdds, EntryAdds, number_of, numbers_of, DeliversHandedOut, TellsInOrder, HasValue, TellsValues, TellsAll}
+use Rattle.perdoaze_pipes.specs.Polling.{PipeOf, delivered_by, delivered_after, all_delivered, IsRefilled}
+use Rattle.perdoaze_pipes.specs.Telling.{delivered_of, told_by, TellsFront, PollAdds, RefillAdds, EntryAdds, number_of, numbers_of, DeliversHandedOut, TellsInOrder, HasValue, TellsValues, TellsAll}
 use Rattle.perdoaze_pipes.proofs.Delivering.{delivered_more}
 
 -- ---- a list's front
@@ -228,7 +228,7 @@ values_after before (e ∷ es) =
     let asks = submissions (before ++ e ∷ es) in
     let grown : asks ≡ submissions before ++ submissions (e ∷ es) = filter_map-append accepted_in before (e ∷ es) in
     let here : All (HasValue asks) (delivered_by before e) =
-    subst (λ (as : List Ask). All (HasValue as) (delivered_by before e)) (sym grown)
+    subst (λ (asks : List Ask). All (HasValue asks) (delivered_by before e)) (sym grown)
     (All-weaker (HasValue (submissions before)) (HasValue (submissions before ++ submissions (e ∷ es))) (λ c v. value_stays (submissions before) (submissions (e ∷ es)) c v) (delivered_by before e) (values_step before e)) in
     let rest : All (HasValue asks) (delivered_after (before ++ e ∷ []) es) =
     subst (λ (xs : List (BoardEntry Ask)). All (HasValue (submissions xs)) (delivered_after (before ++ e ∷ []) es)) (append_assoc before (e ∷ []) es) (values_after (before ++ e ∷ []) es) in
@@ -255,4 +255,4 @@ tells_all L hands all p q i (none, front, made, empty) legal =
     ∙ (delivers_handed_out q.order.history legal
     ∙ (ap (λ g. completed (handed_out (entries_of 0 g))) after
     ∙ (hands h 0 0 to (subst (λ (g : List (BoardEntry Ask)). LegalBoard g) after legal) (all es front)
-    ∙ ap (λ as. numbers_below (length as)) (sym subs))))
+    ∙ ap (λ xs. numbers_below (length xs)) (sym subs))))

@@ -1,5 +1,5 @@
 -- What a pipe hands out.
-use Rattle.std.specs.Prelude.{◌≡◌, ◌<◌, ◌⊎◌, ℕ, ℤ, Bool, true, false, List, [], ◌∷◌, ◌++◌, length, drop, pos, neg_ℤ}
+use Rattle.std.specs.Prelude.{◌≡◌, ◌<◌, ◌⊎◌, ℕ, ℤ, List, [], ◌∷◌, ◌++◌, length, drop, pos, neg_ℤ}
 use Rattle.kc_base.specs.declared.callback_list.Callback.{Callback}
 use Rattle.kc_base.specs.declared.callback_list.Callback.TheVariants.{Started, Done}
 use Rattle.board.specs.declared.entry.BoardEntry.{BoardEntry}

@@ -1,5 +1,5 @@
 -- What a worker holds of a job.
-use Rattle.std.specs.Prelude.{◌≡◌, ⊤}
+use Rattle.std.specs.Prelude.{◌≡◌}
 use Rattle.perdoaze_pipes.specs.declared.answer.Answer.{Answer}
 use Rattle.perdoaze_pipes.specs.declared.answer.Answer.TheVariants as answer
 use Rattle.perdoaze_pipes.specs.declared.task.Task.{Task}

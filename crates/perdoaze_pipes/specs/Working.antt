@@ -1,5 +1,5 @@
 -- How workers take jobs of a pipe, and finish them.
-use Rattle.std.specs.Prelude.{◌≡◌, ◌≤◌, ◌<◌, ◌⊎◌, ⊤, ℕ, ◌-◌, Option, Some, None, get_or, MatchOption, IsSome}
+use Rattle.std.specs.Prelude.{◌≡◌, ◌≤◌, ◌<◌, ◌⊎◌, ⊤, ℕ, ◌-◌, None, get_or, MatchOption, IsSome}
 use Rattle.std.specs.Arc.{arc_value}
 use Rattle.board.specs.Entries.{NoneFor}
 use Rattle.perdoaze_pipes.specs.Orders.{OrderOf, TakenBy, FinishedBy, HasPassed, HasNothing}
@@ -9,7 +9,6 @@ use Rattle.perdoaze_pipes.specs.declared.answer.Answer.{Answer}
 use Rattle.perdoaze_pipes.specs.declared.answer.Answer.TheVariants as answer
 use Rattle.perdoaze_pipes.specs.declared.task.Task.{Task}
 use Rattle.perdoaze_pipes.specs.declared.task.Task.TheVariants.{Idle, Ready, Ran}
-use Rattle.perdoaze_pipes.specs.declared.ticket.Ready.{Ready as ReadyJob}
 use Rattle.perdoaze_pipes.specs.declared.ticket.Ran.{Ran as RanJob}
 
 -- there is a job in the place

@@ -78,6 +78,13 @@ impl Requests {
         })
     }
 
+    /// Shows that the history is legal, as it is at any time. It does nothing.
+    pub(crate) fn is_legal(&self)
+        ensures { LegalBoard self.now.history }
+    {
+        let _board = &self.board;
+    }
+
     /// Whether the pipeline is a pad. Otherwise a queue stands in front of it.
     pub(crate) fn is_pad(&self) -> bool
         ensures { let b = birth (entries_of 0 self.now.history) in MatchBool result

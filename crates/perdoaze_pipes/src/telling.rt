@@ -32,6 +32,6 @@ impl Pipe {
     pub fn is_pipe(&self)
         ensures { IsPipe self.now }
     {
-        let _requests = &self.requests;
+        self.requests.is_legal();
     }
 }

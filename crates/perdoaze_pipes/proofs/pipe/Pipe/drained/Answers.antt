@@ -1,4 +1,4 @@
-use Rattle.std.proofs.Common.{arith, ◌≡◌, [], length, drop, ap, sym, ◌∙◌, subst, inr}
+use Rattle.std.proofs.Common.{arith, ◌≡◌, [], length, drop, ap, sym, subst, inr}
 use Rattle.kc_base.specs.Handed.{Handed}
 use Rattle.board.specs.Entries.{entries_of, told, delivered}
 use Rattle.transforms.specs.declared.request.Finished.{Finished}

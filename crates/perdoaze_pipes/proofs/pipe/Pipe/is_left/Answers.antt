@@ -1,4 +1,4 @@
-use Rattle.std.proofs.Common.{arith, sym, ◌∙◌, subst, ◌<◌, length, drop}
+use Rattle.std.proofs.Common.{arith}
 use Rattle.perdoaze_pipes.proofs.Delivering.{some_left, none_left}
 use Rattle.perdoaze_pipes.proofs.pipe.Pipe.is_left.Goals as goal
 

@@ -5,10 +5,10 @@ use Rattle.perdoaze_pipes.proofs.Keeping.{managed, is_open, made_kept}
 use Rattle.perdoaze_pipes.proofs.requests.Requests.collect.Goals as goal
 
 pub poll-requires-clause-caller : goal.poll-requires-clause-caller
-poll-requires-clause-caller c = let i = c.self.inside in managed i.shape i.board i.running c.self.invariant
+poll-requires-clause-caller c κs = let i = c.self.inside in managed i.shape i.board i.running c.self.invariant
 
 pub poll-requires-clause-pipe : goal.poll-requires-clause-pipe
-poll-requires-clause-pipe c = let i = c.self.inside in is_open i.shape i.board i.running c.self.invariant
+poll-requires-clause-pipe c κs = let i = c.self.inside in is_open i.shape i.board i.running c.self.invariant
 
 pub invariant_of-self : goal.invariant_of-self
 invariant_of-self c =

@@ -4,10 +4,10 @@ use Rattle.perdoaze_pipes.proofs.Keeping.{managed, is_open, drain_kept}
 use Rattle.perdoaze_pipes.proofs.requests.Requests.drain.Goals as goal
 
 pub try_drain-requires-clause-caller : goal.try_drain-requires-clause-caller
-try_drain-requires-clause-caller c = let i = c.self.inside in managed i.shape i.board i.running c.self.invariant
+try_drain-requires-clause-caller c κs = let i = c.self.inside in managed i.shape i.board i.running c.self.invariant
 
 pub try_drain-requires-clause-pipe : goal.try_drain-requires-clause-pipe
-try_drain-requires-clause-pipe c = let i = c.self.inside in is_open i.shape i.board i.running c.self.invariant
+try_drain-requires-clause-pipe c κs = let i = c.self.inside in is_open i.shape i.board i.running c.self.invariant
 
 pub invariant_of-self : goal.invariant_of-self
 invariant_of-self c =

@@ -1,4 +1,4 @@
-use Rattle.std.proofs.Common.{◌≡◌, ◌++◌, ◌∷◌, [], List, Option, Some, sym, ◌∙◌, subst}
+use Rattle.std.proofs.Common.{◌≡◌, ◌++◌, ◌∷◌, [], List, Option, sym, ◌∙◌, subst}
 use Rattle.board.specs.Entries.{finish_entry}
 use Rattle.perdoaze_pipes.specs.Orders.{IsOrder}
 use Rattle.perdoaze_pipes.specs.Running.{RunOf}

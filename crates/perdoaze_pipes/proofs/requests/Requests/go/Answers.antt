@@ -7,10 +7,10 @@ use Rattle.perdoaze_pipes.proofs.Keeping.{managed, made_kept, made_so}
 use Rattle.perdoaze_pipes.proofs.requests.Requests.go.Goals as goal
 
 pub go-requires-clause-caller : goal.go-requires-clause-caller
-go-requires-clause-caller c = let i = c.self.inside in managed i.shape i.board i.running c.self.invariant
+go-requires-clause-caller c κs = let i = c.self.inside in managed i.shape i.board i.running c.self.invariant
 
 pub go-requires-clause-pipe : goal.go-requires-clause-pipe
-go-requires-clause-pipe c = (subst (λ (o : OrderOf). line_born (birth (entries_of 0 o.history)) ≡ true) (sym c.self.view_is) c.requires, c.self.invariant.opened)
+go-requires-clause-pipe c κs = (subst (λ (o : OrderOf). line_born (birth (entries_of 0 o.history)) ≡ true) (sym c.self.view_is) c.requires, c.self.invariant.opened)
 
 pub invariant_of-self : goal.invariant_of-self
 invariant_of-self c =

@@ -8,16 +8,16 @@ use Rattle.perdoaze_pipes.proofs.Keeping.{managed, made_kept, made_so}
 use Rattle.perdoaze_pipes.proofs.requests.Requests.mask.Goals as goal
 
 pub mask-requires-clause-caller : goal.mask-requires-clause-caller
-mask-requires-clause-caller c = let i = c.self.inside in managed i.shape i.board i.running c.self.invariant
+mask-requires-clause-caller c κs = let i = c.self.inside in managed i.shape i.board i.running c.self.invariant
 
 pub mask-requires-clause-pipe : goal.mask-requires-clause-pipe
-mask-requires-clause-pipe c = (subst (λ (o : OrderOf). pad_born (birth (entries_of 0 o.history)) ≡ true) (sym c.self.view_is) c.requires.pad, c.self.invariant.opened)
+mask-requires-clause-pipe c κs = (subst (λ (o : OrderOf). pad_born (birth (entries_of 0 o.history)) ≡ true) (sym c.self.view_is) c.requires.pad, c.self.invariant.opened)
 
 pub mask-requires-clause-alone : goal.mask-requires-clause-alone
-mask-requires-clause-alone c = c.self.invariant.alone
+mask-requires-clause-alone c κs = c.self.invariant.alone
 
 pub mask-requires-clause-bits : goal.mask-requires-clause-bits
-mask-requires-clause-bits c = subst (λ (o : OrderOf). c.args.bits < 2 ^ width_born (birth (entries_of 0 o.history))) (sym c.self.view_is) c.requires.bits
+mask-requires-clause-bits c κs = subst (λ (o : OrderOf). c.args.bits < 2 ^ width_born (birth (entries_of 0 o.history))) (sym c.self.view_is) c.requires.bits
 
 pub invariant_of-self : goal.invariant_of-self
 invariant_of-self c =

@@ -7,10 +7,10 @@ use Rattle.perdoaze_pipes.proofs.Keeping.{submits, submit_kept, submitted_so}
 use Rattle.perdoaze_pipes.proofs.requests.Requests.submit.Goals as goal
 
 pub submit-requires-clause-caller : goal.submit-requires-clause-caller
-submit-requires-clause-caller c = let i = c.self.inside in submits i.shape i.board i.running c.self.invariant
+submit-requires-clause-caller c κs = let i = c.self.inside in submits i.shape i.board i.running c.self.invariant
 
 pub submit-requires-clause-pipe : goal.submit-requires-clause-pipe
-submit-requires-clause-pipe c = (subst (λ (o : OrderOf). pad_born (birth (entries_of 0 o.history)) ≡ true) (sym c.self.view_is) c.requires, c.self.invariant.opened)
+submit-requires-clause-pipe c κs = (subst (λ (o : OrderOf). pad_born (birth (entries_of 0 o.history)) ≡ true) (sym c.self.view_is) c.requires, c.self.invariant.opened)
 
 pub invariant_of-self : goal.invariant_of-self
 invariant_of-self c =

@@ -34,9 +34,10 @@ returns c =
     let home : s.pipe ≡ 0 = home_of i.shape i.board i.running s.pipe s.number (arc_value j.job.ask) c.self.invariant c.in-Some.ensures.taken.1 in
     let kept : arc_value j.kept ≡ arc_value j.job.ask = j.same_kept in
     let taken : arc_value j.taken ≡ arc_value j.job.ask = j.same_taken in
-    let run : c.new.result ≡ record { slip = record { pipe = s.pipe; number = s.number }; ask = arc_value j.taken } =
-    λ k. record { slip = c.new.ensures.slip k; ask = (c.new.ensures.ask ∙ (kept ∙ sym taken)) k } in
+    let asked : arc_value c.new-2.result.ask ≡ arc_value j.job.ask = ap arc_value c.new-2.ensures ∙ taken in
+    let run : c.new.result ≡ record { slip = record { pipe = s.pipe; number = s.number }; ask = arc_value c.new-2.result.ask } =
+    λ k. record { slip = c.new.ensures.slip k; ask = (c.new.ensures.ask ∙ (kept ∙ sym asked)) k } in
     rw (← c.self.view_is)
     (taken_by (record { history = i.board; running = i.running }) (record { history = c.take.new.self; running = c.put.new.running }) w s.pipe s.number
-    (arc_value j.taken) home (c.in-Some.ensures.taken.1 ∙ ap Some (sym taken))
+    (arc_value c.new-2.result.ask) home (c.in-Some.ensures.taken.1 ∙ ap Some (sym asked))
     (λ k. record { history = c.in-Some.ensures.taken.0 k; running = (c.put.ensures.put ∙ ap (λ (r : RunOf). set i.running (w - 1) (Some r)) run) k }))
