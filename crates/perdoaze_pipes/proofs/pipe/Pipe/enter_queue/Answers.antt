@@ -12,5 +12,8 @@ returns-in-Ok-Busy c = subst (λ said. Decides c.args.self.now c.decide.new.self
     (subst (λ r. Decides c.args.self.now c.decide.new.self (arc_value c.args.job.job.ask) c.args.backlog r) c.in-Ok-Busy.is c.decide.ensures)
 
 pub returns-in-Ok-NoSpace : goal.returns-in-Ok-NoSpace
-returns-in-Ok-NoSpace c = (subst (λ said. Decides c.args.self.now c.decide.new.self (arc_value c.args.job.job.ask) c.args.backlog (Ok said)) c.in-Ok-NoSpace.field-0-is
-    (subst (λ r. Decides c.args.self.now c.decide.new.self (arc_value c.args.job.job.ask) c.args.backlog r) c.in-Ok-NoSpace.is c.decide.ensures), refl)
+returns-in-Ok-NoSpace c = (
+  subst (λ said. Decides c.args.self.now c.decide.new.self (arc_value c.args.job.job.ask) c.args.backlog (Ok said)) c.in-Ok-NoSpace.field-0-is
+      (subst (λ r. Decides c.args.self.now c.decide.new.self (arc_value c.args.job.job.ask) c.args.backlog r) c.in-Ok-NoSpace.is c.decide.ensures),
+  refl,
+)
