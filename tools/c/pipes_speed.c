@@ -39,35 +39,40 @@ static void die(const char *what)
 /* All packets by one thread. */
 static void *seal_all(void *given)
 {
-	struct perdoaze own = PERDOAZE_NONE;
+	struct perdoaze *own = given;
 	uint8_t out[SIZE + 16];
 	uint32_t nonce[3] = { 0 };
 	size_t n;
 
-	(void)given;
-	if (perdoaze_dup(&gcm, &own))
-		die("no memory");
 	for (uint32_t i = 0; i < PACKETS; i++) {
 		nonce[0] = i;
-		if (perdoaze_encrypt(&own, nonce, 12, aad, sizeof aad, text, SIZE, out, sizeof out, &n))
+		if (perdoaze_encrypt(own, nonce, 12, aad, sizeof aad, text, SIZE, out, sizeof out, &n))
 			die("no answer");
 	}
-	perdoaze_free(&own);
 	return NULL;
 }
 
 /* The seconds of so many threads, each with all packets. */
 static double at_once(uint32_t threads)
 {
+	struct perdoaze own[MOST];
 	pthread_t ids[MOST];
-	double begin = now();
+	double begin;
 
+	memset(own, 0, sizeof own);
 	for (uint32_t i = 0; i < threads; i++)
-		if (pthread_create(&ids[i], NULL, seal_all, NULL))
+		if (perdoaze_dup(&gcm, &own[i]))
+			die("no memory");
+	begin = now();
+	for (uint32_t i = 0; i < threads; i++)
+		if (pthread_create(&ids[i], NULL, seal_all, &own[i]))
 			die("no thread");
 	for (uint32_t i = 0; i < threads; i++)
 		pthread_join(ids[i], NULL);
-	return now() - begin;
+	begin = now() - begin;
+	for (uint32_t i = 0; i < threads; i++)
+		perdoaze_free(&own[i]);
+	return begin;
 }
 
 static void told(void *user, const struct perdoaze_event *event, const uint8_t *bytes)
