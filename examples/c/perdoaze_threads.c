@@ -1,3 +1,5 @@
+/* for a lock that spins before it sleeps */
+#define _GNU_SOURCE
 #include "perdoaze_threads.h"
 
 #include <errno.h>
@@ -35,12 +37,14 @@ static void tell_all(struct perdoaze_crew *crew)
 			break;
 		}
 		event.number += crew->before;
+		crew->complete += event.kind == PERDOAZE_COMPLETE;
 		pthread_mutex_unlock(&crew->lock);
 		crew->told(crew->user, &event, crew->bytes);
 		pthread_mutex_lock(&crew->lock);
 	}
 	crew->is_telling = false;
-	pthread_cond_broadcast(&crew->idle);
+	if (crew->complete == crew->accepted || crew->error)
+		pthread_cond_broadcast(&crew->idle);
 }
 
 /* Waits until each request is complete, and all is told. */
@@ -69,6 +73,7 @@ static int begin_anew(struct perdoaze_crew *crew)
 		return err;
 	crew->before += crew->accepted;
 	crew->accepted = 0;
+	crew->complete = 0;
 	return perdoaze_pipe_init(&crew->pipe, crew->kind, crew->max, crew->workers);
 }
 
@@ -128,6 +133,7 @@ static void end(struct perdoaze_crew *crew, uint32_t started)
 
 int perdoaze_crew_start(struct perdoaze_crew *crew, uint32_t kind, uint32_t max, uint32_t workers, perdoaze_told *told, void *user)
 {
+	pthread_mutexattr_t spins;
 	int err;
 
 	memset(crew, 0, sizeof *crew);
@@ -141,7 +147,10 @@ int perdoaze_crew_start(struct perdoaze_crew *crew, uint32_t kind, uint32_t max,
 	err = perdoaze_pipe_init(&crew->pipe, kind, max, workers);
 	if (err)
 		return err;
-	pthread_mutex_init(&crew->lock, NULL);
+	pthread_mutexattr_init(&spins);
+	pthread_mutexattr_settype(&spins, PTHREAD_MUTEX_ADAPTIVE_NP);
+	pthread_mutex_init(&crew->lock, &spins);
+	pthread_mutexattr_destroy(&spins);
 	pthread_cond_init(&crew->work, NULL);
 	pthread_cond_init(&crew->idle, NULL);
 	for (uint32_t i = 0; i < workers && !err; i++) {

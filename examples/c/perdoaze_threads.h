@@ -24,7 +24,7 @@ struct perdoaze_crew {
 	void *user;
 	uint8_t *bytes;
 	size_t room;
-	uint64_t before, accepted;
+	uint64_t before, accepted, complete;
 	uint32_t kind, max, workers, next;
 	int error;
 	bool is_telling, is_ending;

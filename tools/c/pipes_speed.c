@@ -106,6 +106,7 @@ static double by_crew(uint32_t workers, bool before)
 			die("not accepted");
 	}
 	if (before) {
+		crew.accepted = PACKETS;
 		begin = now();
 		pthread_cond_broadcast(&crew.work);
 		pthread_mutex_unlock(&crew.lock);
