@@ -5,8 +5,13 @@ use Rattle.board.specs.declared.entry.BoardEntry.{BoardEntry}
 use Rattle.board.specs.Legal.{is_shut}
 use Rattle.reply_text.specs.declared.answers.Answer.{Answer}
 use Rattle.transforms.specs.declared.ask.Ask.{Ask}
+use Rattle.turn_lock.specs.Meeting.{IsOwn}
 use Rattle.turn_lock.specs.Turns.{Known, StartsWith}
+use Rattle.alg_registry.specs.Rows.{caller_of as reg_caller}
+use Rattle.dialogues.specs.BoardCalls.{BoardCall}
 use Rattle.dialogues.specs.Dialogues.{Dialogue}
+use Rattle.dialogues.specs.First.{AreFurther, BeginsBy}
+use Rattle.dialogues.specs.RegistryCalls.{RegCall}
 use Rattle.dialogues.specs.Turns.{Turn, IsTurn}
 use Rattle.dialogues.specs.Walk.{Walk}
 use Rattle.script_session.specs.States.{State, SameLocks, Stands, Posted, IsWide}
@@ -54,3 +59,13 @@ pub record Stops (s s' : State) : Type 0 where
   pub locks : SameLocks s s'
   pub registry : HasSeenMore (known s.registry) (known s'.registry)
   pub board : SeesOn (known s.board) (known s'.board)
+
+-- It goes no further in the middle of a dialogue: what it called since are the dialogue's first calls.
+pub record StopsIn (dialogue : Dialogue) (s s' : State) : Type 0 where
+  pub stops : Stops s s'
+  pub registry : List RegCall
+  pub board : List BoardCall
+  pub further : AreFurther (known s.registry).number registry (known s.registry).seen (known s'.registry).seen
+  pub own : IsOwn reg_caller (known s'.registry)
+  pub called : Called (known s.board) (known s'.board) board
+  pub begins : BeginsBy dialogue registry board
