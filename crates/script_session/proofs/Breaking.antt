@@ -11,7 +11,7 @@ use Rattle.turn_lock.specs.Meeting.{IsOwn}
 use Rattle.turn_lock.specs.Turns.{Known}
 use Rattle.dialogues.specs.BoardCalls.{BoardCall}
 use Rattle.dialogues.specs.Dialogues.{Dialogue, Says, Asks as AsksFor, Posts}
-use Rattle.dialogues.specs.First.{AreFurther}
+use Rattle.dialogues.specs.First.{AreFurther, BeginsBy}
 use Rattle.dialogues.specs.InTurn.{AreCalls}
 use Rattle.dialogues.specs.Questions.{RegQuestion, RegAnswer, Look, reg_call, BoardQuestion, BoardAnswer, board_call}
 use Rattle.dialogues.specs.RegistryCalls.{RegCall, Looks, reg_calls}
@@ -53,16 +53,17 @@ further-then k l m a b same first later =
 pub breaks-none : (d : Dialogue) (k : Known RegEntry) (b : Known (BoardEntry Ask)) → IsOwn reg_caller k → Breaks d k b k b
 breaks-none d k b own = record { registry = []; board = []; further = further-none k.number k.seen; own = own; called = called-nothing b; begins = begins-none d }
 
+-- the board alone was called
+pub breaks-board : (d : Dialogue) (k : Known RegEntry) (b b' : Known (BoardEntry Ask)) (board : List BoardCall) → IsOwn reg_caller k → Called b b' board → BeginsBy d [] board → Breaks d k b k b'
+breaks-board d k b b' board own called begins = record { registry = []; board = board; further = further-none k.number k.seen; own = own; called = called; begins = begins }
+
+-- others went on, and the caller worked
+pub breaks-further : (d : Dialogue) (k l : Known RegEntry) (b : Known (BoardEntry Ask)) → AreFurther k.number [] k.seen l.seen → IsOwn reg_caller l → Breaks d k b l b
+breaks-further d k l b further own = record { registry = []; board = []; further = further; own = own; called = called-nothing b; begins = begins-none d }
+
 -- the registry wasn't asked
 pub breaks-unasked : (d : Dialogue) (k l : Known RegEntry) (b : Known (BoardEntry Ask)) → Asked k l [] → Breaks d k b l b
-breaks-unasked d k l b asked = record {
-  registry = [];
-  board = [];
-  further = asked-further k.number [] k.seen l.seen asked.are;
-  own = asked.caller.own;
-  called = called-nothing b;
-  begins = begins-none d;
-}
+breaks-unasked d k l b asked = breaks-further d k l b (asked-further k.number [] k.seen l.seen asked.are) asked.caller.own
 
 pub breaks-says : (answers : List Answer) (next : Dialogue) (k k' : Known RegEntry) (b b' : Known (BoardEntry Ask)) → Breaks next k b k' b' → Breaks (Says answers next) k b k' b'
 breaks-says answers next k k' b b' then = record {
@@ -198,9 +199,9 @@ kept-calls-on k l kept = record { called = kept.called; unshut = kept.unshut }
 -- ---- a session as it is seen
 
 module _ {ws c : ℕ} {sh lives : List Live} {q v : ℕ} {r : Option RegPass} {b : Option BoardPass} (s : State) (view : viewed ws c sh lives q v r b ≡ s) where
-  pub stops-at : (d : Dialogue) (s' : State) → Stops s s' → Breaks d (known r) (known b) (known s'.registry) (known s'.board) → StopsIn d s s'
-  stops-at d s' stops breaks = stops-in d s s' stops (subst (λ (x : State). Breaks d (known x.registry) (known x.board) (known s'.registry) (known s'.board)) view breaks)
+  pub stops-at : (d : State → Dialogue) (s' : State) → Stops s s' → Breaks (d (viewed ws c sh lives q v r b)) (known r) (known b) (known s'.registry) (known s'.board) → StopsIn (d s) s s'
+  stops-at d s' stops breaks = stops-in (d s) s s' stops (subst (λ (x : State). Breaks (d x) (known x.registry) (known x.board) (known s'.registry) (known s'.board)) view breaks)
 
   -- its registry's caller asked nothing
   pub unasked-arm : {r' : Option RegPass} (d : Dialogue) → Asks r r' [] → StopsIn d s (viewed ws c sh lives q v r' b)
-  unasked-arm {r'} d asks = stops-at d (viewed ws c sh lives q v r' b) (stops-arm s view [] asks) (breaks-unasked d (known r) (known r') (known b) asks.asked)
+  unasked-arm {r'} d asks = stops-at (λ x. d) (viewed ws c sh lives q v r' b) (stops-arm s view [] asks) (breaks-unasked d (known r) (known r') (known b) asks.asked)

@@ -4,7 +4,7 @@ ghost use Rattle.std.specs.Prelude.{MatchResult};
 ghost use Rattle.dialogues.specs.Registering.{register, unregister, refs, listed};
 ghost use Rattle.session_calls.specs.Passes.{CallsRegistry, known};
 ghost use Rattle.script_session.specs.States.{Stands, Posted};
-ghost use Rattle.script_session.specs.Holding.{Holds, Stops};
+ghost use Rattle.script_session.specs.Holding.{Holds, Stops, StopsIn};
 
 use crate::answers::{enlisted_answer, refs_answer, refuse, say, unlisted_answer};
 use crate::drivers::driver_of;
@@ -100,7 +100,7 @@ impl Session {
         requires posted { Posted self.old.walk (known self.old.board) }
         ensures { MatchResult result
             (λ _. Holds (listed self.old.walk number) self.old self.new answers.old.items answers.new.items)
-            (λ _. Stops self.old self.new) }
+            (λ _. StopsIn (listed self.old.walk number) self.old self.new) }
     {
         let listing = self.registry.list(rt, registry)?;
         list_rows(self.alloc, number, listing.rows(), answers)
