@@ -29,7 +29,6 @@ use Rattle.dialogues.specs.BoardCalls.{Asked, asked_by, origin_of, Collects, Sub
 use Rattle.dialogues.specs.Requesting.{set_key, set_tag_size, value_said, requests_in, hands_in, is_too_big, accepting, value_of}
 use Rattle.script_session.specs.Keyed.{manned_as, held_as, delivering, with_line, MayDeliver}
 use Rattle.script_session.specs.Saying.{collects, collected_said}
-use Rattle.script_session.specs.Holding.{SeesOn}
 use Rattle.script_session.specs.Settings.{holds_or_goes, hold_call, sets}
 use Rattle.script_session.specs.declared.settings.Setting.{Setting}
 use Rattle.script_session.specs.declared.settings.Setting.TheVariants as set
@@ -45,7 +44,7 @@ use Rattle.dialogues.specs.Piping.{mask, masks, kept_bits, with_pad, if_pad, wit
 use Rattle.dialogues.specs.Turns.{Turn, IsTurn}
 use Rattle.dialogues.specs.Walk.{Walk, Live, Pipe, is_of, live_of, shared_of, with_live, with_pipe, replaced}
 use Rattle.script_session.specs.States.{HasPipe, Posted, is_at}
-use Rattle.script_session.specs.Changing.{HoldsFor, counting}
+use Rattle.script_session.specs.Changing.{HoldsFor, StopsFor, counting}
 use Rattle.session_calls.proofs.Boarding.{kept-same}
 use Rattle.script_session.proofs.Changing.{changes-pipe, changes-kept}
 
@@ -486,7 +485,7 @@ collect-free true walk n label errno none why = label-free walk n label (λ live
 collect-free false walk n label errno none why = label-free walk n label (λ live. polls_in walk n live live.pipe) errno none why
 
 pub setting-arm : {S A : Type 0} (result : Result A S) (workers n : ℕ) (live live' : Live) (k l : Known (BoardEntry Ask)) (setting given : Setting) (answers answers' : List Answer) → setting ≡ given
-    → MatchResult result (λ _. HoldsFor (λ walk. sets workers walk n live.label given) live live' k l [] answers answers') (λ _. SeesOn k l)
-    → MatchResult result (λ _. HoldsFor (λ walk. sets workers walk n live.label setting) live live' k l [] answers answers') (λ _. SeesOn k l)
+    → MatchResult result (λ _. HoldsFor (λ walk. sets workers walk n live.label given) live live' k l [] answers answers') (λ _. StopsFor (λ walk. sets workers walk n live.label given) live k l)
+    → MatchResult result (λ _. HoldsFor (λ walk. sets workers walk n live.label setting) live live' k l [] answers answers') (λ _. StopsFor (λ walk. sets workers walk n live.label setting) live k l)
 setting-arm result workers n live live' k l setting given answers answers' is held =
-    subst (λ x. MatchResult result (λ _. HoldsFor (λ walk. sets workers walk n live.label x) live live' k l [] answers answers') (λ _. SeesOn k l)) (sym is) held
+    subst (λ x. MatchResult result (λ _. HoldsFor (λ walk. sets workers walk n live.label x) live live' k l [] answers answers') (λ _. StopsFor (λ walk. sets workers walk n live.label x) live k l)) (sym is) held

@@ -9,7 +9,7 @@ ghost use Rattle.dialogues.specs.Widths.{command_width, width_of};
 ghost use Rattle.script_session.specs.Running.{IsReady, Replies};
 ghost use Rattle.session_calls.specs.Passes.{CallsRegistry, known, CallsBoard};
 ghost use Rattle.script_session.specs.States.{Stands, Posted, IsWide, AreShared};
-ghost use Rattle.script_session.specs.Holding.{HoldsBy, Stops};
+ghost use Rattle.script_session.specs.Holding.{HoldsBy, StopsIn};
 ghost use Rattle.script_session.specs.Saying.{SaysBy, hands_out};
 ghost use Rattle.session_calls.specs.Pipelines.{Called};
 
@@ -117,7 +117,7 @@ impl Session {
         requires no_collect { hands_out (Cmd command) ≡ false }
         ensures { MatchResult result
             (λ _. HoldsBy (command_width command) (command_dialogue self.old.workers self.old.walk number command) self.old self.new answers.old.items answers.new.items)
-            (λ _. Stops self.old self.new) }
+            (λ _. StopsIn (command_dialogue self.old.workers self.old.walk number command) self.old self.new) }
     {
         match command {
             Command::Aes { key, block } => self.aes(number, &key, &block, answers),
@@ -211,7 +211,7 @@ impl Session {
         requires no_collect { hands_out line ≡ false }
         ensures done { MatchResult result
             (λ _. SaysBy (width_of line) (line_dialogue self.old.workers self.old.walk number line) self.old self.new reply.old.text reply.new.text)
-            (λ _. Stops self.old self.new) }
+            (λ _. StopsIn (line_dialogue self.old.workers self.old.walk number line) self.old self.new) }
         ensures unwritten { OnErr result (reply.new.text ≡ reply.old.text) }
     {
         let mut answers = Vec::new(self.alloc);
@@ -242,7 +242,7 @@ impl Session {
         requires short { IsShortLine line }
         ensures done { MatchResult result
             (λ _. Replies (width_of line) (line_dialogue self.old.workers self.old.walk number line) self.old self.new reply.old.text reply.new.text)
-            (λ _. Stops self.old self.new) }
+            (λ _. StopsIn (line_dialogue self.old.workers self.old.walk number line) self.old self.new) }
         // It is ready for the next line.
         ensures ready { OnOk result (IsReady registry.now board.now self.new) }
         ensures unwritten { OnErr result (reply.new.text ≡ reply.old.text) }
