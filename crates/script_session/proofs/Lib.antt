@@ -2,6 +2,7 @@ pub mod KnownDrivers
 pub mod Rules
 pub mod Standing
 pub mod Arms
+pub mod Breaking
 pub mod Alloc
 pub mod Freeing
 pub mod Changing
