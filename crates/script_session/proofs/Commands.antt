@@ -69,18 +69,6 @@ nothing-holds s answers stands posted =
       wide = λ wide. wide;
     }
 
--- what was held is a stop where its text found no memory
-pub holds-stops : {width : ℕ} → (d : Dialogue) (s s' : State) (answers answers' : List Answer) → Posted s.walk (known s.board) → HoldsBy width d s s' answers answers' → Stops s s'
-holds-stops {width} d s s' answers answers' posted held =
-    record {
-      locks = held.locks;
-      registry = record { number = held.done.asked.number; next = held.done.asked.next; seen = (held.done.asked.are.more, held.done.asked.are.goes_on) };
-      board = record {
-        more = record { number = held.done.called.number; next = held.done.called.next; seen = held.done.called.seen };
-        unshut = λ zero_is. held.done.posted.unshut (held.done.called.number ∙ zero_is) ∙ sym (posted.unshut zero_is);
-      };
-    }
-
 pub replies : {width : ℕ} → (d : Dialogue) (s s' : State) (answers : List Answer) (text text' : List ℕ) → HoldsBy width d s s' [] answers → text' ≡ text ++ flat_map text_of answers → Replies width d s s' text text'
 replies {width} d s s' answers text text' held e =
     record {
@@ -132,14 +120,14 @@ line-uncalled (Ok done) Said If d s s' text text' says = tt
 line-uncalled (Err stop) Said If d s s' text text' breaks = λ so. breaks.called
 
 -- the same of a line whose answers are put together
-pub answers-reply : {S A : Type 0} (width : ℕ) (result : Result A S) (d : Dialogue) (s s' : State) (text text' : List ℕ) → MatchResult result (λ _. SaysBy width d s s' text text') (λ _. Stops s s')
-    → MatchResult result (λ _. Replies width d s s' text text') (λ _. Stops s s')
+pub answers-reply : {S A : Type 0} (width : ℕ) (result : Result A S) (d : Dialogue) (s s' : State) (text text' : List ℕ) → MatchResult result (λ _. SaysBy width d s s' text text') (λ _. StopsIn d s s')
+    → MatchResult result (λ _. Replies width d s s' text text') (λ _. StopsIn d s s')
 answers-reply width (Ok done) d s s' text text' says = replies d s s' says.said text text' says.held says.says
 answers-reply width (Err stop) d s s' text text' stops = stops
 
 -- of a line that is such a one
 pub done-on : {S A : Type 0} (result : Result A S) (s s' : State) (n : ℕ) (line given : Line) (text text' : List ℕ) → line ≡ given
-    → MatchResult result (λ _. Replies (width_of given) (line_dialogue s.workers s.walk n given) s s' text text') (λ _. Stops s s')
-    → MatchResult result (λ _. Replies (width_of line) (line_dialogue s.workers s.walk n line) s s' text text') (λ _. Stops s s')
+    → MatchResult result (λ _. Replies (width_of given) (line_dialogue s.workers s.walk n given) s s' text text') (λ _. StopsIn (line_dialogue s.workers s.walk n given) s s')
+    → MatchResult result (λ _. Replies (width_of line) (line_dialogue s.workers s.walk n line) s s' text text') (λ _. StopsIn (line_dialogue s.workers s.walk n line) s s')
 done-on result s s' n line given text text' is replied =
-    subst (λ x. MatchResult result (λ _. Replies (width_of x) (line_dialogue s.workers s.walk n x) s s' text text') (λ _. Stops s s')) (sym is) replied
+    subst (λ x. MatchResult result (λ _. Replies (width_of x) (line_dialogue s.workers s.walk n x) s s' text text') (λ _. StopsIn (line_dialogue s.workers s.walk n x) s s')) (sym is) replied

@@ -41,7 +41,7 @@ use Rattle.script_session.proofs.Changing.{IsOn, changes-pipe, changes-kept}
 use Rattle.script_session.proofs.Leading.{leads-same, goes-held, drains-some, drains-same}
 use Rattle.script_session.proofs.Piped.{held-live, said-is, count-is, delivered-live}
 use Rattle.script_session.proofs.Rules.{asked-nothing, called-nothing}
-use Rattle.script_session.proofs.Stopping.{board-stops, moving-then, moving-before, moving-same}
+use Rattle.script_session.proofs.Stopping.{board-stops, moving-held, moving-then, moving-before, moving-same}
 
 -- ---- a transform that stays as it is
 
@@ -96,6 +96,14 @@ drains-last k l live live' pipe count callbacks answers answers' has drained cou
           (ap (λ x. x ++ end_said live.label count) (sym (said-is pipe.lines callbacks))
           ∙ ap (λ c. map notice_said notices ++ end_said live.label c) (counts ∙ sym (count-is pipe.lines callbacks)));
     }
+
+-- it was drained, and memory was wanting for what it told
+pub drain-stopped : (k l : Known (BoardEntry Ask)) (live : Live) (pipe : Pipe) (callbacks : List (Callback Finished)) → live.pipe ≡ Some pipe → Drained k l pipe callbacks → StopsMoving (drains_at_end live.label live.pipe) k l
+drain-stopped k l live pipe callbacks has drained =
+    let count = completions callbacks in
+    let said : List Answer = map (callback_said pipe.lines) callbacks ++ end_said live.label count in
+    moving-held (drains_at_end live.label live.pipe) live (delivering live count) k l [] said
+    (drains-last k l live (delivering live count) pipe count callbacks [] said has drained refl refl refl)
 
 -- ---- the whole end
 

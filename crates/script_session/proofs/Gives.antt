@@ -36,7 +36,7 @@ use Rattle.script_session.proofs.Arms.{viewed}
 use Rattle.script_session.proofs.Changing.{IsOn}
 use Rattle.script_session.proofs.Piped.{answered, counting-none, request-enters, turn_with, accepted-is}
 use Rattle.script_session.proofs.Rules.{asked-nothing}
-use Rattle.script_session.proofs.Stopping.{board-stops}
+use Rattle.script_session.proofs.Stopping.{board-stops, giving-held}
 use Rattle.script_session.proofs.Widths.{wide-gave}
 
 -- ---- the transform of a label
@@ -184,6 +184,14 @@ gives-entered k l live pipe n ask backlog answer answers answers' has manned off
           (gives-is walk n live pipe ask backlog answer pipe.bound offered.0 none);
       says = e;
     }
+
+-- memory was wanting for what is said
+pub gives-stopped : (k l : Known (BoardEntry Ask)) (live : Live) (pipe : Pipe) (n : ℕ) (ask : Ask) (backlog : Bool) (answer : Entered)
+    → live.pipe ≡ Some pipe → pipe.unmanned ≡ false → OffersShared k l pipe ask backlog answer → IsAllowed ask_size k.seen k.number ask
+    → StopsGiving (λ walk. requests_in walk n live (asked_by ask) backlog live.pipe) live k l
+gives-stopped k l live pipe n ask backlog answer has manned offered allowed =
+    giving-held (λ walk. requests_in walk n live (asked_by ask) backlog live.pipe) live k l (entered_asks ask answer) [] (entered_said n answer ∷ [])
+    (gives-entered k l live pipe n ask backlog answer [] (entered_said n answer ∷ []) has manned offered allowed refl)
 
 -- ---- a session's request
 

@@ -48,11 +48,6 @@ board-stops d s s' calls locks same stands called unshut begins =
       begins = begins;
     }
 
--- nothing was called
-pub stops-still : (d : Dialogue) (s : State) → Stands s.walk.lives (known s.registry) → StopsIn d s s
-stops-still d s stands =
-    board-stops d s s [] (record { registry = refl; board = refl; workers = refl; shared = refl }) refl stands (called-nothing (known s.board)) (λ zero_is. refl) (begins-none d)
-
 -- ---- one transform
 
 pub for-uncalled : (d : Walk → Dialogue) (live : Live) (k l : Known (BoardEntry Ask)) → Called k l [] → (k.number ≡ 0 → is_shut l.seen ≡ is_shut k.seen) → StopsFor d live k l
