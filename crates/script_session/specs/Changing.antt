@@ -46,7 +46,8 @@ pub record HoldsFor (dialogue : Walk → Dialogue) (live live' : Live) (k l : Kn
       → IsTurn (dialogue walk) (record { registry = []; board = calls; answers = said; after = Some (counting (with_live walk live') asks) })
   pub says : answers' ≡ answers ++ said
 
--- It was broken off with one transform: the calls that were made are first calls of it for any walk in which the transform stands.
+-- It was broken off with one transform: the calls that were made are the first of it for any walk in which the transform
+-- stands.
 pub record StopsFor (dialogue : Walk → Dialogue) (live : Live) (k l : Known (BoardEntry Ask)) : Type 0 where
   pub calls : List BoardCall
   pub called : Called k l calls

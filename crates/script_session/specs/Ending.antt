@@ -35,7 +35,7 @@ abbrev pub LeadsBy : (Dialogue → Dialogue) → List BoardCall → List Answer 
 LeadsBy dialogue calls said =
     (rest : Dialogue) (r : List RegCall) (b : List BoardCall) → turn_of (dialogue rest) r (calls ++ b) ≡ joined (part calls said) (turn_of rest r b)
 
--- The part was broken off: the calls that were made are its first calls, whatever is left of the dialogue behind it.
+-- The part was broken off: the calls that were made are its first, whatever is left of the dialogue behind it.
 pub record StopsMoving (dialogue : Dialogue → Dialogue) (k l : Known (BoardEntry Ask)) : Type 0 where
   pub calls : List BoardCall
   pub called : Called k l calls

@@ -38,7 +38,7 @@ pub record GivesFor (dialogue : Walk → Dialogue) (live : Live) (k l : Known (B
       → IsTurn (dialogue walk) (record { registry = []; board = calls; answers = said; after = Some (counting walk asks) })
   pub says : answers' ≡ answers ++ said
 
--- It was broken off: the calls that were made are first calls of it for any walk that has none of its own under that label.
+-- It was broken off: the calls that were made are the first of it for any walk that has none of its own under that label.
 pub record StopsGiving (dialogue : Walk → Dialogue) (live : Live) (k l : Known (BoardEntry Ask)) : Type 0 where
   pub calls : List BoardCall
   pub called : Called k l calls

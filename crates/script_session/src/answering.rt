@@ -28,7 +28,8 @@ use transforms::{Ask, Job};
 
 impl Session {
     /// Answers a line other than `poll` and `drain` as `line` does, and adds its answers, not their text, to those that are there.
-    /// `Stop` comes for want of memory alone: what `answers` has then isn't told, and the session takes no line after it.
+    /// `Stop` comes for want of memory alone: the calls that were made are then the first of the line's dialogue, what `answers`
+    /// has isn't told, and the session takes no line after it.
     pub fn answer_line<R: Threads + Wait + Sync>(
         &mut self,
         rt: &R,
@@ -55,8 +56,9 @@ impl Session {
         }
     }
 
-    /// Does what `end` does, and adds its answers, not their text, to those that are there. `Stop` comes for want of memory alone:
-    /// the board isn't shut then, what `answers` has isn't told, and what was handed out may be lost.
+    /// Does what `end` does, and adds its answers, not their text, to those that are there. `Stop` comes for want of memory
+    /// alone: the calls that were made are then the first of the end's dialogue, and the board isn't shut. What `answers` has
+    /// isn't told, and what was handed out may be lost.
     pub fn answer_end<R: Wait, G: Gate>(
         &mut self,
         rt: &R,

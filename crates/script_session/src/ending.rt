@@ -148,8 +148,9 @@ impl Session {
     /// in order of allocation, and then the board is shut. No line comes after it. The session's is the board's first pass,
     /// with the number 0.
     ///
-    /// It does what jobs there are while it waits. `Stop` comes for want of memory alone; then the board isn't shut, and the reply has
-    /// the text of what its pipelines handed out up to then, and no other callback.
+    /// It does what jobs there are while it waits. `Stop` comes for want of memory alone: the calls that were made are then the
+    /// first of the end's dialogue, and the board isn't shut. The reply has the text of what its pipelines handed out up to
+    /// then, and no other callback.
     pub fn end<R: Wait, G: Gate>(
         &mut self,
         rt: &R,

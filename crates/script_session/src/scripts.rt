@@ -226,8 +226,8 @@ impl Session {
     /// `number` is the line's place in the script, counted from 1. Its answers bear it, and completions of its request.
     /// Each list of bytes in the line is shorter than 2^32. `drain` does what jobs there are while it waits, `probe` builds, and `bulk`
     /// starts threads, which end in this call. A request keeps the line's bytes. `Stop` comes for want of memory alone, with the
-    /// reply as it was; `poll` and `drain` have made no call on the board then, but jobs may have been done. The session takes no
-    /// line after it.
+    /// reply as it was. The calls that were made are then the first of the line's dialogue. `poll` and `drain` have made none
+    /// on the board, but jobs may have been done. The session takes no line after it.
     pub fn line<R: Threads + Wait + Sync, G: Gate>(
         &mut self,
         rt: &R,
