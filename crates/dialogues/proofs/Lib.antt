@@ -5,3 +5,4 @@ pub mod Grouping
 pub mod Following
 pub mod Leading
 pub mod References
+pub mod First

@@ -19,3 +19,5 @@ pub mod Widths
 pub mod GoingOn
 pub mod Leading
 pub mod References
+pub mod First
+pub mod FirstCalls

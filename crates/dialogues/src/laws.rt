@@ -7,6 +7,7 @@ ghost use Rattle.script_text.specs.declared.commands.Line.{Line};
 ghost use Rattle.transforms.specs.declared.ask.Ask.{Ask};
 ghost use Rattle.dialogues.specs.BoardCalls.{BoardCall};
 ghost use Rattle.dialogues.specs.Dialogues.{Dialogue, followed};
+ghost use Rattle.dialogues.specs.FirstCalls.{BeginsByNone, BeginsByTurn, BeginsSaying, BeginsAsking, BeginsPosting, BeginsLooking, BeginsLookingAll, BeginsInFirst, BeginsInLater, BeginsInLines, NoneFurther, CallsThenFurther, FurtherStay};
 ghost use Rattle.dialogues.specs.GoingOn.{RegisteredStays, FoundStays, RegistryCallsGoOn, RegistryCallsJoin, RegistryUnasked, BoardCallsGoOn, BoardCallsJoin, BoardUncalled, NoCall, OneCall, OneLook, NothingThenCalls, CallsThenCalls, CallsInTurnAre, InTurnByAny, InTurnByOne, InTurnByMore, LooksAtOnce, NothingThenCallsBy, CallsThenCallsBy, CallsByAre};
 ghost use Rattle.dialogues.specs.Leading.{LeadsNowhere, LeadsOn, LeadsToEnd};
 ghost use Rattle.dialogues.specs.References.{ReferencesFollow};
@@ -70,6 +71,27 @@ pub fn lines_lead()
     ensures nowhere { LeadsNowhere }
     ensures on { LeadsOn }
     ensures end { LeadsToEnd }
+{}
+
+/// By which calls a dialogue begins: its first ones, whatever looks come to that have come to nothing.
+pub fn first_calls()
+    ensures none { BeginsByNone }
+    ensures turn { BeginsByTurn }
+    ensures says { BeginsSaying }
+    ensures asks { BeginsAsking }
+    ensures posts { BeginsPosting }
+    ensures look { BeginsLooking }
+    ensures looks { BeginsLookingAll }
+    ensures first { BeginsInFirst }
+    ensures later { BeginsInLater }
+    ensures lines { BeginsInLines }
+{}
+
+/// A caller's further calls on the registry, and what stays of them as its history goes on.
+pub fn further_calls()
+    ensures none { NoneFurther }
+    ensures after { CallsThenFurther }
+    ensures stay { FurtherStay }
 {}
 
 /// Who got more references of an entry than it gave back has one to give back, by its own entries alone.
