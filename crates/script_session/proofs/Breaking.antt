@@ -1,5 +1,5 @@
 -- A session that goes no further has called the first calls of its dialogue.
-use Rattle.std.proofs.Common.{◌≡◌, ℕ, List, [], ◌∷◌, ◌++◌, Option, Some, None, Result, Ok, Err, OnOk, refl, sym, ap, subst, ◌∙◌, append_assoc, append-nil}
+use Rattle.std.proofs.Common.{◌≡◌, ℕ, List, [], ◌∷◌, ◌++◌, Option, Some, None, Result, Ok, Err, OnOk, refl, sym, subst, ◌∙◌, append-nil}
 use Rattle.std.specs.Prelude.{MatchResult}
 use Rattle.alg_registry.specs.declared.entry.RegEntry.{RegEntry}
 use Rattle.alg_registry.specs.Rows.{caller_of as reg_caller}
@@ -11,12 +11,11 @@ use Rattle.turn_lock.specs.Meeting.{IsOwn}
 use Rattle.turn_lock.specs.Turns.{Known}
 use Rattle.dialogues.specs.BoardCalls.{BoardCall}
 use Rattle.dialogues.specs.Dialogues.{Dialogue, Says, Asks as AsksFor, Posts}
-use Rattle.dialogues.specs.First.{AreFurther}
-use Rattle.dialogues.specs.InTurn.{AreCalls}
+use Rattle.dialogues.specs.First.{AreFurther, BeginsBy}
 use Rattle.dialogues.specs.Questions.{RegQuestion, RegAnswer, Look, reg_call, BoardQuestion, BoardAnswer, board_call}
 use Rattle.dialogues.specs.RegistryCalls.{RegCall, Looks, reg_calls}
 use Rattle.dialogues.specs.Walk.{Walk, Live}
-use Rattle.dialogues.proofs.First.{begins-none, begins-turn, begins-says, begins-asks, begins-look, begins-posts}
+use Rattle.dialogues.proofs.First.{begins-none, begins-turn, begins-says, begins-asks, begins-look, begins-posts, further-then}
 use Rattle.session_calls.specs.Asking.{Asked, Asks}
 use Rattle.session_calls.specs.Passes.{RegPass, BoardPass, known}
 use Rattle.session_calls.specs.Pipelines.{Called, Kept}
@@ -29,40 +28,32 @@ use Rattle.script_session.proofs.Rules.{called-nothing}
 
 -- ---- further calls
 
-further-none : (n : ℕ) (h : List RegEntry) → AreFurther n [] h h
-further-none n h = record { more = []; goes_on = sym (append-nil h); calls_are = sym (append-nil (reg_calls n h)) }
+further-nothing : (n : ℕ) (h : List RegEntry) → AreFurther n [] h h
+further-nothing n h = record { more = []; goes_on = sym (append-nil h); calls_are = sym (append-nil (reg_calls n h)) }
 
-pub asked-further : (n : ℕ) (calls : List RegCall) (h h' : List RegEntry) → AreCalls n calls h h' → AreFurther n calls h h'
-asked-further n calls h h' are = record { more = are.more; goes_on = are.goes_on; calls_are = are.calls_are }
+asked-further : (k l : Known RegEntry) (calls : List RegCall) → Asked k l calls → AreFurther k.number calls k.seen l.seen
+asked-further k l calls asked = record { more = asked.are.more; goes_on = asked.are.goes_on; calls_are = asked.are.calls_are }
 
--- calls that have come to something, and then others
-further-then : (k l m : Known RegEntry) (a b : List RegCall) → l.number ≡ k.number → AreFurther k.number a k.seen l.seen → AreFurther l.number b l.seen m.seen
-    → AreFurther k.number (a ++ b) k.seen m.seen
-further-then k l m a b same first later =
-    let n = k.number in
-    let then : AreFurther n b l.seen m.seen = subst (λ x. AreFurther x b l.seen m.seen) same later in
-    record {
-      more = first.more ++ then.more;
-      goes_on = then.goes_on ∙ (ap (λ h. h ++ then.more) first.goes_on ∙ append_assoc k.seen first.more then.more);
-      calls_are = then.calls_are ∙ (ap (λ cs. cs ++ b) first.calls_are ∙ append_assoc (reg_calls n k.seen) a b);
-    }
+asked-then : (k l m : Known RegEntry) (a b : List RegCall) → Asked k l a → AreFurther l.number b l.seen m.seen → AreFurther k.number (a ++ b) k.seen m.seen
+asked-then k l m a b first later = further-then k.number a b k.seen l.seen m.seen first.are (subst (λ n. AreFurther n b l.seen m.seen) first.number later)
 
 -- ---- the rules
 
 -- nothing was called
 pub breaks-none : (d : Dialogue) (k : Known RegEntry) (b : Known (BoardEntry Ask)) → IsOwn reg_caller k → Breaks d k b k b
-breaks-none d k b own = record { registry = []; board = []; further = further-none k.number k.seen; own = own; called = called-nothing b; begins = begins-none d }
+breaks-none d k b own = record { registry = []; board = []; further = further-nothing k.number k.seen; own = own; called = called-nothing b; begins = begins-none d }
+
+-- the board alone was called
+pub breaks-board : (d : Dialogue) (k : Known RegEntry) (b b' : Known (BoardEntry Ask)) (board : List BoardCall) → IsOwn reg_caller k → Called b b' board → BeginsBy d [] board → Breaks d k b k b'
+breaks-board d k b b' board own called begins = record { registry = []; board = board; further = further-nothing k.number k.seen; own = own; called = called; begins = begins }
+
+-- others went on, and the caller worked
+pub breaks-further : (d : Dialogue) (k l : Known RegEntry) (b : Known (BoardEntry Ask)) → AreFurther k.number [] k.seen l.seen → IsOwn reg_caller l → Breaks d k b l b
+breaks-further d k l b further own = record { registry = []; board = []; further = further; own = own; called = called-nothing b; begins = begins-none d }
 
 -- the registry wasn't asked
 pub breaks-unasked : (d : Dialogue) (k l : Known RegEntry) (b : Known (BoardEntry Ask)) → Asked k l [] → Breaks d k b l b
-breaks-unasked d k l b asked = record {
-  registry = [];
-  board = [];
-  further = asked-further k.number [] k.seen l.seen asked.are;
-  own = asked.caller.own;
-  called = called-nothing b;
-  begins = begins-none d;
-}
+breaks-unasked d k l b asked = breaks-further d k l b (asked-further k l [] asked) asked.caller.own
 
 pub breaks-says : (answers : List Answer) (next : Dialogue) (k k' : Known RegEntry) (b b' : Known (BoardEntry Ask)) → Breaks next k b k' b' → Breaks (Says answers next) k b k' b'
 breaks-says answers next k k' b b' then = record {
@@ -78,7 +69,7 @@ pub breaks-asked-none : (d : Dialogue) (k l k' : Known RegEntry) (b b' : Known (
 breaks-asked-none d k l k' b b' asked then = record {
   registry = then.registry;
   board = then.board;
-  further = further-then k l k' [] then.registry asked.number (asked-further k.number [] k.seen l.seen asked.are) then.further;
+  further = asked-then k l k' [] then.registry asked then.further;
   own = then.own;
   called = then.called;
   begins = then.begins;
@@ -91,7 +82,7 @@ breaks-asks k l k' b b' question answer next asked then =
     record {
       registry = call ∷ then.registry;
       board = then.board;
-      further = further-then k l k' (call ∷ []) then.registry asked.number (asked-further k.number (call ∷ []) k.seen l.seen asked.are) then.further;
+      further = asked-then k l k' (call ∷ []) then.registry asked then.further;
       own = then.own;
       called = then.called;
       begins = begins-asks question answer next then.registry then.board then.begins;
@@ -127,7 +118,7 @@ pub breaks-done : {width : ℕ} → (d : Dialogue) (k k' : Known RegEntry) (b b'
 breaks-done d k k' b b' after answers answers' done = record {
   registry = done.turn.registry;
   board = done.turn.board;
-  further = asked-further k.number done.turn.registry k.seen k'.seen done.asked.are;
+  further = record { more = done.asked.are.more; goes_on = done.asked.are.goes_on; calls_are = done.asked.are.calls_are };
   own = done.asked.caller.own;
   called = done.called;
   begins = begins-turn d done.turn done.is done.asked.are.settled;
@@ -198,9 +189,9 @@ kept-calls-on k l kept = record { called = kept.called; unshut = kept.unshut }
 -- ---- a session as it is seen
 
 module _ {ws c : ℕ} {sh lives : List Live} {q v : ℕ} {r : Option RegPass} {b : Option BoardPass} (s : State) (view : viewed ws c sh lives q v r b ≡ s) where
-  pub stops-at : (d : Dialogue) (s' : State) → Stops s s' → Breaks d (known r) (known b) (known s'.registry) (known s'.board) → StopsIn d s s'
-  stops-at d s' stops breaks = stops-in d s s' stops (subst (λ (x : State). Breaks d (known x.registry) (known x.board) (known s'.registry) (known s'.board)) view breaks)
+  pub stops-at : (d : State → Dialogue) (s' : State) → Stops s s' → Breaks (d (viewed ws c sh lives q v r b)) (known r) (known b) (known s'.registry) (known s'.board) → StopsIn (d s) s s'
+  stops-at d s' stops breaks = stops-in (d s) s s' stops (subst (λ (x : State). Breaks (d x) (known x.registry) (known x.board) (known s'.registry) (known s'.board)) view breaks)
 
   -- its registry's caller asked nothing
   pub unasked-arm : {r' : Option RegPass} (d : Dialogue) → Asks r r' [] → StopsIn d s (viewed ws c sh lives q v r' b)
-  unasked-arm {r'} d asks = stops-at d (viewed ws c sh lives q v r' b) (stops-arm s view [] asks) (breaks-unasked d (known r) (known r') (known b) asks.asked)
+  unasked-arm {r'} d asks = stops-at (λ x. d) (viewed ws c sh lives q v r' b) (stops-arm s view [] asks) (breaks-unasked d (known r) (known r') (known b) asks.asked)

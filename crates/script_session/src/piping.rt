@@ -1,7 +1,8 @@
 //! What lines do with the pipeline of one transform.
 
-ghost use Rattle.std.specs.Prelude.{◌≡◌, ◌≢◌, ◌↔◌, ◌≤◌, Some, MatchResult, IfOk, IfErr, IsTrue, true, false};
+ghost use Rattle.std.specs.Prelude.{◌≡◌, ◌≢◌, ◌↔◌, ◌≤◌, [], Some, MatchResult, IfOk, IfErr, IsTrue, true, false};
 ghost use Rattle.board.specs.declared.board_core.BoardErr.TheVariants as BoardErr;
+ghost use Rattle.script_session.specs.Breaking.{CallsOn};
 ghost use Rattle.script_session.specs.Holding.{SeesOn};
 ghost use Rattle.script_session.specs.Offering.{Offered};
 ghost use Rattle.session_calls.specs.Pipelines.{KnowsPipe, Kept};
@@ -192,7 +193,7 @@ fn create_queue<R: Wait>(
     ensures lock { lock_of caller.new ≡ lock_of caller.old }
     ensures created { MatchResult result
         (λ pipe. Created (Some (queue_shape workers chained length)) (Some pipe) (known caller.old) (known caller.new))
-        (λ _. SeesOn (known caller.old) (known caller.new)) }
+        (λ _. CallsOn (known caller.old) (known caller.new) []) }
 {
     let max = length.unwrap_or(QUEUE_LENGTH);
     if chained {
@@ -221,7 +222,7 @@ pub fn create_pipe<R: Wait>(
     ensures lock { lock_of caller.new ≡ lock_of caller.old }
     ensures created { MatchResult result
         (λ pipe. Created (shape_for workers (is_chained spec.now.driver) spec.now.wrap length) pipe (known caller.old) (known caller.new))
-        (λ _. SeesOn (known caller.old) (known caller.new)) }
+        (λ _. CallsOn (known caller.old) (known caller.new) []) }
 {
     match spec.wrap {
         Wrap::Plain => Ok(None),

@@ -100,7 +100,7 @@ impl Session {
         requires posted { Posted self.old.walk (known self.old.board) }
         ensures { MatchResult result
             (λ _. Holds (listed self.old.walk number) self.old self.new answers.old.items answers.new.items)
-            (λ _. Stops self.old self.new) }
+            (λ _. StopsIn (listed self.old.walk number) self.old self.new) }
     {
         let listing = self.registry.list(rt, registry)?;
         list_rows(self.alloc, number, listing.rows(), answers)

@@ -30,7 +30,7 @@ use Rattle.turn_lock.specs.Going.{own_entered, own_left, own_goes}
 use Rattle.shared_registry.specs.Building.{LooksFor, Looks as LooksUp, Works, Resolved, is_building}
 use Rattle.shared_registry.specs.Faithful.{IsFaithful}
 use Rattle.dialogues.specs.First.{AreFurther}
-use Rattle.dialogues.specs.GoingOn.{RegisteredStays}
+use Rattle.dialogues.specs.GoingOn.{RegisteredStays, RegistryCallsGoOn}
 use Rattle.dialogues.specs.InTurn.{AreInTurn}
 use Rattle.dialogues.specs.RegistryCalls.{RegCall, Enlists, Looks, Unlists, Gets, Puts, Counts, Lists, reg_call_of, reg_calls, reg_calls_from, prepend, is_settled, if_own, AllSettled}
 use Rattle.session_calls.specs.Passes.{RegPass, known, lock_of}
@@ -319,14 +319,14 @@ found-registered h (Some (Ok n)) id spec e =
 -- ---- where memory was wanting
 
 -- what was added are the caller's further calls
-further-by : CallLaws → (k l : Known RegEntry) (between : List RegEntry) (calls : List RegCall) → IsCaller k → l.seen ≡ k.seen ++ between
+pub further-by : RegistryCallsGoOn → (k l : Known RegEntry) (between : List RegEntry) (calls : List RegCall) → IsCaller k → l.seen ≡ k.seen ++ between
     → reg_calls_from l.seen k.number k.seen between ≡ calls → AreFurther k.number calls k.seen l.seen
-further-by law k l between calls caller seen are = record {
+further-by goes_on k l between calls caller seen are = record {
   more = between;
   goes_on = seen;
   calls_are =
       ap (reg_calls k.number) seen
-      ∙ (law.goes_on k.number k.seen between caller.settled
+      ∙ (goes_on k.number k.seen between caller.settled
       ∙ (ap (λ h. reg_calls k.number k.seen ++ reg_calls_from h k.number k.seen between) (sym seen)
       ∙ ap (λ calls. reg_calls k.number k.seen ++ calls) are));
 }
@@ -334,7 +334,7 @@ further-by law k l between calls caller seen are = record {
 work-further : CallLaws → (k l : Known RegEntry) → IsCaller k → Works k l → AreFurther k.number [] k.seen l.seen
 work-further law k l caller works =
     let goes = works.goes in
-    further-by law k l goes.between [] caller goes.seen
+    further-by law.goes_on k l goes.between [] caller goes.seen
     (law.unasked l.seen k.number k.seen goes.between (work-unasked k.number goes.between (ap (list_all is_building) goes.mine ∙ works.all_work)))
 
 look-further : CallLaws → (k l : Known RegEntry) (text : List ℕ) (answer : Looked) → IsCaller k → LooksUp k l text false answer
@@ -348,7 +348,7 @@ look-further law k l text answer caller look =
     let front = k.seen ++ s.0 in
     let rest : reg_calls_from h n (front ++ e ∷ []) s.1 ≡ [] =
     law.unasked h n (front ++ e ∷ []) s.1 (work-unasked n s.1 (ap (list_all is_building) s.4 ∙ look.all_work)) in
-    further-by law k l goes.between (Looks text (found_in h answer) ∷ []) caller goes.seen
+    further-by law.goes_on k l goes.between (Looks text (found_in h answer) ∷ []) caller goes.seen
     (ap (reg_calls_from h n k.seen) s.2
     ∙ (law.joins h n k.seen s.0 (e ∷ s.1)
     ∙ (ap (λ calls. calls ++ reg_calls_from h n front (e ∷ s.1)) (law.unasked h n k.seen s.0 (unasked n s.0 s.3))

@@ -2,15 +2,12 @@ use Rattle.std.proofs.Common.{[], refl, sym, ap, ◌∙◌}
 use Rattle.dialogues.specs.Walk.{live_of}
 use Rattle.script_session.specs.States.{State}
 use Rattle.session_calls.specs.Passes.{known}
-use Rattle.script_session.proofs.Arms.{or-stops, sees-same}
-use Rattle.script_session.proofs.Finding.{sees-asked, further, origin-stands, bound-arm, unplanned-arm}
+use Rattle.script_session.proofs.Finding.{origin-stands, bound-arm, unbound-arm, unplanned-or}
 use Rattle.script_session.proofs.scripts.Session.bind.Goals as goal
 
 pub returns-in_default : goal.returns-in_default
 returns-in_default g c =
-    or-stops c.refuse.result c.refuse.ensures
-    (unplanned-arm c.args.self.now c.self.view_is c.args.number c.args.wanted.now.label.now c.args.wanted.now.length c.args.id c.in_ok-spec.spec _ _ c.in_ok-spec.ensures.0 c.in_ok-spec.ensures.1 (sym c.in_ok-plan.ensures ∙ c.in_default.is) c.requires.stands c.requires.posted)
-    (further c.args.self.now c.self.view_is _ (sees-asked [] c.in_ok-spec.ensures.0) refl (sees-same (known c.self.inside.board)))
+    unplanned-or c.args.self.now c.self.view_is c.args.number c.args.wanted.now.label.now c.args.wanted.now.length c.args.id c.in_ok-spec.spec _ _ c.refuse.result c.in_ok-spec.ensures.0 c.in_ok-spec.ensures.1 (sym c.in_ok-plan.ensures ∙ c.in_default.is) c.requires.stands c.requires.posted c.refuse.ensures
 
 pub take_entry-requires-clause-stands : goal.take_entry-requires-clause-stands
 take_entry-requires-clause-stands g c = origin-stands c.args.self.now c.self.view_is c.requires.stands c.in_ok-spec.ensures.0

@@ -6,7 +6,8 @@ use Rattle.session_calls.specs.Asking.{HasReferenceOf}
 use Rattle.session_calls.specs.Passes.{known}
 use Rattle.script_session.proofs.Frees.{free-arm}
 use Rattle.script_session.proofs.Standing.{may-give}
-use Rattle.script_session.proofs.Arms.{or-stops, stops-same, answer-holds}
+use Rattle.script_session.proofs.Arms.{answer-holds}
+use Rattle.script_session.proofs.Breaking.{or-breaks, stops-none}
 use Rattle.script_session.proofs.Freeing.{free-nobody, free-owing}
 use Rattle.dialogues.specs.Dialogues.{missing}
 use Rattle.dialogues.specs.Walk.{shared_of}
@@ -17,9 +18,9 @@ pub returns-in_default : goal.returns-in_default
 returns-in_default g c =
     let s = c.args.self.now in
     let none = no-live c.args.self.now c.self.inside.lives c.self.invariant c.self.view_is c.args.label.now c.as_slice.result.now c.as_slice.ensures c.in_default.ensures in
-    or-stops c.refuse.result c.refuse.ensures
-    (answer-holds _ s s _ _ _ (free-nobody s.walk c.args.number c.args.label.now _ none (c.missing-errno.ensures ∙ ap (λ l. missing (shared_of s.walk l)) c.as_slice-in_default.ensures)) refl refl refl refl c.requires.stands c.requires.posted)
-    (stops-same s c.requires.stands)
+    or-breaks c.refuse.result c.refuse.ensures
+    (λ all. answer-holds _ s s _ _ all (free-nobody s.walk c.args.number c.args.label.now _ none (c.missing-errno.ensures ∙ ap (λ l. missing (shared_of s.walk l)) c.as_slice-in_default.ensures)) refl refl refl refl c.requires.stands c.requires.posted)
+    c.requires.posted
 
 pub get-requires : goal.get-requires
 get-requires g c = is-there c.args.self.now c.self.inside.lives c.self.invariant c.self.view_is c.args.label.now c.as_slice.result.now c.as_slice.ensures c.in-Some.place c.in-Some.ensures
@@ -29,9 +30,9 @@ returns-then-is_owing g c =
     let s = c.args.self.now in
     let at = live-at c.args.self.now c.self.inside.lives c.self.invariant c.self.view_is c.args.label.now c.as_slice.result.now c.as_slice.ensures c.in-Some.place c.in-Some.ensures in
     let was = is-live c.args.self.now c.self.inside.lives c.self.invariant c.self.view_is c.args.label.now c.as_slice.result.now c.as_slice.ensures c.in-Some.place c.in-Some.ensures c.get.result.now c.get.ensures in
-    or-stops c.refuse-then-is_owing.result c.refuse-then-is_owing.ensures
-    (answer-holds _ s s _ _ _ (free-owing s.walk c.args.number c.args.label.now at.live at.found (ap (λ (l : Live). owes l.pipe) (sym was) ∙ (sym c.is_owing.ensures ∙ c.if-is_owing.true))) refl refl refl refl c.requires.stands c.requires.posted)
-    (stops-same s c.requires.stands)
+    or-breaks c.refuse-then-is_owing.result c.refuse-then-is_owing.ensures
+    (λ all. answer-holds _ s s _ _ all (free-owing s.walk c.args.number c.args.label.now at.live at.found (ap (λ (l : Live). owes l.pipe) (sym was) ∙ (sym c.is_owing.ensures ∙ c.if-is_owing.true))) refl refl refl refl c.requires.stands c.requires.posted)
+    c.requires.posted
 
 pub remove-live-requires-clause-there : goal.remove-live-requires-clause-there
 remove-live-requires-clause-there g c = is-there c.args.self.now c.self.inside.lives c.self.invariant c.self.view_is c.args.label.now c.as_slice.result.now c.as_slice.ensures c.in-Some.place c.in-Some.ensures

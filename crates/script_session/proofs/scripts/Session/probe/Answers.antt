@@ -1,7 +1,7 @@
 use Rattle.std.proofs.Common.{◌≡◌, subst, List, ◌++◌}
 use Rattle.std.specs.Prelude.{MatchResult}
 use Rattle.reply_text.specs.declared.answers.Answer.{Answer}
-use Rattle.session_calls.specs.Asking.{SeesMore}
+use Rattle.session_calls.specs.Looking.{Builds}
 use Rattle.script_session.specs.Probing.{LooksFirst, SettlesThen}
 use Rattle.script_session.proofs.Probed.{probe-arm}
 use Rattle.script_session.proofs.scripts.Session.probe.Goals as goal
@@ -14,4 +14,4 @@ returns g c =
     let answers' = c.settle_all.new.answers.items in
     probe-arm c.calls_at_once.ensures.looks c.calls_at_once.ensures.are c.args.self.now c.self.view_is r1 r2 c.settle_all.result c.args.number c.args.names.now c.in_ok-searches.searches.items answers answers' c.requires.stands c.requires.posted
     (subst (λ ts. LooksFirst c.self.inside.registry r1 ts c.in_ok-searches.searches.items) c.as_slice.ensures c.in_ok-searches.ensures)
-    (subst (λ ss. MatchResult c.settle_all.result (λ _. (said : List Answer) × (answers' ≡ answers ++ said) × SettlesThen r1 r2 c.args.number ss said) (λ _. SeesMore r1 r2)) c.deref.ensures.value c.settle_all.ensures)
+    (subst (λ ss. MatchResult c.settle_all.result (λ _. (said : List Answer) × (answers' ≡ answers ++ said) × SettlesThen r1 r2 c.args.number ss said) (λ _. Builds r1 r2)) c.deref.ensures.value c.settle_all.ensures)

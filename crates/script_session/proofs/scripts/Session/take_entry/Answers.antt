@@ -3,16 +3,16 @@ use Rattle.dialogues.specs.RegistryCalls.{Gets}
 use Rattle.dialogues.specs.Walk.{live_of}
 use Rattle.script_session.specs.States.{State}
 use Rattle.session_calls.specs.Passes.{known}
-use Rattle.script_session.proofs.Arms.{or-stops, sees-same}
-use Rattle.script_session.proofs.Finding.{sees-asked, asks-got, further, taken-arm, lost-arm}
+use Rattle.script_session.proofs.Breaking.{or-breaks}
+use Rattle.script_session.proofs.Finding.{asks-got, taken-arm, lost-arm}
 use Rattle.script_session.proofs.scripts.Session.take_entry.Goals as goal
 
 pub returns-then-not-branch : goal.returns-then-not-branch
 returns-then-not-branch g c =
-    or-stops c.refuse.result c.refuse.ensures
-    (lost-arm c.args.self.now c.self.view_is c.args.number c.args.wanted.now.label.now c.args.wanted.now.length c.args.chosen.id c.args.chosen.spec c.args.chosen.plan _ _
+    or-breaks c.refuse.result c.refuse.ensures
+    (λ all. lost-arm c.args.self.now c.self.view_is c.args.number c.args.wanted.now.label.now c.args.wanted.now.length c.args.chosen.id c.args.chosen.spec c.args.chosen.plan _ all
     (asks-got c.args.chosen.id _ _ c.if-not-branch.true c.in_ok-take_ref.ensures) c.requires.stands c.requires.posted)
-    (further c.args.self.now c.self.view_is _ (sees-asked (Gets c.args.chosen.id c.in_ok-take_ref.field-0 ∷ []) c.in_ok-take_ref.ensures) refl (sees-same (known c.self.inside.board)))
+    c.requires.posted
 
 pub add_live-requires-clause-free : goal.add_live-requires-clause-free
 add_live-requires-clause-free g c = ap (λ (x : State). live_of x.walk c.args.wanted.now.label.now) c.self.view_is ∙ c.requires.free
