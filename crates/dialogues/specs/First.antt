@@ -1,5 +1,5 @@
 -- The first calls of a dialogue: what its script has called where it broke off.
-use Rattle.std.specs.Prelude.{ℕ, ◌≡◌, List, [], ◌∷◌, ◌++◌, Option, Some, None}
+use Rattle.std.specs.Prelude.{ℕ, ◌≡◌, List, [], ◌∷◌, ◌++◌, Some, None}
 use Rattle.alg_registry.specs.declared.entry.RegEntry.{RegEntry}
 use Rattle.templates.specs.Looking.{Found}
 use Rattle.dialogues.specs.BoardCalls.{BoardCall}
