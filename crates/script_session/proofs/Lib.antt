@@ -3,6 +3,7 @@ pub mod Rules
 pub mod Standing
 pub mod Arms
 pub mod Breaking
+pub mod Stopping
 pub mod Alloc
 pub mod Freeing
 pub mod Changing

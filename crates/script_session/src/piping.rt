@@ -18,7 +18,7 @@ ghost use Rattle.transforms.specs.AskValue.{ask_size};
 ghost use Rattle.dialogues.specs.Requesting.{requests_in};
 ghost use Rattle.session_calls.specs.Passes.{known, lock_of, CallsBoard};
 ghost use Rattle.script_session.specs.States.{HasPipe};
-ghost use Rattle.script_session.specs.Changing.{HoldsFor, Released, asks_if, owes};
+ghost use Rattle.script_session.specs.Changing.{HoldsFor, StopsFor, Released, asks_if, owes};
 
 use crate::answers::{refuse, say, value_answer};
 use crate::naming::is_chained_driver;
@@ -82,7 +82,7 @@ pub fn take_job<R: Wait>(
     ensures lock { lock_of caller.new ≡ lock_of caller.old }
     ensures held { MatchResult result
         (λ accepted. HoldsFor (λ walk. requests_in walk of.line live.old (asked_by (arc_value job.ask)) backlog live.old.pipe) live.old live.new (known caller.old) (known caller.new) (asks_if accepted (arc_value job.ask)) answers.old.items answers.new.items)
-        (λ _. SeesOn (known caller.old) (known caller.new)) }
+        (λ _. StopsFor (λ walk. requests_in walk of.line live.old (asked_by (arc_value job.ask)) backlog live.old.pipe) live.old (known caller.old) (known caller.new)) }
     ensures allowed { IfOk result (λ accepted. IsTrue accepted → IsAllowed ask_size (known caller.old).seen (known caller.old).number (arc_value job.ask)) }
 {
     let Some(pipe) = live.pipe() else {
