@@ -165,10 +165,10 @@ stops-held d s s' answers answers' held posted =
     (breaks-done d (known s.registry) (known s'.registry) (known s.board) (known s'.board) s'.walk answers answers' done)
 
 -- it says what is left to say, or memory is wanting for that alone
-pub or-breaks : {S A : Type 0} {width : ℕ} {d : Dialogue} {s s' : State} {answers answers' said : List Answer} (result : Result A S) → OnOk result (answers' ≡ answers ++ said)
+pub or-breaks : {S A : Type 0} {width : ℕ} {d : Dialogue} {s s' : State} {answers : List Answer} (answers' said : List Answer) (result : Result A S) → OnOk result (answers' ≡ answers ++ said)
     → ((all : List Answer) → all ≡ answers ++ said → HoldsBy width d s s' answers all) → Posted s.walk (known s.board) → MatchResult result (λ _. HoldsBy width d s s' answers answers') (λ _. StopsIn d s s')
-or-breaks {answers' = answers'} (Ok done) says holds posted = holds answers' says
-or-breaks {d = d} {s = s} {s' = s'} {answers = answers} {said = said} (Err stop) says holds posted = stops-held d s s' answers (answers ++ said) (holds (answers ++ said) refl) posted
+or-breaks answers' said (Ok done) says holds posted = holds answers' says
+or-breaks {d = d} {s = s} {s' = s'} {answers = answers} answers' said (Err stop) says holds posted = stops-held d s s' answers (answers ++ said) (holds (answers ++ said) refl) posted
 
 -- what is known in either case comes to something else
 pub either-way : {S A : Type 0} {P Q P' Q' : Type 0} (result : Result A S) → (P → P') → (Q → Q') → MatchResult result (λ _. P) (λ _. Q) → MatchResult result (λ _. P') (λ _. Q')

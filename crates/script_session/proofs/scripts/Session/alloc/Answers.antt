@@ -12,7 +12,7 @@ use Rattle.script_session.proofs.scripts.Session.alloc.Goals as goal
 pub returns-then-has_label : goal.returns-then-has_label
 returns-then-has_label g c =
     let s = c.args.self.now in
-    or-breaks c.refuse.result c.refuse.ensures
+    or-breaks _ _ c.refuse.result c.refuse.ensures
     (λ all. answer-holds _ s s _ _ all
     (alloc-live s.workers s.walk c.args.number c.args.wanted.now.label.now c.args.name.now c.args.wanted.now.length
     (ap (λ l. is_some (either_of s.walk l)) (sym c.as_slice.ensures) ∙ (sym c.has_label.ensures ∙ c.if-has_label.true))) refl refl refl refl c.requires.stands c.requires.posted)
@@ -21,7 +21,7 @@ returns-then-has_label g c =
 pub returns-then-len-ge-MOST_LIVE : goal.returns-then-len-ge-MOST_LIVE
 returns-then-len-ge-MOST_LIVE g c =
     let s = c.args.self.now in
-    or-breaks c.refuse-then-len-ge-MOST_LIVE.result c.refuse-then-len-ge-MOST_LIVE.ensures
+    or-breaks _ _ c.refuse-then-len-ge-MOST_LIVE.result c.refuse-then-len-ge-MOST_LIVE.ensures
     (λ all. answer-holds _ s s _ _ all
     (alloc-full s.workers s.walk c.args.number c.args.wanted.now.label.now c.args.name.now c.args.wanted.now.length
     (ap (λ l. is_some (either_of s.walk l)) (sym c.as_slice.ensures) ∙ (sym c.has_label.ensures ∙ c.if-has_label.false))
@@ -32,7 +32,7 @@ pub returns-in-Err-Fault : goal.returns-in-Err-Fault
 returns-in-Err-Fault g c =
     let s = c.args.self.now in
     let read = rw c.in-Err-Fault.field-0-is at c.in-Err-Fault.ensures in
-    or-breaks c.refuse-in-Err-Fault.result (rw c.in-Err-Fault.errno-is at c.refuse-in-Err-Fault.ensures)
+    or-breaks _ _ c.refuse-in-Err-Fault.result (rw c.in-Err-Fault.errno-is at c.refuse-in-Err-Fault.ensures)
     (λ all. answer-holds _ s s _ _ all
     (alloc-faulty s.workers s.walk c.args.number c.args.wanted.now.label.now c.args.name.now c.args.wanted.now.length c.in-Err-Fault.errno
     (ap (λ l. is_some (either_of s.walk l)) (sym c.as_slice.ensures) ∙ (sym c.has_label.ensures ∙ c.if-has_label.false))
@@ -43,7 +43,7 @@ returns-in-Err-Fault g c =
 pub returns-then-not-fits_queue : goal.returns-then-not-fits_queue
 returns-then-not-fits_queue g c =
     let s = c.args.self.now in
-    or-breaks c.refuse-then-not-fits_queue.result c.refuse-then-not-fits_queue.ensures
+    or-breaks _ _ c.refuse-then-not-fits_queue.result c.refuse-then-not-fits_queue.ensures
     (λ all. answer-holds _ s s _ _ all
     (alloc-unfit s.workers s.walk c.args.number c.args.wanted.now.label.now c.args.name.now c.args.wanted.now.length c.in-Ok.name
     (ap (λ l. is_some (either_of s.walk l)) (sym c.as_slice.ensures) ∙ (sym c.has_label.ensures ∙ c.if-has_label.false))

@@ -20,6 +20,6 @@ returns-in-Ok g c =
 pub returns-in-Err : goal.returns-in-Err
 returns-in-Err g c =
     let found = finds-as c.self.inside.registry c.resolve.new.self (spelling c.args.name.now) c.in_ok-id.field-0 (Err c.in-Err.errno) c.in-Err.is c.in_ok-id.ensures in
-    or-breaks c.refuse.result c.refuse.ensures
+    or-breaks _ _ c.refuse.result c.refuse.ensures
     (λ all. fault-holds c.args.self.now c.self.view_is c.args.number c.args.wanted.now.label.now (spelling c.args.name.now) c.args.wanted.now.length c.in-Err.errno _ all found c.requires.stands c.requires.posted)
     c.requires.posted

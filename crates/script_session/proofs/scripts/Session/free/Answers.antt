@@ -18,7 +18,7 @@ pub returns-in_default : goal.returns-in_default
 returns-in_default g c =
     let s = c.args.self.now in
     let none = no-live c.args.self.now c.self.inside.lives c.self.invariant c.self.view_is c.args.label.now c.as_slice.result.now c.as_slice.ensures c.in_default.ensures in
-    or-breaks c.refuse.result c.refuse.ensures
+    or-breaks _ _ c.refuse.result c.refuse.ensures
     (λ all. answer-holds _ s s _ _ all (free-nobody s.walk c.args.number c.args.label.now _ none (c.missing-errno.ensures ∙ ap (λ l. missing (shared_of s.walk l)) c.as_slice-in_default.ensures)) refl refl refl refl c.requires.stands c.requires.posted)
     c.requires.posted
 
@@ -30,7 +30,7 @@ returns-then-is_owing g c =
     let s = c.args.self.now in
     let at = live-at c.args.self.now c.self.inside.lives c.self.invariant c.self.view_is c.args.label.now c.as_slice.result.now c.as_slice.ensures c.in-Some.place c.in-Some.ensures in
     let was = is-live c.args.self.now c.self.inside.lives c.self.invariant c.self.view_is c.args.label.now c.as_slice.result.now c.as_slice.ensures c.in-Some.place c.in-Some.ensures c.get.result.now c.get.ensures in
-    or-breaks c.refuse-then-is_owing.result c.refuse-then-is_owing.ensures
+    or-breaks _ _ c.refuse-then-is_owing.result c.refuse-then-is_owing.ensures
     (λ all. answer-holds _ s s _ _ all (free-owing s.walk c.args.number c.args.label.now at.live at.found (ap (λ (l : Live). owes l.pipe) (sym was) ∙ (sym c.is_owing.ensures ∙ c.if-is_owing.true))) refl refl refl refl c.requires.stands c.requires.posted)
     c.requires.posted
 

@@ -9,7 +9,7 @@ use Rattle.script_session.proofs.scripts.Session.refs.Goals as goal
 
 pub returns : goal.returns
 returns g c =
-    or-breaks c.say.result c.say.ensures
+    or-breaks _ _ c.say.result c.say.ensures
     (λ all said. asking-arm c.args.self.now c.self.view_is _ (Count c.args.driver.now) c.in_ok-references.references (refs_said c.args.number) _ all refl c.requires.stands c.requires.posted
     (asks-named (λ d. Counts d c.in_ok-references.references) c.as_slice.result.now c.args.driver.now c.as_slice.ensures c.in_ok-references.ensures) (λ id. refl)
     (said ∙ ap (λ a. c.args.answers.now.items ++ a ∷ []) c.refs_answer.ensures))

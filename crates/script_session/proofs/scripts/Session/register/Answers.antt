@@ -27,7 +27,7 @@ enlist-requires-clause-driver g c = (known-driver c.as_slice.result.now c.args.p
 
 pub returns : goal.returns
 returns g c =
-    or-breaks c.say.result c.say.ensures
+    or-breaks _ _ c.say.result c.say.ensures
     (λ all said. asking-arm c.args.self.now c.self.view_is _ (Enlist c.in-Some.spec) c.in_ok-how.how (enlist_said c.args.number) _ all
     (register-asks c.args.self.now.walk c.args.number c.args.priority c.as_slice.result.now c.args.driver.now c.in_ok-spec.field-0 c.in-Some.spec c.as_slice.ensures c.in_ok-spec.ensures c.in-Some.is c.if-priority-gt-MOST_PRIORITY.false)
     c.requires.stands c.requires.posted c.in_ok-how.ensures (λ id. refl) (said ∙ ap (λ a. c.args.answers.now.items ++ a ∷ []) c.enlisted_answer.ensures))

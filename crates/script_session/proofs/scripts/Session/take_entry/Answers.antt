@@ -9,7 +9,7 @@ use Rattle.script_session.proofs.scripts.Session.take_entry.Goals as goal
 
 pub returns-then-not-branch : goal.returns-then-not-branch
 returns-then-not-branch g c =
-    or-breaks c.refuse.result c.refuse.ensures
+    or-breaks _ _ c.refuse.result c.refuse.ensures
     (λ all. lost-arm c.args.self.now c.self.view_is c.args.number c.args.wanted.now.label.now c.args.wanted.now.length c.args.chosen.id c.args.chosen.spec c.args.chosen.plan _ all
     (asks-got c.args.chosen.id _ _ c.if-not-branch.true c.in_ok-take_ref.ensures) c.requires.stands c.requires.posted)
     c.requires.posted
