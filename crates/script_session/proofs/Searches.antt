@@ -201,7 +201,7 @@ calls-are-looks h n before xs work texts searches read mine all_work =
 -- ---- looks of the first of several names are the first calls of looking them all up
 
 begins-looked : (text : List ℕ) (o : Option Found) (next : Found → Dialogue) (r : List RegCall) → ((found : Found) → BeginsBy (next found) r []) → BeginsBy (Asks (Look text) next) (Looks text o ∷ r) []
-begins-looked text (Some found) next r all = begins-asks (Look text) found next r [] (all found)
+begins-looked text (Some found) next r all calls may = begins-asks (Look text) found next r [] (all found) calls may
 begins-looked text None next r all [] may = absurd may
 begins-looked text None next r all (call ∷ calls) may =
     let found = may.0.0 in
