@@ -166,7 +166,7 @@ BoundStops s s' n label len id =
 
 some-of : {A : Type 0} (o : Option A) → IsSome o → (a : A) × (o ≡ Some a)
 some-of (Some a) is = (a, refl)
-some-of None is = absurd is
+some-of None is = absurd (let e = is in cc)
 
 some-same : {A : Type 0} (a b : A) (o : Option A) → o ≡ Some a → o ≡ Some b → a ≡ b
 some-same a b o first second = ap (λ x. unwrap_or x a) (sym first ∙ second)

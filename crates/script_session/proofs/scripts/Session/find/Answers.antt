@@ -5,6 +5,7 @@ use Rattle.script_session.specs.States.{State}
 use Rattle.session_calls.specs.Passes.{known}
 use Rattle.script_session.proofs.Breaking.{or-breaks}
 use Rattle.script_session.proofs.Finding.{finds-as, look-stands, look-stops, found-arm, fault-holds}
+use Rattle.script_session.proofs.Moving.{fails}
 use Rattle.script_session.proofs.scripts.Session.find.Goals as goal
 
 pub bind-requires-clause-stands : goal.bind-requires-clause-stands
@@ -23,3 +24,8 @@ returns-in-Err g c =
     or-breaks _ _ c.refuse.result c.refuse.ensures
     (λ all. fault-holds c.args.self.now c.self.view_is c.args.number c.args.wanted.now.label.now (spelling c.args.name.now) c.args.wanted.now.length c.in-Err.errno _ all found c.requires.stands c.requires.posted)
     c.requires.posted
+
+pub returns-in_err-id : goal.returns-in_err-id
+returns-in_err-id g c =
+    fails c.from_residual.result _ c.from_residual.ensures.0
+    (look-stops c.args.self.now c.self.view_is c.args.number c.args.wanted.now.label.now (spelling c.args.name.now) c.args.wanted.now.length c.in_err-id.ensures)

@@ -12,6 +12,7 @@ use Rattle.script_session.proofs.Freeing.{free-nobody, free-owing}
 use Rattle.dialogues.specs.Dialogues.{missing}
 use Rattle.dialogues.specs.Walk.{shared_of}
 use Rattle.script_session.proofs.Living.{live-at, no-live, is-live, is-there, pipe-there, taken}
+use Rattle.script_session.proofs.Moving.{fails}
 use Rattle.script_session.proofs.scripts.Session.free.Goals as goal
 
 pub returns-in_default : goal.returns-in_default
@@ -58,3 +59,6 @@ returns g c =
     free-arm s c.self.view_is c.args.label.now _ at c.remove-live.result c.id.result c.args.number c.args.answers.now.items c.say.new.answers.items was c.id.ensures (taken c.args.self.now c.self.inside.lives c.self.invariant c.self.view_is c.args.label.now c.as_slice.result.now c.as_slice.ensures c.in-Some.place c.in-Some.ensures _ c.remove-live.ensures.entries)
     c.close_live.ensures.lock c.close_live.ensures.released c.put_ref.ensures
     (ap (λ (l : Live). owes l.pipe) (sym first) ∙ (sym c.is_owing.ensures ∙ c.if-is_owing.false)) c.requires.stands c.requires.posted c.in_ok-say.ensures
+
+pub returns-in_err-say : goal.returns-in_err-say
+returns-in_err-say g c = fails c.from_residual.result _ c.from_residual.ensures.0 (stops-none _ c.args.self.now c.requires.stands)

@@ -3,8 +3,9 @@ use Rattle.dialogues.specs.RegistryCalls.{Gets}
 use Rattle.dialogues.specs.Walk.{live_of}
 use Rattle.script_session.specs.States.{State}
 use Rattle.session_calls.specs.Passes.{known}
-use Rattle.script_session.proofs.Breaking.{or-breaks}
+use Rattle.script_session.proofs.Breaking.{or-breaks, unasked-arm}
 use Rattle.script_session.proofs.Finding.{asks-got, taken-arm, lost-arm}
+use Rattle.script_session.proofs.Moving.{fails}
 use Rattle.script_session.proofs.scripts.Session.take_entry.Goals as goal
 
 pub returns-then-not-branch : goal.returns-then-not-branch
@@ -21,3 +22,6 @@ pub returns : goal.returns
 returns g c =
     taken-arm c.args.self.now c.self.view_is _ c.args.number c.args.wanted.now.label.now c.args.wanted.now.length c.args.chosen.id c.args.chosen.spec c.args.chosen.plan _ _ c.add_live.result
     (asks-got c.args.chosen.id _ _ c.if-not-branch.false c.in_ok-take_ref.ensures) c.requires.stands c.requires.posted c.add_live.ensures
+
+pub returns-in_err-take_ref : goal.returns-in_err-take_ref
+returns-in_err-take_ref g c = fails c.from_residual.result _ c.from_residual.ensures.0 (unasked-arm c.args.self.now c.self.view_is _ c.in_err-take_ref.ensures)
