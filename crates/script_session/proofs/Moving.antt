@@ -164,6 +164,6 @@ pub all-paid : (i : ℕ) (now : List Live) → AreAllPaid (take i now) → lengt
 all-paid i now paid past = subst AreAllPaid (take_all i now past) paid
 
 -- memory was wanting
-pub fails : {A S : Type 0} (result : Result A S) (Moved : Type 0) {Stopped : Type 0} → IsErr result → Stopped → MatchResult result (λ _. Moved) (λ _. Stopped)
+pub fails : {A S : Type 0} (result : Result A S) (Moved : A → Type 0) {Stopped : Type 0} → IsErr result → Stopped → MatchResult result Moved (λ _. Stopped)
 fails (Ok done) Moved is stopped = absurd cc
 fails (Err stop) Moved is stopped = stopped
