@@ -10,16 +10,15 @@ use Rattle.transforms.specs.declared.ask.Ask.{Ask}
 use Rattle.turn_lock.specs.Meeting.{IsOwn}
 use Rattle.turn_lock.specs.Turns.{Known}
 use Rattle.dialogues.specs.BoardCalls.{BoardCall}
-use Rattle.dialogues.specs.Dialogues.{Dialogue, Says, Asks as AsksFor, Posts}
+use Rattle.dialogues.specs.Dialogues.{Dialogue, Asks as AsksFor}
 use Rattle.dialogues.specs.First.{AreFurther, BeginsBy}
-use Rattle.dialogues.specs.Questions.{RegQuestion, RegAnswer, Look, reg_call, BoardQuestion, BoardAnswer, board_call}
+use Rattle.dialogues.specs.Questions.{RegQuestion, RegAnswer, Look, reg_call}
 use Rattle.dialogues.specs.RegistryCalls.{RegCall, Looks, reg_calls}
 use Rattle.dialogues.specs.Walk.{Walk, Live}
-use Rattle.dialogues.proofs.First.{begins-none, begins-turn, begins-says, begins-asks, begins-look, begins-posts, further-then}
+use Rattle.dialogues.proofs.First.{begins-none, begins-turn, begins-asks, begins-look, further-then}
 use Rattle.session_calls.specs.Asking.{Asked, Asks}
 use Rattle.session_calls.specs.Passes.{RegPass, BoardPass, known}
-use Rattle.session_calls.specs.Pipelines.{Called, Kept}
-use Rattle.session_calls.proofs.Boarding.{called-more}
+use Rattle.session_calls.specs.Pipelines.{Called}
 use Rattle.script_session.specs.Breaking.{Breaks, CallsOn}
 use Rattle.script_session.specs.Holding.{DoneBy, HoldsBy, SeesOn, Stops, StopsIn}
 use Rattle.script_session.specs.States.{State, Stands, Posted}
@@ -55,16 +54,6 @@ breaks-further d k l b further own = record { registry = []; board = []; further
 pub breaks-unasked : (d : Dialogue) (k l : Known RegEntry) (b : Known (BoardEntry Ask)) → Asked k l [] → Breaks d k b l b
 breaks-unasked d k l b asked = breaks-further d k l b (asked-further k l [] asked) asked.caller.own
 
-pub breaks-says : (answers : List Answer) (next : Dialogue) (k k' : Known RegEntry) (b b' : Known (BoardEntry Ask)) → Breaks next k b k' b' → Breaks (Says answers next) k b k' b'
-breaks-says answers next k k' b b' then = record {
-  registry = then.registry;
-  board = then.board;
-  further = then.further;
-  own = then.own;
-  called = then.called;
-  begins = begins-says answers next then.registry then.board then.begins;
-}
-
 pub breaks-asked-none : (d : Dialogue) (k l k' : Known RegEntry) (b b' : Known (BoardEntry Ask)) → Asked k l [] → Breaks d l b k' b' → Breaks d k b k' b'
 breaks-asked-none d k l k' b b' asked then = record {
   registry = then.registry;
@@ -99,19 +88,6 @@ breaks-look k l b text found next further own = record {
   called = called-nothing b;
   begins = begins-look text found next;
 }
-
-pub breaks-posts : (k k' : Known RegEntry) (b c b' : Known (BoardEntry Ask)) (question : BoardQuestion) (answer : BoardAnswer question) (next : BoardAnswer question → Dialogue)
-    → Called b c (board_call question answer ∷ []) → Breaks (next answer) k c k' b' → Breaks (Posts question next) k b k' b'
-breaks-posts k k' b c b' question answer next called then =
-    let call = board_call question answer in
-    record {
-      registry = then.registry;
-      board = call ∷ then.board;
-      further = then.further;
-      own = then.own;
-      called = called-more b c b' (call ∷ []) then.board called then.called;
-      begins = begins-posts question answer next then.registry then.board then.begins;
-    }
 
 -- all of the turn's calls were made
 pub breaks-done : {width : ℕ} → (d : Dialogue) (k k' : Known RegEntry) (b b' : Known (BoardEntry Ask)) (after : Walk) (answers answers' : List Answer) → DoneBy width d k b k' b' after answers answers' → Breaks d k b k' b'
@@ -170,21 +146,10 @@ pub or-breaks : {S A : Type 0} {width : ℕ} {d : Dialogue} {s s' : State} {answ
 or-breaks answers' said (Ok done) says holds posted = holds answers' says
 or-breaks {d = d} {s = s} {s' = s'} {answers = answers} answers' said (Err stop) says holds posted = stops-held d s s' answers (answers ++ said) (holds (answers ++ said) refl) posted
 
--- what is known in either case comes to something else
-pub either-way : {S A : Type 0} {P Q P' Q' : Type 0} (result : Result A S) → (P → P') → (Q → Q') → MatchResult result (λ _. P) (λ _. Q) → MatchResult result (λ _. P') (λ _. Q')
-either-way (Ok done) held stopped is = held is
-either-way (Err stop) held stopped is = stopped is
-
 -- ---- the board
 
 pub calls-on-sees : (k l : Known (BoardEntry Ask)) (calls : List BoardCall) → CallsOn k l calls → SeesOn k l
 calls-on-sees k l calls on = called-sees k l calls on.called on.unshut
-
-pub calls-on-none : (k : Known (BoardEntry Ask)) → CallsOn k k []
-calls-on-none k = record { called = called-nothing k; unshut = λ zero_is. refl }
-
-pub kept-calls-on : (k l : Known (BoardEntry Ask)) → Kept k l → CallsOn k l []
-kept-calls-on k l kept = record { called = kept.called; unshut = kept.unshut }
 
 -- ---- a session as it is seen
 

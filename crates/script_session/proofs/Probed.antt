@@ -224,9 +224,6 @@ settles-more {before} {middle} {after} stay n searches later said more first res
 pub settles-builds : {before after : Option RegPass} → (n : ℕ) (searches : List Searched) (said : List Answer) → SettlesThen before after n searches said → Builds before after
 settles-builds n searches said then = record { work = then.work; goes = then.goes; all_work = then.all_work }
 
-pub builds-nothing : (r : Option RegPass) → Builds r r
-builds-nothing r = record { work = []; goes = goes-nowhere r; all_work = refl }
-
 pub builds-then : {before middle after : Option RegPass} → Builds before middle → Builds middle after → Builds before after
 builds-then first rest = record {
   work = first.work ++ rest.work;
