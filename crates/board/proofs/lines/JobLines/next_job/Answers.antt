@@ -1,4 +1,4 @@
-use Rattle.std.proofs.Common.{◌<◌, ◌≤◌, None, sym, subst}
+use Rattle.std.proofs.Common.{arith, None, sym, subst}
 use Rattle.std.specs.Prelude.{slice_set}
 use Rattle.board.specs.declared.lines.OwnLine.{OwnLine}
 use Rattle.board.specs.Places.{places}
@@ -13,7 +13,7 @@ returns-then-place-len-clause-ready g c =
     let d = c.index_mut.result.now in
     let new : OwnLine = c.next_of.new.own in
     let after : OwnLines = record own { first = slice_set own.first c.args.caller new } in
-    let set = first_written own c.args.caller d new (subst (λ n. c.args.caller < n) c.len.ensures c.if-place-len.true) c.index_mut.ensures.value in
+    let set = first_written own c.args.caller d new (omega (arith, c.if-place-len.true, c.len.ensures, c.self.inside.first.ok.0)) c.index_mut.ensures.value in
     let all : LinesOf = record { queues = c.self.inside.queues; own = own } in
     let r = subst (λ lines. AreReady (places c.args.pipes.now) lines) (sym c.self.view_is) c.requires.ready in
     lines_searched c.args.pipes.now all (record { queues = c.next_of.new.queues; own = after }) c.args.caller d.line new.line r set c.next_of.ensures.queues c.next_of.ensures.own
@@ -24,7 +24,7 @@ returns-then-place-len-clause-next g c =
     let d = c.index_mut.result.now in
     let new : OwnLine = c.next_of.new.own in
     let after : OwnLines = record own { first = slice_set own.first c.args.caller new } in
-    let set = first_written own c.args.caller d new (subst (λ n. c.args.caller < n) c.len.ensures c.if-place-len.true) c.index_mut.ensures.value in
+    let set = first_written own c.args.caller d new (omega (arith, c.if-place-len.true, c.len.ensures, c.self.inside.first.ok.0)) c.index_mut.ensures.value in
     let all : LinesOf = record { queues = c.self.inside.queues; own = own } in
     let r = subst (λ lines. AreReady (places c.args.pipes.now) lines) (sym c.self.view_is) c.requires.ready in
     found_queue_first c.args.pipes.now all c.args.caller d.line c.next_of.result r set.here c.next_of.ensures.next
@@ -37,7 +37,7 @@ returns-in-Some-clause-ready g c =
     let next = c.get_mut.follows.lender new in
     let lines : OwnLines = record { first = first; others = own.entries } in
     let after : OwnLines = record { first = first; others = next.entries } in
-    let set = line_written first own next c.args.caller (subst (λ n. n ≤ c.args.caller) c.len.ensures c.if-place-len.false) c.in-Some.own.now new (sym c.in-Some.ensures.value) (c.get_mut.follows.holds new) in
+    let set = line_written first own next c.args.caller (omega (arith, c.if-place-len.false, c.len.ensures, c.self.inside.first.ok.0)) c.in-Some.own.now new (sym c.in-Some.ensures.value) (c.get_mut.follows.holds new) in
     let all : LinesOf = record { queues = c.self.inside.queues; own = lines } in
     let r = subst (λ lines. AreReady (places c.args.pipes.now) lines) (sym c.self.view_is) c.requires.ready in
     lines_searched c.args.pipes.now all (record { queues = c.next_of-in-Some.new.queues; own = after }) c.args.caller c.in-Some.own.now.line new.line r set c.next_of-in-Some.ensures.queues c.next_of-in-Some.ensures.own
@@ -50,7 +50,7 @@ returns-in-Some-clause-next g c =
     let next = c.get_mut.follows.lender new in
     let lines : OwnLines = record { first = first; others = own.entries } in
     let after : OwnLines = record { first = first; others = next.entries } in
-    let set = line_written first own next c.args.caller (subst (λ n. n ≤ c.args.caller) c.len.ensures c.if-place-len.false) c.in-Some.own.now new (sym c.in-Some.ensures.value) (c.get_mut.follows.holds new) in
+    let set = line_written first own next c.args.caller (omega (arith, c.if-place-len.false, c.len.ensures, c.self.inside.first.ok.0)) c.in-Some.own.now new (sym c.in-Some.ensures.value) (c.get_mut.follows.holds new) in
     let all : LinesOf = record { queues = c.self.inside.queues; own = lines } in
     let r = subst (λ lines. AreReady (places c.args.pipes.now) lines) (sym c.self.view_is) c.requires.ready in
     found_queue_first c.args.pipes.now all c.args.caller c.in-Some.own.now.line c.next_of-in-Some.result r set.here c.next_of-in-Some.ensures.next
@@ -69,4 +69,4 @@ returns-in-None-clause-next g c =
     let own = c.self.inside.others.entries in
     let all : LinesOf = record { queues = c.self.inside.queues; own = record { first = first; others = own } } in
     let r = subst (λ lines. AreReady (places c.args.pipes.now) lines) (sym c.self.view_is) c.requires.ready in
-    found_queue c.args.pipes.now all c.args.caller c.next_for.result r (other_line first own c.args.caller None (subst (λ n. n ≤ c.args.caller) c.len.ensures c.if-place-len.false) (sym c.in-None.ensures.value)) c.next_for.ensures.next
+    found_queue c.args.pipes.now all c.args.caller c.next_for.result r (other_line first own c.args.caller None (omega (arith, c.if-place-len.false, c.len.ensures, c.self.inside.first.ok.0)) (sym c.in-None.ensures.value)) c.next_for.ensures.next
