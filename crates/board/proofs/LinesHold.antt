@@ -386,7 +386,7 @@ module _ {J O : Type 0} (pipes : Pipes J O) where
   found_all lines caller None r none = λ p x at h. none_cases lines caller p x (is_queue x.stage) r none.0 none.1 at h refl
   found_all lines caller (Some k) r one = one
 
-  both_ways_round : (caller : ℕ) (line second : ReadyLine) (found : Option ℕ) → MatchOption found (NoneStands (HasJobFor caller) (places pipes) line × NoneStands (HasJobFor caller) (places pipes) second) (IsOne (HasJobFor caller) (places pipes))
+  pub both_ways_round : (caller : ℕ) (line second : ReadyLine) (found : Option ℕ) → MatchOption found (NoneStands (HasJobFor caller) (places pipes) line × NoneStands (HasJobFor caller) (places pipes) second) (IsOne (HasJobFor caller) (places pipes))
       → MatchOption found (NoneStands (HasJobFor caller) (places pipes) second × NoneStands (HasJobFor caller) (places pipes) line) (IsOne (HasJobFor caller) (places pipes))
   both_ways_round caller line second None h = (h.1, h.0)
   both_ways_round caller line second (Some k) h = h

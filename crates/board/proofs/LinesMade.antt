@@ -1,16 +1,13 @@
 -- The callers' own lines, as they are told of a pipeline one after the other, and as it leaves them.
 use Rattle.std.proofs.Common.{◌≡◌, ◌≢◌, ℕ, ◌+◌, ◌<◌, ◌≤◌, Bool, true, false, ◌||◌, List, [], ◌∷◌, ◌++◌, length, Some, None, refl, sym, ◌∙◌, ap, subst, arith, inl, inr, ◌⊎◌}
 use Rattle.std.specs.Prelude.{◌==◌, slice_get}
-use Rattle.std.specs.Ordering.{nat_cmp}
-use Rattle.std.specs.Map.{lookup}
-use Rattle.std.specs.BTreeMap.{is_at}
 use Rattle.std.proofs.lemmas.Bool.{eqb-true, both_ways, cases_eq, cases_lt}
 use Rattle.std.proofs.lemmas.List.Folds.{list_any-append}
 use Rattle.board.specs.declared.pipeline.Pipeline.{Pipeline}
 use Rattle.board.specs.Entries.{has, IsMasked}
 use Rattle.board.specs.Stages.{is_queue}
 use Rattle.board.specs.Ready.{ReadyLine, no_pipelines, IsMember, IsInLine, KeepsOthers, HasJob, IsQueue, IsFor, Admits, IsTold}
-use Rattle.board.specs.Lines.{LinesOf, line_in, line_of, AreTold, OwnAreTold, LetsGo, IsReadmitted}
+use Rattle.board.specs.Lines.{LinesOf, line_of, AreTold, OwnAreTold, LetsGo, IsReadmitted}
 use Rattle.board.proofs.OwnLines.{IsLineSet, set_made}
 use Rattle.board.proofs.LinesHold.{no_member, others_on}
 
@@ -117,21 +114,18 @@ module _ (pipe : ℕ) (is : Bool) where
   }
 
   -- one who has none
-  pub own_none : (caller : ℕ) (lines : LinesOf) → lookup (is_at (nat_cmp caller)) lines.own ≡ None → OwnAreTold (λ c. c ≡ caller) pipe is lines lines
+  pub own_none : (caller : ℕ) (lines : LinesOf) → line_of caller lines.own ≡ no_pipelines → OwnAreTold (λ c. c ≡ caller) pipe is lines lines
   own_none caller lines none = record {
     queues = refl;
     own = λ c. line (cases_eq c caller);
   }
     where
-      empty : (c : ℕ) → c ≡ caller → line_of c lines.own ≡ no_pipelines
-      empty c e = ap (λ n. line_of n lines.own) e ∙ ap line_in none
-
       line : {c : ℕ} → (c ≡ caller) ⊎ (c ≡ caller → ⊥) → IsTold (c ≡ caller) pipe false is (line_of c lines.own) (line_of c lines.own)
       line {c} (inl e) = record {
         others = λ p n. (λ m. m, λ s. s);
         member = λ m. m;
         stays = λ i s. s;
-        in_line = λ s i w m. absurd (no_member pipe (subst (λ l. IsMember l pipe) (empty c e) m));
+        in_line = λ s i w m. absurd (no_member pipe (subst (λ l. IsMember l pipe) (ap (λ n. line_of n lines.own) e ∙ none) m));
       }
       line {c} (inr n) = told_same (c ≡ caller) pipe false is (line_of c lines.own) n
 

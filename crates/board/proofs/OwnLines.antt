@@ -1,14 +1,16 @@
 -- One caller's own line among all: in another form, given, or given back.
-use Rattle.std.proofs.Common.{◌≡◌, ◌≢◌, ℕ, Some, None, refl, sym, ◌∙◌, ap, subst, inl, inr, ◌⊎◌}
-use Rattle.std.specs.Prelude.{IsSome}
+use Rattle.std.proofs.Common.{◌≡◌, ◌≢◌, ℕ, ◌<◌, ◌≤◌, List, [], ◌∷◌, length, zero, suc, Some, None, refl, sym, ◌∙◌, ap, subst, arith, inl, inr, ◌⊎◌}
+use Rattle.std.specs.Prelude.{IsSome, Option, slice_get, slice_set, get_or}
 use Rattle.std.specs.Ordering.{nat_cmp}
-use Rattle.std.specs.BTreeMap.{get, Updates, WritesThrough}
+use Rattle.std.specs.Map.{lookup}
+use Rattle.std.specs.BTreeMap.{get, is_at, Updates, WritesThrough}
 use Rattle.std.specs.declared.collections.BTreeMap.{BTreeMap}
 use Rattle.std.specs.Global.{Global}
 use Rattle.std.proofs.lemmas.Bool.{cases_eq}
+use Rattle.std.proofs.lemmas.Option.{slice_get_read}
 use Rattle.board.specs.declared.lines.OwnLine.{OwnLine}
 use Rattle.board.specs.Ready.{ReadyLine, no_pipelines}
-use Rattle.board.specs.Lines.{OwnLines, line_in, line_of}
+use Rattle.board.specs.Lines.{OwnLines, line_in, line_or, line_of}
 use Rattle.board.proofs.Kept.{at_other}
 
 -- the caller's line was this and is that, and the others are as they were
@@ -17,32 +19,69 @@ pub record IsLineSet (caller : ℕ) (own after : OwnLines) (line new : ReadyLine
   pub there : line_of caller after ≡ new
   pub others : (c : ℕ) → c ≢ caller → line_of c after ≡ line_of c own
 
-module _ (own after : BTreeMap ℕ OwnLine Global) (caller : ℕ) where
+-- ---- of the first callers
+
+set_here : {X : Type 0} (xs : List X) (i : ℕ) (new : X) → i < length xs → slice_get (slice_set xs i new) i ≡ Some new
+set_here [] i new w = absurd (omega arith)
+set_here (x ∷ xs) zero new w = refl
+set_here (x ∷ xs) (suc i) new w = set_here xs i new (omega arith)
+
+set_other : {X : Type 0} (xs : List X) (i j : ℕ) (new : X) → j ≢ i → slice_get (slice_set xs i new) j ≡ slice_get xs j
+set_other [] i j new n = refl
+set_other (x ∷ xs) zero zero new n = absurd (n refl)
+set_other (x ∷ xs) zero (suc j) new n = refl
+set_other (x ∷ xs) (suc i) zero new n = refl
+set_other (x ∷ xs) (suc i) (suc j) new n = set_other xs i j new (λ e. n (ap suc e))
+
+pub first_written : (own : OwnLines) (caller : ℕ) (o new : OwnLine) → caller < length own.first → o ≡ get_or own.first caller o → IsLineSet caller own (record own { first = slice_set own.first caller new }) o.line new.line
+first_written own caller o new within is = record {
+  here = ap (λ x. line_or x (other caller)) (slice_get_read own.first (length own.first) caller o refl within is);
+  there = ap (λ x. line_or x (other caller)) (set_here own.first caller new within);
+  others = λ c n. ap (λ x. line_or x (other c)) (set_other own.first caller c new n);
+}
+  where
+    other : ℕ → ReadyLine
+    other c = line_in (lookup (is_at (nat_cmp c)) own.others)
+
+-- ---- of the others
+
+none_at : {X : Type 0} (xs : List X) (i : ℕ) → length xs ≤ i → slice_get xs i ≡ None
+none_at [] i g = refl
+none_at (x ∷ xs) zero g = absurd (omega arith)
+none_at (x ∷ xs) (suc i) g = none_at xs i (omega arith)
+
+-- a caller that is none of the first
+pub other_line : (first : List OwnLine) (others : List (ℕ × OwnLine)) (caller : ℕ) (line : Option OwnLine) → length first ≤ caller → lookup (is_at (nat_cmp caller)) others ≡ line → line_of caller (record { first = first; others = others }) ≡ line_in line
+other_line first others caller line g is = ap (λ x. line_or x (line_in (lookup (is_at (nat_cmp caller)) others))) (none_at first caller g) ∙ ap line_in is
+
+module _ (first : List OwnLine) (own after : BTreeMap ℕ OwnLine Global) (caller : ℕ) (g : length first ≤ caller) where
   -- after a loan of it
-  pub line_written : (o new : OwnLine) → get nat_cmp own caller ≡ Some o → WritesThrough nat_cmp (nat_cmp caller) own new after → IsLineSet caller own.entries after.entries o.line new.line
+  pub line_written : (o new : OwnLine) → get nat_cmp own caller ≡ Some o → WritesThrough nat_cmp (nat_cmp caller) own new after → IsLineSet caller (record { first = first; others = own.entries }) (record { first = first; others = after.entries }) o.line new.line
   line_written o new here w =
       let u = w.3 (subst IsSome (sym here) refl) in
       record {
-        here = ap line_in here;
-        there = ap line_in u.1;
-        others = λ c n. ap line_in (u.2 c (at_other caller c n));
+        here = other_line first own.entries caller (Some o) g here;
+        there = other_line first after.entries caller (Some new) g u.1;
+        others = λ c n. ap (λ x. line_or (slice_get first c) (line_in x)) (u.2 c (at_other caller c n));
       }
 
   -- where the caller had none
-  pub line_given : (start : BTreeMap ℕ OwnLine Global) → start ≡ own → (new : OwnLine) → get nat_cmp own caller ≡ None → Updates nat_cmp start after caller (Some new) → IsLineSet caller own.entries after.entries no_pipelines new.line
+  pub line_given : (start : BTreeMap ℕ OwnLine Global) → start ≡ own → (new : OwnLine) → get nat_cmp own caller ≡ None → Updates nat_cmp start after caller (Some new) → IsLineSet caller (record { first = first; others = own.entries }) (record { first = first; others = after.entries }) no_pipelines new.line
   line_given start e new none u = record {
-    here = ap line_in none;
-    there = ap line_in u.1;
-    others = λ c n. ap line_in (u.2 c (at_other caller c n) ∙ ap (λ (m : BTreeMap ℕ OwnLine Global). get nat_cmp m c) e);
+    here = other_line first own.entries caller None g none;
+    there = other_line first after.entries caller (Some new) g u.1;
+    others = λ c n. ap (λ x. line_or (slice_get first c) (line_in x)) (u.2 c (at_other caller c n) ∙ ap (λ (m : BTreeMap ℕ OwnLine Global). get nat_cmp m c) e);
   }
 
   -- or has none any more
-  pub line_gone : Updates nat_cmp own after caller None → IsLineSet caller own.entries after.entries (line_of caller own.entries) no_pipelines
+  pub line_gone : Updates nat_cmp own after caller None → IsLineSet caller (record { first = first; others = own.entries }) (record { first = first; others = after.entries }) (line_of caller (record { first = first; others = own.entries })) no_pipelines
   line_gone u = record {
     here = refl;
-    there = ap line_in u.1;
-    others = λ c n. ap line_in (u.2 c (at_other caller c n));
+    there = other_line first after.entries caller None g u.1;
+    others = λ c n. ap (λ x. line_or (slice_get first c) (line_in x)) (u.2 c (at_other caller c n));
   }
+
+-- ---- all lines
 
 abbrev pub Made : Type 1
 Made = ℕ → ReadyLine → ReadyLine → Type 0

@@ -1,5 +1,5 @@
 -- The lines of a board's callers: one of all queues, for everybody, and one of pads and chains for each caller that may take from any.
-use Rattle.std.specs.Prelude.{◌≡◌, ℕ, Bool, false, List, Option, Some, None}
+use Rattle.std.specs.Prelude.{◌≡◌, ℕ, Bool, false, List, Option, Some, None, slice_get}
 use Rattle.std.specs.Ordering.{nat_cmp}
 use Rattle.std.specs.Map.{lookup}
 use Rattle.std.specs.BTreeMap.{is_at}
@@ -9,9 +9,10 @@ use Rattle.board.specs.Entries.{IsMasked}
 use Rattle.board.specs.Places.{Places}
 use Rattle.board.specs.Ready.{ReadyLine, IsMember, IsInLine, no_pipelines, HasJob, IsQueue, IsNoQueue, IsFor, IsReadyFor, KeepsOthers, IsTold}
 
--- the callers' own lines, each beside its caller
-abbrev pub OwnLines : Type 0
-OwnLines = List (ℕ × OwnLine)
+-- the callers' own lines: of the first ones each at its caller's number, and of others each beside its caller
+pub record OwnLines : Type 0 where
+  pub first : List OwnLine
+  pub others : List (ℕ × OwnLine)
 
 -- the queues' line, and these
 pub record LinesOf : Type 0 where
@@ -22,9 +23,13 @@ abbrev pub line_in : Option OwnLine → ReadyLine
 line_in None = no_pipelines
 line_in (Some own) = own.line
 
+abbrev pub line_or : Option OwnLine → ReadyLine → ReadyLine
+line_or None other = other
+line_or (Some own) other = own.line
+
 -- the caller's own line, which has no members where it was given none
 abbrev pub line_of : ℕ → OwnLines → ReadyLine
-line_of caller own = line_in (lookup (is_at (nat_cmp caller)) own)
+line_of caller own = line_or (slice_get own.first caller) (line_in (lookup (is_at (nat_cmp caller)) own.others))
 
 -- each caller's own line became such another
 abbrev pub AreMade : (ReadyLine → ReadyLine → Type 0) → OwnLines → OwnLines → Type 0

@@ -98,12 +98,13 @@ impl<W: Work> BoardCore<W> {
     {
         let mut log = Vec::new(alloc);
         log.reserve(1)?;
+        let ready = JobLines::new(alloc)?;
         Ok(BoardCore {
             alloc,
             log,
             pipes: BTreeMap::new(alloc),
             born: 0,
-            ready: JobLines::new(alloc),
+            ready,
             passing: Ready::new(alloc),
             owed: 1,
             shut: false,

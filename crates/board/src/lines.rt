@@ -18,6 +18,9 @@ use std::marker::Model;
 /// The callers 1 to so many are workers.
 const WORKERS: u32 = 16;
 
+/// The callers below this are the first caller and the workers.
+const FIRST: u32 = 17;
+
 /// A caller's own line. Its members are the pads and chains from which the caller may take.
 #[derive(Drop)]
 pub(crate) struct OwnLine {
@@ -26,13 +29,25 @@ pub(crate) struct OwnLine {
     pub(crate) queue_first: bool,
 }
 
+impl OwnLine {
+    fn new(alloc: Global) -> OwnLine {
+        OwnLine {
+            line: Ready::new(alloc),
+            queue_first: false,
+        }
+    }
+}
+
 /// The lines of all callers: in one stand the queues, which everybody serves, and each caller that may take from a pad or a chain
 /// has its own. What a pipeline's job changes are the lines of its maker, its submitters and its workers alone.
 #[derive(Drop)]
 pub(crate) struct JobLines {
     alloc: Global,
     queues: Ready,
-    own: BTreeMap<u32, OwnLine>,
+    /// Those of the callers 0 to 16, each at its caller's number: the first caller and the workers, since each job visits these.
+    first: Vec<OwnLine>,
+    /// Those of the other callers that may take from a pad or a chain.
+    others: BTreeMap<u32, OwnLine>,
 }
 
 impl Model for JobLines {
@@ -40,17 +55,22 @@ impl Model for JobLines {
 
     ghost Value = { LinesOf };
 
-    ghost view = { λ l. record { queues = l.queues; own = l.own.entries } };
+    ghost view = { λ l. record { queues = l.queues; own = record { first = l.first.items; others = l.others.entries } } };
 }
 
 impl JobLines {
     /// Lines without members.
-    pub(crate) fn new(alloc: Global) -> JobLines {
-        JobLines {
+    pub(crate) fn new(alloc: Global) -> Result<JobLines, AllocError> {
+        let mut first = Vec::new(alloc);
+        for _ in 0..FIRST {
+            first.push(OwnLine::new(alloc))?;
+        }
+        Ok(JobLines {
             alloc,
             queues: Ready::new(alloc),
-            own: BTreeMap::new(alloc),
-        }
+            first,
+            others: BTreeMap::new(alloc),
+        })
     }
 
     /// Makes a new pipeline a member of the lines of those that may take from it. Want of memory leaves it out of all lines.
@@ -92,16 +112,16 @@ impl JobLines {
         ensures joined { OnOk result (IsMember (line_of caller self.new.own) pipe) }
         ensures in_line { OnOk result (has_job ≡ true → IsInLine (line_of caller self.new.own) pipe) }
     {
-        if let Some(own) = self.own.get_mut(&caller) {
+        let place = caller as usize;
+        if place < self.first.len() {
+            return self.first[place].line.admit(pipe, has_job);
+        }
+        if let Some(own) = self.others.get_mut(&caller) {
             return own.line.admit(pipe, has_job);
         }
-        let mut line = Ready::new(self.alloc);
-        line.admit(pipe, has_job)?;
-        let own = OwnLine {
-            line,
-            queue_first: false,
-        };
-        self.own.insert(caller, own)?;
+        let mut own = OwnLine::new(self.alloc);
+        own.line.admit(pipe, has_job)?;
+        self.others.insert(caller, own)?;
         Ok(())
     }
 
@@ -163,22 +183,24 @@ impl JobLines {
         }
     }
 
-    /// The pipeline is no member of this caller's line any more. A line without members is given back, unless it is a worker's, since
-    /// the next pad needs that again.
+    /// The pipeline is no member of this caller's line any more. A line without members is given back, unless its caller is among the
+    /// first.
     fn leave_own(&mut self, caller: u32, pipe: u64)
         ensures queues { self.new.queues ≡ self.old.queues }
         ensures made { AreMade (KeepsOthers pipe) self.old.own self.new.own }
         ensures others { (c : ℕ) → c ≢ caller → line_of c self.new.own ≡ line_of c self.old.own }
     {
-        let Some(own) = self.own.get_mut(&caller) else {
+        let place = caller as usize;
+        if place < self.first.len() {
+            self.first[place].line.leave(pipe);
+            return;
+        }
+        let Some(own) = self.others.get_mut(&caller) else {
             return;
         };
         own.line.leave(pipe);
-        if caller <= WORKERS {
-            return;
-        }
         if own.line.is_empty() {
-            drop(self.own.remove(&caller));
+            drop(self.others.remove(&caller));
         }
     }
 
@@ -243,10 +265,12 @@ impl JobLines {
     fn tell_one(&mut self, caller: u32, pipe: u64, has_job: bool)
         ensures { OwnAreTold (λ c. c ≡ caller) pipe has_job self.old self.new }
     {
-        let Some(own) = self.own.get_mut(&caller) else {
-            return;
-        };
-        own.line.set(pipe, has_job);
+        let place = caller as usize;
+        if place < self.first.len() {
+            self.first[place].line.set(pipe, has_job);
+        } else if let Some(own) = self.others.get_mut(&caller) {
+            own.line.set(pipe, has_job);
+        }
     }
 
     /// Tells the callers' own lines which of them a pad with a new mask admits. No memory is taken.
@@ -286,20 +310,38 @@ impl JobLines {
         ensures ready { AreReady (places pipes.now) self.new }
         ensures next { Finds (HasJobFor caller) (places pipes.now) result }
     {
-        let Some(own) = self.own.get_mut(&caller) else {
-            return next_for(pipes, &mut self.queues, caller);
-        };
-        own.queue_first = !own.queue_first;
-        if own.queue_first {
-            next_of(pipes, &mut self.queues, &mut own.line, caller)
-        } else {
-            next_of(pipes, &mut own.line, &mut self.queues, caller)
+        let place = caller as usize;
+        if place < self.first.len() {
+            return next_of(pipes, &mut self.queues, &mut self.first[place], caller);
+        }
+        match self.others.get_mut(&caller) {
+            Some(own) => next_of(pipes, &mut self.queues, own, caller),
+            None => next_for(pipes, &mut self.queues, caller),
         }
     }
 }
 
-/// Finds a pipeline of which the caller may take a job, in one line or else in another.
+/// Finds a pipeline of which the caller may take a job, in the queues' line and in its own, of which each is looked into first in turn.
 fn next_of<J: Drop, F: Drop>(
+    pipes: &BTreeMap<u64, Pipeline<J, F>>,
+    queues: &mut Ready,
+    own: &mut OwnLine,
+    caller: u32,
+) -> Option<u64>
+    ensures queues { KeepsSuch (HasJobFor caller) (places pipes.now) queues.old queues.new }
+    ensures own { KeepsSuch (HasJobFor caller) (places pipes.now) own.old.line own.new.line }
+    ensures next { FindsInBoth (HasJobFor caller) (places pipes.now) queues.old own.old.line result }
+{
+    own.queue_first = !own.queue_first;
+    if own.queue_first {
+        next_in(pipes, queues, &mut own.line, caller)
+    } else {
+        next_in(pipes, &mut own.line, queues, caller)
+    }
+}
+
+/// Finds a pipeline of which the caller may take a job, in one line or else in another.
+fn next_in<J: Drop, F: Drop>(
     pipes: &BTreeMap<u64, Pipeline<J, F>>,
     first: &mut Ready,
     second: &mut Ready,

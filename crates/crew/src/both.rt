@@ -1,6 +1,6 @@
 //! What a worker does on a board and a registry.
 
-ghost use Rattle.std.specs.Prelude.{◌≡◌, true};
+ghost use Rattle.std.specs.Prelude.{◌≡◌, true, IfNone};
 ghost use Rattle.turn_lock.specs.Passes.{knows};
 ghost use Rattle.board.specs.Legal.{is_shut};
 ghost use Rattle.shared_registry.specs.Passes.{IsPassOn as IsRegPassOn};
@@ -9,10 +9,9 @@ ghost use Rattle.crew.specs.Both.{ArePassesOn, WorkedOnBoth};
 
 use crate::gate::Gate;
 use crate::passes::Passes;
-use crate::working::{wait, work_in_turn};
+use crate::working::{sleep, work_in_turn};
 use board::Work;
-use job_bells::{Lingered, Watch};
-use shared_board::SharedBoard;
+use shared_board::{Drowsy, Lingered, Look, SharedBoard};
 use shared_registry::laws::building_goes_on;
 use shared_registry::{RegPass, SharedRegistry, build_one};
 use std::alloc::Global;
@@ -34,7 +33,7 @@ fn build_if_any<W: Work, R: Wait>(
     board: &SharedBoard<W>,
     registry: &SharedRegistry,
     pass: RegPass,
-    watch: &mut Option<Watch<'_>>,
+    drowsy: &mut Option<Drowsy<'_>>,
 ) -> (RegPass, bool)
     requires { IsRegPassOn registry.now pass }
     ensures lock { IsRegPassOn registry.now result.0 }
@@ -44,7 +43,7 @@ fn build_if_any<W: Work, R: Wait>(
     if !registry.may_build() {
         return (pass, false);
     }
-    drop(watch.take());
+    drop(drowsy.take());
     let (pass, built) = build_one(rt, alloc, registry, pass);
     if built.is_err() {
         board.pause(rt);
@@ -53,16 +52,17 @@ fn build_if_any<W: Work, R: Wait>(
 }
 
 /// Does what jobs wait for this caller, some sixty at most, passes a request on where a chain has one, and builds one larval where
-/// one waits. Where memory runs out while it builds, a larval that was claimed is ended with `NoMemory`.
-fn work_or_build<W: Work, G: Gate, R: Wait>(
+/// one waits. Where it finds nothing after it has announced a wait, it may sleep. Where memory runs out while it builds, a larval that was
+/// claimed is ended with `NoMemory`.
+fn work_or_build<'a, W: Work, G: Gate, R: Wait>(
     rt: &R,
     alloc: Global,
     board: &SharedBoard<W>,
     registry: &SharedRegistry,
     passes: Passes<W::Ask>,
     gate: &G,
-    watch: &mut Option<Watch<'_>>,
-) -> (Passes<W::Ask>, Looked)
+    look: Look<'a>,
+) -> (Passes<W::Ask>, Looked, Option<Drowsy<'a>>)
     requires { ArePassesOn board.now registry.now passes }
     ensures lock { ArePassesOn board.now registry.now result.0 }
     ensures worked { WorkedOnBoth passes result.0 }
@@ -72,8 +72,9 @@ fn work_or_build<W: Work, G: Gate, R: Wait>(
         board: on_board,
         registry: on_registry,
     } = passes;
-    let (on_board, worked, more) = work_in_turn(rt, board, on_board, gate, watch);
-    let (on_registry, built) = build_if_any(rt, alloc, board, registry, on_registry, watch);
+    let (on_board, worked, more, mut drowsy) = work_in_turn(rt, board, on_board, gate, look);
+    let (on_registry, built) =
+        build_if_any(rt, alloc, board, registry, on_registry, &mut drowsy);
     let passes = Passes {
         board: on_board,
         registry: on_registry,
@@ -82,21 +83,25 @@ fn work_or_build<W: Work, G: Gate, R: Wait>(
         found: worked || built,
         again: more || built,
     };
-    (passes, looked)
+    (passes, looked, drowsy)
 }
 
-/// Whether a worker that found something may find more: a hint that takes no turn.
-fn may_find_more<W: Work>(
-    board: &SharedBoard<W>,
+/// The next look of a worker that found something, where it may find more: a hint that takes no turn.
+fn next_look<'a, W: Work>(
+    board: &'a SharedBoard<W>,
     registry: &SharedRegistry,
     looked: Looked,
-) -> bool {
-    looked.found
-        && !board.may_be_shut()
-        && (looked.again || board.may_have_job() || registry.may_build())
+) -> Option<Look<'a>> {
+    if !looked.found || board.may_be_shut() {
+        return None;
+    }
+    if looked.again || registry.may_build() {
+        return Some(Look::new());
+    }
+    board.may_have_job()
 }
 
-/// Works until nothing is found, or nothing more is expected.
+/// Works until nothing is found, or nothing more is expected. It begins with the look that is due.
 fn work_both_while<W: Work, G: Gate, R: Wait>(
     rt: &R,
     alloc: Global,
@@ -104,6 +109,7 @@ fn work_both_while<W: Work, G: Gate, R: Wait>(
     registry: &SharedRegistry,
     passes: Passes<W::Ask>,
     gate: &G,
+    look: Look<'_>,
 ) -> Passes<W::Ask>
     requires { ArePassesOn board.now registry.now passes }
     ensures lock { ArePassesOn board.now registry.now result }
@@ -111,46 +117,49 @@ fn work_both_while<W: Work, G: Gate, R: Wait>(
 {
     building_goes_on();
     let mut mine = passes;
+    let mut next = look;
     for _ in rt.forever() {
-        let (worked, looked) = work_or_build(rt, alloc, board, registry, mine, gate, &mut None);
-        if !may_find_more(board, registry, looked) {
+        let (worked, looked, _) = work_or_build(rt, alloc, board, registry, mine, gate, next);
+        let Some(due) = next_look(board, registry, looked) else {
             return worked;
-        }
+        };
         mine = worked;
+        next = due;
     }
     unreachable!()
 }
 
 /// From now on a look that begins a larval wakes a worker of this board.
 fn meet<W: Work>(board: &SharedBoard<W>, registry: &SharedRegistry) {
-    if let Ok(bells) = board.job_bells() {
-        registry.note_workers(bells);
+    if let Ok(bell) = board.worker_bell() {
+        registry.note_workers(bell);
     }
 }
 
-/// Whether the board is shut, with both passes kept together.
-fn look_at_end<W: Work, R: Wait>(
+/// The look that is still due, unless the board is shut, with both passes kept together.
+fn look_at_end<'a, W: Work, R: Wait>(
     rt: &R,
     board: &SharedBoard<W>,
     registry: &SharedRegistry,
     passes: Passes<W::Ask>,
-) -> (Passes<W::Ask>, bool)
+    look: Look<'a>,
+) -> (Passes<W::Ask>, Option<Look<'a>>)
     requires { ArePassesOn board.now registry.now passes }
     ensures lock { ArePassesOn board.now registry.now result.0 }
     ensures worked { WorkedOnBoth passes result.0 }
-    ensures shut { result.1 ≡ is_shut (knows result.0.board).seen }
+    ensures shut { IfNone result.1 (is_shut (knows result.0.board).seen ≡ true) }
 {
     building_goes_on();
     let Passes {
         board: on_board,
         registry: on_registry,
     } = passes;
-    let (on_board, shut) = board.is_shut(rt, on_board);
+    let (on_board, due) = board.look_at_end(rt, on_board, look);
     let passes = Passes {
         board: on_board,
         registry: on_registry,
     };
-    (passes, shut)
+    (passes, due)
 }
 
 /// Works until the board is shut: does what jobs wait, passes requests on, and builds larvals. After some sixty jobs the other two have
@@ -171,29 +180,30 @@ pub fn work_on<W: Work, G: Gate, R: Wait>(
     building_goes_on();
     meet(board, registry);
     let mut mine = passes;
+    let mut look = Look::new();
     for _ in rt.forever() {
-        let worked = work_both_while(rt, alloc, board, registry, mine, gate);
+        let worked = work_both_while(rt, alloc, board, registry, mine, gate, look);
         let tired = match board.linger() {
             Lingered::Tired(tired) => tired,
-            Lingered::Roused => {
+            Lingered::Roused(due) => {
                 mine = worked;
+                look = due;
                 continue;
             }
         };
-        let mut watch = Some(board.watch_jobs(tired));
+        let last = board.watch_jobs(tired);
         if board.may_be_shut() {
-            let (seen, shut) = look_at_end(rt, board, registry, worked);
-            if shut {
+            let (seen, due) = look_at_end(rt, board, registry, worked, last);
+            let Some(due) = due else {
                 return seen;
-            }
+            };
             mine = seen;
+            look = due;
             continue;
         }
-        let (tried, looked) = work_or_build(rt, alloc, board, registry, worked, gate, &mut watch);
+        let (tried, _, drowsy) = work_or_build(rt, alloc, board, registry, worked, gate, last);
         mine = tried;
-        if !looked.found {
-            wait(rt, watch);
-        }
+        look = sleep(rt, drowsy);
     }
     unreachable!()
 }

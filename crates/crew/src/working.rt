@@ -10,9 +10,8 @@ ghost use Rattle.crew.specs.Working.{HasTaken, FinishesFirst, WorksSome, FindsNo
 
 use crate::gate::Gate;
 use board::{BoardErr, Taken, Work, others_leave, pipelines_stay};
-use job_bells::Watch;
 use kc_base::Callbacks;
-use shared_board::{BoardPass, SharedBoard};
+use shared_board::{BoardPass, Drowsy, Look, SharedBoard};
 use std::sync::Wait;
 
 /// So many jobs a caller does at most before it looks for something else.
@@ -107,77 +106,80 @@ pub fn work_some<W: Work, G: Gate, R: Wait>(
     ensures some { MatchBool result.1 (WorksSome (knows pass) (knows result.0)) (FindsNone (knows pass) (knows result.0)) }
     ensures worked { Worked (knows pass) (knows result.0) }
 {
-    let (pass, found, _) = work_watched(rt, board, pass, gate, &mut None);
+    let (pass, found, _, _) = work_by(rt, board, pass, gate, Look::new());
     (pass, found)
 }
 
-/// The same of a caller that may have announced a wait. Where it took a job, the wait is over before the job runs. It answers also
-/// whether it left off with no look for the next job.
-fn work_watched<W: Work, G: Gate, R: Wait>(
+/// The same by a look that is due. Where it found something, a wait that was announced is over before a job runs, and else its caller may
+/// sleep. It answers also whether it left off with no look for the next job.
+fn work_by<'a, W: Work, G: Gate, R: Wait>(
     rt: &R,
     board: &SharedBoard<W>,
     pass: BoardPass<W>,
     gate: &G,
-    watch: &mut Option<Watch<'_>>,
-) -> (BoardPass<W>, bool, bool)
+    look: Look<'a>,
+) -> (BoardPass<W>, bool, bool, Option<Drowsy<'a>>)
     requires { IsPassOn board.now pass }
     ensures lock { IsPassOn board.now result.0 }
     ensures some { MatchBool result.1 (WorksSome (knows pass) (knows result.0)) (FindsNone (knows pass) (knows result.0)) }
     ensures worked { Worked (knows pass) (knows result.0) }
 {
     pipelines_stay::<W::Ask>();
-    let (pass, taken, passed) = board.take_or_pass_on(rt, pass);
+    let (pass, taken, passed, drowsy) = board.take_or_pass_on(rt, pass, look);
     match taken {
         Some(job) => {
-            drop(watch.take());
             let (pass, next) = run_and_take(rt, board, pass, gate, job);
             let (pass, more) = run_on(rt, board, pass, gate, next);
-            (pass, true, more)
+            (pass, true, more, None)
         }
-        None => (pass, passed, passed),
+        None => (pass, passed, passed, drowsy),
     }
 }
 
 /// Works some, and passes a request of a chain on also where it did jobs, so that a steady load of these doesn't keep chains waiting.
-/// Answers whether it found anything, and whether it has to look again.
-pub(crate) fn work_in_turn<W: Work, G: Gate, R: Wait>(
+/// Answers whether it found anything, and whether it has to look again. Where it found nothing after it had announced a wait, it may sleep.
+pub(crate) fn work_in_turn<'a, W: Work, G: Gate, R: Wait>(
     rt: &R,
     board: &SharedBoard<W>,
     pass: BoardPass<W>,
     gate: &G,
-    watch: &mut Option<Watch<'_>>,
-) -> (BoardPass<W>, bool, bool)
+    look: Look<'a>,
+) -> (BoardPass<W>, bool, bool, Option<Drowsy<'a>>)
     requires { IsPassOn board.now pass }
     ensures lock { IsPassOn board.now result.0 }
     ensures worked { Worked (knows pass) (knows result.0) }
 {
     pipelines_stay::<W::Ask>();
-    let (pass, found, more) = work_watched(rt, board, pass, gate, watch);
+    let (pass, found, more, drowsy) = work_by(rt, board, pass, gate, look);
     if !found || !board.may_have_chains() {
-        return (pass, found, more);
+        return (pass, found, more, drowsy);
     }
     let (pass, passed) = board.pass_on(rt, pass);
-    (pass, true, more || passed)
+    (pass, true, more || passed, None)
 }
 
-/// Does one job after another, and passes requests on, until there is none to be had or the board may be shut. No memory is taken.
+/// Does one job after another, and passes requests on, until there is none to be had or the board may be shut. It begins with the look
+/// that is due. No memory is taken.
 fn work_while<W: Work, G: Gate, R: Wait>(
     rt: &R,
     board: &SharedBoard<W>,
     pass: BoardPass<W>,
     gate: &G,
+    look: Look<'_>,
 ) -> BoardPass<W>
     requires { IsPassOn board.now pass }
     ensures lock { IsPassOn board.now result }
     ensures worked { Worked (knows pass) (knows result) }
 {
     let mut mine = pass;
+    let mut next = look;
     for _ in rt.forever() {
-        let (worked, found) = work_some(rt, board, mine, gate);
+        let (worked, found, _, _) = work_by(rt, board, mine, gate, next);
         if !found || board.may_be_shut() {
             return worked;
         }
         mine = worked;
+        next = Look::new();
     }
     unreachable!()
 }
@@ -202,8 +204,9 @@ pub fn drain<W: Work, G: Gate, R: Wait>(
 {
     others_leave::<W::Ask, W::Out>();
     let mut mine = pass;
+    let mut look = Look::new();
     for _ in rt.forever() {
-        let worked = work_while(rt, board, mine, gate);
+        let worked = work_while(rt, board, mine, gate, look);
         let watch = board.watch_ends(pipe);
         let (drained, answer) = board.try_drain(rt, worked, pipe, into);
         match answer {
@@ -211,19 +214,17 @@ pub fn drain<W: Work, G: Gate, R: Wait>(
             Ok(false) => {}
             Err(error) => return (drained, Err(error)),
         }
-        let mut watch = Some(watch);
-        let (tried, found, _) = work_watched(rt, board, drained, gate, &mut watch);
+        let (tried, _, _, drowsy) = work_by(rt, board, drained, gate, watch.look());
         mine = tried;
-        if !found {
-            wait(rt, watch);
-        }
+        look = sleep(rt, drowsy);
     }
     unreachable!()
 }
 
-/// Sleeps until something has happened since the wait was announced, if one was.
-pub(crate) fn wait<R: Wait>(rt: &R, watch: Option<Watch<'_>>) {
-    if let Some(watch) = watch {
-        watch.wait(rt);
+/// Sleeps, where its caller may, until something has happened since it announced a wait. Then a look is due.
+pub(crate) fn sleep<'a, R: Wait>(rt: &R, drowsy: Option<Drowsy<'a>>) -> Look<'a> {
+    match drowsy {
+        Some(drowsy) => drowsy.sleep(rt),
+        None => Look::new(),
     }
 }

@@ -173,13 +173,15 @@ impl JobBells {
             .is_masked(pad, self.highest_worker.load(Ordering::SeqCst))
     }
 
-    /// A worker found nothing, and may sleep or stay awake soon. All look once where its number is the highest so far, since a pad's mask
-    /// may leave it out alone: a job that came just before may be left to it.
+    /// A worker found nothing, and may sleep or stay awake soon. All look once where its number is the highest so far and a pad's mask
+    /// leaves it out, maybe alone: a job that came just before may be left to it. A pad that is masked later calls all itself.
     fn note_worker(&self, worker: u64) {
         if self.highest_worker.load(Ordering::SeqCst) < worker {
             self.highest_worker.fetch_max(worker, Ordering::SeqCst);
             self.ring_if_few();
-            self.ring_all();
+            if self.masked.leave_out(worker) {
+                self.ring_all();
+            }
         }
     }
 
@@ -253,7 +255,7 @@ impl JobBells {
         unnoticed > self.awake.load(Ordering::SeqCst)
     }
 
-    /// Stays awake for a while, where any worker may take any job. Further ones that came meanwhile may have been left to this
+    /// Stays awake for a while, unless each job wakes all. Further ones that came meanwhile may have been left to this
     /// worker too, so it wakes another where more are unnoticed than others stay awake: who was still awake here looks later, since
     /// each looks at the board after it is no longer counted. (`Linger`, then `Rouse` and `Read_unnoticed`, or `Give_up`.)
     pub fn linger(&self) -> Lingered {

@@ -11,9 +11,11 @@ mod bells;
 mod counted;
 mod masked;
 mod sent;
+mod worker_bell;
 
 pub use bells::{JobBells, Lingered, Tired, Watch};
 pub use counted::Seen;
+pub use worker_bell::WorkerBell;
 
 #[cfg(test)]
 mod tests;

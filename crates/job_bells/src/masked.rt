@@ -96,9 +96,14 @@ impl MaskedPads {
         self.fewest.store(fewest, Ordering::SeqCst);
     }
 
-    /// Whether the pad leaves out one of the workers 1 to `workers`.
+    /// Whether some pad leaves out one of the workers 1 to `workers`.
+    pub(crate) fn leave_out(&self, workers: u64) -> bool {
+        self.fewest.load(Ordering::SeqCst) < workers
+    }
+
+    /// Whether this pad does.
     pub(crate) fn is_masked(&self, pad: u64, workers: u64) -> bool {
-        if self.fewest.load(Ordering::SeqCst) >= workers {
+        if !self.leave_out(workers) {
             return false;
         }
         match self.find(pad.wrapping_add(1)) {

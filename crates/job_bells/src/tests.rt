@@ -45,6 +45,7 @@ fn a_pad_is_masked_until_it_admits_each_worker(rt: HostRuntime) -> Result<(), Fa
     let pads = MaskedPads::new();
     assert!(rt; pads.set(7, 0b1101));
     assert!(rt; pads.is_masked(7, 2) && !pads.is_masked(7, 1));
+    assert!(rt; pads.leave_out(2) && !pads.leave_out(1));
     assert!(rt; !pads.is_masked(8, 16));
     assert!(rt; pads.set(7, 0b1111));
     assert!(rt; pads.is_masked(7, 5) && !pads.is_masked(7, 4));

@@ -2,7 +2,7 @@
 
 use crossbeam_utils::CachePadded;
 use crossbeam_utils::sync::EventCount;
-use job_bells::{JobBells, Watch};
+use job_bells::{JobBells, Watch, WorkerBell};
 use std::alloc::{AllocError, Global};
 use std::array;
 use std::sync::Arc;
@@ -37,8 +37,8 @@ impl Bells {
     }
 
     /// Those of the board's workers, for another who rings them.
-    pub(crate) fn share_jobs(&self) -> Result<Arc<JobBells, Global>, AllocError> {
-        self.jobs.clone()
+    pub(crate) fn worker_bell(&self) -> Result<WorkerBell, AllocError> {
+        Ok(WorkerBell::new(self.jobs.clone()?))
     }
 
     /// The bell of those who drain the pipeline.

@@ -4,8 +4,10 @@
 mod asks;
 mod bells;
 mod laws;
+mod looks;
 mod sent;
 mod shared;
 
 pub use laws::known_holds;
+pub use looks::{Drowsy, EndWatch, Lingered, Look, Tired};
 pub use shared::{BoardPass, SharedBoard};

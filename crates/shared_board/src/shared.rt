@@ -1,6 +1,6 @@
 //! The board of many threads.
 
-ghost use Rattle.std.specs.Prelude.{◌≡◌, ◌≢◌, ℕ, ◌+◌, ◌++◌, ◌<◌, ◌≤◌, ◌^◌, false, length, slice_get, Some, IfOk, ◌↔◌, MatchResult, MatchOption, MatchBool};
+ghost use Rattle.std.specs.Prelude.{◌≡◌, ◌≢◌, ℕ, ◌+◌, ◌++◌, ◌<◌, ◌≤◌, ◌^◌, false, true, length, slice_get, Some, IfOk, ◌↔◌, MatchResult, MatchOption, MatchBool};
 ghost use Rattle.std.specs.Arc.{arc_value};
 ghost use Rattle.std.specs.Result.{result_unwrap_or};
 ghost use Rattle.std.specs.declared.sync.Arc.{Arc};
@@ -21,11 +21,12 @@ ghost use Rattle.shared_board.specs.Meeting.{HoldsAt};
 
 use crate::bells::Bells;
 use crate::laws::known_holds;
+use crate::looks::{Drowsy, EndWatch, Lingered, Look, Tired};
 use board::{BoardCore, BoardEntry, BoardErr, BoardLog, Entered, Slip, Taken, Work};
-use job_bells::{JobBells, Lingered, Tired, Watch};
+use job_bells::WorkerBell;
 use kc_base::Callbacks;
 use std::alloc::{AllocError, Global};
-use std::sync::{Arc, Wait};
+use std::sync::Wait;
 use turn_lock::{Pass, Turn, TurnLock};
 
 /// What one caller knows of a board, and its right to take a turn on it.
@@ -192,7 +193,7 @@ impl<W: Work> SharedBoard<W> {
     /// for worker i + 1. What was submitted before stays, and is completed in order. The caller made the pad, which is neither
     /// closed nor shared, and no bit stands at or above the number of lists that it was made with. Only want of memory refuses.
     /// While the mask leaves a worker out, each job of the pad wakes all workers that sleep. A job of another pad wakes one, or none, as
-    /// before, while at most 16 pads of the board are masked so at once.
+    /// before, while at most 16 pads of the board are masked so at once: from the 17th on each job of the board wakes all, for good.
     pub fn mask<R: Wait>(
         &self,
         rt: &R,
@@ -224,7 +225,7 @@ impl<W: Work> SharedBoard<W> {
 
     /// Takes a job into a pad that isn't closed, and answers its number. The caller made the pad, or has seen that it is
     /// shared, and is no worker. `NoWorker` where the pad's mask is empty, and otherwise `TooBig` where the caller's allowance
-    /// has no room for the job; want of memory comes after these. A refusal drops the job.
+    /// has no room for the job; want of memory comes after these. A refusal drops the job. (`Put`, then `Count` and `Leave` or `Ring`.)
     pub fn submit<R: Wait>(
         &self,
         rt: &R,
@@ -255,7 +256,7 @@ impl<W: Work> SharedBoard<W> {
 
     /// Offers a job to a queue or chain that isn't closed, and answers its verdict. The caller made it, or has seen that it is
     /// shared, and is no worker. `TooBig` where the caller's allowance has no room for the job; want of memory comes after
-    /// that, and both before the verdict. What isn't accepted is dropped.
+    /// that, and both before the verdict. What isn't accepted is dropped. (`Put`, then `Count` and `Leave` or `Ring`.)
     pub fn enqueue<R: Wait>(
         &self,
         rt: &R,
@@ -287,7 +288,8 @@ impl<W: Work> SharedBoard<W> {
     /// Hands out a job that this caller may take: of a pad, or of the pad within a chain, the first that nobody has taken,
     /// where the caller made the pipeline, submitted to it, or is a worker in its mask; of a queue the first that waits, where
     /// it is neither held nor busy. `None` exactly where there is none. No memory is taken. Once a queue or a chain was made, a
-    /// take that found a job wakes a worker that sleeps, unless one stays awake, since another may be ready.
+    /// take that found a job wakes a worker that sleeps, unless one stays awake, since another may be ready. (`Help`, or
+    /// `Look_and_take`, then `Leave_next` or `Ring_next`; `Look_and_find_none`, then `Forget` or `Keep`.)
     pub fn take<R: Wait>(&self, rt: &R, pass: BoardPass<W>) -> (BoardPass<W>, Option<Taken<W>>)
         requires { IsPassOn self.now pass }
         ensures lock { IsPassOn self.now result.0 }
@@ -313,12 +315,16 @@ impl<W: Work> SharedBoard<W> {
     }
 
     /// Hands out a job that this caller may take, as `take` does, and where there is none passes a request of a chain on at the same turn,
-    /// as `pass_on` does. The answer says whether it did the latter. No memory is taken. It wakes as these two do.
-    pub fn take_or_pass_on<R: Wait>(
+    /// as `pass_on` does. The answer says whether it did the latter. It spends a look that is due: where it finds something, a wait that was
+    /// announced is over, and else its caller may sleep. No memory is taken. It wakes as these two do. (`Look_and_take`, or
+    /// `Look_and_find_none`, then `Forget` or `Keep`. After a wait was announced `Last_take`, then `Drop_key`, or `Last_find_none`, then
+    /// `Forget_last` or `Keep_last`.)
+    pub fn take_or_pass_on<'a, R: Wait>(
         &self,
         rt: &R,
         pass: BoardPass<W>,
-    ) -> (BoardPass<W>, Option<Taken<W>>, bool)
+        look: Look<'a>,
+    ) -> (BoardPass<W>, Option<Taken<W>>, bool, Option<Drowsy<'a>>)
         requires { IsPassOn self.now pass }
         ensures lock { IsPassOn self.now result.0 }
         ensures turn { AtTurn caller_of LegalBoard (knows pass) (λ h. MatchOption result.1
@@ -337,22 +343,23 @@ impl<W: Work> SharedBoard<W> {
             Some(job) => {
                 let masked = self.bells.jobs().is_masked(job.slip.pipe());
                 let pass = turn.give(true);
+                look.end();
                 self.bells.jobs().ring_taken(caller, masked);
-                (pass, Some(job), false)
+                (pass, Some(job), false, None)
             }
             None => {
                 let passed = turn.get().pass_on(caller);
                 let pass = turn.give(passed);
                 self.bells.jobs().forget(caller, seen);
                 self.bells.ring_passed(passed);
-                (pass, None, passed)
+                (pass, None, passed, look.find_none())
             }
         }
     }
 
     /// Records the outcome of a job that this caller took and hasn't finished: what the job's ask means. No memory is taken. It
     /// wakes who waits for an end of the pipeline (`watch_ends`), and, once a queue or a chain was made, a worker that sleeps, unless
-    /// one stays awake, since a queue's next request may be ready then.
+    /// one stays awake, since a queue's next request may be ready then. (`End_and_look` or `Ready`, then `Leave_next` or `Ring_next`.)
     pub fn finish<R: Wait>(
         &self,
         rt: &R,
@@ -377,7 +384,8 @@ impl<W: Work> SharedBoard<W> {
 
     /// Records the outcome of a job that this caller took and hasn't finished, as `finish` does, and at the same turn hands out the
     /// next, as `take` does. No memory is taken. It wakes as `finish` does, but no worker where it hands out none, since then no
-    /// queue has a request that is ready.
+    /// queue has a request that is ready. (`End_and_take`, then `Notice_taken` or `Run_on`; `End_and_find_none`, then `Forget` or `Keep`;
+    /// of a caller that is no worker `Help_on`, then `Notice_helped` or `Stop_helping`.)
     pub fn finish_and_take<R: Wait>(
         &self,
         rt: &R,
@@ -417,7 +425,7 @@ impl<W: Work> SharedBoard<W> {
     }
 
     /// The first request of a chain's line goes on to its pad, where the chain isn't held. False exactly where there is no such
-    /// chain. No memory is taken.
+    /// chain. No memory is taken. (`Put`, then `Count` and `Leave` or `Ring`.)
     pub fn pass_on<R: Wait>(&self, rt: &R, pass: BoardPass<W>) -> (BoardPass<W>, bool)
         requires { IsPassOn self.now pass }
         ensures lock { IsPassOn self.now result.0 }
@@ -457,7 +465,7 @@ impl<W: Work> SharedBoard<W> {
     }
 
     /// The queue's requests are run again, or the chain's go on. The caller made it, and it isn't closed. Only want of memory
-    /// refuses.
+    /// refuses. (`Put`, then `Count` and `Leave` or `Ring`.)
     pub fn go<R: Wait>(
         &self,
         rt: &R,
@@ -581,40 +589,69 @@ impl<W: Work> SharedBoard<W> {
         (turn.give(false), answer)
     }
 
-    /// Announces a wait for a job to be taken, or for the end of the board, of a worker that stays awake no longer.
-    pub fn watch_jobs(&self, tired: Tired) -> Watch<'_> {
-        self.bells.jobs().watch_jobs(tired)
+    /// Whether the board is shut, of a caller whose look is due: where it is, no job is left to it, and the look goes. Otherwise that is
+    /// still due.
+    pub fn look_at_end<'a, R: Wait>(
+        &self,
+        rt: &R,
+        pass: BoardPass<W>,
+        look: Look<'a>,
+    ) -> (BoardPass<W>, Option<Look<'a>>)
+        requires { IsPassOn self.now pass }
+        ensures lock { IsPassOn self.now result.0 }
+        ensures shut { MatchOption result.1 (is_shut (knows result.0).seen ≡ true) (λ _. is_shut (knows result.0).seen ≡ false) }
+        ensures turn { AtTurn caller_of LegalBoard (knows pass) (λ h. Leaves (knows pass) h (knows result.0)) }
+    {
+        let (pass, shut) = self.is_shut(rt, pass);
+        if shut {
+            look.end();
+            return (pass, None);
+        }
+        (pass, Some(look))
     }
 
-    /// Announces a wait for a job of the pipeline to be finished, a request to be passed on, or the end of the board. It may be over
-    /// where a job of another pipeline is finished, whose number differs by a multiple of 16.
-    pub fn watch_ends(&self, pipe: u64) -> Watch<'_> {
-        self.bells.watch_ends(pipe)
+    /// Announces a wait for a job to be taken, or for the end of the board, of a worker that stays awake no longer. A last look is due
+    /// before it sleeps. (`Announce` and `Read_epoch`.)
+    pub fn watch_jobs(&self, tired: Tired) -> Look<'_> {
+        Look::last(self.bells.jobs().watch_jobs(tired.inner()))
+    }
+
+    /// Announces a wait for a job of the pipeline to be finished, a request to be passed on, or the end of the board. Who announced it
+    /// drains (`try_drain`) and looks before it sleeps. It may be over where a job of another pipeline is finished, whose number differs
+    /// by a multiple of 16.
+    pub fn watch_ends(&self, pipe: u64) -> EndWatch<'_> {
+        EndWatch::on(self.bells.watch_ends(pipe))
     }
 
     /// Counts as a job that came, since something else than a job may be there for a worker: wakes one that sleeps, unless enough
-    /// stay awake.
+    /// stay awake. (`Call`, then `Leave` or `Ring`.)
     pub fn call_worker(&self) {
         self.bells.jobs().ring_job();
     }
 
-    /// The bells of the board's workers, for another who has something for them to find. The error is that memory was refused.
-    pub fn job_bells(&self) -> Result<Arc<JobBells, Global>, AllocError> {
-        self.bells.share_jobs()
+    /// The bell of the board's workers, for another who has something for them to find. The error is that memory was refused.
+    pub fn worker_bell(&self) -> Result<WorkerBell, AllocError> {
+        self.bells.worker_bell()
     }
 
-    /// Whether a worker that did a job may find another: a hint that takes no turn. True may have noticed a job that came, for which
-    /// nobody else then stays awake or is woken: who gets it has to look at the board by a turn. Who gets false stays awake for a
-    /// while (`linger`), and announces a wait and looks at the board once more.
-    pub fn may_have_job(&self) -> bool {
-        self.bells.jobs().may_have_job()
+    /// Whether a worker that did a job may find another: a hint that takes no turn. It may have noticed a job that came, for which
+    /// nobody else then stays awake or is woken: so a look is due. Without one the worker stays awake for a while (`linger`).
+    /// (`Notice_between` or `Look_anyway`, and `Notice_none`.)
+    pub fn may_have_job(&self) -> Option<Look<'_>> {
+        if self.bells.jobs().may_have_job() {
+            return Some(Look::new());
+        }
+        None
     }
 
-    /// Stays awake for a while for a job to come: a hint that takes no turn. Jobs are left to who stays awake, and wake nobody else, so
-    /// it has to look at the board by a turn afterwards: who is roused at once, since that has noticed a job, and who is tired once
-    /// it has announced a wait (`watch_jobs`), before it sleeps.
-    pub fn linger(&self) -> Lingered {
-        self.bells.jobs().linger()
+    /// Stays awake for a while for a job to come, unless each job wakes all: a hint that takes no turn. Jobs are left to who stays awake,
+    /// and wake nobody else. So a look is due afterwards: at once, where it noticed a job, and else once it has announced a wait. (`Linger`,
+    /// then `Notice_while_awake`, `Rouse` and `Read_unnoticed`, or `Give_up`.)
+    pub fn linger(&self) -> Lingered<'_> {
+        match self.bells.jobs().linger() {
+            job_bells::Lingered::Roused => Lingered::Roused(Look::new()),
+            job_bells::Lingered::Tired(tired) => Lingered::Tired(Tired::of(tired)),
+        }
     }
 
     /// Sleeps for a millisecond, as a worker does that lacks memory before it tries again.

@@ -1,10 +1,9 @@
 //! What wakes those who wait for the registry. It holds no fact: who is woken looks again.
 
 use crossbeam_utils::sync::EventCount;
-use job_bells::{JobBells, Watch};
-use std::alloc::Global;
+use job_bells::{Watch, WorkerBell};
 use std::sync::atomic::{AtomicUsize, Ordering};
-use std::sync::{Arc, OnceLock};
+use std::sync::OnceLock;
 
 /// The bells of a registry.
 #[derive(Drop)]
@@ -14,8 +13,8 @@ pub(crate) struct Bells {
     /// How many larvals began, and how many were claimed: a hint, for those who look before they take a turn.
     begun: AtomicUsize,
     claimed: AtomicUsize,
-    /// Those of the workers that build, once there are any.
-    workers: OnceLock<Arc<JobBells, Global>>,
+    /// That of the workers that build, once there are any.
+    workers: OnceLock<WorkerBell>,
 }
 
 impl Bells {
@@ -32,8 +31,8 @@ impl Bells {
         Watch::on(&self.ends)
     }
 
-    /// Workers look here before they sleep, and are woken by these bells. The first that are given stay.
-    pub(crate) fn note_workers(&self, workers: Arc<JobBells, Global>) {
+    /// Workers look here before they sleep, and are woken by this bell. The first that is given stays.
+    pub(crate) fn note_workers(&self, workers: WorkerBell) {
         let _ = self.workers.try_set(workers);
     }
 
@@ -45,7 +44,7 @@ impl Bells {
     /// A larval began, at a turn that is given back. It wakes a worker that sleeps, unless enough stay awake.
     pub(crate) fn ring_begin(&self) {
         if let Some(workers) = self.workers.get() {
-            workers.ring_job();
+            workers.call();
         }
     }
 

@@ -22,9 +22,9 @@ use crate::laws::registry_laws;
 use alg_registry::{
     Claimed, Ended, Listing, Looked, RefAnswer, RegEntry, RegErr, RegLog, Spec, Wrap,
 };
-use job_bells::{JobBells, Watch};
+use job_bells::{Watch, WorkerBell};
 use std::alloc::{AllocError, Global};
-use std::sync::{Arc, Wait};
+use std::sync::Wait;
 use turn_lock::{Pass, Turn, TurnLock};
 
 /// What one caller knows of the registry's history, and its right to take a turn. Its number is the caller; 1 to 16 are
@@ -82,9 +82,9 @@ impl SharedRegistry {
         self.bells.watch_ends()
     }
 
-    /// From now on a look that begins a larval wakes a worker by these bells, which wake those that sleep on a board and build
-    /// for this registry. The first that are given stay.
-    pub fn note_workers(&self, workers: Arc<JobBells, Global>) {
+    /// From now on a look that begins a larval wakes a worker by this bell, which wakes those that sleep on a board and build
+    /// for this registry. The first that is given stays.
+    pub fn note_workers(&self, workers: WorkerBell) {
         self.bells.note_workers(workers);
     }
 

@@ -1,3 +1,4 @@
+pub mod Bounds
 pub mod Keeps
 pub mod Runs
 pub mod QueuedRuns

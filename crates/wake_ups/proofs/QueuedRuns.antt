@@ -2,7 +2,7 @@
 use Rattle.std.proofs.Common.{◌≡◌, ℕ, zero, suc, ◌+◌, ◌-◌, ◌<◌, ◌≤◌, ◌⊎◌, inl, inr, List, [], ◌∷◌, length, refl, sym, ap, ◌∙◌, subst, arith}
 use Rattle.wake_ups.specs.Bells.{Bells, Step, May, At, without, after, start}
 use Rattle.wake_ups.specs.Bells.Step.{Put, Count, Call, Leave, Ring, Find_no_waiter, Find_waiter, Move_epoch, Wake, Wake_none, Wake_by_chance, Help, Help_on, Notice_helped, Stop_helping, End_and_take, End_and_find_none, End_and_look, Notice_taken, Run_on, Forget, Keep, Notice_between, Notice_none, Look_anyway, Linger, Notice_while_awake, Rouse, Read_unnoticed, Give_up, Look_and_take, Look_and_find_none, Announce, Read_epoch, Last_take, Last_find_none, Forget_last, Keep_last, Last_take_rung, Last_find_none_rung, Forget_last_rung, Keep_last_rung, Sleep, Look_again, Rise, Drop_key}
-use Rattle.wake_ups.proofs.Keeps.{shorter, both_long}
+use Rattle.wake_ups.proofs.Bounds.{shorter, both_long}
 use Rattle.wake_ups.specs.Laws.{lookers, NobodyIsBetween, SleepsOn, looks_and_rings}
 use Rattle.wake_ups.specs.Queued.{Queued, QueuedStep, takes, MayQueued, then, RunQueued, start_queued, AllRunQueued, SomeLookComes}
 use Rattle.wake_ups.specs.Queued.QueuedStep.{Of, Ready, Leave_next, Ring_next}

@@ -2,7 +2,8 @@
 use Rattle.std.proofs.Common.{◌≡◌, ℕ, zero, suc, ◌+◌, ◌<◌, ◌≤◌, inl, inr, List, [], ◌∷◌, length, refl, sym, ap, ◌∙◌, subst, arith}
 use Rattle.wake_ups.specs.Bells.{Bells, Step, after, Run, start}
 use Rattle.wake_ups.specs.Laws.{NobodyIsBetween, SleepsOn, looks_and_rings, AllRun, EachJobHasItsLook}
-use Rattle.wake_ups.proofs.Keeps.{Keeps, both_long, base, covers_all, keeps}
+use Rattle.wake_ups.proofs.Bounds.{Keeps, both_long, base, covers_all}
+use Rattle.wake_ups.proofs.Keeps.{keeps}
 
 starts : (n : ℕ) → Keeps n (start n)
 starts n =

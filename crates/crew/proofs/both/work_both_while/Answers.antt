@@ -7,5 +7,5 @@ loop-init g c = (tt, tt, c.requires, both_still c.building_goes_on.ensures.still
 pub loop-preserved : goal.loop-preserved
 loop-preserved g c = (tt, tt, c.work_or_build-worked.ensures.lock, both_on c.building_goes_on.ensures.on _ _ _ c.loop.invariant.3 c.work_or_build-worked.ensures.worked)
 
-pub returns-then-not-may_find_more-clause-worked : goal.returns-then-not-may_find_more-clause-worked
-returns-then-not-may_find_more-clause-worked g c = both_on c.building_goes_on.ensures.on _ _ _ c.loop.invariant.3 c.work_or_build-worked.ensures.worked
+pub returns-in_default-clause-worked : goal.returns-in_default-clause-worked
+returns-in_default-clause-worked g c = both_on c.building_goes_on.ensures.on _ _ _ c.loop.invariant.3 c.work_or_build-worked.ensures.worked

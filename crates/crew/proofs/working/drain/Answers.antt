@@ -27,17 +27,7 @@ returns-in-Err-clause-drained g c =
     let t = at_err caller_of (λ xs. LegalBoard xs) (knows c.work_while-worked.result) c.try_drain-drained.result.1 c.in-Err.error _ _ c.in-Err.is c.try_drain-drained.ensures.turn in
     (t.2.0, t.2.1 ∙ c.loop.invariant.4, worked_on _ _ _ (worked_on _ _ _ c.loop.invariant.3 c.work_while-worked.ensures.worked) (worked_none _ _ (t.0, t.1, t.2.2)))
 
-pub loop-preserved-then-not-found : goal.loop-preserved-then-not-found
-loop-preserved-then-not-found g c =
-    let t = at_ok caller_of (λ xs. LegalBoard xs) (knows c.work_while-worked.result) c.try_drain-drained.result.1 false _ _ (c.in-Ok-false.is ∙ ap Ok c.in-Ok-false.field-0-test) c.try_drain-drained.ensures.turn in
-    (tt, tt, c.work_watched-tried.ensures.lock, worked_on _ _ _ (worked_on _ _ _ (worked_on _ _ _ c.loop.invariant.3 c.work_while-worked.ensures.worked) (worked_none _ _ (t.0, t.1, t.2.2))) c.work_watched-tried.ensures.worked, t.2.1 ∙ c.loop.invariant.4)
-
 pub loop-preserved : goal.loop-preserved
 loop-preserved g c =
     let t = at_ok caller_of (λ xs. LegalBoard xs) (knows c.work_while-worked.result) c.try_drain-drained.result.1 false _ _ (c.in-Ok-false.is ∙ ap Ok c.in-Ok-false.field-0-test) c.try_drain-drained.ensures.turn in
-    (tt, tt, c.work_watched-tried.ensures.lock, worked_on _ _ _ (worked_on _ _ _ (worked_on _ _ _ c.loop.invariant.3 c.work_while-worked.ensures.worked) (worked_none _ _ (t.0, t.1, t.2.2))) c.work_watched-tried.ensures.worked, t.2.1 ∙ c.loop.invariant.4)
-
-pub loop-preserved-else-not-found : goal.loop-preserved-else-not-found
-loop-preserved-else-not-found g c =
-    let t = at_ok caller_of (λ xs. LegalBoard xs) (knows c.work_while-worked.result) c.try_drain-drained.result.1 false _ _ (c.in-Ok-false.is ∙ ap Ok c.in-Ok-false.field-0-test) c.try_drain-drained.ensures.turn in
-    (tt, tt, c.work_watched-tried.ensures.lock, worked_on _ _ _ (worked_on _ _ _ (worked_on _ _ _ c.loop.invariant.3 c.work_while-worked.ensures.worked) (worked_none _ _ (t.0, t.1, t.2.2))) c.work_watched-tried.ensures.worked, t.2.1 ∙ c.loop.invariant.4)
+    (tt, tt, c.work_by-tried.ensures.lock, worked_on _ _ _ (worked_on _ _ _ (worked_on _ _ _ c.loop.invariant.3 c.work_while-worked.ensures.worked) (worked_none _ _ (t.0, t.1, t.2.2))) c.work_by-tried.ensures.worked, t.2.1 ∙ c.loop.invariant.4)

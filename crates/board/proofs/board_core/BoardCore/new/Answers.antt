@@ -1,6 +1,5 @@
 use Rattle.std.proofs.Common.{rules}
 use Rattle.board.specs.Ready.{IsQueue, IsFor, IsChain, HasJob, HasRequest}
-use Rattle.board.specs.Lines.{line_of}
 use Rattle.board.specs.Places.{places}
 use Rattle.board.proofs.Kept.{empty_places}
 use Rattle.board.proofs.LinesHold.{ready_none}
@@ -8,15 +7,15 @@ use Rattle.board.proofs.board_core.BoardCore.new.Goals as goal
 
 pub invariant_of-result : goal.invariant_of-result
 invariant_of-result g c =
-    let none = empty_places c.new.result c.new.ensures.empty in (
+    let none = empty_places c.new-2.result c.new-2.ensures.empty in (
       search rules,
       search rules,
       search rules,
       search rules,
       search rules,
       record {
-        queues = ready_none IsQueue HasJob (places c.new.result) c.new-2.result.queues none;
-        own = λ caller. ready_none (IsFor caller) HasJob (places c.new.result) (line_of caller c.new-2.result.own) none;
+        queues = ready_none IsQueue HasJob (places c.new-2.result) _ none;
+        own = λ caller. ready_none (IsFor caller) HasJob (places c.new-2.result) _ none;
       },
-      ready_none IsChain HasRequest (places c.new.result) c.new-3.result none,
+      ready_none IsChain HasRequest (places c.new-2.result) _ none,
     )

@@ -5,7 +5,7 @@ use Rattle.board.proofs.LinesHold.{same_keeps, lines_on, ok_map}
 use Rattle.board.proofs.lines.JobLines.join_all.Goals as goal
 
 pub returns-then-is_queue-clause-kept : goal.returns-then-is_queue-clause-kept
-returns-then-is_queue-clause-kept g c = rw (← c.self.view_is) (c.join.ensures.kept, λ caller. same_keeps (line_of caller c.self.inside.own.entries))
+returns-then-is_queue-clause-kept g c = rw (← c.self.view_is) (c.join.ensures.kept, λ caller. same_keeps (line_of caller (record { first = c.self.inside.first.items; others = c.self.inside.others.entries })))
 
 pub returns-clause-kept : goal.returns-clause-kept
 returns-clause-kept g c = lines_on c.args.self.now c.join-2.new.self c.join_workers.new.self c.in_ok-join.ensures.kept c.join_workers.ensures.kept

@@ -1,53 +1,72 @@
-use Rattle.std.proofs.Common.{sym, ap, subst, not}
+use Rattle.std.proofs.Common.{arith, None, sym, subst}
+use Rattle.std.specs.Prelude.{slice_set}
 use Rattle.board.specs.declared.lines.OwnLine.{OwnLine}
 use Rattle.board.specs.Places.{places}
-use Rattle.board.specs.Lines.{LinesOf, line_in, AreReady}
-use Rattle.board.proofs.OwnLines.{line_written}
-use Rattle.board.proofs.LinesHold.{line_searched, lines_searched, found_queue, found_queue_first, found_own_first}
+use Rattle.board.specs.Lines.{LinesOf, OwnLines, AreReady}
+use Rattle.board.proofs.OwnLines.{first_written, line_written, other_line}
+use Rattle.board.proofs.LinesHold.{line_searched, lines_searched, found_queue, found_queue_first}
 use Rattle.board.proofs.lines.JobLines.next_job.Goals as goal
 
-pub returns-in_default-clause-ready : goal.returns-in_default-clause-ready
-returns-in_default-clause-ready g c =
-    let lines : LinesOf = record { queues = c.self.inside.queues; own = c.self.inside.own.entries } in
+pub returns-then-place-len-clause-ready : goal.returns-then-place-len-clause-ready
+returns-then-place-len-clause-ready g c =
+    let own : OwnLines = record { first = c.self.inside.first.items; others = c.self.inside.others.entries } in
+    let d = c.index_mut.result.now in
+    let new : OwnLine = c.next_of.new.own in
+    let after : OwnLines = record own { first = slice_set own.first c.args.caller new } in
+    let set = first_written own c.args.caller d new (omega (arith, c.if-place-len.true, c.len.ensures, c.self.inside.first.ok.0)) c.index_mut.ensures.value in
+    let all : LinesOf = record { queues = c.self.inside.queues; own = own } in
     let r = subst (λ lines. AreReady (places c.args.pipes.now) lines) (sym c.self.view_is) c.requires.ready in
-    rw c.get_mut.follows.holds-at-none (line_searched c.args.pipes.now lines c.args.caller c.next_for.new.line r c.next_for.ensures.kept)
+    lines_searched c.args.pipes.now all (record { queues = c.next_of.new.queues; own = after }) c.args.caller d.line new.line r set c.next_of.ensures.queues c.next_of.ensures.own
 
-pub returns-in_default-clause-next : goal.returns-in_default-clause-next
-returns-in_default-clause-next g c =
-    let lines : LinesOf = record { queues = c.self.inside.queues; own = c.self.inside.own.entries } in
+pub returns-then-place-len-clause-next : goal.returns-then-place-len-clause-next
+returns-then-place-len-clause-next g c =
+    let own : OwnLines = record { first = c.self.inside.first.items; others = c.self.inside.others.entries } in
+    let d = c.index_mut.result.now in
+    let new : OwnLine = c.next_of.new.own in
+    let after : OwnLines = record own { first = slice_set own.first c.args.caller new } in
+    let set = first_written own c.args.caller d new (omega (arith, c.if-place-len.true, c.len.ensures, c.self.inside.first.ok.0)) c.index_mut.ensures.value in
+    let all : LinesOf = record { queues = c.self.inside.queues; own = own } in
     let r = subst (λ lines. AreReady (places c.args.pipes.now) lines) (sym c.self.view_is) c.requires.ready in
-    found_queue c.args.pipes.now lines c.args.caller c.next_for.result r (ap line_in (sym c.in_default.ensures.value)) c.next_for.ensures.next
+    found_queue_first c.args.pipes.now all c.args.caller d.line c.next_of.result r set.here c.next_of.ensures.next
 
-pub returns-then-own-clause-ready : goal.returns-then-own-clause-ready
-returns-then-own-clause-ready g c =
-    let own = c.self.inside.own in
-    let new : OwnLine = record { line = c.next_of.new.second; queue_first = not c.in-Some.own.now.queue_first } in
+pub returns-in-Some-clause-ready : goal.returns-in-Some-clause-ready
+returns-in-Some-clause-ready g c =
+    let first = c.self.inside.first.items in
+    let own = c.self.inside.others in
+    let new : OwnLine = c.next_of-in-Some.new.own in
     let next = c.get_mut.follows.lender new in
-    let lines : LinesOf = record { queues = c.self.inside.queues; own = own.entries } in
-    let after : LinesOf = record { queues = c.next_of.new.first; own = next.entries } in
+    let lines : OwnLines = record { first = first; others = own.entries } in
+    let after : OwnLines = record { first = first; others = next.entries } in
+    let set = line_written first own next c.args.caller (omega (arith, c.if-place-len.false, c.len.ensures, c.self.inside.first.ok.0)) c.in-Some.own.now new (sym c.in-Some.ensures.value) (c.get_mut.follows.holds new) in
+    let all : LinesOf = record { queues = c.self.inside.queues; own = lines } in
     let r = subst (λ lines. AreReady (places c.args.pipes.now) lines) (sym c.self.view_is) c.requires.ready in
-    let set = line_written own next c.args.caller c.in-Some.own.now new (sym c.in-Some.ensures.value) (c.get_mut.follows.holds new) in
-    lines_searched c.args.pipes.now lines after c.args.caller c.in-Some.own.now.line new.line r set c.next_of.ensures.first c.next_of.ensures.second
+    lines_searched c.args.pipes.now all (record { queues = c.next_of-in-Some.new.queues; own = after }) c.args.caller c.in-Some.own.now.line new.line r set c.next_of-in-Some.ensures.queues c.next_of-in-Some.ensures.own
 
-pub returns-then-own-clause-next : goal.returns-then-own-clause-next
-returns-then-own-clause-next g c =
-    let lines : LinesOf = record { queues = c.self.inside.queues; own = c.self.inside.own.entries } in
-    let r = subst (λ lines. AreReady (places c.args.pipes.now) lines) (sym c.self.view_is) c.requires.ready in
-    found_queue_first c.args.pipes.now lines c.args.caller c.in-Some.own.now.line c.next_of.result r (ap line_in (sym c.in-Some.ensures.value)) c.next_of.ensures.next
-
-pub returns-else-own-clause-ready : goal.returns-else-own-clause-ready
-returns-else-own-clause-ready g c =
-    let own = c.self.inside.own in
-    let new : OwnLine = record { line = c.next_of-else-own.new.first; queue_first = not c.in-Some.own.now.queue_first } in
+pub returns-in-Some-clause-next : goal.returns-in-Some-clause-next
+returns-in-Some-clause-next g c =
+    let first = c.self.inside.first.items in
+    let own = c.self.inside.others in
+    let new : OwnLine = c.next_of-in-Some.new.own in
     let next = c.get_mut.follows.lender new in
-    let lines : LinesOf = record { queues = c.self.inside.queues; own = own.entries } in
-    let after : LinesOf = record { queues = c.next_of-else-own.new.second; own = next.entries } in
+    let lines : OwnLines = record { first = first; others = own.entries } in
+    let after : OwnLines = record { first = first; others = next.entries } in
+    let set = line_written first own next c.args.caller (omega (arith, c.if-place-len.false, c.len.ensures, c.self.inside.first.ok.0)) c.in-Some.own.now new (sym c.in-Some.ensures.value) (c.get_mut.follows.holds new) in
+    let all : LinesOf = record { queues = c.self.inside.queues; own = lines } in
     let r = subst (λ lines. AreReady (places c.args.pipes.now) lines) (sym c.self.view_is) c.requires.ready in
-    let set = line_written own next c.args.caller c.in-Some.own.now new (sym c.in-Some.ensures.value) (c.get_mut.follows.holds new) in
-    lines_searched c.args.pipes.now lines after c.args.caller c.in-Some.own.now.line new.line r set c.next_of-else-own.ensures.second c.next_of-else-own.ensures.first
+    found_queue_first c.args.pipes.now all c.args.caller c.in-Some.own.now.line c.next_of-in-Some.result r set.here c.next_of-in-Some.ensures.next
 
-pub returns-else-own-clause-next : goal.returns-else-own-clause-next
-returns-else-own-clause-next g c =
-    let lines : LinesOf = record { queues = c.self.inside.queues; own = c.self.inside.own.entries } in
+pub returns-in-None-clause-ready : goal.returns-in-None-clause-ready
+returns-in-None-clause-ready g c =
+    let first = c.self.inside.first.items in
+    let own = c.self.inside.others.entries in
+    let all : LinesOf = record { queues = c.self.inside.queues; own = record { first = first; others = own } } in
     let r = subst (λ lines. AreReady (places c.args.pipes.now) lines) (sym c.self.view_is) c.requires.ready in
-    found_own_first c.args.pipes.now lines c.args.caller c.in-Some.own.now.line c.next_of-else-own.result r (ap line_in (sym c.in-Some.ensures.value)) c.next_of-else-own.ensures.next
+    rw c.get_mut.follows.holds-at-none (line_searched c.args.pipes.now all c.args.caller c.next_for.new.line r c.next_for.ensures.kept)
+
+pub returns-in-None-clause-next : goal.returns-in-None-clause-next
+returns-in-None-clause-next g c =
+    let first = c.self.inside.first.items in
+    let own = c.self.inside.others.entries in
+    let all : LinesOf = record { queues = c.self.inside.queues; own = record { first = first; others = own } } in
+    let r = subst (λ lines. AreReady (places c.args.pipes.now) lines) (sym c.self.view_is) c.requires.ready in
+    found_queue c.args.pipes.now all c.args.caller c.next_for.result r (other_line first own c.args.caller None (omega (arith, c.if-place-len.false, c.len.ensures, c.self.inside.first.ok.0)) (sym c.in-None.ensures.value)) c.next_for.ensures.next

@@ -5,7 +5,7 @@ use Rattle.board.proofs.lines.JobLines.tell.Goals as goal
 
 pub returns-then-is_queue : goal.returns-then-is_queue
 returns-then-is_queue g c =
-    let lines : LinesOf = record { queues = c.self.inside.queues; own = c.self.inside.own.entries } in
+    let lines : LinesOf = record { queues = c.self.inside.queues; own = record { first = c.self.inside.first.items; others = c.self.inside.others.entries } } in
     rw (← c.self.view_is) (queue_told c.args.pipe c.args.place.now c.args.had_job c.args.has_job lines c.set.new.self (sym c.is_queue.ensures ∙ c.if-is_queue.true) c.set.ensures)
 
 pub returns-else-is_queue : goal.returns-else-is_queue

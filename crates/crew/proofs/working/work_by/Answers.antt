@@ -4,7 +4,7 @@ use Rattle.board.specs.Entries.{caller_of}
 use Rattle.board.specs.Legal.{LegalBoard}
 use Rattle.turn_lock.specs.Going.{at_some, at_none}
 use Rattle.crew.proofs.Works.{finished_on, first_worked, two_turns, passed_worked, passed_some}
-use Rattle.crew.proofs.working.work_watched.Goals as goal
+use Rattle.crew.proofs.working.work_by.Goals as goal
 
 pub run_and_take-pass-requires-clause-took : goal.run_and_take-pass-requires-clause-took
 run_and_take-pass-requires-clause-took g c κs within =
