@@ -11,6 +11,7 @@ pub mod Births
 pub mod Allowance
 pub mod Slips
 pub mod Ready
+pub mod Requests
 pub mod Lines
 pub mod Staying
 pub mod Handing

@@ -1,11 +1,13 @@
 //! How pipelines are made.
 
-ghost use Rattle.std.specs.Prelude.{◌≡◌, ◌≤◌, [], ◌∷◌, ◌++◌, IfErr, OnOk, MatchResult};
+ghost use Rattle.std.specs.Prelude.{◌≡◌, ◌≢◌, ℕ, ◌+◌, ◌≤◌, [], ◌∷◌, ◌++◌, Some, None, IfErr, OnOk, OnErr, MatchResult};
 ghost use Rattle.board.specs.declared.entry.Shape.TheVariants as Shaped;
 ghost use Rattle.board.specs.declared.entry.BoardEntry.TheVariants as Entry;
 ghost use Rattle.board.specs.declared.board_core.BoardErr.TheVariants as BoardErr;
 ghost use Rattle.board.specs.Legal.{IsNoWorker, pipelines, LegalBoard};
 ghost use Rattle.board.specs.Births.{IsNew};
+ghost use Rattle.board.specs.Kept.{owes, owed_by};
+ghost use Rattle.board.specs.Places.{places};
 ghost use Rattle.board.specs.Ready.{IsMember, IsChain, KeepsOthers};
 ghost use Rattle.board.specs.Lines.{IsMade, Joins};
 
@@ -21,6 +23,7 @@ use crate::work::Work;
 use cryptd::Cryptd;
 use padata_core::Padata;
 use std::alloc::AllocError;
+use std::collections::BTreeMap;
 
 impl<W: Work> BoardCore<W> {
     /// Makes a pad of `lists` reorder lists, 1 to 16, from which the workers 1 to `lists` may take, and answers its number.
@@ -97,12 +100,13 @@ impl<W: Work> BoardCore<W> {
             stage,
         };
         let pipe = self.born;
-        enter_lines(&mut self.ready, &mut self.passing, pipe, &new)?;
-        if self.pipes.insert(pipe, new).is_err() {
-            self.ready.leave(caller, pipe);
-            self.passing.leave(pipe);
-            return Err(BoardErr::Memory);
-        }
+        enter_board(
+            &mut self.pipes,
+            &mut self.ready,
+            &mut self.passing,
+            pipe,
+            new,
+        )?;
         self.log.push_reserved(BoardEntry::Born {
             caller,
             pipe,
@@ -112,6 +116,34 @@ impl<W: Work> BoardCore<W> {
         self.born += 1;
         Ok(pipe)
     }
+}
+
+/// Sets a new pipeline among the others, a member of the lines where it belongs. Want of memory leaves it out of all.
+fn enter_board<J: Drop, F: Drop>(
+    pipes: &mut BTreeMap<u64, Pipeline<J, F>>,
+    ready: &mut JobLines,
+    passing: &mut Ready,
+    pipe: u64,
+    new: Pipeline<J, F>,
+) -> Result<(), AllocError>
+    requires { places pipes.old pipe ≡ None }
+    ensures ready { IsMade (KeepsOthers pipe) ready.old ready.new }
+    ensures passing { KeepsOthers pipe passing.old passing.new }
+    ensures joined { OnOk result (Joins pipe new ready.new) }
+    ensures chain { OnOk result (IsChain new → IsMember passing.new pipe) }
+    ensures there { OnOk result (places pipes.new pipe ≡ Some new) }
+    ensures others { OnOk result ((q : ℕ) → q ≢ pipe → places pipes.new q ≡ places pipes.old q) }
+    ensures owed { OnOk result (owed_by pipes.new ≡ owed_by pipes.old + owes new) }
+    ensures unchanged { OnErr result (pipes.new.entries ≡ pipes.old.entries) }
+{
+    enter_lines(ready, passing, pipe, &new)?;
+    let maker = new.maker;
+    if pipes.insert(pipe, new).is_err() {
+        ready.leave(maker, pipe);
+        passing.leave(pipe);
+        return Err(AllocError);
+    }
+    Ok(())
 }
 
 /// Makes a new pipeline a member of the lines where it belongs. Want of memory leaves it out of all lines.

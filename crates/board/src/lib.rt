@@ -23,6 +23,7 @@ mod masking;
 mod pipeline;
 mod queues;
 mod ready;
+mod requests;
 mod serving;
 mod stage;
 mod submitting;

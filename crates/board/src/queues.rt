@@ -10,10 +10,10 @@ ghost use Rattle.board.specs.Entries.{entries_of, verdict};
 ghost use Rattle.board.specs.Allowance.{IsAllowed};
 ghost use Rattle.board.specs.Legal.{MaySubmit, MayManage, IsOpenQueue, LegalBoard};
 
-use crate::allowance::spend;
 use crate::board_core::{BoardCore, BoardErr};
 use crate::entry::{BoardEntry, Entered};
 use crate::log::reserve_entries;
+use crate::requests::{make_room, tell_lines};
 use crate::submitting::Admitted;
 use crate::work::Work;
 
@@ -43,14 +43,18 @@ impl<W: Work> BoardCore<W> {
         reserve_entries(&mut self.log, self.owed, 4)?;
         let place = self.pipes.get_mut(&pipe).unwrap();
         let had_job = place.stage.may_serve();
-        self.ready.admit(caller, pipe, place)?;
-        place.reserve()?;
         let accepted = place.stage.accepts(backlog);
-        spend(&mut self.used, caller, used, accepted)?;
+        make_room(
+            &mut self.ready,
+            &mut self.used,
+            place,
+            caller,
+            pipe,
+            used,
+            accepted,
+        )?;
         let answer = place.enqueue(caller, job, backlog);
-        let more = place.stage.work_entries(answer);
-        let has_job = place.stage.may_serve();
-        let may_pass = place.stage.may_pass();
+        self.owed += place.stage.work_entries(answer);
         self.log.push_reserved(BoardEntry::Enq {
             caller,
             pipe,
@@ -58,9 +62,7 @@ impl<W: Work> BoardCore<W> {
             backlog,
             answer,
         });
-        self.owed += more;
-        self.ready.tell(pipe, place, had_job, has_job);
-        self.passing.set(pipe, may_pass);
+        tell_lines(&mut self.ready, &mut self.passing, pipe, place, had_job);
         Ok(answer)
     }
 

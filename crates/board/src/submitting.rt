@@ -10,10 +10,11 @@ ghost use Rattle.board.specs.Entries.{entries_of, submissions, mask};
 ghost use Rattle.board.specs.Allowance.{IsAllowed, used_in};
 ghost use Rattle.board.specs.Legal.{MaySubmit, IsOpenPad, LegalBoard};
 
-use crate::allowance::{Used, spend, used_with};
+use crate::allowance::{Used, used_with};
 use crate::board_core::{BoardCore, BoardErr};
 use crate::entry::BoardEntry;
 use crate::log::reserve_entries;
+use crate::requests::make_room;
 use crate::work::Work;
 use std::alloc::Global;
 use std::sync::Arc;
@@ -39,17 +40,19 @@ impl<W: Work> BoardCore<W> {
         ensures refused { IfErr result (λ e. (e ≡ BoardErr.TooBig) ↔ ((0 < mask (entries_of pipe self.old)) × (IsAllowed W.weight self.old caller (W.asked job) → ⊥))) }
         ensures legal { LegalBoard self.new }
     {
-        let place = &self.pipes[&pipe];
-        if place.mask == 0 {
-            return Err(BoardErr::NoWorker);
-        }
-        let Admitted { ask, used } = self.admit(caller, &job)?;
+        let Admitted { ask, used } = self.admit_to_pad(caller, pipe, &job)?;
         reserve_entries(&mut self.log, self.owed, 3)?;
         let place = self.pipes.get_mut(&pipe).unwrap();
         let had_job = place.stage.may_serve();
-        self.ready.admit(caller, pipe, place)?;
-        place.reserve()?;
-        spend(&mut self.used, caller, used, true)?;
+        make_room(
+            &mut self.ready,
+            &mut self.used,
+            place,
+            caller,
+            pipe,
+            used,
+            true,
+        )?;
         let number = place.submit(caller, job);
         self.log.push_reserved(BoardEntry::Submit {
             caller,
@@ -60,6 +63,28 @@ impl<W: Work> BoardCore<W> {
         self.owed += 2;
         self.ready.tell(pipe, place, had_job, true);
         Ok(number)
+    }
+
+    /// What the job is asked, and what the caller has used with it. `NoWorker` where the pad's mask is empty, and otherwise
+    /// `TooBig` where the caller's allowance has no room for the job. Want of memory comes after these.
+    fn admit_to_pad(&self, caller: u32, pipe: u64, job: &W) -> Result<Admitted<W::Ask>, BoardErr>
+        requires { IsOpenPad (entries_of pipe self.now) }
+        ensures ask { IfOk result (λ admitted. arc_value admitted.ask ≡ W.asked job.now) }
+        ensures used { IfOk result (λ admitted. admitted.used ≡ record {
+          requests = (used_in W.weight self.now caller).requests + 1;
+          bytes = (used_in W.weight self.now caller).bytes + W.weight (W.asked job.now);
+        }) }
+        ensures allowed { OnOk result (IsAllowed W.weight self.now caller (W.asked job.now)) }
+        ensures masked { OnOk result (0 < mask (entries_of pipe self.now)) }
+        ensures unmasked { IfErr result (λ e. (e ≡ BoardErr.NoWorker) ↔ (mask (entries_of pipe self.now) ≡ 0)) }
+        ensures refused { IfErr result (λ e. (e ≡ BoardErr.TooBig) ↔
+            ((0 < mask (entries_of pipe self.now)) × (IsAllowed W.weight self.now caller (W.asked job.now) → ⊥))) }
+    {
+        let place = &self.pipes[&pipe];
+        if place.mask == 0 {
+            return Err(BoardErr::NoWorker);
+        }
+        self.admit(caller, job)
     }
 
     /// What the job is asked, and what the caller has used with it, where its allowance has room for it: otherwise `TooBig`.

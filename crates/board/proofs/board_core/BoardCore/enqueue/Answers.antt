@@ -7,7 +7,7 @@ use Rattle.board.specs.Places.{places}
 use Rattle.board.proofs.Kept.{shut-same, loan_here, loan_some, set_here}
 use Rattle.board.proofs.KeptRoom.{serve_same, pass_same, notes_same, after_same, answer_same, line_same}
 use Rattle.board.proofs.KeptCalls.{kept_open, line_here, room_step}
-use Rattle.board.specs.Pipelines.{IsSame, is_accepted, work_after}
+use Rattle.board.specs.Pipelines.{is_accepted, work_after}
 use Rattle.board.proofs.KeptRequests.{work_same, few_submissions, few_entries, accepts_is, used_answer, accepted_here, enqueue_step}
 use Rattle.board.proofs.KeptLines.{serves, says, says_passing, passing_same, passing_told, enqueued_queue, enqueued_chain}
 use Rattle.board.proofs.LinesHold.{chain_same, room_admits, lines_kept, lines_same, lines_asked}
@@ -19,66 +19,33 @@ unwrap-place-requires g c =
     let there = kept_open g.W.Work.asked g.W.Work.meaning (places c.self.inside.pipes) c.self.inside.born c.self.inside.log.items c.args.pipe c.self.invariant.0 (inr open_) in
     loan_some c.get_mut.result (places c.self.inside.pipes c.args.pipe) there.0 c.get_mut.ensures.value there.1
 
-pub invariant_of-self-in_err-reserve : goal.invariant_of-self-in_err-reserve
-invariant_of-self-in_err-reserve g c =
+pub invariant_of-self-in_err-make_room : goal.invariant_of-self-in_err-make_room
+invariant_of-self-in_err-make_room g c =
     let open_ : IsOpenQueue (entries_of c.args.pipe c.self.inside.log.items) = subst (λ h. IsOpenQueue (entries_of c.args.pipe h)) (sym c.self.view_is) c.requires.pipe in
     let here = loan_here (places c.self.inside.pipes c.args.pipe) c.get_mut.result c.unwrap-place.result c.get_mut.ensures.value c.unwrap-place.ensures in
-    let next = c.get_mut.follows.lender c.reserve.new.self in
-    let set = set_here c.self.inside.pipes next c.args.pipe c.unwrap-place.result.now c.reserve.new.self here (c.get_mut.follows.holds c.reserve.new.self) in
-    let s = room_step g.W.Work.asked g.W.Work.meaning c.self.inside.pipes c.self.inside.born c.self.inside.log.items c.args.pipe c.unwrap-place.result.now c.self.invariant.0 here next c.reserve.new.self set c.in_err-reserve.ensures.same c.in_err-reserve.ensures.placed in (
+    let next = c.get_mut.follows.lender c.make_room.new.place in
+    let set = set_here c.self.inside.pipes next c.args.pipe c.unwrap-place.result.now c.make_room.new.place here (c.get_mut.follows.holds c.make_room.new.place) in
+    let s = room_step g.W.Work.asked g.W.Work.meaning c.self.inside.pipes c.self.inside.born c.self.inside.log.items c.args.pipe c.unwrap-place.result.now c.self.invariant.0 here next c.make_room.new.place set c.in_err-make_room.ensures.same c.in_err-make_room.ensures.placed in (
       rw c.in_ok-reserve_entries.ensures.items s.0,
       rw c.in_ok-reserve_entries.ensures.items c.self.invariant.1,
       omega (arith, c.self.invariant.2, c.in_ok-reserve_entries.ensures.len, c.in_ok-reserve_entries.ensures.capacity),
       omega (arith, s.1, c.self.invariant.3),
-      rw c.in_ok-reserve_entries.ensures.items (c.self.invariant.4),
-      lines_same c.self.inside.pipes next c.admit-2.new.self c.args.pipe c.unwrap-place.result.now c.reserve.new.self (lines_kept c.self.inside.pipes c.self.inside.ready c.admit-2.new.self c.self.invariant.5 c.in_ok-admit.ensures.kept) set (serve_same c.reserve.new.self.stage c.unwrap-place.result.now.stage c.in_err-reserve.ensures.same.stage) (room_admits c.unwrap-place.result.now c.reserve.new.self c.in_err-reserve.ensures.same),
-      passing_same c.self.inside.pipes next c.self.inside.passing c.args.pipe c.unwrap-place.result.now c.reserve.new.self c.self.invariant.6 set (chain_same c.reserve.new.self.stage c.unwrap-place.result.now.stage c.in_err-reserve.ensures.same.stage) (pass_same c.reserve.new.self.stage c.unwrap-place.result.now.stage c.in_err-reserve.ensures.same.stage),
-    )
-
-pub invariant_of-self-in_err-admit : goal.invariant_of-self-in_err-admit
-invariant_of-self-in_err-admit g c =
-    let pipe = c.unwrap-place.result.now in
-    let here = loan_here (places c.self.inside.pipes c.args.pipe) c.get_mut.result c.unwrap-place.result c.get_mut.ensures.value c.unwrap-place.ensures in
-    let next = c.get_mut.follows.lender pipe in
-    let set = set_here c.self.inside.pipes next c.args.pipe pipe pipe here (c.get_mut.follows.holds pipe) in
-    let same : IsSame pipe pipe = record { maker = refl; shared = refl; mask = refl; submitters = refl; collected = refl; stage = refl } in
-    let s = room_step g.W.Work.asked g.W.Work.meaning c.self.inside.pipes c.self.inside.born c.self.inside.log.items c.args.pipe pipe c.self.invariant.0 here next pipe set same (λ h. h) in (
-      rw c.in_ok-reserve_entries.ensures.items s.0,
-      rw c.in_ok-reserve_entries.ensures.items c.self.invariant.1,
-      omega (arith, c.self.invariant.2, c.in_ok-reserve_entries.ensures.len, c.in_ok-reserve_entries.ensures.capacity),
-      omega (arith, s.1, c.self.invariant.3),
-      rw c.in_ok-reserve_entries.ensures.items c.self.invariant.4,
-      lines_same c.self.inside.pipes next c.admit-2.new.self c.args.pipe pipe pipe (lines_kept c.self.inside.pipes c.self.inside.ready c.admit-2.new.self c.self.invariant.5 c.in_err-admit.ensures.kept) set (λ h. h) (room_admits pipe pipe same),
-      passing_same c.self.inside.pipes next c.self.inside.passing c.args.pipe pipe pipe c.self.invariant.6 set refl (λ h. h),
-    )
-
-pub invariant_of-self-in_err-spend : goal.invariant_of-self-in_err-spend
-invariant_of-self-in_err-spend g c =
-    let open_ : IsOpenQueue (entries_of c.args.pipe c.self.inside.log.items) = subst (λ h. IsOpenQueue (entries_of c.args.pipe h)) (sym c.self.view_is) c.requires.pipe in
-    let here = loan_here (places c.self.inside.pipes c.args.pipe) c.get_mut.result c.unwrap-place.result c.get_mut.ensures.value c.unwrap-place.ensures in
-    let next = c.get_mut.follows.lender c.reserve.new.self in
-    let set = set_here c.self.inside.pipes next c.args.pipe c.unwrap-place.result.now c.reserve.new.self here (c.get_mut.follows.holds c.reserve.new.self) in
-    let s = room_step g.W.Work.asked g.W.Work.meaning c.self.inside.pipes c.self.inside.born c.self.inside.log.items c.args.pipe c.unwrap-place.result.now c.self.invariant.0 here next c.reserve.new.self set c.in_ok-reserve.ensures.same c.in_ok-reserve.ensures.placed in (
-      rw c.in_ok-reserve_entries.ensures.items s.0,
-      rw c.in_ok-reserve_entries.ensures.items c.self.invariant.1,
-      omega (arith, c.self.invariant.2, c.in_ok-reserve_entries.ensures.len, c.in_ok-reserve_entries.ensures.capacity),
-      omega (arith, s.1, c.self.invariant.3),
-      rw c.in_ok-reserve_entries.ensures.items (λ q. c.in_err-spend.ensures.err q ∙ c.self.invariant.4 q),
-      lines_same c.self.inside.pipes next c.admit-2.new.self c.args.pipe c.unwrap-place.result.now c.reserve.new.self (lines_kept c.self.inside.pipes c.self.inside.ready c.admit-2.new.self c.self.invariant.5 c.in_ok-admit.ensures.kept) set (serve_same c.reserve.new.self.stage c.unwrap-place.result.now.stage c.in_ok-reserve.ensures.same.stage) (room_admits c.unwrap-place.result.now c.reserve.new.self c.in_ok-reserve.ensures.same),
-      passing_same c.self.inside.pipes next c.self.inside.passing c.args.pipe c.unwrap-place.result.now c.reserve.new.self c.self.invariant.6 set (chain_same c.reserve.new.self.stage c.unwrap-place.result.now.stage c.in_ok-reserve.ensures.same.stage) (pass_same c.reserve.new.self.stage c.unwrap-place.result.now.stage c.in_ok-reserve.ensures.same.stage),
+      rw c.in_ok-reserve_entries.ensures.items (λ q. c.in_err-make_room.ensures.unspent q ∙ c.self.invariant.4 q),
+      lines_same c.self.inside.pipes next c.make_room.new.ready c.args.pipe c.unwrap-place.result.now c.make_room.new.place (lines_kept c.self.inside.pipes c.self.inside.ready c.make_room.new.ready c.self.invariant.5 c.in_err-make_room.ensures.lines) set (serve_same c.make_room.new.place.stage c.unwrap-place.result.now.stage c.in_err-make_room.ensures.same.stage) (room_admits c.unwrap-place.result.now c.make_room.new.place c.in_err-make_room.ensures.same),
+      passing_same c.self.inside.pipes next c.self.inside.passing c.args.pipe c.unwrap-place.result.now c.make_room.new.place c.self.invariant.6 set (chain_same c.make_room.new.place.stage c.unwrap-place.result.now.stage c.in_err-make_room.ensures.same.stage) (pass_same c.make_room.new.place.stage c.unwrap-place.result.now.stage c.in_err-make_room.ensures.same.stage),
     )
 
 pub enqueue-answer-requires-clause-line : goal.enqueue-answer-requires-clause-line
 enqueue-answer-requires-clause-line g c =
     let open_ : IsOpenQueue (entries_of c.args.pipe c.self.inside.log.items) = subst (λ h. IsOpenQueue (entries_of c.args.pipe h)) (sym c.self.view_is) c.requires.pipe in
     let here = loan_here (places c.self.inside.pipes c.args.pipe) c.get_mut.result c.unwrap-place.result c.get_mut.ensures.value c.unwrap-place.ensures in
-    line_same c.reserve.new.self.stage c.unwrap-place.result.now.stage c.in_ok-reserve.ensures.same.stage ∙ line_here g.W.Work.asked g.W.Work.meaning c.self.inside.pipes c.self.inside.born c.self.inside.log.items c.args.pipe c.unwrap-place.result.now c.self.invariant.0 here open_.0
+    line_same c.make_room.new.place.stage c.unwrap-place.result.now.stage c.in_ok-make_room.ensures.same.stage ∙ line_here g.W.Work.asked g.W.Work.meaning c.self.inside.pipes c.self.inside.born c.self.inside.log.items c.args.pipe c.unwrap-place.result.now c.self.invariant.0 here open_.0
 
 pub enqueue-answer-requires-clause-few : goal.enqueue-answer-requires-clause-few
 enqueue-answer-requires-clause-few g c =
     let open_ : IsOpenQueue (entries_of c.args.pipe c.self.inside.log.items) = subst (λ h. IsOpenQueue (entries_of c.args.pipe h)) (sym c.self.view_is) c.requires.pipe in
     let here = loan_here (places c.self.inside.pipes c.args.pipe) c.get_mut.result c.unwrap-place.result c.get_mut.ensures.value c.unwrap-place.ensures in
-    let a = accepted_here g.W.Work.asked g.W.Work.meaning c.self.inside.pipes c.self.inside.born c.self.inside.log.items c.args.pipe c.unwrap-place.result.now c.self.invariant.0 here c.reserve.new.self c.in_ok-reserve.ensures.same in
+    let a = accepted_here g.W.Work.asked g.W.Work.meaning c.self.inside.pipes c.self.inside.born c.self.inside.log.items c.args.pipe c.unwrap-place.result.now c.self.invariant.0 here c.make_room.new.place c.in_ok-make_room.ensures.same in
     omega (arith, a, few_submissions c.args.pipe c.self.inside.log.items, c.self.inside.log.ok.0, c.self.inside.log.ok.1, c.self.inside.log.small)
 
 pub invariant_of-self-2 : goal.invariant_of-self-2
@@ -89,20 +56,20 @@ invariant_of-self-2 g c =
     let set = set_here c.self.inside.pipes next c.args.pipe c.unwrap-place.result.now c.enqueue-answer.new.self here (c.get_mut.follows.holds c.enqueue-answer.new.self) in
     let may : MaySubmit (entries_of c.args.pipe c.self.inside.log.items) c.args.caller = subst (λ h. MaySubmit (entries_of c.args.pipe h) c.args.caller) (sym c.self.view_is) c.requires.caller in
     let answer = c.enqueue-answer.result in
-    let e = c.enqueue-answer.ensures.entered ∙ after_same c.reserve.new.self.stage c.unwrap-place.result.now.stage c.args.job answer c.in_ok-reserve.ensures.same.stage in
-    let said = c.enqueue-answer.ensures.answer ∙ answer_same c.reserve.new.self.stage c.unwrap-place.result.now.stage c.args.backlog c.in_ok-reserve.ensures.same.stage in
-    let noting = notes_same c.unwrap-place.result.now c.reserve.new.self c.enqueue-answer.new.self c.args.caller _ c.in_ok-reserve.ensures.same c.enqueue-answer.ensures.notes in
+    let e = c.enqueue-answer.ensures.entered ∙ after_same c.make_room.new.place.stage c.unwrap-place.result.now.stage c.args.job answer c.in_ok-make_room.ensures.same.stage in
+    let said = c.enqueue-answer.ensures.answer ∙ answer_same c.make_room.new.place.stage c.unwrap-place.result.now.stage c.args.backlog c.in_ok-make_room.ensures.same.stage in
+    let noting = notes_same c.unwrap-place.result.now c.make_room.new.place c.enqueue-answer.new.self c.args.caller _ c.in_ok-make_room.ensures.same c.enqueue-answer.ensures.notes in
     let s = enqueue_step g.W.Work.asked g.W.Work.meaning c.self.inside.pipes c.self.inside.born c.self.inside.log.items c.args.pipe c.unwrap-place.result.now c.self.invariant.0 here next c.args.caller c.in_ok-ask.field-0.ask c.enqueue-answer.new.self c.args.job c.args.backlog answer set c.in_ok-ask.ensures.ask said noting e c.enqueue-answer.ensures.placed may open_ in
-    let spent = c.accepts-accepted.ensures ∙ (accepts_is c.reserve.new.self.stage c.args.backlog ∙ ap is_accepted (sym c.enqueue-answer.ensures.answer)) in
+    let spent = c.accepts-accepted.ensures ∙ (accepts_is c.unwrap-place.result.now.stage c.args.backlog ∙ ap is_accepted (sym said)) in
     let used : c.in_ok-ask.field-0.used ≡ record { requests = (used_at c.self.inside.used c.args.caller).requests + 1; bytes = (used_at c.self.inside.used c.args.caller).bytes + g.W.Work.weight (g.W.Work.asked c.args.job) } = rw (c.self.invariant.4 c.args.caller, c.self.view_is) c.in_ok-ask.ensures.used in
-    let more : c.work_entries-more.result ≡ work_after c.unwrap-place.result.now.stage answer = c.work_entries-more.ensures ∙ work_same c.enqueue-answer.new.self.stage c.unwrap-place.result.now.stage c.args.job answer e in (
+    let more : c.work_entries.result ≡ work_after c.unwrap-place.result.now.stage answer = c.work_entries.ensures ∙ work_same c.enqueue-answer.new.self.stage c.unwrap-place.result.now.stage c.args.job answer e in (
       rw (c.push_reserved.ensures.items, c.in_ok-reserve_entries.ensures.items) s.0,
       rw (c.push_reserved.ensures.items, c.in_ok-reserve_entries.ensures.items) (shut-same c.self.inside.log.items (Enq c.args.caller c.args.pipe c.in_ok-ask.field-0.ask c.args.backlog answer) refl ∙ c.self.invariant.1),
       omega (arith, more, few_entries c.unwrap-place.result.now.stage answer, c.push_reserved.ensures.len, c.push_reserved.ensures.capacity, c.in_ok-reserve_entries.ensures.ok),
       omega (arith, more, s.1, c.self.invariant.3),
-      rw (c.push_reserved.ensures.items, c.in_ok-reserve_entries.ensures.items) (used_answer g.W.Work.weight c.self.inside.used c.spend.new.used c.self.inside.log.items c.args.caller c.args.pipe c.in_ok-ask.field-0.ask c.args.backlog answer (g.W.Work.asked c.args.job) _ c.in_ok-ask.ensures.ask refl c.self.invariant.4 (rw (spent, used) at c.in_ok-spend.ensures.ok)),
-      lines_asked c.self.inside.pipes next c.admit-2.new.self c.tell.new.self c.args.pipe c.unwrap-place.result.now c.enqueue-answer.new.self c.args.caller _ c.may_serve-had_job.result c.may_serve-has_job.result (lines_kept c.self.inside.pipes c.self.inside.ready c.admit-2.new.self c.self.invariant.5 c.in_ok-admit.ensures.kept) set c.in_ok-admit.ensures.joined c.in_ok-admit.ensures.in_line c.tell.ensures noting (enqueued_queue c.unwrap-place.result.now.stage c.enqueue-answer.new.self.stage c.args.job answer e) (serves c.unwrap-place.result.now.stage c.may_serve-had_job.result c.may_serve-had_job.ensures) (says c.enqueue-answer.new.self.stage c.may_serve-has_job.result c.may_serve-has_job.ensures),
-      passing_told c.self.inside.pipes next c.self.inside.passing c.args.pipe c.unwrap-place.result.now c.enqueue-answer.new.self c.self.invariant.6 set c.set.new.self c.may_pass-may_pass.result c.set.ensures (enqueued_chain c.unwrap-place.result.now.stage c.enqueue-answer.new.self.stage c.args.job answer e) (says_passing c.enqueue-answer.new.self.stage c.may_pass-may_pass.result c.may_pass-may_pass.ensures),
+      rw (c.push_reserved.ensures.items, c.in_ok-reserve_entries.ensures.items) (used_answer g.W.Work.weight c.self.inside.used c.make_room.new.used c.self.inside.log.items c.args.caller c.args.pipe c.in_ok-ask.field-0.ask c.args.backlog answer (g.W.Work.asked c.args.job) _ c.in_ok-ask.ensures.ask refl c.self.invariant.4 (rw (spent, used) at c.in_ok-make_room.ensures.spent)),
+      lines_asked c.self.inside.pipes next c.make_room.new.ready c.tell_lines.new.ready c.args.pipe c.unwrap-place.result.now c.enqueue-answer.new.self c.args.caller _ c.may_serve-had_job.result c.tell_lines.ensures.ready.0 (lines_kept c.self.inside.pipes c.self.inside.ready c.make_room.new.ready c.self.invariant.5 c.in_ok-make_room.ensures.lines) set c.in_ok-make_room.ensures.joined c.in_ok-make_room.ensures.in_line c.tell_lines.ensures.ready.2 noting (enqueued_queue c.unwrap-place.result.now.stage c.enqueue-answer.new.self.stage c.args.job answer e) (serves c.unwrap-place.result.now.stage c.may_serve-had_job.result c.may_serve-had_job.ensures) (says c.enqueue-answer.new.self.stage c.tell_lines.ensures.ready.0 c.tell_lines.ensures.ready.1),
+      passing_told c.self.inside.pipes next c.self.inside.passing c.args.pipe c.unwrap-place.result.now c.enqueue-answer.new.self c.self.invariant.6 set c.tell_lines.new.passing c.tell_lines.ensures.passing.0 c.tell_lines.ensures.passing.2 (enqueued_chain c.unwrap-place.result.now.stage c.enqueue-answer.new.self.stage c.args.job answer e) (says_passing c.enqueue-answer.new.self.stage c.tell_lines.ensures.passing.0 c.tell_lines.ensures.passing.1),
     )
 
 pub returns-clause-answered : goal.returns-clause-answered
@@ -113,9 +80,9 @@ returns-clause-answered g c =
     let set = set_here c.self.inside.pipes next c.args.pipe c.unwrap-place.result.now c.enqueue-answer.new.self here (c.get_mut.follows.holds c.enqueue-answer.new.self) in
     let may : MaySubmit (entries_of c.args.pipe c.self.inside.log.items) c.args.caller = subst (λ h. MaySubmit (entries_of c.args.pipe h) c.args.caller) (sym c.self.view_is) c.requires.caller in
     let answer = c.enqueue-answer.result in
-    let e = c.enqueue-answer.ensures.entered ∙ after_same c.reserve.new.self.stage c.unwrap-place.result.now.stage c.args.job answer c.in_ok-reserve.ensures.same.stage in
-    let said = c.enqueue-answer.ensures.answer ∙ answer_same c.reserve.new.self.stage c.unwrap-place.result.now.stage c.args.backlog c.in_ok-reserve.ensures.same.stage in
-    let noting = notes_same c.unwrap-place.result.now c.reserve.new.self c.enqueue-answer.new.self c.args.caller _ c.in_ok-reserve.ensures.same c.enqueue-answer.ensures.notes in
+    let e = c.enqueue-answer.ensures.entered ∙ after_same c.make_room.new.place.stage c.unwrap-place.result.now.stage c.args.job answer c.in_ok-make_room.ensures.same.stage in
+    let said = c.enqueue-answer.ensures.answer ∙ answer_same c.make_room.new.place.stage c.unwrap-place.result.now.stage c.args.backlog c.in_ok-make_room.ensures.same.stage in
+    let noting = notes_same c.unwrap-place.result.now c.make_room.new.place c.enqueue-answer.new.self c.args.caller _ c.in_ok-make_room.ensures.same c.enqueue-answer.ensures.notes in
     let s = enqueue_step g.W.Work.asked g.W.Work.meaning c.self.inside.pipes c.self.inside.born c.self.inside.log.items c.args.pipe c.unwrap-place.result.now c.self.invariant.0 here next c.args.caller c.in_ok-ask.field-0.ask c.enqueue-answer.new.self c.args.job c.args.backlog answer set c.in_ok-ask.ensures.ask said noting e c.enqueue-answer.ensures.placed may open_ in (
       subst (λ h. answer ≡ verdict (entries_of c.args.pipe h) c.args.backlog) c.self.view_is s.2,
       (
