@@ -26,7 +26,7 @@ pub struct Out {
 
 /// Takes the job that is to be run out of a place, with its task. Where there is none, the place stays.
 fn begin(mut place: TaskPlace, alloc: Global) -> (TaskPlace, Option<Job>, Option<Out>)
-    ensures begins { Begins place.entry.handle.value result.0.handle.value result.1 result.2 }
+    ensures begins { Begins place.handle.value result.0.handle.value result.1 result.2 }
     ensures values { option_map job_value result.1 ≡ option_map out_value result.2 }
 {
     let Some(mut held) = place.take(alloc) else {
@@ -95,8 +95,8 @@ fn run_jobs(
 /// Puts a task back into its place, with what came of its job.
 fn end(mut place: TaskPlace, out: Option<Out>, finished: Option<Finished>) -> TaskPlace
     requires value { option_map finished_value finished ≡ option_map out_value out }
-    requires room { MatchOption out ⊤ (λ _. place.entry.handle.value ≡ None) }
-    ensures { Ends out place.entry.handle.value result.handle.value }
+    requires room { MatchOption out ⊤ (λ _. place.handle.value ≡ None) }
+    ensures { Ends out place.handle.value result.handle.value }
 {
     let Some(Out {
         mut held,
