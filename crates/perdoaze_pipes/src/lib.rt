@@ -7,7 +7,6 @@ pub mod calls;
 mod event;
 mod job;
 mod laws;
-mod loose;
 mod managing;
 mod pipe;
 mod pipe_handle;
@@ -22,6 +21,7 @@ mod task_handle;
 mod task_place;
 mod telling;
 mod ticket;
+mod together;
 mod turn;
 mod working;
 
