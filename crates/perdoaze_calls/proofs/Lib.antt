@@ -5,3 +5,4 @@ pub mod KeySizes
 pub mod Listing
 pub mod Encryptions
 pub mod Chained
+pub mod Making

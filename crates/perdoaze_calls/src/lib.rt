@@ -2,6 +2,7 @@
 #![tactic(auto)]
 
 pub mod calls;
+mod direct;
 mod duplicate;
 mod encryption;
 mod handle;

@@ -46,7 +46,7 @@ pub fn total_len(pieces: &[Piece<'_>]) -> Option<usize>
 }
 
 /// Copies a piece to the place behind the first `done` bytes.
-fn put_behind(piece: &[u8], done: usize, into: &mut [u8])
+pub(crate) fn put_behind(piece: &[u8], done: usize, into: &mut [u8])
     requires { done + length piece.now ≤ length into.old }
     ensures { into.new ≡ take done into.old ++ piece.now ++ drop (length piece.now) (drop done into.old) }
 {

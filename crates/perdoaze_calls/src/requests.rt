@@ -1,6 +1,6 @@
-//! Requests to a transform. The text is changed where the answer goes, so that no memory is taken.
+//! Requests to a transform. The text is changed where the answer goes, or sealed from its place into that one, so that no memory is taken.
 
-ghost use Rattle.std.specs.Prelude.{◌≡◌, ◌≤◌, ◌<◌, ◌^◌, ◌+◌, ◌-◌, ◌++◌, ◌⊎◌, length, take, drop, replicate, true, MatchResult, None, Some};
+ghost use Rattle.std.specs.Prelude.{◌≡◌, ◌≤◌, ◌<◌, ◌^◌, ◌+◌, ◌-◌, ◌++◌, ◌⊎◌, length, take, drop, replicate, true, IsTrue, IsFalse, MatchResult, None, Some};
 ghost use Rattle.std_defs.specs.Value.Value.{bytes};
 ghost use Rattle.transforms.specs.InPlace as kept;
 ghost use Rattle.transforms.specs.InPlace.{sealing, unsealing, opening};
@@ -8,6 +8,7 @@ ghost use Rattle.transforms.specs.Plans.{fits_tag};
 ghost use Rattle.perdoaze_calls.specs.Requests.{Encrypts, Decrypts, EncryptsWithin, DecryptsWithin, Digests, refusal};
 ghost use Rattle.perdoaze_calls.specs.Under.{key_within};
 
+use crate::direct::seal_directly;
 use crate::status::Status;
 use crate::transform::Transform;
 use kc_base::Errno;
@@ -221,8 +222,53 @@ impl Transform {
         }
     }
 
+    /// Encrypts `text` into `out` without a copy of it, and writes the tag behind the ciphertext, where the plan is CBC or authenc over it
+    /// and nothing is refused. Otherwise `out` stays.
+    fn encrypt_directly(
+        &self,
+        iv: &[u8],
+        aad: &[u8],
+        text: &[u8],
+        out: &mut [u8],
+        written: &mut usize,
+    ) -> bool
+        ensures came { IsTrue result → Encrypts self.now iv.now aad.now text.now Status.Done out.old out.new written.new }
+        ensures undone { IsFalse result → out.new ≡ out.old }
+    {
+        let Ok(keyed) = self.ready(aad.len(), text.len()) else {
+            return false;
+        };
+        let tag_size = self.authsize as usize;
+        let size = text.len() + tag_size;
+        if out.len() < size {
+            return false;
+        }
+        if !seal_directly(keyed, iv, aad, text, out, tag_size) {
+            return false;
+        }
+        *written = size;
+        true
+    }
+
     /// Encrypts `text` into `out`, and writes the tag behind the ciphertext.
     pub fn encrypt(
+        &self,
+        iv: &[u8],
+        aad: &[u8],
+        text: &[u8],
+        out: &mut [u8],
+        written: &mut usize,
+    ) -> Status
+        ensures { Encrypts self.now iv.now aad.now text.now result out.old out.new written.new }
+    {
+        if self.encrypt_directly(iv, aad, text, out, written) {
+            return Status::Done;
+        }
+        self.encrypt_copied(iv, aad, text, out, written)
+    }
+
+    /// The same by a copy of the text in `out`, which is encrypted in its place.
+    fn encrypt_copied(
         &self,
         iv: &[u8],
         aad: &[u8],

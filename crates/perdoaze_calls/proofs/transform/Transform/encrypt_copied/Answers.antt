@@ -3,7 +3,7 @@ use Rattle.std_defs.specs.Value.Value.{bytes}
 use Rattle.transforms.specs.InPlace as kept
 use Rattle.transforms.specs.InPlace.{sealing}
 use Rattle.perdoaze_calls.proofs.Answering.{IsKey, has_value, text_copied, behind_copied}
-use Rattle.perdoaze_calls.proofs.transform.Transform.encrypt.Goals as goal
+use Rattle.perdoaze_calls.proofs.transform.Transform.encrypt_copied.Goals as goal
 
 pub returns-in-Ok-seal_front : goal.returns-in-Ok-seal_front
 returns-in-Ok-seal_front c =
