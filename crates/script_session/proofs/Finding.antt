@@ -304,8 +304,7 @@ module _ {ws c : ℕ} {sh lives : List Live} {q v : ℕ} {r : Option RegPass} {b
   bound-arm {r' = r'} s' n label len id spec plan answers answers' (Err e) origin there plans stops =
       let from : State = viewed ws c sh lives q v r b in
       let middle : State = viewed ws c sh lives q v r' b in
-      let d : Option Plan → Dialogue = λ p. binds_plan ws from.walk n label len id spec p in
-      (
+      let d : Option Plan → Dialogue = λ p. binds_plan ws from.walk n label len id spec p in (
         spec,
         subst (λ (x : State). slice_get (registered (known x.registry).seen) id ≡ Some spec) view there,
         stops-at s view (λ x. binds x.workers x.walk n label len (Entry id spec)) s' (further-still s' (sees-asked [] origin) stops.stops)

@@ -6,7 +6,7 @@ use Rattle.kc_base.specs.Handed.{Handed}
 use Rattle.kc_base.specs.declared.callback_list.Callback.{Callback}
 use Rattle.kc_base.specs.declared.callback_list.Callback.TheVariants as callback
 use Rattle.kc_base.specs.declared.error_numbers.Errno.{Errno}
-use Rattle.kc_base.specs.declared.error_numbers.Errno.TheVariants.{EINVAL, E2BIG, EBUSY, EINPROGRESS, ENOENT, ENOSPC}
+use Rattle.kc_base.specs.declared.error_numbers.Errno.TheVariants.{EINVAL, E2BIG, EBUSY, EINPROGRESS, ENOSPC}
 use Rattle.board.specs.declared.entry.BoardEntry.{BoardEntry}
 use Rattle.board.specs.Entries.{entries_of, submissions}
 use Rattle.board.specs.Handing.{HandsOutAtMost, completions}

@@ -1,5 +1,5 @@
 -- Where memory is wanting: what was called are first calls of the dialogue.
-use Rattle.std.proofs.Common.{◌≡◌, ℕ, List, [], ◌∷◌, ◌++◌, Some, None, Option, refl, sym, ap, subst, ◌∙◌, append-nil}
+use Rattle.std.proofs.Common.{◌≡◌, List, [], ◌++◌, refl, sym, ap, subst, ◌∙◌, append-nil}
 use Rattle.board.specs.declared.entry.BoardEntry.{BoardEntry}
 use Rattle.board.specs.Legal.{is_shut}
 use Rattle.reply_text.specs.declared.answers.Answer.{Answer}
@@ -23,7 +23,6 @@ use Rattle.script_session.specs.Holding.{HasSeenMore, StopsIn}
 use Rattle.script_session.specs.Sharing.{GivesFor, StopsGiving}
 use Rattle.script_session.specs.States.{State, SameLocks, Stands}
 use Rattle.script_session.proofs.Arms.{called-sees}
-use Rattle.script_session.proofs.Leading.{leads-same}
 use Rattle.script_session.proofs.Rules.{called-nothing}
 
 -- ---- a session's states

@@ -1,4 +1,4 @@
-use Rattle.std.proofs.Common.{ap, sym, refl, ◌∙◌, [], ◌++◌, map, append_assoc}
+use Rattle.std.proofs.Common.{ap, sym, ◌∙◌, ◌++◌, map, append_assoc}
 use Rattle.board.specs.Handing.{completions}
 use Rattle.dialogues.specs.Walk.{Pipe}
 use Rattle.session_calls.specs.Passes.{known}

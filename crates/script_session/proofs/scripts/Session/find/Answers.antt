@@ -1,8 +1,7 @@
-use Rattle.std.proofs.Common.{refl, ap, ◌∙◌, Ok, Err}
+use Rattle.std.proofs.Common.{ap, ◌∙◌, Ok, Err}
 use Rattle.alg_names.specs.Name.{spelling}
 use Rattle.dialogues.specs.Walk.{live_of}
 use Rattle.script_session.specs.States.{State}
-use Rattle.session_calls.specs.Passes.{known}
 use Rattle.script_session.proofs.Breaking.{or-breaks}
 use Rattle.script_session.proofs.Finding.{finds-as, look-stands, look-stops, found-arm, fault-holds}
 use Rattle.script_session.proofs.Moving.{fails}

@@ -3,7 +3,6 @@ use Rattle.std.proofs.lemmas.Result.{err_from_is_err_and}
 use Rattle.dialogues.specs.Walk.{Live, live_of}
 use Rattle.script_session.specs.Filed.{lives_of, number_of}
 use Rattle.script_session.specs.States.{State}
-use Rattle.session_calls.specs.Passes.{known}
 use Rattle.script_session.proofs.Filed.{nobody-filed}
 use Rattle.script_session.proofs.Finding.{making-created, making-none, makes-arm}
 use Rattle.script_session.proofs.scripts.Session.make_live.Goals as goal

@@ -1,8 +1,6 @@
-use Rattle.std.proofs.Common.{◌∷◌, [], refl, ap, ◌∙◌}
-use Rattle.dialogues.specs.RegistryCalls.{Gets}
+use Rattle.std.proofs.Common.{ap, ◌∙◌}
 use Rattle.dialogues.specs.Walk.{live_of}
 use Rattle.script_session.specs.States.{State}
-use Rattle.session_calls.specs.Passes.{known}
 use Rattle.script_session.proofs.Breaking.{or-breaks, unasked-arm}
 use Rattle.script_session.proofs.Finding.{asks-got, taken-arm, lost-arm}
 use Rattle.script_session.proofs.Moving.{fails}
