@@ -230,17 +230,15 @@ module _ (laws : Laws) (first : State) where
 
     -- what it has called since are first calls of what comes next, whatever others do
     module _ (s' : State) (d : Dialogue) (stop : StopsIn d s s') where
-      abbrev k' : Known RegEntry
-      k' = known s'.registry
-
       makes-first : (next : Dialogue)
           → ((r : List RegCall) (b : List BoardCall) → BeginsBy d r b → BeginsBy next (led.turn.registry ++ r) (led.turn.board ++ b))
-          → MakesFirstAfter next k' (known s'.board)
+          → MakesFirstAfter next (known s'.registry) (known s'.board)
       makes-first next joins = λ r b more from_r calls_b shut.
           let t = led.turn in
-          let further : AreFurther 0 stop.registry k.seen k'.seen = subst (λ n. AreFurther n stop.registry k.seen k'.seen) led.caller stop.further in
-          let none : AsksNothing 0 k'.seen r = (from_r.0, from_r.1, unasked k' from_r.0 (stop.stops.registry.number ∙ led.caller) from_r.2) in
-          let stay = laws.further_stay 0 stop.registry k.seen k'.seen r led.settled further none in
+          let seen = (known s'.registry).seen in
+          let further : AreFurther 0 stop.registry k.seen seen = subst (λ n. AreFurther n stop.registry k.seen seen) led.caller stop.further in
+          let none : AsksNothing 0 seen r = (from_r.0, from_r.1, unasked (known s'.registry) from_r.0 (stop.stops.registry.number ∙ led.caller) from_r.2) in
+          let stay = laws.further_stay 0 stop.registry k.seen seen r led.settled further none in
           let calls_r : reg_calls 0 r ≡ t.registry ++ stay.0 = stay.1.calls_are ∙ ap (λ cs. cs ++ stay.0) led.asked in
           record {
             board = t.board ++ stop.board;
