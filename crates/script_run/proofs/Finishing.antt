@@ -48,7 +48,7 @@ use Rattle.turn_lock.specs.Passes.{knows}
 use Rattle.turn_lock.specs.Turns.{Known, StartsWith, Each, Shows, of, newcomer}
 use Rattle.script_run.specs.declared.errors.RunError.{RunError}
 use Rattle.script_run.specs.declared.errors.RunError.TheVariants.{NoMemory}
-use Rattle.script_run.specs.Answered.{AreAnswered, BeginsWithText, AreAnsweredAfter, AreAnsweredOn, BeginsWithTextAfter, IsShutAlone, ShutsAlone, IsCutOff, IsCutOffAfter, IsCutOffOn, IsBrokenOff, IsBrokenOffAfter, IsBrokenOffOn, LinesTellAfter, MakesFirstAfter, MakesFirstOn, NothingIsBrokenOff, with_next, RunsSource, AnswersSource, RanSource, script_in}
+use Rattle.script_run.specs.Answered.{AreAnswered, BeginsWithText, AreAnsweredAfter, AreAnsweredOn, BeginsWithTextAfter, IsShutAlone, ShutsAlone, IsCutOff, IsCutOffAfter, IsCutOffOn, IsBrokenOff, IsBrokenOffAfter, IsBrokenOffOn, LinesTellAfter, MakesFirstAfter, MakesFirstOn, NothingIsBrokenOff, lines_and_next, RunsSource, AnswersSource, RanSource, script_in}
 use Rattle.script_run.specs.Laws.{Laws, CrewLaws}
 use Rattle.script_run.specs.Endings.{AreCallers, EndsShut as ShutLast, IsShutOnce}
 use Rattle.script_run.specs.Beside.{AreHistories, ScriptRan}
@@ -341,7 +341,7 @@ module _ (workers : ℕ) (p q : Passes Ask) (qb : BoardPass) (s s' : State) (of_
       left = stop.left;
       lines_are = stop.lines_are;
       tells = tells-on stop.first text stop.tells;
-      calls = subst (λ w. MakesFirstOn (with_next w stop.first stop.left) (knows q.registry) (knows q.board)) same-workers (calls-on (with_next s.workers stop.first stop.left) stop.calls);
+      calls = subst (λ w. MakesFirstOn (lines_and_next w stop.first stop.left) (knows q.registry) (knows q.board)) same-workers (calls-on (lines_and_next s.workers stop.first stop.left) stop.calls);
     })
 
     abbrev first-ones : List Line

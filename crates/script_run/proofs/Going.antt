@@ -38,7 +38,7 @@ use Rattle.transforms.specs.declared.ask.Ask.{Ask}
 use Rattle.transforms.specs.declared.request.Finished.{Finished}
 use Rattle.turn_lock.specs.Meeting.{IsOwn}
 use Rattle.turn_lock.specs.Turns.{Known, StartsWith}
-use Rattle.script_run.specs.Answered.{AreAnsweredAfter, BeginsWithTextAfter, IsCutOffAfter, IsBrokenOffAfter, IsBrokenOff, MakesFirstAfter, NothingIsBrokenOff, with_next, lines_turn}
+use Rattle.script_run.specs.Answered.{AreAnsweredAfter, BeginsWithTextAfter, IsCutOffAfter, IsBrokenOffAfter, IsBrokenOff, MakesFirstAfter, NothingIsBrokenOff, lines_and_next, lines_turn}
 use Rattle.script_run.specs.Laws.{Laws}
 use Rattle.script_session.specs.Holding.{HasSeenMore, StopsIn}
 use Rattle.script_run.specs.Runs.{Gains, GoesOn, IsFresh, Writes, Cuts, Breaks, AnswersAndShuts, IsTextAfter, IsFrontAfter, IsByLinesAfter, InTurnAfter}
@@ -253,24 +253,24 @@ module _ (laws : Laws) (first : State) where
 
     -- in the next line
     pub led-stops : (line : Line) (left : List Line) (s' : State) → StopsIn (line_dialogue s.workers s.walk number line) s s'
-        → MakesFirstAfter (with_next first.workers done (line ∷ left)) (known s'.registry) (known s'.board)
+        → MakesFirstAfter (lines_and_next first.workers done (line ∷ left)) (known s'.registry) (known s'.board)
     led-stops line left s' stop =
-        makes-first s' (line_dialogue s.workers s.walk number line) stop (with_next first.workers done (line ∷ left))
+        makes-first s' (line_dialogue s.workers s.walk number line) stop (lines_and_next first.workers done (line ∷ left))
         (λ r b begins.
             let now = subst (λ w. BeginsBy (line_dialogue w s.walk number line) r b) led.goes.locks.workers begins in
             laws.begins_lines first.workers (start 0) s.walk 1 number (done ++ line ∷ []) (line ∷ []) led.turn Done r b (led.leads (line ∷ [])) settled-turn
             (laws.begins_first (line_dialogue first.workers s.walk number line) (λ after. lines_dialogue first.workers after (number + 1) [] Done) r b now))
 
     -- or at the end of input
-    pub led-end_stops : (s' : State) → StopsIn (end s.walk) s s' → MakesFirstAfter (with_next first.workers done []) (known s'.registry) (known s'.board)
+    pub led-end_stops : (s' : State) → StopsIn (end s.walk) s s' → MakesFirstAfter (lines_and_next first.workers done []) (known s'.registry) (known s'.board)
     led-end_stops s' stop =
-        makes-first s' (end s.walk) stop (with_next first.workers done [])
+        makes-first s' (end s.walk) stop (lines_and_next first.workers done [])
         (λ r b begins.
             laws.begins_lines first.workers (start 0) s.walk 1 number done [] led.turn end r b
             (subst (λ ls. Leads first.workers (start 0) 1 ls led.turn s.walk number []) (append-nil done) (led.leads [])) settled-turn begins)
 
     -- or before either
-    pub led-stops_here : (left : List Line) → IsOwn reg_caller k → MakesFirstAfter (with_next first.workers done left) k l
+    pub led-stops_here : (left : List Line) → IsOwn reg_caller k → MakesFirstAfter (lines_and_next first.workers done left) k l
     led-stops_here [] own = led-end_stops s (stops-here laws (end s.walk) s led.caller led.settled own)
     led-stops_here (line ∷ left) own = led-stops line left s (stops-here laws (line_dialogue s.workers s.walk number line) s led.caller led.settled own)
 
@@ -560,7 +560,7 @@ module _ (laws : Laws) (first : State) where
       abbrev BrokenOff : List Line → Type 0
       BrokenOff lines = Gains x z (IsBrokenOffAfter first.workers lines (known s'.registry) (known s'.board))
 
-      pub going-stopped : (left : List Line) → GoesOn s s' → Keeps y z → MakesFirstAfter (with_next first.workers done left) (known s'.registry) (known s'.board) → BrokenOff (done ++ left)
+      pub going-stopped : (left : List Line) → GoesOn s s' → Keeps y z → MakesFirstAfter (lines_and_next first.workers done left) (known s'.registry) (known s'.board) → BrokenOff (done ++ left)
       going-stopped left goes kept calls = (
         text_in t,
         inr (record {
@@ -687,7 +687,7 @@ nothing-broken laws workers lines = inr (record {
   left = lines;
   lines_are = refl;
   tells = record { registry = ([], refl); board = ([], refl); ended = refl; text_is = refl };
-  calls = record { board = []; more = []; calls_are = refl; shut = inl refl; begins = laws.begins_none (with_next workers [] lines) };
+  calls = record { board = []; more = []; calls_are = refl; shut = inl refl; begins = laws.begins_none (lines_and_next workers [] lines) };
 })
 
 pub nothing_broken : NothingIsBrokenOff → (workers : ℕ) (left held : Option (List ℕ)) → IfSome left (λ script. Gains held held (IsBrokenOff workers (script_of script) [] []))

@@ -94,9 +94,9 @@ pub record MakesFirst (dialogue : Dialogue) (r : List RegEntry) (b : List (Board
   pub begins : BeginsBy dialogue (reg_calls 0 r) board
 
 -- lines with the next one of these, or with the end of input where none is left
-abbrev pub with_next : ℕ → List Line → List Line → Dialogue
-with_next workers first [] = script workers (start 0) first
-with_next workers first (line ∷ left) = lines_dialogue workers (start 0) 1 (first ++ line ∷ []) Ends
+abbrev pub lines_and_next : ℕ → List Line → List Line → Dialogue
+lines_and_next workers first [] = script workers (start 0) first
+lines_and_next workers first (line ∷ left) = lines_dialogue workers (start 0) 1 (first ++ line ∷ []) Ends
 
 -- First lines are answered, and their text is written. The next line, or the end of input, isn't answered: the calls are such.
 pub record StopsBehind (Tells : List Line → List ℕ → Type 0) (Calls : List Line → List Line → Type 0) (lines : List Line) (text : List ℕ) : Type 0 where
@@ -109,7 +109,7 @@ pub record StopsBehind (Tells : List Line → List ℕ → Type 0) (Calls : List
 -- The script has made the calls of first lines, and first calls of what comes next.
 abbrev pub IsStopped : ℕ → List Line → List RegEntry → List (BoardEntry Ask) → List ℕ → Type 0
 IsStopped workers lines r b text =
-    StopsBehind (λ first. LinesTell workers first r b) (λ first left. MakesFirst (with_next workers first left) r b) lines text
+    StopsBehind (λ first. LinesTell workers first r b) (λ first left. MakesFirst (lines_and_next workers first left) r b) lines text
 
 -- The text was cut off in a line, or at the end of input, as where a write failed; or it is that of first lines.
 abbrev pub IsBrokenOff : ℕ → List Line → List RegEntry → List (BoardEntry Ask) → List ℕ → Type 0
@@ -176,7 +176,7 @@ MakesFirstOn dialogue k l =
 
 abbrev pub IsStoppedAfter : ℕ → List Line → Known RegEntry → Known (BoardEntry Ask) → List ℕ → Type 0
 IsStoppedAfter workers lines k l text =
-    StopsBehind (λ first. LinesTellAfter workers first k l) (λ first left. MakesFirstAfter (with_next workers first left) k l) lines text
+    StopsBehind (λ first. LinesTellAfter workers first k l) (λ first left. MakesFirstAfter (lines_and_next workers first left) k l) lines text
 
 abbrev pub IsBrokenOffAfter : ℕ → List Line → Known RegEntry → Known (BoardEntry Ask) → List ℕ → Type 0
 IsBrokenOffAfter workers lines k l text = IsCutOffAfter workers lines k l text ⊎ IsStoppedAfter workers lines k l text
@@ -184,7 +184,7 @@ IsBrokenOffAfter workers lines k l text = IsCutOffAfter workers lines k l text �
 abbrev pub IsBrokenOffOn : ℕ → List Line → Known RegEntry → Known (BoardEntry Ask) → List ℕ → Type 0
 IsBrokenOffOn workers lines k l text =
     IsCutOffOn workers lines k l text
-    ⊎ StopsBehind (λ first. LinesTellAfter workers first k l) (λ first left. MakesFirstOn (with_next workers first left) k l) lines text
+    ⊎ StopsBehind (λ first. LinesTellAfter workers first k l) (λ first left. MakesFirstOn (lines_and_next workers first left) k l) lines text
 
 -- a pass has seen entries of others, and then maybe the shut of the board, its own
 abbrev pub ShutsAlone : (BoardEntry Ask → ℕ) → Known (BoardEntry Ask) → Known (BoardEntry Ask) → Type 0
