@@ -12,7 +12,7 @@ use Rattle.dialogues.specs.Dialogues.{Asks, refuses, unless}
 use Rattle.dialogues.specs.Questions.{Look}
 use Rattle.dialogues.specs.Walk.{Walk, Live, either, either_of}
 use Rattle.script_session.specs.Finding.{looks}
-use Rattle.script_session.specs.Holding.{Holds, Stops}
+use Rattle.script_session.specs.Holding.{Holds, StopsIn}
 use Rattle.script_session.specs.States.{State}
 use Rattle.script_session.proofs.Arms.{unless-not, unless-so}
 
@@ -51,8 +51,9 @@ module _ (workers : ℕ) (walk : Walk) (n : ℕ) (label name : List ℕ) (len : 
 -- past its refusals it is a look
 pub looks-arm : {S A : Type 0} (s s' : State) (n : ℕ) (label name text : List ℕ) (len : Option ℕ) (tree : Tree) (answers answers' : List Answer) (result : Result A S)
     → is_some (either_of s.walk label) ≡ false → length s.walk.lives < 4096 → name_read name ≡ Ok tree → is_queue_length len ≡ true → text ≡ name
-    → MatchResult result (λ _. Holds (looks s.workers s.walk n label text len) s s' answers answers') (λ _. Stops s s')
-    → MatchResult result (λ _. Holds (alloc s.workers s.walk n label name len) s s' answers answers') (λ _. Stops s s')
+    → MatchResult result (λ _. Holds (looks s.workers s.walk n label text len) s s' answers answers') (λ _. StopsIn (looks s.workers s.walk n label text len) s s')
+    → MatchResult result (λ _. Holds (alloc s.workers s.walk n label name len) s s' answers answers') (λ _. StopsIn (alloc s.workers s.walk n label name len) s s')
 looks-arm s s' n label name text len tree answers answers' (Ok a) free room read fits same held =
     subst (λ d. Holds d s s' answers answers') (ap (λ t. looks s.workers s.walk n label t len) same ∙ sym (alloc-looks s.workers s.walk n label name len tree free room read fits)) held
-looks-arm s s' n label name text len tree answers answers' (Err e) free room read fits same stops = stops
+looks-arm s s' n label name text len tree answers answers' (Err e) free room read fits same stops =
+    subst (λ d. StopsIn d s s') (ap (λ t. looks s.workers s.walk n label t len) same ∙ sym (alloc-looks s.workers s.walk n label name len tree free room read fits)) stops

@@ -17,7 +17,7 @@ use Rattle.dialogues.specs.Turns.{ended}
 use Rattle.dialogues.specs.Widths.{command_width, width_of}
 use Rattle.transforms.specs.declared.request.Request.{Request}
 use Rattle.session_calls.specs.Passes.{known}
-use Rattle.script_session.specs.Holding.{HoldsBy, Holds, Stops}
+use Rattle.script_session.specs.Holding.{HoldsBy, Holds, StopsIn}
 use Rattle.session_calls.specs.Pipelines.{Called}
 use Rattle.script_session.specs.Running.{IsReady, Replies}
 use Rattle.script_session.specs.Saying.{SaysBy, BreaksOff}
@@ -31,25 +31,25 @@ use Rattle.script_session.proofs.Rules.{asked-nothing, called-nothing}
 use Rattle.std.proofs.Common.{append-nil}
 
 pub command-arm : {S A : Type 0} (result : Result A S) (s s' : State) (n : ℕ) (cmd given : Command) (answers answers' : List Answer) → cmd ≡ given
-    → MatchResult result (λ _. HoldsBy (command_width given) (command_dialogue s.workers s.walk n given) s s' answers answers') (λ _. Stops s s')
-    → MatchResult result (λ _. HoldsBy (command_width cmd) (command_dialogue s.workers s.walk n cmd) s s' answers answers') (λ _. Stops s s')
+    → MatchResult result (λ _. HoldsBy (command_width given) (command_dialogue s.workers s.walk n given) s s' answers answers') (λ _. StopsIn (command_dialogue s.workers s.walk n given) s s')
+    → MatchResult result (λ _. HoldsBy (command_width cmd) (command_dialogue s.workers s.walk n cmd) s s' answers answers') (λ _. StopsIn (command_dialogue s.workers s.walk n cmd) s s')
 command-arm result s s' n cmd given answers answers' is held =
-    subst (λ x. MatchResult result (λ _. HoldsBy (command_width x) (command_dialogue s.workers s.walk n x) s s' answers answers') (λ _. Stops s s')) (sym is) held
+    subst (λ x. MatchResult result (λ _. HoldsBy (command_width x) (command_dialogue s.workers s.walk n x) s s' answers answers') (λ _. StopsIn (command_dialogue s.workers s.walk n x) s s')) (sym is) held
 
 pub line-arm : {S A : Type 0} (result : Result A S) (s s' : State) (n : ℕ) (line given : Line) (answers answers' : List Answer) → line ≡ given
-    → MatchResult result (λ _. HoldsBy (width_of given) (line_dialogue s.workers s.walk n given) s s' answers answers') (λ _. Stops s s')
-    → MatchResult result (λ _. HoldsBy (width_of line) (line_dialogue s.workers s.walk n line) s s' answers answers') (λ _. Stops s s')
+    → MatchResult result (λ _. HoldsBy (width_of given) (line_dialogue s.workers s.walk n given) s s' answers answers') (λ _. StopsIn (line_dialogue s.workers s.walk n given) s s')
+    → MatchResult result (λ _. HoldsBy (width_of line) (line_dialogue s.workers s.walk n line) s s' answers answers') (λ _. StopsIn (line_dialogue s.workers s.walk n line) s s')
 line-arm result s s' n line given answers answers' is held =
-    subst (λ x. MatchResult result (λ _. HoldsBy (width_of x) (line_dialogue s.workers s.walk n x) s s' answers answers') (λ _. Stops s s')) (sym is) held
+    subst (λ x. MatchResult result (λ _. HoldsBy (width_of x) (line_dialogue s.workers s.walk n x) s s' answers answers') (λ _. StopsIn (line_dialogue s.workers s.walk n x) s s')) (sym is) held
 
 pub line-holds : (s s' : State) (n : ℕ) (line given : Line) (answers answers' : List Answer) → line ≡ given → HoldsBy (width_of given) (line_dialogue s.workers s.walk n given) s s' answers answers' → HoldsBy (width_of line) (line_dialogue s.workers s.walk n line) s s' answers answers'
 line-holds s s' n line given answers answers' is held = subst (λ x. HoldsBy (width_of x) (line_dialogue s.workers s.walk n x) s s' answers answers') (sym is) held
 
 pub request-arm-as : {S A : Type 0} (result : Result A S) (s s' : State) (n : ℕ) (label : List ℕ) (asked given : Request) (backlog : _) (answers answers' : List Answer) → asked ≡ given
-    → MatchResult result (λ _. Holds (request s.walk n label asked backlog) s s' answers answers') (λ _. Stops s s')
-    → MatchResult result (λ _. Holds (request s.walk n label given backlog) s s' answers answers') (λ _. Stops s s')
+    → MatchResult result (λ _. Holds (request s.walk n label asked backlog) s s' answers answers') (λ _. StopsIn (request s.walk n label asked backlog) s s')
+    → MatchResult result (λ _. Holds (request s.walk n label given backlog) s s' answers answers') (λ _. StopsIn (request s.walk n label given backlog) s s')
 request-arm-as result s s' n label asked given backlog answers answers' is held =
-    subst (λ x. MatchResult result (λ _. Holds (request s.walk n label x backlog) s s' answers answers') (λ _. Stops s s')) is held
+    subst (λ x. MatchResult result (λ _. Holds (request s.walk n label x backlog) s s' answers answers') (λ _. StopsIn (request s.walk n label x backlog) s s')) is held
 
 -- a line with nothing on it
 pub nothing-holds : (s : State) (answers : List Answer) → Stands s.walk.lives (known s.registry) → Posted s.walk (known s.board) → Holds (Ends s.walk) s s answers answers
@@ -67,18 +67,6 @@ nothing-holds s answers stands posted =
         posted = posted;
       };
       wide = λ wide. wide;
-    }
-
--- what was held is a stop where its text found no memory
-pub holds-stops : {width : ℕ} → (d : Dialogue) (s s' : State) (answers answers' : List Answer) → Posted s.walk (known s.board) → HoldsBy width d s s' answers answers' → Stops s s'
-holds-stops {width} d s s' answers answers' posted held =
-    record {
-      locks = held.locks;
-      registry = record { number = held.done.asked.number; next = held.done.asked.next; seen = (held.done.asked.are.more, held.done.asked.are.goes_on) };
-      board = record {
-        more = record { number = held.done.called.number; next = held.done.called.next; seen = held.done.called.seen };
-        unshut = λ zero_is. held.done.posted.unshut (held.done.called.number ∙ zero_is) ∙ sym (posted.unshut zero_is);
-      };
     }
 
 pub replies : {width : ℕ} → (d : Dialogue) (s s' : State) (answers : List Answer) (text text' : List ℕ) → HoldsBy width d s s' [] answers → text' ≡ text ++ flat_map text_of answers → Replies width d s s' text text'
@@ -113,8 +101,8 @@ answered-ready law width (Err stop) Broken registry board d s s' answers answers
 
 -- ---- lines whose text goes straight into the reply
 
-pub line-replies : {S A : Type 0} (width : ℕ) (result : Result A S) (d : Dialogue) (s s' : State) (text text' : List ℕ) → MatchResult result (λ _. SaysBy width d s s' text text') (λ _. BreaksOff s s' text text')
-    → MatchResult result (λ _. Replies width d s s' text text') (λ _. Stops s s')
+pub line-replies : {S A : Type 0} (width : ℕ) (result : Result A S) (d : Dialogue) (s s' : State) (text text' : List ℕ) → MatchResult result (λ _. SaysBy width d s s' text text') (λ _. BreaksOff d s s' text text')
+    → MatchResult result (λ _. Replies width d s s' text text') (λ _. StopsIn d s s')
 line-replies width (Ok done) d s s' text text' says = replies d s s' says.said text text' says.held says.says
 line-replies width (Err stop) d s s' text text' breaks = breaks.stops
 
@@ -123,23 +111,23 @@ pub line-ready : {S A W : Type 0} → ((k l : Known (BoardEntry Ask)) (pipe : Pi
 line-ready law width (Ok done) Broken registry board d s s' text text' is says = ready law registry board d s s' [] says.said is says.held
 line-ready law width (Err stop) Broken registry board d s s' text text' is breaks = tt
 
-pub line-unwritten : {S A : Type 0} (result : Result A S) (Said : Type 0) (s s' : State) (text text' : List ℕ) → MatchResult result (λ _. Said) (λ _. BreaksOff s s' text text') → OnErr result (text' ≡ text)
-line-unwritten (Ok done) Said s s' text text' says = tt
-line-unwritten (Err stop) Said s s' text text' breaks = breaks.says
+pub line-unwritten : {S A : Type 0} (result : Result A S) (Said : Type 0) (d : Dialogue) (s s' : State) (text text' : List ℕ) → MatchResult result (λ _. Said) (λ _. BreaksOff d s s' text text') → OnErr result (text' ≡ text)
+line-unwritten (Ok done) Said d s s' text text' says = tt
+line-unwritten (Err stop) Said d s s' text text' breaks = breaks.says
 
-pub line-uncalled : {S A : Type 0} (result : Result A S) (Said If : Type 0) (s s' : State) (text text' : List ℕ) → MatchResult result (λ _. Said) (λ _. BreaksOff s s' text text') → OnErr result (If → Called (known s.board) (known s'.board) [])
-line-uncalled (Ok done) Said If s s' text text' says = tt
-line-uncalled (Err stop) Said If s s' text text' breaks = λ so. breaks.called
+pub line-uncalled : {S A : Type 0} (result : Result A S) (Said If : Type 0) (d : Dialogue) (s s' : State) (text text' : List ℕ) → MatchResult result (λ _. Said) (λ _. BreaksOff d s s' text text') → OnErr result (If → Called (known s.board) (known s'.board) [])
+line-uncalled (Ok done) Said If d s s' text text' says = tt
+line-uncalled (Err stop) Said If d s s' text text' breaks = λ so. breaks.called
 
 -- the same of a line whose answers are put together
-pub answers-reply : {S A : Type 0} (width : ℕ) (result : Result A S) (d : Dialogue) (s s' : State) (text text' : List ℕ) → MatchResult result (λ _. SaysBy width d s s' text text') (λ _. Stops s s')
-    → MatchResult result (λ _. Replies width d s s' text text') (λ _. Stops s s')
+pub answers-reply : {S A : Type 0} (width : ℕ) (result : Result A S) (d : Dialogue) (s s' : State) (text text' : List ℕ) → MatchResult result (λ _. SaysBy width d s s' text text') (λ _. StopsIn d s s')
+    → MatchResult result (λ _. Replies width d s s' text text') (λ _. StopsIn d s s')
 answers-reply width (Ok done) d s s' text text' says = replies d s s' says.said text text' says.held says.says
 answers-reply width (Err stop) d s s' text text' stops = stops
 
 -- of a line that is such a one
 pub done-on : {S A : Type 0} (result : Result A S) (s s' : State) (n : ℕ) (line given : Line) (text text' : List ℕ) → line ≡ given
-    → MatchResult result (λ _. Replies (width_of given) (line_dialogue s.workers s.walk n given) s s' text text') (λ _. Stops s s')
-    → MatchResult result (λ _. Replies (width_of line) (line_dialogue s.workers s.walk n line) s s' text text') (λ _. Stops s s')
+    → MatchResult result (λ _. Replies (width_of given) (line_dialogue s.workers s.walk n given) s s' text text') (λ _. StopsIn (line_dialogue s.workers s.walk n given) s s')
+    → MatchResult result (λ _. Replies (width_of line) (line_dialogue s.workers s.walk n line) s s' text text') (λ _. StopsIn (line_dialogue s.workers s.walk n line) s s')
 done-on result s s' n line given text text' is replied =
-    subst (λ x. MatchResult result (λ _. Replies (width_of x) (line_dialogue s.workers s.walk n x) s s' text text') (λ _. Stops s s')) (sym is) replied
+    subst (λ x. MatchResult result (λ _. Replies (width_of x) (line_dialogue s.workers s.walk n x) s s' text text') (λ _. StopsIn (line_dialogue s.workers s.walk n x) s s')) (sym is) replied

@@ -11,7 +11,7 @@ use Rattle.board.specs.declared.entry.BoardEntry.{BoardEntry}
 use Rattle.board.specs.declared.entry.BoardEntry.TheVariants as event
 use Rattle.board.specs.Entries.{entries_of, submissions, front, is_shared, caller_of}
 use Rattle.board.specs.Handing.{AllHandedOutIsDrained, completions}
-use Rattle.board.specs.Legal.{MayManage, LegalBoard}
+use Rattle.board.specs.Legal.{MayManage, LegalBoard, is_shut}
 use Rattle.board.specs.Staying.{IsDrained}
 use Rattle.reply_text.specs.Answers.{text_of}
 use Rattle.reply_text.specs.declared.answers.Answer.{Answer}
@@ -21,25 +21,27 @@ use Rattle.turn_lock.specs.Meeting.{IsOwn}
 use Rattle.turn_lock.specs.Turns.{Known, sees}
 use Rattle.dialogues.specs.BoardCalls.{BoardCall, Goes, Collects, Shuts, origin_of}
 use Rattle.dialogues.specs.Dialogues.{Dialogue, Ends, Posts}
-use Rattle.dialogues.specs.Piping.{lets_go, let_all_go, drains_at_end, drain_all, end, end_said, said_at_end, notice_said}
+use Rattle.dialogues.specs.Piping.{lets_go, let_all_go, drains_at_end, drain_all, drains_own, end, end_said, said_at_end, notice_said}
 use Rattle.dialogues.specs.Questions.{Shut}
 use Rattle.dialogues.specs.Turns.{IsTurn, ended, joined, posting}
 use Rattle.dialogues.specs.Walk.{Walk, Live, Pipe}
+use Rattle.dialogues.proofs.First.{begins-none}
 use Rattle.session_calls.specs.Asking.{Asked}
 use Rattle.session_calls.specs.Passes.{RegPass, BoardPass, known, lock_of}
 use Rattle.session_calls.specs.Pipelines.{KnowsPipe, Owns, Kept, Called, Changed, Drained, IsShut, notice_by}
-use Rattle.session_calls.proofs.Boarding.{kept-same, called-more, starts-same}
+use Rattle.session_calls.proofs.Boarding.{kept-same, called-more}
 use Rattle.script_session.specs.Changing.{Changes}
-use Rattle.script_session.specs.Ending.{LeadsBy, part, Moves, MovesAll, ArePosted, AreAllPaid, IsPaid, place_of, EndsWith, AnswersEnd, AnswersEndBeside, EndsPaid, EndsShut}
-use Rattle.script_session.specs.Holding.{HasSeenMore, SeesOn, Stops}
+use Rattle.script_session.specs.Ending.{LeadsBy, part, Moves, MovesAll, StopsMoving, ArePosted, AreAllPaid, IsPaid, place_of, EndsWith, AnswersEnd, AnswersEndBeside, EndsPaid, EndsShut}
+use Rattle.script_session.specs.Holding.{StopsIn}
 use Rattle.script_session.specs.Keyed.{held_as, delivering}
-use Rattle.script_session.specs.States.{State, SameLocks, Stands, HasPipe, is_at, owners}
+use Rattle.script_session.specs.States.{State, SameLocks, Stands, Posted, HasPipe, is_at, owners}
 use Rattle.script_session.specs.Telling.{callback_said}
-use Rattle.script_session.proofs.Arms.{sees-same, viewed}
+use Rattle.script_session.proofs.Arms.{viewed}
 use Rattle.script_session.proofs.Changing.{IsOn, changes-pipe, changes-kept}
 use Rattle.script_session.proofs.Leading.{leads-same, goes-held, drains-some, drains-same}
 use Rattle.script_session.proofs.Piped.{held-live, said-is, count-is, delivered-live}
-use Rattle.script_session.proofs.Rules.{asked-nothing}
+use Rattle.script_session.proofs.Rules.{asked-nothing, called-nothing}
+use Rattle.script_session.proofs.Stopping.{board-stops, moving-held, moving-then, moving-before, moving-same}
 
 -- ---- a transform that stays as it is
 
@@ -94,6 +96,14 @@ drains-last k l live live' pipe count callbacks answers answers' has drained cou
           (ap (λ x. x ++ end_said live.label count) (sym (said-is pipe.lines callbacks))
           ∙ ap (λ c. map notice_said notices ++ end_said live.label c) (counts ∙ sym (count-is pipe.lines callbacks)));
     }
+
+-- it was drained, and memory was wanting for what it told
+pub drain-stopped : (k l : Known (BoardEntry Ask)) (live : Live) (pipe : Pipe) (callbacks : List (Callback Finished)) → live.pipe ≡ Some pipe → Drained k l pipe callbacks → StopsMoving (drains_at_end live.label live.pipe) k l
+drain-stopped k l live pipe callbacks has drained =
+    let count = completions callbacks in
+    let said : List Answer = map (callback_said pipe.lines) callbacks ++ end_said live.label count in
+    moving-held (drains_at_end live.label live.pipe) live (delivering live count) k l [] said
+    (drains-last k l live (delivering live count) pipe count callbacks [] said has drained refl refl refl)
 
 -- ---- the whole end
 
@@ -184,15 +194,44 @@ module _ {ws c : ℕ} {sh items left : List Live} {q v : ℕ} {r : Option RegPas
             (same ∙ (drains.says ∙ (sym (append-nil drains.said) ∙ ap (λ xs. xs ++ (drains.said ++ [])) lets.says)));
       }
 
--- memory was wanting before anything was called
+-- memory was wanting
+module _ {ws c : ℕ} {sh items left : List Live} {q v : ℕ} {r : Option RegPass} {b b' : Option BoardPass} (s : State) (view : viewed ws c sh items q v r b ≡ s) where
+  own-stops : (rest : Dialogue) → lock_of b' ≡ lock_of b → Stands s.walk.lives (known s.registry) → StopsMoving (drains_own s.walk) (known s.board) (known b') → StopsIn (drains_own s.walk rest) s (viewed ws c sh left q v r b')
+  own-stops rest lock stands stops =
+      board-stops (drains_own s.walk rest) s (viewed ws c sh left q v r b') stops.calls
+      (record { registry = ap (λ (x : State). lock_of x.registry) view; board = lock ∙ ap (λ (x : State). lock_of x.board) view; workers = ap (λ (x : State). x.workers) view; shared = ap (λ (x : State). x.walk.shared) view })
+      (ap (λ (x : State). x.registry) view) stands stops.called stops.unshut (stops.begins rest)
+
+  -- while pipelines were let go
+  pub release-stops : (rest : Dialogue) (first : List Live) → first ≡ items → lock_of b' ≡ lock_of b → Stands s.walk.lives (known s.registry) → StopsMoving (let_all_go first) (known b) (known b') → StopsIn (drains_own s.walk rest) s (viewed ws c sh left q v r b')
+  release-stops rest first at_first lock stands stops =
+      let lives_are : first ≡ s.walk.lives = at_first ∙ ap (λ (x : State). x.walk.lives) view in
+      let here : StopsMoving (let_all_go s.walk.lives) (known s.board) (known b') =
+      subst (λ (x : State). StopsMoving (let_all_go s.walk.lives) (known x.board) (known b')) view (subst (λ ls. StopsMoving (let_all_go ls) (known b) (known b')) lives_are stops) in
+      own-stops rest lock stands (moving-before (let_all_go s.walk.lives) (drain_all s.walk.lives) (known s.board) (known b') here)
+
+  -- while they were drained
+  pub drain-stops : (rest : Dialogue) (first first' second : List Live) (k : Known (BoardEntry Ask)) → first ≡ items → second ≡ first' → lock_of b' ≡ lock_of b → Stands s.walk.lives (known s.registry) → Posted s.walk (known s.board)
+      → MovesAll (let_all_go first) first first' (known b) k [] [] → StopsMoving (drain_all second) k (known b') → StopsIn (drains_own s.walk rest) s (viewed ws c sh left q v r b')
+  drain-stops rest first first' second k at_first at_second lock stands posted lets_at stops =
+      let lives = s.walk.lives in
+      let lives_are : first ≡ lives = at_first ∙ ap (λ (x : State). x.walk.lives) view in
+      let lets : MovesAll (let_all_go lives) lives first' (known s.board) k [] [] =
+      subst (λ (x : State). MovesAll (let_all_go lives) lives first' (known x.board) k [] []) view (subst (λ ls. MovesAll (let_all_go ls) ls first' (known b) k [] []) lives_are lets_at) in
+      let here : StopsMoving (drain_all lives) k (known b') =
+      moving-same (drain_all first') (drain_all lives) k (known b') (λ left. sym (drains-same lives first' left lets.places)) (subst (λ ls. StopsMoving (drain_all ls) k (known b')) at_second stops) in
+      own-stops rest lock stands
+      (moving-then (let_all_go lives) (drain_all lives) (known s.board) k (known b') lets.calls lets.said lets.leads lets.called
+      (λ zero_is. lets.posted.2.unshut (lets.called.number ∙ zero_is) ∙ sym (posted.unshut zero_is)) here)
+
+-- before anything was called
 module _ {ws c : ℕ} {sh items : List Live} {q v : ℕ} {r : Option RegPass} {b : Option BoardPass} (s : State) (view : viewed ws c sh items q v r b ≡ s) where
-  pub stops-here : (left : List Live) → Stops s (viewed ws c sh left q v r b)
-  stops-here left =
-      record {
-        locks = record { registry = ap (λ (x : State). lock_of x.registry) view; board = ap (λ (x : State). lock_of x.board) view; workers = ap (λ (x : State). x.workers) view; shared = ap (λ (x : State). x.walk.shared) view };
-        registry = subst (λ (x : State). HasSeenMore (known x.registry) (known r)) view (record { number = refl; next = refl; seen = starts-same (known r).seen });
-        board = subst (λ (x : State). SeesOn (known x.board) (known b)) view (sees-same (known b));
-      }
+  pub stops-here : (d : Dialogue) (left : List Live) → Stands s.walk.lives (known s.registry) → StopsIn d s (viewed ws c sh left q v r b)
+  stops-here d left stands =
+      board-stops d s (viewed ws c sh left q v r b) []
+      (record { registry = ap (λ (x : State). lock_of x.registry) view; board = ap (λ (x : State). lock_of x.board) view; workers = ap (λ (x : State). x.workers) view; shared = ap (λ (x : State). x.walk.shared) view })
+      (ap (λ (x : State). x.registry) view) stands (subst (λ (x : State). Called (known x.board) (known b) []) view (called-nothing (known b)))
+      (λ zero_is. ap (λ (x : State). is_shut (known x.board).seen) view) (begins-none d)
 
 -- ---- each pipeline is finished
 

@@ -1,6 +1,6 @@
 -- `alloc` past its own refusals: the name is looked up, and what is found is taken into use.
-use Rattle.std.proofs.Common.{◌≡◌, ℕ, ◌+◌, Bool, true, false, cond, List, [], ◌∷◌, ◌++◌, Option, Some, None, Result, Ok, Err, slice_get, refl, sym, ap, subst, ◌∙◌, arith}
-use Rattle.std.specs.Prelude.{◌==◌, not, unwrap_or, MatchResult, OnOk}
+use Rattle.std.proofs.Common.{◌≡◌, inl, inr, ℕ, ◌+◌, Bool, true, false, cond, List, [], ◌∷◌, ◌++◌, Option, Some, None, Result, Ok, Err, slice_get, refl, sym, ap, subst, ◌∙◌, arith}
+use Rattle.std.specs.Prelude.{◌==◌, not, unwrap_or, IsSome, MatchResult, OnOk}
 use Rattle.kc_base.specs.declared.error_numbers.Errno.{Errno}
 use Rattle.kc_base.specs.declared.error_numbers.Errno.TheVariants.{EAGAIN, EINVAL}
 use Rattle.alg_registry.specs.declared.spec.Spec.{Spec}
@@ -11,25 +11,31 @@ use Rattle.board.specs.declared.entry.Shape.{Shape}
 use Rattle.reply_text.specs.declared.answers.Answer.{Answer}
 use Rattle.reply_text.specs.declared.answers.Answer.TheVariants as said
 use Rattle.templates.specs.declared.driver_plans.Plan.{Plan}
-use Rattle.templates.specs.Looking.{Entry, Fault}
+use Rattle.templates.specs.Looking.{Found, Entry, Fault}
 use Rattle.transforms.specs.declared.ask.Ask.{Ask}
 use Rattle.turn_lock.specs.Turns.{Known}
 use Rattle.dialogues.specs.Names.{plan_for}
 use Rattle.dialogues.specs.RegistryCalls.{RegCall, Looks, Gets}
 use Rattle.dialogues.specs.Allocating.{binds, binds_plan, creates, is_chained, shape_for, new_pipe, new_live, and_live}
+use Rattle.dialogues.specs.BoardCalls.{BoardCall, Creates}
 use Rattle.dialogues.specs.Dialogues.{Dialogue, says, unless}
+use Rattle.dialogues.specs.First.{BeginsBy}
+use Rattle.dialogues.proofs.First.{begins-none, begins-posts}
 use Rattle.dialogues.specs.Questions.{Look, Get, Create}
 use Rattle.dialogues.specs.Walk.{Walk, Live, Pipe}
-use Rattle.session_calls.specs.Asking.{Asked, Asks, SeesMore, Finds}
+use Rattle.session_calls.specs.Asking.{Asked, Asks, SeesMore, SeesLook, Finds}
 use Rattle.session_calls.specs.Passes.{RegPass, BoardPass, known, lock_of}
+use Rattle.session_calls.specs.Pipelines.{Called}
 use Rattle.session_calls.proofs.Boarding.{starts-same, starts-trans}
+use Rattle.script_session.specs.Breaking.{Breaks, CallsOn, StopsMaking}
 use Rattle.script_session.specs.Creating.{Created, CreatedLive}
 use Rattle.script_session.specs.Finding.{looks, MakesLive, AddsLive}
-use Rattle.script_session.specs.Holding.{HasSeenMore, SeesOn, Done, Holds, Stops}
+use Rattle.script_session.specs.Holding.{HasSeenMore, SeesOn, Done, Holds, Stops, StopsIn}
 use Rattle.script_session.specs.States.{State, Stands, Posted, uses}
 use Rattle.script_session.proofs.Arms.{viewed, sees-same, called-sees}
 use Rattle.script_session.proofs.Creating.{created-posted}
-use Rattle.script_session.proofs.Rules.{says-done, asks-done, posts-done, asked-more}
+use Rattle.script_session.proofs.Breaking.{breaks-asked-none, breaks-asks, breaks-board, breaks-further, breaks-look, breaks-of, calls-on-sees, stops-at, stops-held, unasked-arm}
+use Rattle.script_session.proofs.Rules.{called-nothing, says-done, asks-done, posts-done, asked-more}
 use Rattle.script_session.proofs.Standing.{stands-more}
 use Rattle.script_session.proofs.Widths.{wide-created}
 
@@ -123,12 +129,28 @@ made-stops label len id spec plan s s' made =
       board = created-live-sees s.workers label len id spec plan made.live (known s.board) (known s'.board) made.created;
     }
 
+-- the making of the pipeline, if there is one, is the first call of a dialogue that makes it
+created-called : (shape : Option Shape) (pipe : Option Pipe) (k l : Known (BoardEntry Ask)) → Created shape pipe k l
+    → (board : List BoardCall) × Called k l board × ((rest : Option Pipe → Dialogue) → BeginsBy (creates shape rest) [] board)
+created-called None pipe k l created = ([], subst (λ x. Called k x []) (sym created.1) (called-nothing k), λ rest. begins-none (rest None))
+created-called (Some shape) pipe k l created = (
+  Creates created.0 shape ∷ [],
+  created.2.changed.called,
+  λ rest. begins-posts (Create shape) created.0 (λ number. rest (Some (new_pipe number shape))) [] [] (begins-none (rest (Some (new_pipe created.0 shape)))),
+)
+
+made-making : (label : List ℕ) (len : Option ℕ) (id : ℕ) (spec : Spec) (plan : Plan) (s s' : State) → MakesLive label len id spec plan s s'
+    → StopsMaking (shape_for s.workers (is_chained spec.driver) spec.wrap len) s s'
+made-making label len id spec plan s s' made =
+    let called = created-called (shape_for s.workers (is_chained spec.driver) spec.wrap len) made.created.0 (known s.board) (known s'.board) made.created.2 in
+    record { stops = made-stops label len id spec plan s s' made; unasked = ap (λ (x : State). x.registry) made.added; board = called.0; called = called.1; begins = called.2 }
+
 -- it is answered
 pub made-said : {S A : Type 0} (n : ℕ) (label : List ℕ) (len : Option ℕ) (id : ℕ) (spec : Spec) (plan : Plan) (s s' : State) (answers answers' : List Answer) (result : Result A S)
     → MakesLive label len id spec plan s s' → OnOk result (answers' ≡ answers ++ said.Made n spec.driver ∷ [])
-    → MatchResult result (λ _. AddsLive n label len id spec plan s s' answers answers') (λ _. Stops s s')
+    → MatchResult result (λ _. AddsLive n label len id spec plan s s' answers answers') (λ _. StopsMaking (shape_for s.workers (is_chained spec.driver) spec.wrap len) s s')
 made-said n label len id spec plan s s' answers answers' (Ok a) made e = record { made = made; says = e }
-made-said n label len id spec plan s s' answers answers' (Err stop) made e = made-stops label len id spec plan s s' made
+made-said n label len id spec plan s s' answers answers' (Err stop) made e = made-making label len id spec plan s s' made
 
 -- ---- arms
 
@@ -136,6 +158,15 @@ made-said n label len id spec plan s s' answers answers' (Err stop) made e = mad
 abbrev pub Bound : State → State → ℕ → List ℕ → Option ℕ → ℕ → List Answer → List Answer → Type 0
 Bound s s' n label len id answers answers' =
     (spec : Spec) × (slice_get (registered (known s.registry).seen) id ≡ Some spec) × Holds (binds s.workers s.walk n label len (Entry id spec)) s s' answers answers'
+
+-- the same where memory was wanting
+abbrev pub BoundStops : State → State → ℕ → List ℕ → Option ℕ → ℕ → Type 0
+BoundStops s s' n label len id =
+    (spec : Spec) × (slice_get (registered (known s.registry).seen) id ≡ Some spec) × StopsIn (binds s.workers s.walk n label len (Entry id spec)) s s'
+
+some-of : {A : Type 0} (o : Option A) → IsSome o → (a : A) × (o ≡ Some a)
+some-of (Some a) is = (a, refl)
+some-of None is = absurd (let e = is in cc)
 
 some-same : {A : Type 0} (a b : A) (o : Option A) → o ≡ Some a → o ≡ Some b → a ≡ b
 some-same a b o first second = ap (λ x. unwrap_or x a) (sym first ∙ second)
@@ -163,6 +194,29 @@ module _ {ws c : ℕ} {sh lives : List Live} {q v : ℕ} {r : Option RegPass} {b
         board = subst (λ (x : State). SeesOn (known x.board) (known s'.board)) view stops.board;
       }
 
+  -- a pipeline was to be made, and wasn't
+  pub making-none : {b' : Option BoardPass} (lives' : List Live) (shape : Option Shape) → lock_of b' ≡ lock_of b → CallsOn (known b) (known b') [] → StopsMaking shape s (viewed ws c sh lives' q v r b')
+  making-none {b'} lives' shape lock on = record {
+    stops = further-on lives' lock (calls-on-sees (known b) (known b') [] on);
+    unasked = ap (λ (x : State). x.registry) view;
+    board = [];
+    called = subst (λ (x : State). Called (known x.board) (known b') []) view on.called;
+    begins = λ rest. begins-none (creates shape rest);
+  }
+
+  -- or it was
+  pub making-created : {b' : Option BoardPass} (lives' : List Live) (label : List ℕ) (len : Option ℕ) (id : ℕ) (spec : Spec) (plan : Plan) (live : Live) → lock_of b' ≡ lock_of b
+      → CreatedLive ws label len id spec plan live (known b) (known b') → StopsMaking (shape_for s.workers (is_chained spec.driver) spec.wrap len) s (viewed ws c sh lives' q v r b')
+  making-created {b'} lives' label len id spec plan live lock created =
+      let called = created-called (shape_for ws (is_chained spec.driver) spec.wrap len) created.0 (known b) (known b') created.2 in
+      record {
+        stops = further-on lives' lock (created-live-sees ws label len id spec plan live (known b) (known b') created);
+        unasked = ap (λ (x : State). x.registry) view;
+        board = called.0;
+        called = subst (λ (x : State). Called (known x.board) (known b') called.0) view called.1;
+        begins = subst (λ (x : State). (rest : Option Pipe → Dialogue) → BeginsBy (creates (shape_for x.workers (is_chained spec.driver) spec.wrap len) rest) [] called.0) view called.2;
+      }
+
   -- a transform was made and added
   pub makes-arm : (b' : Option BoardPass) (items : List Live) (label : List ℕ) (len : Option ℕ) (id : ℕ) (spec : Spec) (plan : Plan) (live : Live)
       → lock_of b' ≡ lock_of b → CreatedLive ws label len id spec plan live (known b) (known b') → items ≡ lives ++ live ∷ [] → MakesLive label len id spec plan s (viewed ws c sh items q v r b')
@@ -186,17 +240,29 @@ module _ {ws c : ℕ} {sh lives : List Live} {q v : ℕ} {r : Option RegPass} {b
             (taken-done ws from.walk n label len id spec plan pipe (known r) (known r2) (known b) (known b') answers answers' got.asked created stands0 posted0 e);
       }) stands posted
 
+  taken-stops : {r2 : Option RegPass} (s' : State) (n : ℕ) (label : List ℕ) (len : Option ℕ) (id : ℕ) (spec : Spec) (plan : Plan) → Asks r r2 (Gets id true ∷ [])
+      → StopsMaking (shape_for ws (is_chained spec.driver) spec.wrap len) (viewed ws c sh lives q v r2 b) s' → StopsIn (binds_plan s.workers s.walk n label len id spec (Some plan)) s s'
+  taken-stops {r2} s' n label len id spec plan got making =
+      let walk : Walk = record { client = c; shared = sh; lives = lives; requests = q; bytes = v } in
+      let next = after-get ws walk n label len id spec plan in
+      let rest : Option Pipe → Dialogue = λ pipe. says (and_live walk (new_live label id plan pipe)) (said.Made n spec.driver) in
+      let then : Breaks (next true) (known r2) (known b) (known s'.registry) (known s'.board) =
+      subst (λ x. Breaks (next true) (known r2) (known b) (known x) (known s'.board)) (sym making.unasked)
+      (breaks-board (next true) (known r2) (known b) (known s'.board) making.board got.asked.caller.own making.called (making.begins rest)) in
+      stops-at s view (λ x. binds_plan x.workers x.walk n label len id spec (Some plan)) s' (further-still s' (sees-asked (Gets id true ∷ []) got) making.stops)
+      (breaks-asks (known r) (known r2) (known s'.registry) (known b) (known s'.board) (Get id) true next got.asked then)
+
   -- the same where another call made the transform and added it
   pub taken-arm : {S A : Type 0} {r2 : Option RegPass} (s' : State) (n : ℕ) (label : List ℕ) (len : Option ℕ) (id : ℕ) (spec : Spec) (plan : Plan) (answers answers' : List Answer) (result : Result A S)
       → Asks r r2 (Gets id true ∷ []) → Stands s.walk.lives (known s.registry) → Posted s.walk (known s.board)
-      → MatchResult result (λ _. AddsLive n label len id spec plan (viewed ws c sh lives q v r2 b) s' answers answers') (λ _. Stops (viewed ws c sh lives q v r2 b) s')
-      → MatchResult result (λ _. Holds (binds_plan s.workers s.walk n label len id spec (Some plan)) s s' answers answers') (λ _. Stops s s')
+      → MatchResult result (λ _. AddsLive n label len id spec plan (viewed ws c sh lives q v r2 b) s' answers answers') (λ _. StopsMaking (shape_for ws (is_chained spec.driver) spec.wrap len) (viewed ws c sh lives q v r2 b) s')
+      → MatchResult result (λ _. Holds (binds_plan s.workers s.walk n label len id spec (Some plan)) s s' answers answers') (λ _. StopsIn (binds_plan s.workers s.walk n label len id spec (Some plan)) s s')
   taken-arm {r2 = r2} s' n label len id spec plan answers answers' (Ok a) got stands posted adds =
       let made = adds.made in
       subst (λ x. Holds (binds_plan s.workers s.walk n label len id spec (Some plan)) s x answers answers') (sym made.added)
       (taken-holds {r2 = r2} {b' = s'.board} n label len id spec plan made.created.0 answers answers' got made.lock made.created.2
       (ap (λ l. lives ++ l ∷ []) made.created.1) stands posted adds.says)
-  taken-arm s' n label len id spec plan answers answers' (Err e) got stands posted stops = further-still s' (sees-asked (Gets id true ∷ []) got) stops
+  taken-arm s' n label len id spec plan answers answers' (Err e) got stands posted making = taken-stops s' n label len id spec plan got making
 
   pub lost-arm : {r2 : Option RegPass} (n : ℕ) (label : List ℕ) (len : Option ℕ) (id : ℕ) (spec : Spec) (plan : Plan) (answers answers' : List Answer)
       → Asks r r2 (Gets id false ∷ []) → Stands s.walk.lives (known s.registry) → Posted s.walk (known s.board) → answers' ≡ answers ++ said.Refused n EAGAIN ∷ []
@@ -220,8 +286,9 @@ module _ {ws c : ℕ} {sh lives : List Live} {q v : ℕ} {r : Option RegPass} {b
   -- what an entry's plan comes to
   pub bound-arm : {S A : Type 0} {r' : Option RegPass} (s' : State) (n : ℕ) (label : List ℕ) (len : Option ℕ) (id : ℕ) (spec : Spec) (plan : Plan) (answers answers' : List Answer) (result : Result A S)
       → Asks r r' [] → slice_get (registered (known r).seen) id ≡ Some spec → plan_for spec len ≡ Some plan
-      → MatchResult result (λ _. Holds (binds_plan ws (record { client = c; shared = sh; lives = lives; requests = q; bytes = v }) n label len id spec (Some plan)) (viewed ws c sh lives q v r' b) s' answers answers') (λ _. Stops (viewed ws c sh lives q v r' b) s')
-      → MatchResult result (λ _. Bound s s' n label len id answers answers') (λ _. Stops s s')
+      → MatchResult result (λ _. Holds (binds_plan ws (record { client = c; shared = sh; lives = lives; requests = q; bytes = v }) n label len id spec (Some plan)) (viewed ws c sh lives q v r' b) s' answers answers')
+      (λ _. StopsIn (binds_plan ws (record { client = c; shared = sh; lives = lives; requests = q; bytes = v }) n label len id spec (Some plan)) (viewed ws c sh lives q v r' b) s')
+      → MatchResult result (λ _. Bound s s' n label len id answers answers') (λ _. BoundStops s s' n label len id)
   bound-arm {r' = r'} s' n label len id spec plan answers answers' (Ok a) origin there plans held =
       let from : State = viewed ws c sh lives q v r b in
       subst (λ (x : State). Bound x s' n label len id answers answers') view (
@@ -234,7 +301,22 @@ module _ {ws c : ℕ} {sh lives : List Live} {q v : ℕ} {r : Option RegPass} {b
               (asked-none-done (binds_plan ws from.walk n label len id spec (Some plan)) (known r) (known r') (known s'.registry) (known b) (known s'.board) s'.walk answers answers' origin.asked held.done);
         },
       )
-  bound-arm s' n label len id spec plan answers answers' (Err e) origin there plans stops = further-still s' (sees-asked [] origin) stops
+  bound-arm {r' = r'} s' n label len id spec plan answers answers' (Err e) origin there plans stops =
+      let from : State = viewed ws c sh lives q v r b in
+      let middle : State = viewed ws c sh lives q v r' b in
+      let d : Option Plan → Dialogue = λ p. binds_plan ws from.walk n label len id spec p in (
+        spec,
+        subst (λ (x : State). slice_get (registered (known x.registry).seen) id ≡ Some spec) view there,
+        stops-at s view (λ x. binds x.workers x.walk n label len (Entry id spec)) s' (further-still s' (sees-asked [] origin) stops.stops)
+            (subst (λ p. Breaks (d p) (known r) (known b) (known s'.registry) (known s'.board)) (sym plans)
+            (breaks-asked-none (d (Some plan)) (known r) (known r') (known s'.registry) (known b) (known s'.board) origin.asked (breaks-of (d (Some plan)) middle s' stops))),
+      )
+
+  -- memory was wanting before
+  pub unbound-arm : {r' : Option RegPass} (n : ℕ) (label : List ℕ) (len : Option ℕ) (id : ℕ) → Asks r r' [] → IsSome (slice_get (registered (known s.registry).seen) id) → BoundStops s (viewed ws c sh lives q v r' b) n label len id
+  unbound-arm {r'} n label len id origin seen =
+      let there = some-of (slice_get (registered (known s.registry).seen) id) seen in
+      (there.0, there.1, unasked-arm s view (binds s.workers s.walk n label len (Entry id there.0)) origin)
 
   pub unplanned-arm : {r' : Option RegPass} (n : ℕ) (label : List ℕ) (len : Option ℕ) (id : ℕ) (spec : Spec) (answers answers' : List Answer)
       → Asks r r' [] → slice_get (registered (known r).seen) id ≡ Some spec → plan_for spec len ≡ None
@@ -257,6 +339,29 @@ module _ {ws c : ℕ} {sh lives : List Live} {q v : ℕ} {r : Option RegPass} {b
         },
       )) stands posted
 
+  pub unplanned-or : {S A : Type 0} {r' : Option RegPass} (n : ℕ) (label : List ℕ) (len : Option ℕ) (id : ℕ) (spec : Spec) (answers answers' : List Answer) (result : Result A S)
+      → Asks r r' [] → slice_get (registered (known r).seen) id ≡ Some spec → plan_for spec len ≡ None
+      → Stands s.walk.lives (known s.registry) → Posted s.walk (known s.board) → OnOk result (answers' ≡ answers ++ said.Refused n EINVAL ∷ [])
+      → MatchResult result (λ _. Bound s (viewed ws c sh lives q v r' b) n label len id answers answers') (λ _. BoundStops s (viewed ws c sh lives q v r' b) n label len id)
+  unplanned-or n label len id spec answers answers' (Ok a) origin there plans stands posted e = unplanned-arm n label len id spec answers answers' origin there plans stands posted e
+  unplanned-or {r' = r'} n label len id spec answers answers' (Err e) origin there plans stands posted says =
+      let to : State = viewed ws c sh lives q v r' b in
+      let all = answers ++ said.Refused n EINVAL ∷ [] in
+      let bound = unplanned-arm n label len id spec answers all origin there plans stands posted refl in
+      (bound.0, bound.1, stops-held (binds s.workers s.walk n label len (Entry id bound.0)) s to answers all bound.2 posted)
+
+  -- memory was wanting for the look
+  pub look-stops : {r' : Option RegPass} (n : ℕ) (label text : List ℕ) (len : Option ℕ) → SeesLook r r' text → StopsIn (looks s.workers s.walk n label text len) s (viewed ws c sh lives q v r' b)
+  look-stops {r'} n label text len (inl calls) =
+      let d : State → Dialogue = λ x. looks x.workers x.walk n label text len in
+      stops-at s view d (viewed ws c sh lives q v r' b) (further lives calls.more refl (sees-same (known b)))
+      (breaks-further (d (viewed ws c sh lives q v r b)) (known r) (known r') (known b) calls.further calls.own)
+  look-stops {r'} n label text len (inr looked) =
+      let walk : Walk = record { client = c; shared = sh; lives = lives; requests = q; bytes = v } in
+      let calls = looked.1 in
+      stops-at s view (λ x. looks x.workers x.walk n label text len) (viewed ws c sh lives q v r' b) (further lives calls.more refl (sees-same (known b)))
+      (breaks-look (known r) (known r') (known b) text looked.0 (λ found. binds ws walk n label len found) calls.further calls.own)
+
   -- the look came to an entry
   pub look-stands : {r' : Option RegPass} (text : List ℕ) (id : ℕ) → Stands s.walk.lives (known s.registry) → Finds r r' text (Ok id) → Stands lives (known r')
   look-stands {r'} text id stands found =
@@ -278,11 +383,24 @@ module _ {ws c : ℕ} {sh lives : List Live} {q v : ℕ} {r : Option RegPass} {b
             (subst (λ sp. Done (binds ws from.walk n label len (Entry id sp)) (known r') (known b) (known s'.registry) (known s'.board) s'.walk answers answers') same held.done);
       })
 
+  found-stops : {r' : Option RegPass} (s' : State) (n : ℕ) (label text : List ℕ) (len : Option ℕ) (id : ℕ) → Finds r r' text (Ok id)
+      → BoundStops (viewed ws c sh lives q v r' b) s' n label len id → StopsIn (looks s.workers s.walk n label text len) s s'
+  found-stops {r'} s' n label text len id found bound =
+      let walk : Walk = record { client = c; shared = sh; lives = lives; requests = q; bytes = v } in
+      let middle : State = viewed ws c sh lives q v r' b in
+      let spec = found.0 in
+      let same : bound.0 ≡ spec = some-same bound.0 spec (slice_get (registered (known r').seen) id) bound.1 found.2 in
+      let next : Found → Dialogue = λ f. binds ws walk n label len f in
+      let then : Breaks (next (Entry id spec)) (known r') (known b) (known s'.registry) (known s'.board) =
+      subst (λ sp. Breaks (next (Entry id sp)) (known r') (known b) (known s'.registry) (known s'.board)) same (breaks-of (next (Entry id bound.0)) middle s' bound.2) in
+      stops-at s view (λ x. looks x.workers x.walk n label text len) s' (further-still s' (sees-asked (Looks text (Some (Entry id spec)) ∷ []) found.1) bound.2.stops)
+      (breaks-asks (known r) (known r') (known s'.registry) (known b) (known s'.board) (Look text) (Entry id spec) next found.1.asked then)
+
   pub found-arm : {S A : Type 0} {r' : Option RegPass} (s' : State) (n : ℕ) (label text : List ℕ) (len : Option ℕ) (id : ℕ) (answers answers' : List Answer) (result : Result A S) → Finds r r' text (Ok id)
-      → MatchResult result (λ _. Bound (viewed ws c sh lives q v r' b) s' n label len id answers answers') (λ _. Stops (viewed ws c sh lives q v r' b) s')
-      → MatchResult result (λ _. Holds (looks s.workers s.walk n label text len) s s' answers answers') (λ _. Stops s s')
+      → MatchResult result (λ _. Bound (viewed ws c sh lives q v r' b) s' n label len id answers answers') (λ _. BoundStops (viewed ws c sh lives q v r' b) s' n label len id)
+      → MatchResult result (λ _. Holds (looks s.workers s.walk n label text len) s s' answers answers') (λ _. StopsIn (looks s.workers s.walk n label text len) s s')
   found-arm s' n label text len id answers answers' (Ok a) found bound = found-holds s' n label text len id answers answers' found bound
-  found-arm s' n label text len id answers answers' (Err e) found stops = further-still s' (sees-asked (Looks text (Some (Entry id found.0)) ∷ []) found.1) stops
+  found-arm s' n label text len id answers answers' (Err e) found bound = found-stops s' n label text len id found bound
 
   -- the look came to an error number
   pub fault-holds : {r' : Option RegPass} (n : ℕ) (label text : List ℕ) (len : Option ℕ) (errno : Errno) (answers answers' : List Answer) → Finds r r' text (Err errno)

@@ -2,7 +2,7 @@
 use Rattle.std.proofs.Common.{◌≡◌, ℕ, true, false, List, [], ◌∷◌, ◌++◌, length, Option, Some, None, sym, ap, subst, ◌∙◌}
 use Rattle.std.specs.Prelude.{nat_lt}
 use Rattle.kc_base.specs.declared.error_numbers.Errno.{Errno}
-use Rattle.kc_base.specs.declared.error_numbers.Errno.TheVariants.{EBUSY, ENOENT}
+use Rattle.kc_base.specs.declared.error_numbers.Errno.TheVariants.{EBUSY}
 use Rattle.alg_registry.specs.declared.entry.RegEntry.{RegEntry}
 use Rattle.board.specs.declared.entry.BoardEntry.{BoardEntry}
 use Rattle.reply_text.specs.declared.answers.Answer.{Answer}

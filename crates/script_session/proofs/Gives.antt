@@ -19,22 +19,24 @@ use Rattle.turn_lock.specs.Turns.{Known, StartsWith}
 use Rattle.dialogues.specs.BoardCalls.{BoardCall, Submits, Enqueues, asked_by}
 use Rattle.dialogues.specs.Allocating.{lists_beside}
 use Rattle.dialogues.specs.Dialogues.{Dialogue, says, for_live, with_either}
+use Rattle.dialogues.specs.First.{BeginsBy}
 use Rattle.dialogues.specs.Requesting.{requests_in, hands_in}
 use Rattle.dialogues.specs.Turns.{Turn, IsTurn}
 use Rattle.dialogues.specs.Walk.{Walk, Live, Pipe, is_of, live_of, shared_of, either, either_of, with_live, replaced}
 use Rattle.session_calls.specs.Pipelines.{Kept, entered_asks, with_ask}
 use Rattle.session_calls.specs.Sharing.{Gave, SharedStaysKnown}
 use Rattle.session_calls.specs.Passes.{RegPass, BoardPass, known, lock_of}
-use Rattle.session_calls.proofs.Boarding.{kept-same, starts-same}
+use Rattle.session_calls.proofs.Boarding.{kept-same}
 use Rattle.script_session.specs.Changing.{counting, asks_if}
-use Rattle.script_session.specs.Holding.{Done, HasSeenMore, SeesOn, Holds, Stops}
+use Rattle.script_session.specs.Holding.{Done, Holds, StopsIn}
 use Rattle.script_session.specs.Offering.{IsAnswerOf, offer_call, entered_said}
-use Rattle.script_session.specs.Sharing.{OffersShared, GivesFor}
+use Rattle.script_session.specs.Sharing.{OffersShared, GivesFor, StopsGiving}
 use Rattle.script_session.specs.States.{State, counted, HasPipe, HasShared, AreShared, MadeWide, Posted, Stands}
 use Rattle.script_session.proofs.Arms.{viewed}
 use Rattle.script_session.proofs.Changing.{IsOn}
 use Rattle.script_session.proofs.Piped.{answered, counting-none, request-enters, turn_with, accepted-is}
 use Rattle.script_session.proofs.Rules.{asked-nothing}
+use Rattle.script_session.proofs.Stopping.{board-stops, giving-held}
 use Rattle.script_session.proofs.Widths.{wide-gave}
 
 -- ---- the transform of a label
@@ -183,6 +185,14 @@ gives-entered k l live pipe n ask backlog answer answers answers' has manned off
       says = e;
     }
 
+-- memory was wanting for what is said
+pub gives-stopped : (k l : Known (BoardEntry Ask)) (live : Live) (pipe : Pipe) (n : ℕ) (ask : Ask) (backlog : Bool) (answer : Entered)
+    → live.pipe ≡ Some pipe → pipe.unmanned ≡ false → OffersShared k l pipe ask backlog answer → IsAllowed ask_size k.seen k.number ask
+    → StopsGiving (λ walk. requests_in walk n live (asked_by ask) backlog live.pipe) live k l
+gives-stopped k l live pipe n ask backlog answer has manned offered allowed =
+    giving-held (λ walk. requests_in walk n live (asked_by ask) backlog live.pipe) live k l (entered_asks ask answer) [] (entered_said n answer ∷ [])
+    (gives-entered k l live pipe n ask backlog answer [] (entered_said n answer ∷ []) has manned offered allowed refl)
+
 -- ---- a session's request
 
 module _ {ws c q v : ℕ} {sh lives : List Live} {r : Option RegPass} {b : Option BoardPass} (s : State) (view : viewed ws c sh lives q v r b ≡ s) (label name : List ℕ) (same : name ≡ label) where
@@ -218,22 +228,27 @@ module _ {ws c q v : ℕ} {sh lives : List Live} {r : Option RegPass} {b : Optio
             (subst (λ (x : State). Done whole (known s.registry) (known s.board) (known x.registry) (known b') (counting s.walk asks) answers answers') (sym view) done);
       }
 
+  -- the dialogue of the whole line
+  whole-is : (n : ℕ) (live : Live) (rest : Walk → Live → Dialogue) (d : Walk → Dialogue) → Some live ≡ find (is_of name) sh → live_of s.walk label ≡ None → rest s.walk live ≡ d s.walk → with_either s.walk n label (rest s.walk) ≡ d s.walk
+  whole-is n live rest d at none same_d = ap (λ o. for_live s.walk n o ENOENT (rest s.walk)) (either-shared s.walk label (Some live) none (shared-at (Some live) at)) ∙ same_d
+
   -- memory was wanting
-  pub gives-stops : (b' : Option BoardPass) → lock_of b' ≡ lock_of b → SeesOn (known b) (known b') → Stops s (viewed ws c sh lives q v r b')
-  gives-stops b' lock more =
-      record {
-        locks = record { registry = ap (λ (x : State). lock_of x.registry) view; board = lock ∙ ap (λ (x : State). lock_of x.board) view; workers = ap (λ (x : State). x.workers) view; shared = ap (λ (x : State). x.walk.shared) view };
-        registry = subst (λ (x : State). HasSeenMore (known x.registry) (known r)) view (record { number = refl; next = refl; seen = starts-same (known r).seen });
-        board = subst (λ (x : State). SeesOn (known x.board) (known b')) view more;
-      }
+  pub gives-stops : (n : ℕ) (live : Live) (rest : Walk → Live → Dialogue) (d : Walk → Dialogue) (b' : Option BoardPass) → Some live ≡ find (is_of name) sh → live_of s.walk label ≡ None → rest s.walk live ≡ d s.walk
+      → lock_of b' ≡ lock_of b → Stands s.walk.lives (known s.registry) → Posted s.walk (known s.board) → StopsGiving d live (known b) (known b') → StopsIn (with_either s.walk n label (rest s.walk)) s (viewed ws c sh lives q v r b')
+  gives-stops n live rest d b' at none same_d lock stands posted stops =
+      let here : StopsGiving d live (known s.board) (known b') = subst (λ (x : State). StopsGiving d live (known x.board) (known b')) view stops in
+      let whole : Dialogue = with_either s.walk n label (rest s.walk) in
+      board-stops whole s (viewed ws c sh lives q v r b') here.calls
+      (record { registry = ap (λ (x : State). lock_of x.registry) view; board = lock ∙ ap (λ (x : State). lock_of x.board) view; workers = ap (λ (x : State). x.workers) view; shared = ap (λ (x : State). x.walk.shared) view })
+      (ap (λ (x : State). x.registry) view) stands here.called here.unshut
+      (subst (λ x. BeginsBy x [] here.calls) (sym (whole-is n live rest d at none same_d)) (here.begins s.walk (ap (live_of s.walk) (label-at live at) ∙ none) posted))
 
   -- a request that is counted where it was accepted
   pub give-arm : (n : ℕ) (live : Live) (rest : Walk → Live → Dialogue) (d : Walk → Dialogue) (s' : State) (b' : Option BoardPass) (accepted : Bool) (size : ℕ) (ask : Ask) (answers answers' : List Answer) → Some live ≡ find (is_of name) sh
       → live_of s.walk label ≡ None → rest s.walk live ≡ d s.walk → lock_of b' ≡ lock_of b → Stands s.walk.lives (known s.registry) → Posted s.walk (known s.board) → size ≡ ask_size ask
       → GivesFor d live (known b) (known b') (asks_if accepted ask) answers answers' → s' ≡ counted (viewed ws c sh lives q v r b') accepted size → Holds (with_either s.walk n label (rest s.walk)) s s' answers answers'
   give-arm n live rest d s' b' accepted size ask answers answers' at none same_d lock stands posted sized held e =
-      let whole_is : with_either s.walk n label (rest s.walk) ≡ d s.walk =
-      ap (λ o. for_live s.walk n o ENOENT (rest s.walk)) (either-shared s.walk label (Some live) none (shared-at (Some live) at)) ∙ same_d in
+      let whole_is : with_either s.walk n label (rest s.walk) ≡ d s.walk = whole-is n live rest d at none same_d in
       subst (λ x. Holds (with_either s.walk n label (rest s.walk)) s x answers answers') (sym e) (by_accepted accepted whole_is held)
     where
       by_accepted : (accepted : Bool) → with_either s.walk n label (rest s.walk) ≡ d s.walk → GivesFor d live (known b) (known b') (asks_if accepted ask) answers answers'

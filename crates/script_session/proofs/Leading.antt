@@ -46,13 +46,19 @@ drains-some label of pipe notices has =
 
 -- ---- one transform more
 
+pub let-split : (before later : List Live) (live : Live) (rest : Dialogue) → let_all_go (before ++ live ∷ later) rest ≡ let_all_go before (lets_go live.pipe (let_all_go later rest))
+let-split [] later live rest = refl
+let-split (x ∷ before) later live rest = ap (lets_go x.pipe) (let-split before later live rest)
+
 pub let-more : (before : List Live) (live : Live) (rest : Dialogue) → let_all_go (before ++ live ∷ []) rest ≡ let_all_go before (lets_go live.pipe rest)
-let-more [] live rest = refl
-let-more (x ∷ before) live rest = ap (lets_go x.pipe) (let-more before live rest)
+let-more before live rest = let-split before [] live rest
+
+pub drain-split : (before later : List Live) (live : Live) (rest : Dialogue) → drain_all (before ++ live ∷ later) rest ≡ drain_all before (drains_at_end live.label live.pipe (drain_all later rest))
+drain-split [] later live rest = refl
+drain-split (x ∷ before) later live rest = ap (drains_at_end x.label x.pipe) (drain-split before later live rest)
 
 pub drain-more : (before : List Live) (live : Live) (rest : Dialogue) → drain_all (before ++ live ∷ []) rest ≡ drain_all before (drains_at_end live.label live.pipe rest)
-drain-more [] live rest = refl
-drain-more (x ∷ before) live rest = ap (drains_at_end x.label x.pipe) (drain-more before live rest)
+drain-more before live rest = drain-split before [] live rest
 
 -- ---- by labels and numbers alone
 

@@ -2,6 +2,8 @@ pub mod KnownDrivers
 pub mod Rules
 pub mod Standing
 pub mod Arms
+pub mod Breaking
+pub mod Stopping
 pub mod Alloc
 pub mod Freeing
 pub mod Changing

@@ -18,21 +18,22 @@ use Rattle.transforms.specs.AskValue.{ask_size}
 use Rattle.turn_lock.specs.Turns.{Known}
 use Rattle.dialogues.specs.Allocating.{lists_beside}
 use Rattle.dialogues.specs.Dialogues.{Dialogue, for_live, with_either}
+use Rattle.dialogues.specs.First.{BeginsBy}
 use Rattle.dialogues.specs.Walk.{Walk, Live, is_of, live_of, shared_of, either, either_of, with_live, replaced, removed}
 use Rattle.script_session.specs.States.{State, counted, HasPipe, Posted, Stands, MadeWide}
 use Rattle.session_calls.specs.Passes.{RegPass, BoardPass, known, lock_of}
 use Rattle.session_calls.specs.Pipelines.{Called}
-use Rattle.script_session.specs.Changing.{HoldsFor, counting, asks_if}
+use Rattle.script_session.specs.Changing.{HoldsFor, StopsFor, counting, asks_if}
 use Rattle.script_session.specs.Filed.{AreFiled, lives_of, number_of}
 use Rattle.script_session.specs.declared.lives.Lives.{Lives}
-use Rattle.script_session.specs.Holding.{HasSeenMore, SeesOn, Done, Holds, Stops}
+use Rattle.script_session.specs.Holding.{Done, Holds, StopsIn}
 use Rattle.script_session.specs.Saying.{SaysFor, BreaksFor, SaysBy, BreaksOff}
-use Rattle.script_session.proofs.Arms.{viewed, called-sees}
+use Rattle.script_session.proofs.Arms.{viewed}
 use Rattle.script_session.proofs.Changing.{IsOn, All-right, label-of, live-done}
 use Rattle.script_session.proofs.Filed.{place-at, nobody-at, get-found, set-found, removed-found}
 use Rattle.script_session.proofs.Placed.{Split, split-at}
+use Rattle.script_session.proofs.Stopping.{board-stops, for-uncalled}
 use Rattle.script_session.proofs.Widths.{wide-changes}
-use Rattle.session_calls.proofs.Boarding.{starts-same}
 
 -- a transform of the walk has its pipeline on the board
 pub rests-at : (walk : Walk) (label : List ℕ) (place : ℕ) (k : Known (BoardEntry Ask)) (s : Split label walk.lives 0 place) → Posted walk k → HasPipe k s.live.pipe
@@ -129,23 +130,24 @@ module _ {ws c q v : ℕ} {sh : List Live} {r : Option RegPass} {b : Option Boar
       }
 
   -- memory was wanting
-  pub live-stops : (items' : List Live) (q' v' : ℕ) (b' : Option BoardPass) → lock_of b' ≡ lock_of b → Stands s.walk.lives (known s.registry) → SeesOn (known b) (known b')
-      → Stops s (viewed ws c sh items' q' v' r b')
-  live-stops items' q' v' b' lock stands more =
-      record {
-        locks = record { registry = ap (λ (x : State). lock_of x.registry) view; board = lock ∙ ap (λ (x : State). lock_of x.board) view; workers = ap (λ (x : State). x.workers) view; shared = ap (λ (x : State). x.walk.shared) view };
-        registry = subst (λ (x : State). HasSeenMore (known x.registry) (known r)) view (record { number = refl; next = refl; seen = starts-same (known r).seen });
-        board = subst (λ (x : State). SeesOn (known x.board) (known b')) view more;
-      }
+  pub live-stops : (number : ℕ) (at : Some number ≡ number_of name entries) (old : Live) (items' : List Live) (whole : Dialogue) (d : Walk → Dialogue) (b' : Option BoardPass) → whole ≡ d s.walk → get nat_cmp lives.transforms number ≡ Some old
+      → lock_of b' ≡ lock_of b → Stands s.walk.lives (known s.registry) → Posted s.walk (known s.board) → StopsFor d old (known b) (known b') → StopsIn whole s (viewed ws c sh items' q v r b')
+  live-stops number at old items' whole d b' same_d is lock stands posted stops =
+      let here : StopsFor d old (known s.board) (known b') = subst (λ (x : State). StopsFor d old (known x.board) (known b')) view stops in
+      let found : live_of s.walk old.label ≡ Some old = ap (live_of s.walk) (label-is number at old is) ∙ ((live-at number at).found ∙ sym (ap (λ l. Some l) (is-live number at old is))) in
+      board-stops whole s (viewed ws c sh items' q v r b') here.calls
+      (record { registry = ap (λ (x : State). lock_of x.registry) view; board = lock ∙ ap (λ (x : State). lock_of x.board) view; workers = ap (λ (x : State). x.workers) view; shared = ap (λ (x : State). x.walk.shared) view })
+      (ap (λ (x : State). x.registry) view) stands here.called here.unshut (subst (λ x. BeginsBy x [] here.calls) (sym same_d) (here.begins s.walk found posted))
 
   -- the same of an arm that hands nothing in
   pub live-arm : {S A : Type 0} (number : ℕ) (at : Some number ≡ number_of name entries) (old new : Live) (items' : List Live) (d : List ℕ → Walk → Dialogue) (b' : Option BoardPass) (answers answers' : List Answer) (result : Result A S)
       → get nat_cmp lives.transforms number ≡ Some old → items' ≡ replaced new s.walk.lives → lock_of b' ≡ lock_of b → Stands s.walk.lives (known s.registry) → Posted s.walk (known s.board)
-      → MatchResult result (λ _. HoldsFor (d old.label) old new (known b) (known b') [] answers answers') (λ _. SeesOn (known b) (known b'))
-      → MatchResult result (λ _. Holds (d label s.walk) s (viewed ws c sh items' q v r b') answers answers') (λ _. Stops s (viewed ws c sh items' q v r b'))
+      → MatchResult result (λ _. HoldsFor (d old.label) old new (known b) (known b') [] answers answers') (λ _. StopsFor (d old.label) old (known b) (known b'))
+      → MatchResult result (λ _. Holds (d label s.walk) s (viewed ws c sh items' q v r b') answers answers') (λ _. StopsIn (d label s.walk) s (viewed ws c sh items' q v r b'))
   live-arm number at old new items' d b' answers answers' (Ok a) is set_is lock stands posted held =
       live-holds number at old new items' (d label s.walk) (d old.label) q v b' [] answers answers' (ap (λ l. d l s.walk) (sym (label-is number at old is))) is set_is lock (omega arith) (omega arith) stands posted held
-  live-arm number at old new items' d b' answers answers' (Err e) is set_is lock stands posted held = live-stops items' q v b' lock stands held
+  live-arm number at old new items' d b' answers answers' (Err e) is set_is lock stands posted stops =
+      live-stops number at old items' (d label s.walk) (d old.label) b' (ap (λ l. d l s.walk) (sym (label-is number at old is))) is lock stands posted stops
 
   -- the same of an arm that hands a request in, which is counted where it was accepted
   pub request-arm : (n number : ℕ) (at : Some number ≡ number_of name entries) (old new : Live) (items' : List Live) (rest : Walk → Live → Dialogue) (d : Walk → Dialogue) (s' : State) (b' : Option BoardPass) (accepted : Bool) (size : ℕ) (ask : Ask) (answers answers' : List Answer)
@@ -162,6 +164,14 @@ module _ {ws c q v : ℕ} {sh : List Live} {r : Option RegPass} {b : Option Boar
       by_accepted false same held =
           live-holds number at old new items' (with_either s.walk n label (rest s.walk)) d q v b' [] answers answers' same is set_is lock (omega arith) (omega arith) stands posted held
 
+  -- or it wasn't handed in, or not answered
+  pub request-stops : (n number : ℕ) (at : Some number ≡ number_of name entries) (old : Live) (items' : List Live) (rest : Walk → Live → Dialogue) (d : Walk → Dialogue) (b' : Option BoardPass)
+      → rest s.walk old ≡ d s.walk → get nat_cmp lives.transforms number ≡ Some old → lock_of b' ≡ lock_of b → Stands s.walk.lives (known s.registry) → Posted s.walk (known s.board)
+      → StopsFor d old (known b) (known b') → StopsIn (with_either s.walk n label (rest s.walk)) s (viewed ws c sh items' q v r b')
+  request-stops n number at old items' rest d b' same_d is lock stands posted stops =
+      let same : with_either s.walk n label (rest s.walk) ≡ d s.walk = ap (λ o. for_live s.walk n o ENOENT (rest s.walk)) (either-at number at) ∙ (ap (rest s.walk) (sym (is-live number at old is)) ∙ same_d) in
+      live-stops number at old items' (with_either s.walk n label (rest s.walk)) d b' same is lock stands posted stops
+
   -- what the session has counted is what was accepted from it
   pub bytes-at : Posted s.walk (known s.board) → sum_by ask_size (accepted_by (known b).number (known b).seen) ≡ v
   bytes-at posted = subst (λ (x : State). sum_by ask_size (accepted_by (known x.board).number (known x.board).seen) ≡ x.walk.bytes) (sym view) posted.bytes
@@ -170,7 +180,7 @@ module _ {ws c q v : ℕ} {sh : List Live} {r : Option RegPass} {b : Option Boar
   pub text-arm : {S A : Type 0} (number : ℕ) (at : Some number ≡ number_of name entries) (old new : Live) (items' : List Live) (d : List ℕ → Walk → Dialogue) (b' : Option BoardPass) (text text' : List ℕ) (result : Result A S)
       → get nat_cmp lives.transforms number ≡ Some old → items' ≡ replaced new s.walk.lives → lock_of b' ≡ lock_of b → Stands s.walk.lives (known s.registry) → Posted s.walk (known s.board)
       → MatchResult result (λ _. SaysFor (d old.label) old new (known b) (known b') text text') (λ _. BreaksFor (known b) (known b') text text')
-      → MatchResult result (λ _. SaysBy 1 (d label s.walk) s (viewed ws c sh items' q v r b') text text') (λ _. BreaksOff s (viewed ws c sh items' q v r b') text text')
+      → MatchResult result (λ _. SaysBy 1 (d label s.walk) s (viewed ws c sh items' q v r b') text text') (λ _. BreaksOff (d label s.walk) s (viewed ws c sh items' q v r b') text text')
   text-arm number at old new items' d b' text text' (Ok a) is set_is lock stands posted says =
       record {
         said = says.said;
@@ -179,7 +189,7 @@ module _ {ws c q v : ℕ} {sh : List Live} {r : Option RegPass} {b : Option Boar
       }
   text-arm number at old new items' d b' text text' (Err e) is set_is lock stands posted breaks =
       record {
-        stops = live-stops items' q v b' lock stands (called-sees (known b) (known b') [] breaks.called breaks.unshut);
+        stops = live-stops number at old items' (d label s.walk) (d old.label) b' (ap (λ l. d l s.walk) (sym (label-is number at old is))) is lock stands posted (for-uncalled (d old.label) old (known b) (known b') breaks.called breaks.unshut);
         called = subst (λ (x : State). Called (known x.board) (known b') []) view breaks.called;
         says = breaks.says;
       }

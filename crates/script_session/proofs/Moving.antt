@@ -7,7 +7,7 @@ use Rattle.std.proofs.lemmas.List.{length-map, map-append, take_more, take_more_
 use Rattle.std.proofs.lemmas.List.Elements.{All-nil, All-cons, All-head, All-append}
 use Rattle.board.specs.declared.entry.BoardEntry.{BoardEntry}
 use Rattle.board.specs.Allowance.{accepted_by}
-use Rattle.board.specs.Legal.{LegalBoard}
+use Rattle.board.specs.Legal.{LegalBoard, is_shut}
 use Rattle.reply_text.specs.declared.answers.Answer.{Answer}
 use Rattle.transforms.specs.declared.ask.Ask.{Ask}
 use Rattle.turn_lock.specs.Turns.{Known}
@@ -16,12 +16,12 @@ use Rattle.dialogues.specs.Dialogues.{Dialogue}
 use Rattle.dialogues.specs.Walk.{Live}
 use Rattle.session_calls.proofs.Boarding.{kept-same, called-more, starts-trans}
 use Rattle.script_session.specs.Changing.{Changes, counting}
-use Rattle.script_session.specs.Ending.{Moves, MovesAll, ArePosted, AreAllPaid, IsPaid, place_of}
+use Rattle.script_session.specs.Ending.{Moves, MovesAll, StopsMoving, ArePosted, AreAllPaid, IsPaid, place_of}
 use Rattle.script_session.specs.Holding.{SeesOn}
 use Rattle.script_session.specs.States.{HasPipe}
-use Rattle.script_session.proofs.Arms.{sees-same, called-sees}
 use Rattle.script_session.proofs.Changing.{IsOn, All-right, list-posted}
 use Rattle.script_session.proofs.Leading.{leads-then, leads-same, leads-nothing}
+use Rattle.script_session.proofs.Stopping.{moving-then, moving-before, moving-same}
 
 pub sees-on : (k l m : Known (BoardEntry Ask)) → SeesOn k l → SeesOn l m → SeesOn k m
 sees-on k l m first later =
@@ -47,7 +47,7 @@ one-posted before later live live' k l calls are changes =
 pub record OnTheWay (all : List Live → Dialogue → Dialogue) (i : ℕ) (lives now : List Live) (k l : Known (BoardEntry Ask)) (answers answers' : List Answer) : Type 0 where
   pub moves : MovesAll (all (take i lives)) lives now k l answers answers'
   pub left : drop i now ≡ drop i lives
-  pub sees : SeesOn k l
+  pub unshut : k.number ≡ 0 → is_shut l.seen ≡ is_shut k.seen
 
 pub sets-out : (all : List Live → Dialogue → Dialogue) (lives : List Live) (k : Known (BoardEntry Ask)) (answers : List Answer) → ((rest : Dialogue) → all [] rest ≡ rest) → ArePosted lives k → LegalBoard k.seen
     → OnTheWay all 0 lives lives k k answers answers
@@ -64,7 +64,7 @@ sets-out all lives k answers nothing are legal =
         says = sym (append-nil answers);
       };
       left = refl;
-      sees = sees-same k;
+      unshut = λ zero_is. refl;
     }
 
 abbrev rest_of : List Live → List Live
@@ -134,8 +134,18 @@ module _ (all : List Live → Dialogue → Dialogue) (one : Live → Dialogue �
             ap (drop (i + 1)) set_to
             ∙ (drop-set-lt (i + 1) now i live' on
             ∙ (sym (drop-rest now i live within) ∙ (ap rest_of way.left ∙ drop-rest lives i live inside)));
-        sees = sees-on k l l' way.sees (called-sees l l' m.calls m.changes.called m.changes.unshut);
+        unshut = λ zero_is. m.changes.unshut (way.moves.called.number ∙ zero_is) ∙ way.unshut zero_is;
       }
+
+  -- or it was broken off with this one
+  pub breaks-further : ((before later : List Live) (x : Live) (rest : Dialogue) → all (before ++ x ∷ later) rest ≡ all before (one x (all later rest))) → StopsMoving (one live) l l' → StopsMoving (all lives) k l'
+  breaks-further splits stops =
+      let inside : i < length lives = subst (λ n. i < n) same_length within in
+      let later : Dialogue → Dialogue = all (drop (i + 1) lives) in
+      let parted : lives ≡ take i lives ++ live ∷ drop (i + 1) lives =
+      sym (take-append-drop i lives) ∙ ap (λ x. take i lives ++ x) (drop_more lives i live inside ∙ ap (λ x. x ∷ drop (i + 1) lives) (same-at lives now i live way.left ∙ sym here)) in
+      moving-same (λ rest. all (take i lives) (one live (later rest))) (all lives) k l' (λ rest. ap (λ ls. all ls rest) parted ∙ splits (take i lives) (drop (i + 1) lives) live rest)
+      (moving-then (all (take i lives)) (λ rest. one live (later rest)) k l l' way.moves.calls way.moves.said way.moves.leads way.moves.called way.unshut (moving-before (one live) later l l' stops))
 
   -- and those before it have handed all out
   pub paid-further : (now' : List Live) → now' ≡ set now i live' → AreAllPaid (take i now) → IsPaid live'.pipe → AreAllPaid (take (i + 1) now')
@@ -154,6 +164,6 @@ pub all-paid : (i : ℕ) (now : List Live) → AreAllPaid (take i now) → lengt
 all-paid i now paid past = subst AreAllPaid (take_all i now past) paid
 
 -- memory was wanting
-pub fails : {A S : Type 0} (result : Result A S) (Moved : Type 0) {Stopped : Type 0} → IsErr result → Stopped → MatchResult result (λ _. Moved) (λ _. Stopped)
+pub fails : {A S : Type 0} (result : Result A S) (Moved : A → Type 0) {Stopped : Type 0} → IsErr result → Stopped → MatchResult result Moved (λ _. Stopped)
 fails (Ok done) Moved is stopped = absurd cc
 fails (Err stop) Moved is stopped = stopped

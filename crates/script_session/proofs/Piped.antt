@@ -6,7 +6,7 @@ use Rattle.kc_base.specs.Handed.{Handed}
 use Rattle.kc_base.specs.declared.callback_list.Callback.{Callback}
 use Rattle.kc_base.specs.declared.callback_list.Callback.TheVariants as callback
 use Rattle.kc_base.specs.declared.error_numbers.Errno.{Errno}
-use Rattle.kc_base.specs.declared.error_numbers.Errno.TheVariants.{EINVAL, E2BIG, EBUSY, EINPROGRESS, ENOENT, ENOSPC}
+use Rattle.kc_base.specs.declared.error_numbers.Errno.TheVariants.{EINVAL, E2BIG, EBUSY, EINPROGRESS, ENOSPC}
 use Rattle.board.specs.declared.entry.BoardEntry.{BoardEntry}
 use Rattle.board.specs.Entries.{entries_of, submissions}
 use Rattle.board.specs.Handing.{HandsOutAtMost, completions}
@@ -29,7 +29,6 @@ use Rattle.dialogues.specs.BoardCalls.{Asked, asked_by, origin_of, Collects, Sub
 use Rattle.dialogues.specs.Requesting.{set_key, set_tag_size, value_said, requests_in, hands_in, is_too_big, accepting, value_of}
 use Rattle.script_session.specs.Keyed.{manned_as, held_as, delivering, with_line, MayDeliver}
 use Rattle.script_session.specs.Saying.{collects, collected_said}
-use Rattle.script_session.specs.Holding.{SeesOn}
 use Rattle.script_session.specs.Settings.{holds_or_goes, hold_call, sets}
 use Rattle.script_session.specs.declared.settings.Setting.{Setting}
 use Rattle.script_session.specs.declared.settings.Setting.TheVariants as set
@@ -45,9 +44,10 @@ use Rattle.dialogues.specs.Piping.{mask, masks, kept_bits, with_pad, if_pad, wit
 use Rattle.dialogues.specs.Turns.{Turn, IsTurn}
 use Rattle.dialogues.specs.Walk.{Walk, Live, Pipe, is_of, live_of, shared_of, with_live, with_pipe, replaced}
 use Rattle.script_session.specs.States.{HasPipe, Posted, is_at}
-use Rattle.script_session.specs.Changing.{HoldsFor, counting}
+use Rattle.script_session.specs.Changing.{HoldsFor, StopsFor, counting}
 use Rattle.session_calls.proofs.Boarding.{kept-same}
 use Rattle.script_session.proofs.Changing.{changes-pipe, changes-kept}
+use Rattle.script_session.proofs.Stopping.{for-held}
 
 -- ---- the walk with a transform as it was
 
@@ -240,6 +240,15 @@ request-holds k l live live' pipe n ask backlog answer answers answers' has mann
       says = e;
     })
 
+-- it was answered, but memory was wanting for what is said
+pub request-stopped : (k l : Known (BoardEntry Ask)) (live : Live) (pipe : Pipe) (n : ℕ) (ask : Ask) (backlog : Bool) (answer : Entered)
+    → live.pipe ≡ Some pipe → pipe.unmanned ≡ false → Offered k l pipe ask backlog answer → IsAllowed ask_size k.seen k.number ask
+    → StopsFor (λ walk. requests_in walk n live (asked_by ask) backlog live.pipe) live k l
+request-stopped k l live pipe n ask backlog answer has manned offered allowed =
+    let new : Live = record live { pipe = Some (entered_pipe pipe ask answer) } in
+    for-held (λ walk. requests_in walk n live (asked_by ask) backlog live.pipe) live new k l (entered_asks ask answer) [] (entered_said n answer ∷ [])
+    (request-holds k l live new pipe n ask backlog answer [] (entered_said n answer ∷ []) has manned offered allowed refl refl)
+
 pub accepted-live : (live live' : Live) (pipe : Pipe) (ask : Ask) (of : Origin) → live.pipe ≡ Some pipe → origin_of ask ≡ of → live' ≡ with_line live of → live' ≡ record live { pipe = Some (with_ask pipe ask) }
 accepted-live live live' pipe ask of has same is =
     is
@@ -381,6 +390,12 @@ hold-holds held k l live live' pipe n answers answers' has queue changed live_is
     (λ walk found. hold-at held walk n live found ∙ queue-bound walk n live pipe pipe.bound (switches walk n live held) has refl queue) changed (λ walk. switched held walk n live pipe)
     (held-live live live' pipe held has live_is) e
 
+pub hold-stops : (held : Bool) (k l : Known (BoardEntry Ask)) (live : Live) (pipe : Pipe) (n : ℕ) → live.pipe ≡ Some pipe → IsQueue pipe.bound → Changed k l pipe (record pipe { held = held }) (hold_call held pipe.number ∷ []) []
+    → StopsFor (λ walk. holds_or_goes walk n live.label held) live k l
+hold-stops held k l live pipe n has queue changed =
+    for-held (λ walk. holds_or_goes walk n live.label held) live (held_as live held) k l [] [] (said.Ok n ∷ [])
+    (hold-holds held k l live (held_as live held) pipe n [] (said.Ok n ∷ []) has queue changed refl refl)
+
 -- the call that holds a queue, or lets it go
 pub held-changed : {A : Type 0} (result : Result A BoardErr) (k l : Known (BoardEntry Ask)) (pipe : Pipe) (given held : Bool) → given ≡ held
     → MatchResult result (λ _. Changed k l pipe (record pipe { held = held }) (hold_call held pipe.number ∷ []) []) (λ e. (e ≡ board_err.Memory) × Kept k l)
@@ -417,6 +432,13 @@ mask-holds k l live live' pipe workers n bits kept answers answers' has none is 
     changed
     (λ walk. subst (λ m. IsTurn (masks workers walk n bits live pipe) (record { registry = []; board = Masks pipe.number m ∷ []; answers = said.Ok n ∷ []; after = Some (with_pipe walk live (record pipe { unmanned = m == 0 })) })) (sym is) refl)
     live_is e
+
+pub mask-stops : (k l : Known (BoardEntry Ask)) (live : Live) (pipe : Pipe) (workers n bits kept : ℕ) → live.pipe ≡ Some pipe → is_some pipe.bound ≡ false → kept ≡ kept_bits workers bits
+    → Changed k l pipe (record pipe { unmanned = kept == 0 }) (Masks pipe.number kept ∷ []) [] → StopsFor (λ walk. mask workers walk n live.label bits) live k l
+mask-stops k l live pipe workers n bits kept has none is changed =
+    let new : Live = record live { pipe = Some (record pipe { unmanned = kept == 0 }) } in
+    for-held (λ walk. mask workers walk n live.label bits) live new k l [] [] (said.Ok n ∷ [])
+    (mask-holds k l live new pipe workers n bits kept [] (said.Ok n ∷ []) has none is changed refl refl)
 
 pub manned-live : (live live' : Live) (pipe : Pipe) (unmanned : Bool) → live.pipe ≡ Some pipe → live' ≡ manned_as live unmanned → live' ≡ record live { pipe = Some (record pipe { unmanned = unmanned }) }
 manned-live live live' pipe unmanned has is = is ∙ ap (λ o. record live { pipe = option_map (λ (p : Pipe). record p { unmanned = unmanned }) o }) has
@@ -486,7 +508,7 @@ collect-free true walk n label errno none why = label-free walk n label (λ live
 collect-free false walk n label errno none why = label-free walk n label (λ live. polls_in walk n live live.pipe) errno none why
 
 pub setting-arm : {S A : Type 0} (result : Result A S) (workers n : ℕ) (live live' : Live) (k l : Known (BoardEntry Ask)) (setting given : Setting) (answers answers' : List Answer) → setting ≡ given
-    → MatchResult result (λ _. HoldsFor (λ walk. sets workers walk n live.label given) live live' k l [] answers answers') (λ _. SeesOn k l)
-    → MatchResult result (λ _. HoldsFor (λ walk. sets workers walk n live.label setting) live live' k l [] answers answers') (λ _. SeesOn k l)
+    → MatchResult result (λ _. HoldsFor (λ walk. sets workers walk n live.label given) live live' k l [] answers answers') (λ _. StopsFor (λ walk. sets workers walk n live.label given) live k l)
+    → MatchResult result (λ _. HoldsFor (λ walk. sets workers walk n live.label setting) live live' k l [] answers answers') (λ _. StopsFor (λ walk. sets workers walk n live.label setting) live k l)
 setting-arm result workers n live live' k l setting given answers answers' is held =
-    subst (λ x. MatchResult result (λ _. HoldsFor (λ walk. sets workers walk n live.label x) live live' k l [] answers answers') (λ _. SeesOn k l)) (sym is) held
+    subst (λ x. MatchResult result (λ _. HoldsFor (λ walk. sets workers walk n live.label x) live live' k l [] answers answers') (λ _. StopsFor (λ walk. sets workers walk n live.label x) live k l)) (sym is) held

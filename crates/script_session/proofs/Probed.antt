@@ -1,9 +1,10 @@
 -- `probe`: all looks are made first, and then each is waited for.
-use Rattle.std.proofs.Common.{◌≡◌, ℕ, suc, ◌<◌, take, get_or, arith, Bool, true, false, ◌&&◌, List, [], ◌∷◌, ◌++◌, length, Option, Some, Result, Ok, Err, refl, sym, ap, subst, ◌∙◌, append_assoc, append-nil, inl, inr}
+use Rattle.std.proofs.Common.{◌≡◌, ℕ, suc, ◌<◌, take, drop, get_or, arith, Bool, true, false, ◌&&◌, List, [], ◌∷◌, ◌++◌, length, Option, Some, Result, Ok, Err, refl, sym, ap, subst, ◌∙◌, append_assoc, append-nil, inl, inr}
 use Rattle.std.specs.Prelude.{All, MatchResult, IsFalse, IsErr, ◌+◌}
 use Rattle.std.specs.List.{list_all}
 use Rattle.std.proofs.lemmas.List.Concat.{flat_map-append}
-use Rattle.std.proofs.Math.Seq.{take-suc}
+use Rattle.std.proofs.Math.Seq.{take-suc, take-length}
+use Rattle.std.proofs.lemmas.List.{take-append-drop}
 use Rattle.std.proofs.lemmas.List.Elements.{All-nil, All-cons, All-append}
 use Rattle.kc_base.specs.declared.error_numbers.Errno.{Errno}
 use Rattle.alg_names.specs.Name.{Tree, spelling}
@@ -22,7 +23,9 @@ use Rattle.turn_lock.specs.Going.{stays, still_kept, own_goes}
 use Rattle.turn_lock.specs.Meeting.{GoesOn}
 use Rattle.turn_lock.specs.Turns.{Known, Has}
 use Rattle.dialogues.specs.Dialogues.{Dialogue, Ends, Says, Asks}
+use Rattle.dialogues.specs.First.{AreFurther, BeginsBy}
 use Rattle.dialogues.specs.GoingOn.{FoundStays, LooksAtOnce, CallsByAre}
+use Rattle.dialogues.proofs.RegistryGrowing.{reg_calls-append}
 use Rattle.dialogues.specs.InTurn.{AreMade}
 use Rattle.dialogues.specs.Names.{name_read}
 use Rattle.dialogues.specs.Probing.{found_said, looks_up, looks_all, probe}
@@ -30,17 +33,20 @@ use Rattle.dialogues.specs.Questions.{Look}
 use Rattle.dialogues.specs.RegistryCalls.{RegCall, Looks, reg_calls, AllSettled}
 use Rattle.dialogues.specs.Turns.{Turn, turn_of}
 use Rattle.dialogues.specs.Walk.{Walk, Live}
-use Rattle.session_calls.specs.Asking.{AskedBy, SeesMore, IsCaller}
-use Rattle.session_calls.specs.Looking.{Sought, Goes, look_entry, found_result, Settles}
+use Rattle.session_calls.specs.Asking.{AskedBy, IsCaller}
+use Rattle.session_calls.specs.Looking.{Sought, Goes, Builds, look_entry, found_result}
 use Rattle.session_calls.specs.Passes.{RegPass, BoardPass, known}
+use Rattle.session_calls.proofs.Asking.{further-by}
 use Rattle.session_calls.proofs.Looking.{goes-further, goes-more}
-use Rattle.script_session.specs.Holding.{DoneBy, HoldsBy, Stops}
-use Rattle.script_session.specs.Probing.{Searched, IsRead, AreRead, entry_of, look_entries, MaySettle, LooksFirst, comes_to, AreSaid, SettlesThen}
+use Rattle.script_session.specs.Breaking.{Breaks}
+use Rattle.script_session.specs.Holding.{DoneBy, HoldsBy, StopsIn}
+use Rattle.script_session.specs.Probing.{Searched, IsRead, AreRead, entry_of, look_entries, MaySettle, LooksFirst, LooksSome, comes_to, AreSaid, SettlesThen}
 use Rattle.script_session.specs.States.{State, Stands, Posted, uses}
 use Rattle.script_session.proofs.Arms.{viewed, sees-same}
+use Rattle.script_session.proofs.Breaking.{stops-in}
 use Rattle.script_session.proofs.Finding.{has-seen-more}
 use Rattle.script_session.proofs.Rules.{called-nothing}
-use Rattle.script_session.proofs.Searches.{call_of, calls_of, all-looks, no-more-calls, no-references, all-settled, calls-are-looks}
+use Rattle.script_session.proofs.Searches.{call_of, calls_of, all-looks, no-more-calls, no-references, all-settled, calls-are-looks, begins-looks}
 use Rattle.script_session.proofs.Standing.{stands-more}
 
 abbrev Went : Known RegEntry → Known RegEntry → List RegEntry → Type 0
@@ -73,7 +79,7 @@ settle-on k l own (Err errno) goes may = tt
 
 -- ---- one look
 
-goes-nowhere : (r : Option RegPass) → Goes r r []
+pub goes-nowhere : (r : Option RegPass) → Goes r r []
 goes-nowhere r = record { lock = refl; goes = stays caller_of IsFaithful (known r) }
 
 -- what is said of a look that was made, or not
@@ -91,9 +97,6 @@ look-made {before} {after} text name look read spelled same goes sound = (
         (has-last (IsLook (known after).number look.text look.looked) (known before).made (look_entry (known before).number look) (sym goes.goes.number, refl, refl)),
   ),
 )
-
-pub look-seen : {before after : Option RegPass} → (text : List ℕ) (look : Result Sought Errno) → LooksFor before after text look → SeesMore before after
-look-seen {before} text look one = goes-more (entry_of (known before).number look) one.1
 
 -- ---- one look after the other
 
@@ -139,16 +142,28 @@ looks-more {before} {middle} {after} texts searches text search first same one =
           (All-cons (λ (s : Searched). MaySettle m s.look) search [] one.2 (All-nil (λ (s : Searched). MaySettle m s.look)));
     }
 
-pub looks-seen : {before after : Option RegPass} → (texts : List (List ℕ)) (searches : List Searched) → LooksFirst before after texts searches → SeesMore before after
-looks-seen {before} texts searches first = goes-more (look_entries (known before).number searches) first.goes
+-- the next look wasn't made
+pub looks-still : {before middle after : Option RegPass} → (texts : List (List ℕ)) (i : ℕ) (searches : List Searched) → LooksFirst before middle (take i texts) searches → Goes middle after [] → LooksSome before after texts
+looks-still {before} {middle} {after} texts i searches first still =
+    let looks = look_entries (known before).number searches in (
+      i,
+      searches,
+      record {
+        read = first.read;
+        goes = subst (Goes before after) (append-nil looks) (goes-further looks [] first.goes still);
+        ready = all-on (known middle) (known after) [] searches still.goes first.ready;
+      },
+    )
 
-pub seen-then : {before middle after : Option RegPass} → SeesMore before middle → SeesMore middle after → SeesMore before after
-seen-then {before} {middle} {after} a b = record {
-  lock = b.lock ∙ a.lock;
-  number = b.number ∙ a.number;
-  next = b.next ∙ a.next;
-  seen = (a.seen.0 ++ b.seen.0, b.seen.1 ∙ (ap (λ xs. xs ++ b.seen.0) a.seen.1 ∙ append_assoc (known before).seen a.seen.0 b.seen.0));
-}
+-- it was made, and no more
+pub looks-one-more : {before middle after : Option RegPass} → (texts : List (List ℕ)) (i : ℕ) (searches : List Searched) (text : List ℕ) (look : Result Sought Errno) → LooksFirst before middle (take i texts) searches
+    → i < length texts → text ≡ get_or texts i text → LooksFor middle after text look → LooksSome before after texts
+looks-one-more {before} {middle} {after} texts i searches text look first below is one =
+    let search : Searched = record { text = text; look = look } in (
+      i + 1,
+      searches ++ search ∷ [],
+      subst (λ (ts : List (List ℕ)). LooksFirst before after ts (searches ++ search ∷ [])) (take-more texts i text below is) (looks-more (take i texts) searches text search first refl one),
+    )
 
 -- ---- what one comes to
 
@@ -204,8 +219,17 @@ settles-more {before} {middle} {after} stay n searches later said more first res
       (subst (λ h. AreSaid h n searches said) (sym rest.goes.goes.seen) (said-on stay (known middle).seen rest.goes.goes.between n searches said first.said_are)) rest.said_are;
 }
 
-pub settles-seen : {before after : Option RegPass} → (n : ℕ) (searches : List Searched) (said : List Answer) → SettlesThen before after n searches said → SeesMore before after
-settles-seen n searches said then = goes-more then.work then.goes
+-- ---- where memory was wanting it had built
+
+pub settles-builds : {before after : Option RegPass} → (n : ℕ) (searches : List Searched) (said : List Answer) → SettlesThen before after n searches said → Builds before after
+settles-builds n searches said then = record { work = then.work; goes = then.goes; all_work = then.all_work }
+
+pub builds-then : {before middle after : Option RegPass} → Builds before middle → Builds middle after → Builds before after
+builds-then first rest = record {
+  work = first.work ++ rest.work;
+  goes = goes-further first.work rest.work first.goes rest.goes;
+  all_work = all-work first.work rest.work first.all_work rest.all_work;
+}
 
 -- the next one may still be waited for
 pub may-still : {before middle : Option RegPass} → (n : ℕ) (searches all : List Searched) (said : List Answer) → SettlesThen before middle n searches said → All (λ (search : Searched). MaySettle (known before) search.look) all
@@ -253,6 +277,57 @@ all-looked-up h n [] [] (answer ∷ answers) rest r read is = absurd is
 all-looked-up h n (text ∷ texts) (search ∷ searches) [] rest r read is = absurd is
 
 -- ---- the calls
+
+-- looks that were made, and work
+looks-further : {before after : Option RegPass} → (texts : List (List ℕ)) (searches : List Searched) (work : List RegEntry) → IsCaller (known before) → AreRead texts searches
+    → Goes before after (look_entries (known before).number searches ++ work) → list_all is_building work ≡ true
+    → AreFurther (known before).number (calls_of (known after).seen searches) (known before).seen (known after).seen
+looks-further {before} {after} texts searches work caller read went all_work =
+    let k = known before in
+    let l = known after in
+    let goes = went.goes in
+    further-by reg_calls-append k l goes.between (calls_of l.seen searches) caller goes.seen
+    (calls-are-looks l.seen k.number k.seen goes.between work texts searches read goes.mine all_work)
+
+-- they are a `probe`'s first calls
+probe-breaks : {before after : Option RegPass} → (walk : Walk) (b : Known (BoardEntry Ask)) (n i : ℕ) (texts : List (List ℕ)) (searches : List Searched) (work : List RegEntry) → IsCaller (known before)
+    → AreRead (take i texts) searches → Goes before after (look_entries (known before).number searches ++ work) → list_all is_building work ≡ true → Breaks (probe walk n texts) (known before) b (known after) b
+probe-breaks {before} {after} walk b n i texts searches work caller read went all_work =
+    let k = known before in
+    let l = known after in
+    let rest : List Answer → Dialogue = λ said. Says said (Ends walk) in
+    record {
+      registry = calls_of l.seen searches;
+      board = [];
+      further = looks-further (take i texts) searches work caller read went all_work;
+      own = own_goes caller_of IsFaithful k l (look_entries k.number searches ++ work) caller.own went.goes;
+      called = called-nothing b;
+      begins = subst (λ ts. BeginsBy (looks_all n ts rest) (calls_of l.seen searches) []) (take-append-drop i texts) (begins-looks n (take i texts) (drop i texts) rest l.seen searches read);
+    }
+
+-- memory was wanting
+probe-stops : (r r' : Option RegPass) (ws : ℕ) (walk : Walk) (b : Option BoardPass) (n i : ℕ) (texts : List (List ℕ)) (searches : List Searched) (work : List RegEntry) → Stands walk.lives (known r) → AreRead (take i texts) searches
+    → Goes r r' (look_entries (known r).number searches ++ work) → list_all is_building work ≡ true
+    → StopsIn (probe walk n texts) (record { workers = ws; walk = walk; registry = r; board = b }) (record { workers = ws; walk = walk; registry = r'; board = b })
+probe-stops r r' ws walk b n i texts searches work stands read went all_work =
+    let s : State = record { workers = ws; walk = walk; registry = r; board = b } in
+    let s' : State = record { workers = ws; walk = walk; registry = r'; board = b } in
+    stops-in (probe walk n texts) s s'
+    (record {
+      locks = record { registry = went.lock; board = refl; workers = refl; shared = refl };
+      registry = has-seen-more (goes-more (look_entries (known r).number searches ++ work) went);
+      board = sees-same (known b);
+    })
+    (probe-breaks walk (known b) n i texts searches work stands.caller read went all_work)
+
+-- before all looks were made
+pub probe-some : {ws c : ℕ} {sh lives : List Live} {q v : ℕ} {r : Option RegPass} {b : Option BoardPass} → (s : State) (view : viewed ws c sh lives q v r b ≡ s) (r' : Option RegPass) (n : ℕ) (texts : List (List ℕ))
+    → Stands s.walk.lives (known s.registry) → LooksSome r r' texts → StopsIn (probe s.walk n texts) s (viewed ws c sh lives q v r' b)
+probe-some {ws} {c} {sh} {lives} {q} {v} {r} {b} s view r' n texts stands some =
+    let first = some.2 in
+    let looks = look_entries (known r).number some.1 in
+    subst (λ (x : State). Stands x.walk.lives (known x.registry) → StopsIn (probe x.walk n texts) x (viewed ws c sh lives q v r' b)) view
+    (λ st. probe-stops r r' ws (record { client = c; shared = sh; lives = lives; requests = q; bytes = v }) b n some.0 texts some.1 [] st first.read (subst (Goes r r') (sym (append-nil looks)) first.goes) refl) stands
 
 module _ (looks_law : LooksAtOnce) (are_law : CallsByAre) where
   asked-all : {before middle after : Option RegPass} → (n : ℕ) (texts : List (List ℕ)) (searches : List Searched) (said : List Answer) → IsCaller (known before) → LooksFirst before middle texts searches
@@ -308,22 +383,23 @@ module _ (looks_law : LooksAtOnce) (are_law : CallsByAre) where
   -- ---- the arm of a session
 
   probe-at : {S : Type 0} → (r r1 r2 : Option RegPass) (ws : ℕ) (walk : Walk) (b : Option BoardPass) (result : Result (Unit {0}) S) (n : ℕ) (texts : List (List ℕ)) (searches : List Searched) (answers answers' : List Answer) → Stands walk.lives (known r)
-      → Posted walk (known b) → LooksFirst r r1 texts searches → MatchResult result (λ _. (said : List Answer) × (answers' ≡ answers ++ said) × SettlesThen r1 r2 n searches said) (λ _. SeesMore r1 r2)
+      → Posted walk (known b) → LooksFirst r r1 texts searches → MatchResult result (λ _. (said : List Answer) × (answers' ≡ answers ++ said) × SettlesThen r1 r2 n searches said) (λ _. Builds r1 r2)
       → MatchResult result (λ _. HoldsBy (length texts) (probe walk n texts) (record { workers = ws; walk = walk; registry = r; board = b }) (record { workers = ws; walk = walk; registry = r2; board = b }) answers answers')
-      (λ _. Stops (record { workers = ws; walk = walk; registry = r; board = b }) (record { workers = ws; walk = walk; registry = r2; board = b }))
+      (λ _. StopsIn (probe walk n texts) (record { workers = ws; walk = walk; registry = r; board = b }) (record { workers = ws; walk = walk; registry = r2; board = b }))
   probe-at r r1 r2 ws walk b (Ok done) n texts searches answers answers' stands posted first then = record {
     locks = record { registry = then.2.goes.lock ∙ first.goes.lock; board = refl; workers = refl; shared = refl };
     wide = λ wide. wide;
     done = probe-done walk (known b) n texts searches then.0 answers answers' stands posted first then.2 then.1;
   }
-  probe-at r r1 r2 ws walk b (Err stop) n texts searches answers answers' stands posted first more =
-      let all = seen-then (looks-seen texts searches first) more in
-      record { locks = record { registry = all.lock; board = refl; workers = refl; shared = refl }; registry = has-seen-more all; board = sees-same (known b) }
+  probe-at r r1 r2 ws walk b (Err stop) n texts searches answers answers' stands posted first builds =
+      let looks = look_entries (known r).number searches in
+      probe-stops r r2 ws walk b n (length texts) texts searches builds.work stands (subst (λ ts. AreRead ts searches) (sym (take-length texts)) first.read)
+      (goes-further looks builds.work first.goes builds.goes) builds.all_work
 
   pub probe-arm : {S : Type 0} {ws c : ℕ} {sh lives : List Live} {q v : ℕ} {r : Option RegPass} {b : Option BoardPass} → (s : State) (view : viewed ws c sh lives q v r b ≡ s) (r1 r2 : Option RegPass) (result : Result (Unit {0}) S) (n : ℕ) (texts : List (List ℕ)) (searches : List Searched) (answers answers' : List Answer)
-      → Stands s.walk.lives (known s.registry) → Posted s.walk (known s.board) → LooksFirst r r1 texts searches → MatchResult result (λ _. (said : List Answer) × (answers' ≡ answers ++ said) × SettlesThen r1 r2 n searches said) (λ _. SeesMore r1 r2)
-      → MatchResult result (λ _. HoldsBy (length texts) (probe s.walk n texts) s (viewed ws c sh lives q v r2 b) answers answers') (λ _. Stops s (viewed ws c sh lives q v r2 b))
+      → Stands s.walk.lives (known s.registry) → Posted s.walk (known s.board) → LooksFirst r r1 texts searches → MatchResult result (λ _. (said : List Answer) × (answers' ≡ answers ++ said) × SettlesThen r1 r2 n searches said) (λ _. Builds r1 r2)
+      → MatchResult result (λ _. HoldsBy (length texts) (probe s.walk n texts) s (viewed ws c sh lives q v r2 b) answers answers') (λ _. StopsIn (probe s.walk n texts) s (viewed ws c sh lives q v r2 b))
   probe-arm {S} {ws} {c} {sh} {lives} {q} {v} {r} {b} s view r1 r2 result n texts searches answers answers' stands posted first then =
       subst (λ (x : State). Stands x.walk.lives (known x.registry) → Posted x.walk (known x.board)
-      → MatchResult result (λ _. HoldsBy (length texts) (probe x.walk n texts) x (viewed ws c sh lives q v r2 b) answers answers') (λ _. Stops x (viewed ws c sh lives q v r2 b))) view
+      → MatchResult result (λ _. HoldsBy (length texts) (probe x.walk n texts) x (viewed ws c sh lives q v r2 b) answers answers') (λ _. StopsIn (probe x.walk n texts) x (viewed ws c sh lives q v r2 b))) view
       (λ st po. probe-at r r1 r2 ws (record { client = c; shared = sh; lives = lives; requests = q; bytes = v }) b result n texts searches answers answers' st po first then) stands posted

@@ -35,7 +35,7 @@ use Rattle.script_session.specs.Keyed.{delivering}
 use Rattle.script_session.specs.Saying.{SaysFor, BreaksFor, SaysBy, BreaksOff, SaysMove, SaysMoves, is_told, call_says, Tells, SaysTold, collects, collected_said, Collected}
 use Rattle.script_session.specs.States.{State, HasPipe, Stands, Posted}
 use Rattle.script_session.specs.Telling.{callback_said}
-use Rattle.script_session.proofs.Arms.{stops-same}
+use Rattle.script_session.proofs.Breaking.{stops-none}
 use Rattle.script_session.proofs.Ended.{drains-last}
 use Rattle.script_session.proofs.Leading.{drain-more}
 use Rattle.script_session.proofs.Moving.{OnTheWay, sets-out, goes-further, all-moved}
@@ -246,5 +246,5 @@ pub says-all : (i : ℕ) (lives now : List Live) (k l : Known (BoardEntry Ask)) 
 says-all i lives now k l text text' saying past =
     record { said = saying.said; moves = all-moved drain_all i lives now k l [] saying.said saying.way past; says = saying.says }
 
-pub breaks-off_same : (s : State) (text text' : List ℕ) → Stands s.walk.lives (known s.registry) → Posted s.walk (known s.board) → text' ≡ text → BreaksOff s s text text'
-breaks-off_same s text text' stands posted e = record { stops = stops-same s stands; called = (kept-same (known s.board) posted.legal).called; says = e }
+pub breaks-off_same : (d : Dialogue) (s : State) (text text' : List ℕ) → Stands s.walk.lives (known s.registry) → Posted s.walk (known s.board) → text' ≡ text → BreaksOff d s s text text'
+breaks-off_same d s text text' stands posted e = record { stops = stops-none d s stands; called = (kept-same (known s.board) posted.legal).called; says = e }

@@ -8,9 +8,15 @@ use Rattle.alg_registry.specs.declared.entry.RegEntry.TheVariants as entry
 use Rattle.alg_registry.specs.Rows.{caller_of}
 use Rattle.reply_text.specs.declared.answers.Answer.{Answer}
 use Rattle.shared_registry.specs.Building.{is_building}
-use Rattle.templates.specs.Looking.{Found, found_in}
+use Rattle.templates.specs.Looking.{Found, Fault, found_in}
 use Rattle.turn_lock.specs.Turns.{of}
+use Rattle.dialogues.specs.Dialogues.{Dialogue, Asks}
+use Rattle.dialogues.specs.First.{AreFirstCalls, BeginsBy}
 use Rattle.dialogues.specs.InTurn.{is_look}
+use Rattle.dialogues.specs.Names.{name_read}
+use Rattle.dialogues.specs.Probing.{found_said, looks_up, looks_all}
+use Rattle.dialogues.specs.Questions.{Look}
+use Rattle.dialogues.proofs.First.{begins-none, begins-asks}
 use Rattle.dialogues.specs.References.{got, given}
 use Rattle.dialogues.specs.RegistryCalls.{RegCall, Looks, reg_call_of, reg_calls_from, prepend, AllSettled}
 use Rattle.session_calls.specs.Looking.{Sought}
@@ -191,3 +197,27 @@ calls-are-looks h n before xs work texts searches read mine all_work =
     ∙ (own_calls-append h n (look_entries n searches) work
     ∙ ((λ i. look-calls h n texts searches read i ++ none.0 i)
     ∙ append-nil (calls_of h searches))))
+
+-- ---- looks of the first of several names are the first calls of looking them all up
+
+begins-looked : (text : List ℕ) (o : Option Found) (next : Found → Dialogue) (r : List RegCall) → ((found : Found) → BeginsBy (next found) r []) → BeginsBy (Asks (Look text) next) (Looks text o ∷ r) []
+begins-looked text (Some found) next r all calls may = begins-asks (Look text) found next r [] (all found) calls may
+begins-looked text None next r all [] may = absurd may
+begins-looked text None next r all (call ∷ calls) may =
+    let found = may.0.0 in
+    subst (λ x. AreFirstCalls (Asks (Look text) next) (x ∷ calls) []) (sym may.0.1) (begins-asks (Look text) found next r [] (all found) (Looks text (Some found) ∷ calls) (refl, may.1))
+
+begins-up : (h : List RegEntry) (text : List ℕ) (look : Result Sought Errno) (next : Found → Dialogue) (r : List RegCall) → IsRead text look → ((found : Found) → BeginsBy (next found) r [])
+    → BeginsBy (looks_up text (name_read text) next) (call_of h text look ++ r) []
+begins-up h text (Ok look) next r read all =
+    subst (λ reading. BeginsBy (looks_up text reading next) (Looks text (found_in h look.looked) ∷ r) []) (sym read.1) (begins-looked text (found_in h look.looked) next r all)
+begins-up h text (Err errno) next r read all = subst (λ reading. BeginsBy (looks_up text reading next) r []) (sym read) (all (Fault errno))
+
+pub begins-looks : (n : ℕ) (front more : List (List ℕ)) (rest : List Answer → Dialogue) (h : List RegEntry) (searches : List Searched) → AreRead front searches → BeginsBy (looks_all n (front ++ more) rest) (calls_of h searches) []
+begins-looks n [] more rest h [] read = begins-none (looks_all n more rest)
+begins-looks n (text ∷ front) more rest h (search ∷ searches) read =
+    let next : Found → Dialogue = λ found. looks_all n (front ++ more) (λ answers. rest (found_said n search.text found ∷ answers)) in
+    subst (λ t. BeginsBy (looks_all n (t ∷ (front ++ more)) rest) (calls_of h (search ∷ searches)) []) read.0
+    (begins-up h search.text search.look next (calls_of h searches) read.1 (λ found. begins-looks n front more (λ answers. rest (found_said n search.text found ∷ answers)) h searches read.2))
+begins-looks n [] more rest h (search ∷ searches) read = absurd read
+begins-looks n (text ∷ front) more rest h [] read = absurd read

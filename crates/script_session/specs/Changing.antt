@@ -9,6 +9,7 @@ use Rattle.reply_text.specs.declared.answers.Answer.{Answer}
 use Rattle.turn_lock.specs.Turns.{Known}
 use Rattle.dialogues.specs.BoardCalls.{BoardCall, Closes}
 use Rattle.dialogues.specs.Dialogues.{Dialogue}
+use Rattle.dialogues.specs.First.{BeginsBy}
 use Rattle.dialogues.specs.Turns.{IsTurn}
 use Rattle.dialogues.specs.Walk.{Walk, Live, Pipe, live_of, with_live}
 use Rattle.session_calls.specs.Pipelines.{Called, Owns}
@@ -44,6 +45,14 @@ pub record HoldsFor (dialogue : Walk → Dialogue) (live live' : Live) (k l : Kn
   pub is : (walk : Walk) → live_of walk live.label ≡ Some live → Posted walk k
       → IsTurn (dialogue walk) (record { registry = []; board = calls; answers = said; after = Some (counting (with_live walk live') asks) })
   pub says : answers' ≡ answers ++ said
+
+-- It was broken off with one transform: the calls that were made are the first of it for any walk in which the transform
+-- stands.
+pub record StopsFor (dialogue : Walk → Dialogue) (live : Live) (k l : Known (BoardEntry Ask)) : Type 0 where
+  pub calls : List BoardCall
+  pub called : Called k l calls
+  pub unshut : k.number ≡ 0 → is_shut l.seen ≡ is_shut k.seen
+  pub begins : (walk : Walk) → live_of walk live.label ≡ Some live → Posted walk k → BeginsBy (dialogue walk) [] calls
 
 -- the ask, where it was accepted
 abbrev pub asks_if : Bool → Ask → List Ask

@@ -5,7 +5,7 @@ use Rattle.board.specs.declared.entry.BoardEntry.{BoardEntry}
 use Rattle.board.specs.declared.entry.BoardEntry.TheVariants.{Shut}
 use Rattle.board.specs.Allowance.{accepted_by}
 use Rattle.board.specs.Entries.{entries_of, submissions, front, is_closed, is_shared, caller_of}
-use Rattle.board.specs.Legal.{MayManage, LegalBoard}
+use Rattle.board.specs.Legal.{MayManage, LegalBoard, is_shut}
 use Rattle.board.specs.Staying.{IsDrained}
 use Rattle.transforms.specs.declared.ask.Ask.{Ask}
 use Rattle.reply_text.specs.declared.answers.Answer.{Answer}
@@ -13,6 +13,7 @@ use Rattle.turn_lock.specs.Meeting.{IsOwn}
 use Rattle.turn_lock.specs.Turns.{Known}
 use Rattle.dialogues.specs.BoardCalls.{BoardCall}
 use Rattle.dialogues.specs.Dialogues.{Dialogue}
+use Rattle.dialogues.specs.First.{BeginsBy}
 use Rattle.dialogues.specs.RegistryCalls.{RegCall}
 use Rattle.dialogues.specs.Piping.{end, end_beside}
 use Rattle.dialogues.specs.Turns.{Turn, IsTurn, joined, turn_of, text_in}
@@ -33,6 +34,13 @@ part calls said = record { registry = []; board = calls; answers = said; after =
 abbrev pub LeadsBy : (Dialogue → Dialogue) → List BoardCall → List Answer → Type 0
 LeadsBy dialogue calls said =
     (rest : Dialogue) (r : List RegCall) (b : List BoardCall) → turn_of (dialogue rest) r (calls ++ b) ≡ joined (part calls said) (turn_of rest r b)
+
+-- The part was broken off: the calls that were made are its first, whatever is left of the dialogue behind it.
+pub record StopsMoving (dialogue : Dialogue → Dialogue) (k l : Known (BoardEntry Ask)) : Type 0 where
+  pub calls : List BoardCall
+  pub called : Called k l calls
+  pub unshut : k.number ≡ 0 → is_shut l.seen ≡ is_shut k.seen
+  pub begins : (rest : Dialogue) → BeginsBy (dialogue rest) [] calls
 
 -- ---- one transform
 

@@ -1,5 +1,5 @@
 -- What the first script leaves that shares its transforms, and how it ends when the others have.
-use Rattle.std.specs.Prelude.{ℕ, ◌≡◌, List, [], ◌++◌, Option, Some, None, ⊤, All}
+use Rattle.std.specs.Prelude.{ℕ, ◌≡◌, List, [], Option, Some, None, ⊤, All}
 use Rattle.board.specs.declared.entry.BoardEntry.{BoardEntry}
 use Rattle.board.specs.Legal.{LegalBoard, is_shut}
 use Rattle.transforms.specs.declared.ask.Ask.{Ask}

@@ -15,3 +15,4 @@ pub mod Saying
 pub mod Sharing
 pub mod Lending
 pub mod Gathering
+pub mod Breaking

@@ -1,5 +1,5 @@
 -- A `probe` as it is made: first a look for each of its names that is one, and then what these come to.
-use Rattle.std.specs.Prelude.{◌≡◌, ℕ, true, List, [], ◌∷◌, Option, Some, Result, Ok, Err, All, ⊤}
+use Rattle.std.specs.Prelude.{◌≡◌, ℕ, true, List, [], ◌∷◌, take, Option, Some, Result, Ok, Err, All, ⊤}
 use Rattle.std.specs.List.{list_all, flat_map}
 use Rattle.kc_base.specs.declared.error_numbers.Errno.{Errno}
 use Rattle.alg_names.specs.Name.{Tree}
@@ -48,6 +48,10 @@ pub record LooksFirst (before after : Option RegPass) (texts : List (List ℕ)) 
   pub read : AreRead texts searches
   pub goes : Goes before after (look_entries (known before).number searches)
   pub ready : All (λ (search : Searched). MaySettle (known after) search.look) searches
+
+-- so were the first of the names
+abbrev pub LooksSome : Option RegPass → Option RegPass → List (List ℕ) → Type 0
+LooksSome before after texts = (n : ℕ) × (searches : List Searched) × LooksFirst before after (take n texts) searches
 
 -- what a search has come to in a history
 abbrev pub comes_to : List RegEntry → Result Sought Errno → Option Found

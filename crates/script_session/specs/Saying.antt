@@ -23,7 +23,7 @@ use Rattle.session_calls.specs.Passes.{known}
 use Rattle.session_calls.specs.Pipelines.{Called, Polled}
 use Rattle.script_session.specs.Changing.{HoldsFor}
 use Rattle.script_session.specs.Ending.{Moves, MovesAll}
-use Rattle.script_session.specs.Holding.{HoldsBy, Stops}
+use Rattle.script_session.specs.Holding.{HoldsBy, StopsIn}
 use Rattle.script_session.specs.States.{State}
 
 -- ---- room
@@ -80,8 +80,8 @@ pub record SaysBy (width : ℕ) (dialogue : Dialogue) (s s' : State) (text text'
   pub held : HoldsBy width dialogue s s' [] said
   pub says : text' ≡ text ++ flat_map text_of said
 
-pub record BreaksOff (s s' : State) (text text' : List ℕ) : Type 0 where
-  pub stops : Stops s s'
+pub record BreaksOff (dialogue : Dialogue) (s s' : State) (text text' : List ℕ) : Type 0 where
+  pub stops : StopsIn dialogue s s'
   pub called : Called (known s.board) (known s'.board) []
   pub says : text' ≡ text
 

@@ -1,17 +1,19 @@
 -- Transforms that several scripts share, and what a line does with one of them.
-use Rattle.std.specs.Prelude.{ℕ, ◌≡◌, Bool, List, [], ◌∷◌, ◌++◌, Option, Some, None}
+use Rattle.std.specs.Prelude.{◌≡◌, Bool, List, [], ◌∷◌, ◌++◌, Option, Some, None}
 use Rattle.std.specs.Arc.{arc_value}
 use Rattle.std.specs.declared.sync.Arc.{Arc}
 use Rattle.board.specs.declared.entry.BoardEntry.{BoardEntry}
 use Rattle.board.specs.declared.entry.Entered.{Entered}
+use Rattle.board.specs.Legal.{is_shut}
 use Rattle.transforms.specs.declared.ask.Ask.{Ask}
 use Rattle.reply_text.specs.declared.answers.Answer.{Answer}
 use Rattle.turn_lock.specs.Turns.{Known}
 use Rattle.dialogues.specs.BoardCalls.{BoardCall}
 use Rattle.dialogues.specs.Dialogues.{Dialogue}
+use Rattle.dialogues.specs.First.{BeginsBy}
 use Rattle.dialogues.specs.Turns.{IsTurn}
 use Rattle.dialogues.specs.Walk.{Walk, Live, Pipe, live_of}
-use Rattle.session_calls.specs.Pipelines.{entered_asks}
+use Rattle.session_calls.specs.Pipelines.{Called, entered_asks}
 use Rattle.session_calls.specs.Sharing.{Gave}
 use Rattle.script_session.specs.Changing.{counting}
 use Rattle.script_session.specs.Offering.{IsAnswerOf, offer_call}
@@ -35,3 +37,10 @@ pub record GivesFor (dialogue : Walk → Dialogue) (live : Live) (k l : Known (B
   pub is : (walk : Walk) → live_of walk live.label ≡ None → Posted walk k
       → IsTurn (dialogue walk) (record { registry = []; board = calls; answers = said; after = Some (counting walk asks) })
   pub says : answers' ≡ answers ++ said
+
+-- It was broken off: the calls that were made are the first of it for any walk that has none of its own under that label.
+pub record StopsGiving (dialogue : Walk → Dialogue) (live : Live) (k l : Known (BoardEntry Ask)) : Type 0 where
+  pub calls : List BoardCall
+  pub called : Called k l calls
+  pub unshut : k.number ≡ 0 → is_shut l.seen ≡ is_shut k.seen
+  pub begins : (walk : Walk) → live_of walk live.label ≡ None → Posted walk k → BeginsBy (dialogue walk) [] calls

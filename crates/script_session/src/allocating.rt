@@ -1,20 +1,21 @@
 //! The lines that take a transform into use and let it go.
 
-ghost use Rattle.std.specs.Prelude.{◌≡◌, ◌≤◌, MatchResult, IsSome, None, Some, true, slice_get};
+ghost use Rattle.std.specs.Prelude.{◌≡◌, ◌≤◌, [], MatchResult, IsSome, None, Some, true, slice_get};
 ghost use Rattle.alg_names.specs.Name.{spelling};
 ghost use Rattle.alg_registry.specs.declared.spec.Spec.{Spec as Algorithm};
 ghost use Rattle.alg_registry.specs.Rows.{registered};
 ghost use Rattle.templates.specs.Looking.{Entry};
 ghost use Rattle.templates.specs.Nesting.{is_nested_well};
-ghost use Rattle.dialogues.specs.Allocating.{alloc, binds, binds_plan, free};
+ghost use Rattle.dialogues.specs.Allocating.{alloc, binds, binds_plan, free, is_chained, shape_for};
 ghost use Rattle.dialogues.specs.Names.{is_queue_length};
 ghost use Rattle.dialogues.specs.Walk.{live_of};
 ghost use Rattle.board.specs.Legal.{IsNoWorker};
+ghost use Rattle.script_session.specs.Breaking.{CallsOn, StopsMaking};
 ghost use Rattle.script_session.specs.Creating.{CreatedLive};
 ghost use Rattle.script_session.specs.Finding.{looks, MakesLive, AddsLive};
 ghost use Rattle.session_calls.specs.Passes.{CallsRegistry, known, lock_of, CallsBoard};
 ghost use Rattle.script_session.specs.States.{Stands, Posted};
-ghost use Rattle.script_session.specs.Holding.{Holds, SeesOn, Stops};
+ghost use Rattle.script_session.specs.Holding.{Holds, StopsIn};
 
 use crate::answers::{refuse, say};
 use crate::naming::{fits_queue, plan_with, read_name};
@@ -69,7 +70,7 @@ fn create_live<R: Wait>(
     ensures lock { lock_of caller.new ≡ lock_of caller.old }
     ensures created { MatchResult result
         (λ live. CreatedLive workers wanted.now.label.now wanted.now.length chosen.now.id chosen.now.spec chosen.now.plan live (known caller.old) (known caller.new))
-        (λ _. SeesOn (known caller.old) (known caller.new)) }
+        (λ _. CallsOn (known caller.old) (known caller.new) []) }
 {
     let label = Bytes::copy_of(alloc, wanted.label.as_slice())?;
     let pipe = create_pipe(
@@ -100,7 +101,7 @@ impl Session {
         requires fits { is_queue_length wanted.now.length ≡ true }
         ensures { MatchResult result
             (λ _. MakesLive wanted.now.label.now wanted.now.length chosen.now.id chosen.now.spec chosen.now.plan self.old self.new)
-            (λ _. Stops self.old self.new) }
+            (λ _. StopsMaking (shape_for self.old.workers (is_chained chosen.now.spec.driver) chosen.now.spec.wrap wanted.now.length) self.old self.new) }
     {
         let live = create_live(
             rt,
@@ -132,7 +133,7 @@ impl Session {
         requires fits { is_queue_length wanted.now.length ≡ true }
         ensures { MatchResult result
             (λ _. AddsLive number wanted.now.label.now wanted.now.length chosen.id chosen.spec chosen.plan self.old self.new answers.old.items answers.new.items)
-            (λ _. Stops self.old self.new) }
+            (λ _. StopsMaking (shape_for self.old.workers (is_chained chosen.spec.driver) chosen.spec.wrap wanted.now.length) self.old self.new) }
     {
         self.make_live(rt, board, wanted, &chosen)?;
         let driver = chosen.spec.driver;
@@ -165,7 +166,7 @@ impl Session {
         requires fits { is_queue_length wanted.now.length ≡ true }
         ensures { MatchResult result
             (λ _. Holds (binds_plan self.old.workers self.old.walk number wanted.now.label.now wanted.now.length chosen.id chosen.spec (Some chosen.plan)) self.old self.new answers.old.items answers.new.items)
-            (λ _. Stops self.old self.new) }
+            (λ _. StopsIn (binds_plan self.old.workers self.old.walk number wanted.now.label.now wanted.now.length chosen.id chosen.spec (Some chosen.plan)) self.old self.new) }
     {
         if !self.registry.take_ref(rt, registry, chosen.id)? {
             return refuse(answers, number, Errno::EAGAIN);
@@ -195,7 +196,8 @@ impl Session {
         ensures { MatchResult result
             (λ _. (spec : Algorithm) × (slice_get (registered (known self.old.registry).seen) id ≡ Some spec)
             × Holds (binds self.old.workers self.old.walk number wanted.now.label.now wanted.now.length (Entry id spec)) self.old self.new answers.old.items answers.new.items)
-            (λ _. Stops self.old self.new) }
+            (λ _. (spec : Algorithm) × (slice_get (registered (known self.old.registry).seen) id ≡ Some spec)
+            × StopsIn (binds self.old.workers self.old.walk number wanted.now.label.now wanted.now.length (Entry id spec)) self.old self.new) }
     {
         let spec = self.registry.origin(rt, registry, id)?;
         let Some(plan) = plan_with(self.alloc, &spec, wanted.length)? else {
@@ -226,7 +228,7 @@ impl Session {
         requires fits { is_queue_length wanted.now.length ≡ true }
         ensures { MatchResult result
             (λ _. Holds (looks self.old.workers self.old.walk number wanted.now.label.now (spelling name.now) wanted.now.length) self.old self.new answers.old.items answers.new.items)
-            (λ _. Stops self.old self.new) }
+            (λ _. StopsIn (looks self.old.workers self.old.walk number wanted.now.label.now (spelling name.now) wanted.now.length) self.old self.new) }
     {
         match self.registry.resolve(rt, self.alloc, registry, name)? {
             Ok(id) => self.bind(rt, board, registry, number, wanted, id, answers),
@@ -252,7 +254,7 @@ impl Session {
         requires few { self.old.workers ≤ 16 }
         ensures { MatchResult result
             (λ _. Holds (alloc self.old.workers self.old.walk number wanted.now.label.now name.now wanted.now.length) self.old self.new answers.old.items answers.new.items)
-            (λ _. Stops self.old self.new) }
+            (λ _. StopsIn (alloc self.old.workers self.old.walk number wanted.now.label.now name.now wanted.now.length) self.old self.new) }
     {
         if self.has_label(wanted.label.as_slice()) {
             return refuse(answers, number, Errno::EEXIST);
@@ -287,7 +289,7 @@ impl Session {
         requires posted { Posted self.old.walk (known self.old.board) }
         ensures { MatchResult result
             (λ _. Holds (free self.old.walk number label.now) self.old self.new answers.old.items answers.new.items)
-            (λ _. Stops self.old self.new) }
+            (λ _. StopsIn (free self.old.walk number label.now) self.old self.new) }
     {
         let Some(place) = self.lives.place_of(label.as_slice()) else {
             let errno = self.missing(label.as_slice());

@@ -3,9 +3,10 @@
 ghost use Rattle.std.specs.Prelude.{◌≡◌, false, OnOk, MatchResult};
 ghost use Rattle.script_text.specs.Sizes.{IsShortLine};
 ghost use Rattle.dialogues.specs.Lines.{line_dialogue};
+ghost use Rattle.dialogues.specs.Piping.{end};
 ghost use Rattle.dialogues.specs.Widths.{width_of};
 ghost use Rattle.script_session.specs.Ending.{EndsWith, EndsShut};
-ghost use Rattle.script_session.specs.Holding.{HoldsBy, Stops};
+ghost use Rattle.script_session.specs.Holding.{HoldsBy, StopsIn};
 ghost use Rattle.script_session.specs.Running.{IsReady};
 ghost use Rattle.script_session.specs.Saying.{hands_out};
 ghost use Rattle.script_session.specs.States.{Stands, Posted};
@@ -27,7 +28,8 @@ use transforms::{Ask, Job};
 
 impl Session {
     /// Answers a line other than `poll` and `drain` as `line` does, and adds its answers, not their text, to those that are there.
-    /// `Stop` comes for want of memory alone: what `answers` has then isn't told, and the session takes no line after it.
+    /// `Stop` comes for want of memory alone: the calls that were made are then the first of the line's dialogue, what `answers`
+    /// has isn't told, and the session takes no line after it.
     pub fn answer_line<R: Threads + Wait + Sync>(
         &mut self,
         rt: &R,
@@ -42,7 +44,7 @@ impl Session {
         requires no_collect { hands_out line ≡ false }
         ensures done { MatchResult result
             (λ _. HoldsBy (width_of line) (line_dialogue self.old.workers self.old.walk number line) self.old self.new answers.old.items answers.new.items)
-            (λ _. Stops self.old self.new) }
+            (λ _. StopsIn (line_dialogue self.old.workers self.old.walk number line) self.old self.new) }
         // It is ready for the next line.
         ensures ready { OnOk result (IsReady registry.now board.now self.new) }
     {
@@ -54,8 +56,9 @@ impl Session {
         }
     }
 
-    /// Does what `end` does, and adds its answers, not their text, to those that are there. `Stop` comes for want of memory alone:
-    /// the board isn't shut then, what `answers` has isn't told, and what was handed out may be lost.
+    /// Does what `end` does, and adds its answers, not their text, to those that are there. `Stop` comes for want of memory
+    /// alone: the calls that were made are then the first of the end's dialogue, and the board isn't shut. What `answers` has
+    /// isn't told, and what was handed out may be lost.
     pub fn answer_end<R: Wait, G: Gate>(
         &mut self,
         rt: &R,
@@ -69,7 +72,7 @@ impl Session {
         requires first { (known self.old.board).number ≡ 0 }
         ensures done { MatchResult result
             (λ _. EndsWith self.old self.new answers.old.items answers.new.items)
-            (λ _. Stops self.old self.new) }
+            (λ _. StopsIn (end self.old.walk) self.old self.new) }
         ensures shut { OnOk result (EndsShut (known self.new.board)) }
     {
         only_collects_hand_out::<Ask>();

@@ -4,7 +4,7 @@ ghost use Rattle.std.specs.Prelude.{◌≡◌, ◌<◌, ◌≤◌, ◌^◌, ℕ,
 ghost use Rattle.dialogues.specs.Bulk.{bulk, bulk_counter, bulk_digest as digest_of, bulk_said, bulk_text, is_ctr};
 ghost use Rattle.reply_text.specs.declared.answers.Answer.TheVariants.{Refused};
 ghost use Rattle.session_calls.specs.Passes.{known};
-ghost use Rattle.script_session.specs.Holding.{Holds, Stops};
+ghost use Rattle.script_session.specs.Holding.{Holds, StopsIn};
 ghost use Rattle.script_session.specs.States.{Stands, Posted};
 ghost use Rattle.transforms.specs.Forms.{key_of};
 
@@ -125,7 +125,7 @@ impl Session {
         requires posted { Posted self.old.walk (known self.old.board) }
         ensures { MatchResult result
             (λ _. Holds (bulk self.old.walk number label.now size seed) self.old self.new answers.old.items answers.new.items)
-            (λ _. Stops self.old self.new) }
+            (λ _. StopsIn (bulk self.old.walk number label.now size seed) self.old self.new) }
     {
         let threads = self.workers.max(1);
         let Some(live) = self.either_of(label.as_slice()) else {

@@ -7,8 +7,7 @@ ghost use Rattle.board.specs.Allowance.{accepted_by};
 ghost use Rattle.board.specs.Legal.{LegalBoard};
 ghost use Rattle.reply_text.specs.Answers.{text_of};
 ghost use Rattle.dialogues.specs.Piping.{drains_at_end, drain_all, end_said};
-ghost use Rattle.script_session.specs.Ending.{ArePosted, AreAllPaid, IsPaid};
-ghost use Rattle.script_session.specs.Holding.{SeesOn};
+ghost use Rattle.script_session.specs.Ending.{ArePosted, AreAllPaid, IsPaid, StopsMoving};
 ghost use Rattle.script_session.specs.Saying.{SaysFor, SaysBy, BreaksFor, BreaksOff, SaysMove, SaysMoves, SaysTold, collects, collected_said, Collected};
 ghost use Rattle.script_session.specs.States.{HasPipe, Stands, Posted};
 ghost use Rattle.session_calls.specs.Passes.{known, lock_of, CallsBoard};
@@ -131,7 +130,7 @@ impl Session {
         requires posted { Posted self.old.walk (known self.old.board) }
         ensures { MatchResult result
             (λ _. SaysBy 1 (collects waits self.old.walk number label.now) self.old self.new reply.old.text reply.new.text)
-            (λ _. BreaksOff self.old self.new reply.old.text reply.new.text) }
+            (λ _. BreaksOff (collects waits self.old.walk number label.now) self.old self.new reply.old.text reply.new.text) }
     {
         let Some(place) = self.lives.place_of(label.as_slice()) else {
             let errno = self.missing(label.as_slice());
@@ -188,7 +187,7 @@ fn drain_last_said<R: Wait, G: Gate>(
     ensures lock { lock_of caller.new ≡ lock_of caller.old }
     ensures moved { MatchResult result
         (λ _. SaysMove (drains_at_end live.old.label live.old.pipe) live.old live.new (known caller.old) (known caller.new) reply.old.text reply.new.text)
-        (λ _. SeesOn (known caller.old) (known caller.new)) }
+        (λ _. StopsMoving (drains_at_end live.old.label live.old.pipe) (known caller.old) (known caller.new)) }
     ensures told { SaysTold (known caller.old) (known caller.new) reply.old.text reply.new.text }
     ensures paid { OnOk result (IsPaid live.new.pipe) }
 {
@@ -224,7 +223,7 @@ pub fn drain_last_said_all<R: Wait, G: Gate>(
     ensures lock { lock_of caller.new ≡ lock_of caller.old }
     ensures moved { MatchResult result
         (λ _. SaysMoves (drain_all lives.old) lives.old lives.new (known caller.old) (known caller.new) reply.old.text reply.new.text)
-        (λ _. SeesOn (known caller.old) (known caller.new)) }
+        (λ _. StopsMoving (drain_all lives.old) (known caller.old) (known caller.new)) }
     ensures told { SaysTold (known caller.old) (known caller.new) reply.old.text reply.new.text }
     ensures paid { OnOk result (AreAllPaid lives.new) }
 {

@@ -2,9 +2,9 @@
 
 ghost use Rattle.std.specs.Prelude.{◌≡◌, ◌++◌, [], OnOk, OnErr, MatchResult};
 ghost use Rattle.board.specs.Legal.{LegalBoard};
-ghost use Rattle.dialogues.specs.Piping.{lets_go, let_all_go, drains_at_end, drain_all, end_said};
-ghost use Rattle.script_session.specs.Ending.{Moves, MovesAll, ArePosted, AreAllPaid, IsPaid, AnswersEnd, EndsShut};
-ghost use Rattle.script_session.specs.Holding.{SeesOn, Stops};
+ghost use Rattle.dialogues.specs.Piping.{lets_go, let_all_go, drains_at_end, drain_all, end, end_said};
+ghost use Rattle.script_session.specs.Ending.{Moves, MovesAll, StopsMoving, ArePosted, AreAllPaid, IsPaid, AnswersEnd, EndsShut};
+ghost use Rattle.script_session.specs.Holding.{StopsIn};
 ghost use Rattle.script_session.specs.Saying.{SaysTold, Tells};
 ghost use Rattle.script_session.specs.States.{HasPipe, Stands, Posted};
 ghost use Rattle.session_calls.specs.Passes.{known, lock_of, CallsBoard};
@@ -36,7 +36,7 @@ fn release_live<R: Wait>(
     ensures lock { lock_of caller.new ≡ lock_of caller.old }
     ensures moved { MatchResult result
         (λ _. Moves (lets_go live.old.pipe) live.old live.new (known caller.old) (known caller.new) [] [])
-        (λ _. SeesOn (known caller.old) (known caller.new)) }
+        (λ _. StopsMoving (lets_go live.old.pipe) (known caller.old) (known caller.new)) }
     ensures told { Tells (known caller.old) (known caller.new) [] }
 {
     let Some(pipe) = live.pipe() else {
@@ -83,7 +83,7 @@ fn drain_last<R: Wait, G: Gate>(
     ensures lock { lock_of caller.new ≡ lock_of caller.old }
     ensures moved { MatchResult result
         (λ _. Moves (drains_at_end live.old.label live.old.pipe) live.old live.new (known caller.old) (known caller.new) answers.old.items answers.new.items)
-        (λ _. SeesOn (known caller.old) (known caller.new)) }
+        (λ _. StopsMoving (drains_at_end live.old.label live.old.pipe) (known caller.old) (known caller.new)) }
     ensures paid { OnOk result (IsPaid live.new.pipe) }
 {
     let Some(pipe) = live.pipe() else {
@@ -110,7 +110,7 @@ pub fn release_all<R: Wait>(
     ensures lock { lock_of caller.new ≡ lock_of caller.old }
     ensures moved { MatchResult result
         (λ _. MovesAll (let_all_go lives.old) lives.old lives.new (known caller.old) (known caller.new) [] [])
-        (λ _. SeesOn (known caller.old) (known caller.new)) }
+        (λ _. StopsMoving (let_all_go lives.old) (known caller.old) (known caller.new)) }
     ensures told { Tells (known caller.old) (known caller.new) [] }
 {
     for live in lives.iter_mut() {
@@ -134,7 +134,7 @@ pub fn drain_last_all<R: Wait, G: Gate>(
     ensures lock { lock_of caller.new ≡ lock_of caller.old }
     ensures moved { MatchResult result
         (λ _. MovesAll (drain_all lives.old) lives.old lives.new (known caller.old) (known caller.new) answers.old.items answers.new.items)
-        (λ _. SeesOn (known caller.old) (known caller.new)) }
+        (λ _. StopsMoving (drain_all lives.old) (known caller.old) (known caller.new)) }
     ensures paid { OnOk result (AreAllPaid lives.new) }
 {
     for live in lives.iter_mut() {
@@ -148,8 +148,9 @@ impl Session {
     /// in order of allocation, and then the board is shut. No line comes after it. The session's is the board's first pass,
     /// with the number 0.
     ///
-    /// It does what jobs there are while it waits. `Stop` comes for want of memory alone; then the board isn't shut, and the reply has
-    /// the text of what its pipelines handed out up to then, and no other callback.
+    /// It does what jobs there are while it waits. `Stop` comes for want of memory alone: the calls that were made are then the
+    /// first of the end's dialogue, and the board isn't shut. The reply has the text of what its pipelines handed out up to
+    /// then, and no other callback.
     pub fn end<R: Wait, G: Gate>(
         &mut self,
         rt: &R,
@@ -163,7 +164,7 @@ impl Session {
         requires first { (known self.old.board).number ≡ 0 }
         ensures done { MatchResult result
             (λ _. AnswersEnd self.old self.new reply.old.text reply.new.text)
-            (λ _. Stops self.old self.new) }
+            (λ _. StopsIn (end self.old.walk) self.old self.new) }
         ensures shut { OnOk result (EndsShut (known self.new.board)) }
         ensures told { OnErr result (SaysTold (known self.old.board) (known self.new.board) reply.old.text reply.new.text) }
     {

@@ -13,8 +13,8 @@ ghost use Rattle.session_calls.specs.Passes.{known, lock_of, CallsBoard};
 ghost use Rattle.session_calls.specs.Pipelines.{Kept};
 ghost use Rattle.session_calls.specs.Sharing.{KnowsShared};
 ghost use Rattle.script_session.specs.Changing.{asks_if};
-ghost use Rattle.script_session.specs.Holding.{Holds, SeesOn, Stops};
-ghost use Rattle.script_session.specs.Sharing.{GivesFor, OffersShared};
+ghost use Rattle.script_session.specs.Holding.{Holds, StopsIn};
+ghost use Rattle.script_session.specs.Sharing.{GivesFor, StopsGiving, OffersShared};
 ghost use Rattle.script_session.specs.States.{Stands, Posted, HasShared, AreShared};
 
 use crate::answers::{refuse, say, value_answer};
@@ -76,7 +76,7 @@ fn give_job<R: Wait>(
     ensures lock { lock_of caller.new ≡ lock_of caller.old }
     ensures held { MatchResult result
         (λ accepted. GivesFor (λ walk. requests_in walk line live.now (asked_by (arc_value job.ask)) backlog live.now.pipe) live.now (known caller.old) (known caller.new) (asks_if accepted (arc_value job.ask)) answers.old.items answers.new.items)
-        (λ _. SeesOn (known caller.old) (known caller.new)) }
+        (λ _. StopsGiving (λ walk. requests_in walk line live.now (asked_by (arc_value job.ask)) backlog live.now.pipe) live.now (known caller.old) (known caller.new)) }
     ensures allowed { IfOk result (λ accepted. IsTrue accepted → IsAllowed ask_size (known caller.old).seen (known caller.old).number (arc_value job.ask)) }
 {
     let Some(pipe) = live.pipe() else {
@@ -131,7 +131,7 @@ impl Session {
         requires text { length asked.text.text < 2 ^ 32 }
         ensures { MatchResult result
             (λ _. Holds (request self.old.walk number label.now asked backlog) self.old self.new answers.old.items answers.new.items)
-            (λ _. Stops self.old self.new) }
+            (λ _. StopsIn (request self.old.walk number label.now asked backlog) self.old self.new) }
     {
         let Some(live) = find_shared(&self.shared, label.as_slice()) else {
             return refuse(answers, number, Errno::ENOENT);

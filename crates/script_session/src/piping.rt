@@ -1,7 +1,8 @@
 //! What lines do with the pipeline of one transform.
 
-ghost use Rattle.std.specs.Prelude.{◌≡◌, ◌≢◌, ◌↔◌, ◌≤◌, Some, MatchResult, IfOk, IfErr, IsTrue, true, false};
+ghost use Rattle.std.specs.Prelude.{◌≡◌, ◌≢◌, ◌↔◌, ◌≤◌, [], Some, MatchResult, IfOk, IfErr, IsTrue, true, false};
 ghost use Rattle.board.specs.declared.board_core.BoardErr.TheVariants as BoardErr;
+ghost use Rattle.script_session.specs.Breaking.{CallsOn};
 ghost use Rattle.script_session.specs.Holding.{SeesOn};
 ghost use Rattle.script_session.specs.Offering.{Offered};
 ghost use Rattle.session_calls.specs.Pipelines.{KnowsPipe, Kept};
@@ -17,7 +18,7 @@ ghost use Rattle.transforms.specs.AskValue.{ask_size};
 ghost use Rattle.dialogues.specs.Requesting.{requests_in};
 ghost use Rattle.session_calls.specs.Passes.{known, lock_of, CallsBoard};
 ghost use Rattle.script_session.specs.States.{HasPipe};
-ghost use Rattle.script_session.specs.Changing.{HoldsFor, Released, asks_if, owes};
+ghost use Rattle.script_session.specs.Changing.{HoldsFor, StopsFor, Released, asks_if, owes};
 
 use crate::answers::{refuse, say, value_answer};
 use crate::naming::is_chained_driver;
@@ -81,7 +82,7 @@ pub fn take_job<R: Wait>(
     ensures lock { lock_of caller.new ≡ lock_of caller.old }
     ensures held { MatchResult result
         (λ accepted. HoldsFor (λ walk. requests_in walk of.line live.old (asked_by (arc_value job.ask)) backlog live.old.pipe) live.old live.new (known caller.old) (known caller.new) (asks_if accepted (arc_value job.ask)) answers.old.items answers.new.items)
-        (λ _. SeesOn (known caller.old) (known caller.new)) }
+        (λ _. StopsFor (λ walk. requests_in walk of.line live.old (asked_by (arc_value job.ask)) backlog live.old.pipe) live.old (known caller.old) (known caller.new)) }
     ensures allowed { IfOk result (λ accepted. IsTrue accepted → IsAllowed ask_size (known caller.old).seen (known caller.old).number (arc_value job.ask)) }
 {
     let Some(pipe) = live.pipe() else {
@@ -192,7 +193,7 @@ fn create_queue<R: Wait>(
     ensures lock { lock_of caller.new ≡ lock_of caller.old }
     ensures created { MatchResult result
         (λ pipe. Created (Some (queue_shape workers chained length)) (Some pipe) (known caller.old) (known caller.new))
-        (λ _. SeesOn (known caller.old) (known caller.new)) }
+        (λ _. CallsOn (known caller.old) (known caller.new) []) }
 {
     let max = length.unwrap_or(QUEUE_LENGTH);
     if chained {
@@ -221,7 +222,7 @@ pub fn create_pipe<R: Wait>(
     ensures lock { lock_of caller.new ≡ lock_of caller.old }
     ensures created { MatchResult result
         (λ pipe. Created (shape_for workers (is_chained spec.now.driver) spec.now.wrap length) pipe (known caller.old) (known caller.new))
-        (λ _. SeesOn (known caller.old) (known caller.new)) }
+        (λ _. CallsOn (known caller.old) (known caller.new) []) }
 {
     match spec.wrap {
         Wrap::Plain => Ok(None),

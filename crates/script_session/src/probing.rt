@@ -4,11 +4,10 @@ ghost use Rattle.std.specs.Prelude.{◌≡◌, ◌++◌, ◌∷◌, [], List, le
 ghost use Rattle.alg_registry.specs.Legal.{is_worker};
 ghost use Rattle.reply_text.specs.declared.answers.Answer.{Answer as Said};
 ghost use Rattle.dialogues.specs.Probing.{found_said, probe};
-ghost use Rattle.session_calls.specs.Asking.{SeesMore};
-ghost use Rattle.session_calls.specs.Looking.{Goes, found_result};
+ghost use Rattle.session_calls.specs.Looking.{Builds, Goes, found_result};
 ghost use Rattle.session_calls.specs.Passes.{CallsRegistry, known};
-ghost use Rattle.script_session.specs.Holding.{HoldsBy, Stops};
-ghost use Rattle.script_session.specs.Probing.{Searched, IsRead, entry_of, MaySettle, LooksFirst, IsSaid, SettlesThen};
+ghost use Rattle.script_session.specs.Holding.{HoldsBy, StopsIn};
+ghost use Rattle.script_session.specs.Probing.{Searched, IsRead, entry_of, MaySettle, LooksFirst, LooksSome, IsSaid, SettlesThen};
 ghost use Rattle.script_session.specs.States.{Stands, Posted};
 ghost use Rattle.templates.specs.Looking.{Found};
 
@@ -55,7 +54,7 @@ fn look_for<R: Wait>(
     requires outsider { IsFalse (is_worker (known caller.old).number) }
     ensures { MatchResult result
         (λ look. IsRead text.now look × Goes caller.old caller.new (entry_of (known caller.old).number look) × MaySettle (known caller.new) look)
-        (λ _. SeesMore caller.old caller.new) }
+        (λ _. Goes caller.old caller.new []) }
 {
     match read_name(alloc, text) {
         Ok(name) => Ok(Ok(caller.look(rt, alloc, registry, name)?)),
@@ -76,7 +75,7 @@ fn look_for_all<R: Wait>(
     requires outsider { IsFalse (is_worker (known caller.old).number) }
     ensures { MatchResult result
         (λ searches. LooksFirst caller.old caller.new texts.now searches.items)
-        (λ _. SeesMore caller.old caller.new) }
+        (λ _. LooksSome caller.old caller.new texts.now) }
 {
     let mut searches = Vec::new(alloc);
     for text in texts {
@@ -123,7 +122,7 @@ fn settle<R: Wait>(
     requires may { MaySettle (known caller.old) search.now.look }
     ensures { MatchResult result
         (λ answer. SettlesThen caller.old caller.new line (search.now ∷ []) (answer ∷ []))
-        (λ _. SeesMore caller.old caller.new) }
+        (λ _. Builds caller.old caller.new) }
 {
     let name = Bytes::copy_of(alloc, search.text.as_slice())?;
     match &search.look {
@@ -149,7 +148,7 @@ fn settle_all<R: Wait>(
     requires may { All (λ (search : Searched). MaySettle (known caller.old) search.look) searches.now }
     ensures { MatchResult result
         (λ _. (said : List Said) × (answers.new.items ≡ answers.old.items ++ said) × SettlesThen caller.old caller.new line searches.now said)
-        (λ _. SeesMore caller.old caller.new) }
+        (λ _. Builds caller.old caller.new) }
 {
     registry_calls_go_on();
     for search in searches {
@@ -175,7 +174,7 @@ impl Session {
         requires posted { Posted self.old.walk (known self.old.board) }
         ensures { MatchResult result
             (λ _. HoldsBy (length names.now) (probe self.old.walk number names.now) self.old self.new answers.old.items answers.new.items)
-            (λ _. Stops self.old self.new) }
+            (λ _. StopsIn (probe self.old.walk number names.now) self.old self.new) }
     {
         calls_at_once();
         let searches = look_for_all(

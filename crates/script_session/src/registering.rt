@@ -4,7 +4,7 @@ ghost use Rattle.std.specs.Prelude.{MatchResult};
 ghost use Rattle.dialogues.specs.Registering.{register, unregister, refs, listed};
 ghost use Rattle.session_calls.specs.Passes.{CallsRegistry, known};
 ghost use Rattle.script_session.specs.States.{Stands, Posted};
-ghost use Rattle.script_session.specs.Holding.{Holds, Stops};
+ghost use Rattle.script_session.specs.Holding.{Holds, Stops, StopsIn};
 
 use crate::answers::{enlisted_answer, refs_answer, refuse, say, unlisted_answer};
 use crate::drivers::driver_of;
@@ -35,7 +35,7 @@ impl Session {
         requires posted { Posted self.old.walk (known self.old.board) }
         ensures { MatchResult result
             (λ _. Holds (register self.old.walk number driver.now priority) self.old self.new answers.old.items answers.new.items)
-            (λ _. Stops self.old self.new) }
+            (λ _. StopsIn (register self.old.walk number driver.now priority) self.old self.new) }
     {
         let Some(spec) = driver_of(self.alloc, driver.as_slice(), priority)? else {
             return refuse(answers, number, Errno::ENOENT);
@@ -61,7 +61,7 @@ impl Session {
         requires posted { Posted self.old.walk (known self.old.board) }
         ensures { MatchResult result
             (λ _. Holds (unregister self.old.walk number driver.now) self.old self.new answers.old.items answers.new.items)
-            (λ _. Stops self.old self.new) }
+            (λ _. StopsIn (unregister self.old.walk number driver.now) self.old self.new) }
     {
         let was_there = self.registry.unlist(rt, registry, driver.as_slice())?;
         say(answers, unlisted_answer(number, was_there))
@@ -81,7 +81,7 @@ impl Session {
         requires posted { Posted self.old.walk (known self.old.board) }
         ensures { MatchResult result
             (λ _. Holds (refs self.old.walk number driver.now) self.old self.new answers.old.items answers.new.items)
-            (λ _. Stops self.old self.new) }
+            (λ _. StopsIn (refs self.old.walk number driver.now) self.old self.new) }
     {
         let references = self.registry.refs(rt, registry, driver.as_slice())?;
         say(answers, refs_answer(number, references))
@@ -100,7 +100,7 @@ impl Session {
         requires posted { Posted self.old.walk (known self.old.board) }
         ensures { MatchResult result
             (λ _. Holds (listed self.old.walk number) self.old self.new answers.old.items answers.new.items)
-            (λ _. Stops self.old self.new) }
+            (λ _. StopsIn (listed self.old.walk number) self.old self.new) }
     {
         let listing = self.registry.list(rt, registry)?;
         list_rows(self.alloc, number, listing.rows(), answers)

@@ -5,7 +5,7 @@ ghost use Rattle.std_defs.specs.Aes.{IsKeyLength, seal};
 ghost use Rattle.dialogues.specs.Requesting.{aes_said, request_of, aes, request};
 ghost use Rattle.session_calls.specs.Passes.{known, CallsBoard};
 ghost use Rattle.script_session.specs.States.{Stands, Posted, AreShared, counted};
-ghost use Rattle.script_session.specs.Holding.{Holds, Stops};
+ghost use Rattle.script_session.specs.Holding.{Holds, StopsIn};
 
 use crate::answers::{refuse, say};
 use crate::piping::take_job;
@@ -73,7 +73,7 @@ impl Session {
         requires posted { Posted self.old.walk (known self.old.board) }
         ensures { MatchResult result
             (λ _. Holds (aes self.old.walk number key.now block.now) self.old self.new answers.old.items answers.new.items)
-            (λ _. Stops self.old self.new) }
+            (λ _. StopsIn (aes self.old.walk number key.now block.now) self.old self.new) }
     {
         let answer = answer_aes(self.alloc, number, key.as_slice(), block.as_slice())?;
         say(answers, answer)
@@ -109,7 +109,7 @@ impl Session {
         requires text { length asked.text.text < 2 ^ 32 }
         ensures { MatchResult result
             (λ _. Holds (request self.old.walk number label.now asked backlog) self.old self.new answers.old.items answers.new.items)
-            (λ _. Stops self.old self.new) }
+            (λ _. StopsIn (request self.old.walk number label.now asked backlog) self.old self.new) }
     {
         let Some(place) = self.lives.place_of(label.as_slice()) else {
             return self.request_shared(rt, board, number, label, asked, backlog, answers);

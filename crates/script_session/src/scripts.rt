@@ -9,7 +9,7 @@ ghost use Rattle.dialogues.specs.Widths.{command_width, width_of};
 ghost use Rattle.script_session.specs.Running.{IsReady, Replies};
 ghost use Rattle.session_calls.specs.Passes.{CallsRegistry, known, CallsBoard};
 ghost use Rattle.script_session.specs.States.{Stands, Posted, IsWide, AreShared};
-ghost use Rattle.script_session.specs.Holding.{HoldsBy, Stops};
+ghost use Rattle.script_session.specs.Holding.{HoldsBy, StopsIn};
 ghost use Rattle.script_session.specs.Saying.{SaysBy, hands_out};
 ghost use Rattle.session_calls.specs.Pipelines.{Called};
 
@@ -117,7 +117,7 @@ impl Session {
         requires no_collect { hands_out (Cmd command) ≡ false }
         ensures { MatchResult result
             (λ _. HoldsBy (command_width command) (command_dialogue self.old.workers self.old.walk number command) self.old self.new answers.old.items answers.new.items)
-            (λ _. Stops self.old self.new) }
+            (λ _. StopsIn (command_dialogue self.old.workers self.old.walk number command) self.old self.new) }
     {
         match command {
             Command::Aes { key, block } => self.aes(number, &key, &block, answers),
@@ -211,7 +211,7 @@ impl Session {
         requires no_collect { hands_out line ≡ false }
         ensures done { MatchResult result
             (λ _. SaysBy (width_of line) (line_dialogue self.old.workers self.old.walk number line) self.old self.new reply.old.text reply.new.text)
-            (λ _. Stops self.old self.new) }
+            (λ _. StopsIn (line_dialogue self.old.workers self.old.walk number line) self.old self.new) }
         ensures unwritten { OnErr result (reply.new.text ≡ reply.old.text) }
     {
         let mut answers = Vec::new(self.alloc);
@@ -226,8 +226,8 @@ impl Session {
     /// `number` is the line's place in the script, counted from 1. Its answers bear it, and completions of its request.
     /// Each list of bytes in the line is shorter than 2^32. `drain` does what jobs there are while it waits, `probe` builds, and `bulk`
     /// starts threads, which end in this call. A request keeps the line's bytes. `Stop` comes for want of memory alone, with the
-    /// reply as it was; `poll` and `drain` have made no call on the board then, but jobs may have been done. The session takes no
-    /// line after it.
+    /// reply as it was. The calls that were made are then the first of the line's dialogue. `poll` and `drain` have made none
+    /// on the board, but jobs may have been done. The session takes no line after it.
     pub fn line<R: Threads + Wait + Sync, G: Gate>(
         &mut self,
         rt: &R,
@@ -242,7 +242,7 @@ impl Session {
         requires short { IsShortLine line }
         ensures done { MatchResult result
             (λ _. Replies (width_of line) (line_dialogue self.old.workers self.old.walk number line) self.old self.new reply.old.text reply.new.text)
-            (λ _. Stops self.old self.new) }
+            (λ _. StopsIn (line_dialogue self.old.workers self.old.walk number line) self.old self.new) }
         // It is ready for the next line.
         ensures ready { OnOk result (IsReady registry.now board.now self.new) }
         ensures unwritten { OnErr result (reply.new.text ≡ reply.old.text) }

@@ -10,8 +10,8 @@ ghost use Rattle.dialogues.specs.Piping.{kept_bits, mask};
 ghost use Rattle.dialogues.specs.Requesting.{set_key, set_tag_size};
 ghost use Rattle.session_calls.specs.Passes.{known, lock_of, CallsBoard};
 ghost use Rattle.session_calls.specs.Pipelines.{KnowsPipe, Kept, IsQueue, Changed};
-ghost use Rattle.script_session.specs.Changing.{HoldsFor};
-ghost use Rattle.script_session.specs.Holding.{Holds, SeesOn, Stops};
+ghost use Rattle.script_session.specs.Changing.{HoldsFor, StopsFor};
+ghost use Rattle.script_session.specs.Holding.{Holds, StopsIn};
 ghost use Rattle.script_session.specs.Settings.{sets, holds_or_goes, hold_call};
 ghost use Rattle.script_session.specs.States.{HasPipe, MadeWide, IsWide, Stands, Posted};
 
@@ -103,7 +103,7 @@ fn mask_live<R: Wait>(
     ensures lock { lock_of caller.new ≡ lock_of caller.old }
     ensures held { MatchResult result
         (λ _. HoldsFor (λ walk. mask workers walk line live.old.label bits) live.old live.new (known caller.old) (known caller.new) [] answers.old.items answers.new.items)
-        (λ _. SeesOn (known caller.old) (known caller.new)) }
+        (λ _. StopsFor (λ walk. mask workers walk line live.old.label bits) live.old (known caller.old) (known caller.new)) }
 {
     let Some(pipe) = live.pipe() else {
         return refuse(answers, line, Errno::EINVAL);
@@ -158,7 +158,7 @@ fn hold_live<R: Wait>(
     ensures lock { lock_of caller.new ≡ lock_of caller.old }
     ensures held { MatchResult result
         (λ _. HoldsFor (λ walk. holds_or_goes walk line live.old.label held) live.old live.new (known caller.old) (known caller.new) [] answers.old.items answers.new.items)
-        (λ _. SeesOn (known caller.old) (known caller.new)) }
+        (λ _. StopsFor (λ walk. holds_or_goes walk line live.old.label held) live.old (known caller.old) (known caller.new)) }
 {
     let Some(pipe) = live.pipe() else {
         return refuse(answers, line, Errno::EINVAL);
@@ -193,7 +193,7 @@ fn set_live<R: Wait>(
     ensures lock { lock_of caller.new ≡ lock_of caller.old }
     ensures held { MatchResult result
         (λ _. HoldsFor (λ walk. sets workers walk line live.old.label setting) live.old live.new (known caller.old) (known caller.new) [] answers.old.items answers.new.items)
-        (λ _. SeesOn (known caller.old) (known caller.new)) }
+        (λ _. StopsFor (λ walk. sets workers walk line live.old.label setting) live.old (known caller.old) (known caller.new)) }
 {
     match setting {
         Setting::Key(key) => key_live(alloc, line, live, key.as_slice(), answers),
@@ -221,7 +221,7 @@ impl Session {
         requires wide { IsWide self.old }
         ensures { MatchResult result
             (λ _. Holds (sets self.old.workers self.old.walk number label.now setting) self.old self.new answers.old.items answers.new.items)
-            (λ _. Stops self.old self.new) }
+            (λ _. StopsIn (sets self.old.workers self.old.walk number label.now setting) self.old self.new) }
     {
         let Some(place) = self.lives.place_of(label.as_slice()) else {
             let errno = self.missing(label.as_slice());

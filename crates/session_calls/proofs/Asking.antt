@@ -25,15 +25,16 @@ use Rattle.templates.specs.declared.build_errors.BuildErr.TheVariants as build
 use Rattle.templates.specs.Looking.{Found, Entry, Fault, found_in, found_as, entry_found, is_asked}
 use Rattle.turn_lock.specs.Meeting.{Meets, AtTurn, GoesOn, Enters, Leaves, IsOwn}
 use Rattle.turn_lock.specs.Passes.{knows}
-use Rattle.turn_lock.specs.Turns.{Known, StartsWith, of}
+use Rattle.turn_lock.specs.Turns.{Known, of}
 use Rattle.turn_lock.specs.Going.{own_entered, own_left, own_goes}
 use Rattle.shared_registry.specs.Building.{LooksFor, Looks as LooksUp, Works, Resolved, is_building}
 use Rattle.shared_registry.specs.Faithful.{IsFaithful}
-use Rattle.dialogues.specs.GoingOn.{RegisteredStays}
+use Rattle.dialogues.specs.First.{AreFurther}
+use Rattle.dialogues.specs.GoingOn.{RegisteredStays, RegistryCallsGoOn}
 use Rattle.dialogues.specs.InTurn.{AreInTurn}
-use Rattle.dialogues.specs.RegistryCalls.{RegCall, Enlists, Looks, Unlists, Gets, Puts, Counts, Lists, reg_call_of, reg_calls, is_settled, if_own, AllSettled}
+use Rattle.dialogues.specs.RegistryCalls.{RegCall, Enlists, Looks, Unlists, Gets, Puts, Counts, Lists, reg_call_of, reg_calls, reg_calls_from, prepend, is_settled, if_own, AllSettled}
 use Rattle.session_calls.specs.Passes.{RegPass, known, lock_of}
-use Rattle.session_calls.specs.Asking.{CallLaws, IsCaller, Asked, Asks, Finds, SeesMore, IsResolved, enlisted_as, unlisted_as, got_as, counted_as, listed_as}
+use Rattle.session_calls.specs.Asking.{CallLaws, IsCaller, Asked, Asks, Finds, SeesCalls, SeesLook, IsResolved, enlisted_as, unlisted_as, got_as, counted_as, listed_as}
 
 -- ---- entries of others are no calls
 
@@ -315,17 +316,76 @@ found-registered h (Some (Ok n)) id spec e =
     let is = entry-is id n (slice_get (registered h) n) spec e in
     subst (λ m. slice_get (registered h) m ≡ Some spec) is.0 is.1
 
-goes-more : (k l : Known RegEntry) (own : List RegEntry) → GoesOn caller_of IsFaithful k l own → (l.number ≡ k.number) × (l.next ≡ k.next) × StartsWith l.seen k.seen
-goes-more k l own goes = (goes.number, goes.next, (goes.between, goes.seen))
+-- ---- where memory was wanting
 
--- where memory was wanting it had looked, or not yet
-memory-more : (k l : Known RegEntry) (text : List ℕ) → Works k l ⊎ ((answer : Looked) × LooksUp k l text false answer) → (l.number ≡ k.number) × (l.next ≡ k.next) × StartsWith l.seen k.seen
-memory-more k l text (inl works) = goes-more k l works.work works.goes
-memory-more k l text (inr looks) = goes-more k l (entry.Look k.number text false looks.0 ∷ looks.1.work) looks.1.goes
+-- what was added are the caller's further calls
+pub further-by : RegistryCallsGoOn → (k l : Known RegEntry) (between : List RegEntry) (calls : List RegCall) → IsCaller k → l.seen ≡ k.seen ++ between
+    → reg_calls_from l.seen k.number k.seen between ≡ calls → AreFurther k.number calls k.seen l.seen
+further-by goes_on k l between calls caller seen are = record {
+  more = between;
+  goes_on = seen;
+  calls_are =
+      ap (reg_calls k.number) seen
+      ∙ (goes_on k.number k.seen between caller.settled
+      ∙ (ap (λ h. reg_calls k.number k.seen ++ reg_calls_from h k.number k.seen between) (sym seen)
+      ∙ ap (λ calls. reg_calls k.number k.seen ++ calls) are));
+}
+
+work-further : CallLaws → (k l : Known RegEntry) → IsCaller k → Works k l → AreFurther k.number [] k.seen l.seen
+work-further law k l caller works =
+    let goes = works.goes in
+    further-by law.goes_on k l goes.between [] caller goes.seen
+    (law.unasked l.seen k.number k.seen goes.between (work-unasked k.number goes.between (ap (list_all is_building) goes.mine ∙ works.all_work)))
+
+look-further : CallLaws → (k l : Known RegEntry) (text : List ℕ) (answer : Looked) → IsCaller k → LooksUp k l text false answer
+    → AreFurther k.number (Looks text (found_in l.seen answer) ∷ []) k.seen l.seen
+look-further law k l text answer caller look =
+    let n = k.number in
+    let h = l.seen in
+    let goes = look.goes in
+    let e : RegEntry = entry.Look n text false answer in
+    let s = split-first n goes.between e look.work goes.mine in
+    let front = k.seen ++ s.0 in
+    let rest : reg_calls_from h n (front ++ e ∷ []) s.1 ≡ [] =
+    law.unasked h n (front ++ e ∷ []) s.1 (work-unasked n s.1 (ap (list_all is_building) s.4 ∙ look.all_work)) in
+    further-by law.goes_on k l goes.between (Looks text (found_in h answer) ∷ []) caller goes.seen
+    (ap (reg_calls_from h n k.seen) s.2
+    ∙ (law.joins h n k.seen s.0 (e ∷ s.1)
+    ∙ (ap (λ calls. calls ++ reg_calls_from h n front (e ∷ s.1)) (law.unasked h n k.seen s.0 (unasked n s.0 s.3))
+    ∙ (ap (λ call. prepend call (reg_calls_from h n (front ++ e ∷ []) s.1)) (own n (Looks text (found_in h answer)))
+    ∙ ap (λ calls. Looks text (found_in h answer) ∷ calls) rest))))
+
+-- a pass that was taken and put back has called this
+calls-at : (before : Option RegPass) (pass pass' : RegPass) (lock : TableId) (own : List RegEntry) (calls : List RegCall) → before ≡ Some pass → lock_of before ≡ Some lock
+    → pass'.badge.table_id ≡ lock → IsCaller (known before) → GoesOn caller_of IsFaithful (knows pass) (knows pass') own
+    → AreFurther (knows pass).number calls (knows pass).seen (knows pass').seen → SeesCalls before (Some pass') calls
+calls-at before pass pass' lock own calls at_hand was now caller goes further =
+    subst (λ o. IsCaller (known o) → lock_of o ≡ Some lock → SeesCalls o (Some pass') calls) (sym at_hand)
+    (λ caller0 was0. record {
+      more = record { lock = ap (λ t. Some t) now ∙ sym was0; number = goes.number; next = goes.next; seen = (goes.between, goes.seen) };
+      further = further;
+      own = own_goes caller_of IsFaithful (knows pass) (knows pass') own caller0.own goes;
+    }) caller was
+
+-- it had looked, or not yet
+memory-sees : CallLaws → (before : Option RegPass) (pass pass' : RegPass) (lock : TableId) (text : List ℕ) → before ≡ Some pass → lock_of before ≡ Some lock
+    → pass'.badge.table_id ≡ lock → IsCaller (known before) → Works (knows pass) (knows pass') ⊎ ((answer : Looked) × LooksUp (knows pass) (knows pass') text false answer)
+    → SeesLook before (Some pass') text
+memory-sees law before pass pass' lock text at_hand was now caller (inl works) =
+    inl (calls-at before pass pass' lock works.work [] at_hand was now caller works.goes
+    (work-further law (knows pass) (knows pass') (subst (λ o. IsCaller (known o)) at_hand caller) works))
+memory-sees law before pass pass' lock text at_hand was now caller (inr looks) =
+    let k = knows pass in
+    let l = knows pass' in
+    inr (
+      found_in l.seen looks.0,
+      calls-at before pass pass' lock (entry.Look k.number text false looks.0 ∷ looks.1.work) (Looks text (found_in l.seen looks.0) ∷ []) at_hand was now caller looks.1.goes
+          (look-further law k l text looks.0 (subst (λ o. IsCaller (known o)) at_hand caller) looks.1),
+    )
 
 pub resolved : {S : Type 0} → CallLaws → (before : Option RegPass) (pass pass' : RegPass) (lock : TableId) (text : List ℕ) (r : Result ℕ BuildErr) (result : Result (Result ℕ Errno) S)
     → before ≡ Some pass → lock_of before ≡ Some lock → pass'.badge.table_id ≡ lock → IsCaller (known before) → Resolved (knows pass) (knows pass') text false r → IsResolved r result
-    → MatchResult result (λ found. Finds before (Some pass') text found) (λ _. SeesMore before (Some pass'))
+    → MatchResult result (λ found. Finds before (Some pass') text found) (λ _. SeesLook before (Some pass') text)
 resolved law before pass pass' lock text (Ok id) (Ok (Ok n)) at_hand was now caller did is =
     let k = knows pass in
     let l = knows pass' in
@@ -338,14 +398,7 @@ resolved law before pass pass' lock text (Ok id) (Ok (Ok n)) at_hand was now cal
 resolved law before pass pass' lock text (Err (build.Fault errno)) (Ok (Err number)) at_hand was now caller did is =
     subst (λ e. Finds before (Some pass') text (Err e)) is
     (asks-at before pass pass' lock (Looks text (Some (Fault errno)) ∷ []) at_hand was now (look-asked law (knows pass) (knows pass') text (Fault errno) (subst (λ o. IsCaller (known o)) at_hand caller) did))
-resolved law before pass pass' lock text (Err build.Memory) (Err s) at_hand was now caller did is =
-    let goes = memory-more (knows pass) (knows pass') text did in
-    record {
-      lock = ap (λ t. Some t) now ∙ sym was;
-      number = goes.0 ∙ ap (λ (o : Option RegPass). (known o).number) (sym at_hand);
-      next = goes.1 ∙ ap (λ (o : Option RegPass). (known o).next) (sym at_hand);
-      seen = subst (λ o. StartsWith (knows pass').seen (known o).seen) (sym at_hand) goes.2;
-    }
+resolved law before pass pass' lock text (Err build.Memory) (Err s) at_hand was now caller did is = memory-sees law before pass pass' lock text at_hand was now caller did
 resolved law before pass pass' lock text (Ok id) (Ok (Err number)) at_hand was now caller did is = absurd is
 resolved law before pass pass' lock text (Ok id) (Err s) at_hand was now caller did is = absurd is
 resolved law before pass pass' lock text (Err (build.Fault errno)) (Ok (Ok n)) at_hand was now caller did is = absurd is

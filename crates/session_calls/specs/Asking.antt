@@ -1,5 +1,5 @@
 -- What a caller asks of the registry, and what it knows of it.
-use Rattle.std.specs.Prelude.{◌≡◌, ℕ, ◌<◌, Bool, true, false, List, [], ◌∷◌, slice_get, Option, Some, None, Result, Ok, Err, IsFalse, ⊤}
+use Rattle.std.specs.Prelude.{◌≡◌, ◌⊎◌, ℕ, ◌<◌, Bool, true, false, List, [], ◌∷◌, slice_get, Option, Some, None, Result, Ok, Err, IsFalse, ⊤}
 use Rattle.kc_base.specs.declared.error_numbers.Errno.{Errno}
 use Rattle.alg_registry.specs.declared.entry.Enlisted.{Enlisted}
 use Rattle.alg_registry.specs.declared.entry.Enlisted.TheVariants.{Made, Exist, NFile}
@@ -13,19 +13,23 @@ use Rattle.alg_registry.specs.Legal.{is_worker}
 use Rattle.alg_registry.specs.Rows.{registered, caller_of}
 use Rattle.templates.specs.declared.build_errors.BuildErr.{BuildErr}
 use Rattle.templates.specs.declared.build_errors.BuildErr.TheVariants as build
-use Rattle.templates.specs.Looking.{Entry, Fault}
+use Rattle.templates.specs.Looking.{Found, Entry, Fault}
 use Rattle.turn_lock.specs.Meeting.{IsOwn}
 use Rattle.turn_lock.specs.Turns.{Known, StartsWith}
-use Rattle.dialogues.specs.GoingOn.{CallsInTurnAre, InTurnByAny}
+use Rattle.dialogues.specs.First.{AreFurther}
+use Rattle.dialogues.specs.GoingOn.{CallsInTurnAre, InTurnByAny, RegistryCallsGoOn, RegistryCallsJoin, RegistryUnasked}
 use Rattle.dialogues.specs.InTurn.{AreInTurnBy, AreCalls}
 use Rattle.dialogues.specs.RegistryCalls.{RegCall, Looks, reg_calls, AllSettled}
 use Rattle.dialogues.specs.References.{got, given}
 use Rattle.session_calls.specs.Passes.{RegPass, known, lock_of}
 
--- calls in turn are the caller's further calls, and are so with any number of looks at once
+-- Calls in turn are the caller's further calls, and are so with any number of looks at once. Only what it asked adds to its calls.
 pub record CallLaws : Type 0 where
   pub are : CallsInTurnAre
   pub any : InTurnByAny
+  pub goes_on : RegistryCallsGoOn
+  pub joins : RegistryCallsJoin
+  pub unasked : RegistryUnasked
 
 -- The caller is no worker, has seen what it did, and what it looked for has come to something.
 pub record IsCaller (k : Known RegEntry) : Type 0 where
@@ -60,6 +64,16 @@ pub record SeesMore (before after : Option RegPass) : Type 0 where
   pub number : (known after).number ≡ (known before).number
   pub next : (known after).next ≡ (known before).next
   pub seen : StartsWith (known after).seen (known before).seen
+
+-- It has seen more, on the same lock, and these are its further calls, of which looks may have come to nothing.
+pub record SeesCalls (before after : Option RegPass) (calls : List RegCall) : Type 0 where
+  pub more : SeesMore before after
+  pub further : AreFurther (known before).number calls (known before).seen (known after).seen
+  pub own : IsOwn caller_of (known after)
+
+-- it looked for the text, or called nothing
+abbrev pub SeesLook : Option RegPass → Option RegPass → List ℕ → Type 0
+SeesLook before after text = SeesCalls before after [] ⊎ ((found : Option Found) × SeesCalls before after (Looks text found ∷ []))
 
 -- ---- what is recorded of an answer; nothing of want of memory
 

@@ -32,6 +32,12 @@ abbrev pub found_result : Found → Result Spec Errno
 found_result (Entry id spec) = Ok spec
 found_result (Fault errno) = Err errno
 
+-- the caller built and waited, and looked for nothing
+pub record Builds (before after : Option RegPass) : Type 0 where
+  pub work : List RegEntry
+  pub goes : Goes before after work
+  pub all_work : list_all is_building work ≡ true
+
 -- the caller built and waited, and then the look had come to this
 pub record Settles (before after : Option RegPass) (looked : Looked) (result : Result Spec Errno) : Type 0 where
   pub work : List RegEntry

@@ -12,8 +12,8 @@ ghost use Rattle.shared_registry.specs.Building.{WasAnswered};
 ghost use Rattle.shared_registry.specs.Passes.{IsSound};
 ghost use Rattle.dialogues.specs.RegistryCalls.{Enlists, Unlists, Gets, Puts, Counts, Lists};
 ghost use Rattle.session_calls.specs.Passes.{CallsRegistry, known};
-ghost use Rattle.session_calls.specs.Asking.{CallLaws, IsCaller, HasReferenceOf, Asks, Finds, SeesMore, IsResolved, enlisted_as, unlisted_as, got_as, counted_as, listed_as};
-ghost use Rattle.session_calls.specs.Looking.{Goes, look_entry, Settles};
+ghost use Rattle.session_calls.specs.Asking.{CallLaws, IsCaller, HasReferenceOf, Asks, Finds, SeesLook, IsResolved, enlisted_as, unlisted_as, got_as, counted_as, listed_as};
+ghost use Rattle.session_calls.specs.Looking.{Goes, Builds, look_entry, Settles};
 
 use crate::look::Look;
 use crate::stop::Stop;
@@ -50,6 +50,7 @@ fn call_laws()
 {
     calls_in_turn();
     calls_at_once();
+    registry_calls_go_on();
 }
 
 fn enlisted(answer: Result<u64, RegErr>) -> Result<Enlisted, Stop>
@@ -266,7 +267,8 @@ impl RegistryCaller {
     }
 
     /// Looks a name up, builds what is missing or waits for who builds it, and answers the id of the entry. An errno is what the
-    /// look comes to where it comes to no entry. Only want of memory stops it, and then calls may have been recorded.
+    /// look comes to where it comes to no entry. Only want of memory stops it: then the look alone may have been recorded, which may
+    /// have come to nothing.
     pub fn resolve<R: Wait>(
         &mut self,
         rt: &R,
@@ -277,7 +279,7 @@ impl RegistryCaller {
         requires at { CallsRegistry registry.now self.old }
         requires caller { IsCaller (known self.old) }
         requires nested { is_nested_well name.now ≡ true }
-        ensures { MatchResult result (λ found. Finds self.old self.new (spelling name.now) found) (λ _. SeesMore self.old self.new) }
+        ensures { MatchResult result (λ found. Finds self.old self.new (spelling name.now) found) (λ _. SeesLook self.old self.new (spelling name.now)) }
     {
         call_laws();
         let pass = self.pass.take().unwrap();
@@ -308,7 +310,7 @@ impl RegistryCaller {
         origin_of(answer)
     }
 
-    /// Looks a name up, and leaves what it comes to for `settle`. Only want of memory stops it.
+    /// Looks a name up, and leaves what it comes to for `settle`. Only want of memory stops it, and then nothing is recorded.
     pub fn look<R: Wait>(
         &mut self,
         rt: &R,
@@ -321,7 +323,7 @@ impl RegistryCaller {
         requires nested { is_nested_well name ≡ true }
         ensures looks { MatchResult result
             (λ look. (look.text ≡ spelling name) × Goes self.old self.new (look_entry (known self.old).number look ∷ []))
-            (λ _. SeesMore self.old self.new) }
+            (λ _. Goes self.old self.new []) }
         ensures sound { OnOk result (IsSound (known self.new)) }
     {
         learn_name(&name);
@@ -339,7 +341,7 @@ impl RegistryCaller {
         requires seen { IsSome (slice_get (registered (known self.old).seen) id) }
         ensures { MatchResult result
             (λ spec. Goes self.old self.new [] × (slice_get (registered (known self.old).seen) id ≡ Some spec))
-            (λ _. SeesMore self.old self.new) }
+            (λ _. Goes self.old self.new []) }
     {
         registry_calls_go_on();
         let pass = self.pass.take().unwrap();
@@ -349,7 +351,7 @@ impl RegistryCaller {
     }
 
     /// What a look of the caller's comes to: a copy of the entry as it came to be, or an errno. What is missing is built, or
-    /// waited for where others build it. Only want of memory stops it.
+    /// waited for where others build it. Only want of memory stops it, and then no further look was made.
     pub fn settle<R: Wait>(
         &mut self,
         rt: &R,
@@ -360,7 +362,7 @@ impl RegistryCaller {
         requires at { CallsRegistry registry.now self.old }
         requires sound { IsSound (known self.old) }
         requires answered { WasAnswered (known self.old) look.now.text look.now.looked }
-        ensures { MatchResult result (λ found. Settles self.old self.new look.now.looked found) (λ _. SeesMore self.old self.new) }
+        ensures { MatchResult result (λ found. Settles self.old self.new look.now.looked found) (λ _. Builds self.old self.new) }
     {
         registry_calls_go_on();
         let pass = self.pass.take().unwrap();

@@ -10,13 +10,13 @@ use Rattle.session_calls.proofs.Boarding.{kept-same}
 use Rattle.dialogues.specs.Piping.{end_said}
 use Rattle.script_session.specs.Saying.{callback_room}
 use Rattle.script_session.specs.Telling.{callback_said}
-use Rattle.script_session.proofs.Arms.{sees-same, kept-sees}
 use Rattle.script_session.proofs.Ended.{stays-put}
 use Rattle.script_session.proofs.Leading.{drains-none}
 use Rattle.script_session.proofs.Moving.{fails}
 use Rattle.script_session.proofs.Piped.{from-empty}
 use Rattle.script_session.proofs.Rooms.{room-enough}
 use Rattle.script_session.proofs.Said.{last-says, last-stays, told-last, told-nothing}
+use Rattle.script_session.proofs.Stopping.{moving-nothing, moving-kept}
 use Rattle.script_session.proofs.collecting.drain_last_said.Goals as goal
 
 pub returns-in_default-clause-moved : goal.returns-in_default-clause-moved
@@ -28,14 +28,14 @@ pub returns-in_default-clause-told : goal.returns-in_default-clause-told
 returns-in_default-clause-told g c = told-nothing (known c.args.caller.now) (known c.args.caller.now) _ _ (kept-same (known c.args.caller.now) c.requires.legal).called refl
 
 pub returns-in_err-reserve-clause-moved : goal.returns-in_err-reserve-clause-moved
-returns-in_err-reserve-clause-moved g c = fails c.from_residual.result _ c.from_residual.ensures.0 (sees-same (known c.args.caller.now))
+returns-in_err-reserve-clause-moved g c = fails c.from_residual.result _ c.from_residual.ensures.0 (moving-nothing _ (known c.args.caller.now))
 
 pub returns-in_err-reserve-clause-told : goal.returns-in_err-reserve-clause-told
 returns-in_err-reserve-clause-told g c = told-nothing (known c.args.caller.now) (known c.args.caller.now) _ _ (kept-same (known c.args.caller.now) c.requires.legal).called c.reserve.ensures.text
 
 pub returns-in_err-drain-clause-moved : goal.returns-in_err-drain-clause-moved
 returns-in_err-drain-clause-moved g c =
-    fails c.from_residual-in_err-drain.result _ c.from_residual-in_err-drain.ensures.0 (kept-sees (known c.args.caller.now) (known c.drain.new.self) c.in_err-drain.ensures.drained.2)
+    fails c.from_residual-in_err-drain.result _ c.from_residual-in_err-drain.ensures.0 (moving-kept _ (known c.args.caller.now) (known c.drain.new.self) c.in_err-drain.ensures.drained.2)
 
 pub returns-in_err-drain-clause-told : goal.returns-in_err-drain-clause-told
 returns-in_err-drain-clause-told g c = told-nothing (known c.args.caller.now) (known c.drain.new.self) _ _ c.in_err-drain.ensures.drained.2.called c.reserve.ensures.text

@@ -5,11 +5,11 @@ use Rattle.dialogues.specs.Piping.{drains_at_end, drain_all}
 use Rattle.dialogues.specs.Walk.{Live}
 use Rattle.session_calls.specs.Passes.{known}
 use Rattle.transforms.specs.AskValue.{ask_size}
-use Rattle.script_session.specs.Ending.{IsPaid}
+use Rattle.script_session.specs.Ending.{StopsMoving, IsPaid}
 use Rattle.script_session.specs.Saying.{SaysMove}
 use Rattle.script_session.specs.States.{HasPipe}
-use Rattle.script_session.proofs.Leading.{drain-more}
-use Rattle.script_session.proofs.Moving.{on-board, paid-further, all-paid, sees-on, fails}
+use Rattle.script_session.proofs.Leading.{drain-more, drain-split}
+use Rattle.script_session.proofs.Moving.{on-board, breaks-further, paid-further, all-paid, fails}
 use Rattle.script_session.proofs.Said.{says-out, says-further, says-all, told-more}
 use Rattle.script_session.proofs.collecting.drain_last_said_all.Goals as goal
 
@@ -40,8 +40,14 @@ returns-in_err-drain_last_said-clause-lock g c = c.drain_last_said.ensures.lock 
 
 pub returns-in_err-drain_last_said-clause-moved : goal.returns-in_err-drain_last_said-clause-moved
 returns-in_err-drain_last_said-clause-moved g c =
+    let l = known c.loop-live.caller in
+    let l' = known c.drain_last_said.new.caller in
+    let item = c.live-item.result in
+    let saying = c.loop-live.invariant.0 in
     fails c.from_residual.result _ c.from_residual.ensures.0
-    (sees-on (known c.args.caller.now) (known c.loop-live.caller) (known c.drain_last_said.new.caller) c.loop-live.invariant.0.way.sees c.in_err-drain_last_said.ensures.moved)
+    (breaks-further drain_all (λ (x : Live). drains_at_end x.label x.pipe) drain-more c.args.lives.now c.loop-live.lives c.loop-live.live-index item item (known c.args.caller.now) l l' [] saying.said saying.said saying.way
+    (subst (λ n. c.loop-live.live-index < n) (sym c.loop-live.auto.lives) c.loop-live-test.true) c.live-item.is drain-split
+    (subst (λ (x : Live). StopsMoving (drains_at_end x.label x.pipe) l l') (sym c.live-item.is) c.in_err-drain_last_said.ensures.moved))
 
 pub returns-in_err-drain_last_said-clause-told : goal.returns-in_err-drain_last_said-clause-told
 returns-in_err-drain_last_said-clause-told g c =

@@ -3,10 +3,10 @@ use Rattle.std.proofs.lemmas.List.Elements.{All-nil}
 use Rattle.dialogues.specs.Piping.{drains_at_end, drain_all}
 use Rattle.dialogues.specs.Walk.{Live}
 use Rattle.session_calls.specs.Passes.{known}
-use Rattle.script_session.specs.Ending.{Moves, IsPaid}
+use Rattle.script_session.specs.Ending.{Moves, StopsMoving, IsPaid}
 use Rattle.script_session.specs.States.{HasPipe}
-use Rattle.script_session.proofs.Leading.{drain-more}
-use Rattle.script_session.proofs.Moving.{sets-out, on-board, goes-further, paid-further, all-moved, all-paid, sees-on, fails}
+use Rattle.script_session.proofs.Leading.{drain-more, drain-split}
+use Rattle.script_session.proofs.Moving.{sets-out, on-board, goes-further, breaks-further, paid-further, all-moved, all-paid, fails}
 use Rattle.script_session.proofs.ending.drain_last_all.Goals as goal
 
 pub loop-live-init : goal.loop-live-init
@@ -33,8 +33,14 @@ returns-in_err-drain_last-clause-lock g c = c.drain_last.ensures.lock ∙ c.loop
 
 pub returns-in_err-drain_last-clause-moved : goal.returns-in_err-drain_last-clause-moved
 returns-in_err-drain_last-clause-moved g c =
+    let l = known c.loop-live.caller in
+    let l' = known c.drain_last.new.caller in
+    let item = c.live-item.result in
+    let said = c.loop-live.answers.items in
     fails c.from_residual.result _ c.from_residual.ensures.0
-    (sees-on (known c.args.caller.now) (known c.loop-live.caller) (known c.drain_last.new.caller) c.loop-live.invariant.0.sees c.in_err-drain_last.ensures.moved)
+    (breaks-further drain_all (λ (x : Live). drains_at_end x.label x.pipe) drain-more c.args.lives.now c.loop-live.lives c.loop-live.live-index item item (known c.args.caller.now) l l' c.args.answers.now.items said said c.loop-live.invariant.0
+    (subst (λ n. c.loop-live.live-index < n) (sym c.loop-live.auto.lives) c.loop-live-test.true) c.live-item.is drain-split
+    (subst (λ (x : Live). StopsMoving (drains_at_end x.label x.pipe) l l') (sym c.live-item.is) c.in_err-drain_last.ensures.moved))
 
 pub loop-live-preserved : goal.loop-live-preserved
 loop-live-preserved g c =

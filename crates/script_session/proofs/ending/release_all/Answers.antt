@@ -2,10 +2,10 @@ use Rattle.std.proofs.Common.{◌∙◌, ◌<◌, ◌≤◌, [], refl, sym, subs
 use Rattle.dialogues.specs.Piping.{lets_go, let_all_go}
 use Rattle.dialogues.specs.Walk.{Live}
 use Rattle.session_calls.specs.Passes.{known}
-use Rattle.script_session.specs.Ending.{Moves}
+use Rattle.script_session.specs.Ending.{Moves, StopsMoving}
 use Rattle.script_session.specs.States.{HasPipe}
-use Rattle.script_session.proofs.Leading.{let-more}
-use Rattle.script_session.proofs.Moving.{sets-out, on-board, goes-further, all-moved, sees-on, fails}
+use Rattle.script_session.proofs.Leading.{let-more, let-split}
+use Rattle.script_session.proofs.Moving.{sets-out, on-board, goes-further, breaks-further, all-moved, fails}
 use Rattle.session_calls.proofs.Boarding.{kept-same}
 use Rattle.script_session.proofs.Said.{tells-nothing, tells-more}
 use Rattle.script_session.proofs.ending.release_all.Goals as goal
@@ -32,8 +32,13 @@ returns-in_err-release_live-clause-lock g c = c.release_live.ensures.lock ∙ c.
 
 pub returns-in_err-release_live-clause-moved : goal.returns-in_err-release_live-clause-moved
 returns-in_err-release_live-clause-moved g c =
+    let l = known c.loop-live.caller in
+    let l' = known c.release_live.new.caller in
+    let item = c.live-item.result in
     fails c.from_residual.result _ c.from_residual.ensures.0
-    (sees-on (known c.args.caller.now) (known c.loop-live.caller) (known c.release_live.new.caller) c.loop-live.invariant.0.sees c.in_err-release_live.ensures.moved)
+    (breaks-further let_all_go (λ (x : Live). lets_go x.pipe) let-more c.args.lives.now c.loop-live.lives c.loop-live.live-index item item (known c.args.caller.now) l l' [] [] [] c.loop-live.invariant.0
+    (subst (λ n. c.loop-live.live-index < n) (sym c.loop-live.auto.lives) c.loop-live-test.true) c.live-item.is let-split
+    (subst (λ (x : Live). StopsMoving (lets_go x.pipe) l l') (sym c.live-item.is) c.in_err-release_live.ensures.moved))
 
 pub loop-live-preserved : goal.loop-live-preserved
 loop-live-preserved g c =

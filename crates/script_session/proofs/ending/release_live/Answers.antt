@@ -6,7 +6,9 @@ use Rattle.session_calls.proofs.Boarding.{kept-same}
 use Rattle.script_session.specs.States.{HasPipe}
 use Rattle.script_session.proofs.Ended.{stays-put, goes-free_now}
 use Rattle.script_session.proofs.Leading.{goes-none, goes-free}
+use Rattle.script_session.proofs.Moving.{fails}
 use Rattle.script_session.proofs.Said.{tells-nothing, tells-go}
+use Rattle.script_session.proofs.Stopping.{moving-kept}
 use Rattle.script_session.proofs.ending.release_live.Goals as goal
 
 pub returns-in_default-clause-moved : goal.returns-in_default-clause-moved
@@ -39,3 +41,6 @@ returns-in_err-go-clause-told g c = tells-nothing (known c.args.caller.now) (kno
 
 pub returns-clause-told : goal.returns-clause-told
 returns-clause-told g c = tells-go (known c.args.caller.now) (known c.go.new.self) c.in-Some.pipe.now _ c.in_ok-go.ensures.held
+
+pub returns-in_err-go-clause-moved : goal.returns-in_err-go-clause-moved
+returns-in_err-go-clause-moved g c = fails c.from_residual.result _ c.from_residual.ensures.0 (moving-kept _ (known c.args.caller.now) (known c.go.new.self) c.in_err-go.ensures.held.1)

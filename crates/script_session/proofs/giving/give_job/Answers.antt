@@ -6,8 +6,10 @@ use Rattle.dialogues.specs.Requesting.{value_said}
 use Rattle.dialogues.specs.Walk.{Pipe}
 use Rattle.session_calls.specs.Passes.{known}
 use Rattle.script_session.specs.Sharing.{OffersShared}
-use Rattle.script_session.proofs.Gives.{gives-said, gives-said-here, gives-entered}
+use Rattle.script_session.proofs.Gives.{gives-said, gives-said-here, gives-entered, gives-stopped}
+use Rattle.script_session.proofs.Moving.{fails}
 use Rattle.script_session.proofs.Piped.{request-plain, request-unmanned, request-big}
+use Rattle.script_session.proofs.Stopping.{giving-nothing, giving-kept}
 use Rattle.script_session.proofs.giving.give_job.Goals as goal
 
 pub returns-in_default-clause-held : goal.returns-in_default-clause-held
@@ -57,3 +59,46 @@ returns-in_ok-refuse-in-Err-TooBig-clause-held g c =
     gives-said _ c.args.live.now (known c.args.caller.now) (known c.offer_shared.new.caller) _ _ _ e.offered
     (λ walk posted. request-big walk (known c.args.caller.now) c.args.line c.args.live.now c.in-Some.pipe.now (arc_value c.args.job.ask) c.args.backlog (sym c.in-Some.ensures) (sym (ap (λ (p : Pipe). p.unmanned) c.pipe-2.view_is) ∙ c.if-pipe.false) (e.allowed.0 c.in-Err-TooBig.field-0-is) posted)
     c.in_ok-refuse-in-Err-TooBig.ensures
+
+pub returns-in_err-say-clause-held : goal.returns-in_err-say-clause-held
+returns-in_err-say-clause-held g c =
+    fails c.from_residual.result _ c.from_residual.ensures.0
+    (giving-nothing _ _ _)
+
+pub returns-in_err-refuse-clause-held : goal.returns-in_err-refuse-clause-held
+returns-in_err-refuse-clause-held g c =
+    fails c.from_residual-in_err-refuse.result _ c.from_residual-in_err-refuse.ensures.0
+    (giving-nothing _ _ _)
+
+pub returns-in_err-refuse-in-Ok-InProgress-clause-held : goal.returns-in_err-refuse-in-Ok-InProgress-clause-held
+returns-in_err-refuse-in-Ok-InProgress-clause-held g c =
+    fails c.from_residual-in_err-refuse-in-Ok-InProgress.result _ c.from_residual-in_err-refuse-in-Ok-InProgress.ensures.0
+    (let pipe = c.in-Some.pipe.now in
+    let ask = arc_value c.args.job.ask in
+    gives-stopped (known c.args.caller.now) (known c.offer_shared.new.caller) c.args.live.now pipe c.args.line ask c.args.backlog (InProgress c.in-Ok-InProgress.field-0-0) (sym c.in-Some.ensures) (sym (ap (λ (p : Pipe). p.unmanned) c.pipe-2.view_is) ∙ c.if-pipe.false)
+    (subst (λ (x : Entered). OffersShared (known c.args.caller.now) (known c.offer_shared.new.caller) pipe ask c.args.backlog x) c.in-Ok-InProgress.field-0-is c.in-Ok-InProgress.ensures.offered) c.in-Ok-InProgress.ensures.allowed)
+
+pub returns-in_err-refuse-in-Ok-Busy-clause-held : goal.returns-in_err-refuse-in-Ok-Busy-clause-held
+returns-in_err-refuse-in-Ok-Busy-clause-held g c =
+    fails c.from_residual-in_err-refuse-in-Ok-Busy.result _ c.from_residual-in_err-refuse-in-Ok-Busy.ensures.0
+    (let pipe = c.in-Some.pipe.now in
+    let ask = arc_value c.args.job.ask in
+    gives-stopped (known c.args.caller.now) (known c.offer_shared.new.caller) c.args.live.now pipe c.args.line ask c.args.backlog (Busy c.in-Ok-Busy.field-0-0) (sym c.in-Some.ensures) (sym (ap (λ (p : Pipe). p.unmanned) c.pipe-2.view_is) ∙ c.if-pipe.false)
+    (subst (λ (x : Entered). OffersShared (known c.args.caller.now) (known c.offer_shared.new.caller) pipe ask c.args.backlog x) c.in-Ok-Busy.field-0-is c.in-Ok-Busy.ensures.offered) c.in-Ok-Busy.ensures.allowed)
+
+pub returns-in_err-refuse-in-Ok-NoSpace-clause-held : goal.returns-in_err-refuse-in-Ok-NoSpace-clause-held
+returns-in_err-refuse-in-Ok-NoSpace-clause-held g c =
+    fails c.from_residual-in_err-refuse-in-Ok-NoSpace.result _ c.from_residual-in_err-refuse-in-Ok-NoSpace.ensures.0
+    (let pipe = c.in-Some.pipe.now in
+    let ask = arc_value c.args.job.ask in
+    gives-stopped (known c.args.caller.now) (known c.offer_shared.new.caller) c.args.live.now pipe c.args.line ask c.args.backlog (NoSpace) (sym c.in-Some.ensures) (sym (ap (λ (p : Pipe). p.unmanned) c.pipe-2.view_is) ∙ c.if-pipe.false)
+    (subst (λ (x : Entered). OffersShared (known c.args.caller.now) (known c.offer_shared.new.caller) pipe ask c.args.backlog x) c.in-Ok-NoSpace.field-0-is c.in-Ok-NoSpace.ensures.offered) c.in-Ok-NoSpace.ensures.allowed)
+
+pub returns-in_err-refuse-in-Err-TooBig-clause-held : goal.returns-in_err-refuse-in-Err-TooBig-clause-held
+returns-in_err-refuse-in-Err-TooBig-clause-held g c =
+    fails c.from_residual-in_err-refuse-in-Err-TooBig.result _ c.from_residual-in_err-refuse-in-Err-TooBig.ensures.0
+    (giving-kept _ c.args.live.now (known c.args.caller.now) (known c.offer_shared.new.caller) c.in-Err-TooBig.ensures.offered)
+
+pub returns-in-Err-Memory-clause-held : goal.returns-in-Err-Memory-clause-held
+returns-in-Err-Memory-clause-held g c =
+    giving-kept _ c.args.live.now (known c.args.caller.now) (known c.offer_shared.new.caller) c.in-Err-Memory.ensures.offered

@@ -1,7 +1,5 @@
-use Rattle.std.proofs.Common.{◌∙◌, refl, sym, subst}
-use Rattle.dialogues.specs.Walk.{Live}
+use Rattle.std.proofs.Common.{◌∙◌, refl}
 use Rattle.session_calls.specs.Passes.{known}
-use Rattle.script_session.specs.Lending.{SharesOne}
 use Rattle.script_session.proofs.Lends.{none-shared, next-on, shares-more, all-shared}
 use Rattle.script_session.proofs.Moving.{sees-on, fails}
 use Rattle.script_session.proofs.lending.share_each.Goals as goal

@@ -1,6 +1,5 @@
-use Rattle.std.proofs.Common.{◌≡◌, sym}
+use Rattle.std.proofs.Common.{sym}
 use Rattle.session_calls.specs.Passes.{known}
-use Rattle.script_session.proofs.Arms.{kept-sees}
 use Rattle.script_session.proofs.Lends.{shares-none, shares-one}
 use Rattle.script_session.proofs.lending.share_live.Goals as goal
 

@@ -6,7 +6,9 @@ use Rattle.dialogues.specs.Requesting.{value_said}
 use Rattle.dialogues.specs.Walk.{Live, Pipe}
 use Rattle.session_calls.specs.Passes.{known}
 use Rattle.script_session.specs.Offering.{Offered}
-use Rattle.script_session.proofs.Piped.{says-for, says-kept, request-plain, request-unmanned, request-big, request-holds, accepted-live}
+use Rattle.script_session.proofs.Moving.{fails}
+use Rattle.script_session.proofs.Piped.{says-for, says-kept, request-plain, request-unmanned, request-big, request-holds, request-stopped, accepted-live}
+use Rattle.script_session.proofs.Stopping.{for-nothing, for-kept}
 use Rattle.script_session.proofs.piping.take_job.Goals as goal
 
 pub returns-in_default-clause-held : goal.returns-in_default-clause-held
@@ -59,3 +61,62 @@ returns-in_ok-refuse-in-Err-TooBig-clause-held g c =
     says-kept _ c.args.live.now (known c.args.caller.now) (known c.offer.new.caller) _ _ _ c.requires.pipe e.offered
     (λ walk posted. request-big walk (known c.args.caller.now) c.args.of.line c.args.live.now c.in-Some.pipe.now (arc_value c.args.job.ask) c.args.backlog (sym c.in-Some.ensures) (sym (ap (λ (p : Pipe). p.unmanned) c.pipe-2.view_is) ∙ c.if-pipe.false) (e.allowed.0 c.in-Err-TooBig.field-0-is) posted)
     c.in_ok-refuse-in-Err-TooBig.ensures
+
+pub returns-in_err-say-clause-held : goal.returns-in_err-say-clause-held
+returns-in_err-say-clause-held g c =
+    fails c.from_residual.result _ c.from_residual.ensures.0
+    (for-nothing _ _ _)
+
+pub returns-in_err-refuse-clause-held : goal.returns-in_err-refuse-clause-held
+returns-in_err-refuse-clause-held g c =
+    fails c.from_residual-in_err-refuse.result _ c.from_residual-in_err-refuse.ensures.0
+    (for-nothing _ _ _)
+
+pub returns-in_err-refuse-in-Ok-InProgress-clause-held : goal.returns-in_err-refuse-in-Ok-InProgress-clause-held
+returns-in_err-refuse-in-Ok-InProgress-clause-held g c =
+    fails c.from_residual-in_err-refuse-in-Ok-InProgress.result _ c.from_residual-in_err-refuse-in-Ok-InProgress.ensures.0
+    (let pipe = c.in-Some.pipe.now in
+    let ask = arc_value c.args.job.ask in
+    request-stopped (known c.args.caller.now) (known c.offer.new.caller) c.args.live.now pipe c.args.of.line ask c.args.backlog (InProgress c.in-Ok-InProgress.field-0-0) (sym c.in-Some.ensures) (sym (ap (λ (p : Pipe). p.unmanned) c.pipe-2.view_is) ∙ c.if-pipe.false)
+    (subst (λ (x : Entered). Offered (known c.args.caller.now) (known c.offer.new.caller) pipe ask c.args.backlog x) c.in-Ok-InProgress.field-0-is c.in-Ok-InProgress.ensures.offered) c.in-Ok-InProgress.ensures.allowed)
+
+pub returns-in_err-accept-in-Ok-InProgress-clause-held : goal.returns-in_err-accept-in-Ok-InProgress-clause-held
+returns-in_err-accept-in-Ok-InProgress-clause-held g c =
+    fails c.from_residual-in_err-accept-in-Ok-InProgress.result _ c.from_residual-in_err-accept-in-Ok-InProgress.ensures.0
+    (let pipe = c.in-Some.pipe.now in
+    let ask = arc_value c.args.job.ask in
+    request-stopped (known c.args.caller.now) (known c.offer.new.caller) c.args.live.now pipe c.args.of.line ask c.args.backlog (InProgress c.in-Ok-InProgress.field-0-0) (sym c.in-Some.ensures) (sym (ap (λ (p : Pipe). p.unmanned) c.pipe-2.view_is) ∙ c.if-pipe.false)
+    (subst (λ (x : Entered). Offered (known c.args.caller.now) (known c.offer.new.caller) pipe ask c.args.backlog x) c.in-Ok-InProgress.field-0-is c.in-Ok-InProgress.ensures.offered) c.in-Ok-InProgress.ensures.allowed)
+
+pub returns-in_err-refuse-in-Ok-Busy-clause-held : goal.returns-in_err-refuse-in-Ok-Busy-clause-held
+returns-in_err-refuse-in-Ok-Busy-clause-held g c =
+    fails c.from_residual-in_err-refuse-in-Ok-Busy.result _ c.from_residual-in_err-refuse-in-Ok-Busy.ensures.0
+    (let pipe = c.in-Some.pipe.now in
+    let ask = arc_value c.args.job.ask in
+    request-stopped (known c.args.caller.now) (known c.offer.new.caller) c.args.live.now pipe c.args.of.line ask c.args.backlog (Busy c.in-Ok-Busy.field-0-0) (sym c.in-Some.ensures) (sym (ap (λ (p : Pipe). p.unmanned) c.pipe-2.view_is) ∙ c.if-pipe.false)
+    (subst (λ (x : Entered). Offered (known c.args.caller.now) (known c.offer.new.caller) pipe ask c.args.backlog x) c.in-Ok-Busy.field-0-is c.in-Ok-Busy.ensures.offered) c.in-Ok-Busy.ensures.allowed)
+
+pub returns-in_err-accept-in-Ok-Busy-clause-held : goal.returns-in_err-accept-in-Ok-Busy-clause-held
+returns-in_err-accept-in-Ok-Busy-clause-held g c =
+    fails c.from_residual-in_err-accept-in-Ok-Busy.result _ c.from_residual-in_err-accept-in-Ok-Busy.ensures.0
+    (let pipe = c.in-Some.pipe.now in
+    let ask = arc_value c.args.job.ask in
+    request-stopped (known c.args.caller.now) (known c.offer.new.caller) c.args.live.now pipe c.args.of.line ask c.args.backlog (Busy c.in-Ok-Busy.field-0-0) (sym c.in-Some.ensures) (sym (ap (λ (p : Pipe). p.unmanned) c.pipe-2.view_is) ∙ c.if-pipe.false)
+    (subst (λ (x : Entered). Offered (known c.args.caller.now) (known c.offer.new.caller) pipe ask c.args.backlog x) c.in-Ok-Busy.field-0-is c.in-Ok-Busy.ensures.offered) c.in-Ok-Busy.ensures.allowed)
+
+pub returns-in_err-refuse-in-Ok-NoSpace-clause-held : goal.returns-in_err-refuse-in-Ok-NoSpace-clause-held
+returns-in_err-refuse-in-Ok-NoSpace-clause-held g c =
+    fails c.from_residual-in_err-refuse-in-Ok-NoSpace.result _ c.from_residual-in_err-refuse-in-Ok-NoSpace.ensures.0
+    (let pipe = c.in-Some.pipe.now in
+    let ask = arc_value c.args.job.ask in
+    request-stopped (known c.args.caller.now) (known c.offer.new.caller) c.args.live.now pipe c.args.of.line ask c.args.backlog (NoSpace) (sym c.in-Some.ensures) (sym (ap (λ (p : Pipe). p.unmanned) c.pipe-2.view_is) ∙ c.if-pipe.false)
+    (subst (λ (x : Entered). Offered (known c.args.caller.now) (known c.offer.new.caller) pipe ask c.args.backlog x) c.in-Ok-NoSpace.field-0-is c.in-Ok-NoSpace.ensures.offered) c.in-Ok-NoSpace.ensures.allowed)
+
+pub returns-in_err-refuse-in-Err-TooBig-clause-held : goal.returns-in_err-refuse-in-Err-TooBig-clause-held
+returns-in_err-refuse-in-Err-TooBig-clause-held g c =
+    fails c.from_residual-in_err-refuse-in-Err-TooBig.result _ c.from_residual-in_err-refuse-in-Err-TooBig.ensures.0
+    (for-kept _ c.args.live.now (known c.args.caller.now) (known c.offer.new.caller) c.in-Err-TooBig.ensures.offered)
+
+pub returns-in-Err-Memory-clause-held : goal.returns-in-Err-Memory-clause-held
+returns-in-Err-Memory-clause-held g c =
+    for-kept _ c.args.live.now (known c.args.caller.now) (known c.offer.new.caller) c.in-Err-Memory.ensures.offered

@@ -1,6 +1,6 @@
 use Rattle.std.proofs.Common.{◌∙◌, ◌+◌, sym, subst, take, List, ℕ, [], ◌∷◌, ◌++◌}
 use Rattle.script_session.specs.Probing.{Searched, LooksFirst}
-use Rattle.script_session.proofs.Probed.{LooksFor, stopped, take-more, seen-then, looks-begin, looks-more, looks-seen, look-seen}
+use Rattle.script_session.proofs.Probed.{LooksFor, stopped, take-more, looks-begin, looks-more, looks-still, looks-one-more}
 use Rattle.script_session.proofs.probing.look_for_all.Goals as goal
 
 pub loop-text-init : goal.loop-text-init
@@ -9,17 +9,19 @@ loop-text-init g c = subst (λ (xs : List Searched). LooksFirst c.args.caller.no
 pub returns-in_err-look : goal.returns-in_err-look
 returns-in_err-look g c =
     stopped c.from_residual.result _ c.from_residual.ensures.0
-    (seen-then (looks-seen (take c.loop-text.text-index c.args.texts.now) c.loop-text.searches.items c.loop-text.invariant) c.in_err-look.ensures)
+    (looks-still c.args.texts.now c.loop-text.text-index c.loop-text.searches.items c.loop-text.invariant c.in_err-look.ensures)
 
 pub returns-in_err-copy : goal.returns-in_err-copy
 returns-in_err-copy g c =
     stopped c.from_residual-in_err-copy.result _ c.from_residual-in_err-copy.ensures.0
-    (seen-then (looks-seen (take c.loop-text.text-index c.args.texts.now) c.loop-text.searches.items c.loop-text.invariant) (look-seen c.as_slice.result.now c.in_ok-look.look c.in_ok-look.ensures))
+    (looks-one-more c.args.texts.now c.loop-text.text-index c.loop-text.searches.items c.text-item.result c.in_ok-look.look c.loop-text.invariant c.loop-text-test.true c.text-item.is
+    (subst (λ t. LooksFor c.loop-text.caller c.look_for.new.caller t c.in_ok-look.look) c.as_slice.ensures c.in_ok-look.ensures))
 
 pub returns-in_err-push : goal.returns-in_err-push
 returns-in_err-push g c =
     stopped c.from_residual-in_err-push.result _ c.from_residual-in_err-push.ensures.0
-    (seen-then (looks-seen (take c.loop-text.text-index c.args.texts.now) c.loop-text.searches.items c.loop-text.invariant) (look-seen c.as_slice.result.now c.in_ok-look.look c.in_ok-look.ensures))
+    (looks-one-more c.args.texts.now c.loop-text.text-index c.loop-text.searches.items c.text-item.result c.in_ok-look.look c.loop-text.invariant c.loop-text-test.true c.text-item.is
+    (subst (λ t. LooksFor c.loop-text.caller c.look_for.new.caller t c.in_ok-look.look) c.as_slice.ensures c.in_ok-look.ensures))
 
 pub loop-text-preserved : goal.loop-text-preserved
 loop-text-preserved g c =

@@ -1,7 +1,7 @@
 use Rattle.std.proofs.Common.{◌∙◌, sym, ap, subst, take, List, [], ◌∷◌, ◌++◌, append-nil, append_assoc}
 use Rattle.session_calls.specs.Passes.{known}
 use Rattle.script_session.specs.Probing.{Searched, MaySettle, SettlesThen}
-use Rattle.script_session.proofs.Probed.{stopped, take-more, seen-then, settles-begin, settles-more, settles-seen, may-still}
+use Rattle.script_session.proofs.Probed.{stopped, take-more, builds-then, settles-begin, settles-builds, settles-more, may-still}
 use Rattle.script_session.proofs.probing.settle_all.Goals as goal
 
 pub loop-search-init : goal.loop-search-init
@@ -18,14 +18,14 @@ pub returns-in_err-answer : goal.returns-in_err-answer
 returns-in_err-answer g c =
     let inv = c.loop-search.invariant in
     stopped c.from_residual.result _ c.from_residual.ensures.0
-    (seen-then (settles-seen c.args.line (take c.loop-search.search-index c.args.searches.now) inv.0 inv.2) c.in_err-answer.ensures)
+    (builds-then (settles-builds c.args.line (take c.loop-search.search-index c.args.searches.now) inv.0 inv.2) c.in_err-answer.ensures)
 
 pub returns-in_err-push : goal.returns-in_err-push
 returns-in_err-push g c =
     let inv = c.loop-search.invariant in
     stopped c.from_residual-in_err-push.result _ c.from_residual-in_err-push.ensures.0
-    (seen-then (settles-seen c.args.line (take c.loop-search.search-index c.args.searches.now) inv.0 inv.2)
-    (settles-seen c.args.line (c.search-item.result ∷ []) (c.in_ok-answer.answer ∷ []) c.in_ok-answer.ensures))
+    (builds-then (settles-builds c.args.line (take c.loop-search.search-index c.args.searches.now) inv.0 inv.2)
+    (settles-builds c.args.line (c.search-item.result ∷ []) (c.in_ok-answer.answer ∷ []) c.in_ok-answer.ensures))
 
 pub loop-search-preserved : goal.loop-search-preserved
 loop-search-preserved g c =

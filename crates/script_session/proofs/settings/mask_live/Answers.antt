@@ -6,8 +6,10 @@ use Rattle.dialogues.specs.Walk.{Pipe}
 use Rattle.session_calls.specs.Passes.{known}
 use Rattle.session_calls.specs.Pipelines.{KnowsPipe}
 use Rattle.script_session.specs.States.{HasPipe}
-use Rattle.script_session.proofs.Arms.{or-stops, sees-same}
-use Rattle.script_session.proofs.Piped.{says-for, mask-none, mask-queue, pad-of, mask-holds, manned-live}
+use Rattle.script_session.proofs.Arms.{or-stops}
+use Rattle.script_session.proofs.Moving.{fails}
+use Rattle.script_session.proofs.Piped.{says-for, mask-none, mask-queue, pad-of, mask-holds, mask-stops, manned-live}
+use Rattle.script_session.proofs.Stopping.{for-nothing, for-kept}
 use Rattle.script_session.proofs.Widths.{kept-below}
 use Rattle.script_session.proofs.settings.mask_live.Goals as goal
 
@@ -15,7 +17,7 @@ pub returns-in_default-clause-held : goal.returns-in_default-clause-held
 returns-in_default-clause-held g c =
     or-stops c.refuse.result c.refuse.ensures
     (says-for _ c.args.live.now (known c.args.caller.now) _ _ _ c.requires.pipe c.requires.legal (λ walk found posted. mask-none c.args.workers walk c.args.line c.args.bits c.args.live.now (sym c.in_default.ensures) found))
-    (sees-same _)
+    (for-nothing _ _ _)
 
 pub returns-then-is_some-clause-held : goal.returns-then-is_some-clause-held
 returns-then-is_some-clause-held g c =
@@ -24,7 +26,7 @@ returns-then-is_some-clause-held g c =
     or-stops c.refuse-then-is_some.result c.refuse-then-is_some.ensures
     (says-for _ c.args.live.now (known c.args.caller.now) _ _ _ c.requires.pipe c.requires.legal
     (λ walk found posted. mask-queue c.args.workers walk c.args.line c.args.bits c.args.live.now pipe (sym c.in-Some.ensures) (ap is_some bound ∙ (sym c.is_some.ensures ∙ c.if-is_some.true)) found))
-    (sees-same _)
+    (for-nothing _ _ _)
 
 pub mask-requires-clause-pad : goal.mask-requires-clause-pad
 mask-requires-clause-pad g c =
@@ -51,3 +53,17 @@ returns-clause-held g c =
     mask-holds (known c.args.caller.now) (known c.mask.new.self) live c.set_unmanned.new.self pipe c.args.workers c.args.line c.args.bits kept _ _ has
     (ap is_some bound ∙ (sym c.is_some.ensures ∙ c.if-is_some.false)) c.bits_beside_workers-kept.ensures c.in_ok-mask.ensures.masked
     (manned-live live c.set_unmanned.new.self pipe (kept == 0) has c.set_unmanned.ensures) c.in_ok-say.ensures
+
+pub returns-in_err-mask-clause-held : goal.returns-in_err-mask-clause-held
+returns-in_err-mask-clause-held g c =
+    fails c.from_residual.result _ c.from_residual.ensures.0 (for-kept _ c.args.live.now (known c.args.caller.now) (known c.mask.new.self) c.in_err-mask.ensures.masked.1)
+
+-- the pad was masked, but not answered
+pub returns-in_err-say-clause-held : goal.returns-in_err-say-clause-held
+returns-in_err-say-clause-held g c =
+    let pipe = c.in-Some.pipe.now in
+    let kept = c.bits_beside_workers-kept.result in
+    let bound : pipe.bound ≡ c.pipe-2.inside.bound = sym (ap (λ (p : Pipe). p.bound) c.pipe-2.view_is) in
+    fails c.from_residual-in_err-say.result _ c.from_residual-in_err-say.ensures.0
+    (mask-stops (known c.args.caller.now) (known c.mask.new.self) c.args.live.now pipe c.args.workers c.args.line c.args.bits kept (sym c.in-Some.ensures)
+    (ap is_some bound ∙ (sym c.is_some.ensures ∙ c.if-is_some.false)) c.bits_beside_workers-kept.ensures c.in_ok-mask.ensures.masked)

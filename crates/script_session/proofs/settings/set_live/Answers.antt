@@ -8,8 +8,9 @@ use Rattle.session_calls.specs.Passes.{known}
 use Rattle.script_session.specs.Changing.{HoldsFor}
 use Rattle.script_session.specs.States.{HasPipe}
 use Rattle.script_session.specs.declared.settings.Setting.TheVariants as set
-use Rattle.script_session.proofs.Arms.{or-stops, sees-same}
+use Rattle.script_session.proofs.Arms.{or-stops}
 use Rattle.script_session.proofs.Piped.{setting-arm}
+use Rattle.script_session.proofs.Stopping.{for-nothing}
 use Rattle.script_session.proofs.settings.set_live.Goals as goal
 
 pub returns-in-Key-clause-held : goal.returns-in-Key-clause-held
@@ -19,13 +20,14 @@ returns-in-Key-clause-held g c =
     setting-arm c.key_live.result c.args.workers c.args.line live c.key_live.new.live k k c.args.setting (set.Key c.in-Key.key) _ _ c.in-Key.is
     (or-stops c.key_live.result
     (subst (λ x. OnOk c.key_live.result ((k : Known (BoardEntry Ask)) → HasPipe k live.pipe → LegalBoard k.seen → HoldsFor (λ walk. set_key walk c.args.line live.label x) live c.key_live.new.live k k [] c.args.answers.now.items c.key_live.new.answers.items)) c.as_slice.ensures c.key_live.ensures.held)
-    (λ f. f k c.requires.pipe c.requires.legal) (sees-same k))
+    (λ f. f k c.requires.pipe c.requires.legal) (for-nothing _ live k))
 
 pub returns-in-TagSize-clause-held : goal.returns-in-TagSize-clause-held
 returns-in-TagSize-clause-held g c =
     let k = known c.args.caller.now in
-    setting-arm c.size_live.result c.args.workers c.args.line c.args.live.now c.size_live.new.live k k c.args.setting (set.TagSize c.in-TagSize.size) _ _ c.in-TagSize.is
-    (or-stops c.size_live.result c.size_live.ensures.held (λ f. f k c.requires.pipe c.requires.legal) (sees-same k))
+    let live = c.args.live.now in
+    setting-arm c.size_live.result c.args.workers c.args.line live c.size_live.new.live k k c.args.setting (set.TagSize c.in-TagSize.size) _ _ c.in-TagSize.is
+    (or-stops c.size_live.result c.size_live.ensures.held (λ f. f k c.requires.pipe c.requires.legal) (for-nothing _ live k))
 
 pub returns-in-Mask-clause-held : goal.returns-in-Mask-clause-held
 returns-in-Mask-clause-held g c =

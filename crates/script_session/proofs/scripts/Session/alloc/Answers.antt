@@ -4,51 +4,52 @@ use Rattle.dialogues.specs.Names.{name_read}
 use Rattle.std.specs.Prelude.{is_some}
 use Rattle.dialogues.specs.Walk.{live_of, shared_of, either_of}
 use Rattle.script_session.specs.States.{State}
-use Rattle.script_session.proofs.Arms.{or-stops, stops-same, answer-holds}
+use Rattle.script_session.proofs.Arms.{answer-holds}
+use Rattle.script_session.proofs.Breaking.{or-breaks, stops-none}
 use Rattle.script_session.proofs.Alloc.{nobody, alloc-live, alloc-full, alloc-faulty, alloc-unfit, looks-arm}
 use Rattle.script_session.proofs.scripts.Session.alloc.Goals as goal
 
 pub returns-then-has_label : goal.returns-then-has_label
 returns-then-has_label g c =
     let s = c.args.self.now in
-    or-stops c.refuse.result c.refuse.ensures
-    (answer-holds _ s s _ _ _
+    or-breaks _ _ c.refuse.result c.refuse.ensures
+    (λ all. answer-holds _ s s _ _ all
     (alloc-live s.workers s.walk c.args.number c.args.wanted.now.label.now c.args.name.now c.args.wanted.now.length
     (ap (λ l. is_some (either_of s.walk l)) (sym c.as_slice.ensures) ∙ (sym c.has_label.ensures ∙ c.if-has_label.true))) refl refl refl refl c.requires.stands c.requires.posted)
-    (stops-same s c.requires.stands)
+    c.requires.posted
 
 pub returns-then-len-ge-MOST_LIVE : goal.returns-then-len-ge-MOST_LIVE
 returns-then-len-ge-MOST_LIVE g c =
     let s = c.args.self.now in
-    or-stops c.refuse-then-len-ge-MOST_LIVE.result c.refuse-then-len-ge-MOST_LIVE.ensures
-    (answer-holds _ s s _ _ _
+    or-breaks _ _ c.refuse-then-len-ge-MOST_LIVE.result c.refuse-then-len-ge-MOST_LIVE.ensures
+    (λ all. answer-holds _ s s _ _ all
     (alloc-full s.workers s.walk c.args.number c.args.wanted.now.label.now c.args.name.now c.args.wanted.now.length
     (ap (λ l. is_some (either_of s.walk l)) (sym c.as_slice.ensures) ∙ (sym c.has_label.ensures ∙ c.if-has_label.false))
     (let view = ap (λ (x : State). length x.walk.lives) c.self.view_is in omega (arith, view, c.if-len-ge-MOST_LIVE.true, c.len.ensures))) refl refl refl refl c.requires.stands c.requires.posted)
-    (stops-same s c.requires.stands)
+    c.requires.posted
 
 pub returns-in-Err-Fault : goal.returns-in-Err-Fault
 returns-in-Err-Fault g c =
     let s = c.args.self.now in
     let read = rw c.in-Err-Fault.field-0-is at c.in-Err-Fault.ensures in
-    or-stops c.refuse-in-Err-Fault.result (rw c.in-Err-Fault.errno-is at c.refuse-in-Err-Fault.ensures)
-    (answer-holds _ s s _ _ _
+    or-breaks _ _ c.refuse-in-Err-Fault.result (rw c.in-Err-Fault.errno-is at c.refuse-in-Err-Fault.ensures)
+    (λ all. answer-holds _ s s _ _ all
     (alloc-faulty s.workers s.walk c.args.number c.args.wanted.now.label.now c.args.name.now c.args.wanted.now.length c.in-Err-Fault.errno
     (ap (λ l. is_some (either_of s.walk l)) (sym c.as_slice.ensures) ∙ (sym c.has_label.ensures ∙ c.if-has_label.false))
     (let view = ap (λ (x : State). length x.walk.lives) c.self.view_is in omega (arith, view, c.if-len-ge-MOST_LIVE.false, c.len.ensures))
     (ap name_read (sym c.as_slice-2.ensures) ∙ read.err)) refl refl refl refl c.requires.stands c.requires.posted)
-    (stops-same s c.requires.stands)
+    c.requires.posted
 
 pub returns-then-not-fits_queue : goal.returns-then-not-fits_queue
 returns-then-not-fits_queue g c =
     let s = c.args.self.now in
-    or-stops c.refuse-then-not-fits_queue.result c.refuse-then-not-fits_queue.ensures
-    (answer-holds _ s s _ _ _
+    or-breaks _ _ c.refuse-then-not-fits_queue.result c.refuse-then-not-fits_queue.ensures
+    (λ all. answer-holds _ s s _ _ all
     (alloc-unfit s.workers s.walk c.args.number c.args.wanted.now.label.now c.args.name.now c.args.wanted.now.length c.in-Ok.name
     (ap (λ l. is_some (either_of s.walk l)) (sym c.as_slice.ensures) ∙ (sym c.has_label.ensures ∙ c.if-has_label.false))
     (let view = ap (λ (x : State). length x.walk.lives) c.self.view_is in omega (arith, view, c.if-len-ge-MOST_LIVE.false, c.len.ensures))
     (ap name_read (sym c.as_slice-2.ensures) ∙ c.in-Ok.ensures.ok) (sym c.fits_queue.ensures ∙ c.if-not-fits_queue.true)) refl refl refl refl c.requires.stands c.requires.posted)
-    (stops-same s c.requires.stands)
+    c.requires.posted
 
 pub find-requires-clause-free : goal.find-requires-clause-free
 find-requires-clause-free g c =
@@ -63,3 +64,6 @@ returns g c =
     (ap (λ l. is_some (either_of s.walk l)) (sym c.as_slice.ensures) ∙ (sym c.has_label.ensures ∙ c.if-has_label.false))
     (let view = ap (λ (x : State). length x.walk.lives) c.self.view_is in omega (arith, view, c.if-len-ge-MOST_LIVE.false, c.len.ensures))
     (ap name_read (sym c.as_slice-2.ensures) ∙ c.in-Ok.ensures.ok) (sym c.fits_queue.ensures ∙ c.if-not-fits_queue.false) (c.in-Ok.ensures.spelled ∙ c.as_slice-2.ensures) c.find.ensures
+
+pub returns-in-Err-Memory : goal.returns-in-Err-Memory
+returns-in-Err-Memory g c = stops-none _ c.args.self.now c.requires.stands

@@ -1,6 +1,7 @@
 use Rattle.std.proofs.Common.{refl}
 use Rattle.script_text.specs.declared.commands.Line.TheVariants as line
-use Rattle.script_session.proofs.Arms.{on-ok, or-stops, stops-same, answer-holds}
+use Rattle.script_session.proofs.Arms.{on-ok, or-stops, answer-holds}
+use Rattle.script_session.proofs.Breaking.{stops-none}
 use Rattle.script_session.proofs.Commands.{line-arm, line-holds, nothing-holds, answered-ready}
 use Rattle.script_session.proofs.scripts.Session.answer_line.Goals as goal
 
@@ -11,7 +12,7 @@ returns-in-Nothing-clause-done g c =
 pub returns-in-Malformed-clause-done : goal.returns-in-Malformed-clause-done
 returns-in-Malformed-clause-done g c =
     line-arm c.say.result c.args.self.now _ c.args.number c.args.line line.Malformed _ _ c.in-Malformed.is
-    (or-stops c.say.result c.say.ensures (answer-holds _ c.args.self.now c.args.self.now _ _ _ refl refl refl refl refl c.requires.ready.stands c.requires.ready.posted) (stops-same c.args.self.now c.requires.ready.stands))
+    (or-stops c.say.result c.say.ensures (answer-holds _ c.args.self.now c.args.self.now _ _ _ refl refl refl refl refl c.requires.ready.stands c.requires.ready.posted) (stops-none _ c.args.self.now c.requires.ready.stands))
 
 pub returns-in-Malformed-clause-ready : goal.returns-in-Malformed-clause-ready
 returns-in-Malformed-clause-ready g c = on-ok c.say.result c.say.ensures (λ says. c.requires.ready)

@@ -1,16 +1,13 @@
-use Rattle.std.proofs.Common.{[], refl, sym, ap, ◌∙◌}
+use Rattle.std.proofs.Common.{sym, ap, ◌∙◌}
 use Rattle.dialogues.specs.Walk.{live_of}
 use Rattle.script_session.specs.States.{State}
-use Rattle.session_calls.specs.Passes.{known}
-use Rattle.script_session.proofs.Arms.{or-stops, sees-same}
-use Rattle.script_session.proofs.Finding.{sees-asked, further, origin-stands, bound-arm, unplanned-arm}
+use Rattle.script_session.proofs.Finding.{origin-stands, bound-arm, unbound-arm, unplanned-or}
+use Rattle.script_session.proofs.Moving.{fails}
 use Rattle.script_session.proofs.scripts.Session.bind.Goals as goal
 
 pub returns-in_default : goal.returns-in_default
 returns-in_default g c =
-    or-stops c.refuse.result c.refuse.ensures
-    (unplanned-arm c.args.self.now c.self.view_is c.args.number c.args.wanted.now.label.now c.args.wanted.now.length c.args.id c.in_ok-spec.spec _ _ c.in_ok-spec.ensures.0 c.in_ok-spec.ensures.1 (sym c.in_ok-plan.ensures ∙ c.in_default.is) c.requires.stands c.requires.posted)
-    (further c.args.self.now c.self.view_is _ (sees-asked [] c.in_ok-spec.ensures.0) refl (sees-same (known c.self.inside.board)))
+    unplanned-or c.args.self.now c.self.view_is c.args.number c.args.wanted.now.label.now c.args.wanted.now.length c.args.id c.in_ok-spec.spec _ _ c.refuse.result c.in_ok-spec.ensures.0 c.in_ok-spec.ensures.1 (sym c.in_ok-plan.ensures ∙ c.in_default.is) c.requires.stands c.requires.posted c.refuse.ensures
 
 pub take_entry-requires-clause-stands : goal.take_entry-requires-clause-stands
 take_entry-requires-clause-stands g c = origin-stands c.args.self.now c.self.view_is c.requires.stands c.in_ok-spec.ensures.0
@@ -22,3 +19,14 @@ pub returns : goal.returns
 returns g c =
     bound-arm c.args.self.now c.self.view_is _ c.args.number c.args.wanted.now.label.now c.args.wanted.now.length c.args.id c.in_ok-spec.spec c.in-Some.plan _ _ c.take_entry.result c.in_ok-spec.ensures.0 c.in_ok-spec.ensures.1
     (sym c.in_ok-plan.ensures ∙ c.in-Some.is) c.take_entry.ensures
+
+-- memory was wanting for the entry, or for its plan
+pub returns-in_err-spec : goal.returns-in_err-spec
+returns-in_err-spec g c =
+    fails c.from_residual.result _ c.from_residual.ensures.0
+    (unbound-arm c.args.self.now c.self.view_is c.args.number c.args.wanted.now.label.now c.args.wanted.now.length c.args.id c.in_err-spec.ensures c.requires.seen)
+
+pub returns-in_err-plan : goal.returns-in_err-plan
+returns-in_err-plan g c =
+    fails c.from_residual-in_err-plan.result _ c.from_residual-in_err-plan.ensures.0
+    (unbound-arm c.args.self.now c.self.view_is c.args.number c.args.wanted.now.label.now c.args.wanted.now.length c.args.id c.in_ok-spec.ensures.0 c.requires.seen)

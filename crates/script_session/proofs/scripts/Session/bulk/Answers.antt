@@ -3,7 +3,9 @@ use Rattle.kc_base.specs.declared.error_numbers.Errno.TheVariants.{ENOENT}
 use Rattle.dialogues.specs.Bulk.{bulk_said}
 use Rattle.dialogues.specs.Dialogues.{for_live, says}
 use Rattle.dialogues.specs.Walk.{Live, either_of}
-use Rattle.script_session.proofs.Arms.{or-stops, stops-same, answer-holds}
+use Rattle.script_session.proofs.Arms.{or-stops, answer-holds}
+use Rattle.script_session.proofs.Breaking.{stops-none}
+use Rattle.script_session.proofs.Moving.{fails}
 use Rattle.script_session.proofs.scripts.Session.bulk.Goals as goal
 
 pub returns-in_default : goal.returns-in_default
@@ -12,7 +14,7 @@ returns-in_default g c =
     let none = ap (λ l. either_of s.walk l) (sym c.as_slice.ensures) ∙ sym c.in_default.ensures in
     or-stops c.refuse.result c.refuse.ensures
     (answer-holds _ s s _ _ _ (ap (λ o. for_live s.walk c.args.number o ENOENT (λ (live : Live). says s.walk (bulk_said c.args.number live c.args.size c.args.seed))) none) refl refl refl refl c.requires.stands c.requires.posted)
-    (stops-same s c.requires.stands)
+    (stops-none _ s c.requires.stands)
 
 pub returns : goal.returns
 returns g c =
@@ -22,4 +24,7 @@ returns g c =
     (answer-holds _ s s _ _ _
     (ap (λ o. for_live s.walk c.args.number o ENOENT (λ (live : Live). says s.walk (bulk_said c.args.number live c.args.size c.args.seed))) found ∙ ap (says s.walk) (sym c.in_ok-answer.ensures))
     refl refl refl refl c.requires.stands c.requires.posted)
-    (stops-same s c.requires.stands)
+    (stops-none _ s c.requires.stands)
+
+pub returns-in_err-answer : goal.returns-in_err-answer
+returns-in_err-answer g c = fails c.from_residual.result _ c.from_residual.ensures.0 (stops-none _ c.args.self.now c.requires.stands)

@@ -18,7 +18,7 @@ returns-in_default g c =
     let none = no-live s c.self.inside.lives c.self.invariant c.self.view_is c.args.label.now c.as_slice.result.now c.as_slice.ensures c.in_default.ensures in
     or-breaks c.put_one.result c.put_one.ensures.ok c.put_one.ensures.err
     (says-by _ s s _ _ _ (answer-holds _ s s _ [] _ (collect-free c.args.waits s.walk c.args.number c.args.label.now _ none (c.missing-errno.ensures ∙ ap (λ l. missing (shared_of s.walk l)) c.as_slice-in_default.ensures)) refl refl refl refl c.requires.stands c.requires.posted refl))
-    (breaks-off_same s _ _ c.requires.stands c.requires.posted)
+    (breaks-off_same _ s _ _ c.requires.stands c.requires.posted)
 
 pub unwrap-live-requires : goal.unwrap-live-requires
 unwrap-live-requires g c = loan-there c.args.self.now c.self.inside.lives c.self.invariant c.self.view_is c.args.label.now c.as_slice.result.now c.as_slice.ensures c.in-Some.place c.in-Some.ensures c.get_mut.result c.get_mut.ensures.value

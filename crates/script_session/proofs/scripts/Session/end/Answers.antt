@@ -2,14 +2,17 @@ use Rattle.std.proofs.Common.{◌≡◌, ◌∙◌, [], ap, refl, sym, subst, ar
 use Rattle.std.specs.Prelude.{sum_by}
 use Rattle.std.proofs.lemmas.List.{with_items_is}
 use Rattle.board.specs.Allowance.{accepted_by}
+use Rattle.dialogues.specs.Dialogues.{Ends, Posts}
+use Rattle.dialogues.specs.Piping.{end}
+use Rattle.dialogues.specs.Questions.{Shut}
 use Rattle.session_calls.specs.Passes.{known}
 use Rattle.transforms.specs.AskValue.{ask_size}
 use Rattle.script_session.specs.Saying.{SaysTold}
 use Rattle.script_session.specs.States.{State, Posted}
-use Rattle.script_session.proofs.Ended.{end-arm, ends-shut, stops-here}
+use Rattle.script_session.proofs.Ended.{end-arm, ends-shut, stops-here, release-stops, drain-stops}
 use Rattle.script_session.proofs.Said.{on-err, tells-nothing, told-first, told-after}
-use Rattle.std.proofs.lemmas.Result.{err_from_is_err_and}
 use Rattle.script_session.proofs.Rules.{called-nothing}
+use Rattle.script_session.proofs.Moving.{fails}
 use Rattle.script_session.proofs.scripts.Session.end.Goals as goal
 
 pub release_all-requires-clause-posted : goal.release_all-requires-clause-posted
@@ -54,8 +57,7 @@ returns-clause-shut g c =
 -- memory was wanting before anything was called
 pub returns-in_err-lives-clause-done : goal.returns-in_err-lives-clause-done
 returns-in_err-lives-clause-done g c =
-    let p = err_from_is_err_and c.from_residual.result c.from_residual.ensures.1 in
-    rw (p.1) (stops-here c.args.self.now c.self.view_is _)
+    fails c.from_residual.result _ c.from_residual.ensures.0 (stops-here c.args.self.now c.self.view_is (end c.args.self.now.walk) _ c.requires.stands)
 
 pub returns-in_err-lives-clause-told : goal.returns-in_err-lives-clause-told
 returns-in_err-lives-clause-told g c =
@@ -63,3 +65,18 @@ returns-in_err-lives-clause-told g c =
     (subst (λ (x : State). SaysTold (known x.board) (known c.self.inside.board) c.args.reply.now.text c.args.reply.now.text) c.self.view_is
     (told-first (known c.self.inside.board) (known c.self.inside.board) c.args.reply.now.text
     (tells-nothing (known c.self.inside.board) (known c.self.inside.board) (called-nothing (known c.self.inside.board)))))
+
+-- or while pipelines were let go
+pub returns-in_err-release_all-clause-done : goal.returns-in_err-release_all-clause-done
+returns-in_err-release_all-clause-done g c =
+    fails c.from_residual-in_err-release_all.result _ c.from_residual-in_err-release_all.ensures.0
+    (release-stops c.args.self.now c.self.view_is (Posts Shut λ done. Ends c.args.self.now.walk) c.deref_mut.result.now (c.deref_mut.ensures.value ∙ c.in_ok-lives.ensures.all) c.release_all.ensures.lock c.requires.stands c.in_err-release_all.ensures.moved)
+
+-- or while they were drained
+pub returns-in_err-drain_last_said_all-clause-done : goal.returns-in_err-drain_last_said_all-clause-done
+returns-in_err-drain_last_said_all-clause-done g c =
+    fails c.from_residual-in_err-drain_last_said_all.result _ c.from_residual-in_err-drain_last_said_all.ensures.0
+    (drain-stops c.args.self.now c.self.view_is (Posts Shut λ done. Ends c.args.self.now.walk) c.deref_mut.result.now c.release_all.new.lives c.deref_mut-2.result.now (known c.release_all.new.caller)
+    (c.deref_mut.ensures.value ∙ c.in_ok-lives.ensures.all)
+    (c.deref_mut-2.ensures.value ∙ with_items_is c.in_ok-lives.lives c.release_all.new.lives (omega (arith, c.release_all.auto.lives, c.deref_mut.ensures.len, ap length c.deref_mut.ensures.value)))
+    (c.drain_last_said_all.ensures.lock ∙ c.release_all.ensures.lock) c.requires.stands c.requires.posted c.in_ok-release_all.ensures.moved c.in_err-drain_last_said_all.ensures.moved)

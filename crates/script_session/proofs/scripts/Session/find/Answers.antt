@@ -1,10 +1,10 @@
-use Rattle.std.proofs.Common.{refl, ap, ◌∙◌, Ok, Err}
+use Rattle.std.proofs.Common.{ap, ◌∙◌, Ok, Err}
 use Rattle.alg_names.specs.Name.{spelling}
 use Rattle.dialogues.specs.Walk.{live_of}
 use Rattle.script_session.specs.States.{State}
-use Rattle.session_calls.specs.Passes.{known}
-use Rattle.script_session.proofs.Arms.{or-stops, sees-same}
-use Rattle.script_session.proofs.Finding.{sees-asked, finds-as, further, look-stands, found-arm, fault-holds}
+use Rattle.script_session.proofs.Breaking.{or-breaks}
+use Rattle.script_session.proofs.Finding.{finds-as, look-stands, look-stops, found-arm, fault-holds}
+use Rattle.script_session.proofs.Moving.{fails}
 use Rattle.script_session.proofs.scripts.Session.find.Goals as goal
 
 pub bind-requires-clause-stands : goal.bind-requires-clause-stands
@@ -20,6 +20,11 @@ returns-in-Ok g c =
 pub returns-in-Err : goal.returns-in-Err
 returns-in-Err g c =
     let found = finds-as c.self.inside.registry c.resolve.new.self (spelling c.args.name.now) c.in_ok-id.field-0 (Err c.in-Err.errno) c.in-Err.is c.in_ok-id.ensures in
-    or-stops c.refuse.result c.refuse.ensures
-    (fault-holds c.args.self.now c.self.view_is c.args.number c.args.wanted.now.label.now (spelling c.args.name.now) c.args.wanted.now.length c.in-Err.errno _ _ found c.requires.stands c.requires.posted)
-    (further c.args.self.now c.self.view_is _ (sees-asked _ found) refl (sees-same (known c.self.inside.board)))
+    or-breaks _ _ c.refuse.result c.refuse.ensures
+    (λ all. fault-holds c.args.self.now c.self.view_is c.args.number c.args.wanted.now.label.now (spelling c.args.name.now) c.args.wanted.now.length c.in-Err.errno _ all found c.requires.stands c.requires.posted)
+    c.requires.posted
+
+pub returns-in_err-id : goal.returns-in_err-id
+returns-in_err-id g c =
+    fails c.from_residual.result _ c.from_residual.ensures.0
+    (look-stops c.args.self.now c.self.view_is c.args.number c.args.wanted.now.label.now (spelling c.args.name.now) c.args.wanted.now.length c.in_err-id.ensures)

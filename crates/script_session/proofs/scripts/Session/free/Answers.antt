@@ -6,20 +6,22 @@ use Rattle.session_calls.specs.Asking.{HasReferenceOf}
 use Rattle.session_calls.specs.Passes.{known}
 use Rattle.script_session.proofs.Frees.{free-arm}
 use Rattle.script_session.proofs.Standing.{may-give}
-use Rattle.script_session.proofs.Arms.{or-stops, stops-same, answer-holds}
+use Rattle.script_session.proofs.Arms.{answer-holds}
+use Rattle.script_session.proofs.Breaking.{or-breaks, stops-none}
 use Rattle.script_session.proofs.Freeing.{free-nobody, free-owing}
 use Rattle.dialogues.specs.Dialogues.{missing}
 use Rattle.dialogues.specs.Walk.{shared_of}
 use Rattle.script_session.proofs.Living.{live-at, no-live, is-live, is-there, pipe-there, taken}
+use Rattle.script_session.proofs.Moving.{fails}
 use Rattle.script_session.proofs.scripts.Session.free.Goals as goal
 
 pub returns-in_default : goal.returns-in_default
 returns-in_default g c =
     let s = c.args.self.now in
     let none = no-live c.args.self.now c.self.inside.lives c.self.invariant c.self.view_is c.args.label.now c.as_slice.result.now c.as_slice.ensures c.in_default.ensures in
-    or-stops c.refuse.result c.refuse.ensures
-    (answer-holds _ s s _ _ _ (free-nobody s.walk c.args.number c.args.label.now _ none (c.missing-errno.ensures ∙ ap (λ l. missing (shared_of s.walk l)) c.as_slice-in_default.ensures)) refl refl refl refl c.requires.stands c.requires.posted)
-    (stops-same s c.requires.stands)
+    or-breaks _ _ c.refuse.result c.refuse.ensures
+    (λ all. answer-holds _ s s _ _ all (free-nobody s.walk c.args.number c.args.label.now _ none (c.missing-errno.ensures ∙ ap (λ l. missing (shared_of s.walk l)) c.as_slice-in_default.ensures)) refl refl refl refl c.requires.stands c.requires.posted)
+    c.requires.posted
 
 pub get-requires : goal.get-requires
 get-requires g c = is-there c.args.self.now c.self.inside.lives c.self.invariant c.self.view_is c.args.label.now c.as_slice.result.now c.as_slice.ensures c.in-Some.place c.in-Some.ensures
@@ -29,9 +31,9 @@ returns-then-is_owing g c =
     let s = c.args.self.now in
     let at = live-at c.args.self.now c.self.inside.lives c.self.invariant c.self.view_is c.args.label.now c.as_slice.result.now c.as_slice.ensures c.in-Some.place c.in-Some.ensures in
     let was = is-live c.args.self.now c.self.inside.lives c.self.invariant c.self.view_is c.args.label.now c.as_slice.result.now c.as_slice.ensures c.in-Some.place c.in-Some.ensures c.get.result.now c.get.ensures in
-    or-stops c.refuse-then-is_owing.result c.refuse-then-is_owing.ensures
-    (answer-holds _ s s _ _ _ (free-owing s.walk c.args.number c.args.label.now at.live at.found (ap (λ (l : Live). owes l.pipe) (sym was) ∙ (sym c.is_owing.ensures ∙ c.if-is_owing.true))) refl refl refl refl c.requires.stands c.requires.posted)
-    (stops-same s c.requires.stands)
+    or-breaks _ _ c.refuse-then-is_owing.result c.refuse-then-is_owing.ensures
+    (λ all. answer-holds _ s s _ _ all (free-owing s.walk c.args.number c.args.label.now at.live at.found (ap (λ (l : Live). owes l.pipe) (sym was) ∙ (sym c.is_owing.ensures ∙ c.if-is_owing.true))) refl refl refl refl c.requires.stands c.requires.posted)
+    c.requires.posted
 
 pub remove-live-requires-clause-there : goal.remove-live-requires-clause-there
 remove-live-requires-clause-there g c = is-there c.args.self.now c.self.inside.lives c.self.invariant c.self.view_is c.args.label.now c.as_slice.result.now c.as_slice.ensures c.in-Some.place c.in-Some.ensures
@@ -57,3 +59,6 @@ returns g c =
     free-arm s c.self.view_is c.args.label.now _ at c.remove-live.result c.id.result c.args.number c.args.answers.now.items c.say.new.answers.items was c.id.ensures (taken c.args.self.now c.self.inside.lives c.self.invariant c.self.view_is c.args.label.now c.as_slice.result.now c.as_slice.ensures c.in-Some.place c.in-Some.ensures _ c.remove-live.ensures.entries)
     c.close_live.ensures.lock c.close_live.ensures.released c.put_ref.ensures
     (ap (λ (l : Live). owes l.pipe) (sym first) ∙ (sym c.is_owing.ensures ∙ c.if-is_owing.false)) c.requires.stands c.requires.posted c.in_ok-say.ensures
+
+pub returns-in_err-say : goal.returns-in_err-say
+returns-in_err-say g c = fails c.from_residual.result _ c.from_residual.ensures.0 (stops-none _ c.args.self.now c.requires.stands)

@@ -16,10 +16,10 @@ pub returns-in-Cmd-Poll-clause-ready : goal.returns-in-Cmd-Poll-clause-ready
 returns-in-Cmd-Poll-clause-ready g c = line-ready c.shared_is_known.ensures.stays 1 c.collect.result _ c.args.registry.now c.args.board.now _ c.args.self.now c.collect.new.self _ _ c.requires.ready c.collect.ensures
 
 pub returns-in-Cmd-Poll-clause-unwritten : goal.returns-in-Cmd-Poll-clause-unwritten
-returns-in-Cmd-Poll-clause-unwritten g c = line-unwritten c.collect.result _ c.args.self.now c.collect.new.self _ _ c.collect.ensures
+returns-in-Cmd-Poll-clause-unwritten g c = line-unwritten c.collect.result _ _ c.args.self.now c.collect.new.self _ _ c.collect.ensures
 
 pub returns-in-Cmd-Poll-clause-uncalled : goal.returns-in-Cmd-Poll-clause-uncalled
-returns-in-Cmd-Poll-clause-uncalled g c = line-uncalled c.collect.result _ _ c.args.self.now c.collect.new.self _ _ c.collect.ensures
+returns-in-Cmd-Poll-clause-uncalled g c = line-uncalled c.collect.result _ _ _ c.args.self.now c.collect.new.self _ _ c.collect.ensures
 
 pub returns-in-Cmd-Drain-clause-done : goal.returns-in-Cmd-Drain-clause-done
 returns-in-Cmd-Drain-clause-done g c =
@@ -31,10 +31,10 @@ pub returns-in-Cmd-Drain-clause-ready : goal.returns-in-Cmd-Drain-clause-ready
 returns-in-Cmd-Drain-clause-ready g c = line-ready c.shared_is_known.ensures.stays 1 c.collect-in-Cmd-Drain.result _ c.args.registry.now c.args.board.now _ c.args.self.now c.collect-in-Cmd-Drain.new.self _ _ c.requires.ready c.collect-in-Cmd-Drain.ensures
 
 pub returns-in-Cmd-Drain-clause-unwritten : goal.returns-in-Cmd-Drain-clause-unwritten
-returns-in-Cmd-Drain-clause-unwritten g c = line-unwritten c.collect-in-Cmd-Drain.result _ c.args.self.now c.collect-in-Cmd-Drain.new.self _ _ c.collect-in-Cmd-Drain.ensures
+returns-in-Cmd-Drain-clause-unwritten g c = line-unwritten c.collect-in-Cmd-Drain.result _ _ c.args.self.now c.collect-in-Cmd-Drain.new.self _ _ c.collect-in-Cmd-Drain.ensures
 
 pub returns-in-Cmd-Drain-clause-uncalled : goal.returns-in-Cmd-Drain-clause-uncalled
-returns-in-Cmd-Drain-clause-uncalled g c = line-uncalled c.collect-in-Cmd-Drain.result _ _ c.args.self.now c.collect-in-Cmd-Drain.new.self _ _ c.collect-in-Cmd-Drain.ensures
+returns-in-Cmd-Drain-clause-uncalled g c = line-uncalled c.collect-in-Cmd-Drain.result _ _ _ c.args.self.now c.collect-in-Cmd-Drain.new.self _ _ c.collect-in-Cmd-Drain.ensures
 
 pub returns-in_default-clause-done : goal.returns-in_default-clause-done
 returns-in_default-clause-done g c =

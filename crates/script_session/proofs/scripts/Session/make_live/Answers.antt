@@ -3,15 +3,14 @@ use Rattle.std.proofs.lemmas.Result.{err_from_is_err_and}
 use Rattle.dialogues.specs.Walk.{Live, live_of}
 use Rattle.script_session.specs.Filed.{lives_of, number_of}
 use Rattle.script_session.specs.States.{State}
-use Rattle.session_calls.specs.Passes.{known}
 use Rattle.script_session.proofs.Filed.{nobody-filed}
-use Rattle.script_session.proofs.Finding.{created-live-sees, further-on, makes-arm}
+use Rattle.script_session.proofs.Finding.{making-created, making-none, makes-arm}
 use Rattle.script_session.proofs.scripts.Session.make_live.Goals as goal
 
 pub returns-in_err-live : goal.returns-in_err-live
 returns-in_err-live g c =
     let p = err_from_is_err_and c.from_residual.result c.from_residual.ensures.1 in
-    rw (p.1) (further-on c.args.self.now c.self.view_is (lives_of c.self.inside.lives) c.create_live.ensures.lock c.in_err-live.ensures.created)
+    rw (p.1) (making-none c.args.self.now c.self.view_is (lives_of c.self.inside.lives) _ c.create_live.ensures.lock c.in_err-live.ensures.created)
 
 -- nobody has its label
 pub push-requires-clause-free : goal.push-requires-clause-free
@@ -23,8 +22,8 @@ pub returns-in_err-push : goal.returns-in_err-push
 returns-in_err-push g c =
     let p = err_from_is_err_and c.from_residual-in_err-push.result c.from_residual-in_err-push.ensures.1 in
     rw (p.1)
-    (further-on c.args.self.now c.self.view_is _ c.create_live.ensures.lock
-    (created-live-sees c.self.inside.workers c.args.wanted.now.label.now c.args.wanted.now.length c.args.chosen.now.id c.args.chosen.now.spec c.args.chosen.now.plan c.in_ok-live.live (known c.self.inside.board) (known c.create_live.new.caller) c.in_ok-live.ensures.created))
+    (making-created c.args.self.now c.self.view_is _ c.args.wanted.now.label.now c.args.wanted.now.length c.args.chosen.now.id c.args.chosen.now.spec c.args.chosen.now.plan c.in_ok-live.live
+    c.create_live.ensures.lock c.in_ok-live.ensures.created)
 
 pub returns : goal.returns
 returns g c =

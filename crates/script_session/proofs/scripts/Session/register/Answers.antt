@@ -2,7 +2,9 @@ use Rattle.std.proofs.Common.{refl, ap, sym, ◌∙◌, ◌++◌, ◌∷◌, []}
 use Rattle.dialogues.specs.Questions.{Enlist}
 use Rattle.dialogues.specs.Registering.{enlist_said}
 use Rattle.script_session.proofs.KnownDrivers.{known-driver}
-use Rattle.script_session.proofs.Arms.{or-stops, stops-same, answer-holds, asking-arm, stops-arm, register-unknown, register-high, register-asks}
+use Rattle.script_session.proofs.Arms.{or-stops, answer-holds, asking-arm, register-unknown, register-high, register-asks}
+use Rattle.script_session.proofs.Breaking.{or-breaks, stops-none, unasked-arm}
+use Rattle.script_session.proofs.Moving.{fails}
 use Rattle.script_session.proofs.scripts.Session.register.Goals as goal
 
 pub returns-in_default : goal.returns-in_default
@@ -10,7 +12,7 @@ returns-in_default g c =
     or-stops c.refuse.result c.refuse.ensures
     (answer-holds _ c.args.self.now c.args.self.now _ _ _
     (register-unknown c.args.self.now.walk c.args.number c.args.priority c.as_slice.result.now c.args.driver.now c.in_ok-spec.field-0 c.as_slice.ensures c.in_ok-spec.ensures c.in_default.is) refl refl refl refl c.requires.stands c.requires.posted)
-    (stops-same c.args.self.now c.requires.stands)
+    (stops-none _ c.args.self.now c.requires.stands)
 
 pub returns-then-priority-gt-MOST_PRIORITY : goal.returns-then-priority-gt-MOST_PRIORITY
 returns-then-priority-gt-MOST_PRIORITY g c =
@@ -18,15 +20,21 @@ returns-then-priority-gt-MOST_PRIORITY g c =
     (answer-holds _ c.args.self.now c.args.self.now _ _ _
     (register-high c.args.self.now.walk c.args.number c.args.priority c.as_slice.result.now c.args.driver.now c.in_ok-spec.field-0 c.in-Some.spec c.as_slice.ensures c.in_ok-spec.ensures c.in-Some.is c.if-priority-gt-MOST_PRIORITY.true)
     refl refl refl refl c.requires.stands c.requires.posted)
-    (stops-same c.args.self.now c.requires.stands)
+    (stops-none _ c.args.self.now c.requires.stands)
 
 pub enlist-requires-clause-driver : goal.enlist-requires-clause-driver
 enlist-requires-clause-driver g c = (known-driver c.as_slice.result.now c.args.priority c.in-Some.spec (sym c.in_ok-spec.ensures ∙ c.in-Some.is)).listed
 
 pub returns : goal.returns
 returns g c =
-    or-stops c.say.result c.say.ensures
-    (λ said. asking-arm c.args.self.now c.self.view_is _ (Enlist c.in-Some.spec) c.in_ok-how.how (enlist_said c.args.number) _ _
+    or-breaks _ _ c.say.result c.say.ensures
+    (λ all said. asking-arm c.args.self.now c.self.view_is _ (Enlist c.in-Some.spec) c.in_ok-how.how (enlist_said c.args.number) _ all
     (register-asks c.args.self.now.walk c.args.number c.args.priority c.as_slice.result.now c.args.driver.now c.in_ok-spec.field-0 c.in-Some.spec c.as_slice.ensures c.in_ok-spec.ensures c.in-Some.is c.if-priority-gt-MOST_PRIORITY.false)
     c.requires.stands c.requires.posted c.in_ok-how.ensures (λ id. refl) (said ∙ ap (λ a. c.args.answers.now.items ++ a ∷ []) c.enlisted_answer.ensures))
-    (stops-arm c.args.self.now c.self.view_is _ c.in_ok-how.ensures)
+    c.requires.posted
+
+pub returns-in_err-spec : goal.returns-in_err-spec
+returns-in_err-spec g c = fails c.from_residual.result _ c.from_residual.ensures.0 (stops-none _ c.args.self.now c.requires.stands)
+
+pub returns-in_err-how : goal.returns-in_err-how
+returns-in_err-how g c = fails c.from_residual-in_err-how.result _ c.from_residual-in_err-how.ensures.0 (unasked-arm c.args.self.now c.self.view_is _ c.in_err-how.ensures)

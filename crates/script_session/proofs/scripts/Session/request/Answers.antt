@@ -7,12 +7,14 @@ use Rattle.script_session.specs.Keyed.{IsJob, IsNotTaken}
 use Rattle.dialogues.specs.Requesting.{requests_under, requests_in}
 use Rattle.dialogues.specs.Walk.{Live}
 use Rattle.script_session.specs.States.{State}
-use Rattle.script_session.proofs.Arms.{or-stops, stops-same, answer-holds}
+use Rattle.script_session.proofs.Arms.{or-stops, answer-holds}
+use Rattle.script_session.proofs.Breaking.{stops-none}
+use Rattle.script_session.proofs.Moving.{fails}
 use Rattle.std.specs.BTreeMap.{get}
 use Rattle.std.specs.Ordering.{nat_cmp}
 use Rattle.board.proofs.Kept.{loan_here}
 use Rattle.script_session.proofs.Filed.{filed-set}
-use Rattle.script_session.proofs.Living.{live-at, no-live, either-at, is-live, is-there, loan-there, pipe-there, request-arm, written}
+use Rattle.script_session.proofs.Living.{live-at, no-live, either-at, is-live, is-there, loan-there, pipe-there, request-arm, request-stops, written}
 use Rattle.script_session.proofs.Requests.{no-key, not-taken, job-asks, job-origin}
 use Rattle.script_session.proofs.scripts.Session.request.Goals as goal
 
@@ -33,7 +35,7 @@ returns-in-Ok-None g c =
     (ap (λ o. for_live s.walk c.args.number o ENOENT (λ (live : Live). requests_under s.walk c.args.number live c.args.asked c.args.backlog live.key)) (either-at s c.self.inside.lives c.self.invariant c.self.view_is c.args.label.now c.as_slice.result.now c.as_slice.ensures c.in-Some.place c.in-Some.ensures)
     ∙ no-key s.walk c.args.number at.live c.args.asked c.args.backlog (sym (ap (λ (l : Live). l.key) was) ∙ why))
     refl refl refl refl c.requires.stands c.requires.posted)
-    (stops-same s c.requires.stands)
+    (stops-none _ s c.requires.stands)
 
 pub returns-in-Err-Inval : goal.returns-in-Err-Inval
 returns-in-Err-Inval g c =
@@ -46,7 +48,7 @@ returns-in-Err-Inval g c =
     (ap (λ o. for_live s.walk c.args.number o ENOENT (λ (live : Live). requests_under s.walk c.args.number live c.args.asked c.args.backlog live.key)) (either-at s c.self.inside.lives c.self.invariant c.self.view_is c.args.label.now c.as_slice.result.now c.as_slice.ensures c.in-Some.place c.in-Some.ensures)
     ∙ not-taken s.walk c.args.number at.live c.args.asked c.args.backlog at.live.key (subst (λ (l : Live). IsNotTaken l c.args.asked l.key) was why))
     refl refl refl refl c.requires.stands c.requires.posted)
-    (stops-same s c.requires.stands)
+    (stops-none _ s c.requires.stands)
 
 pub unwrap-live-requires : goal.unwrap-live-requires
 unwrap-live-requires g c = loan-there c.args.self.now c.self.inside.lives c.self.invariant c.self.view_is c.args.label.now c.as_slice.result.now c.as_slice.ensures c.in-Some.place c.in-Some.ensures c.get_mut.result c.get_mut.ensures.value
@@ -88,3 +90,21 @@ returns g c =
     (λ walk live. requests_under walk c.args.number live c.args.asked c.args.backlog live.key) (λ walk. requests_in walk c.args.number old (asked_by ask) c.args.backlog old.pipe) c.count.new.self c.take_job.new.caller c.in_ok-accepted.accepted c.size-size.result ask _ _
     (job-asks s.walk c.args.number c.self.inside.client old c.args.asked (asked_by ask) c.args.backlog old.key (ap (λ (x : State). x.walk.client) (sym c.self.view_is)) job)
     is (written c.args.self.now c.self.inside.lives c.self.invariant c.self.view_is c.args.label.now c.as_slice.result.now c.as_slice.ensures c.in-Some.place c.in-Some.ensures c.unwrap-live.result.now c.take_job.new.live _ is c.take_job.ensures.named (c.get_mut.follows.holds c.take_job.new.live).0) e.lock c.requires.stands c.requires.posted c.size-size.ensures e.held c.count.ensures
+
+pub returns-in-Err-Memory : goal.returns-in-Err-Memory
+returns-in-Err-Memory g c = stops-none _ c.args.self.now c.requires.stands
+
+pub returns-in_err-accepted : goal.returns-in_err-accepted
+returns-in_err-accepted g c =
+    let s = c.args.self.now in
+    let ask = arc_value c.in-Ok-Some.job.ask in
+    let old = c.unwrap-live.result.now in
+    let is = loan_here (get nat_cmp c.self.inside.lives.transforms c.in-Some.place) c.get_mut.result c.unwrap-live.result c.get_mut.ensures.value c.unwrap-live.ensures in
+    let first = is-live s c.self.inside.lives c.self.invariant c.self.view_is c.args.label.now c.as_slice.result.now c.as_slice.ensures c.in-Some.place c.in-Some.ensures c.get.result.now c.get.ensures in
+    let then_is = is-live s c.self.inside.lives c.self.invariant c.self.view_is c.args.label.now c.as_slice.result.now c.as_slice.ensures c.in-Some.place c.in-Some.ensures old is in
+    let job = subst (λ (l : Live). IsJob c.self.inside.client c.args.number l c.args.asked (asked_by ask)) (first ∙ sym then_is) (rw c.in-Ok-Some.field-0-is at c.in-Ok-Some.ensures) in
+    fails c.from_residual.result _ c.from_residual.ensures.0
+    (request-stops s c.self.inside.lives c.self.invariant c.self.view_is c.args.label.now c.as_slice.result.now c.as_slice.ensures c.args.number c.in-Some.place c.in-Some.ensures old _
+    (λ walk live. requests_under walk c.args.number live c.args.asked c.args.backlog live.key) (λ walk. requests_in walk c.args.number old (asked_by ask) c.args.backlog old.pipe) c.take_job.new.caller
+    (job-asks s.walk c.args.number c.self.inside.client old c.args.asked (asked_by ask) c.args.backlog old.key (ap (λ (x : State). x.walk.client) (sym c.self.view_is)) job)
+    is c.take_job.ensures.lock c.requires.stands c.requires.posted c.in_err-accepted.ensures.held)

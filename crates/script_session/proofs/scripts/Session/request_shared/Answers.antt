@@ -1,13 +1,13 @@
-use Rattle.std.proofs.Common.{ap, sym, ◌∙◌, refl, subst, None, Some}
+use Rattle.std.proofs.Common.{ap, sym, ◌∙◌, refl, None, Some}
 use Rattle.std.specs.Arc.{arc_value}
 use Rattle.kc_base.specs.declared.error_numbers.Errno.TheVariants.{ENOENT}
 use Rattle.dialogues.specs.BoardCalls.{asked_by}
 use Rattle.dialogues.specs.Dialogues.{for_live}
 use Rattle.dialogues.specs.Requesting.{requests_under, requests_in}
 use Rattle.dialogues.specs.Walk.{Live}
-use Rattle.script_session.specs.Keyed.{IsJob}
 use Rattle.script_session.specs.States.{State}
-use Rattle.script_session.proofs.Arms.{or-stops, stops-same, answer-holds}
+use Rattle.script_session.proofs.Arms.{or-stops, answer-holds}
+use Rattle.script_session.proofs.Breaking.{stops-none}
 use Rattle.script_session.proofs.Gives.{either-shared, shared-at, pipe-at, give-arm, gives-stops}
 use Rattle.script_session.proofs.Moving.{fails}
 use Rattle.script_session.proofs.Requests.{no-key, not-taken, job-asks}
@@ -19,7 +19,7 @@ returns-in_default g c =
     let none = either-shared s.walk c.args.label.now None c.requires.none (shared-at s c.self.view_is c.args.label.now c.as_slice.result.now c.as_slice.ensures None c.in_default.ensures) in
     or-stops c.refuse.result c.refuse.ensures
     (answer-holds _ s s _ _ _ (ap (λ o. for_live s.walk c.args.number o ENOENT (λ (live : Live). requests_under s.walk c.args.number live c.args.asked c.args.backlog live.key)) none) refl refl refl refl c.requires.stands c.requires.posted)
-    (stops-same s c.requires.stands)
+    (stops-none _ s c.requires.stands)
 
 pub returns-in-Ok-None : goal.returns-in-Ok-None
 returns-in-Ok-None g c =
@@ -31,7 +31,7 @@ returns-in-Ok-None g c =
     (answer-holds _ s s _ _ _
     (ap (λ o. for_live s.walk c.args.number o ENOENT (λ (live : Live). requests_under s.walk c.args.number live c.args.asked c.args.backlog live.key)) found ∙ no-key s.walk c.args.number live c.args.asked c.args.backlog why)
     refl refl refl refl c.requires.stands c.requires.posted)
-    (stops-same s c.requires.stands)
+    (stops-none _ s c.requires.stands)
 
 pub returns-in-Err-Inval : goal.returns-in-Err-Inval
 returns-in-Err-Inval g c =
@@ -43,7 +43,7 @@ returns-in-Err-Inval g c =
     (answer-holds _ s s _ _ _
     (ap (λ o. for_live s.walk c.args.number o ENOENT (λ (live : Live). requests_under s.walk c.args.number live c.args.asked c.args.backlog live.key)) found ∙ not-taken s.walk c.args.number live c.args.asked c.args.backlog live.key why)
     refl refl refl refl c.requires.stands c.requires.posted)
-    (stops-same s c.requires.stands)
+    (stops-none _ s c.requires.stands)
 
 pub give_job-requires-clause-pipe : goal.give_job-requires-clause-pipe
 give_job-requires-clause-pipe g c =
@@ -52,7 +52,14 @@ give_job-requires-clause-pipe g c =
 pub returns-in_err-accepted : goal.returns-in_err-accepted
 returns-in_err-accepted g c =
     fails c.from_residual.result _ c.from_residual.ensures.0
-    (gives-stops c.args.self.now c.self.view_is c.args.label.now c.as_slice.result.now c.as_slice.ensures c.give_job.new.caller c.give_job.ensures.lock c.in_err-accepted.ensures.held)
+    (let s = c.args.self.now in
+    let ask = arc_value c.in-Ok-Some.job.ask in
+    let live = c.in-Some.live.now in
+    let job = rw c.in-Ok-Some.field-0-is at c.in-Ok-Some.ensures in
+    gives-stops s c.self.view_is c.args.label.now c.as_slice.result.now c.as_slice.ensures c.args.number live
+    (λ walk live. requests_under walk c.args.number live c.args.asked c.args.backlog live.key) (λ walk. requests_in walk c.args.number live (asked_by ask) c.args.backlog live.pipe) c.give_job.new.caller c.in-Some.ensures c.requires.none
+    (job-asks s.walk c.args.number c.self.inside.client live c.args.asked (asked_by ask) c.args.backlog live.key (ap (λ (x : State). x.walk.client) (sym c.self.view_is)) job)
+    c.give_job.ensures.lock c.requires.stands c.requires.posted c.in_err-accepted.ensures.held)
 
 pub returns : goal.returns
 returns g c =
@@ -66,3 +73,6 @@ returns g c =
     c.in-Some.ensures c.requires.none
     (job-asks s.walk c.args.number c.self.inside.client live c.args.asked (asked_by ask) c.args.backlog live.key (ap (λ (x : State). x.walk.client) (sym c.self.view_is)) job)
     e.lock c.requires.stands c.requires.posted c.size-size.ensures e.held c.count.ensures
+
+pub returns-in-Err-Memory : goal.returns-in-Err-Memory
+returns-in-Err-Memory g c = stops-none _ c.args.self.now c.requires.stands

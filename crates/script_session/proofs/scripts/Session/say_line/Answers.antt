@@ -4,7 +4,7 @@ use Rattle.dialogues.specs.Lines.{line_dialogue}
 use Rattle.dialogues.specs.Widths.{width_of}
 use Rattle.reply_text.specs.Answers.{text_of}
 use Rattle.script_session.specs.Holding.{HoldsBy}
-use Rattle.script_session.proofs.Commands.{holds-stops}
+use Rattle.script_session.proofs.Breaking.{stops-held}
 use Rattle.script_session.proofs.Moving.{fails}
 use Rattle.script_session.proofs.scripts.Session.say_line.Goals as goal
 
@@ -15,7 +15,7 @@ pub returns-in_err-put_all-clause-done : goal.returns-in_err-put_all-clause-done
 returns-in_err-put_all-clause-done g c =
     let s = c.args.self.now in
     fails c.from_residual-in_err-put_all.result _ c.from_residual-in_err-put_all.ensures.0
-    (holds-stops (line_dialogue s.workers s.walk c.args.number c.args.line) s c.answer_line.new.self c.new-answers.result.items c.answer_line.new.answers.items c.requires.ready.posted c.in_ok-answer_line.ensures.done)
+    (stops-held (line_dialogue s.workers s.walk c.args.number c.args.line) s c.answer_line.new.self c.new-answers.result.items c.answer_line.new.answers.items c.in_ok-answer_line.ensures.done c.requires.ready.posted)
 
 pub returns-clause-done : goal.returns-clause-done
 returns-clause-done g c =

@@ -1,11 +1,11 @@
 use Rattle.std.proofs.Common.{◌∙◌, [], ap, sym, refl, subst}
 use Rattle.std.specs.Prelude.{MatchResult}
-use Rattle.script_session.specs.Changing.{HoldsFor}
-use Rattle.script_session.specs.Holding.{SeesOn}
+use Rattle.script_session.specs.Changing.{HoldsFor, StopsFor}
 use Rattle.script_session.specs.Settings.{sets}
 use Rattle.script_session.specs.States.{State, IsWide}
 use Rattle.session_calls.specs.Passes.{known}
-use Rattle.script_session.proofs.Arms.{or-stops, stops-same, answer-holds}
+use Rattle.script_session.proofs.Arms.{or-stops, answer-holds}
+use Rattle.script_session.proofs.Breaking.{stops-none}
 use Rattle.std.specs.BTreeMap.{get}
 use Rattle.std.specs.Ordering.{nat_cmp}
 use Rattle.board.proofs.Kept.{loan_here}
@@ -22,7 +22,7 @@ returns-in_default g c =
     let none = no-live s c.self.inside.lives c.self.invariant c.self.view_is c.args.label.now c.as_slice.result.now c.as_slice.ensures c.in_default.ensures in
     or-stops c.refuse.result c.refuse.ensures
     (answer-holds _ s s _ _ _ (set-free s.workers s.walk c.args.number c.args.label.now c.args.setting _ none (c.missing-errno.ensures ∙ ap (λ l. missing (shared_of s.walk l)) c.as_slice-in_default.ensures)) refl refl refl refl c.requires.stands c.requires.posted)
-    (stops-same s c.requires.stands)
+    (stops-none _ s c.requires.stands)
 
 pub unwrap-live-requires : goal.unwrap-live-requires
 unwrap-live-requires g c = loan-there c.args.self.now c.self.inside.lives c.self.invariant c.self.view_is c.args.label.now c.as_slice.result.now c.as_slice.ensures c.in-Some.place c.in-Some.ensures c.get_mut.result c.get_mut.ensures.value
@@ -48,4 +48,4 @@ returns g c =
     let set = written s c.self.inside.lives c.self.invariant c.self.view_is c.args.label.now c.as_slice.result.now c.as_slice.ensures c.in-Some.place c.in-Some.ensures c.unwrap-live.result.now c.set_live.new.live _ is c.set_live.ensures.named (c.get_mut.follows.holds c.set_live.new.live).0 in
     live-arm s c.self.inside.lives c.self.invariant c.self.view_is c.args.label.now c.as_slice.result.now c.as_slice.ensures c.in-Some.place c.in-Some.ensures c.unwrap-live.result.now c.set_live.new.live _
     (λ label walk. sets c.args.self.now.workers walk c.args.number label c.args.setting) c.set_live.new.caller _ _ c.set_live.result is set c.set_live.ensures.lock c.requires.stands c.requires.posted
-    (subst (λ w. MatchResult c.set_live.result (λ _. HoldsFor (λ walk. sets w walk c.args.number c.unwrap-live.result.now.label c.args.setting) c.unwrap-live.result.now c.set_live.new.live (known c.self.inside.board) (known c.set_live.new.caller) [] c.args.answers.now.items c.set_live.new.answers.items) (λ _. SeesOn (known c.self.inside.board) (known c.set_live.new.caller))) (ap (λ (x : State). x.workers) c.self.view_is) c.set_live.ensures.held)
+    (subst (λ w. MatchResult c.set_live.result (λ _. HoldsFor (λ walk. sets w walk c.args.number c.unwrap-live.result.now.label c.args.setting) c.unwrap-live.result.now c.set_live.new.live (known c.self.inside.board) (known c.set_live.new.caller) [] c.args.answers.now.items c.set_live.new.answers.items) (λ _. StopsFor (λ walk. sets w walk c.args.number c.unwrap-live.result.now.label c.args.setting) c.unwrap-live.result.now (known c.self.inside.board) (known c.set_live.new.caller))) (ap (λ (x : State). x.workers) c.self.view_is) c.set_live.ensures.held)

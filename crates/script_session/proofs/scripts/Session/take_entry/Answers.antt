@@ -1,18 +1,17 @@
-use Rattle.std.proofs.Common.{◌∷◌, [], refl, ap, ◌∙◌}
-use Rattle.dialogues.specs.RegistryCalls.{Gets}
+use Rattle.std.proofs.Common.{ap, ◌∙◌}
 use Rattle.dialogues.specs.Walk.{live_of}
 use Rattle.script_session.specs.States.{State}
-use Rattle.session_calls.specs.Passes.{known}
-use Rattle.script_session.proofs.Arms.{or-stops, sees-same}
-use Rattle.script_session.proofs.Finding.{sees-asked, asks-got, further, taken-arm, lost-arm}
+use Rattle.script_session.proofs.Breaking.{or-breaks, unasked-arm}
+use Rattle.script_session.proofs.Finding.{asks-got, taken-arm, lost-arm}
+use Rattle.script_session.proofs.Moving.{fails}
 use Rattle.script_session.proofs.scripts.Session.take_entry.Goals as goal
 
 pub returns-then-not-branch : goal.returns-then-not-branch
 returns-then-not-branch g c =
-    or-stops c.refuse.result c.refuse.ensures
-    (lost-arm c.args.self.now c.self.view_is c.args.number c.args.wanted.now.label.now c.args.wanted.now.length c.args.chosen.id c.args.chosen.spec c.args.chosen.plan _ _
+    or-breaks _ _ c.refuse.result c.refuse.ensures
+    (λ all. lost-arm c.args.self.now c.self.view_is c.args.number c.args.wanted.now.label.now c.args.wanted.now.length c.args.chosen.id c.args.chosen.spec c.args.chosen.plan _ all
     (asks-got c.args.chosen.id _ _ c.if-not-branch.true c.in_ok-take_ref.ensures) c.requires.stands c.requires.posted)
-    (further c.args.self.now c.self.view_is _ (sees-asked (Gets c.args.chosen.id c.in_ok-take_ref.field-0 ∷ []) c.in_ok-take_ref.ensures) refl (sees-same (known c.self.inside.board)))
+    c.requires.posted
 
 pub add_live-requires-clause-free : goal.add_live-requires-clause-free
 add_live-requires-clause-free g c = ap (λ (x : State). live_of x.walk c.args.wanted.now.label.now) c.self.view_is ∙ c.requires.free
@@ -21,3 +20,6 @@ pub returns : goal.returns
 returns g c =
     taken-arm c.args.self.now c.self.view_is _ c.args.number c.args.wanted.now.label.now c.args.wanted.now.length c.args.chosen.id c.args.chosen.spec c.args.chosen.plan _ _ c.add_live.result
     (asks-got c.args.chosen.id _ _ c.if-not-branch.false c.in_ok-take_ref.ensures) c.requires.stands c.requires.posted c.add_live.ensures
+
+pub returns-in_err-take_ref : goal.returns-in_err-take_ref
+returns-in_err-take_ref g c = fails c.from_residual.result _ c.from_residual.ensures.0 (unasked-arm c.args.self.now c.self.view_is _ c.in_err-take_ref.ensures)
