@@ -29,6 +29,15 @@ unwritten (Err WriteFault) code = refl
 unwritten (Err NoMemory) code = absurd (omega (arith, code))
 unwritten (Err TooLong) code = absurd (omega (arith, code))
 
+pub wanting : (answer : Result Bool RunError) → status_of answer ≡ 5 → IsErrOf answer NoMemory
+wanting (Ok true) code = absurd (omega (arith, code))
+wanting (Ok false) code = absurd (omega (arith, code))
+wanting (Err Usage) code = absurd (omega (arith, code))
+wanting (Err ReadFault) code = absurd (omega (arith, code))
+wanting (Err WriteFault) code = absurd (omega (arith, code))
+wanting (Err NoMemory) code = refl
+wanting (Err TooLong) code = absurd (omega (arith, code))
+
 too_long : (answer : Result Bool RunError) → status_of answer ≡ 6 → IsErrOf answer TooLong
 too_long (Ok true) code = absurd (omega (arith, code))
 too_long (Ok false) code = absurd (omega (arith, code))

@@ -9,7 +9,7 @@ use Rattle.script_text.specs.Whole.{whole_script}
 use Rattle.settled_scripts.specs.Settled.{IsSettled, plain_text}
 use Rattle.dialogues.specs.Texts.{IsText}
 use Rattle.dialogues.specs.Walk.{start}
-use Rattle.script_run.specs.Answered.{Gives, AreAnswered, BeginsWithText, IsCutOff}
+use Rattle.script_run.specs.Answered.{Gives, AreAnswered, BeginsWithText, IsCutOff, IsBrokenOff}
 use Rattle.script_run.specs.ByLines.{IsTextByLines}
 use Rattle.script_run.specs.Endings.{traced, CanBeRead}
 use Rattle.script_run.specs.Fronts.{IsFrontText}
@@ -128,6 +128,12 @@ module _ (held held' : Option (List ℕ)) (ran : Outcome) where
   abbrev pub WritesCutOff : ScriptOptions → List ℕ → Type 0
   WritesCutOff options script =
       GainsFront held held' (IsCutOff options.workers (script_of script) ran.registry ran.board)
+      (IsTextIn ran options script) (trace_in ran options.trace)
+
+  -- such a text, or that of first lines where memory lacked in the next, or the whole and a front of the trace
+  abbrev pub WritesBrokenOff : ScriptOptions → List ℕ → Type 0
+  WritesBrokenOff options script =
+      GainsFront held held' (IsBrokenOff options.workers (script_of script) ran.registry ran.board)
       (IsTextIn ran options script) (trace_in ran options.trace)
 
   -- the answers to the whole lines of what was given

@@ -17,7 +17,7 @@ ghost use Rattle.script_run.specs.Statuses.{status_of};
 ghost use Rattle.client_texts.specs.Sharing.{AreOneList, AreCallersBeside};
 ghost use Rattle.crypto_script.specs.Asked.{AsksScript, AsksClients, AsksScripts, AsksLoad, AsksNothing, UnlessAsked, ForScript, ForClients, ForLoad, workers_for, clients_for};
 ghost use Rattle.crypto_script.specs.Asked.{OfScript, OfEndedScript, OfScriptAt, OfGiven, OfEndedInput, OfStoppedInput, IsUnbegun};
-ghost use Rattle.crypto_script.specs.Asked.{WritesText, WritesPlainText, WritesByLines, WritesFront, WritesCutOff, WritesAnswered, WritesUpTo, WritesFirst, WritesOutput, WritesFrontOrNone};
+ghost use Rattle.crypto_script.specs.Asked.{WritesText, WritesPlainText, WritesByLines, WritesFront, WritesCutOff, WritesBrokenOff, WritesAnswered, WritesUpTo, WritesFirst, WritesOutput, WritesFrontOrNone};
 ghost use Rattle.crypto_script.specs.Asked.{DidNotRead, SaysMalformed, SaysAnyMalformed, TraceCanBeRead, EndsOrWantsMemory};
 ghost use Rattle.crypto_script.specs.Refusals.{of_words};
 ghost use Rattle.crypto_script.specs.Words.{script_asked, script_in_mode, clients_asked, clients_in_mode, load_asked, load_in_mode};
@@ -30,7 +30,8 @@ use crew::Gate;
 use kc_base::{Sink, Source};
 use run_options::Mode;
 use script_run::{
-    Ran, RunError, nothing_is_by_lines, nothing_is_front, run_load, run_traced, status_by,
+    Ran, RunError, nothing_is_broken_off, nothing_is_by_lines, nothing_is_front, run_load,
+    run_traced, status_by,
 };
 use std::alloc::Global;
 use std::sync::Wait;
@@ -157,11 +158,15 @@ pub fn run<S: Source, K: Sink, G: Gate + Sync, R: Threads + Wait + Sync>(
 
     // 4: the sink failed. It has gained the text of the lines that stood before the last 65,536 bytes, or more. The script
     // has made the calls of what is answered, and none besides but the shut: only of the last line, or of the end of input,
-    // may the text stand there in part. Of several scripts nothing was written, or a front; so too under 5, want of memory.
+    // may the text stand there in part. Of several scripts nothing was written, or a front; so too under 5.
     ensures write_fault { result.status ≡ 4 → Rose (K.faults out.old) (K.faults out.new) }
     ensures answered_front { OfGiven result words.now 4 (S.left src.old) (S.left src.new) (WritesFirst (K.held out.old) (K.held out.new)) }
     ensures called { OfScriptAt result words.now 4 (S.left src.old) (WritesCutOff (K.held out.old) (K.held out.new)) }
     ensures clients_front { OfStoppedInput result words.now (S.left src.old) (WritesFrontOrNone (K.held out.old) (K.held out.new)) }
+
+    // 5: memory is wanting. As under 4; or the sink has gained the text of first lines, which are answered, and the script
+    // has made the first calls of the next line, or of the end of input, and none besides but the shut.
+    ensures stopped { OfScriptAt result words.now 5 (S.left src.old) (WritesBrokenOff (K.held out.old) (K.held out.new)) }
 
     // 6: the source gave more than 2^28 bytes. The lines of a front of them are answered whole that is at most a read
     // shorter than the limit.
@@ -194,6 +199,7 @@ pub fn run<S: Source, K: Sink, G: Gate + Sync, R: Threads + Wait + Sync>(
 {
     nothing_is_front();
     nothing_is_by_lines();
+    nothing_is_broken_off();
     let mode = match mode_for(alloc, words) {
         Ok(mode) => mode,
         Err(error) => return outcome_of(Ran::not_at_all(alloc, error)),

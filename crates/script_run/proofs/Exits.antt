@@ -7,6 +7,7 @@ use Rattle.std.proofs.KnownBytes.{Consumes-nil}
 use Rattle.std.proofs.lemmas.List.Folds.{list_any-append}
 use Rattle.board.specs.Legal.{is_shut}
 use Rattle.dialogues.specs.Lines.{line_dialogue}
+use Rattle.dialogues.specs.Piping.{end}
 use Rattle.dialogues.specs.Turns.{text_in}
 use Rattle.dialogues.specs.Walk.{start}
 use Rattle.dialogues.specs.Widths.{width_of}
@@ -28,13 +29,13 @@ use Rattle.transforms.specs.declared.ask.Ask.{Ask}
 use Rattle.transforms.specs.declared.request.Finished.{Finished}
 use Rattle.script_run.specs.declared.errors.RunError.{RunError}
 use Rattle.script_run.specs.declared.errors.RunError.TheVariants.{ReadFault, WriteFault, TooLong, NoMemory}
-use Rattle.script_run.specs.Answered.{AreAnsweredAfter, BeginsWithTextAfter, IsCutOffAfter, AnswersFirst, RunsSource, script_in}
+use Rattle.script_run.specs.Answered.{AreAnsweredAfter, BeginsWithTextAfter, IsCutOffAfter, IsBrokenOffAfter, AnswersFirst, RunsSource, script_in}
 use Rattle.script_run.specs.Laws.{Laws}
-use Rattle.script_run.specs.Runs.{Gains, IsFresh, IsUnshutOrEnds, Writes, Cuts, Breaks, IsFrontAfter, IsByLinesAfter}
+use Rattle.script_run.specs.Runs.{Gains, IsFresh, IsUnshutOrEnds, Writes, Cuts, Breaks, AnswersAndShuts, IsFrontAfter, IsByLinesAfter}
 use Rattle.script_run.specs.Statuses.{of_input, of_output}
 use Rattle.script_run.specs.Text.{is_malformed}
 use Rattle.script_run.proofs.Fronts.{nothing-front}
-use Rattle.script_run.proofs.Going.{Going, goes-same, keeps-same, appends-none, going-begins, going-more, going-breaks, going-end_breaks, going-begun, going-end_begun, going-ends, going-ends_front, going-ends_in_turn, going-ends_own, line_broken-goes, end_broken-goes, end-goes, stopped, stopped-by_lines, going-by_lines, going-end_by_lines, going-ends_by_lines, nothing-by_lines, led-answered, going-cut, going-end_cut}
+use Rattle.script_run.proofs.Going.{Going, goes-same, keeps-same, appends-none, going-begins, going-more, going-breaks, going-end_breaks, going-begun, going-end_begun, going-ends, going-ends_front, going-ends_in_turn, going-ends_own, line_broken-goes, end_broken-goes, end-goes, stopped, stopped-by_lines, going-by_lines, going-end_by_lines, going-ends_by_lines, nothing-by_lines, led-answered, led-stops_here, going-cut, going-end_cut, going-stopped, going-broken, going-end_broken, line_broken-own, end_broken-own, breaks-plain}
 use Rattle.script_run.proofs.Readings.{Reading, cut-told, told-whole, cut-all, after-read, after-behind, after-short, failed-whole, too_long-is, too_long-whole, reading-begins, reading-line, reading-end}
 
 -- ---- causes
@@ -70,25 +71,28 @@ error-is : (a b : RunError) → IsErrOf {T = Bool} (Err a) b → a ≡ b
 error-is a b e = cc
 
 -- nothing was read
-pub runs-nothing : {W : Type 0} (registry : SharedRegistry) (board : SharedBoard W Ask Finished) (first : State) (left held : Option (List ℕ)) → IsReady registry board first → IsFresh first → RunsSource left left first first (Err NoMemory) held held
-runs-nothing registry board first left held ready fresh = record {
-  given = [];
-  reads = record { read = Consumes-nil left; at_end = tt };
-  lines = record {
-    goes_on = goes-same first;
-    front = ([], (λ r b from_r from_b. nothing-front first.workers (start 0) 0 (script_of (script_in left [])) r b), appends-none held);
-    by_lines = ([], (λ r b from_r from_b. nothing-by_lines first.workers (script_of (script_in left [])) r b), appends-none held);
-    whole = tt;
-    in_turn = tt;
-    own = tt;
-    shut = tt;
-    unshut = inl (ready.posted.unshut fresh.board.0);
-    malformed = tt;
-    first = record { failed = λ e. absurd cc; too_long = (λ e. absurd cc, λ lt. absurd (omega arith)); up_to = λ e. absurd cc; written = λ e. absurd cc; whole = tt };
-    own_reads = λ e. elim e [ inl is ↦ absurd cc | inr is ↦ absurd cc ];
-    cut = λ e. absurd cc;
-  };
-}
+pub runs-nothing : Laws → {W : Type 0} (registry : SharedRegistry) (board : SharedBoard W Ask Finished) (first : State) (left held : Option (List ℕ)) → IsReady registry board first → IsFresh first → RunsSource left left first first (Err NoMemory) held held
+runs-nothing laws registry board first left held ready fresh =
+    let going = going-begins laws first registry board held ready fresh in
+    record {
+      given = [];
+      reads = record { read = Consumes-nil left; at_end = tt };
+      lines = record {
+        goes_on = goes-same first;
+        front = ([], (λ r b from_r from_b. nothing-front first.workers (start 0) 0 (script_of (script_in left [])) r b), appends-none held);
+        by_lines = ([], (λ r b from_r from_b. nothing-by_lines first.workers (script_of (script_in left [])) r b), appends-none held);
+        whole = tt;
+        in_turn = tt;
+        own = tt;
+        shut = tt;
+        unshut = inl (ready.posted.unshut fresh.board.0);
+        malformed = tt;
+        first = record { failed = λ e. absurd cc; too_long = (λ e. absurd cc, λ lt. absurd (omega arith)); up_to = λ e. absurd cc; written = λ e. absurd cc; whole = tt };
+        own_reads = λ e. elim e [ inl is ↦ absurd cc | inr is ↦ absurd cc ];
+        cut = λ e. absurd cc;
+        broken = λ e. (ready.stands.caller.own, going-stopped laws first registry board [] 1 held held held first first going (script_of (script_in left [])) (goes-same first) (keeps-same held) (led-stops_here laws first [] 1 first going.led (script_of (script_in left [])) ready.stands.caller.own));
+      };
+    }
 
 -- ---- what stands at the head of the loop
 
@@ -168,6 +172,12 @@ module _ (laws : Laws) (stay : WholeLinesStay) (none : NoWholeLine) (first : Sta
               first = not-read;
               own_reads = λ is. at.going.ready.stands.caller.own;
               cut = λ is. absurd (read_wrote e (error-is (of_input e) WriteFault is));
+              broken = λ is. (
+                at.going.ready.stands.caller.own,
+                subst (λ ls. Gains x y (IsBrokenOffAfter first.workers ls (known s.registry) (known s.board))) (sym told.1)
+                    (going-stopped laws first registry board at.done number x y y s s at.going told.0 (goes-same s) (keeps-same y)
+                    (led-stops_here laws first at.done number s at.going.led told.0 at.going.ready.stands.caller.own)),
+              );
             };
           }
 
@@ -199,7 +209,7 @@ module _ (laws : Laws) (stay : WholeLinesStay) (none : NoWholeLine) (first : Sta
           or_none true = refl
           or_none false = refl
 
-      pub runs-broken : (z : Option (List ℕ)) (s' : State) (e : SinkError) → Breaks s s' (Replies (width_of said) (line_dialogue s.workers s.walk number said) s s' []) y z → (e ≡ output.Failed → Cuts (Replies (width_of said) (line_dialogue s.workers s.walk number said) s s' []) y z)
+      pub runs-broken : (z : Option (List ℕ)) (s' : State) (e : SinkError) → Breaks (line_dialogue s.workers s.walk number said) s s' (Replies (width_of said) (line_dialogue s.workers s.walk number said) s s' []) y z → (e ≡ output.Failed → Cuts (Replies (width_of said) (line_dialogue s.workers s.walk number said) s s' []) y z)
           → ((known s'.board).number ≡ 0 → is_shut (known s'.board).seen ≡ false) → RunsSource left left'' first s' (Err (of_output e)) x z
       runs-broken z s' e breaks cuts unshut =
           let told = cut-told place'.ended left left'' all_at (at.done ++ said ∷ []) found.line.0 next-reading.cut in
@@ -240,6 +250,11 @@ module _ (laws : Laws) (stay : WholeLinesStay) (none : NoWholeLine) (first : Sta
                     subst (λ ls. Gains x z (IsCutOffAfter first.workers ls (known s'.registry) (known s'.board))) (sym told.1)
                         (going-cut laws first registry board at.done number x y z s s' at.going said told.0 part),
                   );
+              broken = λ is. (
+                line_broken-own laws first registry board at.done number x y z s s' at.going said breaks,
+                subst (λ ls. Gains x z (IsBrokenOffAfter first.workers ls (known s'.registry) (known s'.board))) (sym told.1)
+                    (going-broken laws first registry board at.done number x y z s s' at.going said told.0 breaks),
+              );
             };
           }
 
@@ -264,37 +279,43 @@ module _ (laws : Laws) (stay : WholeLinesStay) (none : NoWholeLine) (first : Sta
       short-end : 2 ^ 28 < length end_at → ⊥
       short-end = after-short stay none place place' left left' left'' at.given at.done at.pending number (Ok None) at.reading found found.room
 
-      pub runs-end_broken : (z : Option (List ℕ)) (s' : State) (e : SinkError) → Breaks s s' (AnswersEnd s s' []) y z → (e ≡ output.Failed → EndsShut (known s'.board) × Cuts (AnswersEnd s s' []) y z) → IsUnshutOrEnds (known s'.board) → RunsSource left left'' first s' (Err (of_output e)) x z
-      runs-end_broken z s' e breaks cuts unshut = record {
-        given = end_at;
-        reads = record { read = end-reading.cut.read; at_end = tt };
-        lines = record {
-          goes_on = end_broken-goes laws first registry board at.done number x y z s s' at.going breaks;
-          front = going-end_breaks laws first registry board at.done number x y z s s' at.going (script_of (script_in left end_at)) all-lines breaks;
-          by_lines = going-end_by_lines laws first registry board at.done number x y z s s' at.going (script_of (script_in left end_at)) all-lines breaks;
-          whole = tt;
-          in_turn = tt;
-          own = tt;
-          shut = tt;
-          unshut = unshut;
-          malformed = tt;
-          first = record {
-            failed = λ is. absurd (wrote_read e (error-is (of_output e) ReadFault is));
-            too_long = (λ is. absurd (wrote_too_long e (error-is (of_output e) TooLong is)), λ lt. absurd (short-end lt));
-            up_to = λ is. absurd (wrote_too_long e (error-is (of_output e) TooLong is));
-            written = λ is.
-                going-end_begun laws first registry board at.done number x y z s s' at.going (whole_script (take (length end_at - 65536) end_at)) end-reading.behind breaks;
-            whole = tt;
-          };
-          own_reads = λ is. elim is [
-            | inl read ↦ absurd (wrote_read e (error-is (of_output e) ReadFault read))
-            | inr long ↦ absurd (wrote_too_long e (error-is (of_output e) TooLong long))
-          ];
-          cut = λ is.
-              let did = cuts (wrote_failed e (error-is (of_output e) WriteFault is)) in
-              (did.1.1.asked.caller.own, going-end_cut laws first registry board at.done number x y z s s' at.going (script_of (script_in left end_at)) all-lines did);
-        };
-      }
+      pub runs-end_broken : (z : Option (List ℕ)) (s' : State) (e : SinkError) → Breaks (end s.walk) s s' (AnswersAndShuts s s') y z → (e ≡ output.Failed → Cuts (AnswersAndShuts s s') y z) → IsUnshutOrEnds (known s'.board) → RunsSource left left'' first s' (Err (of_output e)) x z
+      runs-end_broken z s' e broken cuts unshut =
+          let breaks = breaks-plain laws first registry board at.done number x y z s s' at.going broken in
+          record {
+            given = end_at;
+            reads = record { read = end-reading.cut.read; at_end = tt };
+            lines = record {
+              goes_on = end_broken-goes laws first registry board at.done number x y z s s' at.going breaks;
+              front = going-end_breaks laws first registry board at.done number x y z s s' at.going (script_of (script_in left end_at)) all-lines breaks;
+              by_lines = going-end_by_lines laws first registry board at.done number x y z s s' at.going (script_of (script_in left end_at)) all-lines breaks;
+              whole = tt;
+              in_turn = tt;
+              own = tt;
+              shut = tt;
+              unshut = unshut;
+              malformed = tt;
+              first = record {
+                failed = λ is. absurd (wrote_read e (error-is (of_output e) ReadFault is));
+                too_long = (λ is. absurd (wrote_too_long e (error-is (of_output e) TooLong is)), λ lt. absurd (short-end lt));
+                up_to = λ is. absurd (wrote_too_long e (error-is (of_output e) TooLong is));
+                written = λ is.
+                    going-end_begun laws first registry board at.done number x y z s s' at.going (whole_script (take (length end_at - 65536) end_at)) end-reading.behind breaks;
+                whole = tt;
+              };
+              own_reads = λ is. elim is [
+                | inl read ↦ absurd (wrote_read e (error-is (of_output e) ReadFault read))
+                | inr long ↦ absurd (wrote_too_long e (error-is (of_output e) TooLong long))
+              ];
+              cut = λ is.
+                  let did = cuts (wrote_failed e (error-is (of_output e) WriteFault is)) in
+                  (did.1.1.asked.caller.own, going-end_cut laws first registry board at.done number x y z s s' at.going (script_of (script_in left end_at)) all-lines did);
+              broken = λ is. (
+                end_broken-own laws first registry board at.done number x y z s s' at.going broken,
+                going-end_broken laws first registry board at.done number x y z s s' at.going (script_of (script_in left end_at)) all-lines broken,
+              );
+            };
+          }
 
       pub runs-whole : (z : Option (List ℕ)) (s' : State) → Writes (AnswersEnd s s' []) y z → EndsShut (known s'.board) → RunsSource left left'' first s' (Ok malformed) x z
       runs-whole z s' step shut =
@@ -323,5 +344,6 @@ module _ (laws : Laws) (stay : WholeLinesStay) (none : NoWholeLine) (first : Sta
               };
               own_reads = λ e. elim e [ inl is ↦ absurd cc | inr is ↦ absurd cc ];
               cut = λ e. absurd cc;
+              broken = λ e. absurd cc;
             };
           }

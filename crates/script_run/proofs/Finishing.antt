@@ -22,9 +22,10 @@ use Rattle.crew.specs.Both.{ArePassesOn, HaveNext, CrewedOnBoth}
 use Rattle.crew.specs.Crews.{Crewed, with_next}
 use Rattle.dialogues.specs.Allocating.{lists_beside}
 use Rattle.dialogues.specs.BoardCalls.{BoardCall, Shuts, board_calls, board_calls_from}
+use Rattle.dialogues.specs.Dialogues.{Dialogue}
 use Rattle.dialogues.specs.RegistryCalls.{reg_calls}
 use Rattle.dialogues.specs.Texts.{IsText}
-use Rattle.script_run.specs.ByLines.{IsTextByLines}
+use Rattle.script_run.specs.ByLines.{IsTextByLines, LinesTell}
 use Rattle.script_run.specs.Fronts.{IsFrontText}
 use Rattle.dialogues.specs.Walk.{start}
 use Rattle.script_session.specs.Ending.{EndsShut}
@@ -47,7 +48,7 @@ use Rattle.turn_lock.specs.Passes.{knows}
 use Rattle.turn_lock.specs.Turns.{Known, StartsWith, Each, Shows, of, newcomer}
 use Rattle.script_run.specs.declared.errors.RunError.{RunError}
 use Rattle.script_run.specs.declared.errors.RunError.TheVariants.{NoMemory}
-use Rattle.script_run.specs.Answered.{AreAnswered, BeginsWithText, AreAnsweredAfter, AreAnsweredOn, BeginsWithTextAfter, IsShutAlone, ShutsAlone, IsCutOff, IsCutOffAfter, IsCutOffOn, RunsSource, AnswersSource, RanSource, script_in}
+use Rattle.script_run.specs.Answered.{AreAnswered, BeginsWithText, AreAnsweredAfter, AreAnsweredOn, BeginsWithTextAfter, IsShutAlone, ShutsAlone, IsCutOff, IsCutOffAfter, IsCutOffOn, IsBrokenOff, IsBrokenOffAfter, IsBrokenOffOn, LinesTellAfter, MakesFirstAfter, MakesFirstOn, NothingIsBrokenOff, lines_and_next, RunsSource, AnswersSource, RanSource, script_in}
 use Rattle.script_run.specs.Laws.{Laws, CrewLaws}
 use Rattle.script_run.specs.Endings.{AreCallers, EndsShut as ShutLast, IsShutOnce}
 use Rattle.script_run.specs.Beside.{AreHistories, ScriptRan}
@@ -55,7 +56,7 @@ use Rattle.script_run.specs.Runs.{Gains, GoesOn, OthersFollow, IsTextAfter, IsFr
 use Rattle.script_run.specs.Text.{is_malformed}
 use Rattle.shared_registry.specs.Building.{is_building}
 use Rattle.script_run.proofs.Following.{none-pass, starts-trans, sees-then, others-then, board_calls-same}
-use Rattle.script_run.proofs.Going.{nothing_fronted, nothing_by_lines}
+use Rattle.script_run.proofs.Going.{nothing_fronted, nothing_by_lines, nothing_broken}
 
 map_ok : {A B : Type 0} (result : Result Bool RunError) → (A → B) → OnOk result A → OnOk result B
 map_ok (Ok bad) f holds = f holds
@@ -323,6 +324,26 @@ module _ (workers : ℕ) (p q : Passes Ask) (qb : BoardPass) (s s' : State) (of_
           front = is.front;
         })
 
+    tells-on : (lines : List Line) (text : List ℕ) → LinesTellAfter s.workers lines (known s'.registry) (known s'.board) text → LinesTellAfter workers lines (knows q.registry) (knows q.board) text
+    tells-on lines text after = λ r b from_r from_b. subst (λ w. LinesTell w lines r b text) same-workers (after r b (from-registry r from_r) (from-board b from_b))
+
+    calls-on : (next : Dialogue) → MakesFirstAfter next (known s'.registry) (known s'.board) → MakesFirstOn next (knows q.registry) (knows q.board)
+    calls-on next after = λ r b from_r from_b.
+        let calls = calls-shut laws (knows qb) (knows q.board) zero-then alone in
+        let on_b : board_calls 0 b ≡ board_calls 0 (known s'.board).seen ++ calls.0 =
+        board_calls-same laws (knows q.board) b (of_.more.number ∙ zero-then) from_b ∙ (calls.2 ∙ ap (λ k. board_calls 0 k.seen ++ calls.0) (sym at_board)) in
+        after r b calls.0 (others-registry r from_r) on_b calls.1
+
+    broken-on : (lines : List Line) (text : List ℕ) → IsBrokenOffAfter s.workers lines (known s'.registry) (known s'.board) text → IsBrokenOffOn workers lines (knows q.registry) (knows q.board) text
+    broken-on lines text (inl cut) = inl (cut-on lines text cut)
+    broken-on lines text (inr stop) = inr (record {
+      first = stop.first;
+      left = stop.left;
+      lines_are = stop.lines_are;
+      tells = tells-on stop.first text stop.tells;
+      calls = subst (λ w. MakesFirstOn (lines_and_next w stop.first stop.left) (knows q.registry) (knows q.board)) same-workers (calls-on (lines_and_next s.workers stop.first stop.left) stop.calls);
+    })
+
     abbrev first-ones : List Line
     first-ones = whole_script (take (length run.given - 65536) run.given)
 
@@ -349,6 +370,7 @@ module _ (workers : ℕ) (p q : Passes Ask) (qb : BoardPass) (s s' : State) (of_
           };
           own_reads = λ is. subst (λ k. IsOwn reg_caller k) at_registry (did.own_reads is);
           cut = λ is. let c = did.cut is in let g = c.1 in (subst (λ k. IsOwn reg_caller k) at_registry c.0, (g.0, cut-on lines g.0 g.1, g.2));
+          broken = λ is. let c = did.broken is in let g = c.1 in (subst (λ k. IsOwn reg_caller k) at_registry c.0, (g.0, broken-on lines g.0 g.1, g.2));
         }
 
 -- ---- what a crew leaves
@@ -539,8 +561,8 @@ nothing-read workers left held r b = record {
 pub no-histories : (workers : ℕ) → AreHistories workers [] []
 no-histories workers = record { callers = (All-nil _, All-nil _); legal = search rules; legal_board = search rules; faithful = search rules }
 
-pub not-ran : (workers : ℕ) (left held : Option (List ℕ)) → ScriptRan workers left left [] [] (Err NoMemory) held held
-not-ran workers left held = record {
+pub not-ran : NothingIsBrokenOff → (workers : ℕ) (left held : Option (List ℕ)) → ScriptRan workers left left [] [] (Err NoMemory) held held
+not-ran nothing workers left held = record {
   ended = tt;
   whole = tt;
   in_turn = tt;
@@ -550,6 +572,7 @@ not-ran workers left held = record {
   by_lines = nothing_by_lines workers left held [] [];
   first = nothing-read workers left held [] [];
   cut = λ e. absurd cc;
+  broken = λ e. nothing_broken nothing workers left held;
   malformed = tt;
   closed = inr (refl, refl, refl);
   histories = no-histories workers;
@@ -624,6 +647,17 @@ module _ (laws : CrewLaws) (workers : ℕ) (left left' : Option (List ℕ)) (fir
     front = at_end.front;
   })
 
+  -- and what where memory lacked
+  broken-off : (text : List ℕ) → IsOwn reg_caller (knows q.registry) → IsBrokenOffOn workers lines (knows q.registry) (knows q.board) text → IsBrokenOff workers lines r b text
+  broken-off text own (inl cut) = inl (cut-off text own cut)
+  broken-off text own (inr stop) = inr (record {
+    first = stop.first;
+    left = stop.left;
+    lines_are = stop.lines_are;
+    tells = stop.tells r b from-r from-b;
+    calls = stop.calls r b (on-r own) on-b;
+  })
+
   whole-text : Ended workers lines q held held' → Gains held held' (IsText workers (start 0) 0 lines r b)
   whole-text ended = (ended.text.0, ended.text.1 r b (on-r ended.own) on-b, ended.text.2)
 
@@ -655,6 +689,10 @@ module _ (laws : CrewLaws) (workers : ℕ) (left left' : Option (List ℕ)) (fir
         let c = source.cut is in
         let g = c.1 in
         if_told (λ script. Gains held held' (IsCutOff workers (script_of script) r b)) left source.given (g.0, cut-off g.0 c.0 g.1, g.2);
+    broken = λ is.
+        let c = source.broken is in
+        let g = c.1 in
+        if_told (λ script. Gains held held' (IsBrokenOff workers (script_of script) r b)) left source.given (g.0, broken-off g.0 c.0 g.1, g.2);
     malformed = if-ok (λ bad. bad ≡ list_any is_malformed lines) (λ bad. IfSome left (λ script. bad ≡ list_any is_malformed (script_of script))) result
         (λ bad is. if_told (λ script. bad ≡ list_any is_malformed (script_of script)) left source.given is) source.answers.malformed;
     closed = inl (closed-once laws workers first p q l r b run part);

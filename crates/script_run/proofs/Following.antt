@@ -82,7 +82,7 @@ not-called n (event.Finish by pipe number) e = refl
 not-called n (event.Deq by pipe number started) e = refl
 not-called n (event.Done by pipe number) e = refl
 
-unasked : (k : Known RegEntry) (rest : List RegEntry) → k.number ≡ 0 → of reg_caller k.number rest ≡ [] → filter (is_asked 0) rest ≡ []
+pub unasked : (k : Known RegEntry) (rest : List RegEntry) → k.number ≡ 0 → of reg_caller k.number rest ≡ [] → filter (is_asked 0) rest ≡ []
 unasked k rest zero none = none-of reg_caller 0 (is_asked 0) (not-asked 0) rest (subst (λ n. of reg_caller n rest ≡ []) zero none)
 
 uncalled : (k : Known (BoardEntry Ask)) (rest : List (BoardEntry Ask)) → k.number ≡ 0 → of board_caller k.number rest ≡ [] → filter (is_called 0) rest ≡ []

@@ -9,7 +9,8 @@ use Rattle.alg_registry.specs.Rows.{caller_of as reg_caller}
 use Rattle.board.specs.declared.entry.BoardEntry.{BoardEntry}
 use Rattle.dialogues.specs.BoardCalls.{BoardCall, board_calls, board_calls_from}
 use Rattle.dialogues.specs.Dialogues.{Dialogue, Ends as Done}
-use Rattle.dialogues.specs.InTurn.{AreInTurnBy}
+use Rattle.dialogues.specs.First.{AreFurther, BeginsBy}
+use Rattle.dialogues.specs.InTurn.{AsksNothing, AreInTurnBy}
 use Rattle.dialogues.specs.Leading.{Leads}
 use Rattle.dialogues.specs.Lines.{line_dialogue, lines_dialogue}
 use Rattle.dialogues.specs.Piping.{end}
@@ -37,12 +38,12 @@ use Rattle.transforms.specs.declared.ask.Ask.{Ask}
 use Rattle.transforms.specs.declared.request.Finished.{Finished}
 use Rattle.turn_lock.specs.Meeting.{IsOwn}
 use Rattle.turn_lock.specs.Turns.{Known, StartsWith}
-use Rattle.script_run.specs.Answered.{AreAnsweredAfter, BeginsWithTextAfter, IsCutOffAfter, lines_turn}
+use Rattle.script_run.specs.Answered.{AreAnsweredAfter, BeginsWithTextAfter, IsCutOffAfter, IsBrokenOffAfter, IsBrokenOff, MakesFirstAfter, NothingIsBrokenOff, lines_and_next, lines_turn}
 use Rattle.script_run.specs.Laws.{Laws}
-use Rattle.script_session.specs.Holding.{HasSeenMore}
-use Rattle.script_run.specs.Runs.{Gains, GoesOn, IsFresh, Writes, Cuts, Breaks, IsTextAfter, IsFrontAfter, IsByLinesAfter, InTurnAfter}
+use Rattle.script_session.specs.Holding.{HasSeenMore, StopsIn}
+use Rattle.script_run.specs.Runs.{Gains, GoesOn, IsFresh, Writes, Cuts, Breaks, AnswersAndShuts, IsTextAfter, IsFrontAfter, IsByLinesAfter, InTurnAfter}
 use Rattle.script_run.proofs.Fronts.{front-lines, front-text, nothing-front, widest-front, widest-last}
-use Rattle.script_run.proofs.Following.{starts-trans, sees-same, sees-then, reg_calls-on, board_calls-on, reg_calls-same, board_calls-same, in_turn-on}
+use Rattle.script_run.proofs.Following.{starts-trans, sees-same, sees-then, reg_calls-on, board_calls-on, reg_calls-same, board_calls-same, in_turn-on, unasked}
 
 -- ---- a session goes on
 
@@ -79,6 +80,24 @@ ended-goes s s' text text' r = record {
   registry = asked-more 1 (known s.registry) (known s'.registry) r.turn.registry r.asked;
   board = called-more (known s.board) (known s'.board) r.turn.board r.called;
 }
+
+-- a session that stopped has gone on
+pub stop-goes : {d : Dialogue} {s s' : State} → StopsIn d s s' → GoesOn s s'
+stop-goes stop = record { locks = stop.stops.locks; registry = stop.stops.registry; board = stop.stops.board.more }
+
+-- and may stop where it stands
+pub stops-here : Laws → (d : Dialogue) (s : State) → (known s.registry).number ≡ 0 → AllSettled (reg_calls 0 (known s.registry).seen) → IsOwn reg_caller (known s.registry) → StopsIn d s s
+stops-here laws d s zero settled own =
+    let here = goes-same s in
+    record {
+      stops = record { locks = here.locks; registry = here.registry; board = record { more = here.board; unshut = λ first. refl } };
+      registry = [];
+      board = [];
+      further = record { more = []; goes_on = sym (append-nil _); calls_are = sym (append-nil _) };
+      own = own;
+      called = record { number = refl; next = refl; seen = here.board.seen; calls_are = sym (append-nil _) };
+      begins = laws.begins_none d;
+    }
 
 -- ---- streams
 
@@ -206,6 +225,54 @@ module _ (laws : Laws) (first : State) where
         (reg_calls-on laws k.seen r led.settled reg ∙ ap (λ cs. cs ++ more_r) led.asked)
         (board_calls-on laws l.seen b brd ∙ ap (λ cs. cs ++ more_b) led.called)
         front
+
+    -- ---- where it stops
+
+    -- what it has called since are first calls of what comes next, whatever others do
+    module _ (s' : State) (d : Dialogue) (stop : StopsIn d s s') where
+      makes-first : (next : Dialogue)
+          → ((r : List RegCall) (b : List BoardCall) → BeginsBy d r b → BeginsBy next (led.turn.registry ++ r) (led.turn.board ++ b))
+          → MakesFirstAfter next (known s'.registry) (known s'.board)
+      makes-first next joins = λ r b more from_r calls_b shut.
+          let t = led.turn in
+          let seen = (known s'.registry).seen in
+          let further : AreFurther 0 stop.registry k.seen seen = subst (λ n. AreFurther n stop.registry k.seen seen) led.caller stop.further in
+          let none : AsksNothing 0 seen r = (from_r.0, from_r.1, unasked (known s'.registry) from_r.0 (stop.stops.registry.number ∙ led.caller) from_r.2) in
+          let stay = laws.further_stay 0 stop.registry k.seen seen r led.settled further none in
+          let calls_r : reg_calls 0 r ≡ t.registry ++ stay.0 = stay.1.calls_are ∙ ap (λ cs. cs ++ stay.0) led.asked in
+          record {
+            board = t.board ++ stop.board;
+            more = more;
+            calls_are = calls_b ∙ ap (λ cs. cs ++ more) (called-all (known s'.board) stop.board stop.called);
+            shut = shut;
+            begins = subst (λ cs. BeginsBy next cs (t.board ++ stop.board)) (sym calls_r) (joins stay.0 stop.board (stay.2 d stop.board stop.begins));
+          }
+
+    settled-turn : AllSettled led.turn.registry
+    settled-turn = subst AllSettled led.asked led.settled
+
+    -- in the next line
+    pub led-stops : (line : Line) (left : List Line) (s' : State) → StopsIn (line_dialogue s.workers s.walk number line) s s'
+        → MakesFirstAfter (lines_and_next first.workers done (line ∷ left)) (known s'.registry) (known s'.board)
+    led-stops line left s' stop =
+        makes-first s' (line_dialogue s.workers s.walk number line) stop (lines_and_next first.workers done (line ∷ left))
+        (λ r b begins.
+            let now = subst (λ w. BeginsBy (line_dialogue w s.walk number line) r b) led.goes.locks.workers begins in
+            laws.begins_lines first.workers (start 0) s.walk 1 number (done ++ line ∷ []) (line ∷ []) led.turn Done r b (led.leads (line ∷ [])) settled-turn
+            (laws.begins_first (line_dialogue first.workers s.walk number line) (λ after. lines_dialogue first.workers after (number + 1) [] Done) r b now))
+
+    -- or at the end of input
+    pub led-end_stops : (s' : State) → StopsIn (end s.walk) s s' → MakesFirstAfter (lines_and_next first.workers done []) (known s'.registry) (known s'.board)
+    led-end_stops s' stop =
+        makes-first s' (end s.walk) stop (lines_and_next first.workers done [])
+        (λ r b begins.
+            laws.begins_lines first.workers (start 0) s.walk 1 number done [] led.turn end r b
+            (subst (λ ls. Leads first.workers (start 0) 1 ls led.turn s.walk number []) (append-nil done) (led.leads [])) settled-turn begins)
+
+    -- or before either
+    pub led-stops_here : (left : List Line) → IsOwn reg_caller k → MakesFirstAfter (lines_and_next first.workers done left) k l
+    led-stops_here [] own = led-end_stops s (stops-here laws (end s.walk) s led.caller led.settled own)
+    led-stops_here (line ∷ left) own = led-stops line left s (stops-here laws (line_dialogue s.workers s.walk number line) s led.caller led.settled own)
 
     -- ---- these lines alone
 
@@ -397,8 +464,8 @@ module _ (laws : Laws) (first : State) where
       stopped left goes kept = (text_in t, led-front done number s going.led left s' (text_in t) goes ([], append-nil (text_in t)), keeps-text x y z (text_in t) going.written kept)
 
       -- a line that breaks off leaves a front of the text
-      pub going-breaks : (line : Line) (left : List Line) → Breaks s s' (Replies (width_of line) (line_dialogue s.workers s.walk number line) s s' []) y z → Broken ((done ++ line ∷ []) ++ left)
-      going-breaks line left (inl stop) = subst Broken (sym (append_assoc done (line ∷ []) left)) (stopped (line ∷ left) stop.0 stop.1)
+      pub going-breaks : (line : Line) (left : List Line) → Breaks (line_dialogue s.workers s.walk number line) s s' (Replies (width_of line) (line_dialogue s.workers s.walk number line) s s' []) y z → Broken ((done ++ line ∷ []) ++ left)
+      going-breaks line left (inl stop) = subst Broken (sym (append_assoc done (line ∷ []) left)) (stopped (line ∷ left) (stop-goes stop.0) stop.1)
       going-breaks line left (inr part) =
           let m = led-more done number s going.led line s' part.0 part.1 in
           let written = part.2 in (
@@ -414,8 +481,8 @@ module _ (laws : Laws) (first : State) where
         keeps-text x y z (text_in t) going.written kept,
       )
 
-      pub going-by_lines : (line : Line) (left : List Line) → Breaks s s' (Replies (width_of line) (line_dialogue s.workers s.walk number line) s s' []) y z → ByLines ((done ++ line ∷ []) ++ left)
-      going-by_lines line left (inl stop) = subst ByLines (sym (append_assoc done (line ∷ []) left)) (stopped-by_lines (line ∷ left) stop.0 stop.1)
+      pub going-by_lines : (line : Line) (left : List Line) → Breaks (line_dialogue s.workers s.walk number line) s s' (Replies (width_of line) (line_dialogue s.workers s.walk number line) s s' []) y z → ByLines ((done ++ line ∷ []) ++ left)
+      going-by_lines line left (inl stop) = subst ByLines (sym (append_assoc done (line ∷ []) left)) (stopped-by_lines (line ∷ left) (stop-goes stop.0) stop.1)
       going-by_lines line left (inr part) =
           let m = led-more done number s going.led line s' part.0 part.1 in
           let goes = replied-goes (width_of line) (line_dialogue s.workers s.walk number line) s s' [] part.0 part.1 in
@@ -438,8 +505,8 @@ module _ (laws : Laws) (first : State) where
             Appends-trans x y z (text_in t) written.0 going.written written.2,
           )
 
-      pub going-end_by_lines : (lines : List Line) → lines ≡ done → Breaks s s' (AnswersEnd s s' []) y z → ByLines lines
-      going-end_by_lines lines none (inl stop) = subst ByLines (append-nil done ∙ sym none) (stopped-by_lines [] stop.0 stop.1)
+      pub going-end_by_lines : (lines : List Line) → lines ≡ done → Breaks (end s.walk) s s' (AnswersEnd s s' []) y z → ByLines lines
+      going-end_by_lines lines none (inl stop) = subst ByLines (append-nil done ∙ sym none) (stopped-by_lines [] (stop-goes stop.0) stop.1)
       going-end_by_lines lines none (inr part) =
           let written = part.2 in (
             text_in t ++ written.0,
@@ -471,27 +538,70 @@ module _ (laws : Laws) (first : State) where
             Appends-trans x y z (text_in t) written.0 going.written written.2,
           )
 
-      pub going-end_cut : (lines : List Line) → lines ≡ done → EndsShut (known s'.board) × Cuts (AnswersEnd s s' []) y z → CutOff lines
-      going-end_cut lines none did =
-          let part = did.1 in
+      pub going-end_cut : (lines : List Line) → lines ≡ done → Cuts (AnswersAndShuts s s') y z → CutOff lines
+      going-end_cut lines none part =
+          let answers = part.1.1 in
           let written = part.2 in
           let text = text_in t ++ written.0 in (
             text,
             inr (
-              did.0,
+              part.1.0,
               record {
                 whole = text_in t ++ part.0;
-                is_whole = end-text done number s going.led lines s' part.0 none part.1;
-                begins = led-begins_with done number s going.led lines s' text ([], sym none ∙ sym (append-nil lines)) (ended-goes s s' [] part.0 part.1) (written.0, refl);
+                is_whole = end-text done number s going.led lines s' part.0 none answers;
+                begins = led-begins_with done number s going.led lines s' text ([], sym none ∙ sym (append-nil lines)) (ended-goes s s' [] part.0 answers) (written.0, refl);
                 front = front-later (text_in t) part.0 written.0 written.1;
               },
             ),
             Appends-trans x y z (text_in t) written.0 going.written written.2,
           )
 
+      -- where memory lacked it may also be that of these lines
+      abbrev BrokenOff : List Line → Type 0
+      BrokenOff lines = Gains x z (IsBrokenOffAfter first.workers lines (known s'.registry) (known s'.board))
+
+      pub going-stopped : (left : List Line) → GoesOn s s' → Keeps y z → MakesFirstAfter (lines_and_next first.workers done left) (known s'.registry) (known s'.board) → BrokenOff (done ++ left)
+      going-stopped left goes kept calls = (
+        text_in t,
+        inr (record {
+          first = done;
+          left = left;
+          lines_are = refl;
+          tells = λ r b from_r from_b. led-tells done number s going.led s' goes r b from_r from_b;
+          calls = calls;
+        }),
+        keeps-text x y z (text_in t) going.written kept,
+      )
+
+      cut-broken : (lines : List Line) → CutOff lines → BrokenOff lines
+      cut-broken lines cut = (cut.0, inl cut.1, cut.2)
+
+      pub going-broken : (line : Line) (left : List Line) → Breaks (line_dialogue s.workers s.walk number line) s s' (Replies (width_of line) (line_dialogue s.workers s.walk number line) s s' []) y z → BrokenOff ((done ++ line ∷ []) ++ left)
+      going-broken line left (inl stop) =
+          subst BrokenOff (sym (append_assoc done (line ∷ []) left)) (going-stopped (line ∷ left) (stop-goes stop.0) stop.1 (led-stops done number s going.led line left s' stop.0))
+      going-broken line left (inr part) = cut-broken ((done ++ line ∷ []) ++ left) (going-cut line left part)
+
+      pub going-end_broken : (lines : List Line) → lines ≡ done → Breaks (end s.walk) s s' (AnswersAndShuts s s') y z → BrokenOff lines
+      going-end_broken lines none (inl stop) =
+          subst BrokenOff (append-nil done ∙ sym none) (going-stopped [] (stop-goes stop.0) stop.1 (led-end_stops done number s going.led s' stop.0))
+      going-end_broken lines none (inr part) = cut-broken lines (going-end_cut lines none part)
+
+      -- the caller has seen each entry that it made
+      pub line_broken-own : (line : Line) → Breaks (line_dialogue s.workers s.walk number line) s s' (Replies (width_of line) (line_dialogue s.workers s.walk number line) s s' []) y z → IsOwn reg_caller (known s'.registry)
+      line_broken-own line (inl stop) = stop.0.own
+      line_broken-own line (inr part) = part.1.asked.caller.own
+
+      pub end_broken-own : Breaks (end s.walk) s s' (AnswersAndShuts s s') y z → IsOwn reg_caller (known s'.registry)
+      end_broken-own (inl stop) = stop.0.own
+      end_broken-own (inr part) = part.1.1.asked.caller.own
+
+      pub breaks-plain : Breaks (end s.walk) s s' (AnswersAndShuts s s') y z → Breaks (end s.walk) s s' (AnswersEnd s s' []) y z
+      breaks-plain (inl stop) = inl stop
+      breaks-plain (inr part) = inr (part.0, part.1.1, part.2)
+
       -- and so does the end of input
-      pub going-end_breaks : (lines : List Line) → lines ≡ done → Breaks s s' (AnswersEnd s s' []) y z → Broken lines
-      going-end_breaks lines none (inl stop) = subst Broken (append-nil done ∙ sym none) (stopped [] stop.0 stop.1)
+      pub going-end_breaks : (lines : List Line) → lines ≡ done → Breaks (end s.walk) s s' (AnswersEnd s s' []) y z → Broken lines
+      going-end_breaks lines none (inl stop) = subst Broken (append-nil done ∙ sym none) (stopped [] (stop-goes stop.0) stop.1)
       going-end_breaks lines none (inr part) =
           let written = part.2 in (
             text_in t ++ written.0,
@@ -501,20 +611,20 @@ module _ (laws : Laws) (first : State) where
 
       -- the first lines of what was answered before are written
       module _ (ones : List Line) (are : AreFirst ones done) where
-        begun-by : (IsReply : List ℕ → Type 0) → ((reply : List ℕ) → IsReply reply → GoesOn s s') → Breaks s s' IsReply y z → Begun ones
-        begun-by IsReply goes (inl stop) = (text_in t, led-begins_with done number s going.led ones s' (text_in t) are stop.0 ([], append-nil (text_in t)), keeps-text x y z (text_in t) going.written stop.1)
-        begun-by IsReply goes (inr part) =
+        begun-by : (d : Dialogue) (IsReply : List ℕ → Type 0) → ((reply : List ℕ) → IsReply reply → GoesOn s s') → Breaks d s s' IsReply y z → Begun ones
+        begun-by d IsReply goes (inl stop) = (text_in t, led-begins_with done number s going.led ones s' (text_in t) are (stop-goes stop.0) ([], append-nil (text_in t)), keeps-text x y z (text_in t) going.written stop.1)
+        begun-by d IsReply goes (inr part) =
             let written = part.2 in (
               text_in t ++ written.0,
               led-begins_with done number s going.led ones s' (text_in t ++ written.0) are (goes part.0 part.1) (written.0, refl),
               Appends-trans x y z (text_in t) written.0 going.written written.2,
             )
 
-        pub going-begun : (line : Line) → Breaks s s' (Replies (width_of line) (line_dialogue s.workers s.walk number line) s s' []) y z → Begun ones
-        going-begun line breaks = begun-by (Replies (width_of line) (line_dialogue s.workers s.walk number line) s s' []) (λ reply r. replied-goes (width_of line) (line_dialogue s.workers s.walk number line) s s' [] reply r) breaks
+        pub going-begun : (line : Line) → Breaks (line_dialogue s.workers s.walk number line) s s' (Replies (width_of line) (line_dialogue s.workers s.walk number line) s s' []) y z → Begun ones
+        going-begun line breaks = begun-by (line_dialogue s.workers s.walk number line) (Replies (width_of line) (line_dialogue s.workers s.walk number line) s s' []) (λ reply r. replied-goes (width_of line) (line_dialogue s.workers s.walk number line) s s' [] reply r) breaks
 
-        pub going-end_begun : Breaks s s' (AnswersEnd s s' []) y z → Begun ones
-        going-end_begun breaks = begun-by (AnswersEnd s s' []) (λ reply e. ended-goes s s' [] reply e) breaks
+        pub going-end_begun : Breaks (end s.walk) s s' (AnswersEnd s s' []) y z → Begun ones
+        going-end_begun breaks = begun-by (end s.walk) (AnswersEnd s s' []) (λ reply e. ended-goes s s' [] reply e) breaks
 
       -- with it the whole text is written
       module _ (lines : List Line) (none : lines ≡ done) (step : Writes (AnswersEnd s s' []) y z) where
@@ -539,15 +649,15 @@ module _ (laws : Laws) (first : State) where
 
       -- ---- both passes have seen more
 
-      pub broken-goes : (IsReply : List ℕ → Type 0) → ((reply : List ℕ) → IsReply reply → GoesOn s s') → Breaks s s' IsReply y z → GoesOn first s'
-      broken-goes IsReply of (inl stop) = goes-then first s s' going.led.goes stop.0
-      broken-goes IsReply of (inr part) = goes-then first s s' going.led.goes (of part.0 part.1)
+      pub broken-goes : (d : Dialogue) (IsReply : List ℕ → Type 0) → ((reply : List ℕ) → IsReply reply → GoesOn s s') → Breaks d s s' IsReply y z → GoesOn first s'
+      broken-goes d IsReply of (inl stop) = goes-then first s s' going.led.goes (stop-goes stop.0)
+      broken-goes d IsReply of (inr part) = goes-then first s s' going.led.goes (of part.0 part.1)
 
-      pub line_broken-goes : (line : Line) → Breaks s s' (Replies (width_of line) (line_dialogue s.workers s.walk number line) s s' []) y z → GoesOn first s'
-      line_broken-goes line breaks = broken-goes (Replies (width_of line) (line_dialogue s.workers s.walk number line) s s' []) (λ reply r. replied-goes (width_of line) (line_dialogue s.workers s.walk number line) s s' [] reply r) breaks
+      pub line_broken-goes : (line : Line) → Breaks (line_dialogue s.workers s.walk number line) s s' (Replies (width_of line) (line_dialogue s.workers s.walk number line) s s' []) y z → GoesOn first s'
+      line_broken-goes line breaks = broken-goes (line_dialogue s.workers s.walk number line) (Replies (width_of line) (line_dialogue s.workers s.walk number line) s s' []) (λ reply r. replied-goes (width_of line) (line_dialogue s.workers s.walk number line) s s' [] reply r) breaks
 
-      pub end_broken-goes : Breaks s s' (AnswersEnd s s' []) y z → GoesOn first s'
-      end_broken-goes breaks = broken-goes (AnswersEnd s s' []) (λ reply e. ended-goes s s' [] reply e) breaks
+      pub end_broken-goes : Breaks (end s.walk) s s' (AnswersEnd s s' []) y z → GoesOn first s'
+      end_broken-goes breaks = broken-goes (end s.walk) (AnswersEnd s s' []) (λ reply e. ended-goes s s' [] reply e) breaks
 
       pub end-goes : Writes (AnswersEnd s s' []) y z → GoesOn first s'
       end-goes step = goes-then first s s' going.led.goes (ended-goes s s' [] step.0 step.1)
@@ -568,6 +678,21 @@ nothing-by_lines workers lines r b = record {
 pub nothing_by_lines : (workers : ℕ) (left held : Option (List ℕ)) (r : List RegEntry) (b : List (BoardEntry Ask)) → IfSome left (λ script. Gains held held (IsTextByLines workers (script_of script) r b))
 nothing_by_lines workers None held r b = tt
 nothing_by_lines workers (Some script) held r b = ([], nothing-by_lines workers (script_of script) r b, appends-none held)
+
+-- nor is anything broken off where nothing happened
+pub nothing-broken : Laws → NothingIsBrokenOff
+unfolding reg_calls board_calls
+nothing-broken laws workers lines = inr (record {
+  first = [];
+  left = lines;
+  lines_are = refl;
+  tells = record { registry = ([], refl); board = ([], refl); ended = refl; text_is = refl };
+  calls = record { board = []; more = []; calls_are = refl; shut = inl refl; begins = laws.begins_none (lines_and_next workers [] lines) };
+})
+
+pub nothing_broken : NothingIsBrokenOff → (workers : ℕ) (left held : Option (List ℕ)) → IfSome left (λ script. Gains held held (IsBrokenOff workers (script_of script) [] []))
+nothing_broken nothing workers None held = tt
+nothing_broken nothing workers (Some script) held = ([], nothing workers (script_of script), appends-none held)
 
 -- nothing is a front of the text of any script
 pub nothing_fronted : (workers : ℕ) (left held : Option (List ℕ)) (r : List RegEntry) (b : List (BoardEntry Ask)) → IfSome left (λ script. Gains held held (IsFrontText workers (start 0) 0 (script_of script) r b))

@@ -120,22 +120,22 @@ module _ (before after : Result Bool RunError) (held held' held'' : Option (List
     then-front None IsFront IsText gained on = tt
     then-front (Some script) IsFront IsText gained on = gains-front (IsFront script) (IsText script) gained on
 
-    -- of a text that was cut off
-    module _ (is : after ≡ Err WriteFault) where
-      cut-front : (IsCut IsText : List ℕ → Type 0) → (before ≡ Err WriteFault → Gains held held' IsCut) → OnOk before (Gains held held' IsText) → GainsFront held held'' IsCut IsText trace
+    -- of a text that was cut off, for this cause
+    module _ (cause : RunError) (is : after ≡ Err cause) where
+      cut-front : (IsCut IsText : List ℕ → Type 0) → (before ≡ Err cause → Gains held held' IsCut) → OnOk before (Gains held held' IsText) → GainsFront held held'' IsCut IsText trace
       cut-front IsCut IsText cut on = by (subst (λ x. IfErr x IsPart) is front)
         where
-          by : IsPart WriteFault → GainsFront held held'' IsCut IsText trace
+          by : IsPart cause → GainsFront held held'' IsCut IsText trace
           by (inl kept) = let gained = cut kept.0 in inl (gained.0, gained.1, keeps-text held held' held'' gained.0 gained.2 kept.1)
           by (inr some) =
               let text = subst (λ x. OnOk x (Gains held held' IsText)) some.1 on in
               let grown = some.2 in
               inr (grown.0, grown.1, (text.0, text.1, Appends-trans held held' held'' text.0 grown.0 text.2 grown.2))
 
-    pub then-cut : (left : Option (List ℕ)) (IsCut IsText : List ℕ → List ℕ → Type 0) → (IsErrOf before WriteFault → IfSome left (λ script. Gains held held' (IsCut script))) → OnOk before (IfSome left (λ script. Gains held held' (IsText script)))
-        → IsErrOf after WriteFault → IfSome left (λ script. GainsFront held held'' (IsCut script) (IsText script) trace)
-    then-cut None IsCut IsText cut on failed = tt
-    then-cut (Some script) IsCut IsText cut on failed = cut-front failed (IsCut script) (IsText script) (λ is. cut is) on
+    pub then-cut : (cause : RunError) (left : Option (List ℕ)) (IsCut IsText : List ℕ → List ℕ → Type 0) → (IsErrOf before cause → IfSome left (λ script. Gains held held' (IsCut script))) → OnOk before (IfSome left (λ script. Gains held held' (IsText script)))
+        → IsErrOf after cause → IfSome left (λ script. GainsFront held held'' (IsCut script) (IsText script) trace)
+    then-cut cause None IsCut IsText cut on failed = tt
+    then-cut cause (Some script) IsCut IsText cut on failed = cut-front cause failed (IsCut script) (IsText script) (λ is. cut is) on
 
     -- ---- the first lines
 

@@ -9,8 +9,9 @@ use Rattle.board.specs.declared.entry.BoardEntry.TheVariants.{Shut}
 use Rattle.board.specs.Entries.{caller_of as board_caller}
 use Rattle.crew.specs.declared.passes.Passes.{Passes}
 use Rattle.dialogues.specs.BoardCalls.{BoardCall, Shuts, board_calls}
-use Rattle.dialogues.specs.Dialogues.{Ends}
-use Rattle.dialogues.specs.Lines.{lines_dialogue}
+use Rattle.dialogues.specs.Dialogues.{Dialogue, Ends}
+use Rattle.dialogues.specs.First.{BeginsBy}
+use Rattle.dialogues.specs.Lines.{lines_dialogue, script}
 use Rattle.dialogues.specs.RegistryCalls.{RegCall, reg_calls, AllSettled}
 use Rattle.dialogues.specs.Texts.{IsText}
 use Rattle.dialogues.specs.Turns.{Turn, turn_of, text_in}
@@ -27,7 +28,8 @@ use Rattle.turn_lock.specs.Meeting.{IsOwn}
 use Rattle.turn_lock.specs.Passes.{knows}
 use Rattle.turn_lock.specs.Turns.{Known, StartsWith, of}
 use Rattle.script_run.specs.declared.errors.RunError.{RunError}
-use Rattle.script_run.specs.declared.errors.RunError.TheVariants.{ReadFault, WriteFault, TooLong}
+use Rattle.script_run.specs.declared.errors.RunError.TheVariants.{ReadFault, WriteFault, NoMemory, TooLong}
+use Rattle.script_run.specs.ByLines.{LinesTell}
 use Rattle.script_run.specs.Runs.{Gains, GoesOn, OthersFollow, IsTextAfter, IsFrontAfter, IsByLinesAfter, InTurnAfter, IsUnshutOrEnds, Answers}
 use Rattle.script_run.specs.Text.{is_malformed}
 
@@ -81,6 +83,42 @@ IsCutOff workers lines r b text =
     CutInLine (λ first. AreAnswered workers first r b) (λ first. BeginsWithText workers first r b) lines text
     ⊎ CutInEnd (IsText workers (start 0) 0 lines r b) (λ first. BeginsWithText workers first r b) lines text
 
+-- ---- where memory lacked
+
+-- The script has made first calls of this dialogue, and beside the shut of the board no others.
+pub record MakesFirst (dialogue : Dialogue) (r : List RegEntry) (b : List (BoardEntry Ask)) : Type 0 where
+  pub board : List BoardCall
+  pub more : List BoardCall
+  pub calls_are : board_calls 0 b ≡ board ++ more
+  pub shut : IsShutAlone more
+  pub begins : BeginsBy dialogue (reg_calls 0 r) board
+
+-- lines with the next one of these, or with the end of input where none is left
+abbrev pub lines_and_next : ℕ → List Line → List Line → Dialogue
+lines_and_next workers first [] = script workers (start 0) first
+lines_and_next workers first (line ∷ left) = lines_dialogue workers (start 0) 1 (first ++ line ∷ []) Ends
+
+-- First lines are answered, and their text is written. The next line, or the end of input, isn't answered: the calls are such.
+pub record StopsBehind (Tells : List Line → List ℕ → Type 0) (Calls : List Line → List Line → Type 0) (lines : List Line) (text : List ℕ) : Type 0 where
+  pub first : List Line
+  pub left : List Line
+  pub lines_are : lines ≡ first ++ left
+  pub tells : Tells first text
+  pub calls : Calls first left
+
+-- The script has made the calls of first lines, and first calls of what comes next.
+abbrev pub IsStopped : ℕ → List Line → List RegEntry → List (BoardEntry Ask) → List ℕ → Type 0
+IsStopped workers lines r b text =
+    StopsBehind (λ first. LinesTell workers first r b) (λ first left. MakesFirst (lines_and_next workers first left) r b) lines text
+
+-- The text was cut off in a line, or at the end of input, as where a write failed; or it is that of first lines.
+abbrev pub IsBrokenOff : ℕ → List Line → List RegEntry → List (BoardEntry Ask) → List ℕ → Type 0
+IsBrokenOff workers lines r b text = IsCutOff workers lines r b text ⊎ IsStopped workers lines r b text
+
+-- so is nothing, where nothing happened
+abbrev pub NothingIsBrokenOff : Type 0
+NothingIsBrokenOff = (workers : ℕ) (lines : List Line) → IsBrokenOff workers lines [] [] []
+
 -- ---- a source
 
 -- the source has given bytes of which this holds
@@ -90,7 +128,7 @@ Gives old new P = (given : List ℕ) × P given × Consumes old new given
 -- the script that a source tells, or else what it gave
 abbrev pub script_in : Option (List ℕ) → List ℕ → List ℕ
 script_in None given = given
-script_in (Some script) given = script
+script_in (Some whole) given = whole
 
 -- ---- the same, however the histories go on
 
@@ -119,6 +157,34 @@ abbrev pub IsCutOffOn : ℕ → List Line → Known RegEntry → Known (BoardEnt
 IsCutOffOn workers lines k l text =
     CutInLine (λ first. AreAnsweredOn workers first k l) (λ first. BeginsWithTextAfter workers first k l) lines text
     ⊎ CutInEnd (IsTextAfter workers lines k l) (λ first. BeginsWithTextAfter workers first k l) lines text
+
+-- ---- the same where memory lacked
+
+abbrev pub LinesTellAfter : ℕ → List Line → Known RegEntry → Known (BoardEntry Ask) → List ℕ → Type 0
+LinesTellAfter workers lines k l text =
+    (r : List RegEntry) (b : List (BoardEntry Ask)) → StartsWith r k.seen → StartsWith b l.seen → LinesTell workers lines r b text
+
+-- where others alone follow on what the passes have seen, and the board is shut; and where others alone follow
+abbrev pub MakesFirstAfter : Dialogue → Known RegEntry → Known (BoardEntry Ask) → Type 0
+MakesFirstAfter dialogue k l =
+    (r : List RegEntry) (b : List (BoardEntry Ask)) (more : List BoardCall) → OthersFollow reg_caller k r → board_calls 0 b ≡ board_calls 0 l.seen ++ more → IsShutAlone more
+    → MakesFirst dialogue r b
+
+abbrev pub MakesFirstOn : Dialogue → Known RegEntry → Known (BoardEntry Ask) → Type 0
+MakesFirstOn dialogue k l =
+    (r : List RegEntry) (b : List (BoardEntry Ask)) → OthersFollow reg_caller k r → OthersFollow board_caller l b → MakesFirst dialogue r b
+
+abbrev pub IsStoppedAfter : ℕ → List Line → Known RegEntry → Known (BoardEntry Ask) → List ℕ → Type 0
+IsStoppedAfter workers lines k l text =
+    StopsBehind (λ first. LinesTellAfter workers first k l) (λ first left. MakesFirstAfter (lines_and_next workers first left) k l) lines text
+
+abbrev pub IsBrokenOffAfter : ℕ → List Line → Known RegEntry → Known (BoardEntry Ask) → List ℕ → Type 0
+IsBrokenOffAfter workers lines k l text = IsCutOffAfter workers lines k l text ⊎ IsStoppedAfter workers lines k l text
+
+abbrev pub IsBrokenOffOn : ℕ → List Line → Known RegEntry → Known (BoardEntry Ask) → List ℕ → Type 0
+IsBrokenOffOn workers lines k l text =
+    IsCutOffOn workers lines k l text
+    ⊎ StopsBehind (λ first. LinesTellAfter workers first k l) (λ first left. MakesFirstOn (lines_and_next workers first left) k l) lines text
 
 -- a pass has seen entries of others, and then maybe the shut of the board, its own
 abbrev pub ShutsAlone : (BoardEntry Ask → ℕ) → Known (BoardEntry Ask) → Known (BoardEntry Ask) → Type 0
@@ -155,6 +221,7 @@ pub record RunsLines (lines : List Line) (given : List ℕ) (s s' : State) (resu
   pub first : AnswersFirst (λ first. AreAnsweredAfter s.workers first (known s'.registry) (known s'.board)) (λ first. BeginsWithTextAfter s.workers first (known s'.registry) (known s'.board)) given result held held'
   pub own_reads : IsErrOf result ReadFault ⊎ IsErrOf result TooLong → IsOwn reg_caller (known s'.registry)
   pub cut : IsErrOf result WriteFault → IsOwn reg_caller (known s'.registry) × Gains held held' (IsCutOffAfter s.workers lines (known s'.registry) (known s'.board))
+  pub broken : IsErrOf result NoMemory → IsOwn reg_caller (known s'.registry) × Gains held held' (IsBrokenOffAfter s.workers lines (known s'.registry) (known s'.board))
 
 pub record RunsSource (left left' : Option (List ℕ)) (s s' : State) (result : Result Bool RunError) (held held' : Option (List ℕ)) : Type 0 where
   pub given : List ℕ
@@ -169,6 +236,7 @@ pub record AnswersSource (workers : ℕ) (left left' : Option (List ℕ)) (p q :
   pub first : AnswersFirst (λ first. AreAnsweredOn workers first (knows q.registry) (knows q.board)) (λ first. BeginsWithTextAfter workers first (knows q.registry) (knows q.board)) given result held held'
   pub own_reads : IsErrOf result ReadFault ⊎ IsErrOf result TooLong → IsOwn reg_caller (knows q.registry)
   pub cut : IsErrOf result WriteFault → IsOwn reg_caller (knows q.registry) × Gains held held' (IsCutOffOn workers (script_of (script_in left given)) (knows q.registry) (knows q.board))
+  pub broken : IsErrOf result NoMemory → IsOwn reg_caller (knows q.registry) × Gains held held' (IsBrokenOffOn workers (script_of (script_in left given)) (knows q.registry) (knows q.board))
 
 -- The histories have what was answered of the bytes that a source gave.
 pub record RanSource (workers : ℕ) (left left' : Option (List ℕ)) (r : List RegEntry) (b : List (BoardEntry Ask)) (result : Result Bool RunError) (held held' : Option (List ℕ)) : Type 0 where

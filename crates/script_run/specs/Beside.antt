@@ -17,7 +17,7 @@ use Rattle.templates.specs.Table.{table}
 use Rattle.transforms.specs.declared.ask.Ask.{Ask}
 use Rattle.script_run.specs.declared.errors.RunError.{RunError}
 use Rattle.script_run.specs.declared.errors.RunError.TheVariants.{NoMemory, WriteFault}
-use Rattle.script_run.specs.Answered.{RanSource, IsCutOff}
+use Rattle.script_run.specs.Answered.{RanSource, IsCutOff, IsBrokenOff}
 use Rattle.script_run.specs.ByLines.{IsTextByLines}
 use Rattle.script_run.specs.Endings.{AreCallers, EndsShut, IsShutOnce}
 use Rattle.script_run.specs.Runs.{Gains, InTurn}
@@ -41,6 +41,7 @@ pub record ScriptRan (workers : ℕ) (left left' : Option (List ℕ)) (r : List 
   pub by_lines : IfSome left (λ script. Gains held held' (IsTextByLines workers (script_of script) r b))
   pub first : RanSource workers left left' r b result held held'
   pub cut : IsErrOf result WriteFault → IfSome left (λ script. Gains held held' (IsCutOff workers (script_of script) r b))
+  pub broken : IsErrOf result NoMemory → IfSome left (λ script. Gains held held' (IsBrokenOff workers (script_of script) r b))
   pub malformed : IfOk result (λ bad. IfSome left (λ script. bad ≡ list_any is_malformed (script_of script)))
   pub closed : IsShutOnce workers b ⊎ ((result ≡ Err NoMemory) × (r ≡ []) × (b ≡ []))
   pub histories : AreHistories workers r b

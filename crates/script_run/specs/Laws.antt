@@ -8,6 +8,7 @@ use Rattle.crew.specs.Crews.{CrewsEnd, CrewWorks}
 use Rattle.board.specs.Ends.{AllIsFinished, ShutIsLast}
 use Rattle.dialogues.specs.BoardCalls.{BoardCall}
 use Rattle.dialogues.specs.Dialogues.{Dialogue, followed}
+use Rattle.dialogues.specs.FirstCalls.{BeginsByNone, BeginsInFirst, BeginsInLines, FurtherStay}
 use Rattle.dialogues.specs.GoingOn.{RegistryCallsGoOn, RegistryUnasked, BoardCallsGoOn, BoardUncalled, NoCall, InTurnByAny, InTurnByMore, CallsThenCallsBy}
 use Rattle.dialogues.specs.Leading.{LeadsNowhere, LeadsOn, LeadsToEnd}
 use Rattle.dialogues.specs.RegistryCalls.{RegCall}
@@ -31,6 +32,10 @@ pub record Laws : Type 0 where
   pub follow : (first : Dialogue) (later : Walk → Dialogue) (turn : Turn) (walk : Walk) (r : List RegCall) (b : List BoardCall)
       → IsTurn first turn → turn.after ≡ Some walk
       → turn_of (followed first later) (turn.registry ++ r) (turn.board ++ b) ≡ joined turn (turn_of (later walk) r b)
+  pub begins_none : BeginsByNone
+  pub begins_first : BeginsInFirst
+  pub begins_lines : BeginsInLines
+  pub further_stay : FurtherStay
 
 pub record CrewLaws : Type 0 where
   pub registry_ends : (is_work : RegEntry → Bool) (from count : ℕ) (k l : Known RegEntry) (r : List RegEntry) → CrewsEnd reg_caller is_work from count k l r

@@ -9,6 +9,7 @@ use Rattle.board.specs.declared.entry.BoardEntry.TheVariants.{Shut}
 use Rattle.board.specs.Entries.{entries_of, submissions, front, is_closed, caller_of as board_caller}
 use Rattle.board.specs.Legal.{MayManage, is_shut}
 use Rattle.crew.specs.declared.passes.Passes.{Passes}
+use Rattle.dialogues.specs.Dialogues.{Dialogue}
 use Rattle.dialogues.specs.InTurn.{AreInTurnBy}
 use Rattle.dialogues.specs.RegistryCalls.{reg_calls}
 use Rattle.dialogues.specs.Texts.{IsText}
@@ -17,8 +18,8 @@ use Rattle.script_run.specs.Fronts.{IsFrontText}
 use Rattle.dialogues.specs.Walk.{start}
 use Rattle.dialogues.specs.Widths.{widest}
 use Rattle.kc_base.specs.Streams.{AppendsFront, IsPrefix}
-use Rattle.script_session.specs.Ending.{EndsShut}
-use Rattle.script_session.specs.Holding.{HasSeenMore}
+use Rattle.script_session.specs.Ending.{AnswersEnd, EndsShut}
+use Rattle.script_session.specs.Holding.{HasSeenMore, StopsIn}
 use Rattle.script_session.specs.States.{State, SameLocks}
 use Rattle.script_text.specs.declared.commands.Line.{Line}
 use Rattle.session_calls.specs.Passes.{known}
@@ -74,9 +75,13 @@ Writes IsReply held held' = (reply : List ℕ) × IsReply reply × Appends held 
 abbrev pub Cuts : (List ℕ → Type 0) → Option (List ℕ) → Option (List ℕ) → Type 0
 Cuts IsReply held held' = (reply : List ℕ) × IsReply reply × AppendsFront held held' reply
 
--- the session went on, and nothing was written; or such a reply was made, and written in part
-abbrev pub Breaks : State → State → (List ℕ → Type 0) → Option (List ℕ) → Option (List ℕ) → Type 0
-Breaks s s' IsReply held held' = (GoesOn s s' × Keeps held held') ⊎ Cuts IsReply held held'
+-- the session stopped in the dialogue, and nothing was written; or such a reply was made, and written in part
+abbrev pub Breaks : Dialogue → State → State → (List ℕ → Type 0) → Option (List ℕ) → Option (List ℕ) → Type 0
+Breaks dialogue s s' IsReply held held' = (StopsIn dialogue s s' × Keeps held held') ⊎ Cuts IsReply held held'
+
+-- the answers to the end of input, after which the board was shut last
+abbrev pub AnswersAndShuts : State → State → List ℕ → Type 0
+AnswersAndShuts s s' reply = EndsShut (known s'.board) × AnswersEnd s s' [] reply
 
 -- ---- the text, however the histories go on
 

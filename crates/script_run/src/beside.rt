@@ -16,6 +16,7 @@ ghost use Rattle.script_run.specs.Laws.{CrewLaws};
 ghost use Rattle.script_run.specs.Runs.{OthersFollow, AreNew, IsUnshutOrEnds, WasShut};
 
 use crate::errors::RunError;
+use crate::laws::nothing_is_broken_off;
 use crate::lines::{laws, run_lines};
 use alg_registry::{RegEntry, RegLog};
 use board::{BoardEntry, BoardLog, others_leave, work_ends};
@@ -218,6 +219,7 @@ pub fn run_script<S: Source, K: Sink, G: Gate + Sync, R: Threads + Wait + Sync>(
     ensures later { K.faults out.old ≤ K.faults out.new }
     ensures usage { IsErrOf result.answer RunError.Usage → ⊥ }
 {
+    nothing_is_broken_off();
     let Ok((board, registry, passes)) = first_locks(alloc) else {
         return Ran::not_at_all(alloc, RunError::NoMemory);
     };

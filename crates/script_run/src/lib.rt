@@ -11,7 +11,7 @@ mod tracing;
 
 pub use beside::Ran;
 pub use errors::{NO_MEMORY, RunError, USAGE, status_by};
-pub use laws::{nothing_is_by_lines, nothing_is_front};
+pub use laws::{nothing_is_broken_off, nothing_is_by_lines, nothing_is_front};
 pub use lines::MAX_INPUT;
 pub use load::run_load;
 pub use tracing::run_traced;

@@ -6,19 +6,22 @@ ghost use Rattle.kc_base.specs.Streams.{Rose, AppendsFront};
 ghost use Rattle.std.specs.Io.KnownBytes.{Appends};
 ghost use Rattle.script_text.specs.Sizes.{IsShortLine};
 ghost use Rattle.dialogues.specs.Lines.{line_dialogue};
+ghost use Rattle.dialogues.specs.Piping.{end};
 ghost use Rattle.dialogues.specs.Widths.{width_of};
 ghost use Rattle.session_calls.specs.Passes.{known};
+ghost use Rattle.script_session.specs.Holding.{StopsIn};
 ghost use Rattle.script_session.specs.Running.{IsReady, Replies};
 ghost use Rattle.script_session.specs.Ending.{AnswersEnd, EndsShut};
 ghost use Rattle.script_run.specs.Text.{is_malformed};
 ghost use Rattle.script_run.specs.Laws.{Laws};
 ghost use Rattle.script_run.specs.Answered.{RunsSource};
-ghost use Rattle.script_run.specs.Runs.{GoesOn, Writes, Cuts, Breaks, IsFresh, IsUnshutOrEnds};
+ghost use Rattle.script_run.specs.Runs.{Writes, Cuts, Breaks, AnswersAndShuts, IsFresh, IsUnshutOrEnds};
 
 use crate::errors::RunError;
 use crew::Gate;
 use dialogues::{
-    board_calls_go_on, calls_at_once, calls_in_turn, lines_lead, registry_calls_go_on, turns_follow,
+    board_calls_go_on, calls_at_once, calls_in_turn, first_calls, further_calls, lines_lead,
+    registry_calls_go_on, turns_follow,
 };
 use kc_base::{Sink, SinkError, Source, write_and_flush, write_piece};
 use reply_text::Reply;
@@ -45,6 +48,8 @@ pub fn laws()
     board_calls_go_on();
     calls_in_turn();
     calls_at_once();
+    first_calls();
+    further_calls();
 }
 
 fn is_malformed_line(line: &Line) -> bool
@@ -68,7 +73,7 @@ fn reply_to<G: Gate, R: Threads + Wait + Sync>(
     requires short { IsShortLine line }
     ensures done { MatchResult result
         (λ _. Replies (width_of line) (line_dialogue session.old.workers session.old.walk number line) session.old session.new [] reply.new.text)
-        (λ _. GoesOn session.old session.new) }
+        (λ _. StopsIn (line_dialogue session.old.workers session.old.walk number line) session.old session.new) }
     ensures ready { OnOk result (IsReady registry.now board.now session.new) }
     ensures unshut { (known session.new.board).number ≡ 0 → is_shut (known session.new.board).seen ≡ false }
     ensures malformed { IfOk result (λ bad. bad ≡ is_malformed line) }
@@ -94,7 +99,7 @@ fn reply_to_end<G: Gate, R: Wait>(
     requires first { (known session.old.board).number ≡ 0 }
     ensures done { MatchResult result
         (λ reply. AnswersEnd session.old session.new [] reply.text)
-        (λ _. GoesOn session.old session.new) }
+        (λ _. StopsIn (end session.old.walk) session.old session.new) }
     ensures shut { OnOk result (EndsShut (known session.new.board)) }
     ensures unshut { IsUnshutOrEnds (known session.new.board) }
 {
@@ -137,7 +142,8 @@ fn run_line<K: Sink, G: Gate, R: Threads + Wait + Sync>(
     requires short { IsShortLine line }
     ensures done { MatchResult result
         (λ _. Writes (Replies (width_of line) (line_dialogue session.old.workers session.old.walk number line) session.old session.new []) (K.held out.old) (K.held out.new))
-        (λ _. Breaks session.old session.new (Replies (width_of line) (line_dialogue session.old.workers session.old.walk number line) session.old session.new []) (K.held out.old) (K.held out.new)) }
+        (λ _. Breaks (line_dialogue session.old.workers session.old.walk number line) session.old session.new
+            (Replies (width_of line) (line_dialogue session.old.workers session.old.walk number line) session.old session.new []) (K.held out.old) (K.held out.new)) }
     ensures cut { IsErrOf result SinkError.Failed →
         Cuts (Replies (width_of line) (line_dialogue session.old.workers session.old.walk number line) session.old session.new []) (K.held out.old) (K.held out.new) }
     ensures ready { OnOk result (IsReady registry.now board.now session.new) }
@@ -165,9 +171,8 @@ fn run_end<K: Sink, G: Gate, R: Wait>(
     requires first { (known session.old.board).number ≡ 0 }
     ensures done { MatchResult result
         (λ _. Writes (AnswersEnd session.old session.new []) (K.held out.old) (K.held out.new))
-        (λ _. Breaks session.old session.new (AnswersEnd session.old session.new []) (K.held out.old) (K.held out.new)) }
-    ensures cut { IsErrOf result SinkError.Failed →
-        EndsShut (known session.new.board) × Cuts (AnswersEnd session.old session.new []) (K.held out.old) (K.held out.new) }
+        (λ _. Breaks (end session.old.walk) session.old session.new (AnswersAndShuts session.old session.new) (K.held out.old) (K.held out.new)) }
+    ensures cut { IsErrOf result SinkError.Failed → Cuts (AnswersAndShuts session.old session.new) (K.held out.old) (K.held out.new) }
     ensures shut { OnOk result (EndsShut (known session.new.board)) }
     ensures unshut { IsUnshutOrEnds (known session.new.board) }
     ensures later { K.faults out.old ≤ K.faults out.new }
@@ -235,6 +240,7 @@ pub fn run_lines<S: Source, K: Sink, G: Gate, R: Threads + Wait + Sync>(
     ensures later { K.faults out.old ≤ K.faults out.new }
     ensures usage { IsErrOf result RunError.Usage → ⊥ }
 {
+    laws();
     let mut reader = LineReader::new(alloc, MAX_INPUT)?;
     let mut reply = Reply::new(alloc);
     run_read(

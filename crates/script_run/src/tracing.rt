@@ -16,7 +16,7 @@ ghost use Rattle.settled_scripts.specs.Settled.{IsSettled, plain_text};
 ghost use Rattle.templates.specs.Table.{table};
 ghost use Rattle.trace_text.specs.Asks.{ask_origin};
 ghost use Rattle.trace_text.specs.Trace.{trace_of, FitTypes};
-ghost use Rattle.script_run.specs.Answered.{RanSource, IsCutOff};
+ghost use Rattle.script_run.specs.Answered.{RanSource, IsCutOff, IsBrokenOff};
 ghost use Rattle.script_run.specs.Endings.{AreCallers, CanBeRead, EndsShut, IsShutOnce, traced};
 ghost use Rattle.script_run.specs.Runs.{GainsThen, GainsFront, InTurn};
 ghost use Rattle.script_run.specs.Text.{is_malformed};
@@ -103,6 +103,9 @@ pub fn run_traced<S: Source, K: Sink, G: Gate + Sync, R: Threads + Wait + Sync>(
         (IsText options.now.workers (start 0) 0 (script_of script) result.registry result.board) (traced options.now.trace result.registry result.board)) }
     ensures cut { IsErrOf result.answer RunError.WriteFault → IfSome (S.left src.old) (λ script. GainsFront (K.held out.old) (K.held out.new)
         (IsCutOff options.now.workers (script_of script) result.registry result.board)
+        (IsText options.now.workers (start 0) 0 (script_of script) result.registry result.board) (traced options.now.trace result.registry result.board)) }
+    ensures broken { IsErrOf result.answer RunError.NoMemory → IfSome (S.left src.old) (λ script. GainsFront (K.held out.old) (K.held out.new)
+        (IsBrokenOff options.now.workers (script_of script) result.registry result.board)
         (IsText options.now.workers (start 0) 0 (script_of script) result.registry result.board) (traced options.now.trace result.registry result.board)) }
     ensures first { RanSource options.now.workers (S.left src.old) (S.left src.new) result.registry result.board result.answer (K.held out.old) (K.held out.new) }
     ensures closed { IsShutOnce options.now.workers result.board ⊎ ((result.answer ≡ Err RunError.NoMemory) × (result.registry ≡ []) × (result.board ≡ [])) }

@@ -19,7 +19,7 @@ returns-in_err-line-clause-done g c =
     (stops-then c.args.session.now c.loop-line.session c.line.new.self
     (answering-stops c.laws.ensures c.args.registry.now c.args.board.now c.args.session.now c.requires.ready c.args.reply.now.text c.args.part.now
     c.loop-line.rest.now c.loop-line.number c.loop-line.malformed c.loop-line.session c.loop-line.reply.text c.loop-line.invariant.at)
-    c.in_err-line.ensures.done)
+    c.in_err-line.ensures.done.stops)
 
 pub loop-line-preserved : goal.loop-line-preserved
 loop-line-preserved g c = record {

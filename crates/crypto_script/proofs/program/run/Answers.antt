@@ -1,8 +1,8 @@
 use Rattle.std.proofs.Common.{◌≡◌, ap, sym, ◌∙◌, Some, Ok}
 use Rattle.std.specs.Prelude.{map, string_bytes}
 use Rattle.crypto_script.specs.Words.{script_asked, script_in_mode, clients_asked, clients_in_mode}
-use Rattle.crypto_script.proofs.Answering.{answered-read, answered-long, answered-written, unwritten}
-use Rattle.crypto_script.proofs.Refusing.{refused_by_lines}
+use Rattle.crypto_script.proofs.Answering.{answered-read, answered-long, answered-written, unwritten, wanting}
+use Rattle.crypto_script.proofs.Refusing.{refused_by_lines, refused_broken}
 use Rattle.crypto_script.proofs.Stopping.{load-reads, reaches-end}
 use Rattle.crypto_script.proofs.program.run.Goals as goal
 
@@ -61,6 +61,19 @@ returns-clause-called g c =
     let asked : script_asked words ≡ Some c.in-Script.options = c.in-Ok.ensures.script ∙ ap (λ m. script_in_mode (Ok m)) c.in-Script.is in
     rw (asked, c.outcome_of-2.ensures.registry, c.outcome_of-2.ensures.board)
     (λ is. c.run_traced.ensures.cut (unwritten c.run_traced.result.answer (sym c.outcome_of-2.ensures.status ∙ is)))
+
+pub returns-clause-stopped : goal.returns-clause-stopped
+returns-clause-stopped g c =
+    let words = map string_bytes c.args.words.now in
+    let asked : script_asked words ≡ Some c.in-Script.options = c.in-Ok.ensures.script ∙ ap (λ m. script_in_mode (Ok m)) c.in-Script.is in
+    rw (asked, c.outcome_of-2.ensures.registry, c.outcome_of-2.ensures.board)
+    (λ is. c.run_traced.ensures.broken (wanting c.run_traced.result.answer (sym c.outcome_of-2.ensures.status ∙ is)))
+
+pub returns-in-Err-clause-stopped : goal.returns-in-Err-clause-stopped
+returns-in-Err-clause-stopped g c =
+    let none = c.not_at_all.ensures in
+    rw (c.outcome_of.ensures.registry, c.outcome_of.ensures.board, none.1, none.2)
+    (refused_broken c.nothing_is_broken_off.ensures c.outcome_of.result.status (script_asked (map string_bytes c.args.words.now)) (g.S.Source.left c.args.src.now) (g.K.Sink.held c.args.out.now))
 
 pub returns-in-Clients-clause-one_list : goal.returns-in-Clients-clause-one_list
 returns-in-Clients-clause-one_list g c =

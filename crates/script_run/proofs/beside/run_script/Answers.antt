@@ -6,4 +6,4 @@ returns-in_default-clause-ran g c =
     let held = g.K.Sink.held in
     let left = g.S.Source.left in
     let none = c.not_at_all.ensures in
-    rw (none.0, none.1, none.2) (not-ran c.args.workers (left c.args.src.now) (held c.args.out.now))
+    rw (none.0, none.1, none.2) (not-ran c.nothing_is_broken_off.ensures c.args.workers (left c.args.src.now) (held c.args.out.now))

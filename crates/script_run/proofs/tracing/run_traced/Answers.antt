@@ -1,6 +1,6 @@
 use Rattle.std.proofs.Common.{◌≡◌, inl, inr}
 use Rattle.dialogues.specs.Texts.{IsText}
-use Rattle.script_run.specs.Answered.{IsCutOff}
+use Rattle.script_run.specs.Answered.{IsCutOff, IsBrokenOff}
 use Rattle.script_run.specs.ByLines.{IsTextByLines}
 use Rattle.script_run.specs.Fronts.{IsFrontText}
 use Rattle.dialogues.specs.Walk.{start}
@@ -9,7 +9,7 @@ use Rattle.settled_scripts.specs.Settled.{IsSettled, plain_text}
 use Rattle.trace_text.specs.Asks.{ask_origin}
 use Rattle.trace_text.specs.Trace.{FitTypes}
 use Rattle.script_run.specs.Endings.{CanBeRead, traced}
-use Rattle.script_run.specs.declared.errors.RunError.TheVariants.{NoMemory}
+use Rattle.script_run.specs.declared.errors.RunError.TheVariants.{NoMemory, WriteFault}
 use Rattle.script_run.proofs.Traced.{then-ok, then-both, then-if, then-gains, then-gains_if, then-front, then-cut, then-ran, stays}
 use Rattle.script_run.proofs.tracing.run_traced.Goals as goal
 
@@ -70,10 +70,21 @@ returns-clause-cut g c =
     let ran = c.run_script-answer.result in
     let workers = c.args.options.now.workers in
     then-cut ran.answer c.answer_traced-answer.result (held c.args.out.now) (held c.run_script-answer.new.out) (held c.answer_traced-answer.new.out)
-    (traced c.args.options.now.trace ran.registry ran.board) c.answer_traced-answer.ensures.whole c.answer_traced-answer.ensures.front (g.S.Source.left c.args.src.now)
+    (traced c.args.options.now.trace ran.registry ran.board) c.answer_traced-answer.ensures.whole c.answer_traced-answer.ensures.front WriteFault (g.S.Source.left c.args.src.now)
     (λ script text. IsCutOff workers (script_of script) ran.registry ran.board text)
     (λ script text. IsText workers (start 0) 0 (script_of script) ran.registry ran.board text)
     c.run_script-answer.ensures.ran.cut c.run_script-answer.ensures.ran.whole
+
+pub returns-clause-broken : goal.returns-clause-broken
+returns-clause-broken g c =
+    let held = g.K.Sink.held in
+    let ran = c.run_script-answer.result in
+    let workers = c.args.options.now.workers in
+    then-cut ran.answer c.answer_traced-answer.result (held c.args.out.now) (held c.run_script-answer.new.out) (held c.answer_traced-answer.new.out)
+    (traced c.args.options.now.trace ran.registry ran.board) c.answer_traced-answer.ensures.whole c.answer_traced-answer.ensures.front NoMemory (g.S.Source.left c.args.src.now)
+    (λ script text. IsBrokenOff workers (script_of script) ran.registry ran.board text)
+    (λ script text. IsText workers (start 0) 0 (script_of script) ran.registry ran.board text)
+    c.run_script-answer.ensures.ran.broken c.run_script-answer.ensures.ran.whole
 
 pub returns-clause-first : goal.returns-clause-first
 returns-clause-first g c =
