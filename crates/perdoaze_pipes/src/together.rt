@@ -78,11 +78,7 @@ fn key_of(outs: &[Option<Out>; 8]) -> Option<&Keyed>
 }
 
 /// Runs the jobs, in step where they all fit under the first one's key.
-fn run_jobs(
-    alloc: Global,
-    outs: &[Option<Out>; 8],
-    jobs: [Option<Job>; 8],
-) -> [Option<Finished>; 8]
+fn run_jobs(alloc: Global, outs: &[Option<Out>; 8], jobs: [Option<Job>; 8]) -> [Option<Finished>; 8]
     requires { (n : ℕ) → n < 8 → option_map job_value (slice_index_or jobs n None) ≡ option_map out_value (slice_index_or outs.now n None) }
     ensures { (n : ℕ) → n < 8 → option_map finished_value (slice_index_or result n None) ≡ option_map out_value (slice_index_or outs.now n None) }
 {
@@ -98,11 +94,13 @@ fn end(mut place: TaskPlace, out: Option<Out>, finished: Option<Finished>) -> Ta
     requires room { MatchOption out ⊤ (λ _. place.handle.value ≡ None) }
     ensures { Ends out place.handle.value result.handle.value }
 {
-    let Some(Out {
-        mut held,
-        ticket,
-        ask,
-    }) = out
+    let Some(
+        Out {
+            mut held,
+            ticket,
+            ask,
+        },
+    ) = out
     else {
         return place;
     };
