@@ -1,7 +1,7 @@
 -- A block that is filled piece by piece.
-use Rattle.std.proofs.Common.{◌≡◌, ℕ, ◌+◌, ◌-◌, ◌*◌, ◌/◌, ◌%◌, ◌^◌, ◌<◌, ◌≤◌, min, List, [], ◌∷◌, ◌++◌, length, take, drop, replicate, refl, sym, ap, ap₂, ◌∙◌, arith, length-append, inl, inr, get_or, add-one}
+use Rattle.std.proofs.Common.{◌≡◌, ℕ, ◌+◌, ◌-◌, ◌*◌, ◌/◌, ◌%◌, ◌^◌, ◌<◌, ◌≤◌, min, List, [], ◌∷◌, ◌++◌, length, take, drop, replicate, refl, sym, ap, ap₂, ◌∙◌, arith, length-append, inl, inr, get_or}
 use Rattle.std.proofs.lemmas.Bool.{cases_lt}
-use Rattle.std.proofs.lemmas.List.{append_assoc, append-nil, drop-append-le, drop_all, take_all, take-append-le, length-drop, length-take, drop-take, take-replicate, get_or-map, length-replicate}
+use Rattle.std.proofs.lemmas.List.{append_assoc, append-nil, drop-append-le, drop_all, take_all, take-append-le, length-drop, length-take, drop-take, get_or-map, length-replicate}
 use Rattle.std.proofs.Math.Seq.{take-append-add, drop-append-add, drop-append_seam}
 use Rattle.std.proofs.lemmas.Slice.{take-put_mid, take-put_mid_below}
 use Rattle.std.proofs.lemmas.Grind.{common_steps}
@@ -56,12 +56,6 @@ filled_more old new x y at used next skip held place count bytes = record {
   count = omega (arith, held.count, length-append x y);
 }
 
--- a whole block
-pub filled_all : (block x y : List ℕ) (at used : ℕ) → Filled block x at used → length block ≡ 64 → at + 64 ≤ length x → x ≡ y → block ≡ take 64 (drop at y)
-filled_all block x y at used held long whole e =
-    let all : used ≡ 64 = omega (arith, held.count) in
-    sym (take_all 64 block (omega arith)) ∙ ap (λ (n : ℕ). take n block) (sym all) ∙ held.bytes ∙ ap (λ (z : List ℕ). take 64 (drop at z)) e
-
 -- a block of the second piece alone
 pub inner_block : (f s p : List ℕ) (at start : ℕ) → length f ≤ at → start ≡ at - length f → at + 64 ≤ length f + length s
     → take 64 (drop start s) ≡ take 64 (drop at ((f ++ s) ++ p))
@@ -75,10 +69,6 @@ inner_block f s p at start from place to =
 
 pub piece_at : (pieces : List (Bor (List ℕ))) (n : ℕ) (d : Bor (List ℕ)) → n < length pieces → (get_or pieces n d).now ≡ piece pieces n
 piece_at pieces n d lt = sym (get_or-map (λ p. p.now) pieces n d [] lt)
-
--- the front of the padding
-pub zeros : (z : ℕ) → z ≤ 63 → take {A = ℕ} (z + 1) (0x80 ∷ replicate 63 0) ≡ 0x80 ∷ replicate z 0
-zeros z h = rw add-one (ap (λ (x : List ℕ). 0x80 ∷ x) (take-replicate z 63 0 h))
 
 -- a lane's block that was written, and those before it
 pub put_at : (a k n : ℕ) (xs ys : List ℕ) → a ≡ n * 64 → length ys ≡ 64 → a ≤ length xs → block_at (put_mid a k xs ys) n ≡ ys

@@ -1,7 +1,7 @@
 -- A block of the padding behind zeros in the place of a message.
 use Rattle.std.proofs.Common.{◌≡◌, ◌≢◌, ℕ, suc, ◌+◌, ◌-◌, ◌*◌, ◌/◌, ◌%◌, ◌^◌, ◌<◌, ◌≤◌, min, List, [], ◌∷◌, ◌++◌, length, take, drop, replicate, refl, sym, ap, ap₂, ◌∙◌, arith, length-append, inl, inr, slice_index, slice_set, take-append-drop}
 use Rattle.std.proofs.lemmas.Bool.{cases_lt}
-use Rattle.std.proofs.lemmas.List.{drop-drop, ext_get_or, get_or-append-add, get_or-drop, get_or-set_other, get_or-set_same, get_or-take, get_or_append_left, length-drop, length-replicate, length-take}
+use Rattle.std.proofs.lemmas.List.{drop-drop, ext_get_or, get_or-append-add, get_or-drop, get_or-set_other, get_or-take, get_or_append_left, length-drop, length-replicate, length-take}
 use Rattle.std.proofs.lemmas.Simd.{get_or-replicate}
 use Rattle.std.proofs.Math.Seq.{drop-append_seam}
 use Rattle.std.specs.Int.{w64, to_be_bytes}
@@ -9,11 +9,6 @@ use Rattle.sha2.specs.Sha256.{padding}
 use Rattle.in_step.proofs.Behind.{Filled, parted, padding-long, to-bytes-long}
 
 -- ---- zeros with the bit 1 behind the message
-
-pub marked : (at len k : ℕ) → len - at < 64 → at + k ≡ len → slice_index (slice_set (replicate {A = ℕ} 64 0) (len - at) 0x80) k ≡ 0x80
-marked at len k within e =
-    let place : k ≡ len - at = omega arith in
-    rw place (get_or-set_same (replicate {A = ℕ} 64 0) (len - at) 0x80 0 (omega (arith, length-replicate {A = ℕ} 64 0)))
 
 pub unmarked : (at len k : ℕ) → at ≤ len → k < 64 → at + k ≢ len → slice_index (slice_set (replicate {A = ℕ} 64 0) (len - at) 0x80) k ≡ 0
 unmarked at len k from lt other =
