@@ -73,8 +73,7 @@ fn work_or_build<'a, W: Work, G: Gate, R: Wait>(
         registry: on_registry,
     } = passes;
     let (on_board, worked, more, mut drowsy) = work_in_turn(rt, board, on_board, gate, look);
-    let (on_registry, built) =
-        build_if_any(rt, alloc, board, registry, on_registry, &mut drowsy);
+    let (on_registry, built) = build_if_any(rt, alloc, board, registry, on_registry, &mut drowsy);
     let passes = Passes {
         board: on_board,
         registry: on_registry,

@@ -2,8 +2,8 @@
 
 use crossbeam_utils::sync::EventCount;
 use job_bells::{Watch, WorkerBell};
-use std::sync::atomic::{AtomicUsize, Ordering};
 use std::sync::OnceLock;
+use std::sync::atomic::{AtomicUsize, Ordering};
 
 /// The bells of a registry.
 #[derive(Drop)]
