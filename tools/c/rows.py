@@ -23,9 +23,9 @@ def row(driver, key, tag, direction, iv, aad, text, want):
     return f"{driver} {hexed(key)} {tag} {direction} {hexed(iv)} {hexed(aad)} {hexed(text)} {hexed(want) if isinstance(want, bytes) else want}"
 
 
-def of_cipher_tests():
-    """The rows of crates/cipher_tests."""
-    with open(f"{TOP}/crates/cipher_tests/src/vectors.rt", encoding="utf-8") as file:
+def of_mode_tests():
+    """The rows of crates/mode_tests."""
+    with open(f"{TOP}/crates/mode_tests/src/vectors.rt", encoding="utf-8") as file:
         text = file.read()
     found = []
     for part in re.findall(r'const \w+: &str = "\\\n(.*?)";', text, re.S):
@@ -146,5 +146,5 @@ def outside():
 
 def sets():
     """Each set of rows and its name."""
-    return [("the rows of crates/cipher_tests", of_cipher_tests()), ("tools/make-vectors", of_make_vectors()),
+    return [("the rows of crates/mode_tests", of_mode_tests()), ("tools/make-vectors", of_make_vectors()),
             ("python's cryptography", outside())]

@@ -1,15 +1,16 @@
-//! Tests of SHA-256, of texts in segments, of authenc's keys and of the transforms, over what these make public.
+//! Tests of AES, of GHASH's product and of jobs in chunks, over what these make public. The modes' vectors stand in
+//! mode_tests.
 //!
 //! They stand apart, since a crate that has tests is proved a second time for them.
 #![tactic(auto)]
 
 #[cfg(test)]
-mod blobs;
+mod aes;
 #[cfg(test)]
-mod digests;
+mod chunks;
 #[cfg(test)]
-mod eight_packets;
+mod forms;
 #[cfg(test)]
-mod segments;
+mod ghash;
 #[cfg(test)]
-mod vectors;
+mod given;

@@ -1,16 +1,15 @@
-//! Tests of AES, of GHASH's product and of jobs in chunks, over what these make public. The modes' vectors stand in
-//! cipher_tests.
+//! Tests of SHA-256, of texts in segments, of authenc's keys and of the transforms, over what these make public.
 //!
 //! They stand apart, since a crate that has tests is proved a second time for them.
 #![tactic(auto)]
 
 #[cfg(test)]
-mod aes;
+mod blobs;
 #[cfg(test)]
-mod chunks;
+mod digests;
 #[cfg(test)]
-mod forms;
+mod eight_packets;
 #[cfg(test)]
-mod ghash;
+mod segments;
 #[cfg(test)]
-mod given;
+mod vectors;
