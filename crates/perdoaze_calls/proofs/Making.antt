@@ -1,5 +1,5 @@
 -- A text that is sealed from its place into another.
-use Rattle.std.proofs.Common.{◌≡◌, ℕ, suc, ◌+◌, ◌-◌, ◌/◌, ◌%◌, ◌==◌, ◌≤◌, List, ◌++◌, length, take, drop, Some, refl, sym, ap, ◌∙◌, arith, append_assoc, length-append, length-drop, length-take}
+use Rattle.std.proofs.Common.{◌≡◌, ℕ, suc, ◌+◌, ◌/◌, ◌%◌, ◌≤◌, List, ◌++◌, length, take, drop, Some, refl, sym, ap, ◌∙◌, arith, length-append, length-drop, length-take}
 use Rattle.std.proofs.lemmas.List.{drop-drop}
 use Rattle.std_defs.specs.Aes.{seal}
 use Rattle.std_defs.specs.Authenc.{authenc_seal}
@@ -15,7 +15,7 @@ use Rattle.transforms.specs.InPlace.{sealing}
 use Rattle.transforms.specs.declared.any_aes.AnyAes.{AnyAes}
 use Rattle.transforms.specs.declared.request.Request.{Request}
 use Rattle.perdoaze_calls.proofs.Answering.{IsKey, has_value, front_is, rest_is}
-use Rattle.perdoaze_calls.specs.Requests.{Gave, Answers}
+use Rattle.perdoaze_calls.specs.Requests.{Gave}
 use Rattle.perdoaze_calls.specs.declared.transform.Transform.{Transform}
 
 -- what was made of as many bytes as it has
@@ -40,25 +40,22 @@ cbc_rest f iv text old new e same within =
 
 -- a ciphertext of n bytes, its tag, and what lies behind them
 module _ (mid new piece : List ℕ) (n size : ℕ) (is : new ≡ take n mid ++ piece ++ drop (length piece) (drop n mid)) (long : length piece ≡ size) (room : n + size ≤ length mid) where
-  both : List ℕ
-  both = take n mid ++ piece
-
-  both_long : length both ≡ n + size
+  both_long : length (take n mid ++ piece) ≡ n + size
   both_long = omega (arith, length-append (take n mid) piece, length-take n mid, long, room)
 
   behind : drop (length piece) (drop n mid) ≡ drop (n + size) mid
   behind = drop-drop (length piece) n mid ∙ ap (λ (k : ℕ). drop (n + k) mid) long
 
-  split : new ≡ both ++ drop (n + size) mid
-  split = is ∙ ap (λ (b : List ℕ). take n mid ++ piece ++ b) behind ∙ sym (append_assoc (take n mid) piece (drop (n + size) mid))
+  split : new ≡ (take n mid ++ piece) ++ drop (n + size) mid
+  split = is ∙ ap (λ (b : List ℕ). (take n mid ++ piece) ++ b) behind
 
   pub tagged_front : take (n + size) new ≡ take n mid ++ piece
-  tagged_front = ap (take (n + size)) split ∙ front_is both mid (n + size) both_long
+  tagged_front = ap (take (n + size)) split ∙ front_is (take n mid ++ piece) mid (n + size) both_long
 
   pub tagged_rest : (old : List ℕ) → drop n mid ≡ drop n old → drop (n + size) new ≡ drop (n + size) old
   tagged_rest old e =
-      ap (drop (n + size)) split ∙ rest_is both mid (n + size) both_long
-      ∙ sym (ap (λ (k : ℕ). drop (n + k) mid) long) ∙ sym (drop-drop (length piece) n mid) ∙ ap (drop (length piece)) e
+      ap (drop (n + size)) split ∙ rest_is (take n mid ++ piece) mid (n + size) both_long
+      ∙ sym behind ∙ ap (drop (length piece)) e
       ∙ drop-drop (length piece) n old ∙ ap (λ (k : ℕ). drop (n + k) old) long
 
 -- and the value of the request

@@ -5,11 +5,11 @@ use Rattle.perdoaze_calls.proofs.direct.seal_authenc.Goals as goal
 
 pub returns-clause-sealed : goal.returns-clause-sealed
 returns-clause-sealed c =
-    authenc_made c.args.mac.now c.args.mode.now c.args.iv.now c.args.aad.now c.args.text.now c.seal_cbc.new.into c.put_behind.new.into c.mac.result
-    (take c.args.tag_size c.mac.result) c.args.tag_size
-    c.seal_cbc.ensures.sealed c.mac.ensures refl (length-take-le c.args.tag_size c.mac.result (omega arith)) (omega arith) c.put_behind.ensures
+    authenc_made c.args.mac.now c.args.mode.now c.args.iv.now c.args.aad.now c.args.text.now c.seal_cbc.new.into c.put_behind.new.into c.mac-tag.result
+    (take c.args.tag_size c.mac-tag.result) c.args.tag_size
+    c.seal_cbc.ensures.sealed c.mac-tag.ensures refl (length-take-le c.args.tag_size c.mac-tag.result (omega arith)) (omega arith) c.put_behind.ensures
 
 pub returns-clause-rest : goal.returns-clause-rest
 returns-clause-rest c =
-    tagged_rest c.seal_cbc.new.into c.put_behind.new.into (take c.args.tag_size c.mac.result) (length c.args.text.now) c.args.tag_size
-    c.put_behind.ensures (length-take-le c.args.tag_size c.mac.result (omega arith)) (omega arith) c.args.out.now c.seal_cbc.ensures.rest
+    tagged_rest c.seal_cbc.new.into c.put_behind.new.into (take c.args.tag_size c.mac-tag.result) (length c.args.text.now) c.args.tag_size
+    c.put_behind.ensures (length-take-le c.args.tag_size c.mac-tag.result (omega arith)) (omega arith) c.args.out.now c.seal_cbc.ensures.rest
