@@ -23,7 +23,7 @@ use Rattle.dialogues.specs.Walk.{start}
 use Rattle.dialogues.specs.Widths.{width_of, widest}
 use Rattle.kc_base.specs.Streams.{IsPrefix}
 use Rattle.reply_text.specs.Answers.{text_of}
-use Rattle.script_session.specs.Ending.{AnswersEnd, EndsShut}
+use Rattle.script_session.specs.Ending.{AnswersEnd}
 use Rattle.script_session.specs.Running.{IsReady, Replies}
 use Rattle.script_session.specs.States.{State}
 use Rattle.script_text.specs.declared.commands.Line.{Line}
@@ -257,17 +257,17 @@ module _ (laws : Laws) (first : State) where
     led-stops line left s' stop =
         makes-first s' (line_dialogue s.workers s.walk number line) stop (lines_and_next first.workers done (line ∷ left))
         (λ r b begins.
-            let now = subst (λ w. BeginsBy (line_dialogue w s.walk number line) r b) led.goes.locks.workers begins in
-            laws.begins_lines first.workers (start 0) s.walk 1 number (done ++ line ∷ []) (line ∷ []) led.turn Done r b (led.leads (line ∷ [])) settled-turn
-            (laws.begins_first (line_dialogue first.workers s.walk number line) (λ after. lines_dialogue first.workers after (number + 1) [] Done) r b now))
+        let now = subst (λ w. BeginsBy (line_dialogue w s.walk number line) r b) led.goes.locks.workers begins in
+        laws.begins_lines first.workers (start 0) s.walk 1 number (done ++ line ∷ []) (line ∷ []) led.turn Done r b (led.leads (line ∷ [])) settled-turn
+        (laws.begins_first (line_dialogue first.workers s.walk number line) (λ after. lines_dialogue first.workers after (number + 1) [] Done) r b now))
 
     -- or at the end of input
     pub led-end_stops : (s' : State) → StopsIn (end s.walk) s s' → MakesFirstAfter (lines_and_next first.workers done []) (known s'.registry) (known s'.board)
     led-end_stops s' stop =
         makes-first s' (end s.walk) stop (lines_and_next first.workers done [])
         (λ r b begins.
-            laws.begins_lines first.workers (start 0) s.walk 1 number done [] led.turn end r b
-            (subst (λ ls. Leads first.workers (start 0) 1 ls led.turn s.walk number []) (append-nil done) (led.leads [])) settled-turn begins)
+        laws.begins_lines first.workers (start 0) s.walk 1 number done [] led.turn end r b
+        (subst (λ ls. Leads first.workers (start 0) 1 ls led.turn s.walk number []) (append-nil done) (led.leads [])) settled-turn begins)
 
     -- or before either
     pub led-stops_here : (left : List Line) → IsOwn reg_caller k → MakesFirstAfter (lines_and_next first.workers done left) k l

@@ -143,7 +143,7 @@ fn run_line<K: Sink, G: Gate, R: Threads + Wait + Sync>(
     ensures done { MatchResult result
         (λ _. Writes (Replies (width_of line) (line_dialogue session.old.workers session.old.walk number line) session.old session.new []) (K.held out.old) (K.held out.new))
         (λ _. Breaks (line_dialogue session.old.workers session.old.walk number line) session.old session.new
-            (Replies (width_of line) (line_dialogue session.old.workers session.old.walk number line) session.old session.new []) (K.held out.old) (K.held out.new)) }
+        (Replies (width_of line) (line_dialogue session.old.workers session.old.walk number line) session.old session.new []) (K.held out.old) (K.held out.new)) }
     ensures cut { IsErrOf result SinkError.Failed →
         Cuts (Replies (width_of line) (line_dialogue session.old.workers session.old.walk number line) session.old session.new []) (K.held out.old) (K.held out.new) }
     ensures ready { OnOk result (IsReady registry.now board.now session.new) }
