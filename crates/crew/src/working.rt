@@ -128,6 +128,7 @@ fn work_by<'a, W: Work, G: Gate, R: Wait>(
     let (pass, taken, passed, drowsy) = board.take_or_pass_on(rt, pass, look);
     match taken {
         Some(job) => {
+            drop(drowsy);
             let (pass, next) = run_and_take(rt, board, pass, gate, job);
             let (pass, more) = run_on(rt, board, pass, gate, next);
             (pass, true, more, None)
