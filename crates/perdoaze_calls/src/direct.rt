@@ -100,14 +100,7 @@ fn seal_authenc(
 }
 
 /// The same under either.
-fn seal_by(
-    key: StepKey<'_>,
-    iv: &[u8],
-    aad: &[u8],
-    text: &[u8],
-    out: &mut [u8],
-    tag_size: usize,
-)
+fn seal_by(key: StepKey<'_>, iv: &[u8], aad: &[u8], text: &[u8], out: &mut [u8], tag_size: usize)
     requires iv { length iv.now ≡ 16 }
     requires whole { length text.now % 16 ≡ 0 }
     requires tag { tag_size ≤ tag_room key }
@@ -123,13 +116,7 @@ fn seal_by(
 }
 
 /// Whether the text has whole blocks, and IV, associated bytes and tag are taken.
-fn goes_directly(
-    key: StepKey<'_>,
-    iv: &[u8],
-    aad: &[u8],
-    text: &[u8],
-    tag_size: usize,
-) -> bool
+fn goes_directly(key: StepKey<'_>, iv: &[u8], aad: &[u8], text: &[u8], tag_size: usize) -> bool
     ensures { IsTrue result → (length iv.now ≡ 16) × (length text.now % 16 ≡ 0)
         × (takes_associated key.entry (length aad.now) ≡ true) × (tag_size ≤ tag_room key.entry) }
 {
