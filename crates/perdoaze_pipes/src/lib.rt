@@ -7,6 +7,7 @@ pub mod calls;
 mod event;
 mod job;
 mod laws;
+mod loose;
 mod managing;
 mod pipe;
 mod pipe_handle;
@@ -21,7 +22,6 @@ mod task_handle;
 mod task_place;
 mod telling;
 mod ticket;
-mod together;
 mod turn;
 mod working;
 
