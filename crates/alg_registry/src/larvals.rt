@@ -9,8 +9,8 @@ ghost use Rattle.alg_registry.specs.Answers.{is_pending};
 ghost use Rattle.alg_registry.specs.Calls.{is_unclaimed, claimed_number, text_at, claimed_larval, ended_larval};
 ghost use Rattle.alg_registry.specs.Larvals.{entry_of, ends_with_entry, is_seen_end, is_seen, seen_after, joined_as, joined_at, passes_at};
 
-use crate::counting::is_listed_at;
 use crate::entry::{Ended, RegErr};
+use crate::mark_counts::is_listed_at;
 use crate::row::{Larval, Row};
 use crate::rows::is_same;
 use kc_base::Bytes;

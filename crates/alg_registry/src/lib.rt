@@ -3,14 +3,14 @@
 //! Each call appends the one entry to the registry's history that is right for the entries before it.
 #![tactic(auto)]
 
-mod counting;
 mod entry;
 mod history;
 mod ids;
 mod larvals;
 mod laws;
 mod listing;
-mod looking;
+mod look_answers;
+mod mark_counts;
 mod registry;
 mod row;
 mod rows;

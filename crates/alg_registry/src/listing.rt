@@ -5,8 +5,8 @@ ghost use Rattle.std.specs.List.{cons_option, filter_map};
 ghost use Rattle.alg_registry.specs.Calls.{own_refs, refs_answer, shown, listing};
 ghost use Rattle.alg_registry.specs.Held.{made_at, refs_among};
 
-use crate::counting::is_row_held;
 use crate::entry::RefAnswer;
+use crate::mark_counts::is_row_held;
 use crate::row::Row;
 use crate::rows::{Rows, is_same};
 use kc_base::Bytes;

@@ -7,13 +7,13 @@ ghost use Rattle.alg_registry.specs.Answers.{driver_place, look_answer, enlist_a
 ghost use Rattle.alg_registry.specs.Legal.{LegalReg, is_worker, HasReference, claimer, ended_as, MayEnd};
 ghost use Rattle.alg_registry.specs.Calls.{UnlessMemory, OnMemory, UnlessNoMemory, OnNoMemory, MayLack, Judges, IsFailure, enlist_result, end_given, unless_memory, unlist_result, get_result, claimed_number, claimed_answer, claim_entries, waited_entries, listing, refs_answer, refs_result, held_spec, new_row};
 
-use crate::counting::{are_listed, is_listed_at, is_row_held};
 use crate::entry::{Claimed, EndAnswer, Ended, Enlisted, Looked, RefAnswer, RegEntry, RegErr};
 use crate::history::RegLog;
 use crate::ids::Ids;
 use crate::larvals::Larvals;
 use crate::listing::{Listing, listing_of, newest_held};
-use crate::looking::look_up;
+use crate::look_answers::look_up;
+use crate::mark_counts::{are_listed, is_listed_at, is_row_held};
 use crate::row::Row;
 use crate::rows::Rows;
 use crate::spec::{Kind, Spec, Wrap};

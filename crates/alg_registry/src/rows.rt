@@ -10,8 +10,8 @@ ghost use Rattle.alg_registry.specs.Alone.{stands_on_nothing, unlists_alone, put
 ghost use Rattle.alg_registry.specs.Calls.{unlisted_row, taken_row, put_row_of, new_row, listed_row_of};
 ghost use Rattle.alg_registry.specs.Held.{RowTable, held_from, listed_from, is_row_listed, passes, is_listed_driver};
 
-use crate::counting::{add_references, is_listed_at, is_row_held, restand};
 use crate::entry::RegErr;
+use crate::mark_counts::{add_references, is_listed_at, is_row_held, restand};
 use crate::row::Row;
 use crate::spec::Spec;
 use std::alloc::Global;

@@ -8,7 +8,7 @@ use Rattle.board.specs.declared.stage.Stage.TheVariants as stage
 use Rattle.board.specs.Shapes.{is_serial, queue_born, width_born}
 use Rattle.board.specs.Entries.{birth, mask, submitters, has, maker_is, IsMaker, IsMasked, MayTake}
 use Rattle.board.specs.Stages.{is_queue}
-use Rattle.board.specs.Ready.{Admits}
+use Rattle.board.specs.RunQueue.{Admits}
 use Rattle.board.specs.Kept.{shape_of, IsKeptPipe}
 
 -- ---- the shape of a pipeline is that of its stage

@@ -11,7 +11,7 @@ use Rattle.std.proofs.lemmas.List.Quantifiers.{position-Some}
 use Rattle.std.proofs.lemmas.Map.Keys.{any_passes_from_place}
 use Rattle.std.proofs.Math.Seq.{get_or-append_seam}
 use Rattle.indexmap.specs.IndexSet.{insert_key}
-use Rattle.board.specs.Ready.{KeepsPipe}
+use Rattle.board.specs.RunQueue.{KeepsPipe}
 
 -- a place is read in another list of which it is known
 read : (xs ys : List ℕ) (k j p : ℕ) → slice_get xs k ≡ Some p → j < length ys → get_or ys j p ≡ get_or xs k p → slice_get ys j ≡ Some p

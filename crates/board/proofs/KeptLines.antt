@@ -8,7 +8,7 @@ use Rattle.board.specs.declared.stage.Stage.TheVariants as stage
 use Rattle.board.specs.Stages.{is_queue, is_chain, without_room, after_entered, after_passed, ended, with_job, without_first, MayServe, MayPass, IsQuiet, PassesNone}
 use Rattle.board.specs.Pipelines.{with_lists}
 use Rattle.board.specs.Places.{places}
-use Rattle.board.specs.Ready.{ReadyLine, IsMember, HasRequest, IsChain, IsReadyFor, NoneIs, NoneStands, KeepsSuch, IsTold}
+use Rattle.board.specs.RunQueue.{QueueState, IsMember, HasRequest, IsChain, IsReadyFor, NoneIs, NoneStands, KeepsSuch, IsTold}
 use Rattle.board.proofs.Searching.{not_quiet}
 use Rattle.board.proofs.Kept.{Pipes, IsSet}
 use Rattle.board.proofs.KeptPassOn.{not_none}
@@ -132,19 +132,19 @@ passes_chain (stage.Chain x) m = refl
 
 -- ---- the chains' line
 
-module _ {J O : Type 0} (pipes next : Pipes J O) (line : ReadyLine) (p : ℕ) (pipe new : Pipeline J O) (r : IsReadyFor IsChain HasRequest (places pipes) line) (set : IsSet pipes next p pipe new) where
+module _ {J O : Type 0} (pipes next : Pipes J O) (line : QueueState) (p : ℕ) (pipe new : Pipeline J O) (r : IsReadyFor IsChain HasRequest (places pipes) line) (set : IsSet pipes next p pipe new) where
   pub passing_same : is_chain new.stage ≡ is_chain pipe.stage → (HasRequest new → HasRequest pipe) → IsReadyFor IsChain HasRequest (places next) line
   passing_same chain serves = ready_same IsChain HasRequest pipes next line p pipe new r set (λ s. sym chain ∙ s) serves
 
-  pub passing_told : (after : ReadyLine) (is : Bool) → IsTold (IsMember line p) p false is line after → is_chain new.stage ≡ is_chain pipe.stage → (HasRequest new → is ≡ true) → IsReadyFor IsChain HasRequest (places next) after
+  pub passing_told : (after : QueueState) (is : Bool) → IsTold (IsMember line p) p false is line after → is_chain new.stage ≡ is_chain pipe.stage → (HasRequest new → is ≡ true) → IsReadyFor IsChain HasRequest (places next) after
   passing_told after is t chain says =
       ready_told IsChain HasRequest pipes next line after p pipe new false is r set (told_set (IsChain new) p is line after t)
       (λ s. (member_here IsChain HasRequest pipes line p pipe r set.here).0 (sym chain ∙ s)) (λ h. cc) says
 
 -- what a search leaves of it
-pub passing_searched : {J O : Type 0} (pipes : Pipes J O) (line after : ReadyLine) → IsReadyFor IsChain HasRequest (places pipes) line → KeepsSuch HasRequest (places pipes) line after → IsReadyFor IsChain HasRequest (places pipes) after
+pub passing_searched : {J O : Type 0} (pipes : Pipes J O) (line after : QueueState) → IsReadyFor IsChain HasRequest (places pipes) line → KeepsSuch HasRequest (places pipes) line after → IsReadyFor IsChain HasRequest (places pipes) after
 passing_searched pipes line after r k = ready_searched IsChain HasRequest pipes HasRequest line after (λ x m s. m) r k
 
 -- what doesn't stand there passes nothing on
-pub none_passes : {J O : Type 0} (pipes : Pipes J O) (line : ReadyLine) → IsReadyFor IsChain HasRequest (places pipes) line → NoneStands HasRequest (places pipes) line → NoneIs HasRequest (places pipes)
+pub none_passes : {J O : Type 0} (pipes : Pipes J O) (line : QueueState) → IsReadyFor IsChain HasRequest (places pipes) line → NoneStands HasRequest (places pipes) line → NoneIs HasRequest (places pipes)
 none_passes pipes line r none p x at m = none p x at m (r.in_line p x at m (passes_chain x.stage m))

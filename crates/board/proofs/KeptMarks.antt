@@ -11,7 +11,7 @@ use Rattle.board.specs.declared.pipeline.Pipeline.{Pipeline}
 use Rattle.board.specs.declared.stage.Stage.{Stage}
 use Rattle.board.specs.Shapes.{width_born}
 use Rattle.board.specs.Entries.{birth, is_close, is_closed, is_share, is_shared, collected, collected_in, masked_in, mask, submitter_in, submitters, has, last_or, maker_is, IsMaker}
-use Rattle.board.specs.Ready.{IsNoQueue}
+use Rattle.board.specs.RunQueue.{IsNoQueue}
 use Rattle.board.specs.Kept.{IsKeptStage, IsKeptPipe, HasLists, lists_in, shape_of}
 use Rattle.board.proofs.Lists.{filter_map-none, filter_map-some, last_or-append, has-more}
 use Rattle.board.proofs.Keeping.{birth_stays}

@@ -15,7 +15,7 @@ use Rattle.board.specs.Entries.{entries_of, birth, submissions, dequeued, waitin
 use Rattle.board.specs.Legal.{IsRightFor, Is}
 use Rattle.board.specs.Places.{Places, places}
 use Rattle.board.specs.Kept.{shape_of, IsKeptStage, IsKeptPipe, IsKeptBoard, work_owed, owed_by}
-use Rattle.board.specs.Ready.{HasRequest, NoneIs}
+use Rattle.board.specs.RunQueue.{HasRequest, NoneIs}
 use Rattle.board.proofs.KeptRequests.{few_submissions}
 use Rattle.board.proofs.Kept.{Pipes, IsSet, place_step}
 use Rattle.board.proofs.Transfer.{each_right}

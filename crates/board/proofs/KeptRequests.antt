@@ -26,7 +26,7 @@ use Rattle.board.specs.Entries.{Notice, is_of, entries_of, birth, accepted_in, s
 use Rattle.board.specs.Legal.{IsRight, MaySubmit, IsOpenPad, IsOpenQueue}
 use Rattle.board.specs.Allowance.{used_at, IsKeptUsed}
 use Rattle.board.specs.Places.{places}
-use Rattle.board.specs.Ready.{IsNoQueue}
+use Rattle.board.specs.RunQueue.{IsNoQueue}
 use Rattle.board.specs.Kept.{IsKeptLine, IsKeptStage, IsKeptPipe, IsKeptBoard, shape_of, work_owed, owed_by}
 use Rattle.board.proofs.Lists.{filter_map-none}
 use Rattle.board.proofs.Keeping.{IsOrderly, orderly, passed-le}

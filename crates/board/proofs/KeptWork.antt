@@ -23,7 +23,7 @@ use Rattle.board.specs.Entries.{is_of, entries_of, birth_in, birth, accepted_in,
 use Rattle.board.specs.Legal.{IsRight, IsRightFor, MayFinish, LegalBoard, is_shut_entry}
 use Rattle.board.specs.Places.{Places, places}
 use Rattle.board.specs.Kept.{shape_of, IsKeptPad, IsKeptStage, IsKeptPipe, IsKeptBoard, work_owed, owed_by}
-use Rattle.board.specs.Ready.{HasJob, Admits, NoneIs}
+use Rattle.board.specs.RunQueue.{HasJob, Admits, NoneIs}
 use Rattle.board.proofs.Lists.{filter_map-none, filter_map-some, has_only_below}
 use Rattle.board.proofs.Transfer.{entries-more, each_right}
 use Rattle.board.proofs.Keeping.{birth_stays, AreNumbered, passed-le, orderly}

@@ -8,16 +8,16 @@ use Rattle.std.specs.declared.collections.BTreeMap.{BTreeMap}
 use Rattle.std.specs.Global.{Global}
 use Rattle.std.proofs.lemmas.Bool.{cases_eq}
 use Rattle.std.proofs.lemmas.Option.{slice_get_read}
-use Rattle.board.specs.declared.lines.OwnLine.{OwnLine}
-use Rattle.board.specs.Ready.{ReadyLine, no_pipelines}
-use Rattle.board.specs.Lines.{OwnLines, line_in, line_or, line_of}
+use Rattle.board.specs.declared.run_queues.CallerQueue.{CallerQueue}
+use Rattle.board.specs.RunQueue.{QueueState, no_pipelines}
+use Rattle.board.specs.RunQueues.{CallerQueues, queue_in, line_or, queue_for}
 use Rattle.board.proofs.Kept.{at_other}
 
 -- the caller's line was this and is that, and the others are as they were
-pub record IsLineSet (caller : ℕ) (own after : OwnLines) (line new : ReadyLine) : Type 0 where
-  pub here : line_of caller own ≡ line
-  pub there : line_of caller after ≡ new
-  pub others : (c : ℕ) → c ≢ caller → line_of c after ≡ line_of c own
+pub record IsLineSet (caller : ℕ) (own after : CallerQueues) (line new : QueueState) : Type 0 where
+  pub here : queue_for caller own ≡ line
+  pub there : queue_for caller after ≡ new
+  pub others : (c : ℕ) → c ≢ caller → queue_for c after ≡ queue_for c own
 
 -- ---- of the first callers
 
@@ -33,15 +33,15 @@ set_other (x ∷ xs) zero (suc j) new n = refl
 set_other (x ∷ xs) (suc i) zero new n = refl
 set_other (x ∷ xs) (suc i) (suc j) new n = set_other xs i j new (λ e. n (ap suc e))
 
-pub first_written : (own : OwnLines) (caller : ℕ) (o new : OwnLine) → caller < length own.first → o ≡ get_or own.first caller o → IsLineSet caller own (record own { first = slice_set own.first caller new }) o.line new.line
+pub first_written : (own : CallerQueues) (caller : ℕ) (o new : CallerQueue) → caller < length own.first → o ≡ get_or own.first caller o → IsLineSet caller own (record own { first = slice_set own.first caller new }) o.line new.line
 first_written own caller o new within is = record {
   here = ap (λ x. line_or x (other caller)) (slice_get_read own.first (length own.first) caller o refl within is);
   there = ap (λ x. line_or x (other caller)) (set_here own.first caller new within);
   others = λ c n. ap (λ x. line_or x (other c)) (set_other own.first caller c new n);
 }
   where
-    other : ℕ → ReadyLine
-    other c = line_in (lookup (is_at (nat_cmp c)) own.others)
+    other : ℕ → QueueState
+    other c = queue_in (lookup (is_at (nat_cmp c)) own.others)
 
 -- ---- of the others
 
@@ -51,48 +51,48 @@ none_at (x ∷ xs) zero g = absurd (omega arith)
 none_at (x ∷ xs) (suc i) g = none_at xs i (omega arith)
 
 -- a caller that is none of the first
-pub other_line : (first : List OwnLine) (others : List (ℕ × OwnLine)) (caller : ℕ) (line : Option OwnLine) → length first ≤ caller → lookup (is_at (nat_cmp caller)) others ≡ line → line_of caller (record { first = first; others = others }) ≡ line_in line
-other_line first others caller line g is = ap (λ x. line_or x (line_in (lookup (is_at (nat_cmp caller)) others))) (none_at first caller g) ∙ ap line_in is
+pub other_line : (first : List CallerQueue) (others : List (ℕ × CallerQueue)) (caller : ℕ) (line : Option CallerQueue) → length first ≤ caller → lookup (is_at (nat_cmp caller)) others ≡ line → queue_for caller (record { first = first; others = others }) ≡ queue_in line
+other_line first others caller line g is = ap (λ x. line_or x (queue_in (lookup (is_at (nat_cmp caller)) others))) (none_at first caller g) ∙ ap queue_in is
 
-module _ (first : List OwnLine) (own after : BTreeMap ℕ OwnLine Global) (caller : ℕ) (g : length first ≤ caller) where
+module _ (first : List CallerQueue) (own after : BTreeMap ℕ CallerQueue Global) (caller : ℕ) (g : length first ≤ caller) where
   -- after a loan of it
-  pub line_written : (o new : OwnLine) → get nat_cmp own caller ≡ Some o → WritesThrough nat_cmp (nat_cmp caller) own new after → IsLineSet caller (record { first = first; others = own.entries }) (record { first = first; others = after.entries }) o.line new.line
+  pub line_written : (o new : CallerQueue) → get nat_cmp own caller ≡ Some o → WritesThrough nat_cmp (nat_cmp caller) own new after → IsLineSet caller (record { first = first; others = own.entries }) (record { first = first; others = after.entries }) o.line new.line
   line_written o new here w =
       let u = w.3 (subst IsSome (sym here) refl) in
       record {
         here = other_line first own.entries caller (Some o) g here;
         there = other_line first after.entries caller (Some new) g u.1;
-        others = λ c n. ap (λ x. line_or (slice_get first c) (line_in x)) (u.2 c (at_other caller c n));
+        others = λ c n. ap (λ x. line_or (slice_get first c) (queue_in x)) (u.2 c (at_other caller c n));
       }
 
   -- where the caller had none
-  pub line_given : (start : BTreeMap ℕ OwnLine Global) → start ≡ own → (new : OwnLine) → get nat_cmp own caller ≡ None → Updates nat_cmp start after caller (Some new) → IsLineSet caller (record { first = first; others = own.entries }) (record { first = first; others = after.entries }) no_pipelines new.line
+  pub line_given : (start : BTreeMap ℕ CallerQueue Global) → start ≡ own → (new : CallerQueue) → get nat_cmp own caller ≡ None → Updates nat_cmp start after caller (Some new) → IsLineSet caller (record { first = first; others = own.entries }) (record { first = first; others = after.entries }) no_pipelines new.line
   line_given start e new none u = record {
     here = other_line first own.entries caller None g none;
     there = other_line first after.entries caller (Some new) g u.1;
-    others = λ c n. ap (λ x. line_or (slice_get first c) (line_in x)) (u.2 c (at_other caller c n) ∙ ap (λ (m : BTreeMap ℕ OwnLine Global). get nat_cmp m c) e);
+    others = λ c n. ap (λ x. line_or (slice_get first c) (queue_in x)) (u.2 c (at_other caller c n) ∙ ap (λ (m : BTreeMap ℕ CallerQueue Global). get nat_cmp m c) e);
   }
 
   -- or has none any more
-  pub line_gone : Updates nat_cmp own after caller None → IsLineSet caller (record { first = first; others = own.entries }) (record { first = first; others = after.entries }) (line_of caller (record { first = first; others = own.entries })) no_pipelines
+  pub line_gone : Updates nat_cmp own after caller None → IsLineSet caller (record { first = first; others = own.entries }) (record { first = first; others = after.entries }) (queue_for caller (record { first = first; others = own.entries })) no_pipelines
   line_gone u = record {
     here = refl;
     there = other_line first after.entries caller None g u.1;
-    others = λ c n. ap (λ x. line_or (slice_get first c) (line_in x)) (u.2 c (at_other caller c n));
+    others = λ c n. ap (λ x. line_or (slice_get first c) (queue_in x)) (u.2 c (at_other caller c n));
   }
 
 -- ---- all lines
 
 abbrev pub Made : Type 1
-Made = ℕ → ReadyLine → ReadyLine → Type 0
+Made = ℕ → QueueState → QueueState → Type 0
 
 -- what is so of that line, and of each that stays as it was, is so of all
-pub set_made : (made : Made) (own after : OwnLines) (caller : ℕ) (line new : ReadyLine) → IsLineSet caller own after line new → ((c : ℕ) → c ≢ caller → (l : ReadyLine) → made c l l) → made caller line new → (c : ℕ) → made c (line_of c own) (line_of c after)
+pub set_made : (made : Made) (own after : CallerQueues) (caller : ℕ) (line new : QueueState) → IsLineSet caller own after line new → ((c : ℕ) → c ≢ caller → (l : QueueState) → made c l l) → made caller line new → (c : ℕ) → made c (queue_for c own) (queue_for c after)
 set_made made own after caller line new s same so c = cases (cases_eq c caller)
   where
-    here : made caller (line_of caller own) (line_of caller after)
-    here = subst (λ l. made caller (line_of caller own) l) (sym s.there) (subst (λ l. made caller l new) (sym s.here) so)
+    here : made caller (queue_for caller own) (queue_for caller after)
+    here = subst (λ l. made caller (queue_for caller own) l) (sym s.there) (subst (λ l. made caller l new) (sym s.here) so)
 
-    cases : (c ≡ caller) ⊎ (c ≡ caller → ⊥) → made c (line_of c own) (line_of c after)
-    cases (inl e) = subst (λ n. made n (line_of n own) (line_of n after)) (sym e) here
-    cases (inr n) = subst (λ l. made c (line_of c own) l) (sym (s.others c n)) (same c n (line_of c own))
+    cases : (c ≡ caller) ⊎ (c ≡ caller → ⊥) → made c (queue_for c own) (queue_for c after)
+    cases (inl e) = subst (λ n. made n (queue_for n own) (queue_for n after)) (sym e) here
+    cases (inr n) = subst (λ l. made c (queue_for c own) l) (sym (s.others c n)) (same c n (queue_for c own))

@@ -10,9 +10,9 @@ pub mod Pipelines
 pub mod Births
 pub mod Allowance
 pub mod Slips
-pub mod Ready
+pub mod RunQueue
 pub mod Requests
-pub mod Lines
+pub mod RunQueues
 pub mod Staying
 pub mod Handing
 pub mod Others

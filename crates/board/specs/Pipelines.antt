@@ -8,7 +8,7 @@ use Rattle.board.specs.declared.stage.Stage.{Stage}
 use Rattle.board.specs.declared.stage.Stage.TheVariants as stage
 use Rattle.board.specs.Entries.{has}
 use Rattle.board.specs.Stages.{without_room}
-use Rattle.board.specs.Ready.{IsNoQueue}
+use Rattle.board.specs.RunQueue.{IsNoQueue}
 
 -- all but the room that is kept for more requests is the same
 pub record IsSame {J O : Type 0} (old new : Pipeline J O) : Type 0 where

@@ -2,15 +2,15 @@
 use Rattle.std.specs.Prelude.{ℕ, Bool, false, MatchBool}
 use Rattle.board.specs.declared.pipeline.Pipeline.{Pipeline}
 use Rattle.board.specs.Stages.{MayServe, IsQuiet, MayPass, PassesNone}
-use Rattle.board.specs.Ready.{ReadyLine, IsMember, IsTold}
-use Rattle.board.specs.Lines.{LinesOf, AreTold}
+use Rattle.board.specs.RunQueue.{QueueState, IsMember, IsTold}
+use Rattle.board.specs.RunQueues.{QueuesState, AreTold}
 
 -- the lines are told whether it has a job now
-abbrev pub LearnOfJobs : {J O : Type 0} → ℕ → Pipeline J O → Bool → LinesOf → LinesOf → Type 0
+abbrev pub LearnOfJobs : {J O : Type 0} → ℕ → Pipeline J O → Bool → QueuesState → QueuesState → Type 0
 LearnOfJobs pipe place was lines after =
     (is : Bool) × MatchBool is (MayServe place.stage) (IsQuiet place.stage) × AreTold pipe place was is lines after
 
 -- the chains' line is told whether a request of it may be passed on now
-abbrev pub LearnsOfRequests : {J O : Type 0} → ℕ → Pipeline J O → ReadyLine → ReadyLine → Type 0
+abbrev pub LearnsOfRequests : {J O : Type 0} → ℕ → Pipeline J O → QueueState → QueueState → Type 0
 LearnsOfRequests pipe place line after =
     (is : Bool) × MatchBool is (MayPass place.stage) (PassesNone place.stage) × IsTold (IsMember line pipe) pipe false is line after

@@ -9,10 +9,10 @@ ghost use Rattle.board.specs.Legal.{IsNoWorker, MayManage, IsOpen, pipelines, is
 
 use crate::allowance::Used;
 use crate::entry::BoardEntry;
-use crate::lines::JobLines;
 use crate::log::{BoardLog, reserve_entries};
 use crate::pipeline::Pipeline;
-use crate::ready::Ready;
+use crate::run_queue::RunQueue;
+use crate::run_queues::RunQueues;
 use crate::work::Work;
 use std::alloc::{AllocError, Global};
 use std::collections::BTreeMap;
@@ -52,9 +52,9 @@ pub struct BoardCore<W: Work> {
     /// How many pipelines were made, and the number of the next.
     pub(crate) born: u64,
     /// In the lines of those that may take from a pipeline it stands while it has a job.
-    pub(crate) ready: JobLines,
+    pub(crate) ready: RunQueues,
     /// In line stands each chain of which a request may be passed on.
-    pub(crate) passing: Ready,
+    pub(crate) passing: RunQueue,
     /// For how many entries room is kept in `log`, since they may not be refused for want of memory.
     pub(crate) owed: usize,
     shut: bool,
@@ -73,8 +73,8 @@ impl<W: Work> Model for BoardCore<W> {
     ghost use Rattle.board.specs.Places.{places};
     ghost use Rattle.board.specs.Kept.{IsKeptBoard, owed_by};
     ghost use Rattle.board.specs.Allowance.{IsKeptUsed};
-    ghost use Rattle.board.specs.Ready.{IsChain, HasRequest, IsReadyFor};
-    ghost use Rattle.board.specs.Lines.{AreReady};
+    ghost use Rattle.board.specs.RunQueue.{IsChain, HasRequest, IsReadyFor};
+    ghost use Rattle.board.specs.RunQueues.{AreReady};
 
     ghost view = { λ b. b.log.items };
 
@@ -98,14 +98,14 @@ impl<W: Work> BoardCore<W> {
     {
         let mut log = Vec::new(alloc);
         log.reserve(1)?;
-        let ready = JobLines::new(alloc)?;
+        let ready = RunQueues::new(alloc)?;
         Ok(BoardCore {
             alloc,
             log,
             pipes: BTreeMap::new(alloc),
             born: 0,
             ready,
-            passing: Ready::new(alloc),
+            passing: RunQueue::new(alloc),
             owed: 1,
             shut: false,
             used: BTreeMap::new(alloc),

@@ -2,7 +2,7 @@
 
 ghost use Rattle.std.specs.Prelude.{◌≡◌, MatchBool};
 ghost use Rattle.board.specs.Entries.{has};
-ghost use Rattle.board.specs.Ready.{Admits, HasJobFor};
+ghost use Rattle.board.specs.RunQueue.{Admits, HasJobFor};
 
 use crate::mask::is_masked;
 use crate::stage::Stage;

@@ -82,7 +82,7 @@ impl<W: Work> BoardCore<W> {
         let has_job = place.stage.may_serve();
         let may_pass = place.stage.may_pass();
         self.log.push_reserved(BoardEntry::Hold { caller, pipe });
-        self.ready.tell(pipe, place, had_job, has_job);
+        self.ready.set_ready(pipe, place, had_job, has_job);
         self.passing.set(pipe, may_pass);
         Ok(())
     }
@@ -103,7 +103,7 @@ impl<W: Work> BoardCore<W> {
         let has_job = place.stage.may_serve();
         let may_pass = place.stage.may_pass();
         self.log.push_reserved(BoardEntry::Go { caller, pipe });
-        self.ready.tell(pipe, place, had_job, has_job);
+        self.ready.set_ready(pipe, place, had_job, has_job);
         self.passing.set(pipe, may_pass);
         Ok(())
     }

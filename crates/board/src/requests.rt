@@ -3,23 +3,23 @@
 ghost use Rattle.std.specs.Prelude.{◌≡◌, ℕ, ◌<◌, ◌==◌, if◌then◌else◌, OnOk, OnErr};
 ghost use Rattle.std.specs.Vec.{vec_len, vec_capacity};
 ghost use Rattle.board.specs.Allowance.{used_at};
-ghost use Rattle.board.specs.Lines.{line_of, IsMade};
+ghost use Rattle.board.specs.RunQueues.{queue_for, IsMade};
 ghost use Rattle.board.specs.Pipelines.{IsSame};
-ghost use Rattle.board.specs.Ready.{IsMember, IsInLine, HasJob, IsNoQueue, Keeps};
+ghost use Rattle.board.specs.RunQueue.{IsMember, IsQueued, HasJob, IsNoQueue, Keeps};
 ghost use Rattle.board.specs.Requests.{LearnOfJobs, LearnsOfRequests};
 ghost use Rattle.board.specs.Stages.{HasRoom, IsPlaced};
 
 use crate::allowance::{Used, spend};
-use crate::lines::JobLines;
 use crate::pipeline::Pipeline;
-use crate::ready::Ready;
+use crate::run_queue::RunQueue;
+use crate::run_queues::RunQueues;
 use std::alloc::AllocError;
 use std::collections::BTreeMap;
 
 /// Makes room for one more request of the caller, who may take from the pipeline from now on. Where the request is accepted,
 /// it notes what the caller has used with it. Want of memory changes nothing that is seen.
 pub(crate) fn make_room<J: Drop, F: Drop>(
-    ready: &mut JobLines,
+    ready: &mut RunQueues,
     used: &mut BTreeMap<u32, Used>,
     place: &mut Pipeline<J, F>,
     caller: u32,
@@ -32,8 +32,8 @@ pub(crate) fn make_room<J: Drop, F: Drop>(
     ensures placed { IsPlaced place.old.stage → IsPlaced place.new.stage }
     ensures room { OnOk result (HasRoom place.new.stage) }
     ensures notes { OnOk result (vec_len place.new.submitters < vec_capacity place.new.submitters) }
-    ensures joined { OnOk result (IsNoQueue place.old → IsMember (line_of caller ready.new.own) pipe) }
-    ensures in_line { OnOk result (IsNoQueue place.old → HasJob place.old → IsInLine (line_of caller ready.new.own) pipe) }
+    ensures joined { OnOk result (IsNoQueue place.old → IsMember (queue_for caller ready.new.own) pipe) }
+    ensures in_line { OnOk result (IsNoQueue place.old → HasJob place.old → IsQueued (queue_for caller ready.new.own) pipe) }
     ensures spent { OnOk result ((c : ℕ) →
         used_at used.new c ≡ (if accepted then (if c == caller then more else used_at used.old c) else used_at used.old c)) }
     ensures unspent { OnErr result ((c : ℕ) → used_at used.new c ≡ used_at used.old c) }
@@ -46,8 +46,8 @@ pub(crate) fn make_room<J: Drop, F: Drop>(
 /// Tells the lines in which a pipeline may stand what may be done with it now, where it had a job before or not. No memory
 /// is taken.
 pub(crate) fn tell_lines<J: Drop, F: Drop>(
-    ready: &mut JobLines,
-    passing: &mut Ready,
+    ready: &mut RunQueues,
+    passing: &mut RunQueue,
     pipe: u64,
     place: &Pipeline<J, F>,
     had_job: bool,
@@ -55,6 +55,6 @@ pub(crate) fn tell_lines<J: Drop, F: Drop>(
     ensures ready { LearnOfJobs pipe place.now had_job ready.old ready.new }
     ensures passing { LearnsOfRequests pipe place.now passing.old passing.new }
 {
-    ready.tell(pipe, place, had_job, place.stage.may_serve());
+    ready.set_ready(pipe, place, had_job, place.stage.may_serve());
     passing.set(pipe, place.stage.may_pass());
 }

@@ -61,7 +61,7 @@ impl<W: Work> BoardCore<W> {
             ask,
         });
         self.owed += 2;
-        self.ready.tell(pipe, place, had_job, true);
+        self.ready.set_ready(pipe, place, had_job, true);
         Ok(number)
     }
 

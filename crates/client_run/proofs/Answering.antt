@@ -6,20 +6,20 @@ use Rattle.std.proofs.lemmas.List.Folds.{list_any-append}
 use Rattle.dialogues.specs.Dialogues.{Ends}
 use Rattle.dialogues.specs.Leading.{Leads}
 use Rattle.dialogues.specs.Lines.{line_dialogue, lines_dialogue}
-use Rattle.dialogues.specs.Turns.{Turn, IsTurn, ended, joined, text_in, turn_of}
+use Rattle.dialogues.specs.Transcripts.{Transcript, IsTranscript, ended, joined, text_in, transcript_of}
 use Rattle.dialogues.specs.Widths.{width_of, widest}
 use Rattle.script_run.specs.Text.{is_malformed}
-use Rattle.script_session.specs.Holding.{Stops}
+use Rattle.script_session.specs.Performing.{Stops}
 use Rattle.script_session.specs.Running.{IsReady, Replies}
 use Rattle.script_session.specs.States.{State, SameLocks}
 use Rattle.script_text.specs.Lines.{lines_of}
 use Rattle.script_text.specs.Script.{line_of, script_of}
 use Rattle.script_text.specs.declared.commands.Line.{Line}
-use Rattle.session_calls.specs.Asking.{AskedBy, IsCaller}
-use Rattle.session_calls.specs.Passes.{known}
-use Rattle.session_calls.specs.Pipelines.{Called}
+use Rattle.recorded_calls.specs.Asking.{AskedBy, IsCaller}
+use Rattle.recorded_calls.specs.Passes.{known}
+use Rattle.recorded_calls.specs.Pipelines.{Called}
 use Rattle.shared_board.specs.declared.shared.SharedBoard.{SharedBoard}
-use Rattle.shared_registry.specs.declared.sharing.SharedRegistry.{SharedRegistry}
+use Rattle.shared_registry.specs.declared.registry_lock.SharedRegistry.{SharedRegistry}
 use Rattle.transforms.specs.declared.ask.Ask.{Ask}
 use Rattle.transforms.specs.declared.request.Finished.{Finished}
 use Rattle.client_run.specs.Laws.{Laws}
@@ -28,8 +28,8 @@ use Rattle.client_run.proofs.Turns.{texts-joined, asked-none, asked-then, asked-
 
 -- What a script has done since its session was this one: the turn of these lines, whatever comes after them.
 pub record Led (first : State) (text : List ℕ) (done : List Line) (number : ℕ) (s : State) (text' : List ℕ) : Type 0 where
-  pub turn : Turn
-  pub leads : (left : List Line) → Leads first.workers first.walk 1 (done ++ left) turn s.walk number left
+  pub turn : Transcript
+  pub leads : (left : List Line) → Leads first.workers first.script_state 1 (done ++ left) turn s.script_state number left
   pub locks : SameLocks first s
   pub asked : AskedBy (widest done) (known first.registry) (known s.registry) turn.registry
   pub called : Called (known first.board) (known s.board) turn.board
@@ -38,8 +38,8 @@ pub record Led (first : State) (text : List ℕ) (done : List Line) (number : �
 module _ (laws : Laws) (first : State) (caller : IsCaller (known first.registry)) (text : List ℕ) where
   pub led-begins : Led first text [] 1 first text
   led-begins = record {
-    turn = ended first.walk;
-    leads = λ left. laws.nowhere first.workers first.walk 1 left;
+    turn = ended first.script_state;
+    leads = λ left. laws.nowhere first.workers first.script_state 1 left;
     locks = locks-same first;
     asked = asked-none laws (known first.registry) caller;
     called = called-none (known first.board);
@@ -47,16 +47,16 @@ module _ (laws : Laws) (first : State) (caller : IsCaller (known first.registry)
   }
 
   module _ (done : List Line) (number : ℕ) (s : State) (text' : List ℕ) (led : Led first text done number s text') where
-    pub led-more : (line : Line) (s' : State) (text'' : List ℕ) → Replies (width_of line) (line_dialogue s.workers s.walk number line) s s' text' text'' → Led first text (done ++ line ∷ []) (number + 1) s' text''
+    pub led-more : (line : Line) (s' : State) (text'' : List ℕ) → Replies (width_of line) (line_dialogue s.workers s.script_state number line) s s' text' text'' → Led first text (done ++ line ∷ []) (number + 1) s' text''
     led-more line s' text'' r =
         let t = led.turn in
         let u = r.turn in
-        let is = subst (λ w. IsTurn (line_dialogue w s.walk number line) u) led.locks.workers r.is in
-        let leads : (left : List Line) → Leads first.workers first.walk 1 ((done ++ line ∷ []) ++ left) t s.walk number (line ∷ left) =
-        λ left. subst (λ ls. Leads first.workers first.walk 1 ls t s.walk number (line ∷ left)) (sym (append_assoc done (line ∷ []) left)) (led.leads (line ∷ left)) in
+        let is = subst (λ w. IsTranscript (line_dialogue w s.script_state number line) u) led.locks.workers r.is in
+        let leads : (left : List Line) → Leads first.workers first.script_state 1 ((done ++ line ∷ []) ++ left) t s.script_state number (line ∷ left) =
+        λ left. subst (λ ls. Leads first.workers first.script_state 1 ls t s.script_state number (line ∷ left)) (sym (append_assoc done (line ∷ []) left)) (led.leads (line ∷ left)) in
         record {
           turn = joined t u;
-          leads = λ left. laws.on first.workers first.walk s.walk s'.walk 1 number ((done ++ line ∷ []) ++ left) left line t u (leads left) is r.ends;
+          leads = λ left. laws.on first.workers first.script_state s.script_state s'.script_state 1 number ((done ++ line ∷ []) ++ left) left line t u (leads left) is r.ends;
           locks = locks-then first s s' led.locks r.locks;
           asked =
               asked-then laws (widest done) (width_of line) (widest (done ++ line ∷ [])) (known first.registry) (known s.registry) (known s'.registry) t.registry u.registry
@@ -69,16 +69,16 @@ module _ (laws : Laws) (first : State) (caller : IsCaller (known first.registry)
         }
 
     -- with no line left it is the turn of the lines
-    pub led-ends : (lines : List Line) → lines ≡ done → Replies (widest lines) (lines_dialogue first.workers first.walk 1 lines Ends) first s text text'
+    pub led-ends : (lines : List Line) → lines ≡ done → Replies (widest lines) (lines_dialogue first.workers first.script_state 1 lines Ends) first s text text'
     led-ends lines all =
         let t = led.turn in
-        let e = ended s.walk in
-        subst (λ ls. Replies (widest ls) (lines_dialogue first.workers first.walk 1 ls Ends) first s text text') (sym all)
+        let e = ended s.script_state in
+        subst (λ ls. Replies (widest ls) (lines_dialogue first.workers first.script_state 1 ls Ends) first s text text') (sym all)
         (record {
           locks = led.locks;
           turn = joined t e;
           is =
-              ap (λ ls. turn_of (lines_dialogue first.workers first.walk 1 ls Ends) (t.registry ++ []) (t.board ++ [])) (sym (append-nil done))
+              ap (λ ls. transcript_of (lines_dialogue first.workers first.script_state 1 ls Ends) (t.registry ++ []) (t.board ++ [])) (sym (append-nil done))
               ∙ led.leads [] Ends [] [];
           asked = subst (AskedBy (widest done) (known first.registry) (known s.registry)) (sym (append-nil t.registry)) led.asked;
           called = subst (Called (known first.board) (known s.board)) (sym (append-nil t.board)) led.called;
@@ -148,7 +148,7 @@ module _ {W : Type 0} (laws : Laws) (registry : SharedRegistry) (board : SharedB
         }
 
     pub answering-more : (line behind : List ℕ) (said : Line) → lines_of rest ≡ line ∷ lines_of behind → (0 < length line) × (rest ≡ line ++ behind) → said ≡ line_of line
-        → (bad : Bool) → bad ≡ is_malformed said → (s' : State) (text'' : List ℕ) → Replies (width_of said) (line_dialogue s.workers s.walk number said) s s' text' text'' → IsReady registry board s'
+        → (bad : Bool) → bad ≡ is_malformed said → (s' : State) (text'' : List ℕ) → Replies (width_of said) (line_dialogue s.workers s.script_state number said) s s' text' text'' → IsReady registry board s'
         → At behind (number + 1) (malformed || bad) s' text''
     answering-more line behind said next cut said_is bad bad_is s' text'' replies ready = record {
       done = at.done ++ said ∷ [];
@@ -173,7 +173,7 @@ module _ {W : Type 0} (laws : Laws) (registry : SharedRegistry) (board : SharedB
     all-lines : rest ≡ [] → script_of part ≡ at.done
     all-lines none = at.lines ∙ (ap (λ xs. at.done ++ script_of xs) none ∙ append-nil at.done)
 
-    pub answering-ends : rest ≡ [] → Replies (widest (script_of part)) (lines_dialogue first.workers first.walk 1 (script_of part) Ends) first s text text'
+    pub answering-ends : rest ≡ [] → Replies (widest (script_of part)) (lines_dialogue first.workers first.script_state 1 (script_of part) Ends) first s text text'
     answering-ends none = led-ends laws first begins.stands.caller text at.done number s text' at.led (script_of part) (all-lines none)
 
     pub answering-malformed : rest ≡ [] → malformed ≡ list_any is_malformed (script_of part)

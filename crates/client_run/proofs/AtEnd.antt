@@ -17,7 +17,7 @@ use Rattle.client_texts.specs.Sharing.{AreInOrder, AreOneList, AreCallersBeside,
 use Rattle.crew.specs.declared.passes.Passes.{Passes}
 use Rattle.crew.specs.Peers.{HasEnded, OthersFollow}
 use Rattle.dialogues.specs.Texts.{IsClientText, AreFirstTexts}
-use Rattle.dialogues.specs.Walk.{Live}
+use Rattle.dialogues.specs.ScriptState.{Live}
 use Rattle.reply_text.specs.Answers.{text_of}
 use Rattle.script_run.specs.Endings.{EndsShut, IsShutOnce}
 use Rattle.script_run.specs.Text.{is_malformed}
@@ -28,7 +28,7 @@ use Rattle.transforms.specs.declared.ask.Ask.{Ask}
 use Rattle.turn_lock.specs.Going.{starts_through}
 use Rattle.turn_lock.specs.Passes.{knows}
 use Rattle.turn_lock.specs.Turns.{Known, Each, StartsWith}
-use Rattle.client_run.specs.Beside.{IsHistoryOf, HaveLeft, AnswersParts, AnswersRest, texts_in}
+use Rattle.client_run.specs.WithWorkers.{IsHistoryOf, HaveLeft, AnswersParts, AnswersRest, texts_in}
 use Rattle.client_run.specs.EndLaws.{EndLaws}
 use Rattle.client_run.proofs.Ended.{each-map, each-left, begins, client-alone, first-alone, callers-beside}
 use Rattle.client_run.proofs.FirstText.{first-texts}
@@ -203,17 +203,17 @@ module _ (laws : EndLaws) (workers clients : ℕ) (few : workers ≤ 16) (q : Pa
     met-zero : rest.met.number ≡ 0
     met-zero = ap (λ (x : Known (BoardEntry Ask)). x.number) rest.turn.2 ∙ (left-b.0 ∙ all.board_zero)
 
-    first-are : AreFirstTexts workers first all.opens.walk r b all.opening (flat_map text_of rest.ends.said)
+    first-are : AreFirstTexts workers first all.opens.script_state r b all.opening (flat_map text_of rest.ends.said)
     first-are =
         let o = all.opens in
-        first-texts laws.calls workers first r b or_ ob rest.met kb o.walk all.shared o.turn o.shares rest.ends.calls rest.ends.said all.opening (flat_map text_of rest.ends.said)
+        first-texts laws.calls workers first r b or_ ob rest.met kb o.script_state all.shared o.turn o.shares rest.ends.calls rest.ends.said all.opening (flat_map text_of rest.ends.said)
         o.is o.makes o.lives o.text_is o.registry o.settled all.registry_zero
         (first-alone reg_caller kr r hr laws.registry.first or_ o.own_registry (ap (λ (x : Known RegEntry). x.number) rest.registry ∙ left-r.0) (ap (λ (x : Known RegEntry). x.made) rest.registry ∙ left-r.1) (subst (λ x. StartsWith x.seen or_.seen) (sym rest.registry) left-r.2))
-        o.leads o.board all.board_zero others-met met-zero number-b rest.ends.called.calls_are whole (rest.ends.is o.walk o.lives) refl
+        o.leads o.board all.board_zero others-met met-zero number-b rest.ends.called.calls_are whole (rest.ends.is o.script_state o.lives) refl
 
     pub printed : IsOutputOf workers first (map script_of parts) r b text
     printed = record {
-      made = all.opens.walk;
+      made = all.opens.script_state;
       opening = all.opening;
       texts = texts_in rest.said;
       ending = flat_map text_of rest.ends.said;
@@ -228,7 +228,7 @@ module _ (laws : EndLaws) (workers clients : ℕ) (few : workers ≤ 16) (q : Pa
     -- ---- the one list of each pipeline that is shared
 
     ordered : (p client : ℕ) → client ≤ clients → AreInOrder client 1 (accepted_by (caller_for client) (entries_of p b))
-    ordered p zero le = laws.first_in_order workers first all.opens.walk r b all.opening (flat_map text_of rest.ends.said) p first-are
+    ordered p zero le = laws.first_in_order workers first all.opens.script_state r b all.opening (flat_map text_of rest.ends.said) p first-are
     ordered p (suc client) le =
         let one = one-text workers 1 (suc client) all.shared (map script_of parts) r b (texts_in rest.said) said-all.texts (omega arith) (let e = length-of-map script_of parts in omega arith) in
         let same : 16 + suc client ≡ 17 + client = omega arith in

@@ -19,20 +19,20 @@ use Rattle.dialogues.specs.Lines.{lines_dialogue, script_beside}
 use Rattle.dialogues.specs.Piping.{end_beside}
 use Rattle.dialogues.specs.RegistryCalls.{reg_calls}
 use Rattle.dialogues.specs.Texts.{IsTextOf, IsClientText, turn_by}
-use Rattle.dialogues.specs.Turns.{Turn, IsTurn, joined, text_in, turn_of}
-use Rattle.dialogues.specs.Walk.{Live, Pipe, start_beside}
+use Rattle.dialogues.specs.Transcripts.{Transcript, IsTranscript, joined, text_in, transcript_of}
+use Rattle.dialogues.specs.ScriptState.{Live, PipelineState, start_beside}
 use Rattle.dialogues.specs.Widths.{widest}
 use Rattle.script_run.specs.Text.{is_malformed}
-use Rattle.script_session.specs.Ending.{AnswersEndBeside, EndsPaid}
-use Rattle.script_session.specs.Holding.{Stops}
+use Rattle.script_session.specs.Ending.{AnswersEndBeside, EndsDelivered}
+use Rattle.script_session.specs.Performing.{Stops}
 use Rattle.script_session.specs.Running.{IsReady, Replies}
 use Rattle.script_session.specs.States.{State, HasShared}
 use Rattle.script_text.specs.declared.commands.Line.{Line}
-use Rattle.session_calls.specs.Asking.{IsCaller}
-use Rattle.session_calls.specs.Passes.{known}
-use Rattle.session_calls.specs.Sharing.{SharedStaysKnown}
+use Rattle.recorded_calls.specs.Asking.{IsCaller}
+use Rattle.recorded_calls.specs.Passes.{known}
+use Rattle.recorded_calls.specs.Sharing.{SharedStaysKnown}
 use Rattle.shared_board.specs.declared.shared.SharedBoard.{SharedBoard}
-use Rattle.shared_registry.specs.declared.sharing.SharedRegistry.{SharedRegistry}
+use Rattle.shared_registry.specs.declared.registry_lock.SharedRegistry.{SharedRegistry}
 use Rattle.transforms.specs.declared.ask.Ask.{Ask}
 use Rattle.transforms.specs.declared.request.Finished.{Finished}
 use Rattle.turn_lock.specs.Meeting.{AtTurn, Leaves, IsOwn}
@@ -60,14 +60,14 @@ met-none by k l met none = met.own ∙ (met.made ∙ none)
 
 -- ---- a client begins
 
-shared-on : (k l : Known (BoardEntry Ask)) → ((pipe : Pipe) → SharedStaysKnown k l pipe) → HasMet board_caller k l → LegalBoard l.seen → (pipe : Option Pipe) → HasShared k pipe → HasShared l pipe
+shared-on : (k l : Known (BoardEntry Ask)) → ((pipe : PipelineState) → SharedStaysKnown k l pipe) → HasMet board_caller k l → LegalBoard l.seen → (pipe : Option PipelineState) → HasShared k pipe → HasShared l pipe
 shared-on k l stays met legal None shared = tt
 shared-on k l stays met legal (Some pipe) shared = stays pipe met.number met.seen legal shared
 
 pub client-ready : {W : Type 0} (laws : Laws) (registry : SharedRegistry) (board : SharedBoard W Ask Finished) (workers : ℕ) (shared : List Live) (parts : List (List ℕ)) (n : ℕ) (p q : Passes Ask) (s : State)
-    → ((k l : Known (BoardEntry Ask)) (pipe : Pipe) → SharedStaysKnown k l pipe)
+    → ((k l : Known (BoardEntry Ask)) (pipe : PipelineState) → SharedStaysKnown k l pipe)
     → 17 ≤ n → MayRun workers shared parts n p → HaveMet p q → ArePassesOn board registry q
-    → s ≡ record { workers = workers; walk = start_beside (n - 16) shared; registry = Some q.registry; board = Some q.board } → IsReady registry board s
+    → s ≡ record { workers = workers; script_state = start_beside (n - 16) shared; registry = Some q.registry; board = Some q.board } → IsReady registry board s
 client-ready laws registry board workers shared parts n p q s stays client may met at is =
     let reg_number : (knows q.registry).number ≡ n = met.registry.number ∙ may.registry.0 in
     let board_number : (knows q.board).number ≡ n = met.board.number ∙ may.board.0 in
@@ -99,7 +99,7 @@ replied-stops registry board width d s t text text' before ready replies =
     }
 
 pub answers-part : Laws → (lines : List Line) (s t u : State) (text text' : List ℕ) (bad : Bool) → IsCaller (known s.registry)
-    → Replies (widest lines) (lines_dialogue s.workers s.walk 1 lines Ends) s t [] text → AnswersEndBeside t u text text' → bad ≡ list_any is_malformed lines → EndsPaid (known u.board)
+    → Replies (widest lines) (lines_dialogue s.workers s.script_state 1 lines Ends) s t [] text → AnswersEndBeside t u text text' → bad ≡ list_any is_malformed lines → EndsDelivered (known u.board)
     → AnswersPart lines s u text' bad
 answers-part laws lines s t u text text' bad caller replies ends bad_is paid =
     let x = replies.turn in
@@ -108,8 +108,8 @@ answers-part laws lines s t u text text' bad caller replies ends bad_is paid =
       locks = locks-then s t u replies.locks ends.locks;
       turn = joined x y;
       is =
-          ap (λ d. turn_of d (x.registry ++ y.registry) (x.board ++ y.board)) (lines-followed s.workers 1 s.walk lines end_beside)
-          ∙ (laws.follow (lines_dialogue s.workers s.walk 1 lines Ends) end_beside x t.walk y.registry y.board replies.is replies.ends
+          ap (λ d. transcript_of d (x.registry ++ y.registry) (x.board ++ y.board)) (lines-followed s.workers 1 s.script_state lines end_beside)
+          ∙ (laws.follow (lines_dialogue s.workers s.script_state 1 lines Ends) end_beside x t.script_state y.registry y.board replies.is replies.ends
           ∙ ap (joined x) ends.is);
       asked =
           asked-then laws (widest lines) 1 (widest lines) (known s.registry) (known t.registry) (known u.registry) x.registry y.registry
@@ -124,19 +124,19 @@ answers-part laws lines s t u text text' bad caller replies ends bad_is paid =
 -- ---- over the whole histories
 
 -- the text of a dialogue whose calls the caller made
-text-of : (d : Dialogue) (t : Turn) (caller : ℕ) (r : List RegEntry) (b : List (BoardEntry Ask)) (text : List ℕ) → IsTurn d t → is_some t.after ≡ true → text ≡ text_in t
+text-of : (d : Dialogue) (t : Transcript) (caller : ℕ) (r : List RegEntry) (b : List (BoardEntry Ask)) (text : List ℕ) → IsTranscript d t → is_some t.after ≡ true → text ≡ text_in t
     → reg_calls caller r ≡ t.registry → board_calls caller b ≡ t.board → IsTextOf d caller r b text
 text-of d t caller r b text is ended told registry board =
-    let same : turn_by d caller r b ≡ t = (λ i. turn_of d (registry i) (board i)) ∙ is in
+    let same : turn_by d caller r b ≡ t = (λ i. transcript_of d (registry i) (board i)) ∙ is in
     record {
-      registry = ap (λ (x : Turn). x.registry) same ∙ sym registry;
-      board = ap (λ (x : Turn). x.board) same ∙ sym board;
-      ended = ap (λ (x : Turn). is_some x.after) same ∙ ended;
+      registry = ap (λ (x : Transcript). x.registry) same ∙ sym registry;
+      board = ap (λ (x : Transcript). x.board) same ∙ sym board;
+      ended = ap (λ (x : Transcript). is_some x.after) same ∙ ended;
       text_is = told ∙ sym (ap text_in same);
     }
 
 module _ (laws : Laws) (workers : ℕ) (shared : List Live) (parts : List (List ℕ)) (n : ℕ) (client : 17 ≤ n) (p q q' : Passes Ask) (may : MayRun workers shared parts n p) (met : HaveMet p q) (s s' : State)
-    (is : s ≡ record { workers = workers; walk = start_beside (n - 16) shared; registry = Some q.registry; board = Some q.board }) (registry_is : s'.registry ≡ Some q'.registry) (board_is : s'.board ≡ Some q'.board) where
+    (is : s ≡ record { workers = workers; script_state = start_beside (n - 16) shared; registry = Some q.registry; board = Some q.board }) (registry_is : s'.registry ≡ Some q'.registry) (board_is : s'.board ≡ Some q'.board) where
   first-registry : known s.registry ≡ knows q.registry
   first-registry = ap (λ (x : State). known x.registry) is
 
@@ -179,8 +179,8 @@ module _ (laws : Laws) (workers : ℕ) (shared : List Live) (parts : List (List 
         ∙ (board_calls-same laws (known s'.board) b on
         ∙ (part.called.calls_are ∙ ap (λ cs. cs ++ part.turn.board) board-none))
 
-    turn-is : IsTurn (script_beside workers (start_beside (n - 16) shared) lines) part.turn
-    turn-is = subst (λ (x : State). IsTurn (script_beside x.workers x.walk lines) part.turn) is part.is
+    turn-is : IsTranscript (script_beside workers (start_beside (n - 16) shared) lines) part.turn
+    turn-is = subst (λ (x : State). IsTranscript (script_beside x.workers x.script_state lines) part.turn) is part.is
 
     text-after : (r : List RegEntry) (b : List (BoardEntry Ask)) → OthersFollow reg_caller (known s'.registry) r → OthersFollow board_caller (known s'.board) b → IsClientText workers (n - 16) shared lines r b text
     text-after r b on_r on_b =
@@ -193,7 +193,7 @@ module _ (laws : Laws) (workers : ℕ) (shared : List Live) (parts : List (List 
       malformed = part.malformed;
       own_registry = subst (IsOwn reg_caller) last-registry part.asked.caller.own;
       own_board = subst (IsOwn board_caller) last-board part.paid.own;
-      paid = subst EndsPaid last-board part.paid;
+      paid = subst EndsDelivered last-board part.paid;
     }
 
   pub if-answered : {F : Type 0} (lines : List Line) (result : Result ClientText F) → MatchResult result (λ text. AnswersPart lines s s' text.reply.text text.malformed) (λ _. Stops s s')

@@ -8,8 +8,8 @@ use Rattle.std.proofs.lemmas.List.Elements.{All-nil, All-cons, All-head, All-tai
 use Rattle.alg_registry.specs.declared.entry.RegEntry.{RegEntry}
 use Rattle.board.specs.declared.entry.BoardEntry.{BoardEntry}
 use Rattle.transforms.specs.declared.ask.Ask.{Ask}
-use Rattle.client_run.specs.declared.beside.Output.{Output}
-use Rattle.client_run.specs.Beside.{PartsRan}
+use Rattle.client_run.specs.declared.with_workers.Output.{Output}
+use Rattle.client_run.specs.WithWorkers.{PartsRan}
 use Rattle.client_run.specs.Clients.{IsCut}
 use Rattle.script_text.specs.Lines.{lines_of, is_feed}
 use Rattle.script_text.specs.Parts.{is_mark, before_mark, behind_mark, all_bytes, cut_lines, parts_of}

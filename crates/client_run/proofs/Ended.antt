@@ -6,7 +6,7 @@ use Rattle.turn_lock.specs.Going.{starts_through}
 use Rattle.turn_lock.specs.Turns.{Known, Each, Has, StartsWith, Shows, of}
 use Rattle.turn_lock.specs.Meeting.{IsOwn}
 use Rattle.crew.specs.Peers.{HasEnded, OthersFollow, EndedStays, EndedAreAlone, FirstIsAlone, CallersAre}
-use Rattle.client_run.specs.Beside.{IsHistoryOf, GaveNumbers}
+use Rattle.client_run.specs.WithWorkers.{IsHistoryOf, GaveNumbers}
 
 module _ {A : Type 0} where
   pub each-left : (P : A → Type 0) (xs ys : List A) → Each P (xs ++ ys) → Each P xs

@@ -10,7 +10,7 @@ use Rattle.board.specs.Entries.{caller_of as board_caller}
 use Rattle.crew.specs.Peers.{OthersFollow}
 use Rattle.dialogues.specs.BoardCalls.{board_calls, is_called}
 use Rattle.dialogues.specs.RegistryCalls.{reg_calls, AllSettled}
-use Rattle.script_session.specs.Holding.{HasSeenMore}
+use Rattle.script_session.specs.Performing.{HasSeenMore}
 use Rattle.templates.specs.Looking.{is_asked}
 use Rattle.transforms.specs.declared.ask.Ask.{Ask}
 use Rattle.turn_lock.specs.Turns.{Known, StartsWith, of}

@@ -15,9 +15,9 @@ use Rattle.board.specs.Entries.{entries_of, is_of, accepted_in, IsMaker, caller_
 use Rattle.board.specs.Legal.{LegalBoard}
 use Rattle.dialogues.specs.RegistryCalls.{reg_calls, AllSettled}
 use Rattle.dialogues.specs.References.{got, given}
-use Rattle.dialogues.specs.Walk.{Live, start_beside}
-use Rattle.script_session.specs.States.{Stands, Posted, MadeWide}
-use Rattle.session_calls.specs.Pipelines.{Owns}
+use Rattle.dialogues.specs.ScriptState.{Live, start_beside}
+use Rattle.script_session.specs.States.{ReferencesMatch, PipelinesMatch, MadeWide}
+use Rattle.recorded_calls.specs.Pipelines.{Owns}
 use Rattle.transforms.specs.AskValue.{ask_size}
 use Rattle.transforms.specs.declared.ask.Ask.{Ask}
 use Rattle.turn_lock.specs.Meeting.{IsOwn}
@@ -65,7 +65,7 @@ module _ (k : Known (BoardEntry Ask)) (none : of board_caller k.number k.seen �
   owns-none : (p : ℕ) → Owns k p → ⊥
   owns-none p owns = no-maker k.number p k.seen none owns.0.1
 
-  pub fresh-posted : (client : ℕ) (shared : List Live) → 16 < k.number → LegalBoard k.seen → Posted (start_beside client shared) k
+  pub fresh-posted : (client : ℕ) (shared : List Live) → 16 < k.number → LegalBoard k.seen → PipelinesMatch (start_beside client shared) k
   fresh-posted client shared above legal = record {
     outsider = inr above;
     legal = legal;
@@ -83,7 +83,7 @@ module _ (k : Known (BoardEntry Ask)) (none : of board_caller k.number k.seen �
 no-worker : (n : ℕ) → 16 < n → is_worker n ≡ false
 no-worker n above = grind (arith, nat_tests)
 
-pub fresh-stands : Laws → (k : Known RegEntry) → 16 < k.number → of reg_caller k.number k.seen ≡ [] → IsOwn reg_caller k → Stands [] k
+pub fresh-stands : Laws → (k : Known RegEntry) → 16 < k.number → of reg_caller k.number k.seen ≡ [] → IsOwn reg_caller k → ReferencesMatch [] k
 fresh-stands laws k above none own =
     let calls : reg_calls k.number k.seen ≡ [] = unasked laws k.number k.seen none in
     record {

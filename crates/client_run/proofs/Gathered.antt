@@ -7,7 +7,7 @@ use Rattle.std.proofs.lemmas.List.Folds.{list_any-append}
 use Rattle.reply_text.specs.Answers.{heading}
 use Rattle.client_texts.specs.Outputs.{under_headings}
 use Rattle.client_run.specs.declared.client.ClientText.{ClientText}
-use Rattle.client_run.specs.Beside.{PutsTexts, texts_in, is_bad}
+use Rattle.client_run.specs.WithWorkers.{PutsTexts, texts_in, is_bad}
 
 pub under-one-more : (n : ℕ) (texts : List (List ℕ)) (text : List ℕ) → under_headings n (texts ++ text ∷ []) ≡ under_headings n texts ++ (heading (n + length texts) ++ text)
 under-one-more n [] text = (let e : n + 0 ≡ n = omega arith in append-nil (heading n ++ text) ∙ ap (λ m. heading m ++ text) (sym e))

@@ -17,24 +17,24 @@ use Rattle.client_texts.specs.Outputs.{under_headings}
 use Rattle.crew.specs.Both.{CrewedOnBoth}
 use Rattle.crew.specs.declared.passes.Passes.{Passes}
 use Rattle.crew.specs.Peers.{AreOuts, RanBeside, RunsOnBoth}
-use Rattle.dialogues.specs.Walk.{Live}
+use Rattle.dialogues.specs.ScriptState.{Live}
 use Rattle.reply_text.specs.Answers.{text_of}
 use Rattle.script_run.specs.Runs.{AreNew}
 use Rattle.script_session.specs.Gathering.{IsJoined, EndsFirst}
-use Rattle.script_session.specs.Holding.{HasSeenMore, SeesOn}
+use Rattle.script_session.specs.Performing.{HasSeenMore, SeesOn}
 use Rattle.script_text.specs.declared.commands.Line.{Line}
 use Rattle.script_text.specs.Script.{script_of}
-use Rattle.session_calls.specs.declared.stop.Stop.{Stop}
-use Rattle.session_calls.specs.Sharing.{HaveEnded}
+use Rattle.recorded_calls.specs.declared.stop.Stop.{Stop}
+use Rattle.recorded_calls.specs.Sharing.{HaveEnded}
 use Rattle.shared_registry.specs.Building.{is_building}
 use Rattle.templates.specs.Table.{table}
 use Rattle.transforms.specs.declared.ask.Ask.{Ask}
 use Rattle.turn_lock.specs.Meeting.{AtTurn, Enters, Leaves}
 use Rattle.turn_lock.specs.Passes.{knows}
 use Rattle.turn_lock.specs.Turns.{Known, Shows, StartsWith}
-use Rattle.client_run.specs.declared.beside.Output.{Output}
+use Rattle.client_run.specs.declared.with_workers.Output.{Output}
 use Rattle.client_run.specs.declared.client.ClientText.{ClientText}
-use Rattle.client_run.specs.Beside.{printed_by, GaveNumbers, GaveWorkers, HasShutLast, HaveLeft, EndsRest, AnswersRest, AnswersParts, PartsRan, texts_in}
+use Rattle.client_run.specs.WithWorkers.{printed_by, GaveNumbers, GaveWorkers, HasShutLast, HaveLeft, EndsRest, AnswersRest, AnswersParts, PartsRan, texts_in}
 use Rattle.client_run.specs.EndLaws.{EndLaws, ShutLaws}
 use Rattle.client_run.specs.Parts.{FirstOpens, ClientRan}
 use Rattle.client_run.proofs.AtEnd.{callers-are, shut-once, ends-shut, printed, malformed-is, one-lists}

@@ -15,21 +15,21 @@ use Rattle.dialogues.specs.Dialogues.{Ends}
 use Rattle.dialogues.specs.Lines.{lines_dialogue}
 use Rattle.dialogues.specs.RegistryCalls.{reg_calls, AllSettled}
 use Rattle.dialogues.specs.Sharing.{share_all}
-use Rattle.dialogues.specs.Turns.{IsTurn}
-use Rattle.dialogues.specs.Walk.{Live, start}
+use Rattle.dialogues.specs.Transcripts.{IsTranscript}
+use Rattle.dialogues.specs.ScriptState.{Live, start}
 use Rattle.dialogues.specs.Widths.{widest}
 use Rattle.script_run.specs.Runs.{AreNew}
 use Rattle.script_run.specs.Text.{is_malformed}
 use Rattle.script_session.specs.Ending.{LeadsBy}
-use Rattle.script_session.specs.Holding.{SeesOn}
+use Rattle.script_session.specs.Performing.{SeesOn}
 use Rattle.script_session.specs.Lending.{AreLent, SharesAll}
 use Rattle.script_session.specs.Running.{IsReady, Replies}
-use Rattle.script_session.specs.States.{State, Stands, Posted, MadeWide, owners}
+use Rattle.script_session.specs.States.{State, ReferencesMatch, PipelinesMatch, MadeWide, owners}
 use Rattle.script_text.specs.declared.commands.Line.{Line}
-use Rattle.session_calls.specs.Passes.{known}
-use Rattle.session_calls.specs.Pipelines.{Called}
+use Rattle.recorded_calls.specs.Passes.{known}
+use Rattle.recorded_calls.specs.Pipelines.{Called}
 use Rattle.shared_board.specs.declared.shared.SharedBoard.{SharedBoard}
-use Rattle.shared_registry.specs.declared.sharing.SharedRegistry.{SharedRegistry}
+use Rattle.shared_registry.specs.declared.registry_lock.SharedRegistry.{SharedRegistry}
 use Rattle.transforms.specs.declared.ask.Ask.{Ask}
 use Rattle.transforms.specs.declared.request.Finished.{Finished}
 use Rattle.turn_lock.specs.Meeting.{IsOwn}
@@ -48,11 +48,11 @@ is-empty : {E : Type 0} (k : Known E) → k.number ≡ 0 → k.seen ≡ [] → k
 unfolding empty
 is-empty k n s m = λ i. record { number = sym n i; next = k.next; seen = sym s i; made = sym m i; ended = k.ended }
 
-empty-stands : (k : Known RegEntry) → Stands [] (empty k)
+empty-stands : (k : Known RegEntry) → ReferencesMatch [] (empty k)
 unfolding empty reg_calls
 empty-stands k = record { caller = record { outsider = refl; own = refl; settled = tt }; referenced = λ id. refl }
 
-empty-posted : (k : Known (BoardEntry Ask)) → Posted (start 0) (empty k)
+empty-posted : (k : Known (BoardEntry Ask)) → PipelinesMatch (start 0) (empty k)
 unfolding empty
 empty-posted k = record {
   outsider = inl (omega arith);
@@ -70,13 +70,13 @@ unfolding empty
 empty-wide lists k p owns pad = absurd owns.0.1
 
 pub first-ready : {W : Type 0} (registry : SharedRegistry) (board : SharedBoard W Ask Finished) (workers : ℕ) (p : Passes Ask) (s : State) → ArePassesOn board registry p → AreNew p → workers ≤ 16
-    → s ≡ record { workers = workers; walk = start 0; registry = Some p.registry; board = Some p.board } → IsReady registry board s
+    → s ≡ record { workers = workers; script_state = start 0; registry = Some p.registry; board = Some p.board } → IsReady registry board s
 first-ready registry board workers p s at new few is =
     subst (IsReady registry board) (sym is) (record {
       calls_registry = ap (λ n. Some n) at.1;
       calls_board = ap (λ n. Some n) at.0;
-      stands = subst (Stands []) (is-empty (knows p.registry) new.registry.0 new.registry.1 new.registry.2) (empty-stands (knows p.registry));
-      posted = subst (Posted (start 0)) (is-empty (knows p.board) new.board.0 new.board.1 new.board.2) (empty-posted (knows p.board));
+      stands = subst (ReferencesMatch []) (is-empty (knows p.registry) new.registry.0 new.registry.1 new.registry.2) (empty-stands (knows p.registry));
+      posted = subst (PipelinesMatch (start 0)) (is-empty (knows p.board) new.board.0 new.board.1 new.board.2) (empty-posted (knows p.board));
       few = few;
       wide = subst (MadeWide (lists_beside workers)) (is-empty (knows p.board) new.board.0 new.board.1 new.board.2) (empty-wide (lists_beside workers) (knows p.board));
       shared = All-nil _;
@@ -102,9 +102,9 @@ own-of k result x is own = subst (λ r. OnOk r (IsOwn board_caller k)) is own
 
 -- The session s of these passes answered the lines, and was s' then; and its transforms were shared.
 module _ {W : Type 0} (registry : SharedRegistry) (board : SharedBoard W Ask Finished) (workers : ℕ) (p q : Passes Ask) (new : AreNew p) (s s' : State)
-    (is : s ≡ record { workers = workers; walk = start 0; registry = Some p.registry; board = Some p.board }) (registry_is : s'.registry ≡ Some q.registry) (ready : IsReady registry board s')
-    (lines : List Line) (text : List ℕ) (replies : Replies (widest lines) (lines_dialogue s.workers s.walk 1 lines Ends) s s' [] text)
-    (shared : List Live) (shares : SharesAll s'.walk.lives (known s'.board) (knows q.board)) (same : shared ≡ s'.walk.lives) (own : IsOwn board_caller (knows q.board)) where
+    (is : s ≡ record { workers = workers; script_state = start 0; registry = Some p.registry; board = Some p.board }) (registry_is : s'.registry ≡ Some q.registry) (ready : IsReady registry board s')
+    (lines : List Line) (text : List ℕ) (replies : Replies (widest lines) (lines_dialogue s.workers s.script_state 1 lines Ends) s s' [] text)
+    (shared : List Live) (shares : SharesAll s'.script_state.lives (known s'.board) (knows q.board)) (same : shared ≡ s'.script_state.lives) (own : IsOwn board_caller (knows q.board)) where
   first-registry : known s.registry ≡ knows p.registry
   first-registry = ap (λ (x : State). known x.registry) is
 
@@ -147,9 +147,9 @@ module _ {W : Type 0} (registry : SharedRegistry) (board : SharedBoard W Ask Fin
 
   pub opens : (bad : Bool) → bad ≡ list_any is_malformed lines → FirstOpens workers lines shared q text bad
   opens bad bad_is = record {
-    walk = s'.walk;
+    script_state = s'.script_state;
     turn = replies.turn;
-    is = subst (λ (x : State). IsTurn (lines_dialogue x.workers x.walk 1 lines Ends) replies.turn) is replies.is;
+    is = subst (λ (x : State). IsTranscript (lines_dialogue x.workers x.script_state 1 lines Ends) replies.turn) is replies.is;
     makes = replies.ends;
     lives = sym same;
     text_is = replies.says;

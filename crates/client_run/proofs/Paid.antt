@@ -10,7 +10,7 @@ use Rattle.board.specs.Legal.{MayManage, LegalBoard}
 use Rattle.board.specs.Others.{OthersAlone, WorkLeavesKnown, WorkLeavesDrained}
 use Rattle.board.specs.Staying.{IsDrained}
 use Rattle.crew.specs.Peers.{HasEnded, Peered}
-use Rattle.client_run.specs.Beside.{IsHistoryOf, HasShutLast}
+use Rattle.client_run.specs.WithWorkers.{IsHistoryOf, HasShutLast}
 use Rattle.client_run.proofs.Makers.{IsHad, made-before, open-before, maker-of, shared-had}
 use Rattle.client_run.proofs.ShutLast.{IsBeside, client-follow}
 

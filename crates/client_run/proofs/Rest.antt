@@ -16,23 +16,23 @@ use Rattle.client_texts.specs.Outputs.{AreClientTexts}
 use Rattle.crew.specs.Crews.{Crewed}
 use Rattle.crew.specs.declared.passes.Passes.{Passes}
 use Rattle.crew.specs.Peers.{HasEnded, Peered, OthersFollow, RunsOnBoth}
-use Rattle.dialogues.specs.Walk.{Live, Pipe}
+use Rattle.dialogues.specs.ScriptState.{Live, PipelineState}
 use Rattle.script_run.specs.Text.{is_malformed}
-use Rattle.script_session.specs.Ending.{EndsPaid}
+use Rattle.script_session.specs.Ending.{EndsDelivered}
 use Rattle.script_session.specs.Gathering.{IsJoined, EndsFirst}
 use Rattle.script_session.specs.Lending.{AreLent, HasLent}
 use Rattle.script_session.specs.States.{AreShared, HasShared, owners}
 use Rattle.script_text.specs.Script.{script_of}
-use Rattle.session_calls.specs.declared.stop.Stop.{Stop}
-use Rattle.session_calls.specs.Pipelines.{Owns}
-use Rattle.session_calls.specs.Sharing.{HaveEnded, LentIsShared}
+use Rattle.recorded_calls.specs.declared.stop.Stop.{Stop}
+use Rattle.recorded_calls.specs.Pipelines.{Owns}
+use Rattle.recorded_calls.specs.Sharing.{HaveEnded, LentIsShared}
 use Rattle.transforms.specs.declared.ask.Ask.{Ask}
 use Rattle.turn_lock.specs.Going.{starts_through}
 use Rattle.turn_lock.specs.Meeting.{AtTurn, Enters, Leaves, IsOwn}
 use Rattle.turn_lock.specs.Passes.{knows}
 use Rattle.turn_lock.specs.Turns.{Known, Each, Has, StartsWith, Shows}
 use Rattle.client_run.specs.declared.client.ClientText.{ClientText}
-use Rattle.client_run.specs.Beside.{IsHistoryOf, GaveNumbers, HasShutLast, texts_in, is_bad}
+use Rattle.client_run.specs.WithWorkers.{IsHistoryOf, GaveNumbers, HasShutLast, texts_in, is_bad}
 use Rattle.client_run.specs.EndLaws.{PeerLaws, ShutLaws}
 use Rattle.client_run.specs.Parts.{ClientRan, ClientAnswers}
 use Rattle.client_run.proofs.Paid.{HasPaid, numbers-of, pick}
@@ -174,11 +174,11 @@ ends-last lives k l text text' e = record {
 
 -- ---- what the clients know
 
-one-known : ((k l : Known (BoardEntry Ask)) (pipe : Pipe) → LentIsShared k l pipe) → (o : Option Pipe) (k l : Known (BoardEntry Ask)) → l.seen ≡ k.seen → 17 ≤ l.number → HasLent k o → HasShared l o
+one-known : ((k l : Known (BoardEntry Ask)) (pipe : PipelineState) → LentIsShared k l pipe) → (o : Option PipelineState) (k l : Known (BoardEntry Ask)) → l.seen ≡ k.seen → 17 ≤ l.number → HasLent k o → HasShared l o
 one-known law None k l seen low lent = tt
 one-known law (Some pipe) k l seen low lent = law k l pipe seen (inr (omega arith)) lent
 
-pub shared-known : ((k l : Known (BoardEntry Ask)) (pipe : Pipe) → LentIsShared k l pipe) → (lives : List Live) (k l : Known (BoardEntry Ask)) → l.seen ≡ k.seen → 17 ≤ l.number → AreLent lives k → AreShared lives l
+pub shared-known : ((k l : Known (BoardEntry Ask)) (pipe : PipelineState) → LentIsShared k l pipe) → (lives : List Live) (k l : Known (BoardEntry Ask)) → l.seen ≡ k.seen → 17 ≤ l.number → AreLent lives k → AreShared lives l
 shared-known law [] k l seen low lent = All-nil (λ (live : Live). HasShared l live.pipe)
 shared-known law (live ∷ lives) k l seen low lent =
     All-cons (λ (one : Live). HasShared l one.pipe) live lives
@@ -200,7 +200,7 @@ module _ {A : Type 0} where
   get-at [] x xs = refl
   get-at (y ∷ before) x xs = get-at before x xs
 
-pub paid-of : (k : Known (BoardEntry Ask)) → EndsPaid k → HasPaid k
+pub paid-of : (k : Known (BoardEntry Ask)) → EndsDelivered k → HasPaid k
 paid-of k p = record { own = p.own; unshared = p.unshared; drained = p.drained }
 
 module _ (workers : ℕ) (shared : List Live) (parts : List (List ℕ)) (o : Passes Ask) (r : List RegEntry) (b : List (BoardEntry Ask)) (kr : Known RegEntry) (kb : Known (BoardEntry Ask))

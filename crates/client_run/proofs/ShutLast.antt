@@ -15,7 +15,7 @@ use Rattle.board.specs.Legal.{AreRightAfter, MayManage, LegalBoard}
 use Rattle.board.specs.Sharing.{MakersFinish}
 use Rattle.board.specs.Staying.{is_work}
 use Rattle.crew.specs.Peers.{HasEnded}
-use Rattle.client_run.specs.Beside.{IsHistoryOf, HasShutLast}
+use Rattle.client_run.specs.WithWorkers.{IsHistoryOf, HasShutLast}
 use Rattle.client_run.proofs.Ended.{each-right, none-here, none-later, begins, shows-own, ended-made}
 
 above-zero : (n : ℕ) → n ≢ 0 → 1 ≤ n

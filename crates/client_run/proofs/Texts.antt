@@ -5,7 +5,7 @@ use Rattle.std.proofs.KnownBytes.{Appends-nil, Appends-trans, Appends-kept}
 use Rattle.std.proofs.lemmas.List.{at_drop_more, drop_all}
 use Rattle.kc_base.specs.Streams.{AppendsFront}
 use Rattle.reply_text.specs.Written.{Written}
-use Rattle.client_run.specs.Beside.{in_one}
+use Rattle.client_run.specs.WithWorkers.{in_one}
 
 -- So many of the texts were written.
 pub record Writing (texts : List Written) (at : ℕ) (held held' : Option (List ℕ)) : Type 0 where

@@ -8,21 +8,21 @@ use Rattle.dialogues.specs.Dialogues.{Dialogue, Ends, Says, Asks, Posts, followe
 use Rattle.dialogues.specs.InTurn.{AreInTurnBy}
 use Rattle.dialogues.specs.Lines.{line_dialogue, lines_dialogue}
 use Rattle.dialogues.specs.RegistryCalls.{RegCall}
-use Rattle.dialogues.specs.Turns.{Turn, joined, text_in}
-use Rattle.dialogues.specs.Walk.{Walk}
+use Rattle.dialogues.specs.Transcripts.{Transcript, joined, text_in}
+use Rattle.dialogues.specs.ScriptState.{ScriptState}
 use Rattle.dialogues.specs.Widths.{width_of, widest}
 use Rattle.reply_text.specs.Answers.{text_of}
-use Rattle.script_session.specs.Holding.{HasSeenMore}
+use Rattle.script_session.specs.Performing.{HasSeenMore}
 use Rattle.script_session.specs.States.{State, SameLocks}
 use Rattle.script_text.specs.declared.commands.Line.{Line}
-use Rattle.session_calls.specs.Asking.{AskedBy, IsCaller}
-use Rattle.session_calls.specs.Pipelines.{Called}
+use Rattle.recorded_calls.specs.Asking.{AskedBy, IsCaller}
+use Rattle.recorded_calls.specs.Pipelines.{Called}
 use Rattle.transforms.specs.declared.ask.Ask.{Ask}
 use Rattle.turn_lock.specs.Turns.{Known}
 use Rattle.client_run.specs.Laws.{Laws}
 use Rattle.client_run.proofs.Following.{starts-same, starts-trans}
 
-pub texts-joined : (t u : Turn) → text_in (joined t u) ≡ text_in t ++ text_in u
+pub texts-joined : (t u : Transcript) → text_in (joined t u) ≡ text_in t ++ text_in u
 texts-joined t u = flat_map-append text_of t.answers u.answers
 
 -- ---- the registry
@@ -80,19 +80,19 @@ locks-then s t u a b = record {
 
 -- ---- dialogues
 
-followed-assoc : (d : Dialogue) (f g : Walk → Dialogue) → followed (followed d f) g ≡ followed d (λ a. followed (f a) g)
+followed-assoc : (d : Dialogue) (f g : ScriptState → Dialogue) → followed (followed d f) g ≡ followed d (λ a. followed (f a) g)
 followed-assoc (Ends after) f g = refl
 followed-assoc (Says answers next) f g = ap (Says answers) (followed-assoc next f g)
 followed-assoc (Asks question next) f g = λ i. Asks question (λ answer. followed-assoc (next answer) f g i)
 followed-assoc (Posts question next) f g = λ i. Posts question (λ answer. followed-assoc (next answer) f g i)
 
 -- what stands after lines follows on them
-pub lines-followed : (workers n : ℕ) (walk : Walk) (lines : List Line) (rest : Walk → Dialogue)
-    → lines_dialogue workers walk n lines rest ≡ followed (lines_dialogue workers walk n lines Ends) rest
-lines-followed workers n walk [] rest = refl
-lines-followed workers n walk (line ∷ lines) rest =
-    (λ i. followed (line_dialogue workers walk n line) (λ after. lines-followed workers (n + 1) after lines rest i))
-    ∙ sym (followed-assoc (line_dialogue workers walk n line) (λ after. lines_dialogue workers after (n + 1) lines Ends) rest)
+pub lines-followed : (workers n : ℕ) (script_state : ScriptState) (lines : List Line) (rest : ScriptState → Dialogue)
+    → lines_dialogue workers script_state n lines rest ≡ followed (lines_dialogue workers script_state n lines Ends) rest
+lines-followed workers n script_state [] rest = refl
+lines-followed workers n script_state (line ∷ lines) rest =
+    (λ i. followed (line_dialogue workers script_state n line) (λ after. lines-followed workers (n + 1) after lines rest i))
+    ∙ sym (followed-assoc (line_dialogue workers script_state n line) (λ after. lines_dialogue workers after (n + 1) lines Ends) rest)
 
 -- ---- how many looks at once
 

@@ -18,10 +18,10 @@ use Rattle.script_run.specs.declared.errors.RunError.TheVariants.{Usage, ReadFau
 use Rattle.script_text.specs.Script.{script_of}
 use Rattle.trace_text.specs.Asks.{ask_origin}
 use Rattle.trace_text.specs.Trace.{FitTypes}
-use Rattle.traced_runs.specs.Clients.{ClientTracesCanBeRead}
+use Rattle.trace_laws.specs.Clients.{ClientTracesCanBeRead}
 use Rattle.transforms.specs.declared.ask.Ask.{Ask}
-use Rattle.client_run.specs.declared.beside.Output.{Output}
-use Rattle.client_run.specs.Beside.{PartsRan, printed_by}
+use Rattle.client_run.specs.declared.with_workers.Output.{Output}
+use Rattle.client_run.specs.WithWorkers.{PartsRan, printed_by}
 use Rattle.client_run.specs.Clients.{RanClients, RanParts, IsCut, GainsFrontOrNone, has_malformed}
 
 -- ---- what is written

@@ -5,15 +5,15 @@ use Rattle.dialogues.specs.Dialogues.{Dialogue, followed}
 use Rattle.dialogues.specs.GoingOn.{RegistryCallsGoOn, RegistryUnasked, BoardCallsGoOn, BoardUncalled, NoCall, InTurnByAny, InTurnByMore, CallsThenCallsBy, CallsByAre}
 use Rattle.dialogues.specs.Leading.{LeadsNowhere, LeadsOn}
 use Rattle.dialogues.specs.RegistryCalls.{RegCall}
-use Rattle.dialogues.specs.Turns.{Turn, IsTurn, joined, turn_of}
-use Rattle.dialogues.specs.Walk.{Walk}
+use Rattle.dialogues.specs.Transcripts.{Transcript, IsTranscript, joined, transcript_of}
+use Rattle.dialogues.specs.ScriptState.{ScriptState}
 
 pub record Laws : Type 0 where
   pub nowhere : LeadsNowhere
   pub on : LeadsOn
-  pub follow : (first : Dialogue) (later : Walk → Dialogue) (turn : Turn) (walk : Walk) (r : List RegCall) (b : List BoardCall)
-      → IsTurn first turn → turn.after ≡ Some walk
-      → turn_of (followed first later) (turn.registry ++ r) (turn.board ++ b) ≡ joined turn (turn_of (later walk) r b)
+  pub follow : (first : Dialogue) (later : ScriptState → Dialogue) (turn : Transcript) (script_state : ScriptState) (r : List RegCall) (b : List BoardCall)
+      → IsTranscript first turn → turn.after ≡ Some script_state
+      → transcript_of (followed first later) (turn.registry ++ r) (turn.board ++ b) ≡ joined turn (transcript_of (later script_state) r b)
   pub registry_calls : RegistryCallsGoOn
   pub unasked : RegistryUnasked
   pub board_calls : BoardCallsGoOn

@@ -1,6 +1,6 @@
 pub mod Laws
 pub mod Parts
 pub mod Meets
-pub mod Beside
+pub mod WithWorkers
 pub mod Clients
 pub mod EndLaws

@@ -6,14 +6,14 @@ use Rattle.board.specs.Entries.{caller_of as board_caller}
 use Rattle.board.specs.Legal.{LegalBoard}
 use Rattle.crew.specs.declared.passes.Passes.{Passes}
 use Rattle.dialogues.specs.Lines.{script_beside}
-use Rattle.dialogues.specs.Turns.{Turn, IsTurn, text_in}
+use Rattle.dialogues.specs.Transcripts.{Transcript, IsTranscript, text_in}
 use Rattle.script_run.specs.Text.{is_malformed}
-use Rattle.script_session.specs.Ending.{EndsPaid}
+use Rattle.script_session.specs.Ending.{EndsDelivered}
 use Rattle.script_session.specs.States.{State, SameLocks}
 use Rattle.script_text.specs.declared.commands.Line.{Line}
-use Rattle.session_calls.specs.Asking.{AskedBy}
-use Rattle.session_calls.specs.Passes.{known}
-use Rattle.session_calls.specs.Pipelines.{Called}
+use Rattle.recorded_calls.specs.Asking.{AskedBy}
+use Rattle.recorded_calls.specs.Passes.{known}
+use Rattle.recorded_calls.specs.Pipelines.{Called}
 use Rattle.transforms.specs.declared.ask.Ask.{Ask}
 use Rattle.turn_lock.specs.Passes.{knows}
 use Rattle.turn_lock.specs.Turns.{Known, StartsWith, of}
@@ -38,11 +38,11 @@ pub record HaveMet (p q : Passes Ask) : Type 0 where
 -- A turn of the client's whole script was done, and its text was told.
 pub record AnswersPart (lines : List Line) (s s' : State) (text : List ℕ) (bad : Bool) : Type 0 where
   pub locks : SameLocks s s'
-  pub turn : Turn
-  pub is : IsTurn (script_beside s.workers s.walk lines) turn
+  pub turn : Transcript
+  pub is : IsTranscript (script_beside s.workers s.script_state lines) turn
   pub asked : AskedBy (widest lines) (known s.registry) (known s'.registry) turn.registry
   pub called : Called (known s.board) (known s'.board) turn.board
   pub ended : IsSome turn.after
   pub text_is : text ≡ text_in turn
   pub malformed : bad ≡ list_any is_malformed lines
-  pub paid : EndsPaid (known s'.board)
+  pub paid : EndsDelivered (known s'.board)

@@ -14,15 +14,15 @@ use Rattle.dialogues.specs.Lines.{lines_dialogue}
 use Rattle.dialogues.specs.RegistryCalls.{reg_calls, AllSettled}
 use Rattle.dialogues.specs.Sharing.{share_all}
 use Rattle.dialogues.specs.Texts.{IsClientText}
-use Rattle.dialogues.specs.Turns.{Turn, IsTurn, text_in}
-use Rattle.dialogues.specs.Walk.{Walk, Live, start}
+use Rattle.dialogues.specs.Transcripts.{Transcript, IsTranscript, text_in}
+use Rattle.dialogues.specs.ScriptState.{ScriptState, Live, start}
 use Rattle.script_run.specs.Text.{is_malformed}
-use Rattle.script_session.specs.Ending.{LeadsBy, EndsPaid}
+use Rattle.script_session.specs.Ending.{LeadsBy, EndsDelivered}
 use Rattle.script_session.specs.Lending.{AreLent}
 use Rattle.script_session.specs.States.{AreShared, owners}
 use Rattle.script_text.specs.declared.commands.Line.{Line}
 use Rattle.script_text.specs.Script.{script_of}
-use Rattle.session_calls.specs.Pipelines.{Owns}
+use Rattle.recorded_calls.specs.Pipelines.{Owns}
 use Rattle.transforms.specs.declared.ask.Ask.{Ask}
 use Rattle.turn_lock.specs.Meeting.{IsOwn}
 use Rattle.turn_lock.specs.Passes.{knows}
@@ -32,11 +32,11 @@ use Rattle.client_run.specs.declared.client.ClientText.{ClientText}
 
 -- The first part's lines were answered, and the transforms that it has made are shared. These are its passes then.
 pub record FirstOpens (workers : ℕ) (lines : List Line) (shared : List Live) (q : Passes Ask) (text : List ℕ) (bad : Bool) : Type 0 where
-  pub walk : Walk
-  pub turn : Turn
-  pub is : IsTurn (lines_dialogue workers (start 0) 1 lines Ends) turn
-  pub makes : turn.after ≡ Some walk
-  pub lives : walk.lives ≡ shared
+  pub script_state : ScriptState
+  pub turn : Transcript
+  pub is : IsTranscript (lines_dialogue workers (start 0) 1 lines Ends) turn
+  pub makes : turn.after ≡ Some script_state
+  pub lives : script_state.lives ≡ shared
   pub text_is : text ≡ text_in turn
   pub malformed : bad ≡ list_any is_malformed lines
   pub registry : turn.registry ≡ reg_calls 0 (knows q.registry).seen
@@ -69,7 +69,7 @@ pub record ClientAnswers (workers client : ℕ) (shared : List Live) (lines : Li
   pub malformed : bad ≡ list_any is_malformed lines
   pub own_registry : IsOwn reg_caller (knows q.registry)
   pub own_board : IsOwn board_caller (knows q.board)
-  pub paid : EndsPaid (knows q.board)
+  pub paid : EndsDelivered (knows q.board)
 
 -- What the script of client n - 16 did whose passes were p and are now q, and what it gave. A number has a part where it is that of
 -- one: the first part here is client 1's.

@@ -4,16 +4,16 @@ ghost use Rattle.std.specs.Prelude.{◌≡◌, ◌≤◌, ◌^◌, length, IfOk}
 ghost use Rattle.std.specs.Arc.{arc_value};
 ghost use Rattle.crew.specs.Both.{ArePassesOn};
 ghost use Rattle.script_run.specs.Runs.{AreNew};
-ghost use Rattle.script_session.specs.Holding.{HasSeenMore, SeesOn};
+ghost use Rattle.script_session.specs.Performing.{HasSeenMore, SeesOn};
 ghost use Rattle.script_text.specs.Script.{script_of};
 ghost use Rattle.turn_lock.specs.Passes.{knows};
 ghost use Rattle.client_run.specs.Parts.{FirstOpens};
 
 use crate::part::{answer_part, laws};
 use crew::{Gate, Passes};
+use recorded_calls::Stop;
 use reply_text::Reply;
 use script_session::{Session, Shared};
-use session_calls::Stop;
 use shared_board::SharedBoard;
 use shared_registry::SharedRegistry;
 use std::alloc::Global;

@@ -2,11 +2,11 @@
 
 ghost use Rattle.std.specs.Prelude.{◌≡◌, ◌≤◌, ◌^◌, length, IfOk, OnOk, MatchResult};
 ghost use Rattle.std.specs.List.{list_any};
-ghost use Rattle.dialogues.specs.Dialogues.{Ends as Stands};
+ghost use Rattle.dialogues.specs.Dialogues.{Ends as EndsThere};
 ghost use Rattle.dialogues.specs.Lines.{lines_dialogue};
 ghost use Rattle.dialogues.specs.Widths.{widest};
 ghost use Rattle.script_run.specs.Text.{is_malformed};
-ghost use Rattle.script_session.specs.Holding.{Stops};
+ghost use Rattle.script_session.specs.Performing.{Stops};
 ghost use Rattle.script_session.specs.Running.{IsReady, Replies};
 ghost use Rattle.script_text.specs.Script.{script_of};
 ghost use Rattle.client_run.specs.Laws.{Laws};
@@ -15,10 +15,10 @@ use crew::Gate;
 use dialogues::{
     board_calls_go_on, calls_at_once, calls_in_turn, lines_lead, registry_calls_go_on, turns_follow,
 };
+use recorded_calls::Stop;
 use reply_text::Reply;
 use script_session::Session;
 use script_text::{Line, read_line, split_line};
-use session_calls::Stop;
 use shared_board::SharedBoard;
 use shared_registry::SharedRegistry;
 use std::alloc::Global;
@@ -59,7 +59,7 @@ pub fn answer_part<G: Gate, R: Threads + Wait + Sync>(
     requires ready { IsReady registry.now board.now session.old }
     requires short { length part.now ≤ 2 ^ 28 }
     ensures done { MatchResult result
-        (λ _. Replies (widest (script_of part.now)) (lines_dialogue session.old.workers session.old.walk 1 (script_of part.now) Stands) session.old session.new reply.old.text reply.new.text)
+        (λ _. Replies (widest (script_of part.now)) (lines_dialogue session.old.workers session.old.script_state 1 (script_of part.now) EndsThere) session.old session.new reply.old.text reply.new.text)
         (λ _. Stops session.old session.new) }
     ensures ready { OnOk result (IsReady registry.now board.now session.new) }
     ensures malformed { IfOk result (λ bad. bad ≡ list_any is_malformed (script_of part.now)) }

@@ -9,23 +9,23 @@ ghost use Rattle.script_run.specs.Runs.{ReadsUpTo};
 ghost use Rattle.script_run.specs.Statuses.{status_of};
 ghost use Rattle.trace_text.specs.Asks.{ask_origin};
 ghost use Rattle.trace_text.specs.Trace.{trace_of, FitTypes};
-ghost use Rattle.client_run.specs.Beside.{in_one, printed_by};
+ghost use Rattle.client_run.specs.WithWorkers.{in_one, printed_by};
 ghost use Rattle.client_run.specs.Clients.{RanClients, RanParts};
 
-use crate::beside::{Output, PartsRun, run_parts};
+use crate::with_workers::{Output, PartsRun, run_parts};
 use alg_registry::RegLog;
 use board::BoardLog;
 use crew::Gate;
 use kc_base::{Bytes, Sink, SinkError, Source, read_input, write_and_flush, write_piece};
 use reply_text::Reply;
 use run_options::ClientOptions;
-use script_run::{MAX_INPUT, Ran, RunError};
+use script_run::{MAX_INPUT, RunError, RunResult};
 use script_text::{Part, cut_parts};
 use std::alloc::{AllocError, Global};
 use std::sync::Wait;
 use std::thread::Threads;
+use trace_laws::client_traces_can_be_read;
 use trace_text::write_trace;
-use traced_runs::client_traces_can_be_read;
 use transforms::Ask;
 
 // How many bytes are asked for at once.
@@ -137,7 +137,7 @@ fn run_cut<K: Sink, G: Gate + Sync, R: Threads + Wait + Sync>(
     gate: &G,
     parts: &[Part<'_>],
     out: &mut K,
-) -> Ran
+) -> RunResult
     requires few { options.now.workers ≤ 16 }
     requires clients { (1 ≤ options.now.clients) × (options.now.clients ≤ 8) }
     requires count { length parts.now ≡ options.now.clients + 1 }
@@ -146,7 +146,7 @@ fn run_cut<K: Sink, G: Gate + Sync, R: Threads + Wait + Sync>(
     ensures write_fault { IsErrOf result.answer RunError.WriteFault → Rose (K.faults out.old) (K.faults out.new) }
 {
     let Some((first, rest)) = parts.split_first() else {
-        return Ran::not_at_all(alloc, RunError::NoMemory);
+        return RunResult::refused_run(alloc, RunError::NoMemory);
     };
     let PartsRun {
         output,
@@ -154,7 +154,7 @@ fn run_cut<K: Sink, G: Gate + Sync, R: Threads + Wait + Sync>(
         board,
     } = run_parts(rt, alloc, options.workers, gate, first.as_slice(), rest);
     let answer = write_output(alloc, options.trace, output, &registry, &board, out);
-    Ran {
+    RunResult {
         answer,
         registry,
         board,
@@ -173,7 +173,7 @@ pub fn run_clients<S: Source, K: Sink, G: Gate + Sync, R: Threads + Wait + Sync>
     gate: &G,
     src: &mut S,
     out: &mut K,
-) -> Ran
+) -> RunResult
     requires few { options.now.workers ≤ 16 }
     requires clients { (1 ≤ options.now.clients) × (options.now.clients ≤ 8) }
     ensures ran { RanClients options.now.workers options.now.clients options.now.trace (status_of result.answer) (S.left src.old) (S.left src.new) (K.held out.old) (K.held out.new) result.registry result.board }
@@ -185,10 +185,10 @@ pub fn run_clients<S: Source, K: Sink, G: Gate + Sync, R: Threads + Wait + Sync>
     client_traces_can_be_read();
     let input = match read_whole(alloc, src) {
         Ok(input) => input,
-        Err(error) => return Ran::not_at_all(alloc, error),
+        Err(error) => return RunResult::refused_run(alloc, error),
     };
     let Ok(parts) = cut_parts(alloc, input.as_slice(), options.clients) else {
-        return Ran::not_at_all(alloc, RunError::NoMemory);
+        return RunResult::refused_run(alloc, RunError::NoMemory);
     };
     run_cut(rt, alloc, options, gate, parts.as_slice(), out)
 }

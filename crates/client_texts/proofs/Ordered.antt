@@ -20,8 +20,8 @@ use Rattle.dialogues.specs.Dialogues.{Ends}
 use Rattle.dialogues.specs.RegistryCalls.{if_own, prepend, reg_calls}
 use Rattle.dialogues.specs.Sharing.{closing}
 use Rattle.dialogues.specs.Texts.{IsClientText, AreFirstTexts}
-use Rattle.dialogues.specs.Turns.{Turn, turn_of}
-use Rattle.dialogues.specs.Walk.{Walk, Live, start, start_beside}
+use Rattle.dialogues.specs.Transcripts.{Transcript, transcript_of}
+use Rattle.dialogues.specs.ScriptState.{ScriptState, Live, start, start_beside}
 use Rattle.client_texts.specs.Sharing.{AreInOrder}
 use Rattle.client_texts.proofs.Submitting.{accepted_call, accepted_calls, Ascends, lines-ascend, end-beside-ascends, closing-ascends}
 
@@ -104,21 +104,21 @@ pub client-in-order : (workers client : ℕ) (shared : List Live) (lines : List 
     → IsClientText workers client shared lines r b text → AreInOrder client 1 (accepted_by (16 + client) (entries_of p b))
 client-in-order workers client shared lines r b text p is =
     of-calls client 1 (16 + client) b p _ is.board
-    (lines-ascend workers client (start_beside client shared) 1 lines _ refl (λ walk n same. end-beside-ascends client n walk same) (reg_calls (16 + client) r) (board_calls (16 + client) b))
+    (lines-ascend workers client (start_beside client shared) 1 lines _ refl (λ script_state n same. end-beside-ascends client n script_state same) (reg_calls (16 + client) r) (board_calls (16 + client) b))
 
 -- what ascends from everywhere is nothing
 nothing-ascends : (c : ℕ) (asks : List Asked) → ((n : ℕ) → Ascends c n asks) → asks ≡ []
 nothing-ascends c [] up = refl
 nothing-ascends c (asked ∷ asks) up = absurd (omega (arith, (up (asked.line + 1)).1))
 
-pub first-in-order : (workers : ℕ) (lines : List Line) (walk : Walk) (r : List RegEntry) (b : List (BoardEntry Ask)) (opening ending : List ℕ) (p : ℕ)
-    → AreFirstTexts workers lines walk r b opening ending → AreInOrder 0 1 (accepted_by 0 (entries_of p b))
-first-in-order workers lines walk r b opening ending p is =
+pub first-in-order : (workers : ℕ) (lines : List Line) (script_state : ScriptState) (r : List RegEntry) (b : List (BoardEntry Ask)) (opening ending : List ℕ) (p : ℕ)
+    → AreFirstTexts workers lines script_state r b opening ending → AreInOrder 0 1 (accepted_by 0 (entries_of p b))
+first-in-order workers lines script_state r b opening ending p is =
     let first : Ascends 0 1 (accepted_calls is.first.board) =
-    subst (λ (t : Turn). Ascends 0 1 (accepted_calls t.board)) is.is_first
+    subst (λ (t : Transcript). Ascends 0 1 (accepted_calls t.board)) is.is_first
     (lines-ascend workers 0 (start 0) 1 lines Ends refl (λ w n same r b. tt) is.first.registry is.first.board) in
     let last : accepted_calls is.last.board ≡ [] =
-    nothing-ascends walk.client (accepted_calls is.last.board)
-    (λ n. subst (λ (t : Turn). Ascends walk.client n (accepted_calls t.board)) is.is_last (closing-ascends walk.client n walk refl is.last.registry is.last.board)) in
+    nothing-ascends script_state.client (accepted_calls is.last.board)
+    (λ n. subst (λ (t : Transcript). Ascends script_state.client n (accepted_calls t.board)) is.is_last (closing-ascends script_state.client n script_state refl is.last.registry is.last.board)) in
     of-calls 0 1 0 b p _ is.board
     (subst (Ascends 0 1) (sym (filter_map-append accepted_call is.first.board is.last.board ∙ (ap (λ l. accepted_calls is.first.board ++ l) last ∙ append-nil (accepted_calls is.first.board)))) first)

@@ -31,8 +31,8 @@ use Rattle.dialogues.specs.Registering.{enlist_spec}
 use Rattle.dialogues.specs.RegistryCalls.{RegCall}
 use Rattle.dialogues.specs.Requesting.{is_too_big, entered, hands_in, requests_in, requests_under, request, asked_of}
 use Rattle.dialogues.specs.Sharing.{shares, share_all, closing}
-use Rattle.dialogues.specs.Turns.{Turn, broken, asking, posting, turn_of}
-use Rattle.dialogues.specs.Walk.{Walk, Live, Pipe, live_of, shared_of, either}
+use Rattle.dialogues.specs.Transcripts.{Transcript, broken, asking, posting, transcript_of}
+use Rattle.dialogues.specs.ScriptState.{ScriptState, Live, PipelineState, live_of, shared_of, either}
 
 -- ---- what calls submit
 
@@ -87,12 +87,12 @@ Once c n (Asks question next) = (answer : RegAnswer question) → Once c n (next
 Once c n (Posts question next) =
     Posted c n (asked_in question) ((answer : BoardAnswer question) → Quiet c (next answer)) ((answer : BoardAnswer question) → Once c n (next answer))
 
-abbrev Up : ℕ → ℕ → Turn → Type 0
+abbrev Up : ℕ → ℕ → Transcript → Type 0
 Up c n turn = Ascends c n (accepted_calls turn.board)
 
 -- what its turns hand in is of this client, from a line on
 abbrev pub IsAscending : ℕ → ℕ → Dialogue → Type 0
-IsAscending c n d = (r : List RegCall) (b : List BoardCall) → Ascends c n (accepted_calls (turn_of d r b).board)
+IsAscending c n d = (r : List RegCall) (b : List BoardCall) → Ascends c n (accepted_calls (transcript_of d r b).board)
 
 accepted-more : (c n : ℕ) (o : Option Asked) (calls : List Asked) → o ≡ None → Ascends c n calls → Ascends c n (cons_option o calls)
 accepted-more c n None calls none up = up
@@ -117,7 +117,7 @@ hands-in Shut answer = inl refl
 quiet-call : (question : BoardQuestion) (answer : BoardAnswer question) → asked_in question ≡ None → accepted_call (board_call question answer) ≡ None
 quiet-call question answer none = elim (hands-in question answer) [ inl e ↦ e | inr e ↦ e ∙ none ]
 
-posting-quiet : (c n : ℕ) (question : BoardQuestion) (answer : BoardAnswer question) (turn : Turn) → asked_in question ≡ None
+posting-quiet : (c n : ℕ) (question : BoardQuestion) (answer : BoardAnswer question) (turn : Transcript) → asked_in question ≡ None
     → Ascends c n (accepted_calls turn.board) → Ascends c n (accepted_calls (posting (board_call question answer) turn).board)
 posting-quiet c n question answer turn none up =
     accepted-more c n (accepted_call (board_call question answer)) (accepted_calls turn.board) (quiet-call question answer none) up
@@ -126,7 +126,7 @@ asks-ascend : (c n : ℕ) (question : RegQuestion) (next : RegAnswer question �
 asks-ascend c n question next each [] b = tt
 asks-ascend c n question next each (call ∷ r) b = at (reg_answer question call)
   where
-    at : (o : Option (RegAnswer question)) → Up c n (elim o [ Some answer ↦ asking (reg_call question answer) (turn_of (next answer) r b) | None ↦ broken ])
+    at : (o : Option (RegAnswer question)) → Up c n (elim o [ Some answer ↦ asking (reg_call question answer) (transcript_of (next answer) r b) | None ↦ broken ])
     at None = tt
     at (Some answer) = each answer r b
 
@@ -135,11 +135,11 @@ posts-quiet : (c n : ℕ) (question : BoardQuestion) (next : BoardAnswer questio
 posts-quiet c n question next none each r [] = tt
 posts-quiet c n question next none each r (call ∷ b) = at (board_answer question call)
   where
-    at : (o : Option (BoardAnswer question)) → Up c n (elim o [ Some answer ↦ posting (board_call question answer) (turn_of (next answer) r b) | None ↦ broken ])
+    at : (o : Option (BoardAnswer question)) → Up c n (elim o [ Some answer ↦ posting (board_call question answer) (transcript_of (next answer) r b) | None ↦ broken ])
     at None = tt
-    at (Some answer) = posting-quiet c n question answer (turn_of (next answer) r b) none (each answer r b)
+    at (Some answer) = posting-quiet c n question answer (transcript_of (next answer) r b) none (each answer r b)
 
-followed-quiet : (c n : ℕ) (d : Dialogue) (later : Walk → Dialogue) → Quiet c d → ((walk : Walk) → walk.client ≡ c → IsAscending c n (later walk)) → IsAscending c n (followed d later)
+followed-quiet : (c n : ℕ) (d : Dialogue) (later : ScriptState → Dialogue) → Quiet c d → ((script_state : ScriptState) → script_state.client ≡ c → IsAscending c n (later script_state)) → IsAscending c n (followed d later)
 followed-quiet c n (Ends after) later quiet rest = rest after quiet
 followed-quiet c n (Says answers next) later quiet rest = λ r b. followed-quiet c n next later quiet rest r b
 followed-quiet c n (Asks question next) later quiet rest =
@@ -161,10 +161,10 @@ posts-some : (c n : ℕ) (question : BoardQuestion) (next : BoardAnswer question
 posts-some c n question next asked some client line each r [] = tt
 posts-some c n question next asked some client line each r (call ∷ b) = at (board_answer question call)
   where
-    at : (o : Option (BoardAnswer question)) → Up c n (elim o [ Some answer ↦ posting (board_call question answer) (turn_of (next answer) r b) | None ↦ broken ])
+    at : (o : Option (BoardAnswer question)) → Up c n (elim o [ Some answer ↦ posting (board_call question answer) (transcript_of (next answer) r b) | None ↦ broken ])
     at None = tt
     at (Some answer) =
-        posted-some c n asked (accepted_call (board_call question answer)) (accepted_calls (turn_of (next answer) r b).board)
+        posted-some c n asked (accepted_call (board_call question answer)) (accepted_calls (transcript_of (next answer) r b).board)
         (elim (hands-in question answer) [ inl e ↦ inl e | inr e ↦ inr (e ∙ some) ]) client line (each answer r b)
 
 -- either way
@@ -177,7 +177,7 @@ posts-once c n question next follow None none quietly onward once = posts-quiet 
 posts-once c n question next follow (Some asked) some quietly onward once =
     posts-some c n question follow asked some once.0 once.1 (λ answer. quietly answer (once.2 answer))
 
-followed-once : (c n : ℕ) (d : Dialogue) (later : Walk → Dialogue) → Once c n d → ((walk : Walk) → walk.client ≡ c → IsAscending c (n + 1) (later walk)) → IsAscending c n (followed d later)
+followed-once : (c n : ℕ) (d : Dialogue) (later : ScriptState → Dialogue) → Once c n d → ((script_state : ScriptState) → script_state.client ≡ c → IsAscending c (n + 1) (later script_state)) → IsAscending c n (followed d later)
 followed-once c n (Ends after) later once rest = λ r b. ascends-below c n (n + 1) _ (omega arith) (rest after once r b)
 followed-once c n (Says answers next) later once rest = λ r b. followed-once c n next later once rest r b
 followed-once c n (Asks question next) later once rest =
@@ -192,17 +192,17 @@ if_once : (c n : ℕ) (b : Bool) (d e : Dialogue) → Once c n d → Once c n e 
 if_once c n true d e first second = first
 if_once c n false d e first second = second
 
-unless_once : (walk : Walk) (n : ℕ) (refusals : List (Bool × Errno)) (rest : Dialogue) → Once walk.client n rest → Once walk.client n (unless walk n refusals rest)
-unless_once walk n [] rest once = once
-unless_once walk n (refusal ∷ refusals) rest once = if_once walk.client n refusal.0 _ _ refl (unless_once walk n refusals rest once)
+unless_once : (script_state : ScriptState) (n : ℕ) (refusals : List (Bool × Errno)) (rest : Dialogue) → Once script_state.client n rest → Once script_state.client n (unless script_state n refusals rest)
+unless_once script_state n [] rest once = once
+unless_once script_state n (refusal ∷ refusals) rest once = if_once script_state.client n refusal.0 _ _ refl (unless_once script_state n refusals rest once)
 
-live_once : (walk : Walk) (n : ℕ) (o : Option Live) (errno : Errno) (rest : Live → Dialogue) → ((live : Live) → Once walk.client n (rest live)) → Once walk.client n (for_live walk n o errno rest)
-live_once walk n None errno rest once = refl
-live_once walk n (Some live) errno rest once = once live
+live_once : (script_state : ScriptState) (n : ℕ) (o : Option Live) (errno : Errno) (rest : Live → Dialogue) → ((live : Live) → Once script_state.client n (rest live)) → Once script_state.client n (for_live script_state n o errno rest)
+live_once script_state n None errno rest once = refl
+live_once script_state n (Some live) errno rest once = once live
 
-register_once : (walk : Walk) (n priority : ℕ) (spec : Option Spec) → Once walk.client n (enlist_spec walk n priority spec)
-register_once walk n priority None = refl
-register_once walk n priority (Some spec) = if_once walk.client n (nat_lt 100000 priority) _ _ refl (λ answer. refl)
+register_once : (script_state : ScriptState) (n priority : ℕ) (spec : Option Spec) → Once script_state.client n (enlist_spec script_state n priority spec)
+register_once script_state n priority None = refl
+register_once script_state n priority (Some spec) = if_once script_state.client n (nat_lt 100000 priority) _ _ refl (λ answer. refl)
 
 look_once : (c n : ℕ) (name : List ℕ) (read : Result Tree Errno) (rest : Found → Dialogue) → ((found : Found) → Once c n (rest found)) → Once c n (looks_up name read rest)
 look_once c n name (Ok tree) rest once = once
@@ -213,113 +213,113 @@ looks_once c m n [] rest once = once []
 looks_once c m n (name ∷ names) rest once =
     look_once c m name (name_read name) _ (λ found. looks_once c m n names (λ answers. rest (found_said n name found ∷ answers)) (λ answers. once (found_said n name found ∷ answers)))
 
-creates_once : (c n : ℕ) (shape : Option Shape) (rest : Option Pipe → Dialogue) → ((pipe : Option Pipe) → Once c n (rest pipe)) → Once c n (creates shape rest)
+creates_once : (c n : ℕ) (shape : Option Shape) (rest : Option PipelineState → Dialogue) → ((pipe : Option PipelineState) → Once c n (rest pipe)) → Once c n (creates shape rest)
 creates_once c n None rest once = once None
 creates_once c n (Some shape) rest once = λ number. once (Some _)
 
-plan_once : (workers : ℕ) (walk : Walk) (n : ℕ) (label : List ℕ) (len : Option ℕ) (id : ℕ) (spec : Spec) (plan : Option Plan) → Once walk.client n (binds_plan workers walk n label len id spec plan)
-plan_once workers walk n label len id spec None = refl
-plan_once workers walk n label len id spec (Some plan) =
-    λ ok. if_once walk.client n (not ok) _ _ refl (creates_once walk.client n (shape_for workers (is_chained spec.driver) spec.wrap len) _ (λ pipe. refl))
+plan_once : (workers : ℕ) (script_state : ScriptState) (n : ℕ) (label : List ℕ) (len : Option ℕ) (id : ℕ) (spec : Spec) (plan : Option Plan) → Once script_state.client n (binds_plan workers script_state n label len id spec plan)
+plan_once workers script_state n label len id spec None = refl
+plan_once workers script_state n label len id spec (Some plan) =
+    λ ok. if_once script_state.client n (not ok) _ _ refl (creates_once script_state.client n (shape_for workers (is_chained spec.driver) spec.wrap len) _ (λ pipe. refl))
 
-binds_once : (workers : ℕ) (walk : Walk) (n : ℕ) (label : List ℕ) (len : Option ℕ) (found : Found) → Once walk.client n (binds workers walk n label len found)
-binds_once workers walk n label len (Fault errno) = refl
-binds_once workers walk n label len (Entry id spec) = plan_once workers walk n label len id spec (plan_for spec len)
+binds_once : (workers : ℕ) (script_state : ScriptState) (n : ℕ) (label : List ℕ) (len : Option ℕ) (found : Found) → Once script_state.client n (binds workers script_state n label len found)
+binds_once workers script_state n label len (Fault errno) = refl
+binds_once workers script_state n label len (Entry id spec) = plan_once workers script_state n label len id spec (plan_for spec len)
 
-alloc_once : (workers : ℕ) (walk : Walk) (n : ℕ) (label name : List ℕ) (len : Option ℕ) → Once walk.client n (alloc workers walk n label name len)
-alloc_once workers walk n label name len =
-    unless_once walk n
-    ((is_some (either (live_of walk label) (shared_of walk label)), EEXIST) ∷ (nat_le 4096 (length walk.lives), EMFILE) ∷ fault_of (name_read name) ++ (not (is_queue_length len), EINVAL) ∷ [])
-    _ (λ found. binds_once workers walk n label len found)
+alloc_once : (workers : ℕ) (script_state : ScriptState) (n : ℕ) (label name : List ℕ) (len : Option ℕ) → Once script_state.client n (alloc workers script_state n label name len)
+alloc_once workers script_state n label name len =
+    unless_once script_state n
+    ((is_some (either (live_of script_state label) (shared_of script_state label)), EEXIST) ∷ (nat_le 4096 (length script_state.lives), EMFILE) ∷ fault_of (name_read name) ++ (not (is_queue_length len), EINVAL) ∷ [])
+    _ (λ found. binds_once workers script_state n label len found)
 
-closes_once : (walk : Walk) (n : ℕ) (live : Live) (pipe : Option Pipe) → Once walk.client n (closes walk n live pipe)
-closes_once walk n live None = λ done. refl
-closes_once walk n live (Some pipe) = if_once walk.client n (nat_lt pipe.delivered (length pipe.lines)) _ _ refl (λ closed done. refl)
+closes_once : (script_state : ScriptState) (n : ℕ) (live : Live) (pipe : Option PipelineState) → Once script_state.client n (closes script_state n live pipe)
+closes_once script_state n live None = λ done. refl
+closes_once script_state n live (Some pipe) = if_once script_state.client n (nat_lt pipe.delivered (length pipe.lines)) _ _ refl (λ closed done. refl)
 
-entered_quiet : (walk : Walk) (n : ℕ) (live : Live) (pipe : Pipe) (asked : Asked) (answer : Entered) → Quiet walk.client (entered walk n live pipe asked answer)
-entered_quiet walk n live pipe asked (InProgress number) = refl
-entered_quiet walk n live pipe asked (Busy number) = refl
-entered_quiet walk n live pipe asked NoSpace = refl
+entered_quiet : (script_state : ScriptState) (n : ℕ) (live : Live) (pipe : PipelineState) (asked : Asked) (answer : Entered) → Quiet script_state.client (entered script_state n live pipe asked answer)
+entered_quiet script_state n live pipe asked (InProgress number) = refl
+entered_quiet script_state n live pipe asked (Busy number) = refl
+entered_quiet script_state n live pipe asked NoSpace = refl
 
-hands_once : (walk : Walk) (n : ℕ) (live : Live) (pipe : Pipe) (asked : Asked) (backlog : Bool) (bound : Option ℕ) → asked.client ≡ walk.client → asked.line ≡ n
-    → Once walk.client n (hands_in walk n live pipe asked backlog bound)
-hands_once walk n live pipe asked backlog None client line = (client, line, λ number. refl)
-hands_once walk n live pipe asked backlog (Some max) client line = (client, line, λ answer. entered_quiet walk n live pipe asked answer)
+hands_once : (script_state : ScriptState) (n : ℕ) (live : Live) (pipe : PipelineState) (asked : Asked) (backlog : Bool) (bound : Option ℕ) → asked.client ≡ script_state.client → asked.line ≡ n
+    → Once script_state.client n (hands_in script_state n live pipe asked backlog bound)
+hands_once script_state n live pipe asked backlog None client line = (client, line, λ number. refl)
+hands_once script_state n live pipe asked backlog (Some max) client line = (client, line, λ answer. entered_quiet script_state n live pipe asked answer)
 
-requests_once : (walk : Walk) (n : ℕ) (live : Live) (asked : Asked) (backlog : Bool) (pipe : Option Pipe) → asked.client ≡ walk.client → asked.line ≡ n
-    → Once walk.client n (requests_in walk n live asked backlog pipe)
-requests_once walk n live asked backlog None client line = refl
-requests_once walk n live asked backlog (Some pipe) client line =
-    if_once walk.client n pipe.unmanned _ _ refl (if_once walk.client n (is_too_big walk asked.request) _ _ refl (hands_once walk n live pipe asked backlog pipe.bound client line))
+requests_once : (script_state : ScriptState) (n : ℕ) (live : Live) (asked : Asked) (backlog : Bool) (pipe : Option PipelineState) → asked.client ≡ script_state.client → asked.line ≡ n
+    → Once script_state.client n (requests_in script_state n live asked backlog pipe)
+requests_once script_state n live asked backlog None client line = refl
+requests_once script_state n live asked backlog (Some pipe) client line =
+    if_once script_state.client n pipe.mask_is_empty _ _ refl (if_once script_state.client n (is_too_big script_state asked.request) _ _ refl (hands_once script_state n live pipe asked backlog pipe.bound client line))
 
-key_once : (walk : Walk) (n : ℕ) (live : Live) (asked : Request) (backlog : Bool) (key : Option (List ℕ)) → Once walk.client n (requests_under walk n live asked backlog key)
-key_once walk n live asked backlog None = refl
-key_once walk n live asked backlog (Some key) =
-    if_once walk.client n (not (takes live.plan live.tag_size asked)) _ _ refl (requests_once walk n live (asked_of walk n live key asked) backlog live.pipe refl refl)
+key_once : (script_state : ScriptState) (n : ℕ) (live : Live) (asked : Request) (backlog : Bool) (key : Option (List ℕ)) → Once script_state.client n (requests_under script_state n live asked backlog key)
+key_once script_state n live asked backlog None = refl
+key_once script_state n live asked backlog (Some key) =
+    if_once script_state.client n (not (takes live.plan live.tag_size asked)) _ _ refl (requests_once script_state n live (asked_of script_state n live key asked) backlog live.pipe refl refl)
 
-request_once : (walk : Walk) (n : ℕ) (label : List ℕ) (asked : Request) (backlog : Bool) → Once walk.client n (request walk n label asked backlog)
-request_once walk n label asked backlog = live_once walk n (either (live_of walk label) (shared_of walk label)) ENOENT _ (λ live. key_once walk n live asked backlog live.key)
+request_once : (script_state : ScriptState) (n : ℕ) (label : List ℕ) (asked : Request) (backlog : Bool) → Once script_state.client n (request script_state n label asked backlog)
+request_once script_state n label asked backlog = live_once script_state n (either (live_of script_state label) (shared_of script_state label)) ENOENT _ (λ live. key_once script_state n live asked backlog live.key)
 
-own_once : (walk : Walk) (n : ℕ) (label : List ℕ) (rest : Live → Dialogue) → ((live : Live) → Once walk.client n (rest live))
-    → Once walk.client n (for_live walk n (live_of walk label) (missing (shared_of walk label)) rest)
-own_once walk n label rest once = live_once walk n (live_of walk label) (missing (shared_of walk label)) rest once
+own_once : (script_state : ScriptState) (n : ℕ) (label : List ℕ) (rest : Live → Dialogue) → ((live : Live) → Once script_state.client n (rest live))
+    → Once script_state.client n (for_live script_state n (live_of script_state label) (missing (shared_of script_state label)) rest)
+own_once script_state n label rest once = live_once script_state n (live_of script_state label) (missing (shared_of script_state label)) rest once
 
-if_pad_once : (walk : Walk) (n : ℕ) (bound : Option ℕ) (rest : Dialogue) → Once walk.client n rest → Once walk.client n (if_pad walk n bound rest)
-if_pad_once walk n None rest once = once
-if_pad_once walk n (Some max) rest once = refl
+if_pad_once : (script_state : ScriptState) (n : ℕ) (bound : Option ℕ) (rest : Dialogue) → Once script_state.client n rest → Once script_state.client n (if_pad script_state n bound rest)
+if_pad_once script_state n None rest once = once
+if_pad_once script_state n (Some max) rest once = refl
 
-pad_once : (walk : Walk) (n : ℕ) (pipe : Option Pipe) (rest : Pipe → Dialogue) → ((pipe : Pipe) → Once walk.client n (rest pipe)) → Once walk.client n (with_pad walk n pipe rest)
-pad_once walk n None rest once = refl
-pad_once walk n (Some pipe) rest once = if_pad_once walk n pipe.bound (rest pipe) (once pipe)
+pad_once : (script_state : ScriptState) (n : ℕ) (pipe : Option PipelineState) (rest : PipelineState → Dialogue) → ((pipe : PipelineState) → Once script_state.client n (rest pipe)) → Once script_state.client n (with_pad script_state n pipe rest)
+pad_once script_state n None rest once = refl
+pad_once script_state n (Some pipe) rest once = if_pad_once script_state n pipe.bound (rest pipe) (once pipe)
 
-if_queue_once : (walk : Walk) (n : ℕ) (bound : Option ℕ) (rest : Dialogue) → Once walk.client n rest → Once walk.client n (if_queue walk n bound rest)
-if_queue_once walk n None rest once = refl
-if_queue_once walk n (Some max) rest once = once
+if_queue_once : (script_state : ScriptState) (n : ℕ) (bound : Option ℕ) (rest : Dialogue) → Once script_state.client n rest → Once script_state.client n (if_queue script_state n bound rest)
+if_queue_once script_state n None rest once = refl
+if_queue_once script_state n (Some max) rest once = once
 
-queue_once : (walk : Walk) (n : ℕ) (pipe : Option Pipe) (rest : Pipe → Dialogue) → ((pipe : Pipe) → Once walk.client n (rest pipe)) → Once walk.client n (with_queue walk n pipe rest)
-queue_once walk n None rest once = refl
-queue_once walk n (Some pipe) rest once = if_queue_once walk n pipe.bound (rest pipe) (once pipe)
+queue_once : (script_state : ScriptState) (n : ℕ) (pipe : Option PipelineState) (rest : PipelineState → Dialogue) → ((pipe : PipelineState) → Once script_state.client n (rest pipe)) → Once script_state.client n (with_queue script_state n pipe rest)
+queue_once script_state n None rest once = refl
+queue_once script_state n (Some pipe) rest once = if_queue_once script_state n pipe.bound (rest pipe) (once pipe)
 
-polls_once : (walk : Walk) (n : ℕ) (live : Live) (pipe : Option Pipe) → Once walk.client n (polls_in walk n live pipe)
-polls_once walk n live None = refl
-polls_once walk n live (Some pipe) = λ told. refl
+polls_once : (script_state : ScriptState) (n : ℕ) (live : Live) (pipe : Option PipelineState) → Once script_state.client n (polls_in script_state n live pipe)
+polls_once script_state n live None = refl
+polls_once script_state n live (Some pipe) = λ told. refl
 
-drains_once : (walk : Walk) (n : ℕ) (live : Live) (pipe : Option Pipe) → Once walk.client n (drains_in walk n live pipe)
-drains_once walk n live None = refl
-drains_once walk n live (Some pipe) = if_once walk.client n pipe.held _ _ refl (λ notices. refl)
+drains_once : (script_state : ScriptState) (n : ℕ) (live : Live) (pipe : Option PipelineState) → Once script_state.client n (drains_in script_state n live pipe)
+drains_once script_state n live None = refl
+drains_once script_state n live (Some pipe) = if_once script_state.client n pipe.held _ _ refl (λ notices. refl)
 
-command_once : (workers : ℕ) (walk : Walk) (n : ℕ) (c : Command) → Once walk.client n (command_dialogue workers walk n c)
-command_once workers walk n (command.Aes key block) = refl
-command_once workers walk n (command.Register driver priority) = register_once walk n priority (driver_spec driver priority)
-command_once workers walk n (command.Unregister driver) = λ id. refl
-command_once workers walk n (command.Probe names) = looks_once walk.client n n names _ (λ answers. refl)
-command_once workers walk n (command.Alloc label name len) = alloc_once workers walk n label name len
-command_once workers walk n (command.Key label key) = own_once walk n label _ (λ live. if_once walk.client n (not (takes_key live.plan key)) _ _ refl refl)
-command_once workers walk n (command.Authsize label size) = own_once walk n label _ (λ live. if_once walk.client n (not (takes_tag live.plan size)) _ _ refl refl)
-command_once workers walk n (command.Enc label iv aad text backlog) = request_once walk n label _ backlog
-command_once workers walk n (command.Dec label iv aad text backlog) = request_once walk n label _ backlog
-command_once workers walk n (command.Mac label text backlog) = request_once walk n label _ backlog
-command_once workers walk n (command.Bulk label size seed) = live_once walk n (either (live_of walk label) (shared_of walk label)) ENOENT _ (λ live. refl)
-command_once workers walk n (command.Mask label bits) = own_once walk n label _ (λ live. pad_once walk n live.pipe _ (λ pipe done. refl))
-command_once workers walk n (command.Hold label) = own_once walk n label _ (λ live. queue_once walk n live.pipe _ (λ pipe done. refl))
-command_once workers walk n (command.Go label) = own_once walk n label _ (λ live. queue_once walk n live.pipe _ (λ pipe done. refl))
-command_once workers walk n (command.Poll label) = own_once walk n label _ (λ live. polls_once walk n live live.pipe)
-command_once workers walk n (command.Drain label) = own_once walk n label _ (λ live. drains_once walk n live live.pipe)
-command_once workers walk n (command.Free label) = own_once walk n label _ (λ live. closes_once walk n live live.pipe)
-command_once workers walk n (command.Refs driver) = λ answer. refl
-command_once workers walk n command.List = λ rows. refl
+command_once : (workers : ℕ) (script_state : ScriptState) (n : ℕ) (c : Command) → Once script_state.client n (command_dialogue workers script_state n c)
+command_once workers script_state n (command.Aes key block) = refl
+command_once workers script_state n (command.Register driver priority) = register_once script_state n priority (driver_spec driver priority)
+command_once workers script_state n (command.Unregister driver) = λ id. refl
+command_once workers script_state n (command.Probe names) = looks_once script_state.client n n names _ (λ answers. refl)
+command_once workers script_state n (command.Alloc label name len) = alloc_once workers script_state n label name len
+command_once workers script_state n (command.Key label key) = own_once script_state n label _ (λ live. if_once script_state.client n (not (takes_key live.plan key)) _ _ refl refl)
+command_once workers script_state n (command.Authsize label size) = own_once script_state n label _ (λ live. if_once script_state.client n (not (takes_tag live.plan size)) _ _ refl refl)
+command_once workers script_state n (command.Enc label iv aad text backlog) = request_once script_state n label _ backlog
+command_once workers script_state n (command.Dec label iv aad text backlog) = request_once script_state n label _ backlog
+command_once workers script_state n (command.Mac label text backlog) = request_once script_state n label _ backlog
+command_once workers script_state n (command.Bulk label size seed) = live_once script_state n (either (live_of script_state label) (shared_of script_state label)) ENOENT _ (λ live. refl)
+command_once workers script_state n (command.Mask label bits) = own_once script_state n label _ (λ live. pad_once script_state n live.pipe _ (λ pipe done. refl))
+command_once workers script_state n (command.Hold label) = own_once script_state n label _ (λ live. queue_once script_state n live.pipe _ (λ pipe done. refl))
+command_once workers script_state n (command.Go label) = own_once script_state n label _ (λ live. queue_once script_state n live.pipe _ (λ pipe done. refl))
+command_once workers script_state n (command.Poll label) = own_once script_state n label _ (λ live. polls_once script_state n live live.pipe)
+command_once workers script_state n (command.Drain label) = own_once script_state n label _ (λ live. drains_once script_state n live live.pipe)
+command_once workers script_state n (command.Free label) = own_once script_state n label _ (λ live. closes_once script_state n live live.pipe)
+command_once workers script_state n (command.Refs driver) = λ answer. refl
+command_once workers script_state n command.List = λ rows. refl
 
-line_once : (workers : ℕ) (walk : Walk) (n : ℕ) (next : Line) → Once walk.client n (line_dialogue workers walk n next)
-line_once workers walk n line.Nothing = refl
-line_once workers walk n line.Malformed = refl
-line_once workers walk n (line.Cmd c) = command_once workers walk n c
+line_once : (workers : ℕ) (script_state : ScriptState) (n : ℕ) (next : Line) → Once script_state.client n (line_dialogue workers script_state n next)
+line_once workers script_state n line.Nothing = refl
+line_once workers script_state n line.Malformed = refl
+line_once workers script_state n (line.Cmd c) = command_once workers script_state n c
 
 -- a script's lines, where what follows on them submits none
-pub lines-ascend : (workers c : ℕ) (walk : Walk) (n : ℕ) (lines : List Line) (rest : Walk → Dialogue) → walk.client ≡ c → ((walk : Walk) (n : ℕ) → walk.client ≡ c → IsAscending c n (rest walk))
-    → IsAscending c n (lines_dialogue workers walk n lines rest)
-lines-ascend workers c walk n [] rest client last = last walk n client
-lines-ascend workers c walk n (next ∷ lines) rest client last =
-    followed-once c n (line_dialogue workers walk n next) _ (subst (λ k. Once k n (line_dialogue workers walk n next)) client (line_once workers walk n next))
+pub lines-ascend : (workers c : ℕ) (script_state : ScriptState) (n : ℕ) (lines : List Line) (rest : ScriptState → Dialogue) → script_state.client ≡ c → ((script_state : ScriptState) (n : ℕ) → script_state.client ≡ c → IsAscending c n (rest script_state))
+    → IsAscending c n (lines_dialogue workers script_state n lines rest)
+lines-ascend workers c script_state n [] rest client last = last script_state n client
+lines-ascend workers c script_state n (next ∷ lines) rest client last =
+    followed-once c n (line_dialogue workers script_state n next) _ (subst (λ k. Once k n (line_dialogue workers script_state n next)) client (line_once workers script_state n next))
     (λ after same. lines-ascend workers c after (n + 1) lines rest same last)
 
 -- ---- the end
@@ -333,13 +333,13 @@ followed-ends (Posts question next) = λ i. Posts question (λ answer. followed-
 -- it hands nothing in
 ascends-none : (c n : ℕ) (d : Dialogue) → Quiet c d → IsAscending c n d
 ascends-none c n d quiet = λ r b.
-    subst (λ x. Ascends c n (accepted_calls (turn_of x r b).board)) (followed-ends d) (followed-quiet c n d Ends quiet (λ walk same r' b'. tt) r b)
+    subst (λ x. Ascends c n (accepted_calls (transcript_of x r b).board)) (followed-ends d) (followed-quiet c n d Ends quiet (λ script_state same r' b'. tt) r b)
 
 if_quiet : (c : ℕ) (b : Bool) (d e : Dialogue) → Quiet c d → Quiet c e → Quiet c (if b then d else e)
 if_quiet c true d e first second = first
 if_quiet c false d e first second = second
 
-go_quiet : (c : ℕ) (pipe : Option Pipe) (rest : Dialogue) → Quiet c rest → Quiet c (lets_go pipe rest)
+go_quiet : (c : ℕ) (pipe : Option PipelineState) (rest : Dialogue) → Quiet c rest → Quiet c (lets_go pipe rest)
 go_quiet c None rest quiet = quiet
 go_quiet c (Some pipe) rest quiet = if_quiet c pipe.held _ _ (refl, λ done. quiet) quiet
 
@@ -347,7 +347,7 @@ all_go_quiet : (c : ℕ) (lives : List Live) (rest : Dialogue) → Quiet c rest 
 all_go_quiet c [] rest quiet = quiet
 all_go_quiet c (live ∷ lives) rest quiet = go_quiet c live.pipe (let_all_go lives rest) (all_go_quiet c lives rest quiet)
 
-last_quiet : (c : ℕ) (label : List ℕ) (pipe : Option Pipe) (rest : Dialogue) → Quiet c rest → Quiet c (drains_at_end label pipe rest)
+last_quiet : (c : ℕ) (label : List ℕ) (pipe : Option PipelineState) (rest : Dialogue) → Quiet c rest → Quiet c (drains_at_end label pipe rest)
 last_quiet c label None rest quiet = quiet
 last_quiet c label (Some pipe) rest quiet = (refl, λ notices. quiet)
 
@@ -355,7 +355,7 @@ drain_all_quiet : (c : ℕ) (lives : List Live) (rest : Dialogue) → Quiet c re
 drain_all_quiet c [] rest quiet = quiet
 drain_all_quiet c (live ∷ lives) rest quiet = last_quiet c live.label live.pipe (drain_all lives rest) (drain_all_quiet c lives rest quiet)
 
-shares_quiet : (c : ℕ) (pipe : Option Pipe) (rest : Dialogue) → Quiet c rest → Quiet c (shares pipe rest)
+shares_quiet : (c : ℕ) (pipe : Option PipelineState) (rest : Dialogue) → Quiet c rest → Quiet c (shares pipe rest)
 shares_quiet c None rest quiet = quiet
 shares_quiet c (Some pipe) rest quiet = (refl, λ done. quiet)
 
@@ -363,9 +363,9 @@ share_all_quiet : (c : ℕ) (lives : List Live) (rest : Dialogue) → Quiet c re
 share_all_quiet c [] rest quiet = quiet
 share_all_quiet c (live ∷ lives) rest quiet = shares_quiet c live.pipe (share_all lives rest) (share_all_quiet c lives rest quiet)
 
-pub end-beside-ascends : (c n : ℕ) (walk : Walk) → walk.client ≡ c → IsAscending c n (end_beside walk)
-end-beside-ascends c n walk client = ascends-none c n (end_beside walk) (all_go_quiet c walk.lives _ (drain_all_quiet c walk.lives _ client))
+pub end-beside-ascends : (c n : ℕ) (script_state : ScriptState) → script_state.client ≡ c → IsAscending c n (end_beside script_state)
+end-beside-ascends c n script_state client = ascends-none c n (end_beside script_state) (all_go_quiet c script_state.lives _ (drain_all_quiet c script_state.lives _ client))
 
-pub closing-ascends : (c n : ℕ) (walk : Walk) → walk.client ≡ c → IsAscending c n (closing walk)
-closing-ascends c n walk client =
-    ascends-none c n (closing walk) (share_all_quiet c walk.lives _ (all_go_quiet c walk.lives _ (drain_all_quiet c walk.lives _ (refl, λ done. client))))
+pub closing-ascends : (c n : ℕ) (script_state : ScriptState) → script_state.client ≡ c → IsAscending c n (closing script_state)
+closing-ascends c n script_state client =
+    ascends-none c n (closing script_state) (share_all_quiet c script_state.lives _ (all_go_quiet c script_state.lives _ (drain_all_quiet c script_state.lives _ (refl, λ done. client))))

@@ -7,7 +7,7 @@ use Rattle.board.specs.Entries.{entries_of}
 use Rattle.script_text.specs.declared.commands.Line.{Line}
 use Rattle.transforms.specs.declared.ask.Ask.{Ask}
 use Rattle.dialogues.specs.Texts.{IsClientText, AreFirstTexts}
-use Rattle.dialogues.specs.Walk.{Walk, Live}
+use Rattle.dialogues.specs.ScriptState.{ScriptState, Live}
 use Rattle.client_texts.specs.Outputs.{IsOutput}
 use Rattle.client_texts.specs.Sharing.{AreInOrder}
 
@@ -20,8 +20,8 @@ ClientsInOrder =
 -- and so does what it accepted from the first part
 abbrev pub FirstInOrder : Type 0
 FirstInOrder =
-    (workers : ℕ) (lines : List Line) (walk : Walk) (r : List RegEntry) (b : List (BoardEntry Ask)) (opening ending : List ℕ) (p : ℕ)
-    → AreFirstTexts workers lines walk r b opening ending → AreInOrder 0 1 (accepted_by 0 (entries_of p b))
+    (workers : ℕ) (lines : List Line) (script_state : ScriptState) (r : List RegEntry) (b : List (BoardEntry Ask)) (opening ending : List ℕ) (p : ℕ)
+    → AreFirstTexts workers lines script_state r b opening ending → AreInOrder 0 1 (accepted_by 0 (entries_of p b))
 
 -- an input has one output over two histories
 abbrev pub OneOutput : Type 0

@@ -8,7 +8,7 @@ use Rattle.script_text.specs.Parts.{parts_of}
 use Rattle.script_text.specs.Script.{script_of}
 use Rattle.transforms.specs.declared.ask.Ask.{Ask}
 use Rattle.dialogues.specs.Texts.{IsClientText, AreFirstTexts}
-use Rattle.dialogues.specs.Walk.{Walk, Live}
+use Rattle.dialogues.specs.ScriptState.{ScriptState, Live}
 
 -- the texts of the clients from this one on, each under its line
 abbrev pub under_headings : ℕ → List (List ℕ) → List ℕ
@@ -25,7 +25,7 @@ AreClientTexts workers client shared (lines ∷ parts) r b (text ∷ texts) =
 -- The first part runs alone, and what it has made then all clients share. Its text stands first; then the clients'
 -- texts, each under its line; and then what the end of the first client's input prints, when the others have ended.
 pub record IsOutputOf (workers : ℕ) (first : List Line) (parts : List (List Line)) (r : List RegEntry) (b : List (BoardEntry Ask)) (output : List ℕ) : Type 0 where
-  pub made : Walk
+  pub made : ScriptState
   pub opening : List ℕ
   pub texts : List (List ℕ)
   pub ending : List ℕ

@@ -4,7 +4,7 @@ use Rattle.turn_lock.specs.Turns.{StartsWith, gives_number, gets_number, joined}
 use Rattle.turn_lock.specs.Passes.{knows}
 use Rattle.shared_board.specs.declared.shared.SharedBoard.{SharedBoard}
 use Rattle.shared_board.specs.Passes.{IsPassOn}
-use Rattle.shared_registry.specs.declared.sharing.SharedRegistry.{SharedRegistry}
+use Rattle.shared_registry.specs.declared.registry_lock.SharedRegistry.{SharedRegistry}
 use Rattle.shared_registry.specs.Passes.{IsPassOn as IsRegPassOn}
 use Rattle.shared_registry.specs.Building.{Works, is_building}
 use Rattle.board.specs.Staying.{is_work}

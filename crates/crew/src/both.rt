@@ -7,11 +7,11 @@ ghost use Rattle.shared_registry.specs.Passes.{IsPassOn as IsRegPassOn};
 ghost use Rattle.shared_registry.specs.Building.{Works};
 ghost use Rattle.crew.specs.Both.{ArePassesOn, WorkedOnBoth};
 
+use crate::board_work::{sleep, work_in_turn};
 use crate::gate::Gate;
 use crate::passes::Passes;
-use crate::working::{sleep, work_in_turn};
 use board::Work;
-use shared_board::{Drowsy, Lingered, Look, SharedBoard};
+use shared_board::{Drowsy, Look, SharedBoard, SpinResult};
 use shared_registry::laws::building_goes_on;
 use shared_registry::{RegPass, SharedRegistry, build_one};
 use std::alloc::Global;
@@ -130,8 +130,8 @@ fn work_both_while<W: Work, G: Gate, R: Wait>(
 
 /// From now on a look that begins a larval wakes a worker of this board.
 fn meet<W: Work>(board: &SharedBoard<W>, registry: &SharedRegistry) {
-    if let Ok(bell) = board.worker_bell() {
-        registry.note_workers(bell);
+    if let Ok(wakeup) = board.worker_wakeup() {
+        registry.note_workers(wakeup);
     }
 }
 
@@ -182,15 +182,15 @@ pub fn work_on<W: Work, G: Gate, R: Wait>(
     let mut look = Look::new();
     for _ in rt.forever() {
         let worked = work_both_while(rt, alloc, board, registry, mine, gate, look);
-        let tired = match board.linger() {
-            Lingered::Tired(tired) => tired,
-            Lingered::Roused(due) => {
+        let tired = match board.spin_for_job() {
+            SpinResult::Tired(tired) => tired,
+            SpinResult::JobCame(due) => {
                 mine = worked;
                 look = due;
                 continue;
             }
         };
-        let last = board.watch_jobs(tired);
+        let last = board.prepare_wait_for_job(tired);
         if board.may_be_shut() {
             let (seen, due) = look_at_end(rt, board, registry, worked, last);
             let Some(due) = due else {

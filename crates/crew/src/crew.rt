@@ -17,7 +17,7 @@ use std::sync::Wait;
 use std::thread::{Threads, join};
 
 /// What runs beside the workers, once, with a pass.
-trait Part<P> {
+trait MainTask<P> {
     type Out;
 
     ghost can_run: { Self → P → Type 0 };
@@ -73,11 +73,11 @@ pub(crate) fn join_both<W: Work>(
 }
 
 /// Starts the workers that are left, each beside the rest, and at last runs the caller's part.
-fn beside<
+fn add_workers<
     W: Work,
     G: Gate + Sync,
     X,
-    S: Part<Passes<W::Ask>, Out = X> + Drop,
+    S: MainTask<Passes<W::Ask>, Out = X> + Drop,
     R: Threads + Wait + Sync,
 >(
     rt: &R,
@@ -117,18 +117,18 @@ fn beside<
             requires gives_back { (p q : _) (x : _) → ArePassesOn board.now registry.now p → S.gives main p q x → ArePassesOn board.now registry.now q }
             ensures lock { ArePassesOn board.entry.now registry.entry.now result.0 }
             ensures main { (p q : _) × ArePassesOn board.entry.now registry.entry.now p × HaveNext rest own p × S.gives main p q result.1 × CrewedOnBoth rest own q result.0 }
-        { beside(rt, alloc, rest, board, registry, own, gate, main) },
+        { add_workers(rt, alloc, rest, board, registry, own, gate, main) },
     );
     (join_both(board, registry, mine, other), answer)
 }
 
 // A part that is lent, so that its caller learns what it leaves in its captures.
 #[derive(Drop)]
-struct Lent<'a, M> {
+struct BorrowedMain<'a, M> {
     main: &'a mut M,
 }
 
-impl<'a, P, X, M: FnMut(P) -> (P, X)> Part<P> for Lent<'a, M> {
+impl<'a, P, X, M: FnMut(P) -> (P, X)> MainTask<P> for BorrowedMain<'a, M> {
     type Out = (&'a mut M, X);
 
     ghost can_run = { λ t p. M.pre t.main.now p };
@@ -136,7 +136,7 @@ impl<'a, P, X, M: FnMut(P) -> (P, X)> Part<P> for Lent<'a, M> {
     ghost gives = { λ t p q r. (r.0.ghost_name ≡ t.main.ghost_name) × M.step t.main.now p (q, r.1) r.0.now };
 
     fn run(self, pass: P) -> (P, (&'a mut M, X)) {
-        let Lent { main } = self;
+        let BorrowedMain { main } = self;
         let (pass, answer) = main(pass);
         (pass, (main, answer))
     }
@@ -174,7 +174,7 @@ pub fn run_crew<
     ensures lock { ArePassesOn board.now registry.now result.0 }
     ensures main { (p q : _) × ArePassesOn board.now registry.now p × HaveNext workers passes p × M.step main.old p (q, result.1) main.new × CrewedOnBoth workers passes q result.0 }
 {
-    let (passes, (main, answer)) = beside(
+    let (passes, (main, answer)) = add_workers(
         rt,
         alloc,
         workers,
@@ -182,7 +182,7 @@ pub fn run_crew<
         registry,
         passes,
         gate,
-        Lent { main },
+        BorrowedMain { main },
     );
     take_back(main);
     (passes, answer)

@@ -5,7 +5,7 @@ use Rattle.std.specs.List.{list_all}
 use Rattle.std.proofs.lemmas.Bool.{eq-eqb, or_right}
 use Rattle.std.proofs.lemmas.List.Folds.{list_any-append}
 use Rattle.kc_base.specs.declared.callback_list.Callback.{Callback}
-use Rattle.turn_lock.specs.Turns.{Known, gets_number, newcomer}
+use Rattle.turn_lock.specs.Turns.{Known, gets_number, fresh_pass}
 use Rattle.turn_lock.specs.Passes.{knows}
 use Rattle.turn_lock.specs.Meeting.{Meets, AtTurn, Enters, Leaves}
 use Rattle.board.specs.declared.entry.Shape.TheVariants.{Pad}
@@ -117,7 +117,7 @@ abbrev pub nothing : ℕ → Unit {0}
 nothing asked = tt
 
 -- the passes that a board and a registry come with are first
-pub first_passes : {A : Type 0} (p : Passes A) → knows p.board ≡ newcomer → knows p.registry ≡ newcomer → AreFirst p
+pub first_passes : {A : Type 0} (p : Passes A) → knows p.board ≡ fresh_pass → knows p.registry ≡ fresh_pass → AreFirst p
 first_passes p b r = record {
   board = (ap (λ k. k.number) b, ap (λ k. k.next) b, ap (λ k. k.ended) b);
   registry = (ap (λ k. k.number) r, ap (λ k. k.next) r, ap (λ k. k.ended) r);

@@ -2,14 +2,14 @@
 #![tactic(auto)]
 
 #[cfg(test)]
-mod asking;
+mod asker;
 #[cfg(test)]
 mod callers;
 mod calls;
 mod laws;
 mod load;
 #[cfg(test)]
-mod sharing;
+mod sharer;
 #[cfg(test)]
 mod tests;
 

@@ -1,9 +1,9 @@
 //! What no clause says of threads: that two are inside jobs at once, and that each crew ends.
 
-use crate::asking::{asked_beside_worker, count_built_by};
+use crate::asker::{asked_beside_worker, count_built_by};
 use crate::callers::callers_see_their_own;
 use crate::calls::crew_of;
-use crate::sharing::shared_number;
+use crate::sharer::shared_number;
 use alg_registry::Ended;
 use crew::{Gate, NoGate};
 use std::sync::atomic::{AtomicU64, Ordering};

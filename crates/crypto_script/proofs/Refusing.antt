@@ -8,7 +8,7 @@ use Rattle.dialogues.specs.Texts.{IsText}
 use Rattle.script_run.specs.Answered.{IsBrokenOff, NothingIsBrokenOff}
 use Rattle.script_run.specs.ByLines.{IsTextByLines, NothingIsByLines}
 use Rattle.script_run.specs.Fronts.{IsFrontText, NothingIsFront}
-use Rattle.dialogues.specs.Walk.{start}
+use Rattle.dialogues.specs.ScriptState.{start}
 use Rattle.script_text.specs.Script.{script_of}
 use Rattle.run_options.specs.declared.options.ScriptOptions.{ScriptOptions}
 use Rattle.script_run.specs.Endings.{traced}

@@ -8,7 +8,7 @@ use Rattle.script_text.specs.Script.{script_of}
 use Rattle.script_text.specs.Whole.{whole_script}
 use Rattle.settled_scripts.specs.Settled.{IsSettled, plain_text}
 use Rattle.dialogues.specs.Texts.{IsText}
-use Rattle.dialogues.specs.Walk.{start}
+use Rattle.dialogues.specs.ScriptState.{start}
 use Rattle.script_run.specs.Answered.{Gives, AreAnswered, BeginsWithText, IsCutOff, IsBrokenOff}
 use Rattle.script_run.specs.ByLines.{IsTextByLines}
 use Rattle.script_run.specs.Endings.{traced, CanBeRead}

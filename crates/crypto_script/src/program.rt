@@ -30,7 +30,7 @@ use crew::Gate;
 use kc_base::{Sink, Source};
 use run_options::Mode;
 use script_run::{
-    Ran, RunError, nothing_is_broken_off, nothing_is_by_lines, nothing_is_front, run_load,
+    RunError, RunResult, nothing_is_broken_off, nothing_is_by_lines, nothing_is_front, run_load,
     run_traced, status_by,
 };
 use std::alloc::Global;
@@ -76,12 +76,12 @@ fn mode_for(alloc: Global, words: &[String]) -> Result<Mode, RunError>
 }
 
 // The outcome of what was run.
-fn outcome_of(ran: Ran) -> Outcome
+fn outcome_of(ran: RunResult) -> Outcome
     ensures status { result.status ≡ status_of ran.answer }
     ensures registry { result.registry ≡ ran.registry }
     ensures board { result.board ≡ ran.board }
 {
-    let Ran {
+    let RunResult {
         answer,
         registry,
         board,
@@ -202,7 +202,7 @@ pub fn run<S: Source, K: Sink, G: Gate + Sync, R: Threads + Wait + Sync>(
     nothing_is_broken_off();
     let mode = match mode_for(alloc, words) {
         Ok(mode) => mode,
-        Err(error) => return outcome_of(Ran::not_at_all(alloc, error)),
+        Err(error) => return outcome_of(RunResult::refused_run(alloc, error)),
     };
     let options = match mode {
         Mode::Script(options) => options,

@@ -16,8 +16,8 @@ use Rattle.dialogues.specs.Lines.{lines_dialogue}
 use Rattle.dialogues.specs.Questions.{RegQuestion, Enlist, Look, Unlist, Get, Put, Count, ListAll, RegAnswer, reg_call, reg_answer}
 use Rattle.dialogues.specs.Questions.{BoardQuestion, Create, Submit, Enqueue, Hold, Go, Poll, Drain, Close, Share, Mask, Shut, BoardAnswer, board_call, board_answer}
 use Rattle.dialogues.specs.RegistryCalls.{RegCall, Enlists, Looks, Unlists, Gets, Puts, Counts, Lists, reg_call_of, reg_calls, reg_calls_from, prepend, is_settled, AllSettled}
-use Rattle.dialogues.specs.Turns.{Turn, broken, asking, posting, joined, turn_of, IsTurn}
-use Rattle.dialogues.specs.Walk.{Walk}
+use Rattle.dialogues.specs.Transcripts.{Transcript, broken, asking, posting, joined, transcript_of, IsTranscript}
+use Rattle.dialogues.specs.ScriptState.{ScriptState}
 use Rattle.dialogues.proofs.Leading.{turn-goes_on}
 use Rattle.dialogues.proofs.RegistryGrowing.{found_in-stays, reg_calls_from-append, none-asked}
 use Rattle.dialogues.proofs.Taking.{nothing-are}
@@ -72,10 +72,10 @@ first-none (Posts question next) = (refl, refl)
 pub begins-none : (d : Dialogue) → BeginsBy d [] []
 begins-none d = λ calls m. subst (λ cs. AreFirstCalls d cs []) (sym (may-none calls m)) (first-none d)
 
-pub begins-turn : (d : Dialogue) (t : Turn) → IsTurn d t → AllSettled t.registry → BeginsBy d t.registry t.board
+pub begins-turn : (d : Dialogue) (t : Transcript) → IsTranscript d t → AllSettled t.registry → BeginsBy d t.registry t.board
 begins-turn d t is settled = λ calls m.
     subst (λ cs. AreFirstCalls d cs t.board) (sym (may-settled t.registry calls settled m))
-    (ap (λ (u : Turn). u.registry) is, ap (λ (u : Turn). u.board) is)
+    (ap (λ (u : Transcript). u.registry) is, ap (λ (u : Transcript). u.board) is)
 
 pub begins-says : (answers : List Answer) (next : Dialogue) (r : List RegCall) (b : List BoardCall) → BeginsBy next r b → BeginsBy (Says answers next) r b
 begins-says answers next r b begins = λ calls m. let f = begins calls m in (f.0, f.1)
@@ -118,10 +118,10 @@ first-asked q next answer calls b first =
     by_answer (reg_answer q (reg_call q answer)) (reg-answered q answer)
   where
     by_answer : (o : Option (RegAnswer q)) → o ≡ Some answer
-        → let turn : Turn = elim o [ Some given ↦ asking (reg_call q given) (turn_of (next given) calls b) | None ↦ broken ] in
+        → let turn : Transcript = elim o [ Some given ↦ asking (reg_call q given) (transcript_of (next given) calls b) | None ↦ broken ] in
         (turn.registry ≡ reg_call q answer ∷ calls) × (turn.board ≡ b)
     by_answer o is =
-        subst (λ (p : Option (RegAnswer q)). let turn : Turn = elim p [ Some given ↦ asking (reg_call q given) (turn_of (next given) calls b) | None ↦ broken ] in
+        subst (λ (p : Option (RegAnswer q)). let turn : Transcript = elim p [ Some given ↦ asking (reg_call q given) (transcript_of (next given) calls b) | None ↦ broken ] in
         (turn.registry ≡ reg_call q answer ∷ calls) × (turn.board ≡ b)) (sym is) (ap (λ cs. reg_call q answer ∷ cs) first.0, first.1)
 
 pub begins-asks : (q : RegQuestion) (answer : RegAnswer q) (next : RegAnswer q → Dialogue) (r : List RegCall) (b : List BoardCall)
@@ -136,10 +136,10 @@ first-posted q next answer calls b first =
     by_answer (board_answer q (board_call q answer)) (board-answered q answer)
   where
     by_answer : (o : Option (BoardAnswer q)) → o ≡ Some answer
-        → let turn : Turn = elim o [ Some given ↦ posting (board_call q given) (turn_of (next given) calls b) | None ↦ broken ] in
+        → let turn : Transcript = elim o [ Some given ↦ posting (board_call q given) (transcript_of (next given) calls b) | None ↦ broken ] in
         (turn.registry ≡ calls) × (turn.board ≡ board_call q answer ∷ b)
     by_answer o is =
-        subst (λ (p : Option (BoardAnswer q)). let turn : Turn = elim p [ Some given ↦ posting (board_call q given) (turn_of (next given) calls b) | None ↦ broken ] in
+        subst (λ (p : Option (BoardAnswer q)). let turn : Transcript = elim p [ Some given ↦ posting (board_call q given) (transcript_of (next given) calls b) | None ↦ broken ] in
         (turn.registry ≡ calls) × (turn.board ≡ board_call q answer ∷ b)) (sym is) (first.0, ap (λ cs. board_call q answer ∷ cs) first.1)
 
 pub begins-posts : (q : BoardQuestion) (answer : BoardAnswer q) (next : BoardAnswer q → Dialogue) (r : List RegCall) (b : List BoardCall)
@@ -177,7 +177,7 @@ begins-look text found next =
 
 -- ---- of one dialogue after another
 
-first-followed : (d : Dialogue) (later : Walk → Dialogue) (r : List RegCall) (b : List BoardCall) → AreFirstCalls d r b → AreFirstCalls (followed d later) r b
+first-followed : (d : Dialogue) (later : ScriptState → Dialogue) (r : List RegCall) (b : List BoardCall) → AreFirstCalls d r b → AreFirstCalls (followed d later) r b
 first-followed (Ends after) later [] [] first = first-none (later after)
 first-followed (Ends after) later (call ∷ r) b first = absurd (let e = first.0 in cc)
 first-followed (Ends after) later [] (call ∷ b) first = absurd (let e = first.1 in cc)
@@ -186,10 +186,10 @@ first-followed (Asks q next) later [] b first = first
 first-followed (Asks q next) later (call ∷ r) b first = by_answer (reg_answer q call) first (λ answer taken. first-followed (next answer) later r b taken)
   where
     by_answer : (o : Option (RegAnswer q))
-        → (let turn : Turn = elim o [ Some answer ↦ asking (reg_call q answer) (turn_of (next answer) r b) | None ↦ broken ] in
+        → (let turn : Transcript = elim o [ Some answer ↦ asking (reg_call q answer) (transcript_of (next answer) r b) | None ↦ broken ] in
         (turn.registry ≡ call ∷ r) × (turn.board ≡ b))
         → ((answer : RegAnswer q) → AreFirstCalls (next answer) r b → AreFirstCalls (followed (next answer) later) r b)
-        → (let turn : Turn = elim o [ Some answer ↦ asking (reg_call q answer) (turn_of (followed (next answer) later) r b) | None ↦ broken ] in
+        → (let turn : Transcript = elim o [ Some answer ↦ asking (reg_call q answer) (transcript_of (followed (next answer) later) r b) | None ↦ broken ] in
         (turn.registry ≡ call ∷ r) × (turn.board ≡ b))
     by_answer None t go = t
     by_answer (Some answer) t go =
@@ -199,40 +199,40 @@ first-followed (Posts q next) later r [] first = first
 first-followed (Posts q next) later r (call ∷ b) first = by_answer (board_answer q call) first (λ answer taken. first-followed (next answer) later r b taken)
   where
     by_answer : (o : Option (BoardAnswer q))
-        → (let turn : Turn = elim o [ Some answer ↦ posting (board_call q answer) (turn_of (next answer) r b) | None ↦ broken ] in
+        → (let turn : Transcript = elim o [ Some answer ↦ posting (board_call q answer) (transcript_of (next answer) r b) | None ↦ broken ] in
         (turn.registry ≡ r) × (turn.board ≡ call ∷ b))
         → ((answer : BoardAnswer q) → AreFirstCalls (next answer) r b → AreFirstCalls (followed (next answer) later) r b)
-        → (let turn : Turn = elim o [ Some answer ↦ posting (board_call q answer) (turn_of (followed (next answer) later) r b) | None ↦ broken ] in
+        → (let turn : Transcript = elim o [ Some answer ↦ posting (board_call q answer) (transcript_of (followed (next answer) later) r b) | None ↦ broken ] in
         (turn.registry ≡ r) × (turn.board ≡ call ∷ b))
     by_answer None t go = t
     by_answer (Some answer) t go =
         let f = go answer (t.0, let e = t.1 in cc) in
         (f.0, ap (λ cs. board_call q answer ∷ cs) f.1 ∙ ap (λ c. c ∷ b) (let e = t.1 in cc))
 
-pub begins-first : (first : Dialogue) (later : Walk → Dialogue) (r : List RegCall) (b : List BoardCall) → BeginsBy first r b → BeginsBy (followed first later) r b
+pub begins-first : (first : Dialogue) (later : ScriptState → Dialogue) (r : List RegCall) (b : List BoardCall) → BeginsBy first r b → BeginsBy (followed first later) r b
 begins-first first later r b begins = λ calls m. first-followed first later calls b (begins calls m)
 
 -- where a turn is taken up, and the rest begins by further calls
-pub first-joined : (d e : Dialogue) (t : Turn) (r : List RegCall) (b : List BoardCall)
-    → ((calls : List RegCall) → turn_of d (t.registry ++ calls) (t.board ++ b) ≡ joined t (turn_of e calls b))
+pub first-joined : (d e : Dialogue) (t : Transcript) (r : List RegCall) (b : List BoardCall)
+    → ((calls : List RegCall) → transcript_of d (t.registry ++ calls) (t.board ++ b) ≡ joined t (transcript_of e calls b))
     → AllSettled t.registry → BeginsBy e r b → BeginsBy d (t.registry ++ r) (t.board ++ b)
 first-joined d e t r b leads settled begins = λ calls m.
     let behind = may-behind t.registry r calls settled m in
     let f = begins behind.rest behind.may in
     let turn = leads behind.rest in
     subst (λ cs. AreFirstCalls d cs (t.board ++ b)) (sym behind.calls_are)
-    (ap (λ (u : Turn). u.registry) turn ∙ ap (λ cs. t.registry ++ cs) f.0, ap (λ (u : Turn). u.board) turn ∙ ap (λ cs. t.board ++ cs) f.1)
+    (ap (λ (u : Transcript). u.registry) turn ∙ ap (λ cs. t.registry ++ cs) f.0, ap (λ (u : Transcript). u.board) turn ∙ ap (λ cs. t.board ++ cs) f.1)
 
-pub begins-later : (first : Dialogue) (later : Walk → Dialogue) (t : Turn) (walk : Walk) (r : List RegCall) (b : List BoardCall) → IsTurn first t
-    → t.after ≡ Some walk → AllSettled t.registry → BeginsBy (later walk) r b → BeginsBy (followed first later) (t.registry ++ r) (t.board ++ b)
-begins-later first later t walk r b is after settled begins =
-    first-joined (followed first later) (later walk) t r b (λ calls. turn-goes_on first later t walk calls b is after) settled begins
+pub begins-later : (first : Dialogue) (later : ScriptState → Dialogue) (t : Transcript) (script_state : ScriptState) (r : List RegCall) (b : List BoardCall) → IsTranscript first t
+    → t.after ≡ Some script_state → AllSettled t.registry → BeginsBy (later script_state) r b → BeginsBy (followed first later) (t.registry ++ r) (t.board ++ b)
+begins-later first later t script_state r b is after settled begins =
+    first-joined (followed first later) (later script_state) t r b (λ calls. turn-goes_on first later t script_state calls b is after) settled begins
 
-pub begins-lines : (workers : ℕ) (walk now : Walk) (n m : ℕ) (lines left : List Line) (t : Turn) (rest : Walk → Dialogue) (r : List RegCall) (b : List BoardCall)
-    → Leads workers walk n lines t now m left → AllSettled t.registry → BeginsBy (lines_dialogue workers now m left rest) r b
-    → BeginsBy (lines_dialogue workers walk n lines rest) (t.registry ++ r) (t.board ++ b)
-begins-lines workers walk now n m lines left t rest r b leads settled begins =
-    first-joined (lines_dialogue workers walk n lines rest) (lines_dialogue workers now m left rest) t r b (λ calls. leads rest calls b) settled begins
+pub begins-lines : (workers : ℕ) (script_state now : ScriptState) (n m : ℕ) (lines left : List Line) (t : Transcript) (rest : ScriptState → Dialogue) (r : List RegCall) (b : List BoardCall)
+    → Leads workers script_state n lines t now m left → AllSettled t.registry → BeginsBy (lines_dialogue workers now m left rest) r b
+    → BeginsBy (lines_dialogue workers script_state n lines rest) (t.registry ++ r) (t.board ++ b)
+begins-lines workers script_state now n m lines left t rest r b leads settled begins =
+    first-joined (lines_dialogue workers script_state n lines rest) (lines_dialogue workers now m left rest) t r b (λ calls. leads rest calls b) settled begins
 
 -- ---- of a history
 

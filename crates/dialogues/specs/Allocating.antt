@@ -14,8 +14,8 @@ use Rattle.transforms.specs.Plans.{tag_size_of}
 use Rattle.reply_text.specs.declared.answers.Answer.TheVariants as said
 use Rattle.dialogues.specs.Names.{name_read, is_queue_length, plan_for}
 use Rattle.dialogues.specs.Questions.{Look, Get, Put, Create, Close}
-use Rattle.dialogues.specs.Dialogues.{Dialogue, Asks, Posts, says, refuses, unless, with_label}
-use Rattle.dialogues.specs.Walk.{Walk, Live, Pipe, either_of, without}
+use Rattle.dialogues.specs.Dialogues.{Dialogue, Asks, Posts, says, answers_errno, unless, with_label}
+use Rattle.dialogues.specs.ScriptState.{ScriptState, Live, PipelineState, either_of, without}
 
 -- ---- `alloc T NAME [NUM]`
 
@@ -45,57 +45,57 @@ bound_of (Queue max) = Some max
 bound_of (Chain max lists) = Some max
 
 -- the pipeline of this number, of which nothing was asked
-abbrev pub new_pipe : ℕ → Shape → Pipe
-new_pipe number shape = record { number = number; bound = bound_of shape; held = false; unmanned = false; lines = []; delivered = 0 }
+abbrev pub new_pipe : ℕ → Shape → PipelineState
+new_pipe number shape = record { number = number; bound = bound_of shape; held = false; mask_is_empty = false; lines = []; delivered = 0 }
 
 -- with no key yet, and the greatest tag size of its mode
-abbrev pub new_live : List ℕ → ℕ → Plan → Option Pipe → Live
+abbrev pub new_live : List ℕ → ℕ → Plan → Option PipelineState → Live
 new_live label id plan pipe = record { label = label; id = id; plan = plan; key = None; tag_size = tag_size_of plan; pipe = pipe }
 
-abbrev pub and_live : Walk → Live → Walk
-and_live walk live = record walk { lives = walk.lives ++ live ∷ [] }
+abbrev pub and_live : ScriptState → Live → ScriptState
+and_live script_state live = record script_state { lives = script_state.lives ++ live ∷ [] }
 
 -- a new pipeline of the shape, where there is one
-abbrev pub creates : Option Shape → (Option Pipe → Dialogue) → Dialogue
+abbrev pub creates : Option Shape → (Option PipelineState → Dialogue) → Dialogue
 creates None rest = rest None
 creates (Some shape) rest = Posts (Create shape) λ number. rest (Some (new_pipe number shape))
 
-abbrev pub binds_plan : ℕ → Walk → ℕ → List ℕ → Option ℕ → ℕ → Spec → Option Plan → Dialogue
-binds_plan workers walk n label len id spec None = refuses walk n EINVAL
-binds_plan workers walk n label len id spec (Some plan) =
-    Asks (Get id) λ ok. unless walk n ((not ok, EAGAIN) ∷ []) (
-    creates (shape_for workers (is_chained spec.driver) spec.wrap len) λ pipe. says (and_live walk (new_live label id plan pipe)) (said.Made n spec.driver))
+abbrev pub binds_plan : ℕ → ScriptState → ℕ → List ℕ → Option ℕ → ℕ → Spec → Option Plan → Dialogue
+binds_plan workers script_state n label len id spec None = answers_errno script_state n EINVAL
+binds_plan workers script_state n label len id spec (Some plan) =
+    Asks (Get id) λ ok. unless script_state n ((not ok, EAGAIN) ∷ []) (
+    creates (shape_for workers (is_chained spec.driver) spec.wrap len) λ pipe. says (and_live script_state (new_live label id plan pipe)) (said.Made n spec.driver))
 
 -- what was found is taken into use
-abbrev pub binds : ℕ → Walk → ℕ → List ℕ → Option ℕ → Found → Dialogue
-binds workers walk n label len (Fault errno) = refuses walk n errno
-binds workers walk n label len (Entry id spec) = binds_plan workers walk n label len id spec (plan_for spec len)
+abbrev pub binds : ℕ → ScriptState → ℕ → List ℕ → Option ℕ → Found → Dialogue
+binds workers script_state n label len (Fault errno) = answers_errno script_state n errno
+binds workers script_state n label len (Entry id spec) = binds_plan workers script_state n label len id spec (plan_for spec len)
 
 -- the name's own refusal, if it has one
 abbrev pub fault_of : {A : Type 0} → Result A Errno → List (Bool × Errno)
 fault_of (Ok name) = []
 fault_of (Err errno) = (true, errno) ∷ []
 
-abbrev pub alloc : ℕ → Walk → ℕ → List ℕ → List ℕ → Option ℕ → Dialogue
-alloc workers walk n label name len =
-    unless walk n (
-    (is_some (either_of walk label), EEXIST)
-    ∷ (nat_le 4096 (length walk.lives), EMFILE)
+abbrev pub alloc : ℕ → ScriptState → ℕ → List ℕ → List ℕ → Option ℕ → Dialogue
+alloc workers script_state n label name len =
+    unless script_state n (
+    (is_some (either_of script_state label), EEXIST)
+    ∷ (nat_le 4096 (length script_state.lives), EMFILE)
     ∷ fault_of (name_read name)
     ++ (not (is_queue_length len), EINVAL)
     ∷ []) (
-    Asks (Look name) λ found. binds workers walk n label len found)
+    Asks (Look name) λ found. binds workers script_state n label len found)
 
 -- ---- `free T`
 
-abbrev pub releases : Walk → ℕ → Live → Dialogue
-releases walk n live = Asks (Put live.id) λ done. says (without walk live.label) (said.Ok n)
+abbrev pub releases : ScriptState → ℕ → Live → Dialogue
+releases script_state n live = Asks (Put live.id) λ done. says (without script_state live.label) (said.Ok n)
 
 -- a transform isn't freed while a completion of its requests is to come
-abbrev pub closes : Walk → ℕ → Live → Option Pipe → Dialogue
-closes walk n live None = releases walk n live
-closes walk n live (Some pipe) = unless walk n ((nat_lt pipe.delivered (length pipe.lines), EBUSY) ∷ [])
-    (Posts (Close pipe.number) λ done. releases walk n live)
+abbrev pub closes : ScriptState → ℕ → Live → Option PipelineState → Dialogue
+closes script_state n live None = releases script_state n live
+closes script_state n live (Some pipe) = unless script_state n ((nat_lt pipe.delivered (length pipe.lines), EBUSY) ∷ [])
+    (Posts (Close pipe.number) λ done. releases script_state n live)
 
-abbrev pub free : Walk → ℕ → List ℕ → Dialogue
-free walk n label = with_label walk n label λ live. closes walk n live live.pipe
+abbrev pub free : ScriptState → ℕ → List ℕ → Dialogue
+free script_state n label = with_label script_state n label λ live. closes script_state n live live.pipe

@@ -10,10 +10,10 @@ use Rattle.templates.specs.declared.driver_plans.Plan.TheVariants.{Ctr}
 use Rattle.reply_text.specs.declared.answers.Answer.{Answer}
 use Rattle.reply_text.specs.declared.answers.Answer.TheVariants as said
 use Rattle.dialogues.specs.Dialogues.{Dialogue, says, with_either}
-use Rattle.dialogues.specs.Walk.{Walk, Live, Pipe}
+use Rattle.dialogues.specs.ScriptState.{ScriptState, Live, PipelineState}
 
 -- the root of its driver's name is `ctr`: it computes CTR, and neither `pcrypt` nor `cryptd` stands over it
-abbrev pub is_ctr : Plan → Option Pipe → Bool
+abbrev pub is_ctr : Plan → Option PipelineState → Bool
 is_ctr (Ctr aes) None = true
 is_ctr other pipe = false
 
@@ -43,5 +43,5 @@ bulk_under n live size seed (Some key) =
 abbrev pub bulk_said : ℕ → Live → ℕ → ℕ → Answer
 bulk_said n live size seed = bulk_under n live size seed live.key
 
-abbrev pub bulk : Walk → ℕ → List ℕ → ℕ → ℕ → Dialogue
-bulk walk n label size seed = with_either walk n label λ live. says walk (bulk_said n live size seed)
+abbrev pub bulk : ScriptState → ℕ → List ℕ → ℕ → ℕ → Dialogue
+bulk script_state n label size seed = with_either script_state n label λ live. says script_state (bulk_said n live size seed)

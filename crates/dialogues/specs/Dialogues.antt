@@ -5,17 +5,17 @@ use Rattle.kc_base.specs.declared.error_numbers.Errno.TheVariants.{ENOENT, EINVA
 use Rattle.reply_text.specs.declared.answers.Answer.{Answer}
 use Rattle.reply_text.specs.declared.answers.Answer.TheVariants as said
 use Rattle.dialogues.specs.Questions.{RegQuestion, RegAnswer, BoardQuestion, BoardAnswer}
-use Rattle.dialogues.specs.Walk.{Walk, Live, live_of, shared_of, either_of}
+use Rattle.dialogues.specs.ScriptState.{ScriptState, Live, live_of, shared_of, either_of}
 
 -- It ends, with what the script has made; or it answers; or it asks, and goes on by what comes of it.
 pub data Dialogue : Type 0 where
-  Ends : (after : Walk) → Dialogue
+  Ends : (after : ScriptState) → Dialogue
   Says : (answers : List Answer) → (next : Dialogue) → Dialogue
   Asks : (question : RegQuestion) → (next : RegAnswer question → Dialogue) → Dialogue
   Posts : (question : BoardQuestion) → (next : BoardAnswer question → Dialogue) → Dialogue
 
 -- one dialogue, and then another by what is made after it
-abbrev pub followed : Dialogue → (Walk → Dialogue) → Dialogue
+abbrev pub followed : Dialogue → (ScriptState → Dialogue) → Dialogue
 followed (Ends after) later = later after
 followed (Says answers next) later = Says answers (followed next later)
 followed (Asks question next) later = Asks question (λ answer. followed (next answer) later)
@@ -23,21 +23,21 @@ followed (Posts question next) later = Posts question (λ answer. followed (next
 
 -- ---- how lines end
 
-abbrev pub says : Walk → Answer → Dialogue
-says walk answer = Says (answer ∷ []) (Ends walk)
+abbrev pub says : ScriptState → Answer → Dialogue
+says script_state answer = Says (answer ∷ []) (Ends script_state)
 
-abbrev pub refuses : Walk → ℕ → Errno → Dialogue
-refuses walk n errno = says walk (said.Refused n errno)
+abbrev pub answers_errno : ScriptState → ℕ → Errno → Dialogue
+answers_errno script_state n errno = says script_state (said.Refused n errno)
 
 -- the first refusal whose condition holds, and otherwise the rest
-abbrev pub unless : Walk → ℕ → List (Bool × Errno) → Dialogue → Dialogue
-unless walk n [] rest = rest
-unless walk n (refusal ∷ refusals) rest = if refusal.0 then refuses walk n refusal.1 else unless walk n refusals rest
+abbrev pub unless : ScriptState → ℕ → List (Bool × Errno) → Dialogue → Dialogue
+unless script_state n [] rest = rest
+unless script_state n (refusal ∷ refusals) rest = if refusal.0 then answers_errno script_state n refusal.1 else unless script_state n refusals rest
 
 -- what a line does with a live transform; without one it is refused so
-abbrev pub for_live : Walk → ℕ → Option Live → Errno → (Live → Dialogue) → Dialogue
-for_live walk n (Some live) errno rest = rest live
-for_live walk n None errno rest = refuses walk n errno
+abbrev pub for_live : ScriptState → ℕ → Option Live → Errno → (Live → Dialogue) → Dialogue
+for_live script_state n (Some live) errno rest = rest live
+for_live script_state n None errno rest = answers_errno script_state n errno
 
 -- why a script has no live transform of its own under a label: it may not change the shared one
 abbrev pub missing : Option Live → Errno
@@ -45,9 +45,9 @@ missing (Some shared) = EINVAL
 missing None = ENOENT
 
 -- what a line does with its script's own live transform of a label
-abbrev pub with_label : Walk → ℕ → List ℕ → (Live → Dialogue) → Dialogue
-with_label walk n label rest = for_live walk n (live_of walk label) (missing (shared_of walk label)) rest
+abbrev pub with_label : ScriptState → ℕ → List ℕ → (Live → Dialogue) → Dialogue
+with_label script_state n label rest = for_live script_state n (live_of script_state label) (missing (shared_of script_state label)) rest
 
 -- and what with its own or the shared one
-abbrev pub with_either : Walk → ℕ → List ℕ → (Live → Dialogue) → Dialogue
-with_either walk n label rest = for_live walk n (either_of walk label) ENOENT rest
+abbrev pub with_either : ScriptState → ℕ → List ℕ → (Live → Dialogue) → Dialogue
+with_either script_state n label rest = for_live script_state n (either_of script_state label) ENOENT rest

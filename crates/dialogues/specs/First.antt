@@ -5,11 +5,11 @@ use Rattle.templates.specs.Looking.{Found}
 use Rattle.dialogues.specs.BoardCalls.{BoardCall}
 use Rattle.dialogues.specs.Dialogues.{Dialogue}
 use Rattle.dialogues.specs.RegistryCalls.{RegCall, Looks, reg_calls}
-use Rattle.dialogues.specs.Turns.{turn_of}
+use Rattle.dialogues.specs.Transcripts.{transcript_of}
 
 -- the dialogue makes these calls first: its turn takes each of them
 abbrev pub AreFirstCalls : Dialogue → List RegCall → List BoardCall → Type 0
-AreFirstCalls dialogue r b = ((turn_of dialogue r b).registry ≡ r) × ((turn_of dialogue r b).board ≡ b)
+AreFirstCalls dialogue r b = ((transcript_of dialogue r b).registry ≡ r) × ((transcript_of dialogue r b).board ≡ b)
 
 -- what a call may come to: a look that has come to nothing to anything, and each other call to what it has come to
 abbrev pub MayBe : RegCall → RegCall → Type 0

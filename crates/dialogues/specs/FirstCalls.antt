@@ -12,8 +12,8 @@ use Rattle.dialogues.specs.Leading.{Leads}
 use Rattle.dialogues.specs.Lines.{lines_dialogue}
 use Rattle.dialogues.specs.Questions.{RegQuestion, RegAnswer, BoardQuestion, BoardAnswer, Look, reg_call, board_call}
 use Rattle.dialogues.specs.RegistryCalls.{RegCall, Looks, reg_calls, AllSettled}
-use Rattle.dialogues.specs.Turns.{Turn, IsTurn}
-use Rattle.dialogues.specs.Walk.{Walk}
+use Rattle.dialogues.specs.Transcripts.{Transcript, IsTranscript}
+use Rattle.dialogues.specs.ScriptState.{ScriptState}
 
 -- ---- of one dialogue
 
@@ -22,7 +22,7 @@ BeginsByNone = (dialogue : Dialogue) → BeginsBy dialogue [] []
 
 -- a whole turn's calls
 abbrev pub BeginsByTurn : Type 0
-BeginsByTurn = (dialogue : Dialogue) (turn : Turn) → IsTurn dialogue turn → AllSettled turn.registry → BeginsBy dialogue turn.registry turn.board
+BeginsByTurn = (dialogue : Dialogue) (turn : Transcript) → IsTranscript dialogue turn → AllSettled turn.registry → BeginsBy dialogue turn.registry turn.board
 
 abbrev pub BeginsSaying : Type 0
 BeginsSaying = (answers : List Answer) (next : Dialogue) (r : List RegCall) (b : List BoardCall) → BeginsBy next r b → BeginsBy (Says answers next) r b
@@ -60,20 +60,20 @@ BeginsLookingAll = (dialogue : Dialogue) (texts : List (List ℕ)) (r : List Reg
 -- ---- of one dialogue after another
 
 abbrev pub BeginsInFirst : Type 0
-BeginsInFirst = (first : Dialogue) (later : Walk → Dialogue) (r : List RegCall) (b : List BoardCall) → BeginsBy first r b → BeginsBy (followed first later) r b
+BeginsInFirst = (first : Dialogue) (later : ScriptState → Dialogue) (r : List RegCall) (b : List BoardCall) → BeginsBy first r b → BeginsBy (followed first later) r b
 
 abbrev pub BeginsInLater : Type 0
 BeginsInLater =
-    (first : Dialogue) (later : Walk → Dialogue) (turn : Turn) (walk : Walk) (r : List RegCall) (b : List BoardCall) → IsTurn first turn
-    → turn.after ≡ Some walk → AllSettled turn.registry → BeginsBy (later walk) r b
+    (first : Dialogue) (later : ScriptState → Dialogue) (turn : Transcript) (script_state : ScriptState) (r : List RegCall) (b : List BoardCall) → IsTranscript first turn
+    → turn.after ≡ Some script_state → AllSettled turn.registry → BeginsBy (later script_state) r b
     → BeginsBy (followed first later) (turn.registry ++ r) (turn.board ++ b)
 
 -- first lines, and then further calls
 abbrev pub BeginsInLines : Type 0
 BeginsInLines =
-    (workers : ℕ) (walk now : Walk) (n m : ℕ) (lines left : List Line) (turn : Turn) (rest : Walk → Dialogue) (r : List RegCall) (b : List BoardCall)
-    → Leads workers walk n lines turn now m left → AllSettled turn.registry → BeginsBy (lines_dialogue workers now m left rest) r b
-    → BeginsBy (lines_dialogue workers walk n lines rest) (turn.registry ++ r) (turn.board ++ b)
+    (workers : ℕ) (script_state now : ScriptState) (n m : ℕ) (lines left : List Line) (turn : Transcript) (rest : ScriptState → Dialogue) (r : List RegCall) (b : List BoardCall)
+    → Leads workers script_state n lines turn now m left → AllSettled turn.registry → BeginsBy (lines_dialogue workers now m left rest) r b
+    → BeginsBy (lines_dialogue workers script_state n lines rest) (turn.registry ++ r) (turn.board ++ b)
 
 -- ---- of a history
 

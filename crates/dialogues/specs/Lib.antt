@@ -1,9 +1,9 @@
-pub mod Walk
+pub mod ScriptState
 pub mod RegistryCalls
 pub mod BoardCalls
 pub mod Questions
 pub mod Dialogues
-pub mod Turns
+pub mod Transcripts
 pub mod Names
 pub mod Registering
 pub mod Allocating

@@ -13,44 +13,44 @@ use Rattle.dialogues.specs.Piping.{mask, hold, go, poll, drain, end, end_beside}
 use Rattle.dialogues.specs.Probing.{probe}
 use Rattle.dialogues.specs.Registering.{register, unregister, refs, listed}
 use Rattle.dialogues.specs.Requesting.{aes, set_key, set_tag_size, request, request_of}
-use Rattle.dialogues.specs.Walk.{Walk}
+use Rattle.dialogues.specs.ScriptState.{ScriptState}
 
 -- The first argument of each is how many workers stand beside the script.
-abbrev pub command_dialogue : ℕ → Walk → ℕ → Command → Dialogue
-command_dialogue workers walk n (command.Aes key block) = aes walk n key block
-command_dialogue workers walk n (command.Register driver priority) = register walk n driver priority
-command_dialogue workers walk n (command.Unregister driver) = unregister walk n driver
-command_dialogue workers walk n (command.Probe names) = probe walk n names
-command_dialogue workers walk n (command.Alloc label name length) = alloc workers walk n label name length
-command_dialogue workers walk n (command.Key label key) = set_key walk n label key
-command_dialogue workers walk n (command.Authsize label size) = set_tag_size walk n label size
-command_dialogue workers walk n (command.Enc label iv aad text backlog) = request walk n label (request_of dir.Enc iv aad text) backlog
-command_dialogue workers walk n (command.Dec label iv aad text backlog) = request walk n label (request_of dir.Dec iv aad text) backlog
-command_dialogue workers walk n (command.Mac label text backlog) = request walk n label (request_of dir.Mac [] [] text) backlog
-command_dialogue workers walk n (command.Bulk label size seed) = bulk walk n label size seed
-command_dialogue workers walk n (command.Mask label bits) = mask workers walk n label bits
-command_dialogue workers walk n (command.Hold label) = hold walk n label
-command_dialogue workers walk n (command.Go label) = go walk n label
-command_dialogue workers walk n (command.Poll label) = poll walk n label
-command_dialogue workers walk n (command.Drain label) = drain walk n label
-command_dialogue workers walk n (command.Free label) = free walk n label
-command_dialogue workers walk n (command.Refs driver) = refs walk n driver
-command_dialogue workers walk n command.List = listed walk n
+abbrev pub command_dialogue : ℕ → ScriptState → ℕ → Command → Dialogue
+command_dialogue workers script_state n (command.Aes key block) = aes script_state n key block
+command_dialogue workers script_state n (command.Register driver priority) = register script_state n driver priority
+command_dialogue workers script_state n (command.Unregister driver) = unregister script_state n driver
+command_dialogue workers script_state n (command.Probe names) = probe script_state n names
+command_dialogue workers script_state n (command.Alloc label name length) = alloc workers script_state n label name length
+command_dialogue workers script_state n (command.Key label key) = set_key script_state n label key
+command_dialogue workers script_state n (command.Authsize label size) = set_tag_size script_state n label size
+command_dialogue workers script_state n (command.Enc label iv aad text backlog) = request script_state n label (request_of dir.Enc iv aad text) backlog
+command_dialogue workers script_state n (command.Dec label iv aad text backlog) = request script_state n label (request_of dir.Dec iv aad text) backlog
+command_dialogue workers script_state n (command.Mac label text backlog) = request script_state n label (request_of dir.Mac [] [] text) backlog
+command_dialogue workers script_state n (command.Bulk label size seed) = bulk script_state n label size seed
+command_dialogue workers script_state n (command.Mask label bits) = mask workers script_state n label bits
+command_dialogue workers script_state n (command.Hold label) = hold script_state n label
+command_dialogue workers script_state n (command.Go label) = go script_state n label
+command_dialogue workers script_state n (command.Poll label) = poll script_state n label
+command_dialogue workers script_state n (command.Drain label) = drain script_state n label
+command_dialogue workers script_state n (command.Free label) = free script_state n label
+command_dialogue workers script_state n (command.Refs driver) = refs script_state n driver
+command_dialogue workers script_state n command.List = listed script_state n
 
-abbrev pub line_dialogue : ℕ → Walk → ℕ → Line → Dialogue
-line_dialogue workers walk n line.Nothing = Ends walk
-line_dialogue workers walk n line.Malformed = says walk (said.Malformed n)
-line_dialogue workers walk n (line.Cmd command) = command_dialogue workers walk n command
+abbrev pub line_dialogue : ℕ → ScriptState → ℕ → Line → Dialogue
+line_dialogue workers script_state n line.Nothing = Ends script_state
+line_dialogue workers script_state n line.Malformed = says script_state (said.Malformed n)
+line_dialogue workers script_state n (line.Cmd command) = command_dialogue workers script_state n command
 
 -- lines from a number on, and then what follows on them
-abbrev pub lines_dialogue : ℕ → Walk → ℕ → List Line → (Walk → Dialogue) → Dialogue
-lines_dialogue workers walk n [] rest = rest walk
-lines_dialogue workers walk n (next ∷ lines) rest = followed (line_dialogue workers walk n next) λ after. lines_dialogue workers after (n + 1) lines rest
+abbrev pub lines_dialogue : ℕ → ScriptState → ℕ → List Line → (ScriptState → Dialogue) → Dialogue
+lines_dialogue workers script_state n [] rest = rest script_state
+lines_dialogue workers script_state n (next ∷ lines) rest = followed (line_dialogue workers script_state n next) λ after. lines_dialogue workers after (n + 1) lines rest
 
 -- a whole script, and the end of its input
-abbrev pub script : ℕ → Walk → List Line → Dialogue
-script workers walk lines = lines_dialogue workers walk 1 lines end
+abbrev pub script : ℕ → ScriptState → List Line → Dialogue
+script workers script_state lines = lines_dialogue workers script_state 1 lines end
 
 -- a whole script beside others, who go on at its end
-abbrev pub script_beside : ℕ → Walk → List Line → Dialogue
-script_beside workers walk lines = lines_dialogue workers walk 1 lines end_beside
+abbrev pub script_beside : ℕ → ScriptState → List Line → Dialogue
+script_beside workers script_state lines = lines_dialogue workers script_state 1 lines end_beside

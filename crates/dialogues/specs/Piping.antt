@@ -9,8 +9,8 @@ use Rattle.reply_text.specs.declared.origin.Origin.{Origin}
 use Rattle.dialogues.specs.BoardCalls.{Notice, Started, Completed}
 use Rattle.dialogues.specs.Allocating.{lists_beside}
 use Rattle.dialogues.specs.Questions.{Mask, Hold, Go, Poll, Drain, Shut}
-use Rattle.dialogues.specs.Dialogues.{Dialogue, Ends, Says, Posts, says, refuses, unless, with_label}
-use Rattle.dialogues.specs.Walk.{Walk, Live, Pipe, with_pipe}
+use Rattle.dialogues.specs.Dialogues.{Dialogue, Ends, Says, Posts, says, answers_errno, unless, with_label}
+use Rattle.dialogues.specs.ScriptState.{ScriptState, Live, PipelineState, with_pipe}
 
 -- ---- what is told
 
@@ -34,76 +34,76 @@ completions notices = length (filter is_completion notices)
 -- ---- `mask T MASK`
 
 -- only a pad is masked: one has no bound
-abbrev pub if_pad : Walk → ℕ → Option ℕ → Dialogue → Dialogue
-if_pad walk n None rest = rest
-if_pad walk n (Some max) rest = refuses walk n EINVAL
+abbrev pub if_pad : ScriptState → ℕ → Option ℕ → Dialogue → Dialogue
+if_pad script_state n None rest = rest
+if_pad script_state n (Some max) rest = answers_errno script_state n EINVAL
 
-abbrev pub with_pad : Walk → ℕ → Option Pipe → (Pipe → Dialogue) → Dialogue
-with_pad walk n None rest = refuses walk n EINVAL
-with_pad walk n (Some pipe) rest = if_pad walk n pipe.bound (rest pipe)
+abbrev pub with_pad : ScriptState → ℕ → Option PipelineState → (PipelineState → Dialogue) → Dialogue
+with_pad script_state n None rest = answers_errno script_state n EINVAL
+with_pad script_state n (Some pipe) rest = if_pad script_state n pipe.bound (rest pipe)
 
 -- the bits of the workers that there are
 abbrev pub kept_bits : ℕ → ℕ → ℕ
 kept_bits workers bits = bits % 2 ^ lists_beside workers
 
-abbrev pub masks : ℕ → Walk → ℕ → ℕ → Live → Pipe → Dialogue
-masks workers walk n bits live pipe =
+abbrev pub masks : ℕ → ScriptState → ℕ → ℕ → Live → PipelineState → Dialogue
+masks workers script_state n bits live pipe =
     Posts (Mask pipe.number (kept_bits workers bits)) λ done.
-    says (with_pipe walk live (record pipe { unmanned = kept_bits workers bits == 0 })) (said.Ok n)
+    says (with_pipe script_state live (record pipe { mask_is_empty = kept_bits workers bits == 0 })) (said.Ok n)
 
-abbrev pub mask : ℕ → Walk → ℕ → List ℕ → ℕ → Dialogue
-mask workers walk n label bits = with_label walk n label λ live. with_pad walk n live.pipe (masks workers walk n bits live)
+abbrev pub mask : ℕ → ScriptState → ℕ → List ℕ → ℕ → Dialogue
+mask workers script_state n label bits = with_label script_state n label λ live. with_pad script_state n live.pipe (masks workers script_state n bits live)
 
 -- ---- `hold T` and `go T`
 
 -- only a queue or a chain is held and let go: one has a bound
-abbrev pub if_queue : Walk → ℕ → Option ℕ → Dialogue → Dialogue
-if_queue walk n None rest = refuses walk n EINVAL
-if_queue walk n (Some max) rest = rest
+abbrev pub if_queue : ScriptState → ℕ → Option ℕ → Dialogue → Dialogue
+if_queue script_state n None rest = answers_errno script_state n EINVAL
+if_queue script_state n (Some max) rest = rest
 
-abbrev pub with_queue : Walk → ℕ → Option Pipe → (Pipe → Dialogue) → Dialogue
-with_queue walk n None rest = refuses walk n EINVAL
-with_queue walk n (Some pipe) rest = if_queue walk n pipe.bound (rest pipe)
+abbrev pub with_queue : ScriptState → ℕ → Option PipelineState → (PipelineState → Dialogue) → Dialogue
+with_queue script_state n None rest = answers_errno script_state n EINVAL
+with_queue script_state n (Some pipe) rest = if_queue script_state n pipe.bound (rest pipe)
 
-abbrev pub hold : Walk → ℕ → List ℕ → Dialogue
-hold walk n label =
-    with_label walk n label λ live. with_queue walk n live.pipe λ pipe.
-    Posts (Hold pipe.number) λ done. says (with_pipe walk live (record pipe { held = true })) (said.Ok n)
+abbrev pub hold : ScriptState → ℕ → List ℕ → Dialogue
+hold script_state n label =
+    with_label script_state n label λ live. with_queue script_state n live.pipe λ pipe.
+    Posts (Hold pipe.number) λ done. says (with_pipe script_state live (record pipe { held = true })) (said.Ok n)
 
-abbrev pub go : Walk → ℕ → List ℕ → Dialogue
-go walk n label =
-    with_label walk n label λ live. with_queue walk n live.pipe λ pipe.
-    Posts (Go pipe.number) λ done. says (with_pipe walk live (record pipe { held = false })) (said.Ok n)
+abbrev pub go : ScriptState → ℕ → List ℕ → Dialogue
+go script_state n label =
+    with_label script_state n label λ live. with_queue script_state n live.pipe λ pipe.
+    Posts (Go pipe.number) λ done. says (with_pipe script_state live (record pipe { held = false })) (said.Ok n)
 
 -- ---- `poll T` and `drain T`
 
 -- what the pipeline tells, and then an answer
-abbrev pub tells : Walk → Live → Pipe → List Notice → Answer → Dialogue
-tells walk live pipe notices end =
+abbrev pub tells : ScriptState → Live → PipelineState → List Notice → Answer → Dialogue
+tells script_state live pipe notices end =
     Says (map notice_said notices ++ end ∷ [])
-    (Ends (with_pipe walk live (record pipe { delivered = pipe.delivered + completions notices })))
+    (Ends (with_pipe script_state live (record pipe { delivered = pipe.delivered + completions notices })))
 
-abbrev pub polls_in : Walk → ℕ → Live → Option Pipe → Dialogue
-polls_in walk n live None = says walk (said.Polled n 0)
-polls_in walk n live (Some pipe) =
-    Posts (Poll pipe.number) λ told. tells walk live pipe told.notices (said.Polled n (completions told.notices))
+abbrev pub polls_in : ScriptState → ℕ → Live → Option PipelineState → Dialogue
+polls_in script_state n live None = says script_state (said.Polled n 0)
+polls_in script_state n live (Some pipe) =
+    Posts (Poll pipe.number) λ told. tells script_state live pipe told.notices (said.Polled n (completions told.notices))
 
-abbrev pub poll : Walk → ℕ → List ℕ → Dialogue
-poll walk n label = with_label walk n label λ live. polls_in walk n live live.pipe
+abbrev pub poll : ScriptState → ℕ → List ℕ → Dialogue
+poll script_state n label = with_label script_state n label λ live. polls_in script_state n live live.pipe
 
-abbrev pub drains_in : Walk → ℕ → Live → Option Pipe → Dialogue
-drains_in walk n live None = says walk (said.Drained n 0)
-drains_in walk n live (Some pipe) =
-    unless walk n ((pipe.held, EINVAL) ∷ [])
-    (Posts (Drain pipe.number) λ notices. tells walk live pipe notices (said.Drained n (completions notices)))
+abbrev pub drains_in : ScriptState → ℕ → Live → Option PipelineState → Dialogue
+drains_in script_state n live None = says script_state (said.Drained n 0)
+drains_in script_state n live (Some pipe) =
+    unless script_state n ((pipe.held, EINVAL) ∷ [])
+    (Posts (Drain pipe.number) λ notices. tells script_state live pipe notices (said.Drained n (completions notices)))
 
-abbrev pub drain : Walk → ℕ → List ℕ → Dialogue
-drain walk n label = with_label walk n label λ live. drains_in walk n live live.pipe
+abbrev pub drain : ScriptState → ℕ → List ℕ → Dialogue
+drain script_state n label = with_label script_state n label λ live. drains_in script_state n live live.pipe
 
 -- ---- the end of input
 
 -- a held queue is let go
-abbrev pub lets_go : Option Pipe → Dialogue → Dialogue
+abbrev pub lets_go : Option PipelineState → Dialogue → Dialogue
 lets_go None rest = rest
 lets_go (Some pipe) rest = if pipe.held then (Posts (Go pipe.number) λ done. rest) else rest
 
@@ -115,7 +115,7 @@ end_said label count = if count == 0 then [] else said.End label count ∷ []
 abbrev pub said_at_end : List ℕ → List Notice → List Answer
 said_at_end label notices = map notice_said notices ++ end_said label (completions notices)
 
-abbrev pub drains_at_end : List ℕ → Option Pipe → Dialogue → Dialogue
+abbrev pub drains_at_end : List ℕ → Option PipelineState → Dialogue → Dialogue
 drains_at_end label None rest = rest
 drains_at_end label (Some pipe) rest = Posts (Drain pipe.number) λ notices. Says (said_at_end label notices) rest
 
@@ -129,13 +129,13 @@ drain_all [] rest = rest
 drain_all (live ∷ lives) rest = drains_at_end live.label live.pipe (drain_all lives rest)
 
 -- Held queues are let go, and each of the script's own live transforms is drained, in order of allocation.
-abbrev pub drains_own : Walk → Dialogue → Dialogue
-drains_own walk rest = let_all_go walk.lives (drain_all walk.lives rest)
+abbrev pub drains_own : ScriptState → Dialogue → Dialogue
+drains_own script_state rest = let_all_go script_state.lives (drain_all script_state.lives rest)
 
 -- and then the board is shut
-abbrev pub end : Walk → Dialogue
-end walk = drains_own walk (Posts Shut λ done. Ends walk)
+abbrev pub end : ScriptState → Dialogue
+end script_state = drains_own script_state (Posts Shut λ done. Ends script_state)
 
 -- where others go on, it stays open
-abbrev pub end_beside : Walk → Dialogue
-end_beside walk = drains_own walk (Ends walk)
+abbrev pub end_beside : ScriptState → Dialogue
+end_beside script_state = drains_own script_state (Ends script_state)

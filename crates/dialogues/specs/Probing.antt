@@ -8,7 +8,7 @@ use Rattle.templates.specs.Looking.{Found, Entry, Fault}
 use Rattle.dialogues.specs.Dialogues.{Dialogue, Ends, Says, Asks}
 use Rattle.dialogues.specs.Names.{name_read}
 use Rattle.dialogues.specs.Questions.{Look}
-use Rattle.dialogues.specs.Walk.{Walk}
+use Rattle.dialogues.specs.ScriptState.{ScriptState}
 
 -- what is said of a name, by what it came to
 abbrev pub found_said : ℕ → List ℕ → Found → Answer
@@ -26,5 +26,5 @@ looks_all n [] rest = rest []
 looks_all n (name ∷ names) rest = looks_up name (name_read name) λ found. looks_all n names λ answers. rest (found_said n name found ∷ answers)
 
 -- `probe NAME ..`
-abbrev pub probe : Walk → ℕ → List (List ℕ) → Dialogue
-probe walk n names = looks_all n names λ answers. Says answers (Ends walk)
+abbrev pub probe : ScriptState → ℕ → List (List ℕ) → Dialogue
+probe script_state n names = looks_all n names λ answers. Says answers (Ends script_state)

@@ -9,12 +9,12 @@ use Rattle.dialogues.specs.Dialogues.{Dialogue, Ends}
 use Rattle.dialogues.specs.Lines.{script, script_beside, lines_dialogue}
 use Rattle.dialogues.specs.RegistryCalls.{reg_calls}
 use Rattle.dialogues.specs.Sharing.{closing}
-use Rattle.dialogues.specs.Turns.{Turn, turn_of, text_in, IsTurn}
-use Rattle.dialogues.specs.Walk.{Walk, Live, start, start_beside}
+use Rattle.dialogues.specs.Transcripts.{Transcript, transcript_of, text_in, IsTranscript}
+use Rattle.dialogues.specs.ScriptState.{ScriptState, Live, start, start_beside}
 
 -- the turn that a caller's calls in the histories make of a dialogue
-abbrev pub turn_by : Dialogue → ℕ → List RegEntry → List (BoardEntry Ask) → Turn
-turn_by dialogue caller r b = turn_of dialogue (reg_calls caller r) (board_calls caller b)
+abbrev pub turn_by : Dialogue → ℕ → List RegEntry → List (BoardEntry Ask) → Transcript
+turn_by dialogue caller r b = transcript_of dialogue (reg_calls caller r) (board_calls caller b)
 
 -- This is what a dialogue prints over the histories, in which the caller's calls are the dialogue's and no more.
 pub record IsTextOf (dialogue : Dialogue) (caller : ℕ) (r : List RegEntry) (b : List (BoardEntry Ask)) (text : List ℕ) : Type 0 where
@@ -24,12 +24,12 @@ pub record IsTextOf (dialogue : Dialogue) (caller : ℕ) (r : List RegEntry) (b 
   pub text_is : text ≡ text_in (turn_by dialogue caller r b)
 
 -- and of a script
-abbrev pub turn_in : ℕ → Walk → ℕ → List Line → List RegEntry → List (BoardEntry Ask) → Turn
-turn_in workers walk caller lines r b = turn_by (script workers walk lines) caller r b
+abbrev pub turn_in : ℕ → ScriptState → ℕ → List Line → List RegEntry → List (BoardEntry Ask) → Transcript
+turn_in workers script_state caller lines r b = turn_by (script workers script_state lines) caller r b
 
 -- the text of a script over the histories
-abbrev pub IsText : ℕ → Walk → ℕ → List Line → List RegEntry → List (BoardEntry Ask) → List ℕ → Type 0
-IsText workers walk caller lines r b text = IsTextOf (script workers walk lines) caller r b text
+abbrev pub IsText : ℕ → ScriptState → ℕ → List Line → List RegEntry → List (BoardEntry Ask) → List ℕ → Type 0
+IsText workers script_state caller lines r b text = IsTextOf (script workers script_state lines) caller r b text
 
 -- ---- several scripts at once
 
@@ -37,14 +37,14 @@ IsText workers walk caller lines r b text = IsTextOf (script workers walk lines)
 abbrev pub IsClientText : ℕ → ℕ → List Live → List Line → List RegEntry → List (BoardEntry Ask) → List ℕ → Type 0
 IsClientText workers client shared lines r b text = IsTextOf (script_beside workers (start_beside client shared) lines) (16 + client) r b text
 
--- The first script has made this walk by its lines; its pipelines were shared then. Its lines print the one text, and the end of its
+-- The first script came to this state by its lines; its pipelines were shared then. Its lines print the one text, and the end of its
 -- input the other.
-pub record AreFirstTexts (workers : ℕ) (lines : List Line) (walk : Walk) (r : List RegEntry) (b : List (BoardEntry Ask)) (opening ending : List ℕ) : Type 0 where
-  pub first : Turn
-  pub last : Turn
-  pub is_first : IsTurn (lines_dialogue workers (start 0) 1 lines Ends) first
-  pub makes : first.after ≡ Some walk
-  pub is_last : IsTurn (closing walk) last
+pub record AreFirstTexts (workers : ℕ) (lines : List Line) (script_state : ScriptState) (r : List RegEntry) (b : List (BoardEntry Ask)) (opening ending : List ℕ) : Type 0 where
+  pub first : Transcript
+  pub last : Transcript
+  pub is_first : IsTranscript (lines_dialogue workers (start 0) 1 lines Ends) first
+  pub makes : first.after ≡ Some script_state
+  pub is_last : IsTranscript (closing script_state) last
   pub ended : IsSome last.after
   pub registry : first.registry ++ last.registry ≡ reg_calls 0 r
   pub board : first.board ++ last.board ≡ board_calls 0 b

@@ -13,20 +13,20 @@ ghost use Rattle.dialogues.specs.Leading.{LeadsNowhere, LeadsOn, LeadsToEnd};
 ghost use Rattle.dialogues.specs.References.{ReferencesFollow};
 ghost use Rattle.dialogues.specs.RegistryCalls.{RegCall};
 ghost use Rattle.dialogues.specs.Texts.{IsText};
-ghost use Rattle.dialogues.specs.Turns.{Turn, IsTurn, joined, turn_of};
-ghost use Rattle.dialogues.specs.Walk.{Walk};
+ghost use Rattle.dialogues.specs.Transcripts.{Transcript, IsTranscript, joined, transcript_of};
+ghost use Rattle.dialogues.specs.ScriptState.{ScriptState};
 
 /// A script has one text over two histories.
 pub fn one_text()
-    ensures { (workers : ℕ) (walk : Walk) (caller : ℕ) (lines : List Line) (r : List RegEntry) (b : List (BoardEntry Ask)) (x y : List ℕ)
-        → IsText workers walk caller lines r b x → IsText workers walk caller lines r b y → x ≡ y }
+    ensures { (workers : ℕ) (script_state : ScriptState) (caller : ℕ) (lines : List Line) (r : List RegEntry) (b : List (BoardEntry Ask)) (x y : List ℕ)
+        → IsText workers script_state caller lines r b x → IsText workers script_state caller lines r b y → x ≡ y }
 {}
 
 /// Where one dialogue follows another, its turn follows the other's.
 pub fn turns_follow()
-    ensures { (first : Dialogue) (later : Walk → Dialogue) (turn : Turn) (walk : Walk) (r : List RegCall) (b : List BoardCall)
-        → IsTurn first turn → turn.after ≡ Some walk
-        → turn_of (followed first later) (turn.registry ++ r) (turn.board ++ b) ≡ joined turn (turn_of (later walk) r b) }
+    ensures { (first : Dialogue) (later : ScriptState → Dialogue) (turn : Transcript) (script_state : ScriptState) (r : List RegCall) (b : List BoardCall)
+        → IsTranscript first turn → turn.after ≡ Some script_state
+        → transcript_of (followed first later) (turn.registry ++ r) (turn.board ++ b) ≡ joined turn (transcript_of (later script_state) r b) }
 {}
 
 /// A caller's calls on the registry stay as its history goes on, and only what it asked adds to them.

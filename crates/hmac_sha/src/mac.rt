@@ -3,7 +3,7 @@
 ghost use Rattle.std.specs.Prelude.{◌≡◌, ◌++◌, ℕ, List};
 ghost use Rattle.std.specs.List.{concat};
 ghost use Rattle.std_defs.specs.Hmac.{block_key, xor_pad, hmac_under};
-ghost use Rattle.sha_lanes.specs.Hashers.{Holds};
+ghost use Rattle.sha_lanes.specs.Hashers.{HasAbsorbed};
 
 use crate::key_block::{add_pad, block_of};
 use kc_base::Bytes;
@@ -20,7 +20,7 @@ const OUTER_PAD: u8 = 0x5c;
 
 /// A hasher that has taken the block with the pad.
 fn hasher_of(block: &[u8; 64], pad: u8) -> Sha256
-    ensures { Holds result (xor_pad pad block.now) }
+    ensures { HasAbsorbed result (xor_pad pad block.now) }
 {
     let mut padded = *block;
     add_pad(&mut padded, pad);
@@ -44,14 +44,14 @@ pub struct Mac {
 
 impl Model for Mac {
     ghost use Rattle.std.specs.Prelude.{ℕ, List};
-    ghost use Rattle.sha_lanes.specs.Hashers.{Holds};
+    ghost use Rattle.sha_lanes.specs.Hashers.{HasAbsorbed};
     ghost use Rattle.std_defs.specs.Hmac.{xor_pad};
 
     ghost Value = { List ℕ };
 
     ghost view = { λ mac. mac.block };
 
-    ghost invariant = { λ mac. Holds mac.inner (xor_pad 0x36 mac.block) × Holds mac.outer (xor_pad 0x5c mac.block) };
+    ghost invariant = { λ mac. HasAbsorbed mac.inner (xor_pad 0x36 mac.block) × HasAbsorbed mac.outer (xor_pad 0x5c mac.block) };
 }
 
 impl Mac {
@@ -93,7 +93,7 @@ impl Mac {
     /// The MAC of what the inner hasher has taken behind its block.
     #[tactic(auto, unfolding(std_defs::specs::Hmac::hmac_under))]
     fn finish(&self, inner: Sha256) -> [u8; 32]
-        ensures { (message : List ℕ) → Holds inner (xor_pad 0x36 self.now ++ message) → result ≡ hmac_under self.now message }
+        ensures { (message : List ℕ) → HasAbsorbed inner (xor_pad 0x36 self.now ++ message) → result ≡ hmac_under self.now message }
     {
         let digest = inner.finalize();
         let mut outer = self.outer.clone().unwrap();
@@ -104,7 +104,7 @@ impl Mac {
 
 /// Hashes the pieces one after another.
 fn hash_parts(hasher: &mut Sha256, parts: &[Bytes])
-    ensures { (m : List ℕ) → Holds hasher.old m → Holds hasher.new (m ++ concat parts.now) }
+    ensures { (m : List ℕ) → HasAbsorbed hasher.old m → HasAbsorbed hasher.new (m ++ concat parts.now) }
 {
     for part in parts {
         hasher.update(part.as_slice());

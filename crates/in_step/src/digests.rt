@@ -2,7 +2,7 @@
 
 ghost use Rattle.std.specs.Prelude.{◌≡◌, ◌≢◌, ℕ, List, [], ◌+◌, ◌*◌, ◌/◌, ◌%◌, ◌^◌, ◌<◌, ◌≤◌, ◌++◌, min, length, slice_index, slice_index_or};
 ghost use Rattle.sha2.specs.Sha256.{digest_bytes, hash_after, initial_hash_256, sha256};
-ghost use Rattle.sha_lanes.specs.Hashers.{Holds};
+ghost use Rattle.sha_lanes.specs.Hashers.{HasAbsorbed};
 ghost use Rattle.sha_lanes.specs.Lanes.{block_at, in_lane};
 ghost use Rattle.in_step.specs.Pieces.{AreCounts, AreShort, behind, piece};
 
@@ -226,7 +226,7 @@ fn digests_behind(
 /// pieces of a lane have fewer than 2^63 bytes together. No memory is taken.
 pub fn digests_in_step(hasher: &Sha256, firsts: &[&[u8]; 8], seconds: &[&[u8]; 8]) -> [[u8; 32]; 8]
     requires short { AreShort firsts.now seconds.now }
-    ensures { (m : List ℕ) (n : ℕ) → Holds hasher.now m → length m % 64 ≡ 0 → n < 8
+    ensures { (m : List ℕ) (n : ℕ) → HasAbsorbed hasher.now m → length m % 64 ≡ 0 → n < 8
         → slice_index_or result n [] ≡ sha256 (m ++ (piece firsts.now n ++ piece seconds.now n)) }
 {
     digests_behind(&hasher.value(), hasher.taken() / 64 * 64, firsts, seconds)

@@ -1,9 +1,9 @@
 //! Jobs of one key, or texts in their places, sealed at once under CBC or under authenc over it.
 #![tactic(auto)]
 
-mod fitting;
 mod fronts;
 mod keys;
+mod lane_fit;
 mod lanes;
 mod parts;
 mod sealing;

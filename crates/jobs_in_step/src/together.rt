@@ -12,8 +12,8 @@ ghost use Rattle.transforms.specs.declared.request.Request.{Request};
 ghost use Rattle.jobs_in_step.specs.Lanes.{job_value};
 ghost use Rattle.jobs_in_step.specs.Steps.{sealed_by, room_by, Fits};
 
-use crate::fitting::all_fit;
 use crate::keys::{StepKey, step_key};
+use crate::lane_fit::all_fit;
 use crate::lanes::answers_of;
 use crate::parts::parts_of;
 use crate::sealing::seal_by;

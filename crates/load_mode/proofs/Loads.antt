@@ -18,8 +18,8 @@ use Rattle.dialogues.specs.BoardCalls.{Asked, asked_by, Creates, board_calls}
 use Rattle.dialogues.specs.Dialogues.{Dialogue, Ends, Says, Asks, Posts, followed}
 use Rattle.dialogues.specs.Lines.{line_dialogue, lines_dialogue}
 use Rattle.dialogues.specs.Piping.{end}
-use Rattle.dialogues.specs.Walk.{Walk, start}
-use Rattle.plain_calls.specs.Registry.{PlainRegistry, first_registry}
+use Rattle.dialogues.specs.ScriptState.{ScriptState, start}
+use Rattle.sequential_model.specs.Registry.{PlainRegistry, first_registry}
 use Rattle.settled_scripts.specs.Passing.{posted, PassesFollow, PostsFollow, TurnsArePlain}
 use Rattle.settled_scripts.specs.Settled.{Passed, pass, saying, if_timeless}
 use Rattle.load_mode.specs.Requests.{drawn_requests, load_requests, of_a, of_g, digest_of}
@@ -32,18 +32,18 @@ use Rattle.load_mode.proofs.Values.{all-sized, all-drawn, values_of_a, values_of
 -- ---- the opening
 
 -- one dialogue after another after another
-followed-then : (d : Dialogue) (f g : Walk → Dialogue) → followed (followed d f) g ≡ followed d (λ walk. followed (f walk) g)
+followed-then : (d : Dialogue) (f g : ScriptState → Dialogue) → followed (followed d f) g ≡ followed d (λ script_state. followed (f script_state) g)
 followed-then (Ends after) f g = refl
 followed-then (Says answers next) f g = ap (Says answers) (followed-then next f g)
 followed-then (Asks question next) f g = λ i. Asks question (λ answer. followed-then (next answer) f g i)
 followed-then (Posts question next) f g = λ i. Posts question (λ answer. followed-then (next answer) f g i)
 
 -- what follows on lines follows on their dialogue
-lines-then : (workers : ℕ) (walk : Walk) (n : ℕ) (lines : List Line) (rest : Walk → Dialogue) → lines_dialogue workers walk n lines rest ≡ followed (lines_dialogue workers walk n lines Ends) rest
-lines-then workers walk n [] rest = refl
-lines-then workers walk n (line ∷ lines) rest =
-    (λ i. followed (line_dialogue workers walk n line) (λ after. lines-then workers after (n + 1) lines rest i))
-    ∙ sym (followed-then (line_dialogue workers walk n line) (λ after. lines_dialogue workers after (n + 1) lines Ends) rest)
+lines-then : (workers : ℕ) (script_state : ScriptState) (n : ℕ) (lines : List Line) (rest : ScriptState → Dialogue) → lines_dialogue workers script_state n lines rest ≡ followed (lines_dialogue workers script_state n lines Ends) rest
+lines-then workers script_state n [] rest = refl
+lines-then workers script_state n (line ∷ lines) rest =
+    (λ i. followed (line_dialogue workers script_state n line) (λ after. lines-then workers after (n + 1) lines rest i))
+    ∙ sym (followed-then (line_dialogue workers script_state n line) (λ after. lines_dialogue workers after (n + 1) lines Ends) rest)
 
 abbrev opening_dialogue : ℕ → Dialogue
 opening_dialogue workers = lines_dialogue workers (start 0) 0 opening Ends
@@ -52,7 +52,7 @@ opening_dialogue workers = lines_dialogue workers (start 0) 0 opening Ends
 abbrev opened : ℕ → Passed
 opened workers = pass (opening_dialogue workers) first_registry []
 
-abbrev opened_walk : Walk
+abbrev opened_walk : ScriptState
 opened_walk = walk_at 6 9 [] [] 0 0
 
 opened-after : (workers : ℕ) → (opened workers).after ≡ opened_walk
@@ -82,8 +82,8 @@ length-asked [] = refl
 length-asked (ask ∷ asks) = ap suc (length-asked asks)
 
 module _ (passes : PassesFollow) (posts : PostsFollow) (workers seed count : ℕ) (few : count ≤ 100000) where
-  abbrev rest : Walk → Dialogue
-  rest walk = lines_dialogue workers walk 0 (request_lines seed count) end
+  abbrev rest : ScriptState → Dialogue
+  rest script_state = lines_dialogue workers script_state 0 (request_lines seed count) end
 
   abbrev registry : PlainRegistry
   registry = (opened workers).registry

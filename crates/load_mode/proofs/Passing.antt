@@ -21,14 +21,14 @@ use Rattle.transforms.specs.Finish.{finished_of}
 use Rattle.reply_text.specs.declared.answers.Answer.TheVariants as said
 use Rattle.reply_text.specs.declared.origin.Origin.{Origin}
 use Rattle.dialogues.specs.BoardCalls.{origin_by, Asked}
-use Rattle.dialogues.specs.Dialogues.{Dialogue, Says, Posts, followed, refuses, unless}
+use Rattle.dialogues.specs.Dialogues.{Dialogue, Says, Posts, followed, answers_errno, unless}
 use Rattle.dialogues.specs.Lines.{line_dialogue, lines_dialogue}
 use Rattle.dialogues.specs.Piping.{end, completion_said, notice_said, completions, said_at_end}
 use Rattle.dialogues.specs.Questions.{Submit}
 use Rattle.dialogues.specs.Requesting.{request_of, size_of, is_too_big, value_of, asked_of, hands_in, requests_in}
-use Rattle.dialogues.specs.Walk.{Walk, Live, Pipe}
-use Rattle.plain_calls.specs.Pipelines.{Pipeline, drained}
-use Rattle.plain_calls.specs.Registry.{PlainRegistry}
+use Rattle.dialogues.specs.ScriptState.{ScriptState, Live, PipelineState}
+use Rattle.sequential_model.specs.Pipelines.{Pipeline, drained}
+use Rattle.sequential_model.specs.Registry.{PlainRegistry}
 use Rattle.settled_scripts.specs.Passing.{posted}
 use Rattle.settled_scripts.specs.Settled.{pass}
 use Rattle.load_mode.specs.Requests.{Drawn, cipher_key, key_of_a, is_on_a, asked_on_a, asked_on_g, asked_for, asked_from, of_a, of_g}
@@ -42,8 +42,8 @@ use Rattle.load_mode.proofs.Summing.{Summary, asked_more, summary}
 abbrev at_line : ℕ → Origin
 at_line n = record { client = 0; line = n }
 
-abbrev pipe_at : ℕ → List Origin → Pipe
-pipe_at number lines = record { number = number; bound = None; held = false; unmanned = false; lines = lines; delivered = 0 }
+abbrev pipe_at : ℕ → List Origin → PipelineState
+pipe_at number lines = record { number = number; bound = None; held = false; mask_is_empty = false; lines = lines; delivered = 0 }
 
 abbrev live_a : ℕ → List Origin → Live
 live_a id lines = record { label = label_of_a; id = id; plan = AuthencCbc AesGeneric; key = Some key_of_a; tag_size = 32; pipe = Some (pipe_at 0 lines) }
@@ -51,7 +51,7 @@ live_a id lines = record { label = label_of_a; id = id; plan = AuthencCbc AesGen
 abbrev live_g : ℕ → List Origin → Live
 live_g id lines = record { label = label_of_g; id = id; plan = Gcm AesGeneric GhashGeneric; key = Some cipher_key; tag_size = 16; pipe = Some (pipe_at 1 lines) }
 
-abbrev pub walk_at : ℕ → ℕ → List Origin → List Origin → ℕ → ℕ → Walk
+abbrev pub walk_at : ℕ → ℕ → List Origin → List Origin → ℕ → ℕ → ScriptState
 walk_at i j la lg q v = record { client = 0; shared = []; lives = live_a i la ∷ live_g j lg ∷ []; requests = q; bytes = v }
 
 abbrev pad_with : List Asked → Pipeline
@@ -62,32 +62,32 @@ pads xs ys = pad_with xs ∷ pad_with ys ∷ []
 
 -- ---- one request
 
-unless-none : (walk : Walk) (n : ℕ) (c : Bool) (errno : Errno) (rest : Dialogue) → c ≡ false → unless walk n ((c, errno) ∷ []) rest ≡ rest
-unless-none walk n c errno rest e = ap (λ t. if t then refuses walk n errno else rest) e
+unless-none : (script_state : ScriptState) (n : ℕ) (c : Bool) (errno : Errno) (rest : Dialogue) → c ≡ false → unless script_state n ((c, errno) ∷ []) rest ≡ rest
+unless-none script_state n c errno rest e = ap (λ t. if t then answers_errno script_state n errno else rest) e
 
 fits : (q v : ℕ) → q < 2 ^ 20 → v ≤ 2 ^ 26 → (nat_le (2 ^ 20) q || nat_lt (2 ^ 26) v) ≡ false
 fits q v few small = grind (few, small, arith, nat_tests)
 
 module _ (workers i j : ℕ) (la lg : List Origin) (q v n : ℕ) (iv aad text : List ℕ) (few : q < 2 ^ 20) (small : v + (length iv + length aad + length text) ≤ 2 ^ 26) where
-  abbrev walk : Walk
-  walk = walk_at i j la lg q v
+  abbrev script_state : ScriptState
+  script_state = walk_at i j la lg q v
 
   abbrev asks : Request
   asks = request_of Enc iv aad (in_one text)
 
-  dialogue-a : length iv ≡ 16 → line_dialogue workers walk n (Cmd (command.Enc label_of_a iv aad (in_one text) false)) ≡ Posts (Submit 0 (asked_of walk n (live_a i la) key_of_a asks)) λ number. refuses (walk_at i j (la ++ at_line n ∷ []) lg (q + 1) (v + size_of asks)) n EINPROGRESS
+  dialogue-a : length iv ≡ 16 → line_dialogue workers script_state n (Cmd (command.Enc label_of_a iv aad (in_one text) false)) ≡ Posts (Submit 0 (asked_of script_state n (live_a i la) key_of_a asks)) λ number. answers_errno (walk_at i j (la ++ at_line n ∷ []) lg (q + 1) (v + size_of asks)) n EINPROGRESS
   dialogue-a sized =
       let live = live_a i la in
-      let asked = asked_of walk n live key_of_a asks in
-      unless-none walk n (not (takes live.plan live.tag_size asks)) EINVAL (requests_in walk n live asked false live.pipe) (ap (λ t. not (t && true)) (eq-eqb (length iv) 16 sized))
-      ∙ unless-none walk n (is_too_big walk asks) E2BIG (hands_in walk n live (pipe_at 0 la) asked false None) (fits q (v + size_of asks) few small)
+      let asked = asked_of script_state n live key_of_a asks in
+      unless-none script_state n (not (takes live.plan live.tag_size asks)) EINVAL (requests_in script_state n live asked false live.pipe) (ap (λ t. not (t && true)) (eq-eqb (length iv) 16 sized))
+      ∙ unless-none script_state n (is_too_big script_state asks) E2BIG (hands_in script_state n live (pipe_at 0 la) asked false None) (fits q (v + size_of asks) few small)
 
-  dialogue-g : length iv ≡ 12 → line_dialogue workers walk n (Cmd (command.Enc label_of_g iv aad (in_one text) false)) ≡ Posts (Submit 1 (asked_of walk n (live_g j lg) cipher_key asks)) λ number. refuses (walk_at i j la (lg ++ at_line n ∷ []) (q + 1) (v + size_of asks)) n EINPROGRESS
+  dialogue-g : length iv ≡ 12 → line_dialogue workers script_state n (Cmd (command.Enc label_of_g iv aad (in_one text) false)) ≡ Posts (Submit 1 (asked_of script_state n (live_g j lg) cipher_key asks)) λ number. answers_errno (walk_at i j la (lg ++ at_line n ∷ []) (q + 1) (v + size_of asks)) n EINPROGRESS
   dialogue-g sized =
       let live = live_g j lg in
-      let asked = asked_of walk n live cipher_key asks in
-      unless-none walk n (not (takes live.plan live.tag_size asks)) EINVAL (requests_in walk n live asked false live.pipe) (ap (λ t. not (t && true)) (eq-eqb (length iv) 12 sized))
-      ∙ unless-none walk n (is_too_big walk asks) E2BIG (hands_in walk n live (pipe_at 1 lg) asked false None) (fits q (v + size_of asks) few small)
+      let asked = asked_of script_state n live cipher_key asks in
+      unless-none script_state n (not (takes live.plan live.tag_size asks)) EINVAL (requests_in script_state n live asked false live.pipe) (ap (λ t. not (t && true)) (eq-eqb (length iv) 12 sized))
+      ∙ unless-none script_state n (is_too_big script_state asks) E2BIG (hands_in script_state n live (pipe_at 1 lg) asked false None) (fits q (v + size_of asks) few small)
 
 -- ---- what completions tell
 
@@ -168,13 +168,13 @@ module _ (registry : PlainRegistry) where
 
     -- a request and what follows on it
     module _ (d : Drawn) (ds : List Drawn) (n q v : ℕ) (la lg : List Origin) (xs ys : List Asked) (first : IsSized d) (few : q + suc (length ds) ≤ 100000) (small : v + 280 * suc (length ds) ≤ 28000000) where
-      abbrev later : Walk → Dialogue
+      abbrev later : ScriptState → Dialogue
       later after = lines_dialogue workers after (n + 1) (map request_line (asked_from (n + 1) ds)) end
 
       abbrev rest : List Asked
       rest = asked_from (n + 1) ds
 
-      abbrev here : Walk
+      abbrev here : ScriptState
       here = walk_at i j la lg q v
 
       abbrev CameOut : Asked → Type 0

@@ -7,7 +7,7 @@ use Rattle.dialogues.specs.BoardCalls.{Asked}
 use Rattle.dialogues.specs.Dialogues.{Dialogue}
 use Rattle.dialogues.specs.Lines.{lines_dialogue}
 use Rattle.dialogues.specs.Piping.{end}
-use Rattle.dialogues.specs.Walk.{start}
+use Rattle.dialogues.specs.ScriptState.{start}
 use Rattle.load_mode.specs.Requests.{key_of_a, cipher_key, is_on_a, load_requests}
 
 abbrev pub label_of_a : List ℕ
@@ -38,4 +38,4 @@ request_lines seed count = map request_line (load_requests seed count)
 -- drains `a`, then `g`, and shuts the board.
 abbrev pub load_dialogue : ℕ → ℕ → ℕ → Dialogue
 load_dialogue workers seed count =
-    lines_dialogue workers (start 0) 0 opening λ walk. lines_dialogue workers walk 0 (request_lines seed count) end
+    lines_dialogue workers (start 0) 0 opening λ script_state. lines_dialogue workers script_state 0 (request_lines seed count) end

@@ -17,7 +17,7 @@ use Rattle.reply_text.specs.declared.answers.Answer.TheVariants.{Done}
 use Rattle.dialogues.specs.BoardCalls.{Asked, asked_by, board_calls}
 use Rattle.dialogues.specs.InTurn.{AreInTurnBy}
 use Rattle.dialogues.specs.RegistryCalls.{reg_calls}
-use Rattle.dialogues.specs.Turns.{Turn, IsTurn}
+use Rattle.dialogues.specs.Transcripts.{Transcript, IsTranscript}
 use Rattle.load_mode.specs.Requests.{load_requests, of_a, of_g, digest_of}
 use Rattle.load_mode.specs.Lines.{load_dialogue}
 
@@ -31,9 +31,9 @@ digest_told answers = sha256 (flat_map bytes_told answers)
 
 -- The load's turn is done: its calls are those of the histories and no more, made one after the other, and this is the
 -- hash of all that the completions told.
-pub record IsLoadTurn (workers seed count : ℕ) (r : List RegEntry) (b : List (BoardEntry Ask)) (digest : List ℕ) : Type 0 where
-  pub turn : Turn
-  pub is : IsTurn (load_dialogue workers seed count) turn
+pub record IsLoadTranscript (workers seed count : ℕ) (r : List RegEntry) (b : List (BoardEntry Ask)) (digest : List ℕ) : Type 0 where
+  pub turn : Transcript
+  pub is : IsTranscript (load_dialogue workers seed count) turn
   pub registry : turn.registry ≡ reg_calls 0 r
   pub board : turn.board ≡ board_calls 0 b
   pub ended : IsSome turn.after
@@ -59,5 +59,5 @@ LoadsComeTo =
     → count ≤ 100000
     → LegalReg r → Made table r → All (λ e. caller_of e ≤ 16) r
     → LegalBoard b → All (λ e. board_caller e ≤ 16) b
-    → IsLoadTurn workers seed count r b digest
+    → IsLoadTranscript workers seed count r b digest
     → (digest ≡ digest_of (load_requests seed count)) × AreLoaded seed count b

@@ -1,10 +1,10 @@
 //! Load mode: requests that are drawn from a seed, and the line that says what they came to.
 #![tactic(auto)]
 
-mod drawing;
+mod drawn_requests;
 mod laws;
-mod writing;
+mod load_answer;
 
-pub use drawing::{draw_request, opening_line};
+pub use drawn_requests::{draw_request, opening_line};
 pub use laws::loads_come_to;
-pub use writing::{hash_completions, load_text};
+pub use load_answer::{hash_completions, load_text};

@@ -3,7 +3,7 @@ use Rattle.std.proofs.Common.{◌≡◌, ◌≢◌, ℕ, zero, suc, ◌+◌, ◌
 use Rattle.std.specs.Prelude.{◌==◌, slice_index_or}
 use Rattle.std.proofs.lemmas.Bool.{cases_eq, eqb-true, eq-eqb, false_from_ne_true}
 use Rattle.std.proofs.lemmas.List.{get_or_default}
-use Rattle.padata_core.specs.Rows.{Held, first_is, found}
+use Rattle.padata_core.specs.Rows.{Slot, first_is, found}
 use Rattle.padata_core.specs.Pad.{AreRows, IsRow, kept_at, outcomes_from, with_rest}
 use Rattle.padata_core.proofs.Sorted.{row_first, row_raise, first_other, empty_held}
 
@@ -52,9 +52,9 @@ listed lists k low to (suc many) at es q r h =
     (cases_eq (low % lists) k) (first_is low es) refl
 
 -- a list of a pipeline
-pub list_is : {F : Type 0} (rows : List (Held F)) (lists low to room k : ℕ) (d : Held F) → AreRows rows lists low to room → low ≤ to → k < lists → d ≡ slice_index_or rows k d → d.entries ≡ with_rest lists k low (outcomes_from (kept_at rows lists) low (to - low))
+pub list_is : {F : Type 0} (rows : List (Slot F)) (lists low to room k : ℕ) (d : Slot F) → AreRows rows lists low to room → low ≤ to → k < lists → d ≡ slice_index_or rows k d → d.entries ≡ with_rest lists k low (outcomes_from (kept_at rows lists) low (to - low))
 list_is rows lists low to room k d a l b e =
     let c = a.count in
     let row : d ≡ slice_index_or rows k empty_held = e ∙ get_or_default rows k d empty_held (omega arith) in
-    ap (λ (h : Held _). h.entries) row
+    ap (λ (h : Slot _). h.entries) row
     ∙ sym (listed lists k low to (to - low) (kept_at rows lists) (slice_index_or rows k empty_held).entries (omega arith) (a.each k empty_held b) (λ n g m. ap (λ j. found n (slice_index_or rows j empty_held).entries) m))

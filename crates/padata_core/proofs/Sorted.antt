@@ -4,7 +4,7 @@ use Rattle.std.proofs.Math.Nat.{mul-le-mul_left, mul-le-mul_right, suc-mul, mul-
 use Rattle.std.specs.Prelude.{◌==◌, nat_lt, slice_index_or, slice_set}
 use Rattle.std.proofs.lemmas.Bool.{cases_lt, cases_eq, eqb-true, eq-eqb, false_from_ne_true}
 use Rattle.std.proofs.lemmas.List.{get_or-set_same, get_or-set_other, length-set}
-use Rattle.padata_core.specs.Rows.{Held, put, first_is, IsRising, found}
+use Rattle.padata_core.specs.Rows.{Slot, put, first_is, IsRising, found}
 use Rattle.padata_core.specs.Pad.{kept_at, IsRow, AreRows}
 
 -- ---- one list
@@ -146,22 +146,22 @@ row_room lists k low to n room out es r l g m f h =
 
 -- ---- all lists
 
-abbrev pub empty_held : {F : Type 0} → Held F
+abbrev pub empty_held : {F : Type 0} → Slot F
 empty_held = record { entries = []; room = 0 }
 
-pub rest_below : {F : Type 0} (rows : List (Held F)) (lists low to room n : ℕ) → AreRows rows lists low to room → n % lists < lists
+pub rest_below : {F : Type 0} (rows : List (Slot F)) (lists low to room n : ℕ) → AreRows rows lists low to room → n % lists < lists
 rest_below rows lists low to room n a = (let s = a.some in mod-lt n (omega arith))
 
-change_other : {F : Type 0} (rows : List (Held F)) (lists k j low to : ℕ) (r : Held F) (d : Held F) → k < length rows → IsRow lists k low to r.entries → ((i : ℕ) (c : Held F) → i < lists → i ≢ k → IsRow lists i low to (slice_index_or rows i c).entries) → j < lists → (j ≡ k) ⊎ (j ≢ k) → IsRow lists j low to (slice_index_or (slice_set rows k r) j d).entries
+change_other : {F : Type 0} (rows : List (Slot F)) (lists k j low to : ℕ) (r : Slot F) (d : Slot F) → k < length rows → IsRow lists k low to r.entries → ((i : ℕ) (c : Slot F) → i < lists → i ≢ k → IsRow lists i low to (slice_index_or rows i c).entries) → j < lists → (j ≡ k) ⊎ (j ≢ k) → IsRow lists j low to (slice_index_or (slice_set rows k r) j d).entries
 change_other rows lists k j low to r d l h o m (inl e) = rw (e, get_or-set_same rows k r d l) h
 change_other rows lists k j low to r d l h o m (inr n) = rw (get_or-set_other rows k j r d n) (o j d m n)
 
-room_other : {F : Type 0} (rows : List (Held F)) (lists k j room : ℕ) (r : Held F) (d : Held F) → k < length rows → room ≤ r.room → ((i : ℕ) (c : Held F) → i < lists → room ≤ (slice_index_or rows i c).room) → j < lists → (j ≡ k) ⊎ (j ≢ k) → room ≤ (slice_index_or (slice_set rows k r) j d).room
+room_other : {F : Type 0} (rows : List (Slot F)) (lists k j room : ℕ) (r : Slot F) (d : Slot F) → k < length rows → room ≤ r.room → ((i : ℕ) (c : Slot F) → i < lists → room ≤ (slice_index_or rows i c).room) → j < lists → (j ≡ k) ⊎ (j ≢ k) → room ≤ (slice_index_or (slice_set rows k r) j d).room
 room_other rows lists k j room r d l h o m (inl e) = rw (e, get_or-set_same rows k r d l) h
 room_other rows lists k j room r d l h o m (inr n) = rw (get_or-set_other rows k j r d n) (o j d m)
 
 -- one list changes, and the others keep their numbers
-pub rows_change : {F : Type 0} (rows : List (Held F)) (lists k low to room : ℕ) (r : Held F) → 1 ≤ lists → length rows ≡ lists → k < lists → IsRow lists k low to r.entries → room ≤ r.room → ((i : ℕ) (c : Held F) → i < lists → i ≢ k → IsRow lists i low to (slice_index_or rows i c).entries) → ((i : ℕ) (c : Held F) → i < lists → room ≤ (slice_index_or rows i c).room) → AreRows (slice_set rows k r) lists low to room
+pub rows_change : {F : Type 0} (rows : List (Slot F)) (lists k low to room : ℕ) (r : Slot F) → 1 ≤ lists → length rows ≡ lists → k < lists → IsRow lists k low to r.entries → room ≤ r.room → ((i : ℕ) (c : Slot F) → i < lists → i ≢ k → IsRow lists i low to (slice_index_or rows i c).entries) → ((i : ℕ) (c : Slot F) → i < lists → room ≤ (slice_index_or rows i c).room) → AreRows (slice_set rows k r) lists low to room
 rows_change rows lists k low to room r s c l h g o p = record {
   some = s;
   count = length-set rows k r ∙ c;
@@ -169,17 +169,17 @@ rows_change rows lists k low to room r s c l h g o p = record {
   rooms = λ j d m. room_other rows lists k j room r d (omega arith) g p m (cases_eq j k);
 }
 
-kept_cases : {F : Type 0} (rows : List (Held F)) (k m : ℕ) (r : Held F) (v : Option F) (j : ℕ) → k < length rows → (j ≡ k → found m r.entries ≡ v) → (j ≢ k → found m (slice_index_or rows j empty_held).entries ≡ v) → (j ≡ k) ⊎ (j ≢ k) → found m (slice_index_or (slice_set rows k r) j empty_held).entries ≡ v
+kept_cases : {F : Type 0} (rows : List (Slot F)) (k m : ℕ) (r : Slot F) (v : Option F) (j : ℕ) → k < length rows → (j ≡ k → found m r.entries ≡ v) → (j ≢ k → found m (slice_index_or rows j empty_held).entries ≡ v) → (j ≡ k) ⊎ (j ≢ k) → found m (slice_index_or (slice_set rows k r) j empty_held).entries ≡ v
 kept_cases rows k m r v j l h o (inl e) = rw (e, get_or-set_same rows k r empty_held l) (h e)
 kept_cases rows k m r v j l h o (inr n) = rw (get_or-set_other rows k j r empty_held n) (o n)
 
 -- what the lists hold under a number after one of them changed
-pub kept_change : {F : Type 0} (rows : List (Held F)) (lists k m : ℕ) (r : Held F) (v : Option F) → k < length rows → (m % lists ≡ k → found m r.entries ≡ v) → (m % lists ≢ k → kept_at rows lists m ≡ v) → kept_at (slice_set rows k r) lists m ≡ v
+pub kept_change : {F : Type 0} (rows : List (Slot F)) (lists k m : ℕ) (r : Slot F) (v : Option F) → k < length rows → (m % lists ≡ k → found m r.entries ≡ v) → (m % lists ≢ k → kept_at rows lists m ≡ v) → kept_at (slice_set rows k r) lists m ≡ v
 kept_change rows lists k m r v l h o = kept_cases rows k m r v (m % lists) l h o (cases_eq (m % lists) k)
 
 -- nothing is held under a number that was not taken
-pub kept_high : {F : Type 0} (rows : List (Held F)) (lists low to room n : ℕ) → AreRows rows lists low to room → to ≤ n → kept_at rows lists n ≡ None
+pub kept_high : {F : Type 0} (rows : List (Slot F)) (lists low to room n : ℕ) → AreRows rows lists low to room → to ≤ n → kept_at rows lists n ≡ None
 kept_high rows lists low to room n a l = row_high lists (n % lists) low to n (slice_index_or rows (n % lists) empty_held).entries (a.each (n % lists) empty_held (rest_below rows lists low to room n a)) l
 
-pub rows_more : {F : Type 0} (rows : List (Held F)) (lists low to more room : ℕ) → AreRows rows lists low to room → to ≤ more → AreRows rows lists low more room
+pub rows_more : {F : Type 0} (rows : List (Slot F)) (lists low to more room : ℕ) → AreRows rows lists low to room → to ≤ more → AreRows rows lists low more room
 rows_more rows lists low to more room a l = record { some = a.some; count = a.count; each = λ k d m. row_more lists k low to more (slice_index_or rows k d).entries (a.each k d m) l; rooms = a.rooms }

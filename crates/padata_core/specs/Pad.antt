@@ -1,7 +1,7 @@
 use Rattle.std.specs.Prelude.{◌≡◌, ℕ, zero, suc, ◌+◌, ◌<◌, ◌≤◌, ◌%◌, ◌==◌, if◌then◌else◌, List, [], ◌∷◌, length, slice_index_or, Option, Some, None}
 use Rattle.kc_base.specs.declared.callback_list.Callback.{Callback}
 use Rattle.kc_base.specs.declared.callback_list.Callback.TheVariants.{Done}
-use Rattle.padata_core.specs.Rows.{Held, found}
+use Rattle.padata_core.specs.Rows.{Slot, found}
 
 -- Jobs are numbered from 0 as they are submitted. The numbers below `collected` were handed out. After them come
 -- the numbers that were taken, each with its outcome, or none while its job runs. After these come the numbers that
@@ -52,7 +52,7 @@ on_list pad k = with_rest pad.lists k pad.collected pad.outcomes
 -- What follows serves the pad's own representation.
 
 -- the outcome that the lists hold under a number
-abbrev pub kept_at : {F : Type 0} → List (Held F) → ℕ → ℕ → Option F
+abbrev pub kept_at : {F : Type 0} → List (Slot F) → ℕ → ℕ → Option F
 kept_at rows lists n = found n (slice_index_or rows (n % lists) (record { entries = []; room = 0 })).entries
 
 -- of so many numbers from n on
@@ -66,14 +66,14 @@ IsRow lists k low to [] = Unit {0}
 IsRow lists k low to (e ∷ es) = (low ≤ e.0) × (e.0 < to) × (e.0 % lists ≡ k) × IsRow lists k (e.0 + 1) to es
 
 -- the lists hold numbers from `low` on and below `to`, and have room for so many each
-pub record AreRows {F : Type 0} (rows : List (Held F)) (lists low to room : ℕ) : Type 0 where
+pub record AreRows {F : Type 0} (rows : List (Slot F)) (lists low to room : ℕ) : Type 0 where
   pub some : 1 ≤ lists
   pub count : length rows ≡ lists
-  pub each : (k : ℕ) (d : Held F) → k < lists → IsRow lists k low to (slice_index_or rows k d).entries
-  pub rooms : (k : ℕ) (d : Held F) → k < lists → room ≤ (slice_index_or rows k d).room
+  pub each : (k : ℕ) (d : Slot F) → k < lists → IsRow lists k low to (slice_index_or rows k d).entries
+  pub rooms : (k : ℕ) (d : Slot F) → k < lists → room ≤ (slice_index_or rows k d).room
 
 -- lists with more room hold what they held
-pub record HaveMore {F : Type 0} (old new : List (Held F)) : Type 0 where
+pub record HaveMore {F : Type 0} (old new : List (Slot F)) : Type 0 where
   pub count : length new ≡ length old
-  pub same : (k : ℕ) (d : Held F) → (slice_index_or new k d).entries ≡ (slice_index_or old k d).entries
-  pub kept : (k : ℕ) (d : Held F) → (slice_index_or old k d).room ≤ (slice_index_or new k d).room
+  pub same : (k : ℕ) (d : Slot F) → (slice_index_or new k d).entries ≡ (slice_index_or old k d).entries
+  pub kept : (k : ℕ) (d : Slot F) → (slice_index_or old k d).room ≤ (slice_index_or new k d).room

@@ -1,7 +1,7 @@
 use Rattle.std.specs.Prelude.{ℕ, ◌+◌, ◌≤◌, ◌==◌, nat_lt, Bool, false, if◌then◌else◌, List, [], ◌∷◌, Option, Some, None}
 
 -- A reorder list: outcomes with their numbers, and for how many there is room.
-pub record Held (F : Type 0) : Type 0 where
+pub record Slot (F : Type 0) : Type 0 where
   pub entries : List (ℕ × F)
   pub room : ℕ
 

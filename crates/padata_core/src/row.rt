@@ -18,9 +18,9 @@ pub(crate) struct Row<F> {
 impl<F> Model for Row<F> {
     ghost use Rattle.std.specs.Prelude.{◌≤◌};
     ghost use Rattle.std.specs.VecDeque.{deque_len, deque_capacity};
-    ghost use Rattle.padata_core.specs.Rows.{Held};
+    ghost use Rattle.padata_core.specs.Rows.{Slot};
 
-    ghost Value = { Held F };
+    ghost Value = { Slot F };
 
     ghost view = { λ r. record { entries = r.entries.items; room = r.room } };
 

@@ -1,7 +1,7 @@
 //! All reorder lists of a pipeline.
 
 ghost use Rattle.std.specs.Prelude.{◌≡◌, ℕ, ◌-◌, ◌*◌, ◌<◌, ◌≤◌, [], length, slice_index_or, IfOk, OnOk, OnErr};
-ghost use Rattle.padata_core.specs.Rows.{Held};
+ghost use Rattle.padata_core.specs.Rows.{Slot};
 ghost use Rattle.padata_core.specs.Pad.{HaveMore, AreRows, kept_at};
 
 use crate::row::Row;
@@ -10,7 +10,7 @@ use std::alloc::{AllocError, Global};
 /// So many empty lists, with room for no outcome.
 pub(crate) fn empty_rows<F: Drop>(alloc: Global, lists: u32) -> Result<Vec<Row<F>>, AllocError>
     ensures count { IfOk result (λ rows. length rows.items ≡ lists) }
-    ensures empty { IfOk result (λ rows. (k : ℕ) (d : Held F) → k < lists → slice_index_or rows.items k d ≡ record { entries = []; room = 0 }) }
+    ensures empty { IfOk result (λ rows. (k : ℕ) (d : Slot F) → k < lists → slice_index_or rows.items k d ≡ record { entries = []; room = 0 }) }
 {
     let mut rows = Vec::new(alloc);
     for _ in 0..lists {
@@ -22,7 +22,7 @@ pub(crate) fn empty_rows<F: Drop>(alloc: Global, lists: u32) -> Result<Vec<Row<F
 /// Makes room on each list for `room` outcomes in all at least. Want of memory takes no room away.
 pub(crate) fn reserve_rows<F: Drop>(rows: &mut Vec<Row<F>>, room: usize) -> Result<(), AllocError>
     ensures more { HaveMore rows.old.items rows.new.items }
-    ensures room { OnOk result ((k : ℕ) (d : Held F) → k < length rows.new.items → room ≤ (slice_index_or rows.new.items k d).room) }
+    ensures room { OnOk result ((k : ℕ) (d : Slot F) → k < length rows.new.items → room ≤ (slice_index_or rows.new.items k d).room) }
 {
     for k in 0..rows.len() {
         let row = &mut rows[k];

@@ -1,7 +1,7 @@
 //! MACs of texts in pieces, which are read where they lie.
 
 ghost use Rattle.std.specs.Prelude.{◌≡◌, ◌+◌, ◌*◌, ◌^◌, ◌<◌, ◌≤◌, ℕ, List, ◌++◌, length, take, drop, MatchResult};
-ghost use Rattle.sha_lanes.specs.Hashers.{Holds};
+ghost use Rattle.sha_lanes.specs.Hashers.{HasAbsorbed};
 ghost use Rattle.std_defs.specs.Blocks.{xor_blocks, text_block};
 ghost use Rattle.std_defs.specs.Cmac.{chained, cmac, zero_block};
 ghost use Rattle.std_defs.specs.Hmac.{hmac_under};
@@ -27,7 +27,7 @@ const BLOCKS: usize = 64;
 
 /// Hashes the pieces one after another.
 fn hash_pieces(hasher: &mut Sha256, pieces: &[Piece<'_>])
-    ensures { (m : List ℕ) → Holds hasher.old m → Holds hasher.new (m ++ text_in pieces.now) }
+    ensures { (m : List ℕ) → HasAbsorbed hasher.old m → HasAbsorbed hasher.new (m ++ text_in pieces.now) }
 {
     for piece in pieces {
         hasher.update(piece.bytes);

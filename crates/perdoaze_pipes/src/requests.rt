@@ -18,7 +18,7 @@ ghost use Rattle.transforms.specs.declared.ask.Ask.{Ask as AskOf};
 
 use crate::job::PipeJob;
 use crate::laws::board_laws;
-use crate::running::{Running, nobody, put};
+use crate::task_runs::{Running, nobody, put};
 use crate::turn::{Handed, Turn};
 use board::{BoardCore, BoardErr, Entered, Shape, Taken};
 use kc_base::Callbacks;

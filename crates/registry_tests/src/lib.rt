@@ -6,10 +6,10 @@
 #[cfg(test)]
 mod base;
 #[cfg(test)]
-mod building;
-#[cfg(test)]
 mod given;
 #[cfg(test)]
 mod names;
 #[cfg(test)]
 mod registry;
+#[cfg(test)]
+mod template_instances;

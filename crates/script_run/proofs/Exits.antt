@@ -8,8 +8,8 @@ use Rattle.std.proofs.lemmas.List.Folds.{list_any-append}
 use Rattle.board.specs.Legal.{is_shut}
 use Rattle.dialogues.specs.Lines.{line_dialogue}
 use Rattle.dialogues.specs.Piping.{end}
-use Rattle.dialogues.specs.Turns.{text_in}
-use Rattle.dialogues.specs.Walk.{start}
+use Rattle.dialogues.specs.Transcripts.{text_in}
+use Rattle.dialogues.specs.ScriptState.{start}
 use Rattle.dialogues.specs.Widths.{width_of}
 use Rattle.kc_base.specs.declared.transfer.InputError.{InputError}
 use Rattle.kc_base.specs.declared.transfer.InputError.TheVariants as input
@@ -22,9 +22,9 @@ use Rattle.script_text.specs.NextLine.{Place, FindsNext}
 use Rattle.script_text.specs.Script.{script_of}
 use Rattle.script_text.specs.Whole.{whole_script, WholeLinesStay, NoWholeLine}
 use Rattle.script_text.specs.declared.commands.Line.{Line}
-use Rattle.session_calls.specs.Passes.{known}
+use Rattle.recorded_calls.specs.Passes.{known}
 use Rattle.shared_board.specs.declared.shared.SharedBoard.{SharedBoard}
-use Rattle.shared_registry.specs.declared.sharing.SharedRegistry.{SharedRegistry}
+use Rattle.shared_registry.specs.declared.registry_lock.SharedRegistry.{SharedRegistry}
 use Rattle.transforms.specs.declared.ask.Ask.{Ask}
 use Rattle.transforms.specs.declared.request.Finished.{Finished}
 use Rattle.script_run.specs.declared.errors.RunError.{RunError}
@@ -191,7 +191,7 @@ module _ (laws : Laws) (stay : WholeLinesStay) (none : NoWholeLine) (first : Sta
       next-reading =
           reading-line stay none place place' left left' left'' at.given at.done at.pending number (Ok (Some said)) at.reading found found.room said found.line.0 found.line.1 found.line.2
 
-      pub running-more : (z : Option (List ℕ)) (s' : State) (bad : Bool) → bad ≡ is_malformed said → Writes (Replies (width_of said) (line_dialogue s.workers s.walk number said) s s' []) y z → IsReady registry board s'
+      pub running-more : (z : Option (List ℕ)) (s' : State) (bad : Bool) → bad ≡ is_malformed said → Writes (Replies (width_of said) (line_dialogue s.workers s.script_state number said) s s' []) y z → IsReady registry board s'
           → At (number + 1) place' left left'' x z (malformed || bad) s'
       running-more z s' bad bad_is step ready = record {
         given = all_at;
@@ -209,7 +209,7 @@ module _ (laws : Laws) (stay : WholeLinesStay) (none : NoWholeLine) (first : Sta
           or_none true = refl
           or_none false = refl
 
-      pub runs-broken : (z : Option (List ℕ)) (s' : State) (e : SinkError) → Breaks (line_dialogue s.workers s.walk number said) s s' (Replies (width_of said) (line_dialogue s.workers s.walk number said) s s' []) y z → (e ≡ output.Failed → Cuts (Replies (width_of said) (line_dialogue s.workers s.walk number said) s s' []) y z)
+      pub runs-broken : (z : Option (List ℕ)) (s' : State) (e : SinkError) → Breaks (line_dialogue s.workers s.script_state number said) s s' (Replies (width_of said) (line_dialogue s.workers s.script_state number said) s s' []) y z → (e ≡ output.Failed → Cuts (Replies (width_of said) (line_dialogue s.workers s.script_state number said) s s' []) y z)
           → ((known s'.board).number ≡ 0 → is_shut (known s'.board).seen ≡ false) → RunsSource left left'' first s' (Err (of_output e)) x z
       runs-broken z s' e breaks cuts unshut =
           let told = cut-told place'.ended left left'' all_at (at.done ++ said ∷ []) found.line.0 next-reading.cut in
@@ -279,7 +279,7 @@ module _ (laws : Laws) (stay : WholeLinesStay) (none : NoWholeLine) (first : Sta
       short-end : 2 ^ 28 < length end_at → ⊥
       short-end = after-short stay none place place' left left' left'' at.given at.done at.pending number (Ok None) at.reading found found.room
 
-      pub runs-end_broken : (z : Option (List ℕ)) (s' : State) (e : SinkError) → Breaks (end s.walk) s s' (AnswersAndShuts s s') y z → (e ≡ output.Failed → Cuts (AnswersAndShuts s s') y z) → IsUnshutOrEnds (known s'.board) → RunsSource left left'' first s' (Err (of_output e)) x z
+      pub runs-end_broken : (z : Option (List ℕ)) (s' : State) (e : SinkError) → Breaks (end s.script_state) s s' (AnswersAndShuts s s') y z → (e ≡ output.Failed → Cuts (AnswersAndShuts s s') y z) → IsUnshutOrEnds (known s'.board) → RunsSource left left'' first s' (Err (of_output e)) x z
       runs-end_broken z s' e broken cuts unshut =
           let breaks = breaks-plain laws first registry board at.done number x y z s s' at.going broken in
           record {

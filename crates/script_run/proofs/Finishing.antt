@@ -27,31 +27,31 @@ use Rattle.dialogues.specs.RegistryCalls.{reg_calls}
 use Rattle.dialogues.specs.Texts.{IsText}
 use Rattle.script_run.specs.ByLines.{IsTextByLines, LinesTell}
 use Rattle.script_run.specs.Fronts.{IsFrontText}
-use Rattle.dialogues.specs.Walk.{start}
+use Rattle.dialogues.specs.ScriptState.{start}
 use Rattle.script_session.specs.Ending.{EndsShut}
-use Rattle.script_session.specs.Holding.{HasSeenMore}
+use Rattle.script_session.specs.Performing.{HasSeenMore}
 use Rattle.script_session.specs.Running.{IsReady}
-use Rattle.script_session.specs.States.{State, Stands, Posted, MadeWide}
+use Rattle.script_session.specs.States.{State, ReferencesMatch, PipelinesMatch, MadeWide}
 use Rattle.script_text.specs.declared.commands.Line.{Line}
 use Rattle.script_text.specs.Script.{script_of}
 use Rattle.script_text.specs.Whole.{whole_script}
 use Rattle.settled_scripts.specs.Printing.{PrintsPlain}
 use Rattle.settled_scripts.specs.Settled.{IsSettled, plain_text}
 use Rattle.templates.specs.Table.{table}
-use Rattle.session_calls.specs.Passes.{known, BoardPass}
+use Rattle.recorded_calls.specs.Passes.{known, BoardPass}
 use Rattle.shared_board.specs.declared.shared.SharedBoard.{SharedBoard}
-use Rattle.shared_registry.specs.declared.sharing.SharedRegistry.{SharedRegistry}
+use Rattle.shared_registry.specs.declared.registry_lock.SharedRegistry.{SharedRegistry}
 use Rattle.transforms.specs.declared.ask.Ask.{Ask}
 use Rattle.transforms.specs.declared.request.Finished.{Finished}
 use Rattle.turn_lock.specs.Meeting.{AtTurn, Enters, Leaves, IsOwn}
 use Rattle.turn_lock.specs.Passes.{knows}
-use Rattle.turn_lock.specs.Turns.{Known, StartsWith, Each, Shows, of, newcomer}
+use Rattle.turn_lock.specs.Turns.{Known, StartsWith, Each, Shows, of, fresh_pass}
 use Rattle.script_run.specs.declared.errors.RunError.{RunError}
 use Rattle.script_run.specs.declared.errors.RunError.TheVariants.{NoMemory}
 use Rattle.script_run.specs.Answered.{AreAnswered, BeginsWithText, AreAnsweredAfter, AreAnsweredOn, BeginsWithTextAfter, IsShutAlone, ShutsAlone, IsCutOff, IsCutOffAfter, IsCutOffOn, IsBrokenOff, IsBrokenOffAfter, IsBrokenOffOn, LinesTellAfter, MakesFirstAfter, MakesFirstOn, NothingIsBrokenOff, lines_and_next, RunsSource, AnswersSource, RanSource, script_in}
 use Rattle.script_run.specs.Laws.{Laws, CrewLaws}
 use Rattle.script_run.specs.Endings.{AreCallers, EndsShut as ShutLast, IsShutOnce}
-use Rattle.script_run.specs.Beside.{AreHistories, ScriptRan}
+use Rattle.script_run.specs.WithWorkers.{AreHistories, ScriptRan}
 use Rattle.script_run.specs.Runs.{Gains, GoesOn, OthersFollow, IsTextAfter, IsFrontAfter, IsByLinesAfter, InTurn, InTurnAfter, IsShutIn, IsUnshutOrEnds, WasShut, AreNew, HasShut, Ended}
 use Rattle.script_run.specs.Text.{is_malformed}
 use Rattle.shared_registry.specs.Building.{is_building}
@@ -72,11 +72,11 @@ is-empty : {E : Type 0} (k : Known E) → k.number ≡ 0 → k.seen ≡ [] → k
 unfolding empty
 is-empty k n s m = λ i. record { number = sym n i; next = k.next; seen = sym s i; made = sym m i; ended = k.ended }
 
-empty-stands : (k : Known RegEntry) → Stands [] (empty k)
+empty-stands : (k : Known RegEntry) → ReferencesMatch [] (empty k)
 unfolding empty reg_calls
 empty-stands k = record { caller = record { outsider = refl; own = refl; settled = tt }; referenced = λ id. refl }
 
-empty-posted : (k : Known (BoardEntry Ask)) → Posted (start 0) (empty k)
+empty-posted : (k : Known (BoardEntry Ask)) → PipelinesMatch (start 0) (empty k)
 unfolding empty
 empty-posted k = record {
   outsider = inl (omega arith);
@@ -94,13 +94,13 @@ unfolding empty
 empty-wide lists k p owns pad = absurd owns.0.1
 
 pub new-ready : {W : Type 0} (registry : SharedRegistry) (board : SharedBoard W Ask Finished) (workers : ℕ) (p : Passes Ask) (s : State) → ArePassesOn board registry p → AreNew p → workers ≤ 16
-    → s ≡ record { workers = workers; walk = start 0; registry = Some p.registry; board = Some p.board } → IsReady registry board s
+    → s ≡ record { workers = workers; script_state = start 0; registry = Some p.registry; board = Some p.board } → IsReady registry board s
 new-ready registry board workers p s at new few is =
     subst (IsReady registry board) (sym is) (record {
       calls_registry = ap (λ n. Some n) at.1;
       calls_board = ap (λ n. Some n) at.0;
-      stands = subst (Stands []) (is-empty (knows p.registry) new.registry.0 new.registry.1 new.registry.2) (empty-stands (knows p.registry));
-      posted = subst (Posted (start 0)) (is-empty (knows p.board) new.board.0 new.board.1 new.board.2) (empty-posted (knows p.board));
+      stands = subst (ReferencesMatch []) (is-empty (knows p.registry) new.registry.0 new.registry.1 new.registry.2) (empty-stands (knows p.registry));
+      posted = subst (PipelinesMatch (start 0)) (is-empty (knows p.board) new.board.0 new.board.1 new.board.2) (empty-posted (knows p.board));
       few = few;
       wide = subst (MadeWide (lists_beside workers)) (is-empty (knows p.board) new.board.0 new.board.1 new.board.2) (empty-wide (lists_beside workers) (knows p.board));
       shared = All-nil _;
@@ -202,7 +202,7 @@ shut-in k l first e others = record {
 
 -- A session began with the passes p and gave back those of q, but that the board's was qb until the board was shut.
 pub record IsSessionOf (workers : ℕ) (p q : Passes Ask) (qb : BoardPass) (s s' : State) : Type 0 where
-  pub was : s ≡ record { workers = workers; walk = start 0; registry = Some p.registry; board = Some p.board }
+  pub was : s ≡ record { workers = workers; script_state = start 0; registry = Some p.registry; board = Some p.board }
   pub now : (s'.registry ≡ Some q.registry) × (s'.board ≡ Some qb)
   pub goes : GoesOn s s'
   pub new : AreNew p
@@ -376,7 +376,7 @@ module _ (workers : ℕ) (p q : Passes Ask) (qb : BoardPass) (s s' : State) (of_
 -- ---- what a crew leaves
 
 -- the passes that the script gets
-pub next-new : (workers : ℕ) (first p : Passes Ask) → (knows first.board ≡ newcomer) × (knows first.registry ≡ newcomer) → HaveNext workers first p → AreNew p
+pub next-new : (workers : ℕ) (first p : Passes Ask) → (knows first.board ≡ fresh_pass) × (knows first.registry ≡ fresh_pass) → HaveNext workers first p → AreNew p
 next-new workers first p new next =
     let r : Known RegEntry = with_next ((knows first.registry).next + workers) (knows first.registry) in
     record {
@@ -453,7 +453,7 @@ others-beside workers (e ∷ es) each none =
 -- The passes that a run of a crew began with, those that its script was given and gave back, those that came back, and the histories
 -- that both locks then handed out.
 pub record IsRunOf (workers : ℕ) (first p q l : Passes Ask) (r : List RegEntry) (b : List (BoardEntry Ask)) : Type 0 where
-  pub new : (knows first.board ≡ newcomer) × (knows first.registry ≡ newcomer)
+  pub new : (knows first.board ≡ fresh_pass) × (knows first.registry ≡ fresh_pass)
   pub next : HaveNext workers first p
   pub crewed : CrewedOnBoth workers first q l
   pub shows_r : Shows reg_caller (knows l.registry) r

@@ -16,7 +16,7 @@ use Rattle.templates.specs.Looking.{is_asked}
 use Rattle.transforms.specs.declared.ask.Ask.{Ask}
 use Rattle.turn_lock.specs.Turns.{Known, StartsWith, of}
 use Rattle.script_run.specs.Laws.{Laws}
-use Rattle.script_session.specs.Holding.{HasSeenMore}
+use Rattle.script_session.specs.Performing.{HasSeenMore}
 use Rattle.script_run.specs.Runs.{OthersFollow}
 
 module _ {E : Type 0} where

@@ -18,8 +18,8 @@ use Rattle.dialogues.specs.RegistryCalls.{RegCall, reg_calls, reg_calls_from, Al
 use Rattle.dialogues.specs.Texts.{IsText}
 use Rattle.script_run.specs.ByLines.{IsTextByLines, LinesTell, ScriptTells, NothingIsByLines, told_by}
 use Rattle.script_run.specs.Fronts.{IsFrontText}
-use Rattle.dialogues.specs.Turns.{Turn, IsTurn, ended, joined, text_in, turn_of}
-use Rattle.dialogues.specs.Walk.{start}
+use Rattle.dialogues.specs.Transcripts.{Transcript, IsTranscript, ended, joined, text_in, transcript_of}
+use Rattle.dialogues.specs.ScriptState.{start}
 use Rattle.dialogues.specs.Widths.{width_of, widest}
 use Rattle.kc_base.specs.Streams.{IsPrefix}
 use Rattle.reply_text.specs.Answers.{text_of}
@@ -29,18 +29,18 @@ use Rattle.script_session.specs.States.{State}
 use Rattle.script_text.specs.declared.commands.Line.{Line}
 use Rattle.script_text.specs.Script.{script_of}
 use Rattle.script_text.specs.Whole.{AreFirst}
-use Rattle.session_calls.specs.Asking.{AskedBy}
-use Rattle.session_calls.specs.Passes.{known}
-use Rattle.session_calls.specs.Pipelines.{Called}
+use Rattle.recorded_calls.specs.Asking.{AskedBy}
+use Rattle.recorded_calls.specs.Passes.{known}
+use Rattle.recorded_calls.specs.Pipelines.{Called}
 use Rattle.shared_board.specs.declared.shared.SharedBoard.{SharedBoard}
-use Rattle.shared_registry.specs.declared.sharing.SharedRegistry.{SharedRegistry}
+use Rattle.shared_registry.specs.declared.registry_lock.SharedRegistry.{SharedRegistry}
 use Rattle.transforms.specs.declared.ask.Ask.{Ask}
 use Rattle.transforms.specs.declared.request.Finished.{Finished}
 use Rattle.turn_lock.specs.Meeting.{IsOwn}
 use Rattle.turn_lock.specs.Turns.{Known, StartsWith}
-use Rattle.script_run.specs.Answered.{AreAnsweredAfter, BeginsWithTextAfter, IsCutOffAfter, IsBrokenOffAfter, IsBrokenOff, MakesFirstAfter, NothingIsBrokenOff, lines_and_next, lines_turn}
+use Rattle.script_run.specs.Answered.{AreAnsweredAfter, BeginsWithTextAfter, IsCutOffAfter, IsBrokenOffAfter, IsBrokenOff, MakesFirstAfter, NothingIsBrokenOff, lines_and_next, lines_transcript}
 use Rattle.script_run.specs.Laws.{Laws}
-use Rattle.script_session.specs.Holding.{HasSeenMore, StopsIn}
+use Rattle.script_session.specs.Performing.{HasSeenMore, StopsIn}
 use Rattle.script_run.specs.Runs.{Gains, GoesOn, IsFresh, Writes, Cuts, Breaks, AnswersAndShuts, IsTextAfter, IsFrontAfter, IsByLinesAfter, InTurnAfter}
 use Rattle.script_run.proofs.Fronts.{front-lines, front-text, nothing-front, widest-front, widest-last}
 use Rattle.script_run.proofs.Following.{starts-trans, sees-same, sees-then, reg_calls-on, board_calls-on, reg_calls-same, board_calls-same, in_turn-on, unasked}
@@ -115,7 +115,7 @@ pub appends-none : (held : Option (List ℕ)) → Appends held held []
 appends-none None = tt
 appends-none (Some xs) = sym (append-nil xs)
 
-texts-joined : (t u : Turn) → text_in (joined t u) ≡ text_in t ++ text_in u
+texts-joined : (t u : Transcript) → text_in (joined t u) ≡ text_in t ++ text_in u
 texts-joined t u = flat_map-append text_of t.answers u.answers
 
 -- a front of what comes after is a front with what came before
@@ -134,8 +134,8 @@ widest-some (line ∷ lines) = let later = widest-some lines in omega arith
 
 -- What a script has done: the turn of its first lines, whatever comes after them.
 pub record Led (first : State) (done : List Line) (number : ℕ) (s : State) : Type 0 where
-  pub turn : Turn
-  pub leads : (left : List Line) → Leads first.workers (start 0) 1 (done ++ left) turn s.walk number left
+  pub turn : Transcript
+  pub leads : (left : List Line) → Leads first.workers (start 0) 1 (done ++ left) turn s.script_state number left
   pub asked : reg_calls 0 (known s.registry).seen ≡ turn.registry
   pub settled : AllSettled (reg_calls 0 (known s.registry).seen)
   pub called : board_calls 0 (known s.board).seen ≡ turn.board
@@ -155,7 +155,7 @@ unfolding reg_calls board_calls
 led-begins laws first fresh =
     record {
       turn = ended (start 0);
-      leads = λ left. subst (λ w. Leads first.workers (start 0) 1 left (ended (start 0)) w 1 left) (sym fresh.walk) (laws.nowhere first.workers (start 0) 1 left);
+      leads = λ left. subst (λ w. Leads first.workers (start 0) 1 left (ended (start 0)) w 1 left) (sym fresh.script_state) (laws.nowhere first.workers (start 0) 1 left);
       asked = ap (λ h. reg_calls 0 h) fresh.registry.1;
       settled = subst (λ h. AllSettled (reg_calls 0 h)) (sym fresh.registry.1) tt;
       called = ap (λ h. board_calls 0 h) fresh.board.1;
@@ -192,24 +192,24 @@ module _ (laws : Laws) (first : State) where
         laws.later_calls (widest lines) 0 led.turn.registry calls [] k.seen k'.seen (laws.wider (widest done) (widest lines) 0 led.turn.registry [] k.seen before led.in_turn)
         (laws.wider width (widest lines) 0 calls k.seen k'.seen le (subst (λ n. AreInTurnBy width n calls k.seen k'.seen) led.caller asked.in_turn))
 
-    led-more : (line : Line) (s' : State) (reply : List ℕ) → Replies (width_of line) (line_dialogue s.workers s.walk number line) s s' [] reply
+    led-more : (line : Line) (s' : State) (reply : List ℕ) → Replies (width_of line) (line_dialogue s.workers s.script_state number line) s s' [] reply
         → (next : Led first (done ++ line ∷ []) (number + 1) s') × (text_in next.turn ≡ text_in led.turn ++ reply)
     led-more line s' reply r =
         let t = led.turn in
         let u = r.turn in
-        let is = subst (λ w. IsTurn (line_dialogue w s.walk number line) u) led.goes.locks.workers r.is in
-        let leads : (left : List Line) → Leads first.workers (start 0) 1 ((done ++ line ∷ []) ++ left) t s.walk number (line ∷ left) =
-        λ left. subst (λ ls. Leads first.workers (start 0) 1 ls t s.walk number (line ∷ left)) (sym (append_assoc done (line ∷ []) left)) (led.leads (line ∷ left)) in (
+        let is = subst (λ w. IsTranscript (line_dialogue w s.script_state number line) u) led.goes.locks.workers r.is in
+        let leads : (left : List Line) → Leads first.workers (start 0) 1 ((done ++ line ∷ []) ++ left) t s.script_state number (line ∷ left) =
+        λ left. subst (λ ls. Leads first.workers (start 0) 1 ls t s.script_state number (line ∷ left)) (sym (append_assoc done (line ∷ []) left)) (led.leads (line ∷ left)) in (
           record {
             turn = joined t u;
-            leads = λ left. laws.on first.workers (start 0) s.walk s'.walk 1 number ((done ++ line ∷ []) ++ left) left line t u (leads left) is r.ends;
+            leads = λ left. laws.on first.workers (start 0) s.script_state s'.script_state 1 number ((done ++ line ∷ []) ++ left) left line t u (leads left) is r.ends;
             asked = asked-all (width_of line) (known s'.registry) u.registry r.asked;
             settled = settled-all (width_of line) (known s'.registry) u.registry r.asked;
             called = called-all (known s'.board) u.board r.called;
             in_turn = turns-all (done ++ line ∷ []) (width_of line) (known s'.registry) u.registry (widest-front done (line ∷ [])) (widest-last done line) r.asked;
             caller = r.asked.number ∙ led.caller;
             board_caller = r.called.number ∙ led.board_caller;
-            goes = goes-then first s s' led.goes (replied-goes (width_of line) (line_dialogue s.workers s.walk number line) s s' [] reply r);
+            goes = goes-then first s s' led.goes (replied-goes (width_of line) (line_dialogue s.workers s.script_state number line) s s' [] reply r);
           },
           texts-joined t u ∙ ap (λ x. text_in t ++ x) (sym r.says),
         )
@@ -221,7 +221,7 @@ module _ (laws : Laws) (first : State) where
         let brd = starts-trans l.seen (known s'.board).seen b goes.board.seen from_b in
         let more_r = reg_calls_from (k.seen ++ reg.0) 0 k.seen reg.0 in
         let more_b = board_calls_from 0 l.seen brd.0 in
-        front-text first.workers (start 0) s.walk 0 number (done ++ left) left led.turn r b more_r more_b text (led.leads left)
+        front-text first.workers (start 0) s.script_state 0 number (done ++ left) left led.turn r b more_r more_b text (led.leads left)
         (reg_calls-on laws k.seen r led.settled reg ∙ ap (λ cs. cs ++ more_r) led.asked)
         (board_calls-on laws l.seen b brd ∙ ap (λ cs. cs ++ more_b) led.called)
         front
@@ -252,37 +252,37 @@ module _ (laws : Laws) (first : State) where
     settled-turn = subst AllSettled led.asked led.settled
 
     -- in the next line
-    pub led-stops : (line : Line) (left : List Line) (s' : State) → StopsIn (line_dialogue s.workers s.walk number line) s s'
+    pub led-stops : (line : Line) (left : List Line) (s' : State) → StopsIn (line_dialogue s.workers s.script_state number line) s s'
         → MakesFirstAfter (lines_and_next first.workers done (line ∷ left)) (known s'.registry) (known s'.board)
     led-stops line left s' stop =
-        makes-first s' (line_dialogue s.workers s.walk number line) stop (lines_and_next first.workers done (line ∷ left))
+        makes-first s' (line_dialogue s.workers s.script_state number line) stop (lines_and_next first.workers done (line ∷ left))
         (λ r b begins.
-        let now = subst (λ w. BeginsBy (line_dialogue w s.walk number line) r b) led.goes.locks.workers begins in
-        laws.begins_lines first.workers (start 0) s.walk 1 number (done ++ line ∷ []) (line ∷ []) led.turn Done r b (led.leads (line ∷ [])) settled-turn
-        (laws.begins_first (line_dialogue first.workers s.walk number line) (λ after. lines_dialogue first.workers after (number + 1) [] Done) r b now))
+        let now = subst (λ w. BeginsBy (line_dialogue w s.script_state number line) r b) led.goes.locks.workers begins in
+        laws.begins_lines first.workers (start 0) s.script_state 1 number (done ++ line ∷ []) (line ∷ []) led.turn Done r b (led.leads (line ∷ [])) settled-turn
+        (laws.begins_first (line_dialogue first.workers s.script_state number line) (λ after. lines_dialogue first.workers after (number + 1) [] Done) r b now))
 
     -- or at the end of input
-    pub led-end_stops : (s' : State) → StopsIn (end s.walk) s s' → MakesFirstAfter (lines_and_next first.workers done []) (known s'.registry) (known s'.board)
+    pub led-end_stops : (s' : State) → StopsIn (end s.script_state) s s' → MakesFirstAfter (lines_and_next first.workers done []) (known s'.registry) (known s'.board)
     led-end_stops s' stop =
-        makes-first s' (end s.walk) stop (lines_and_next first.workers done [])
+        makes-first s' (end s.script_state) stop (lines_and_next first.workers done [])
         (λ r b begins.
-        laws.begins_lines first.workers (start 0) s.walk 1 number done [] led.turn end r b
-        (subst (λ ls. Leads first.workers (start 0) 1 ls led.turn s.walk number []) (append-nil done) (led.leads [])) settled-turn begins)
+        laws.begins_lines first.workers (start 0) s.script_state 1 number done [] led.turn end r b
+        (subst (λ ls. Leads first.workers (start 0) 1 ls led.turn s.script_state number []) (append-nil done) (led.leads [])) settled-turn begins)
 
     -- or before either
     pub led-stops_here : (left : List Line) → IsOwn reg_caller k → MakesFirstAfter (lines_and_next first.workers done left) k l
-    led-stops_here [] own = led-end_stops s (stops-here laws (end s.walk) s led.caller led.settled own)
-    led-stops_here (line ∷ left) own = led-stops line left s (stops-here laws (line_dialogue s.workers s.walk number line) s led.caller led.settled own)
+    led-stops_here [] own = led-end_stops s (stops-here laws (end s.script_state) s led.caller led.settled own)
+    led-stops_here (line ∷ left) own = led-stops line left s (stops-here laws (line_dialogue s.workers s.script_state number line) s led.caller led.settled own)
 
     -- ---- these lines alone
 
-    leads-alone : (r : List RegCall) (b : List BoardCall) → turn_of (lines_dialogue first.workers (start 0) 1 done Done) (led.turn.registry ++ r) (led.turn.board ++ b) ≡ joined led.turn (ended s.walk)
+    leads-alone : (r : List RegCall) (b : List BoardCall) → transcript_of (lines_dialogue first.workers (start 0) 1 done Done) (led.turn.registry ++ r) (led.turn.board ++ b) ≡ joined led.turn (ended s.script_state)
     leads-alone r b =
-        ap (λ ls. turn_of (lines_dialogue first.workers (start 0) 1 ls Done) (led.turn.registry ++ r) (led.turn.board ++ b)) (sym (append-nil done))
+        ap (λ ls. transcript_of (lines_dialogue first.workers (start 0) 1 ls Done) (led.turn.registry ++ r) (led.turn.board ++ b)) (sym (append-nil done))
         ∙ led.leads [] Done r b
 
-    alone-text : text_in (joined led.turn (ended s.walk)) ≡ text_in led.turn
-    alone-text = texts-joined led.turn (ended s.walk) ∙ append-nil (text_in led.turn)
+    alone-text : text_in (joined led.turn (ended s.script_state)) ≡ text_in led.turn
+    alone-text = texts-joined led.turn (ended s.script_state) ∙ append-nil (text_in led.turn)
 
     -- where others alone follow, and the board is shut, they are answered whole
     pub led-answered : AreAnsweredAfter first.workers done k l (text_in led.turn)
@@ -291,14 +291,14 @@ module _ (laws : Laws) (first : State) where
         let same = reg_calls-same laws k r led.caller led.settled from_r in
         let calls_r : reg_calls 0 r ≡ t.registry ++ [] = same ∙ (led.asked ∙ sym (append-nil t.registry)) in
         let on_b : board_calls 0 b ≡ t.board ++ more = calls_b ∙ ap (λ cs. cs ++ more) led.called in
-        let is : lines_turn first.workers done r b ≡ joined t (ended s.walk) =
-        ap (λ cs. turn_of (lines_dialogue first.workers (start 0) 1 done Done) cs (board_calls 0 b)) calls_r
-        ∙ (ap (turn_of (lines_dialogue first.workers (start 0) 1 done Done) (t.registry ++ [])) on_b ∙ leads-alone [] more) in
+        let is : lines_transcript first.workers done r b ≡ joined t (ended s.script_state) =
+        ap (λ cs. transcript_of (lines_dialogue first.workers (start 0) 1 done Done) cs (board_calls 0 b)) calls_r
+        ∙ (ap (transcript_of (lines_dialogue first.workers (start 0) 1 done Done) (t.registry ++ [])) on_b ∙ leads-alone [] more) in
         record {
-          registry = ap (λ (u : Turn). u.registry) is ∙ sym calls_r;
+          registry = ap (λ (u : Transcript). u.registry) is ∙ sym calls_r;
           settled = subst AllSettled (sym same) led.settled;
-          board = (more, ap (λ (u : Turn). u.board ++ more) is ∙ (ap (λ cs. cs ++ more) (append-nil t.board) ∙ sym on_b), shut);
-          ended = ap (λ (u : Turn). is_some u.after) is;
+          board = (more, ap (λ (u : Transcript). u.board ++ more) is ∙ (ap (λ cs. cs ++ more) (append-nil t.board) ∙ sym on_b), shut);
+          ended = ap (λ (u : Transcript). is_some u.after) is;
           text_is = sym (ap text_in is ∙ alone-text);
         }
 
@@ -312,13 +312,13 @@ module _ (laws : Laws) (first : State) where
         let more_b = board_calls_from 0 l.seen brd.0 in
         let calls_r : reg_calls 0 r ≡ t.registry ++ more_r = reg_calls-on laws k.seen r led.settled reg ∙ ap (λ cs. cs ++ more_r) led.asked in
         let calls_b : board_calls 0 b ≡ t.board ++ more_b = board_calls-on laws l.seen b brd ∙ ap (λ cs. cs ++ more_b) led.called in
-        let is : told_by first.workers done r b ≡ joined t (ended s.walk) =
-        ap (λ cs. turn_of (lines_dialogue first.workers (start 0) 1 done Done) cs (board_calls 0 b)) calls_r
-        ∙ (ap (turn_of (lines_dialogue first.workers (start 0) 1 done Done) (t.registry ++ more_r)) calls_b ∙ leads-alone more_r more_b) in
+        let is : told_by first.workers done r b ≡ joined t (ended s.script_state) =
+        ap (λ cs. transcript_of (lines_dialogue first.workers (start 0) 1 done Done) cs (board_calls 0 b)) calls_r
+        ∙ (ap (transcript_of (lines_dialogue first.workers (start 0) 1 done Done) (t.registry ++ more_r)) calls_b ∙ leads-alone more_r more_b) in
         record {
-          registry = (more_r, ap (λ (u : Turn). u.registry ++ more_r) is ∙ (ap (λ cs. cs ++ more_r) (append-nil t.registry) ∙ sym calls_r));
-          board = (more_b, ap (λ (u : Turn). u.board ++ more_b) is ∙ (ap (λ cs. cs ++ more_b) (append-nil t.board) ∙ sym calls_b));
-          ended = ap (λ (u : Turn). is_some u.after) is;
+          registry = (more_r, ap (λ (u : Transcript). u.registry ++ more_r) is ∙ (ap (λ cs. cs ++ more_r) (append-nil t.registry) ∙ sym calls_r));
+          board = (more_b, ap (λ (u : Transcript). u.board ++ more_b) is ∙ (ap (λ cs. cs ++ more_b) (append-nil t.board) ∙ sym calls_b));
+          ended = ap (λ (u : Transcript). is_some u.after) is;
           text_is = sym (ap text_in is ∙ alone-text);
         }
 
@@ -332,30 +332,30 @@ module _ (laws : Laws) (first : State) where
         let more_b = board_calls_from 0 l.seen brd.0 in
         let calls_r : reg_calls 0 r ≡ t.registry ++ more_r = reg_calls-on laws k.seen r led.settled reg ∙ ap (λ cs. cs ++ more_r) led.asked in
         let calls_b : board_calls 0 b ≡ t.board ++ more_b = board_calls-on laws l.seen b brd ∙ ap (λ cs. cs ++ more_b) led.called in
-        let is : turn_of (lines_dialogue first.workers (start 0) 1 (ones ++ are.0) Done) (reg_calls 0 r) (board_calls 0 b) ≡ joined t (ended s.walk) =
-        ap (λ ls. turn_of (lines_dialogue first.workers (start 0) 1 ls Done) (reg_calls 0 r) (board_calls 0 b)) (sym are.1)
-        ∙ (ap (λ cs. turn_of (lines_dialogue first.workers (start 0) 1 done Done) cs (board_calls 0 b)) calls_r
-        ∙ (ap (turn_of (lines_dialogue first.workers (start 0) 1 done Done) (t.registry ++ more_r)) calls_b ∙ leads-alone more_r more_b)) in
-        let ones_are = front-lines first.workers 1 (start 0) ones are.0 (reg_calls 0 r) (board_calls 0 b) (ap (λ (u : Turn). is_some u.after) is) in
-        let whole : text_in (turn_of (lines_dialogue first.workers (start 0) 1 (ones ++ are.0) Done) (reg_calls 0 r) (board_calls 0 b)) ≡ text_in t = ap text_in is ∙ alone-text in
-        let text_is : text_in (lines_turn first.workers ones r b) ++ ones_are.front.0 ≡ text_in t = ones_are.front.1 ∙ whole in
-        let one = lines_turn first.workers ones r b in
-        let one_r : one.registry ++ ones_are.registry.0 ≡ t.registry = ones_are.registry.1 ∙ (ap (λ (u : Turn). u.registry) is ∙ append-nil t.registry) in
-        let one_b : one.board ++ ones_are.board.0 ≡ t.board = ones_are.board.1 ∙ (ap (λ (u : Turn). u.board) is ∙ append-nil t.board) in
+        let is : transcript_of (lines_dialogue first.workers (start 0) 1 (ones ++ are.0) Done) (reg_calls 0 r) (board_calls 0 b) ≡ joined t (ended s.script_state) =
+        ap (λ ls. transcript_of (lines_dialogue first.workers (start 0) 1 ls Done) (reg_calls 0 r) (board_calls 0 b)) (sym are.1)
+        ∙ (ap (λ cs. transcript_of (lines_dialogue first.workers (start 0) 1 done Done) cs (board_calls 0 b)) calls_r
+        ∙ (ap (transcript_of (lines_dialogue first.workers (start 0) 1 done Done) (t.registry ++ more_r)) calls_b ∙ leads-alone more_r more_b)) in
+        let ones_are = front-lines first.workers 1 (start 0) ones are.0 (reg_calls 0 r) (board_calls 0 b) (ap (λ (u : Transcript). is_some u.after) is) in
+        let whole : text_in (transcript_of (lines_dialogue first.workers (start 0) 1 (ones ++ are.0) Done) (reg_calls 0 r) (board_calls 0 b)) ≡ text_in t = ap text_in is ∙ alone-text in
+        let text_is : text_in (lines_transcript first.workers ones r b) ++ ones_are.front.0 ≡ text_in t = ones_are.front.1 ∙ whole in
+        let one = lines_transcript first.workers ones r b in
+        let one_r : one.registry ++ ones_are.registry.0 ≡ t.registry = ones_are.registry.1 ∙ (ap (λ (u : Transcript). u.registry) is ∙ append-nil t.registry) in
+        let one_b : one.board ++ ones_are.board.0 ≡ t.board = ones_are.board.1 ∙ (ap (λ (u : Transcript). u.board) is ∙ append-nil t.board) in
         record {
           registry = (ones_are.registry.0 ++ more_r, sym (append_assoc one.registry ones_are.registry.0 more_r) ∙ (ap (λ cs. cs ++ more_r) one_r ∙ sym calls_r));
           board = (ones_are.board.0 ++ more_b, sym (append_assoc one.board ones_are.board.0 more_b) ∙ (ap (λ cs. cs ++ more_b) one_b ∙ sym calls_b));
           ended = ones_are.ended;
           front = (
             ones_are.front.0 ++ front.0,
-            sym (append_assoc (text_in (lines_turn first.workers ones r b)) ones_are.front.0 front.0) ∙ (ap (λ x. x ++ front.0) text_is ∙ front.1),
+            sym (append_assoc (text_in (lines_transcript first.workers ones r b)) ones_are.front.0 front.0) ∙ (ap (λ x. x ++ front.0) text_is ∙ front.1),
           );
         }
 
     -- ---- the end of input
 
     module _ (lines : List Line) (s' : State) (reply : List ℕ) (none : lines ≡ done) (e : AnswersEnd s s' [] reply) where
-      abbrev u : Turn
+      abbrev u : Transcript
       u = e.turn
 
       abbrev k' : Known RegEntry
@@ -364,8 +364,8 @@ module _ (laws : Laws) (first : State) where
       abbrev l' : Known (BoardEntry Ask)
       l' = known s'.board
 
-      leads-end : Leads first.workers (start 0) 1 lines led.turn s.walk number []
-      leads-end = subst (λ ls. Leads first.workers (start 0) 1 ls led.turn s.walk number []) (append-nil done ∙ sym none) (led.leads [])
+      leads-end : Leads first.workers (start 0) 1 lines led.turn s.script_state number []
+      leads-end = subst (λ ls. Leads first.workers (start 0) 1 ls led.turn s.script_state number []) (append-nil done ∙ sym none) (led.leads [])
 
       reply-is : text_in led.turn ++ reply ≡ text_in led.turn ++ text_in u
       reply-is = ap (λ x. text_in led.turn ++ x) e.says
@@ -374,7 +374,7 @@ module _ (laws : Laws) (first : State) where
       end-text : IsTextAfter first.workers lines k' l' (text_in led.turn ++ reply)
       end-text = λ r b from_r from_b.
           subst (IsText first.workers (start 0) 0 lines r b) (sym reply-is)
-          (laws.end_ first.workers (start 0) s.walk s.walk 0 number lines led.turn u r b leads-end e.is e.ends
+          (laws.end_ first.workers (start 0) s.script_state s.script_state 0 number lines led.turn u r b leads-end e.is e.ends
           (reg_calls-same laws k' r (e.asked.number ∙ led.caller) (settled-all 1 k' u.registry e.asked) from_r ∙ asked-all 1 k' u.registry e.asked)
           (board_calls-same laws l' b (e.called.number ∙ led.board_caller) from_b ∙ called-all l' u.board e.called))
 
@@ -443,7 +443,7 @@ module _ (laws : Laws) (first : State) where
     going-begins held ready fresh = record { led = led-begins laws first fresh; ready = ready; written = appends-none held }
 
     module _ (done : List Line) (number : ℕ) (x y z : Option (List ℕ)) (s s' : State) (going : At done number x y s) where
-      abbrev t : Turn
+      abbrev t : Transcript
       t = going.led.turn
 
       abbrev Broken : List Line → Type 0
@@ -455,7 +455,7 @@ module _ (laws : Laws) (first : State) where
       abbrev Begun : List Line → Type 0
       Begun ones = Gains x z (BeginsWithTextAfter first.workers ones (known s'.registry) (known s'.board))
 
-      pub going-more : (line : Line) → Writes (Replies (width_of line) (line_dialogue s.workers s.walk number line) s s' []) y z → IsReady registry board s' → At (done ++ line ∷ []) (number + 1) x z s'
+      pub going-more : (line : Line) → Writes (Replies (width_of line) (line_dialogue s.workers s.script_state number line) s s' []) y z → IsReady registry board s' → At (done ++ line ∷ []) (number + 1) x z s'
       going-more line step ready =
           let m = led-more done number s going.led line s' step.0 step.1 in
           record { led = m.0; ready = ready; written = subst (Appends x z) (sym m.1) (Appends-trans x y z (text_in t) step.0 going.written step.2) }
@@ -464,7 +464,7 @@ module _ (laws : Laws) (first : State) where
       stopped left goes kept = (text_in t, led-front done number s going.led left s' (text_in t) goes ([], append-nil (text_in t)), keeps-text x y z (text_in t) going.written kept)
 
       -- a line that breaks off leaves a front of the text
-      pub going-breaks : (line : Line) (left : List Line) → Breaks (line_dialogue s.workers s.walk number line) s s' (Replies (width_of line) (line_dialogue s.workers s.walk number line) s s' []) y z → Broken ((done ++ line ∷ []) ++ left)
+      pub going-breaks : (line : Line) (left : List Line) → Breaks (line_dialogue s.workers s.script_state number line) s s' (Replies (width_of line) (line_dialogue s.workers s.script_state number line) s s' []) y z → Broken ((done ++ line ∷ []) ++ left)
       going-breaks line left (inl stop) = subst Broken (sym (append_assoc done (line ∷ []) left)) (stopped (line ∷ left) (stop-goes stop.0) stop.1)
       going-breaks line left (inr part) =
           let m = led-more done number s going.led line s' part.0 part.1 in
@@ -481,11 +481,11 @@ module _ (laws : Laws) (first : State) where
         keeps-text x y z (text_in t) going.written kept,
       )
 
-      pub going-by_lines : (line : Line) (left : List Line) → Breaks (line_dialogue s.workers s.walk number line) s s' (Replies (width_of line) (line_dialogue s.workers s.walk number line) s s' []) y z → ByLines ((done ++ line ∷ []) ++ left)
+      pub going-by_lines : (line : Line) (left : List Line) → Breaks (line_dialogue s.workers s.script_state number line) s s' (Replies (width_of line) (line_dialogue s.workers s.script_state number line) s s' []) y z → ByLines ((done ++ line ∷ []) ++ left)
       going-by_lines line left (inl stop) = subst ByLines (sym (append_assoc done (line ∷ []) left)) (stopped-by_lines (line ∷ left) (stop-goes stop.0) stop.1)
       going-by_lines line left (inr part) =
           let m = led-more done number s going.led line s' part.0 part.1 in
-          let goes = replied-goes (width_of line) (line_dialogue s.workers s.walk number line) s s' [] part.0 part.1 in
+          let goes = replied-goes (width_of line) (line_dialogue s.workers s.script_state number line) s s' [] part.0 part.1 in
           let written = part.2 in
           let text = text_in t ++ written.0 in (
             text,
@@ -505,7 +505,7 @@ module _ (laws : Laws) (first : State) where
             Appends-trans x y z (text_in t) written.0 going.written written.2,
           )
 
-      pub going-end_by_lines : (lines : List Line) → lines ≡ done → Breaks (end s.walk) s s' (AnswersEnd s s' []) y z → ByLines lines
+      pub going-end_by_lines : (lines : List Line) → lines ≡ done → Breaks (end s.script_state) s s' (AnswersEnd s s' []) y z → ByLines lines
       going-end_by_lines lines none (inl stop) = subst ByLines (append-nil done ∙ sym none) (stopped-by_lines [] (stop-goes stop.0) stop.1)
       going-end_by_lines lines none (inr part) =
           let written = part.2 in (
@@ -518,10 +518,10 @@ module _ (laws : Laws) (first : State) where
       abbrev CutOff : List Line → Type 0
       CutOff lines = Gains x z (IsCutOffAfter first.workers lines (known s'.registry) (known s'.board))
 
-      pub going-cut : (line : Line) (left : List Line) → Cuts (Replies (width_of line) (line_dialogue s.workers s.walk number line) s s' []) y z → CutOff ((done ++ line ∷ []) ++ left)
+      pub going-cut : (line : Line) (left : List Line) → Cuts (Replies (width_of line) (line_dialogue s.workers s.script_state number line) s s' []) y z → CutOff ((done ++ line ∷ []) ++ left)
       going-cut line left part =
           let m = led-more done number s going.led line s' part.0 part.1 in
-          let goes = replied-goes (width_of line) (line_dialogue s.workers s.walk number line) s s' [] part.0 part.1 in
+          let goes = replied-goes (width_of line) (line_dialogue s.workers s.script_state number line) s s' [] part.0 part.1 in
           let written = part.2 in
           let text = text_in t ++ written.0 in (
             text,
@@ -576,31 +576,31 @@ module _ (laws : Laws) (first : State) where
       cut-broken : (lines : List Line) → CutOff lines → BrokenOff lines
       cut-broken lines cut = (cut.0, inl cut.1, cut.2)
 
-      pub going-broken : (line : Line) (left : List Line) → Breaks (line_dialogue s.workers s.walk number line) s s' (Replies (width_of line) (line_dialogue s.workers s.walk number line) s s' []) y z → BrokenOff ((done ++ line ∷ []) ++ left)
+      pub going-broken : (line : Line) (left : List Line) → Breaks (line_dialogue s.workers s.script_state number line) s s' (Replies (width_of line) (line_dialogue s.workers s.script_state number line) s s' []) y z → BrokenOff ((done ++ line ∷ []) ++ left)
       going-broken line left (inl stop) =
           subst BrokenOff (sym (append_assoc done (line ∷ []) left)) (going-stopped (line ∷ left) (stop-goes stop.0) stop.1 (led-stops done number s going.led line left s' stop.0))
       going-broken line left (inr part) = cut-broken ((done ++ line ∷ []) ++ left) (going-cut line left part)
 
-      pub going-end_broken : (lines : List Line) → lines ≡ done → Breaks (end s.walk) s s' (AnswersAndShuts s s') y z → BrokenOff lines
+      pub going-end_broken : (lines : List Line) → lines ≡ done → Breaks (end s.script_state) s s' (AnswersAndShuts s s') y z → BrokenOff lines
       going-end_broken lines none (inl stop) =
           subst BrokenOff (append-nil done ∙ sym none) (going-stopped [] (stop-goes stop.0) stop.1 (led-end_stops done number s going.led s' stop.0))
       going-end_broken lines none (inr part) = cut-broken lines (going-end_cut lines none part)
 
       -- the caller has seen each entry that it made
-      pub line_broken-own : (line : Line) → Breaks (line_dialogue s.workers s.walk number line) s s' (Replies (width_of line) (line_dialogue s.workers s.walk number line) s s' []) y z → IsOwn reg_caller (known s'.registry)
+      pub line_broken-own : (line : Line) → Breaks (line_dialogue s.workers s.script_state number line) s s' (Replies (width_of line) (line_dialogue s.workers s.script_state number line) s s' []) y z → IsOwn reg_caller (known s'.registry)
       line_broken-own line (inl stop) = stop.0.own
       line_broken-own line (inr part) = part.1.asked.caller.own
 
-      pub end_broken-own : Breaks (end s.walk) s s' (AnswersAndShuts s s') y z → IsOwn reg_caller (known s'.registry)
+      pub end_broken-own : Breaks (end s.script_state) s s' (AnswersAndShuts s s') y z → IsOwn reg_caller (known s'.registry)
       end_broken-own (inl stop) = stop.0.own
       end_broken-own (inr part) = part.1.1.asked.caller.own
 
-      pub breaks-plain : Breaks (end s.walk) s s' (AnswersAndShuts s s') y z → Breaks (end s.walk) s s' (AnswersEnd s s' []) y z
+      pub breaks-plain : Breaks (end s.script_state) s s' (AnswersAndShuts s s') y z → Breaks (end s.script_state) s s' (AnswersEnd s s' []) y z
       breaks-plain (inl stop) = inl stop
       breaks-plain (inr part) = inr (part.0, part.1.1, part.2)
 
       -- and so does the end of input
-      pub going-end_breaks : (lines : List Line) → lines ≡ done → Breaks (end s.walk) s s' (AnswersEnd s s' []) y z → Broken lines
+      pub going-end_breaks : (lines : List Line) → lines ≡ done → Breaks (end s.script_state) s s' (AnswersEnd s s' []) y z → Broken lines
       going-end_breaks lines none (inl stop) = subst Broken (append-nil done ∙ sym none) (stopped [] (stop-goes stop.0) stop.1)
       going-end_breaks lines none (inr part) =
           let written = part.2 in (
@@ -620,11 +620,11 @@ module _ (laws : Laws) (first : State) where
               Appends-trans x y z (text_in t) written.0 going.written written.2,
             )
 
-        pub going-begun : (line : Line) → Breaks (line_dialogue s.workers s.walk number line) s s' (Replies (width_of line) (line_dialogue s.workers s.walk number line) s s' []) y z → Begun ones
-        going-begun line breaks = begun-by (line_dialogue s.workers s.walk number line) (Replies (width_of line) (line_dialogue s.workers s.walk number line) s s' []) (λ reply r. replied-goes (width_of line) (line_dialogue s.workers s.walk number line) s s' [] reply r) breaks
+        pub going-begun : (line : Line) → Breaks (line_dialogue s.workers s.script_state number line) s s' (Replies (width_of line) (line_dialogue s.workers s.script_state number line) s s' []) y z → Begun ones
+        going-begun line breaks = begun-by (line_dialogue s.workers s.script_state number line) (Replies (width_of line) (line_dialogue s.workers s.script_state number line) s s' []) (λ reply r. replied-goes (width_of line) (line_dialogue s.workers s.script_state number line) s s' [] reply r) breaks
 
-        pub going-end_begun : Breaks (end s.walk) s s' (AnswersEnd s s' []) y z → Begun ones
-        going-end_begun breaks = begun-by (end s.walk) (AnswersEnd s s' []) (λ reply e. ended-goes s s' [] reply e) breaks
+        pub going-end_begun : Breaks (end s.script_state) s s' (AnswersEnd s s' []) y z → Begun ones
+        going-end_begun breaks = begun-by (end s.script_state) (AnswersEnd s s' []) (λ reply e. ended-goes s s' [] reply e) breaks
 
       -- with it the whole text is written
       module _ (lines : List Line) (none : lines ≡ done) (step : Writes (AnswersEnd s s' []) y z) where
@@ -653,11 +653,11 @@ module _ (laws : Laws) (first : State) where
       broken-goes d IsReply of (inl stop) = goes-then first s s' going.led.goes (stop-goes stop.0)
       broken-goes d IsReply of (inr part) = goes-then first s s' going.led.goes (of part.0 part.1)
 
-      pub line_broken-goes : (line : Line) → Breaks (line_dialogue s.workers s.walk number line) s s' (Replies (width_of line) (line_dialogue s.workers s.walk number line) s s' []) y z → GoesOn first s'
-      line_broken-goes line breaks = broken-goes (line_dialogue s.workers s.walk number line) (Replies (width_of line) (line_dialogue s.workers s.walk number line) s s' []) (λ reply r. replied-goes (width_of line) (line_dialogue s.workers s.walk number line) s s' [] reply r) breaks
+      pub line_broken-goes : (line : Line) → Breaks (line_dialogue s.workers s.script_state number line) s s' (Replies (width_of line) (line_dialogue s.workers s.script_state number line) s s' []) y z → GoesOn first s'
+      line_broken-goes line breaks = broken-goes (line_dialogue s.workers s.script_state number line) (Replies (width_of line) (line_dialogue s.workers s.script_state number line) s s' []) (λ reply r. replied-goes (width_of line) (line_dialogue s.workers s.script_state number line) s s' [] reply r) breaks
 
-      pub end_broken-goes : Breaks (end s.walk) s s' (AnswersEnd s s' []) y z → GoesOn first s'
-      end_broken-goes breaks = broken-goes (end s.walk) (AnswersEnd s s' []) (λ reply e. ended-goes s s' [] reply e) breaks
+      pub end_broken-goes : Breaks (end s.script_state) s s' (AnswersEnd s s' []) y z → GoesOn first s'
+      end_broken-goes breaks = broken-goes (end s.script_state) (AnswersEnd s s' []) (λ reply e. ended-goes s s' [] reply e) breaks
 
       pub end-goes : Writes (AnswersEnd s s' []) y z → GoesOn first s'
       end-goes step = goes-then first s s' going.led.goes (ended-goes s s' [] step.0 step.1)

@@ -14,24 +14,24 @@ use Rattle.dialogues.specs.InTurn.{AreInTurnBy}
 use Rattle.dialogues.specs.Lines.{line_dialogue, lines_dialogue}
 use Rattle.dialogues.specs.Piping.{end}
 use Rattle.dialogues.specs.RegistryCalls.{reg_calls, AllSettled}
-use Rattle.dialogues.specs.Turns.{Turn, IsTurn, ended, joined, turn_of}
-use Rattle.dialogues.specs.Walk.{Walk}
+use Rattle.dialogues.specs.Transcripts.{Transcript, IsTranscript, ended, joined, transcript_of}
+use Rattle.dialogues.specs.ScriptState.{ScriptState}
 use Rattle.load_mode.specs.Requests.{drawn_request, drawn_requests, asked_for, asked_from}
 use Rattle.load_mode.specs.Lines.{opening, request_line, request_lines, load_dialogue}
 use Rattle.load_mode.specs.Turns.{bytes_told}
 use Rattle.reply_text.specs.declared.answers.Answer.{Answer}
 use Rattle.script_session.specs.Ending.{EndsWith}
-use Rattle.script_session.specs.Holding.{HoldsBy}
+use Rattle.script_session.specs.Performing.{PerformsBy}
 use Rattle.script_session.specs.Saying.{hands_out}
 use Rattle.script_session.specs.States.{State}
 use Rattle.script_text.specs.declared.commands.Line.{Line}
-use Rattle.session_calls.specs.Asking.{AskedBy}
-use Rattle.session_calls.specs.Passes.{known}
-use Rattle.session_calls.specs.Pipelines.{Called}
+use Rattle.recorded_calls.specs.Asking.{AskedBy}
+use Rattle.recorded_calls.specs.Passes.{known}
+use Rattle.recorded_calls.specs.Pipelines.{Called}
 use Rattle.transforms.specs.declared.ask.Ask.{Ask}
 use Rattle.turn_lock.specs.Turns.{Known}
 use Rattle.script_run.specs.Laws.{Laws}
-use Rattle.script_run.specs.Loads.{IsHeld, HoldsOn, HoldsOpening, IsLoadTurnAfter}
+use Rattle.script_run.specs.Loads.{IsHeld, PerformsOn, PerformsOpening, IsLoadTurnAfter}
 use Rattle.script_run.specs.Runs.{GoesOn, IsFresh}
 use Rattle.script_run.proofs.Following.{reg_calls-same, board_calls-same, in_turn-on, followed-ends}
 
@@ -39,7 +39,7 @@ use Rattle.script_run.proofs.Following.{reg_calls-same, board_calls-same, in_tur
 
 -- ---- a part of a dialogue
 
-joined-assoc : (t u v : Turn) → joined (joined t u) v ≡ joined t (joined u v)
+joined-assoc : (t u v : Transcript) → joined (joined t u) v ≡ joined t (joined u v)
 joined-assoc t u v = λ i. record {
   registry = append_assoc t.registry u.registry v.registry i;
   board = append_assoc t.board u.board v.board i;
@@ -47,7 +47,7 @@ joined-assoc t u v = λ i. record {
   after = v.after;
 }
 
-abbrev nothing : Turn
+abbrev nothing : Transcript
 nothing = record { registry = []; board = []; answers = []; after = None }
 
 pub begins : Laws → (whole : Dialogue) (s : State) (hasher : Sha256) → IsFresh s → Holds256 hasher [] → IsHeld whole whole s hasher
@@ -65,9 +65,9 @@ begins laws whole s hasher fresh empty = record {
 }
 
 -- one turn more
-module _ (laws : Laws) (whole d : Dialogue) (later : Walk → Dialogue) (s s' : State) (x y : Sha256) (walk : Walk) (u : Turn) (answers : List Answer) (is : IsTurn d u) (asked : AskedBy 1 (known s.registry) (known s'.registry) u.registry) (called : Called (known s.board) (known s'.board) u.board)
-    (ends : u.after ≡ Some walk) (says : answers ≡ u.answers) (hashes : (m : List ℕ) → Holds256 x m → Holds256 y (m ++ flat_map bytes_told answers)) (held : IsHeld whole (followed d later) s x) where
-  abbrev t : Turn
+module _ (laws : Laws) (whole d : Dialogue) (later : ScriptState → Dialogue) (s s' : State) (x y : Sha256) (script_state : ScriptState) (u : Transcript) (answers : List Answer) (is : IsTranscript d u) (asked : AskedBy 1 (known s.registry) (known s'.registry) u.registry) (called : Called (known s.board) (known s'.board) u.board)
+    (ends : u.after ≡ Some script_state) (says : answers ≡ u.answers) (hashes : (m : List ℕ) → Holds256 x m → Holds256 y (m ++ flat_map bytes_told answers)) (held : IsHeld whole (followed d later) s x) where
+  abbrev t : Transcript
   t = held.turn
 
   abbrev k : Known RegEntry
@@ -82,13 +82,13 @@ module _ (laws : Laws) (whole d : Dialogue) (later : Walk → Dialogue) (s s' : 
   abbrev l' : Known (BoardEntry Ask)
   l' = known s'.board
 
-  pub turned : IsHeld whole (later walk) s' y
+  pub turned : IsHeld whole (later script_state) s' y
   turned = record {
     turn = joined t u;
     leads = λ r b.
-        (λ i. turn_of whole (append_assoc t.registry u.registry r i) (append_assoc t.board u.board b i))
+        (λ i. transcript_of whole (append_assoc t.registry u.registry r i) (append_assoc t.board u.board b i))
         ∙ (held.leads (u.registry ++ r) (u.board ++ b)
-        ∙ (ap (joined t) (laws.follow d later u walk r b is ends) ∙ sym (joined-assoc t u (turn_of (later walk) r b))));
+        ∙ (ap (joined t) (laws.follow d later u script_state r b is ends) ∙ sym (joined-assoc t u (transcript_of (later script_state) r b))));
     asked = ap (λ n. reg_calls n k'.seen) (sym held.caller) ∙ (asked.are.calls_are ∙ (ap (λ n. reg_calls n k.seen ++ u.registry) held.caller ∙ ap (λ cs. cs ++ u.registry) held.asked));
     settled = subst (λ n. AllSettled (reg_calls n k'.seen)) held.caller asked.are.all_settled;
     called = ap (λ n. board_calls n l'.seen) (sym (called.number ∙ held.board_caller)) ∙ (called.calls_are ∙ (ap (λ n. board_calls n l.seen ++ u.board) held.board_caller ∙ ap (λ cs. cs ++ u.board) held.called));
@@ -100,19 +100,19 @@ module _ (laws : Laws) (whole d : Dialogue) (later : Walk → Dialogue) (s s' : 
   }
 
 -- a line of one look at most
-pub line-on : Laws → (width : ℕ) (d : Dialogue) (s s' : State) (x y : Sha256) (none answers : List Answer) → width ≡ 1 → none ≡ [] → HoldsBy width d s s' none answers → ((m : List ℕ) → Holds256 x m → Holds256 y (m ++ flat_map bytes_told answers))
-    → (later : Walk → Dialogue) → HoldsOn (followed d later) later s s' x y
+pub line-on : Laws → (width : ℕ) (d : Dialogue) (s s' : State) (x y : Sha256) (none answers : List Answer) → width ≡ 1 → none ≡ [] → PerformsBy width d s s' none answers → ((m : List ℕ) → Holds256 x m → Holds256 y (m ++ flat_map bytes_told answers))
+    → (later : ScriptState → Dialogue) → PerformsOn (followed d later) later s s' x y
 line-on laws width d s s' x y none answers narrow empty done hashes later = λ whole held.
     let h = done.done in
-    turned laws whole d later s s' x y s'.walk h.turn answers h.is (subst (λ w. AskedBy w (known s.registry) (known s'.registry) h.turn.registry) narrow h.asked) h.called h.ends
+    turned laws whole d later s s' x y s'.script_state h.turn answers h.is (subst (λ w. AskedBy w (known s.registry) (known s'.registry) h.turn.registry) narrow h.asked) h.called h.ends
     (h.says ∙ ap (λ xs. xs ++ h.turn.answers) empty) hashes held
 
 -- the end
 pub end-on : Laws → (s s' : State) (x y : Sha256) (none answers : List Answer) → none ≡ [] → EndsWith s s' none answers → ((m : List ℕ) → Holds256 x m → Holds256 y (m ++ flat_map bytes_told answers))
-    → (whole : Dialogue) → IsHeld whole (end s.walk) s x → IsHeld whole (Ends s.walk) s' y
+    → (whole : Dialogue) → IsHeld whole (end s.script_state) s x → IsHeld whole (Ends s.script_state) s' y
 end-on laws s s' x y none answers empty e hashes = λ whole held.
-    turned laws whole (end s.walk) Ends s s' x y s.walk e.turn answers e.is e.asked e.called e.ends (e.says ∙ ap (λ xs. xs ++ e.turn.answers) empty) hashes
-    (subst (λ d. IsHeld whole d s x) (sym (followed-ends (end s.walk))) held)
+    turned laws whole (end s.script_state) Ends s s' x y s.script_state e.turn answers e.is e.asked e.called e.ends (e.says ∙ ap (λ xs. xs ++ e.turn.answers) empty) hashes
+    (subst (λ d. IsHeld whole d s x) (sym (followed-ends (end s.script_state))) held)
 
 -- ---- no line of a load collects
 
@@ -144,56 +144,56 @@ lines-next count number state below =
 -- ---- lines, one after another
 
 abbrev LineOn : ℕ → ℕ → Line → State → State → Sha256 → Sha256 → Type 0
-LineOn workers n line s s' x y = (later : Walk → Dialogue) → HoldsOn (followed (line_dialogue workers s.walk n line) later) later s s' x y
+LineOn workers n line s s' x y = (later : ScriptState → Dialogue) → PerformsOn (followed (line_dialogue workers s.script_state n line) later) later s s' x y
 
 -- beside as many workers as before
 line-with : (workers n : ℕ) (line : Line) (s s' : State) (x y : Sha256) → s.workers ≡ workers → LineOn s.workers n line s s' x y → LineOn workers n line s s' x y
 line-with workers n line s s' x y same on = subst (λ w. LineOn w n line s s' x y) same on
 
 -- the same of a line of the opening
-opening-with : (workers n : ℕ) (s s' : State) (x y : Sha256) → s.workers ≡ workers → HoldsOpening s.workers n s s' x y → HoldsOpening workers n s s' x y
-opening-with workers n s s' x y same on = subst (λ w. HoldsOpening w n s s' x y) same on
+opening-with : (workers n : ℕ) (s s' : State) (x y : Sha256) → s.workers ≡ workers → PerformsOpening s.workers n s s' x y → PerformsOpening workers n s s' x y
+opening-with workers n s s' x y same on = subst (λ w. PerformsOpening w n s s' x y) same on
 
 pub opening-on : (s s1 s2 s3 s4 : State) (x x1 x2 x3 x4 : Sha256) → GoesOn s s1 → GoesOn s1 s2 → GoesOn s2 s3
-    → HoldsOpening s.workers 0 s s1 x x1 → HoldsOpening s1.workers 1 s1 s2 x1 x2 → HoldsOpening s2.workers 2 s2 s3 x2 x3 → HoldsOpening s3.workers 3 s3 s4 x3 x4
-    → (later : Walk → Dialogue) → HoldsOn (lines_dialogue s.workers s.walk 0 opening later) later s s4 x x4
+    → PerformsOpening s.workers 0 s s1 x x1 → PerformsOpening s1.workers 1 s1 s2 x1 x2 → PerformsOpening s2.workers 2 s2 s3 x2 x3 → PerformsOpening s3.workers 3 s3 s4 x3 x4
+    → (later : ScriptState → Dialogue) → PerformsOn (lines_dialogue s.workers s.script_state 0 opening later) later s s4 x x4
 opening-on s s1 s2 s3 s4 x x1 x2 x3 x4 g1 g2 g3 on1 on2 on3 on4 later =
     let w = s.workers in
     let w1 = g1.locks.workers in
     let w2 = g2.locks.workers ∙ w1 in
     let w3 = g3.locks.workers ∙ w2 in
-    let last : Walk → Dialogue = λ walk. lines_dialogue w walk 3 (drop 3 opening) later in
-    let third : Walk → Dialogue = λ walk. lines_dialogue w walk 2 (drop 2 opening) later in
-    let second : Walk → Dialogue = λ walk. lines_dialogue w walk 1 (drop 1 opening) later in
+    let last : ScriptState → Dialogue = λ script_state. lines_dialogue w script_state 3 (drop 3 opening) later in
+    let third : ScriptState → Dialogue = λ script_state. lines_dialogue w script_state 2 (drop 2 opening) later in
+    let second : ScriptState → Dialogue = λ script_state. lines_dialogue w script_state 1 (drop 1 opening) later in
     λ whole held.
     opening-with w 3 s3 s4 x3 x4 w3 on4 later whole
     (opening-with w 2 s2 s3 x2 x3 w2 on3 last whole
     (opening-with w 1 s1 s2 x1 x2 w1 on2 third whole
     (on1 second whole held)))
 
-abbrev pub LeftAt : ℕ → ℕ → ℕ → ℕ → Walk → Dialogue
-LeftAt workers count number state walk = lines_dialogue workers walk number (lines_from number state (count - number)) end
+abbrev pub LeftAt : ℕ → ℕ → ℕ → ℕ → ScriptState → Dialogue
+LeftAt workers count number state script_state = lines_dialogue workers script_state number (lines_from number state (count - number)) end
 
 pub requests-more : (workers count n state state' : ℕ) (first : Dialogue) (s s1 s2 : State) (x x1 x2 : Sha256) (line : Line) → n < count → s1.workers ≡ workers → line ≡ request_line (asked_for n (drawn_request state)) → state' ≡ (drawn_request state).after
-    → HoldsOn first (LeftAt workers count n state) s s1 x x1 → LineOn s1.workers n line s1 s2 x1 x2 → HoldsOn first (LeftAt workers count (n + 1) state') s s2 x x2
+    → PerformsOn first (LeftAt workers count n state) s s1 x x1 → LineOn s1.workers n line s1 s2 x1 x2 → PerformsOn first (LeftAt workers count (n + 1) state') s s2 x x2
 requests-more workers count n state state' first s s1 s2 x x1 x2 line below same is after before on = λ whole held.
     let rest : List Line = lines_from (n + 1) (drawn_request state).after (count - (n + 1)) in
     let lines : lines_from n state (count - n) ≡ line ∷ rest = lines-next count n state below ∙ ap (λ l. l ∷ rest) (sym is) in
-    let now : IsHeld whole (followed (line_dialogue workers s1.walk n line) (λ walk. lines_dialogue workers walk (n + 1) rest end)) s1 x1 =
-    subst (λ ls. IsHeld whole (lines_dialogue workers s1.walk n ls end) s1 x1) lines (before whole held) in
-    subst (λ g. IsHeld whole (LeftAt workers count (n + 1) g s2.walk) s2 x2) (sym after)
-    (line-with workers n line s1 s2 x1 x2 same on (λ walk. lines_dialogue workers walk (n + 1) rest end) whole now)
+    let now : IsHeld whole (followed (line_dialogue workers s1.script_state n line) (λ script_state. lines_dialogue workers script_state (n + 1) rest end)) s1 x1 =
+    subst (λ ls. IsHeld whole (lines_dialogue workers s1.script_state n ls end) s1 x1) lines (before whole held) in
+    subst (λ g. IsHeld whole (LeftAt workers count (n + 1) g s2.script_state) s2 x2) (sym after)
+    (line-with workers n line s1 s2 x1 x2 same on (λ script_state. lines_dialogue workers script_state (n + 1) rest end) whole now)
 
 -- ---- what it leaves
 
-pub done-load : Laws → (workers seed count : ℕ) (walk : Walk) (s : State) (hasher : Sha256) (digest : List ℕ) → IsHeld (load_dialogue workers seed count) (Ends walk) s hasher → ((m : List ℕ) → Holds256 hasher m → digest ≡ sha256 m)
+pub done-load : Laws → (workers seed count : ℕ) (script_state : ScriptState) (s : State) (hasher : Sha256) (digest : List ℕ) → IsHeld (load_dialogue workers seed count) (Ends script_state) s hasher → ((m : List ℕ) → Holds256 hasher m → digest ≡ sha256 m)
     → IsLoadTurnAfter workers seed count (known s.registry) (known s.board) digest
-done-load laws workers seed count walk s hasher digest held hashes = λ r b from_r from_b.
+done-load laws workers seed count script_state s hasher digest held hashes = λ r b from_r from_b.
     let t = held.turn in
     let k = known s.registry in
     let calls : reg_calls 0 r ≡ t.registry = reg_calls-same laws k r held.caller held.settled from_r ∙ held.asked in
     record {
-      turn = joined t (ended walk);
+      turn = joined t (ended script_state);
       is = held.leads [] [];
       registry = append-nil t.registry ∙ sym calls;
       board = append-nil t.board ∙ sym (board_calls-same laws (known s.board) b held.board_caller from_b ∙ held.called);
@@ -204,17 +204,17 @@ done-load laws workers seed count walk s hasher digest held hashes = λ r b from
 
 -- the whole load, from a session that has seen nothing
 pub load-done : Laws → (seed count : ℕ) (s s1 s2 s3 : State) (x x1 x2 x3 : Sha256) (digest : List ℕ) → IsFresh s → Holds256 x [] → GoesOn s s1
-    → ((later : Walk → Dialogue) → HoldsOn (lines_dialogue s.workers s.walk 0 opening later) later s s1 x x1)
-    → HoldsOn (lines_dialogue s1.workers s1.walk 0 (request_lines seed count) end) end s1 s2 x1 x2
-    → ((whole : Dialogue) → IsHeld whole (end s2.walk) s2 x2 → IsHeld whole (Ends s2.walk) s3 x3)
+    → ((later : ScriptState → Dialogue) → PerformsOn (lines_dialogue s.workers s.script_state 0 opening later) later s s1 x x1)
+    → PerformsOn (lines_dialogue s1.workers s1.script_state 0 (request_lines seed count) end) end s1 s2 x1 x2
+    → ((whole : Dialogue) → IsHeld whole (end s2.script_state) s2 x2 → IsHeld whole (Ends s2.script_state) s3 x3)
     → ((m : List ℕ) → Holds256 x3 m → digest ≡ sha256 m)
     → IsLoadTurnAfter s.workers seed count (known s3.registry) (known s3.board) digest
 load-done laws seed count s s1 s2 s3 x x1 x2 x3 digest fresh empty goes opens requests ends hashes =
-    let rest : Walk → Dialogue = λ walk. lines_dialogue s.workers walk 0 (request_lines seed count) end in
+    let rest : ScriptState → Dialogue = λ script_state. lines_dialogue s.workers script_state 0 (request_lines seed count) end in
     let whole : Dialogue = load_dialogue s.workers seed count in
-    let first : IsHeld whole (lines_dialogue s.workers s.walk 0 opening rest) s x =
-    subst (λ walk. IsHeld whole (lines_dialogue s.workers walk 0 opening rest) s x) (sym fresh.walk) (begins laws whole s x fresh empty) in
-    let second : IsHeld whole (rest s1.walk) s1 x1 = opens rest whole first in
-    let third : IsHeld whole (end s2.walk) s2 x2 =
-    requests whole (subst (λ w. IsHeld whole (lines_dialogue w s1.walk 0 (request_lines seed count) end) s1 x1) (sym goes.locks.workers) second) in
-    done-load laws s.workers seed count s2.walk s3 x3 digest (ends whole third) hashes
+    let first : IsHeld whole (lines_dialogue s.workers s.script_state 0 opening rest) s x =
+    subst (λ script_state. IsHeld whole (lines_dialogue s.workers script_state 0 opening rest) s x) (sym fresh.script_state) (begins laws whole s x fresh empty) in
+    let second : IsHeld whole (rest s1.script_state) s1 x1 = opens rest whole first in
+    let third : IsHeld whole (end s2.script_state) s2 x2 =
+    requests whole (subst (λ w. IsHeld whole (lines_dialogue w s1.script_state 0 (request_lines seed count) end) s1 x1) (sym goes.locks.workers) second) in
+    done-load laws s.workers seed count s2.script_state s3 x3 digest (ends whole third) hashes

@@ -7,16 +7,16 @@ use Rattle.alg_registry.specs.Rows.{caller_of as reg_caller}
 use Rattle.board.specs.declared.entry.BoardEntry.{BoardEntry}
 use Rattle.crew.specs.declared.passes.Passes.{Passes}
 use Rattle.load_mode.specs.Requests.{digest_of, line_of, load_line, load_requests}
-use Rattle.load_mode.specs.Turns.{IsLoadTurn, AreLoaded, LoadsComeTo}
+use Rattle.load_mode.specs.Turns.{IsLoadTranscript, AreLoaded, LoadsComeTo}
 use Rattle.script_session.specs.Ending.{EndsShut}
 use Rattle.script_session.specs.States.{State}
-use Rattle.session_calls.specs.Passes.{known, BoardPass}
+use Rattle.recorded_calls.specs.Passes.{known, BoardPass}
 use Rattle.transforms.specs.declared.ask.Ask.{Ask}
 use Rattle.turn_lock.specs.Meeting.{IsOwn}
 use Rattle.script_run.specs.Endings.{EndsShut as ShutLast}
 use Rattle.script_run.specs.Laws.{CrewLaws}
 use Rattle.script_run.specs.Loads.{Loads, LoadEnds, IsLoadTurnAfter}
-use Rattle.script_run.specs.Beside.{LoadRan}
+use Rattle.script_run.specs.WithWorkers.{LoadRan}
 use Rattle.script_run.specs.Runs.{IsUnshutOrEnds}
 use Rattle.script_run.proofs.Finishing.{IsSessionOf, IsRunOf, same-workers, at_registry, part-of, others-registry, others-board, was-shut_in, follow-registry, follow-board, few-enough, shut-ends, closed-once, histories-of}
 
@@ -26,7 +26,7 @@ module _ (workers seed count : ℕ) (p q : Passes Ask) (qb : BoardPass) (s s' : 
   load-ends : (digest : List ℕ) → IsLoadTurnAfter s.workers seed count (known s'.registry) (known s'.board) digest → IsOwn reg_caller (known s'.registry) → EndsShut (known s'.board) → LoadEnds workers seed count q digest
   load-ends digest turn own ends = record {
     turn = λ r b from_r from_b.
-        subst (λ w. IsLoadTurn w seed count r b digest) (same-workers workers p q qb s s' of_)
+        subst (λ w. IsLoadTranscript w seed count r b digest) (same-workers workers p q qb s s' of_)
         (turn r b (others-registry workers p q qb s s' of_ r from_r) (others-board workers p q qb s s' of_ ends b from_b));
     own = subst (λ x. IsOwn reg_caller x) (at_registry workers p q qb s s' of_) own;
     shut = was-shut_in workers p q qb s s' of_ ends;
@@ -44,7 +44,7 @@ module _ (workers seed count : ℕ) (p q : Passes Ask) (qb : BoardPass) (s s' : 
 
 module _ (crew : CrewLaws) {F : Type 0} (workers seed count : ℕ) (first p q l : Passes Ask) (result : Result (List ℕ) F) (r : List RegEntry) (b : List (BoardEntry Ask))
     (run : IsRunOf workers first p q l r b) (loads : Loads workers seed count p q result) (law : LoadsComeTo) (few : workers ≤ 16) (short : count ≤ 100000) where
-  loaded-turn : (digest : List ℕ) → LoadEnds workers seed count q digest → IsLoadTurn workers seed count r b digest
+  loaded-turn : (digest : List ℕ) → LoadEnds workers seed count q digest → IsLoadTranscript workers seed count r b digest
   loaded-turn digest ends =
       ends.turn r b (follow-registry crew workers first p q l r b run loads.part ends.own) (follow-board crew workers first p q l r b run loads.part)
 

@@ -14,15 +14,15 @@ use Rattle.dialogues.specs.First.{BeginsBy}
 use Rattle.dialogues.specs.Lines.{lines_dialogue, script}
 use Rattle.dialogues.specs.RegistryCalls.{RegCall, reg_calls, AllSettled}
 use Rattle.dialogues.specs.Texts.{IsText}
-use Rattle.dialogues.specs.Turns.{Turn, turn_of, text_in}
-use Rattle.dialogues.specs.Walk.{start}
+use Rattle.dialogues.specs.Transcripts.{Transcript, transcript_of, text_in}
+use Rattle.dialogues.specs.ScriptState.{start}
 use Rattle.kc_base.specs.Streams.{IsPrefix}
 use Rattle.script_session.specs.Ending.{EndsShut}
 use Rattle.script_session.specs.States.{State}
 use Rattle.script_text.specs.declared.commands.Line.{Line}
 use Rattle.script_text.specs.Script.{script_of}
 use Rattle.script_text.specs.Whole.{whole_script}
-use Rattle.session_calls.specs.Passes.{known}
+use Rattle.recorded_calls.specs.Passes.{known}
 use Rattle.transforms.specs.declared.ask.Ask.{Ask}
 use Rattle.turn_lock.specs.Meeting.{IsOwn}
 use Rattle.turn_lock.specs.Passes.{knows}
@@ -34,8 +34,8 @@ use Rattle.script_run.specs.Runs.{Gains, GoesOn, OthersFollow, IsTextAfter, IsFr
 use Rattle.script_run.specs.Text.{is_malformed}
 
 -- the turn that the script's calls in the histories make of its first lines
-abbrev pub lines_turn : ℕ → List Line → List RegEntry → List (BoardEntry Ask) → Turn
-lines_turn workers lines r b = turn_of (lines_dialogue workers (start 0) 1 lines Ends) (reg_calls 0 r) (board_calls 0 b)
+abbrev pub lines_transcript : ℕ → List Line → List RegEntry → List (BoardEntry Ask) → Transcript
+lines_transcript workers lines r b = transcript_of (lines_dialogue workers (start 0) 1 lines Ends) (reg_calls 0 r) (board_calls 0 b)
 
 -- nothing more than that the board was shut
 abbrev pub IsShutAlone : List BoardCall → Type 0
@@ -44,18 +44,18 @@ IsShutAlone calls = (calls ≡ []) ⊎ (calls ≡ Shuts ∷ [])
 -- These lines are answered whole, and this is their text: the histories hold their calls, each of which has come to something,
 -- and beside the shut of the board no further ones of the script.
 pub record AreAnswered (workers : ℕ) (lines : List Line) (r : List RegEntry) (b : List (BoardEntry Ask)) (text : List ℕ) : Type 0 where
-  pub registry : (lines_turn workers lines r b).registry ≡ reg_calls 0 r
+  pub registry : (lines_transcript workers lines r b).registry ≡ reg_calls 0 r
   pub settled : AllSettled (reg_calls 0 r)
-  pub board : (more : List BoardCall) × ((lines_turn workers lines r b).board ++ more ≡ board_calls 0 b) × IsShutAlone more
-  pub ended : IsSome (lines_turn workers lines r b).after
-  pub text_is : text ≡ text_in (lines_turn workers lines r b)
+  pub board : (more : List BoardCall) × ((lines_transcript workers lines r b).board ++ more ≡ board_calls 0 b) × IsShutAlone more
+  pub ended : IsSome (lines_transcript workers lines r b).after
+  pub text_is : text ≡ text_in (lines_transcript workers lines r b)
 
 -- The first calls of the script in the histories are those of these lines, and the text begins with what they print.
 pub record BeginsWithText (workers : ℕ) (lines : List Line) (r : List RegEntry) (b : List (BoardEntry Ask)) (text : List ℕ) : Type 0 where
-  pub registry : (more : List RegCall) × ((lines_turn workers lines r b).registry ++ more ≡ reg_calls 0 r)
-  pub board : (more : List BoardCall) × ((lines_turn workers lines r b).board ++ more ≡ board_calls 0 b)
-  pub ended : IsSome (lines_turn workers lines r b).after
-  pub front : IsPrefix (text_in (lines_turn workers lines r b)) text
+  pub registry : (more : List RegCall) × ((lines_transcript workers lines r b).registry ++ more ≡ reg_calls 0 r)
+  pub board : (more : List BoardCall) × ((lines_transcript workers lines r b).board ++ more ≡ board_calls 0 b)
+  pub ended : IsSome (lines_transcript workers lines r b).after
+  pub front : IsPrefix (text_in (lines_transcript workers lines r b)) text
 
 -- ---- where a write failed
 

@@ -7,14 +7,14 @@ use Rattle.dialogues.specs.Dialogues.{Ends}
 use Rattle.dialogues.specs.Lines.{lines_dialogue, script}
 use Rattle.dialogues.specs.RegistryCalls.{RegCall, reg_calls}
 use Rattle.dialogues.specs.Texts.{turn_by}
-use Rattle.dialogues.specs.Turns.{Turn, IsTurn, text_in}
-use Rattle.dialogues.specs.Walk.{start}
+use Rattle.dialogues.specs.Transcripts.{Transcript, IsTranscript, text_in}
+use Rattle.dialogues.specs.ScriptState.{start}
 use Rattle.kc_base.specs.Streams.{IsPrefix}
 use Rattle.script_text.specs.declared.commands.Line.{Line}
 use Rattle.transforms.specs.declared.ask.Ask.{Ask}
 
 -- the turn that the script's calls in the histories make of these lines
-abbrev pub told_by : ℕ → List Line → List RegEntry → List (BoardEntry Ask) → Turn
+abbrev pub told_by : ℕ → List Line → List RegEntry → List (BoardEntry Ask) → Transcript
 told_by workers lines r b = turn_by (lines_dialogue workers (start 0) 1 lines Ends) 0 r b
 
 -- These lines are answered, which prints this text. More calls may follow.
@@ -26,8 +26,8 @@ pub record LinesTell (workers : ℕ) (lines : List Line) (r : List RegEntry) (b 
 
 -- These are all lines, and the end of input is answered too.
 pub record ScriptTells (workers : ℕ) (lines : List Line) (r : List RegEntry) (b : List (BoardEntry Ask)) (text : List ℕ) : Type 0 where
-  pub turn : Turn
-  pub is : IsTurn (script workers (start 0) lines) turn
+  pub turn : Transcript
+  pub is : IsTranscript (script workers (start 0) lines) turn
   pub registry : (more : List RegCall) × (turn.registry ++ more ≡ reg_calls 0 r)
   pub board : (more : List BoardCall) × (turn.board ++ more ≡ board_calls 0 b)
   pub ended : IsSome turn.after

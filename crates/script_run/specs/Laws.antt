@@ -12,8 +12,8 @@ use Rattle.dialogues.specs.FirstCalls.{BeginsByNone, BeginsInFirst, BeginsInLine
 use Rattle.dialogues.specs.GoingOn.{RegistryCallsGoOn, RegistryUnasked, BoardCallsGoOn, BoardUncalled, NoCall, InTurnByAny, InTurnByMore, CallsThenCallsBy}
 use Rattle.dialogues.specs.Leading.{LeadsNowhere, LeadsOn, LeadsToEnd}
 use Rattle.dialogues.specs.RegistryCalls.{RegCall}
-use Rattle.dialogues.specs.Turns.{Turn, IsTurn, joined, turn_of}
-use Rattle.dialogues.specs.Walk.{Walk}
+use Rattle.dialogues.specs.Transcripts.{Transcript, IsTranscript, joined, transcript_of}
+use Rattle.dialogues.specs.ScriptState.{ScriptState}
 use Rattle.transforms.specs.declared.ask.Ask.{Ask}
 use Rattle.turn_lock.specs.Turns.{Known}
 
@@ -29,9 +29,9 @@ pub record Laws : Type 0 where
   pub any_width : InTurnByAny
   pub wider : InTurnByMore
   pub later_calls : CallsThenCallsBy
-  pub follow : (first : Dialogue) (later : Walk → Dialogue) (turn : Turn) (walk : Walk) (r : List RegCall) (b : List BoardCall)
-      → IsTurn first turn → turn.after ≡ Some walk
-      → turn_of (followed first later) (turn.registry ++ r) (turn.board ++ b) ≡ joined turn (turn_of (later walk) r b)
+  pub follow : (first : Dialogue) (later : ScriptState → Dialogue) (turn : Transcript) (script_state : ScriptState) (r : List RegCall) (b : List BoardCall)
+      → IsTranscript first turn → turn.after ≡ Some script_state
+      → transcript_of (followed first later) (turn.registry ++ r) (turn.board ++ b) ≡ joined turn (transcript_of (later script_state) r b)
   pub begins_none : BeginsByNone
   pub begins_first : BeginsInFirst
   pub begins_lines : BeginsInLines

@@ -7,4 +7,4 @@ pub mod Loads
 pub mod Answered
 pub mod Endings
 pub mod Statuses
-pub mod Beside
+pub mod WithWorkers

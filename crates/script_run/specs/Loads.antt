@@ -13,12 +13,12 @@ use Rattle.dialogues.specs.Dialogues.{Dialogue, followed}
 use Rattle.dialogues.specs.InTurn.{AreInTurnBy}
 use Rattle.dialogues.specs.Lines.{line_dialogue}
 use Rattle.dialogues.specs.RegistryCalls.{RegCall, reg_calls, AllSettled}
-use Rattle.dialogues.specs.Turns.{Turn, turn_of, joined}
-use Rattle.dialogues.specs.Walk.{Walk}
+use Rattle.dialogues.specs.Transcripts.{Transcript, transcript_of, joined}
+use Rattle.dialogues.specs.ScriptState.{ScriptState}
 use Rattle.load_mode.specs.Lines.{opening}
-use Rattle.load_mode.specs.Turns.{bytes_told, IsLoadTurn}
+use Rattle.load_mode.specs.Turns.{bytes_told, IsLoadTranscript}
 use Rattle.script_session.specs.States.{State}
-use Rattle.session_calls.specs.Passes.{known}
+use Rattle.recorded_calls.specs.Passes.{known}
 use Rattle.transforms.specs.declared.ask.Ask.{Ask}
 use Rattle.turn_lock.specs.Meeting.{IsOwn}
 use Rattle.turn_lock.specs.Passes.{knows}
@@ -30,8 +30,8 @@ use Rattle.script_run.specs.Runs.{OthersFollow, HasShut, IsShutIn}
 -- The session has held a part of this dialogue, and the rest is left: its calls are all that its passes have of it, made one after the
 -- other, and the hasher holds what the completions told.
 pub record IsHeld (whole left : Dialogue) (s : State) (hasher : Sha256) : Type 0 where
-  pub turn : Turn
-  pub leads : (r : List RegCall) (b : List BoardCall) → turn_of whole (turn.registry ++ r) (turn.board ++ b) ≡ joined turn (turn_of left r b)
+  pub turn : Transcript
+  pub leads : (r : List RegCall) (b : List BoardCall) → transcript_of whole (turn.registry ++ r) (turn.board ++ b) ≡ joined turn (transcript_of left r b)
   pub asked : reg_calls 0 (known s.registry).seen ≡ turn.registry
   pub settled : AllSettled (reg_calls 0 (known s.registry).seen)
   pub called : board_calls 0 (known s.board).seen ≡ turn.board
@@ -41,18 +41,18 @@ pub record IsHeld (whole left : Dialogue) (s : State) (hasher : Sha256) : Type 0
   pub hashed : Holds256 hasher (flat_map bytes_told turn.answers)
 
 -- the session goes on with a dialogue by a further part of it, whatever was held before
-abbrev pub HoldsOn : Dialogue → (Walk → Dialogue) → State → State → Sha256 → Sha256 → Type 0
-HoldsOn left later s s' hasher hasher' = (whole : Dialogue) → IsHeld whole left s hasher → IsHeld whole (later s'.walk) s' hasher'
+abbrev pub PerformsOn : Dialogue → (ScriptState → Dialogue) → State → State → Sha256 → Sha256 → Type 0
+PerformsOn left later s s' hasher hasher' = (whole : Dialogue) → IsHeld whole left s hasher → IsHeld whole (later s'.script_state) s' hasher'
 
 -- it goes on by the line of this number among those that make both transforms
-abbrev pub HoldsOpening : ℕ → ℕ → State → State → Sha256 → Sha256 → Type 0
-HoldsOpening workers number s s' hasher hasher' = IfSome (slice_get opening number) λ line.
-    (later : Walk → Dialogue) → HoldsOn (followed (line_dialogue workers s.walk number line) later) later s s' hasher hasher'
+abbrev pub PerformsOpening : ℕ → ℕ → State → State → Sha256 → Sha256 → Type 0
+PerformsOpening workers number s s' hasher hasher' = IfSome (slice_get opening number) λ line.
+    (later : ScriptState → Dialogue) → PerformsOn (followed (line_dialogue workers s.script_state number line) later) later s s' hasher hasher'
 
 -- over all histories in which others alone follow on what the passes have seen the load is done, with this digest
 abbrev pub IsLoadTurnAfter : ℕ → ℕ → ℕ → Known RegEntry → Known (BoardEntry Ask) → List ℕ → Type 0
 IsLoadTurnAfter workers seed count k l digest =
-    (r : List RegEntry) (b : List (BoardEntry Ask)) → OthersFollow reg_caller k r → OthersFollow board_caller l b → IsLoadTurn workers seed count r b digest
+    (r : List RegEntry) (b : List (BoardEntry Ask)) → OthersFollow reg_caller k r → OthersFollow board_caller l b → IsLoadTranscript workers seed count r b digest
 
 -- ---- its part beside workers
 

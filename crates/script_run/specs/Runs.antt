@@ -15,14 +15,14 @@ use Rattle.dialogues.specs.RegistryCalls.{reg_calls}
 use Rattle.dialogues.specs.Texts.{IsText}
 use Rattle.script_run.specs.ByLines.{IsTextByLines}
 use Rattle.script_run.specs.Fronts.{IsFrontText}
-use Rattle.dialogues.specs.Walk.{start}
+use Rattle.dialogues.specs.ScriptState.{start}
 use Rattle.dialogues.specs.Widths.{widest}
 use Rattle.kc_base.specs.Streams.{AppendsFront, IsPrefix}
 use Rattle.script_session.specs.Ending.{AnswersEnd, EndsShut}
-use Rattle.script_session.specs.Holding.{HasSeenMore, StopsIn}
+use Rattle.script_session.specs.Performing.{HasSeenMore, StopsIn}
 use Rattle.script_session.specs.States.{State, SameLocks}
 use Rattle.script_text.specs.declared.commands.Line.{Line}
-use Rattle.session_calls.specs.Passes.{known}
+use Rattle.recorded_calls.specs.Passes.{known}
 use Rattle.transforms.specs.declared.ask.Ask.{Ask}
 use Rattle.turn_lock.specs.Meeting.{IsOwn}
 use Rattle.turn_lock.specs.Passes.{knows}
@@ -57,7 +57,7 @@ pub record GoesOn (s s' : State) : Type 0 where
 
 -- before its first line, as client 0 and caller 0 of both locks
 pub record IsFresh (s : State) : Type 0 where
-  pub walk : s.walk ≡ start 0
+  pub script_state : s.script_state ≡ start 0
   pub registry : ((known s.registry).number ≡ 0) × ((known s.registry).seen ≡ [])
   pub board : ((known s.board).number ≡ 0) × ((known s.board).seen ≡ [])
 

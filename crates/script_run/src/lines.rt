@@ -8,8 +8,8 @@ ghost use Rattle.script_text.specs.Sizes.{IsShortLine};
 ghost use Rattle.dialogues.specs.Lines.{line_dialogue};
 ghost use Rattle.dialogues.specs.Piping.{end};
 ghost use Rattle.dialogues.specs.Widths.{width_of};
-ghost use Rattle.session_calls.specs.Passes.{known};
-ghost use Rattle.script_session.specs.Holding.{StopsIn};
+ghost use Rattle.recorded_calls.specs.Passes.{known};
+ghost use Rattle.script_session.specs.Performing.{StopsIn};
 ghost use Rattle.script_session.specs.Running.{IsReady, Replies};
 ghost use Rattle.script_session.specs.Ending.{AnswersEnd, EndsShut};
 ghost use Rattle.script_run.specs.Text.{is_malformed};
@@ -24,10 +24,10 @@ use dialogues::{
     registry_calls_go_on, turns_follow,
 };
 use kc_base::{Sink, SinkError, Source, write_and_flush, write_piece};
+use recorded_calls::Stop;
 use reply_text::Reply;
 use script_session::Session;
 use script_text::{Line, LineReader, whole_lines_stay};
-use session_calls::Stop;
 use shared_board::SharedBoard;
 use shared_registry::SharedRegistry;
 use std::alloc::{AllocError, Global};
@@ -72,8 +72,8 @@ fn reply_to<G: Gate, R: Threads + Wait + Sync>(
     requires ready { IsReady registry.now board.now session.old }
     requires short { IsShortLine line }
     ensures done { MatchResult result
-        (λ _. Replies (width_of line) (line_dialogue session.old.workers session.old.walk number line) session.old session.new [] reply.new.text)
-        (λ _. StopsIn (line_dialogue session.old.workers session.old.walk number line) session.old session.new) }
+        (λ _. Replies (width_of line) (line_dialogue session.old.workers session.old.script_state number line) session.old session.new [] reply.new.text)
+        (λ _. StopsIn (line_dialogue session.old.workers session.old.script_state number line) session.old session.new) }
     ensures ready { OnOk result (IsReady registry.now board.now session.new) }
     ensures unshut { (known session.new.board).number ≡ 0 → is_shut (known session.new.board).seen ≡ false }
     ensures malformed { IfOk result (λ bad. bad ≡ is_malformed line) }
@@ -99,7 +99,7 @@ fn reply_to_end<G: Gate, R: Wait>(
     requires first { (known session.old.board).number ≡ 0 }
     ensures done { MatchResult result
         (λ reply. AnswersEnd session.old session.new [] reply.text)
-        (λ _. StopsIn (end session.old.walk) session.old session.new) }
+        (λ _. StopsIn (end session.old.script_state) session.old session.new) }
     ensures shut { OnOk result (EndsShut (known session.new.board)) }
     ensures unshut { IsUnshutOrEnds (known session.new.board) }
 {
@@ -141,11 +141,11 @@ fn run_line<K: Sink, G: Gate, R: Threads + Wait + Sync>(
     requires ready { IsReady registry.now board.now session.old }
     requires short { IsShortLine line }
     ensures done { MatchResult result
-        (λ _. Writes (Replies (width_of line) (line_dialogue session.old.workers session.old.walk number line) session.old session.new []) (K.held out.old) (K.held out.new))
-        (λ _. Breaks (line_dialogue session.old.workers session.old.walk number line) session.old session.new
-        (Replies (width_of line) (line_dialogue session.old.workers session.old.walk number line) session.old session.new []) (K.held out.old) (K.held out.new)) }
+        (λ _. Writes (Replies (width_of line) (line_dialogue session.old.workers session.old.script_state number line) session.old session.new []) (K.held out.old) (K.held out.new))
+        (λ _. Breaks (line_dialogue session.old.workers session.old.script_state number line) session.old session.new
+        (Replies (width_of line) (line_dialogue session.old.workers session.old.script_state number line) session.old session.new []) (K.held out.old) (K.held out.new)) }
     ensures cut { IsErrOf result SinkError.Failed →
-        Cuts (Replies (width_of line) (line_dialogue session.old.workers session.old.walk number line) session.old session.new []) (K.held out.old) (K.held out.new) }
+        Cuts (Replies (width_of line) (line_dialogue session.old.workers session.old.script_state number line) session.old session.new []) (K.held out.old) (K.held out.new) }
     ensures ready { OnOk result (IsReady registry.now board.now session.new) }
     ensures unshut { (known session.new.board).number ≡ 0 → is_shut (known session.new.board).seen ≡ false }
     ensures malformed { IfOk result (λ bad. bad ≡ is_malformed line) }
@@ -171,7 +171,7 @@ fn run_end<K: Sink, G: Gate, R: Wait>(
     requires first { (known session.old.board).number ≡ 0 }
     ensures done { MatchResult result
         (λ _. Writes (AnswersEnd session.old session.new []) (K.held out.old) (K.held out.new))
-        (λ _. Breaks (end session.old.walk) session.old session.new (AnswersAndShuts session.old session.new) (K.held out.old) (K.held out.new)) }
+        (λ _. Breaks (end session.old.script_state) session.old session.new (AnswersAndShuts session.old session.new) (K.held out.old) (K.held out.new)) }
     ensures cut { IsErrOf result SinkError.Failed → Cuts (AnswersAndShuts session.old session.new) (K.held out.old) (K.held out.new) }
     ensures shut { OnOk result (EndsShut (known session.new.board)) }
     ensures unshut { IsUnshutOrEnds (known session.new.board) }

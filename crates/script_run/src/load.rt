@@ -12,15 +12,15 @@ ghost use Rattle.load_mode.specs.Requests.{load_line, line_of, digest_of, load_r
 ghost use Rattle.load_mode.specs.Turns.{AreLoaded};
 ghost use Rattle.templates.specs.Table.{table};
 ghost use Rattle.turn_lock.specs.Passes.{knows};
-ghost use Rattle.turn_lock.specs.Turns.{newcomer};
+ghost use Rattle.turn_lock.specs.Turns.{fresh_pass};
 ghost use Rattle.script_run.specs.Endings.{AreCallers, EndsShut, IsShutOnce};
-ghost use Rattle.script_run.specs.Beside.{LoadRan};
+ghost use Rattle.script_run.specs.WithWorkers.{LoadRan};
 ghost use Rattle.script_run.specs.Loads.{Loads};
 ghost use Rattle.script_run.specs.Runs.{AreNew};
 
-use crate::beside::{Ran, crew_laws, first_locks, shut_board};
 use crate::errors::RunError;
-use crate::loading::hold_load;
+use crate::load_session::perform_load;
+use crate::with_workers::{RunResult, crew_laws, first_locks, shut_board};
 use alg_registry::RegLog;
 use board::BoardLog;
 use crew::{Gate, Passes, run_crew};
@@ -56,7 +56,7 @@ fn answer_load<G: Gate, R: Threads + Wait + Sync>(
         registry: on_registry,
     } = passes;
     let mut session = Session::new(alloc, options.workers, 0, on_registry, on_board);
-    let digest = hold_load(
+    let digest = perform_load(
         rt,
         alloc,
         board,
@@ -86,7 +86,7 @@ fn crew_load<G: Gate + Sync, R: Threads + Wait + Sync>(
 ) -> (Passes<Ask>, Result<[u8; 32], AllocError>)
     requires few { options.now.workers ≤ 16 }
     requires lock { ArePassesOn board.now registry.now passes }
-    requires first { (knows passes.board ≡ newcomer) × (knows passes.registry ≡ newcomer) }
+    requires first { (knows passes.board ≡ fresh_pass) × (knows passes.registry ≡ fresh_pass) }
     ensures lock { ArePassesOn board.now registry.now result.0 }
     ensures crewed { (p q : _) × HaveNext options.now.workers passes p × Loads options.now.workers options.now.seed options.now.count p q result.1 × CrewedOnBoth options.now.workers passes q result.0 }
 {
@@ -116,7 +116,7 @@ struct Loaded {
 }
 
 // Holds the load on these locks, with their first passes.
-fn load_beside<G: Gate + Sync, R: Threads + Wait + Sync>(
+fn load_with_workers<G: Gate + Sync, R: Threads + Wait + Sync>(
     rt: &R,
     alloc: Global,
     options: &LoadOptions,
@@ -128,7 +128,7 @@ fn load_beside<G: Gate + Sync, R: Threads + Wait + Sync>(
     requires few { options.now.workers ≤ 16 }
     requires count { options.now.count ≤ 100000 }
     requires lock { ArePassesOn board registry passes }
-    requires first { (knows passes.board ≡ newcomer) × (knows passes.registry ≡ newcomer) }
+    requires first { (knows passes.board ≡ fresh_pass) × (knows passes.registry ≡ fresh_pass) }
     ensures { LoadRan options.now.workers options.now.seed options.now.count result.registry result.board result.digest }
 {
     crew_laws();
@@ -188,7 +188,7 @@ pub fn run_load<K: Sink, G: Gate + Sync, R: Threads + Wait + Sync>(
     options: &LoadOptions,
     gate: &G,
     out: &mut K,
-) -> Ran
+) -> RunResult
     requires few { options.now.workers ≤ 16 }
     requires count { options.now.count ≤ 100000 }
     ensures line { OnOk result.answer (Appends (K.held out.old) (K.held out.new) (load_line options.now.seed options.now.count)) }
@@ -205,10 +205,10 @@ pub fn run_load<K: Sink, G: Gate + Sync, R: Threads + Wait + Sync>(
     ensures causes { IfErr result.answer (λ e. (e ≡ RunError.WriteFault) ⊎ (e ≡ RunError.NoMemory)) }
 {
     let Ok((board, registry, passes)) = first_locks(alloc) else {
-        return Ran::not_at_all(alloc, RunError::NoMemory);
+        return RunResult::refused_run(alloc, RunError::NoMemory);
     };
-    let loaded = load_beside(rt, alloc, options, board, registry, gate, passes);
-    Ran {
+    let loaded = load_with_workers(rt, alloc, options, board, registry, gate, passes);
+    RunResult {
         answer: write_line(alloc, options, loaded.digest, out),
         registry: loaded.registry,
         board: loaded.board,

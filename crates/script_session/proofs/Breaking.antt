@@ -14,14 +14,14 @@ use Rattle.dialogues.specs.Dialogues.{Dialogue, Asks as AsksFor}
 use Rattle.dialogues.specs.First.{AreFurther, BeginsBy}
 use Rattle.dialogues.specs.Questions.{RegQuestion, RegAnswer, Look, reg_call}
 use Rattle.dialogues.specs.RegistryCalls.{RegCall, Looks, reg_calls}
-use Rattle.dialogues.specs.Walk.{Walk, Live}
+use Rattle.dialogues.specs.ScriptState.{ScriptState, Live}
 use Rattle.dialogues.proofs.First.{begins-none, begins-turn, begins-asks, begins-look, further-then}
-use Rattle.session_calls.specs.Asking.{Asked, Asks}
-use Rattle.session_calls.specs.Passes.{RegPass, BoardPass, known}
-use Rattle.session_calls.specs.Pipelines.{Called}
+use Rattle.recorded_calls.specs.Asking.{Asked, Asks}
+use Rattle.recorded_calls.specs.Passes.{RegPass, BoardPass, known}
+use Rattle.recorded_calls.specs.Pipelines.{Called}
 use Rattle.script_session.specs.Breaking.{Breaks, CallsOn}
-use Rattle.script_session.specs.Holding.{DoneBy, HoldsBy, SeesOn, Stops, StopsIn}
-use Rattle.script_session.specs.States.{State, Stands, Posted}
+use Rattle.script_session.specs.Performing.{DoneBy, PerformsBy, SeesOn, Stops, StopsIn}
+use Rattle.script_session.specs.States.{State, ReferencesMatch, PipelinesMatch}
 use Rattle.script_session.proofs.Arms.{viewed, called-sees, stops-same, stops-arm}
 use Rattle.script_session.proofs.Rules.{called-nothing}
 
@@ -90,7 +90,7 @@ breaks-look k l b text found next further own = record {
 }
 
 -- all of the turn's calls were made
-pub breaks-done : {width : ℕ} → (d : Dialogue) (k k' : Known RegEntry) (b b' : Known (BoardEntry Ask)) (after : Walk) (answers answers' : List Answer) → DoneBy width d k b k' b' after answers answers' → Breaks d k b k' b'
+pub breaks-done : {width : ℕ} → (d : Dialogue) (k k' : Known RegEntry) (b b' : Known (BoardEntry Ask)) (after : ScriptState) (answers answers' : List Answer) → DoneBy width d k b k' b' after answers answers' → Breaks d k b k' b'
 breaks-done d k k' b b' after answers answers' done = record {
   registry = done.turn.registry;
   board = done.turn.board;
@@ -124,11 +124,11 @@ breaks-of d s s' stops = record {
 }
 
 -- it is as it was
-pub stops-none : (d : Dialogue) (s : State) → Stands s.walk.lives (known s.registry) → StopsIn d s s
+pub stops-none : (d : Dialogue) (s : State) → ReferencesMatch s.script_state.lives (known s.registry) → StopsIn d s s
 stops-none d s stands = stops-in d s s (stops-same s stands) (breaks-none d (known s.registry) (known s.board) stands.caller.own)
 
 -- all of its calls were made
-pub stops-held : {width : ℕ} → (d : Dialogue) (s s' : State) (answers answers' : List Answer) → HoldsBy width d s s' answers answers' → Posted s.walk (known s.board) → StopsIn d s s'
+pub stops-held : {width : ℕ} → (d : Dialogue) (s s' : State) (answers answers' : List Answer) → PerformsBy width d s s' answers answers' → PipelinesMatch s.script_state (known s.board) → StopsIn d s s'
 stops-held d s s' answers answers' held posted =
     let done = held.done in
     let asked = done.asked in
@@ -138,11 +138,11 @@ stops-held d s s' answers answers' held posted =
       registry = record { number = asked.number; next = asked.next; seen = (asked.are.more, asked.are.goes_on) };
       board = called-sees (known s.board) (known s'.board) done.turn.board done.called (λ zero_is. done.posted.unshut (done.called.number ∙ zero_is) ∙ sym (posted.unshut zero_is));
     })
-    (breaks-done d (known s.registry) (known s'.registry) (known s.board) (known s'.board) s'.walk answers answers' done)
+    (breaks-done d (known s.registry) (known s'.registry) (known s.board) (known s'.board) s'.script_state answers answers' done)
 
 -- it says what is left to say, or memory is wanting for that alone
 pub or-breaks : {S A : Type 0} {width : ℕ} {d : Dialogue} {s s' : State} {answers : List Answer} (answers' said : List Answer) (result : Result A S) → OnOk result (answers' ≡ answers ++ said)
-    → ((all : List Answer) → all ≡ answers ++ said → HoldsBy width d s s' answers all) → Posted s.walk (known s.board) → MatchResult result (λ _. HoldsBy width d s s' answers answers') (λ _. StopsIn d s s')
+    → ((all : List Answer) → all ≡ answers ++ said → PerformsBy width d s s' answers all) → PipelinesMatch s.script_state (known s.board) → MatchResult result (λ _. PerformsBy width d s s' answers answers') (λ _. StopsIn d s s')
 or-breaks answers' said (Ok done) says holds posted = holds answers' says
 or-breaks {d = d} {s = s} {s' = s'} {answers = answers} answers' said (Err stop) says holds posted = stops-held d s s' answers (answers ++ said) (holds (answers ++ said) refl) posted
 

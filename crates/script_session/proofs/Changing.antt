@@ -15,14 +15,14 @@ use Rattle.transforms.specs.AskValue.{ask_size}
 use Rattle.turn_lock.specs.Turns.{Known}
 use Rattle.dialogues.specs.BoardCalls.{BoardCall, origin_of}
 use Rattle.dialogues.specs.Dialogues.{Dialogue}
-use Rattle.dialogues.specs.Turns.{Turn, IsTurn}
-use Rattle.dialogues.specs.Walk.{Walk, Live, Pipe, is_of, live_of, with_live, replaced, without}
-use Rattle.script_session.specs.States.{HasPipe, Posted, Stands, is_at, owners}
-use Rattle.session_calls.specs.Pipelines.{Called, Owns, KnowsPipe, Kept, Changed, Closed}
-use Rattle.script_session.specs.Changing.{AreApart, Changes, HoldsFor, counting, close_calls, owes, Released}
-use Rattle.script_session.specs.Holding.{Done}
+use Rattle.dialogues.specs.Transcripts.{Transcript, IsTranscript}
+use Rattle.dialogues.specs.ScriptState.{ScriptState, Live, PipelineState, is_of, live_of, with_live, replaced, without}
+use Rattle.script_session.specs.States.{HasPipe, PipelinesMatch, ReferencesMatch, is_at, owners}
+use Rattle.recorded_calls.specs.Pipelines.{Called, Owns, KnowsPipe, Unchanged, Changed, Closed}
+use Rattle.script_session.specs.Changing.{AreApart, Changes, PerformsFor, counting, close_calls, has_undelivered, Released}
+use Rattle.script_session.specs.Performing.{Done}
 use Rattle.script_session.proofs.Standing.{stands-more}
-use Rattle.session_calls.proofs.Boarding.{kept-same}
+use Rattle.recorded_calls.proofs.Boarding.{kept-same}
 use Rattle.std.proofs.lemmas.Bool.{ltb-false}
 use Rattle.std.proofs.lemmas.List.{length-map}
 use Rattle.board.specs.Entries.{entries_of, submissions}
@@ -54,8 +54,8 @@ abbrev pub IsOn : Known (BoardEntry Ask) → Live → Type 0
 IsOn k live = HasPipe k live.pipe
 
 -- the pipelines of transforms that have others stay
-pub others-stay : (k l : Known (BoardEntry Ask)) (pipe : Option Pipe) (lives : List Live)
-    → ((other : Option Pipe) → AreApart pipe other → HasPipe k other → HasPipe l other)
+pub others-stay : (k l : Known (BoardEntry Ask)) (pipe : Option PipelineState) (lives : List Live)
+    → ((other : Option PipelineState) → AreApart pipe other → HasPipe k other → HasPipe l other)
     → ((number : ℕ) → is_at number pipe ≡ true → owners number lives ≡ 0) → All (IsOn k) lives → All (IsOn l) lives
 others-stay k l pipe [] stay free all = All-nil (IsOn l)
 others-stay k l pipe (x ∷ xs) stay free all =
@@ -77,16 +77,16 @@ beside number before later live most at =
 pub label-of : (label : List ℕ) (lives : List Live) (place : ℕ) (s : Split label lives 0 place) → s.live.label ≡ label
 label-of label lives place s = (bytes_eq-Decides s.live.label label).0 s.is_live
 
-pub found-by_own : (walk : Walk) (label : List ℕ) (place : ℕ) (s : Split label walk.lives 0 place) → live_of walk s.live.label ≡ Some s.live
-found-by_own walk label place s = ap (λ l. find (is_of l) walk.lives) (label-of label walk.lives place s) ∙ s.found
+pub found-by_own : (script_state : ScriptState) (label : List ℕ) (place : ℕ) (s : Split label script_state.lives 0 place) → live_of script_state s.live.label ≡ Some s.live
+found-by_own script_state label place s = ap (λ l. find (is_of l) script_state.lives) (label-of label script_state.lives place s) ∙ s.found
 
-pub replaced-at : (walk : Walk) (label : List ℕ) (place : ℕ) (new : Live) (s : Split label walk.lives 0 place) → new.label ≡ s.live.label → replaced new walk.lives ≡ s.before ++ new ∷ s.later
-replaced-at walk label place new s same = s.replaces new (same ∙ label-of label walk.lives place s)
+pub replaced-at : (script_state : ScriptState) (label : List ℕ) (place : ℕ) (new : Live) (s : Split label script_state.lives 0 place) → new.label ≡ s.live.label → replaced new script_state.lives ≡ s.before ++ new ∷ s.later
+replaced-at script_state label place new s same = s.replaces new (same ∙ label-of label script_state.lives place s)
 
--- what is known of the board is that of the walk with the one that changed
-pub list-posted : (walk : Walk) (before later : List Live) (live live' : Live) (k l : Known (BoardEntry Ask)) (calls : List BoardCall) (asks : List Ask) → walk.lives ≡ before ++ live ∷ later
-    → Posted walk k → Changes live live' k l calls asks → Posted (counting (record walk { lives = before ++ live' ∷ later }) asks) l
-list-posted walk before later live live' k l calls asks lives_is posted changes =
+-- what is known of the board is that of the state with the one that changed
+pub list-posted : (script_state : ScriptState) (before later : List Live) (live live' : Live) (k l : Known (BoardEntry Ask)) (calls : List BoardCall) (asks : List Ask) → script_state.lives ≡ before ++ live ∷ later
+    → PipelinesMatch script_state k → Changes live live' k l calls asks → PipelinesMatch (counting (record script_state { lives = before ++ live' ∷ later }) asks) l
+list-posted script_state before later live live' k l calls asks lives_is posted changes =
     let were : All (IsOn k) (before ++ live ∷ later) = subst (All (IsOn k)) lives_is posted.pipes in
     let most = λ (number : ℕ). subst (λ ls. owners number ls ≤ 1) lives_is (posted.apart number) in
     let first = others-stay k l live.pipe before changes.others (λ number at. (beside number before later live (most number) at).0) (All-left (IsOn k) before (live ∷ later) were) in
@@ -123,11 +123,11 @@ list-posted walk before later live live' k l calls asks lives_is posted changes 
         let had : 1 ≤ owners number (before ++ live ∷ later) = subst (λ ls. 1 ≤ owners number ls) lives_is (posted.owned number (changes.owned number at owns)) in
         omega (arith, new, old, one, had)
 
-pub changed-posted : (walk : Walk) (label : List ℕ) (place : ℕ) (s : Split label walk.lives 0 place) (live' : Live) (k l : Known (BoardEntry Ask)) (calls : List BoardCall) (asks : List Ask)
-    → Posted walk k → Changes s.live live' k l calls asks → Posted (counting (with_live walk live') asks) l
-changed-posted walk label place s live' k l calls asks posted changes =
-    subst (λ ls. Posted (counting (record walk { lives = ls }) asks) l) (sym (replaced-at walk label place live' s changes.label))
-    (list-posted walk s.before s.later s.live live' k l calls asks s.lives_is posted changes)
+pub changed-posted : (script_state : ScriptState) (label : List ℕ) (place : ℕ) (s : Split label script_state.lives 0 place) (live' : Live) (k l : Known (BoardEntry Ask)) (calls : List BoardCall) (asks : List Ask)
+    → PipelinesMatch script_state k → Changes s.live live' k l calls asks → PipelinesMatch (counting (with_live script_state live') asks) l
+changed-posted script_state label place s live' k l calls asks posted changes =
+    subst (λ ls. PipelinesMatch (counting (record script_state { lives = ls }) asks) l) (sym (replaced-at script_state label place live' s changes.label))
+    (list-posted script_state s.before s.later s.live live' k l calls asks s.lives_is posted changes)
 
 -- ---- by what the board's caller says of the pipeline
 
@@ -138,14 +138,14 @@ eq-swap a b apart = by_test (b == a) refl
     by_test false same = refl
     by_test true same = let yes : (a == b) ≡ true = eq-eqb a b (sym (eqb-true b a same)) in sym yes ∙ apart
 
-pub apart-of : (pipe other : Pipe) → AreApart (Some pipe) (Some other) → (other.number == pipe.number) ≡ false
+pub apart-of : (pipe other : PipelineState) → AreApart (Some pipe) (Some other) → (other.number == pipe.number) ≡ false
 apart-of pipe other apart = by_test (other.number == pipe.number) refl
   where
     by_test : (t : Bool) → (other.number == pipe.number) ≡ t → (other.number == pipe.number) ≡ false
     by_test true q = sym (let no = apart pipe.number (eq-eqb pipe.number pipe.number refl) in sym (no))
     by_test false q = q
 
-pub changes-pipe : (live : Live) (k l : Known (BoardEntry Ask)) (pipe pipe' : Pipe) (calls : List BoardCall) (asks : List Ask) → live.pipe ≡ Some pipe → Changed k l pipe pipe' calls asks
+pub changes-pipe : (live : Live) (k l : Known (BoardEntry Ask)) (pipe pipe' : PipelineState) (calls : List BoardCall) (asks : List Ask) → live.pipe ≡ Some pipe → Changed k l pipe pipe' calls asks
     → Changes live (record live { pipe = Some pipe' }) k l calls asks
 changes-pipe live k l pipe pipe' calls asks has changed =
     record {
@@ -161,11 +161,11 @@ changes-pipe live k l pipe pipe' calls asks has changed =
       unshut = changed.unshut;
     }
   where
-    by_other : (other : Option Pipe) → AreApart (Some pipe) other → HasPipe k other → HasPipe l other
+    by_other : (other : Option PipelineState) → AreApart (Some pipe) other → HasPipe k other → HasPipe l other
     by_other None apart on = tt
     by_other (Some other) apart on = changed.others other (apart-of pipe other apart) on
 
-pub changes-kept : (live : Live) (k l : Known (BoardEntry Ask)) → HasPipe k live.pipe → Kept k l → Changes live live k l [] []
+pub changes-kept : (live : Live) (k l : Known (BoardEntry Ask)) → HasPipe k live.pipe → Unchanged k l → Changes live live k l [] []
 changes-kept live k l on kept =
     record {
       label = refl;
@@ -180,34 +180,34 @@ changes-kept live k l on kept =
       unshut = kept.unshut;
     }
   where
-    stays : (other : Option Pipe) → HasPipe k other → HasPipe l other
+    stays : (other : Option PipelineState) → HasPipe k other → HasPipe l other
     stays None on = tt
     stays (Some pipe) on = kept.pipes pipe on
 
 -- ---- a dialogue that is held with a transform
 
-pub live-done : (walk : Walk) (label : List ℕ) (place : ℕ) (s : Split label walk.lives 0 place) (live' : Live) (r : Known RegEntry) (k l : Known (BoardEntry Ask)) (asks : List Ask) (answers answers' : List Answer) (whole : Dialogue) (d : Walk → Dialogue) → whole ≡ d walk
-    → Stands walk.lives r → Posted walk k → HoldsFor d s.live live' k l asks answers answers'
-    → Done whole r k r l (counting (with_live walk live') asks) answers answers'
-live-done walk label place s live' r k l asks answers answers' whole d same_d stands posted holds =
-    let turn : Turn = record { registry = []; board = holds.calls; answers = holds.said; after = Some (counting (with_live walk live') asks) } in
+pub live-done : (script_state : ScriptState) (label : List ℕ) (place : ℕ) (s : Split label script_state.lives 0 place) (live' : Live) (r : Known RegEntry) (k l : Known (BoardEntry Ask)) (asks : List Ask) (answers answers' : List Answer) (whole : Dialogue) (d : ScriptState → Dialogue) → whole ≡ d script_state
+    → ReferencesMatch script_state.lives r → PipelinesMatch script_state k → PerformsFor d s.live live' k l asks answers answers'
+    → Done whole r k r l (counting (with_live script_state live') asks) answers answers'
+live-done script_state label place s live' r k l asks answers answers' whole d same_d stands posted holds =
+    let turn : Transcript = record { registry = []; board = holds.calls; answers = holds.said; after = Some (counting (with_live script_state live') asks) } in
     let same : live'.label ≡ s.live.label = holds.changes.label in
     record {
       turn = turn;
-      is = subst (λ x. IsTurn x turn) (sym same_d) (holds.is walk (found-by_own walk label place s) posted);
+      is = subst (λ x. IsTranscript x turn) (sym same_d) (holds.is script_state (found-by_own script_state label place s) posted);
       asked = asked-nothing r stands.caller;
       called = holds.changes.called;
       ends = refl;
       says = holds.says;
-      stands = stands-more walk.lives (replaced live' walk.lives) r r [] stands (asked-nothing r stands.caller)
-          (λ id. let u = uses-replaced label walk.lives place id live' s (same ∙ label-of label walk.lives place s) holds.changes.id in omega (arith, u));
-      posted = changed-posted walk label place s live' k l holds.calls asks posted holds.changes;
+      stands = stands-more script_state.lives (replaced live' script_state.lives) r r [] stands (asked-nothing r stands.caller)
+          (λ id. let u = uses-replaced label script_state.lives place id live' s (same ∙ label-of label script_state.lives place s) holds.changes.id in omega (arith, u));
+      posted = changed-posted script_state label place s live' k l holds.calls asks posted holds.changes;
     }
 
 -- ---- a transform is released
 
-pub released-posted : (walk : Walk) (label : List ℕ) (place : ℕ) (s : Split label walk.lives 0 place) (k l : Known (BoardEntry Ask)) → Posted walk k → Released s.live k l → Posted (without walk label) l
-released-posted walk label place s k l posted released =
+pub released-posted : (script_state : ScriptState) (label : List ℕ) (place : ℕ) (s : Split label script_state.lives 0 place) (k l : Known (BoardEntry Ask)) → PipelinesMatch script_state k → Released s.live k l → PipelinesMatch (without script_state label) l
+released-posted script_state label place s k l posted released =
     let were : All (IsOn k) (s.before ++ s.live ∷ s.later) = subst (All (IsOn k)) s.lives_is posted.pipes in
     let most = λ (number : ℕ). subst (λ ls. owners number ls ≤ 1) s.lives_is (posted.apart number) in
     let first = others-stay k l s.live.pipe s.before released.others (λ number at. (beside number s.before s.later s.live (most number) at).0) (All-left (IsOn k) s.before (s.live ∷ s.later) were) in
@@ -247,7 +247,7 @@ released-none live k none legal =
       unshut = λ zero_is. refl;
     }
 
-pub released-closed : (live : Live) (pipe : Pipe) (k l : Known (BoardEntry Ask)) → live.pipe ≡ Some pipe → Closed k l pipe → Released live k l
+pub released-closed : (live : Live) (pipe : PipelineState) (k l : Known (BoardEntry Ask)) → live.pipe ≡ Some pipe → Closed k l pipe → Released live k l
 released-closed live pipe k l has closed =
     record {
       called = subst (λ p. Called k l (close_calls p)) (sym has) closed.called;
@@ -258,17 +258,17 @@ released-closed live pipe k l has closed =
       unshut = closed.unshut;
     }
   where
-    by_other : (other : Option Pipe) → AreApart (Some pipe) other → HasPipe k other → HasPipe l other
+    by_other : (other : Option PipelineState) → AreApart (Some pipe) other → HasPipe k other → HasPipe l other
     by_other None apart on = tt
     by_other (Some p) apart on = closed.others p (apart-of pipe p apart) on
 
 -- a pipeline that owes nothing has handed out as much as it accepted
-pub nothing-owed : ((h : List (BoardEntry Ask)) (p : ℕ) → HandsOutAtMost h p) → (k : Known (BoardEntry Ask)) (live : Live) (pipe : Pipe) → live.pipe ≡ Some pipe → LegalBoard k.seen → KnowsPipe k pipe → owes live.pipe ≡ false → pipe.delivered ≡ length pipe.lines
+pub nothing-owed : ((h : List (BoardEntry Ask)) (p : ℕ) → HandsOutAtMost h p) → (k : Known (BoardEntry Ask)) (live : Live) (pipe : PipelineState) → live.pipe ≡ Some pipe → LegalBoard k.seen → KnowsPipe k pipe → has_undelivered live.pipe ≡ false → pipe.delivered ≡ length pipe.lines
 nothing-owed law k live pipe has legal on paid =
     let es = entries_of pipe.number k.seen in
     let most = law k.seen pipe.number legal in
     let given = on.delivered in
     let had : length (submissions es) ≡ length pipe.lines = sym (length-map (submissions es) origin_of) ∙ ap length on.lines in
-    let test : nat_lt pipe.delivered (length pipe.lines) ≡ false = ap owes (sym has) ∙ paid in
+    let test : nat_lt pipe.delivered (length pipe.lines) ≡ false = ap has_undelivered (sym has) ∙ paid in
     let not_less = ltb-false pipe.delivered (length pipe.lines) test in
     omega (arith, most, given, had, not_less)

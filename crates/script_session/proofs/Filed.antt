@@ -20,16 +20,16 @@ use Rattle.std.proofs.lemmas.Map.Keys.{sorted_tail}
 use Rattle.std.proofs.lemmas.Map.Text.{is_eq-slice_cmp}
 use Rattle.std.proofs.lemmas.Map.Views.{All-after_first, All-map-remove_entry}
 use Rattle.std.proofs.lemmas.Slice.Eq.{bytes_eq-Decides}
-use Rattle.dialogues.specs.Walk.{Live, is_of, removed, replaced}
+use Rattle.dialogues.specs.ScriptState.{Live, is_of, removed, replaced}
 use Rattle.script_session.specs.Filed.{AreFiled, led_to, lives_of, number_of}
-use Rattle.script_session.specs.declared.lives.Lives.{Lives}
+use Rattle.script_session.specs.declared.lives.LiveTransforms.{LiveTransforms}
 
 abbrev pub Entries : Type 0
 Entries = List (ℕ × Live)
 
 -- ---- what a label finds
 
--- a label that has a number has a place in the walk's list
+-- a label that has a number has a place in the state's list
 pub place-at : (label : List ℕ) (es : Entries) (i n : ℕ) → number_of label es ≡ Some n → (place : ℕ) × (position_from (is_of label) i (values_of es) ≡ Some place)
 place-at label [] i n e = absurd cc
 place-at label (x ∷ xs) i n e = first (is_of label x.1) e (place-at label xs (i + 1) n)
@@ -145,7 +145,7 @@ module _ (test : ℕ → Bool) (old new : Live) (same : new.label ≡ old.label)
           All-cons (λ (e : ℕ × Live). P e.0 e.1.label) (x.0, new) xs (subst (P x.0) (sym (same ∙ sym (ap (λ (o : Live). o.label) is))) (All-head (λ (e : ℕ × Live). P e.0 e.1.label) x xs all)) (All-tail (λ (e : ℕ × Live). P e.0 e.1.label) x xs all)
       first false here go = All-cons (λ (e : ℕ × Live). P e.0 e.1.label) x (set_value test xs new) (All-head (λ (e : ℕ × Live). P e.0 e.1.label) x xs all) (go here)
 
-pub filed-set : (lives next : Lives) (n : ℕ) (old new : Live) → AreFiled lives → get nat_cmp lives.transforms n ≡ Some old → new.label ≡ old.label → next.labels ≡ lives.labels → next.next ≡ lives.next
+pub filed-set : (lives next : LiveTransforms) (n : ℕ) (old new : Live) → AreFiled lives → get nat_cmp lives.transforms n ≡ Some old → new.label ≡ old.label → next.labels ≡ lives.labels → next.next ≡ lives.next
     → next.transforms.entries ≡ set_value (is_at (nat_cmp n)) lives.transforms.entries new → keys_of next.transforms.entries ≡ keys_of lives.transforms.entries → AreFiled next
 filed-set lives next n old new filed here same labels count set keys =
     let test = is_at (nat_cmp n) in
@@ -331,11 +331,11 @@ values-push n live [] = refl
 values-push n live (x ∷ xs) = ap (λ ls. x.1 ∷ ls) (values-push n live xs)
 
 -- it is the last in the order of allocation
-pub listed-push : (lives : Lives) (live : Live) (next : Entries) → AreFiled lives → next ≡ insert_entry nat_cmp lives.transforms.entries lives.next live → values_of next ≡ lives_of lives ++ live ∷ []
+pub listed-push : (lives : LiveTransforms) (live : Live) (next : Entries) → AreFiled lives → next ≡ insert_entry nat_cmp lives.transforms.entries lives.next live → values_of next ≡ lives_of lives ++ live ∷ []
 listed-push lives live next filed added =
     ap values_of (added ∙ insert-last lives.next live lives.transforms.entries filed.below) ∙ values-push lives.next live lives.transforms.entries
 
-pub filed-push : (lives next : Lives) (live : Live) → AreFiled lives → number_of live.label lives.transforms.entries ≡ None → IsStrictlySortedBy nat_cmp (keys_of next.transforms.entries)
+pub filed-push : (lives next : LiveTransforms) (live : Live) → AreFiled lives → number_of live.label lives.transforms.entries ≡ None → IsStrictlySortedBy nat_cmp (keys_of next.transforms.entries)
     → next.transforms.entries ≡ insert_entry nat_cmp lives.transforms.entries lives.next live → ((label : List ℕ) → led_to next label ≡ cond (bytes_eq live.label label) (Some lives.next) (led_to lives label)) → next.next ≡ lives.next + 1
     → AreFiled next
 filed-push lives next live filed free ascend added led count =
@@ -411,7 +411,7 @@ number-here n live all (x ∷ xs) here apart = first (is_at (nat_cmp n) x.0) ref
         ap (λ (l : Live). number_of l.label all) (sym is) ∙ (All-head (IsApart all) x xs apart ∙ ap (λ k. Some k) (sym equal))
     first false at here go = go here
 
-pub filed-remove : (lives next : Lives) (n : ℕ) (live : Live) → AreFiled lives → get nat_cmp lives.transforms n ≡ Some live → IsStrictlySortedBy nat_cmp (keys_of next.transforms.entries)
+pub filed-remove : (lives next : LiveTransforms) (n : ℕ) (live : Live) → AreFiled lives → get nat_cmp lives.transforms n ≡ Some live → IsStrictlySortedBy nat_cmp (keys_of next.transforms.entries)
     → next.transforms.entries ≡ remove_entry (is_at (nat_cmp n)) lives.transforms.entries → ((label : List ℕ) → led_to next label ≡ cond (bytes_eq live.label label) None (led_to lives label)) → next.next ≡ lives.next → AreFiled next
 filed-remove lives next n live filed here ascend gone led count =
     let es = lives.transforms.entries in
@@ -427,7 +427,7 @@ filed-remove lives next n live filed here ascend gone led count =
     }
 
 -- none are filed
-pub filed-none : (lives : Lives) → IsStrictlySortedBy nat_cmp (keys_of lives.transforms.entries) → lives.labels.entries ≡ [] → lives.transforms.entries ≡ [] → AreFiled lives
+pub filed-none : (lives : LiveTransforms) → IsStrictlySortedBy nat_cmp (keys_of lives.transforms.entries) → lives.labels.entries ≡ [] → lives.transforms.entries ≡ [] → AreFiled lives
 filed-none lives ascend labels none =
     record {
       ascend = ascend;
@@ -437,7 +437,7 @@ filed-none lives ascend labels none =
     }
 
 -- the same entries are filed alike
-pub filed-same : (lives next : Lives) → AreFiled lives → next.labels.entries ≡ lives.labels.entries → next.transforms.entries ≡ lives.transforms.entries → next.next ≡ lives.next → AreFiled next
+pub filed-same : (lives next : LiveTransforms) → AreFiled lives → next.labels.entries ≡ lives.labels.entries → next.transforms.entries ≡ lives.transforms.entries → next.next ≡ lives.next → AreFiled next
 filed-same lives next filed labels same count =
     record {
       ascend = subst (λ es. IsStrictlySortedBy nat_cmp (keys_of es)) (sym same) filed.ascend;

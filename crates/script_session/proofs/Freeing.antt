@@ -11,28 +11,28 @@ use Rattle.transforms.specs.declared.ask.Ask.{Ask}
 use Rattle.turn_lock.specs.Turns.{Known}
 use Rattle.dialogues.specs.RegistryCalls.{Puts}
 use Rattle.dialogues.specs.Allocating.{free, closes, releases}
-use Rattle.dialogues.specs.Dialogues.{Dialogue, Posts, says, refuses, for_live, missing}
+use Rattle.dialogues.specs.Dialogues.{Dialogue, Posts, says, answers_errno, for_live, missing}
 use Rattle.dialogues.specs.Questions.{Put, Close}
-use Rattle.dialogues.specs.Walk.{Walk, Live, Pipe, live_of, shared_of, without}
+use Rattle.dialogues.specs.ScriptState.{ScriptState, Live, PipelineState, live_of, shared_of, without}
 use Rattle.board.specs.Legal.{LegalBoard}
-use Rattle.script_session.specs.Changing.{close_calls, owes, Released}
-use Rattle.session_calls.proofs.Boarding.{called-more}
-use Rattle.script_session.specs.States.{Stands, Posted}
-use Rattle.session_calls.specs.Asking.{Asked}
-use Rattle.session_calls.specs.Pipelines.{Called}
-use Rattle.script_session.specs.Holding.{Done}
+use Rattle.script_session.specs.Changing.{close_calls, has_undelivered, Released}
+use Rattle.recorded_calls.proofs.Boarding.{called-more}
+use Rattle.script_session.specs.States.{ReferencesMatch, PipelinesMatch}
+use Rattle.recorded_calls.specs.Asking.{Asked}
+use Rattle.recorded_calls.specs.Pipelines.{Called}
+use Rattle.script_session.specs.Performing.{Done}
 use Rattle.script_session.proofs.Arms.{unless-not, unless-so}
 use Rattle.script_session.proofs.Rules.{says-done, asks-done, posts-done}
 
-releases-done : (walk : Walk) (n : ℕ) (live : Live) (k k' : Known RegEntry) (b : Known (BoardEntry Ask)) (answers answers' : List Answer) → Asked k k' (Puts live.id ∷ [])
-    → Stands (without walk live.label).lives k' → Posted (without walk live.label) b → answers' ≡ answers ++ said.Ok n ∷ [] → Done (releases walk n live) k b k' b (without walk live.label) answers answers'
-releases-done walk n live k k' b answers answers' put stands posted e =
-    asks-done k k' k' b b (Put live.id) tt (λ done. says (without walk live.label) (said.Ok n)) (without walk live.label) answers answers' put
-    (says-done k' b (without walk live.label) (said.Ok n ∷ []) answers answers' stands posted e)
+releases-done : (script_state : ScriptState) (n : ℕ) (live : Live) (k k' : Known RegEntry) (b : Known (BoardEntry Ask)) (answers answers' : List Answer) → Asked k k' (Puts live.id ∷ [])
+    → ReferencesMatch (without script_state live.label).lives k' → PipelinesMatch (without script_state live.label) b → answers' ≡ answers ++ said.Ok n ∷ [] → Done (releases script_state n live) k b k' b (without script_state live.label) answers answers'
+releases-done script_state n live k k' b answers answers' put stands posted e =
+    asks-done k k' k' b b (Put live.id) tt (λ done. says (without script_state live.label) (said.Ok n)) (without script_state live.label) answers answers' put
+    (says-done k' b (without script_state live.label) (said.Ok n ∷ []) answers answers' stands posted e)
 
 -- what a release of the transform, and then its reference given back, come to
 -- others went on, and nothing was called
-called-none-done : (d : Dialogue) (k k' : Known RegEntry) (b b' : Known (BoardEntry Ask)) (after : Walk) (answers answers' : List Answer) → Called b b' [] → Done d k b' k' b' after answers answers'
+called-none-done : (d : Dialogue) (k k' : Known RegEntry) (b b' : Known (BoardEntry Ask)) (after : ScriptState) (answers answers' : List Answer) → Called b b' [] → Done d k b' k' b' after answers answers'
     → Done d k b k' b' after answers answers'
 called-none-done d k k' b b' after answers answers' called done =
     record {
@@ -46,33 +46,33 @@ called-none-done d k k' b b' after answers answers' called done =
       posted = done.posted;
     }
 
-pub free-done : (walk : Walk) (n : ℕ) (label : List ℕ) (live : Live) (k k' : Known RegEntry) (b b' : Known (BoardEntry Ask)) (answers answers' : List Answer) → live_of walk label ≡ Some live → live.label ≡ label
-    → owes live.pipe ≡ false → LegalBoard b.seen → Released live b b' → Asked k k' (Puts live.id ∷ []) → Stands (without walk label).lives k' → Posted (without walk label) b' → answers' ≡ answers ++ said.Ok n ∷ []
-    → Done (free walk n label) k b k' b' (without walk label) answers answers'
-free-done walk n label live k k' b b' answers answers' found same paid legal released put stands posted e =
-    let after : Walk = without walk live.label in
-    let stands' : Stands after.lives k' = subst (λ l. Stands (without walk l).lives k') (sym same) stands in
-    let posted' : Posted after b' = subst (λ l. Posted (without walk l) b') (sym same) posted in
-    let rest = releases-done walk n live k k' b' answers answers' put stands' posted' e in
-    subst (λ l. Done (free walk n label) k b k' b' (without walk l) answers answers') same
-    (subst (λ o. Done (for_live walk n o (missing (shared_of walk label)) (λ l. closes walk n l l.pipe)) k b k' b' after answers answers') (sym found)
+pub free-done : (script_state : ScriptState) (n : ℕ) (label : List ℕ) (live : Live) (k k' : Known RegEntry) (b b' : Known (BoardEntry Ask)) (answers answers' : List Answer) → live_of script_state label ≡ Some live → live.label ≡ label
+    → has_undelivered live.pipe ≡ false → LegalBoard b.seen → Released live b b' → Asked k k' (Puts live.id ∷ []) → ReferencesMatch (without script_state label).lives k' → PipelinesMatch (without script_state label) b' → answers' ≡ answers ++ said.Ok n ∷ []
+    → Done (free script_state n label) k b k' b' (without script_state label) answers answers'
+free-done script_state n label live k k' b b' answers answers' found same paid legal released put stands posted e =
+    let after : ScriptState = without script_state live.label in
+    let stands' : ReferencesMatch after.lives k' = subst (λ l. ReferencesMatch (without script_state l).lives k') (sym same) stands in
+    let posted' : PipelinesMatch after b' = subst (λ l. PipelinesMatch (without script_state l) b') (sym same) posted in
+    let rest = releases-done script_state n live k k' b' answers answers' put stands' posted' e in
+    subst (λ l. Done (free script_state n label) k b k' b' (without script_state l) answers answers') same
+    (subst (λ o. Done (for_live script_state n o (missing (shared_of script_state label)) (λ l. closes script_state n l l.pipe)) k b k' b' after answers answers') (sym found)
     (by_pipe live.pipe paid released.called rest))
   where
-    by_pipe : (pipe : Option Pipe) → owes pipe ≡ false → Called b b' (close_calls pipe) → Done (releases walk n live) k b' k' b' (without walk live.label) answers answers'
-        → Done (closes walk n live pipe) k b k' b' (without walk live.label) answers answers'
-    by_pipe None owed called rest = called-none-done (releases walk n live) k k' b b' (without walk live.label) answers answers' called rest
+    by_pipe : (pipe : Option PipelineState) → has_undelivered pipe ≡ false → Called b b' (close_calls pipe) → Done (releases script_state n live) k b' k' b' (without script_state live.label) answers answers'
+        → Done (closes script_state n live pipe) k b k' b' (without script_state live.label) answers answers'
+    by_pipe None owed called rest = called-none-done (releases script_state n live) k k' b b' (without script_state live.label) answers answers' called rest
     by_pipe (Some pipe) owed called rest =
-        subst (λ d. Done d k b k' b' (without walk live.label) answers answers') (sym (unless-not walk n (nat_lt pipe.delivered (length pipe.lines)) EBUSY [] (Posts (Close pipe.number) (λ done. releases walk n live)) owed))
-        (posts-done k k' b b' b' (Close pipe.number) tt (λ done. releases walk n live) (without walk live.label) answers answers' called rest)
+        subst (λ d. Done d k b k' b' (without script_state live.label) answers answers') (sym (unless-not script_state n (nat_lt pipe.delivered (length pipe.lines)) EBUSY [] (Posts (Close pipe.number) (λ done. releases script_state n live)) owed))
+        (posts-done k k' b b' b' (Close pipe.number) tt (λ done. releases script_state n live) (without script_state live.label) answers answers' called rest)
 
 -- the refusals of a label without a transform, and of one that owes
-pub free-nobody : (walk : Walk) (n : ℕ) (label : List ℕ) (errno : Errno) → live_of walk label ≡ None → errno ≡ missing (shared_of walk label) → free walk n label ≡ refuses walk n errno
-free-nobody walk n label errno none why =
-    ap (λ o. for_live walk n o (missing (shared_of walk label)) (λ l. closes walk n l l.pipe)) none ∙ ap (λ e. refuses walk n e) (sym why)
+pub free-nobody : (script_state : ScriptState) (n : ℕ) (label : List ℕ) (errno : Errno) → live_of script_state label ≡ None → errno ≡ missing (shared_of script_state label) → free script_state n label ≡ answers_errno script_state n errno
+free-nobody script_state n label errno none why =
+    ap (λ o. for_live script_state n o (missing (shared_of script_state label)) (λ l. closes script_state n l l.pipe)) none ∙ ap (λ e. answers_errno script_state n e) (sym why)
 
-pub free-owing : (walk : Walk) (n : ℕ) (label : List ℕ) (live : Live) → live_of walk label ≡ Some live → owes live.pipe ≡ true → free walk n label ≡ refuses walk n EBUSY
-free-owing walk n label live found owed = ap (λ o. for_live walk n o (missing (shared_of walk label)) (λ l. closes walk n l l.pipe)) found ∙ by_pipe live.pipe owed
+pub free-owing : (script_state : ScriptState) (n : ℕ) (label : List ℕ) (live : Live) → live_of script_state label ≡ Some live → has_undelivered live.pipe ≡ true → free script_state n label ≡ answers_errno script_state n EBUSY
+free-owing script_state n label live found owed = ap (λ o. for_live script_state n o (missing (shared_of script_state label)) (λ l. closes script_state n l l.pipe)) found ∙ by_pipe live.pipe owed
   where
-    by_pipe : (pipe : Option Pipe) → owes pipe ≡ true → closes walk n live pipe ≡ refuses walk n EBUSY
+    by_pipe : (pipe : Option PipelineState) → has_undelivered pipe ≡ true → closes script_state n live pipe ≡ answers_errno script_state n EBUSY
     by_pipe None e = absurd cc
-    by_pipe (Some pipe) e = unless-so walk n (nat_lt pipe.delivered (length pipe.lines)) EBUSY [] (Posts (Close pipe.number) (λ done. releases walk n live)) e
+    by_pipe (Some pipe) e = unless-so script_state n (nat_lt pipe.delivered (length pipe.lines)) EBUSY [] (Posts (Close pipe.number) (λ done. releases script_state n live)) e

@@ -24,14 +24,14 @@ use Rattle.dialogues.specs.BoardCalls.{BoardCall, Goes, Collects, Shuts, origin_
 use Rattle.dialogues.specs.Dialogues.{Dialogue, Ends, Posts}
 use Rattle.dialogues.specs.Piping.{lets_go, let_all_go, drains_at_end, drain_all, end_said, said_at_end, notice_said}
 use Rattle.dialogues.specs.Questions.{Shut}
-use Rattle.dialogues.specs.Turns.{IsTurn}
-use Rattle.dialogues.specs.Walk.{Live, Pipe}
-use Rattle.session_calls.specs.Pipelines.{Owns, Kept, IsShut, notice_by}
-use Rattle.session_calls.specs.Sharing.{SharingLaws, KnowsLent, KnowsGathered, HaveEnded, Rejoined, Rejoins, Beside, Gathers, DrainedLent, GatheredHandsAll}
-use Rattle.session_calls.proofs.Boarding.{kept-same, called-more}
+use Rattle.dialogues.specs.Transcripts.{IsTranscript}
+use Rattle.dialogues.specs.ScriptState.{Live, PipelineState}
+use Rattle.recorded_calls.specs.Pipelines.{Owns, Unchanged, IsShut, notice_by}
+use Rattle.recorded_calls.specs.Sharing.{SharingLaws, KnowsLent, KnowsGathered, HaveEnded, Rejoined, Rejoins, Beside, Gathers, DrainedLent, GatheredHandsAll}
+use Rattle.recorded_calls.proofs.Boarding.{kept-same, called-more}
 use Rattle.script_session.specs.Changing.{AreApart}
 use Rattle.script_session.specs.Ending.{LeadsBy, EndsShut}
-use Rattle.script_session.specs.Gathering.{IsJoined, EndsFirst, StopsFirst, GoesBeside, SeesBeside, HasFreed, HasPaid, MovesLent, MovesAllLent, AreToMove, EndsLent}
+use Rattle.script_session.specs.Gathering.{IsJoined, EndsFirst, StopsFirst, GoesBeside, SeesBeside, HasFreed, HasDelivered, MovesLent, MovesAllLent, AreToMove, EndsLent}
 use Rattle.script_session.specs.Lending.{HasLent}
 use Rattle.script_session.specs.States.{is_at, owners}
 use Rattle.script_session.specs.Telling.{callback_said}
@@ -53,7 +53,7 @@ beside-goes : (k l : Known (BoardEntry Ask)) → PeersGone k → Beside k l → 
 beside-goes k l gone b =
     record { called = b.kept.called; legal = b.kept.legal; ended = b.ended; gone = b.gone; owned = b.kept.owned; unshut = b.kept.unshut gone.first }
 
-gathers-goes : (k l : Known (BoardEntry Ask)) (pipe pipe' : Pipe) (calls : List BoardCall) → Gathers k l pipe pipe' calls → GoesBeside k l calls
+gathers-goes : (k l : Known (BoardEntry Ask)) (pipe pipe' : PipelineState) (calls : List BoardCall) → Gathers k l pipe pipe' calls → GoesBeside k l calls
 gathers-goes k l pipe pipe' calls g =
     record { called = g.called; legal = g.legal; ended = g.ended; gone = g.gone; owned = g.owned; unshut = g.unshut }
 
@@ -74,7 +74,7 @@ goes-sees k l calls goes = record { sees = called-sees k l calls goes.called (λ
 pub beside-sees : (k l : Known (BoardEntry Ask)) → PeersGone k → Beside k l → SeesBeside k l
 beside-sees k l gone b = goes-sees k l [] (beside-goes k l gone b)
 
-pub kept-beside : (k l : Known (BoardEntry Ask)) → Kept k l → l.ended ≡ k.ended → SeesBeside k l
+pub kept-beside : (k l : Known (BoardEntry Ask)) → Unchanged k l → l.ended ≡ k.ended → SeesBeside k l
 kept-beside k l kept ended = record { sees = kept-sees k l kept; ended = ended }
 
 pub beside-then : (k l m : Known (BoardEntry Ask)) → SeesBeside k l → SeesBeside l m → SeesBeside k m
@@ -82,11 +82,11 @@ beside-then k l m first later = record { sees = sees-on k l m first.sees later.s
 
 -- ---- a pipeline is let go
 
-free-lent : (k : Known (BoardEntry Ask)) (pipe : Pipe) → pipe.held ≡ false → KnowsLent k pipe → KnowsLent k (record pipe { held = false })
+free-lent : (k : Known (BoardEntry Ask)) (pipe : PipelineState) → pipe.held ≡ false → KnowsLent k pipe → KnowsLent k (record pipe { held = false })
 free-lent k pipe free on =
     record { opened = on.opened; managed = on.managed; shared = on.shared; masked = on.masked; held = on.held ∙ free; queue = λ held. absurd cc; delivered = on.delivered }
 
-pub frees-none : (k : Known (BoardEntry Ask)) (pipe : Option Pipe) → pipe ≡ None → LegalBoard k.seen → PeersGone k → MovesLent HasLent HasFreed (lets_go pipe) pipe k k [] []
+pub frees-none : (k : Known (BoardEntry Ask)) (pipe : Option PipelineState) → pipe ≡ None → LegalBoard k.seen → PeersGone k → MovesLent HasLent HasFreed (lets_go pipe) pipe k k [] []
 frees-none k pipe none legal gone =
     record {
       calls = [];
@@ -99,7 +99,7 @@ frees-none k pipe none legal gone =
       says = refl;
     }
 
-pub frees-free : (k : Known (BoardEntry Ask)) (of : Option Pipe) (pipe : Pipe) → of ≡ Some pipe → pipe.held ≡ false → LegalBoard k.seen → PeersGone k → HasLent k of → MovesLent HasLent HasFreed (lets_go of) of k k [] []
+pub frees-free : (k : Known (BoardEntry Ask)) (of : Option PipelineState) (pipe : PipelineState) → of ≡ Some pipe → pipe.held ≡ false → LegalBoard k.seen → PeersGone k → HasLent k of → MovesLent HasLent HasFreed (lets_go of) of k k [] []
 frees-free k of pipe has free legal gone on =
     record {
       calls = [];
@@ -113,17 +113,17 @@ frees-free k of pipe has free legal gone on =
     }
 
 -- a pipeline apart from the one on which the caller called
-lent-apart : (k l : Known (BoardEntry Ask)) (pipe pipe' : Pipe) (calls : List BoardCall) → Gathers k l pipe pipe' calls → (other : Option Pipe) → AreApart (Some pipe) other → HasLent k other → HasLent l other
+lent-apart : (k l : Known (BoardEntry Ask)) (pipe pipe' : PipelineState) (calls : List BoardCall) → Gathers k l pipe pipe' calls → (other : Option PipelineState) → AreApart (Some pipe) other → HasLent k other → HasLent l other
 lent-apart k l pipe pipe' calls g None apart on = tt
 lent-apart k l pipe pipe' calls g (Some other) apart on = g.lent other (apart-of pipe other apart) on
 
-freed-apart : (k l : Known (BoardEntry Ask)) (pipe pipe' : Pipe) (calls : List BoardCall) → Gathers k l pipe pipe' calls → (other : Option Pipe) → AreApart (Some pipe) other → HasFreed k other → HasFreed l other
+freed-apart : (k l : Known (BoardEntry Ask)) (pipe pipe' : PipelineState) (calls : List BoardCall) → Gathers k l pipe pipe' calls → (other : Option PipelineState) → AreApart (Some pipe) other → HasFreed k other → HasFreed l other
 freed-apart k l pipe pipe' calls g None apart on = tt
 freed-apart k l pipe pipe' calls g (Some other) apart on = g.lent (record other { held = false }) (apart-of pipe other apart) on
 
-pub frees-held : (k l : Known (BoardEntry Ask)) (of : Option Pipe) (pipe : Pipe) → of ≡ Some pipe → pipe.held ≡ true → HasLent k of → Gathers k l pipe (record pipe { held = false }) (Goes pipe.number ∷ []) → MovesLent HasLent HasFreed (lets_go of) of k l [] []
+pub frees-held : (k l : Known (BoardEntry Ask)) (of : Option PipelineState) (pipe : PipelineState) → of ≡ Some pipe → pipe.held ≡ true → HasLent k of → Gathers k l pipe (record pipe { held = false }) (Goes pipe.number ∷ []) → MovesLent HasLent HasFreed (lets_go of) of k l [] []
 frees-held k l of pipe has held on g =
-    let pipe' : Pipe = record pipe { held = false } in
+    let pipe' : PipelineState = record pipe { held = false } in
     record {
       calls = Goes pipe.number ∷ [];
       said = [];
@@ -137,56 +137,56 @@ frees-held k l of pipe has held on g =
 
 -- ---- a pipeline is drained
 
-pub drains-no : (k : Known (BoardEntry Ask)) (label : List ℕ) (pipe : Option Pipe) (answers : List Answer) → pipe ≡ None → LegalBoard k.seen → PeersGone k → MovesLent HasFreed HasPaid (drains_at_end label pipe) pipe k k answers answers
+pub drains-no : (k : Known (BoardEntry Ask)) (label : List ℕ) (pipe : Option PipelineState) (answers : List Answer) → pipe ≡ None → LegalBoard k.seen → PeersGone k → MovesLent HasFreed HasDelivered (drains_at_end label pipe) pipe k k answers answers
 drains-no k label pipe answers none legal gone =
     record {
       calls = [];
       said = [];
       goes = goes-same k legal gone;
       leads = drains-none label pipe none;
-      now = subst (HasPaid k) (sym none) tt;
+      now = subst (HasDelivered k) (sym none) tt;
       before = λ other apart on. on;
       after = λ other apart on. on;
       says = sym (append-nil answers);
     }
 
 -- what isn't known yet of a pipeline that was let go doesn't matter to what is
-pub freed-lent : (k : Known (BoardEntry Ask)) (of : Option Pipe) (pipe now : Pipe) → of ≡ Some pipe → now ≡ record pipe { held = false; lines = [] } → HasFreed k of → KnowsLent k now
+pub freed-lent : (k : Known (BoardEntry Ask)) (of : Option PipelineState) (pipe now : PipelineState) → of ≡ Some pipe → now ≡ record pipe { held = false; lines = [] } → HasFreed k of → KnowsLent k now
 freed-lent k of pipe now has is freed =
     let on : KnowsLent k (record pipe { held = false }) = subst (HasFreed k) has freed in
     subst (KnowsLent k) (sym is)
     (record { opened = on.opened; managed = on.managed; shared = on.shared; masked = on.masked; held = on.held; queue = on.queue; delivered = on.delivered })
 
-beside-freed : (k m : Known (BoardEntry Ask)) → Beside k m → (other : Option Pipe) → HasFreed k other → HasFreed m other
+beside-freed : (k m : Known (BoardEntry Ask)) → Beside k m → (other : Option PipelineState) → HasFreed k other → HasFreed m other
 beside-freed k m b None on = tt
 beside-freed k m b (Some other) on = b.lent (record other { held = false }) on
 
-paid-apart : (k m l : Known (BoardEntry Ask)) (pipe pipe' : Pipe) (calls : List BoardCall) → Beside k m → Gathers m l pipe pipe' calls → (other : Option Pipe) → AreApart (Some pipe) other → HasPaid k other → HasPaid l other
+paid-apart : (k m l : Known (BoardEntry Ask)) (pipe pipe' : PipelineState) (calls : List BoardCall) → Beside k m → Gathers m l pipe pipe' calls → (other : Option PipelineState) → AreApart (Some pipe) other → HasDelivered k other → HasDelivered l other
 paid-apart k m l pipe pipe' calls b g None apart on = tt
 paid-apart k m l pipe pipe' calls b g (Some other) apart on =
     let far : (on.0.number == pipe.number) ≡ false = ap (λ n. n == pipe.number) on.1 ∙ apart-of pipe other apart in
     (on.0, on.1, g.gathered on.0 far (b.gathered on.0 on.2), on.3)
 
-module _ (k m l : Known (BoardEntry Ask)) (label : List ℕ) (of : Option Pipe) (first pipe : Pipe) (count : ℕ) (callbacks : List (Callback Finished)) (answers answers' : List Answer)
+module _ (k m l : Known (BoardEntry Ask)) (label : List ℕ) (of : Option PipelineState) (first pipe : PipelineState) (count : ℕ) (callbacks : List (Callback Finished)) (answers answers' : List Answer)
     (has : of ≡ Some first) (same : pipe.number ≡ first.number) (gone : PeersGone k) (b : Beside k m) (on : KnowsGathered m pipe) (g : DrainedLent m l pipe callbacks) (paid : pipe.delivered + completions callbacks ≡ length pipe.lines)
     (counts : count ≡ completions callbacks) (e : answers' ≡ answers ++ (map (callback_said pipe.lines) callbacks ++ end_said label count)) where
   abbrev call_of : ℕ → BoardCall
   call_of number = Collects number (record { notices = map (notice_by pipe.lines) callbacks; all_done = true })
 
-  number_apart : (other : Option Pipe) → AreApart of other → AreApart (Some pipe) other
+  number_apart : (other : Option PipelineState) → AreApart of other → AreApart (Some pipe) other
   number_apart other apart = λ number at. subst (λ p. AreApart p other) has apart number (ap (λ n. n == number) (sym same) ∙ at)
 
-  pub drains-gathered : MovesLent HasFreed HasPaid (drains_at_end label of) of k l answers answers'
+  pub drains-gathered : MovesLent HasFreed HasDelivered (drains_at_end label of) of k l answers answers'
   drains-gathered =
       let notices = map (notice_by pipe.lines) callbacks in
-      let pipe' : Pipe = record pipe { delivered = pipe.delivered + completions callbacks } in
+      let pipe' : PipelineState = record pipe { delivered = pipe.delivered + completions callbacks } in
       let calls : List BoardCall = call_of pipe.number ∷ [] in
       record {
         calls = calls;
         said = said_at_end label notices;
         goes = goes-then k m l [] calls (beside-goes k m gone b) (gathers-goes m l pipe pipe' calls g);
         leads = subst (λ n. LeadsBy (drains_at_end label of) (call_of n ∷ []) (said_at_end label notices)) (sym same) (drains-some label of first notices has);
-        now = subst (HasPaid l) (sym has) (pipe', same, g.now on, paid);
+        now = subst (HasDelivered l) (sym has) (pipe', same, g.now on, paid);
         before = λ other apart on. freed-apart m l pipe pipe' calls g other (number_apart other apart) (beside-freed k m b other on);
         after = λ other apart on. paid-apart k m l pipe pipe' calls b g other (number_apart other apart) on;
         says =
@@ -195,7 +195,7 @@ module _ (k m l : Known (BoardEntry Ask)) (label : List ℕ) (of : Option Pipe) 
             ∙ ap (λ c. map notice_said notices ++ end_said label c) (counts ∙ sym (count-is pipe.lines callbacks)));
       }
 
-pub drains-beside : (k m l : Known (BoardEntry Ask)) (pipe : Pipe) (callbacks : List (Callback Finished)) → PeersGone k → Beside k m → DrainedLent m l pipe callbacks → SeesBeside k l
+pub drains-beside : (k m l : Known (BoardEntry Ask)) (pipe : PipelineState) (callbacks : List (Callback Finished)) → PeersGone k → Beside k m → DrainedLent m l pipe callbacks → SeesBeside k l
 drains-beside k m l pipe callbacks gone b g =
     let calls : List BoardCall = Collects pipe.number (record { notices = map (notice_by pipe.lines) callbacks; all_done = true }) ∷ [] in
     goes-sees k l calls (goes-then k m l [] calls (beside-goes k m gone b) (gathers-goes m l pipe (record pipe { delivered = pipe.delivered + completions callbacks }) calls g))
@@ -203,12 +203,12 @@ drains-beside k m l pipe callbacks gone b g =
 -- ---- a loop over all of them
 
 -- The first so many have gone on, and the others are as they were.
-pub record LentOnTheWay (Before After : Known (BoardEntry Ask) → Option Pipe → Type 0) (all : List Live → Dialogue → Dialogue) (i : ℕ) (lives : List Live) (k l : Known (BoardEntry Ask)) (answers answers' : List Answer) : Type 0 where
+pub record LentOnTheWay (Before After : Known (BoardEntry Ask) → Option PipelineState → Type 0) (all : List Live → Dialogue → Dialogue) (i : ℕ) (lives : List Live) (k l : Known (BoardEntry Ask)) (answers answers' : List Answer) : Type 0 where
   pub moves : MovesAllLent After (all (take i lives)) (take i lives) k l answers answers'
   pub left : All (λ (live : Live). Before l live.pipe) (drop i lives)
   pub apart : (p : ℕ) → owners p lives ≤ 1
 
-pub lent-sets-out : (Before After : Known (BoardEntry Ask) → Option Pipe → Type 0) (all : List Live → Dialogue → Dialogue) (lives : List Live) (k : Known (BoardEntry Ask)) (answers : List Answer) → ((rest : Dialogue) → all [] rest ≡ rest) → AreToMove Before lives k
+pub lent-sets-out : (Before After : Known (BoardEntry Ask) → Option PipelineState → Type 0) (all : List Live → Dialogue → Dialogue) (lives : List Live) (k : Known (BoardEntry Ask)) (answers : List Answer) → ((rest : Dialogue) → all [] rest ≡ rest) → AreToMove Before lives k
     → LentOnTheWay Before After all 0 lives k k answers answers
 lent-sets-out Before After all lives k answers nothing are =
     record {
@@ -225,7 +225,7 @@ lent-sets-out Before After all lives k answers nothing are =
     }
 
 -- what is so of each transform that hasn't the pipeline
-stay-apart : (P Q : Option Pipe → Type 0) (pipe : Option Pipe) (lives : List Live) → ((other : Option Pipe) → AreApart pipe other → P other → Q other) → ((number : ℕ) → is_at number pipe ≡ true → owners number lives ≡ 0)
+stay-apart : (P Q : Option PipelineState → Type 0) (pipe : Option PipelineState) (lives : List Live) → ((other : Option PipelineState) → AreApart pipe other → P other → Q other) → ((number : ℕ) → is_at number pipe ≡ true → owners number lives ≡ 0)
     → All (λ (x : Live). P x.pipe) lives → All (λ (x : Live). Q x.pipe) lives
 stay-apart P Q pipe [] stay free all = All-nil (λ (x : Live). Q x.pipe)
 stay-apart P Q pipe (x ∷ xs) stay free all =
@@ -233,7 +233,7 @@ stay-apart P Q pipe (x ∷ xs) stay free all =
     (stay x.pipe (λ number at. first-free (is_at number x.pipe) (owners number xs) (free number at)) (All-head (λ (x : Live). P x.pipe) x xs all))
     (stay-apart P Q pipe xs stay (λ number at. rest-free (is_at number x.pipe) (owners number xs) (free number at)) (All-tail (λ (x : Live). P x.pipe) x xs all))
 
-module _ (Before After : Known (BoardEntry Ask) → Option Pipe → Type 0) (all : List Live → Dialogue → Dialogue) (one : Live → Dialogue → Dialogue) (more : (before : List Live) (live : Live) (rest : Dialogue) → all (before ++ live ∷ []) rest ≡ all before (one live rest))
+module _ (Before After : Known (BoardEntry Ask) → Option PipelineState → Type 0) (all : List Live → Dialogue → Dialogue) (one : Live → Dialogue → Dialogue) (more : (before : List Live) (live : Live) (rest : Dialogue) → all (before ++ live ∷ []) rest ≡ all before (one live rest))
     (i : ℕ) (lives : List Live) (live : Live) (k l l' : Known (BoardEntry Ask)) (answers said said' : List Answer)
     (way : LentOnTheWay Before After all i lives k l answers said) (within : i < length lives) (here : live ≡ slice_index_or lives i live) where
   rest_is : drop i lives ≡ live ∷ drop (i + 1) lives
@@ -275,7 +275,7 @@ module _ (Before After : Known (BoardEntry Ask) → Option Pipe → Type 0) (all
         apart = way.apart;
       }
 
-pub all-lent : (Before After : Known (BoardEntry Ask) → Option Pipe → Type 0) (all : List Live → Dialogue → Dialogue) (i : ℕ) (lives : List Live) (k l : Known (BoardEntry Ask)) (answers said : List Answer) → LentOnTheWay Before After all i lives k l answers said → length lives ≤ i
+pub all-lent : (Before After : Known (BoardEntry Ask) → Option PipelineState → Type 0) (all : List Live → Dialogue → Dialogue) (i : ℕ) (lives : List Live) (k l : Known (BoardEntry Ask)) (answers said : List Answer) → LentOnTheWay Before After all i lives k l answers said → length lives ≤ i
     → MovesAllLent After (all lives) lives k l answers said
 all-lent Before After all i lives k l answers said way past = subst (λ ls. MovesAllLent After (all ls) ls k l answers said) (take_all i lives past) way.moves
 
@@ -285,7 +285,7 @@ all-lent Before After all i lives k l answers said way past = subst (λ ls. Move
 pub then-drains : (lives : List Live) (k l : Known (BoardEntry Ask)) → AreToMove HasLent lives k → MovesAllLent HasFreed (let_all_go lives) lives k l [] [] → AreToMove HasFreed lives l
 then-drains lives k l are m = record { legal = m.goes.legal; gone = m.goes.gone; pipes = m.now; apart = are.apart }
 
-pub ends-lent : (lives : List Live) (k l m : Known (BoardEntry Ask)) (none answers : List Answer) (text text' : List ℕ) → none ≡ [] → MovesAllLent HasFreed (let_all_go lives) lives k l [] [] → MovesAllLent HasPaid (drain_all lives) lives l m none answers
+pub ends-lent : (lives : List Live) (k l m : Known (BoardEntry Ask)) (none answers : List Answer) (text text' : List ℕ) → none ≡ [] → MovesAllLent HasFreed (let_all_go lives) lives k l [] [] → MovesAllLent HasDelivered (drain_all lives) lives l m none answers
     → text' ≡ text ++ flat_map text_of answers → EndsLent lives k m text text'
 ends-lent lives k l m none answers text text' empty lets drains put =
     record {
@@ -299,12 +299,12 @@ ends-lent lives k l m none answers text text' empty lets drains put =
 
 -- ---- the whole end
 
-pub to-move : (lives : List Live) (j m : Known (BoardEntry Ask)) → IsJoined lives j → Kept j m → PeersGone m → ((b : Known (BoardEntry Ask)) → IsOwn caller_of b → Rejoined b j → Rejoins b m) → AreToMove HasLent lives m
+pub to-move : (lives : List Live) (j m : Known (BoardEntry Ask)) → IsJoined lives j → Unchanged j m → PeersGone m → ((b : Known (BoardEntry Ask)) → IsOwn caller_of b → Rejoined b j → Rejoins b m) → AreToMove HasLent lives m
 to-move lives j m is kept gone again =
     let was = again is.before is.own is.rejoined in
     record { legal = kept.legal; gone = gone; pipes = lent-stay is.before m lives (by_lent was) is.lent; apart = is.apart }
   where
-    by_lent : Rejoins is.before m → (other : Option Pipe) → HasLent is.before other → HasLent m other
+    by_lent : Rejoins is.before m → (other : Option PipelineState) → HasLent is.before other → HasLent m other
     by_lent was None on = tt
     by_lent was (Some other) on = was.lent other on
 
@@ -318,28 +318,28 @@ still-ended j m number next ended have =
     }
 
 -- who owns a pipeline has it among these
-paid-among : (lives : List Live) (p : ℕ) (k : Known (BoardEntry Ask)) → 1 ≤ owners p lives → All (λ (x : Live). HasPaid k x.pipe) lives → (pipe : Pipe) × (pipe.number ≡ p) × KnowsGathered k pipe × (pipe.delivered ≡ length pipe.lines)
+paid-among : (lives : List Live) (p : ℕ) (k : Known (BoardEntry Ask)) → 1 ≤ owners p lives → All (λ (x : Live). HasDelivered k x.pipe) lives → (pipe : PipelineState) × (pipe.number ≡ p) × KnowsGathered k pipe × (pipe.delivered ≡ length pipe.lines)
 paid-among [] p k some paid = absurd (omega (arith, some))
-paid-among (x ∷ xs) p k some paid = by_pipe x.pipe (is_at p x.pipe) refl some (All-head (λ (x : Live). HasPaid k x.pipe) x xs paid) (λ rest. paid-among xs p k rest (All-tail (λ (x : Live). HasPaid k x.pipe) x xs paid))
+paid-among (x ∷ xs) p k some paid = by_pipe x.pipe (is_at p x.pipe) refl some (All-head (λ (x : Live). HasDelivered k x.pipe) x xs paid) (λ rest. paid-among xs p k rest (All-tail (λ (x : Live). HasDelivered k x.pipe) x xs paid))
   where
-    by_pipe : (pipe : Option Pipe) (t : Bool) → is_at p pipe ≡ t → 1 ≤ cond t 1 0 + owners p xs → HasPaid k pipe → (1 ≤ owners p xs → (pipe : Pipe) × (pipe.number ≡ p) × KnowsGathered k pipe × (pipe.delivered ≡ length pipe.lines))
-        → (pipe : Pipe) × (pipe.number ≡ p) × KnowsGathered k pipe × (pipe.delivered ≡ length pipe.lines)
+    by_pipe : (pipe : Option PipelineState) (t : Bool) → is_at p pipe ≡ t → 1 ≤ cond t 1 0 + owners p xs → HasDelivered k pipe → (1 ≤ owners p xs → (pipe : PipelineState) × (pipe.number ≡ p) × KnowsGathered k pipe × (pipe.delivered ≡ length pipe.lines))
+        → (pipe : PipelineState) × (pipe.number ≡ p) × KnowsGathered k pipe × (pipe.delivered ≡ length pipe.lines)
     by_pipe None true at some on rest = absurd (let e = at in cc)
     by_pipe (Some pipe) true at some on rest = (on.0, on.1 ∙ eqb-true pipe.number p at, on.2, on.3)
     by_pipe pipe false at some on rest = rest (omega (arith, some))
 
-gathered-drained : HandingAllDrains → (k : Known (BoardEntry Ask)) (pipe : Pipe) → LegalBoard k.seen → KnowsGathered k pipe → pipe.delivered ≡ length pipe.lines → IsDrained (entries_of pipe.number k.seen)
+gathered-drained : HandingAllDrains → (k : Known (BoardEntry Ask)) (pipe : PipelineState) → LegalBoard k.seen → KnowsGathered k pipe → pipe.delivered ≡ length pipe.lines → IsDrained (entries_of pipe.number k.seen)
 gathered-drained law k pipe legal on paid =
     law k.seen pipe.number legal (on.lent.delivered ∙ (paid ∙ (ap length (sym on.lines) ∙ length-map (submissions (entries_of pipe.number k.seen)) origin_of)))
 
-module _ (drained : HandingAllDrains) (hands : (k : Known (BoardEntry Ask)) (pipe : Pipe) → GatheredHandsAll k pipe) (lives : List Live) (j m n l : Known (BoardEntry Ask)) (text text' : List ℕ)
-    (is : IsJoined lives j) (kept : Kept j m) (had : m.ended ≡ j.ended) (again : (b : Known (BoardEntry Ask)) → IsOwn caller_of b → Rejoined b j → Rejoins b m)
-    (e : EndsLent lives m n text text') (shut : IsShut n l) (same : l.ended ≡ n.ended) (gone : PeersGone l) (stays : (pipe : Pipe) → KnowsGathered n pipe → KnowsGathered l pipe) where
+module _ (drained : HandingAllDrains) (hands : (k : Known (BoardEntry Ask)) (pipe : PipelineState) → GatheredHandsAll k pipe) (lives : List Live) (j m n l : Known (BoardEntry Ask)) (text text' : List ℕ)
+    (is : IsJoined lives j) (kept : Unchanged j m) (had : m.ended ≡ j.ended) (again : (b : Known (BoardEntry Ask)) → IsOwn caller_of b → Rejoined b j → Rejoins b m)
+    (e : EndsLent lives m n text text') (shut : IsShut n l) (same : l.ended ≡ n.ended) (gone : PeersGone l) (stays : (pipe : PipelineState) → KnowsGathered n pipe → KnowsGathered l pipe) where
   -- the shut is an entry of no pipeline
   entries_are : (p : ℕ) → entries_of p l.seen ≡ entries_of p shut.before
   entries_are p = ap (entries_of p) shut.last ∙ (filter-append (is_of p) shut.before (event.Shut n.number ∷ []) ∙ append-nil (entries_of p shut.before))
 
-  owns-then : (p : ℕ) → Owns (sees n shut.before) p → (pipe : Pipe) × (pipe.number ≡ p) × KnowsGathered l pipe × (pipe.delivered ≡ length pipe.lines)
+  owns-then : (p : ℕ) → Owns (sees n shut.before) p → (pipe : PipelineState) × (pipe.number ≡ p) × KnowsGathered l pipe × (pipe.delivered ≡ length pipe.lines)
   owns-then p owns =
       let was = again is.before is.own is.rejoined in
       let here = e.goes.owned p (shut.kept.owned p owns) in
@@ -368,8 +368,8 @@ module _ (drained : HandingAllDrains) (hands : (k : Known (BoardEntry Ask)) (pip
         calls = calls;
         said = e.said ++ [];
         called = called-more j m l [] calls kept.called (called-more m n l e.calls (Shuts ∷ []) e.goes.called shut.called);
-        is = λ walk lives_are. subst (λ ls. IsTurn (let_all_go ls (drain_all ls (Posts Shut λ done. Ends walk))) (record { registry = []; board = calls; answers = e.said ++ []; after = Some walk })) (sym lives_are)
-            (e.leads (Posts Shut λ done. Ends walk) [] (Shuts ∷ []));
+        is = λ script_state lives_are. subst (λ ls. IsTranscript (let_all_go ls (drain_all ls (Posts Shut λ done. Ends script_state))) (record { registry = []; board = calls; answers = e.said ++ []; after = Some script_state })) (sym lives_are)
+            (e.leads (Posts Shut λ done. Ends script_state) [] (Shuts ∷ []));
         says = e.says ∙ ap (λ a. text ++ flat_map text_of a) (sym (append-nil e.said));
         own = shut.own;
         ended = same ∙ (e.goes.ended ∙ had);
@@ -381,13 +381,13 @@ module _ (drained : HandingAllDrains) (hands : (k : Known (BoardEntry Ask)) (pip
       }
 
 -- the board isn't shut yet
-pub still-unshut : (lives : List Live) (j m : Known (BoardEntry Ask)) → IsJoined lives j → Kept j m → ((b : Known (BoardEntry Ask)) → IsOwn caller_of b → Rejoined b j → Rejoins b m) → is_shut m.seen ≡ false
+pub still-unshut : (lives : List Live) (j m : Known (BoardEntry Ask)) → IsJoined lives j → Unchanged j m → ((b : Known (BoardEntry Ask)) → IsOwn caller_of b → Rejoined b j → Rejoins b m) → is_shut m.seen ≡ false
 still-unshut lives j m is kept again =
     let was = again is.before is.own is.rejoined in
     was.kept.unshut (sym was.number ∙ (kept.called.number ∙ is.ended.first)) ∙ is.unshut
 
-pub stops-first : (lives : List Live) (j m n o : Known (BoardEntry Ask)) → IsJoined lives j → Kept j m → m.ended ≡ j.ended → ((b : Known (BoardEntry Ask)) → IsOwn caller_of b → Rejoined b j → Rejoins b m)
-    → SeesBeside m n → Kept n o → o.ended ≡ n.ended → IsOwn caller_of o → PeersGone o → StopsFirst j o
+pub stops-first : (lives : List Live) (j m n o : Known (BoardEntry Ask)) → IsJoined lives j → Unchanged j m → m.ended ≡ j.ended → ((b : Known (BoardEntry Ask)) → IsOwn caller_of b → Rejoined b j → Rejoins b m)
+    → SeesBeside m n → Unchanged n o → o.ended ≡ n.ended → IsOwn caller_of o → PeersGone o → StopsFirst j o
 stops-first lives j m n o is kept had again stops later same own gone =
     let zero_is : m.number ≡ 0 = kept.called.number ∙ is.ended.first in
     record {

@@ -6,8 +6,8 @@ use Rattle.dialogues.specs.BoardCalls.{BoardCall, Notice, Goes, Collects}
 use Rattle.dialogues.specs.Dialogues.{Dialogue, Says, Posts}
 use Rattle.dialogues.specs.Piping.{lets_go, let_all_go, drains_at_end, drain_all, said_at_end}
 use Rattle.dialogues.specs.Questions.{Go, Drain}
-use Rattle.dialogues.specs.Turns.{joined, turn_of}
-use Rattle.dialogues.specs.Walk.{Live, Pipe}
+use Rattle.dialogues.specs.Transcripts.{joined, transcript_of}
+use Rattle.dialogues.specs.ScriptState.{Live, PipelineState}
 use Rattle.dialogues.proofs.Leading.{joined-assoc}
 use Rattle.script_session.specs.Ending.{LeadsBy, part, place_of}
 
@@ -16,29 +16,29 @@ leads-nothing = λ rest r b. refl
 
 pub leads-then : (first later : Dialogue → Dialogue) (a c : List BoardCall) (x y : List Answer) → LeadsBy first a x → LeadsBy later c y → LeadsBy (λ rest. first (later rest)) (a ++ c) (x ++ y)
 leads-then first later a c x y one two = λ rest r b.
-    ap (turn_of (first (later rest)) r) (append_assoc a c b)
-    ∙ (one (later rest) r (c ++ b) ∙ (ap (joined (part a x)) (two rest r b) ∙ sym (joined-assoc (part a x) (part c y) (turn_of rest r b))))
+    ap (transcript_of (first (later rest)) r) (append_assoc a c b)
+    ∙ (one (later rest) r (c ++ b) ∙ (ap (joined (part a x)) (two rest r b) ∙ sym (joined-assoc (part a x) (part c y) (transcript_of rest r b))))
 
 pub leads-same : (d e : Dialogue → Dialogue) (calls : List BoardCall) (said : List Answer) → ((rest : Dialogue) → e rest ≡ d rest) → LeadsBy d calls said → LeadsBy e calls said
-leads-same d e calls said same leads = λ rest r b. ap (λ x. turn_of x r (calls ++ b)) (same rest) ∙ leads rest r b
+leads-same d e calls said same leads = λ rest r b. ap (λ x. transcript_of x r (calls ++ b)) (same rest) ∙ leads rest r b
 
 -- ---- one transform
 
-pub goes-none : (pipe : Option Pipe) → pipe ≡ None → LeadsBy (lets_go pipe) [] []
+pub goes-none : (pipe : Option PipelineState) → pipe ≡ None → LeadsBy (lets_go pipe) [] []
 goes-none pipe none = leads-same (λ rest. rest) (lets_go pipe) [] [] (λ rest. ap (λ p. lets_go p rest) none) leads-nothing
 
-pub goes-free : (of : Option Pipe) (pipe : Pipe) → of ≡ Some pipe → pipe.held ≡ false → LeadsBy (lets_go of) [] []
+pub goes-free : (of : Option PipelineState) (pipe : PipelineState) → of ≡ Some pipe → pipe.held ≡ false → LeadsBy (lets_go of) [] []
 goes-free of pipe has free =
     leads-same (λ rest. rest) (lets_go of) [] [] (λ rest. ap (λ p. lets_go p rest) has ∙ ap (λ t. if t then (Posts (Go pipe.number) λ done. rest) else rest) free) leads-nothing
 
-pub goes-held : (of : Option Pipe) (pipe : Pipe) → of ≡ Some pipe → pipe.held ≡ true → LeadsBy (lets_go of) (Goes pipe.number ∷ []) []
+pub goes-held : (of : Option PipelineState) (pipe : PipelineState) → of ≡ Some pipe → pipe.held ≡ true → LeadsBy (lets_go of) (Goes pipe.number ∷ []) []
 goes-held of pipe has held =
     leads-same (λ rest. Posts (Go pipe.number) λ done. rest) (lets_go of) (Goes pipe.number ∷ []) [] (λ rest. ap (λ p. lets_go p rest) has ∙ ap (λ t. if t then (Posts (Go pipe.number) λ done. rest) else rest) held) (λ rest r b. refl)
 
-pub drains-none : (label : List ℕ) (pipe : Option Pipe) → pipe ≡ None → LeadsBy (drains_at_end label pipe) [] []
+pub drains-none : (label : List ℕ) (pipe : Option PipelineState) → pipe ≡ None → LeadsBy (drains_at_end label pipe) [] []
 drains-none label pipe none = leads-same (λ rest. rest) (drains_at_end label pipe) [] [] (λ rest. ap (λ p. drains_at_end label p rest) none) leads-nothing
 
-pub drains-some : (label : List ℕ) (of : Option Pipe) (pipe : Pipe) (notices : List Notice) → of ≡ Some pipe
+pub drains-some : (label : List ℕ) (of : Option PipelineState) (pipe : PipelineState) (notices : List Notice) → of ≡ Some pipe
     → LeadsBy (drains_at_end label of) (Collects pipe.number (record { notices = notices; all_done = true }) ∷ []) (said_at_end label notices)
 drains-some label of pipe notices has =
     leads-same (λ rest. Posts (Drain pipe.number) λ told. Says (said_at_end label told) rest) (drains_at_end label of) (Collects pipe.number (record { notices = notices; all_done = true }) ∷ []) (said_at_end label notices)
@@ -74,7 +74,7 @@ drains-places : (lives : List Live) (rest : Dialogue) → drain_all lives rest �
 drains-places [] rest = refl
 drains-places (live ∷ lives) rest = by_pipe live.pipe ∙ ap (drains_by (place_of live).0 (place_of live).1) (drains-places lives rest)
   where
-    by_pipe : (pipe : Option Pipe) → drains_at_end live.label pipe (drain_all lives rest) ≡ drains_by live.label (place_of (record live { pipe = pipe })).1 (drain_all lives rest)
+    by_pipe : (pipe : Option PipelineState) → drains_at_end live.label pipe (drain_all lives rest) ≡ drains_by live.label (place_of (record live { pipe = pipe })).1 (drain_all lives rest)
     by_pipe None = refl
     by_pipe (Some pipe) = refl
 

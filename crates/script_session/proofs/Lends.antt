@@ -11,13 +11,13 @@ use Rattle.dialogues.specs.BoardCalls.{Shares}
 use Rattle.dialogues.specs.Dialogues.{Dialogue, Posts}
 use Rattle.dialogues.specs.Questions.{Share}
 use Rattle.dialogues.specs.Sharing.{shares, share_all}
-use Rattle.dialogues.specs.Walk.{Live, Pipe}
-use Rattle.session_calls.specs.Pipelines.{Called, Kept}
-use Rattle.session_calls.specs.Sharing.{KnowsLent, Lends}
-use Rattle.session_calls.proofs.Boarding.{kept-same, called-more}
+use Rattle.dialogues.specs.ScriptState.{Live, PipelineState}
+use Rattle.recorded_calls.specs.Pipelines.{Called, Unchanged}
+use Rattle.recorded_calls.specs.Sharing.{KnowsLent, Lends}
+use Rattle.recorded_calls.proofs.Boarding.{kept-same, called-more}
 use Rattle.script_session.specs.Changing.{AreApart}
-use Rattle.script_session.specs.Ending.{ArePosted}
-use Rattle.script_session.specs.Holding.{SeesOn}
+use Rattle.script_session.specs.Ending.{PipelinesMatchState}
+use Rattle.script_session.specs.Performing.{SeesOn}
 use Rattle.script_session.specs.Lending.{HasLent, SharesOne, SharesAll}
 use Rattle.script_session.specs.States.{HasPipe, owners}
 use Rattle.script_session.proofs.Arms.{sees-same, called-sees}
@@ -42,7 +42,7 @@ shares-none k live none legal =
       unshut = λ zero_is. refl;
     }
 
-pub shares-one : (k l : Known (BoardEntry Ask)) (live : Live) (pipe : Pipe) → live.pipe ≡ Some pipe → Lends k l pipe → SharesOne live k l
+pub shares-one : (k l : Known (BoardEntry Ask)) (live : Live) (pipe : PipelineState) → live.pipe ≡ Some pipe → Lends k l pipe → SharesOne live k l
 shares-one k l live pipe has lends =
     record {
       calls = Shares pipe.number ∷ [];
@@ -56,11 +56,11 @@ shares-one k l live pipe has lends =
       unshut = lends.unshut;
     }
   where
-    by_other : (other : Option Pipe) → AreApart (Some pipe) other → HasPipe k other → HasPipe l other
+    by_other : (other : Option PipelineState) → AreApart (Some pipe) other → HasPipe k other → HasPipe l other
     by_other None apart on = tt
     by_other (Some other) apart on = lends.others other (apart-of pipe other apart) on
 
-    by_lent : (other : Option Pipe) → HasLent k other → HasLent l other
+    by_lent : (other : Option PipelineState) → HasLent k other → HasLent l other
     by_lent None on = tt
     by_lent (Some other) on = lends.lent other on
 
@@ -73,7 +73,7 @@ pub record SharedUpTo (i : ℕ) (lives : List Live) (k l : Known (BoardEntry Ask
   pub apart : (number : ℕ) → owners number lives ≤ 1
   pub sees : SeesOn k l
 
-pub none-shared : (lives : List Live) (k : Known (BoardEntry Ask)) → ArePosted lives k → SharedUpTo 0 lives k k
+pub none-shared : (lives : List Live) (k : Known (BoardEntry Ask)) → PipelinesMatchState lives k → SharedUpTo 0 lives k k
 none-shared lives k are =
     let kept = kept-same k are.2.legal in
     record {
@@ -87,7 +87,7 @@ share-more : (before : List Live) (live : Live) (rest : Dialogue) → share_all 
 share-more [] live rest = refl
 share-more (x ∷ before) live rest = ap (shares x.pipe) (share-more before live rest)
 
-pub lent-stay : (k l : Known (BoardEntry Ask)) (lives : List Live) → ((other : Option Pipe) → HasLent k other → HasLent l other) → All (λ (x : Live). HasLent k x.pipe) lives → All (λ (x : Live). HasLent l x.pipe) lives
+pub lent-stay : (k l : Known (BoardEntry Ask)) (lives : List Live) → ((other : Option PipelineState) → HasLent k other → HasLent l other) → All (λ (x : Live). HasLent k x.pipe) lives → All (λ (x : Live). HasLent l x.pipe) lives
 lent-stay k l [] stays all = All-nil (λ (x : Live). HasLent l x.pipe)
 lent-stay k l (x ∷ xs) stays all =
     All-cons (λ (x : Live). HasLent l x.pipe) x xs (stays x.pipe (All-head (λ (x : Live). HasLent k x.pipe) x xs all)) (lent-stay k l xs stays (All-tail (λ (x : Live). HasLent k x.pipe) x xs all))
@@ -136,7 +136,7 @@ pub all-shared : (i : ℕ) (lives : List Live) (k l : Known (BoardEntry Ask)) �
 all-shared i lives k l way past = subst (λ ls. SharesAll ls k l) (take_all i lives past) way.front
 
 -- and stay so at a turn without an entry
-pub shares-then : (lives : List Live) (k l m : Known (BoardEntry Ask)) → SharesAll lives k l → Kept l m → ((pipe : Pipe) → KnowsLent l pipe → KnowsLent m pipe) → SharesAll lives k m
+pub shares-then : (lives : List Live) (k l m : Known (BoardEntry Ask)) → SharesAll lives k l → Unchanged l m → ((pipe : PipelineState) → KnowsLent l pipe → KnowsLent m pipe) → SharesAll lives k m
 shares-then lives k l m all kept stays =
     record {
       calls = all.calls;
@@ -148,7 +148,7 @@ shares-then lives k l m all kept stays =
       unshut = λ zero_is. kept.unshut (all.called.number ∙ zero_is) ∙ all.unshut zero_is;
     }
   where
-    by_lent : (other : Option Pipe) → HasLent l other → HasLent m other
+    by_lent : (other : Option PipelineState) → HasLent l other → HasLent m other
     by_lent None on = tt
     by_lent (Some other) on = stays other on
 

@@ -13,11 +13,11 @@ use Rattle.transforms.specs.declared.ask.Ask.{Ask}
 use Rattle.turn_lock.specs.Turns.{Known}
 use Rattle.dialogues.specs.BoardCalls.{BoardCall}
 use Rattle.dialogues.specs.Dialogues.{Dialogue}
-use Rattle.dialogues.specs.Walk.{Live}
-use Rattle.session_calls.proofs.Boarding.{kept-same, called-more, starts-trans}
+use Rattle.dialogues.specs.ScriptState.{Live}
+use Rattle.recorded_calls.proofs.Boarding.{kept-same, called-more, starts-trans}
 use Rattle.script_session.specs.Changing.{Changes, counting}
-use Rattle.script_session.specs.Ending.{Moves, MovesAll, StopsMoving, ArePosted, AreAllPaid, IsPaid, place_of}
-use Rattle.script_session.specs.Holding.{SeesOn}
+use Rattle.script_session.specs.Ending.{Moves, MovesAll, StopsMoving, PipelinesMatchState, AreAllDelivered, AllDelivered, place_of}
+use Rattle.script_session.specs.Performing.{SeesOn}
 use Rattle.script_session.specs.States.{HasPipe}
 use Rattle.script_session.proofs.Changing.{IsOn, All-right, list-posted}
 use Rattle.script_session.proofs.Leading.{leads-then, leads-same, leads-nothing}
@@ -37,7 +37,7 @@ sees-on k l m first later =
 -- ---- one of them changes
 
 -- They are posted again, with the one that changed.
-one-posted : (before later : List Live) (live live' : Live) (k l : Known (BoardEntry Ask)) (calls : List BoardCall) → ArePosted (before ++ live ∷ later) k → Changes live live' k l calls [] → ArePosted (before ++ live' ∷ later) l
+one-posted : (before later : List Live) (live live' : Live) (k l : Known (BoardEntry Ask)) (calls : List BoardCall) → PipelinesMatchState (before ++ live ∷ later) k → Changes live live' k l calls [] → PipelinesMatchState (before ++ live' ∷ later) l
 one-posted before later live live' k l calls are changes =
     (counting (record (are.0) { lives = before ++ live' ∷ later }) [], refl, list-posted are.0 before later live live' k l calls [] are.1 are.2 changes)
 
@@ -49,7 +49,7 @@ pub record OnTheWay (all : List Live → Dialogue → Dialogue) (i : ℕ) (lives
   pub left : drop i now ≡ drop i lives
   pub unshut : k.number ≡ 0 → is_shut l.seen ≡ is_shut k.seen
 
-pub sets-out : (all : List Live → Dialogue → Dialogue) (lives : List Live) (k : Known (BoardEntry Ask)) (answers : List Answer) → ((rest : Dialogue) → all [] rest ≡ rest) → ArePosted lives k → LegalBoard k.seen
+pub sets-out : (all : List Live → Dialogue → Dialogue) (lives : List Live) (k : Known (BoardEntry Ask)) (answers : List Answer) → ((rest : Dialogue) → all [] rest ≡ rest) → PipelinesMatchState lives k → LegalBoard k.seen
     → OnTheWay all 0 lives lives k k answers answers
 sets-out all lives k answers nothing are legal =
     record {
@@ -90,8 +90,8 @@ module _ (all : List Live → Dialogue → Dialogue) (one : Live → Dialogue �
   split : now ≡ take i now ++ live ∷ drop (i + 1) now
   split = sym (take-append-drop i now) ∙ ap (λ x. take i now ++ x) (drop_more now i live within ∙ ap (λ x. x ∷ drop (i + 1) now) (sym here))
 
-  pub now_posted : ArePosted (take i now ++ live ∷ drop (i + 1) now) l
-  now_posted = subst (λ ls. ArePosted ls l) split way.moves.posted
+  pub now_posted : PipelinesMatchState (take i now ++ live ∷ drop (i + 1) now) l
+  now_posted = subst (λ ls. PipelinesMatchState ls l) split way.moves.posted
 
   -- its pipeline is as the caller knows it
   pub on-board : HasPipe l live.pipe
@@ -123,7 +123,7 @@ module _ (all : List Live → Dialogue → Dialogue) (one : Live → Dialogue �
           said = way.moves.said ++ m.said;
           called = called-more k l l' way.moves.calls m.calls way.moves.called m.changes.called;
           places = places ∙ way.moves.places;
-          posted = subst (λ ls. ArePosted ls l') (sym is) (one-posted (take i now) (drop (i + 1) now) live live' l l' m.calls now_posted m.changes);
+          posted = subst (λ ls. PipelinesMatchState ls l') (sym is) (one-posted (take i now) (drop (i + 1) now) live live' l l' m.calls now_posted m.changes);
           accepted = m.changes.accepted ∙ (append-nil (accepted_by l.number l.seen) ∙ way.moves.accepted);
           leads = leads-same (λ rest. all (take i lives) (one live rest)) (all (take (i + 1) lives)) (way.moves.calls ++ m.calls) (way.moves.said ++ m.said)
               (λ rest. ap (λ ls. all ls rest) fewer ∙ more (take i lives) live rest)
@@ -148,10 +148,10 @@ module _ (all : List Live → Dialogue → Dialogue) (one : Live → Dialogue �
       (moving-then (all (take i lives)) (λ rest. one live (later rest)) k l l' way.moves.calls way.moves.said way.moves.leads way.moves.called way.unshut (moving-before (one live) later l l' stops))
 
   -- and those before it have handed all out
-  pub paid-further : (now' : List Live) → now' ≡ set now i live' → AreAllPaid (take i now) → IsPaid live'.pipe → AreAllPaid (take (i + 1) now')
+  pub paid-further : (now' : List Live) → now' ≡ set now i live' → AreAllDelivered (take i now) → AllDelivered live'.pipe → AreAllDelivered (take (i + 1) now')
   paid-further now' set_to before this =
-      subst AreAllPaid (sym (ap (take (i + 1)) set_to ∙ take_more_set now i live' within))
-      (All-append (λ (x : Live). IsPaid x.pipe) (take i now) (live' ∷ []) before (All-cons (λ (x : Live). IsPaid x.pipe) live' [] this (All-nil (λ (x : Live). IsPaid x.pipe))))
+      subst AreAllDelivered (sym (ap (take (i + 1)) set_to ∙ take_more_set now i live' within))
+      (All-append (λ (x : Live). AllDelivered x.pipe) (take i now) (live' ∷ []) before (All-cons (λ (x : Live). AllDelivered x.pipe) live' [] this (All-nil (λ (x : Live). AllDelivered x.pipe))))
 
 -- at the end all have changed
 pub all-moved : (all : List Live → Dialogue → Dialogue) (i : ℕ) (lives now : List Live) (k l : Known (BoardEntry Ask)) (answers said : List Answer) → OnTheWay all i lives now k l answers said → length now ≤ i
@@ -160,8 +160,8 @@ all-moved all i lives now k l answers said way past =
     let same : length now ≡ length lives = sym (length-map now place_of) ∙ (ap length way.moves.places ∙ length-map lives place_of) in
     subst (λ ls. MovesAll (all ls) lives now k l answers said) (take_all i lives (subst (λ n. n ≤ i) same past)) way.moves
 
-pub all-paid : (i : ℕ) (now : List Live) → AreAllPaid (take i now) → length now ≤ i → AreAllPaid now
-all-paid i now paid past = subst AreAllPaid (take_all i now past) paid
+pub all-paid : (i : ℕ) (now : List Live) → AreAllDelivered (take i now) → length now ≤ i → AreAllDelivered now
+all-paid i now paid past = subst AreAllDelivered (take_all i now past) paid
 
 -- memory was wanting
 pub fails : {A S : Type 0} (result : Result A S) (Moved : A → Type 0) {Stopped : Type 0} → IsErr result → Stopped → MatchResult result Moved (λ _. Stopped)

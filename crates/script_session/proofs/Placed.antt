@@ -3,7 +3,7 @@ use Rattle.std.proofs.Common.{◌≡◌, ℕ, ◌+◌, List, [], ◌∷◌, ◌+
 use Rattle.std.specs.Prelude.{find, if◌then◌else◌, ◌==◌}
 use Rattle.std.specs.List.{position_from}
 use Rattle.std.specs.Str.{bytes_eq}
-use Rattle.dialogues.specs.Walk.{Live, is_of, replaced, removed}
+use Rattle.dialogues.specs.ScriptState.{Live, is_of, replaced, removed}
 use Rattle.script_session.specs.States.{uses}
 
 -- the list where the first transform of the label stands

@@ -31,17 +31,17 @@ use Rattle.dialogues.specs.Names.{name_read}
 use Rattle.dialogues.specs.Probing.{found_said, looks_up, looks_all, probe}
 use Rattle.dialogues.specs.Questions.{Look}
 use Rattle.dialogues.specs.RegistryCalls.{RegCall, Looks, reg_calls, AllSettled}
-use Rattle.dialogues.specs.Turns.{Turn, turn_of}
-use Rattle.dialogues.specs.Walk.{Walk, Live}
-use Rattle.session_calls.specs.Asking.{AskedBy, IsCaller}
-use Rattle.session_calls.specs.Looking.{Sought, Goes, Builds, look_entry, found_result}
-use Rattle.session_calls.specs.Passes.{RegPass, BoardPass, known}
-use Rattle.session_calls.proofs.Asking.{further-by}
-use Rattle.session_calls.proofs.Looking.{goes-further, goes-more}
+use Rattle.dialogues.specs.Transcripts.{Transcript, transcript_of}
+use Rattle.dialogues.specs.ScriptState.{ScriptState, Live}
+use Rattle.recorded_calls.specs.Asking.{AskedBy, IsCaller}
+use Rattle.recorded_calls.specs.Looking.{Sought, Goes, Builds, look_entry, found_result}
+use Rattle.recorded_calls.specs.Passes.{RegPass, BoardPass, known}
+use Rattle.recorded_calls.proofs.Asking.{further-by}
+use Rattle.recorded_calls.proofs.Looking.{goes-further, goes-more}
 use Rattle.script_session.specs.Breaking.{Breaks}
-use Rattle.script_session.specs.Holding.{DoneBy, HoldsBy, StopsIn}
+use Rattle.script_session.specs.Performing.{DoneBy, PerformsBy, StopsIn}
 use Rattle.script_session.specs.Probing.{Searched, IsRead, AreRead, entry_of, look_entries, MaySettle, LooksFirst, LooksSome, comes_to, AreSaid, SettlesThen}
-use Rattle.script_session.specs.States.{State, Stands, Posted, uses}
+use Rattle.script_session.specs.States.{State, ReferencesMatch, PipelinesMatch, uses}
 use Rattle.script_session.proofs.Arms.{viewed, sees-same}
 use Rattle.script_session.proofs.Breaking.{stops-in}
 use Rattle.script_session.proofs.Finding.{has-seen-more}
@@ -238,39 +238,39 @@ may-still {before} {middle} n searches all said then may = all-on (known before)
 
 -- ---- the dialogue
 
-abbrev with_calls : List RegCall → Turn → Turn
+abbrev with_calls : List RegCall → Transcript → Transcript
 with_calls calls turn = record turn { registry = calls ++ turn.registry }
 
 asked-up : (text : List ℕ) (o : Option Found) (found : Found) (next : Found → Dialogue) (r : List RegCall) → o ≡ Some found
-    → turn_of (Asks (Look text) next) (Looks text o ∷ r) [] ≡ with_calls (Looks text o ∷ []) (turn_of (next found) r [])
-asked-up text o found next r is = subst (λ x. turn_of (Asks (Look text) next) (Looks text x ∷ r) [] ≡ with_calls (Looks text x ∷ []) (turn_of (next found) r [])) (sym is) refl
+    → transcript_of (Asks (Look text) next) (Looks text o ∷ r) [] ≡ with_calls (Looks text o ∷ []) (transcript_of (next found) r [])
+asked-up text o found next r is = subst (λ x. transcript_of (Asks (Look text) next) (Looks text x ∷ r) [] ≡ with_calls (Looks text x ∷ []) (transcript_of (next found) r [])) (sym is) refl
 
 looked-up : (h : List RegEntry) (text : List ℕ) (look : Result Sought Errno) (found : Found) (next : Found → Dialogue) (r : List RegCall) → IsRead text look → comes_to h look ≡ Some found
-    → turn_of (looks_up text (name_read text) next) (call_of h text look ++ r) [] ≡ with_calls (call_of h text look) (turn_of (next found) r [])
+    → transcript_of (looks_up text (name_read text) next) (call_of h text look ++ r) [] ≡ with_calls (call_of h text look) (transcript_of (next found) r [])
 looked-up h text (Ok look) found next r read is =
-    subst (λ reading. turn_of (looks_up text reading next) (Looks text (found_in h look.looked) ∷ r) [] ≡ with_calls (Looks text (found_in h look.looked) ∷ []) (turn_of (next found) r [])) (sym read.1)
+    subst (λ reading. transcript_of (looks_up text reading next) (Looks text (found_in h look.looked) ∷ r) [] ≡ with_calls (Looks text (found_in h look.looked) ∷ []) (transcript_of (next found) r [])) (sym read.1)
     (asked-up text (found_in h look.looked) found next r is)
 looked-up h text (Err errno) found next r read is =
     let same : Fault errno ≡ found = cc in
-    subst (λ reading. turn_of (looks_up text reading next) r [] ≡ turn_of (next found) r []) (sym read) (ap (λ f. turn_of (next f) r []) same)
+    subst (λ reading. transcript_of (looks_up text reading next) r [] ≡ transcript_of (next found) r []) (sym read) (ap (λ f. transcript_of (next f) r []) same)
 
-with_calls-join : (a b : List RegCall) (turn : Turn) → with_calls a (with_calls b turn) ≡ with_calls (a ++ b) turn
+with_calls-join : (a b : List RegCall) (turn : Transcript) → with_calls a (with_calls b turn) ≡ with_calls (a ++ b) turn
 with_calls-join a b turn = ap (λ cs. record turn { registry = cs }) (sym (append_assoc a b turn.registry))
 
 all-looked-up : (h : List RegEntry) (n : ℕ) (texts : List (List ℕ)) (searches : List Searched) (said : List Answer) (rest : List Answer → Dialogue) (r : List RegCall) → AreRead texts searches → AreSaid h n searches said
-    → turn_of (looks_all n texts rest) (calls_of h searches ++ r) [] ≡ with_calls (calls_of h searches) (turn_of (rest said) r [])
+    → transcript_of (looks_all n texts rest) (calls_of h searches ++ r) [] ≡ with_calls (calls_of h searches) (transcript_of (rest said) r [])
 all-looked-up h n [] [] [] rest r read said = refl
 all-looked-up h n (text ∷ texts) (search ∷ searches) (answer ∷ answers) rest r read said =
     let calls = call_of h search.text search.look in
     let later = calls_of h searches in
     let found = said.0.0 in
     let next : Found → Dialogue = λ f. looks_all n texts (λ more. rest (found_said n search.text f ∷ more)) in
-    subst (λ t. turn_of (looks_all n (t ∷ texts) rest) ((calls ++ later) ++ r) [] ≡ with_calls (calls ++ later) (turn_of (rest (answer ∷ answers)) r [])) read.0
-    (ap (λ cs. turn_of (looks_up search.text (name_read search.text) next) cs []) (append_assoc calls later r)
+    subst (λ t. transcript_of (looks_all n (t ∷ texts) rest) ((calls ++ later) ++ r) [] ≡ with_calls (calls ++ later) (transcript_of (rest (answer ∷ answers)) r [])) read.0
+    (ap (λ cs. transcript_of (looks_up search.text (name_read search.text) next) cs []) (append_assoc calls later r)
     ∙ (looked-up h search.text search.look found next (later ++ r) read.1 said.0.1
     ∙ (ap (with_calls calls) (all-looked-up h n texts searches answers (λ more. rest (found_said n search.text found ∷ more)) r read.2 said.1)
-    ∙ (with_calls-join calls later (turn_of (rest (found_said n search.text found ∷ answers)) r [])
-    ∙ ap (λ a. with_calls (calls ++ later) (turn_of (rest (a ∷ answers)) r [])) (sym said.0.2)))))
+    ∙ (with_calls-join calls later (transcript_of (rest (found_said n search.text found ∷ answers)) r [])
+    ∙ ap (λ a. with_calls (calls ++ later) (transcript_of (rest (a ∷ answers)) r [])) (sym said.0.2)))))
 all-looked-up h n [] (search ∷ searches) said rest r read is = absurd read
 all-looked-up h n (text ∷ texts) [] said rest r read is = absurd read
 all-looked-up h n [] [] (answer ∷ answers) rest r read is = absurd is
@@ -290,12 +290,12 @@ looks-further {before} {after} texts searches work caller read went all_work =
     (calls-are-looks l.seen k.number k.seen goes.between work texts searches read goes.mine all_work)
 
 -- they are a `probe`'s first calls
-probe-breaks : {before after : Option RegPass} → (walk : Walk) (b : Known (BoardEntry Ask)) (n i : ℕ) (texts : List (List ℕ)) (searches : List Searched) (work : List RegEntry) → IsCaller (known before)
-    → AreRead (take i texts) searches → Goes before after (look_entries (known before).number searches ++ work) → list_all is_building work ≡ true → Breaks (probe walk n texts) (known before) b (known after) b
-probe-breaks {before} {after} walk b n i texts searches work caller read went all_work =
+probe-breaks : {before after : Option RegPass} → (script_state : ScriptState) (b : Known (BoardEntry Ask)) (n i : ℕ) (texts : List (List ℕ)) (searches : List Searched) (work : List RegEntry) → IsCaller (known before)
+    → AreRead (take i texts) searches → Goes before after (look_entries (known before).number searches ++ work) → list_all is_building work ≡ true → Breaks (probe script_state n texts) (known before) b (known after) b
+probe-breaks {before} {after} script_state b n i texts searches work caller read went all_work =
     let k = known before in
     let l = known after in
-    let rest : List Answer → Dialogue = λ said. Says said (Ends walk) in
+    let rest : List Answer → Dialogue = λ said. Says said (Ends script_state) in
     record {
       registry = calls_of l.seen searches;
       board = [];
@@ -306,27 +306,27 @@ probe-breaks {before} {after} walk b n i texts searches work caller read went al
     }
 
 -- memory was wanting
-probe-stops : (r r' : Option RegPass) (ws : ℕ) (walk : Walk) (b : Option BoardPass) (n i : ℕ) (texts : List (List ℕ)) (searches : List Searched) (work : List RegEntry) → Stands walk.lives (known r) → AreRead (take i texts) searches
+probe-stops : (r r' : Option RegPass) (ws : ℕ) (script_state : ScriptState) (b : Option BoardPass) (n i : ℕ) (texts : List (List ℕ)) (searches : List Searched) (work : List RegEntry) → ReferencesMatch script_state.lives (known r) → AreRead (take i texts) searches
     → Goes r r' (look_entries (known r).number searches ++ work) → list_all is_building work ≡ true
-    → StopsIn (probe walk n texts) (record { workers = ws; walk = walk; registry = r; board = b }) (record { workers = ws; walk = walk; registry = r'; board = b })
-probe-stops r r' ws walk b n i texts searches work stands read went all_work =
-    let s : State = record { workers = ws; walk = walk; registry = r; board = b } in
-    let s' : State = record { workers = ws; walk = walk; registry = r'; board = b } in
-    stops-in (probe walk n texts) s s'
+    → StopsIn (probe script_state n texts) (record { workers = ws; script_state = script_state; registry = r; board = b }) (record { workers = ws; script_state = script_state; registry = r'; board = b })
+probe-stops r r' ws script_state b n i texts searches work stands read went all_work =
+    let s : State = record { workers = ws; script_state = script_state; registry = r; board = b } in
+    let s' : State = record { workers = ws; script_state = script_state; registry = r'; board = b } in
+    stops-in (probe script_state n texts) s s'
     (record {
       locks = record { registry = went.lock; board = refl; workers = refl; shared = refl };
       registry = has-seen-more (goes-more (look_entries (known r).number searches ++ work) went);
       board = sees-same (known b);
     })
-    (probe-breaks walk (known b) n i texts searches work stands.caller read went all_work)
+    (probe-breaks script_state (known b) n i texts searches work stands.caller read went all_work)
 
 -- before all looks were made
 pub probe-some : {ws c : ℕ} {sh lives : List Live} {q v : ℕ} {r : Option RegPass} {b : Option BoardPass} → (s : State) (view : viewed ws c sh lives q v r b ≡ s) (r' : Option RegPass) (n : ℕ) (texts : List (List ℕ))
-    → Stands s.walk.lives (known s.registry) → LooksSome r r' texts → StopsIn (probe s.walk n texts) s (viewed ws c sh lives q v r' b)
+    → ReferencesMatch s.script_state.lives (known s.registry) → LooksSome r r' texts → StopsIn (probe s.script_state n texts) s (viewed ws c sh lives q v r' b)
 probe-some {ws} {c} {sh} {lives} {q} {v} {r} {b} s view r' n texts stands some =
     let first = some.2 in
     let looks = look_entries (known r).number some.1 in
-    subst (λ (x : State). Stands x.walk.lives (known x.registry) → StopsIn (probe x.walk n texts) x (viewed ws c sh lives q v r' b)) view
+    subst (λ (x : State). ReferencesMatch x.script_state.lives (known x.registry) → StopsIn (probe x.script_state n texts) x (viewed ws c sh lives q v r' b)) view
     (λ st. probe-stops r r' ws (record { client = c; shared = sh; lives = lives; requests = q; bytes = v }) b n some.0 texts some.1 [] st first.read (subst (Goes r r') (sym (append-nil looks)) first.goes) refl) stands
 
 module _ (looks_law : LooksAtOnce) (are_law : CallsByAre) where
@@ -359,47 +359,47 @@ module _ (looks_law : LooksAtOnce) (are_law : CallsByAre) where
         };
       }
 
-  probe-done : {before middle after : Option RegPass} → (walk : Walk) (b : Known (BoardEntry Ask)) (n : ℕ) (texts : List (List ℕ)) (searches : List Searched) (said answers answers' : List Answer) → Stands walk.lives (known before) → Posted walk b
-      → LooksFirst before middle texts searches → SettlesThen middle after n searches said → answers' ≡ answers ++ said → DoneBy (length texts) (probe walk n texts) (known before) b (known after) b walk answers answers'
-  probe-done {before} {middle} {after} walk b n texts searches said answers answers' stands posted first then e =
+  probe-done : {before middle after : Option RegPass} → (script_state : ScriptState) (b : Known (BoardEntry Ask)) (n : ℕ) (texts : List (List ℕ)) (searches : List Searched) (said answers answers' : List Answer) → ReferencesMatch script_state.lives (known before) → PipelinesMatch script_state b
+      → LooksFirst before middle texts searches → SettlesThen middle after n searches said → answers' ≡ answers ++ said → DoneBy (length texts) (probe script_state n texts) (known before) b (known after) b script_state answers answers'
+  probe-done {before} {middle} {after} script_state b n texts searches said answers answers' stands posted first then e =
       let h = (known after).seen in
       let calls = calls_of h searches in
       let asked = asked-all n texts searches said stands.caller first then in
-      let turn : Turn = record { registry = calls; board = []; answers = said; after = Some walk } in
+      let turn : Transcript = record { registry = calls; board = []; answers = said; after = Some script_state } in
       record {
         turn = turn;
         is =
-            ap (λ cs. turn_of (probe walk n texts) cs []) (sym (append-nil calls))
-            ∙ (all-looked-up h n texts searches said (λ more. Says more (Ends walk)) [] first.read then.said_are
-            ∙ (λ i. record { registry = append-nil calls i; board = []; answers = append-nil said i; after = Some walk }));
+            ap (λ cs. transcript_of (probe script_state n texts) cs []) (sym (append-nil calls))
+            ∙ (all-looked-up h n texts searches said (λ more. Says more (Ends script_state)) [] first.read then.said_are
+            ∙ (λ i. record { registry = append-nil calls i; board = []; answers = append-nil said i; after = Some script_state }));
         asked = asked;
         called = called-nothing b;
         ends = refl;
         says = e;
-        stands = stands-more walk.lives walk.lives (known before) (known after) calls stands asked (λ id. ap (λ c. c + uses id walk.lives) (no-references id h searches));
+        stands = stands-more script_state.lives script_state.lives (known before) (known after) calls stands asked (λ id. ap (λ c. c + uses id script_state.lives) (no-references id h searches));
         posted = posted;
       }
 
   -- ---- the arm of a session
 
-  probe-at : {S : Type 0} → (r r1 r2 : Option RegPass) (ws : ℕ) (walk : Walk) (b : Option BoardPass) (result : Result (Unit {0}) S) (n : ℕ) (texts : List (List ℕ)) (searches : List Searched) (answers answers' : List Answer) → Stands walk.lives (known r)
-      → Posted walk (known b) → LooksFirst r r1 texts searches → MatchResult result (λ _. (said : List Answer) × (answers' ≡ answers ++ said) × SettlesThen r1 r2 n searches said) (λ _. Builds r1 r2)
-      → MatchResult result (λ _. HoldsBy (length texts) (probe walk n texts) (record { workers = ws; walk = walk; registry = r; board = b }) (record { workers = ws; walk = walk; registry = r2; board = b }) answers answers')
-      (λ _. StopsIn (probe walk n texts) (record { workers = ws; walk = walk; registry = r; board = b }) (record { workers = ws; walk = walk; registry = r2; board = b }))
-  probe-at r r1 r2 ws walk b (Ok done) n texts searches answers answers' stands posted first then = record {
+  probe-at : {S : Type 0} → (r r1 r2 : Option RegPass) (ws : ℕ) (script_state : ScriptState) (b : Option BoardPass) (result : Result (Unit {0}) S) (n : ℕ) (texts : List (List ℕ)) (searches : List Searched) (answers answers' : List Answer) → ReferencesMatch script_state.lives (known r)
+      → PipelinesMatch script_state (known b) → LooksFirst r r1 texts searches → MatchResult result (λ _. (said : List Answer) × (answers' ≡ answers ++ said) × SettlesThen r1 r2 n searches said) (λ _. Builds r1 r2)
+      → MatchResult result (λ _. PerformsBy (length texts) (probe script_state n texts) (record { workers = ws; script_state = script_state; registry = r; board = b }) (record { workers = ws; script_state = script_state; registry = r2; board = b }) answers answers')
+      (λ _. StopsIn (probe script_state n texts) (record { workers = ws; script_state = script_state; registry = r; board = b }) (record { workers = ws; script_state = script_state; registry = r2; board = b }))
+  probe-at r r1 r2 ws script_state b (Ok done) n texts searches answers answers' stands posted first then = record {
     locks = record { registry = then.2.goes.lock ∙ first.goes.lock; board = refl; workers = refl; shared = refl };
     wide = λ wide. wide;
-    done = probe-done walk (known b) n texts searches then.0 answers answers' stands posted first then.2 then.1;
+    done = probe-done script_state (known b) n texts searches then.0 answers answers' stands posted first then.2 then.1;
   }
-  probe-at r r1 r2 ws walk b (Err stop) n texts searches answers answers' stands posted first builds =
+  probe-at r r1 r2 ws script_state b (Err stop) n texts searches answers answers' stands posted first builds =
       let looks = look_entries (known r).number searches in
-      probe-stops r r2 ws walk b n (length texts) texts searches builds.work stands (subst (λ ts. AreRead ts searches) (sym (take-length texts)) first.read)
+      probe-stops r r2 ws script_state b n (length texts) texts searches builds.work stands (subst (λ ts. AreRead ts searches) (sym (take-length texts)) first.read)
       (goes-further looks builds.work first.goes builds.goes) builds.all_work
 
   pub probe-arm : {S : Type 0} {ws c : ℕ} {sh lives : List Live} {q v : ℕ} {r : Option RegPass} {b : Option BoardPass} → (s : State) (view : viewed ws c sh lives q v r b ≡ s) (r1 r2 : Option RegPass) (result : Result (Unit {0}) S) (n : ℕ) (texts : List (List ℕ)) (searches : List Searched) (answers answers' : List Answer)
-      → Stands s.walk.lives (known s.registry) → Posted s.walk (known s.board) → LooksFirst r r1 texts searches → MatchResult result (λ _. (said : List Answer) × (answers' ≡ answers ++ said) × SettlesThen r1 r2 n searches said) (λ _. Builds r1 r2)
-      → MatchResult result (λ _. HoldsBy (length texts) (probe s.walk n texts) s (viewed ws c sh lives q v r2 b) answers answers') (λ _. StopsIn (probe s.walk n texts) s (viewed ws c sh lives q v r2 b))
+      → ReferencesMatch s.script_state.lives (known s.registry) → PipelinesMatch s.script_state (known s.board) → LooksFirst r r1 texts searches → MatchResult result (λ _. (said : List Answer) × (answers' ≡ answers ++ said) × SettlesThen r1 r2 n searches said) (λ _. Builds r1 r2)
+      → MatchResult result (λ _. PerformsBy (length texts) (probe s.script_state n texts) s (viewed ws c sh lives q v r2 b) answers answers') (λ _. StopsIn (probe s.script_state n texts) s (viewed ws c sh lives q v r2 b))
   probe-arm {S} {ws} {c} {sh} {lives} {q} {v} {r} {b} s view r1 r2 result n texts searches answers answers' stands posted first then =
-      subst (λ (x : State). Stands x.walk.lives (known x.registry) → Posted x.walk (known x.board)
-      → MatchResult result (λ _. HoldsBy (length texts) (probe x.walk n texts) x (viewed ws c sh lives q v r2 b) answers answers') (λ _. StopsIn (probe x.walk n texts) x (viewed ws c sh lives q v r2 b))) view
+      subst (λ (x : State). ReferencesMatch x.script_state.lives (known x.registry) → PipelinesMatch x.script_state (known x.board)
+      → MatchResult result (λ _. PerformsBy (length texts) (probe x.script_state n texts) x (viewed ws c sh lives q v r2 b) answers answers') (λ _. StopsIn (probe x.script_state n texts) x (viewed ws c sh lives q v r2 b))) view
       (λ st po. probe-at r r1 r2 ws (record { client = c; shared = sh; lives = lives; requests = q; bytes = v }) b result n texts searches answers answers' st po first then) stands posted

@@ -20,7 +20,7 @@ use Rattle.reply_text.specs.declared.answers.Answer.{Answer}
 use Rattle.reply_text.specs.declared.answers.Answer.TheVariants as said
 use Rattle.reply_text.specs.declared.origin.Origin.{Origin}
 use Rattle.reply_text.specs.Origins.{origin_word}
-use Rattle.session_calls.specs.Bounds.{callback_length, AreWithin}
+use Rattle.recorded_calls.specs.Bounds.{callback_length, AreWithin}
 use Rattle.script_session.specs.Saying.{callback_room, collected_said}
 use Rattle.script_session.specs.Telling.{callback_said}
 

@@ -10,17 +10,17 @@ use Rattle.dialogues.proofs.Taking.{AllSettled-append}
 use Rattle.dialogues.specs.BoardCalls.{board_calls}
 use Rattle.dialogues.specs.Dialogues.{Dialogue, Ends, Says, Asks, Posts}
 use Rattle.dialogues.specs.Questions.{RegQuestion, Enlist, Look, Unlist, Get, Put, Count, ListAll, RegAnswer, reg_call, reg_answer, BoardQuestion, Create, Submit, Enqueue, Hold, Go, Poll, Drain, Close, Share, Mask, Shut, BoardAnswer, board_call, board_answer}
-use Rattle.dialogues.specs.Turns.{Turn, ended, broken, saying, asking, posting, turn_of}
-use Rattle.dialogues.specs.Walk.{Walk}
+use Rattle.dialogues.specs.Transcripts.{Transcript, ended, broken, saying, asking, posting, transcript_of}
+use Rattle.dialogues.specs.ScriptState.{ScriptState}
 use Rattle.dialogues.specs.InTurn.{AreInTurnBy, AreCalls}
 use Rattle.dialogues.proofs.Taking.{no_call}
 use Rattle.dialogues.proofs.Grouping.{in_turn-by, by-after}
-use Rattle.session_calls.specs.Asking.{IsCaller}
-use Rattle.session_calls.proofs.Boarding.{starts-same, called-more}
-use Rattle.script_session.specs.States.{Stands, Posted}
-use Rattle.session_calls.specs.Asking.{Asked}
-use Rattle.session_calls.specs.Pipelines.{Called}
-use Rattle.script_session.specs.Holding.{Done}
+use Rattle.recorded_calls.specs.Asking.{IsCaller}
+use Rattle.recorded_calls.proofs.Boarding.{starts-same, called-more}
+use Rattle.script_session.specs.States.{ReferencesMatch, PipelinesMatch}
+use Rattle.recorded_calls.specs.Asking.{Asked}
+use Rattle.recorded_calls.specs.Pipelines.{Called}
+use Rattle.script_session.specs.Performing.{Done}
 
 -- ---- what is known goes on
 
@@ -89,7 +89,7 @@ board_answer-itself Shut answer = refl
 -- ---- the rules
 
 -- it ends with answers
-pub says-done : (k : Known RegEntry) (b : Known (BoardEntry Ask)) (after : Walk) (said answers answers' : List Answer) → Stands after.lives k → Posted after b → answers' ≡ answers ++ said
+pub says-done : (k : Known RegEntry) (b : Known (BoardEntry Ask)) (after : ScriptState) (said answers answers' : List Answer) → ReferencesMatch after.lives k → PipelinesMatch after b → answers' ≡ answers ++ said
     → Done (Says said (Ends after)) k b k b after answers answers'
 says-done k b after said answers answers' stands posted e =
     record {
@@ -104,14 +104,14 @@ says-done k b after said answers answers' stands posted e =
     }
 
 -- it asks the registry, and goes on by the answer
-pub asks-done : (k l k' : Known RegEntry) (b b' : Known (BoardEntry Ask)) (question : RegQuestion) (answer : RegAnswer question) (next : RegAnswer question → Dialogue) (after : Walk) (answers answers' : List Answer)
+pub asks-done : (k l k' : Known RegEntry) (b b' : Known (BoardEntry Ask)) (question : RegQuestion) (answer : RegAnswer question) (next : RegAnswer question → Dialogue) (after : ScriptState) (answers answers' : List Answer)
     → Asked k l (reg_call question answer ∷ []) → Done (next answer) l b k' b' after answers answers' → Done (Asks question next) k b k' b' after answers answers'
 asks-done k l k' b b' question answer next after answers answers' asked done =
     let call = reg_call question answer in
     record {
       turn = asking call done.turn;
       is =
-          ap (λ o. elim o as (λ _. Turn) [ Some a ↦ asking (reg_call question a) (turn_of (next a) done.turn.registry done.turn.board) | None ↦ broken ]) (reg_answer-itself question answer)
+          ap (λ o. elim o as (λ _. Transcript) [ Some a ↦ asking (reg_call question a) (transcript_of (next a) done.turn.registry done.turn.board) | None ↦ broken ]) (reg_answer-itself question answer)
           ∙ ap (asking call) done.is;
       asked = asked-more k l k' (call ∷ []) done.turn.registry asked done.asked;
       called = done.called;
@@ -122,14 +122,14 @@ asks-done k l k' b b' question answer next after answers answers' asked done =
     }
 
 -- it asks the board, and goes on by the answer
-pub posts-done : (k k' : Known RegEntry) (b c b' : Known (BoardEntry Ask)) (question : BoardQuestion) (answer : BoardAnswer question) (next : BoardAnswer question → Dialogue) (after : Walk) (answers answers' : List Answer)
+pub posts-done : (k k' : Known RegEntry) (b c b' : Known (BoardEntry Ask)) (question : BoardQuestion) (answer : BoardAnswer question) (next : BoardAnswer question → Dialogue) (after : ScriptState) (answers answers' : List Answer)
     → Called b c (board_call question answer ∷ []) → Done (next answer) k c k' b' after answers answers' → Done (Posts question next) k b k' b' after answers answers'
 posts-done k k' b c b' question answer next after answers answers' called done =
     let call = board_call question answer in
     record {
       turn = posting call done.turn;
       is =
-          ap (λ o. elim o as (λ _. Turn) [ Some a ↦ posting (board_call question a) (turn_of (next a) done.turn.registry done.turn.board) | None ↦ broken ]) (board_answer-itself question answer)
+          ap (λ o. elim o as (λ _. Transcript) [ Some a ↦ posting (board_call question a) (transcript_of (next a) done.turn.registry done.turn.board) | None ↦ broken ]) (board_answer-itself question answer)
           ∙ ap (posting call) done.is;
       asked = done.asked;
       called = called-more b c b' (call ∷ []) done.turn.board called done.called;

@@ -1,4 +1,4 @@
--- Lines, and the end of input, whose text goes straight into a reply.
+-- RequestLines, and the end of input, whose text goes straight into a reply.
 use Rattle.std.proofs.Common.{◌≡◌, ℕ, ◌+◌, ◌<◌, ◌≤◌, Bool, true, false, List, [], ◌∷◌, ◌++◌, length, map, Some, Result, Ok, Err, OnOk, refl, sym, ap, ◌∙◌, append-nil, append_assoc, slice_index_or}
 use Rattle.std.specs.Prelude.{◌==◌, ◌&&◌, if◌then◌else◌, filter, OnErr, MatchResult}
 use Rattle.std.specs.List.{flat_map}
@@ -24,16 +24,16 @@ use Rattle.turn_lock.specs.Turns.{Known}
 use Rattle.dialogues.specs.BoardCalls.{Goes, Collects}
 use Rattle.dialogues.specs.Dialogues.{Dialogue, says}
 use Rattle.dialogues.specs.Piping.{drains_at_end, drain_all, notice_said, end_said}
-use Rattle.dialogues.specs.Walk.{Walk, Live, Pipe, live_of}
-use Rattle.session_calls.specs.Bounds.{AreWithin}
-use Rattle.session_calls.specs.Passes.{known}
-use Rattle.session_calls.specs.Pipelines.{Called, Changed, Kept, Polled, Drained, notice_by}
-use Rattle.session_calls.proofs.Boarding.{kept-same, called-more}
-use Rattle.script_session.specs.Ending.{Moves, ArePosted}
-use Rattle.script_session.specs.Holding.{Holds}
+use Rattle.dialogues.specs.ScriptState.{ScriptState, Live, PipelineState, live_of}
+use Rattle.recorded_calls.specs.Bounds.{AreWithin}
+use Rattle.recorded_calls.specs.Passes.{known}
+use Rattle.recorded_calls.specs.Pipelines.{Called, Changed, Unchanged, Polled, Drained, notice_by}
+use Rattle.recorded_calls.proofs.Boarding.{kept-same, called-more}
+use Rattle.script_session.specs.Ending.{Moves, PipelinesMatchState}
+use Rattle.script_session.specs.Performing.{Performs}
 use Rattle.script_session.specs.Keyed.{delivering}
 use Rattle.script_session.specs.Saying.{SaysFor, BreaksFor, SaysBy, BreaksOff, SaysMove, SaysMoves, is_told, call_says, Tells, SaysTold, collects, collected_said, Collected}
-use Rattle.script_session.specs.States.{State, HasPipe, Stands, Posted}
+use Rattle.script_session.specs.States.{State, HasPipe, ReferencesMatch, PipelinesMatch}
 use Rattle.script_session.specs.Telling.{callback_said}
 use Rattle.script_session.proofs.Breaking.{stops-none}
 use Rattle.script_session.proofs.Ended.{drains-last}
@@ -43,7 +43,7 @@ use Rattle.script_session.proofs.Piped.{says-for, said-is, collect-holds}
 use Rattle.script_session.proofs.Rooms.{flat-one, flat-more}
 
 -- it says what is left to say, or memory is wanting and it says nothing
-pub or-breaks : {S A : Type 0} (result : Result A S) {Says Unsaid Holds Breaks : Type 0} → OnOk result Says → OnErr result Unsaid → (Says → Holds) → (Unsaid → Breaks) → MatchResult result (λ _. Holds) (λ _. Breaks)
+pub or-breaks : {S A : Type 0} (result : Result A S) {Says Unsaid Performs Breaks : Type 0} → OnOk result Says → OnErr result Unsaid → (Says → Performs) → (Unsaid → Breaks) → MatchResult result (λ _. Performs) (λ _. Breaks)
 or-breaks (Ok done) says unsaid holds breaks = holds says
 or-breaks (Err stop) says unsaid holds breaks = breaks unsaid
 
@@ -54,13 +54,13 @@ on-err (Err stop) p = p
 pub breaks-same : (k : Known (BoardEntry Ask)) (text text' : List ℕ) → LegalBoard k.seen → text' ≡ text → BreaksFor k k text text'
 breaks-same k text text' legal e = record { called = (kept-same k legal).called; unshut = λ zero_is. refl; says = e }
 
-pub breaks-kept : (k l : Known (BoardEntry Ask)) (text text' : List ℕ) → Kept k l → text' ≡ text → BreaksFor k l text text'
+pub breaks-kept : (k l : Known (BoardEntry Ask)) (text text' : List ℕ) → Unchanged k l → text' ≡ text → BreaksFor k l text text'
 breaks-kept k l text text' kept e = record { called = kept.called; unshut = kept.unshut; says = e }
 
 -- ---- one answer
 
-pub one-says : (d : Walk → Dialogue) (live : Live) (k : Known (BoardEntry Ask)) (answer : Answer) (text text' : List ℕ) → HasPipe k live.pipe → LegalBoard k.seen
-    → ((walk : Walk) → live_of walk live.label ≡ Some live → Posted walk k → d walk ≡ says walk answer) → text' ≡ text ++ text_of answer → SaysFor d live live k k text text'
+pub one-says : (d : ScriptState → Dialogue) (live : Live) (k : Known (BoardEntry Ask)) (answer : Answer) (text text' : List ℕ) → HasPipe k live.pipe → LegalBoard k.seen
+    → ((script_state : ScriptState) → live_of script_state live.label ≡ Some live → PipelinesMatch script_state k → d script_state ≡ says script_state answer) → text' ≡ text ++ text_of answer → SaysFor d live live k k text text'
 one-says d live k answer text text' on legal is e =
     record { said = answer ∷ []; held = says-for d live k answer [] (answer ∷ []) on legal is refl; says = e ∙ ap (λ x. text ++ x) (sym (flat-one answer)) }
 
@@ -74,10 +74,10 @@ told-text lines callbacks answer text a b c first middle last =
     ∙ (ap (λ x. x ++ text_of answer) (middle ∙ ap (λ x. x ++ flat_map text_of told) first)
     ∙ (append_assoc text (flat_map text_of told) (text_of answer) ∙ ap (λ x. text ++ x) (sym (flat-more told answer))))
 
-pub collect-says : (waits : Bool) (k l : Known (BoardEntry Ask)) (live live' : Live) (pipe : Pipe) (n count : ℕ) (callbacks : List (Callback Finished)) (all : Bool) (text a b text' : List ℕ)
+pub collect-says : (waits : Bool) (k l : Known (BoardEntry Ask)) (live live' : Live) (pipe : PipelineState) (n count : ℕ) (callbacks : List (Callback Finished)) (all : Bool) (text a b text' : List ℕ)
     → live.pipe ≡ Some pipe → (waits && pipe.held) ≡ false → (waits ≡ true → all ≡ true) → Polled k l pipe callbacks all → count ≡ completions callbacks → live' ≡ delivering live count
     → a ≡ text → b ≡ a ++ flat_map text_of (map (callback_said pipe.lines) callbacks) → text' ≡ b ++ text_of (collected_said n waits count)
-    → SaysFor (λ walk. collects waits walk n live.label) live live' k l text text'
+    → SaysFor (λ script_state. collects waits script_state n live.label) live live' k l text text'
 collect-says waits k l live live' pipe n count callbacks all text a b text' has free whole polled counts live_is first middle last =
     let answers : List Answer = map (callback_said pipe.lines) callbacks ++ collected_said n waits count ∷ [] in
     record {
@@ -87,22 +87,22 @@ collect-says waits k l live live' pipe n count callbacks all text a b text' has 
     }
 
 -- what a poll collects, and what a drain does
-pub polled-collected : {A : Type 0} (result : Result A BoardErr) (waits : Bool) (k l : Known (BoardEntry Ask)) (pipe : Pipe) (had has : List (Callback Finished)) → waits ≡ false
-    → MatchResult result (λ _. (callbacks : List (Callback Finished)) × (all : Bool) × (has ≡ had ++ callbacks) × Polled k l pipe callbacks all × AreWithin (length pipe.lines) (accepted_by k.number k.seen) callbacks) (λ e. (e ≡ board_err.Memory) × (has ≡ had) × Kept k l)
-    → MatchResult result (λ _. Collected waits k l pipe had has) (λ _. Kept k l)
+pub polled-collected : {A : Type 0} (result : Result A BoardErr) (waits : Bool) (k l : Known (BoardEntry Ask)) (pipe : PipelineState) (had has : List (Callback Finished)) → waits ≡ false
+    → MatchResult result (λ _. (callbacks : List (Callback Finished)) × (all : Bool) × (has ≡ had ++ callbacks) × Polled k l pipe callbacks all × AreWithin (length pipe.lines) (accepted_by k.number k.seen) callbacks) (λ e. (e ≡ board_err.Memory) × (has ≡ had) × Unchanged k l)
+    → MatchResult result (λ _. Collected waits k l pipe had has) (λ _. Unchanged k l)
 polled-collected (Ok done) waits k l pipe had has off d =
     record { callbacks = d.0; all = d.1; whole = λ yes. absurd (let both : true ≡ false = sym yes ∙ off in cc); added = d.2; polled = d.3; within = d.4 }
 polled-collected (Err e) waits k l pipe had has off kept = kept.2
 
-pub drained-collected : {A : Type 0} (result : Result A BoardErr) (waits : Bool) (k l : Known (BoardEntry Ask)) (pipe : Pipe) (had has : List (Callback Finished))
-    → MatchResult result (λ _. (callbacks : List (Callback Finished)) × (has ≡ had ++ callbacks) × Drained k l pipe callbacks × (pipe.delivered + completions callbacks ≡ length pipe.lines) × AreWithin (length pipe.lines) (accepted_by k.number k.seen) callbacks) (λ e. (e ≡ board_err.Memory) × (has ≡ had) × Kept k l)
-    → MatchResult result (λ _. Collected waits k l pipe had has) (λ _. Kept k l)
+pub drained-collected : {A : Type 0} (result : Result A BoardErr) (waits : Bool) (k l : Known (BoardEntry Ask)) (pipe : PipelineState) (had has : List (Callback Finished))
+    → MatchResult result (λ _. (callbacks : List (Callback Finished)) × (has ≡ had ++ callbacks) × Drained k l pipe callbacks × (pipe.delivered + completions callbacks ≡ length pipe.lines) × AreWithin (length pipe.lines) (accepted_by k.number k.seen) callbacks) (λ e. (e ≡ board_err.Memory) × (has ≡ had) × Unchanged k l)
+    → MatchResult result (λ _. Collected waits k l pipe had has) (λ _. Unchanged k l)
 drained-collected (Ok done) waits k l pipe had has d = record { callbacks = d.0; all = true; whole = λ yes. refl; added = d.1; polled = d.2; within = d.4 }
 drained-collected (Err e) waits k l pipe had has kept = kept.2
 
 -- ---- the last drain
 
-pub last-says : (k l : Known (BoardEntry Ask)) (live live' : Live) (pipe : Pipe) (count : ℕ) (callbacks : List (Callback Finished)) (text a b text' : List ℕ)
+pub last-says : (k l : Known (BoardEntry Ask)) (live live' : Live) (pipe : PipelineState) (count : ℕ) (callbacks : List (Callback Finished)) (text a b text' : List ℕ)
     → live.pipe ≡ Some pipe → Drained k l pipe callbacks → count ≡ completions callbacks → live' ≡ delivering live count
     → a ≡ text → b ≡ a ++ flat_map text_of (map (callback_said pipe.lines) callbacks) → text' ≡ b ++ flat_map text_of (end_said live.label count)
     → SaysMove (drains_at_end live.label live.pipe) live live' k l text text'
@@ -126,7 +126,7 @@ last-stays live k text text' moves e = record { said = []; moves = moves; says =
 pub tells-nothing : (k l : Known (BoardEntry Ask)) → Called k l [] → Tells k l []
 tells-nothing k l called = record { calls = []; called = called; whole = refl }
 
-pub tells-go : (k l : Known (BoardEntry Ask)) (pipe pipe' : Pipe) → Changed k l pipe pipe' (Goes pipe.number ∷ []) [] → Tells k l []
+pub tells-go : (k l : Known (BoardEntry Ask)) (pipe pipe' : PipelineState) → Changed k l pipe pipe' (Goes pipe.number ∷ []) [] → Tells k l []
 tells-go k l pipe pipe' changed = record { calls = Goes pipe.number ∷ []; called = changed.called; whole = refl }
 
 all-told : (lines : List Origin) (callbacks : List (Callback Finished)) → filter is_told (map (callback_said lines) callbacks) ≡ map (callback_said lines) callbacks
@@ -140,7 +140,7 @@ end-untold : (label : List ℕ) (count : ℕ) (none : Bool) → filter is_told (
 end-untold label count true = refl
 end-untold label count false = refl
 
-pub tells-last : (k l : Known (BoardEntry Ask)) (pipe : Pipe) (label : List ℕ) (count : ℕ) (callbacks : List (Callback Finished)) → Drained k l pipe callbacks
+pub tells-last : (k l : Known (BoardEntry Ask)) (pipe : PipelineState) (label : List ℕ) (count : ℕ) (callbacks : List (Callback Finished)) → Drained k l pipe callbacks
     → Tells k l (map (callback_said pipe.lines) callbacks ++ end_said label count)
 tells-last k l pipe label count callbacks drained =
     let told : List Answer = map (callback_said pipe.lines) callbacks in
@@ -167,7 +167,7 @@ tells-more k l m before after first later =
 pub told-nothing : (k l : Known (BoardEntry Ask)) (text text' : List ℕ) → Called k l [] → text' ≡ text → SaysTold k l text text'
 told-nothing k l text text' called e = record { said = []; tells = tells-nothing k l called; says = e ∙ sym (append-nil text) }
 
-pub told-last : (k l : Known (BoardEntry Ask)) (pipe : Pipe) (label : List ℕ) (count : ℕ) (callbacks : List (Callback Finished)) (text a b text' : List ℕ) → Drained k l pipe callbacks
+pub told-last : (k l : Known (BoardEntry Ask)) (pipe : PipelineState) (label : List ℕ) (count : ℕ) (callbacks : List (Callback Finished)) (text a b text' : List ℕ) → Drained k l pipe callbacks
     → a ≡ text → b ≡ a ++ flat_map text_of (map (callback_said pipe.lines) callbacks) → text' ≡ b ++ flat_map text_of (end_said label count) → SaysTold k l text text'
 told-last k l pipe label count callbacks text a b text' drained first middle last =
     let told : List Answer = map (callback_said pipe.lines) callbacks in
@@ -201,7 +201,7 @@ told-after k l m text text' first later = record { said = later.said; tells = te
 
 -- ---- a session's states
 
-pub says-by : (d : Dialogue) (s s' : State) (answer : Answer) (text text' : List ℕ) → Holds d s s' [] (answer ∷ []) → text' ≡ text ++ text_of answer → SaysBy 1 d s s' text text'
+pub says-by : (d : Dialogue) (s s' : State) (answer : Answer) (text text' : List ℕ) → Performs d s s' [] (answer ∷ []) → text' ≡ text ++ text_of answer → SaysBy 1 d s s' text text'
 says-by d s s' answer text text' held e = record { said = answer ∷ []; held = held; says = e ∙ ap (λ x. text ++ x) (sym (flat-one answer)) }
 
 -- ---- a loop over all transforms
@@ -213,7 +213,7 @@ pub record SaidSoFar (i : ℕ) (lives now : List Live) (k l : Known (BoardEntry 
   pub says : text' ≡ text ++ flat_map text_of said
   pub told : SaysTold k l text text'
 
-pub says-out : (lives : List Live) (k : Known (BoardEntry Ask)) (text : List ℕ) → ArePosted lives k → LegalBoard k.seen → SaidSoFar 0 lives lives k k text text
+pub says-out : (lives : List Live) (k : Known (BoardEntry Ask)) (text : List ℕ) → PipelinesMatchState lives k → LegalBoard k.seen → SaidSoFar 0 lives lives k k text text
 says-out lives k text are legal =
     record {
       said = [];
@@ -246,5 +246,5 @@ pub says-all : (i : ℕ) (lives now : List Live) (k l : Known (BoardEntry Ask)) 
 says-all i lives now k l text text' saying past =
     record { said = saying.said; moves = all-moved drain_all i lives now k l [] saying.said saying.way past; says = saying.says }
 
-pub breaks-off_same : (d : Dialogue) (s : State) (text text' : List ℕ) → Stands s.walk.lives (known s.registry) → Posted s.walk (known s.board) → text' ≡ text → BreaksOff d s s text text'
+pub breaks-off_same : (d : Dialogue) (s : State) (text text' : List ℕ) → ReferencesMatch s.script_state.lives (known s.registry) → PipelinesMatch s.script_state (known s.board) → text' ≡ text → BreaksOff d s s text text'
 breaks-off_same d s text text' stands posted e = record { stops = stops-none d s stands; called = (kept-same (known s.board) posted.legal).called; says = e }

@@ -19,8 +19,8 @@ use Rattle.dialogues.specs.Questions.{Look}
 use Rattle.dialogues.proofs.First.{begins-none, begins-asks}
 use Rattle.dialogues.specs.References.{got, given}
 use Rattle.dialogues.specs.RegistryCalls.{RegCall, Looks, reg_call_of, reg_calls_from, prepend, AllSettled}
-use Rattle.session_calls.specs.Looking.{Sought}
-use Rattle.session_calls.proofs.Asking.{own}
+use Rattle.recorded_calls.specs.Looking.{Sought}
+use Rattle.recorded_calls.proofs.Asking.{own}
 use Rattle.script_session.specs.Probing.{Searched, IsRead, AreRead, entry_of, look_entries, comes_to, AreSaid}
 
 -- ---- the calls that searches are

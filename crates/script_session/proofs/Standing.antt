@@ -4,9 +4,9 @@ use Rattle.alg_registry.specs.declared.entry.RegEntry.{RegEntry}
 use Rattle.turn_lock.specs.Turns.{Known}
 use Rattle.dialogues.specs.References.{got, given}
 use Rattle.dialogues.specs.RegistryCalls.{RegCall, reg_calls}
-use Rattle.dialogues.specs.Walk.{Live}
-use Rattle.session_calls.specs.Asking.{AskedBy, HasReferenceOf}
-use Rattle.script_session.specs.States.{Stands, uses}
+use Rattle.dialogues.specs.ScriptState.{Live}
+use Rattle.recorded_calls.specs.Asking.{AskedBy, HasReferenceOf}
+use Rattle.script_session.specs.States.{ReferencesMatch, uses}
 use Rattle.script_session.proofs.Placed.{Split, uses-removed}
 
 got-append : (id : ℕ) (a b : List RegCall) → got id (a ++ b) ≡ got id a + got id b
@@ -18,8 +18,8 @@ given-append id [] b = omega arith
 given-append id (call ∷ a) b = let h = given-append id a b in omega (arith, h)
 
 -- it is so again after calls by which references and live transforms change alike
-pub stands-more : {width : ℕ} → (lives lives' : List Live) (k l : Known RegEntry) (calls : List RegCall) → Stands lives k → AskedBy width k l calls
-    → ((id : ℕ) → got id calls + uses id lives ≡ given id calls + uses id lives') → Stands lives' l
+pub stands-more : {width : ℕ} → (lives lives' : List Live) (k l : Known RegEntry) (calls : List RegCall) → ReferencesMatch lives k → AskedBy width k l calls
+    → ((id : ℕ) → got id calls + uses id lives ≡ given id calls + uses id lives') → ReferencesMatch lives' l
 stands-more {width} lives lives' k l calls stands asked balanced =
     let before = reg_calls k.number k.seen in
     let are : reg_calls l.number l.seen ≡ before ++ calls = ap (λ n. reg_calls n l.seen) asked.number ∙ asked.are.calls_are in
@@ -37,7 +37,7 @@ stands-more {width} lives lives' k l calls stands asked balanced =
     }
 
 -- a reference of a live transform may be given back
-pub may-give : (label : List ℕ) (lives : List Live) (place : ℕ) (s : Split label lives 0 place) (k : Known RegEntry) → Stands lives k → HasReferenceOf k s.live.id
+pub may-give : (label : List ℕ) (lives : List Live) (place : ℕ) (s : Split label lives 0 place) (k : Known RegEntry) → ReferencesMatch lives k → HasReferenceOf k s.live.id
 may-give label lives place s k stands =
     let id = s.live.id in
     let c = stands.referenced id in

@@ -11,24 +11,24 @@ use Rattle.dialogues.specs.BoardCalls.{BoardCall}
 use Rattle.dialogues.specs.Dialogues.{Dialogue}
 use Rattle.dialogues.specs.First.{AreFurther, BeginsBy}
 use Rattle.dialogues.specs.RegistryCalls.{reg_calls}
-use Rattle.dialogues.specs.Turns.{Turn}
-use Rattle.dialogues.specs.Walk.{Walk, Live}
+use Rattle.dialogues.specs.Transcripts.{Transcript}
+use Rattle.dialogues.specs.ScriptState.{ScriptState, Live}
 use Rattle.dialogues.proofs.First.{begins-none, begins-turn}
-use Rattle.session_calls.specs.Passes.{known}
-use Rattle.session_calls.specs.Pipelines.{Called, Kept}
-use Rattle.session_calls.proofs.Boarding.{called-more, starts-same}
-use Rattle.script_session.specs.Changing.{HoldsFor, StopsFor}
+use Rattle.recorded_calls.specs.Passes.{known}
+use Rattle.recorded_calls.specs.Pipelines.{Called, Unchanged}
+use Rattle.recorded_calls.proofs.Boarding.{called-more, starts-same}
+use Rattle.script_session.specs.Changing.{PerformsFor, StopsFor}
 use Rattle.script_session.specs.Ending.{LeadsBy, Moves, StopsMoving}
-use Rattle.script_session.specs.Holding.{HasSeenMore, StopsIn}
+use Rattle.script_session.specs.Performing.{HasSeenMore, StopsIn}
 use Rattle.script_session.specs.Sharing.{GivesFor, StopsGiving}
-use Rattle.script_session.specs.States.{State, SameLocks, Stands}
+use Rattle.script_session.specs.States.{State, SameLocks, ReferencesMatch}
 use Rattle.script_session.proofs.Arms.{called-sees}
 use Rattle.script_session.proofs.Rules.{called-nothing}
 
 -- ---- a session's states
 
 -- the registry wasn't asked
-pub board-stops : (d : Dialogue) (s s' : State) (calls : List BoardCall) → SameLocks s s' → s'.registry ≡ s.registry → Stands s.walk.lives (known s.registry) → Called (known s.board) (known s'.board) calls
+pub board-stops : (d : Dialogue) (s s' : State) (calls : List BoardCall) → SameLocks s s' → s'.registry ≡ s.registry → ReferencesMatch s.script_state.lives (known s.registry) → Called (known s.board) (known s'.board) calls
     → ((known s.board).number ≡ 0 → is_shut (known s'.board).seen ≡ is_shut (known s.board).seen) → BeginsBy d [] calls → StopsIn d s s'
 board-stops d s s' calls locks same stands called unshut begins =
     let k = known s.registry in
@@ -49,31 +49,31 @@ board-stops d s s' calls locks same stands called unshut begins =
 
 -- ---- one transform
 
-pub for-uncalled : (d : Walk → Dialogue) (live : Live) (k l : Known (BoardEntry Ask)) → Called k l [] → (k.number ≡ 0 → is_shut l.seen ≡ is_shut k.seen) → StopsFor d live k l
-for-uncalled d live k l called unshut = record { calls = []; called = called; unshut = unshut; begins = λ walk found posted. begins-none (d walk) }
+pub for-uncalled : (d : ScriptState → Dialogue) (live : Live) (k l : Known (BoardEntry Ask)) → Called k l [] → (k.number ≡ 0 → is_shut l.seen ≡ is_shut k.seen) → StopsFor d live k l
+for-uncalled d live k l called unshut = record { calls = []; called = called; unshut = unshut; begins = λ script_state found posted. begins-none (d script_state) }
 
-pub for-nothing : (d : Walk → Dialogue) (live : Live) (k : Known (BoardEntry Ask)) → StopsFor d live k k
+pub for-nothing : (d : ScriptState → Dialogue) (live : Live) (k : Known (BoardEntry Ask)) → StopsFor d live k k
 for-nothing d live k = for-uncalled d live k k (called-nothing k) (λ zero_is. refl)
 
-pub for-kept : (d : Walk → Dialogue) (live : Live) (k l : Known (BoardEntry Ask)) → Kept k l → StopsFor d live k l
+pub for-kept : (d : ScriptState → Dialogue) (live : Live) (k l : Known (BoardEntry Ask)) → Unchanged k l → StopsFor d live k l
 for-kept d live k l kept = for-uncalled d live k l kept.called kept.unshut
 
 -- the dialogue was held but for its answer
-pub for-held : (d : Walk → Dialogue) (live live' : Live) (k l : Known (BoardEntry Ask)) (asks : List Ask) (answers answers' : List Answer) → HoldsFor d live live' k l asks answers answers' → StopsFor d live k l
+pub for-held : (d : ScriptState → Dialogue) (live live' : Live) (k l : Known (BoardEntry Ask)) (asks : List Ask) (answers answers' : List Answer) → PerformsFor d live live' k l asks answers answers' → StopsFor d live k l
 for-held d live live' k l asks answers answers' held =
-    record { calls = held.calls; called = held.changes.called; unshut = held.changes.unshut; begins = λ walk found posted. begins-turn (d walk) _ (held.is walk found posted) tt }
+    record { calls = held.calls; called = held.changes.called; unshut = held.changes.unshut; begins = λ script_state found posted. begins-turn (d script_state) _ (held.is script_state found posted) tt }
 
 -- ---- a transform that is shared
 
-pub giving-nothing : (d : Walk → Dialogue) (live : Live) (k : Known (BoardEntry Ask)) → StopsGiving d live k k
-giving-nothing d live k = record { calls = []; called = called-nothing k; unshut = λ zero_is. refl; begins = λ walk none posted. begins-none (d walk) }
+pub giving-nothing : (d : ScriptState → Dialogue) (live : Live) (k : Known (BoardEntry Ask)) → StopsGiving d live k k
+giving-nothing d live k = record { calls = []; called = called-nothing k; unshut = λ zero_is. refl; begins = λ script_state none posted. begins-none (d script_state) }
 
-pub giving-kept : (d : Walk → Dialogue) (live : Live) (k l : Known (BoardEntry Ask)) → Kept k l → StopsGiving d live k l
-giving-kept d live k l kept = record { calls = []; called = kept.called; unshut = kept.unshut; begins = λ walk none posted. begins-none (d walk) }
+pub giving-kept : (d : ScriptState → Dialogue) (live : Live) (k l : Known (BoardEntry Ask)) → Unchanged k l → StopsGiving d live k l
+giving-kept d live k l kept = record { calls = []; called = kept.called; unshut = kept.unshut; begins = λ script_state none posted. begins-none (d script_state) }
 
-pub giving-held : (d : Walk → Dialogue) (live : Live) (k l : Known (BoardEntry Ask)) (asks : List Ask) (answers answers' : List Answer) → GivesFor d live k l asks answers answers' → StopsGiving d live k l
+pub giving-held : (d : ScriptState → Dialogue) (live : Live) (k l : Known (BoardEntry Ask)) (asks : List Ask) (answers answers' : List Answer) → GivesFor d live k l asks answers answers' → StopsGiving d live k l
 giving-held d live k l asks answers answers' gives =
-    record { calls = gives.calls; called = gives.gave.called; unshut = gives.gave.unshut; begins = λ walk none posted. begins-turn (d walk) _ (gives.is walk none posted) tt }
+    record { calls = gives.calls; called = gives.gave.called; unshut = gives.gave.unshut; begins = λ script_state none posted. begins-turn (d script_state) _ (gives.is script_state none posted) tt }
 
 -- ---- a part of the end of input
 
@@ -82,7 +82,7 @@ pub begins-after : (d : Dialogue → Dialogue) (calls more : List BoardCall) (sa
 begins-after d calls more said rest leads begins r are =
     let turn = leads rest r more in
     let first = begins r are in
-    (ap (λ (t : Turn). t.registry) turn ∙ first.0, ap (λ (t : Turn). t.board) turn ∙ ap (λ x. calls ++ x) first.1)
+    (ap (λ (t : Transcript). t.registry) turn ∙ first.0, ap (λ (t : Transcript). t.board) turn ∙ ap (λ x. calls ++ x) first.1)
 
 -- its calls are so alone
 pub begins-part : (d : Dialogue → Dialogue) (calls : List BoardCall) (said : List Answer) (rest : Dialogue) → LeadsBy d calls said → BeginsBy (d rest) [] calls
@@ -91,7 +91,7 @@ begins-part d calls said rest leads = subst (BeginsBy (d rest) []) (append-nil c
 pub moving-nothing : (d : Dialogue → Dialogue) (k : Known (BoardEntry Ask)) → StopsMoving d k k
 moving-nothing d k = record { calls = []; called = called-nothing k; unshut = λ zero_is. refl; begins = λ rest. begins-none (d rest) }
 
-pub moving-kept : (d : Dialogue → Dialogue) (k l : Known (BoardEntry Ask)) → Kept k l → StopsMoving d k l
+pub moving-kept : (d : Dialogue → Dialogue) (k l : Known (BoardEntry Ask)) → Unchanged k l → StopsMoving d k l
 moving-kept d k l kept = record { calls = []; called = kept.called; unshut = kept.unshut; begins = λ rest. begins-none (d rest) }
 
 -- the part was held but for its answers

@@ -18,14 +18,14 @@ use Rattle.turn_lock.specs.Turns.{Known, StartsWith}
 use Rattle.dialogues.specs.Allocating.{lists_beside, shape_for}
 use Rattle.dialogues.specs.BoardCalls.{BoardCall}
 use Rattle.dialogues.specs.Piping.{kept_bits}
-use Rattle.dialogues.specs.Walk.{Live, Pipe}
-use Rattle.session_calls.specs.Passes.{known}
-use Rattle.session_calls.specs.Pipelines.{IsPad, KnowsPipe, Opened, Owns}
-use Rattle.session_calls.specs.Sharing.{Gave}
-use Rattle.session_calls.proofs.BoardCalls.{open-pad}
+use Rattle.dialogues.specs.ScriptState.{Live, PipelineState}
+use Rattle.recorded_calls.specs.Passes.{known}
+use Rattle.recorded_calls.specs.Pipelines.{IsPad, KnowsPipe, Opened, Owns}
+use Rattle.recorded_calls.specs.Sharing.{Gave}
+use Rattle.recorded_calls.proofs.BoardCalls.{open-pad}
 use Rattle.script_session.specs.Changing.{Changes, Released}
 use Rattle.script_session.specs.Creating.{Created}
-use Rattle.script_session.specs.States.{State, HasPipe, MadeWide, IsWide, is_at}
+use Rattle.script_session.specs.States.{State, HasPipe, MadeWide, PadsHaveAListPerWorker, is_at}
 
 -- ---- a pipeline's birth stays
 
@@ -52,7 +52,7 @@ wide-at lists k l p starts owns wide pad =
 pub wide-changes : (lists : ℕ) (live live' : Live) (k l : Known (BoardEntry Ask)) (calls : List BoardCall) (asks : List Ask) → HasPipe k live.pipe → Changes live live' k l calls asks → MadeWide lists k → MadeWide lists l
 wide-changes lists live live' k l calls asks on changes wide p owns pad = wide-at lists k l p changes.called.seen (by_place (is_at p live.pipe) refl) wide pad
   where
-    own-pipe : (pipe : Option Pipe) → HasPipe k pipe → is_at p pipe ≡ true → Owns k p
+    own-pipe : (pipe : Option PipelineState) → HasPipe k pipe → is_at p pipe ≡ true → Owns k p
     own-pipe None here at = absurd cc
     own-pipe (Some pipe) here at = subst (λ n. Owns k n) (eqb-true pipe.number p at) (here.managed, here.opened.1)
 
@@ -75,19 +75,19 @@ wide-opened lists k l number shape fits opened wide p owns pad = by_number (p ==
         ap width_born born ∙ fits (sym (ap (is_born is_pad) born) ∙ pad)
     by_number false apart = wide-at lists k l p opened.changed.called.seen (opened.changed.owned p apart owns) wide pad
 
-pub wide-created : (workers : ℕ) (chained : Bool) (wrap : Wrap) (len : Option ℕ) (pipe : Option Pipe) (k l : Known (BoardEntry Ask)) → Created (shape_for workers chained wrap len) pipe k l → MadeWide (lists_beside workers) k → MadeWide (lists_beside workers) l
+pub wide-created : (workers : ℕ) (chained : Bool) (wrap : Wrap) (len : Option ℕ) (pipe : Option PipelineState) (k l : Known (BoardEntry Ask)) → Created (shape_for workers chained wrap len) pipe k l → MadeWide (lists_beside workers) k → MadeWide (lists_beside workers) l
 wide-created workers chained Plain len pipe k l created wide = subst (MadeWide (lists_beside workers)) (sym created.1) wide
 wide-created workers chained Pcrypt len pipe k l created wide = wide-opened (lists_beside workers) k l created.0 (Pad (lists_beside workers)) (λ pad. refl) created.2 wide
 wide-created workers true Cryptd len pipe k l created wide = wide-opened (lists_beside workers) k l created.0 (Chain (unwrap_or len 1000) (lists_beside workers)) (λ pad. absurd cc) created.2 wide
 wide-created workers false Cryptd len pipe k l created wide = wide-opened (lists_beside workers) k l created.0 (Queue (unwrap_or len 1000)) (λ pad. absurd cc) created.2 wide
 
-pub wide-same : (s s' : State) → s'.workers ≡ s.workers → s'.board ≡ s.board → IsWide s → IsWide s'
+pub wide-same : (s s' : State) → s'.workers ≡ s.workers → s'.board ≡ s.board → PadsHaveAListPerWorker s → PadsHaveAListPerWorker s'
 wide-same s s' workers board wide =
     subst (λ n. MadeWide (lists_beside n) (known s'.board)) (sym workers) (subst (λ b. MadeWide (lists_beside s.workers) (known b)) (sym board) wide)
 
 -- ---- what is kept of a mask
 
-pub kept-below : (workers bits : ℕ) (k : Known (BoardEntry Ask)) (pipe : Pipe) → MadeWide (lists_beside workers) k → KnowsPipe k pipe → IsPad pipe.bound → kept_bits workers bits < 2 ^ width_born (birth (entries_of pipe.number k.seen))
+pub kept-below : (workers bits : ℕ) (k : Known (BoardEntry Ask)) (pipe : PipelineState) → MadeWide (lists_beside workers) k → KnowsPipe k pipe → IsPad pipe.bound → kept_bits workers bits < 2 ^ width_born (birth (entries_of pipe.number k.seen))
 kept-below workers bits k pipe wide on pad =
     let width = wide pipe.number (on.managed, on.opened.1) (open-pad pipe.bound (entries_of pipe.number k.seen) pad on.opened).0 in
     subst (λ n. kept_bits workers bits < 2 ^ n) (sym width) (mod_below bits (2 ^ lists_beside workers) (pow_pos (lists_beside workers)))

@@ -13,10 +13,10 @@ use Rattle.dialogues.specs.BoardCalls.{BoardCall}
 use Rattle.dialogues.specs.Dialogues.{Dialogue}
 use Rattle.dialogues.specs.First.{AreFurther, BeginsBy}
 use Rattle.dialogues.specs.RegistryCalls.{RegCall}
-use Rattle.dialogues.specs.Walk.{Pipe}
-use Rattle.session_calls.specs.Passes.{known}
-use Rattle.session_calls.specs.Pipelines.{Called}
-use Rattle.script_session.specs.Holding.{Stops}
+use Rattle.dialogues.specs.ScriptState.{PipelineState}
+use Rattle.recorded_calls.specs.Passes.{known}
+use Rattle.recorded_calls.specs.Pipelines.{Called}
+use Rattle.script_session.specs.Performing.{Stops}
 use Rattle.script_session.specs.States.{State}
 
 -- The caller made these calls, and hasn't shut the board.
@@ -39,4 +39,4 @@ pub record StopsMaking (shape : Option Shape) (s s' : State) : Type 0 where
   pub unasked : s'.registry ≡ s.registry
   pub board : List BoardCall
   pub called : Called (known s.board) (known s'.board) board
-  pub begins : (rest : Option Pipe → Dialogue) → BeginsBy (creates shape rest) [] board
+  pub begins : (rest : Option PipelineState → Dialogue) → BeginsBy (creates shape rest) [] board

@@ -10,13 +10,13 @@ use Rattle.turn_lock.specs.Turns.{Known}
 use Rattle.dialogues.specs.BoardCalls.{BoardCall, Closes}
 use Rattle.dialogues.specs.Dialogues.{Dialogue}
 use Rattle.dialogues.specs.First.{BeginsBy}
-use Rattle.dialogues.specs.Turns.{IsTurn}
-use Rattle.dialogues.specs.Walk.{Walk, Live, Pipe, live_of, with_live}
-use Rattle.session_calls.specs.Pipelines.{Called, Owns}
-use Rattle.script_session.specs.States.{HasPipe, Posted, is_at}
+use Rattle.dialogues.specs.Transcripts.{IsTranscript}
+use Rattle.dialogues.specs.ScriptState.{ScriptState, Live, PipelineState, live_of, with_live}
+use Rattle.recorded_calls.specs.Pipelines.{Called, Owns}
+use Rattle.script_session.specs.States.{HasPipe, PipelinesMatch, is_at}
 
 -- two pipelines, if there are two, have different numbers
-abbrev pub AreApart : Option Pipe → Option Pipe → Type 0
+abbrev pub AreApart : Option PipelineState → Option PipelineState → Type 0
 AreApart pipe other = (number : ℕ) → is_at number pipe ≡ true → is_at number other ≡ false
 
 -- The caller made these calls, and its pipelines accepted these asks. The transform has the same pipeline, as the board has it
@@ -28,31 +28,31 @@ pub record Changes (live live' : Live) (k l : Known (BoardEntry Ask)) (calls : L
   pub called : Called k l calls
   pub legal : LegalBoard l.seen
   pub pipe : HasPipe l live'.pipe
-  pub others : (other : Option Pipe) → AreApart live.pipe other → HasPipe k other → HasPipe l other
+  pub others : (other : Option PipelineState) → AreApart live.pipe other → HasPipe k other → HasPipe l other
   pub owned : (number : ℕ) → is_at number live.pipe ≡ false → Owns l number → Owns k number
   pub accepted : accepted_by l.number l.seen ≡ accepted_by k.number k.seen ++ asks
   pub unshut : k.number ≡ 0 → is_shut l.seen ≡ is_shut k.seen
 
--- the walk with these asks counted
-abbrev pub counting : Walk → List Ask → Walk
-counting walk asks = record walk { requests = walk.requests + length asks; bytes = walk.bytes + sum_by ask_size asks }
+-- the state with these asks counted
+abbrev pub counting : ScriptState → List Ask → ScriptState
+counting script_state asks = record script_state { requests = script_state.requests + length asks; bytes = script_state.bytes + sum_by ask_size asks }
 
--- The dialogue was held with one transform: this is its turn for any walk in which the transform stands.
-pub record HoldsFor (dialogue : Walk → Dialogue) (live live' : Live) (k l : Known (BoardEntry Ask)) (asks : List Ask) (answers answers' : List Answer) : Type 0 where
+-- The dialogue was held with one transform: this is its transcript for any state of the script in which the transform stands.
+pub record PerformsFor (dialogue : ScriptState → Dialogue) (live live' : Live) (k l : Known (BoardEntry Ask)) (asks : List Ask) (answers answers' : List Answer) : Type 0 where
   pub calls : List BoardCall
   pub said : List Answer
   pub changes : Changes live live' k l calls asks
-  pub is : (walk : Walk) → live_of walk live.label ≡ Some live → Posted walk k
-      → IsTurn (dialogue walk) (record { registry = []; board = calls; answers = said; after = Some (counting (with_live walk live') asks) })
+  pub is : (script_state : ScriptState) → live_of script_state live.label ≡ Some live → PipelinesMatch script_state k
+      → IsTranscript (dialogue script_state) (record { registry = []; board = calls; answers = said; after = Some (counting (with_live script_state live') asks) })
   pub says : answers' ≡ answers ++ said
 
--- It was broken off with one transform: the calls that were made are the first of it for any walk in which the transform
+-- It was broken off with one transform: the calls that were made are the first of it for any state of the script in which the transform
 -- stands.
-pub record StopsFor (dialogue : Walk → Dialogue) (live : Live) (k l : Known (BoardEntry Ask)) : Type 0 where
+pub record StopsFor (dialogue : ScriptState → Dialogue) (live : Live) (k l : Known (BoardEntry Ask)) : Type 0 where
   pub calls : List BoardCall
   pub called : Called k l calls
   pub unshut : k.number ≡ 0 → is_shut l.seen ≡ is_shut k.seen
-  pub begins : (walk : Walk) → live_of walk live.label ≡ Some live → Posted walk k → BeginsBy (dialogue walk) [] calls
+  pub begins : (script_state : ScriptState) → live_of script_state live.label ≡ Some live → PipelinesMatch script_state k → BeginsBy (dialogue script_state) [] calls
 
 -- the ask, where it was accepted
 abbrev pub asks_if : Bool → Ask → List Ask
@@ -62,20 +62,20 @@ asks_if false ask = []
 -- ---- a transform is released
 
 -- the call that closes its pipeline, if it has one
-abbrev pub close_calls : Option Pipe → List BoardCall
+abbrev pub close_calls : Option PipelineState → List BoardCall
 close_calls None = []
 close_calls (Some pipe) = Closes pipe.number ∷ []
 
 -- completions of its requests are to come
-abbrev pub owes : Option Pipe → Bool
-owes None = false
-owes (Some pipe) = nat_lt pipe.delivered (length pipe.lines)
+abbrev pub has_undelivered : Option PipelineState → Bool
+has_undelivered None = false
+has_undelivered (Some pipe) = nat_lt pipe.delivered (length pipe.lines)
 
 -- The pipeline of the transform is closed, if it has one; each other is as it was.
 pub record Released (live : Live) (k l : Known (BoardEntry Ask)) : Type 0 where
   pub called : Called k l (close_calls live.pipe)
   pub legal : LegalBoard l.seen
-  pub others : (other : Option Pipe) → AreApart live.pipe other → HasPipe k other → HasPipe l other
+  pub others : (other : Option PipelineState) → AreApart live.pipe other → HasPipe k other → HasPipe l other
   pub owned : (number : ℕ) → Owns l number → Owns k number × (is_at number live.pipe ≡ false)
   pub accepted : accepted_by l.number l.seen ≡ accepted_by k.number k.seen
   pub unshut : k.number ≡ 0 → is_shut l.seen ≡ is_shut k.seen

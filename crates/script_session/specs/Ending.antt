@@ -16,24 +16,24 @@ use Rattle.dialogues.specs.Dialogues.{Dialogue}
 use Rattle.dialogues.specs.First.{BeginsBy}
 use Rattle.dialogues.specs.RegistryCalls.{RegCall}
 use Rattle.dialogues.specs.Piping.{end, end_beside}
-use Rattle.dialogues.specs.Turns.{Turn, IsTurn, joined, turn_of, text_in}
-use Rattle.dialogues.specs.Walk.{Walk, Live, Pipe}
-use Rattle.session_calls.specs.Asking.{Asked}
-use Rattle.session_calls.specs.Passes.{known}
-use Rattle.session_calls.specs.Pipelines.{Called, Owns}
+use Rattle.dialogues.specs.Transcripts.{Transcript, IsTranscript, joined, transcript_of, text_in}
+use Rattle.dialogues.specs.ScriptState.{ScriptState, Live, PipelineState}
+use Rattle.recorded_calls.specs.Asking.{Asked}
+use Rattle.recorded_calls.specs.Passes.{known}
+use Rattle.recorded_calls.specs.Pipelines.{Called, Owns}
 use Rattle.script_session.specs.Changing.{Changes}
-use Rattle.script_session.specs.States.{State, SameLocks, Posted}
+use Rattle.script_session.specs.States.{State, SameLocks, PipelinesMatch}
 
 -- ---- a part of a dialogue
 
 -- these calls and answers, and nothing else
-abbrev pub part : List BoardCall → List Answer → Turn
+abbrev pub part : List BoardCall → List Answer → Transcript
 part calls said = record { registry = []; board = calls; answers = said; after = None }
 
 -- by these calls and answers the dialogue comes to what is left of it, whatever that is
 abbrev pub LeadsBy : (Dialogue → Dialogue) → List BoardCall → List Answer → Type 0
 LeadsBy dialogue calls said =
-    (rest : Dialogue) (r : List RegCall) (b : List BoardCall) → turn_of (dialogue rest) r (calls ++ b) ≡ joined (part calls said) (turn_of rest r b)
+    (rest : Dialogue) (r : List RegCall) (b : List BoardCall) → transcript_of (dialogue rest) r (calls ++ b) ≡ joined (part calls said) (transcript_of rest r b)
 
 -- The part was broken off: the calls that were made are its first, whatever is left of the dialogue behind it.
 pub record StopsMoving (dialogue : Dialogue → Dialogue) (k l : Known (BoardEntry Ask)) : Type 0 where
@@ -46,7 +46,7 @@ pub record StopsMoving (dialogue : Dialogue → Dialogue) (k l : Known (BoardEnt
 
 -- by which the end of input knows a transform: its label, and its pipeline's number
 abbrev pub place_of : Live → List ℕ × Option ℕ
-place_of live = (live.label, option_map (λ (pipe : Pipe). pipe.number) live.pipe)
+place_of live = (live.label, option_map (λ (pipe : PipelineState). pipe.number) live.pipe)
 
 -- the part of the dialogue was held with this transform
 pub record Moves (dialogue : Dialogue → Dialogue) (live live' : Live) (k l : Known (BoardEntry Ask)) (answers answers' : List Answer) : Type 0 where
@@ -58,15 +58,15 @@ pub record Moves (dialogue : Dialogue → Dialogue) (live live' : Live) (k l : K
   pub says : answers' ≡ answers ++ said
 
 -- its pipeline, if it has one, has handed out as many completions as it accepted requests
-abbrev pub IsPaid : Option Pipe → Type 0
-IsPaid None = ⊤
-IsPaid (Some pipe) = pipe.delivered ≡ length pipe.lines
+abbrev pub AllDelivered : Option PipelineState → Type 0
+AllDelivered None = ⊤
+AllDelivered (Some pipe) = pipe.delivered ≡ length pipe.lines
 
 -- ---- all of them
 
--- they are the live transforms of a walk, of which the caller knows the board
-abbrev pub ArePosted : List Live → Known (BoardEntry Ask) → Type 0
-ArePosted lives k = (walk : Walk) × (walk.lives ≡ lives) × Posted walk k
+-- they are the live transforms of a script's state, of which the caller knows the board
+abbrev pub PipelinesMatchState : List Live → Known (BoardEntry Ask) → Type 0
+PipelinesMatchState lives k = (script_state : ScriptState) × (script_state.lives ≡ lives) × PipelinesMatch script_state k
 
 -- the part of the dialogue was held with all these transforms
 pub record MovesAll (dialogue : Dialogue → Dialogue) (lives lives' : List Live) (k l : Known (BoardEntry Ask)) (answers answers' : List Answer) : Type 0 where
@@ -74,36 +74,36 @@ pub record MovesAll (dialogue : Dialogue → Dialogue) (lives lives' : List Live
   pub said : List Answer
   pub called : Called k l calls
   pub places : map place_of lives' ≡ map place_of lives
-  pub posted : ArePosted lives' l
+  pub posted : PipelinesMatchState lives' l
   pub accepted : accepted_by l.number l.seen ≡ accepted_by k.number k.seen
   pub leads : LeadsBy dialogue calls said
   pub says : answers' ≡ answers ++ said
 
 -- each has handed all out
-abbrev pub AreAllPaid : List Live → Type 0
-AreAllPaid lives = All (λ (live : Live). IsPaid live.pipe) lives
+abbrev pub AreAllDelivered : List Live → Type 0
+AreAllDelivered lives = All (λ (live : Live). AllDelivered live.pipe) lives
 
 -- ---- the end
 
--- A turn of the end's dialogue was done, and its answers were added. The dialogue leaves the walk as it was; the session knows of its
+-- A transcript of the end's dialogue was done, and its answers were added. The dialogue leaves the script's state as it was; the session knows of its
 -- own pipelines that they are drained.
 pub record EndsWith (s s' : State) (answers answers' : List Answer) : Type 0 where
   pub locks : SameLocks s s'
-  pub turn : Turn
-  pub is : IsTurn (end s.walk) turn
+  pub turn : Transcript
+  pub is : IsTranscript (end s.script_state) turn
   pub asked : Asked (known s.registry) (known s'.registry) turn.registry
   pub called : Called (known s.board) (known s'.board) turn.board
-  pub ends : turn.after ≡ Some s.walk
+  pub ends : turn.after ≡ Some s.script_state
   pub says : answers' ≡ answers ++ turn.answers
 
 -- the same, where the text of its answers was added
 pub record AnswersEnd (s s' : State) (text text' : List ℕ) : Type 0 where
   pub locks : SameLocks s s'
-  pub turn : Turn
-  pub is : IsTurn (end s.walk) turn
+  pub turn : Transcript
+  pub is : IsTranscript (end s.script_state) turn
   pub asked : Asked (known s.registry) (known s'.registry) turn.registry
   pub called : Called (known s.board) (known s'.board) turn.board
-  pub ends : turn.after ≡ Some s.walk
+  pub ends : turn.after ≡ Some s.script_state
   pub says : text' ≡ text ++ text_in turn
 
 -- The caller shut the board last. Each pipeline that it made and hasn't closed was finished by then: so is each request of it.
@@ -117,15 +117,15 @@ pub record EndsShut (k : Known (BoardEntry Ask)) : Type 0 where
 -- A turn of its end was done, and the text of its answers was added.
 pub record AnswersEndBeside (s s' : State) (text text' : List ℕ) : Type 0 where
   pub locks : SameLocks s s'
-  pub turn : Turn
-  pub is : IsTurn (end_beside s.walk) turn
+  pub turn : Transcript
+  pub is : IsTranscript (end_beside s.script_state) turn
   pub asked : Asked (known s.registry) (known s'.registry) turn.registry
   pub called : Called (known s.board) (known s'.board) turn.board
-  pub ends : turn.after ≡ Some s.walk
+  pub ends : turn.after ≡ Some s.script_state
   pub says : text' ≡ text ++ text_in turn
 
 -- The caller has seen each entry that it made. Each pipeline that it made and hasn't closed is drained, and shared with nobody.
-pub record EndsPaid (k : Known (BoardEntry Ask)) : Type 0 where
+pub record EndsDelivered (k : Known (BoardEntry Ask)) : Type 0 where
   pub legal : LegalBoard k.seen
   pub own : IsOwn caller_of k
   pub unshared : (p : ℕ) → Owns k p → is_shared (entries_of p k.seen) ≡ false

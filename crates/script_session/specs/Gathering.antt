@@ -14,13 +14,13 @@ use Rattle.turn_lock.specs.Turns.{Known}
 use Rattle.dialogues.specs.BoardCalls.{BoardCall}
 use Rattle.dialogues.specs.Dialogues.{Dialogue}
 use Rattle.dialogues.specs.Piping.{let_all_go, drain_all, end}
-use Rattle.dialogues.specs.Turns.{IsTurn}
-use Rattle.dialogues.specs.Walk.{Walk, Live, Pipe}
-use Rattle.session_calls.specs.Pipelines.{Called, Owns}
-use Rattle.session_calls.specs.Sharing.{KnowsGathered, HaveEnded, Rejoined}
+use Rattle.dialogues.specs.Transcripts.{IsTranscript}
+use Rattle.dialogues.specs.ScriptState.{ScriptState, Live, PipelineState}
+use Rattle.recorded_calls.specs.Pipelines.{Called, Owns}
+use Rattle.recorded_calls.specs.Sharing.{KnowsGathered, HaveEnded, Rejoined}
 use Rattle.script_session.specs.Changing.{AreApart}
 use Rattle.script_session.specs.Ending.{LeadsBy, EndsShut}
-use Rattle.script_session.specs.Holding.{SeesOn}
+use Rattle.script_session.specs.Performing.{SeesOn}
 use Rattle.script_session.specs.Lending.{HasLent, AreLent}
 use Rattle.script_session.specs.States.{owners}
 
@@ -36,13 +36,13 @@ pub record IsJoined (lives : List Live) (l : Known (BoardEntry Ask)) : Type 0 wh
   pub owned : (p : ℕ) → Owns before p → 1 ≤ owners p lives
   pub unshut : is_shut before.seen ≡ false
 
--- The dialogue of its end was held, for any walk with these live transforms, and the text of its answers was added. The board was
+-- The dialogue of its end was held, for any state of the script with these live transforms, and the text of its answers was added. The board was
 -- shut last, workers alone are left beside it, and each pipeline that it made and hasn't closed has handed out all.
 pub record EndsFirst (lives : List Live) (k l : Known (BoardEntry Ask)) (text text' : List ℕ) : Type 0 where
   pub calls : List BoardCall
   pub said : List Answer
   pub called : Called k l calls
-  pub is : (walk : Walk) → walk.lives ≡ lives → IsTurn (end walk) (record { registry = []; board = calls; answers = said; after = Some walk })
+  pub is : (script_state : ScriptState) → script_state.lives ≡ lives → IsTranscript (end script_state) (record { registry = []; board = calls; answers = said; after = Some script_state })
   pub says : text' ≡ text ++ flat_map text_of said
   pub own : IsOwn caller_of l
   pub ended : l.ended ≡ k.ended
@@ -75,32 +75,32 @@ pub record SeesBeside (k l : Known (BoardEntry Ask)) : Type 0 where
   pub ended : l.ended ≡ k.ended
 
 -- a pipeline that was let go
-abbrev pub let_go : Option Pipe → Option Pipe
+abbrev pub let_go : Option PipelineState → Option PipelineState
 let_go None = None
 let_go (Some pipe) = Some (record pipe { held = false })
 
-abbrev pub HasFreed : Known (BoardEntry Ask) → Option Pipe → Type 0
+abbrev pub HasFreed : Known (BoardEntry Ask) → Option PipelineState → Type 0
 HasFreed k pipe = HasLent k (let_go pipe)
 
 -- its pipeline, if it has one, has handed out as many completions as it accepted requests
-abbrev pub HasPaid : Known (BoardEntry Ask) → Option Pipe → Type 0
-HasPaid k None = ⊤
-HasPaid k (Some pipe) = (now : Pipe) × (now.number ≡ pipe.number) × KnowsGathered k now × (now.delivered ≡ length now.lines)
+abbrev pub HasDelivered : Known (BoardEntry Ask) → Option PipelineState → Type 0
+HasDelivered k None = ⊤
+HasDelivered k (Some pipe) = (now : PipelineState) × (now.number ≡ pipe.number) × KnowsGathered k now × (now.delivered ≡ length now.lines)
 
 -- The part of the dialogue was held with this transform, whose pipeline the caller knew so before and so now. It knows each other
 -- pipeline as it did.
-pub record MovesLent (Before After : Known (BoardEntry Ask) → Option Pipe → Type 0) (dialogue : Dialogue → Dialogue) (pipe : Option Pipe) (k l : Known (BoardEntry Ask)) (answers answers' : List Answer) : Type 0 where
+pub record MovesLent (Before After : Known (BoardEntry Ask) → Option PipelineState → Type 0) (dialogue : Dialogue → Dialogue) (pipe : Option PipelineState) (k l : Known (BoardEntry Ask)) (answers answers' : List Answer) : Type 0 where
   pub calls : List BoardCall
   pub said : List Answer
   pub goes : GoesBeside k l calls
   pub leads : LeadsBy dialogue calls said
   pub now : After l pipe
-  pub before : (other : Option Pipe) → AreApart pipe other → Before k other → Before l other
-  pub after : (other : Option Pipe) → AreApart pipe other → After k other → After l other
+  pub before : (other : Option PipelineState) → AreApart pipe other → Before k other → Before l other
+  pub after : (other : Option PipelineState) → AreApart pipe other → After k other → After l other
   pub says : answers' ≡ answers ++ said
 
 -- the part of the dialogue was held with all these transforms
-pub record MovesAllLent (After : Known (BoardEntry Ask) → Option Pipe → Type 0) (dialogue : Dialogue → Dialogue) (lives : List Live) (k l : Known (BoardEntry Ask)) (answers answers' : List Answer) : Type 0 where
+pub record MovesAllLent (After : Known (BoardEntry Ask) → Option PipelineState → Type 0) (dialogue : Dialogue → Dialogue) (lives : List Live) (k l : Known (BoardEntry Ask)) (answers answers' : List Answer) : Type 0 where
   pub calls : List BoardCall
   pub said : List Answer
   pub goes : GoesBeside k l calls
@@ -111,7 +111,7 @@ pub record MovesAllLent (After : Known (BoardEntry Ask) → Option Pipe → Type
 -- ---- all up to the shut
 
 -- Beside workers alone the caller knows these transforms' pipelines so, and no two share one.
-pub record AreToMove (Before : Known (BoardEntry Ask) → Option Pipe → Type 0) (lives : List Live) (k : Known (BoardEntry Ask)) : Type 0 where
+pub record AreToMove (Before : Known (BoardEntry Ask) → Option PipelineState → Type 0) (lives : List Live) (k : Known (BoardEntry Ask)) : Type 0 where
   pub legal : LegalBoard k.seen
   pub gone : PeersGone k
   pub pipes : All (λ (live : Live). Before k live.pipe) lives
@@ -123,5 +123,5 @@ pub record EndsLent (lives : List Live) (k l : Known (BoardEntry Ask)) (text tex
   pub said : List Answer
   pub goes : GoesBeside k l calls
   pub leads : LeadsBy (λ rest. let_all_go lives (drain_all lives rest)) calls said
-  pub paid : All (λ (live : Live). HasPaid l live.pipe) lives
+  pub paid : All (λ (live : Live). HasDelivered l live.pipe) lives
   pub says : text' ≡ text ++ flat_map text_of said

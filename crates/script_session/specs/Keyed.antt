@@ -10,7 +10,7 @@ use Rattle.transforms.specs.declared.tfm_err.TfmErr.{TfmErr}
 use Rattle.transforms.specs.declared.tfm_err.TfmErr.TheVariants.{Inval, Memory}
 use Rattle.reply_text.specs.declared.origin.Origin.{Origin}
 use Rattle.dialogues.specs.BoardCalls.{Asked}
-use Rattle.dialogues.specs.Walk.{Live, Pipe}
+use Rattle.dialogues.specs.ScriptState.{Live, PipelineState}
 
 module _ {Z : Type 0} where
   -- the bytes of the key
@@ -45,7 +45,7 @@ IsNoJob live request Memory = ⊤
 
 -- ---- changes of its pipeline, if it has one
 
-abbrev pub on_pipe : (Pipe → Pipe) → Live → Live
+abbrev pub on_pipe : (PipelineState → PipelineState) → Live → Live
 on_pipe f live = record live { pipe = option_map f live.pipe }
 
 -- it accepted a request of this line
@@ -58,13 +58,13 @@ held_as live held = on_pipe (λ pipe. record pipe { held = held }) live
 
 -- some worker may take from it, or none
 abbrev pub manned_as : Live → Bool → Live
-manned_as live unmanned = on_pipe (λ pipe. record pipe { unmanned = unmanned }) live
+manned_as live mask_is_empty = on_pipe (λ pipe. record pipe { mask_is_empty = mask_is_empty }) live
 
 -- it handed so many completions out
 abbrev pub delivering : Live → ℕ → Live
 delivering live count = on_pipe (λ pipe. record pipe { delivered = pipe.delivered + count }) live
 
 -- with them it handed out no more than it accepted
-abbrev pub MayDeliver : ℕ → Option Pipe → Type 0
+abbrev pub MayDeliver : ℕ → Option PipelineState → Type 0
 MayDeliver count None = ⊤
 MayDeliver count (Some pipe) = pipe.delivered + count ≤ length pipe.lines

@@ -6,15 +6,15 @@ use Rattle.transforms.specs.declared.ask.Ask.{Ask}
 use Rattle.turn_lock.specs.Turns.{Known}
 use Rattle.dialogues.specs.BoardCalls.{BoardCall}
 use Rattle.dialogues.specs.Sharing.{shares, share_all}
-use Rattle.dialogues.specs.Walk.{Live, Pipe}
-use Rattle.session_calls.specs.Pipelines.{Called, Owns}
-use Rattle.session_calls.specs.Sharing.{KnowsLent}
+use Rattle.dialogues.specs.ScriptState.{Live, PipelineState}
+use Rattle.recorded_calls.specs.Pipelines.{Called, Owns}
+use Rattle.recorded_calls.specs.Sharing.{KnowsLent}
 use Rattle.script_session.specs.Changing.{AreApart}
 use Rattle.script_session.specs.Ending.{LeadsBy}
 use Rattle.script_session.specs.States.{HasPipe}
 
 -- a transform that the caller shares: its pipeline is, if it has one
-abbrev pub HasLent : Known (BoardEntry Ask) → Option Pipe → Type 0
+abbrev pub HasLent : Known (BoardEntry Ask) → Option PipelineState → Type 0
 HasLent k None = ⊤
 HasLent k (Some pipe) = KnowsLent k pipe
 
@@ -38,7 +38,7 @@ pub record SharesOne (live : Live) (k l : Known (BoardEntry Ask)) : Type 0 where
   pub legal : LegalBoard l.seen
   pub leads : LeadsBy (shares live.pipe) calls []
   pub lent : HasLent l live.pipe
-  pub others : (other : Option Pipe) → AreApart live.pipe other → HasPipe k other → HasPipe l other
-  pub kept : (other : Option Pipe) → HasLent k other → HasLent l other
+  pub others : (other : Option PipelineState) → AreApart live.pipe other → HasPipe k other → HasPipe l other
+  pub kept : (other : Option PipelineState) → HasLent k other → HasLent l other
   pub owned : (p : ℕ) → Owns l p → Owns k p
   pub unshut : k.number ≡ 0 → is_shut l.seen ≡ is_shut k.seen

@@ -1,5 +1,5 @@
 pub mod States
-pub mod Holding
+pub mod Performing
 pub mod Keyed
 pub mod Changing
 pub mod Telling

@@ -9,8 +9,8 @@ use Rattle.reply_text.specs.declared.answers.Answer.{Answer}
 use Rattle.reply_text.specs.declared.answers.Answer.TheVariants.{Refused}
 use Rattle.turn_lock.specs.Turns.{Known}
 use Rattle.dialogues.specs.BoardCalls.{BoardCall, Submits, Enqueues, asked_by}
-use Rattle.dialogues.specs.Walk.{Pipe}
-use Rattle.session_calls.specs.Pipelines.{Changed, entered_pipe, entered_asks}
+use Rattle.dialogues.specs.ScriptState.{PipelineState}
+use Rattle.recorded_calls.specs.Pipelines.{Changed, entered_pipe, entered_asks}
 
 -- a pad always takes it
 abbrev pub IsAnswerOf : Option ℕ → Entered → Type 0
@@ -24,11 +24,11 @@ number_in (InProgress number) = number
 number_in (Busy number) = number
 number_in NoSpace = 0
 
-abbrev pub offer_call : Pipe → Ask → Bool → Entered → Option ℕ → BoardCall
+abbrev pub offer_call : PipelineState → Ask → Bool → Entered → Option ℕ → BoardCall
 offer_call pipe ask backlog answer None = Submits pipe.number (number_in answer) (asked_by ask)
 offer_call pipe ask backlog answer (Some max) = Enqueues pipe.number (asked_by ask) backlog answer
 
-abbrev pub Offered : Known (BoardEntry Ask) → Known (BoardEntry Ask) → Pipe → Ask → Bool → Entered → Type 0
+abbrev pub Offered : Known (BoardEntry Ask) → Known (BoardEntry Ask) → PipelineState → Ask → Bool → Entered → Type 0
 Offered k l pipe ask backlog answer =
     IsAnswerOf pipe.bound answer × Changed k l pipe (entered_pipe pipe ask answer) (offer_call pipe ask backlog answer pipe.bound ∷ []) (entered_asks ask answer)
 

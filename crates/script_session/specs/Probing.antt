@@ -11,8 +11,8 @@ use Rattle.templates.specs.Looking.{Found, Fault, found_in}
 use Rattle.turn_lock.specs.Turns.{Known}
 use Rattle.dialogues.specs.Names.{name_read}
 use Rattle.dialogues.specs.Probing.{found_said}
-use Rattle.session_calls.specs.Looking.{Sought, Goes, look_entry}
-use Rattle.session_calls.specs.Passes.{RegPass, known}
+use Rattle.recorded_calls.specs.Looking.{Sought, Goes, look_entry}
+use Rattle.recorded_calls.specs.Passes.{RegPass, known}
 
 -- a name of a probe, with the look that was made for it, or why it is no name
 pub record Searched : Type 0 where

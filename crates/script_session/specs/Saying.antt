@@ -17,13 +17,13 @@ use Rattle.turn_lock.specs.Turns.{Known}
 use Rattle.dialogues.specs.BoardCalls.{BoardCall, Collects}
 use Rattle.dialogues.specs.Dialogues.{Dialogue}
 use Rattle.dialogues.specs.Piping.{poll, drain, notice_said}
-use Rattle.dialogues.specs.Walk.{Walk, Live, Pipe}
-use Rattle.session_calls.specs.Bounds.{AreWithin, callback_length}
-use Rattle.session_calls.specs.Passes.{known}
-use Rattle.session_calls.specs.Pipelines.{Called, Polled}
-use Rattle.script_session.specs.Changing.{HoldsFor}
+use Rattle.dialogues.specs.ScriptState.{ScriptState, Live, PipelineState}
+use Rattle.recorded_calls.specs.Bounds.{AreWithin, callback_length}
+use Rattle.recorded_calls.specs.Passes.{known}
+use Rattle.recorded_calls.specs.Pipelines.{Called, Polled}
+use Rattle.script_session.specs.Changing.{PerformsFor}
 use Rattle.script_session.specs.Ending.{Moves, MovesAll}
-use Rattle.script_session.specs.Holding.{HoldsBy, StopsIn}
+use Rattle.script_session.specs.Performing.{PerformsBy, StopsIn}
 use Rattle.script_session.specs.States.{State}
 
 -- ---- room
@@ -42,9 +42,9 @@ hands_out other = false
 -- ---- `drain T` and `poll T`
 
 -- `drain T` waits for what isn't done, and `poll T` doesn't
-abbrev pub collects : Bool → Walk → ℕ → List ℕ → Dialogue
-collects true walk n label = drain walk n label
-collects false walk n label = poll walk n label
+abbrev pub collects : Bool → ScriptState → ℕ → List ℕ → Dialogue
+collects true script_state n label = drain script_state n label
+collects false script_state n label = poll script_state n label
 
 -- their last answer
 abbrev pub collected_said : ℕ → Bool → ℕ → Answer
@@ -52,7 +52,7 @@ collected_said n true count = said.Drained n count
 collected_said n false count = said.Polled n count
 
 -- The caller collected these callbacks, and they were added to those that were there. A drain collects when all is done.
-pub record Collected (waits : Bool) (k l : Known (BoardEntry Ask)) (pipe : Pipe) (had has : List (Callback Finished)) : Type 0 where
+pub record Collected (waits : Bool) (k l : Known (BoardEntry Ask)) (pipe : PipelineState) (had has : List (Callback Finished)) : Type 0 where
   pub callbacks : List (Callback Finished)
   pub all : Bool
   pub whole : waits ≡ true → all ≡ true
@@ -63,9 +63,9 @@ pub record Collected (waits : Bool) (k l : Known (BoardEntry Ask)) (pipe : Pipe)
 -- ---- what a line adds
 
 -- the dialogue was held with one transform, and the text of its answers was added
-pub record SaysFor (dialogue : Walk → Dialogue) (live live' : Live) (k l : Known (BoardEntry Ask)) (text text' : List ℕ) : Type 0 where
+pub record SaysFor (dialogue : ScriptState → Dialogue) (live live' : Live) (k l : Known (BoardEntry Ask)) (text text' : List ℕ) : Type 0 where
   pub said : List Answer
-  pub held : HoldsFor dialogue live live' k l [] [] said
+  pub held : PerformsFor dialogue live live' k l [] [] said
   pub says : text' ≡ text ++ flat_map text_of said
 
 -- the caller made no call, and nothing was added
@@ -77,7 +77,7 @@ pub record BreaksFor (k l : Known (BoardEntry Ask)) (text text' : List ℕ) : Ty
 -- the same two of a session's states
 pub record SaysBy (width : ℕ) (dialogue : Dialogue) (s s' : State) (text text' : List ℕ) : Type 0 where
   pub said : List Answer
-  pub held : HoldsBy width dialogue s s' [] said
+  pub held : PerformsBy width dialogue s s' [] said
   pub says : text' ≡ text ++ flat_map text_of said
 
 pub record BreaksOff (dialogue : Dialogue) (s s' : State) (text text' : List ℕ) : Type 0 where

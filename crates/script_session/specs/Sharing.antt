@@ -11,13 +11,13 @@ use Rattle.turn_lock.specs.Turns.{Known}
 use Rattle.dialogues.specs.BoardCalls.{BoardCall}
 use Rattle.dialogues.specs.Dialogues.{Dialogue}
 use Rattle.dialogues.specs.First.{BeginsBy}
-use Rattle.dialogues.specs.Turns.{IsTurn}
-use Rattle.dialogues.specs.Walk.{Walk, Live, Pipe, live_of}
-use Rattle.session_calls.specs.Pipelines.{Called, entered_asks}
-use Rattle.session_calls.specs.Sharing.{Gave}
+use Rattle.dialogues.specs.Transcripts.{IsTranscript}
+use Rattle.dialogues.specs.ScriptState.{ScriptState, Live, PipelineState, live_of}
+use Rattle.recorded_calls.specs.Pipelines.{Called, entered_asks}
+use Rattle.recorded_calls.specs.Sharing.{Gave}
 use Rattle.script_session.specs.Changing.{counting}
 use Rattle.script_session.specs.Offering.{IsAnswerOf, offer_call}
-use Rattle.script_session.specs.States.{Posted}
+use Rattle.script_session.specs.States.{PipelinesMatch}
 
 -- what a script shares with others, if there are any
 abbrev pub shared_in : {Z : Type 0} → Option (Arc (List Live) Z) → List Live
@@ -25,22 +25,22 @@ shared_in None = []
 shared_in (Some shared) = arc_value shared
 
 -- the shared pipeline gave this answer
-abbrev pub OffersShared : Known (BoardEntry Ask) → Known (BoardEntry Ask) → Pipe → Ask → Bool → Entered → Type 0
+abbrev pub OffersShared : Known (BoardEntry Ask) → Known (BoardEntry Ask) → PipelineState → Ask → Bool → Entered → Type 0
 OffersShared k l pipe ask backlog answer =
     IsAnswerOf pipe.bound answer × Gave k l (offer_call pipe ask backlog answer pipe.bound ∷ []) (entered_asks ask answer)
 
--- The dialogue was held with a transform that is shared: this is its turn for any walk that has none of its own under that label.
-pub record GivesFor (dialogue : Walk → Dialogue) (live : Live) (k l : Known (BoardEntry Ask)) (asks : List Ask) (answers answers' : List Answer) : Type 0 where
+-- The dialogue was held with a transform that is shared: this is its transcript for any state of the script that has none of its own under that label.
+pub record GivesFor (dialogue : ScriptState → Dialogue) (live : Live) (k l : Known (BoardEntry Ask)) (asks : List Ask) (answers answers' : List Answer) : Type 0 where
   pub calls : List BoardCall
   pub said : List Answer
   pub gave : Gave k l calls asks
-  pub is : (walk : Walk) → live_of walk live.label ≡ None → Posted walk k
-      → IsTurn (dialogue walk) (record { registry = []; board = calls; answers = said; after = Some (counting walk asks) })
+  pub is : (script_state : ScriptState) → live_of script_state live.label ≡ None → PipelinesMatch script_state k
+      → IsTranscript (dialogue script_state) (record { registry = []; board = calls; answers = said; after = Some (counting script_state asks) })
   pub says : answers' ≡ answers ++ said
 
--- It was broken off: the calls that were made are the first of it for any walk that has none of its own under that label.
-pub record StopsGiving (dialogue : Walk → Dialogue) (live : Live) (k l : Known (BoardEntry Ask)) : Type 0 where
+-- It was broken off: the calls that were made are the first of it for any state of the script that has none of its own under that label.
+pub record StopsGiving (dialogue : ScriptState → Dialogue) (live : Live) (k l : Known (BoardEntry Ask)) : Type 0 where
   pub calls : List BoardCall
   pub called : Called k l calls
   pub unshut : k.number ≡ 0 → is_shut l.seen ≡ is_shut k.seen
-  pub begins : (walk : Walk) → live_of walk live.label ≡ None → Posted walk k → BeginsBy (dialogue walk) [] calls
+  pub begins : (script_state : ScriptState) → live_of script_state live.label ≡ None → PipelinesMatch script_state k → BeginsBy (dialogue script_state) [] calls

@@ -12,11 +12,11 @@ use Rattle.turn_lock.specs.Turns.{Known}
 use Rattle.dialogues.specs.Allocating.{lists_beside}
 use Rattle.dialogues.specs.References.{got, given}
 use Rattle.dialogues.specs.RegistryCalls.{reg_calls}
-use Rattle.dialogues.specs.Walk.{Walk, Live, Pipe}
-use Rattle.session_calls.specs.Asking.{IsCaller}
-use Rattle.session_calls.specs.Passes.{RegPass, BoardPass, known, lock_of}
-use Rattle.session_calls.specs.Pipelines.{KnowsPipe, Owns}
-use Rattle.session_calls.specs.Sharing.{KnowsShared}
+use Rattle.dialogues.specs.ScriptState.{ScriptState, Live, PipelineState}
+use Rattle.recorded_calls.specs.Asking.{IsCaller}
+use Rattle.recorded_calls.specs.Passes.{RegPass, BoardPass, known, lock_of}
+use Rattle.recorded_calls.specs.Pipelines.{KnowsPipe, Owns}
+use Rattle.recorded_calls.specs.Sharing.{KnowsShared}
 
 -- how many live transforms stand on the entry
 abbrev pub uses : ℕ → List Live → ℕ
@@ -24,24 +24,24 @@ uses id [] = 0
 uses id (live ∷ lives) = (if live.id == id then 1 else 0) + uses id lives
 
 -- The caller has as many references of each entry as live transforms stand on it.
-pub record Stands (lives : List Live) (k : Known RegEntry) : Type 0 where
+pub record ReferencesMatch (lives : List Live) (k : Known RegEntry) : Type 0 where
   pub caller : IsCaller k
   pub referenced : (id : ℕ) → got id (reg_calls k.number k.seen) ≡ given id (reg_calls k.number k.seen) + uses id lives
 
 -- its pipeline is as the caller knows it, if it has one
-abbrev pub HasPipe : Known (BoardEntry Ask) → Option Pipe → Type 0
+abbrev pub HasPipe : Known (BoardEntry Ask) → Option PipelineState → Type 0
 HasPipe k None = ⊤
 HasPipe k (Some pipe) = KnowsPipe k pipe
 
 -- a transform that is shared: its pipeline is, if it has one
-abbrev pub HasShared : Known (BoardEntry Ask) → Option Pipe → Type 0
+abbrev pub HasShared : Known (BoardEntry Ask) → Option PipelineState → Type 0
 HasShared k None = ⊤
 HasShared k (Some pipe) = KnowsShared k pipe
 
 abbrev pub AreShared : List Live → Known (BoardEntry Ask) → Type 0
 AreShared lives k = All (λ (live : Live). HasShared k live.pipe) lives
 
-abbrev pub is_at : ℕ → Option Pipe → Bool
+abbrev pub is_at : ℕ → Option PipelineState → Bool
 is_at number None = false
 is_at number (Some pipe) = pipe.number == number
 
@@ -52,14 +52,14 @@ owners number (live ∷ lives) = (if is_at number live.pipe then 1 else 0) + own
 
 -- The live transforms' pipelines are as the caller knows them, no two share one, it has no other that is open, and so many
 -- requests and bytes were accepted.
-pub record Posted (walk : Walk) (k : Known (BoardEntry Ask)) : Type 0 where
+pub record PipelinesMatch (script_state : ScriptState) (k : Known (BoardEntry Ask)) : Type 0 where
   pub outsider : IsNoWorker k.number
   pub legal : LegalBoard k.seen
-  pub pipes : All (λ (live : Live). HasPipe k live.pipe) walk.lives
-  pub apart : (number : ℕ) → owners number walk.lives ≤ 1
-  pub owned : (number : ℕ) → Owns k number → 1 ≤ owners number walk.lives
-  pub requests : length (accepted_by k.number k.seen) ≡ walk.requests
-  pub bytes : sum_by ask_size (accepted_by k.number k.seen) ≡ walk.bytes
+  pub pipes : All (λ (live : Live). HasPipe k live.pipe) script_state.lives
+  pub apart : (number : ℕ) → owners number script_state.lives ≤ 1
+  pub owned : (number : ℕ) → Owns k number → 1 ≤ owners number script_state.lives
+  pub requests : length (accepted_by k.number k.seen) ≡ script_state.requests
+  pub bytes : sum_by ask_size (accepted_by k.number k.seen) ≡ script_state.bytes
   pub unshut : k.number ≡ 0 → is_shut k.seen ≡ false
 
 -- each open pad that the caller made has so many lists
@@ -69,21 +69,21 @@ MadeWide lists k = (p : ℕ) → Owns k p → Is is_pad (entries_of p k.seen) �
 -- beside how many workers the script runs, what it has made, and its passes
 pub record State : Type 0 where
   pub workers : ℕ
-  pub walk : Walk
+  pub script_state : ScriptState
   pub registry : Option RegPass
   pub board : Option BoardPass
 
 -- a pad that the session made has a list for each worker, and one where there are none
-abbrev pub IsWide : State → Type 0
-IsWide s = MadeWide (lists_beside s.workers) (known s.board)
+abbrev pub PadsHaveAListPerWorker : State → Type 0
+PadsHaveAListPerWorker s = MadeWide (lists_beside s.workers) (known s.board)
 
 -- both passes are still of their locks, as many workers stand beside the script, and it shares the same
 pub record SameLocks (s s' : State) : Type 0 where
   pub registry : lock_of s'.registry ≡ lock_of s.registry
   pub board : lock_of s'.board ≡ lock_of s.board
   pub workers : s'.workers ≡ s.workers
-  pub shared : s'.walk.shared ≡ s.walk.shared
+  pub shared : s'.script_state.shared ≡ s.script_state.shared
 
 -- with one more request of so many bytes, where it was accepted
 abbrev pub counted : State → Bool → ℕ → State
-counted s accepted size = if accepted then record s { walk = record (s.walk) { requests = s.walk.requests + 1; bytes = s.walk.bytes + size } } else s
+counted s accepted size = if accepted then record s { script_state = record (s.script_state) { requests = s.script_state.requests + 1; bytes = s.script_state.bytes + size } } else s

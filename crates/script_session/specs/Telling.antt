@@ -7,7 +7,7 @@ use Rattle.reply_text.specs.declared.answers.Answer.{Answer}
 use Rattle.reply_text.specs.declared.origin.Origin.{Origin}
 use Rattle.reply_text.specs.declared.answers.Answer.TheVariants as said
 use Rattle.dialogues.specs.Piping.{completion_said}
-use Rattle.session_calls.specs.Pipelines.{origin_at}
+use Rattle.recorded_calls.specs.Pipelines.{origin_at}
 
 -- a callback, under the line of its request
 abbrev pub callback_said : List Origin → Callback Finished → Answer

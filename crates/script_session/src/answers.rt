@@ -9,8 +9,8 @@ ghost use Rattle.transforms.specs.Finish.{finished_value};
 
 use alg_registry::{Enlisted, RefAnswer};
 use kc_base::Errno;
+use recorded_calls::Stop;
 use reply_text::{Answer, Reply};
-use session_calls::Stop;
 use std::alloc::AllocError;
 use transforms::Finished;
 
@@ -23,7 +23,7 @@ pub fn say(answers: &mut Vec<Answer>, answer: Answer) -> Result<(), Stop>
 }
 
 /// Adds a refusal.
-pub fn refuse(answers: &mut Vec<Answer>, line: u32, errno: Errno) -> Result<(), Stop>
+pub fn answer_errno(answers: &mut Vec<Answer>, line: u32, errno: Errno) -> Result<(), Stop>
     ensures { OnOk result (answers.new.items ≡ answers.old.items ++ Answer.Refused line errno ∷ []) }
 {
     say(answers, Answer::Refused { line, errno })

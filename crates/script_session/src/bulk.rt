@@ -3,20 +3,20 @@
 ghost use Rattle.std.specs.Prelude.{◌≡◌, ◌<◌, ◌≤◌, ◌^◌, ℕ, true, Some, IfOk, MatchResult};
 ghost use Rattle.dialogues.specs.Bulk.{bulk, bulk_counter, bulk_digest as digest_of, bulk_said, bulk_text, is_ctr};
 ghost use Rattle.reply_text.specs.declared.answers.Answer.TheVariants.{Refused};
-ghost use Rattle.session_calls.specs.Passes.{known};
-ghost use Rattle.script_session.specs.Holding.{Holds, StopsIn};
-ghost use Rattle.script_session.specs.States.{Stands, Posted};
+ghost use Rattle.recorded_calls.specs.Passes.{known};
+ghost use Rattle.script_session.specs.Performing.{Performs, StopsIn};
+ghost use Rattle.script_session.specs.States.{ReferencesMatch, PipelinesMatch};
 ghost use Rattle.transforms.specs.Forms.{key_of};
 
-use crate::answers::{refuse, say};
+use crate::answers::{answer_errno, say};
 use crate::scripts::Session;
 use crate::transform::Transform;
 use aes_block::BlockCipher;
 use generator::Generator;
 use kc_base::{Bytes, Errno};
 use mt_jobs::{MtJob, chunk_of, ctr_chunked};
+use recorded_calls::Stop;
 use reply_text::Answer;
-use session_calls::Stop;
 use sha2::{Digest, Sha256};
 use std::alloc::{AllocError, Global};
 use std::thread::Threads;
@@ -121,15 +121,15 @@ impl Session {
         seed: u32,
         answers: &mut Vec<Answer>,
     ) -> Result<(), Stop>
-        requires stands { Stands self.old.walk.lives (known self.old.registry) }
-        requires posted { Posted self.old.walk (known self.old.board) }
+        requires stands { ReferencesMatch self.old.script_state.lives (known self.old.registry) }
+        requires posted { PipelinesMatch self.old.script_state (known self.old.board) }
         ensures { MatchResult result
-            (λ _. Holds (bulk self.old.walk number label.now size seed) self.old self.new answers.old.items answers.new.items)
-            (λ _. StopsIn (bulk self.old.walk number label.now size seed) self.old self.new) }
+            (λ _. Performs (bulk self.old.script_state number label.now size seed) self.old self.new answers.old.items answers.new.items)
+            (λ _. StopsIn (bulk self.old.script_state number label.now size seed) self.old self.new) }
     {
         let threads = self.workers.max(1);
         let Some(live) = self.either_of(label.as_slice()) else {
-            return refuse(answers, number, Errno::ENOENT);
+            return answer_errno(answers, number, Errno::ENOENT);
         };
         let answer = bulk_answer(rt, self.alloc, threads, number, live, size, seed)?;
         say(answers, answer)

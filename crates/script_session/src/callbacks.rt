@@ -10,8 +10,8 @@ ghost use Rattle.script_session.specs.Saying.{callback_room};
 ghost use Rattle.script_session.specs.Telling.{callback_said};
 
 use kc_base::{Callback, Callbacks, Errno};
+use recorded_calls::RequestLines;
 use reply_text::{Answer, Origin, Reply};
-use session_calls::Lines;
 use std::alloc::AllocError;
 use transforms::Finished;
 
@@ -31,7 +31,7 @@ fn completed(of: Origin, finished: Finished) -> Answer
     }
 }
 
-fn told(lines: &Lines, callback: Callback<Finished>) -> Answer
+fn told(lines: &RequestLines, callback: Callback<Finished>) -> Answer
     ensures { result ≡ callback_said lines.now callback }
 {
     match callback {
@@ -44,7 +44,7 @@ fn told(lines: &Lines, callback: Callback<Finished>) -> Answer
 
 /// Adds an answer for each callback, each under the line of its request. The answers keep the callbacks' bytes.
 pub fn tell(
-    lines: &Lines,
+    lines: &RequestLines,
     callbacks: Callbacks<Finished>,
     answers: &mut Vec<Answer>,
 ) -> Result<(), AllocError>
@@ -102,7 +102,7 @@ fn put_completed(reply: &mut Reply, of: Origin, finished: &Finished)
     }
 }
 
-fn put_callback(reply: &mut Reply, lines: &Lines, callback: &Callback<Finished>)
+fn put_callback(reply: &mut Reply, lines: &RequestLines, callback: &Callback<Finished>)
     requires { callback_room callback.now ≤ reply.old.spare }
     ensures text { reply.new.text ≡ reply.old.text ++ text_of (callback_said lines.now callback.now) }
     ensures left { reply.old.spare ≤ reply.new.spare + callback_room callback.now }
@@ -117,7 +117,7 @@ fn put_callback(reply: &mut Reply, lines: &Lines, callback: &Callback<Finished>)
 }
 
 /// Adds the text of each callback, under the line of its request. There is room for it, and no memory is taken.
-pub fn put_callbacks(reply: &mut Reply, lines: &Lines, callbacks: &[Callback<Finished>])
+pub fn put_callbacks(reply: &mut Reply, lines: &RequestLines, callbacks: &[Callback<Finished>])
     requires { sum_by callback_room callbacks.now ≤ reply.old.spare }
     ensures text { reply.new.text ≡ reply.old.text ++ flat_map text_of (map (callback_said lines.now) callbacks.now) }
     ensures left { reply.old.spare ≤ reply.new.spare + sum_by callback_room callbacks.now }

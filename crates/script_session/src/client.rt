@@ -2,21 +2,21 @@
 
 ghost use Rattle.std.specs.Prelude.{◌≡◌, Some, OnOk, MatchResult};
 ghost use Rattle.std.specs.Arc.{arc_value};
-ghost use Rattle.dialogues.specs.Walk.{start_beside};
-ghost use Rattle.script_session.specs.Ending.{AnswersEndBeside, EndsPaid};
-ghost use Rattle.script_session.specs.Holding.{Stops};
-ghost use Rattle.script_session.specs.States.{Stands, Posted};
-ghost use Rattle.session_calls.specs.Passes.{known, CallsBoard};
+ghost use Rattle.dialogues.specs.ScriptState.{start_beside};
+ghost use Rattle.script_session.specs.Ending.{AnswersEndBeside, EndsDelivered};
+ghost use Rattle.script_session.specs.Performing.{Stops};
+ghost use Rattle.script_session.specs.States.{ReferencesMatch, PipelinesMatch};
+ghost use Rattle.recorded_calls.specs.Passes.{known, CallsBoard};
 
-use crate::collecting::drain_last_said_all;
-use crate::ending::release_all;
-use crate::lives::Lives;
+use crate::collects::drain_last_said_all;
+use crate::end_of_input::release_all;
+use crate::lives::LiveTransforms;
 use crate::scripts::Session;
-use crate::sharing::Shared;
+use crate::shared_transforms::Shared;
 use board::only_collects_hand_out;
 use crew::Gate;
+use recorded_calls::{BoardCaller, RegistryCaller, Stop};
 use reply_text::Reply;
-use session_calls::{BoardCaller, RegistryCaller, Stop};
 use shared_board::{BoardPass, SharedBoard};
 use shared_registry::RegPass;
 use std::alloc::Global;
@@ -34,14 +34,14 @@ impl Session {
         registry: RegPass,
         board: BoardPass<Job>,
     ) -> Session
-        ensures { result ≡ record { workers = workers; walk = start_beside client (arc_value shared); registry = Some registry; board = Some board } }
+        ensures { result ≡ record { workers = workers; script_state = start_beside client (arc_value shared); registry = Some registry; board = Some board } }
     {
         Session {
             alloc,
             workers,
             client,
             shared: Some(shared),
-            lives: Lives::new(alloc),
+            lives: LiveTransforms::new(alloc),
             requests: 0,
             bytes: 0,
             registry: RegistryCaller::new(registry),
@@ -60,12 +60,12 @@ impl Session {
         reply: &mut Reply,
     ) -> Result<(), Stop>
         requires at { CallsBoard board.now self.old.board }
-        requires stands { Stands self.old.walk.lives (known self.old.registry) }
-        requires posted { Posted self.old.walk (known self.old.board) }
+        requires stands { ReferencesMatch self.old.script_state.lives (known self.old.registry) }
+        requires posted { PipelinesMatch self.old.script_state (known self.old.board) }
         ensures done { MatchResult result
             (λ _. AnswersEndBeside self.old self.new reply.old.text reply.new.text)
             (λ _. Stops self.old self.new) }
-        ensures paid { OnOk result (EndsPaid (known self.new.board)) }
+        ensures paid { OnOk result (EndsDelivered (known self.new.board)) }
     {
         only_collects_hand_out::<Ask>();
         let mut lives = self.lives.take_all(self.alloc)?;

@@ -13,9 +13,9 @@ use std::collections::BTreeMap;
 /// The live transforms. Each has a number, and a later one has a greater number, so `transforms` goes over them in order of
 /// allocation. To find one takes time that grows with the logarithm of how many there are.
 ///
-/// Lines write through loans of a transform, so it is the session's invariant that the labels lead where they should.
+/// RequestLines write through loans of a transform, so it is the session's invariant that the labels lead where they should.
 #[derive(Drop)]
-pub struct Lives {
+pub struct LiveTransforms {
     /// The number of each label's transform.
     pub(crate) labels: BTreeMap<Vec<u8>, u64>,
     pub(crate) transforms: BTreeMap<u64, Transform>,
@@ -23,13 +23,13 @@ pub struct Lives {
     pub(crate) next: u64,
 }
 
-impl Lives {
+impl LiveTransforms {
     /// No transforms. No memory is taken.
-    pub fn new(alloc: Global) -> Lives
+    pub fn new(alloc: Global) -> LiveTransforms
         ensures none { lives_of result ≡ [] }
         ensures filed { AreFiled result }
     {
-        Lives {
+        LiveTransforms {
             labels: BTreeMap::new(alloc),
             transforms: BTreeMap::new(alloc),
             next: 0,

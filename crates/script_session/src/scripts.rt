@@ -3,26 +3,26 @@
 ghost use Rattle.std.specs.Prelude.{◌≡◌, ◌≤◌, [], true, false, OnOk, OnErr, MatchResult, IsSome, Some};
 ghost use Rattle.script_text.specs.Sizes.{IsShortCommand, IsShortLine};
 ghost use Rattle.script_text.specs.declared.commands.Line.TheVariants.{Cmd};
-ghost use Rattle.dialogues.specs.Walk.{start};
+ghost use Rattle.dialogues.specs.ScriptState.{start};
 ghost use Rattle.dialogues.specs.Lines.{command_dialogue, line_dialogue};
 ghost use Rattle.dialogues.specs.Widths.{command_width, width_of};
 ghost use Rattle.script_session.specs.Running.{IsReady, Replies};
-ghost use Rattle.session_calls.specs.Passes.{CallsRegistry, known, CallsBoard};
-ghost use Rattle.script_session.specs.States.{Stands, Posted, IsWide, AreShared};
-ghost use Rattle.script_session.specs.Holding.{HoldsBy, StopsIn};
+ghost use Rattle.recorded_calls.specs.Passes.{CallsRegistry, known, CallsBoard};
+ghost use Rattle.script_session.specs.States.{ReferencesMatch, PipelinesMatch, PadsHaveAListPerWorker, AreShared};
+ghost use Rattle.script_session.specs.Performing.{PerformsBy, StopsIn};
 ghost use Rattle.script_session.specs.Saying.{SaysBy, hands_out};
-ghost use Rattle.session_calls.specs.Pipelines.{Called};
+ghost use Rattle.recorded_calls.specs.Pipelines.{Called};
 
-use crate::allocating::Wanted;
+use crate::alloc_and_free::Wanted;
 use crate::answers::put_all;
-use crate::lives::Lives;
-use crate::requesting::mac_request;
+use crate::lives::LiveTransforms;
+use crate::request_forms::mac_request;
 use crate::settings::Setting;
-use crate::sharing::Shared;
+use crate::shared_transforms::Shared;
 use crew::Gate;
+use recorded_calls::{BoardCaller, RegistryCaller, Stop, shared_is_known};
 use reply_text::{Answer, Reply};
 use script_text::{Command, Line};
-use session_calls::{BoardCaller, RegistryCaller, Stop, shared_is_known};
 use shared_board::{BoardPass, SharedBoard};
 use shared_registry::{RegPass, SharedRegistry};
 use std::alloc::Global;
@@ -39,7 +39,7 @@ pub struct Session {
     pub(crate) client: u32,
     /// What it shares with other scripts, where there are any.
     pub(crate) shared: Option<Arc<Shared, Global>>,
-    pub(crate) lives: Lives,
+    pub(crate) lives: LiveTransforms,
     /// How many requests pipelines accepted, and of how many bytes.
     pub(crate) requests: u64,
     pub(crate) bytes: u64,
@@ -56,7 +56,7 @@ impl Model for Session {
 
     ghost view = { λ s. record {
       workers = s.workers;
-      walk = record { client = s.client; shared = shared_in s.shared; lives = lives_of s.lives; requests = s.requests; bytes = s.bytes };
+      script_state = record { client = s.client; shared = shared_in s.shared; lives = lives_of s.lives; requests = s.requests; bytes = s.bytes };
       registry = s.registry;
       board = s.board;
     } };
@@ -73,14 +73,14 @@ impl Session {
         registry: RegPass,
         board: BoardPass<Job>,
     ) -> Session
-        ensures { result ≡ record { workers = workers; walk = start client; registry = Some registry; board = Some board } }
+        ensures { result ≡ record { workers = workers; script_state = start client; registry = Some registry; board = Some board } }
     {
         Session {
             alloc,
             workers,
             client,
             shared: None,
-            lives: Lives::new(alloc),
+            lives: LiveTransforms::new(alloc),
             requests: 0,
             bytes: 0,
             registry: RegistryCaller::new(registry),
@@ -108,16 +108,16 @@ impl Session {
     ) -> Result<(), Stop>
         requires at_registry { CallsRegistry registry.now self.old.registry }
         requires at_board { CallsBoard board.now self.old.board }
-        requires stands { Stands self.old.walk.lives (known self.old.registry) }
-        requires posted { Posted self.old.walk (known self.old.board) }
+        requires stands { ReferencesMatch self.old.script_state.lives (known self.old.registry) }
+        requires posted { PipelinesMatch self.old.script_state (known self.old.board) }
         requires few { self.old.workers ≤ 16 }
-        requires wide { IsWide self.old }
-        requires shared { AreShared self.old.walk.shared (known self.old.board) }
+        requires wide { PadsHaveAListPerWorker self.old }
+        requires shared { AreShared self.old.script_state.shared (known self.old.board) }
         requires short { IsShortCommand command }
         requires no_collect { hands_out (Cmd command) ≡ false }
         ensures { MatchResult result
-            (λ _. HoldsBy (command_width command) (command_dialogue self.old.workers self.old.walk number command) self.old self.new answers.old.items answers.new.items)
-            (λ _. StopsIn (command_dialogue self.old.workers self.old.walk number command) self.old self.new) }
+            (λ _. PerformsBy (command_width command) (command_dialogue self.old.workers self.old.script_state number command) self.old self.new answers.old.items answers.new.items)
+            (λ _. StopsIn (command_dialogue self.old.workers self.old.script_state number command) self.old self.new) }
     {
         match command {
             Command::Aes { key, block } => self.aes(number, &key, &block, answers),
@@ -210,8 +210,8 @@ impl Session {
         requires short { IsShortLine line }
         requires no_collect { hands_out line ≡ false }
         ensures done { MatchResult result
-            (λ _. SaysBy (width_of line) (line_dialogue self.old.workers self.old.walk number line) self.old self.new reply.old.text reply.new.text)
-            (λ _. StopsIn (line_dialogue self.old.workers self.old.walk number line) self.old self.new) }
+            (λ _. SaysBy (width_of line) (line_dialogue self.old.workers self.old.script_state number line) self.old self.new reply.old.text reply.new.text)
+            (λ _. StopsIn (line_dialogue self.old.workers self.old.script_state number line) self.old self.new) }
         ensures unwritten { OnErr result (reply.new.text ≡ reply.old.text) }
     {
         let mut answers = Vec::new(self.alloc);
@@ -241,8 +241,8 @@ impl Session {
         requires ready { IsReady registry.now board.now self.old }
         requires short { IsShortLine line }
         ensures done { MatchResult result
-            (λ _. Replies (width_of line) (line_dialogue self.old.workers self.old.walk number line) self.old self.new reply.old.text reply.new.text)
-            (λ _. StopsIn (line_dialogue self.old.workers self.old.walk number line) self.old self.new) }
+            (λ _. Replies (width_of line) (line_dialogue self.old.workers self.old.script_state number line) self.old self.new reply.old.text reply.new.text)
+            (λ _. StopsIn (line_dialogue self.old.workers self.old.script_state number line) self.old self.new) }
         // It is ready for the next line.
         ensures ready { OnOk result (IsReady registry.now board.now self.new) }
         ensures unwritten { OnErr result (reply.new.text ≡ reply.old.text) }

@@ -8,21 +8,21 @@ ghost use Rattle.turn_lock.specs.Turns.{Known};
 ghost use Rattle.dialogues.specs.Allocating.{lists_beside};
 ghost use Rattle.dialogues.specs.Piping.{kept_bits, mask};
 ghost use Rattle.dialogues.specs.Requesting.{set_key, set_tag_size};
-ghost use Rattle.session_calls.specs.Passes.{known, lock_of, CallsBoard};
-ghost use Rattle.session_calls.specs.Pipelines.{KnowsPipe, Kept, IsQueue, Changed};
-ghost use Rattle.script_session.specs.Changing.{HoldsFor, StopsFor};
-ghost use Rattle.script_session.specs.Holding.{Holds, StopsIn};
+ghost use Rattle.recorded_calls.specs.Passes.{known, lock_of, CallsBoard};
+ghost use Rattle.recorded_calls.specs.Pipelines.{KnowsPipe, Unchanged, IsQueue, Changed};
+ghost use Rattle.script_session.specs.Changing.{PerformsFor, StopsFor};
+ghost use Rattle.script_session.specs.Performing.{Performs, StopsIn};
 ghost use Rattle.script_session.specs.Settings.{sets, holds_or_goes, hold_call};
-ghost use Rattle.script_session.specs.States.{HasPipe, MadeWide, IsWide, Stands, Posted};
+ghost use Rattle.script_session.specs.States.{HasPipe, MadeWide, PadsHaveAListPerWorker, ReferencesMatch, PipelinesMatch};
 
-use crate::answers::{refuse, say};
-use crate::piping::lists_beside_workers;
+use crate::answers::{answer_errno, say};
+use crate::pipeline_requests::lists_beside_workers;
 use crate::scripts::Session;
 use crate::transform::Transform;
 use board::BoardErr;
 use kc_base::{Bytes, Errno};
+use recorded_calls::{BoardCaller, PipelineView, Stop};
 use reply_text::Answer;
-use session_calls::{BoardCaller, Pipe, Stop};
 use shared_board::SharedBoard;
 use std::alloc::Global;
 use std::sync::Wait;
@@ -49,11 +49,11 @@ fn key_live(
 ) -> Result<(), Stop>
     ensures named { live.new.label ≡ live.old.label }
     ensures held { OnOk result ((k : Known (BoardEntry Ask)) → HasPipe k live.old.pipe → LegalBoard k.seen
-        → HoldsFor (λ walk. set_key walk line live.old.label key.now) live.old live.new k k [] answers.old.items answers.new.items) }
+        → PerformsFor (λ script_state. set_key script_state line live.old.label key.now) live.old live.new k k [] answers.old.items answers.new.items) }
 {
     match live.set_key(alloc, key) {
         Ok(()) => say(answers, Answer::Ok { line }),
-        Err(TfmErr::Inval) => refuse(answers, line, Errno::EINVAL),
+        Err(TfmErr::Inval) => answer_errno(answers, line, Errno::EINVAL),
         Err(TfmErr::Memory) => Err(Stop::Memory),
     }
 }
@@ -67,11 +67,11 @@ fn size_live(
 ) -> Result<(), Stop>
     ensures named { live.new.label ≡ live.old.label }
     ensures held { OnOk result ((k : Known (BoardEntry Ask)) → HasPipe k live.old.pipe → LegalBoard k.seen
-        → HoldsFor (λ walk. set_tag_size walk line live.old.label size) live.old live.new k k [] answers.old.items answers.new.items) }
+        → PerformsFor (λ script_state. set_tag_size script_state line live.old.label size) live.old live.new k k [] answers.old.items answers.new.items) }
 {
     match live.set_tag_size(size) {
         Ok(()) => say(answers, Answer::Ok { line }),
-        Err(errno) => refuse(answers, line, errno),
+        Err(errno) => answer_errno(answers, line, errno),
     }
 }
 
@@ -102,28 +102,28 @@ fn mask_live<R: Wait>(
     ensures named { live.new.label ≡ live.old.label }
     ensures lock { lock_of caller.new ≡ lock_of caller.old }
     ensures held { MatchResult result
-        (λ _. HoldsFor (λ walk. mask workers walk line live.old.label bits) live.old live.new (known caller.old) (known caller.new) [] answers.old.items answers.new.items)
-        (λ _. StopsFor (λ walk. mask workers walk line live.old.label bits) live.old (known caller.old) (known caller.new)) }
+        (λ _. PerformsFor (λ script_state. mask workers script_state line live.old.label bits) live.old live.new (known caller.old) (known caller.new) [] answers.old.items answers.new.items)
+        (λ _. StopsFor (λ script_state. mask workers script_state line live.old.label bits) live.old (known caller.old) (known caller.new)) }
 {
     let Some(pipe) = live.pipe() else {
-        return refuse(answers, line, Errno::EINVAL);
+        return answer_errno(answers, line, Errno::EINVAL);
     };
     if pipe.bound.is_some() {
-        return refuse(answers, line, Errno::EINVAL);
+        return answer_errno(answers, line, Errno::EINVAL);
     }
     let kept = bits_beside_workers(workers, bits);
     caller.mask(rt, board, pipe, kept)?;
     say(answers, Answer::Ok { line })?;
-    live.set_unmanned(kept == 0);
+    live.set_mask_is_empty(kept == 0);
     Ok(())
 }
 
-// Holds a queue, or lets it go.
+// Performs a queue, or lets it go.
 fn hold_pipe<R: Wait>(
     rt: &R,
     board: &SharedBoard<Job>,
     caller: &mut BoardCaller,
-    pipe: &Pipe,
+    pipe: &PipelineView,
     held: bool,
 ) -> Result<(), BoardErr>
     requires at { CallsBoard board.now caller.old }
@@ -132,7 +132,7 @@ fn hold_pipe<R: Wait>(
     ensures lock { lock_of caller.new ≡ lock_of caller.old }
     ensures changed { MatchResult result
         (λ _. Changed (known caller.old) (known caller.new) pipe.now (record (pipe.now) { held = held }) (hold_call held pipe.now.number ∷ []) [])
-        (λ _. Kept (known caller.old) (known caller.new)) }
+        (λ _. Unchanged (known caller.old) (known caller.new)) }
 {
     if held {
         caller.hold(rt, board, pipe)
@@ -157,14 +157,14 @@ fn hold_live<R: Wait>(
     ensures named { live.new.label ≡ live.old.label }
     ensures lock { lock_of caller.new ≡ lock_of caller.old }
     ensures held { MatchResult result
-        (λ _. HoldsFor (λ walk. holds_or_goes walk line live.old.label held) live.old live.new (known caller.old) (known caller.new) [] answers.old.items answers.new.items)
-        (λ _. StopsFor (λ walk. holds_or_goes walk line live.old.label held) live.old (known caller.old) (known caller.new)) }
+        (λ _. PerformsFor (λ script_state. holds_or_goes script_state line live.old.label held) live.old live.new (known caller.old) (known caller.new) [] answers.old.items answers.new.items)
+        (λ _. StopsFor (λ script_state. holds_or_goes script_state line live.old.label held) live.old (known caller.old) (known caller.new)) }
 {
     let Some(pipe) = live.pipe() else {
-        return refuse(answers, line, Errno::EINVAL);
+        return answer_errno(answers, line, Errno::EINVAL);
     };
     if pipe.bound.is_none() {
-        return refuse(answers, line, Errno::EINVAL);
+        return answer_errno(answers, line, Errno::EINVAL);
     }
     hold_pipe(rt, board, caller, pipe, held)?;
     say(answers, Answer::Ok { line })?;
@@ -192,8 +192,8 @@ fn set_live<R: Wait>(
     ensures named { live.new.label ≡ live.old.label }
     ensures lock { lock_of caller.new ≡ lock_of caller.old }
     ensures held { MatchResult result
-        (λ _. HoldsFor (λ walk. sets workers walk line live.old.label setting) live.old live.new (known caller.old) (known caller.new) [] answers.old.items answers.new.items)
-        (λ _. StopsFor (λ walk. sets workers walk line live.old.label setting) live.old (known caller.old) (known caller.new)) }
+        (λ _. PerformsFor (λ script_state. sets workers script_state line live.old.label setting) live.old live.new (known caller.old) (known caller.new) [] answers.old.items answers.new.items)
+        (λ _. StopsFor (λ script_state. sets workers script_state line live.old.label setting) live.old (known caller.old) (known caller.new)) }
 {
     match setting {
         Setting::Key(key) => key_live(alloc, line, live, key.as_slice(), answers),
@@ -215,17 +215,17 @@ impl Session {
         answers: &mut Vec<Answer>,
     ) -> Result<(), Stop>
         requires at { CallsBoard board.now self.old.board }
-        requires stands { Stands self.old.walk.lives (known self.old.registry) }
-        requires posted { Posted self.old.walk (known self.old.board) }
+        requires stands { ReferencesMatch self.old.script_state.lives (known self.old.registry) }
+        requires posted { PipelinesMatch self.old.script_state (known self.old.board) }
         requires few { self.old.workers ≤ 16 }
-        requires wide { IsWide self.old }
+        requires wide { PadsHaveAListPerWorker self.old }
         ensures { MatchResult result
-            (λ _. Holds (sets self.old.workers self.old.walk number label.now setting) self.old self.new answers.old.items answers.new.items)
-            (λ _. StopsIn (sets self.old.workers self.old.walk number label.now setting) self.old self.new) }
+            (λ _. Performs (sets self.old.workers self.old.script_state number label.now setting) self.old self.new answers.old.items answers.new.items)
+            (λ _. StopsIn (sets self.old.workers self.old.script_state number label.now setting) self.old self.new) }
     {
         let Some(place) = self.lives.place_of(label.as_slice()) else {
             let errno = self.missing(label.as_slice());
-            return refuse(answers, number, errno);
+            return answer_errno(answers, number, errno);
         };
         let live = self.lives.transforms.get_mut(&place).unwrap();
         set_live(

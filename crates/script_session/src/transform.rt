@@ -9,15 +9,15 @@ ghost use Rattle.dialogues.specs.BoardCalls.{asked_by};
 ghost use Rattle.script_session.specs.Keyed.{with_line, held_as, manned_as, delivering, MayDeliver, IsJob, IsNoJob};
 
 use kc_base::{Bytes, Errno};
+use recorded_calls::PipelineView;
 use reply_text::Origin;
-use session_calls::Pipe;
 use std::alloc::{AllocError, Global};
 use std::marker::Model;
 use std::sync::Arc;
 use templates::Plan;
 use transforms::{Ask, Job, Keyed, Request, TfmErr, largest_tag_size, prepare, tag_size};
 
-/// A transform between its allocation and its release. Contracts see it as a row of the walk.
+/// A transform between its allocation and its release. Contracts see it as a row of the script's state.
 #[derive(Drop)]
 pub struct Transform {
     label: Bytes,
@@ -27,13 +27,13 @@ pub struct Transform {
     keyed: Option<Arc<Keyed>>,
     tag_size: u32,
     /// Where its requests wait, if they aren't done at their line.
-    pipe: Option<Pipe>,
+    pipe: Option<PipelineView>,
 }
 
 impl Model for Transform {
     ghost use Rattle.std.specs.Prelude.{◌≡◌, true};
     ghost use Rattle.transforms.specs.Plans.{fits_tag};
-    ghost use Rattle.dialogues.specs.Walk.{Live};
+    ghost use Rattle.dialogues.specs.ScriptState.{Live};
     ghost use Rattle.script_session.specs.Keyed.{key_in, IsKeyedBy};
 
     ghost Value = { Live };
@@ -55,7 +55,7 @@ fn shared(alloc: Global, keyed: Keyed) -> Result<Arc<Keyed>, TfmErr>
 
 impl Transform {
     /// A transform with no key, and the greatest tag size of its mode. No memory is taken.
-    pub fn new(label: Bytes, id: u64, plan: Plan, pipe: Option<Pipe>) -> Transform
+    pub fn new(label: Bytes, id: u64, plan: Plan, pipe: Option<PipelineView>) -> Transform
         ensures { result ≡ new_live label id plan pipe }
     {
         Transform {
@@ -122,7 +122,7 @@ impl Transform {
     }
 
     /// Its pipeline, where its driver's outermost template has one.
-    pub fn pipe(&self) -> Option<&Pipe>
+    pub fn pipe(&self) -> Option<&PipelineView>
         ensures { option_copied result ≡ self.now.pipe }
     {
         self.pipe.as_ref()
@@ -149,11 +149,11 @@ impl Transform {
     }
 
     /// Some worker may take from its pipeline, or none.
-    pub fn set_unmanned(&mut self, unmanned: bool)
-        ensures { self.new ≡ manned_as self.old unmanned }
+    pub fn set_mask_is_empty(&mut self, mask_is_empty: bool)
+        ensures { self.new ≡ manned_as self.old mask_is_empty }
     {
         if let Some(pipe) = &mut self.pipe {
-            pipe.unmanned = unmanned;
+            pipe.mask_is_empty = mask_is_empty;
         }
     }
 

@@ -10,7 +10,7 @@ use Rattle.std.proofs.lemmas.List.Sums.{prefix_len_passes, prefix_len_stops}
 use Rattle.std.proofs.lemmas.List.Elements.{All-from_get_or, All-contains, Contains-append_right, Contains-append_cases, Contains-get_or, All-cons, All-nil}
 use Rattle.std.specs.List.{onto_first, position_or_len, All, Contains}
 use Rattle.script_text.specs.Lines.{is_feed, lines_of, ends_with, without_return, without_last}
-use Rattle.script_text.specs.Pending.{Kept, IsPending, IsFirstFeed, CutsNext, CutsLast, kept_of, all_seen, all_begun}
+use Rattle.script_text.specs.Pending.{CutterState, IsPending, IsFirstFeed, CutsNext, CutsLast, kept_of, all_seen, all_begun}
 use Rattle.script_text.specs.Script.{line_of, line_of_text, line_of_tokens, script_of}
 use Rattle.script_text.specs.Tokens.{tokens_of}
 use Rattle.script_text.specs.Whole.{whole_script, AreFirst, WholeLinesStay, NoWholeLine}
@@ -57,7 +57,7 @@ no_feed_in xs ys a b has = elim (Contains-append_cases xs ys 10 has) [ inl l ↦
 
 -- whether a search finds one says whether one is pending, since the line that has begun has none
 pub pending_feed : (unseen : List ℕ) (answer : Option ℕ) → MatchOption answer (Contains unseen 10 → ⊥) (IsFirstFeed unseen)
-    → (bytes : List ℕ) (kept : Kept) → kept.unseen ≡ unseen → IsPending bytes kept → MatchBool (is_some answer) (Contains bytes 10) (Contains bytes 10 → ⊥)
+    → (bytes : List ℕ) (kept : CutterState) → kept.unseen ≡ unseen → IsPending bytes kept → MatchBool (is_some answer) (Contains bytes 10) (Contains bytes 10 → ⊥)
 pending_feed unseen None none bytes kept same is =
     λ has. no_feed_in is.begun kept.unseen is.no_feed (subst (λ xs. Contains xs 10 → ⊥) (sym same) none) (subst (λ xs. Contains xs 10) is.bytes_are has)
 pending_feed unseen (Some place) found bytes kept same is =
@@ -101,7 +101,7 @@ kept_on begun unseen =
       | inr le ↦ ap (λ c. all_begun (cond c None (Some begun)) unseen) (le_false 65536 (length begun) le)
     ]
 
-pub nothing_ends : (old new : Kept) → new ≡ all_seen old → (Contains old.unseen 10 → ⊥) → CutsNext old new None
+pub nothing_ends : (old new : CutterState) → new ≡ all_seen old → (Contains old.unseen 10 → ⊥) → CutsNext old new None
 nothing_ends old new is none = λ bytes p.
     let free : Contains bytes 10 → ⊥ = λ has. no_feed_in p.begun old.unseen p.no_feed none (subst (λ xs. Contains xs 10) p.bytes_are has) in (
       free,
@@ -167,7 +167,7 @@ says_next begun rest said says =
       | inr le ↦ says.line begun (ap (λ c. cond c None (Some begun)) (le_false 65536 (length begun) le)) ∙ ap line_of (sym (append_assoc begun rest (10 ∷ [])))
     ]
 
-pub next_cut : (old new : Kept) (place : ℕ) (said : Line) → IsFirstFeed old.unseen place → Says old.begun (take place old.unseen ++ 10 ∷ []) said
+pub next_cut : (old new : CutterState) (place : ℕ) (said : Line) → IsFirstFeed old.unseen place → Says old.begun (take place old.unseen ++ 10 ∷ []) said
     → new ≡ record { begun = Some []; unseen = drop (place + 1) old.unseen } → CutsNext old new (Some said)
 next_cut old new place said feed says is = λ bytes p. (
   drop (place + 1) old.unseen,
@@ -180,14 +180,14 @@ next_cut old new place said feed says is = λ bytes p. (
   record {
     begun = [];
     no_feed = none_in_none;
-    kept_is = ap (λ (k : Kept). k.begun) is;
-    bytes_are = sym (ap (λ (k : Kept). k.unseen) is);
+    kept_is = ap (λ (k : CutterState). k.begun) is;
+    bytes_are = sym (ap (λ (k : CutterState). k.unseen) is);
   },
 )
 
 -- ---- the last line
 
-pub last_none : (old : Kept) → old.begun ≡ Some [] → old.unseen ≡ [] → CutsLast old old None
+pub last_none : (old : CutterState) → old.begun ≡ Some [] → old.unseen ≡ [] → CutsLast old old None
 last_none old begun unseen = λ bytes p none. (
   record { begun = []; no_feed = none_in_none; kept_is = begun; bytes_are = sym unseen },
   p.bytes_are ∙ ap₂ (λ xs ys. xs ++ ys) (kept_short p.begun [] (sym p.kept_is ∙ begun)) unseen,
@@ -209,11 +209,11 @@ some_last begun rest some =
       | inr le ↦ some begun (ap (λ c. cond c None (Some begun)) (le_false 65536 (length begun) le))
     ]
 
-pub last_cut : (old new : Kept) (said : Line) → Says old.begun old.unseen said → ((xs : List ℕ) → old.begun ≡ Some xs → 0 < length (xs ++ old.unseen))
+pub last_cut : (old new : CutterState) (said : Line) → Says old.begun old.unseen said → ((xs : List ℕ) → old.begun ≡ Some xs → 0 < length (xs ++ old.unseen))
     → new ≡ record { begun = Some []; unseen = [] } → CutsLast old new (Some said)
 last_cut old new said says some is = λ bytes p none.
     let free : Contains (p.begun ++ old.unseen) 10 → ⊥ = subst (λ xs. Contains xs 10 → ⊥) p.bytes_are none in (
-      record { begun = []; no_feed = none_in_none; kept_is = ap (λ (k : Kept). k.begun) is; bytes_are = sym (ap (λ (k : Kept). k.unseen) is) },
+      record { begun = []; no_feed = none_in_none; kept_is = ap (λ (k : CutterState). k.begun) is; bytes_are = sym (ap (λ (k : CutterState). k.unseen) is) },
       (
         says_last p.begun old.unseen said free (subst (λ o. Says o old.unseen said) p.kept_is says) ∙ ap line_of (sym p.bytes_are),
         subst (λ xs. 0 < length xs) (sym p.bytes_are) (some_last p.begun old.unseen (subst (λ o. (xs : List ℕ) → o ≡ Some xs → 0 < length (xs ++ old.unseen)) p.kept_is some)),

@@ -7,7 +7,7 @@ use Rattle.std.proofs.KnownBytes.{Consumes-nil, Consumes-trans}
 use Rattle.kc_base.specs.declared.transfer.InputError.{InputError}
 use Rattle.kc_base.specs.declared.transfer.InputError.TheVariants.{Failed, TooLong, NoMemory}
 use Rattle.script_text.specs.NextLine.{Place, StandsAt, ReadsOn, ReadsPiece, IsNext, FindsNext}
-use Rattle.script_text.specs.Pending.{Kept, IsPending, EndsLine, CutsNext, CutsLast}
+use Rattle.script_text.specs.Pending.{CutterState, IsPending, EndsLine, CutsNext, CutsLast}
 use Rattle.script_text.specs.Script.{line_of, script_of}
 use Rattle.script_text.specs.Whole.{whole_script}
 use Rattle.script_text.specs.declared.commands.Line.{Line}
@@ -38,12 +38,12 @@ next_last bytes ended said at_end none said_is some = record {
 
 -- ---- what a cutter was fed
 
-fed : (bytes piece : List ℕ) (old new : Kept) → new ≡ record { begun = old.begun; unseen = old.unseen ++ piece } → IsPending bytes old → IsPending (bytes ++ piece) new
+fed : (bytes piece : List ℕ) (old new : CutterState) → new ≡ record { begun = old.begun; unseen = old.unseen ++ piece } → IsPending bytes old → IsPending (bytes ++ piece) new
 fed bytes piece old new is p = record {
   begun = p.begun;
   no_feed = p.no_feed;
-  kept_is = ap (λ (k : Kept). k.begun) is ∙ p.kept_is;
-  bytes_are = ap (λ xs. xs ++ piece) p.bytes_are ∙ (append_assoc p.begun old.unseen piece ∙ ap (λ xs. p.begun ++ xs) (sym (ap (λ (k : Kept). k.unseen) is)));
+  kept_is = ap (λ (k : CutterState). k.begun) is ∙ p.kept_is;
+  bytes_are = ap (λ xs. xs ++ piece) p.bytes_are ∙ (append_assoc p.begun old.unseen piece ∙ ap (λ xs. p.begun ++ xs) (sym (ap (λ (k : CutterState). k.unseen) is)));
 }
 
 -- ---- the search

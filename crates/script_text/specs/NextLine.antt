@@ -3,14 +3,14 @@ use Rattle.std.specs.Prelude.{◌≡◌, ◌++◌, ℕ, ◌+◌, ◌<◌, ◌≤
 use Rattle.std.specs.Io.KnownBytes.{Consumes, IsAtEnd}
 use Rattle.kc_base.specs.declared.transfer.InputError.{InputError}
 use Rattle.kc_base.specs.declared.transfer.InputError.TheVariants.{Failed, TooLong}
-use Rattle.script_text.specs.Pending.{Kept, IsPending}
+use Rattle.script_text.specs.Pending.{CutterState, IsPending}
 use Rattle.script_text.specs.Script.{script_of}
 use Rattle.script_text.specs.Whole.{whole_script}
 use Rattle.script_text.specs.declared.commands.Line.{Line}
 
 -- What a reader of lines is seen as: what its cutter keeps, how many bytes may still come, and whether the source has ended.
 pub record Place : Type 0 where
-  pub kept : Kept
+  pub kept : CutterState
   pub room : ℕ
   pub ended : Bool
 

@@ -8,7 +8,7 @@ abbrev pub kept_of : List ℕ → Option (List ℕ)
 kept_of begun = if nat_lt 65536 (length begun) then None else Some begun
 
 -- What a cutter keeps: of the line that has begun, and the bytes after it in which no line feed was looked for yet.
-pub record Kept : Type 0 where
+pub record CutterState : Type 0 where
   pub begun : Option (List ℕ)
   pub unseen : List ℕ
 
@@ -17,11 +17,11 @@ abbrev pub all_begun : Option (List ℕ) → List ℕ → Option (List ℕ)
 all_begun None unseen = None
 all_begun (Some begun) unseen = kept_of (begun ++ unseen)
 
-abbrev pub all_seen : Kept → Kept
+abbrev pub all_seen : CutterState → CutterState
 all_seen kept = record { begun = all_begun kept.begun kept.unseen; unseen = [] }
 
 -- Of these bytes no line was made yet.
-pub record IsPending (bytes : List ℕ) (kept : Kept) : Type 0 where
+pub record IsPending (bytes : List ℕ) (kept : CutterState) : Type 0 where
   pub begun : List ℕ
   pub no_feed : Contains begun 10 → ⊥
   pub kept_is : kept.begun ≡ kept_of begun
@@ -35,21 +35,21 @@ pub record EndsLine (bytes : List ℕ) (said : Line) (rest : List ℕ) : Type 0 
   pub said_is : said ≡ line_of (text ++ 10 ∷ [])
 
 -- Whatever was pending: the next line was cut off, or no line feed stood there.
-abbrev pub CutsNext : Kept → Kept → Option Line → Type 0
+abbrev pub CutsNext : CutterState → CutterState → Option Line → Type 0
 CutsNext old new answer =
     (bytes : List ℕ) → IsPending bytes old → MatchOption answer
     ((Contains bytes 10 → ⊥) × IsPending bytes new)
     (λ said. (rest : List ℕ) × EndsLine bytes said rest × IsPending rest new)
 
 -- Whatever was pending without a line feed is one line, the last.
-abbrev pub CutsLast : Kept → Kept → Option Line → Type 0
+abbrev pub CutsLast : CutterState → CutterState → Option Line → Type 0
 CutsLast old new answer =
     (bytes : List ℕ) → IsPending bytes old → (Contains bytes 10 → ⊥)
     → IsPending [] new × MatchOption answer (bytes ≡ []) (λ said. (said ≡ line_of bytes) × (0 < length bytes))
 
 -- What is kept is in a list of bytes: the line that has begun, from one place on where it isn't too long, and what is unseen from
 -- another on.
-abbrev pub kept_in : List ℕ → ℕ → ℕ → Bool → Kept
+abbrev pub kept_in : List ℕ → ℕ → ℕ → Bool → CutterState
 kept_in bytes at seen long =
     record { begun = if long then None else Some (take (seen - at) (drop at bytes)); unseen = drop seen bytes }
 

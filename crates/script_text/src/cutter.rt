@@ -6,7 +6,7 @@ ghost use Rattle.script_text.specs.Script.{line_of};
 ghost use Rattle.script_text.specs.Sizes.{IsShortLine};
 
 use crate::commands::Line;
-use crate::reading::{MAX_LINE, read_line};
+use crate::line_parser::{MAX_LINE, read_line};
 use crate::split::feed_place;
 use std::alloc::{AllocError, Global};
 use std::marker::Model;
@@ -27,9 +27,9 @@ pub struct LineCutter {
 
 impl Model for LineCutter {
     ghost use Rattle.std.specs.Prelude.{◌≤◌, vec_len};
-    ghost use Rattle.script_text.specs.Pending.{Kept, kept_in};
+    ghost use Rattle.script_text.specs.Pending.{CutterState, kept_in};
 
-    ghost Value = { Kept };
+    ghost Value = { CutterState };
 
     ghost view = { λ c. kept_in c.bytes.items c.at c.seen c.long };
 

@@ -4,7 +4,7 @@ ghost use Rattle.std.specs.Prelude.{◌≡◌, ◌≤◌, length, map, drop, IfO
 ghost use Rattle.script_text.specs.Lines.{lines_of};
 ghost use Rattle.script_text.specs.Parts.{is_mark_token, may_be_mark, is_mark_text, is_mark, before_mark, behind_mark, parts_of};
 
-use crate::reading::{MAX_LINE, text_before_feed};
+use crate::line_parser::{MAX_LINE, text_before_feed};
 use crate::split::line_len;
 use crate::tokens::{is_blank, split_tokens};
 use std::alloc::{AllocError, Global};

@@ -8,11 +8,11 @@ use Rattle.dialogues.specs.RegistryCalls.{RegCall}
 use Rattle.dialogues.specs.BoardCalls.{BoardCall}
 use Rattle.dialogues.specs.Questions.{RegQuestion, RegAnswer, Enlist, Look, Unlist, Get, Put, Count, ListAll, reg_call, reg_answer, BoardQuestion, BoardAnswer, Create, Submit, Enqueue, Hold, Go, Poll, Drain, Close, Share, Mask, Shut, board_call, board_answer}
 use Rattle.dialogues.specs.Dialogues.{Dialogue, Ends, Says, Asks, Posts}
-use Rattle.dialogues.specs.Turns.{Turn, turn_of, asking, posting, broken}
-use Rattle.dialogues.specs.Walk.{Walk}
-use Rattle.plain_calls.specs.Laws.{IsAnsweredBy, AreAnsweredBy, ThereIs, IsTimelessCall, IsToldBy, AreToldBy}
-use Rattle.plain_calls.specs.Pipelines.{Pipeline, next_number, verdict_of, drained_from, reply_in, is_timeless, pipelines_after}
-use Rattle.plain_calls.specs.Registry.{PlainRegistry, answer_in, registry_after}
+use Rattle.dialogues.specs.Transcripts.{Transcript, transcript_of, asking, posting, broken}
+use Rattle.dialogues.specs.ScriptState.{ScriptState}
+use Rattle.sequential_model.specs.Laws.{IsAnsweredBy, AreAnsweredBy, ThereIs, IsTimelessCall, IsToldBy, AreToldBy}
+use Rattle.sequential_model.specs.Pipelines.{Pipeline, next_number, verdict_of, drained_from, reply_in, is_timeless, pipelines_after}
+use Rattle.sequential_model.specs.Registry.{PlainRegistry, answer_in, registry_after}
 use Rattle.settled_scripts.specs.Passing.{IsAsPassed}
 use Rattle.settled_scripts.specs.Settled.{Passed, pass}
 
@@ -72,65 +72,65 @@ abbrev timeless_in : Passed → Bool
 timeless_in passed = passed.timeless
 
 -- it took up these calls, and ended
-record IsWhole (turn : Turn) (cr : List RegCall) (cb : List BoardCall) (walk : Walk) : Type 0 where
+record IsWhole (turn : Transcript) (cr : List RegCall) (cb : List BoardCall) (script_state : ScriptState) : Type 0 where
   registry : turn.registry ≡ cr
   board : turn.board ≡ cb
-  after : turn.after ≡ Some walk
+  after : turn.after ≡ Some script_state
 
-follows : (d : Dialogue) (cr : List RegCall) (cb : List BoardCall) (walk : Walk) (registry : PlainRegistry) (pipelines : List Pipeline) → IsWhole (turn_of d cr cb) cr cb walk → AreAnsweredBy registry cr → AreToldBy pipelines cb → timeless_in (pass d registry pipelines) ≡ true
-    → IsAsPassed d registry pipelines (turn_of d cr cb)
-follows (Ends after) cr cb walk registry pipelines whole answered told timeless = record { answers = refl; calls = refl }
-follows (Says answers next) cr cb walk registry pipelines whole answered told timeless =
-    let is = follows next cr cb walk registry pipelines (record { registry = whole.registry; board = whole.board; after = whole.after }) answered told timeless in
+follows : (d : Dialogue) (cr : List RegCall) (cb : List BoardCall) (script_state : ScriptState) (registry : PlainRegistry) (pipelines : List Pipeline) → IsWhole (transcript_of d cr cb) cr cb script_state → AreAnsweredBy registry cr → AreToldBy pipelines cb → timeless_in (pass d registry pipelines) ≡ true
+    → IsAsPassed d registry pipelines (transcript_of d cr cb)
+follows (Ends after) cr cb script_state registry pipelines whole answered told timeless = record { answers = refl; calls = refl }
+follows (Says answers next) cr cb script_state registry pipelines whole answered told timeless =
+    let is = follows next cr cb script_state registry pipelines (record { registry = whole.registry; board = whole.board; after = whole.after }) answered told timeless in
     record { answers = ap (λ xs. answers ++ xs) is.answers; calls = is.calls }
-follows (Asks q next) [] cb walk registry pipelines whole answered told timeless = absurd (let e = whole.after in cc)
-follows (Asks q next) (call ∷ cr) cb walk registry pipelines whole answered told timeless =
-    by (reg_answer q call) whole (λ a k w an t. follows (next a) cr cb walk k pipelines w an told t)
+follows (Asks q next) [] cb script_state registry pipelines whole answered told timeless = absurd (let e = whole.after in cc)
+follows (Asks q next) (call ∷ cr) cb script_state registry pipelines whole answered told timeless =
+    by (reg_answer q call) whole (λ a k w an t. follows (next a) cr cb script_state k pipelines w an told t)
   where
-    by : (o : Option (RegAnswer q)) → IsWhole (elim o [ Some answer ↦ asking (reg_call q answer) (turn_of (next answer) cr cb) | None ↦ broken ]) (call ∷ cr) cb walk
-        → ((a : RegAnswer q) (k : PlainRegistry) → IsWhole (turn_of (next a) cr cb) cr cb walk → AreAnsweredBy k cr → timeless_in (pass (next a) k pipelines) ≡ true → IsAsPassed (next a) k pipelines (turn_of (next a) cr cb))
-        → IsAsPassed (Asks q next) registry pipelines (elim o [ Some answer ↦ asking (reg_call q answer) (turn_of (next answer) cr cb) | None ↦ broken ])
+    by : (o : Option (RegAnswer q)) → IsWhole (elim o [ Some answer ↦ asking (reg_call q answer) (transcript_of (next answer) cr cb) | None ↦ broken ]) (call ∷ cr) cb script_state
+        → ((a : RegAnswer q) (k : PlainRegistry) → IsWhole (transcript_of (next a) cr cb) cr cb script_state → AreAnsweredBy k cr → timeless_in (pass (next a) k pipelines) ≡ true → IsAsPassed (next a) k pipelines (transcript_of (next a) cr cb))
+        → IsAsPassed (Asks q next) registry pipelines (elim o [ Some answer ↦ asking (reg_call q answer) (transcript_of (next answer) cr cb) | None ↦ broken ])
     by None w go = absurd (let e = w.after in cc)
     by (Some answer) w go =
         let head : reg_call q answer ≡ call = (let e = w.registry in cc) in
-        let tail : (let u : Turn = turn_of (next answer) cr cb in u.registry) ≡ cr = (let e = w.registry in cc) in
+        let tail : (let u : Transcript = transcript_of (next answer) cr cb in u.registry) ≡ cr = (let e = w.registry in cc) in
         let same : answer ≡ answer_in registry q = answer_same registry q answer (subst (λ c. IsAnsweredBy registry c) (sym head) answered.0) in
         let call_is : reg_call q (answer_in registry q) ≡ call = ap (λ x. reg_call q x) (sym same) ∙ head in
         let then_registry : PlainRegistry = registry_after registry (reg_call q (answer_in registry q)) in
-        let is = subst (λ x. IsAsPassed (next x) then_registry pipelines (turn_of (next answer) cr cb)) same
+        let is = subst (λ x. IsAsPassed (next x) then_registry pipelines (transcript_of (next answer) cr cb)) same
         (go answer then_registry (record { registry = tail; board = w.board; after = w.after })
         (subst (λ c. AreAnsweredBy (registry_after registry c) cr) (sym call_is) answered.1)
         (subst (λ x. timeless_in (pass (next x) then_registry pipelines) ≡ true) (sym same) timeless)) in
         record { answers = is.answers; calls = is.calls }
-follows (Posts q next) cr [] walk registry pipelines whole answered told timeless = absurd (let e = whole.after in cc)
-follows (Posts q next) cr (call ∷ cb) walk registry pipelines whole answered told timeless =
-    by (board_answer q call) whole (λ a ps w tl t. follows (next a) cr cb walk registry ps w answered tl t)
+follows (Posts q next) cr [] script_state registry pipelines whole answered told timeless = absurd (let e = whole.after in cc)
+follows (Posts q next) cr (call ∷ cb) script_state registry pipelines whole answered told timeless =
+    by (board_answer q call) whole (λ a ps w tl t. follows (next a) cr cb script_state registry ps w answered tl t)
   where
-    by : (o : Option (BoardAnswer q)) → IsWhole (elim o [ Some answer ↦ posting (board_call q answer) (turn_of (next answer) cr cb) | None ↦ broken ]) cr (call ∷ cb) walk
-        → ((a : BoardAnswer q) (ps : List Pipeline) → IsWhole (turn_of (next a) cr cb) cr cb walk → AreToldBy ps cb → timeless_in (pass (next a) registry ps) ≡ true → IsAsPassed (next a) registry ps (turn_of (next a) cr cb))
-        → IsAsPassed (Posts q next) registry pipelines (elim o [ Some answer ↦ posting (board_call q answer) (turn_of (next answer) cr cb) | None ↦ broken ])
+    by : (o : Option (BoardAnswer q)) → IsWhole (elim o [ Some answer ↦ posting (board_call q answer) (transcript_of (next answer) cr cb) | None ↦ broken ]) cr (call ∷ cb) script_state
+        → ((a : BoardAnswer q) (ps : List Pipeline) → IsWhole (transcript_of (next a) cr cb) cr cb script_state → AreToldBy ps cb → timeless_in (pass (next a) registry ps) ≡ true → IsAsPassed (next a) registry ps (transcript_of (next a) cr cb))
+        → IsAsPassed (Posts q next) registry pipelines (elim o [ Some answer ↦ posting (board_call q answer) (transcript_of (next answer) cr cb) | None ↦ broken ])
     by None w go = absurd (let e = w.after in cc)
     by (Some answer) w go =
         let then_pipelines : List Pipeline = pipelines_after pipelines (board_call q (reply_in pipelines q)) in
         let t = both (is_timeless pipelines q) (timeless_in (pass (next (reply_in pipelines q)) registry then_pipelines)) timeless in
         let head : board_call q answer ≡ call = (let e = w.board in cc) in
-        let tail : (let u : Turn = turn_of (next answer) cr cb in u.board) ≡ cb = (let e = w.board in cc) in
+        let tail : (let u : Transcript = transcript_of (next answer) cr cb in u.board) ≡ cb = (let e = w.board in cc) in
         let tells = told (subst (λ c. IsTimelessCall pipelines c) head (timeless_call pipelines q answer t.0)) in
         let same : answer ≡ reply_in pipelines q = reply_same pipelines q answer t.0 (subst (λ c. IsToldBy pipelines c) (sym head) tells.0) in
         let call_is : board_call q (reply_in pipelines q) ≡ call = ap (λ x. board_call q x) (sym same) ∙ head in
-        let is = subst (λ x. IsAsPassed (next x) registry then_pipelines (turn_of (next answer) cr cb)) same
+        let is = subst (λ x. IsAsPassed (next x) registry then_pipelines (transcript_of (next answer) cr cb)) same
         (go answer then_pipelines (record { registry = w.registry; board = tail; after = w.after })
         (subst (λ c. AreToldBy (pipelines_after pipelines c) cb) (sym call_is) tells.1)
         (subst (λ x. timeless_in (pass (next x) registry then_pipelines) ≡ true) (sym same) t.1)) in
         record {
           answers = is.answers;
-          calls = ap (λ x. board_call q x ∷ (let u : Turn = turn_of (next answer) cr cb in u.board)) same ∙ ap (λ calls. board_call q (reply_in pipelines q) ∷ calls) is.calls;
+          calls = ap (λ x. board_call q x ∷ (let u : Transcript = transcript_of (next answer) cr cb in u.board)) same ∙ ap (λ calls. board_call q (reply_in pipelines q) ∷ calls) is.calls;
         }
 
 -- of a whole turn
-pub turn_plain : (d : Dialogue) (turn : Turn) (walk : Walk) (registry : PlainRegistry) (pipelines : List Pipeline) → turn_of d turn.registry turn.board ≡ turn → turn.after ≡ Some walk → AreAnsweredBy registry turn.registry → AreToldBy pipelines turn.board
+pub turn_plain : (d : Dialogue) (turn : Transcript) (script_state : ScriptState) (registry : PlainRegistry) (pipelines : List Pipeline) → transcript_of d turn.registry turn.board ≡ turn → turn.after ≡ Some script_state → AreAnsweredBy registry turn.registry → AreToldBy pipelines turn.board
     → timeless_in (pass d registry pipelines) ≡ true → IsAsPassed d registry pipelines turn
-turn_plain d turn walk registry pipelines is after answered told timeless =
-    let whole : IsWhole (turn_of d turn.registry turn.board) turn.registry turn.board walk =
-    record { registry = ap (λ (t : Turn). t.registry) is; board = ap (λ (t : Turn). t.board) is; after = ap (λ (t : Turn). t.after) is ∙ after } in
-    subst (IsAsPassed d registry pipelines) is (follows d turn.registry turn.board walk registry pipelines whole answered told timeless)
+turn_plain d turn script_state registry pipelines is after answered told timeless =
+    let whole : IsWhole (transcript_of d turn.registry turn.board) turn.registry turn.board script_state =
+    record { registry = ap (λ (t : Transcript). t.registry) is; board = ap (λ (t : Transcript). t.board) is; after = ap (λ (t : Transcript). t.after) is ∙ after } in
+    subst (IsAsPassed d registry pipelines) is (follows d turn.registry turn.board script_state registry pipelines whole answered told timeless)

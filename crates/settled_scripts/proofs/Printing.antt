@@ -17,12 +17,12 @@ use Rattle.dialogues.specs.Piping.{end}
 use Rattle.dialogues.specs.Questions.{reg_call, board_call}
 use Rattle.dialogues.specs.RegistryCalls.{reg_calls}
 use Rattle.dialogues.specs.Texts.{turn_in}
-use Rattle.dialogues.specs.Turns.{Turn, turn_of, IsTurn}
-use Rattle.dialogues.specs.Walk.{Walk, start}
+use Rattle.dialogues.specs.Transcripts.{Transcript, transcript_of, IsTranscript}
+use Rattle.dialogues.specs.ScriptState.{ScriptState, start}
 use Rattle.dialogues.specs.Widths.{command_width, width_of, widest}
-use Rattle.plain_calls.specs.Laws.{AnswersArePlain, AreAnsweredBy, RepliesArePlain, AreToldBy}
-use Rattle.plain_calls.specs.Pipelines.{Pipeline, reply_in, is_timeless, pipelines_after}
-use Rattle.plain_calls.specs.Registry.{PlainRegistry, first_registry, answer_in, registry_after}
+use Rattle.sequential_model.specs.Laws.{AnswersArePlain, AreAnsweredBy, RepliesArePlain, AreToldBy}
+use Rattle.sequential_model.specs.Pipelines.{Pipeline, reply_in, is_timeless, pipelines_after}
+use Rattle.sequential_model.specs.Registry.{PlainRegistry, first_registry, answer_in, registry_after}
 use Rattle.settled_scripts.specs.Printing.{PrintsPlain}
 use Rattle.settled_scripts.specs.Passing.{passed_then, PassesFollow, PostsFollow, TurnsArePlain}
 use Rattle.settled_scripts.specs.Settled.{Passed, saying, if_timeless, is_settled_line, pass, passed, plain_text}
@@ -60,18 +60,18 @@ posts_follow (Posts q next) later registry pipelines =
 -- ---- lines
 
 -- the plain pass of settled lines is the same for every number of workers
-lines_same : (workers : ℕ) (walk : Walk) (n : ℕ) (lines : List Line) → list_all is_settled_line lines ≡ true → (registry : PlainRegistry) (pipelines : List Pipeline) → pass (lines_dialogue workers walk n lines end) registry pipelines ≡ pass (lines_dialogue 0 walk n lines end) registry pipelines
-lines_same workers walk n [] settled registry pipelines = refl
-lines_same workers walk n (next ∷ lines) settled registry pipelines =
+lines_same : (workers : ℕ) (script_state : ScriptState) (n : ℕ) (lines : List Line) → list_all is_settled_line lines ≡ true → (registry : PlainRegistry) (pipelines : List Pipeline) → pass (lines_dialogue workers script_state n lines end) registry pipelines ≡ pass (lines_dialogue 0 script_state n lines end) registry pipelines
+lines_same workers script_state n [] settled registry pipelines = refl
+lines_same workers script_state n (next ∷ lines) settled registry pipelines =
     let parts = and_parts (is_settled_line next) (list_all is_settled_line lines) settled in
-    let later : ℕ → Walk → Dialogue = λ beside after. lines_dialogue beside after (n + 1) lines end in
-    let p : Passed = pass (line_dialogue 0 walk n next) registry pipelines in
-    passes_follow (line_dialogue workers walk n next) (later workers) registry pipelines
-    ∙ (ap (λ (q : Passed). passed_then q (later workers)) (line_same workers walk n next parts.0 registry pipelines)
+    let later : ℕ → ScriptState → Dialogue = λ beside after. lines_dialogue beside after (n + 1) lines end in
+    let p : Passed = pass (line_dialogue 0 script_state n next) registry pipelines in
+    passes_follow (line_dialogue workers script_state n next) (later workers) registry pipelines
+    ∙ (ap (λ (q : Passed). passed_then q (later workers)) (line_same workers script_state n next parts.0 registry pipelines)
     ∙ (ap (λ (q : Passed). saying p.answers (if_timeless p.timeless q)) (lines_same workers p.after (n + 1) lines parts.1 p.registry p.pipelines)
-    ∙ sym (passes_follow (line_dialogue 0 walk n next) (later 0) registry pipelines)))
+    ∙ sym (passes_follow (line_dialogue 0 script_state n next) (later 0) registry pipelines)))
 
-its_walk : (o : Option Walk) → IsSome o → (after : Walk) × (o ≡ Some after)
+its_walk : (o : Option ScriptState) → IsSome o → (after : ScriptState) × (o ≡ Some after)
 its_walk None s = absurd cc
 its_walk (Some after) s = (after, refl)
 
@@ -99,11 +99,11 @@ widest_settled (next ∷ lines) all =
 pub prints_plain : AnswersArePlain → RepliesArePlain → InTurnByOne → PrintsPlain
 unfolding plain_text
 prints_plain answers replies narrow workers lines r b text settled legal made callers legal_board board_callers in_turn is =
-    let turn : Turn = turn_in workers (start 0) 0 lines r b in
+    let turn : Transcript = turn_in workers (start 0) 0 lines r b in
     let same : pass (script workers (start 0) lines) first_registry [] ≡ passed lines = lines_same workers (start 0) 1 lines settled.lines_settled first_registry [] in
     let after = its_walk turn.after is.ended in
-    let its : IsTurn (script workers (start 0) lines) turn =
-    ap (λ calls. turn_of (script workers (start 0) lines) calls turn.board) is.registry ∙ ap (λ calls. turn_of (script workers (start 0) lines) (reg_calls 0 r) calls) is.board in
+    let its : IsTranscript (script workers (start 0) lines) turn =
+    ap (λ calls. transcript_of (script workers (start 0) lines) calls turn.board) is.registry ∙ ap (λ calls. transcript_of (script workers (start 0) lines) (reg_calls 0 r) calls) is.board in
     let strictly = narrow (widest lines) 0 (reg_calls 0 r) [] r (widest_settled lines settled.lines_settled) in_turn in
     let answered : AreAnsweredBy first_registry turn.registry = answers turn.registry r legal made callers (subst (λ calls. AreInTurn 0 calls [] r) (sym is.registry) strictly) in
     let told : AreToldBy [] turn.board = subst (λ calls. AreToldBy [] calls) (sym is.board) (replies b legal_board board_callers) in

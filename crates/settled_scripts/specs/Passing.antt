@@ -14,10 +14,10 @@ use Rattle.dialogues.specs.Dialogues.{Dialogue, Ends, Says, Asks, Posts, followe
 use Rattle.dialogues.specs.InTurn.{AreInTurnBy}
 use Rattle.dialogues.specs.Questions.{reg_call, board_call}
 use Rattle.dialogues.specs.RegistryCalls.{reg_calls}
-use Rattle.dialogues.specs.Turns.{Turn, IsTurn}
-use Rattle.dialogues.specs.Walk.{Walk}
-use Rattle.plain_calls.specs.Pipelines.{Pipeline, reply_in, pipelines_after}
-use Rattle.plain_calls.specs.Registry.{PlainRegistry, first_registry, answer_in, registry_after}
+use Rattle.dialogues.specs.Transcripts.{Transcript, IsTranscript}
+use Rattle.dialogues.specs.ScriptState.{ScriptState}
+use Rattle.sequential_model.specs.Pipelines.{Pipeline, reply_in, pipelines_after}
+use Rattle.sequential_model.specs.Registry.{PlainRegistry, first_registry, answer_in, registry_after}
 use Rattle.settled_scripts.specs.Settled.{Passed, pass, saying, if_timeless}
 
 -- what is asked of the board as a dialogue passes
@@ -32,24 +32,24 @@ posted (Posts question next) registry pipelines =
     board_call question answer ∷ posted (next answer) registry (pipelines_after pipelines (board_call question answer))
 
 -- what passed, and then what passes of a dialogue that goes on from it
-abbrev pub passed_then : Passed → (Walk → Dialogue) → Passed
+abbrev pub passed_then : Passed → (ScriptState → Dialogue) → Passed
 passed_then first later = saying first.answers (if_timeless first.timeless (pass (later first.after) first.registry first.pipelines))
 
 -- a dialogue passes, and then what follows on it
 abbrev pub PassesFollow : Type 0
 PassesFollow =
-    (first : Dialogue) (later : Walk → Dialogue) (registry : PlainRegistry) (pipelines : List Pipeline)
+    (first : Dialogue) (later : ScriptState → Dialogue) (registry : PlainRegistry) (pipelines : List Pipeline)
     → pass (followed first later) registry pipelines ≡ passed_then (pass first registry pipelines) later
 
 abbrev pub PostsFollow : Type 0
 PostsFollow =
-    (first : Dialogue) (later : Walk → Dialogue) (registry : PlainRegistry) (pipelines : List Pipeline)
+    (first : Dialogue) (later : ScriptState → Dialogue) (registry : PlainRegistry) (pipelines : List Pipeline)
     → posted (followed first later) registry pipelines
     ≡ posted first registry pipelines
     ++ (let p : Passed = pass first registry pipelines in posted (later p.after) p.registry p.pipelines)
 
 -- the turn says, and asks of the board, what passes of the dialogue
-pub record IsAsPassed (d : Dialogue) (registry : PlainRegistry) (pipelines : List Pipeline) (turn : Turn) : Type 0 where
+pub record IsAsPassed (d : Dialogue) (registry : PlainRegistry) (pipelines : List Pipeline) (turn : Transcript) : Type 0 where
   pub answers : turn.answers ≡ (pass d registry pipelines).answers
   pub calls : turn.board ≡ posted d registry pipelines
 
@@ -57,9 +57,9 @@ pub record IsAsPassed (d : Dialogue) (registry : PlainRegistry) (pipelines : Lis
 -- registry in turn, a whole turn of a dialogue whose answers don't depend on time is as it passes where it is alone.
 abbrev pub TurnsArePlain : Type 0
 TurnsArePlain =
-    (d : Dialogue) (turn : Turn) (r : List RegEntry) (b : List (BoardEntry Ask))
+    (d : Dialogue) (turn : Transcript) (r : List RegEntry) (b : List (BoardEntry Ask))
     → LegalReg r → Made table r → All (λ e. caller_of e ≤ 16) r
     → LegalBoard b → All (λ e. board_caller e ≤ 16) b
     → AreInTurnBy 1 0 (reg_calls 0 r) [] r
-    → IsTurn d turn → IsSome turn.after → turn.registry ≡ reg_calls 0 r → turn.board ≡ board_calls 0 b
+    → IsTranscript d turn → IsSome turn.after → turn.registry ≡ reg_calls 0 r → turn.board ≡ board_calls 0 b
     → (pass d first_registry []).timeless ≡ true → IsAsPassed d first_registry [] turn

@@ -13,7 +13,7 @@ use Rattle.transforms.specs.declared.ask.Ask.{Ask}
 use Rattle.dialogues.specs.InTurn.{AreInTurnBy}
 use Rattle.dialogues.specs.RegistryCalls.{reg_calls}
 use Rattle.dialogues.specs.Texts.{IsText}
-use Rattle.dialogues.specs.Walk.{start}
+use Rattle.dialogues.specs.ScriptState.{start}
 use Rattle.dialogues.specs.Widths.{widest}
 use Rattle.settled_scripts.specs.Settled.{IsSettled, plain_text}
 

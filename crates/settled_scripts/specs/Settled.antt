@@ -9,14 +9,14 @@ use Rattle.reply_text.specs.Answers.{text_of}
 use Rattle.dialogues.specs.Dialogues.{Dialogue, Ends, Says, Asks, Posts}
 use Rattle.dialogues.specs.Lines.{script}
 use Rattle.dialogues.specs.Questions.{reg_call, board_call}
-use Rattle.dialogues.specs.Walk.{Walk, start}
-use Rattle.plain_calls.specs.Registry.{PlainRegistry, first_registry, answer_in, registry_after}
-use Rattle.plain_calls.specs.Pipelines.{Pipeline, reply_in, is_timeless, pipelines_after}
+use Rattle.dialogues.specs.ScriptState.{ScriptState, start}
+use Rattle.sequential_model.specs.Registry.{PlainRegistry, first_registry, answer_in, registry_after}
+use Rattle.sequential_model.specs.Pipelines.{Pipeline, reply_in, is_timeless, pipelines_after}
 
 -- What was said; what the script, its registry and its pipelines are then; and whether no answer depended on time.
 pub record Passed : Type 0 where
   pub answers : List Answer
-  pub after : Walk
+  pub after : ScriptState
   pub registry : PlainRegistry
   pub pipelines : List Pipeline
   pub timeless : Bool

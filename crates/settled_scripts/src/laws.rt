@@ -7,7 +7,7 @@ ghost use Rattle.settled_scripts.specs.Printing.{PrintsPlain};
 ghost use Rattle.settled_scripts.specs.Settled.{IsSettled};
 
 use dialogues::calls_at_once;
-use plain_calls::{answers_are_plain, replies_are_plain};
+use sequential_model::{answers_are_plain, replies_are_plain};
 
 /// A settled script prints its plain text, beside any number of workers and whatever they do.
 pub fn settled_scripts_print_plain()

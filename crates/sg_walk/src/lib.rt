@@ -1,12 +1,12 @@
 //! A text that lies in several pieces of memory, and walks over it.
 #![tactic(auto)]
 
-mod copying;
+mod full_walk;
 mod parts;
+mod segment_copies;
 mod segs;
 mod sizes;
 mod walker;
-mod walking;
 
 pub use segs::Segs;
 pub use walker::Walker;

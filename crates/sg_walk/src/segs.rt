@@ -4,12 +4,12 @@ ghost use Rattle.std.specs.Prelude.{◌≡◌, ◌+◌, ◌^◌, ◌<◌, ◌≤
 ghost use Rattle.std.specs.List.{concat, sum};
 ghost use Rattle.sg_walk.specs.Segments.{segmented, written, cut_sizes};
 
-use crate::copying::{gather, scatter};
+use crate::full_walk::walk_parts;
 use crate::parts::{copies, cut_to, joined, total_len};
+use crate::segment_copies::{gather, scatter};
 use crate::sizes;
 use crate::sizes::Sizes;
 use crate::walker::Walker;
-use crate::walking::walk_parts;
 use kc_base::Bytes;
 use std::alloc::{AllocError, Global};
 use std::marker::Model;

@@ -5,12 +5,12 @@
 mod blocks;
 mod constants;
 mod hasher;
+mod hasher_state;
 mod in_step;
 mod lane_rounds;
 mod lanes;
 mod one_block;
 mod rounds;
-mod standing;
 mod transposed;
 
 pub use hasher::{Sha256, digest_of};

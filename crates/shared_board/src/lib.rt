@@ -2,12 +2,12 @@
 #![tactic(auto)]
 
 mod asks;
-mod bells;
 mod laws;
 mod looks;
-mod sent;
+mod send_sync;
 mod shared;
+mod wakeups;
 
 pub use laws::known_holds;
-pub use looks::{Drowsy, EndWatch, Lingered, Look, Tired};
+pub use looks::{Drowsy, EndWatch, Look, SpinResult, Tired};
 pub use shared::{BoardPass, SharedBoard};

@@ -1,13 +1,13 @@
 //! Looks for a job that are due. Their types force the order of a worker's steps: who may have been left a job looks before it sleeps.
 
-use job_bells::Watch;
+use job_wakeups::WaitToken;
 use std::sync::Wait;
 
 /// A look at the board that is due, since a job may have been left to who has it: it noticed one, was woken, or announced a wait. A
 /// value that is let go is refused, so it is spent at a turn, by `take_or_pass_on` or `look_at_end`. (The places `looking` and
 /// `last_looking` of the machine in `wake_ups`.)
 pub struct Look<'a> {
-    watch: Option<Watch<'a>>,
+    watch: Option<WaitToken<'a>>,
 }
 
 impl<'a> Look<'a> {
@@ -17,7 +17,7 @@ impl<'a> Look<'a> {
     }
 
     /// The last one before a wait that is announced.
-    pub(crate) fn last(watch: Watch<'a>) -> Look<'a> {
+    pub(crate) fn last(watch: WaitToken<'a>) -> Look<'a> {
         Look { watch: Some(watch) }
     }
 
@@ -41,7 +41,7 @@ impl<'a> Look<'a> {
 /// `sleepy`, and `Rise`.)
 #[derive(Drop)]
 pub struct Drowsy<'a> {
-    watch: Watch<'a>,
+    watch: WaitToken<'a>,
 }
 
 impl<'a> Drowsy<'a> {
@@ -56,11 +56,11 @@ impl<'a> Drowsy<'a> {
 /// A wait for what is finished on a pipeline, which is announced. Nobody leaves a job to who has it, so it may be let go.
 #[derive(Drop)]
 pub struct EndWatch<'a> {
-    watch: Watch<'a>,
+    watch: WaitToken<'a>,
 }
 
 impl<'a> EndWatch<'a> {
-    pub(crate) fn on(watch: Watch<'a>) -> EndWatch<'a> {
+    pub(crate) fn on(watch: WaitToken<'a>) -> EndWatch<'a> {
         EndWatch { watch }
     }
 
@@ -72,25 +72,25 @@ impl<'a> EndWatch<'a> {
 }
 
 /// What staying awake came to.
-pub enum Lingered<'a> {
+pub enum SpinResult<'a> {
     /// A job came, and nobody else may have been woken for it.
-    Roused(Look<'a>),
-    /// None came. It can only announce a wait (`watch_jobs`).
+    JobCame(Look<'a>),
+    /// None came. It can only announce a wait (`prepare_wait_for_job`).
     Tired(Tired),
 }
 
 /// A worker that gave up staying awake. A value that is let go is refused: whoever jobs were left to while it stayed awake looks once
 /// more before it sleeps. (The place `tired`.)
 pub struct Tired {
-    tired: job_bells::Tired,
+    tired: job_wakeups::Tired,
 }
 
 impl Tired {
-    pub(crate) fn of(tired: job_bells::Tired) -> Tired {
+    pub(crate) fn of(tired: job_wakeups::Tired) -> Tired {
         Tired { tired }
     }
 
-    pub(crate) fn inner(self) -> job_bells::Tired {
+    pub(crate) fn inner(self) -> job_wakeups::Tired {
         let Tired { tired } = self;
         tired
     }

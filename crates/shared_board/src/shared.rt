@@ -6,7 +6,7 @@ ghost use Rattle.std.specs.Result.{result_unwrap_or};
 ghost use Rattle.std.specs.declared.sync.Arc.{Arc};
 ghost use Rattle.std.specs.declared.alloc.Global.{Global as GlobalMemory};
 ghost use Rattle.turn_lock.specs.Passes.{knows, turn_lock, turn_knows, turn_value};
-ghost use Rattle.turn_lock.specs.Turns.{newcomer, sees, gives_number, gets_number, joined, StartsWith, Shows};
+ghost use Rattle.turn_lock.specs.Turns.{fresh_pass, sees, gives_number, gets_number, joined, StartsWith, Shows};
 ghost use Rattle.board.specs.declared.entry.Shape.TheVariants as Shaped;
 ghost use Rattle.board.specs.declared.entry.BoardEntry.TheVariants as Entry;
 ghost use Rattle.board.specs.declared.board_core.BoardErr.TheVariants as BoardErr;
@@ -19,11 +19,11 @@ ghost use Rattle.turn_lock.specs.Meeting.{Meets, AtTurn, Enters, Leaves};
 ghost use Rattle.shared_board.specs.Passes.{IsPassOn};
 ghost use Rattle.shared_board.specs.Meeting.{HoldsAt};
 
-use crate::bells::Bells;
 use crate::laws::known_holds;
-use crate::looks::{Drowsy, EndWatch, Lingered, Look, Tired};
+use crate::looks::{Drowsy, EndWatch, Look, SpinResult, Tired};
+use crate::wakeups::Wakeups;
 use board::{BoardCore, BoardEntry, BoardErr, BoardLog, Entered, Slip, Taken, Work};
-use job_bells::WorkerBell;
+use job_wakeups::WorkerWakeup;
 use kc_base::Callbacks;
 use std::alloc::{AllocError, Global};
 use std::sync::Wait;
@@ -36,18 +36,18 @@ pub type BoardPass<W> = Pass<BoardEntry<<W as Work>::Ask>>;
 #[derive(Drop)]
 pub struct SharedBoard<W: Work> {
     lock: TurnLock<BoardCore<W>>,
-    bells: Bells,
+    wakeups: Wakeups,
 }
 
 impl<W: Work> SharedBoard<W> {
     /// A board on which nothing happened, and its first pass, which has the number 0.
     pub fn new(alloc: Global) -> Result<(SharedBoard<W>, BoardPass<W>), AllocError>
-        ensures { IfOk result (λ r. IsPassOn r.0 r.1 × (knows r.1 ≡ newcomer)) }
+        ensures { IfOk result (λ r. IsPassOn r.0 r.1 × (knows r.1 ≡ fresh_pass)) }
     {
         let board = BoardCore::new(alloc)?;
         let (lock, pass) = TurnLock::new(alloc, board)?;
-        let bells = Bells::new(alloc)?;
-        Ok((SharedBoard { lock, bells }, pass))
+        let wakeups = Wakeups::new(alloc)?;
+        Ok((SharedBoard { lock, wakeups }, pass))
     }
 
     /// Waits for the pass's turn.
@@ -106,7 +106,7 @@ impl<W: Work> SharedBoard<W> {
             (λ pipe. (pipe ≡ pipelines h) × Enters LegalBoard (knows pass) h (Entry.Born (knows pass).number pipe (Shaped.Pad lists)) (knows result.0))
             (λ e. (e ≡ BoardErr.Memory) × Leaves (knows pass) h (knows result.0))) }
     {
-        self.bells.jobs().note_lists(lists);
+        self.wakeups.jobs().note_lists(lists);
         let caller = pass.number();
         let mut turn = self.turn(rt, pass);
         let answer = turn.get().born_pad(caller, lists);
@@ -130,7 +130,7 @@ impl<W: Work> SharedBoard<W> {
             (λ pipe. (pipe ≡ pipelines h) × Enters LegalBoard (knows pass) h (Entry.Born (knows pass).number pipe (Shaped.Queue max)) (knows result.0))
             (λ e. (e ≡ BoardErr.Memory) × Leaves (knows pass) h (knows result.0))) }
     {
-        self.bells.jobs().note_queue();
+        self.wakeups.jobs().note_queue();
         let caller = pass.number();
         let mut turn = self.turn(rt, pass);
         let answer = turn.get().born_queue(caller, max);
@@ -159,7 +159,7 @@ impl<W: Work> SharedBoard<W> {
             (λ pipe. (pipe ≡ pipelines h) × Enters LegalBoard (knows pass) h (Entry.Born (knows pass).number pipe (Shaped.Chain max lists)) (knows result.0))
             (λ e. (e ≡ BoardErr.Memory) × Leaves (knows pass) h (knows result.0))) }
     {
-        self.bells.note_chain(lists);
+        self.wakeups.note_chain(lists);
         let caller = pass.number();
         let mut turn = self.turn(rt, pass);
         let answer = turn.get().born_chain(caller, max, lists);
@@ -215,17 +215,17 @@ impl<W: Work> SharedBoard<W> {
         let mut turn = self.turn(rt, pass);
         let answer = turn.get().mask(caller, pipe, mask);
         let added = answer.is_ok();
-        self.bells.note_mask(pipe, mask, added);
+        self.wakeups.note_mask(pipe, mask, added);
         let pass = turn.give(added);
         if added {
-            self.bells.jobs().ring_all();
+            self.wakeups.jobs().notify_workers();
         }
         (pass, answer)
     }
 
     /// Takes a job into a pad that isn't closed, and answers its number. The caller made the pad, or has seen that it is
     /// shared, and is no worker. `NoWorker` where the pad's mask is empty, and otherwise `TooBig` where the caller's allowance
-    /// has no room for the job; want of memory comes after these. A refusal drops the job. (`Put`, then `Count` and `Leave` or `Ring`.)
+    /// has no room for the job; want of memory comes after these. A refusal drops the job. (`Put`, then `Count` and `Leave` or `Notify`.)
     pub fn submit<R: Wait>(
         &self,
         rt: &R,
@@ -246,17 +246,17 @@ impl<W: Work> SharedBoard<W> {
         let mut turn = self.turn(rt, pass);
         let answer = turn.get().submit(caller, pipe, job);
         let added = answer.is_ok();
-        let masked = self.bells.jobs().is_masked(pipe);
+        let masked = self.wakeups.jobs().is_masked(pipe);
         let pass = turn.give(added);
         if added {
-            self.bells.jobs().ring_job_of(masked);
+            self.wakeups.jobs().notify_job_of(masked);
         }
         (pass, answer)
     }
 
     /// Offers a job to a queue or chain that isn't closed, and answers its verdict. The caller made it, or has seen that it is
     /// shared, and is no worker. `TooBig` where the caller's allowance has no room for the job; want of memory comes after
-    /// that, and both before the verdict. What isn't accepted is dropped. (`Put`, then `Count` and `Leave` or `Ring`.)
+    /// that, and both before the verdict. What isn't accepted is dropped. (`Put`, then `Count` and `Leave` or `Notify`.)
     pub fn enqueue<R: Wait>(
         &self,
         rt: &R,
@@ -280,7 +280,7 @@ impl<W: Work> SharedBoard<W> {
         let added = answer.is_ok();
         let pass = turn.give(added);
         if is_accepted(&answer) {
-            self.bells.jobs().ring_job();
+            self.wakeups.jobs().notify_job();
         }
         (pass, answer)
     }
@@ -289,7 +289,7 @@ impl<W: Work> SharedBoard<W> {
     /// where the caller made the pipeline, submitted to it, or is a worker in its mask; of a queue the first that waits, where
     /// it is neither held nor busy. `None` exactly where there is none. No memory is taken. Once a queue or a chain was made, a
     /// take that found a job wakes a worker that sleeps, unless one stays awake, since another may be ready. (`Help`, or
-    /// `Look_and_take`, then `Leave_next` or `Ring_next`; `Look_and_find_none`, then `Forget` or `Keep`.)
+    /// `Look_and_take`, then `Leave_next` or `Notify_next`; `Look_and_find_none`, then `Forget` or `Keep`.)
     pub fn take<R: Wait>(&self, rt: &R, pass: BoardPass<W>) -> (BoardPass<W>, Option<Taken<W>>)
         requires { IsPassOn self.now pass }
         ensures lock { IsPassOn self.now result.0 }
@@ -300,16 +300,16 @@ impl<W: Work> SharedBoard<W> {
             × MayFinish W.meaning (entries_of t.slip.pipe (knows result.0).seen) (knows pass).number t.slip.number (W.meaning (W.asked t.job)))) }
     {
         let caller = pass.number();
-        let seen = self.bells.jobs().seen();
+        let seen = self.wakeups.jobs().seen();
         let mut turn = self.turn(rt, pass);
         let answer = turn.get().take(caller);
         let added = answer.is_some();
         let masked = self.is_of_masked(&answer);
         let pass = turn.give(added);
         if added {
-            self.bells.jobs().ring_taken(caller, masked);
+            self.wakeups.jobs().notify_taken(caller, masked);
         } else {
-            self.bells.jobs().forget(caller, seen);
+            self.wakeups.jobs().forget(caller, seen);
         }
         (pass, answer)
     }
@@ -336,30 +336,30 @@ impl<W: Work> SharedBoard<W> {
             × MayFinish W.meaning (entries_of t.slip.pipe (knows result.0).seen) (knows pass).number t.slip.number (W.meaning (W.asked t.job)))) }
     {
         let caller = pass.number();
-        let seen = self.bells.jobs().seen();
+        let seen = self.wakeups.jobs().seen();
         let mut turn = self.turn(rt, pass);
         let taken = turn.get().take(caller);
         match taken {
             Some(job) => {
-                let masked = self.bells.jobs().is_masked(job.slip.pipe());
+                let masked = self.wakeups.jobs().is_masked(job.slip.pipe());
                 let pass = turn.give(true);
                 look.end();
-                self.bells.jobs().ring_taken(caller, masked);
+                self.wakeups.jobs().notify_taken(caller, masked);
                 (pass, Some(job), false, None)
             }
             None => {
                 let passed = turn.get().pass_on(caller);
                 let pass = turn.give(passed);
-                self.bells.jobs().forget(caller, seen);
-                self.bells.ring_passed(passed);
+                self.wakeups.jobs().forget(caller, seen);
+                self.wakeups.notify_passed(passed);
                 (pass, None, passed, look.find_none())
             }
         }
     }
 
     /// Records the outcome of a job that this caller took and hasn't finished: what the job's ask means. No memory is taken. It
-    /// wakes who waits for an end of the pipeline (`watch_ends`), and, once a queue or a chain was made, a worker that sleeps, unless
-    /// one stays awake, since a queue's next request may be ready then. (`End_and_look` or `Ready`, then `Leave_next` or `Ring_next`.)
+    /// wakes who waits for an end of the pipeline (`prepare_wait_for_end`), and, once a queue or a chain was made, a worker that sleeps, unless
+    /// one stays awake, since a queue's next request may be ready then. (`End_and_look` or `Ready`, then `Leave_next` or `Notify_next`.)
     pub fn finish<R: Wait>(
         &self,
         rt: &R,
@@ -377,8 +377,8 @@ impl<W: Work> SharedBoard<W> {
         let mut turn = self.turn(rt, pass);
         turn.get().finish(caller, slip, out);
         let pass = turn.give(true);
-        self.bells.ring_end(pipe);
-        self.bells.jobs().ring_next();
+        self.wakeups.notify_end(pipe);
+        self.wakeups.jobs().notify_next();
         pass
     }
 
@@ -406,7 +406,7 @@ impl<W: Work> SharedBoard<W> {
     {
         let caller = pass.number();
         let pipe = slip.pipe();
-        let seen = self.bells.jobs().seen();
+        let seen = self.wakeups.jobs().seen();
         let mut turn = self.turn(rt, pass);
         turn.get().finish(caller, slip, out);
         let mut turn = turn.note();
@@ -414,18 +414,18 @@ impl<W: Work> SharedBoard<W> {
         let added = next.is_some();
         let masked = self.is_of_masked(&next);
         let pass = turn.give(added);
-        self.bells.ring_end(pipe);
+        self.wakeups.notify_end(pipe);
         if added {
-            self.bells.jobs().notice_taken(seen, masked);
-            self.bells.jobs().ring_next();
+            self.wakeups.jobs().notice_taken(seen, masked);
+            self.wakeups.jobs().notify_next();
         } else {
-            self.bells.jobs().forget(caller, seen);
+            self.wakeups.jobs().forget(caller, seen);
         }
         (pass, next)
     }
 
     /// The first request of a chain's line goes on to its pad, where the chain isn't held. False exactly where there is no such
-    /// chain. No memory is taken. (`Put`, then `Count` and `Leave` or `Ring`.)
+    /// chain. No memory is taken. (`Put`, then `Count` and `Leave` or `Notify`.)
     pub fn pass_on<R: Wait>(&self, rt: &R, pass: BoardPass<W>) -> (BoardPass<W>, bool)
         requires { IsPassOn self.now pass }
         ensures lock { IsPassOn self.now result.0 }
@@ -437,7 +437,7 @@ impl<W: Work> SharedBoard<W> {
         let mut turn = self.turn(rt, pass);
         let passed = turn.get().pass_on(caller);
         let pass = turn.give(passed);
-        self.bells.ring_passed(passed);
+        self.wakeups.notify_passed(passed);
         (pass, passed)
     }
 
@@ -465,7 +465,7 @@ impl<W: Work> SharedBoard<W> {
     }
 
     /// The queue's requests are run again, or the chain's go on. The caller made it, and it isn't closed. Only want of memory
-    /// refuses. (`Put`, then `Count` and `Leave` or `Ring`.)
+    /// refuses. (`Put`, then `Count` and `Leave` or `Notify`.)
     pub fn go<R: Wait>(
         &self,
         rt: &R,
@@ -486,7 +486,7 @@ impl<W: Work> SharedBoard<W> {
         let added = answer.is_ok();
         let pass = turn.give(added);
         if added {
-            self.bells.jobs().ring_job();
+            self.wakeups.jobs().notify_job();
         }
         (pass, answer)
     }
@@ -556,7 +556,7 @@ impl<W: Work> SharedBoard<W> {
         let caller = pass.number();
         let mut turn = self.turn(rt, pass);
         turn.get().close(caller, pipe);
-        self.bells.jobs().note_close(pipe);
+        self.wakeups.jobs().note_close(pipe);
         turn.give(true)
     }
 
@@ -572,7 +572,7 @@ impl<W: Work> SharedBoard<W> {
         let mut turn = self.turn(rt, pass);
         turn.get().shut(caller);
         let pass = turn.give(true);
-        self.bells.ring_over();
+        self.wakeups.notify_over();
         pass
     }
 
@@ -612,67 +612,67 @@ impl<W: Work> SharedBoard<W> {
 
     /// Announces a wait for a job to be taken, or for the end of the board, of a worker that stays awake no longer. A last look is due
     /// before it sleeps. (`Announce` and `Read_epoch`.)
-    pub fn watch_jobs(&self, tired: Tired) -> Look<'_> {
-        Look::last(self.bells.jobs().watch_jobs(tired.inner()))
+    pub fn prepare_wait_for_job(&self, tired: Tired) -> Look<'_> {
+        Look::last(self.wakeups.jobs().prepare_wait_for_job(tired.inner()))
     }
 
     /// Announces a wait for a job of the pipeline to be finished, a request to be passed on, or the end of the board. Who announced it
     /// drains (`try_drain`) and looks before it sleeps. It may be over where a job of another pipeline is finished, whose number differs
     /// by a multiple of 16.
-    pub fn watch_ends(&self, pipe: u64) -> EndWatch<'_> {
-        EndWatch::on(self.bells.watch_ends(pipe))
+    pub fn prepare_wait_for_end(&self, pipe: u64) -> EndWatch<'_> {
+        EndWatch::on(self.wakeups.prepare_wait_for_end(pipe))
     }
 
     /// Counts as a job that came, since something else than a job may be there for a worker: wakes one that sleeps, unless enough
-    /// stay awake. (`Call`, then `Leave` or `Ring`.)
+    /// stay awake. (`Call`, then `Leave` or `Notify`.)
     pub fn call_worker(&self) {
-        self.bells.jobs().ring_job();
+        self.wakeups.jobs().notify_job();
     }
 
-    /// The bell of the board's workers, for another who has something for them to find. The error is that memory was refused.
-    pub fn worker_bell(&self) -> Result<WorkerBell, AllocError> {
-        self.bells.worker_bell()
+    /// The wake-up of the board's workers, for another who has something for them to find. The error is that memory was refused.
+    pub fn worker_wakeup(&self) -> Result<WorkerWakeup, AllocError> {
+        self.wakeups.worker_wakeup()
     }
 
     /// Whether a worker that did a job may find another: a hint that takes no turn. It may have noticed a job that came, for which
-    /// nobody else then stays awake or is woken: so a look is due. Without one the worker stays awake for a while (`linger`).
+    /// nobody else then stays awake or is woken: so a look is due. Without one the worker stays awake for a while (`spin_for_job`).
     /// (`Notice_between` or `Look_anyway`, and `Notice_none`.)
     pub fn may_have_job(&self) -> Option<Look<'_>> {
-        if self.bells.jobs().may_have_job() {
+        if self.wakeups.jobs().may_have_job() {
             return Some(Look::new());
         }
         None
     }
 
     /// Stays awake for a while for a job to come, unless each job wakes all: a hint that takes no turn. Jobs are left to who stays awake,
-    /// and wake nobody else. So a look is due afterwards: at once, where it noticed a job, and else once it has announced a wait. (`Linger`,
+    /// and wake nobody else. So a look is due afterwards: at once, where it noticed a job, and else once it has announced a wait. (`Spin`,
     /// then `Notice_while_awake`, `Rouse` and `Read_unnoticed`, or `Give_up`.)
-    pub fn linger(&self) -> Lingered<'_> {
-        match self.bells.jobs().linger() {
-            job_bells::Lingered::Roused => Lingered::Roused(Look::new()),
-            job_bells::Lingered::Tired(tired) => Lingered::Tired(Tired::of(tired)),
+    pub fn spin_for_job(&self) -> SpinResult<'_> {
+        match self.wakeups.jobs().spin_for_job() {
+            job_wakeups::SpinResult::JobCame => SpinResult::JobCame(Look::new()),
+            job_wakeups::SpinResult::Tired(tired) => SpinResult::Tired(Tired::of(tired)),
         }
     }
 
     /// Sleeps for a millisecond, as a worker does that lacks memory before it tries again.
     pub fn pause<R: Wait>(&self, rt: &R) {
-        self.bells.jobs().pause(rt);
+        self.wakeups.jobs().pause(rt);
     }
 
     /// Whether the board may be shut: a hint that takes no turn.
     pub fn may_be_shut(&self) -> bool {
-        self.bells.jobs().is_over()
+        self.wakeups.jobs().is_over()
     }
 
     /// Whether some chain may have been made: a hint that takes no turn.
     pub fn may_have_chains(&self) -> bool {
-        self.bells.has_chains()
+        self.wakeups.has_chains()
     }
 
     /// Whether a job was taken whose pad's mask leaves some worker out. It is asked within the turn.
     fn is_of_masked(&self, taken: &Option<Taken<W>>) -> bool {
         match taken {
-            Some(job) => self.bells.jobs().is_masked(job.slip.pipe()),
+            Some(job) => self.wakeups.jobs().is_masked(job.slip.pipe()),
             None => false,
         }
     }
@@ -684,7 +684,7 @@ impl<W: Work> SharedBoard<W> {
         ensures shows { Shows caller_of (knows pass) result }
         ensures legal { LegalBoard result }
     {
-        let SharedBoard { lock, bells: _ } = self;
+        let SharedBoard { lock, wakeups: _ } = self;
         lock.finish(rt, pass).finish_all()
     }
 }

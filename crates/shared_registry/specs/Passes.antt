@@ -8,7 +8,7 @@ use Rattle.turn_lock.specs.declared.lock.Pass.{Pass}
 use Rattle.turn_lock.specs.Turns.{Known}
 use Rattle.turn_lock.specs.Passes.{IsPassOf}
 use Rattle.turn_lock.specs.Meeting.{Enters, Leaves, IsOwn}
-use Rattle.shared_registry.specs.declared.sharing.SharedRegistry.{SharedRegistry}
+use Rattle.shared_registry.specs.declared.registry_lock.SharedRegistry.{SharedRegistry}
 use Rattle.shared_registry.specs.Faithful.{IsFaithful}
 
 -- the pass is one of the registry's

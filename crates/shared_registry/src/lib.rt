@@ -1,15 +1,15 @@
 //! The registry of many callers: each call is a turn at one lock, and what is built for one caller any other may build.
 #![tactic(auto)]
 
-mod bells;
-mod building;
+mod builds;
 mod faithful_registry;
 pub mod laws;
-mod sent;
-mod sharing;
+mod registry_lock;
+mod send_sync;
 #[cfg(test)]
 mod tests;
+mod wakeups;
 
-pub use building::{build_one, resolve, settle};
+pub use builds::{build_one, resolve, settle};
 pub use faithful_registry::FaithfulRegistry;
-pub use sharing::{RegPass, SharedRegistry};
+pub use registry_lock::{RegPass, SharedRegistry};

@@ -7,13 +7,13 @@ ghost use Rattle.alg_registry.specs.Rows.{texts};
 ghost use Rattle.templates.specs.Nesting.{is_nested_well};
 ghost use Rattle.templates.specs.Table.{table};
 ghost use Rattle.turn_lock.specs.Passes.{knows};
-ghost use Rattle.turn_lock.specs.Turns.{newcomer};
+ghost use Rattle.turn_lock.specs.Turns.{fresh_pass};
 ghost use Rattle.shared_registry.specs.Building.{WasAnswered};
 ghost use Rattle.shared_registry.specs.Learned.{IsLearned};
 ghost use Rattle.shared_registry.specs.Passes.{IsSound, IsPassOn};
 ghost use Rattle.shared_registry.specs.Within.{Begins};
 
-use crate::building::{build, given_of, look_for};
+use crate::builds::{build, given_of, look_for};
 use crate::{RegPass, SharedRegistry, build_one, resolve, settle};
 use alg_names::{Name, parse_name};
 use alg_registry::{EndAnswer, Ended, Ids, Kind, Looked, RegEntry, RegErr, RegLog, Spec, Wrap};
@@ -39,7 +39,7 @@ fn nested_name(rt: &impl Abort, alloc: Global, text: &str) -> Name
 /// A registry and its first pass.
 fn new_registry(rt: &impl Abort, alloc: Global) -> (SharedRegistry, RegPass)
     ensures lock { IsPassOn result.0 result.1 }
-    ensures first { knows result.1 ≡ newcomer }
+    ensures first { knows result.1 ≡ fresh_pass }
 {
     SharedRegistry::new(alloc).expect(rt, "memory")
 }

@@ -6,13 +6,13 @@ use reply_text::Origin;
 use std::alloc::Global;
 use std::process::Abort;
 use std::sync::Arc;
-use trace_text::{Lined, board_line, write_trace};
+use trace_text::{HasScriptLine, board_line, write_trace};
 
 /// An ask that is nothing but its line and its client.
 #[derive(Drop)]
 struct Line(Origin);
 
-impl Lined for Line {
+impl HasScriptLine for Line {
     ghost origin = { λ ask. ask.0 };
 
     fn origin(&self) -> Origin {

@@ -14,8 +14,8 @@ use Rattle.reply_text.specs.Origins.{origin_word}
 use Rattle.reply_text.specs.declared.origin.Origin.{Origin}
 use Rattle.trace_check.specs.Pipes.{PipeState, judged_on, judged_at, judged, pipes_after, is_shut_by}
 use Rattle.trace_check.specs.Lines.{origin_of}
-use Rattle.trace_check.specs.declared.lines.Known.{Known}
-use Rattle.trace_check.specs.Known.{with_asks}
+use Rattle.trace_check.specs.declared.lines.AskLine.{AskLine}
+use Rattle.trace_check.specs.AskLines.{with_asks}
 
 on_same : {A B : Type 0} (f : Arc A Global → Arc B Global) (s : PipeState) (e : BoardEntry A) → judged_on s (with_asks f e) ≡ judged_on s e
 on_same f s (Born caller pipe shape) = refl
@@ -85,7 +85,7 @@ shut_same f shut (Share caller pipe) = refl
 shut_same f shut (Mask caller pipe mask) = refl
 shut_same f shut (Shut caller) = refl
 
-pub words_same : {A : Type 0} (line : A → Origin) (f : Arc A Global → Arc Known Global) (e : BoardEntry A) → ((ask : Arc A Global) → origin_of (arc_value (f ask)) ≡ line (arc_value ask)) → board_words origin_of (with_asks f e) ≡ board_words line e
+pub words_same : {A : Type 0} (line : A → Origin) (f : Arc A Global → Arc AskLine Global) (e : BoardEntry A) → ((ask : Arc A Global) → origin_of (arc_value (f ask)) ≡ line (arc_value ask)) → board_words origin_of (with_asks f e) ≡ board_words line e
 words_same line f (Born caller pipe shape) same = refl
 words_same line f (Submit caller pipe number ask) same = ap (λ l. codes "b" ∷ decimal caller ∷ codes "submit" ∷ decimal pipe ∷ decimal number ∷ origin_word l ∷ []) (same ask)
 words_same line f (Take caller pipe number) same = refl
@@ -101,7 +101,7 @@ words_same line f (Share caller pipe) same = refl
 words_same line f (Mask caller pipe mask) same = refl
 words_same line f (Shut caller) same = refl
 
-pub fits_same : {A : Type 0} (line : A → Origin) (f : Arc A Global → Arc Known Global) (e : BoardEntry A) → ((ask : Arc A Global) → origin_of (arc_value (f ask)) ≡ line (arc_value ask)) → board_fits origin_of (with_asks f e) ≡ board_fits line e
+pub fits_same : {A : Type 0} (line : A → Origin) (f : Arc A Global → Arc AskLine Global) (e : BoardEntry A) → ((ask : Arc A Global) → origin_of (arc_value (f ask)) ≡ line (arc_value ask)) → board_fits origin_of (with_asks f e) ≡ board_fits line e
 fits_same line f (Born caller pipe shape) same = refl
 fits_same line f (Submit caller pipe number ask) same = ap (λ l. is_u32 caller && (is_u64 pipe && (is_u64 number && origin_fits l))) (same ask)
 fits_same line f (Take caller pipe number) same = refl

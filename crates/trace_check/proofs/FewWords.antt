@@ -1,6 +1,6 @@
 -- Fewer than three words are no event.
 use Rattle.std.proofs.Common.{◌≡◌, ℕ, ◌<◌, List, [], ◌∷◌, length, map, None, Bor, refl, arith}
-use Rattle.trace_check.specs.Guessing.{event_in}
+use Rattle.trace_check.specs.EventParser.{event_in}
 
 pub few-words : (words : List (Bor (List ℕ))) → length words < 3 → event_in (map (λ word. word.now) words) ≡ None
 few-words [] few = refl

@@ -19,9 +19,9 @@ use Rattle.board.specs.declared.entry.BoardEntry.TheVariants as says
 use Rattle.trace_text.specs.Trace.{is_word, end_has_text, has_text, is_u16, is_u32, is_u64, enlisted_fits, looked_fits, end_fits, option_fits, shape_fits, entered_fits, is_event, board_fits, origin_fits}
 use Rattle.trace_check.specs.declared.lines.Event.{Event}
 use Rattle.trace_check.specs.declared.lines.Event.TheVariants as event
-use Rattle.trace_check.specs.declared.lines.Known.{Known}
+use Rattle.trace_check.specs.declared.lines.AskLine.{AskLine}
 use Rattle.trace_check.specs.Lines.{origin_of}
-use Rattle.trace_check.specs.Guessing.{digit_after, number_at, number_of, small_of, is_comma, ids_of, kind_of, enlisted_of, plain_spec, enlist_of, looked_of, look_of, built_of, joined_of, failed_of, ending_of, end_of, unlist_of, get_of, refs_of, lone_number, pair_in, numbered_of, registry_of, shape_of, born_of, submit_of, entered_of, enq_of, started_of, deq_of, short_of, hex_value, mask_in, mask_of, board_of, event_in, origin_in, origin_read, is_dot}
+use Rattle.trace_check.specs.EventParser.{digit_after, number_at, number_of, small_of, is_comma, ids_of, kind_of, enlisted_of, plain_spec, enlist_of, looked_of, look_of, built_of, joined_of, failed_of, ending_of, end_of, unlist_of, get_of, refs_of, lone_number, pair_in, numbered_of, registry_of, shape_of, born_of, submit_of, entered_of, enq_of, started_of, deq_of, short_of, hex_value, mask_in, mask_of, board_of, event_in, origin_in, origin_read, is_dot}
 
 abbrev AreWords : List (List ℕ) → Type 0
 AreWords words = list_all is_word words ≡ true
@@ -219,7 +219,7 @@ registry_good caller name words c h =
     (either IsReg (bytes_eq name (codes "list")) _ _ (list_good caller c) (numbered_good caller name words c)))))))
 
 -- Events of a board.
-IsBrd : Option (BoardEntry Known) → Type 0
+IsBrd : Option (BoardEntry AskLine) → Type 0
 IsBrd o = MatchOption o ⊤ (λ e. board_fits origin_of e ≡ true)
 
 shape_fit : (word : List ℕ) (size : ℕ) → is_u32 size ≡ true → shape_fits (shape_of word size) ≡ true
@@ -296,11 +296,11 @@ unfolding IsBrd
 short_good caller name [] c = tt
 short_good caller name (pipe ∷ []) c =
     let f = both (is_u32 caller) (is_u64 (number_of pipe)) c (number_fits pipe) in
-    let P : Option (BoardEntry Known) → Type 0 = λ o. MatchOption o ⊤ (λ e. board_fits origin_of e ≡ true) in
+    let P : Option (BoardEntry AskLine) → Type 0 = λ o. MatchOption o ⊤ (λ e. board_fits origin_of e ≡ true) in
     either P (bytes_eq name (codes "hold")) _ _ f (either P (bytes_eq name (codes "go")) _ _ f (either P (bytes_eq name (codes "close")) _ _ f (either P (bytes_eq name (codes "share")) _ _ f tt)))
 short_good caller name (pipe ∷ number ∷ []) c =
     let f = both (is_u32 caller) _ c (both (is_u64 (number_of pipe)) (is_u64 (number_of number)) (number_fits pipe) (number_fits number)) in
-    let P : Option (BoardEntry Known) → Type 0 = λ o. MatchOption o ⊤ (λ e. board_fits origin_of e ≡ true) in
+    let P : Option (BoardEntry AskLine) → Type 0 = λ o. MatchOption o ⊤ (λ e. board_fits origin_of e ≡ true) in
     either P (bytes_eq name (codes "take")) _ _ f (either P (bytes_eq name (codes "finish")) _ _ f (either P (bytes_eq name (codes "done")) _ _ f (either P (bytes_eq name (codes "collect")) _ _ f tt)))
 short_good caller name (a ∷ b ∷ x ∷ more) c = tt
 
@@ -324,7 +324,7 @@ unfolding IsReg
 fit_reg None h = tt
 fit_reg (Some e) h = h
 
-fit_board : (o : Option (BoardEntry Known)) → IsBrd o → IsFit (option_map event.Board o)
+fit_board : (o : Option (BoardEntry AskLine)) → IsBrd o → IsFit (option_map event.Board o)
 unfolding IsBrd
 fit_board None h = tt
 fit_board (Some e) h = h

@@ -31,12 +31,12 @@ use Rattle.board.specs.declared.entry.Entered.TheVariants.{InProgress, Busy, NoS
 use Rattle.board.specs.declared.entry.BoardEntry.{BoardEntry}
 use Rattle.board.specs.declared.entry.BoardEntry.TheVariants.{Born, Submit, Take, Finish, Enq, Deq, Done, Hold, Go, Collect, Close, Share, Mask, Shut}
 use Rattle.trace_check.specs.declared.lines.Event.TheVariants as event
-use Rattle.trace_check.specs.declared.lines.Known.{Known}
+use Rattle.trace_check.specs.declared.lines.AskLine.{AskLine}
 use Rattle.trace_text.specs.Text.{kind_word, wrap_word, ids_word, plain_word, get_word, enlisted_words, looked_words, reg_words, shape_words, backlog_word, entered_words, started_words, board_words}
 use Rattle.trace_text.specs.Trace.{has_words, is_unwrapped, has_text, is_u16, is_u32, is_u64, spec_fits, enlisted_fits, looked_fits, end_fits, option_fits, fits, shape_fits, entered_fits, board_fits, origin_fits}
-use Rattle.trace_check.specs.Guessing.{number_of, small_of, ids_of, kind_of, wrap_of, errno_of, enlisted_of, looked_of, entered_of, started_of, board_of, event_in}
+use Rattle.trace_check.specs.EventParser.{number_of, small_of, ids_of, kind_of, wrap_of, errno_of, enlisted_of, looked_of, entered_of, started_of, board_of, event_in}
 use Rattle.trace_check.specs.Lines.{origin_of}
-use Rattle.trace_check.specs.Known.{ask_of, unplaced}
+use Rattle.trace_check.specs.AskLines.{ask_of, unplaced}
 use Rattle.trace_check.proofs.Numerals.{number_again, small_again, ids_again, mask_again, origin_again}
 use Rattle.trace_check.proofs.RegParts.{no_ids, unwrapped}
 
@@ -163,7 +163,7 @@ started_again : (started : Option ℕ) → option_fits started ≡ true → star
 started_again (Some n) f = ap Some (number_again n f)
 started_again None f = refl
 
-pub board_again : (e : BoardEntry Known) → board_fits origin_of e ≡ true → event_in (board_words origin_of e) ≡ Some (event.Board (unplaced e))
+pub board_again : (e : BoardEntry AskLine) → board_fits origin_of e ≡ true → event_in (board_words origin_of e) ≡ Some (event.Board (unplaced e))
 board_again (Born caller pipe shape) f =
     let ff = and_parts (is_u32 caller) (is_u64 pipe && shape_fits shape) f in
     let fp = and_parts (is_u64 pipe) (shape_fits shape) ff.1 in

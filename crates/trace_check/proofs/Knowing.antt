@@ -12,8 +12,8 @@ use Rattle.trace_check.specs.Pipes.{PipeState, judged, pipes_after, is_shut_by}
 use Rattle.trace_text.specs.Text.{sentence, reg_words, board_words}
 use Rattle.trace_text.specs.Trace.{trace_of, board_fits, AreEvents}
 use Rattle.trace_check.specs.Lines.{origin_of}
-use Rattle.trace_check.specs.declared.lines.Known.{Known}
-use Rattle.trace_check.specs.Known.{known_by, with_line, with_lines}
+use Rattle.trace_check.specs.declared.lines.AskLine.{AskLine}
+use Rattle.trace_check.specs.AskLines.{known_by, with_line, with_lines}
 use Rattle.trace_check.proofs.Asks.{judged_same, after_same, shut_same, words_same, fits_same}
 use Rattle.trace_check.proofs.Judging.{IsBoard}
 use Rattle.trace_check.proofs.Parts.{judged_right, judged_wrong, wrong_not_right, next_is_new}
@@ -48,7 +48,7 @@ passes_there line ps shut (e ∷ h) p = (
   rw (after_same (known_by line) ps e, shut_same (known_by line) shut e) (passes_there line (pipes_after ps e) (is_shut_by shut e) h p.1),
 )
 
-pass_on : {A : Type 0} (line : A → Origin) (ps qs : List PipeState) (shut shut' : Bool) (h : List (BoardEntry Known)) → ps ≡ qs → shut ≡ shut' → Passes ps shut h → Passes qs shut' h
+pass_on : {A : Type 0} (line : A → Origin) (ps qs : List PipeState) (shut shut' : Bool) (h : List (BoardEntry AskLine)) → ps ≡ qs → shut ≡ shut' → Passes ps shut h → Passes qs shut' h
 pass_on line ps qs shut shut' h e f p = subst (λ b. Passes qs b h) f (subst (λ xs. Passes xs shut h) e p)
 
 passes_back : {A : Type 0} (line : A → Origin) (ps : List PipeState) (shut : Bool) (h : List (BoardEntry A)) → Passes ps shut (with_lines line h) → Passes ps shut h

@@ -27,11 +27,11 @@ use Rattle.board.specs.declared.entry.Entered.TheVariants.{InProgress, Busy, NoS
 use Rattle.board.specs.declared.entry.BoardEntry.{BoardEntry}
 use Rattle.board.specs.declared.entry.BoardEntry.TheVariants.{Born, Submit, Take, Finish, Enq, Deq, Done, Hold, Go, Collect, Close, Share, Mask, Shut}
 use Rattle.std.specs.Arc.{arc_value}
-use Rattle.trace_check.specs.declared.lines.Known.{Known}
+use Rattle.trace_check.specs.declared.lines.AskLine.{AskLine}
 use Rattle.reply_text.specs.Origins.{origin_word}
 use Rattle.trace_text.specs.Text.{sentence, kind_word, wrap_word, ids_word, plain_word, get_word, enlisted_words, looked_words, end_words, unlisted_words, reg_words, shape_words, backlog_word, entered_words, started_words, mask_word, board_words}
 use Rattle.trace_text.specs.Trace.{is_word, has_words, is_unwrapped, end_has_text, has_text, is_u16, is_u32, is_u64, spec_fits, enlisted_fits, looked_fits, end_fits, option_fits, fits, shape_fits, entered_fits, board_fits, origin_fits}
-use Rattle.trace_check.specs.Guessing.{event_in}
+use Rattle.trace_check.specs.EventParser.{event_in}
 use Rattle.trace_check.proofs.Numerals.{word_decimal, word_small, word_ids, word_mask, word_origin}
 use Rattle.std.proofs.lemmas.List.{length_push}
 use Rattle.trace_check.specs.declared.lines.Event.{Event}
@@ -189,7 +189,7 @@ paired name caller pipe number n f =
     let fp = and_parts (is_u64 pipe) (is_u64 number) ff.1 in
     headed (codes "b") name caller _ refl n ff.0 (one_more (decimal pipe) _ (word_decimal pipe fp.0) (alone number fp.1))
 
-pub board_are : (e : BoardEntry Known) → board_fits origin_of e ≡ true → AreWords (board_words origin_of e)
+pub board_are : (e : BoardEntry AskLine) → board_fits origin_of e ≡ true → AreWords (board_words origin_of e)
 board_are (Born caller pipe shape) f =
     let ff = and_parts (is_u32 caller) (is_u64 pipe && shape_fits shape) f in
     let fp = and_parts (is_u64 pipe) (shape_fits shape) ff.1 in
@@ -251,7 +251,7 @@ some_registry (Put caller id) = omega arith
 some_registry (Refs caller driver) = omega arith
 some_registry (reg.List caller) = omega arith
 
-some_board : (e : BoardEntry Known) → 0 < length (board_words origin_of e)
+some_board : (e : BoardEntry AskLine) → 0 < length (board_words origin_of e)
 some_board (Born caller pipe shape) = omega arith
 some_board (Submit caller pipe number ask) = omega arith
 some_board (Take caller pipe number) = omega arith

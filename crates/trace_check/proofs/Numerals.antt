@@ -7,7 +7,7 @@ use Rattle.std.specs.Str.{bytes_eq}
 use Rattle.std.proofs.lemmas.Bool.{eqb-true, lt-ltb, le-leb, lt-leb, cases_lt, ltb-true, leb-true, and_parts, and_from, ne_eqb, eq-eqb, not-true}
 use Rattle.std.proofs.lemmas.Fmt.{decimal_by_steps, decimal_nonempty}
 use Rattle.trace_text.specs.Trace.{is_visible, is_word, is_u16, is_u32, is_u64, origin_fits}
-use Rattle.trace_check.specs.Guessing.{digit_after, number_at, number_from, number_of, small_of, ids_of, is_comma, hex_value, mask_in, origin_in, origin_read}
+use Rattle.trace_check.specs.EventParser.{digit_after, number_at, number_from, number_of, small_of, ids_of, is_comma, hex_value, mask_in, origin_in, origin_read}
 use Rattle.reply_text.specs.Origins.{origin_word}
 use Rattle.reply_text.specs.declared.origin.Origin.{Origin}
 use Rattle.trace_text.specs.Text.{ids_word, hex_digit, mask_word}

@@ -15,7 +15,7 @@ use Rattle.trace_text.specs.Text.{sentence, reg_words, board_words}
 use Rattle.trace_text.specs.Trace.{is_event, board_fits, AreEvents}
 use Rattle.trace_check.specs.declared.reason.Reason.{Reason}
 use Rattle.trace_check.specs.declared.reason.Reason.TheVariants.{State, Caller, Number, Answer}
-use Rattle.trace_check.specs.declared.lines.Known.{Known}
+use Rattle.trace_check.specs.declared.lines.AskLine.{AskLine}
 use Rattle.trace_check.specs.declared.lines.Event.{Event}
 use Rattle.trace_check.specs.declared.lines.Event.TheVariants as event
 use Rattle.trace_check.specs.declared.verdict.TraceVerdict.{TraceVerdict}
@@ -25,8 +25,8 @@ use Rattle.trace_check.specs.RegReasons as reg
 use Rattle.trace_check.specs.BoardReasons as brd
 use Rattle.trace_check.specs.Pipes.{PipeState, judged, pipes_after, is_shut_by}
 use Rattle.trace_check.specs.Lines.{origin_of}
-use Rattle.trace_check.specs.Known.{ask_of, unplaced}
-use Rattle.trace_check.specs.Guessing.{event_in}
+use Rattle.trace_check.specs.AskLines.{ask_of, unplaced}
+use Rattle.trace_check.specs.EventParser.{event_in}
 use Rattle.trace_check.specs.Verdicts.{IsTraceOf, BeginsWith, IsFirstBad, IsVerdict, AreJudged}
 use Rattle.trace_check.proofs.Judging.{IsBoard}
 use Rattle.trace_check.proofs.Parts.{judged_right, judged_wrong, wrong_not_right}
@@ -149,16 +149,16 @@ found_is h None l = none_found 0 [] false h (right_passes [] false [] h board_em
 found_is h (Some x) w = one_found 0 [] false [] h x.0 x.1 board_empty w.0 w.1 ∙ ap (λ m. Some (m, x.1)) (let z : 0 + x.0 ≡ x.0 = omega arith in z)
 
 -- It looks at nothing of an ask.
-found_anywhere : (n : ℕ) (ps : List PipeState) (shut : Bool) (h : List (BoardEntry Known)) → first_judged n ps shut (map unplaced h) ≡ first_judged n ps shut h
+found_anywhere : (n : ℕ) (ps : List PipeState) (shut : Bool) (h : List (BoardEntry AskLine)) → first_judged n ps shut (map unplaced h) ≡ first_judged n ps shut h
 found_anywhere n ps shut [] = refl
 found_anywhere n ps shut (e ∷ h) =
-    let f : Arc Known Global → Arc Known Global = λ ask. ask_of (arc_value ask).origin in
+    let f : Arc AskLine Global → Arc AskLine Global = λ ask. ask_of (arc_value ask).origin in
     ap (λ o. first_from n o (first_judged (n + 1) (pipes_after ps (unplaced e)) (is_shut_by shut (unplaced e)) (map unplaced h))) (judged_same f ps shut e)
     ∙ (ap (λ qs. first_from n (judged ps shut e) (first_judged (n + 1) qs (is_shut_by shut (unplaced e)) (map unplaced h))) (after_same f ps e)
     ∙ (ap (λ t. first_from n (judged ps shut e) (first_judged (n + 1) (pipes_after ps e) t (map unplaced h))) (shut_same f shut e)
     ∙ ap (first_from n (judged ps shut e)) (found_anywhere (n + 1) (pipes_after ps e) (is_shut_by shut e) h)))
 
-one_board : (h h' : List (BoardEntry Known)) (a b : Option (ℕ × Reason)) → map unplaced h ≡ map unplaced h' → brd.IsFirstWrong h a → brd.IsFirstWrong h' b → a ≡ b
+one_board : (h h' : List (BoardEntry AskLine)) (a b : Option (ℕ × Reason)) → map unplaced h ≡ map unplaced h' → brd.IsFirstWrong h a → brd.IsFirstWrong h' b → a ≡ b
 one_board h h' a b same p q =
     sym (found_is h a p)
     ∙ (sym (found_anywhere 0 [] false h)
@@ -182,7 +182,7 @@ event_at line = event_in (slice_split (λ b. b == 32) line)
 abbrev reg_event : RegEntry → Option Event
 reg_event e = Some (event.Registry e)
 
-abbrev board_event : BoardEntry Known → Option Event
+abbrev board_event : BoardEntry AskLine → Option Event
 board_event e = Some (event.Board (unplaced e))
 
 reg_events : (r : List RegEntry) → list_all is_event r ≡ true → map event_at (map reg_line r) ≡ map reg_event r
@@ -193,7 +193,7 @@ reg_events (e ∷ r) k =
     let g = (event_read (reg_line e) 10 (sentence (reg_words e)) (event.Registry e) refl (p.0, refl)).1 in
     ap (λ g. g ∷ map event_at (map reg_line r)) g ∙ ap (λ gs. reg_event e ∷ gs) (reg_events r p.1)
 
-board_events : (b : List (BoardEntry Known)) → list_all (board_fits origin_of) b ≡ true → map event_at (map board_line b) ≡ map board_event b
+board_events : (b : List (BoardEntry AskLine)) → list_all (board_fits origin_of) b ≡ true → map event_at (map board_line b) ≡ map board_event b
 unfolding event_at
 board_events [] k = refl
 board_events (e ∷ b) k =
@@ -201,7 +201,7 @@ board_events (e ∷ b) k =
     let g = (event_read (board_line e) 10 (sentence (board_words origin_of e)) (event.Board e) refl (p.0, refl)).1 in
     ap (λ g. g ∷ map event_at (map board_line b)) g ∙ ap (λ gs. board_event e ∷ gs) (board_events b p.1)
 
-all_events : (r : List RegEntry) (b : List (BoardEntry Known)) → AreEvents origin_of r b → map event_at (lines r b) ≡ map reg_event r ++ map board_event b
+all_events : (r : List RegEntry) (b : List (BoardEntry AskLine)) → AreEvents origin_of r b → map event_at (lines r b) ≡ map reg_event r ++ map board_event b
 all_events r b k =
     map-append event_at (map reg_line r) (map board_line b)
     ∙ (ap (λ gs. gs ++ map event_at (map board_line b)) (reg_events r k.0) ∙ ap (λ gs. map reg_event r ++ gs) (board_events b k.1))
@@ -210,25 +210,25 @@ abbrev reg_in : Option Event → Option RegEntry
 reg_in (Some (event.Registry e)) = Some e
 reg_in _ = None
 
-abbrev board_in : Option Event → Option (BoardEntry Known)
+abbrev board_in : Option Event → Option (BoardEntry AskLine)
 board_in (Some (event.Board e)) = Some e
 board_in _ = None
 
-regs_again : (r : List RegEntry) (b : List (BoardEntry Known)) → filter_map reg_in (map reg_event r ++ map board_event b) ≡ r
+regs_again : (r : List RegEntry) (b : List (BoardEntry AskLine)) → filter_map reg_in (map reg_event r ++ map board_event b) ≡ r
 regs_again [] [] = refl
 regs_again [] (e ∷ b) = regs_again [] b
 regs_again (e ∷ r) b = ap (λ es. e ∷ es) (regs_again r b)
 
-boards_again : (r : List RegEntry) (b : List (BoardEntry Known)) → filter_map board_in (map reg_event r ++ map board_event b) ≡ map unplaced b
+boards_again : (r : List RegEntry) (b : List (BoardEntry AskLine)) → filter_map board_in (map reg_event r ++ map board_event b) ≡ map unplaced b
 boards_again [] [] = refl
 boards_again [] (e ∷ b) = ap (λ ps. unplaced e ∷ ps) (boards_again [] b)
 boards_again (e ∷ r) b = boards_again r b
 
-record AreAlike (r r' : List RegEntry) (b b' : List (BoardEntry Known)) : Type 0 where
+record AreAlike (r r' : List RegEntry) (b b' : List (BoardEntry AskLine)) : Type 0 where
   pub registry : r ≡ r'
   pub board : map unplaced b ≡ map unplaced b'
 
-alike : (text : List ℕ) (r r' : List RegEntry) (b b' : List (BoardEntry Known)) → IsTraceOf text r b → IsTraceOf text r' b' → AreAlike r r' b b'
+alike : (text : List ℕ) (r r' : List RegEntry) (b b' : List (BoardEntry AskLine)) → IsTraceOf text r b → IsTraceOf text r' b' → AreAlike r r' b b'
 alike text r r' b b' p q =
     let l : lines r b ≡ lines r' b' = one_text (lines r b) (lines r' b') (are_lines r b p.0) (are_lines r' b' q.0) (sym (trace_lines r b) ∙ (sym p.1 ∙ (q.1 ∙ trace_lines r' b'))) in
     let g = sym (all_events r b p.0) ∙ (ap (map event_at) l ∙ all_events r' b' q.0) in
@@ -242,7 +242,7 @@ abbrev illegal_at : (ℕ → ℕ) → Option (ℕ × Reason) → TraceVerdict
 illegal_at f None = Legal
 illegal_at f (Some x) = Illegal (f x.0) x.1
 
-one_judged : (r : List RegEntry) (b b' : List (BoardEntry Known)) (v w : TraceVerdict) → map unplaced b ≡ map unplaced b' → AreJudged r b v → AreJudged r b' w → v ≡ w
+one_judged : (r : List RegEntry) (b b' : List (BoardEntry AskLine)) (v w : TraceVerdict) → map unplaced b ≡ map unplaced b' → AreJudged r b v → AreJudged r b' w → v ≡ w
 one_judged r b b' Legal Legal s p q = refl
 one_judged r b b' Legal (Illegal k t) s p (inl q) = ap (illegal_at (λ n. n)) (one_registry r None (Some (k, t)) p.0 q)
 one_judged r b b' Legal (Illegal k t) s p (inr q) = absurd (let e = one_board b b' None (Some (k - length r, t)) s p.1 q.2 in cc)

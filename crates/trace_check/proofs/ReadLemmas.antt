@@ -10,8 +10,8 @@ use Rattle.trace_text.specs.Text.{sentence}
 use Rattle.trace_text.specs.Trace.{is_word}
 use Rattle.trace_check.specs.declared.lines.Event.{Event}
 use Rattle.trace_check.specs.declared.lines.Event.TheVariants as event
-use Rattle.trace_check.specs.Guessing.{event_in}
-use Rattle.trace_check.specs.Known.{ask_of}
+use Rattle.trace_check.specs.EventParser.{event_in}
+use Rattle.trace_check.specs.AskLines.{ask_of}
 use Rattle.std.specs.Arc.{arc_value}
 use Rattle.trace_check.specs.Lines.{origin_of, words_of, anywhere, IsLineOf, IsReadAs}
 use Rattle.trace_check.proofs.Asks.{words_same, fits_same}

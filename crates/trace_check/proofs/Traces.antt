@@ -6,7 +6,7 @@ use Rattle.std.proofs.lemmas.Bool.{and_parts, and_from}
 use Rattle.std.proofs.lemmas.List.{length_push, length-map}
 use Rattle.alg_registry.specs.declared.entry.RegEntry.{RegEntry}
 use Rattle.board.specs.declared.entry.BoardEntry.{BoardEntry}
-use Rattle.trace_check.specs.declared.lines.Known.{Known}
+use Rattle.trace_check.specs.declared.lines.AskLine.{AskLine}
 use Rattle.trace_check.specs.declared.lines.Event.TheVariants as event
 use Rattle.trace_text.specs.Text.{sentence, reg_words, board_words}
 use Rattle.trace_text.specs.Trace.{trace_of, has_text, fits, board_fits, is_event, AreEvents}
@@ -17,7 +17,7 @@ use Rattle.trace_check.proofs.Numerals.{words_unlike, is_not}
 use Rattle.trace_check.proofs.LineWords.{registry_are, board_are}
 use Rattle.trace_check.proofs.Cuts.{fed, text_of, AreLines}
 
-pub record IsSoFar (text : List ℕ) (registry : List RegEntry) (board : List (BoardEntry Known)) (rest : List ℕ) (count : ℕ) : Type 0 where
+pub record IsSoFar (text : List ℕ) (registry : List RegEntry) (board : List (BoardEntry AskLine)) (rest : List ℕ) (count : ℕ) : Type 0 where
   pub front : HasFront text registry board rest
   pub counted : length registry + length board ≡ count
   pub short : count + length rest ≤ length text
@@ -26,10 +26,10 @@ pub record IsSoFar (text : List ℕ) (registry : List RegEntry) (board : List (B
 abbrev pub reg_line : RegEntry → List ℕ
 reg_line e = join_with_byte 32 (reg_words e)
 
-abbrev pub board_line : BoardEntry Known → List ℕ
+abbrev pub board_line : BoardEntry AskLine → List ℕ
 board_line e = join_with_byte 32 (board_words origin_of e)
 
-abbrev pub lines : List RegEntry → List (BoardEntry Known) → List (List ℕ)
+abbrev pub lines : List RegEntry → List (BoardEntry AskLine) → List (List ℕ)
 lines r b = map reg_line r ++ map board_line b
 
 text_append : (xs ys : List (List ℕ)) → text_of (xs ++ ys) ≡ text_of xs ++ text_of ys
@@ -40,11 +40,11 @@ reg_text : (r : List RegEntry) → flat_map (λ e. sentence (reg_words e)) r ≡
 reg_text [] = refl
 reg_text (e ∷ r) = ap (λ t. sentence (reg_words e) ++ t) (reg_text r)
 
-board_text : (b : List (BoardEntry Known)) → flat_map (λ e. sentence (board_words origin_of e)) b ≡ text_of (map board_line b)
+board_text : (b : List (BoardEntry AskLine)) → flat_map (λ e. sentence (board_words origin_of e)) b ≡ text_of (map board_line b)
 board_text [] = refl
 board_text (e ∷ b) = ap (λ t. sentence (board_words origin_of e) ++ t) (board_text b)
 
-pub trace_lines : (r : List RegEntry) (b : List (BoardEntry Known)) → trace_of origin_of r b ≡ text_of (lines r b)
+pub trace_lines : (r : List RegEntry) (b : List (BoardEntry AskLine)) → trace_of origin_of r b ≡ text_of (lines r b)
 trace_lines r b =
     ap (λ t. t ++ flat_map (λ e. sentence (board_words origin_of e)) b) (reg_text r)
     ∙ (ap (λ t. text_of (map reg_line r) ++ t) (board_text b) ∙ sym (text_append (map reg_line r) (map board_line b)))
@@ -66,7 +66,7 @@ one_reg e k =
     let p = and_parts (has_text e) (fits e) k in
     joined_all (is_not 10) (reg_words e) refl (words_unlike 10 (reg_words e) (omega arith) (let v = registry_are e p.0 p.1 in v.all))
 
-pub one_board : (e : BoardEntry Known) → board_fits origin_of e ≡ true → IsOneLine (board_line e)
+pub one_board : (e : BoardEntry AskLine) → board_fits origin_of e ≡ true → IsOneLine (board_line e)
 one_board e k = joined_all (is_not 10) (board_words origin_of e) refl (words_unlike 10 (board_words origin_of e) (omega arith) (let v = board_are e k in v.all))
 
 all_lists : (p : List ℕ → Bool) (xs ys : List (List ℕ)) → list_all p xs ≡ true → list_all p ys ≡ true → list_all p (xs ++ ys) ≡ true
@@ -77,14 +77,14 @@ reg_lines : (r : List RegEntry) → list_all is_event r ≡ true → AreLines (m
 reg_lines [] h = refl
 reg_lines (e ∷ r) h = (let k = and_parts (is_event e) (list_all is_event r) h in and_from (list_all (λ b. not (b == 10)) (reg_line e)) (list_all (list_all (λ b. not (b == 10))) (map reg_line r)) (one_reg e k.0) (reg_lines r k.1))
 
-board_lines : (b : List (BoardEntry Known)) → list_all (board_fits origin_of) b ≡ true → AreLines (map board_line b)
+board_lines : (b : List (BoardEntry AskLine)) → list_all (board_fits origin_of) b ≡ true → AreLines (map board_line b)
 board_lines [] h = refl
 board_lines (e ∷ b) h = (let k = and_parts (board_fits origin_of e) (list_all (board_fits origin_of) b) h in and_from (list_all (λ b. not (b == 10)) (board_line e)) (list_all (list_all (λ b. not (b == 10))) (map board_line b)) (one_board e k.0) (board_lines b k.1))
 
-pub are_lines : (r : List RegEntry) (b : List (BoardEntry Known)) → AreEvents origin_of r b → AreLines (lines r b)
+pub are_lines : (r : List RegEntry) (b : List (BoardEntry AskLine)) → AreEvents origin_of r b → AreLines (lines r b)
 are_lines r b k = all_lists (list_all (λ c. not (c == 10))) (map reg_line r) (map board_line b) (reg_lines r k.0) (board_lines b k.1)
 
-pub count_lines : (r : List RegEntry) (b : List (BoardEntry Known)) → length (lines r b) ≡ length r + length b
+pub count_lines : (r : List RegEntry) (b : List (BoardEntry AskLine)) → length (lines r b) ≡ length r + length b
 count_lines r b = (let a = length-append (map reg_line r) (map board_line b) in let c = length-map r reg_line in let d = length-map b board_line in omega arith)
 
 -- Lists by their last elements.
@@ -112,7 +112,7 @@ flat_more : {X : Type 0} (f : X → List ℕ) (xs : List X) (x : X) → flat_map
 flat_more f [] x = append-nil (f x)
 flat_more f (y ∷ xs) x = ap (λ t. f y ++ t) (flat_more f xs x) ∙ sym (append_assoc (f y) (flat_map f xs) (f x))
 
-pub board_more : (r : List RegEntry) (b : List (BoardEntry Known)) (e : BoardEntry Known) → trace_of origin_of r (b ++ e ∷ []) ≡ trace_of origin_of r b ++ sentence (board_words origin_of e)
+pub board_more : (r : List RegEntry) (b : List (BoardEntry AskLine)) (e : BoardEntry AskLine) → trace_of origin_of r (b ++ e ∷ []) ≡ trace_of origin_of r b ++ sentence (board_words origin_of e)
 board_more r b e =
     ap (λ t. flat_map (λ x. sentence (reg_words x)) r ++ t) (flat_more (λ x. sentence (board_words origin_of x)) b e)
     ∙ sym (append_assoc (flat_map (λ x. sentence (reg_words x)) r) (flat_map (λ x. sentence (board_words origin_of x)) b) (sentence (board_words origin_of e)))
@@ -123,7 +123,7 @@ reg_more r e =
     ∙ (flat_more (λ x. sentence (reg_words x)) r e ∙ ap (λ t. t ++ sentence (reg_words e)) (sym (append-nil (flat_map (λ x. sentence (reg_words x)) r))))
 
 -- What comes next.
-none_yet : (b : List (BoardEntry Known)) → length b ≡ 0 → b ≡ []
+none_yet : (b : List (BoardEntry AskLine)) → length b ≡ 0 → b ≡ []
 none_yet [] h = refl
 none_yet (e ∷ b) h = absurd (omega arith)
 

@@ -1,11 +1,11 @@
 pub mod Reasons
 pub mod BoardReasons
 pub mod Pipes
-pub mod Guessing
+pub mod EventParser
 pub mod Lines
 pub mod Verdicts
 pub mod Reading
 pub mod RegReasons
-pub mod Known
+pub mod AskLines
 pub mod Registers
 pub mod Held

@@ -3,13 +3,13 @@ use Rattle.std.specs.Prelude.{◌≡◌, ℕ, true, List, Option, Some, None}
 use Rattle.reply_text.specs.declared.origin.Origin.{Origin}
 use Rattle.trace_check.specs.declared.lines.Event.{Event}
 use Rattle.trace_check.specs.declared.lines.Event.TheVariants as event
-use Rattle.trace_check.specs.declared.lines.Known.{Known}
+use Rattle.trace_check.specs.declared.lines.AskLine.{AskLine}
 use Rattle.trace_text.specs.Text.{sentence, reg_words, board_words}
 use Rattle.trace_text.specs.Trace.{is_event, board_fits}
-use Rattle.trace_check.specs.Known.{unplaced}
+use Rattle.trace_check.specs.AskLines.{unplaced}
 
 -- where an ask comes from that is known by nothing else
-abbrev pub origin_of : Known → Origin
+abbrev pub origin_of : AskLine → Origin
 origin_of known = known.origin
 
 abbrev pub words_of : Event → List (List ℕ)

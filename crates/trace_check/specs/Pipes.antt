@@ -16,7 +16,7 @@ use Rattle.board.specs.declared.entry.BoardEntry.{BoardEntry}
 use Rattle.board.specs.declared.entry.BoardEntry.TheVariants.{Born, Submit, Take, Finish, Enq, Deq, Done, Hold, Go, Collect, Close, Share, Mask, Shut}
 use Rattle.trace_check.specs.declared.pipe.Progress.{Progress}
 use Rattle.trace_check.specs.declared.pipe.Progress.TheVariants.{Waits, Runs, Ended}
-use Rattle.trace_check.specs.declared.pipe.Pipe.{Pipe}
+use Rattle.trace_check.specs.declared.pipe.Pipeline.{Pipeline}
 use Rattle.trace_check.specs.declared.reason.Reason.{Reason}
 use Rattle.trace_check.specs.declared.reason.Reason.TheVariants.{State, Caller, Number, Answer}
 
@@ -36,7 +36,7 @@ pub record PipeState : Type 0 where
   pub shared : Bool
   pub closed : Bool
 
-abbrev pub state_of : Pipe → PipeState
+abbrev pub state_of : Pipeline → PipeState
 state_of p = record {
   maker = p.maker;
   shape = p.shape;

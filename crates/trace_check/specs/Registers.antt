@@ -20,14 +20,14 @@ use Rattle.alg_registry.specs.Answers.{look_answer, clashes_with, driver_place, 
 use Rattle.alg_registry.specs.Legal.{is_worker}
 use Rattle.trace_check.specs.declared.reason.Reason.{Reason}
 use Rattle.trace_check.specs.declared.register.Entry.{Entry}
-use Rattle.trace_check.specs.declared.register.Larva.{Larva}
+use Rattle.trace_check.specs.declared.register.LarvalState.{LarvalState}
 use Rattle.trace_check.specs.declared.register.Reference.{Reference}
 use Rattle.trace_check.specs.Pipes.{same_number, reason_of}
 
 abbrev pub row_of : Entry → Row
 row_of e = record { spec = e.spec; unlisted = e.unlisted; taken = e.taken; listed = e.listed; references = 0 }
 
-abbrev pub larval_of : Larva → Larval
+abbrev pub larval_of : LarvalState → Larval
 larval_of l = record { text = l.text; claimed = l.claimed; ended = l.ended }
 
 abbrev pub is_free : Larval → Bool

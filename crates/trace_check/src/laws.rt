@@ -8,17 +8,17 @@ ghost use Rattle.board.specs.declared.entry.BoardEntry.{BoardEntry};
 ghost use Rattle.board.specs.Legal.{LegalBoard};
 ghost use Rattle.board.specs.Legal as board;
 ghost use Rattle.trace_text.specs.Trace.{trace_of, has_text, AreEvents};
-ghost use Rattle.trace_check.specs.Known.{with_lines};
+ghost use Rattle.trace_check.specs.AskLines.{with_lines};
 ghost use Rattle.trace_check.specs.declared.verdict.TraceVerdict.{TraceVerdict};
 ghost use Rattle.trace_check.specs.Verdicts.{IsLegalTrace, IsVerdict};
 ghost use Rattle.trace_check.specs.RegReasons as reg;
 ghost use Rattle.trace_check.specs.BoardReasons as brd;
 
-use trace_text::Lined;
+use trace_text::HasScriptLine;
 
 /// Whether a board's events are legal depends on nothing of an ask, and their trace on its line alone. So the trace of
 /// legal histories is a legal trace.
-pub fn asks_are_lines<A: Lined>()
+pub fn asks_are_lines<A: HasScriptLine>()
     ensures legal { (h : List (BoardEntry A)) → LegalBoard h ↔ LegalBoard (with_lines A.origin h) }
     ensures traced { (r : List RegEntry) (h : List (BoardEntry A)) → AreEvents A.origin r h → LegalReg r → LegalBoard h → IsLegalTrace (trace_of A.origin r h) }
 {}

@@ -1,8 +1,7 @@
 //! A checker of the trace of a run.
 #![tactic(auto)]
 
-mod advancing;
-mod guessing;
+mod event_parser;
 mod held;
 mod laws;
 mod lines;
@@ -10,13 +9,14 @@ mod pipe;
 mod reading;
 mod reason;
 mod register;
-mod registering;
 mod registry_check;
+mod registry_judge;
 mod table;
+mod table_steps;
 mod verdict;
 
 pub use laws::{asks_are_lines, board_reasons, one_verdict, registry_reasons};
-pub use lines::{Event, Known};
+pub use lines::{AskLine, Event};
 pub use reading::{Events, Reading, read_trace};
 pub use reason::Reason;
 pub use registry_check::first_wrong_entry;

@@ -6,24 +6,24 @@ ghost use Rattle.std.specs.List.{list_all};
 ghost use Rattle.std.specs.Str.{bytes_eq};
 ghost use Rattle.trace_text.specs.Text.{sentence};
 ghost use Rattle.trace_text.specs.Trace.{is_visible, is_word};
-ghost use Rattle.trace_check.specs.Guessing.{event_in};
+ghost use Rattle.trace_check.specs.EventParser.{event_in};
 ghost use Rattle.trace_check.specs.Lines.{words_of, anywhere, IsReadAs};
 
-use crate::guessing::{board_of, is_same, parts_of, registry_of, small_of};
+use crate::event_parser::{board_of, is_same, parts_of, registry_of, small_of};
 use alg_registry::RegEntry;
 use board::BoardEntry;
 use reply_text::Origin;
 use std::alloc::{AllocError, Global};
-use trace_text::{Lined, board_line, registry_line};
+use trace_text::{HasScriptLine, board_line, registry_line};
 
 /// An ask of which nothing is known but from which line of which client's script it comes.
 #[derive(Clone, Copy, Debug, PartialEq, Eq)]
-pub struct Known {
+pub struct AskLine {
     /// The client, and the line of its script.
     pub origin: Origin,
 }
 
-impl Lined for Known {
+impl HasScriptLine for AskLine {
     ghost origin = { λ known. known.origin };
 
     fn origin(&self) -> Origin {
@@ -35,7 +35,7 @@ impl Lined for Known {
 #[derive(Debug, Drop)]
 pub enum Event {
     Registry(RegEntry),
-    Board(BoardEntry<Known>),
+    Board(BoardEntry<AskLine>),
 }
 
 fn is_visible(byte: u8) -> bool

@@ -22,7 +22,7 @@ pub(crate) enum Progress {
 /// A pipeline: who made it, its requests by number, who submitted them, and how many of them left its line and are
 /// finished; all before `front` are finished. It has told so many callbacks.
 #[derive(Drop)]
-pub(crate) struct Pipe {
+pub(crate) struct Pipeline {
     pub(crate) maker: u32,
     pub(crate) shape: Shape,
     pub(crate) requests: Vec<Progress>,
@@ -201,12 +201,12 @@ fn front_from(requests: &[Progress], from: usize) -> usize
     requests.len()
 }
 
-impl Pipe {
+impl Pipeline {
     /// A pipeline that was just made.
-    pub(crate) fn new(alloc: Global, maker: u32, shape: Shape) -> Pipe
+    pub(crate) fn new(alloc: Global, maker: u32, shape: Shape) -> Pipeline
         ensures { state_of result ≡ new_pipe maker shape }
     {
-        Pipe {
+        Pipeline {
             maker,
             shape,
             requests: Vec::new(alloc),

@@ -5,7 +5,7 @@ ghost use Rattle.std.specs.List.{list_all};
 ghost use Rattle.trace_check.specs.Verdicts.{IsTraceOf, IsFirstBad};
 ghost use Rattle.trace_check.specs.Reading.{IsReading, IsCut};
 
-use crate::lines::{Event, Known, read_event};
+use crate::lines::{AskLine, Event, read_event};
 use alg_registry::RegEntry;
 use board::BoardEntry;
 use std::alloc::{AllocError, Global};
@@ -16,7 +16,7 @@ pub struct Events {
     /// Those of the registry, in order. Their lines come first.
     pub registry: Vec<RegEntry>,
     /// Those of the board, in order.
-    pub board: Vec<BoardEntry<Known>>,
+    pub board: Vec<BoardEntry<AskLine>>,
 }
 
 /// What a text is read as.

@@ -11,7 +11,7 @@ ghost use Rattle.trace_check.specs.Held.{AreMarked, end_ids, AreJoined};
 ghost use Rattle.trace_check.specs.Registers.{row_of, larval_of, is_to, is_of, is_free, is_being_built, has_ended, is_claimed_by, passes, same_made, alike_made, same_found, alike_found, same_place, alike_place, same_flag};
 ghost use Rattle.trace_check.specs.Pipes.{reason_of};
 
-use crate::guessing::is_same;
+use crate::event_parser::is_same;
 use crate::held::mark_ids;
 use crate::reason::{Reason, reason_of};
 use alg_registry::{Ended, Enlisted, Looked, Spec, Wrap};
@@ -29,7 +29,7 @@ pub(crate) struct Entry {
 
 /// A larval: its text, who claimed it, and how it ended.
 #[derive(Drop)]
-pub(crate) struct Larva {
+pub(crate) struct LarvalState {
     pub(crate) text: Bytes,
     pub(crate) claimed: Option<u32>,
     pub(crate) ended: Option<Ended>,
@@ -114,7 +114,7 @@ pub(crate) fn are_listed(entries: &[Entry], ids: &[u64]) -> bool
 }
 
 /// Whether the larval is pending, and nobody claimed it.
-pub(crate) fn is_free_at(larvals: &[Larva], number: u64) -> bool
+pub(crate) fn is_free_at(larvals: &[LarvalState], number: u64) -> bool
     ensures { result ≡ passes is_free (map larval_of larvals.now) number }
 {
     match larvals.get(number as usize) {
@@ -124,7 +124,7 @@ pub(crate) fn is_free_at(larvals: &[Larva], number: u64) -> bool
 }
 
 /// Whether it was claimed, and hasn't ended.
-pub(crate) fn is_being_built_at(larvals: &[Larva], number: u64) -> bool
+pub(crate) fn is_being_built_at(larvals: &[LarvalState], number: u64) -> bool
     ensures { result ≡ passes is_being_built (map larval_of larvals.now) number }
 {
     match larvals.get(number as usize) {
@@ -133,7 +133,7 @@ pub(crate) fn is_being_built_at(larvals: &[Larva], number: u64) -> bool
     }
 }
 
-pub(crate) fn has_ended_at(larvals: &[Larva], number: u64) -> bool
+pub(crate) fn has_ended_at(larvals: &[LarvalState], number: u64) -> bool
     ensures { result ≡ passes has_ended (map larval_of larvals.now) number }
 {
     match larvals.get(number as usize) {
@@ -142,12 +142,12 @@ pub(crate) fn has_ended_at(larvals: &[Larva], number: u64) -> bool
     }
 }
 
-pub(crate) fn is_claimed_at(larvals: &[Larva], caller: u32, number: u64) -> bool
+pub(crate) fn is_claimed_at(larvals: &[LarvalState], caller: u32, number: u64) -> bool
     ensures { result ≡ passes (is_claimed_by caller) (map larval_of larvals.now) number }
 {
     match larvals.get(number as usize) {
         Some(
-            Larva {
+            LarvalState {
                 claimed: Some(claimer),
                 ..
             },
@@ -257,7 +257,7 @@ fn mark_end(marks: &mut Vec<bool>, ended: Option<Ended>)
 // Of each id below the count, whether a larval of the text ended with it.
 fn joined_marks(
     alloc: Global,
-    larvals: &[Larva],
+    larvals: &[LarvalState],
     text: &[u8],
     count: usize,
 ) -> Result<Vec<bool>, AllocError>
@@ -297,7 +297,7 @@ fn better(id: u64, entry: &Entry, best: Option<(u64, u32)>) -> Option<(u64, u32)
 fn best_of(
     alloc: Global,
     entries: &[Entry],
-    larvals: &[Larva],
+    larvals: &[LarvalState],
     text: &[u8],
     plain: bool,
 ) -> Result<Option<(u64, u32)>, AllocError>
@@ -326,7 +326,7 @@ fn plain_driver(entries: &[Entry], text: &[u8], plain: bool) -> Option<u64>
     None
 }
 
-fn pending(larvals: &[Larva], text: &[u8]) -> Option<u64>
+fn pending(larvals: &[LarvalState], text: &[u8]) -> Option<u64>
     ensures { result ≡ position_from (is_pending text.now) 0 (map larval_of larvals.now) }
 {
     for place in 0..larvals.len() {
@@ -344,7 +344,7 @@ fn is_template(text: &[u8]) -> bool
 }
 
 // What a look is answered that finds no entry.
-fn not_found(larvals: &[Larva], text: &[u8]) -> Looked
+fn not_found(larvals: &[LarvalState], text: &[u8]) -> Looked
     ensures { result ≡ not_found (map larval_of larvals.now) text.now (position_from (is_pending text.now) 0 (map larval_of larvals.now)) }
 {
     match pending(larvals, text) {
@@ -358,7 +358,7 @@ fn not_found(larvals: &[Larva], text: &[u8]) -> Looked
 pub(crate) fn look(
     alloc: Global,
     entries: &[Entry],
-    larvals: &[Larva],
+    larvals: &[LarvalState],
     text: &[u8],
     plain: bool,
 ) -> Result<Looked, AllocError>

@@ -7,11 +7,11 @@ ghost use Rattle.trace_text.specs.Trace.{has_text};
 ghost use Rattle.trace_check.specs.RegReasons.{IsFirstWrong};
 ghost use Rattle.trace_check.specs.Registers.{row_of, opening_table};
 
-use crate::advancing::{advance_entries, advance_larvals, advance_references};
-use crate::guessing::plain_spec;
+use crate::event_parser::plain_spec;
 use crate::reason::Reason;
-use crate::register::{Entry, Larva, Reference, add_entry};
-use crate::registering::judge_registry;
+use crate::register::{Entry, LarvalState, Reference, add_entry};
+use crate::registry_judge::judge_registry;
+use crate::table_steps::{advance_entries, advance_larvals, advance_references};
 use alg_registry::{Kind, RegEntry, Spec};
 use std::alloc::{AllocError, Global};
 
@@ -41,7 +41,7 @@ fn first_wrong_from(
     alloc: Global,
     events: &[RegEntry],
     entries: &mut Vec<Entry>,
-    larvals: &mut Vec<Larva>,
+    larvals: &mut Vec<LarvalState>,
     references: &mut Vec<Reference>,
 ) -> Result<Option<(u64, Reason)>, AllocError>
     requires text { list_all has_text events.now ≡ true }

@@ -4,7 +4,7 @@ ghost use Rattle.std.specs.Prelude.{◌≡◌, map, OnOk, IfOk, slice_get};
 ghost use Rattle.trace_check.specs.BoardReasons.{IsFirstWrong};
 ghost use Rattle.trace_check.specs.Pipes.{state_of, AllCanCount, judged, judged_at, pipe_of, after_at, pipes_after, is_shut_by};
 
-use crate::pipe::{Pipe, is_shape, is_worker};
+use crate::pipe::{Pipeline, is_shape, is_worker};
 use crate::reason::{Reason, reason_of};
 use board::BoardEntry;
 use std::alloc::{AllocError, Global};
@@ -41,7 +41,7 @@ fn is_shut_by<A>(shut: bool, event: &BoardEntry<A>) -> bool
 }
 
 // The first reason against an event of a pipeline.
-fn judge_at<A>(pipes: &[Pipe], event: &BoardEntry<A>) -> Option<Reason>
+fn judge_at<A>(pipes: &[Pipeline], event: &BoardEntry<A>) -> Option<Reason>
     ensures { result ≡ judged_at (slice_get (map state_of pipes.now) (pipe_of event.now)) event.now }
 {
     match pipes.get(pipe_of(event) as usize) {
@@ -51,7 +51,7 @@ fn judge_at<A>(pipes: &[Pipe], event: &BoardEntry<A>) -> Option<Reason>
 }
 
 // The first reason against an event, where there is one.
-fn judge<A>(pipes: &[Pipe], shut: bool, event: &BoardEntry<A>) -> Option<Reason>
+fn judge<A>(pipes: &[Pipeline], shut: bool, event: &BoardEntry<A>) -> Option<Reason>
     ensures { result ≡ judged (map state_of pipes.now) shut event.now }
 {
     match event {
@@ -71,7 +71,7 @@ fn judge<A>(pipes: &[Pipe], shut: bool, event: &BoardEntry<A>) -> Option<Reason>
 }
 
 // Goes on by an event of a pipeline.
-fn advance_at<A>(pipes: &mut Vec<Pipe>, event: &BoardEntry<A>) -> Result<(), AllocError>
+fn advance_at<A>(pipes: &mut Vec<Pipeline>, event: &BoardEntry<A>) -> Result<(), AllocError>
     requires { AllCanCount (map state_of pipes.old.items) }
     ensures { OnOk result (map state_of pipes.new.items ≡ after_at (map state_of pipes.old.items) event.now (slice_get (map state_of pipes.old.items) (pipe_of event.now))) }
 {
@@ -83,13 +83,17 @@ fn advance_at<A>(pipes: &mut Vec<Pipe>, event: &BoardEntry<A>) -> Result<(), All
 }
 
 // Goes on by a right event.
-fn advance<A>(alloc: Global, pipes: &mut Vec<Pipe>, event: &BoardEntry<A>) -> Result<(), AllocError>
+fn advance<A>(
+    alloc: Global,
+    pipes: &mut Vec<Pipeline>,
+    event: &BoardEntry<A>,
+) -> Result<(), AllocError>
     requires { AllCanCount (map state_of pipes.old.items) }
     ensures { OnOk result (map state_of pipes.new.items ≡ pipes_after (map state_of pipes.old.items) event.now) }
 {
     match event {
         BoardEntry::Born { caller, shape, .. } => {
-            pipes.push(Pipe::new(alloc, *caller, *shape))?;
+            pipes.push(Pipeline::new(alloc, *caller, *shape))?;
         }
         BoardEntry::Shut { .. } => {}
         _ => advance_at(pipes, event)?,

@@ -14,7 +14,7 @@ use reply_text::Origin;
 use std::alloc::{AllocError, Global};
 
 /// What knows from which line of which client's script it is.
-pub trait Lined {
+pub trait HasScriptLine {
     ghost use Rattle.reply_text.specs.declared.origin.Origin.{Origin};
 
     ghost origin: { Self → Origin };
@@ -298,7 +298,10 @@ fn mask_text(alloc: Global, caller: u32, pipe: u64, mask: u16) -> Result<Bytes, 
 }
 
 /// The line of a board's event, whose numbers are within their types.
-pub fn board_line<A: Lined>(alloc: Global, event: &BoardEntry<A>) -> Result<Bytes, AllocError>
+pub fn board_line<A: HasScriptLine>(
+    alloc: Global,
+    event: &BoardEntry<A>,
+) -> Result<Bytes, AllocError>
     ensures text { IfOk result (λ text. text ≡ sentence (board_words A.origin event.now)) }
     ensures fits { OnOk result (board_fits A.origin event.now ≡ true) }
 {

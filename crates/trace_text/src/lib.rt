@@ -3,9 +3,9 @@
 
 mod board_text;
 mod registry_text;
+mod trace_writer;
 mod words;
-mod writing;
 
-pub use board_text::{Lined, board_line};
+pub use board_text::{HasScriptLine, board_line};
 pub use registry_text::registry_line;
-pub use writing::write_trace;
+pub use trace_writer::write_trace;

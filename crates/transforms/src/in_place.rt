@@ -9,13 +9,13 @@ ghost use Rattle.transforms.specs.Plans.{fits_tag};
 ghost use Rattle.transforms.specs.InPlace.{sealing, unsealing, opening, making, mac_size, mac_size_in, HasValue, IsInvalid, IsRefused, fits_tag_in, HasValueIn, IsInvalidIn, IsRefusedIn};
 ghost use Rattle.transforms.specs.declared.inner.Inner.TheVariants as inner;
 
+use crate::admission::takes_input;
 use crate::aead::Aead;
 use crate::any_aead::AnyAead;
 use crate::any_cipher::AnyCipher;
 use crate::any_mac::AnyMac;
 use crate::inner::Inner;
 use crate::keyed::Keyed;
-use crate::taking::takes_input;
 use aes_block::Skcipher;
 use kc_base::Errno;
 

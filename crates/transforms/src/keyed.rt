@@ -7,13 +7,13 @@ ghost use Rattle.transforms.specs.RequestValue.{request_value};
 ghost use Rattle.transforms.specs.Asked.{room_of, takes};
 ghost use Rattle.transforms.specs.Finish.{finished_value};
 
+use crate::admission::{takes_aead, takes_mac, takes_plain};
 use crate::aead::Aead;
 use crate::any_aes::AnyAes;
 use crate::inner::{Inner, inner_of};
+use crate::mode_requests::{run_aead, run_cipher, run_mac};
 use crate::request::{Finished, Request};
 use crate::room::{add_text, add_with_tag, length_with_tag};
-use crate::running::{run_aead, run_cipher, run_mac};
-use crate::taking::{takes_aead, takes_mac, takes_plain};
 use crate::tfm_err::TfmErr;
 use aes_block::Skcipher;
 use crossbeam_utils::CachePadded;

@@ -1,6 +1,7 @@
 //! Transforms: a plan under a key, requests to it, and the jobs that answer them.
 #![tactic(auto)]
 
+mod admission;
 mod aead;
 mod any_aead;
 mod any_aes;
@@ -12,12 +13,11 @@ mod inner;
 mod job;
 mod keyed;
 pub mod laws;
+mod mode_requests;
 mod request;
 mod room;
-mod running;
 mod same_key;
 mod tags;
-mod taking;
 mod tfm_err;
 mod work;
 

@@ -6,11 +6,11 @@ ghost use Rattle.turn_lock.specs.Passes.{knows, turn_knows, turn_value, turn_loc
 ghost use Rattle.turn_lock.specs.Seats.{seat_knows, IsIdle, IsAtTurn};
 ghost use Rattle.std.specs.Borrow.{sem};
 ghost use Rattle.turn_lock.specs.Lent.{LendsValue};
-ghost use Rattle.turn_lock.specs.Turns.{StartsWith, newcomer, sees, Shows, gives_number, gets_number, joined};
+ghost use Rattle.turn_lock.specs.Turns.{StartsWith, fresh_pass, sees, Shows, gives_number, gets_number, joined};
 ghost use Rattle.turn_lock.specs.Rule.{viewed, giver, receiver};
 
 use crate::lock::{Pass, Turn, TurnLock};
-use crate::plays::{Appends, Compares, Draws, Ends, Finds, Gives, Number, Serves};
+use crate::ticket_steps::{Appends, Compares, Draws, Ends, Finds, Gives, Number, Serves};
 use crate::told::Told;
 use crate::view::View;
 use atomic_table::{Refused, Seat, Table};
@@ -22,14 +22,14 @@ use std::sync::Wait;
 
 /// How often a caller that finds the lock taken looks again before it draws a ticket, and how often again before it
 /// sleeps: some hundred microseconds each.
-const PATIENCE: u32 = 1000;
+const SPINS: u32 = 1000;
 
 impl<T: Told> TurnLock<T> {
     /// A free lock round a value with no entry, and its first pass, which has the number 0 and gives the others from 1
     /// on. The error is that memory was refused: the value is then dropped.
     pub fn new(alloc: Global, value: T) -> Result<(TurnLock<T>, Pass<T::Entry>), AllocError>
         requires { T.told value ≡ [] }
-        ensures { IfOk result (λ r. IsPassOf r.0 r.1 × (knows r.1 ≡ newcomer)) }
+        ensures { IfOk result (λ r. IsPassOf r.0 r.1 × (knows r.1 ≡ fresh_pass)) }
     {
         let boxed = Box::new(alloc, value)?;
         let mut slots = Vec::with_capacity(alloc, 1)?;
@@ -128,7 +128,7 @@ impl<T: Told> TurnLock<T> {
     fn hesitate(&self) {
         let shared = &self.table.shared;
         let backoff = Backoff::new();
-        for _ in 0..PATIENCE {
+        for _ in 0..SPINS {
             if shared.peek(0) == shared.peek(1) {
                 return;
             }
@@ -167,7 +167,7 @@ impl<T: Told> TurnLock<T> {
                 let value = shared.exchange(&mut seat, 0, None).unwrap();
                 return (value, seat);
             }
-            if looks < PATIENCE {
+            if looks < SPINS {
                 looks += 1;
                 backoff.snooze();
             } else {

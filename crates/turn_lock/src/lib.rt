@@ -3,8 +3,8 @@
 
 mod calls;
 mod lock;
-mod plays;
-mod sent;
+mod send_sync;
+mod ticket_steps;
 mod told;
 mod view;
 

@@ -4,7 +4,7 @@ ghost use Rattle.std.specs.Prelude.{◌≡◌, true, length};
 ghost use Rattle.turn_lock.specs.declared.view.Stage.TheVariants.{Idle};
 ghost use Rattle.turn_lock.specs.Rule.{is_holding, is_out, viewed};
 
-use crate::plays::Turns;
+use crate::ticket_steps::Turns;
 use crate::told::Told;
 use crate::view::View;
 use atomic_table::{Badge, Seat, Table};
@@ -17,7 +17,7 @@ use std::alloc::Global;
 pub struct TurnLock<T: Told> {
     /// The value stands in a piece of memory of its own, so that a turn moves no more than its address.
     pub(crate) table: Table<Option<Box<T>>, View<T::Entry>, (), Turns<T>, Global>,
-    /// Rings where a turn ends, for those who wait for longer than a while.
+    /// Notified where a turn ends, for those who wait for longer than a while.
     pub(crate) ends: CachePadded<EventCount>,
     ghost shape: { (table.shared.table_id.words ≡ 2) × (table.shared.table_id.slots ≡ 1) },
 }

@@ -1,8 +1,8 @@
 -- What bounds the jobs that wait, and what of it stays as the words change.
 use Rattle.std.proofs.Common.{◌≡◌, ℕ, zero, suc, ◌+◌, ◌-◌, ◌<◌, ◌≤◌, ◌⊎◌, inl, inr, ◌++◌, List, [], ◌∷◌, length, ap, ◌∙◌, subst, arith}
 use Prim.Native.Nat.{max}
-use Rattle.wake_ups.specs.Bells.{Bells, Word, NotBefore, May, At, without, after}
-use Rattle.wake_ups.specs.Bells.Step.{Move_epoch, Wake_none}
+use Rattle.wake_ups.specs.Wakeups.{Wakeups, Word, NotBefore, May, At, without, after}
+use Rattle.wake_ups.specs.Wakeups.Step.{Move_epoch, Wake_none}
 use Rattle.wake_ups.specs.Laws.{lookers}
 
 -- The jobs are no more than r and the awake, or what one had read; for each that read it earlier with one more for each that
@@ -11,16 +11,16 @@ abbrev pub Covers : ℕ → ℕ → ℕ → List ℕ → Type 0
 Covers j a r [] = j ≤ a + r
 Covers j a r (v ∷ vs) = (j ≤ max a v + r) × Covers j a (suc r) vs
 
--- the looks and rings to come of those who look or ring whatever they read
-abbrev pub base : Bells → ℕ
-base b = lookers b + b.putting + b.rousing + b.ringing + b.moving
+-- the looks and notifications to come of those who look or notify whatever they read
+abbrev pub base : Wakeups → ℕ
+base b = lookers b + b.putting + b.rousing + b.notifying + b.moving
 
 -- where a worker sleeps, or is about to, and the epoch has not moved since it read it
-abbrev pub Covered : Bells → Type 0
+abbrev pub Covered : Wakeups → Type 0
 Covered b = Covers b.jobs b.awake (base b) b.comparing
 
 -- where more sleep for whom it has moved than will be woken
-abbrev pub CoveredRung : Bells → Type 0
+abbrev pub CoveredRung : Wakeups → Type 0
 CoveredRung b = Covers b.jobs b.awake (base b + b.waking) b.comparing
 
 -- each element is such
@@ -29,17 +29,17 @@ Each P [] = Unit {0}
 Each P (x ∷ xs) = P x × Each P xs
 
 -- who found none after this word may forget, if it still stands
-abbrev pub MayForget : Bells → Word → Type 0
+abbrev pub MayForget : Wakeups → Word → Type 0
 MayForget b read = NotBefore read b.word × (read ≡ b.word → b.jobs ≤ b.putting)
 
 -- and who took a job may notice it: one count is too many
-abbrev pub MayNotice : Bells → Word → Type 0
+abbrev pub MayNotice : Wakeups → Word → Type 0
 MayNotice b read = NotBefore read b.word × (read ≡ b.word → 0 < b.word.unnoticed → b.jobs + 1 ≤ b.word.unnoticed + b.putting + lookers b)
 
-pub record Keeps (n : ℕ) (b : Bells) : Type 0 where
-  pub awake : b.awake ≡ b.lingering + b.roused
+pub record Keeps (n : ℕ) (b : Wakeups) : Type 0 where
+  pub awake : b.awake ≡ b.spinning + b.roused
   pub waiters : b.waiters ≡ b.announced + b.last_looking + b.last_looking_rung + length b.drowsy + length b.drowsy_rung + b.sleepy + b.sleepy_rung + b.asleep + b.asleep_rung + b.kept
-  pub all : n ≡ b.running + length b.taking + length b.emptied + b.between + b.idle + b.lingering + b.roused + b.looking + b.tired + b.announced + b.last_looking + b.last_looking_rung + length b.drowsy + length b.drowsy_rung + b.sleepy + b.sleepy_rung + b.asleep + b.asleep_rung
+  pub all : n ≡ b.running + length b.taking + length b.emptied + b.between + b.idle + b.spinning + b.roused + b.looking + b.tired + b.announced + b.last_looking + b.last_looking_rung + length b.drowsy + length b.drowsy_rung + b.sleepy + b.sleepy_rung + b.asleep + b.asleep_rung
   -- each job is unnoticed, or not yet counted, or a worker is on its way to look
   pub counted : b.jobs ≤ b.word.unnoticed + b.putting + lookers b
   pub emptied : Each (MayForget b) b.emptied
@@ -97,20 +97,20 @@ later u w v (inr a) (inr b) = inr (omega arith)
 pub passed : (u w v : Word) → NotBefore u w → Beyond w v → u ≡ v → ⊥
 passed u w v n b e = let came : u.came ≡ v.came = ap (λ (x : Word). x.came) e in let unnoticed : u.unnoticed ≡ v.unnoticed = ap (λ (x : Word). x.unnoticed) e in omega arith
 
-pub forgets_later : (b c : Bells) → Beyond b.word c.word → (u : Word) → MayForget b u → MayForget c u
+pub forgets_later : (b c : Wakeups) → Beyond b.word c.word → (u : Word) → MayForget b u → MayForget c u
 forgets_later b c f u m = (later u b.word c.word m.0 f, λ e. absurd (passed u b.word c.word m.0 f e))
 
-pub notices_later : (b c : Bells) → Beyond b.word c.word → (u : Word) → MayNotice b u → MayNotice c u
+pub notices_later : (b c : Wakeups) → Beyond b.word c.word → (u : Word) → MayNotice b u → MayNotice c u
 notices_later b c f u m = (later u b.word c.word m.0 f, λ e. absurd (passed u b.word c.word m.0 f e))
 
 pub some_unnoticed : (u w : Word) → (u ≡ w) × (0 < u.unnoticed) → 0 < w.unnoticed
 some_unnoticed u w m = subst (λ (x : Word). 0 < x.unnoticed) m.0 m.1
 
 -- who may forget finds no job that is counted
-pub may_forget : (b : Bells) (k : ℕ) (us : List Word) → At (λ read. (read ≡ b.word) × (0 < read.unnoticed)) k us → Each (MayForget b) us → (0 < b.word.unnoticed) × (b.jobs ≤ b.putting)
+pub may_forget : (b : Wakeups) (k : ℕ) (us : List Word) → At (λ read. (read ≡ b.word) × (0 < read.unnoticed)) k us → Each (MayForget b) us → (0 < b.word.unnoticed) × (b.jobs ≤ b.putting)
 may_forget b k us m e = let h = at_both k us m e in (some_unnoticed h.0 b.word h.1, h.2.1 h.1.0)
 
-pub may_notice : (b : Bells) (k : ℕ) (us : List Word) → At (λ read. (read ≡ b.word) × (0 < read.unnoticed)) k us → Each (MayNotice b) us → (0 < b.word.unnoticed) × (b.jobs + 1 ≤ b.word.unnoticed + b.putting + lookers b)
+pub may_notice : (b : Wakeups) (k : ℕ) (us : List Word) → At (λ read. (read ≡ b.word) × (0 < read.unnoticed)) k us → Each (MayNotice b) us → (0 < b.word.unnoticed) × (b.jobs + 1 ≤ b.word.unnoticed + b.putting + lookers b)
 may_notice b k us m e = let h = at_both k us m e in let s = some_unnoticed h.0 b.word h.1 in (s, h.2.1 h.1.0 s)
 
 -- ---- the list of those who compare
@@ -133,7 +133,7 @@ leaves j a k r [] m c = c
 leaves j a zero r (v ∷ vs) m c = let d = c.0 in covers_awake j a r vs (omega arith)
 leaves j a (suc k) r (v ∷ vs) m c = (c.0, leaves j a k (suc r) vs m c.1)
 
--- one goes on to ring
+-- one goes on to notify
 pub rung : (j a k r : ℕ) (vs : List ℕ) → Covers j a r vs → Covers j a (suc r) (without k vs)
 rung j a k r [] c = omega arith
 rung j a zero r (v ∷ vs) c = c.1
@@ -147,30 +147,30 @@ covers_all j a r (v ∷ vs) c = let d = covers_all j a (suc r) vs c.1 in omega a
 -- ---- from one state to the next
 
 -- no less is covered
-pub goes : (b c : Bells) (r r' : ℕ) → Covers b.jobs b.awake r c.comparing → (b.awake + r + c.jobs ≤ c.awake + r' + b.jobs) × (r + c.jobs ≤ r' + b.jobs) → Covers c.jobs c.awake r' c.comparing
+pub goes : (b c : Wakeups) (r r' : ℕ) → Covers b.jobs b.awake r c.comparing → (b.awake + r + c.jobs ≤ c.awake + r' + b.jobs) × (r + c.jobs ≤ r' + b.jobs) → Covers c.jobs c.awake r' c.comparing
 goes b c r r' v e = covers_keep b.jobs b.awake r c.jobs c.awake r' c.comparing e.0 e.1 v
 
-pub covers_none : (b c : Bells) (r' : ℕ) → c.jobs ≡ b.jobs → b.jobs ≡ 0 → Covers c.jobs c.awake r' c.comparing
+pub covers_none : (b c : Wakeups) (r' : ℕ) → c.jobs ≡ b.jobs → b.jobs ≡ 0 → Covers c.jobs c.awake r' c.comparing
 covers_none b c r' e z = covers_nothing c.jobs c.awake r' c.comparing (e ∙ z)
 
 -- one that read this joins those who compare
-pub reads : (b c : Bells) (v r r' : ℕ) → Covers b.jobs b.awake r b.comparing → (c.jobs ≤ v + r') × (c.jobs ≡ b.jobs) × (c.awake ≡ b.awake) × (r ≤ suc r') → Covers c.jobs c.awake r' (v ∷ b.comparing)
+pub reads : (b c : Wakeups) (v r r' : ℕ) → Covers b.jobs b.awake r b.comparing → (c.jobs ≤ v + r') × (c.jobs ≡ b.jobs) × (c.awake ≡ b.awake) × (r ≤ suc r') → Covers c.jobs c.awake r' (v ∷ b.comparing)
 reads b c v r r' d e =
     let e0 = e.0 in let e1 = e.1 in let e2 = e.2 in let e3 = e.3 in
     (omega arith, covers_keep b.jobs b.awake r c.jobs c.awake (suc r') b.comparing (omega arith) (omega arith) d)
 
-pub rings : (b c : Bells) (k r r' : ℕ) → Covers b.jobs b.awake r b.comparing → (c.jobs ≡ b.jobs) × (c.awake ≡ b.awake) × (r' ≡ suc r) → Covers c.jobs c.awake r' (without k b.comparing)
-rings b c k r r' d e =
+pub notifies : (b c : Wakeups) (k r r' : ℕ) → Covers b.jobs b.awake r b.comparing → (c.jobs ≡ b.jobs) × (c.awake ≡ b.awake) × (r' ≡ suc r) → Covers c.jobs c.awake r' (without k b.comparing)
+notifies b c k r r' d e =
     let e0 = e.0 in let e1 = e.1 in let e2 = e.2 in
     covers_keep b.jobs b.awake (suc r) c.jobs c.awake r' (without k b.comparing) (omega arith) (omega arith) (rung b.jobs b.awake k r b.comparing d)
 
 -- a wake-up that wakes nobody, or one that sleeps on
-pub wakes_none : (b : Bells) → (b.asleep_rung ≡ 0) ⊎ (0 < b.asleep) → b.waking - 1 < b.asleep_rung → (0 < b.asleep + length b.drowsy + b.sleepy → Covered b) → CoveredRung (after b Wake_none)
+pub wakes_none : (b : Wakeups) → (b.asleep_rung ≡ 0) ⊎ (0 < b.asleep) → b.waking - 1 < b.asleep_rung → (0 < b.asleep + length b.drowsy + b.sleepy → Covered b) → CoveredRung (after b Wake_none)
 wakes_none b (inl none) h v = absurd (omega arith)
 wakes_none b (inr some) h v = covers_keep b.jobs b.awake (base b) b.jobs b.awake (base b + (b.waking - 1)) b.comparing (omega arith) (omega arith) (v (omega arith))
 
 -- the epoch moves while more sleep than will be woken
-pub moves : (b : Bells) (asleep : ℕ) → b.asleep ≡ asleep → May b Move_epoch → b.waking + 1 < b.asleep + b.asleep_rung → (0 < b.asleep + length b.drowsy + b.sleepy → Covered b) → (b.waking < b.asleep_rung → CoveredRung b) → CoveredRung (after b Move_epoch)
+pub moves : (b : Wakeups) (asleep : ℕ) → b.asleep ≡ asleep → May b Move_epoch → b.waking + 1 < b.asleep + b.asleep_rung → (0 < b.asleep + length b.drowsy + b.sleepy → Covered b) → (b.waking < b.asleep_rung → CoveredRung b) → CoveredRung (after b Move_epoch)
 moves b zero e m h v w =
     let c = after b Move_epoch in
     let long = both_long b.drowsy b.drowsy_rung in

@@ -1,10 +1,10 @@
 -- Each step keeps what makes the laws true.
 use Rattle.std.proofs.Common.{◌≡◌, ℕ, ◌+◌, ◌<◌, inl, inr, refl, arith}
-use Rattle.wake_ups.specs.Bells.{Bells, came_one, noticed_one, forgotten, Step, May, without, after}
-use Rattle.wake_ups.specs.Bells.Step.{Put, Count, Call, Leave, Ring, Find_no_waiter, Find_waiter, Move_epoch, Wake, Wake_none, Wake_by_chance, Help, Help_on, Notice_helped, Stop_helping, End_and_take, End_and_find_none, End_and_look, Notice_taken, Run_on, Forget, Keep, Notice_between, Notice_none, Look_anyway, Linger, Notice_while_awake, Rouse, Read_unnoticed, Give_up, Look_and_take, Look_and_find_none, Announce, Read_epoch, Last_take, Last_find_none, Forget_last, Keep_last, Last_take_rung, Last_find_none_rung, Forget_last_rung, Keep_last_rung, Sleep, Look_again, Rise, Drop_key}
-use Rattle.wake_ups.proofs.Bounds.{Keeps, base, MayForget, MayNotice, each_map, each_left, each_both, shorter, both_long, Beyond, forgets_later, notices_later, may_forget, may_notice, leaves, goes, covers_none, reads, rings, wakes_none, moves}
+use Rattle.wake_ups.specs.Wakeups.{Wakeups, came_one, noticed_one, forgotten, Step, May, without, after}
+use Rattle.wake_ups.specs.Wakeups.Step.{Put, Count, Call, Leave, Notify, Find_no_waiter, Find_waiter, Move_epoch, Wake, Wake_none, Wake_by_chance, Help, Help_on, Notice_helped, Stop_helping, End_and_take, End_and_find_none, End_and_look, Notice_taken, Run_on, Forget, Keep, Notice_between, Notice_none, Look_anyway, Spin, Notice_while_awake, Rouse, Read_unnoticed, Give_up, Look_and_take, Look_and_find_none, Announce, Read_epoch, Last_take, Last_find_none, Forget_last, Keep_last, Last_take_rung, Last_find_none_rung, Forget_last_rung, Keep_last_rung, Sleep, Look_again, Rise, Drop_key}
+use Rattle.wake_ups.proofs.Bounds.{Keeps, base, MayForget, MayNotice, each_map, each_left, each_both, shorter, both_long, Beyond, forgets_later, notices_later, may_forget, may_notice, leaves, goes, covers_none, reads, notifies, wakes_none, moves}
 
-pub keeps : (n : ℕ) (b : Bells) (s : Step) → May b s → Keeps n b → Keeps n (after b s)
+pub keeps : (n : ℕ) (b : Wakeups) (s : Step) → May b s → Keeps n b → Keeps n (after b s)
 keeps n b Put m i =
     record {
       awake = i.awake;
@@ -63,7 +63,7 @@ keeps n b (Leave k) m i =
       sleeps = λ h. leaves b.jobs b.awake k (base b) b.comparing m (i.sleeps h);
       unrung = λ h. leaves b.jobs b.awake k (base b + b.waking) b.comparing m (i.unrung h);
     }
-keeps n b (Ring k) m i =
+keeps n b (Notify k) m i =
     record {
       awake = i.awake;
       waiters = i.waiters;
@@ -74,8 +74,8 @@ keeps n b (Ring k) m i =
       drowsy_rung = i.drowsy_rung;
       taking = i.taking;
       helping = i.helping;
-      sleeps = λ h. rings b (after b (Ring k)) k (base b) (base (after b (Ring k))) (i.sleeps h) (omega arith);
-      unrung = λ h. rings b (after b (Ring k)) k (base b + b.waking) (base (after b (Ring k)) + (after b (Ring k)).waking) (i.unrung h) (omega arith);
+      sleeps = λ h. notifies b (after b (Notify k)) k (base b) (base (after b (Notify k))) (i.sleeps h) (omega arith);
+      unrung = λ h. notifies b (after b (Notify k)) k (base b + b.waking) (base (after b (Notify k)) + (after b (Notify k)).waking) (i.unrung h) (omega arith);
     }
 keeps n b Find_no_waiter m i =
     record {
@@ -371,7 +371,7 @@ keeps n b Look_anyway m i =
       sleeps = λ h. goes b (after b Look_anyway) (base b) (base (after b Look_anyway)) (i.sleeps (omega arith)) (omega arith);
       unrung = λ h. goes b (after b Look_anyway) (base b + b.waking) (base (after b Look_anyway) + (after b Look_anyway).waking) (i.unrung (omega arith)) (omega arith);
     }
-keeps n b Linger m i =
+keeps n b Spin m i =
     record {
       awake = let f = i.awake in omega arith;
       waiters = i.waiters;
@@ -382,8 +382,8 @@ keeps n b Linger m i =
       drowsy_rung = i.drowsy_rung;
       taking = i.taking;
       helping = i.helping;
-      sleeps = λ h. goes b (after b Linger) (base b) (base (after b Linger)) (i.sleeps (omega arith)) (omega arith);
-      unrung = λ h. goes b (after b Linger) (base b + b.waking) (base (after b Linger) + (after b Linger).waking) (i.unrung (omega arith)) (omega arith);
+      sleeps = λ h. goes b (after b Spin) (base b) (base (after b Spin)) (i.sleeps (omega arith)) (omega arith);
+      unrung = λ h. goes b (after b Spin) (base b + b.waking) (base (after b Spin) + (after b Spin).waking) (i.unrung (omega arith)) (omega arith);
     }
 keeps n b Notice_while_awake m i =
     let on : Beyond b.word (noticed_one b.word) = inr (omega arith) in

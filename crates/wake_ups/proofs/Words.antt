@@ -1,7 +1,7 @@
 -- The word of the unnoticed leads on in its order.
 use Rattle.std.proofs.Common.{inl, inr, List, [], ◌∷◌, ap, arith}
-use Rattle.wake_ups.specs.Bells.{Bells, Word, NotBefore, Step, after}
-use Rattle.wake_ups.specs.Bells.Step.{Put, Count, Call, Leave, Ring, Find_no_waiter, Find_waiter, Move_epoch, Wake, Wake_none, Wake_by_chance, Help, Help_on, Notice_helped, Stop_helping, End_and_take, End_and_find_none, End_and_look, Notice_taken, Run_on, Forget, Keep, Notice_between, Notice_none, Look_anyway, Linger, Notice_while_awake, Rouse, Read_unnoticed, Give_up, Look_and_take, Look_and_find_none, Announce, Read_epoch, Last_take, Last_find_none, Forget_last, Keep_last, Last_take_rung, Last_find_none_rung, Forget_last_rung, Keep_last_rung, Sleep, Look_again, Rise, Drop_key}
+use Rattle.wake_ups.specs.Wakeups.{Wakeups, Word, NotBefore, Step, after}
+use Rattle.wake_ups.specs.Wakeups.Step.{Put, Count, Call, Leave, Notify, Find_no_waiter, Find_waiter, Move_epoch, Wake, Wake_none, Wake_by_chance, Help, Help_on, Notice_helped, Stop_helping, End_and_take, End_and_find_none, End_and_look, Notice_taken, Run_on, Forget, Keep, Notice_between, Notice_none, Look_anyway, Spin, Notice_while_awake, Rouse, Read_unnoticed, Give_up, Look_and_take, Look_and_find_none, Announce, Read_epoch, Last_take, Last_find_none, Forget_last, Keep_last, Last_take_rung, Last_find_none_rung, Forget_last_rung, Keep_last_rung, Sleep, Look_again, Rise, Drop_key}
 use Rattle.wake_ups.specs.Words.{WordsLeadOn}
 
 leads_on : (u v w : Word) → NotBefore u v → NotBefore v w → NotBefore u w
@@ -10,12 +10,12 @@ leads_on u v w (inl a) (inr b) = inl (omega arith)
 leads_on u v w (inr a) (inl b) = inl (omega arith)
 leads_on u v w (inr a) (inr b) = inr (omega arith)
 
-step : (b : Bells) (s : Step) → NotBefore b.word (after b s).word
+step : (b : Wakeups) (s : Step) → NotBefore b.word (after b s).word
 step b Put = inr (omega arith)
 step b Count = inl (omega arith)
 step b Call = inl (omega arith)
 step b (Leave k) = inr (omega arith)
-step b (Ring k) = inr (omega arith)
+step b (Notify k) = inr (omega arith)
 step b Find_no_waiter = inr (omega arith)
 step b Find_waiter = inr (omega arith)
 step b Move_epoch = inr (omega arith)
@@ -36,7 +36,7 @@ step b (Keep k) = inr (omega arith)
 step b Notice_between = inr (omega arith)
 step b Notice_none = inr (omega arith)
 step b Look_anyway = inr (omega arith)
-step b Linger = inr (omega arith)
+step b Spin = inr (omega arith)
 step b Notice_while_awake = inr (omega arith)
 step b Rouse = inr (omega arith)
 step b Read_unnoticed = inr (omega arith)
@@ -58,6 +58,6 @@ step b Look_again = inr (omega arith)
 step b Rise = inr (omega arith)
 step b Drop_key = inr (omega arith)
 
-pub words_lead_on : (b : Bells) (ss : List Step) (c : Bells) → WordsLeadOn b ss c
-words_lead_on b [] c e = let came = ap (λ (x : Bells). x.word.came) e in let unnoticed = ap (λ (x : Bells). x.word.unnoticed) e in inr (omega arith)
+pub words_lead_on : (b : Wakeups) (ss : List Step) (c : Wakeups) → WordsLeadOn b ss c
+words_lead_on b [] c e = let came = ap (λ (x : Wakeups). x.word.came) e in let unnoticed = ap (λ (x : Wakeups). x.word.unnoticed) e in inr (omega arith)
 words_lead_on b (s ∷ ss) c r = leads_on b.word (after b s).word c.word (step b s) (words_lead_on (after b s) ss c r.1)

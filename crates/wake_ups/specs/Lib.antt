@@ -1,4 +1,4 @@
-pub mod Bells
+pub mod Wakeups
 pub mod Laws
 pub mod Queued
 pub mod Words

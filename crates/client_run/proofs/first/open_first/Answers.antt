@@ -6,7 +6,7 @@ use Rattle.dialogues.specs.Widths.{widest}
 use Rattle.reply_text.specs.Written.{Written}
 use Rattle.script_session.specs.Running.{Replies}
 use Rattle.script_text.specs.Script.{script_of}
-use Rattle.session_calls.specs.Passes.{known}
+use Rattle.recorded_calls.specs.Passes.{known}
 use Rattle.turn_lock.specs.Passes.{knows}
 use Rattle.client_run.proofs.Opening.{first-ready, shared-of, own-of, opens}
 use Rattle.client_run.proofs.first.open_first.Goals as goal
@@ -23,8 +23,8 @@ returns-in-Ok-shared-clause-opened g c =
     let q = knows given.result.1 in
     let lines = script_of c.args.part.now in
     let text = c.answer_part-answer.new.reply.text in
-    let shares = shared-of (λ a. arc_value a) s'.walk.lives (known s'.board) q given.result.2 c.in-Ok-shared.shared c.in-Ok-shared.is given.ensures.shared in
+    let shares = shared-of (λ a. arc_value a) s'.script_state.lives (known s'.board) q given.result.2 c.in-Ok-shared.shared c.in-Ok-shared.is given.ensures.shared in
     opens c.args.registry.now c.args.board.now c.args.workers c.args.passes (record { board = given.result.1; registry = given.result.0 }) c.requires.new s s'
     c.new-session.ensures given.ensures.registry c.in-Ok.ensures.ready lines text
-    (subst (λ (x : Written). Replies (widest lines) (lines_dialogue s.workers s.walk 1 lines Ends) s s' x.text text) c.new-reply.ensures c.in-Ok.ensures.done)
+    (subst (λ (x : Written). Replies (widest lines) (lines_dialogue s.workers s.script_state 1 lines Ends) s s' x.text text) c.new-reply.ensures c.in-Ok.ensures.done)
     (arc_value c.in-Ok-shared.shared) shares.1 shares.0 (own-of q given.result.2 c.in-Ok-shared.shared c.in-Ok-shared.is given.ensures.own) c.in-Ok.malformed c.in-Ok.ensures.malformed

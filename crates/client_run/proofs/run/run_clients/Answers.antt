@@ -25,7 +25,7 @@ returns-in-Err-clause-ran g c =
     let left = g.S.Source.left in
     let held = g.K.Sink.held in
     let o = c.args.options.now in
-    let none = c.not_at_all.ensures in
+    let none = c.refused_run.ensures in
     rw (none.0, none.1, none.2)
     (nothing-ran o.workers o.clients o.trace (status_of (Err c.in-Err.error)) (left c.args.src.now) (left c.read_whole.new.src) (held c.args.out.now) (read-status c.in-Err.error c.in-Err.ensures.causes))
 
@@ -34,7 +34,7 @@ returns-in_default-clause-ran g c =
     let left = g.S.Source.left in
     let held = g.K.Sink.held in
     let o = c.args.options.now in
-    let none = c.not_at_all-in_default.ensures in
+    let none = c.refused_run-in_default.ensures in
     rw (none.0, none.1, none.2) (nothing-ran o.workers o.clients o.trace (status_of (Err NoMemory)) (left c.args.src.now) (left c.read_whole.new.src) (held c.args.out.now) (inr (inl refl)))
 
 pub returns-clause-ran : goal.returns-clause-ran

@@ -10,7 +10,7 @@ run_parts-output-requires-clause-short g c = λ lifetimes bounds.
 
 pub returns-in_default-clause-ran : goal.returns-in_default-clause-ran
 returns-in_default-clause-ran g c =
-    let none = c.not_at_all.ensures in
+    let none = c.refused_run.ensures in
     rw (none.0, none.1, none.2) (no-parts c.args.options.now.workers c.args.options.now.clients c.args.options.now.trace c.args.parts.now (g.K.Sink.held c.args.out.now))
 
 pub returns-clause-ran : goal.returns-clause-ran

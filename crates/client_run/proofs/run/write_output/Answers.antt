@@ -2,7 +2,7 @@ use Rattle.std.proofs.Common.{inr, subst}
 use Rattle.kc_base.specs.Streams.{AppendsFront}
 use Rattle.std.specs.Io.KnownBytes.{Appends}
 use Rattle.script_run.specs.Endings.{traced}
-use Rattle.client_run.specs.Beside.{in_one, printed_by}
+use Rattle.client_run.specs.WithWorkers.{in_one, printed_by}
 use Rattle.client_run.proofs.Written.{on-err, ok-is, front-more, front-then}
 use Rattle.client_run.proofs.run.write_output.Goals as goal
 

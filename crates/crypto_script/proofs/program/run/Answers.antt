@@ -71,7 +71,7 @@ returns-clause-stopped g c =
 
 pub returns-in-Err-clause-stopped : goal.returns-in-Err-clause-stopped
 returns-in-Err-clause-stopped g c =
-    let none = c.not_at_all.ensures in
+    let none = c.refused_run.ensures in
     rw (c.outcome_of.ensures.registry, c.outcome_of.ensures.board, none.1, none.2)
     (refused_broken c.nothing_is_broken_off.ensures c.outcome_of.result.status (script_asked (map string_bytes c.args.words.now)) (g.S.Source.left c.args.src.now) (g.K.Sink.held c.args.out.now))
 

@@ -2,7 +2,7 @@ use Rattle.std.proofs.Common.{◌≡◌, ◌∙◌, ◌+◌, ℕ, List, [], ◌�
 use Rattle.std.proofs.lemmas.List.{take_more, flat_map_more, get_or_default}
 use Rattle.std.proofs.lemmas.List.Concat.{concat_is}
 use Rattle.std.specs.List.{concat}
-use Rattle.sha_lanes.specs.Hashers.{Holds}
+use Rattle.sha_lanes.specs.Hashers.{HasAbsorbed}
 use Rattle.hmac_sha.proofs.mac.hash_parts.Goals as goal
 
 pub loop-part-preserved : goal.loop-part-preserved
@@ -15,5 +15,5 @@ loop-part-preserved c = λ m h.
     ∙ flat_map_more (λ x. x) m (take i parts) (get_or parts i [])
     ∙ ap (λ (t : List ℕ). m ++ t) (sym (concat_is (take i parts ++ get_or parts i [] ∷ [])))
     ∙ ap (λ (ps : List (List ℕ)). m ++ concat ps) (sym (take_more parts i [] c.loop-part-test.true)) in
-    subst (λ (t : List ℕ). Holds c.update.new.self t) (ap (λ (t : List ℕ). m ++ concat (take i parts) ++ t) read ∙ more)
+    subst (λ (t : List ℕ). HasAbsorbed c.update.new.self t) (ap (λ (t : List ℕ). m ++ concat (take i parts) ++ t) read ∙ more)
     (c.update.ensures (m ++ concat (take i parts)) (c.loop-part.invariant m h))

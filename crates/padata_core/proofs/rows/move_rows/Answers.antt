@@ -1,5 +1,5 @@
 use Rattle.std.proofs.Common.{ap, sym, ◌∙◌}
-use Rattle.padata_core.specs.Rows.{Held, put, first_is}
+use Rattle.padata_core.specs.Rows.{Slot, put, first_is}
 use Rattle.padata_core.proofs.Finishing.{row_at, finish_rising}
 use Rattle.padata_core.proofs.Moving.{moved_none, moved_some, moved_room}
 use Rattle.padata_core.proofs.rows.move_rows.Goals.{in-Some, in_default}
@@ -22,6 +22,6 @@ loop-number-preserved g c =
     elim c.match-take_first.branch [
       | in-Some w ↦ (let e = w.in-Some.ensures in
           let target = row_at c.loop-number.new.items c.args.more c.args.from c.loop-number.number c.args.share c.loop-number.number w.index_mut-target.result.now i.moved w.index_mut-target.ensures.value in
-          rw w.new-is (moved_some c.args.old.now.items c.loop-number.old.items c.loop-number.new.items w.in-Some.out c.take_first.new.self w.put.new.self c.args.lists c.args.more c.args.from c.loop-number.number c.args.to c.args.room c.args.share i (ap (λ (h : Held _). h.entries) (sym row) ∙ e.0) (e.1 ∙ ap (λ (h : Held _). h.room) row) (w.put.ensures ∙ ap (λ (h : Held _). record h { entries = put c.loop-number.number w.in-Some.out h.entries }) target)))
-      | in_default w ↦ (let e = w.in_default.ensures in rw w.new-is (moved_none c.args.old.now.items c.loop-number.old.items c.loop-number.new.items c.take_first.new.self c.args.lists c.args.more c.args.from c.loop-number.number c.args.to c.args.room c.args.share i c.loop-number-test.true (ap (λ (h : Held _). first_is c.loop-number.number h.entries) (sym row) ∙ e.0) (e.1 ∙ row)))
+          rw w.new-is (moved_some c.args.old.now.items c.loop-number.old.items c.loop-number.new.items w.in-Some.out c.take_first.new.self w.put.new.self c.args.lists c.args.more c.args.from c.loop-number.number c.args.to c.args.room c.args.share i (ap (λ (h : Slot _). h.entries) (sym row) ∙ e.0) (e.1 ∙ ap (λ (h : Slot _). h.room) row) (w.put.ensures ∙ ap (λ (h : Slot _). record h { entries = put c.loop-number.number w.in-Some.out h.entries }) target)))
+      | in_default w ↦ (let e = w.in_default.ensures in rw w.new-is (moved_none c.args.old.now.items c.loop-number.old.items c.loop-number.new.items c.take_first.new.self c.args.lists c.args.more c.args.from c.loop-number.number c.args.to c.args.room c.args.share i c.loop-number-test.true (ap (λ (h : Slot _). first_is c.loop-number.number h.entries) (sym row) ∙ e.0) (e.1 ∙ row)))
     ])

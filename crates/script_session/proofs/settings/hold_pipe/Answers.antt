@@ -1,4 +1,4 @@
-use Rattle.session_calls.specs.Passes.{known}
+use Rattle.recorded_calls.specs.Passes.{known}
 use Rattle.script_session.proofs.Piped.{held-changed}
 use Rattle.script_session.proofs.settings.hold_pipe.Goals as goal
 

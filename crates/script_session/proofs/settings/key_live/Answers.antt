@@ -7,4 +7,4 @@ returns-in-Ok-clause-held c = on-ok c.say.result c.say.ensures (λ says k on leg
 
 pub returns-in-Err-Inval-clause-held : goal.returns-in-Err-Inval-clause-held
 returns-in-Err-Inval-clause-held c =
-    on-ok c.refuse.result c.refuse.ensures (λ says k on legal. key-refused c.args.live.now c.set_key.new.self k c.args.line c.args.key.now _ _ _ c.in-Err-Inval.field-0-is c.in-Err-Inval.ensures says on legal)
+    on-ok c.answer_errno.result c.answer_errno.ensures (λ says k on legal. key-refused c.args.live.now c.set_key.new.self k c.args.line c.args.key.now _ _ _ c.in-Err-Inval.field-0-is c.in-Err-Inval.ensures says on legal)

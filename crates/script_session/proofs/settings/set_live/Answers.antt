@@ -4,8 +4,8 @@ use Rattle.board.specs.Legal.{LegalBoard}
 use Rattle.transforms.specs.declared.ask.Ask.{Ask}
 use Rattle.turn_lock.specs.Turns.{Known}
 use Rattle.dialogues.specs.Requesting.{set_key}
-use Rattle.session_calls.specs.Passes.{known}
-use Rattle.script_session.specs.Changing.{HoldsFor}
+use Rattle.recorded_calls.specs.Passes.{known}
+use Rattle.script_session.specs.Changing.{PerformsFor}
 use Rattle.script_session.specs.States.{HasPipe}
 use Rattle.script_session.specs.declared.settings.Setting.TheVariants as set
 use Rattle.script_session.proofs.Arms.{or-stops}
@@ -19,7 +19,7 @@ returns-in-Key-clause-held g c =
     let live = c.args.live.now in
     setting-arm c.key_live.result c.args.workers c.args.line live c.key_live.new.live k k c.args.setting (set.Key c.in-Key.key) _ _ c.in-Key.is
     (or-stops c.key_live.result
-    (subst (λ x. OnOk c.key_live.result ((k : Known (BoardEntry Ask)) → HasPipe k live.pipe → LegalBoard k.seen → HoldsFor (λ walk. set_key walk c.args.line live.label x) live c.key_live.new.live k k [] c.args.answers.now.items c.key_live.new.answers.items)) c.as_slice.ensures c.key_live.ensures.held)
+    (subst (λ x. OnOk c.key_live.result ((k : Known (BoardEntry Ask)) → HasPipe k live.pipe → LegalBoard k.seen → PerformsFor (λ script_state. set_key script_state c.args.line live.label x) live c.key_live.new.live k k [] c.args.answers.now.items c.key_live.new.answers.items)) c.as_slice.ensures c.key_live.ensures.held)
     (λ f. f k c.requires.pipe c.requires.legal) (for-nothing _ live k))
 
 pub returns-in-TagSize-clause-held : goal.returns-in-TagSize-clause-held

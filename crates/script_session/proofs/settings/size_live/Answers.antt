@@ -6,4 +6,4 @@ pub returns-in-Ok-clause-held : goal.returns-in-Ok-clause-held
 returns-in-Ok-clause-held c = on-ok c.say.result c.say.ensures (λ says k on legal. size-taken c.args.live.now c.set_tag_size.new.self k c.args.line c.args.size _ _ c.in-Ok.ensures.0 c.in-Ok.ensures.1 says on legal)
 
 pub returns-in-Err-clause-held : goal.returns-in-Err-clause-held
-returns-in-Err-clause-held c = on-ok c.refuse.result c.refuse.ensures (λ says k on legal. size-refused c.args.live.now c.set_tag_size.new.self k c.args.line c.args.size _ _ _ c.in-Err.ensures says on legal)
+returns-in-Err-clause-held c = on-ok c.answer_errno.result c.answer_errno.ensures (λ says k on legal. size-refused c.args.live.now c.set_tag_size.new.self k c.args.line c.args.size _ _ _ c.in-Err.ensures says on legal)

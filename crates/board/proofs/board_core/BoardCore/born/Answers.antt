@@ -2,8 +2,8 @@ use Rattle.std.proofs.Common.{arith, ◌≡◌, ◌+◌, ◌∙◌, sym, refl, s
 use Rattle.board.specs.declared.pipeline.Pipeline.{Pipeline}
 use Rattle.board.specs.declared.entry.BoardEntry.TheVariants.{Born}
 use Rattle.board.specs.Places.{places}
-use Rattle.board.specs.Ready.{IsChain, HasRequest, IsReadyFor}
-use Rattle.board.specs.Lines.{AreReady}
+use Rattle.board.specs.RunQueue.{IsChain, HasRequest, IsReadyFor}
+use Rattle.board.specs.RunQueues.{AreReady}
 use Rattle.board.specs.Kept.{IsKeptBoard}
 use Rattle.board.specs.Stages.{MayServe, MayPass}
 use Rattle.board.proofs.KeptUsed.{used_same}

@@ -3,7 +3,7 @@ use Rattle.board.specs.declared.entry.BoardEntry.TheVariants.{Close}
 use Rattle.board.specs.Entries.{entries_of, is_shared, submissions, front, told, collected}
 use Rattle.board.specs.Legal.{MayManage, IsOpen}
 use Rattle.board.specs.Places.{places}
-use Rattle.board.specs.Ready.{IsChain, HasRequest}
+use Rattle.board.specs.RunQueue.{IsChain, HasRequest}
 use Rattle.board.proofs.KeptUsed.{used_same}
 use Rattle.board.proofs.Kept.{shut-same, left_here}
 use Rattle.board.proofs.KeptCalls.{kept_open, close_step}

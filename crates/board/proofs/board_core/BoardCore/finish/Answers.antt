@@ -73,7 +73,7 @@ invariant_of-self g c =
       omega (arith, s.1, c.self.invariant.2, c.self.invariant.3, c.push_reserved.ensures.len, c.push_reserved.ensures.capacity),
       omega (arith, s.1, c.self.invariant.3),
       rw (c.push_reserved.ensures.items, made) (used_same g.W.Work.weight c.self.inside.used c.self.inside.log.items e q.1 c.self.invariant.4),
-      lines_told c.self.inside.pipes next c.self.inside.ready c.tell.new.self c.slip.inside.pipe pipe (record pipe { stage = c.finish.new.self }) c.may_serve-had_job.result c.may_serve-has_job.result c.self.invariant.5 set c.tell.ensures (admits_same pipe (record pipe { stage = c.finish.new.self }) refl refl refl (ap is_queue c.finish.ensures ∙ ended_is_queue pipe.stage c.slip.inside.number c.args.out)) (serves pipe.stage c.may_serve-had_job.result c.may_serve-had_job.ensures) (says c.finish.new.self c.may_serve-has_job.result c.may_serve-has_job.ensures),
+      lines_told c.self.inside.pipes next c.self.inside.ready c.set_ready.new.self c.slip.inside.pipe pipe (record pipe { stage = c.finish.new.self }) c.may_serve-had_job.result c.may_serve-has_job.result c.self.invariant.5 set c.set_ready.ensures (admits_same pipe (record pipe { stage = c.finish.new.self }) refl refl refl (ap is_queue c.finish.ensures ∙ ended_is_queue pipe.stage c.slip.inside.number c.args.out)) (serves pipe.stage c.may_serve-had_job.result c.may_serve-had_job.ensures) (says c.finish.new.self c.may_serve-has_job.result c.may_serve-has_job.ensures),
       passing_same c.self.inside.pipes next c.self.inside.passing c.slip.inside.pipe pipe (record pipe { stage = c.finish.new.self }) c.self.invariant.6 set (finished_chain pipe.stage c.finish.new.self c.slip.inside.number c.args.out c.finish.ensures) (finish_passes pipe.stage c.finish.new.self c.slip.inside.number c.args.out c.finish.ensures),
     )
 

@@ -35,7 +35,7 @@ invariant_of-self-2 g c =
       omega (arith, c.push_reserved.ensures.len, c.push_reserved.ensures.capacity, c.in_ok-reserve_entries.ensures.ok),
       omega (arith, s.1, c.self.invariant.3),
       rw (c.push_reserved.ensures.items, c.in_ok-reserve_entries.ensures.items) (used_same g.W.Work.weight c.self.inside.used c.self.inside.log.items (Hold c.args.caller c.args.pipe) refl c.self.invariant.4),
-      lines_told c.self.inside.pipes next c.self.inside.ready c.tell.new.self c.args.pipe c.unwrap-place.result.now (record c.unwrap-place.result.now { stage = c.set_held.new.self }) c.may_serve-had_job.result c.may_serve-has_job.result c.self.invariant.5 set c.tell.ensures (admits_same c.unwrap-place.result.now (record c.unwrap-place.result.now { stage = c.set_held.new.self }) refl refl refl (hold_queue c.unwrap-place.result.now.stage c.set_held.new.self true c.set_held.ensures)) (serves c.unwrap-place.result.now.stage c.may_serve-had_job.result c.may_serve-had_job.ensures) (says c.set_held.new.self c.may_serve-has_job.result c.may_serve-has_job.ensures),
+      lines_told c.self.inside.pipes next c.self.inside.ready c.set_ready.new.self c.args.pipe c.unwrap-place.result.now (record c.unwrap-place.result.now { stage = c.set_held.new.self }) c.may_serve-had_job.result c.may_serve-has_job.result c.self.invariant.5 set c.set_ready.ensures (admits_same c.unwrap-place.result.now (record c.unwrap-place.result.now { stage = c.set_held.new.self }) refl refl refl (hold_queue c.unwrap-place.result.now.stage c.set_held.new.self true c.set_held.ensures)) (serves c.unwrap-place.result.now.stage c.may_serve-had_job.result c.may_serve-had_job.ensures) (says c.set_held.new.self c.may_serve-has_job.result c.may_serve-has_job.ensures),
       passing_told c.self.inside.pipes next c.self.inside.passing c.args.pipe c.unwrap-place.result.now (record c.unwrap-place.result.now { stage = c.set_held.new.self }) c.self.invariant.6 set c.set.new.self c.may_pass-may_pass.result c.set.ensures (hold_chain c.unwrap-place.result.now.stage c.set_held.new.self true c.set_held.ensures) (says_passing c.set_held.new.self c.may_pass-may_pass.result c.may_pass-may_pass.ensures),
     )
 

@@ -1,5 +1,5 @@
 use Rattle.std.proofs.Common.{rules}
-use Rattle.board.specs.Ready.{IsQueue, IsFor, IsChain, HasJob, HasRequest}
+use Rattle.board.specs.RunQueue.{IsQueue, IsFor, IsChain, HasJob, HasRequest}
 use Rattle.board.specs.Places.{places}
 use Rattle.board.proofs.Kept.{empty_places}
 use Rattle.board.proofs.LinesHold.{ready_none}

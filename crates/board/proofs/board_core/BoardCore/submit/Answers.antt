@@ -67,7 +67,7 @@ invariant_of-self-2 g c =
       omega (arith, c.push_reserved.ensures.len, c.push_reserved.ensures.capacity, c.in_ok-reserve_entries.ensures.ok),
       omega (arith, s.1, c.self.invariant.3),
       rw (c.push_reserved.ensures.items, c.in_ok-reserve_entries.ensures.items) (used_more g.W.Work.weight c.self.inside.used c.make_room.new.used c.self.inside.log.items (Submit c.args.caller c.args.pipe c.submit-number.result c.in_ok-ask.field-0.ask) (g.W.Work.asked c.args.job) _ (ap Some c.in_ok-ask.ensures.ask) refl c.self.invariant.4 (rw used at c.in_ok-make_room.ensures.spent)),
-      lines_asked c.self.inside.pipes next c.make_room.new.ready c.tell.new.self c.args.pipe c.unwrap-place.result.now c.submit-number.new.self c.args.caller true c.may_serve-had_job.result true (lines_kept c.self.inside.pipes c.self.inside.ready c.make_room.new.ready c.self.invariant.5 c.in_ok-make_room.ensures.lines) set c.in_ok-make_room.ensures.joined c.in_ok-make_room.ensures.in_line c.tell.ensures noting (submitted_queue c.unwrap-place.result.now.stage c.submit-number.new.self.stage c.args.job e) (serves c.unwrap-place.result.now.stage c.may_serve-had_job.result c.may_serve-had_job.ensures) (λ m. refl),
+      lines_asked c.self.inside.pipes next c.make_room.new.ready c.set_ready.new.self c.args.pipe c.unwrap-place.result.now c.submit-number.new.self c.args.caller true c.may_serve-had_job.result true (lines_kept c.self.inside.pipes c.self.inside.ready c.make_room.new.ready c.self.invariant.5 c.in_ok-make_room.ensures.lines) set c.in_ok-make_room.ensures.joined c.in_ok-make_room.ensures.in_line c.set_ready.ensures noting (submitted_queue c.unwrap-place.result.now.stage c.submit-number.new.self.stage c.args.job e) (serves c.unwrap-place.result.now.stage c.may_serve-had_job.result c.may_serve-had_job.ensures) (λ m. refl),
       passing_same c.self.inside.pipes next c.self.inside.passing c.args.pipe c.unwrap-place.result.now c.submit-number.new.self c.self.invariant.6 set (submitted_chain c.unwrap-place.result.now.stage c.submit-number.new.self.stage c.args.job e) (job_passes c.unwrap-place.result.now.stage c.submit-number.new.self.stage c.args.job e),
     )
 

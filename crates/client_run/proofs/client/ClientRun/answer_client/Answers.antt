@@ -18,7 +18,7 @@ returns-in_err-end_client g c =
       done =
           stopped c.from_residual-in_err-end_client.result _ c.from_residual-in_err-end_client.ensures.0
           (stops-then s t c.end_client.new.self
-          (replied-stops c.args.self.now.registry.now c.args.self.now.board.now (widest lines) (lines_dialogue s.workers s.walk 1 lines Ends) s t c.new-reply.result.text c.answer_part.new.reply.text
+          (replied-stops c.args.self.now.registry.now c.args.self.now.board.now (widest lines) (lines_dialogue s.workers s.script_state 1 lines Ends) s t c.new-reply.result.text c.answer_part.new.reply.text
           c.requires.ready c.in_ok-malformed.ensures.ready c.in_ok-malformed.ensures.done)
           c.in_err-end_client.ensures.done);
     }
@@ -32,6 +32,6 @@ returns g c =
     record {
       done =
           answers-part c.laws.ensures lines s t c.end_client.new.self text c.end_client.new.reply.text c.in_ok-malformed.malformed c.requires.ready.stands.caller
-          (subst (λ (x : Written). Replies (widest lines) (lines_dialogue s.workers s.walk 1 lines Ends) s t x.text text) c.new-reply.ensures c.in_ok-malformed.ensures.done)
+          (subst (λ (x : Written). Replies (widest lines) (lines_dialogue s.workers s.script_state 1 lines Ends) s t x.text text) c.new-reply.ensures c.in_ok-malformed.ensures.done)
           c.in_ok-end_client.ensures.done c.in_ok-malformed.ensures.malformed c.in_ok-end_client.ensures.paid;
     }

@@ -15,6 +15,6 @@ returns c =
     let n = c.args.number in
     or-stops c.say.result c.say.ensures
     (answer-holds _ s s _ _ _
-    (sym (ap (says s.walk) (c.in_ok-answer.ensures ∙ (ap (λ k. aes_said n k c.as_slice-2.result.now) c.as_slice.ensures ∙ ap (λ b. aes_said n c.args.key.now b) c.as_slice-2.ensures))))
+    (sym (ap (says s.script_state) (c.in_ok-answer.ensures ∙ (ap (λ k. aes_said n k c.as_slice-2.result.now) c.as_slice.ensures ∙ ap (λ b. aes_said n c.args.key.now b) c.as_slice-2.ensures))))
     refl refl refl refl c.requires.stands c.requires.posted)
     (stops-none _ s c.requires.stands)

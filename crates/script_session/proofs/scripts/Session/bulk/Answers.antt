@@ -2,7 +2,7 @@ use Rattle.std.proofs.Common.{ap, sym, ◌∙◌, refl}
 use Rattle.kc_base.specs.declared.error_numbers.Errno.TheVariants.{ENOENT}
 use Rattle.dialogues.specs.Bulk.{bulk_said}
 use Rattle.dialogues.specs.Dialogues.{for_live, says}
-use Rattle.dialogues.specs.Walk.{Live, either_of}
+use Rattle.dialogues.specs.ScriptState.{Live, either_of}
 use Rattle.script_session.proofs.Arms.{or-stops, answer-holds}
 use Rattle.script_session.proofs.Breaking.{stops-none}
 use Rattle.script_session.proofs.Moving.{fails}
@@ -11,18 +11,18 @@ use Rattle.script_session.proofs.scripts.Session.bulk.Goals as goal
 pub returns-in_default : goal.returns-in_default
 returns-in_default g c =
     let s = c.args.self.now in
-    let none = ap (λ l. either_of s.walk l) (sym c.as_slice.ensures) ∙ sym c.in_default.ensures in
-    or-stops c.refuse.result c.refuse.ensures
-    (answer-holds _ s s _ _ _ (ap (λ o. for_live s.walk c.args.number o ENOENT (λ (live : Live). says s.walk (bulk_said c.args.number live c.args.size c.args.seed))) none) refl refl refl refl c.requires.stands c.requires.posted)
+    let none = ap (λ l. either_of s.script_state l) (sym c.as_slice.ensures) ∙ sym c.in_default.ensures in
+    or-stops c.answer_errno.result c.answer_errno.ensures
+    (answer-holds _ s s _ _ _ (ap (λ o. for_live s.script_state c.args.number o ENOENT (λ (live : Live). says s.script_state (bulk_said c.args.number live c.args.size c.args.seed))) none) refl refl refl refl c.requires.stands c.requires.posted)
     (stops-none _ s c.requires.stands)
 
 pub returns : goal.returns
 returns g c =
     let s = c.args.self.now in
-    let found = ap (λ l. either_of s.walk l) (sym c.as_slice.ensures) ∙ sym c.in-Some.ensures in
+    let found = ap (λ l. either_of s.script_state l) (sym c.as_slice.ensures) ∙ sym c.in-Some.ensures in
     or-stops c.say.result c.say.ensures
     (answer-holds _ s s _ _ _
-    (ap (λ o. for_live s.walk c.args.number o ENOENT (λ (live : Live). says s.walk (bulk_said c.args.number live c.args.size c.args.seed))) found ∙ ap (says s.walk) (sym c.in_ok-answer.ensures))
+    (ap (λ o. for_live s.script_state c.args.number o ENOENT (λ (live : Live). says s.script_state (bulk_said c.args.number live c.args.size c.args.seed))) found ∙ ap (says s.script_state) (sym c.in_ok-answer.ensures))
     refl refl refl refl c.requires.stands c.requires.posted)
     (stops-none _ s c.requires.stands)
 

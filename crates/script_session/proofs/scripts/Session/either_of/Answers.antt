@@ -1,5 +1,5 @@
 use Rattle.std.proofs.Common.{ap, sym, refl, ◌∙◌, Some}
-use Rattle.dialogues.specs.Walk.{shared_of}
+use Rattle.dialogues.specs.ScriptState.{shared_of}
 use Rattle.script_session.specs.States.{State}
 use Rattle.script_session.proofs.Living.{is-live, is-there, either-at, no-either}
 use Rattle.script_session.proofs.scripts.Session.either_of.Goals as goal
@@ -16,5 +16,5 @@ returns-in-Some c =
 pub returns-in-None : goal.returns-in-None
 returns-in-None c =
     let s = c.args.self.now in
-    c.find_shared.ensures ∙ (ap (λ (x : State). shared_of x.walk c.args.label.now) c.self.view_is
+    c.find_shared.ensures ∙ (ap (λ (x : State). shared_of x.script_state c.args.label.now) c.self.view_is
     ∙ sym (no-either s c.self.inside.lives c.self.invariant c.self.view_is c.args.label.now c.args.label.now refl c.in-None.ensures))

@@ -5,10 +5,10 @@ use Rattle.board.specs.Allowance.{accepted_by}
 use Rattle.dialogues.specs.Dialogues.{Ends, Posts}
 use Rattle.dialogues.specs.Piping.{end}
 use Rattle.dialogues.specs.Questions.{Shut}
-use Rattle.session_calls.specs.Passes.{known}
+use Rattle.recorded_calls.specs.Passes.{known}
 use Rattle.transforms.specs.AskValue.{ask_size}
 use Rattle.script_session.specs.Saying.{SaysTold}
-use Rattle.script_session.specs.States.{State, Posted}
+use Rattle.script_session.specs.States.{State, PipelinesMatch}
 use Rattle.script_session.proofs.Ended.{end-arm, ends-shut, stops-here, release-stops, drain-stops}
 use Rattle.script_session.proofs.Said.{on-err, tells-nothing, told-first, told-after}
 use Rattle.script_session.proofs.Rules.{called-nothing}
@@ -18,15 +18,15 @@ use Rattle.script_session.proofs.scripts.Session.end.Goals as goal
 pub release_all-requires-clause-posted : goal.release_all-requires-clause-posted
 release_all-requires-clause-posted g c =
     let s = c.args.self.now in (
-      s.walk,
-      sym (c.deref_mut.ensures.value ∙ (c.in_ok-lives.ensures.all ∙ ap (λ (x : State). x.walk.lives) c.self.view_is)),
-      subst (λ (x : State). Posted s.walk (known x.board)) (sym c.self.view_is) c.requires.posted,
+      s.script_state,
+      sym (c.deref_mut.ensures.value ∙ (c.in_ok-lives.ensures.all ∙ ap (λ (x : State). x.script_state.lives) c.self.view_is)),
+      subst (λ (x : State). PipelinesMatch s.script_state (known x.board)) (sym c.self.view_is) c.requires.posted,
     )
 
 pub drain_last_said_all-requires-clause-bytes : goal.drain_last_said_all-requires-clause-bytes
 drain_last_said_all-requires-clause-bytes g c =
     ap (sum_by ask_size) c.in_ok-release_all.ensures.moved.accepted
-    ∙ subst (λ (x : State). sum_by ask_size (accepted_by (known x.board).number (known x.board).seen) ≡ x.walk.bytes) (sym c.self.view_is) c.requires.posted.bytes
+    ∙ subst (λ (x : State). sum_by ask_size (accepted_by (known x.board).number (known x.board).seen) ≡ x.script_state.bytes) (sym c.self.view_is) c.requires.posted.bytes
 
 pub returns-in_err-release_all-clause-told : goal.returns-in_err-release_all-clause-told
 returns-in_err-release_all-clause-told g c =
@@ -57,7 +57,7 @@ returns-clause-shut g c =
 -- memory was wanting before anything was called
 pub returns-in_err-lives-clause-done : goal.returns-in_err-lives-clause-done
 returns-in_err-lives-clause-done g c =
-    fails c.from_residual.result _ c.from_residual.ensures.0 (stops-here c.args.self.now c.self.view_is (end c.args.self.now.walk) _ c.requires.stands)
+    fails c.from_residual.result _ c.from_residual.ensures.0 (stops-here c.args.self.now c.self.view_is (end c.args.self.now.script_state) _ c.requires.stands)
 
 pub returns-in_err-lives-clause-told : goal.returns-in_err-lives-clause-told
 returns-in_err-lives-clause-told g c =
@@ -70,13 +70,13 @@ returns-in_err-lives-clause-told g c =
 pub returns-in_err-release_all-clause-done : goal.returns-in_err-release_all-clause-done
 returns-in_err-release_all-clause-done g c =
     fails c.from_residual-in_err-release_all.result _ c.from_residual-in_err-release_all.ensures.0
-    (release-stops c.args.self.now c.self.view_is (Posts Shut λ done. Ends c.args.self.now.walk) c.deref_mut.result.now (c.deref_mut.ensures.value ∙ c.in_ok-lives.ensures.all) c.release_all.ensures.lock c.requires.stands c.in_err-release_all.ensures.moved)
+    (release-stops c.args.self.now c.self.view_is (Posts Shut λ done. Ends c.args.self.now.script_state) c.deref_mut.result.now (c.deref_mut.ensures.value ∙ c.in_ok-lives.ensures.all) c.release_all.ensures.lock c.requires.stands c.in_err-release_all.ensures.moved)
 
 -- or while they were drained
 pub returns-in_err-drain_last_said_all-clause-done : goal.returns-in_err-drain_last_said_all-clause-done
 returns-in_err-drain_last_said_all-clause-done g c =
     fails c.from_residual-in_err-drain_last_said_all.result _ c.from_residual-in_err-drain_last_said_all.ensures.0
-    (drain-stops c.args.self.now c.self.view_is (Posts Shut λ done. Ends c.args.self.now.walk) c.deref_mut.result.now c.release_all.new.lives c.deref_mut-2.result.now (known c.release_all.new.caller)
+    (drain-stops c.args.self.now c.self.view_is (Posts Shut λ done. Ends c.args.self.now.script_state) c.deref_mut.result.now c.release_all.new.lives c.deref_mut-2.result.now (known c.release_all.new.caller)
     (c.deref_mut.ensures.value ∙ c.in_ok-lives.ensures.all)
     (c.deref_mut-2.ensures.value ∙ with_items_is c.in_ok-lives.lives c.release_all.new.lives (omega (arith, c.release_all.auto.lives, c.deref_mut.ensures.len, ap length c.deref_mut.ensures.value)))
     (c.drain_last_said_all.ensures.lock ∙ c.release_all.ensures.lock) c.requires.stands c.requires.posted c.in_ok-release_all.ensures.moved c.in_err-drain_last_said_all.ensures.moved)

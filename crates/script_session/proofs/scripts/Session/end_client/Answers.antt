@@ -4,9 +4,9 @@ use Rattle.std.proofs.lemmas.List.{with_items_is}
 use Rattle.board.specs.Allowance.{accepted_by}
 use Rattle.dialogues.specs.Dialogues.{Ends}
 use Rattle.dialogues.specs.Piping.{end_beside}
-use Rattle.session_calls.specs.Passes.{known}
+use Rattle.recorded_calls.specs.Passes.{known}
 use Rattle.transforms.specs.AskValue.{ask_size}
-use Rattle.script_session.specs.States.{State, Posted}
+use Rattle.script_session.specs.States.{State, PipelinesMatch}
 use Rattle.script_session.proofs.Ended.{client-arm, ends-paid, stops-here, release-stops, drain-stops}
 use Rattle.script_session.proofs.Moving.{fails}
 use Rattle.script_session.proofs.scripts.Session.end_client.Goals as goal
@@ -14,15 +14,15 @@ use Rattle.script_session.proofs.scripts.Session.end_client.Goals as goal
 pub release_all-requires-clause-posted : goal.release_all-requires-clause-posted
 release_all-requires-clause-posted g c =
     let s = c.args.self.now in (
-      s.walk,
-      sym (c.deref_mut.ensures.value ∙ (c.in_ok-lives.ensures.all ∙ ap (λ (x : State). x.walk.lives) c.self.view_is)),
-      subst (λ (x : State). Posted s.walk (known x.board)) (sym c.self.view_is) c.requires.posted,
+      s.script_state,
+      sym (c.deref_mut.ensures.value ∙ (c.in_ok-lives.ensures.all ∙ ap (λ (x : State). x.script_state.lives) c.self.view_is)),
+      subst (λ (x : State). PipelinesMatch s.script_state (known x.board)) (sym c.self.view_is) c.requires.posted,
     )
 
 pub drain_last_said_all-requires-clause-bytes : goal.drain_last_said_all-requires-clause-bytes
 drain_last_said_all-requires-clause-bytes g c =
     ap (sum_by ask_size) c.in_ok-release_all.ensures.moved.accepted
-    ∙ subst (λ (x : State). sum_by ask_size (accepted_by (known x.board).number (known x.board).seen) ≡ x.walk.bytes) (sym c.self.view_is) c.requires.posted.bytes
+    ∙ subst (λ (x : State). sum_by ask_size (accepted_by (known x.board).number (known x.board).seen) ≡ x.script_state.bytes) (sym c.self.view_is) c.requires.posted.bytes
 
 pub returns-clause-done : goal.returns-clause-done
 returns-clause-done g c =
@@ -41,19 +41,19 @@ returns-clause-paid g c =
 -- memory was wanting before anything was called
 pub returns-in_err-lives-clause-done : goal.returns-in_err-lives-clause-done
 returns-in_err-lives-clause-done g c =
-    fails c.from_residual.result _ c.from_residual.ensures.0 ((stops-here c.args.self.now c.self.view_is (end_beside c.args.self.now.walk) _ c.requires.stands).stops)
+    fails c.from_residual.result _ c.from_residual.ensures.0 ((stops-here c.args.self.now c.self.view_is (end_beside c.args.self.now.script_state) _ c.requires.stands).stops)
 
 -- or while pipelines were let go
 pub returns-in_err-release_all-clause-done : goal.returns-in_err-release_all-clause-done
 returns-in_err-release_all-clause-done g c =
     fails c.from_residual-in_err-release_all.result _ c.from_residual-in_err-release_all.ensures.0
-    ((release-stops c.args.self.now c.self.view_is (Ends c.args.self.now.walk) c.deref_mut.result.now (c.deref_mut.ensures.value ∙ c.in_ok-lives.ensures.all) c.release_all.ensures.lock c.requires.stands c.in_err-release_all.ensures.moved).stops)
+    ((release-stops c.args.self.now c.self.view_is (Ends c.args.self.now.script_state) c.deref_mut.result.now (c.deref_mut.ensures.value ∙ c.in_ok-lives.ensures.all) c.release_all.ensures.lock c.requires.stands c.in_err-release_all.ensures.moved).stops)
 
 -- or while they were drained
 pub returns-in_err-drain_last_said_all-clause-done : goal.returns-in_err-drain_last_said_all-clause-done
 returns-in_err-drain_last_said_all-clause-done g c =
     fails c.from_residual-in_err-drain_last_said_all.result _ c.from_residual-in_err-drain_last_said_all.ensures.0
-    ((drain-stops c.args.self.now c.self.view_is (Ends c.args.self.now.walk) c.deref_mut.result.now c.release_all.new.lives c.deref_mut-2.result.now (known c.release_all.new.caller)
+    ((drain-stops c.args.self.now c.self.view_is (Ends c.args.self.now.script_state) c.deref_mut.result.now c.release_all.new.lives c.deref_mut-2.result.now (known c.release_all.new.caller)
     (c.deref_mut.ensures.value ∙ c.in_ok-lives.ensures.all)
     (c.deref_mut-2.ensures.value ∙ with_items_is c.in_ok-lives.lives c.release_all.new.lives (omega (arith, c.release_all.auto.lives, c.deref_mut.ensures.len, ap length c.deref_mut.ensures.value)))
     (c.drain_last_said_all.ensures.lock ∙ c.release_all.ensures.lock) c.requires.stands c.requires.posted c.in_ok-release_all.ensures.moved c.in_err-drain_last_said_all.ensures.moved).stops)

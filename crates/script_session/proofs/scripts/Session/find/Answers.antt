@@ -1,6 +1,6 @@
 use Rattle.std.proofs.Common.{ap, ◌∙◌, Ok, Err}
 use Rattle.alg_names.specs.Name.{spelling}
-use Rattle.dialogues.specs.Walk.{live_of}
+use Rattle.dialogues.specs.ScriptState.{live_of}
 use Rattle.script_session.specs.States.{State}
 use Rattle.script_session.proofs.Breaking.{or-breaks}
 use Rattle.script_session.proofs.Finding.{finds-as, look-stands, look-stops, found-arm, fault-holds}
@@ -11,7 +11,7 @@ pub bind-requires-clause-stands : goal.bind-requires-clause-stands
 bind-requires-clause-stands g c = look-stands c.args.self.now c.self.view_is (spelling c.args.name.now) c.in-Ok.id c.requires.stands (finds-as c.self.inside.registry c.resolve.new.self (spelling c.args.name.now) c.in_ok-id.field-0 (Ok c.in-Ok.id) c.in-Ok.is c.in_ok-id.ensures)
 
 pub bind-requires-clause-free : goal.bind-requires-clause-free
-bind-requires-clause-free g c = ap (λ (x : State). live_of x.walk c.args.wanted.now.label.now) c.self.view_is ∙ c.requires.free
+bind-requires-clause-free g c = ap (λ (x : State). live_of x.script_state c.args.wanted.now.label.now) c.self.view_is ∙ c.requires.free
 
 pub returns-in-Ok : goal.returns-in-Ok
 returns-in-Ok g c =
@@ -20,7 +20,7 @@ returns-in-Ok g c =
 pub returns-in-Err : goal.returns-in-Err
 returns-in-Err g c =
     let found = finds-as c.self.inside.registry c.resolve.new.self (spelling c.args.name.now) c.in_ok-id.field-0 (Err c.in-Err.errno) c.in-Err.is c.in_ok-id.ensures in
-    or-breaks _ _ c.refuse.result c.refuse.ensures
+    or-breaks _ _ c.answer_errno.result c.answer_errno.ensures
     (λ all. fault-holds c.args.self.now c.self.view_is c.args.number c.args.wanted.now.label.now (spelling c.args.name.now) c.args.wanted.now.length c.in-Err.errno _ all found c.requires.stands c.requires.posted)
     c.requires.posted
 

@@ -10,7 +10,7 @@ pub returns-in-Cmd-Poll-clause-done : goal.returns-in-Cmd-Poll-clause-done
 returns-in-Cmd-Poll-clause-done g c =
     let s = c.args.self.now in
     done-on c.collect.result s c.collect.new.self c.args.number c.args.line (line.Cmd (command.Poll c.in-Cmd-Poll.label)) _ _ (c.in-Cmd-Poll.is ∙ ap (λ x. line.Cmd x) c.in-Cmd-Poll.field-0-is)
-    (line-replies 1 c.collect.result (poll s.walk c.args.number c.in-Cmd-Poll.label) s c.collect.new.self _ _ c.collect.ensures)
+    (line-replies 1 c.collect.result (poll s.script_state c.args.number c.in-Cmd-Poll.label) s c.collect.new.self _ _ c.collect.ensures)
 
 pub returns-in-Cmd-Poll-clause-ready : goal.returns-in-Cmd-Poll-clause-ready
 returns-in-Cmd-Poll-clause-ready g c = line-ready c.shared_is_known.ensures.stays 1 c.collect.result _ c.args.registry.now c.args.board.now _ c.args.self.now c.collect.new.self _ _ c.requires.ready c.collect.ensures
@@ -25,7 +25,7 @@ pub returns-in-Cmd-Drain-clause-done : goal.returns-in-Cmd-Drain-clause-done
 returns-in-Cmd-Drain-clause-done g c =
     let s = c.args.self.now in
     done-on c.collect-in-Cmd-Drain.result s c.collect-in-Cmd-Drain.new.self c.args.number c.args.line (line.Cmd (command.Drain c.in-Cmd-Drain.label)) _ _ (c.in-Cmd-Drain.is ∙ ap (λ x. line.Cmd x) c.in-Cmd-Drain.field-0-is)
-    (line-replies 1 c.collect-in-Cmd-Drain.result (drain s.walk c.args.number c.in-Cmd-Drain.label) s c.collect-in-Cmd-Drain.new.self _ _ c.collect-in-Cmd-Drain.ensures)
+    (line-replies 1 c.collect-in-Cmd-Drain.result (drain s.script_state c.args.number c.in-Cmd-Drain.label) s c.collect-in-Cmd-Drain.new.self _ _ c.collect-in-Cmd-Drain.ensures)
 
 pub returns-in-Cmd-Drain-clause-ready : goal.returns-in-Cmd-Drain-clause-ready
 returns-in-Cmd-Drain-clause-ready g c = line-ready c.shared_is_known.ensures.stays 1 c.collect-in-Cmd-Drain.result _ c.args.registry.now c.args.board.now _ c.args.self.now c.collect-in-Cmd-Drain.new.self _ _ c.requires.ready c.collect-in-Cmd-Drain.ensures

@@ -1,6 +1,6 @@
 use Rattle.std.proofs.Common.{ap, ◌∙◌}
 use Rattle.std.proofs.lemmas.Result.{err_from_is_err_and}
-use Rattle.dialogues.specs.Walk.{Live, live_of}
+use Rattle.dialogues.specs.ScriptState.{Live, live_of}
 use Rattle.script_session.specs.Filed.{lives_of, number_of}
 use Rattle.script_session.specs.States.{State}
 use Rattle.script_session.proofs.Filed.{nobody-filed}
@@ -16,7 +16,7 @@ returns-in_err-live g c =
 pub push-requires-clause-free : goal.push-requires-clause-free
 push-requires-clause-free g c =
     ap (λ (l : Live). number_of l.label c.self.inside.lives.transforms.entries) c.in_ok-live.ensures.created.1
-    ∙ nobody-filed c.args.wanted.now.label.now c.self.inside.lives.transforms.entries (ap (λ (x : State). live_of x.walk c.args.wanted.now.label.now) c.self.view_is ∙ c.requires.free)
+    ∙ nobody-filed c.args.wanted.now.label.now c.self.inside.lives.transforms.entries (ap (λ (x : State). live_of x.script_state c.args.wanted.now.label.now) c.self.view_is ∙ c.requires.free)
 
 pub returns-in_err-push : goal.returns-in_err-push
 returns-in_err-push g c =

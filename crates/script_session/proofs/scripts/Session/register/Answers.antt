@@ -9,16 +9,16 @@ use Rattle.script_session.proofs.scripts.Session.register.Goals as goal
 
 pub returns-in_default : goal.returns-in_default
 returns-in_default g c =
-    or-stops c.refuse.result c.refuse.ensures
+    or-stops c.answer_errno.result c.answer_errno.ensures
     (answer-holds _ c.args.self.now c.args.self.now _ _ _
-    (register-unknown c.args.self.now.walk c.args.number c.args.priority c.as_slice.result.now c.args.driver.now c.in_ok-spec.field-0 c.as_slice.ensures c.in_ok-spec.ensures c.in_default.is) refl refl refl refl c.requires.stands c.requires.posted)
+    (register-unknown c.args.self.now.script_state c.args.number c.args.priority c.as_slice.result.now c.args.driver.now c.in_ok-spec.field-0 c.as_slice.ensures c.in_ok-spec.ensures c.in_default.is) refl refl refl refl c.requires.stands c.requires.posted)
     (stops-none _ c.args.self.now c.requires.stands)
 
 pub returns-then-priority-gt-MOST_PRIORITY : goal.returns-then-priority-gt-MOST_PRIORITY
 returns-then-priority-gt-MOST_PRIORITY g c =
-    or-stops c.refuse-then-priority-gt-MOST_PRIORITY.result c.refuse-then-priority-gt-MOST_PRIORITY.ensures
+    or-stops c.answer_errno-then-priority-gt-MOST_PRIORITY.result c.answer_errno-then-priority-gt-MOST_PRIORITY.ensures
     (answer-holds _ c.args.self.now c.args.self.now _ _ _
-    (register-high c.args.self.now.walk c.args.number c.args.priority c.as_slice.result.now c.args.driver.now c.in_ok-spec.field-0 c.in-Some.spec c.as_slice.ensures c.in_ok-spec.ensures c.in-Some.is c.if-priority-gt-MOST_PRIORITY.true)
+    (register-high c.args.self.now.script_state c.args.number c.args.priority c.as_slice.result.now c.args.driver.now c.in_ok-spec.field-0 c.in-Some.spec c.as_slice.ensures c.in_ok-spec.ensures c.in-Some.is c.if-priority-gt-MOST_PRIORITY.true)
     refl refl refl refl c.requires.stands c.requires.posted)
     (stops-none _ c.args.self.now c.requires.stands)
 
@@ -29,7 +29,7 @@ pub returns : goal.returns
 returns g c =
     or-breaks _ _ c.say.result c.say.ensures
     (λ all said. asking-arm c.args.self.now c.self.view_is _ (Enlist c.in-Some.spec) c.in_ok-how.how (enlist_said c.args.number) _ all
-    (register-asks c.args.self.now.walk c.args.number c.args.priority c.as_slice.result.now c.args.driver.now c.in_ok-spec.field-0 c.in-Some.spec c.as_slice.ensures c.in_ok-spec.ensures c.in-Some.is c.if-priority-gt-MOST_PRIORITY.false)
+    (register-asks c.args.self.now.script_state c.args.number c.args.priority c.as_slice.result.now c.args.driver.now c.in_ok-spec.field-0 c.in-Some.spec c.as_slice.ensures c.in_ok-spec.ensures c.in-Some.is c.if-priority-gt-MOST_PRIORITY.false)
     c.requires.stands c.requires.posted c.in_ok-how.ensures (λ id. refl) (said ∙ ap (λ a. c.args.answers.now.items ++ a ∷ []) c.enlisted_answer.ensures))
     c.requires.posted
 

@@ -5,7 +5,7 @@ use Rattle.std.specs.Arc.{arc_value}
 use Rattle.dialogues.specs.BoardCalls.{asked_by}
 use Rattle.script_session.specs.Keyed.{IsJob, IsNotTaken}
 use Rattle.dialogues.specs.Requesting.{requests_under, requests_in}
-use Rattle.dialogues.specs.Walk.{Live}
+use Rattle.dialogues.specs.ScriptState.{Live}
 use Rattle.script_session.specs.States.{State}
 use Rattle.script_session.proofs.Arms.{or-stops, answer-holds}
 use Rattle.script_session.proofs.Breaking.{stops-none}
@@ -30,10 +30,10 @@ returns-in-Ok-None g c =
     let at = live-at c.args.self.now c.self.inside.lives c.self.invariant c.self.view_is c.args.label.now c.as_slice.result.now c.as_slice.ensures c.in-Some.place c.in-Some.ensures in
     let was = is-live c.args.self.now c.self.inside.lives c.self.invariant c.self.view_is c.args.label.now c.as_slice.result.now c.as_slice.ensures c.in-Some.place c.in-Some.ensures c.get.result.now c.get.ensures in
     let why = rw c.in-Ok-None.field-0-is at c.in-Ok-None.ensures in
-    or-stops c.refuse.result c.refuse.ensures
+    or-stops c.answer_errno.result c.answer_errno.ensures
     (answer-holds _ s s _ _ _
-    (ap (λ o. for_live s.walk c.args.number o ENOENT (λ (live : Live). requests_under s.walk c.args.number live c.args.asked c.args.backlog live.key)) (either-at s c.self.inside.lives c.self.invariant c.self.view_is c.args.label.now c.as_slice.result.now c.as_slice.ensures c.in-Some.place c.in-Some.ensures)
-    ∙ no-key s.walk c.args.number at.live c.args.asked c.args.backlog (sym (ap (λ (l : Live). l.key) was) ∙ why))
+    (ap (λ o. for_live s.script_state c.args.number o ENOENT (λ (live : Live). requests_under s.script_state c.args.number live c.args.asked c.args.backlog live.key)) (either-at s c.self.inside.lives c.self.invariant c.self.view_is c.args.label.now c.as_slice.result.now c.as_slice.ensures c.in-Some.place c.in-Some.ensures)
+    ∙ no-key s.script_state c.args.number at.live c.args.asked c.args.backlog (sym (ap (λ (l : Live). l.key) was) ∙ why))
     refl refl refl refl c.requires.stands c.requires.posted)
     (stops-none _ s c.requires.stands)
 
@@ -43,10 +43,10 @@ returns-in-Err-Inval g c =
     let at = live-at c.args.self.now c.self.inside.lives c.self.invariant c.self.view_is c.args.label.now c.as_slice.result.now c.as_slice.ensures c.in-Some.place c.in-Some.ensures in
     let was = is-live c.args.self.now c.self.inside.lives c.self.invariant c.self.view_is c.args.label.now c.as_slice.result.now c.as_slice.ensures c.in-Some.place c.in-Some.ensures c.get.result.now c.get.ensures in
     let why = rw c.in-Err-Inval.field-0-is at c.in-Err-Inval.ensures in
-    or-stops c.refuse-in-Err-Inval.result c.refuse-in-Err-Inval.ensures
+    or-stops c.answer_errno-in-Err-Inval.result c.answer_errno-in-Err-Inval.ensures
     (answer-holds _ s s _ _ _
-    (ap (λ o. for_live s.walk c.args.number o ENOENT (λ (live : Live). requests_under s.walk c.args.number live c.args.asked c.args.backlog live.key)) (either-at s c.self.inside.lives c.self.invariant c.self.view_is c.args.label.now c.as_slice.result.now c.as_slice.ensures c.in-Some.place c.in-Some.ensures)
-    ∙ not-taken s.walk c.args.number at.live c.args.asked c.args.backlog at.live.key (subst (λ (l : Live). IsNotTaken l c.args.asked l.key) was why))
+    (ap (λ o. for_live s.script_state c.args.number o ENOENT (λ (live : Live). requests_under s.script_state c.args.number live c.args.asked c.args.backlog live.key)) (either-at s c.self.inside.lives c.self.invariant c.self.view_is c.args.label.now c.as_slice.result.now c.as_slice.ensures c.in-Some.place c.in-Some.ensures)
+    ∙ not-taken s.script_state c.args.number at.live c.args.asked c.args.backlog at.live.key (subst (λ (l : Live). IsNotTaken l c.args.asked l.key) was why))
     refl refl refl refl c.requires.stands c.requires.posted)
     (stops-none _ s c.requires.stands)
 
@@ -87,8 +87,8 @@ returns g c =
     let then_is = is-live c.args.self.now c.self.inside.lives c.self.invariant c.self.view_is c.args.label.now c.as_slice.result.now c.as_slice.ensures c.in-Some.place c.in-Some.ensures old is in
     let job = subst (λ (l : Live). IsJob c.self.inside.client c.args.number l c.args.asked (asked_by ask)) (first ∙ sym then_is) (rw c.in-Ok-Some.field-0-is at c.in-Ok-Some.ensures) in
     request-arm c.args.self.now c.self.inside.lives c.self.invariant c.self.view_is c.args.label.now c.as_slice.result.now c.as_slice.ensures c.args.number c.in-Some.place c.in-Some.ensures old c.take_job.new.live _
-    (λ walk live. requests_under walk c.args.number live c.args.asked c.args.backlog live.key) (λ walk. requests_in walk c.args.number old (asked_by ask) c.args.backlog old.pipe) c.count.new.self c.take_job.new.caller c.in_ok-accepted.accepted c.size-size.result ask _ _
-    (job-asks s.walk c.args.number c.self.inside.client old c.args.asked (asked_by ask) c.args.backlog old.key (ap (λ (x : State). x.walk.client) (sym c.self.view_is)) job)
+    (λ script_state live. requests_under script_state c.args.number live c.args.asked c.args.backlog live.key) (λ script_state. requests_in script_state c.args.number old (asked_by ask) c.args.backlog old.pipe) c.count.new.self c.take_job.new.caller c.in_ok-accepted.accepted c.size-size.result ask _ _
+    (job-asks s.script_state c.args.number c.self.inside.client old c.args.asked (asked_by ask) c.args.backlog old.key (ap (λ (x : State). x.script_state.client) (sym c.self.view_is)) job)
     is (written c.args.self.now c.self.inside.lives c.self.invariant c.self.view_is c.args.label.now c.as_slice.result.now c.as_slice.ensures c.in-Some.place c.in-Some.ensures c.unwrap-live.result.now c.take_job.new.live _ is c.take_job.ensures.named (c.get_mut.follows.holds c.take_job.new.live).0) e.lock c.requires.stands c.requires.posted c.size-size.ensures e.held c.count.ensures
 
 pub returns-in-Err-Memory : goal.returns-in-Err-Memory
@@ -105,6 +105,6 @@ returns-in_err-accepted g c =
     let job = subst (λ (l : Live). IsJob c.self.inside.client c.args.number l c.args.asked (asked_by ask)) (first ∙ sym then_is) (rw c.in-Ok-Some.field-0-is at c.in-Ok-Some.ensures) in
     fails c.from_residual.result _ c.from_residual.ensures.0
     (request-stops s c.self.inside.lives c.self.invariant c.self.view_is c.args.label.now c.as_slice.result.now c.as_slice.ensures c.args.number c.in-Some.place c.in-Some.ensures old _
-    (λ walk live. requests_under walk c.args.number live c.args.asked c.args.backlog live.key) (λ walk. requests_in walk c.args.number old (asked_by ask) c.args.backlog old.pipe) c.take_job.new.caller
-    (job-asks s.walk c.args.number c.self.inside.client old c.args.asked (asked_by ask) c.args.backlog old.key (ap (λ (x : State). x.walk.client) (sym c.self.view_is)) job)
+    (λ script_state live. requests_under script_state c.args.number live c.args.asked c.args.backlog live.key) (λ script_state. requests_in script_state c.args.number old (asked_by ask) c.args.backlog old.pipe) c.take_job.new.caller
+    (job-asks s.script_state c.args.number c.self.inside.client old c.args.asked (asked_by ask) c.args.backlog old.key (ap (λ (x : State). x.script_state.client) (sym c.self.view_is)) job)
     is c.take_job.ensures.lock c.requires.stands c.requires.posted c.in_err-accepted.ensures.held)

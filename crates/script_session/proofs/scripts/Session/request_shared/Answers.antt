@@ -4,7 +4,7 @@ use Rattle.kc_base.specs.declared.error_numbers.Errno.TheVariants.{ENOENT}
 use Rattle.dialogues.specs.BoardCalls.{asked_by}
 use Rattle.dialogues.specs.Dialogues.{for_live}
 use Rattle.dialogues.specs.Requesting.{requests_under, requests_in}
-use Rattle.dialogues.specs.Walk.{Live}
+use Rattle.dialogues.specs.ScriptState.{Live}
 use Rattle.script_session.specs.States.{State}
 use Rattle.script_session.proofs.Arms.{or-stops, answer-holds}
 use Rattle.script_session.proofs.Breaking.{stops-none}
@@ -16,20 +16,20 @@ use Rattle.script_session.proofs.scripts.Session.request_shared.Goals as goal
 pub returns-in_default : goal.returns-in_default
 returns-in_default g c =
     let s = c.args.self.now in
-    let none = either-shared s.walk c.args.label.now None c.requires.none (shared-at s c.self.view_is c.args.label.now c.as_slice.result.now c.as_slice.ensures None c.in_default.ensures) in
-    or-stops c.refuse.result c.refuse.ensures
-    (answer-holds _ s s _ _ _ (ap (λ o. for_live s.walk c.args.number o ENOENT (λ (live : Live). requests_under s.walk c.args.number live c.args.asked c.args.backlog live.key)) none) refl refl refl refl c.requires.stands c.requires.posted)
+    let none = either-shared s.script_state c.args.label.now None c.requires.none (shared-at s c.self.view_is c.args.label.now c.as_slice.result.now c.as_slice.ensures None c.in_default.ensures) in
+    or-stops c.answer_errno.result c.answer_errno.ensures
+    (answer-holds _ s s _ _ _ (ap (λ o. for_live s.script_state c.args.number o ENOENT (λ (live : Live). requests_under s.script_state c.args.number live c.args.asked c.args.backlog live.key)) none) refl refl refl refl c.requires.stands c.requires.posted)
     (stops-none _ s c.requires.stands)
 
 pub returns-in-Ok-None : goal.returns-in-Ok-None
 returns-in-Ok-None g c =
     let s = c.args.self.now in
     let live = c.in-Some.live.now in
-    let found = either-shared s.walk c.args.label.now (Some live) c.requires.none (shared-at s c.self.view_is c.args.label.now c.as_slice.result.now c.as_slice.ensures (Some live) c.in-Some.ensures) in
+    let found = either-shared s.script_state c.args.label.now (Some live) c.requires.none (shared-at s c.self.view_is c.args.label.now c.as_slice.result.now c.as_slice.ensures (Some live) c.in-Some.ensures) in
     let why = rw c.in-Ok-None.field-0-is at c.in-Ok-None.ensures in
-    or-stops c.refuse-in-Ok-None.result c.refuse-in-Ok-None.ensures
+    or-stops c.answer_errno-in-Ok-None.result c.answer_errno-in-Ok-None.ensures
     (answer-holds _ s s _ _ _
-    (ap (λ o. for_live s.walk c.args.number o ENOENT (λ (live : Live). requests_under s.walk c.args.number live c.args.asked c.args.backlog live.key)) found ∙ no-key s.walk c.args.number live c.args.asked c.args.backlog why)
+    (ap (λ o. for_live s.script_state c.args.number o ENOENT (λ (live : Live). requests_under s.script_state c.args.number live c.args.asked c.args.backlog live.key)) found ∙ no-key s.script_state c.args.number live c.args.asked c.args.backlog why)
     refl refl refl refl c.requires.stands c.requires.posted)
     (stops-none _ s c.requires.stands)
 
@@ -37,11 +37,11 @@ pub returns-in-Err-Inval : goal.returns-in-Err-Inval
 returns-in-Err-Inval g c =
     let s = c.args.self.now in
     let live = c.in-Some.live.now in
-    let found = either-shared s.walk c.args.label.now (Some live) c.requires.none (shared-at s c.self.view_is c.args.label.now c.as_slice.result.now c.as_slice.ensures (Some live) c.in-Some.ensures) in
+    let found = either-shared s.script_state c.args.label.now (Some live) c.requires.none (shared-at s c.self.view_is c.args.label.now c.as_slice.result.now c.as_slice.ensures (Some live) c.in-Some.ensures) in
     let why = rw c.in-Err-Inval.field-0-is at c.in-Err-Inval.ensures in
-    or-stops c.refuse-in-Err-Inval.result c.refuse-in-Err-Inval.ensures
+    or-stops c.answer_errno-in-Err-Inval.result c.answer_errno-in-Err-Inval.ensures
     (answer-holds _ s s _ _ _
-    (ap (λ o. for_live s.walk c.args.number o ENOENT (λ (live : Live). requests_under s.walk c.args.number live c.args.asked c.args.backlog live.key)) found ∙ not-taken s.walk c.args.number live c.args.asked c.args.backlog live.key why)
+    (ap (λ o. for_live s.script_state c.args.number o ENOENT (λ (live : Live). requests_under s.script_state c.args.number live c.args.asked c.args.backlog live.key)) found ∙ not-taken s.script_state c.args.number live c.args.asked c.args.backlog live.key why)
     refl refl refl refl c.requires.stands c.requires.posted)
     (stops-none _ s c.requires.stands)
 
@@ -57,8 +57,8 @@ returns-in_err-accepted g c =
     let live = c.in-Some.live.now in
     let job = rw c.in-Ok-Some.field-0-is at c.in-Ok-Some.ensures in
     gives-stops s c.self.view_is c.args.label.now c.as_slice.result.now c.as_slice.ensures c.args.number live
-    (λ walk live. requests_under walk c.args.number live c.args.asked c.args.backlog live.key) (λ walk. requests_in walk c.args.number live (asked_by ask) c.args.backlog live.pipe) c.give_job.new.caller c.in-Some.ensures c.requires.none
-    (job-asks s.walk c.args.number c.self.inside.client live c.args.asked (asked_by ask) c.args.backlog live.key (ap (λ (x : State). x.walk.client) (sym c.self.view_is)) job)
+    (λ script_state live. requests_under script_state c.args.number live c.args.asked c.args.backlog live.key) (λ script_state. requests_in script_state c.args.number live (asked_by ask) c.args.backlog live.pipe) c.give_job.new.caller c.in-Some.ensures c.requires.none
+    (job-asks s.script_state c.args.number c.self.inside.client live c.args.asked (asked_by ask) c.args.backlog live.key (ap (λ (x : State). x.script_state.client) (sym c.self.view_is)) job)
     c.give_job.ensures.lock c.requires.stands c.requires.posted c.in_err-accepted.ensures.held)
 
 pub returns : goal.returns
@@ -69,9 +69,9 @@ returns g c =
     let live = c.in-Some.live.now in
     let job = rw c.in-Ok-Some.field-0-is at c.in-Ok-Some.ensures in
     give-arm s c.self.view_is c.args.label.now c.as_slice.result.now c.as_slice.ensures c.args.number live
-    (λ walk live. requests_under walk c.args.number live c.args.asked c.args.backlog live.key) (λ walk. requests_in walk c.args.number live (asked_by ask) c.args.backlog live.pipe) c.count.new.self c.give_job.new.caller c.in_ok-accepted.accepted c.size-size.result ask _ _
+    (λ script_state live. requests_under script_state c.args.number live c.args.asked c.args.backlog live.key) (λ script_state. requests_in script_state c.args.number live (asked_by ask) c.args.backlog live.pipe) c.count.new.self c.give_job.new.caller c.in_ok-accepted.accepted c.size-size.result ask _ _
     c.in-Some.ensures c.requires.none
-    (job-asks s.walk c.args.number c.self.inside.client live c.args.asked (asked_by ask) c.args.backlog live.key (ap (λ (x : State). x.walk.client) (sym c.self.view_is)) job)
+    (job-asks s.script_state c.args.number c.self.inside.client live c.args.asked (asked_by ask) c.args.backlog live.key (ap (λ (x : State). x.script_state.client) (sym c.self.view_is)) job)
     e.lock c.requires.stands c.requires.posted c.size-size.ensures e.held c.count.ensures
 
 pub returns-in-Err-Memory : goal.returns-in-Err-Memory

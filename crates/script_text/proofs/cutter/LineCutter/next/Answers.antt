@@ -1,7 +1,7 @@
 use Rattle.std.proofs.Common.{◌≡◌, false, ◌++◌, ◌∷◌, ◌+◌, ◌-◌, ℕ, List, [], Some, length, take, drop, Contains, sym, ap, subst, ◌∙◌, arith}
 use Rattle.std.proofs.lemmas.Slice.{between_to_end}
 use Rattle.std.proofs.lemmas.List.{drop-drop}
-use Rattle.script_text.specs.Pending.{Kept, IsFirstFeed, CutsNext, kept_in}
+use Rattle.script_text.specs.Pending.{CutterState, IsFirstFeed, CutsNext, kept_in}
 use Rattle.script_text.proofs.KeptLemmas.{says_in, begins_at}
 use Rattle.script_text.proofs.PendingLemmas.{Says, nothing_ends, next_cut}
 use Rattle.script_text.proofs.cutter.LineCutter.next.Goals as goal
@@ -10,7 +10,7 @@ pub returns-in_default-clause-line : goal.returns-in_default-clause-line
 returns-in_default-clause-line c =
     let all = c.deref.result.now in
     let seen = c.self.inside.seen in
-    let is : take (length all - seen) (drop seen all) ≡ c.args.self.now.unseen = between_to_end all seen (length all) (omega arith) ∙ (ap (drop seen) c.deref.ensures.value ∙ ap (λ (k : Kept). k.unseen) c.self.view_is) in
+    let is : take (length all - seen) (drop seen all) ≡ c.args.self.now.unseen = between_to_end all seen (length all) (omega arith) ∙ (ap (drop seen) c.deref.ensures.value ∙ ap (λ (k : CutterState). k.unseen) c.self.view_is) in
     nothing_ends c.args.self.now c.see_all.new.self c.see_all.ensures (subst (λ (xs : List ℕ). Contains xs 10 → ⊥) is c.in_default.ensures)
 
 pub returns-clause-line : goal.returns-clause-line
@@ -28,5 +28,5 @@ returns-clause-line c =
     says_in items (take (end - inside.at) (drop inside.at c.deref-2.result.now)) inside.at inside.seen place inside.long c.in_ok-said.said c.self.invariant.0 feed line c.in_ok-said.ensures.long c.in_ok-said.ensures.line in
     let next : kept_in items end end false ≡ record { begun = Some []; unseen = drop (place + 1) (drop inside.seen items) } =
     begins_at items end ∙ (λ i. record { begun = Some []; unseen = ((ap (λ n. drop n items) (let e : end ≡ inside.seen + (place + 1) = omega arith in e)) ∙ sym (drop-drop (place + 1) inside.seen items)) i }) in
-    subst (λ (k : Kept). CutsNext k (kept_in items end end false) (Some c.in_ok-said.said)) c.self.view_is
+    subst (λ (k : CutterState). CutsNext k (kept_in items end end false) (Some c.in_ok-said.said)) c.self.view_is
     (next_cut old (kept_in items end end false) place c.in_ok-said.said feed says next)

@@ -1,11 +1,11 @@
 use Rattle.std.proofs.Common.{◌≡◌, ◌∙◌, ◌-◌, ◌*◌, ◌%◌, ◌^◌, ◌∷◌, ℕ, ap, arith, length, replicate}
 use Rattle.std.specs.Int.{w64, to_be_bytes}
-use Rattle.sha_lanes.specs.Hashers.{Holds}
+use Rattle.sha_lanes.specs.Hashers.{HasAbsorbed}
 use Rattle.sha_lanes.proofs.Messages.{padded, zeros}
 use Rattle.sha_lanes.proofs.hasher.Sha256.finish.Goals as goal
 
 pub returns : goal.returns
-unfolding Holds
+unfolding HasAbsorbed
 returns c = λ m held.
     let used : c.args.self.length % 64 ≡ length m % 64 = omega (arith, held.0) in
     let bits : c.args.self.length * 8 % 2 ^ 64 ≡ length m * 8 % 2 ^ 64 = omega (arith, held.0) in

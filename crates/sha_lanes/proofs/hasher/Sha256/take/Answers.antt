@@ -2,19 +2,19 @@ use Rattle.std.proofs.Common.{◌≡◌, ◌∙◌, ◌+◌, ◌-◌, ◌%◌, �
 use Rattle.std.proofs.lemmas.List.{append_assoc, length-take-le, take-append-drop}
 use Rattle.std.proofs.lemmas.Slice.{take-put_mid}
 use Rattle.sha2.specs.Sha256.{initial_hash_256}
-use Rattle.sha_lanes.specs.Hashers.{Holds}
+use Rattle.sha_lanes.specs.Hashers.{HasAbsorbed}
 use Rattle.sha_lanes.proofs.Messages.{short}
 use Rattle.sha_lanes.proofs.hasher.Sha256.take.Goals as goal
 
 pub returns-then-used-eq0 : goal.returns-then-used-eq0
-unfolding Holds
+unfolding HasAbsorbed
 returns-then-used-eq0 c = λ m held. (
   omega (arith, c.take_from_edge.ensures.length, held.0, length-append m c.args.bytes.now),
   c.take_from_edge.ensures.absorbed m (omega (arith, held.0)) held.1,
 )
 
 pub returns-then-bytes-used : goal.returns-then-bytes-used
-unfolding Holds
+unfolding HasAbsorbed
 returns-then-bytes-used c = λ m held.
     let d : List ℕ = c.args.bytes.now in
     let used : ℕ = c.args.self.now.length % 64 in
@@ -26,7 +26,7 @@ returns-then-bytes-used c = λ m held.
     )
 
 pub returns-else-bytes-used : goal.returns-else-bytes-used
-unfolding Holds
+unfolding HasAbsorbed
 returns-else-bytes-used c = λ m held.
     let d : List ℕ = c.args.bytes.now in
     let used : ℕ = c.args.self.now.length % 64 in

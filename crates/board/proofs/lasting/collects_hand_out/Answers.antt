@@ -1,5 +1,0 @@
-use Rattle.board.proofs.Drained.{collect_hands_out}
-use Rattle.board.proofs.lasting.collects_hand_out.Goals as goal
-
-pub returns : goal.returns
-returns g c = collect_hands_out

@@ -1,5 +1,0 @@
-use Rattle.board.proofs.Drained as drained
-use Rattle.board.proofs.lasting.entries_join.Goals as goal
-
-pub returns : goal.returns
-returns g c = record { joins = drained.joins; leaves = drained.leaves_others; alone = drained.begins_alone }

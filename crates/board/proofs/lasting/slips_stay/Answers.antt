@@ -1,5 +1,0 @@
-use Rattle.board.proofs.Staying.{slip_stays}
-use Rattle.board.proofs.lasting.slips_stay.Goals as goal
-
-pub returns : goal.returns
-returns g c = slip_stays

@@ -1,9 +1,0 @@
-use Rattle.board.proofs.LinesHold.{lines_but, lines_but_on}
-use Rattle.board.proofs.lines.JobLines.enter.Goals as goal
-
-pub returns-then-is_err-clause-others : goal.returns-then-is_err-clause-others
-returns-then-is_err-clause-others g c =
-    lines_but_on c.args.pipe c.args.self.now c.join_all-joined.new.self c.leave.new.self (lines_but c.args.pipe c.args.self.now c.join_all-joined.new.self c.join_all-joined.ensures.kept) c.leave.ensures
-
-pub returns-else-is_err-clause-others : goal.returns-else-is_err-clause-others
-returns-else-is_err-clause-others g c = lines_but c.args.pipe c.args.self.now c.join_all-joined.new.self c.join_all-joined.ensures.kept

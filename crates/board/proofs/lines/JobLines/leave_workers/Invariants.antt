@@ -1,7 +1,0 @@
-use Rattle.std.proofs.Common.{◌≡◌}
-use Rattle.board.specs.Ready.{KeepsOthers}
-use Rattle.board.specs.Lines.{AreMade}
-use Rattle.board.proofs.lines.JobLines.leave_workers.Given as goal
-
-abbrev pub invariant-loop-before : goal.invariant-loop-before
-invariant-loop-before l = (l.self.queues ≡ l.initial.self.queues) × AreMade (KeepsOthers l.pipe) l.initial.self.own l.self.own

@@ -1,7 +1,0 @@
-use Rattle.std.proofs.Common.{◌≡◌, true, take}
-use Rattle.board.specs.Entries.{has}
-use Rattle.board.specs.Lines.{OwnAreTold}
-use Rattle.board.proofs.lines.JobLines.tell_each.Given as goal
-
-abbrev pub invariant-loop-caller : goal.invariant-loop-caller
-invariant-loop-caller l = OwnAreTold (λ c. has c (take l.caller-index l.callers) ≡ true) l.pipe l.has_job l.initial.self l.self

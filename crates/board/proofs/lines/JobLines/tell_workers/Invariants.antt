@@ -1,7 +1,0 @@
-use Rattle.std.proofs.Common.{◌≤◌}
-use Rattle.board.specs.Entries.{IsMasked}
-use Rattle.board.specs.Lines.{OwnAreTold}
-use Rattle.board.proofs.lines.JobLines.tell_workers.Given as goal
-
-abbrev pub invariant-loop-before : goal.invariant-loop-before
-invariant-loop-before l = OwnAreTold (λ c. IsMasked l.mask c × (c ≤ l.before)) l.pipe l.has_job l.initial.self l.self

@@ -1,5 +1,0 @@
-use Rattle.std.proofs.Common.{rules}
-use Rattle.script_run.proofs.beside.crew_script.Goals as goal
-
-pub returns-clause-crewed : goal.returns-clause-crewed
-returns-clause-crewed g c = let m = c.run_crew.ensures.main in (m.0, m.1, m.3, search rules, m.5)

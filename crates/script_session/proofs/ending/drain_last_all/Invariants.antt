@@ -1,9 +1,0 @@
-use Rattle.std.proofs.Common.{◌≡◌, take}
-use Rattle.dialogues.specs.Piping.{drain_all}
-use Rattle.session_calls.specs.Passes.{known, lock_of}
-use Rattle.script_session.specs.Ending.{AreAllPaid}
-use Rattle.script_session.proofs.Moving.{OnTheWay}
-use Rattle.script_session.proofs.ending.drain_last_all.Given as goal
-
-abbrev pub invariant-loop-live : goal.invariant-loop-live
-invariant-loop-live g l = OnTheWay drain_all l.live-index l.fn.lives l.lives (known l.fn.caller) (known l.caller) l.fn.answers.items l.answers.items × (lock_of l.caller ≡ lock_of l.fn.caller) × AreAllPaid (take l.live-index l.lives)

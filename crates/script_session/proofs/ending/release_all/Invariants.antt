@@ -1,9 +1,0 @@
-use Rattle.std.proofs.Common.{◌≡◌, []}
-use Rattle.dialogues.specs.Piping.{let_all_go}
-use Rattle.session_calls.specs.Passes.{known, lock_of}
-use Rattle.script_session.specs.Saying.{Tells}
-use Rattle.script_session.proofs.Moving.{OnTheWay}
-use Rattle.script_session.proofs.ending.release_all.Given as goal
-
-abbrev pub invariant-loop-live : goal.invariant-loop-live
-invariant-loop-live g l = OnTheWay let_all_go l.live-index l.fn.lives l.lives (known l.fn.caller) (known l.caller) [] [] × (lock_of l.caller ≡ lock_of l.fn.caller) × Tells (known l.fn.caller) (known l.caller) []

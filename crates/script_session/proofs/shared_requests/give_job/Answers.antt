@@ -1,0 +1,104 @@
+use Rattle.std.proofs.Common.{ap, sym, ◌∙◌, ◌++◌, ◌∷◌, [], subst}
+use Rattle.std.specs.Arc.{arc_value}
+use Rattle.board.specs.declared.entry.Entered.{Entered}
+use Rattle.board.specs.declared.entry.Entered.TheVariants.{InProgress, Busy, NoSpace}
+use Rattle.dialogues.specs.Requesting.{value_said}
+use Rattle.dialogues.specs.ScriptState.{PipelineState}
+use Rattle.recorded_calls.specs.Passes.{known}
+use Rattle.script_session.specs.Sharing.{OffersShared}
+use Rattle.script_session.proofs.Gives.{gives-said, gives-said-here, gives-entered, gives-stopped}
+use Rattle.script_session.proofs.Moving.{fails}
+use Rattle.script_session.proofs.Piped.{request-plain, request-mask_is_empty, request-big}
+use Rattle.script_session.proofs.Stopping.{giving-nothing, giving-kept}
+use Rattle.script_session.proofs.shared_requests.give_job.Goals as goal
+
+pub returns-in_default-clause-held : goal.returns-in_default-clause-held
+returns-in_default-clause-held g c =
+    gives-said-here _ c.args.live.now (known c.args.caller.now) _ _ _ c.requires.legal (λ script_state posted. request-plain script_state c.args.line c.args.live.now _ c.args.backlog (sym c.in_default.ensures))
+    (c.in_ok-say.ensures ∙ ap (λ a. c.args.answers.now.items ++ a ∷ []) (c.value_answer.ensures ∙ ap (value_said c.args.line) c.run.ensures))
+
+pub returns-then-pipe-clause-held : goal.returns-then-pipe-clause-held
+returns-then-pipe-clause-held g c =
+    gives-said-here _ c.args.live.now (known c.args.caller.now) _ _ _ c.requires.legal
+    (λ script_state posted. request-mask_is_empty script_state c.args.line c.args.live.now c.in-Some.pipe.now _ c.args.backlog (sym c.in-Some.ensures) (sym (ap (λ (p : PipelineState). p.mask_is_empty) c.pipe-2.view_is) ∙ c.if-pipe.true))
+    c.in_ok-answer_errno.ensures
+
+pub offer_shared-requires-clause-manned : goal.offer_shared-requires-clause-manned
+offer_shared-requires-clause-manned g c = sym (ap (λ (p : PipelineState). p.mask_is_empty) c.pipe-2.view_is) ∙ c.if-pipe.false
+
+pub returns-in_ok-answer_errno-in-Ok-InProgress-clause-held : goal.returns-in_ok-answer_errno-in-Ok-InProgress-clause-held
+returns-in_ok-answer_errno-in-Ok-InProgress-clause-held g c =
+    let e = c.in-Ok-InProgress.ensures in
+    let pipe = c.in-Some.pipe.now in
+    let ask = arc_value c.args.job.ask in
+    gives-entered (known c.args.caller.now) (known c.offer_shared.new.caller) c.args.live.now pipe c.args.line ask c.args.backlog (InProgress c.in-Ok-InProgress.field-0-0) _ _ (sym c.in-Some.ensures) (sym (ap (λ (p : PipelineState). p.mask_is_empty) c.pipe-2.view_is) ∙ c.if-pipe.false)
+    (subst (λ (x : Entered). OffersShared (known c.args.caller.now) (known c.offer_shared.new.caller) pipe ask c.args.backlog x) c.in-Ok-InProgress.field-0-is e.offered) e.allowed
+    c.in_ok-answer_errno-in-Ok-InProgress.ensures
+
+pub returns-in_ok-answer_errno-in-Ok-Busy-clause-held : goal.returns-in_ok-answer_errno-in-Ok-Busy-clause-held
+returns-in_ok-answer_errno-in-Ok-Busy-clause-held g c =
+    let e = c.in-Ok-Busy.ensures in
+    let pipe = c.in-Some.pipe.now in
+    let ask = arc_value c.args.job.ask in
+    gives-entered (known c.args.caller.now) (known c.offer_shared.new.caller) c.args.live.now pipe c.args.line ask c.args.backlog (Busy c.in-Ok-Busy.field-0-0) _ _ (sym c.in-Some.ensures) (sym (ap (λ (p : PipelineState). p.mask_is_empty) c.pipe-2.view_is) ∙ c.if-pipe.false)
+    (subst (λ (x : Entered). OffersShared (known c.args.caller.now) (known c.offer_shared.new.caller) pipe ask c.args.backlog x) c.in-Ok-Busy.field-0-is e.offered) e.allowed
+    c.in_ok-answer_errno-in-Ok-Busy.ensures
+
+pub returns-in_ok-answer_errno-in-Ok-NoSpace-clause-held : goal.returns-in_ok-answer_errno-in-Ok-NoSpace-clause-held
+returns-in_ok-answer_errno-in-Ok-NoSpace-clause-held g c =
+    let e = c.in-Ok-NoSpace.ensures in
+    let pipe = c.in-Some.pipe.now in
+    let ask = arc_value c.args.job.ask in
+    gives-entered (known c.args.caller.now) (known c.offer_shared.new.caller) c.args.live.now pipe c.args.line ask c.args.backlog NoSpace _ _ (sym c.in-Some.ensures) (sym (ap (λ (p : PipelineState). p.mask_is_empty) c.pipe-2.view_is) ∙ c.if-pipe.false)
+    (subst (λ (x : Entered). OffersShared (known c.args.caller.now) (known c.offer_shared.new.caller) pipe ask c.args.backlog x) c.in-Ok-NoSpace.field-0-is e.offered) e.allowed
+    c.in_ok-answer_errno-in-Ok-NoSpace.ensures
+
+pub returns-in_ok-answer_errno-in-Err-TooBig-clause-held : goal.returns-in_ok-answer_errno-in-Err-TooBig-clause-held
+returns-in_ok-answer_errno-in-Err-TooBig-clause-held g c =
+    let e = c.in-Err-TooBig.ensures in
+    gives-said _ c.args.live.now (known c.args.caller.now) (known c.offer_shared.new.caller) _ _ _ e.offered
+    (λ script_state posted. request-big script_state (known c.args.caller.now) c.args.line c.args.live.now c.in-Some.pipe.now (arc_value c.args.job.ask) c.args.backlog (sym c.in-Some.ensures) (sym (ap (λ (p : PipelineState). p.mask_is_empty) c.pipe-2.view_is) ∙ c.if-pipe.false) (e.allowed.0 c.in-Err-TooBig.field-0-is) posted)
+    c.in_ok-answer_errno-in-Err-TooBig.ensures
+
+pub returns-in_err-say-clause-held : goal.returns-in_err-say-clause-held
+returns-in_err-say-clause-held g c =
+    fails c.from_residual.result _ c.from_residual.ensures.0
+    (giving-nothing _ _ _)
+
+pub returns-in_err-answer_errno-clause-held : goal.returns-in_err-answer_errno-clause-held
+returns-in_err-answer_errno-clause-held g c =
+    fails c.from_residual-in_err-answer_errno.result _ c.from_residual-in_err-answer_errno.ensures.0
+    (giving-nothing _ _ _)
+
+pub returns-in_err-answer_errno-in-Ok-InProgress-clause-held : goal.returns-in_err-answer_errno-in-Ok-InProgress-clause-held
+returns-in_err-answer_errno-in-Ok-InProgress-clause-held g c =
+    fails c.from_residual-in_err-answer_errno-in-Ok-InProgress.result _ c.from_residual-in_err-answer_errno-in-Ok-InProgress.ensures.0
+    (let pipe = c.in-Some.pipe.now in
+    let ask = arc_value c.args.job.ask in
+    gives-stopped (known c.args.caller.now) (known c.offer_shared.new.caller) c.args.live.now pipe c.args.line ask c.args.backlog (InProgress c.in-Ok-InProgress.field-0-0) (sym c.in-Some.ensures) (sym (ap (λ (p : PipelineState). p.mask_is_empty) c.pipe-2.view_is) ∙ c.if-pipe.false)
+    (subst (λ (x : Entered). OffersShared (known c.args.caller.now) (known c.offer_shared.new.caller) pipe ask c.args.backlog x) c.in-Ok-InProgress.field-0-is c.in-Ok-InProgress.ensures.offered) c.in-Ok-InProgress.ensures.allowed)
+
+pub returns-in_err-answer_errno-in-Ok-Busy-clause-held : goal.returns-in_err-answer_errno-in-Ok-Busy-clause-held
+returns-in_err-answer_errno-in-Ok-Busy-clause-held g c =
+    fails c.from_residual-in_err-answer_errno-in-Ok-Busy.result _ c.from_residual-in_err-answer_errno-in-Ok-Busy.ensures.0
+    (let pipe = c.in-Some.pipe.now in
+    let ask = arc_value c.args.job.ask in
+    gives-stopped (known c.args.caller.now) (known c.offer_shared.new.caller) c.args.live.now pipe c.args.line ask c.args.backlog (Busy c.in-Ok-Busy.field-0-0) (sym c.in-Some.ensures) (sym (ap (λ (p : PipelineState). p.mask_is_empty) c.pipe-2.view_is) ∙ c.if-pipe.false)
+    (subst (λ (x : Entered). OffersShared (known c.args.caller.now) (known c.offer_shared.new.caller) pipe ask c.args.backlog x) c.in-Ok-Busy.field-0-is c.in-Ok-Busy.ensures.offered) c.in-Ok-Busy.ensures.allowed)
+
+pub returns-in_err-answer_errno-in-Ok-NoSpace-clause-held : goal.returns-in_err-answer_errno-in-Ok-NoSpace-clause-held
+returns-in_err-answer_errno-in-Ok-NoSpace-clause-held g c =
+    fails c.from_residual-in_err-answer_errno-in-Ok-NoSpace.result _ c.from_residual-in_err-answer_errno-in-Ok-NoSpace.ensures.0
+    (let pipe = c.in-Some.pipe.now in
+    let ask = arc_value c.args.job.ask in
+    gives-stopped (known c.args.caller.now) (known c.offer_shared.new.caller) c.args.live.now pipe c.args.line ask c.args.backlog (NoSpace) (sym c.in-Some.ensures) (sym (ap (λ (p : PipelineState). p.mask_is_empty) c.pipe-2.view_is) ∙ c.if-pipe.false)
+    (subst (λ (x : Entered). OffersShared (known c.args.caller.now) (known c.offer_shared.new.caller) pipe ask c.args.backlog x) c.in-Ok-NoSpace.field-0-is c.in-Ok-NoSpace.ensures.offered) c.in-Ok-NoSpace.ensures.allowed)
+
+pub returns-in_err-answer_errno-in-Err-TooBig-clause-held : goal.returns-in_err-answer_errno-in-Err-TooBig-clause-held
+returns-in_err-answer_errno-in-Err-TooBig-clause-held g c =
+    fails c.from_residual-in_err-answer_errno-in-Err-TooBig.result _ c.from_residual-in_err-answer_errno-in-Err-TooBig.ensures.0
+    (giving-kept _ c.args.live.now (known c.args.caller.now) (known c.offer_shared.new.caller) c.in-Err-TooBig.ensures.offered)
+
+pub returns-in-Err-Memory-clause-held : goal.returns-in-Err-Memory-clause-held
+returns-in-Err-Memory-clause-held g c =
+    giving-kept _ c.args.live.now (known c.args.caller.now) (known c.offer_shared.new.caller) c.in-Err-Memory.ensures.offered

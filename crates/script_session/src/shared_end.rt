@@ -1,0 +1,266 @@
+//! The end of input of the first script, when those have ended that shared its transforms.
+
+ghost use Rattle.std.specs.Prelude.{◌≡◌, [], false, MatchResult};
+ghost use Rattle.board.specs.Alone.{PeersGone};
+ghost use Rattle.board.specs.Legal.{LegalBoard, is_shut};
+ghost use Rattle.turn_lock.specs.Passes.{knows};
+ghost use Rattle.dialogues.specs.Piping.{lets_go, let_all_go, drains_at_end, drain_all};
+ghost use Rattle.dialogues.specs.ScriptState.{PipelineState as KnownPipe};
+ghost use Rattle.shared_board.specs.Passes.{IsPassOn};
+ghost use Rattle.recorded_calls.specs.Passes.{known, lock_of, CallsBoard};
+ghost use Rattle.recorded_calls.specs.Pipelines.{Steps, Laws, IsShut};
+ghost use Rattle.recorded_calls.specs.Sharing.{SharingLaws, KnowsGathered};
+ghost use Rattle.script_session.specs.Gathering.{IsJoined, EndsFirst, StopsFirst, SeesBeside, HasFreed, HasDelivered, MovesLent, MovesAllLent, EndsLent, AreToMove};
+ghost use Rattle.script_session.specs.Performing.{HasSeenMore};
+ghost use Rattle.script_session.specs.Lending.{HasLent};
+
+use crate::answers::put_all;
+use crate::callbacks::{count_completions, tell};
+use crate::end_of_input::say_end;
+use crate::shared_transforms::Shared;
+use crate::transform::Transform;
+use board::{
+    collects_hand_out, collects_hand_out_all, completions_in_order, entries_join, entries_leave,
+    fronts_tell_all, histories_go_on, masks_stay, numbers_in_order, only_collects_hand_out,
+    others_leave, pipelines_stay, queues_hold, shared_pipelines_stay, workers_are_left,
+    workers_finish,
+};
+use crew::Gate;
+use dialogues::board_calls_go_on;
+use kc_base::Callbacks;
+use recorded_calls::{BoardCaller, PipelineView, RequestLines, Stop, gathered_hand_out_all};
+use reply_text::{Answer, Reply};
+use shared_board::{BoardPass, SharedBoard};
+use std::alloc::Global;
+use std::sync::Wait;
+use transforms::laws::values_are_short;
+use transforms::{Ask, Finished, Job};
+
+// what an entry of a caller's own is to what it knows
+fn entry_laws()
+    ensures { Steps }
+{
+    histories_go_on::<Ask>();
+    entries_join::<Ask>();
+    entries_leave::<Ask>();
+    pipelines_stay::<Ask>();
+    queues_hold::<Ask>();
+    masks_stay::<Ask>();
+    only_collects_hand_out::<Ask>();
+    collects_hand_out::<Ask, Finished>();
+    collects_hand_out_all::<Ask>();
+    fronts_tell_all::<Ask>();
+    completions_in_order::<Ask>();
+    numbers_in_order::<Ask>();
+}
+
+// what others leave of what a caller knows of the board, and what it does itself
+fn board_laws()
+    ensures { Laws }
+{
+    others_leave::<Ask, Finished>();
+    board_calls_go_on();
+    entry_laws();
+    values_are_short();
+}
+
+// what the board's laws say of what is shared, and of what workers alone leave
+fn sharing_laws()
+    ensures { SharingLaws }
+{
+    board_laws();
+    shared_pipelines_stay::<Ask>();
+    entries_leave::<Ask>();
+    workers_are_left::<Ask>();
+    workers_finish::<Ask>();
+}
+
+// Lets the pipeline of a shared transform go, if it is held.
+fn release_shared<R: Wait>(
+    rt: &R,
+    board: &SharedBoard<Job>,
+    caller: &mut BoardCaller,
+    live: &Transform,
+) -> Result<(), Stop>
+    requires at { CallsBoard board.now caller.old }
+    requires legal { LegalBoard (known caller.old).seen }
+    requires gone { PeersGone (known caller.old) }
+    requires pipe { HasLent (known caller.old) live.now.pipe }
+    ensures lock { lock_of caller.new ≡ lock_of caller.old }
+    ensures moved { MatchResult result
+        (λ _. MovesLent HasLent HasFreed (lets_go live.now.pipe) live.now.pipe (known caller.old) (known caller.new) [] [])
+        (λ _. SeesBeside (known caller.old) (known caller.new)) }
+{
+    let Some(pipe) = live.pipe() else {
+        return Ok(());
+    };
+    if !pipe.held {
+        return Ok(());
+    }
+    caller.go_gathered(rt, board, pipe)?;
+    Ok(())
+}
+
+// Lets each held pipeline go, in order of allocation.
+fn release_shared_all<R: Wait>(
+    rt: &R,
+    board: &SharedBoard<Job>,
+    caller: &mut BoardCaller,
+    lives: &[Transform],
+) -> Result<(), Stop>
+    requires at { CallsBoard board.now caller.old }
+    requires lent { AreToMove HasLent lives.now (known caller.old) }
+    ensures lock { lock_of caller.new ≡ lock_of caller.old }
+    ensures moved { MatchResult result
+        (λ _. MovesAllLent HasFreed (let_all_go lives.now) lives.now (known caller.old) (known caller.new) [] [])
+        (λ _. SeesBeside (known caller.old) (known caller.new)) }
+{
+    for live in lives {
+        release_shared(rt, board, caller, live)?;
+    }
+    Ok(())
+}
+
+// A pipeline that was let go, of which it isn't known yet what it accepted. No memory is taken.
+fn freed(alloc: Global, pipe: &PipelineView) -> PipelineView
+    ensures { result ≡ record (pipe.now) { held = false; lines = [] } }
+{
+    PipelineView {
+        number: pipe.number,
+        bound: pipe.bound,
+        held: false,
+        mask_is_empty: pipe.mask_is_empty,
+        lines: RequestLines::new(alloc),
+        delivered: pipe.delivered,
+    }
+}
+
+// Does what jobs there are until those of a shared transform's pipeline are done, if it has one, and adds what it hands out.
+fn drain_shared<R: Wait, G: Gate>(
+    rt: &R,
+    alloc: Global,
+    board: &SharedBoard<Job>,
+    gate: &G,
+    caller: &mut BoardCaller,
+    live: &Transform,
+    answers: &mut Vec<Answer>,
+) -> Result<(), Stop>
+    requires at { CallsBoard board.now caller.old }
+    requires legal { LegalBoard (known caller.old).seen }
+    requires gone { PeersGone (known caller.old) }
+    requires pipe { HasFreed (known caller.old) live.now.pipe }
+    ensures lock { lock_of caller.new ≡ lock_of caller.old }
+    ensures moved { MatchResult result
+        (λ _. MovesLent HasFreed HasDelivered (drains_at_end live.now.label live.now.pipe) live.now.pipe (known caller.old) (known caller.new) answers.old.items answers.new.items)
+        (λ _. SeesBeside (known caller.old) (known caller.new)) }
+{
+    let Some(shared) = live.pipe() else {
+        return Ok(());
+    };
+    let mut pipe = freed(alloc, shared);
+    caller.gather(rt, alloc, board, &mut pipe)?;
+    let mut into = Callbacks::new(alloc);
+    caller.drain_gathered(rt, board, gate, &pipe, &mut into)?;
+    let count = count_completions(into.as_slice());
+    tell(&pipe.lines, into, answers)?;
+    say_end(alloc, live.label(), count, answers)?;
+    Ok(())
+}
+
+// Drains each pipeline, in order of allocation, and adds what they hand out.
+fn drain_shared_all<R: Wait, G: Gate>(
+    rt: &R,
+    alloc: Global,
+    board: &SharedBoard<Job>,
+    gate: &G,
+    caller: &mut BoardCaller,
+    lives: &[Transform],
+    answers: &mut Vec<Answer>,
+) -> Result<(), Stop>
+    requires at { CallsBoard board.now caller.old }
+    requires freed { AreToMove HasFreed lives.now (known caller.old) }
+    ensures lock { lock_of caller.new ≡ lock_of caller.old }
+    ensures moved { MatchResult result
+        (λ _. MovesAllLent HasDelivered (drain_all lives.now) lives.now (known caller.old) (known caller.new) answers.old.items answers.new.items)
+        (λ _. SeesBeside (known caller.old) (known caller.new)) }
+{
+    for live in lives {
+        drain_shared(rt, alloc, board, gate, caller, live, answers)?;
+    }
+    Ok(())
+}
+
+// Answers the end of input up to the shut.
+fn end_shared<R: Wait, G: Gate>(
+    rt: &R,
+    alloc: Global,
+    board: &SharedBoard<Job>,
+    gate: &G,
+    caller: &mut BoardCaller,
+    lives: &[Transform],
+    reply: &mut Reply,
+) -> Result<(), Stop>
+    requires at { CallsBoard board.now caller.old }
+    requires lent { AreToMove HasLent lives.now (known caller.old) }
+    ensures lock { lock_of caller.new ≡ lock_of caller.old }
+    ensures done { MatchResult result
+        (λ _. EndsLent lives.now (known caller.old) (known caller.new) reply.old.text reply.new.text)
+        (λ _. SeesBeside (known caller.old) (known caller.new)) }
+{
+    release_shared_all(rt, board, caller, lives)?;
+    let mut answers = Vec::new(alloc);
+    drain_shared_all(rt, alloc, board, gate, caller, lives, &mut answers)?;
+    put_all(reply, answers.as_slice())?;
+    Ok(())
+}
+
+// Shuts the board, beside workers alone. No memory is taken.
+fn shut_beside<R: Wait>(rt: &R, board: &SharedBoard<Job>, pass: BoardPass<Job>) -> BoardPass<Job>
+    requires lock { IsPassOn board.now pass }
+    requires gone { PeersGone (knows pass) }
+    requires once { is_shut (knows pass).seen ≡ false }
+    ensures lock { IsPassOn board.now result }
+    ensures shut { IsShut (knows pass) (knows result) }
+    ensures ended { (knows result).ended ≡ (knows pass).ended }
+    ensures gone { PeersGone (knows result) }
+    ensures gathered { (pipe : KnownPipe) → KnowsGathered (knows pass) pipe → KnowsGathered (knows result) pipe }
+{
+    sharing_laws();
+    board.shut(rt, pass)
+}
+
+/// Answers the end of input of the first script, when all have ended that were split off its pass and share its transforms: held
+/// queues are let go, each pipeline is drained of what all submitted, both in order of allocation, and then the board is shut.
+///
+/// It does what jobs there are while it waits. `Stop` comes for want of memory alone; then the board isn't shut.
+pub fn end_first<R: Wait, G: Gate>(
+    rt: &R,
+    alloc: Global,
+    board: &SharedBoard<Job>,
+    gate: &G,
+    shared: &Shared,
+    pass: BoardPass<Job>,
+    reply: &mut Reply,
+) -> (BoardPass<Job>, Result<(), Stop>)
+    requires lock { IsPassOn board.now pass }
+    requires joined { IsJoined shared.now (knows pass) }
+    ensures lock { IsPassOn board.now result.0 }
+    ensures more { HasSeenMore (knows pass) (knows result.0) }
+    ensures ended { (knows result.0).ended ≡ (knows pass).ended }
+    ensures done { MatchResult result.1
+        (λ _. EndsFirst shared.now (knows pass) (knows result.0) reply.old.text reply.new.text)
+        (λ _. StopsFirst (knows pass) (knows result.0)) }
+{
+    only_collects_hand_out::<Ask>();
+    gathered_hand_out_all();
+    let mut caller = BoardCaller::new(pass);
+    caller.meet(rt, board);
+    let lives = shared.transforms.as_slice();
+    match end_shared(rt, alloc, board, gate, &mut caller, lives, reply) {
+        Ok(()) => (shut_beside(rt, board, caller.into_pass()), Ok(())),
+        Err(stop) => {
+            caller.meet(rt, board);
+            (caller.into_pass(), Err(stop))
+        }
+    }
+}

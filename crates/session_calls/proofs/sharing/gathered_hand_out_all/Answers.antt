@@ -1,5 +1,0 @@
-use Rattle.session_calls.proofs.Gathers.{hands-all}
-use Rattle.session_calls.proofs.sharing.gathered_hand_out_all.Goals as goal
-
-pub returns : goal.returns
-returns c = hands-all c.completions_in_order.ensures.handed

@@ -1,9 +1,0 @@
-use Rattle.session_calls.proofs.Lendings.{lent-is-shared}
-use Rattle.session_calls.proofs.Sharings.{knows-shared-on}
-use Rattle.session_calls.proofs.sharing.shared_is_known.Goals as goal
-
-pub returns-clause-stays : goal.returns-clause-stays
-returns-clause-stays c = knows-shared-on c.sharing_laws.ensures
-
-pub returns-clause-lent : goal.returns-clause-lent
-returns-clause-lent c = lent-is-shared

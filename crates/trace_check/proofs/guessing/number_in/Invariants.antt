@@ -1,6 +1,0 @@
-use Rattle.std.proofs.Common.{◌≡◌, drop}
-use Rattle.trace_check.specs.Guessing.{number_from}
-use Rattle.trace_check.proofs.guessing.number_in.Given as goal
-
-abbrev pub invariant-loop-digit : goal.invariant-loop-digit
-invariant-loop-digit l = number_from l.value (drop l.digit-index l.word) ≡ number_from 0 l.word

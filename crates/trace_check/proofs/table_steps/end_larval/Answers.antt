@@ -1,0 +1,11 @@
+use Rattle.std.proofs.Common.{arith, refl}
+use Rattle.alg_registry.specs.Calls.{ended_larval}
+use Rattle.trace_check.specs.Registers.{larval_of}
+use Rattle.trace_check.proofs.Changes.{changed, unchanged}
+use Rattle.trace_check.proofs.table_steps.end_larval.Goals as goal
+
+pub returns-then-place-larvals : goal.returns-then-place-larvals
+returns-then-place-larvals c = changed larval_of (ended_larval c.args.ended) c.args.larvals.now c.args.number c.index-larvals-place.result _ refl
+
+pub returns-else-place-larvals : goal.returns-else-place-larvals
+returns-else-place-larvals c = unchanged larval_of (ended_larval c.args.ended) c.args.larvals.now c.args.number (omega arith)
