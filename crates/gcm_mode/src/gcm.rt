@@ -131,8 +131,9 @@ impl<C: BlockCipher + Drop, H: GhashKey + Drop> Gcm<C, H> {
         tag
     }
 
-    /// The tag, from GHASH of the associated bytes and the ciphertext, and their lengths.
-    pub(crate) fn seal_hash(
+    /// The full tag, from GHASH of the associated bytes and of the ciphertext, each padded to whole blocks, and from the
+    /// lengths of both in bytes (7.1, steps 4 to 6).
+    pub fn seal_hash(
         &self,
         iv: &[u8; 12],
         hash: u128,
@@ -141,8 +142,8 @@ impl<C: BlockCipher + Drop, H: GhashKey + Drop> Gcm<C, H> {
     ) -> [u8; 16]
         requires associated_short { associated_len < 2 ^ 32 }
         requires text_short { text_len < 2 ^ 32 }
-        ensures { result ≡ gctr (C.sealed self.now) (pre_counter_block iv.now)
-            (bytes_of (field_product (bit_xor hash (associated_len * 8 * 2 ^ 64 + text_len * 8)) (hash_subkey (C.sealed self.now)))) }
+        ensures tag { result ≡ gctr (C.sealed self.now) (pre_counter_block iv.now) (bytes_of (field_product
+            (bit_xor hash (associated_len * 8 * 2 ^ 64 + text_len * 8)) (hash_subkey (C.sealed self.now)))) }
     {
         let lengths = lengths_of(associated_len, text_len);
         let mut tag = block_bytes(self.key.product(hash ^ lengths));
@@ -150,8 +151,8 @@ impl<C: BlockCipher + Drop, H: GhashKey + Drop> Gcm<C, H> {
         tag
     }
 
-    /// The key of GHASH.
-    pub(crate) fn key(&self) -> &H
+    /// The hash subkey, as the key of GHASH.
+    pub fn key(&self) -> &H
         ensures { H.block result.now ≡ hash_subkey (C.sealed self.now) }
     {
         &self.key

@@ -12,3 +12,4 @@ mod segments;
 
 pub use gcm::{Gcm, takes_gcm_tag};
 pub use rfc4106::{Rfc4106, takes_rfc4106_tag};
+pub use segments::{KeyStream, TextHash};

@@ -1,7 +1,7 @@
 //! GCM over a text in segments.
 
 ghost use Rattle.std.specs.Prelude.{◌≡◌, ◌^◌, ◌<◌, All, length, IsTrue};
-ghost use Rattle.std_defs.specs.Gcm.{gctr, gcm_tag, gcm_seal, gcm_open, gcm_takes_tag, padded_blocks};
+ghost use Rattle.std_defs.specs.Gcm.{inc32, pre_counter_block, gctr, gcm_tag, gcm_seal, gcm_open, gcm_takes_tag, padded_blocks};
 ghost use Rattle.std_defs.specs.Value.{or_bad_message};
 ghost use Rattle.std_defs.proofs.Horner.{horner};
 ghost use Rattle.aes_block.specs.Opened.{Opens};
@@ -15,15 +15,15 @@ use kc_base::Errno;
 use sg_walk::{Segs, Walker};
 use std::marker::Model;
 
-/// The key stream on its way over a text: contracts see the cipher and the counter block of what comes next, as a
-/// number.
+/// The key stream on its way over a text (7.1, step 3): contracts see the cipher and the counter block of what comes
+/// next, as a number.
 #[derive(Drop)]
-struct Counting<'a, C: BlockCipher + Drop> {
+pub struct KeyStream<'a, C: BlockCipher + Drop> {
     cipher: &'a C,
     next: u128,
 }
 
-impl<'a, C: BlockCipher + Drop> Model for Counting<'a, C> {
+impl<'a, C: BlockCipher + Drop> Model for KeyStream<'a, C> {
     ghost use Rattle.std.specs.Prelude.{ℕ};
 
     ghost Value = { C × ℕ };
@@ -31,7 +31,19 @@ impl<'a, C: BlockCipher + Drop> Model for Counting<'a, C> {
     ghost view = { λ at. (at.cipher.now, at.next) };
 }
 
-impl<'a, C: BlockCipher + Drop> Walker for Counting<'a, C> {
+impl<'a, C: BlockCipher + Drop> KeyStream<'a, C> {
+    /// The key stream of a whole text. `iv` must be new under this key.
+    pub fn new(cipher: &'a C, iv: &[u8; 12]) -> KeyStream<'a, C>
+        ensures { result ≡ (cipher.now, inc32 (pre_counter_block iv.now)) }
+    {
+        KeyStream {
+            cipher,
+            next: first_counter(iv),
+        }
+    }
+}
+
+impl<'a, C: BlockCipher + Drop> Walker for KeyStream<'a, C> {
     ghost makes = { λ u text made v. Counts C.sealed u text made v };
 
     ghost stays = { λ walker. counts_none C.sealed walker };
@@ -44,14 +56,14 @@ impl<'a, C: BlockCipher + Drop> Walker for Counting<'a, C> {
     }
 }
 
-/// GHASH on its way over a text, which stays: contracts see the key and the hash of what was gone over.
+/// GHASH on its way over a ciphertext, which stays: contracts see the key and the hash of what was gone over.
 #[derive(Drop)]
-struct Hashing<'a, H: GhashKey + Drop> {
+pub struct TextHash<'a, H: GhashKey + Drop> {
     key: &'a H,
     hash: u128,
 }
 
-impl<'a, H: GhashKey + Drop> Model for Hashing<'a, H> {
+impl<'a, H: GhashKey + Drop> Model for TextHash<'a, H> {
     ghost use Rattle.std.specs.Prelude.{ℕ, ◌<◌, ◌^◌};
 
     ghost Value = { H × ℕ };
@@ -66,7 +78,26 @@ fn are_bytes(text: &[u8])
     ensures { All (λ x. x < 256) text.now }
 {}
 
-impl<'a, H: GhashKey + Drop> Walker for Hashing<'a, H> {
+impl<'a, H: GhashKey + Drop> TextHash<'a, H> {
+    /// GHASH of the associated bytes, padded to whole blocks.
+    pub fn new(key: &'a H, associated: &[u8]) -> TextHash<'a, H>
+        ensures { result ≡ (key.now, horner (H.block key.now) 0 (padded_blocks associated.now)) }
+    {
+        TextHash {
+            key,
+            hash: absorb(key, 0, associated),
+        }
+    }
+
+    /// What was gone over, hashed.
+    pub fn hash(&self) -> u128
+        ensures { result ≡ self.now.1 }
+    {
+        self.hash
+    }
+}
+
+impl<'a, H: GhashKey + Drop> Walker for TextHash<'a, H> {
     ghost makes = { λ u text made v. Hashes H.block u text made v };
 
     ghost stays = { λ walker. hashes_none H.block walker };
@@ -85,11 +116,11 @@ fn count_over<C: BlockCipher + Drop>(cipher: &C, initial: u128, text: &mut Segs)
     ensures sizes { text.new.sizes ≡ text.old.sizes }
     ensures len { length text.new.text ≡ length text.old.text }
 {
-    let mut counting = Counting {
+    let mut stream = KeyStream {
         cipher,
         next: initial,
     };
-    text.walk(&mut counting);
+    text.walk(&mut stream);
 }
 
 /// GHASH carried on from `hash` over the text, which stays.
@@ -99,9 +130,9 @@ fn hash_over<H: GhashKey + Drop>(key: &H, hash: u128, text: &mut Segs) -> u128
     ensures text { text.new.text ≡ text.old.text }
     ensures sizes { text.new.sizes ≡ text.old.sizes }
 {
-    let mut hashing = Hashing { key, hash };
-    text.walk(&mut hashing);
-    hashing.hash
+    let mut hashed = TextHash { key, hash };
+    text.walk(&mut hashed);
+    hashed.hash
 }
 
 impl<C: BlockCipher + Drop, H: GhashKey + Drop> Gcm<C, H> {

@@ -1,6 +1,6 @@
 use Rattle.std.proofs.Common.{refl}
 use Rattle.gcm_mode.proofs.Tag.{absorbed}
-use Rattle.gcm_mode.proofs.segments.HashingWalker.step.Goals as goal
+use Rattle.gcm_mode.proofs.segments.TextHashWalker.step.Goals as goal
 
 pub returns : goal.returns
 returns g c =
