@@ -142,7 +142,7 @@ impl<C: BlockCipher + Drop, H: GhashKey + Drop> Gcm<C, H> {
     ) -> [u8; 16]
         requires associated_short { associated_len < 2 ^ 32 }
         requires text_short { text_len < 2 ^ 32 }
-        ensures tag { result ≡ gctr (C.sealed self.now) (pre_counter_block iv.now) (bytes_of (field_product
+        ensures { result ≡ gctr (C.sealed self.now) (pre_counter_block iv.now) (bytes_of (field_product
             (bit_xor hash (associated_len * 8 * 2 ^ 64 + text_len * 8)) (hash_subkey (C.sealed self.now)))) }
     {
         let lengths = lengths_of(associated_len, text_len);

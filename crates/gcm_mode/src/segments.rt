@@ -83,10 +83,9 @@ impl<'a, H: GhashKey + Drop> TextHash<'a, H> {
     pub fn new(key: &'a H, associated: &[u8]) -> TextHash<'a, H>
         ensures { result ≡ (key.now, horner (H.block key.now) 0 (padded_blocks associated.now)) }
     {
-        TextHash {
-            key,
-            hash: absorb(key, 0, associated),
-        }
+        are_bytes(associated);
+        let hash = absorb(key, 0, associated);
+        TextHash { key, hash }
     }
 
     /// What was gone over, hashed.
