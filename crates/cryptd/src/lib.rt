@@ -33,9 +33,18 @@ impl<J, F> Model for Cryptd<J, F> {
 
     ghost Value = { Server J F };
 
-    ghost view = { λ c. record { line = c.queue; held = c.held; busy = c.busy; passed = c.passed; pending = c.pending.items; spare = c.spare } };
+    ghost view = { λ c. record {
+      line = c.queue;
+      held = c.held;
+      busy = c.busy;
+      passed = c.passed;
+      pending = c.pending.items;
+      spare = c.spare;
+    } };
 
-    ghost invariant = { λ c. (c.spare ≤ c.queue.spare) × (deque_len c.pending + 2 * (length c.queue.waiting + c.spare) + (if c.busy then 1 else 0) + c.passed ≤ deque_capacity c.pending) };
+    ghost invariant = { λ c. (c.spare ≤ c.queue.spare)
+        × (deque_len c.pending + 2 * (length c.queue.waiting + c.spare) + (if c.busy then 1 else 0) + c.passed
+        ≤ deque_capacity c.pending) };
 }
 
 impl<J: Drop, F: Drop> Cryptd<J, F> {
@@ -71,21 +80,26 @@ impl<J: Drop, F: Drop> Cryptd<J, F> {
 
     /// Whether a job would be served now: some wait, none runs, and the queue isn't held.
     pub fn may_serve(&self) -> bool
-        ensures { MatchBool result ((self.now.held ≡ false) × (self.now.busy ≡ false) × (0 < length self.now.line.waiting)) ((self.now.held ≡ true) ⊎ ((self.now.busy ≡ true) ⊎ (self.now.line.waiting ≡ []))) }
+        ensures { MatchBool result
+            ((self.now.held ≡ false) × (self.now.busy ≡ false) × (0 < length self.now.line.waiting))
+            ((self.now.held ≡ true) ⊎ ((self.now.busy ≡ true) ⊎ (self.now.line.waiting ≡ []))) }
     {
         !self.held && !self.busy && self.queue.len() > 0
     }
 
     /// Whether each accepted job is done.
     pub fn is_idle(&self) -> bool
-        ensures { MatchBool result ((self.now.busy ≡ false) × (length self.now.line.waiting ≡ 0)) ((self.now.busy ≡ true) ⊎ (0 < length self.now.line.waiting)) }
+        ensures { MatchBool result
+            ((self.now.busy ≡ false) × (length self.now.line.waiting ≡ 0))
+            ((self.now.busy ≡ true) ⊎ (0 < length self.now.line.waiting)) }
     {
         !self.busy && self.queue.len() == 0
     }
 
     /// Makes room for `n` more jobs at least, and for what is told of them. Want of memory leaves the rest as it was.
     pub fn reserve(&mut self, n: usize) -> Result<(), AllocError>
-        ensures same { record self.new { spare = 0; line = record self.new.line { spare = 0 } } ≡ record self.old { spare = 0; line = record self.old.line { spare = 0 } } }
+        ensures same { record self.new { spare = 0; line = record self.new.line { spare = 0 } }
+            ≡ record self.old { spare = 0; line = record self.old.line { spare = 0 } } }
         ensures room { OnOk result (n ≤ self.new.spare) }
         ensures kept { self.old.spare ≤ self.new.spare }
     {
@@ -117,7 +131,10 @@ impl<J: Drop, F: Drop> Cryptd<J, F> {
         requires number { number ≡ accepted self.old.line }
         requires small { number < 2 ^ 63 }
         ensures verdict { result ≡ verdict_on (length self.old.line.waiting) self.old.line.max backlog job }
-        ensures server { self.new ≡ record self.old { line = line_after self.old.line job result; spare = spare_after self.old.spare result } }
+        ensures server { self.new ≡ record self.old {
+          line = line_after self.old.line job result;
+          spare = spare_after self.old.spare result;
+        } }
     {
         let verdict = self.queue.enqueue(number, job, backlog);
         match &verdict {
@@ -145,7 +162,16 @@ impl<J: Drop, F: Drop> Cryptd<J, F> {
     /// queue is either served or passed on: none may be passed on that isn't released.
     pub fn serve(&mut self) -> Option<Served<J>>
         requires apart { self.old.passed ≡ 0 }
-        ensures { MatchOption result (((self.old.held ≡ true) ⊎ ((self.old.busy ≡ true) ⊎ (self.old.line.waiting ≡ []))) × (self.new ≡ self.old)) (λ s. (self.old.held ≡ false) × (self.old.busy ≡ false) × (s.number ≡ self.old.line.served) × (s.started ≡ number_at_bound self.old.line) × (self.old.line.waiting ≡ s.item ∷ self.new.line.waiting) × (self.new ≡ record self.old { line = record self.old.line { served = self.old.line.served + 1; waiting = self.new.line.waiting }; busy = true; pending = self.old.pending ++ started_callback s.started })) }
+        ensures { MatchOption result
+            (((self.old.held ≡ true) ⊎ ((self.old.busy ≡ true) ⊎ (self.old.line.waiting ≡ []))) × (self.new ≡ self.old))
+            (λ s. (self.old.held ≡ false) × (self.old.busy ≡ false)
+            × (s.number ≡ self.old.line.served) × (s.started ≡ number_at_bound self.old.line)
+            × (self.old.line.waiting ≡ s.item ∷ self.new.line.waiting)
+            × (self.new ≡ record self.old {
+              line = record self.old.line { served = self.old.line.served + 1; waiting = self.new.line.waiting };
+              busy = true;
+              pending = self.old.pending ++ started_callback s.started;
+            })) }
     {
         if self.held || self.busy {
             return None;
@@ -171,7 +197,16 @@ impl<J: Drop, F: Drop> Cryptd<J, F> {
     /// not be busy.
     pub fn pass_on(&mut self) -> Option<Served<J>>
         requires apart { self.old.busy ≡ false }
-        ensures { MatchOption result (((self.old.held ≡ true) ⊎ (self.old.line.waiting ≡ [])) × (self.new ≡ self.old)) (λ s. (self.old.held ≡ false) × (s.number ≡ self.old.line.served) × (s.started ≡ number_at_bound self.old.line) × (self.old.line.waiting ≡ s.item ∷ self.new.line.waiting) × (self.new ≡ record self.old { line = record self.old.line { served = self.old.line.served + 1; waiting = self.new.line.waiting }; passed = self.old.passed + 1; pending = self.old.pending ++ started_callback s.started })) }
+        ensures { MatchOption result
+            (((self.old.held ≡ true) ⊎ (self.old.line.waiting ≡ [])) × (self.new ≡ self.old))
+            (λ s. (self.old.held ≡ false)
+            × (s.number ≡ self.old.line.served) × (s.started ≡ number_at_bound self.old.line)
+            × (self.old.line.waiting ≡ s.item ∷ self.new.line.waiting)
+            × (self.new ≡ record self.old {
+              line = record self.old.line { served = self.old.line.served + 1; waiting = self.new.line.waiting };
+              passed = self.old.passed + 1;
+              pending = self.old.pending ++ started_callback s.started;
+            })) }
     {
         if self.held {
             return None;

@@ -86,7 +86,8 @@ fn add_blocks<T: Text>(chains: &mut [[u8; 16]; 8], texts: &[T], lengths: &[usize
 fn put_blocks<T: Text>(texts: &mut [T], chains: &[[u8; 16]; 8], lengths: &[usize; 8], i: usize)
     requires { AreWhole T.bytes_of lengths.now texts.old }
     ensures put { (n : ℕ) → n < 8 → i < slice_index lengths.now n / 16 → text_in T.bytes_of texts.new n
-        ≡ take (16 * i) (text_in T.bytes_of texts.old n) ++ slice_index_or chains.now n [] ++ drop (16 * i + 16) (text_in T.bytes_of texts.old n) }
+        ≡ take (16 * i) (text_in T.bytes_of texts.old n) ++ slice_index_or chains.now n []
+        ++ drop (16 * i + 16) (text_in T.bytes_of texts.old n) }
     ensures kept { (n : ℕ) → n < 8 → slice_index lengths.now n / 16 ≤ i → text_in T.bytes_of texts.new n ≡ text_in T.bytes_of texts.old n }
     ensures same { (n : ℕ) → length (text_in T.bytes_of texts.new n) ≡ length (text_in T.bytes_of texts.old n) }
     ensures count { length texts.new ≡ length texts.old }

@@ -49,7 +49,8 @@ impl<T> Model for Queue<T> {
 
     ghost view = { λ q. record { max = q.max; served = q.served; waiting = q.waiting.items; spare = q.spare } };
 
-    ghost invariant = { λ q. (1 ≤ q.max) × (q.served + deque_len q.waiting ≤ 2 ^ 63) × (deque_len q.waiting + q.spare ≤ deque_capacity q.waiting) };
+    ghost invariant = { λ q. (1 ≤ q.max) × (q.served + deque_len q.waiting ≤ 2 ^ 63)
+        × (deque_len q.waiting + q.spare ≤ deque_capacity q.waiting) };
 }
 
 impl<T: Drop> Queue<T> {
@@ -127,7 +128,11 @@ impl<T: Drop> Queue<T> {
     /// The first item leaves, or `None` exactly where the queue is empty. The item at place `max`, if there is one, is
     /// then out of the backlog.
     pub fn dequeue(&mut self) -> Option<Served<T>>
-        ensures { MatchOption result ((self.old.waiting ≡ []) × (self.new ≡ self.old)) (λ s. (s.number ≡ self.old.served) × (s.started ≡ number_at_bound self.old) × (self.old.waiting ≡ s.item ∷ self.new.waiting) × (self.new ≡ record self.old { served = self.old.served + 1; waiting = self.new.waiting })) }
+        ensures { MatchOption result
+            ((self.old.waiting ≡ []) × (self.new ≡ self.old))
+            (λ s. (s.number ≡ self.old.served) × (s.started ≡ number_at_bound self.old)
+            × (self.old.waiting ≡ s.item ∷ self.new.waiting)
+            × (self.new ≡ record self.old { served = self.old.served + 1; waiting = self.new.waiting })) }
     {
         let started = if (self.max as usize) < self.waiting.len() {
             Some(self.served + self.max as u64)

@@ -39,7 +39,8 @@ fn look_for(
     plain: bool,
 ) -> Result<Looked, BuildErr>
     requires { IsTrue (plain || not (is_worker caller)) }
-    ensures answer { IfOk result (λ answer. look_answer (rows_of registry.old) (larvals_of registry.old) (spelling name.now) plain ≡ answer) }
+    ensures answer { IfOk result
+        (λ answer. look_answer (rows_of registry.old) (larvals_of registry.old) (spelling name.now) plain ≡ answer) }
     ensures history { IfOk result (λ answer. registry.new ≡ registry.old ++ RegEntry.Look caller (spelling name.now) plain answer ∷ []) }
     ensures legal { OnOk result (LegalReg registry.old) }
     ensures memory { IfErr result (λ e. (e ≡ BuildErr.Memory) × (registry.new ≡ registry.old)) }
@@ -130,7 +131,8 @@ fn resolve_children(
     requires begun { IsOpen caller larval name.now registry.old }
     requires asked { children_of name.now ≡ Ok asked.now }
     requires nested { is_nested_well name.now ≡ true }
-    ensures ok { IfOk result (λ ids. LooksCome caller larval (Ok ids.items) registry.old registry.new × (length ids.items ≡ length asked.now)) }
+    ensures ok { IfOk result (λ ids. LooksCome caller larval (Ok ids.items) registry.old registry.new
+        × (length ids.items ≡ length asked.now)) }
     ensures err { IfErr result (λ e. ChildFailed caller larval registry.old registry.new e) }
 {
     let mut ids = Vec::new(alloc);

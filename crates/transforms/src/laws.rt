@@ -20,13 +20,15 @@ pub fn drivers_have_values()
     ensures planned { (plan : Plan) → plan_at (driver_of plan) ≡ Some plan }
     ensures unwrapped { (driver : Tree) (plan : Plan) → plan_at driver ≡ Some plan → unwrapped driver ≡ driver_of plan }
     ensures wrapped { (driver : Tree) (plan : Plan) → plan_at driver ≡ Some plan → request_value driver ≡ request_value (driver_of plan) }
-    ensures asks { (ask : Ask) (driver : Tree) → plan_at driver ≡ Some (arc_value ask.keyed).0 → ask_value ask ≡ request_value driver (arc_value ask.keyed).1 ask.authsize ask.request }
+    ensures asks { (ask : Ask) (driver : Tree) → plan_at driver ≡ Some (arc_value ask.keyed).0
+        → ask_value ask ≡ request_value driver (arc_value ask.keyed).1 ask.authsize ask.request }
 {}
 
 /// How the text of a request is cut into segments changes nothing: with its text in one segment the request has the same value, and
 /// is taken by the same plans.
 pub fn cuts_change_nothing()
-    ensures value { (driver : Tree) (key : List ℕ) (n : ℕ) (q : Request) → request_value driver key n q ≡ request_value driver key n (uncut q) }
+    ensures value { (driver : Tree) (key : List ℕ) (n : ℕ) (q : Request)
+        → request_value driver key n q ≡ request_value driver key n (uncut q) }
     ensures taken { (plan : Plan) (n : ℕ) (q : Request) → takes plan n q ≡ takes plan n (uncut q) }
 {}
 

@@ -36,7 +36,9 @@ impl Told for Log {
 
 impl Log {
     fn add(&mut self, by: u32, place: u32) -> Result<(), AllocError>
-        ensures { MatchResult result (λ _. self.new.entries.items ≡ self.old.entries.items ++ record { by = by; place = place } ∷ []) (λ _. self.new.entries.items ≡ self.old.entries.items) }
+        ensures { MatchResult result
+            (λ _. self.new.entries.items ≡ self.old.entries.items ++ record { by = by; place = place } ∷ [])
+            (λ _. self.new.entries.items ≡ self.old.entries.items) }
     {
         self.entries.push(Entry { by, place })?;
         Ok(())
