@@ -201,7 +201,9 @@ pub fn drain<W: Work, G: Gate, R: Wait>(
     requires caller { MayManage (entries_of pipe (knows pass).seen) (knows pass).number }
     requires pipe { IsOpen (entries_of pipe (knows pass).seen) }
     ensures lock { IsPassOn board.now result.0 }
-    ensures drained { MatchResult result.1 (λ _. Drained W.meaning pipe (knows pass) (knows result.0) into.old.list into.new.list) (λ e. (e ≡ BoardErr.Memory) × (into.new.list ≡ into.old.list) × Worked (knows pass) (knows result.0)) }
+    ensures drained { MatchResult result.1
+        (λ _. Drained W.meaning pipe (knows pass) (knows result.0) into.old.list into.new.list)
+        (λ e. (e ≡ BoardErr.Memory) × (into.new.list ≡ into.old.list) × Worked (knows pass) (knows result.0)) }
 {
     others_leave::<W::Ask, W::Out>();
     let mut mine = pass;

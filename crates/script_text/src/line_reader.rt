@@ -130,7 +130,8 @@ impl LineReader {
     /// out before; `TooLong` exactly where it gave more bytes than may come; `NoMemory` where memory is wanting. After an error
     /// what is left isn't told.
     pub fn next<S: Source>(&mut self, src: &mut S) -> Result<Option<Line>, InputError>
-        ensures line { (pending : List ℕ) → StandsAt pending self.old (S.left src.old) → FindsNext pending self.old self.new (S.left src.old) (S.left src.new) result }
+        ensures line { (pending : List ℕ) → StandsAt pending self.old (S.left src.old)
+            → FindsNext pending self.old self.new (S.left src.old) (S.left src.new) result }
         ensures short { IfOk result (λ answer. IfSome answer IsShortLine) }
         ensures later { S.faults src.old ≤ S.faults src.new }
         ensures cause { IsErrOf result InputError.Failed → Rose (S.faults src.old) (S.faults src.new) }

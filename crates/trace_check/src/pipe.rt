@@ -360,7 +360,10 @@ impl Pipeline {
 
     // The end of a request that runs.
     fn judge_end(&self, caller: u32, number: u64, such: bool) -> Option<Reason>
-        ensures { result ≡ reason_of (such && passes runs (state_of self.now) number) (passes (runs_by caller) (state_of self.now) number) true true }
+        ensures { result ≡ reason_of
+            (such && passes runs (state_of self.now) number)
+            (passes (runs_by caller) (state_of self.now) number)
+            true true }
     {
         reason_of(
             such && self.runs(number),
@@ -371,7 +374,11 @@ impl Pipeline {
     }
 
     fn judge_take(&self, caller: u32, number: u64) -> Option<Reason>
-        ensures { result ≡ reason_of (is_open_as has_lists (state_of self.now) && (nat_lt number (passed_by (state_of self.now)) && passes waits (state_of self.now) number)) (may_take (state_of self.now) caller) true true }
+        ensures { result ≡ reason_of
+            (is_open_as has_lists (state_of self.now)
+            && (nat_lt number (passed_by (state_of self.now)) && passes waits (state_of self.now) number))
+            (may_take (state_of self.now) caller)
+            true true }
     {
         reason_of(
             self.has_open_lists() && (number < self.passed() && self.waits(number)),
