@@ -4,11 +4,10 @@ use Rattle.std.proofs.lemmas.Bool.{cases_lt}
 use Rattle.std.specs.List.{filter_map}
 use Rattle.std.proofs.Math.Seq.{take-length}
 use Rattle.std.proofs.Math.ListN.{drop_of_length-le}
-use Rattle.padata_core.specs.Pad.{Pad, ready, done_from, running_of}
+use Rattle.padata_core.specs.Pad.{Pad, ready, done_from, running_of, emptied}
 use Rattle.cryptd.specs.Server.{Server}
 use Rattle.board.specs.declared.entry.BoardEntry.{BoardEntry}
 use Rattle.board.specs.declared.entry.BoardEntry.TheVariants.{Collect}
-use Rattle.board.specs.Stages.{emptied}
 use Rattle.board.specs.Shapes.{max_born, pad_born}
 use Rattle.board.specs.Entries.{Notice, birth, accepted_in, submissions, dequeued_in, dequeues, passed_on, front, completes_from, told, tells, held_in, is_held, last_or, collected, callback_of, delivered}
 use Rattle.board.specs.Order.{AreRightForAfter}

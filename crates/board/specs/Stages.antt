@@ -2,9 +2,9 @@
 use Rattle.std.specs.Prelude.{◌≡◌, ℕ, ◌+◌, ◌-◌, ◌<◌, ◌≤◌, ◌⊎◌, Bool, true, false, nat_lt, if◌then◌else◌, List, [], ◌∷◌, ◌++◌, length, take, drop, Option, Some, None, slice_get, slice_set}
 use Rattle.kc_base.specs.declared.callback_list.Callback.{Callback}
 use Rattle.kc_base.specs.declared.callback_list.Callback.TheVariants as callback
-use Rattle.padata_core.specs.Pad.{Pad, taken_of, submitted_of, ready, done_from, running_of}
+use Rattle.padata_core.specs.Pad.{Pad, taken_of, submitted_of, ready, with_taken, emptied, done_from, running_of}
 use Rattle.request_queue.specs.Line.{accepted, number_at_bound}
-use Rattle.cryptd.specs.Server.{Server, started_callback}
+use Rattle.cryptd.specs.Server.{Server, started_callback, bare, ServesNone}
 use Rattle.board.specs.declared.entry.Entered.{Entered}
 use Rattle.board.specs.declared.entry.Entered.TheVariants.{InProgress, Busy, NoSpace}
 use Rattle.board.specs.declared.stage.Stage.{Stage}
@@ -41,9 +41,6 @@ abbrev pub IsPlaced : {J O : Type 0} → Stage J O → Type 0
 IsPlaced (stage.Pad pad) = Unit {0}
 IsPlaced (stage.Queue line) = Unit {0}
 IsPlaced (stage.Chain c) = length c.line.line.waiting ≤ c.pad.spare
-
-abbrev pub bare : {J O : Type 0} → Server J O → Server J O
-bare line = record line { spare = 0; line = record line.line { spare = 0 } }
 
 abbrev pub bare_pad : {J O : Type 0} → Pad J O → Pad J O
 bare_pad pad = record pad { spare = 0 }
@@ -128,11 +125,7 @@ MayEnd (stage.Chain c) n = Runs c.pad n × IsJoined c.line c.pad
 abbrev pub with_outcome : {J O : Type 0} → Pad J O → ℕ → O → Pad J O
 with_outcome pad n out = record pad { outcomes = slice_set pad.outcomes (n - pad.collected) (Some out) }
 
--- what is ready leaves the pad
-abbrev pub emptied : {J O : Type 0} → Pad J O → Pad J O
-emptied pad = record pad { collected = pad.collected + length (ready pad.outcomes); outcomes = drop (length (ready pad.outcomes)) pad.outcomes }
-
--- and is told by the line
+-- what is ready leaves a chain's pad, and its line tells it
 abbrev pub released : {J O : Type 0} → Server J O → Pad J O → Server J O
 released line pad =
     record line { passed = line.passed - length (ready pad.outcomes); pending = line.pending ++ done_from pad.collected (ready pad.outcomes) }
@@ -155,13 +148,10 @@ jobs_of (stage.Pad pad) = pad.waiting
 jobs_of (stage.Queue line) = line.line.waiting
 jobs_of (stage.Chain c) = c.pad.waiting
 
-abbrev pub is_quiet_line : {J O : Type 0} → Server J O → Type 0
-is_quiet_line line = (line.held ≡ true) ⊎ ((line.busy ≡ true) ⊎ (line.line.waiting ≡ []))
-
 -- no job may be taken
 abbrev pub IsQuiet : {J O : Type 0} → Stage J O → Type 0
 IsQuiet (stage.Pad pad) = pad.waiting ≡ []
-IsQuiet (stage.Queue line) = is_quiet_line line
+IsQuiet (stage.Queue line) = ServesNone line
 IsQuiet (stage.Chain c) = c.pad.waiting ≡ []
 
 -- a job may be taken
@@ -180,7 +170,7 @@ MayPass (stage.Chain c) = (c.line.held ≡ false) × (c.line.busy ≡ false) × 
 abbrev pub PassesNone : {J O : Type 0} → Stage J O → Type 0
 PassesNone (stage.Pad pad) = Unit {0}
 PassesNone (stage.Queue line) = Unit {0}
-PassesNone (stage.Chain c) = is_quiet_line c.line
+PassesNone (stage.Chain c) = ServesNone c.line
 
 -- the number of the first request in a chain's line, and the number that leaves the backlog where it goes on
 abbrev pub next_in_line : {J O : Type 0} → Stage J O → ℕ
@@ -204,9 +194,6 @@ abbrev pub started_by : {J O : Type 0} → Stage J O → Option ℕ
 started_by (stage.Pad pad) = None
 started_by (stage.Queue line) = number_at_bound line.line
 started_by (stage.Chain c) = None
-
-abbrev pub with_taken : {J O : Type 0} → Pad J O → List J → Pad J O
-with_taken pad rest = record pad { outcomes = pad.outcomes ++ None ∷ []; waiting = rest }
 
 -- after the first of them was taken, and these are left
 abbrev pub without_first : {J O : Type 0} → Stage J O → List J → Stage J O

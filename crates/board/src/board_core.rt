@@ -78,7 +78,13 @@ impl<W: Work> Model for BoardCore<W> {
 
     ghost view = { λ b. b.log.items };
 
-    ghost invariant = { λ b. IsKeptBoard W.asked W.meaning (places b.pipes) b.born b.log.items × (is_shut b.log.items ≡ b.shut) × (vec_len b.log + b.owed ≤ vec_capacity b.log) × (b.owed ≡ owed_by b.pipes + (if b.shut then 0 else 1)) × IsKeptUsed W.weight b.used b.log.items × AreReady (places b.pipes) b.ready × IsReadyFor IsChain HasRequest (places b.pipes) b.passing };
+    ghost invariant = { λ b. IsKeptBoard W.asked W.meaning (places b.pipes) b.born b.log.items
+        × (is_shut b.log.items ≡ b.shut)
+        × (vec_len b.log + b.owed ≤ vec_capacity b.log)
+        × (b.owed ≡ owed_by b.pipes + (if b.shut then 0 else 1))
+        × IsKeptUsed W.weight b.used b.log.items
+        × AreReady (places b.pipes) b.ready
+        × IsReadyFor IsChain HasRequest (places b.pipes) b.passing };
 }
 
 impl<W: Work> Told for BoardCore<W> {

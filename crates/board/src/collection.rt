@@ -24,8 +24,13 @@ impl<W: Work> BoardCore<W> {
     ) -> Result<(), BoardErr>
         requires caller { MayManage (entries_of pipe self.old) caller }
         requires pipe { IsOpen (entries_of pipe self.old) }
-        ensures board { MatchResult result (λ _. self.new ≡ self.old ++ Entry.Collect caller pipe (length (told (entries_of pipe self.old))) ∷ []) (λ _. self.new ≡ self.old) }
-        ensures handed { MatchResult result (λ _. let es = entries_of pipe self.old in into.new.list ≡ into.old.list ++ delivered W.meaning es (length (told es))) (λ _. into.new.list ≡ into.old.list) }
+        ensures board { MatchResult result
+            (λ _. self.new ≡ self.old ++ Entry.Collect caller pipe (length (told (entries_of pipe self.old))) ∷ [])
+            (λ _. self.new ≡ self.old) }
+        ensures handed { MatchResult result
+            (λ _. let es = entries_of pipe self.old in
+            into.new.list ≡ into.old.list ++ delivered W.meaning es (length (told es)))
+            (λ _. into.new.list ≡ into.old.list) }
         ensures refused { IfErr result (λ e. e ≡ BoardErr.Memory) }
         ensures legal { LegalBoard self.new }
     {
@@ -50,9 +55,18 @@ impl<W: Work> BoardCore<W> {
     ) -> Result<bool, BoardErr>
         requires caller { MayManage (entries_of pipe self.old) caller }
         requires pipe { IsOpen (entries_of pipe self.old) }
-        ensures drained { IfOk result (λ all. let es = entries_of pipe self.old in MatchBool all (front es ≡ length (submissions es)) (front es < length (submissions es))) }
-        ensures board { MatchResult result (λ all. MatchBool all (self.new ≡ self.old ++ Entry.Collect caller pipe (length (told (entries_of pipe self.old))) ∷ []) (self.new ≡ self.old)) (λ _. self.new ≡ self.old) }
-        ensures handed { MatchResult result (λ all. let es = entries_of pipe self.old in MatchBool all (into.new.list ≡ into.old.list ++ delivered W.meaning es (length (told es))) (into.new.list ≡ into.old.list)) (λ _. into.new.list ≡ into.old.list) }
+        ensures drained { IfOk result (λ all. let es = entries_of pipe self.old in
+            MatchBool all (front es ≡ length (submissions es)) (front es < length (submissions es))) }
+        ensures board { MatchResult result
+            (λ all. MatchBool all
+            (self.new ≡ self.old ++ Entry.Collect caller pipe (length (told (entries_of pipe self.old))) ∷ [])
+            (self.new ≡ self.old))
+            (λ _. self.new ≡ self.old) }
+        ensures handed { MatchResult result
+            (λ all. let es = entries_of pipe self.old in MatchBool all
+            (into.new.list ≡ into.old.list ++ delivered W.meaning es (length (told es)))
+            (into.new.list ≡ into.old.list))
+            (λ _. into.new.list ≡ into.old.list) }
         ensures refused { IfErr result (λ e. e ≡ BoardErr.Memory) }
         ensures legal { LegalBoard self.new }
     {

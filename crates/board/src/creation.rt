@@ -32,7 +32,9 @@ impl<W: Work> BoardCore<W> {
         requires caller { IsNoWorker caller }
         requires some { 1 ≤ lists }
         requires lists { lists ≤ 16 }
-        ensures made { MatchResult result (λ pipe. (pipe ≡ pipelines self.old) × (self.new ≡ self.old ++ Entry.Born caller pipe (Shaped.Pad lists) ∷ [])) (λ _. self.new ≡ self.old) }
+        ensures made { MatchResult result
+            (λ pipe. (pipe ≡ pipelines self.old) × (self.new ≡ self.old ++ Entry.Born caller pipe (Shaped.Pad lists) ∷ []))
+            (λ _. self.new ≡ self.old) }
         ensures refused { IfErr result (λ e. e ≡ BoardErr.Memory) }
         ensures legal { LegalBoard self.new }
     {
@@ -45,7 +47,9 @@ impl<W: Work> BoardCore<W> {
     pub fn born_queue(&mut self, caller: u32, max: u32) -> Result<u64, BoardErr>
         requires caller { IsNoWorker caller }
         requires max { 1 ≤ max }
-        ensures made { MatchResult result (λ pipe. (pipe ≡ pipelines self.old) × (self.new ≡ self.old ++ Entry.Born caller pipe (Shaped.Queue max) ∷ [])) (λ _. self.new ≡ self.old) }
+        ensures made { MatchResult result
+            (λ pipe. (pipe ≡ pipelines self.old) × (self.new ≡ self.old ++ Entry.Born caller pipe (Shaped.Queue max) ∷ []))
+            (λ _. self.new ≡ self.old) }
         ensures refused { IfErr result (λ e. e ≡ BoardErr.Memory) }
         ensures legal { LegalBoard self.new }
     {
@@ -61,7 +65,9 @@ impl<W: Work> BoardCore<W> {
         requires max { 1 ≤ max }
         requires some { 1 ≤ lists }
         requires lists { lists ≤ 16 }
-        ensures made { MatchResult result (λ pipe. (pipe ≡ pipelines self.old) × (self.new ≡ self.old ++ Entry.Born caller pipe (Shaped.Chain max lists) ∷ [])) (λ _. self.new ≡ self.old) }
+        ensures made { MatchResult result
+            (λ pipe. (pipe ≡ pipelines self.old) × (self.new ≡ self.old ++ Entry.Born caller pipe (Shaped.Chain max lists) ∷ []))
+            (λ _. self.new ≡ self.old) }
         ensures refused { IfErr result (λ e. e ≡ BoardErr.Memory) }
         ensures legal { LegalBoard self.new }
     {
@@ -86,7 +92,9 @@ impl<W: Work> BoardCore<W> {
     ) -> Result<u64, BoardErr>
         requires caller { IsNoWorker caller }
         requires stage { IsNew stage shape mask }
-        ensures made { MatchResult result (λ pipe. (pipe ≡ pipelines self.old) × (self.new ≡ self.old ++ Entry.Born caller pipe shape ∷ [])) (λ _. self.new ≡ self.old) }
+        ensures made { MatchResult result
+            (λ pipe. (pipe ≡ pipelines self.old) × (self.new ≡ self.old ++ Entry.Born caller pipe shape ∷ []))
+            (λ _. self.new ≡ self.old) }
         ensures refused { IfErr result (λ e. e ≡ BoardErr.Memory) }
         ensures legal { LegalBoard self.new }
     {

@@ -59,7 +59,8 @@ pub fn collects_hand_out<A, O>()
 
 /// Who took a job may finish it, with the value of the same ask, whatever others do meanwhile.
 pub fn slips_stay<A, O>()
-    ensures { (meaning : A → O) (h : List (BoardEntry A)) (e : BoardEntry A) (p caller n : ℕ) (out : O) → SlipStays meaning h e p caller n out }
+    ensures { (meaning : A → O) (h : List (BoardEntry A)) (e : BoardEntry A) (p caller n : ℕ) (out : O)
+        → SlipStays meaning h e p caller n out }
 {}
 
 /// Entries of others, and work of a caller's own, leave what it knows: of the pipelines that it made who manages them, whether
@@ -72,7 +73,8 @@ pub fn others_leave<A, O>()
     ensures drained { (h es : List (BoardEntry A)) (p caller : ℕ) → WorkLeavesDrained h es p caller }
     ensures own { (h es : List (BoardEntry A)) (caller : ℕ) → WorkLeavesOwn h es caller }
     ensures submitting { (h es : List (BoardEntry A)) (p caller : ℕ) → OthersLeaveOpen h es p caller }
-    ensures slips { (meaning : A → O) (h es : List (BoardEntry A)) (p caller n : ℕ) (out : O) → OthersLeaveSlips meaning h es p caller n out }
+    ensures slips { (meaning : A → O) (h es : List (BoardEntry A)) (p caller n : ℕ) (out : O)
+        → OthersLeaveSlips meaning h es p caller n out }
 {}
 
 /// Over every legal history: where each request of each pipeline is finished, no take, no finish and no passing on of a job is

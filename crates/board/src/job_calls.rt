@@ -47,8 +47,12 @@ impl<W: Work> BoardCore<W> {
     /// has taken, where the caller made the pipeline, submitted to it, or is a worker in its mask; of a queue the first that
     /// waits, where the queue is neither held nor busy. `None` exactly where there is none. No memory is taken.
     pub fn take(&mut self, caller: u32) -> Option<Taken<W>>
-        ensures taken { MatchOption result ((self.new ≡ self.old) × NoneFor self.old caller) (λ t. (self.new ≡ self.old ++ take_entry self.old caller t.slip.pipe t.slip.number ∷ []) × (slice_get (submissions (entries_of t.slip.pipe self.old)) t.slip.number ≡ Some (W.asked t.job))) }
-        ensures ready { IfSome result (λ t. MayFinish W.meaning (entries_of t.slip.pipe self.new) caller t.slip.number (W.meaning (W.asked t.job))) }
+        ensures taken { MatchOption result
+            ((self.new ≡ self.old) × NoneFor self.old caller)
+            (λ t. (self.new ≡ self.old ++ take_entry self.old caller t.slip.pipe t.slip.number ∷ [])
+            × (slice_get (submissions (entries_of t.slip.pipe self.old)) t.slip.number ≡ Some (W.asked t.job))) }
+        ensures ready { IfSome result
+            (λ t. MayFinish W.meaning (entries_of t.slip.pipe self.new) caller t.slip.number (W.meaning (W.asked t.job))) }
         ensures legal { LegalBoard self.new }
     {
         let pipe = self.ready.next_job(&self.pipes, caller)?;
@@ -91,7 +95,9 @@ impl<W: Work> BoardCore<W> {
     /// The first request of a chain's line goes on to its pad, where the chain isn't held. False exactly where there is no such
     /// chain. No memory is taken.
     pub fn pass_on(&mut self, caller: u32) -> bool
-        ensures passed { MatchBool result ((p : ℕ) × Is is_chain (entries_of p self.old) × (self.new ≡ self.old ++ pass_entry self.old caller p ∷ [])) (NonePasses self.old × (self.new ≡ self.old)) }
+        ensures passed { MatchBool result
+            ((p : ℕ) × Is is_chain (entries_of p self.old) × (self.new ≡ self.old ++ pass_entry self.old caller p ∷ []))
+            (NonePasses self.old × (self.new ≡ self.old)) }
         ensures legal { LegalBoard self.new }
     {
         let Some(pipe) = next_request(&self.pipes, &mut self.passing) else {

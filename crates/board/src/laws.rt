@@ -53,11 +53,16 @@ pub fn pads_and_queues_tell<A>()
 /// one whose three requests are finished backwards. What waits in line isn't taken, a held chain passes nothing on, the first
 /// that waits past the bound is told that it started, a chain's job has no Done, and its mask stays full.
 pub fn legal_chains()
-    ensures legal { (a b c : Arc ℕ Global) → LegalBoard (crossed_chain a b c ++ Collect 0 0 2 ∷ Finish 1 0 0 ∷ Deq 3 0 2 None ∷ Take 0 0 2 ∷ Finish 0 0 2 ∷ Collect 0 0 5 ∷ Close 0 0 ∷ []) }
-    ensures told { (a b c : Arc ℕ Global) → told (entries_of 0 (crossed_chain a b c ++ Finish 1 0 0 ∷ [])) ≡ Starts 1 ∷ Starts 2 ∷ Completes 0 ∷ Completes 1 ∷ [] }
-    ensures handed { (a b c : Arc ℕ Global) → delivered (λ n. n + 1) (entries_of 0 (crossed_chain a b c ++ Collect 0 0 2 ∷ Finish 1 0 0 ∷ [])) 4 ≡ Callback.Done 0 (arc_value a + 1) ∷ Callback.Done 1 (arc_value b + 1) ∷ [] }
+    ensures legal { (a b c : Arc ℕ Global) → LegalBoard (crossed_chain a b c ++ Collect 0 0 2 ∷ Finish 1 0 0 ∷ Deq 3 0 2 None
+        ∷ Take 0 0 2 ∷ Finish 0 0 2 ∷ Collect 0 0 5 ∷ Close 0 0 ∷ []) }
+    ensures told { (a b c : Arc ℕ Global) → told (entries_of 0 (crossed_chain a b c ++ Finish 1 0 0 ∷ []))
+        ≡ Starts 1 ∷ Starts 2 ∷ Completes 0 ∷ Completes 1 ∷ [] }
+    ensures handed { (a b c : Arc ℕ Global)
+        → delivered (λ n. n + 1) (entries_of 0 (crossed_chain a b c ++ Collect 0 0 2 ∷ Finish 1 0 0 ∷ [])) 4
+        ≡ Callback.Done 0 (arc_value a + 1) ∷ Callback.Done 1 (arc_value b + 1) ∷ [] }
     ensures backwards { (a b c : Arc ℕ Global) → LegalBoard (backward_chain a b c ++ Collect 0 0 4 ∷ Close 0 0 ∷ []) }
-    ensures order { (a b c : Arc ℕ Global) → told (entries_of 0 (backward_chain a b c)) ≡ Starts 2 ∷ Completes 0 ∷ Completes 1 ∷ Completes 2 ∷ [] }
+    ensures order { (a b c : Arc ℕ Global) → told (entries_of 0 (backward_chain a b c))
+        ≡ Starts 2 ∷ Completes 0 ∷ Completes 1 ∷ Completes 2 ∷ [] }
     ensures held { (a b c : Arc ℕ Global) → ¬ IsRight (held_chain a b c) (Deq 1 0 0 (Some 1)) }
     ensures newest { (a b c : Arc ℕ Global) → ¬ IsRight (held_chain a b c ++ Go 0 0 ∷ []) (Deq 1 0 0 (Some 2)) }
     ensures in_line { (a b c : Arc ℕ Global) → ¬ IsRight (crossed_chain a b c) (Take 1 0 2) }
@@ -69,7 +74,8 @@ pub fn legal_chains()
 /// A pad whose mask changes has a legal history. Under an empty mask nothing is submitted, and its maker alone takes; a
 /// worker takes whose bit is set; no bit stands at or above the pad's lists.
 pub fn legal_masks()
-    ensures legal { (a b : Arc ℕ Global) → LegalBoard (second_alone a b ++ Take 2 0 0 ∷ Take 0 0 1 ∷ Finish 0 0 1 ∷ Finish 2 0 0 ∷ Collect 0 0 2 ∷ Close 0 0 ∷ []) }
+    ensures legal { (a b : Arc ℕ Global) → LegalBoard (second_alone a b ++ Take 2 0 0 ∷ Take 0 0 1 ∷ Finish 0 0 1
+        ∷ Finish 2 0 0 ∷ Collect 0 0 2 ∷ Close 0 0 ∷ []) }
     ensures empty { (a b : Arc ℕ Global) → ¬ IsRight (masked_pad a b) (Submit 0 0 1 b) }
     ensures other { (a b : Arc ℕ Global) → ¬ IsRight (second_alone a b) (Take 1 0 0) }
     ensures above { (a b : Arc ℕ Global) → ¬ IsRight (masked_pad a b) (Mask 0 0 4) }
@@ -94,12 +100,16 @@ pub fn legal_pads()
 /// the bound is told that it started; and a collect hands out all that was told.
 pub fn legal_queues()
     ensures legal { (a b c d : Arc ℕ Global) → LegalBoard (held_queue a b c d) }
-    ensures told { (a b c d : Arc ℕ Global) → told (entries_of 0 (held_queue a b c d)) ≡ Starts 2 ∷ Completes 0 ∷ Completes 1 ∷ Completes 2 ∷ [] }
-    ensures first { (a b c d : Arc ℕ Global) → delivered (λ n. n + 1) (entries_of 0 (take 13 (held_queue a b c d))) 4 ≡ Callback.Started 2 ∷ Callback.Done 0 (arc_value a + 1) ∷ Callback.Done 1 (arc_value b + 1) ∷ Callback.Done 2 (arc_value c + 1) ∷ [] }
+    ensures told { (a b c d : Arc ℕ Global) → told (entries_of 0 (held_queue a b c d))
+        ≡ Starts 2 ∷ Completes 0 ∷ Completes 1 ∷ Completes 2 ∷ [] }
+    ensures first { (a b c d : Arc ℕ Global) → delivered (λ n. n + 1) (entries_of 0 (take 13 (held_queue a b c d))) 4
+        ≡ Callback.Started 2 ∷ Callback.Done 0 (arc_value a + 1)
+        ∷ Callback.Done 1 (arc_value b + 1) ∷ Callback.Done 2 (arc_value c + 1) ∷ [] }
     ensures again { (a b c d : Arc ℕ Global) → delivered (λ n. n + 1) (entries_of 0 (take 14 (held_queue a b c d))) 4 ≡ [] }
     ensures full { (a b c d : Arc ℕ Global) → ¬ IsRight (held_requests a b c d) (Enq 0 0 d false (Busy 3)) }
     ensures patient { (a b c d : Arc ℕ Global) → ¬ IsRight (held_requests a b c d) (Enq 0 0 d true NoSpace) }
     ensures held { (a b c d : Arc ℕ Global) → ¬ IsRight (held_requests a b c d) (Deq 0 0 0 (Some 2)) }
-    ensures newest { (a b c d : Arc ℕ Global) → ¬ IsRight (held_requests a b c d ++ Go 0 0 ∷ Enq 0 0 d true (Busy 3) ∷ []) (Deq 0 0 0 (Some 3)) }
+    ensures newest { (a b c d : Arc ℕ Global)
+        → ¬ IsRight (held_requests a b c d ++ Go 0 0 ∷ Enq 0 0 d true (Busy 3) ∷ []) (Deq 0 0 0 (Some 3)) }
     ensures early { (a b c d : Arc ℕ Global) → ¬ IsRight (take 13 (held_queue a b c d)) (Collect 0 0 3) }
 {}

@@ -46,7 +46,9 @@ pub(crate) fn next_request<J: Drop, F: Drop>(
 
 /// Whether there is an open pipeline of this number of which the caller may take a job.
 fn has_job_at<J: Drop, F: Drop>(pipes: &BTreeMap<u64, Pipeline<J, F>>, k: u64, caller: u32) -> bool
-    ensures { MatchBool result (IsOne (HasJobFor caller) (places pipes.now) k) ((x : Pipeline J F) → places pipes.now k ≡ Some x → HasJobFor caller x → ⊥) }
+    ensures { MatchBool result
+        (IsOne (HasJobFor caller) (places pipes.now) k)
+        ((x : Pipeline J F) → places pipes.now k ≡ Some x → HasJobFor caller x → ⊥) }
 {
     match pipes.get(&k) {
         Some(pipe) => pipe.has_job_for(caller),
@@ -56,7 +58,9 @@ fn has_job_at<J: Drop, F: Drop>(pipes: &BTreeMap<u64, Pipeline<J, F>>, k: u64, c
 
 /// Whether there is an open pipeline of this number that may pass a request on.
 fn has_request_at<J: Drop, F: Drop>(pipes: &BTreeMap<u64, Pipeline<J, F>>, k: u64) -> bool
-    ensures { MatchBool result (IsOne HasRequest (places pipes.now) k) ((x : Pipeline J F) → places pipes.now k ≡ Some x → HasRequest x → ⊥) }
+    ensures { MatchBool result
+        (IsOne HasRequest (places pipes.now) k)
+        ((x : Pipeline J F) → places pipes.now k ≡ Some x → HasRequest x → ⊥) }
 {
     match pipes.get(&k) {
         Some(pipe) => pipe.stage.may_pass(),

@@ -33,7 +33,11 @@ impl<W: Work> BoardCore<W> {
     ) -> Result<Entered, BoardErr>
         requires caller { MaySubmit (entries_of pipe self.old) caller }
         requires pipe { IsOpenQueue (entries_of pipe self.old) }
-        ensures answered { MatchResult result (λ answer. (answer ≡ verdict (entries_of pipe self.old) backlog) × ((ask : Arc W.Ask GlobalMemory) × (arc_value ask ≡ W.asked job) × (self.new ≡ self.old ++ Entry.Enq caller pipe ask backlog answer ∷ []))) (λ _. self.new ≡ self.old) }
+        ensures answered { MatchResult result
+            (λ answer. (answer ≡ verdict (entries_of pipe self.old) backlog)
+            × ((ask : Arc W.Ask GlobalMemory) × (arc_value ask ≡ W.asked job)
+            × (self.new ≡ self.old ++ Entry.Enq caller pipe ask backlog answer ∷ [])))
+            (λ _. self.new ≡ self.old) }
         ensures allowed { OnOk result (IsAllowed W.weight self.old caller (W.asked job)) }
         ensures refused { IfErr result (λ e. (e ≡ BoardErr.TooBig) ↔ (IsAllowed W.weight self.old caller (W.asked job) → ⊥)) }
         ensures other { IfErr result (λ e. e ≢ BoardErr.NoWorker) }

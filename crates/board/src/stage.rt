@@ -2,9 +2,10 @@
 
 ghost use Rattle.std.specs.Prelude.{◌≡◌, ℕ, ◌+◌, ◌-◌, ◌<◌, ◌≤◌, ◌^◌, true, false, if◌then◌else◌, [], ◌∷◌, ◌++◌, length, take, drop, None, OnOk, MatchBool, MatchOption, ◌⊎◌};
 ghost use Rattle.request_queue.specs.Line.{number_at_bound, accepted};
-ghost use Rattle.padata_core.specs.Pad.{ready, taken_of};
+ghost use Rattle.padata_core.specs.Pad.{ready, taken_of, with_taken, emptied};
+ghost use Rattle.cryptd.specs.Server.{bare};
 ghost use Rattle.board.specs.declared.entry.BoardEntry.TheVariants as Entry;
-ghost use Rattle.board.specs.Stages.{is_queue, is_chain, MayServe, MayPass, PassesNone, IsLinked, IsApart, next_in_line, starts_at, after_passed, with_passed, is_pad, has_line, HasRoom, IsPlaced, without_room, accepted_of, answer_of, after_entered, entered_on, with_waiting, bare, passed, IsJoined, MayEnd, emptied, released, ended, unfinished_of, jobs_of, IsQuiet, next_of, started_by, with_taken, without_first, with_job, holding, callbacks_of, collected_from};
+ghost use Rattle.board.specs.Stages.{is_queue, is_chain, MayServe, MayPass, PassesNone, IsLinked, IsApart, next_in_line, starts_at, after_passed, with_passed, is_pad, has_line, HasRoom, IsPlaced, without_room, accepted_of, answer_of, after_entered, entered_on, with_waiting, passed, IsJoined, MayEnd, released, ended, unfinished_of, jobs_of, IsQuiet, next_of, started_by, without_first, with_job, holding, callbacks_of, collected_from};
 
 use crate::entry::{BoardEntry, Entered};
 use cryptd::Cryptd;
@@ -99,7 +100,10 @@ impl<J: Drop, F: Drop> Stage<J, F> {
     /// that.
     pub(crate) fn take(&mut self) -> Option<Served<J>>
         requires { IsApart self.old }
-        ensures { MatchOption result (IsQuiet self.old × (self.new ≡ self.old)) (λ s. (s.number ≡ next_of self.old) × (s.started ≡ started_by self.old) × (jobs_of self.old ≡ s.item ∷ jobs_of self.new) × (self.new ≡ without_first self.old (jobs_of self.new))) }
+        ensures { MatchOption result
+            (IsQuiet self.old × (self.new ≡ self.old))
+            (λ s. (s.number ≡ next_of self.old) × (s.started ≡ started_by self.old)
+            × (jobs_of self.old ≡ s.item ∷ jobs_of self.new) × (self.new ≡ without_first self.old (jobs_of self.new))) }
     {
         match self {
             Stage::Pad(pad) => first_of(pad),
@@ -137,7 +141,9 @@ impl<J: Drop, F: Drop> Stage<J, F> {
         requires few { accepted_of self.old ≤ 2 ^ 63 }
         requires linked { IsLinked self.old }
         requires apart { IsApart self.old }
-        ensures { MatchOption result (PassesNone self.old × (self.new ≡ self.old)) (λ r. (r.0 ≡ next_in_line self.old) × (r.1 ≡ starts_at self.old) × (self.new ≡ after_passed self.old)) }
+        ensures { MatchOption result
+            (PassesNone self.old × (self.new ≡ self.old))
+            (λ r. (r.0 ≡ next_in_line self.old) × (r.1 ≡ starts_at self.old) × (self.new ≡ after_passed self.old)) }
     {
         match self {
             Stage::Pad(_) => None,
@@ -260,7 +266,10 @@ impl<J: Drop, F: Drop> Stage<J, F> {
 
 /// Hands out the first job of a pad.
 fn first_of<J: Drop, F: Drop>(pad: &mut Padata<J, F>) -> Option<Served<J>>
-    ensures { MatchOption result ((pad.old.waiting ≡ []) × (pad.new ≡ pad.old)) (λ s. (s.number ≡ taken_of pad.old) × (s.started ≡ None) × (pad.old.waiting ≡ s.item ∷ pad.new.waiting) × (pad.new ≡ with_taken pad.old pad.new.waiting)) }
+    ensures { MatchOption result
+        ((pad.old.waiting ≡ []) × (pad.new ≡ pad.old))
+        (λ s. (s.number ≡ taken_of pad.old) × (s.started ≡ None)
+        × (pad.old.waiting ≡ s.item ∷ pad.new.waiting) × (pad.new ≡ with_taken pad.old pad.new.waiting)) }
 {
     let (number, item) = pad.take()?;
     Some(Served {
@@ -305,7 +314,11 @@ fn pass_on<J: Drop, F: Drop>(
     requires few { accepted line.old.line ≤ 2 ^ 63 }
     requires joined { IsJoined line.old pad.old }
     requires apart { line.old.busy ≡ false }
-    ensures { MatchOption result (((line.old.held ≡ true) ⊎ (line.old.line.waiting ≡ [])) × (line.new ≡ line.old) × (pad.new ≡ pad.old)) (λ r. (r.0 ≡ line.old.line.served) × (r.1 ≡ number_at_bound line.old.line) × (line.new ≡ passed line.old (drop 1 line.old.line.waiting)) × (pad.new ≡ with_passed pad.old (take 1 line.old.line.waiting))) }
+    ensures { MatchOption result
+        (((line.old.held ≡ true) ⊎ (line.old.line.waiting ≡ [])) × (line.new ≡ line.old) × (pad.new ≡ pad.old))
+        (λ r. (r.0 ≡ line.old.line.served) × (r.1 ≡ number_at_bound line.old.line)
+        × (line.new ≡ passed line.old (drop 1 line.old.line.waiting))
+        × (pad.new ≡ with_passed pad.old (take 1 line.old.line.waiting))) }
 {
     let served = line.pass_on()?;
     let _ = pad.submit(served.item);

@@ -33,11 +33,16 @@ impl<W: Work> BoardCore<W> {
     pub fn submit(&mut self, caller: u32, pipe: u64, job: W) -> Result<u64, BoardErr>
         requires caller { MaySubmit (entries_of pipe self.old) caller }
         requires pipe { IsOpenPad (entries_of pipe self.old) }
-        ensures submitted { MatchResult result (λ n. (n ≡ length (submissions (entries_of pipe self.old))) × ((ask : Arc W.Ask GlobalMemory) × (arc_value ask ≡ W.asked job) × (self.new ≡ self.old ++ Entry.Submit caller pipe n ask ∷ []))) (λ _. self.new ≡ self.old) }
+        ensures submitted { MatchResult result
+            (λ n. (n ≡ length (submissions (entries_of pipe self.old)))
+            × ((ask : Arc W.Ask GlobalMemory) × (arc_value ask ≡ W.asked job)
+            × (self.new ≡ self.old ++ Entry.Submit caller pipe n ask ∷ [])))
+            (λ _. self.new ≡ self.old) }
         ensures allowed { OnOk result (IsAllowed W.weight self.old caller (W.asked job)) }
         ensures masked { OnOk result (0 < mask (entries_of pipe self.old)) }
         ensures unmasked { IfErr result (λ e. (e ≡ BoardErr.NoWorker) ↔ (mask (entries_of pipe self.old) ≡ 0)) }
-        ensures refused { IfErr result (λ e. (e ≡ BoardErr.TooBig) ↔ ((0 < mask (entries_of pipe self.old)) × (IsAllowed W.weight self.old caller (W.asked job) → ⊥))) }
+        ensures refused { IfErr result (λ e. (e ≡ BoardErr.TooBig)
+            ↔ ((0 < mask (entries_of pipe self.old)) × (IsAllowed W.weight self.old caller (W.asked job) → ⊥))) }
         ensures legal { LegalBoard self.new }
     {
         let Admitted { ask, used } = self.admit_to_pad(caller, pipe, &job)?;
@@ -91,7 +96,10 @@ impl<W: Work> BoardCore<W> {
     /// Want of memory comes after that.
     pub(crate) fn admit(&self, caller: u32, job: &W) -> Result<Admitted<W::Ask>, BoardErr>
         ensures ask { IfOk result (λ admitted. arc_value admitted.ask ≡ W.asked job.now) }
-        ensures used { IfOk result (λ admitted. admitted.used ≡ record { requests = (used_in W.weight self.now caller).requests + 1; bytes = (used_in W.weight self.now caller).bytes + W.weight (W.asked job.now) }) }
+        ensures used { IfOk result (λ admitted. admitted.used ≡ record {
+          requests = (used_in W.weight self.now caller).requests + 1;
+          bytes = (used_in W.weight self.now caller).bytes + W.weight (W.asked job.now);
+        }) }
         ensures allowed { OnOk result (IsAllowed W.weight self.now caller (W.asked job.now)) }
         ensures refused { IfErr result (λ e. (e ≡ BoardErr.TooBig) ↔ (IsAllowed W.weight self.now caller (W.asked job.now) → ⊥)) }
         ensures other { IfErr result (λ e. e ≢ BoardErr.NoWorker) }

@@ -5,7 +5,7 @@ ghost use Rattle.std.specs.Prelude.{◌≡◌, ℕ, ◌+◌, ◌-◌, ◌*◌, �
 ghost use Rattle.kc_base.specs.declared.callback_list.Callback.TheVariants as Callback;
 ghost use Rattle.request_queue.specs.Line.{accepted, verdict_on, line_after, number_at_bound};
 ghost use Rattle.std.specs.VecDeque.{deque_len, deque_capacity};
-ghost use Rattle.cryptd.specs.Server.{started_callback, spare_after};
+ghost use Rattle.cryptd.specs.Server.{started_callback, spare_after, bare, ServesNone, after_first};
 
 use kc_base::{Callback, Callbacks};
 use request_queue::{Queue, Served, Verdict};
@@ -82,7 +82,7 @@ impl<J: Drop, F: Drop> Cryptd<J, F> {
     pub fn may_serve(&self) -> bool
         ensures { MatchBool result
             ((self.now.held ≡ false) × (self.now.busy ≡ false) × (0 < length self.now.line.waiting))
-            ((self.now.held ≡ true) ⊎ ((self.now.busy ≡ true) ⊎ (self.now.line.waiting ≡ []))) }
+            (ServesNone self.now) }
     {
         !self.held && !self.busy && self.queue.len() > 0
     }
@@ -98,8 +98,7 @@ impl<J: Drop, F: Drop> Cryptd<J, F> {
 
     /// Makes room for `n` more jobs at least, and for what is told of them. Want of memory leaves the rest as it was.
     pub fn reserve(&mut self, n: usize) -> Result<(), AllocError>
-        ensures same { record self.new { spare = 0; line = record self.new.line { spare = 0 } }
-            ≡ record self.old { spare = 0; line = record self.old.line { spare = 0 } } }
+        ensures same { bare self.new ≡ bare self.old }
         ensures room { OnOk result (n ≤ self.new.spare) }
         ensures kept { self.old.spare ≤ self.new.spare }
     {
@@ -163,15 +162,11 @@ impl<J: Drop, F: Drop> Cryptd<J, F> {
     pub fn serve(&mut self) -> Option<Served<J>>
         requires apart { self.old.passed ≡ 0 }
         ensures { MatchOption result
-            (((self.old.held ≡ true) ⊎ ((self.old.busy ≡ true) ⊎ (self.old.line.waiting ≡ []))) × (self.new ≡ self.old))
+            (ServesNone self.old × (self.new ≡ self.old))
             (λ s. (self.old.held ≡ false) × (self.old.busy ≡ false)
             × (s.number ≡ self.old.line.served) × (s.started ≡ number_at_bound self.old.line)
             × (self.old.line.waiting ≡ s.item ∷ self.new.line.waiting)
-            × (self.new ≡ record self.old {
-              line = record self.old.line { served = self.old.line.served + 1; waiting = self.new.line.waiting };
-              busy = true;
-              pending = self.old.pending ++ started_callback s.started;
-            })) }
+            × (self.new ≡ record (after_first self.old s.started self.new.line.waiting) { busy = true })) }
     {
         if self.held || self.busy {
             return None;
@@ -202,11 +197,7 @@ impl<J: Drop, F: Drop> Cryptd<J, F> {
             (λ s. (self.old.held ≡ false)
             × (s.number ≡ self.old.line.served) × (s.started ≡ number_at_bound self.old.line)
             × (self.old.line.waiting ≡ s.item ∷ self.new.line.waiting)
-            × (self.new ≡ record self.old {
-              line = record self.old.line { served = self.old.line.served + 1; waiting = self.new.line.waiting };
-              passed = self.old.passed + 1;
-              pending = self.old.pending ++ started_callback s.started;
-            })) }
+            × (self.new ≡ record (after_first self.old s.started self.new.line.waiting) { passed = self.old.passed + 1 })) }
     {
         if self.held {
             return None;

@@ -5,9 +5,9 @@ pub mod laws;
 mod row;
 mod rows;
 
-ghost use Rattle.std.specs.Prelude.{◌≡◌, ℕ, ◌+◌, ◌-◌, ◌^◌, ◌<◌, ◌≤◌, List, [], ◌∷◌, ◌++◌, drop, length, slice_get, slice_set, Some, None, IfOk, OnOk, OnErr, IfSome, MatchOption, MatchBool, nat_lt};
+ghost use Rattle.std.specs.Prelude.{◌≡◌, ℕ, ◌+◌, ◌-◌, ◌^◌, ◌<◌, ◌≤◌, List, [], ◌∷◌, ◌++◌, length, slice_get, slice_set, Some, None, IfOk, OnOk, OnErr, IfSome, MatchOption, MatchBool, nat_lt};
 ghost use Rattle.std.specs.VecDeque.{deque_len, deque_capacity};
-ghost use Rattle.padata_core.specs.Pad.{taken_of, submitted_of, ready, done_from, running_of, on_list};
+ghost use Rattle.padata_core.specs.Pad.{taken_of, submitted_of, ready, with_taken, emptied, done_from, running_of, on_list};
 
 use crate::row::Row;
 use crate::rows::{empty_rows, move_rows, reserve_rows};
@@ -120,7 +120,7 @@ impl<J: Drop, F: Drop> Padata<J, F> {
             ((self.old.waiting ≡ []) × (self.new ≡ self.old))
             (λ taken. (taken.0 ≡ taken_of self.old)
             × (self.old.waiting ≡ taken.1 ∷ self.new.waiting)
-            × (self.new ≡ record self.old { outcomes = self.old.outcomes ++ None ∷ []; waiting = self.new.waiting })) }
+            × (self.new ≡ with_taken self.old self.new.waiting)) }
     {
         let job = self.waiting.pop_front()?;
         let number = self.taken;
@@ -233,10 +233,7 @@ impl<J: Drop, F: Drop> Padata<J, F> {
         requires { length (ready self.old.outcomes) ≤ into.old.spare }
         ensures handed { into.new.list ≡ into.old.list ++ done_from self.old.collected (ready self.old.outcomes) }
         ensures spare { into.new.spare + length (ready self.old.outcomes) ≡ into.old.spare }
-        ensures collected { self.new ≡ record self.old {
-          collected = self.old.collected + length (ready self.old.outcomes);
-          outcomes = drop (length (ready self.old.outcomes)) self.old.outcomes;
-        } }
+        ensures collected { self.new ≡ emptied self.old }
         ensures rest { length (ready self.old.outcomes) + length self.new.outcomes ≡ length self.old.outcomes }
         ensures front { ready self.new.outcomes ≡ [] }
     {
