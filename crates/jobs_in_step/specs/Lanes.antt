@@ -41,7 +41,8 @@ job_value j = ask_value (arc_value j.ask)
 
 -- each lane's answer is the value of its job, and there is one where there is a job
 abbrev pub AreValues : List (Option Finished) → List (Option Job) → Type 0
-AreValues answers jobs = (n : ℕ) → n < 8 → option_map finished_value (slice_index_or answers n None) ≡ option_map job_value (slice_index_or jobs n None)
+AreValues answers jobs =
+    (n : ℕ) → n < 8 → option_map finished_value (slice_index_or answers n None) ≡ option_map job_value (slice_index_or jobs n None)
 
 -- the lane's job, where there is one, is a sealing under this key, and fits
 abbrev pub FitsKey : Plan × List ℕ → Option Job → Type 0

@@ -67,7 +67,8 @@ AreFronts {A} bytes_of lengths aads tag_size texts =
     × (n < length texts → slice_index lengths n + tag_size ≤ length (lanes.text_in bytes_of texts n))
 
 -- the front of each text, with its tag behind it, is what sealing it gives
-abbrev pub AreSealed : {A : Type 0} → (A → List ℕ) → (ℕ → Request → Value) → List (List ℕ) → List (Bor (List ℕ)) → List ℕ → ℕ → List A → List A → Type 0
+abbrev pub AreSealed : {A : Type 0} → (A → List ℕ) → (ℕ → Request → Value)
+    → List (List ℕ) → List (Bor (List ℕ)) → List ℕ → ℕ → List A → List A → Type 0
 AreSealed {A} bytes_of gives ivs aads lengths tag_size old new =
     (n : ℕ) → n < 8 → n < length old
     → bytes (take (slice_index lengths n + tag_size) (lanes.text_in bytes_of new n))
@@ -77,4 +78,5 @@ AreSealed {A} bytes_of gives ivs aads lengths tag_size old new =
 abbrev pub KeepRests : {A : Type 0} → (A → List ℕ) → List ℕ → ℕ → List A → List A → Type 0
 KeepRests {A} bytes_of lengths tag_size old new =
     (n : ℕ) → n < 8 → n < length old
-    → drop (slice_index lengths n + tag_size) (lanes.text_in bytes_of new n) ≡ drop (slice_index lengths n + tag_size) (lanes.text_in bytes_of old n)
+    → drop (slice_index lengths n + tag_size) (lanes.text_in bytes_of new n)
+    ≡ drop (slice_index lengths n + tag_size) (lanes.text_in bytes_of old n)

@@ -33,7 +33,8 @@ with_taken pad rest = record pad { outcomes = pad.outcomes ++ None ∷ []; waiti
 
 -- what is ready leaves the pad
 abbrev pub emptied : {J F : Type 0} → Pad J F → Pad J F
-emptied pad = record pad { collected = pad.collected + length (ready pad.outcomes); outcomes = drop (length (ready pad.outcomes)) pad.outcomes }
+emptied pad =
+    record pad { collected = pad.collected + length (ready pad.outcomes); outcomes = drop (length (ready pad.outcomes)) pad.outcomes }
 
 -- the completions of the numbers from n on
 abbrev pub done_from : {F : Type 0} → ℕ → List F → List (Callback F)
