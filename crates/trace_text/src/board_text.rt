@@ -83,8 +83,7 @@ fn shape_text(
     shape: &[u8],
     size: u32,
 ) -> Result<Bytes, AllocError>
-    ensures { IfOk result (λ text. text
-        ≡ sentence (codes "b" ∷ decimal caller ∷ codes "born" ∷ decimal pipe ∷ shape.now ∷ decimal size ∷ [])) }
+    ensures { IfOk result (λ text. text ≡ sentence (codes "b" ∷ decimal caller ∷ codes "born" ∷ decimal pipe ∷ shape.now ∷ decimal size ∷ [])) }
 {
     let caller = caller.to_string(alloc)?;
     let pipe = pipe.to_string(alloc)?;
@@ -109,8 +108,7 @@ fn chain_text(
     max: u32,
     lists: u32,
 ) -> Result<Bytes, AllocError>
-    ensures { IfOk result (λ text. text
-        ≡ sentence (codes "b" ∷ decimal caller ∷ codes "born" ∷ decimal pipe ∷ codes "chain" ∷ decimal max ∷ decimal lists ∷ [])) }
+    ensures { IfOk result (λ text. text ≡ sentence (codes "b" ∷ decimal caller ∷ codes "born" ∷ decimal pipe ∷ codes "chain" ∷ decimal max ∷ decimal lists ∷ [])) }
 {
     let caller = caller.to_string(alloc)?;
     let pipe = pipe.to_string(alloc)?;
@@ -148,8 +146,7 @@ fn submit_text(
     number: u64,
     of: Origin,
 ) -> Result<Bytes, AllocError>
-    ensures text { IfOk result (λ text. text
-        ≡ sentence (codes "b" ∷ decimal caller ∷ codes "submit" ∷ decimal pipe ∷ decimal number ∷ origin_word of ∷ [])) }
+    ensures text { IfOk result (λ text. text ≡ sentence (codes "b" ∷ decimal caller ∷ codes "submit" ∷ decimal pipe ∷ decimal number ∷ origin_word of ∷ [])) }
     ensures fits { OnOk result (origin_fits of ≡ true) }
 {
     let caller = caller.to_string(alloc)?;
@@ -179,9 +176,7 @@ fn accepted_text<'a>(
     word: &'a [u8],
     number: u64,
 ) -> Result<Bytes, AllocError>
-    ensures { IfOk result (λ text. text
-        ≡ sentence (codes "b" ∷ decimal caller ∷ codes "enq" ∷ decimal pipe
-        ∷ line.now ∷ backlog.now ∷ word.now ∷ decimal number ∷ [])) }
+    ensures { IfOk result (λ text. text ≡ sentence (codes "b" ∷ decimal caller ∷ codes "enq" ∷ decimal pipe ∷ line.now ∷ backlog.now ∷ word.now ∷ decimal number ∷ [])) }
 {
     let caller = caller.to_string(alloc)?;
     let pipe = pipe.to_string(alloc)?;
@@ -209,9 +204,7 @@ fn enq_text(
     backlog: bool,
     answer: Entered,
 ) -> Result<Bytes, AllocError>
-    ensures text { IfOk result (λ text. text
-        ≡ sentence (codes "b" ∷ decimal caller ∷ codes "enq" ∷ decimal pipe
-        ∷ origin_word of ∷ backlog_word backlog ∷ entered_words answer)) }
+    ensures text { IfOk result (λ text. text ≡ sentence (codes "b" ∷ decimal caller ∷ codes "enq" ∷ decimal pipe ∷ origin_word of ∷ backlog_word backlog ∷ entered_words answer)) }
     ensures fits { OnOk result ((origin_fits of && entered_fits answer) ≡ true) }
 {
     let line = line_word(alloc, of.client, of.line)?;
@@ -250,8 +243,7 @@ fn deq_text(
     number: u64,
     started: Option<u64>,
 ) -> Result<Bytes, AllocError>
-    ensures text { IfOk result (λ text. text
-        ≡ sentence (codes "b" ∷ decimal caller ∷ codes "deq" ∷ decimal pipe ∷ decimal number ∷ started_words started)) }
+    ensures text { IfOk result (λ text. text ≡ sentence (codes "b" ∷ decimal caller ∷ codes "deq" ∷ decimal pipe ∷ decimal number ∷ started_words started)) }
     ensures fits { OnOk result (option_fits started ≡ true) }
 {
     let caller = caller.to_string(alloc)?;

@@ -22,9 +22,7 @@ fn enlist_refused<'a>(
     priority: u32,
     word: &'a [u8],
 ) -> Result<Bytes, AllocError>
-    ensures { IfOk result (λ text. text
-        ≡ sentence (codes "r" ∷ decimal caller ∷ codes "enlist"
-        ∷ name.now ∷ driver.now ∷ kind.now ∷ decimal priority ∷ word.now ∷ [])) }
+    ensures { IfOk result (λ text. text ≡ sentence (codes "r" ∷ decimal caller ∷ codes "enlist" ∷ name.now ∷ driver.now ∷ kind.now ∷ decimal priority ∷ word.now ∷ [])) }
 {
     let caller = caller.to_string(alloc)?;
     let priority = priority.to_string(alloc)?;
@@ -52,9 +50,7 @@ fn enlist_made<'a>(
     priority: u32,
     id: u64,
 ) -> Result<Bytes, AllocError>
-    ensures { IfOk result (λ text. text
-        ≡ sentence (codes "r" ∷ decimal caller ∷ codes "enlist"
-        ∷ name.now ∷ driver.now ∷ kind.now ∷ decimal priority ∷ codes "made" ∷ decimal id ∷ [])) }
+    ensures { IfOk result (λ text. text ≡ sentence (codes "r" ∷ decimal caller ∷ codes "enlist" ∷ name.now ∷ driver.now ∷ kind.now ∷ decimal priority ∷ codes "made" ∷ decimal id ∷ [])) }
 {
     let caller = caller.to_string(alloc)?;
     let priority = priority.to_string(alloc)?;
@@ -107,8 +103,7 @@ fn look_at<'a>(
     word: &'a [u8],
     number: u64,
 ) -> Result<Bytes, AllocError>
-    ensures { IfOk result (λ line. line
-        ≡ sentence (codes "r" ∷ decimal caller ∷ codes "look" ∷ text.now ∷ sight.now ∷ word.now ∷ decimal number ∷ [])) }
+    ensures { IfOk result (λ line. line ≡ sentence (codes "r" ∷ decimal caller ∷ codes "look" ∷ text.now ∷ sight.now ∷ word.now ∷ decimal number ∷ [])) }
 {
     let caller = caller.to_string(alloc)?;
     let number = number.to_string(alloc)?;
@@ -132,8 +127,7 @@ fn look_absent<'a>(
     text: &'a [u8],
     sight: &'a [u8],
 ) -> Result<Bytes, AllocError>
-    ensures { IfOk result (λ line. line
-        ≡ sentence (codes "r" ∷ decimal caller ∷ codes "look" ∷ text.now ∷ sight.now ∷ codes "absent" ∷ [])) }
+    ensures { IfOk result (λ line. line ≡ sentence (codes "r" ∷ decimal caller ∷ codes "look" ∷ text.now ∷ sight.now ∷ codes "absent" ∷ [])) }
 {
     let caller = caller.to_string(alloc)?;
     sentence_of(
@@ -181,9 +175,7 @@ fn built_as<'a>(
     priority: u32,
     below: &'a [u8],
 ) -> Result<Bytes, AllocError>
-    ensures { IfOk result (λ text. text
-        ≡ sentence (codes "r" ∷ decimal caller ∷ codes "end" ∷ decimal larval ∷ codes "built" ∷ decimal id
-        ∷ name.now ∷ driver.now ∷ kind.now ∷ wrap.now ∷ decimal priority ∷ below.now ∷ [])) }
+    ensures { IfOk result (λ text. text ≡ sentence (codes "r" ∷ decimal caller ∷ codes "end" ∷ decimal larval ∷ codes "built" ∷ decimal id ∷ name.now ∷ driver.now ∷ kind.now ∷ wrap.now ∷ decimal priority ∷ below.now ∷ [])) }
 {
     let caller = caller.to_string(alloc)?;
     let larval = larval.to_string(alloc)?;
