@@ -1,23 +1,21 @@
 //! The board of many threads.
 
-ghost use Rattle.std.specs.Prelude.{◌≡◌, ◌≢◌, ℕ, ◌+◌, ◌++◌, ◌<◌, ◌≤◌, ◌^◌, false, true, length, slice_get, Some, IfOk, ◌↔◌, MatchResult, MatchOption, MatchBool};
-ghost use Rattle.std.specs.Arc.{arc_value};
+ghost use Rattle.std.specs.Prelude.{◌≡◌, ◌≢◌, ℕ, ◌+◌, ◌++◌, ◌<◌, ◌≤◌, ◌^◌, false, true, length, IfOk, ◌↔◌, MatchResult, MatchOption, MatchBool};
 ghost use Rattle.std.specs.Result.{result_unwrap_or};
-ghost use Rattle.std.specs.declared.sync.Arc.{Arc};
-ghost use Rattle.std.specs.declared.alloc.Global.{Global as GlobalMemory};
 ghost use Rattle.turn_lock.specs.Passes.{knows, turn_lock, turn_knows, turn_value};
 ghost use Rattle.turn_lock.specs.Turns.{fresh_pass, sees, gives_number, gets_number, joined, StartsWith, Shows};
 ghost use Rattle.board.specs.declared.entry.Shape.TheVariants as Shaped;
 ghost use Rattle.board.specs.declared.entry.BoardEntry.TheVariants as Entry;
 ghost use Rattle.board.specs.declared.board_core.BoardErr.TheVariants as BoardErr;
 ghost use Rattle.board.specs.Shapes.{is_chain, width_born};
-ghost use Rattle.board.specs.Entries.{entries_of, birth, submissions, front, mask, told, collected, delivered, verdict, is_shared, take_entry, finish_entry, pass_entry, NoneFor, NonePasses, caller_of};
+ghost use Rattle.board.specs.Entries.{entries_of, birth, submissions, front, mask, told, collected, delivered, verdict, is_shared, finish_entry, pass_entry, NoneFor, NonePasses, caller_of};
 ghost use Rattle.board.specs.Allowance.{IsAllowed};
-ghost use Rattle.board.specs.Legal.{Is, IsNoWorker, MaySubmit, MayManage, MayFinish, IsOpenPad, IsOpenQueue, IsOpen, pipelines, is_shut, LegalBoard};
+ghost use Rattle.board.specs.Legal.{Is, IsNoWorker, MaySubmit, MayManage, MayFinish, IsOpenPad, IsOpenQueue, IsOpen, is_shut, LegalBoard};
 ghost use Rattle.board.specs.Staying.{IsDrained};
-ghost use Rattle.turn_lock.specs.Meeting.{Meets, AtTurn, Enters, Leaves};
+ghost use Rattle.turn_lock.specs.Meeting.{Meets, Leaves};
 ghost use Rattle.shared_board.specs.Passes.{IsPassOn};
 ghost use Rattle.shared_board.specs.Meeting.{HoldsAt};
+ghost use Rattle.shared_board.specs.Records.{AtBoard, Adds, AddsAsk, TakesJob, Collects, Records, RecordsNothing, RecordsUnlessMemory, Makes};
 
 use crate::laws::known_holds;
 use crate::looks::{Drowsy, EndWatch, Look, SpinResult, Tired};
@@ -102,9 +100,7 @@ impl<W: Work> SharedBoard<W> {
         requires some { 1 ≤ lists }
         requires lists { lists ≤ 16 }
         ensures lock { IsPassOn self.now result.0 }
-        ensures turn { AtTurn caller_of LegalBoard (knows pass) (λ h. MatchResult result.1
-            (λ pipe. (pipe ≡ pipelines h) × Enters LegalBoard (knows pass) h (Entry.Born (knows pass).number pipe (Shaped.Pad lists)) (knows result.0))
-            (λ e. (e ≡ BoardErr.Memory) × Leaves (knows pass) h (knows result.0))) }
+        ensures turn { Makes (knows pass) result.1 (Shaped.Pad lists) (knows result.0) }
     {
         self.wakeups.jobs().note_lists(lists);
         let caller = pass.number();
@@ -126,9 +122,7 @@ impl<W: Work> SharedBoard<W> {
         requires caller { IsNoWorker (knows pass).number }
         requires max { 1 ≤ max }
         ensures lock { IsPassOn self.now result.0 }
-        ensures turn { AtTurn caller_of LegalBoard (knows pass) (λ h. MatchResult result.1
-            (λ pipe. (pipe ≡ pipelines h) × Enters LegalBoard (knows pass) h (Entry.Born (knows pass).number pipe (Shaped.Queue max)) (knows result.0))
-            (λ e. (e ≡ BoardErr.Memory) × Leaves (knows pass) h (knows result.0))) }
+        ensures turn { Makes (knows pass) result.1 (Shaped.Queue max) (knows result.0) }
     {
         self.wakeups.jobs().note_queue();
         let caller = pass.number();
@@ -155,9 +149,7 @@ impl<W: Work> SharedBoard<W> {
         requires some { 1 ≤ lists }
         requires lists { lists ≤ 16 }
         ensures lock { IsPassOn self.now result.0 }
-        ensures turn { AtTurn caller_of LegalBoard (knows pass) (λ h. MatchResult result.1
-            (λ pipe. (pipe ≡ pipelines h) × Enters LegalBoard (knows pass) h (Entry.Born (knows pass).number pipe (Shaped.Chain max lists)) (knows result.0))
-            (λ e. (e ≡ BoardErr.Memory) × Leaves (knows pass) h (knows result.0))) }
+        ensures turn { Makes (knows pass) result.1 (Shaped.Chain max lists) (knows result.0) }
     {
         self.wakeups.note_chain(lists);
         let caller = pass.number();
@@ -178,9 +170,7 @@ impl<W: Work> SharedBoard<W> {
         requires caller { MayManage (entries_of pipe (knows pass).seen) (knows pass).number }
         requires pipe { IsOpen (entries_of pipe (knows pass).seen) }
         ensures lock { IsPassOn self.now result.0 }
-        ensures turn { AtTurn caller_of LegalBoard (knows pass) (λ h. MatchResult result.1
-            (λ _. Enters LegalBoard (knows pass) h (Entry.Share (knows pass).number pipe) (knows result.0))
-            (λ e. (e ≡ BoardErr.Memory) × Leaves (knows pass) h (knows result.0))) }
+        ensures turn { RecordsUnlessMemory (knows pass) result.1 (Entry.Share (knows pass).number pipe) (knows result.0) }
     {
         let caller = pass.number();
         let mut turn = self.turn(rt, pass);
@@ -207,9 +197,7 @@ impl<W: Work> SharedBoard<W> {
         requires alone { is_shared (entries_of pipe (knows pass).seen) ≡ false }
         requires bits { mask < 2 ^ width_born (birth (entries_of pipe (knows pass).seen)) }
         ensures lock { IsPassOn self.now result.0 }
-        ensures turn { AtTurn caller_of LegalBoard (knows pass) (λ h. MatchResult result.1
-            (λ _. Enters LegalBoard (knows pass) h (Entry.Mask (knows pass).number pipe mask) (knows result.0))
-            (λ e. (e ≡ BoardErr.Memory) × Leaves (knows pass) h (knows result.0))) }
+        ensures turn { RecordsUnlessMemory (knows pass) result.1 (Entry.Mask (knows pass).number pipe mask) (knows result.0) }
     {
         let caller = pass.number();
         let mut turn = self.turn(rt, pass);
@@ -237,10 +225,12 @@ impl<W: Work> SharedBoard<W> {
         requires caller { MaySubmit (entries_of pipe (knows pass).seen) (knows pass).number }
         requires pipe { IsOpenPad (entries_of pipe (knows pass).seen) }
         ensures lock { IsPassOn self.now result.0 }
-        ensures turn { AtTurn caller_of LegalBoard (knows pass) (λ h. MatchResult result.1
+        ensures turn { AtBoard (knows pass) (λ h. MatchResult result.1
             (λ n. (n ≡ length (submissions (entries_of pipe h))) × IsAllowed W.weight h (knows pass).number (W.asked job)
-            × ((ask : Arc W.Ask GlobalMemory) × (arc_value ask ≡ W.asked job) × Enters LegalBoard (knows pass) h (Entry.Submit (knows pass).number pipe n ask) (knows result.0)))
-            (λ e. ((e ≡ BoardErr.NoWorker) ↔ (mask (entries_of pipe h) ≡ 0)) × ((e ≡ BoardErr.TooBig) ↔ ((0 < mask (entries_of pipe h)) × (IsAllowed W.weight h (knows pass).number (W.asked job) → ⊥))) × Leaves (knows pass) h (knows result.0))) }
+            × AddsAsk (knows pass) h (W.asked job) (λ ask. Entry.Submit (knows pass).number pipe n ask) (knows result.0))
+            (λ e. ((e ≡ BoardErr.NoWorker) ↔ (mask (entries_of pipe h) ≡ 0))
+            × ((e ≡ BoardErr.TooBig) ↔ ((0 < mask (entries_of pipe h)) × (IsAllowed W.weight h (knows pass).number (W.asked job) → ⊥)))
+            × Leaves (knows pass) h (knows result.0))) }
     {
         let caller = pass.number();
         let mut turn = self.turn(rt, pass);
@@ -269,10 +259,11 @@ impl<W: Work> SharedBoard<W> {
         requires caller { MaySubmit (entries_of pipe (knows pass).seen) (knows pass).number }
         requires pipe { IsOpenQueue (entries_of pipe (knows pass).seen) }
         ensures lock { IsPassOn self.now result.0 }
-        ensures turn { AtTurn caller_of LegalBoard (knows pass) (λ h. MatchResult result.1
+        ensures turn { AtBoard (knows pass) (λ h. MatchResult result.1
             (λ answer. (answer ≡ verdict (entries_of pipe h) backlog) × IsAllowed W.weight h (knows pass).number (W.asked job)
-            × ((ask : Arc W.Ask GlobalMemory) × (arc_value ask ≡ W.asked job) × Enters LegalBoard (knows pass) h (Entry.Enq (knows pass).number pipe ask backlog answer) (knows result.0)))
-            (λ e. (e ≢ BoardErr.NoWorker) × ((e ≡ BoardErr.TooBig) ↔ (IsAllowed W.weight h (knows pass).number (W.asked job) → ⊥)) × Leaves (knows pass) h (knows result.0))) }
+            × AddsAsk (knows pass) h (W.asked job) (λ ask. Entry.Enq (knows pass).number pipe ask backlog answer) (knows result.0))
+            (λ e. (e ≢ BoardErr.NoWorker) × ((e ≡ BoardErr.TooBig) ↔ (IsAllowed W.weight h (knows pass).number (W.asked job) → ⊥))
+            × Leaves (knows pass) h (knows result.0))) }
     {
         let caller = pass.number();
         let mut turn = self.turn(rt, pass);
@@ -293,11 +284,9 @@ impl<W: Work> SharedBoard<W> {
     pub fn take<R: Wait>(&self, rt: &R, pass: BoardPass<W>) -> (BoardPass<W>, Option<Taken<W>>)
         requires { IsPassOn self.now pass }
         ensures lock { IsPassOn self.now result.0 }
-        ensures turn { AtTurn caller_of LegalBoard (knows pass) (λ h. MatchOption result.1
+        ensures turn { AtBoard (knows pass) (λ h. MatchOption result.1
             (NoneFor h (knows pass).number × Leaves (knows pass) h (knows result.0))
-            (λ t. (slice_get (submissions (entries_of t.slip.pipe h)) t.slip.number ≡ Some (W.asked t.job))
-            × Enters LegalBoard (knows pass) h (take_entry h (knows pass).number t.slip.pipe t.slip.number) (knows result.0)
-            × MayFinish W.meaning (entries_of t.slip.pipe (knows result.0).seen) (knows pass).number t.slip.number (W.meaning (W.asked t.job)))) }
+            (λ t. TakesJob W.meaning (knows pass) h t.slip.pipe t.slip.number (W.asked t.job) (knows result.0))) }
     {
         let caller = pass.number();
         let seen = self.wakeups.jobs().seen();
@@ -327,13 +316,12 @@ impl<W: Work> SharedBoard<W> {
     ) -> (BoardPass<W>, Option<Taken<W>>, bool, Option<Drowsy<'a>>)
         requires { IsPassOn self.now pass }
         ensures lock { IsPassOn self.now result.0 }
-        ensures turn { AtTurn caller_of LegalBoard (knows pass) (λ h. MatchOption result.1
+        ensures turn { AtBoard (knows pass) (λ h. MatchOption result.1
             (MatchBool result.2
-            ((p : ℕ) × Is is_chain (entries_of p h) × NoneFor h (knows pass).number × Enters LegalBoard (knows pass) h (pass_entry h (knows pass).number p) (knows result.0))
+            ((p : ℕ) × Is is_chain (entries_of p h) × NoneFor h (knows pass).number
+            × Adds (knows pass) h (pass_entry h (knows pass).number p) (knows result.0))
             (NonePasses h × NoneFor h (knows pass).number × Leaves (knows pass) h (knows result.0)))
-            (λ t. (slice_get (submissions (entries_of t.slip.pipe h)) t.slip.number ≡ Some (W.asked t.job))
-            × Enters LegalBoard (knows pass) h (take_entry h (knows pass).number t.slip.pipe t.slip.number) (knows result.0)
-            × MayFinish W.meaning (entries_of t.slip.pipe (knows result.0).seen) (knows pass).number t.slip.number (W.meaning (W.asked t.job)))) }
+            (λ t. TakesJob W.meaning (knows pass) h t.slip.pipe t.slip.number (W.asked t.job) (knows result.0))) }
     {
         let caller = pass.number();
         let seen = self.wakeups.jobs().seen();
@@ -370,7 +358,7 @@ impl<W: Work> SharedBoard<W> {
         requires lock { IsPassOn self.now pass }
         requires took { MayFinish W.meaning (entries_of slip.pipe (knows pass).seen) (knows pass).number slip.number out }
         ensures lock { IsPassOn self.now result }
-        ensures turn { AtTurn caller_of LegalBoard (knows pass) (λ h. Enters LegalBoard (knows pass) h (finish_entry h (knows pass).number slip.pipe slip.number) (knows result)) }
+        ensures turn { Records (knows pass) (λ h. finish_entry h (knows pass).number slip.pipe slip.number) (knows result) }
     {
         let caller = pass.number();
         let pipe = slip.pipe();
@@ -397,12 +385,10 @@ impl<W: Work> SharedBoard<W> {
         requires took { MayFinish W.meaning (entries_of slip.pipe (knows pass).seen) (knows pass).number slip.number out }
         ensures lock { IsPassOn self.now result.0 }
         ensures turn { (m : _)
-            × AtTurn caller_of LegalBoard (knows pass) (λ h. Enters LegalBoard (knows pass) h (finish_entry h (knows pass).number slip.pipe slip.number) m)
+            × Records (knows pass) (λ h. finish_entry h (knows pass).number slip.pipe slip.number) m
             × MatchOption result.1
             (NoneFor m.seen m.number × (knows result.0 ≡ m))
-            (λ t. (slice_get (submissions (entries_of t.slip.pipe m.seen)) t.slip.number ≡ Some (W.asked t.job))
-            × Enters LegalBoard m m.seen (take_entry m.seen m.number t.slip.pipe t.slip.number) (knows result.0)
-            × MayFinish W.meaning (entries_of t.slip.pipe (knows result.0).seen) m.number t.slip.number (W.meaning (W.asked t.job))) }
+            (λ t. TakesJob W.meaning m m.seen t.slip.pipe t.slip.number (W.asked t.job) (knows result.0)) }
     {
         let caller = pass.number();
         let pipe = slip.pipe();
@@ -429,8 +415,8 @@ impl<W: Work> SharedBoard<W> {
     pub fn pass_on<R: Wait>(&self, rt: &R, pass: BoardPass<W>) -> (BoardPass<W>, bool)
         requires { IsPassOn self.now pass }
         ensures lock { IsPassOn self.now result.0 }
-        ensures turn { AtTurn caller_of LegalBoard (knows pass) (λ h. MatchBool result.1
-            ((p : ℕ) × Is is_chain (entries_of p h) × Enters LegalBoard (knows pass) h (pass_entry h (knows pass).number p) (knows result.0))
+        ensures turn { AtBoard (knows pass) (λ h. MatchBool result.1
+            ((p : ℕ) × Is is_chain (entries_of p h) × Adds (knows pass) h (pass_entry h (knows pass).number p) (knows result.0))
             (NonePasses h × Leaves (knows pass) h (knows result.0))) }
     {
         let caller = pass.number();
@@ -453,9 +439,7 @@ impl<W: Work> SharedBoard<W> {
         requires caller { MayManage (entries_of pipe (knows pass).seen) (knows pass).number }
         requires pipe { IsOpenQueue (entries_of pipe (knows pass).seen) }
         ensures lock { IsPassOn self.now result.0 }
-        ensures turn { AtTurn caller_of LegalBoard (knows pass) (λ h. MatchResult result.1
-            (λ _. Enters LegalBoard (knows pass) h (Entry.Hold (knows pass).number pipe) (knows result.0))
-            (λ e. (e ≡ BoardErr.Memory) × Leaves (knows pass) h (knows result.0))) }
+        ensures turn { RecordsUnlessMemory (knows pass) result.1 (Entry.Hold (knows pass).number pipe) (knows result.0) }
     {
         let caller = pass.number();
         let mut turn = self.turn(rt, pass);
@@ -476,9 +460,7 @@ impl<W: Work> SharedBoard<W> {
         requires caller { MayManage (entries_of pipe (knows pass).seen) (knows pass).number }
         requires pipe { IsOpenQueue (entries_of pipe (knows pass).seen) }
         ensures lock { IsPassOn self.now result.0 }
-        ensures turn { AtTurn caller_of LegalBoard (knows pass) (λ h. MatchResult result.1
-            (λ _. Enters LegalBoard (knows pass) h (Entry.Go (knows pass).number pipe) (knows result.0))
-            (λ e. (e ≡ BoardErr.Memory) × Leaves (knows pass) h (knows result.0))) }
+        ensures turn { RecordsUnlessMemory (knows pass) result.1 (Entry.Go (knows pass).number pipe) (knows result.0) }
     {
         let caller = pass.number();
         let mut turn = self.turn(rt, pass);
@@ -504,8 +486,9 @@ impl<W: Work> SharedBoard<W> {
         requires caller { MayManage (entries_of pipe (knows pass).seen) (knows pass).number }
         requires pipe { IsOpen (entries_of pipe (knows pass).seen) }
         ensures lock { IsPassOn self.now result.0 }
-        ensures turn { AtTurn caller_of LegalBoard (knows pass) (λ h. let es = entries_of pipe h in MatchResult result.1
-            (λ _. (into.new.list ≡ into.old.list ++ delivered W.meaning es (length (told es))) × Enters LegalBoard (knows pass) h (Entry.Collect (knows pass).number pipe (length (told es))) (knows result.0))
+        ensures turn { AtBoard (knows pass) (λ h. let es = entries_of pipe h in MatchResult result.1
+            (λ _. (into.new.list ≡ into.old.list ++ delivered W.meaning es (length (told es)))
+            × Collects (knows pass) h pipe (knows result.0))
             (λ e. (e ≡ BoardErr.Memory) × (into.new.list ≡ into.old.list) × Leaves (knows pass) h (knows result.0))) }
     {
         let caller = pass.number();
@@ -529,9 +512,10 @@ impl<W: Work> SharedBoard<W> {
         requires caller { MayManage (entries_of pipe (knows pass).seen) (knows pass).number }
         requires pipe { IsOpen (entries_of pipe (knows pass).seen) }
         ensures lock { IsPassOn self.now result.0 }
-        ensures turn { AtTurn caller_of LegalBoard (knows pass) (λ h. let es = entries_of pipe h in MatchResult result.1
+        ensures turn { AtBoard (knows pass) (λ h. let es = entries_of pipe h in MatchResult result.1
             (λ all. MatchBool all
-            ((front es ≡ length (submissions es)) × (into.new.list ≡ into.old.list ++ delivered W.meaning es (length (told es))) × Enters LegalBoard (knows pass) h (Entry.Collect (knows pass).number pipe (length (told es))) (knows result.0))
+            ((front es ≡ length (submissions es)) × (into.new.list ≡ into.old.list ++ delivered W.meaning es (length (told es)))
+            × Collects (knows pass) h pipe (knows result.0))
             ((front es < length (submissions es)) × (into.new.list ≡ into.old.list) × Leaves (knows pass) h (knows result.0)))
             (λ e. (e ≡ BoardErr.Memory) × (into.new.list ≡ into.old.list) × Leaves (knows pass) h (knows result.0))) }
     {
@@ -551,7 +535,7 @@ impl<W: Work> SharedBoard<W> {
         requires alone { is_shared (entries_of pipe (knows pass).seen) ≡ false }
         requires drained { IsDrained (entries_of pipe (knows pass).seen) }
         ensures lock { IsPassOn self.now result }
-        ensures turn { AtTurn caller_of LegalBoard (knows pass) (λ h. Enters LegalBoard (knows pass) h (Entry.Close (knows pass).number pipe) (knows result)) }
+        ensures turn { Records (knows pass) (λ _. Entry.Close (knows pass).number pipe) (knows result) }
     {
         let caller = pass.number();
         let mut turn = self.turn(rt, pass);
@@ -566,7 +550,7 @@ impl<W: Work> SharedBoard<W> {
         requires caller { (knows pass).number ≡ 0 }
         requires once { is_shut (knows pass).seen ≡ false }
         ensures lock { IsPassOn self.now result }
-        ensures turn { AtTurn caller_of LegalBoard (knows pass) (λ h. Enters LegalBoard (knows pass) h (Entry.Shut (knows pass).number) (knows result)) }
+        ensures turn { Records (knows pass) (λ _. Entry.Shut (knows pass).number) (knows result) }
     {
         let caller = pass.number();
         let mut turn = self.turn(rt, pass);
@@ -581,7 +565,7 @@ impl<W: Work> SharedBoard<W> {
         requires { IsPassOn self.now pass }
         ensures lock { IsPassOn self.now result.0 }
         ensures shut { result.1 ≡ is_shut (knows result.0).seen }
-        ensures turn { AtTurn caller_of LegalBoard (knows pass) (λ h. Leaves (knows pass) h (knows result.0)) }
+        ensures turn { RecordsNothing (knows pass) (knows result.0) }
     {
         let caller = pass.number();
         let mut turn = self.turn(rt, pass);
@@ -600,7 +584,7 @@ impl<W: Work> SharedBoard<W> {
         requires { IsPassOn self.now pass }
         ensures lock { IsPassOn self.now result.0 }
         ensures shut { MatchOption result.1 (is_shut (knows result.0).seen ≡ true) (λ _. is_shut (knows result.0).seen ≡ false) }
-        ensures turn { AtTurn caller_of LegalBoard (knows pass) (λ h. Leaves (knows pass) h (knows result.0)) }
+        ensures turn { RecordsNothing (knows pass) (knows result.0) }
     {
         let (pass, shut) = self.is_shut(rt, pass);
         if shut {
