@@ -32,14 +32,11 @@ pub(crate) trait Shaped {
 }
 
 /// Takes a job, runs it and finishes it, if one may be taken. The jobs that others took stay theirs.
-pub(crate) fn work<S: Shaped, W: Work>(
-    board: &mut BoardCore<W>,
-    worker: u32,
-    pipe: u64,
-) -> bool
+pub(crate) fn work<S: Shaped, W: Work>(board: &mut BoardCore<W>, worker: u32, pipe: u64) -> bool
     requires { IsOpenFor S.such board.old pipe 0 }
     ensures open { IsOpenFor S.such board.new pipe 0 }
-    ensures others { (other p n : ℕ) (out : W.Out) → worker ≢ other → MayFinish W.meaning (entries_of p board.old) other n out → MayFinish W.meaning (entries_of p board.new) other n out }
+    ensures others { (other p n : ℕ) (out : W.Out) → worker ≢ other
+        → MayFinish W.meaning (entries_of p board.old) other n out → MayFinish W.meaning (entries_of p board.new) other n out }
 {
     pipelines_stay::<W::Ask>();
     slips_stay::<W::Ask, W::Out>();
@@ -61,7 +58,8 @@ pub(crate) fn drain<S: Shaped, W: Work>(
 ) -> Result<bool, BoardErr>
     requires { IsOpenFor S.such board.old pipe 0 }
     ensures open { IsOpenFor S.such board.new pipe 0 }
-    ensures others { (other p n : ℕ) (out : W.Out) → 0 ≢ other → MayFinish W.meaning (entries_of p board.old) other n out → MayFinish W.meaning (entries_of p board.new) other n out }
+    ensures others { (other p n : ℕ) (out : W.Out) → 0 ≢ other
+        → MayFinish W.meaning (entries_of p board.old) other n out → MayFinish W.meaning (entries_of p board.new) other n out }
 {
     pipelines_stay::<W::Ask>();
     slips_stay::<W::Ask, W::Out>();
@@ -76,7 +74,8 @@ pub(crate) fn poll<S: Shaped, W: Work>(
 ) -> Result<(), BoardErr>
     requires { IsOpenFor S.such board.old pipe 0 }
     ensures open { IsOpenFor S.such board.new pipe 0 }
-    ensures others { (other p n : ℕ) (out : W.Out) → 0 ≢ other → MayFinish W.meaning (entries_of p board.old) other n out → MayFinish W.meaning (entries_of p board.new) other n out }
+    ensures others { (other p n : ℕ) (out : W.Out) → 0 ≢ other
+        → MayFinish W.meaning (entries_of p board.old) other n out → MayFinish W.meaning (entries_of p board.new) other n out }
 {
     pipelines_stay::<W::Ask>();
     slips_stay::<W::Ask, W::Out>();

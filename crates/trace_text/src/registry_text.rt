@@ -44,7 +44,8 @@ fn put_enlisting(
     spec: &Spec,
     answer: Enlisted,
 ) -> Result<(), AllocError>
-    ensures text { OnOk result (line.new ≡ with_words line.old (spec.now.name ∷ spec.now.driver ∷ kind_word spec.now.kind ∷ decimal spec.now.priority ∷ enlisted_words answer)) }
+    ensures text { OnOk result (line.new ≡ with_words line.old
+        (spec.now.name ∷ spec.now.driver ∷ kind_word spec.now.kind ∷ decimal spec.now.priority ∷ enlisted_words answer)) }
     ensures fits { OnOk result ((is_u32 spec.now.priority && enlisted_fits answer) ≡ true) }
 {
     line.word(spec.name.as_slice())?;
