@@ -37,8 +37,8 @@ use std::alloc::{AllocError, Global};
 use std::sync::{Arc, Wait};
 use transforms::{Ask, Finished, Job};
 
-// what the board's laws say of what is shared, and of what workers alone leave
-pub(crate) fn sharing_laws()
+/// What the board's laws say of what is shared, and of what workers alone leave.
+pub fn sharing_laws()
     ensures { SharingLaws }
 {
     board_laws();

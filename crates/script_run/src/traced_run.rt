@@ -35,8 +35,8 @@ use trace_laws::traces_can_be_read;
 use trace_text::write_trace;
 use transforms::Ask;
 
-// Writes the trace of these histories in one piece.
-fn put_trace<K: Sink>(
+/// Writes the trace of these histories in one piece, and flushes it. A sink that fails may have taken its front.
+pub fn put_trace<K: Sink>(
     alloc: Global,
     registry: &RegLog,
     board: &BoardLog<Ask>,

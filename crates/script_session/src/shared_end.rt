@@ -8,8 +8,8 @@ ghost use Rattle.dialogues.specs.Piping.{lets_go, let_all_go, drains_at_end, dra
 ghost use Rattle.dialogues.specs.ScriptState.{PipelineState as KnownPipe};
 ghost use Rattle.shared_board.specs.Passes.{IsPassOn};
 ghost use Rattle.recorded_calls.specs.Passes.{known, lock_of, CallsBoard};
-ghost use Rattle.recorded_calls.specs.Pipelines.{Steps, Laws, IsShut};
-ghost use Rattle.recorded_calls.specs.Sharing.{SharingLaws, KnowsGathered};
+ghost use Rattle.recorded_calls.specs.Pipelines.{IsShut};
+ghost use Rattle.recorded_calls.specs.Sharing.{KnowsGathered};
 ghost use Rattle.script_session.specs.Gathering.{IsJoined, EndsFirst, StopsFirst, SeesBeside, HasFreed, HasDelivered, MovesLent, MovesAllLent, EndsLent, AreToMove};
 ghost use Rattle.script_session.specs.Performing.{HasSeenMore};
 ghost use Rattle.script_session.specs.Lending.{HasLent};
@@ -19,61 +19,17 @@ use crate::callbacks::{count_completions, tell};
 use crate::end_of_input::say_end;
 use crate::shared_transforms::Shared;
 use crate::transform::Transform;
-use board::{
-    collects_hand_out, collects_hand_out_all, completions_in_order, entries_join, entries_leave,
-    fronts_tell_all, histories_go_on, masks_stay, numbers_in_order, only_collects_hand_out,
-    others_leave, pipelines_stay, queues_hold, shared_pipelines_stay, workers_are_left,
-    workers_finish,
-};
+use board::only_collects_hand_out;
 use crew::Gate;
-use dialogues::board_calls_go_on;
 use kc_base::Callbacks;
-use recorded_calls::{BoardCaller, PipelineView, RequestLines, Stop, gathered_hand_out_all};
+use recorded_calls::{
+    BoardCaller, PipelineView, RequestLines, Stop, gathered_hand_out_all, sharing_laws,
+};
 use reply_text::{Answer, Reply};
 use shared_board::{BoardPass, SharedBoard};
 use std::alloc::Global;
 use std::sync::Wait;
-use transforms::laws::values_are_short;
-use transforms::{Ask, Finished, Job};
-
-// what an entry of a caller's own is to what it knows
-fn entry_laws()
-    ensures { Steps }
-{
-    histories_go_on::<Ask>();
-    entries_join::<Ask>();
-    entries_leave::<Ask>();
-    pipelines_stay::<Ask>();
-    queues_hold::<Ask>();
-    masks_stay::<Ask>();
-    only_collects_hand_out::<Ask>();
-    collects_hand_out::<Ask, Finished>();
-    collects_hand_out_all::<Ask>();
-    fronts_tell_all::<Ask>();
-    completions_in_order::<Ask>();
-    numbers_in_order::<Ask>();
-}
-
-// what others leave of what a caller knows of the board, and what it does itself
-fn board_laws()
-    ensures { Laws }
-{
-    others_leave::<Ask, Finished>();
-    board_calls_go_on();
-    entry_laws();
-    values_are_short();
-}
-
-// what the board's laws say of what is shared, and of what workers alone leave
-fn sharing_laws()
-    ensures { SharingLaws }
-{
-    board_laws();
-    shared_pipelines_stay::<Ask>();
-    entries_leave::<Ask>();
-    workers_are_left::<Ask>();
-    workers_finish::<Ask>();
-}
+use transforms::{Ask, Job};
 
 // Lets the pipeline of a shared transform go, if it is held.
 fn release_shared<R: Wait>(

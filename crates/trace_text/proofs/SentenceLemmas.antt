@@ -1,25 +1,27 @@
--- A line of words, and a word of ids, one more at a time.
-use Rattle.std.proofs.Common.{◌≡◌, ℕ, ◌+◌, ◌<◌, ◌≤◌, List, [], ◌∷◌, ◌++◌, length, take, get_or, map, Bor, sym, ap, append-nil, ◌∙◌, append_assoc}
+-- A line of words, a word of ids, and a text of lines, one more at a time.
+use Rattle.std.proofs.Common.{refl, codes, ◌≡◌, ℕ, ◌+◌, ◌<◌, ◌≤◌, List, [], ◌∷◌, ◌++◌, length, take, get_or, map, Bor, sym, ap, append-nil, ◌∙◌, append_assoc}
 use Rattle.std.specs.List.{join_with_byte, flat_map}
 use Rattle.std.specs.Fmt.{decimal}
 use Rattle.std.proofs.lemmas.List.{take_more, map_push, take_all}
-use Rattle.trace_text.specs.Text.{ids_word}
+use Rattle.trace_text.specs.Sentences.{with_words, spaced}
+use Rattle.trace_text.specs.Text.{ids_word, sentence}
 
 join_more : (c : ℕ) (first : List ℕ) (words : List (List ℕ)) (word : List ℕ) → join_with_byte c (first ∷ (words ++ word ∷ [])) ≡ (join_with_byte c (first ∷ words) ++ c ∷ []) ++ word
 join_more c first [] word = sym (append_assoc first (c ∷ []) word)
 join_more c first (next ∷ words) word = ap (λ text. first ++ (c ∷ text)) (join_more c next words word) ∙ simp append_assoc
 
-pub next_word : (text pushed appended first : List ℕ) (words : List (Bor (List ℕ))) (i : ℕ) (d : Bor (List ℕ)) → i < length words
-    → text ≡ join_with_byte 32 (first ∷ map (λ w. w.now) (take i words))
-    → pushed ≡ text ++ 32 ∷ [] → appended ≡ pushed ++ (get_or words i d).now
-    → appended ≡ join_with_byte 32 (first ∷ map (λ w. w.now) (take (i + 1) words))
-next_word text pushed appended first words i d lt is blank word =
-    let now : Bor (List ℕ) → List ℕ = λ w. w.now in
-    word
-    ∙ (ap (λ t. t ++ now (get_or words i d)) (blank ∙ ap (λ t. t ++ 32 ∷ []) is)
-    ∙ (sym (join_more 32 first (map now (take i words)) (now (get_or words i d)))
-    ∙ (ap (λ ws. join_with_byte 32 (first ∷ ws)) (sym (map_push now (take i words) (get_or words i d)))
-    ∙ ap (λ ws. join_with_byte 32 (first ∷ map now ws)) (sym (take_more words i d lt)))))
+-- the code adds each word behind the text so far
+words_behind : (text : List ℕ) (words : List (List ℕ)) → with_words text words ≡ join_with_byte 32 (text ∷ words)
+words_behind text [] = refl
+words_behind text (word ∷ words) = words_behind (text ++ 32 ∷ word) words ∙ regroup words
+  where
+    regroup : (words : List (List ℕ)) → join_with_byte 32 ((text ++ 32 ∷ word) ∷ words) ≡ join_with_byte 32 (text ∷ (word ∷ words))
+    regroup [] = refl
+    regroup (next ∷ words) = append_assoc text (32 ∷ word) (32 ∷ join_with_byte 32 (next ∷ words))
+
+pub ended : (line text : List ℕ) (words : List (List ℕ)) → line ≡ spaced words → text ≡ line ++ codes "\n" → text ≡ sentence words
+ended line text [] is end = end ∙ ap (λ t. t ++ codes "\n") is
+ended line text (first ∷ words) is end = end ∙ ap (λ t. t ++ codes "\n") (is ∙ words_behind first words)
 
 pub next_id : (text pushed appended digits : List ℕ) (first : ℕ) (others : List ℕ) (i d : ℕ) → i < length others
     → text ≡ ids_word (first ∷ take i others)
