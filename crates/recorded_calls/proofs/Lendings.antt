@@ -31,10 +31,6 @@ or-true : (b : Bool) → (b || true) ≡ true
 or-true true = refl
 or-true false = refl
 
-or-left : (a b : Bool) → (a || b) ≡ false → a ≡ false
-or-left false b e = refl
-or-left true b e = absurd cc
-
 -- ---- a pipeline that is lent, while others go on
 
 -- and its maker works

@@ -7,7 +7,6 @@ use Rattle.dialogues.specs.ScriptState.{PipelineState}
 use Rattle.recorded_calls.specs.Passes.{known}
 use Rattle.recorded_calls.specs.Pipelines.{IsQueue}
 use Rattle.recorded_calls.specs.Sharing.{KnowsLent, Beside, Gathers}
-use Rattle.recorded_calls.proofs.BoardCalls.{open-queue}
 use Rattle.recorded_calls.proofs.Gathers.{go-gathers}
 use Rattle.recorded_calls.proofs.board_caller.BoardCaller.go_gathered.Goals as goal
 
