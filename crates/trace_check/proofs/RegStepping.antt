@@ -16,7 +16,7 @@ use Rattle.alg_registry.specs.declared.entry.RegEntry.TheVariants as reg
 use Rattle.alg_registry.specs.Rows.{rows_of, larvals_of}
 use Rattle.alg_registry.specs.Answers.{look_answer, built_answer}
 use Rattle.alg_registry.specs.Legal as legal
-use Rattle.alg_registry.specs.Legal.{is_worker, IsPending, claimer, ended_as, gets_as, puts_as, HasReference}
+use Rattle.alg_registry.specs.Legal.{is_worker, ended_as, gets_as, puts_as}
 use Rattle.alg_registry.specs.Kept.{IsKept}
 use Rattle.trace_check.specs.declared.register.Reference.{Reference}
 use Rattle.trace_check.specs.RegReasons.{builds}

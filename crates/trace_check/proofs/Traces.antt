@@ -1,5 +1,5 @@
 -- A trace that is read so far.
-use Rattle.std.proofs.Common.{◌≡◌, ℕ, ◌+◌, ◌≤◌, Bool, true, not, List, [], ◌∷◌, ◌++◌, length, map, Some, refl, sym, ◌∙◌, ap, subst, arith, append-nil, append_assoc, Bor, length-append}
+use Rattle.std.proofs.Common.{◌≡◌, ℕ, ◌+◌, ◌≤◌, Bool, true, not, List, [], ◌∷◌, ◌++◌, length, map, refl, sym, ◌∙◌, ap, arith, append-nil, append_assoc, length-append}
 use Rattle.std.specs.Prelude.{◌==◌}
 use Rattle.std.specs.List.{list_all, flat_map, join_with_byte}
 use Rattle.std.proofs.lemmas.Bool.{and_parts, and_from}
@@ -10,9 +10,9 @@ use Rattle.trace_check.specs.declared.lines.AskLine.{AskLine}
 use Rattle.trace_check.specs.declared.lines.Event.TheVariants as event
 use Rattle.trace_text.specs.Text.{sentence, reg_words, board_words}
 use Rattle.trace_text.specs.Trace.{trace_of, has_text, fits, board_fits, is_event, AreEvents}
-use Rattle.trace_check.specs.Lines.{origin_of, IsLineOf}
-use Rattle.trace_check.specs.Verdicts.{IsTraceOf, HasFront}
-use Rattle.trace_check.specs.Reading.{IsOneLine, IsCut}
+use Rattle.trace_check.specs.Lines.{origin_of}
+use Rattle.trace_check.specs.Verdicts.{HasFront}
+use Rattle.trace_check.specs.Reading.{IsOneLine}
 use Rattle.trace_check.proofs.Numerals.{words_unlike, is_not}
 use Rattle.trace_check.proofs.LineWords.{registry_are, board_are}
 use Rattle.trace_check.proofs.Cuts.{fed, text_of, AreLines}
