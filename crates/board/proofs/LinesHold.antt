@@ -403,11 +403,6 @@ module _ {J O : Type 0} (pipes : Pipes J O) where
       found_all lines caller found r
       (subst (λ line. MatchOption found (NoneStands (HasJobFor caller) (places pipes) lines.queues × NoneStands (HasJobFor caller) (places pipes) line) (IsOne (HasJobFor caller) (places pipes))) (sym here) h)
 
-  -- or the other way round
-  pub found_own_first : (lines : QueuesState) (caller : ℕ) (own : QueueState) (found : Option ℕ) → AreReady (places pipes) lines → queue_for caller lines.own ≡ own
-      → MatchOption found (NoneStands (HasJobFor caller) (places pipes) own × NoneStands (HasJobFor caller) (places pipes) lines.queues) (IsOne (HasJobFor caller) (places pipes)) → Finds (HasJobFor caller) (places pipes) found
-  found_own_first lines caller own found r here h = found_queue_first lines caller own found r here (both_ways_round caller own lines.queues found h)
-
   -- what a search leaves of the lines
   pub line_searched : (lines : QueuesState) (caller : ℕ) (queues : QueueState) → AreReady (places pipes) lines → KeepsSuch (HasJobFor caller) (places pipes) lines.queues queues → AreReady (places pipes) (record lines { queues = queues })
   line_searched lines caller queues r k = record {

@@ -1,5 +1,5 @@
 -- The callers' own lines, as they are told of a pipeline one after the other, and as it leaves them.
-use Rattle.std.proofs.Common.{◌≡◌, ◌≢◌, ℕ, ◌+◌, ◌<◌, ◌≤◌, Bool, true, false, ◌||◌, List, [], ◌∷◌, ◌++◌, length, Some, None, refl, sym, ◌∙◌, ap, subst, arith, inl, inr, ◌⊎◌}
+use Rattle.std.proofs.Common.{◌≡◌, ◌≢◌, ℕ, ◌+◌, ◌<◌, ◌≤◌, Bool, true, false, ◌||◌, List, [], ◌∷◌, ◌++◌, length, Some, refl, sym, ◌∙◌, ap, subst, arith, inl, inr, ◌⊎◌}
 use Rattle.std.specs.Prelude.{◌==◌, slice_get}
 use Rattle.std.proofs.lemmas.Bool.{eqb-true, both_ways, cases_eq, cases_lt}
 use Rattle.std.proofs.lemmas.List.Folds.{list_any-append}
@@ -21,15 +21,6 @@ module _ (such : Type 0) (pipe : ℕ) where
     member = λ m. m;
     stays = λ i s. s;
     in_line = λ s i w m. absurd (none s);
-  }
-
-  -- and one that was told the same
-  pub told_before : (had has : Bool) (line : QueueState) → had ≡ has → IsTold such pipe had has line line
-  told_before had has line e = record {
-    others = λ p n. (λ m. m, λ s. s);
-    member = λ m. m;
-    stays = λ i s. s;
-    in_line = λ s i w m. w (e ∙ i);
   }
 
   pub told_set : (is : Bool) (line after : QueueState) → IsTold (IsMember line pipe) pipe false is line after → IsTold such pipe false is line after
@@ -156,12 +147,6 @@ who_may place c (f, inr (inr (inr m))) = inr m
 -- ---- all lines
 
 module _ {J O : Type 0} (pipe : ℕ) (place : Pipeline J O) (had has : Bool) (lines : QueuesState) where
-  -- nothing is told where nothing changed
-  pub all_before : had ≡ has → AreTold pipe place had has lines lines
-  all_before e = record {
-    queues = told_before (IsQueue place) pipe had has lines.queues e;
-    own = λ c. told_before (IsFor c place) pipe had has (queue_for c lines.own) e;
-  }
 
   -- a queue stands in no caller's own line
   pub queue_told : (queues : QueueState) → is_queue place.stage ≡ true → IsTold (IsMember lines.queues pipe) pipe false has lines.queues queues → AreTold pipe place had has lines (record lines { queues = queues })

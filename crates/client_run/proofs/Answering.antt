@@ -92,13 +92,6 @@ pub stopped : {A F : Type 0} (result : Result A F) (Done : A → Type 0) {Stoppe
 stopped (Ok done) Done is stop = absurd cc
 stopped (Err error) Done is stop = stop
 
-pub stops-same : (s : State) → Stops s s
-stops-same s = record {
-  locks = locks-same s;
-  registry = record { number = refl; next = refl; seen = ([], sym (append-nil (known s.registry).seen)) };
-  board = record { more = record { number = refl; next = refl; seen = ([], sym (append-nil (known s.board).seen)) }; unshut = λ zero_is. refl };
-}
-
 pub stops-then : (s t u : State) → Stops s t → Stops t u → Stops s u
 stops-then s t u a b = record {
   locks = locks-then s t u a.locks b.locks;

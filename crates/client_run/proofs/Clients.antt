@@ -1,5 +1,5 @@
 -- What a client's script leaves.
-use Rattle.std.proofs.Common.{◌≡◌, ℕ, ◌+◌, ◌-◌, ◌≤◌, Bool, true, List, [], ◌++◌, Option, Some, None, refl, sym, ap, subst, ◌∙◌, arith}
+use Rattle.std.proofs.Common.{◌≡◌, ℕ, ◌+◌, ◌-◌, ◌≤◌, Bool, true, List, [], ◌++◌, Option, Some, None, sym, ap, subst, ◌∙◌, arith}
 use Rattle.std.specs.Prelude.{is_some, slice_get, All, Contains, Result, Ok, Err, IfOk, MatchResult}
 use Rattle.std.specs.List.{list_any}
 use Rattle.std.proofs.lemmas.List.Elements.{All-contains, All-weaker, Contains-get_or}
@@ -35,7 +35,7 @@ use Rattle.shared_board.specs.declared.shared.SharedBoard.{SharedBoard}
 use Rattle.shared_registry.specs.declared.registry_lock.SharedRegistry.{SharedRegistry}
 use Rattle.transforms.specs.declared.ask.Ask.{Ask}
 use Rattle.transforms.specs.declared.request.Finished.{Finished}
-use Rattle.turn_lock.specs.Meeting.{AtTurn, Leaves, IsOwn}
+use Rattle.turn_lock.specs.Meeting.{IsOwn}
 use Rattle.turn_lock.specs.Passes.{knows}
 use Rattle.turn_lock.specs.Turns.{Known, of}
 use Rattle.client_run.specs.declared.client.ClientText.{ClientText}
@@ -47,12 +47,6 @@ use Rattle.client_run.proofs.Fresh.{fresh-posted, fresh-wide, fresh-stands}
 use Rattle.client_run.proofs.Turns.{texts-joined, asked-then, asked-more, called-then, called-more, locks-then, lines-followed, widest-some}
 
 -- ---- a turn at which nothing is done
-
-pub has-met : {E : Type 0} (by : E → ℕ) (Kept : List E → Type 0) (k l : Known E) → AtTurn by Kept k (λ h. Leaves k h l) → HasMet by k l
-has-met by Kept k l t = subst (HasMet by k) (sym t.2) (record { number = refl; made = refl; seen = (t.1.others, t.1.goes_on); own = t.1.shows.made })
-
-pub met-legal : (k l : Known (BoardEntry Ask)) → AtTurn board_caller LegalBoard k (λ h. Leaves k h l) → LegalBoard l.seen
-met-legal k l t = subst (λ (x : Known (BoardEntry Ask)). LegalBoard x.seen) (sym t.2) t.1.kept
 
 -- a pass that had made nothing has seen no entry of its own
 met-none : {E : Type 0} (by : E → ℕ) (k l : Known E) → HasMet by k l → k.made ≡ [] → of by l.number l.seen ≡ []

@@ -34,9 +34,6 @@ module _ {E : Type 0} where
       let rest = none-pass (by x == n) x (of by n xs) none in
       ap (λ b. if b then x ∷ filter test xs else filter test xs) (fails x rest.0) ∙ none-of by n test fails xs rest.1
 
-  pub sees-same : (k : Known E) → HasSeenMore k k
-  sees-same k = record { number = refl; next = refl; seen = starts-same k.seen }
-
   pub sees-then : (k l m : Known E) → HasSeenMore k l → HasSeenMore l m → HasSeenMore k m
   sees-then k l m a b = record { number = b.number ∙ a.number; next = b.next ∙ a.next; seen = starts-trans k.seen l.seen m.seen a.seen b.seen }
 

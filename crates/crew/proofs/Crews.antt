@@ -46,13 +46,6 @@ module _ {E : Type 0} where
       let s : k.ended ++ skipped k.next (k.next - k.next) ≡ k.ended = ap (λ xs. k.ended ++ xs) (skips_none k.next (k.next - k.next) (omega arith)) ∙ append-nil k.ended in
       (λ i. with_next (b i) (gave i)) ∙ (λ i. record { number = k.number; next = k.next + count; seen = k.seen; made = k.made; ended = s i })
 
-  -- the same, with the number that the split was given
-  pub at_next : (k own : Known E) (n : ℕ) → n ≡ k.next → own ≡ gives_number n k → own ≡ gives_number k.next k
-  at_next k own n e gave = subst (λ m. own ≡ gives_number m k) e gave
-
-  pub got_next : (k own : Known E) (n : ℕ) → n ≡ k.next → own ≡ gets_number n k → own ≡ gets_number k.next k
-  got_next k own n e got = subst (λ m. own ≡ gets_number m k) e got
-
 module _ {E : Type 0} (does : E → Bool) where
   pub crewed_none : (from count : ℕ) (k : Known E) → count ≡ 0 → Crewed does from count k k
   crewed_none from count k e = record {

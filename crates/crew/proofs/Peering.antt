@@ -1,15 +1,14 @@
 -- Callers beside a first one.
-use Rattle.std.proofs.Common.{◌≡◌, ◌≢◌, ◌<◌, ◌≤◌, ◌⊎◌, ℕ, zero, suc, Bool, true, false, List, [], ◌∷◌, ◌++◌, length, sym, refl, ap, ◌∙◌, subst, ◌+◌, ◌-◌, arith, ⊎_elim, inl, inr}
-use Rattle.std.specs.Prelude.{◌==◌, if◌then◌else◌, map, reverse, IfOk, IsOk, Result, Ok, Err}
+use Rattle.std.proofs.Common.{◌≡◌, ◌<◌, ◌≤◌, ◌⊎◌, ℕ, zero, suc, Bool, true, false, List, [], ◌∷◌, ◌++◌, length, sym, refl, ap, ◌∙◌, subst, ◌+◌, ◌-◌, arith, inl, inr}
+use Rattle.std.specs.Prelude.{◌==◌, if◌then◌else◌, reverse, IfOk, IsOk, Result, Ok, Err}
 use Rattle.std.proofs.lemmas.Bool.{eq-eqb, cases_lt}
 use Rattle.std.proofs.lemmas.List.{append_assoc, append-nil, reverse-append}
 use Rattle.std.proofs.Math.Nat.{eq-or-lt_of_le}
-use Rattle.turn_lock.specs.Turns.{Known, Each, Has, StartsWith, Shows, of, gives_number, gets_number, joined, skipped}
-use Rattle.turn_lock.specs.Meeting.{IsOwn}
+use Rattle.turn_lock.specs.Turns.{Known, Each, Has, StartsWith, of, gives_number, gets_number, joined, skipped}
 use Rattle.turn_lock.specs.Going.{none_after, starts_through}
 use Rattle.turn_lock.specs.Passes.{knows}
 use Rattle.crew.specs.declared.passes.Passes.{Passes}
-use Rattle.crew.specs.Peers.{HasEnded, Peered, AreFreshFrom, RunsOnBoth, OthersFollow, PeersLeave, PeersTakeNumbers, PeersHaveEnded, EndedStays, EndedAreAlone, FirstIsAlone, CallersAre}
+use Rattle.crew.specs.Peers.{HasEnded, Peered, RunsOnBoth, PeersLeave, PeersTakeNumbers, PeersHaveEnded, EndedStays, EndedAreAlone, FirstIsAlone, CallersAre}
 
 module _ {A : Type 0} where
   starts_same : (xs : List A) → StartsWith xs xs

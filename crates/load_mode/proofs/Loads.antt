@@ -8,7 +8,6 @@ use Rattle.alg_names.specs.Spelled.{tree_of}
 use Rattle.board.specs.declared.entry.BoardEntry.{BoardEntry}
 use Rattle.board.specs.declared.entry.Shape.TheVariants.{Pad}
 use Rattle.board.specs.Entries.{entries_of, submissions, completes_from}
-use Rattle.board.specs.Legal.{LegalBoard}
 use Rattle.templates.specs.Table.{table, template_named}
 use Rattle.templates.specs.Resolving.{weight}
 use Rattle.transforms.specs.declared.ask.Ask.{Ask}

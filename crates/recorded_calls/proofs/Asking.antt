@@ -114,10 +114,6 @@ own {C} n call = ap (λ b. if b then Some call else None) (eq-eqb n n refl)
 
 -- ---- calls whose answers but for want of memory are recorded
 
--- a call that asks was made where its answer is recorded
-abbrev pub AskedIf : {A : Type 0} → Known RegEntry → Known RegEntry → (A → List RegCall → Type 0) → Option A → Type 0
-AskedIf k l S o = MatchOption o (Asked k l []) (λ a. (calls : List RegCall) × S a calls × Asked k l calls)
-
 pub recorded : {X A B : Type 0} → CallLaws → (k l : Known RegEntry) (r : Result X RegErr) (seen_as : Result X RegErr → Option A) (make : B → Result X RegErr) (view : B → A) (answer : List RegEntry → B) (e : List RegEntry → RegEntry) (call : B → RegCall)
     → IsCaller k → ((b : B) → seen_as (make b) ≡ Some (view b)) → seen_as (Err Memory) ≡ None
     → ((h : List RegEntry) → caller_of (e h) ≡ k.number) → ((h : List RegEntry) → reg_call_of (h ++ e h ∷ []) k.number h (e h) ≡ Some (call (answer h))) → ((b : B) → is_settled (call b) ≡ true)

@@ -16,7 +16,7 @@ use Rattle.board.specs.declared.entry.Shape.{Shape}
 use Rattle.board.specs.declared.entry.Shape.TheVariants.{Pad, Queue, Chain}
 use Rattle.board.specs.Entries.{caller_of, is_close, is_closed, is_held, mask, birth, accepted_in, entries_of, submissions, front, told, delivered}
 use Rattle.board.specs.Allowance.{IsAllowed}
-use Rattle.board.specs.Legal.{IsNoWorker, IsOpen, IsOpenPad, IsOpenQueue, IsOpenAs, LegalBoard, pipelines}
+use Rattle.board.specs.Legal.{IsNoWorker, IsOpen, IsOpenPad, IsOpenAs, LegalBoard, pipelines}
 use Rattle.board.specs.Handing.{is_collect, completions}
 use Rattle.std.proofs.lemmas.Bool.{eqb-true}
 use Rattle.std.proofs.lemmas.List.Folds.{list_any-append}
@@ -114,10 +114,6 @@ submit-refused laws k l pipe asked (Err e) O on pad manned turn =
     )
 
 -- ---- `enqueue`
-
-pub open-queue : (bound : Option ℕ) (es : List (BoardEntry Ask)) → IsQueue bound → IsOpenAs (made_so bound) es → IsOpenQueue es
-open-queue None es queue o = absurd queue
-open-queue (Some max) es queue o = o
 
 pub enqueue-refused : Laws → (k l : Known (BoardEntry Ask)) (asked : Ask) (r : Result Entered BoardErr) (V O : List (BoardEntry Ask) → Entered → Type 0)
     → AtTurn caller_of LegalBoard k (λ h. MatchResult r

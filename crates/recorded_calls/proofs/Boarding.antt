@@ -18,11 +18,11 @@ use Rattle.std.specs.List.{cons_option, filter_map, list_all}
 use Rattle.transforms.specs.declared.ask.Ask.{Ask}
 use Rattle.turn_lock.specs.Turns.{Known, StartsWith, sees, adds, of}
 use Rattle.turn_lock.specs.Meeting.{Meets, GoesOn, Enters, Leaves}
-use Rattle.turn_lock.specs.Going.{goes_left, goes_entered}
+use Rattle.turn_lock.specs.Going.{goes_left}
 use Rattle.dialogues.specs.RegistryCalls.{prepend}
 use Rattle.dialogues.specs.BoardCalls.{BoardCall, origin_of, outcome, is_called, board_call_of, board_calls}
 use Rattle.dialogues.specs.ScriptState.{PipelineState}
-use Rattle.recorded_calls.specs.Pipelines.{Laws, IsPad, IsPipeIn, Called, made_so, KnowsPipe, Unchanged, Changed}
+use Rattle.recorded_calls.specs.Pipelines.{Laws, IsPad, IsPipeIn, Called, made_so, Unchanged, Changed}
 
 -- ---- calls
 
@@ -208,12 +208,6 @@ leaves-kept laws k l h met leaves =
 pub meets-kept : Laws → (k : Known (BoardEntry Ask)) (h : List (BoardEntry Ask)) → Met k h → Unchanged k (sees k h)
 meets-kept laws k h met = leaves-kept laws k (sees k h) h met refl
 
--- the caller worked
-pub work-kept : Laws → (k l : Known (BoardEntry Ask)) (h : List (BoardEntry Ask)) (e : BoardEntry Ask) → Met k h → Enters LegalBoard k h e l → is_work e ≡ true → caller_of e ≡ k.number → Unchanged k l
-work-kept laws k l h e met enters works mine =
-    goes-kept laws k l (e ∷ []) (goes_entered caller_of LegalBoard k l (λ x. e) (h, met, enters) mine) (ap (λ b. b && true) works)
-    (subst LegalBoard (sym (ap (λ (x : Known (BoardEntry Ask)). x.seen) enters.0)) enters.1)
-
 pub kept-same : (k : Known (BoardEntry Ask)) → LegalBoard k.seen → Unchanged k k
 kept-same k legal =
     record {
@@ -247,19 +241,6 @@ changed-later k l m pipe pipe' calls asks first later =
       owned = λ p apart owns. first.owned p (later.owned p apart owns);
       accepted = later.accepted ∙ ap (λ a. a ++ asks) first.accepted;
       unshut = λ zero_is. later.unshut (first.called.number ∙ zero_is) ∙ first.unshut zero_is;
-    }
-
-pub kept-changed : (k l : Known (BoardEntry Ask)) (pipe : PipelineState) → KnowsPipe k pipe → Unchanged k l → Changed k l pipe pipe [] []
-kept-changed k l pipe on kept =
-    record {
-      called = kept.called;
-      legal = kept.legal;
-      same = refl;
-      now = kept.pipes pipe on;
-      others = λ other apart was. kept.pipes other was;
-      owned = λ p apart owns. kept.owned p owns;
-      accepted = kept.accepted ∙ sym (append-nil (accepted_by k.number k.seen));
-      unshut = kept.unshut;
     }
 
 -- ---- an entry of one's own

@@ -5,7 +5,7 @@ use Rattle.board.specs.declared.entry.BoardEntry.{BoardEntry}
 use Rattle.board.specs.declared.entry.Shape.{Shape}
 use Rattle.board.specs.Allowance.{accepted_by}
 use Rattle.board.specs.Alone.{HasEntries, PeersGone, PeersAreGone, PeersStayGone, WorkersAreLeft, WorkAlone, WorkAccepts}
-use Rattle.board.specs.Entries.{entries_of, submissions, mask, is_held, is_shared, caller_of}
+use Rattle.board.specs.Entries.{entries_of, submissions, mask, is_held, is_shared}
 use Rattle.board.specs.Following.{LeavesBirth}
 use Rattle.board.specs.Handing.{completions}
 use Rattle.board.specs.Legal.{IsNoWorker, IsOpenAs, MaySubmit, MayManage, LegalBoard, is_shut}
@@ -14,7 +14,6 @@ use Rattle.board.specs.Sharing.{SharedStays}
 use Rattle.transforms.specs.declared.ask.Ask.{Ask}
 use Rattle.transforms.specs.declared.request.Finished.{Finished}
 use Rattle.turn_lock.specs.Turns.{Known, StartsWith, sees}
-use Rattle.turn_lock.specs.Meeting.{IsOwn}
 use Rattle.dialogues.specs.BoardCalls.{BoardCall, Collects, Shares, origin_of}
 use Rattle.dialogues.specs.ScriptState.{PipelineState}
 use Rattle.recorded_calls.specs.Pipelines.{Laws, IsPad, IsQueue, made_so, notice_by, KnowsPipe, Owns, Called, Unchanged}

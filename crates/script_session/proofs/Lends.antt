@@ -151,6 +151,3 @@ shares-then lives k l m all kept stays =
     by_lent : (other : Option PipelineState) → HasLent l other → HasLent m other
     by_lent None on = tt
     by_lent (Some other) on = stays other on
-
-pub shares-sees : (lives : List Live) (k l : Known (BoardEntry Ask)) → SharesAll lives k l → SeesOn k l
-shares-sees lives k l all = called-sees k l all.calls all.called all.unshut

@@ -76,13 +76,6 @@ eqb-eq m n e = grind (arith, nat_tests)
 
 -- ---- what is kept
 
-kept_long : (begun : List ℕ) → kept_of begun ≡ None → 65536 < length begun
-kept_long begun e =
-    elim (cases_lt 65536 (length begun)) [
-      | inl lt ↦ lt
-      | inr le ↦ (let some : kept_of begun ≡ Some begun = ap (λ c. cond c None (Some begun)) (le_false 65536 (length begun) le) in let bad : Some begun ≡ None = sym some ∙ e in absurd cc)
-    ]
-
 kept_short : (begun xs : List ℕ) → kept_of begun ≡ Some xs → begun ≡ xs
 kept_short begun xs e =
     elim (cases_lt 65536 (length begun)) [

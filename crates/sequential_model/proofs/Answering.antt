@@ -1,5 +1,5 @@
 -- Each call of a script comes to what the plain registry answers.
-use Rattle.std.proofs.Common.{◌≡◌, ℕ, zero, suc, ◌<◌, ◌≤◌, Bool, true, false, ◌&&◌, cond, eqb, List, [], ◌∷◌, ◌++◌, length, get_or, set, refl, ap, sym, ◌∙◌, subst, arith, Option, Some, None, Err, IsSome, append_assoc}
+use Rattle.std.proofs.Common.{◌≡◌, ℕ, zero, suc, ◌<◌, ◌≤◌, Bool, true, false, cond, eqb, List, [], ◌∷◌, ◌++◌, length, get_or, set, refl, ap, sym, ◌∙◌, subst, arith, Option, Some, None, Err, IsSome, append_assoc}
 use Rattle.std.specs.Prelude.{slice_get}
 use Rattle.std.specs.List.{list_all}
 use Rattle.kc_base.specs.declared.error_numbers.Errno.TheVariants.{ENOENT}
@@ -115,10 +115,6 @@ own false c call e = absurd cc
 found_there : (o : Option Found) (text : List ℕ) → is_settled (Looks text o) ≡ true → (f : Found) × (o ≡ Some f)
 found_there None text e = absurd cc
 found_there (Some f) text e = (f, refl)
-
-both : (a b : Bool) → (a && b) ≡ true → (a ≡ true) × (b ≡ true)
-both true b e = (refl, e)
-both false b e = absurd cc
 
 -- the call's entry, and building after it
 one_call : AreLighter table weight_of → (h work : List RegEntry) (registry : PlainRegistry) (e : RegEntry) (call : RegCall) → LegalReg h → IsRight h e → MayFollow (h ++ e ∷ []) work → IsMade table h e → MadeAfter table (h ++ e ∷ []) work → Made table h → NonePending h → IsRegistryOf registry h

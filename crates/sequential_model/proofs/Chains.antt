@@ -18,9 +18,6 @@ use Rattle.sequential_model.specs.Registry.{PlainRegistry, LookedUp, and_then, w
 
 -- ---- what the plain builder has still to do
 
-abbrev pub look_at : Templates → ℕ → PlainRegistry → List ℕ → LookedUp
-look_at t levels registry text = looked t levels true registry text
-
 -- where the looks for the children came to this
 abbrev pub on_children : Templates → ℕ → List ℕ → PlainRegistry → Result (List ℕ) Errno → Result (List (List ℕ)) Errno → LookedUp
 on_children t levels text registry r (Err errno) = (registry, Err errno)

@@ -105,9 +105,6 @@ at_last (u ∷ ts) n t e = ap (λ m. slice_get (u ∷ (ts ++ t ∷ [])) m) e ∙
 
 -- ---- over a history
 
-place_of : PlainRegistry → List ℕ → Bool → Option ℕ
-place_of registry text plain = position_from (is_plain_driver text plain) 0 registry.rows
-
 as_answered : (rows : List Row) (larvals : List Larval) (text : List ℕ) (plain : Bool) (place : Option ℕ) → found_driver rows larvals text plain place ≡ answered larvals text place (best_from larvals text plain 0 rows)
 as_answered rows larvals text plain (Some id) = refl
 as_answered rows larvals text plain None = refl

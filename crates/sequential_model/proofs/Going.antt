@@ -41,9 +41,6 @@ no_more g e n none lt = omega (arith, lt, length-texts g e, ap (λ (o : Option (
 pub none_some : {A : Type 0} (o : Option A) (x : A) → o ≡ None → o ≡ Some x → ⊥
 none_some o x p q = let f : None ≡ Some x = sym p ∙ q in cc
 
-some_same : {A : Type 0} {x y : A} → Some x ≡ Some y → x ≡ y
-some_same e = cc
-
 -- it registers nothing, begins nothing and ends nothing
 pub record IsAside (e : RegEntry) : Type 0 where
   pub registers : registered_by e ≡ None

@@ -9,7 +9,7 @@ use Rattle.script_text.specs.declared.commands.Command.TheVariants as command
 use Rattle.script_text.specs.declared.commands.Line.TheVariants as line
 use Rattle.script_text.specs.declared.commands.Line.{Line}
 use Rattle.reply_text.specs.Answers.{text_of}
-use Rattle.dialogues.specs.Dialogues.{Dialogue, Ends, Says, Asks, Posts, followed}
+use Rattle.dialogues.specs.Dialogues.{Dialogue, Ends, Says, Asks, Posts}
 use Rattle.dialogues.specs.GoingOn.{InTurnByOne}
 use Rattle.dialogues.specs.InTurn.{AreInTurn}
 use Rattle.dialogues.specs.Lines.{line_dialogue, lines_dialogue, script}

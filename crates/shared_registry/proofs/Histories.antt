@@ -6,7 +6,6 @@ use Rattle.std.specs.Option.{option_or, option_and_then, option_map}
 use Rattle.std.proofs.lemmas.List.Sums.{fold_push}
 use Rattle.std.proofs.lemmas.List.Elements.{filter_map-append}
 use Rattle.alg_registry.specs.declared.row.Larval.{Larval}
-use Rattle.alg_registry.specs.declared.spec.Spec.{Spec}
 use Rattle.alg_registry.specs.declared.entry.Looked.{Looked}
 use Rattle.alg_registry.specs.declared.entry.RegEntry.{RegEntry}
 use Rattle.alg_registry.specs.Rows.{texts, registered, begun_by, registered_by, opening, first_of, ends, claims, larval_at, larvals_from, larvals_of}
@@ -34,9 +33,6 @@ registered_more h more = ap (λ ss. opening ++ ss) (filter_map-append registered
 
 pub registered_grow : (h more : List RegEntry) → length (registered h) ≤ length (registered (h ++ more))
 registered_grow h more = omega (arith, ap length (registered_more h more), length-append (registered h) (filter_map registered_by more))
-
-pub origin_more : (h more : List RegEntry) (id : ℕ) (spec : Spec) → slice_get (registered h) id ≡ Some spec → slice_get (registered (h ++ more)) id ≡ Some spec
-origin_more h more id spec e = ap (λ ss. slice_get ss id) (registered_more h more) ∙ get_more (registered h) (filter_map registered_by more) id spec e
 
 -- ---- a legal history's parts
 

@@ -3,7 +3,6 @@ use Rattle.std.specs.Prelude.{ℕ, ◌<◌, ◌≡◌, true, List, length, Ok}
 use Rattle.std.proofs.Common.{get_or}
 use Rattle.alg_registry.specs.declared.spec.Spec.{Spec}
 use Rattle.alg_names.specs.Name.{Tree, spelling}
-use Rattle.templates.specs.Names.{IsKnown}
 use Rattle.templates.specs.Nesting.{is_nested_well}
 use Rattle.templates.specs.Table.{table, children_of, derived_of, spellings}
 use Rattle.templates.specs.Resolving.{weight}

@@ -3,7 +3,7 @@ use Rattle.std.proofs.Common.{◌≡◌, ℕ, suc, ◌+◌, ◌-◌, ◌<◌, �
 use Rattle.std.specs.Prelude.{◌==◌, slice_get, slice_set, MatchOption}
 use Rattle.std.specs.List.{filter, filter_map}
 use Rattle.std.proofs.lemmas.Bool.{cases_eq, eq-eqb, le-leb}
-use Rattle.std.proofs.lemmas.List.{length-set, length_push, take_more, take_all, length-take}
+use Rattle.std.proofs.lemmas.List.{length-set, length_push, take_more, length-take}
 use Rattle.std.proofs.lemmas.Option.{slice_get-get_or}
 use Rattle.board.specs.declared.entry.Shape.{Shape}
 use Rattle.board.specs.declared.entry.Entered.TheVariants.{InProgress, Busy, NoSpace}
@@ -11,7 +11,7 @@ use Rattle.board.specs.declared.entry.BoardEntry.{BoardEntry}
 use Rattle.board.specs.declared.entry.BoardEntry.TheVariants.{Born, Submit, Take, Finish, Enq, Deq, Done, Hold, Go, Collect, Close, Share, Mask, Shut}
 use Rattle.board.specs.Shapes.{is_serial, lists_of, IsShape}
 use Rattle.board.specs.Entries.{is_of, entries_of, birth_in, submissions, dequeues, takers, finished}
-use Rattle.board.specs.Legal.{is_shut_entry, IsRight, LegalBoard}
+use Rattle.board.specs.Legal.{is_shut_entry, IsRight}
 use Rattle.trace_check.specs.declared.reason.Reason.{Reason}
 use Rattle.trace_check.specs.BoardReasons.{IsWrong, IsFirstWrong}
 use Rattle.trace_check.specs.Pipes.{PipeState, full_mask, new_pipe, pipe_of, judged, CanCount, AllCanCount, after, is_shut_by, after_at, pipes_after}

@@ -1,5 +1,5 @@
 -- An event is right where none of its four parts is missing.
-use Rattle.std.proofs.Common.{◌≡◌, ◌≢◌, ℕ, Bool, true, false, cond, List, [], ◌∷◌, length, Option, Some, None, refl, sym, ap, subst, arith, inl, inr, ◌⊎◌}
+use Rattle.std.proofs.Common.{◌≡◌, ℕ, Bool, true, false, List, [], ◌∷◌, length, Option, Some, None, refl, sym, ap, subst, arith, inl, inr, ◌⊎◌}
 use Rattle.std.specs.Prelude.{slice_get, ⊤}
 use Rattle.board.specs.declared.entry.Shape.{Shape}
 use Rattle.board.specs.declared.entry.Shape.TheVariants.{Pad, Queue, Chain}
@@ -8,7 +8,7 @@ use Rattle.board.specs.declared.entry.Entered.TheVariants.{InProgress, Busy, NoS
 use Rattle.board.specs.declared.entry.BoardEntry.{BoardEntry}
 use Rattle.board.specs.declared.entry.BoardEntry.TheVariants.{Born, Submit, Take, Finish, Enq, Deq, Done, Hold, Go, Collect, Close, Share, Mask, Shut}
 use Rattle.board.specs.Shapes.{pad_born, line_born}
-use Rattle.board.specs.Entries.{entries_of, birth, submissions, takers, verdict, is_closed, maker_is}
+use Rattle.board.specs.Entries.{entries_of, birth, submissions, verdict, is_closed, maker_is}
 use Rattle.board.specs.Legal.{MayManage, IsOpen, pipelines, IsRight}
 use Rattle.trace_check.specs.declared.reason.Reason.{Reason}
 use Rattle.trace_check.specs.declared.reason.Reason.TheVariants.{State, Caller, Number, Answer}

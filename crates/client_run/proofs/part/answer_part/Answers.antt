@@ -1,4 +1,3 @@
-use Rattle.std.proofs.Common.{◌≡◌, ◌∷◌, ◌++◌, ◌<◌, length, subst}
 use Rattle.client_run.proofs.Answering.{stopped, stops-then, answering-begins, answering-stops, answering-more, answering-ends, answering-malformed}
 use Rattle.client_run.proofs.part.answer_part.Goals as goal
 

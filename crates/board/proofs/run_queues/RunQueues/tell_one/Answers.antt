@@ -1,4 +1,4 @@
-use Rattle.std.proofs.Common.{arith, None, sym, refl, subst}
+use Rattle.std.proofs.Common.{arith, None, sym, refl}
 use Rattle.std.specs.Prelude.{slice_set}
 use Rattle.board.specs.declared.run_queues.CallerQueue.{CallerQueue}
 use Rattle.board.specs.RunQueues.{QueuesState, CallerQueues}

@@ -1,13 +1,10 @@
 use Rattle.std.proofs.Common.{◌≡◌, Some, sym, ◌∙◌, ◌∷◌, [], false, subst, MatchResult}
 use Rattle.board.specs.Alone.{PeersGone}
-use Rattle.board.specs.Entries.{entries_of}
 use Rattle.board.specs.declared.board_core.BoardErr.TheVariants.{Memory}
 use Rattle.dialogues.specs.BoardCalls.{Goes}
 use Rattle.dialogues.specs.ScriptState.{PipelineState}
 use Rattle.recorded_calls.specs.Passes.{known}
-use Rattle.recorded_calls.specs.Pipelines.{IsQueue}
 use Rattle.recorded_calls.specs.Sharing.{KnowsLent, Beside, Gathers}
-use Rattle.recorded_calls.proofs.BoardCalls.{open-queue}
 use Rattle.recorded_calls.proofs.Gathers.{go-gathers}
 use Rattle.recorded_calls.proofs.board_caller.BoardCaller.go_gathered.Goals as goal
 
