@@ -1,8 +1,8 @@
--- A line of words, a word of ids, and a text of lines, one more at a time.
-use Rattle.std.proofs.Common.{refl, codes, ◌≡◌, ℕ, ◌+◌, ◌<◌, ◌≤◌, List, [], ◌∷◌, ◌++◌, length, take, get_or, map, Bor, sym, ap, append-nil, ◌∙◌, append_assoc}
-use Rattle.std.specs.List.{join_with_byte, flat_map}
+-- A line of words, and a word of ids, one more at a time.
+use Rattle.std.proofs.Common.{refl, codes, ◌≡◌, ℕ, ◌+◌, ◌<◌, List, [], ◌∷◌, ◌++◌, length, take, get_or, map, sym, ap, ◌∙◌, append_assoc}
+use Rattle.std.specs.List.{join_with_byte}
 use Rattle.std.specs.Fmt.{decimal}
-use Rattle.std.proofs.lemmas.List.{take_more, map_push, take_all}
+use Rattle.std.proofs.lemmas.List.{take_more, map_push}
 use Rattle.trace_text.specs.Sentences.{with_words, spaced}
 use Rattle.trace_text.specs.Text.{ids_word, sentence}
 
@@ -34,20 +34,3 @@ next_id text pushed appended digits first others i d lt is comma digit more =
     ∙ (sym (join_more 44 (decimal first) (map decimal (take i others)) (decimal (get_or others i d)))
     ∙ (ap (λ ws. join_with_byte 44 (decimal first ∷ ws)) (sym (map_push decimal (take i others) (get_or others i d)))
     ∙ ap (λ ns. join_with_byte 44 (decimal first ∷ map decimal ns)) (sym (take_more others i d lt))))))
-
--- events in order, each with its line
-flat_push : {X : Type 0} (f : X → List ℕ) (xs : List X) (x : X) → flat_map f (xs ++ x ∷ []) ≡ flat_map f xs ++ f x
-flat_push f [] x = append-nil (f x)
-flat_push f (y ∷ xs) x = ap (λ t. f y ++ t) (flat_push f xs x) ∙ sym (append_assoc (f y) (flat_map f xs) (f x))
-
-pub next_event : {X : Type 0} (f : X → List ℕ) (old text appended line : List ℕ) (events : List X) (i : ℕ) (d : X) → i < length events
-    → text ≡ old ++ flat_map f (take i events) → line ≡ f (get_or events i d) → appended ≡ text ++ line
-    → appended ≡ old ++ flat_map f (take (i + 1) events)
-next_event f old text appended line events i d lt is l more =
-    more
-    ∙ (ap (λ t. t ++ line) is
-    ∙ (append_assoc old (flat_map f (take i events)) line
-    ∙ ap (λ t. old ++ t) (ap (λ t. flat_map f (take i events) ++ t) l ∙ (sym (flat_push f (take i events) (get_or events i d)) ∙ ap (flat_map f) (sym (take_more events i d lt))))))
-
-pub all_events : {X : Type 0} (f : X → List ℕ) (old text : List ℕ) (events : List X) (i : ℕ) → length events ≤ i → text ≡ old ++ flat_map f (take i events) → text ≡ old ++ flat_map f events
-all_events f old text events i le is = is ∙ ap (λ xs. old ++ flat_map f xs) (take_all i events le)
