@@ -109,6 +109,41 @@ abbrev pub list_row : List (List ℕ) → Option Command
 list_row [] = Some says.List
 list_row other = None
 
+-- a command that shows what the registry holds
+abbrev pub listing_command_of : List ℕ → List (List ℕ) → Option Command
+listing_command_of name args =
+    if bytes_eq name (codes "refs") then refs_row args
+    else if bytes_eq name (codes "list") then list_row args
+    else None
+
+-- a command for a transform's pipeline, or else one of those above
+abbrev pub pipeline_command_of : List ℕ → List (List ℕ) → Option Command
+pipeline_command_of name args =
+    if bytes_eq name (codes "mask") then mask_row args
+    else if bytes_eq name (codes "hold") then label_row says.Hold args
+    else if bytes_eq name (codes "go") then label_row says.Go args
+    else if bytes_eq name (codes "poll") then label_row says.Poll args
+    else if bytes_eq name (codes "drain") then label_row says.Drain args
+    else if bytes_eq name (codes "free") then label_row says.Free args
+    else listing_command_of name args
+
+-- a command with a request for a transform, or else one of those above
+abbrev pub request_command_of : List ℕ → List (List ℕ) → Option Command
+request_command_of name args =
+    if bytes_eq name (codes "enc") then aead_row says.Enc args
+    else if bytes_eq name (codes "dec") then aead_row says.Dec args
+    else if bytes_eq name (codes "mac") then mac_row args
+    else if bytes_eq name (codes "bulk") then bulk_row args
+    else pipeline_command_of name args
+
+-- a command that makes a transform, or sets its key or tag, or else one of those above
+abbrev pub transform_command_of : List ℕ → List (List ℕ) → Option Command
+transform_command_of name args =
+    if bytes_eq name (codes "alloc") then alloc_row args
+    else if bytes_eq name (codes "key") then key_row args
+    else if bytes_eq name (codes "authsize") then authsize_row args
+    else request_command_of name args
+
 -- the command that a name and its arguments spell
 abbrev pub command_of : List ℕ → List (List ℕ) → Option Command
 command_of name args =
@@ -116,19 +151,4 @@ command_of name args =
     else if bytes_eq name (codes "register") then register_row args
     else if bytes_eq name (codes "unregister") then unregister_row args
     else if bytes_eq name (codes "probe") then probe_row args
-    else if bytes_eq name (codes "alloc") then alloc_row args
-    else if bytes_eq name (codes "key") then key_row args
-    else if bytes_eq name (codes "authsize") then authsize_row args
-    else if bytes_eq name (codes "enc") then aead_row says.Enc args
-    else if bytes_eq name (codes "dec") then aead_row says.Dec args
-    else if bytes_eq name (codes "mac") then mac_row args
-    else if bytes_eq name (codes "bulk") then bulk_row args
-    else if bytes_eq name (codes "mask") then mask_row args
-    else if bytes_eq name (codes "hold") then label_row says.Hold args
-    else if bytes_eq name (codes "go") then label_row says.Go args
-    else if bytes_eq name (codes "poll") then label_row says.Poll args
-    else if bytes_eq name (codes "drain") then label_row says.Drain args
-    else if bytes_eq name (codes "free") then label_row says.Free args
-    else if bytes_eq name (codes "refs") then refs_row args
-    else if bytes_eq name (codes "list") then list_row args
-    else None
+    else transform_command_of name args

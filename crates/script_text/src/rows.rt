@@ -2,7 +2,7 @@
 
 ghost use Rattle.std.specs.Prelude.{map};
 ghost use Rattle.script_text.specs.Arguments.{Reads};
-ghost use Rattle.script_text.specs.Commands.{aes_row, register_row, unregister_row, probe_row, alloc_row, key_row, authsize_row, aead_row, mac_row, bulk_row, mask_row, label_row, refs_row, list_row, command_of};
+ghost use Rattle.script_text.specs.Commands.{aes_row, register_row, unregister_row, probe_row, alloc_row, key_row, authsize_row, aead_row, mac_row, bulk_row, mask_row, label_row, refs_row, list_row, listing_command_of, pipeline_command_of, request_command_of, transform_command_of, command_of};
 ghost use Rattle.script_text.specs.declared.commands.Command.TheVariants as says;
 
 use crate::arguments::{
@@ -221,6 +221,72 @@ fn list_command(args: &[&[u8]]) -> Result<Command, ReadError>
     Ok(Command::List)
 }
 
+// A command that shows what the registry holds.
+fn read_listing_command(alloc: Global, name: &[u8], args: &[&[u8]]) -> Result<Command, ReadError>
+    ensures { Reads result (listing_command_of name.now (map (λ token. token.now) args.now)) }
+{
+    if name == b"refs".as_slice() {
+        refs_command(alloc, args)
+    } else if name == b"list".as_slice() {
+        list_command(args)
+    } else {
+        Err(ReadError::Malformed)
+    }
+}
+
+// A command for a transform's pipeline, or else one of those above.
+fn read_pipeline_command(alloc: Global, name: &[u8], args: &[&[u8]]) -> Result<Command, ReadError>
+    ensures { Reads result (pipeline_command_of name.now (map (λ token. token.now) args.now)) }
+{
+    if name == b"mask".as_slice() {
+        mask_command(alloc, args)
+    } else if name == b"hold".as_slice() {
+        hold_command(alloc, args)
+    } else if name == b"go".as_slice() {
+        go_command(alloc, args)
+    } else if name == b"poll".as_slice() {
+        poll_command(alloc, args)
+    } else if name == b"drain".as_slice() {
+        drain_command(alloc, args)
+    } else if name == b"free".as_slice() {
+        free_command(alloc, args)
+    } else {
+        read_listing_command(alloc, name, args)
+    }
+}
+
+// A command with a request for a transform, or else one of those above.
+fn read_request_command(alloc: Global, name: &[u8], args: &[&[u8]]) -> Result<Command, ReadError>
+    ensures { Reads result (request_command_of name.now (map (λ token. token.now) args.now)) }
+{
+    if name == b"enc".as_slice() {
+        enc_command(alloc, args)
+    } else if name == b"dec".as_slice() {
+        dec_command(alloc, args)
+    } else if name == b"mac".as_slice() {
+        mac_command(alloc, args)
+    } else if name == b"bulk".as_slice() {
+        bulk_command(alloc, args)
+    } else {
+        read_pipeline_command(alloc, name, args)
+    }
+}
+
+// A command that makes a transform, or sets its key or tag, or else one of those above.
+fn read_transform_command(alloc: Global, name: &[u8], args: &[&[u8]]) -> Result<Command, ReadError>
+    ensures { Reads result (transform_command_of name.now (map (λ token. token.now) args.now)) }
+{
+    if name == b"alloc".as_slice() {
+        alloc_command(alloc, args)
+    } else if name == b"key".as_slice() {
+        key_command(alloc, args)
+    } else if name == b"authsize".as_slice() {
+        authsize_command(alloc, args)
+    } else {
+        read_request_command(alloc, name, args)
+    }
+}
+
 /// The command of a name and its arguments.
 pub fn read_command(alloc: Global, name: &[u8], args: &[&[u8]]) -> Result<Command, ReadError>
     ensures { Reads result (command_of name.now (map (λ token. token.now) args.now)) }
@@ -233,37 +299,7 @@ pub fn read_command(alloc: Global, name: &[u8], args: &[&[u8]]) -> Result<Comman
         unregister_command(alloc, args)
     } else if name == b"probe".as_slice() {
         probe_command(alloc, args)
-    } else if name == b"alloc".as_slice() {
-        alloc_command(alloc, args)
-    } else if name == b"key".as_slice() {
-        key_command(alloc, args)
-    } else if name == b"authsize".as_slice() {
-        authsize_command(alloc, args)
-    } else if name == b"enc".as_slice() {
-        enc_command(alloc, args)
-    } else if name == b"dec".as_slice() {
-        dec_command(alloc, args)
-    } else if name == b"mac".as_slice() {
-        mac_command(alloc, args)
-    } else if name == b"bulk".as_slice() {
-        bulk_command(alloc, args)
-    } else if name == b"mask".as_slice() {
-        mask_command(alloc, args)
-    } else if name == b"hold".as_slice() {
-        hold_command(alloc, args)
-    } else if name == b"go".as_slice() {
-        go_command(alloc, args)
-    } else if name == b"poll".as_slice() {
-        poll_command(alloc, args)
-    } else if name == b"drain".as_slice() {
-        drain_command(alloc, args)
-    } else if name == b"free".as_slice() {
-        free_command(alloc, args)
-    } else if name == b"refs".as_slice() {
-        refs_command(alloc, args)
-    } else if name == b"list".as_slice() {
-        list_command(args)
     } else {
-        Err(ReadError::Malformed)
+        read_transform_command(alloc, name, args)
     }
 }

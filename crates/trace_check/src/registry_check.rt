@@ -1,8 +1,9 @@
 //! A registry's events checked in order.
 
-ghost use Rattle.std.specs.Prelude.{◌≡◌, [], IfOk, true, map};
+ghost use Rattle.std.specs.Prelude.{◌≡◌, [], ◌∷◌, ◌++◌, IfOk, OnOk, true, map};
 ghost use Rattle.std.specs.List.{list_all};
-ghost use Rattle.alg_registry.specs.Rows.{opened, rows_of};
+ghost use Rattle.alg_registry.specs.Rows.{opened, marked, rows_of};
+ghost use Rattle.alg_registry.specs.Calls.{new_row};
 ghost use Rattle.trace_text.specs.Trace.{has_text};
 ghost use Rattle.trace_check.specs.RegReasons.{IsFirstWrong};
 ghost use Rattle.trace_check.specs.Registers.{row_of, opening_table};
@@ -15,11 +16,18 @@ use crate::table_steps::{advance_entries, advance_larvals, advance_references};
 use alg_registry::{Kind, RegEntry, Spec};
 use std::alloc::{AllocError, Global};
 
-// A driver that is listed from the start.
-fn opened(alloc: Global, name: &[u8], driver: &[u8], kind: Kind) -> Result<Spec, AllocError>
-    ensures { IfOk result (λ spec. spec ≡ opened name.now driver.now kind) }
+// Adds a driver that is listed from the start.
+fn add_opened(
+    alloc: Global,
+    entries: &mut Vec<Entry>,
+    name: &[u8],
+    driver: &[u8],
+    kind: Kind,
+) -> Result<(), AllocError>
+    ensures { OnOk result (map row_of entries.new.items ≡ marked [] (map row_of entries.old.items ++ new_row (opened name.now driver.now kind) ∷ [])) }
 {
-    plain_spec(alloc, name, driver, kind, 100)
+    let spec = plain_spec(alloc, name, driver, kind, 100)?;
+    add_entry(alloc, entries, &spec)
 }
 
 // The entries before the first event.
@@ -27,12 +35,9 @@ fn opening_entries(alloc: Global) -> Result<Vec<Entry>, AllocError>
     ensures { IfOk result (λ entries. map row_of entries.items ≡ opening_table) }
 {
     let mut entries = Vec::new(alloc);
-    let aes = opened(alloc, b"aes", b"aes-generic", Kind::Cipher)?;
-    add_entry(alloc, &mut entries, &aes)?;
-    let sha = opened(alloc, b"sha256", b"sha256-generic", Kind::Hash)?;
-    add_entry(alloc, &mut entries, &sha)?;
-    let ghash = opened(alloc, b"ghash", b"ghash-generic", Kind::Ghash)?;
-    add_entry(alloc, &mut entries, &ghash)?;
+    add_opened(alloc, &mut entries, b"aes", b"aes-generic", Kind::Cipher)?;
+    add_opened(alloc, &mut entries, b"sha256", b"sha256-generic", Kind::Hash)?;
+    add_opened(alloc, &mut entries, b"ghash", b"ghash-generic", Kind::Ghash)?;
     Ok(entries)
 }
 
