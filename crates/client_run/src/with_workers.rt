@@ -33,6 +33,7 @@ use client_texts::requests_in_order;
 use crew::{Gate, Passes, peers_end, run_crew, run_peers};
 use recorded_calls::{Stop, shared_is_known};
 use reply_text::Reply;
+use script_run::first_locks;
 use script_session::{Shared, end_first};
 use script_text::Part;
 use shared_board::{BoardPass, SharedBoard};
@@ -358,19 +359,6 @@ fn parts_with_workers<G: Gate + Sync, R: Threads + Wait + Sync>(
         registry: registry.finish_all(rt, on_registry),
         board: board.finish_all(rt, on_board),
     }
-}
-
-// Both locks, with their first passes.
-fn first_locks(alloc: Global) -> Result<(SharedBoard<Job>, SharedRegistry, Passes<Ask>), AllocError>
-    ensures { IfOk result (λ r. ArePassesOn r.0 r.1 r.2 × (knows r.2.board ≡ fresh_pass) × (knows r.2.registry ≡ fresh_pass)) }
-{
-    let (registry, on_registry) = SharedRegistry::new(alloc)?;
-    let (board, on_board) = SharedBoard::new(alloc)?;
-    let passes = Passes {
-        board: on_board,
-        registry: on_registry,
-    };
-    Ok((board, registry, passes))
 }
 
 /// Answers all parts of an input, of at most 2^28 bytes each, beside at most 16 workers, on a board and a registry of
