@@ -10,7 +10,7 @@ use Rattle.alg_registry.specs.declared.entry.RegErr.TheVariants.{Memory}
 use Rattle.alg_registry.specs.declared.entry.RegEntry.{RegEntry}
 use Rattle.alg_registry.specs.Rows.{registered}
 use Rattle.alg_registry.specs.Made.{with_spec}
-use Rattle.shared_registry.proofs.Histories.{registered_grow}
+use Rattle.alg_registry.proofs.Existing.{registered_grow}
 use Rattle.turn_lock.specs.Turns.{Known}
 use Rattle.shared_registry.proofs.Going.{Meets, Goes}
 use Rattle.turn_lock.specs.Meeting.{Leaves}

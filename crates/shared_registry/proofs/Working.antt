@@ -11,7 +11,7 @@ use Rattle.alg_registry.specs.declared.entry.RegEntry.TheVariants.{Enlist, Look,
 use Rattle.alg_registry.specs.declared.entry.RegEntry.TheVariants as entry
 use Rattle.alg_registry.specs.Rows.{first_of, claims}
 use Rattle.alg_registry.specs.Made.{building, building_after, last_of, looks_for, look_for, if_of}
-use Rattle.shared_registry.proofs.Histories.{building-push, looks-push}
+use Rattle.alg_registry.proofs.Stack.{building-push, looks-push}
 use Rattle.turn_lock.specs.Turns.{Known}
 use Rattle.shared_registry.specs.Passes.{IsSound}
 use Rattle.shared_registry.proofs.Going.{Goes, goes_on, goes_still}

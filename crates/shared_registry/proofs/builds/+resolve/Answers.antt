@@ -4,10 +4,10 @@ use Rattle.std.specs.List.{filter_map}
 use Rattle.alg_registry.specs.Rows.{registered}
 use Rattle.alg_registry.specs.Made.{with_spec}
 use Rattle.shared_registry.proofs.Asking.{Exist}
-use Rattle.shared_registry.proofs.Histories.{get_within}
 use Rattle.alg_names.specs.Name.{spelling}
 use Rattle.alg_registry.specs.Rows.{texts}
 use Rattle.templates.specs.Resolving.{weight}
+use Rattle.templates.proofs.ChildLooks.{get_within}
 use Rattle.turn_lock.specs.Passes.{knows}
 use Rattle.shared_registry.specs.Building.{Looks, HasText}
 use Rattle.shared_registry.specs.Within.{ChildrenCome}

@@ -1,8 +1,8 @@
 use Rattle.std.proofs.Common.{subst}
 use Rattle.turn_lock.specs.Passes.{knows}
+use Rattle.alg_registry.proofs.OwnCalls.{last_any}
 use Rattle.shared_registry.specs.Own.{open_of}
 use Rattle.shared_registry.specs.Within.{BeginsText}
-use Rattle.shared_registry.proofs.Histories.{last_any}
 use Rattle.shared_registry.proofs.Working.{within_works, works_still}
 use Rattle.shared_registry.proofs.Claiming.{end_comes, end_closes}
 use Rattle.shared_registry.proofs.Outcomes.{larvals_named, is_named, same_tree}
