@@ -6,3 +6,5 @@ pub mod Within
 pub mod Laws
 pub mod Learned
 pub mod Trial
+pub mod Records
+pub mod Ready

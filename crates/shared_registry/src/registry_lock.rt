@@ -6,15 +6,16 @@ ghost use Rattle.alg_registry.specs.declared.entry.RegEntry.{RegEntry};
 ghost use Rattle.alg_registry.specs.Rows.{rows_of, larvals_of, registered, is_listed, end_of, caller_of, texts};
 ghost use Rattle.alg_registry.specs.Answers.{look_answer, enlist_answer, driver_place};
 ghost use Rattle.alg_registry.specs.Legal.{is_worker, HasReference, ended_as};
-ghost use Rattle.alg_registry.specs.Calls.{UnlessMemory, OnMemory, UnlessNoMemory, OnNoMemory, MayLack, enlist_result, end_given, unless_memory, unlist_result, get_result, claimed_number, claimed_answer, listing, refs_answer, refs_result};
+ghost use Rattle.alg_registry.specs.Calls.{UnlessNoMemory, OnNoMemory, MayLack, enlist_result, end_given, unless_memory, unlist_result, get_result, claimed_number, claimed_answer, listing, refs_answer, refs_result};
 ghost use Rattle.templates.specs.Table.{table};
 ghost use Rattle.turn_lock.specs.Passes.{knows, turn_knows, turn_value, turn_lock};
-ghost use Rattle.turn_lock.specs.Meeting.{AtTurn, Enters, Leaves};
+ghost use Rattle.turn_lock.specs.Meeting.{Leaves};
 ghost use Rattle.turn_lock.specs.Turns.{fresh_pass, sees, Shows, StartsWith, gives_number, gets_number, joined};
 ghost use Rattle.shared_registry.specs.Faithful.{IsFaithful};
 ghost use Rattle.shared_registry.specs.Passes.{IsSound, EntersIf, recorded, given};
 ghost use Rattle.shared_registry.specs.Learned.{RegistryLaws};
 ghost use Rattle.shared_registry.specs.Own.{IsOpen, MayHand, MayLook};
+ghost use Rattle.shared_registry.specs.Records.{AtRegistry, Adds, RecordsUnlessMemory, AnswersUnlessMemory};
 
 use crate::faithful_registry::FaithfulRegistry;
 use crate::laws::registry_laws;
@@ -125,7 +126,8 @@ impl SharedRegistry {
         requires plain { spec.wrap ≡ Wrap.Plain }
         requires driver { IsTrue (table.is_driver spec) }
         ensures lock { IsPassOn self.now result.0 }
-        ensures turn { AtTurn caller_of IsFaithful (knows pass) (λ h. UnlessMemory result.1 ((result.1 ≡ enlist_result (enlist_answer (rows_of h) spec)) × Enters IsFaithful (knows pass) h (RegEntry.Enlist (knows pass).number spec (enlist_answer (rows_of h) spec)) (knows result.0)) × OnMemory result.1 (Leaves (knows pass) h (knows result.0))) }
+        ensures turn { RecordsUnlessMemory (knows pass) result.1 (λ h. enlist_result (enlist_answer (rows_of h) spec))
+            (λ h. RegEntry.Enlist (knows pass).number spec (enlist_answer (rows_of h) spec)) (knows result.0) }
         ensures sound { IsSound (knows result.0) }
     {
         let by = pass.number();
@@ -151,7 +153,8 @@ impl SharedRegistry {
         requires lock { IsPassOn self.now pass }
         requires may { MayLook (knows pass) text.now plain }
         ensures lock { IsPassOn self.now result.0 }
-        ensures turn { AtTurn caller_of IsFaithful (knows pass) (λ h. IfOk result.1 (λ answer. (answer ≡ look_answer (rows_of h) (larvals_of h) text.now plain) × Enters IsFaithful (knows pass) h (RegEntry.Look (knows pass).number text.now plain answer) (knows result.0)) × IfErr result.1 (λ e. (e ≡ RegErr.Memory) × Leaves (knows pass) h (knows result.0))) }
+        ensures turn { AnswersUnlessMemory (knows pass) result.1 (λ h. look_answer (rows_of h) (larvals_of h) text.now plain)
+            (λ h answer. Adds (knows pass) h (RegEntry.Look (knows pass).number text.now plain answer) (knows result.0)) (knows result.0) }
         ensures sound { IsSound (knows result.0) }
     {
         let by = pass.number();
@@ -181,7 +184,10 @@ impl SharedRegistry {
     ) -> (RegPass, Result<Option<Claimed>, RegErr>)
         requires lock { IsPassOn self.now pass }
         ensures lock { IsPassOn self.now result.0 }
-        ensures turn { AtTurn caller_of IsFaithful (knows pass) (λ h. IfOk result.1 (λ claimed. (claimed ≡ claimed_answer (larvals_of h) larval) × EntersIf (knows pass) h (option_map (λ number. RegEntry.Claim (knows pass).number number) (claimed_number (larvals_of h) larval)) (knows result.0)) × IfErr result.1 (λ e. (e ≡ RegErr.Memory) × Leaves (knows pass) h (knows result.0))) }
+        ensures turn { AnswersUnlessMemory (knows pass) result.1 (λ h. claimed_answer (larvals_of h) larval)
+            (λ h _. EntersIf (knows pass) h
+            (option_map (λ number. RegEntry.Claim (knows pass).number number) (claimed_number (larvals_of h) larval)) (knows result.0))
+            (knows result.0) }
         ensures sound { IsSound (knows result.0) }
     {
         let by = pass.number();
@@ -211,7 +217,10 @@ impl SharedRegistry {
         requires open { IsOpen (knows pass) larval }
         requires handed { MayHand (knows pass) larval built }
         ensures lock { IsPassOn self.now result.0 }
-        ensures turn { AtTurn caller_of IsFaithful (knows pass) (λ h. UnlessNoMemory result.1 (result.1 ≡ end_of (end_given (rows_of h) built)) × OnNoMemory result.1 (MayLack (end_given (rows_of h) built)) × Enters IsFaithful (knows pass) h (RegEntry.End (knows pass).number larval (unless_memory result.1 (end_given (rows_of h) built))) (knows result.0)) }
+        ensures turn { AtRegistry (knows pass) (λ h. UnlessNoMemory result.1 (result.1 ≡ end_of (end_given (rows_of h) built))
+            × OnNoMemory result.1 (MayLack (end_given (rows_of h) built))
+            × Adds (knows pass) h (RegEntry.End (knows pass).number larval (unless_memory result.1 (end_given (rows_of h) built)))
+            (knows result.0)) }
         ensures sound { IsSound (knows result.0) }
     {
         let by = pass.number();
@@ -233,7 +242,9 @@ impl SharedRegistry {
         requires lock { IsPassOn self.now pass }
         requires began { larval < length (texts (knows pass).seen) }
         ensures lock { IsPassOn self.now result.0 }
-        ensures turn { AtTurn caller_of IsFaithful (knows pass) (λ h. IfOk result.1 (λ ended. (ended ≡ ended_as h larval) × EntersIf (knows pass) h (option_map (λ _. RegEntry.Waited (knows pass).number larval) (ended_as h larval)) (knows result.0)) × IfErr result.1 (λ e. (e ≡ RegErr.Memory) × Leaves (knows pass) h (knows result.0))) }
+        ensures turn { AnswersUnlessMemory (knows pass) result.1 (λ h. ended_as h larval)
+            (λ h _. EntersIf (knows pass) h
+            (option_map (λ _. RegEntry.Waited (knows pass).number larval) (ended_as h larval)) (knows result.0)) (knows result.0) }
         ensures sound { IsSound (knows result.0) }
     {
         let by = pass.number();
@@ -254,7 +265,8 @@ impl SharedRegistry {
         requires lock { IsPassOn self.now pass }
         requires outsider { IsFalse (is_worker (knows pass).number) }
         ensures lock { IsPassOn self.now result.0 }
-        ensures turn { AtTurn caller_of IsFaithful (knows pass) (λ h. UnlessMemory result.1 ((result.1 ≡ unlist_result (driver_place (rows_of h) driver.now)) × Enters IsFaithful (knows pass) h (RegEntry.Unlist (knows pass).number driver.now (driver_place (rows_of h) driver.now)) (knows result.0)) × OnMemory result.1 (Leaves (knows pass) h (knows result.0))) }
+        ensures turn { RecordsUnlessMemory (knows pass) result.1 (λ h. unlist_result (driver_place (rows_of h) driver.now))
+            (λ h. RegEntry.Unlist (knows pass).number driver.now (driver_place (rows_of h) driver.now)) (knows result.0) }
         ensures sound { IsSound (knows result.0) }
     {
         let by = pass.number();
@@ -270,7 +282,8 @@ impl SharedRegistry {
         requires lock { IsPassOn self.now pass }
         requires outsider { IsFalse (is_worker (knows pass).number) }
         ensures lock { IsPassOn self.now result.0 }
-        ensures turn { AtTurn caller_of IsFaithful (knows pass) (λ h. UnlessMemory result.1 ((result.1 ≡ get_result (is_listed h id)) × Enters IsFaithful (knows pass) h (RegEntry.Get (knows pass).number id (is_listed h id)) (knows result.0)) × OnMemory result.1 (Leaves (knows pass) h (knows result.0))) }
+        ensures turn { RecordsUnlessMemory (knows pass) result.1 (λ h. get_result (is_listed h id))
+            (λ h. RegEntry.Get (knows pass).number id (is_listed h id)) (knows result.0) }
         ensures sound { IsSound (knows result.0) }
     {
         let by = pass.number();
@@ -286,7 +299,7 @@ impl SharedRegistry {
         requires outsider { IsFalse (is_worker (knows pass).number) }
         requires has { HasReference (knows pass).made (knows pass).number id }
         ensures lock { IsPassOn self.now result }
-        ensures turn { AtTurn caller_of IsFaithful (knows pass) (λ h. Enters IsFaithful (knows pass) h (RegEntry.Put (knows pass).number id) (knows result)) }
+        ensures turn { AtRegistry (knows pass) (λ h. Adds (knows pass) h (RegEntry.Put (knows pass).number id) (knows result)) }
         ensures sound { IsSound (knows result) }
     {
         let by = pass.number();
@@ -306,7 +319,8 @@ impl SharedRegistry {
         requires lock { IsPassOn self.now pass }
         requires outsider { IsFalse (is_worker (knows pass).number) }
         ensures lock { IsPassOn self.now result.0 }
-        ensures turn { AtTurn caller_of IsFaithful (knows pass) (λ h. UnlessMemory result.1 ((result.1 ≡ refs_result (refs_answer (rows_of h) driver.now)) × Enters IsFaithful (knows pass) h (RegEntry.Refs (knows pass).number driver.now) (knows result.0)) × OnMemory result.1 (Leaves (knows pass) h (knows result.0))) }
+        ensures turn { RecordsUnlessMemory (knows pass) result.1 (λ h. refs_result (refs_answer (rows_of h) driver.now))
+            (λ _. RegEntry.Refs (knows pass).number driver.now) (knows result.0) }
         ensures sound { IsSound (knows result.0) }
     {
         let by = pass.number();
@@ -321,7 +335,8 @@ impl SharedRegistry {
         requires lock { IsPassOn self.now pass }
         requires outsider { IsFalse (is_worker (knows pass).number) }
         ensures lock { IsPassOn self.now result.0 }
-        ensures turn { AtTurn caller_of IsFaithful (knows pass) (λ h. IfOk result.1 (λ rows. (rows ≡ listing (rows_of h)) × Enters IsFaithful (knows pass) h (RegEntry.List (knows pass).number) (knows result.0)) × IfErr result.1 (λ e. (e ≡ RegErr.Memory) × Leaves (knows pass) h (knows result.0))) }
+        ensures turn { AnswersUnlessMemory (knows pass) result.1 (λ h. listing (rows_of h))
+            (λ h _. Adds (knows pass) h (RegEntry.List (knows pass).number) (knows result.0)) (knows result.0) }
         ensures sound { IsSound (knows result.0) }
     {
         let by = pass.number();
@@ -341,7 +356,8 @@ impl SharedRegistry {
     ) -> (RegPass, Result<Option<Spec>, RegErr>)
         requires lock { IsPassOn self.now pass }
         ensures lock { IsPassOn self.now result.0 }
-        ensures turn { AtTurn caller_of IsFaithful (knows pass) (λ h. IfOk result.1 (λ origin. origin ≡ slice_get (registered h) id) × IfErr result.1 (λ e. e ≡ RegErr.Memory) × Leaves (knows pass) h (knows result.0)) }
+        ensures turn { AtRegistry (knows pass) (λ h. IfOk result.1 (λ origin. origin ≡ slice_get (registered h) id)
+            × IfErr result.1 (λ e. e ≡ RegErr.Memory) × Leaves (knows pass) h (knows result.0)) }
         ensures sound { IsSound (knows result.0) }
     {
         let mut turn = self.turn(rt, pass);
