@@ -1,12 +1,14 @@
 //! Jobs run at once.
 
 ghost use Rattle.std.specs.Prelude.{◌≡◌, ◌<◌, ℕ, None, slice_index_or};
+ghost use Rattle.std.specs.Option.{option_map};
 ghost use Rattle.transforms.specs.Asked.{room_of};
 ghost use Rattle.transforms.specs.Drivers.{driver_of};
+ghost use Rattle.transforms.specs.Finish.{finished_value};
 ghost use Rattle.transforms.specs.RequestValue.{request_value};
 ghost use Rattle.transforms.specs.declared.request.Dir.TheVariants.{Enc};
 ghost use Rattle.transforms.specs.declared.request.Request.{Request};
-ghost use Rattle.jobs_in_step.specs.Lanes.{AreValues, FitsKey};
+ghost use Rattle.jobs_in_step.specs.Lanes.{AreValues, FitsKey, job_value};
 ghost use Rattle.jobs_in_step.specs.Steps.{sealed_by, room_by};
 
 use crate::keys::{StepKey, step_key};

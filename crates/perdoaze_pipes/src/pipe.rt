@@ -43,7 +43,9 @@ impl Model for Pipe {
 
     ghost view = { λ p. record { id = p.id; order = p.requests; left = drop p.next p.inbox.items } };
 
-    ghost invariant = { λ p. (p.next ≤ length p.inbox.items) × IsLeft p.requests.history (drop p.next p.inbox.items) × (p.may_tell ≡ false → IsCollected p.requests.history) };
+    ghost invariant = { λ p. (p.next ≤ length p.inbox.items)
+        × IsLeft p.requests.history (drop p.next p.inbox.items)
+        × (p.may_tell ≡ false → IsCollected p.requests.history) };
 }
 
 /// Copies all of `from` to the front of `into`.
@@ -56,7 +58,9 @@ fn copy_front(from: &[u8], into: &mut [u8])
 
 /// Tells C of a callback. False where there is no room for its bytes.
 fn tell(callback: &Callback<Finished>, event: &mut Event, out: &mut [u8]) -> bool
-    ensures { MatchBool result (Tells callback.now event.new out.old out.new) (HasNoRoom callback.now event.new out.old × (out.new ≡ out.old)) }
+    ensures { MatchBool result
+        (Tells callback.now event.new out.old out.new)
+        (HasNoRoom callback.now event.new out.old × (out.new ≡ out.old)) }
 {
     let (number, size, kind, status) = match callback {
         Callback::Started(number) => (*number, 0, 1, 0),
@@ -143,7 +147,8 @@ impl Pipe {
     /// Where nothing is left, collects what was told. Answers whether something is left.
     fn refill(&mut self) -> Result<bool, BoardErr>
         ensures { MatchResult result
-            (λ some. IsRefilled self.old self.new × MatchBool some (self.new.left ≢ []) ((self.new.left ≡ []) × IsCollected self.new.order.history))
+            (λ some. IsRefilled self.old self.new
+            × MatchBool some (self.new.left ≢ []) ((self.new.left ≡ []) × IsCollected self.new.order.history))
             (λ _. self.new ≡ self.old) }
     {
         board_laws();
@@ -186,8 +191,11 @@ impl Pipe {
     fn hand_out(&mut self, event: &mut Event, out: &mut [u8]) -> bool
         requires { self.old.left ≢ [] }
         ensures { MatchBool result
-            ((next : Told Outcome) × (self.old.left ≡ next ∷ self.new.left) × (self.new ≡ record self.old { left = self.new.left }) × Tells next event.new out.old out.new)
-            ((self.new ≡ self.old) × ((next : Told Outcome) × (rest : List (Told Outcome)) × (self.old.left ≡ next ∷ rest) × HasNoRoom next event.new out.old) × (out.new ≡ out.old)) }
+            ((next : Told Outcome) × (self.old.left ≡ next ∷ self.new.left)
+            × (self.new ≡ record self.old { left = self.new.left }) × Tells next event.new out.old out.new)
+            ((self.new ≡ self.old)
+            × ((next : Told Outcome) × (rest : List (Told Outcome)) × (self.old.left ≡ next ∷ rest) × HasNoRoom next event.new out.old)
+            × (out.new ≡ out.old)) }
     {
         if !tell(&self.inbox[self.next], event, out) {
             return false;

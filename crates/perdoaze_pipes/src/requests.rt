@@ -111,12 +111,17 @@ impl Requests {
 
     /// Where each request is finished, answers true and appends to `into` what no call handed out before.
     pub(crate) fn drain(&mut self, into: &mut Callbacks<Finished>) -> Result<bool, BoardErr>
-        ensures drained { IfOk result (λ all. let es = entries_of 0 self.old.history in MatchBool all (front es ≡ length (submissions es)) (front es < length (submissions es))) }
+        ensures drained { IfOk result (λ all. let es = entries_of 0 self.old.history in
+            MatchBool all (front es ≡ length (submissions es)) (front es < length (submissions es))) }
         ensures collected { let es = entries_of 0 self.old.history in MatchResult result
-            (λ all. MatchBool all (self.new ≡ record self.old { history = self.old.history ++ Entry.Collect 0 0 (length (told es)) ∷ [] }) (self.new ≡ self.old))
+            (λ all. MatchBool all
+            (self.new ≡ record self.old { history = self.old.history ++ Entry.Collect 0 0 (length (told es)) ∷ [] })
+            (self.new ≡ self.old))
             (λ _. self.new ≡ self.old) }
         ensures handed { let es = entries_of 0 self.old.history in MatchResult result
-            (λ all. MatchBool all (into.new.list ≡ into.old.list ++ delivered outcome es (length (told es))) (into.new.list ≡ into.old.list))
+            (λ all. MatchBool all
+            (into.new.list ≡ into.old.list ++ delivered outcome es (length (told es)))
+            (into.new.list ≡ into.old.list))
             (λ _. into.new.list ≡ into.old.list) }
         ensures legal { LegalBoard self.new.history }
     {
@@ -156,7 +161,9 @@ impl Requests {
     /// From now on no request of a queue is run, and none of a chain goes on. Only want of memory refuses.
     pub(crate) fn hold(&mut self) -> Result<(), BoardErr>
         requires { line_born (birth (entries_of 0 self.old.history)) ≡ true }
-        ensures { MatchResult result (λ _. self.new ≡ record self.old { history = self.old.history ++ Entry.Hold 0 0 ∷ [] }) (λ _. self.new ≡ self.old) }
+        ensures { MatchResult result
+            (λ _. self.new ≡ record self.old { history = self.old.history ++ Entry.Hold 0 0 ∷ [] })
+            (λ _. self.new ≡ self.old) }
     {
         board_laws();
         self.board.hold(0, 0)
@@ -165,7 +172,9 @@ impl Requests {
     /// A queue's requests are run again, and a chain's go on. Only want of memory refuses.
     pub(crate) fn go(&mut self) -> Result<(), BoardErr>
         requires { line_born (birth (entries_of 0 self.old.history)) ≡ true }
-        ensures { MatchResult result (λ _. self.new ≡ record self.old { history = self.old.history ++ Entry.Go 0 0 ∷ [] }) (λ _. self.new ≡ self.old) }
+        ensures { MatchResult result
+            (λ _. self.new ≡ record self.old { history = self.old.history ++ Entry.Go 0 0 ∷ [] })
+            (λ _. self.new ≡ self.old) }
     {
         board_laws();
         self.board.go(0, 0)
@@ -175,7 +184,9 @@ impl Requests {
     pub(crate) fn mask(&mut self, bits: u16) -> Result<(), BoardErr>
         requires pad { pad_born (birth (entries_of 0 self.old.history)) ≡ true }
         requires bits { bits < 2 ^ width_born (birth (entries_of 0 self.old.history)) }
-        ensures { MatchResult result (λ _. self.new ≡ record self.old { history = self.old.history ++ Entry.Mask 0 0 bits ∷ [] }) (λ _. self.new ≡ self.old) }
+        ensures { MatchResult result
+            (λ _. self.new ≡ record self.old { history = self.old.history ++ Entry.Mask 0 0 bits ∷ [] })
+            (λ _. self.new ≡ self.old) }
     {
         board_laws();
         self.board.mask(0, 0, bits)
@@ -218,7 +229,9 @@ impl Requests {
         requires one { 1 ≤ worker }
         requires sixteen { worker ≤ 16 }
         requires free { get_or self.old.running (worker - 1) None ≡ None }
-        ensures { MatchOption result ((self.new ≡ self.old) × NoneFor self.old.history worker) (λ t. TakenBy self.old self.new worker (arc_value t.ask)) }
+        ensures { MatchOption result
+            ((self.new ≡ self.old) × NoneFor self.old.history worker)
+            (λ t. TakenBy self.old self.new worker (arc_value t.ask)) }
     {
         board_laws();
         let Some(Taken { slip, job }) = self.board.take(worker) else {
@@ -237,7 +250,9 @@ impl Requests {
     pub(crate) fn run_by(&self, worker: u32) -> Option<&Running>
         requires one { 1 ≤ worker }
         requires sixteen { worker ≤ 16 }
-        ensures { MatchOption result (get_or self.now.running (worker - 1) None ≡ None) (λ r. get_or self.now.running (worker - 1) None ≡ Some r.now) }
+        ensures { MatchOption result
+            (get_or self.now.running (worker - 1) None ≡ None)
+            (λ r. get_or self.now.running (worker - 1) None ≡ Some r.now) }
     {
         self.running[(worker - 1) as usize].as_ref()
     }

@@ -76,7 +76,8 @@ fn job_under(
     requires aad_short { length request.aad < 2 ^ 32 }
     requires text_short { length request.text.text < 2 ^ 32 }
     ensures { MatchResult result
-        (λ made. IsUnder (arc_value keyed.now) authsize request (arc_value made.job.ask) × (takes (arc_value keyed.now).0 authsize request ≡ true))
+        (λ made. IsUnder (arc_value keyed.now) authsize request (arc_value made.job.ask)
+        × (takes (arc_value keyed.now).0 authsize request ≡ true))
         (λ e. (e ≡ TfmErr.Memory) ⊎ ((e ≡ TfmErr.Inval) × (takes (arc_value keyed.now).0 authsize request ≡ false))) }
 {
     let ask = Ask {
@@ -133,7 +134,8 @@ impl Pipe {
         text: &[u8],
         number: &mut u64,
     ) -> Answer
-        ensures { SubmitsBy self.old self.new (Some transform.now) (direction_by direction) backlog iv.now aad.now text.now result number.old number.new }
+        ensures { SubmitsBy self.old self.new (Some transform.now) (direction_by direction) backlog
+            iv.now aad.now text.now result number.old number.new }
     {
         let Some(dir) = direction_of(direction) else {
             return Answer::Invalid;
