@@ -1,5 +1,5 @@
 -- The calls of a caller on the registry stay as its history grows.
-use Rattle.std.proofs.Common.{◌≡◌, ℕ, zero, suc, Bool, true, false, List, [], ◌∷◌, ◌++◌, Option, Some, None, Result, Ok, Err, refl, sym, ap, ◌∙◌, append_assoc, append-nil}
+use Rattle.std.proofs.Common.{◌≡◌, ℕ, Bool, true, false, List, [], ◌∷◌, ◌++◌, Option, Some, None, Result, Ok, Err, refl, sym, ap, ◌∙◌, append_assoc, append-nil}
 use Rattle.std.specs.Prelude.{◌==◌, if◌then◌else◌, filter, slice_get}
 use Rattle.kc_base.specs.declared.error_numbers.Errno.{Errno}
 use Rattle.alg_registry.specs.declared.spec.Spec.{Spec}
@@ -15,12 +15,6 @@ use Rattle.alg_registry.proofs.Histories.{ended_more, origin_more}
 use Rattle.templates.specs.Looking.{Found, found_in, found_as, entry_found}
 use Rattle.templates.specs.Looking.{is_asked}
 use Rattle.dialogues.specs.RegistryCalls.{RegCall, Looks, reg_calls, reg_calls_from, reg_call_of, prepend, AllSettled}
-
--- what was registered stays
-pub get-front : {A : Type 0} (xs ys : List A) (n : ℕ) (x : A) → slice_get xs n ≡ Some x → slice_get (xs ++ ys) n ≡ Some x
-get-front [] ys n x e = absurd cc
-get-front (y ∷ xs) ys zero x e = e
-get-front (y ∷ xs) ys (suc n) x e = get-front xs ys n x e
 
 -- so what a look came to stays
 entry-stays : (h more : List RegEntry) (id : ℕ) (o : Option Spec) (x : Found) → slice_get (registered h) id ≡ o → entry_found id o ≡ Some x

@@ -14,7 +14,7 @@ use Rattle.alg_registry.specs.Rows.{texts, begun_by, ends}
 use Rattle.alg_registry.specs.Legal.{ended_as}
 use Rattle.alg_registry.specs.Made.{Templates, building, last_of, looks_for, look_for, if_of, outcome, outcomes, outcome_of, all_outcomes, next_child, next_of, made_answer, by_children, by_outcomes}
 use Rattle.alg_registry.proofs.Stack.{texts-push, ended-push, ended-stays, looks-push}
-use Rattle.dialogues.proofs.RegistryGrowing.{get-front}
+use Rattle.alg_registry.proofs.Histories.{get_more}
 use Rattle.templates.proofs.ChildLooks.{get_within}
 use Rattle.sequential_model.specs.Registry.{PlainRegistry, LookedUp, and_then, with_children, looked}
 
@@ -80,7 +80,7 @@ pub data Never (t : Templates) (weigh : List ℕ → ℕ) (g : List RegEntry) : 
 -- ---- what stays
 
 pub text_stays : (g : List RegEntry) (e : RegEntry) (n : ℕ) (x : List ℕ) → slice_get (texts g) n ≡ Some x → slice_get (texts (g ++ e ∷ [])) n ≡ Some x
-text_stays g e n x at = ap (λ ts. slice_get ts n) (texts-push g e) ∙ get-front (texts g) (cons_option (begun_by e) []) n x at
+text_stays g e n x at = ap (λ ts. slice_get ts n) (texts-push g e) ∙ get_more (texts g) (cons_option (begun_by e) []) n x at
 
 pub unended_stays : (g : List RegEntry) (e : RegEntry) (n : ℕ) → n < length (texts g) → ended_as g n ≡ None → ends n e ≡ None → ended_as (g ++ e ∷ []) n ≡ None
 unended_stays g e n lt undone none = ended-push g e n lt ∙ (ap (λ o. option_or o (ends n e)) undone ∙ none)
