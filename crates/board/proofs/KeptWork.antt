@@ -8,6 +8,7 @@ use Rattle.std.proofs.lemmas.Option.{slice_get-map}
 use Rattle.std.proofs.lemmas.List.{map-append}
 use Rattle.std.proofs.lemmas.List.Elements.{filter-append}
 use Rattle.padata_core.specs.Pad.{Pad, taken_of, ready, running_of}
+use Rattle.padata_core.proofs.Tables.{running-more}
 use Rattle.request_queue.specs.Line.{number_at_bound}
 use Rattle.cryptd.specs.Server.{Server}
 use Rattle.board.specs.declared.entry.Shape.{Shape}
@@ -49,11 +50,6 @@ take_get [] (suc k) n x h = h
 take_get (y ∷ xs) zero n x h = cc
 take_get (y ∷ xs) (suc k) zero x h = h
 take_get (y ∷ xs) (suc k) (suc n) x h = take_get xs k n x h
-
-running_more : {O : Type 0} (outs : List (Option O)) → running_of (outs ++ None ∷ []) ≡ running_of outs + 1
-running_more [] = refl
-running_more (None ∷ outs) = (let r = running_more outs in omega arith)
-running_more (Some x ∷ outs) = running_more outs
 
 ready_more : {O : Type 0} (outs : List (Option O)) → ready outs ≡ [] → ready (outs ++ None ∷ []) ≡ []
 ready_more [] h = refl
@@ -128,7 +124,7 @@ pad_low : {J O A : Type 0} (asked : J → A) (meaning : A → O) (pad : Pad J O)
 pad_low asked meaning pad es job rest k w = (let l = ap length w in let s = k.submitted in omega arith)
 
 taken_pays : {J O : Type 0} (pad : Pad J O) (job : J) (rest : List J) → pad.waiting ≡ job ∷ rest → 2 * length rest + running_of (pad.outcomes ++ None ∷ []) + 1 ≡ 2 * length pad.waiting + running_of pad.outcomes
-taken_pays pad job rest w = (let l = ap length w in let r = running_more pad.outcomes in omega arith)
+taken_pays pad job rest w = (let l = ap length w in let r = running-more pad.outcomes in omega arith)
 
 not_busy : (b : Bool) (f s : ℕ) → b ≡ false → f + cond b 1 0 ≡ s → f ≡ s
 not_busy true f s h e = cc

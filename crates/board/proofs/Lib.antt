@@ -11,7 +11,6 @@ pub mod LinesHold
 pub mod LinesMade
 pub mod Searching
 pub mod Callbacks
-pub mod Releasing
 pub mod KeptPad
 pub mod KeptChain
 pub mod KeptPassing

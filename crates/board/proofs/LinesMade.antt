@@ -147,7 +147,6 @@ who_may place c (f, inr (inr (inr m))) = inr m
 -- ---- all lines
 
 module _ {J O : Type 0} (pipe : ℕ) (place : Pipeline J O) (had has : Bool) (lines : QueuesState) where
-
   -- a queue stands in no caller's own line
   pub queue_told : (queues : QueueState) → is_queue place.stage ≡ true → IsTold (IsMember lines.queues pipe) pipe false has lines.queues queues → AreTold pipe place had has lines (record lines { queues = queues })
   queue_told queues q t = record {

@@ -7,7 +7,7 @@ use Rattle.std.specs.BTreeMap.{get, is_at, Updates, WritesThrough}
 use Rattle.std.specs.declared.collections.BTreeMap.{BTreeMap}
 use Rattle.std.specs.Global.{Global}
 use Rattle.std.proofs.lemmas.Bool.{cases_eq}
-use Rattle.std.proofs.lemmas.Option.{slice_get_read}
+use Rattle.std.proofs.lemmas.Option.{slice_get_read, slice_get_past}
 use Rattle.board.specs.declared.run_queues.CallerQueue.{CallerQueue}
 use Rattle.board.specs.RunQueue.{QueueState, no_pipelines}
 use Rattle.board.specs.RunQueues.{CallerQueues, queue_in, line_or, queue_for}
@@ -45,14 +45,9 @@ first_written own caller o new within is = record {
 
 -- ---- of the others
 
-none_at : {X : Type 0} (xs : List X) (i : ℕ) → length xs ≤ i → slice_get xs i ≡ None
-none_at [] i g = refl
-none_at (x ∷ xs) zero g = absurd (omega arith)
-none_at (x ∷ xs) (suc i) g = none_at xs i (omega arith)
-
 -- a caller that is none of the first
 pub other_line : (first : List CallerQueue) (others : List (ℕ × CallerQueue)) (caller : ℕ) (line : Option CallerQueue) → length first ≤ caller → lookup (is_at (nat_cmp caller)) others ≡ line → queue_for caller (record { first = first; others = others }) ≡ queue_in line
-other_line first others caller line g is = ap (λ x. line_or x (queue_in (lookup (is_at (nat_cmp caller)) others))) (none_at first caller g) ∙ ap queue_in is
+other_line first others caller line g is = ap (λ x. line_or x (queue_in (lookup (is_at (nat_cmp caller)) others))) (slice_get_past first caller g) ∙ ap queue_in is
 
 module _ (first : List CallerQueue) (own after : BTreeMap ℕ CallerQueue Global) (caller : ℕ) (g : length first ≤ caller) where
   -- after a loan of it

@@ -22,6 +22,7 @@ use Rattle.dialogues.specs.Texts.{IsTextOf, IsClientText, turn_by}
 use Rattle.dialogues.specs.Transcripts.{Transcript, IsTranscript, joined, text_in, transcript_of}
 use Rattle.dialogues.specs.ScriptState.{Live, PipelineState, start_beside}
 use Rattle.dialogues.specs.Widths.{widest}
+use Rattle.dialogues.proofs.Leading.{text-joined}
 use Rattle.script_run.specs.Text.{is_malformed}
 use Rattle.script_session.specs.Ending.{AnswersEndBeside, EndsDelivered}
 use Rattle.script_session.specs.Performing.{Stops}
@@ -31,6 +32,7 @@ use Rattle.script_text.specs.declared.commands.Line.{Line}
 use Rattle.recorded_calls.specs.Asking.{IsCaller}
 use Rattle.recorded_calls.specs.Passes.{known}
 use Rattle.recorded_calls.specs.Sharing.{SharedStaysKnown}
+use Rattle.recorded_calls.proofs.Boarding.{called-more as called-then}
 use Rattle.shared_board.specs.declared.shared.SharedBoard.{SharedBoard}
 use Rattle.shared_registry.specs.declared.registry_lock.SharedRegistry.{SharedRegistry}
 use Rattle.transforms.specs.declared.ask.Ask.{Ask}
@@ -44,7 +46,7 @@ use Rattle.client_run.specs.Meets.{HasMet, HaveMet, AnswersPart}
 use Rattle.client_run.specs.Parts.{MayRun, ClientAnswers}
 use Rattle.client_run.proofs.Following.{uncalled, unasked, reg_calls-same, board_calls-same}
 use Rattle.client_run.proofs.Fresh.{fresh-posted, fresh-wide, fresh-stands}
-use Rattle.client_run.proofs.Turns.{texts-joined, asked-then, asked-more, called-then, called-more, locks-then, lines-followed, widest-some}
+use Rattle.client_run.proofs.Turns.{asked-then, asked-more, called-more, locks-then, lines-followed, widest-some}
 
 -- ---- a turn at which nothing is done
 
@@ -110,7 +112,7 @@ answers-part laws lines s t u text text' bad caller replies ends bad_is paid =
           (omega arith) (widest-some lines) caller replies.asked ends.asked;
       called = called-then (known s.board) (known t.board) (known u.board) x.board y.board replies.called ends.called;
       ended = ap is_some ends.ends;
-      text_is = ends.says ∙ (ap (λ xs. xs ++ text_in y) replies.says ∙ sym (texts-joined x y));
+      text_is = ends.says ∙ (ap (λ xs. xs ++ text_in y) replies.says ∙ sym (text-joined x y));
       malformed = bad_is;
       paid = paid;
     }

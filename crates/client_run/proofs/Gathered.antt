@@ -44,7 +44,6 @@ pub record Gathered {F : Type 0} (outs left : List (Result ClientText F)) (clien
   pub client_is : client ≡ 1 + length said
 
 module _ {F : Type 0} where
-
   pub gathered-more : (outs left rest : List (Result ClientText F)) (client : ℕ) (text now : List ℕ) (bad bad' : Bool) (x : ClientText) (now' : List ℕ) (bad'' : Bool) → Gathered outs left client text now bad bad'
       → left ≡ rest ++ Ok x ∷ [] → now' ≡ (now ++ heading client) ++ x.reply.text → bad'' ≡ bad' || x.malformed → Gathered outs rest (client + 1) text now' bad bad''
   gathered-more outs left rest client text now bad bad' x now' bad'' g popped grown worse = record {

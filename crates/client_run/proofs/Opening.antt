@@ -28,6 +28,7 @@ use Rattle.script_session.specs.States.{State, ReferencesMatch, PipelinesMatch, 
 use Rattle.script_text.specs.declared.commands.Line.{Line}
 use Rattle.recorded_calls.specs.Passes.{known}
 use Rattle.recorded_calls.specs.Pipelines.{Called}
+use Rattle.recorded_calls.proofs.Boarding.{called-more}
 use Rattle.shared_board.specs.declared.shared.SharedBoard.{SharedBoard}
 use Rattle.shared_registry.specs.declared.registry_lock.SharedRegistry.{SharedRegistry}
 use Rattle.transforms.specs.declared.ask.Ask.{Ask}
@@ -36,7 +37,6 @@ use Rattle.turn_lock.specs.Meeting.{IsOwn}
 use Rattle.turn_lock.specs.Passes.{knows}
 use Rattle.turn_lock.specs.Turns.{Known}
 use Rattle.client_run.specs.Parts.{FirstOpens}
-use Rattle.client_run.proofs.Turns.{called-then}
 
 -- ---- before the first line
 
@@ -135,7 +135,7 @@ module _ {W : Type 0} (registry : SharedRegistry) (board : SharedBoard W Ask Fin
   registry-settled = subst (λ n. AllSettled (reg_calls n (known s'.registry).seen)) registry-zero replies.asked.are.all_settled
 
   board-called : Called (known s.board) (knows q.board) (replies.turn.board ++ shares.calls)
-  board-called = called-then (known s.board) (known s'.board) (knows q.board) replies.turn.board shares.calls replies.called shares.called
+  board-called = called-more (known s.board) (known s'.board) (knows q.board) replies.turn.board shares.calls replies.called shares.called
 
   board-calls : board_calls 0 (knows q.board).seen ≡ replies.turn.board ++ shares.calls
   board-calls =

@@ -14,7 +14,6 @@ pub record Writing (texts : List Written) (at : ℕ) (held held' : Option (List 
   pub grown : Appends held held' done
 
 module _ (texts : List Written) (held : Option (List ℕ)) where
-
   module _ (at : ℕ) (now : Option (List ℕ)) (w : Writing texts at held now) where
     module _ (text : Written) (below : at < length texts) (is : get_or texts at text ≡ text) (next : Option (List ℕ)) where
       abbrev behind : List ℕ

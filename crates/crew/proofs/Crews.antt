@@ -9,6 +9,7 @@ use Rattle.std.proofs.Math.Nat.{eq-or-lt_of_le}
 use Rattle.turn_lock.specs.Turns.{Known, Each, Has, StartsWith, of, gives_number, gets_number, joined, skipped}
 use Rattle.turn_lock.specs.Going.{none_after}
 use Rattle.turn_lock.specs.Going.{starts_through}
+use Rattle.turn_lock.proofs.Lists.{each_more}
 use Rattle.board.specs.declared.entry.BoardEntry.{BoardEntry}
 use Rattle.board.specs.Legal.{is_shut, is_shut_entry}
 use Rattle.board.specs.Staying.{is_work}
@@ -16,10 +17,6 @@ use Rattle.crew.specs.Working.{Worked}
 use Rattle.crew.specs.Crews.{Crewed, SawEnd, with_next, CrewsEnd, CrewWorks}
 
 module _ {A : Type 0} where
-  each_end : (P : A → Type 0) (xs : List A) (x : A) → Each P xs → P x → Each P (xs ++ x ∷ [])
-  each_end P [] x ps p = (p, tt)
-  each_end P (y ∷ ys) x ps p = (ps.0, each_end P ys x ps.1 p)
-
   has_more : (P : A → Type 0) (xs : List A) (x : A) → Has P xs → Has P (xs ++ x ∷ [])
   has_more P [] x h = absurd h
   has_more P (y ∷ ys) x (inl p) = inl p
@@ -76,7 +73,7 @@ module _ {E : Type 0} (does : E → Bool) where
         seen = starts_through l.seen m.seen q.seen seen crewed.seen;
         more = crewed.more ++ x ∷ [];
         ended = ap (λ n. n.ended) is ∙ (ap (λ xs. m.ended ++ xs ++ x ∷ []) w_none ∙ (ap (λ xs. xs ++ x ∷ []) (append-nil m.ended ∙ crewed.ended) ∙ append_assoc q.ended crewed.more (x ∷ [])));
-        works = each_end (λ y. list_all does y.1 ≡ true) crewed.more x crewed.works made;
+        works = each_more (λ y. list_all does y.1 ≡ true) crewed.more x crewed.works made;
         all = λ i a b. ⊎_elim
             (λ e. has_end (λ y. y.0 ≡ i) crewed.more x (w_number ∙ e))
             (λ lt. has_more (λ y. y.0 ≡ i) crewed.more x (crewed.all i (omega arith) (omega arith)))

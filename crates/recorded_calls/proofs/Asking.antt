@@ -1,8 +1,9 @@
 -- A caller's turns on the registry are its calls.
 use Rattle.std.proofs.Common.{◌≡◌, ℕ, Bool, true, false, List, [], ◌∷◌, ◌++◌, Option, Some, None, Result, Ok, Err, refl, sym, ap, subst, ◌∙◌, append_assoc, append-nil, eq-eqb, inl, inr, ◌⊎◌}
-use Rattle.std.specs.Prelude.{◌==◌, if◌then◌else◌, filter, is_some, slice_get, ◌&&◌, MatchResult, MatchOption, IfOk, IfErr, IsSome, IsFalse}
+use Rattle.std.specs.Prelude.{◌==◌, if◌then◌else◌, filter, is_some, slice_get, MatchResult, MatchOption, IfOk, IfErr, IsSome, IsFalse}
 use Rattle.std.specs.List.{list_all}
 use Rattle.std.specs.Result.{IsErr}
+use Rattle.std.proofs.lemmas.Bool.{and_parts}
 use Rattle.kc_base.specs.declared.error_numbers.Errno.{Errno}
 use Rattle.alg_registry.specs.declared.entry.Enlisted.{Enlisted}
 use Rattle.alg_registry.specs.declared.entry.Enlisted.TheVariants as enlisted
@@ -263,10 +264,6 @@ building-unasked n (entry.Put by id) e = absurd cc
 building-unasked n (entry.Refs by driver) e = absurd cc
 building-unasked n (entry.List by) e = absurd cc
 
-and-true : (a b : Bool) → (a && b) ≡ true → (a ≡ true) × (b ≡ true)
-and-true true b e = (refl, e)
-and-true false b e = absurd cc
-
 -- where a caller's own entries all build, it asked nothing
 pub work-unasked : (n : ℕ) (xs : List RegEntry) → list_all is_building (of caller_of n xs) ≡ true → filter (is_asked n) xs ≡ []
 work-unasked n [] all = refl
@@ -275,7 +272,7 @@ work-unasked n (x ∷ xs) all = by_test (caller_of x == n) refl all (work-unaske
     by_test : (t : Bool) → (caller_of x == n) ≡ t → list_all is_building (if t then x ∷ of caller_of n xs else of caller_of n xs) ≡ true
         → (list_all is_building (of caller_of n xs) ≡ true → filter (is_asked n) xs ≡ []) → filter (is_asked n) (x ∷ xs) ≡ []
     by_test true t q rest =
-        let both = and-true (is_building x) (list_all is_building (of caller_of n xs)) q in
+        let both = and_parts (is_building x) (list_all is_building (of caller_of n xs)) q in
         ap (λ b. if b then x ∷ filter (is_asked n) xs else filter (is_asked n) xs) (building-unasked n x both.0) ∙ rest both.1
     by_test false t q rest = ap (λ b. if b then x ∷ filter (is_asked n) xs else filter (is_asked n) xs) (not-asked n x t) ∙ rest q
 

@@ -1,5 +1,5 @@
 -- Calls of the board's caller, by what its lock says of a turn.
-use Rattle.std.proofs.Common.{◌≡◌, ◌≢◌, inl, inr, ℕ, zero, suc, ◌+◌, Bool, true, false, List, [], ◌∷◌, ◌++◌, length, map, Option, Some, None, Result, Ok, Err, refl, sym, ap, subst, ◌∙◌, append-nil, append_assoc, length-append, arith}
+use Rattle.std.proofs.Common.{◌≡◌, ◌≢◌, inl, inr, ℕ, zero, suc, ◌+◌, Bool, true, false, List, [], ◌∷◌, ◌++◌, length, map, Option, Some, None, Result, Ok, Err, refl, sym, ap, subst, ◌∙◌, append-nil, append_assoc, arith}
 use Rattle.std.specs.Prelude.{◌<◌, ◌≤◌, ◌-◌, ◌^◌, ◌==◌, ◌||◌, ◌↔◌, if◌then◌else◌, IfErr, MatchResult, sum_by, slice_get, unwrap_or}
 use Rattle.std.specs.Arc.{arc_value}
 use Rattle.std.specs.declared.sync.Arc.{Arc}
@@ -24,7 +24,6 @@ use Rattle.board.specs.Staying.{IsDrained}
 use Rattle.board.specs.Allowance.{accepted_by}
 use Rattle.std.proofs.lemmas.List.{length-map}
 use Rattle.std.specs.Option.{option_map}
-use Rattle.board.specs.Order.{numbers_below}
 use Rattle.board.specs.Shapes.{IsShape}
 use Rattle.transforms.specs.declared.ask.Ask.{Ask}
 use Rattle.transforms.specs.declared.request.Finished.{Finished}
@@ -43,6 +42,7 @@ use Rattle.recorded_calls.proofs.HandedOut.{hands-within}
 use Rattle.dialogues.specs.Allocating.{new_pipe}
 use Rattle.board.specs.declared.entry.Entered.{Entered}
 use Rattle.board.specs.declared.entry.Entered.TheVariants.{InProgress, Busy, NoSpace}
+use Rattle.board.proofs.Lists.{length-numbers}
 use Rattle.recorded_calls.proofs.Boarding.{Met, OwnsIn, IsPlain, IsMaskless, goes-kept, opened-more, managed-more, unshared-more, masked-more, lines-more, delivered-more, calls-one, meets-kept, leaves-kept, changed-later, accepted-none, accepted-more, pipe-stays, pipe-accepts, pipe-collected, apart-same, entry-changed}
 
 own : {C : Type 0} (n : ℕ) (call : C) → if_own n n call ≡ Some call
@@ -204,10 +204,6 @@ drained-changed laws k l pipe h on meets all enters =
     ∙ (ap (λ ns. Some (Collects pipe.number (record { notices = ns; all_done = front es == length (submissions es) }))) (notices-are (submissions es) pipe.lines callbacks here.lines)
     ∙ ap (λ b. Some (Collects pipe.number (record { notices = map (notice_by pipe.lines) callbacks; all_done = b }))) (eq-eqb (front es) (length (submissions es)) all)))
     (accepted-none k.number h (event.Collect k.number pipe.number to) refl) refl (pipe-collected laws k.number h pipe to enters.1 here))
-
-pub length-numbers : (n : ℕ) → length (numbers_below n) ≡ n
-length-numbers zero = refl
-length-numbers (suc n) = let all = length-append (numbers_below n) (n ∷ []) in let rest = length-numbers n in omega (arith, all, rest)
 
 -- it has handed all out
 drained-all : Laws → (k : Known (BoardEntry Ask)) (pipe : PipelineState) (h : List (BoardEntry Ask)) → KnowsPipe k pipe → Met k h → front (entries_of pipe.number h) ≡ length (submissions (entries_of pipe.number h))

@@ -1,7 +1,7 @@
 -- What a caller knows of its pipelines goes on, whatever others do.
 use Rattle.std.proofs.Common.{◌≡◌, ℕ, ◌+◌, Bool, true, false, List, [], ◌∷◌, ◌++◌, length, map, Option, Some, None, refl, sym, ap, subst, ◌∙◌, append_assoc, append-nil}
-use Rattle.std.specs.Prelude.{◌==◌, ◌&&◌, ◌||◌, if◌then◌else◌, filter, unwrap_or}
-use Rattle.std.proofs.lemmas.Bool.{eq-eqb}
+use Rattle.std.specs.Prelude.{◌==◌, ◌||◌, if◌then◌else◌, filter, unwrap_or}
+use Rattle.std.proofs.lemmas.Bool.{eq-eqb, and_parts}
 use Rattle.std.proofs.lemmas.List.{map-append}
 use Rattle.std.proofs.lemmas.List.Elements.{filter-append, filter_map-append}
 use Rattle.std.proofs.lemmas.List.Folds.{list_any-append}
@@ -82,10 +82,6 @@ work-called n (event.Share by pipe) w = absurd cc
 work-called n (event.Mask by pipe mask) w = absurd cc
 work-called n (event.Shut by) w = absurd cc
 
-and-true : (a b : Bool) → (a && b) ≡ true → (a ≡ true) × (b ≡ true)
-and-true true b e = (refl, e)
-and-true false b e = absurd cc
-
 -- where a caller's own entries are work, it called nothing
 pub work-uncalled : (n : ℕ) (xs : List (BoardEntry Ask)) → list_all (λ e. is_work e) (of caller_of n xs) ≡ true → filter (is_called n) xs ≡ []
 work-uncalled n [] all = refl
@@ -94,7 +90,7 @@ work-uncalled n (x ∷ xs) all = by_test (caller_of x == n) refl all (work-uncal
     by_test : (t : Bool) → (caller_of x == n) ≡ t → list_all (λ e. is_work e) (if t then x ∷ of caller_of n xs else of caller_of n xs) ≡ true
         → (list_all (λ e. is_work e) (of caller_of n xs) ≡ true → filter (is_called n) xs ≡ []) → filter (is_called n) (x ∷ xs) ≡ []
     by_test true t q rest =
-        let both = and-true (is_work x) (list_all (λ e. is_work e) (of caller_of n xs)) q in
+        let both = and_parts (is_work x) (list_all (λ e. is_work e) (of caller_of n xs)) q in
         ap (λ b. if b then x ∷ filter (is_called n) xs else filter (is_called n) xs) (work-called n x both.0) ∙ rest both.1
     by_test false t q rest = ap (λ b. if b then x ∷ filter (is_called n) xs else filter (is_called n) xs) (not-called n x t) ∙ rest q
 
@@ -127,11 +123,11 @@ no-birth n p [] works maker = absurd maker
 no-birth n p (e ∷ es) works maker = by_of (is_of p e) maker (no-birth n p es (later_works (caller_of e == n) works))
   where
     later_works : (t : Bool) → list_all (λ e. is_work e) (if t then e ∷ of caller_of n es else of caller_of n es) ≡ true → list_all (λ e. is_work e) (of caller_of n es) ≡ true
-    later_works true w = (and-true (is_work e) (list_all (λ e. is_work e) (of caller_of n es)) w).1
+    later_works true w = (and_parts (is_work e) (list_all (λ e. is_work e) (of caller_of n es)) w).1
     later_works false w = w
 
     own-works : (t : Bool) → t ≡ true → list_all (λ e. is_work e) (if t then e ∷ of caller_of n es else of caller_of n es) ≡ true → is_work e ≡ true
-    own-works true t w = (and-true (is_work e) (list_all (λ e. is_work e) (of caller_of n es)) w).0
+    own-works true t w = (and_parts (is_work e) (list_all (λ e. is_work e) (of caller_of n es)) w).0
     own-works false t w = absurd cc
 
     by_birth : (b : Option (ℕ × Shape)) → birth_in e ≡ b → maker_is (first (cons_option b (filter_map birth_in (entries_of p es)))) n → (maker_is (birth (entries_of p es)) n → ⊥) → ⊥

@@ -19,6 +19,7 @@ use Rattle.board.specs.Handing.{completions}
 use Rattle.board.specs.Legal.{LegalBoard, is_shut_entry}
 use Rattle.board.specs.Order.{HandsOutInOrder, completed, numbers_below}
 use Rattle.board.specs.Staying.{is_work}
+use Rattle.board.proofs.Lists.{length-numbers}
 use Rattle.crew.specs.Working.{Worked, Drained as CrewDrained}
 use Rattle.transforms.specs.declared.ask.Ask.{Ask}
 use Rattle.transforms.specs.declared.request.Finished.{Finished}
@@ -32,7 +33,7 @@ use Rattle.dialogues.specs.ScriptState.{PipelineState}
 use Rattle.recorded_calls.specs.Pipelines.{Laws, made_so, notice_by, Unchanged}
 use Rattle.recorded_calls.specs.Sharing.{SharingLaws, IsLentIn, KnowsLent, IsGatheredIn, KnowsGathered, HaveEnded, Beside, Gathers, DrainedLent, GatheredHandsAll}
 use Rattle.recorded_calls.proofs.Boarding.{Met, OwnsIn, called-more, calls-one, goes-kept, meets-kept, kept-more, apart-same, shared-more, asks-same}
-use Rattle.recorded_calls.proofs.BoardCalls.{notices-are, length-numbers}
+use Rattle.recorded_calls.proofs.BoardCalls.{notices-are}
 use Rattle.recorded_calls.proofs.Lendings.{lent-works, lent-at}
 
 own : {C : Type 0} (n : ℕ) (call : C) → if_own n n call ≡ Some call

@@ -1,11 +1,12 @@
 -- `probe`: all looks are made first, and then each is waited for.
-use Rattle.std.proofs.Common.{◌≡◌, ℕ, suc, ◌<◌, take, drop, get_or, arith, Bool, true, false, ◌&&◌, List, [], ◌∷◌, ◌++◌, length, Option, Some, Result, Ok, Err, refl, sym, ap, subst, ◌∙◌, append_assoc, append-nil, inl, inr}
+use Rattle.std.proofs.Common.{◌≡◌, ℕ, suc, ◌<◌, take, drop, get_or, arith, true, ◌&&◌, List, [], ◌∷◌, ◌++◌, length, Option, Some, Result, Ok, Err, refl, sym, ap, subst, ◌∙◌, append_assoc, append-nil, inl, inr}
 use Rattle.std.specs.Prelude.{All, MatchResult, IsFalse, IsErr, ◌+◌}
 use Rattle.std.specs.List.{list_all}
 use Rattle.std.proofs.lemmas.List.Concat.{flat_map-append}
 use Rattle.std.proofs.Math.Seq.{take-suc, take-length}
 use Rattle.std.proofs.lemmas.List.{take-append-drop}
 use Rattle.std.proofs.lemmas.List.Elements.{All-nil, All-cons, All-append}
+use Rattle.std.proofs.lemmas.Bool.{and_parts}
 use Rattle.kc_base.specs.declared.error_numbers.Errno.{Errno}
 use Rattle.alg_names.specs.Name.{Tree, spelling}
 use Rattle.alg_registry.specs.declared.entry.RegEntry.{RegEntry}
@@ -195,14 +196,10 @@ said-more h n (search ∷ searches) later (answer ∷ answers) more said rest = 
 said-more h n [] later (answer ∷ answers) more said rest = absurd said
 said-more h n (search ∷ searches) later [] more said rest = absurd said
 
-and-true : (a b : Bool) → (a && b) ≡ true → (a ≡ true) × (b ≡ true)
-and-true true b e = (refl, e)
-and-true false b e = absurd cc
-
 all-work : (xs ys : List RegEntry) → list_all is_building xs ≡ true → list_all is_building ys ≡ true → list_all is_building (xs ++ ys) ≡ true
 all-work [] ys a b = b
 all-work (x ∷ xs) ys a b =
-    let both = and-true (is_building x) (list_all is_building xs) a in
+    let both = and_parts (is_building x) (list_all is_building xs) a in
     ap (λ c. c && list_all is_building (xs ++ ys)) both.0 ∙ all-work xs ys both.1 b
 
 pub settles-begin : (r : Option RegPass) (n : ℕ) → SettlesThen r r n [] []

@@ -16,9 +16,10 @@ use Rattle.alg_registry.specs.Rows.{texts, ends, end_of}
 use Rattle.alg_registry.specs.Legal.{ended_as, IsRight}
 use Rattle.alg_registry.specs.Made.{Templates, IsMade, building, last_of, looks_for, look_for, if_of, outcome, outcomes, outcome_of, next_child, made_answer}
 use Rattle.alg_registry.proofs.Stack.{ended-push, ended-stays, same, unequal}
+use Rattle.templates.proofs.ChildLooks.{get_within}
 use Rattle.sequential_model.specs.Registry.{PlainRegistry, LookedUp}
 use Rattle.sequential_model.proofs.Agreeing.{IsRegistryOf}
-use Rattle.sequential_model.proofs.Chains.{Frame, resumed, finishing, Waits, Chained, Among, AreHeavier, Never, Wanting, Behind, get_within, waits_stay, waits_unasked, waits_unmade, never_none}
+use Rattle.sequential_model.proofs.Chains.{Frame, resumed, finishing, Waits, Chained, Among, AreHeavier, Never, Wanting, Behind, waits_stay, waits_unasked, waits_unmade, never_none}
 
 -- what a name asks for is lighter
 abbrev pub AreLighter : Templates → (List ℕ → ℕ) → Type 0

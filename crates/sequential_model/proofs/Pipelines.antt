@@ -21,13 +21,14 @@ use Rattle.board.specs.Shapes.{is_pad, is_chain, is_serial, has_line, has_lists,
 use Rattle.board.specs.Entries.{Starts, Completes, birth, accepted_in, submissions, dequeued_in, dequeues, dequeued as let_out, taken_in, takings, finished_in, finished, has, front, completes_from, told, collected_in, collected, last_or, is_held, verdict, waiting, starts, callback_of, delivered}
 use Rattle.board.specs.Legal.{IsRightFor}
 use Rattle.board.specs.Order.{handed_out, completed, numbers_below, step_tells, backlogged_in, backlogged, AreAllFinished}
+use Rattle.board.proofs.Lists.{filter_map-none, filter_map-some, has_only_below, last_or-append, low_number, taker_among}
+use Rattle.board.proofs.Keeping.{born_some, queue_has_line}
 use Rattle.transforms.specs.declared.ask.Ask.{Ask}
 use Rattle.dialogues.specs.BoardCalls.{Asked, asked_by, outcome}
 use Rattle.sequential_model.specs.Pipelines.{Pipeline, new_pipeline, next_number, is_all_delivered, asked_more, now_held, let_go, all_delivered, verdict_at, verdict_of}
 use Rattle.sequential_model.proofs.Callbacks.{drained, drained_from}
 use Rattle.sequential_model.specs.Pipelines.{has_room}
-use Rattle.sequential_model.proofs.Growing.{filter_map-none, filter_map-some, last_or-append, taker_among, has_only_below, low_number}
-use Rattle.sequential_model.proofs.Behaving.{BoardLaws, Behaves, born_some, pad_no_line, queue_no_lists, lists_of_pad, lists_of_chain, line_of_queue, line_of_chain, line_either, any_shape}
+use Rattle.sequential_model.proofs.Behaving.{BoardLaws, Behaves, pad_no_line, queue_no_lists, lists_of_pad, lists_of_chain, line_of_chain, line_either, any_shape}
 use Rattle.sequential_model.proofs.InLine.{left_before, all_left, calm_tells, calm_drain}
 use Rattle.sequential_model.proofs.Standing.{is_all_done, bound_born, starts_of, IsPipelineOf}
 use Rattle.sequential_model.proofs.Notices.{length_completes, untold_taken, untold_done, untold_more, untold_none, untold_all, queue_callbacks, pad_callbacks}
@@ -464,7 +465,7 @@ module _ (laws : BoardLaws) where
           ap (λ ns. filter_map (callback_of outcome (submissions es)) (drop (collected es) ns)) (whole ∙ right.queue q)
           ∙ (ap (λ ns. filter_map (callback_of outcome (submissions es)) ns) u.2
           ∙ (queue_callbacks (submissions es) (max_born (birth es)) pipeline.delivered u.0 (drop pipeline.delivered (submissions es)) refl u.1
-          ∙ (λ i. drained ((sym (bound_of_line (birth es) (line_of_queue (birth es) q)) ∙ o.bound) i) pipeline.delivered (o.asks i))))
+          ∙ (λ i. drained ((sym (bound_of_line (birth es) (queue_has_line (birth es) q)) ∙ o.bound) i) pipeline.delivered (o.asks i))))
 
   pub collected_now : (es : List (BoardEntry Ask)) (caller pipe to : ℕ) (pipeline : Pipeline) → length (completed (handed_out (es ++ Collect caller pipe to ∷ []))) ≡ length (submissions es) → Behaves es → is_some (birth es) ≡ true → to ≡ length (told es) → is_all_done es ≡ true
       → is_held (es ++ Collect caller pipe to ∷ []) ≡ is_held es → IsPipelineOf pipeline es → IsPipelineOf (all_delivered pipeline) (es ++ Collect caller pipe to ∷ [])

@@ -26,7 +26,6 @@ some_there (x ∷ xs) zero lt e = absurd cc
 some_there (x ∷ xs) (suc n) lt e = some_there xs n (omega (arith, lt)) e
 
 module _ (k l : Known RegEntry) (id : ℕ) (r : Result (Option Spec) RegErr) (did : HasOrigin k l id r) where
-
   pub origin_there : id < length (registered k.seen) → r ≡ Ok None → ⊥
   origin_there lt is =
       let none : None ≡ slice_get (registered did.0) id = subst (λ x. IfOk x (λ origin. origin ≡ slice_get (registered did.0) id)) is did.2.0 in

@@ -15,6 +15,7 @@ use Rattle.board.specs.declared.entry.BoardEntry.{BoardEntry}
 use Rattle.board.specs.Shapes.{is_pad, has_line, is_serial, bound_of, lists_of, is_born, line_born, max_born, width_born, AreLists, IsShape}
 use Rattle.board.specs.Entries.{birth, submissions, submitters, dequeued, passed_on, takers, has, front, told, verdict, waiting, starts, is_held, is_closed, is_shared, mask, IsMasked, IsMaker, maker_is, MayTake}
 use Rattle.board.specs.Legal.{IsNoWorker, MaySubmit, MayManage, Is, IsOpenAs, IsOpen}
+use Rattle.board.proofs.KeptCalls.{not_closed}
 use Rattle.trace_check.specs.declared.pipe.Progress.{Progress}
 use Rattle.trace_check.specs.declared.pipe.Progress.TheVariants.{Waits, Runs, Ended}
 use Rattle.trace_check.specs.BoardReasons.{IsUntaken, IsRunning, MayServe, MayClose, IsNumbered, verdict_word}
@@ -83,12 +84,8 @@ either_open : {A : Type 0} (es : List (BoardEntry A)) (s : PipeState) → (is_pa
 either_open es s (inl pad) k c = inl ((dec_is is_pad es s k).0 pad, c)
 either_open es s (inr line) k c = inr ((dec_is has_line es s k).0 line, c)
 
-pub open_unclosed : {A : Type 0} (es : List (BoardEntry A)) → IsOpen es → is_closed es ≡ false
-open_unclosed es (inl pad) = pad.1
-open_unclosed es (inr queue) = queue.1
-
 pub dec_open : {A : Type 0} (es : List (BoardEntry A)) (s : PipeState) → IsPipe es s → Decides (not s.closed) (IsOpen es)
-dec_open es s k = Decides-like (not s.closed) (either_open es s (pad_or_line s.shape) k) (open_unclosed es) (dec_unclosed es s k)
+dec_open es s k = Decides-like (not s.closed) (either_open es s (pad_or_line s.shape) k) (not_closed es) (dec_unclosed es s k)
 
 -- How far a request is.
 past_end : (rs : List Progress) (n : ℕ) → slice_get rs n ≡ None → n < length rs → ⊥

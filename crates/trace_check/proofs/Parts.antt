@@ -10,11 +10,12 @@ use Rattle.board.specs.declared.entry.BoardEntry.TheVariants.{Born, Submit, Take
 use Rattle.board.specs.Shapes.{pad_born, line_born}
 use Rattle.board.specs.Entries.{entries_of, birth, submissions, verdict, is_closed, maker_is}
 use Rattle.board.specs.Legal.{MayManage, IsOpen, pipelines, IsRight}
+use Rattle.board.proofs.KeptCalls.{not_closed}
 use Rattle.trace_check.specs.declared.reason.Reason.{Reason}
 use Rattle.trace_check.specs.declared.reason.Reason.TheVariants.{State, Caller, Number, Answer}
 use Rattle.trace_check.specs.BoardReasons.{IsNumbered, verdict_word, IsWrong}
 use Rattle.trace_check.specs.Pipes.{PipeState, judged}
-use Rattle.trace_check.proofs.Deciding.{open_unclosed, verdict_by}
+use Rattle.trace_check.proofs.Deciding.{verdict_by}
 use Rattle.trace_check.proofs.Judging.{IsBoard, IsPlace, HasAll, IsJudged, judged_is}
 use Rattle.trace_check.proofs.Requests.{some_taker}
 
@@ -95,9 +96,9 @@ all_is_right h (Deq caller pipe number started) n (s, c, m, a) = (tt, (s.0, s.1.
 all_is_right h (Done caller pipe number) n (s, c, m, a) = (tt, (s.0, c, s.1.1))
 all_is_right h (Hold caller pipe) n (s, c, m, a) = (tt, (c, s))
 all_is_right h (Go caller pipe) n (s, c, m, a) = (tt, (c, s))
-all_is_right h (Collect caller pipe to) n (s, c, m, a) = (tt, (c, open_unclosed (entries_of pipe h) s, m))
-all_is_right h (Close caller pipe) n (s, c, m, a) = (tt, (c, open_unclosed (entries_of pipe h) s.0, s.1.0, s.1.1, s.1.2))
-all_is_right h (Share caller pipe) n (s, c, m, a) = (tt, (c, open_unclosed (entries_of pipe h) s))
+all_is_right h (Collect caller pipe to) n (s, c, m, a) = (tt, (c, not_closed (entries_of pipe h) s, m))
+all_is_right h (Close caller pipe) n (s, c, m, a) = (tt, (c, not_closed (entries_of pipe h) s.0, s.1.0, s.1.1, s.1.2))
+all_is_right h (Share caller pipe) n (s, c, m, a) = (tt, (c, not_closed (entries_of pipe h) s))
 all_is_right h (Mask caller pipe mask) n (s, c, m, a) = (tt, (c, s.0, s.1, m))
 all_is_right h (Shut caller) n (s, c, m, a) = (c, s)
 

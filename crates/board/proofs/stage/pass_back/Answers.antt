@@ -1,6 +1,6 @@
 use Rattle.std.proofs.Common.{arith, ap, length, ◌∙◌, ◌≡◌, ◌≤◌, suc}
 use Rattle.padata_core.specs.Pad.{Pad}
-use Rattle.board.proofs.Releasing.{release_step}
+use Rattle.padata_core.proofs.Step.{release_step}
 use Rattle.cryptd.specs.Server.{Server}
 use Rattle.board.proofs.stage.pass_back.Goals as goal
 
